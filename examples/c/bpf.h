@@ -12,9 +12,11 @@ typedef signed long long s64;
 
 #define INLINE static inline __attribute__((always_inline))
 
-// A map: lengths of keys and values in bytes, most linked elements, further slots, and how often a
-// slot is taken. The maps of a program are numbered in the order in which its file has them.
+// A map: its kind, lengths of keys and values in bytes, most linked elements, further slots, and
+// how often a slot is taken. The maps of a program are numbered in the order in which its file has
+// them.
 struct bpf_map {
+    u32 kind;
     u32 key_len;
     u32 value_len;
     u32 entries;
@@ -22,9 +24,17 @@ struct bpf_map {
     u32 reuse_limit;
 };
 
+enum { HASH_MAP = 0, ARRAY_MAP = 1 };
+
 #define MAP(name, key, value, entries, spare, reuse)                                               \
     struct bpf_map name __attribute__((section("maps"), used)) = {                                 \
-        sizeof(key), sizeof(value), entries, spare, reuse}
+        HASH_MAP, sizeof(key), sizeof(value), entries, spare, reuse}
+
+// An array: its keys are the indexes below `entries`, as u32, and its elements are there for good,
+// of zeros at first.
+#define ARRAY(name, value, entries)                                                                \
+    struct bpf_map name __attribute__((section("maps"), used)) = {                                 \
+        ARRAY_MAP, sizeof(u32), sizeof(value), entries, 0, 1}
 
 // How many bytes the context has.
 #define CONTEXT(type) const u32 context_len __attribute__((section("context"), used)) = sizeof(type)
@@ -38,7 +48,8 @@ static s64 (*const bpf_map_update_elem)(const struct bpf_map *, const void *key,
                                         u64 flags) = (void *)2;
 static s64 (*const bpf_map_delete_elem)(const struct bpf_map *, const void *key) = (void *)3;
 
-// Kernel functions: a read-side critical section. What a lookup gave is used inside it alone.
+// Kernel functions: a read-side critical section. What a lookup in a hash map gave is used inside
+// it alone; an array needs none.
 extern void bpf_rcu_read_lock(void);
 extern void bpf_rcu_read_unlock(void);
 

@@ -4,6 +4,8 @@
     program.py OBJECT           the program file, as text: context, maps, code
     program.py --script OBJECT  the first lines of a script: its maps, and the program, bound to them
 
+A line of a map is `map NAME KEY VALUE ENTRIES SPARE REUSE`, and of an array `map NAME array VALUE ENTRIES`.
+
 The code is the section .text. A wide load of a map's address becomes the wide load of a map (source
 5) by the map's number in the program's list, which is the order of the section maps. A call of an
 external kernel function becomes a call by that function's number (source 2). Any other relocation
@@ -20,6 +22,10 @@ KERNEL_FUNCTIONS = {"bpf_rcu_read_lock": 1, "bpf_rcu_read_unlock": 2}
 WIDE, CALL = 0x18, 0x85
 SHT_REL, STT_FUNC, STT_SECTION = 9, 2, 3
 RELOCATABLE, FOR_BPF = 1, 247
+# a map in the section maps: its kind, lengths of keys and values, entries, spare slots, limit of reuse
+SHAPE = struct.Struct("<6I")
+HASH, ARRAY = 0, 1
+INDEX_BYTES = 4
 
 
 class Object:
@@ -66,8 +72,11 @@ class Object:
 
 
 def maps_of(obj):
-    """The maps, in the order of their section: name, and the five numbers of the shape."""
-    shapes = list(struct.iter_unpack("<5I", obj.section("maps")))
+    """The maps, in the order of their section: name, and the six numbers of the shape."""
+    section = obj.section("maps")
+    if len(section) % SHAPE.size:
+        sys.exit(f"the section maps has {len(section)} bytes, and a map of bpf.h takes {SHAPE.size}")
+    shapes = list(SHAPE.iter_unpack(section))
     names = {value: name for name, kind, section, value in obj.symbols
              if section and kind != STT_SECTION and obj.section_of((name, kind, section, value)) == "maps"}
     if len(shapes) > 16:
@@ -75,10 +84,15 @@ def maps_of(obj):
     for name in names.values():
         if not re.fullmatch(r"[a-z][a-z0-9_]{0,31}", name):
             sys.exit(f"no map has the name {name}: it is 1 to 32 of a to z, 0 to 9 and _, the first a letter")
-    for key, value, entries, spare, reuse in shapes:
+    for kind, key, value, entries, spare, reuse in shapes:
+        if kind not in (HASH, ARRAY):
+            sys.exit(f"no map has the kind {kind}: it is {HASH}, a hash map, or {ARRAY}, an array")
         if not (1 <= key <= 64 and 1 <= value <= 256 and 1 <= entries <= 4096 and spare <= 4096 and reuse):
             sys.exit(f"no map has keys of {key} bytes, values of {value} and {entries} + {spare} slots")
-    return [(names[20 * i], shape) for i, shape in enumerate(shapes)]
+        if kind == ARRAY and (key, spare, reuse) != (INDEX_BYTES, 0, 1):
+            sys.exit(f"no array has keys of {key} bytes, {spare} spare slots and {reuse} uses of each: "
+                     f"it is {INDEX_BYTES}, 0 and 1")
+    return [(names[SHAPE.size * i], shape) for i, shape in enumerate(shapes)]
 
 
 def context_of(obj):
@@ -99,7 +113,7 @@ def code_of(obj):
         opcode = code[place]
         destination = code[place + 1] & 15
         if opcode == WIDE and obj.section_of(symbol) == "maps":
-            number = (symbol[3] + struct.unpack_from("<i", code, place + 4)[0]) // 20
+            number = (symbol[3] + struct.unpack_from("<i", code, place + 4)[0]) // SHAPE.size
             struct.pack_into("<BBhiQ", code, place, WIDE, 5 << 4 | destination, 0, number, 0)
         elif opcode == CALL and symbol[0] in KERNEL_FUNCTIONS:
             struct.pack_into("<BBhi", code, place, CALL, 2 << 4, 0, KERNEL_FUNCTIONS[symbol[0]])
@@ -109,8 +123,15 @@ def code_of(obj):
     return [bytes(code[i:i + 8]) for i in range(0, len(code), 8)]
 
 
+def map_line(name, shape):
+    """The line of a map: an array has no keys of its own, no spare slots and no reuse."""
+    kind, key, value, entries, spare, reuse = shape
+    words = ["array", value, entries] if kind == ARRAY else [key, value, entries, spare, reuse]
+    return " ".join(["map", name, *map(str, words)])
+
+
 def map_lines(obj):
-    return [" ".join(["map", name, *map(str, shape)]) for name, shape in maps_of(obj)]
+    return [map_line(name, shape) for name, shape in maps_of(obj)]
 
 
 def script(obj):

@@ -6,6 +6,8 @@ use Rattle.std.specs.Coded.{Coded, code_by, coded×, coded_ℕ, coded_bool, code
 use Rattle.std.specs.FinMap as map
 use Rattle.bpf_model.specs.declared.insn.Insn.{Insn}
 use Rattle.bpf_model.specs.declared.limits.MapShape.{MapShape}
+use Rattle.bpf_model.specs.declared.limits.MapKind.{MapKind}
+use Rattle.bpf_model.specs.contracts.limits.MapKind as kinds
 use Rattle.bpf_model.specs.contracts.insn.Insn as insn
 use Rattle.bpf_model.specs.Machine.{Loaded}
 use Rattle.bpf_model.specs.Schedule.{Queues}
@@ -35,15 +37,16 @@ queues_code = code_by (List ℕ × (List ℕ × List ℕ))
     (λ _. refl)
 
 abbrev pub shape_code : Coded MapShape
-shape_code = code_by (ℕ × (ℕ × (ℕ × (ℕ × ℕ))))
-    (coded× coded_ℕ (coded× coded_ℕ (coded× coded_ℕ (coded× coded_ℕ coded_ℕ))))
-    (λ s. (s.key_len, (s.value_len, (s.entries, (s.spare, s.reuse_limit)))))
+shape_code = code_by (MapKind × (ℕ × (ℕ × (ℕ × (ℕ × ℕ)))))
+    (coded× kinds.the_row.coded (coded× coded_ℕ (coded× coded_ℕ (coded× coded_ℕ (coded× coded_ℕ coded_ℕ)))))
+    (λ s. (s.kind, (s.key_len, (s.value_len, (s.entries, (s.spare, s.reuse_limit))))))
     (λ p. record {
-      key_len = p.0;
-      value_len = p.1.0;
-      entries = p.1.1.0;
-      spare = p.1.1.1.0;
-      reuse_limit = p.1.1.1.1;
+      kind = p.0;
+      key_len = p.1.0;
+      value_len = p.1.1.0;
+      entries = p.1.1.1.0;
+      spare = p.1.1.1.1.0;
+      reuse_limit = p.1.1.1.1.1;
     })
     (λ _. refl)
 

@@ -6,8 +6,9 @@ use Rattle.bpf_model.specs.declared.value.Cell.{Cell}
 use Rattle.bpf_model.specs.declared.value.Reference.{Reference}
 use Rattle.bpf_model.specs.declared.value.Reference.TheVariants.{Ctx, Frame, MapRef, Elem}
 use Rattle.bpf_model.specs.Holds.{HoldsValue, HoldsCell}
+use Rattle.bpf_model.specs.declared.limits.MapKind.TheVariants.{Array}
 use Rattle.bpf_model.specs.Section.{Section, Has}
-use Rattle.bpf_model.specs.Element.{Element, Unlinked, IsLinkedAt}
+use Rattle.bpf_model.specs.Element.{Element, Linked, Unlinked, IsLinkedAt}
 use Rattle.bpf_model.specs.MapState.{MapState}
 use Rattle.bpf_model.specs.Machine.{Run, Machine, run_at}
 
@@ -29,6 +30,11 @@ abbrev pub HasLengths : List MapState → Element → Type 0
 HasLengths maps e = (state : MapState) × (slice_get maps e.map ≡ Some state)
     × (length e.key ≡ state.shape.key_len) × (length e.value ≡ state.shape.value_len)
 
+-- an element of an array is linked: none is ever deleted or replaced
+abbrev pub StaysLinked : List MapState → Element → Type 0
+StaysLinked maps e = (state : MapState) → slice_get maps e.map ≡ Some state →
+    state.shape.kind ≡ Array → e.life ≡ Linked
+
 -- a key has at most one linked element
 abbrev pub IsSingle : List Element → Type 0
 IsSingle es = (map : ℕ) (key : List ℕ) (a b : ℕ) → IsLinkedAt es map key a →
@@ -48,6 +54,8 @@ pub record IsConsistent (m : Machine) : Type 0 where
   pub single : IsSingle m.store.elements
   pub lengths : (n : ℕ) (e : Element) → slice_get m.store.elements n ≡ Some e →
       HasLengths m.store.maps e
+  pub arrays : (n : ℕ) (e : Element) → slice_get m.store.elements n ≡ Some e →
+      StaysLinked m.store.maps e
   -- no two runs have one name
   pub named : (r : ℕ) (run : Run) → run_at m.runs r ≡ Some run → run.name < m.started
   pub apart : (q r : ℕ) (a b : Run) → run_at m.runs q ≡ Some a → run_at m.runs r ≡ Some b →

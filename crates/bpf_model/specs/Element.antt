@@ -1,7 +1,7 @@
 -- The elements of all maps, by birth number. The list only grows: an element is born at its end and
 -- is never taken out or born again, so that a reference to it can never come to mean another
 -- element.
-use Rattle.std.specs.Prelude.{◌≡◌, ℕ, ◌==◌, ◌&&◌, Bool, true, false, List, Option, Some, None}
+use Rattle.std.specs.Prelude.{◌≡◌, ℕ, ◌+◌, ◌==◌, ◌&&◌, Bool, true, false, List, Option, Some, None}
 use Rattle.std.specs.Prelude.{slice_get, slice_set, count_by, if◌then◌else◌}
 use Rattle.bpf_model.specs.Section.{Section}
 use Rattle.bpf_model.specs.Value.{◌>>=◌}
@@ -21,6 +21,11 @@ pub record Element : Type 0 where
   pub value : List ℕ
   pub uses : ℕ
   pub life : Life
+
+-- a linked element, in a map slot that was used so often before
+abbrev pub newborn : ℕ → List ℕ → List ℕ → ℕ → Element
+newborn map key value count =
+    record { map = map; key = key; value = value; uses = count + 1; life = Linked }
 
 abbrev pub is_linked : Life → Bool
 is_linked Linked = true
@@ -76,6 +81,11 @@ set_to f es n (Some e) = slice_set es n (f e)
 
 abbrev pub changed : (Element → Element) → List Element → ℕ → List Element
 changed f es n = set_to f es n (slice_get es n)
+
+-- the elements after the one that was found, if any, gets another value
+abbrev pub overwritten : List ℕ → List Element → Option ℕ → List Element
+overwritten value es None = es
+overwritten value es (Some n) = changed (with_value value) es n
 
 -- the elements after the one that was found, if any, is unlinked: it keeps the sections that are
 -- open

@@ -1,13 +1,23 @@
--- The state of the maps (Linux BPF documentation, "BPF_MAP_TYPE_HASH"; map slots and their reuse
--- are this runtime's own).
-use Rattle.std.specs.Prelude.{◌≡◌, ℕ, ◌+◌, ◌*◌, ◌≤◌, ◌==◌, List, [], ◌∷◌, ◌++◌, Option, Some, None}
-use Rattle.std.specs.Prelude.{slice_get, replicate, if◌then◌else◌}
+-- The state of the maps (Linux BPF documentation, "BPF_MAP_TYPE_HASH" and "BPF_MAP_TYPE_ARRAY"; map
+-- slots and their reuse are this runtime's own).
+use Rattle.std.specs.Prelude.{◌≡◌, ℕ, suc, ◌+◌, ◌*◌, ◌≤◌, ◌==◌, List, [], ◌∷◌, ◌++◌, Option, Some}
+use Rattle.std.specs.Prelude.{None, slice_get, replicate, map, if◌then◌else◌}
+use Rattle.std.specs.List.{range_with_len}
+use Rattle.std.specs.Int.{w32, to_le_bytes}
+use Rattle.bpf_model.specs.declared.limits.MapKind.{MapKind}
+use Rattle.bpf_model.specs.declared.limits.MapKind.TheVariants.{Hash, Array}
 use Rattle.bpf_model.specs.declared.limits.MapShape.{MapShape}
 use Rattle.bpf_model.specs.declared.limits.TheConstants.{KEY_BYTES, VALUE_BYTES, MAX_ENTRIES}
-use Rattle.bpf_model.specs.declared.limits.TheConstants.{MAX_SPARE, MAX_REUSE}
+use Rattle.bpf_model.specs.declared.limits.TheConstants.{MAX_SPARE, MAX_REUSE, INDEX_BYTES}
 use Rattle.bpf_model.specs.declared.event.Given.{Given}
 use Rattle.bpf_model.specs.declared.event.Given.TheVariants.{Free, Worn}
-use Rattle.bpf_model.specs.Element.{Element}
+use Rattle.bpf_model.specs.Element.{Element, newborn}
+
+-- An array's keys are its indices; it has no further map slots, and uses each once.
+pub record IsArrayShape (shape : MapShape) : Type 0 where
+  pub key : shape.key_len ≡ INDEX_BYTES
+  pub spare : shape.spare ≡ 0
+  pub reuse : shape.reuse_limit ≡ 1
 
 -- The shapes that a map may have.
 pub record IsShape (shape : MapShape) : Type 0 where
@@ -16,6 +26,7 @@ pub record IsShape (shape : MapShape) : Type 0 where
   pub entries : (1 ≤ shape.entries) × (shape.entries ≤ MAX_ENTRIES)
   pub spare : shape.spare ≤ MAX_SPARE
   pub reuse : (1 ≤ shape.reuse_limit) × (shape.reuse_limit ≤ MAX_REUSE)
+  pub array : shape.kind ≡ Array → IsArrayShape shape
 
 abbrev pub AreShapes : List MapShape → Type 0
 AreShapes shapes = (k : ℕ) (shape : MapShape) → slice_get shapes k ≡ Some shape → IsShape shape
@@ -40,9 +51,31 @@ pub record Store : Type 0 where
   pub elements : List Element
   pub maps : List MapState
 
--- a new map: no map slot was ever used
+-- A new map. Of a hash map no map slot was ever used; those of an array are all taken.
+abbrev pub new_bag : MapKind → MapShape → List ℕ
+new_bag Hash shape = replicate (slots_of_shape shape) 0
+new_bag Array shape = []
+
 abbrev pub new_map : MapShape → MapState
-new_map shape = record { shape = shape; bag = replicate (slots_of_shape shape) 0; worn = 0 }
+new_map shape = record { shape = shape; bag = new_bag shape.kind shape; worn = 0 }
+
+-- The key of an array's element is its index, the lowest byte first; its value is zero at first.
+abbrev pub index_key : ℕ → List ℕ
+index_key i = to_le_bytes w32 i
+
+abbrev pub array_element : ℕ → MapShape → ℕ → Element
+array_element map shape i = newborn map (index_key i) (replicate shape.value_len 0) 0
+
+-- The elements of a new map: none of a hash map, those of all indices of an array. Then those of
+-- new maps of these shapes, the first of which is map k.
+abbrev pub new_elements : MapKind → ℕ → MapShape → List Element
+new_elements Hash k shape = []
+new_elements Array k shape = map (array_element k shape) (range_with_len 0 shape.entries)
+
+abbrev pub all_new_elements : ℕ → List MapShape → List Element
+all_new_elements k [] = []
+all_new_elements k (shape ∷ shapes) =
+    new_elements shape.kind k shape ++ all_new_elements (suc k) shapes
 
 abbrev pub with_bag : List ℕ → MapState → MapState
 with_bag bag m = record { shape = m.shape; bag = bag; worn = m.worn }

@@ -116,10 +116,11 @@ pub record RefinesSchedule (w : WorldView) (s : Schedule) : Type 0 where
   pub programs : w.programs ≡ s.machine.programs
   pub given : w.given ≡ count_by (λ e. is_reclaimed e.life) s.machine.store.elements
 
--- Some history of the machine with this runtime's choices, from the start and with events within
--- their types, ends in the state.
+-- Some history of the machine with this runtime's choices, from the start with maps of shapes that
+-- there may be and with events within their types, ends in the state.
 pub record IsReachedSchedule (shapes : List MapShape) (programs : List Loaded) (s : Schedule)
     : Type 0 where
+  pub limits : AreShapes shapes
   pub events : List Event
   pub answers : List Answer
   pub states : List Schedule
@@ -132,7 +133,6 @@ pub record IsReachedSchedule (shapes : List MapShape) (programs : List Loaded) (
 -- also refines states that no run reaches.)
 pub record TracksSchedule (w : WorldView) (s : Schedule) : Type 0 where
   pub refines : RefinesSchedule w s
-  pub limits : AreShapes (shapes_of w)
   pub reached : IsReachedSchedule (shapes_of w) w.programs s
 
 abbrev pub Tracks : WorldView → Machine → Type 0

@@ -1,14 +1,16 @@
 -- What a world keeps, as plain lists and maps: nothing here says how an index or a list is laid
 -- out.
-use Rattle.std.specs.Prelude.{◌≡◌, ℕ, List, [], Bool, false, Option, Some, None, map, replicate}
-use Rattle.std.specs.Prelude.{slice_get}
+use Rattle.std.specs.Prelude.{◌≡◌, ℕ, zero, suc, List, [], Bool, false, Option, Some, None, map}
+use Rattle.std.specs.Prelude.{replicate, slice_get}
 use Rattle.std.specs.List.{range_with_len}
 use Rattle.std.specs.Ordering.{nat_cmp}
 use Rattle.std.specs.Cmp.Lexicographic.{slice_cmp}
-use Rattle.std.specs.FinMap.{FinMap, empty}
+use Rattle.std.specs.FinMap.{FinMap, empty, insert}
+use Rattle.bpf_model.specs.declared.limits.MapKind.{MapKind}
+use Rattle.bpf_model.specs.declared.limits.MapKind.TheVariants.{Hash, Array}
 use Rattle.bpf_model.specs.declared.limits.MapShape.{MapShape}
 use Rattle.bpf_model.specs.declared.limits.TheConstants.{MAX_RUNS}
-use Rattle.bpf_model.specs.MapState.{MapState, slots_of_shape}
+use Rattle.bpf_model.specs.MapState.{MapState, slots_of_shape, index_key}
 use Rattle.bpf_model.specs.Machine.{Loaded}
 
 -- what stands in a map slot: key and value bytes, and how often the map slot was used
@@ -58,10 +60,20 @@ map_state_of v = record { shape = v.shape; bag = map (uses_at v.slots) v.free; w
 abbrev pub unused_slot : SlotView
 unused_slot = record { key = []; value = []; uses = 0 }
 
--- A new map: all its map slots are free and are taken in their order, and it has nothing under any
--- key.
-abbrev pub new_map_view : MapShape → MapView
-new_map_view shape = record {
+-- the map slots of the indices below n, each under its key
+abbrev pub index_below : ℕ → KeyMap
+index_below zero = empty
+index_below (suc n) = insert (index_below n) (index_key n) n
+
+-- a map slot of an array: that of its index, with a value of zeros
+abbrev pub array_slot : MapShape → ℕ → SlotView
+array_slot shape i =
+    record { key = index_key i; value = replicate shape.value_len 0; uses = 1 }
+
+-- A new map. All map slots of a hash map are free and are taken in their order, and it has nothing
+-- under any key; an array has a map slot for each index, and none is free.
+abbrev pub new_view_of : MapKind → MapShape → MapView
+new_view_of Hash shape = record {
   shape = shape;
   slots = replicate (slots_of_shape shape) unused_slot;
   free = range_with_len 0 (slots_of_shape shape);
@@ -71,6 +83,19 @@ new_map_view shape = record {
   ready = [];
   worn = 0;
 }
+new_view_of Array shape = record {
+  shape = shape;
+  slots = map (array_slot shape) (range_with_len 0 shape.entries);
+  free = [];
+  index = index_below shape.entries;
+  next = [];
+  waiting = [];
+  ready = [];
+  worn = 0;
+}
+
+abbrev pub new_map_view : MapShape → MapView
+new_map_view shape = new_view_of shape.kind shape
 
 -- A run: the number of its program, its context, `REGISTERS` untyped words, the bytes of its frame,
 -- the slot where its next instruction begins, how many of its locks are open, how many of its steps

@@ -25,9 +25,9 @@ pub use event::{Answer, Event, EventRefusal, Given, ReapedElement, are_bytes, ar
 pub use id::{MapId, ProgId, RunId};
 pub use insn::{AluOp, CallKind, Insn, Operand, SignExtension, UnaryOp};
 pub use limits::{
-    CTX_BYTES, CtxBytes, FRAME_BYTES, KEY_BYTES, KeyBytes, MAX_DEPTH, MAX_ENTRIES, MAX_JOURNAL,
-    MAX_MAPS, MAX_PROGRAMS, MAX_REUSE, MAX_RUNS, MAX_SLOTS, MAX_SPARE, MapShape, NEAR_LIMIT,
-    REGISTERS, VALUE_BYTES, ValueBytes,
+    CTX_BYTES, CtxBytes, FRAME_BYTES, INDEX_BYTES, KEY_BYTES, KeyBytes, MAX_DEPTH, MAX_ENTRIES,
+    MAX_JOURNAL, MAX_MAPS, MAX_PROGRAMS, MAX_REUSE, MAX_RUNS, MAX_SLOTS, MAX_SPARE, MapKind,
+    MapShape, NEAR_LIMIT, REGISTERS, VALUE_BYTES, ValueBytes,
 };
 pub use opcode::{
     AluCode, ByteOrder, Condition, Excluded, Opcode, SignedWidth, Size, Source, SwapWidth, Width,

@@ -56,11 +56,24 @@ pub type KeyBytes = ArrayVec<u8, KEY_BYTES>;
 /// The bytes of a value, at most `VALUE_BYTES`.
 pub type ValueBytes = ArrayVec<u8, VALUE_BYTES>;
 
-/// The shape of a map: key and value lengths in bytes (1 to `KEY_BYTES`, 1 to `VALUE_BYTES`), the most linked
-/// elements (1 to `MAX_ENTRIES`), the further map slots for elements that wait for reclamation (0 to
-/// `MAX_SPARE`), and how often a map slot may be used (1 to `MAX_REUSE`).
+/// What a map is: a hash map, or an array, whose keys are the indices below `entries` and whose elements are
+/// there from the start and for good.
+#[derive(Clone, Copy, Debug, PartialEq, Eq)]
+pub enum MapKind {
+    Hash,
+    Array,
+}
+
+/// The bytes of an array's key: its index, the lowest byte first.
+pub const INDEX_BYTES: usize = 4;
+
+/// The shape of a map: its kind, key and value lengths in bytes (1 to `KEY_BYTES`, 1 to `VALUE_BYTES`), the most
+/// linked elements (1 to `MAX_ENTRIES`), the further map slots for elements that wait for reclamation (0 to
+/// `MAX_SPARE`), and how often a map slot may be used (1 to `MAX_REUSE`). An array has keys of `INDEX_BYTES`, no
+/// further map slots, and uses each once.
 #[derive(Clone, Copy, Debug, PartialEq, Eq)]
 pub struct MapShape {
+    pub kind: MapKind,
     pub key_len: usize,
     pub value_len: usize,
     pub entries: usize,

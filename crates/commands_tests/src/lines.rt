@@ -4,13 +4,19 @@ use script_lines::LINE_BYTES;
 use std::test::Fail;
 
 /// Lines, and what each says: numbers at their limit, no bytes, bytes in either case, spaces, and names that are no text.
-const LINES: [(&[u8], &str); 16] = [
+const LINES: [(&[u8], &str); 19] = [
     (b"", "nothing"),
     (b"#\xff\x00", "nothing"),
     (
         b"map 4 0 0 0 0 18446744073709551615",
         "map 4 0 0 0 0 18446744073709551615",
     ),
+    (b"map array array 8 256", "map array array 4 8 256 0 1"),
+    (
+        b"map 4 array 0 18446744073709551615",
+        "map 4 array 4 0 18446744073709551615 0 1",
+    ),
+    (b"map m array 8 18446744073709551616", "bad"),
     (b"load 0 - m m 9", "load 0 : m m 9"),
     (
         b"put m aAbBcCdDeEfF - 18446744073709551615",

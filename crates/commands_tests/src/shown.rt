@@ -1,7 +1,7 @@
-//! What a line says, written out: the command's name, and in order its names, its numbers, and its bytes in
-//! hexadecimal behind a colon (`:..` where there are more than any such thing has).
+//! What a line says, written out: the command's name, and in order its names, its numbers (`array` before those of an
+//! array's shape), and its bytes in hexadecimal behind a colon (`:..` where there are more than any such thing has).
 use arrayvec::ArrayVec;
-use bpf_model::{KEY_BYTES, MAX_MAPS};
+use bpf_model::{KEY_BYTES, MAX_MAPS, MapKind};
 use script_lines::{Bytes, Code, Command, Name, Names, ShapeNumbers, parse_line};
 use std::alloc::{AllocError, Global};
 use std::fmt::Write;
@@ -48,15 +48,20 @@ fn push_map(out: &mut String, name: &Name<'_>, shape: ShapeNumbers) -> Result<()
     out.push_str("map")?;
     push_name(out, name)?;
     let ShapeNumbers {
+        kind,
         key_len,
         value_len,
         entries,
         spare,
         reuse_limit,
     } = shape;
+    let kind = match kind {
+        MapKind::Hash => "",
+        MapKind::Array => " array",
+    };
     write!(
         out,
-        " {key_len} {value_len} {entries} {spare} {reuse_limit}"
+        "{kind} {key_len} {value_len} {entries} {spare} {reuse_limit}"
     )
 }
 

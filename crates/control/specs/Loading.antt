@@ -33,6 +33,7 @@ use Rattle.control.specs.Setups.{SetupView, shapes_made, with_new_map, with_prog
 -- the shape of a line's numbers
 abbrev pub shape_of_numbers : ShapeNumbers → MapShape
 shape_of_numbers numbers = record {
+  kind = numbers.kind;
   key_len = numbers.key_len;
   value_len = numbers.value_len;
   entries = numbers.entries;

@@ -4,7 +4,7 @@ ghost use Rattle.element_arena.specs.State.{new_arena};
 
 use anyhow::{Result, ensure};
 use asm::{AsmFault, assemble};
-use bpf_model::MapShape;
+use bpf_model::{MapKind, MapShape};
 use disasm::disassemble;
 use element_arena::Arena;
 use insn_codec::{DecodeFault, Program, decode, encode};
@@ -29,6 +29,7 @@ exit
 
 /// Keys of 4 bytes, values of 8.
 pub const SHAPE: MapShape = MapShape {
+    kind: MapKind::Hash,
     key_len: 4,
     value_len: 8,
     entries: 16,

@@ -1,5 +1,6 @@
 -- What a call or a test for null makes of states, by the laws of the known kinds.
-use Rattle.std.proofs.Common.{◌≡◌, ℕ, ◌^◌, ◌/◌, ◌<◌, List, Some, refl, ap, ◌∙◌, ℤ, arith, true, false}
+use Rattle.std.proofs.Common.{◌≡◌, ℕ, ◌^◌, ◌/◌, ◌<◌, List, Some, ◌⊎◌, inl, inr, refl, sym, ap, ◌∙◌, ℤ, arith, true, false}
+use Rattle.bpf_model.specs.declared.limits.MapKind.TheVariants.{Array}
 use Rattle.bpf_model.specs.declared.limits.MapShape.{MapShape}
 use Rattle.bpf_model.specs.declared.limits.TheConstants.{MAX_DEPTH}
 use Rattle.bpf_model.specs.declared.insn.Insn.{Insn}
@@ -13,13 +14,15 @@ use Rattle.bpf_model.specs.declared.opcode.Condition.TheVariants.{Equal, NotEqua
 use Rattle.bpf_model.specs.declared.opcode.Size.TheVariants.{Word64}
 use Rattle.scalar_domain.specs.Scalar.{Holds}
 use Rattle.scalar_domain.specs.declared.scalar.Scalar.{Scalar}
-use Rattle.std.specs.Prelude.{Bool, ◌==◌, if◌then◌else◌, pos, nat_le}
+use Rattle.std.specs.Prelude.{Bool, ◌==◌, if◌then◌else◌, pos, nat_le, slice_get}
+use Rattle.std.proofs.lemmas.Option.{same_Some}
 use Rattle.std.proofs.lemmas.Bool.{ne_eqb, lt-leb}
 use Rattle.typed_runs.specs.Kinds.{Kind, Blank, Mixed, Ended, Num, CtxAt, FrameAt, MapAt, ValueAt, MaybeNull, CellKind, AbsState}
-use Rattle.typed_runs.specs.Effects.{after_call, after_lock, after_unlock, returned_kind, ended_kind, ended_cell, left_kind, left_cell, IsOther, IsOtherCell, IsFresh, HasMap, HasBytes, when_null, when_there}
+use Rattle.typed_runs.specs.Effects.{after_call, after_lock, after_unlock, is_array_in, returned_kind, ended_kind, ended_cell, left_kind, left_cell, IsOther, IsOtherCell, IsFresh, HasMap, HasBytes, when_null, when_there}
 use Rattle.typed_runs.specs.Verified.{Transfers}
 use Rattle.typed_runs.specs.Planned.{AreAlike, number_zero, origin}
 use Rattle.typed_runs.proofs.Planning.{alike_wider, transfers_wider, origin_has, zero_holds, to_alike}
+use Rattle.typed_runs.proofs.Arrays.{array-there}
 use Rattle.typed_runs.proofs.Calls.{lock_transfers, unlock_transfers, lookup_transfers}
 use Rattle.typed_runs.proofs.Updating.{update_transfers, delete_transfers}
 use Rattle.typed_runs.proofs.Local.{equal_transfers, not_equal_transfers}
@@ -33,7 +36,7 @@ use Rattle.register_kinds.specs.States.{kind_of, cell_of, kind_at, kind_in, clas
 use Rattle.register_kinds.specs.Pairs.{IsBelow, AreBelow}
 use Rattle.register_kinds.specs.Changes.{learnt}
 use Rattle.effects.specs.Forks.{ForksOnNull}
-use Rattle.effects.specs.Calls.{PerformsCall, KeepsOwnNumbers}
+use Rattle.effects.specs.Calls.{PerformsCall, MayLookUp, is_array_of, KeepsOwnNumbers}
 
 -- a jump where the register is equal to 0, or where it is not
 abbrev null_jump : Bool → ℕ → ℤ → Insn
@@ -45,8 +48,8 @@ to-both i shapes ctx_len a b c x y e f t = transfers_wider i shapes ctx_len a a 
 pub lock_sound : (a b : StateHere) → a.depth < MAX_DEPTH → AreAlike (after_lock (state_of a)) (state_of b) → (imm : ℤ) (shapes : List MapShape) → kernel_function_of imm ≡ Some ReadLock → PerformsCall callee.Kernel imm shapes a b
 lock_sound a b out e imm shapes f ctx_len = to_alike (Call callee.Kernel imm) shapes ctx_len (state_of a) (after_lock (state_of a)) (state_of b) e (lock_transfers imm shapes ctx_len (state_of a) f out)
 
-pub unlock_sound : (a b : StateHere) → 0 < a.depth → AreAlike (after_unlock (state_of a)) (state_of b) → (imm : ℤ) (shapes : List MapShape) → kernel_function_of imm ≡ Some ReadUnlock → PerformsCall callee.Kernel imm shapes a b
-unlock_sound a b into e imm shapes f ctx_len = to_alike (Call callee.Kernel imm) shapes ctx_len (state_of a) (after_unlock (state_of a)) (state_of b) e (unlock_transfers imm shapes ctx_len (state_of a) f into)
+pub unlock_sound : (a b : StateHere) (shapes : List MapShape) → 0 < a.depth → AreAlike (after_unlock shapes (state_of a)) (state_of b) → (imm : ℤ) → kernel_function_of imm ≡ Some ReadUnlock → PerformsCall callee.Kernel imm shapes a b
+unlock_sound a b shapes into e imm f ctx_len = to_alike (Call callee.Kernel imm) shapes ctx_len (state_of a) (after_unlock shapes (state_of a)) (state_of b) e (unlock_transfers imm shapes ctx_len (state_of a) f into)
 
 -- an identity that isn't taken is nowhere
 other-below : (top : ℕ) (k : Kind) → IsBelow top k → IsOther top k
@@ -73,10 +76,22 @@ untaken_fresh top a b = record {
   cells = λ k. other-cell-below top (kind_in a.frame.spills (k / 8)) (class_in a.frame.cells k) (b.spills (k / 8));
 }
 
-pub lookup_sound : (a b : StateHere) (shapes : List MapShape) (map id : ℕ) (shape : MapShape) → 0 < a.depth → HasMap shapes (state_of a) map shape → HasBytes (state_of a) 2 shape.key_len → AreBelow id a → AreAlike (after_call (MaybeNull map id) (state_of a)) (state_of b) →
+-- the map in r1 is an array where a lookup is made outside every section
+same-map : (a b : ℕ) → MapAt a ≡ MapAt b → a ≡ b
+same-map a b e = cc
+
+inside_or_array : (shapes : List MapShape) (a : AbsState) (map : ℕ) (shape : MapShape) → HasMap shapes a map shape → MayLookUp shapes a → (0 < a.depth) ⊎ (shape.kind ≡ Array)
+inside_or_array shapes a map shape m (inl into) = inl into
+inside_or_array shapes a map shape m (inr x) =
+    let same : x.0 ≡ map = same-map x.0 map (sym x.1 ∙ m.map_is) in
+    let y = array-there shapes x.0 x.2 in
+    let here : y.0 ≡ shape = same_Some y.0 shape (sym y.1 ∙ (ap (slice_get shapes) same ∙ m.shape_is)) in
+    inr (ap (λ (s : MapShape). s.kind) (sym here) ∙ y.2)
+
+pub lookup_sound : (a b : StateHere) (shapes : List MapShape) (map id : ℕ) (shape : MapShape) → MayLookUp shapes (state_of a) → HasMap shapes (state_of a) map shape → HasBytes (state_of a) 2 shape.key_len → AreBelow id a → AreAlike (after_call (MaybeNull map id) (state_of a)) (state_of b) →
     (imm : ℤ) → helper_of imm ≡ Some helpers.Lookup → PerformsCall callee.Helper imm shapes a b
-lookup_sound a b shapes map id shape into m key below e imm f ctx_len =
-    to_alike (Call callee.Helper imm) shapes ctx_len (state_of a) (after_call (MaybeNull map id) (state_of a)) (state_of b) e (lookup_transfers imm shapes ctx_len (state_of a) map id shape f into m key (untaken_fresh id a below))
+lookup_sound a b shapes map id shape may m key below e imm f ctx_len =
+    to_alike (Call callee.Helper imm) shapes ctx_len (state_of a) (after_call (MaybeNull map id) (state_of a)) (state_of b) e (lookup_transfers imm shapes ctx_len (state_of a) map id shape f (inside_or_array shapes (state_of a) map shape m may) m key (untaken_fresh id a below))
 
 pub update_sound : (a b : StateHere) (shapes : List MapShape) (map : ℕ) (shape : MapShape) (t q : Scalar) → ((n : ℕ) → n < 2 ^ 64 → Holds t n) → HasMap shapes (state_of a) map shape → HasBytes (state_of a) 2 shape.key_len → HasBytes (state_of a) 3 shape.value_len →
     kind_in a.regs 4 ≡ kinds.Num q → AreAlike (after_call (Num t) (state_of a)) (state_of b) → (imm : ℤ) → helper_of imm ≡ Some helpers.Update → PerformsCall callee.Helper imm shapes a b
@@ -110,20 +125,32 @@ pub lock_others : (a b : AbsState) → AreAlike (after_lock a) b → KeepsOwnNum
 lock_others a b e r s h n = e.regs r ∙ (returned_above Blank a.regs r h ∙ n)
 
 -- an unlock leaves what is no element, the outermost too
-pub left_same : (depth : ℕ) (k : Kind) → ended_kind k ≡ k → left_kind depth k ≡ k
-left_same depth k e = by (depth == 1)
+pub left_same : (shapes : List MapShape) (depth : ℕ) (k : Kind) → ended_kind shapes k ≡ k → left_kind shapes depth k ≡ k
+left_same shapes depth k e = by (depth == 1)
   where
-    by : (b : Bool) → (if b then ended_kind k else k) ≡ k
+    by : (b : Bool) → (if b then ended_kind shapes k else k) ≡ k
     by true = e
     by false = refl
 
-pub left_cell_same : (depth : ℕ) (k : CellKind) → ended_cell k ≡ k → left_cell depth k ≡ k
-left_cell_same depth k e = by (depth == 1)
+pub left_cell_same : (shapes : List MapShape) (depth : ℕ) (k : CellKind) → ended_cell shapes k ≡ k → left_cell shapes depth k ≡ k
+left_cell_same shapes depth k e = by (depth == 1)
   where
-    by : (b : Bool) → (if b then ended_cell k else k) ≡ k
+    by : (b : Bool) → (if b then ended_cell shapes k else k) ≡ k
     by true = e
     by false = refl
 
-pub unlock_others : (a b : AbsState) → AreAlike (after_unlock a) b → KeepsOwnNumbers a b
-unlock_others a b e r s h n =
-    e.regs r ∙ (returned_above Blank (λ r. left_kind a.depth (a.regs r)) r h ∙ ap (left_kind a.depth) n ∙ left_same a.depth (Num s) refl)
+pub unlock_others : (shapes : List MapShape) (a b : AbsState) → AreAlike (after_unlock shapes a) b → KeepsOwnNumbers a b
+unlock_others shapes a b e r s h n =
+    e.regs r ∙ (returned_above Blank (λ r. left_kind shapes a.depth (a.regs r)) r h ∙ ap (left_kind shapes a.depth) n ∙ left_same shapes a.depth (Num s) refl)
+
+-- the tests of a lookup
+pub array_of : (shapes : List MapShape) (k : Kind) → is_array_of shapes k ≡ true → (map : ℕ) × (k ≡ MapAt map) × (is_array_in shapes map ≡ true)
+array_of shapes (MapAt map) h = (map, refl, h)
+array_of shapes Blank h = absurd (cc)
+array_of shapes Mixed h = absurd (cc)
+array_of shapes Ended h = absurd (cc)
+array_of shapes (Num s) h = absurd (cc)
+array_of shapes (CtxAt s) h = absurd (cc)
+array_of shapes (FrameAt o) h = absurd (cc)
+array_of shapes (ValueAt map s) h = absurd (cc)
+array_of shapes (MaybeNull map id) h = absurd (cc)

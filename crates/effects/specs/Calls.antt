@@ -1,6 +1,6 @@
 -- Calls and tests for null in words of the laws.
 use Rattle.std.specs.Prelude.{◌≡◌, ℕ, suc, ◌<◌, List, [], ◌∷◌, Option, Some, None, Result, Ok, Err}
-use Rattle.std.specs.Prelude.{ℤ, slice_get, nat_lt, if◌then◌else◌}
+use Rattle.std.specs.Prelude.{ℤ, slice_get, nat_lt, if◌then◌else◌, ◌⊎◌, ◌||◌, Bool, true, false}
 use Rattle.bpf_model.specs.declared.limits.TheConstants.{MAX_DEPTH}
 use Rattle.bpf_model.specs.declared.limits.MapShape.{MapShape}
 use Rattle.bpf_model.specs.declared.insn.CallKind.{CallKind}
@@ -19,6 +19,7 @@ use Rattle.register_kinds.specs.declared.fault.InsnFault.TheVariants.{UnpairedSe
 use Rattle.bpf_model.specs.declared.insn.Insn.TheVariants.{Call}
 use Rattle.typed_runs.specs.Kinds.{Kind, Num, MapAt, MaybeNull, AbsState as Known}
 use Rattle.typed_runs.specs.Effects.{HasBytes, HasNumber, after_call, after_lock, after_unlock}
+use Rattle.typed_runs.specs.Effects.{is_array_in}
 use Rattle.typed_runs.specs.Planned.{AreAlike}
 use Rattle.register_kinds.specs.declared.learn.Lesson.TheVariants.{IsNull, IsThere}
 use Rattle.register_kinds.specs.Changes.{learnt}
@@ -31,13 +32,24 @@ abbrev pub PerformsCall : CallKind → ℤ → List MapShape → AbsState → Ab
 PerformsCall kind imm shapes old new =
     (ctx_len : ℕ) → Performs (Call kind imm) ctx_len shapes old new
 
+-- a lookup may be made: inside a section, or where r1 is known to be an array of the list
+abbrev pub MayLookUp : List MapShape → Known → Type 0
+MayLookUp shapes a =
+    (0 < a.depth) ⊎ ((map : ℕ) × (a.regs 1 ≡ MapAt map) × (is_array_in shapes map ≡ true))
+
+-- what is of this kind is an array of the list
+abbrev pub is_array_of : List MapShape → Kind → Bool
+is_array_of shapes (MapAt map) = is_array_in shapes map
+is_array_of shapes kind = false
+
 -- The first tests of a call, of its number and of how many locks are open: the first that fails, if
--- one does.
-abbrev pub helper_fault : Option Helper → ℕ → Option InsnFault
-helper_fault None depth = Some UnknownCall
-helper_fault (Some Lookup) depth = if nat_lt 0 depth then None else Some OutsideSection
-helper_fault (Some Update) depth = None
-helper_fault (Some Delete) depth = None
+-- one does. A lookup in an array asks for no lock.
+abbrev pub helper_fault : Option Helper → List MapShape → Known → Option InsnFault
+helper_fault None shapes a = Some UnknownCall
+helper_fault (Some Lookup) shapes a =
+    if nat_lt 0 a.depth || is_array_of shapes (a.regs 1) then None else Some OutsideSection
+helper_fault (Some Update) shapes a = None
+helper_fault (Some Delete) shapes a = None
 
 abbrev pub kernel_fault : Option KernelFunction → ℕ → Option InsnFault
 kernel_fault None depth = Some UnknownCall
@@ -45,9 +57,9 @@ kernel_fault (Some ReadLock) depth =
     if nat_lt depth MAX_DEPTH then None else Some UnpairedSection
 kernel_fault (Some ReadUnlock) depth = if nat_lt 0 depth then None else Some UnpairedSection
 
-abbrev pub section_fault : CallKind → ℤ → ℕ → Option InsnFault
-section_fault callee.Helper imm depth = helper_fault (helper_of imm) depth
-section_fault callee.Kernel imm depth = kernel_fault (kernel_function_of imm) depth
+abbrev pub section_fault : CallKind → ℤ → List MapShape → Known → Option InsnFault
+section_fault callee.Helper imm shapes a = helper_fault (helper_of imm) shapes a
+section_fault callee.Kernel imm shapes a = kernel_fault (kernel_function_of imm) a.depth
 
 abbrev pub outcome_of : Option InsnFault → Result (Unit {0}) InsnFault
 outcome_of None = Ok tt
@@ -86,10 +98,10 @@ pub record GoesBySignature (helper : Helper) (shapes : List MapShape) (a b : Kno
   pub result : IsResult (signature_of helper).result (b.regs 0)
 
 -- what a kernel function makes of what is known
-abbrev pub Called : Option KernelFunction → Known → Known → Type 0
-Called None a b = ⊥
-Called (Some ReadLock) a b = AreAlike (after_lock a) b
-Called (Some ReadUnlock) a b = AreAlike (after_unlock a) b
+abbrev pub Called : Option KernelFunction → List MapShape → Known → Known → Type 0
+Called None shapes a b = ⊥
+Called (Some ReadLock) shapes a b = AreAlike (after_lock a) b
+Called (Some ReadUnlock) shapes a b = AreAlike (after_unlock shapes a) b
 
 -- Of a test for null both edges are as the test tells: where the identity is null all of it becomes
 -- the number 0, elsewhere a reference to the element's value.

@@ -1,6 +1,6 @@
 -- One byte string after another.
-use Rattle.std.proofs.Common.{◌≡◌, ◌∙◌, ℕ, zero, suc, ◌+◌, ◌-◌, ◌*◌, ◌<◌, ◌≤◌, List, ◌++◌, length, sym, ap, arith, take, drop}
-use Rattle.std.proofs.lemmas.List.{take-append-drop, drop-drop, length-append, length-take-le, length-drop, append_assoc}
+use Rattle.std.proofs.Common.{◌≡◌, ◌≢◌, ◌∙◌, ℕ, zero, suc, ◌+◌, ◌-◌, ◌*◌, ◌<◌, ◌≤◌, List, ◌++◌, length, replicate, refl, sym, ap, arith, take, drop}
+use Rattle.std.proofs.lemmas.List.{take-append-drop, drop-drop, length-append, length-take-le, length-drop, append_assoc, drop-replicate, take-replicate}
 use Rattle.std.proofs.Math.Seq.{take-append_seam, drop-append_seam, take-append-add, drop-append-add}
 use Rattle.element_arena.specs.Blocks.{block, with_block}
 
@@ -73,3 +73,31 @@ module _ (new : List ℕ) where
       let b : length (take (i * length new) bytes ++ new) ≡ length (take (i * length new) bytes) + length new = length-append (take (i * length new) bytes) new in
       let c : length (drop (i * length new + length new) bytes) ≡ length bytes - (i * length new + length new) = length-drop (i * length new + length new) bytes in
       omega arith
+
+  -- the block that is written, and each other one
+  pub block-written : (bytes : List ℕ) (i : ℕ) → i * length new + length new ≤ length bytes → block (length new) i (with_block i new bytes) ≡ new
+  block-written bytes zero h = block-zero (length new) (with_block 0 new bytes) ∙ first-here bytes
+  block-written bytes (suc i) h =
+      let n : length (drop (length new) bytes) ≡ length bytes - length new = length-drop (length new) bytes in
+      let t = times-suc i (length new) in
+      block-suc (length new) i (with_block (suc i) new bytes) ∙ (ap (block (length new) i) (rest-past bytes i (omega arith)) ∙ block-written (drop (length new) bytes) i (omega arith))
+
+  pub block-other : (bytes : List ℕ) (i j : ℕ) → j ≢ i → i * length new + length new ≤ length bytes → block (length new) j (with_block i new bytes) ≡ block (length new) j bytes
+  block-other bytes zero zero ne h = absurd (ne refl)
+  block-other bytes zero (suc j) ne h = block-suc (length new) j (with_block 0 new bytes) ∙ (ap (block (length new) j) (rest-here bytes) ∙ sym (block-suc (length new) j bytes))
+  block-other bytes (suc i) zero ne h =
+      let t = times-suc i (length new) in
+      block-zero (length new) (with_block (suc i) new bytes) ∙ (first-past bytes i (omega arith) ∙ sym (block-zero (length new) bytes))
+  block-other bytes (suc i) (suc j) ne h =
+      let n : length (drop (length new) bytes) ≡ length bytes - length new = length-drop (length new) bytes in
+      let t = times-suc i (length new) in
+      block-suc (length new) j (with_block (suc i) new bytes)
+      ∙ (ap (block (length new) j) (rest-past bytes i (omega arith))
+      ∙ (block-other (drop (length new) bytes) i j (λ e. ne (ap suc e)) (omega arith)
+      ∙ sym (block-suc (length new) j bytes)))
+
+-- each of some zero blocks
+pub block-zeros : (len i n : ℕ) → i < n → block len i (replicate (n * len) 0) ≡ replicate len 0
+block-zeros len i n less =
+    let r : i * len + len ≤ n * len = room len i n less in
+    ap (take len) (drop-replicate (i * len) (n * len) 0) ∙ take-replicate len (n * len - i * len) 0 (omega arith)

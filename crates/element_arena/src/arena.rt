@@ -9,9 +9,9 @@ ghost use Rattle.bpf_model.specs.declared.limits.TheConstants.{KEY_BYTES, VALUE_
 ghost use Rattle.element_arena.specs.State.{IsTaken, generation_at, given_back, is_last_use, key_at};
 ghost use Rattle.element_arena.specs.State.{link_at, new_arena, taken, value_at, with_link, with_slot_value};
 
-use crate::blocks::{block, write_block, write_inside};
+use crate::blocks::{block, write_block, write_inside, zero_blocks};
 use crate::cell::{SlotCell, Standing, append, given_cell, last_after};
-use crate::make::{below, fresh_cells, room_for};
+use crate::make::{below, fresh_cells};
 use bpf_model::{Given, KeyBytes, ValueBytes, Width, array_of};
 use byte_numbers::number_of;
 use std::alloc::{AllocError, Global};
@@ -73,8 +73,8 @@ impl Arena {
         ensures new { IfOk result (λ a. a ≡ new_arena slots key_len value_len limit) }
     {
         let cells = fresh_cells(alloc, slots)?;
-        let keys = room_for(alloc, slots, key_len)?;
-        let values = room_for(alloc, slots, value_len)?;
+        let keys = zero_blocks(alloc, slots, key_len)?;
+        let values = zero_blocks(alloc, slots, value_len)?;
         Ok(Arena {
             cells,
             keys,

@@ -1,15 +1,27 @@
 //! Byte strings of one length, one behind the other.
-ghost use Rattle.std.specs.Prelude.{◌≡◌, ◌+◌, ◌*◌, ◌≤◌, length};
+ghost use Rattle.std.specs.Prelude.{◌≡◌, ◌+◌, ◌*◌, ◌≤◌, length, replicate, IfOk};
 ghost use Rattle.bpf_model.specs.Access.{byte_count};
 ghost use Rattle.bpf_model.specs.MachineStep.{with_bytes};
 ghost use Rattle.element_arena.specs.Blocks.{block, with_block};
 
 use bpf_model::Width;
 use byte_numbers::write_number;
+use std::alloc::{AllocError, Global};
+
+/// So many strings of zero bytes, of one length. Fails where memory runs out.
+pub fn zero_blocks(alloc: Global, count: usize, len: usize) -> Result<Vec<u8>, AllocError>
+    ensures zero { IfOk result (λ bytes. bytes.items ≡ replicate (count * len) 0) }
+    ensures long { IfOk result (λ bytes. length bytes.items ≡ count * len) }
+{
+    match count.checked_mul(len) {
+        Some(room) => vec![in alloc; 0; room],
+        None => Err(AllocError),
+    }
+}
 
 /// The string of an index.
 #[inline]
-pub(crate) fn block(bytes: &[u8], len: usize, index: usize) -> &[u8]
+pub fn block(bytes: &[u8], len: usize, index: usize) -> &[u8]
     requires { index * len + len ≤ length bytes.now }
     ensures { result.now ≡ block len index bytes.now }
 {
@@ -32,7 +44,7 @@ fn write_bytes(bytes: &mut Vec<u8>, index: usize, new: &[u8])
 
 /// Puts another string of the same length in place of that of an index. One word is written without a call.
 #[inline]
-pub(crate) fn write_block(bytes: &mut Vec<u8>, index: usize, new: &[u8])
+pub fn write_block(bytes: &mut Vec<u8>, index: usize, new: &[u8])
     requires { index * length new.now + length new.now ≤ length bytes.old.items }
     ensures { bytes.new.items ≡ with_block index new.now bytes.old.items }
 {
@@ -46,7 +58,7 @@ pub(crate) fn write_block(bytes: &mut Vec<u8>, index: usize, new: &[u8])
 
 /// Writes the low bytes of a number into the string of an index, from an offset on.
 #[inline]
-pub(crate) fn write_inside(
+pub fn write_inside(
     bytes: &mut Vec<u8>,
     len: usize,
     index: usize,

@@ -3,6 +3,8 @@
 //! Everything is allocated when an arena is made. Keys and values lie in two arrays of bytes, each slot's
 //! at its own multiple of their length, so they are compared, read and written where they lie. The free
 //! slots are threaded through the links, which a taken slot leaves to its user.
+//!
+//! `block` and the functions beside it serve any array of byte strings of one length.
 #![tactic(auto)]
 
 mod arena;
@@ -11,4 +13,5 @@ mod cell;
 mod make;
 
 pub use arena::{Arena, Stale, Tag};
+pub use blocks::{block, write_block, write_inside, zero_blocks};
 pub use cell::last_after;

@@ -1,5 +1,5 @@
 //! What a new arena is made of.
-ghost use Rattle.std.specs.Prelude.{◌≡◌, ◌*◌, length, IfOk};
+ghost use Rattle.std.specs.Prelude.{◌≡◌, IfOk};
 ghost use Rattle.element_arena.specs.Fresh.{below, fresh_cells};
 
 use crate::cell::{SlotCell, Standing};
@@ -26,14 +26,4 @@ pub(crate) fn fresh_cells(alloc: Global, slots: usize) -> Result<Vec<SlotCell>, 
         })?;
     }
     Ok(cells)
-}
-
-/// Room for so many byte strings of a length.
-pub(crate) fn room_for(alloc: Global, slots: usize, len: usize) -> Result<Vec<u8>, AllocError>
-    ensures { IfOk result (λ bytes. length bytes.items ≡ slots * len) }
-{
-    match slots.checked_mul(len) {
-        Some(room) => vec![in alloc; 0; room],
-        None => Err(AllocError),
-    }
 }

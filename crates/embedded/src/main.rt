@@ -5,7 +5,9 @@
 use anyhow::{Result, bail};
 use arrayvec::ArrayVec;
 use asm::assemble;
-use bpf_model::{Answer, CtxBytes, Event, KeyBytes, MAX_SLOTS, MapId, MapShape, ProgId, array_of};
+use bpf_model::{
+    Answer, CtxBytes, Event, KeyBytes, MAX_SLOTS, MapId, MapKind, MapShape, ProgId, array_of,
+};
 use maps::Registry;
 use std::alloc::Global;
 use verifier::verify;
@@ -31,6 +33,7 @@ exit
 
 /// Keys of 4 bytes, values of 8, 16 elements and as many further map slots, each used a thousand times at most.
 const SHAPE: MapShape = MapShape {
+    kind: MapKind::Hash,
     key_len: 4,
     value_len: 8,
     entries: 16,

@@ -1,6 +1,6 @@
 //! Jobs that are served in threads, with one result a job, in job order.
 //!
-//! The jobs' numbers go through one queue, whose rule keeps that none is handed out twice. What serves a
+//! The numbers of blocks of jobs go through one queue, whose rule keeps that none is handed out twice. What serves a
 //! job is a `Serve`; each thread has a worker of it, and all workers come back, whatever the answer.
 #![tactic(auto)]
 

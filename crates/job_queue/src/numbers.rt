@@ -1,4 +1,4 @@
-//! The queue of the jobs' numbers, which hands out each of them once.
+//! The queue of the numbers of blocks of jobs, which hands out each of them once.
 ghost use Rattle.std.specs.Prelude.{◌≡◌, ◌≤◌, true, [], IsTrue};
 ghost use Rattle.crossbeam_queue.specs.Passes.{view, IsPassOf, ruled_capacity};
 ghost use Rattle.job_queue.specs.Numbers.{pass_view};
@@ -70,7 +70,7 @@ impl Lesson<u64, PassView> for Takes {
     ghost fact = { λ v numbers. Unit {0} };
 }
 
-/// The queue of job numbers, under the rule that none is handed out twice.
+/// The queue of the numbers of blocks, under the rule that none is handed out twice.
 pub type NumberQueue = RuledArrayQueue<u64, PassView, Once>;
 
 /// What one user of the queue has put in and taken.

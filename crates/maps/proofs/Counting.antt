@@ -86,6 +86,7 @@ pub reaped-counted : (shape : MapShape) (p r : PartsView) (i : ℕ) (l : List (O
 reaped-counted shape p r i l given c h first s g e =
     let k : IsMap shape (record { index = p.index; lists = reaped_lists p.lists; arena = arena.given_back (record p.arena { links = l }) i }) c.linked = record {
       valid = h.kept.valid;
+      hash = h.kept.hash;
       arena = record { slots = h.kept.arena.slots; key_len = h.kept.arena.key_len; value_len = h.kept.arena.value_len; limit = h.kept.arena.limit; keys = h.kept.arena.keys; values = h.kept.arena.values };
       keys = h.kept.keys;
       count = h.kept.count;

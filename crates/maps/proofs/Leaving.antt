@@ -23,6 +23,7 @@ pub retired-kept : (shape : MapShape) (p r : PartsView) (key : List ℕ) (i n : 
 retired-kept shape p r key i n h g e =
     let k : IsMap shape (unlinked_of p key (Some i) r.arena.links) (n - 1) = record {
       valid = h.valid;
+      hash = h.hash;
       arena = record { slots = h.arena.slots; key_len = h.arena.key_len; value_len = h.arena.value_len; limit = h.arena.limit; keys = h.arena.keys; values = h.arena.values };
       keys = long-removed p.index key shape.key_len h.keys;
       count = ap (λ m. m - 1) h.count ∙ sym (len-remove_found p.index key i g);

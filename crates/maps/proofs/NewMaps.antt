@@ -2,6 +2,7 @@
 use Rattle.std.proofs.Common.{◌∙◌, List, [], ◌∷◌, ◌++◌, map, sym, ap}
 use Rattle.std.proofs.lemmas.List.{map-append}
 use Rattle.bpf_model.specs.declared.limits.MapShape.{MapShape}
+use Rattle.model_laws.proofs.Starting.{shapes-start}
 use Rattle.bpf_model.specs.View.{AreNewMaps, MapView, new_map_view, shapes_of_maps}
 
 -- a new map is new, and leaves the others new
@@ -9,4 +10,5 @@ pub new-more : (maps : List MapView) (shape : MapShape) → AreNewMaps maps → 
 new-more maps shape e =
     ap (λ m. m ++ new_map_view shape ∷ []) e
     ∙ (sym (map-append new_map_view (shapes_of_maps maps) (shape ∷ []))
-    ∙ ap (map new_map_view) (sym (map-append (λ v. v.shape) maps (new_map_view shape ∷ []))))
+    ∙ (ap (λ l. map new_map_view (shapes_of_maps maps ++ l)) (sym (shapes-start (shape ∷ [])))
+    ∙ ap (map new_map_view) (sym (map-append (λ v. v.shape) maps (new_map_view shape ∷ [])))))

@@ -7,11 +7,12 @@ use Rattle.std.specs.Cmp.Lexicographic.{slice_cmp}
 use Rattle.std.proofs.lemmas.Bool.{cases_eq}
 use Rattle.std.proofs.lemmas.Option.{none-some}
 use Rattle.bpf_model.specs.declared.call.Errno.{Errno}
+use Rattle.bpf_model.specs.declared.limits.MapKind.TheVariants.{Hash}
 use Rattle.bpf_model.specs.declared.limits.MapShape.{MapShape}
-use Rattle.bpf_model.specs.Helper.{update_error}
+use Rattle.bpf_model.specs.Helper.{hash_error, error_of_kind}
 use Rattle.bpf_model.specs.View.{SlotView, MapView, uses_at, map_state_of, key_in, value_in}
 use Rattle.element_arena.specs.State.{taken}
-use Rattle.view_laws.specs.Views.{updated, updated_by, filled, filled_from, retired_key, retired_slot}
+use Rattle.view_laws.specs.Views.{updated, updated_by, written_by, filled, filled_from, retired_key, retired_slot}
 use Rattle.view_laws.proofs.Lists.{remove-same, len-remove_found, len-insert_new}
 use Rattle.maps.specs.Parted.{PartsView, without_key}
 use Rattle.maps.specs.Updated.{IsPut, replaced, with_taken}
@@ -21,8 +22,11 @@ use Rattle.maps.proofs.Lengths.{long-inserted, long-removed}
 use Rattle.std.proofs.lemmas.List.{length-set}
 
 -- an update, by the first test that fails and what the code knows of the map
-pub updated-by : (v : MapView) (key value : List ℕ) (flags linked : ℕ) (o : Option Errno) → linked ≡ len v.index → update_error flags (is_some (get v.index key)) linked (map_state_of v) ≡ o → updated v key value flags ≡ updated_by o v key value
-updated-by v key value flags linked o l h = ap (λ e. updated_by e v key value) (ap (λ n. update_error flags (is_some (get v.index key)) n (map_state_of v)) (sym l) ∙ h)
+pub updated-by : (v : MapView) (key value : List ℕ) (flags linked : ℕ) (o : Option Errno) → v.shape.kind ≡ Hash → linked ≡ len v.index → hash_error flags (is_some (get v.index key)) linked (map_state_of v) ≡ o → updated v key value flags ≡ updated_by o v key value
+updated-by v key value flags linked o hash l h =
+    ap (λ e. updated_by e v key value)
+    (ap (λ kind. error_of_kind kind flags (is_some (get v.index key)) (len v.index) (map_state_of v)) hash
+    ∙ (ap (λ n. hash_error flags (is_some (get v.index key)) n (map_state_of v)) (sym l) ∙ h))
 
 -- a list after a write has the new element there, or what it had
 set-cases : {A : Type 0} (xs : List A) (i j : ℕ) (y : A) → (slice_get (slice_set xs i y) j ≡ Some y) ⊎ (slice_get (slice_set xs i y) j ≡ slice_get xs j)
@@ -82,6 +86,7 @@ module _ (p p2 : PartsView) (i : ℕ) (rest key value : List ℕ) (found : Optio
   put-kept shape n h g hk hv =
       let k : IsMap shape (replaced (with_taken p i rest key value) key found i p2.arena.links) (linked_with found n) = record {
         valid = h.valid;
+        hash = h.hash;
         arena = put-arena shape h.arena hk hv;
         keys = long-put shape h.keys hk found;
         count = put-len n found h.count g;
@@ -89,9 +94,10 @@ module _ (p p2 : PartsView) (i : ℕ) (rest key value : List ℕ) (found : Optio
       subst (λ (z : PartsView). IsMap shape z (linked_with found n)) (sym replaced-is) k
 
 -- an update that no test refuses
-pub put-updates : (shape : MapShape) (p r : PartsView) (key value : List ℕ) (found : Option ℕ) → get p.index key ≡ found → IsPut p r key value found → updated_by None (map_view shape p) key value ≡ (Ok tt, map_view shape r)
-put-updates shape p r key value found g h =
+pub put-updates : (shape : MapShape) (p r : PartsView) (key value : List ℕ) (found : Option ℕ) → shape.kind ≡ Hash → get p.index key ≡ found → IsPut p r key value found → updated_by None (map_view shape p) key value ≡ (Ok tt, map_view shape r)
+put-updates shape p r key value found hash g h =
     ap (λ w. let z : Result (Unit {0}) Errno × MapView = (Ok tt, w) in z)
-    (ap (λ fs. filled_from fs (retired_key (map_view shape p) key) key value) h.first
+    (ap (λ kind. written_by kind (map_view shape p) key value) hash
+    ∙ ap (λ fs. filled_from fs (retired_key (map_view shape p) key) key value) h.first
     ∙ (ap (λ o. filled (retired_slot (map_view shape p) key o) h.slot h.rest key value) g
     ∙ sym (put-view p r h.slot h.rest key value found h.new_is shape)))

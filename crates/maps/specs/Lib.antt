@@ -1,5 +1,7 @@
 pub mod Parted
 pub mod Shown
+pub mod Arrays
+pub mod Kinds
 pub mod Updated
 pub mod Lending
 pub mod Registry

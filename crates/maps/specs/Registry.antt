@@ -1,12 +1,15 @@
 -- The maps of a registry, in order of creation, each with its name.
-use Rattle.std.specs.Prelude.{ℕ, Bool, false, not, ◌&&◌, ◌||◌, ◌==◌, if◌then◌else◌, List, []}
+use Rattle.std.specs.Prelude.{ℕ, Bool, true, false, not, ◌&&◌, ◌||◌, ◌==◌, if◌then◌else◌, List, []}
 use Rattle.std.specs.Prelude.{length, Option, Some, None, slice_get, bytes_eq, nat_le, refl}
 use Rattle.std.specs.Char.{is_ascii_digit, is_ascii_lowercase}
 use Rattle.std.specs.Int.{is_in_range}
 use Rattle.std.specs.List.{list_any, list_all}
+use Rattle.bpf_model.specs.declared.limits.MapKind.{MapKind}
+use Rattle.bpf_model.specs.declared.limits.MapKind.TheVariants.{Hash, Array}
 use Rattle.bpf_model.specs.declared.limits.MapShape.{MapShape}
 use Rattle.bpf_model.specs.declared.limits.TheConstants.{MAX_MAPS, KEY_BYTES, VALUE_BYTES}
 use Rattle.bpf_model.specs.declared.limits.TheConstants.{MAX_ENTRIES, MAX_SPARE, MAX_REUSE}
+use Rattle.bpf_model.specs.declared.limits.TheConstants.{INDEX_BYTES}
 use Rattle.bpf_model.specs.View.{MapView}
 use Rattle.bpf_model.specs.Codes.{numbers_code, view_code}
 use Rattle.std.specs.Coded.{Coded, code_by, coded×, coded_list}
@@ -42,12 +45,20 @@ abbrev pub is_name : List ℕ → Bool
 is_name name = begins_with_letter (slice_get name 0)
     && (nat_le (length name) NAME_BYTES && list_all is_name_character name)
 
+-- whether the numbers of a shape are those of this kind: an array has keys of INDEX_BYTES, no
+-- further map slots, and uses each once
+abbrev pub is_of_kind : MapKind → MapShape → Bool
+is_of_kind Hash shape = true
+is_of_kind Array shape =
+    (shape.key_len == INDEX_BYTES) && ((shape.spare == 0) && (shape.reuse_limit == 1))
+
 -- whether a map may have the shape
 abbrev pub is_shape : MapShape → Bool
 is_shape shape =
     is_in_range 1 KEY_BYTES shape.key_len && (is_in_range 1 VALUE_BYTES shape.value_len
     && (is_in_range 1 MAX_ENTRIES shape.entries
-    && (nat_le shape.spare MAX_SPARE && is_in_range 1 MAX_REUSE shape.reuse_limit)))
+    && (nat_le shape.spare MAX_SPARE && (is_in_range 1 MAX_REUSE shape.reuse_limit
+    && is_of_kind shape.kind shape))))
 
 abbrev pub has_name : RegistryView → List ℕ → Bool
 has_name r name = list_any (bytes_eq name) r.names

@@ -5,6 +5,7 @@ use Rattle.std.specs.FinMap.{get, len}
 use Rattle.bpf_model.specs.declared.call.Errno.{Errno}
 use Rattle.bpf_model.specs.declared.call.Errno.TheVariants.{NoMemory}
 use Rattle.bpf_model.specs.declared.event.Given.{Given}
+use Rattle.bpf_model.specs.declared.limits.MapKind.TheVariants.{Hash}
 use Rattle.bpf_model.specs.declared.limits.MapShape.{MapShape}
 use Rattle.bpf_model.specs.MapState.{MapState, IsShape, slots_of_shape}
 use Rattle.bpf_model.specs.View.{KeyMap, MapView}
@@ -40,10 +41,11 @@ pub record IsOfShape (shape : MapShape) (a : ArenaState) : Type 0 where
 abbrev pub AreKeysLong : KeyMap → ℕ → Type 0
 AreKeysLong index n = (key : List ℕ) (i : ℕ) → get index key ≡ Some i → length key ≡ n
 
--- A map may have the shape, the arena is of it, its keys have the shape's length, and so many slots
--- are linked.
+-- A map may have the shape, which is a hash map's, the arena is of it, its keys have the shape's
+-- length, and so many slots are linked.
 pub record IsMap (shape : MapShape) (p : PartsView) (linked : ℕ) : Type 0 where
   pub valid : IsShape shape
+  pub hash : shape.kind ≡ Hash
   pub arena : IsOfShape shape p.arena
   pub keys : AreKeysLong p.index shape.key_len
   pub count : linked ≡ len p.index

@@ -33,6 +33,6 @@ unlinked_of p key found links = record {
   arena = record p.arena { links = links };
 }
 
-abbrev pub error_of : Result (Option ℕ) Errno → Option Errno
-error_of (Ok found) = None
+abbrev pub error_of : {A : Type 0} → Result A Errno → Option Errno
+error_of (Ok x) = None
 error_of (Err e) = Some e

@@ -1,7 +1,7 @@
 //! Copies of the parts of a registry.
 ghost use Rattle.std.specs.Prelude.{◌≡◌, length, map, string_bytes, IfOk};
 
-use crate::Map;
+use crate::map::Map;
 use indexmap::IndexSet;
 use std::alloc::{AllocError, Global};
 

@@ -1,6 +1,7 @@
-//! A map of a fixed number of map slots.
+//! A hash map: any keys of one length, in a fixed number of map slots.
 ghost use Rattle.std.specs.Prelude.{◌≡◌, ◌<◌, ◌≤◌, ◌+◌, [], length, slice_get, None, Some, IfSome, IfNone, IfOk, OnErr, option_copied, option_map};
 ghost use Rattle.std.specs.FinMap as map;
+ghost use Rattle.bpf_model.specs.declared.limits.MapKind.{MapKind};
 ghost use Rattle.bpf_model.specs.declared.limits.TheConstants.{VALUE_BYTES, MAX_ENTRIES, MAX_SPARE};
 ghost use Rattle.bpf_model.specs.Access.{byte_count, number_at};
 ghost use Rattle.bpf_model.specs.MachineStep.{with_bytes};
@@ -208,7 +209,8 @@ impl<I: Index, D: Deferred> HashMap<I, D> {
 impl<I: Index + Drop, D: Deferred + Drop> HashMap<I, D> {
     /// A map that has nothing. All the memory that it ever takes is taken here.
     pub fn new(alloc: Global, shape: MapShape) -> Result<HashMap<I, D>, AllocError>
-        requires { IsShape shape }
+        requires shape { IsShape shape }
+        requires hash { shape.kind ≡ MapKind.Hash }
         ensures { IfOk result (λ m. m ≡ new_map_view shape) }
     {
         let parts = Parts::new(alloc, shape)?;

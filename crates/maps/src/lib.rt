@@ -1,27 +1,28 @@
-//! The maps of a world: elements by key, in map slots that are reclaimed after a grace period; and
-//! their registry.
+//! The maps of a world, hash maps and arrays: elements by key, each in a map slot; and their registry.
 //!
-//! `HashMap` stands on any index and any lists of unlinked slots; `Map` is the one that the runtime takes.
+//! The elements that a hash map unlinks are reclaimed after a grace period; those of an array stay.
+//! `HashMap` stands on any index and any lists of unlinked slots; `Map` is the one that the runtime takes, of
+//! either kind.
 #![tactic(auto)]
 
 mod admission;
+mod array_map;
 mod copying;
 mod counts;
 mod fault;
 mod hash_map;
+mod index_key;
+mod map;
 mod name;
 mod parts;
 mod registry;
 mod shape;
 
+pub use array_map::ArrayMap;
 pub use counts::Counts;
-use deferred_free::Threaded;
 pub use fault::MapFault;
-use hash_index::Buckets;
 pub use hash_map::HashMap;
+pub use map::Map;
 pub use name::{NAME_BYTES, is_name};
 pub use registry::Registry;
 pub use shape::is_shape;
-
-/// The runtime's map: the index and the lists are threaded through the slots.
-pub type Map = HashMap<Buckets, Threaded>;

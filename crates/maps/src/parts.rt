@@ -1,11 +1,11 @@
-//! An arena with an index and the lists that stand in it.
+//! The parts of a hash map: an arena with an index and the lists that stand in it.
 ghost use Rattle.std.specs.Prelude.{◌≡◌, ◌<◌, ◌≤◌, ◌+◌, length, slice_get, is_some, None, Some, IfSome, IfNone, IfOk, OnErr, if◌then◌else◌, option_copied};
 ghost use Rattle.std.specs.FinMap as map;
 ghost use Rattle.bpf_model.specs.Schedule.{turned, no_queues};
 ghost use Rattle.bpf_model.specs.declared.event.Given.TheVariants as given;
 ghost use Rattle.bpf_model.specs.Access.{byte_count, number_at};
 ghost use Rattle.bpf_model.specs.MachineStep.{with_bytes};
-ghost use Rattle.bpf_model.specs.Helper.{update_error};
+ghost use Rattle.bpf_model.specs.Helper.{hash_error};
 ghost use Rattle.bpf_model.specs.MapState.{MapState, IsShape, slots_of_shape};
 ghost use Rattle.element_arena.specs.State.{key_at, value_at, is_last_use, given_back, with_slot_value, new_arena};
 ghost use Rattle.hash_index.specs.Order.{IsAbove, NoneAbove, NoneBetween};
@@ -81,7 +81,7 @@ impl<I: Index, D: Deferred> Parts<I, D> {
         ensures parted { IsParted self.old }
         ensures tested { (m : MapState) → m.shape.entries ≡ admission.entries →
             length m.bag ≡ length self.old.arena.free →
-            update_error admission.flags (is_some (map.get self.old.index key.now))
+            hash_error admission.flags (is_some (map.get self.old.index key.now))
             admission.linked m
             ≡ error_of result }
         ensures err { OnErr result (self.new ≡ self.old) }

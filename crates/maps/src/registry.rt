@@ -13,10 +13,10 @@ ghost use Rattle.view_laws.specs.Views.{turned_view};
 ghost use Rattle.view_laws.specs.Reactions.{first_pick};
 ghost use Rattle.maps.specs.declared.fault.MapFault.TheVariants.{Memory};
 
-use crate::Map;
 use crate::copying::{copy_of_maps, copy_of_names};
 use crate::counts::Counts;
 use crate::fault::MapFault;
+use crate::map::Map;
 use crate::name::is_name;
 use crate::shape::is_shape;
 use bpf_model::{MAX_MAPS, MapId, MapShape, ReapedElement};
@@ -139,6 +139,7 @@ impl Registry {
     fn fault(&self, name: &str, shape: &MapShape) -> Option<MapFault>
         ensures value { result ≡ creation_fault self.now name.now shape.now }
         ensures shape { IfNone result (IsShape shape.now) }
+        ensures room { IfNone result (length self.now.maps < MAX_MAPS) }
     {
         if !is_name(name) {
             return Some(MapFault::BadName);
@@ -155,7 +156,7 @@ impl Registry {
         None
     }
 
-    /// A new map without elements. Its number is the next one.
+    /// A new map, which nothing has used (`Map::new`). Its number is the next one.
     ///
     /// Errors: the first of these that holds, and then nothing has changed.
     /// - `BadName`: it is no name (`is_name`).

@@ -26,9 +26,11 @@ use Rattle.bpf_model.specs.declared.limits.MapShape.{MapShape}
 use Rattle.bpf_model.specs.declared.value.Value.{Value}
 use Rattle.bpf_model.specs.Call.{helper_of}
 use Rattle.bpf_model.specs.Section.{Section}
-use Rattle.bpf_model.specs.Element.{Element, Linked, is_reclaimed, Unlinked, Reclaimed, unlinked, with_life}
+use Rattle.bpf_model.specs.Element.{Element, Linked, is_reclaimed, Unlinked, Reclaimed, unlinked, with_life, with_value, set_to, newborn, overwritten}
 use Rattle.bpf_model.specs.MapState.{MapState, Store, TakesOut, most_births, new_map, with_bag, with_elements, with_given, given_of, returned}
-use Rattle.bpf_model.specs.Helper.{LooksUp, Replaces, Settles, Updates, Removes, Deletes, newborn}
+use Rattle.bpf_model.specs.Helper.{LooksUp, Replaces, Settles, Updates, Removes, Deletes, Writes, RemovesFrom}
+use Rattle.bpf_model.specs.declared.limits.MapKind.{MapKind}
+use Rattle.bpf_model.specs.declared.limits.MapKind.TheVariants.{Hash, Array}
 use Rattle.bpf_model.specs.Reclaim.{Reclaims}
 use Rattle.bpf_model.specs.Machine.{Run, Machine, Loaded, environment, open_sections, start_machine}
 use Rattle.bpf_model.specs.MachineStep.{HelperStep, InsnStep}
@@ -37,8 +39,10 @@ use Rattle.bpf_model.specs.Schedule.{Schedule, IsScheduledHistory, start_schedul
 use Rattle.bpf_model.specs.Refines.{times, IsReachedSchedule}
 use Rattle.model_laws.specs.Accounted.{kept_count, born_count, IsFull}
 use Rattle.model_laws.proofs.Stores.{Touches, touches-found, touches-acts, shape-given}
+use Rattle.bpf_model.specs.MapState.{IsArrayShape, IsShape, AreShapes, slots_of_shape, new_bag, all_new_elements}
+use Rattle.model_laws.proofs.NewElements.{new_count, new-once, fresh-counts, born-new}
 use Rattle.model_laws.proofs.Counting.{map-back, times-append, times-first, times-other}
-use Rattle.model_laws.proofs.Tallies.{is_kept, of-same, of-other, kept-touched, kept-born, kept-reclaimed, kept-kinds, kept_uses, uses-touched, born-touched, kept-was, kept-is, uses-here, uses-away, uses-born, born-born, uses-reclaimed, born-reclaimed, uses-most}
+use Rattle.model_laws.proofs.Tallies.{one_of, count-set, sum-set, uses_of, is_kept, of-same, of-other, kept-touched, kept-born, kept-reclaimed, kept-kinds, kept_uses, uses-touched, born-touched, kept-was, kept-is, uses-here, uses-away, uses-born, born-born, uses-reclaimed, born-reclaimed, uses-most}
 use Rattle.bpf_model.proofs.Lists.{get-append_cases, get-set_cases}
 use Rattle.bpf_model.specs.History.{last_of}
 
@@ -63,16 +67,34 @@ unused-free (suc n) c h = elim (cases_eq 0 c) [
   | inr ne ↦ let t = times-other c 0 (replicate n 0) ne in unused-free n c (omega arith)
 ]
 
-new-map-adds : (k : ℕ) (shape : MapShape) → AddsUp k [] (new_map shape)
-new-map-adds k shape = record {
+hash-adds : (k : ℕ) (shape : MapShape) (es : List Element) → born_count k es ≡ 0 → kept_count k es ≡ 0 → kept_uses k es ≡ 0 → ((n : ℕ) (e : Element) → slice_get es n ≡ Some e → e.uses ≡ 1) → AddsUp k es (record { shape = shape; bag = replicate (slots_of_shape shape) 0; worn = 0 })
+hash-adds k shape es born kept uses ones = record {
   slots = let free : length (replicate {A = ℕ} (shape.entries + shape.spare) 0) ≡ shape.entries + shape.spare = length-replicate (shape.entries + shape.spare) 0 in omega arith;
   births = let a : total (replicate (shape.entries + shape.spare) 0) ≡ (shape.entries + shape.spare) * 0 = sum_by-replicate (λ c. c) (shape.entries + shape.spare) 0 in omega arith;
   free = λ some c h. let z = unused-free (shape.entries + shape.spare) c h in omega arith;
-  kept = λ some n e at kept. absurd (none-some e at);
+  kept = λ some n e at kept. let one = ones n e at in omega arith;
 }
 
-accounted-start : (shapes : List MapShape) (programs : List Loaded) → Accounted (start_machine shapes programs).store
-accounted-start shapes programs k m at = let b = map-back new_map shapes k m at in subst (AddsUp k []) b.2 (new-map-adds k b.0)
+array-adds : (k : ℕ) (shape : MapShape) (es : List Element) → IsArrayShape shape → born_count k es ≡ shape.entries → kept_count k es ≡ shape.entries → kept_uses k es ≡ shape.entries → ((n : ℕ) (e : Element) → slice_get es n ≡ Some e → e.uses ≡ 1) → AddsUp k es (record { shape = shape; bag = []; worn = 0 })
+array-adds k shape es array born kept uses ones = record {
+  slots = let spare = array.spare in omega arith;
+  births = omega arith;
+  free = λ some c h. absurd (omega arith);
+  kept = λ some n e at kept. let one = ones n e at in omega arith;
+}
+
+new-map-adds : (k : ℕ) (kind : MapKind) (shape : MapShape) (es : List Element) → shape.kind ≡ kind → IsShape shape → born_count k es ≡ new_count kind shape → kept_count k es ≡ born_count k es → kept_uses k es ≡ born_count k es → ((n : ℕ) (e : Element) → slice_get es n ≡ Some e → e.uses ≡ 1) →
+    AddsUp k es (record { shape = shape; bag = new_bag kind shape; worn = 0 })
+new-map-adds k Hash shape es is limits born kept uses ones = hash-adds k shape es born (kept ∙ born) (uses ∙ born) ones
+new-map-adds k Array shape es is limits born kept uses ones = array-adds k shape es (limits.array is) born (kept ∙ born) (uses ∙ born) ones
+
+accounted-start : (shapes : List MapShape) (programs : List Loaded) → AreShapes shapes → Accounted (start_machine shapes programs).store
+accounted-start shapes programs limits k m at =
+    let b = map-back new_map shapes k m at in
+    let es : List Element = all_new_elements 0 shapes in
+    let ones = new-once 0 shapes in
+    let counts = fresh-counts k es ones in
+    subst (AddsUp k es) b.2 (new-map-adds k b.0.kind b.0 es refl (limits k b.0 b.1) (born-new 0 shapes k k b.0 b.1 (omega arith)) counts.0 counts.1 (λ n e h. (ones n e h).1))
 
 -- what a step keeps
 abbrev Accounts : Store → Store → Type 0
@@ -198,20 +220,55 @@ accounts-replaces : (s : Store) (opened : List Section) (map : ℕ) (m : MapStat
 accounts-replaces s opened map m key value found new there l r h =
     accounts-born s map m h opened (unlinked opened s.elements found) key value r.bag r.count there r.taken (touches-found false opened s map key found l) new r.new_is
 
-accounts-settles : (s : Store) (opened : List Section) (map : ℕ) (m : MapState) (key value : List ℕ) (found : Option ℕ) (new : Store) (error : Option Errno) (ret : Result (Unit {0}) Errno) → slice_get s.maps map ≡ Some m → LooksUp s map key found →
-    Settles error ret s new (Replaces s opened map m key value found new) → Accounts s new
-accounts-settles s opened map m key value found new None ret there l h = accounts-replaces s opened map m key value found new there l h.1
-accounts-settles s opened map m key value found new (Some e) ret there l h = accounts-same s new h.1
+-- another value changes no count
+adds-set : (k : ℕ) (es : List Element) (n : ℕ) (e : Element) (value : List ℕ) (m : MapState) → slice_get es n ≡ Some e → AddsUp k es m → AddsUp k (slice_set es n (with_value value e)) m
+adds-set k es n e value m at a =
+    let fs : List Element = slice_set es n (with_value value e) in
+    let kept : kept_count k fs + one_of (is_kept k e) ≡ kept_count k es + one_of (is_kept k e) = count-set (is_kept k) es n e (with_value value e) at in
+    let uses : kept_uses k fs + uses_of k e ≡ kept_uses k es + uses_of k e = sum-set (uses_of k) es n e (with_value value e) at in
+    let born : born_count k fs + one_of (e.map == k) ≡ born_count k es + one_of (e.map == k) = count-set (λ (x : Element). x.map == k) es n e (with_value value e) at in
+    let old : total m.bag + kept_uses k es + m.worn * m.shape.reuse_limit ≡ born_count k es = a.births in
+    let slots : length m.bag + kept_count k es + m.worn ≡ m.shape.entries + m.shape.spare = a.slots in
+    record {
+      slots = omega arith;
+      births = omega arith;
+      free = a.free;
+      kept = λ some j f g is. elim (get-set_cases es n j (with_value value e) f g) [
+        | inl x ↦ subst (λ (z : Element). z.uses ≤ m.shape.reuse_limit) x.1 (a.kept some n e at (ap (is_kept k) x.1 ∙ is))
+        | inr x ↦ a.kept some j f x.1 is
+      ];
+    }
+
+adds-set_to : (k : ℕ) (es : List Element) (n : ℕ) (value : List ℕ) (m : MapState) (o : Option Element) → slice_get es n ≡ o → AddsUp k es m → AddsUp k (set_to (with_value value) es n o) m
+adds-set_to k es n value m None at a = a
+adds-set_to k es n value m (Some e) at a = adds-set k es n e value m at a
+
+adds-overwritten : (k : ℕ) (es : List Element) (found : Option ℕ) (value : List ℕ) (m : MapState) → AddsUp k es m → AddsUp k (overwritten value es found) m
+adds-overwritten k es None value m a = a
+adds-overwritten k es (Some n) value m a = adds-set_to k es n value m (slice_get es n) refl a
+
+accounts-writes : (kind : MapKind) (s : Store) (opened : List Section) (map : ℕ) (m : MapState) (key value : List ℕ) (found : Option ℕ) (new : Store) → slice_get s.maps map ≡ Some m → LooksUp s map key found → Writes kind s opened map m key value found new → Accounts s new
+accounts-writes Hash s opened map m key value found new there l r = accounts-replaces s opened map m key value found new there l r
+accounts-writes Array s opened map m key value found new there l r = λ h. subst Accounted (sym r) (λ k state at. adds-overwritten k s.elements found value state (h k state at))
+
+accounts-settles : (kind : MapKind) (s : Store) (opened : List Section) (map : ℕ) (m : MapState) (key value : List ℕ) (found : Option ℕ) (new : Store) (error : Option Errno) (ret : Result (Unit {0}) Errno) → slice_get s.maps map ≡ Some m → LooksUp s map key found →
+    Settles error ret s new (Writes kind s opened map m key value found new) → Accounts s new
+accounts-settles kind s opened map m key value found new None ret there l h = accounts-writes kind s opened map m key value found new there l h.1
+accounts-settles kind s opened map m key value found new (Some e) ret there l h = accounts-same s new h.1
 
 accounts-updates : (s : Store) (opened : List Section) (map : ℕ) (key value : List ℕ) (flags : ℕ) (ret : Result (Unit {0}) Errno) (new : Store) → Updates s opened map key value flags ret new → Accounts s new
-accounts-updates s opened map key value flags ret new u = accounts-settles s opened map u.state key value u.found new _ ret u.there u.lookup u.settled
+accounts-updates s opened map key value flags ret new u = accounts-settles u.state.shape.kind s opened map u.state key value u.found new _ ret u.there u.lookup u.settled
 
 accounts-removes : (s : Store) (opened : List Section) (map : ℕ) (key : List ℕ) (ret : Result (Unit {0}) Errno) (new : Store) (found : Option ℕ) → LooksUp s map key found → Removes found opened ret s new → Accounts s new
 accounts-removes s opened map key ret new None l h = accounts-same s new h.1
 accounts-removes s opened map key ret new (Some n) l h = accounts-elements opened s new (unlinked opened s.elements (Some n)) (touches-found false opened s map key (Some n) l) h.1
 
 accounts-deletes : (s : Store) (opened : List Section) (map : ℕ) (key : List ℕ) (ret : Result (Unit {0}) Errno) (new : Store) → Deletes s opened map key ret new → Accounts s new
-accounts-deletes s opened map key ret new d = accounts-removes s opened map key ret new d.0 d.1 d.2
+accounts-deletes s opened map key ret new d = by d.state.shape.kind d.removed
+  where
+    by : (kind : MapKind) → RemovesFrom kind d.found opened ret s new → Accounts s new
+    by Hash h = accounts-removes s opened map key ret new d.found d.lookup h
+    by Array h = accounts-same s new h.1
 
 -- a reclamation gives one back, or wears it out
 given-one : (given : Given) (uses : ℕ) (m : MapState) → length (with_given given uses m).bag + (with_given given uses m).worn ≡ length m.bag + m.worn + 1
@@ -338,7 +395,7 @@ accounted-along s (event ∷ events) (answer ∷ answers) (next ∷ states) a h 
 accounted-along s events answers states a h = absurd h
 
 reached-adds : (shapes : List MapShape) (programs : List Loaded) (s : Schedule) → IsReachedSchedule shapes programs s → Accounted s.machine.store
-reached-adds shapes programs s r = subst (λ (x : Schedule). Accounted x.machine.store) r.last (accounted-along (start_schedule shapes programs) r.events r.answers r.states (accounted-start shapes programs) r.history)
+reached-adds shapes programs s r = subst (λ (x : Schedule). Accounted x.machine.store) r.last (accounted-along (start_schedule shapes programs) r.events r.answers r.states (accounted-start shapes programs r.limits) r.history)
 
 pub slots_accounted : (shapes : List MapShape) (programs : List Loaded) (s : Schedule) (k : ℕ) (m : MapState) → IsReachedSchedule shapes programs s → slice_get s.machine.store.maps k ≡ Some m →
     length m.bag + kept_count k s.machine.store.elements + m.worn ≡ m.shape.entries + m.shape.spare

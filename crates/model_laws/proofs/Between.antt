@@ -22,7 +22,7 @@ life-next reap opened old new (Ends since r l ended e) h = absurd (linked≢unli
 
 linked-next : (m new : Machine) (event : Event) (answer : Answer) (n : ℕ) → IsConsistent m → DoesEvent m event answer new → HasLife m.store.elements n Linked → HasLife new.store.elements n Linked ⊎ HasLife new.store.elements n (Unlinked (open_sections m.runs))
 linked-next m new event answer n w h old =
-    let f = (does-moves m new event answer w.single h).forth n old.0 old.1 in
+    let f = (does-moves m new event answer w.single w.lengths h).forth n old.0 old.1 in
     elim (life-next (is_reap event) (open_sections m.runs) old.0.life f.0.life f.2.life old.2) [
       | inl x ↦ inl (f.0, f.1, x)
       | inr x ↦ inr (f.0, f.1, x)

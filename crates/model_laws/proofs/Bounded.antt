@@ -93,7 +93,7 @@ module _ (w : WorldView) (s : Schedule) (t : TracksSchedule w s) where
       let m = get-below s.machine.store.maps i (omega arith) in
       let q = get-below s.queues i (omega arith) in
       let is : m.0.shape ≡ x = ap (λ (z : MapState). z.shape) (t.refines.map i v.0 m.0 q.0 v.1 m.1 q.1).state ∙ v.2 in
-      let some : 1 ≤ x.reuse_limit = (t.limits i x at).reuse.0 in
+      let some : 1 ≤ x.reuse_limit = (t.reached.limits i x at).reuse.0 in
       let limit : m.0.shape.reuse_limit ≡ x.reuse_limit = ap (λ (z : MapShape). z.reuse_limit) is in
       let most : born_count i s.machine.store.elements ≤ most_births m.0.shape = births_bounded (shapes_of w) w.programs s i m.0 t.reached m.1 (omega arith) in
       let births : most_births m.0.shape ≡ most_births x = ap most_births is in

@@ -28,10 +28,12 @@ use Rattle.bpf_model.specs.Access.{byte_count, unsigned_width}
 use Rattle.bpf_model.specs.Call.{helper_of, kernel_function_of, ret_word}
 use Rattle.bpf_model.specs.Step.{State, Environment, Outcome, Moves, Exits, after, sets, load_from, store_to}
 use Rattle.bpf_model.specs.Section.{Section}
-use Rattle.bpf_model.specs.Element.{Element, Unlinked, Reclaimed, HasLife, with_life, linked_count, unlinked}
+use Rattle.bpf_model.specs.Element.{Element, Unlinked, Reclaimed, HasLife, with_life, linked_count, unlinked, newborn, overwritten}
 use Rattle.bpf_model.specs.MapState as map_state
 use Rattle.bpf_model.specs.MapState.{MapState, with_bag, with_elements, returned, given_of}
-use Rattle.bpf_model.specs.Helper.{LooksUp, Replaces, Settles, Updates, Removes, Deletes, newborn, update_error}
+use Rattle.bpf_model.specs.Helper.{LooksUp, Replaces, Settles, Updates, Removes, Deletes, update_error, Writes, RemovesFrom}
+use Rattle.bpf_model.specs.declared.limits.MapKind.{MapKind}
+use Rattle.bpf_model.specs.declared.limits.MapKind.TheVariants.{Hash, Array}
 use Rattle.bpf_model.specs.Reclaim.{Reclaims}
 use Rattle.bpf_model.specs.Machine.{Run, Machine, environment, open_sections, moves, with_store, with_runs, begins}
 use Rattle.bpf_model.specs.MachineStep.{OutcomeStep, Acts, AccessesElement, KernelStep, LookupStep, UpdateStep, DeleteStep, HelperStep, InsnStep, RunStep, StepsRun, element_load, element_store, key_argument, value_argument, returns, found_value}
@@ -82,20 +84,25 @@ replaces-one s opened map m key value found new other at l old_new old_other r q
     let bags : r.bag ≡ q.bag = tails _ _ r.bag q.bag (sym a ∙ b) in
     r.new_is ∙ (ap (λ x. replaced s opened map m key value found x r.bag) counts ∙ (ap (λ x. replaced s opened map m key value found q.count x) bags ∙ sym q.new_is))
 
-settles-one : (s : map_state.Store) (opened : List Section) (map : ℕ) (m : MapState) (key value : List ℕ) (found : Option ℕ) (error : Option Errno) (ret told : Result (Unit {0}) Errno) (new other : map_state.Store) → slice_get s.maps map ≡ Some m → LooksUp s map key found → TakesOldest s new → TakesOldest s other →
-    Settles error ret s new (Replaces s opened map m key value found new) → Settles error told s other (Replaces s opened map m key value found other) → (ret ≡ told) × (new ≡ other)
-settles-one s opened map m key value found None ret told new other at l old_new old_other h g = (meet _ _ _ h.0 g.0, replaces-one s opened map m key value found new other at l old_new old_other h.1 g.1)
-settles-one s opened map m key value found (Some e) ret told new other at l old_new old_other h g = (meet _ _ _ h.0 g.0, meet _ _ _ h.1 g.1)
+writes-one : (kind : MapKind) (s : map_state.Store) (opened : List Section) (map : ℕ) (m : MapState) (key value : List ℕ) (found : Option ℕ) (new other : map_state.Store) → slice_get s.maps map ≡ Some m → LooksUp s map key found → TakesOldest s new → TakesOldest s other →
+    Writes kind s opened map m key value found new → Writes kind s opened map m key value found other → new ≡ other
+writes-one Hash s opened map m key value found new other at l old_new old_other r q = replaces-one s opened map m key value found new other at l old_new old_other r q
+writes-one Array s opened map m key value found new other at l old_new old_other r q = meet _ _ _ r q
+
+settles-one : (kind : MapKind) (s : map_state.Store) (opened : List Section) (map : ℕ) (m : MapState) (key value : List ℕ) (found : Option ℕ) (error : Option Errno) (ret told : Result (Unit {0}) Errno) (new other : map_state.Store) → slice_get s.maps map ≡ Some m → LooksUp s map key found → TakesOldest s new → TakesOldest s other →
+    Settles error ret s new (Writes kind s opened map m key value found new) → Settles error told s other (Writes kind s opened map m key value found other) → (ret ≡ told) × (new ≡ other)
+settles-one kind s opened map m key value found None ret told new other at l old_new old_other h g = (meet _ _ _ h.0 g.0, writes-one kind s opened map m key value found new other at l old_new old_other h.1 g.1)
+settles-one kind s opened map m key value found (Some e) ret told new other at l old_new old_other h g = (meet _ _ _ h.0 g.0, meet _ _ _ h.1 g.1)
 
 abbrev Settled : map_state.Store → List Section → ℕ → List ℕ → List ℕ → ℕ → Result (Unit {0}) Errno → map_state.Store → MapState → Option ℕ → Type 0
-Settled s opened map key value flags ret new m found = Settles (update_error flags (is_some found) (linked_count map s.elements) m) ret s new (Replaces s opened map m key value found new)
+Settled s opened map key value flags ret new m found = Settles (update_error flags (is_some found) (linked_count map s.elements) m) ret s new (Writes m.shape.kind s opened map m key value found new)
 
 updates-one : (s : map_state.Store) (opened : List Section) (map : ℕ) (key value : List ℕ) (flags : ℕ) (ret told : Result (Unit {0}) Errno) (new other : map_state.Store) → IsSingle s.elements → TakesOldest s new → TakesOldest s other →
     Updates s opened map key value flags ret new → Updates s opened map key value flags told other → (ret ≡ told) × (new ≡ other)
 updates-one s opened map key value flags ret told new other single old_new old_other u v =
     let states : v.state ≡ u.state = both (slice_get s.maps map) v.state u.state v.there u.there in
     let founds : v.found ≡ u.found = lookup-one s map key v.found u.found single v.lookup u.lookup in
-    settles-one s opened map u.state key value u.found _ ret told new other u.there u.lookup old_new old_other u.settled
+    settles-one u.state.shape.kind s opened map u.state key value u.found _ ret told new other u.there u.lookup old_new old_other u.settled
     (subst (λ f. Settled s opened map key value flags told other u.state f) founds (subst (λ x. Settled s opened map key value flags told other x v.found) states v.settled))
 
 -- deletes
@@ -105,8 +112,13 @@ removes-one s opened (Some n) ret told new other h g = (meet _ _ _ h.0 g.0, meet
 
 deletes-one : (s : map_state.Store) (opened : List Section) (map : ℕ) (key : List ℕ) (ret told : Result (Unit {0}) Errno) (new other : map_state.Store) → IsSingle s.elements → Deletes s opened map key ret new → Deletes s opened map key told other → (ret ≡ told) × (new ≡ other)
 deletes-one s opened map key ret told new other single h g =
-    let founds : g.0 ≡ h.0 = lookup-one s map key g.0 h.0 single g.1 h.1 in
-    removes-one s opened h.0 ret told new other h.2 (subst (λ f. Removes f opened told s other) founds g.2)
+    let states : g.state ≡ h.state = both (slice_get s.maps map) g.state h.state g.there h.there in
+    let founds : g.found ≡ h.found = lookup-one s map key g.found h.found single g.lookup h.lookup in
+    by h.state.shape.kind h.removed (subst (λ f. RemovesFrom h.state.shape.kind f opened told s other) founds (subst (λ (x : MapState). RemovesFrom x.shape.kind g.found opened told s other) states g.removed))
+  where
+    by : (kind : MapKind) → RemovesFrom kind h.found opened ret s new → RemovesFrom kind h.found opened told s other → (ret ≡ told) × (new ≡ other)
+    by Hash x y = removes-one s opened h.found ret told new other x y
+    by Array x y = (meet _ _ _ x.0 y.0, meet _ _ _ x.1 y.1)
 
 -- helpers
 lookup_step-one : (s : map_state.Store) (run : Run) (ret told : Value) → IsSingle s.elements → LookupStep s run ret → LookupStep s run told → ret ≡ told

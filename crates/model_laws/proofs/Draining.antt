@@ -15,6 +15,7 @@ use Rattle.bpf_model.specs.Section.{Section, AllEnded}
 use Rattle.bpf_model.specs.Element.{Element, Life, Linked, Unlinked, Reclaimed, HasLife, is_linked, is_unlinked, with_life}
 use Rattle.bpf_model.specs.MapState.{MapState, Store, given_of}
 use Rattle.bpf_model.specs.Reclaim.{Reclaims}
+use Rattle.bpf_model.specs.MapState.{AreShapes}
 use Rattle.bpf_model.specs.Machine.{Loaded, Machine, open_sections, with_store}
 use Rattle.bpf_model.specs.Schedule.{Queues, Schedule, open_flags, is_any, retired_in, unlinked_between, turned, advanced, first_ready, reaped, scheduled, TakesFirst, DoesScheduled, IsScheduledHistory, start_schedule}
 use Rattle.bpf_model.specs.Drain.{IsQuietAdvance, Drains, machines}
@@ -137,7 +138,7 @@ pub record Readied (s : Schedule) (n : ℕ) : Type 0 where
 
 module _ (s t : Schedule) (event : Event) (answer : Answer) (w : IsScheduled s) (d : DoesScheduled s event answer t) (n : ℕ) where
   out-step : IsOut s.machine.store.elements n → IsOut t.machine.store.elements n
-  out-step o = out-later (is_reap event) (open_sections s.machine.runs) s.machine.store t.machine.store n (does-moves s.machine t.machine event answer w.consistent.single d.step) o
+  out-step o = out-later (is_reap event) (open_sections s.machine.runs) s.machine.store t.machine.store n (does-moves s.machine t.machine event answer w.consistent.single w.consistent.lengths d.step) o
 
   waited-step : Waited s n → Waited t n
   waited-step h = record { out = out-step h.out; lists = subst (λ x. HasWaited x n) (sym d.lists) (waited-scheduled s t.machine n event h.out h.lists) }
@@ -235,8 +236,8 @@ drains_from s (event ∷ evs) (answer ∷ ans) (next ∷ states) w h (suc i) (su
     drains_from next evs ans states (stays_scheduled s next event answer w h.0) h.1 i j k n first second later since (record { at = p.at; state = p.state; quiet = p.quiet }) (record { at = q.at; state = q.state; quiet = q.quiet }) (omega arith) ek ak sk (omega arith) life
 drains_from s evs ans states w h i j k n first second later since p q ij ek ak sk jk life = absurd h
 
-pub drains : (shapes : List MapShape) (programs : List Loaded) (evs : List Event) (ans : List Answer) (states : List Schedule) → IsScheduledHistory (start_schedule shapes programs) evs ans states → Drains (machines (start_schedule shapes programs ∷ states)) evs ans
-drains shapes programs evs ans states h = drains_from (start_schedule shapes programs) evs ans states (starts_scheduled shapes programs) h
+pub drains : (shapes : List MapShape) (programs : List Loaded) → AreShapes shapes → (evs : List Event) (ans : List Answer) (states : List Schedule) → IsScheduledHistory (start_schedule shapes programs) evs ans states → Drains (machines (start_schedule shapes programs ∷ states)) evs ans
+drains shapes programs limits evs ans states h = drains_from (start_schedule shapes programs) evs ans states (starts_scheduled shapes programs limits) h
 
 -- the first ready element may be reclaimed
 reclaims-first : (s : Schedule) (n k : ℕ) → IsScheduled s → (d : Queued s.machine.store.elements k n) → AllEnded d.since (open_sections s.machine.runs) → IsReapable s.machine n
@@ -257,8 +258,8 @@ scheduled-along s [] [] [] w h (suc j) later at = absurd (none-some later at)
 scheduled-along s (event ∷ evs) (answer ∷ ans) (next ∷ states) w h (suc j) later at = scheduled-along next evs ans states (stays_scheduled s next event answer w h.0) h.1 j later at
 scheduled-along s evs ans states w h (suc j) later at = absurd h
 
-pub reapable : (shapes : List MapShape) (programs : List Loaded) (evs : List Event) (ans : List Answer) (states : List Schedule) (j n : ℕ) (s : Schedule) → IsScheduledHistory (start_schedule shapes programs) evs ans states → slice_get (start_schedule shapes programs ∷ states) j ≡ Some s → first_ready s.queues ≡ Some n → IsReapable s.machine n
-reapable shapes programs evs ans states j n s h at first = reapable_in s n (scheduled-along (start_schedule shapes programs) evs ans states (starts_scheduled shapes programs) h j s at) first
+pub reapable : (shapes : List MapShape) (programs : List Loaded) → AreShapes shapes → (evs : List Event) (ans : List Answer) (states : List Schedule) (j n : ℕ) (s : Schedule) → IsScheduledHistory (start_schedule shapes programs) evs ans states → slice_get (start_schedule shapes programs ∷ states) j ≡ Some s → first_ready s.queues ≡ Some n → IsReapable s.machine n
+reapable shapes programs limits evs ans states j n s h at first = reapable_in s n (scheduled-along (start_schedule shapes programs) evs ans states (starts_scheduled shapes programs limits) h j s at) first
 
 -- a reap of it is a step
 takes-first : (s : Schedule) (n : ℕ) (e : Element) (taken : ReapedElement) (store : Store) → first_ready s.queues ≡ Some n → Reclaims s.machine.store (open_sections s.machine.runs) n e taken.given store → taken.map ≡ e.map → taken.key.items ≡ e.key →

@@ -8,7 +8,9 @@ use Rattle.bpf_model.specs.declared.call.Errno.{Errno}
 use Rattle.bpf_model.specs.declared.call.Errno.TheVariants.{NoEntry, TooBig, NoMemory, Exists, InvalidArgument}
 use Rattle.bpf_model.specs.declared.limits.MapShape.{MapShape}
 use Rattle.bpf_model.specs.MapState.{MapState, Store}
-use Rattle.bpf_model.specs.Helper.{Settles, Updates}
+use Rattle.bpf_model.specs.declared.limits.MapKind.{MapKind}
+use Rattle.bpf_model.specs.declared.limits.MapKind.TheVariants.{Hash, Array}
+use Rattle.bpf_model.specs.Helper.{error_of_kind, Settles, Updates}
 use Rattle.bpf_model.specs.Machine.{Loaded, open_sections}
 use Rattle.bpf_model.specs.Schedule.{Schedule}
 use Rattle.bpf_model.specs.Refines.{IsReachedSchedule}
@@ -41,16 +43,31 @@ full-fails false false false true e ret s new Done h full g = let x : Err TooBig
 full-fails false false false false true ret s new Done h full g = let x : Err NoMemory ≡ Ok tt = sym h.0 ∙ g in cc
 full-fails false false false false false ret s new Done h full g = absurd (false≢true full)
 
+-- an array's update never wants for memory
+array-fails : (a b c : Bool) (ret : Result (Unit {0}) Errno) (s new : Store) (Done : Type 0) → Settles (if a then Some InvalidArgument else if b then Some TooBig else if c then Some Exists else None) ret s new Done → ret ≡ Err NoMemory → ⊥
+array-fails true b c ret s new Done h g = let x : Err InvalidArgument ≡ Err NoMemory = sym h.0 ∙ g in cc
+array-fails false true c ret s new Done h g = let x : Err TooBig ≡ Err NoMemory = sym h.0 ∙ g in cc
+array-fails false false true ret s new Done h g = let x : Err Exists ≡ Err NoMemory = sym h.0 ∙ g in cc
+array-fails false false false ret s new Done h g = let x : Ok tt ≡ Err NoMemory = sym h.0 ∙ g in cc
+
+none-left : (kind : MapKind) (flags : ℕ) (present : Bool) (linked : ℕ) (m : MapState) (ret : Result (Unit {0}) Errno) (s new : Store) (Done : Type 0) → Settles (error_of_kind kind flags present linked m) ret s new Done → ret ≡ Err NoMemory → length m.bag ≡ 0
+none-left Hash flags present linked m ret s new Done h g = eqb-true (length m.bag) 0 (fails-last _ _ _ _ (length m.bag == 0) ret s new Done h g)
+none-left Array flags present linked m ret s new Done h g = absurd (array-fails _ _ _ ret s new Done h g)
+
+no-success : (kind : MapKind) (flags : ℕ) (present : Bool) (linked : ℕ) (m : MapState) (ret : Result (Unit {0}) Errno) (s new : Store) (Done : Type 0) → kind ≡ Hash → Settles (error_of_kind kind flags present linked m) ret s new Done → length m.bag ≡ 0 → ret ≢ Ok tt
+no-success Hash flags present linked m ret s new Done is h none = full-fails _ _ _ _ (length m.bag == 0) ret s new Done h (eq-eqb (length m.bag) 0 none)
+no-success Array flags present linked m ret s new Done is h none = absurd (let x : Array ≡ Hash = is in cc)
+
 pub no_memory_when_full : (shapes : List MapShape) (programs : List Loaded) (s : Schedule) (k : ℕ) (m : MapState) (key value : List ℕ) (flags : ℕ) (ret : Result (Unit {0}) Errno) (new : Store) → IsReachedSchedule shapes programs s → slice_get s.machine.store.maps k ≡ Some m →
-    Updates s.machine.store (open_sections s.machine.runs) k key value flags ret new → (ret ≡ Err NoMemory → IsFull k s.machine.store.elements m) × (IsFull k s.machine.store.elements m → ret ≢ Ok tt)
+    Updates s.machine.store (open_sections s.machine.runs) k key value flags ret new → (ret ≡ Err NoMemory → IsFull k s.machine.store.elements m) × (m.shape.kind ≡ Hash → IsFull k s.machine.store.elements m → ret ≢ Ok tt)
 no_memory_when_full shapes programs s k m key value flags ret new r at u =
     let same : u.state ≡ m = same_Some u.state m (sym u.there ∙ at) in
     let bag : length u.state.bag ≡ length m.bag = ap (λ x. length x.bag) same in
     let exactly = enomem_exactly shapes programs s k m r at in (
       λ g.
-          let none : length u.state.bag ≡ 0 = eqb-true (length u.state.bag) 0 (fails-last _ _ _ _ (length u.state.bag == 0) ret _ _ _ u.settled g) in
+          let none : length u.state.bag ≡ 0 = none-left u.state.shape.kind _ _ _ u.state ret _ _ _ u.settled g in
           exactly.0 (nil_from_length m.bag (sym bag ∙ none)),
-      λ full.
+      λ hash full.
           let none : length u.state.bag ≡ 0 = bag ∙ ap length (exactly.1 full) in
-          full-fails _ _ _ _ (length u.state.bag == 0) ret _ _ _ u.settled (eq-eqb (length u.state.bag) 0 none),
+          no-success u.state.shape.kind _ _ _ u.state ret _ _ _ (ap (λ x. x.shape.kind) same ∙ hash) u.settled none,
     )

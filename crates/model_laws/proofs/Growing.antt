@@ -3,7 +3,7 @@ use Rattle.std.proofs.Common.{◌≡◌, ℕ, List, ◌++◌, Option, Some, None
 use Rattle.std.specs.Prelude.{slice_get, slice_set}
 use Rattle.std.proofs.lemmas.Bool.{cases_eq}
 use Rattle.bpf_model.specs.Section.{Section}
-use Rattle.bpf_model.specs.Element.{Element, Life, Linked, Unlinked, Reclaimed, IsLinkedAt, HasLife, with_life, with_value, set_to, changed, unlinked}
+use Rattle.bpf_model.specs.Element.{Element, Life, Linked, Unlinked, Reclaimed, IsLinkedAt, HasLife, with_life, with_value, set_to, changed, overwritten, unlinked}
 use Rattle.model_laws.specs.Growth.{IsLaterLife, IsLaterElement, ElementsGrow}
 use Rattle.bpf_model.proofs.Lists.{get-append, get-set_other, get-set_there}
 
@@ -66,6 +66,11 @@ grows-set_to f es n h (Some x) e = grows-set es n x (f x) e (h x e)
 
 pub grows-changed : (f : Element → Element) (es : List Element) (n : ℕ) → ((e : Element) → slice_get es n ≡ Some e → IsLaterElement e (f e)) → ElementsGrow es (changed f es n)
 grows-changed f es n h = grows-set_to f es n h (slice_get es n) refl
+
+-- what was found gets another value
+pub grows-overwritten : (value : List ℕ) (es : List Element) (found : Option ℕ) → ElementsGrow es (overwritten value es found)
+grows-overwritten value es None = grows-same es
+grows-overwritten value es (Some n) = grows-changed (with_value value) es n (λ e h. follows-value value e)
 
 -- what was found is unlinked
 pub grows-unlinked : (opened : List Section) (es : List Element) (map : ℕ) (key : List ℕ) (n : ℕ) → IsLinkedAt es map key n → ElementsGrow es (unlinked opened es (Some n))

@@ -10,16 +10,19 @@ use Rattle.bpf_model.specs.declared.event.Event.{Event}
 use Rattle.bpf_model.specs.declared.event.Answer.{Answer}
 use Rattle.bpf_model.specs.Section.{Section}
 use Rattle.bpf_model.specs.Element.{Element, Life, Linked, Unlinked, IsLinkedAt}
-use Rattle.bpf_model.specs.MapState.{Store}
+use Rattle.bpf_model.specs.MapState.{Store, AreShapes, new_map, all_new_elements}
 use Rattle.bpf_model.specs.Machine.{Loaded, Run, Machine, open_sections, run_at, start_machine}
 use Rattle.bpf_model.specs.Event.{DoesEvent}
-use Rattle.bpf_model.specs.Consistent.{HasLengths, IsConsistent, IsSingle, AllBegun}
+use Rattle.bpf_model.specs.Consistent.{HasLengths, StaysLinked, IsConsistent, IsSingle, AllBegun}
 use Rattle.model_laws.proofs.Born.{IsBornState, more-value, more-cell, born-entry}
 use Rattle.model_laws.proofs.Moves.{RunsMove, run-before, started-grows, does-move}
 use Rattle.model_laws.proofs.Stores.{LifeMoves, Stays, Unlinks, Ends, Alters, Born, StoreMoves, is_reap, does-moves}
 use Rattle.model_laws.proofs.Past.{all-begun-later, open-begun}
 use Rattle.model_laws.proofs.Lives.{linked≢unlinked, reclaimed≢linked, reclaimed≢unlinked}
-use Rattle.bpf_model.proofs.Lists.{get-below}
+use Rattle.std.proofs.lemmas.List.{length-replicate}
+use Rattle.model_laws.proofs.ArraysStay.{does-fix}
+use Rattle.model_laws.proofs.NewElements.{new-element, new-single, new-once, length-index}
+use Rattle.bpf_model.proofs.Lists.{get-below, get-map}
 
 -- at the start
 pub no-run : (n r : ℕ) (run : Run) → run_at (replicate n None) r ≡ Some run → ⊥
@@ -27,13 +30,26 @@ no-run zero r run h = none-some run h
 no-run (suc n) zero run h = none-some run h
 no-run (suc n) (suc r) run h = no-run n r run h
 
-pub starts_consistent : (shapes : List MapShape) (programs : List Loaded) → IsConsistent (start_machine shapes programs)
-starts_consistent shapes programs = record {
-  single = λ map key a b la lb. absurd (none-some la.element la.born);
-  lengths = λ n e h. absurd (none-some e h);
+new-lengths : (shapes : List MapShape) → AreShapes shapes → (n : ℕ) (e : Element) → slice_get (all_new_elements 0 shapes) n ≡ Some e → HasLengths (map new_map shapes) e
+new-lengths shapes limits n e h =
+    let r = new-element 0 shapes n e h in
+    let z : 0 + r.offset ≡ e.map = ap (λ (x : Element). x.map) r.is in
+    let o : 0 + r.offset ≡ r.offset = omega arith in
+    let array = (limits r.offset r.shape r.there).array r.array in (
+      new_map r.shape,
+      ap (slice_get (map new_map shapes)) (sym z ∙ o) ∙ get-map new_map shapes r.offset r.shape r.there,
+      ap (λ (x : Element). length x.key) (sym r.is) ∙ (length-index r.index ∙ sym array.key),
+      ap (λ (x : Element). length x.value) (sym r.is) ∙ length-replicate r.shape.value_len 0,
+    )
+
+pub starts_consistent : (shapes : List MapShape) (programs : List Loaded) → AreShapes shapes → IsConsistent (start_machine shapes programs)
+starts_consistent shapes programs limits = record {
+  single = λ map key a b la lb. new-single 0 shapes limits a b la.element lb.element la.born lb.born (la.in_map ∙ sym lb.in_map) (la.under ∙ sym lb.under);
+  lengths = new-lengths shapes limits;
+  arrays = λ n e h state at array. (new-once 0 shapes n e h).0;
   named = λ r run h. absurd (no-run MAX_RUNS r run h);
   apart = λ q r a b ha hb same. absurd (no-run MAX_RUNS q a ha);
-  begun = λ n e since h life. absurd (none-some e h);
+  begun = λ n e since h life. absurd (linked≢unlinked since (sym (new-once 0 shapes n e h).0 ∙ life));
   deep = λ r run h. absurd (no-run MAX_RUNS r run h);
   ended = λ r run h ended. absurd (no-run MAX_RUNS r run h);
   registers = λ r run i h. absurd (no-run MAX_RUNS r run h);
@@ -111,7 +127,26 @@ begun-life reap m old new since w (Stays e) h k = k (sym e ∙ h)
 begun-life reap m old new since w (Unlinks l e) h k = subst (AllBegun m) (same-since _ _ (sym e ∙ h)) (open-begun m w)
 begun-life reap m old new since w (Ends past r l ended e) h k = absurd (reclaimed≢unlinked since (sym e ∙ h))
 
-module _ (reap : Bool) (m new : Machine) (w : IsConsistent m) (runs : RunsMove m new) (mv : StoreMoves reap (open_sections m.runs) m.store new.store) where
+-- what is so of the old maps is so of the new ones
+stays-later : (reap : Bool) (opened : List Section) (s new : Store) (e : Element) → StoreMoves reap opened s new → HasLengths s.maps e → StaysLinked s.maps e → StaysLinked new.maps e
+stays-later reap opened s new e mv h stays state at array =
+    let n = mv.shapes e.map h.0 h.1 in
+    let same : n.0 ≡ state = same_Some n.0 state (sym n.1 ∙ at) in
+    stays h.0 h.1 (ap (λ x. x.kind) (sym n.2) ∙ (ap (λ x. x.shape.kind) same ∙ array))
+
+module _ (reap : Bool) (m new : Machine) (w : IsConsistent m) (runs : RunsMove m new) (mv : StoreMoves reap (open_sections m.runs) m.store new.store)
+    (fixes : (n : ℕ) (e f : Element) → slice_get m.store.elements n ≡ Some e → slice_get new.store.elements n ≡ Some f → StaysLinked m.store.maps e → StaysLinked m.store.maps f) where
+  arrays-new : (n : ℕ) (f : Element) → slice_get new.store.elements n ≡ Some f → StaysLinked new.store.maps f
+  arrays-new n f at = elim (element-before reap (open_sections m.runs) m.store new.store n f mv at) [
+    | inl x ↦
+        let lengths = lengths-old x.old f x.alters (w.lengths n x.old x.there) in
+        stays-later reap (open_sections m.runs) m.store new.store f mv lengths (fixes n x.old f x.there at (w.arrays n x.old x.there))
+    | inr x ↦ λ state there array. x.linked
+  ]
+    where
+      lengths-old : (e f : Element) → Alters reap (open_sections m.runs) e f → HasLengths m.store.maps e → HasLengths m.store.maps f
+      lengths-old e f a h = (h.0, ap (slice_get m.store.maps) a.in_map ∙ h.1, ap length a.under ∙ h.2, a.size ∙ h.3)
+
   begun-new : (n : ℕ) (f : Element) (since : List Section) → slice_get new.store.elements n ≡ Some f → f.life ≡ Unlinked since → AllBegun new since
   begun-new n f since at life = elim (element-before reap (open_sections m.runs) m.store new.store n f mv at) [
     | inl x ↦ all-begun-later m new since runs (begun-life reap m x.old.life f.life since w x.alters.life life (λ l. w.begun n x.old since x.there l))
@@ -171,6 +206,7 @@ module _ (reap : Bool) (m new : Machine) (w : IsConsistent m) (runs : RunsMove m
   keeps-consistent = record {
     single = keeps-single reap (open_sections m.runs) m.store new.store mv w.single;
     lengths = keeps-lengths reap (open_sections m.runs) m.store new.store mv w.lengths;
+    arrays = arrays-new;
     named = named-new;
     apart = apart-new;
     begun = begun-new;
@@ -181,4 +217,4 @@ module _ (reap : Bool) (m new : Machine) (w : IsConsistent m) (runs : RunsMove m
   }
 
 pub stays_consistent : (m new : Machine) (event : Event) (answer : Answer) → IsConsistent m → DoesEvent m event answer new → IsConsistent new
-stays_consistent m new event answer w h = keeps-consistent (is_reap event) m new w (does-move m new event answer h) (does-moves m new event answer w.single h)
+stays_consistent m new event answer w h = keeps-consistent (is_reap event) m new w (does-move m new event answer h) (does-moves m new event answer w.single w.lengths h) (does-fix m new event answer h)

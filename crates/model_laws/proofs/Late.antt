@@ -27,7 +27,7 @@ life-unlinked reap opened since old new (Ends past r l ended e) h g = absurd (re
 
 unlinked-now : (m new : Machine) (event : Event) (answer : Answer) (n : ℕ) (since : List Section) → IsConsistent m → DoesEvent m event answer new → HasLife m.store.elements n Linked → HasLife new.store.elements n (Unlinked since) → since ≡ open_sections m.runs
 unlinked-now m new event answer n since w h old now =
-    let f = (does-moves m new event answer w.single h).forth n old.0 old.1 in
+    let f = (does-moves m new event answer w.single w.lengths h).forth n old.0 old.1 in
     let same : f.0 ≡ now.0 = same_Some f.0 now.0 (sym f.1 ∙ now.1) in
     life-unlinked (is_reap event) (open_sections m.runs) since old.0.life f.0.life f.2.life old.2 (ap (λ x. x.life) same ∙ now.2)
 
@@ -42,7 +42,7 @@ life-kept reap opened since old new (Ends past r l ended e) h = inr (subst (λ x
 
 kept-next : (m new : Machine) (event : Event) (answer : Answer) (n : ℕ) (since : List Section) → IsConsistent m → DoesEvent m event answer new → HasLife m.store.elements n (Unlinked since) → HasLife new.store.elements n (Unlinked since) ⊎ AllEnded since (open_sections m.runs)
 kept-next m new event answer n since w h old =
-    let f = (does-moves m new event answer w.single h).forth n old.0 old.1 in
+    let f = (does-moves m new event answer w.single w.lengths h).forth n old.0 old.1 in
     elim (life-kept (is_reap event) (open_sections m.runs) since old.0.life f.0.life f.2.life old.2) [
       | inl x ↦ inl (f.0, f.1, x)
       | inr x ↦ inr x

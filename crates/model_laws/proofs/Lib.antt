@@ -35,3 +35,5 @@ pub mod Leaving
 pub mod Exits
 pub mod Requests
 pub mod Bounded
+mod NewElements
+mod ArraysStay

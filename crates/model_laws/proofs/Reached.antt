@@ -17,7 +17,7 @@ scheduled-last s (event ∷ events) (answer ∷ answers) (next ∷ states) w h =
 scheduled-last s events answers states w h = absurd h
 
 pub reached_is_scheduled : (shapes : List MapShape) (programs : List Loaded) (s : Schedule) → IsReachedSchedule shapes programs s → IsScheduled s
-reached_is_scheduled shapes programs s r = subst IsScheduled r.last (scheduled-last (start_schedule shapes programs) r.events r.answers r.states (starts_scheduled shapes programs) r.history)
+reached_is_scheduled shapes programs s r = subst IsScheduled r.last (scheduled-last (start_schedule shapes programs) r.events r.answers r.states (starts_scheduled shapes programs r.limits) r.history)
 
 pub tracked_is_scheduled : (w : WorldView) (s : Schedule) → TracksSchedule w s → IsScheduled s
 tracked_is_scheduled w s t = reached_is_scheduled (shapes_of w) w.programs s t.reached

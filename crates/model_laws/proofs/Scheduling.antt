@@ -1,6 +1,6 @@
 -- What is so of the runtime's choices at the start, and stays so.
-use Rattle.std.proofs.Common.{◌≡◌, ◌≢◌, ℕ, ◌+◌, ◌<◌, List, ◌++◌, map, replicate, Some, None, inl, inr, refl, sym, ap, ◌∙◌, arith, subst, Bool, true, false}
-use Rattle.std.specs.Prelude.{slice_get, slice_set}
+use Rattle.std.proofs.Common.{◌≡◌, ◌≢◌, ℕ, ◌+◌, ◌<◌, List, ◌++◌, map, replicate, Option, Some, None, inl, inr, refl, sym, ap, ◌∙◌, arith, subst, Bool, true, false}
+use Rattle.std.specs.Prelude.{slice_get, slice_set, ◌==◌, ◌&&◌, if◌then◌else◌}
 use Rattle.std.proofs.lemmas.Bool.{cases_eq, cases_lt, false≢true}
 use Rattle.std.proofs.lemmas.Option.{same_Some}
 use Rattle.std.proofs.lemmas.List.{length-map}
@@ -12,8 +12,9 @@ use Rattle.bpf_model.specs.declared.event.Answer.{Answer}
 use Rattle.bpf_model.specs.declared.event.Answer.TheVariants as answers
 use Rattle.bpf_model.specs.declared.event.Given.{Given}
 use Rattle.bpf_model.specs.Section.{Section, Has, AllEnded}
-use Rattle.bpf_model.specs.Element.{Element, Unlinked, Reclaimed, HasLife, with_life}
-use Rattle.bpf_model.specs.MapState.{Store, new_map}
+use Rattle.bpf_model.specs.Element.{Element, is_unlinked, Unlinked, Reclaimed, HasLife, with_life}
+use Rattle.bpf_model.specs.MapState.{Store, AreShapes, new_map, all_new_elements}
+use Rattle.model_laws.proofs.NewElements.{new-once}
 use Rattle.bpf_model.specs.Reclaim.{Reclaims}
 use Rattle.bpf_model.specs.Machine.{Loaded, Machine, open_sections, with_store}
 use Rattle.bpf_model.specs.Event.{DoesEvent}
@@ -41,11 +42,15 @@ no-flag n r h = false≢true (sym (get-replicate n r false true h))
 pub waits-nothing : (s : Schedule) → Waits s no_queues
 waits-nothing s = record { ended = λ n e since has born life. absurd (omega arith); awaits = λ n e since r run has born life there inside h. absurd (omega arith) }
 
-pub starts_scheduled : (shapes : List MapShape) (programs : List Loaded) → IsScheduled (start_schedule shapes programs)
-starts_scheduled shapes programs = record {
-  consistent = starts_consistent shapes programs;
+new-queued : (k n : ℕ) (shapes : List MapShape) (o : Option Element) → slice_get (all_new_elements 0 shapes) n ≡ o → queued_in k o ≡ 0
+new-queued k n shapes None h = refl
+new-queued k n shapes (Some e) h = ap (λ l. if is_unlinked l && (e.map == k) then 1 else 0) (new-once 0 shapes n e h).0
+
+pub starts_scheduled : (shapes : List MapShape) (programs : List Loaded) → AreShapes shapes → IsScheduled (start_schedule shapes programs)
+starts_scheduled shapes programs limits = record {
+  consistent = starts_consistent shapes programs limits;
   queues = length-map shapes (λ x. no_queues) ∙ sym (length-map shapes new_map);
-  queued = λ k n q at. let b = map-back (λ x. no_queues) shapes k q at in subst (λ x. total n x ≡ 0) b.2 refl;
+  queued = λ k n q at. let b = map-back (λ x. no_queues) shapes k q at in subst (λ x. total n x ≡ queued_in k (slice_get (all_new_elements 0 shapes) n)) b.2 (sym (new-queued k n shapes (slice_get (all_new_elements 0 shapes) n) refl));
   awaited = λ r h. absurd (no-flag MAX_RUNS r h);
   waits = λ k q at. let b = map-back (λ x. no_queues) shapes k q at in subst (Waits (start_schedule shapes programs)) b.2 (waits-nothing (start_schedule shapes programs));
 }
@@ -212,5 +217,5 @@ keeps-performed s (events.Drop run) answer m w c runs mv h first = keeps-plain s
 pub stays_scheduled : (s t : Schedule) (event : Event) (answer : Answer) → IsScheduled s → DoesScheduled s event answer t → IsScheduled t
 stays_scheduled s t event answer w d =
     let c = stays_consistent s.machine t.machine event answer w.consistent d.step in
-    let kept = keeps-performed s event answer t.machine w c (does-move s.machine t.machine event answer d.step) (does-moves s.machine t.machine event answer w.consistent.single d.step) d.step d.first in
+    let kept = keeps-performed s event answer t.machine w c (does-move s.machine t.machine event answer d.step) (does-moves s.machine t.machine event answer w.consistent.single w.consistent.lengths d.step) d.step d.first in
     subst IsScheduled (sym d.lists) kept

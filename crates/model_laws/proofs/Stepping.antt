@@ -20,9 +20,11 @@ use Rattle.bpf_model.specs.Access.{byte_count, region_offset}
 use Rattle.bpf_model.specs.Call.{helper_of}
 use Rattle.bpf_model.specs.Step.{State, Environment, Outcome}
 use Rattle.bpf_model.specs.Section.{Section}
-use Rattle.bpf_model.specs.Element.{Element, with_value, with_life, accessible, changed, unlinked}
+use Rattle.bpf_model.specs.Element.{Element, with_value, with_life, accessible, changed, overwritten, unlinked}
 use Rattle.bpf_model.specs.MapState as map_state
-use Rattle.bpf_model.specs.Helper.{LooksUp, Replaces, Settles, Updates, Removes, Deletes}
+use Rattle.bpf_model.specs.Helper.{LooksUp, Replaces, Writes, Settles, Updates, Removes, RemovesFrom, Deletes}
+use Rattle.bpf_model.specs.declared.limits.MapKind.{MapKind}
+use Rattle.bpf_model.specs.declared.limits.MapKind.TheVariants.{Hash, Array}
 use Rattle.bpf_model.specs.Reclaim.{Reclaims}
 use Rattle.bpf_model.specs.Machine.{Run, Machine, environment, open_sections, with_store}
 use Rattle.bpf_model.specs.MachineStep.{AccessesElement, Acts, HelperStep, InsnStep, StepsRun, element_store, stored_in, with_bytes}
@@ -31,7 +33,7 @@ use Rattle.bpf_model.specs.History.{IsHistory}
 use Rattle.bpf_model.specs.Element.{Reclaimed, HasLife}
 use Rattle.model_laws.specs.Growth.{ElementsGrow}
 use Rattle.model_laws.proofs.Computations.{first-step}
-use Rattle.model_laws.proofs.Growing.{grows-same, grows-along, grows-append, grows-set, grows-changed, grows-unlinked, follows-value, follows-reclaimed, stays-reclaimed}
+use Rattle.model_laws.proofs.Growing.{grows-same, grows-along, grows-append, grows-set, grows-changed, grows-overwritten, grows-unlinked, follows-value, follows-reclaimed, stays-reclaimed}
 
 -- a store to an element
 grows-stored : (es new : List Element) (n width : ℕ) (offset : ℤ) (v : ℕ) (e : Element) → stored_in es n width offset v e ≡ Some new → ElementsGrow es new
@@ -72,20 +74,28 @@ grows-replaces : (s : map_state.Store) (opened : List Section) (map : ℕ) (m : 
 grows-replaces s opened map m key value found new l r =
     subst (λ x. ElementsGrow s.elements x) (sym (ap (λ x. x.elements) r.new_is)) (grows-append s.elements (unlinked opened s.elements found) _ (grows-found s opened map key found l))
 
-grows-settles : (s : map_state.Store) (opened : List Section) (map : ℕ) (m : map_state.MapState) (key value : List ℕ) (found : Option ℕ) (new : map_state.Store) (error : Option Errno) (ret : Result (Unit {0}) Errno) →
-    LooksUp s map key found → Settles error ret s new (Replaces s opened map m key value found new) → ElementsGrow s.elements new.elements
-grows-settles s opened map m key value found new None ret l h = grows-replaces s opened map m key value found new l h.1
-grows-settles s opened map m key value found new (Some e) ret l h = grows-along s.elements new.elements (ap (λ x. x.elements) h.1)
+grows-writes : (kind : MapKind) (s : map_state.Store) (opened : List Section) (map : ℕ) (m : map_state.MapState) (key value : List ℕ) (found : Option ℕ) (new : map_state.Store) → LooksUp s map key found → Writes kind s opened map m key value found new → ElementsGrow s.elements new.elements
+grows-writes Hash s opened map m key value found new l h = grows-replaces s opened map m key value found new l h
+grows-writes Array s opened map m key value found new l h = subst (λ x. ElementsGrow s.elements x) (sym (ap (λ x. x.elements) h)) (grows-overwritten value s.elements found)
+
+grows-settles : (kind : MapKind) (s : map_state.Store) (opened : List Section) (map : ℕ) (m : map_state.MapState) (key value : List ℕ) (found : Option ℕ) (new : map_state.Store) (error : Option Errno) (ret : Result (Unit {0}) Errno) →
+    LooksUp s map key found → Settles error ret s new (Writes kind s opened map m key value found new) → ElementsGrow s.elements new.elements
+grows-settles kind s opened map m key value found new None ret l h = grows-writes kind s opened map m key value found new l h.1
+grows-settles kind s opened map m key value found new (Some e) ret l h = grows-along s.elements new.elements (ap (λ x. x.elements) h.1)
 
 grows-updates : (s : map_state.Store) (opened : List Section) (map : ℕ) (key value : List ℕ) (flags : ℕ) (ret : Result (Unit {0}) Errno) (new : map_state.Store) → Updates s opened map key value flags ret new → ElementsGrow s.elements new.elements
-grows-updates s opened map key value flags ret new u = grows-settles s opened map u.state key value u.found new _ ret u.lookup u.settled
+grows-updates s opened map key value flags ret new u = grows-settles u.state.shape.kind s opened map u.state key value u.found new _ ret u.lookup u.settled
 
 grows-removes : (s : map_state.Store) (opened : List Section) (map : ℕ) (key : List ℕ) (ret : Result (Unit {0}) Errno) (new : map_state.Store) (found : Option ℕ) → LooksUp s map key found → Removes found opened ret s new → ElementsGrow s.elements new.elements
 grows-removes s opened map key ret new None l h = grows-along s.elements new.elements (ap (λ x. x.elements) h.1)
 grows-removes s opened map key ret new (Some n) l h = subst (λ x. ElementsGrow s.elements x) (sym (ap (λ x. x.elements) h.1)) (grows-unlinked opened s.elements map key n l)
 
 grows-deletes : (s : map_state.Store) (opened : List Section) (map : ℕ) (key : List ℕ) (ret : Result (Unit {0}) Errno) (new : map_state.Store) → Deletes s opened map key ret new → ElementsGrow s.elements new.elements
-grows-deletes s opened map key ret new d = grows-removes s opened map key ret new d.0 d.1 d.2
+grows-deletes s opened map key ret new d = by d.state.shape.kind d.removed
+  where
+    by : (kind : MapKind) → RemovesFrom kind d.found opened ret s new → ElementsGrow s.elements new.elements
+    by Hash h = grows-removes s opened map key ret new d.found d.lookup h
+    by Array h = grows-along s.elements new.elements (ap (λ x. x.elements) h.1)
 
 grows-reclaims : (s : map_state.Store) (opened : List Section) (n : ℕ) (e : Element) (given : _) (new : map_state.Store) → Reclaims s opened n e given new → ElementsGrow s.elements new.elements
 grows-reclaims s opened n e given new r = subst (λ x. ElementsGrow s.elements x) (sym (ap (λ x. x.elements) r.new_is)) (grows-set s.elements n e (with_life Reclaimed e) r.born (follows-reclaimed e r.since r.unlinked))

@@ -30,10 +30,12 @@ use Rattle.bpf_model.specs.Frame.{byte_of}
 use Rattle.bpf_model.specs.Call.{helper_of}
 use Rattle.bpf_model.specs.Step.{State, Environment, Outcome}
 use Rattle.bpf_model.specs.Section.{Section, AllEnded}
-use Rattle.bpf_model.specs.Element.{Element, Life, Linked, Unlinked, Reclaimed, IsLinkedAt, IsAbsent, with_value, with_life, set_to, changed, unlinked, unless_reclaimed, accessible}
+use Rattle.bpf_model.specs.Element.{Element, Life, Linked, Unlinked, Reclaimed, IsLinkedAt, IsAbsent, with_value, with_life, set_to, changed, unlinked, unless_reclaimed, accessible, newborn, overwritten}
 use Rattle.bpf_model.specs.MapState as map_state
 use Rattle.bpf_model.specs.MapState.{MapState, with_bag, with_elements, with_given, given_of, returned, shape_in, shape_of}
-use Rattle.bpf_model.specs.Helper.{LooksUp, Replaces, Settles, Updates, Removes, Deletes, newborn}
+use Rattle.bpf_model.specs.Helper.{LooksUp, Replaces, Settles, Updates, Removes, Deletes, Writes, RemovesFrom}
+use Rattle.bpf_model.specs.declared.limits.MapKind.{MapKind}
+use Rattle.bpf_model.specs.declared.limits.MapKind.TheVariants.{Hash, Array}
 use Rattle.bpf_model.specs.Reclaim.{Reclaims}
 use Rattle.bpf_model.specs.Consistent.{HasLengths, IsSingle}
 use Rattle.bpf_model.specs.Machine.{Run, Machine, environment, open_sections}
@@ -94,6 +96,11 @@ touches-changed reap opened f es n e h a = subst (Touches reap opened es) (sym (
 pub touches-found : (reap : Bool) (opened : List Section) (s : map_state.Store) (map : ℕ) (key : List ℕ) (found : Option ℕ) → LooksUp s map key found → Touches reap opened s.elements (unlinked opened s.elements found)
 touches-found reap opened s map key None h = touches-same reap opened s.elements
 touches-found reap opened s map key (Some n) h = touches-changed reap opened (with_life (Unlinked opened)) s.elements n h.element h.born (record { in_map = refl; under = refl; uses = refl; size = refl; life = Unlinks h.linked refl })
+
+-- what was found gets another value of the same length
+pub touches-overwritten : (reap : Bool) (opened : List Section) (s : map_state.Store) (map : ℕ) (key value : List ℕ) (found : Option ℕ) → LooksUp s map key found → ((n : ℕ) (e : Element) → slice_get s.elements n ≡ Some e → e.map ≡ map → length value ≡ length e.value) → Touches reap opened s.elements (overwritten value s.elements found)
+touches-overwritten reap opened s map key value None h sizes = touches-same reap opened s.elements
+touches-overwritten reap opened s map key value (Some n) h sizes = touches-changed reap opened (with_value value) s.elements n h.element h.born (record { in_map = refl; under = refl; uses = refl; size = sizes n h.element h.born h.in_map; life = Stays refl })
 
 -- An element that is born in a step: the last one, linked, alone under its key, of the lengths of its map.
 pub record Born (s new : map_state.Store) (n : ℕ) (f : Element) : Type 0 where
@@ -177,6 +184,16 @@ touches-acts i opened env es m out new (inr h) = touches-access i opened es m ou
 abbrev Fits : map_state.Store → ℕ → List ℕ → List ℕ → Type 0
 Fits s map key value = (state : MapState) → slice_get s.maps map ≡ Some state → (length key ≡ state.shape.key_len) × (length value ≡ state.shape.value_len)
 
+-- the elements have the lengths of their maps
+abbrev pub AllLengths : map_state.Store → Type 0
+AllLengths s = (n : ℕ) (e : Element) → slice_get s.elements n ≡ Some e → HasLengths s.maps e
+
+pub same-size : (s : map_state.Store) (map : ℕ) (m : MapState) (value : List ℕ) → slice_get s.maps map ≡ Some m → length value ≡ m.shape.value_len → AllLengths s → (n : ℕ) (e : Element) → slice_get s.elements n ≡ Some e → e.map ≡ map → length value ≡ length e.value
+same-size s map m value at size lengths n e born in_map =
+    let h = lengths n e born in
+    let same : m ≡ h.0 = same_Some m h.0 (sym at ∙ (ap (slice_get s.maps) (sym in_map) ∙ h.1)) in
+    size ∙ (ap (λ x. x.shape.value_len) same ∙ sym h.3)
+
 absent-set : (opened : List Section) (es : List Element) (map : ℕ) (key : List ℕ) (n : ℕ) (e : Element) → IsSingle es → IsLinkedAt es map key n → IsAbsent (slice_set es n (with_life (Unlinked opened) e)) map key
 absent-set opened es map key n e single l a found = elim (get-set_cases es n a (with_life (Unlinked opened) e) found.element found.born) [
   | inl x ↦ absurd (linked≢unlinked opened (sym found.linked ∙ ap (λ z. z.life) (sym x.1)))
@@ -220,20 +237,29 @@ moves-replaces s opened map m key value found new single fits at l r =
     (touches-found false opened s map key found l) (absent-found opened s map key found single l) (m, at, (fits m at).0, (fits m at).1) refl
     (shapes-set s.maps map m (with_bag r.bag m) at refl) (length-set s.maps map (with_bag r.bag m)) r.new_is
 
-moves-settles : (s : map_state.Store) (opened : List Section) (map : ℕ) (m : MapState) (key value : List ℕ) (found : Option ℕ) (new : map_state.Store) (error : Option Errno) (ret : Result (Unit {0}) Errno) → IsSingle s.elements → Fits s map key value → slice_get s.maps map ≡ Some m →
-    LooksUp s map key found → Settles error ret s new (Replaces s opened map m key value found new) → StoreMoves false opened s new
-moves-settles s opened map m key value found new None ret single fits at l h = moves-replaces s opened map m key value found new single fits at l h.1
-moves-settles s opened map m key value found new (Some e) ret single fits at l h = moves-same false opened s new h.1
+moves-writes : (kind : MapKind) (s : map_state.Store) (opened : List Section) (map : ℕ) (m : MapState) (key value : List ℕ) (found : Option ℕ) (new : map_state.Store) → IsSingle s.elements → AllLengths s → Fits s map key value → slice_get s.maps map ≡ Some m → LooksUp s map key found →
+    Writes kind s opened map m key value found new → StoreMoves false opened s new
+moves-writes Hash s opened map m key value found new single lengths fits at l h = moves-replaces s opened map m key value found new single fits at l h
+moves-writes Array s opened map m key value found new single lengths fits at l h = moves-elements false opened s new (overwritten value s.elements found) (touches-overwritten false opened s map key value found l (same-size s map m value at (fits m at).1 lengths)) h
 
-moves-updates : (s : map_state.Store) (opened : List Section) (map : ℕ) (key value : List ℕ) (flags : ℕ) (ret : Result (Unit {0}) Errno) (new : map_state.Store) → IsSingle s.elements → Fits s map key value → Updates s opened map key value flags ret new → StoreMoves false opened s new
-moves-updates s opened map key value flags ret new single fits u = moves-settles s opened map u.state key value u.found new _ ret single fits u.there u.lookup u.settled
+moves-settles : (kind : MapKind) (s : map_state.Store) (opened : List Section) (map : ℕ) (m : MapState) (key value : List ℕ) (found : Option ℕ) (new : map_state.Store) (error : Option Errno) (ret : Result (Unit {0}) Errno) → IsSingle s.elements → AllLengths s → Fits s map key value → slice_get s.maps map ≡ Some m →
+    LooksUp s map key found → Settles error ret s new (Writes kind s opened map m key value found new) → StoreMoves false opened s new
+moves-settles kind s opened map m key value found new None ret single lengths fits at l h = moves-writes kind s opened map m key value found new single lengths fits at l h.1
+moves-settles kind s opened map m key value found new (Some e) ret single lengths fits at l h = moves-same false opened s new h.1
+
+moves-updates : (s : map_state.Store) (opened : List Section) (map : ℕ) (key value : List ℕ) (flags : ℕ) (ret : Result (Unit {0}) Errno) (new : map_state.Store) → IsSingle s.elements → AllLengths s → Fits s map key value → Updates s opened map key value flags ret new → StoreMoves false opened s new
+moves-updates s opened map key value flags ret new single lengths fits u = moves-settles u.state.shape.kind s opened map u.state key value u.found new _ ret single lengths fits u.there u.lookup u.settled
 
 moves-removes : (s : map_state.Store) (opened : List Section) (map : ℕ) (key : List ℕ) (ret : Result (Unit {0}) Errno) (new : map_state.Store) (found : Option ℕ) → LooksUp s map key found → Removes found opened ret s new → StoreMoves false opened s new
 moves-removes s opened map key ret new None l h = moves-same false opened s new h.1
 moves-removes s opened map key ret new (Some n) l h = moves-elements false opened s new (unlinked opened s.elements (Some n)) (touches-found false opened s map key (Some n) l) h.1
 
 moves-deletes : (s : map_state.Store) (opened : List Section) (map : ℕ) (key : List ℕ) (ret : Result (Unit {0}) Errno) (new : map_state.Store) → Deletes s opened map key ret new → StoreMoves false opened s new
-moves-deletes s opened map key ret new d = moves-removes s opened map key ret new d.0 d.1 d.2
+moves-deletes s opened map key ret new d = by d.state.shape.kind d.removed
+  where
+    by : (kind : MapKind) → RemovesFrom kind d.found opened ret s new → StoreMoves false opened s new
+    by Hash h = moves-removes s opened map key ret new d.found d.lookup h
+    by Array h = moves-same false opened s new h.1
 
 -- a reclamation
 pub shape-given : (given : Given) (uses : ℕ) (m : MapState) → (with_given given uses m).shape ≡ m.shape
@@ -293,16 +319,16 @@ fits-event s map key value h state at =
     (eqb-true _ _ b.0, eqb-true _ _ b.1)
 
 -- a step
-moves-helper : (h : Option Helper) (s : map_state.Store) (opened : List Section) (run : Run) (ret : Value) (new : map_state.Store) → IsSingle s.elements → HelperStep h s opened run ret new → StoreMoves false opened s new
-moves-helper (Some helpers.Lookup) s opened run ret new single h = moves-same false opened s new h.1
-moves-helper (Some helpers.Update) s opened run ret new single h = moves-updates s opened h.map h.key h.value h.flags h.outcome new single (fits-arguments s run h.map h.key h.value h.key_is h.value_is) h.updated
-moves-helper (Some helpers.Delete) s opened run ret new single h = moves-deletes s opened h.map h.key h.outcome new h.deleted
-moves-helper None s opened run ret new single h = absurd h
+moves-helper : (h : Option Helper) (s : map_state.Store) (opened : List Section) (run : Run) (ret : Value) (new : map_state.Store) → IsSingle s.elements → AllLengths s → HelperStep h s opened run ret new → StoreMoves false opened s new
+moves-helper (Some helpers.Lookup) s opened run ret new single lengths h = moves-same false opened s new h.1
+moves-helper (Some helpers.Update) s opened run ret new single lengths h = moves-updates s opened h.map h.key h.value h.flags h.outcome new single lengths (fits-arguments s run h.map h.key h.value h.key_is h.value_is) h.updated
+moves-helper (Some helpers.Delete) s opened run ret new single lengths h = moves-deletes s opened h.map h.key h.outcome new h.deleted
+moves-helper None s opened run ret new single lengths h = absurd h
 
-pub moves-insn : (i : Insn) (s : map_state.Store) (opened : List Section) (run : Run) (answer : Answer) (new : map_state.Store) (new_run : Run) → IsSingle s.elements → InsnStep i s opened run answer new new_run → StoreMoves false opened s new
-moves-insn (Call kinds.Kernel imm) s opened run answer new new_run single h = moves-same false opened s new h.2
-moves-insn (Call kinds.Helper imm) s opened run answer new new_run single h = moves-helper (helper_of imm) s opened run h.0 new single h.1
-moves-insn i s opened run answer new new_run single h = moves-elements false opened s new h.1 (touches-acts i opened (environment run) s.elements run.state h.0 h.1 h.2) h.3
+pub moves-insn : (i : Insn) (s : map_state.Store) (opened : List Section) (run : Run) (answer : Answer) (new : map_state.Store) (new_run : Run) → IsSingle s.elements → AllLengths s → InsnStep i s opened run answer new new_run → StoreMoves false opened s new
+moves-insn (Call kinds.Kernel imm) s opened run answer new new_run single lengths h = moves-same false opened s new h.2
+moves-insn (Call kinds.Helper imm) s opened run answer new new_run single lengths h = moves-helper (helper_of imm) s opened run h.0 new single lengths h.1
+moves-insn i s opened run answer new new_run single lengths h = moves-elements false opened s new h.1 (touches-acts i opened (environment run) s.elements run.state h.0 h.1 h.2) h.3
 
 abbrev pub is_reap : Event → Bool
 is_reap events.Reap = true
@@ -318,22 +344,22 @@ moves-at reap m new h = moves-same reap (open_sections m.runs) m.store new.store
 moves-with : (reap : Bool) (m new : Machine) (store : map_state.Store) → StoreMoves reap (open_sections m.runs) m.store store → new.store ≡ store → MachineMoves reap m new
 moves-with reap m new store h e = subst (StoreMoves reap (open_sections m.runs) m.store) (sym e) h
 
-performs-moves : (m : Machine) (event : Event) (answer : Answer) (new : Machine) → IsSingle m.store.elements → refusal m event ≡ None → PerformsEvent m event answer new → MachineMoves (is_reap event) m new
-performs-moves m (events.Start prog ctx) (answers.Started r) new single pass h = moves-same false (open_sections m.runs) m.store new.store (ap (λ x. x.store) h.new_is)
-performs-moves m (events.Step run) answer new single pass h = moves-with false m new h.new_store (moves-insn h.step.0 m.store (open_sections m.runs) h.run answer h.new_store h.new_run single h.step.2) (ap (λ x. x.store) h.new_is)
-performs-moves m (events.Update map key value flags) (answers.Ret ret) new single pass h = moves-with false m new h.0 (moves-updates m.store (open_sections m.runs) map key.items value.items flags ret h.0 single (fits-event m.store map key.items value.items pass) h.1) (ap (λ x. x.store) h.2)
-performs-moves m (events.Delete map key) (answers.Ret ret) new single pass h = moves-with false m new h.0 (moves-deletes m.store (open_sections m.runs) map key.items ret h.0 h.1) (ap (λ x. x.store) h.2)
-performs-moves m (events.Read map key) (answers.Found (Some value)) new single pass h = moves-at false m new h.1
-performs-moves m (events.Read map key) (answers.Found None) new single pass h = moves-at false m new h.1
-performs-moves m events.Advance answers.Done new single pass h = moves-at false m new h
-performs-moves m events.Reap (answers.Reaped None) new single pass h = moves-at true m new h
-performs-moves m events.Reap (answers.Reaped (Some reaped)) new single pass h = moves-with true m new h.2 (moves-reclaims m.store (open_sections m.runs) h.0 h.1 reaped.given h.2 h.3) (ap (λ x. x.store) h.6)
-performs-moves m (events.Drop run) answers.Done new single pass h = moves-same false (open_sections m.runs) m.store new.store (ap (λ x. x.store) h)
-performs-moves m event answer new single pass h = absurd h
+performs-moves : (m : Machine) (event : Event) (answer : Answer) (new : Machine) → IsSingle m.store.elements → AllLengths m.store → refusal m event ≡ None → PerformsEvent m event answer new → MachineMoves (is_reap event) m new
+performs-moves m (events.Start prog ctx) (answers.Started r) new single lengths pass h = moves-same false (open_sections m.runs) m.store new.store (ap (λ x. x.store) h.new_is)
+performs-moves m (events.Step run) answer new single lengths pass h = moves-with false m new h.new_store (moves-insn h.step.0 m.store (open_sections m.runs) h.run answer h.new_store h.new_run single lengths h.step.2) (ap (λ x. x.store) h.new_is)
+performs-moves m (events.Update map key value flags) (answers.Ret ret) new single lengths pass h = moves-with false m new h.0 (moves-updates m.store (open_sections m.runs) map key.items value.items flags ret h.0 single lengths (fits-event m.store map key.items value.items pass) h.1) (ap (λ x. x.store) h.2)
+performs-moves m (events.Delete map key) (answers.Ret ret) new single lengths pass h = moves-with false m new h.0 (moves-deletes m.store (open_sections m.runs) map key.items ret h.0 h.1) (ap (λ x. x.store) h.2)
+performs-moves m (events.Read map key) (answers.Found (Some value)) new single lengths pass h = moves-at false m new h.1
+performs-moves m (events.Read map key) (answers.Found None) new single lengths pass h = moves-at false m new h.1
+performs-moves m events.Advance answers.Done new single lengths pass h = moves-at false m new h
+performs-moves m events.Reap (answers.Reaped None) new single lengths pass h = moves-at true m new h
+performs-moves m events.Reap (answers.Reaped (Some reaped)) new single lengths pass h = moves-with true m new h.2 (moves-reclaims m.store (open_sections m.runs) h.0 h.1 reaped.given h.2 h.3) (ap (λ x. x.store) h.6)
+performs-moves m (events.Drop run) answers.Done new single lengths pass h = moves-same false (open_sections m.runs) m.store new.store (ap (λ x. x.store) h)
+performs-moves m event answer new single lengths pass h = absurd h
 
-answers-moves : (o : Option EventRefusal) (m : Machine) (event : Event) (answer : Answer) (new : Machine) → IsSingle m.store.elements → refusal m event ≡ o → Answers o m event answer new → MachineMoves (is_reap event) m new
-answers-moves None m event answer new single pass h = performs-moves m event answer new single pass h
-answers-moves (Some k) m event answer new single pass h = moves-at (is_reap event) m new h.1
+answers-moves : (o : Option EventRefusal) (m : Machine) (event : Event) (answer : Answer) (new : Machine) → IsSingle m.store.elements → AllLengths m.store → refusal m event ≡ o → Answers o m event answer new → MachineMoves (is_reap event) m new
+answers-moves None m event answer new single lengths pass h = performs-moves m event answer new single lengths pass h
+answers-moves (Some k) m event answer new single lengths pass h = moves-at (is_reap event) m new h.1
 
-pub does-moves : (m new : Machine) (event : Event) (answer : Answer) → IsSingle m.store.elements → DoesEvent m event answer new → MachineMoves (is_reap event) m new
-does-moves m new event answer single h = answers-moves (refusal m event) m event answer new single refl h
+pub does-moves : (m new : Machine) (event : Event) (answer : Answer) → IsSingle m.store.elements → AllLengths m.store → DoesEvent m event answer new → MachineMoves (is_reap event) m new
+does-moves m new event answer single lengths h = answers-moves (refusal m event) m event answer new single lengths refl h

@@ -103,7 +103,7 @@ kept-kinds k (e ∷ es) =
     omega arith
 
 -- how often the map slots of the kept elements were used, and how many elements were born
-abbrev uses_of : ℕ → Element → ℕ
+abbrev pub uses_of : ℕ → Element → ℕ
 uses_of k e = cond {A = ℕ} (is_kept k e) e.uses 0
 
 abbrev pub kept_uses : ℕ → List Element → ℕ

@@ -1,6 +1,7 @@
 -- A plain program with one guarded lookup: in a section, the value of key 0 of map 0, or 0.
 use Rattle.std.specs.Prelude.{List, [], ◌∷◌, pos, negsuc}
 use Rattle.bpf_model.specs.declared.limits.MapShape.{MapShape}
+use Rattle.bpf_model.specs.declared.limits.MapKind.TheVariants.{Hash}
 use Rattle.bpf_model.specs.declared.insn.Insn.{Insn}
 use Rattle.bpf_model.specs.declared.insn.Insn.TheVariants.{Alu, LoadMap, JumpIf, Call, Exit, Load}
 use Rattle.bpf_model.specs.declared.insn.Insn.TheVariants.{Store}
@@ -14,7 +15,14 @@ use Rattle.bpf_model.specs.Machine.{Loaded}
 
 -- keys of 4 bytes, values of 8
 abbrev pub example_shape : MapShape
-example_shape = record { key_len = 4; value_len = 8; entries = 4; spare = 4; reuse_limit = 100 }
+example_shape = record {
+  kind = Hash;
+  key_len = 4;
+  value_len = 8;
+  entries = 4;
+  spare = 4;
+  reuse_limit = 100;
+}
 
 -- Slots 0 to 12; the load of the map has two. The guarded lookup is slots 3 to 9.
 abbrev pub lookup_and_load : List Insn

@@ -14,6 +14,7 @@ ghost use Rattle.bpf_model.specs.declared.event.ReapedElement.{ReapedElement};
 ghost use Rattle.bpf_model.specs.MapState.{MapState, Store, AreShapes, slots_of_shape, most_births, given_of};
 ghost use Rattle.bpf_model.specs.Helper.{Updates};
 ghost use Rattle.bpf_model.specs.Element.{Element, Reclaimed, HasLife};
+ghost use Rattle.bpf_model.specs.declared.limits.MapKind.{MapKind};
 ghost use Rattle.bpf_model.specs.declared.insn.Insn.{Insn};
 ghost use Rattle.bpf_model.specs.declared.limits.MapShape.{MapShape};
 ghost use Rattle.bpf_model.specs.Machine.{Machine, Loaded, open_sections, run_at, start_machine};
@@ -87,7 +88,7 @@ pub fn lookup_is_plain()
 
 /// The machine with no run and nothing in its maps is consistent.
 pub fn starts_consistent()
-    ensures { (shapes : List MapShape) (programs : List Loaded) →
+    ensures { (shapes : List MapShape) (programs : List Loaded) → AreShapes shapes →
         IsConsistent (start_machine shapes programs) }
 {}
 
@@ -116,7 +117,7 @@ pub fn reclaimed_late()
 
 /// At the start the lists of the runtime's choices are right: nothing is unlinked, and nothing stands in them.
 pub fn starts_scheduled()
-    ensures { (shapes : List MapShape) (programs : List Loaded) →
+    ensures { (shapes : List MapShape) (programs : List Loaded) → AreShapes shapes →
         IsScheduled (start_schedule shapes programs) }
 {}
 
@@ -170,8 +171,8 @@ pub fn drains_from()
 
 /// The drain law holds of every history from the start.
 pub fn drains()
-    ensures { (shapes : List MapShape) (programs : List Loaded) (events : List Event)
-        (answers : List Answer) (states : List Schedule) →
+    ensures { (shapes : List MapShape) (programs : List Loaded) → AreShapes shapes →
+        (events : List Event) (answers : List Answer) (states : List Schedule) →
         IsScheduledHistory (start_schedule shapes programs) events answers states →
         Drains (machines (start_schedule shapes programs ∷ states)) events answers }
 {}
@@ -185,8 +186,9 @@ pub fn reapable_in()
 
 /// In each state of every history from the start, the element that a reap would take may be reclaimed.
 pub fn reapable()
-    ensures { (shapes : List MapShape) (programs : List Loaded) (events : List Event)
-        (answers : List Answer) (states : List Schedule) (j n : ℕ) (s : Schedule) →
+    ensures { (shapes : List MapShape) (programs : List Loaded) → AreShapes shapes →
+        (events : List Event) (answers : List Answer) (states : List Schedule) (j n : ℕ)
+        (s : Schedule) →
         IsScheduledHistory (start_schedule shapes programs) events answers states →
         slice_get (start_schedule shapes programs ∷ states) j ≡ Some s →
         first_ready s.queues ≡ Some n → IsReapable s.machine n }
@@ -223,7 +225,7 @@ pub fn enomem_exactly()
 
 /// In each state that is reached from the start an update answers that there is no memory only when the
 /// map's linked and unlinked elements and its worn-out map slots are as many as all its map slots,
-/// and none succeeds while they are.
+/// and in a hash map none succeeds while they are. (An array is always full.)
 pub fn no_memory_when_full()
     ensures { (shapes : List MapShape) (programs : List Loaded) (s : Schedule) (k : ℕ)
         (m : MapState)
@@ -231,7 +233,7 @@ pub fn no_memory_when_full()
         IsReachedSchedule shapes programs s → slice_get s.machine.store.maps k ≡ Some m →
         Updates s.machine.store (open_sections s.machine.runs) k key value flags ret new →
         (ret ≡ Err NoMemory → IsFull k s.machine.store.elements m)
-        × (IsFull k s.machine.store.elements m → ret ≢ Ok tt) }
+        × (m.shape.kind ≡ MapKind.Hash → IsFull k s.machine.store.elements m → ret ≢ Ok tt) }
 {}
 
 /// In each state that is reached from the start no more elements were born in a map than its map slots

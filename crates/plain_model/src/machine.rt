@@ -1,14 +1,15 @@
 //! The whole machine: runs, events, and the runtime's own choices.
-ghost use Rattle.std.specs.Prelude.{ℕ, ◌≡◌, None, Some, IfOk, OnOk, List, map, replicate, false};
+ghost use Rattle.std.specs.Prelude.{ℕ, ◌≡◌, None, Some, IfOk, IfErr, OnOk, List, map, replicate, false};
 ghost use Rattle.bpf_model.specs.declared.limits.TheConstants.{MAX_RUNS};
 ghost use Rattle.bpf_model.specs.declared.event.Event.TheVariants as events;
 ghost use Rattle.bpf_model.specs.Element.{Element as ModelElement};
 ghost use Rattle.bpf_model.specs.Event.{step_refusal as step_refusal_of, drop_refusal as drop_refusal_of, key_refusal as key_refusal_of, update_refusal as update_refusal_of};
-ghost use Rattle.bpf_model.specs.MapState.{shape_of};
+ghost use Rattle.bpf_model.specs.MapState.{AreShapes, shape_of};
 ghost use Rattle.bpf_model.specs.Machine.{run_at, open_sections as open_sections_of, lowest_free as lowest_free_of};
 ghost use Rattle.bpf_model.specs.Schedule.{start_schedule, DoesScheduled, TakesOldest, advanced, is_any as is_any_of};
 ghost use Rattle.bpf_model.specs.Schedule.{no_queues};
 ghost use Rattle.plain_store.specs.State.{store_of, sections_of, queues_of};
+ghost use Rattle.plain_store.specs.declared.fault.ModelFault.TheVariants.{Memory};
 ghost use Rattle.plain_store.specs.Retiring.{linked_map};
 ghost use Rattle.plain_runs.specs.State.{loaded_of, runs_of};
 ghost use Rattle.plain_model.specs.State.{machine_of, schedule_of};
@@ -76,15 +77,16 @@ fn none_awaited(alloc: Global) -> Result<Vec<bool>, AllocError>
 }
 
 impl Machine {
-    /// Maps of these shapes with nothing in them, these programs, and no run. Fails where memory
-    /// runs out.
+    /// New maps of these shapes, these programs, and no run: arrays have their elements, hash maps nothing.
+    /// Errors: `Memory`; `OutOfRange` where no map may have one of the shapes.
     pub fn new(
         alloc: Global,
         shapes: &[MapShape],
         programs: Vec<Loaded>,
-    ) -> Result<Machine, AllocError>
+    ) -> Result<Machine, ModelFault>
         ensures start { IfOk result
             (λ m. schedule_of m ≡ start_schedule shapes.now (map loaded_of programs.items)) }
+        ensures fault { AreShapes shapes.now → IfErr result (λ fault. fault ≡ Memory) }
     {
         Ok(Machine {
             alloc,

@@ -1,12 +1,13 @@
--- A birth is a replacement by the definition.
+-- A birth is a replacement by the definition; updates and deletes, by the kind of their map.
 use Rattle.std.proofs.Common.{◌≡◌, ℕ, ◌+◌, ◌<◌, List, [], ◌∷◌, ◌++◌, length, Option, Some, None, Ok, Err, refl, sym, ap, subst, ◌∙◌, arith, Bool, true, false}
-use Rattle.std.specs.Prelude.{slice_get, slice_set, is_some, drop, ◌==◌, ◌&&◌, not, nat_lt, nat_le, if◌then◌else◌}
+use Rattle.std.specs.Prelude.{Result, slice_get, slice_set, is_some, drop, ◌==◌, ◌&&◌, not, nat_lt, nat_le, if◌then◌else◌}
 use Rattle.bpf_model.specs.declared.call.Errno.TheVariants.{NoEntry, TooBig, NoMemory, Exists, InvalidArgument}
 use Rattle.bpf_model.specs.Section.{Section}
 use Rattle.bpf_model.specs.declared.call.Errno.{Errno}
-use Rattle.bpf_model.specs.Element.{Linked, unlinked, linked_count}
-use Rattle.bpf_model.specs.MapState.{MapState, Store, with_bag}
-use Rattle.bpf_model.specs.Helper.{LooksUp, Replaces, Settles, Updates, newborn, update_error}
+use Rattle.bpf_model.specs.Element.{Linked, unlinked, linked_count, newborn, overwritten}
+use Rattle.bpf_model.specs.declared.limits.MapKind.TheVariants.{Hash, Array}
+use Rattle.bpf_model.specs.MapState.{MapState, Store, with_bag, with_elements}
+use Rattle.bpf_model.specs.Helper.{LooksUp, Replaces, Settles, Updates, Writes, RemovesFrom, Deletes, Removes, error_of_kind, hash_error, update_error}
 use Rattle.plain_store.specs.Births.{uses_after_first, set_first, without_first_free}
 use Rattle.plain_store.proofs.Lists.{first-of, drop-none}
 use Rattle.bpf_model.proofs.Lists.{set-same}
@@ -49,20 +50,48 @@ free-by : {A : Type 0} (a b c d : Bool) (v w x y z : A) (bag : List ℕ) → (if
 free-by a b c d v w x y z [] h = absurd (all_some a b c d v w x y z h)
 free-by a b c d v w x y z (n ∷ bag) h = omega arith
 
-pub no_error-free : (flags : ℕ) (present : Bool) (linked : ℕ) (m : MapState) → update_error flags present linked m ≡ None → 0 < length m.bag
-no_error-free flags present linked m h =
+hash-free : (flags : ℕ) (present : Bool) (linked : ℕ) (m : MapState) → hash_error flags present linked m ≡ None → 0 < length m.bag
+hash-free flags present linked m h =
     free-by (nat_lt 2 flags) ((flags == 1) && present) ((flags == 2) && not present) (not present && nat_le m.shape.entries linked) InvalidArgument Exists NoEntry TooBig NoMemory m.bag h
+
+pub no_error-free : (flags : ℕ) (present : Bool) (linked : ℕ) (m : MapState) → m.shape.kind ≡ Hash → update_error flags present linked m ≡ None → 0 < length m.bag
+no_error-free flags present linked m hash h =
+    hash-free flags present linked m (ap (λ kind. error_of_kind kind flags present linked m) (sym hash) ∙ h)
 
 pub updates-refused : (s : Store) (opened : List Section) (k : ℕ) (m : MapState) (key value : List ℕ) (flags : ℕ) (found : Option ℕ) (e : Errno) →
     slice_get s.maps k ≡ Some m → LooksUp s k key found → update_error flags (is_some found) (linked_count k s.elements) m ≡ Some e → Updates s opened k key value flags (Err e) s
 updates-refused s opened k m key value flags found e h l error =
-    record { state = m; there = h; found = found; lookup = l; settled = subst (λ o. Settles o (Err e) s s (Replaces s opened k m key value found s)) (sym error) (refl, refl) }
+    record { state = m; there = h; found = found; lookup = l; settled = subst (λ o. Settles o (Err e) s s (Writes m.shape.kind s opened k m key value found s)) (sym error) (refl, refl) }
 
-pub updates-done : (s : Store) (opened : List Section) (k : ℕ) (m : MapState) (key value : List ℕ) (flags : ℕ) (found : Option ℕ) (new : Store) →
-    slice_get s.maps k ≡ Some m → LooksUp s k key found → update_error flags (is_some found) (linked_count k s.elements) m ≡ None → Replaces s opened k m key value found new →
+updates-done : (s : Store) (opened : List Section) (k : ℕ) (m : MapState) (key value : List ℕ) (flags : ℕ) (found : Option ℕ) (new : Store) →
+    slice_get s.maps k ≡ Some m → LooksUp s k key found → update_error flags (is_some found) (linked_count k s.elements) m ≡ None → Writes m.shape.kind s opened k m key value found new →
     Updates s opened k key value flags (Ok tt) new
-updates-done s opened k m key value flags found new h l error r =
-    record { state = m; there = h; found = found; lookup = l; settled = subst (λ o. Settles o (Ok tt) s new (Replaces s opened k m key value found new)) (sym error) (refl, r) }
+updates-done s opened k m key value flags found new h l error w =
+    record { state = m; there = h; found = found; lookup = l; settled = subst (λ o. Settles o (Ok tt) s new (Writes m.shape.kind s opened k m key value found new)) (sym error) (refl, w) }
+
+-- of a hash map
+pub updates-replaced : (s : Store) (opened : List Section) (k : ℕ) (m : MapState) (key value : List ℕ) (flags : ℕ) (found : Option ℕ) (new : Store) →
+    m.shape.kind ≡ Hash → slice_get s.maps k ≡ Some m → LooksUp s k key found → update_error flags (is_some found) (linked_count k s.elements) m ≡ None → Replaces s opened k m key value found new →
+    Updates s opened k key value flags (Ok tt) new
+updates-replaced s opened k m key value flags found new hash h l error r =
+    updates-done s opened k m key value flags found new h l error (subst (λ kind. Writes kind s opened k m key value found new) (sym hash) r)
+
+-- of an array
+pub updates-overwritten : (s : Store) (opened : List Section) (k : ℕ) (m : MapState) (key value : List ℕ) (flags : ℕ) (found : Option ℕ) (new : Store) →
+    m.shape.kind ≡ Array → slice_get s.maps k ≡ Some m → LooksUp s k key found → update_error flags (is_some found) (linked_count k s.elements) m ≡ None →
+    new ≡ with_elements (overwritten value s.elements found) s → Updates s opened k key value flags (Ok tt) new
+updates-overwritten s opened k m key value flags found new array h l error w =
+    updates-done s opened k m key value flags found new h l error (subst (λ kind. Writes kind s opened k m key value found new) (sym array) w)
+
+pub deletes-hash : (s : Store) (opened : List Section) (k : ℕ) (m : MapState) (key : List ℕ) (found : Option ℕ) (ret : Result (Unit {0}) Errno) (new : Store) →
+    m.shape.kind ≡ Hash → slice_get s.maps k ≡ Some m → LooksUp s k key found → Removes found opened ret s new → Deletes s opened k key ret new
+deletes-hash s opened k m key found ret new hash h l r =
+    record { state = m; there = h; found = found; lookup = l; removed = subst (λ kind. RemovesFrom kind found opened ret s new) (sym hash) r }
+
+pub deletes-array : (s : Store) (opened : List Section) (k : ℕ) (m : MapState) (key : List ℕ) (found : Option ℕ) →
+    m.shape.kind ≡ Array → slice_get s.maps k ≡ Some m → LooksUp s k key found → Deletes s opened k key (Err InvalidArgument) s
+deletes-array s opened k m key found array h l =
+    record { state = m; there = h; found = found; lookup = l; removed = subst (λ kind. RemovesFrom kind found opened (Err InvalidArgument) s s) (sym array) (refl, refl) }
 
 -- the map has a free map slot, in the one state that it has
 pub free-in : (ms : List MapState) (k : ℕ) (m : MapState) → slice_get ms k ≡ Some m → 0 < length m.bag → (n : MapState) → slice_get ms k ≡ Some n → 0 < length n.bag

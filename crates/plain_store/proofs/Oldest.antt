@@ -1,5 +1,5 @@
 -- A new element takes the map slot that has been free longest.
-use Rattle.std.proofs.Common.{◌≡◌, ℕ, ◌+◌, ◌<◌, List, [], ◌∷◌, ◌++◌, Option, Some, None, refl, sym, ap, ◌∙◌, arith, length}
+use Rattle.std.proofs.Common.{◌≡◌, ℕ, ◌+◌, ◌<◌, ◌≤◌, List, [], ◌∷◌, ◌++◌, Option, Some, None, refl, sym, ap, ◌∙◌, arith, length}
 use Rattle.std.specs.Prelude.{slice_get, drop, ◌-◌}
 use Rattle.bpf_model.specs.Section.{Section}
 use Rattle.bpf_model.specs.Element.{Element, Unlinked, Linked, with_life, set_to, unlinked}
@@ -9,6 +9,7 @@ use Rattle.plain_store.specs.Births.{uses_after_first, without_first_free}
 use Rattle.plain_store.proofs.Births.{without_first-at}
 use Rattle.plain_store.proofs.Lists.{first-of}
 use Rattle.std.proofs.lemmas.List.{length-set}
+use Rattle.std.proofs.lemmas.Option.{slice_get_past}
 use Rattle.bpf_model.proofs.Lists.{get-set_there, get-append_last}
 
 changed-length : (f : Element → Element) (es : List Element) (n : ℕ) (o : Option Element) → length (set_to f es n o) ≡ length es
@@ -38,3 +39,9 @@ birth s t opened k m key value found use_count h free uses elements maps e befor
     let count : e.uses ≡ f.0 + 1 = ap (λ y. y.uses) is_x ∙ uses ∙ ap uses_after_first bag in
     let less : e.uses - 1 ≡ f.0 = omega arith in
     ap (λ y. y.bag) is_m ∙ bag ∙ ap (λ n. n ∷ f.1) (sym less) ∙ ap (λ l. (e.uses - 1) ∷ drop 1 l) (sym bag) ∙ ap (λ y. (e.uses - 1) ∷ y.bag) (sym is_after)
+
+-- where no element is born nothing is asked
+pub no-birth : (s t : Store) → length t.elements ≤ length s.elements → TakesOldest s t
+no-birth s t h e before after born old new =
+    let none : Some e ≡ None = sym born ∙ slice_get_past t.elements (length s.elements) h in
+    absurd cc

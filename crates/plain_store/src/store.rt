@@ -1,25 +1,26 @@
 //! The elements of all maps, and the maps.
-ghost use Rattle.std.specs.Prelude.{◌≡◌, [], ◌<◌, IfOk, OnErr, OnOk, Some, Err, length, map};
+ghost use Rattle.std.specs.Prelude.{◌≡◌, [], ◌∷◌, ◌++◌, ◌<◌, IfOk, IfErr, OnErr, OnOk, Some, Err, length, map};
 ghost use Rattle.std.specs.Option.{option_map};
-ghost use Rattle.bpf_model.specs.Element.{linked_count as linked_count_of, unlinked};
-ghost use Rattle.bpf_model.specs.MapState.{shape_of, new_map};
-ghost use Rattle.bpf_model.specs.Helper.{LooksUp, Updates, Deletes};
+ghost use Rattle.bpf_model.specs.Element.{linked_count as linked_count_of, unlinked, overwritten};
+ghost use Rattle.bpf_model.specs.MapState.{AreShapes, IsShape, shape_of, new_map, new_elements, all_new_elements};
+ghost use Rattle.bpf_model.specs.Helper.{LooksUp, Updates, Deletes, Removes};
 ghost use Rattle.bpf_model.specs.Access.{byte_count};
 ghost use Rattle.bpf_model.specs.MachineStep.{element_load, element_store};
 ghost use Rattle.bpf_model.specs.declared.value.Value.TheVariants.{Number, Pointer};
 ghost use Rattle.bpf_model.specs.declared.value.Reference.TheVariants.{Elem};
 ghost use Rattle.bpf_model.specs.Schedule.{TakesOldest};
 ghost use Rattle.plain_store.specs.Telling.{TellsResult};
-ghost use Rattle.plain_store.specs.declared.fault.ModelFault.TheVariants.{Early};
+ghost use Rattle.plain_store.specs.declared.fault.ModelFault.TheVariants.{Early, Memory};
 ghost use Rattle.plain_store.specs.Storing.{StoresTo};
 ghost use Rattle.plain_store.specs.Births.{HasFree, ReplacesIn, NextUse, without_first_free, ReclaimsTo, CanReclaim, Finds};
 ghost use Rattle.plain_store.specs.Retiring.{linked_map};
-ghost use Rattle.plain_store.specs.State.{sections_of, elements_of, store_of};
+ghost use Rattle.plain_store.specs.State.{sections_of, elements_of, map_of, store_of};
 
+use crate::array_elements::add_elements;
 use crate::element::{Element, Life, Section, has_ended, save};
 use crate::fault::ModelFault;
 use crate::map_state::MapState;
-use bpf_model::{Errno, KeyBytes, MapId, MapShape, ReapedElement, ValueBytes, Width};
+use bpf_model::{Errno, KeyBytes, MapId, MapKind, MapShape, ReapedElement, ValueBytes, Width};
 use plain_interpreter::{number_in, region_offset};
 use std::alloc::{AllocError, Global};
 
@@ -31,19 +32,45 @@ pub struct Store {
 }
 
 impl Store {
-    /// No element, and maps of these shapes. Fails where memory runs out.
-    pub fn new(alloc: Global, shapes: &[MapShape]) -> Result<Store, AllocError>
-        ensures { IfOk result
-            (λ s. store_of s ≡ record { elements = []; maps = map new_map shapes.now }) }
+    /// New maps of these shapes, with the elements of those that are arrays. Errors: `Memory`; `OutOfRange` where
+    /// no map may have one of the shapes.
+    pub fn new(alloc: Global, shapes: &[MapShape]) -> Result<Store, ModelFault>
+        ensures store { IfOk result
+            (λ s. store_of s
+            ≡ record { elements = all_new_elements 0 shapes.now; maps = map new_map shapes.now }) }
+        ensures fault { AreShapes shapes.now → IfErr result (λ fault. fault ≡ Memory) }
     {
-        let mut maps = Vec::new(alloc);
-        for shape in shapes {
-            maps.push(MapState::new(alloc, *shape)?)?;
-        }
-        Ok(Store {
+        let mut store = Store {
             elements: Vec::new(alloc),
-            maps,
-        })
+            maps: Vec::new(alloc),
+        };
+        for shape in shapes {
+            store.add_map(alloc, shape)?;
+        }
+        Ok(store)
+    }
+
+    /// Adds a new map, with its elements if it is an array. Errors as of `new`.
+    fn add_map(&mut self, alloc: Global, shape: &MapShape) -> Result<(), ModelFault>
+        ensures elements { OnOk result
+            (elements_of self.new.elements.items
+            ≡ elements_of self.old.elements.items
+            ++ new_elements shape.now.kind (length self.old.maps.items) shape.now) }
+        ensures maps { OnOk result
+            (map map_of self.new.maps.items
+            ≡ map map_of self.old.maps.items ++ new_map shape.now ∷ []) }
+        ensures fault { IsShape shape.now → IfErr result (λ fault. fault ≡ Memory) }
+    {
+        let map = self.maps.len();
+        let state = MapState::new(alloc, *shape)?;
+        match self.maps.push(state) {
+            Ok(()) => {}
+            Err(_) => return Err(ModelFault::Memory),
+        }
+        match shape.kind {
+            MapKind::Hash => Ok(()),
+            MapKind::Array => add_elements(&mut self.elements, map, shape),
+        }
     }
 
     /// The shape of a map, where there is one.
@@ -87,9 +114,10 @@ impl Store {
         }
     }
 
-    /// Stores a value under a key, as the helper and the event do. Flags: any (0), only a new key (1), only
-    /// a present one (2). The inner error is that of `MapState::update_error`; of a map that is not there
-    /// nothing is claimed. Where memory is refused, nothing has changed.
+    /// Stores a value under a key, as the helper and the event do: in a hash map as a new element, in an array
+    /// in the element that the index has. Flags: any (0), only a new key (1), only a present one (2). The inner
+    /// error is that of `MapState::update_error`; of a map that is not there nothing is claimed. Where memory is
+    /// refused, nothing has changed.
     pub fn update(
         &mut self,
         alloc: Global,
@@ -114,8 +142,25 @@ impl Store {
         if let Some(errno) = self.maps[map].update_error(flags, found.is_some(), linked) {
             return Ok(Err(errno));
         }
-        self.replace(alloc, opened, found, map, key, value)?;
+        match self.maps[map].shape.kind {
+            MapKind::Hash => self.replace(alloc, opened, found, map, key, value)?,
+            MapKind::Array => self.overwrite(found, value),
+        }
         Ok(Ok(()))
+    }
+
+    /// The element that was found, if any, gets another value.
+    fn overwrite(&mut self, found: Option<usize>, value: ValueBytes)
+        ensures elements { elements_of self.new.elements.items
+            ≡ overwritten value.items (elements_of self.old.elements.items) found }
+        ensures maps { self.new.maps ≡ self.old.maps }
+        ensures births { length self.new.elements.items ≡ length self.old.elements.items }
+    {
+        if let Some(n) = found {
+            if n < self.elements.len() {
+                self.elements[n].value = value;
+            }
+        }
     }
 
     /// An element is born in the map slot that has been free longest, and what was found is unlinked. Where
@@ -180,8 +225,9 @@ impl Store {
         }
     }
 
-    /// Removes a key, as the helper and the event do: `NoEntry` where the map has no such key, or is not
-    /// there. Where memory is refused, nothing has changed.
+    /// Removes a key, as the helper and the event do: `NoEntry` where a hash map has no such key,
+    /// `InvalidArgument` for an array, whatever the key is. Of a map that is not there nothing is claimed. Where
+    /// memory is refused, nothing has changed.
     pub fn delete(
         &mut self,
         alloc: Global,
@@ -190,12 +236,37 @@ impl Store {
         key: &[u8],
     ) -> Result<Result<(), Errno>, AllocError>
         ensures deletes { IfOk result
-            (λ ret. Deletes (store_of self.old) (sections_of opened.now) map key.now ret
+            (λ ret. map < length self.old.maps.items →
+            Deletes (store_of self.old) (sections_of opened.now) map key.now ret
             (store_of self.new)) }
         ensures oldest { OnOk result (TakesOldest (store_of self.old) (store_of self.new)) }
         ensures err { OnErr result (store_of self.new ≡ store_of self.old) }
     {
-        let Some(n) = self.lookup(map, key) else {
+        let found = self.lookup(map, key);
+        if map >= self.maps.len() {
+            return Ok(Err(Errno::NoEntry));
+        }
+        match self.maps[map].shape.kind {
+            MapKind::Hash => self.remove(alloc, opened, found),
+            MapKind::Array => Ok(Err(Errno::InvalidArgument)),
+        }
+    }
+
+    /// What was found in a hash map is unlinked; `NoEntry` where nothing was. Where memory is refused, nothing has
+    /// changed.
+    fn remove(
+        &mut self,
+        alloc: Global,
+        opened: &[Section],
+        found: Option<usize>,
+    ) -> Result<Result<(), Errno>, AllocError>
+        ensures removes { IfOk result
+            (λ ret. Removes found (sections_of opened.now) ret (store_of self.old)
+            (store_of self.new)) }
+        ensures oldest { OnOk result (TakesOldest (store_of self.old) (store_of self.new)) }
+        ensures err { OnErr result (store_of self.new ≡ store_of self.old) }
+    {
+        let Some(n) = found else {
             return Ok(Err(Errno::NoEntry));
         };
         let since = Vec::from_slice(alloc, opened)?;

@@ -1,17 +1,18 @@
 -- Program files, line by line.
-use Rattle.std.proofs.Common.{◌≡◌, ◌≢◌, ℕ, ◌==◌, Bool, false, List, [], ◌∷◌, ◌++◌, flat_map, refl, sym, ap, ap₂, subst, ◌∙◌, arith, append_assoc, append-nil}
+use Rattle.std.proofs.Common.{◌≡◌, ◌≢◌, ℕ, ◌==◌, Bool, false, List, [], ◌∷◌, ◌++◌, length, flat_map, inl, inr, refl, sym, ap, ap₂, subst, ◌∙◌, arith, append_assoc, append-nil}
 use Rattle.std.specs.Prelude.{Option, Some, None, Result, Ok, Err, OnOk, codes}
 use lib.Pointwise.{pointwise}
 use Rattle.std.proofs.lemmas.Bool.{false≢true}
 use Rattle.std.proofs.lemmas.List.Concat.{flat_map-append}
 use Rattle.std.proofs.lemmas.Option.{none-some, same_Some}
+use Rattle.bpf_model.specs.declared.limits.MapKind.{MapKind}
 use Rattle.bpf_model.specs.declared.limits.MapShape.{MapShape}
 use Rattle.bpf_model.specs.View.{new_map_view}
 use Rattle.bpf_model.proofs.Lists.{heads, tails, cons-nil}
 use Rattle.maps.specs.Registry.{RegistryView, no_maps}
 use Rattle.program_files.specs.Lines.{file_words, IsDecimalWord, code_slots, slot_in}
 use Rattle.std.specs.Fmt.{option_append}
-use Rattle.program_files.specs.ProgramFile.{FileContent, IsContextLine, AreShapeWords, IsMapLine, AddsMap, AddMaps, IsProgramFile, IsFileBeginning, IsWrongAfter, IsFirstWrongLine}
+use Rattle.program_files.specs.ProgramFile.{FileContent, IsContextLine, AreHashWords, AreArrayWords, AreShapeWords, IsMapLine, AddsMap, AddMaps, IsProgramFile, IsFileBeginning, IsWrongAfter, IsFirstWrongLine}
 use Rattle.program_files.specs.Reading.{AreMapsSoFar, IsAtStage}
 use Rattle.program_files.proofs.Slots.{joined_nil}
 use Rattle.program_files.specs.declared.loader.fault.LineFault.{LineFault}
@@ -26,13 +27,14 @@ code_line = codes "code"
 same_number : (v w : List ℕ) (m n : ℕ) → v ≡ w → IsDecimalWord v m → IsDecimalWord w n → m ≡ n
 same_number v w m n e h k = let a = h.value in let b = k.value in cc
 
-same_shape : (s t : MapShape) → s.key_len ≡ t.key_len → s.value_len ≡ t.value_len → s.entries ≡ t.entries → s.spare ≡ t.spare → s.reuse_limit ≡ t.reuse_limit → s ≡ t
-same_shape s t a b c d e =
-    ap (λ (n : ℕ). let z : MapShape = record { key_len = n; value_len = s.value_len; entries = s.entries; spare = s.spare; reuse_limit = s.reuse_limit } in z) a
-    ∙ ap (λ (n : ℕ). let z : MapShape = record { key_len = t.key_len; value_len = n; entries = s.entries; spare = s.spare; reuse_limit = s.reuse_limit } in z) b
-    ∙ ap (λ (n : ℕ). let z : MapShape = record { key_len = t.key_len; value_len = t.value_len; entries = n; spare = s.spare; reuse_limit = s.reuse_limit } in z) c
-    ∙ ap (λ (n : ℕ). let z : MapShape = record { key_len = t.key_len; value_len = t.value_len; entries = t.entries; spare = n; reuse_limit = s.reuse_limit } in z) d
-    ∙ ap (λ (n : ℕ). let z : MapShape = record { key_len = t.key_len; value_len = t.value_len; entries = t.entries; spare = t.spare; reuse_limit = n } in z) e
+same_shape : (s t : MapShape) → s.kind ≡ t.kind → s.key_len ≡ t.key_len → s.value_len ≡ t.value_len → s.entries ≡ t.entries → s.spare ≡ t.spare → s.reuse_limit ≡ t.reuse_limit → s ≡ t
+same_shape s t k a b c d e =
+    ap (λ (n : MapKind). let z : MapShape = record { kind = n; key_len = s.key_len; value_len = s.value_len; entries = s.entries; spare = s.spare; reuse_limit = s.reuse_limit } in z) k
+    ∙ ap (λ (n : ℕ). let z : MapShape = record { kind = t.kind; key_len = n; value_len = s.value_len; entries = s.entries; spare = s.spare; reuse_limit = s.reuse_limit } in z) a
+    ∙ ap (λ (n : ℕ). let z : MapShape = record { kind = t.kind; key_len = t.key_len; value_len = n; entries = s.entries; spare = s.spare; reuse_limit = s.reuse_limit } in z) b
+    ∙ ap (λ (n : ℕ). let z : MapShape = record { kind = t.kind; key_len = t.key_len; value_len = t.value_len; entries = n; spare = s.spare; reuse_limit = s.reuse_limit } in z) c
+    ∙ ap (λ (n : ℕ). let z : MapShape = record { kind = t.kind; key_len = t.key_len; value_len = t.value_len; entries = t.entries; spare = n; reuse_limit = s.reuse_limit } in z) d
+    ∙ ap (λ (n : ℕ). let z : MapShape = record { kind = t.kind; key_len = t.key_len; value_len = t.value_len; entries = t.entries; spare = t.spare; reuse_limit = n } in z) e
 
 same_words : (a b c d e a2 b2 c2 d2 e2 : List ℕ) → (a ∷ b ∷ c ∷ d ∷ e ∷ []) ≡ a2 ∷ b2 ∷ c2 ∷ d2 ∷ e2 ∷ [] → (a ≡ a2) × (b ≡ b2) × (c ≡ c2) × (d ≡ d2) × (e ≡ e2)
 same_words a b c d e a2 b2 c2 d2 e2 h = ((cc), (cc), (cc), (cc), (cc))
@@ -41,15 +43,36 @@ same_words a b c d e a2 b2 c2 d2 e2 h = ((cc), (cc), (cc), (cc), (cc))
 same_line : (m a b : List ℕ) (xs ys : List (List ℕ)) → (m ∷ a ∷ xs) ≡ m ∷ b ∷ ys → (a ≡ b) × (xs ≡ ys)
 same_line m a b xs ys e = ((cc), (cc))
 
-same_shape_words : (s t : MapShape) (numbers : List (List ℕ)) → AreShapeWords numbers s [] → AreShapeWords numbers t [] → s ≡ t
-same_shape_words s t numbers h k =
+same_hash_words : (s t : MapShape) (numbers : List (List ℕ)) → AreHashWords numbers s → AreHashWords numbers t → s ≡ t
+same_hash_words s t numbers h k =
     let w = same_words h.key h.value h.entries h.spare h.reuse k.key k.value k.entries k.spare k.reuse (sym h.words_are ∙ k.words_are) in
-    same_shape s t (same_number _ _ _ _ w.0 h.key_len k.key_len) (same_number _ _ _ _ w.1 h.value_len k.value_len) (same_number _ _ _ _ w.2 h.entries_is k.entries_is) (same_number _ _ _ _ w.3 h.spare_is k.spare_is) (same_number _ _ _ _ w.4 h.reuse_limit k.reuse_limit)
+    same_shape s t (h.kind ∙ sym k.kind) (same_number _ _ _ _ w.0 h.key_len k.key_len) (same_number _ _ _ _ w.1 h.value_len k.value_len) (same_number _ _ _ _ w.2 h.entries_is k.entries_is) (same_number _ _ _ _ w.3 h.spare_is k.spare_is) (same_number _ _ _ _ w.4 h.reuse_limit k.reuse_limit)
+
+two_words : (w a b c d : List ℕ) → (w ∷ a ∷ b ∷ []) ≡ w ∷ c ∷ d ∷ [] → (a ≡ c) × (b ≡ d)
+two_words w a b c d e = ((cc), (cc))
+
+same_array_words : (s t : MapShape) (numbers : List (List ℕ)) → AreArrayWords numbers s → AreArrayWords numbers t → s ≡ t
+same_array_words s t numbers h k =
+    let w = two_words (codes "array") h.value h.entries k.value k.entries (sym h.words_are ∙ k.words_are) in
+    same_shape s t (h.kind ∙ sym k.kind) (h.array.key ∙ sym k.array.key) (same_number _ _ _ _ w.0 h.value_len k.value_len) (same_number _ _ _ _ w.1 h.entries_is k.entries_is) (h.array.spare ∙ sym k.array.spare) (h.array.reuse ∙ sym k.array.reuse)
+
+-- a hash map's words are five, an array's three
+not_both : (s t : MapShape) (numbers : List (List ℕ)) → AreHashWords numbers s → AreArrayWords numbers t → ⊥
+not_both s t numbers h k =
+    let e : (h.key ∷ h.value ∷ h.entries ∷ h.spare ∷ h.reuse ∷ []) ≡ codes "array" ∷ k.value ∷ k.entries ∷ [] = sym h.words_are ∙ k.words_are in
+    let n = ap length e in
+    omega (arith, n)
+
+same_shape_words : (s t : MapShape) (numbers : List (List ℕ)) → AreShapeWords numbers s → AreShapeWords numbers t → s ≡ t
+same_shape_words s t numbers (inl h) (inl k) = same_hash_words s t numbers h k
+same_shape_words s t numbers (inl h) (inr k) = absurd (not_both s t numbers h k)
+same_shape_words s t numbers (inr h) (inl k) = absurd (not_both t s numbers k h)
+same_shape_words s t numbers (inr h) (inr k) = same_array_words s t numbers h k
 
 pub same_map : (line name name2 : List ℕ) (s t : MapShape) → IsMapLine line name s → IsMapLine line name2 t → (name ≡ name2) × (s ≡ t)
 same_map line name name2 s t h k =
     let w = same_line (codes "map") name name2 h.numbers k.numbers (sym h.words ∙ k.words) in
-    (w.0, same_shape_words s t k.numbers (subst (λ (n : List (List ℕ)). AreShapeWords n s []) w.1 h.shape_is) k.shape_is)
+    (w.0, same_shape_words s t k.numbers (subst (λ (n : List (List ℕ)). AreShapeWords n s) w.1 h.shape_is) k.shape_is)
 
 same_registry : (r s : RegistryView) → r.names ≡ s.names → r.maps ≡ s.maps → r ≡ s
 same_registry r s a b =
@@ -246,9 +269,9 @@ not_code line literal r e f h same = absurd (false≢true (sym h ∙ e ∙ ap₂
 third : (a b c d : List ℕ) (xs ys : List (List ℕ)) → (a ∷ b ∷ xs) ≡ c ∷ d ∷ ys → xs ≡ ys
 third a b c d xs ys e = cc
 
-pub shape_words : (line word name1 name2 : List ℕ) (left : List (List ℕ)) (shape : MapShape) → file_words line ≡ word ∷ name1 ∷ left → IsMapLine line name2 shape → AreShapeWords left shape []
+pub shape_words : (line word name1 name2 : List ℕ) (left : List (List ℕ)) (shape : MapShape) → file_words line ≡ word ∷ name1 ∷ left → IsMapLine line name2 shape → AreShapeWords left shape
 shape_words line word name1 name2 left shape e h =
-    subst (λ (n : List (List ℕ)). AreShapeWords n shape []) (third (codes "map") name2 word name1 _ _ (sym h.words ∙ e)) h.shape_is
+    subst (λ (n : List (List ℕ)). AreShapeWords n shape) (third (codes "map") name2 word name1 _ _ (sym h.words ∙ e)) h.shape_is
 
 pub context_refuses : (stage : Stage) (lines : List (List ℕ)) (line : List ℕ) (c : FileContent) → stage ≡ Context → ((n : ℕ) → ¬ (IsContextLine line n)) → IsAtStage stage lines c → ¬ (IsFileBeginning (lines ++ line ∷ []))
 context_refuses stage lines line c e wrong h =

@@ -1,9 +1,10 @@
 -- The slots of a line, word by word; and maps that no registry takes.
-use Rattle.std.proofs.Common.{◌≡◌, ◌≢◌, ℕ, ◌<◌, Bool, true, false, not, cond, ◌&&◌, List, [], ◌++◌, refl, arith}
-use Rattle.std.specs.Prelude.{Option, Some, None, nat_le}
+use Rattle.std.proofs.Common.{◌≡◌, ◌≢◌, ℕ, ◌<◌, Bool, true, false, not, cond, ◌&&◌, List, [], ◌++◌, refl, sym, ◌∙◌, arith}
+use Rattle.std.specs.Prelude.{Option, Some, None}
+use Rattle.std.proofs.lemmas.Bool.{false≢true}
 use Rattle.std.proofs.lemmas.Bool.Decides.{nat_tests}
 use Rattle.bpf_model.specs.declared.limits.MapShape.{MapShape}
-use Rattle.bpf_model.specs.declared.limits.TheConstants.{MAX_REUSE, KEY_BYTES, VALUE_BYTES, MAX_ENTRIES, MAX_SPARE}
+use Rattle.bpf_model.specs.declared.limits.TheConstants.{MAX_REUSE}
 use Rattle.maps.specs.declared.fault.MapFault.{MapFault}
 use Rattle.maps.specs.declared.fault.MapFault.TheVariants.{BadName, NameTaken, BadShape, TooMany}
 use Rattle.maps.specs.Registry.{RegistryView, is_name, is_shape, has_name, creation_fault}
@@ -35,19 +36,18 @@ sound true false true full e = (refl, refl)
 pub sound_map : (r : RegistryView) (name : List ℕ) (shape : MapShape) → creation_fault r name shape ≡ None → (is_name name ≡ true) × (is_shape shape ≡ true)
 sound_map r name shape e = sound (is_name name) (has_name r name) (is_shape shape) _ e
 
-last_of_five : (a b c d e : Bool) → (a && (b && (c && (d && e)))) ≡ true → e ≡ true
-last_of_five true true true true e h = h
-last_of_five false b c d e h = absurd (let g : false ≡ true = h in cc)
-last_of_five true false c d e h = absurd (let g : false ≡ true = h in cc)
-last_of_five true true false d e h = absurd (let g : false ≡ true = h in cc)
-last_of_five true true true false e h = absurd (let g : false ≡ true = h in cc)
+not_within : (n : ℕ) → MAX_REUSE < n → is_in_range 1 MAX_REUSE n ≡ false
+not_within n h = grind (arith, nat_tests)
 
-not_within : (n : ℕ) → MAX_REUSE < n → is_in_range 1 MAX_REUSE n ≡ true → ⊥
-not_within n h e = grind (arith, nat_tests)
+none_and : (b : Bool) → (b && false) ≡ false
+none_and true = refl
+none_and false = refl
 
 reuse_within : (shape : MapShape) → MAX_REUSE < shape.reuse_limit → is_shape shape ≡ true → ⊥
 reuse_within shape h e =
-    not_within shape.reuse_limit h (last_of_five (is_in_range 1 KEY_BYTES shape.key_len) (is_in_range 1 VALUE_BYTES shape.value_len) (is_in_range 1 MAX_ENTRIES shape.entries) (nat_le shape.spare MAX_SPARE) (is_in_range 1 MAX_REUSE shape.reuse_limit) e)
+    let wide = not_within shape.reuse_limit h in
+    let none : is_shape shape ≡ false = simp (wide, none_and) in
+    false≢true (sym none ∙ e)
 
 pub too_often : (r : RegistryView) (name : List ℕ) (shape : MapShape) → MAX_REUSE < shape.reuse_limit → creation_fault r name shape ≢ None
 too_often r name shape h e = absurd (reuse_within shape h (sound_map r name shape e).1)

@@ -1,8 +1,10 @@
 -- What a program file says.
 use Rattle.std.specs.Prelude.{◌≡◌, ℕ, ◌+◌, ◌≤◌, ◌⊎◌, List, [], ◌∷◌, ◌++◌, length, flat_map, codes}
 use Rattle.std.specs.Prelude.{Option, Some, None}
+use Rattle.bpf_model.specs.declared.limits.MapKind.TheVariants.{Hash, Array}
 use Rattle.bpf_model.specs.declared.limits.MapShape.{MapShape}
 use Rattle.bpf_model.specs.declared.limits.TheConstants.{CTX_BYTES}
+use Rattle.bpf_model.specs.MapState.{IsArrayShape}
 use Rattle.bpf_model.specs.View.{new_map_view}
 use Rattle.maps.specs.Registry.{RegistryView, no_maps, creation_fault}
 use Rattle.program_files.specs.Lines.{file_lines, file_words, IsDecimalWord, code_slots}
@@ -22,26 +24,39 @@ pub record IsContextLine (line : List ℕ) (n : ℕ) : Type 0 where
   pub number : IsDecimalWord word n
   pub limit : n ≤ CTX_BYTES
 
--- The first five words are the numbers of a shape; these are left.
-pub record AreShapeWords (words : List (List ℕ)) (shape : MapShape) (rest : List (List ℕ))
-    : Type 0 where
+-- `KEY VALUE ENTRIES SPARE REUSE`: the words are the numbers of a hash map's shape.
+pub record AreHashWords (words : List (List ℕ)) (shape : MapShape) : Type 0 where
   pub key : List ℕ
   pub value : List ℕ
   pub entries : List ℕ
   pub spare : List ℕ
   pub reuse : List ℕ
-  pub words_are : words ≡ key ∷ value ∷ entries ∷ spare ∷ reuse ∷ rest
+  pub words_are : words ≡ key ∷ value ∷ entries ∷ spare ∷ reuse ∷ []
+  pub kind : shape.kind ≡ Hash
   pub key_len : IsDecimalWord key shape.key_len
   pub value_len : IsDecimalWord value shape.value_len
   pub entries_is : IsDecimalWord entries shape.entries
   pub spare_is : IsDecimalWord spare shape.spare
   pub reuse_limit : IsDecimalWord reuse shape.reuse_limit
 
--- `map NAME KEY VALUE ENTRIES SPARE REUSE`
+-- `array VALUE ENTRIES`: the words are of an array, whose keys are indices.
+pub record AreArrayWords (words : List (List ℕ)) (shape : MapShape) : Type 0 where
+  pub value : List ℕ
+  pub entries : List ℕ
+  pub words_are : words ≡ codes "array" ∷ value ∷ entries ∷ []
+  pub kind : shape.kind ≡ Array
+  pub array : IsArrayShape shape
+  pub value_len : IsDecimalWord value shape.value_len
+  pub entries_is : IsDecimalWord entries shape.entries
+
+abbrev pub AreShapeWords : List (List ℕ) → MapShape → Type 0
+AreShapeWords words shape = AreHashWords words shape ⊎ AreArrayWords words shape
+
+-- `map NAME KEY VALUE ENTRIES SPARE REUSE`, `map NAME array VALUE ENTRIES`
 pub record IsMapLine (line name : List ℕ) (shape : MapShape) : Type 0 where
   pub numbers : List (List ℕ)
   pub words : file_words line ≡ codes "map" ∷ name ∷ numbers
-  pub shape_is : AreShapeWords numbers shape []
+  pub shape_is : AreShapeWords numbers shape
 
 -- The line is of a map that the registry takes, and that is its last then.
 pub record AddsMap (old : RegistryView) (line : List ℕ) (new : RegistryView) : Type 0 where

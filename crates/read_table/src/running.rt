@@ -16,7 +16,7 @@ ghost use Rattle.read_table.specs.Running.{HasHeld, IsServable, RunsShared, Serv
 
 use crate::limits::WORD_BYTES;
 use crate::table::{ReadSeat, ReadTable};
-use bpf_model::{CtxBytes, Helper, Reg, are_bytes};
+use bpf_model::{CtxBytes, Helper, MapKind, Reg, are_bytes};
 use machine::{Local, Request, Run, SLOT_BASE, SPAN};
 use shared_runs::uses_sub_words;
 use thiserror::Error;
@@ -72,7 +72,7 @@ fn word_of_slot(found: Option<usize>) -> u64
 }
 
 impl ReadTable {
-    /// Whether each map that the program was verified for has the table's lengths.
+    /// Whether each map that the program was verified for is a hash map with the table's lengths.
     pub fn fits(&self, verified: &Verified) -> bool
         ensures { Decides result (FitsTable self.now.shape verified.now.shapes) }
     {
@@ -80,6 +80,7 @@ impl ReadTable {
         verified.shapes().iter().all(|map| {
             map.key_len == WORD_BYTES * shape.key_words
                 && map.value_len == WORD_BYTES * shape.value_words
+                && map.kind == MapKind::Hash
         })
     }
 

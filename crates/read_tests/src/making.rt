@@ -3,7 +3,7 @@ ghost use Rattle.std.specs.Prelude.{◌≤◌, All, IfSome};
 ghost use Rattle.bpf_model.specs.declared.limits.TheConstants.{CTX_BYTES};
 ghost use Rattle.read_table.specs.Held.{IsReady};
 
-use bpf_model::{CtxBytes, MapShape};
+use bpf_model::{CtxBytes, MapKind, MapShape};
 use insn_codec::decode;
 use read_table::{ReadSeat, ReadTable, SubWord};
 use std::alloc::Global;
@@ -20,6 +20,12 @@ pub const LOOKUP_AND_STORE: &str = "b706000000000000 8520000001000000 7a0af8ff00
 bfa2000000000000 07020000f8ffffff 1851000000000000 0000000000000000 8500000001000000
 1500010000000000 7a00000009000000 8520000002000000 bf60000000000000 9500000000000000";
 
+/// A lookup of the same key inside two sections, whose value is loaded between the two unlocks.
+pub const NESTED: &str = "b706000000000000 8520000001000000 8520000001000000 7a0af8ff00000000
+bfa2000000000000 07020000f8ffffff 1851000000000000 0000000000000000 8500000001000000
+bf07000000000000 8520000002000000 1507010000000000 7976000000000000 8520000002000000
+bf60000000000000 9500000000000000";
+
 /// A load of the one byte of a value that the context says, if that is below 8.
 pub const LOAD_BYTE: &str = "7116000000000000 5706000007000000 8520000001000000 7a0af8ff00000000
 bfa2000000000000 07020000f8ffffff 1851000000000000 0000000000000000 8500000001000000
@@ -28,6 +34,7 @@ bfa2000000000000 07020000f8ffffff 1851000000000000 0000000000000000 850000000100
 
 /// Keys and values of 8 bytes.
 const SHAPE: MapShape = MapShape {
+    kind: MapKind::Hash,
     key_len: 8,
     value_len: 8,
     entries: 4,

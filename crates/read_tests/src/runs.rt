@@ -1,7 +1,9 @@
 //! Runs of programs over the table.
 ghost use Rattle.std.specs.Prelude.{◌≡◌};
 
-use crate::making::{LOAD_BYTE, LOOKUP_AND_LOAD, LOOKUP_AND_STORE, run, two_seats, verified};
+use crate::making::{
+    LOAD_BYTE, LOOKUP_AND_LOAD, LOOKUP_AND_STORE, NESTED, run, two_seats, verified,
+};
 use read_table::{ReadTable, SubWord};
 use std::test::Fail;
 
@@ -31,6 +33,26 @@ fn a_lookup_exits_with_the_value(rt: HostRuntime) -> Result<(), Fail> {
     assert_eq!(rt; run(&table, first, &load), Some(Ok(5)));
     assert_eq!(rt; run(&table, first, &store), Some(Ok(0)));
     assert_eq!(rt; run(&table, second, &load), Some(Ok(9)));
+    Ok(())
+}
+
+/// The seat's section lasts from the outermost lock to its unlock.
+#[test]
+fn sections_nest(rt: HostRuntime) -> Result<(), Fail> {
+    let alloc = rt.alloc();
+    let nested = verified(alloc, NESTED, 0)?;
+    let (table, seats, mut writer) = ReadTable::new(alloc, 4, 8, 8, 1)?;
+    let mut list = seats.list;
+    let Some(seat) = list.first_mut() else {
+        return Err(Fail::from("no seat"));
+    };
+    assert_eq!(rt; run(&table, seat, &nested), Some(Ok(0)));
+    assert!(rt;
+        writer
+            .link(&table, &[0; 8], &[5, 0, 0, 0, 0, 0, 0, 0])
+            .is_some()
+    );
+    assert_eq!(rt; run(&table, seat, &nested), Some(Ok(5)));
     Ok(())
 }
 

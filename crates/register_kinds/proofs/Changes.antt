@@ -25,6 +25,6 @@ module _ (A : Type 0) (d : A) where
   ]
 
 pub learnt_unwritten : (lesson : Lesson) → Blank ≡ learnt_kind lesson Blank
-learnt_unwritten SectionEnds = refl
+learnt_unwritten (SectionEnds shapes) = refl
 learnt_unwritten (IsNull id) = refl
 learnt_unwritten (IsThere id) = refl

@@ -10,7 +10,7 @@ ghost use Rattle.register_kinds.specs.Pairs.{IsBelow, AreBelow};
 use crate::kind::RegKind;
 use crate::learn::Lesson;
 use crate::state::AbsState;
-use bpf_model::{REGISTERS, Reg};
+use bpf_model::{MapShape, REGISTERS, Reg};
 
 /// The registers after a call: its result in r0, and nothing in r1 to r5.
 fn after_return(regs: &[RegKind; REGISTERS], returned: RegKind) -> [RegKind; REGISTERS]
@@ -69,15 +69,15 @@ impl AbsState {
         self.depth += 1;
     }
 
-    /// An unlock: one less is open. With the outermost ends all that is known of elements, in registers and in
-    /// the frame.
-    pub fn leave_section(&mut self)
+    /// An unlock: one less is open. With the outermost ends all that is known of elements of hash maps, in registers
+    /// and in the frame. `shapes` are those of the maps of the program's list.
+    pub fn leave_section(&mut self, shapes: &[MapShape])
         requires inside { 0 < self.old.depth }
-        ensures alike { AreAlike (after_unlock (state_of self.old)) (state_of self.new) }
+        ensures alike { AreAlike (after_unlock shapes.now (state_of self.old)) (state_of self.new) }
         ensures below { (top : ℕ) → AreBelow top self.old → AreBelow top self.new }
     {
         if self.depth == 1 {
-            self.learn(Lesson::SectionEnds);
+            self.learn(Lesson::SectionEnds(shapes));
         }
         self.leave_call(RegKind::Unwritten);
         self.depth -= 1;

@@ -140,8 +140,8 @@ impl FrameCells {
     }
 
     /// Each byte becomes what it is after this was learnt.
-    pub(crate) fn learn(&mut self, lesson: Lesson)
-        ensures cells { (k : ℕ) → cell_at self.new k ≡ learnt_cell lesson (cell_at self.old k) }
+    pub(crate) fn learn(&mut self, lesson: Lesson<'_>)
+        ensures cells { (k : ℕ) → cell_at self.new k ≡ learnt_cell lesson.entry (cell_at self.old k) }
         ensures below { (top g : ℕ) → IsBelow top (kind_at self.old.spills g)
             → IsBelow top (kind_at self.new.spills g) }
     {

@@ -7,6 +7,7 @@
 //! `specs/Joined` what the kind of a joined register or byte is.
 #![tactic(auto)]
 
+mod arrays;
 mod boxes;
 mod change;
 mod fault;
@@ -19,6 +20,7 @@ mod reads;
 mod registers;
 mod state;
 
+pub use arrays::is_array;
 pub use boxes::Boxes;
 pub use fault::InsnFault;
 pub use frame::FrameCells;

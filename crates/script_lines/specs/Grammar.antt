@@ -7,7 +7,9 @@ use Rattle.script_lines.specs.Words.{value_bytes_in, context_bytes_in}
 use Rattle.script_lines.specs.declared.command.Command.{Command}
 use Rattle.bpf_model.specs.Value.{◌>>=◌}
 use Rattle.script_lines.specs.declared.command.Command.TheVariants as commands
-use Rattle.bpf_model.specs.declared.limits.TheConstants.{MAX_MAPS}
+use Rattle.bpf_model.specs.declared.limits.MapKind.TheVariants.{Hash, Array}
+use Rattle.bpf_model.specs.declared.limits.TheConstants.{MAX_MAPS, INDEX_BYTES}
+use Rattle.script_lines.specs.declared.command.ShapeNumbers.{ShapeNumbers}
 use Rattle.script_lines.specs.declared.verb.Verb.{Verb}
 use Rattle.script_lines.specs.declared.verb.Verb.TheVariants as verbs
 use Rattle.script_lines.specs.declared.verb.TheConstants.{VERBS}
@@ -30,24 +32,54 @@ verb_name verbs.Dump = codes "dump"
 abbrev pub verb_of : List ℕ → Option Verb
 verb_of word = find (λ verb. bytes_eq (verb_name verb) word) VERBS
 
--- Each command from the words behind its verb. A word for a name may be any.
-
--- `map NAME KEY VALUE ENTRIES SPARE REUSE`
-abbrev pub map_command : List (List ℕ) → Option Command
-map_command (name ∷ key ∷ value ∷ entries ∷ spare ∷ reuse ∷ []) = do
+-- `KEY VALUE ENTRIES SPARE REUSE`: the shape of a hash map, from the word KEY and those behind it
+abbrev pub hash_shape_in : List ℕ → List (List ℕ) → Option ShapeNumbers
+hash_shape_in key (value ∷ entries ∷ spare ∷ reuse ∷ []) = do
   key_len ← number_in key
   value_len ← number_in value
   most ← number_in entries
   further ← number_in spare
   limit ← number_in reuse
-  Some (commands.Map name (record {
+  Some (record {
+    kind = Hash;
     key_len = key_len;
     value_len = value_len;
     entries = most;
     spare = further;
     reuse_limit = limit;
-  }))
-map_command _ = None
+  })
+hash_shape_in key _ = None
+
+-- `array VALUE ENTRIES`: the shape of an array, from the words behind `array`. Its keys are indices;
+-- it has no further map slots, and uses each once.
+abbrev pub array_shape_in : List (List ℕ) → Option ShapeNumbers
+array_shape_in (value ∷ entries ∷ []) = do
+  value_len ← number_in value
+  most ← number_in entries
+  Some (record {
+    kind = Array;
+    key_len = INDEX_BYTES;
+    value_len = value_len;
+    entries = most;
+    spare = 0;
+    reuse_limit = 1;
+  })
+array_shape_in _ = None
+
+-- The shape of a map. The word `array` is no number.
+abbrev pub shape_in : List (List ℕ) → Option ShapeNumbers
+shape_in [] = None
+shape_in (word ∷ words) =
+    if bytes_eq word (codes "array") then array_shape_in words else hash_shape_in word words
+
+-- Each command from the words behind its verb. A word for a name may be any.
+
+-- `map NAME KEY VALUE ENTRIES SPARE REUSE`, `map NAME array VALUE ENTRIES`
+abbrev pub map_command : List (List ℕ) → Option Command
+map_command [] = None
+map_command (name ∷ words) = do
+  shape ← shape_in words
+  Some (commands.Map name shape)
 
 -- `load CTXLEN BYTES [NAME ..]`
 abbrev pub load_command : List (List ℕ) → Option Command

@@ -4,14 +4,15 @@ use crate::bytes::Bytes;
 use crate::code::Code;
 use crate::name::Name;
 use crate::names::Names;
-use bpf_model::{CtxBytes, KeyBytes, ValueBytes};
+use bpf_model::{CtxBytes, KeyBytes, MapKind, ValueBytes};
 use thiserror::Error;
 
-/// The numbers of a map's shape, as a line gives them: any numbers of 64 bits. They are the lengths of keys and
-/// values in bytes, the most linked elements, the further map slots for elements that wait for reclamation, and
-/// how often a map slot may be used; which of them a map can have is told when it is created.
+/// The kind of a map and the numbers of its shape, as a line gives them: any numbers of 64 bits. They are the
+/// lengths of keys and values in bytes, the most linked elements, the further map slots for elements that wait for
+/// reclamation, and how often a map slot may be used; which of them a map can have is told when it is created.
 #[derive(Clone, Copy, Debug, PartialEq, Eq)]
 pub struct ShapeNumbers {
+    pub kind: MapKind,
     pub key_len: u64,
     pub value_len: u64,
     pub entries: u64,
@@ -22,7 +23,7 @@ pub struct ShapeNumbers {
 /// What a line asks for. Names and a program's bytes are lent from the line; numbers are any below 2^64.
 #[derive(Drop)]
 pub enum Command<'a> {
-    /// `map NAME KEY VALUE ENTRIES SPARE REUSE`: a map is created.
+    /// `map NAME KEY VALUE ENTRIES SPARE REUSE`: a hash map is created; `map NAME array VALUE ENTRIES`: an array.
     Map {
         name: Name<'a>,
         shape: ShapeNumbers,

@@ -1,7 +1,7 @@
 //! Commands out of lines.
-ghost use Rattle.std.specs.Prelude.{◌≡◌, []};
+ghost use Rattle.std.specs.Prelude.{◌≡◌, [], bytes_eq, codes};
 ghost use Rattle.script_lines.specs.Words.{words_of, count_in};
-ghost use Rattle.script_lines.specs.Grammar.{map_command, load_command, put_command, get_command, del_command, start_command, step_command, drop_command, dump_command, alone, arguments_for, command_of};
+ghost use Rattle.script_lines.specs.Grammar.{hash_shape_in, array_shape_in, shape_in, map_command, load_command, put_command, get_command, del_command, start_command, step_command, drop_command, dump_command, alone, arguments_for, command_of};
 ghost use Rattle.script_lines.specs.Lines.{is_silent as says_nothing, has_outer_space as has_space_outside, line_says};
 
 use crate::bytes::bytes_of;
@@ -12,6 +12,7 @@ use crate::names::Names;
 use crate::number::number_of;
 use crate::verb::{Verb, verb_of};
 use crate::words::Words;
+use bpf_model::{INDEX_BYTES, MapKind};
 
 /// The most bytes of a line, without the line feed that ends it.
 pub const LINE_BYTES: usize = 70_000;
@@ -31,25 +32,68 @@ fn count_of(word: &[u8]) -> Option<u64>
     }
 }
 
-fn map<'a>(mut words: Words<'a>) -> Option<Command<'a>>
-    ensures { result ≡ map_command words.entry }
+/// Whether the word is `array`.
+fn is_array(word: &[u8]) -> bool
+    ensures { result ≡ bytes_eq word.now (codes "array") }
 {
-    let name = words.next()?;
-    let key_len = words.next()?;
+    word == b"array".as_slice()
+}
+
+/// The shape of a hash map whose keys have the length that the first word writes.
+fn hash_shape(key_len: &[u8], mut words: Words<'_>) -> Option<ShapeNumbers>
+    ensures { result ≡ hash_shape_in key_len.now words.entry }
+{
     let value_len = words.next()?;
     let entries = words.next()?;
     let spare = words.next()?;
     let reuse_limit = words.next()?;
     words.end()?;
+    Some(ShapeNumbers {
+        kind: MapKind::Hash,
+        key_len: number_of(key_len)?,
+        value_len: number_of(value_len)?,
+        entries: number_of(entries)?,
+        spare: number_of(spare)?,
+        reuse_limit: number_of(reuse_limit)?,
+    })
+}
+
+/// The shape of an array.
+fn array_shape(mut words: Words<'_>) -> Option<ShapeNumbers>
+    ensures { result ≡ array_shape_in words.entry }
+{
+    let value_len = words.next()?;
+    let entries = words.next()?;
+    words.end()?;
+    Some(ShapeNumbers {
+        kind: MapKind::Array,
+        key_len: INDEX_BYTES as u64,
+        value_len: number_of(value_len)?,
+        entries: number_of(entries)?,
+        spare: 0,
+        reuse_limit: 1,
+    })
+}
+
+/// The shape of a map.
+fn shape(mut words: Words<'_>) -> Option<ShapeNumbers>
+    ensures { result ≡ shape_in words.entry }
+{
+    let first = words.next()?;
+    if is_array(first) {
+        array_shape(words)
+    } else {
+        hash_shape(first, words)
+    }
+}
+
+fn map<'a>(mut words: Words<'a>) -> Option<Command<'a>>
+    ensures { result ≡ map_command words.entry }
+{
+    let name = words.next()?;
     Some(Command::Map {
         name: Name::new(name),
-        shape: ShapeNumbers {
-            key_len: number_of(key_len)?,
-            value_len: number_of(value_len)?,
-            entries: number_of(entries)?,
-            spare: number_of(spare)?,
-            reuse_limit: number_of(reuse_limit)?,
-        },
+        shape: shape(words)?,
     })
 }
 

@@ -12,6 +12,8 @@ use Rattle.bpf_model.specs.declared.call.Helper.{Helper}
 use Rattle.bpf_model.specs.declared.call.Helper.TheVariants.{Lookup, Update, Delete}
 use Rattle.bpf_model.specs.declared.call.KernelFunction.{KernelFunction}
 use Rattle.bpf_model.specs.declared.call.KernelFunction.TheVariants.{ReadLock, ReadUnlock}
+use Rattle.bpf_model.specs.declared.limits.MapKind.{MapKind}
+use Rattle.bpf_model.specs.declared.limits.MapKind.TheVariants.{Hash, Array}
 use Rattle.bpf_model.specs.declared.event.Answer.{Answer}
 use Rattle.bpf_model.specs.declared.event.Answer.TheVariants.{Moved, Done}
 use Rattle.bpf_model.specs.declared.event.Event.{Event}
@@ -31,7 +33,7 @@ use Rattle.bpf_model.specs.Step.{insn_at}
 use Rattle.bpf_model.specs.View.{MapView, RunView, WorldView}
 use Rattle.model_laws.specs.Locations.{Location, InContext, InFrame, AtMap, InSlot}
 use Rattle.maps.specs.Counting.{unlinked_in}
-use Rattle.view_laws.specs.Views.{retired_slot, retired_key, deleted, filled_from, updated_by, shown_error, turned_view, slot_given_back, given_at, reaped_view}
+use Rattle.view_laws.specs.Views.{retired_slot, retired_key, deleted, deleted_from, filled_from, overwritten_slot, written_by, updated_by, shown_error, turned_view, slot_given_back, given_at, reaped_view}
 use Rattle.view_laws.specs.Reactions.{with_map, shape_shown, refused_as, delete_at, delete_reaction, update_at, update_reaction, read_at, read_reaction, advanced_by, advance_reaction, Pick, first_pick, reap_by, reap_reaction, start_by, start_reaction, step_refused, drop_refused, drop_by, drop_reaction, step_by, reaction}
 use Rattle.world_laws.specs.Locating.{location_of}
 use Rattle.world_laws.specs.Moving.{word_in, operand_word, stored_slot, stored_at}
@@ -57,10 +59,22 @@ filled-same : (free : List ℕ) (v : MapView) (key value : List ℕ) → unlinke
 filled-same [] v key value = refl
 filled-same (i ∷ rest) v key value = refl
 
+overwritten-same : (v : MapView) (o : Option ℕ) (value : List ℕ) → unlinked_in (overwritten_slot v o value) ≡ unlinked_in v
+overwritten-same v None value = refl
+overwritten-same v (Some i) value = refl
+
+written-gains : (kind : MapKind) (v : MapView) (key value : List ℕ) → Gains v (written_by kind v key value)
+written-gains Hash v key value =
+    let g = retired-gains v key (get v.index key) in record { more = g.more; one = g.one; sum = filled-same v.free (retired_key v key) key value ∙ g.sum }
+written-gains Array v key value = gains-none v _ (overwritten-same v (get v.index key) value)
+
+deleted-gains : (kind : MapKind) (v : MapView) (key : List ℕ) → Gains v (deleted_from kind v key).1
+deleted-gains Hash v key = retired-gains v key (get v.index key)
+deleted-gains Array v key = gains-none v v refl
+
 updated-gains : (o : Option Errno) (v : MapView) (key value : List ℕ) → Gains v (updated_by o v key value).1
 updated-gains (Some e) v key value = gains-none v v refl
-updated-gains None v key value =
-    let g = retired-gains v key (get v.index key) in record { more = g.more; one = g.one; sum = filled-same v.free (retired_key v key) key value ∙ g.sum }
+updated-gains None v key value = written-gains v.shape.kind v key value
 
 turned-sum : (vs : List MapView) → sum_by unlinked_in (map turned_view vs) ≡ sum_by unlinked_in vs
 turned-sum [] = refl
@@ -95,7 +109,7 @@ module _ (w : WorldView) where
   delete-counts : (r : Option EventRefusal) (o : Option MapView) (k : ℕ) (key : List ℕ) → slice_get w.maps k ≡ o → IsCountedOn w (delete_at r o w k key)
   delete-counts (Some refusal) o k key at = still _ w refl refl refl
   delete-counts None None k key at = still _ w refl refl refl
-  delete-counts None (Some v) k key at = in-map _ k v (deleted v key).1 refl at (retired-gains v key (get v.index key))
+  delete-counts None (Some v) k key at = in-map _ k v (deleted v key).1 refl at (deleted-gains v.shape.kind v key)
 
   update-counts : (r : Option EventRefusal) (o : Option MapView) (k : ℕ) (key value : List ℕ) (flags : ℕ) → slice_get w.maps k ≡ o → IsCountedOn w (update_at r o w k key value flags)
   update-counts (Some refusal) o k key value flags at = still _ w refl refl refl
@@ -168,7 +182,7 @@ module _ (w : WorldView) where
       let c = in-map Moved k m _ refl e (updated-gains (shown_error m key (word_in v 4)) m key (bytes_in v 3 m.shape.value_len)) in record { counts = c.counts; given = c.given }
   serves-counts Delete k r v (Some m) e =
       let key = bytes_in v 2 m.shape.key_len in
-      let c = in-map Moved k m _ refl e (retired-gains m key (get m.index key)) in record { counts = c.counts; given = c.given }
+      let c = in-map Moved k m _ refl e (deleted-gains m.shape.kind m key) in record { counts = c.counts; given = c.given }
   serves-counts helper k r v None e = still _ w refl refl refl
 
   helped_on-counts : (helper : Helper) (o : Option ℕ) (r : ℕ) (v : RunView) → IsCountedOn w (helper_called_on helper o r v w)

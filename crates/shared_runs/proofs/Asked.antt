@@ -45,7 +45,7 @@ use Rattle.world_laws.proofs.Bytes.{argument-bytes}
 use Rattle.effects.specs.declared.region.Region.{Region}
 use Rattle.effects.specs.declared.region.Region.TheVariants as noted
 use Rattle.state_steps.specs.Steps.{IsInRegion, LooksUp, base_of}
-use Rattle.standing_laws.specs.Around.{births, element_number, elements_around, key_length, map_of, region_of, regions, value_length}
+use Rattle.standing_laws.specs.Around.{births, element_number, elements_around, key_length, map_of, region_of, regions, store_of, value_length}
 use Rattle.standing_laws.specs.Described.{region_bases}
 use Rattle.standing_laws.proofs.Asking.{lookup-asked}
 use Rattle.standing_laws.proofs.Contents.{by-is, get-range, map-below, touched}
@@ -68,8 +68,8 @@ use Rattle.shared_runs.specs.Serving.{CanServe, GoesOnWith, LeadsToWord}
 use Rattle.shared_runs.specs.SharedRuns.{closing, opening}
 use Rattle.shared_runs.specs.Sharing.{GoesFurther, IsSharing, flag_of}
 use Rattle.shared_runs.specs.Words.{ChangesMap, IsElementRegion, IsOtherWidth, access_width}
-use Rattle.shared_runs.proofs.Learning.{Reached, also, enter-learnt, hit-learnt, learnt-guarded, leave-learnt, load-learnt, miss-learnt, nest-learnt, none, store-learnt, unnest-learnt}
-use Rattle.shared_runs.proofs.Steps.{Known, aligned, asking, known, listed, listed-shapes, onward, ready, served-step, shown, so, some, steps, waited}
+use Rattle.shared_runs.proofs.Learning.{Reached, also, enter-learnt, hit-learnt, learnt-guarded, leave-learnt, load-learnt, miss-learnt, nest-learnt, no-array, none, not-array, store-learnt, unnest-learnt}
+use Rattle.shared_runs.proofs.Steps.{Known, aligned, are-hash, asking, known, listed, listed-shapes, onward, ready, served-step, shown, so, some, steps, waited}
 use Rattle.shared_runs.proofs.Stretches.{also-cases, inside-same, learnt-before, learnt-in}
 
 -- the width of the access that an element's base is reached by
@@ -134,24 +134,27 @@ module _ (k : TableShape) (c : Checked) (context : List ℕ) (ms : List Move) (v
         get-below c.regions x.index (omega (arith, l, long))
 
     -- what is reached through a reference to an element was learnt
-    held-learnt : (n map : ℕ) → IsHeld (scene_of (learnt_elements c.shapes (section_of run) x.learnt) run) map n → x.learnt (region_of n) ≡ true
+    held-learnt : (n map : ℕ) → IsHeld (scene_of (store_of c.shapes (learnt_elements c.shapes (section_of run) x.learnt)) run) map n → x.learnt (region_of n) ≡ true
     held-learnt n map h =
         let is = by-is (births c.shapes) (learnt_element c.shapes (section_of run) x.learnt) n h.element h.born in
-        learnt-guarded (x.learnt (region_of n)) (section_of run) (section_of run) (subst (λ (e : Element). IsGuarded e.life (section_of run)) (sym is) h.guarded)
+        elim h.allowed [
+          | inl g ↦ learnt-guarded (x.learnt (region_of n)) (section_of run) (section_of run) (subst (λ (e : Element). IsGuarded e.life (section_of run)) (sym is) g.1)
+          | inr a ↦ absurd (not-array c.shapes (are-hash k c context ms v x) (learnt_elements c.shapes (section_of run) x.learnt) run map a)
+        ]
 
-    by-region : (n : ℕ) (off : ℤ) (u : Value) (region : Region) → u ≡ Pointer (references.Elem n off) → IsInRegion (scene_of (learnt_elements c.shapes (section_of run) x.learnt) run) region u → IsElementRegion region × (x.learnt (region_of n) ≡ true)
+    by-region : (n : ℕ) (off : ℤ) (u : Value) (region : Region) → u ≡ Pointer (references.Elem n off) → IsInRegion (scene_of (store_of c.shapes (learnt_elements c.shapes (section_of run) x.learnt)) run) region u → IsElementRegion region × (x.learnt (region_of n) ≡ true)
     by-region n off u noted.None is q = absurd q
     by-region n off u noted.Ctx is q = let e : Pointer (references.Ctx q.0) ≡ Pointer (references.Elem n off) = sym q.1 ∙ is in absurd (cc)
     by-region n off u noted.Frame is q = let e : Pointer (references.Frame q.0) ≡ Pointer (references.Elem n off) = sym q.1 ∙ is in absurd (cc)
     by-region n off u (noted.Value map) is q =
         let e : Pointer (references.Elem q.0 q.1) ≡ Pointer (references.Elem n off) = sym q.2 ∙ is in
         let same : q.0 ≡ n = cc in
-        (tt, held-learnt n map (subst (IsHeld (scene_of (learnt_elements c.shapes (section_of run) x.learnt) run) map) same q.3))
+        (tt, held-learnt n map (subst (IsHeld (scene_of (store_of c.shapes (learnt_elements c.shapes (section_of run) x.learnt)) run) map) same q.3))
 
     word-of : (n : ℕ) (o : ℤ) (width : ℕ) → Reached c.shapes n o width → Accesses i n o width run.state → WordOf k ms x.learnt n o width
     word-of n o width r a =
         let region = region-noted in
-        let inside_region = x.justified.justified.regions x.index i a.base region.0 (scene_of (learnt_elements c.shapes (section_of run) x.learnt) run) run.state index-there a.base_is region.1 x.planned in
+        let inside_region = x.justified.justified.regions x.index i a.base region.0 (scene_of (store_of c.shapes (learnt_elements c.shapes (section_of run) x.learnt)) run) run.state index-there a.base_is region.1 x.planned in
         let q = by-region n a.offset (run.state.regs a.base) region.0 a.refers inside_region in
         let wide : width ≡ 8 = elim (cases_eq width 8) [
           | inl e ↦ e
@@ -180,7 +183,7 @@ module _ (k : TableShape) (c : Checked) (context : List ℕ) (ms : List Move) (v
         let low : y < 256 ^ width = subst (λ z. y < 256 ^ z) (sym w.wide) small in
         onward k c context ms v x (moves_by.Load (region_of n) (k.key_words + w.place) y ∷ ms) next (resumed_view i y v) x.learnt
         (λ plan closed. (so k c context ms v x plan closed i (LoadElement n o width) here e).goes_on (Number y) y next (y, low, refl) refl refl) refl refl
-        (load-learnt c.program c.shapes c.ctx_len (some k c context ms v x).plan (some k c context ms v x).closed run (shown k c context ms v x).described x.learnt x.index x.planned i here n o width y low e r w.is_learnt next refl (shown k c context ms v x).described.going)
+        (load-learnt c.program c.shapes c.ctx_len (are-hash k c context ms v x) (some k c context ms v x).plan (some k c context ms v x).closed run (shown k c context ms v x).described x.learnt x.index x.planned i here n o width y low e r w.is_learnt next refl (shown k c context ms v x).described.going)
         (served-step k c context ms v x i (LoadElement n o width) here e (moves_by.Load (region_of n) (k.key_words + w.place) y ∷ []) (Number y) next (w.place, y, w.wide, w.offset, w.within, w.slot, w.learnt_here, small, refl, refl) refl)
         x.known (x.section ∙ ap flag_of (shown k c context ms v x).words.depth)
 
@@ -189,7 +192,7 @@ module _ (k : TableShape) (c : Checked) (context : List ℕ) (ms : List Move) (v
         let next = moves_run run (resumed i Nothing run.state) in
         onward k c context ms v x (moves_by.Store (region_of n) (k.key_words + w.place) y ∷ ms) next (resumed_view i word v) x.learnt
         (λ plan closed. (so k c context ms v x plan closed i (StoreElement n o width y) here e).goes_on Nothing word next refl tt refl) refl refl
-        (store-learnt c.program c.shapes c.ctx_len (some k c context ms v x).plan (some k c context ms v x).closed run (shown k c context ms v x).described x.learnt x.index x.planned i here n o width y e r w.is_learnt next refl (shown k c context ms v x).described.going)
+        (store-learnt c.program c.shapes c.ctx_len (are-hash k c context ms v x) (some k c context ms v x).plan (some k c context ms v x).closed run (shown k c context ms v x).described x.learnt x.index x.planned i here n o width y e r w.is_learnt next refl (shown k c context ms v x).described.going)
         (served-step k c context ms v x i (StoreElement n o width y) here e (moves_by.Store (region_of n) (k.key_words + w.place) y ∷ []) Nothing next (w.place, w.wide, w.offset, w.within, w.slot, w.learnt_here, refl, refl) refl)
         x.known (x.section ∙ ap flag_of (shown k c context ms v x).words.depth)
 
@@ -259,7 +262,7 @@ module _ (k : TableShape) (c : Checked) (context : List ℕ) (ms : List Move) (v
         let next = moves_run run (resumed i (Number 0) run.state) in
         onward k c context ms v x (ns ++ ms) next (resumed_view i 0 v) x.learnt
         (λ plan closed. (so k c context ms v x plan closed i (Finding map key) here f.asked).goes_on (Number 0) 0 next (inl refl) refl refl) refl refl
-        (miss-learnt c.program c.shapes c.ctx_len (some k c context ms v x).plan (some k c context ms v x).closed run (shown k c context ms v x).described x.learnt x.index x.planned i here map map key f.bound f.asked next refl (shown k c context ms v x).described.going)
+        (miss-learnt c.program c.shapes c.ctx_len (are-hash k c context ms v x) (some k c context ms v x).plan (some k c context ms v x).closed run (shown k c context ms v x).described x.learnt x.index x.planned i here map map key f.bound f.asked next refl (shown k c context ms v x).described.going)
         (served-step k c context ms v x i (Finding map key) here f.asked ns (Number 0) next (None, searches, answers, refl) refl)
         (λ slot e. ((x.known slot e).0, learnt-before k slot ns ms searches (x.known slot e).1))
         (inside-same k ns ms searches ∙ (x.section ∙ ap flag_of (shown k c context ms v x).words.depth))
@@ -276,7 +279,7 @@ module _ (k : TableShape) (c : Checked) (context : List ℕ) (ms : List Move) (v
         let stands : WordIs region_bases reply word = omega (arith, ints, same) in
         onward k c context ms v x (ns ++ ms) next (resumed_view i word v) (also slot x.learnt)
         (λ plan closed. (so k c context ms v x plan closed i (Finding map key) here f.asked).goes_on reply word next (inr (map, slot, f.bound, small, refl)) stands refl) refl refl
-        (hit-learnt c.program c.shapes c.ctx_len (some k c context ms v x).plan (some k c context ms v x).closed run (shown k c context ms v x).described x.learnt x.index x.planned i here map map slot key f.below f.bound small f.asked f.long next refl (shown k c context ms v x).described.going)
+        (hit-learnt c.program c.shapes c.ctx_len (are-hash k c context ms v x) (some k c context ms v x).plan (some k c context ms v x).closed run (shown k c context ms v x).described x.learnt x.index x.planned i here map map slot key f.below f.bound small f.asked f.long next refl (shown k c context ms v x).described.going)
         (served-step k c context ms v x i (Finding map key) here f.asked ns reply next (Some slot, searches, answers, refl) refl)
         (λ r e. elim (also-cases slot x.learnt r e) [
           | inl is ↦ (subst (λ j. j < k.slots) (sym is) in_table, subst (λ j. IsLearnt j (ns ++ ms)) (sym is) (learnt-in slot ns ms answers.1))
@@ -301,7 +304,10 @@ module _ (k : TableShape) (c : Checked) (context : List ℕ) (ms : List Move) (v
           bound = ap (λ (p : Loaded). slice_get p.maps l.map) x.program ∙ get-range (length c.shapes) l.map below;
           long = l.long ∙ sym (ap key_length shape);
         } in
-        let deep : 0 < run.depth = x.justified.justified.looked_up x.index i (scene_of (learnt_elements c.shapes (section_of run) x.learnt) run) run.state index-there lookup x.planned in
+        let deep : 0 < run.depth = elim (x.justified.justified.looked_up x.index i (scene_of (store_of c.shapes (learnt_elements c.shapes (section_of run) x.learnt)) run) run.state index-there lookup x.planned) [
+          | inl inside ↦ inside
+          | inr a ↦ absurd (no-array c.shapes (are-hash k c context ms v x) a.0 a.2)
+        ] in
         let depth : v.depth ≡ run.depth = (shown k c context ms v x).words.depth in
         record {
           inside = omega (arith, deep, depth);
@@ -332,7 +338,7 @@ module _ (k : TableShape) (c : Checked) (context : List ℕ) (ms : List Move) (v
         let deeper : next.depth ≡ 1 = omega (arith, outside) in
         goes-at (moves_by.Open ∷ ms) word (onward k c context ms v x (moves_by.Open ∷ ms) next (resumed_view i word v) none
         (λ plan closed. (so k c context ms v x plan closed i Enter here asked).goes_on Nothing word next refl tt (room, refl)) refl refl
-        (enter-learnt c.program c.shapes c.ctx_len (some k c context ms v x).plan (some k c context ms v x).closed run s.described x.learnt x.index x.planned i here outside asked next (room, refl) s.described.going)
+        (enter-learnt c.program c.shapes c.ctx_len (are-hash k c context ms v x) (some k c context ms v x).plan (some k c context ms v x).closed run s.described x.learnt x.index x.planned i here outside asked next (room, refl) s.described.going)
         (served-step k c context ms v x i Enter here asked (moves_by.Open ∷ []) Nothing next (sym (ap opening outside), refl) (room, refl))
         (λ slot e. absurd (false≢true e)) (sym (ap flag_of deeper)))
 
@@ -344,7 +350,7 @@ module _ (k : TableShape) (c : Checked) (context : List ℕ) (ms : List Move) (v
         let none_is : [] ≡ opening run.depth = sym (ap (λ b. if b then moves_by.Open ∷ [] else []) (ne_eqb run.depth 0 (λ e. absurd (omega (arith, inside_one, e))))) in
         goes-at ms word (onward k c context ms v x ms next (resumed_view i word v) x.learnt
         (λ plan closed. (so k c context ms v x plan closed i Enter here asked).goes_on Nothing word next refl tt (room, refl)) refl refl
-        (nest-learnt c.program c.shapes c.ctx_len (some k c context ms v x).plan (some k c context ms v x).closed run s.described x.learnt x.index x.planned i here inside_one asked next (room, refl) s.described.going)
+        (nest-learnt c.program c.shapes c.ctx_len (are-hash k c context ms v x) (some k c context ms v x).plan (some k c context ms v x).closed run s.described x.learnt x.index x.planned i here inside_one asked next (room, refl) s.described.going)
         (served-step k c context ms v x i Enter here asked [] Nothing next (none_is, refl) (room, refl))
         x.known (x.section ∙ ap flag_of depth-shown ∙ deep-flag run.depth inside_one ∙ sym (deep-flag next.depth (omega (arith, inside_one)))))
 
@@ -367,7 +373,7 @@ module _ (k : TableShape) (c : Checked) (context : List ℕ) (ms : List Move) (v
         let ended : next.depth ≡ 0 = omega (arith, inside_one) in
         goes-at (moves_by.Close ∷ ms) word (onward k c context ms v x (moves_by.Close ∷ ms) next (resumed_view i word v) none
         (λ plan closed. (so k c context ms v x plan closed i Leave here asked).goes_on Nothing word next refl tt (within, refl)) refl refl
-        (leave-learnt c.program c.shapes c.ctx_len (some k c context ms v x).plan (some k c context ms v x).closed run s.described x.learnt x.index x.planned i here inside_one asked next (within, refl) s.described.going)
+        (leave-learnt c.program c.shapes c.ctx_len (are-hash k c context ms v x) (some k c context ms v x).plan (some k c context ms v x).closed run s.described x.learnt x.index x.planned i here inside_one asked next (within, refl) s.described.going)
         (served-step k c context ms v x i Leave here asked (moves_by.Close ∷ []) Nothing next (sym (ap closing inside_one), refl) (within, refl))
         (λ slot e. absurd (false≢true e)) (sym (ap flag_of ended)))
 
@@ -380,7 +386,7 @@ module _ (k : TableShape) (c : Checked) (context : List ℕ) (ms : List Move) (v
         let none_is : [] ≡ closing run.depth = sym (ap (λ b. if b then moves_by.Close ∷ [] else []) (ne_eqb run.depth 1 (λ e. absurd (omega (arith, deep, e))))) in
         goes-at ms word (onward k c context ms v x ms next (resumed_view i word v) x.learnt
         (λ plan closed. (so k c context ms v x plan closed i Leave here asked).goes_on Nothing word next refl tt (within, refl)) refl refl
-        (unnest-learnt c.program c.shapes c.ctx_len (some k c context ms v x).plan (some k c context ms v x).closed run s.described x.learnt x.index x.planned i here deep asked next (within, refl) s.described.going)
+        (unnest-learnt c.program c.shapes c.ctx_len (are-hash k c context ms v x) (some k c context ms v x).plan (some k c context ms v x).closed run s.described x.learnt x.index x.planned i here deep asked next (within, refl) s.described.going)
         (served-step k c context ms v x i Leave here asked [] Nothing next (none_is, refl) (within, refl))
         x.known (x.section ∙ ap flag_of depth-shown ∙ deep-flag run.depth within ∙ sym (deep-flag next.depth (omega (arith, deep)))))
 

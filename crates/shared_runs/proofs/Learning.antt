@@ -1,11 +1,13 @@
 -- What the plan says of a run among the elements alone that it has learnt in the section that is open, and that a step keeps it so.
 use Rattle.std.proofs.Common.{◌≡◌, ℕ, ◌+◌, ◌^◌, ◌<◌, ◌≤◌, inl, inr, refl, sym, ap, subst, ◌∙◌, arith, List, [], ◌∷◌, length, map, Option, Some, None, Bool, true, false}
 use Rattle.std.specs.Prelude.{slice_get, slice_set, ℤ, pos, ◌==◌, if◌then◌else◌}
-use Rattle.std.proofs.lemmas.Option.{same_Some}
+use Rattle.std.proofs.lemmas.Option.{same_Some, slice_get_within}
 use Rattle.std.proofs.lemmas.Bool.{false≢true, eq-eqb, ne_eqb}
 use Rattle.bpf_model.specs.declared.call.Helper.TheVariants.{Lookup}
 use Rattle.bpf_model.specs.declared.insn.Insn.{Insn}
 use Rattle.bpf_model.specs.declared.event.Answer.TheVariants.{Moved}
+use Rattle.bpf_model.specs.declared.limits.MapKind.{MapKind}
+use Rattle.bpf_model.specs.declared.limits.MapKind.TheVariants.{Array, Hash}
 use Rattle.bpf_model.specs.declared.limits.MapShape.{MapShape}
 use Rattle.bpf_model.specs.declared.value.Value.{Value}
 use Rattle.bpf_model.specs.declared.value.Value.TheVariants.{Nothing, Number, Pointer}
@@ -16,18 +18,20 @@ use Rattle.bpf_model.specs.Element.{Element, Linked, Unlinked, IsLinkedAt, IsAbs
 use Rattle.bpf_model.specs.Event.{AreBytes}
 use Rattle.bpf_model.specs.Machine.{Run, environment, locked, moves, section_of, unlocked}
 use Rattle.bpf_model.specs.MachineStep.{InsnStep, loaded_from, stored_in, with_bytes}
-use Rattle.bpf_model.specs.MapState.{Store}
+use Rattle.bpf_model.specs.MapState.{MapState, Store, new_map}
 use Rattle.bpf_model.specs.Request.{Request, LoadElement, StoreElement, CallHelper, Enter, Leave, MapArgument, BytesArgument, StepsAlone, ServesRequest, Resumes, asks, bound_shape, resumed}
 use Rattle.bpf_model.specs.Section.{Section}
 use Rattle.bpf_model.specs.Step.{State, Moves, after, insn_at}
 use Rattle.bpf_model.specs.Value.{◌>>=◌}
 use Rattle.bpf_model.proofs.Bytes.{length-with_bytes}
-use Rattle.bpf_model.proofs.Lists.{get-set_cases}
-use Rattle.std.proofs.lemmas.List.{length-replicate}
+use Rattle.bpf_model.proofs.Lists.{get-below, get-map, get-set_cases}
+use Rattle.std.proofs.lemmas.List.{length-map, length-replicate}
 use Rattle.model_laws.proofs.Computations.{first-step}
 use Rattle.model_laws.proofs.Requests.{steps_by_request}
-use Rattle.typed_runs.specs.Describes.{scene_of, IsGuarded}
-use Rattle.typed_runs.specs.Verified.{Plan, IsClosed, IsPlanned, IsPlannedAfter}
+use Rattle.typed_runs.specs.Describes.{scene_of, IsArrayMap, IsGuarded}
+use Rattle.typed_runs.specs.Verified.{Plan, IsClosed, IsPlanned, IsPlannedAfter, StaysKept}
+use Rattle.typed_runs.specs.Effects.{is_array_in}
+use Rattle.typed_runs.proofs.Arrays.{array-there, kind-there}
 use Rattle.typed_runs.proofs.Elements.{offset_some, with-bytes}
 use Rattle.typed_runs.proofs.Kept.{Keeps, describes-kept}
 use Rattle.standing_laws.specs.Around.{map_of, region_of, regions, element_number, key_length, value_length, elements_by, births, store_of}
@@ -68,6 +72,28 @@ also-before slot learnt r e = also-by (r == slot) (learnt r) e
 pub also-here : (slot : ℕ) (learnt : ℕ → Bool) → also slot learnt slot ≡ true
 also-here slot learnt = ap (λ b. if b then true else learnt slot) (eq-eqb slot slot refl)
 
+-- all maps are hash maps
+abbrev pub AreHash : List MapShape → Type 0
+AreHash shapes = (i : ℕ) (shape : MapShape) → slice_get shapes i ≡ Some shape → shape.kind ≡ Hash
+
+hash-array : (kind : MapKind) → kind ≡ Hash → kind ≡ Array → ⊥
+hash-array kind h a = let e : Hash ≡ Array = sym h ∙ a in absurd (cc)
+
+-- and none of them is an array
+pub none-array : (shapes : List MapShape) → AreHash shapes → (n : ℕ) (state : MapState) → slice_get (map new_map shapes) n ≡ Some state → state.shape.kind ≡ Array → ⊥
+none-array shapes hash n state at is =
+    let l : n < length (map new_map shapes) = slice_get_within (map new_map shapes) n state at in
+    let long : length (map new_map shapes) ≡ length shapes = length-map shapes new_map in
+    let x = get-below shapes n (omega (arith, l, long)) in
+    let same : new_map x.0 ≡ state = same_Some (new_map x.0) state (sym (get-map new_map shapes n x.0 x.1) ∙ at) in
+    hash-array x.0.kind (hash n x.0 x.1) (ap (λ (m : MapState). m.shape.kind) same ∙ is)
+
+pub not-array : (shapes : List MapShape) → AreHash shapes → (es : List Element) (run : Run) (index : ℕ) → IsArrayMap (scene_of (store_of shapes es) run) index → ⊥
+not-array shapes hash es run index a = let x = kind-there (map new_map shapes) a.number Array a.array in none-array shapes hash a.number x.0 x.1 x.2
+
+pub no-array : (shapes : List MapShape) → AreHash shapes → (index : ℕ) → is_array_in shapes index ≡ true → ⊥
+no-array shapes hash index e = let x = array-there shapes index e in hash-array x.0.kind (hash index x.0 x.1) x.2
+
 -- where an access to an element reaches
 pub record Reached (shapes : List MapShape) (n : ℕ) (o : ℤ) (width : ℕ) : Type 0 where
   pub below : n < births shapes
@@ -77,8 +103,8 @@ pub record Reached (shapes : List MapShape) (n : ℕ) (o : ℤ) (width : ℕ) : 
 abbrev pub none : ℕ → Bool
 none r = false
 
-module _ (code : List Insn) (shapes : List MapShape) (ctx_len : ℕ) (plan : Plan) (closed : IsClosed code shapes ctx_len plan) (run : Run) (x : IsDescribed code shapes ctx_len plan shapes run) (learnt : ℕ → Bool) (index : ℕ)
-    (p : IsPlanned code plan index (scene_of (learnt_elements shapes (section_of run) learnt) run) run.state) where
+module _ (code : List Insn) (shapes : List MapShape) (ctx_len : ℕ) (hash : AreHash shapes) (plan : Plan) (closed : IsClosed code shapes ctx_len plan) (run : Run) (x : IsDescribed code shapes ctx_len plan shapes run) (learnt : ℕ → Bool) (index : ℕ)
+    (p : IsPlanned code plan index (scene_of (store_of shapes (learnt_elements shapes (section_of run) learnt)) run) run.state) where
   abbrev sec : Section
   sec = section_of run
 
@@ -97,6 +123,7 @@ module _ (code : List Insn) (shapes : List MapShape) (ctx_len : ℕ) (plan : Pla
     key = λ n. length-replicate (key_length (slice_get shapes (map_of n))) 0;
     value = λ n. length-replicate (value_length (slice_get shapes (map_of n))) 0;
     bytes = λ n. zero-bytes (value_length (slice_get shapes (map_of n)));
+    arrays = λ n state at is. absurd (none-array shapes hash (map_of n) state at is);
   }
 
   single : (learnt : ℕ → Bool) → IsSingle (listed (learnt_element shapes sec learnt))
@@ -104,30 +131,30 @@ module _ (code : List Insn) (shapes : List MapShape) (ctx_len : ℕ) (plan : Pla
 
   -- the plan describes the run after a step, among what it has learnt then
   abbrev pub Planned : (ℕ → Bool) → Run → Type 0
-  Planned later new = (k : ℕ) × IsPlanned code plan k (scene_of (learnt_elements shapes (section_of new) later) new) new.state
+  Planned later new = (k : ℕ) × IsPlanned code plan k (scene_of (store_of shapes (learnt_elements shapes (section_of new) later)) new) new.state
 
   -- a step over some contents
-  stepped : (f : ℕ → Element) → IsContent shapes f → IsSingle (listed f) → Keeps (scene_of (listed base) run) (scene_of (listed f) run) → (i : Insn) → insn_at code run.state.place ≡ Some i → (es : List Element) (new : Run)
-      → InsnStep i (over f) (sec ∷ []) run Moved (store_of shapes es) new → new.exit ≡ None → (later : ℕ → Bool) → Keeps (scene_of es new) (scene_of (learnt_elements shapes (section_of new) later) new) → Planned later new
+  stepped : (f : ℕ → Element) → IsContent shapes f → IsSingle (listed f) → Keeps (scene_of (over base) run) (scene_of (over f) run) → (i : Insn) → insn_at code run.state.place ≡ Some i → (es : List Element) (new : Run)
+      → InsnStep i (over f) (sec ∷ []) run Moved (store_of shapes es) new → new.exit ≡ None → (later : ℕ → Bool) → Keeps (scene_of (store_of shapes es) new) (scene_of (store_of shapes (learnt_elements shapes (section_of new) later)) new) → Planned later new
   stepped f c one keeps i here es new step going later onward =
-      let before : IsPlanned code plan index (scene_of (listed f) run) run.state = record {
+      let before : IsPlanned code plan index (scene_of (over f) run) run.state = record {
         at = p.at;
         known = p.known;
         planned = p.planned;
-        describes = describes-kept (scene_of (listed base) run) (scene_of (listed f) run) keeps p.known run.state p.describes;
+        describes = describes-kept (scene_of (over base) run) (scene_of (over f) run) keeps p.known run.state p.describes;
       } in
       let l = closed.leads index i (over f) (sec ∷ []) run Moved (store_of shapes es) new (surrounds code shapes ctx_len plan closed shapes run x f c one) before here step in
-      let q : IsPlannedAfter code plan index (scene_of es new) new.state = l.1 going in (
+      let q : IsPlannedAfter code plan index (scene_of (store_of shapes es) new) new.state = l.1 going in (
         q.index,
         record {
           at = q.planned.at;
           known = q.planned.known;
           planned = q.planned.planned;
-          describes = describes-kept (scene_of es new) (scene_of (learnt_elements shapes (section_of new) later) new) onward q.planned.known new.state q.planned.describes;
+          describes = describes-kept (scene_of (store_of shapes es) new) (scene_of (store_of shapes (learnt_elements shapes (section_of new) later)) new) onward q.planned.known new.state q.planned.describes;
         },
       )
 
-  same-keeps : (es : List Element) (r : Run) → Keeps (scene_of es r) (scene_of es r)
+  same-keeps : (es : List Element) (r : Run) → Keeps (scene_of (store_of shapes es) r) (scene_of (store_of shapes es) r)
   same-keeps es r = record { held = λ map n h. h; depth = refl }
 
   -- a step that the run makes by itself
@@ -146,8 +173,8 @@ module _ (code : List Insn) (shapes : List MapShape) (ctx_len : ℕ) (plan : Pla
     Asked request = asks i (bound_shape shown run.program.maps) run.state ≡ Some request
 
     -- a reply that some contents give
-    replied : (f : ℕ → Element) → IsContent shapes f → IsSingle (listed f) → Keeps (scene_of (listed base) run) (scene_of (listed f) run) → (request : Request) → Asked request → (reply : Value) (es : List Element) (new : Run)
-        → ServesRequest run.program.maps request (over f) (sec ∷ []) reply (store_of shapes es) → Resumes request i reply run new → new.exit ≡ None → (later : ℕ → Bool) → Keeps (scene_of es new) (scene_of (learnt_elements shapes (section_of new) later) new) → Planned later new
+    replied : (f : ℕ → Element) → IsContent shapes f → IsSingle (listed f) → Keeps (scene_of (over base) run) (scene_of (over f) run) → (request : Request) → Asked request → (reply : Value) (es : List Element) (new : Run)
+        → ServesRequest run.program.maps request (over f) (sec ∷ []) reply (store_of shapes es) → Resumes request i reply run new → new.exit ≡ None → (later : ℕ → Bool) → Keeps (scene_of (store_of shapes es) new) (scene_of (store_of shapes (learnt_elements shapes (section_of new) later)) new) → Planned later new
     replied f c one keeps request asked reply es new serves resumes going later onward =
         stepped f c one keeps i here es new
         ((steps_by_request i (over f) (sec ∷ []) run Moved (store_of shapes es) new).1 (inr (record { request = request; reply = reply; asked = asked; served = serves; answer_is = refl; resumes = resumes }))) going later onward
@@ -161,6 +188,7 @@ module _ (code : List Insn) (shapes : List MapShape) (ctx_len : ℕ) (plan : Pla
           key = changed-all (λ k y. length y.key ≡ key_length (slice_get shapes (map_of k))) n e base key c.key;
           value = changed-all (λ k y. length y.value ≡ value_length (slice_get shapes (map_of k))) n e base value c.value;
           bytes = changed-all (λ k y. AreBytes y.value) n e base bytes c.bytes;
+          arrays = changed-all (λ k y. StaysKept (map new_map shapes) y) n e base (λ state at is. absurd (none-array shapes hash e.map state at is)) c.arrays;
         }
 
     special-guards : (n : ℕ) (e : Element) → e.map ≡ map_of n → (IsGuarded (base n).life sec → IsGuarded e.life sec) → Guards sec base (changed_at n e base)
@@ -200,9 +228,9 @@ module _ (code : List Insn) (shapes : List MapShape) (ctx_len : ℕ) (plan : Pla
         subst (Planned learnt) (sym is)
         (replied all (special-content n e refl (c.key n) (long ∙ c.value n) (with-bytes r.at width v zeros (c.bytes n)))
         (single-one (births shapes) all n (λ k l. absurd (unlinked-all n e refl k l)))
-        (keeps-by (births shapes) base all run (special-guards n e refl (λ g. (0, refl))))
+        (keeps-by shapes base all run (special-guards n e refl (λ g. (0, refl))))
         (LoadElement n o width) asked (Number v) (listed all) later (v, loads, refl, refl) refl (subst (λ (z : Run). z.exit ≡ None) is going) learnt
-        (keeps-by (births shapes) all base later (back-guards learnt n e refl known (λ j h. h))))
+        (keeps-by shapes all base later (back-guards learnt n e refl known (λ j h. h))))
 
     -- a store is made
     set-at : (n width : ℕ) (o : ℤ) (v : ℕ) (es : List Element) → n < births shapes → stored_in (listed base) n width o v (base n) ≡ Some es
@@ -229,7 +257,7 @@ module _ (code : List Insn) (shapes : List MapShape) (ctx_len : ℕ) (plan : Pla
         let later = moves run (resumed i Nothing run.state) in
         subst (Planned learnt) (sym is)
         (replied base (content learnt) (single learnt) (same-keeps (listed base) run) (StoreElement n o width v) asked Nothing es later (es, there, refl, refl) refl (subst (λ (z : Run). z.exit ≡ None) is going) learnt
-        (keeps-list (births shapes) es base later (set-at n width o v es r.below stores)))
+        (keeps-list shapes es base later (set-at n width o v es r.below stores)))
 
     -- a section opens, in which nothing is learnt yet
     pub enter-learnt : run.depth ≡ 0 → Asked Enter → (new : Run) → Resumes Enter i Nothing run new → new.exit ≡ None → Planned none new
@@ -237,9 +265,9 @@ module _ (code : List Insn) (shapes : List MapShape) (ctx_len : ℕ) (plan : Pla
         let empty = learnt_element shapes sec none in
         let later = moves (locked run) (resumed i Nothing run.state) in
         subst (Planned none) (sym h.1)
-        (replied empty (content none) (single none) (record { held = λ map n y. (let inside : 0 < run.depth = y.inside in absurd (omega (arith, inside, outside))); depth = refl })
+        (replied empty (content none) (single none) (record { held = λ map n y. elim y.allowed [ inl g ↦ (let inside : 0 < run.depth = g.0 in absurd (omega (arith, inside, outside))) | inr a ↦ absurd (not-array shapes hash (listed base) run map a) ]; depth = refl })
         Enter asked Nothing (listed empty) later (refl, refl) (h.0, refl) (subst (λ (z : Run). z.exit ≡ None) h.1 going) none
-        (keeps-by (births shapes) empty (learnt_element shapes (section_of later) none) later (record { same = λ k. refl; guard = λ k g. absurd g })))
+        (keeps-by shapes empty (learnt_element shapes (section_of later) none) later (record { same = λ k. refl; guard = λ k g. absurd g })))
 
     -- a lock inside it nests: what was learnt stays
     pub nest-learnt : 0 < run.depth → Asked Enter → (new : Run) → Resumes Enter i Nothing run new → new.exit ≡ None → Planned learnt new
@@ -248,7 +276,7 @@ module _ (code : List Insn) (shapes : List MapShape) (ctx_len : ℕ) (plan : Pla
         let same : section_of later ≡ sec = ap (λ (b : Bool). record { run = run.name; lock = if b then run.locks + 1 else run.locks }) (ne_eqb run.depth 0 (λ e. absurd (omega (arith, inside, e)))) in
         subst (Planned learnt) (sym h.1)
         (replied base (content learnt) (single learnt) (same-keeps (listed base) run) Enter asked Nothing (listed base) later (refl, refl) (h.0, refl) (subst (λ (z : Run). z.exit ≡ None) h.1 going) learnt
-        (subst (λ (s : Section). Keeps (scene_of (listed base) later) (scene_of (learnt_elements shapes s learnt) later)) (sym same) (same-keeps (listed base) later)))
+        (subst (λ (s : Section). Keeps (scene_of (over base) later) (scene_of (store_of shapes (learnt_elements shapes s learnt)) later)) (sym same) (same-keeps (listed base) later)))
 
     -- so does an unlock that is not the outermost
     pub unnest-learnt : 1 < run.depth → Asked Leave → (new : Run) → Resumes Leave i Nothing run new → new.exit ≡ None → Planned learnt new
@@ -265,7 +293,7 @@ module _ (code : List Insn) (shapes : List MapShape) (ctx_len : ℕ) (plan : Pla
         let outside : later.depth ≡ 0 = omega (arith, inside) in
         subst (Planned none) (sym h.1)
         (replied base (content learnt) (single learnt) (same-keeps (listed base) run) Leave asked Nothing (listed base) later (refl, refl) (h.0, refl) (subst (λ (z : Run). z.exit ≡ None) h.1 going) none
-        (record { held = λ map n y. (let d : 0 < later.depth = y.inside in absurd (omega (arith, d, outside))); depth = refl }))
+        (record { held = λ map n y. elim y.allowed [ inl g ↦ (let d : 0 < later.depth = g.0 in absurd (omega (arith, d, outside))) | inr a ↦ absurd (not-array shapes hash (listed base) later map a) ]; depth = refl }))
 
     -- a lookup finds nothing, or any slot, which is learnt
     abbrev Finding : ℕ → List ℕ → Request
@@ -301,5 +329,5 @@ module _ (code : List Insn) (shapes : List MapShape) (ctx_len : ℕ) (plan : Pla
         subst (Planned (also region learnt)) (sym is)
         (replied all (special-content n e refl (long ∙ ap (λ k. key_length (slice_get shapes k)) (sym of_map)) (c.value n) (c.bytes n))
         (single-one (births shapes) all n (linked-at n e base (λ k l. never-linked (learnt (region_of k)) sec l)))
-        (keeps-by (births shapes) base all run (special-guards n e refl (λ g. tt))) (Finding i' key) asked reply (listed all) later (map, Some n, bound, found, refl, refl) refl (subst (λ (z : Run). z.exit ≡ None) is going) (also region learnt)
-        (keeps-by (births shapes) all (learnt_element shapes sec (also region learnt)) later (back-guards (also region learnt) n e refl (subst (λ r. also region learnt r ≡ true) (sym of_region) (also-here region learnt)) (also-before region learnt))))
+        (keeps-by shapes base all run (special-guards n e refl (λ g. tt))) (Finding i' key) asked reply (listed all) later (map, Some n, bound, found, refl, refl) refl (subst (λ (z : Run). z.exit ≡ None) is going) (also region learnt)
+        (keeps-by shapes all (learnt_element shapes sec (also region learnt)) later (back-guards (also region learnt) n e refl (subst (λ r. also region learnt r ≡ true) (sym of_region) (also-here region learnt)) (also-before region learnt))))

@@ -44,7 +44,7 @@ use Rattle.table_rule.specs.History.{IsLearnt, inside}
 use Rattle.shared_runs.specs.Sharing.{ExitsShared, GoesFurther, IsSharing, flag_of}
 use Rattle.shared_runs.specs.SharedRuns.{Comes, IsSharedRun, Replies, itself, shared}
 use Rattle.shared_runs.specs.Words.{loaded_of}
-use Rattle.shared_runs.proofs.Learning.{Planned, alone-learnt}
+use Rattle.shared_runs.proofs.Learning.{AreHash, Planned, alone-learnt}
 
 -- the shapes of the maps of the program's list, as the laws of a run's own maps have them
 shape-in : (shapes : List MapShape) (i : ℕ) → slice_get shapes i ≡ bound_shape (store_of shapes []) (range_with_len 0 (length shapes)) i
@@ -92,6 +92,9 @@ ends-asks n e = absurd (cc)
 module _ (k : TableShape) (c : Checked) (context : List ℕ) (ms : List Move) (v : RunView) (x : IsSharing k c context ms v) where
   abbrev pub run : Run
   run = x.run
+
+  pub are-hash : AreHash c.shapes
+  are-hash i shape at = (x.fits i shape at).2
 
   abbrev pub sec : Section
   sec = section_of run
@@ -157,7 +160,7 @@ module _ (k : TableShape) (c : Checked) (context : List ℕ) (ms : List Move) (v
 
   -- what is planned of the next run
   abbrev pub NextPlanned : (ℕ → Bool) → Run → Type 0
-  NextPlanned later new = Planned c.program c.shapes c.ctx_len some.plan some.closed run shown.described x.learnt x.index x.planned later new
+  NextPlanned later new = Planned c.program c.shapes c.ctx_len are-hash some.plan some.closed run shown.described x.learnt x.index x.planned later new
 
   -- the run and its words go on
   pub onward : (ns : List Move) (next : Run) (u : RunView) (later : ℕ → Bool) → ((plan : Plan) → IsClosed c.program c.shapes c.ctx_len plan → Shows plan next u) → next.program ≡ run.program → next.moved ≡ run.moved + 1
@@ -195,7 +198,7 @@ module _ (k : TableShape) (c : Checked) (context : List ℕ) (ms : List Move) (v
   moved-to i (Moves next) new here e is d =
       onward ms (moves_run run next) new x.learnt
       (λ plan closed. goes-alone c.program c.shapes c.ctx_len plan (ready plan closed) c.shapes run v (x.shown plan closed) i next new here e is) refl refl
-      (alone-learnt c.program c.shapes c.ctx_len some.plan some.closed run shown.described x.learnt x.index x.planned i next here e shown.described.going)
+      (alone-learnt c.program c.shapes c.ctx_len are-hash some.plan some.closed run shown.described x.learnt x.index x.planned i next here e shown.described.going)
       (itself ms v.moved run (moves_run run next) x.came (record { insn = i; here = in-program i here; out = Moves next; does = e; leads = (refl, refl) }))
       x.known (x.section ∙ ap flag_of depth-is)
   moved-to i (Exits n) new here e is d = absurd d

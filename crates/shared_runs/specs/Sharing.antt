@@ -7,6 +7,7 @@ use Rattle.bpf_model.specs.View.{RunView}
 use Rattle.bpf_model.specs.Word.{most_map_slots}
 use Rattle.typed_runs.specs.Describes.{scene_of}
 use Rattle.typed_runs.specs.Verified.{IsClosed, IsPlanned, Plan}
+use Rattle.standing_laws.specs.Around.{store_of}
 use Rattle.standing_laws.specs.Described.{IsShownBy}
 use Rattle.verifier.specs.Checked.{Checked}
 use Rattle.verifier.specs.Verdict.{IsJustified}
@@ -37,7 +38,8 @@ pub record IsSharing (k : TableShape) (c : Checked) (context : List ℕ) (ms : L
   pub known : (slot : ℕ) → learnt slot ≡ true → (slot < k.slots) × IsLearnt slot ms
   pub index : ℕ
   pub planned : IsPlanned c.program justified.plan index
-      (scene_of (learnt_elements c.shapes (section_of run) learnt) run) run.state
+      (scene_of (store_of c.shapes (learnt_elements c.shapes (section_of run) learnt)) run)
+      run.state
   pub came : Comes k c.shapes (fresh_run 0 (loaded_of c) context) ms v.moved run
   pub section : inside ms ≡ flag_of v.depth
 

@@ -5,6 +5,7 @@ use Rattle.bpf_model.specs.declared.call.Helper.TheVariants.{Update, Delete}
 use Rattle.bpf_model.specs.declared.insn.CallKind.TheVariants as kinds
 use Rattle.bpf_model.specs.declared.insn.Insn.{Insn}
 use Rattle.bpf_model.specs.declared.insn.Insn.TheVariants.{Call, Load, LoadSigned, Store}
+use Rattle.bpf_model.specs.declared.limits.MapKind.TheVariants.{Hash}
 use Rattle.bpf_model.specs.declared.limits.MapShape.{MapShape}
 use Rattle.bpf_model.specs.Access.{byte_count, unsigned_width}
 use Rattle.bpf_model.specs.Call.{helper_of}
@@ -58,7 +59,8 @@ pub record UsesSubWords (c : Checked) : Type 0 where
   pub there : slice_get c.program index ≡ Some insn
   pub uses : IsSubWordAccess c index insn ⊎ ChangesMap insn
 
--- each map of the program has the table's lengths
+-- each map of the program is a hash map of the table's lengths
 abbrev pub FitsTable : TableShape → List MapShape → Type 0
 FitsTable k shapes = (i : ℕ) (shape : MapShape) → slice_get shapes i ≡ Some shape →
     (shape.key_len ≡ 8 * k.key_words) × (shape.value_len ≡ 8 * k.value_words)
+    × (shape.kind ≡ Hash)

@@ -1,7 +1,7 @@
 //! Worlds and jobs for the tests.
 
 use arrayvec::ArrayVec;
-use bpf_model::{CtxBytes, Event, KeyBytes, MapId, MapShape, ProgId, RunId, array_of};
+use bpf_model::{CtxBytes, Event, KeyBytes, MapId, MapKind, MapShape, ProgId, RunId, array_of};
 use insn_codec::decode;
 use maps::Registry;
 use shared::Workers;
@@ -47,6 +47,7 @@ const fn lookup(key: u8) -> [u8; 104] {
 
 /// Keys of 4 bytes, values of 8, 4 elements and 4 further map slots, each used a hundred times at most.
 const SHAPE: MapShape = MapShape {
+    kind: MapKind::Hash,
     key_len: 4,
     value_len: 8,
     entries: 4,
@@ -56,6 +57,7 @@ const SHAPE: MapShape = MapShape {
 
 /// The same with values of 16 bytes.
 const WIDE_SHAPE: MapShape = MapShape {
+    kind: MapKind::Hash,
     key_len: 4,
     value_len: 16,
     entries: 4,

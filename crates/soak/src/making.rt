@@ -5,7 +5,7 @@ ghost use Rattle.bpf_model.specs.View.{AreNewMaps};
 use anyhow::{Result, bail};
 use arrayvec::ArrayVec;
 use asm::assemble;
-use bpf_model::MapShape;
+use bpf_model::{MapKind, MapShape};
 use maps::Registry;
 use std::alloc::Global;
 use verifier::verify;
@@ -97,6 +97,7 @@ fn text_of(kind: usize) -> &'static str {
 fn shape_of(map: usize) -> MapShape {
     let few = map % 4;
     MapShape {
+        kind: MapKind::Hash,
         key_len: 4,
         value_len: 8,
         entries: 4 + few,

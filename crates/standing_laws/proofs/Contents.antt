@@ -1,5 +1,5 @@
 -- Elements by a function of their numbers: what stands around a run, as far as it can tell.
-use Rattle.std.proofs.Common.{◌≡◌, ℕ, ◌+◌, ◌<◌, refl, sym, ap, subst, ◌∙◌, arith, List, [], ◌∷◌, length, map, replicate, Option, Some, None, Bool, true, false}
+use Rattle.std.proofs.Common.{◌≡◌, ℕ, ◌+◌, ◌<◌, refl, sym, ap, subst, ◌∙◌, arith, inl, inr, List, [], ◌∷◌, length, map, replicate, Option, Some, None, Bool, true, false}
 use Rattle.std.specs.Prelude.{slice_get, ◌==◌, if◌then◌else◌}
 use Rattle.std.specs.List.{range_with_len}
 use Rattle.std.proofs.lemmas.Option.{none-some, same_Some, slice_get_within, slice_get-get_or}
@@ -15,9 +15,11 @@ use Rattle.bpf_model.specs.Machine.{Run, section_of}
 use Rattle.bpf_model.specs.MapState.{new_map}
 use Rattle.bpf_model.specs.Section.{Section}
 use Rattle.bpf_model.proofs.Lists.{get-map, get-replicate, get-below}
-use Rattle.typed_runs.specs.Describes.{scene_of, IsGuarded}
+use Rattle.typed_runs.specs.Describes.{Scene, scene_of, IsArrayMap, IsGuarded}
+use Rattle.typed_runs.specs.Verified.{StaysKept}
+use Rattle.typed_runs.proofs.Arrays.{AllStayKept}
 use Rattle.typed_runs.proofs.Kept.{Keeps}
-use Rattle.standing_laws.specs.Around.{map_of, key_length, value_length, element_of, elements_by, births}
+use Rattle.standing_laws.specs.Around.{map_of, key_length, value_length, element_of, elements_by, births, store_of}
 
 pub get-range : (count n : ℕ) → n < count → slice_get (range_with_len 0 count) n ≡ Some n
 get-range count n l =
@@ -39,6 +41,7 @@ pub record IsContent (around : List MapShape) (f : ℕ → Element) : Type 0 whe
   pub key : (n : ℕ) → length (f n).key ≡ key_length (slice_get around (map_of n))
   pub value : (n : ℕ) → length (f n).value ≡ value_length (slice_get around (map_of n))
   pub bytes : (n : ℕ) → AreBytes (f n).value
+  pub arrays : (n : ℕ) → StaysKept (map new_map around) (f n)
 
 pub zero-bytes : (n : ℕ) → AreBytes (replicate n 0)
 zero-bytes n k b at = let e : b ≡ 0 = get-replicate n k 0 b at in omega (arith, e)
@@ -49,6 +52,7 @@ plain-content around section = record {
   key = λ n. length-replicate (key_length (slice_get around (map_of n))) 0;
   value = λ n. length-replicate (value_length (slice_get around (map_of n))) 0;
   bytes = λ n. zero-bytes (value_length (slice_get around (map_of n)));
+  arrays = λ n state at is. refl;
 }
 
 pub map-below : (around : List MapShape) (n : ℕ) → n < births around → map_of n < length around
@@ -65,6 +69,9 @@ module _ (around : List MapShape) (f : ℕ → Element) (c : IsContent around f)
         c.key n ∙ ap key_length shape.1,
         c.value n ∙ ap value_length shape.1,
       )
+
+  pub all-kept : AllStayKept (store_of around (elements_by (births around) f))
+  all-kept n e at = subst (StaysKept (map new_map around)) (by-is (births around) f n e at) (c.arrays n)
 
   pub all-bytes : AllBytes (elements_by (births around) f)
   all-bytes n e at = subst (λ (e : Element). AreBytes e.value) (by-is (births around) f n e at) (c.bytes n)
@@ -84,32 +91,41 @@ pub record Guards (section : Section) (f g : ℕ → Element) : Type 0 where
   pub same : (n : ℕ) → (g n).map ≡ (f n).map
   pub guard : (n : ℕ) → IsGuarded (f n).life section → IsGuarded (g n).life section
 
-pub keeps-by : (count : ℕ) (f g : ℕ → Element) (run : Run) → Guards (section_of run) f g → Keeps (scene_of (elements_by count f) run) (scene_of (elements_by count g) run)
-keeps-by count f g run h = record {
+-- the maps are the same ones, whatever stands in them
+same-array : (around : List MapShape) (es fs : List Element) (run : Run) (map : ℕ) → IsArrayMap (scene_of (store_of around es) run) map → IsArrayMap (scene_of (store_of around fs) run) map
+same-array around es fs run map a = record { number = a.number; listed = a.listed; array = a.array }
+
+pub keeps-by : (around : List MapShape) (f g : ℕ → Element) (run : Run) → Guards (section_of run) f g → Keeps (scene_of (store_of around (elements_by (births around) f)) run) (scene_of (store_of around (elements_by (births around) g)) run)
+keeps-by around f g run h = record {
   held = λ map n x. (
+      let count = births around in
       let is = by-is count f n x.element x.born in
       record {
-        inside = x.inside;
         element = g n;
         born = get-by count g n (by-below count f n x.element x.born);
         in_map = x.in_map ∙ ap Some (ap (λ (e : Element). e.map) (sym is) ∙ sym (h.same n));
-        guarded = h.guard n (subst (λ (e : Element). IsGuarded e.life (section_of run)) (sym is) x.guarded);
+        allowed = elim x.allowed [
+          | inl y ↦ inl (y.0, h.guard n (subst (λ (e : Element). IsGuarded e.life (section_of run)) (sym is) y.1))
+          | inr a ↦ inr (same-array around (elements_by count f) (elements_by count g) run map a)
+        ];
       });
   depth = refl;
 }
 
 -- the same, for any list of elements
-pub keeps-list : (count : ℕ) (es : List Element) (g : ℕ → Element) (run : Run) → ((k : ℕ) (e : Element) → slice_get es k ≡ Some e → (k < count) × ((g k).map ≡ e.map) × (IsGuarded e.life (section_of run) → IsGuarded (g k).life (section_of run)))
-    → Keeps (scene_of es run) (scene_of (elements_by count g) run)
-keeps-list count es g run h = record {
+pub keeps-list : (around : List MapShape) (es : List Element) (g : ℕ → Element) (run : Run) → ((k : ℕ) (e : Element) → slice_get es k ≡ Some e → (k < births around) × ((g k).map ≡ e.map) × (IsGuarded e.life (section_of run) → IsGuarded (g k).life (section_of run)))
+    → Keeps (scene_of (store_of around es) run) (scene_of (store_of around (elements_by (births around) g)) run)
+keeps-list around es g run h = record {
   held = λ map n x. (
       let y = h n x.element x.born in
       record {
-        inside = x.inside;
         element = g n;
-        born = get-by count g n y.0;
+        born = get-by (births around) g n y.0;
         in_map = x.in_map ∙ ap Some (sym y.1);
-        guarded = y.2 x.guarded;
+        allowed = elim x.allowed [
+          | inl z ↦ inl (z.0, y.2 z.1)
+          | inr a ↦ inr (same-array around es (elements_by (births around) g) run map a)
+        ];
       });
   depth = refl;
 }

@@ -19,7 +19,7 @@ use Rattle.typed_runs.proofs.Kept.{Keeps, describes-kept}
 use Rattle.typed_runs.proofs.Reaching.{same-insn}
 use Rattle.standing_laws.specs.Around.{element_of, elements_by, births, elements_around, store_of}
 use Rattle.standing_laws.specs.Described.{IsDescribed}
-use Rattle.standing_laws.proofs.Contents.{IsContent, plain-content, lengths, all-bytes, single-one, life-unlinked, Guards, keeps-by}
+use Rattle.standing_laws.proofs.Contents.{IsContent, plain-content, lengths, all-bytes, all-kept, single-one, life-unlinked, Guards, keeps-by}
 
 module _ (code : List Insn) (shapes : List MapShape) (ctx_len : ℕ) (plan : Plan) (closed : IsClosed code shapes ctx_len plan) (around : List MapShape) where
   abbrev pub Described : Run → Type 0
@@ -34,7 +34,7 @@ module _ (code : List Insn) (shapes : List MapShape) (ctx_len : ℕ) (plan : Pla
         long = long;
         context = bytes;
         index = 0;
-        planned = closed.start (scene_of (elements_around around (section_of run)) run) refl;
+        planned = closed.start (scene_of (store_of around (elements_around around (section_of run))) run) refl;
       }
 
   module _ (run : Run) (x : Described run) where
@@ -54,18 +54,19 @@ module _ (code : List Insn) (shapes : List MapShape) (ctx_len : ℕ) (plan : Pla
       section = λ inside. (0, refl);
       single = single;
       lengths = lengths around f c;
+      arrays = all-kept around f c;
       bytes = all-bytes around f c;
       bound = x.bound;
       long = x.long;
       context = x.context;
     }
 
-    pub planned : (f : ℕ → Element) → Guards section plain f → IsPlanned code plan x.index (scene_of (elements_by (births around) f) run) run.state
+    pub planned : (f : ℕ → Element) → Guards section plain f → IsPlanned code plan x.index (scene_of (with_content f) run) run.state
     planned f g = record {
       at = x.planned.at;
       known = x.planned.known;
       planned = x.planned.planned;
-      describes = describes-kept (scene_of (elements_by (births around) plain) run) (scene_of (elements_by (births around) f) run) (keeps-by (births around) plain f run g) x.planned.known run.state x.planned.describes;
+      describes = describes-kept (scene_of (with_content plain) run) (scene_of (with_content f) run) (keeps-by around plain f run g) x.planned.known run.state x.planned.describes;
     }
 
     pub plain-single : IsSingle (elements_by (births around) plain)
@@ -76,7 +77,7 @@ module _ (code : List Insn) (shapes : List MapShape) (ctx_len : ℕ) (plan : Pla
 
     -- a step over some contents
     pub stepped : (f : ℕ → Element) → IsContent around f → IsSingle (elements_by (births around) f) → Guards section plain f → (i : Insn) → insn_at code run.state.place ≡ Some i → (es : List Element) (new : Run)
-        → InsnStep i (with_content f) (section ∷ []) run Moved (store_of around es) new → Keeps (scene_of es new) (scene_of (elements_around around (section_of new)) new) → Described new
+        → InsnStep i (with_content f) (section ∷ []) run Moved (store_of around es) new → Keeps (scene_of (store_of around es) new) (scene_of (store_of around (elements_around around (section_of new))) new) → Described new
     stepped f c single g i here es new step keeps =
         let same = same-insn i (with_content f) (section ∷ []) run Moved (store_of around es) new step in
         let going : new.exit ≡ None = elim same.moved [
@@ -84,7 +85,7 @@ module _ (code : List Insn) (shapes : List MapShape) (ctx_len : ℕ) (plan : Pla
           | inr y ↦ absurd (omega (arith, y, same.counts))
         ] in
         let l = closed.leads x.index i (with_content f) (section ∷ []) run Moved (store_of around es) new (surrounds f c single) (planned f g) here step in
-        let p : IsPlannedAfter code plan x.index (scene_of es new) new.state = l.1 going in
+        let p : IsPlannedAfter code plan x.index (scene_of (store_of around es) new) new.state = l.1 going in
         record {
           going = going;
           bound = subst (λ (q : Loaded). AreMapsBound shapes q.maps (map new_map around)) (sym same.program) x.bound;
@@ -95,7 +96,7 @@ module _ (code : List Insn) (shapes : List MapShape) (ctx_len : ℕ) (plan : Pla
             at = p.planned.at;
             known = p.planned.known;
             planned = p.planned.planned;
-            describes = describes-kept (scene_of es new) (scene_of (elements_around around (section_of new)) new) keeps p.planned.known new.state p.planned.describes;
+            describes = describes-kept (scene_of (store_of around es) new) (scene_of (store_of around (elements_around around (section_of new))) new) keeps p.planned.known new.state p.planned.describes;
           };
         }
 

@@ -1,9 +1,10 @@
 -- Each element that may be accessed is given the number of its map and its region; a reference to any other is forgotten. The run that is left stands for the same words, and what described it does so still.
-use Rattle.std.proofs.Common.{◌≡◌, ℕ, ◌-◌, ◌*◌, ◌/◌, ◌%◌, ◌^◌, ◌<◌, refl, sym, ap, subst, ◌∙◌, arith, List, length, map, Option, Some, None}
+use Rattle.std.proofs.Common.{◌≡◌, ℕ, inl, inr, ◌-◌, ◌*◌, ◌/◌, ◌%◌, ◌^◌, ◌<◌, refl, sym, ap, subst, ◌∙◌, arith, List, length, map, Option, Some, None}
 use Rattle.std.specs.Prelude.{slice_index, ℤ, pos, ◌+ℤ◌}
 use Rattle.std.proofs.lemmas.Option.{none-some, same_Some, slice_get_within}
 use Rattle.std.proofs.lemmas.List.{length-map}
 use Rattle.bpf_model.specs.declared.insn.Insn.{Insn}
+use Rattle.bpf_model.specs.declared.limits.MapKind.TheVariants.{Array}
 use Rattle.bpf_model.specs.declared.limits.MapShape.{MapShape}
 use Rattle.bpf_model.specs.declared.value.Cell.{Cell}
 use Rattle.bpf_model.specs.declared.value.Cell.TheVariants.{Unwritten, Byte, Part}
@@ -23,10 +24,11 @@ use Rattle.bpf_model.specs.Word.{WordIs, ByteIs}
 use Rattle.bpf_model.proofs.Lists.{get-map}
 use Rattle.model_laws.proofs.Computations.{first-step, then-step}
 use Rattle.typed_runs.specs.Kinds.{Kind, Blank, Mixed, Ended, Num, CtxAt, FrameAt, MapAt, ValueAt, MaybeNull, CellKind, BlankCell, MixedCell, EndedCell, ByteCell, PartCell, AbsState}
-use Rattle.typed_runs.specs.Describes.{Scene, scene_of, IsHeld, Naming, IsNullOrHeld, IsOf, Stored, IsOfCell, Describes, part_of}
+use Rattle.typed_runs.specs.Describes.{Scene, scene_of, IsArrayMap, IsHeld, Naming, IsNullOrHeld, IsOf, Stored, IsOfCell, Describes, part_of}
 use Rattle.typed_runs.specs.Verified.{AreMapsBound, IsClosed, Plan}
+use Rattle.typed_runs.proofs.Arrays.{kind-there, there-kind}
 use Rattle.typed_runs.proofs.Elements.{accessible-held}
-use Rattle.standing_laws.specs.Around.{regions, region_word, map_of, element_number, element_of, births, elements_around}
+use Rattle.standing_laws.specs.Around.{regions, region_word, map_of, element_number, element_of, births, elements_around, store_of}
 use Rattle.standing_laws.specs.Standing.{AreWords, IsSlotWord, IsNumbered, StandFor}
 use Rattle.standing_laws.specs.Described.{IsShownBy, region_bases}
 use Rattle.standing_laws.proofs.Contents.{get-by}
@@ -256,9 +258,20 @@ module _ (code : List Insn) (shapes : List MapShape) (ctx_len : ℕ) (v : RunVie
       let z = region-of-slot (h.bases n) (h.lie n f.0 f.1) in
       ap region_bases (sym (same_Some (element_number f.0.map (region_at (h.bases n))) k f.2)) ∙ number-region f.0.map (region_at (h.bases n)) z.0 ∙ z.1
 
-  given-held : (map n : ℕ) → IsHeld (scene_of es h.run) map n → (k : ℕ) × (given n ≡ Some k) × IsHeld (scene_of (elements_around around (section_of bare)) bare) map k
+  -- an array stays one
+  array-around : (map : ℕ) → IsArrayMap (scene_of h.store h.run) map → IsArrayMap (scene_of (store_of around (elements_around around (section_of bare))) bare) map
+  array-around index a =
+      let x = kind-there h.store.maps a.number Array a.array in
+      let shape = get-map (λ (m : MapState). m.shape) h.store.maps a.number x.0 x.1 in
+      record {
+        number = a.number;
+        listed = a.listed;
+        array = there-kind (map new_map around) a.number (new_map x.0.shape) Array (get-map new_map around a.number x.0.shape shape) x.2;
+      }
+
+  given-held : (map n : ℕ) → IsHeld (scene_of h.store h.run) map n → (k : ℕ) × (given n ≡ Some k) × IsHeld (scene_of (store_of around (elements_around around (section_of bare))) bare) map k
   given-held map n x =
-      let reached = accessible-held (scene_of es h.run) map n x in
+      let reached = accessible-held h.store h.run map n h.surrounds.arrays x in
       let z = region-of-slot (h.bases n) (h.lie n x.element reached) in
       let k = element_number x.element.map (region_at (h.bases n)) in
       let l = h.surrounds.lengths n x.element x.born in
@@ -267,11 +280,10 @@ module _ (code : List Insn) (shapes : List MapShape) (ctx_len : ℕ) (v : RunVie
         k,
         then-step (accessible es n) (λ e. Some (element_number e.map (region_at (h.bases n)))) x.element reached,
         record {
-          inside = x.inside;
           element = element_of around (section_of bare) k;
           born = get-by (births around) (element_of around (section_of bare)) k (number-below x.element.map (region_at (h.bases n)) (length around) z.0 (omega (arith, below, same)));
           in_map = x.in_map ∙ ap Some (sym (number-map x.element.map (region_at (h.bases n)) z.0));
-          guarded = (0, refl);
+          allowed = elim x.allowed [ inl g ↦ inl (g.0, (0, refl)) | inr a ↦ inr (array-around map a) ];
         },
       )
 
@@ -289,7 +301,7 @@ module _ (code : List Insn) (shapes : List MapShape) (ctx_len : ℕ) (v : RunVie
             at = p.1.at;
             known = p.1.known;
             planned = p.1.planned;
-            describes = describes-erased given (scene_of es h.run) (scene_of (elements_around around (section_of bare)) bare) refl given-held p.1.known h.run.state p.1.describes;
+            describes = describes-erased given (scene_of h.store h.run) (scene_of (store_of around (elements_around around (section_of bare))) bare) refl given-held p.1.known h.run.state p.1.describes;
           };
         };
         numbered = (λ r. numbered-value given (h.run.state.regs r) (h.numbered.0 r), λ k. numbered-cell given (h.run.state.frame k) (h.numbered.1 k));

@@ -1,5 +1,5 @@
 -- Whatever may be replied to what a run asks, the plan describes the run that goes on with it.
-use Rattle.std.proofs.Common.{◌≡◌, ℕ, ◌+◌, ◌^◌, ◌<◌, ◌≤◌, ◌⊎◌, inl, inr, refl, sym, ap, subst, ◌∙◌, arith, List, [], ◌∷◌, length, map, Option, Some, None}
+use Rattle.std.proofs.Common.{◌≡◌, ℕ, ◌+◌, ◌^◌, ◌<◌, ◌≤◌, ◌⊎◌, inl, inr, refl, sym, ap, subst, ◌∙◌, arith, List, [], ◌∷◌, length, map, Option, Some, None, false}
 use Rattle.std.specs.Prelude.{slice_get, slice_set, ℤ, pos}
 use Rattle.std.proofs.lemmas.Option.{none-some, same_Some}
 use Rattle.bpf_model.specs.declared.call.Helper.TheVariants.{Lookup}
@@ -12,11 +12,11 @@ use Rattle.bpf_model.specs.declared.value.Value.TheVariants.{Nothing, Number, Po
 use Rattle.bpf_model.specs.declared.value.Reference.TheVariants.{Elem}
 use Rattle.bpf_model.specs.Access.{region_offset, number_at}
 use Rattle.bpf_model.specs.Consistent.{IsSingle}
-use Rattle.bpf_model.specs.Element.{Element, Linked, Unlinked, IsLinkedAt, IsAbsent, accessible, changed, set_to, with_value}
+use Rattle.bpf_model.specs.Element.{Element, Linked, Unlinked, IsLinkedAt, IsAbsent, accessible, changed, is_reclaimed, set_to, with_value}
 use Rattle.bpf_model.specs.Event.{AreBytes}
 use Rattle.bpf_model.specs.Machine.{Run, environment, locked, moves, section_of, unlocked}
 use Rattle.bpf_model.specs.MachineStep.{InsnStep, loaded_from, stored_in, with_bytes}
-use Rattle.bpf_model.specs.MapState.{Store}
+use Rattle.bpf_model.specs.MapState.{Store, new_map}
 use Rattle.bpf_model.specs.Request.{Request, LoadElement, StoreElement, CallHelper, Enter, Leave, MapArgument, BytesArgument, StepsAlone, StepsServed, ServesRequest, Resumes, asks, bound_shape, resumed}
 use Rattle.bpf_model.specs.Section.{Section}
 use Rattle.bpf_model.specs.Step.{insn_at}
@@ -26,7 +26,7 @@ use Rattle.bpf_model.proofs.Lists.{get-set_cases}
 use Rattle.model_laws.proofs.Computations.{first-step}
 use Rattle.model_laws.proofs.Requests.{asks_or_acts, steps_by_request}
 use Rattle.typed_runs.specs.Describes.{scene_of, IsGuarded}
-use Rattle.typed_runs.specs.Verified.{Plan, IsClosed}
+use Rattle.typed_runs.specs.Verified.{Plan, IsClosed, StaysKept}
 use Rattle.typed_runs.proofs.Elements.{offset_some, with-bytes}
 use Rattle.typed_runs.proofs.Kept.{Keeps}
 use Rattle.standing_laws.specs.Around.{map_of, regions, element_number, key_length, value_length, element_of, elements_by, births, elements_around, store_of}
@@ -91,20 +91,21 @@ module _ (code : List Insn) (shapes : List MapShape) (ctx_len : ℕ) (plan : Pla
 
     -- a reply that some contents give
     replied : (f : ℕ → Element) → IsContent around f → IsSingle (elements_by (births around) f) → Guards sec base f → (reply : Value) (es : List Element) (new : Run) → ServesRequest run.program.maps request (over f) (sec ∷ []) reply (store_of around es) → Resumes request i reply run new
-        → Keeps (scene_of es new) (scene_of (elements_around around (section_of new)) new) → Goal new
+        → Keeps (scene_of (store_of around es) new) (scene_of (store_of around (elements_around around (section_of new))) new) → Goal new
     replied f c single g reply es new serves resumes keeps =
         stepped code shapes ctx_len plan closed around run x f c single g i here es new
         ((steps_by_request i (over f) (sec ∷ []) run Moved (store_of around es) new).1 (inr (record { request = request; reply = reply; asked = asked; served = serves; answer_is = refl; resumes = resumes }))) keeps
 
   -- other contents at one number
-  special-content : (n : ℕ) (e : Element) → e.map ≡ map_of n → length e.key ≡ key_length (slice_get around (map_of n)) → length e.value ≡ value_length (slice_get around (map_of n)) → AreBytes e.value → IsContent around (changed_at n e base)
-  special-content n e in_map key value bytes =
+  special-content : (n : ℕ) (e : Element) → e.map ≡ map_of n → length e.key ≡ key_length (slice_get around (map_of n)) → length e.value ≡ value_length (slice_get around (map_of n)) → AreBytes e.value → is_reclaimed e.life ≡ false → IsContent around (changed_at n e base)
+  special-content n e in_map key value bytes kept =
       let c = plain-content around sec in
       record {
         in_map = changed-all (λ k y. y.map ≡ map_of k) n e base in_map c.in_map;
         key = changed-all (λ k y. length y.key ≡ key_length (slice_get around (map_of k))) n e base key c.key;
         value = changed-all (λ k y. length y.value ≡ value_length (slice_get around (map_of k))) n e base value c.value;
         bytes = changed-all (λ k y. AreBytes y.value) n e base bytes c.bytes;
+        arrays = changed-all (λ k y. StaysKept (map new_map around) y) n e base (λ state at is. kept) c.arrays;
       }
 
   special-guards : (n : ℕ) (e : Element) → e.map ≡ map_of n → (IsGuarded (base n).life sec → IsGuarded e.life sec) → Guards sec base (changed_at n e base)
@@ -143,11 +144,11 @@ module _ (code : List Insn) (shapes : List MapShape) (ctx_len : ℕ) (plan : Pla
         let loads : (accessible (elements_by (births around) all) n >>= loaded_from width o) ≡ Some v =
         ap (λ y. y >>= loaded_from width o) (touch (births around) all n e t.below (changed-here n e base) refl)
         ∙ ap (λ r. r >>= λ at. number_at (slice_get e.value) at width) region ∙ number-back width g.0 v zeros inside small in
-        let content = special-content n e refl (c.key n) (long ∙ c.value n) (with-bytes g.0 width v zeros (c.bytes n)) in
+        let content = special-content n e refl (c.key n) (long ∙ c.value n) (with-bytes g.0 width v zeros (c.bytes n)) refl in
         subst (Goal) (sym is)
         (replied i here (LoadElement n o width) asked all content (single-one (births around) all n (λ k l. absurd (life-unlinked sec (sym (changed-all (λ j y. y.life ≡ Unlinked (sec ∷ [])) n e base refl (λ j. refl) k) ∙ l))))
         (special-guards n e refl (λ y. y)) (Number v) (elements_by (births around) all) (moves run (resumed i (Number v) run.state)) (v, loads, refl, refl) refl
-        (keeps-by (births around) all base (moves run (resumed i (Number v) run.state)) (back-guards n e refl)))
+        (keeps-by around all base (moves run (resumed i (Number v) run.state)) (back-guards n e refl)))
 
     -- a store is made
     set-at : (n width : ℕ) (o : ℤ) (v : ℕ) (y : Element) (es : List Element) → Touched around sec n y → stored_in (elements_by (births around) base) n width o v y ≡ Some es
@@ -170,7 +171,7 @@ module _ (code : List Insn) (shapes : List MapShape) (ctx_len : ℕ) (plan : Pla
         let t = touched around sec n f.0 f.1 in
         subst (Goal) (sym is)
         (replied i here (StoreElement n o width v) asked base (plain-content around sec) (plain-single code shapes ctx_len plan closed around run x) (plain-guards code shapes ctx_len plan closed around run x) Nothing h.0 (moves run (resumed i Nothing run.state)) (h.0, h.1, refl, refl) refl
-        (keeps-list (births around) h.0 base (moves run (resumed i Nothing run.state)) (set-at n width o v f.0 h.0 t f.2)))
+        (keeps-list around h.0 base (moves run (resumed i Nothing run.state)) (set-at n width o v f.0 h.0 t f.2)))
 
     -- a section opens, or ends
     pub enter-replied : Asked Enter → (new : Run) → Resumes Enter i Nothing run new → Goal new
@@ -178,14 +179,14 @@ module _ (code : List Insn) (shapes : List MapShape) (ctx_len : ℕ) (plan : Pla
         let later = moves (locked run) (resumed i Nothing run.state) in
         subst (Goal) (sym h.1)
         (replied i here Enter asked base (plain-content around sec) (plain-single code shapes ctx_len plan closed around run x) (plain-guards code shapes ctx_len plan closed around run x) Nothing (elements_by (births around) base) later (refl, refl) (h.0, refl)
-        (keeps-by (births around) base (element_of around (section_of later)) later (record { same = λ k. refl; guard = λ k g. (0, refl) })))
+        (keeps-by around base (element_of around (section_of later)) later (record { same = λ k. refl; guard = λ k g. (0, refl) })))
 
     pub leave-replied : Asked Leave → (new : Run) → Resumes Leave i Nothing run new → Goal new
     leave-replied asked new h =
         let later = moves (unlocked run) (resumed i Nothing run.state) in
         subst Goal (sym h.1)
         (replied i here Leave asked base (plain-content around sec) (plain-single code shapes ctx_len plan closed around run x) (plain-guards code shapes ctx_len plan closed around run x) Nothing (elements_by (births around) base) later (refl, refl) (h.0, refl)
-        (keeps-by (births around) base (element_of around (section_of later)) later (record { same = λ k. refl; guard = λ k g. (0, refl) })))
+        (keeps-by around base (element_of around (section_of later)) later (record { same = λ k. refl; guard = λ k g. (0, refl) })))
 
     -- a lookup finds nothing, or any slot
     abbrev Finding : ℕ → List ℕ → Request
@@ -216,8 +217,8 @@ module _ (code : List Insn) (shapes : List MapShape) (ctx_len : ℕ) (plan : Pla
         } in
         let reply = Pointer (Elem n (pos 0)) in
         subst Goal (sym is)
-        (replied i here (Finding i' key) asked all (special-content n e refl (long ∙ ap (λ k. key_length (slice_get around k)) (sym of_map)) (c.value n) (c.bytes n))
+        (replied i here (Finding i' key) asked all (special-content n e refl (long ∙ ap (λ k. key_length (slice_get around k)) (sym of_map)) (c.value n) (c.bytes n) refl)
         (single-one (births around) all n (linked-at n e base (λ k l. life-unlinked sec l)))
         (special-guards n e refl (λ g. tt)) reply (elements_by (births around) all) (moves run (resumed i reply run.state)) (map, Some n, bound, found, refl, refl) refl
-        (keeps-by (births around) all base (moves run (resumed i reply run.state))
+        (keeps-by around all base (moves run (resumed i reply run.state))
         (back-guards n e refl)))

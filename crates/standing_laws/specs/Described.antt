@@ -9,7 +9,7 @@ use Rattle.bpf_model.specs.MapState.{new_map}
 use Rattle.bpf_model.specs.View.{RunView}
 use Rattle.typed_runs.specs.Describes.{scene_of}
 use Rattle.typed_runs.specs.Verified.{AreMapsBound, IsPlanned, Plan}
-use Rattle.standing_laws.specs.Around.{elements_around, region_of, region_word}
+use Rattle.standing_laws.specs.Around.{elements_around, region_of, region_word, store_of}
 use Rattle.standing_laws.specs.Standing.{AreWords, IsNumbered}
 
 pub record IsDescribed (code : List Insn) (shapes : List MapShape) (ctx_len : ℕ) (plan : Plan)
@@ -19,8 +19,8 @@ pub record IsDescribed (code : List Insn) (shapes : List MapShape) (ctx_len : �
   pub long : length run.context ≡ ctx_len
   pub context : AreBytes run.context
   pub index : ℕ
-  pub planned : IsPlanned code plan index (scene_of (elements_around around (section_of run)) run)
-      run.state
+  pub planned : IsPlanned code plan index
+      (scene_of (store_of around (elements_around around (section_of run))) run) run.state
 
 -- where elements lie by their numbers
 abbrev pub region_bases : ℕ → ℕ

@@ -15,7 +15,9 @@ use Rattle.bpf_model.specs.declared.call.Helper.TheVariants as helpers
 use Rattle.bpf_model.specs.declared.insn.CallKind.{CallKind}
 use Rattle.bpf_model.specs.declared.insn.CallKind.TheVariants as callee
 use Rattle.effects.proofs.CallLaws.{returned_above, left_same, left_cell_same}
-use Rattle.effects.specs.Calls.{FindsIn, Called, Splits, section_fault, outcome_of}
+use Rattle.effects.specs.Calls.{FindsIn, Called, Splits, kernel_fault, section_fault, outcome_of}
+use Rattle.bpf_model.specs.declared.call.KernelFunction.TheVariants.{ReadLock, ReadUnlock}
+use Rattle.bpf_model.specs.declared.limits.MapKind.TheVariants.{Array}
 use Rattle.register_kinds.specs.declared.fault.InsnFault.{InsnFault}
 use Rattle.std.proofs.lemmas.Option.{slice_get_within}
 use Rattle.bpf_model.specs.declared.insn.Operand.{Operand}
@@ -245,25 +247,25 @@ lock_saves a b e (FrameByte k) s h = e.cells k ∙ h
 lock_saves a b e FramePointer s h = e.regs 10 ∙ h
 lock_saves a b e (Section inside) s h = absurd s
 
-unlock_saves : (a b : AbsState) → AreAlike (after_unlock a) b → KeepsSaved a b
-unlock_saves a b e (Register r) s h =
-    (h.0, e.regs r ∙ returned_above Blank (λ r. left_kind a.depth (a.regs r)) r s ∙ ap (left_kind a.depth) h.1 ∙ left_same a.depth (Num h.0) refl)
-unlock_saves a b e (FrameByte k) s h = e.cells k ∙ ap (left_cell a.depth) h ∙ left_cell_same a.depth ByteCell refl
-unlock_saves a b e FramePointer s h = e.regs 10 ∙ ap (left_kind a.depth) h ∙ left_same a.depth (FrameAt (pos FRAME_BYTES)) refl
-unlock_saves a b e (Section inside) s h = absurd s
+unlock_saves : (shapes : List MapShape) (a b : AbsState) → AreAlike (after_unlock shapes a) b → KeepsSaved a b
+unlock_saves shapes a b e (Register r) s h =
+    (h.0, e.regs r ∙ returned_above Blank (λ r. left_kind shapes a.depth (a.regs r)) r s ∙ ap (left_kind shapes a.depth) h.1 ∙ left_same shapes a.depth (Num h.0) refl)
+unlock_saves shapes a b e (FrameByte k) s h = e.cells k ∙ ap (left_cell shapes a.depth) h ∙ left_cell_same shapes a.depth ByteCell refl
+unlock_saves shapes a b e FramePointer s h = e.regs 10 ∙ ap (left_kind shapes a.depth) h ∙ left_same shapes a.depth (FrameAt (pos FRAME_BYTES)) refl
+unlock_saves shapes a b e (Section inside) s h = absurd s
 
 key_bytes : (shapes : List MapShape) (l : Lookup) (a : AbsState) → IsFitting shapes l → Expects l LookupCall a → HasBytes a 2 l.shape.key_len
 key_bytes shapes l a fit x = record { at = l.at; frame = x.1; inside = fit.in_frame.2; bytes = x.0 }
 
 -- what is said of a call that is not refused
-pub record CallLeaves (kind : CallKind) (imm : ℤ) (a b : StateHere) : Type 0 where
+pub record CallLeaves (kind : CallKind) (imm : ℤ) (shapes : List MapShape) (a b : StateHere) : Type 0 where
   pub finds : (map : ℕ) → kind ≡ callee.Helper → helper_of imm ≡ Some helpers.Lookup → kind_in a.regs 1 ≡ kinds.Map map → FindsIn map a b
-  pub called : kind ≡ callee.Kernel → Called (kernel_function_of imm) (state_of a) (state_of b)
+  pub called : kind ≡ callee.Kernel → Called (kernel_function_of imm) shapes (state_of a) (state_of b)
 
 -- the calls that are not refused but for want of memory
 pub record CallAccepts (kind : CallKind) (imm : ℤ) (shapes : List MapShape) (a : StateHere) (result : Result (Unit {0}) InsnFault) : Type 0 where
-  pub kernel : kind ≡ callee.Kernel → result ≡ outcome_of (section_fault kind imm a.depth)
-  pub lookup : (map : ℕ) (shape : MapShape) → kind ≡ callee.Helper → helper_of imm ≡ Some helpers.Lookup → 0 < a.depth → kind_in a.regs 1 ≡ kinds.Map map
+  pub kernel : kind ≡ callee.Kernel → result ≡ outcome_of (section_fault kind imm shapes (state_of a))
+  pub lookup : (map : ℕ) (shape : MapShape) → kind ≡ callee.Helper → helper_of imm ≡ Some helpers.Lookup → (0 < a.depth) ⊎ (shape.kind ≡ Array) → kind_in a.regs 1 ≡ kinds.Map map
       → slice_get shapes map ≡ Some shape → HasBytes (state_of a) 2 shape.key_len → IsOk result
 
 module _ (kind : CallKind) (imm : ℤ) (shapes : List MapShape) (a : StateHere) where
@@ -289,19 +291,19 @@ module _ (kind : CallKind) (imm : ℤ) (shapes : List MapShape) (a : StateHere) 
   call_ready result accepts (inl (l, p, ready)) =
       let e = call_part l p ready in
       let x : Expects l LookupCall (state_of a) = subst (λ p. Expects l p (state_of a)) e.0 ready.expects in
-      accepts.lookup l.map l.shape e.1 (lookup_number e.2) ready.inside (called_map l p ready e.0) ready.fitting.in_list (key_bytes shapes l (state_of a) ready.fitting x)
+      accepts.lookup l.map l.shape e.1 (lookup_number e.2) (inl ready.inside) (called_map l p ready e.0) ready.fitting.in_list (key_bytes shapes l (state_of a) ready.fitting x)
   call_ready result accepts (inr (true, ready)) =
       let e = section_is true ready in
-      let f : result ≡ outcome_of (section_fault callee.Kernel (pos 1) 0) = accepts.kernel e.0 ∙ ap (λ k. outcome_of (section_fault k imm a.depth)) e.0
-      ∙ ap (λ z. outcome_of (section_fault callee.Kernel z a.depth)) e.1 ∙ ap (λ t. outcome_of (section_fault callee.Kernel (pos 1) t)) ready.before in
+      let f : result ≡ outcome_of (kernel_fault (Some ReadLock) 0) = accepts.kernel e.0 ∙ ap (λ k. outcome_of (section_fault k imm shapes (state_of a))) e.0
+      ∙ ap (λ z. outcome_of (kernel_fault (kernel_function_of z) a.depth)) e.1 ∙ ap (λ t. outcome_of (kernel_fault (Some ReadLock) t)) ready.before in
       subst IsOk (sym f) refl
   call_ready result accepts (inr (false, ready)) =
       let e = section_is false ready in
-      let f : result ≡ outcome_of (section_fault callee.Kernel (pos 2) 1) = accepts.kernel e.0 ∙ ap (λ k. outcome_of (section_fault k imm a.depth)) e.0
-      ∙ ap (λ z. outcome_of (section_fault callee.Kernel z a.depth)) e.1 ∙ ap (λ t. outcome_of (section_fault callee.Kernel (pos 2) t)) ready.before in
+      let f : result ≡ outcome_of (kernel_fault (Some ReadUnlock) 1) = accepts.kernel e.0 ∙ ap (λ k. outcome_of (section_fault k imm shapes (state_of a))) e.0
+      ∙ ap (λ z. outcome_of (kernel_fault (kernel_function_of z) a.depth)) e.1 ∙ ap (λ t. outcome_of (kernel_fault (Some ReadUnlock) t)) ready.before in
       subst IsOk (sym f) refl
 
-  pub call_serves : (b : StateHere) → CallLeaves kind imm a b → Serves shapes (Call kind imm) (state_of a) (state_of b) None
+  pub call_serves : (b : StateHere) → CallLeaves kind imm shapes a b → Serves shapes (Call kind imm) (state_of a) (state_of b) None
   call_serves b done = record { part = leaves; section = ends }
     where
       leaves : (l : Lookup) (p : LookupPart) → IsReadyPart shapes l p (Call kind imm) (state_of a) → LeavesPart l p (state_of a) (state_of b) None
@@ -317,12 +319,12 @@ module _ (kind : CallKind) (imm : ℤ) (shapes : List MapShape) (a : StateHere) 
       ends : (opens : Bool) → IsReadySection opens (Call kind imm) (state_of a) → LeavesSection opens (state_of a) (state_of b)
       ends true ready =
           let e = section_is true ready in
-          let f : AreAlike (after_lock (state_of a)) (state_of b) = subst (λ z. Called (kernel_function_of z) (state_of a) (state_of b)) e.1 (done.called e.0) in
+          let f : AreAlike (after_lock (state_of a)) (state_of b) = subst (λ z. Called (kernel_function_of z) shapes (state_of a) (state_of b)) e.1 (done.called e.0) in
           (lock_saves (state_of a) (state_of b) f, f.depth ∙ ap (λ n. n + 1) ready.before)
       ends false ready =
           let e = section_is false ready in
-          let f : AreAlike (after_unlock (state_of a)) (state_of b) = subst (λ z. Called (kernel_function_of z) (state_of a) (state_of b)) e.1 (done.called e.0) in
-          (unlock_saves (state_of a) (state_of b) f, f.depth ∙ ap (λ n. n - 1) ready.before)
+          let f : AreAlike (after_unlock shapes (state_of a)) (state_of b) = subst (λ z. Called (kernel_function_of z) shapes (state_of a) (state_of b)) e.1 (done.called e.0) in
+          (unlock_saves shapes (state_of a) (state_of b) f, f.depth ∙ ap (λ n. n - 1) ready.before)
 
 -- a test for null
 null_saves : (id : ℕ) (a b : AbsState) → AreAlike (learnt (IsNull id) a) b → KeepsSaved a b

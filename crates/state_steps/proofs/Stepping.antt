@@ -1,7 +1,7 @@
 -- Steps of instructions that have one state behind them, and of conditional jumps.
-use Rattle.std.proofs.Common.{◌≡◌, ℕ, zero, suc, ◌<◌, ◌≤◌, List, Option, Some, None, refl, sym, ap, subst, ◌∙◌, inl, inr, ℤ, pos, Bool, true, false, Ok, arith}
-use Rattle.std.specs.Prelude.{IfSome, if◌then◌else◌}
-use Rattle.std.proofs.lemmas.Bool.{cases_lt}
+use Rattle.std.proofs.Common.{◌≡◌, ℕ, ◌<◌, ◌≤◌, List, Option, Some, None, refl, sym, ap, subst, ◌∙◌, inl, inr, ℤ, pos, Bool, true, false, Ok}
+use Rattle.std.specs.Prelude.{IfSome, if◌then◌else◌, nat_lt, ◌||◌}
+use Rattle.std.proofs.lemmas.Bool.{cases_lt, ltb-true}
 use Rattle.std.proofs.lemmas.Option.{none-some, same_Some}
 use Rattle.bpf_model.specs.declared.limits.MapShape.{MapShape}
 use Rattle.bpf_model.specs.declared.call.Helper.{Helper}
@@ -39,7 +39,8 @@ use Rattle.effects.specs.declared.region.Region.TheVariants as regions
 use Rattle.effects.specs.Accesses.{IsBase}
 use Rattle.register_kinds.specs.States.{kind_at}
 use Rattle.effects.specs.Forks.{Forks, ForksOnNull}
-use Rattle.effects.specs.Calls.{Splits, helper_fault, section_fault}
+use Rattle.effects.specs.Calls.{Splits, MayLookUp, is_array_of, helper_fault, section_fault}
+use Rattle.effects.proofs.CallLaws.{array_of}
 use Rattle.register_kinds.specs.declared.fault.InsnFault.{InsnFault}
 use Rattle.register_kinds.specs.declared.fault.InsnFault.TheVariants.{OutsideSection}
 use Rattle.effects.specs.Narrowing.{ComparesNumbers}
@@ -64,7 +65,7 @@ pub record IsQuiet (i : Insn) : Type 0 where
 
 pub quiet_step : (i : Insn) (shapes : List MapShape) (ctx_len top : ℕ) (a b : AbsState) (f : Flow) → f ≡ single_flow regions.None → IsQuiet i
     → Transfers i shapes ctx_len (state_of a) (state_of b) None → AreBelow top b
-    → (IsReadyInsn i (state_of a) → KeepsFacts i (state_of a) (state_of b)) → Serves shapes i (state_of a) (state_of b) None → KeepsInsnFloor i (state_of a) (state_of b) None → KeepsNumbers i (state_of a) (state_of b) → (LooksUp i → 0 < (state_of a).depth) → Stepped i shapes ctx_len top a b (Ok f)
+    → (IsReadyInsn i (state_of a) → KeepsFacts i (state_of a) (state_of b)) → Serves shapes i (state_of a) (state_of b) None → KeepsInsnFloor i (state_of a) (state_of b) None → KeepsNumbers i (state_of a) (state_of b) → (LooksUp i → MayLookUp shapes (state_of a)) → Stepped i shapes ctx_len top a b (Ok f)
 quiet_step i shapes ctx_len top a b f e q sound below keeps serves floor others looks_up = subst (λ (f : Flow). Stepped i shapes ctx_len top a b (Ok f)) (sym e) (record {
   done = record {
     transfer = record {
@@ -194,7 +195,7 @@ KeepsAllNumbers a b = (r : ℕ) (s : Scalar) → a.regs r ≡ Num s → b.regs r
 
 -- a test for null leaves numbers
 learnt_number : (lesson : Lesson) (s : Scalar) → learnt_kind lesson (Num s) ≡ Num s
-learnt_number SectionEnds s = refl
+learnt_number (SectionEnds shapes) s = refl
 learnt_number (IsNull id) s = refl
 learnt_number (IsThere id) s = refl
 
@@ -216,8 +217,12 @@ above_five r n = elim (cases_lt 5 r) [
   | inr h ↦ absurd (n h)
 ]
 
--- a lookup that is not refused is made inside a section
-pub inside_here : (kind : CallKind) (imm : ℤ) (depth : ℕ) (P : InsnFault → Type 0) → LooksUp (Call kind imm) → IfSome (section_fault kind imm depth) P → ((e : InsnFault) → P e → ⊥) → 0 < depth
-inside_here callee.Helper imm zero P h first none = absurd (none OutsideSection (subst (λ (o : Option Helper). IfSome (helper_fault o 0) P) h first))
-inside_here callee.Helper imm (suc n) P h first none = omega arith
-inside_here callee.Kernel imm depth P h first none = absurd h
+-- a lookup that is not refused is made inside a section, or in an array
+pub inside_here : (kind : CallKind) (imm : ℤ) (shapes : List MapShape) (a : Known) (P : InsnFault → Type 0) → LooksUp (Call kind imm) → IfSome (section_fault kind imm shapes a) P → ((e : InsnFault) → P e → ⊥) → MayLookUp shapes a
+inside_here callee.Helper imm shapes a P h first none = by (nat_lt 0 a.depth) (is_array_of shapes (a.regs 1)) refl refl (subst (λ (o : Option Helper). IfSome (helper_fault o shapes a) P) h first)
+  where
+    by : (inside array : Bool) → nat_lt 0 a.depth ≡ inside → is_array_of shapes (a.regs 1) ≡ array → IfSome (if inside || array then None else Some OutsideSection) P → MayLookUp shapes a
+    by true array e f first = inl (ltb-true 0 a.depth e)
+    by false true e f first = inr (array_of shapes (a.regs 1) f)
+    by false false e f first = absurd (none OutsideSection first)
+inside_here callee.Kernel imm shapes a P h first none = absurd h

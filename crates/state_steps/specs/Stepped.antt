@@ -1,6 +1,6 @@
 -- All that is said of the step of one instruction.
 use Rattle.std.specs.Prelude.{◌≡◌, ℕ, List, Option, Some, None, Result, IfOk, OnErr, IfSome, IsSome}
-use Rattle.std.specs.Prelude.{ℤ, pos, option_map, ◌<◌}
+use Rattle.std.specs.Prelude.{ℤ, pos, option_map}
 use Rattle.bpf_model.specs.declared.limits.MapShape.{MapShape}
 use Rattle.bpf_model.specs.declared.insn.Insn.{Insn}
 use Rattle.bpf_model.specs.declared.insn.Insn.TheVariants.{JumpIf}
@@ -19,6 +19,7 @@ use Rattle.register_kinds.specs.Pairs.{AreBelow}
 use Rattle.register_kinds.specs.declared.kind.RegKind.TheVariants as kinds
 use Rattle.register_kinds.specs.States.{kind_in, state_of}
 use Rattle.register_kinds.specs.declared.fault.InsnFault.{InsnFault}
+use Rattle.effects.specs.Calls.{MayLookUp}
 use Rattle.effects.specs.declared.region.Region.{Region}
 use Rattle.state_steps.specs.declared.flow.Flow.{Flow}
 use Rattle.state_steps.specs.Steps.{IsBranch, taken_state, base_of, IsInRegion, Compares}
@@ -56,7 +57,7 @@ pub record IsTransfer (i : Insn) (shapes : List MapShape) (ctx_len : ℕ) (old n
       Describes (state_of old) c m → IsInRegion c region (m.regs b)
   pub compares : (r : ℕ) (c : Scene) (m : State) → Compares i r → Describes (state_of old) c m →
       IsComparable i (m.regs r)
-  pub looks_up : LooksUp i → 0 < (state_of old).depth
+  pub looks_up : LooksUp i → MayLookUp shapes (state_of old)
   pub keeps : IsReadyInsn i (state_of old) → KeepsFacts i (state_of old) (state_of new)
   pub keeps_taken : IsReadyInsn i (state_of old) →
       IfSome taken (λ t. KeepsFacts i (state_of old) (state_of t))

@@ -5,6 +5,7 @@ ghost use Rattle.typed_runs.specs.Describes.{Scene, Describes};
 ghost use Rattle.typed_runs.specs.Verified.{Transfers};
 ghost use Rattle.register_kinds.specs.Pairs.{AreBelow, TakesFew};
 ghost use Rattle.register_kinds.specs.States.{state_of};
+ghost use Rattle.effects.specs.Calls.{MayLookUp};
 ghost use Rattle.state_steps.specs.Steps.{IsBranch, taken_state, base_of, IsInRegion, Compares, IsComparable, IsFine, LooksUp};
 ghost use Rattle.state_steps.specs.Facts.{IsReadyInsn, KeepsFacts};
 ghost use Rattle.state_steps.specs.Lookups.{IsReadyWithMaps, Serves};
@@ -30,8 +31,8 @@ use register_kinds::{AbsState, Boxes, Identities, InsnFault};
 /// - A comparison: a register that it reads, `MaybeNull`, `PointerArithmetic`. What may be null and
 ///   a reference to an element's value may be compared with the number 0 by 64 bits, for equality or
 ///   its contrary.
-/// - A call: `UnknownCall`; `UnpairedSection`, or `OutsideSection` of a lookup; then its arguments,
-///   from r1 on.
+/// - A call: `UnknownCall`; `UnpairedSection`, or `OutsideSection` of a lookup, unless r1 is an array of
+///   the list; then its arguments, from r1 on.
 /// - The exit: r0 as a register that is read; `PointerLeak`; `UnpairedSection`.
 /// - An access: `FramePointerWritten`; its base, then what is stored, as registers that are read;
 ///   `NotAPointer` or `MaybeNull`; `ContextWrite`; `PointerLeak` of what is stored; `NoSuchMap`;
@@ -59,8 +60,9 @@ pub fn transfer(
     ensures compares { OnOk result ((r : ℕ) (c : Scene) (m : State) → Compares insn.now r
         → Describes (state_of state.old) c m → IsComparable insn.now (m.regs r)) }
 
-    // A lookup is made inside a section.
-    ensures looks_up { OnOk result (LooksUp insn.now → 0 < (state_of state.old).depth) }
+    // A lookup is made inside a section, or in an array.
+    ensures looks_up { OnOk result (LooksUp insn.now
+        → MayLookUp shape.now.shapes.now (state_of state.old)) }
 
     // The identities that are taken.
     ensures below { AreBelow ids.new.next state.new }

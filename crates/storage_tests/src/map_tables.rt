@@ -1,7 +1,7 @@
 //! Maps of both forms over lines of commands, with the answers that they must have, worked out by hand; and the registry.
 //! Bytes are hexadecimal digits. `slot` asks for the slot of a key, `above` for the element with the least key above
 //! another, or of all (`-`).
-use bpf_model::{Errno, Given, MapId, MapShape};
+use bpf_model::{Errno, Given, MapId, MapKind, MapShape};
 use deferred_free::{Deferred, Threaded, Vectors};
 use hash_index::{Buckets, Index, Sorted};
 use maps::{HashMap, Registry};
@@ -13,6 +13,7 @@ use std::test::Fail;
 
 /// One-byte keys, two-byte values, at most two elements, and one further map slot.
 pub(crate) const SMALL: MapShape = MapShape {
+    kind: MapKind::Hash,
     key_len: 1,
     value_len: 2,
     entries: 2,

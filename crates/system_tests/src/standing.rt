@@ -3,7 +3,7 @@ ghost use Rattle.std.specs.Prelude.{◌≡◌, true, length};
 ghost use Rattle.machine.specs.Standing.{Awaits, IsStanding};
 
 use asm::assemble;
-use bpf_model::{CtxBytes, Helper, MapShape};
+use bpf_model::{CtxBytes, Helper, MapKind, MapShape};
 use machine::{Local, Request, Run, SLOT_BASE};
 use std::test::Fail;
 use verifier::{Verified, verify};
@@ -24,6 +24,7 @@ exit\n";
 
 /// The map that the program looks up in.
 pub const SHAPE: MapShape = MapShape {
+    kind: MapKind::Hash,
     key_len: 4,
     value_len: 8,
     entries: 4,

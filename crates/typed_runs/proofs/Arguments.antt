@@ -63,9 +63,9 @@ pub record Bound (shapes : List MapShape) (s : Store) (run : Run) (map : ℕ) (s
 pub bound : (shapes : List MapShape) (ctx_len : ℕ) (s : Store) (opened : List Section) (run : Run) (map : ℕ) (shape : MapShape) → Surrounds shapes ctx_len s opened run → slice_get shapes map ≡ Some shape → Bound shapes s run map shape
 bound shapes ctx_len s opened run map shape w at = let x = w.bound.each map shape at in record { number = x.0; state = x.1; listed = x.2; there = x.3; shape_is = x.4 }
 
-module _ (shapes : List MapShape) (s : Store) (run : Run) (a : AbsState) (map : ℕ) (shape : MapShape) (d : Describes a (scene_of s.elements run) run.state) (h : HasMap shapes a map shape) (b : Bound shapes s run map shape) where
+module _ (shapes : List MapShape) (s : Store) (run : Run) (a : AbsState) (map : ℕ) (shape : MapShape) (d : Describes a (scene_of s run) run.state) (h : HasMap shapes a map shape) (b : Bound shapes s run map shape) where
   pub map-listed : map_argument run ≡ slice_get run.program.maps map
-  map-listed = ap (λ v. reference v >>= bound_map run.program.maps) (reg-is a (scene_of s.elements run) run.state 1 (MapAt map) d h.map_is)
+  map-listed = ap (λ v. reference v >>= bound_map run.program.maps) (reg-is a (scene_of s run) run.state 1 (MapAt map) d h.map_is)
 
   pub map-is : map_argument run ≡ Some b.number
   map-is = map-listed ∙ b.listed
@@ -74,7 +74,7 @@ module _ (shapes : List MapShape) (s : Store) (run : Run) (a : AbsState) (map : 
   shape-is = ap shape_in b.there ∙ ap Some b.shape_is
 
   pub key-is : HasBytes a 2 shape.key_len → (bs : List ℕ) × (key_argument s run b.number ≡ Some bs)
-  key-is k = let x = has-bytes a (scene_of s.elements run) run.state 2 shape.key_len d k in (x.0, ap (λ o. o >>= λ (y : MapShape). frame_bytes run.state.frame y.key_len (run.state.regs 2)) shape-is ∙ x.1)
+  key-is k = let x = has-bytes a (scene_of s run) run.state 2 shape.key_len d k in (x.0, ap (λ o. o >>= λ (y : MapShape). frame_bytes run.state.frame y.key_len (run.state.regs 2)) shape-is ∙ x.1)
 
   pub value-is : HasBytes a 3 shape.value_len → (bs : List ℕ) × (value_argument s run b.number ≡ Some bs) × AreBytes bs
-  value-is k = let x = has-bytes a (scene_of s.elements run) run.state 3 shape.value_len d k in (x.0, ap (λ o. o >>= λ (y : MapShape). frame_bytes run.state.frame y.value_len (run.state.regs 3)) shape-is ∙ x.1, x.2)
+  value-is k = let x = has-bytes a (scene_of s run) run.state 3 shape.value_len d k in (x.0, ap (λ o. o >>= λ (y : MapShape). frame_bytes run.state.frame y.value_len (run.state.regs 3)) shape-is ∙ x.1, x.2)

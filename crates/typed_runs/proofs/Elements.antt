@@ -21,8 +21,8 @@ use Rattle.bpf_model.specs.Operand.{operand_value}
 use Rattle.bpf_model.specs.Access.{byte_count, unsigned_width, region_offset, number_at}
 use Rattle.bpf_model.specs.Step.{State, Environment, Outcome, Moves, put, sets, forward, load_from, store_to}
 use Rattle.bpf_model.specs.Section.{Section}
-use Rattle.bpf_model.specs.Element.{Element, Life, Linked, Unlinked, Reclaimed, is_reclaimed, with_value, changed, unless_reclaimed, accessible}
-use Rattle.bpf_model.specs.MapState.{Store as Maps}
+use Rattle.bpf_model.specs.Element.{Element, with_value, changed, unless_reclaimed, accessible}
+use Rattle.bpf_model.specs.MapState.{Store as Maps, with_elements}
 use Rattle.bpf_model.specs.Machine.{Run, environment}
 use Rattle.bpf_model.specs.MachineStep.{element_load, element_store, loaded_from, stored_in, with_bytes}
 use Rattle.bpf_model.specs.Event.{AreBytes, AllBytes}
@@ -30,9 +30,10 @@ use Rattle.model_laws.proofs.Stores.{touches-stored}
 use Rattle.scalar_domain.specs.Scalar.{Holds}
 use Rattle.scalar_domain.specs.declared.scalar.Scalar.{Scalar}
 use Rattle.typed_runs.specs.Kinds.{Num, ValueAt, AbsState}
-use Rattle.typed_runs.specs.Describes.{Scene, scene_of, IsGuarded, IsHeld, IsElementOf, Describes}
+use Rattle.typed_runs.specs.Describes.{Scene, scene_of, IsHeld, IsElementOf, Describes}
 use Rattle.typed_runs.specs.Effects.{with_kind, IsAlwaysInside, IsNumberOperand}
 use Rattle.typed_runs.specs.Verified.{Surrounds, Transfers}
+use Rattle.typed_runs.proofs.Arrays.{AllStayKept, held-unreclaimed}
 use Rattle.typed_runs.proofs.Kept.{Keeps, keeps-touches, describes-kept}
 use Rattle.typed_runs.proofs.Valued.{bytes-changed}
 use Rattle.typed_runs.proofs.Sets.{set-described, placed-described}
@@ -40,16 +41,11 @@ use Rattle.typed_runs.proofs.Arguments.{reg-is, bound}
 use Rattle.typed_runs.proofs.Local.{Acting, acts-transfers}
 use Rattle.bpf_model.proofs.Lists.{get-below, get-set_cases}
 
-pub unreclaimed : (l : Life) (s : Section) → IsGuarded l s → is_reclaimed l ≡ false
-unreclaimed Linked s h = refl
-unreclaimed (Unlinked since) s h = refl
-unreclaimed Reclaimed s h = absurd h
-
-pub accessible-held : (c : Scene) (map n : ℕ) (h : IsHeld c map n) → accessible c.elements n ≡ Some h.element
-accessible-held c map n h = ap (λ o. o >>= unless_reclaimed) h.born ∙ ap (λ b. if b then None else Some h.element) (unreclaimed h.element.life c.section h.guarded)
+pub accessible-held : (s : Maps) (run : Run) (map n : ℕ) → AllStayKept s → (h : IsHeld (scene_of s run) map n) → accessible s.elements n ≡ Some h.element
+accessible-held s run map n arrays h = ap (λ o. o >>= unless_reclaimed) h.born ∙ ap (λ b. if b then None else Some h.element) (held-unreclaimed s run map n arrays h)
 
 -- the value is as long as the shape says
-pub value-long : (shapes : List MapShape) (ctx_len : ℕ) (s : Maps) (opened : List Section) (run : Run) (map n : ℕ) (shape : MapShape) → Surrounds shapes ctx_len s opened run → slice_get shapes map ≡ Some shape → (h : IsHeld (scene_of s.elements run) map n) → length h.element.value ≡ shape.value_len
+pub value-long : (shapes : List MapShape) (ctx_len : ℕ) (s : Maps) (opened : List Section) (run : Run) (map n : ℕ) (shape : MapShape) → Surrounds shapes ctx_len s opened run → slice_get shapes map ≡ Some shape → (h : IsHeld (scene_of s run) map n) → length h.element.value ≡ shape.value_len
 value-long shapes ctx_len s opened run map n shape w at h =
     let b = bound shapes ctx_len s opened run map shape w at in
     let z = w.lengths n h.element h.born in
@@ -82,7 +78,7 @@ value-bytes value at width bytes fits k p q = let x = get-below value k (omega a
 
 -- what a load finds
 pub element-loads : (shapes : List MapShape) (ctx_len : ℕ) (s : Maps) (opened : List Section) (run : Run) (map : ℕ) (shape : MapShape) (scalar : Scalar) (width : ℕ) (offset : ℤ) (v : Value) → Surrounds shapes ctx_len s opened run → slice_get shapes map ≡ Some shape →
-    IsAlwaysInside scalar width offset shape.value_len → IsElementOf (scene_of s.elements run) map scalar v → (n : ℕ) × (element_load s.elements width offset v ≡ Some n) × (n < 256 ^ width)
+    IsAlwaysInside scalar width offset shape.value_len → IsElementOf (scene_of s run) map scalar v → (n : ℕ) × (element_load s.elements width offset v ≡ Some n) × (n < 256 ^ width)
 element-loads shapes ctx_len s opened run map shape scalar width offset v w at placed x =
     let long = value-long shapes ctx_len s opened run map x.n shape w at x.held in
     let p = placed x.offset x.there in
@@ -90,7 +86,7 @@ element-loads shapes ctx_len s opened run map shape scalar width offset v w at p
     let r = number_read (slice_get x.held.element.value) p.0 width (value-bytes x.held.element.value p.0 width (w.bytes x.n x.held.element x.held.born) (offset_some _ _ _ _ fits).1) in (
       r.0,
       ap (element_load s.elements width offset) x.is
-          ∙ (ap (λ o. o >>= loaded_from width (x.offset +ℤ offset)) (accessible-held (scene_of s.elements run) map x.n x.held)
+          ∙ (ap (λ o. o >>= loaded_from width (x.offset +ℤ offset)) (accessible-held s run map x.n w.arrays x.held)
           ∙ (ap (λ o. o >>= λ k. number_at (slice_get x.held.element.value) k width) fits ∙ r.1)),
       r.2,
     )
@@ -113,9 +109,9 @@ set-is slots dst v m ne = ap (λ b. if b then None else Some (Moves (record { re
 
 module _ (width : Width) (dst src : ℕ) (offset : ℤ) (shapes : List MapShape) (ctx_len : ℕ) (a : AbsState) (map : ℕ) (shape : MapShape) (scalar t : Scalar) where
   load-acts : a.regs src ≡ ValueAt map scalar → slice_get shapes map ≡ Some shape → IsAlwaysInside scalar (byte_count width) offset shape.value_len → (10 ≡ dst → ⊥) → ((n : ℕ) → n < 256 ^ byte_count width → Holds t n) →
-      (s : Maps) (opened : List Section) (run : Run) → Surrounds shapes ctx_len s opened run → Describes a (scene_of s.elements run) run.state → Acting (Load width dst src offset) s run (with_kind dst (Num t) a) None
+      (s : Maps) (opened : List Section) (run : Run) → Surrounds shapes ctx_len s opened run → Describes a (scene_of s run) run.state → Acting (Load width dst src offset) s run (with_kind dst (Num t) a) None
   load-acts e at placed ne all s opened run w d =
-      let x : IsElementOf (scene_of s.elements run) map scalar (run.state.regs src) = reg-is a (scene_of s.elements run) run.state src (ValueAt map scalar) d e in
+      let x : IsElementOf (scene_of s run) map scalar (run.state.regs src) = reg-is a (scene_of s run) run.state src (ValueAt map scalar) d e in
       let l = element-loads shapes ctx_len s opened run map shape scalar (byte_count width) offset (run.state.regs src) w at placed x in
       let out : Outcome = Moves (record { regs = put dst (Number l.0) run.state.regs; frame = run.state.frame; place = run.state.place + 1 }) in
       let nothing = no-load (environment run) run.state (byte_count width) offset (run.state.regs src) x.n x.offset x.is in record {
@@ -127,7 +123,7 @@ module _ (width : Width) (dst src : ℕ) (offset : ℤ) (shapes : List MapShape)
           | inr y ↦ (same_Some out other (sym (set-is 1 dst (Number l.0) run.state ne) ∙ (ap (λ n. sets 1 dst (Number n) run.state) (same_Some l.0 y.0 (sym l.1 ∙ y.1)) ∙ y.2)), sym y.3)
         ];
         bytes = w.bytes;
-        reaches = inl (refl, refl, set-described a (scene_of s.elements run) run.state dst (run.state.place + 1) (Num t) (Number l.0) d (l.0, refl, wide-fits width l.0 l.2, all l.0 l.2) tt);
+        reaches = inl (refl, refl, set-described a (scene_of s run) run.state dst (run.state.place + 1) (Num t) (Number l.0) d (l.0, refl, wide-fits width l.0 l.2, all l.0 l.2) tt);
       }
 
   pub load_transfers : a.regs src ≡ ValueAt map scalar → slice_get shapes map ≡ Some shape → IsAlwaysInside scalar (byte_count width) offset shape.value_len → (10 ≡ dst → ⊥) → ((n : ℕ) → n < 256 ^ byte_count width → Holds t n) →
@@ -150,10 +146,10 @@ pub record StoredIn (s : Maps) (run : Run) (width : ℕ) (offset : ℤ) (v base 
   pub es : List Element
   pub stores : element_store s.elements width offset v base ≡ Some es
   pub bytes : AllBytes es
-  pub keeps : Keeps (scene_of s.elements run) (scene_of es run)
+  pub keeps : Keeps (scene_of s run) (scene_of (with_elements es s) run)
 
 pub element-stores : (shapes : List MapShape) (ctx_len : ℕ) (s : Maps) (opened : List Section) (run : Run) (map : ℕ) (shape : MapShape) (scalar : Scalar) (width : ℕ) (offset : ℤ) (n : ℕ) (v base : Value) → Surrounds shapes ctx_len s opened run → slice_get shapes map ≡ Some shape →
-    IsAlwaysInside scalar width offset shape.value_len → v ≡ Number n → IsElementOf (scene_of s.elements run) map scalar base → StoredIn s run width offset v base
+    IsAlwaysInside scalar width offset shape.value_len → v ≡ Number n → IsElementOf (scene_of s run) map scalar base → StoredIn s run width offset v base
 element-stores shapes ctx_len s opened run map shape scalar width offset n v base w at placed number x =
     let long = value-long shapes ctx_len s opened run map x.n shape w at x.held in
     let p = placed x.offset x.there in
@@ -162,9 +158,9 @@ element-stores shapes ctx_len s opened run map shape scalar width offset n v bas
     let stored : stored_in s.elements x.n width (x.offset +ℤ offset) n x.held.element ≡ Some es = ap (λ o. o >>= λ k. Some (changed (with_value (with_bytes k width n x.held.element.value)) s.elements x.n)) fits in record {
       es = es;
       stores = ap (λ y. element_store s.elements width offset y base) number ∙ (ap (element_store s.elements width offset (Number n)) x.is
-          ∙ (ap (λ o. o >>= stored_in s.elements x.n width (x.offset +ℤ offset) n) (accessible-held (scene_of s.elements run) map x.n x.held) ∙ stored));
+          ∙ (ap (λ o. o >>= stored_in s.elements x.n width (x.offset +ℤ offset) n) (accessible-held s run map x.n w.arrays x.held) ∙ stored));
       bytes = bytes-changed (with_value (with_bytes p.0 width n x.held.element.value)) s.elements x.n w.bytes (λ e born. with-bytes p.0 width n x.held.element.value (w.bytes x.n x.held.element x.held.born));
-      keeps = keeps-touches false opened s.elements es run (touches-stored opened s.elements es x.n width (x.offset +ℤ offset) n x.held.element x.held.born stored) w.section;
+      keeps = keeps-touches false opened s es run w.section (touches-stored opened s.elements es x.n width (x.offset +ℤ offset) n x.held.element x.held.born stored);
     }
 
 -- an operand that is known to be a number is one in each described state
@@ -174,11 +170,11 @@ operand-number a c m (Immediate imm) d k = (immediate imm, refl)
 
 module _ (width : Width) (dst : ℕ) (offset : ℤ) (src : Operand) (shapes : List MapShape) (ctx_len : ℕ) (a : AbsState) (map : ℕ) (shape : MapShape) (scalar : Scalar) where
   store-acts : a.regs dst ≡ ValueAt map scalar → IsNumberOperand a src → slice_get shapes map ≡ Some shape → IsAlwaysInside scalar (byte_count width) offset shape.value_len →
-      (s : Maps) (opened : List Section) (run : Run) → Surrounds shapes ctx_len s opened run → Describes a (scene_of s.elements run) run.state → Acting (Store width dst offset src) s run a None
+      (s : Maps) (opened : List Section) (run : Run) → Surrounds shapes ctx_len s opened run → Describes a (scene_of s run) run.state → Acting (Store width dst offset src) s run a None
   store-acts e f at placed s opened run w d =
-      let x : IsElementOf (scene_of s.elements run) map scalar (run.state.regs dst) = reg-is a (scene_of s.elements run) run.state dst (ValueAt map scalar) d e in
+      let x : IsElementOf (scene_of s run) map scalar (run.state.regs dst) = reg-is a (scene_of s run) run.state dst (ValueAt map scalar) d e in
       let v : Value = operand_value src run.state.regs in
-      let y = operand-number a (scene_of s.elements run) run.state src d f in
+      let y = operand-number a (scene_of s run) run.state src d f in
       let z = element-stores shapes ctx_len s opened run map shape scalar (byte_count width) offset y.0 v (run.state.regs dst) w at placed y.1 x in
       let nothing = no-store run.state (byte_count width) offset v (run.state.regs dst) x.n x.offset x.is in record {
         out = Moves (forward 1 run.state);
@@ -189,7 +185,7 @@ module _ (width : Width) (dst : ℕ) (offset : ℤ) (src : Operand) (shapes : Li
           | inr q ↦ (sym q.1, same_Some z.es fs (sym z.stores ∙ q.0))
         ];
         bytes = z.bytes;
-        reaches = inl (refl, refl, placed-described a (scene_of z.es run) run.state (run.state.place + 1) (describes-kept (scene_of s.elements run) (scene_of z.es run) z.keeps a run.state d));
+        reaches = inl (refl, refl, placed-described a (scene_of (with_elements z.es s) run) run.state (run.state.place + 1) (describes-kept (scene_of s run) (scene_of (with_elements z.es s) run) z.keeps a run.state d));
       }
 
   pub store_transfers : a.regs dst ≡ ValueAt map scalar → IsNumberOperand a src → slice_get shapes map ≡ Some shape → IsAlwaysInside scalar (byte_count width) offset shape.value_len → Transfers (Store width dst offset src) shapes ctx_len a a None
@@ -199,10 +195,10 @@ module _ (width : Width) (dst : ℕ) (offset : ℤ) (src : Operand) (shapes : Li
 module _ (width : SignedWidth) (dst src : ℕ) (offset : ℤ) (shapes : List MapShape) (ctx_len : ℕ) (a : AbsState) (map : ℕ) (shape : MapShape) (scalar t : Scalar) where
   signed-acts : a.regs src ≡ ValueAt map scalar → slice_get shapes map ≡ Some shape → IsAlwaysInside scalar (byte_count (unsigned_width width)) offset shape.value_len → (10 ≡ dst → ⊥) →
       ((n : ℕ) → n < 256 ^ byte_count (unsigned_width width) → (loaded_signed width n < 2 ^ 64) × Holds t (loaded_signed width n)) →
-      (s : Maps) (opened : List Section) (run : Run) → Surrounds shapes ctx_len s opened run → Describes a (scene_of s.elements run) run.state → Acting (LoadSigned width dst src offset) s run (with_kind dst (Num t) a) None
+      (s : Maps) (opened : List Section) (run : Run) → Surrounds shapes ctx_len s opened run → Describes a (scene_of s run) run.state → Acting (LoadSigned width dst src offset) s run (with_kind dst (Num t) a) None
   signed-acts e at placed ne all s opened run w d =
       let bytes : ℕ = byte_count (unsigned_width width) in
-      let x : IsElementOf (scene_of s.elements run) map scalar (run.state.regs src) = reg-is a (scene_of s.elements run) run.state src (ValueAt map scalar) d e in
+      let x : IsElementOf (scene_of s run) map scalar (run.state.regs src) = reg-is a (scene_of s run) run.state src (ValueAt map scalar) d e in
       let l = element-loads shapes ctx_len s opened run map shape scalar bytes offset (run.state.regs src) w at placed x in
       let v : Value = Number (loaded_signed width l.0) in
       let out : Outcome = Moves (record { regs = put dst v run.state.regs; frame = run.state.frame; place = run.state.place + 1 }) in
@@ -216,7 +212,7 @@ module _ (width : SignedWidth) (dst src : ℕ) (offset : ℤ) (shapes : List Map
           | inr y ↦ (same_Some out other (sym (set-is 1 dst v run.state ne) ∙ (ap (λ n. sets 1 dst (Number (loaded_signed width n)) run.state) (same_Some l.0 y.0 (sym l.1 ∙ y.1)) ∙ y.2)), sym y.3)
         ];
         bytes = w.bytes;
-        reaches = inl (refl, refl, set-described a (scene_of s.elements run) run.state dst (run.state.place + 1) (Num t) v d (loaded_signed width l.0, refl, fits.0, fits.1) tt);
+        reaches = inl (refl, refl, set-described a (scene_of s run) run.state dst (run.state.place + 1) (Num t) v d (loaded_signed width l.0, refl, fits.0, fits.1) tt);
       }
 
   pub load_signed_transfers : a.regs src ≡ ValueAt map scalar → slice_get shapes map ≡ Some shape → IsAlwaysInside scalar (byte_count (unsigned_width width)) offset shape.value_len → (10 ≡ dst → ⊥) →

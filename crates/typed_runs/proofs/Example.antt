@@ -94,6 +94,9 @@ only-origin o h =
 placed-origin : IsAlwaysInside origin 8 (pos 0) 8
 placed-origin o h = (0, ap (λ z. region_offset 8 8 (z +ℤ pos 0)) (only-origin o h))
 
+abbrev shapes : List MapShape
+shapes = example_shape ∷ []
+
 -- what is known before each instruction of the example
 module _ (any : Scalar) where
   abbrev pub s0 : AbsState
@@ -130,7 +133,7 @@ module _ (any : Scalar) where
   s10 = record { regs = six; cells = λ k. BlankCell; depth = 1 }
 
   abbrev pub s11 : AbsState
-  s11 = after_unlock s10
+  s11 = after_unlock shapes s10
 
   abbrev pub s12 : AbsState
   s12 = with_kind 0 (Num any) s11
@@ -143,9 +146,6 @@ pub record Entry : Type 0 where
 abbrev pub find : List Entry → Plan
 find [] p = None
 find (e ∷ es) p = if p == e.index then Some e.state else find es p
-
-abbrev shapes : List MapShape
-shapes = example_shape ∷ []
 
 abbrev AllCovered : Plan → List Entry → Type 0
 AllCovered plan [] = Unit {0}
@@ -240,7 +240,7 @@ module _ (any : Scalar) (all : (n : ℕ) → n < 2 ^ 64 → Holds any n) where
   key = record { at = 508; frame = refl; inside = omega arith; bytes = λ k p q. ap (λ b. if b then ByteCell else BlankCell) (within 508 4 k p q) }
 
   t7 : Transfers (Call Helper (pos 1)) shapes 0 (s7 any) (s8 any) None
-  t7 = lookup_transfers (pos 1) shapes 0 (s7 any) 0 0 example_shape refl (omega arith) (record { map_is = refl; shape_is = refl }) key fresh
+  t7 = lookup_transfers (pos 1) shapes 0 (s7 any) 0 0 example_shape refl (inl (omega arith)) (record { map_is = refl; shape_is = refl }) key fresh
 
   t8 : Transfers (JumpIf Equal Word64 0 (Immediate (pos 0)) (pos 1)) shapes 0 (s8 any) (s9 any) (Some (when_null 0 number_zero (s8 any)))
   t8 = equal_transfers shapes 0 0 (pos 1) 0 0 (s8 any) number_zero origin zero_holds origin_has refl

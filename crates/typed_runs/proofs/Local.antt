@@ -47,30 +47,30 @@ pub record Acting (i : Insn) (s : Store) (run : Run) (new : AbsState) (taken : O
   pub acts : Acts i (environment run) s.elements run.state out es
   pub only : (other : Outcome) (fs : List Element) → Acts i (environment run) s.elements run.state other fs → (out ≡ other) × (es ≡ fs)
   pub bytes : AllBytes es
-  pub reaches : LandsDescribed i new taken (scene_of es run) run.state.place out
+  pub reaches : LandsDescribed i new taken (scene_of (with_elements es s) run) run.state.place out
 
-ending : (out : Outcome) (i : Insn) (new : AbsState) (taken : Option AbsState) (es : List Element) (run : Run) → LandsDescribed i new taken (scene_of es run) run.state.place out → (answer : Answer) × (new_run : Run) × OutcomeStep out run answer new_run
-ending (Moves next) i new taken es run h = (Moved, moves run next, (refl, refl))
-ending (Exits n) i new taken es run h = (Exited n, exits run n, (h, refl, refl))
+ending : (out : Outcome) (i : Insn) (new : AbsState) (taken : Option AbsState) (s : Store) (run : Run) → LandsDescribed i new taken (scene_of s run) run.state.place out → (answer : Answer) × (new_run : Run) × OutcomeStep out run answer new_run
+ending (Moves next) i new taken s run h = (Moved, moves run next, (refl, refl))
+ending (Exits n) i new taken s run h = (Exited n, exits run n, (h, refl, refl))
 
-ended-leads : (out : Outcome) (i : Insn) (new : AbsState) (taken : Option AbsState) (es : List Element) (run : Run) (answer : Answer) (new_run : Run) → LandsDescribed i new taken (scene_of es run) run.state.place out → OutcomeStep out run answer new_run → Leads i new taken run.state.place es new_run
-ended-leads (Moves next) i new taken es run answer new_run h e = subst (λ (r : Run). Leads i new taken run.state.place es r) (sym e.1) (λ going. h)
-ended-leads (Exits n) i new taken es run answer new_run h e = λ going. absurd (none-some n (sym (ap (λ (r : Run). r.exit) (sym e.2) ∙ going)))
+ended-leads : (out : Outcome) (i : Insn) (new : AbsState) (taken : Option AbsState) (s : Store) (run : Run) (answer : Answer) (new_run : Run) → LandsDescribed i new taken (scene_of s run) run.state.place out → OutcomeStep out run answer new_run → Leads i new taken run.state.place s new_run
+ended-leads (Moves next) i new taken s run answer new_run h e = subst (λ (r : Run). Leads i new taken run.state.place s r) (sym e.1) (λ going. h)
+ended-leads (Exits n) i new taken s run answer new_run h e = λ going. absurd (none-some n (sym (ap (λ (r : Run). r.exit) (sym e.2) ∙ going)))
 
 acts-goes : (i : Insn) (s : Store) (opened : List Section) (run : Run) (b : AbsState) (taken : Option AbsState) → IsNoCall i → Acting i s run b taken → HasStep i s opened run
 acts-goes i s opened run b taken plain x =
-    let e = ending x.out i b taken x.es run x.reaches in
+    let e = ending x.out i b taken (with_elements x.es s) run x.reaches in
     (e.0, with_elements x.es s, e.1, (plain s opened run e.0 (with_elements x.es s) e.1).0 (x.out, x.es, x.acts, refl, e.2))
 
-acts-leads : (i : Insn) (s : Store) (run : Run) (b : AbsState) (taken : Option AbsState) (answer : Answer) (new_store : Store) (new_run : Run) → Acting i s run b taken → ActStep i s run answer new_store new_run → AllBytes new_store.elements × Leads i b taken run.state.place new_store.elements new_run
+acts-leads : (i : Insn) (s : Store) (run : Run) (b : AbsState) (taken : Option AbsState) (answer : Answer) (new_store : Store) (new_run : Run) → Acting i s run b taken → ActStep i s run answer new_store new_run → AllBytes new_store.elements × Leads i b taken run.state.place new_store new_run
 acts-leads i s run b taken answer new_store new_run x h =
     let o = x.only h.0 h.1 h.2 in
-    subst (λ (y : Store). AllBytes y.elements × Leads i b taken run.state.place y.elements new_run) (sym h.3)
-    (subst (λ (es : List Element). AllBytes es × Leads i b taken run.state.place es new_run) o.1
-    (x.bytes, ended-leads x.out i b taken x.es run answer new_run x.reaches (subst (λ y. OutcomeStep y run answer new_run) (sym o.0) h.4)))
+    subst (λ (y : Store). AllBytes y.elements × Leads i b taken run.state.place y new_run) (sym h.3)
+    (subst (λ (es : List Element). AllBytes es × Leads i b taken run.state.place (with_elements es s) new_run) o.1
+    (x.bytes, ended-leads x.out i b taken (with_elements x.es s) run answer new_run x.reaches (subst (λ y. OutcomeStep y run answer new_run) (sym o.0) h.4)))
 
 pub acts-transfers : (i : Insn) (shapes : List MapShape) (ctx_len : ℕ) (a b : AbsState) (taken : Option AbsState) → IsNoCall i →
-    ((s : Store) (opened : List Section) (run : Run) → Surrounds shapes ctx_len s opened run → JumpsToSlot i run.state.place → Describes a (scene_of s.elements run) run.state → Acting i s run b taken) → Transfers i shapes ctx_len a b taken
+    ((s : Store) (opened : List Section) (run : Run) → Surrounds shapes ctx_len s opened run → JumpsToSlot i run.state.place → Describes a (scene_of s run) run.state → Acting i s run b taken) → Transfers i shapes ctx_len a b taken
 acts-transfers i shapes ctx_len a b taken plain f = record {
   goes = λ s opened run w t d. acts-goes i s opened run b taken plain (f s opened run w t d);
   leads = λ s opened run answer new_store new_run w t d h. acts-leads i s run b taken answer new_store new_run (f s opened run w t d) ((plain s opened run answer new_store new_run).1 h);
@@ -78,7 +78,7 @@ acts-transfers i shapes ctx_len a b taken plain f = record {
 
 -- A step of the run by itself is the only one, where no element is accessed.
 pub by-itself : (i : Insn) (s : Store) (run : Run) (b : AbsState) (taken : Option AbsState) (out : Outcome) → AllBytes s.elements → after i (environment run) run.state ≡ Some out →
-    ((other : Outcome) (fs : List Element) → AccessesElement i s.elements run.state other fs → ⊥) → LandsDescribed i b taken (scene_of s.elements run) run.state.place out → Acting i s run b taken
+    ((other : Outcome) (fs : List Element) → AccessesElement i s.elements run.state other fs → ⊥) → LandsDescribed i b taken (scene_of s run) run.state.place out → Acting i s run b taken
 by-itself i s run b taken out bytes e plain r = record {
   out = out;
   es = s.elements;
@@ -102,7 +102,7 @@ environment-is shapes ctx_len s opened run w = record { long = w.long; bytes = w
 
 pub alone_transfers : (i : Insn) (shapes : List MapShape) (ctx_len : ℕ) (a b : AbsState) (taken : Option AbsState) → is_call i ≡ false → TransfersAlone i shapes ctx_len a b taken → Transfers i shapes ctx_len a b taken
 alone_transfers i shapes ctx_len a b taken e f = acts-transfers i shapes ctx_len a b taken (no-call i e) (λ s opened run w t d.
-    let x = f (scene_of s.elements run) (environment run) run.state (environment-is shapes ctx_len s opened run w) t d in
+    let x = f (scene_of s run) (environment run) run.state (environment-is shapes ctx_len s opened run w) t d in
     by-itself i s run b taken x.out w.bytes x.after_is (λ other fs h. x.alone s.elements fs other h) x.lands)
 
 -- null tests
@@ -203,39 +203,39 @@ abbrev jne : ℕ → ℤ → Insn
 jne dst offset = JumpIf NotEqual Word64 dst (Immediate (pos 0)) offset
 
 module _ (shapes : List MapShape) (ctx_len dst : ℕ) (offset : ℤ) (map id : ℕ) (a : AbsState) (z origin : Scalar) (holds : Holds z 0) (at : HasOffset origin (pos 0)) (e : a.regs dst ≡ MaybeNull map id) where
-  jeq-acts : (s : Store) (run : Run) (bytes : AllBytes s.elements) → JumpsToSlot (jeq dst offset) run.state.place → (d : Describes a (scene_of s.elements run) run.state) (o : Option ℕ) → d.naming id ≡ o → Acting (jeq dst offset) s run (when_there id origin a) (Some (when_null id z a))
+  jeq-acts : (s : Store) (run : Run) (bytes : AllBytes s.elements) → JumpsToSlot (jeq dst offset) run.state.place → (d : Describes a (scene_of s run) run.state) (o : Option ℕ) → d.naming id ≡ o → Acting (jeq dst offset) s run (when_there id origin a) (Some (when_null id z a))
   jeq-acts s run bytes t d None is =
-      let v : run.state.regs dst ≡ Number 0 = number-of d.naming id (run.state.regs dst) is (reg-is a (scene_of s.elements run) run.state dst (MaybeNull map id) d e).0 in
+      let v : run.state.regs dst ≡ Number 0 = number-of d.naming id (run.state.regs dst) is (reg-is a (scene_of s run) run.state dst (MaybeNull map id) d e).0 in
       let x = t offset refl in
       by-itself (jeq dst offset) s run (when_there id origin a) (Some (when_null id z a)) (Moves (record { regs = run.state.regs; frame = run.state.frame; place = x.0 })) bytes
       (ap (λ x. decided Equal Word64 (Immediate (pos 0)) x (Number (immediate (pos 0))) >>= λ taken. if taken then jumps_by offset run.state else Some (Moves (forward 1 run.state))) v ∙ ap (λ z. jumps_to z run.state) (sym x.1))
       (λ other fs h. h)
-      (inr ((offset, refl, x.1), null-described id z a (scene_of s.elements run) run.state x.0 holds d is))
+      (inr ((offset, refl, x.1), null-described id z a (scene_of s run) run.state x.0 holds d is))
   jeq-acts s run bytes t d (Some b) is =
-      let v : run.state.regs dst ≡ Pointer (Elem b (pos 0)) = element-of d.naming id b (run.state.regs dst) is (reg-is a (scene_of s.elements run) run.state dst (MaybeNull map id) d e).0 in
+      let v : run.state.regs dst ≡ Pointer (Elem b (pos 0)) = element-of d.naming id b (run.state.regs dst) is (reg-is a (scene_of s run) run.state dst (MaybeNull map id) d e).0 in
       by-itself (jeq dst offset) s run (when_there id origin a) (Some (when_null id z a)) (Moves (forward 1 run.state)) bytes
       (ap (λ x. decided Equal Word64 (Immediate (pos 0)) x (Number (immediate (pos 0))) >>= λ taken. if taken then jumps_by offset run.state else Some (Moves (forward 1 run.state))) v)
       (λ other fs h. h)
-      (inl (refl, refl, there-described id b origin a (scene_of s.elements run) run.state (run.state.place + 1) at d is))
+      (inl (refl, refl, there-described id b origin a (scene_of s run) run.state (run.state.place + 1) at d is))
 
   pub equal_transfers : Transfers (jeq dst offset) shapes ctx_len a (when_there id origin a) (Some (when_null id z a))
   equal_transfers = acts-transfers (jeq dst offset) shapes ctx_len a (when_there id origin a) (Some (when_null id z a)) (λ s opened run answer ns nr. (λ h. h, λ h. h))
       (λ s opened run w t d. jeq-acts s run w.bytes t d (d.naming id) refl)
 
-  jne-acts : (s : Store) (run : Run) (bytes : AllBytes s.elements) → JumpsToSlot (jne dst offset) run.state.place → (d : Describes a (scene_of s.elements run) run.state) (o : Option ℕ) → d.naming id ≡ o → Acting (jne dst offset) s run (when_null id z a) (Some (when_there id origin a))
+  jne-acts : (s : Store) (run : Run) (bytes : AllBytes s.elements) → JumpsToSlot (jne dst offset) run.state.place → (d : Describes a (scene_of s run) run.state) (o : Option ℕ) → d.naming id ≡ o → Acting (jne dst offset) s run (when_null id z a) (Some (when_there id origin a))
   jne-acts s run bytes t d None is =
-      let v : run.state.regs dst ≡ Number 0 = number-of d.naming id (run.state.regs dst) is (reg-is a (scene_of s.elements run) run.state dst (MaybeNull map id) d e).0 in
+      let v : run.state.regs dst ≡ Number 0 = number-of d.naming id (run.state.regs dst) is (reg-is a (scene_of s run) run.state dst (MaybeNull map id) d e).0 in
       by-itself (jne dst offset) s run (when_null id z a) (Some (when_there id origin a)) (Moves (forward 1 run.state)) bytes
       (ap (λ x. decided NotEqual Word64 (Immediate (pos 0)) x (Number (immediate (pos 0))) >>= λ taken. if taken then jumps_by offset run.state else Some (Moves (forward 1 run.state))) v)
       (λ other fs h. h)
-      (inl (refl, refl, null-described id z a (scene_of s.elements run) run.state (run.state.place + 1) holds d is))
+      (inl (refl, refl, null-described id z a (scene_of s run) run.state (run.state.place + 1) holds d is))
   jne-acts s run bytes t d (Some b) is =
-      let v : run.state.regs dst ≡ Pointer (Elem b (pos 0)) = element-of d.naming id b (run.state.regs dst) is (reg-is a (scene_of s.elements run) run.state dst (MaybeNull map id) d e).0 in
+      let v : run.state.regs dst ≡ Pointer (Elem b (pos 0)) = element-of d.naming id b (run.state.regs dst) is (reg-is a (scene_of s run) run.state dst (MaybeNull map id) d e).0 in
       let x = t offset refl in
       by-itself (jne dst offset) s run (when_null id z a) (Some (when_there id origin a)) (Moves (record { regs = run.state.regs; frame = run.state.frame; place = x.0 })) bytes
       (ap (λ x. decided NotEqual Word64 (Immediate (pos 0)) x (Number (immediate (pos 0))) >>= λ taken. if taken then jumps_by offset run.state else Some (Moves (forward 1 run.state))) v ∙ ap (λ z. jumps_to z run.state) (sym x.1))
       (λ other fs h. h)
-      (inr ((offset, refl, x.1), there-described id b origin a (scene_of s.elements run) run.state x.0 at d is))
+      (inr ((offset, refl, x.1), there-described id b origin a (scene_of s run) run.state x.0 at d is))
 
   pub not_equal_transfers : Transfers (jne dst offset) shapes ctx_len a (when_null id z a) (Some (when_there id origin a))
   not_equal_transfers = acts-transfers (jne dst offset) shapes ctx_len a (when_null id z a) (Some (when_there id origin a)) (λ s opened run answer ns nr. (λ h. h, λ h. h))

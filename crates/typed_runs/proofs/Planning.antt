@@ -16,7 +16,6 @@ use Rattle.bpf_model.specs.Graph.{distance}
 use Rattle.bpf_model.specs.Places.{StartsAt, LeadsTo, starts-next, start-entry, start-insn}
 use Rattle.bpf_model.specs.Step.{State, entry, put, insn_at}
 use Rattle.bpf_model.specs.Section.{Section}
-use Rattle.bpf_model.specs.Element.{Element}
 use Rattle.bpf_model.specs.MapState.{Store}
 use Rattle.bpf_model.specs.Machine.{Run}
 use Rattle.bpf_model.specs.MachineStep.{InsnStep}
@@ -46,20 +45,20 @@ alike_wider a b e c m d = record {
   cells = λ k. subst (λ x. IsOfCell c d.naming d.stored k x (m.frame k)) (sym (e.cells k)) (d.cells k);
 }
 
-led-wider : (i : Insn) (new other : AbsState) (taken also : Option AbsState) (place : ℕ) (es : List Element) (run : Run) → Wider new other → Wider (unwrap_or taken new) (unwrap_or also other) → Leads i new taken place es run → Leads i other also place es run
-led-wider i new other taken also place es run w v l going = elim (l going) [
-  | inl x ↦ inl (x.0, x.1, w (scene_of es run) run.state x.2)
-  | inr x ↦ inr (x.0, v (scene_of es run) run.state x.1)
+led-wider : (i : Insn) (new other : AbsState) (taken also : Option AbsState) (place : ℕ) (s : Store) (run : Run) → Wider new other → Wider (unwrap_or taken new) (unwrap_or also other) → Leads i new taken place s run → Leads i other also place s run
+led-wider i new other taken also place s run w v l going = elim (l going) [
+  | inl x ↦ inl (x.0, x.1, w (scene_of s run) run.state x.2)
+  | inr x ↦ inr (x.0, v (scene_of s run) run.state x.1)
 ]
 
 -- a wider state before asks more, a wider one after promises less
 pub transfers_wider : (i : Insn) (shapes : List MapShape) (ctx_len : ℕ) (old before new other : AbsState) (taken also : Option AbsState) → Wider old before → Wider new other → Wider (unwrap_or taken new) (unwrap_or also other) →
     Transfers i shapes ctx_len before new taken → Transfers i shapes ctx_len old other also
 transfers_wider i shapes ctx_len old before new other taken also u w v t = record {
-  goes = λ s opened run x target d. t.goes s opened run x target (u (scene_of s.elements run) run.state d);
+  goes = λ s opened run x target d. t.goes s opened run x target (u (scene_of s run) run.state d);
   leads = λ s opened run answer new_store new_run x target d h.
-      let l = t.leads s opened run answer new_store new_run x target (u (scene_of s.elements run) run.state d) h in
-      (l.0, led-wider i new other taken also run.state.place new_store.elements new_run w v l.1);
+      let l = t.leads s opened run answer new_store new_run x target (u (scene_of s run) run.state d) h in
+      (l.0, led-wider i new other taken also run.state.place new_store new_run w v l.1);
 }
 
 -- what is known after it, said by an alike state
@@ -117,30 +116,30 @@ module _ (code : List Insn) (shapes : List MapShape) (ctx_len : ℕ) (plan : Pla
   has-target : (k place : ℕ) (a : AbsState) (v : IsCovered code shapes ctx_len plan k a) → StartsAt code k place → JumpsToSlot v.insn place
   has-target k place a v at by far = let t = v.jumps_on by far in (t.1.to, jump-sum k place t.0 v.insn by at far t.1)
 
-  led : (k place : ℕ) (a : AbsState) (v : IsCovered code shapes ctx_len plan k a) (es : List Element) (run : Run) → StartsAt code k place → Leads v.insn v.new v.taken place es run → run.exit ≡ None → IsPlannedAfter code plan k (scene_of es run) run.state
-  led k place a v es run at l going = elim (l going) [
+  led : (k place : ℕ) (a : AbsState) (v : IsCovered code shapes ctx_len plan k a) (s : Store) (run : Run) → StartsAt code k place → Leads v.insn v.new v.taken place s run → run.exit ≡ None → IsPlannedAfter code plan k (scene_of s run) run.state
+  led k place a v s run at l going = elim (l going) [
     | inl x ↦
         let c = v.falls_on x.0 in record {
           index = suc k;
           further = omega arith;
-          planned = planned-at code plan (suc k) v.new (scene_of es run) run.state (subst (StartsAt code (suc k)) (sym x.1) (fallen k place v.insn v.new v.there at c)) c x.2;
+          planned = planned-at code plan (suc k) v.new (scene_of s run) run.state (subst (StartsAt code (suc k)) (sym x.1) (fallen k place v.insn v.new v.there at c)) c x.2;
         }
     | inr x ↦
         let t = v.jumps_on x.0.0 x.0.1 in record {
           index = t.0;
           further = t.1.further;
-          planned = planned-at code plan t.0 (unwrap_or v.taken v.new) (scene_of es run) run.state (jumped k place run.state.place t.0 v.insn x.0.0 at x.0.1 x.0.2 t.1) t.2 x.1;
+          planned = planned-at code plan t.0 (unwrap_or v.taken v.new) (scene_of s run) run.state (jumped k place run.state.place t.0 v.insn x.0.0 at x.0.1 x.0.2 t.1) t.2 x.1;
         }
   ]
 
   leads : (k : ℕ) (i : Insn) (s : Store) (opened : List Section) (run : Run) (answer : Answer) (new_store : Store) (new_run : Run) → Surrounds shapes ctx_len s opened run →
-      IsPlanned code plan k (scene_of s.elements run) run.state → insn_at code run.state.place ≡ Some i → InsnStep i s opened run answer new_store new_run →
-      AllBytes new_store.elements × (new_run.exit ≡ None → IsPlannedAfter code plan k (scene_of new_store.elements new_run) new_run.state)
+      IsPlanned code plan k (scene_of s run) run.state → insn_at code run.state.place ≡ Some i → InsnStep i s opened run answer new_store new_run →
+      AllBytes new_store.elements × (new_run.exit ≡ None → IsPlannedAfter code plan k (scene_of new_store new_run) new_run.state)
   leads k i s opened run answer new_store new_run w p at h =
       let v = kept.each k p.known p.planned in
       let same : i ≡ v.insn = same_Some i v.insn (sym at ∙ start-insn code k run.state.place v.insn v.there p.at) in
       let x = v.transfers.leads s opened run answer new_store new_run w (has-target k run.state.place p.known v p.at) p.describes (subst (λ j. InsnStep j s opened run answer new_store new_run) same h) in
-      (x.0, λ going. led k run.state.place p.known v new_store.elements new_run p.at x.1 going)
+      (x.0, λ going. led k run.state.place p.known v new_store new_run p.at x.1 going)
 
   pub kept_is_closed : IsClosed code shapes ctx_len plan
   kept_is_closed = record {

@@ -1,7 +1,6 @@
 -- A machine of verified programs stays well, and is never stuck.
 use Rattle.std.proofs.Common.{◌≡◌, ℕ, suc, ◌+◌, ◌<◌, ◌⊎◌, inl, inr, arith, List, [], ◌∷◌, length, Some, None, refl, sym, ap, subst, ◌∙◌}
 use Rattle.std.specs.Prelude.{slice_get}
-use Rattle.std.proofs.lemmas.Option.{none-some}
 use Rattle.bpf_model.specs.Places.{start-inside, starts_apart}
 use Rattle.bpf_model.specs.Step.{State}
 use Rattle.bpf_model.specs.declared.limits.MapShape.{MapShape}
@@ -10,7 +9,7 @@ use Rattle.bpf_model.specs.declared.insn.Insn.{Insn}
 use Rattle.bpf_model.specs.declared.event.Event.{Event}
 use Rattle.bpf_model.specs.declared.event.Answer.{Answer}
 use Rattle.bpf_model.specs.Section.{Section}
-use Rattle.bpf_model.specs.MapState.{MapState, Store}
+use Rattle.bpf_model.specs.MapState.{MapState, Store, AreShapes}
 use Rattle.bpf_model.specs.Machine.{Loaded, Run, Machine, open_sections, fresh_run, run_at, start_machine, moves, locked, unlocked}
 use Rattle.bpf_model.specs.MachineStep.{InsnStep, RunStep, StepsRun, NeverStuck}
 use Rattle.bpf_model.specs.Event.{DoesEvent, AreBytes, IsReal, AreReal, AllBytes}
@@ -28,9 +27,10 @@ use Rattle.model_laws.proofs.Moves.{Changes, Goes, Locks, Unlocks, Ends, changed
 use Rattle.typed_runs.specs.Describes.{Scene, scene_of}
 use Rattle.typed_runs.specs.Verified.{Plan, AreMapsBound, Surrounds, IsPlanned, IsPlannedAfter, IsClosed, IsVerified}
 use Rattle.typed_runs.specs.Well.{AreVerified, IsVerifiedFor, IsTyped, IsWell}
+use Rattle.typed_runs.proofs.Arrays.{linked-kept}
 use Rattle.typed_runs.proofs.Kept.{Keeps, keeps-moves, describes-kept}
 use Rattle.typed_runs.proofs.Coming.{FreshRun, Comes, Stands, Starting, Stepping, does-come}
-use Rattle.typed_runs.proofs.Valued.{does-bytes, does-programs}
+use Rattle.typed_runs.proofs.Valued.{bytes-start, does-bytes, does-programs}
 
 pub bound-kept : (shapes : List MapShape) (maps : List ℕ) (old new : List MapState) → KeepsShapes old new → AreMapsBound shapes maps old → AreMapsBound shapes maps new
 bound-kept shapes maps old new k b = record {
@@ -45,13 +45,13 @@ planned-kept : (run : Run) (index : ℕ) (c d : Scene) (k : Keeps c d) (plan : P
 planned-kept run index c d k plan p = record { at = p.at; known = p.known; planned = p.planned; describes = describes-kept c d k p.known run.state p.describes }
 
 -- a run that makes no step
-typed-kept : (s new : Store) (run : Run) → Keeps (scene_of s.elements run) (scene_of new.elements run) → KeepsShapes s.maps new.maps → IsTyped s run → IsTyped new run
+typed-kept : (s new : Store) (run : Run) → Keeps (scene_of s run) (scene_of new run) → KeepsShapes s.maps new.maps → IsTyped s run → IsTyped new run
 typed-kept s new run k shapes t = record {
   safe = safe-kept s.maps new.maps run.program shapes t.safe;
   long = t.long;
   context = t.context;
   index = t.index;
-  planned = λ v. planned-kept run t.index (scene_of s.elements run) (scene_of new.elements run) k v.plan (t.planned v);
+  planned = λ v. planned-kept run t.index (scene_of s run) (scene_of new run) k v.plan (t.planned v);
   moved = t.moved;
 }
 
@@ -84,6 +84,7 @@ surrounds m r run w at going t = record {
   section = λ inside. has_open m.runs r run at inside;
   single = w.consistent.single;
   lengths = w.consistent.lengths;
+  arrays = λ n e at. linked-kept m.store.maps e (w.consistent.arrays n e at);
   bytes = w.bytes;
   bound = t.safe.bound;
   long = t.long;
@@ -102,7 +103,7 @@ Verifies s run t = IsVerified run.program.code t.safe.shapes run.program.context
 
 -- what a verification of its program says of a step
 stepped : (m : Machine) (r : ℕ) (run : Run) (answer : Answer) (new_store : Store) (new_run : Run) (w : IsWell m) (at : run_at m.runs r ≡ Some run) (going : run.exit ≡ None) (t : IsTyped m.store run) (v : Verifies m.store run t) → RunStep m.store (open_sections m.runs) run answer new_store new_run →
-    AllBytes new_store.elements × (new_run.exit ≡ None → IsPlannedAfter run.program.code v.plan t.index (scene_of new_store.elements new_run) new_run.state)
+    AllBytes new_store.elements × (new_run.exit ≡ None → IsPlannedAfter run.program.code v.plan t.index (scene_of new_store new_run) new_run.state)
 stepped m r run answer new_store new_run w at going t v h =
     v.closed.leads t.index h.0 m.store (open_sections m.runs) run answer new_store new_run (surrounds m r run w at going t) (t.planned v) h.1 h.2
 
@@ -112,10 +113,10 @@ index-alike code a b j k c x p q = subst (λ i. IsPlanned code a i c x) (starts_
 
 -- the run that made the step
 typed-stepped : (m : Machine) (new_store : Store) (run : Run) (answer : Answer) (new_run : Run) → KeepsShapes m.store.maps new_store.maps → SameProgram run answer new_run → (t : IsTyped m.store run) →
-    ((v : Verifies m.store run t) → IsPlannedAfter run.program.code v.plan t.index (scene_of new_store.elements new_run) new_run.state) → IsTyped new_store new_run
+    ((v : Verifies m.store run t) → IsPlannedAfter run.program.code v.plan t.index (scene_of new_store new_run) new_run.state) → IsTyped new_store new_run
 typed-stepped m new_store run answer new_run shapes same t p =
     let first = p t.safe.verified in
-    let scene = scene_of new_store.elements new_run in record {
+    let scene = scene_of new_store new_run in record {
       safe = record {
         shapes = t.safe.shapes;
         bound = subst (λ (x : Loaded). AreMapsBound t.safe.shapes x.maps new_store.maps) (sym same.program) (bound-kept t.safe.shapes run.program.maps m.store.maps new_store.maps shapes t.safe.bound);
@@ -143,7 +144,7 @@ typed-fresh m new run w shapes f = subst (IsTyped new.store) f.is (
       long = f.long;
       context = f.bytes;
       index = 0;
-      planned = λ v. v.closed.start (scene_of new.store.elements (fresh_run m.started f.program f.context)) refl;
+      planned = λ v. v.closed.start (scene_of new.store (fresh_run m.started f.program f.context)) refl;
       moved = omega arith;
     })
 
@@ -153,7 +154,7 @@ typed-inside s run t = let l = start-inside run.program.code t.index run.state.p
 
 module _ (m new : Machine) (event : Event) (answer : Answer) (w : IsWell m) (real : IsReal event) (h : DoesEvent m event answer new) where
   mv : StoreMoves (is_reap event) (open_sections m.runs) m.store new.store
-  mv = does-moves m new event answer w.consistent.single h
+  mv = does-moves m new event answer w.consistent.single w.consistent.lengths h
 
   bytes-step : (r : ℕ) → StepsRun m r answer new → AllBytes new.store.elements
   bytes-step r g = subst (λ (s : Store). AllBytes s.elements) (ap (λ x. x.store) (sym g.new_is))
@@ -163,7 +164,7 @@ module _ (m new : Machine) (event : Event) (answer : Answer) (w : IsWell m) (rea
   programs-new p program at = safe-kept m.store.maps new.store.maps program mv.shapes (w.programs p program (ap (λ l. slice_get l p) (sym (does-programs m new event answer h)) ∙ at))
 
   typed-new : (r : ℕ) (run : Run) → run.exit ≡ None → Comes m new r run → IsTyped new.store run
-  typed-new r run going (Stands at) = typed-kept m.store new.store run (keeps-moves (is_reap event) (open_sections m.runs) m.store new.store run mv (λ inside. has_open m.runs r run at inside)) mv.shapes (w.runs r run at going)
+  typed-new r run going (Stands at) = typed-kept m.store new.store run (keeps-moves (is_reap event) (open_sections m.runs) m.store new.store run (λ inside. has_open m.runs r run at inside) mv) mv.shapes (w.runs r run at going)
   typed-new r run going (Starting f) = typed-fresh m new run w mv.shapes f
   typed-new r run going (Stepping g) =
       let t = w.runs r g.old g.there g.going in
@@ -191,10 +192,10 @@ module _ (m new : Machine) (event : Event) (answer : Answer) (w : IsWell m) (rea
   }
 
 -- at the start
-pub starts_well : (shapes : List MapShape) (programs : List Loaded) → AreVerified shapes programs → IsWell (start_machine shapes programs)
-starts_well shapes programs safe = record {
-  consistent = starts_consistent shapes programs;
-  bytes = λ n e at. absurd (none-some e at);
+pub starts_well : (shapes : List MapShape) (programs : List Loaded) → AreShapes shapes → AreVerified shapes programs → IsWell (start_machine shapes programs)
+starts_well shapes programs limits safe = record {
+  consistent = starts_consistent shapes programs limits;
+  bytes = bytes-start 0 shapes;
   programs = safe;
   runs = λ r run at going. absurd (no-run MAX_RUNS r run at);
   moved = λ r run at. absurd (no-run MAX_RUNS r run at);
@@ -226,7 +227,7 @@ kept-last P keeps s (event ∷ events) (answer ∷ answers) (next ∷ states) p 
 kept-last P keeps s events answers states p real h = absurd h
 
 pub reached_is_well : (shapes : List MapShape) (programs : List Loaded) (s : Schedule) → AreVerified shapes programs → IsReachedSchedule shapes programs s → IsWell s.machine
-reached_is_well shapes programs s safe r = subst (λ (x : Schedule). IsWell x.machine) r.last (kept-last IsWell (λ m new event answer real h w. keeps_well m new event answer w real h) (start_schedule shapes programs) r.events r.answers r.states (starts_well shapes programs safe) r.real r.history)
+reached_is_well shapes programs s safe r = subst (λ (x : Schedule). IsWell x.machine) r.last (kept-last IsWell (λ m new event answer real h w. keeps_well m new event answer w real h) (start_schedule shapes programs) r.events r.answers r.states (starts_well shapes programs r.limits safe) r.real r.history)
 
 -- never stuck, of what a world tracks
 pub tracked_never_stuck : (w : WorldView) (events : List Event) (answers : List Answer) → AreVerified (shapes_of w) w.programs → AreReal events → AreNeverStuck Tracks w events answers

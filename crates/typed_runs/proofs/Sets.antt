@@ -1,5 +1,5 @@
 -- What is set, forgotten or renamed in a described run.
-use Rattle.std.proofs.Common.{◌≡◌, ℕ, ◌/◌, Option, Some, None, refl, sym, ap, subst, ◌∙◌, Bool, true, false, ◌<◌, arith}
+use Rattle.std.proofs.Common.{◌≡◌, ℕ, ◌/◌, Option, Some, None, inl, inr, refl, sym, ap, subst, ◌∙◌, Bool, true, false, ◌<◌, arith}
 use Rattle.std.specs.Prelude.{◌==◌, nat_le, if◌then◌else◌}
 use Rattle.std.proofs.lemmas.Bool.{eq-eqb, ne_eqb}
 use Rattle.bpf_model.specs.declared.value.Value.{Value}
@@ -11,7 +11,7 @@ use Rattle.scalar_domain.specs.declared.scalar.Scalar.{Scalar}
 use Rattle.typed_runs.specs.Kinds.{Kind, Blank, Mixed, Ended, Num, CtxAt, FrameAt, MapAt, ValueAt, MaybeNull, CellKind, BlankCell, MixedCell, EndedCell, ByteCell, PartCell, AbsState}
 use Rattle.bpf_model.specs.Near.{IsNear}
 use Rattle.bpf_model.proofs.Cases.{choice}
-use Rattle.typed_runs.specs.Describes.{IsElementOf, Scene, IsHeld, Naming, IsNullOrHeld, IsOf, Stored, IsOfCell, AreNear, Describes}
+use Rattle.typed_runs.specs.Describes.{IsElementOf, Scene, IsArrayMap, IsHeld, Naming, IsNullOrHeld, IsOf, Stored, IsOfCell, AreNear, Describes}
 use Rattle.typed_runs.specs.Effects.{with_kind, returned_kind, after_call, IsOther, IsOtherCell, IsFresh, IsWiderKind, IsWiderCell, IsWider}
 
 module _ (c : Scene) (ρ : Naming) where
@@ -131,17 +131,19 @@ widened left a b c m w d = record {
   cells = λ k. wider-cell c d.naming left d.stored k (a.cells k) (b.cells k) (m.frame k) (w.cells k) (d.cells k);
 }
 
--- outside every section nothing is known to be an element
-pub none_outside : (a : AbsState) (c : Scene) (m : State) (r map : ℕ) (s : Scalar) → Describes a c m → a.depth ≡ 0 → a.regs r ≡ ValueAt map s → ⊥
-none_outside a c m r map s d out e =
-    let h : IsElementOf c map s (m.regs r) = subst (λ k. IsOf c d.naming k (m.regs r)) e (d.regs r) in
-    let inside : 0 < c.depth = h.held.inside in
-    let deep : c.depth ≡ 0 = d.depth ∙ out in
-    absurd (omega arith)
+held-outside : (c : Scene) (map n : ℕ) → c.depth ≡ 0 → IsHeld c map n → IsArrayMap c map
+held-outside c map n out h = elim h.allowed [
+  | inl g ↦ (let inside : 0 < c.depth = g.0 in absurd (omega (arith, inside, out)))
+  | inr a ↦ a
+]
 
-pub no_cell_outside : (a : AbsState) (c : Scene) (m : State) (k map : ℕ) (s : Scalar) → Describes a c m → a.depth ≡ 0 → a.cells k ≡ PartCell (ValueAt map s) → ⊥
-no_cell_outside a c m k map s d out e =
+-- outside every section what is known to be an element is one of an array
+pub array_outside : (a : AbsState) (c : Scene) (m : State) (r map : ℕ) (s : Scalar) → Describes a c m → a.depth ≡ 0 → a.regs r ≡ ValueAt map s → IsArrayMap c map
+array_outside a c m r map s d out e =
+    let h : IsElementOf c map s (m.regs r) = subst (λ k. IsOf c d.naming k (m.regs r)) e (d.regs r) in
+    held-outside c map h.n (d.depth ∙ out) h.held
+
+pub array_cell_outside : (a : AbsState) (c : Scene) (m : State) (k map : ℕ) (s : Scalar) → Describes a c m → a.depth ≡ 0 → a.cells k ≡ PartCell (ValueAt map s) → IsArrayMap c map
+array_cell_outside a c m k map s d out e =
     let h : IsOfCell c d.naming d.stored k (PartCell (ValueAt map s)) (m.frame k) = subst (λ x. IsOfCell c d.naming d.stored k x (m.frame k)) e (d.cells k) in
-    let inside : 0 < c.depth = h.1.held.inside in
-    let deep : c.depth ≡ 0 = d.depth ∙ out in
-    absurd (omega arith)
+    held-outside c map h.1.n (d.depth ∙ out) h.1.held

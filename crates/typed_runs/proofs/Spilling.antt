@@ -147,16 +147,16 @@ pub no-element-load : (es : List Element) (width : ℕ) (offset : ℤ) (base : V
 no-element-load es width offset base r n own e h = load-own es width offset base n (subst (HoldsValue IsOwn) (sym e) own) h
 
 module _ (dst src : ℕ) (offset o : ℤ) (at : ℕ) (shapes : List MapShape) (ctx_len : ℕ) (a : AbsState) (kind : Kind) where
-  spill-acts : a.regs dst ≡ FrameAt o → region_offset FRAME_BYTES 8 (o +ℤ offset) ≡ Some at → a.regs src ≡ kind → IsWritten kind → (s : Maps) (run : Run) → AllBytes s.elements → Describes a (scene_of s.elements run) run.state →
+  spill-acts : a.regs dst ≡ FrameAt o → region_offset FRAME_BYTES 8 (o +ℤ offset) ≡ Some at → a.regs src ≡ kind → IsWritten kind → (s : Maps) (run : Run) → AllBytes s.elements → Describes a (scene_of s run) run.state →
       Acting (Store Eight dst offset (Register src)) s run (with_cells at 8 (PartCell kind) a) None
   spill-acts e p f w s run bytes d =
-      let base : run.state.regs dst ≡ Pointer (Frame o) = reg-is a (scene_of s.elements run) run.state dst (FrameAt o) d e in
-      let v = reg-is a (scene_of s.elements run) run.state src kind d f in
+      let base : run.state.regs dst ≡ Pointer (Frame o) = reg-is a (scene_of s run) run.state dst (FrameAt o) d e in
+      let v = reg-is a (scene_of s run) run.state src kind d f in
       let goes : (ℕ → Cell) → Option Outcome = λ frame. Some (Moves (record { regs = run.state.regs; frame = frame; place = run.state.place + 1 })) in
       by-itself (Store Eight dst offset (Register src)) s run (with_cells at 8 (PartCell kind) a) None (Moves (record { regs = run.state.regs; frame = with_value at (run.state.regs src) run.state.frame; place = run.state.place + 1 })) bytes
-      (ap (store_to run.state 8 offset (run.state.regs src)) base ∙ (ap (λ q. q >>= λ k. frame_after k 8 (run.state.regs src) run.state.frame >>= goes) p ∙ ap (λ q. q >>= goes) (frame-is at (run.state.regs src) run.state.frame (written (scene_of s.elements run) d.naming kind (run.state.regs src) w v))))
+      (ap (store_to run.state 8 offset (run.state.regs src)) base ∙ (ap (λ q. q >>= λ k. frame_after k 8 (run.state.regs src) run.state.frame >>= goes) p ∙ ap (λ q. q >>= goes) (frame-is at (run.state.regs src) run.state.frame (written (scene_of s run) d.naming kind (run.state.regs src) w v))))
       (λ other fs h. no-element s.elements 8 offset (run.state.regs src) (run.state.regs dst) (Frame o) fs tt base h.0)
-      (inl (refl, refl, spilled-described a (scene_of s.elements run) run.state at (run.state.place + 1) kind (run.state.regs src) (aligned (o +ℤ offset) at p) d v (d.near.regs_near src)))
+      (inl (refl, refl, spilled-described a (scene_of s run) run.state at (run.state.place + 1) kind (run.state.regs src) (aligned (o +ℤ offset) at p) d v (d.near.regs_near src)))
 
   pub spill_transfers : a.regs dst ≡ FrameAt o → region_offset FRAME_BYTES 8 (o +ℤ offset) ≡ Some at → a.regs src ≡ kind → IsWritten kind → Transfers (Store Eight dst offset (Register src)) shapes ctx_len a (with_cells at 8 (PartCell kind) a) None
   spill_transfers e p f w = acts-transfers (Store Eight dst offset (Register src)) shapes ctx_len a (with_cells at 8 (PartCell kind) a) None (λ s opened run answer ns nr. (λ h. h, λ h. h)) (λ s opened run x t d. spill-acts e p f w s run x.bytes d)
@@ -231,10 +231,10 @@ read-back frame at v (inr x) h =
 
 module _ (dst src : ℕ) (offset o : ℤ) (at : ℕ) (shapes : List MapShape) (ctx_len : ℕ) (a : AbsState) (kind : Kind) where
   fill-acts : a.regs src ≡ FrameAt o → region_offset FRAME_BYTES 8 (o +ℤ offset) ≡ Some at → ((j : ℕ) → j < 8 → a.cells (at + j) ≡ PartCell kind) → IsPointer kind → (10 ≡ dst → ⊥) →
-      (s : Maps) (run : Run) → AllBytes s.elements → Describes a (scene_of s.elements run) run.state → Acting (Load Eight dst src offset) s run (with_kind dst kind a) None
+      (s : Maps) (run : Run) → AllBytes s.elements → Describes a (scene_of s run) run.state → Acting (Load Eight dst src offset) s run (with_kind dst kind a) None
   fill-acts e p cells w ne s run bytes d =
       let m : State = run.state in
-      let c : Scene = scene_of s.elements run in
+      let c : Scene = scene_of s run in
       let base : m.regs src ≡ Pointer (Frame o) = reg-is a c m src (FrameAt o) d e in
       let mul : at % 8 ≡ 0 = aligned (o +ℤ offset) at p in
       let v : Value = d.stored (at / 8) in

@@ -1,6 +1,8 @@
 -- The values of all elements stay bytes; the programs stay.
-use Rattle.std.proofs.Common.{◌≡◌, ℕ, List, [], ◌∷◌, ◌++◌, Option, Some, None, inl, inr, refl, sym, ap, subst, ◌∙◌, Result}
+use Rattle.std.proofs.Common.{◌≡◌, ℕ, zero, suc, List, [], ◌∷◌, ◌++◌, map, replicate, Option, Some, None, inl, inr, refl, sym, ap, subst, ◌∙◌, Result, arith}
 use Rattle.std.specs.Prelude.{slice_get, slice_set}
+use Rattle.std.specs.List.{range_with_len}
+use Rattle.std.proofs.lemmas.Option.{none-some, same_Some}
 use Rattle.bpf_model.specs.declared.call.Errno.{Errno}
 use Rattle.bpf_model.specs.declared.event.Event.{Event}
 use Rattle.bpf_model.specs.declared.event.Event.TheVariants as events
@@ -8,13 +10,16 @@ use Rattle.bpf_model.specs.declared.event.Answer.{Answer}
 use Rattle.bpf_model.specs.declared.event.Answer.TheVariants as answers
 use Rattle.bpf_model.specs.declared.event.EventRefusal.{EventRefusal}
 use Rattle.bpf_model.specs.Section.{Section}
-use Rattle.bpf_model.specs.Element.{Element, Unlinked, Reclaimed, with_life, set_to, changed, unlinked}
-use Rattle.bpf_model.specs.MapState.{MapState, Store}
-use Rattle.bpf_model.specs.Helper.{Replaces, Settles, Updates, Removes, Deletes, newborn}
+use Rattle.bpf_model.specs.Element.{Element, Unlinked, Reclaimed, with_life, with_value, newborn, set_to, changed, overwritten, unlinked}
+use Rattle.bpf_model.specs.declared.limits.MapKind.{MapKind}
+use Rattle.bpf_model.specs.declared.limits.MapKind.TheVariants.{Hash, Array}
+use Rattle.bpf_model.specs.declared.limits.MapShape.{MapShape}
+use Rattle.bpf_model.specs.MapState.{MapState, Store, array_element, new_elements, all_new_elements}
+use Rattle.bpf_model.specs.Helper.{Writes, Settles, Updates, Removes, RemovesFrom, Deletes}
 use Rattle.bpf_model.specs.Machine.{Machine, open_sections}
 use Rattle.bpf_model.specs.MachineStep.{StepsRun}
 use Rattle.bpf_model.specs.Event.{PerformsEvent, Answers, DoesEvent, refusal, AreBytes, IsReal, AllBytes}
-use Rattle.bpf_model.proofs.Lists.{get-append_cases, get-set_cases}
+use Rattle.bpf_model.proofs.Lists.{get-append_cases, get-replicate, get-set_cases}
 
 bytes-along : (es new : List Element) → new ≡ es → AllBytes es → AllBytes new
 bytes-along es new e h = subst AllBytes (sym e) h
@@ -42,24 +47,58 @@ bytes-born es nb h b k e at = elim (get-append_cases es nb k e at) [
   | inr x ↦ subst (λ (y : Element). AreBytes y.value) x.1 b
 ]
 
-bytes-settles : (s : Store) (opened : List Section) (map : ℕ) (m : MapState) (key value : List ℕ) (found : Option ℕ) (new : Store) (error : Option Errno) (ret : Result (Unit {0}) Errno) →
-    AllBytes s.elements → AreBytes value → Settles error ret s new (Replaces s opened map m key value found new) → AllBytes new.elements
-bytes-settles s opened map m key value found new (Some e) ret h b st = bytes-along s.elements new.elements (ap (λ x. x.elements) st.1) h
-bytes-settles s opened map m key value found new None ret h b st =
-    bytes-along _ new.elements (ap (λ x. x.elements) st.1.new_is) (bytes-born (unlinked opened s.elements found) (newborn map key value st.1.count) (bytes-unlinked opened s.elements found h) b)
+bytes-overwritten : (value : List ℕ) (es : List Element) (found : Option ℕ) → AllBytes es → AreBytes value → AllBytes (overwritten value es found)
+bytes-overwritten value es None h b = h
+bytes-overwritten value es (Some n) h b = bytes-changed (with_value value) es n h (λ e at. b)
+
+bytes-writes : (kind : MapKind) (s : Store) (opened : List Section) (map : ℕ) (m : MapState) (key value : List ℕ) (found : Option ℕ) (new : Store) → AllBytes s.elements → AreBytes value → Writes kind s opened map m key value found new → AllBytes new.elements
+bytes-writes Hash s opened map m key value found new h b w =
+    bytes-along _ new.elements (ap (λ x. x.elements) w.new_is) (bytes-born (unlinked opened s.elements found) (newborn map key value w.count) (bytes-unlinked opened s.elements found h) b)
+bytes-writes Array s opened map m key value found new h b w = bytes-along _ new.elements (ap (λ x. x.elements) w) (bytes-overwritten value s.elements found h b)
+
+bytes-settles : (kind : MapKind) (s : Store) (opened : List Section) (map : ℕ) (m : MapState) (key value : List ℕ) (found : Option ℕ) (new : Store) (error : Option Errno) (ret : Result (Unit {0}) Errno) →
+    AllBytes s.elements → AreBytes value → Settles error ret s new (Writes kind s opened map m key value found new) → AllBytes new.elements
+bytes-settles kind s opened map m key value found new (Some e) ret h b st = bytes-along s.elements new.elements (ap (λ x. x.elements) st.1) h
+bytes-settles kind s opened map m key value found new None ret h b st = bytes-writes kind s opened map m key value found new h b st.1
 
 pub bytes-updates : (s : Store) (opened : List Section) (map : ℕ) (key value : List ℕ) (flags : ℕ) (ret : Result (Unit {0}) Errno) (new : Store) → AllBytes s.elements → AreBytes value → Updates s opened map key value flags ret new → AllBytes new.elements
-bytes-updates s opened map key value flags ret new h b u = bytes-settles s opened map u.state key value u.found new _ ret h b u.settled
+bytes-updates s opened map key value flags ret new h b u = bytes-settles u.state.shape.kind s opened map u.state key value u.found new _ ret h b u.settled
 
 bytes-removes : (s : Store) (opened : List Section) (ret : Result (Unit {0}) Errno) (new : Store) (found : Option ℕ) → AllBytes s.elements → Removes found opened ret s new → AllBytes new.elements
 bytes-removes s opened ret new None h r = bytes-along s.elements new.elements (ap (λ x. x.elements) r.1) h
 bytes-removes s opened ret new (Some n) h r = bytes-along _ new.elements (ap (λ x. x.elements) r.1) (bytes-unlinked opened s.elements (Some n) h)
 
+bytes-removed : (kind : MapKind) (s : Store) (opened : List Section) (ret : Result (Unit {0}) Errno) (new : Store) (found : Option ℕ) → AllBytes s.elements → RemovesFrom kind found opened ret s new → AllBytes new.elements
+bytes-removed Hash s opened ret new found h r = bytes-removes s opened ret new found h r
+bytes-removed Array s opened ret new found h r = bytes-along s.elements new.elements (ap (λ x. x.elements) r.1) h
+
 pub bytes-deletes : (s : Store) (opened : List Section) (map : ℕ) (key : List ℕ) (ret : Result (Unit {0}) Errno) (new : Store) → AllBytes s.elements → Deletes s opened map key ret new → AllBytes new.elements
-bytes-deletes s opened map key ret new h d = bytes-removes s opened ret new d.0 h d.2
+bytes-deletes s opened map key ret new h d = bytes-removed d.state.shape.kind s opened ret new d.found h d.removed
 
 pub same-bytes : (s new : Store) → new ≡ s → AllBytes s.elements → AllBytes new.elements
 same-bytes s new e h = bytes-along s.elements new.elements (ap (λ x. x.elements) e) h
+
+-- elements of new maps have values of zeros
+bytes-append : (es fs : List Element) → AllBytes es → AllBytes fs → AllBytes (es ++ fs)
+bytes-append [] fs h g n f at = g n f at
+bytes-append (e ∷ es) fs h g zero f at = h zero f at
+bytes-append (e ∷ es) fs h g (suc n) f at = bytes-append es fs (λ k. h (suc k)) g n f at
+
+zero-bytes : (n : ℕ) → AreBytes (replicate n 0)
+zero-bytes n k b at = let e : b ≡ 0 = get-replicate n k 0 b at in omega (arith, e)
+
+bytes-each : (k : ℕ) (shape : MapShape) (indices : List ℕ) → AllBytes (map (array_element k shape) indices)
+bytes-each k shape [] n e at = absurd (none-some e at)
+bytes-each k shape (i ∷ indices) zero e at = subst (λ (x : Element). AreBytes x.value) (same_Some (array_element k shape i) e at) (zero-bytes shape.value_len)
+bytes-each k shape (i ∷ indices) (suc n) e at = bytes-each k shape indices n e at
+
+bytes-new : (kind : MapKind) (k : ℕ) (shape : MapShape) → AllBytes (new_elements kind k shape)
+bytes-new Hash k shape n e at = absurd (none-some e at)
+bytes-new Array k shape n e at = bytes-each k shape (range_with_len 0 shape.entries) n e at
+
+pub bytes-start : (k : ℕ) (shapes : List MapShape) → AllBytes (all_new_elements k shapes)
+bytes-start k [] n e at = absurd (none-some e at)
+bytes-start k (shape ∷ shapes) n e at = bytes-append (new_elements shape.kind k shape) (all_new_elements (suc k) shapes) (bytes-new shape.kind k shape) (bytes-start (suc k) shapes) n e at
 
 -- of a step of a run it is known by its program's verification
 performs-bytes : (m : Machine) (event : Event) (answer : Answer) (new : Machine) → IsReal event → ((r : ℕ) → StepsRun m r answer new → AllBytes new.store.elements) → AllBytes m.store.elements → PerformsEvent m event answer new → AllBytes new.store.elements

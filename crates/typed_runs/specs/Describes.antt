@@ -1,6 +1,8 @@
 -- What an abstract state says of a run among the elements.
 use Rattle.std.specs.Prelude.{◌≡◌, ℕ, ◌/◌, ◌%◌, ◌^◌, ◌<◌, ◌≤◌, List, Option, Some, None, slice_get}
-use Rattle.std.specs.Prelude.{ℤ, pos, ◌+ℤ◌}
+use Rattle.std.specs.Prelude.{ℤ, pos, ◌+ℤ◌, ◌⊎◌, map}
+use Rattle.bpf_model.specs.declared.limits.MapKind.{MapKind}
+use Rattle.bpf_model.specs.declared.limits.MapKind.TheVariants.{Array}
 use Rattle.bpf_model.specs.declared.value.Value.{Value}
 use Rattle.bpf_model.specs.declared.value.Value.TheVariants.{Nothing, Number, Pointer}
 use Rattle.bpf_model.specs.declared.value.Reference.TheVariants.{Ctx, Frame, MapRef, Elem}
@@ -9,6 +11,7 @@ use Rattle.bpf_model.specs.declared.value.Cell.TheVariants.{Unwritten, Byte, Par
 use Rattle.bpf_model.specs.Step.{State}
 use Rattle.bpf_model.specs.Section.{Section, Has}
 use Rattle.bpf_model.specs.Element.{Element, Life, Linked, Unlinked, Reclaimed}
+use Rattle.bpf_model.specs.MapState.{MapState, Store}
 use Rattle.bpf_model.specs.Machine.{Run, section_of}
 use Rattle.bpf_model.specs.MachineStep.{found_value}
 use Rattle.bpf_model.specs.Near.{IsNear, IsNearCell}
@@ -18,16 +21,23 @@ use Rattle.typed_runs.specs.Kinds.{Kind, Blank, Mixed, Ended, Num, CtxAt, FrameA
 use Rattle.typed_runs.specs.Kinds.{MaybeNull, CellKind, BlankCell, MixedCell, EndedCell, ByteCell}
 use Rattle.typed_runs.specs.Kinds.{PartCell, AbsState}
 
--- All that a description reads beside the run's registers and frame.
+-- All that a description reads beside the run's registers and frame: the elements, the kinds of
+-- the maps by their numbers, the numbers of the maps that the program's list names, how many of the
+-- run's locks are open, and its section.
 pub record Scene : Type 0 where
   pub elements : List Element
+  pub kinds : List MapKind
   pub maps : List ℕ
   pub depth : ℕ
   pub section : Section
 
-abbrev pub scene_of : List Element → Run → Scene
-scene_of es run = record {
-  elements = es;
+abbrev pub kinds_of : List MapState → List MapKind
+kinds_of states = map (λ (state : MapState). state.shape.kind) states
+
+abbrev pub scene_of : Store → Run → Scene
+scene_of s run = record {
+  elements = s.elements;
+  kinds = kinds_of s.maps;
   maps = run.program.maps;
   depth = run.depth;
   section = section_of run;
@@ -39,14 +49,23 @@ IsGuarded Linked s = Unit {0}
 IsGuarded (Unlinked since) s = Has since s
 IsGuarded Reclaimed s = ⊥
 
--- The run is inside a section, which guards element n, one of the map at this index of its
--- program's list.
+-- the run is inside a section, which guards an element of this life
+abbrev pub IsGuardedInside : Scene → Life → Type 0
+IsGuardedInside c life = (0 < c.depth) × IsGuarded life c.section
+
+-- the map at this index of the program's list is an array
+pub record IsArrayMap (c : Scene) (index : ℕ) : Type 0 where
+  pub number : ℕ
+  pub listed : slice_get c.maps index ≡ Some number
+  pub array : slice_get c.kinds number ≡ Some Array
+
+-- The run may access element n, one of the map at this index of its program's list: the run is
+-- inside a section, which guards the element, or the map is an array, whose elements stay.
 pub record IsHeld (c : Scene) (map n : ℕ) : Type 0 where
-  pub inside : 0 < c.depth
   pub element : Element
   pub born : slice_get c.elements n ≡ Some element
   pub in_map : slice_get c.maps map ≡ Some element.map
-  pub guarded : IsGuarded element.life c.section
+  pub allowed : IsGuardedInside c element.life ⊎ IsArrayMap c map
 
 -- what each identity stands for: null, or an element
 abbrev pub Naming : Type 0
@@ -69,7 +88,7 @@ pub record IsContextAt (s : Scalar) (v : Value) : Type 0 where
   pub is : v ≡ Pointer (Ctx offset)
   pub there : HasOffset s offset
 
--- a reference to an element of this map that the run's section guards, at one of these offsets
+-- a reference to an element of this map that the run may access, at one of these offsets
 pub record IsElementOf (c : Scene) (map : ℕ) (s : Scalar) (v : Value) : Type 0 where
   pub n : ℕ
   pub offset : ℤ

@@ -1,7 +1,9 @@
 -- What the instructions that concern maps do to an abstract state.
-use Rattle.std.specs.Prelude.{◌≡◌, ℕ, ◌+◌, ◌-◌, ◌==◌, ◌<◌, ◌≤◌, nat_le, List, slice_get}
-use Rattle.std.specs.Prelude.{Some, ℤ, pos, ◌+ℤ◌, if◌then◌else◌}
+use Rattle.std.specs.Prelude.{◌≡◌, ℕ, ◌+◌, ◌-◌, ◌==◌, ◌<◌, ◌≤◌, nat_le, List, slice_get, Bool}
+use Rattle.std.specs.Prelude.{true, false, Option, Some, None, ℤ, pos, ◌+ℤ◌, if◌then◌else◌}
 use Rattle.bpf_model.specs.declared.limits.TheConstants.{FRAME_BYTES}
+use Rattle.bpf_model.specs.declared.limits.MapKind.{MapKind}
+use Rattle.bpf_model.specs.declared.limits.MapKind.TheVariants.{Hash, Array}
 use Rattle.bpf_model.specs.declared.limits.MapShape.{MapShape}
 use Rattle.bpf_model.specs.declared.insn.Operand.{Operand}
 use Rattle.bpf_model.specs.declared.insn.Operand.TheVariants.{Register, Immediate}
@@ -26,23 +28,37 @@ returned_kind kind regs r = if r == 0 then kind else if nat_le r 5 then Blank el
 abbrev pub after_call : Kind → AbsState → AbsState
 after_call kind a = record { regs = returned_kind kind a.regs; cells = a.cells; depth = a.depth }
 
--- the end of a section ends all that may be an element
-abbrev pub ended_kind : Kind → Kind
-ended_kind (ValueAt map s) = Ended
-ended_kind (MaybeNull map id) = Ended
-ended_kind kind = kind
+-- a map of this kind is an array, and that of this index in a program's list
+abbrev pub is_array : MapKind → Bool
+is_array Hash = false
+is_array Array = true
 
-abbrev pub ended_cell : CellKind → CellKind
-ended_cell (PartCell (ValueAt map s)) = EndedCell
-ended_cell (PartCell (MaybeNull map id)) = EndedCell
-ended_cell cell = cell
+abbrev pub has_array_shape : Option MapShape → Bool
+has_array_shape None = false
+has_array_shape (Some shape) = is_array shape.kind
+
+abbrev pub is_array_in : List MapShape → ℕ → Bool
+is_array_in shapes map = has_array_shape (slice_get shapes map)
+
+-- The end of a section ends all that may be an element of a hash map. Elements of arrays need none.
+abbrev pub ended_kind : List MapShape → Kind → Kind
+ended_kind shapes (ValueAt map s) = if is_array_in shapes map then ValueAt map s else Ended
+ended_kind shapes (MaybeNull map id) = if is_array_in shapes map then MaybeNull map id else Ended
+ended_kind shapes kind = kind
+
+abbrev pub ended_cell : List MapShape → CellKind → CellKind
+ended_cell shapes (PartCell (ValueAt map s)) =
+    if is_array_in shapes map then PartCell (ValueAt map s) else EndedCell
+ended_cell shapes (PartCell (MaybeNull map id)) =
+    if is_array_in shapes map then PartCell (MaybeNull map id) else EndedCell
+ended_cell shapes cell = cell
 
 -- An unlock at this depth leaves what is known, or ends the section where it is the outermost.
-abbrev pub left_kind : ℕ → Kind → Kind
-left_kind depth kind = if depth == 1 then ended_kind kind else kind
+abbrev pub left_kind : List MapShape → ℕ → Kind → Kind
+left_kind shapes depth kind = if depth == 1 then ended_kind shapes kind else kind
 
-abbrev pub left_cell : ℕ → CellKind → CellKind
-left_cell depth cell = if depth == 1 then ended_cell cell else cell
+abbrev pub left_cell : List MapShape → ℕ → CellKind → CellKind
+left_cell shapes depth cell = if depth == 1 then ended_cell shapes cell else cell
 
 abbrev pub after_lock : AbsState → AbsState
 after_lock a = record {
@@ -51,10 +67,10 @@ after_lock a = record {
   depth = a.depth + 1;
 }
 
-abbrev pub after_unlock : AbsState → AbsState
-after_unlock a = record {
-  regs = returned_kind Blank (λ r. left_kind a.depth (a.regs r));
-  cells = λ k. left_cell a.depth (a.cells k);
+abbrev pub after_unlock : List MapShape → AbsState → AbsState
+after_unlock shapes a = record {
+  regs = returned_kind Blank (λ r. left_kind shapes a.depth (a.regs r));
+  cells = λ k. left_cell shapes a.depth (a.cells k);
   depth = a.depth - 1;
 }
 

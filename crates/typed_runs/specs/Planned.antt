@@ -1,6 +1,6 @@
 -- A plan that is kept instruction by instruction: what the verifier's pass builds.
 use Rattle.std.specs.Prelude.{◌≡◌, ℕ, suc, ◌^◌, ◌==◌, ◌<◌, List, length, slice_get, Option, Some}
-use Rattle.std.specs.Prelude.{true, false, ℤ, pos, unwrap_or, if◌then◌else◌}
+use Rattle.std.specs.Prelude.{true, ℤ, pos, unwrap_or, if◌then◌else◌}
 use Rattle.bpf_model.specs.declared.limits.TheConstants.{FRAME_BYTES}
 use Rattle.bpf_model.specs.declared.insn.Insn.{Insn}
 use Rattle.bpf_model.specs.declared.limits.MapShape.{MapShape}

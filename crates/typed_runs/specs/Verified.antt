@@ -3,6 +3,7 @@ use Rattle.std.specs.Prelude.{◌≡◌, ℕ, ◌+◌, ◌<◌, List, length, Op
 use Rattle.std.specs.Prelude.{true, false, ◌⊎◌, unwrap_or, ℤ, pos, ◌+ℤ◌}
 use Rattle.bpf_model.specs.declared.insn.Insn.{Insn}
 use Rattle.bpf_model.specs.declared.insn.Insn.TheVariants.{Call}
+use Rattle.bpf_model.specs.declared.limits.MapKind.TheVariants.{Array}
 use Rattle.bpf_model.specs.declared.limits.MapShape.{MapShape}
 use Rattle.bpf_model.specs.declared.event.Answer.{Answer}
 use Rattle.bpf_model.specs.Spelling.{slot_count}
@@ -11,7 +12,7 @@ use Rattle.bpf_model.specs.Graph.{falls, distance, JumpsTo}
 use Rattle.bpf_model.specs.Step.{State, Environment, Outcome, Moves, Exits, after, entry, insn_at}
 use Rattle.bpf_model.specs.Consistent.{HasLengths, IsSingle}
 use Rattle.bpf_model.specs.Section.{Section, Has}
-use Rattle.bpf_model.specs.Element.{Element}
+use Rattle.bpf_model.specs.Element.{Element, is_reclaimed}
 use Rattle.bpf_model.specs.MapState.{MapState, Store}
 use Rattle.bpf_model.specs.Machine.{Run, section_of}
 use Rattle.bpf_model.specs.MachineStep.{AccessesElement, InsnStep}
@@ -27,6 +28,11 @@ pub record AreMapsBound (shapes : List MapShape) (maps : List ℕ)
       (map : ℕ) × (state : MapState)
       × (slice_get maps i ≡ Some map) × (slice_get states map ≡ Some state) × (state.shape ≡ shape)
 
+-- an element of an array isn't reclaimed
+abbrev pub StaysKept : List MapState → Element → Type 0
+StaysKept maps e = (state : MapState) → slice_get maps e.map ≡ Some state →
+    state.shape.kind ≡ Array → is_reclaimed e.life ≡ false
+
 -- What is so around a run that hasn't ended, in each state that is reached, of a program that was
 -- verified against these shapes.
 pub record Surrounds (shapes : List MapShape) (ctx_len : ℕ) (s : Store) (opened : List Section)
@@ -35,6 +41,7 @@ pub record Surrounds (shapes : List MapShape) (ctx_len : ℕ) (s : Store) (opene
   pub section : 0 < run.depth → Has opened (section_of run)
   pub single : IsSingle s.elements
   pub lengths : (n : ℕ) (e : Element) → slice_get s.elements n ≡ Some e → HasLengths s.maps e
+  pub arrays : (n : ℕ) (e : Element) → slice_get s.elements n ≡ Some e → StaysKept s.maps e
   pub bytes : AllBytes s.elements
   pub bound : AreMapsBound shapes run.program.maps s.maps
   pub long : length run.context ≡ ctx_len
@@ -59,9 +66,9 @@ LandsDescribed i new taken c place (Moves next) =
     ⊎ (JumpsTo i place next.place × Describes (unwrap_or taken new) c next)
 
 -- the run has ended, or is described where it goes on
-abbrev pub Leads : Insn → AbsState → Option AbsState → ℕ → List Element → Run → Type 0
-Leads i new taken place es run =
-    run.exit ≡ None → LandsDescribed i new taken (scene_of es run) place (Moves run.state)
+abbrev pub Leads : Insn → AbsState → Option AbsState → ℕ → Store → Run → Type 0
+Leads i new taken place s run =
+    run.exit ≡ None → LandsDescribed i new taken (scene_of s run) place (Moves run.state)
 
 -- What `transfer` (crate `state_steps`) ensures: from each described state, where a jump has its
 -- target, the instruction isn't stuck, each of its steps leads to a described one, and bytes stay
@@ -69,13 +76,13 @@ Leads i new taken place es run =
 pub record Transfers (i : Insn) (shapes : List MapShape) (ctx_len : ℕ) (old new : AbsState)
     (taken : Option AbsState) : Type 0 where
   pub goes : (s : Store) (opened : List Section) (run : Run) → Surrounds shapes ctx_len s opened run
-      → JumpsToSlot i run.state.place → Describes old (scene_of s.elements run) run.state
+      → JumpsToSlot i run.state.place → Describes old (scene_of s run) run.state
       → HasStep i s opened run
   pub leads : (s : Store) (opened : List Section) (run : Run) (answer : Answer)
       (new_store : Store) (new_run : Run) → Surrounds shapes ctx_len s opened run
-      → JumpsToSlot i run.state.place → Describes old (scene_of s.elements run) run.state →
+      → JumpsToSlot i run.state.place → Describes old (scene_of s run) run.state →
       InsnStep i s opened run answer new_store new_run → AllBytes new_store.elements
-      × Leads i new taken run.state.place new_store.elements new_run
+      × Leads i new taken run.state.place new_store new_run
 
 -- what is known before each instruction, by its index
 abbrev pub Plan : Type 0
@@ -101,16 +108,16 @@ pub record IsClosed (code : List Insn) (shapes : List MapShape) (ctx_len : ℕ) 
   pub start : (c : Scene) → c.depth ≡ 0 → IsPlanned code plan 0 c entry
   pub goes : (k : ℕ) (s : Store) (opened : List Section) (run : Run) →
       Surrounds shapes ctx_len s opened run
-      → IsPlanned code plan k (scene_of s.elements run) run.state →
+      → IsPlanned code plan k (scene_of s run) run.state →
       (i : Insn) × (insn_at code run.state.place ≡ Some i) × HasStep i s opened run
   pub leads : (k : ℕ) (i : Insn) (s : Store) (opened : List Section) (run : Run)
       (answer : Answer) (new_store : Store) (new_run : Run)
       → Surrounds shapes ctx_len s opened run →
-      IsPlanned code plan k (scene_of s.elements run) run.state →
+      IsPlanned code plan k (scene_of s run) run.state →
       insn_at code run.state.place ≡ Some i
       → InsnStep i s opened run answer new_store new_run →
       AllBytes new_store.elements × (new_run.exit ≡ None
-      → IsPlannedAfter code plan k (scene_of new_store.elements new_run) new_run.state)
+      → IsPlannedAfter code plan k (scene_of new_store new_run) new_run.state)
 
 -- A program that is verified: some plan of it is closed. Each `Verified` (crate `verifier`) is one.
 pub record IsVerified (code : List Insn) (shapes : List MapShape) (ctx_len : ℕ) : Type 0 where

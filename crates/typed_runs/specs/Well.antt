@@ -27,7 +27,7 @@ pub record IsTyped (s : Store) (run : Run) : Type 0 where
   pub context : AreBytes run.context
   pub index : ℕ
   pub planned : (v : IsVerified run.program.code safe.shapes run.program.context_len) →
-      IsPlanned run.program.code v.plan index (scene_of s.elements run) run.state
+      IsPlanned run.program.code v.plan index (scene_of s run) run.state
   pub moved : run.moved ≤ index
 
 -- What is so in each state that is reached with verified programs.

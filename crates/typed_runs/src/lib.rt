@@ -8,9 +8,11 @@
 //! the law. The contracts of the verifier and of the world cite these definitions, and stand on these laws.
 #![tactic(auto)]
 
-ghost use Rattle.std.specs.Prelude.{◌≡◌, ℕ, ◌+◌, ◌^◌, ◌<◌, List, [], ◌∷◌, Option, Some, None, slice_get, unwrap_or, ℤ, pos, ◌+ℤ◌, false};
+ghost use Rattle.std.specs.Prelude.{◌≡◌, ℕ, ◌+◌, ◌^◌, ◌<◌, List, [], ◌∷◌, Option, Some, None, slice_get, unwrap_or, ℤ, pos, ◌+ℤ◌, false, ◌⊎◌};
 ghost use Rattle.bpf_model.specs.declared.limits.TheConstants.{FRAME_BYTES, MAX_DEPTH};
+ghost use Rattle.bpf_model.specs.declared.limits.MapKind.{MapKind};
 ghost use Rattle.bpf_model.specs.declared.limits.MapShape.{MapShape};
+ghost use Rattle.bpf_model.specs.MapState.{AreShapes};
 ghost use Rattle.bpf_model.specs.declared.insn.Insn.{Insn};
 ghost use Rattle.bpf_model.specs.declared.insn.Operand.{Operand};
 ghost use Rattle.bpf_model.specs.declared.insn.CallKind.{CallKind};
@@ -40,7 +42,7 @@ ghost use Rattle.scalar_domain.specs.Scalar.{Holds};
 ghost use Rattle.scalar_domain.specs.declared.scalar.Scalar.{Scalar};
 ghost use Rattle.model_laws.specs.Example.{lookup_and_load, lookup_program, example_shape};
 ghost use Rattle.typed_runs.specs.Kinds.{Kind, Num, FrameAt, ValueAt, MaybeNull, PartCell, AbsState};
-ghost use Rattle.typed_runs.specs.Describes.{Scene, scene_of, HasOffset, Describes};
+ghost use Rattle.typed_runs.specs.Describes.{Scene, scene_of, IsArrayMap, HasOffset, Describes};
 ghost use Rattle.typed_runs.specs.Effects.{with_kind, with_cells, after_call, after_lock, after_unlock, when_null, when_there, IsFresh, IsAlwaysInside, HasMap, HasBytes, IsWritten, IsPointer, IsNumberOperand};
 ghost use Rattle.typed_runs.specs.Verified.{Plan, Transfers, TransfersAlone, is_call, AreMapsBound, IsPlanned, IsClosed, IsVerified};
 ghost use Rattle.typed_runs.specs.Planned.{Wider, AreAlike, Joins, IsPlanKept};
@@ -56,8 +58,8 @@ ghost use Rattle.typed_runs.specs.Well.{AreVerified, IsWell};
 pub fn stays_described()
     ensures { (m new : Machine) (event : Event) (answer : Answer) (r : ℕ) (run : Run) (a : AbsState)
         → IsConsistent m → DoesEvent m event answer new → run_at m.runs r ≡ Some run
-        → Describes a (scene_of m.store.elements run) run.state
-        → Describes a (scene_of new.store.elements run) run.state }
+        → Describes a (scene_of m.store run) run.state
+        → Describes a (scene_of new.store run) run.state }
 {}
 
 /// A join describes what its first state describes.
@@ -97,19 +99,20 @@ pub fn lock_transfers()
         → Transfers (Insn.Call CallKind.Kernel imm) shapes ctx_len a (after_lock a) None }
 {}
 
-/// An unlock inside a section transfers: the outermost ends all that may be an element, in registers and in
-/// cells.
+/// An unlock inside a section transfers: the outermost ends all that may be an element of a hash map, in registers
+/// and in cells.
 pub fn unlock_transfers()
     ensures { (imm : ℤ) (shapes : List MapShape) (ctx_len : ℕ) (a : AbsState)
         → kernel_function_of imm ≡ Some KernelFunction.ReadUnlock → 0 < a.depth
-        → Transfers (Insn.Call CallKind.Kernel imm) shapes ctx_len a (after_unlock a) None }
+        → Transfers (Insn.Call CallKind.Kernel imm) shapes ctx_len a (after_unlock shapes a) None }
 {}
 
-/// A lookup inside a section transfers: r0 may be null after it, with an identity that nothing had.
+/// A lookup inside a section, or in an array, transfers: r0 may be null after it, with an identity that nothing had.
 pub fn lookup_transfers()
     ensures { (imm : ℤ) (shapes : List MapShape) (ctx_len : ℕ) (a : AbsState) (map id : ℕ)
-        (shape : MapShape) → helper_of imm ≡ Some Helper.Lookup → 0 < a.depth
-        → HasMap shapes a map shape → HasBytes a 2 shape.key_len → IsFresh id a
+        (shape : MapShape) → helper_of imm ≡ Some Helper.Lookup
+        → (0 < a.depth) ⊎ (shape.kind ≡ MapKind.Array) → HasMap shapes a map shape
+        → HasBytes a 2 shape.key_len → IsFresh id a
         → Transfers (Insn.Call CallKind.Helper imm) shapes ctx_len a
         (after_call (MaybeNull map id) a) None }
 {}
@@ -211,10 +214,10 @@ pub fn kept_is_closed()
         → IsPlanKept code shapes ctx_len plan → IsClosed code shapes ctx_len plan }
 {}
 
-/// At the start of verified programs the machine is well.
+/// At the start of verified programs, with maps of shapes that there may be, the machine is well.
 pub fn starts_well()
-    ensures { (shapes : List MapShape) (programs : List Loaded) → AreVerified shapes programs
-        → IsWell (start_machine shapes programs) }
+    ensures { (shapes : List MapShape) (programs : List Loaded) → AreShapes shapes
+        → AreVerified shapes programs → IsWell (start_machine shapes programs) }
 {}
 
 /// A well machine stays well, whatever event comes and whatever it answers.
@@ -241,7 +244,7 @@ pub fn each_plan_describes()
         → run.exit ≡ None → (shapes : List MapShape)
         → AreMapsBound shapes run.program.maps m.store.maps
         → (v : IsVerified run.program.code shapes run.program.context_len)
-        → (k : ℕ) × IsPlanned run.program.code v.plan k (scene_of m.store.elements run) run.state }
+        → (k : ℕ) × IsPlanned run.program.code v.plan k (scene_of m.store run) run.state }
 {}
 
 /// No state of a history from a well state is stuck.
@@ -308,14 +311,14 @@ pub fn lookup_never_stuck()
         → NeverStuck s.machine }
 {}
 
-/// Outside every section no register is known to be an element.
-pub fn none_outside()
+/// Outside every section a register that is known to be an element is one of an array.
+pub fn array_outside()
     ensures { (a : AbsState) (c : Scene) (m : State) (r map : ℕ) (s : Scalar) → Describes a c m
-        → a.depth ≡ 0 → a.regs r ≡ ValueAt map s → ⊥ }
+        → a.depth ≡ 0 → a.regs r ≡ ValueAt map s → IsArrayMap c map }
 {}
 
-/// Outside a section no part of what was stored in the frame is that of an element's address.
-pub fn no_cell_outside()
+/// Outside every section what was stored in the frame, and is known to be an element, is one of an array.
+pub fn array_cell_outside()
     ensures { (a : AbsState) (c : Scene) (m : State) (k map : ℕ) (s : Scalar) → Describes a c m
-        → a.depth ≡ 0 → a.cells k ≡ PartCell (ValueAt map s) → ⊥ }
+        → a.depth ≡ 0 → a.cells k ≡ PartCell (ValueAt map s) → IsArrayMap c map }
 {}

@@ -23,6 +23,7 @@ use Rattle.typed_runs.specs.Planned.{Covers, entry_state}
 use Rattle.typed_runs.proofs.Planning.{alike_wider}
 use Rattle.register_kinds.specs.declared.state.AbsState.{AbsState}
 use Rattle.register_kinds.specs.States.{state_of}
+use Rattle.effects.specs.Calls.{MayLookUp}
 use Rattle.effects.specs.declared.region.Region.{Region}
 use Rattle.verifier.specs.declared.waiting.Waiting.{Waiting}
 use Rattle.verifier.specs.declared.waiting.Waiting.TheVariants.{Nothing, Differing}
@@ -257,7 +258,7 @@ module _ (program : List Insn) (targets : List (Option ℕ)) (all : HasTargets p
       covered = λ a e. subst (plans.IsCovered program shapes ctx_len (spliced plan) k) (known_here a e) covered_here;
       reaches = λ a b c m e f d. spread.transfer.reaches b c m f (subst (λ a. Describes a c m) (sym (known_here a e)) d);
       compares = λ a q c m e f d. spread.transfer.compares q c m f (subst (λ a. Describes a c m) (sym (known_here a e)) d);
-      looks_up = λ a e f. subst (λ (a : model.AbsState). 0 < a.depth) (known_here a e) (spread.transfer.looks_up f);
+      looks_up = λ a e f. subst (MayLookUp shapes) (known_here a e) (spread.transfer.looks_up f);
     }
 
     -- the instruction of this index, where it is the one at hand

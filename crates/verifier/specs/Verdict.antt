@@ -1,8 +1,11 @@
 -- What `verify` answers: what a verified program is, and what a refusal tells.
 use Rattle.std.specs.Prelude.{◌≡◌, ◌≢◌, ℕ, ◌<◌, ◌≤◌, List, length, slice_get, Some, Result}
-use Rattle.std.specs.Prelude.{IsOkUnless}
+use Rattle.std.specs.Prelude.{IsOkUnless, ◌⊎◌, true}
 use Rattle.bpf_model.specs.declared.insn.Insn.{Insn}
 use Rattle.bpf_model.specs.declared.limits.TheConstants.{CTX_BYTES}
+use Rattle.bpf_model.specs.declared.limits.MapShape.{MapShape}
+use Rattle.bpf_model.specs.declared.value.Value.TheVariants.{Pointer}
+use Rattle.bpf_model.specs.declared.value.Reference.TheVariants.{MapRef}
 use Rattle.bpf_model.specs.Places.{StartsAt}
 use Rattle.bpf_model.specs.Spelling.{IsProgram}
 use Rattle.bpf_model.specs.Step.{State}
@@ -10,6 +13,7 @@ use Rattle.program_graph.specs.GraphFlaws.{HasGraphFlaw, HasGoodGraph}
 use Rattle.program_graph.specs.Indexes.{HasTargets}
 use Rattle.typed_runs.specs.Kinds as model
 use Rattle.typed_runs.specs.Describes.{Scene}
+use Rattle.typed_runs.specs.Effects.{is_array_in}
 use Rattle.typed_runs.specs.Verified.{Plan, IsPlanned, IsClosed, IsVerified}
 use Rattle.register_kinds.specs.declared.fault.InsnFault.{InsnFault}
 use Rattle.register_kinds.specs.FaultNumbers.{insn_fault_number}
@@ -21,6 +25,13 @@ use Rattle.verifier.specs.declared.refusal.ProgramRefusal.{ProgramRefusal}
 use Rattle.verifier.specs.declared.refusal.ProgramRefusal.TheVariants.{Graph, Instruction, Memory}
 use Rattle.verifier.specs.Checked.{Checked}
 use Rattle.verifier.specs.Peak.{AreFew}
+
+-- A lookup that is made here is made inside a section, or in an array of the list, to which r1
+-- refers.
+abbrev pub MayLookUpHere : List MapShape → Scene → State → Type 0
+MayLookUpHere shapes scene m =
+    (0 < scene.depth)
+    ⊎ ((map : ℕ) × (m.regs 1 ≡ Pointer (MapRef map)) × (is_array_in shapes map ≡ true))
 
 -- By the plan each run of the program is never stuck, and each of its steps leads further on; and
 -- what the code has noted of an instruction is so wherever the plan describes a run before it.
@@ -37,10 +48,10 @@ pub record Justifies (c : Checked) (plan : Plan) : Type 0 where
   pub compared : (index : ℕ) (i : Insn) (r : ℕ) (scene : Scene) (m : State)
       → slice_get c.program index ≡ Some i → Compares i r
       → IsPlanned c.program plan index scene m → IsComparable i (m.regs r)
-  -- a lookup is made inside a section
+  -- a lookup is made inside a section, or in an array
   pub looked_up : (index : ℕ) (i : Insn) (scene : Scene) (m : State)
       → slice_get c.program index ≡ Some i → LooksUp i
-      → IsPlanned c.program plan index scene m → 0 < scene.depth
+      → IsPlanned c.program plan index scene m → MayLookUpHere c.shapes scene m
 
 -- The program is verified, and what the code has noted of it is right, by one plan.
 pub record IsJustified (c : Checked) : Type 0 where

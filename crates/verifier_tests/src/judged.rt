@@ -1,6 +1,6 @@
 //! What the verifier says of a program in assembly text.
 use asm::assemble;
-use bpf_model::{CTX_BYTES, MAX_MAPS, MapShape};
+use bpf_model::{CTX_BYTES, MAX_MAPS, MapKind, MapShape};
 use insn_codec::Program;
 use std::alloc::Global;
 use std::test::Fail;
@@ -22,6 +22,7 @@ pub enum Told {
 
 /// A map whose keys have 4 bytes, and its values 8.
 const SHAPE: MapShape = MapShape {
+    kind: MapKind::Hash,
     key_len: 4,
     value_len: 8,
     entries: 1,
@@ -31,6 +32,7 @@ const SHAPE: MapShape = MapShape {
 
 /// A map whose keys have 8 bytes, and its values 16.
 const WIDE: MapShape = MapShape {
+    kind: MapKind::Hash,
     key_len: 8,
     value_len: 16,
     entries: 1,

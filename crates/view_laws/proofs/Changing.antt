@@ -5,8 +5,7 @@ use Rattle.std.proofs.lemmas.Bool.{cases_eq, cases_lt, eqb-true, false_from_ne_t
 use Rattle.std.proofs.lemmas.Option.{same_Some, slice_get_within}
 use Rattle.std.proofs.lemmas.List.{length-append, length-set}
 use Rattle.std.proofs.lemmas.List.Sums.{sum_by_push}
-use Rattle.bpf_model.specs.Element.{Element, Life, IsLinkedAt, is_linked, is_reclaimed, linked_count, with_life, with_value}
-use Rattle.bpf_model.specs.Helper.{newborn}
+use Rattle.bpf_model.specs.Element.{Element, Life, IsLinkedAt, is_linked, is_reclaimed, linked_count, with_life, with_value, newborn}
 use Rattle.bpf_model.specs.Word.{map_in}
 use Rattle.bpf_model.specs.Refines.{slot_view}
 use Rattle.model_laws.proofs.Tallies.{one_of, count-set}

@@ -1,9 +1,13 @@
 -- A key leaves a map: all of a delete, and the first half of an update.
-use Rattle.std.proofs.Common.{◌≡◌, ◌≢◌, ◌∙◌, ℕ, ◌+◌, ◌<◌, List, [], ◌∷◌, ◌++◌, map, length, Option, Some, None, refl, sym, ap, arith, subst}
+use Rattle.std.proofs.Common.{◌≡◌, ◌≢◌, ◌∙◌, ℕ, ◌+◌, ◌<◌, List, [], ◌∷◌, ◌++◌, map, length, Option, Some, None, refl, sym, ap, arith, subst, Result, Err}
 use Rattle.std.specs.Prelude.{slice_get, slice_set, slice_index, count_by, is_some}
 use Rattle.std.specs.FinMap.{get}
 use Rattle.std.proofs.lemmas.Option.{none-some, same_Some, slice_get_within}
 use Rattle.std.proofs.lemmas.List.{append-nil, length-set}
+use Rattle.bpf_model.specs.declared.call.Errno.{Errno}
+use Rattle.bpf_model.specs.declared.call.Errno.TheVariants.{InvalidArgument}
+use Rattle.bpf_model.specs.declared.limits.MapKind.{MapKind}
+use Rattle.bpf_model.specs.declared.limits.MapKind.TheVariants.{Hash, Array}
 use Rattle.bpf_model.specs.declared.event.Event.TheVariants as events
 use Rattle.bpf_model.specs.declared.event.Answer.TheVariants.{Ret}
 use Rattle.bpf_model.specs.declared.event.EventRefusal.{EventRefusal}
@@ -11,16 +15,16 @@ use Rattle.bpf_model.specs.declared.event.EventRefusal.TheVariants.{NoMap}
 use Rattle.arrayvec.specs.ArrayVec.{ArrayVec}
 use Rattle.bpf_model.specs.Section.{Section}
 use Rattle.bpf_model.specs.Element.{Element, Linked, Unlinked, IsLinkedAt, set_to, unlinked, with_life, is_reclaimed}
-use Rattle.bpf_model.specs.MapState.{Store, with_elements}
-use Rattle.bpf_model.specs.Helper.{LooksUp, Removes, Deletes}
+use Rattle.bpf_model.specs.MapState.{MapState, Store, with_elements}
+use Rattle.bpf_model.specs.Helper.{LooksUp, Removes, RemovesFrom, Deletes}
 use Rattle.bpf_model.specs.Machine.{open_sections, with_store}
 use Rattle.bpf_model.specs.Event.{Answers, key_refusal, refusal}
-use Rattle.bpf_model.specs.Schedule.{Queues, Schedule, retired, retired_in, unlinked_between, still_open, open_flags, DoesScheduled}
+use Rattle.bpf_model.specs.Schedule.{Queues, Schedule, retired, retired_in, unlinked_between}
 use Rattle.model_laws.specs.Scheduled.{IsScheduled}
 use Rattle.model_laws.proofs.Counting.{retired-back, length-retired}
 use Rattle.bpf_model.specs.View.{MapView, WorldView, map_state_of}
 use Rattle.bpf_model.specs.Refines.{lists_of, named, ElementsStand, SlotsStand, RefinesSchedule}
-use Rattle.view_laws.specs.Views.{retired_key, retired_slot, delete_result, deleted}
+use Rattle.view_laws.specs.Views.{retired_key, retired_slot, delete_result, deleted_from, deleted}
 use Rattle.view_laws.specs.Reactions.{shape_shown, with_map, delete_at, delete_reaction}
 use Rattle.view_laws.specs.Matching.{Matches, Simulates, DeletesHalf}
 use Rattle.view_laws.proofs.Changing.{Changes}
@@ -30,7 +34,7 @@ use Rattle.view_laws.proofs.Changing.{changes-same}
 use Rattle.view_laws.proofs.Mapping.{unlinks, elements-retired}
 use Rattle.view_laws.proofs.Listing.{named-kept, between-more, between-one, between-other, more-none, more-one}
 use Rattle.bpf_model.proofs.Cases.{oldest-none}
-use Rattle.view_laws.proofs.Worlds.{Here, here, Turns, turned-world, key-refusal-is, awaited-same, refuses, steps}
+use Rattle.view_laws.proofs.Worlds.{Here, here, Turns, turned-world, key-refusal-is, refuses, stays-half, half-simulates}
 
 -- births below n have the same map slots
 abbrev pub Renames : List ℕ → List ℕ → ℕ → Type 0
@@ -141,7 +145,17 @@ module _ (w : WorldView) (s : Schedule) (x : RefinesSchedule w s) (i : IsSchedul
       let b = retired-back s.machine.store.elements (d.left ++ more) s.queues j q g in
       b.1 ∙ ap Some (sym (more-none j s.machine.store.elements (d.left ++ more) b.0 (d.others j ne more)) ∙ b.2)
 
-  -- a delete
+  -- what a delete does to the store
+  pub deletes-by : (d : Dropped) (kind : MapKind) → v.shape.kind ≡ kind → (ret : Result (Unit {0}) Errno) (new : Store) → RemovesFrom kind d.found (open_sections s.machine.runs) ret s.machine.store new → Deletes s.machine.store (open_sections s.machine.runs) k key ret new
+  deletes-by d kind is ret new r = record {
+    state = h.state;
+    there = h.there;
+    found = d.found;
+    lookup = d.looks;
+    removed = subst (λ j. RemovesFrom j d.found (open_sections s.machine.runs) ret s.machine.store new) (sym (ap (λ (m : MapState). m.shape.kind) h.stands.state ∙ is)) r;
+  }
+
+  -- a delete from a hash map
   module _ (d : Dropped) where
     abbrev after : Store
     after = with_elements d.left s.machine.store
@@ -169,41 +183,42 @@ module _ (w : WorldView) (s : Schedule) (x : RefinesSchedule w s) (i : IsSchedul
       };
     }
 
-    abbrev next : Schedule
-    next = record { machine = with_store s.machine after; queues = queues; awaited = still_open s.awaited (open_flags s.machine.runs) }
+    deletes : v.shape.kind ≡ Hash → Deletes s.machine.store (open_sections s.machine.runs) k key (delete_result (get v.index key)) after
+    deletes kind = deletes-by d Hash kind (delete_result (get v.index key)) after d.result
 
-    pub does-delete : (bytes : ArrayVec ℕ) → bytes.items ≡ key → refusal s.machine (events.Delete k bytes) ≡ None → DoesScheduled s (events.Delete k bytes) (Ret (delete_result (get v.index key))) next
-    does-delete bytes same pass = record {
-      step = subst (λ z. Answers z s.machine (events.Delete k bytes) (Ret (delete_result (get v.index key))) next.machine) (sym pass)
-          (after, subst (λ l. Deletes s.machine.store (open_sections s.machine.runs) k l (delete_result (get v.index key)) after) (sym same) (d.found, d.looks, d.result), refl);
-      first = tt;
-      oldest = oldest-none s.machine.store after d.long;
-      lists = refl;
-    }
+    pub deletes-half : v.shape.kind ≡ Hash → DeletesHalf (with_map k (retired_key v key) w) s k key (delete_result (get v.index key))
+    deletes-half kind = record { store = after; changes = deletes kind; oldest = oldest-none s.machine.store after d.long; refines = turned-world w s x i k (retired_key v key) after queues s.awaited w.given turns refl (x.given ∙ sym d.given) }
 
-    pub stands-deleted : RefinesSchedule (with_map k (retired_key v key) w) next
-    stands-deleted = turned-world w s x i k (retired_key v key) after queues (still_open s.awaited (open_flags s.machine.runs)) w.given turns (awaited-same w s x i) (x.given ∙ sym d.given)
+module _ (w : WorldView) (s : Schedule) (sim : Matches w s) (k : ℕ) (v : MapView) (key : List ℕ) (at : slice_get w.maps k ≡ Some v) where
+  dropped : Dropped w s sim.refines sim.scheduled k v at key
+  dropped = drop w s sim.refines sim.scheduled k v at key
 
-    pub deletes-half : DeletesHalf (with_map k (retired_key v key) w) s k key (delete_result (get v.index key))
-    deletes-half = record { store = after; changes = (d.found, d.looks, d.result); oldest = oldest-none s.machine.store after d.long; refines = turned-world w s x i k (retired_key v key) after queues s.awaited w.given turns refl (x.given ∙ sym d.given) }
+  half-by : (kind : MapKind) → v.shape.kind ≡ kind → DeletesHalf (with_map k (deleted_from kind v key).1 w) s k key (deleted_from kind v key).0
+  half-by Hash is = deletes-half w s sim.refines sim.scheduled k v at key dropped is
+  half-by Array is = stays-half w s sim.refines sim.scheduled k v at (Deletes s.machine.store (open_sections s.machine.runs) k key (Err InvalidArgument)) (deletes-by w s sim.refines sim.scheduled k v at key dropped Array is (Err InvalidArgument) s.machine.store (refl, refl))
 
-pub delete_half : (w : WorldView) (s : Schedule) → Matches w s → (k : ℕ) (v : MapView) (key : List ℕ) → slice_get w.maps k ≡ Some v → DeletesHalf (with_map k (deleted v key).1 w) s k key (deleted v key).0
-delete_half w s sim k v key at = deletes-half w s sim.refines sim.scheduled k v at key (drop w s sim.refines sim.scheduled k v at key)
+  pub delete_half : DeletesHalf (with_map k (deleted v key).1 w) s k key (deleted v key).0
+  delete_half = half-by v.shape.kind refl
 
 module _ (w : WorldView) (s : Schedule) (sim : Matches w s) (k : ℕ) (key : ArrayVec ℕ) where
+  deletes-at : (v : MapView) → slice_get w.maps k ≡ Some v → refusal s.machine (events.Delete k key) ≡ None → Simulates s (events.Delete k key) (Ret (deleted v key.items).0, with_map k (deleted v key.items).1 w)
+  deletes-at v at pass =
+      let event = events.Delete k key in
+      let new : WorldView = with_map k (deleted v key.items).1 w in
+      let ret = (deleted v key.items).0 in
+      let h : DeletesHalf new s k key.items ret = delete_half w s sim k v key.items at in
+      half-simulates w s sim.refines sim.scheduled new event (Ret ret) (Deletes s.machine.store (open_sections s.machine.runs) k key.items ret) h (record {
+        step = subst (λ z. Answers z s.machine event (Ret ret) (with_store s.machine h.store)) (sym pass) (h.store, h.changes, refl);
+        first = tt;
+        oldest = h.oldest;
+        lists = refl;
+      })
+
   delete-cases : (r : Option EventRefusal) (o : Option MapView) → key_refusal (shape_shown (slice_get w.maps k)) (length key.items) ≡ r → slice_get w.maps k ≡ o →
       Simulates s (events.Delete k key) (delete_at r o w k key.items)
   delete-cases (Some r) o e at = record { next = s; does = refuses w s sim.refines sim.scheduled r (events.Delete k key) (key-refusal-is w s sim.refines k (length key.items) (Some r) e); matches = sim }
   delete-cases None None e at = absurd (none-some NoMap (sym e ∙ ap (λ z. key_refusal (shape_shown z) (length key.items)) at))
-  delete-cases None (Some v) e at =
-      let d = drop w s sim.refines sim.scheduled k v at key.items in
-      let t = next w s sim.refines sim.scheduled k v at key.items d in
-      let does = does-delete w s sim.refines sim.scheduled k v at key.items d key refl (key-refusal-is w s sim.refines k (length key.items) None e) in
-      record {
-        next = t;
-        does = does;
-        matches = steps (with_map k (retired_key v key.items) w) s t (events.Delete k key) (Ret (delete_result (get v.index key.items))) sim.scheduled does (stands-deleted w s sim.refines sim.scheduled k v at key.items d);
-      }
+  delete-cases None (Some v) e at = deletes-at v at (key-refusal-is w s sim.refines k (length key.items) None e)
 
   pub delete_simulates : Simulates s (events.Delete k key) (delete_reaction w k key.items)
   delete_simulates = delete-cases (key_refusal (shape_shown (slice_get w.maps k)) (length key.items)) (slice_get w.maps k) refl refl

@@ -7,8 +7,7 @@ use Rattle.std.proofs.lemmas.Option.{none-some, same_Some, slice_get_within}
 use Rattle.bpf_model.specs.declared.event.Given.{Given}
 use Rattle.bpf_model.specs.declared.event.Given.TheVariants.{Free, Worn}
 use Rattle.bpf_model.specs.Section.{Section}
-use Rattle.bpf_model.specs.Element.{Element, Life, Unlinked, Reclaimed, IsLinkedAt, is_linked, is_reclaimed, linked_count, with_life}
-use Rattle.bpf_model.specs.Helper.{newborn}
+use Rattle.bpf_model.specs.Element.{Element, Life, Unlinked, Reclaimed, IsLinkedAt, is_linked, is_reclaimed, linked_count, with_life, newborn}
 use Rattle.model_laws.proofs.Counting.{times-first, times-other, times-append}
 use Rattle.bpf_model.specs.View.{MapView, uses_at}
 use Rattle.bpf_model.specs.Refines.{times, slot_view, IsElementKept, ElementsStand, SlotsStand}

@@ -8,6 +8,8 @@ use Rattle.bpf_model.specs.declared.event.Event.{Event}
 use Rattle.bpf_model.specs.declared.event.Event.TheVariants as events
 use Rattle.bpf_model.specs.declared.event.Answer.{Answer}
 use Rattle.bpf_model.specs.declared.event.EventRefusal.{EventRefusal}
+use Rattle.bpf_model.specs.declared.limits.MapKind.{MapKind}
+use Rattle.bpf_model.specs.declared.limits.MapKind.TheVariants.{Hash, Array}
 use Rattle.bpf_model.specs.declared.event.Given.{Given}
 use Rattle.bpf_model.specs.declared.event.Given.TheVariants.{Free, Worn}
 use Rattle.bpf_model.specs.Element.{Element}
@@ -18,7 +20,7 @@ use Rattle.bpf_model.specs.Drain.{AnswersAsScheduled}
 use Rattle.bpf_model.specs.View.{shape_of_view as shape, MapView, RunView, WorldView, shapes_of}
 use Rattle.bpf_model.specs.Refines.{RunSlotRefines, TracksSchedule}
 use Rattle.model_laws.proofs.Reached.{tracked_is_scheduled}
-use Rattle.view_laws.specs.Views.{retired_slot, retired_key, deleted, filled_from, updated_by, updated, shown_error, turned_view, slot_given_back, given_at, reaped_view}
+use Rattle.view_laws.specs.Views.{retired_slot, retired_key, deleted_from, deleted, filled_from, overwritten_slot, written_by, updated_by, updated, shown_error, turned_view, slot_given_back, given_at, reaped_view}
 use Rattle.view_laws.specs.Reactions.{with_map, shape_shown, refused_as, delete_at, delete_reaction, update_at, update_reaction, read_at, read_reaction, advanced_by, advance_reaction, Pick, or_pick, first_pick, reap_by, reap_reaction, start_by, start_reaction, step_refused, drop_refused, drop_by, drop_reaction, step_by, reaction}
 use Rattle.view_laws.specs.Matching.{Matches, Simulates}
 use Rattle.view_laws.proofs.Worlds.{refuses}
@@ -94,13 +96,25 @@ pub retired-shape : (v : MapView) (key : List ℕ) (o : Option ℕ) → (retired
 retired-shape v key None = refl
 retired-shape v key (Some i) = refl
 
+pub deleted-shape : (kind : MapKind) (v : MapView) (key : List ℕ) → (deleted_from kind v key).1.shape ≡ v.shape
+deleted-shape Hash v key = retired-shape v key (get v.index key)
+deleted-shape Array v key = refl
+
 pub filled-shape : (free : List ℕ) (v : MapView) (key value : List ℕ) → (filled_from free v key value).shape ≡ v.shape
 filled-shape [] v key value = refl
 filled-shape (i ∷ rest) v key value = refl
 
+overwritten-shape : (o : Option ℕ) (v : MapView) (value : List ℕ) → (overwritten_slot v o value).shape ≡ v.shape
+overwritten-shape None v value = refl
+overwritten-shape (Some i) v value = refl
+
+pub written-shape : (kind : MapKind) (v : MapView) (key value : List ℕ) → (written_by kind v key value).shape ≡ v.shape
+written-shape Hash v key value = filled-shape v.free (retired_key v key) key value ∙ retired-shape v key (get v.index key)
+written-shape Array v key value = overwritten-shape (get v.index key) v value
+
 pub updated-shape : (o : Option Errno) (v : MapView) (key value : List ℕ) → (updated_by o v key value).1.shape ≡ v.shape
 updated-shape (Some e) v key value = refl
-updated-shape None v key value = filled-shape v.free (retired_key v key) key value ∙ retired-shape v key (get v.index key)
+updated-shape None v key value = written-shape v.shape.kind v key value
 
 given-shape : (g : Given) (i : ℕ) (v : MapView) → (slot_given_back g i v).shape ≡ v.shape
 given-shape Free i v = refl
@@ -149,7 +163,7 @@ module _ (w : WorldView) where
   delete-keeps : (r : Option EventRefusal) (o : Option MapView) (k : ℕ) (key : List ℕ) → slice_get w.maps k ≡ o → Keeps w (delete_at r o w k key).1
   delete-keeps (Some refusal) o k key at = (refl, refl)
   delete-keeps None None k key at = (refl, refl)
-  delete-keeps None (Some v) k key at = map-keeps k v (deleted v key).1 at (retired-shape v key (get v.index key))
+  delete-keeps None (Some v) k key at = map-keeps k v (deleted v key).1 at (deleted-shape v.shape.kind v key)
 
   update-keeps : (r : Option EventRefusal) (o : Option MapView) (k : ℕ) (key value : List ℕ) (flags : ℕ) → slice_get w.maps k ≡ o → Keeps w (update_at r o w k key value flags).1
   update-keeps (Some refusal) o k key value flags at = (refl, refl)

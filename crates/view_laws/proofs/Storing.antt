@@ -113,7 +113,7 @@ module _ (slots : List ℕ) (k : ℕ) (es : List Element) (v : MapView) (n : ℕ
   state-written = ap (λ bag. let z : MapState = record { shape = v.shape; bag = bag; worn = v.worn } in z) (map-same (uses_at new.slots) (uses_at v.slots) v.free (λ a x g. uses-kept v.slots i (slot_view e) _ stored (ap uses_in stored) x))
 
 -- the half of a step
-module _ (w : WorldView) (s : Schedule) (m : Matches w s) (n : ℕ) (e : Element) (v : MapView) (access : accessible s.machine.store.elements n ≡ Some e) (at : slice_get w.maps e.map ≡ Some v) (value : List ℕ) where
+module _ (w : WorldView) (s : Schedule) (m : Matches w s) (n : ℕ) (e : Element) (v : MapView) (is-born : slice_get s.machine.store.elements n ≡ Some e) (is-kept : is_reclaimed e.life ≡ false) (at : slice_get w.maps e.map ≡ Some v) (value : List ℕ) where
   abbrev x : RefinesSchedule w s
   x = m.refines
 
@@ -122,12 +122,6 @@ module _ (w : WorldView) (s : Schedule) (m : Matches w s) (n : ℕ) (e : Element
 
   abbrev fs : List Element
   fs = slice_set all n (with_value value e)
-
-  is-born : slice_get all n ≡ Some e
-  is-born = born w s m n e v access at
-
-  is-kept : is_reclaimed e.life ≡ false
-  is-kept = kept w s m n e v access at
 
   one : IsElementKept all e.map n e
   one = record { born = is-born; in_map = refl; kept = is-kept }
@@ -181,5 +175,5 @@ store_half w s m n e v offset width start x access at inside =
       elements = fs;
       stored = ap (λ o. o >>= stored_in es n width offset x) access ∙ (ap (λ o. o >>= λ p. Some (changed (with_value (with_bytes p width x e.value)) es n)) inside ∙ ap (λ o. Some (set_to (with_value new) es n o)) there);
       oldest = oldest-none s.machine.store (with_elements fs s.machine.store) (length-set es n _);
-      refines = subst (λ o. RefinesSchedule (with_map e.map (written v (slice_index m.refines.slots n) (with_bytes start width x (value_in o))) w) (half s (with_elements fs s.machine.store))) (sym is) (written-half w s m n e v access at new);
+      refines = subst (λ o. RefinesSchedule (with_map e.map (written v (slice_index m.refines.slots n) (with_bytes start width x (value_in o))) w) (half s (with_elements fs s.machine.store))) (sym is) (written-half w s m n e v there (kept w s m n e v access at) at new);
     }

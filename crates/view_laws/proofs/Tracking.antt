@@ -5,7 +5,6 @@ use Rattle.bpf_model.specs.declared.event.Event.{Event}
 use Rattle.bpf_model.specs.declared.event.Answer.{Answer}
 use Rattle.bpf_model.specs.Event.{IsReal, AreReal}
 use Rattle.bpf_model.specs.Machine.{Loaded}
-use Rattle.bpf_model.specs.MapState.{AreShapes}
 use Rattle.bpf_model.specs.Schedule.{Schedule, DoesScheduled, start_schedule}
 use Rattle.bpf_model.specs.View.{WorldView, shapes_of}
 use Rattle.bpf_model.specs.Refines.{IsReachedSchedule, TracksSchedule}
@@ -21,6 +20,7 @@ real-more events event all real k e at = elim (get-append_cases events event k e
 
 reached-more : (shapes : List MapShape) (programs : List Loaded) (s t : Schedule) (event : Event) (answer : Answer) → IsReachedSchedule shapes programs s → IsReal event → DoesScheduled s event answer t → IsReachedSchedule shapes programs t
 reached-more shapes programs s t event answer r real d = record {
+  limits = r.limits;
   events = r.events ++ event ∷ [];
   answers = r.answers ++ answer ∷ [];
   states = r.states ++ t ∷ [];
@@ -36,7 +36,6 @@ simulates_tracks w new s event answer t real shapes programs h = (
   h.does,
   record {
     refines = h.matches.refines;
-    limits = subst AreShapes (sym shapes) t.limits;
     reached = subst (λ l. IsReachedSchedule l new.programs h.next) (sym shapes) (subst (λ l. IsReachedSchedule (shapes_of w) l h.next) (sym programs) (reached-more (shapes_of w) w.programs s h.next event answer t.reached real h.does));
   },
   h.matches,

@@ -1,5 +1,5 @@
--- An update: what the key had leaves, and an element is born in the map slot that has been free longest.
-use Rattle.std.proofs.Common.{◌≡◌, ◌∙◌, ℕ, ◌+◌, ◌-◌, ◌<◌, ◌≤◌, List, [], ◌∷◌, ◌++◌, map, length, Option, Some, None, refl, sym, ap, arith, false, subst, Result, Ok, Err}
+-- An update: in a hash map what the key had leaves, and an element is born in the map slot that has been free longest; in an array the value in the index's map slot changes.
+use Rattle.std.proofs.Common.{◌≡◌, ◌∙◌, ℕ, ◌+◌, ◌-◌, ◌<◌, ◌≤◌, List, [], ◌∷◌, ◌++◌, map, length, Option, Some, None, inl, inr, refl, sym, ap, arith, false, subst, Result, Ok, Err}
 use Rattle.std.specs.Prelude.{slice_get, slice_set, slice_index, count_by, is_some, cond, not, nat_lt, nat_le, ◌==◌, ◌&&◌}
 use Rattle.std.specs.FinMap.{get, len}
 use Rattle.std.proofs.lemmas.Option.{none-some, same_Some}
@@ -11,34 +11,38 @@ use Rattle.bpf_model.specs.declared.event.Answer.TheVariants.{Ret}
 use Rattle.bpf_model.specs.declared.event.EventRefusal.{EventRefusal}
 use Rattle.bpf_model.specs.declared.event.EventRefusal.TheVariants.{NoMap}
 use Rattle.arrayvec.specs.ArrayVec.{ArrayVec}
-use Rattle.bpf_model.specs.Element.{Element, linked_count, is_reclaimed}
-use Rattle.bpf_model.specs.MapState.{MapState, Store, with_bag}
-use Rattle.bpf_model.specs.Helper.{Replaces, Settles, Updates, newborn, update_error}
+use Rattle.bpf_model.specs.declared.limits.MapKind.{MapKind}
+use Rattle.bpf_model.specs.declared.limits.MapKind.TheVariants.{Hash, Array}
+use Rattle.bpf_model.specs.Section.{Section}
+use Rattle.bpf_model.specs.Element.{Element, IsLinkedAt, IsAbsent, linked_count, is_reclaimed, newborn, overwritten, set_to, with_value}
+use Rattle.bpf_model.specs.MapState.{MapState, Store, with_bag, with_elements}
+use Rattle.bpf_model.specs.Helper.{LooksUp, Replaces, Writes, Settles, Updates, hash_error, error_of_kind, update_error}
 use Rattle.bpf_model.specs.Machine.{open_sections, with_store}
 use Rattle.bpf_model.specs.Event.{Answers, update_refusal, refusal}
-use Rattle.bpf_model.specs.Schedule.{Queues, Schedule, retired, still_open, open_flags, TakesOldest, DoesScheduled}
+use Rattle.bpf_model.specs.Schedule.{Queues, Schedule, retired, TakesOldest}
 use Rattle.model_laws.specs.Scheduled.{IsScheduled}
 use Rattle.model_laws.proofs.Counting.{length-retired, times-first}
 use Rattle.bpf_model.specs.View.{SlotView, MapView, WorldView, uses_in, uses_at, map_state_of}
 use Rattle.bpf_model.specs.Refines.{times, RefinesSchedule}
-use Rattle.view_laws.specs.Views.{retired_key, filled, filled_from, updated_by, updated, shown_error}
+use Rattle.view_laws.specs.Views.{retired_key, filled, filled_from, written, overwritten_slot, written_by, updated_by, updated, shown_error}
 use Rattle.view_laws.specs.Reactions.{shape_shown, with_map, update_at, update_reaction}
-use Rattle.view_laws.specs.Matching.{Matches, Simulates, half, UpdatesHalf}
+use Rattle.view_laws.specs.Matching.{Matches, Simulates, half, ChangesHalf, UpdatesHalf}
 use Rattle.view_laws.proofs.Changing.{Changes}
 use Rattle.view_laws.proofs.Lists.{map-same, index-append, stands-in}
 use Rattle.view_laws.proofs.Changing.{changes-trans, changes-born}
 use Rattle.view_laws.proofs.Mapping.{elements-born, slots-born}
-use Rattle.bpf_model.proofs.Cases.{oldest-none}
-use Rattle.view_laws.proofs.Worlds.{Here, Turns, turned-world, shapes-agree, awaited-same, refuses, unchanged, retired-same, steps}
+use Rattle.bpf_model.proofs.Cases.{option_cases, oldest-none}
+use Rattle.view_laws.proofs.Worlds.{Here, Turns, turned-world, shapes-agree, refuses, stays-half, half-simulates}
+use Rattle.view_laws.proofs.Storing.{written-half}
 use Rattle.view_laws.proofs.Deleting.{Dropped, h, drop, lists-left, lists-others}
 use Rattle.model_laws.proofs.Choices.{last-false}
-use Rattle.bpf_model.proofs.Lists.{get-append_last, get-set_other, get-set_there, set-same}
+use Rattle.bpf_model.proofs.Lists.{get-append_last, get-set_other, get-set_there}
 
 free-has : (v : MapView) (free : List ℕ) → v.free ≡ free → (length (map (uses_at v.slots) free) == 0) ≡ false → (i : ℕ) × (rest : List ℕ) × (free ≡ i ∷ rest)
 free-has v [] e h = absurd (cc)
 free-has v (i ∷ rest) e h = (i, rest, refl)
 
-passes : (v : MapView) (key : List ℕ) (flags : ℕ) → shown_error v key flags ≡ None → (i : ℕ) × (rest : List ℕ) × (v.free ≡ i ∷ rest)
+passes : (v : MapView) (key : List ℕ) (flags : ℕ) → hash_error flags (is_some (get v.index key)) (len v.index) (map_state_of v) ≡ None → (i : ℕ) × (rest : List ℕ) × (v.free ≡ i ∷ rest)
 passes v key flags h = free-has v v.free refl (last-false (nat_lt 2 flags) ((flags == 1) && is_some (get v.index key)) ((flags == 2) && not (is_some (get v.index key))) (not (is_some (get v.index key)) && nat_le v.shape.entries (len v.index)) (length (map (uses_at v.slots) v.free) == 0) _ _ _ _ _ h)
 
 -- the use counts of the other free map slots
@@ -61,30 +65,63 @@ module _ (w : WorldView) (s : Schedule) (x : RefinesSchedule w s) (i : IsSchedul
       ∙ (ap (λ n. update_error flags (is_some (get v.index key)) n here.state) (sym here.stands.elements.counted)
       ∙ ap (update_error flags (is_some (get v.index key)) (len v.index)) here.stands.state)
 
-  updates-as : (ret : Result (Unit {0}) Errno) (new : Store) → Settles (shown_error v key flags) ret s.machine.store new (Replaces s.machine.store (open_sections s.machine.runs) k here.state key value d.found new) → Updates s.machine.store (open_sections s.machine.runs) k key value flags ret new
-  updates-as ret new settled = record { state = here.state; there = here.there; found = d.found; lookup = d.looks; settled = subst (λ o. Settles o ret s.machine.store new (Replaces s.machine.store (open_sections s.machine.runs) k here.state key value d.found new)) (sym error-is) settled }
+  abbrev opened : List Section
+  opened = open_sections s.machine.runs
 
-  does-update : (kb vb : ArrayVec ℕ) (ret : Result (Unit {0}) Errno) (new : Store) (t : Schedule) → kb.items ≡ key → vb.items ≡ value → refusal s.machine (events.Update k kb vb flags) ≡ None → Updates s.machine.store (open_sections s.machine.runs) k key value flags ret new →
-      TakesOldest s.machine.store new → t ≡ record { machine = with_store s.machine new; queues = retired 0 s.machine.store.elements new.elements s.queues; awaited = still_open s.awaited (open_flags s.machine.runs) } → DoesScheduled s (events.Update k kb vb flags) (Ret ret) t
-  does-update kb vb ret new t ke ve pass u oldest is = subst (DoesScheduled s (events.Update k kb vb flags) (Ret ret)) (sym is) (record {
-    step = subst (λ z. Answers z s.machine (events.Update k kb vb flags) (Ret ret) (with_store s.machine new)) (sym pass)
-        (new, subst (λ l. Updates s.machine.store (open_sections s.machine.runs) k kb.items l flags ret new) (sym ve) (subst (λ l. Updates s.machine.store (open_sections s.machine.runs) k l value flags ret new) (sym ke) u), refl);
-    first = tt;
-    oldest = oldest;
-    lists = refl;
-  })
+  -- what an update does that no test refuses
+  abbrev WritesBy : MapKind → Store → Type 0
+  WritesBy kind new = Writes kind s.machine.store opened k here.state key value d.found new
+
+  writes-as : (kind : MapKind) → v.shape.kind ≡ kind → (new : Store) → WritesBy kind new → WritesBy here.state.shape.kind new
+  writes-as kind is new h = subst (λ j. WritesBy j new) (sym (ap (λ (m : MapState). m.shape.kind) here.stands.state ∙ is)) h
+
+  updates-as : (o : Option Errno) → shown_error v key flags ≡ o → (ret : Result (Unit {0}) Errno) (new : Store) → Settles o ret s.machine.store new (WritesBy here.state.shape.kind new) → Updates s.machine.store opened k key value flags ret new
+  updates-as o is ret new settled = record { state = here.state; there = here.there; found = d.found; lookup = d.looks; settled = subst (λ z. Settles z ret s.machine.store new (WritesBy here.state.shape.kind new)) (sym (error-is ∙ is)) settled }
 
   -- after an error all is as it was
-  world-same : with_map k v w ≡ w
-  world-same = λ j. record { maps = set-same w.maps k v at j; runs = w.runs; opened = w.opened; awaited = w.awaited; programs = w.programs; given = w.given }
+  pub errs-half : (e : Errno) → shown_error v key flags ≡ Some e → UpdatesHalf (with_map k v w) s k key value flags (Err e)
+  errs-half e is = stays-half w s x i k v at (Updates s.machine.store opened k key value flags (Err e)) (updates-as (Some e) is (Err e) s.machine.store (refl, refl))
 
-  pub errs : (kb vb : ArrayVec ℕ) (e : Errno) → kb.items ≡ key → vb.items ≡ value → refusal s.machine (events.Update k kb vb flags) ≡ None → shown_error v key flags ≡ Some e → Simulates s (events.Update k kb vb flags) (Ret (Err e), with_map k v w)
-  errs kb vb e ke ve pass is = record {
-    next = s;
-    does = does-update kb vb (Err e) s.machine.store s ke ve pass (updates-as (Err e) s.machine.store (subst (λ o. Settles o (Err e) s.machine.store s.machine.store (Replaces s.machine.store (open_sections s.machine.runs) k here.state key value d.found s.machine.store)) (sym is) (refl, refl)))
-        (oldest-none s.machine.store s.machine.store refl) (unchanged w s x i);
-    matches = record { refines = subst (λ z. RefinesSchedule z s) (sym world-same) x; scheduled = i };
-  }
+  -- the value in the map slot of an array's index
+  abbrev Overwrites : Option ℕ → Type 0
+  Overwrites found = ChangesHalf (with_map k (overwritten_slot v (get v.index key) value) w) s (λ new. new ≡ with_elements (overwritten value s.machine.store.elements found) s.machine.store)
+
+  overwrites-none : IsAbsent s.machine.store.elements k key → Overwrites None
+  overwrites-none absent =
+      let none : get v.index key ≡ None = elim (option_cases (get v.index key)) [
+        | inl y ↦ y
+        | inr y ↦ let z = here.stands.elements.found key y.0 y.1 in absurd (absent z.0 z.1)
+      ] in
+      subst (λ o. ChangesHalf (with_map k (overwritten_slot v o value) w) s (λ new. new ≡ s.machine.store)) (sym none) (stays-half w s x i k v at (λ new. new ≡ s.machine.store) refl)
+
+  overwrites-some : (n : ℕ) → IsLinkedAt s.machine.store.elements k key n → Overwrites (Some n)
+  overwrites-some n g =
+      let es = s.machine.store.elements in
+      let slot = slice_index x.slots n in
+      let fs = slice_set es n (with_value value g.element) in
+      let there : slice_get w.maps g.element.map ≡ Some v = ap (slice_get w.maps) g.in_map ∙ at in
+      let writes : RefinesSchedule (with_map g.element.map (written v slot value) w) (half s (with_elements fs s.machine.store)) =
+      written-half w s (record { refines = x; scheduled = i }) n g.element v g.born (ap is_reclaimed g.linked) there value in
+      record {
+        store = with_elements fs s.machine.store;
+        changes = ap (λ o. with_elements (set_to (with_value value) es n o) s.machine.store) (sym g.born);
+        oldest = oldest-none s.machine.store (with_elements fs s.machine.store) (length-set es n _);
+        refines = subst (λ o. RefinesSchedule (with_map k (overwritten_slot v o value) w) (half s (with_elements fs s.machine.store))) (sym (here.stands.elements.finds key n g)) (subst (λ j. RefinesSchedule (with_map j (written v slot value) w) (half s (with_elements fs s.machine.store))) g.in_map writes);
+      }
+
+  overwrites : (found : Option ℕ) → LooksUp s.machine.store k key found → Overwrites found
+  overwrites None absent = overwrites-none absent
+  overwrites (Some n) h = overwrites-some n h
+
+  pub overwrites-half : v.shape.kind ≡ Array → shown_error v key flags ≡ None → UpdatesHalf (with_map k (overwritten_slot v (get v.index key) value) w) s k key value flags (Ok tt)
+  overwrites-half kind is =
+      let h = overwrites d.found d.looks in
+      record {
+        store = h.store;
+        changes = updates-as None is (Ok tt) h.store (refl, writes-as Array kind h.store h.changes);
+        oldest = h.oldest;
+        refines = h.refines;
+      }
 
   -- the birth
   module _ (slot : ℕ) (rest : List ℕ) (first : v.free ≡ slot ∷ rest) where
@@ -166,65 +203,57 @@ module _ (w : WorldView) (s : Schedule) (x : RefinesSchedule w s) (i : IsSchedul
       };
     }
 
-    abbrev next : Schedule
-    next = record { machine = with_store s.machine after; queues = queues; awaited = still_open s.awaited (open_flags s.machine.runs) }
-
     given-same : count_by (λ e. is_reclaimed e.life) after.elements ≡ count_by (λ e. is_reclaimed e.life) s.machine.store.elements
     given-same = let a : count_by (λ e. is_reclaimed e.life) after.elements ≡ count_by (λ e. is_reclaimed e.life) d.left + 0 = sum_by_push (λ (e : Element). cond (is_reclaimed e.life) 1 0) d.left child in let b = d.given in omega arith
 
-    pub births : (kb vb : ArrayVec ℕ) → kb.items ≡ key → vb.items ≡ value → refusal s.machine (events.Update k kb vb flags) ≡ None → shown_error v key flags ≡ None → Simulates s (events.Update k kb vb flags) (Ret (Ok tt), with_map k (filled v' slot rest key value) w)
-    births kb vb ke ve pass is =
-        let does = does-update kb vb (Ok tt) after next ke ve pass (updates-as (Ok tt) after (subst (λ o. Settles o (Ok tt) s.machine.store after (Replaces s.machine.store (open_sections s.machine.runs) k here.state key value d.found after)) (sym is) (refl, replaces))) oldest refl in
-        record {
-          next = next;
-          does = does;
-          matches = steps (with_map k (filled v' slot rest key value) w) s next (events.Update k kb vb flags) (Ret (Ok tt)) i does
-              (turned-world w s x i k (filled v' slot rest key value) after queues next.awaited w.given turns (awaited-same w s x i) (x.given ∙ sym given-same));
-        }
-
-    pub births-half : shown_error v key flags ≡ None → UpdatesHalf (with_map k (filled v' slot rest key value) w) s k key value flags (Ok tt)
-    births-half is = record {
+    pub births-half : v.shape.kind ≡ Hash → shown_error v key flags ≡ None → UpdatesHalf (with_map k (filled v' slot rest key value) w) s k key value flags (Ok tt)
+    births-half kind is = record {
       store = after;
-      changes = updates-as (Ok tt) after (subst (λ o. Settles o (Ok tt) s.machine.store after (Replaces s.machine.store (open_sections s.machine.runs) k here.state key value d.found after)) (sym is) (refl, replaces));
+      changes = updates-as None is (Ok tt) after (refl, writes-as Hash kind after replaces);
       oldest = oldest;
       refines = turned-world w s x i k (filled v' slot rest key value) after queues s.awaited w.given turns refl (x.given ∙ sym given-same);
     }
 
-  pub errs-half : (e : Errno) → shown_error v key flags ≡ Some e → UpdatesHalf (with_map k v w) s k key value flags (Err e)
-  errs-half e is = record {
-    store = s.machine.store;
-    changes = updates-as (Err e) s.machine.store (subst (λ o. Settles o (Err e) s.machine.store s.machine.store (Replaces s.machine.store (open_sections s.machine.runs) k here.state key value d.found s.machine.store)) (sym is) (refl, refl));
-    oldest = oldest-none s.machine.store s.machine.store refl;
-    refines = subst (λ z. RefinesSchedule z (half s s.machine.store)) (sym world-same) (subst (RefinesSchedule w) (λ j. record { machine = s.machine; queues = sym (retired-same 0 s.machine.store.elements s.queues) j; awaited = s.awaited }) x);
-  }
+module _ (w : WorldView) (s : Schedule) (sim : Matches w s) (k : ℕ) (v : MapView) (at : slice_get w.maps k ≡ Some v) (key value : List ℕ) (flags : ℕ) where
+  dropped : Dropped w s sim.refines sim.scheduled k v at key
+  dropped = drop w s sim.refines sim.scheduled k v at key
+
+  writes-half : (kind : MapKind) → v.shape.kind ≡ kind → shown_error v key flags ≡ None → UpdatesHalf (with_map k (written_by kind v key value) w) s k key value flags (Ok tt)
+  writes-half Hash is none =
+      let f = passes v key flags (ap (λ j. error_of_kind j flags (is_some (get v.index key)) (len v.index) (map_state_of v)) (sym is) ∙ none) in
+      subst (λ l. UpdatesHalf (with_map k (filled_from l (retired_key v key) key value) w) s k key value flags (Ok tt)) (sym f.2)
+      (births-half w s sim.refines sim.scheduled k v at key value flags dropped f.0 f.1 f.2 is none)
+  writes-half Array is none = overwrites-half w s sim.refines sim.scheduled k v at key value flags dropped is none
+
+  pub settled-half : (o : Option Errno) → shown_error v key flags ≡ o → UpdatesHalf (with_map k (updated_by o v key value).1 w) s k key value flags (updated_by o v key value).0
+  settled-half (Some e) is = errs-half w s sim.refines sim.scheduled k v at key value flags dropped e is
+  settled-half None is = writes-half v.shape.kind refl is
 
 pub update_half : (w : WorldView) (s : Schedule) → Matches w s → (k : ℕ) (v : MapView) (key value : List ℕ) (flags : ℕ) → slice_get w.maps k ≡ Some v → UpdatesHalf (with_map k (updated v key value flags).1 w) s k key value flags (updated v key value flags).0
-update_half w s sim k v key value flags at = by (shown_error v key flags) refl
-  where
-    by : (o : Option Errno) → shown_error v key flags ≡ o → UpdatesHalf (with_map k (updated_by o v key value).1 w) s k key value flags (updated_by o v key value).0
-    by (Some e) is = errs-half w s sim.refines sim.scheduled k v at key value flags (drop w s sim.refines sim.scheduled k v at key) e is
-    by None is =
-        let f = passes v key flags is in
-        subst (λ l. UpdatesHalf (with_map k (filled_from l (retired_key v key) key value) w) s k key value flags (Ok tt)) (sym f.2)
-        (births-half w s sim.refines sim.scheduled k v at key value flags (drop w s sim.refines sim.scheduled k v at key) f.0 f.1 f.2 is)
+update_half w s sim k v key value flags at = settled-half w s sim k v at key value flags (shown_error v key flags) refl
 
 module _ (w : WorldView) (s : Schedule) (sim : Matches w s) (k : ℕ) (key value : ArrayVec ℕ) (flags : ℕ) where
   refusal-is : (r : Option EventRefusal) → update_refusal (shape_shown (slice_get w.maps k)) (length key.items) (length value.items) ≡ r → refusal s.machine (events.Update k key value flags) ≡ r
   refusal-is r e = ap (λ shape. update_refusal shape (length key.items) (length value.items)) (shapes-agree w s sim.refines k) ∙ e
 
-  settled : (v : MapView) → slice_get w.maps k ≡ Some v → refusal s.machine (events.Update k key value flags) ≡ None → (o : Option Errno) → shown_error v key.items flags ≡ o →
-      Simulates s (events.Update k key value flags) (Ret (updated_by o v key.items value.items).0, with_map k (updated_by o v key.items value.items).1 w)
-  settled v at pass (Some e) is = errs w s sim.refines sim.scheduled k v at key.items value.items flags (drop w s sim.refines sim.scheduled k v at key.items) key value e refl refl pass is
-  settled v at pass None is =
-      let f = passes v key.items flags is in
-      subst (λ l. Simulates s (events.Update k key value flags) (Ret (Ok tt), with_map k (filled_from l (retired_key v key.items) key.items value.items) w)) (sym f.2)
-      (births w s sim.refines sim.scheduled k v at key.items value.items flags (drop w s sim.refines sim.scheduled k v at key.items) f.0 f.1 f.2 key value refl refl pass is)
+  updates : (v : MapView) → slice_get w.maps k ≡ Some v → refusal s.machine (events.Update k key value flags) ≡ None → Simulates s (events.Update k key value flags) (Ret (updated v key.items value.items flags).0, with_map k (updated v key.items value.items flags).1 w)
+  updates v at pass =
+      let event = events.Update k key value flags in
+      let new : WorldView = with_map k (updated v key.items value.items flags).1 w in
+      let ret = (updated v key.items value.items flags).0 in
+      let h : UpdatesHalf new s k key.items value.items flags ret = update_half w s sim k v key.items value.items flags at in
+      half-simulates w s sim.refines sim.scheduled new event (Ret ret) (Updates s.machine.store (open_sections s.machine.runs) k key.items value.items flags ret) h (record {
+        step = subst (λ z. Answers z s.machine event (Ret ret) (with_store s.machine h.store)) (sym pass) (h.store, h.changes, refl);
+        first = tt;
+        oldest = h.oldest;
+        lists = refl;
+      })
 
   update-cases : (r : Option EventRefusal) (o : Option MapView) → update_refusal (shape_shown (slice_get w.maps k)) (length key.items) (length value.items) ≡ r → slice_get w.maps k ≡ o →
       Simulates s (events.Update k key value flags) (update_at r o w k key.items value.items flags)
   update-cases (Some r) o e at = record { next = s; does = refuses w s sim.refines sim.scheduled r (events.Update k key value flags) (refusal-is (Some r) e); matches = sim }
   update-cases None None e at = absurd (none-some NoMap (sym e ∙ ap (λ z. update_refusal (shape_shown z) (length key.items) (length value.items)) at))
-  update-cases None (Some v) e at = settled v at (refusal-is None e) (shown_error v key.items flags) refl
+  update-cases None (Some v) e at = updates v at (refusal-is None e)
 
   pub update_simulates : Simulates s (events.Update k key value flags) (update_reaction w k key.items value.items flags)
   update_simulates = update-cases (update_refusal (shape_shown (slice_get w.maps k)) (length key.items) (length value.items)) (slice_get w.maps k) refl refl

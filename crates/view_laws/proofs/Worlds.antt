@@ -17,14 +17,14 @@ use Rattle.model_laws.specs.Scheduled.{IsScheduled}
 use Rattle.model_laws.proofs.Scheduling.{stays_scheduled}
 use Rattle.bpf_model.specs.View.{MapView, WorldView}
 use Rattle.bpf_model.specs.Refines.{MapRefines, RefinesSchedule}
-use Rattle.view_laws.specs.Reactions.{shape_shown}
-use Rattle.view_laws.specs.Matching.{Matches}
+use Rattle.view_laws.specs.Reactions.{shape_shown, with_map}
+use Rattle.view_laws.specs.Matching.{Matches, Simulates, half, ChangesHalf}
 use Rattle.view_laws.proofs.Changing.{Changes}
 use Rattle.view_laws.proofs.Mapping.{elements-other}
 use Rattle.view_laws.proofs.Wording.{slot-kept}
 use Rattle.view_laws.proofs.Listing.{named-kept, between-same, still-same, more-none}
 use Rattle.std.proofs.lemmas.List.{length-set}
-use Rattle.bpf_model.proofs.Lists.{get-below, get-set_cases}
+use Rattle.bpf_model.proofs.Lists.{get-below, get-set_cases, set-same}
 
 -- what stands at a map's number
 pub record Here (w : WorldView) (s : Schedule) (x : RefinesSchedule w s) (k : ℕ) (v : MapView) : Type 0 where
@@ -131,3 +131,25 @@ turned-world w s x i k v store queues awaited given t same given_is = record {
 -- a world that stands after a step is right after it
 pub steps : (w : WorldView) (s t : Schedule) (event : Event) (answer : Answer) → IsScheduled s → DoesScheduled s event answer t → RefinesSchedule w t → Matches w t
 steps w s t event answer i d x = record { refines = x; scheduled = stays_scheduled s t event answer i d }
+
+module _ (w : WorldView) (s : Schedule) (x : RefinesSchedule w s) (i : IsScheduled s) where
+  -- the first half of a step that leaves a map and the store as they are
+  pub stays-half : (k : ℕ) (v : MapView) → slice_get w.maps k ≡ Some v → (Changes : Store → Type 0) → Changes s.machine.store → ChangesHalf (with_map k v w) s Changes
+  stays-half k v at Changes h =
+      let same : with_map k v w ≡ w = λ j. record { maps = set-same w.maps k v at j; runs = w.runs; opened = w.opened; awaited = w.awaited; programs = w.programs; given = w.given } in
+      record {
+        store = s.machine.store;
+        changes = h;
+        oldest = oldest-none s.machine.store s.machine.store refl;
+        refines = subst (λ z. RefinesSchedule z (half s s.machine.store)) (sym same) (subst (RefinesSchedule w) (λ j. record { machine = s.machine; queues = sym (retired-same 0 s.machine.store.elements s.queues) j; awaited = s.awaited }) x);
+      }
+
+  -- the schedule after an event that changes the store
+  abbrev pub after-event : Store → Schedule
+  after-event store = record { machine = with_store s.machine store; queues = retired 0 s.machine.store.elements store.elements s.queues; awaited = still_open s.awaited (open_flags s.machine.runs) }
+
+  -- an event of which the first half is all
+  pub half-simulates : (view : WorldView) (event : Event) (answer : Answer) (Changes : Store → Type 0) (h : ChangesHalf view s Changes) → DoesScheduled s event answer (after-event h.store) → Simulates s event (answer, view)
+  half-simulates view event answer Changes h does =
+      let later : half s h.store ≡ after-event h.store = λ j. record { machine = with_store s.machine h.store; queues = retired 0 s.machine.store.elements h.store.elements s.queues; awaited = sym (awaited-same w s x i) j } in
+      record { next = after-event h.store; does = does; matches = steps view s (after-event h.store) event answer i does (subst (RefinesSchedule view) later h.refines) }

@@ -4,9 +4,11 @@ use Rattle.std.specs.Prelude.{Err, slice_get, slice_set, drop}
 use Rattle.std.specs.FinMap.{get, insert, remove, len}
 use Rattle.arrayvec.specs.ArrayVec.{ArrayVec}
 use Rattle.bpf_model.specs.declared.call.Errno.{Errno}
-use Rattle.bpf_model.specs.declared.call.Errno.TheVariants.{NoEntry}
+use Rattle.bpf_model.specs.declared.call.Errno.TheVariants.{NoEntry, InvalidArgument}
 use Rattle.bpf_model.specs.declared.event.Given.{Given}
 use Rattle.bpf_model.specs.declared.event.Given.TheVariants.{Free, Worn}
+use Rattle.bpf_model.specs.declared.limits.MapKind.{MapKind}
+use Rattle.bpf_model.specs.declared.limits.MapKind.TheVariants.{Hash, Array}
 use Rattle.bpf_model.specs.MapState.{given_of}
 use Rattle.bpf_model.specs.Helper.{update_error}
 use Rattle.bpf_model.specs.Schedule.{Queues, turned}
@@ -53,14 +55,18 @@ retired_slot v key (Some i) =
 abbrev pub retired_key : MapView → List ℕ → MapView
 retired_key v key = retired_slot v key (get v.index key)
 
--- the result of a delete, by the map slot that was found
+-- the result of a delete from a hash map, by the map slot that was found
 abbrev pub delete_result : Option ℕ → Result (Unit {0}) Errno
 delete_result None = Err NoEntry
 delete_result (Some i) = Ok tt
 
--- A delete: its result, and the view after it.
+-- A delete: its result, and the view after it. From an array nothing is deleted.
+abbrev pub deleted_from : MapKind → MapView → List ℕ → Result (Unit {0}) Errno × MapView
+deleted_from Hash v key = (delete_result (get v.index key), retired_key v key)
+deleted_from Array v key = (Err InvalidArgument, v)
+
 abbrev pub deleted : MapView → List ℕ → Result (Unit {0}) Errno × MapView
-deleted v key = (delete_result (get v.index key), retired_key v key)
+deleted v key = deleted_from v.shape.kind v key
 
 -- A store to the value in a map slot.
 abbrev pub written : MapView → ℕ → List ℕ → MapView
@@ -96,15 +102,25 @@ abbrev pub filled_from : List ℕ → MapView → List ℕ → List ℕ → MapV
 filled_from [] v key value = v
 filled_from (i ∷ rest) v key value = filled v i rest key value
 
--- An update: the first test that fails, or the element that the key had is unlinked and a new one
--- is linked.
+-- the value in the map slot that was found, if any, is another
+abbrev pub overwritten_slot : MapView → Option ℕ → List ℕ → MapView
+overwritten_slot v None value = v
+overwritten_slot v (Some i) value = written v i value
+
+-- What an update writes: in a hash map the element that the key had is unlinked and a new one is
+-- linked; in an array the element of the index gets the value in place.
+abbrev pub written_by : MapKind → MapView → List ℕ → List ℕ → MapView
+written_by Hash v key value = filled_from v.free (retired_key v key) key value
+written_by Array v key value = overwritten_slot v (get v.index key) value
+
+-- An update: the first test that fails, or what is written.
 abbrev pub shown_error : MapView → List ℕ → ℕ → Option Errno
 shown_error v key flags =
     update_error flags (is_some (get v.index key)) (len v.index) (map_state_of v)
 
 abbrev pub updated_by : Option Errno → MapView → List ℕ → List ℕ → Result (Unit {0}) Errno × MapView
 updated_by (Some e) v key value = (Err e, v)
-updated_by None v key value = (Ok tt, filled_from v.free (retired_key v key) key value)
+updated_by None v key value = (Ok tt, written_by v.shape.kind v key value)
 
 abbrev pub updated : MapView → List ℕ → List ℕ → ℕ → Result (Unit {0}) Errno × MapView
 updated v key value flags = updated_by (shown_error v key flags) v key value

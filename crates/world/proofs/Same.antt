@@ -16,6 +16,7 @@ use Rattle.bpf_model.specs.contracts.insn.InsnPartialEq.TheImpl as insn
 use Rattle.bpf_model.specs.contracts.insn.OperandPartialEq.TheImpl as operand
 use Rattle.bpf_model.specs.contracts.insn.UnaryOpPartialEq.TheImpl as unary
 use Rattle.bpf_model.specs.contracts.limits.MapShapePartialEq.TheImpl as shape
+use Rattle.bpf_model.specs.contracts.limits.MapKind as map_kind
 use Rattle.bpf_model.specs.contracts.insn.AluOp as alu_op
 use Rattle.bpf_model.specs.contracts.insn.CallKind as call_kind
 use Rattle.bpf_model.specs.contracts.insn.SignExtension as extension
@@ -65,6 +66,6 @@ insns-decides a b = (λ e. absurd (false≢true e), λ e. cc)
 
 pub shapes-decides : (a b : MapShape) → Decides (shape.eq-value.it a b) (a ≡ b)
 shapes-decides a b =
-    through _ (both _ _ (Decides-eqb a.key_len b.key_len) (both _ _ (Decides-eqb a.value_len b.value_len) (both _ _ (Decides-eqb a.entries b.entries) (both _ _ (Decides-eqb a.spare b.spare) (Decides-eqb a.reuse_limit b.reuse_limit)))))
-    (λ h j. record { key_len = h.0 j; value_len = h.1.0 j; entries = h.1.1.0 j; spare = h.1.1.1.0 j; reuse_limit = h.1.1.1.1 j })
-    (λ h. (ap (λ (x : MapShape). x.key_len) h, (ap (λ (x : MapShape). x.value_len) h, (ap (λ (x : MapShape). x.entries) h, (ap (λ (x : MapShape). x.spare) h, ap (λ (x : MapShape). x.reuse_limit) h)))))
+    through _ (both _ _ (named map_kind.the_type tt a.kind b.kind) (both _ _ (Decides-eqb a.key_len b.key_len) (both _ _ (Decides-eqb a.value_len b.value_len) (both _ _ (Decides-eqb a.entries b.entries) (both _ _ (Decides-eqb a.spare b.spare) (Decides-eqb a.reuse_limit b.reuse_limit))))))
+    (λ h j. record { kind = h.0 j; key_len = h.1.0 j; value_len = h.1.1.0 j; entries = h.1.1.1.0 j; spare = h.1.1.1.1.0 j; reuse_limit = h.1.1.1.1.1 j })
+    (λ h. (ap (λ (x : MapShape). x.kind) h, (ap (λ (x : MapShape). x.key_len) h, (ap (λ (x : MapShape). x.value_len) h, (ap (λ (x : MapShape). x.entries) h, (ap (λ (x : MapShape). x.spare) h, ap (λ (x : MapShape). x.reuse_limit) h))))))

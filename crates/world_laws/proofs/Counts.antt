@@ -27,6 +27,6 @@ count_has_room w is =
     let shape = λ (v : MapView). v.shape in
     let count : length (shapes_of w) ≡ length w.maps = length-map w.maps shape in
     let few : length w.maps ≤ MAX_MAPS = is.ready.maps in
-    let births = all-births-few (shapes_of w) is.tracks.limits in
+    let births = all-births-few (shapes_of w) is.tracks.reached.limits in
     let given : w.given ≤ sum_by most_births (shapes_of w) = is.bounded.given in
     omega (arith, count, few, births, given)

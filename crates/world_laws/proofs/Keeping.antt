@@ -1,7 +1,6 @@
 -- No reaction changes the shape of a map, or the programs.
 use Rattle.std.proofs.Common.{◌≡◌, ℕ, Option, Some, None, refl}
 use Rattle.std.specs.Prelude.{slice_get, ℤ, pos, negsuc, ◌+ℤ◌}
-use Rattle.std.specs.FinMap.{get}
 use Rattle.bpf_model.specs.declared.call.Helper.{Helper}
 use Rattle.bpf_model.specs.declared.call.Helper.TheVariants.{Lookup, Update, Delete}
 use Rattle.bpf_model.specs.declared.call.KernelFunction.{KernelFunction}
@@ -20,7 +19,7 @@ use Rattle.bpf_model.specs.View.{MapView, RunView, WorldView}
 use Rattle.model_laws.specs.Locations.{Location, InContext, InFrame, AtMap, InSlot}
 use Rattle.view_laws.specs.Views.{shown_error}
 use Rattle.view_laws.specs.Reactions.{reaction}
-use Rattle.view_laws.proofs.Reacting.{Keeps, reaction_keeps, retired-shape, updated-shape, map-keeps}
+use Rattle.view_laws.proofs.Reacting.{Keeps, reaction_keeps, deleted-shape, updated-shape, map-keeps}
 use Rattle.world_laws.specs.Locating.{location_of}
 use Rattle.world_laws.specs.Moving.{word_in, operand_word, stored_slot, stored_at}
 use Rattle.world_laws.specs.Calling.{bytes_in, bound_number, serves, helper_called_on, helper_called, kernel_called}
@@ -43,7 +42,7 @@ module _ (w : WorldView) where
   serves-keeps Update k r v (Some m) e =
       let key = bytes_in v 2 m.shape.key_len in
       map-keeps w k m _ e (updated-shape (shown_error m key (word_in v 4)) m key (bytes_in v 3 m.shape.value_len))
-  serves-keeps Delete k r v (Some m) e = let key = bytes_in v 2 m.shape.key_len in map-keeps w k m _ e (retired-shape m key (get m.index key))
+  serves-keeps Delete k r v (Some m) e = let key = bytes_in v 2 m.shape.key_len in map-keeps w k m _ e (deleted-shape m.shape.kind m key)
   serves-keeps helper k r v None e = (refl, refl)
 
   helped_on-keeps : (helper : Helper) (o : Option ℕ) (r : ℕ) (v : RunView) → Keeps w (helper_called_on helper o r v w).1

@@ -104,7 +104,7 @@ stays-lived m new event answer real h w = (keeps_well m new event answer w.0 rea
 reached_has_lived : (shapes : List MapShape) (programs : List Loaded) (s : Schedule) → AreVerified shapes programs → IsReachedSchedule shapes programs s → AllLived s.machine
 reached_has_lived shapes programs s safe r =
     let start = start_schedule shapes programs in
-    let w = kept-last HasLivedWell stays-lived start r.events r.answers r.states (starts_well shapes programs safe, lived-start shapes programs) r.real r.history in
+    let w = kept-last HasLivedWell stays-lived start r.events r.answers r.states (starts_well shapes programs r.limits safe, lived-start shapes programs) r.real r.history in
     subst (λ (x : Schedule). AllLived x.machine) r.last w.1
 
 module _ (w : WorldView) (r : ℕ) (code : List Insn) (shapes : List MapShape) (context_len : ℕ) (context : List ℕ) (n : ℕ) (is : IsWorld w) (h : HasExited w r code shapes context_len context n) where

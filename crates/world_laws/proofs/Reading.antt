@@ -1,6 +1,6 @@
 -- The answers of the example.
 use Rattle.std.proofs.Common.{◌≡◌, ◌∙◌, ℕ, List, [], ◌∷◌, ◌++◌, false, Option, Some, None, refl, ap}
-use Rattle.std.specs.Prelude.{Ok, is_some, slice_get, ◌==◌, if◌then◌else◌}
+use Rattle.std.specs.Prelude.{Result, Ok, is_some, slice_get, ◌==◌, if◌then◌else◌}
 use Rattle.std.specs.Ordering.{nat_cmp}
 use Rattle.std.specs.Cmp.Lexicographic.{slice_cmp}
 use Rattle.std.specs.FinMap.{get, empty, insert, len, get-empty, len-empty}
@@ -11,11 +11,13 @@ use Rattle.bpf_model.specs.declared.event.Answer.{Answer}
 use Rattle.bpf_model.specs.declared.event.Answer.TheVariants.{Started, Moved, Exited, Ret, Done, Reaped}
 use Rattle.bpf_model.specs.declared.event.Given.TheVariants.{Free}
 use Rattle.bpf_model.specs.declared.event.EventRefusal.TheVariants.{BadLength}
+use Rattle.bpf_model.specs.declared.limits.MapKind.{MapKind}
+use Rattle.bpf_model.specs.declared.limits.MapKind.TheVariants.{Hash}
 use Rattle.bpf_model.specs.Event.{key_refusal}
 use Rattle.bpf_model.specs.Helper.{update_error}
 use Rattle.bpf_model.specs.View.{MapView, RunView, WorldView, new_map_view, map_state_of}
 use Rattle.model_laws.specs.Example.{example_shape}
-use Rattle.view_laws.specs.Views.{retired_slot, delete_result, filled_from, updated_by, shown_error}
+use Rattle.view_laws.specs.Views.{retired_slot, deleted_from, delete_result, filled_from, updated_by, shown_error}
 use Rattle.view_laws.specs.Reactions.{with_map, shape_shown, delete_at}
 use Rattle.view_laws.proofs.Lists.{insert-same}
 use Rattle.bpf_model.specs.View.{KeyMap}
@@ -82,18 +84,19 @@ abbrev deleted_world : WorldView
 deleted_world = with_map 0 (retired_slot held key_zero.items (Some 0)) found
 
 -- (of any world, so that no whole world is compared)
-deletes-in : (w : WorldView) (v : MapView) (slot : ℕ) → slice_get w.maps 0 ≡ Some v → v.shape.key_len ≡ 4 → get v.index key_zero.items ≡ Some slot
+deletes-in : (w : WorldView) (v : MapView) (slot : ℕ) → slice_get w.maps 0 ≡ Some v → v.shape.key_len ≡ 4 → v.shape.kind ≡ Hash → get v.index key_zero.items ≡ Some slot
     → full_reaction w (Delete 0 key_zero) ≡ (Ret (Ok tt), with_map 0 (retired_slot v key_zero.items (Some slot)) w)
-deletes-in w v slot at long h =
+deletes-in w v slot at long hash h =
     ap (λ (o : Option MapView). delete_at (key_refusal (shape_shown o) 4) o w 0 key_zero.items) at
     ∙ ap (λ (n : ℕ). delete_at (if 4 == n then None else Some BadLength) (Some v) w 0 key_zero.items) long
+    ∙ ap (λ (kind : MapKind). (let x : Result (Unit {0}) Errno × MapView = deleted_from kind v key_zero.items in (Ret x.0, with_map 0 x.1 w))) hash
     ∙ ap (λ (o : Option ℕ). (Ret (delete_result o), with_map 0 (retired_slot v key_zero.items o) w)) h
 
 found-map : slice_get found.maps 0 ≡ Some held
 found-map = refl
 
 deletes : full_reaction found (Delete 0 key_zero) ≡ (Ret (Ok tt), deleted_world)
-deletes = deletes-in found held 0 found-map refl (insert-same empty key_zero.items 0)
+deletes = deletes-in found held 0 found-map refl refl (insert-same empty key_zero.items 0)
 
 -- the events after the first
 abbrev rest : List Event

@@ -92,24 +92,24 @@ module _ (w : WorldView) (s : Schedule) (m : Matches w s) (sound : IsSound w s) 
   byte-stands j l = let c : length v.frame ≡ FRAME_BYTES = refines.cells in refines.frame j (omega (arith, l, c))
 
   -- the words of references that are sure
-  based : (q : Reference) → IsSure (scene_of es run) (Pointer q) → IsBased bases q
+  based : (q : Reference) → IsSure (scene_of s.machine.store run) (Pointer q) → IsBased bases q
   based (Ctx o) h = tt
   based (Frame o) h = tt
   based (MapRef i) h = tt
   based (Elem n o) h =
-      let x = shown w s m.refines sound.well sound.limits sound.maps n h.1.element h.1.born (held-kept (scene_of es run) h.0 n h.1) in
+      let x = shown w s m.refines sound.well sound.limits sound.maps n h.1.element h.1.born (held-kept s.machine sound.well run h.0 n h.1) in
       let b = x.base in
       let few = x.few_maps in
       let slot = x.few_slots in
       (omega (arith, b, few, slot), omega (arith, b, few, slot))
 
-  pub reference-fits : (q : Reference) (x : ℕ) → IsReferenceWord bases q x → IsNearReference q → IsListed MAX_MAPS q → IsSure (scene_of es run) (Pointer q) → IsBased bases q × (x < 2 ^ 64)
+  pub reference-fits : (q : Reference) (x : ℕ) → IsReferenceWord bases q x → IsNearReference q → IsListed MAX_MAPS q → IsSure (scene_of s.machine.store run) (Pointer q) → IsBased bases q × (x < 2 ^ 64)
   reference-fits (Ctx o) x e n l h = (tt, omega (arith, ints, e, n))
   reference-fits (Frame o) x e n l h = (tt, omega (arith, ints, e, n))
   reference-fits (MapRef i) x e n l h = (tt, omega (arith, ints, e, l))
   reference-fits (Elem b o) x e n l h = let f = based (Elem b o) h in (f, omega (arith, ints, e, n, f.0, f.1))
 
-  pub value-fits : (u : Value) (x : ℕ) → u ≢ Nothing → WordIs bases u x → IsNear u → HoldsValue (IsListed MAX_MAPS) u → IsSure (scene_of es run) u → x < 2 ^ 64
+  pub value-fits : (u : Value) (x : ℕ) → u ≢ Nothing → WordIs bases u x → IsNear u → HoldsValue (IsListed MAX_MAPS) u → IsSure (scene_of s.machine.store run) u → x < 2 ^ 64
   value-fits Nothing x some e n l h = absurd (some refl)
   value-fits (Number a) x some e n l h = omega (arith, e, h)
   value-fits (Pointer q) x some e n l h = (reference-fits q x e n l h).1

@@ -1,4 +1,4 @@
--- What a world's view shows of an element that a section guards, and of words near its map slot.
+-- What a world's view shows of an element that a run may access, and of words near its map slot.
 use Rattle.std.proofs.Common.{◌≡◌, ℕ, ◌+◌, ◌<◌, ◌≤◌, refl, ap, ◌∙◌, arith, false, Some, length}
 use Rattle.std.specs.Prelude.{slice_get, slice_index}
 use Rattle.std.specs.Option.{option_map}
@@ -10,10 +10,11 @@ use Rattle.bpf_model.specs.Schedule.{Schedule}
 use Rattle.bpf_model.specs.View.{MapView, WorldView, shapes_of}
 use Rattle.bpf_model.specs.Refines.{slot_view, RefinesSchedule}
 use Rattle.bpf_model.specs.Word.{element_bases, map_in, slot_base, most_map_slots}
-use Rattle.typed_runs.specs.Describes.{Scene, IsHeld}
+use Rattle.bpf_model.specs.Machine.{Machine, Run}
+use Rattle.typed_runs.specs.Describes.{scene_of, IsHeld}
 use Rattle.typed_runs.specs.Well.{IsWell}
 use Rattle.view_laws.proofs.Worlds.{here}
-use Rattle.typed_runs.proofs.Elements.{unreclaimed}
+use Rattle.typed_runs.proofs.Arrays.{held-unreclaimed, linked-kept}
 use Rattle.bpf_model.proofs.Lists.{get-below}
 
 -- An element that is kept stands in a map slot of its map, and its first byte has that map slot's word.
@@ -51,5 +52,5 @@ module _ (w : WorldView) (s : Schedule) (x : RefinesSchedule w s) (well : IsWell
         base = ap (λ o. slot_base (map_in o) (slice_index x.slots n)) born;
       }
 
-pub held-kept : (c : Scene) (map n : ℕ) (h : IsHeld c map n) → is_reclaimed h.element.life ≡ false
-held-kept c map n h = unreclaimed h.element.life c.section h.guarded
+pub held-kept : (m : Machine) → IsWell m → (run : Run) (map n : ℕ) (h : IsHeld (scene_of m.store run) map n) → is_reclaimed h.element.life ≡ false
+held-kept m well run map n h = held-unreclaimed m.store run map n (λ k e born. linked-kept m.store.maps e (well.consistent.arrays k e born)) h

@@ -81,7 +81,7 @@ module _ (m : Machine) (r : ℕ) (run : Run) (w : IsWell m) (at : run_at m.runs 
   typed = w.runs r run at going
 
   -- what its own verification says of it
-  abbrev described : IsPlanned run.program.code typed.safe.verified.plan typed.index (scene_of m.store.elements run) run.state
+  abbrev described : IsPlanned run.program.code typed.safe.verified.plan typed.index (scene_of m.store run) run.state
   described = typed.planned typed.safe.verified
 
   pub run-near : AreNear run.state.regs run.state.frame
@@ -96,6 +96,7 @@ module _ (m : Machine) (r : ℕ) (run : Run) (w : IsWell m) (at : run_at m.runs 
         section = s.section;
         single = s.single;
         lengths = s.lengths;
+        arrays = s.arrays;
         bytes = s.bytes;
         bound = s.bound;
         long = s.long;
@@ -104,11 +105,11 @@ module _ (m : Machine) (r : ℕ) (run : Run) (w : IsWell m) (at : run_at m.runs 
         at = described.at;
         known = described.known;
         planned = described.planned;
-        describes = describes-emptied described.known (scene_of m.store.elements run) run.state q l described.describes;
+        describes = describes-emptied described.known (scene_of m.store run) run.state q l described.describes;
       })
 
   -- where there is none, the register is sure
-  pub sure : (i : Insn) (q : ℕ) → insn_at run.program.code run.state.place ≡ Some i → (HasStep i m.store (open_sections m.runs) (emptied_run q run) → ⊥) → IsSure (scene_of m.store.elements run) (run.state.regs q)
+  pub sure : (i : Insn) (q : ℕ) → insn_at run.program.code run.state.place ≡ Some i → (HasStep i m.store (open_sections m.runs) (emptied_run q run) → ⊥) → IsSure (scene_of m.store run) (run.state.regs q)
   sure i q here stuck =
-      sure-of (scene_of m.store.elements run) described.describes.naming (described.known.regs q) (run.state.regs q) (described.describes.regs q)
+      sure-of (scene_of m.store run) described.describes.naming (described.known.regs q) (run.state.regs q) (described.describes.regs q)
       (λ l. let s = steps-emptied q l in stuck (subst (λ j. HasStep j m.store (open_sections m.runs) (emptied_run q run)) (same_Some s.0 i (sym s.1 ∙ here)) s.2))

@@ -32,7 +32,7 @@ pub tracked_is_sound : (w : WorldView) (s : Schedule) → TracksSchedule w s →
 tracked_is_sound w s t ready = record {
   well = reached_is_well (shapes_of w) w.programs s ready.verified t.reached;
   listed = reached_is_listed (shapes_of w) w.programs s t.reached;
-  limits = t.limits;
+  limits = t.reached.limits;
   maps = ready.maps;
   programs = ready.programs;
 }

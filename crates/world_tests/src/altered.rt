@@ -3,7 +3,7 @@
 //! as it has instructions, with the plain model's answers all along.
 use crate::making::{bytes_of, judged, numbers_of, plain_program, registry_of};
 use crate::replay::apply_both;
-use bpf_model::{Answer, CtxBytes, Event, MapId, MapShape, ProgId, RunId};
+use bpf_model::{Answer, CtxBytes, Event, MapId, MapKind, MapShape, ProgId, RunId};
 use insn_codec::{Program, decode};
 use plain_model::Machine;
 use std::alloc::Global;
@@ -18,6 +18,7 @@ const LOOKUP: &str =
 bf600000000000009500000000000000";
 
 const SHAPE: MapShape = MapShape {
+    kind: MapKind::Hash,
     key_len: 4,
     value_len: 8,
     entries: 2,

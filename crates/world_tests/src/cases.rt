@@ -1,12 +1,12 @@
 //! Each case is a machine and a list of events, each with the answer that it must have.
 use crate::making::{SHAPE, Source, assembled, judged, machine_of, world_of};
 use crate::programs::{
-    BYTE_AT_8, BYTE_BELOW_8, DELETE, EXIT_ONE, KEPT, KEPT_RELOCKED, LOOKUP, NARROW_BOUND, NESTED,
-    NINE_LOCKS, OTHER_LOOKUP, SAME_LOOKUP, SPILL_KEPT, SPILLED, STORE_NINE, TWO_AT_EVEN,
+    BYTE_AT_8, BYTE_BELOW_8, DELETE, EXIT_ONE, IN_ARRAY, KEPT, KEPT_RELOCKED, LOOKUP, NARROW_BOUND,
+    NESTED, NINE_LOCKS, OTHER_LOOKUP, SAME_LOOKUP, SPILL_KEPT, SPILLED, STORE_NINE, TWO_AT_EVEN,
     TWO_AT_ODD, UNGUARDED, UNLOCKED, UPDATE, UPDATE_NEW, WIDE_BOUND,
 };
 use crate::replay::replay;
-use bpf_model::{MAX_RUNS, MapShape};
+use bpf_model::{INDEX_BYTES, MAX_RUNS, MapKind, MapShape};
 use std::alloc::Global;
 use std::fmt::Write;
 use std::test::Fail;
@@ -29,6 +29,7 @@ struct Case {
 }
 
 const SMALL: MapShape = MapShape {
+    kind: MapKind::Hash,
     key_len: 4,
     value_len: 8,
     entries: 1,
@@ -36,7 +37,17 @@ const SMALL: MapShape = MapShape {
     reuse_limit: 2,
 };
 
-static CASES: [Case; 35] = [
+/// Two elements of eight bytes.
+const ARRAY: MapShape = MapShape {
+    kind: MapKind::Array,
+    key_len: INDEX_BYTES,
+    value_len: 8,
+    entries: 2,
+    spare: 0,
+    reuse_limit: 1,
+};
+
+static CASES: [Case; 37] = [
     // An update's tests in their order.
     Case {
         setting: Setting {
@@ -478,6 +489,41 @@ step 0 1 = moved\n\
 advance = ok\n\
 reap = reaped 0 00000000 free\n\
 step 0 2 = exit 5\n",
+    },
+    // The tests of an array's update, in their order; its elements are there from the start, and for good.
+    Case {
+        setting: Setting {
+            shape: ARRAY,
+            program: EXIT_ONE,
+            context_len: 0,
+        },
+        refused: None,
+        events: "get 0 00000000 = value 0000000000000000\n\
+put 0 01000000 0500000000000000 2 = ret 0\n\
+put 0 00000000 0500000000000000 1 = ret -17\n\
+put 0 02000000 0500000000000000 1 = ret -7\n\
+put 0 02000000 0500000000000000 3 = ret -22\n\
+get 0 02000000 = none\n\
+del 0 00000000 = ret -22\n\
+del 0 02000000 = ret -22\n\
+del 0 00 = refused 66\n\
+get 0 00000000 = value 0000000000000000\n\
+get 0 01000000 = value 0500000000000000\n\
+reap = none\n\
+stat = stat linked 4 unlinked 0 given 0 worn 0 runs 0 open 0\n",
+    },
+    // A run holds an array's element outside every section, and sees an update of it.
+    Case {
+        setting: Setting {
+            shape: ARRAY,
+            program: IN_ARRAY,
+            context_len: 0,
+        },
+        refused: None,
+        events: "start 0 - = run 0\n\
+step 0 6 = moved\n\
+put 0 00000000 0500000000000000 0 = ret 0\n\
+step 0 4 = exit 5\n",
     },
     // An unlock outside one.
     Case {

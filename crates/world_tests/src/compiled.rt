@@ -2,7 +2,7 @@
 //! examples/c. What they are answered was computed by `examples/c/native`; the scripts of `checks/data` have all twelve.
 use crate::making::{judged, numbers_of, plain_program, registry_of};
 use crate::replay::replay;
-use bpf_model::MapShape;
+use bpf_model::{MapKind, MapShape};
 use insn_codec::{Program, decode};
 use plain_model::Machine;
 use std::alloc::Global;
@@ -24,6 +24,7 @@ static ROWS: [Row; 2] = [
         name: "rate_limit",
         context: 24,
         maps: &[MapShape {
+            kind: MapKind::Hash,
             key_len: 8,
             value_len: 16,
             entries: 4096,
@@ -72,6 +73,7 @@ get 0 4d00000000000000 = value e8030000000000006300000000000000\n",
         context: 32,
         maps: &[
             MapShape {
+                kind: MapKind::Hash,
                 key_len: 4,
                 value_len: 16,
                 entries: 1000,
@@ -79,6 +81,7 @@ get 0 4d00000000000000 = value e8030000000000006300000000000000\n",
                 reuse_limit: 1000,
             },
             MapShape {
+                kind: MapKind::Hash,
                 key_len: 4,
                 value_len: 16,
                 entries: 10,

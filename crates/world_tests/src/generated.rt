@@ -1,19 +1,22 @@
-//! The world beside the plain model on events of a fixed sequence of numbers, event for event: three maps, at most eight
-//! runs at once, ten programs.
+//! The world beside the plain model on events of a fixed sequence of numbers, event for event: three hash maps and an
+//! array, at most eight runs at once, thirteen programs.
 use crate::making::{Source, bytes_of, machine_of, world_of};
 use crate::programs::{
-    ADD_ONE, BYTE_OF_16, LOAD, NESTED_LOAD, PUT, REMOVE, REPLACE, SPILL_REMOVE, STORE_BYTE,
-    TWO_MAPS,
+    ADD_IN_ARRAY, ADD_ONE, BYTE_OF_16, HELD_IN_ARRAY, LOAD, NESTED_LOAD, PUT, REMOVE, REPLACE,
+    SPILL_REMOVE, STORE_BYTE, TWO_MAPS,
 };
 use crate::random::Random;
 use crate::replay::apply_both;
-use bpf_model::{Event, KeyBytes, MAX_REUSE, MapId, MapShape, ProgId, RunId, ValueBytes};
+use bpf_model::{
+    Event, INDEX_BYTES, KeyBytes, MAX_REUSE, MapId, MapKind, MapShape, ProgId, RunId, ValueBytes,
+};
 use std::process::Abort;
 use std::test::Fail;
 
-/// The first map wears out, the second is mostly full, and the third has longer keys and values.
-const SHAPES: [MapShape; 3] = [
+/// The first map wears out, the second is mostly full, the third has longer keys and values, and the fourth is an array.
+const SHAPES: [MapShape; 4] = [
     MapShape {
+        kind: MapKind::Hash,
         key_len: 4,
         value_len: 8,
         entries: 4,
@@ -21,6 +24,7 @@ const SHAPES: [MapShape; 3] = [
         reuse_limit: 12,
     },
     MapShape {
+        kind: MapKind::Hash,
         key_len: 4,
         value_len: 8,
         entries: 2,
@@ -28,11 +32,20 @@ const SHAPES: [MapShape; 3] = [
         reuse_limit: MAX_REUSE,
     },
     MapShape {
+        kind: MapKind::Hash,
         key_len: 8,
         value_len: 16,
         entries: 4,
         spare: 2,
         reuse_limit: 50,
+    },
+    MapShape {
+        kind: MapKind::Array,
+        key_len: INDEX_BYTES,
+        value_len: 8,
+        entries: 3,
+        spare: 0,
+        reuse_limit: 1,
     },
 ];
 
@@ -46,7 +59,7 @@ const fn source(lines: &'static str, maps: &'static [usize]) -> Source {
 }
 
 /// The programs, in the order of their numbers.
-fn sources() -> [Source; 10] {
+fn sources() -> [Source; 13] {
     [
         source(LOAD, &[0]),
         source(ADD_ONE, &[1]),
@@ -58,6 +71,9 @@ fn sources() -> [Source; 10] {
         source(TWO_MAPS, &[1, 0]),
         source(REPLACE, &[1]),
         source(NESTED_LOAD, &[0]),
+        source(ADD_IN_ARRAY, &[3]),
+        source(HELD_IN_ARRAY, &[3]),
+        source(LOAD, &[3]),
     ]
 }
 
@@ -82,10 +98,10 @@ fn value(random: &mut Random, len: usize) -> ValueBytes {
 /// The number of a map, now and then of none; the length of its keys, now and then another; and that of
 /// its values.
 fn target(random: &mut Random) -> (MapId, usize, usize) {
-    let number = random.below(3);
-    let (key_len, value_len) = if number < 2 { (4, 8) } else { (8, 16) };
+    let number = random.below(4);
+    let (key_len, value_len) = if number != 2 { (4, 8) } else { (8, 16) };
     match random.below(32) {
-        0 => (MapId::new(3), key_len, value_len),
+        0 => (MapId::new(4), key_len, value_len),
         1 => (MapId::new(number), key_len + 1, value_len),
         2 => (MapId::new(number), key_len, value_len + 1),
         _ => (MapId::new(number), key_len, value_len),
@@ -125,7 +141,7 @@ fn delete_or_read(random: &mut Random, deletes: bool) -> Event {
 
 /// A start of any program, now and then of none, or on a context of another length.
 fn start(random: &mut Random) -> Event {
-    let prog = ProgId::new(random.below(11));
+    let prog = ProgId::new(random.below(14));
     let bytes = [
         random.below(6) as u8,
         random.below(256) as u8,

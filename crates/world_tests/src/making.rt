@@ -4,7 +4,7 @@ ghost use Rattle.bpf_model.specs.View.{AreNewMaps};
 
 use arrayvec::ArrayVec;
 use asm::assemble;
-use bpf_model::{CTX_BYTES, MAX_MAPS, MapShape};
+use bpf_model::{CTX_BYTES, MAX_MAPS, MapKind, MapShape};
 use insn_codec::Program;
 use maps::Registry;
 use plain_model::Machine;
@@ -16,6 +16,7 @@ use world::{Loaded, World};
 
 /// Keys of 4 bytes, values of 8, 4 elements and 4 further map slots, each used a hundred times at most.
 pub const SHAPE: MapShape = MapShape {
+    kind: MapKind::Hash,
     key_len: 4,
     value_len: 8,
     entries: 4,

@@ -152,3 +152,20 @@ pub const NESTED_LOAD: &str =
     "ldxb r7, [r1+0]; stxw [r10-4], r7; mov64 r6, 0; callbtf 1; callbtf 1; \
 mov64 r2, r10; add64 r2, -4; ldmap r1, 0; call 1; mov64 r9, r0; callbtf 2; callbtf 1; callbtf 2; \
 jeq r9, 0, +1; ldxdw r6, [r9+0]; callbtf 2; mov64 r0, r6; exit";
+
+/// An array's element 0 is looked up outside every section, and loaded from.
+pub const IN_ARRAY: &str = "mov64 r6, 0; stw [r10-4], 0; mov64 r2, r10; add64 r2, -4; ldmap r1, 0; \
+call 1; jeq r0, 0, +1; ldxdw r6, [r0+0]; mov64 r0, r6; exit";
+
+/// A byte of the context is the index of an array's element, whose value is read, added to and read again, outside
+/// every section.
+pub const ADD_IN_ARRAY: &str = "ldxb r7, [r1+0]; ldxb r8, [r1+1]; stxw [r10-4], r7; mov64 r6, 0; \
+mov64 r2, r10; add64 r2, -4; ldmap r1, 0; call 1; jeq r0, 0, +4; ldxdw r6, [r0+0]; add64 r6, r8; \
+stxdw [r0+0], r6; ldxdw r6, [r0+0]; mov64 r0, r6; exit";
+
+/// An array's element that is held over a lock, an update of it and the unlock is read after them.
+pub const HELD_IN_ARRAY: &str =
+    "ldxb r7, [r1+0]; ldxb r8, [r1+2]; stxw [r10-4], r7; stxdw [r10-16], r8; \
+mov64 r2, r10; add64 r2, -4; ldmap r1, 0; call 1; mov64 r9, r0; callbtf 1; mov64 r2, r10; add64 r2, -4; \
+mov64 r3, r10; add64 r3, -16; mov64 r4, 0; ldmap r1, 0; call 2; mov64 r6, r0; callbtf 2; jeq r9, 0, +1; \
+ldxdw r6, [r9+0]; mov64 r0, r6; exit";

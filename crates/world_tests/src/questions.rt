@@ -2,7 +2,7 @@
 use crate::making::{SHAPE, Source, bytes_of, loaded, world_of};
 use crate::programs::{EXIT_ONE, LOAD};
 use crate::replay::answers_as;
-use bpf_model::{CtxBytes, KeyBytes, MapId, MapShape, RunId};
+use bpf_model::{CtxBytes, KeyBytes, MapId, MapKind, MapShape, RunId};
 use std::alloc::Global;
 use std::process::Abort;
 use std::test::Fail;
@@ -27,6 +27,7 @@ const OTHER: Source = Source {
 const SHAPES: [MapShape; 2] = [
     SHAPE,
     MapShape {
+        kind: MapKind::Hash,
         key_len: 4,
         value_len: 16,
         entries: 4,

@@ -1,5 +1,5 @@
-// What stands for ../bpf.h when a program is compiled for the computer itself: maps are arrays, and sections
-// are nothing.
+// What stands for ../bpf.h when a program is compiled for the computer itself: a map is a list of
+// elements, and sections are nothing.
 #ifndef BPF_H
 #define BPF_H
 
@@ -21,22 +21,37 @@ struct element {
 };
 
 struct bpf_map {
+    u32 kind;
     u32 key_len;
     u32 value_len;
     u32 entries;
     struct element *elements;
 };
 
+enum { HASH_MAP = 0, ARRAY_MAP = 1 };
+
 #define MAP(name, key, value, count, spare, reuse)                                                 \
     static struct element name##_elements[count];                                                  \
-    struct bpf_map name = {sizeof(key), sizeof(value), count, name##_elements}
+    struct bpf_map name = {HASH_MAP, sizeof(key), sizeof(value), count, name##_elements}
+
+// The elements of an array lie at their indexes; each is there from the start, of zeros.
+#define ARRAY(name, value, count)                                                                  \
+    static struct element name##_elements[count];                                                  \
+    struct bpf_map name = {ARRAY_MAP, sizeof(u32), sizeof(value), count, name##_elements}
 
 #define CONTEXT(type) const u32 context_len = sizeof(type)
 
 enum { BPF_ANY = 0, BPF_NOEXIST = 1, BPF_EXIST = 2 };
 
+static struct element *element_at(const struct bpf_map *map, u32 index)
+{
+    return index < map->entries ? &map->elements[index] : 0;
+}
+
 static struct element *element_of(const struct bpf_map *map, const void *key)
 {
+    if (map->kind == ARRAY_MAP)
+        return element_at(map, *(const u32 *)key);
     for (u32 i = 0; i < map->entries; i++)
         if (map->elements[i].used && memcmp(map->elements[i].key, key, map->key_len) == 0)
             return &map->elements[i];
@@ -50,9 +65,24 @@ static inline void *bpf_map_lookup_elem(const struct bpf_map *map, const void *k
 }
 
 // The error numbers of bpf(2): EEXIST 17, ENOENT 2, EINVAL 22, E2BIG 7.
+static s64 array_update(const struct bpf_map *map, u32 index, const void *value, u64 flags)
+{
+    struct element *element = element_at(map, index);
+    if (flags > BPF_EXIST)
+        return -22;
+    if (!element)
+        return -7;
+    if (flags == BPF_NOEXIST)
+        return -17;
+    memcpy(element->value, value, map->value_len);
+    return 0;
+}
+
 static inline s64 bpf_map_update_elem(const struct bpf_map *map, const void *key, const void *value,
                                       u64 flags)
 {
+    if (map->kind == ARRAY_MAP)
+        return array_update(map, *(const u32 *)key, value, flags);
     struct element *element = element_of(map, key);
     if (flags == BPF_NOEXIST && element)
         return -17;
@@ -73,6 +103,8 @@ static inline s64 bpf_map_update_elem(const struct bpf_map *map, const void *key
 
 static inline s64 bpf_map_delete_elem(const struct bpf_map *map, const void *key)
 {
+    if (map->kind == ARRAY_MAP)
+        return -22;
     struct element *element = element_of(map, key);
     if (!element)
         return -2;

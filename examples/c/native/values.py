@@ -3,8 +3,8 @@
 
     values.py FOLDER
 
-Each program is compiled by the C compiler (cc) with ./bpf.h, where maps are arrays. It goes through the lines below, and
-what it answers is written behind the commands that ask the same of the program file, ../NAME.bpfrt.
+Each program is compiled by the C compiler (cc) with ./bpf.h, where a map is a list of elements. It goes through the
+lines below, and what it answers is written behind the commands that ask the same of the program file, ../NAME.bpfrt.
 """
 
 import pathlib
@@ -19,8 +19,7 @@ HERE = pathlib.Path(__file__).resolve().parent
 DRIVER = """
 #include <stdio.h>
 #include <stdlib.h>
-static u8 key[64], value[256];
-static _Alignas(8) u8 context[256];
+static _Alignas(8) u8 key[64], value[256], context[256];
 static struct bpf_map *maps[] = {%(maps)s};
 static void read_bytes(const char *word, u8 *to)
 {
@@ -33,13 +32,18 @@ static void read_bytes(const char *word, u8 *to)
 int main(void)
 {
     static char verb[8], first[600], second[600];
+    unsigned long long flags;
     int map;
     while (scanf("%%7s", verb) == 1) {
         if (verb[0] == 'p') {
-            scanf("%%d %%599s %%599s", &map, first, second);
+            scanf("%%d %%599s %%599s %%llu", &map, first, second, &flags);
             read_bytes(first, key);
             read_bytes(second, value);
-            printf("%%lld\\n", bpf_map_update_elem(maps[map], key, value, 0));
+            printf("%%lld\\n", bpf_map_update_elem(maps[map], key, value, flags));
+        } else if (verb[0] == 'd') {
+            scanf("%%d %%599s", &map, first);
+            read_bytes(first, key);
+            printf("%%lld\\n", bpf_map_delete_elem(maps[map], key));
         } else if (verb[0] == 'g') {
             scanf("%%d %%599s", &map, first);
             read_bytes(first, key);
@@ -73,19 +77,67 @@ def packet(length, port, protocol=6, header=5, kind=0x0800):
     return pack("II", length, 0) + data.hex()
 
 
+def bloom_words(key):
+    """Where in the filter the three bits of a key lie."""
+    hashed = key * 0x9e3779b97f4a7c15 % 2 ** 64
+    first, further = hashed >> 32, (hashed | 1) % 2 ** 32
+    return [(first + number * further) % 2 ** 32 // 64 % 1024 for number in range(3)]
+
+
+def label(text, length=None, cut=0):
+    """A DNS query whose first label has these bytes and says this length, with so many bytes of it cut off."""
+    length = len(text) if length is None else length
+    message = bytes(12) + bytes([length]) + text
+    return pack("I", 13 + length - cut) + message.ljust(252, b"\0").hex()
+
+
+def internet(length, protocol, kind=0x0800):
+    """An Ethernet frame with the beginning of an IPv4 or IPv6 header."""
+    data = bytearray(64)
+    data[12:14] = kind.to_bytes(2, "big")
+    data[14 + (6 if kind == 0x86DD else 9)] = protocol
+    return pack("II", length, 0) + data.hex()
+
+
 def window(rule, at, first, second):
     data = bytearray(128)
     data[at & 0x70:(at & 0x70) + 16] = struct.pack("<QQ", first, second)
     return pack("IHH", rule, at, 0) + data.hex()
 
 
-# The lines of each program: ("put", map, key, value), ("get", map, key), ("run", context).
+# The lines of each program: ("put", map, key, value) with flags behind it where they are not 0, ("get", map, key),
+# ("del", map, key), ("run", context).
 LINES = {
     "bitmap": [
         ("put", 0, pack("I", 7), pack("QQQQII", 1, 0, 0, 1 << 63, 2, 0)),
         ("run", pack("II", 7, 0)), ("run", pack("II", 7, 1)), ("run", pack("II", 7, 1)),
         ("run", pack("II", 7, 255)), ("run", pack("II", 7, 130)), ("run", pack("II", 7, 256)),
         ("run", pack("II", 8, 1)), ("get", 0, pack("I", 7)),
+    ],
+    "bloom": [
+        ("run", pack("QII", 77, 0, 0)), ("run", pack("QII", 77, 1, 0)), ("run", pack("QII", 77, 0, 0)),
+        ("run", pack("QII", 77, 3, 0)), ("run", pack("QII", 78, 2, 0)), ("run", pack("QII", 78, 0, 0)),
+        ("run", pack("QII", 0, 1, 0)), ("run", pack("QII", 0, 0, 0)),
+        ("run", pack("QII", 2 ** 64 - 1, 1, 0)), ("run", pack("QII", 2 ** 64 - 1, 0, 0)),
+        *[("get", 0, pack("I", word)) for word in bloom_words(77) + bloom_words(0) + bloom_words(2 ** 64 - 1)],
+        *[("put", 0, pack("I", word), pack("Q", 2 ** 64 - 1)) for word in bloom_words(79)],
+        ("run", pack("QII", 79, 0, 0)), ("put", 0, pack("I", bloom_words(79)[1]), pack("Q", 0)),
+        ("run", pack("QII", 79, 0, 0)), ("get", 0, pack("I", 1023)), ("get", 0, pack("I", 1024)),
+    ],
+    "cidr_blocklist": [
+        ("put", 0, pack("I", 1), pack("QQ", 0, 0)),
+        ("put", 1, pack("II", 0x0a010203, 32), pack("QII", 0, 1, 0)),
+        ("put", 1, pack("II", 0x0a010200, 24), pack("QII", 0, 2, 0)),
+        ("put", 1, pack("II", 0x0a010000, 16), pack("QII", 0, 0, 0)),
+        ("put", 1, pack("II", 0x0a000000, 8), pack("QII", 0, 2, 0)),
+        ("put", 1, pack("II", 0xc0a80000, 16), pack("QII", 5, 1, 0)),
+        ("put", 1, pack("II", 0xff000000, 8), pack("QII", 0, 7, 0)),
+        ("run", pack("II", 1, 0x0a010203)), ("run", pack("II", 1, 0x0a010204)), ("run", pack("II", 1, 0x0a010303)),
+        ("run", pack("II", 1, 0x0aff0203)), ("run", pack("II", 1, 0xc0a8ffff)), ("run", pack("II", 1, 0xc0a90001)),
+        ("run", pack("II", 1, 0)), ("run", pack("II", 1, 0xffffffff)), ("run", pack("II", 2, 0x0a010203)),
+        *[("get", 1, pack("II", *prefix)) for prefix in [
+            (0x0a010203, 32), (0x0a010200, 24), (0x0a010000, 16), (0x0a000000, 8), (0xc0a80000, 16), (0, 8)]],
+        ("del", 1, pack("II", 0x0a010203, 32)), ("run", pack("II", 1, 0x0a010203)), ("get", 0, pack("I", 1)),
     ],
     "compared_index": [
         ("put", 0, pack("I", 3), pack("11Q", 100, *range(10))),
@@ -106,6 +158,17 @@ LINES = {
         ("run", pack("IIII", 1, 3600, 899, 10)), ("run", pack("IIII", 1, 86399, 3599, 4)),
         ("run", pack("IIII", 1, 86400, 0, 1)), ("run", pack("IIII", 1, 0, 3600, 1)),
         ("run", pack("IIII", 2, 0, 0, 1)), ("get", 0, pack("I", 1)),
+    ],
+    "dns_name": [
+        ("run", label(b"www")), ("run", label(b"a")), ("run", label(b"-Z9")), ("run", label(b"x" * 63)),
+        ("run", label(b"")), ("run", label(b"x" * 64)), ("run", label(b"", 0xc0)), ("run", label(b"", 255)),
+        ("run", label(b"www", cut=1)), ("run", label(b"www", cut=3)), ("run", label(b"", cut=1)),
+        ("run", label(b"x" * 63, cut=63)), ("run", label(b"_tcp")), ("run", label(b"a_")),
+        ("run", label(b"abcdefg.")), ("run", label(b"abcdefgh_")), ("run", label(b"abcdefg_", 7)),
+        *[("run", label(b"ok" + bytes([odd]))) for odd in b"/:@[`{,.\x00\x80\xad\xb0\xc1\xff"],
+        *[("run", label(bytes([plain]) * 8)) for plain in b"09AZaz-"],
+        *[("get", 0, pack("I", verdict)) for verdict in range(6)],
+        ("put", 0, pack("I", 0), pack("Q", 2 ** 64 - 1)), ("run", label(b"www")), ("get", 0, pack("I", 0)),
     ],
     "histogram": [
         ("put", 0, pack("Q", 9), pack("Q16I", 1, *([0] * 16))),
@@ -128,6 +191,15 @@ LINES = {
         ("run", pack("IHBBQ", 11, 443, 6, 0, 5)),
         ("get", 0, pack("IHBB", 10, 443, 6, 1)), ("get", 0, pack("IHBB", 0, 443, 6, 1)),
     ],
+    "protocol_counters": [
+        ("run", internet(60, 6)), ("run", internet(1500, 6)), ("run", internet(60, 17)),
+        ("run", internet(34, 0)), ("run", internet(33, 6)), ("run", internet(2 ** 32 - 1, 255)),
+        ("run", internet(54, 6, 0x86DD)), ("run", internet(53, 6, 0x86DD)), ("run", internet(60, 6, 0x0806)),
+        ("run", internet(0, 6)),
+        ("put", 0, pack("I", 1), pack("QQ", 2 ** 64 - 1, 2 ** 64 - 60)), ("run", internet(60, 1)),
+        ("put", 0, pack("I", 17), pack("QQ", 0, 0)), ("run", internet(70, 17, 0x86DD)),
+        *[("get", 0, pack("I", protocol)) for protocol in (0, 1, 6, 17, 255, 41, 256)],
+    ],
     "rate_limit": [
         ("run", pack("QQIB3x", 77, 1000, 5, 0)), ("run", pack("QQIB3x", 77, 1000, 600, 0)),
         ("run", pack("QQIB3x", 77, 1016, 402, 0)), ("run", pack("QQIB3x", 77, 1032, 401, 0)),
@@ -141,6 +213,17 @@ LINES = {
         ("run", pack("Iiii", 1, 0, 7, -1)), ("run", pack("Iiii", 1, 5, 2, -9)),
         ("run", pack("Iiii", 1, -1, 2, 1)), ("run", pack("Iiii", 1, 2, 8, 1)),
         ("run", pack("Iiii", 2, 2, 2, 1)), ("get", 0, pack("I", 1)),
+    ],
+    "size_histogram": [
+        ("run", pack("II", 0, 1)), ("run", pack("II", 1, 1)), ("run", pack("II", 2, 3)), ("run", pack("II", 3, 1)),
+        ("run", pack("II", 1500, 10)), ("run", pack("II", 2047, 2 ** 32 - 1)), ("run", pack("II", 2048, 0)),
+        ("run", pack("II", 65535, 2)), ("run", pack("II", 65536, 1)), ("run", pack("II", 2 ** 32 - 1, 1)),
+        ("put", 0, pack("I", 16), pack("Q", 2 ** 64 - 1), 2), ("run", pack("II", 40000, 5)),
+        ("put", 0, pack("I", 3), pack("Q", 9), 0), ("put", 0, pack("I", 3), pack("Q", 8), 1),
+        ("put", 0, pack("I", 3), pack("Q", 8), 3), ("put", 0, pack("I", 17), pack("Q", 8), 0),
+        ("put", 0, pack("I", 17), pack("Q", 8), 1), ("put", 0, pack("I", 17), pack("Q", 8), 3),
+        ("del", 0, pack("I", 3)), ("del", 0, pack("I", 17)), ("run", pack("II", 4, 1)),
+        *[("get", 0, pack("I", bucket)) for bucket in (0, 1, 2, 3, 11, 12, 16, 17, 2 ** 32 - 1)],
     ],
     "spilled": [
         ("put", 0, pack("I", 1), pack("QQ", 500, 0)), ("put", 0, pack("I", 2), pack("QQ", 50, 0)),
@@ -167,24 +250,31 @@ LINES = {
 }
 
 
+def with_flags(line):
+    """The line: a put has flags."""
+    return (*line, 0) if line[0] == "put" and len(line) == 4 else line
+
+
 def native(name, folder):
     """What the program answers to its lines."""
     source = (HERE.parent / f"{name}.c").read_text().replace('#include "bpf.h"', f'#include "{HERE}/bpf.h"')
     function = re.findall(r"^u64 (\w+)\(const struct", source, re.M)[-1]
-    maps = re.findall(r"^MAP\((\w+),", source, re.M)
+    maps = re.findall(r"^(?:MAP|ARRAY)\((\w+),", source, re.M)
     file = folder / f"{name}.c"
     file.write_text(source + DRIVER % {"maps": ", ".join("&" + m for m in maps), "function": function})
     subprocess.run(["cc", "-O1", "-w", "-o", folder / name, file], check=True)
-    text = "\n".join(" ".join(map(str, line)) for line in LINES[name])
+    text = "\n".join(" ".join(map(str, with_flags(line))) for line in LINES[name])
     return subprocess.run([folder / name], input=text, capture_output=True, text=True, check=True).stdout.split()
 
 
 def commands(name, maps, folder):
     """The commands of a script, each with its answer."""
     for line, told in zip(LINES[name], native(name, folder), strict=True):
-        verb, *words = line
+        verb, *words = with_flags(line)
         if verb == "put":
-            yield f"put {maps[words[0]]} {words[1]} {words[2]} 0", f"ret {told}"
+            yield f"put {maps[words[0]]} {words[1]} {words[2]} {words[3]}", f"ret {told}"
+        elif verb == "del":
+            yield f"del {maps[words[0]]} {words[1]}", f"ret {told}"
         elif verb == "get":
             yield f"get {maps[words[0]]} {words[1]}", told if told == "none" else f"value {told}"
         else:

@@ -6,7 +6,7 @@ ghost use Rattle.bench.specs.Reads.{HasWordLengths, IsProgramOf, IsReadyReader, 
 
 use crate::reads::reader::{KEYS, Reader};
 use anyhow::{Result, bail};
-use bpf_model::MapShape;
+use bpf_model::{MapKind, MapShape};
 use insn_codec::decode;
 use read_table::{ReadTable, Seats, Writer};
 use std::alloc::{AllocError, Global};
@@ -30,6 +30,7 @@ const END: &str = "8520000002000000bf600000000000009500000000000000";
 
 /// Keys and values of 8 bytes.
 const SHAPE: MapShape = MapShape {
+    kind: MapKind::Hash,
     key_len: 8,
     value_len: 8,
     entries: SLOTS,

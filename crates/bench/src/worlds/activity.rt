@@ -1,6 +1,6 @@
 //! What is answered and timed.
 
-use bpf_model::{KEY_BYTES, MAX_ENTRIES, MAX_REUSE, MapShape, VALUE_BYTES};
+use bpf_model::{KEY_BYTES, MAX_ENTRIES, MAX_REUSE, MapKind, MapShape, VALUE_BYTES};
 
 /// A program whose steps are timed.
 #[derive(Clone, Copy)]
@@ -31,6 +31,7 @@ pub struct Activity {
 /// A shape for so many elements, of which half are stored, and as many map slots more; lengths in bytes.
 const fn shape(key_len: usize, value_len: usize, entries: usize) -> MapShape {
     MapShape {
+        kind: MapKind::Hash,
         key_len,
         value_len,
         entries,

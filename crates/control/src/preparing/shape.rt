@@ -20,6 +20,7 @@ pub fn shape_of(numbers: ShapeNumbers) -> MapShape
         MapReplies s name (shape_of_numbers numbers) reply new }
 {
     MapShape {
+        kind: numbers.kind,
         key_len: numbers.key_len as usize,
         value_len: numbers.value_len as usize,
         entries: numbers.entries as usize,

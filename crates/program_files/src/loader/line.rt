@@ -4,12 +4,12 @@ ghost use Rattle.bpf_model.specs.declared.limits.MapShape.{MapShape as ShapeOf};
 ghost use Rattle.bpf_model.specs.declared.limits.TheConstants.{MAX_REUSE};
 ghost use Rattle.maps.specs.Registry.{RegistryView};
 ghost use Rattle.program_files.specs.Lines.{file_words, slot_in, code_slots};
-ghost use Rattle.program_files.specs.ProgramFile.{IsContextLine, AreShapeWords, IsMapLine, AddsMap};
+ghost use Rattle.program_files.specs.ProgramFile.{IsContextLine, AreHashWords, AreArrayWords, AreShapeWords, IsMapLine, AddsMap};
 ghost use Rattle.program_files.specs.Reading.{words_left};
 
 use crate::loader::fault::LineFault;
 use crate::loader::words::Words;
-use bpf_model::{CTX_BYTES, MapShape};
+use bpf_model::{CTX_BYTES, INDEX_BYTES, MapKind, MapShape};
 use hex::decode_to_slice;
 use maps::{MapFault, Registry};
 
@@ -39,25 +39,63 @@ pub struct MapLine<'a> {
     shape: MapShape,
 }
 
-/// The shape that the next five words are, if its reuse limit has 32 bits. No map may have another.
-fn shape_of(words: &mut Words<'_>) -> Option<MapShape>
-    ensures some { IfSome result (λ s.
-        AreShapeWords (words_left words.old.rest) s (words_left words.new.rest)) }
-    ensures none { IfNone result ((s : ShapeOf) (rest : List (List ℕ)) →
-        AreShapeWords (words_left words.old.rest) s rest → MAX_REUSE < s.reuse_limit) }
+/// The shape of a hash map that the words are, if its reuse limit has 32 bits. No map may have another.
+fn hash_shape(mut words: Words<'_>) -> Option<MapShape>
+    ensures some { IfSome result (AreHashWords (words_left words.entry.rest)) }
+    ensures none { IfNone result ((s : ShapeOf) → AreHashWords (words_left words.entry.rest) s →
+        MAX_REUSE < s.reuse_limit) }
 {
     let key_len = words.number()?;
     let value_len = words.number()?;
     let entries = words.number()?;
     let spare = words.number()?;
     let reuse_limit = words.number()?;
+    if !words.is_empty() {
+        return None;
+    }
     Some(MapShape {
+        kind: MapKind::Hash,
         key_len: key_len as usize,
         value_len: value_len as usize,
         entries: entries as usize,
         spare: spare as usize,
         reuse_limit: u32::try_from(reuse_limit).ok()?,
     })
+}
+
+/// The shape of an array that the words are.
+fn array_shape(mut words: Words<'_>) -> Option<MapShape>
+    ensures some { IfSome result (AreArrayWords (words_left words.entry.rest)) }
+    ensures none { IfNone result ((s : ShapeOf) → ¬ (AreArrayWords (words_left words.entry.rest) s)) }
+{
+    if words.word()? != b"array".as_slice() {
+        return None;
+    }
+    let value_len = words.number()?;
+    let entries = words.number()?;
+    if !words.is_empty() {
+        return None;
+    }
+    Some(MapShape {
+        kind: MapKind::Array,
+        key_len: INDEX_BYTES,
+        value_len: value_len as usize,
+        entries: entries as usize,
+        spare: 0,
+        reuse_limit: 1,
+    })
+}
+
+/// The shape that the words are, if its reuse limit has 32 bits.
+fn shape_of(words: Words<'_>) -> Option<MapShape>
+    ensures some { IfSome result (AreShapeWords (words_left words.entry.rest)) }
+    ensures none { IfNone result ((s : ShapeOf) → AreShapeWords (words_left words.entry.rest) s →
+        MAX_REUSE < s.reuse_limit) }
+{
+    match array_shape(words) {
+        Some(shape) => Some(shape),
+        None => hash_shape(words),
+    }
 }
 
 /// The map that the line tells, if its reuse limit has 32 bits.
@@ -71,10 +109,7 @@ fn map_of(line: &[u8]) -> Option<MapLine<'_>>
         return None;
     }
     let name = words.word()?;
-    let shape = shape_of(&mut words)?;
-    if !words.is_empty() {
-        return None;
-    }
+    let shape = shape_of(words)?;
     Some(MapLine { name, shape })
 }
 

@@ -66,9 +66,9 @@ fn load_text(alloc: Global, text: &[u8]) -> Result<ProgramFile, LoadFault>
 }
 
 /// What a program file says. One that begins with `HEADING` is a text: behind the heading a line `ctx N`, a
-/// line `map NAME KEY VALUE ENTRIES SPARE REUSE` for each map, a line `code`, and lines of slots, each 16
-/// hexadecimal digits; words and slots are parted by one space each. Any other file is raw: its bytes are
-/// the program's, with no context and no maps.
+/// line `map NAME KEY VALUE ENTRIES SPARE REUSE` for each hash map and `map NAME array VALUE ENTRIES` for each
+/// array, a line `code`, and lines of slots, each 16 hexadecimal digits; words and slots are parted by one space
+/// each. Any other file is raw: its bytes are the program's, with no context and no maps.
 ///
 /// # Errors
 ///

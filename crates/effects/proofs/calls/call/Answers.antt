@@ -11,7 +11,7 @@ use Rattle.effects.proofs.calls.call.Goals as goal
 pub returns-in-Kernel-clause-sound : goal.returns-in-Kernel-clause-sound
 returns-in-Kernel-clause-sound c = on_ok_weaker c.call_kernel.result
     (λ e. subst (λ (k : CallKind). PerformsCall k c.args.imm c.args.shapes.now c.args.state.now c.call_kernel.new.state) (sym c.in-Kernel.is)
-    (subst (λ (z : ℤ). PerformsCall callee.Kernel z c.args.shapes.now c.args.state.now c.call_kernel.new.state) (to_z-of_z w32 c.args.imm c.ranges.imm) (e c.args.shapes.now))) c.call_kernel.ensures.sound
+    (subst (λ (z : ℤ). PerformsCall callee.Kernel z c.args.shapes.now c.args.state.now c.call_kernel.new.state) (to_z-of_z w32 c.args.imm c.ranges.imm) e)) c.call_kernel.ensures.sound
 
 pub returns-in-Helper-clause-sound : goal.returns-in-Helper-clause-sound
 returns-in-Helper-clause-sound c = on_ok_weaker c.call_helper.result

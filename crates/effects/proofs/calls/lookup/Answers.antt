@@ -4,7 +4,7 @@ use Rattle.effects.proofs.CallLaws.{lookup_sound, call_others}
 use Rattle.effects.proofs.calls.lookup.Goals as goal
 
 pub returns-clause-sound : goal.returns-clause-sound
-returns-clause-sound c = lookup_sound c.args.state.now c.leave_call.new.self c.args.shapes.now c.in_ok-map.map c.args.ids.now.next c.in_ok-map.shape c.in_ok-check_inside.ensures.inside c.in_ok-map.ensures.map c.in_ok-check_bytes_argument.ensures.bytes c.requires.below c.leave_call.ensures.alike
+returns-clause-sound c = lookup_sound c.args.state.now c.leave_call.new.self c.args.shapes.now c.in_ok-map.map c.args.ids.now.next c.in_ok-map.shape c.in_ok-check_inside.ensures.may c.in_ok-map.ensures.map c.in_ok-check_bytes_argument.ensures.bytes c.requires.below c.leave_call.ensures.alike
 
 pub returns-clause-signature : goal.returns-clause-signature
 returns-clause-signature c = record {

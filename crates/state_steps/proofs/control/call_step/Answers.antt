@@ -3,6 +3,7 @@ use Rattle.std.specs.Prelude.{Err, Ok}
 use mir.Val.{SFits}
 use Rattle.std.proofs.lemmas.Int.{to_z-of_z}
 use Rattle.bpf_model.specs.declared.insn.Insn.TheVariants.{Call}
+use Rattle.register_kinds.specs.States.{state_of}
 use Rattle.state_steps.proofs.Serving.{call_ready, call_serves}
 use Rattle.state_steps.proofs.Stepping.{quiet_step, above_five, inside_here}
 use Rattle.state_steps.proofs.control.call_step.Goals as goal
@@ -32,4 +33,4 @@ returns-clause-stepped c = λ ctx_len.
     (call_serves c.args.kind c.args.imm c.args.shape.now.shapes.now c.args.state.now c.call.new.state (record { finds = finds; called = called }))
     tt
     (λ r s n e. c.in_ok-call.ensures.others r s (above_five r n) e)
-    (λ h. inside_here c.args.kind c.args.imm c.args.state.now.depth (λ e. c.call.result ≡ Err e) h (simp to_z-of_z at c.call.ensures.first) (λ e is. (let clash : Ok c.in_ok-call.field-0 ≡ Err e = sym c.in_ok-call.was ∙ is in absurd cc)))
+    (λ h. inside_here c.args.kind c.args.imm c.args.shape.now.shapes.now (state_of c.args.state.now) (λ e. c.call.result ≡ Err e) h (simp to_z-of_z at c.call.ensures.first) (λ e is. (let clash : Ok c.in_ok-call.field-0 ≡ Err e = sym c.in_ok-call.was ∙ is in absurd cc)))

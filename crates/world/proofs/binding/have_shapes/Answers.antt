@@ -1,13 +1,14 @@
 use Rattle.std.proofs.Common.{◌≡◌, ◌∙◌, ℕ, ◌+◌, ◌<◌, length, map, take, get_or, Some, suc, refl, sym, ap, subst, arith}
 use Rattle.std.specs.Prelude.{slice_get}
 use Rattle.std.proofs.lemmas.Option.{slice_get-get_or}
+use Rattle.bpf_model.specs.declared.limits.MapKind.TheVariants.{Hash}
 use Rattle.bpf_model.specs.declared.limits.MapShape.{MapShape}
 use Rattle.bpf_model.specs.View.{shapes_of_maps}
 use Rattle.world.proofs.Shapes.{bound-at, bound-more}
 use Rattle.world.proofs.binding.have_shapes.Goals as goal
 
 abbrev no_shape : MapShape
-no_shape = record { key_len = 0; value_len = 0; entries = 0; spare = 0; reuse_limit = 0 }
+no_shape = record { kind = Hash; key_len = 0; value_len = 0; entries = 0; spare = 0; reuse_limit = 0 }
 
 pub returns-then-not-has_shape : goal.returns-then-not-has_shape
 returns-then-not-has_shape c =

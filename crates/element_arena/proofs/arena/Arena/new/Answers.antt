@@ -17,8 +17,8 @@ invariant_of-result c =
     let long : length c.in_ok-cells.cells.items ≡ c.args.slots = ap (λ (cs : List SlotCell). length cs) c.in_ok-cells.ensures ∙ length-map-range_with_len (fresh_cell c.args.slots) 0 c.args.slots in (
       k3,
       record {
-        key_room = c.in_ok-keys.ensures ∙ ap (λ n. n * c.args.key_len) (sym long);
-        value_room = c.in_ok-values.ensures ∙ ap (λ n. n * c.args.value_len) (sym long);
+        key_room = c.in_ok-keys.ensures.long ∙ ap (λ n. n * c.args.key_len) (sym long);
+        value_room = c.in_ok-values.ensures.long ∙ ap (λ n. n * c.args.value_len) (sym long);
         key_bound = c.requires.key_len;
         value_bound = c.requires.value_len;
       },

@@ -14,14 +14,14 @@ use Rattle.maps.proofs.hash_map.HashMap.update.Goals as goal
 pub returns-in-Err-clause-result : goal.returns-in-Err-clause-result
 returns-in-Err-clause-result g c =
     let tested = c.update.ensures.tested (map_state_of (map_view c.self.inside.shape c.self.inside.parts)) refl (length-map c.self.inside.parts.arena.free (uses_at c.self.inside.parts.arena.slots)) in
-    let by = updated-by (map_view c.self.inside.shape c.self.inside.parts) c.args.key.now c.args.value.now c.args.flags c.self.inside.counts.linked (error_of c.update.result) c.self.invariant.kept.count tested in
+    let by = updated-by (map_view c.self.inside.shape c.self.inside.parts) c.args.key.now c.args.value.now c.args.flags c.self.inside.counts.linked (error_of c.update.result) c.self.invariant.kept.hash c.self.invariant.kept.count tested in
     let e = subst (λ (v : MapView). updated v c.args.key.now c.args.value.now c.args.flags ≡ (Err c.in-Err.errno, v)) c.self.view_is (by ∙ ap (λ r. updated_by (error_of r) (map_view c.self.inside.shape c.self.inside.parts) c.args.key.now c.args.value.now) c.in-Err.is) in
     sym (ap (λ r. r.0) e)
 
 pub returns-in-Err-clause-new : goal.returns-in-Err-clause-new
 returns-in-Err-clause-new g c =
     let tested = c.update.ensures.tested (map_state_of (map_view c.self.inside.shape c.self.inside.parts)) refl (length-map c.self.inside.parts.arena.free (uses_at c.self.inside.parts.arena.slots)) in
-    let by = updated-by (map_view c.self.inside.shape c.self.inside.parts) c.args.key.now c.args.value.now c.args.flags c.self.inside.counts.linked (error_of c.update.result) c.self.invariant.kept.count tested in
+    let by = updated-by (map_view c.self.inside.shape c.self.inside.parts) c.args.key.now c.args.value.now c.args.flags c.self.inside.counts.linked (error_of c.update.result) c.self.invariant.kept.hash c.self.invariant.kept.count tested in
     let e = subst (λ (v : MapView). updated v c.args.key.now c.args.value.now c.args.flags ≡ (Err c.in-Err.errno, v)) c.self.view_is (by ∙ ap (λ r. updated_by (error_of r) (map_view c.self.inside.shape c.self.inside.parts) c.args.key.now c.args.value.now) c.in-Err.is) in
     ap (map_view c.self.inside.shape) c.in-Err.ensures.err ∙ (c.self.view_is ∙ sym (ap (λ r. r.1) e))
 
@@ -44,13 +44,13 @@ invariant_of-self-in-Ok g c =
 pub returns-in-Ok-clause-result : goal.returns-in-Ok-clause-result
 returns-in-Ok-clause-result g c =
     let tested = c.update.ensures.tested (map_state_of (map_view c.self.inside.shape c.self.inside.parts)) refl (length-map c.self.inside.parts.arena.free (uses_at c.self.inside.parts.arena.slots)) in
-    let by = updated-by (map_view c.self.inside.shape c.self.inside.parts) c.args.key.now c.args.value.now c.args.flags c.self.inside.counts.linked (error_of c.update.result) c.self.invariant.kept.count tested in
-    let e = ap (λ (v : MapView). updated v c.args.key.now c.args.value.now c.args.flags) (sym c.self.view_is) ∙ (by ∙ (ap (λ r. updated_by (error_of r) (map_view c.self.inside.shape c.self.inside.parts) c.args.key.now c.args.value.now) c.in-Ok.is ∙ put-updates c.self.inside.shape c.self.inside.parts c.update.new.self c.args.key.now c.args.value.now c.in-Ok.found c.in-Ok.ensures.found c.in-Ok.ensures.put)) in
+    let by = updated-by (map_view c.self.inside.shape c.self.inside.parts) c.args.key.now c.args.value.now c.args.flags c.self.inside.counts.linked (error_of c.update.result) c.self.invariant.kept.hash c.self.invariant.kept.count tested in
+    let e = ap (λ (v : MapView). updated v c.args.key.now c.args.value.now c.args.flags) (sym c.self.view_is) ∙ (by ∙ (ap (λ r. updated_by (error_of r) (map_view c.self.inside.shape c.self.inside.parts) c.args.key.now c.args.value.now) c.in-Ok.is ∙ put-updates c.self.inside.shape c.self.inside.parts c.update.new.self c.args.key.now c.args.value.now c.in-Ok.found c.self.invariant.kept.hash c.in-Ok.ensures.found c.in-Ok.ensures.put)) in
     sym (ap (λ r. r.0) e)
 
 pub returns-in-Ok-clause-new : goal.returns-in-Ok-clause-new
 returns-in-Ok-clause-new g c =
     let tested = c.update.ensures.tested (map_state_of (map_view c.self.inside.shape c.self.inside.parts)) refl (length-map c.self.inside.parts.arena.free (uses_at c.self.inside.parts.arena.slots)) in
-    let by = updated-by (map_view c.self.inside.shape c.self.inside.parts) c.args.key.now c.args.value.now c.args.flags c.self.inside.counts.linked (error_of c.update.result) c.self.invariant.kept.count tested in
-    let e = ap (λ (v : MapView). updated v c.args.key.now c.args.value.now c.args.flags) (sym c.self.view_is) ∙ (by ∙ (ap (λ r. updated_by (error_of r) (map_view c.self.inside.shape c.self.inside.parts) c.args.key.now c.args.value.now) c.in-Ok.is ∙ put-updates c.self.inside.shape c.self.inside.parts c.update.new.self c.args.key.now c.args.value.now c.in-Ok.found c.in-Ok.ensures.found c.in-Ok.ensures.put)) in
+    let by = updated-by (map_view c.self.inside.shape c.self.inside.parts) c.args.key.now c.args.value.now c.args.flags c.self.inside.counts.linked (error_of c.update.result) c.self.invariant.kept.hash c.self.invariant.kept.count tested in
+    let e = ap (λ (v : MapView). updated v c.args.key.now c.args.value.now c.args.flags) (sym c.self.view_is) ∙ (by ∙ (ap (λ r. updated_by (error_of r) (map_view c.self.inside.shape c.self.inside.parts) c.args.key.now c.args.value.now) c.in-Ok.is ∙ put-updates c.self.inside.shape c.self.inside.parts c.update.new.self c.args.key.now c.args.value.now c.in-Ok.found c.self.invariant.kept.hash c.in-Ok.ensures.found c.in-Ok.ensures.put)) in
     sym (ap (λ r. r.1) e)

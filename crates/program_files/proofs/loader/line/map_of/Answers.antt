@@ -1,4 +1,4 @@
-use Rattle.std.proofs.Common.{sym, ap, ◌∙◌, List, [], ℕ, ◌∷◌}
+use Rattle.std.proofs.Common.{sym, ap, ◌∙◌, List, ℕ, ◌∷◌}
 use Rattle.std.specs.Prelude.{Option, Some, None, IfNone}
 use Rattle.program_files.proofs.Files.{shape_words}
 use Rattle.program_files.proofs.loader.line.map_of.Goals as goal
@@ -9,6 +9,6 @@ if_none (Some x) p = tt
 
 pub returns-in_err-shape-clause-none : goal.returns-in_err-shape-clause-none
 returns-in_err-shape-clause-none c =
-    if_none c.from_residual-in_err-shape.result (λ name shape h. c.in_err-shape.ensures.none shape []
+    if_none c.from_residual-in_err-shape.result (λ name shape h. c.in_err-shape.ensures.none shape
     (shape_words c.args.line.now c.in_ok-word.field-0.now c.in_ok-name.name.now name _ shape
     (sym c.of-words.ensures ∙ c.in_ok-word.ensures.some ∙ ap (λ (ws : List (List ℕ)). c.in_ok-word.field-0.now ∷ ws) c.in_ok-name.ensures.some) h))

@@ -1,0 +1,63 @@
+-- The indices of an array, by their keys.
+use Rattle.std.proofs.Common.{◌≡◌, ◌≢◌, ◌∙◌, ℕ, zero, suc, ◌<◌, ◌≤◌, ◌^◌, List, length, Some, None, inl, inr, sym, ap, arith}
+use Rattle.std.specs.Int.{w32, from_le_bytes}
+use Rattle.std.specs.FinMap.{get, insert, len, get-empty, len-empty}
+use Rattle.std.specs.Ordering.{nat_cmp}
+use Rattle.std.specs.Cmp.Lexicographic.{slice_cmp}
+use Rattle.std.proofs.lemmas.Bool.{cases_eq}
+use Rattle.std.proofs.lemmas.Nat.{from_le_bytes-to_le_bytes_4}
+use Rattle.std.proofs.lemmas.Option.{none-some, same_Some}
+use Rattle.bpf_model.specs.declared.limits.TheConstants.{MAX_ENTRIES, INDEX_BYTES}
+use Rattle.bpf_model.specs.MapState.{index_key}
+use Rattle.bpf_model.specs.View.{index_below}
+use Rattle.bpf_model.proofs.Cases.{option_cases}
+use Rattle.bpf_model.proofs.Lists.{key_cases}
+use Rattle.view_laws.proofs.Lists.{insert-same, insert-other, len-insert_new}
+
+-- Different indices have different keys.
+pub index-same : (i j : ℕ) → i < 2 ^ 32 → j < 2 ^ 32 → index_key i ≡ index_key j → i ≡ j
+index-same i j h g e = sym (from_le_bytes-to_le_bytes_4 i h) ∙ (ap (from_le_bytes w32) e ∙ from_le_bytes-to_le_bytes_4 j g)
+
+-- a key of the index is that of an index below the limit
+pub index-got : (n : ℕ) (key : List ℕ) (i : ℕ) → get (index_below n) key ≡ Some i → (i < n) × (index_key i ≡ key)
+index-got zero key i h = absurd (none-some i (sym (get-empty (slice_cmp nat_cmp) key) ∙ h))
+index-got (suc n) key i h = elim (key_cases key (index_key n)) [
+  | inl same ↦
+      let at : get (insert (index_below n) (index_key n) n) key ≡ Some n = ap (get (insert (index_below n) (index_key n) n)) same ∙ insert-same (index_below n) (index_key n) n in
+      let is : n ≡ i = same_Some n i (sym at ∙ h) in
+      (omega arith, ap index_key (sym is) ∙ sym same)
+  | inr ne ↦
+      let r = index-got n key i (sym (insert-other (index_below n) (index_key n) n key ne) ∙ h) in
+      let less : i < n = r.0 in
+      (omega arith, r.1)
+]
+
+pub index-gets : (n i : ℕ) → n ≤ MAX_ENTRIES → i < n → get (index_below n) (index_key i) ≡ Some i
+index-gets zero i most less = absurd (omega arith)
+index-gets (suc n) i most less = elim (cases_eq i n) [
+  | inl same ↦ ap (λ j. get (index_below (suc n)) (index_key j)) same ∙ (insert-same (index_below n) (index_key n) n ∙ ap Some (sym same))
+  | inr ne ↦
+      let below : i < n = omega (arith, ne) in
+      insert-other (index_below n) (index_key n) n (index_key i) (λ e. ne (index-same i n (omega arith) (omega arith) e)) ∙ index-gets n i (omega arith) below
+]
+
+-- a key that is none of them
+pub index-none : (n : ℕ) (key : List ℕ) → ((i : ℕ) → i < n → index_key i ≢ key) → get (index_below n) key ≡ None
+index-none n key h = elim (option_cases (get (index_below n) key)) [
+  | inl none ↦ none
+  | inr some ↦ let r = index-got n key some.0 some.1 in absurd (h some.0 r.0 r.1)
+]
+
+pub index-past : (n i : ℕ) → n ≤ i → i < 2 ^ 32 → get (index_below n) (index_key i) ≡ None
+index-past n i more real = index-none n (index_key i) (λ j less e. let same : j ≡ i = index-same j i (omega arith) real e in absurd (omega arith))
+
+-- a key of another length is none
+pub index-long : (n : ℕ) (key : List ℕ) → length key ≢ INDEX_BYTES → get (index_below n) key ≡ None
+index-long n key ne = index-none n key (λ i less e. ne (ap length (sym e)))
+
+pub len-index : (n : ℕ) → n ≤ MAX_ENTRIES → len (index_below n) ≡ n
+len-index zero most = len-empty (slice_cmp nat_cmp) ℕ
+len-index (suc n) most =
+    let rest = len-index n (omega arith) in
+    let more = len-insert_new (index_below n) (index_key n) n (index-past n n (omega arith) (omega arith)) in
+    omega arith

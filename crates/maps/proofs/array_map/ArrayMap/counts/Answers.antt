@@ -1,0 +1,10 @@
+use Rattle.std.proofs.Common.{ℕ, ◌∙◌, sym, ap}
+use Rattle.maps.specs.declared.counts.Counts.{Counts}
+use Rattle.maps.specs.Counting.{counts_of}
+use Rattle.maps.proofs.Indices.{len-index}
+use Rattle.maps.proofs.array_map.ArrayMap.counts.Goals as goal
+
+pub returns-clause-value : goal.returns-clause-value
+returns-clause-value c =
+    ap (λ (n : ℕ). let r : Counts = record { linked = n; unlinked = 0; worn = 0 } in r) (sym (len-index c.self.inside.shape.entries c.self.invariant.valid.entries.1))
+    ∙ ap counts_of c.self.view_is
