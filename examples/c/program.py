@@ -2,7 +2,8 @@
 """Makes a program file out of an object that clang wrote for the target bpf.
 
     program.py OBJECT           the program file, as text: context, maps, code
-    program.py --script OBJECT  the first lines of a script: its maps, and the program, bound to them
+    program.py --script FILE    the first lines of a script: its maps, and the program, bound to them. FILE is an
+                                object, or a program file, as text
 
 A line of a map is `map NAME KEY VALUE ENTRIES SPARE REUSE`, and of an array `map NAME array VALUE ENTRIES`.
 
@@ -134,36 +135,49 @@ def map_lines(obj):
     return [map_line(name, shape) for name, shape in maps_of(obj)]
 
 
-def script(obj):
-    names = [name for name, _ in maps_of(obj)]
-    code = b"".join(code_of(obj)).hex()
-    return "\n".join([*map_lines(obj), " ".join(["load", str(context_of(obj)), code, *names])]) + "\n"
-
-
-def program_file(obj):
-    lines = ["bpfrt 1", f"ctx {context_of(obj)}", *map_lines(obj)]
+def program_lines(obj):
+    """The lines of the program file."""
     slots = [slot.hex() for slot in code_of(obj)]
-    lines += ["code"] + [" ".join(slots[i:i + 5]) for i in range(0, len(slots), 5)]
-    return "\n".join(lines) + "\n"
+    code = [" ".join(slots[i:i + 5]) for i in range(0, len(slots), 5)]
+    return ["bpfrt 1", f"ctx {context_of(obj)}", *map_lines(obj), "code", *code]
 
 
-def object_in(path):
+def script(lines):
+    """The first lines of a script, of the lines of a program file that bpfrt takes."""
+    maps = [line for line in lines if line.startswith("map ")]
+    context = next(line.split()[1] for line in lines if line.startswith("ctx "))
+    code = "".join(lines[lines.index("code") + 1:]).replace(" ", "")
+    return [*maps, " ".join(["load", context, code or "-", *(line.split()[1] for line in maps)])]
+
+
+def read(path):
     try:
-        data = pathlib.Path(path).read_bytes()
+        return pathlib.Path(path).read_bytes()
     except OSError as error:
         sys.exit(f"{path}: {error.strerror}")
+
+
+def lines_in(path):
+    """The lines of the program file of an object, or of a program file itself."""
+    data = read(path)
+    if data.startswith(b"bpfrt 1\n"):
+        return data.decode(errors="replace").splitlines()
     if data[:6] != b"\x7fELF\2\1" or struct.unpack_from("<HH", data.ljust(64), 16) != (RELOCATABLE, FOR_BPF):
         sys.exit(f"{path} is no object that clang wrote for the target bpf")
-    return Object(data)
+    return program_lines(Object(data))
 
 
 def main(words):
     if words[:1] == ["--script"] and len(words) == 2:
-        sys.stdout.write(script(object_in(words[1])))
+        try:
+            lines = script(lines_in(words[1]))
+        except (IndexError, StopIteration, ValueError):
+            sys.exit(f"{words[1]} is no whole program file: bpfrt check says which line is wrong")
     elif len(words) == 1 and not words[0].startswith("-"):
-        sys.stdout.write(program_file(object_in(words[0])))
+        lines = lines_in(words[0])
     else:
         sys.exit(__doc__)
+    sys.stdout.write("".join(line + "\n" for line in lines))
 
 
 if __name__ == "__main__":

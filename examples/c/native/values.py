@@ -105,9 +105,34 @@ def window(rule, at, first, second):
     return pack("IHH", rule, at, 0) + data.hex()
 
 
+def ranges(version, *pairs):
+    """An allow list: its version, and up to eight ranges of addresses."""
+    bounds = [bound for pair in pairs for bound in pair]
+    return pack("18I", version, len(pairs), *bounds, *[0] * (16 - len(bounds)))
+
+
 # The lines of each program: ("put", map, key, value) with flags behind it where they are not 0, ("get", map, key),
-# ("del", map, key), ("run", context).
+# ("del", map, key), ("run", context). ("hold", context, steps) is a run that has made so many steps, past its lookup, before
+# the next lines, and goes on at ("resume",): what it finds is what it found natively before these lines. ("say", command,
+# answer) stands as it is.
 LINES = {
+    "allow_list": [
+        ("put", 0, pack("I", 1), ranges(1, (0x0a000000, 0x0affffff), (0xc0a80000, 0xc0a8ffff))),
+        *[("run", pack("II", 1, address)) for address in (
+            0x0a000000, 0x0affffff, 0x09ffffff, 0x0b000000, 0xc0a80101, 0xc0a90000, 0)],
+        ("run", pack("II", 2, 0x0a000000)),
+        ("hold", pack("II", 1, 0xc0a80101), 16),
+        ("put", 0, pack("I", 1), ranges(2, *[(7 * number, 7 * number + 3) for number in range(8)])),
+        *[("run", pack("II", 1, address)) for address in (0xc0a80101, 0, 3, 4, 6, 49, 52, 53)],
+        ("say", "advance", "ok"), ("say", "reap", "none"), ("say", "advance", "ok"), ("say", "reap", "none"),
+        ("resume",),
+        ("say", "advance", "ok"), ("say", "reap", "reaped lists 01000000 free"), ("say", "reap", "none"),
+        ("run", pack("II", 1, 0xc0a80101)),
+        ("put", 0, pack("I", 1), ranges(3)), ("run", pack("II", 1, 0)),
+        ("put", 0, pack("I", 1), ranges(4, (0, 2 ** 32 - 1))), ("run", pack("II", 1, 2 ** 32 - 1)),
+        ("put", 0, pack("I", 1), ranges(5, (9, 8))), ("run", pack("II", 1, 8)), ("run", pack("II", 1, 9)),
+        ("get", 0, pack("I", 1)),
+    ],
     "bitmap": [
         ("put", 0, pack("I", 7), pack("QQQQII", 1, 0, 0, 1 << 63, 2, 0)),
         ("run", pack("II", 7, 0)), ("run", pack("II", 7, 1)), ("run", pack("II", 7, 1)),
@@ -234,6 +259,16 @@ LINES = {
         ("get", 0, pack("I", 1)), ("get", 0, pack("I", 2)), ("get", 1, pack("I", 1)),
         ("get", 1, pack("I", 5)),
     ],
+    "token_bucket": [
+        ("run", pack("QII", 0, 1, 0)), ("run", pack("QII", 999, 1, 0)), ("run", pack("QII", 1000, 1, 0)),
+        ("run", pack("QII", 10 ** 9, 15000, 0)), ("run", pack("QII", 10 ** 9, 1, 0)),
+        ("run", pack("QII", 10 ** 9 + 1499999, 1500, 0)), ("run", pack("QII", 10 ** 9 + 1500000, 1500, 0)),
+        ("run", pack("QII", 5, 1500, 0)), ("run", pack("QII", 5, 0, 0)), ("get", 0, pack("I", 0)),
+        ("run", pack("QII", 2 ** 64 - 1, 15001, 0)), ("run", pack("QII", 2 ** 64 - 1, 2 ** 32 - 1, 0)),
+        ("run", pack("QII", 2 ** 64 - 1, 14000, 0)), ("run", pack("QII", 0, 1000, 0)), ("get", 0, pack("I", 0)),
+        ("put", 0, pack("I", 0), pack("QQQQ", 10 ** 6, 0, 7, 2 ** 64 - 1)), ("run", pack("QII", 1, 15001, 0)),
+        ("run", pack("QII", 1, 15000, 0)), ("run", pack("QII", 2, 1, 0)), ("get", 0, pack("I", 0)), ("get", 0, pack("I", 1)),
+    ],
     "two_hops": [
         ("put", 0, pack("Q", 100), pack("II", 4, 0)), ("put", 0, pack("Q", 101), pack("II", 5, 9)),
         ("put", 1, pack("I", 4), pack("8I", 6, 1, 2, 4, 8, 16, 32, 64)),
@@ -263,24 +298,41 @@ def native(name, folder):
     file = folder / f"{name}.c"
     file.write_text(source + DRIVER % {"maps": ", ".join("&" + m for m in maps), "function": function})
     subprocess.run(["cc", "-O1", "-w", "-o", folder / name, file], check=True)
-    text = "\n".join(" ".join(map(str, with_flags(line))) for line in LINES[name])
+    asked = [("run", line[1]) if line[0] == "hold" else line for line in LINES[name] if line[0] not in ("resume", "say")]
+    text = "\n".join(" ".join(map(str, with_flags(line))) for line in asked)
     return subprocess.run([folder / name], input=text, capture_output=True, text=True, check=True).stdout.split()
 
 
 def commands(name, maps, folder):
-    """The commands of a script, each with its answer."""
-    for line, told in zip(LINES[name], native(name, folder), strict=True):
+    """The commands of a script, each with its answer. A run that is held is run 0, and others are run 1 meanwhile."""
+    answers = iter(native(name, folder))
+    held = None
+    for line in LINES[name]:
         verb, *words = with_flags(line)
+        number = 0 if held is None else 1
         if verb == "put":
-            yield f"put {maps[words[0]]} {words[1]} {words[2]} {words[3]}", f"ret {told}"
+            yield f"put {maps[words[0]]} {words[1]} {words[2]} {words[3]}", f"ret {next(answers)}"
         elif verb == "del":
-            yield f"del {maps[words[0]]} {words[1]}", f"ret {told}"
+            yield f"del {maps[words[0]]} {words[1]}", f"ret {next(answers)}"
         elif verb == "get":
+            told = next(answers)
             yield f"get {maps[words[0]]} {words[1]}", told if told == "none" else f"value {told}"
-        else:
+        elif verb == "say":
+            yield tuple(words)
+        elif verb == "hold":
+            held = next(answers)
             yield f"start 0 {words[0]}", "run 0"
-            yield "step 0 4096", f"exit {told}"
+            yield f"step 0 {words[1]}", "moved"
+        elif verb == "resume":
+            yield "step 0 4096", f"exit {held}"
             yield "drop 0", "ok"
+            held = None
+        else:
+            yield f"start 0 {words[0]}", f"run {number}"
+            yield f"step {number} 4096", f"exit {next(answers)}"
+            yield f"drop {number}", "ok"
+    if next(answers, None) is not None:
+        sys.exit(f"{name} answered more than it was asked")
 
 
 def script(name, folder):
