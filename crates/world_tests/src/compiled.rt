@@ -1,5 +1,5 @@
 //! Two programs that clang compiled from C, with their maps, by the world and by the plain model: the sources are those of
-//! examples/c. What they are answered was computed by `examples/c/native`; the scripts of `checks/data` have all seventeen.
+//! examples/c. What they are answered was computed by `examples/c/native`; the scripts of `checks/data` have more of them.
 use crate::making::{judged, numbers_of, plain_program, registry_of};
 use crate::replay::replay;
 use bpf_model::{MapKind, MapShape};
