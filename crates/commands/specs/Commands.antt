@@ -1,7 +1,8 @@
 -- What each command writes, of which input, and how it refuses the others.
-use Rattle.std.specs.Prelude.{ℕ, List, Option, ⊤}
+use Rattle.std.specs.Prelude.{ℕ, List, Option, ⊤, codes}
+use Rattle.std.specs.Io.KnownBytes.{Appends}
 use Rattle.commands.specs.declared.request.Command.{Command}
-use Rattle.commands.specs.declared.request.Command.TheVariants.{Check, Disasm, Asm, Script, Pool}
+use Rattle.commands.specs.declared.request.Command.TheVariants.{Check, Disasm, Asm, Script, Version, Pool}
 use Rattle.commands.specs.Assembled.{IsRefusedByAsm, WritesCode}
 use Rattle.commands.specs.Outputs.{IsRefusedByCheck, IsRefusedByDecode, WritesAccepted, WritesText}
 use Rattle.commands.specs.Pools.{IsRefusedByPool, WritesPool}
@@ -13,15 +14,17 @@ Writes (Check file) old new bytes = WritesAccepted old new bytes
 Writes (Disasm file) old new bytes = WritesText old new bytes
 Writes (Asm file whole) old new bytes = WritesCode whole old new bytes
 Writes Script old new bytes = AnswersAll old new bytes
+Writes Version old new bytes = Appends old new (codes "bpfrt 0.1.0\n")
 Writes (Pool workers file count) old new bytes = WritesPool count old new bytes
 
 -- What is so where a command refuses: its file or its numbers are refused; or a line of the script
--- is bad, and the answers to the lines before are written.
+-- is bad, and the answers to the lines before are written. The version is not refused.
 abbrev pub Refuses : Command → Option (List ℕ) → Option (List ℕ) → List ℕ → Type 0
 Refuses (Check file) old new bytes = IsRefusedByCheck bytes
 Refuses (Disasm file) old new bytes = IsRefusedByDecode bytes
 Refuses (Asm file whole) old new bytes = IsRefusedByAsm bytes
 Refuses Script old new bytes = AnswersBefore old new bytes
+Refuses Version old new bytes = ⊥
 Refuses (Pool workers file count) old new bytes = IsRefusedByPool workers count bytes
 
 -- the command's input is a file
@@ -30,4 +33,5 @@ ReadsFile (Check file) = ⊤
 ReadsFile (Disasm file) = ⊤
 ReadsFile (Asm file whole) = ⊤
 ReadsFile Script = ⊥
+ReadsFile Version = ⊥
 ReadsFile (Pool workers file count) = ⊤

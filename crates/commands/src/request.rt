@@ -21,6 +21,8 @@ pub enum Command {
     },
     /// Answer the script on standard input.
     Script,
+    /// Say which version of the program this is.
+    Version,
     /// Run the program in a file so many times by so many workers.
     Pool {
         workers: u64,
@@ -66,14 +68,14 @@ impl<T: Drop> From<AllocFailed<T>> for UsageFault {
 }
 
 impl Command {
-    /// The path of the file that the command reads; none where it reads standard input.
+    /// The path of the file that the command reads; none where it reads standard input, or nothing.
     pub fn file(&self) -> Option<&str> {
         match self {
             Command::Check { file }
             | Command::Disasm { file }
             | Command::Asm { file, .. }
             | Command::Pool { file, .. } => Some(file.as_str()),
-            Command::Script => None,
+            Command::Script | Command::Version => None,
         }
     }
 }

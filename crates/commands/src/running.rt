@@ -17,6 +17,9 @@ use std::io::{Read, Write};
 use std::sync::Wait;
 use std::thread::Threads;
 
+/// What `bpfrt --version` writes. `docs/CHANGELOG.md` says what each version has.
+const VERSION: &str = "bpfrt 0.1.0\n";
+
 fn write_accepted<W: Write>(out: &mut W, accepted: &Accepted) -> io::Result<()>
     ensures { OnOk result (Appends (W.contents out.old) (W.contents out.new)
         (accepted_line accepted.now.instructions accepted.now.slots)) }
@@ -101,6 +104,7 @@ pub fn run<H: Threads + Wait + Sync, R: Read, W: Write, E: Write>(
         Command::Disasm { .. } => run_disasm(alloc, input, out, err),
         Command::Asm { whole, .. } => run_asm(alloc, *whole, input, out, err),
         Command::Script => run_lines(alloc, input, out, err),
+        Command::Version => written(err, write_text(out, VERSION.as_bytes())),
         Command::Pool { workers, count, .. } => {
             let size = PoolSize {
                 workers: *workers,

@@ -172,6 +172,7 @@ fn grammar<'a>(alloc: Global) -> Result<clap::Command<'a>, AllocError> {
         .after_help(SCRIPT_HELP);
     clap::Command::new(alloc, "bpfrt")
         .about("An eBPF runtime with proved contracts")
+        .version("0.1.0")
         .after_help(HELP)
         .subcommand_required(true)
         .subcommand(check)?
@@ -274,10 +275,11 @@ fn pool_of(alloc: Global, matches: &ArgMatches<'_>) -> Result<Command, UsageFaul
 
 /// The command that the words ask for. The first word is the program's own name.
 ///
-/// Help, too, is a `UsageFault`, since it is no command to run.
+/// Help, too, is a `UsageFault`, since it is no command to run. The version is one.
 pub fn parse_words<'a>(alloc: Global, words: &'a [String]) -> Result<Command, UsageFault> {
     let matches = match grammar(alloc)?.try_get_matches_from(words) {
         Ok(matches) => matches,
+        Err(error) if error.kind() == ErrorKind::DisplayVersion => return Ok(Command::Version),
         Err(error) => return Err(usage(alloc, &error, words)),
     };
     match matches.subcommand() {

@@ -62,6 +62,12 @@ fn words_of_commands(rt: HostRuntime) -> Result<(), Fail> {
             Ok(Command::Script)
         )
     );
+    assert!(rt;
+        matches!(
+            asked(&rt, alloc, &["bpfrt", "--version"])?,
+            Ok(Command::Version)
+        )
+    );
     let pool = asked(
         &rt,
         alloc,
