@@ -20,6 +20,16 @@ SWAPS = {"le": 0xD4, "be": 0xDC, "swap": 0xD7}
 MEMORY = re.compile(r"(ldx|stx|st)(s?)(dw|[bhw])")
 
 
+# How each instruction is written, in one way alone.
+R, N, O = r"r(?:0|[1-9]\d*)", r"(?:0|-?[1-9]\d*)", r"(?:\+0|[+-][1-9]\d*)"
+AT = rf"\[{R}{O}\]"
+FORM = re.compile("|".join([
+    rf"(?:{'|'.join(OPERATIONS)})(?:32|64) {R}, (?:{R}|{N})", rf"neg(?:32|64) {R}", rf"movsx64 {R}, {R}, (?:8|16|32)",
+    rf"movsx32 {R}, {R}, (?:8|16)", rf"(?:le|be|swap)(?:16|32|64) {R}", rf"(?:lddw|ldmap) {R}, {N}",
+    rf"ldx(?:dw|s?[bhw]) {R}, {AT}", rf"st(?:dw|[bhw]) {AT}, {N}", rf"stx(?:dw|[bhw]) {AT}, {R}", rf"ja(?:32)? {O}",
+    rf"(?:{'|'.join(CONDITIONS)})(?:32)? {R}, (?:{R}|{N}), {O}", rf"call(?:btf)? {N}", "exit"]), re.ASCII)
+
+
 def slot(opcode, to=0, by=0, offset=0, number=0):
     """The eight bytes of a slot."""
     fields = bytes([opcode, by << 4 | to]) + offset.to_bytes(2, "little", signed=True)
@@ -95,6 +105,8 @@ def control(name, text):
 
 def assembled(line):
     """The bytes of one line."""
+    if not FORM.fullmatch(line):
+        raise ValueError(line)
     name, _, text = line.partition(" ")
     words = text.split(", ")
     stem, size = re.fullmatch(r"([a-z]+)(\d*)", name).groups()
@@ -127,14 +139,17 @@ def main(words):
     if not words or words[:-1] not in ([], ["--script"]):
         sys.exit(__doc__)
     try:
-        text = [line.strip() for line in pathlib.Path(words[-1]).read_text().splitlines()]
+        text = pathlib.Path(words[-1]).read_bytes().decode(errors="replace").split("\n")
     except OSError as error:
         sys.exit(f"{words[-1]}: {error.strerror}")
     if "code" not in text:
         sys.exit(f"{words[-1]} has no line `code`")
     head = [it for it in text[:text.index("code")] if it and not it.startswith(";")]
-    if not head or not head[0].startswith("ctx "):
+    if not head or not re.fullmatch(r"ctx (?:0|[1-9]\d*)", head[0], re.ASCII):
         sys.exit(f"{words[-1]} does not begin with the length of the context, as `ctx 0`")
+    for line in head[1:]:
+        if not line.startswith("map "):
+            sys.exit(f"above `code` stands what is no map: {line}")
     code = code_of([*enumerate(text, 1)][text.index("code") + 1:])
     if words[0] != "--script":
         print("\n".join(["bpfrt 1", *head, "code", *(it[at:at + 8].hex() for it in code for at in range(0, len(it), 8))]))

@@ -2,7 +2,7 @@
 _bpfrt() {
     local word=${COMP_WORDS[COMP_CWORD]}
     if ((COMP_CWORD == 1)); then
-        mapfile -t COMPREPLY < <(compgen -W "check disasm asm script pool help --help --version" -- "$word")
+        mapfile -t COMPREPLY < <(compgen -W "check disasm asm script pool help --help --version -h -V" -- "$word")
     elif [[ ${COMP_WORDS[1]} == help ]]; then
         mapfile -t COMPREPLY < <(compgen -W "check disasm asm script pool" -- "$word")
     elif [[ ${COMP_WORDS[1]} == asm && $word == -* ]]; then

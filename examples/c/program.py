@@ -85,15 +85,17 @@ def maps_of(obj):
     for name in names.values():
         if not re.fullmatch(r"[a-z][a-z0-9_]{0,31}", name):
             sys.exit(f"no map has the name {name}: it is 1 to 32 of a to z, 0 to 9 and _, the first a letter")
-    for kind, key, value, entries, spare, reuse in shapes:
+    maps = [(names[SHAPE.size * i], shape) for i, shape in enumerate(shapes)]
+    for name, (kind, key, value, entries, spare, reuse) in maps:
         if kind not in (HASH, ARRAY):
-            sys.exit(f"no map has the kind {kind}: it is {HASH}, a hash map, or {ARRAY}, an array")
+            sys.exit(f"the map {name} has the kind {kind}: it is {HASH}, a hash map, or {ARRAY}, an array")
         if not (1 <= key <= 64 and 1 <= value <= 256 and 1 <= entries <= 4096 and spare <= 4096 and reuse):
-            sys.exit(f"no map has keys of {key} bytes, values of {value} and {entries} + {spare} slots")
+            sys.exit(f"the map {name} has keys of {key} bytes (1 to 64), values of {value} (1 to 256), {entries} entries (1 to 4096), "
+                     f"{spare} spare slots (0 to 4096), and its slots {reuse} uses (1 or more)")
         if kind == ARRAY and (key, spare, reuse) != (INDEX_BYTES, 0, 1):
-            sys.exit(f"no array has keys of {key} bytes, {spare} spare slots and {reuse} uses of each: "
-                     f"it is {INDEX_BYTES}, 0 and 1")
-    return [(names[SHAPE.size * i], shape) for i, shape in enumerate(shapes)]
+            sys.exit(f"the array {name} has keys of {key} bytes, {spare} spare slots and {reuse} uses of each: "
+                     f"they are {INDEX_BYTES}, 0 and 1")
+    return maps
 
 
 def context_of(obj):
@@ -120,7 +122,9 @@ def code_of(obj):
             struct.pack_into("<BBhi", code, place, CALL, 2 << 4, 0, KERNEL_FUNCTIONS[symbol[0]])
         else:
             name = symbol[0] or obj.section_of(symbol)
-            sys.exit(f"slot {place // 8} names {name}, which is neither a map nor a kernel function")
+            is_data = (obj.section_of(symbol) or "").startswith((".bss", ".data", ".rodata"))
+            why = "; what a program keeps stands in a map" if is_data else ""
+            sys.exit(f"slot {place // 8} names {name}, which is neither a map nor a kernel function{why}")
     return [bytes(code[i:i + 8]) for i in range(0, len(code), 8)]
 
 

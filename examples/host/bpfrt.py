@@ -23,7 +23,7 @@ class Runtime:
     def __init__(self, bpfrt="bpfrt"):
         pipe = subprocess.PIPE
         self.child = subprocess.Popen([bpfrt, "script"], stdin=pipe, stdout=pipe, stderr=pipe, bufsize=0)
-        self.rest = b""
+        self.rest, self.said = b"", None
 
     def __enter__(self):
         return self
@@ -34,13 +34,19 @@ class Runtime:
         self.child.stdout.close()
         self.child.stderr.close()
 
+    def ended(self):
+        """Why the script has ended."""
+        if self.said is None:
+            self.said = self.child.stderr.read().decode().strip()
+        return Ended(self.said)
+
     def lines(self, count):
         """So many further lines of answers."""
         parts, found = [self.rest], self.rest.count(b"\n")
         while found < count:
             part = self.child.stdout.read(1 << 16)
             if not part:
-                raise Ended(self.child.stderr.read().decode().strip())
+                raise self.ended()
             parts.append(part)
             found += part.count(b"\n")
         *answers, self.rest = b"".join(parts).decode().split("\n", count)
@@ -51,7 +57,7 @@ class Runtime:
         try:
             self.child.stdin.write("".join(command + "\n" for command in commands).encode())
         except BrokenPipeError:
-            raise Ended(self.child.stderr.read().decode().strip()) from None
+            raise self.ended() from None
 
     def batch(self, commands):
         """The answers to a list of commands that have one each (all but `dump`), refusals among them."""
@@ -63,6 +69,8 @@ class Runtime:
         return answers
 
     def ask(self, command):
+        if not command or command.startswith("#"):
+            raise ValueError("an empty line or a comment has no answer")
         self.write([command])
         answer = self.lines(1)[0]
         if answer.startswith("refused"):
@@ -75,12 +83,14 @@ class Runtime:
         if number:
             raise OSError(number, errno.errorcode[number], command)
 
-    def load(self, text):
-        """Makes the maps of a program file's text, and loads its program: the program's number."""
+    def load(self, text, make_maps=True):
+        """Makes the maps of a program file's text, or takes those of the same names, and loads its program: its number."""
+        if not text.startswith("bpfrt 1\nctx ") or "\ncode\n" not in text:
+            raise ValueError("no program file as text: `bpfrt asm --file` or examples/c/build makes one")
         _, context, *lines = text.splitlines()
         maps = lines[:lines.index("code")]
         code = "".join(lines[len(maps) + 1:]).replace(" ", "")
-        for line in maps:
+        for line in maps if make_maps else []:
             self.ask(line)
         return int(self.ask(" ".join(["load", context.split()[1], code, *(it.split()[1] for it in maps)])).split()[1])
 
@@ -89,6 +99,8 @@ class Runtime:
 
     def step(self, run, count=1):
         """The exit value, once the run has it."""
+        if not 1 <= count <= 4096:
+            raise ValueError("1 to 4096 steps")
         word, *value = self.ask(f"step {run} {count}").split()
         return int(value[0]) if word == "exit" else None
 

@@ -21,6 +21,8 @@ def flow(size):
     return KEY + struct.pack("<Q", size)
 
 
+if len(sys.argv) != 2:
+    sys.exit(__doc__)
 with Runtime(sys.argv[1]) as bpf:
     policy = bpf.load(POLICY.read_text())
     bpf.put("rules", KEY, rule(1))

@@ -2,23 +2,35 @@
 use crate::programs::SHAPE;
 use anyhow::{Result, bail, ensure};
 use arrayvec::ArrayVec;
-use bpf_model::{Answer, CtxBytes, Event, KeyBytes, MapId, ProgId, RunId, array_of};
+use bpf_model::{
+    Answer, CtxBytes, Event, KeyBytes, MapId, MapKind, MapShape, ProgId, RunId, array_of,
+};
 use maps::{MapFault, Registry};
 use std::alloc::Global;
 use verifier::Verified;
 use world::{Loaded, World, WorldFault};
 
-/// Creates two maps. A map that could not be made has left no name.
+/// Three values of eight bytes.
+const ARRAY: MapShape = MapShape {
+    kind: MapKind::Array,
+    key_len: 4,
+    value_len: 8,
+    entries: 3,
+    spare: 0,
+    reuse_limit: 1,
+};
+
+/// Creates two hash maps and an array. A map that could not be made has left no name.
 pub fn created(alloc: Global) -> Result<bool> {
     let mut registry = Registry::new(alloc);
     let mut again = false;
-    for name in ["first", "second"] {
+    for (name, shape) in [("first", SHAPE), ("second", SHAPE), ("third", ARRAY)] {
         let count = registry.len();
-        match registry.create(name, SHAPE) {
+        match registry.create(name, shape) {
             Err(MapFault::Memory) => {
                 ensure!(registry.id(name).is_none(), "a name was left");
                 ensure!(registry.len() == count, "a map was left");
-                registry.create(name, SHAPE)?;
+                registry.create(name, shape)?;
                 again = true;
             }
             made => {

@@ -4,6 +4,8 @@
 #[cfg(test)]
 mod arena;
 #[cfg(test)]
+mod arrays;
+#[cfg(test)]
 mod copies;
 #[cfg(test)]
 mod grace;

@@ -1,7 +1,7 @@
 //! Worlds that are not made, and the fault that is told.
 use crate::making::{SHAPE, assembled, judged, numbers_of, registry_of};
 use crate::programs::{EXIT_ONE, LOOKUP};
-use bpf_model::{MAX_PROGRAMS, MapShape};
+use bpf_model::{MAX_PROGRAMS, MapKind, MapShape};
 use std::alloc::Global;
 use std::test::Fail;
 use world::{Loaded, World, WorldFault};
@@ -12,6 +12,19 @@ const OTHER: MapShape = MapShape {
     ..SHAPE
 };
 
+/// The numbers that an array has, as a hash map's.
+const AS_HASH: MapShape = MapShape {
+    spare: 0,
+    reuse_limit: 1,
+    ..SHAPE
+};
+
+/// An array of the same numbers: a kind is a part of the shape, too.
+const AS_ARRAY: MapShape = MapShape {
+    kind: MapKind::Array,
+    ..AS_HASH
+};
+
 /// How a program is bound.
 #[derive(Clone, Copy)]
 enum Bound {
@@ -19,7 +32,9 @@ enum Bound {
     Well,
     /// A lookup that is bound to map 1, which has the other shape.
     OtherShape,
-    /// A lookup that is bound to map 2, which is not there.
+    /// A lookup, verified for a hash map and bound to map 2, an array of the same numbers.
+    OtherKind,
+    /// A lookup that is bound to map 3, which is not there.
     Missing,
     /// A lookup that is bound to no map.
     TooFew,
@@ -34,7 +49,8 @@ fn maps_of(bound: Bound) -> &'static [usize] {
     match bound {
         Bound::Well => &[0],
         Bound::OtherShape => &[1],
-        Bound::Missing => &[2],
+        Bound::OtherKind => &[2],
+        Bound::Missing => &[3],
         Bound::TooFew | Bound::None => &[],
         Bound::TooMany => &[0, 0],
     }
@@ -45,8 +61,12 @@ fn program(alloc: Global, bound: Bound) -> Result<Loaded, Fail> {
         Bound::None => (EXIT_ONE, &[]),
         _ => (LOOKUP, &[0]),
     };
+    let shape = match bound {
+        Bound::OtherKind => AS_HASH,
+        _ => SHAPE,
+    };
     let program = assembled(alloc, lines)?;
-    match judged(alloc, program, &[SHAPE], verified_for, 0)? {
+    match judged(alloc, program, &[shape], verified_for, 0)? {
         Ok(verified) => Ok(Loaded {
             verified,
             maps: numbers_of(maps_of(bound)),
@@ -64,7 +84,7 @@ struct Row {
 
 /// A world has `MAX_PROGRAMS` programs at most, which is tested first; then the first program that is not bound is
 /// told.
-static ROWS: [Row; 12] = [
+static ROWS: [Row; 13] = [
     Row {
         plain: 0,
         programs: &[],
@@ -106,6 +126,11 @@ static ROWS: [Row; 12] = [
         told: Some((55, Some(0))),
     },
     Row {
+        plain: 0,
+        programs: &[Bound::OtherKind],
+        told: Some((55, Some(0))),
+    },
+    Row {
         plain: 1,
         programs: &[Bound::TooFew],
         told: Some((55, Some(1))),
@@ -142,7 +167,7 @@ fn told(alloc: Global, row: &Row) -> Result<Option<(u8, Option<usize>)>, Fail> {
     for bound in row.programs {
         programs.push(program(alloc, *bound)?)?;
     }
-    let registry = registry_of(alloc, &[SHAPE, OTHER])?;
+    let registry = registry_of(alloc, &[SHAPE, OTHER, AS_ARRAY])?;
     match World::new(alloc, registry, programs).err() {
         None => Ok(None),
         Some(fault) => {
