@@ -93,16 +93,25 @@ fn text_of(kind: usize) -> &'static str {
     }
 }
 
-/// Keys of 4 bytes, values of 8. Some maps have few map slots, or such as wear out.
+/// Keys of 4 bytes, values of 8. Every fourth map is an array; some hash maps have few map slots, or such as wear out.
 fn shape_of(map: usize) -> MapShape {
     let few = map % 4;
+    let is_array = few == 2;
     MapShape {
-        kind: MapKind::Hash,
+        kind: if is_array {
+            MapKind::Array
+        } else {
+            MapKind::Hash
+        },
         key_len: 4,
         value_len: 8,
         entries: 4 + few,
-        spare: 2 * few,
-        reuse_limit: if map % 8 == 7 { 50_000 } else { u32::MAX },
+        spare: if is_array { 0 } else { 2 * few },
+        reuse_limit: match map % 8 {
+            2 | 6 => 1,
+            7 => 50_000,
+            _ => u32::MAX,
+        },
     }
 }
 
