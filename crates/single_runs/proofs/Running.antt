@@ -1,0 +1,39 @@
+-- A run in a world that tracks the start is one of the machine from its start.
+use Rattle.std.proofs.Common.{◌≡◌, ℕ, List, ◌∷◌, [], Option, Some, None, length, slice_get, IfSome, refl, subst, sym, ap, ◌∙◌}
+use Rattle.std.specs.List.{range_with_len}
+use Rattle.bpf_model.specs.declared.event.Answer.{Answer}
+use Rattle.bpf_model.specs.declared.event.Answer.TheVariants.{Exited}
+use Rattle.bpf_model.specs.declared.event.Event.{Event}
+use Rattle.bpf_model.specs.declared.insn.Insn.{Insn}
+use Rattle.bpf_model.specs.declared.limits.MapShape.{MapShape}
+use Rattle.bpf_model.specs.Headline.{AreMachineAnswers}
+use Rattle.bpf_model.specs.History.{IsHistory}
+use Rattle.bpf_model.specs.Machine.{Loaded, start_machine}
+use Rattle.bpf_model.specs.Refines.{Tracks, TracksSchedule}
+use Rattle.bpf_model.specs.Schedule.{start_schedule}
+use Rattle.bpf_model.specs.View.{WorldView}
+use Rattle.world.specs.declared.kept.loaded.Loaded as world
+use Rattle.world.specs.Programs.{programs_in}
+use Rattle.single_runs.specs.declared.once.Ended.{Ended}
+use Rattle.single_runs.specs.Once.{one_run, bound_to_all, ExitsAt}
+
+pub exits_at : (w new : WorldView) (shapes : List MapShape) (programs : List Loaded) (program : List Insn) (context : List ℕ) (events : List Event) (answers : List Answer) (o : Option Ended) → TracksSchedule w (start_schedule shapes programs) → programs ≡ bound_to_all (length shapes) program (length context) ∷ [] → events ≡ one_run context (length program) → AreMachineAnswers Tracks w events answers new → IfSome o (λ e. slice_get answers e.steps ≡ Some (Exited e.value)) → IfSome o (λ e. ExitsAt shapes program context e.value e.steps)
+exits_at w new shapes programs program context events answers None tracks bound events_are machine found = found
+exits_at w new shapes programs program context events answers (Some e) tracks bound events_are machine found =
+    let started = machine (start_machine shapes programs) (start_schedule shapes programs, refl, tracks) in
+    let of_programs = subst (λ (p : List Loaded). IsHistory (start_machine shapes p) events answers started.0) bound started.1 in
+    record {
+      answers = answers;
+      states = started.0;
+      history = subst (λ (es : List Event). IsHistory (start_machine shapes (bound_to_all (length shapes) program (length context) ∷ [])) es answers started.0) events_are of_programs;
+      exit = found;
+    }
+
+-- the one loaded program of a world is bound to all of its maps
+pub bound_program : (items : List world.Loaded) (l : world.Loaded) (shapes : List MapShape) (context : List ℕ) → items ≡ l ∷ [] → l.maps.items ≡ range_with_len 0 (length l.verified.shapes) → l.verified.shapes ≡ shapes → length context ≡ l.verified.ctx_len → programs_in items ≡ bound_to_all (length shapes) l.verified.program (length context) ∷ []
+bound_program items l shapes context items_are maps_are shapes_are len_is =
+    let with : List ℕ → ℕ → List Loaded = λ maps n. record { code = l.verified.program; maps = maps; context_len = n } ∷ [] in
+    ap programs_in items_are
+    ∙ ap (λ maps. with maps l.verified.ctx_len) maps_are
+    ∙ ap (λ (ss : List MapShape). with (range_with_len 0 (length ss)) l.verified.ctx_len) shapes_are
+    ∙ ap (λ n. with (range_with_len 0 (length shapes)) n) (sym len_is)
