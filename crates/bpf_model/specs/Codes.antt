@@ -119,15 +119,17 @@ abbrev pub world_fields_code : Coded WorldFields
 world_fields_code = coded× flags_code (coded× flags_code (coded× (coded_list program_code) coded_ℕ))
 
 abbrev pub world_code : Coded WorldView
-world_code = code_by (List MapView × (List (Option RunView) × WorldFields))
-    (coded× (coded_list view_code) (coded× (coded_list (coded_option run_code)) world_fields_code))
-    (λ w. (w.maps, (w.runs, (w.opened, (w.awaited, (w.programs, w.given))))))
+world_code = code_by (List (List ℕ) × (List MapView × (List (Option RunView) × WorldFields)))
+    (coded× (coded_list numbers_code) (coded× (coded_list view_code)
+    (coded× (coded_list (coded_option run_code)) world_fields_code)))
+    (λ w. (w.names, (w.maps, (w.runs, (w.opened, (w.awaited, (w.programs, w.given)))))))
     (λ p. record {
-      maps = p.0;
-      runs = p.1.0;
-      opened = p.1.1.0;
-      awaited = p.1.1.1.0;
-      programs = p.1.1.1.1.0;
-      given = p.1.1.1.1.1;
+      names = p.0;
+      maps = p.1.0;
+      runs = p.1.1.0;
+      opened = p.1.1.1.0;
+      awaited = p.1.1.1.1.0;
+      programs = p.1.1.1.1.1.0;
+      given = p.1.1.1.1.1.1;
     })
     (λ _. refl)

@@ -110,10 +110,11 @@ pub record RunView : Type 0 where
   pub moved : ℕ
   pub exit : Option ℕ
 
--- A world: its maps by number, its runs by run slot, for each run slot whether its run is inside a
--- section and whether that section is awaited, its programs, and how many elements it has
--- reclaimed.
+-- A world: the names of its maps and the maps, by number, its runs by run slot, for each run slot
+-- whether its run is inside a section and whether that section is awaited, its programs, and how
+-- many elements it has reclaimed. No event looks at a name.
 pub record WorldView : Type 0 where
+  pub names : List (List ℕ)
   pub maps : List MapView
   pub runs : List (Option RunView)
   pub opened : List Bool
@@ -121,10 +122,11 @@ pub record WorldView : Type 0 where
   pub programs : List Loaded
   pub given : ℕ
 
--- These maps and programs before any event: all run slots are free, and no section is open or
--- awaited.
-abbrev pub unused_world : List MapView → List Loaded → WorldView
-unused_world maps programs = record {
+-- These maps, of these names, and programs before any event: all run slots are free, and no section
+-- is open or awaited.
+abbrev pub unused_world : List (List ℕ) → List MapView → List Loaded → WorldView
+unused_world names maps programs = record {
+  names = names;
   maps = maps;
   runs = replicate MAX_RUNS None;
   opened = replicate MAX_RUNS false;
@@ -133,9 +135,9 @@ unused_world maps programs = record {
   given = 0;
 }
 
--- new maps of these shapes and no run
-abbrev pub start_view : List MapShape → List Loaded → WorldView
-start_view shapes programs = unused_world (map new_map_view shapes) programs
+-- new maps of these names and shapes, and no run
+abbrev pub start_view : List (List ℕ) → List MapShape → List Loaded → WorldView
+start_view names shapes programs = unused_world names (map new_map_view shapes) programs
 
 -- the shape of a map, as a world shows it
 abbrev pub shape_of_view : MapView → MapShape

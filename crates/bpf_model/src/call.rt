@@ -22,13 +22,13 @@ pub enum KernelFunction {
 pub enum Errno {
     /// ENOENT, 2: the key has no element.
     NoEntry,
-    /// E2BIG, 7: the map has as many linked elements as its shape allows.
+    /// E2BIG, 7: a hash map has as many linked elements as its shape allows, or an array has no such index.
     TooBig,
     /// ENOMEM, 12: no map slot is free.
     NoMemory,
     /// EEXIST, 17: the key has an element.
     Exists,
-    /// EINVAL, 22: the flags are none that there are.
+    /// EINVAL, 22: the flags are none that there are, or an element of an array is to be deleted.
     InvalidArgument,
 }
 

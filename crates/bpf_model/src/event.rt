@@ -26,7 +26,7 @@ pub enum Event {
         value: ValueBytes,
         flags: u64,
     },
-    /// The control plane removes a key.
+    /// The control plane removes a key; of an array none is removed.
     Delete {
         map: MapId,
         key: KeyBytes,

@@ -12,6 +12,7 @@ mod event;
 mod id;
 mod insn;
 mod limits;
+mod memory;
 mod opcode;
 mod reg;
 mod slot;
@@ -29,6 +30,7 @@ pub use limits::{
     MAX_JOURNAL, MAX_MAPS, MAX_PROGRAMS, MAX_REUSE, MAX_RUNS, MAX_SLOTS, MAX_SPARE, MapKind,
     MapShape, NEAR_LIMIT, REGISTERS, VALUE_BYTES, ValueBytes,
 };
+pub use memory::{number_of, write_number};
 pub use opcode::{
     AluCode, ByteOrder, Condition, Excluded, Opcode, SignedWidth, Size, Source, SwapWidth, Width,
 };

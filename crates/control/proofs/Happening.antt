@@ -7,8 +7,9 @@ use Rattle.bpf_model.specs.declared.event.Answer.{Answer}
 use Rattle.bpf_model.specs.Event.{IsReal, AreReal}
 use Rattle.bpf_model.specs.View.{WorldView}
 use Rattle.world.proofs.Answering.{AllReact, all_scheduled}
-use Rattle.world_laws.specs.Reacting.{full_reactions}
+use Rattle.world_laws.specs.Reacting.{full_reaction, full_reactions}
 use Rattle.world_laws.proofs.Appending.{view_append}
+use Rattle.world_laws.proofs.Keeping.{full_keeps}
 use Rattle.world_laws.specs.Invariant.{IsWorld}
 use Rattle.control.specs.Lives.{Happen}
 use Rattle.control.specs.Replies.{MakesSteps}
@@ -48,3 +49,8 @@ pub happen_more : (w v u : WorldView) (first rest : List Event) → Happen w fir
 happen_more w v u first rest h k =
     happen w (first ++ rest) u h.world (real_append first rest h.real k.real)
     (k.new_is ∙ (ap (λ (x : WorldView). (full_reactions x rest).1) h.new_is ∙ sym (view_append w first rest)))
+
+-- no event changes a name
+pub names_stay : (w : WorldView) (events : List Event) → (full_reactions w events).1.names ≡ w.names
+names_stay w [] = refl
+names_stay w (event ∷ events) = names_stay (full_reaction w event).1 events ∙ (full_keeps w event).2

@@ -24,19 +24,18 @@ pub record Happen (w : WorldView) (events : List Event) (new : WorldView) : Type
   pub new_is : new ≡ (full_reactions w events).1
   pub machine : AreScheduledAnswers TracksSchedule w events (full_reactions w events).0 new
 
--- What is asked is served by these events, which happen, and these are the replies. The names stay.
+-- What is asked is served by these events, which happen, and these are the replies.
 pub record AskedReplies (old : Live) (asked : Asked) (replies : List Reply) (new : Live)
     : Type 0 where
   pub events : List Event
   pub happened : Happen old.world events new.world
-  pub replied : Replies old.names old.world asked events replies new.world
-  pub names : new.names ≡ old.names
+  pub replied : Replies old.world asked events replies new.world
 
 -- The world is asked what the command says of its maps' names, and these are the replies.
 pub record LiveReplies (old : Live) (command : Command) (replies : List Reply) (new : Live)
     : Type 0 where
   pub asked : Asked
-  pub is_asked : IsAsked old.names command asked
+  pub is_asked : IsAsked old.world.names command asked
   pub served : AskedReplies old asked replies new
 
 -- What is asked is replied, and the text of the replies is added.

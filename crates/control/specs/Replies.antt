@@ -44,23 +44,22 @@ AreElements v bound (replies.Element key value ∷ rest) =
 AreElements v bound (_ ∷ rest) = ⊥
 
 -- What is replied, with the events that happen.
-abbrev pub Replies : List (List ℕ) → WorldView → Asked → List Event → List Reply → WorldView →
-    Type 0
-Replies names w asked.Sealed es rs new =
+abbrev pub Replies : WorldView → Asked → List Event → List Reply → WorldView → Type 0
+Replies w asked.Sealed es rs new =
     (es ≡ []) × (rs ≡ refused SEALED ∷ []) × (new ≡ w)
-Replies names w (asked.Refused refusal) es rs new =
+Replies w (asked.Refused refusal) es rs new =
     (es ≡ []) × (rs ≡ refused (event_refusal_number refusal) ∷ []) × (new ≡ w)
-Replies names w (asked.Event event) es rs new =
-    (es ≡ event ∷ []) × (rs ≡ reply_to names (full_reaction w event).0 ∷ [])
+Replies w (asked.Event event) es rs new =
+    (es ≡ event ∷ []) × (rs ≡ reply_to w.names (full_reaction w event).0 ∷ [])
     × (new ≡ (full_reaction w event).1)
-Replies names w (asked.Overlong prog) es rs new =
+Replies w (asked.Overlong prog) es rs new =
     (es ≡ [])
     × (rs ≡ refused (event_refusal_number (overlong_refusal (slice_get w.programs prog))) ∷ [])
     × (new ≡ w)
-Replies names w (asked.Steps run count) es rs new =
-    (answer : Answer) × MakesSteps w run count es answer new × (rs ≡ reply_to names answer ∷ [])
-Replies names w asked.Counts es rs new =
+Replies w (asked.Steps run count) es rs new =
+    (answer : Answer) × MakesSteps w run count es answer new × (rs ≡ reply_to w.names answer ∷ [])
+Replies w asked.Counts es rs new =
     (es ≡ []) × (rs ≡ replies.Stat (stat_of w) ∷ []) × (new ≡ w)
-Replies names w (asked.Elements map) es rs new =
+Replies w (asked.Elements map) es rs new =
     (elements : List Reply) × AreElements (slice_get w.maps map) None elements
     × (es ≡ []) × (rs ≡ elements ++ replies.End ∷ []) × (new ≡ w)

@@ -20,7 +20,7 @@ use Rattle.control.specs.declared.session.Session.TheVariants as sessions
 
 -- the world of these maps and programs, in which nothing has happened
 abbrev pub sealed : SetupView → Live
-sealed s = record { names = s.registry.names; world = start_view (shapes_made s) s.programs }
+sealed s = record { world = start_view s.registry.names (shapes_made s) s.programs }
 
 -- no maps and no programs yet
 abbrev pub new_session : Session

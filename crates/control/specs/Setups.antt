@@ -23,10 +23,8 @@ setup_code = code_by (RegistryView × List machine.Loaded)
     (λ p. record { registry = p.0; programs = p.1 })
     (λ _. refl)
 
--- The maps are new, the names are theirs, and each program is bound to maps that are there.
-pub record IsSetup (names : List (List ℕ)) (registry : RegistryView) (loaded : List Loaded)
-    : Type 0 where
-  pub names_are : names ≡ registry.names
+-- The maps are new, each has a name, and each program is bound to maps that are there.
+pub record IsSetup (registry : RegistryView) (loaded : List Loaded) : Type 0 where
   pub one_name_each : length registry.names ≡ length registry.maps
   pub new_maps : AreNewMaps registry.maps
   pub bound : AreProgramsBound (shapes_of_maps registry.maps) loaded

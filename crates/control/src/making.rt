@@ -25,8 +25,8 @@ fn answer_first(
         × (out.new.items ≡ out.old.items ++ flat_map reply_text replies)) }
 {
     let made = mem::replace(setup, Setup::new(alloc));
-    let (names, world) = made.seal(alloc)?;
-    let mut live = Live { names, world };
+    let world = made.seal(alloc)?;
+    let mut live = Live { world };
     live.answer(command, out)?;
     Ok(live)
 }
@@ -45,7 +45,7 @@ pub(crate) fn answer_setup(
 {
     match command {
         Command::Map { name, shape } => {
-            let reply = setup.create(alloc, &name, shape_of(shape))?;
+            let reply = setup.create(&name, shape_of(shape))?;
             write_reply(&reply, out)?;
             Ok(None)
         }

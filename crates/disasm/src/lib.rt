@@ -10,4 +10,4 @@ mod writing;
 
 pub use mnemonic::Mnemonic;
 pub use statement::{Argument, Arguments, Sign, Statement, statement_of};
-pub use writing::disassemble;
+pub use writing::{disassemble, line_of};

@@ -95,6 +95,19 @@ fn push_line(out: &mut String, insn: &Insn) -> Result<(), AllocError>
     out.push_str("\n")
 }
 
+/// The line of an instruction, without a line feed.
+///
+/// # Errors
+///
+/// `AllocError` where memory for the text runs out.
+pub fn line_of(alloc: Global, insn: &Insn) -> Result<String, AllocError>
+    ensures { IfOk result (λ text. string_bytes text ≡ line_of insn.now) }
+{
+    let mut out = String::new(alloc);
+    push_statement(&mut out, &statement_of(insn))?;
+    Ok(out)
+}
+
 /// The text of a program: the line of each instruction, ended by a line feed.
 ///
 /// # Errors

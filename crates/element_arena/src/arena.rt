@@ -12,8 +12,7 @@ ghost use Rattle.element_arena.specs.State.{link_at, new_arena, taken, value_at,
 use crate::blocks::{block, write_block, write_inside, zero_blocks};
 use crate::cell::{SlotCell, Standing, append, given_cell, last_after};
 use crate::make::{below, fresh_cells};
-use bpf_model::{Given, KeyBytes, ValueBytes, Width, array_of};
-use byte_numbers::number_of;
+use bpf_model::{Given, KeyBytes, ValueBytes, Width, array_of, number_of};
 use std::alloc::{AllocError, Global};
 use std::marker::Model;
 

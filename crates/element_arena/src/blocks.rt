@@ -4,8 +4,7 @@ ghost use Rattle.bpf_model.specs.Access.{byte_count};
 ghost use Rattle.bpf_model.specs.MachineStep.{with_bytes};
 ghost use Rattle.element_arena.specs.Blocks.{block, with_block};
 
-use bpf_model::Width;
-use byte_numbers::write_number;
+use bpf_model::{Width, write_number};
 use std::alloc::{AllocError, Global};
 
 /// So many strings of zero bytes, of one length. Fails where memory runs out.

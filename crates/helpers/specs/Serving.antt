@@ -81,6 +81,7 @@ abbrev pub world_showing : List MapView → List Bool → List Bool → ℕ → 
     WorldView
 world_showing maps opened awaited r v w =
     record {
+      names = w.names;
       maps = maps;
       runs = slice_set w.runs r (Some v);
       opened = opened;

@@ -23,7 +23,7 @@ fn lookup(run: &Run, map: &Map, id: MapId) -> u64
     }
 }
 
-/// Links a new element under the key in r2, with the value in r3, by the flags in r4.
+/// Stores the value in r3 under the key in r2, by the flags in r4: in a new element, or in an array's in place.
 fn update(run: &Run, map: &mut Map) -> u64
     requires frame { length run.now.view.frame ≡ FRAME_BYTES }
     requires key { IsInFrame (word_in run.now.view 2) map.old.shape.key_len }
@@ -39,7 +39,7 @@ fn update(run: &Run, map: &mut Map) -> u64
     ret_word(map.update(key, value, run.register(Reg::R4)))
 }
 
-/// Unlinks the element of the key in r2.
+/// Unlinks the element of the key in r2; an array's stays.
 fn delete(run: &Run, map: &mut Map) -> u64
     requires { IsInFrame (word_in run.now.view 2) map.old.shape.key_len }
     ensures word { (map_number : ℕ) →

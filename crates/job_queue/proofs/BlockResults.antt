@@ -7,6 +7,7 @@ use Rattle.std.specs.List.{AllZip, flat_map}
 use Rattle.std.specs.Borrow.{Bor}
 use Rattle.job_queue.specs.Blocks.{jobs_of, results_of, AreRightIn, InBlocks}
 use Rattle.job_queue.specs.Serving.{IsServedByOne, AreServed}
+use Rattle.job_queue.proofs.Serving.{all_zip_join}
 use Rattle.job_queue.specs.declared.fault.PoolFault.{PoolFault}
 
 -- what holds place by place, and what follows from it
@@ -15,12 +16,6 @@ zip_weaker P Q weaker [] [] h = h
 zip_weaker P Q weaker [] (y ∷ ys) h = absurd h
 zip_weaker P Q weaker (x ∷ xs) [] h = absurd h
 zip_weaker P Q weaker (x ∷ xs) (y ∷ ys) h = (weaker x y h.0, zip_weaker P Q weaker xs ys h.1)
-
-pub zip_join : {J T : Type 0} (R : J → T → Type 0) (us xs : List J) (vs ys : List T) → AllZip R us vs → AllZip R xs ys → AllZip R (us ++ xs) (vs ++ ys)
-zip_join R [] xs [] ys h r = r
-zip_join R [] xs (v ∷ vs) ys h r = absurd h
-zip_join R (u ∷ us) xs [] ys h r = absurd h
-zip_join R (u ∷ us) xs (v ∷ vs) ys h r = (h.0, zip_join R us xs vs ys h.1 r)
 
 -- place by place, told of each index
 pub at_each_index : {J T : Type 0} (R : J → T → Type 0) (jobs : List J) (results : List T) → AllZip R jobs results
@@ -35,7 +30,7 @@ pub one_more_result : {J T : Type 0} (P Q : J → T → Type 0) → ((job : J) (
     → AllZip P (take k jobs) results → Q (get_or jobs k job) one → AllZip Q (take (k + 1) jobs) (results ++ one ∷ [])
 one_more_result P Q weaker jobs k job results one low all right = let next : suc k ≡ k + 1 = omega arith in
     subst (λ z. AllZip Q z (results ++ one ∷ [])) (sym (take-suc jobs k job low) ∙ ap (λ z. take z jobs) next)
-    (zip_join Q (take k jobs) (get_or jobs k job ∷ []) results (one ∷ []) (zip_weaker P Q weaker (take k jobs) results all) (right, tt))
+    (all_zip_join Q (take k jobs) results (get_or jobs k job ∷ []) (one ∷ []) (zip_weaker P Q weaker (take k jobs) results all) (right, tt))
 
 module _ {J W T : Type 0} (fits : W → W → J → T → Type 0) where
   -- what is right of a block stays so, from an earlier beginning to a later end
@@ -55,7 +50,7 @@ module _ {J W T : Type 0} (fits : W → W → J → T → Type 0) where
     joined_right [] [] same whole each = tt
     joined_right [] (s ∷ ss) same whole each = let no : ⊥ = omega arith in absurd no
     joined_right (b ∷ bs) [] same whole each = let no : ⊥ = omega arith in absurd no
-    joined_right (b ∷ bs) (s ∷ ss) same whole each = let head = each 0 b s refl refl in zip_join (IsServedByOne fits before after) b.now (flat_map jobs_of bs) (results_of s) (flat_map results_of ss)
+    joined_right (b ∷ bs) (s ∷ ss) same whole each = let head = each 0 b s refl refl in all_zip_join (IsServedByOne fits before after) b.now (results_of s) (flat_map jobs_of bs) (flat_map results_of ss)
         (right_of_block b.now s (whole 0 s (omega arith)) record { index = head.index; first = head.first; last = head.last; was = head.was; is = head.is; right = head.right })
         (joined_right bs ss (omega arith) (λ k d l. whole (suc k) d (omega arith)) (λ k. each (suc k)))
 

@@ -78,7 +78,7 @@ pub all_zip_same : {X : Type 0} (R : X → X → Type 0) → ((x : X) → R x x)
 all_zip_same R same [] = tt
 all_zip_same R same (x ∷ xs) = (same x, all_zip_same R same xs)
 
-pub all_zip_join : {X : Type 0} (R : X → X → Type 0) (us vs xs ys : List X) → AllZip R us vs → AllZip R xs ys → AllZip R (us ++ xs) (vs ++ ys)
+pub all_zip_join : {J T : Type 0} (R : J → T → Type 0) (us : List J) (vs : List T) (xs : List J) (ys : List T) → AllZip R us vs → AllZip R xs ys → AllZip R (us ++ xs) (vs ++ ys)
 all_zip_join R [] [] xs ys h r = r
 all_zip_join R [] (v ∷ vs) xs ys h r = absurd h
 all_zip_join R (u ∷ us) [] xs ys h r = absurd h

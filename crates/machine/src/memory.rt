@@ -11,8 +11,7 @@ ghost use Rattle.machine.specs.Moves.{offset_from};
 
 use crate::regions::FRAME_BASE;
 use crate::workspace::Workspace;
-use bpf_model::Width;
-use byte_numbers::{number_of, write_number};
+use bpf_model::{Width, number_of, write_number};
 
 /// A word, moved by an offset.
 #[inline(always)]

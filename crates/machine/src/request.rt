@@ -21,9 +21,9 @@ pub enum Request {
     Call {
         helper: Helper,
     },
-    /// A read-side critical section is entered.
+    /// A read-side lock is taken; the outermost enters a section.
     Enter,
-    /// A read-side critical section is left.
+    /// A read-side lock is given up; the outermost leaves the section.
     Leave,
 }
 

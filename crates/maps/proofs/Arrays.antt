@@ -20,7 +20,7 @@ use Rattle.element_arena.proofs.BlockLaws.{room, block-written, block-other, blo
 use Rattle.view_laws.specs.Views.{updated, updated_by, written_by, overwritten_slot, written}
 use Rattle.maps.specs.Arrays.{index_slot, array_view, IsArrayMap}
 use Rattle.maps.specs.Shown.{IsOccupied}
-use Rattle.maps.proofs.Indices.{index-long}
+use Rattle.model_laws.proofs.Indices.{index-long}
 
 -- a list that has at each index what a function makes of it
 range-as : {A : Type 0} (f : ℕ → A) (n : ℕ) (xs : List A) → length xs ≡ n → ((j : ℕ) → j < n → slice_get xs j ≡ Some (f j)) → map f (range_with_len 0 n) ≡ xs

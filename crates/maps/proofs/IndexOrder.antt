@@ -12,7 +12,7 @@ use Rattle.bpf_model.specs.declared.limits.TheConstants.{MAX_ENTRIES}
 use Rattle.bpf_model.specs.MapState.{index_key}
 use Rattle.bpf_model.specs.View.{index_below}
 use Rattle.hash_index.specs.Order.{IsLess, NoneAbove, NoneBetween}
-use Rattle.maps.proofs.Indices.{index-got}
+use Rattle.model_laws.proofs.Indices.{index-got}
 
 -- the first bytes decide, or where they are one the others do
 less-head : (x y : ℕ) (xs ys : List ℕ) → x < y → IsLess (x ∷ xs) (y ∷ ys)

@@ -10,6 +10,5 @@ pub mod Names
 pub mod Picking
 pub mod Counting
 pub mod NewMaps
-pub mod Indices
 pub mod IndexOrder
 pub mod Arrays

@@ -10,7 +10,8 @@ use Rattle.bpf_model.specs.View.{SlotView, uses_at, key_in}
 use Rattle.element_arena.specs.State.{ArenaState, IsTaken, is_at, indexed, times_in, key_at, worn_at, flag_in, taken, given_back, with_slot_value, is_last_use}
 use Rattle.element_arena.proofs.Counts.{one_cases, one_same, one_other, times-append}
 use Rattle.hash_index.proofs.Links.{insert_over}
-use Rattle.view_laws.proofs.Lists.{insert-same, insert-other, remove-same, remove-other}
+use Rattle.model_laws.proofs.Indices.{insert-same, insert-other}
+use Rattle.view_laws.proofs.Lists.{remove-same, remove-other}
 use Rattle.deferred_free.specs.Queued.{queued, retired_lists, reaped_lists}
 use Rattle.maps.specs.Parted.{PartsView, standings, IsParted, IsInHand, IsInUse}
 use Rattle.bpf_model.specs.View.{KeyMap}

@@ -13,7 +13,8 @@ use Rattle.bpf_model.specs.Helper.{hash_error, error_of_kind}
 use Rattle.bpf_model.specs.View.{SlotView, MapView, uses_at, map_state_of, key_in, value_in}
 use Rattle.element_arena.specs.State.{taken}
 use Rattle.view_laws.specs.Views.{updated, updated_by, written_by, filled, filled_from, retired_key, retired_slot}
-use Rattle.view_laws.proofs.Lists.{remove-same, len-remove_found, len-insert_new}
+use Rattle.model_laws.proofs.Indices.{len-insert_new}
+use Rattle.view_laws.proofs.Lists.{remove-same, len-remove_found}
 use Rattle.maps.specs.Parted.{PartsView, without_key}
 use Rattle.maps.specs.Updated.{IsPut, replaced, with_taken}
 use Rattle.bpf_model.specs.View.{KeyMap}

@@ -230,9 +230,10 @@ impl Registry {
         self.maps.get(id.index())
     }
 
-    /// How many maps there are: at most `MAX_MAPS`.
+    /// How many maps there are: at most `MAX_MAPS`. Each has a name.
     pub fn len(&self) -> usize
         ensures value { result ≡ length self.now.maps }
+        ensures names { result ≡ length self.now.names }
         ensures limit { result ≤ MAX_MAPS }
     {
         self.maps.len()

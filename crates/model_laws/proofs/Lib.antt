@@ -37,3 +37,4 @@ pub mod Requests
 pub mod Bounded
 mod NewElements
 mod ArraysStay
+pub mod Indices

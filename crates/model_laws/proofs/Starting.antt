@@ -1,12 +1,11 @@
 -- The world at the start tracks the schedule at the start.
 use Rattle.std.proofs.Common.{◌≡◌, ℕ, zero, suc, ◌+◌, ◌<◌, ◌≤◌, List, [], ◌∷◌, map, length, replicate, Some, None, ◌≢◌, ◌^◌, inl, inr, refl, sym, ap, ◌∙◌, arith, subst, false}
-use Rattle.std.specs.Prelude.{slice_get, slice_index, count_by, is_some}
+use Rattle.std.specs.Prelude.{slice_get, slice_index, count_by}
 use Rattle.std.specs.List.{range_with_len}
-use Rattle.std.specs.FinMap.{get, insert, len, get-empty, len-empty, get-insert, len-insert}
+use Rattle.std.specs.FinMap.{get, get-empty, len-empty}
 use Rattle.std.specs.Ordering.{nat_cmp}
-use Rattle.std.proofs.lemmas.Cmp.{nat_list_cmp_total}
 use Rattle.std.specs.Cmp.Lexicographic.{slice_cmp}
-use Rattle.std.proofs.lemmas.Bool.{cond-true, cond-false, cases_eq}
+use Rattle.std.proofs.lemmas.Bool.{cases_eq}
 use Rattle.std.proofs.lemmas.Option.{none-some, same_Some, get_or_from_slice_get}
 use Rattle.std.proofs.lemmas.List.FromFn.{length-map-range_with_len}
 use Rattle.std.proofs.lemmas.List.{length-map, length-replicate}
@@ -19,13 +18,11 @@ use Rattle.bpf_model.specs.Element.{Element, Linked, is_reclaimed, linked_count}
 use Rattle.bpf_model.specs.MapState.{MapState, AreShapes, slots_of_shape, new_bag, new_map, index_key, array_element, all_new_elements}
 use Rattle.bpf_model.specs.Machine.{Loaded}
 use Rattle.bpf_model.specs.Schedule.{Queues, open_flags, start_schedule, no_queues}
-use Rattle.bpf_model.specs.View.{KeyMap, SlotView, MapView, uses_at, unused_slot, index_below, array_slot, new_view_of, new_map_view, start_view}
+use Rattle.bpf_model.specs.View.{SlotView, MapView, uses_at, unused_slot, index_below, array_slot, new_view_of, new_map_view, start_view}
 use Rattle.bpf_model.specs.Refines.{times, slot_view, MapRefines, RunSlotRefines, RefinesSchedule, TracksSchedule}
-use Rattle.bpf_model.proofs.Lists.{key_cases}
-use Rattle.bpf_model.proofs.Keys.{same-same_key, other-same_key}
-use Rattle.bpf_model.proofs.Cases.{option_cases}
 use Rattle.model_laws.proofs.Tallies.{one_of, count-cons}
-use Rattle.model_laws.proofs.NewElements.{index-same, range-get, all_new_slots, length-all_new, new-element, new-there, new-single, new-once, fresh-counts, new_count, born-new}
+use Rattle.model_laws.proofs.NewElements.{range-get, all_new_slots, length-all_new, new-element, new-there, new-single, new-once, fresh-counts, new_count, born-new}
+use Rattle.model_laws.proofs.Indices.{index-got, index-gets, len-index}
 use Rattle.model_laws.proofs.Counting.{times-first, times-other, map-back}
 
 -- the free map slots: each once
@@ -65,53 +62,6 @@ unused (suc n) (suc i) = unused n i
 bag-unused : (slots : List SlotView) → ((i : ℕ) → uses_at slots i ≡ 0) → (n a : ℕ) → replicate n 0 ≡ map (uses_at slots) (range_with_len a n)
 bag-unused slots h zero a = refl
 bag-unused slots h (suc n) a = ap (λ x. x ∷ replicate n 0) (sym (h a)) ∙ ap (λ l. uses_at slots a ∷ l) (bag-unused slots h n (a + 1))
-
--- the index of an array
-insert-same : (m : KeyMap) (key : List ℕ) (i : ℕ) → get (insert m key i) key ≡ Some i
-insert-same m key i = get-insert nat_list_cmp_total m key i key ∙ cond-true _ _ _ (same-same_key key key refl)
-
-insert-other : (m : KeyMap) (key : List ℕ) (i : ℕ) (q : List ℕ) → q ≢ key → get (insert m key i) q ≡ get m q
-insert-other m key i q ne = get-insert nat_list_cmp_total m key i q ∙ cond-false _ _ _ (other-same_key q key ne)
-
-index-got : (n : ℕ) (key : List ℕ) (i : ℕ) → get (index_below n) key ≡ Some i → (i < n) × (index_key i ≡ key)
-index-got zero key i h = absurd (none-some i (sym (get-empty (slice_cmp nat_cmp) key) ∙ h))
-index-got (suc n) key i h = elim (key_cases key (index_key n)) [
-  | inl same ↦
-      let at : get (insert (index_below n) (index_key n) n) key ≡ Some n = ap (get (insert (index_below n) (index_key n) n)) same ∙ insert-same (index_below n) (index_key n) n in
-      let is : n ≡ i = same_Some n i (sym at ∙ h) in
-      (omega arith, ap index_key (sym is) ∙ sym same)
-  | inr ne ↦
-      let r = index-got n key i (sym (insert-other (index_below n) (index_key n) n key ne) ∙ h) in
-      let less : i < n = r.0 in
-      (omega arith, r.1)
-]
-
-index-gets : (n i : ℕ) → n ≤ MAX_ENTRIES → i < n → get (index_below n) (index_key i) ≡ Some i
-index-gets zero i most less = absurd (omega arith)
-index-gets (suc n) i most less = elim (cases_eq i n) [
-  | inl same ↦ ap (λ j. get (index_below (suc n)) (index_key j)) same ∙ (insert-same (index_below n) (index_key n) n ∙ ap Some (sym same))
-  | inr ne ↦
-      let below : i < n = omega (arith, ne) in
-      insert-other (index_below n) (index_key n) n (index_key i) (λ e. ne (index-same i n (omega arith) (omega arith) e)) ∙ index-gets n i (omega arith) below
-]
-
-index-past : (n i : ℕ) → n ≤ i → i < 2 ^ 32 → get (index_below n) (index_key i) ≡ None
-index-past n i more real = elim (option_cases (get (index_below n) (index_key i))) [
-  | inl none ↦ none
-  | inr some ↦
-      let r = index-got n (index_key i) some.0 some.1 in
-      let less : some.0 < n = r.0 in
-      let same : some.0 ≡ i = index-same some.0 i (omega arith) real r.1 in
-      absurd (omega arith)
-]
-
-len-index : (n : ℕ) → n ≤ MAX_ENTRIES → len (index_below n) ≡ n
-len-index zero most = len-empty (slice_cmp nat_cmp) ℕ
-len-index (suc n) most =
-    let none = index-past n n (omega arith) (omega arith) in
-    let rest = len-index n (omega arith) in
-    let more : len (insert (index_below n) (index_key n) n) ≡ len (index_below n) + 1 = len-insert nat_list_cmp_total (index_below n) (index_key n) n ∙ cond-false _ _ _ (ap is_some none) in
-    omega arith
 
 index-there : (xs : List ℕ) (n x : ℕ) → slice_get xs n ≡ Some x → slice_index xs n ≡ x
 index-there xs n x h = get_or_from_slice_get xs n x 0 h
@@ -252,8 +202,8 @@ none-open : (n : ℕ) → replicate n false ≡ open_flags (replicate n None)
 none-open zero = refl
 none-open (suc n) = ap (λ l. false ∷ l) (none-open n)
 
-start-refined : (shapes : List MapShape) (programs : List Loaded) → AreShapes shapes → RefinesSchedule (start_view shapes programs) (start_schedule shapes programs)
-start-refined shapes programs limits = record {
+start-refined : (names : List (List ℕ)) (shapes : List MapShape) (programs : List Loaded) → AreShapes shapes → RefinesSchedule (start_view names shapes programs) (start_schedule shapes programs)
+start-refined names shapes programs limits = record {
   slots = all_new_slots shapes;
   named = length-all_new 0 shapes;
   maps = (length-map shapes new_map_view ∙ sym (length-map shapes new_map), length-map shapes (λ (x : MapShape). no_queues) ∙ sym (length-map shapes new_map));
@@ -275,8 +225,8 @@ shapes-start (shape ∷ shapes) = ap (λ z. z ∷ map (λ (v : MapView). v.shape
     shape-of Hash shape = refl
     shape-of Array shape = refl
 
-pub start_tracked : (shapes : List MapShape) (programs : List Loaded) → AreShapes shapes → TracksSchedule (start_view shapes programs) (start_schedule shapes programs)
-start_tracked shapes programs h = record {
-  refines = start-refined shapes programs h;
+pub start_tracked : (names : List (List ℕ)) (shapes : List MapShape) (programs : List Loaded) → AreShapes shapes → TracksSchedule (start_view names shapes programs) (start_schedule shapes programs)
+start_tracked names shapes programs h = record {
+  refines = start-refined names shapes programs h;
   reached = record { limits = subst AreShapes (sym (shapes-start shapes)) h; events = []; answers = []; states = []; real = λ k event at. absurd (none-some event at); history = tt; last = ap (λ l. start_schedule l programs) (shapes-start shapes) };
 }

@@ -253,8 +253,9 @@ pub fn given_bounded()
 
 /// The world at the start tracks the state at the start, so that the relation is not empty.
 pub fn start_tracked()
-    ensures { (shapes : List MapShape) (programs : List Loaded) → AreShapes shapes →
-        TracksSchedule (start_view shapes programs) (start_schedule shapes programs) }
+    ensures { (names : List (List ℕ)) (shapes : List MapShape) (programs : List Loaded) →
+        AreShapes shapes
+        → TracksSchedule (start_view names shapes programs) (start_schedule shapes programs) }
 {}
 
 /// In each state that a world tracks the lists of the runtime's choices are right.

@@ -12,4 +12,4 @@ pub use crate::loader::{HEADING, LoadFault, ProgramFile, load};
 pub use checking::{Accepted, check, text_of};
 pub use program_file::{FileBytes, Source, read_file};
 pub use verdict::{MEMORY, Verdict};
-pub use verified_file::{VerifiedSource, verify_source};
+pub use verified_file::{VerifiedSource, known_where_refused, verify_source};

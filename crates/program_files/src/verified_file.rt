@@ -12,7 +12,7 @@ use crate::program_file::Source;
 use bpf_model::{MapId, MapShape};
 use maps::Registry;
 use std::alloc::{AllocError, Global};
-use verifier::{ProgramRefusal, Verified, verify};
+use verifier::{AbsState, ProgramRefusal, Verified, verify};
 
 /// A program that is verified with its file's context and with the shapes of these maps, in their order.
 #[derive(Drop)]
@@ -33,6 +33,19 @@ fn shapes_of(alloc: Global, registry: &Registry) -> Result<Vec<MapShape>, AllocE
         }
     }
     Ok(shapes)
+}
+
+/// What the verifier knew where it refuses a file's program, as `verifier::known_where_refused` says.
+///
+/// The error is that there is no memory left.
+pub fn known_where_refused(
+    alloc: Global,
+    source: &Source,
+) -> Result<Option<Box<AbsState>>, AllocError>
+    requires { source.now.ctx_len ≤ CTX_BYTES }
+{
+    let shapes = shapes_of(alloc, &source.registry)?;
+    verifier::known_where_refused(alloc, &source.program, &shapes, source.ctx_len)
 }
 
 /// Verifies a file's program with its maps and its context.

@@ -4,8 +4,7 @@ ghost use Rattle.table_rule.specs.Lookups.{key_word};
 ghost use Rattle.read_table.specs.declared.limits.TheConstants.{WORD_BYTES, MAX_TABLE_SLOTS};
 
 use crate::limits::WORD_BYTES;
-use bpf_model::Width;
-use byte_numbers::number_of;
+use bpf_model::{Width, number_of};
 
 /// What a hash is multiplied by after each word: 2^64 over the golden ratio, which is odd.
 const WORD_FACTOR: u64 = 11_400_714_819_323_198_485;

@@ -27,7 +27,7 @@ pub enum InsnFault {
     MixedRegions,
     #[error("what a lookup gave is used before it is compared with null")]
     MaybeNull,
-    #[error("a reference to an element is used outside its section, or a lookup is made outside a section")]
+    #[error("a reference to an element of a hash map is used outside its section, or a hash map is looked up outside a section")]
     OutsideSection,
     #[error("a lock where 8 are open, an unlock outside a section, an exit inside one, or paths that differ in depth")]
     UnpairedSection,

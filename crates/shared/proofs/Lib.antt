@@ -5,5 +5,4 @@ pub mod Quiet
 pub mod Exits
 pub mod Kept
 pub mod Answered
-pub mod Numbering
 pub mod NewWorlds

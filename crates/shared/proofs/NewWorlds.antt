@@ -17,5 +17,5 @@ no_run_at r slots e (inl (o, inside, found, read)) =
     ap option_flatten found ∙ (sym read ∙ none)
 no_run_at r slots e (inr (past, none)) = ap option_flatten none
 
-pub no_runs : (w : WorldView) (shapes : List MapShape) (programs : List Loaded) → w ≡ start_view shapes programs → HasNoRuns w
-no_runs w shapes programs e r = no_run_at r w.runs (ap (λ (v : WorldView). v.runs) e) (slice_get_cases w.runs r).1
+pub no_runs : (w : WorldView) (names : List (List ℕ)) (shapes : List MapShape) (programs : List Loaded) → w ≡ start_view names shapes programs → HasNoRuns w
+no_runs w names shapes programs e r = no_run_at r w.runs (ap (λ (v : WorldView). v.runs) e) (slice_get_cases w.runs r).1

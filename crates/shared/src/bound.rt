@@ -1,16 +1,12 @@
 //! A shared world of one program, which is bound to all maps.
-ghost use Rattle.std.specs.Prelude.{◌≡◌, ◌<◌, ◌≤◌, ◌∷◌, [], length, map, IfOk};
-ghost use Rattle.bpf_model.specs.declared.limits.TheConstants.{MAX_MAPS};
+ghost use Rattle.std.specs.Prelude.{◌≡◌, ◌<◌, ◌≤◌, ◌∷◌, [], map, IfOk};
 ghost use Rattle.bpf_model.specs.View.{AreNewMaps, shapes_of_maps};
 ghost use Rattle.journal_laws.specs.Replay.{HasNoRuns};
 ghost use Rattle.shared.specs.declared.worker.TheConstants.{MAX_WORKERS};
 ghost use Rattle.shared.specs.Books.{AreNumbered};
-ghost use Rattle.world_laws.specs.Binding.{IsBoundTo};
 
 use crate::lock::Shared;
 use crate::worker::Workers;
-use arrayvec::ArrayVec;
-use bpf_model::{MAX_MAPS, MapShape};
 use maps::Registry;
 use std::alloc::{AllocError, Global};
 use std::sync::ledger::{Blank, Ledger};
@@ -24,18 +20,6 @@ pub struct ProgramWithMaps {
     pub registry: Registry,
 }
 
-/// The numbers of so many maps, each under its own.
-fn all_maps(shapes: &[MapShape]) -> ArrayVec<usize, MAX_MAPS>
-    requires { length shapes.now ≤ MAX_MAPS }
-    ensures { IsBoundTo shapes.now shapes.now result.items }
-{
-    let mut maps = ArrayVec::new();
-    for number in 0..shapes.len() {
-        maps.push(number);
-    }
-    maps
-}
-
 /// A world of these maps, in which nothing has happened, with this program, bound to all of them. The
 /// error is that there is no memory left.
 fn world_of(alloc: Global, program: ProgramWithMaps) -> Result<World, AllocError>
@@ -47,9 +31,8 @@ fn world_of(alloc: Global, program: ProgramWithMaps) -> Result<World, AllocError
 {
     let ProgramWithMaps { verified, registry } = program;
     let _count = registry.len();
-    let maps = all_maps(verified.shapes());
     let mut programs = Vec::new(alloc);
-    programs.push(Loaded { verified, maps })?;
+    programs.push(Loaded::in_order(verified))?;
     match World::new(alloc, registry, programs) {
         Ok(world) => Ok(world),
         Err(WorldFault::Memory) => Err(AllocError),

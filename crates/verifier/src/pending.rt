@@ -87,6 +87,17 @@ impl Pending {
         taken
     }
 
+    /// Takes out the state that waits for the instruction of this index, if one does.
+    pub(crate) fn take_known(&mut self, index: usize) -> Option<Box<AbsState>> {
+        if index >= self.by_index.len() {
+            return None;
+        }
+        match self.take(index) {
+            Waiting::Known(state) => Some(state),
+            Waiting::Nothing | Waiting::Differing => None,
+        }
+    }
+
     /// The most states that ever waited at once.
     pub(crate) fn peak(&self) -> usize
         ensures value { result ≡ self.now.peak }

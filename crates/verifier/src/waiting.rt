@@ -13,7 +13,7 @@ pub(crate) enum Waiting {
     Nothing,
     /// What is known on all edges that have led to the instruction.
     Known(Box<AbsState>),
-    /// Edges have led to the instruction with a section open, and others with none.
+    /// Edges have led to the instruction at different depths of locks.
     Differing,
 }
 

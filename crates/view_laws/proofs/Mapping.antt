@@ -14,7 +14,8 @@ use Rattle.bpf_model.specs.Refines.{times, slot_view, IsElementKept, ElementsSta
 use Rattle.view_laws.specs.Views.{retired_slot, filled, slot_given_back}
 use Rattle.view_laws.proofs.Changing.{Changes}
 use Rattle.model_laws.proofs.Tallies.{one_of, count-set}
-use Rattle.view_laws.proofs.Lists.{insert-same, insert-other, remove-same, remove-other, len-remove_found, len-insert_new, index-append, index-last}
+use Rattle.model_laws.proofs.Indices.{insert-same, insert-other, len-insert_new}
+use Rattle.view_laws.proofs.Lists.{remove-same, remove-other, len-remove_found, index-append, index-last}
 use Rattle.view_laws.proofs.Changing.{changes-life, link-kept, link-back, not-linked, link-grown, link-cases, count-born}
 use Rattle.std.proofs.lemmas.List.{length-set}
 use Rattle.bpf_model.proofs.Lists.{get-append_cases, get-append_last, get-below, get-set_cases, get-set_other, get-set_there, key_cases}

@@ -1,4 +1,4 @@
--- A reaction to an event is a step of each schedule that the world matches, and it keeps the shapes of the maps and the programs.
+-- A reaction to an event is a step of each schedule that the world matches, and it keeps the names and the shapes of the maps and the programs.
 use Rattle.std.proofs.Common.{◌≡◌, ◌∙◌, ℕ, suc, ◌+◌, List, [], ◌∷◌, map, length, Option, Some, None, refl, sym, ap, subst, arith, Bool, true, false, ◌≤◌}
 use Rattle.std.specs.Prelude.{slice_get, slice_set}
 use Rattle.std.specs.FinMap.{get}
@@ -154,49 +154,49 @@ picked-at k [] p h = absurd (none-some p h)
 picked-at k (v ∷ vs) p h = picked-first k v vs p v.ready refl (λ g. picked-at (suc k) vs p g) h
 
 abbrev pub Keeps : WorldView → WorldView → Type 0
-Keeps w new = (shapes_of new ≡ shapes_of w) × (new.programs ≡ w.programs)
+Keeps w new = (shapes_of new ≡ shapes_of w) × (new.programs ≡ w.programs) × (new.names ≡ w.names)
 
 module _ (w : WorldView) where
   pub map-keeps : (k : ℕ) (v new : MapView) → slice_get w.maps k ≡ Some v → new.shape ≡ v.shape → Keeps w (with_map k new w)
-  map-keeps k v new at same = (set-shapes w.maps k v new at same, refl)
+  map-keeps k v new at same = (set-shapes w.maps k v new at same, refl, refl)
 
   delete-keeps : (r : Option EventRefusal) (o : Option MapView) (k : ℕ) (key : List ℕ) → slice_get w.maps k ≡ o → Keeps w (delete_at r o w k key).1
-  delete-keeps (Some refusal) o k key at = (refl, refl)
-  delete-keeps None None k key at = (refl, refl)
+  delete-keeps (Some refusal) o k key at = (refl, refl, refl)
+  delete-keeps None None k key at = (refl, refl, refl)
   delete-keeps None (Some v) k key at = map-keeps k v (deleted v key).1 at (deleted-shape v.shape.kind v key)
 
   update-keeps : (r : Option EventRefusal) (o : Option MapView) (k : ℕ) (key value : List ℕ) (flags : ℕ) → slice_get w.maps k ≡ o → Keeps w (update_at r o w k key value flags).1
-  update-keeps (Some refusal) o k key value flags at = (refl, refl)
-  update-keeps None None k key value flags at = (refl, refl)
+  update-keeps (Some refusal) o k key value flags at = (refl, refl, refl)
+  update-keeps None None k key value flags at = (refl, refl, refl)
   update-keeps None (Some v) k key value flags at = map-keeps k v (updated v key value flags).1 at (updated-shape (shown_error v key flags) v key value)
 
   read-keeps : (r : Option EventRefusal) (o : Option MapView) (key : List ℕ) → Keeps w (read_at r o w key).1
-  read-keeps (Some refusal) o key = (refl, refl)
-  read-keeps None None key = (refl, refl)
-  read-keeps None (Some v) key = (refl, refl)
+  read-keeps (Some refusal) o key = (refl, refl, refl)
+  read-keeps None None key = (refl, refl, refl)
+  read-keeps None (Some v) key = (refl, refl, refl)
 
   advance-keeps : (b : Bool) → Keeps w (advanced_by b w)
-  advance-keeps true = (refl, refl)
-  advance-keeps false = (turned-shapes w.maps, refl)
+  advance-keeps true = (refl, refl, refl)
+  advance-keeps false = (turned-shapes w.maps, refl, refl)
 
   reap-keeps : (o : Option Pick) → first_pick 0 w.maps ≡ o → Keeps w (reap_by o w).1
-  reap-keeps None h = (refl, refl)
+  reap-keeps None h = (refl, refl, refl)
   reap-keeps (Some p) h =
       let x = picked-at 0 w.maps p h in
       let number : p.map ≡ x.index = x.number ∙ (let z : 0 + x.index ≡ x.index = omega arith in z) in
-      (set-shapes w.maps p.map p.view (reaped_view p.view p.slot) (ap (slice_get w.maps) number ∙ x.there) (given-shape (given_at p.view p.slot) p.slot p.view), refl)
+      (set-shapes w.maps p.map p.view (reaped_view p.view p.slot) (ap (slice_get w.maps) number ∙ x.there) (given-shape (given_at p.view p.slot) p.slot p.view), refl, refl)
 
   start-keeps : (r : Option EventRefusal) (o : Option ℕ) (prog : ℕ) (context : List ℕ) → Keeps w (start_by r o w prog context).1
-  start-keeps (Some refusal) o prog context = (refl, refl)
-  start-keeps None None prog context = (refl, refl)
-  start-keeps None (Some r) prog context = (refl, refl)
+  start-keeps (Some refusal) o prog context = (refl, refl, refl)
+  start-keeps None None prog context = (refl, refl, refl)
+  start-keeps None (Some r) prog context = (refl, refl, refl)
 
   drop-keeps : (o : Option EventRefusal) (r : ℕ) → Keeps w (drop_by o w r).1
-  drop-keeps (Some refusal) r = (refl, refl)
-  drop-keeps None r = (refl, refl)
+  drop-keeps (Some refusal) r = (refl, refl, refl)
+  drop-keeps None r = (refl, refl, refl)
 
   step-keeps : (o : Option EventRefusal) (x : Answer × WorldView) → step_by o w ≡ Some x → Keeps w x.1
-  step-keeps (Some refusal) x h = subst (λ (z : Answer × WorldView). Keeps w z.1) (same_Some (refused_as refusal w) x h) (refl, refl)
+  step-keeps (Some refusal) x h = subst (λ (z : Answer × WorldView). Keeps w z.1) (same_Some (refused_as refusal w) x h) (refl, refl, refl)
   step-keeps None x h = absurd (none-some x h)
 
   same-keeps : (x y : Answer × WorldView) → Some x ≡ Some y → Keeps w x.1 → Keeps w y.1

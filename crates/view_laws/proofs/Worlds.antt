@@ -108,7 +108,7 @@ pub record Turns (w : WorldView) (s : Schedule) (x : RefinesSchedule w s) (k : �
 
 pub turned-world : (w : WorldView) (s : Schedule) (x : RefinesSchedule w s) (i : IsScheduled s) (k : ℕ) (v : MapView) (store : Store) (queues : List Queues) (awaited : List Bool) (given : ℕ) → Turns w s x k v store queues → awaited ≡ s.awaited →
     given ≡ count_by (λ e. is_reclaimed e.life) store.elements →
-    RefinesSchedule (record { maps = slice_set w.maps k v; runs = w.runs; opened = w.opened; awaited = w.awaited; programs = w.programs; given = given }) (record { machine = with_store s.machine store; queues = queues; awaited = awaited })
+    RefinesSchedule (record { names = w.names; maps = slice_set w.maps k v; runs = w.runs; opened = w.opened; awaited = w.awaited; programs = w.programs; given = given }) (record { machine = with_store s.machine store; queues = queues; awaited = awaited })
 turned-world w s x i k v store queues awaited given t same given_is = record {
   slots = t.names;
   named = t.births;
@@ -136,7 +136,7 @@ module _ (w : WorldView) (s : Schedule) (x : RefinesSchedule w s) (i : IsSchedul
   -- the first half of a step that leaves a map and the store as they are
   pub stays-half : (k : ℕ) (v : MapView) → slice_get w.maps k ≡ Some v → (Changes : Store → Type 0) → Changes s.machine.store → ChangesHalf (with_map k v w) s Changes
   stays-half k v at Changes h =
-      let same : with_map k v w ≡ w = λ j. record { maps = set-same w.maps k v at j; runs = w.runs; opened = w.opened; awaited = w.awaited; programs = w.programs; given = w.given } in
+      let same : with_map k v w ≡ w = λ j. record { names = w.names; maps = set-same w.maps k v at j; runs = w.runs; opened = w.opened; awaited = w.awaited; programs = w.programs; given = w.given } in
       record {
         store = s.machine.store;
         changes = h;

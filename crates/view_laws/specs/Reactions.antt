@@ -22,6 +22,7 @@ use Rattle.view_laws.specs.Views.{value_read, deleted, updated, turned_view, giv
 -- Map k has another view.
 abbrev pub with_map : ℕ → MapView → WorldView → WorldView
 with_map k v w = record {
+  names = w.names;
   maps = slice_set w.maps k v;
   runs = w.runs;
   opened = w.opened;
@@ -80,6 +81,7 @@ abbrev pub advanced_by : Bool → WorldView → WorldView
 advanced_by true w = w
 advanced_by false w =
     record {
+      names = w.names;
       maps = map turned_view w.maps;
       runs = w.runs;
       opened = w.opened;
@@ -110,6 +112,7 @@ first_pick k (v ∷ vs) = or_pick v.ready k v (first_pick (suc k) vs)
 
 abbrev pub with_reaped : Pick → WorldView → WorldView
 with_reaped p w = record {
+  names = w.names;
   maps = slice_set w.maps p.map (reaped_view p.view p.slot);
   runs = w.runs;
   opened = w.opened;
@@ -142,6 +145,7 @@ is_open_view (Some v) = nat_lt 0 v.depth
 -- where it isn't.
 abbrev pub with_run : ℕ → Option RunView → WorldView → WorldView
 with_run r v w = record {
+  names = w.names;
   maps = w.maps;
   runs = slice_set w.runs r v;
   opened = slice_set w.opened r (is_open_view v);

@@ -86,7 +86,7 @@ pub fn reaction_simulates()
         reaction w event ≡ Some x → Simulates s event x }
 {}
 
-/// No reaction changes a map's shape or the programs.
+/// No reaction changes a map's name or shape, or the programs.
 pub fn reaction_keeps()
     ensures shapes { (w : WorldView) (event : Event) (x : Answer × WorldView)
         → reaction w event ≡ Some x →
@@ -94,6 +94,8 @@ pub fn reaction_keeps()
     ensures programs { (w : WorldView) (event : Event) (x : Answer × WorldView)
         → reaction w event ≡ Some x →
         x.1.programs ≡ w.programs }
+    ensures names { (w : WorldView) (event : Event) (x : Answer × WorldView)
+        → reaction w event ≡ Some x → x.1.names ≡ w.names }
 {}
 
 /// A reaction to an event within its types is an answer with the runtime's choices, and the view after

@@ -32,9 +32,9 @@ all-some (x ∷ xs) (y ∷ ys) e =
     let rest : map Some xs ≡ map Some ys = cc in
     ap (λ z. z ∷ xs) first ∙ ap (λ zs. y ∷ zs) (all-some xs ys rest)
 
-module _ (maps : List MapView) (runs : Runs) (grace : GraceState) (programs : List Loaded) (given : ℕ) (w : WorldView) (is : world_of maps runs grace programs given ≡ w) (r : ℕ) (code : List Insn) (shapes : List MapShape) (context_len : ℕ) (context : List ℕ) where
+module _ (names : List (List ℕ)) (maps : List MapView) (runs : Runs) (grace : GraceState) (programs : List Loaded) (given : ℕ) (w : WorldView) (is : world_of names maps runs grace programs given ≡ w) (r : ℕ) (code : List Insn) (shapes : List MapShape) (context_len : ℕ) (context : List ℕ) where
   abbrev World : WorldView
-  World = world_of maps runs grace programs given
+  World = world_of names maps runs grace programs given
 
   pub exits-nowhere : HasNoRun runs r → (n : ℕ) → HasExited w r code shapes context_len context n → ⊥
   exits-nowhere none n h =

@@ -9,3 +9,4 @@ pub mod Same
 pub mod ShapesKept
 pub mod Slots
 pub mod Stepping
+pub mod InOrder

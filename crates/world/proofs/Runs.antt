@@ -23,17 +23,17 @@ use Rattle.std.proofs.lemmas.List.{length-map, length-set, map-set}
 use Rattle.bpf_model.proofs.Lists.{get-map, set-same, get-set_cases, get-replicate}
 use Rattle.bpf_model.specs.Machine.{lowest_free}
 
-same_world : (maps : List MapView) (programs : List machine.Loaded) (given : ℕ) (rs qs : List (Option RunView)) (os ps cs bs : List Bool) → rs ≡ qs → os ≡ ps → cs ≡ bs →
-    let a : WorldView = record { maps = maps; runs = rs; opened = os; awaited = cs; programs = programs; given = given } in
-    let b : WorldView = record { maps = maps; runs = qs; opened = ps; awaited = bs; programs = programs; given = given } in
+same_world : (names : List (List ℕ)) (maps : List MapView) (programs : List machine.Loaded) (given : ℕ) (rs qs : List (Option RunView)) (os ps cs bs : List Bool) → rs ≡ qs → os ≡ ps → cs ≡ bs →
+    let a : WorldView = record { names = names; maps = maps; runs = rs; opened = os; awaited = cs; programs = programs; given = given } in
+    let b : WorldView = record { names = names; maps = maps; runs = qs; opened = ps; awaited = bs; programs = programs; given = given } in
     a ≡ b
-same_world maps programs given rs qs os ps cs bs e f g = cc
+same_world names maps programs given rs qs os ps cs bs e f g = cc
 
 -- there are as many flags of who is awaited as of who is inside a section
 as-many : (g : GraceState) → IsGrace g → length g.awaited ≡ length (opened_in g)
 as-many g sound = sound.awaited ∙ (sym sound.depths ∙ sym (length-map g.depths is_open_depth))
 
-module _ (maps : List MapView) (runs : Runs) (grace new : GraceState) (programs : List Loaded) (given i r : ℕ) (same : i ≡ r) (kept : AreRunsKept runs grace programs) (sound : IsGrace grace) (depths : new.depths ≡ slice_set grace.depths r 0) (awaited : new.awaited ≡ slice_set grace.awaited r false) where
+module _ (names : List (List ℕ)) (maps : List MapView) (runs : Runs) (grace new : GraceState) (programs : List Loaded) (given i r : ℕ) (same : i ≡ r) (kept : AreRunsKept runs grace programs) (sound : IsGrace grace) (depths : new.depths ≡ slice_set grace.depths r 0) (awaited : new.awaited ≡ slice_set grace.awaited r false) where
   pub dropped-kept : AreRunsKept (slice_set runs i None) new programs
   dropped-kept = record {
     slots = length-set runs i None ∙ kept.slots;
@@ -44,14 +44,14 @@ module _ (maps : List MapView) (runs : Runs) (grace new : GraceState) (programs 
     ];
   }
 
-  pub dropped-view : world_of maps (slice_set runs i None) new programs given ≡ with_run r None (world_of maps runs grace programs given)
+  pub dropped-view : world_of names maps (slice_set runs i None) new programs given ≡ with_run r None (world_of names maps runs grace programs given)
   dropped-view =
-      same_world maps (map program_of programs) given _ _ _ _ _ _
+      same_world names maps (map program_of programs) given _ _ _ _ _ _
       (map-set view_of runs i None ∙ ap (λ k. slice_set (map view_of runs) k None) same)
       (ap (map is_open_depth) depths ∙ map-set is_open_depth grace.depths r 0)
       (awaited ∙ sym (still-cleared grace.awaited (opened_in grace) r (as-many grace sound) sound.inside))
 
-module _ (maps : List MapView) (runs : Runs) (grace : GraceState) (programs : List Loaded) (given i prog : ℕ) (context : List ℕ) (program : Loaded) (run : RunWords) (free : slice_get runs i ≡ Some None) (kept : AreRunsKept runs grace programs) (there : slice_get programs prog ≡ Some program) (fresh : run.view ≡ fresh_view prog context) (stands : IsAt program.verified.program run) where
+module _ (names : List (List ℕ)) (maps : List MapView) (runs : Runs) (grace : GraceState) (programs : List Loaded) (given i prog : ℕ) (context : List ℕ) (program : Loaded) (run : RunWords) (free : slice_get runs i ≡ Some None) (kept : AreRunsKept runs grace programs) (there : slice_get programs prog ≡ Some program) (fresh : run.view ≡ fresh_view prog context) (stands : IsAt program.verified.program run) where
   started-depth : depth_of_run (Some run) ≡ 0
   started-depth = ap (λ (v : RunView). v.depth) fresh
 
@@ -75,9 +75,9 @@ module _ (maps : List MapView) (runs : Runs) (grace : GraceState) (programs : Li
     ];
   }
 
-  pub started-view : IsGrace grace → world_of maps (slice_set runs i (Some run)) grace programs given ≡ with_run i (Some (fresh_view prog context)) (world_of maps runs grace programs given)
+  pub started-view : IsGrace grace → world_of names maps (slice_set runs i (Some run)) grace programs given ≡ with_run i (Some (fresh_view prog context)) (world_of names maps runs grace programs given)
   started-view sound =
-      same_world maps (map program_of programs) given _ _ _ _ _ _
+      same_world names maps (map program_of programs) given _ _ _ _ _ _
       (map-set view_of runs i (Some run) ∙ ap (λ (v : RunView). slice_set (map view_of runs) i (Some v)) fresh)
       (sym started-opened)
       (sym (still-same grace.awaited (opened_in grace) (as-many grace sound) sound.inside) ∙ ap (still_open grace.awaited) (sym started-opened))
@@ -89,9 +89,9 @@ start-goes w prog context program o there long free =
     ∙ (ap (λ z. start_by (cond z (if_full (lowest_free w.runs)) (Some BadContext)) (lowest_free w.runs) w prog context) (eq-eqb (length context) program.context_len long)
     ∙ ap (λ f. start_by (if_full f) f w prog context) free)
 
-pub started : (maps : List MapView) (runs : Runs) (grace : GraceState) (programs : List Loaded) (given prog : ℕ) (context : List ℕ) (program : Loaded) (o : Option ℕ) (w : WorldView) → world_of maps runs grace programs given ≡ w →
+pub started : (names : List (List ℕ)) (maps : List MapView) (runs : Runs) (grace : GraceState) (programs : List Loaded) (given prog : ℕ) (context : List ℕ) (program : Loaded) (o : Option ℕ) (w : WorldView) → world_of names maps runs grace programs given ≡ w →
     slice_get programs prog ≡ Some program → length context ≡ program.verified.ctx_len → o ≡ lowest_free (map view_of runs) → start_reaction w prog context ≡ start_by (if_full o) o w prog context
-started maps runs grace programs given prog context program o w e there long free =
+started names maps runs grace programs given prog context program o w e there long free =
     start-goes w prog context (program_of program) o
     (ap (λ (z : WorldView). slice_get z.programs prog) (sym e) ∙ (slice_get-map program_of programs prog ∙ ap (option_map program_of) there))
     long

@@ -147,9 +147,9 @@ going None e = absurd (none-some _ (sym e))
 going (Some None) e = absurd (none-some _ (sym e))
 going (Some (Some run)) e = (run, refl, not-ended run.view.exit e)
 
-module _ (maps : List MapView) (runs : List (Option RunWords)) (g : GraceState) (programs : List Loaded) (given r : ℕ) (kept : IsKept maps runs g programs) where
+module _ (names : List (List ℕ)) (maps : List MapView) (runs : List (Option RunWords)) (g : GraceState) (programs : List Loaded) (given r : ℕ) (kept : IsKept maps runs g programs) where
   abbrev w : WorldView
-  w = world_of maps runs g programs given
+  w = world_of names maps runs g programs given
 
   loaded-shown : (run : RunWords) (loaded : Loaded) → slice_get programs run.view.program ≡ Some loaded → slice_get w.programs run.view.program ≡ Some (program_of loaded)
   loaded-shown run loaded e = slice_get-map program_of programs run.view.program ∙ ap (option_map program_of) e
@@ -210,10 +210,10 @@ module _ (maps : List MapView) (runs : List (Option RunWords)) (g : GraceState) 
     })
 
     -- the world's step
-    pub gone_is : word_step w r ≡ (answer, world_of maps_new runs_new g_new programs given)
+    pub gone_is : word_step w r ≡ (answer, world_of names maps_new runs_new g_new programs given)
     gone_is =
         let run : RunWords = gone.run in
-        let out : List (Option RunView) → Answer × WorldView = λ (l : List (Option RunView)). (answer, record { maps = maps_new; runs = l; opened = opened_in g_new; awaited = g_new.awaited; programs = w.programs; given = given }) in
+        let out : List (Option RunView) → Answer × WorldView = λ (l : List (Option RunView)). (answer, record { names = names; maps = maps_new; runs = l; opened = opened_in g_new; awaited = g_new.awaited; programs = w.programs; given = given }) in
         ap (λ (o : Option (Option RunView)). run_step_of (option_flatten o) r w) (run-at run gone.there)
         ∙ ap (λ (o : Option machine.Loaded). step_in o r run.view w) (loaded-shown run gone.loaded gone.of)
         ∙ ap (λ (o : Option Insn). step_at o (program_of gone.loaded) r run.view w) gone.taken.here

@@ -44,9 +44,10 @@ pub record IsKept (maps : List MapView) (runs : List (Option RunWords)) (grace :
   pub of_runs : AreRunsKept runs grace programs
   pub bound : AreProgramsBound (shapes_of_maps maps) programs
 
-abbrev pub world_of : List MapView → List (Option RunWords) → GraceState → List Loaded → ℕ →
-    WorldView
-world_of maps runs grace programs given = record {
+abbrev pub world_of : List (List ℕ) → List MapView → List (Option RunWords) → GraceState →
+    List Loaded → ℕ → WorldView
+world_of names maps runs grace programs given = record {
+  names = names;
   maps = maps;
   runs = map view_of runs;
   opened = opened_in grace;

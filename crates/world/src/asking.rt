@@ -33,7 +33,8 @@ impl World {
 
     /// The maps, with their names.
     pub fn registry(&self) -> &Registry
-        ensures { result.now.maps ≡ self.now.maps }
+        ensures maps { result.now.maps ≡ self.now.maps }
+        ensures names { result.now.names ≡ self.now.names }
     {
         self.parts.registry()
     }

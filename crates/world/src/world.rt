@@ -59,7 +59,8 @@ impl World {
             → AreProgramsBound (shapes_of_maps registry.maps) loaded.items
             → IsOk result ⊎ (result ≡ Err WorldFault.Memory) }
         ensures view { IfOk result (λ w.
-            w ≡ start_view (shapes_of_maps registry.maps) (programs_in loaded.items)) }
+            w ≡ start_view registry.names (shapes_of_maps registry.maps)
+            (programs_in loaded.items)) }
         ensures start { IfOk result (λ w. TracksSchedule w
             (start_schedule (shapes_of_maps registry.maps) (programs_in loaded.items))) }
     {
@@ -77,7 +78,7 @@ impl World {
         }
     }
 
-    /// An equal world: the same elements, runs, programs and counts, so that it answers every list of events
+    /// An equal world: the same names, elements, runs, programs and counts, so that it answers every list of events
     /// as this one would. This one is unchanged. The error is that there is no memory left; the copy takes none
     /// later.
     pub fn copy(&self, alloc: Global) -> Result<World, AllocError>

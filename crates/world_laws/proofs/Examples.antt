@@ -23,4 +23,4 @@ one-program (suc p) program e = absurd (none-some program e)
 
 module _ (any : Scalar) (all : (n : ℕ) → n < 2 ^ 64 → Holds any n) where
   pub example_ready : IsReadyWorld example_world
-  example_ready = starts_ready (example_shape ∷ []) (lookup_program ∷ []) (omega arith) (safe-one any all) one-program
+  example_ready = starts_ready ((109 ∷ []) ∷ []) (example_shape ∷ []) (lookup_program ∷ []) (omega arith) (safe-one any all) one-program

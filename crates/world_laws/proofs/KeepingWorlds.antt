@@ -1,5 +1,5 @@
 -- A world at the start, and after its reactions.
-use Rattle.std.proofs.Common.{◌≡◌, ◌≤◌, List, [], ◌∷◌, map, length, arith, refl}
+use Rattle.std.proofs.Common.{◌≡◌, ◌≤◌, ℕ, List, [], ◌∷◌, map, length, arith, refl}
 use Rattle.std.proofs.lemmas.List.{length-map}
 use Rattle.bpf_model.specs.declared.event.Event.{Event}
 use Rattle.bpf_model.specs.declared.limits.MapShape.{MapShape}
@@ -18,13 +18,13 @@ use Rattle.world_laws.specs.Typed.{AreRealPrograms, IsMatched}
 use Rattle.world_laws.proofs.Worlds.{starts_ready, ready_stays, bounded_stays, simulates, tracked_is_sound}
 use Rattle.world_laws.specs.Invariant.{IsWorld}
 
-pub start_is_world : (shapes : List MapShape) (programs : List Loaded) → AreShapes shapes → length shapes ≤ MAX_MAPS → length programs ≤ MAX_PROGRAMS → AreVerified shapes programs → AreRealPrograms programs → IsWorld (start_view shapes programs)
-start_is_world shapes programs right few few_programs verified real =
+pub start_is_world : (names : List (List ℕ)) (shapes : List MapShape) (programs : List Loaded) → AreShapes shapes → length shapes ≤ MAX_MAPS → length programs ≤ MAX_PROGRAMS → AreVerified shapes programs → AreRealPrograms programs → IsWorld (start_view names shapes programs)
+start_is_world names shapes programs right few few_programs verified real =
     let count : length (map new_map_view shapes) ≡ length shapes = length-map shapes new_map_view in
     record {
       schedule = start_schedule shapes programs;
-      tracks = start_tracked shapes programs right;
-      ready = starts_ready shapes programs few verified real;
+      tracks = start_tracked names shapes programs right;
+      ready = starts_ready names shapes programs few verified real;
       bounded = record { maps = omega (arith, count, few); programs = few_programs; given = omega arith };
     }
 

@@ -1,5 +1,5 @@
 -- The main theorem over views: one event, and a list of events.
-use Rattle.std.proofs.Common.{◌≡◌, ◌∙◌, zero, suc, ◌≤◌, List, [], ◌∷◌, map, length, refl, sym, ap, subst, arith}
+use Rattle.std.proofs.Common.{◌≡◌, ◌∙◌, ℕ, zero, suc, ◌≤◌, List, [], ◌∷◌, map, length, refl, sym, ap, subst, arith}
 use Rattle.std.proofs.lemmas.List.{length-map}
 use Rattle.std.proofs.lemmas.Option.{none-some, same_Some}
 use Rattle.bpf_model.specs.declared.limits.TheConstants.{MAX_MAPS, MAX_PROGRAMS}
@@ -123,8 +123,8 @@ bounded_after w s (event ∷ events) t ready real b =
     bounded_after (full_reaction w event).1 first.0 events first.2 (ready_stays w event ready) (real-rest event events real) (bounded_stays w s event t ready (real 0 event refl) b)
 
 -- at the start
-pub starts_ready : (shapes : List MapShape) (programs : List Loaded) → length shapes ≤ MAX_MAPS → AreVerified shapes programs → AreRealPrograms programs → IsReadyWorld (start_view shapes programs)
-starts_ready shapes programs few verified real =
+pub starts_ready : (names : List (List ℕ)) (shapes : List MapShape) (programs : List Loaded) → length shapes ≤ MAX_MAPS → AreVerified shapes programs → AreRealPrograms programs → IsReadyWorld (start_view names shapes programs)
+starts_ready names shapes programs few verified real =
     let count : length (map new_map_view shapes) ≡ length shapes = length-map shapes new_map_view in
     record {
       verified = subst (λ l. AreVerified l programs) (sym (shapes-start shapes)) verified;

@@ -17,9 +17,9 @@ key_zero = record { items = 0 ∷ 0 ∷ 0 ∷ 0 ∷ [] }
 abbrev pub value_263 : ArrayVec ℕ
 value_263 = record { items = 7 ∷ 1 ∷ 0 ∷ 0 ∷ 0 ∷ 0 ∷ 0 ∷ 0 ∷ [] }
 
--- One map and the program that looks up key 0 in a section, and exits with the value.
+-- One map, `m`, and the program that looks up key 0 in a section, and exits with the value.
 abbrev pub example_world : WorldView
-example_world = start_view (example_shape ∷ []) (lookup_program ∷ [])
+example_world = start_view ((109 ∷ []) ∷ []) (example_shape ∷ []) (lookup_program ∷ [])
 
 -- The run looks the key up in its seventh step. Then the key is deleted; a grace period begins and
 -- can't end, and nothing is reclaimed. The run loads the value, and leaves its section in its tenth

@@ -2,7 +2,7 @@
 //!
 //! Each is a function with an empty body, whose contract is the law.
 
-ghost use Rattle.std.specs.Prelude.{◌≤◌, ◌<◌, ◌+◌, ◌^◌, List, length, map};
+ghost use Rattle.std.specs.Prelude.{◌≤◌, ◌<◌, ◌+◌, ◌^◌, ℕ, List, length, map};
 ghost use Rattle.bpf_model.specs.declared.event.Event.{Event};
 ghost use Rattle.bpf_model.specs.declared.limits.MapShape.{MapShape};
 ghost use Rattle.bpf_model.specs.declared.limits.TheConstants.{MAX_MAPS, MAX_PROGRAMS};
@@ -27,10 +27,10 @@ pub fn bound_is_verified()
 
 /// New maps and verified programs, as many as there may be, make a world.
 pub fn start_is_world()
-    ensures { (shapes : List MapShape) (programs : List Loaded) → AreShapes shapes →
-        length shapes ≤ MAX_MAPS → length programs ≤ MAX_PROGRAMS →
+    ensures { (names : List (List ℕ)) (shapes : List MapShape) (programs : List Loaded) →
+        AreShapes shapes → length shapes ≤ MAX_MAPS → length programs ≤ MAX_PROGRAMS →
         AreVerified shapes programs → AreRealPrograms programs
-        → IsWorld (start_view shapes programs) }
+        → IsWorld (start_view names shapes programs) }
 {}
 
 /// A reaction makes a world of a world.

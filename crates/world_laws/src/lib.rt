@@ -156,19 +156,21 @@ pub fn simulates()
         × TracksSchedule (full_reaction w event).1 next }
 {}
 
-/// No reaction changes a map's shape or the programs.
+/// No reaction changes a map's name or shape, or the programs.
 pub fn full_reaction_keeps()
     ensures shapes { (w : WorldView) (event : Event) →
         shapes_of (full_reaction w event).1 ≡ shapes_of w }
     ensures programs { (w : WorldView) (event : Event) →
         (full_reaction w event).1.programs ≡ w.programs }
+    ensures names { (w : WorldView) (event : Event) →
+        (full_reaction w event).1.names ≡ w.names }
 {}
 
 /// At the start a world is ready, with verified programs of their types and not too many maps.
 pub fn starts_ready()
-    ensures { (shapes : List MapShape) (programs : List Loaded) → length shapes ≤ MAX_MAPS →
-        AreVerified shapes programs → AreRealPrograms programs
-        → IsReadyWorld (start_view shapes programs) }
+    ensures { (names : List (List ℕ)) (shapes : List MapShape) (programs : List Loaded) →
+        length shapes ≤ MAX_MAPS → AreVerified shapes programs → AreRealPrograms programs
+        → IsReadyWorld (start_view names shapes programs) }
 {}
 
 /// A ready world stays ready, whatever event comes.

@@ -4,8 +4,9 @@ ghost use Rattle.bpf_model.specs.declared.event.Event.TheVariants as Events;
 ghost use Rattle.control.specs.declared.asking.asked.Asked.TheVariants as Wanted;
 ghost use Rattle.control.specs.Asking.{of_map, of_length, start_on, IsAsked};
 
-use crate::asking::name_table::NameTable;
+use crate::asking::naming::map_named;
 use bpf_model::{CtxBytes, Event, EventRefusal, KeyBytes, MapId, ProgId, RunId, ValueBytes};
+use maps::Registry;
 use script_lines::{Bytes, Command};
 
 /// What a command asks of a world.
@@ -84,9 +85,9 @@ fn ask_dump(map: Option<MapId>) -> Asked
     }
 }
 
-/// What a command asks of a world whose maps have these names.
-pub fn ask(names: &NameTable, command: Command<'_>) -> Asked
-    ensures { IsAsked names.now command.entry result }
+/// What a command asks of a world of these maps.
+pub fn ask(maps: &Registry, command: Command<'_>) -> Asked
+    ensures { IsAsked maps.now.names command.entry result }
 {
     match command {
         Command::Map { .. } | Command::Load { .. } => Asked::Sealed,
@@ -95,9 +96,9 @@ pub fn ask(names: &NameTable, command: Command<'_>) -> Asked
             key,
             value,
             flags,
-        } => ask_put(names.find(map.bytes()), key, value, flags),
-        Command::Get { map, key } => ask_get(names.find(map.bytes()), key),
-        Command::Del { map, key } => ask_del(names.find(map.bytes()), key),
+        } => ask_put(map_named(maps, map.bytes()), key, value, flags),
+        Command::Get { map, key } => ask_get(map_named(maps, map.bytes()), key),
+        Command::Del { map, key } => ask_del(map_named(maps, map.bytes()), key),
         Command::Start { prog, ctx } => ask_start(prog, ctx),
         Command::Step { run, count } => Asked::Steps {
             run: RunId::new(run as usize),
@@ -109,6 +110,6 @@ pub fn ask(names: &NameTable, command: Command<'_>) -> Asked
             run: RunId::new(run as usize),
         }),
         Command::Stat => Asked::Counts,
-        Command::Dump { map } => ask_dump(names.find(map.bytes())),
+        Command::Dump { map } => ask_dump(map_named(maps, map.bytes())),
     }
 }

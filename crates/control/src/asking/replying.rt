@@ -3,8 +3,9 @@ ghost use Rattle.std.specs.Prelude.{◌≡◌, ◌++◌, OnOk};
 ghost use Rattle.script_lines.specs.Answers.{reply_text};
 ghost use Rattle.control.specs.Replying.{refused, reply_to};
 
-use crate::asking::name_table::NameTable;
+use crate::asking::naming::name_of;
 use bpf_model::Answer;
+use maps::Registry;
 use script_lines::{Name, Reply, write_reply};
 use std::alloc::AllocError;
 
@@ -15,14 +16,14 @@ pub fn refused(code: u8) -> Reply<'static>
     Reply::Refused { code, slot: None }
 }
 
-/// Adds the line that tells an answer of a world whose maps have these names.
+/// Adds the line that tells an answer of a world of these maps.
 ///
 /// # Errors
 ///
 /// `AllocError` where memory for it runs out; a part of the line may have been added.
-pub fn write_answer(names: &NameTable, answer: &Answer, out: &mut Vec<u8>) -> Result<(), AllocError>
+pub fn write_answer(maps: &Registry, answer: &Answer, out: &mut Vec<u8>) -> Result<(), AllocError>
     ensures { OnOk result
-        (out.new.items ≡ out.old.items ++ reply_text (reply_to names.now answer.now)) }
+        (out.new.items ≡ out.old.items ++ reply_text (reply_to maps.now.names answer.now)) }
 {
     match answer {
         Answer::Started(run) => write_reply(&Reply::Run(*run), out),
@@ -32,7 +33,7 @@ pub fn write_answer(names: &NameTable, answer: &Answer, out: &mut Vec<u8>) -> Re
         Answer::Found(Some(value)) => write_reply(&Reply::Value(value.clone()?), out),
         Answer::Done => write_reply(&Reply::Done, out),
         Answer::Reaped(Some(reaped)) => {
-            let map = Name::new(names.name(reaped.map));
+            let map = Name::new(name_of(maps, reaped.map));
             let key = reaped.key.clone()?;
             let given = reaped.given;
             write_reply(&Reply::Reaped { map, key, given }, out)

@@ -1,6 +1,6 @@
-//! A world and the names of its maps.
+//! A world that the commands of a script are for.
 
-use crate::asking::{Asked, NameTable, ask, refused, write_answer};
+use crate::asking::{Asked, ask, refused, write_answer};
 use crate::driving::dumping::write_elements;
 use crate::driving::replying::refusal_of_overlong;
 use crate::driving::steps::make_steps;
@@ -12,10 +12,9 @@ use world::World;
 /// The number by which a command is refused that would make a map or load a program once there is a world.
 const SEALED: u8 = 56;
 
-/// A world, and the names of its maps, each under its map's number.
+/// A world that the commands of a script are for.
 #[derive(Drop)]
 pub struct Live {
-    pub names: NameTable,
     pub world: World,
 }
 
@@ -38,7 +37,7 @@ impl Live {
                 event.is_real();
                 let mut answer = Answer::Moved;
                 self.world.apply_into(&event, &mut answer);
-                write_answer(&self.names, &answer, out)
+                write_answer(self.world.registry(), &answer, out)
             }
             Asked::Overlong(prog) => {
                 write_reply(&refused(refusal_of_overlong(&self.world, prog).code()), out)
@@ -47,7 +46,7 @@ impl Live {
                 Event::Step { run }.is_real();
                 let mut answer = Answer::Moved;
                 make_steps(&mut self.world, run, count, &mut answer);
-                write_answer(&self.names, &answer, out)
+                write_answer(self.world.registry(), &answer, out)
             }
             Asked::Counts => write_reply(&Reply::Stat(self.world.stat()), out),
             Asked::Elements(map) => write_elements(&self.world, map, out),
@@ -64,7 +63,7 @@ impl Live {
             × LiveReplies self.old command.entry replies self.new
             × (out.new.items ≡ out.old.items ++ flat_map reply_text replies)) }
     {
-        let asked = ask(&self.names, command);
+        let asked = ask(self.world.registry(), command);
         self.answer_asked(asked, out)
     }
 }

@@ -8,7 +8,7 @@ ghost use Rattle.world_laws.specs.Binding.{IsBoundTo};
 ghost use Rattle.control.specs.Loading.{MapReplies, LoadReplies, ReadReplies, AreMapsNamed, HasUnknown};
 ghost use Rattle.control.specs.Setups.{shapes_made, no_maps_or_programs};
 
-use crate::asking::{NameTable, refused};
+use crate::asking::{map_named, refused};
 use crate::preparing::faults::{uncreated, undecoded, unverified};
 use arrayvec::ArrayVec;
 use bpf_model::{CTX_BYTES, EventRefusal, MAX_MAPS, MAX_PROGRAMS, MapShape, ProgId};
@@ -25,7 +25,6 @@ use world::{Loaded, World, WorldFault};
 #[derive(Drop)]
 pub struct Setup {
     registry: Registry,
-    names: NameTable,
     loaded: Vec<Loaded>,
 }
 
@@ -39,7 +38,7 @@ impl Model for Setup {
 
     ghost view = { λ s. record { registry = s.registry; programs = programs_in s.loaded.items } };
 
-    ghost invariant = { λ s. IsSetup s.names s.registry s.loaded.items };
+    ghost invariant = { λ s. IsSetup s.registry s.loaded.items };
 }
 
 /// The maps that a program is bound to: their numbers and shapes.
@@ -56,7 +55,6 @@ impl Setup {
     {
         Setup {
             registry: Registry::new(alloc),
-            names: NameTable::new(alloc),
             loaded: Vec::new(alloc),
         }
     }
@@ -69,7 +67,6 @@ impl Setup {
     /// `AllocError` where memory runs out; nothing has changed then.
     pub fn create(
         &mut self,
-        alloc: Global,
         name: &Name<'_>,
         shape: MapShape,
     ) -> Result<Reply<'static>, AllocError>
@@ -79,13 +76,9 @@ impl Setup {
         let Some(text) = name.text() else {
             return Ok(refused(MapFault::BadName.code()));
         };
-        self.names.add(alloc, name.bytes())?;
         match self.registry.create(text, shape) {
             Ok(map) => Ok(Reply::Map(map)),
-            Err(fault) => {
-                self.names.remove_last();
-                uncreated(fault)
-            }
+            Err(fault) => uncreated(fault),
         }
     }
 
@@ -109,7 +102,7 @@ impl Setup {
             let Some(name) = rest.next() else {
                 return Ok(Some(bound));
             };
-            let Some(map) = self.names.find(name.bytes()) else {
+            let Some(map) = map_named(&self.registry, name.bytes()) else {
                 return Ok(None);
             };
             let Some(shape) = self.registry.shape(map) else {
@@ -182,26 +175,21 @@ impl Setup {
         self.load_bound(alloc, ctx_len as usize, &bytes, bound)
     }
 
-    /// The names of the maps, each under its map's number, and the world of these maps and programs, in
-    /// which nothing has happened.
+    /// The world of these maps and programs, in which nothing has happened.
     ///
     /// # Errors
     ///
     /// `AllocError` where memory runs out: nothing else is refused.
-    pub fn seal(self, alloc: Global) -> Result<(NameTable, World), AllocError>
-        ensures names { IfOk result (λ r. r.0 ≡ self.registry.names) }
-        ensures world { IfOk result (λ r. r.1 ≡ start_view (shapes_made self) self.programs) }
+    pub fn seal(self, alloc: Global) -> Result<World, AllocError>
+        ensures world { IfOk result (λ w.
+            w ≡ start_view self.registry.names (shapes_made self) self.programs) }
         // The world tracks the machine's start.
-        ensures start { IfOk result (λ r.
-            TracksSchedule r.1 (start_schedule (shapes_made self) self.programs)) }
+        ensures start { IfOk result (λ w.
+            TracksSchedule w (start_schedule (shapes_made self) self.programs)) }
     {
-        let Setup {
-            registry,
-            names,
-            loaded,
-        } = self;
+        let Setup { registry, loaded } = self;
         match World::new(alloc, registry, loaded) {
-            Ok(world) => Ok((names, world)),
+            Ok(world) => Ok(world),
             Err(WorldFault::Memory) => Err(AllocError),
             Err(_) => unreachable!(),
         }

@@ -37,7 +37,7 @@ impl Model for Parts {
 
     ghost use Rattle.world.specs.Keeping.{world_of, IsKept};
 
-    ghost view = { λ p. world_of p.registry.maps p.runs.items p.grace p.programs.items p.given };
+    ghost view = { λ p. world_of p.registry.names p.registry.maps p.runs.items p.grace p.programs.items p.given };
 
     ghost invariant = { λ p. IsKept p.registry.maps p.runs.items p.grace p.programs.items };
 }
@@ -63,7 +63,7 @@ impl Parts {
     ) -> Result<Parts, AllocError>
         requires bound { AreProgramsBound (shapes_of_maps registry.maps) programs.items }
         ensures { IfOk result (λ w.
-            w ≡ unused_world registry.maps (programs_in programs.items)) }
+            w ≡ unused_world registry.names registry.maps (programs_in programs.items)) }
     {
         let runs = free_slots(alloc)?;
         Ok(Parts {
@@ -75,7 +75,7 @@ impl Parts {
         })
     }
 
-    /// Equal parts: the same maps, the same runs in the same run slots, the same flags
+    /// Equal parts: the same maps of the same names, the same runs in the same run slots, the same flags
     /// and programs. The error is that there is no memory left. Like the original it takes none later.
     pub fn copy(&self, alloc: Global) -> Result<Parts, AllocError>
         ensures same { IfOk result (λ w. w ≡ self.now) }
@@ -94,7 +94,8 @@ impl Parts {
 
     /// The maps, with their names.
     pub fn registry(&self) -> &Registry
-        ensures { result.now.maps ≡ self.now.maps }
+        ensures maps { result.now.maps ≡ self.now.maps }
+        ensures names { result.now.names ≡ self.now.names }
     {
         &self.registry
     }

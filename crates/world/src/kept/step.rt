@@ -27,8 +27,9 @@ fn step_run(
     grace: &mut Grace,
 ) -> Brief
     requires { MayTake loaded.now maps.old.maps grace.old run_slot run.old }
-    ensures { HasTaken loaded.now run_slot run.old run.new maps.old.maps maps.new.maps grace.old
+    ensures taken { HasTaken loaded.now run_slot run.old run.new maps.old.maps maps.new.maps grace.old
         grace.new (brief_answer result) }
+    ensures names { maps.new.names ≡ maps.old.names }
 {
     let _justified = loaded.verified.program();
     match run.local_step(&loaded.verified) {
@@ -51,8 +52,9 @@ fn step_slot(
     grace: &mut Grace,
 ) -> Brief
     requires { IsGoing runs.old.items programs.now.items maps.old.maps grace.old run_slot }
-    ensures { HasGone runs.old.items runs.new.items programs.now.items maps.old.maps maps.new.maps
+    ensures gone { HasGone runs.old.items runs.new.items programs.now.items maps.old.maps maps.new.maps
         grace.old grace.new run_slot (brief_answer result) }
+    ensures names { maps.new.names ≡ maps.old.names }
 {
     match &mut runs[run_slot.index()] {
         Some(run) => {

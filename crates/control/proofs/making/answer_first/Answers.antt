@@ -12,9 +12,8 @@ pub returns : goal.returns
 returns c =
     let a = c.in_ok-answer.ensures in
     let old = c.replace-made.ensures.value in
-    let names = c.in_ok-names.ensures.names ∙ ap (λ (s : SetupView). s.registry.names) old in
-    let world = c.in_ok-names.ensures.world ∙ ap (λ (s : SetupView). start_view (shapes_made s) s.programs) old in
-    let same : ◌≡◌ {A = Live} (record { names = c.in_ok-names.names; world = c.in_ok-names.world }) (sealed c.args.setup.now) = λ i. record { names = names i; world = world i } in
-    let first = subst (λ (s : SetupView). TracksSchedule c.in_ok-names.world (start_schedule (shapes_made s) s.programs)) old c.in_ok-names.ensures.start in
+    let world = c.in_ok-world.ensures.world ∙ ap (λ (s : SetupView). start_view s.registry.names (shapes_made s) s.programs) old in
+    let same : ◌≡◌ {A = Live} (record { world = c.in_ok-world.world }) (sealed c.args.setup.now) = λ i. record { world = world i } in
+    let first = subst (λ (s : SetupView). TracksSchedule c.in_ok-world.world (start_schedule (shapes_made s) s.programs)) old c.in_ok-world.ensures.start in
     let starts : TracksStart c.args.setup.now = subst (λ (w : WorldView). TracksSchedule w (start_schedule (shapes_made c.args.setup.now) c.args.setup.now.programs)) world first in
     (a.0, starts, subst (λ (l : Live). LiveReplies l c.args.command a.0 c.answer.new.self) same a.1, a.2)

@@ -3,7 +3,7 @@ use Rattle.std.specs.FinMap.{get}
 use Rattle.std.proofs.lemmas.Nat.{le_bytes_4}
 use Rattle.bpf_model.specs.MapState.{index_key}
 use Rattle.bpf_model.specs.View.{index_below}
-use Rattle.maps.proofs.Indices.{index-gets, index-past, index-long}
+use Rattle.model_laws.proofs.Indices.{index-gets, index-past, index-long}
 use Rattle.maps.proofs.index_key.index_of.Goals as goal
 
 pub returns-then-key-ne-INDEX_BYTES : goal.returns-then-key-ne-INDEX_BYTES

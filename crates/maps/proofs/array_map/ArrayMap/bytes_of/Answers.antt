@@ -5,7 +5,7 @@ use Rattle.bpf_model.specs.View.{MapView, index_below}
 use Rattle.element_arena.specs.Blocks.{block}
 use Rattle.view_laws.specs.Views.{value_shown, value_read}
 use Rattle.maps.specs.Arrays.{array_view}
-use Rattle.maps.proofs.Indices.{index-got}
+use Rattle.model_laws.proofs.Indices.{index-got}
 use Rattle.maps.proofs.Arrays.{room-at, value-at}
 use Rattle.maps.proofs.array_map.ArrayMap.bytes_of.Goals as goal
 

@@ -1,7 +1,7 @@
 use Rattle.std.proofs.Common.{ℕ, ◌∙◌, sym, ap}
 use Rattle.maps.specs.declared.counts.Counts.{Counts}
 use Rattle.maps.specs.Counting.{counts_of}
-use Rattle.maps.proofs.Indices.{len-index}
+use Rattle.model_laws.proofs.Indices.{len-index}
 use Rattle.maps.proofs.array_map.ArrayMap.counts.Goals as goal
 
 pub returns-clause-value : goal.returns-clause-value

@@ -5,7 +5,7 @@ use Rattle.bpf_model.specs.View.{MapView}
 use Rattle.element_arena.specs.Blocks.{block}
 use Rattle.maps.specs.Arrays.{array_view}
 use Rattle.maps.specs.Shown.{IsNext}
-use Rattle.maps.proofs.Indices.{index-gets}
+use Rattle.model_laws.proofs.Indices.{index-gets}
 use Rattle.maps.proofs.Arrays.{value-at}
 use Rattle.maps.proofs.array_map.ArrayMap.next_above.Goals as goal
 

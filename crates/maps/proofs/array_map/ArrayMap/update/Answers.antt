@@ -5,7 +5,7 @@ use Rattle.bpf_model.specs.Helper.{array_error}
 use Rattle.bpf_model.specs.View.{MapView, index_below}
 use Rattle.view_laws.specs.Views.{updated}
 use Rattle.maps.specs.Arrays.{array_view, IsArrayMap}
-use Rattle.maps.proofs.Indices.{index-got}
+use Rattle.model_laws.proofs.Indices.{index-got}
 use Rattle.maps.proofs.Arrays.{room-at, written-view, written-kept, array-updates}
 use Rattle.maps.proofs.array_map.ArrayMap.update.Goals as goal
 

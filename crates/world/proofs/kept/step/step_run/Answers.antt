@@ -28,18 +28,18 @@ resume-requires c =
           (subst (λ (l : List ℕ). IsReply c.in-Shared.request l c.args.maps.now.maps c.local_step.new.self.view c.serve-word.result) c.as_slice.ensures.value c.serve-word.ensures.word);
     }
 
-pub returns-in-Moved : goal.returns-in-Moved
-returns-in-Moved c =
+pub returns-in-Moved-clause-taken : goal.returns-in-Moved-clause-taken
+returns-in-Moved-clause-taken c =
     let can = c.requires.can c.program-justified.ensures.justified in
     moved_taken c.args.loaded.now c.args.maps.now.maps c.args.grace.now c.args.run_slot c.args.run.now can c.local_step.new.self (c.in-Moved.ensures.step can.step.insn can.step.here) c.in-Moved.ensures.run
 
-pub returns-in-Exit : goal.returns-in-Exit
-returns-in-Exit c =
+pub returns-in-Exit-clause-taken : goal.returns-in-Exit-clause-taken
+returns-in-Exit-clause-taken c =
     let can = c.requires.can c.program-justified.ensures.justified in
     exited_taken c.args.loaded.now c.args.maps.now.maps c.args.grace.now c.args.run_slot c.args.run.now can c.in-Exit.value c.local_step.new.self (c.in-Exit.ensures.step can.step.insn can.step.here) c.in-Exit.ensures.run
 
-pub returns-in-Shared : goal.returns-in-Shared
-returns-in-Shared c =
+pub returns-in-Shared-clause-taken : goal.returns-in-Shared-clause-taken
+returns-in-Shared-clause-taken c =
     let can = c.requires.can c.program-justified.ensures.justified in
     served_taken c.args.loaded.now c.args.maps.now.maps c.args.grace.now c.args.run_slot c.args.run.now can c.in-Shared.request c.local_step.new.self (c.in-Shared.ensures.step can.step.insn can.step.here)
     c.serve-word.result c.resume.new.self c.serve-word.new.maps.maps c.serve-word.new.grace

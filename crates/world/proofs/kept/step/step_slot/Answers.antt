@@ -27,8 +27,8 @@ unreachable-requires c =
     let here : c.index_mut.result.now ≡ Some run = found c.args.runs.now.items c.index.result c.args.run_slot (Some run) c.index_mut.result.now c.index_mut.ensures.value c.index.ensures c.requires.there in
     none-some run (sym c.in-None.is ∙ here)
 
-pub returns : goal.returns
-returns c =
+pub returns-in-Some-clause-gone : goal.returns-in-Some-clause-gone
+returns-in-Some-clause-gone c =
     let run = c.requires.run in
     let here : c.index_mut.result.now ≡ Some run = found c.args.runs.now.items c.index.result c.args.run_slot (Some run) c.index_mut.result.now c.index_mut.ensures.value c.index.ensures c.requires.there in
     let same : c.in-Some.run' ≡ run = same_Some c.in-Some.run' run (sym c.in-Some.is ∙ here) in
@@ -43,5 +43,5 @@ returns c =
       runs_are = ap (λ k. slice_set c.args.runs.now.items k (Some c.step_run.new.run)) c.index.ensures;
       taken =
           subst (λ (l : Loaded). HasTaken l c.args.run_slot run c.step_run.new.run c.args.maps.now.maps c.step_run.new.maps.maps c.args.grace.now c.step_run.new.grace (brief_answer c.step_run.result)) loaded
-          (subst (λ (x : RunWords). HasTaken c.index-loaded.result.now c.args.run_slot x c.step_run.new.run c.args.maps.now.maps c.step_run.new.maps.maps c.args.grace.now c.step_run.new.grace (brief_answer c.step_run.result)) same c.step_run.ensures);
+          (subst (λ (x : RunWords). HasTaken c.index-loaded.result.now c.args.run_slot x c.step_run.new.run c.args.maps.now.maps c.step_run.new.maps.maps c.args.grace.now c.step_run.new.grace (brief_answer c.step_run.result)) same c.step_run.ensures.taken);
     }

@@ -2,6 +2,7 @@ use Rattle.std.proofs.Common.{◌≡◌, ◌∙◌, List, [], ◌∷◌, ◌++�
 use Rattle.std.specs.Prelude.{OnOk, Ok, Err, slice_get}
 use Rattle.std.specs.List.{flat_map}
 use Rattle.bpf_model.specs.Event.{event_refusal_number}
+use Rattle.bpf_model.specs.View.{WorldView}
 use Rattle.script_lines.specs.declared.reply.Reply.{Reply}
 use Rattle.script_lines.specs.declared.reply.Reply.TheVariants as replies
 use Rattle.script_lines.specs.declared.reply.Reply.TheVariants.{End}
@@ -12,7 +13,7 @@ use Rattle.world.specs.Asking.{stat_of}
 use Rattle.control.specs.Lives.{IsReplied}
 use Rattle.control.specs.declared.driving.live.TheConstants.{SEALED}
 use Rattle.control.specs.Replies.{AreElements, overlong_refusal}
-use Rattle.control.proofs.Happening.{nothing, one_event, steps_happen}
+use Rattle.control.proofs.Happening.{nothing, one_event, steps_happen, names_stay}
 use Rattle.control.proofs.Replied.{replied, replied_once}
 use Rattle.control.proofs.driving.live.Live.answer_asked.Goals as goal
 
@@ -26,8 +27,10 @@ returns-in-Refused c =
 
 pub returns-in-Event : goal.returns-in-Event
 returns-in-Event c =
-    let told = reply_to c.args.self.now.names c.apply_into.new.answer in
-    replied_once c.args.self.now c.args.asked (asked.Event c.in-Event.event) (c.in-Event.event ∷ []) told told c.apply_into.new.self _ _ c.write_answer.result c.in-Event.is (one_event c.args.self.now.world c.in-Event.event c.apply_into.new.self c.is_world.ensures c.is_real.ensures c.apply_into.ensures.new) refl (refl, ap (λ a. reply_to c.args.self.now.names a ∷ []) c.apply_into.ensures.answer, c.apply_into.ensures.new) c.write_answer.ensures
+    let reply = reply_to c.args.self.now.world.names c.apply_into.new.answer in
+    let told = reply_to c.registry.result.now.names c.apply_into.new.answer in
+    let stay = c.registry.ensures.names ∙ ap (λ (w : WorldView). w.names) c.apply_into.ensures.new ∙ names_stay c.args.self.now.world (c.in-Event.event ∷ []) in
+    replied_once c.args.self.now c.args.asked (asked.Event c.in-Event.event) (c.in-Event.event ∷ []) told reply c.apply_into.new.self _ _ c.write_answer.result c.in-Event.is (one_event c.args.self.now.world c.in-Event.event c.apply_into.new.self c.is_world.ensures c.is_real.ensures c.apply_into.ensures.new) (ap (λ names. reply_to names c.apply_into.new.answer) stay) (refl, ap (λ a. reply_to c.args.self.now.world.names a ∷ []) c.apply_into.ensures.answer, c.apply_into.ensures.new) c.write_answer.ensures
 
 pub returns-in-Overlong : goal.returns-in-Overlong
 returns-in-Overlong c =
@@ -36,8 +39,10 @@ returns-in-Overlong c =
 
 pub returns-in-Steps : goal.returns-in-Steps
 returns-in-Steps c =
-    let told = reply_to c.args.self.now.names c.make_steps.new.answer in
-    replied_once c.args.self.now c.args.asked (asked.Steps c.in-Steps.run' c.in-Steps.count) c.make_steps.ensures.0 told told c.make_steps.new.world _ _ c.write_answer-in-Steps.result c.in-Steps.is (steps_happen c.args.self.now.world c.in-Steps.run' c.in-Steps.count c.make_steps.ensures.0 c.make_steps.new.answer c.make_steps.new.world c.is_world.ensures c.is_real-in-Steps.ensures c.make_steps.ensures.1) refl (c.make_steps.new.answer, c.make_steps.ensures.1, refl) c.write_answer-in-Steps.ensures
+    let reply = reply_to c.args.self.now.world.names c.make_steps.new.answer in
+    let told = reply_to c.registry-in-Steps.result.now.names c.make_steps.new.answer in
+    let stay = c.registry-in-Steps.ensures.names ∙ ap (λ (w : WorldView). w.names) c.make_steps.ensures.1.new_is ∙ names_stay c.args.self.now.world c.make_steps.ensures.0 in
+    replied_once c.args.self.now c.args.asked (asked.Steps c.in-Steps.run' c.in-Steps.count) c.make_steps.ensures.0 told reply c.make_steps.new.world _ _ c.write_answer-in-Steps.result c.in-Steps.is (steps_happen c.args.self.now.world c.in-Steps.run' c.in-Steps.count c.make_steps.ensures.0 c.make_steps.new.answer c.make_steps.new.world c.is_world.ensures c.is_real-in-Steps.ensures c.make_steps.ensures.1) (ap (λ names. reply_to names c.make_steps.new.answer) stay) (c.make_steps.new.answer, c.make_steps.ensures.1, refl) c.write_answer-in-Steps.ensures
 
 pub returns-in-Counts : goal.returns-in-Counts
 returns-in-Counts c =

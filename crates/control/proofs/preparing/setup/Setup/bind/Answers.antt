@@ -16,11 +16,11 @@ loop-preserved c =
     let name = c.in-Some.name in
     let maps = c.loop.bound.maps.items in
     let shapes = c.loop.bound.shapes.items in
-    let number = c.in-Some-find.map in
+    let number = c.in-Some-map_named.map in
     let shape = c.in-Some-shape.shape in
     let registry : c.self.inside.registry ≡ s.registry = ap (λ v. v.registry) c.self.view_is in
-    let names : c.self.inside.names ≡ s.registry.names = c.self.invariant.names_are ∙ ap (λ r. r.names) registry in
-    let found : slice_get s.registry.names number ≡ Some name = ap (λ n. slice_get n number) (sym names) ∙ (c.in-Some-find.ensures ∙ ap Some c.bytes.ensures) in
+    let names : c.self.inside.registry.names ≡ s.registry.names = ap (λ r. r.names) registry in
+    let found : slice_get s.registry.names number ≡ Some name = ap (λ n. slice_get n number) (sym names) ∙ (c.in-Some-map_named.ensures ∙ ap Some c.bytes.ensures) in
     let is : slice_get (shapes_of_maps s.registry.maps) number ≡ Some shape =
     slice_get-map (λ v. v.shape) s.registry.maps number ∙ (ap (λ r. option_map (λ (v : MapView). v.shape) (slice_get r.maps number)) (sym registry) ∙ sym c.in-Some-shape.ensures) in
     let pushed : c.push.new.self.items ≡ maps ++ number ∷ [] = c.push.ensures.items ∙ ap (λ n. maps ++ n ∷ []) c.index.ensures in

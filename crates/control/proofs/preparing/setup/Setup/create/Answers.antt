@@ -21,7 +21,6 @@ invariant_of-self-in-Ok c =
     let names = c.in-Ok.ensures.names in
     let maps = c.in-Ok.ensures.maps in
     record {
-      names_are = cc (c.in_ok-add.ensures.ok, names, c.bytes.ensures, c.in-Some.ensures.some, i.names_are);
       one_name_each = omega (arith, ap length names, ap length maps, length-append old.names (c.in-Some.text.now ∷ []), length-append old.maps (new_map_view shape ∷ []), i.one_name_each);
       new_maps = subst AreNewMaps (sym maps) (new-more old.maps shape i.new_maps);
       bound = subst (λ m. AreProgramsBound (shapes_of_maps m) c.self.inside.loaded.items) (sym maps) (bound-still old.maps (new_map_view shape) c.self.inside.loaded.items i.bound);

@@ -27,7 +27,6 @@ invariant_of-self-2 c =
     let maps : shapes_of_maps c.args.self.now.registry.maps ≡ shapes_of_maps c.self.inside.registry.maps = ap (λ s. shapes_of_maps s.registry.maps) (sym c.self.view_is) in
     let is = subst (λ x. IsBoundTo x c.args.bound.shapes.items c.args.bound.maps.items) maps c.requires.bound in
     record {
-      names_are = i.names_are;
       one_name_each = i.one_name_each;
       new_maps = i.new_maps;
       bound = subst (λ l. AreProgramsBound (shapes_of_maps c.self.inside.registry.maps) l) (sym items) (bound-more (shapes_of_maps c.self.inside.registry.maps) loaded (record { verified = c.in-Ok-verify.verified; maps = c.args.bound.maps }) i.bound (subst (λ x. IsBoundTo (shapes_of_maps c.self.inside.registry.maps) x c.args.bound.maps.items) (sym shapes) is));

@@ -10,4 +10,4 @@ returns-in-Ok-clause-start c =
     subst (λ s. TracksSchedule c.in-Ok.world (start_schedule (shapes_made s) s.programs)) c.self.view_is c.in-Ok.ensures.start
 
 pub returns-in-Ok-clause-world : goal.returns-in-Ok-clause-world
-returns-in-Ok-clause-world c = c.in-Ok.ensures.view ∙ ap (λ (s : SetupView). start_view (shapes_made s) s.programs) c.self.view_is
+returns-in-Ok-clause-world c = c.in-Ok.ensures.view ∙ ap (λ (s : SetupView). start_view s.registry.names (shapes_made s) s.programs) c.self.view_is

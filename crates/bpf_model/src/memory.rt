@@ -1,12 +1,11 @@
 //! Little-endian numbers in memory (RFC 9669, section 5.1; that memory is little-endian is this runtime's
 //! choice): the reads and writes of the frame, of a context and of an element's value.
-#![tactic(auto)]
 
 ghost use Rattle.std.specs.Prelude.{◌≡◌, ◌+◌, ◌<◌, ◌≤◌, length, slice_get, Some};
 ghost use Rattle.bpf_model.specs.Access.{byte_count, number_at};
 ghost use Rattle.bpf_model.specs.MachineStep.{with_bytes};
 
-use bpf_model::Width;
+use crate::opcode::Width;
 
 /// The number of so many bytes from an offset on, all of which are there.
 #[inline]

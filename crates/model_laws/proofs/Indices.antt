@@ -1,22 +1,28 @@
--- The indices of an array, by their keys.
-use Rattle.std.proofs.Common.{◌≡◌, ◌≢◌, ◌∙◌, ℕ, zero, suc, ◌<◌, ◌≤◌, ◌^◌, List, length, Some, None, inl, inr, sym, ap, arith}
-use Rattle.std.specs.Int.{w32, from_le_bytes}
-use Rattle.std.specs.FinMap.{get, insert, len, get-empty, len-empty}
+-- A key put into an index, and the indices of an array, by their keys.
+use Rattle.std.proofs.Common.{◌≡◌, ◌≢◌, ◌∙◌, ℕ, zero, suc, ◌+◌, ◌<◌, ◌≤◌, ◌^◌, List, length, Some, None, inl, inr, refl, sym, ap, arith}
+use Rattle.std.specs.Prelude.{is_some}
+use Rattle.std.specs.FinMap.{get, insert, len, get-empty, len-empty, get-insert, len-insert}
 use Rattle.std.specs.Ordering.{nat_cmp}
 use Rattle.std.specs.Cmp.Lexicographic.{slice_cmp}
-use Rattle.std.proofs.lemmas.Bool.{cases_eq}
-use Rattle.std.proofs.lemmas.Nat.{from_le_bytes-to_le_bytes_4}
+use Rattle.std.proofs.lemmas.Bool.{cases_eq, cond-true, cond-false}
+use Rattle.std.proofs.lemmas.Cmp.{nat_list_cmp_total}
 use Rattle.std.proofs.lemmas.Option.{none-some, same_Some}
 use Rattle.bpf_model.specs.declared.limits.TheConstants.{MAX_ENTRIES, INDEX_BYTES}
 use Rattle.bpf_model.specs.MapState.{index_key}
-use Rattle.bpf_model.specs.View.{index_below}
+use Rattle.bpf_model.specs.View.{KeyMap, index_below}
 use Rattle.bpf_model.proofs.Cases.{option_cases}
+use Rattle.bpf_model.proofs.Keys.{same-same_key, other-same_key}
 use Rattle.bpf_model.proofs.Lists.{key_cases}
-use Rattle.view_laws.proofs.Lists.{insert-same, insert-other, len-insert_new}
+use Rattle.model_laws.proofs.NewElements.{index-same}
 
--- Different indices have different keys.
-pub index-same : (i j : ℕ) → i < 2 ^ 32 → j < 2 ^ 32 → index_key i ≡ index_key j → i ≡ j
-index-same i j h g e = sym (from_le_bytes-to_le_bytes_4 i h) ∙ (ap (from_le_bytes w32) e ∙ from_le_bytes-to_le_bytes_4 j g)
+pub insert-same : (m : KeyMap) (key : List ℕ) (i : ℕ) → get (insert m key i) key ≡ Some i
+insert-same m key i = get-insert nat_list_cmp_total m key i key ∙ cond-true _ _ _ (same-same_key key key refl)
+
+pub insert-other : (m : KeyMap) (key : List ℕ) (i : ℕ) (q : List ℕ) → q ≢ key → get (insert m key i) q ≡ get m q
+insert-other m key i q ne = get-insert nat_list_cmp_total m key i q ∙ cond-false _ _ _ (other-same_key q key ne)
+
+pub len-insert_new : (m : KeyMap) (key : List ℕ) (i : ℕ) → get m key ≡ None → len (insert m key i) ≡ len m + 1
+len-insert_new m key i h = len-insert nat_list_cmp_total m key i ∙ cond-false _ _ _ (ap is_some h)
 
 -- a key of the index is that of an index below the limit
 pub index-got : (n : ℕ) (key : List ℕ) (i : ℕ) → get (index_below n) key ≡ Some i → (i < n) × (index_key i ≡ key)

@@ -1,6 +1,0 @@
-use Rattle.std.proofs.Common.{◌≡◌, ℕ, ◌<◌}
-use Rattle.std.specs.Prelude.{slice_get, Some}
-use Rattle.control.proofs.asking.name_table.NameTable.find.Given as goal
-
-abbrev pub invariant-loop-number : goal.invariant-loop-number
-invariant-loop-number l = (map : ℕ) → map < l.number → slice_get l.self map ≡ Some l.name → ⊥

@@ -1,0 +1,90 @@
+//! What is known of a register, in words.
+
+use bpf_model::FRAME_BYTES;
+use register_kinds::{ORIGIN, RegKind};
+use scalar_domain::Scalar;
+use std::io;
+use std::io::Write;
+
+/// The greatest power of two, 1 to 2^63, of which each of these numbers is a multiple.
+fn step_of(numbers: &Scalar) -> u64 {
+    1u64 << numbers.may.trailing_zeros().min(63)
+}
+
+/// Writes that numbers are multiples of some power of two, where they are.
+fn write_step<W: Write>(out: &mut W, numbers: &Scalar) -> io::Result<()> {
+    let step = step_of(numbers);
+    if step > 1 {
+        write!(out, ", a multiple of {step}")?;
+    }
+    Ok(())
+}
+
+/// Writes which numbers a register may hold.
+fn write_numbers<W: Write>(out: &mut W, numbers: &Scalar) -> io::Result<()> {
+    if numbers.least == numbers.greatest {
+        let number = numbers.least;
+        return write!(out, "the number {number}");
+    }
+    if numbers.least == 0 && numbers.greatest == u64::MAX {
+        write!(out, "any number")?;
+    } else {
+        let least = numbers.least;
+        let greatest = numbers.greatest;
+        write!(out, "a number from {least} to {greatest}")?;
+    }
+    write_step(out, numbers)
+}
+
+/// The offset that a number stands for.
+fn offset_of(number: u64) -> i64 {
+    number.wrapping_sub(ORIGIN) as i64
+}
+
+/// Writes at which offsets a reference may be.
+fn write_offsets<W: Write>(out: &mut W, offsets: &Scalar) -> io::Result<()> {
+    let least = offset_of(offsets.least);
+    if offsets.least == offsets.greatest {
+        return write!(out, ", at offset {least}");
+    }
+    let greatest = offset_of(offsets.greatest);
+    write!(out, ", at an offset from {least} to {greatest}")?;
+    write_step(out, offsets)
+}
+
+/// Writes where in the frame a reference is, from r10 on.
+fn write_place<W: Write>(out: &mut W, offset: i32) -> io::Result<()> {
+    let place = i64::from(offset) - FRAME_BYTES as i64;
+    if place < 0 {
+        write!(out, "the frame, at r10{place}")
+    } else {
+        write!(out, "the frame, at r10+{place}")
+    }
+}
+
+/// Writes what is known of a register.
+pub fn write_kind<W: Write>(out: &mut W, kind: &RegKind) -> io::Result<()> {
+    match kind {
+        RegKind::Unwritten => write!(out, "not written on every path"),
+        RegKind::Ended => write!(
+            out,
+            "on some path a reference to an element, whose section has ended"
+        ),
+        RegKind::Mixed => write!(out, "of different kinds on different paths"),
+        RegKind::Num(numbers) => write_numbers(out, numbers),
+        RegKind::Ctx(offsets) => {
+            write!(out, "the context")?;
+            write_offsets(out, offsets)
+        }
+        RegKind::Frame(offset) => write_place(out, *offset),
+        RegKind::Map(map) => write!(out, "map {map}"),
+        RegKind::Value { map, offset } => {
+            write!(out, "the value of an element of map {map}")?;
+            write_offsets(out, offset)
+        }
+        RegKind::MaybeNull { map, .. } => write!(
+            out,
+            "what a lookup in map {map} gave, which may be null"
+        ),
+    }
+}
