@@ -1,4 +1,3 @@
-pub mod JobLines
 pub mod Pooled
 pub mod Reading
 pub mod Texts

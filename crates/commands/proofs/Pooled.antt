@@ -1,33 +1,54 @@
 -- What a pool gives of a file's program.
-use Rattle.std.proofs.Common.{◌≡◌, ℕ, List, length, All, refl, subst, ◌∙◌, inr}
-use Rattle.std.proofs.lemmas.List.{length-map}
-use Rattle.std.proofs.lemmas.List.Elements.{All-map}
+use Rattle.std.proofs.Common.{◌≡◌, ◌≢◌, ◌⊎◌, ◌<◌, ◌++◌, ℕ, List, length, All, refl, ap, sym, subst, ◌∙◌, inl, inr, arith}
+use Rattle.std.specs.Prelude.{Option}
+use Rattle.std.specs.Io.KnownBytes.{Appends}
+use Rattle.std.proofs.KnownBytes.{Appends-trans}
 use Rattle.bpf_model.specs.declared.insn.Insn.{Insn}
 use Rattle.bpf_model.specs.View.{shapes_of_maps}
 use Rattle.program_graph.specs.GraphFlaws.{HasGoodGraph}
 use Rattle.typed_runs.specs.Verified.{IsVerified}
 use Rattle.job_queue.specs.declared.fault.PoolFault.{PoolFault}
-use Rattle.worker_pool.specs.declared.repeated.PoolRun.{PoolRun}
-use Rattle.worker_pool.specs.Outcomes.{IsFaultOf, IsOutcomeOf, IsReportOf}
+use Rattle.job_queue.specs.declared.fault.PoolFault.TheVariants.{BadWorkers, TooManyJobs, Memory, Lost}
+use Rattle.job_queue.specs.declared.pool.TheConstants.{MAX_JOBS, MAX_WORKERS}
+use Rattle.worker_pool.specs.Lines.{job_lines}
+use Rattle.worker_pool.specs.Outcomes.{IsFaultOf, IsOutcomeOf}
+use Rattle.worker_pool.specs.Runs.{WritesJobs}
 use Rattle.program_files.specs.declared.program_file.Source.{Source}
 use Rattle.program_files.specs.declared.verdict.Verdict.{Verdict}
+use Rattle.program_files.specs.declared.verdict.TheConstants.{MEMORY}
 use Rattle.program_files.specs.Checks.{content_with, IsSourceOf, IsVerifiedFile}
-use Rattle.commands.specs.Pools.{outcomes_of, ArePooled, IsPoolRefusal, IsPoolFaultVerdict}
-use Rattle.commands.proofs.JobLines.{outcome_of}
+use Rattle.commands.specs.declared.report.TheConstants.{LOST}
+use Rattle.commands.specs.Pools.{entries_line, IsPoolFaultVerdict, IsPoolRefusal, IsProgramOf, WritesPool}
 
-abbrev file_of : (bytes : List ℕ) (s : Source) → IsSourceOf bytes s → HasGoodGraph s.program → IsVerified s.program (shapes_of_maps s.registry.maps) s.ctx_len → IsVerifiedFile bytes s.program
+abbrev pub file_of : (bytes : List ℕ) (s : Source) → IsSourceOf bytes s → HasGoodGraph s.program → IsVerified s.program (shapes_of_maps s.registry.maps) s.ctx_len → IsVerifiedFile bytes s.program
 file_of bytes s is graph verified = record { content = content_with s; says = is.says; is = is.is; text_is = refl; graph = graph; verified = verified }
 
-pub pooled_of : (bytes : List ℕ) (s : Source) (program : List Insn) (context_len count : ℕ) (run : PoolRun) → IsSourceOf bytes s → HasGoodGraph s.program → IsVerified s.program (shapes_of_maps s.registry.maps) s.ctx_len → program ≡ s.program → context_len ≡ s.ctx_len → length run.report.jobs.items ≡ count → All (IsReportOf program context_len) run.report.jobs.items → ArePooled bytes count (outcomes_of run)
-pooled_of bytes s program context_len count run is graph verified same_program same_len number each =
-    let reports = run.report.jobs.items in
-    let of_source = subst (λ (n : ℕ). All (IsReportOf s.program n) reports) same_len (subst (λ (p : List Insn). All (IsReportOf p context_len) reports) same_program each) in
-    record {
-      program = s.program;
-      file = file_of bytes s is graph verified;
-      number = length-map reports outcome_of ∙ number;
-      each = All-map (IsOutcomeOf s.program s.ctx_len) outcome_of reports of_source;
-    }
+pub program_found : (bytes : List ℕ) (s : Source) (program : List Insn) (context_len : ℕ) → IsSourceOf bytes s → HasGoodGraph s.program → IsVerified s.program (shapes_of_maps s.registry.maps) s.ctx_len → program ≡ s.program → context_len ≡ s.ctx_len → IsProgramOf bytes program context_len
+program_found bytes s program context_len is graph verified same_program same_len =
+    let here : IsProgramOf bytes s.program context_len = record { file = file_of bytes s is graph verified; context = same_len } in
+    subst (λ (p : List Insn). IsProgramOf bytes p context_len) (sym same_program) here
 
-pub pool_told : (workers count : ℕ) (bytes : List ℕ) (s : Source) (f : PoolFault) (v : Verdict) → IsSourceOf bytes s → HasGoodGraph s.program → IsVerified s.program (shapes_of_maps s.registry.maps) s.ctx_len → IsFaultOf workers count f → IsPoolFaultVerdict f v → IsPoolRefusal workers count bytes v
-pool_told workers count bytes s f v is graph verified of told = inr (record { program = s.program; file = file_of bytes s is graph verified; fault = f; is = of; told = told })
+-- the lines of the jobs, and that of the entries
+pub pool_written : (bytes : List ℕ) (program : List Insn) (context_len count entries : ℕ) (old mid new : Option (List ℕ)) → IsProgramOf bytes program context_len → WritesJobs program context_len count old mid → Appends mid new (entries_line entries) → WritesPool count old new bytes
+pool_written bytes program context_len count entries old mid new found wrote last = (
+  wrote.outcomes,
+  entries,
+  record {
+    program = program;
+    file = found.file;
+    number = wrote.number;
+    each = subst (λ (n : ℕ). All (IsOutcomeOf program n) wrote.outcomes) found.context wrote.each;
+  },
+  Appends-trans old mid new (job_lines 0 wrote.outcomes) (entries_line entries) wrote.written last,
+)
+
+pub pool_told : (workers count : ℕ) (bytes : List ℕ) (program : List Insn) (context_len : ℕ) (f : PoolFault) (v : Verdict) → IsProgramOf bytes program context_len → IsFaultOf workers count f → IsPoolFaultVerdict f v → IsPoolRefusal workers count bytes v
+pool_told workers count bytes program context_len f v found fault told = inr (record { program = program; file = found.file; fault = f; is = fault; told = told })
+
+-- a fault whose status is not 3 is that a number is refused
+pub number_refused : (workers count status : ℕ) (f : PoolFault) (v : Verdict) → IsFaultOf workers count f → IsPoolFaultVerdict f v → (v.code ≡ MEMORY → status ≡ 3) → (v.code ≡ LOST → status ≡ 3) → status ≡ 1 → (workers ≡ 0) ⊎ (MAX_WORKERS < workers) ⊎ (MAX_JOBS < count)
+number_refused workers count status BadWorkers v (inl none) told memory lost one = inl none
+number_refused workers count status BadWorkers v (inr many) told memory lost one = inr (inl many)
+number_refused workers count status TooManyJobs v many told memory lost one = inr (inr many)
+number_refused workers count status Memory v fault told memory lost one = let three : status ≡ 3 = memory told.code in absurd (omega (arith, three, one))
+number_refused workers count status Lost v fault told memory lost one = let three : status ≡ 3 = lost told.code in absurd (omega (arith, three, one))

@@ -1,5 +1,5 @@
 -- What `pool` writes, of which files, and how it refuses the others.
-use Rattle.std.specs.Prelude.{◌≡◌, ◌≢◌, ◌⊎◌, ℕ, ◌+◌, List, [], ◌∷◌, ◌++◌, length, map, codes, All}
+use Rattle.std.specs.Prelude.{◌≡◌, ◌≢◌, ◌⊎◌, ℕ, List, ◌++◌, length, codes, All}
 use Rattle.std.specs.Prelude.{Option, None}
 use Rattle.std.specs.Fmt.{decimal}
 use Rattle.std.specs.Io.KnownBytes.{Appends}
@@ -7,35 +7,25 @@ use Rattle.bpf_model.specs.declared.insn.Insn.{Insn}
 use Rattle.job_queue.specs.declared.fault.PoolFault.{PoolFault}
 use Rattle.job_queue.specs.Faults.{pool_fault_number}
 use Rattle.worker_pool.specs.declared.job.Outcome.{Outcome}
-use Rattle.worker_pool.specs.declared.job.Outcome.TheVariants.{Exit, Stopped}
-use Rattle.worker_pool.specs.declared.repeated.PoolRun.{PoolRun}
-use Rattle.worker_pool.specs.Numbers.{stop_cause_number}
+use Rattle.worker_pool.specs.Lines.{job_lines}
 use Rattle.worker_pool.specs.Outcomes.{IsFaultOf, IsOutcomeOf}
 use Rattle.program_files.specs.declared.verdict.Verdict.{Verdict}
 use Rattle.program_files.specs.declared.verdict.TheConstants.{MEMORY}
 use Rattle.program_files.specs.Checks.{IsVerifiedFile, IsCheckedRefusal}
 use Rattle.commands.specs.declared.report.TheConstants.{LOST}
 
--- what is written of one job
-abbrev pub job_line : ℕ → Outcome → List ℕ
-job_line number (Exit value) =
-    codes "job " ++ (decimal number ++ (codes " exit " ++ (decimal value ++ codes "\n")))
-job_line number (Stopped run cause) =
-    codes "job " ++ (decimal number
-    ++ (codes " stopped " ++ (decimal (stop_cause_number cause) ++ codes "\n")))
-
--- the lines of jobs, numbered from this number on
-abbrev pub job_lines : ℕ → List Outcome → List ℕ
-job_lines number [] = []
-job_lines number (outcome ∷ outcomes) = job_line number outcome ++ job_lines (number + 1) outcomes
+-- how many entries the journal has
+abbrev pub entries_line : ℕ → List ℕ
+entries_line entries = codes "entries " ++ (decimal entries ++ codes "\n")
 
 -- a line for each job, and how many entries the journal has
 abbrev pub pool_text : List Outcome → ℕ → List ℕ
-pool_text outcomes entries =
-    job_lines 0 outcomes ++ (codes "entries " ++ (decimal entries ++ codes "\n"))
+pool_text outcomes entries = job_lines 0 outcomes ++ entries_line entries
 
-abbrev pub outcomes_of : PoolRun → List Outcome
-outcomes_of run = map (λ j. j.outcome) run.report.jobs.items
+-- The file says this program, which is verified with its maps and its context, of this length.
+pub record IsProgramOf (bytes : List ℕ) (program : List Insn) (context_len : ℕ) : Type 0 where
+  pub file : IsVerifiedFile bytes program
+  pub context : context_len ≡ file.content.ctx_len
 
 -- The file says a program that is verified with its maps and context. There is one outcome for each
 -- of so many jobs, and those that have exited have exited as the program may on zeros.

@@ -1,5 +1,5 @@
 -- The jobs that a pool is given, and what their outcomes say of the program.
-use Rattle.std.specs.Prelude.{◌≡◌, ◌⊎◌, ◌<◌, ℕ, List, replicate, ⊤}
+use Rattle.std.specs.Prelude.{◌≡◌, ◌⊎◌, ◌<◌, ℕ, List, [], ◌∷◌, map, replicate, All, ⊤}
 use Rattle.bpf_model.specs.declared.insn.Insn.{Insn}
 use Rattle.bpf_model.specs.Exit.{HasNoMaps}
 use Rattle.world_laws.specs.Exits.{MayExitAs, ExitsAs}
@@ -7,6 +7,7 @@ use Rattle.job_queue.specs.declared.fault.PoolFault.{PoolFault}
 use Rattle.job_queue.specs.declared.fault.PoolFault.TheVariants.{BadWorkers, TooManyJobs, Memory}
 use Rattle.job_queue.specs.declared.fault.PoolFault.TheVariants.{Lost}
 use Rattle.job_queue.specs.declared.pool.TheConstants.{MAX_JOBS, MAX_WORKERS}
+use Rattle.verifier.specs.Checked.{Checked}
 use Rattle.worker_pool.specs.declared.job.Job.{Job}
 use Rattle.worker_pool.specs.declared.job.JobReport.{JobReport}
 use Rattle.worker_pool.specs.declared.job.Outcome.{Outcome}
@@ -24,6 +25,12 @@ IsFaultOf workers count Lost = ⊤
 pub record IsZeroJob (context_len : ℕ) (job : Job) : Type 0 where
   pub prog : job.prog ≡ 0
   pub context : job.ctx.items ≡ replicate context_len 0
+
+-- There is this program alone, and each job is of it, on so many zeros.
+pub record AreRunsOf (program : List Insn) (context_len : ℕ) (programs : List Checked)
+    (jobs : List Job) : Type 0 where
+  pub only : map (λ p. p.program) programs ≡ program ∷ []
+  pub zeros : All (IsZeroJob context_len) jobs
 
 -- The program may exit with this value on a context of so many zeros; without map references it
 -- does, and with no other, whatever other runs do.

@@ -5,7 +5,9 @@
 //! Contracts say what is so of outcome and trail for the job's own program and context.
 #![tactic(auto)]
 
+mod fault;
 mod job;
+mod lines;
 mod pool;
 mod pooled;
 mod reading;
@@ -13,12 +15,13 @@ mod repeated;
 mod reply;
 mod zero_jobs;
 
+pub use fault::RunFault;
 pub use job::{Job, JobReport, Outcome, Report, StopCause, Trail};
 pub use job_queue::{MAX_JOBS, MAX_WORKERS, PoolFault, Serve};
 pub use pool::run_jobs;
 pub use pooled::Pooled;
 pub use reading::{Reading, run_read_jobs};
-pub use repeated::{PoolRun, run_program};
+pub use repeated::run_program;
 pub use shared::ProgramWithMaps;
 
 // A pool has as many workers as a shared world may have.

@@ -1,103 +1,151 @@
 //! One program, run many times over maps of its own.
-ghost use Rattle.std.specs.Prelude.{◌≡◌, ◌⊎◌, ◌≤◌, ◌<◌, ℕ, All, Err, length, vec_len, IfOk, IfErr};
+ghost use Rattle.std.specs.Prelude.{◌≡◌, ◌⊎◌, ◌≤◌, ◌<◌, ℕ, List, All, Err, length, IfErr, OnOk};
+ghost use Rattle.bpf_model.specs.declared.insn.Insn.{Insn};
 ghost use Rattle.bpf_model.specs.View.{AreNewMaps, shapes_of_maps};
 ghost use Rattle.job_queue.specs.declared.fault.PoolFault.TheVariants as faults;
 ghost use Rattle.job_queue.specs.declared.pool.TheConstants.{MAX_JOBS, MAX_WORKERS};
-ghost use Rattle.worker_pool.specs.Outcomes.{IsFaultOf, IsZeroJob, IsReportOf};
+ghost use Rattle.worker_pool.specs.Outcomes.{IsZeroJob, AreRunsOf};
+ghost use Rattle.worker_pool.specs.Runs.{IsLate, IsRunFaultOf, WritesJobs, WritesPart};
 
-use crate::job::{Job, Report, Trail};
+use crate::fault::RunFault;
+use crate::job::Job;
+use crate::lines::make_lines;
 use crate::pool::run_jobs;
 use crate::zero_jobs::jobs_of;
 use job_queue::{MAX_JOBS, MAX_WORKERS, PoolFault};
-use shared::{ProgramWithMaps, Shared};
+use shared::{ProgramWithMaps, Shared, Workers};
 use std::alloc::Global;
+use std::io::Write;
 use std::marker::Brand;
 use std::sync::Wait;
 use std::sync::ledger::{Blank, Ledger};
 use std::thread::Threads;
 
-/// What came of all jobs.
-#[derive(Debug, Drop)]
-pub struct PoolRun {
-    /// One outcome a job, in job order, each with its trail.
-    pub report: Report<Trail>,
-    /// How many entries the journal has.
-    pub entries: usize,
+/// How many jobs are served before their lines are written.
+const BLOCK: usize = 1_024;
+
+/// Serves so many jobs by all workers, each in a thread of its own: these jobs again and again, as one block after
+/// another. The lines of a block are written as soon as it is served.
+fn serve_blocks<L: Ledger + Send + Sync, R: Threads + Wait + Sync, W: Write>(
+    rt: &R,
+    alloc: Global,
+    jobs: &[Job],
+    count: usize,
+    shared: &Shared<L>,
+    workers: &mut Workers<L>,
+    out: &mut W,
+) -> Result<(), RunFault>
+    requires workers { (0 < length workers.old) × (length workers.old ≤ MAX_WORKERS) }
+    requires some { 0 < count → 0 < length jobs.now }
+    requires limit { (length jobs.now ≤ MAX_JOBS) × (count ≤ MAX_JOBS) }
+    ensures fault { IfErr result IsLate }
+    ensures written { (program : List Insn) (ctx_len : ℕ) →
+        AreRunsOf program ctx_len shared.now jobs.now
+        → OnOk result (WritesJobs program ctx_len count (W.contents out.old) (W.contents out.new)) }
+    ensures part { (program : List Insn) (ctx_len : ℕ) →
+        AreRunsOf program ctx_len shared.now jobs.now
+        → IfErr result (WritesPart program ctx_len count (W.contents out.old) (W.contents out.new)) }
+{
+    let threads = workers.list.len();
+    let mut text = Vec::new(alloc);
+    let mut first = 0;
+    while first < count {
+        let some = jobs.len().min(count - first);
+        let report = run_jobs(rt, alloc, &jobs[..some], threads, shared, workers)?;
+        make_lines(&mut text, first, &report.jobs)?;
+        out.write_all(&text)?;
+        out.flush()?;
+        first += some;
+    }
+    Ok(())
 }
 
-/// The jobs by so many workers, each in a thread of its own.
-fn run_shared<L: Ledger + Send + Sync, R: Threads + Wait + Sync>(
+/// So many jobs by so many workers. Answers how many entries the journal has.
+fn run_shared<L: Ledger + Send + Sync, R: Threads + Wait + Sync, W: Write>(
     rt: &R,
     alloc: Global,
     blank: Blank,
     program: ProgramWithMaps,
     workers: u8,
-    jobs: &[Job],
-) -> Result<PoolRun, PoolFault>
+    count: usize,
+    out: &mut W,
+) -> Result<usize, RunFault>
     requires new_maps { AreNewMaps program.registry.maps }
     requires shapes { program.verified.shapes ≡ shapes_of_maps program.registry.maps }
     requires workers { (0 < workers) × (workers ≤ MAX_WORKERS) }
-    requires jobs { length jobs.now ≤ MAX_JOBS }
+    requires count { count ≤ MAX_JOBS }
     requires name { blank.name ≡ L.name }
     requires parts { (blank.parts ≡ L.parts) × (blank.parts ≡ workers) }
-    ensures fault { IfErr result (λ f. (f ≡ faults.Memory) ⊎ (f ≡ faults.Lost)) }
-    ensures count { IfOk result (λ r. vec_len r.report.jobs ≡ length jobs.now) }
-    ensures outcomes { (ctx_len : ℕ) → All (IsZeroJob ctx_len) jobs.now →
-        IfOk result (λ r. All (IsReportOf program.verified.program ctx_len) r.report.jobs.items) }
+    ensures fault { IfErr result IsLate }
+    ensures written { OnOk result (WritesJobs program.verified.program program.verified.ctx_len count
+        (W.contents out.old) (W.contents out.new)) }
+    ensures part { IfErr result (WritesPart program.verified.program program.verified.ctx_len count
+        (W.contents out.old) (W.contents out.new)) }
 {
+    let Ok(jobs) = jobs_of(alloc, count.min(BLOCK), program.verified.ctx_len()) else {
+        return Err(RunFault::Pool(PoolFault::Memory));
+    };
     let shared = Shared::<L>::of_program(alloc, program, workers, blank);
     let Ok((shared, mut all_workers)) = shared else {
-        return Err(PoolFault::Memory);
+        return Err(RunFault::Pool(PoolFault::Memory));
     };
-    let report = match run_jobs(rt, alloc, jobs, workers as usize, &shared, &mut all_workers) {
-        Ok(report) => report,
-        Err(fault) => return Err(fault),
-    };
+    serve_blocks(rt, alloc, &jobs, count, &shared, &mut all_workers, out)?;
     let finished = shared.finish(all_workers);
-    Ok(PoolRun {
-        report,
-        entries: finished.journal.len(),
-    })
+    Ok(finished.journal.len())
 }
 
 /// Runs a program so many times by so many workers, on contexts of its length that are all zero,
 /// over its maps, which all runs share: new ones, of the shapes that the program was verified with.
+/// Writes a line for each job, in their order, on `out`: those of some jobs at a time, as soon as they
+/// are done, and flushes it. Answers how many entries the journal has.
 ///
 /// Errors: the first of these that holds.
-/// - `BadWorkers`: `workers` is not 1 to `MAX_WORKERS`.
-/// - `TooManyJobs`: `count` is above `MAX_JOBS`.
-/// - `Memory`: there is none for the world, the jobs or the results.
-/// - `Lost`: the result of a job is missing or double, or is of no job.
+/// - `Pool(BadWorkers)`: `workers` is not 1 to `MAX_WORKERS`. Nothing was written.
+/// - `Pool(TooManyJobs)`: `count` is above `MAX_JOBS`. Nothing was written.
+/// - `Pool(Memory)`: there is none for the world, the jobs, the results or their lines.
+/// - `Pool(Lost)`: the result of a job is missing or double, or is of no job.
+/// - `Write`: `out` failed. A part of the lines may have been written, and no clause says which.
+///
+/// The lines of some first jobs are written where memory runs out or a result is lost.
 ///
 /// That it returns is not claimed: each event waits for the lock.
-pub fn run_program<R: Threads + Wait + Sync>(
+pub fn run_program<R: Threads + Wait + Sync, W: Write>(
     rt: &R,
     alloc: Global,
     program: ProgramWithMaps,
     workers: u64,
     count: u64,
-) -> Result<PoolRun, PoolFault>
+    out: &mut W,
+) -> Result<usize, RunFault>
     requires new_maps { AreNewMaps program.registry.maps }
     requires shapes { program.verified.shapes ≡ shapes_of_maps program.registry.maps }
-    ensures bad_workers { (workers ≡ 0) ⊎ (MAX_WORKERS < workers) → result ≡ Err faults.BadWorkers }
+    ensures bad_workers { (workers ≡ 0) ⊎ (MAX_WORKERS < workers) →
+        result ≡ Err (RunFault.Pool faults.BadWorkers) }
     ensures too_many_jobs { 0 < workers → workers ≤ MAX_WORKERS → MAX_JOBS < count →
-        result ≡ Err faults.TooManyJobs }
-    ensures fault { IfErr result (IsFaultOf workers count) }
-    ensures count { IfOk result (λ r. vec_len r.report.jobs ≡ count) }
+        result ≡ Err (RunFault.Pool faults.TooManyJobs) }
+    ensures refused { (workers ≡ 0) ⊎ (MAX_WORKERS < workers) ⊎ (MAX_JOBS < count) →
+        out.new ≡ out.old }
+    ensures fault { IfErr result (IsRunFaultOf workers count) }
     // A job that has exited has exited with a value of the program's definition.
-    ensures outcomes { IfOk result (λ r.
-        All (IsReportOf program.verified.program program.verified.ctx_len)
-        r.report.jobs.items) }
+    ensures written { OnOk result (WritesJobs program.verified.program program.verified.ctx_len count
+        (W.contents out.old) (W.contents out.new)) }
+    ensures part { IfErr result (WritesPart program.verified.program program.verified.ctx_len count
+        (W.contents out.old) (W.contents out.new)) }
 {
     if workers == 0 || workers > MAX_WORKERS as u64 {
-        return Err(PoolFault::BadWorkers);
+        return Err(RunFault::Pool(PoolFault::BadWorkers));
     }
     if count > MAX_JOBS as u64 {
-        return Err(PoolFault::TooManyJobs);
+        return Err(RunFault::Pool(PoolFault::TooManyJobs));
     }
-    let Ok(jobs) = jobs_of(alloc, count as usize, program.verified.ctx_len()) else {
-        return Err(PoolFault::Memory);
-    };
     let blank = Blank::new(workers);
-    run_shared::<Brand, R>(rt, alloc, blank, program, workers as u8, &jobs)
+    run_shared::<Brand, R, W>(
+        rt,
+        alloc,
+        blank,
+        program,
+        workers as u8,
+        count as usize,
+        out,
+    )
 }

@@ -1,0 +1,51 @@
+-- What is written once a block of jobs more is served.
+use Rattle.std.proofs.Common.{◌≡◌, ℕ, ◌+◌, ◌≤◌, List, [], ◌++◌, length, map, take, All, refl, ap, sym, ◌∙◌, subst, length-append, arith}
+use Rattle.std.specs.Prelude.{Option}
+use Rattle.std.specs.Io.KnownBytes.{Appends}
+use Rattle.std.proofs.KnownBytes.{Appends-nil, Appends-trans}
+use Rattle.std.proofs.lemmas.List.{length-map}
+use Rattle.std.proofs.lemmas.List.Elements.{All-append, All-map, All-nil, All-take}
+use Rattle.bpf_model.specs.declared.insn.Insn.{Insn}
+use Rattle.job_queue.specs.Serving.{AreServed}
+use Rattle.shared.specs.Books.{WorkerView}
+use Rattle.verifier.specs.Checked.{Checked}
+use Rattle.worker_pool.specs.declared.fault.RunFault.{RunFault}
+use Rattle.worker_pool.specs.declared.fault.RunFault.TheVariants.{Pool, Write}
+use Rattle.worker_pool.specs.declared.job.Job.{Job}
+use Rattle.worker_pool.specs.declared.job.JobReport.{JobReport}
+use Rattle.worker_pool.specs.declared.job.Outcome.{Outcome}
+use Rattle.worker_pool.specs.declared.job.Trail.{Trail}
+use Rattle.worker_pool.specs.Lines.{job_lines, outcome_of}
+use Rattle.worker_pool.specs.Outcomes.{AreRunsOf, IsOutcomeOf, IsZeroJob}
+use Rattle.worker_pool.specs.Runs.{WritesJobs, WritesPart}
+use Rattle.worker_pool.specs.Trails.{IsServedJob}
+use Rattle.worker_pool.proofs.JobLines.{job_lines-append}
+use Rattle.worker_pool.proofs.Outcomes.{reports_of}
+
+-- no line is written of no job
+pub no_jobs : (program : List Insn) (len : ℕ) (known : Option (List ℕ)) → WritesJobs program len 0 known known
+no_jobs program len known = record { outcomes = []; number = refl; each = All-nil (IsOutcomeOf program len); written = Appends-nil known }
+
+pub nothing_written : (program : List Insn) (len count : ℕ) (known : Option (List ℕ)) (f : RunFault) → WritesPart program len count known known f
+nothing_written program len count known (Pool fault) = (0, omega arith, no_jobs program len known)
+nothing_written program len count known (Write e) = tt
+
+-- the lines of further reports are written behind those of the first jobs
+more_written : (program : List Insn) (len first : ℕ) (old mid new : Option (List ℕ)) (outcomes : List Outcome) → WritesJobs program len first old mid → All (IsOutcomeOf program len) outcomes → Appends mid new (job_lines first outcomes) → WritesJobs program len (first + length outcomes) old new
+more_written program len first old mid new outcomes w each wrote =
+    let number : length (w.outcomes ++ outcomes) ≡ first + length outcomes = omega (arith, length-append w.outcomes outcomes, w.number) in
+    let lines : job_lines 0 (w.outcomes ++ outcomes) ≡ job_lines 0 w.outcomes ++ job_lines first outcomes = job_lines-append 0 first w.outcomes outcomes (omega (arith, w.number)) in
+    record {
+      outcomes = w.outcomes ++ outcomes;
+      number = number;
+      each = All-append (IsOutcomeOf program len) w.outcomes outcomes w.each each;
+      written = subst (Appends old new) (sym lines) (Appends-trans old mid new (job_lines 0 w.outcomes) (job_lines first outcomes) w.written wrote);
+    }
+
+-- a block of some of the jobs is served, and the lines of its reports are written
+pub block_written : (programs : List Checked) (program : List Insn) (len first some : ℕ) (jobs block : List Job) (before after : List WorkerView) (reports : List (JobReport Trail)) (old mid new : Option (List ℕ)) → AreRunsOf program len programs jobs → block ≡ take some jobs → length block ≡ some → length reports ≡ length block → AreServed (IsServedJob programs) block before after reports → WritesJobs program len first old mid → Appends mid new (job_lines first (map outcome_of reports)) → WritesJobs program len (first + some) old new
+block_written programs program len first some jobs block before after reports old mid new of is number count served w wrote =
+    let zeros : All (IsZeroJob len) block = subst (All (IsZeroJob len)) (sym is) (All-take (IsZeroJob len) some jobs of.zeros) in
+    let each = All-map (IsOutcomeOf program len) outcome_of reports (reports_of programs program of.only len block before after reports count zeros served) in
+    let total : first + length (map outcome_of reports) ≡ first + some = omega (arith, length-map reports outcome_of, count, number) in
+    subst (λ (n : ℕ). WritesJobs program len n old new) total (more_written program len first old mid new (map outcome_of reports) w each wrote)
