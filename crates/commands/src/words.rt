@@ -107,7 +107,7 @@ share one world of the file's maps. Each job starts the program on a context of 
 and drops the run.
 
 Prints a line for each job in order, `job I exit V`, or `job I stopped C` where an event of the job was refused
-or not applied; then `entries N`, how many events the journal has.
+or not applied, those of 1,024 jobs as soon as these are done; then `entries N`, how many events the journal has.
 
 Status, and the line on standard error:
   0  all jobs are done; also where jobs stopped
@@ -117,6 +117,7 @@ Status, and the line on standard error:
   2  usage; so a WORKERS or COUNT that is no number, before FILE is read
   3  fault 13, 96, 97            out of memory; FILE or the output failed
      fault 92                    the result of a job was lost
+                                 (the lines of some jobs may have been printed)
 
 Example:
   $ bpfrt pool 4 examples/exit_one.bpf 2
