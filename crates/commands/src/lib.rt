@@ -8,6 +8,7 @@ mod report;
 mod request;
 mod running;
 mod script;
+mod single;
 mod streams;
 mod words;
 

@@ -29,6 +29,11 @@ pub enum Command {
         file: String,
         count: u64,
     },
+    /// Run the program in a file once on a context.
+    Run {
+        file: String,
+        context: Vec<u8>,
+    },
 }
 
 /// Why the words are no command.
@@ -74,7 +79,8 @@ impl Command {
             Command::Check { file }
             | Command::Disasm { file }
             | Command::Asm { file, .. }
-            | Command::Pool { file, .. } => Some(file.as_str()),
+            | Command::Pool { file, .. }
+            | Command::Run { file, .. } => Some(file.as_str()),
             Command::Script | Command::Version => None,
         }
     }

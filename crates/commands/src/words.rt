@@ -3,6 +3,7 @@
 use crate::request::{Command, UsageFault};
 use clap::error::ErrorKind;
 use clap::{Arg, ArgAction, ArgMatches};
+use hex::{FromHexError, decode};
 use std::alloc::{AllocError, Global};
 
 /// Behind the commands of `bpfrt --help`.
@@ -142,6 +143,41 @@ fn pool_grammar<'a>(alloc: Global) -> Result<clap::Command<'a>, AllocError> {
         .arg(number_argument(alloc, "COUNT", "how many jobs, 0 to 65536"))
 }
 
+/// Behind the arguments of `bpfrt run --help`.
+const RUN_HELP: &str = "\
+Reads a program file as `bpfrt check` does, verifies it, and then runs it once on the context CTX, to its exit,
+in a world of its own with the file's maps.
+
+Prints `exit V steps N`: the exit value, and how many steps the run has made, the exit among them.
+
+Status, and the line on standard error:
+  0  the run has exited
+  1  what `bpfrt check` says of FILE; then
+     refused 63                  CTX has another length than the file's context
+  2  usage; so a CTX that is no bytes, before FILE is read
+  3  fault 13, 96, 97            out of memory; FILE or the output failed
+     fault 92                    the exit of the run was lost
+
+Example:
+  $ bpfrt run examples/exit_one.bpf
+  exit 1 steps 2";
+
+/// The grammar of the words of `run`.
+fn run_grammar<'a>(alloc: Global) -> Result<clap::Command<'a>, AllocError> {
+    clap::Command::new(alloc, "run")
+        .about("Runs the program in FILE once")
+        .after_help(RUN_HELP)
+        .arg(file_argument(alloc))?
+        .arg(
+            Arg::new(alloc, "CTX")
+                .help(
+                    "the bytes of the context, two hexadecimal digits each; none where it is left out",
+                )
+                .allow_negative_numbers(true)
+                .action(ArgAction::Set),
+        )
+}
+
 /// The grammar of the words.
 fn grammar<'a>(alloc: Global) -> Result<clap::Command<'a>, AllocError> {
     let check = clap::Command::new(alloc, "check")
@@ -179,7 +215,8 @@ fn grammar<'a>(alloc: Global) -> Result<clap::Command<'a>, AllocError> {
         .subcommand(disasm)?
         .subcommand(asm)?
         .subcommand(script)?
-        .subcommand(pool_grammar(alloc)?)
+        .subcommand(pool_grammar(alloc)?)?
+        .subcommand(run_grammar(alloc)?)
 }
 
 /// The text without white space behind it, and with U+FFFD for each other control character, which could come
@@ -202,7 +239,7 @@ fn usage_fault(alloc: Global, text: Result<String, AllocError>) -> UsageFault {
 
 /// The command that the word names but for the case of its letters.
 fn command_in_other_case(word: &str) -> Option<&'static str> {
-    ["check", "disasm", "asm", "script", "pool"]
+    ["check", "disasm", "asm", "script", "pool", "run"]
         .into_iter()
         .find(|name| word.eq_ignore_ascii_case(name))
 }
@@ -264,12 +301,39 @@ For more information, try 'bpfrt pool --help'."
     }
 }
 
+/// The bytes that a word is: two hexadecimal digits each, in either case.
+fn bytes_of(alloc: Global, word: &str) -> Result<Vec<u8>, UsageFault> {
+    match decode(alloc, word) {
+        Ok(bytes) => Ok(bytes),
+        Err(FromHexError::OutOfMemory) => Err(UsageFault::Memory),
+        Err(_) => {
+            let text = format!(in alloc;
+                "\
+error: invalid value '{word}' for '[CTX]': it is no even number of hexadecimal digits
+
+Usage: bpfrt run <FILE> [CTX]
+
+For more information, try 'bpfrt run --help'."
+            );
+            Err(usage_fault(alloc, text))
+        }
+    }
+}
+
 /// The words of `pool`. They are judged before the file is read.
 fn pool_of(alloc: Global, matches: &ArgMatches<'_>) -> Result<Command, UsageFault> {
     Ok(Command::Pool {
         workers: number_at(alloc, matches, "WORKERS")?,
         file: file_of(alloc, matches)?,
         count: number_at(alloc, matches, "COUNT")?,
+    })
+}
+
+/// The words of `run`. They are judged before the file is read.
+fn run_of(alloc: Global, matches: &ArgMatches<'_>) -> Result<Command, UsageFault> {
+    Ok(Command::Run {
+        file: file_of(alloc, matches)?,
+        context: bytes_of(alloc, matches.get_str("CTX").unwrap_or(""))?,
     })
 }
 
@@ -295,6 +359,7 @@ pub fn parse_words<'a>(alloc: Global, words: &'a [String]) -> Result<Command, Us
         }),
         Some(("script", _)) => Ok(Command::Script),
         Some(("pool", matches)) => pool_of(alloc, matches),
+        Some(("run", matches)) => run_of(alloc, matches),
         _ => Err(UsageFault::Usage(String::from_str(alloc, "a command is missing")?)),
     }
 }

@@ -44,6 +44,13 @@ pub fn pool_of(alloc: Global, workers: u64, count: u64) -> Result<Command, Fail>
     })
 }
 
+/// `run` of a file on a context.
+pub fn run_of(alloc: Global, context: &[u8]) -> Result<Command, Fail> {
+    let file = String::from_str(alloc, "program")?;
+    let context = Vec::from_slice(alloc, context)?;
+    Ok(Command::Run { file, context })
+}
+
 /// What a command is to answer and to write.
 #[derive(Clone, Copy)]
 pub struct Wanted<'a> {

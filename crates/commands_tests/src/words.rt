@@ -22,7 +22,7 @@ fn asked(rt: &impl Abort, alloc: Global, texts: &[&str]) -> Result<Result<Comman
 }
 
 /// Words that are no command, and what is said of them. More have `checks/statuses_agree`.
-const NO_COMMANDS: [(&[&str], &[&str]); 4] = [
+const NO_COMMANDS: [(&[&str], &[&str]); 5] = [
     (&["bpfrt", "chekc", "a"], &["'chekc'", "'check'"]),
     (
         &["bpfrt", "pool", "01", "a", "1"],
@@ -33,6 +33,10 @@ const NO_COMMANDS: [(&[&str], &[&str]); 4] = [
         &["\u{FFFD}[31mfly\u{FFFD}"],
     ),
     (&["bpfrt", "pool", "--help"], &["refused 90", "entries 8"]),
+    (
+        &["bpfrt", "run", "a", "0aF"],
+        &["'0aF'", "[CTX]", "bpfrt run"],
+    ),
 ];
 
 /// The text has all these parts, and ends with its last line.
@@ -78,6 +82,11 @@ fn words_of_commands(rt: HostRuntime) -> Result<(), Fail> {
     };
     assert_eq!(rt; workers, 0);
     assert_eq!(rt; count, u64::MAX);
+    let run = asked(&rt, alloc, &["bpfrt", "run", "d.bpf", "00aBfF"])?;
+    let Ok(Command::Run { context, .. }) = run else {
+        return Err(Fail::from("no run"));
+    };
+    assert_eq!(rt; context.as_slice(), [0x00, 0xab, 0xff].as_slice());
     let mut err: Vec<u8> = Vec::new(alloc);
     assert_eq!(rt; no_command(&mut err, &UsageFault::NotText), 2);
     assert_eq!(rt; no_command(&mut err, &UsageFault::Memory), 3);
