@@ -1,4 +1,5 @@
 pub mod JobLines
 pub mod Pooled
+pub mod Ran
 pub mod Reading
 pub mod Texts
