@@ -17,10 +17,11 @@ Writes (Asm file whole) old new bytes = WritesCode whole old new bytes
 Writes Script old new bytes = AnswersAll old new bytes
 Writes Version old new bytes = Appends old new (codes "bpfrt 0.1.0\n")
 Writes (Pool workers file count) old new bytes = WritesPool count old new bytes
-Writes (Run file context) old new bytes = WritesRun context.items old new bytes
+Writes (Run file single) old new bytes = WritesRun single old new bytes
 
--- What is so where a command refuses: its file, its numbers or its context are refused; or a line
--- of the script is bad, and the answers to the lines before are written. The version is not refused.
+-- What is so where a command refuses: its file, its numbers, its context or its elements are
+-- refused; or a line of the script is bad, and the answers to the lines before are written. The
+-- version is not refused.
 abbrev pub Refuses : Command → Option (List ℕ) → Option (List ℕ) → List ℕ → Type 0
 Refuses (Check file) old new bytes = IsRefusedByCheck bytes
 Refuses (Disasm file) old new bytes = IsRefusedByDecode bytes
@@ -28,7 +29,7 @@ Refuses (Asm file whole) old new bytes = IsRefusedByAsm bytes
 Refuses Script old new bytes = AnswersBefore old new bytes
 Refuses Version old new bytes = ⊥
 Refuses (Pool workers file count) old new bytes = IsRefusedByPool workers count bytes
-Refuses (Run file context) old new bytes = IsRefusedByRun context.items bytes
+Refuses (Run file single) old new bytes = IsRefusedByRun single bytes
 
 -- the command's input is a file
 abbrev pub ReadsFile : Command → Type 0
@@ -38,4 +39,4 @@ ReadsFile (Asm file whole) = ⊤
 ReadsFile Script = ⊥
 ReadsFile Version = ⊥
 ReadsFile (Pool workers file count) = ⊤
-ReadsFile (Run file context) = ⊤
+ReadsFile (Run file single) = ⊤

@@ -14,6 +14,9 @@ use worker_pool::PoolFault;
 /// The number of a context of another length than the program's.
 pub const BAD_CONTEXT: u8 = 63;
 
+/// The number of an element that its map has no place for.
+pub const NO_PLACE: u8 = 98;
+
 /// The number of a job's result that is lost.
 pub const LOST: u8 = 92;
 

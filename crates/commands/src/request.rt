@@ -3,6 +3,23 @@
 use std::alloc::{AllocError, AllocFailed};
 use thiserror::Error;
 
+/// An element that is put into the map of a name.
+#[derive(Debug, Drop)]
+pub struct MapElement {
+    pub map: String,
+    pub key: Vec<u8>,
+    pub value: Vec<u8>,
+}
+
+/// What one run is made on: its context, and the elements that are put into its maps before; and whether
+/// the maps' elements are written behind it.
+#[derive(Debug, Drop)]
+pub struct SingleRun {
+    pub context: Vec<u8>,
+    pub elements: Vec<MapElement>,
+    pub dump: bool,
+}
+
 /// What the program is asked to do.
 #[derive(Debug, Drop)]
 pub enum Command {
@@ -29,10 +46,10 @@ pub enum Command {
         file: String,
         count: u64,
     },
-    /// Run the program in a file once on a context.
+    /// Run the program in a file once by itself.
     Run {
         file: String,
-        context: Vec<u8>,
+        single: SingleRun,
     },
 }
 

@@ -113,6 +113,6 @@ pub fn run<H: Threads + Wait + Sync, R: Read, W: Write, E: Write>(
             };
             run_pool(rt, alloc, size, input, out, err)
         }
-        Command::Run { context, .. } => run_single(alloc, context, input, out, err),
+        Command::Run { single, .. } => run_single(alloc, single, input, out, err),
     }
 }

@@ -92,7 +92,7 @@ fn readers(rt: HostRuntime) -> Result<(), Fail> {
     let alloc = rt.alloc();
     let (check, disasm) = (command_of(alloc, false)?, command_of(alloc, true)?);
     let (script, pool) = (Command::Script, pool_of(alloc, 1, 1)?);
-    let single = run_of(alloc, b"")?;
+    let single = run_of(alloc, b"", &[], true)?;
     let answered = Wanted {
         status: 3,
         out: b"ok\nnone\n",
@@ -135,7 +135,7 @@ fn writers(rt: HostRuntime) -> Result<(), Fail> {
     let alloc = rt.alloc();
     let check = command_of(alloc, false)?;
     let (script, pool) = (Command::Script, pool_of(alloc, 1, 1)?);
-    let single = run_of(alloc, b"")?;
+    let single = run_of(alloc, b"", &[], true)?;
     let rows: [(&Command, &[u8], Taking, u64, u8); 9] = [
         (&check, &EXIT_ONE, Taking::Failing, 1, 3),
         (&pool, &EXIT_ONE, Taking::Failing, 1, 3),
