@@ -1,8 +1,8 @@
 -- What `run` writes, of which files, contexts and elements, and how it refuses the others.
 use Rattle.std.specs.Prelude.{◌≡◌, ◌≢◌, ◌⊎◌, ℕ, List, [], ◌∷◌, ◌++◌, length, map, All, codes, Bool}
 use Rattle.std.specs.Prelude.{true, false, Option, Some, None, slice_get, option_and_then, unwrap_or}
-use Rattle.std.specs.Prelude.{string_bytes, bytes_eq}
-use Rattle.std.specs.List.{flat_map, position}
+use Rattle.std.specs.Prelude.{option_map, string_bytes, bytes_eq, position}
+use Rattle.std.specs.List.{flat_map}
 use Rattle.std.specs.Fmt.{decimal}
 use Rattle.std.specs.Io.KnownBytes.{Appends}
 use Rattle.bpf_model.specs.declared.event.Event.{Event}
@@ -35,7 +35,8 @@ map_named maps name = position (bytes_eq name) maps.names
 
 abbrev pub shape_named : RegistryView → List ℕ → Option MapShape
 shape_named maps name =
-    option_and_then (λ number. slice_get (shapes_of_maps maps.maps) number) (map_named maps name)
+    option_and_then (λ number. option_map (λ m. m.shape) (slice_get maps.maps number))
+    (map_named maps name)
 
 -- the first test of an update that the element fails: of its map, then of its lengths
 abbrev pub element_refusal : RegistryView → MapElement → Option EventRefusal
@@ -51,10 +52,10 @@ put_event maps e =
 
 -- The program's one run comes to this end, in a world of new maps of the file's shapes into which
 -- the elements were put first, one after another.
-abbrev pub RunsTo : SingleRun → FileContent → List Insn → RunEnd → WorldView → Type 0
-RunsTo single content program end last =
+abbrev pub RunComesTo : SingleRun → FileContent → List Insn → RunEnd → WorldView → Type 0
+RunComesTo single content program outcome last =
     ComesTo (shapes_of_maps content.registry.maps) program
-    (map (put_event content.registry) single.elements.items) single.context.items end last
+    (map (put_event content.registry) single.elements.items) single.context.items outcome last
 
 -- The file says a program that is verified with its maps and context, the context has the length
 -- that the file tells, each element has a map of the file and its lengths, and the program's one
@@ -65,7 +66,7 @@ pub record HasEnded (bytes : List ℕ) (single : SingleRun) (e : Ended) (last : 
   pub file : IsVerifiedFile bytes program
   pub len : length single.context.items ≡ file.content.ctx_len
   pub fit : All (λ m. element_refusal file.content.registry m ≡ None) single.elements.items
-  pub runs : RunsTo single file.content program (Exited e) last
+  pub runs : RunComesTo single file.content program (Exited e) last
 
 -- what `run` says of a run that exits with the value by its n-th step
 abbrev pub ended_line : ℕ → ℕ → List ℕ
@@ -110,7 +111,7 @@ IsRunFault single content program number =
     ⊎ (((r : EventRefusal) × HasBadElement content.registry single.elements.items r
     × (number ≡ event_refusal_number r))
     ⊎ ((number ≡ NO_PLACE)
-    × ((k : ℕ) × (last : WorldView) × RunsTo single content program (NotDone k) last)))
+    × ((k : ℕ) × (last : WorldView) × RunComesTo single content program (NotDone k) last)))
 
 -- The file says a program that is verified with its maps and context, and its run has a fault.
 pub record IsRunVerdict (single : SingleRun) (bytes : List ℕ) (v : Verdict) : Type 0 where

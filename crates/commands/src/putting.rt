@@ -24,10 +24,13 @@ fn put_of(registry: &Registry, element: &MapElement) -> Result<Event, EventRefus
     let Some(shape) = registry.shape(map) else {
         return Err(EventRefusal::NoMap);
     };
-    if element.key.len() != shape.key_len || element.value.len() != shape.value_len {
+    registry.have_shapes();
+    if element.key.len() != shape.key_len {
         return Err(EventRefusal::BadLength);
     }
-    registry.have_shapes();
+    if element.value.len() != shape.value_len {
+        return Err(EventRefusal::BadLength);
+    }
     Ok(Event::Update {
         map,
         key: array_of(&element.key),

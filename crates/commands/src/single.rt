@@ -42,7 +42,7 @@ fn run_of(alloc: Global, file: &FileBytes, single: &SingleRun) -> Result<Exited,
     let Ok(ran) = run_once(alloc, verified, registry, puts, context) else {
         return Err(plain_verdict(MEMORY));
     };
-    match ran.end {
+    match ran.outcome {
         RunEnd::Exited(ended) => Ok(Exited {
             ended,
             world: ran.world,

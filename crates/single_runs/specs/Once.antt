@@ -63,7 +63,7 @@ IsEnd before given Lost = ⊤
 -- One run comes to this end, with these updates before it, and leaves the maps as this world has
 -- them.
 pub record ComesTo (shapes : List MapShape) (program : List Insn) (before : List Event)
-    (context : List ℕ) (end : RunEnd) (last : WorldView) : Type 0 where
+    (context : List ℕ) (outcome : RunEnd) (last : WorldView) : Type 0 where
   pub given : List Answer
   pub runs : RunsOnce shapes program before context given last
-  pub is : IsEnd (length before) given end
+  pub is : IsEnd (length before) given outcome

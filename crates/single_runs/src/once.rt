@@ -35,7 +35,7 @@ pub enum RunEnd {
 /// What one run has come to, and the world behind it.
 #[derive(Drop)]
 pub struct Ran {
-    pub end: RunEnd,
+    pub outcome: RunEnd,
     pub world: World,
 }
 
@@ -79,7 +79,8 @@ fn is_done(answer: &Answer) -> bool
     ensures { IsTrue result ↔ (answer.now ≡ done) }
 {
     match answer {
-        Answer::Ret(ret) => ret.is_ok(),
+        Answer::Ret(Ok(())) => true,
+        Answer::Ret(Err(_)) => false,
         _ => false,
     }
 }
@@ -146,7 +147,7 @@ pub fn run_once(
     requires shapes { verified.shapes ≡ shapes_of_maps registry.maps }
     requires context { length context.items ≡ verified.ctx_len }
     ensures { IfOk result (λ r. ComesTo (shapes_of_maps registry.maps) verified.program
-        before.items context.items r.end r.world) }
+        before.items context.items r.outcome r.world) }
 {
     let count = verified.program().len();
     let maps = all_maps(verified.shapes().len());
@@ -158,6 +159,6 @@ pub fn run_once(
     let updates = before.len();
     let events = events_of(before, context, count)?;
     let answers = world.run_all(alloc, &events)?;
-    let end = end_of(&answers, updates);
-    Ok(Ran { end, world })
+    let outcome = end_of(&answers, updates);
+    Ok(Ran { outcome, world })
 }

@@ -63,7 +63,7 @@ fn ran(alloc: Global, byte: u8, puts: &[(u8, u8)]) -> Result<(RunEnd, u8), Fail>
     let ran = run_once(alloc, verified, registry, before, context)?;
     let first = array_of(&[0, 0, 0, 0]);
     match ran.world.next_above(MapId::new(0), Some(&first)) {
-        Some((_, value)) if !value.is_empty() => Ok((ran.end, value[0])),
+        Some((_, value)) if !value.is_empty() => Ok((ran.outcome, value[0])),
         _ => Err(Fail::from("no element")),
     }
 }
