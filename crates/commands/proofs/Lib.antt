@@ -1,4 +1,7 @@
+pub mod Dumped
 pub mod JobLines
 pub mod Pooled
+pub mod Putting
+pub mod Ran
 pub mod Reading
 pub mod Texts

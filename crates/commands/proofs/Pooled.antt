@@ -15,7 +15,7 @@ use Rattle.program_files.specs.Checks.{content_with, IsSourceOf, IsVerifiedFile}
 use Rattle.commands.specs.Pools.{outcomes_of, ArePooled, IsPoolRefusal, IsPoolFaultVerdict}
 use Rattle.commands.proofs.JobLines.{outcome_of}
 
-abbrev file_of : (bytes : List ℕ) (s : Source) → IsSourceOf bytes s → HasGoodGraph s.program → IsVerified s.program (shapes_of_maps s.registry.maps) s.ctx_len → IsVerifiedFile bytes s.program
+abbrev pub file_of : (bytes : List ℕ) (s : Source) → IsSourceOf bytes s → HasGoodGraph s.program → IsVerified s.program (shapes_of_maps s.registry.maps) s.ctx_len → IsVerifiedFile bytes s.program
 file_of bytes s is graph verified = record { content = content_with s; says = is.says; is = is.is; text_is = refl; graph = graph; verified = verified }
 
 pub pooled_of : (bytes : List ℕ) (s : Source) (program : List Insn) (context_len count : ℕ) (run : PoolRun) → IsSourceOf bytes s → HasGoodGraph s.program → IsVerified s.program (shapes_of_maps s.registry.maps) s.ctx_len → program ≡ s.program → context_len ≡ s.ctx_len → length run.report.jobs.items ≡ count → All (IsReportOf program context_len) run.report.jobs.items → ArePooled bytes count (outcomes_of run)

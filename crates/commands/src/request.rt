@@ -3,6 +3,23 @@
 use std::alloc::{AllocError, AllocFailed};
 use thiserror::Error;
 
+/// An element that is put into the map of a name.
+#[derive(Debug, Drop)]
+pub struct MapElement {
+    pub map: String,
+    pub key: Vec<u8>,
+    pub value: Vec<u8>,
+}
+
+/// What one run is made on: its context, and the elements that are put into its maps before; and whether
+/// the maps' elements are written behind it.
+#[derive(Debug, Drop)]
+pub struct SingleRun {
+    pub context: Vec<u8>,
+    pub elements: Vec<MapElement>,
+    pub dump: bool,
+}
+
 /// What the program is asked to do.
 #[derive(Debug, Drop)]
 pub enum Command {
@@ -28,6 +45,11 @@ pub enum Command {
         workers: u64,
         file: String,
         count: u64,
+    },
+    /// Run the program in a file once by itself.
+    Run {
+        file: String,
+        single: SingleRun,
     },
 }
 
@@ -74,7 +96,8 @@ impl Command {
             Command::Check { file }
             | Command::Disasm { file }
             | Command::Asm { file, .. }
-            | Command::Pool { file, .. } => Some(file.as_str()),
+            | Command::Pool { file, .. }
+            | Command::Run { file, .. } => Some(file.as_str()),
             Command::Script | Command::Version => None,
         }
     }

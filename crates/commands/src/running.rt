@@ -9,6 +9,7 @@ use crate::pool::{PoolSize, run_pool};
 use crate::report::refused;
 use crate::request::Command;
 use crate::script::run_lines;
+use crate::single::run_single;
 use crate::streams::{unread, write_text, written};
 use program_files::{Accepted, check, read_file, text_of};
 use std::alloc::Global;
@@ -112,5 +113,6 @@ pub fn run<H: Threads + Wait + Sync, R: Read, W: Write, E: Write>(
             };
             run_pool(rt, alloc, size, input, out, err)
         }
+        Command::Run { single, .. } => run_single(alloc, single, input, out, err),
     }
 }

@@ -1,8 +1,9 @@
 //! The words of the command line.
 
-use crate::request::{Command, UsageFault};
+use crate::request::{Command, MapElement, SingleRun, UsageFault};
 use clap::error::ErrorKind;
 use clap::{Arg, ArgAction, ArgMatches};
+use hex::{FromHexError, decode};
 use std::alloc::{AllocError, Global};
 
 /// Behind the commands of `bpfrt --help`.
@@ -142,6 +143,64 @@ fn pool_grammar<'a>(alloc: Global) -> Result<clap::Command<'a>, AllocError> {
         .arg(number_argument(alloc, "COUNT", "how many jobs, 0 to 65536"))
 }
 
+/// Behind the arguments of `bpfrt run --help`.
+const RUN_HELP: &str = "\
+Reads a program file as `bpfrt check` does, verifies it, and then runs it once on the context CTX, to its exit,
+in a world of its own with the file's maps. They are new, but for what --map puts in. Bytes are two hexadecimal
+digits each. Options stand behind FILE and CTX.
+
+Prints `exit V steps N`: the exit value, and how many steps the run has made, the exit among them; with --dump
+then for each map of the file `KEY VALUE` for each element, in the order of the keys' bytes, and `end`.
+
+Status, and the line on standard error:
+  0  the run has exited
+  1  what `bpfrt check` says of FILE; then the first of
+     refused 63                  CTX has another length than the file's context
+     refused 65, refused 66      NAME is no map of the file; KEY or VALUE has another length than its map's
+     refused 98                  the map has no place for the element
+  2  usage; so bytes that are none, before FILE is read
+  3  fault 13, 96, 97            out of memory; FILE or the output failed
+     fault 92                    the exit of the run was lost
+
+Example:
+  $ bpfrt run examples/lookup_and_load.bpfrt --map m 00000000=2a00000000000000 --dump
+  exit 42 steps 12
+  00000000 2a00000000000000
+  end";
+
+/// How `run` is used, and how its option `--map` is shown.
+const RUN_USAGE: &str = "Usage: bpfrt run [OPTIONS] <FILE> [CTX]";
+
+const MAP_OPTION: &str = "--map <NAME> <KEY=VALUE>...";
+
+/// The grammar of the words of `run`.
+fn run_grammar<'a>(alloc: Global) -> Result<clap::Command<'a>, AllocError> {
+    clap::Command::new(alloc, "run")
+        .about("Runs the program in FILE once")
+        .after_help(RUN_HELP)
+        .arg(file_argument(alloc))?
+        .arg(
+            Arg::new(alloc, "CTX")
+                .help("the bytes of the context; none where it is left out")
+                .allow_negative_numbers(true)
+                .action(ArgAction::Set),
+        )?
+        .arg(
+            Arg::new(alloc, "map")
+                .long("map")
+                .help("put these elements into the file's map NAME before the run")
+                .value_names(&["NAME", "KEY=VALUE"])
+                .num_args(2..)
+                .action(ArgAction::Append),
+        )?
+        .arg(
+            Arg::new(alloc, "dump")
+                .long("dump")
+                .help("print the elements of the file's maps behind the exit")
+                .action(ArgAction::SetTrue),
+        )
+}
+
 /// The grammar of the words.
 fn grammar<'a>(alloc: Global) -> Result<clap::Command<'a>, AllocError> {
     let check = clap::Command::new(alloc, "check")
@@ -179,7 +238,8 @@ fn grammar<'a>(alloc: Global) -> Result<clap::Command<'a>, AllocError> {
         .subcommand(disasm)?
         .subcommand(asm)?
         .subcommand(script)?
-        .subcommand(pool_grammar(alloc)?)
+        .subcommand(pool_grammar(alloc)?)?
+        .subcommand(run_grammar(alloc)?)
 }
 
 /// The text without white space behind it, and with U+FFFD for each other control character, which could come
@@ -202,7 +262,7 @@ fn usage_fault(alloc: Global, text: Result<String, AllocError>) -> UsageFault {
 
 /// The command that the word names but for the case of its letters.
 fn command_in_other_case(word: &str) -> Option<&'static str> {
-    ["check", "disasm", "asm", "script", "pool"]
+    ["check", "disasm", "asm", "script", "pool", "run"]
         .into_iter()
         .find(|name| word.eq_ignore_ascii_case(name))
 }
@@ -264,12 +324,105 @@ For more information, try 'bpfrt pool --help'."
     }
 }
 
+/// The fault of a word of `run` that is no value of an argument.
+fn bad_value(alloc: Global, word: &str, argument: &str, why: &str) -> UsageFault {
+    let text = format!(in alloc;
+        "\
+error: invalid value '{word}' for '{argument}': {why}
+
+{RUN_USAGE}
+
+For more information, try 'bpfrt run --help'."
+    );
+    usage_fault(alloc, text)
+}
+
+/// The bytes that a word is, two hexadecimal digits each, in either case.
+fn bytes_of(alloc: Global, word: &str) -> Result<Option<Vec<u8>>, UsageFault> {
+    match decode(alloc, word) {
+        Ok(bytes) => Ok(Some(bytes)),
+        Err(FromHexError::OutOfMemory) => Err(UsageFault::Memory),
+        Err(_) => Ok(None),
+    }
+}
+
+/// The context that the words of `run` tell.
+fn context_of(alloc: Global, matches: &ArgMatches<'_>) -> Result<Vec<u8>, UsageFault> {
+    let word = matches.get_str("CTX").unwrap_or("");
+    match bytes_of(alloc, word)? {
+        Some(bytes) => Ok(bytes),
+        None => {
+            let why = "it is no even number of hexadecimal digits";
+            Err(bad_value(alloc, word, "[CTX]", why))
+        }
+    }
+}
+
+/// The element that a word `KEY=VALUE` is, if it is one.
+fn element_of(alloc: Global, map: &str, word: &str) -> Result<Option<MapElement>, UsageFault> {
+    let Some((key, value)) = word.split_once('=') else {
+        return Ok(None);
+    };
+    match (bytes_of(alloc, key)?, bytes_of(alloc, value)?) {
+        (Some(key), Some(value)) => Ok(Some(MapElement {
+            map: String::from_str(alloc, map)?,
+            key,
+            value,
+        })),
+        _ => Ok(None),
+    }
+}
+
+/// Adds the elements that the words of one `--map` are.
+fn push_elements(
+    alloc: Global,
+    elements: &mut Vec<MapElement>,
+    words: &[&str],
+) -> Result<(), UsageFault> {
+    let Some((map, words)) = words.split_first() else {
+        return Ok(());
+    };
+    for word in words {
+        match element_of(alloc, map, word)? {
+            Some(element) => elements.push(element)?,
+            None => {
+                let why = "it is no KEY=VALUE, each an even number of hexadecimal digits";
+                return Err(bad_value(alloc, word, MAP_OPTION, why));
+            }
+        }
+    }
+    Ok(())
+}
+
+/// The elements that the words of `run` tell.
+fn elements_of(alloc: Global, matches: &ArgMatches<'_>) -> Result<Vec<MapElement>, UsageFault> {
+    let mut elements = Vec::new(alloc);
+    if let Some(uses) = matches.get_raw_occurrences("map") {
+        for words in uses {
+            push_elements(alloc, &mut elements, words)?;
+        }
+    }
+    Ok(elements)
+}
+
 /// The words of `pool`. They are judged before the file is read.
 fn pool_of(alloc: Global, matches: &ArgMatches<'_>) -> Result<Command, UsageFault> {
     Ok(Command::Pool {
         workers: number_at(alloc, matches, "WORKERS")?,
         file: file_of(alloc, matches)?,
         count: number_at(alloc, matches, "COUNT")?,
+    })
+}
+
+/// The words of `run`. They are judged before the file is read.
+fn run_of(alloc: Global, matches: &ArgMatches<'_>) -> Result<Command, UsageFault> {
+    Ok(Command::Run {
+        file: file_of(alloc, matches)?,
+        single: SingleRun {
+            context: context_of(alloc, matches)?,
+            elements: elements_of(alloc, matches)?,
+            dump: matches.get_flag("dump"),
+        },
     })
 }
 
@@ -295,6 +448,7 @@ pub fn parse_words<'a>(alloc: Global, words: &'a [String]) -> Result<Command, Us
         }),
         Some(("script", _)) => Ok(Command::Script),
         Some(("pool", matches)) => pool_of(alloc, matches),
+        Some(("run", matches)) => run_of(alloc, matches),
         _ => Err(UsageFault::Usage(String::from_str(alloc, "a command is missing")?)),
     }
 }
