@@ -7,24 +7,10 @@ ghost use Rattle.script_lines.specs.Answers.{reply_text};
 ghost use Rattle.control.specs.Replies.{AreElements};
 ghost use Rattle.commands.specs.Runs.{AreDumps};
 
-use bpf_model::{KeyBytes, MapId};
-use script_lines::{Reply, write_reply};
+use bpf_model::MapId;
+use control::write_elements;
 use std::alloc::AllocError;
 use world::World;
-
-/// Adds the elements of a map, in byte order of their keys, and the end.
-fn write_elements(world: &World, map: MapId, out: &mut Vec<u8>) -> Result<(), AllocError>
-    ensures { OnOk result ((elements : List Reply)
-        × AreElements (slice_get world.now.maps map) None elements
-        × (out.new.items ≡ out.old.items ++ flat_map reply_text (elements ++ End ∷ []))) }
-{
-    let mut bound: Option<KeyBytes> = None;
-    while let Some((key, value)) = world.next_above(map, bound.as_ref()) {
-        bound = Some(key.clone()?);
-        write_reply(&Reply::Element { key, value }, out)?;
-    }
-    write_reply(&Reply::End, out)
-}
 
 /// Adds what a script's `dump` writes of each map, in their order.
 pub fn write_maps(world: &World, out: &mut Vec<u8>) -> Result<(), AllocError>

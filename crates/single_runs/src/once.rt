@@ -1,14 +1,11 @@
 //! A program's run, from its start to its exit.
 ghost use Rattle.std.specs.Prelude.{◌≡◌, ◌≢◌, ◌↔◌, IsTrue, ◌≤◌, ◌<◌, ◌+◌, ◌++◌, Some, length, replicate, slice_get, IfOk, IfSome, IfNone};
-ghost use Rattle.std.specs.List.{range_with_len};
 ghost use Rattle.bpf_model.specs.declared.event.Answer.TheVariants as answers;
 ghost use Rattle.bpf_model.specs.declared.event.Event.TheVariants.{Step};
-ghost use Rattle.bpf_model.specs.declared.limits.TheConstants.{MAX_MAPS};
 ghost use Rattle.bpf_model.specs.View.{AreNewMaps, shapes_of_maps};
 ghost use Rattle.single_runs.specs.Once.{one_run, done, AreDone, IsEnd, ComesTo};
 
-use arrayvec::ArrayVec;
-use bpf_model::{Answer, CtxBytes, Event, MAX_MAPS, ProgId, RunId};
+use bpf_model::{Answer, CtxBytes, Event, ProgId, RunId};
 use maps::Registry;
 use std::alloc::{AllocError, Global};
 use verifier::Verified;
@@ -37,18 +34,6 @@ pub enum RunEnd {
 pub struct Ran {
     pub outcome: RunEnd,
     pub world: World,
-}
-
-/// The numbers of so many maps.
-fn all_maps(count: usize) -> ArrayVec<usize, MAX_MAPS>
-    requires { count ≤ MAX_MAPS }
-    ensures { result.items ≡ range_with_len 0 count }
-{
-    let mut maps = ArrayVec::new();
-    for number in 0..count {
-        maps.push(number);
-    }
-    maps
 }
 
 /// The steps of run 0.
@@ -150,9 +135,9 @@ pub fn run_once(
         before.items context.items r.outcome r.world) }
 {
     let count = verified.program().len();
-    let maps = all_maps(verified.shapes().len());
+    let _maps = registry.len();
     let mut programs = Vec::new(alloc);
-    programs.push(Loaded { verified, maps })?;
+    programs.push(Loaded::in_order(verified))?;
     let Ok(mut world) = World::new(alloc, registry, programs) else {
         return Err(AllocError);
     };
