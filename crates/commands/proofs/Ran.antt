@@ -1,5 +1,5 @@
 -- What one run gives of a file's program.
-use Rattle.std.proofs.Common.{◌≡◌, ◌≢◌, ℕ, List, length, map, All, None, refl, subst, inl, inr}
+use Rattle.std.proofs.Common.{◌≡◌, ◌≢◌, ◌⊎◌, ℕ, List, length, map, All, None, refl, subst, inl, inr}
 use Rattle.bpf_model.specs.declared.event.Event.{Event}
 use Rattle.bpf_model.specs.declared.event.EventRefusal.{EventRefusal}
 use Rattle.bpf_model.specs.declared.insn.Insn.{Insn}
@@ -10,6 +10,7 @@ use Rattle.program_graph.specs.GraphFlaws.{HasGoodGraph}
 use Rattle.typed_runs.specs.Verified.{IsVerified}
 use Rattle.program_files.specs.declared.program_file.Source.{Source}
 use Rattle.program_files.specs.declared.verdict.Verdict.{Verdict}
+use Rattle.program_files.specs.declared.verdict.TheConstants.{MEMORY}
 use Rattle.program_files.specs.Checks.{content_with, IsSourceOf}
 use Rattle.single_runs.specs.declared.once.Ended.{Ended}
 use Rattle.single_runs.specs.declared.once.RunEnd.{RunEnd}
@@ -50,10 +51,14 @@ told bytes single s number v good fault plain = inr (record { program = s.progra
 pub context_told : (bytes : List ℕ) (single : SingleRun) (s : Source) (v : Verdict) → IsGood bytes s → length single.context.items ≢ s.ctx_len → IsPlainVerdict BAD_CONTEXT v → IsRunRefusal single bytes v
 context_told bytes single s v good other plain = told bytes single s BAD_CONTEXT v good (inl (refl, other)) plain
 
-pub element_told : (bytes : List ℕ) (single : SingleRun) (s : Source) (maps : RegistryView) (r : EventRefusal) (v : Verdict) → IsGood bytes s → maps ≡ s.registry → HasBadElement maps single.elements.items r → IsPlainVerdict (event_refusal_number r) v → IsRunRefusal single bytes v
+element_told : (bytes : List ℕ) (single : SingleRun) (s : Source) (maps : RegistryView) (r : EventRefusal) (v : Verdict) → IsGood bytes s → maps ≡ s.registry → HasBadElement maps single.elements.items r → IsPlainVerdict (event_refusal_number r) v → IsRunRefusal single bytes v
 element_told bytes single s maps r v good same bad plain =
     let of_file = subst (λ (m : RegistryView). HasBadElement m single.elements.items r) same bad in
     told bytes single s (event_refusal_number r) v good (inr (inl (r, of_file, refl))) plain
+
+pub puts_told : (bytes : List ℕ) (single : SingleRun) (s : Source) (maps : RegistryView) (v : Verdict) → IsGood bytes s → maps ≡ s.registry → ((v.code ≡ MEMORY) ⊎ ((r : EventRefusal) × HasBadElement maps single.elements.items r × IsPlainVerdict (event_refusal_number r) v)) → IsRunRefusal single bytes v
+puts_told bytes single s maps v good same (inl memory) = inl (inl (inl memory))
+puts_told bytes single s maps v good same (inr (r, bad, plain)) = element_told bytes single s maps r v good same bad plain
 
 pub place_told : (bytes : List ℕ) (single : SingleRun) (s : Source) (k : ℕ) (last : WorldView) (v : Verdict) → IsGood bytes s → RunComesTo single (content_with s) s.program (NotDone k) last → IsPlainVerdict NO_PLACE v → IsRunRefusal single bytes v
 place_told bytes single s k last v good run plain = told bytes single s NO_PLACE v good (inr (inr (refl, (k, last, run)))) plain

@@ -1,7 +1,7 @@
 -- What one run of a program does, in a world of new maps in which nothing else happens but what
 -- comes before it.
 use Rattle.std.specs.Prelude.{◌≡◌, ◌≢◌, ℕ, ◌+◌, ◌<◌, List, ◌∷◌, [], ◌++◌, Some, Ok, length, replicate}
-use Rattle.std.specs.Prelude.{slice_get, tt, ⊤}
+use Rattle.std.specs.Prelude.{slice_get, ⊤}
 use Rattle.std.specs.List.{range_with_len}
 use Rattle.bpf_model.specs.declared.event.Answer.{Answer}
 use Rattle.bpf_model.specs.declared.event.Answer.TheVariants as answers

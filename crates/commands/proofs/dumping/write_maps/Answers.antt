@@ -1,4 +1,4 @@
-use Rattle.std.proofs.Common.{rules, ◌≡◌, ◌∙◌, ◌<◌, ◌≤◌, ◌+◌, ℕ, List, [], ◌∷◌, ◌++◌, Option, Some, None, length, take, get_or, refl, sym, ap, subst, inl, inr, append_assoc, append-nil, arith}
+use Rattle.std.proofs.Common.{rules, ◌≡◌, ◌∙◌, ◌⊎◌, ◌<◌, ◌≤◌, ◌+◌, ℕ, List, [], ◌∷◌, ◌++◌, Option, Some, None, length, take, get_or, refl, sym, ap, subst, inl, inr, append_assoc, append-nil, arith}
 use Rattle.std.specs.Prelude.{slice_get}
 use Rattle.std.specs.List.{flat_map}
 use Rattle.std.proofs.lemmas.List.{take_more, take_all}
@@ -12,12 +12,15 @@ use Rattle.commands.specs.Runs.{AreDumps}
 use Rattle.commands.proofs.Dumped.{one_dump_more}
 use Rattle.commands.proofs.dumping.write_maps.Goals as goal
 
+abbrev IsAt : List MapView → ℕ → Type 0
+IsAt maps k =
+    ((m : MapView) × (k < length maps) × (slice_get maps k ≡ Some m) × (get_or maps k m ≡ m))
+    ⊎ ((length maps ≤ k) × (slice_get maps k ≡ None))
+
 -- the map at an index, and the maps below the next one
-next_map : (maps : List MapView) (k : ℕ) → k < length maps → (m : MapView) × (slice_get maps k ≡ Some m) × (take (k + 1) maps ≡ take k maps ++ m ∷ [])
-next_map maps k inside = elim (slice_get_cases maps k).1 [
-  | inl (m, within, found, read) ↦ (m, found, take_more maps k m within ∙ ap (λ (x : MapView). take k maps ++ x ∷ []) read)
-  | inr (past, none) ↦ absurd (omega (arith, past, inside))
-]
+next_map : (maps : List MapView) (k : ℕ) → IsAt maps k → k < length maps → (m : MapView) × (slice_get maps k ≡ Some m) × (take (k + 1) maps ≡ take k maps ++ m ∷ [])
+next_map maps k (inl (m, within, found, read)) inside = (m, found, take_more maps k m within ∙ ap (λ (x : MapView). take k maps ++ x ∷ []) read)
+next_map maps k (inr (past, none)) inside = absurd (omega (arith, past, inside))
 
 pub loop-number-init : goal.loop-number-init
 loop-number-init c = ([], refl, sym (append-nil _))
@@ -28,7 +31,7 @@ loop-number-preserved c =
     let k = c.loop-number.number in
     let i = c.loop-number.invariant in
     let inside : k < length maps = search rules in
-    let next = next_map maps k inside in
+    let next = next_map maps k (slice_get_cases maps k).1 inside in
     let wrote = c.in_ok-write_elements.ensures in
     let at : slice_get maps c.new.result ≡ Some next.0 = ap (slice_get maps) c.new.ensures ∙ next.1 in
     let are = subst (λ (o : Option MapView). AreElements o None wrote.0) at wrote.1 in

@@ -5,7 +5,7 @@ use Rattle.program_files.proofs.Shapes.{verifier_told}
 use Rattle.single_runs.specs.declared.once.RunEnd.{RunEnd}
 use Rattle.single_runs.specs.declared.once.RunEnd.TheVariants.{Exited, NotDone}
 use Rattle.single_runs.specs.Once.{ComesTo}
-use Rattle.commands.proofs.Ran.{IsGood, of_source, ended_of, context_told, element_told, place_told}
+use Rattle.commands.proofs.Ran.{IsGood, of_source, ended_of, context_told, puts_told, place_told}
 use Rattle.commands.proofs.single.run_of.Goals as goal
 
 pub returns-in_err-checked-clause-refused : goal.returns-in_err-checked-clause-refused
@@ -22,10 +22,7 @@ pub returns-in_err-puts-clause-refused : goal.returns-in_err-puts-clause-refused
 returns-in_err-puts-clause-refused c bytes h =
     let good : IsGood bytes c.in_ok-source.source = record { is = c.in_ok-source.ensures.found bytes h; graph = c.in_ok-checked.ensures.graph; verified = c.in_ok-checked.ensures.verified } in
     let p = err_from_is_err_and c.from_residual-in_err-puts.result c.from_residual-in_err-puts.ensures.1 in
-    rw (p.1, p.2) (inr (elim c.in_err-puts.ensures.refused [
-      | inl memory ↦ inl (inl (inl memory))
-      | inr (r, bad, told) ↦ element_told bytes c.args.single.now c.in_ok-source.source c.in_ok-checked.checked.registry r _ good c.in_ok-checked.ensures.registry bad told
-    ]))
+    rw (p.1, p.2) (inr (puts_told bytes c.args.single.now c.in_ok-source.source c.in_ok-checked.checked.registry _ good c.in_ok-checked.ensures.registry c.in_err-puts.ensures.refused))
 
 pub returns-in_default-clause-refused : goal.returns-in_default-clause-refused
 returns-in_default-clause-refused c bytes h = inr (inl (inl (inl c.plain_verdict.ensures.code_is)))
