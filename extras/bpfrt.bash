@@ -5,6 +5,8 @@ _bpfrt() {
         mapfile -t COMPREPLY < <(compgen -W "check disasm asm script pool run help --help --version -h -V" -- "$word")
     elif [[ ${COMP_WORDS[1]} == help ]]; then
         mapfile -t COMPREPLY < <(compgen -W "check disasm asm script pool run" -- "$word")
+    elif [[ ${COMP_WORDS[1]} == check && $word == -* ]]; then
+        mapfile -t COMPREPLY < <(compgen -W "--explain" -- "$word")
     elif [[ ${COMP_WORDS[1]} == asm && $word == -* ]]; then
         mapfile -t COMPREPLY < <(compgen -W "--file" -- "$word")
     elif [[ ${COMP_WORDS[1]} == run && $word == -* ]]; then

@@ -11,7 +11,7 @@ use Rattle.commands.specs.Scripts.{AnswersAll, AnswersBefore}
 
 -- What a command adds to the output where all is fine.
 abbrev pub Writes : Command → Option (List ℕ) → Option (List ℕ) → List ℕ → Type 0
-Writes (Check file) old new bytes = WritesAccepted old new bytes
+Writes (Check file explain) old new bytes = WritesAccepted old new bytes
 Writes (Disasm file) old new bytes = WritesText old new bytes
 Writes (Asm file whole) old new bytes = WritesCode whole old new bytes
 Writes Script old new bytes = AnswersAll old new bytes
@@ -23,7 +23,7 @@ Writes (Run file single) old new bytes = WritesRun single old new bytes
 -- refused; or a line of the script is bad, and the answers to the lines before are written. The
 -- version is not refused.
 abbrev pub Refuses : Command → Option (List ℕ) → Option (List ℕ) → List ℕ → Type 0
-Refuses (Check file) old new bytes = IsRefusedByCheck bytes
+Refuses (Check file explain) old new bytes = IsRefusedByCheck bytes
 Refuses (Disasm file) old new bytes = IsRefusedByDecode bytes
 Refuses (Asm file whole) old new bytes = IsRefusedByAsm bytes
 Refuses Script old new bytes = AnswersBefore old new bytes
@@ -33,7 +33,7 @@ Refuses (Run file single) old new bytes = IsRefusedByRun single bytes
 
 -- the command's input is a file
 abbrev pub ReadsFile : Command → Type 0
-ReadsFile (Check file) = ⊤
+ReadsFile (Check file explain) = ⊤
 ReadsFile (Disasm file) = ⊤
 ReadsFile (Asm file whole) = ⊤
 ReadsFile Script = ⊥

@@ -4,6 +4,7 @@
 mod assembling;
 mod dumping;
 mod heads;
+mod help;
 mod pool;
 mod putting;
 mod report;

@@ -23,9 +23,10 @@ pub struct SingleRun {
 /// What the program is asked to do.
 #[derive(Debug, Drop)]
 pub enum Command {
-    /// Verify the program in a file and say how long it is.
+    /// Verify the program in a file and say how long it is; or why it is refused, in words too.
     Check {
         file: String,
+        explain: bool,
     },
     /// Write the text of the program in a file.
     Disasm {
@@ -93,7 +94,7 @@ impl Command {
     /// The path of the file that the command reads; none where it reads standard input, or nothing.
     pub fn file(&self) -> Option<&str> {
         match self {
-            Command::Check { file }
+            Command::Check { file, .. }
             | Command::Disasm { file }
             | Command::Asm { file, .. }
             | Command::Pool { file, .. }

@@ -31,7 +31,10 @@ pub fn command_of(alloc: Global, disasm: bool) -> Result<Command, Fail> {
     if disasm {
         return Ok(Command::Disasm { file });
     }
-    Ok(Command::Check { file })
+    Ok(Command::Check {
+        file,
+        explain: false,
+    })
 }
 
 /// `pool` of a file.

@@ -1,6 +1,6 @@
 //! A program's run, from its start to its exit.
 ghost use Rattle.std.specs.Prelude.{◌≡◌, ◌≢◌, ◌↔◌, IsTrue, ◌≤◌, ◌<◌, ◌+◌, ◌++◌, Some, length, replicate, slice_get, IfOk, IfSome, IfNone};
-ghost use Rattle.bpf_model.specs.declared.event.Answer.TheVariants as answers;
+ghost use Rattle.bpf_model.specs.declared.event.Answer.TheVariants as told;
 ghost use Rattle.bpf_model.specs.declared.event.Event.TheVariants.{Step};
 ghost use Rattle.bpf_model.specs.View.{AreNewMaps, shapes_of_maps};
 ghost use Rattle.single_runs.specs.Once.{one_run, done, AreDone, IsEnd, ComesTo};
@@ -88,7 +88,7 @@ fn first_not_done(answers: &[Answer], count: usize) -> Option<usize>
 /// The first exit among the answers behind so many.
 fn exit_in(answers: &[Answer], before: usize) -> Option<Ended>
     ensures { IfSome result (λ e.
-        slice_get answers.now (before + e.steps) ≡ Some (answers.Exited e.value)) }
+        slice_get answers.now (before + e.steps) ≡ Some (told.Exited e.value)) }
 {
     for number in before..answers.len() {
         if let Answer::Exited(value) = &answers[number] {
