@@ -1,5 +1,5 @@
 -- What `asm` writes, of which texts, and how it refuses the others.
-use Rattle.std.specs.Prelude.{◌≡◌, ◌≢◌, ℕ, ◌+◌, ◌≤◌, ◌==◌, List, ◌++◌, map, codes, Bool, Option}
+use Rattle.std.specs.Prelude.{◌≡◌, ◌≢◌, ℕ, ◌+◌, ◌≤◌, ◌==◌, List, ◌++◌, length, map, codes, Bool, Option}
 use Rattle.std.specs.Prelude.{Some, None, count_by, if◌then◌else◌}
 use Rattle.std.specs.Str.{IsUtf8}
 use Rattle.std.specs.Io.KnownBytes.{Appends}
@@ -19,11 +19,13 @@ use Rattle.commands.specs.declared.assembling.TextFault.TheVariants.{NotUtf8, Fl
 abbrev pub code_line : List ℕ
 code_line = codes "\ncode\n"
 
--- The text is the lines of a program file's head, a line `code`, and instructions; or, where it has
--- no such line, instructions alone.
+-- The text is the lines of a program file's head, the first line `code`, and instructions; or, where
+-- it has no such line, instructions alone.
 abbrev pub IsSplit : List ℕ → Option (List ℕ) → List ℕ → Type 0
 IsSplit bytes None body = (body ≡ bytes) × ((xs ys : List ℕ) → bytes ≢ xs ++ (code_line ++ ys))
-IsSplit bytes (Some head) body = bytes ≡ head ++ (code_line ++ body)
+IsSplit bytes (Some head) body =
+    (bytes ≡ head ++ (code_line ++ body))
+    × ((xs ys : List ℕ) → bytes ≡ xs ++ (code_line ++ ys) → length head ≤ length xs)
 
 -- the lines of the instructions are the texts of a program's, and these are its bytes
 pub record IsCodeOf (body code : List ℕ) : Type 0 where

@@ -2,4 +2,5 @@ pub mod Assembled
 pub mod Commands
 pub mod Outputs
 pub mod Pools
+pub mod Runs
 pub mod Scripts

@@ -2,17 +2,21 @@
 #![tactic(auto)]
 
 mod assembling;
+mod dumping;
 mod heads;
+mod help;
 mod pool;
+mod putting;
 mod report;
 mod request;
 mod running;
 mod script;
+mod single;
 mod streams;
 mod words;
 
 pub use report::no_command;
-pub use request::{Command, UsageFault};
+pub use request::{Command, MapElement, SingleRun, UsageFault};
 pub use running::run;
 pub use streams::unread;
 pub use words::parse_words;

@@ -4,11 +4,18 @@ ghost use Rattle.commands.specs.declared.request.UsageFault.TheVariants.{Memory}
 ghost use Rattle.program_files.specs.declared.verdict.TheConstants.{MEMORY};
 ghost use Rattle.commands.specs.declared.report.TheConstants.{LOST};
 ghost use Rattle.commands.specs.Pools.{IsPoolFaultVerdict};
+ghost use Rattle.commands.specs.Runs.{IsPlainVerdict};
 
 use crate::request::UsageFault;
 use program_files::{MEMORY, Verdict};
 use std::io::Write;
 use worker_pool::PoolFault;
+
+/// The number of a context of another length than the program's.
+pub const BAD_CONTEXT: u8 = 63;
+
+/// The number of an element that its map has no place for.
+pub const NO_PLACE: u8 = 98;
 
 /// The number of a job's result that is lost.
 pub const LOST: u8 = 92;
@@ -18,6 +25,17 @@ pub const READ: u8 = 96;
 
 /// The number of writing that failed.
 pub const WRITE: u8 = 97;
+
+/// The verdict of this number, of neither a slot nor a line.
+pub fn plain_verdict(code: u8) -> Verdict
+    ensures { IsPlainVerdict code result }
+{
+    Verdict {
+        code,
+        slot: None,
+        line: None,
+    }
+}
 
 /// The verdict of a pool's fault.
 pub fn pool_verdict(fault: PoolFault) -> Verdict

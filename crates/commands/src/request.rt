@@ -3,12 +3,30 @@
 use std::alloc::{AllocError, AllocFailed};
 use thiserror::Error;
 
+/// An element that is put into the map of a name.
+#[derive(Debug, Drop)]
+pub struct MapElement {
+    pub map: String,
+    pub key: Vec<u8>,
+    pub value: Vec<u8>,
+}
+
+/// What one run is made on: its context, and the elements that are put into its maps before; and whether
+/// the maps' elements are written behind it.
+#[derive(Debug, Drop)]
+pub struct SingleRun {
+    pub context: Vec<u8>,
+    pub elements: Vec<MapElement>,
+    pub dump: bool,
+}
+
 /// What the program is asked to do.
 #[derive(Debug, Drop)]
 pub enum Command {
-    /// Verify the program in a file and say how long it is.
+    /// Verify the program in a file and say how long it is; or why it is refused, in words too.
     Check {
         file: String,
+        explain: bool,
     },
     /// Write the text of the program in a file.
     Disasm {
@@ -28,6 +46,11 @@ pub enum Command {
         workers: u64,
         file: String,
         count: u64,
+    },
+    /// Run the program in a file once by itself.
+    Run {
+        file: String,
+        single: SingleRun,
     },
 }
 
@@ -71,10 +94,11 @@ impl Command {
     /// The path of the file that the command reads; none where it reads standard input, or nothing.
     pub fn file(&self) -> Option<&str> {
         match self {
-            Command::Check { file }
+            Command::Check { file, .. }
             | Command::Disasm { file }
             | Command::Asm { file, .. }
-            | Command::Pool { file, .. } => Some(file.as_str()),
+            | Command::Pool { file, .. }
+            | Command::Run { file, .. } => Some(file.as_str()),
             Command::Script | Command::Version => None,
         }
     }

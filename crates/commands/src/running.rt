@@ -1,6 +1,7 @@
 //! Running a command.
 ghost use Rattle.std.specs.Prelude.{◌≡◌, ◌⊎◌, IfSome, OnOk};
 ghost use Rattle.std.specs.Io.KnownBytes.{Appends};
+ghost use Rattle.program_files.specs.declared.verdict.TheConstants.{MEMORY};
 ghost use Rattle.commands.specs.Outputs.{IsRefusedByDecode, IsRefusedByCheck, accepted_line, WritesAccepted, WritesText};
 ghost use Rattle.commands.specs.Commands.{ReadsFile, Refuses, Writes};
 
@@ -9,8 +10,10 @@ use crate::pool::{PoolSize, run_pool};
 use crate::report::refused;
 use crate::request::Command;
 use crate::script::run_lines;
+use crate::single::run_single;
 use crate::streams::{unread, write_text, written};
-use program_files::{Accepted, check, read_file, text_of};
+use explain::explain;
+use program_files::{Accepted, FileBytes, Verdict, check, read_file, text_of};
 use std::alloc::Global;
 use std::io;
 use std::io::{Read, Write};
@@ -32,9 +35,28 @@ fn write_accepted<W: Write>(out: &mut W, accepted: &Accepted) -> io::Result<()>
     out.flush()
 }
 
+/// Tells a verdict on a file, in words too where it is asked for, and answers the status.
+fn told<E: Write>(
+    alloc: Global,
+    file: &FileBytes,
+    verdict: Verdict,
+    in_words: bool,
+    err: &mut E,
+) -> u8
+    ensures status { (result ≡ 1) ⊎ (result ≡ 3) }
+    ensures memory { verdict.code ≡ MEMORY → result ≡ 3 }
+{
+    let status = refused(err, verdict);
+    if in_words && status == 1 {
+        let _ = explain(alloc, file, &verdict, err);
+    }
+    status
+}
+
 /// Checks the program that the input, a program file, says.
 fn run_check<R: Read, W: Write, E: Write>(
     alloc: Global,
+    in_words: bool,
     input: &mut R,
     out: &mut W,
     err: &mut E,
@@ -51,7 +73,7 @@ fn run_check<R: Read, W: Write, E: Write>(
     };
     match check(alloc, &file) {
         Ok(accepted) => written(err, write_accepted(out, &accepted)),
-        Err(verdict) => refused(err, verdict),
+        Err(verdict) => told(alloc, &file, verdict, in_words, err),
     }
 }
 
@@ -100,7 +122,7 @@ pub fn run<H: Threads + Wait + Sync, R: Read, W: Write, E: Write>(
     ensures silent { result ≡ 1 → ReadsFile command.now → out.new ≡ out.old }
 {
     match command {
-        Command::Check { .. } => run_check(alloc, input, out, err),
+        Command::Check { explain, .. } => run_check(alloc, *explain, input, out, err),
         Command::Disasm { .. } => run_disasm(alloc, input, out, err),
         Command::Asm { whole, .. } => run_asm(alloc, *whole, input, out, err),
         Command::Script => run_lines(alloc, input, out, err),
@@ -112,5 +134,6 @@ pub fn run<H: Threads + Wait + Sync, R: Read, W: Write, E: Write>(
             };
             run_pool(rt, alloc, size, input, out, err)
         }
+        Command::Run { single, .. } => run_single(alloc, single, input, out, err),
     }
 }

@@ -1,75 +1,11 @@
 //! The words of the command line.
 
-use crate::request::{Command, UsageFault};
+use crate::help::{ASM_HELP, CHECK_HELP, DISASM_HELP, HELP, POOL_HELP, RUN_HELP, SCRIPT_HELP};
+use crate::request::{Command, MapElement, SingleRun, UsageFault};
 use clap::error::ErrorKind;
 use clap::{Arg, ArgAction, ArgMatches};
+use hex::{FromHexError, decode};
 use std::alloc::{AllocError, Global};
-
-/// Behind the commands of `bpfrt --help`.
-const HELP: &str = "\
-A program file is raw bytes, or a text with a context, maps and slots (docs/PROGRAM_FILES.md).
-`bpfrt COMMAND --help` says what a command reads, prints and answers.
-
-Status: 0 fine, 1 refused or a wrong line, 2 usage, 3 memory, a lost result, reading or writing";
-
-/// Behind the arguments of `bpfrt check --help`.
-const CHECK_HELP: &str = "\
-Reads a program file: a text (`bpfrt 1`, `ctx N`, `map ..`, `code`, slots in hexadecimal digits),
-whose maps and context the program is verified against, or raw bytes, with neither.
-
-Prints `accepted I instructions S slots`.
-
-Status, and the line on standard error:
-  0  accepted
-  1  refused C, refused C at S   decoding or the verifier refuses, at slot S (docs/REFUSALS.md)
-     fault 94 at L               line L of the file is wrong (docs/PROGRAM_FILES.md)
-  2  usage
-  3  fault 13, 96, 97            out of memory; FILE or the output failed
-
-Example:
-  $ bpfrt check examples/c/counter.bpfrt
-  accepted 33 instructions 35 slots";
-
-/// Behind the arguments of `bpfrt disasm --help`.
-const DISASM_HELP: &str = "\
-Reads a program file as `bpfrt check` does, and verifies nothing.
-
-Prints the text of the program, one instruction a line (docs/ASSEMBLY.md).
-
-Status, and the line on standard error:
-  0  written
-  1  refused C, refused C at S   decoding refuses, at slot S (docs/REFUSALS.md)
-     fault 94 at L               line L of the file is wrong (docs/PROGRAM_FILES.md)
-  2  usage
-  3  fault 13, 96, 97            out of memory; FILE or the output failed
-
-Example:
-  $ bpfrt disasm examples/exit_one.bpf
-  mov64 r0, 1
-  exit";
-
-/// Behind the arguments of `bpfrt asm --help`.
-const ASM_HELP: &str = "\
-Reads a text of instructions, one a line, as `bpfrt disasm` writes it (docs/ASSEMBLY.md). Above them may stand
-the lines of a program file, from `ctx N` to `code`.
-
-Prints the bytes of the program; with --file a program file of these lines and its slots.
-
-Status, and the line on standard error:
-  0  written
-  1  refused 14 at L, 15 at L    line L is no instruction, or has something out of its range
-     refused 2, refused 3        there is no instruction, or there are too many
-     fault 94 at L               line L is none that a program file has above its slots
-  2  usage
-  3  fault 13, 96, 97            out of memory; FILE or the output failed
-
-Example:
-  $ bpfrt disasm examples/exit_one.bpf | bpfrt asm --file /dev/stdin
-  bpfrt 1
-  ctx 0
-  code
-  b700000001000000
-  9500000000000000";
 
 fn file_argument<'a>(alloc: Global) -> Arg<'a> {
     Arg::new(alloc, "FILE")
@@ -79,51 +15,6 @@ fn file_argument<'a>(alloc: Global) -> Arg<'a> {
         .required(true)
         .action(ArgAction::Set)
 }
-
-/// Behind the words of `bpfrt script --help`.
-const SCRIPT_HELP: &str = "\
-Reads a script from standard input to its end, one command a line (docs/SCRIPTS.md): maps and programs,
-then what happens to them.
-
-Prints the answer to each command, `refused C` among them. Each answer is out before the next line is
-waited for.
-
-Status, and the line on standard error:
-  0  the input has ended; also where answers were refusals
-  1  fault 95 at L               line L of the script is no command
-  2  usage
-  3  fault 13, 96, 97            out of memory; the input or the output failed
-
-Example:
-  $ printf 'map m 4 8 1 0 2\\nput m 00000000 0500000000000000 0\\nget m 00000000\\n' | bpfrt script
-  map 0
-  ret 0
-  value 0500000000000000";
-
-/// Behind the arguments of `bpfrt pool --help`.
-const POOL_HELP: &str = "\
-Reads a program file as `bpfrt check` does, verifies it, and then runs it COUNT times by WORKERS threads that
-share one world of the file's maps. Each job starts the program on a context of zeros, steps it to its exit,
-and drops the run.
-
-Prints a line for each job in order, `job I exit V`, or `job I stopped C` where an event of the job was refused
-or not applied, those of 1,024 jobs as soon as these are done; then `entries N`, how many events the journal has.
-
-Status, and the line on standard error:
-  0  all jobs are done; also where jobs stopped
-  1  what `bpfrt check` says of FILE; then
-     refused 90                  WORKERS is not 1 to 8
-     refused 91                  COUNT is above 65536
-  2  usage; so a WORKERS or COUNT that is no number, before FILE is read
-  3  fault 13, 96, 97            out of memory; FILE or the output failed
-     fault 92                    the result of a job was lost
-                                 (the lines of some jobs may have been printed)
-
-Example:
-  $ bpfrt pool 4 examples/exit_one.bpf 2
-  job 0 exit 1
-  job 1 exit 1
-  entries 8";
 
 fn number_argument<'a>(alloc: Global, id: &'a str, help: &'a str) -> Arg<'a> {
     Arg::new(alloc, id)
@@ -143,12 +34,51 @@ fn pool_grammar<'a>(alloc: Global) -> Result<clap::Command<'a>, AllocError> {
         .arg(number_argument(alloc, "COUNT", "how many jobs, 0 to 65536"))
 }
 
+/// How `run` is used, and how its option `--map` is shown.
+const RUN_USAGE: &str = "Usage: bpfrt run [OPTIONS] <FILE> [CTX]";
+
+const MAP_OPTION: &str = "--map <NAME> <KEY=VALUE>...";
+
+/// The grammar of the words of `run`.
+fn run_grammar<'a>(alloc: Global) -> Result<clap::Command<'a>, AllocError> {
+    clap::Command::new(alloc, "run")
+        .about("Runs the program in FILE once")
+        .after_help(RUN_HELP)
+        .arg(file_argument(alloc))?
+        .arg(
+            Arg::new(alloc, "CTX")
+                .help("the bytes of the context; none where it is left out")
+                .allow_negative_numbers(true)
+                .action(ArgAction::Set),
+        )?
+        .arg(
+            Arg::new(alloc, "map")
+                .long("map")
+                .help("put these elements into the file's map NAME before the run")
+                .value_names(&["NAME", "KEY=VALUE"])
+                .num_args(2..)
+                .action(ArgAction::Append),
+        )?
+        .arg(
+            Arg::new(alloc, "dump")
+                .long("dump")
+                .help("print the elements of the file's maps behind the exit")
+                .action(ArgAction::SetTrue),
+        )
+}
+
 /// The grammar of the words.
 fn grammar<'a>(alloc: Global) -> Result<clap::Command<'a>, AllocError> {
     let check = clap::Command::new(alloc, "check")
         .about("Verifies the program in FILE")
         .after_help(CHECK_HELP)
-        .arg(file_argument(alloc))?;
+        .arg(file_argument(alloc))?
+        .arg(
+            Arg::new(alloc, "explain")
+                .long("explain")
+                .help("say in words why a program is refused")
+                .action(ArgAction::SetTrue),
+        )?;
     let disasm = clap::Command::new(alloc, "disasm")
         .about("Writes the text of the program in FILE, one instruction a line")
         .after_help(DISASM_HELP)
@@ -180,7 +110,8 @@ fn grammar<'a>(alloc: Global) -> Result<clap::Command<'a>, AllocError> {
         .subcommand(disasm)?
         .subcommand(asm)?
         .subcommand(script)?
-        .subcommand(pool_grammar(alloc)?)
+        .subcommand(pool_grammar(alloc)?)?
+        .subcommand(run_grammar(alloc)?)
 }
 
 /// The text without white space behind it, and with U+FFFD for each other control character, which could come
@@ -203,7 +134,7 @@ fn usage_fault(alloc: Global, text: Result<String, AllocError>) -> UsageFault {
 
 /// The command that the word names but for the case of its letters.
 fn command_in_other_case(word: &str) -> Option<&'static str> {
-    ["check", "disasm", "asm", "script", "pool"]
+    ["check", "disasm", "asm", "script", "pool", "run"]
         .into_iter()
         .find(|name| word.eq_ignore_ascii_case(name))
 }
@@ -265,12 +196,105 @@ For more information, try 'bpfrt pool --help'."
     }
 }
 
+/// The fault of a word of `run` that is no value of an argument.
+fn bad_value(alloc: Global, word: &str, argument: &str, why: &str) -> UsageFault {
+    let text = format!(in alloc;
+        "\
+error: invalid value '{word}' for '{argument}': {why}
+
+{RUN_USAGE}
+
+For more information, try 'bpfrt run --help'."
+    );
+    usage_fault(alloc, text)
+}
+
+/// The bytes that a word is, two hexadecimal digits each, in either case.
+fn bytes_of(alloc: Global, word: &str) -> Result<Option<Vec<u8>>, UsageFault> {
+    match decode(alloc, word) {
+        Ok(bytes) => Ok(Some(bytes)),
+        Err(FromHexError::OutOfMemory) => Err(UsageFault::Memory),
+        Err(_) => Ok(None),
+    }
+}
+
+/// The context that the words of `run` tell.
+fn context_of(alloc: Global, matches: &ArgMatches<'_>) -> Result<Vec<u8>, UsageFault> {
+    let word = matches.get_str("CTX").unwrap_or("");
+    match bytes_of(alloc, word)? {
+        Some(bytes) => Ok(bytes),
+        None => {
+            let why = "it is no even number of hexadecimal digits";
+            Err(bad_value(alloc, word, "[CTX]", why))
+        }
+    }
+}
+
+/// The element that a word `KEY=VALUE` is, if it is one.
+fn element_of(alloc: Global, map: &str, word: &str) -> Result<Option<MapElement>, UsageFault> {
+    let Some((key, value)) = word.split_once('=') else {
+        return Ok(None);
+    };
+    match (bytes_of(alloc, key)?, bytes_of(alloc, value)?) {
+        (Some(key), Some(value)) => Ok(Some(MapElement {
+            map: String::from_str(alloc, map)?,
+            key,
+            value,
+        })),
+        _ => Ok(None),
+    }
+}
+
+/// Adds the elements that the words of one `--map` are.
+fn push_elements(
+    alloc: Global,
+    elements: &mut Vec<MapElement>,
+    words: &[&str],
+) -> Result<(), UsageFault> {
+    let Some((map, words)) = words.split_first() else {
+        return Ok(());
+    };
+    for word in words {
+        match element_of(alloc, map, word)? {
+            Some(element) => elements.push(element)?,
+            None => {
+                let why = "it is no KEY=VALUE, each an even number of hexadecimal digits";
+                return Err(bad_value(alloc, word, MAP_OPTION, why));
+            }
+        }
+    }
+    Ok(())
+}
+
+/// The elements that the words of `run` tell.
+fn elements_of(alloc: Global, matches: &ArgMatches<'_>) -> Result<Vec<MapElement>, UsageFault> {
+    let mut elements = Vec::new(alloc);
+    if let Some(uses) = matches.get_raw_occurrences("map") {
+        for words in uses {
+            push_elements(alloc, &mut elements, words)?;
+        }
+    }
+    Ok(elements)
+}
+
 /// The words of `pool`. They are judged before the file is read.
 fn pool_of(alloc: Global, matches: &ArgMatches<'_>) -> Result<Command, UsageFault> {
     Ok(Command::Pool {
         workers: number_at(alloc, matches, "WORKERS")?,
         file: file_of(alloc, matches)?,
         count: number_at(alloc, matches, "COUNT")?,
+    })
+}
+
+/// The words of `run`. They are judged before the file is read.
+fn run_of(alloc: Global, matches: &ArgMatches<'_>) -> Result<Command, UsageFault> {
+    Ok(Command::Run {
+        file: file_of(alloc, matches)?,
+        single: SingleRun {
+            context: context_of(alloc, matches)?,
+            elements: elements_of(alloc, matches)?,
+            dump: matches.get_flag("dump"),
+        },
     })
 }
 
@@ -286,6 +310,7 @@ pub fn parse_words<'a>(alloc: Global, words: &'a [String]) -> Result<Command, Us
     match matches.subcommand() {
         Some(("check", matches)) => Ok(Command::Check {
             file: file_of(alloc, matches)?,
+            explain: matches.get_flag("explain"),
         }),
         Some(("disasm", matches)) => Ok(Command::Disasm {
             file: file_of(alloc, matches)?,
@@ -296,6 +321,7 @@ pub fn parse_words<'a>(alloc: Global, words: &'a [String]) -> Result<Command, Us
         }),
         Some(("script", _)) => Ok(Command::Script),
         Some(("pool", matches)) => pool_of(alloc, matches),
+        Some(("run", matches)) => run_of(alloc, matches),
         _ => Err(UsageFault::Usage(String::from_str(alloc, "a command is missing")?)),
     }
 }

@@ -21,6 +21,8 @@ mod scripts;
 #[cfg(test)]
 mod shown;
 #[cfg(test)]
+mod single;
+#[cfg(test)]
 mod streams;
 #[cfg(test)]
 mod words;

@@ -1,6 +1,6 @@
 //! Commands, and what they are to answer and to write.
 
-use commands::{Command, run as run_command};
+use commands::{Command, MapElement, SingleRun, run as run_command};
 use std::alloc::Global;
 use std::io::Read;
 use std::process::Abort;
@@ -31,7 +31,10 @@ pub fn command_of(alloc: Global, disasm: bool) -> Result<Command, Fail> {
     if disasm {
         return Ok(Command::Disasm { file });
     }
-    Ok(Command::Check { file })
+    Ok(Command::Check {
+        file,
+        explain: false,
+    })
 }
 
 /// `pool` of a file.
@@ -42,6 +45,30 @@ pub fn pool_of(alloc: Global, workers: u64, count: u64) -> Result<Command, Fail>
         file,
         count,
     })
+}
+
+/// `run` of a file on a context, with elements of the map `m` and their list behind it.
+pub fn run_of(
+    alloc: Global,
+    context: &[u8],
+    pairs: &[(&[u8], &[u8])],
+    dump: bool,
+) -> Result<Command, Fail> {
+    let mut elements = Vec::new(alloc);
+    for (key, value) in pairs {
+        elements.push(MapElement {
+            map: String::from_str(alloc, "m")?,
+            key: Vec::from_slice(alloc, key)?,
+            value: Vec::from_slice(alloc, value)?,
+        })?;
+    }
+    let single = SingleRun {
+        context: Vec::from_slice(alloc, context)?,
+        elements,
+        dump,
+    };
+    let file = String::from_str(alloc, "program")?;
+    Ok(Command::Run { file, single })
 }
 
 /// What a command is to answer and to write.

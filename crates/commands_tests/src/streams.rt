@@ -1,6 +1,8 @@
 //! Readers that are slow, fail or never end, and writers that fail.
 
-use crate::running::{EXIT, EXIT_ONE, WIDE, Wanted, command_of, fault, output, pool_of, runs};
+use crate::running::{
+    EXIT, EXIT_ONE, WIDE, Wanted, command_of, fault, output, pool_of, run_of, runs,
+};
 use commands::{Command, run as run_command};
 use std::io;
 use std::io::{ErrorKind, Read, Write};
@@ -90,6 +92,7 @@ fn readers(rt: HostRuntime) -> Result<(), Fail> {
     let alloc = rt.alloc();
     let (check, disasm) = (command_of(alloc, false)?, command_of(alloc, true)?);
     let (script, pool) = (Command::Script, pool_of(alloc, 1, 1)?);
+    let single = run_of(alloc, b"", &[], true)?;
     let answered = Wanted {
         status: 3,
         out: b"ok\nnone\n",
@@ -103,10 +106,11 @@ fn readers(rt: HostRuntime) -> Result<(), Fail> {
     let endless = fault(b"fault 13\n");
     let text = output(b"lddw r0, 8589934593\nexit\n");
     let slow = output(b"ok\nnone\n");
-    let rows: [(&Command, &[u8], Then, bool, Wanted<'_>); 8] = [
+    let rows: [(&Command, &[u8], Then, bool, Wanted<'_>); 9] = [
         (&check, b"", Then::Fails, false, fault(b"fault 96\n")),
         (&script, b"", Then::Fails, false, fault(b"fault 96\n")),
         (&pool, b"", Then::Fails, false, fault(b"fault 96\n")),
+        (&single, b"", Then::Fails, false, fault(b"fault 96\n")),
         (&script, b"advance\nreap\nrea", Then::Fails, false, answered),
         (&script, b"advance\n", Then::Repeats(b'#'), false, bad),
         (&check, HEAD, Then::Repeats(b'0'), false, endless),
@@ -131,9 +135,11 @@ fn writers(rt: HostRuntime) -> Result<(), Fail> {
     let alloc = rt.alloc();
     let check = command_of(alloc, false)?;
     let (script, pool) = (Command::Script, pool_of(alloc, 1, 1)?);
-    let rows: [(&Command, &[u8], Taking, u64, u8); 8] = [
+    let single = run_of(alloc, b"", &[], true)?;
+    let rows: [(&Command, &[u8], Taking, u64, u8); 9] = [
         (&check, &EXIT_ONE, Taking::Failing, 1, 3),
         (&pool, &EXIT_ONE, Taking::Failing, 1, 3),
+        (&single, &EXIT_ONE, Taking::Failing, 1, 3),
         (&script, b"advance\n", Taking::Failing, 1, 3),
         (&script, b"advance\n", Taking::Nothing, 1, 3),
         (&script, b"advance\nfly\n", Taking::Failing, 1, 3),

@@ -1,7 +1,8 @@
 //! The words of the command line.
 
-use commands::{Command, UsageFault, no_command, parse_words};
+use commands::{Command, MapElement, UsageFault, no_command, parse_words};
 use std::alloc::Global;
+use std::fmt::Write;
 use std::process::Abort;
 use std::test::Fail;
 
@@ -22,7 +23,7 @@ fn asked(rt: &impl Abort, alloc: Global, texts: &[&str]) -> Result<Result<Comman
 }
 
 /// Words that are no command, and what is said of them. More have `checks/statuses_agree`.
-const NO_COMMANDS: [(&[&str], &[&str]); 4] = [
+const NO_COMMANDS: [(&[&str], &[&str]); 6] = [
     (&["bpfrt", "chekc", "a"], &["'chekc'", "'check'"]),
     (
         &["bpfrt", "pool", "01", "a", "1"],
@@ -33,6 +34,19 @@ const NO_COMMANDS: [(&[&str], &[&str]); 4] = [
         &["\u{FFFD}[31mfly\u{FFFD}"],
     ),
     (&["bpfrt", "pool", "--help"], &["refused 90", "entries 8"]),
+    (
+        &["bpfrt", "run", "a", "0aF"],
+        &["'0aF'", "[CTX]", "bpfrt run"],
+    ),
+    (
+        &["bpfrt", "run", "a", "--map", "m", "00=", "01"],
+        &["'01' for '--map <NAME> <KEY=VALUE>...'", "bpfrt run --help"],
+    ),
+];
+
+/// A run with elements of two maps.
+const ELEMENTS: [&str; 11] = [
+    "bpfrt", "run", "e.bpfrt", "--map", "m", "00aB=01", "=02", "--dump", "--map", "n", "03=",
 ];
 
 /// The text has all these parts, and ends with its last line.
@@ -53,7 +67,9 @@ fn words_of_commands(rt: HostRuntime) -> Result<(), Fail> {
         }
     }
     let check = asked(&rt, alloc, &["bpfrt", "check", "a.bpf"])?;
-    assert!(rt; matches!(&check, Ok(Command::Check { file }) if file.as_str() == "a.bpf"));
+    assert!(rt; matches!(&check, Ok(Command::Check { file, explain: false }) if file.as_str() == "a.bpf"));
+    let explained = asked(&rt, alloc, &["bpfrt", "check", "--explain", "a.bpf"])?;
+    assert!(rt; matches!(&explained, Ok(Command::Check { explain: true, .. })));
     let disasm = asked(&rt, alloc, &["bpfrt", "disasm", "b.bpf"])?;
     assert!(rt; matches!(&disasm, Ok(Command::Disasm { file }) if file.as_str() == "b.bpf"));
     assert!(rt;
@@ -78,6 +94,23 @@ fn words_of_commands(rt: HostRuntime) -> Result<(), Fail> {
     };
     assert_eq!(rt; workers, 0);
     assert_eq!(rt; count, u64::MAX);
+    let run = asked(&rt, alloc, &["bpfrt", "run", "d.bpf", "00aBfF"])?;
+    let Ok(Command::Run { single, .. }) = run else {
+        return Err(Fail::from("no run"));
+    };
+    assert_eq!(rt; single.context.as_slice(), [0x00, 0xab, 0xff].as_slice());
+    assert!(rt; single.elements.is_empty() && !single.dump);
+    let run = asked(&rt, alloc, &ELEMENTS)?;
+    let Ok(Command::Run { single, .. }) = run else {
+        return Err(Fail::from("no run with elements"));
+    };
+    assert!(rt; single.context.is_empty() && single.dump);
+    let mut said = String::new(alloc);
+    for element in &single.elements {
+        let MapElement { map, key, value } = element;
+        write!(said, "{map} {key:?} {value:?}, ")?;
+    }
+    assert_eq!(rt; said.as_str(), "m [0, 171] [1], m [] [2], n [3] [], ");
     let mut err: Vec<u8> = Vec::new(alloc);
     assert_eq!(rt; no_command(&mut err, &UsageFault::NotText), 2);
     assert_eq!(rt; no_command(&mut err, &UsageFault::Memory), 3);

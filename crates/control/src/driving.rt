@@ -5,4 +5,5 @@ mod live;
 mod replying;
 mod steps;
 
+pub use dumping::write_elements;
 pub use live::Live;

@@ -11,7 +11,7 @@ mod preparing;
 mod running;
 mod session;
 
-pub use driving::Live;
+pub use driving::{Live, write_elements};
 pub use preparing::Setup;
 pub use running::run_script;
 use script_lines::LINE_BYTES;

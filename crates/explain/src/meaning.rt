@@ -8,34 +8,34 @@ pub struct Meaning {
 }
 
 /// A name with a meaning.
-const fn meaning(name: &'static str, text: &'static str) -> Option<Meaning> {
+const fn means(name: &'static str, text: &'static str) -> Option<Meaning> {
     Some(Meaning { name, text })
 }
 
 /// Of what the bytes of a program are refused for.
 fn of_bytes(code: u8) -> Option<Meaning> {
     match code {
-        1 => meaning("Length", "the number of bytes is not a multiple of 8"),
-        2 => meaning("Empty", "there is no instruction"),
-        3 => meaning("TooLong", "more than 4,096 slots"),
-        4 => meaning("UnknownOpcode", "the opcode byte stands for nothing"),
-        5 => meaning("OutsideProfile", "a packet or atomic instruction"),
-        6 => meaning("BadRegister", "a register nibble above 10, used or not"),
-        7 => meaning(
+        1 => means("Length", "the number of bytes is not a multiple of 8"),
+        2 => means("Empty", "there is no instruction"),
+        3 => means("TooLong", "more than 4,096 slots"),
+        4 => means("UnknownOpcode", "the opcode byte stands for nothing"),
+        5 => means("OutsideProfile", "a packet or atomic instruction"),
+        6 => means("BadRegister", "a register nibble above 10, used or not"),
+        7 => means(
             "UnsupportedSource",
             "the source field of a call is not 0 or 2, that of a wide instruction not 0 or 5",
         ),
-        8 => meaning(
+        8 => means(
             "UnusedField",
             "a field that the instruction does not use is not zero",
         ),
-        9 => meaning(
+        9 => means(
             "BadOffset",
             "the offset of DIV or MOD is not 0 or 1, that of MOV by a register not 0, 8, 16 or (64 bits) 32",
         ),
-        10 => meaning("BadWidth", "a byte swap of other than 16, 32 or 64 bits"),
-        11 => meaning("WideCut", "a wide instruction in the last slot"),
-        12 => meaning(
+        10 => means("BadWidth", "a byte swap of other than 16, 32 or 64 bits"),
+        11 => means("WideCut", "a wide instruction in the last slot"),
+        12 => means(
             "WideTail",
             "the second slot of a wide instruction is not a bare number, or not zero where the source is 5",
         ),
@@ -46,10 +46,10 @@ fn of_bytes(code: u8) -> Option<Meaning> {
 /// Of what the jump graph is refused for.
 fn of_graph(code: u8) -> Option<Meaning> {
     match code {
-        20 => meaning("JumpTarget", "a jump leads to no instruction's start"),
-        21 => meaning("BackJump", "a jump leads to its own slot or before it"),
-        22 => meaning("FallsOff", "the last instruction is not EXIT"),
-        38 => meaning(
+        20 => means("JumpTarget", "a jump leads to no instruction's start"),
+        21 => means("BackJump", "a jump leads to its own slot or before it"),
+        22 => means("FallsOff", "the last instruction is not EXIT"),
+        38 => means(
             "Unreachable",
             "no path of the jump graph leads to the instruction",
         ),
@@ -60,29 +60,29 @@ fn of_graph(code: u8) -> Option<Meaning> {
 /// Of what an instruction is refused for in what it reads and reaches.
 fn of_access(code: u8) -> Option<Meaning> {
     match code {
-        23 => meaning(
+        23 => means(
             "UnwrittenRegister",
             "a register is read that is not written on every path",
         ),
-        24 => meaning("FramePointerWritten", "r10 is written"),
-        25 => meaning(
+        24 => means("FramePointerWritten", "r10 is written"),
+        25 => means(
             "PointerArithmetic",
             "a pointer or map as a number, or an offset that may be too far, or one in the frame that is not known as one number",
         ),
-        26 => meaning("NotAPointer", "memory reached through a number or a map"),
-        27 => meaning(
+        26 => means("NotAPointer", "memory reached through a number or a map"),
+        27 => means(
             "OutOfBounds",
             "some possible offset of an access lies outside its region",
         ),
-        28 => meaning(
+        28 => means(
             "Misaligned",
             "some possible offset is not a multiple of the width",
         ),
-        29 => meaning(
+        29 => means(
             "UnwrittenFrame",
             "a byte of the frame is read that is not written on every path",
         ),
-        30 => meaning(
+        30 => means(
             "PointerLeak",
             "a pointer or map is stored to an element, stored or read in part, or returned by EXIT",
         ),
@@ -93,26 +93,26 @@ fn of_access(code: u8) -> Option<Meaning> {
 /// Of what an instruction is refused for besides.
 fn of_use(code: u8) -> Option<Meaning> {
     match code {
-        31 => meaning(
+        31 => means(
             "MixedRegions",
             "a register or a byte of the frame is read that holds different kinds on different paths",
         ),
-        32 => meaning(
+        32 => means(
             "MaybeNull",
             "what a lookup gave is used before it is compared with null",
         ),
-        33 => meaning(
+        33 => means(
             "OutsideSection",
             "an element of a hash map is reached outside the section of its lookup, or a lookup is made outside a section and r1 is no array",
         ),
-        34 => meaning(
+        34 => means(
             "UnpairedSection",
             "a lock where 8 are open, an unlock outside a section, an exit inside one, or paths that differ in depth",
         ),
-        35 => meaning("UnknownCall", "a call of an unknown function"),
-        36 => meaning("WrongArgument", "an argument of a call is of a wrong kind"),
-        37 => meaning("NoSuchMap", "a map that is not in the program's list"),
-        39 => meaning("ContextWrite", "a store to the context"),
+        35 => means("UnknownCall", "a call of an unknown function"),
+        36 => means("WrongArgument", "an argument of a call is of a wrong kind"),
+        37 => means("NoSuchMap", "a map that is not in the program's list"),
+        39 => means("ContextWrite", "a store to the context"),
         _ => None,
     }
 }
@@ -124,7 +124,7 @@ pub fn meaning_of(code: u8) -> Option<Meaning> {
         1..=12 => of_bytes(code),
         20..=22 | 38 => of_graph(code),
         23..=30 => of_access(code),
-        94 => meaning("BadFile", "a line of a program file is wrong"),
+        94 => means("BadFile", "a line of a program file is wrong"),
         _ => of_use(code),
     }
 }

@@ -1,5 +1,5 @@
 //! A shared world of one program, which is bound to all maps.
-ghost use Rattle.std.specs.Prelude.{◌≡◌, ◌<◌, ◌≤◌, ◌∷◌, [], map, IfOk};
+ghost use Rattle.std.specs.Prelude.{◌≡◌, ◌<◌, ◌≤◌, ◌∷◌, [], length, map, IfOk};
 ghost use Rattle.bpf_model.specs.View.{AreNewMaps, shapes_of_maps};
 ghost use Rattle.journal_laws.specs.Replay.{HasNoRuns};
 ghost use Rattle.shared.specs.declared.worker.TheConstants.{MAX_WORKERS};

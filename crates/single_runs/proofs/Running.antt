@@ -1,32 +1,33 @@
 -- A run in a world that tracks the start is one of the machine from its start.
-use Rattle.std.proofs.Common.{◌≡◌, ℕ, List, ◌∷◌, [], Option, Some, None, length, slice_get, IfSome, refl, subst, sym, ap, ◌∙◌}
+use Rattle.std.proofs.Common.{◌≡◌, ℕ, List, ◌∷◌, [], length, refl, subst, sym, ap, ◌∙◌}
 use Rattle.std.specs.List.{range_with_len}
 use Rattle.bpf_model.specs.declared.event.Answer.{Answer}
-use Rattle.bpf_model.specs.declared.event.Answer.TheVariants.{Exited}
 use Rattle.bpf_model.specs.declared.event.Event.{Event}
 use Rattle.bpf_model.specs.declared.insn.Insn.{Insn}
 use Rattle.bpf_model.specs.declared.limits.MapShape.{MapShape}
 use Rattle.bpf_model.specs.Headline.{AreMachineAnswers}
-use Rattle.bpf_model.specs.History.{IsHistory}
+use Rattle.bpf_model.specs.History.{IsHistory, last_of}
 use Rattle.bpf_model.specs.Machine.{Loaded, start_machine}
 use Rattle.bpf_model.specs.Refines.{Tracks, TracksSchedule}
 use Rattle.bpf_model.specs.Schedule.{start_schedule}
 use Rattle.bpf_model.specs.View.{WorldView}
 use Rattle.world.specs.declared.kept.loaded.Loaded as world
 use Rattle.world.specs.Programs.{programs_in}
-use Rattle.single_runs.specs.declared.once.Ended.{Ended}
-use Rattle.single_runs.specs.Once.{one_run, bound_to_all, ExitsAt}
+use Rattle.single_runs.specs.declared.once.RunEnd.{RunEnd}
+use Rattle.single_runs.specs.Once.{one_run, bound_to_all, start_with, IsEnd, ComesTo}
 
-pub exits_at : (w new : WorldView) (shapes : List MapShape) (programs : List Loaded) (program : List Insn) (context : List ℕ) (events : List Event) (answers : List Answer) (o : Option Ended) → TracksSchedule w (start_schedule shapes programs) → programs ≡ bound_to_all (length shapes) program (length context) ∷ [] → events ≡ one_run context (length program) → AreMachineAnswers Tracks w events answers new → IfSome o (λ e. slice_get answers e.steps ≡ Some (Exited e.value)) → IfSome o (λ e. ExitsAt shapes program context e.value e.steps)
-exits_at w new shapes programs program context events answers None tracks bound events_are machine found = found
-exits_at w new shapes programs program context events answers (Some e) tracks bound events_are machine found =
+pub comes_to : (w new : WorldView) (shapes : List MapShape) (programs : List Loaded) (program : List Insn) (before : List Event) (context : List ℕ) (events : List Event) (given : List Answer) (outcome : RunEnd) → TracksSchedule w (start_schedule shapes programs) → programs ≡ bound_to_all (length shapes) program (length context) ∷ [] → events ≡ one_run before context (length program) → AreMachineAnswers Tracks w events given new → IsEnd (length before) given outcome → ComesTo shapes program before context outcome new
+comes_to w new shapes programs program before context events given outcome tracks bound events_are machine is =
     let started = machine (start_machine shapes programs) (start_schedule shapes programs, refl, tracks) in
-    let of_programs = subst (λ (p : List Loaded). IsHistory (start_machine shapes p) events answers started.0) bound started.1 in
+    let of_programs = subst (λ (p : List Loaded). IsHistory (start_machine shapes p) events given started.0) bound started.1 in
     record {
-      answers = answers;
-      states = started.0;
-      history = subst (λ (es : List Event). IsHistory (start_machine shapes (bound_to_all (length shapes) program (length context) ∷ [])) es answers started.0) events_are of_programs;
-      exit = found;
+      given = given;
+      runs = record {
+        states = started.0;
+        history = subst (λ (es : List Event). IsHistory (start_with shapes program context) es given started.0) events_are of_programs;
+        tracked = subst (λ (p : List Loaded). Tracks new (last_of (start_machine shapes p) started.0)) bound started.2;
+      };
+      is = is;
     }
 
 -- the one loaded program of a world is bound to all of its maps

@@ -5,4 +5,4 @@ mod once;
 #[cfg(test)]
 mod tests;
 
-pub use once::{Ended, run_once};
+pub use once::{Ended, Ran, RunEnd, run_once};

@@ -1,14 +1,11 @@
 //! A program's run, from its start to its exit.
-ghost use Rattle.std.specs.Prelude.{◌≡◌, ◌≤◌, ◌++◌, Some, length, replicate, slice_get, IfOk, IfSome};
-ghost use Rattle.std.specs.List.{range_with_len};
-ghost use Rattle.bpf_model.specs.declared.event.Answer.TheVariants.{Exited};
+ghost use Rattle.std.specs.Prelude.{◌≡◌, ◌≢◌, ◌↔◌, IsTrue, ◌≤◌, ◌<◌, ◌+◌, ◌++◌, Some, length, replicate, slice_get, IfOk, IfSome, IfNone};
+ghost use Rattle.bpf_model.specs.declared.event.Answer.TheVariants as told;
 ghost use Rattle.bpf_model.specs.declared.event.Event.TheVariants.{Step};
-ghost use Rattle.bpf_model.specs.declared.limits.TheConstants.{MAX_MAPS};
 ghost use Rattle.bpf_model.specs.View.{AreNewMaps, shapes_of_maps};
-ghost use Rattle.single_runs.specs.Once.{one_run, ExitsAt};
+ghost use Rattle.single_runs.specs.Once.{one_run, done, AreDone, IsEnd, ComesTo};
 
-use arrayvec::ArrayVec;
-use bpf_model::{Answer, CtxBytes, Event, MAX_MAPS, ProgId, RunId};
+use bpf_model::{Answer, CtxBytes, Event, ProgId, RunId};
 use maps::Registry;
 use std::alloc::{AllocError, Global};
 use verifier::Verified;
@@ -21,16 +18,22 @@ pub struct Ended {
     pub steps: usize,
 }
 
-/// The numbers of so many maps.
-fn all_maps(count: usize) -> ArrayVec<usize, MAX_MAPS>
-    requires { count ≤ MAX_MAPS }
-    ensures { result.items ≡ range_with_len 0 count }
-{
-    let mut maps = ArrayVec::new();
-    for number in 0..count {
-        maps.push(number);
-    }
-    maps
+/// What one run has come to.
+#[derive(Clone, Copy, Debug, PartialEq, Eq)]
+pub enum RunEnd {
+    /// It has exited.
+    Exited(Ended),
+    /// This one of the updates before it, counted from 0, is the first that was not done.
+    NotDone(usize),
+    /// It has not exited. No run does so, though no clause says so here.
+    Lost,
+}
+
+/// What one run has come to, and the world behind it.
+#[derive(Drop)]
+pub struct Ran {
+    pub outcome: RunEnd,
+    pub world: World,
 }
 
 /// The steps of run 0.
@@ -43,11 +46,11 @@ fn push_steps(events: &mut Vec<Event>, steps: usize) -> Result<(), AllocError>
     Ok(())
 }
 
-/// A start of program 0, and so many steps.
-fn events_of(alloc: Global, context: CtxBytes, steps: usize) -> Result<Vec<Event>, AllocError>
-    ensures { IfOk result (λ e. e.items ≡ one_run context.items steps) }
+/// What comes before, a start of program 0, and so many steps.
+fn events_of(before: Vec<Event>, context: CtxBytes, steps: usize) -> Result<Vec<Event>, AllocError>
+    ensures { IfOk result (λ e. e.items ≡ one_run before.items context.items steps) }
 {
-    let mut events = Vec::new(alloc);
+    let mut events = before;
     events.push(Event::Start {
         prog: ProgId::new(0),
         ctx: context,
@@ -56,46 +59,91 @@ fn events_of(alloc: Global, context: CtxBytes, steps: usize) -> Result<Vec<Event
     Ok(events)
 }
 
-/// The first exit among answers.
-fn exit_in(answers: &[Answer]) -> Option<Ended>
-    ensures { IfSome result (λ e. slice_get answers.now e.steps ≡ Some (Exited e.value)) }
+/// Whether an answer is that an update is done.
+fn is_done(answer: &Answer) -> bool
+    ensures { IsTrue result ↔ (answer.now ≡ done) }
 {
-    for steps in 0..answers.len() {
-        if let Answer::Exited(value) = &answers[steps] {
+    match answer {
+        Answer::Ret(Ok(())) => true,
+        Answer::Ret(Err(_)) => false,
+        _ => false,
+    }
+}
+
+/// The first of so many answers that is not that an update is done.
+fn first_not_done(answers: &[Answer], count: usize) -> Option<usize>
+    requires { count ≤ length answers.now }
+    ensures some { IfSome result (λ k. (k < count) × AreDone k answers.now
+        × (slice_get answers.now k ≢ Some done)) }
+    ensures none { IfNone result (AreDone count answers.now) }
+{
+    for number in 0..count {
+        if !is_done(&answers[number]) {
+            return Some(number);
+        }
+    }
+    None
+}
+
+/// The first exit among the answers behind so many.
+fn exit_in(answers: &[Answer], before: usize) -> Option<Ended>
+    ensures { IfSome result (λ e.
+        slice_get answers.now (before + e.steps) ≡ Some (told.Exited e.value)) }
+{
+    for number in before..answers.len() {
+        if let Answer::Exited(value) = &answers[number] {
             return Some(Ended {
                 value: *value,
-                steps,
+                steps: number - before,
             });
         }
     }
     None
 }
 
+/// What answers say of a run behind so many updates.
+fn end_of(answers: &[Answer], before: usize) -> RunEnd
+    ensures { IsEnd before answers.now result }
+{
+    if before > answers.len() {
+        return RunEnd::Lost;
+    }
+    if let Some(number) = first_not_done(answers, before) {
+        return RunEnd::NotDone(number);
+    }
+    match exit_in(answers, before) {
+        Some(ended) => RunEnd::Exited(ended),
+        None => RunEnd::Lost,
+    }
+}
+
 /// Runs a verified program once, on a context of its length, in a world of these new maps, to which it is bound in
-/// their order; nothing else happens there. `None` would say that it has not exited, which no run does, though no
-/// clause says so here.
+/// their order. Before its start come these events, updates of the maps; nothing else happens there.
 ///
 /// The error is that there is no memory left.
 pub fn run_once(
     alloc: Global,
     verified: Verified,
     registry: Registry,
+    before: Vec<Event>,
     context: CtxBytes,
-) -> Result<Option<Ended>, AllocError>
+) -> Result<Ran, AllocError>
     requires new_maps { AreNewMaps registry.maps }
     requires shapes { verified.shapes ≡ shapes_of_maps registry.maps }
     requires context { length context.items ≡ verified.ctx_len }
-    ensures exits { IfOk result (λ o. IfSome o (λ e.
-        ExitsAt (shapes_of_maps registry.maps) verified.program context.items e.value e.steps)) }
+    ensures { IfOk result (λ r. ComesTo (shapes_of_maps registry.maps) verified.program
+        before.items context.items r.outcome r.world) }
 {
     let count = verified.program().len();
-    let maps = all_maps(verified.shapes().len());
+    let _maps = registry.len();
     let mut programs = Vec::new(alloc);
-    programs.push(Loaded { verified, maps })?;
+    programs.push(Loaded::in_order(verified))?;
     let Ok(mut world) = World::new(alloc, registry, programs) else {
         return Err(AllocError);
     };
-    let events = events_of(alloc, context, count)?;
+    let updates = before.len();
+    let events = events_of(before, context, count)?;
     let answers = world.run_all(alloc, &events)?;
-    Ok(exit_in(&answers))
+    let outcome = end_of(&answers, updates);
+    Ok(Ran { outcome, world })
 }

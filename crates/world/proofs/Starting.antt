@@ -52,8 +52,8 @@ start-is-world names {maps} {loaded} safe =
     start_is_world names (shapes_of_maps maps) (programs_in loaded) safe.shapes few few_programs (are_verified maps loaded safe) (are_programs maps loaded safe)
 
 pub made-is-world : {names : List (List ℕ)} {maps : List MapView} {loaded : List Loaded} → IsSafe maps loaded → (w : WorldView) → w ≡ unused_world names maps (programs_in loaded) → IsWorld w
-made-is-world {names} safe w e = subst IsWorld (sym (made-is-start safe w e)) (start-is-world names safe)
+made-is-world {names} {maps} {loaded} safe w e = subst IsWorld (sym (made-is-start safe w e)) (start-is-world names safe)
 
 pub made-tracks-start : {names : List (List ℕ)} {maps : List MapView} {loaded : List Loaded} → IsSafe maps loaded → (w : WorldView) → w ≡ unused_world names maps (programs_in loaded) → TracksSchedule w (start_schedule (shapes_of_maps maps) (programs_in loaded))
-made-tracks-start {maps} {loaded} safe w e =
+made-tracks-start {names} {maps} {loaded} safe w e =
     subst (λ (v : WorldView). TracksSchedule v (start_schedule (shapes_of_maps maps) (programs_in loaded))) (sym (made-is-start safe w e)) (start_tracked names (shapes_of_maps maps) (programs_in loaded) safe.shapes)

@@ -11,8 +11,10 @@ use script_lines::{Reply, write_reply};
 use std::alloc::AllocError;
 use world::World;
 
-/// Writes the elements of a map, in byte order of their keys, and the end.
-pub(crate) fn write_elements(world: &World, map: MapId, out: &mut Vec<u8>) -> Result<(), AllocError>
+/// Adds the lines of the elements of a map, in byte order of their keys, and the end, as a script's `dump` is replied.
+///
+/// The error is that there is no memory left; a part may have been added.
+pub fn write_elements(world: &World, map: MapId, out: &mut Vec<u8>) -> Result<(), AllocError>
     ensures { OnOk result ((elements : List Reply)
         × AreElements (slice_get world.now.maps map) None elements
         × (out.new.items ≡ out.old.items ++ flat_map reply_text (elements ++ End ∷ []))) }

@@ -76,10 +76,11 @@ impl Setup {
         let Some(text) = name.text() else {
             return Ok(refused(MapFault::BadName.code()));
         };
-        match self.registry.create(text, shape) {
-            Ok(map) => Ok(Reply::Map(map)),
-            Err(fault) => uncreated(fault),
-        }
+        let map = match self.registry.create(text, shape) {
+            Ok(map) => map,
+            Err(fault) => return uncreated(fault),
+        };
+        Ok(Reply::Map(map))
     }
 
     /// The maps of these names; `None` where one of the names is no map's.

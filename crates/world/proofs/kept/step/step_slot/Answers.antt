@@ -27,8 +27,8 @@ unreachable-requires c =
     let here : c.index_mut.result.now ≡ Some run = found c.args.runs.now.items c.index.result c.args.run_slot (Some run) c.index_mut.result.now c.index_mut.ensures.value c.index.ensures c.requires.there in
     none-some run (sym c.in-None.is ∙ here)
 
-pub returns-in-Some-clause-gone : goal.returns-in-Some-clause-gone
-returns-in-Some-clause-gone c =
+pub returns-clause-gone : goal.returns-clause-gone
+returns-clause-gone c =
     let run = c.requires.run in
     let here : c.index_mut.result.now ≡ Some run = found c.args.runs.now.items c.index.result c.args.run_slot (Some run) c.index_mut.result.now c.index_mut.ensures.value c.index.ensures c.requires.there in
     let same : c.in-Some.run' ≡ run = same_Some c.in-Some.run' run (sym c.in-Some.is ∙ here) in

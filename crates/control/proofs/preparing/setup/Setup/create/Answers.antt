@@ -13,8 +13,8 @@ pub returns-in_default-clause-replies : goal.returns-in_default-clause-replies
 returns-in_default-clause-replies c =
     rw (bad-name c.args.self.now.registry c.args.name.now c.args.shape c.in_default.ensures.none) (cc, refl)
 
-pub invariant_of-self-in-Ok : goal.invariant_of-self-in-Ok
-invariant_of-self-in-Ok c =
+pub invariant_of-self-2 : goal.invariant_of-self-2
+invariant_of-self-2 c =
     let i = c.self.invariant in
     let old = c.self.inside.registry in
     let shape = c.args.shape in

@@ -1,0 +1,34 @@
+-- Elements that are put one after another, and what is told of one that is not.
+use Rattle.std.proofs.Common.{◌≡◌, ◌∙◌, ℕ, ◌+◌, ◌<◌, ◌≤◌, List, [], ◌∷◌, ◌++◌, length, map, take, get_or, All, Some, None, ap, sym, subst}
+use Rattle.std.specs.Prelude.{option_map, slice_get}
+use Rattle.std.proofs.lemmas.List.{map-append, take_more}
+use Rattle.std.proofs.lemmas.List.Elements.{All-append}
+use Rattle.std.proofs.lemmas.Option.{slice_get-map}
+use Rattle.bpf_model.specs.declared.event.Event.{Event}
+use Rattle.bpf_model.specs.declared.limits.MapShape.{MapShape}
+use Rattle.bpf_model.specs.declared.limits.TheConstants.{KEY_BYTES, VALUE_BYTES}
+use Rattle.bpf_model.specs.MapState.{AreShapes}
+use Rattle.bpf_model.specs.View.{MapView}
+use Rattle.maps.specs.Registry.{RegistryView}
+use Rattle.commands.specs.declared.request.MapElement.{MapElement}
+use Rattle.commands.specs.Runs.{element_refusal, put_event}
+
+-- the elements below the next index are those below this one, and the one that stands there
+next_taken : (elements : List MapElement) (k : ℕ) (e : MapElement) → k < length elements → get_or elements k e ≡ e → take (k + 1) elements ≡ take k elements ++ e ∷ []
+next_taken elements k e inside at = take_more elements k e inside ∙ ap (λ (x : MapElement). take k elements ++ x ∷ []) at
+
+pub one_put_more : (maps : RegistryView) (elements : List MapElement) (k : ℕ) (e : MapElement) (events : List Event) (event : Event) → k < length elements → get_or elements k e ≡ e → events ≡ map (put_event maps) (take k elements) → event ≡ put_event maps e → events ++ event ∷ [] ≡ map (put_event maps) (take (k + 1) elements)
+one_put_more maps elements k e events event inside at before is =
+    ap (λ (es : List Event). es ++ event ∷ []) before
+    ∙ (ap (λ (x : Event). map (put_event maps) (take k elements) ++ x ∷ []) is
+    ∙ sym (ap (map (put_event maps)) (next_taken elements k e inside at) ∙ map-append (put_event maps) (take k elements) (e ∷ [])))
+
+pub one_fits_more : (maps : RegistryView) (elements : List MapElement) (k : ℕ) (e : MapElement) → k < length elements → get_or elements k e ≡ e → All (λ m. element_refusal maps m ≡ None) (take k elements) → element_refusal maps e ≡ None → All (λ m. element_refusal maps m ≡ None) (take (k + 1) elements)
+one_fits_more maps elements k e inside at before fits =
+    let all : List MapElement → Type 0 = λ es. All (λ m. element_refusal maps m ≡ None) es in
+    subst all (sym (next_taken elements k e inside at)) (All-append (λ m. element_refusal maps m ≡ None) (take k elements) (e ∷ []) before (fits, tt))
+
+-- the limits of the shape of a registry's map
+pub short_enough : (maps : List MapView) (number : ℕ) (shape : MapShape) → AreShapes (map (λ v. v.shape) maps) → option_map (λ m. m.shape) (slice_get maps number) ≡ Some shape → (shape.key_len ≤ KEY_BYTES) × (shape.value_len ≤ VALUE_BYTES)
+short_enough maps number shape all at =
+    let is = all number shape (slice_get-map (λ v. v.shape) maps number ∙ at) in (is.key.1, is.value.1)

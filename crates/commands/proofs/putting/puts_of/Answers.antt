@@ -1,0 +1,40 @@
+use Rattle.std.proofs.Common.{rules, ◌≡◌, ◌∙◌, ◌<◌, ◌≤◌, ◌∷◌, [], ◌++◌, List, length, get_or, map, take, All, Some, None, refl, sym, ap, subst, inl, inr, arith}
+use Rattle.std.proofs.lemmas.List.{take_all}
+use Rattle.std.proofs.lemmas.Option.{slice_get_read}
+use Rattle.commands.specs.declared.request.MapElement.{MapElement}
+use Rattle.commands.specs.Runs.{element_refusal, put_event}
+use Rattle.commands.proofs.Putting.{one_put_more, one_fits_more}
+use Rattle.commands.proofs.putting.puts_of.Goals as goal
+
+pub loop-number-preserved : goal.loop-number-preserved
+loop-number-preserved c =
+    let elements = c.args.elements.now in
+    let k = c.loop-number.number in
+    let e = c.index-elements-number.result in
+    let inside : k < length elements = search rules in
+    let at : get_or elements k e ≡ e = sym c.index-elements-number.is in
+    let pushed : c.push.new.self.items ≡ c.loop-number.puts.items ++ c.in-Ok.put ∷ [] = search rules in (
+      one_fits_more c.args.registry.now elements k e inside at c.loop-number.invariant.0 c.in-Ok.ensures.fits,
+      pushed ∙ one_put_more c.args.registry.now elements k e c.loop-number.puts.items c.in-Ok.put inside at c.loop-number.invariant.1 c.in-Ok.ensures.put,
+    )
+
+pub returns-in-Err-clause-refused : goal.returns-in-Err-clause-refused
+returns-in-Err-clause-refused c =
+    let elements = c.args.elements.now in
+    let k = c.loop-number.number in
+    let e = c.index-elements-number.result in
+    let inside : k < length elements = search rules in
+    let there = slice_get_read elements (length elements) k e refl inside c.index-elements-number.is in
+    inr (c.in-Err.refusal, (k, e, there, c.in-Err.ensures.refused), search rules)
+
+pub returns-clause-fit : goal.returns-clause-fit
+returns-clause-fit c =
+    let elements = c.args.elements.now in
+    let all : length elements ≤ c.loop-number.number = search rules in
+    subst (λ (es : List MapElement). All (λ m. element_refusal c.args.registry.now m ≡ None) es) (take_all c.loop-number.number elements all) c.loop-number.invariant.0
+
+pub returns-clause-puts : goal.returns-clause-puts
+returns-clause-puts c =
+    let elements = c.args.elements.now in
+    let all : length elements ≤ c.loop-number.number = search rules in
+    c.loop-number.invariant.1 ∙ ap (map (put_event c.args.registry.now)) (take_all c.loop-number.number elements all)

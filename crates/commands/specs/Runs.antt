@@ -1,0 +1,132 @@
+-- What `run` writes, of which files, contexts and elements, and how it refuses the others.
+use Rattle.std.specs.Prelude.{◌≡◌, ◌≢◌, ◌⊎◌, ℕ, List, [], ◌∷◌, ◌++◌, length, map, All, codes, Bool}
+use Rattle.std.specs.Prelude.{true, false, Option, Some, None, slice_get, option_and_then, unwrap_or}
+use Rattle.std.specs.Prelude.{option_map, string_bytes, bytes_eq, position}
+use Rattle.std.specs.List.{flat_map}
+use Rattle.std.specs.Fmt.{decimal}
+use Rattle.std.specs.Io.KnownBytes.{Appends}
+use Rattle.bpf_model.specs.declared.event.Event.{Event}
+use Rattle.bpf_model.specs.declared.event.Event.TheVariants.{Update}
+use Rattle.bpf_model.specs.declared.event.EventRefusal.{EventRefusal}
+use Rattle.bpf_model.specs.declared.insn.Insn.{Insn}
+use Rattle.bpf_model.specs.declared.limits.MapShape.{MapShape}
+use Rattle.bpf_model.specs.Event.{event_refusal_number, update_refusal}
+use Rattle.bpf_model.specs.View.{MapView, WorldView, shapes_of_maps}
+use Rattle.maps.specs.Registry.{RegistryView}
+use Rattle.script_lines.specs.declared.reply.Reply.{Reply}
+use Rattle.script_lines.specs.declared.reply.Reply.TheVariants.{End}
+use Rattle.script_lines.specs.Answers.{reply_text}
+use Rattle.control.specs.Replies.{AreElements}
+use Rattle.program_files.specs.declared.verdict.Verdict.{Verdict}
+use Rattle.program_files.specs.declared.verdict.TheConstants.{MEMORY}
+use Rattle.program_files.specs.Checks.{IsVerifiedFile, IsCheckedRefusal}
+use Rattle.program_files.specs.ProgramFile.{FileContent}
+use Rattle.single_runs.specs.declared.once.Ended.{Ended}
+use Rattle.single_runs.specs.declared.once.RunEnd.{RunEnd}
+use Rattle.single_runs.specs.declared.once.RunEnd.TheVariants.{Exited, NotDone}
+use Rattle.single_runs.specs.Once.{ComesTo}
+use Rattle.commands.specs.declared.request.MapElement.{MapElement}
+use Rattle.commands.specs.declared.request.SingleRun.{SingleRun}
+use Rattle.commands.specs.declared.report.TheConstants.{BAD_CONTEXT, LOST, NO_PLACE}
+
+-- the number of the map that has the name
+abbrev pub map_named : RegistryView → List ℕ → Option ℕ
+map_named maps name = position (bytes_eq name) maps.names
+
+abbrev pub shape_named : RegistryView → List ℕ → Option MapShape
+shape_named maps name =
+    option_and_then (λ number. option_map (λ m. m.shape) (slice_get maps.maps number))
+    (map_named maps name)
+
+-- the first test of an update that the element fails: of its map, then of its lengths
+abbrev pub element_refusal : RegistryView → MapElement → Option EventRefusal
+element_refusal maps e =
+    update_refusal (shape_named maps (string_bytes e.map)) (length e.key.items)
+    (length e.value.items)
+
+-- the element is put into its map, whether or not the key has an element
+abbrev pub put_event : RegistryView → MapElement → Event
+put_event maps e =
+    Update (unwrap_or (map_named maps (string_bytes e.map)) 0) (record { items = e.key.items })
+    (record { items = e.value.items }) 0
+
+-- The program's one run comes to this end, in a world of new maps of the file's shapes into which
+-- the elements were put first, one after another.
+abbrev pub RunComesTo : SingleRun → FileContent → List Insn → RunEnd → WorldView → Type 0
+RunComesTo single content program outcome last =
+    ComesTo (shapes_of_maps content.registry.maps) program
+    (map (put_event content.registry) single.elements.items) single.context.items outcome last
+
+-- The file says a program that is verified with its maps and context, the context has the length
+-- that the file tells, each element has a map of the file and its lengths, and the program's one
+-- run exits so.
+pub record HasEnded (bytes : List ℕ) (single : SingleRun) (e : Ended) (last : WorldView)
+    : Type 0 where
+  pub program : List Insn
+  pub file : IsVerifiedFile bytes program
+  pub len : length single.context.items ≡ file.content.ctx_len
+  pub fit : All (λ m. element_refusal file.content.registry m ≡ None) single.elements.items
+  pub runs : RunComesTo single file.content program (Exited e) last
+
+-- what `run` says of a run that exits with the value by its n-th step
+abbrev pub ended_line : ℕ → ℕ → List ℕ
+ended_line value n =
+    codes "exit " ++ (decimal value ++ (codes " steps " ++ (decimal n ++ codes "\n")))
+
+-- what a script's `dump` writes of each of the maps, in their order
+abbrev pub AreDumps : List MapView → List ℕ → Type 0
+AreDumps [] text = text ≡ []
+AreDumps (m ∷ maps) text =
+    (elements : List Reply) × (rest : List ℕ) × AreElements (Some m) None elements
+    × AreDumps maps rest × (text ≡ flat_map reply_text (elements ++ End ∷ []) ++ rest)
+
+-- what is written of the maps behind the exit
+abbrev pub IsDumped : Bool → List MapView → List ℕ → Type 0
+IsDumped true maps text = AreDumps maps text
+IsDumped false maps text = text ≡ []
+
+-- what `run` adds to the output
+abbrev pub WritesRun : SingleRun → Option (List ℕ) → Option (List ℕ) → List ℕ → Type 0
+WritesRun single old new bytes =
+    (e : Ended) × (last : WorldView) × (dumped : List ℕ) × HasEnded bytes single e last
+    × IsDumped single.dump last.maps dumped × Appends old new (ended_line e.value e.steps ++ dumped)
+
+-- the verdict has this number, and neither slot nor line
+pub record IsPlainVerdict (code : ℕ) (v : Verdict) : Type 0 where
+  pub code_is : v.code ≡ code
+  pub slot : v.slot ≡ None
+  pub line : v.line ≡ None
+
+-- an element fails this test
+abbrev pub HasBadElement : RegistryView → List MapElement → EventRefusal → Type 0
+HasBadElement maps elements r =
+    (k : ℕ) × (e : MapElement) × (slice_get elements k ≡ Some e)
+    × (element_refusal maps e ≡ Some r)
+
+-- What this number tells of a run: the context has another length than the file tells, an element
+-- fails a test, or one isn't put, since its map has no place for it.
+abbrev pub IsRunFault : SingleRun → FileContent → List Insn → ℕ → Type 0
+IsRunFault single content program number =
+    ((number ≡ BAD_CONTEXT) × (length single.context.items ≢ content.ctx_len))
+    ⊎ (((r : EventRefusal) × HasBadElement content.registry single.elements.items r
+    × (number ≡ event_refusal_number r))
+    ⊎ ((number ≡ NO_PLACE)
+    × ((k : ℕ) × (last : WorldView) × RunComesTo single content program (NotDone k) last)))
+
+-- The file says a program that is verified with its maps and context, and its run has a fault.
+pub record IsRunVerdict (single : SingleRun) (bytes : List ℕ) (v : Verdict) : Type 0 where
+  pub program : List Insn
+  pub file : IsVerifiedFile bytes program
+  pub number : ℕ
+  pub fault : IsRunFault single file.content program number
+  pub told : IsPlainVerdict number v
+
+-- The verdict is what `check` says of the file, or else of the run.
+abbrev pub IsRunRefusal : SingleRun → List ℕ → Verdict → Type 0
+IsRunRefusal single bytes v = IsCheckedRefusal bytes v ⊎ IsRunVerdict single bytes v
+
+-- `run` refuses the file, the context or an element, by a verdict that is neither want of memory
+-- nor a lost result.
+abbrev pub IsRefusedByRun : SingleRun → List ℕ → Type 0
+IsRefusedByRun single bytes =
+    (v : Verdict) × (v.code ≢ MEMORY) × (v.code ≢ LOST) × IsRunRefusal single bytes v

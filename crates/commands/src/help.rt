@@ -1,0 +1,138 @@
+//! What `--help` says of each command, behind its arguments.
+
+/// Behind the commands of `bpfrt --help`.
+pub const HELP: &str = "\
+A program file is raw bytes, or a text with a context, maps and slots (docs/PROGRAM_FILES.md).
+`bpfrt COMMAND --help` says what a command reads, prints and answers.
+
+Status: 0 fine, 1 refused or a wrong line, 2 usage, 3 memory, a lost result, reading or writing";
+
+/// Behind the arguments of `bpfrt check --help`.
+pub const CHECK_HELP: &str = "\
+Reads a program file: a text (`bpfrt 1`, `ctx N`, `map ..`, `code`, slots in hexadecimal digits),
+whose maps and context the program is verified against, or raw bytes, with neither.
+
+Prints `accepted I instructions S slots`. With --explain, a refusal is followed on standard error by its name
+and meaning, the text of the instruction, and what is known of each register that it reads.
+
+Status, and the line on standard error:
+  0  accepted
+  1  refused C, refused C at S   decoding or the verifier refuses, at slot S (docs/REFUSALS.md)
+     fault 94 at L               line L of the file is wrong (docs/PROGRAM_FILES.md)
+  2  usage
+  3  fault 13, 96, 97            out of memory; FILE or the output failed
+
+Example:
+  $ bpfrt check examples/c/counter.bpfrt
+  accepted 33 instructions 35 slots";
+
+/// Behind the arguments of `bpfrt disasm --help`.
+pub const DISASM_HELP: &str = "\
+Reads a program file as `bpfrt check` does, and verifies nothing.
+
+Prints the text of the program, one instruction a line (docs/ASSEMBLY.md).
+
+Status, and the line on standard error:
+  0  written
+  1  refused C, refused C at S   decoding refuses, at slot S (docs/REFUSALS.md)
+     fault 94 at L               line L of the file is wrong (docs/PROGRAM_FILES.md)
+  2  usage
+  3  fault 13, 96, 97            out of memory; FILE or the output failed
+
+Example:
+  $ bpfrt disasm examples/exit_one.bpf
+  mov64 r0, 1
+  exit";
+
+/// Behind the arguments of `bpfrt asm --help`.
+pub const ASM_HELP: &str = "\
+Reads a text of instructions, one a line, as `bpfrt disasm` writes it (docs/ASSEMBLY.md). Above them may stand
+the lines of a program file, from `ctx N` to `code`.
+
+Prints the bytes of the program; with --file a program file of these lines and its slots.
+
+Status, and the line on standard error:
+  0  written
+  1  refused 14 at L, 15 at L    line L is no instruction, or has something out of its range
+     refused 2, refused 3        there is no instruction, or there are too many
+     fault 94 at L               line L is none that a program file has above its slots
+  2  usage
+  3  fault 13, 96, 97            out of memory; FILE or the output failed
+
+Example:
+  $ bpfrt disasm examples/exit_one.bpf | bpfrt asm --file /dev/stdin
+  bpfrt 1
+  ctx 0
+  code
+  b700000001000000
+  9500000000000000";
+
+/// Behind the words of `bpfrt script --help`.
+pub const SCRIPT_HELP: &str = "\
+Reads a script from standard input to its end, one command a line (docs/SCRIPTS.md): maps and programs,
+then what happens to them.
+
+Prints the answer to each command, `refused C` among them. Each answer is out before the next line is
+waited for.
+
+Status, and the line on standard error:
+  0  the input has ended; also where answers were refusals
+  1  fault 95 at L               line L of the script is no command
+  2  usage
+  3  fault 13, 96, 97            out of memory; the input or the output failed
+
+Example:
+  $ printf 'map m 4 8 1 0 2\\nput m 00000000 0500000000000000 0\\nget m 00000000\\n' | bpfrt script
+  map 0
+  ret 0
+  value 0500000000000000";
+
+/// Behind the arguments of `bpfrt pool --help`.
+pub const POOL_HELP: &str = "\
+Reads a program file as `bpfrt check` does, verifies it, and then runs it COUNT times by WORKERS threads that
+share one world of the file's maps. Each job starts the program on a context of zeros, steps it to its exit,
+and drops the run.
+
+Prints a line for each job in order, `job I exit V`, or `job I stopped C` where an event of the job was refused
+or not applied, those of 1,024 jobs as soon as these are done; then `entries N`, how many events the journal has.
+
+Status, and the line on standard error:
+  0  all jobs are done; also where jobs stopped
+  1  what `bpfrt check` says of FILE; then
+     refused 90                  WORKERS is not 1 to 8
+     refused 91                  COUNT is above 65536
+  2  usage; so a WORKERS or COUNT that is no number, before FILE is read
+  3  fault 13, 96, 97            out of memory; FILE or the output failed
+     fault 92                    the result of a job was lost
+                                 (the lines of some jobs may have been printed)
+
+Example:
+  $ bpfrt pool 4 examples/exit_one.bpf 2
+  job 0 exit 1
+  job 1 exit 1
+  entries 8";
+
+/// Behind the arguments of `bpfrt run --help`.
+pub const RUN_HELP: &str = "\
+Reads a program file as `bpfrt check` does, verifies it, and then runs it once on the context CTX, to its exit,
+in a world of its own with the file's maps. They are new, but for what --map puts in. Bytes are two hexadecimal
+digits each. Options stand behind FILE and CTX.
+
+Prints `exit V steps N`: the exit value, and how many steps the run has made, the exit among them; with --dump
+then for each map of the file `KEY VALUE` for each element, in the order of the keys' bytes, and `end`.
+
+Status, and the line on standard error:
+  0  the run has exited
+  1  what `bpfrt check` says of FILE; then the first of
+     refused 63                  CTX has another length than the file's context
+     refused 65, refused 66      NAME is no map of the file; KEY or VALUE has another length than its map's
+     refused 98                  the map has no place for the element
+  2  usage; so bytes that are none, before FILE is read
+  3  fault 13, 96, 97            out of memory; FILE or the output failed
+     fault 92                    the exit of the run was lost
+
+Example:
+  $ bpfrt run examples/lookup_and_load.bpfrt --map m 00000000=2a00000000000000 --dump
+  exit 42 steps 12
+  00000000 2a00000000000000
+  end";
