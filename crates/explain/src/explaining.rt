@@ -5,7 +5,7 @@ ghost use Rattle.bpf_model.specs.declared.limits.TheConstants.{CTX_BYTES};
 use crate::known::write_kind;
 use crate::meaning::meaning_of;
 use crate::reads::registers_read;
-use bpf_model::{Insn, REGISTERS};
+use bpf_model::Insn;
 use disasm::line_of;
 use program_files::{FileBytes, Source, Verdict, known_where_refused};
 use std::alloc::Global;
@@ -27,10 +27,10 @@ fn insn_at<'a>(source: &'a Source, slot: usize) -> Option<&'a Insn> {
 /// Writes a line for each register that the instruction reads, and how many locks are open where there are any.
 fn write_known<W: Write>(out: &mut W, insn: &Insn, state: &AbsState) -> io::Result<()> {
     let read = registers_read(insn);
-    for number in 0..REGISTERS {
-        if read[number] {
+    for (number, kind) in state.regs.iter().enumerate() {
+        if read.get(number).is_some_and(|is_read| *is_read) {
             write!(out, "  r{number}: ")?;
-            write_kind(out, &state.regs[number])?;
+            write_kind(out, kind)?;
             writeln!(out)?;
         }
     }

@@ -36,19 +36,27 @@ fn write_numbers<W: Write>(out: &mut W, numbers: &Scalar) -> io::Result<()> {
     write_step(out, numbers)
 }
 
-/// The offset that a number stands for.
-fn offset_of(number: u64) -> i64 {
-    number.wrapping_sub(ORIGIN) as i64
+/// Writes the offset that a number stands for.
+fn write_offset<W: Write>(out: &mut W, number: u64) -> io::Result<()> {
+    if number < ORIGIN {
+        let before = ORIGIN - number;
+        write!(out, "-{before}")
+    } else {
+        let behind = number - ORIGIN;
+        write!(out, "{behind}")
+    }
 }
 
 /// Writes at which offsets a reference may be.
 fn write_offsets<W: Write>(out: &mut W, offsets: &Scalar) -> io::Result<()> {
-    let least = offset_of(offsets.least);
     if offsets.least == offsets.greatest {
-        return write!(out, ", at offset {least}");
+        write!(out, ", at offset ")?;
+        return write_offset(out, offsets.least);
     }
-    let greatest = offset_of(offsets.greatest);
-    write!(out, ", at an offset from {least} to {greatest}")?;
+    write!(out, ", at an offset from ")?;
+    write_offset(out, offsets.least)?;
+    write!(out, " to ")?;
+    write_offset(out, offsets.greatest)?;
     write_step(out, offsets)
 }
 
