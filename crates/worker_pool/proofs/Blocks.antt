@@ -1,36 +1,30 @@
 -- What is written once a block of jobs more is served.
-use Rattle.std.proofs.Common.{◌≡◌, ℕ, ◌+◌, ◌≤◌, List, [], ◌++◌, length, map, take, All, refl, ap, sym, ◌∙◌, subst, length-append, arith}
+use Rattle.std.proofs.Common.{◌≡◌, ℕ, ◌+◌, ◌≤◌, List, ◌∷◌, [], ◌++◌, length, map, take, All, sym, subst, length-append, arith}
 use Rattle.std.specs.Prelude.{Option}
 use Rattle.std.specs.Io.KnownBytes.{Appends}
-use Rattle.std.proofs.KnownBytes.{Appends-nil, Appends-trans}
-use Rattle.std.proofs.lemmas.List.{length-map}
-use Rattle.std.proofs.lemmas.List.Elements.{All-append, All-map, All-nil, All-take}
+use Rattle.std.proofs.KnownBytes.{Appends-trans}
+use Rattle.std.proofs.lemmas.List.{length-map, length-take-le}
+use Rattle.std.proofs.lemmas.List.Elements.{All-append, All-map, All-take}
 use Rattle.bpf_model.specs.declared.insn.Insn.{Insn}
 use Rattle.job_queue.specs.Serving.{AreServed}
 use Rattle.shared.specs.Books.{WorkerView}
 use Rattle.verifier.specs.Checked.{Checked}
-use Rattle.worker_pool.specs.declared.fault.RunFault.{RunFault}
-use Rattle.worker_pool.specs.declared.fault.RunFault.TheVariants.{Pool, Write}
 use Rattle.worker_pool.specs.declared.job.Job.{Job}
 use Rattle.worker_pool.specs.declared.job.JobReport.{JobReport}
 use Rattle.worker_pool.specs.declared.job.Outcome.{Outcome}
 use Rattle.worker_pool.specs.declared.job.Trail.{Trail}
 use Rattle.worker_pool.specs.Lines.{job_lines, outcome_of}
 use Rattle.worker_pool.specs.Outcomes.{AreRunsOf, IsOutcomeOf, IsZeroJob}
-use Rattle.worker_pool.specs.Runs.{WritesJobs, WritesPart}
+use Rattle.worker_pool.specs.Runs.{WritesJobs}
 use Rattle.worker_pool.specs.Trails.{IsServedJob}
 use Rattle.worker_pool.proofs.JobLines.{job_lines-append}
 use Rattle.worker_pool.proofs.Outcomes.{reports_of}
 
--- no line is written of no job
-pub no_jobs : (program : List Insn) (len : ℕ) (known : Option (List ℕ)) → WritesJobs program len 0 known known
-no_jobs program len known = record { outcomes = []; number = refl; each = All-nil (IsOutcomeOf program len); written = Appends-nil known }
+pub runs_of : (program : List Insn) (n len : ℕ) (programs : List Checked) (jobs lent : List Job) → map (λ p. p.program) programs ≡ program ∷ [] → n ≡ len → lent ≡ jobs → All (IsZeroJob n) jobs → AreRunsOf program len programs lent
+runs_of program n len programs jobs lent only same is zeros =
+    record { only = only; zeros = subst (λ (m : ℕ). All (IsZeroJob m) lent) same (subst (All (IsZeroJob n)) (sym is) zeros) }
 
-pub nothing_written : (program : List Insn) (len count : ℕ) (known : Option (List ℕ)) (f : RunFault) → WritesPart program len count known known f
-nothing_written program len count known (Pool fault) = (0, omega arith, no_jobs program len known)
-nothing_written program len count known (Write e) = tt
-
--- the lines of further reports are written behind those of the first jobs
+-- the lines of further outcomes are written behind those of the first jobs
 more_written : (program : List Insn) (len first : ℕ) (old mid new : Option (List ℕ)) (outcomes : List Outcome) → WritesJobs program len first old mid → All (IsOutcomeOf program len) outcomes → Appends mid new (job_lines first outcomes) → WritesJobs program len (first + length outcomes) old new
 more_written program len first old mid new outcomes w each wrote =
     let number : length (w.outcomes ++ outcomes) ≡ first + length outcomes = omega (arith, length-append w.outcomes outcomes, w.number) in
@@ -42,10 +36,10 @@ more_written program len first old mid new outcomes w each wrote =
       written = subst (Appends old new) (sym lines) (Appends-trans old mid new (job_lines 0 w.outcomes) (job_lines first outcomes) w.written wrote);
     }
 
--- a block of some of the jobs is served, and the lines of its reports are written
-pub block_written : (programs : List Checked) (program : List Insn) (len first some : ℕ) (jobs block : List Job) (before after : List WorkerView) (reports : List (JobReport Trail)) (old mid new : Option (List ℕ)) → AreRunsOf program len programs jobs → block ≡ take some jobs → length block ≡ some → length reports ≡ length block → AreServed (IsServedJob programs) block before after reports → WritesJobs program len first old mid → Appends mid new (job_lines first (map outcome_of reports)) → WritesJobs program len (first + some) old new
-block_written programs program len first some jobs block before after reports old mid new of is number count served w wrote =
-    let zeros : All (IsZeroJob len) block = subst (All (IsZeroJob len)) (sym is) (All-take (IsZeroJob len) some jobs of.zeros) in
-    let each = All-map (IsOutcomeOf program len) outcome_of reports (reports_of programs program of.only len block before after reports count zeros served) in
-    let total : first + length (map outcome_of reports) ≡ first + some = omega (arith, length-map reports outcome_of, count, number) in
+-- some of the jobs are served, and the lines of their reports are written
+pub block_written : (programs : List Checked) (program : List Insn) (len first some : ℕ) (jobs : List Job) (before after : List WorkerView) (reports : List (JobReport Trail)) (old mid new : Option (List ℕ)) → AreRunsOf program len programs jobs → some ≤ length jobs → length reports ≡ length (take some jobs) → AreServed (IsServedJob programs) (take some jobs) before after reports → WritesJobs program len first old mid → Appends mid new (job_lines first (map outcome_of reports)) → WritesJobs program len (first + some) old new
+block_written programs program len first some jobs before after reports old mid new runs inside count served w wrote =
+    let zeros : All (IsZeroJob len) (take some jobs) = All-take (IsZeroJob len) some jobs runs.zeros in
+    let each = All-map (IsOutcomeOf program len) outcome_of reports (reports_of programs program runs.only len (take some jobs) before after reports count zeros served) in
+    let total : first + length (map outcome_of reports) ≡ first + some = omega (arith, length-map reports outcome_of, count, length-take-le some jobs inside) in
     subst (λ (n : ℕ). WritesJobs program len n old new) total (more_written program len first old mid new (map outcome_of reports) w each wrote)

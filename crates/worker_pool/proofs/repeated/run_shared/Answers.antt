@@ -1,13 +1,14 @@
-use Rattle.std.proofs.Common.{rules, length}
-use Rattle.worker_pool.proofs.Faults.{in_range, memory_or_lost}
-use Rattle.worker_pool.proofs.Outcomes.{reports_of}
+use Rattle.std.proofs.lemmas.Result.{err_from_is_err_and}
+use Rattle.worker_pool.proofs.Blocks.{runs_of}
 use Rattle.worker_pool.proofs.repeated.run_shared.Goals as goal
 
-pub returns-clause-outcomes : goal.returns-clause-outcomes
-returns-clause-outcomes g c ctx_len zeros =
-    reports_of c.in-Ok.shared c.args.program.verified.program c.in-Ok.ensures.codes ctx_len c.args.jobs.now c.in-Ok.all_workers c.run_jobs.new.workers c.in-Ok-run_jobs.report.jobs.items (search rules) zeros c.in-Ok-run_jobs.ensures.each
+pub returns-in_err-serve_blocks-clause-part : goal.returns-in_err-serve_blocks-clause-part
+returns-in_err-serve_blocks-clause-part g c =
+    let v = c.args.program.verified in
+    let p = err_from_is_err_and c.from_residual.result c.from_residual.ensures.1 in
+    rw (p.1, p.2) (c.in_err-serve_blocks.ensures.part v.program v.ctx_len (runs_of v.program c.ctx_len.result v.ctx_len c.in-Ok-shared.shared c.in-Ok.jobs.items c.deref.result.now c.in-Ok-shared.ensures.codes c.ctx_len.ensures.value c.deref.ensures.value c.in-Ok.ensures.each))
 
-pub returns-in-Err-clause-fault : goal.returns-in-Err-clause-fault
-returns-in-Err-clause-fault g c =
-    memory_or_lost c.run_jobs.result c.in-Err.fault c.in-Err.is
-    (c.run_jobs.ensures.served (in_range c.args.workers (length c.in-Ok.all_workers) c.requires.workers.0 c.requires.workers.1 c.in-Ok.ensures.count) c.requires.jobs)
+pub returns-clause-written : goal.returns-clause-written
+returns-clause-written g c =
+    let v = c.args.program.verified in
+    c.in_ok-serve_blocks.ensures.written v.program v.ctx_len (runs_of v.program c.ctx_len.result v.ctx_len c.in-Ok-shared.shared c.in-Ok.jobs.items c.deref.result.now c.in-Ok-shared.ensures.codes c.ctx_len.ensures.value c.deref.ensures.value c.in-Ok.ensures.each)

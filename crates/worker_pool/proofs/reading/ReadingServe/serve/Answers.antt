@@ -1,4 +1,4 @@
-use Rattle.std.proofs.Common.{rules, ◌≡◌, ℕ, inl, inr, refl, sym, ap, subst, ◌∙◌, List, [], ◌++◌, length, Some}
+use Rattle.std.proofs.Common.{rules, ◌≡◌, ℕ, inl, inr, refl, sym, ap, subst, ◌∙◌, [], ◌++◌, length, Some}
 use Rattle.std.specs.Prelude.{Option, slice_get}
 use Rattle.std.proofs.lemmas.Bool.{false≢true}
 use Rattle.std.proofs.lemmas.Option.{slice_get_read}

@@ -1,0 +1,15 @@
+use Rattle.std.proofs.Common.{◌≡◌, ◌+◌, ◌<◌, ◌++◌, ℕ, List, length, get_or, ap, sym, ◌∙◌, arith}
+use Rattle.worker_pool.specs.Lines.{job_line}
+use Rattle.worker_pool.proofs.JobLines.{next_line}
+use Rattle.worker_pool.proofs.lines.make_lines.Goals as goal
+
+pub loop-index-preserved : goal.loop-index-preserved
+loop-index-preserved c =
+    let reports = c.args.jobs.now in
+    let n = c.loop-index.index in
+    let report = c.index-jobs-index.result in
+    let number = c.args.first + n in
+    let inside : n < length reports = omega arith in
+    let at : get_or reports n report ≡ report = sym c.index-jobs-index.is in
+    let wrote : c.write_job.new.out.items ≡ c.loop-index.text.items ++ job_line number report.outcome = c.in-Ok.ensures in
+    wrote ∙ (ap (λ (l : List ℕ). l ++ job_line number report.outcome) c.loop-index.invariant ∙ next_line c.args.first reports n report inside at)
