@@ -1,11 +1,10 @@
 -- How far a shared run has come: each step of its words takes it further.
-use Rattle.std.proofs.Common.{◌≡◌, ℕ, ◌+◌, ◌-◌, ◌<◌, ◌≤◌, refl, sym, ap, subst, ◌∙◌, arith, List, [], ◌∷◌, ◌++◌, Some, length}
+use Rattle.std.proofs.Common.{◌≡◌, ℕ, ◌+◌, ◌<◌, ◌≤◌, sym, ap, subst, ◌∙◌, arith, List, [], ◌++◌, Some, length}
 use Rattle.std.proofs.lemmas.Option.{slice_get_within}
 use Rattle.bpf_model.specs.declared.insn.Insn.{Insn}
 use Rattle.bpf_model.specs.Event.{AreBytes}
 use Rattle.bpf_model.specs.Step.{insn_at}
 use Rattle.bpf_model.specs.View.{RunView}
-use Rattle.bpf_model.specs.Word.{most_map_slots}
 use Rattle.view_laws.specs.Reactions.{fresh_view}
 use Rattle.verifier.specs.Checked.{Checked}
 use Rattle.verifier.specs.Verdict.{IsJustified}

@@ -1,5 +1,5 @@
 -- What a reader touches it holds, by any lawful history.
-use Rattle.std.proofs.Common.{◌≡◌, ◌⊎◌, ℕ, ◌<◌, ◌≤◌, inl, inr, sym, subst, arith, List, [], ◌∷◌, ◌++◌}
+use Rattle.std.proofs.Common.{◌≡◌, ℕ, ◌<◌, inl, inr, subst, arith, List, [], ◌∷◌, ◌++◌}
 use Rattle.table_rule.specs.declared.view.Move.{Move}
 use Rattle.table_rule.specs.declared.view.Move.TheVariants.{Close, Header, Learn, Load, Open, Scan, Store}
 use Rattle.table_rule.specs.declared.view.TableShape.{TableShape}

@@ -1,13 +1,11 @@
 -- What a seat does for a shared run serves it.
-use Rattle.std.proofs.Common.{◌≡◌, ◌⊎◌, ℕ, ◌+◌, ◌*◌, ◌^◌, ◌<◌, ◌≤◌, inl, inr, refl, sym, ap, subst, ◌∙◌, arith, List, [], ◌∷◌, ◌++◌, Option, Some, None, ℤ}
+use Rattle.std.proofs.Common.{◌≡◌, ◌⊎◌, ℕ, ◌+◌, ◌*◌, ◌^◌, ◌<◌, inl, inr, refl, sym, subst, arith, List, [], ◌∷◌, ◌++◌, Option, Some, None, ℤ}
 use Rattle.std.specs.Prelude.{pos, ◌+ℤ◌}
 use Rattle.bpf_model.specs.declared.call.Helper.TheVariants.{Lookup}
 use Rattle.bpf_model.specs.declared.opcode.Width.{Width}
-use Rattle.bpf_model.specs.Access.{byte_count}
 use Rattle.bpf_model.specs.View.{RunView}
 use Rattle.bpf_model.specs.Word.{most_map_slots, slot_base}
 use Rattle.standing_laws.specs.Standing.{IsSlotWord}
-use Rattle.verifier.specs.Checked.{Checked}
 use Rattle.world_laws.specs.Calling.{bytes_in, found_word}
 use Rattle.machine.specs.declared.request.Request.{Request}
 use Rattle.machine.specs.declared.request.Request.TheVariants as requests
@@ -21,7 +19,7 @@ use Rattle.shared_runs.specs.Serving.{CanServe, GoesOnWith, LeadsToWord}
 use Rattle.shared_runs.specs.SharedRuns.{closing, opening}
 use Rattle.shared_runs.proofs.Stretches.{learnt-in}
 use Rattle.read_table.specs.Held.{IsSized}
-use Rattle.read_table.specs.Running.{IsServable, Serves}
+use Rattle.read_table.specs.Running.{Serves}
 
 -- what the code finds out of an address: the slot, and the place in the value
 abbrev pub LeadsThere : ℕ → ℤ → ℕ → ℕ → Type 0

@@ -1,5 +1,5 @@
 -- What a run over the table leaves, and what is so between its steps.
-use Rattle.std.specs.Prelude.{◌≡◌, ◌⊎◌, ℕ, ◌≤◌, List, ◌∷◌, ◌++◌, length}
+use Rattle.std.specs.Prelude.{◌≡◌, ℕ, ◌≤◌, List, ◌∷◌, ◌++◌, length}
 use Rattle.bpf_model.specs.View.{RunView}
 use Rattle.verifier.specs.Checked.{Checked}
 use Rattle.machine.specs.declared.request.Request.{Request}

@@ -65,11 +65,7 @@ impl Setup {
     /// # Errors
     ///
     /// `AllocError` where memory runs out; nothing has changed then.
-    pub fn create(
-        &mut self,
-        name: &Name<'_>,
-        shape: MapShape,
-    ) -> Result<Reply<'static>, AllocError>
+    pub fn create(&mut self, name: &Name<'_>, shape: MapShape) -> Result<Reply<'static>, AllocError>
         ensures replies { IfOk result (λ reply. MapReplies self.old name.now shape reply self.new) }
         ensures err { OnErr result (self.new ≡ self.old) }
     {

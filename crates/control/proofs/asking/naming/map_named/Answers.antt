@@ -1,4 +1,4 @@
-use Rattle.std.proofs.Common.{arith, ◌≡◌, ◌∙◌, ℕ, ◌+◌, ◌<◌, Bool, false, List, [], length, Some, sym, ap, subst, inl, inr}
+use Rattle.std.proofs.Common.{arith, ◌≡◌, ◌∙◌, ℕ, ◌+◌, ◌<◌, Bool, false, List, [], length, Some, sym, ap, inl, inr}
 use Rattle.std.specs.Prelude.{slice_get, bytes_eq, unwrap_or}
 use Rattle.std.proofs.lemmas.Bool.{false≢true, cases_lt}
 use Rattle.std.proofs.lemmas.Option.{slice_get_within, same_Some}

@@ -1,4 +1,4 @@
-use Rattle.std.proofs.Common.{◌≡◌, ℕ, ◌-◌, ◌<◌, List, length, arith, subst, ap, ◌∙◌}
+use Rattle.std.proofs.Common.{◌-◌, ◌<◌, length, arith, subst}
 use Rattle.bpf_model.specs.Event.{AreBytes}
 use Rattle.table_rule.specs.declared.view.TableShape.{TableShape}
 use Rattle.read_table.specs.Held.{IsSized}

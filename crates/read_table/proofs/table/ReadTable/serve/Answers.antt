@@ -1,4 +1,4 @@
-use Rattle.std.proofs.Common.{rules, ◌≡◌, ℕ, ◌+◌, [], ◌∷◌, ap, subst, ◌∙◌, w16}
+use Rattle.std.proofs.Common.{rules, ◌≡◌, ◌+◌, [], ◌∷◌, subst, w16}
 use mir.Val.{SFits}
 use Rattle.std.proofs.lemmas.Int.{to_z-of_z}
 use Rattle.machine.specs.declared.request.Request.{Request}
