@@ -1,5 +1,6 @@
 -- What one run gives of a file's program.
-use Rattle.std.proofs.Common.{◌≡◌, ◌≢◌, ◌⊎◌, ℕ, List, length, map, All, None, refl, subst, inl, inr}
+use Rattle.std.proofs.Common.{◌≡◌, ◌≢◌, ◌⊎◌, ℕ, List, length, map, All, None, refl, sym, subst, inl, inr}
+use Rattle.std.proofs.lemmas.List.Elements.{All-map}
 use Rattle.bpf_model.specs.declared.event.Event.{Event}
 use Rattle.bpf_model.specs.declared.event.EventRefusal.{EventRefusal}
 use Rattle.bpf_model.specs.declared.insn.Insn.{Insn}
@@ -15,11 +16,16 @@ use Rattle.program_files.specs.Checks.{content_with, IsSourceOf}
 use Rattle.single_runs.specs.declared.once.Ended.{Ended}
 use Rattle.single_runs.specs.declared.once.RunEnd.{RunEnd}
 use Rattle.single_runs.specs.declared.once.RunEnd.TheVariants.{Exited, NotDone}
-use Rattle.single_runs.specs.Once.{ComesTo}
+use Rattle.single_runs.specs.Once.{ComesTo, IsUpdate}
 use Rattle.commands.specs.declared.report.TheConstants.{BAD_CONTEXT, NO_PLACE}
+use Rattle.commands.specs.declared.request.MapElement.{MapElement}
 use Rattle.commands.specs.declared.request.SingleRun.{SingleRun}
 use Rattle.commands.specs.Runs.{element_refusal, put_event, HasBadElement, HasEnded, IsPlainVerdict, IsRunFault, IsRunRefusal, RunComesTo}
 use Rattle.commands.proofs.Pooled.{file_of}
+
+-- elements are put by updates
+pub are_updates : (maps : RegistryView) (elements : List MapElement) (events : List Event) → events ≡ map (put_event maps) elements → All IsUpdate events
+are_updates maps elements events puts = subst (All IsUpdate) (sym puts) (All-map IsUpdate (put_event maps) elements (λ k d less. tt))
 
 -- a source that is verified
 pub record IsGood (bytes : List ℕ) (s : Source) : Type 0 where

@@ -129,7 +129,6 @@ Status, and the line on standard error:
      refused 98                  the map has no place for the element
   2  usage; so bytes that are none, before FILE is read
   3  fault 13, 96, 97            out of memory; FILE or the output failed
-     fault 92                    the exit of the run was lost
 
 Example:
   $ bpfrt run examples/lookup_and_load.bpfrt --map m 00000000=2a00000000000000 --dump

@@ -1,12 +1,11 @@
 //! A file's program, run once by itself.
 ghost use Rattle.std.specs.Prelude.{◌≡◌, ◌⊎◌, ◌++◌, List, ℕ, IfOk, IfErr, IfSome};
 ghost use Rattle.program_files.specs.Files.{HoldsBytes};
-ghost use Rattle.commands.specs.declared.report.TheConstants.{LOST};
 ghost use Rattle.commands.specs.Runs.{ended_line, HasEnded, IsDumped, IsRunRefusal, IsRefusedByRun, WritesRun};
 
 use crate::dumping::write_maps;
 use crate::putting::puts_of;
-use crate::report::{BAD_CONTEXT, LOST, NO_PLACE, fault, plain_verdict, refused};
+use crate::report::{BAD_CONTEXT, NO_PLACE, fault, plain_verdict, refused};
 use crate::request::SingleRun;
 use crate::streams::{unread, write_text, written};
 use bpf_model::array_of;
@@ -29,7 +28,7 @@ fn run_of(alloc: Global, file: &FileBytes, single: &SingleRun) -> Result<Exited,
     ensures ended { (bytes : List ℕ) → HoldsBytes file.now bytes →
         IfOk result (λ r. HasEnded bytes single.now r.ended r.world) }
     ensures refused { (bytes : List ℕ) → HoldsBytes file.now bytes →
-        IfErr result (λ v. (v.code ≡ LOST) ⊎ IsRunRefusal single.now bytes v) }
+        IfErr result (IsRunRefusal single.now bytes) }
 {
     let source = file.source(alloc)?;
     let checked = verify_source(alloc, source)?;
@@ -48,7 +47,6 @@ fn run_of(alloc: Global, file: &FileBytes, single: &SingleRun) -> Result<Exited,
             world: ran.world,
         }),
         RunEnd::NotDone(_) => Err(plain_verdict(NO_PLACE)),
-        RunEnd::Lost => Err(plain_verdict(LOST)),
     }
 }
 

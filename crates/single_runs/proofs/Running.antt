@@ -11,6 +11,7 @@ use Rattle.bpf_model.specs.Machine.{Loaded, start_machine}
 use Rattle.bpf_model.specs.Refines.{Tracks, TracksSchedule}
 use Rattle.bpf_model.specs.Schedule.{start_schedule}
 use Rattle.bpf_model.specs.View.{WorldView}
+use Rattle.verifier.specs.Checked.{Checked}
 use Rattle.world.specs.declared.kept.loaded.Loaded as world
 use Rattle.world.specs.Programs.{programs_in}
 use Rattle.single_runs.specs.declared.once.RunEnd.{RunEnd}
@@ -31,10 +32,12 @@ comes_to w new shapes programs program before context events given outcome track
     }
 
 -- the one loaded program of a world is bound to all of its maps
-pub bound_program : (items : List world.Loaded) (l : world.Loaded) (shapes : List MapShape) (context : List ℕ) → items ≡ l ∷ [] → l.maps.items ≡ range_with_len 0 (length l.verified.shapes) → l.verified.shapes ≡ shapes → length context ≡ l.verified.ctx_len → programs_in items ≡ bound_to_all (length shapes) l.verified.program (length context) ∷ []
-bound_program items l shapes context items_are maps_are shapes_are len_is =
-    let with : List ℕ → ℕ → List Loaded = λ maps n. record { code = l.verified.program; maps = maps; context_len = n } ∷ [] in
+pub bound_program : (items : List world.Loaded) (l : world.Loaded) (v : Checked) (shapes : List MapShape) (context : List ℕ) → items ≡ l ∷ [] → l.verified ≡ v → l.maps.items ≡ range_with_len 0 (length v.shapes) → v.shapes ≡ shapes → length context ≡ v.ctx_len → programs_in items ≡ bound_to_all (length shapes) v.program (length context) ∷ []
+bound_program items l v shapes context items_are verified_is maps_are shapes_are len_is =
+    let of : Checked → List ℕ → List Loaded = λ x maps. record { code = x.program; maps = maps; context_len = x.ctx_len } ∷ [] in
+    let with : List ℕ → ℕ → List Loaded = λ maps n. record { code = v.program; maps = maps; context_len = n } ∷ [] in
     ap programs_in items_are
-    ∙ ap (λ maps. with maps l.verified.ctx_len) maps_are
-    ∙ ap (λ (ss : List MapShape). with (range_with_len 0 (length ss)) l.verified.ctx_len) shapes_are
+    ∙ ap (λ x. of x l.maps.items) verified_is
+    ∙ ap (λ maps. with maps v.ctx_len) maps_are
+    ∙ ap (λ (ss : List MapShape). with (range_with_len 0 (length ss)) v.ctx_len) shapes_are
     ∙ ap (λ n. with (range_with_len 0 (length shapes)) n) (sym len_is)

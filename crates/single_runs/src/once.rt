@@ -1,9 +1,9 @@
 //! A program's run, from its start to its exit.
-ghost use Rattle.std.specs.Prelude.{◌≡◌, ◌≢◌, ◌↔◌, IsTrue, ◌≤◌, ◌<◌, ◌+◌, ◌++◌, Some, length, replicate, slice_get, IfOk, IfSome, IfNone};
+ghost use Rattle.std.specs.Prelude.{◌≡◌, ◌≢◌, ◌↔◌, IsTrue, ◌≤◌, ◌<◌, ◌+◌, ◌++◌, Some, length, replicate, slice_get, All, IfOk, IfSome, IfNone};
 ghost use Rattle.bpf_model.specs.declared.event.Answer.TheVariants as told;
 ghost use Rattle.bpf_model.specs.declared.event.Event.TheVariants.{Step};
 ghost use Rattle.bpf_model.specs.View.{AreNewMaps, shapes_of_maps};
-ghost use Rattle.single_runs.specs.Once.{one_run, done, AreDone, IsEnd, ComesTo};
+ghost use Rattle.single_runs.specs.Once.{one_run, done, AreDone, HasExit, HasNoExit, IsEnd, IsUpdate, ComesTo};
 
 use bpf_model::{Answer, CtxBytes, Event, ProgId, RunId};
 use maps::Registry;
@@ -25,8 +25,6 @@ pub enum RunEnd {
     Exited(Ended),
     /// This one of the updates before it, counted from 0, is the first that was not done.
     NotDone(usize),
-    /// It has not exited. No run does so, though no clause says so here.
-    Lost,
 }
 
 /// What one run has come to, and the world behind it.
@@ -87,8 +85,9 @@ fn first_not_done(answers: &[Answer], count: usize) -> Option<usize>
 
 /// The first exit among the answers behind so many.
 fn exit_in(answers: &[Answer], before: usize) -> Option<Ended>
-    ensures { IfSome result (λ e.
+    ensures some { IfSome result (λ e.
         slice_get answers.now (before + e.steps) ≡ Some (told.Exited e.value)) }
+    ensures none { IfNone result (HasNoExit before answers.now) }
 {
     for number in before..answers.len() {
         if let Answer::Exited(value) = &answers[number] {
@@ -101,24 +100,23 @@ fn exit_in(answers: &[Answer], before: usize) -> Option<Ended>
     None
 }
 
-/// What answers say of a run behind so many updates.
+/// What answers say of a run behind so many updates, which has exited.
 fn end_of(answers: &[Answer], before: usize) -> RunEnd
+    requires { HasExit before answers.now }
     ensures { IsEnd before answers.now result }
 {
-    if before > answers.len() {
-        return RunEnd::Lost;
-    }
     if let Some(number) = first_not_done(answers, before) {
         return RunEnd::NotDone(number);
     }
     match exit_in(answers, before) {
         Some(ended) => RunEnd::Exited(ended),
-        None => RunEnd::Lost,
+        None => unreachable!(),
     }
 }
 
 /// Runs a verified program once, on a context of its length, in a world of these new maps, to which it is bound in
-/// their order. Before its start come these events, updates of the maps; nothing else happens there.
+/// their order. Before its start come these events, updates of the maps; nothing else happens there. Each run
+/// exits, with as many steps as the program has instructions at most.
 ///
 /// The error is that there is no memory left.
 pub fn run_once(
@@ -131,6 +129,7 @@ pub fn run_once(
     requires new_maps { AreNewMaps registry.maps }
     requires shapes { verified.shapes ≡ shapes_of_maps registry.maps }
     requires context { length context.items ≡ verified.ctx_len }
+    requires updates { All IsUpdate before.items }
     ensures { IfOk result (λ r. ComesTo (shapes_of_maps registry.maps) verified.program
         before.items context.items r.outcome r.world) }
 {

@@ -1,4 +1,6 @@
 //! Runs of programs whose exits were worked out by hand.
+ghost use Rattle.single_runs.specs.Once.{IsUpdate};
+
 use crate::{Ended, RunEnd, run_once};
 use asm::assemble;
 use bpf_model::{CtxBytes, Event, MapId, MapKind, MapShape, array_of};
@@ -34,7 +36,9 @@ exit
 ";
 
 /// An update of the number under an index.
-fn put(index: u8, number: u8) -> Event {
+fn put(index: u8, number: u8) -> Event
+    ensures { IsUpdate result }
+{
     Event::Update {
         map: MapId::new(0),
         key: array_of(&[index, 0, 0, 0]),

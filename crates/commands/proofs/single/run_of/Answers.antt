@@ -1,31 +1,34 @@
-use Rattle.std.proofs.Common.{rules, ◌≡◌, List, ℕ, subst, inl, inr}
+use Rattle.std.proofs.Common.{rules, ◌≡◌, List, ℕ, subst, inl}
 use Rattle.std.proofs.lemmas.Result.{err_from_is_err_and}
 use Rattle.bpf_model.specs.View.{shapes_of_maps}
 use Rattle.program_files.proofs.Shapes.{verifier_told}
 use Rattle.single_runs.specs.declared.once.RunEnd.{RunEnd}
 use Rattle.single_runs.specs.declared.once.RunEnd.TheVariants.{Exited, NotDone}
 use Rattle.single_runs.specs.Once.{ComesTo}
-use Rattle.commands.proofs.Ran.{IsGood, of_source, ended_of, context_told, puts_told, place_told}
+use Rattle.commands.proofs.Ran.{IsGood, are_updates, of_source, ended_of, context_told, puts_told, place_told}
 use Rattle.commands.proofs.single.run_of.Goals as goal
 
 pub returns-in_err-checked-clause-refused : goal.returns-in_err-checked-clause-refused
 returns-in_err-checked-clause-refused c bytes h =
     let p = err_from_is_err_and c.from_residual-in_err-checked.result c.from_residual-in_err-checked.ensures.1 in
-    rw p.1 (inr (inl (verifier_told bytes c.in_ok-source.source c.in_err-checked.field-0.0 p.0 (c.in_ok-source.ensures.found bytes h) c.in_err-checked.ensures.told c.in_err-checked.ensures.plain c.in_err-checked.ensures.plain_with_maps p.2)))
+    rw p.1 (inl (verifier_told bytes c.in_ok-source.source c.in_err-checked.field-0.0 p.0 (c.in_ok-source.ensures.found bytes h) c.in_err-checked.ensures.told c.in_err-checked.ensures.plain c.in_err-checked.ensures.plain_with_maps p.2))
 
 pub returns-then-len-ctx_len-clause-refused : goal.returns-then-len-ctx_len-clause-refused
 returns-then-len-ctx_len-clause-refused c bytes h =
     let good : IsGood bytes c.in_ok-source.source = record { is = c.in_ok-source.ensures.found bytes h; graph = c.in_ok-checked.ensures.graph; verified = c.in_ok-checked.ensures.verified } in
-    inr (context_told bytes c.args.single.now c.in_ok-source.source c.plain_verdict.result good (search rules) c.plain_verdict.ensures)
+    context_told bytes c.args.single.now c.in_ok-source.source c.plain_verdict.result good (search rules) c.plain_verdict.ensures
 
 pub returns-in_err-puts-clause-refused : goal.returns-in_err-puts-clause-refused
 returns-in_err-puts-clause-refused c bytes h =
     let good : IsGood bytes c.in_ok-source.source = record { is = c.in_ok-source.ensures.found bytes h; graph = c.in_ok-checked.ensures.graph; verified = c.in_ok-checked.ensures.verified } in
     let p = err_from_is_err_and c.from_residual-in_err-puts.result c.from_residual-in_err-puts.ensures.1 in
-    rw (p.1, p.2) (inr (puts_told bytes c.args.single.now c.in_ok-source.source c.in_ok-checked.checked.registry _ good c.in_ok-checked.ensures.registry c.in_err-puts.ensures.refused))
+    rw (p.1, p.2) (puts_told bytes c.args.single.now c.in_ok-source.source c.in_ok-checked.checked.registry _ good c.in_ok-checked.ensures.registry c.in_err-puts.ensures.refused)
+
+pub run_once-requires-clause-updates : goal.run_once-requires-clause-updates
+run_once-requires-clause-updates c = are_updates c.in_ok-checked.checked.registry c.args.single.now.elements.items c.in_ok-puts.puts.items (search rules)
 
 pub returns-in_default-clause-refused : goal.returns-in_default-clause-refused
-returns-in_default-clause-refused c bytes h = inr (inl (inl (inl c.plain_verdict.ensures.code_is)))
+returns-in_default-clause-refused c bytes h = inl (inl (inl c.plain_verdict.ensures.code_is))
 
 pub returns-in-Exited-clause-ended : goal.returns-in-Exited-clause-ended
 returns-in-Exited-clause-ended c bytes h =
@@ -45,9 +48,6 @@ returns-in-NotDone-clause-refused c bytes h =
     let k = c.in-NotDone.field-0 in
     let good : IsGood bytes s = record { is = c.in_ok-source.ensures.found bytes h; graph = c.in_ok-checked.ensures.graph; verified = c.in_ok-checked.ensures.verified } in
     let run = subst (λ (o : RunEnd). ComesTo (shapes_of_maps checked.registry.maps) checked.verified.program c.in_ok-puts.puts.items c.array_of-context.result.items o ran.world) c.in-NotDone.is c.in-Ok.ensures in
-    inr (place_told bytes c.args.single.now s k ran.world c.plain_verdict.result good
+    place_told bytes c.args.single.now s k ran.world c.plain_verdict.result good
     (of_source c.args.single.now s checked.verified.program checked.registry c.in_ok-puts.puts.items c.array_of-context.result.items (NotDone k) ran.world c.in_ok-checked.ensures.program c.in_ok-checked.ensures.registry (search rules) (search rules) run)
-    c.plain_verdict.ensures)
-
-pub returns-in-Lost-clause-refused : goal.returns-in-Lost-clause-refused
-returns-in-Lost-clause-refused c bytes h = inl c.plain_verdict.ensures.code_is
+    c.plain_verdict.ensures

@@ -4,8 +4,8 @@ use Rattle.std.specs.Prelude.{slice_get}
 use Rattle.bpf_model.specs.declared.event.Answer.TheVariants.{Exited}
 use Rattle.single_runs.proofs.once.exit_in.Goals as goal
 
-pub returns-in-Exited : goal.returns-in-Exited
-returns-in-Exited c =
+pub returns-in-Exited-clause-some : goal.returns-in-Exited-clause-some
+returns-in-Exited-clause-some c =
     let given = c.args.answers.now in
     let n = c.loop-number.number in
     let past : c.args.before ≤ n = c.loop-number.auto.number in
