@@ -1,6 +1,6 @@
 -- What a pool gives of a file's program.
-use Rattle.std.proofs.Common.{◌≡◌, ◌≢◌, ◌⊎◌, ◌<◌, ◌++◌, ℕ, List, length, All, refl, ap, sym, subst, ◌∙◌, inl, inr, arith}
-use Rattle.std.specs.Prelude.{Option}
+use Rattle.std.proofs.Common.{◌≡◌, ℕ, List, All, refl, sym, subst, inr, arith}
+use Rattle.std.specs.Prelude.{Option, Result, Ok, Err, MatchResult, OnOk}
 use Rattle.std.specs.Io.KnownBytes.{Appends}
 use Rattle.std.proofs.KnownBytes.{Appends-trans}
 use Rattle.bpf_model.specs.declared.insn.Insn.{Insn}
@@ -8,16 +8,12 @@ use Rattle.bpf_model.specs.View.{shapes_of_maps}
 use Rattle.program_graph.specs.GraphFlaws.{HasGoodGraph}
 use Rattle.typed_runs.specs.Verified.{IsVerified}
 use Rattle.job_queue.specs.declared.fault.PoolFault.{PoolFault}
-use Rattle.job_queue.specs.declared.fault.PoolFault.TheVariants.{BadWorkers, TooManyJobs, Memory, Lost}
-use Rattle.job_queue.specs.declared.pool.TheConstants.{MAX_JOBS, MAX_WORKERS}
 use Rattle.worker_pool.specs.Lines.{job_lines}
 use Rattle.worker_pool.specs.Outcomes.{IsFaultOf, IsOutcomeOf}
 use Rattle.worker_pool.specs.Runs.{WritesJobs}
 use Rattle.program_files.specs.declared.program_file.Source.{Source}
 use Rattle.program_files.specs.declared.verdict.Verdict.{Verdict}
-use Rattle.program_files.specs.declared.verdict.TheConstants.{MEMORY}
 use Rattle.program_files.specs.Checks.{content_with, IsSourceOf, IsVerifiedFile}
-use Rattle.commands.specs.declared.report.TheConstants.{LOST}
 use Rattle.commands.specs.Pools.{entries_line, IsPoolFaultVerdict, IsPoolRefusal, IsProgramOf, WritesPool}
 
 abbrev pub file_of : (bytes : List ℕ) (s : Source) → IsSourceOf bytes s → HasGoodGraph s.program → IsVerified s.program (shapes_of_maps s.registry.maps) s.ctx_len → IsVerifiedFile bytes s.program
@@ -45,10 +41,11 @@ pool_written bytes program context_len count entries old mid new found wrote las
 pub pool_told : (workers count : ℕ) (bytes : List ℕ) (program : List Insn) (context_len : ℕ) (f : PoolFault) (v : Verdict) → IsProgramOf bytes program context_len → IsFaultOf workers count f → IsPoolFaultVerdict f v → IsPoolRefusal workers count bytes v
 pool_told workers count bytes program context_len f v found fault told = inr (record { program = program; file = found.file; fault = f; is = fault; told = told })
 
--- a fault whose status is not 3 is that a number is refused
-pub number_refused : (workers count status : ℕ) (f : PoolFault) (v : Verdict) → IsFaultOf workers count f → IsPoolFaultVerdict f v → (v.code ≡ MEMORY → status ≡ 3) → (v.code ≡ LOST → status ≡ 3) → status ≡ 1 → (workers ≡ 0) ⊎ (MAX_WORKERS < workers) ⊎ (MAX_JOBS < count)
-number_refused workers count status BadWorkers v (inl none) told memory lost one = inl none
-number_refused workers count status BadWorkers v (inr many) told memory lost one = inr (inl many)
-number_refused workers count status TooManyJobs v many told memory lost one = inr (inr many)
-number_refused workers count status Memory v fault told memory lost one = let three : status ≡ 3 = memory told.code in absurd (omega (arith, three, one))
-number_refused workers count status Lost v fault told memory lost one = let three : status ≡ 3 = lost told.code in absurd (omega (arith, three, one))
+-- what has the status 3 is not so where the status is 1
+pub not_so : (P : Type 0) (status : ℕ) → (P → status ≡ 3) → status ≡ 1 → P → ⊥
+not_so P status three one p = omega (arith, three p, one)
+
+-- what is so where the writing succeeds is so where the status is 0
+pub so_written : {T E P : Type 0} (r : Result T E) (status : ℕ) → MatchResult r (λ _. status ≡ 0) (λ _. status ≡ 3) → status ≡ 0 → OnOk r P → P
+so_written (Ok x) status told zero p = p
+so_written (Err e) status told zero p = absurd (omega (arith, told, zero))

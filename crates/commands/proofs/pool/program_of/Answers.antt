@@ -1,4 +1,3 @@
-use Rattle.std.proofs.Common.{rules}
 use Rattle.std.proofs.lemmas.Result.{err_from_is_err_and}
 use Rattle.commands.proofs.Pooled.{program_found}
 use Rattle.program_files.proofs.Shapes.{verifier_told}

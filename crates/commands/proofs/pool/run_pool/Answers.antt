@@ -1,0 +1,41 @@
+use Rattle.std.proofs.Common.{◌≡◌, inl}
+use Rattle.std.proofs.lemmas.Option.{IfSome_then}
+use Rattle.program_files.specs.declared.verdict.TheConstants.{MEMORY}
+use Rattle.commands.specs.declared.report.TheConstants.{LOST}
+use Rattle.commands.proofs.Pooled.{not_so, pool_told, pool_written, so_written}
+use Rattle.commands.proofs.pool.run_pool.Goals as goal
+
+pub returns-in-Err-program_of-clause-refused : goal.returns-in-Err-program_of-clause-refused
+returns-in-Err-program_of-clause-refused g c one =
+    let v = c.in-Err-program_of.verdict in
+    let told = c.refused.ensures in
+    IfSome_then (g.R.Read.remaining c.args.input.now) c.in-Ok.ensures
+    (λ bytes holds. (
+      v,
+      not_so (v.code ≡ MEMORY) c.refused.result told.memory one,
+      not_so (v.code ≡ LOST) c.refused.result told.lost one,
+      inl (c.in-Err-program_of.ensures.refused bytes holds),
+    ))
+
+pub returns-in-Ok-run_program-clause-pooled : goal.returns-in-Ok-run_program-clause-pooled
+returns-in-Ok-run_program-clause-pooled g c zero =
+    let p = c.in-Ok-program_of.program.verified in
+    let contents = g.W.Write.contents in
+    let last = so_written c.write_entries.result c.written.result c.written.ensures zero c.write_entries.ensures in
+    IfSome_then (g.R.Read.remaining c.args.input.now) c.in-Ok.ensures
+    (λ bytes holds. pool_written bytes p.program p.ctx_len c.args.size.count c.in-Ok-run_program.entries (contents c.args.out.now) (contents c.run_program.new.out) (contents c.write_entries.new.out)
+    (c.in-Ok-program_of.ensures.found bytes holds) c.in-Ok-run_program.ensures.written last)
+
+pub returns-in-Err-Pool-clause-refused : goal.returns-in-Err-Pool-clause-refused
+returns-in-Err-Pool-clause-refused g c one =
+    let p = c.in-Ok-program_of.program.verified in
+    let v = c.pool_verdict.result in
+    let told = c.refused-in-Err-Pool.ensures in
+    let fault = rw c.in-Err-Pool.field-0-is at c.in-Err-Pool.ensures.fault in
+    IfSome_then (g.R.Read.remaining c.args.input.now) c.in-Ok.ensures
+    (λ bytes holds. (
+      v,
+      not_so (v.code ≡ MEMORY) c.refused-in-Err-Pool.result told.memory one,
+      not_so (v.code ≡ LOST) c.refused-in-Err-Pool.result told.lost one,
+      pool_told c.args.size.workers c.args.size.count bytes p.program p.ctx_len c.in-Err-Pool.fault v (c.in-Ok-program_of.ensures.found bytes holds) fault c.pool_verdict.ensures,
+    ))
