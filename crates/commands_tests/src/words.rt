@@ -67,7 +67,9 @@ fn words_of_commands(rt: HostRuntime) -> Result<(), Fail> {
         }
     }
     let check = asked(&rt, alloc, &["bpfrt", "check", "a.bpf"])?;
-    assert!(rt; matches!(&check, Ok(Command::Check { file, explain: false }) if file.as_str() == "a.bpf"));
+    assert!(rt;
+        matches!(&check, Ok(Command::Check { file, explain: false }) if file.as_str() == "a.bpf")
+    );
     let explained = asked(&rt, alloc, &["bpfrt", "check", "--explain", "a.bpf"])?;
     assert!(rt; matches!(&explained, Ok(Command::Check { explain: true, .. })));
     let disasm = asked(&rt, alloc, &["bpfrt", "disasm", "b.bpf"])?;
