@@ -1,6 +1,6 @@
 pub mod Dumped
 pub mod Pooled
-pub mod Putting
+pub mod PutFirst
 pub mod Ran
 pub mod Reading
 pub mod Texts

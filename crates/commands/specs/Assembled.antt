@@ -9,7 +9,6 @@ use Rattle.disasm.specs.Text.{line_of}
 use Rattle.asm.specs.declared.fault.AsmFault.{AsmFault}
 use Rattle.asm.specs.declared.fault.AsmFault.TheVariants as asm_faults
 use Rattle.asm.specs.Faults.{statements_in, IsAsmFault}
-use Rattle.program_files.specs.declared.loader.fault.LoadFault.{LoadFault}
 use Rattle.program_files.specs.declared.loader.fault.LoadFault.TheVariants as load_faults
 use Rattle.program_files.specs.ProgramFile.{FileContent, FileSays, IsLoadFault, heading}
 use Rattle.commands.specs.declared.assembling.TextFault.{TextFault}

@@ -4,7 +4,6 @@ use Rattle.std.specs.List.{flat_map}
 use Rattle.std.proofs.lemmas.List.{take_more, take_all}
 use Rattle.std.proofs.lemmas.Option.{slice_get_cases}
 use Rattle.bpf_model.specs.View.{MapView}
-use Rattle.script_lines.specs.declared.reply.Reply.{Reply}
 use Rattle.script_lines.specs.declared.reply.Reply.TheVariants.{End}
 use Rattle.script_lines.specs.Answers.{reply_text}
 use Rattle.control.specs.Replies.{AreElements}

@@ -1,13 +1,12 @@
-use Rattle.std.proofs.Common.{◌≡◌, ◌∙◌, ℕ, ◌<◌, ◌≤◌, List, ◌++◌, length, drop, None, Some, refl, ap, inl, inr, arith}
+use Rattle.std.proofs.Common.{◌≡◌, ◌≢◌, ◌∙◌, ℕ, ◌<◌, ◌≤◌, List, ◌++◌, length, drop, None, Some, refl, ap, inl, inr, arith}
 use Rattle.std.proofs.Math.Seq.{drop-append_seam}
 use Rattle.std.proofs.lemmas.Bool.{cases_lt}
 use Rattle.std.proofs.lemmas.Str.Pattern.{split_text_parts}
-use Rattle.core.specs.Str.Pattern.{LacksTextAt}
 use Rattle.commands.specs.Assembled.{code_line}
 use Rattle.commands.proofs.heads.parts_of.Goals as goal
 
 -- where a text stands, it stands no earlier than at the first place
-no_earlier : (p bs : List ℕ) (i : ℕ) → ((k : ℕ) → k < i → LacksTextAt p bs k) → (xs ys : List ℕ) → bs ≡ xs ++ (p ++ ys) → i ≤ length xs
+no_earlier : (p bs : List ℕ) (i : ℕ) → ((k : ℕ) → k < i → (rest : List ℕ) → drop k bs ≢ p ++ rest) → (xs ys : List ℕ) → bs ≡ xs ++ (p ++ ys) → i ≤ length xs
 no_earlier p bs i lacks xs ys e = elim (cases_lt (length xs) i) [
   | inl less ↦ absurd (lacks (length xs) less ys (ap (drop (length xs)) e ∙ drop-append_seam xs (p ++ ys)))
   | inr more ↦ omega (arith, more)

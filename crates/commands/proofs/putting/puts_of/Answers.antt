@@ -1,9 +1,9 @@
-use Rattle.std.proofs.Common.{rules, ◌≡◌, ◌∙◌, ◌<◌, ◌≤◌, ◌∷◌, [], ◌++◌, List, length, get_or, map, take, All, Some, None, refl, sym, ap, subst, inl, inr, arith}
+use Rattle.std.proofs.Common.{rules, ◌≡◌, ◌∙◌, ◌<◌, ◌≤◌, ◌∷◌, [], ◌++◌, List, length, get_or, map, All, None, refl, sym, ap, subst, inr}
 use Rattle.std.proofs.lemmas.List.{take_all}
 use Rattle.std.proofs.lemmas.Option.{slice_get_read}
 use Rattle.commands.specs.declared.request.MapElement.{MapElement}
 use Rattle.commands.specs.Runs.{element_refusal, put_event}
-use Rattle.commands.proofs.Putting.{one_put_more, one_fits_more}
+use Rattle.commands.proofs.PutFirst.{one_put_more, one_fits_more}
 use Rattle.commands.proofs.putting.puts_of.Goals as goal
 
 pub loop-number-preserved : goal.loop-number-preserved

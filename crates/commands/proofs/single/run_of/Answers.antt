@@ -1,6 +1,11 @@
-use Rattle.std.proofs.Common.{rules, ◌≡◌, List, ℕ, subst, inl}
+use Rattle.std.proofs.Common.{rules, ◌≡◌, ◌⊎◌, List, subst, inl}
 use Rattle.std.proofs.lemmas.Result.{err_from_is_err_and}
+use Rattle.bpf_model.specs.declared.event.EventRefusal.{EventRefusal}
+use Rattle.bpf_model.specs.Event.{event_refusal_number}
 use Rattle.bpf_model.specs.View.{shapes_of_maps}
+use Rattle.program_files.specs.declared.verdict.TheConstants.{MEMORY}
+use Rattle.commands.specs.declared.request.MapElement.{MapElement}
+use Rattle.commands.specs.Runs.{HasBadElement, IsPlainVerdict}
 use Rattle.program_files.proofs.Shapes.{verifier_told}
 use Rattle.single_runs.specs.declared.once.RunEnd.{RunEnd}
 use Rattle.single_runs.specs.declared.once.RunEnd.TheVariants.{Exited, NotDone}
@@ -22,13 +27,16 @@ pub returns-in_err-puts-clause-refused : goal.returns-in_err-puts-clause-refused
 returns-in_err-puts-clause-refused c bytes h =
     let good : IsGood bytes c.in_ok-source.source = record { is = c.in_ok-source.ensures.found bytes h; graph = c.in_ok-checked.ensures.graph; verified = c.in_ok-checked.ensures.verified } in
     let p = err_from_is_err_and c.from_residual-in_err-puts.result c.from_residual-in_err-puts.ensures.1 in
-    rw (p.1, p.2) (puts_told bytes c.args.single.now c.in_ok-source.source c.in_ok-checked.checked.registry _ good c.in_ok-checked.ensures.registry c.in_err-puts.ensures.refused)
+    let v = c.in_err-puts.field-0.0 in
+    let maps = c.in_ok-checked.checked.registry in
+    let refused = subst (λ (es : List MapElement). (v.code ≡ MEMORY) ⊎ ((r : EventRefusal) × HasBadElement maps es r × IsPlainVerdict (event_refusal_number r) v)) c.deref.ensures.value c.in_err-puts.ensures.refused in
+    rw (p.1, p.2) (puts_told bytes c.args.single.now c.in_ok-source.source maps v good c.in_ok-checked.ensures.registry refused)
 
 pub run_once-requires-clause-updates : goal.run_once-requires-clause-updates
 run_once-requires-clause-updates c = are_updates c.in_ok-checked.checked.registry c.args.single.now.elements.items c.in_ok-puts.puts.items (search rules)
 
 pub returns-in_default-clause-refused : goal.returns-in_default-clause-refused
-returns-in_default-clause-refused c bytes h = inl (inl (inl c.plain_verdict.ensures.code_is))
+returns-in_default-clause-refused c bytes h = inl (inl (inl c.plain_verdict-in_default.ensures.code_is))
 
 pub returns-in-Exited-clause-ended : goal.returns-in-Exited-clause-ended
 returns-in-Exited-clause-ended c bytes h =
@@ -48,6 +56,6 @@ returns-in-NotDone-clause-refused c bytes h =
     let k = c.in-NotDone.field-0 in
     let good : IsGood bytes s = record { is = c.in_ok-source.ensures.found bytes h; graph = c.in_ok-checked.ensures.graph; verified = c.in_ok-checked.ensures.verified } in
     let run = subst (λ (o : RunEnd). ComesTo (shapes_of_maps checked.registry.maps) checked.verified.program c.in_ok-puts.puts.items c.array_of-context.result.items o ran.world) c.in-NotDone.is c.in-Ok.ensures in
-    place_told bytes c.args.single.now s k ran.world c.plain_verdict.result good
+    place_told bytes c.args.single.now s k ran.world c.plain_verdict-in-NotDone.result good
     (of_source c.args.single.now s checked.verified.program checked.registry c.in_ok-puts.puts.items c.array_of-context.result.items (NotDone k) ran.world c.in_ok-checked.ensures.program c.in_ok-checked.ensures.registry (search rules) (search rules) run)
-    c.plain_verdict.ensures
+    c.plain_verdict-in-NotDone.ensures

@@ -1,5 +1,5 @@
 -- Elements that are put one after another, and what is told of one that is not.
-use Rattle.std.proofs.Common.{◌≡◌, ◌∙◌, ℕ, ◌+◌, ◌<◌, ◌≤◌, List, [], ◌∷◌, ◌++◌, length, map, take, get_or, All, Some, None, ap, sym, subst}
+use Rattle.std.proofs.Common.{◌≡◌, ◌∙◌, ℕ, zero, suc, arith, ◌+◌, ◌<◌, ◌≤◌, List, [], ◌∷◌, ◌++◌, length, map, take, get_or, All, Some, None, ap, sym, subst}
 use Rattle.std.specs.Prelude.{option_map, slice_get}
 use Rattle.std.proofs.lemmas.List.{map-append, take_more}
 use Rattle.std.proofs.lemmas.List.Elements.{All-append}
@@ -23,10 +23,14 @@ one_put_more maps elements k e events event inside at before is =
     ∙ (ap (λ (x : Event). map (put_event maps) (take k elements) ++ x ∷ []) is
     ∙ sym (ap (map (put_event maps)) (next_taken elements k e inside at) ∙ map-append (put_event maps) (take k elements) (e ∷ [])))
 
+one_all : (P : MapElement → Type 0) (e : MapElement) → P e → All P (e ∷ [])
+one_all P e holds zero d less = holds
+one_all P e holds (suc k) d less = absurd (omega (arith, less))
+
 pub one_fits_more : (maps : RegistryView) (elements : List MapElement) (k : ℕ) (e : MapElement) → k < length elements → get_or elements k e ≡ e → All (λ m. element_refusal maps m ≡ None) (take k elements) → element_refusal maps e ≡ None → All (λ m. element_refusal maps m ≡ None) (take (k + 1) elements)
 one_fits_more maps elements k e inside at before fits =
     let all : List MapElement → Type 0 = λ es. All (λ m. element_refusal maps m ≡ None) es in
-    subst all (sym (next_taken elements k e inside at)) (All-append (λ m. element_refusal maps m ≡ None) (take k elements) (e ∷ []) before (fits, tt))
+    subst all (sym (next_taken elements k e inside at)) (All-append (λ m. element_refusal maps m ≡ None) (take k elements) (e ∷ []) before (one_all (λ m. element_refusal maps m ≡ None) e fits))
 
 -- the limits of the shape of a registry's map
 pub short_enough : (maps : List MapView) (number : ℕ) (shape : MapShape) → AreShapes (map (λ v. v.shape) maps) → option_map (λ m. m.shape) (slice_get maps number) ≡ Some shape → (shape.key_len ≤ KEY_BYTES) × (shape.value_len ≤ VALUE_BYTES)
