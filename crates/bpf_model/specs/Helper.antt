@@ -10,7 +10,7 @@ use Rattle.bpf_model.specs.declared.call.Errno.TheVariants.{InvalidArgument}
 use Rattle.bpf_model.specs.declared.limits.MapKind.{MapKind}
 use Rattle.bpf_model.specs.declared.limits.MapKind.TheVariants.{Hash, Array}
 use Rattle.bpf_model.specs.Section.{Section}
-use Rattle.bpf_model.specs.Element.{Element, IsLinkedAt, IsAbsent, linked_count, newborn, overwritten}
+use Rattle.bpf_model.specs.Element.{IsLinkedAt, IsAbsent, linked_count, newborn, overwritten}
 use Rattle.bpf_model.specs.Element.{unlinked}
 use Rattle.bpf_model.specs.MapState.{MapState, Store, TakesOut, with_bag, with_elements}
 

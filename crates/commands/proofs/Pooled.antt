@@ -8,13 +8,15 @@ use Rattle.bpf_model.specs.View.{shapes_of_maps}
 use Rattle.program_graph.specs.GraphFlaws.{HasGoodGraph}
 use Rattle.typed_runs.specs.Verified.{IsVerified}
 use Rattle.job_queue.specs.declared.fault.PoolFault.{PoolFault}
+use Rattle.job_queue.specs.Faults.{pool_fault_number}
 use Rattle.worker_pool.specs.Lines.{job_lines}
 use Rattle.worker_pool.specs.Outcomes.{IsFaultOf, IsOutcomeOf}
 use Rattle.worker_pool.specs.Runs.{WritesJobs}
 use Rattle.program_files.specs.declared.program_file.Source.{Source}
 use Rattle.program_files.specs.declared.verdict.Verdict.{Verdict}
 use Rattle.program_files.specs.Checks.{content_with, IsSourceOf, IsVerifiedFile}
-use Rattle.commands.specs.Pools.{entries_line, IsPoolFaultVerdict, IsPoolRefusal, IsProgramOf, WritesPool}
+use Rattle.commands.specs.Outputs.{IsPlainVerdict}
+use Rattle.commands.specs.Pools.{entries_line, IsPoolRefusal, IsProgramOf, WritesPool}
 
 abbrev pub file_of : (bytes : List ℕ) (s : Source) → IsSourceOf bytes s → HasGoodGraph s.program → IsVerified s.program (shapes_of_maps s.registry.maps) s.ctx_len → IsVerifiedFile bytes s.program
 file_of bytes s is graph verified = record { content = content_with s; says = is.says; is = is.is; text_is = refl; graph = graph; verified = verified }
@@ -38,7 +40,7 @@ pool_written bytes program context_len count entries old mid new found wrote las
   Appends-trans old mid new (job_lines 0 wrote.outcomes) (entries_line entries) wrote.written last,
 )
 
-pub pool_told : (workers count : ℕ) (bytes : List ℕ) (program : List Insn) (context_len : ℕ) (f : PoolFault) (v : Verdict) → IsProgramOf bytes program context_len → IsFaultOf workers count f → IsPoolFaultVerdict f v → IsPoolRefusal workers count bytes v
+pub pool_told : (workers count : ℕ) (bytes : List ℕ) (program : List Insn) (context_len : ℕ) (f : PoolFault) (v : Verdict) → IsProgramOf bytes program context_len → IsFaultOf workers count f → IsPlainVerdict (pool_fault_number f) v → IsPoolRefusal workers count bytes v
 pool_told workers count bytes program context_len f v found fault told = inr (record { program = program; file = found.file; fault = f; is = fault; told = told })
 
 -- what has the status 3 is not so where the status is 1

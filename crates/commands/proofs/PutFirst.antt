@@ -1,6 +1,7 @@
 -- Elements that are put one after another, and what is told of one that is not.
-use Rattle.std.proofs.Common.{◌≡◌, ◌∙◌, ℕ, zero, suc, arith, ◌+◌, ◌<◌, ◌≤◌, List, [], ◌∷◌, ◌++◌, length, map, take, get_or, All, Some, None, ap, sym, subst}
+use Rattle.std.proofs.Common.{◌≡◌, ◌∙◌, ℕ, zero, suc, arith, ◌+◌, ◌<◌, ◌≤◌, List, [], ◌∷◌, ◌++◌, length, map, take, get_or, drop, All, Some, None, ap, sym, subst}
 use Rattle.std.specs.Prelude.{option_map, slice_get}
+use Rattle.std.proofs.Math.Seq.{split_at}
 use Rattle.std.proofs.lemmas.List.{map-append, take_more}
 use Rattle.std.proofs.lemmas.List.Elements.{All-append}
 use Rattle.std.proofs.lemmas.Option.{slice_get-map}
@@ -11,7 +12,8 @@ use Rattle.bpf_model.specs.MapState.{AreShapes}
 use Rattle.bpf_model.specs.View.{MapView}
 use Rattle.maps.specs.Registry.{RegistryView}
 use Rattle.commands.specs.declared.request.MapElement.{MapElement}
-use Rattle.commands.specs.Runs.{element_refusal, put_event}
+use Rattle.commands.specs.Runs.{element_refusal, put_event, AllFit, HasBadElement}
+use Rattle.bpf_model.specs.declared.event.EventRefusal.{EventRefusal}
 
 -- the elements below the next index are those below this one, and the one that stands there
 next_taken : (elements : List MapElement) (k : ℕ) (e : MapElement) → k < length elements → get_or elements k e ≡ e → take (k + 1) elements ≡ take k elements ++ e ∷ []
@@ -27,10 +29,15 @@ one_all : (P : MapElement → Type 0) (e : MapElement) → P e → All P (e ∷ 
 one_all P e holds zero d less = holds
 one_all P e holds (suc k) d less = absurd (omega (arith, less))
 
-pub one_fits_more : (maps : RegistryView) (elements : List MapElement) (k : ℕ) (e : MapElement) → k < length elements → get_or elements k e ≡ e → All (λ m. element_refusal maps m ≡ None) (take k elements) → element_refusal maps e ≡ None → All (λ m. element_refusal maps m ≡ None) (take (k + 1) elements)
+pub one_fits_more : (maps : RegistryView) (elements : List MapElement) (k : ℕ) (e : MapElement) → k < length elements → get_or elements k e ≡ e → AllFit maps (take k elements) → element_refusal maps e ≡ None → AllFit maps (take (k + 1) elements)
 one_fits_more maps elements k e inside at before fits =
-    let all : List MapElement → Type 0 = λ es. All (λ m. element_refusal maps m ≡ None) es in
-    subst all (sym (next_taken elements k e inside at)) (All-append (λ m. element_refusal maps m ≡ None) (take k elements) (e ∷ []) before (one_all (λ m. element_refusal maps m ≡ None) e fits))
+    subst (AllFit maps) (sym (next_taken elements k e inside at)) (All-append (λ m. element_refusal maps m ≡ None) (take k elements) (e ∷ []) before (one_all (λ m. element_refusal maps m ≡ None) e fits))
+
+-- what stands behind elements that fit, and doesn't, is the first bad one
+pub first_bad : (maps : RegistryView) (elements : List MapElement) (k : ℕ) (e : MapElement) (r : EventRefusal) → k < length elements → get_or elements k e ≡ e → AllFit maps (take k elements) → element_refusal maps e ≡ Some r → HasBadElement maps elements r
+first_bad maps elements k e r inside at before fails =
+    let cut = split_at elements k e inside ∙ ap (λ (x : MapElement). take k elements ++ x ∷ drop (suc k) elements) at in
+    (take k elements, e, drop (suc k) elements, cut, before, fails)
 
 -- the limits of the shape of a registry's map
 pub short_enough : (maps : List MapView) (number : ℕ) (shape : MapShape) → AreShapes (map (λ v. v.shape) maps) → option_map (λ m. m.shape) (slice_get maps number) ≡ Some shape → (shape.key_len ≤ KEY_BYTES) × (shape.value_len ≤ VALUE_BYTES)

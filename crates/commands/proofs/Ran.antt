@@ -1,5 +1,5 @@
 -- What one run gives of a file's program.
-use Rattle.std.proofs.Common.{◌≡◌, ◌≢◌, ◌⊎◌, ℕ, List, length, map, All, None, refl, sym, subst, inl, inr}
+use Rattle.std.proofs.Common.{◌≡◌, ◌≢◌, ◌⊎◌, ℕ, List, length, map, All, refl, sym, subst, inl, inr}
 use Rattle.std.proofs.lemmas.List.Elements.{All-map}
 use Rattle.bpf_model.specs.declared.event.Event.{Event}
 use Rattle.bpf_model.specs.declared.event.EventRefusal.{EventRefusal}
@@ -20,7 +20,8 @@ use Rattle.single_runs.specs.Once.{ComesTo, IsUpdate}
 use Rattle.commands.specs.declared.report.TheConstants.{BAD_CONTEXT, NO_PLACE}
 use Rattle.commands.specs.declared.request.MapElement.{MapElement}
 use Rattle.commands.specs.declared.request.SingleRun.{SingleRun}
-use Rattle.commands.specs.Runs.{element_refusal, put_event, HasBadElement, HasEnded, IsPlainVerdict, IsRunFault, IsRunRefusal, RunComesTo}
+use Rattle.commands.specs.Outputs.{IsPlainVerdict}
+use Rattle.commands.specs.Runs.{put_event, AllFit, HasBadElement, HasEnded, IsRunFault, IsRunRefusal, RunComesTo}
 use Rattle.commands.proofs.Pooled.{file_of}
 
 -- elements are put by updates
@@ -42,12 +43,12 @@ of_source single s program maps events items outcome last same_program same_maps
     let of_maps = subst (λ (r : RegistryView). ComesTo (shapes_of_maps r.maps) s.program (map (put_event r) elements) items outcome last) same_maps of_program in
     subst (λ (xs : List ℕ). ComesTo (shapes_of_maps s.registry.maps) s.program (map (put_event s.registry) elements) xs outcome last) same_context of_maps
 
-pub ended_of : (bytes : List ℕ) (single : SingleRun) (s : Source) (maps : RegistryView) (e : Ended) (last : WorldView) → IsGood bytes s → length single.context.items ≡ s.ctx_len → maps ≡ s.registry → All (λ m. element_refusal maps m ≡ None) single.elements.items → RunComesTo single (content_with s) s.program (Exited e) last → HasEnded bytes single e last
+pub ended_of : (bytes : List ℕ) (single : SingleRun) (s : Source) (maps : RegistryView) (e : Ended) (last : WorldView) → IsGood bytes s → length single.context.items ≡ s.ctx_len → maps ≡ s.registry → AllFit maps single.elements.items → RunComesTo single (content_with s) s.program (Exited e) last → HasEnded bytes single e last
 ended_of bytes single s maps e last good len same fit run = record {
   program = s.program;
   file = file_of bytes s good.is good.graph good.verified;
   len = len;
-  fit = subst (λ (r : RegistryView). All (λ m. element_refusal r m ≡ None) single.elements.items) same fit;
+  fit = subst (λ (r : RegistryView). AllFit r single.elements.items) same fit;
   runs = run;
 }
 
@@ -55,16 +56,18 @@ told : (bytes : List ℕ) (single : SingleRun) (s : Source) (number : ℕ) (v : 
 told bytes single s number v good fault plain = inr (record { program = s.program; file = file_of bytes s good.is good.graph good.verified; number = number; fault = fault; told = plain })
 
 pub context_told : (bytes : List ℕ) (single : SingleRun) (s : Source) (v : Verdict) → IsGood bytes s → length single.context.items ≢ s.ctx_len → IsPlainVerdict BAD_CONTEXT v → IsRunRefusal single bytes v
-context_told bytes single s v good other plain = told bytes single s BAD_CONTEXT v good (inl (refl, other)) plain
+context_told bytes single s v good other plain = told bytes single s BAD_CONTEXT v good (inl (other, refl)) plain
 
-element_told : (bytes : List ℕ) (single : SingleRun) (s : Source) (maps : RegistryView) (r : EventRefusal) (v : Verdict) → IsGood bytes s → maps ≡ s.registry → HasBadElement maps single.elements.items r → IsPlainVerdict (event_refusal_number r) v → IsRunRefusal single bytes v
-element_told bytes single s maps r v good same bad plain =
+element_told : (bytes : List ℕ) (single : SingleRun) (s : Source) (maps : RegistryView) (r : EventRefusal) (v : Verdict) → IsGood bytes s → length single.context.items ≡ s.ctx_len → maps ≡ s.registry → HasBadElement maps single.elements.items r → IsPlainVerdict (event_refusal_number r) v → IsRunRefusal single bytes v
+element_told bytes single s maps r v good len same bad plain =
     let of_file = subst (λ (m : RegistryView). HasBadElement m single.elements.items r) same bad in
-    told bytes single s (event_refusal_number r) v good (inr (inl (r, of_file, refl))) plain
+    told bytes single s (event_refusal_number r) v good (inr (len, inl (r, of_file, refl))) plain
 
-pub puts_told : (bytes : List ℕ) (single : SingleRun) (s : Source) (maps : RegistryView) (v : Verdict) → IsGood bytes s → maps ≡ s.registry → ((v.code ≡ MEMORY) ⊎ ((r : EventRefusal) × HasBadElement maps single.elements.items r × IsPlainVerdict (event_refusal_number r) v)) → IsRunRefusal single bytes v
-puts_told bytes single s maps v good same (inl memory) = inl (inl (inl memory))
-puts_told bytes single s maps v good same (inr (r, bad, plain)) = element_told bytes single s maps r v good same bad plain
+pub puts_told : (bytes : List ℕ) (single : SingleRun) (s : Source) (maps : RegistryView) (v : Verdict) → IsGood bytes s → length single.context.items ≡ s.ctx_len → maps ≡ s.registry → ((v.code ≡ MEMORY) ⊎ ((r : EventRefusal) × HasBadElement maps single.elements.items r × IsPlainVerdict (event_refusal_number r) v)) → IsRunRefusal single bytes v
+puts_told bytes single s maps v good len same (inl memory) = inl (inl (inl memory))
+puts_told bytes single s maps v good len same (inr (r, bad, plain)) = element_told bytes single s maps r v good len same bad plain
 
-pub place_told : (bytes : List ℕ) (single : SingleRun) (s : Source) (k : ℕ) (last : WorldView) (v : Verdict) → IsGood bytes s → RunComesTo single (content_with s) s.program (NotDone k) last → IsPlainVerdict NO_PLACE v → IsRunRefusal single bytes v
-place_told bytes single s k last v good run plain = told bytes single s NO_PLACE v good (inr (inr (refl, (k, last, run)))) plain
+pub place_told : (bytes : List ℕ) (single : SingleRun) (s : Source) (maps : RegistryView) (k : ℕ) (last : WorldView) (v : Verdict) → IsGood bytes s → length single.context.items ≡ s.ctx_len → maps ≡ s.registry → AllFit maps single.elements.items → RunComesTo single (content_with s) s.program (NotDone k) last → IsPlainVerdict NO_PLACE v → IsRunRefusal single bytes v
+place_told bytes single s maps k last v good len same fit run plain =
+    let of_file = subst (λ (r : RegistryView). AllFit r single.elements.items) same fit in
+    told bytes single s NO_PLACE v good (inr (len, inr (of_file, (k, last, run), refl))) plain

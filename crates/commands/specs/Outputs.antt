@@ -1,5 +1,5 @@
 -- What `check` and `disasm` write, of which files, and how they refuse the others.
-use Rattle.std.specs.Prelude.{◌≢◌, ℕ, List, ◌++◌, length, codes, Option}
+use Rattle.std.specs.Prelude.{◌≡◌, ◌≢◌, ℕ, List, ◌++◌, length, codes, Option, None}
 use Rattle.std.specs.Fmt.{decimal}
 use Rattle.std.specs.Io.KnownBytes.{Appends}
 use Rattle.bpf_model.specs.declared.insn.Insn.{Insn}
@@ -7,6 +7,12 @@ use Rattle.bpf_model.specs.Spelling.{slot_total}
 use Rattle.program_files.specs.declared.verdict.Verdict.{Verdict}
 use Rattle.program_files.specs.declared.verdict.TheConstants.{MEMORY}
 use Rattle.program_files.specs.Checks.{IsVerifiedFile, IsTextOf, IsDecodeRefusal, IsCheckedRefusal}
+
+-- the verdict has this number, and neither slot nor line
+pub record IsPlainVerdict (code : ℕ) (v : Verdict) : Type 0 where
+  pub code_is : v.code ≡ code
+  pub slot : v.slot ≡ None
+  pub line : v.line ≡ None
 
 -- The file, or its code, has a fault other than want of memory.
 abbrev pub IsRefusedByDecode : List ℕ → Type 0

@@ -1,6 +1,6 @@
 -- What `pool` writes, of which files, and how it refuses the others.
 use Rattle.std.specs.Prelude.{◌≡◌, ◌≢◌, ◌⊎◌, ℕ, List, ◌++◌, length, codes, All}
-use Rattle.std.specs.Prelude.{Option, None}
+use Rattle.std.specs.Prelude.{Option}
 use Rattle.std.specs.Fmt.{decimal}
 use Rattle.std.specs.Io.KnownBytes.{Appends}
 use Rattle.bpf_model.specs.declared.insn.Insn.{Insn}
@@ -13,6 +13,7 @@ use Rattle.program_files.specs.declared.verdict.Verdict.{Verdict}
 use Rattle.program_files.specs.declared.verdict.TheConstants.{MEMORY}
 use Rattle.program_files.specs.Checks.{IsVerifiedFile, IsCheckedRefusal}
 use Rattle.commands.specs.declared.report.TheConstants.{LOST}
+use Rattle.commands.specs.Outputs.{IsPlainVerdict}
 
 -- how many entries the journal has
 abbrev pub entries_line : ℕ → List ℕ
@@ -41,12 +42,6 @@ WritesPool count old new bytes =
     (outcomes : List Outcome) × (entries : ℕ) × ArePooled bytes count outcomes
     × Appends old new (pool_text outcomes entries)
 
--- the verdict has the number of the pool's fault, and neither slot nor line
-pub record IsPoolFaultVerdict (f : PoolFault) (v : Verdict) : Type 0 where
-  pub code : v.code ≡ pool_fault_number f
-  pub slot : v.slot ≡ None
-  pub line : v.line ≡ None
-
 -- The file says a program that is verified with its maps and context, and the pool of so many
 -- workers and jobs has a fault.
 pub record IsPoolVerdict (workers count : ℕ) (bytes : List ℕ) (v : Verdict) : Type 0 where
@@ -54,7 +49,7 @@ pub record IsPoolVerdict (workers count : ℕ) (bytes : List ℕ) (v : Verdict) 
   pub file : IsVerifiedFile bytes program
   pub fault : PoolFault
   pub is : IsFaultOf workers count fault
-  pub told : IsPoolFaultVerdict fault v
+  pub told : IsPlainVerdict (pool_fault_number fault) v
 
 -- The verdict is what `check` says of the file, or else the pool's.
 abbrev pub IsPoolRefusal : ℕ → ℕ → List ℕ → Verdict → Type 0

@@ -27,7 +27,8 @@ use Rattle.single_runs.specs.declared.once.RunEnd.TheVariants.{Exited, NotDone}
 use Rattle.single_runs.specs.Once.{ComesTo}
 use Rattle.commands.specs.declared.request.MapElement.{MapElement}
 use Rattle.commands.specs.declared.request.SingleRun.{SingleRun}
-use Rattle.commands.specs.declared.report.TheConstants.{BAD_CONTEXT, LOST, NO_PLACE}
+use Rattle.commands.specs.declared.report.TheConstants.{BAD_CONTEXT, NO_PLACE}
+use Rattle.commands.specs.Outputs.{IsPlainVerdict}
 
 -- the number of the map that has the name
 abbrev pub map_named : RegistryView → List ℕ → Option ℕ
@@ -43,6 +44,10 @@ abbrev pub element_refusal : RegistryView → MapElement → Option EventRefusal
 element_refusal maps e =
     update_refusal (shape_named maps (string_bytes e.map)) (length e.key.items)
     (length e.value.items)
+
+-- each element has a map and its lengths
+abbrev pub AllFit : RegistryView → List MapElement → Type 0
+AllFit maps elements = All (λ e. element_refusal maps e ≡ None) elements
 
 -- the element is put into its map, whether or not the key has an element
 abbrev pub put_event : RegistryView → MapElement → Event
@@ -65,7 +70,7 @@ pub record HasEnded (bytes : List ℕ) (single : SingleRun) (e : Ended) (last : 
   pub program : List Insn
   pub file : IsVerifiedFile bytes program
   pub len : length single.context.items ≡ file.content.ctx_len
-  pub fit : All (λ m. element_refusal file.content.registry m ≡ None) single.elements.items
+  pub fit : AllFit file.content.registry single.elements.items
   pub runs : RunComesTo single file.content program (Exited e) last
 
 -- what `run` says of a run that exits with the value by its n-th step
@@ -91,27 +96,24 @@ WritesRun single old new bytes =
     (e : Ended) × (last : WorldView) × (dumped : List ℕ) × HasEnded bytes single e last
     × IsDumped single.dump last.maps dumped × Appends old new (ended_line e.value e.steps ++ dumped)
 
--- the verdict has this number, and neither slot nor line
-pub record IsPlainVerdict (code : ℕ) (v : Verdict) : Type 0 where
-  pub code_is : v.code ≡ code
-  pub slot : v.slot ≡ None
-  pub line : v.line ≡ None
-
--- an element fails this test
+-- the first element that fails a test fails this one
 abbrev pub HasBadElement : RegistryView → List MapElement → EventRefusal → Type 0
 HasBadElement maps elements r =
-    (k : ℕ) × (e : MapElement) × (slice_get elements k ≡ Some e)
-    × (element_refusal maps e ≡ Some r)
+    (good : List MapElement) × (bad : MapElement) × (others : List MapElement)
+    × (elements ≡ good ++ bad ∷ others) × AllFit maps good × (element_refusal maps bad ≡ Some r)
 
--- What this number tells of a run: the context has another length than the file tells, an element
--- fails a test, or one isn't put, since its map has no place for it.
+-- What this number tells of a run: the context has another length than the file tells; or it has
+-- that, and the first element that fails a test fails this one; or all fit, and one isn't put, since
+-- its map has no place for it.
 abbrev pub IsRunFault : SingleRun → FileContent → List Insn → ℕ → Type 0
 IsRunFault single content program number =
-    ((number ≡ BAD_CONTEXT) × (length single.context.items ≢ content.ctx_len))
-    ⊎ (((r : EventRefusal) × HasBadElement content.registry single.elements.items r
+    ((length single.context.items ≢ content.ctx_len) × (number ≡ BAD_CONTEXT))
+    ⊎ ((length single.context.items ≡ content.ctx_len)
+    × (((r : EventRefusal) × HasBadElement content.registry single.elements.items r
     × (number ≡ event_refusal_number r))
-    ⊎ ((number ≡ NO_PLACE)
-    × ((k : ℕ) × (last : WorldView) × RunComesTo single content program (NotDone k) last)))
+    ⊎ (AllFit content.registry single.elements.items
+    × ((k : ℕ) × (last : WorldView) × RunComesTo single content program (NotDone k) last)
+    × (number ≡ NO_PLACE))))
 
 -- The file says a program that is verified with its maps and context, and its run has a fault.
 pub record IsRunVerdict (single : SingleRun) (bytes : List ℕ) (v : Verdict) : Type 0 where
@@ -125,8 +127,6 @@ pub record IsRunVerdict (single : SingleRun) (bytes : List ℕ) (v : Verdict) : 
 abbrev pub IsRunRefusal : SingleRun → List ℕ → Verdict → Type 0
 IsRunRefusal single bytes v = IsCheckedRefusal bytes v ⊎ IsRunVerdict single bytes v
 
--- `run` refuses the file, the context or an element, by a verdict that is neither want of memory
--- nor a lost result.
+-- `run` refuses the file, the context or an element, by a verdict that is not want of memory.
 abbrev pub IsRefusedByRun : SingleRun → List ℕ → Type 0
-IsRefusedByRun single bytes =
-    (v : Verdict) × (v.code ≢ MEMORY) × (v.code ≢ LOST) × IsRunRefusal single bytes v
+IsRefusedByRun single bytes = (v : Verdict) × (v.code ≢ MEMORY) × IsRunRefusal single bytes v

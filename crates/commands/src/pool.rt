@@ -6,7 +6,7 @@ ghost use Rattle.program_files.specs.Checks.{IsCheckedRefusal};
 ghost use Rattle.program_files.specs.Files.{HoldsBytes};
 ghost use Rattle.commands.specs.Pools.{entries_line, IsProgramOf, IsRefusedByPool, WritesPool};
 
-use crate::report::{pool_verdict, refused};
+use crate::report::{plain_verdict, refused};
 use crate::streams::{unread, written};
 use program_files::{FileBytes, Verdict, VerifiedSource, read_file, verify_source};
 use std::alloc::Global;
@@ -74,7 +74,7 @@ pub fn run_pool<H: Threads + Wait + Sync, R: Read, W: Write, E: Write>(
     };
     match run_program(rt, alloc, program, size.workers, size.count, out) {
         Ok(entries) => written(err, write_entries(out, entries)),
-        Err(RunFault::Pool(fault)) => refused(err, pool_verdict(fault)),
+        Err(RunFault::Pool(fault)) => refused(err, plain_verdict(fault.code())),
         Err(RunFault::Write(error)) => written(err, Err(error)),
     }
 }

@@ -1,9 +1,10 @@
 //! Elements that are put into a file's maps.
-ghost use Rattle.std.specs.Prelude.{◌≡◌, ◌⊎◌, map, All, None, Some, IfOk, IfErr};
+ghost use Rattle.std.specs.Prelude.{◌≡◌, ◌⊎◌, map, None, Some, IfOk, IfErr};
 ghost use Rattle.bpf_model.specs.declared.event.EventRefusal.{EventRefusal as RefusalOf};
 ghost use Rattle.bpf_model.specs.Event.{event_refusal_number};
 ghost use Rattle.program_files.specs.declared.verdict.TheConstants.{MEMORY};
-ghost use Rattle.commands.specs.Runs.{element_refusal, put_event, HasBadElement, IsPlainVerdict};
+ghost use Rattle.commands.specs.Outputs.{IsPlainVerdict};
+ghost use Rattle.commands.specs.Runs.{element_refusal, put_event, AllFit, HasBadElement};
 
 use crate::report::plain_verdict;
 use crate::request::MapElement;
@@ -39,14 +40,14 @@ fn put_of(registry: &Registry, element: &MapElement) -> Result<Event, EventRefus
     })
 }
 
-/// The events by which elements are put into maps, one after another, or the first test that one fails.
+/// The events by which elements are put into maps, one after another, or the first
+/// test that is failed by the first element that fails one.
 pub fn puts_of(
     alloc: Global,
     registry: &Registry,
     elements: &[MapElement],
 ) -> Result<Vec<Event>, Verdict>
-    ensures fit { IfOk result (λ _.
-        All (λ e. element_refusal registry.now e ≡ None) elements.now) }
+    ensures fit { IfOk result (λ _. AllFit registry.now elements.now) }
     ensures puts { IfOk result (λ es. es.items ≡ map (put_event registry.now) elements.now) }
     ensures refused { IfErr result (λ v. (v.code ≡ MEMORY) ⊎
         ((r : RefusalOf) × HasBadElement registry.now elements.now r

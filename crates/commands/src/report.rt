@@ -3,13 +3,11 @@ ghost use Rattle.std.specs.Prelude.{◌≡◌, ◌≢◌, ◌⊎◌};
 ghost use Rattle.commands.specs.declared.request.UsageFault.TheVariants.{Memory};
 ghost use Rattle.program_files.specs.declared.verdict.TheConstants.{MEMORY};
 ghost use Rattle.commands.specs.declared.report.TheConstants.{LOST};
-ghost use Rattle.commands.specs.Pools.{IsPoolFaultVerdict};
-ghost use Rattle.commands.specs.Runs.{IsPlainVerdict};
+ghost use Rattle.commands.specs.Outputs.{IsPlainVerdict};
 
 use crate::request::UsageFault;
 use program_files::{MEMORY, Verdict};
 use std::io::Write;
-use worker_pool::PoolFault;
 
 /// The number of a context of another length than the program's.
 pub const BAD_CONTEXT: u8 = 63;
@@ -32,17 +30,6 @@ pub fn plain_verdict(code: u8) -> Verdict
 {
     Verdict {
         code,
-        slot: None,
-        line: None,
-    }
-}
-
-/// The verdict of a pool's fault.
-pub fn pool_verdict(fault: PoolFault) -> Verdict
-    ensures { IsPoolFaultVerdict fault result }
-{
-    Verdict {
-        code: fault.code(),
         slot: None,
         line: None,
     }

@@ -1,7 +1,6 @@
 -- The elements of arrays stay linked in each step of the machine.
-use Rattle.std.proofs.Common.{◌≡◌, ℕ, Bool, true, false, List, ◌∷◌, [], ◌++◌, length, ◌<◌, arith, Option, Some, None, inl, inr, refl, sym, ap, ◌∙◌, subst, Result, ℤ, ◌+ℤ◌}
+use Rattle.std.proofs.Common.{◌≡◌, ℕ, false, List, ◌++◌, length, ◌<◌, arith, Option, Some, None, inl, inr, refl, sym, ap, ◌∙◌, subst, Result, ℤ, ◌+ℤ◌}
 use Rattle.std.specs.Prelude.{slice_get, slice_set}
-use Rattle.std.proofs.lemmas.Bool.{cases_eq}
 use Rattle.std.proofs.lemmas.Option.{none-some, same_Some, slice_get_within}
 use Rattle.bpf_model.specs.declared.insn.Insn.{Insn}
 use Rattle.bpf_model.specs.declared.insn.Insn.TheVariants.{Call, Load, LoadSigned, Store}
@@ -28,9 +27,9 @@ use Rattle.bpf_model.specs.Section.{Section}
 use Rattle.bpf_model.specs.Element.{Element, Unlinked, Reclaimed, with_value, with_life, set_to, accessible, changed, overwritten, unlinked}
 use Rattle.bpf_model.specs.MapState as map_state
 use Rattle.bpf_model.specs.MapState.{MapState}
-use Rattle.bpf_model.specs.Helper.{LooksUp, Replaces, Writes, Settles, Updates, Removes, RemovesFrom, Deletes}
+use Rattle.bpf_model.specs.Helper.{LooksUp, Writes, Settles, Updates, RemovesFrom, Deletes}
 use Rattle.bpf_model.specs.Reclaim.{Reclaims}
-use Rattle.bpf_model.specs.Machine.{Run, Machine, environment, open_sections, with_store}
+use Rattle.bpf_model.specs.Machine.{Run, Machine, environment, open_sections}
 use Rattle.bpf_model.specs.MachineStep.{AccessesElement, Acts, HelperStep, InsnStep, element_store, stored_in, with_bytes}
 use Rattle.bpf_model.specs.Consistent.{StaysLinked}
 use Rattle.bpf_model.specs.Event.{PerformsEvent, Answers, DoesEvent, refusal}

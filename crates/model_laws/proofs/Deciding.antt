@@ -28,7 +28,7 @@ use Rattle.bpf_model.specs.Access.{byte_count, unsigned_width}
 use Rattle.bpf_model.specs.Call.{helper_of, kernel_function_of, ret_word}
 use Rattle.bpf_model.specs.Step.{State, Environment, Outcome, Moves, Exits, after, sets, load_from, store_to}
 use Rattle.bpf_model.specs.Section.{Section}
-use Rattle.bpf_model.specs.Element.{Element, Unlinked, Reclaimed, HasLife, with_life, linked_count, unlinked, newborn, overwritten}
+use Rattle.bpf_model.specs.Element.{Element, Unlinked, Reclaimed, HasLife, with_life, linked_count, unlinked, newborn}
 use Rattle.bpf_model.specs.MapState as map_state
 use Rattle.bpf_model.specs.MapState.{MapState, with_bag, with_elements, returned, given_of}
 use Rattle.bpf_model.specs.Helper.{LooksUp, Replaces, Settles, Updates, Removes, Deletes, update_error, Writes, RemovesFrom}

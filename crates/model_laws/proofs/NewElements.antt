@@ -1,13 +1,13 @@
 -- The elements that new maps have: those of arrays.
-use Rattle.std.proofs.Common.{◌≡◌, ◌≢◌, ℕ, zero, suc, ◌+◌, ◌*◌, ◌<◌, ◌≤◌, List, [], ◌∷◌, ◌++◌, length, map, cond, replicate, Some, None, ◌⊎◌, inl, inr, refl, sym, ap, ◌∙◌, arith, subst, ◌^◌}
-use Rattle.std.specs.Prelude.{slice_get, count_by, not, ◌==◌, ◌&&◌}
-use Rattle.std.specs.List.{range_with_len, sum_by}
-use Rattle.std.specs.Int.{w32, from_le_bytes, to_le_bytes}
+use Rattle.std.proofs.Common.{◌≡◌, ℕ, zero, suc, ◌+◌, ◌*◌, ◌<◌, ◌≤◌, List, [], ◌∷◌, ◌++◌, length, map, cond, Some, ◌⊎◌, inl, inr, refl, sym, ap, ◌∙◌, arith, subst, ◌^◌}
+use Rattle.std.specs.Prelude.{slice_get, not, ◌==◌, ◌&&◌}
+use Rattle.std.specs.List.{range_with_len}
+use Rattle.std.specs.Int.{w32, from_le_bytes}
 use Rattle.std.proofs.lemmas.Nat.{from_le_bytes-to_le_bytes_4}
 use Rattle.std.proofs.lemmas.Bool.{cases_eq}
 use Rattle.std.proofs.lemmas.Option.{none-some, same_Some}
-use Rattle.std.proofs.lemmas.List.{length-append, length-replicate}
-use Rattle.std.proofs.lemmas.List.FromFn.{length-map-range_with_len, length-range_with_len}
+use Rattle.std.proofs.lemmas.List.{length-append}
+use Rattle.std.proofs.lemmas.List.FromFn.{length-map-range_with_len}
 use Rattle.std.proofs.lemmas.List.Sums.{sum_by-cons, sum_by-append}
 use Rattle.bpf_model.specs.declared.limits.MapShape.{MapShape}
 use Rattle.bpf_model.specs.declared.limits.MapKind.{MapKind}
@@ -16,7 +16,7 @@ use Rattle.bpf_model.specs.declared.limits.TheConstants.{MAX_ENTRIES}
 use Rattle.bpf_model.specs.Element.{Element, Linked, is_linked, is_reclaimed, linked_count}
 use Rattle.bpf_model.specs.MapState.{AreShapes, index_key, array_element, new_elements, all_new_elements}
 use Rattle.model_laws.specs.Accounted.{kept_count, born_count}
-use Rattle.model_laws.proofs.Tallies.{one_of, count-cons, of_map, of-same, of-other, kept_uses, uses_of, is_kept, uses-here, kept-is}
+use Rattle.model_laws.proofs.Tallies.{one_of, count-cons, of_map, of-same, of-other, kept_uses, uses_of, is_kept}
 
 -- Different indices have different keys.
 pub index-same : (i j : ℕ) → i < 2 ^ 32 → j < 2 ^ 32 → index_key i ≡ index_key j → i ≡ j

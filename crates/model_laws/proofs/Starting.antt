@@ -1,5 +1,5 @@
 -- The world at the start tracks the schedule at the start.
-use Rattle.std.proofs.Common.{◌≡◌, ℕ, zero, suc, ◌+◌, ◌<◌, ◌≤◌, List, [], ◌∷◌, map, length, replicate, Some, None, ◌≢◌, ◌^◌, inl, inr, refl, sym, ap, ◌∙◌, arith, subst, false}
+use Rattle.std.proofs.Common.{◌≡◌, ℕ, zero, suc, ◌+◌, ◌<◌, ◌≤◌, List, [], ◌∷◌, map, length, replicate, Some, None, inl, inr, refl, sym, ap, ◌∙◌, arith, subst, false}
 use Rattle.std.specs.Prelude.{slice_get, slice_index, count_by}
 use Rattle.std.specs.List.{range_with_len}
 use Rattle.std.specs.FinMap.{get, get-empty, len-empty}

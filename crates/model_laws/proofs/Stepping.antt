@@ -20,7 +20,7 @@ use Rattle.bpf_model.specs.Access.{byte_count, region_offset}
 use Rattle.bpf_model.specs.Call.{helper_of}
 use Rattle.bpf_model.specs.Step.{State, Environment, Outcome}
 use Rattle.bpf_model.specs.Section.{Section}
-use Rattle.bpf_model.specs.Element.{Element, with_value, with_life, accessible, changed, overwritten, unlinked}
+use Rattle.bpf_model.specs.Element.{Element, with_value, with_life, accessible, changed, unlinked}
 use Rattle.bpf_model.specs.MapState as map_state
 use Rattle.bpf_model.specs.Helper.{LooksUp, Replaces, Writes, Settles, Updates, Removes, RemovesFrom, Deletes}
 use Rattle.bpf_model.specs.declared.limits.MapKind.{MapKind}

@@ -15,7 +15,7 @@ use Rattle.bpf_model.specs.Machine.{Run, section_of}
 use Rattle.bpf_model.specs.MapState.{new_map}
 use Rattle.bpf_model.specs.Section.{Section}
 use Rattle.bpf_model.proofs.Lists.{get-map, get-replicate, get-below}
-use Rattle.typed_runs.specs.Describes.{Scene, scene_of, IsArrayMap, IsGuarded}
+use Rattle.typed_runs.specs.Describes.{scene_of, IsArrayMap, IsGuarded}
 use Rattle.typed_runs.specs.Verified.{StaysKept}
 use Rattle.typed_runs.proofs.Arrays.{AllStayKept}
 use Rattle.typed_runs.proofs.Kept.{Keeps}

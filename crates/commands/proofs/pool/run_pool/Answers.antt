@@ -29,7 +29,7 @@ returns-in-Ok-run_program-clause-pooled g c zero =
 pub returns-in-Err-Pool-clause-refused : goal.returns-in-Err-Pool-clause-refused
 returns-in-Err-Pool-clause-refused g c one =
     let p = c.in-Ok-program_of.program.verified in
-    let v = c.pool_verdict.result in
+    let v = c.plain_verdict.result in
     let told = c.refused-in-Err-Pool.ensures in
     let fault = rw c.in-Err-Pool.field-0-is at c.in-Err-Pool.ensures.fault in
     IfSome_then (g.R.Read.remaining c.args.input.now) c.in-Ok.ensures
@@ -37,5 +37,5 @@ returns-in-Err-Pool-clause-refused g c one =
       v,
       not_so (v.code ≡ MEMORY) c.refused-in-Err-Pool.result told.memory one,
       not_so (v.code ≡ LOST) c.refused-in-Err-Pool.result told.lost one,
-      pool_told c.args.size.workers c.args.size.count bytes p.program p.ctx_len c.in-Err-Pool.fault v (c.in-Ok-program_of.ensures.found bytes holds) fault c.pool_verdict.ensures,
+      pool_told c.args.size.workers c.args.size.count bytes p.program p.ctx_len c.in-Err-Pool.fault v (c.in-Ok-program_of.ensures.found bytes holds) fault c.plain_verdict.ensures,
     ))

@@ -1,9 +1,7 @@
-use Rattle.std.proofs.Common.{rules, ◌≡◌, ◌∙◌, ◌<◌, ◌≤◌, ◌∷◌, [], ◌++◌, List, length, get_or, map, All, None, refl, sym, ap, subst, inr}
+use Rattle.std.proofs.Common.{rules, ◌≡◌, ◌∙◌, ◌<◌, ◌≤◌, ◌∷◌, [], ◌++◌, length, get_or, map, sym, ap, subst, inr}
 use Rattle.std.proofs.lemmas.List.{take_all}
-use Rattle.std.proofs.lemmas.Option.{slice_get_read}
-use Rattle.commands.specs.declared.request.MapElement.{MapElement}
-use Rattle.commands.specs.Runs.{element_refusal, put_event}
-use Rattle.commands.proofs.PutFirst.{one_put_more, one_fits_more}
+use Rattle.commands.specs.Runs.{put_event, AllFit}
+use Rattle.commands.proofs.PutFirst.{first_bad, one_put_more, one_fits_more}
 use Rattle.commands.proofs.putting.puts_of.Goals as goal
 
 pub loop-number-preserved : goal.loop-number-preserved
@@ -24,14 +22,13 @@ returns-in-Err-clause-refused c =
     let k = c.loop-number.number in
     let e = c.index-elements-number.result in
     let inside : k < length elements = search rules in
-    let there = slice_get_read elements (length elements) k e refl inside c.index-elements-number.is in
-    inr (c.in-Err.refusal, (k, e, there, c.in-Err.ensures.refused), search rules)
+    inr (c.in-Err.refusal, first_bad c.args.registry.now elements k e c.in-Err.refusal inside (sym c.index-elements-number.is) c.loop-number.invariant.0 c.in-Err.ensures.refused, search rules)
 
 pub returns-clause-fit : goal.returns-clause-fit
 returns-clause-fit c =
     let elements = c.args.elements.now in
     let all : length elements ≤ c.loop-number.number = search rules in
-    subst (λ (es : List MapElement). All (λ m. element_refusal c.args.registry.now m ≡ None) es) (take_all c.loop-number.number elements all) c.loop-number.invariant.0
+    subst (AllFit c.args.registry.now) (take_all c.loop-number.number elements all) c.loop-number.invariant.0
 
 pub returns-clause-puts : goal.returns-clause-puts
 returns-clause-puts c =

@@ -5,7 +5,8 @@ use Rattle.bpf_model.specs.Event.{event_refusal_number}
 use Rattle.bpf_model.specs.View.{shapes_of_maps}
 use Rattle.program_files.specs.declared.verdict.TheConstants.{MEMORY}
 use Rattle.commands.specs.declared.request.MapElement.{MapElement}
-use Rattle.commands.specs.Runs.{HasBadElement, IsPlainVerdict}
+use Rattle.commands.specs.Outputs.{IsPlainVerdict}
+use Rattle.commands.specs.Runs.{HasBadElement}
 use Rattle.program_files.proofs.Shapes.{verifier_told}
 use Rattle.single_runs.specs.declared.once.RunEnd.{RunEnd}
 use Rattle.single_runs.specs.declared.once.RunEnd.TheVariants.{Exited, NotDone}
@@ -30,7 +31,7 @@ returns-in_err-puts-clause-refused c bytes h =
     let v = c.in_err-puts.field-0.0 in
     let maps = c.in_ok-checked.checked.registry in
     let refused = subst (λ (es : List MapElement). (v.code ≡ MEMORY) ⊎ ((r : EventRefusal) × HasBadElement maps es r × IsPlainVerdict (event_refusal_number r) v)) c.deref.ensures.value c.in_err-puts.ensures.refused in
-    rw (p.1, p.2) (puts_told bytes c.args.single.now c.in_ok-source.source maps v good c.in_ok-checked.ensures.registry refused)
+    rw (p.1, p.2) (puts_told bytes c.args.single.now c.in_ok-source.source maps v good (search rules) c.in_ok-checked.ensures.registry refused)
 
 pub run_once-requires-clause-updates : goal.run_once-requires-clause-updates
 run_once-requires-clause-updates c = are_updates c.in_ok-checked.checked.registry c.args.single.now.elements.items c.in_ok-puts.puts.items (search rules)
@@ -56,6 +57,6 @@ returns-in-NotDone-clause-refused c bytes h =
     let k = c.in-NotDone.field-0 in
     let good : IsGood bytes s = record { is = c.in_ok-source.ensures.found bytes h; graph = c.in_ok-checked.ensures.graph; verified = c.in_ok-checked.ensures.verified } in
     let run = subst (λ (o : RunEnd). ComesTo (shapes_of_maps checked.registry.maps) checked.verified.program c.in_ok-puts.puts.items c.array_of-context.result.items o ran.world) c.in-NotDone.is c.in-Ok.ensures in
-    place_told bytes c.args.single.now s k ran.world c.plain_verdict-in-NotDone.result good
+    place_told bytes c.args.single.now s checked.registry k ran.world c.plain_verdict-in-NotDone.result good (search rules) c.in_ok-checked.ensures.registry (search rules)
     (of_source c.args.single.now s checked.verified.program checked.registry c.in_ok-puts.puts.items c.array_of-context.result.items (NotDone k) ran.world c.in_ok-checked.ensures.program c.in_ok-checked.ensures.registry (search rules) (search rules) run)
     c.plain_verdict-in-NotDone.ensures

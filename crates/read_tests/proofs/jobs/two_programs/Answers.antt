@@ -1,4 +1,4 @@
-use Rattle.std.proofs.Common.{ℕ, ◌<◌, List, [], ◌∷◌, zero, suc, arith}
+use Rattle.std.proofs.Common.{[], ◌∷◌, zero, suc, arith}
 use Rattle.std.specs.Prelude.{All}
 use Rattle.shared_runs.specs.Words.{FitsTable}
 use Rattle.verifier.specs.Checked.{Checked}
