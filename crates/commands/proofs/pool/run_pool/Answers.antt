@@ -1,7 +1,8 @@
-use Rattle.std.proofs.Common.{◌≡◌, inl}
+use Rattle.std.proofs.Common.{◌≡◌, ℕ, inl, subst}
 use Rattle.std.proofs.lemmas.Option.{IfSome_then}
 use Rattle.program_files.specs.declared.verdict.TheConstants.{MEMORY}
 use Rattle.commands.specs.declared.report.TheConstants.{LOST}
+use Rattle.commands.specs.Outputs.{IsPlainVerdict}
 use Rattle.commands.proofs.Pooled.{not_so, pool_told, pool_written, so_written}
 use Rattle.commands.proofs.pool.run_pool.Goals as goal
 
@@ -37,5 +38,5 @@ returns-in-Err-Pool-clause-refused g c one =
       v,
       not_so (v.code ≡ MEMORY) c.refused-in-Err-Pool.result told.memory one,
       not_so (v.code ≡ LOST) c.refused-in-Err-Pool.result told.lost one,
-      pool_told c.args.size.workers c.args.size.count bytes p.program p.ctx_len c.in-Err-Pool.fault v (c.in-Ok-program_of.ensures.found bytes holds) fault c.plain_verdict.ensures,
+      pool_told c.args.size.workers c.args.size.count bytes p.program p.ctx_len c.in-Err-Pool.fault v (c.in-Ok-program_of.ensures.found bytes holds) fault (subst (λ (n : ℕ). IsPlainVerdict n v) c.code.ensures c.plain_verdict.ensures),
     ))
