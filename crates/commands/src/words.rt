@@ -5,6 +5,7 @@ use crate::request::{Command, MapElement, SingleRun, UsageFault};
 use clap::error::ErrorKind;
 use clap::{Arg, ArgAction, ArgMatches};
 use hex::{FromHexError, decode};
+use script_lines::number_of;
 use std::alloc::{AllocError, Global};
 
 fn file_argument<'a>(alloc: Global) -> Arg<'a> {
@@ -169,18 +170,10 @@ fn file_of(alloc: Global, matches: &ArgMatches<'_>) -> Result<String, UsageFault
     }
 }
 
-/// The number that a word is: decimal, below 2^64, without a sign or leading zeros.
-fn number_of(word: &str) -> Option<u64> {
-    match word.as_bytes() {
-        [b'0'] | [b'1'..=b'9', ..] => word.parse::<u64>().ok(),
-        _ => None,
-    }
-}
-
 /// The number that the argument of this name is.
 fn number_at(alloc: Global, matches: &ArgMatches<'_>, id: &str) -> Result<u64, UsageFault> {
     let word = matches.get_str(id).unwrap_or("");
-    match number_of(word) {
+    match number_of(word.as_bytes()) {
         Some(number) => Ok(number),
         None => {
             let text = format!(in alloc;

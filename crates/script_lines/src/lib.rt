@@ -23,6 +23,7 @@ pub use command::{BadLine, Command, ShapeNumbers};
 pub use law::{bytes_are_read_again, number_has_one_text, number_is_read_again};
 pub use name::Name;
 pub use names::Names;
+pub use number::number_of;
 pub use parsing::{LINE_BYTES, MAX_COUNT, parse_line};
 pub use reply::Reply;
 pub use writing::write_reply;

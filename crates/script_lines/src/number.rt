@@ -34,8 +34,8 @@ fn read_digits(digits: &[u8]) -> Option<u64>
     Some(value)
 }
 
-/// The number that the word writes, below 2^64 and without leading zeros.
-pub(crate) fn number_of(word: &[u8]) -> Option<u64>
+/// The number that a word writes: decimal digits alone, without leading zeros, below 2^64. `None` for every other word.
+pub fn number_of(word: &[u8]) -> Option<u64>
     ensures { result ≡ number_in word.now }
 {
     if word.is_empty() {

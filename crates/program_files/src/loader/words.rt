@@ -22,16 +22,7 @@ fn number_of(word: &[u8]) -> Option<u64>
     ensures some { IfSome result (IsDecimalWord word.now) }
     ensures none { IfNone result ((n : ℕ) → ¬ (IsDecimalWord word.now n)) }
 {
-    if let [b'0', _, ..] | [b'+', ..] = word {
-        return None;
-    }
-    let Ok(text) = str::from_utf8(word) else {
-        return None;
-    };
-    match text.parse::<u64>() {
-        Ok(number) => Some(number),
-        Err(_) => None,
-    }
+    script_lines::number_of(word)
 }
 
 /// The words of a line that are left.
