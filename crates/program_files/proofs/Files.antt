@@ -10,7 +10,6 @@ use Rattle.bpf_model.specs.declared.limits.MapShape.{MapShape}
 use Rattle.bpf_model.specs.View.{new_map_view}
 use Rattle.bpf_model.proofs.Lists.{heads, tails, cons-nil}
 use Rattle.maps.specs.Registry.{RegistryView, no_maps}
-use Rattle.script_lines.specs.Words.{number_in}
 use Rattle.program_files.specs.Lines.{file_words, IsDecimalWord, code_slots, slot_in}
 use Rattle.std.specs.Fmt.{option_append}
 use Rattle.program_files.specs.ProgramFile.{FileContent, IsContextLine, AreHashWords, AreArrayWords, AreShapeWords, IsMapLine, AddsMap, AddMaps, IsProgramFile, IsFileBeginning, IsWrongAfter, IsFirstWrongLine}
@@ -26,7 +25,7 @@ code_line = codes "code"
 -- a line tells one map, and a registry becomes one other by it
 
 same_number : (v w : List ℕ) (m n : ℕ) → v ≡ w → IsDecimalWord v m → IsDecimalWord w n → m ≡ n
-same_number v w m n e h k = same_Some m n (sym h.value ∙ (ap number_in e ∙ k.value))
+same_number v w m n e h k = let a = h.value in let b = k.value in cc
 
 same_shape : (s t : MapShape) → s.kind ≡ t.kind → s.key_len ≡ t.key_len → s.value_len ≡ t.value_len → s.entries ≡ t.entries → s.spare ≡ t.spare → s.reuse_limit ≡ t.reuse_limit → s ≡ t
 same_shape s t k a b c d e =
@@ -138,7 +137,7 @@ none_begins = (
     map_lines = [];
     code_lines = [];
     parts = refl;
-    context = record { word = codes "0"; words = refl; number = record { digits = (omega arith, (omega arith, tt)); short = λ h. absurd (omega arith); value = refl; fits = omega arith }; limit = omega arith };
+    context = record { word = codes "0"; words = refl; number = record { numeral = refl; value = refl; fits = omega arith }; limit = omega arith };
     maps = refl;
     code = refl;
   },

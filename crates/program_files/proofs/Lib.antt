@@ -1,4 +1,5 @@
 pub mod NewMaps
+pub mod Numbers
 pub mod Raw
 pub mod Reading
 pub mod Shapes

@@ -1,11 +1,12 @@
 -- Lines of a file, words of a line, and the words that are numbers and slots.
-use Rattle.std.specs.Prelude.{◌≡◌, ℕ, ◌==◌, if◌then◌else◌, List, [], ◌∷◌, Option, Some}
+use Rattle.std.specs.Prelude.{◌≡◌, ℕ, ◌==◌, ◌<◌, ◌^◌, true, if◌then◌else◌, List, [], ◌∷◌, Option, Some}
 use Rattle.std.specs.Fmt.{option_append}
 use Rattle.std.specs.List.{slice_split, onto_first}
 use Rattle.std.specs.Result.{result_ok}
 use Rattle.program_files.specs.declared.loader.line.TheConstants.{SLOT_BYTES}
+use Rattle.std.specs.Str.Parse.{digits_value}
 use Rattle.hex.specs.Hex.{decode_sized}
-use Rattle.script_lines.specs.Words.{number_in}
+use Rattle.script_lines.specs.Words.{is_numeral}
 
 -- The lines of a file. A line feed, byte 10, ends each; that of the last may be missing.
 abbrev pub file_lines : List ℕ → List (List ℕ)
@@ -17,9 +18,11 @@ file_lines (b ∷ rest) = if b == 10 then [] ∷ file_lines rest else onto_first
 abbrev pub file_words : List ℕ → List (List ℕ)
 file_words line = slice_split (λ b. b == 32) line
 
--- The word is this number, as a number is written in a script.
+-- The word is this number, below 2 ^ 64, as a script would write it.
 pub record IsDecimalWord (word : List ℕ) (n : ℕ) : Type 0 where
-  pub value : number_in word ≡ Some n
+  pub numeral : is_numeral word ≡ true
+  pub value : n ≡ digits_value 10 word
+  pub fits : n < 2 ^ 64
 
 -- the bytes of a slot: two hexadecimal digits each, in either case
 abbrev pub slot_in : List ℕ → Option (List ℕ)

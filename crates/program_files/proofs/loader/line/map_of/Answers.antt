@@ -1,11 +1,7 @@
 use Rattle.std.proofs.Common.{sym, ap, ◌∙◌, List, ℕ, ◌∷◌}
-use Rattle.std.specs.Prelude.{Option, Some, None, IfNone}
 use Rattle.program_files.proofs.Files.{shape_words}
+use Rattle.program_files.proofs.Numbers.{if_none}
 use Rattle.program_files.proofs.loader.line.map_of.Goals as goal
-
-if_none : {X P : Type 0} (r : Option X) → P → IfNone r P
-if_none None p = p
-if_none (Some x) p = tt
 
 pub returns-in_err-shape-clause-none : goal.returns-in_err-shape-clause-none
 returns-in_err-shape-clause-none c =
