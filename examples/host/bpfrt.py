@@ -84,7 +84,8 @@ class Runtime:
             raise OSError(number, errno.errorcode[number], command)
 
     def load(self, text, make_maps=True):
-        """Makes the maps of a program file's text, or takes those of the same names, and loads its program: its number."""
+        """Makes the maps of a program file's text, or takes those of the same names, and loads its program: its number.
+        Maps stay where the program is refused: load the next text for them with make_maps=False."""
         if not text.startswith("bpfrt 1\nctx ") or "\ncode\n" not in text:
             raise ValueError("no program file as text: `bpfrt asm --file` or examples/c/build makes one")
         _, context, *lines = text.splitlines()

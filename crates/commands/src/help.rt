@@ -3,7 +3,7 @@
 /// Behind the commands of `bpfrt --help`.
 pub const HELP: &str = "\
 A program file is raw bytes, or a text with a context, maps and slots (docs/PROGRAM_FILES.md).
-`bpfrt COMMAND --help` says what a command reads, prints and answers.
+`bpfrt COMMAND --help` says what a command reads, prints and answers. Help is written on standard error.
 
 Status: 0 fine, 1 refused or a wrong line, 2 usage, 3 memory, a lost result, reading or writing";
 
@@ -13,7 +13,8 @@ Reads a program file: a text (`bpfrt 1`, `ctx N`, `map ..`, `code`, slots in hex
 whose maps and context the program is verified against, or raw bytes, with neither.
 
 Prints `accepted I instructions S slots`. With --explain, a refusal is followed on standard error by its name
-and meaning, the text of the instruction, and what is known of each register that it reads.
+and meaning; where it is of an instruction, by that one's text, what is known of each register that it reads,
+and how many locks are open.
 
 Status, and the line on standard error:
   0  accepted
@@ -30,7 +31,8 @@ Example:
 pub const DISASM_HELP: &str = "\
 Reads a program file as `bpfrt check` does, and verifies nothing.
 
-Prints the text of the program, one instruction a line (docs/ASSEMBLY.md).
+Prints the text of the program, one instruction a line (docs/ASSEMBLY.md). The file's context and maps are no part
+of it.
 
 Status, and the line on standard error:
   0  written
@@ -116,7 +118,8 @@ Example:
 pub const RUN_HELP: &str = "\
 Reads a program file as `bpfrt check` does, verifies it, and then runs it once on the context CTX, to its exit,
 in a world of its own with the file's maps. They are new, but for what --map puts in. Bytes are two hexadecimal
-digits each. Options stand behind FILE and CTX.
+digits each. What follows --map NAME is taken for its elements, so it stands behind FILE and CTX, or FILE and CTX
+behind `--`.
 
 Prints `exit V steps N`: the exit value, and how many steps the run has made, the exit among them; with --dump
 then for each map of the file `KEY VALUE` for each element, in the order of the keys' bytes, and `end`.

@@ -24,13 +24,18 @@ fn insn_at<'a>(source: &'a Source, slot: usize) -> Option<&'a Insn> {
     None
 }
 
-/// Writes a line for each register that the instruction reads, and how many locks are open where there are any.
-fn write_known<W: Write>(out: &mut W, insn: &Insn, state: &AbsState) -> io::Result<()> {
+/// Writes a line for each register that the instruction reads, and how many locks are open.
+fn write_known<W: Write>(
+    out: &mut W,
+    source: &Source,
+    insn: &Insn,
+    state: &AbsState,
+) -> io::Result<()> {
     let read = registers_read(insn);
     for (number, kind) in state.regs.iter().enumerate() {
         if read.get(number).is_some_and(|is_read| *is_read) {
             write!(out, "  r{number}: ")?;
-            write_kind(out, kind)?;
+            write_kind(out, source, kind)?;
             writeln!(out)?;
         }
     }
@@ -53,7 +58,7 @@ fn write_instruction<W: Write>(
     let text = line_of(alloc, insn)?;
     writeln!(out, "at {slot}: {text}")?;
     if let Some(state) = known_where_refused(alloc, source)? {
-        write_known(out, insn, &state)?;
+        write_known(out, source, insn, &state)?;
     }
     Ok(())
 }

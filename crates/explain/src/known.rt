@@ -1,6 +1,7 @@
 //! What is known of a register, in words.
 
-use bpf_model::FRAME_BYTES;
+use bpf_model::{FRAME_BYTES, MapId};
+use program_files::Source;
 use register_kinds::{ORIGIN, RegKind};
 use scalar_domain::Scalar;
 use std::io;
@@ -70,26 +71,42 @@ fn write_place<W: Write>(out: &mut W, offset: i32) -> io::Result<()> {
     }
 }
 
-/// Writes what is known of a register.
-pub fn write_kind<W: Write>(out: &mut W, kind: &RegKind) -> io::Result<()> {
+/// Writes where in the context of the program a reference is.
+fn write_context<W: Write>(out: &mut W, source: &Source, offsets: &Scalar) -> io::Result<()> {
+    let length = source.ctx_len;
+    write!(out, "the context, of {length} bytes")?;
+    write_offsets(out, offsets)
+}
+
+/// Writes where in the value of an element of the program's map of this number a reference is.
+fn write_value<W: Write>(
+    out: &mut W,
+    source: &Source,
+    map: usize,
+    offsets: &Scalar,
+) -> io::Result<()> {
+    write!(out, "the value of an element of map {map}")?;
+    if let Some(shape) = source.registry.shape(MapId::new(map)) {
+        let length = shape.value_len;
+        write!(out, ", of {length} bytes")?;
+    }
+    write_offsets(out, offsets)
+}
+
+/// Writes what is known of a register, in the program of a file.
+pub fn write_kind<W: Write>(out: &mut W, source: &Source, kind: &RegKind) -> io::Result<()> {
     match kind {
-        RegKind::Unwritten => write!(out, "not written on every path"),
+        RegKind::Unwritten => write!(out, "not written on every path, or not since a call"),
         RegKind::Ended => write!(
             out,
             "on some path a reference to an element, whose section has ended"
         ),
         RegKind::Mixed => write!(out, "of different kinds on different paths"),
         RegKind::Num(numbers) => write_numbers(out, numbers),
-        RegKind::Ctx(offsets) => {
-            write!(out, "the context")?;
-            write_offsets(out, offsets)
-        }
+        RegKind::Ctx(offsets) => write_context(out, source, offsets),
         RegKind::Frame(offset) => write_place(out, *offset),
         RegKind::Map(map) => write!(out, "map {map}"),
-        RegKind::Value { map, offset } => {
-            write!(out, "the value of an element of map {map}")?;
-            write_offsets(out, offset)
-        }
+        RegKind::Value { map, offset } => write_value(out, source, *map, offset),
         RegKind::MaybeNull { map, .. } => write!(
             out,
             "what a lookup in map {map} gave, which may be null"

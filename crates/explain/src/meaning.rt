@@ -62,7 +62,7 @@ fn of_access(code: u8) -> Option<Meaning> {
     match code {
         23 => means(
             "UnwrittenRegister",
-            "a register is read that is not written on every path",
+            "a register is read that is not written on every path, or not since a call",
         ),
         24 => means("FramePointerWritten", "r10 is written"),
         25 => means(
