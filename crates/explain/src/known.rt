@@ -82,11 +82,11 @@ fn write_context<W: Write>(out: &mut W, source: &Source, offsets: &Scalar) -> io
 fn write_value<W: Write>(
     out: &mut W,
     source: &Source,
-    map: usize,
+    map: u32,
     offsets: &Scalar,
 ) -> io::Result<()> {
     write!(out, "the value of an element of map {map}")?;
-    if let Some(shape) = source.registry.shape(MapId::new(map)) {
+    if let Some(shape) = source.registry.shape(MapId::new(map as usize)) {
         let length = shape.value_len;
         write!(out, ", of {length} bytes")?;
     }
