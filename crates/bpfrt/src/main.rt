@@ -1,27 +1,57 @@
 //! `bpfrt`: the command line over the runtime.
 #![tactic(auto)]
 
+mod progress;
+
+use crate::progress::Progress;
 use commands::{Command, UsageFault, no_command, parse_words, run, unread};
 use std::alloc::Global;
 use std::env;
 use std::fs::File;
-use std::io::ErrorKind;
+use std::io::{ErrorKind, IsTerminal, Write};
 use std::process::ExitCode;
 use std::sync::Wait;
 use std::thread::Threads;
 
 /// Runs the command on the file that it names, or on standard input. The handle for threads and for
 /// waiting is the runtime again.
-fn run_on_input<H: Threads + Wait + Sync>(rt: &HostRuntime, threads: &H, command: &Command) -> u8 {
+fn run_into<H: Threads + Wait + Sync, W: Write>(
+    rt: &HostRuntime,
+    threads: &H,
+    command: &Command,
+    out: &mut W,
+) -> u8 {
     let alloc = rt.alloc();
-    let mut out = rt.stdout();
     let mut err = rt.stderr();
     match command.file() {
-        None => run(threads, alloc, command, &mut rt.stdin(), &mut out, &mut err),
+        None => run(threads, alloc, command, &mut rt.stdin(), out, &mut err),
         Some(path) => match File::open(rt, path) {
-            Ok(mut file) => run(threads, alloc, command, &mut file, &mut out, &mut err),
+            Ok(mut file) => run(threads, alloc, command, &mut file, out, &mut err),
             Err(error) => unread(&mut err, &error),
         },
+    }
+}
+
+/// How many jobs a pool has whose progress is told: standard error is a terminal, and the lines go elsewhere.
+fn jobs_told(rt: &HostRuntime, command: &Command) -> Option<u64> {
+    match command {
+        Command::Pool { count, .. } if rt.stderr().is_terminal() && !rt.stdout().is_terminal() => {
+            Some(*count)
+        }
+        _ => None,
+    }
+}
+
+/// Runs the command into standard output.
+fn run_told<H: Threads + Wait + Sync>(rt: &HostRuntime, threads: &H, command: &Command) -> u8 {
+    match jobs_told(rt, command) {
+        None => run_into(rt, threads, command, &mut rt.stdout()),
+        Some(jobs) => {
+            let mut progress = Progress::new(rt.stdout(), rt.stderr(), jobs);
+            let status = run_into(rt, threads, command, &mut progress);
+            progress.end(status);
+            status
+        }
     }
 }
 
@@ -45,7 +75,7 @@ fn status_of<H: Threads + Wait + Sync>(rt: &HostRuntime, threads: &H) -> Result<
     let alloc = rt.alloc();
     let words = words_of(rt, alloc)?;
     let command = parse_words(alloc, &words)?;
-    Ok(run_on_input(rt, threads, &command))
+    Ok(run_told(rt, threads, &command))
 }
 
 fn main(rt: HostRuntime) -> ExitCode {
