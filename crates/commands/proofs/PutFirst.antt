@@ -6,6 +6,7 @@ use Rattle.std.proofs.lemmas.List.{map-append, take_more}
 use Rattle.std.proofs.lemmas.List.Elements.{All-append}
 use Rattle.std.proofs.lemmas.Option.{slice_get-map}
 use Rattle.bpf_model.specs.declared.event.Event.{Event}
+use Rattle.bpf_model.specs.declared.event.EventRefusal.{EventRefusal}
 use Rattle.bpf_model.specs.declared.limits.MapShape.{MapShape}
 use Rattle.bpf_model.specs.declared.limits.TheConstants.{KEY_BYTES, VALUE_BYTES}
 use Rattle.bpf_model.specs.MapState.{AreShapes}
@@ -13,7 +14,6 @@ use Rattle.bpf_model.specs.View.{MapView}
 use Rattle.maps.specs.Registry.{RegistryView}
 use Rattle.commands.specs.declared.request.MapElement.{MapElement}
 use Rattle.commands.specs.Runs.{element_refusal, put_event, AllFit, HasBadElement}
-use Rattle.bpf_model.specs.declared.event.EventRefusal.{EventRefusal}
 
 -- the elements below the next index are those below this one, and the one that stands there
 next_taken : (elements : List MapElement) (k : ℕ) (e : MapElement) → k < length elements → get_or elements k e ≡ e → take (k + 1) elements ≡ take k elements ++ e ∷ []

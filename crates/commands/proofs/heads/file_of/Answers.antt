@@ -1,13 +1,14 @@
-use Rattle.std.proofs.Common.{rules, ◌≡◌, ◌++◌, ◌∙◌, ℕ, List, Option, ap, subst, sym}
+use Rattle.std.proofs.Common.{rules, ◌≡◌, ◌++◌, ◌∙◌, ℕ, List, Option, ap, subst}
 use Rattle.std.specs.Prelude.{option_copied}
-use Rattle.program_files.specs.ProgramFile.{FileContent, FileSays, IsLoadFault, heading}
-use Rattle.program_files.specs.declared.loader.fault.LoadFault.TheVariants as load_faults
+use Rattle.program_files.specs.ProgramFile.{FileContent, FileSays, heading}
 use Rattle.commands.specs.Assembled.{HasHead, IsFileOf, code_line, head_or_none}
 use Rattle.commands.proofs.heads.file_of.Goals as goal
 
+-- what is written in the order of a file has this head
 has_head : (head : Option (List ℕ)) (lines file : List ℕ) → lines ≡ head_or_none head → ((slots : List ℕ) × (file ≡ heading ++ (lines ++ (code_line ++ slots)))) → HasHead head file
 has_head head lines file same (slots, is) = (slots, is ∙ ap (λ (l : List ℕ). heading ++ (l ++ (code_line ++ slots))) same)
 
+-- a file that was read again is one of the code
 made : (head : Option (List ℕ)) (code file read : List ℕ) → read ≡ file → HasHead head file → ((content : FileContent) × FileSays read content × (content.code ≡ code)) → IsFileOf head code file
 made head code file read same begins (content, says, is) = record { begins = begins; content = content; says = subst (λ (f : List ℕ). FileSays f content) same says; code_is = is }
 
