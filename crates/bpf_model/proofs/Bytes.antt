@@ -3,7 +3,7 @@ use Rattle.std.proofs.Common.{◌≡◌, ℕ, zero, suc, ◌+◌, ◌/◌, ◌%�
 use Rattle.std.specs.Prelude.{◌&&◌, nat_lt}
 use Rattle.std.proofs.lemmas.Bool.{le-leb, lt-leb, lt-ltb, le-ltb}
 use Rattle.bpf_model.specs.Frame.{is_within}
-use Rattle.bpf_model.specs.MachineStep.{with_bytes}
+use Rattle.bpf_model.specs.Access.{with_bytes}
 use Rattle.std.proofs.lemmas.List.{length-set}
 
 pub within : (at width k : ℕ) → at ≤ k → k < at + width → is_within at width k ≡ true

@@ -2,9 +2,10 @@
 -- is never taken out or born again, so that a reference to it can never come to mean another
 -- element.
 use Rattle.std.specs.Prelude.{◌≡◌, ℕ, ◌+◌, ◌==◌, ◌&&◌, Bool, true, false, List, Option, Some, None}
-use Rattle.std.specs.Prelude.{slice_get, slice_set, count_by, if◌then◌else◌}
+use Rattle.std.specs.Prelude.{slice_get, slice_set, count_by, length, ℤ, if◌then◌else◌}
 use Rattle.bpf_model.specs.Section.{Section}
 use Rattle.bpf_model.specs.Value.{◌>>=◌}
+use Rattle.bpf_model.specs.Access.{region_offset, number_at, with_bytes}
 
 -- An element is linked (found under its key); or unlinked, with the sections that were open at that
 -- moment; or reclaimed.
@@ -99,3 +100,16 @@ unless_reclaimed e = if is_reclaimed e.life then None else Some e
 
 abbrev pub accessible : List Element → ℕ → Option Element
 accessible es n = slice_get es n >>= unless_reclaimed
+
+-- What a load through a reference to an element finds: an aligned access, all of its bytes inside
+-- the value, before the element is reclaimed.
+abbrev pub loaded_from : ℕ → ℤ → Element → Option ℕ
+loaded_from width offset e =
+    region_offset (length e.value) width offset >>= λ at. number_at (slice_get e.value) at width
+
+-- The elements after a store of a number to one of them. No reference is ever
+-- stored in an element.
+abbrev pub stored_in : List Element → ℕ → ℕ → ℤ → ℕ → Element → Option (List Element)
+stored_in es n width offset v e =
+    region_offset (length e.value) width offset
+    >>= λ at. Some (changed (with_value (with_bytes at width v e.value)) es n)

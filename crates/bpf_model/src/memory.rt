@@ -3,7 +3,7 @@
 
 ghost use Rattle.std.specs.Prelude.{◌≡◌, ◌+◌, ◌<◌, ◌≤◌, length, slice_get, Some};
 ghost use Rattle.bpf_model.specs.Access.{byte_count, number_at};
-ghost use Rattle.bpf_model.specs.MachineStep.{with_bytes};
+ghost use Rattle.bpf_model.specs.Access.{with_bytes};
 
 use crate::opcode::Width;
 

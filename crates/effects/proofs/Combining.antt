@@ -24,7 +24,7 @@ use Rattle.bpf_model.specs.Graph.{falls}
 use Rattle.bpf_model.specs.Spelling.{slot_count}
 use Rattle.bpf_model.specs.Step.{State, Environment, Outcome, Moves as Goes, put, sets, after, map_value}
 use Rattle.bpf_model.specs.Element.{Element}
-use Rattle.bpf_model.specs.MachineStep.{AccessesElement}
+use Rattle.model_laws.specs.ByKind.{AccessesElement}
 use Rattle.scalar_domain.specs.declared.scalar.Scalar.{Scalar}
 use Rattle.scalar_domain.specs.Scalar.{Holds}
 use Rattle.typed_runs.specs.Kinds.{Kind, Blank, Num, CtxAt, MapAt, ValueAt, AbsState}

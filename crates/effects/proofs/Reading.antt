@@ -19,7 +19,7 @@ use Rattle.bpf_model.specs.Access.{byte_count, unsigned_width, region_offset, nu
 use Rattle.bpf_model.specs.Frame.{byte_of, found, read}
 use Rattle.bpf_model.specs.Step.{State, Environment, Moves, put, sets, load_from}
 use Rattle.bpf_model.specs.Element.{Element}
-use Rattle.bpf_model.specs.MachineStep.{element_load}
+use Rattle.model_laws.specs.ByKind.{element_load}
 use Rattle.scalar_domain.specs.declared.scalar.Scalar.{Scalar}
 use Rattle.scalar_domain.specs.Scalar.{Holds}
 use Rattle.typed_runs.specs.Kinds.{Kind, Num, CtxAt, FrameAt, ByteCell, PartCell, AbsState}

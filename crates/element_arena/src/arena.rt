@@ -3,7 +3,7 @@ ghost use Rattle.std.specs.Prelude.{◌≡◌, ◌≢◌, ◌+◌, ◌<◌, ◌�
 ghost use Rattle.std.specs.Prelude.{slice_index, None, Some, IfSome, IfNone, IfOk, IfErr};
 ghost use Rattle.std.specs.Prelude.{if◌then◌else◌};
 ghost use Rattle.bpf_model.specs.Access.{byte_count, number_at};
-ghost use Rattle.bpf_model.specs.MachineStep.{with_bytes};
+ghost use Rattle.bpf_model.specs.Access.{with_bytes};
 ghost use Rattle.bpf_model.specs.declared.event.Given.TheVariants as given;
 ghost use Rattle.bpf_model.specs.declared.limits.TheConstants.{KEY_BYTES, VALUE_BYTES};
 ghost use Rattle.element_arena.specs.State.{IsTaken, generation_at, given_back, is_last_use, key_at};

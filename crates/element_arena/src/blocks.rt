@@ -1,7 +1,7 @@
 //! Byte strings of one length, one behind the other.
 ghost use Rattle.std.specs.Prelude.{◌≡◌, ◌+◌, ◌*◌, ◌≤◌, length, replicate, IfOk};
 ghost use Rattle.bpf_model.specs.Access.{byte_count};
-ghost use Rattle.bpf_model.specs.MachineStep.{with_bytes};
+ghost use Rattle.bpf_model.specs.Access.{with_bytes};
 ghost use Rattle.element_arena.specs.Blocks.{block, with_block};
 
 use bpf_model::{Width, write_number};

@@ -25,7 +25,9 @@ use Rattle.bpf_model.specs.Call.{helper_of, kernel_function_of}
 use Rattle.bpf_model.specs.Element.{accessible, is_reclaimed}
 use Rattle.bpf_model.specs.Event.{AreBytes}
 use Rattle.bpf_model.specs.Machine.{Loaded, Run, open_sections}
-use Rattle.bpf_model.specs.MachineStep.{InsnStep, element_load, loaded_from}
+use Rattle.bpf_model.specs.MachineStep.{InsnStep}
+use Rattle.model_laws.specs.ByKind.{StepsByKind, element_load}
+use Rattle.bpf_model.specs.Element.{loaded_from}
 use Rattle.bpf_model.specs.MapState.{AreShapes}
 use Rattle.bpf_model.specs.MapState as map_state
 use Rattle.bpf_model.specs.Schedule.{Schedule}
@@ -70,6 +72,7 @@ use Rattle.helpers.specs.Elements.{element_number}
 use Rattle.helpers.specs.Serving.{CanServe, IsReply, maps_after}
 use Rattle.helpers.proofs.Running.{running}
 use Rattle.helpers.proofs.Stepping.{resumed-program, served_moves}
+use Rattle.model_laws.proofs.Requests.{by_kind}
 
 -- a number that bytes are
 number-small : (value : List ℕ) (at width n : ℕ) → AreBytes value → at + width ≤ length value → number_at (slice_get value) at width ≡ Some n → n < 256 ^ width
@@ -123,9 +126,9 @@ module _ (w : WorldView) (s : Schedule) (m : Matches w s) (sound : IsSound w s) 
   load-given width dst src offset known waits =
       let n = well_never_stuck s.machine sound.well r run k.there k.going in
       let same : n.3.0 ≡ insns.Load width dst src offset = same_Some n.3.0 (insns.Load width dst src offset) (sym n.3.1 ∙ known) in
-      by n.0 n.1 n.2 (subst (λ (i : Insn). InsnStep i s.machine.store (open_sections s.machine.runs) run n.0 n.1 n.2) same n.3.2)
+      by n.0 n.1 n.2 (by_kind (insns.Load width dst src offset) s.machine.store (open_sections s.machine.runs) run n.0 n.1 n.2 (subst (λ (i : Insn). InsnStep i s.machine.store (open_sections s.machine.runs) run n.0 n.1 n.2) same n.3.2))
     where
-      by : (answer : Answer) (new : map_state.Store) (later : Run) → InsnStep (insns.Load width dst src offset) s.machine.store (open_sections s.machine.runs) run answer new later → element_number w.maps (byte_count width) offset (location_of (word_in v src)) < 256 ^ byte_count width
+      by : (answer : Answer) (new : map_state.Store) (later : Run) → StepsByKind (insns.Load width dst src offset) s.machine.store (open_sections s.machine.runs) run answer new later → element_number w.maps (byte_count width) offset (location_of (word_in v src)) < 256 ^ byte_count width
       by answer new later (out, es, inl h, kept, ends) = absurd (subst AsksNothing waits (asks_nothing w s m sound r run v k (insns.Load width dst src offset) out known h.0))
       by answer new later (out, es, inr h, kept, ends) = loads-small (byte_count width) src offset h.0 (insn-real w s m sound r run v k (insns.Load width dst src offset) known).1 h.1
 
@@ -134,9 +137,9 @@ module _ (w : WorldView) (s : Schedule) (m : Matches w s) (sound : IsSound w s) 
   load-signed-given width dst src offset known waits =
       let n = well_never_stuck s.machine sound.well r run k.there k.going in
       let same : n.3.0 ≡ insns.LoadSigned width dst src offset = same_Some n.3.0 (insns.LoadSigned width dst src offset) (sym n.3.1 ∙ known) in
-      by n.0 n.1 n.2 (subst (λ (i : Insn). InsnStep i s.machine.store (open_sections s.machine.runs) run n.0 n.1 n.2) same n.3.2)
+      by n.0 n.1 n.2 (by_kind (insns.LoadSigned width dst src offset) s.machine.store (open_sections s.machine.runs) run n.0 n.1 n.2 (subst (λ (i : Insn). InsnStep i s.machine.store (open_sections s.machine.runs) run n.0 n.1 n.2) same n.3.2))
     where
-      by : (answer : Answer) (new : map_state.Store) (later : Run) → InsnStep (insns.LoadSigned width dst src offset) s.machine.store (open_sections s.machine.runs) run answer new later → element_number w.maps (byte_count (unsigned_width width)) offset (location_of (word_in v src)) < 256 ^ byte_count (unsigned_width width)
+      by : (answer : Answer) (new : map_state.Store) (later : Run) → StepsByKind (insns.LoadSigned width dst src offset) s.machine.store (open_sections s.machine.runs) run answer new later → element_number w.maps (byte_count (unsigned_width width)) offset (location_of (word_in v src)) < 256 ^ byte_count (unsigned_width width)
       by answer new later (out, es, inl h, kept, ends) = absurd (subst AsksNothing waits (asks_nothing w s m sound r run v k (insns.LoadSigned width dst src offset) out known h.0))
       by answer new later (out, es, inr h, kept, ends) = loads-small (byte_count (unsigned_width width)) src offset h.0 (insn-real w s m sound r run v k (insns.LoadSigned width dst src offset) known).1 h.1
 

@@ -1,6 +1,6 @@
 -- What an access to an element's value reaches, finds and leaves, over the maps alone.
 use Rattle.std.specs.Prelude.{ℕ, List, Option, Some, slice_get, slice_set, ℤ, pos, ◌+ℤ◌}
-use Rattle.bpf_model.specs.MachineStep.{with_bytes}
+use Rattle.bpf_model.specs.Access.{with_bytes}
 use Rattle.bpf_model.specs.View.{MapView, value_in}
 use Rattle.model_laws.specs.Locations.{Location, InSlot}
 use Rattle.view_laws.specs.Views.{written}

@@ -12,26 +12,28 @@ use Rattle.bpf_model.specs.Step.{Outcome, Moves, Exits}
 use Rattle.bpf_model.specs.Section.{Section}
 use Rattle.bpf_model.specs.MapState.{Store}
 use Rattle.bpf_model.specs.Machine.{Run, Machine, open_sections}
-use Rattle.bpf_model.specs.MachineStep.{OutcomeStep, InsnStep}
+use Rattle.bpf_model.specs.MachineStep.{OutcomeStep}
+use Rattle.model_laws.specs.ByKind.{StepsByKind}
 use Rattle.bpf_model.specs.Event.{PerformsEvent, Answers, DoesEvent, IsReal, refusal}
 use Rattle.bpf_model.specs.View.{WorldView}
 use Rattle.world_laws.specs.Reacting.{full_reaction}
 use Rattle.world_laws.proofs.Worlds.{simulates}
 use Rattle.world_laws.specs.Invariant.{IsWorld}
 use Rattle.journal.specs.Entries.{IsAnswerTo}
+use Rattle.model_laws.proofs.Requests.{run_by_kind}
 
 outcome-fits : (out : Outcome) (r : ℕ) (run : Run) (answer : Answer) (new : Run) → OutcomeStep out run answer new → IsAnswerTo (events.Step r) answer
 outcome-fits (Moves next) r run answer new h = subst (IsAnswerTo (events.Step r)) (sym h.0) tt
 outcome-fits (Exits n) r run answer new h = subst (IsAnswerTo (events.Step r)) (sym h.1) tt
 
-insn-fits : (i : Insn) (r : ℕ) (s : Store) (opened : List Section) (run : Run) (answer : Answer) (new : Store) (new_run : Run) → InsnStep i s opened run answer new new_run → IsAnswerTo (events.Step r) answer
+insn-fits : (i : Insn) (r : ℕ) (s : Store) (opened : List Section) (run : Run) (answer : Answer) (new : Store) (new_run : Run) → StepsByKind i s opened run answer new new_run → IsAnswerTo (events.Step r) answer
 insn-fits (Call kinds.Kernel imm) r s opened run answer new new_run h = subst (IsAnswerTo (events.Step r)) (sym h.1) tt
 insn-fits (Call kinds.Helper imm) r s opened run answer new new_run h = subst (IsAnswerTo (events.Step r)) (sym h.2) tt
 insn-fits i r s opened run answer new new_run h = outcome-fits h.0 r run answer new_run h.4
 
 performs-fits : (m : Machine) (event : Event) (answer : Answer) (new : Machine) → PerformsEvent m event answer new → IsAnswerTo event answer
 performs-fits m (events.Start prog ctx) (Started r) new h = tt
-performs-fits m (events.Step run) answer new h = insn-fits h.step.0 run m.store (open_sections m.runs) h.run answer h.new_store h.new_run h.step.2
+performs-fits m (events.Step run) answer new h = insn-fits h.step.0 run m.store (open_sections m.runs) h.run answer h.new_store h.new_run (run_by_kind m run answer new h)
 performs-fits m (events.Update map key value flags) (Ret ret) new h = tt
 performs-fits m (events.Delete map key) (Ret ret) new h = tt
 performs-fits m (events.Read map key) (Found (Some value)) new h = tt

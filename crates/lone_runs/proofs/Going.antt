@@ -18,13 +18,13 @@ use Rattle.bpf_model.specs.Machine.{Loaded, Run, environment, exits as exits_run
 use Rattle.bpf_model.specs.MachineStep.{InsnStep, RunStep}
 use Rattle.bpf_model.specs.MapState as map_state
 use Rattle.bpf_model.specs.Places.{StartsAt, start-inside, starts_apart}
-use Rattle.bpf_model.specs.Request.{Request as Asked, ServesRequest, StepsAlone, StepsServed, asks as asks_of, bound_shape, section_request as section_asked}
+use Rattle.bpf_model.specs.Request.{Request as Asked, ServesRequest, asks as asks_of, bound_shape, section_request as section_asked}
+use Rattle.bpf_model.specs.MachineStep.{StepsAlone, StepsServed}
 use Rattle.bpf_model.specs.Section.{Section}
 use Rattle.bpf_model.specs.Spelling.{FitsInsn}
 use Rattle.bpf_model.specs.Step.{Exits, Moves, Outcome, after as after_insn, insn_at}
 use Rattle.bpf_model.specs.View.{RunView}
 use Rattle.model_laws.proofs.Alone.{others_change_nothing, stays_sharing_nothing}
-use Rattle.model_laws.proofs.Requests.{steps_by_request}
 use Rattle.typed_runs.specs.Verified.{IsClosed, IsVerified, Plan}
 use Rattle.typed_runs.proofs.Reaching.{same-insn}
 use Rattle.world_laws.specs.Local as laws
@@ -187,7 +187,7 @@ module _ (v : Checked) (view : RunView) (x : StandsAlone v view) where
   anywhere i answer new here step = (others_change_nothing store store (section ∷ []) run new answer x.own (stepped i answer new here step)).1
 
   alone : (i : Insn) (out : Outcome) (answer : Answer) (new : Run) → StepsAlone i store run answer store new → Steps i answer new
-  alone i out answer new h = (steps_by_request i store (section ∷ []) run answer store new).1 (inl h)
+  alone i out answer new h = inl h
 
   -- it leads further on
   leads : (i : Insn) (new : Run) → insn_at v.program run.state.place ≡ Some i → Steps i Moved new → new.exit ≡ None → (index : ℕ) → StartsAt v.program index new.state.place → new.moved ≤ index
@@ -306,7 +306,7 @@ module _ (v : Checked) (view : RunView) (x : StandsAlone v view) where
       let reply : MayReply run.program.maps w.asked Nothing = subst (λ (q : Asked). MayReply run.program.maps q Nothing) w.section_call.asks_is (section-reply run.program.maps w.section_call.function) in
       let serves : ServesRequest run.program.maps w.asked store (section ∷ []) Nothing store = subst (λ (q : Asked). ServesRequest run.program.maps q store (section ∷ []) Nothing store) w.section_call.asks_is (section-serves run.program.maps w.section_call.function store (section ∷ [])) in
       let served : StepsServed i store (section ∷ []) run Moved store next.0 = record { request = w.asked; reply = Nothing; asked = w.is; served = serves; answer_is = refl; resumes = next.1 } in
-      goes-on i next.0 (resumed_view i word view) here ((steps_by_request i store (section ∷ []) run Moved store next.0).1 (inr served))
+      goes-on i next.0 (resumed_view i word view) here (inr served)
       (λ plan closed. (asked-so plan closed i w.asked here w.is).goes_on Nothing word next.0 reply tt next.1)
 
   -- what a step leaves that asks something: it may be resumed, and then it has moved

@@ -4,7 +4,7 @@ ghost use Rattle.bpf_model.specs.declared.limits.TheConstants.{FRAME_BYTES};
 ghost use Rattle.bpf_model.specs.Access.{byte_count};
 ghost use Rattle.bpf_model.specs.Word.{frame_base};
 ghost use Rattle.world_laws.specs.Locating.{number_from};
-ghost use Rattle.bpf_model.specs.MachineStep.{with_bytes};
+ghost use Rattle.bpf_model.specs.Access.{with_bytes};
 ghost use Rattle.world_laws.specs.Reaching.{IsInside};
 ghost use Rattle.machine.specs.Workspaces.{with_frame};
 ghost use Rattle.machine.specs.Moves.{offset_from};

@@ -4,7 +4,7 @@ ghost use Rattle.std.specs.FinMap as map;
 ghost use Rattle.bpf_model.specs.Schedule.{turned, no_queues};
 ghost use Rattle.bpf_model.specs.declared.event.Given.TheVariants as given;
 ghost use Rattle.bpf_model.specs.Access.{byte_count, number_at};
-ghost use Rattle.bpf_model.specs.MachineStep.{with_bytes};
+ghost use Rattle.bpf_model.specs.Access.{with_bytes};
 ghost use Rattle.bpf_model.specs.Helper.{hash_error};
 ghost use Rattle.bpf_model.specs.MapState.{MapState, IsShape, slots_of_shape};
 ghost use Rattle.element_arena.specs.State.{key_at, value_at, is_last_use, given_back, with_slot_value, new_arena};

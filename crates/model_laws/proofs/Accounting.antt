@@ -32,7 +32,7 @@ use Rattle.bpf_model.specs.declared.limits.MapKind.{MapKind}
 use Rattle.bpf_model.specs.declared.limits.MapKind.TheVariants.{Hash, Array}
 use Rattle.bpf_model.specs.Reclaim.{Reclaims}
 use Rattle.bpf_model.specs.Machine.{Run, Machine, Loaded, environment, open_sections, start_machine}
-use Rattle.bpf_model.specs.MachineStep.{HelperStep, InsnStep}
+use Rattle.model_laws.specs.ByKind.{StepsByKind, HelperStep}
 use Rattle.bpf_model.specs.Event.{PerformsEvent, Answers, refusal}
 use Rattle.bpf_model.specs.Schedule.{Schedule, IsScheduledHistory, start_schedule}
 use Rattle.bpf_model.specs.Refines.{times, IsReachedSchedule}
@@ -44,6 +44,7 @@ use Rattle.model_laws.proofs.Counting.{map-back, times-append, times-first, time
 use Rattle.model_laws.proofs.Tallies.{one_of, count-set, sum-set, uses_of, is_kept, of-same, of-other, kept-touched, kept-born, kept-reclaimed, kept-kinds, kept_uses, uses-touched, born-touched, kept-was, kept-is, uses-here, uses-away, uses-born, born-born, uses-reclaimed, born-reclaimed, uses-most}
 use Rattle.bpf_model.proofs.Lists.{get-append_cases, get-set_cases}
 use Rattle.bpf_model.specs.History.{last_of}
+use Rattle.model_laws.proofs.Requests.{run_by_kind}
 
 abbrev total : List ℕ → ℕ
 total counts = sum_by (λ c. c) counts
@@ -361,7 +362,7 @@ accounts-helper (Some helpers.Update) s opened run ret new h = accounts-updates 
 accounts-helper (Some helpers.Delete) s opened run ret new h = accounts-deletes s opened h.map h.key h.outcome new h.deleted
 accounts-helper None s opened run ret new h = absurd h
 
-accounts-insn : (i : Insn) (s : Store) (opened : List Section) (run : Run) (answer : Answer) (new : Store) (new_run : Run) → InsnStep i s opened run answer new new_run → Accounts s new
+accounts-insn : (i : Insn) (s : Store) (opened : List Section) (run : Run) (answer : Answer) (new : Store) (new_run : Run) → StepsByKind i s opened run answer new new_run → Accounts s new
 accounts-insn (Call kinds.Kernel imm) s opened run answer new new_run h = accounts-same s new h.2
 accounts-insn (Call kinds.Helper imm) s opened run answer new new_run h = accounts-helper (helper_of imm) s opened run h.0 new h.1
 accounts-insn i s opened run answer new new_run h = accounts-elements opened s new h.1 (touches-acts i opened (environment run) s.elements run.state h.0 h.1 h.2) h.3
@@ -371,7 +372,7 @@ accounts-with m new store a e h = subst Accounted (sym e) (a h)
 
 accounts-performs : (m : Machine) (event : Event) (answer : Answer) (new : Machine) → PerformsEvent m event answer new → Accounts m.store new.store
 accounts-performs m (events.Start prog ctx) (answers.Started r) new h = accounts-same m.store new.store (ap (λ x. x.store) h.new_is)
-accounts-performs m (events.Step run) answer new h = accounts-with m new h.new_store (accounts-insn h.step.0 m.store (open_sections m.runs) h.run answer h.new_store h.new_run h.step.2) (ap (λ x. x.store) h.new_is)
+accounts-performs m (events.Step run) answer new h = accounts-with m new h.new_store (accounts-insn h.step.0 m.store (open_sections m.runs) h.run answer h.new_store h.new_run (run_by_kind m run answer new h)) (ap (λ x. x.store) h.new_is)
 accounts-performs m (events.Update map key value flags) (answers.Ret ret) new h = accounts-with m new h.0 (accounts-updates m.store (open_sections m.runs) map key.items value.items flags ret h.0 h.1) (ap (λ x. x.store) h.2)
 accounts-performs m (events.Delete map key) (answers.Ret ret) new h = accounts-with m new h.0 (accounts-deletes m.store (open_sections m.runs) map key.items ret h.0 h.1) (ap (λ x. x.store) h.2)
 accounts-performs m (events.Read map key) (answers.Found (Some value)) new h = accounts-same m.store new.store (ap (λ x. x.store) h.1)

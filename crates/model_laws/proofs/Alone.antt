@@ -26,10 +26,12 @@ use Rattle.bpf_model.specs.Section.{Section}
 use Rattle.bpf_model.specs.Element.{Element}
 use Rattle.bpf_model.specs.MapState as map_state
 use Rattle.bpf_model.specs.Machine.{Loaded, Run, environment, fresh_run}
-use Rattle.bpf_model.specs.MachineStep.{Acts, AccessesElement, OutcomeStep, KernelStep, HelperStep, InsnStep, RunStep, element_load, element_store, bound_map}
+use Rattle.model_laws.specs.ByKind.{StepsByKind, Acts, AccessesElement, KernelStep, HelperStep, element_load, element_store, bound_map}
+use Rattle.bpf_model.specs.MachineStep.{OutcomeStep, RunStep}
 use Rattle.bpf_model.specs.Holds.{HoldsValue, HoldsState}
 use Rattle.model_laws.specs.Alone.{IsOwn, SharesNothing}
 use Rattle.model_laws.proofs.Holding.{Closed, HoldsOutcome, holds-entry, holds-after, holds-returns}
+use Rattle.model_laws.proofs.Requests.{by_kind, of_kind}
 
 -- a program without map references has no instruction that loads one
 pub first-or : (t : Bool) (P : Insn → Type 0) (i j : Insn) (rest : Option Insn) → P i → (rest ≡ Some j → P j) → cond t (Some i) rest ≡ Some j → P j
@@ -91,9 +93,9 @@ acts-own i env es m out new p (inr h) = absurd (access-own i es m out new p h)
 
 -- nothing is done to the maps, and the same step is one over any others
 abbrev Anywhere : Insn → map_state.Store → Run → Answer → map_state.Store → Run → Type 0
-Anywhere i s run answer new new_run = (new ≡ s) × ((t : map_state.Store) (others : List Section) → InsnStep i t others run answer t new_run)
+Anywhere i s run answer new new_run = (new ≡ s) × ((t : map_state.Store) (others : List Section) → StepsByKind i t others run answer t new_run)
 
-insn-anywhere : (i : Insn) (s : map_state.Store) (opened : List Section) (run : Run) (answer : Answer) (new : map_state.Store) (new_run : Run) → HoldsState IsOwn run.state → InsnStep i s opened run answer new new_run → Anywhere i s run answer new new_run
+insn-anywhere : (i : Insn) (s : map_state.Store) (opened : List Section) (run : Run) (answer : Answer) (new : map_state.Store) (new_run : Run) → HoldsState IsOwn run.state → StepsByKind i s opened run answer new new_run → Anywhere i s run answer new new_run
 insn-anywhere (Call kinds.Kernel imm) s opened run answer new new_run p h = (h.2, λ t others. (h.0, h.1, refl))
 insn-anywhere (Call kinds.Helper imm) s opened run answer new new_run p h = absurd (helper-own (helper_of imm) s opened run h.0 new p h.1)
 insn-anywhere i s opened run answer new new_run p h =
@@ -103,8 +105,8 @@ insn-anywhere i s opened run answer new new_run p h =
 pub others_change_nothing : (store new_store : map_state.Store) (opened : List Section) (run new : Run) (answer : Answer) → SharesNothing run → RunStep store opened run answer new_store new →
     (new_store ≡ store) × ((other : map_state.Store) (sections : List Section) → RunStep other sections run answer other new)
 others_change_nothing store new_store opened run new answer p h =
-    let a = insn-anywhere h.0 store opened run answer new_store new p.state h.2 in
-    (a.0, λ other sections. (h.0, h.1, a.1 other sections))
+    let a = insn-anywhere h.0 store opened run answer new_store new p.state (by_kind h.0 store opened run answer new_store new h.2) in
+    (a.0, λ other sections. (h.0, h.1, of_kind h.0 other sections run answer other new (a.1 other sections)))
 
 -- it goes on sharing nothing
 pub own-closed : Closed IsOwn
@@ -119,7 +121,7 @@ kernel-own (Some ReadLock) run new p h = subst SharesNothing (sym h.1) (record {
 kernel-own (Some ReadUnlock) run new p h = subst SharesNothing (sym h.1) (record { code = p.code; state = holds-returns IsOwn own-closed Nothing run.state tt p.state })
 kernel-own None run new p h = absurd h
 
-insn-own : (i : Insn) (s : map_state.Store) (opened : List Section) (run : Run) (answer : Answer) (new : map_state.Store) (new_run : Run) → names_map i ≡ false → SharesNothing run → InsnStep i s opened run answer new new_run → SharesNothing new_run
+insn-own : (i : Insn) (s : map_state.Store) (opened : List Section) (run : Run) (answer : Answer) (new : map_state.Store) (new_run : Run) → names_map i ≡ false → SharesNothing run → StepsByKind i s opened run answer new new_run → SharesNothing new_run
 insn-own (Call kinds.Kernel imm) s opened run answer new new_run unnamed p h = kernel-own (kernel_function_of imm) run new_run p h.0
 insn-own (Call kinds.Helper imm) s opened run answer new new_run unnamed p h = absurd (helper-own (helper_of imm) s opened run h.0 new p.state h.1)
 insn-own i s opened run answer new new_run unnamed p h =
@@ -131,4 +133,4 @@ starts_sharing_nothing name program context h = record { code = h; state = holds
 
 pub stays_sharing_nothing : (store new_store : map_state.Store) (opened : List Section) (run new : Run) (answer : Answer) → SharesNothing run → RunStep store opened run answer new_store new → SharesNothing new
 stays_sharing_nothing store new_store opened run new answer p h =
-    insn-own h.0 store opened run answer new_store new (insn-all (λ i. names_map i ≡ false) run.program.code run.state.place h.0 p.code h.1) p h.2
+    insn-own h.0 store opened run answer new_store new (insn-all (λ i. names_map i ≡ false) run.program.code run.state.place h.0 p.code h.1) p (by_kind h.0 store opened run answer new_store new h.2)

@@ -30,13 +30,16 @@ use Rattle.bpf_model.specs.MapState.{MapState}
 use Rattle.bpf_model.specs.Helper.{LooksUp, Writes, Settles, Updates, RemovesFrom, Deletes}
 use Rattle.bpf_model.specs.Reclaim.{Reclaims}
 use Rattle.bpf_model.specs.Machine.{Run, Machine, environment, open_sections}
-use Rattle.bpf_model.specs.MachineStep.{AccessesElement, Acts, HelperStep, InsnStep, element_store, stored_in, with_bytes}
+use Rattle.model_laws.specs.ByKind.{StepsByKind, AccessesElement, Acts, HelperStep, element_store}
+use Rattle.bpf_model.specs.Element.{stored_in}
+use Rattle.bpf_model.specs.Access.{with_bytes}
 use Rattle.bpf_model.specs.Consistent.{StaysLinked}
 use Rattle.bpf_model.specs.Event.{PerformsEvent, Answers, DoesEvent, refusal}
 use Rattle.model_laws.proofs.Computations.{first-step}
 use Rattle.model_laws.proofs.Lives.{linked≢unlinked}
 use Rattle.model_laws.proofs.Stores.{touches-found}
 use Rattle.bpf_model.proofs.Lists.{get-append, get-below, get-set_cases}
+use Rattle.model_laws.proofs.Requests.{run_by_kind}
 
 -- each element that was there and is of no array, or linked, is so afterwards
 abbrev Fixed : List MapState → List Element → List Element → Type 0
@@ -154,7 +157,7 @@ fixes-helper (Some helpers.Update) s opened run ret new h = fixes-updates s open
 fixes-helper (Some helpers.Delete) s opened run ret new h = fixes-deletes s opened h.map h.key h.outcome new h.deleted
 fixes-helper None s opened run ret new h = absurd h
 
-pub fixes-insn : (i : Insn) (s : map_state.Store) (opened : List Section) (run : Run) (answer : Answer) (new : map_state.Store) (new_run : Run) → InsnStep i s opened run answer new new_run → Fixes s new
+fixes-insn : (i : Insn) (s : map_state.Store) (opened : List Section) (run : Run) (answer : Answer) (new : map_state.Store) (new_run : Run) → StepsByKind i s opened run answer new new_run → Fixes s new
 fixes-insn (Call kinds.Kernel imm) s opened run answer new new_run h = fixes-at s new h.2
 fixes-insn (Call kinds.Helper imm) s opened run answer new new_run h = fixes-helper (helper_of imm) s opened run h.0 new h.1
 fixes-insn i s opened run answer new new_run h = fixes-with s new h.1 (fixed-acts i s.maps (environment run) s.elements run.state h.0 h.1 h.2) (ap (λ x. x.elements) h.3)
@@ -164,7 +167,7 @@ fixes-then s mid new h e = subst (Fixes s) (sym e) h
 
 fixes-performs : (m : Machine) (event : Event) (answer : Answer) (new : Machine) → PerformsEvent m event answer new → Fixes m.store new.store
 fixes-performs m (events.Start prog ctx) (answers.Started r) new h = fixes-at m.store new.store (ap (λ x. x.store) h.new_is)
-fixes-performs m (events.Step run) answer new h = fixes-then m.store h.new_store new.store (fixes-insn h.step.0 m.store (open_sections m.runs) h.run answer h.new_store h.new_run h.step.2) (ap (λ x. x.store) h.new_is)
+fixes-performs m (events.Step run) answer new h = fixes-then m.store h.new_store new.store (fixes-insn h.step.0 m.store (open_sections m.runs) h.run answer h.new_store h.new_run (run_by_kind m run answer new h)) (ap (λ x. x.store) h.new_is)
 fixes-performs m (events.Update map key value flags) (answers.Ret ret) new h = fixes-then m.store h.0 new.store (fixes-updates m.store (open_sections m.runs) map key.items value.items flags ret h.0 h.1) (ap (λ x. x.store) h.2)
 fixes-performs m (events.Delete map key) (answers.Ret ret) new h = fixes-then m.store h.0 new.store (fixes-deletes m.store (open_sections m.runs) map key.items ret h.0 h.1) (ap (λ x. x.store) h.2)
 fixes-performs m (events.Read map key) (answers.Found (Some value)) new h = fixes-at m.store new.store (ap (λ x. x.store) h.1)

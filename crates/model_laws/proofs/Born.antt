@@ -10,7 +10,8 @@ use Rattle.bpf_model.specs.declared.value.Cell.TheVariants.{Unwritten, Byte, Par
 use Rattle.bpf_model.specs.Step.{State, Environment, Outcome, entry}
 use Rattle.bpf_model.specs.Consistent.{IsBorn, IsBornValue, IsBornCell}
 use Rattle.bpf_model.specs.Element.{Element}
-use Rattle.bpf_model.specs.MachineStep.{Acts, returns}
+use Rattle.model_laws.specs.ByKind.{Acts}
+use Rattle.bpf_model.specs.Step.{returns}
 use Rattle.bpf_model.specs.Holds.{HoldsState}
 use Rattle.model_laws.proofs.Holding.{Closed, HoldsOutcome, holds-entry, holds-acts, holds-returns}
 

@@ -36,7 +36,10 @@ use Rattle.bpf_model.specs.declared.limits.MapKind.{MapKind}
 use Rattle.bpf_model.specs.declared.limits.MapKind.TheVariants.{Hash, Array}
 use Rattle.bpf_model.specs.Reclaim.{Reclaims}
 use Rattle.bpf_model.specs.Machine.{Run, Machine, environment, open_sections, moves, with_store, with_runs, begins}
-use Rattle.bpf_model.specs.MachineStep.{OutcomeStep, Acts, AccessesElement, KernelStep, LookupStep, UpdateStep, DeleteStep, HelperStep, InsnStep, RunStep, StepsRun, element_load, element_store, key_argument, value_argument, returns, found_value}
+use Rattle.bpf_model.specs.MachineStep.{OutcomeStep, InsnStep, RunStep, StepsRun}
+use Rattle.model_laws.specs.ByKind.{StepsByKind, Acts, AccessesElement, KernelStep, LookupStep, UpdateStep, DeleteStep, HelperStep, element_load, element_store, key_argument, value_argument}
+use Rattle.bpf_model.specs.Step.{returns}
+use Rattle.bpf_model.specs.Request.{found_value}
 use Rattle.bpf_model.specs.Event.{Starts, ReadsElement, PerformsEvent, Answers, refusal}
 use Rattle.bpf_model.specs.Schedule.{Schedule, first_ready, scheduled, TakesFirst, TakesOldest, DoesScheduled, IsScheduledHistory}
 use Rattle.model_laws.specs.Scheduled.{IsScheduled}
@@ -45,6 +48,7 @@ use Rattle.model_laws.proofs.Stores.{touches-found}
 use Rattle.model_laws.proofs.Scheduling.{same-element, stays_scheduled}
 use Rattle.bpf_model.proofs.Lists.{get-append_last, get-set_there, heads, tails}
 use Rattle.bpf_model.proofs.Cases.{both}
+use Rattle.model_laws.proofs.Requests.{by_kind}
 
 never : {A B : Type 0} (o : Option A) (x : A) → o ≡ None → o ≡ Some x → B
 never o x h g = absurd (none-some x (sym h ∙ g))
@@ -221,7 +225,7 @@ alone-one i s run a b new other new_run other_run out told es fs h g new_is othe
     (last.0, new_is ∙ (ap (λ x. with_elements x s) one.1 ∙ sym other_is), last.1)
 
 insn-one : (i : Insn) (s : map_state.Store) (opened : List Section) (run : Run) (a b : Answer) (new other : map_state.Store) (new_run other_run : Run) → IsSingle s.elements → TakesOldest s new → TakesOldest s other →
-    InsnStep i s opened run a new new_run → InsnStep i s opened run b other other_run → (a ≡ b) × (new ≡ other) × (new_run ≡ other_run)
+    StepsByKind i s opened run a new new_run → StepsByKind i s opened run b other other_run → (a ≡ b) × (new ≡ other) × (new_run ≡ other_run)
 insn-one (Call kinds.Kernel imm) s opened run a b new other new_run other_run single old_new old_other h g = (meet _ _ _ h.1 g.1, meet _ _ _ h.2 g.2, kernel-one (kernel_function_of imm) run new_run other_run h.0 g.0)
 insn-one (Call kinds.Helper imm) s opened run a b new other new_run other_run single old_new old_other h g =
     let one = helper-one (helper_of imm) s opened run h.0 g.0 new other single old_new old_other h.1 g.1 in
@@ -232,7 +236,7 @@ pub run-one : (s : map_state.Store) (opened : List Section) (run : Run) (a b : A
     RunStep s opened run a new new_run → RunStep s opened run b other other_run → (a ≡ b) × (new ≡ other) × (new_run ≡ other_run)
 run-one s opened run a b new other new_run other_run single old_new old_other h g =
     let insns : g.0 ≡ h.0 = both _ g.0 h.0 g.1 h.1 in
-    insn-one h.0 s opened run a b new other new_run other_run single old_new old_other h.2 (subst (λ i. InsnStep i s opened run b other other_run) insns g.2)
+    insn-one h.0 s opened run a b new other new_run other_run single old_new old_other (by_kind h.0 s opened run a new new_run h.2) (by_kind h.0 s opened run b other other_run (subst (λ i. InsnStep i s opened run b other other_run) insns g.2))
 
 abbrev stepped : Machine → ℕ → map_state.Store → Run → Machine
 stepped m r store run = with_runs (with_store m store) (slice_set m.runs r (Some run))

@@ -17,11 +17,13 @@ use Rattle.bpf_model.specs.Exit.{ExitsFrom, exits_now, exits_later, ExitsWith, M
 use Rattle.bpf_model.specs.Section.{Section}
 use Rattle.bpf_model.specs.MapState.{Store}
 use Rattle.bpf_model.specs.Machine.{Loaded, Run, fresh_run}
-use Rattle.bpf_model.specs.MachineStep.{OutcomeStep, KernelStep, HelperStep, InsnStep, RunStep}
+use Rattle.bpf_model.specs.MachineStep.{OutcomeStep, InsnStep, RunStep}
+use Rattle.model_laws.specs.ByKind.{StepsByKind, KernelStep, HelperStep}
 use Rattle.bpf_model.proofs.Cases.{both, oldest-none}
 use Rattle.model_laws.specs.Alone.{SharesNothing}
 use Rattle.model_laws.proofs.Deciding.{meet, kernel-one, alone-one, run-one}
 use Rattle.model_laws.proofs.Alone.{others_change_nothing, starts_sharing_nothing, stays_sharing_nothing}
+use Rattle.model_laws.proofs.Requests.{by_kind, of_kind}
 
 -- one step: where no element is, every lookup and every birth has one answer
 abbrev pub no_maps : Store
@@ -58,13 +60,13 @@ module _ (name : ℕ) (s : Store) (opened : List Section) (run : Run) where
   helper-renamed (Some helpers.Delete) ret new h = record { map = h.map; key = h.key; outcome = h.outcome; map_is = h.map_is; key_is = h.key_is; deleted = h.deleted; ret_is = h.ret_is }
   helper-renamed None ret new h = absurd h
 
-  insn-renamed : (i : Insn) (answer : Answer) (new_store : Store) (new : Run) → InsnStep i s opened run answer new_store new → InsnStep i s opened (renamed name run) answer new_store (renamed name new)
+  insn-renamed : (i : Insn) (answer : Answer) (new_store : Store) (new : Run) → StepsByKind i s opened run answer new_store new → StepsByKind i s opened (renamed name run) answer new_store (renamed name new)
   insn-renamed (Call kinds.Kernel imm) answer new_store new h = (kernel-renamed (kernel_function_of imm) new h.0, h.1, h.2)
   insn-renamed (Call kinds.Helper imm) answer new_store new h = (h.0, helper-renamed (helper_of imm) h.0 new_store h.1, h.2, ap (renamed name) h.3)
   insn-renamed i answer new_store new h = (h.0, h.1, h.2, h.3, ends-renamed h.0 answer new h.4)
 
   run-renamed : (answer : Answer) (new_store : Store) (new : Run) → RunStep s opened run answer new_store new → RunStep s opened (renamed name run) answer new_store (renamed name new)
-  run-renamed answer new_store new h = (h.0, h.1, insn-renamed h.0 answer new_store new h.2)
+  run-renamed answer new_store new h = (h.0, h.1, of_kind h.0 s opened (renamed name run) answer new_store (renamed name new) (insn-renamed h.0 answer new_store new (by_kind h.0 s opened run answer new_store new h.2)))
 
 may_exit-renamed : (name : ℕ) (run : Run) (steps n : ℕ) → MayExitFrom run steps n → MayExitFrom (renamed name run) steps n
 may_exit-renamed name run steps n (may_exit_now store new_store opened _ new _ bytes h) = may_exit_now store new_store opened (renamed name run) (renamed name new) n bytes (run-renamed name store opened run (Exited n) new_store new h)
@@ -82,7 +84,7 @@ no_helper (Some helpers.Delete) opened run ret new h = none-some h.key h.key_is
 no_helper None opened run ret new h = h
 
 module _ (s other : Store) (opened : List Section) (run new next : Run) (a b : Answer) where
-  insn-only : (i : Insn) → InsnStep i no_maps [] run a no_maps new → InsnStep i s opened run a s new → InsnStep i s opened run b other next → (a ≡ b) × (new ≡ next)
+  insn-only : (i : Insn) → StepsByKind i no_maps [] run a no_maps new → StepsByKind i s opened run a s new → StepsByKind i s opened run b other next → (a ≡ b) × (new ≡ next)
   insn-only (Call kinds.Kernel imm) p h g = (meet _ _ _ h.1 g.1, kernel-one (kernel_function_of imm) run new next h.0 g.0)
   insn-only (Call kinds.Helper imm) p h g = absurd (no_helper (helper_of imm) [] run p.0 no_maps p.1)
   insn-only i p h g = let one = alone-one i s run a b s other new next h.0 g.0 h.1 g.1 h.2 g.2 h.3 g.3 h.4 g.4 in (one.0, one.2)
@@ -93,7 +95,7 @@ module _ (s other : Store) (opened : List Section) (run new next : Run) (a b : A
       let y = p s opened in
       let first : x.0 ≡ g.0 = both _ x.0 g.0 x.1 g.1 in
       let second : y.0 ≡ g.0 = both _ y.0 g.0 y.1 g.1 in
-      insn-only g.0 (subst (λ i. InsnStep i no_maps [] run a no_maps new) first x.2) (subst (λ i. InsnStep i s opened run a s new) second y.2) g.2
+      insn-only g.0 (by_kind g.0 no_maps [] run a no_maps new (subst (λ i. InsnStep i no_maps [] run a no_maps new) first x.2)) (by_kind g.0 s opened run a s new (subst (λ i. InsnStep i s opened run a s new) second y.2)) (by_kind g.0 s opened run b other next g.2)
 
 same-exit : (n k : ℕ) → Exited n ≡ Exited k → n ≡ k
 same-exit n k h = cc

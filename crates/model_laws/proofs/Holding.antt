@@ -27,7 +27,8 @@ use Rattle.bpf_model.specs.Step.{State, Environment, Outcome, Moves, Exits, entr
 use Rattle.bpf_model.specs.Exit.{names_map}
 use Rattle.bpf_model.specs.Holds.{HoldsValue, HoldsCell, HoldsState}
 use Rattle.bpf_model.specs.Element.{Element}
-use Rattle.bpf_model.specs.MachineStep.{AccessesElement, Acts, returns}
+use Rattle.model_laws.specs.ByKind.{AccessesElement, Acts}
+use Rattle.bpf_model.specs.Step.{returns}
 use Rattle.bpf_model.proofs.Cases.{choice}
 use Rattle.model_laws.proofs.Computations.{first-step}
 

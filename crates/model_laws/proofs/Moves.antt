@@ -26,10 +26,14 @@ use Rattle.bpf_model.specs.MapState.{Store}
 use Rattle.bpf_model.specs.Helper.{LooksUp}
 use Rattle.bpf_model.specs.Consistent.{IsBornValue}
 use Rattle.bpf_model.specs.Machine.{Loaded, Run, Machine, environment, open_sections, moves, exits, locked, unlocked, fresh_run, with_store, run_at}
-use Rattle.bpf_model.specs.MachineStep.{OutcomeStep, KernelStep, HelperStep, InsnStep, StepsRun, returns, found_value}
+use Rattle.bpf_model.specs.MachineStep.{OutcomeStep, InsnStep, StepsRun}
+use Rattle.model_laws.specs.ByKind.{StepsByKind, KernelStep, HelperStep}
+use Rattle.bpf_model.specs.Step.{returns}
+use Rattle.bpf_model.specs.Request.{found_value}
 use Rattle.bpf_model.specs.Event.{PerformsEvent, Answers, DoesEvent, refusal}
 use Rattle.model_laws.proofs.Born.{IsBornState, IsBornOutcome, born-acts, born-returns, born-returns_as}
 use Rattle.model_laws.proofs.Sections.{run-set_cases}
+use Rattle.model_laws.proofs.Requests.{by_kind, run_by_kind}
 
 -- what stays of a run in a step of it
 pub record GoesOn (run new : Run) : Type 0 where
@@ -90,10 +94,13 @@ changed-kernel (Some ReadLock) run answer new h e = Locks (returns Nothing run.s
 changed-kernel (Some ReadUnlock) run answer new h e = Unlocks (returns Nothing run.state) h.0 e h.1
 changed-kernel None run answer new h e = absurd h
 
+changed-kind : (i : Insn) (s : Store) (opened : List Section) (run : Run) (answer : Answer) (new_store : Store) (new : Run) → StepsByKind i s opened run answer new_store new → Changes run answer new
+changed-kind (Call kinds.Kernel imm) s opened run answer new_store new h = changed-kernel (kernel_function_of imm) run answer new h.0 h.1
+changed-kind (Call kinds.Helper imm) s opened run answer new_store new h = Goes (returns h.0 run.state) h.2 h.3
+changed-kind i s opened run answer new_store new h = changed-ends h.0 run answer new h.4
+
 pub changed-insn : (i : Insn) (s : Store) (opened : List Section) (run : Run) (answer : Answer) (new_store : Store) (new : Run) → InsnStep i s opened run answer new_store new → Changes run answer new
-changed-insn (Call kinds.Kernel imm) s opened run answer new_store new h = changed-kernel (kernel_function_of imm) run answer new h.0 h.1
-changed-insn (Call kinds.Helper imm) s opened run answer new_store new h = Goes (returns h.0 run.state) h.2 h.3
-changed-insn i s opened run answer new_store new h = changed-ends h.0 run answer new h.4
+changed-insn i s opened run answer new_store new h = changed-kind i s opened run answer new_store new (by_kind i s opened run answer new_store new h)
 
 goes-changed : (run : Run) (answer : Answer) (new : Run) → run.exit ≡ None → Changes run answer new → GoesOn run new
 goes-changed run answer new going (Goes next e f) = subst (GoesOn run) (sym f) (goes-moves run next)
@@ -121,7 +128,7 @@ born-helper (Some helpers.Update) s opened run ret new p h = born-returns_as (le
 born-helper (Some helpers.Delete) s opened run ret new p h = born-returns_as (length s.elements) ret (Number (ret_word h.outcome)) run.state h.ret_is tt p
 born-helper None s opened run ret new p h = absurd h
 
-born-insn : (i : Insn) (s : Store) (opened : List Section) (run : Run) (answer : Answer) (new_store : Store) (new : Run) → InsnStep i s opened run answer new_store new → IsBornState (length s.elements) run.state → IsBornState (length s.elements) new.state
+born-insn : (i : Insn) (s : Store) (opened : List Section) (run : Run) (answer : Answer) (new_store : Store) (new : Run) → StepsByKind i s opened run answer new_store new → IsBornState (length s.elements) run.state → IsBornState (length s.elements) new.state
 born-insn (Call kinds.Kernel imm) s opened run answer new_store new h p = born-kernel (length s.elements) (kernel_function_of imm) run new p h.0
 born-insn (Call kinds.Helper imm) s opened run answer new_store new h p = subst (λ r. IsBornState (length s.elements) r.state) (sym h.3) (born-helper (helper_of imm) s opened run h.0 new_store p h.1)
 born-insn i s opened run answer new_store new h p = born-ends (length s.elements) h.0 run answer new p (born-acts (length s.elements) i (environment run) s.elements run.state h.0 h.1 p h.2) h.4
@@ -143,7 +150,7 @@ goes-run : (m : Machine) (r : ℕ) (answer : Answer) (new : Machine) → StepsRu
 goes-run m r answer new h =
     Go r h.run h.new_run h.there
     (goes-changed h.run answer h.new_run h.going (changed-insn h.step.0 m.store (open_sections m.runs) h.run answer h.new_store h.new_run h.step.2))
-    (born-insn h.step.0 m.store (open_sections m.runs) h.run answer h.new_store h.new_run h.step.2)
+    (born-insn h.step.0 m.store (open_sections m.runs) h.run answer h.new_store h.new_run (run_by_kind m r answer new h))
     (ap (λ q. q.runs) h.new_is) (ap (λ q. q.started) h.new_is)
 
 performs-move : (m : Machine) (event : Event) (answer : Answer) (new : Machine) → PerformsEvent m event answer new → RunsMove m new

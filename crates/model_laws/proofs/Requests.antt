@@ -25,9 +25,15 @@ use Rattle.bpf_model.specs.Step.{State, Environment, Outcome, Moves, after, sets
 use Rattle.bpf_model.specs.Section.{Section}
 use Rattle.bpf_model.specs.Element.{Element, accessible}
 use Rattle.bpf_model.specs.MapState as map_state
-use Rattle.bpf_model.specs.Machine.{Run, environment, moves, locked, unlocked}
-use Rattle.bpf_model.specs.MachineStep.{Acts, AccessesElement, OutcomeStep, KernelStep, LookupStep, UpdateStep, DeleteStep, HelperStep, InsnStep, loaded_from, stored_in, element_load, element_store, bound_map, map_argument, key_argument, frame_bytes, found_value, returns}
-use Rattle.bpf_model.specs.Request.{ArgumentKind, MapOfProgram, KeyOfMap, ValueOfMap, AnyNumber, ElementOrNull, Argument, MapArgument, BytesArgument, NumberArgument, Request, LoadElement, StoreElement, CallHelper, Enter, Leave, named_map, called_shape, signature_of, argument_of, arguments_of, load_request, store_request, section_request, asks, extended_reply, loads, Calls, IsOfKind, ServesRequest, Resumes, bound_shape, StepsAlone, StepsServed}
+use Rattle.bpf_model.specs.Machine.{Run, Machine, open_sections, environment, moves, locked, unlocked}
+use Rattle.model_laws.specs.ByKind.{StepsByKind, Acts, AccessesElement, KernelStep, LookupStep, UpdateStep, DeleteStep, HelperStep, element_load, element_store, bound_map, map_argument, key_argument}
+use Rattle.bpf_model.specs.MachineStep.{OutcomeStep, InsnStep, StepsRun}
+use Rattle.bpf_model.specs.Element.{loaded_from, stored_in}
+use Rattle.bpf_model.specs.Frame.{frame_bytes}
+use Rattle.bpf_model.specs.Request.{found_value}
+use Rattle.bpf_model.specs.Step.{returns}
+use Rattle.bpf_model.specs.Request.{ArgumentKind, MapOfProgram, KeyOfMap, ValueOfMap, AnyNumber, ElementOrNull, Argument, MapArgument, BytesArgument, NumberArgument, Request, LoadElement, StoreElement, CallHelper, Enter, Leave, named_map, called_shape, signature_of, argument_of, arguments_of, load_request, store_request, section_request, asks, extended_reply, loads, Calls, IsOfKind, ServesRequest, bound_shape}
+use Rattle.bpf_model.specs.MachineStep.{Resumes, StepsAlone, StepsServed}
 use Rattle.model_laws.proofs.Computations.{first-step, then-step}
 
 -- steps of a computation, taken together
@@ -426,13 +432,13 @@ module _ (s : map_state.Store) (opened : List Section) (run : Run) (answer : Ans
   acts-served i out es (inl h) same ends = inl (out, h.0, same ∙ ap (λ x. map_state.with_elements x s) h.1, ends)
   acts-served i out es (inr h) same ends = inr (access-served i out es h same ends)
 
-  forth : (i : Insn) → InsnStep i s opened run answer new new_run → StepsAlone i s run answer new new_run ⊎ Served i
+  forth : (i : Insn) → StepsByKind i s opened run answer new new_run → StepsAlone i s run answer new new_run ⊎ Served i
   forth (Call kinds.Kernel imm) h = inr (kernel-served imm (kernel_function_of imm) refl h.0 h.1 h.2)
   forth (Call kinds.Helper imm) h = inr (helper-served imm h.0 h.1 h.2 h.3)
   forth i h = acts-served i h.0 h.1 h.2 h.3 h.4
 
   -- a step by itself or by a served request is a step of the instruction
-  alone-steps : (i : Insn) → StepsAlone i s run answer new new_run → InsnStep i s opened run answer new new_run
+  alone-steps : (i : Insn) → StepsAlone i s run answer new new_run → StepsByKind i s opened run answer new new_run
   alone-steps (Call kinds.Kernel imm) h = absurd (none-some h.0 h.1)
   alone-steps (Call kinds.Helper imm) h = absurd (none-some h.0 h.1)
   alone-steps i h = (h.0, s.elements, inl (h.1, refl), h.2, h.3)
@@ -440,13 +446,13 @@ module _ (s : map_state.Store) (opened : List Section) (run : Run) (answer : Ans
   abbrev Serving : Request → Value → Type 0
   Serving request reply = ServesRequest run.program.maps request s opened reply new
 
-  kernel-steps : (imm : ℤ) (f : KernelFunction) (reply : Value) → kernel_function_of imm ≡ Some f → Serving (section_request f) reply → answer ≡ Moved → Resumes (section_request f) (Call kinds.Kernel imm) reply run new_run → InsnStep (Call kinds.Kernel imm) s opened run answer new new_run
+  kernel-steps : (imm : ℤ) (f : KernelFunction) (reply : Value) → kernel_function_of imm ≡ Some f → Serving (section_request f) reply → answer ≡ Moved → Resumes (section_request f) (Call kinds.Kernel imm) reply run new_run → StepsByKind (Call kinds.Kernel imm) s opened run answer new new_run
   kernel-steps imm ReadLock reply e served moved r =
       (subst (λ x. KernelStep x run new_run) (sym e) (r.0, subst (λ x. new_run ≡ moves (locked run) (returns x run.state)) served.0 r.1), moved, served.1)
   kernel-steps imm ReadUnlock reply e served moved r =
       (subst (λ x. KernelStep x run new_run) (sym e) (r.0, subst (λ x. new_run ≡ moves (unlocked run) (returns x run.state)) served.0 r.1), moved, served.1)
 
-  back : (i : Insn) → Served i → InsnStep i s opened run answer new new_run
+  back : (i : Insn) → Served i → StepsByKind i s opened run answer new new_run
   back (Load width dst src offset) h =
       let a = load-asked (byte_count width) offset (run.state.regs src) (dst == 10) h.request h.asked in
       let is : h.request ≡ LoadElement a.n (a.o +ℤ offset) (byte_count width) = sym a.request_is in
@@ -492,10 +498,19 @@ module _ (s : map_state.Store) (opened : List Section) (run : Run) (answer : Ans
       (h.reply, called-helper s run opened h.reply new (helper_of imm) f.0 f.1 (g.0, g.1, subst (λ x. Serving x h.reply) is h.served), h.answer_is, goes)
   back i h = absurd (none-some h.request h.asked)
 
-pub steps_by_request : (i : Insn) (s : map_state.Store) (opened : List Section) (run : Run) (answer : Answer) (new : map_state.Store) (new_run : Run) →
-    InsnStep i s opened run answer new new_run ↔ (StepsAlone i s run answer new new_run ⊎ StepsServed i s opened run answer new new_run)
-steps_by_request i s opened run answer new new_run =
-    (forth s opened run answer new new_run i, λ h. elim h [ inl x ↦ alone-steps s opened run answer new new_run i x | inr x ↦ back s opened run answer new new_run i x ])
+-- the two directions
+pub by_kind : (i : Insn) (s : map_state.Store) (opened : List Section) (run : Run) (answer : Answer) (new : map_state.Store) (new_run : Run) → InsnStep i s opened run answer new new_run → StepsByKind i s opened run answer new new_run
+by_kind i s opened run answer new new_run (inl h) = alone-steps s opened run answer new new_run i h
+by_kind i s opened run answer new new_run (inr h) = back s opened run answer new new_run i h
+
+pub of_kind : (i : Insn) (s : map_state.Store) (opened : List Section) (run : Run) (answer : Answer) (new : map_state.Store) (new_run : Run) → StepsByKind i s opened run answer new new_run → InsnStep i s opened run answer new new_run
+of_kind i s opened run answer new new_run h = forth s opened run answer new new_run i h
+
+pub run_by_kind : (m : Machine) (r : ℕ) (answer : Answer) (new : Machine) (h : StepsRun m r answer new) → StepsByKind h.step.0 m.store (open_sections m.runs) h.run answer h.new_store h.new_run
+run_by_kind m r answer new h = by_kind h.step.0 m.store (open_sections m.runs) h.run answer h.new_store h.new_run h.step.2
+
+pub steps_by_kind : (i : Insn) (s : map_state.Store) (opened : List Section) (run : Run) (answer : Answer) (new : map_state.Store) (new_run : Run) → InsnStep i s opened run answer new new_run ↔ StepsByKind i s opened run answer new new_run
+steps_by_kind i s opened run answer new new_run = (by_kind i s opened run answer new new_run, of_kind i s opened run answer new new_run)
 
 -- a helper's reply is of the kind of its signature
 found-kind : (reply : Value) (found : Option ℕ) → reply ≡ found_value found → IsOfKind ElementOrNull reply

@@ -27,13 +27,17 @@ use Rattle.bpf_model.specs.declared.limits.MapKind.{MapKind}
 use Rattle.bpf_model.specs.declared.limits.MapKind.TheVariants.{Hash, Array}
 use Rattle.bpf_model.specs.Reclaim.{Reclaims}
 use Rattle.bpf_model.specs.Machine.{Run, Machine, environment, open_sections, with_store}
-use Rattle.bpf_model.specs.MachineStep.{AccessesElement, Acts, HelperStep, InsnStep, StepsRun, element_store, stored_in, with_bytes}
+use Rattle.model_laws.specs.ByKind.{StepsByKind, AccessesElement, Acts, HelperStep, element_store}
+use Rattle.bpf_model.specs.MachineStep.{StepsRun}
+use Rattle.bpf_model.specs.Element.{stored_in}
+use Rattle.bpf_model.specs.Access.{with_bytes}
 use Rattle.bpf_model.specs.Event.{PerformsEvent, Answers, DoesEvent, refusal}
 use Rattle.bpf_model.specs.History.{IsHistory}
 use Rattle.bpf_model.specs.Element.{Reclaimed, HasLife}
 use Rattle.model_laws.specs.Growth.{ElementsGrow}
 use Rattle.model_laws.proofs.Computations.{first-step}
 use Rattle.model_laws.proofs.Growing.{grows-same, grows-along, grows-append, grows-set, grows-changed, grows-overwritten, grows-unlinked, follows-value, follows-reclaimed, stays-reclaimed}
+use Rattle.model_laws.proofs.Requests.{run_by_kind}
 
 -- a store to an element
 grows-stored : (es new : List Element) (n width : ℕ) (offset : ℤ) (v : ℕ) (e : Element) → stored_in es n width offset v e ≡ Some new → ElementsGrow es new
@@ -109,14 +113,14 @@ grows-helper None s opened run ret new h = absurd h
 grows-alone : (i : Insn) (s : map_state.Store) (run : Run) (env : Environment) (out : Outcome) (es : List Element) (new : map_state.Store) → Acts i env s.elements run.state out es → new ≡ map_state.with_elements es s → ElementsGrow s.elements new.elements
 grows-alone i s run env out es new a h = subst (λ x. ElementsGrow s.elements x) (sym (ap (λ x. x.elements) h)) (grows-act i env s.elements run.state out es a)
 
-grows-insn : (i : Insn) (s : map_state.Store) (opened : List Section) (run : Run) (answer : Answer) (new : map_state.Store) (new_run : Run) → InsnStep i s opened run answer new new_run → ElementsGrow s.elements new.elements
+grows-insn : (i : Insn) (s : map_state.Store) (opened : List Section) (run : Run) (answer : Answer) (new : map_state.Store) (new_run : Run) → StepsByKind i s opened run answer new new_run → ElementsGrow s.elements new.elements
 grows-insn (Call kinds.Kernel imm) s opened run answer new new_run h = grows-along s.elements new.elements (ap (λ x. x.elements) h.2)
 grows-insn (Call kinds.Helper imm) s opened run answer new new_run h = grows-helper (helper_of imm) s opened run h.0 new h.1
 grows-insn i s opened run answer new new_run h = grows-alone i s run (environment run) h.0 h.1 new h.2 h.3
 
 grows-run : (m : Machine) (r : ℕ) (answer : Answer) (new : Machine) → StepsRun m r answer new → ElementsGrow m.store.elements new.store.elements
 grows-run m r answer new h =
-    subst (λ x. ElementsGrow m.store.elements x) (sym (ap (λ x. x.store.elements) h.new_is)) (grows-insn h.step.0 m.store (open_sections m.runs) h.run answer h.new_store h.new_run h.step.2)
+    subst (λ x. ElementsGrow m.store.elements x) (sym (ap (λ x. x.store.elements) h.new_is)) (grows-insn h.step.0 m.store (open_sections m.runs) h.run answer h.new_store h.new_run (run_by_kind m r answer new h))
 
 grows-at : (m new : Machine) → new ≡ m → ElementsGrow m.store.elements new.store.elements
 grows-at m new h = grows-along m.store.elements new.store.elements (ap (λ x. x.store.elements) h)

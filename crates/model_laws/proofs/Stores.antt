@@ -39,13 +39,18 @@ use Rattle.bpf_model.specs.declared.limits.MapKind.TheVariants.{Hash, Array}
 use Rattle.bpf_model.specs.Reclaim.{Reclaims}
 use Rattle.bpf_model.specs.Consistent.{HasLengths, IsSingle}
 use Rattle.bpf_model.specs.Machine.{Run, Machine, environment, open_sections}
-use Rattle.bpf_model.specs.MachineStep.{AccessesElement, Acts, HelperStep, InsnStep, element_store, stored_in, with_bytes, bytes_at, bytes_from, frame_bytes, key_argument, value_argument}
+use Rattle.model_laws.specs.ByKind.{StepsByKind, AccessesElement, Acts, HelperStep, element_store, key_argument, value_argument}
+use Rattle.bpf_model.specs.Element.{stored_in}
+use Rattle.bpf_model.specs.Access.{with_bytes}
+use Rattle.bpf_model.specs.Frame.{bytes_at, bytes_from, frame_bytes}
 use Rattle.bpf_model.specs.Event.{PerformsEvent, Answers, DoesEvent, refusal, update_refusal}
 use Rattle.model_laws.proofs.Computations.{first-step}
 use Rattle.model_laws.proofs.Lives.{linked≢unlinked}
 use Rattle.bpf_model.proofs.Bytes.{length-with_bytes}
 use Rattle.std.proofs.lemmas.List.{length-set}
 use Rattle.bpf_model.proofs.Lists.{get-append, get-append_cases, get-set_cases, get-set_other, get-set_there}
+use Rattle.bpf_model.specs.MachineStep.{InsnStep}
+use Rattle.model_laws.proofs.Requests.{by_kind}
 
 -- How a life goes on in one step: it stays, the element is unlinked, or (in a reap) its sections have ended.
 pub data LifeMoves (reap : Bool) (opened : List Section) (old new : Life) : Type 0 where
@@ -325,10 +330,13 @@ moves-helper (Some helpers.Update) s opened run ret new single lengths h = moves
 moves-helper (Some helpers.Delete) s opened run ret new single lengths h = moves-deletes s opened h.map h.key h.outcome new h.deleted
 moves-helper None s opened run ret new single lengths h = absurd h
 
+moves-kind : (i : Insn) (s : map_state.Store) (opened : List Section) (run : Run) (answer : Answer) (new : map_state.Store) (new_run : Run) → IsSingle s.elements → AllLengths s → StepsByKind i s opened run answer new new_run → StoreMoves false opened s new
+moves-kind (Call kinds.Kernel imm) s opened run answer new new_run single lengths h = moves-same false opened s new h.2
+moves-kind (Call kinds.Helper imm) s opened run answer new new_run single lengths h = moves-helper (helper_of imm) s opened run h.0 new single lengths h.1
+moves-kind i s opened run answer new new_run single lengths h = moves-elements false opened s new h.1 (touches-acts i opened (environment run) s.elements run.state h.0 h.1 h.2) h.3
+
 pub moves-insn : (i : Insn) (s : map_state.Store) (opened : List Section) (run : Run) (answer : Answer) (new : map_state.Store) (new_run : Run) → IsSingle s.elements → AllLengths s → InsnStep i s opened run answer new new_run → StoreMoves false opened s new
-moves-insn (Call kinds.Kernel imm) s opened run answer new new_run single lengths h = moves-same false opened s new h.2
-moves-insn (Call kinds.Helper imm) s opened run answer new new_run single lengths h = moves-helper (helper_of imm) s opened run h.0 new single lengths h.1
-moves-insn i s opened run answer new new_run single lengths h = moves-elements false opened s new h.1 (touches-acts i opened (environment run) s.elements run.state h.0 h.1 h.2) h.3
+moves-insn i s opened run answer new new_run single lengths h = moves-kind i s opened run answer new new_run single lengths (by_kind i s opened run answer new new_run h)
 
 abbrev pub is_reap : Event → Bool
 is_reap events.Reap = true

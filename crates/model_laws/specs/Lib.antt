@@ -1,3 +1,4 @@
+pub mod ByKind
 pub mod Growth
 pub mod Scheduled
 pub mod Locations

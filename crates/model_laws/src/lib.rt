@@ -33,11 +33,13 @@ ghost use Rattle.bpf_model.specs.Refines.{IsReachedSchedule, TracksSchedule, Tra
 ghost use Rattle.bpf_model.specs.Word.{IsReferenceWord, element_bases};
 ghost use Rattle.bpf_model.specs.Exit.{ExitsWith, MayExitWith, HasNoMaps};
 ghost use Rattle.bpf_model.specs.Machine.{Run, fresh_run};
+ghost use Rattle.model_laws.specs.ByKind.{StepsByKind};
 ghost use Rattle.bpf_model.specs.MachineStep.{InsnStep, RunStep};
 ghost use Rattle.bpf_model.specs.Step.{State, Environment, after};
 ghost use Rattle.bpf_model.specs.declared.call.Helper.{Helper};
 ghost use Rattle.bpf_model.specs.declared.value.Value.{Value};
-ghost use Rattle.bpf_model.specs.Request.{Argument, Request, signature_of, asks, Calls, IsOfKind, StepsAlone, StepsServed};
+ghost use Rattle.bpf_model.specs.Request.{Argument, Request, signature_of, asks, Calls, IsOfKind};
+ghost use Rattle.bpf_model.specs.MachineStep.{StepsAlone, StepsServed};
 ghost use Rattle.model_laws.specs.Alone.{SharesNothing};
 ghost use Rattle.model_laws.specs.Growth.{ElementsGrow};
 ghost use Rattle.model_laws.specs.Scheduled.{IsScheduled, IsReapable};
@@ -402,15 +404,13 @@ pub fn exits_alone()
         MayExitWith program context s n → ExitsWith program context s n }
 {}
 
-/// A step of an instruction is what the run does by itself, or a request that the maps serve and with
-/// whose reply the run goes on, and nothing else. A request is an access to an element, the call of a
-/// helper, or to enter a section or leave one.
-pub fn steps_by_request()
+/// A step of an instruction, told by the kind of the instruction: by itself, an access to an element, a call
+/// of a helper or of a kernel function.
+pub fn steps_by_kind()
     ensures { (i : Insn) (store new_store : Store) (opened : List Section) (run new : Run)
         (answer : Answer) →
         InsnStep i store opened run answer new_store new ↔
-        (StepsAlone i store run answer new_store new
-        ⊎ StepsServed i store opened run answer new_store new) }
+        StepsByKind i store opened run answer new_store new }
 {}
 
 /// An instruction that asks something does nothing by itself.

@@ -13,12 +13,12 @@ use Rattle.bpf_model.specs.Access.{byte_count, unsigned_width}
 use Rattle.bpf_model.specs.Arithmetic.{loaded_signed}
 use Rattle.bpf_model.specs.Element.{Element}
 use Rattle.bpf_model.specs.Step.{Environment, Outcome, Moves, Exits, after, load_from, sets}
-use Rattle.bpf_model.specs.MachineStep.{element_load, AccessesElement}
+use Rattle.model_laws.specs.ByKind.{element_load, AccessesElement}
 use Rattle.plain_interpreter.specs.declared.plain_run.PlainRun.{PlainRun}
 use Rattle.plain_interpreter.specs.declared.plain_run.Progress.{Progress}
 use Rattle.plain_interpreter.specs.declared.plain_run.Progress.TheVariants as progress
 use Rattle.plain_interpreter.specs.Plain.{plain_state_of, Comes}
-use Rattle.plain_runs.specs.Acting.{element_in, load_outcome, extended_outcome, ActsAs, AloneAs, KernelsAs, InsnStepsAs, call_in}
+use Rattle.plain_runs.specs.Acting.{element_in, load_outcome, extended_outcome, ActsAs, AloneAs, KernelsAs, KindStepsAs, InsnStepsAs, call_in}
 use Rattle.bpf_model.specs.Call.{kernel_function_of}
 use Rattle.plain_store.proofs.Telling.{tells-map}
 use Rattle.bpf_model.specs.declared.insn.CallKind.{CallKind}
@@ -28,6 +28,7 @@ use Rattle.bpf_model.specs.Section.{Section}
 use Rattle.bpf_model.specs.MapState as maps
 use Rattle.bpf_model.specs.Machine.{Run}
 use Rattle.plain_store.specs.declared.fault.ModelFault.{ModelFault}
+use Rattle.model_laws.proofs.Requests.{by_kind, of_kind}
 
 abbrev pair : ℕ → ℤ → ℕ × ℤ
 pair n o = (n, o)
@@ -87,24 +88,29 @@ extended-acts width dst src offset env es old new p n o b h =
 
 -- a lock or an unlock is the step of its call
 pub kernel-steps : (imm : ℤ) (s : maps.Store) (opened : List Section) (run : Run) (answer : Result Answer ModelFault) (q : Run) → KernelsAs (kernel_function_of imm) run answer q → InsnStepsAs (Call kinds.Kernel imm) s opened run answer s q
-kernel-steps imm s opened run answer q h = tells-map _ _ _ _ answer (λ a k. (k.0, k.1, refl)) (λ none a t q k. none q k.0) h
+kernel-steps imm s opened run answer q h = tells-map _ _ _ _ answer (λ a k. of_kind (Call kinds.Kernel imm) s opened run a s q (k.0, k.1, refl)) (λ none a t p k. none p (by_kind (Call kinds.Kernel imm) s opened run a t p k).0) h
+
+-- a step by the kind of its instruction
+pub of-kinds : (i : Insn) (s : maps.Store) (opened : List Section) (run : Run) (answer : Result Answer ModelFault) (t : maps.Store) (q : Run) →
+    KindStepsAs i s opened run answer t q → InsnStepsAs i s opened run answer t q
+of-kinds i s opened run answer t q h = tells-map _ _ _ _ answer (λ a k. of_kind i s opened run a t q k) (λ none a u p k. none a u p (by_kind i s opened run a u p k)) h
 
 -- what an instruction other than a call does is its step
 pub alone-steps : (i : Insn) (s : maps.Store) (opened : List Section) (run : Run) (answer : Result Answer ModelFault) (t : maps.Store) (q : Run) →
     call_in i ≡ None → AloneAs i s run answer t q → InsnStepsAs i s opened run answer t q
 alone-steps (Call kinds.Kernel imm) s opened run answer t q k a = absurd cc
 alone-steps (Call kinds.Helper imm) s opened run answer t q k a = absurd cc
-alone-steps (Alu op size dst src) s opened run answer t q k a = a
-alone-steps (Unary op dst) s opened run answer t q k a = a
-alone-steps (LoadNumber dst n) s opened run answer t q k a = a
-alone-steps (LoadMap dst map) s opened run answer t q k a = a
-alone-steps (Jump offset) s opened run answer t q k a = a
-alone-steps (JumpLong imm) s opened run answer t q k a = a
-alone-steps (JumpIf condition size dst src offset) s opened run answer t q k a = a
-alone-steps Exit s opened run answer t q k a = a
-alone-steps (Load width dst src offset) s opened run answer t q k a = a
-alone-steps (LoadSigned width dst src offset) s opened run answer t q k a = a
-alone-steps (Store width dst offset src) s opened run answer t q k a = a
+alone-steps (Alu op size dst src) s opened run answer t q k a = of-kinds (Alu op size dst src) s opened run answer t q a
+alone-steps (Unary op dst) s opened run answer t q k a = of-kinds (Unary op dst) s opened run answer t q a
+alone-steps (LoadNumber dst n) s opened run answer t q k a = of-kinds (LoadNumber dst n) s opened run answer t q a
+alone-steps (LoadMap dst map) s opened run answer t q k a = of-kinds (LoadMap dst map) s opened run answer t q a
+alone-steps (Jump offset) s opened run answer t q k a = of-kinds (Jump offset) s opened run answer t q a
+alone-steps (JumpLong imm) s opened run answer t q k a = of-kinds (JumpLong imm) s opened run answer t q a
+alone-steps (JumpIf condition size dst src offset) s opened run answer t q k a = of-kinds (JumpIf condition size dst src offset) s opened run answer t q a
+alone-steps Exit s opened run answer t q k a = of-kinds Exit s opened run answer t q a
+alone-steps (Load width dst src offset) s opened run answer t q k a = of-kinds (Load width dst src offset) s opened run answer t q a
+alone-steps (LoadSigned width dst src offset) s opened run answer t q k a = of-kinds (LoadSigned width dst src offset) s opened run answer t q a
+alone-steps (Store width dst offset src) s opened run answer t q k a = of-kinds (Store width dst offset src) s opened run answer t q a
 
 abbrev pub call-pair : CallKind → ℤ → CallKind × ℤ
 call-pair kind imm = (kind, imm)

@@ -4,7 +4,7 @@ use Rattle.std.specs.Prelude.{◌-◌}
 use Rattle.std.proofs.lemmas.List.{append_assoc, append-nil}
 use Rattle.bpf_model.specs.declared.value.Cell.{Cell}
 use Rattle.bpf_model.specs.Frame.{byte_of}
-use Rattle.bpf_model.specs.MachineStep.{bytes_at}
+use Rattle.bpf_model.specs.Frame.{bytes_at}
 use Rattle.bpf_model.specs.Value.{◌>>=◌}
 
 abbrev pub with_front : List ℕ → Option (List ℕ) → Option (List ℕ)

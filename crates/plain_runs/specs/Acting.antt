@@ -18,8 +18,8 @@ use Rattle.bpf_model.specs.Value.{◌>>=◌}
 use Rattle.bpf_model.specs.Access.{byte_count, unsigned_width}
 use Rattle.bpf_model.specs.Arithmetic.{loaded_signed}
 use Rattle.bpf_model.specs.Step.{State, Environment, Outcome, Moves, Exits, forward, sets}
-use Rattle.bpf_model.specs.MachineStep.{element_load, KernelStep, Acts, InsnStep}
-use Rattle.bpf_model.specs.MachineStep.{ActStep}
+use Rattle.model_laws.specs.ByKind.{StepsByKind, element_load, KernelStep, Acts, ActStep}
+use Rattle.bpf_model.specs.MachineStep.{InsnStep}
 use Rattle.bpf_model.specs.MachineStep.{RunStep}
 use Rattle.plain_interpreter.specs.declared.plain_run.PlainRun.{PlainRun}
 use Rattle.plain_interpreter.specs.declared.plain_run.Progress.{Progress}
@@ -84,6 +84,13 @@ abbrev pub KernelsAs : Option KernelFunction → machine.Run → Result Answer M
 KernelsAs function old answer new =
     TellsResult (λ a. KernelStep function old new × (a ≡ Moved)) ((q : machine.Run) →
     KernelStep function old q → ⊥) answer
+
+-- an instruction was a step of its kind, or there is none
+abbrev pub KindStepsAs : Insn → maps.Store → List Section → machine.Run → Result Answer ModelFault →
+    maps.Store → machine.Run → Type 0
+KindStepsAs i s opened run answer new_store new_run =
+    TellsResult (λ a. StepsByKind i s opened run a new_store new_run)
+    ((a : Answer) (t : maps.Store) (q : machine.Run) → StepsByKind i s opened run a t q → ⊥) answer
 
 -- an instruction was a step of the run, or there is none
 abbrev pub InsnStepsAs : Insn → maps.Store → List Section → machine.Run → Result Answer ModelFault →

@@ -2,7 +2,7 @@
 use Rattle.std.specs.Prelude.{◌≡◌, Some}
 use Rattle.bpf_model.specs.Machine.{Run}
 use Rattle.bpf_model.specs.MapState.{Store, shape_of}
-use Rattle.bpf_model.specs.MachineStep.{map_argument, key_argument}
+use Rattle.model_laws.specs.ByKind.{map_argument, key_argument}
 use Rattle.plain_runs.specs.declared.call.MapKey.{MapKey}
 
 pub record IsMapKey (s : Store) (run : Run) (at : MapKey) : Type 0 where

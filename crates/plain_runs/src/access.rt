@@ -4,7 +4,7 @@ ghost use Rattle.bpf_model.specs.declared.limits.TheConstants.{CTX_BYTES};
 ghost use Rattle.bpf_model.specs.declared.value.Value.TheVariants.{Pointer};
 ghost use Rattle.bpf_model.specs.declared.value.Reference.TheVariants.{Elem};
 ghost use Rattle.bpf_model.specs.Access.{byte_count};
-ghost use Rattle.bpf_model.specs.MachineStep.{element_store};
+ghost use Rattle.model_laws.specs.ByKind.{element_store};
 ghost use Rattle.plain_interpreter.specs.declared.plain_run.TheConstants.{MAX_PLACE};
 ghost use Rattle.plain_interpreter.specs.Plain.{plain_state_of, Comes};
 ghost use Rattle.bpf_model.specs.Step.{environment_of};

@@ -11,14 +11,16 @@ ghost use Rattle.bpf_model.specs.Call.{helper_of, kernel_function_of};
 ghost use Rattle.bpf_model.specs.Frame.{byte_of};
 ghost use Rattle.bpf_model.specs.Machine.{Loaded as ModelLoaded, moves};
 ghost use Rattle.bpf_model.specs.MapState.{Store as ModelStore};
-ghost use Rattle.bpf_model.specs.MachineStep.{LookupStep, UpdateStep, DeleteStep, HelperStep, map_argument as map_argument_of, key_argument, frame_bytes as frame_bytes_of, bytes_at as bytes_of, returns as returns_of};
+ghost use Rattle.model_laws.specs.ByKind.{LookupStep, UpdateStep, DeleteStep, HelperStep, map_argument as map_argument_of, key_argument};
+ghost use Rattle.bpf_model.specs.Frame.{frame_bytes as frame_bytes_of, bytes_at as bytes_of};
+ghost use Rattle.bpf_model.specs.Step.{returns as returns_of};
 ghost use Rattle.bpf_model.specs.Schedule.{TakesOldest};
 ghost use Rattle.plain_interpreter.specs.declared.plain_run.TheConstants.{MAX_PLACE};
 ghost use Rattle.plain_interpreter.specs.Plain.{plain_state_of};
 ghost use Rattle.plain_store.specs.State.{store_of, sections_of};
 ghost use Rattle.plain_store.specs.Telling.{TellsResult};
 ghost use Rattle.plain_runs.specs.State.{loaded_of, run_with};
-ghost use Rattle.plain_runs.specs.Acting.{KernelsAs, InsnStepsAs};
+ghost use Rattle.plain_runs.specs.Acting.{KernelsAs, KindStepsAs};
 ghost use Rattle.plain_runs.specs.MapKeys.{IsMapKey};
 
 use crate::run::{Loaded, Run};
@@ -293,7 +295,7 @@ pub(crate) fn call_helper(
     imm: i32,
 ) -> Result<Answer, ModelFault>
     requires { (plain_state_of run.old.state).place < MAX_PLACE }
-    ensures steps { InsnStepsAs (insns.Call kinds.Helper imm) (store_of store.old)
+    ensures steps { KindStepsAs (insns.Call kinds.Helper imm) (store_of store.old)
         (sections_of opened.now) (run_with (loaded_of program.now) run.old) result
         (store_of store.new) (run_with (loaded_of program.now) run.new) }
     ensures program { run.new.program ≡ run.old.program }

@@ -4,7 +4,8 @@ use Rattle.std.specs.Prelude.{slice_get, slice_set, ℤ, if◌then◌else◌}
 use Rattle.bpf_model.specs.Value.{◌>>=◌}
 use Rattle.bpf_model.specs.Access.{region_offset, number_at}
 use Rattle.bpf_model.specs.Element.{Element, is_reclaimed, unless_reclaimed, accessible, changed, with_value}
-use Rattle.bpf_model.specs.MachineStep.{loaded_from, stored_in, with_bytes}
+use Rattle.bpf_model.specs.Element.{loaded_from, stored_in}
+use Rattle.bpf_model.specs.Access.{with_bytes}
 use Rattle.plain_store.specs.Storing.{saved, SavesTo, StoresTo}
 use Rattle.plain_store.proofs.Elements.{changed-at}
 

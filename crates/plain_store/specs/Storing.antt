@@ -3,7 +3,7 @@ use Rattle.std.specs.Prelude.{◌≡◌, ℕ, ℤ, Bool, true, false, length, Op
 use Rattle.bpf_model.specs.Value.{◌>>=◌}
 use Rattle.bpf_model.specs.Access.{region_offset}
 use Rattle.bpf_model.specs.Element.{Element, unless_reclaimed, with_value}
-use Rattle.bpf_model.specs.MachineStep.{with_bytes}
+use Rattle.bpf_model.specs.Access.{with_bytes}
 
 -- what there is after a store, and whether one could be made
 abbrev pub StoresTo : {A : Type 0} → Option A → Bool → A → Type 0

@@ -4,7 +4,7 @@ ghost use Rattle.bpf_model.specs.declared.limits.TheConstants.{FRAME_BYTES};
 ghost use Rattle.bpf_model.specs.Element.{is_linked, is_unlinked, is_reclaimed};
 ghost use Rattle.bpf_model.specs.Section.{Has, AllEnded};
 ghost use Rattle.bpf_model.specs.Access.{byte_count};
-ghost use Rattle.bpf_model.specs.MachineStep.{with_bytes};
+ghost use Rattle.bpf_model.specs.Access.{with_bytes};
 ghost use Rattle.plain_store.specs.Storing.{SavesTo};
 ghost use Rattle.plain_store.specs.Births.{MayReclaim};
 ghost use Rattle.plain_store.specs.Retiring.{linked_map as linked_map_of};

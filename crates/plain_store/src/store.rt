@@ -5,7 +5,7 @@ ghost use Rattle.bpf_model.specs.Element.{linked_count as linked_count_of, unlin
 ghost use Rattle.bpf_model.specs.MapState.{AreShapes, IsShape, shape_of, new_map, new_elements, all_new_elements};
 ghost use Rattle.bpf_model.specs.Helper.{LooksUp, Updates, Deletes, Removes};
 ghost use Rattle.bpf_model.specs.Access.{byte_count};
-ghost use Rattle.bpf_model.specs.MachineStep.{element_load, element_store};
+ghost use Rattle.model_laws.specs.ByKind.{element_load, element_store};
 ghost use Rattle.bpf_model.specs.declared.value.Value.TheVariants.{Number, Pointer};
 ghost use Rattle.bpf_model.specs.declared.value.Reference.TheVariants.{Elem};
 ghost use Rattle.bpf_model.specs.Schedule.{TakesOldest};

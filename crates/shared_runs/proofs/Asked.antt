@@ -23,7 +23,8 @@ use Rattle.bpf_model.specs.Access.{byte_count, number_at, region_offset, unsigne
 use Rattle.bpf_model.specs.Call.{helper_of, kernel_function_of}
 use Rattle.bpf_model.specs.Element.{Element, accessible}
 use Rattle.bpf_model.specs.Machine.{Loaded, Run, locked, moves as moves_run, section_of, unlocked}
-use Rattle.bpf_model.specs.MachineStep.{bytes_at, frame_bytes, loaded_from, stored_in}
+use Rattle.bpf_model.specs.Frame.{bytes_at, frame_bytes}
+use Rattle.bpf_model.specs.Element.{loaded_from, stored_in}
 use Rattle.bpf_model.specs.Operand.{operand_value}
 use Rattle.bpf_model.specs.Places.{start-insn_at, starts_apart}
 use Rattle.bpf_model.specs.Request.{Request as Asked, LoadElement, StoreElement, CallHelper, Enter, Leave, MapArgument, BytesArgument, Argument, asks as asks_of, resumed, section_request as section_asked, signature_of, arguments_of}

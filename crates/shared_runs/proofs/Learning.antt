@@ -17,9 +17,12 @@ use Rattle.bpf_model.specs.Consistent.{IsSingle}
 use Rattle.bpf_model.specs.Element.{Element, Linked, Unlinked, IsLinkedAt, IsAbsent, accessible, changed, is_reclaimed, set_to, with_value}
 use Rattle.bpf_model.specs.Event.{AreBytes}
 use Rattle.bpf_model.specs.Machine.{Run, environment, locked, moves, section_of, unlocked}
-use Rattle.bpf_model.specs.MachineStep.{InsnStep, loaded_from, stored_in, with_bytes}
+use Rattle.bpf_model.specs.MachineStep.{InsnStep}
+use Rattle.bpf_model.specs.Element.{loaded_from, stored_in}
+use Rattle.bpf_model.specs.Access.{with_bytes}
 use Rattle.bpf_model.specs.MapState.{MapState, Store, new_map}
-use Rattle.bpf_model.specs.Request.{Request, LoadElement, StoreElement, CallHelper, Enter, Leave, MapArgument, BytesArgument, StepsAlone, ServesRequest, Resumes, asks, bound_shape, resumed}
+use Rattle.bpf_model.specs.Request.{Request, LoadElement, StoreElement, CallHelper, Enter, Leave, MapArgument, BytesArgument, ServesRequest, asks, bound_shape, resumed}
+use Rattle.bpf_model.specs.MachineStep.{StepsAlone, Resumes}
 use Rattle.bpf_model.specs.Section.{Section}
 use Rattle.bpf_model.specs.Step.{State, Moves, after, insn_at}
 use Rattle.bpf_model.specs.Value.{◌>>=◌}
@@ -27,7 +30,6 @@ use Rattle.bpf_model.proofs.Bytes.{length-with_bytes}
 use Rattle.bpf_model.proofs.Lists.{get-below, get-map, get-set_cases}
 use Rattle.std.proofs.lemmas.List.{length-map, length-replicate}
 use Rattle.model_laws.proofs.Computations.{first-step}
-use Rattle.model_laws.proofs.Requests.{steps_by_request}
 use Rattle.typed_runs.specs.Describes.{scene_of, IsArrayMap, IsGuarded}
 use Rattle.typed_runs.specs.Verified.{Plan, IsClosed, IsPlanned, IsPlannedAfter, StaysKept}
 use Rattle.typed_runs.specs.Effects.{is_array_in}
@@ -163,7 +165,7 @@ module _ (code : List Insn) (shapes : List MapShape) (ctx_len : ℕ) (hash : Are
       let s = over base in
       let alone : StepsAlone i s run Moved s (moves run next) = (Moves next, e, refl, (refl, refl)) in
       stepped base (content learnt) (single learnt) (same-keeps (listed base) run) i here (listed base) (moves run next)
-      ((steps_by_request i s (sec ∷ []) run Moved s (moves run next)).1 (inl alone)) going learnt (same-keeps (listed base) (moves run next))
+      (inl alone) going learnt (same-keeps (listed base) (moves run next))
 
   abbrev shown : Store
   shown = store_of shapes []
@@ -177,7 +179,7 @@ module _ (code : List Insn) (shapes : List MapShape) (ctx_len : ℕ) (hash : Are
         → ServesRequest run.program.maps request (over f) (sec ∷ []) reply (store_of shapes es) → Resumes request i reply run new → new.exit ≡ None → (later : ℕ → Bool) → Keeps (scene_of (store_of shapes es) new) (scene_of (store_of shapes (learnt_elements shapes (section_of new) later)) new) → Planned later new
     replied f c one keeps request asked reply es new serves resumes going later onward =
         stepped f c one keeps i here es new
-        ((steps_by_request i (over f) (sec ∷ []) run Moved (store_of shapes es) new).1 (inr (record { request = request; reply = reply; asked = asked; served = serves; answer_is = refl; resumes = resumes }))) going later onward
+        (inr (record { request = request; reply = reply; asked = asked; served = serves; answer_is = refl; resumes = resumes })) going later onward
 
     -- other contents at one number
     special-content : (n : ℕ) (e : Element) → e.map ≡ map_of n → length e.key ≡ key_length (slice_get shapes (map_of n)) → length e.value ≡ value_length (slice_get shapes (map_of n)) → AreBytes e.value → IsContent shapes (changed_at n e base)

@@ -12,7 +12,8 @@ use Rattle.bpf_model.specs.declared.value.Value.{Value}
 use Rattle.bpf_model.specs.Access.{region_offset}
 use Rattle.bpf_model.specs.Machine.{Loaded, Run, environment, exits as exits_run, fresh_run, moves as moves_run, section_of}
 use Rattle.bpf_model.specs.MapState as map_state
-use Rattle.bpf_model.specs.Request.{Request as Asked, Resumes, asks as asks_of, bound_shape}
+use Rattle.bpf_model.specs.Request.{Request as Asked, asks as asks_of, bound_shape}
+use Rattle.bpf_model.specs.MachineStep.{Resumes}
 use Rattle.bpf_model.specs.Section.{Section}
 use Rattle.bpf_model.specs.Spelling.{FitsInsn}
 use Rattle.bpf_model.specs.Step.{Exits, Moves, Outcome, after as after_insn, insn_at}

@@ -10,9 +10,11 @@ use Rattle.bpf_model.specs.declared.limits.MapShape.{MapShape}
 use Rattle.bpf_model.specs.declared.value.Value.{Value}
 use Rattle.bpf_model.specs.declared.value.Value.TheVariants.{Nothing, Number}
 use Rattle.bpf_model.specs.Machine.{Loaded, Run, environment, fresh_run}
-use Rattle.bpf_model.specs.MachineStep.{OutcomeStep, found_value}
+use Rattle.bpf_model.specs.MachineStep.{OutcomeStep}
+use Rattle.bpf_model.specs.Request.{found_value}
 use Rattle.bpf_model.specs.Request.{Request, LoadElement, StoreElement, CallHelper, Enter, Leave}
-use Rattle.bpf_model.specs.Request.{MapArgument, BytesArgument, Resumes, asks}
+use Rattle.bpf_model.specs.Request.{MapArgument, BytesArgument, asks}
+use Rattle.bpf_model.specs.MachineStep.{Resumes}
 use Rattle.bpf_model.specs.Step.{Outcome, after, insn_at}
 use Rattle.standing_laws.specs.Around.{element_number, region_of}
 use Rattle.table_rule.specs.declared.view.Move.{Move}

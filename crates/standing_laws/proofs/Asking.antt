@@ -10,7 +10,7 @@ use Rattle.bpf_model.specs.declared.value.Value.{Value}
 use Rattle.bpf_model.specs.declared.value.Value.TheVariants.{Nothing, Number, Pointer}
 use Rattle.bpf_model.specs.declared.value.Reference.TheVariants.{Ctx, Frame, MapRef, Elem}
 use Rattle.bpf_model.specs.Frame.{byte_of}
-use Rattle.bpf_model.specs.MachineStep.{bytes_at, bytes_from, frame_bytes}
+use Rattle.bpf_model.specs.Frame.{bytes_at, bytes_from, frame_bytes}
 use Rattle.bpf_model.specs.Request.{Argument, MapArgument, BytesArgument, KeyOfMap, MapOfProgram, argument_of, arguments_of, called_shape, named_map, signature_of}
 use Rattle.bpf_model.specs.Step.{State}
 use Rattle.bpf_model.specs.Value.{◌>>=◌, reference}

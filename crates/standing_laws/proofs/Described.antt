@@ -9,10 +9,9 @@ use Rattle.bpf_model.specs.Event.{AreBytes}
 use Rattle.bpf_model.specs.Machine.{Loaded, Run, environment, fresh_run, moves, section_of}
 use Rattle.bpf_model.specs.MachineStep.{InsnStep}
 use Rattle.bpf_model.specs.MapState.{Store, new_map}
-use Rattle.bpf_model.specs.Request.{StepsAlone}
+use Rattle.bpf_model.specs.MachineStep.{StepsAlone}
 use Rattle.bpf_model.specs.Section.{Section}
 use Rattle.bpf_model.specs.Step.{State, Moves, after, insn_at}
-use Rattle.model_laws.proofs.Requests.{steps_by_request}
 use Rattle.typed_runs.specs.Describes.{scene_of}
 use Rattle.typed_runs.specs.Verified.{Plan, AreMapsBound, Surrounds, IsPlanned, IsPlannedAfter, IsClosed}
 use Rattle.typed_runs.proofs.Kept.{Keeps, describes-kept}
@@ -106,5 +105,5 @@ module _ (code : List Insn) (shapes : List MapShape) (ctx_len : ℕ) (plan : Pla
         let s = with_content plain in
         let alone : StepsAlone i s run Moved s (moves run next) = (Moves next, e, refl, (refl, refl)) in
         stepped plain (plain-content around section) plain-single plain-guards i here (elements_by (births around) plain) (moves run next)
-        ((steps_by_request i s (section ∷ []) run Moved s (moves run next)).1 (inl alone))
+        (inl alone)
         (record { held = λ map n h. h; depth = refl })

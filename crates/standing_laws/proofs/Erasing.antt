@@ -14,7 +14,7 @@ use Rattle.bpf_model.specs.declared.value.Reference.TheVariants.{Ctx, Frame, Map
 use Rattle.bpf_model.specs.Element.{Element, accessible}
 use Rattle.bpf_model.specs.Holds.{HoldsValue, HoldsCell}
 use Rattle.bpf_model.specs.Machine.{Run, section_of}
-use Rattle.bpf_model.specs.MachineStep.{found_value}
+use Rattle.bpf_model.specs.Request.{found_value}
 use Rattle.bpf_model.specs.MapState.{MapState, new_map}
 use Rattle.bpf_model.specs.Near.{IsNear, IsNearCell, IsNearOffset}
 use Rattle.bpf_model.specs.Step.{State}

@@ -15,16 +15,19 @@ use Rattle.bpf_model.specs.Consistent.{IsSingle}
 use Rattle.bpf_model.specs.Element.{Element, Linked, Unlinked, IsLinkedAt, IsAbsent, accessible, changed, is_reclaimed, set_to, with_value}
 use Rattle.bpf_model.specs.Event.{AreBytes}
 use Rattle.bpf_model.specs.Machine.{Run, environment, locked, moves, section_of, unlocked}
-use Rattle.bpf_model.specs.MachineStep.{InsnStep, loaded_from, stored_in, with_bytes}
+use Rattle.bpf_model.specs.MachineStep.{InsnStep}
+use Rattle.bpf_model.specs.Element.{loaded_from, stored_in}
+use Rattle.bpf_model.specs.Access.{with_bytes}
 use Rattle.bpf_model.specs.MapState.{Store, new_map}
-use Rattle.bpf_model.specs.Request.{Request, LoadElement, StoreElement, CallHelper, Enter, Leave, MapArgument, BytesArgument, StepsAlone, StepsServed, ServesRequest, Resumes, asks, bound_shape, resumed}
+use Rattle.bpf_model.specs.Request.{Request, LoadElement, StoreElement, CallHelper, Enter, Leave, MapArgument, BytesArgument, ServesRequest, asks, bound_shape, resumed}
+use Rattle.bpf_model.specs.MachineStep.{StepsAlone, StepsServed, Resumes}
 use Rattle.bpf_model.specs.Section.{Section}
 use Rattle.bpf_model.specs.Step.{insn_at}
 use Rattle.bpf_model.specs.Value.{◌>>=◌}
 use Rattle.bpf_model.proofs.Bytes.{length-with_bytes}
 use Rattle.bpf_model.proofs.Lists.{get-set_cases}
 use Rattle.model_laws.proofs.Computations.{first-step}
-use Rattle.model_laws.proofs.Requests.{asks_or_acts, steps_by_request}
+use Rattle.model_laws.proofs.Requests.{asks_or_acts}
 use Rattle.typed_runs.specs.Describes.{scene_of, IsGuarded}
 use Rattle.typed_runs.specs.Verified.{Plan, IsClosed, StaysKept}
 use Rattle.typed_runs.proofs.Elements.{offset_some, with-bytes}
@@ -87,14 +90,14 @@ module _ (code : List Insn) (shapes : List MapShape) (ctx_len : ℕ) (plan : Pla
     pub served : Served
     served =
         let g = goes i here in
-        served-by g.answer g.store g.new ((steps_by_request i (over base) (sec ∷ []) run g.answer g.store g.new).0 g.step)
+        served-by g.answer g.store g.new g.step
 
     -- a reply that some contents give
     replied : (f : ℕ → Element) → IsContent around f → IsSingle (elements_by (births around) f) → Guards sec base f → (reply : Value) (es : List Element) (new : Run) → ServesRequest run.program.maps request (over f) (sec ∷ []) reply (store_of around es) → Resumes request i reply run new
         → Keeps (scene_of (store_of around es) new) (scene_of (store_of around (elements_around around (section_of new))) new) → Goal new
     replied f c single g reply es new serves resumes keeps =
         stepped code shapes ctx_len plan closed around run x f c single g i here es new
-        ((steps_by_request i (over f) (sec ∷ []) run Moved (store_of around es) new).1 (inr (record { request = request; reply = reply; asked = asked; served = serves; answer_is = refl; resumes = resumes }))) keeps
+        (inr (record { request = request; reply = reply; asked = asked; served = serves; answer_is = refl; resumes = resumes })) keeps
 
   -- other contents at one number
   special-content : (n : ℕ) (e : Element) → e.map ≡ map_of n → length e.key ≡ key_length (slice_get around (map_of n)) → length e.value ≡ value_length (slice_get around (map_of n)) → AreBytes e.value → is_reclaimed e.life ≡ false → IsContent around (changed_at n e base)

@@ -18,7 +18,7 @@ use Rattle.bpf_model.specs.declared.opcode.Size.TheVariants.{Word64}
 use Rattle.bpf_model.specs.declared.value.Value.{Value}
 use Rattle.bpf_model.specs.declared.value.Value.TheVariants.{Pointer}
 use Rattle.bpf_model.specs.declared.value.Reference.TheVariants.{Elem}
-use Rattle.bpf_model.specs.MachineStep.{found_value}
+use Rattle.bpf_model.specs.Request.{found_value}
 use Rattle.bpf_model.specs.Operand.{operand_value}
 use Rattle.bpf_model.specs.Plain.{Names}
 use Rattle.bpf_model.specs.Step.{State}

@@ -25,7 +25,9 @@ use Rattle.scalar_domain.specs.declared.scalar.Scalar.{Scalar}
 use Rattle.bpf_model.specs.MapState.{Store}
 use Rattle.bpf_model.specs.Helper.{LooksUp}
 use Rattle.bpf_model.specs.Machine.{Run, section_of, moves, locked, unlocked}
-use Rattle.bpf_model.specs.MachineStep.{KernelStep, HelperStep, LookupStep, found_value, returns, map_argument}
+use Rattle.model_laws.specs.ByKind.{KernelStep, HelperStep, LookupStep, map_argument}
+use Rattle.bpf_model.specs.Request.{found_value}
+use Rattle.bpf_model.specs.Step.{returns}
 use Rattle.typed_runs.specs.Kinds.{Kind, Blank, Mixed, Ended, Num, CtxAt, FrameAt, MapAt, ValueAt, MaybeNull, CellKind, BlankCell, MixedCell, EndedCell, ByteCell, PartCell, AbsState}
 use Rattle.typed_runs.specs.Describes.{Scene, scene_of, IsGuarded, IsGuardedInside, IsArrayMap, IsHeld, Naming, IsNullOrHeld, IsOf, Stored, IsOfCell, Describes}
 use Rattle.typed_runs.specs.Effects.{after_call, after_lock, after_unlock, is_array_in, ended_kind, ended_cell, left_kind, left_cell, IsFresh, HasMap, HasBytes}
@@ -35,6 +37,7 @@ use Rattle.typed_runs.proofs.Kept.{HoldsOn, of-kept, cell-kept}
 use Rattle.typed_runs.proofs.Sets.{returned-of, near-returned, named-described}
 use Rattle.typed_runs.proofs.Finding.{looks-up}
 use Rattle.typed_runs.proofs.Arguments.{bound, map-listed, map-is, key-is}
+use Rattle.model_laws.proofs.Requests.{by_kind, of_kind}
 
 -- control falls through
 pub falls-to : (i : Insn) (new : AbsState) (taken : Option AbsState) (s : Store) (run : Run) (next : State) (place : ℕ) (new_run : Run) → falls i ≡ true → next.place ≡ place + slot_count i → Describes new (scene_of s run) next →
@@ -76,8 +79,9 @@ pub lock_transfers : (imm : ℤ) (shapes : List MapShape) (ctx_len : ℕ) (a : A
 lock_transfers imm shapes ctx_len a f few = record {
   goes = λ s opened run w target d.
       let room : run.depth < MAX_DEPTH = subst (λ n. n < MAX_DEPTH) (sym d.depth) few in
-      (Moved, s, moves (locked run) (returns Nothing run.state), (subst (λ g. KernelStep g run (moves (locked run) (returns Nothing run.state))) (sym f) (room, refl), refl, refl));
-  leads = λ s opened run answer new_store new_run w target d h.
+      (Moved, s, moves (locked run) (returns Nothing run.state), of_kind (Call kinds.Kernel imm) s opened run Moved s (moves (locked run) (returns Nothing run.state)) (subst (λ g. KernelStep g run (moves (locked run) (returns Nothing run.state))) (sym f) (room, refl), refl, refl));
+  leads = λ s opened run answer new_store new_run w target d step.
+      let h = by_kind (Call kinds.Kernel imm) s opened run answer new_store new_run step in
       let k = kernel-locks imm run new_run f h.0 in (
         same-bytes s new_store h.2 w.bytes,
         subst (λ (x : Store). Leads (Call kinds.Kernel imm) (after_lock a) None run.state.place x new_run) (sym h.2)
@@ -175,8 +179,9 @@ pub unlock_transfers : (imm : ℤ) (shapes : List MapShape) (ctx_len : ℕ) (a :
 unlock_transfers imm shapes ctx_len a f into = record {
   goes = λ s opened run w target d.
       let deep : 0 < run.depth = subst (λ n. 0 < n) (sym d.depth) into in
-      (Moved, s, moves (unlocked run) (returns Nothing run.state), (subst (λ g. KernelStep g run (moves (unlocked run) (returns Nothing run.state))) (sym f) (deep, refl), refl, refl));
-  leads = λ s opened run answer new_store new_run w target d h.
+      (Moved, s, moves (unlocked run) (returns Nothing run.state), of_kind (Call kinds.Kernel imm) s opened run Moved s (moves (unlocked run) (returns Nothing run.state)) (subst (λ g. KernelStep g run (moves (unlocked run) (returns Nothing run.state))) (sym f) (deep, refl), refl, refl));
+  leads = λ s opened run answer new_store new_run w target d step.
+      let h = by_kind (Call kinds.Kernel imm) s opened run answer new_store new_run step in
       let k : KernelStep (Some ReadUnlock) run new_run = subst (λ g. KernelStep g run new_run) f h.0 in (
         same-bytes s new_store h.2 w.bytes,
         subst (λ (x : Store). Leads (Call kinds.Kernel imm) (after_unlock shapes a) None run.state.place x new_run) (sym h.2)
@@ -218,8 +223,9 @@ lookup_transfers imm shapes ctx_len a map id shape f may m key fresh = record {
       let k = key-is shapes s run a map shape d m b key in
       let l = looks-up s b.number k.0 in
       let step : LookupStep s run (found_value l.0) = record { map = b.number; key = k.0; found = l.0; map_is = map-is shapes s run a map shape d m b; key_is = k.1; looked_up = l.1; ret_is = refl } in
-      (Moved, s, moves run (returns (found_value l.0) run.state), (found_value l.0, subst (λ g. HelperStep g s opened run (found_value l.0) s) (sym f) (step, refl), refl, refl));
-  leads = λ s opened run answer new_store new_run w target d h.
+      (Moved, s, moves run (returns (found_value l.0) run.state), of_kind (Call kinds.Helper imm) s opened run Moved s (moves run (returns (found_value l.0) run.state)) (found_value l.0, subst (λ g. HelperStep g s opened run (found_value l.0) s) (sym f) (step, refl), refl, refl));
+  leads = λ s opened run answer new_store new_run w target d step.
+      let h = by_kind (Call kinds.Helper imm) s opened run answer new_store new_run step in
       let k : HelperStep (Some helpers.Lookup) s opened run h.0 new_store = subst (λ g. HelperStep g s opened run h.0 new_store) f h.1 in
       let b = bound shapes ctx_len s opened run map shape w m.shape_is in (
         same-bytes s new_store k.1 w.bytes,

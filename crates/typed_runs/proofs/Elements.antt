@@ -24,7 +24,9 @@ use Rattle.bpf_model.specs.Section.{Section}
 use Rattle.bpf_model.specs.Element.{Element, with_value, changed, unless_reclaimed, accessible}
 use Rattle.bpf_model.specs.MapState.{Store as Maps, with_elements}
 use Rattle.bpf_model.specs.Machine.{Run, environment}
-use Rattle.bpf_model.specs.MachineStep.{element_load, element_store, loaded_from, stored_in, with_bytes}
+use Rattle.model_laws.specs.ByKind.{element_load, element_store}
+use Rattle.bpf_model.specs.Element.{loaded_from, stored_in}
+use Rattle.bpf_model.specs.Access.{with_bytes}
 use Rattle.bpf_model.specs.Event.{AreBytes, AllBytes}
 use Rattle.model_laws.proofs.Stores.{touches-stored}
 use Rattle.scalar_domain.specs.Scalar.{Holds}
@@ -38,7 +40,7 @@ use Rattle.typed_runs.proofs.Kept.{Keeps, keeps-touches, describes-kept}
 use Rattle.typed_runs.proofs.Valued.{bytes-changed}
 use Rattle.typed_runs.proofs.Sets.{set-described, placed-described}
 use Rattle.typed_runs.proofs.Arguments.{reg-is, bound}
-use Rattle.typed_runs.proofs.Local.{Acting, acts-transfers}
+use Rattle.typed_runs.proofs.Local.{Acting, no-call, acts-transfers}
 use Rattle.bpf_model.proofs.Lists.{get-below, get-set_cases}
 
 pub accessible-held : (s : Maps) (run : Run) (map n : ℕ) → AllStayKept s → (h : IsHeld (scene_of s run) map n) → accessible s.elements n ≡ Some h.element
@@ -128,7 +130,7 @@ module _ (width : Width) (dst src : ℕ) (offset : ℤ) (shapes : List MapShape)
 
   pub load_transfers : a.regs src ≡ ValueAt map scalar → slice_get shapes map ≡ Some shape → IsAlwaysInside scalar (byte_count width) offset shape.value_len → (10 ≡ dst → ⊥) → ((n : ℕ) → n < 256 ^ byte_count width → Holds t n) →
       Transfers (Load width dst src offset) shapes ctx_len a (with_kind dst (Num t) a) None
-  load_transfers e at placed ne all = acts-transfers (Load width dst src offset) shapes ctx_len a (with_kind dst (Num t) a) None (λ s opened run answer ns nr. (λ h. h, λ h. h)) (λ s opened run w target. load-acts e at placed ne all s opened run w)
+  load_transfers e at placed ne all = acts-transfers (Load width dst src offset) shapes ctx_len a (with_kind dst (Num t) a) None (no-call (Load width dst src offset) refl) (λ s opened run w target. load-acts e at placed ne all s opened run w)
 
 -- a store
 set-bytes : (bytes : List ℕ) (at n : ℕ) → AreBytes bytes → AreBytes (slice_set bytes at (n % 256))
@@ -189,7 +191,7 @@ module _ (width : Width) (dst : ℕ) (offset : ℤ) (src : Operand) (shapes : Li
       }
 
   pub store_transfers : a.regs dst ≡ ValueAt map scalar → IsNumberOperand a src → slice_get shapes map ≡ Some shape → IsAlwaysInside scalar (byte_count width) offset shape.value_len → Transfers (Store width dst offset src) shapes ctx_len a a None
-  store_transfers e f at placed = acts-transfers (Store width dst offset src) shapes ctx_len a a None (λ s opened run answer ns nr. (λ h. h, λ h. h)) (λ s opened run w target. store-acts e f at placed s opened run w)
+  store_transfers e f at placed = acts-transfers (Store width dst offset src) shapes ctx_len a a None (no-call (Store width dst offset src) refl) (λ s opened run w target. store-acts e f at placed s opened run w)
 
 -- a load with sign extension
 module _ (width : SignedWidth) (dst src : ℕ) (offset : ℤ) (shapes : List MapShape) (ctx_len : ℕ) (a : AbsState) (map : ℕ) (shape : MapShape) (scalar t : Scalar) where
@@ -217,4 +219,4 @@ module _ (width : SignedWidth) (dst src : ℕ) (offset : ℤ) (shapes : List Map
 
   pub load_signed_transfers : a.regs src ≡ ValueAt map scalar → slice_get shapes map ≡ Some shape → IsAlwaysInside scalar (byte_count (unsigned_width width)) offset shape.value_len → (10 ≡ dst → ⊥) →
       ((n : ℕ) → n < 256 ^ byte_count (unsigned_width width) → (loaded_signed width n < 2 ^ 64) × Holds t (loaded_signed width n)) → Transfers (LoadSigned width dst src offset) shapes ctx_len a (with_kind dst (Num t) a) None
-  load_signed_transfers e at placed ne all = acts-transfers (LoadSigned width dst src offset) shapes ctx_len a (with_kind dst (Num t) a) None (λ s opened run answer ns nr. (λ h. h, λ h. h)) (λ s opened run w target. signed-acts e at placed ne all s opened run w)
+  load_signed_transfers e at placed ne all = acts-transfers (LoadSigned width dst src offset) shapes ctx_len a (with_kind dst (Num t) a) None (no-call (LoadSigned width dst src offset) refl) (λ s opened run w target. signed-acts e at placed ne all s opened run w)

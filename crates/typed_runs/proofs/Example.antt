@@ -30,7 +30,8 @@ use Rattle.bpf_model.specs.Graph.{falls, distance}
 use Rattle.bpf_model.specs.Places.{LeadsTo}
 use Rattle.bpf_model.specs.Step.{State, Environment, Outcome, Moves, Exits, after, put, sets, store_to}
 use Rattle.bpf_model.specs.Element.{Element}
-use Rattle.bpf_model.specs.MachineStep.{AccessesElement, element_store, NeverStuck}
+use Rattle.model_laws.specs.ByKind.{AccessesElement, element_store}
+use Rattle.bpf_model.specs.MachineStep.{NeverStuck}
 use Rattle.model_laws.specs.Example.{lookup_and_load, lookup_program, example_shape}
 use Rattle.scalar_domain.specs.Scalar.{Holds}
 use Rattle.scalar_domain.specs.declared.scalar.Scalar.{Scalar}

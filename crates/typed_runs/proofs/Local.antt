@@ -25,7 +25,9 @@ use Rattle.bpf_model.specs.Section.{Section}
 use Rattle.bpf_model.specs.Element.{Element}
 use Rattle.bpf_model.specs.MapState.{Store, with_elements}
 use Rattle.bpf_model.specs.Machine.{Run, environment, moves, exits}
-use Rattle.bpf_model.specs.MachineStep.{AccessesElement, Acts, OutcomeStep, InsnStep, found_value, ActStep}
+use Rattle.model_laws.specs.ByKind.{AccessesElement, Acts, ActStep}
+use Rattle.bpf_model.specs.MachineStep.{OutcomeStep, InsnStep}
+use Rattle.bpf_model.specs.Request.{found_value}
 use Rattle.scalar_domain.specs.Scalar.{Holds}
 use Rattle.scalar_domain.specs.declared.scalar.Scalar.{Scalar}
 use Rattle.bpf_model.specs.Event.{AllBytes}
@@ -34,6 +36,7 @@ use Rattle.typed_runs.specs.Describes.{Scene, scene_of, Naming, IsNullOrHeld, Ha
 use Rattle.typed_runs.specs.Effects.{null_kind, null_cell, there_kind, there_cell, when_null, when_there}
 use Rattle.typed_runs.specs.Verified.{Surrounds, HasStep, Leads, Transfers, is_call, IsEnvironment, JumpsToSlot, LandsDescribed, TransfersAlone}
 use Rattle.typed_runs.proofs.Arguments.{reg-is}
+use Rattle.model_laws.proofs.Requests.{by_kind, of_kind}
 
 -- an instruction's steps are those of one that is no call
 abbrev pub IsNoCall : Insn → Type 0
@@ -93,9 +96,9 @@ by-itself i s run b taken out bytes e plain r = record {
     only-one {other} {fs} (inr h) = absurd (plain other fs h)
 
 -- what holds of a step alone holds in the machine
-no-call : (i : Insn) → is_call i ≡ false → IsNoCall i
+pub no-call : (i : Insn) → is_call i ≡ false → IsNoCall i
 no-call (Call kind imm) e s opened run answer new_store new_run = absurd (cc)
-no-call i e s opened run answer new_store new_run = (λ h. h, λ h. h)
+no-call i e s opened run answer new_store new_run = (λ h. of_kind i s opened run answer new_store new_run h, λ h. by_kind i s opened run answer new_store new_run h)
 
 environment-is : (shapes : List MapShape) (ctx_len : ℕ) (s : Store) (opened : List Section) (run : Run) → Surrounds shapes ctx_len s opened run → IsEnvironment ctx_len (length shapes) (environment run)
 environment-is shapes ctx_len s opened run w = record { long = w.long; bytes = w.context; bound = w.bound.count }
@@ -219,7 +222,7 @@ module _ (shapes : List MapShape) (ctx_len dst : ℕ) (offset : ℤ) (map id : �
       (inl (refl, refl, there-described id b origin a (scene_of s run) run.state (run.state.place + 1) at d is))
 
   pub equal_transfers : Transfers (jeq dst offset) shapes ctx_len a (when_there id origin a) (Some (when_null id z a))
-  equal_transfers = acts-transfers (jeq dst offset) shapes ctx_len a (when_there id origin a) (Some (when_null id z a)) (λ s opened run answer ns nr. (λ h. h, λ h. h))
+  equal_transfers = acts-transfers (jeq dst offset) shapes ctx_len a (when_there id origin a) (Some (when_null id z a)) (no-call (jeq dst offset) refl)
       (λ s opened run w t d. jeq-acts s run w.bytes t d (d.naming id) refl)
 
   jne-acts : (s : Store) (run : Run) (bytes : AllBytes s.elements) → JumpsToSlot (jne dst offset) run.state.place → (d : Describes a (scene_of s run) run.state) (o : Option ℕ) → d.naming id ≡ o → Acting (jne dst offset) s run (when_null id z a) (Some (when_there id origin a))
@@ -238,5 +241,5 @@ module _ (shapes : List MapShape) (ctx_len dst : ℕ) (offset : ℤ) (map id : �
       (inr ((offset, refl, x.1), there-described id b origin a (scene_of s run) run.state x.0 at d is))
 
   pub not_equal_transfers : Transfers (jne dst offset) shapes ctx_len a (when_null id z a) (Some (when_there id origin a))
-  not_equal_transfers = acts-transfers (jne dst offset) shapes ctx_len a (when_null id z a) (Some (when_there id origin a)) (λ s opened run answer ns nr. (λ h. h, λ h. h))
+  not_equal_transfers = acts-transfers (jne dst offset) shapes ctx_len a (when_null id z a) (Some (when_there id origin a)) (no-call (jne dst offset) refl)
       (λ s opened run w t d. jne-acts s run w.bytes t d (d.naming id) refl)

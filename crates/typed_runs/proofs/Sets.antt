@@ -6,7 +6,8 @@ use Rattle.bpf_model.specs.declared.value.Value.{Value}
 use Rattle.bpf_model.specs.declared.value.Value.TheVariants.{Nothing}
 use Rattle.bpf_model.specs.declared.value.Cell.{Cell}
 use Rattle.bpf_model.specs.Step.{State, put}
-use Rattle.bpf_model.specs.MachineStep.{found_value, returns}
+use Rattle.bpf_model.specs.Request.{found_value}
+use Rattle.bpf_model.specs.Step.{returns}
 use Rattle.scalar_domain.specs.declared.scalar.Scalar.{Scalar}
 use Rattle.typed_runs.specs.Kinds.{Kind, Blank, Mixed, Ended, Num, CtxAt, FrameAt, MapAt, ValueAt, MaybeNull, CellKind, BlankCell, MixedCell, EndedCell, ByteCell, PartCell, AbsState}
 use Rattle.bpf_model.specs.Near.{IsNear}

@@ -27,7 +27,8 @@ use Rattle.model_laws.specs.Alone.{IsOwn}
 use Rattle.model_laws.proofs.Alone.{load-own, store-own}
 use Rattle.bpf_model.specs.MapState.{Store as Maps}
 use Rattle.bpf_model.specs.Machine.{Run, environment}
-use Rattle.bpf_model.specs.MachineStep.{element_load, element_store, found_value}
+use Rattle.model_laws.specs.ByKind.{element_load, element_store}
+use Rattle.bpf_model.specs.Request.{found_value}
 use Rattle.bpf_model.specs.Event.{AllBytes}
 use Rattle.typed_runs.specs.Kinds.{Kind, Blank, Mixed, Ended, Num, CtxAt, FrameAt, MapAt, ValueAt, MaybeNull, CellKind, BlankCell, MixedCell, EndedCell, ByteCell, PartCell, AbsState}
 use Rattle.bpf_model.specs.Near.{IsNear, IsNearCell}
@@ -37,7 +38,7 @@ use Rattle.typed_runs.specs.Effects.{with_kind, with_cells, IsWritten, IsPointer
 use Rattle.typed_runs.specs.Verified.{Transfers}
 use Rattle.typed_runs.proofs.Sets.{set-described}
 use Rattle.typed_runs.proofs.Arguments.{reg-is, cell-is}
-use Rattle.typed_runs.proofs.Local.{Acting, acts-transfers, by-itself}
+use Rattle.typed_runs.proofs.Local.{Acting, no-call, acts-transfers, by-itself}
 use Rattle.typed_runs.proofs.Elements.{set-is}
 
 -- an access of eight bytes begins at a multiple of 8
@@ -159,7 +160,7 @@ module _ (dst src : ℕ) (offset o : ℤ) (at : ℕ) (shapes : List MapShape) (c
       (inl (refl, refl, spilled-described a (scene_of s run) run.state at (run.state.place + 1) kind (run.state.regs src) (aligned (o +ℤ offset) at p) d v (d.near.regs_near src)))
 
   pub spill_transfers : a.regs dst ≡ FrameAt o → region_offset FRAME_BYTES 8 (o +ℤ offset) ≡ Some at → a.regs src ≡ kind → IsWritten kind → Transfers (Store Eight dst offset (Register src)) shapes ctx_len a (with_cells at 8 (PartCell kind) a) None
-  spill_transfers e p f w = acts-transfers (Store Eight dst offset (Register src)) shapes ctx_len a (with_cells at 8 (PartCell kind) a) None (λ s opened run answer ns nr. (λ h. h, λ h. h)) (λ s opened run x t d. spill-acts e p f w s run x.bytes d)
+  spill_transfers e p f w = acts-transfers (Store Eight dst offset (Register src)) shapes ctx_len a (with_cells at 8 (PartCell kind) a) None (no-call (Store Eight dst offset (Register src)) refl) (λ s opened run x t d. spill-acts e p f w s run x.bytes d)
 
 -- eight parts are read back
 same-int : (o : ℤ) → int_eq o o ≡ true
@@ -251,4 +252,4 @@ module _ (dst src : ℕ) (offset o : ℤ) (at : ℕ) (shapes : List MapShape) (c
       (inl (refl, refl, set-described a c m dst (m.place + 1) kind v d of_kind (part-near 0 v (subst IsNearCell (part 0 (omega arith)).0 (d.near.cells_near (at + 0))))))
 
   pub fill_transfers : a.regs src ≡ FrameAt o → region_offset FRAME_BYTES 8 (o +ℤ offset) ≡ Some at → ((j : ℕ) → j < 8 → a.cells (at + j) ≡ PartCell kind) → IsPointer kind → (10 ≡ dst → ⊥) → Transfers (Load Eight dst src offset) shapes ctx_len a (with_kind dst kind a) None
-  fill_transfers e p cells w ne = acts-transfers (Load Eight dst src offset) shapes ctx_len a (with_kind dst kind a) None (λ s opened run answer ns nr. (λ h. h, λ h. h)) (λ s opened run x t d. fill-acts e p cells w ne s run x.bytes d)
+  fill_transfers e p cells w ne = acts-transfers (Load Eight dst src offset) shapes ctx_len a (with_kind dst kind a) None (no-call (Load Eight dst src offset) refl) (λ s opened run x t d. fill-acts e p cells w ne s run x.bytes d)

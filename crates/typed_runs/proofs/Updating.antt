@@ -21,7 +21,9 @@ use Rattle.bpf_model.specs.Element.{linked_count, newborn, overwritten, unlinked
 use Rattle.bpf_model.specs.MapState.{MapState, Store, with_bag, with_elements}
 use Rattle.bpf_model.specs.Helper.{Updates, Settles, Writes, Removes, RemovesFrom, hash_error, error_of_kind, update_error}
 use Rattle.bpf_model.specs.Machine.{Run, moves}
-use Rattle.bpf_model.specs.MachineStep.{InsnStep, HelperStep, UpdateStep, DeleteStep, returns, value_argument}
+use Rattle.bpf_model.specs.MachineStep.{InsnStep}
+use Rattle.model_laws.specs.ByKind.{HelperStep, UpdateStep, DeleteStep, value_argument}
+use Rattle.bpf_model.specs.Step.{returns}
 use Rattle.bpf_model.specs.Event.{AreBytes}
 use Rattle.scalar_domain.specs.Scalar.{Holds}
 use Rattle.scalar_domain.specs.declared.scalar.Scalar.{Scalar}
@@ -37,6 +39,7 @@ use Rattle.typed_runs.proofs.Finding.{looks-up}
 use Rattle.typed_runs.proofs.Arguments.{reg-is, bound, map-is, key-is, value-is}
 use Rattle.typed_runs.proofs.Calls.{falls-to}
 use Rattle.model_laws.proofs.Choices.{bag-has, last-false}
+use Rattle.model_laws.proofs.Requests.{by_kind, of_kind}
 
 ret-fits : (r : Result (Unit {0}) Errno) → ret_word r < 2 ^ 64
 ret-fits (Ok u) = omega arith
@@ -94,14 +97,15 @@ module _ (imm : ℤ) (shapes : List MapShape) (ctx_len : ℕ) (a : AbsState) (ma
       let l = looks-up s b.number k.0 in
       let x = removes-from b.state.shape.kind l.0 s opened in
       let step : DeleteStep s opened run (Number (ret_word x.0)) x.1 = record { map = b.number; key = k.0; outcome = x.0; map_is = map-is shapes s run a map shape d m b; key_is = k.1; deleted = record { state = b.state; there = b.there; found = l.0; lookup = l.1; removed = x.2 }; ret_is = refl } in
-      (Moved, x.1, moves run (returns (Number (ret_word x.0)) run.state), (Number (ret_word x.0), subst (λ g. HelperStep g s opened run (Number (ret_word x.0)) x.1) (sym f) step, refl, refl))
+      (Moved, x.1, moves run (returns (Number (ret_word x.0)) run.state), of_kind (Call kinds.Helper imm) s opened run Moved x.1 (moves run (returns (Number (ret_word x.0)) run.state)) (Number (ret_word x.0), subst (λ g. HelperStep g s opened run (Number (ret_word x.0)) x.1) (sym f) step, refl, refl))
 
   pub delete_transfers : helper_of imm ≡ Some helpers.Delete → Transfers (Call kinds.Helper imm) shapes ctx_len a (after_call (Num t) a) None
   delete_transfers f = record {
     goes = λ s opened run w target d. delete-goes f s opened run w d;
-    leads = λ s opened run answer new_store new_run w target d h.
+    leads = λ s opened run answer new_store new_run w target d step.
+        let h = by_kind (Call kinds.Helper imm) s opened run answer new_store new_run step in
         let k : DeleteStep s opened run h.0 new_store = subst (λ g. HelperStep g s opened run h.0 new_store) f h.1 in
-        (bytes-deletes s opened k.map k.key k.outcome new_store w.bytes k.deleted, call-leads imm t a s new_store opened run new_run answer h.0 k.outcome shapes ctx_len all w d h k.ret_is h.3);
+        (bytes-deletes s opened k.map k.key k.outcome new_store w.bytes k.deleted, call-leads imm t a s new_store opened run new_run answer h.0 k.outcome shapes ctx_len all w d step k.ret_is h.3);
   }
 
   module _ (value : HasBytes a 3 shape.value_len) (q : Scalar) (flags_are : a.regs 4 ≡ Num q) where
@@ -113,7 +117,7 @@ module _ (imm : ℤ) (shapes : List MapShape) (ctx_len : ℕ) (a : AbsState) (ma
         let g = reg-is a (scene_of s run) run.state 4 (Num q) d flags_are in
         let x = updates s opened b.number b.state k.0 v.0 g.0 b.there in
         let step : UpdateStep s opened run (Number (ret_word x.0)) x.1 = record { map = b.number; key = k.0; value = v.0; flags = g.0; outcome = x.0; map_is = map-is shapes s run a map shape d m b; key_is = k.1; value_is = v.1; flags_are = ap number g.1; updated = x.2; ret_is = refl } in
-        (Moved, x.1, moves run (returns (Number (ret_word x.0)) run.state), (Number (ret_word x.0), subst (λ g. HelperStep g s opened run (Number (ret_word x.0)) x.1) (sym f) step, refl, refl))
+        (Moved, x.1, moves run (returns (Number (ret_word x.0)) run.state), of_kind (Call kinds.Helper imm) s opened run Moved x.1 (moves run (returns (Number (ret_word x.0)) run.state)) (Number (ret_word x.0), subst (λ g. HelperStep g s opened run (Number (ret_word x.0)) x.1) (sym f) step, refl, refl))
 
     value-bytes : (s : Store) (opened : List Section) (run : Run) (ret : Value) (new_store : Store) → Surrounds shapes ctx_len s opened run → Describes a (scene_of s run) run.state → (k : UpdateStep s opened run ret new_store) → AreBytes k.value
     value-bytes s opened run ret new_store w d k =
@@ -125,7 +129,8 @@ module _ (imm : ℤ) (shapes : List MapShape) (ctx_len : ℕ) (a : AbsState) (ma
     pub update_transfers : helper_of imm ≡ Some helpers.Update → Transfers (Call kinds.Helper imm) shapes ctx_len a (after_call (Num t) a) None
     update_transfers f = record {
       goes = λ s opened run w target d. update-goes f s opened run w d;
-      leads = λ s opened run answer new_store new_run w target d h.
+      leads = λ s opened run answer new_store new_run w target d step.
+          let h = by_kind (Call kinds.Helper imm) s opened run answer new_store new_run step in
           let k : UpdateStep s opened run h.0 new_store = subst (λ g. HelperStep g s opened run h.0 new_store) f h.1 in
-          (bytes-updates s opened k.map k.key k.value k.flags k.outcome new_store w.bytes (value-bytes s opened run h.0 new_store w d k) k.updated, call-leads imm t a s new_store opened run new_run answer h.0 k.outcome shapes ctx_len all w d h k.ret_is h.3);
+          (bytes-updates s opened k.map k.key k.value k.flags k.outcome new_store w.bytes (value-bytes s opened run h.0 new_store w d k) k.updated, call-leads imm t a s new_store opened run new_run answer h.0 k.outcome shapes ctx_len all w d step k.ret_is h.3);
     }

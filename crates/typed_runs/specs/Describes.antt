@@ -13,7 +13,7 @@ use Rattle.bpf_model.specs.Section.{Section, Has}
 use Rattle.bpf_model.specs.Element.{Element, Life, Linked, Unlinked, Reclaimed}
 use Rattle.bpf_model.specs.MapState.{MapState, Store}
 use Rattle.bpf_model.specs.Machine.{Run, section_of}
-use Rattle.bpf_model.specs.MachineStep.{found_value}
+use Rattle.bpf_model.specs.Request.{found_value}
 use Rattle.bpf_model.specs.Near.{IsNear, IsNearCell}
 use Rattle.scalar_domain.specs.Scalar.{Holds}
 use Rattle.scalar_domain.specs.declared.scalar.Scalar.{Scalar}

@@ -15,7 +15,8 @@ use Rattle.bpf_model.specs.Section.{Section, Has}
 use Rattle.bpf_model.specs.Element.{Element, is_reclaimed}
 use Rattle.bpf_model.specs.MapState.{MapState, Store}
 use Rattle.bpf_model.specs.Machine.{Run, section_of}
-use Rattle.bpf_model.specs.MachineStep.{AccessesElement, InsnStep}
+use Rattle.model_laws.specs.ByKind.{AccessesElement}
+use Rattle.bpf_model.specs.MachineStep.{InsnStep}
 use Rattle.bpf_model.specs.Event.{AreBytes, AllBytes}
 use Rattle.typed_runs.specs.Kinds.{AbsState}
 use Rattle.typed_runs.specs.Describes.{Scene, scene_of, Describes}

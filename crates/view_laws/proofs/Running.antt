@@ -16,8 +16,10 @@ use Rattle.bpf_model.specs.Call.{kernel_function_of}
 use Rattle.bpf_model.specs.Step.{insn_at}
 use Rattle.bpf_model.specs.Element.{Element}
 use Rattle.bpf_model.specs.MapState.{Store}
-use Rattle.bpf_model.specs.Machine.{Loaded, Run, run_at, moves, locked, unlocked, with_runs, with_store}
-use Rattle.bpf_model.specs.MachineStep.{StepsRun, KernelStep, returns}
+use Rattle.bpf_model.specs.Machine.{open_sections, Loaded, Run, run_at, moves, locked, unlocked, with_runs, with_store}
+use Rattle.bpf_model.specs.MachineStep.{StepsRun}
+use Rattle.model_laws.specs.ByKind.{KernelStep}
+use Rattle.bpf_model.specs.Step.{returns}
 use Rattle.bpf_model.specs.Event.{Answers, refusal, step_refusal, if_ended, drop_refusal, if_running}
 use Rattle.bpf_model.specs.Schedule.{Schedule, is_open, open_flags, still_open, retired, TakesOldest, DoesScheduled}
 use Rattle.bpf_model.specs.Word.{WordIs, element_bases}
@@ -30,6 +32,7 @@ use Rattle.view_laws.proofs.Worlds.{retired-same, steps}
 use Rattle.std.proofs.lemmas.List.{length-set, map-set}
 use Rattle.bpf_model.proofs.Lists.{get-set_other, get-set_there}
 use Rattle.std.specs.Option.{option_flatten}
+use Rattle.model_laws.proofs.Requests.{of_kind}
 
 length-still : (a b : List Bool) → length a ≡ length b → length (still_open a b) ≡ length b
 length-still [] [] l = refl
@@ -132,7 +135,7 @@ module _ (w : WorldView) (s : Schedule) (sim : Matches w s) (r : ℕ) where
     refines = let b = there old at in subst (RunRefines x.slots s.machine.store.elements s.machine.programs old) (same_Some b.0 run (ap option_flatten (sym b.1) ∙ run_is)) b.2
 
     call-step : (later : Run) → KernelStep (kernel_function_of imm) run later → StepsRun s.machine r Moved (with_runs s.machine (slice_set s.machine.runs r (Some later)))
-    call-step later k = record { run = run; there = run_is; going = alive; new_store = s.machine.store; new_run = later; step = (Call kinds.Kernel imm, insn, (k, refl, refl)); new_is = refl }
+    call-step later k = record { run = run; there = run_is; going = alive; new_store = s.machine.store; new_run = later; step = (Call kinds.Kernel imm, insn, of_kind (Call kinds.Kernel imm) s.machine.store (open_sections s.machine.runs) run Moved s.machine.store later (k, refl, refl)); new_is = refl }
 
     pub lock_simulates : kernel_function_of imm ≡ Some ReadLock → run.depth < MAX_DEPTH → Simulates s (events.Step r) (Moved, with_run r (Some (locked_view old)) w)
     lock_simulates f room =

@@ -7,7 +7,8 @@ use Rattle.bpf_model.specs.Value.{◌>>=◌}
 use Rattle.bpf_model.specs.Access.{region_offset}
 use Rattle.bpf_model.specs.Element.{Element, is_linked, is_reclaimed, with_value, set_to, changed, unless_reclaimed, accessible}
 use Rattle.bpf_model.specs.MapState.{MapState, Store, with_elements}
-use Rattle.bpf_model.specs.MachineStep.{stored_in, with_bytes}
+use Rattle.bpf_model.specs.Element.{stored_in}
+use Rattle.bpf_model.specs.Access.{with_bytes}
 use Rattle.bpf_model.specs.Schedule.{Queues, Schedule, retired}
 use Rattle.bpf_model.specs.View.{SlotView, MapView, WorldView, uses_in, uses_at, map_state_of, key_in, value_in}
 use Rattle.bpf_model.specs.Refines.{slot_view, IsElementKept, SlotsStand, ElementsStand, RefinesSchedule, named}

@@ -8,7 +8,7 @@ use Rattle.bpf_model.specs.Element.{Element, accessible}
 use Rattle.bpf_model.specs.MapState.{Store, with_elements}
 use Rattle.bpf_model.specs.Helper.{Updates, Deletes}
 use Rattle.bpf_model.specs.Machine.{open_sections, with_store}
-use Rattle.bpf_model.specs.MachineStep.{stored_in}
+use Rattle.bpf_model.specs.Element.{stored_in}
 use Rattle.bpf_model.specs.Schedule.{Schedule, retired, TakesOldest, DoesScheduled}
 use Rattle.bpf_model.specs.View.{WorldView}
 use Rattle.bpf_model.specs.Refines.{RefinesSchedule}

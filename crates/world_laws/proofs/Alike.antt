@@ -20,12 +20,14 @@ use Rattle.bpf_model.specs.Section.{Section}
 use Rattle.bpf_model.specs.Step.{State, environment_of, Outcome, Moves, Exits, load_from, sets, after, insn_at}
 use Rattle.bpf_model.specs.MapState.{Store}
 use Rattle.bpf_model.specs.Machine.{Loaded, Run, environment, fresh_run}
-use Rattle.bpf_model.specs.MachineStep.{OutcomeStep, KernelStep, InsnStep, RunStep}
+use Rattle.bpf_model.specs.MachineStep.{OutcomeStep, RunStep}
+use Rattle.model_laws.specs.ByKind.{StepsByKind, KernelStep}
 use Rattle.bpf_model.specs.Value.{◌>>=◌, number}
 use Rattle.bpf_model.specs.Holds.{HoldsState}
 use Rattle.model_laws.specs.Alone.{IsOwn, SharesNothing}
 use Rattle.model_laws.proofs.Alone.{insn-all, helper-own, acts-own, starts_sharing_nothing, stays_sharing_nothing}
 use Rattle.typed_runs.proofs.Reaching.{same-insn}
+use Rattle.model_laws.proofs.Requests.{by_kind, of_kind}
 
 -- the run, as one of another program
 abbrev of : Loaded → Run → Run
@@ -57,7 +59,7 @@ module _ (p : Loaded) (s new_store : Store) (opened : List Section) (run new : R
   kernel-of (Some ReadUnlock) h = (h.0, ap (of p) h.1)
   kernel-of None h = absurd h
 
-  insn-of : (i : Insn) → names_map i ≡ false → HoldsState IsOwn run.state → InsnStep i s opened run answer new_store new → InsnStep i s opened (of p run) answer new_store (of p new)
+  insn-of : (i : Insn) → names_map i ≡ false → HoldsState IsOwn run.state → StepsByKind i s opened run answer new_store new → StepsByKind i s opened (of p run) answer new_store (of p new)
   insn-of (Call kinds.Kernel imm) unnamed own h = (kernel-of (kernel_function_of imm) h.0, h.1, h.2)
   insn-of (Call kinds.Helper imm) unnamed own h = absurd (helper-own (helper_of imm) s opened run h.0 new_store own h.1)
   insn-of i unnamed own h =
@@ -66,7 +68,7 @@ module _ (p : Loaded) (s new_store : Store) (opened : List Section) (run new : R
 
   run-of : SharesNothing run → run.program.code ≡ p.code → RunStep s opened run answer new_store new → RunStep s opened (of p run) answer new_store (of p new)
   run-of shares same h =
-      (h.0, ap (λ (code : List Insn). insn_at code run.state.place) (sym same) ∙ h.1, insn-of h.0 (insn-all (λ i. names_map i ≡ false) run.program.code run.state.place h.0 shares.code h.1) shares.state h.2)
+      (h.0, ap (λ (code : List Insn). insn_at code run.state.place) (sym same) ∙ h.1, of_kind h.0 s opened (of p run) answer new_store (of p new) (insn-of h.0 (insn-all (λ i. names_map i ≡ false) run.program.code run.state.place h.0 shares.code h.1) shares.state (by_kind h.0 s opened run answer new_store new h.2)))
 
 exits-of : (p : Loaded) (run : Run) (steps n : ℕ) → SharesNothing run → run.program.code ≡ p.code → ExitsFrom run steps n → ExitsFrom (of p run) steps n
 exits-of p run steps n shares same (exits_now _ new _ h) = exits_now (of p run) (of p new) n (λ store opened. run-of p store store opened run new (Exited n) shares same (h store opened))

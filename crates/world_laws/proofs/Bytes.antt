@@ -8,7 +8,8 @@ use Rattle.std.proofs.Math.Nat.{pow-suc, div-div-eq-div-mul}
 use Rattle.bpf_model.specs.declared.value.Cell.{Cell}
 use Rattle.bpf_model.specs.Access.{number_at}
 use Rattle.bpf_model.specs.Frame.{byte_of, is_within}
-use Rattle.bpf_model.specs.MachineStep.{with_bytes, bytes_at}
+use Rattle.bpf_model.specs.Access.{with_bytes}
+use Rattle.bpf_model.specs.Frame.{bytes_at}
 use Rattle.bpf_model.specs.Value.{◌>>=◌}
 use Rattle.bpf_model.specs.Word.{ByteIs}
 use Rattle.world_laws.specs.Locating.{number_from}

@@ -22,7 +22,10 @@ use Rattle.bpf_model.specs.Call.{helper_of, kernel_function_of, ret_word}
 use Rattle.bpf_model.specs.Element.{Element}
 use Rattle.bpf_model.specs.Helper.{LooksUp}
 use Rattle.bpf_model.specs.Machine.{Loaded, Run, open_sections, moves}
-use Rattle.bpf_model.specs.MachineStep.{KernelStep, HelperStep, LookupStep, UpdateStep, DeleteStep, returns, returned_value, found_value, map_argument, bound_map, key_argument, frame_bytes, bytes_at}
+use Rattle.model_laws.specs.ByKind.{KernelStep, HelperStep, LookupStep, UpdateStep, DeleteStep, map_argument, bound_map, key_argument}
+use Rattle.bpf_model.specs.Step.{returns, returned_value}
+use Rattle.bpf_model.specs.Request.{found_value}
+use Rattle.bpf_model.specs.Frame.{frame_bytes, bytes_at}
 use Rattle.bpf_model.specs.MapState as map_state
 use Rattle.bpf_model.specs.Refines.{RunRefines}
 use Rattle.bpf_model.specs.Schedule.{Schedule}
@@ -46,6 +49,7 @@ use Rattle.world_laws.proofs.Bytes.{set_cond, argument-bytes}
 use Rattle.world_laws.proofs.Ready.{bases, refines, register-word, byte-stands, moves-to, move-refines, half-refines}
 use Rattle.world_laws.proofs.Own.{Known, Does}
 use Rattle.bpf_model.proofs.Lists.{get-below}
+use Rattle.model_laws.proofs.Requests.{of_kind}
 
 pub word-returned : (bases : ℕ → ℕ) (a b : Bool) (x y : ℕ) (u v : Value) → WordIs bases u x → WordIs bases v y → WordIs bases (if a then u else if b then Nothing else v) (if a then x else y)
 word-returned bases true b x y u v p q = p
@@ -161,7 +165,7 @@ module _ (w : WorldView) (s : Schedule) (m : Matches w s) (sound : IsSound w s) 
       let stands : WordIs b ret word = subst (λ u. WordIs b u word) (sym l.ret_is) (subst (λ key. WordIs b (found_value l.found) (found_word l.map (get c.view.index key))) (sym c.key_is) (found-stands l.map c.view l.key l.found c.there l.looked_up)) in
       called-with imm Lookup l.map c.view e c.bound c.there
       (moves-to w s m sound r run v k (Call kinds.Helper imm) (moves run (returns ret run.state)) (returned_view word v) Moved at
-      (ret, subst (λ o. HelperStep o s.machine.store (open_sections s.machine.runs) run ret s.machine.store) (sym e) (l, refl), refl, refl)
+      (of_kind (Call kinds.Helper imm) s.machine.store (open_sections s.machine.runs) run Moved s.machine.store (moves run (returns ret run.state)) (ret, subst (λ o. HelperStep o s.machine.store (open_sections s.machine.runs) run ret s.machine.store) (sym e) (l, refl), refl, refl))
       (returned-refines m.refines.slots s.machine.store.elements s.machine.programs v run (refines w s m sound r run v k) ret word stands))
 
   -- a delete
@@ -186,7 +190,7 @@ module _ (w : WorldView) (s : Schedule) (m : Matches w s) (sound : IsSound w s) 
         step = (
           Call kinds.Helper imm,
           at,
-          (
+          of_kind (Call kinds.Helper imm) s.machine.store (open_sections s.machine.runs) run Moved g.store later (
             Number word,
             subst (λ o. HelperStep o s.machine.store (open_sections s.machine.runs) run (Number word) g.store) (sym e) (record {
               map = d.map;
@@ -234,7 +238,7 @@ module _ (w : WorldView) (s : Schedule) (m : Matches w s) (sound : IsSound w s) 
         step = (
           Call kinds.Helper imm,
           at,
-          (
+          of_kind (Call kinds.Helper imm) s.machine.store (open_sections s.machine.runs) run Moved g.store later (
             Number word,
             subst (λ o. HelperStep o s.machine.store (open_sections s.machine.runs) run (Number word) g.store) (sym e) (record {
               map = d.map;

@@ -20,7 +20,10 @@ use Rattle.bpf_model.specs.declared.value.Reference.TheVariants.{MapRef}
 use Rattle.bpf_model.specs.Call.{helper_of, kernel_function_of}
 use Rattle.bpf_model.specs.Event.{DoesEvent, IsReal}
 use Rattle.bpf_model.specs.Machine.{Loaded, Run, Machine, environment, fresh_run, open_sections}
-use Rattle.bpf_model.specs.MachineStep.{OutcomeStep, KernelStep, HelperStep, InsnStep, returns, found_value}
+use Rattle.bpf_model.specs.MachineStep.{OutcomeStep}
+use Rattle.model_laws.specs.ByKind.{StepsByKind, KernelStep, HelperStep}
+use Rattle.bpf_model.specs.Step.{returns}
+use Rattle.bpf_model.specs.Request.{found_value}
 use Rattle.bpf_model.specs.MapState.{Store}
 use Rattle.bpf_model.specs.Refines.{IsReachedSchedule}
 use Rattle.bpf_model.specs.Schedule.{Schedule, start_schedule}
@@ -35,6 +38,7 @@ use Rattle.typed_runs.proofs.Reaching.{kept-last}
 use Rattle.world_laws.specs.Typed.{IsListed, AreListed}
 use Rattle.world_laws.proofs.Words.{refused}
 use Rattle.model_laws.proofs.Computations.{first-step}
+use Rattle.model_laws.proofs.Requests.{by_kind}
 
 listed-closed : (count : ℕ) → Closed (IsListed count)
 listed-closed count = record { context = λ o. tt; frame = λ o. tt; moved = λ n o p h. h }
@@ -78,7 +82,7 @@ result-listed (Some Update) s opened run ret new h = subst (HoldsValue (IsListed
 result-listed (Some Delete) s opened run ret new h = subst (HoldsValue (IsListed (length run.program.maps))) (sym h.ret_is) tt
 result-listed None s opened run ret new h = absurd h
 
-insn-listed : (i : Insn) (s : Store) (opened : List Section) (run : Run) (answer : Answer) (new_store : Store) (new : Run) → IsListedRun run → InsnStep i s opened run answer new_store new → IsListedRun new
+insn-listed : (i : Insn) (s : Store) (opened : List Section) (run : Run) (answer : Answer) (new_store : Store) (new : Run) → IsListedRun run → StepsByKind i s opened run answer new_store new → IsListedRun new
 insn-listed (Call kinds.Kernel imm) s opened run answer new_store new p h = kernel-listed (kernel_function_of imm) run new p h.0
 insn-listed (Call kinds.Helper imm) s opened run answer new_store new p h = subst IsListedRun (sym h.3) (returns-listed run h.0 p (result-listed (helper_of imm) s opened run h.0 new_store h.1))
 insn-listed (LoadMap dst map) s opened run answer new_store new p (out, es, inl h, kept, ends) = ends-listed out run answer new p (loads-listed dst map (environment run) run.state out p h.0) ends
@@ -95,7 +99,7 @@ stays_listed m new event answer real h p r run at = came (does-come m new event 
     came : Comes m new r run → IsListedRun run
     came (Stands there) = p r run there
     came (Starting f) = subst IsListedRun f.is (fresh-listed m.started f.program f.context)
-    came (Stepping g) = insn-listed g.step.0 m.store (open_sections m.runs) g.old g.answer new.store run (p r g.old g.there) g.step.2
+    came (Stepping g) = insn-listed g.step.0 m.store (open_sections m.runs) g.old g.answer new.store run (p r g.old g.there) (by_kind g.step.0 m.store (open_sections m.runs) g.old g.answer new.store run g.step.2)
 
 -- so it is in each reached state
 pub reached_is_listed : (shapes : List MapShape) (programs : List Loaded) (s : Schedule) → IsReachedSchedule shapes programs s → AreListed s.machine

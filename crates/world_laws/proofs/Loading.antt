@@ -16,8 +16,9 @@ use Rattle.bpf_model.specs.Access.{byte_count, unsigned_width, region_offset, nu
 use Rattle.bpf_model.specs.Arithmetic.{loaded_signed}
 use Rattle.bpf_model.specs.Element.{Element, accessible, is_reclaimed}
 use Rattle.bpf_model.specs.Frame.{read}
-use Rattle.bpf_model.specs.Machine.{Run, environment}
-use Rattle.bpf_model.specs.MachineStep.{AccessesElement, element_load, loaded_from}
+use Rattle.bpf_model.specs.Machine.{open_sections, Run, environment}
+use Rattle.model_laws.specs.ByKind.{AccessesElement, element_load}
+use Rattle.bpf_model.specs.Element.{loaded_from}
 use Rattle.bpf_model.specs.Near.{IsNear}
 use Rattle.bpf_model.specs.Schedule.{Schedule}
 use Rattle.bpf_model.specs.Step.{Outcome, sets, load_from, after}
@@ -38,6 +39,7 @@ use Rattle.world_laws.proofs.Shown.{Shown, shown}
 use Rattle.world_laws.proofs.Ready.{bases, refines, near, register-word, byte-stands}
 use Rattle.world_laws.proofs.Own.{Known, StepsBy, Does, alone-step, insn-real, set}
 use Rattle.model_laws.proofs.Computations.{first-step}
+use Rattle.model_laws.proofs.Requests.{of_kind}
 
 -- an element that may be accessed is there, and not reclaimed
 pub accessible-known : (es : List Element) (n : ℕ) (e : Element) → accessible es n ≡ Some e → (slice_get es n ≡ Some e) × (is_reclaimed e.life ≡ false)
@@ -97,10 +99,10 @@ module _ (w : WorldView) (s : Schedule) (m : Matches w s) (sound : IsSound w s) 
 
   -- a step that reads an element
   reads : (width : Width) (dst src : ℕ) (offset : ℤ) (out : Outcome) → AccessesElement (Load width dst src offset) s.machine.store.elements run.state out s.machine.store.elements → StepsBy w s m sound r run v k (Load width dst src offset) out
-  reads width dst src offset out h answer later g = (out, s.machine.store.elements, inr h, refl, g)
+  reads width dst src offset out h answer later g = of_kind (Load width dst src offset) s.machine.store (open_sections s.machine.runs) run answer s.machine.store later (out, s.machine.store.elements, inr h, refl, g)
 
   reads-signed : (width : SignedWidth) (dst src : ℕ) (offset : ℤ) (out : Outcome) → AccessesElement (LoadSigned width dst src offset) s.machine.store.elements run.state out s.machine.store.elements → StepsBy w s m sound r run v k (LoadSigned width dst src offset) out
-  reads-signed width dst src offset out h answer later g = (out, s.machine.store.elements, inr h, refl, g)
+  reads-signed width dst src offset out h answer later g = of_kind (LoadSigned width dst src offset) s.machine.store (open_sections s.machine.runs) run answer s.machine.store later (out, s.machine.store.elements, inr h, refl, g)
 
   pub load-simulates : (width : Width) (dst src : ℕ) (offset : ℤ) (out : Outcome) → Known w s m sound r run v k (Load width dst src offset) → after (Load width dst src offset) (environment run) run.state ≡ Some out → Does w s m sound r run v k (insn_step (Load width dst src offset) run.program r v w)
   load-simulates width dst src offset out here e =

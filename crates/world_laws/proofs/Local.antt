@@ -11,7 +11,8 @@ use Rattle.bpf_model.specs.Access.{byte_count, unsigned_width}
 use Rattle.bpf_model.specs.Arithmetic.{loaded_signed}
 use Rattle.bpf_model.specs.Element.{Element, accessible}
 use Rattle.bpf_model.specs.Machine.{Loaded, Run, environment}
-use Rattle.bpf_model.specs.MachineStep.{AccessesElement, element_load, loaded_from}
+use Rattle.model_laws.specs.ByKind.{AccessesElement, element_load}
+use Rattle.bpf_model.specs.Element.{loaded_from}
 use Rattle.bpf_model.specs.Near.{IsNear}
 use Rattle.bpf_model.specs.Operand.{operand_value}
 use Rattle.bpf_model.specs.Schedule.{Schedule}

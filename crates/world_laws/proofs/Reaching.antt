@@ -28,7 +28,10 @@ use Rattle.bpf_model.specs.Call.{helper_of, kernel_function_of}
 use Rattle.bpf_model.specs.Element.{Element, Life, Linked, Unlinked, Reclaimed, accessible, is_reclaimed, is_unlinked}
 use Rattle.bpf_model.specs.Frame.{read}
 use Rattle.bpf_model.specs.Machine.{Loaded, Run, environment, open_sections}
-use Rattle.bpf_model.specs.MachineStep.{HelperStep, KernelStep, InsnStep, value_argument, element_load, loaded_from, frame_bytes, bytes_at}
+use Rattle.model_laws.specs.ByKind.{StepsByKind, HelperStep, KernelStep, value_argument, element_load}
+use Rattle.bpf_model.specs.MachineStep.{InsnStep}
+use Rattle.bpf_model.specs.Element.{loaded_from}
+use Rattle.bpf_model.specs.Frame.{frame_bytes, bytes_at}
 use Rattle.bpf_model.specs.MapState as map_state
 use Rattle.bpf_model.specs.Near.{IsNear}
 use Rattle.bpf_model.specs.Operand.{operand_value}
@@ -57,6 +60,7 @@ use Rattle.world_laws.proofs.Loading.{accessible-known, element-located}
 use Rattle.world_laws.proofs.Calling.{CalledWith, called}
 use Rattle.world_laws.proofs.Storing.{store-known, element-known}
 use Rattle.model_laws.proofs.Computations.{first-step}
+use Rattle.model_laws.proofs.Requests.{by_kind}
 
 times-image : (f : ℕ → ℕ) (n : ℕ) (xs : List ℕ) → times n xs ≤ times (f n) (map f xs)
 times-image f n [] = omega arith
@@ -146,10 +150,10 @@ module _ (w : WorldView) (s : Schedule) (m : Matches w s) (sound : IsSound w s) 
       (slot-reaches width b x g.0 o offset f.0 f.1 g.1 word close).0
 
   -- the instruction at hand has a step
-  stepping : (i : Insn) → Known w s m sound r run v k i → (answer : Answer) × (new : map_state.Store) × (later : Run) × InsnStep i s.machine.store (open_sections s.machine.runs) run answer new later
+  stepping : (i : Insn) → Known w s m sound r run v k i → (answer : Answer) × (new : map_state.Store) × (later : Run) × StepsByKind i s.machine.store (open_sections s.machine.runs) run answer new later
   stepping i here =
       let n = well_never_stuck s.machine sound.well r run k.there k.going in
-      (n.0, n.1, n.2, subst (λ j. InsnStep j s.machine.store (open_sections s.machine.runs) run n.0 n.1 n.2) (same_Some n.3.0 i (sym n.3.1 ∙ here)) n.3.2)
+      (n.0, n.1, n.2, by_kind i s.machine.store (open_sections s.machine.runs) run n.0 n.1 n.2 (subst (λ j. InsnStep j s.machine.store (open_sections s.machine.runs) run n.0 n.1 n.2) (same_Some n.3.0 i (sym n.3.1 ∙ here)) n.3.2))
 
   pub load_reaches : (width : Width) (dst src : ℕ) (offset : ℤ) → Known w s m sound r run v k (Load width dst src offset) → Reaches w v (byte_count width) offset (location_of (word_in v src))
   load_reaches width dst src offset here = by (stepping (Load width dst src offset) here).3
@@ -157,7 +161,7 @@ module _ (w : WorldView) (s : Schedule) (m : Matches w s) (sound : IsSound w s) 
       l : src ≤ 10
       l = (insn-real w s m sound r run v k (Load width dst src offset) here).1
 
-      by : {answer : Answer} {new : map_state.Store} {later : Run} → InsnStep (Load width dst src offset) s.machine.store (open_sections s.machine.runs) run answer new later → Reaches w v (byte_count width) offset (location_of (word_in v src))
+      by : {answer : Answer} {new : map_state.Store} {later : Run} → StepsByKind (Load width dst src offset) s.machine.store (open_sections s.machine.runs) run answer new later → Reaches w v (byte_count width) offset (location_of (word_in v src))
       by (out, es, inl h, kept, ends) =
           let f = first-step (load_from (environment run) run.state (byte_count width) offset (run.state.regs src)) (λ u. sets 1 dst u run.state) out h.0 in
           load-reaches (byte_count width) (word_in v src) offset (run.state.regs src) f.0 (register-word w s m sound r run v k src l) ((near w s m sound r run v k).regs_near src) f.1
@@ -169,7 +173,7 @@ module _ (w : WorldView) (s : Schedule) (m : Matches w s) (sound : IsSound w s) 
       l : src ≤ 10
       l = (insn-real w s m sound r run v k (LoadSigned width dst src offset) here).1
 
-      by : {answer : Answer} {new : map_state.Store} {later : Run} → InsnStep (LoadSigned width dst src offset) s.machine.store (open_sections s.machine.runs) run answer new later → Reaches w v (byte_count (unsigned_width width)) offset (location_of (word_in v src))
+      by : {answer : Answer} {new : map_state.Store} {later : Run} → StepsByKind (LoadSigned width dst src offset) s.machine.store (open_sections s.machine.runs) run answer new later → Reaches w v (byte_count (unsigned_width width)) offset (location_of (word_in v src))
       by (out, es, inl h, kept, ends) =
           let f = first-step (load_from (environment run) run.state (byte_count (unsigned_width width)) offset (run.state.regs src)) (λ u. number u >>= λ n. sets 1 dst (Number (loaded_signed width n)) run.state) out h.0 in
           load-reaches (byte_count (unsigned_width width)) (word_in v src) offset (run.state.regs src) f.0 (register-word w s m sound r run v k src l) ((near w s m sound r run v k).regs_near src) f.1
@@ -187,7 +191,7 @@ module _ (w : WorldView) (s : Schedule) (m : Matches w s) (sound : IsSound w s) 
       close : (base : Value) → run.state.regs dst ≡ base → IsNear base
       close base e = subst IsNear e ((near w s m sound r run v k).regs_near dst)
 
-      by : {answer : Answer} {new : map_state.Store} {later : Run} → InsnStep (Store width dst offset src) s.machine.store (open_sections s.machine.runs) run answer new later → Reaches w v (byte_count width) offset (location_of (word_in v dst)) × IsWritable (location_of (word_in v dst))
+      by : {answer : Answer} {new : map_state.Store} {later : Run} → StepsByKind (Store width dst offset src) s.machine.store (open_sections s.machine.runs) run answer new later → Reaches w v (byte_count width) offset (location_of (word_in v dst)) × IsWritable (location_of (word_in v dst))
       by (out, es, inl h, kept, ends) =
           let f = store-known run.state (byte_count width) offset (operand_value src run.state.regs) (run.state.regs dst) out h.0 in
           let goal : Location → Type 0 = λ l. Reaches w v (byte_count width) offset l × IsWritable l in

@@ -13,7 +13,8 @@ use Rattle.bpf_model.specs.Call.{helper_of, kernel_function_of}
 use Rattle.bpf_model.specs.Element.{Element}
 use Rattle.bpf_model.specs.Event.{if_ended}
 use Rattle.bpf_model.specs.Machine.{Loaded, Run, environment, open_sections}
-use Rattle.bpf_model.specs.MachineStep.{AccessesElement, Acts, OutcomeStep, InsnStep}
+use Rattle.model_laws.specs.ByKind.{StepsByKind, AccessesElement, Acts}
+use Rattle.bpf_model.specs.MachineStep.{OutcomeStep, InsnStep}
 use Rattle.bpf_model.specs.MapState as map_state
 use Rattle.bpf_model.specs.Schedule.{Schedule}
 use Rattle.bpf_model.specs.Step.{Outcome, after, insn_at}
@@ -31,6 +32,7 @@ use Rattle.world_laws.proofs.Storing.{store-simulates, element-store-simulates}
 use Rattle.world_laws.proofs.Calling.{kernel-simulates, helper-simulates}
 use Rattle.bpf_model.proofs.Cases.{flattened, run-behind}
 use Rattle.std.specs.Option.{option_flatten}
+use Rattle.model_laws.proofs.Requests.{by_kind}
 
 module _ (w : WorldView) (s : Schedule) (m : Matches w s) (sound : IsSound w s) (r : ℕ) (run : Run) (v : RunView) (k : IsRunning w s r run v) where
   pub own_step_simulates : (i : Insn) (out : Outcome) (answer : Answer) (later : Run) → insn_at run.program.code run.state.place ≡ Some i → after i (environment run) run.state ≡ Some out → OutcomeStep out run answer later → Simulates s (events.Step r) (insn_step i run.program r v w)
@@ -57,10 +59,13 @@ module _ (w : WorldView) (s : Schedule) (m : Matches w s) (sound : IsSound w s) 
   acts-simulates i out es answer later here (inl h) ends = own_step_simulates i out answer later here h.0 ends
   acts-simulates i out es answer later here (inr h) ends = access_simulates i out es answer later here h ends
 
+  kind-simulates : (i : Insn) (answer : Answer) (new_store : map_state.Store) (later : Run) → insn_at run.program.code run.state.place ≡ Some i → StepsByKind i s.machine.store (open_sections s.machine.runs) run answer new_store later → Simulates s (events.Step r) (insn_step i run.program r v w)
+  kind-simulates (Call kinds.Kernel imm) answer new_store later here h = kernel-simulates w s m sound r run v k imm later (kernel_function_of imm) here refl h.0
+  kind-simulates (Call kinds.Helper imm) answer new_store later here h = helper-simulates w s m sound r run v k imm h.0 new_store (helper_of imm) here refl h.1
+  kind-simulates i answer new_store later here h = acts-simulates i h.0 h.1 answer later here h.2 h.4
+
   pub insn_simulates : (i : Insn) (answer : Answer) (new_store : map_state.Store) (later : Run) → insn_at run.program.code run.state.place ≡ Some i → InsnStep i s.machine.store (open_sections s.machine.runs) run answer new_store later → Simulates s (events.Step r) (insn_step i run.program r v w)
-  insn_simulates (Call kinds.Kernel imm) answer new_store later here h = kernel-simulates w s m sound r run v k imm later (kernel_function_of imm) here refl h.0
-  insn_simulates (Call kinds.Helper imm) answer new_store later here h = helper-simulates w s m sound r run v k imm h.0 new_store (helper_of imm) here refl h.1
-  insn_simulates i answer new_store later here h = acts-simulates i h.0 h.1 answer later here h.2 h.4
+  insn_simulates i answer new_store later here h = kind-simulates i answer new_store later here (by_kind i s.machine.store (open_sections s.machine.runs) run answer new_store later h)
 
   -- the run's step, whichever it is
   pub step_simulates : Simulates s (events.Step r) (word_step w r)

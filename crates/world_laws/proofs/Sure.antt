@@ -10,7 +10,7 @@ use Rattle.bpf_model.specs.declared.value.Value.TheVariants.{Nothing, Number, Po
 use Rattle.bpf_model.specs.declared.value.Reference.TheVariants.{Elem}
 use Rattle.bpf_model.specs.Step.{State, put, insn_at}
 use Rattle.bpf_model.specs.Machine.{Run, Machine, open_sections, run_at}
-use Rattle.bpf_model.specs.MachineStep.{found_value}
+use Rattle.bpf_model.specs.Request.{found_value}
 use Rattle.bpf_model.specs.Near.{IsNear}
 use Rattle.typed_runs.specs.Kinds.{Kind, Blank, Mixed, Ended, Num, CtxAt, FrameAt, MapAt, ValueAt, MaybeNull, AbsState}
 use Rattle.typed_runs.specs.Describes.{Scene, scene_of, IsHeld, Naming, IsNullOrHeld, IsOf, AreNear, Describes}

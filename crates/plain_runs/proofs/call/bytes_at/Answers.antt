@@ -1,6 +1,6 @@
 use Rattle.std.proofs.Common.{◌+◌, sym, ◌∙◌, ap, arith}
 use Rattle.std.specs.Prelude.{◌-◌}
-use Rattle.bpf_model.specs.MachineStep.{bytes_at}
+use Rattle.bpf_model.specs.Frame.{bytes_at}
 use Rattle.plain_interpreter.specs.Plain.{plain_state_of}
 use Rattle.plain_runs.proofs.Bytes.{bytes-next, bytes-stuck, bytes-end, bytes-begin, with_front}
 use Rattle.plain_runs.proofs.call.bytes_at.Goals as goal

@@ -1,6 +1,6 @@
 use Rattle.std.proofs.Common.{◌≡◌, ◌+◌}
 use Rattle.std.specs.Prelude.{◌-◌}
-use Rattle.bpf_model.specs.MachineStep.{bytes_at}
+use Rattle.bpf_model.specs.Frame.{bytes_at}
 use Rattle.plain_interpreter.specs.Plain.{plain_state_of}
 use Rattle.plain_runs.proofs.Bytes.{with_front}
 use Rattle.plain_runs.proofs.call.bytes_at.Given as goal

@@ -4,7 +4,7 @@ use Rattle.std.proofs.lemmas.Int.{to_z-of_z}
 use mir.Val.{SFits}
 use Rattle.bpf_model.specs.declared.value.Value.{Value}
 use Rattle.bpf_model.specs.MapState.{Store}
-use Rattle.bpf_model.specs.MachineStep.{HelperStep}
+use Rattle.model_laws.specs.ByKind.{HelperStep}
 use Rattle.plain_store.specs.State.{store_of, sections_of}
 use Rattle.plain_runs.specs.State.{run_with, loaded_of}
 use Rattle.plain_store.specs.Telling.{TellsResult}

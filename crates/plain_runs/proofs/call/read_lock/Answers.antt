@@ -1,7 +1,7 @@
 use Rattle.std.proofs.Common.{◌+◌, ℕ, ap, ◌∙◌, arith}
 use Rattle.bpf_model.specs.declared.value.Value.TheVariants.{Nothing}
 use Rattle.bpf_model.specs.Machine.{Run, moves}
-use Rattle.bpf_model.specs.MachineStep.{returns}
+use Rattle.bpf_model.specs.Step.{returns}
 use Rattle.plain_interpreter.specs.Plain.{plain_state_of}
 use Rattle.plain_store.proofs.Telling.{tells-map}
 use Rattle.plain_runs.proofs.call.read_lock.Goals as goal

@@ -1,7 +1,8 @@
 use Rattle.std.proofs.Common.{◌≡◌, Some, sym, ap, ◌∙◌}
 use Rattle.bpf_model.specs.declared.value.Value.TheVariants.{Number}
 use Rattle.bpf_model.specs.Value.{◌>>=◌, number}
-use Rattle.bpf_model.specs.MachineStep.{frame_bytes, value_argument}
+use Rattle.bpf_model.specs.Frame.{frame_bytes}
+use Rattle.model_laws.specs.ByKind.{value_argument}
 use Rattle.plain_store.specs.State.{store_of}
 use Rattle.plain_runs.specs.State.{run_with, loaded_of}
 use Rattle.plain_runs.proofs.Stores.{shape-within}

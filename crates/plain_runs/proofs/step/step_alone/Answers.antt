@@ -1,6 +1,6 @@
 use Rattle.std.proofs.Common.{rules, ◌≡◌, sym, ap, ◌∙◌, subst, length}
 use Rattle.bpf_model.specs.Machine as machine
-use Rattle.bpf_model.specs.MachineStep.{Acts}
+use Rattle.model_laws.specs.ByKind.{Acts}
 use Rattle.plain_interpreter.specs.Plain.{plain_state_of}
 use Rattle.bpf_model.specs.Step.{environment_of}
 use Rattle.plain_store.specs.State.{elements_of}

@@ -2,11 +2,12 @@ use Rattle.std.proofs.Common.{rules, Some, sym, ap, ◌∙◌, subst}
 use Rattle.std.specs.Int.{w32}
 use Rattle.std.proofs.lemmas.Int.{to_z-of_z}
 use mir.Val.{SFits}
+use Rattle.bpf_model.specs.declared.insn.Insn.TheVariants.{Call}
 use Rattle.bpf_model.specs.declared.insn.CallKind.TheVariants as kinds
 use Rattle.plain_store.specs.State.{store_of, sections_of}
 use Rattle.plain_runs.specs.State.{run_with, loaded_of}
 use Rattle.plain_runs.specs.Acting.{InsnStepsAs}
-use Rattle.plain_runs.proofs.Acting.{alone-steps, kernel-steps, call-is, call-pair}
+use Rattle.plain_runs.proofs.Acting.{alone-steps, of-kinds, kernel-steps, call-is, call-pair}
 use Rattle.plain_runs.proofs.step.step_insn.Goals as goal
 
 pub returns-in-Some-Kernel-default-clause-steps : goal.returns-in-Some-Kernel-default-clause-steps
@@ -28,7 +29,7 @@ returns-in-Some-Helper-default-clause-steps c =
     let g : SFits w32 imm = search rules in
     let steps = simp to_z-of_z at c.call_helper.ensures.steps in
     let is = call-is c.args.insn.now kinds.Helper imm (sym c.call_of.ensures ∙ c.in-Some-Helper-default.is ∙ ap (λ k. Some (call-pair k imm)) c.in-Some-Helper-default.field-0-0-is) in
-    subst (λ i. InsnStepsAs i (store_of c.args.store.now) (sections_of c.args.opened.now) run c.call_helper.result (store_of c.call_helper.new.store) new) (sym is) steps
+    subst (λ i. InsnStepsAs i (store_of c.args.store.now) (sections_of c.args.opened.now) run c.call_helper.result (store_of c.call_helper.new.store) new) (sym is) (of-kinds (Call kinds.Helper imm) (store_of c.args.store.now) (sections_of c.args.opened.now) run c.call_helper.result (store_of c.call_helper.new.store) new steps)
 
 pub returns-in-None-clause-steps : goal.returns-in-None-clause-steps
 returns-in-None-clause-steps c = alone-steps c.args.insn.now (store_of c.args.store.now) (sections_of c.args.opened.now) (run_with (loaded_of c.args.program.now) c.args.run.now) c.step_alone.result (store_of c.step_alone.new.store)

@@ -1,6 +1,6 @@
 use Rattle.std.proofs.Common.{◌≡◌, ◌∙◌, ◌+◌, ◌*◌, ◌<◌, ◌≤◌, ℕ, List, sym, ap, subst, length}
 use Rattle.bpf_model.specs.Access.{byte_count}
-use Rattle.bpf_model.specs.MachineStep.{with_bytes}
+use Rattle.bpf_model.specs.Access.{with_bytes}
 use Rattle.element_arena.specs.State.{with_slot_value}
 use Rattle.element_arena.specs.Blocks.{block}
 use Rattle.element_arena.specs.Kept.{arena_state_of}

@@ -1,6 +1,6 @@
 use Rattle.std.proofs.Common.{◌≡◌, ◌∙◌, ℕ, ◌<◌, List, length, sym, ap, subst}
 use Rattle.bpf_model.specs.Access.{byte_count}
-use Rattle.bpf_model.specs.MachineStep.{with_bytes}
+use Rattle.bpf_model.specs.Access.{with_bytes}
 use Rattle.bpf_model.specs.View.{MapView}
 use Rattle.bpf_model.proofs.Bytes.{length-with_bytes}
 use Rattle.element_arena.specs.Blocks.{block}

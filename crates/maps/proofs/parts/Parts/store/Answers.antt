@@ -2,7 +2,7 @@ use Rattle.std.proofs.Common.{◌∙◌, sym, ap, subst}
 use Rattle.element_arena.specs.State.{ArenaState}
 use Rattle.maps.specs.Parted.{PartsView}
 use Rattle.bpf_model.specs.Access.{byte_count}
-use Rattle.bpf_model.specs.MachineStep.{with_bytes}
+use Rattle.bpf_model.specs.Access.{with_bytes}
 use Rattle.element_arena.specs.State.{with_slot_value, value_at}
 use Rattle.maps.specs.Parted.{IsInUse}
 use Rattle.maps.proofs.Parting.{standing-taken}

@@ -6,7 +6,7 @@ use mir.Val.{SFits}
 use Rattle.bpf_model.specs.Value.{◌>>=◌}
 use Rattle.bpf_model.specs.Access.{byte_count}
 use Rattle.bpf_model.specs.Element.{accessible}
-use Rattle.bpf_model.specs.MachineStep.{stored_in}
+use Rattle.bpf_model.specs.Element.{stored_in}
 use Rattle.plain_store.specs.State.{element_of, elements_of}
 use Rattle.plain_store.specs.Storing.{StoresTo}
 use Rattle.std.proofs.lemmas.Option.{slice_get_read}
