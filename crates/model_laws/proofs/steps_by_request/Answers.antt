@@ -1,5 +1,0 @@
-use Rattle.model_laws.proofs.Requests.{steps_by_request}
-use Rattle.model_laws.proofs.steps_by_request.Goals as goal
-
-pub returns : goal.returns
-returns c i store new_store opened run new answer = steps_by_request i store opened run answer new_store new
