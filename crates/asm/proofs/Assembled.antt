@@ -6,7 +6,8 @@ use Rattle.std.proofs.lemmas.List.Concat.{flat_map-cons}
 use Rattle.std.proofs.lemmas.List.Sums.{sum_by-cons}
 use Rattle.bpf_model.specs.declared.insn.Insn.{Insn}
 use Rattle.bpf_model.specs.declared.limits.TheConstants.{MAX_SLOTS}
-use Rattle.bpf_model.specs.Spelling.{FitsInsn, IsProgram, slot_count, slot_total}
+use Rattle.bpf_model.specs.Spelling.{FitsInsn, IsProgram}
+use Rattle.bpf_model.specs.Places.{slot_count, slot_total}
 use Rattle.disasm.specs.Text.{stem_of, suffix_of, mnemonic_text, arguments_text, mnemonic_of, text_arguments, statement_of, line_of, program_text}
 use Rattle.asm.specs.Reading.{Lacks}
 use Rattle.asm.specs.Grammar.{IsFormedLine}
@@ -20,7 +21,7 @@ use Rattle.asm.proofs.FormLaws.{formed_of}
 use Rattle.asm.proofs.Lacking.{lacks_append, arguments_lack_feed}
 use Rattle.asm.proofs.PlainNames.{name_lacks_any, stem_statement}
 use Rattle.asm.proofs.LinesRead.{keeps, first_line}
-use Rattle.bpf_model.specs.Places.{slot_count_some}
+use Rattle.bpf_model.proofs.Places.{slot_count_some}
 use Rattle.bpf_model.proofs.Lists.{cons-nil, heads, tails}
 
 -- a program takes a slot at least

@@ -4,7 +4,7 @@ use Rattle.std.specs.Prelude.{map}
 use Rattle.std.specs.List.{AllByRecursion}
 use Rattle.bpf_model.specs.declared.insn.Insn.{Insn}
 use Rattle.bpf_model.specs.declared.limits.TheConstants.{MAX_SLOTS}
-use Rattle.bpf_model.specs.Spelling.{slot_total}
+use Rattle.bpf_model.specs.Places.{slot_total}
 use Rattle.bpf_model.proofs.Lists.{cons-nil, heads, tails}
 use Rattle.disasm.specs.Text.{line_of}
 use Rattle.asm.specs.Grammar.{IsFormedLine}

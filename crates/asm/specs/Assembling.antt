@@ -2,7 +2,8 @@
 use Rattle.std.specs.Prelude.{ℕ, ◌≡◌, ◌+◌, ◌<◌, true, false, List, [], ◌∷◌, ◌++◌}
 use Rattle.bpf_model.specs.declared.insn.Insn.{Insn}
 use Rattle.bpf_model.specs.declared.limits.TheConstants.{MAX_SLOTS}
-use Rattle.bpf_model.specs.Spelling.{FitsInsn, slot_total}
+use Rattle.bpf_model.specs.Spelling.{FitsInsn}
+use Rattle.bpf_model.specs.Places.{slot_total}
 use Rattle.disasm.specs.Text.{line_of}
 use Rattle.asm.specs.Faults.{is_comment, IsLineFlaw, IsFirstLineFlaw}
 use Rattle.asm.specs.declared.fault.LineFlaw.TheVariants as flaw

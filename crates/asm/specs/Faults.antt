@@ -4,7 +4,8 @@ use Rattle.std.specs.Prelude.{length, map, filter, Option, Some, None}
 use Rattle.std.specs.List.{AllByRecursion, slice_split}
 use Rattle.bpf_model.specs.declared.insn.Insn.{Insn}
 use Rattle.bpf_model.specs.declared.limits.TheConstants.{MAX_SLOTS}
-use Rattle.bpf_model.specs.Spelling.{FitsInsn, slot_total}
+use Rattle.bpf_model.specs.Spelling.{FitsInsn}
+use Rattle.bpf_model.specs.Places.{slot_total}
 use Rattle.disasm.specs.Text.{line_of}
 use Rattle.asm.specs.Grammar.{IsFormedLine}
 use Rattle.asm.specs.declared.fault.LineFlaw.{LineFlaw}

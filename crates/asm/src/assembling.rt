@@ -2,7 +2,8 @@
 ghost use Rattle.std.specs.Prelude.{◌≡◌, ◌+◌, ◌<◌, ◌≤◌, ◌^◌, List, length, map, OnOk, IfOk, IfErr, ◌⊎◌, ◌↔◌, IsTrue};
 ghost use Rattle.std.specs.List.{AllByRecursion};
 ghost use Rattle.bpf_model.specs.declared.limits.TheConstants.{MAX_SLOTS};
-ghost use Rattle.bpf_model.specs.Spelling.{FitsInsn, IsProgram, slot_total};
+ghost use Rattle.bpf_model.specs.Spelling.{FitsInsn, IsProgram};
+ghost use Rattle.bpf_model.specs.Places.{slot_total};
 ghost use Rattle.bpf_model.specs.declared.insn.Insn.{Insn as InsnOf};
 ghost use Rattle.disasm.specs.Text.{line_of, program_text};
 ghost use Rattle.asm.specs.Faults.{is_comment as is_comment_line, statements_in, IsAsmFault};

@@ -2,3 +2,4 @@ pub mod Bytes
 pub mod Cases
 pub mod Keys
 pub mod Lists
+pub mod Places

@@ -33,27 +33,16 @@ is_linked Linked = true
 is_linked (Unlinked opened) = false
 is_linked Reclaimed = false
 
-abbrev pub is_unlinked : Life → Bool
-is_unlinked Linked = false
-is_unlinked (Unlinked opened) = true
-is_unlinked Reclaimed = false
-
 abbrev pub is_reclaimed : Life → Bool
 is_reclaimed Linked = false
 is_reclaimed (Unlinked opened) = false
 is_reclaimed Reclaimed = true
 
 abbrev pub with_life : Life → Element → Element
-with_life life e = record { map = e.map; key = e.key; value = e.value; uses = e.uses; life = life }
+with_life life e = record e { life = life }
 
 abbrev pub with_value : List ℕ → Element → Element
-with_value value e = record {
-  map = e.map;
-  key = e.key;
-  value = value;
-  uses = e.uses;
-  life = e.life;
-}
+with_value value e = record e { value = value }
 
 abbrev pub HasLife : List Element → ℕ → Life → Type 0
 HasLife es n life = (e : Element) × (slice_get es n ≡ Some e) × (e.life ≡ life)

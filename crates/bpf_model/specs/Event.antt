@@ -1,5 +1,5 @@
 -- Events and the machine's answers to them. One event is one atomic action of one actor.
-use Rattle.std.specs.Prelude.{◌≡◌, ℕ, ◌^◌, ◌<◌, ◌==◌, ◌&&◌, List, length, Option, Some, None}
+use Rattle.std.specs.Prelude.{◌≡◌, ℕ, ◌==◌, ◌&&◌, List, length, Option, Some, None}
 use Rattle.std.specs.Prelude.{slice_get, slice_set, if◌then◌else◌}
 use Rattle.bpf_model.specs.declared.limits.MapShape.{MapShape}
 use Rattle.bpf_model.specs.declared.event.Event.{Event}
@@ -18,41 +18,6 @@ use Rattle.bpf_model.specs.Reclaim.{Reclaims}
 use Rattle.bpf_model.specs.Machine.{Loaded, Run, Machine, open_sections, with_store, with_runs}
 use Rattle.bpf_model.specs.Machine.{begins, lowest_free, run_at}
 use Rattle.bpf_model.specs.MachineStep.{StepsRun}
-
-abbrev pub event_refusal_number : EventRefusal → ℕ
-event_refusal_number NoRun = 60
-event_refusal_number Ended = 61
-event_refusal_number NoProgram = 62
-event_refusal_number BadContext = 63
-event_refusal_number RunsFull = 64
-event_refusal_number NoMap = 65
-event_refusal_number BadLength = 66
-event_refusal_number StillRunning = 67
-
--- The numbers of the list are bytes.
-abbrev pub AreBytes : List ℕ → Type 0
-AreBytes bytes = (k b : ℕ) → slice_get bytes k ≡ Some b → b < 2 ^ 8
-
--- the value of each of these elements is bytes
-abbrev pub AllBytes : List Element → Type 0
-AllBytes es = (n : ℕ) (e : Element) → slice_get es n ≡ Some e → AreBytes e.value
-
--- An event's numbers and bytes are within their types (of lengths nothing is asked): in a
--- definition a byte would else be any number. Each value of the Rust type is so
--- (`Event::is_real`).
-abbrev pub IsReal : Event → Type 0
-IsReal (events.Start prog ctx) = (prog < 2 ^ 64) × AreBytes ctx.items
-IsReal (events.Step run) = run < 2 ^ 64
-IsReal (events.Update map key value flags) =
-    (map < 2 ^ 64) × AreBytes key.items × AreBytes value.items × (flags < 2 ^ 64)
-IsReal (events.Delete map key) = (map < 2 ^ 64) × AreBytes key.items
-IsReal (events.Read map key) = (map < 2 ^ 64) × AreBytes key.items
-IsReal events.Advance = Unit {0}
-IsReal events.Reap = Unit {0}
-IsReal (events.Drop run) = run < 2 ^ 64
-
-abbrev pub AreReal : List Event → Type 0
-AreReal all = (k : ℕ) (event : Event) → slice_get all k ≡ Some event → IsReal event
 
 -- refused where there is no free run slot
 abbrev pub if_full : Option ℕ → Option EventRefusal

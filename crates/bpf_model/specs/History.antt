@@ -21,11 +21,3 @@ last_of a (next ∷ states) = last_of next states
 abbrev pub AllStates : (Machine → Type 0) → List Machine → Type 0
 AllStates P [] = Unit {0}
 AllStates P (m ∷ states) = P m × AllStates P states
-
--- Some history of the machine from m has these answers to these events, and ends in new.
-abbrev pub HasHistoryTo : Machine → List Event → List Answer → Machine → Type 0
-HasHistoryTo m [] [] new = new ≡ m
-HasHistoryTo m (event ∷ events) (answer ∷ answers) new =
-    (next : Machine) × DoesEvent m event answer next
-    × HasHistoryTo next events answers new
-HasHistoryTo m events answers new = ⊥

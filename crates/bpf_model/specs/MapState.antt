@@ -1,43 +1,19 @@
 -- The state of the maps (Linux BPF documentation, "BPF_MAP_TYPE_HASH" and "BPF_MAP_TYPE_ARRAY"; map
 -- slots and their reuse are this runtime's own).
-use Rattle.std.specs.Prelude.{◌≡◌, ℕ, suc, ◌+◌, ◌*◌, ◌≤◌, ◌==◌, List, [], ◌∷◌, ◌++◌, Option, Some}
+use Rattle.std.specs.Prelude.{◌≡◌, ℕ, suc, ◌+◌, ◌==◌, List, [], ◌∷◌, ◌++◌, Option, Some}
 use Rattle.std.specs.Prelude.{None, slice_get, replicate, map, if◌then◌else◌}
 use Rattle.std.specs.List.{range_with_len}
 use Rattle.std.specs.Int.{w32, to_le_bytes}
 use Rattle.bpf_model.specs.declared.limits.MapKind.{MapKind}
 use Rattle.bpf_model.specs.declared.limits.MapKind.TheVariants.{Hash, Array}
 use Rattle.bpf_model.specs.declared.limits.MapShape.{MapShape}
-use Rattle.bpf_model.specs.declared.limits.TheConstants.{KEY_BYTES, VALUE_BYTES, MAX_ENTRIES}
-use Rattle.bpf_model.specs.declared.limits.TheConstants.{MAX_SPARE, MAX_REUSE, INDEX_BYTES}
 use Rattle.bpf_model.specs.declared.event.Given.{Given}
 use Rattle.bpf_model.specs.declared.event.Given.TheVariants.{Free, Worn}
 use Rattle.bpf_model.specs.Element.{Element, newborn}
 
--- An array's keys are its indices; it has no further map slots, and uses each once.
-pub record IsArrayShape (shape : MapShape) : Type 0 where
-  pub key : shape.key_len ≡ INDEX_BYTES
-  pub spare : shape.spare ≡ 0
-  pub reuse : shape.reuse_limit ≡ 1
-
--- The shapes that a map may have.
-pub record IsShape (shape : MapShape) : Type 0 where
-  pub key : (1 ≤ shape.key_len) × (shape.key_len ≤ KEY_BYTES)
-  pub value : (1 ≤ shape.value_len) × (shape.value_len ≤ VALUE_BYTES)
-  pub entries : (1 ≤ shape.entries) × (shape.entries ≤ MAX_ENTRIES)
-  pub spare : shape.spare ≤ MAX_SPARE
-  pub reuse : (1 ≤ shape.reuse_limit) × (shape.reuse_limit ≤ MAX_REUSE)
-  pub array : shape.kind ≡ Array → IsArrayShape shape
-
-abbrev pub AreShapes : List MapShape → Type 0
-AreShapes shapes = (k : ℕ) (shape : MapShape) → slice_get shapes k ≡ Some shape → IsShape shape
-
--- How many map slots a map has, and how many elements are born in them at most: each of them is
--- used `reuse_limit` times at most.
+-- how many map slots a map has
 abbrev pub slots_of_shape : MapShape → ℕ
 slots_of_shape shape = shape.entries + shape.spare
-
-abbrev pub most_births : MapShape → ℕ
-most_births shape = slots_of_shape shape * shape.reuse_limit
 
 -- A map: its shape, for each free map slot how often it was used (a bag: its order says nothing
 -- here), and how many map slots are worn out. What it has under a key stands in the elements.
@@ -78,10 +54,10 @@ all_new_elements k (shape ∷ shapes) =
     new_elements shape.kind k shape ++ all_new_elements (suc k) shapes
 
 abbrev pub with_bag : List ℕ → MapState → MapState
-with_bag bag m = record { shape = m.shape; bag = bag; worn = m.worn }
+with_bag bag m = record m { bag = bag }
 
 abbrev pub with_elements : List Element → Store → Store
-with_elements es s = record { elements = es; maps = s.maps }
+with_elements es s = record s { elements = es }
 
 -- the shape of a map, where there is one
 abbrev pub shape_in : Option MapState → Option MapShape
@@ -104,8 +80,8 @@ abbrev pub given_of : ℕ → MapState → Given
 given_of uses m = if uses == m.shape.reuse_limit then Worn else Free
 
 abbrev pub with_given : Given → ℕ → MapState → MapState
-with_given Free uses m = record { shape = m.shape; bag = m.bag ++ uses ∷ []; worn = m.worn }
-with_given Worn uses m = record { shape = m.shape; bag = m.bag; worn = m.worn + 1 }
+with_given Free uses m = record m { bag = m.bag ++ uses ∷ [] }
+with_given Worn uses m = record m { worn = m.worn + 1 }
 
 abbrev pub returned : ℕ → MapState → MapState
 returned uses m = with_given (given_of uses m) uses m

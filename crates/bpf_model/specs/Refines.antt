@@ -10,9 +10,10 @@ use Rattle.bpf_model.specs.declared.limits.TheConstants.{REGISTERS}
 use Rattle.bpf_model.specs.declared.event.Event.{Event}
 use Rattle.bpf_model.specs.declared.event.Answer.{Answer}
 use Rattle.bpf_model.specs.Element.{Element, IsLinkedAt, linked_count, is_reclaimed}
-use Rattle.bpf_model.specs.MapState.{MapState, AreShapes, slots_of_shape, most_births}
+use Rattle.bpf_model.specs.MapState.{MapState, slots_of_shape}
+use Rattle.bpf_model.specs.Shapes.{AreShapes, most_births}
 use Rattle.bpf_model.specs.Machine.{Loaded, Run, Machine}
-use Rattle.bpf_model.specs.Event.{AreReal}
+use Rattle.bpf_model.specs.Real.{AreReal}
 use Rattle.bpf_model.specs.Schedule.{Queues, Schedule, open_flags, IsScheduledHistory}
 use Rattle.bpf_model.specs.Schedule.{start_schedule}
 use Rattle.bpf_model.specs.View.{SlotView, MapView, RunView, WorldView, map_state_of, shapes_of}

@@ -12,7 +12,7 @@ use Rattle.bpf_model.specs.declared.event.Event.TheVariants.{Advance, Reap}
 use Rattle.bpf_model.specs.declared.event.Answer.{Answer}
 use Rattle.bpf_model.specs.declared.event.Answer.TheVariants.{Reaped}
 use Rattle.bpf_model.specs.Section.{Section}
-use Rattle.bpf_model.specs.Element.{Element, Unlinked, Reclaimed, HasLife, is_linked, is_unlinked}
+use Rattle.bpf_model.specs.Element.{Element, Life, Linked, Unlinked, Reclaimed, HasLife, is_linked}
 use Rattle.bpf_model.specs.MapState.{MapState, Store}
 use Rattle.bpf_model.specs.Machine.{Run, Machine, Loaded, is_inside, start_machine}
 use Rattle.bpf_model.specs.Event.{DoesEvent}
@@ -51,6 +51,11 @@ still_open awaited opened = []
 abbrev pub is_any : List Bool → Bool
 is_any flags = list_any (λ b. b) flags
 
+abbrev pub is_unlinked : Life → Bool
+is_unlinked Linked = false
+is_unlinked (Unlinked opened) = true
+is_unlinked Reclaimed = false
+
 -- The births of a map that were linked in the first list of elements and are unlinked in the
 -- second; the first element's birth is n.
 abbrev pub unlinked_between : ℕ → ℕ → List Element → List Element → List ℕ
@@ -63,11 +68,7 @@ unlinked_between map n olds news = []
 -- An unlinked element goes to the end of its map's list next: of the lists of map k, and of those
 -- of all maps, the first of which are map k's.
 abbrev pub retired_in : ℕ → List Element → List Element → Queues → Queues
-retired_in k old new q = record {
-  next = q.next ++ unlinked_between k 0 old new;
-  waiting = q.waiting;
-  ready = q.ready;
-}
+retired_in k old new q = record q { next = q.next ++ unlinked_between k 0 old new }
 
 abbrev pub retired : ℕ → List Element → List Element → List Queues → List Queues
 retired k old new [] = []
@@ -81,7 +82,7 @@ turned q = record { next = []; waiting = q.next; ready = q.ready ++ q.waiting }
 -- An advance ends the grace period and begins the next when no run is awaited, and from then on the
 -- runs that are open are awaited; else it changes nothing.
 abbrev pub advanced : Schedule → Machine → Bool → Schedule
-advanced s m true = record { machine = m; queues = s.queues; awaited = s.awaited }
+advanced s m true = record s { machine = m }
 advanced s m false = record {
   machine = m;
   queues = map turned s.queues;
@@ -101,14 +102,11 @@ first_ready (q ∷ qs) = or_first q.ready (first_ready qs)
 -- the lists without that birth
 abbrev pub without_first : List Queues → List Queues
 without_first [] = []
-without_first (q ∷ qs) = if length q.ready == 0 then q ∷ without_first qs else record {
-  next = q.next;
-  waiting = q.waiting;
-  ready = drop 1 q.ready;
-} ∷ qs
+without_first (q ∷ qs) =
+    if length q.ready == 0 then q ∷ without_first qs else record q { ready = drop 1 q.ready } ∷ qs
 
 abbrev pub reaped : Schedule → Machine → Schedule
-reaped s m = record { machine = m; queues = without_first s.queues; awaited = s.awaited }
+reaped s m = record s { machine = m; queues = without_first s.queues }
 
 -- the schedule after an event, with the machine's next state
 abbrev pub scheduled : Schedule → Event → Machine → Schedule

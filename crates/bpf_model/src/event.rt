@@ -1,6 +1,6 @@
 //! What may happen to the machine, and what it answers.
 
-ghost use Rattle.bpf_model.specs.Event.{AreBytes, AreReal};
+ghost use Rattle.bpf_model.specs.Real.{AreBytes, AreReal};
 
 use crate::call::Errno;
 use crate::id::{MapId, ProgId, RunId};
@@ -110,7 +110,7 @@ pub fn are_bytes(bytes: &[u8])
 {}
 
 impl Event {
-    ghost use Rattle.bpf_model.specs.Event.{IsReal};
+    ghost use Rattle.bpf_model.specs.Real.{IsReal};
 
     /// A law: each event is within its types, so that no caller is asked for it.
     pub fn is_real(&self)
@@ -163,7 +163,7 @@ pub fn are_real(events: &[Event])
 
 impl EventRefusal {
     ghost use Rattle.std.specs.Prelude.{◌≡◌};
-    ghost use Rattle.bpf_model.specs.Event.{event_refusal_number};
+    ghost use Rattle.bpf_model.specs.EventNumbers.{event_refusal_number};
 
     /// Its number, 60 to 67.
     pub fn code(self) -> u8

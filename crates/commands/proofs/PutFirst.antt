@@ -9,7 +9,7 @@ use Rattle.bpf_model.specs.declared.event.Event.{Event}
 use Rattle.bpf_model.specs.declared.event.EventRefusal.{EventRefusal}
 use Rattle.bpf_model.specs.declared.limits.MapShape.{MapShape}
 use Rattle.bpf_model.specs.declared.limits.TheConstants.{KEY_BYTES, VALUE_BYTES}
-use Rattle.bpf_model.specs.MapState.{AreShapes}
+use Rattle.bpf_model.specs.Shapes.{AreShapes}
 use Rattle.bpf_model.specs.View.{MapView}
 use Rattle.maps.specs.Registry.{RegistryView}
 use Rattle.commands.specs.declared.request.MapElement.{MapElement}

@@ -4,7 +4,7 @@ use Rattle.std.proofs.lemmas.List.Elements.{All-map}
 use Rattle.bpf_model.specs.declared.event.Event.{Event}
 use Rattle.bpf_model.specs.declared.event.EventRefusal.{EventRefusal}
 use Rattle.bpf_model.specs.declared.insn.Insn.{Insn}
-use Rattle.bpf_model.specs.Event.{event_refusal_number}
+use Rattle.bpf_model.specs.EventNumbers.{event_refusal_number}
 use Rattle.bpf_model.specs.View.{WorldView, shapes_of_maps}
 use Rattle.maps.specs.Registry.{RegistryView}
 use Rattle.program_graph.specs.GraphFlaws.{HasGoodGraph}

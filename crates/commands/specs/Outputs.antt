@@ -3,7 +3,7 @@ use Rattle.std.specs.Prelude.{◌≡◌, ◌≢◌, ℕ, List, ◌++◌, length,
 use Rattle.std.specs.Fmt.{decimal}
 use Rattle.std.specs.Io.KnownBytes.{Appends}
 use Rattle.bpf_model.specs.declared.insn.Insn.{Insn}
-use Rattle.bpf_model.specs.Spelling.{slot_total}
+use Rattle.bpf_model.specs.Places.{slot_total}
 use Rattle.program_files.specs.declared.verdict.Verdict.{Verdict}
 use Rattle.program_files.specs.declared.verdict.TheConstants.{MEMORY}
 use Rattle.program_files.specs.Checks.{IsVerifiedFile, IsTextOf, IsDecodeRefusal, IsCheckedRefusal}

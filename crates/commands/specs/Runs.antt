@@ -10,7 +10,8 @@ use Rattle.bpf_model.specs.declared.event.Event.TheVariants.{Update}
 use Rattle.bpf_model.specs.declared.event.EventRefusal.{EventRefusal}
 use Rattle.bpf_model.specs.declared.insn.Insn.{Insn}
 use Rattle.bpf_model.specs.declared.limits.MapShape.{MapShape}
-use Rattle.bpf_model.specs.Event.{event_refusal_number, update_refusal}
+use Rattle.bpf_model.specs.EventNumbers.{event_refusal_number}
+use Rattle.bpf_model.specs.Event.{update_refusal}
 use Rattle.bpf_model.specs.View.{MapView, WorldView, shapes_of_maps}
 use Rattle.maps.specs.Registry.{RegistryView}
 use Rattle.script_lines.specs.declared.reply.Reply.{Reply}

@@ -1,7 +1,7 @@
 //! Elements that are put into a file's maps.
 ghost use Rattle.std.specs.Prelude.{◌≡◌, ◌⊎◌, map, None, Some, IfOk, IfErr};
 ghost use Rattle.bpf_model.specs.declared.event.EventRefusal.{EventRefusal as RefusalOf};
-ghost use Rattle.bpf_model.specs.Event.{event_refusal_number};
+ghost use Rattle.bpf_model.specs.EventNumbers.{event_refusal_number};
 ghost use Rattle.program_files.specs.declared.verdict.TheConstants.{MEMORY};
 ghost use Rattle.commands.specs.Outputs.{IsPlainVerdict};
 ghost use Rattle.commands.specs.Runs.{element_refusal, put_event, AllFit, HasBadElement};

@@ -4,7 +4,7 @@ use Rattle.std.proofs.lemmas.Option.{none-some, same_Some}
 use Rattle.bpf_model.specs.declared.event.Event.{Event}
 use Rattle.bpf_model.specs.declared.event.Event.TheVariants.{Step}
 use Rattle.bpf_model.specs.declared.event.Answer.{Answer}
-use Rattle.bpf_model.specs.Event.{IsReal, AreReal}
+use Rattle.bpf_model.specs.Real.{IsReal, AreReal}
 use Rattle.bpf_model.specs.View.{WorldView}
 use Rattle.world.proofs.Answering.{AllReact, all_scheduled}
 use Rattle.world_laws.specs.Reacting.{full_reaction, full_reactions}

@@ -7,7 +7,7 @@ use Rattle.bpf_model.specs.declared.event.Answer.{Answer}
 use Rattle.bpf_model.specs.declared.event.Answer.TheVariants as answers
 use Rattle.bpf_model.specs.declared.event.EventRefusal.{EventRefusal}
 use Rattle.bpf_model.specs.declared.event.EventRefusal.TheVariants.{NoProgram, BadContext}
-use Rattle.bpf_model.specs.Event.{event_refusal_number}
+use Rattle.bpf_model.specs.EventNumbers.{event_refusal_number}
 use Rattle.bpf_model.specs.Machine.{Loaded}
 use Rattle.bpf_model.specs.View.{MapView, WorldView}
 use Rattle.world_laws.specs.Reacting.{full_reaction, full_reactions}

@@ -11,7 +11,7 @@ use Rattle.bpf_model.specs.declared.opcode.Size.TheVariants.{Word64}
 use Rattle.bpf_model.specs.declared.insn.AluOp.TheVariants.{Add, Sub, Move}
 use Rattle.bpf_model.specs.Arithmetic.{signed, word, immediate}
 use Rattle.bpf_model.specs.Operand.{operand_value, computed}
-use Rattle.bpf_model.specs.Near.{IsNear}
+use Rattle.model_laws.specs.Near.{IsNear}
 use Rattle.bpf_model.specs.Step.{State}
 use Rattle.scalar_domain.specs.declared.scalar.Scalar.{Scalar}
 use Rattle.scalar_domain.specs.Scalar.{Holds, IsConstant}

@@ -1,6 +1,6 @@
 //! References that are moved by a number.
 ghost use Rattle.std.specs.Prelude.{◌≡◌, ℕ, ◌+◌, ◌<◌, ◌≤◌, ◌^◌, ℤ, pos, ◌+ℤ◌, IfOk, OnOk, IsOk, Ok};
-ghost use Rattle.bpf_model.specs.Near.{IsNearOffset};
+ghost use Rattle.model_laws.specs.Near.{IsNearOffset};
 ghost use Rattle.scalar_domain.specs.Scalar.{Holds, IsConstant};
 ghost use Rattle.typed_runs.specs.Describes.{HasOffset};
 ghost use Rattle.effects.specs.Computes.{MovesOffsets, IsNearStep, signed_move, shifted_word};

@@ -23,12 +23,12 @@ use Rattle.bpf_model.specs.declared.opcode.Width.{Width}
 use Rattle.bpf_model.specs.Access.{byte_count, number_at, region_offset, unsigned_width}
 use Rattle.bpf_model.specs.Call.{helper_of, kernel_function_of}
 use Rattle.bpf_model.specs.Element.{accessible, is_reclaimed}
-use Rattle.bpf_model.specs.Event.{AreBytes}
+use Rattle.bpf_model.specs.Real.{AreBytes}
 use Rattle.bpf_model.specs.Machine.{Loaded, Run, open_sections}
 use Rattle.bpf_model.specs.MachineStep.{InsnStep}
 use Rattle.model_laws.specs.ByKind.{StepsByKind, element_load}
 use Rattle.bpf_model.specs.Element.{loaded_from}
-use Rattle.bpf_model.specs.MapState.{AreShapes}
+use Rattle.bpf_model.specs.Shapes.{AreShapes}
 use Rattle.bpf_model.specs.MapState as map_state
 use Rattle.bpf_model.specs.Schedule.{Schedule}
 use Rattle.bpf_model.specs.Step.{insn_at}

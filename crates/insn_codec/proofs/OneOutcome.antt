@@ -7,7 +7,8 @@ use Rattle.std.proofs.lemmas.Option.{same_Some}
 use Rattle.bpf_model.specs.declared.limits.TheConstants.{MAX_SLOTS}
 use Rattle.bpf_model.specs.declared.opcode.Opcode.{Opcode}
 use Rattle.bpf_model.specs.declared.insn.Insn.{Insn}
-use Rattle.bpf_model.specs.Spelling.{FitsInsn, IsProgram, spelling, text, slot_at, next_slot_at, slot_count, slot_total, opcode_of}
+use Rattle.bpf_model.specs.Spelling.{FitsInsn, IsProgram, spelling, text, slot_at, next_slot_at, opcode_of}
+use Rattle.bpf_model.specs.Places.{slot_count, slot_total}
 use Rattle.insn_codec.specs.declared.fault.DecodeFault.{DecodeFault}
 use Rattle.insn_codec.specs.declared.fault.DecodeFault.TheVariants as faults
 use Rattle.insn_codec.specs.declared.flaw.InsnFlaw.{InsnFlaw}
@@ -17,7 +18,7 @@ use Rattle.insn_codec.proofs.InsnLaws.{opcode_is, included, no_flaw, same}
 use Rattle.insn_codec.proofs.TextLaws.{Again, again}
 use Rattle.insn_codec.proofs.DecodeLoop.{total_cons, length_text}
 use Rattle.insn_codec.proofs.Injective.{injective}
-use Rattle.bpf_model.specs.Places.{slot_count_some}
+use Rattle.bpf_model.proofs.Places.{slot_count_some}
 
 -- what two instructions that begin one input are
 one_first : (bytes x y : List ℕ) (i j : Insn) → FitsInsn i → FitsInsn j → bytes ≡ spelling i ++ x → bytes ≡ spelling j ++ y → (i ≡ j) × (x ≡ y)

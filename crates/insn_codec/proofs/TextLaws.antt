@@ -20,7 +20,8 @@ use Rattle.bpf_model.specs.declared.insn.CallKind.TheVariants.{Helper, Kernel}
 use Rattle.bpf_model.specs.declared.insn.Insn.{Insn}
 use Rattle.bpf_model.specs.declared.insn.Insn.TheVariants.{Alu, Unary, LoadNumber, LoadMap, Jump, JumpLong, JumpIf, Call, Exit, Load, LoadSigned, Store}
 use Rattle.bpf_model.specs.Opcode.{opcode_byte}
-use Rattle.bpf_model.specs.Spelling.{slot_bytes, slot_at, next_slot_at, FitsSlot, FitsOperand, FitsInsn, spelling, slots_of, slot_count, first_slot, tail_slot, opcode_of, alu_offset, operand_src, operand_imm, extension_bits, swap_bits, call_source}
+use Rattle.bpf_model.specs.Spelling.{slot_bytes, slot_at, next_slot_at, FitsSlot, FitsOperand, FitsInsn, spelling, slots_of, first_slot, tail_slot, opcode_of, alu_offset, operand_src, operand_imm, extension_bits, swap_bits, call_source}
+use Rattle.bpf_model.specs.Places.{slot_count}
 use Rattle.std.proofs.lemmas.Bool.{cases_lt, lt-ltb, le-ltb}
 use Rattle.std.proofs.lemmas.List.{drop-drop, length-append, length-drop}
 use Rattle.insn_codec.proofs.SlotLaws.{IsBytes, IsBytes-drop, slot_again, slot_at-slot_bytes}

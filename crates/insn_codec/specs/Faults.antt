@@ -18,7 +18,8 @@ use Rattle.bpf_model.specs.declared.limits.TheConstants.{MAX_SLOTS}
 use Rattle.bpf_model.specs.Opcode.{opcode_byte}
 use Rattle.std.specs.List.{AllByRecursion}
 use Rattle.bpf_model.specs.declared.insn.Insn.{Insn}
-use Rattle.bpf_model.specs.Spelling.{slot_at, next_slot_at, FitsInsn, text, slot_total}
+use Rattle.bpf_model.specs.Spelling.{slot_at, next_slot_at, FitsInsn, text}
+use Rattle.bpf_model.specs.Places.{slot_total}
 use Rattle.insn_codec.specs.declared.fault.DecodeFault.{DecodeFault}
 use Rattle.insn_codec.specs.declared.fault.DecodeFault.TheVariants as faults
 use Rattle.insn_codec.specs.declared.flaw.InsnFlaw.{InsnFlaw}

@@ -2,7 +2,8 @@
 ghost use Rattle.std.specs.Prelude.{◌≡◌, ℕ, ◌%◌, ◌≤◌, ◌<◌, ◌⊎◌, List, ◌++◌, length, IfOk, IfErr, IsOk, Ok, Err, MatchResult};
 ghost use Rattle.std.specs.List.{AllByRecursion};
 ghost use Rattle.bpf_model.specs.declared.insn.Insn.{Insn};
-ghost use Rattle.bpf_model.specs.Spelling.{FitsInsn, spelling, text, starts_from, IsProgram};
+ghost use Rattle.bpf_model.specs.Spelling.{FitsInsn, spelling, text, IsProgram};
+ghost use Rattle.bpf_model.specs.Places.{starts_from};
 ghost use Rattle.insn_codec.specs.Faults.{IsInsnFlawAt, IsDecodeFault, IsInsnDecodeFault};
 ghost use Rattle.insn_codec.specs.declared.fault.DecodeFault.TheVariants.{Memory};
 

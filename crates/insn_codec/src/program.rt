@@ -2,7 +2,7 @@
 
 ghost use Rattle.std.specs.Prelude.{◌≡◌, ◌≤◌, IfOk};
 ghost use Rattle.bpf_model.specs.declared.limits.TheConstants.{MAX_SLOTS};
-ghost use Rattle.bpf_model.specs.Spelling.{slot_total, starts_from as starts_from_slot};
+ghost use Rattle.bpf_model.specs.Places.{slot_total, starts_from as starts_from_slot};
 
 use bpf_model::Insn;
 use std::alloc::{AllocError, Global};
@@ -19,7 +19,8 @@ pub struct Program {
 impl Model for Program {
     ghost use Rattle.std.specs.Prelude.{List, ◌≡◌};
     ghost use Rattle.bpf_model.specs.declared.insn.Insn.{Insn};
-    ghost use Rattle.bpf_model.specs.Spelling.{IsProgram, starts_from, slot_total};
+    ghost use Rattle.bpf_model.specs.Spelling.{IsProgram};
+    ghost use Rattle.bpf_model.specs.Places.{starts_from, slot_total};
 
     ghost Value = { List Insn };
 
@@ -48,7 +49,8 @@ fn starts_of(alloc: Global, instructions: &[Insn]) -> Result<(Vec<usize>, usize)
 impl Program {
     ghost use Rattle.std.specs.Prelude.{◌≡◌, ◌<◌, ◌≤◌, ◌==◌, length, slice_index, IfOk};
     ghost use Rattle.bpf_model.specs.declared.limits.TheConstants.{MAX_SLOTS};
-    ghost use Rattle.bpf_model.specs.Spelling.{IsProgram, starts_from, slot_total};
+    ghost use Rattle.bpf_model.specs.Spelling.{IsProgram};
+    ghost use Rattle.bpf_model.specs.Places.{starts_from, slot_total};
 
     /// The program of these parts.
     pub(crate) fn from_parts(instructions: Vec<Insn>, starts: Vec<usize>, slots: usize) -> Program

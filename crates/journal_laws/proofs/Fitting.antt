@@ -14,7 +14,8 @@ use Rattle.bpf_model.specs.MapState.{Store}
 use Rattle.bpf_model.specs.Machine.{Run, Machine, open_sections}
 use Rattle.bpf_model.specs.MachineStep.{OutcomeStep}
 use Rattle.model_laws.specs.ByKind.{StepsByKind}
-use Rattle.bpf_model.specs.Event.{PerformsEvent, Answers, DoesEvent, IsReal, refusal}
+use Rattle.bpf_model.specs.Event.{PerformsEvent, Answers, DoesEvent, refusal}
+use Rattle.bpf_model.specs.Real.{IsReal}
 use Rattle.bpf_model.specs.View.{WorldView}
 use Rattle.world_laws.specs.Reacting.{full_reaction}
 use Rattle.world_laws.proofs.Worlds.{simulates}

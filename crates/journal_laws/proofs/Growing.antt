@@ -4,7 +4,7 @@ use Rattle.std.specs.Prelude.{not, count_by}
 use Rattle.std.proofs.lemmas.Option.{none-some, same_Some}
 use Rattle.bpf_model.specs.declared.event.Event.{Event}
 use Rattle.bpf_model.specs.Element.{Element, Life, Linked, Unlinked, Reclaimed, is_linked, is_reclaimed}
-use Rattle.bpf_model.specs.Event.{IsReal}
+use Rattle.bpf_model.specs.Real.{IsReal}
 use Rattle.bpf_model.specs.View.{WorldView}
 use Rattle.model_laws.specs.Growth.{IsLaterLife, IsLaterElement, ElementsGrow}
 use Rattle.model_laws.proofs.Growing.{only-reclaimed}

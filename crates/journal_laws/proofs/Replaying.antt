@@ -6,10 +6,11 @@ use Rattle.std.proofs.lemmas.Option.{none-some}
 use Rattle.bpf_model.specs.declared.event.Event.{Event}
 use Rattle.bpf_model.specs.declared.event.Answer.{Answer}
 use Rattle.bpf_model.specs.Element.{Element}
-use Rattle.bpf_model.specs.Event.{IsReal, AreReal}
+use Rattle.bpf_model.specs.Real.{IsReal, AreReal}
 use Rattle.bpf_model.specs.Drain.{AreScheduledAnswers}
 use Rattle.bpf_model.specs.Headline.{AreMachineAnswers, AreNeverStuck, AllExitInTime, AreReclaimedLate}
-use Rattle.bpf_model.specs.History.{HasHistoryTo, IsHistory, last_of}
+use Rattle.bpf_model.specs.Replay.{HasHistoryTo}
+use Rattle.bpf_model.specs.History.{IsHistory, last_of}
 use Rattle.bpf_model.specs.Machine.{Loaded, Machine, Run, run_at}
 use Rattle.bpf_model.specs.Refines.{Tracks, TracksSchedule, RunSlotRefines}
 use Rattle.bpf_model.specs.Replay.{HasNoRunsOnMachine, ReplaysOnMachine, answers_of, events_of}

@@ -3,7 +3,7 @@
 -- to.
 use Rattle.std.specs.Prelude.{◌≡◌, List}
 use Rattle.bpf_model.specs.declared.entry.Entry.{Entry}
-use Rattle.bpf_model.specs.Event.{AreReal}
+use Rattle.bpf_model.specs.Real.{AreReal}
 use Rattle.bpf_model.specs.Machine.{AreFree}
 use Rattle.bpf_model.specs.Replay.{answers_of, events_of}
 use Rattle.bpf_model.specs.View.{WorldView}

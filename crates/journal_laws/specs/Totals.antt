@@ -5,7 +5,8 @@ use Rattle.std.specs.List.{filter, range_with_len, sum_by}
 use Rattle.bpf_model.specs.declared.event.Answer.{Answer}
 use Rattle.bpf_model.specs.declared.event.Answer.TheVariants.{Moved, Exited}
 use Rattle.bpf_model.specs.declared.stat.Stat.{Stat}
-use Rattle.bpf_model.specs.Element.{is_linked, is_reclaimed, is_unlinked}
+use Rattle.bpf_model.specs.Element.{is_linked, is_reclaimed}
+use Rattle.bpf_model.specs.Schedule.{is_unlinked}
 use Rattle.bpf_model.specs.Machine.{Machine, open_sections}
 use Rattle.bpf_model.specs.View.{WorldView}
 use Rattle.maps.specs.Counting.{unlinked_in}

@@ -6,7 +6,7 @@
 ghost use Rattle.std.specs.Prelude.{◌≡◌, ◌≢◌, ◌≤◌, ◌+◌, ◌++◌, ◌∷◌, [], ℕ, List};
 ghost use Rattle.std.specs.Prelude.{if◌then◌else◌, length};
 ghost use Rattle.bpf_model.specs.declared.event.Event.{Event};
-ghost use Rattle.bpf_model.specs.Event.{IsReal, AreReal};
+ghost use Rattle.bpf_model.specs.Real.{IsReal, AreReal};
 ghost use Rattle.bpf_model.specs.Machine.{Machine};
 ghost use Rattle.bpf_model.specs.Drain.{AreScheduledAnswers};
 ghost use Rattle.bpf_model.specs.Headline.{AreMachineAnswers, AreNeverStuck, AllExitInTime};

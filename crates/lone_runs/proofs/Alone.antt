@@ -14,7 +14,7 @@ use Rattle.bpf_model.specs.declared.value.Value.TheVariants.{Nothing, Number, Po
 use Rattle.bpf_model.specs.declared.value.Reference.TheVariants.{Ctx, Frame, MapRef, Elem}
 use Rattle.bpf_model.specs.Access.{byte_count, unsigned_width}
 use Rattle.bpf_model.specs.Call.{helper_of, kernel_function_of}
-use Rattle.bpf_model.specs.Holds.{HoldsState, HoldsValue}
+use Rattle.model_laws.specs.Holds.{HoldsState, HoldsValue}
 use Rattle.bpf_model.specs.Operand.{operand_value}
 use Rattle.bpf_model.specs.Request.{AnyNumber, Argument, ArgumentKind, KeyOfMap, MapArgument, MapOfProgram, Request, ValueOfMap, argument_of, arguments_of, asks, load_request, named_map, section_request, signature_of, store_request, CallHelper}
 use Rattle.bpf_model.specs.Step.{State}

@@ -17,7 +17,8 @@ use Rattle.bpf_model.specs.Exit.{ExitsFrom, ExitsWith, exits_later, exits_now}
 use Rattle.bpf_model.specs.Machine.{Loaded, Run, environment, exits as exits_run, fresh_run, moves as moves_run, section_of}
 use Rattle.bpf_model.specs.MachineStep.{InsnStep, RunStep}
 use Rattle.bpf_model.specs.MapState as map_state
-use Rattle.bpf_model.specs.Places.{StartsAt, start-inside, starts_apart}
+use Rattle.bpf_model.specs.Places.{StartsAt}
+use Rattle.bpf_model.proofs.Places.{start-inside, starts_apart}
 use Rattle.bpf_model.specs.Request.{Request as Asked, ServesRequest, asks as asks_of, bound_shape, section_request as section_asked}
 use Rattle.bpf_model.specs.MachineStep.{StepsAlone, StepsServed}
 use Rattle.bpf_model.specs.Section.{Section}

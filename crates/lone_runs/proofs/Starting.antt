@@ -6,7 +6,7 @@ use Rattle.std.proofs.lemmas.List.{length-replicate}
 use Rattle.std.proofs.lemmas.List.FromFn.{length-range_with_len}
 use Rattle.std.proofs.lemmas.Option.{slice_get_within}
 use Rattle.bpf_model.specs.declared.limits.TheConstants.{FRAME_BYTES, REGISTERS}
-use Rattle.bpf_model.specs.Event.{AreBytes}
+use Rattle.bpf_model.specs.Real.{AreBytes}
 use Rattle.bpf_model.specs.Exit.{ExitsFrom, HasNoMaps}
 use Rattle.bpf_model.specs.Machine.{Run, fresh_run}
 use Rattle.bpf_model.specs.MapState.{new_map}

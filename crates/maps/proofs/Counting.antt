@@ -7,7 +7,8 @@ use Rattle.bpf_model.specs.declared.limits.TheConstants.{MAX_ENTRIES, MAX_SPARE}
 use Rattle.bpf_model.specs.declared.event.Given.{Given}
 use Rattle.bpf_model.specs.declared.event.Given.TheVariants.{Free, Worn}
 use Rattle.bpf_model.specs.declared.limits.MapShape.{MapShape}
-use Rattle.bpf_model.specs.MapState.{IsShape, slots_of_shape}
+use Rattle.bpf_model.specs.Shapes.{IsShape}
+use Rattle.bpf_model.specs.MapState.{slots_of_shape}
 use Rattle.element_arena.specs.State.{times_in}
 use Rattle.element_arena.specs.State as arena
 use Rattle.element_arena.proofs.Counts.{times-append, length_once}

@@ -11,7 +11,7 @@ use Rattle.std.proofs.Math.Nat.{mul-zero}
 use Rattle.element_arena.proofs.Fresh.{times-once, times-below}
 use Rattle.bpf_model.specs.declared.limits.MapKind.TheVariants.{Hash}
 use Rattle.bpf_model.specs.declared.limits.MapShape.{MapShape}
-use Rattle.bpf_model.specs.MapState.{IsShape}
+use Rattle.bpf_model.specs.Shapes.{IsShape}
 use Rattle.std.proofs.lemmas.Option.{none-some}
 use Rattle.std.proofs.lemmas.List.{length-replicate}
 use Rattle.bpf_model.specs.View.{MapView, SlotView, unused_slot, new_view_of, new_map_view, key_in, value_in}

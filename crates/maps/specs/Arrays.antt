@@ -4,7 +4,8 @@ use Rattle.std.specs.Prelude.{◌≡◌, ℕ, ◌*◌, List, [], length, map}
 use Rattle.std.specs.List.{range_with_len}
 use Rattle.bpf_model.specs.declared.limits.MapKind.TheVariants.{Array}
 use Rattle.bpf_model.specs.declared.limits.MapShape.{MapShape}
-use Rattle.bpf_model.specs.MapState.{IsShape, index_key}
+use Rattle.bpf_model.specs.Shapes.{IsShape}
+use Rattle.bpf_model.specs.MapState.{index_key}
 use Rattle.bpf_model.specs.View.{SlotView, MapView, index_below}
 use Rattle.element_arena.specs.Blocks.{block}
 

@@ -7,7 +7,8 @@ use Rattle.bpf_model.specs.declared.call.Errno.TheVariants.{NoMemory}
 use Rattle.bpf_model.specs.declared.event.Given.{Given}
 use Rattle.bpf_model.specs.declared.limits.MapKind.TheVariants.{Hash}
 use Rattle.bpf_model.specs.declared.limits.MapShape.{MapShape}
-use Rattle.bpf_model.specs.MapState.{MapState, IsShape, slots_of_shape}
+use Rattle.bpf_model.specs.MapState.{MapState, slots_of_shape}
+use Rattle.bpf_model.specs.Shapes.{IsShape}
 use Rattle.bpf_model.specs.View.{KeyMap, MapView}
 use Rattle.bpf_model.specs.Refines.{lists_of}
 use Rattle.element_arena.specs.State.{ArenaState, key_at, value_at}

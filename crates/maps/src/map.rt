@@ -4,7 +4,7 @@ ghost use Rattle.std.specs.FinMap as map;
 ghost use Rattle.bpf_model.specs.declared.limits.TheConstants.{VALUE_BYTES, MAX_ENTRIES, MAX_SPARE};
 ghost use Rattle.bpf_model.specs.Access.{byte_count, number_at};
 ghost use Rattle.bpf_model.specs.Access.{with_bytes};
-ghost use Rattle.bpf_model.specs.MapState.{IsShape};
+ghost use Rattle.bpf_model.specs.Shapes.{IsShape};
 ghost use Rattle.bpf_model.specs.View.{new_map_view};
 ghost use Rattle.element_arena.specs.State.{value_at};
 ghost use Rattle.hash_index.specs.Order.{NoneAbove};

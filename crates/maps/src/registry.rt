@@ -1,7 +1,7 @@
 //! The registry of a runtime's maps.
 ghost use Rattle.std.specs.Prelude.{◌≡◌, ℕ, ◌⊎◌, ◌≤◌, ◌<◌, ◌∷◌, ◌++◌, [], length, map, slice_get, Some, None, IfOk, IfErr, IfSome, IfNone, OnOk, OnErr, string_bytes, option_map, option_copied, Ok, Err, bytes_eq, position, false, ◌+◌};
 ghost use Rattle.std.specs.List.{list_any};
-ghost use Rattle.bpf_model.specs.MapState.{IsShape, AreShapes};
+ghost use Rattle.bpf_model.specs.Shapes.{IsShape, AreShapes};
 ghost use Rattle.bpf_model.specs.View.{MapView, new_map_view};
 ghost use Rattle.std.specs.Borrow.{sem};
 ghost use Rattle.bpf_model.specs.declared.limits.TheConstants.{MAX_MAPS};

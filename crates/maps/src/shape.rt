@@ -1,6 +1,6 @@
 //! Shapes of maps.
 ghost use Rattle.std.specs.Prelude.{◌≡◌, ◌↔◌, IsTrue};
-ghost use Rattle.bpf_model.specs.MapState.{IsShape};
+ghost use Rattle.bpf_model.specs.Shapes.{IsShape};
 ghost use Rattle.maps.specs.Registry.{is_shape as is_map_shape, is_of_kind};
 
 use bpf_model::{

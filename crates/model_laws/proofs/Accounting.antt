@@ -26,7 +26,8 @@ use Rattle.bpf_model.specs.declared.value.Value.{Value}
 use Rattle.bpf_model.specs.Call.{helper_of}
 use Rattle.bpf_model.specs.Section.{Section}
 use Rattle.bpf_model.specs.Element.{Element, Linked, is_reclaimed, Unlinked, Reclaimed, unlinked, with_life, with_value, set_to, newborn, overwritten}
-use Rattle.bpf_model.specs.MapState.{MapState, Store, TakesOut, most_births, new_map, with_bag, with_elements, with_given, given_of, returned}
+use Rattle.bpf_model.specs.MapState.{MapState, Store, TakesOut, new_map, with_bag, with_elements, with_given, given_of, returned}
+use Rattle.bpf_model.specs.Shapes.{most_births}
 use Rattle.bpf_model.specs.Helper.{LooksUp, Replaces, Settles, Updates, Removes, Deletes, Writes, RemovesFrom}
 use Rattle.bpf_model.specs.declared.limits.MapKind.{MapKind}
 use Rattle.bpf_model.specs.declared.limits.MapKind.TheVariants.{Hash, Array}
@@ -38,7 +39,8 @@ use Rattle.bpf_model.specs.Schedule.{Schedule, IsScheduledHistory, start_schedul
 use Rattle.bpf_model.specs.Refines.{times, IsReachedSchedule}
 use Rattle.model_laws.specs.Accounted.{kept_count, born_count, IsFull}
 use Rattle.model_laws.proofs.Stores.{Touches, touches-found, touches-acts, shape-given}
-use Rattle.bpf_model.specs.MapState.{IsArrayShape, IsShape, AreShapes, slots_of_shape, new_bag, all_new_elements}
+use Rattle.bpf_model.specs.Shapes.{IsArrayShape, IsShape, AreShapes}
+use Rattle.bpf_model.specs.MapState.{slots_of_shape, new_bag, all_new_elements}
 use Rattle.model_laws.proofs.NewElements.{new_count, new-once, fresh-counts, born-new}
 use Rattle.model_laws.proofs.Counting.{map-back, times-append, times-first, times-other}
 use Rattle.model_laws.proofs.Tallies.{one_of, count-set, sum-set, uses_of, is_kept, of-same, of-other, kept-touched, kept-born, kept-reclaimed, kept-kinds, kept_uses, uses-touched, born-touched, kept-was, kept-is, uses-here, uses-away, uses-born, born-born, uses-reclaimed, born-reclaimed, uses-most}

@@ -18,7 +18,7 @@ use Rattle.bpf_model.specs.declared.value.Reference.TheVariants.{Ctx, Frame, Map
 use Rattle.bpf_model.specs.Value.{◌>>=◌, reference}
 use Rattle.bpf_model.specs.Access.{byte_count, unsigned_width}
 use Rattle.bpf_model.specs.Operand.{operand_value}
-use Rattle.bpf_model.specs.Spelling.{slot_count}
+use Rattle.bpf_model.specs.Places.{slot_count}
 use Rattle.bpf_model.specs.Step.{State, Environment, Outcome, Moves, Exits, after, insn_at}
 use Rattle.bpf_model.specs.Call.{helper_of, kernel_function_of}
 use Rattle.bpf_model.specs.Exit.{names_map, HasNoMaps}
@@ -28,7 +28,7 @@ use Rattle.bpf_model.specs.MapState as map_state
 use Rattle.bpf_model.specs.Machine.{Loaded, Run, environment, fresh_run}
 use Rattle.model_laws.specs.ByKind.{StepsByKind, Acts, AccessesElement, KernelStep, HelperStep, element_load, element_store, bound_map}
 use Rattle.bpf_model.specs.MachineStep.{OutcomeStep, RunStep}
-use Rattle.bpf_model.specs.Holds.{HoldsValue, HoldsState}
+use Rattle.model_laws.specs.Holds.{HoldsValue, HoldsState}
 use Rattle.model_laws.specs.Alone.{IsOwn, SharesNothing}
 use Rattle.model_laws.proofs.Holding.{Closed, HoldsOutcome, holds-entry, holds-after, holds-returns}
 use Rattle.model_laws.proofs.Requests.{by_kind, of_kind}

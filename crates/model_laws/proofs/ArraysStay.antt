@@ -33,7 +33,7 @@ use Rattle.bpf_model.specs.Machine.{Run, Machine, environment, open_sections}
 use Rattle.model_laws.specs.ByKind.{StepsByKind, AccessesElement, Acts, HelperStep, element_store}
 use Rattle.bpf_model.specs.Element.{stored_in}
 use Rattle.bpf_model.specs.Access.{with_bytes}
-use Rattle.bpf_model.specs.Consistent.{StaysLinked}
+use Rattle.model_laws.specs.Consistent.{StaysLinked}
 use Rattle.bpf_model.specs.Event.{PerformsEvent, Answers, DoesEvent, refusal}
 use Rattle.model_laws.proofs.Computations.{first-step}
 use Rattle.model_laws.proofs.Lives.{linked≢unlinked}

@@ -9,7 +9,7 @@ use Rattle.bpf_model.specs.Element.{Element, Life, Linked, Unlinked, Reclaimed, 
 use Rattle.bpf_model.specs.Machine.{Machine, open_sections}
 use Rattle.bpf_model.specs.Event.{DoesEvent}
 use Rattle.bpf_model.specs.History.{IsHistory}
-use Rattle.bpf_model.specs.Consistent.{IsConsistent}
+use Rattle.model_laws.specs.Consistent.{IsConsistent}
 use Rattle.bpf_model.specs.Headline.{IsUnlinkedBetween}
 use Rattle.model_laws.proofs.Stores.{LifeMoves, Stays, Unlinks, Ends, is_reap, does-moves}
 use Rattle.model_laws.proofs.Keeping.{stays_consistent}

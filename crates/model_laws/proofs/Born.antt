@@ -8,11 +8,11 @@ use Rattle.bpf_model.specs.declared.value.Reference.TheVariants.{Ctx, Frame, Map
 use Rattle.bpf_model.specs.declared.value.Cell.{Cell}
 use Rattle.bpf_model.specs.declared.value.Cell.TheVariants.{Unwritten, Byte, Part}
 use Rattle.bpf_model.specs.Step.{State, Environment, Outcome, entry}
-use Rattle.bpf_model.specs.Consistent.{IsBorn, IsBornValue, IsBornCell}
+use Rattle.model_laws.specs.Consistent.{IsBorn, IsBornValue, IsBornCell}
 use Rattle.bpf_model.specs.Element.{Element}
 use Rattle.model_laws.specs.ByKind.{Acts}
 use Rattle.bpf_model.specs.Step.{returns}
-use Rattle.bpf_model.specs.Holds.{HoldsState}
+use Rattle.model_laws.specs.Holds.{HoldsState}
 use Rattle.model_laws.proofs.Holding.{Closed, HoldsOutcome, holds-entry, holds-acts, holds-returns}
 
 -- each register and each cell of a state

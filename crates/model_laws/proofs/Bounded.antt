@@ -8,7 +8,8 @@ use Rattle.std.proofs.lemmas.List.{length-map}
 use Rattle.std.proofs.lemmas.List.Sums.{sum_by-cons}
 use Rattle.bpf_model.specs.declared.limits.MapShape.{MapShape}
 use Rattle.bpf_model.specs.Element.{Element, is_reclaimed}
-use Rattle.bpf_model.specs.MapState.{MapState, most_births}
+use Rattle.bpf_model.specs.MapState.{MapState}
+use Rattle.bpf_model.specs.Shapes.{most_births}
 use Rattle.bpf_model.specs.Schedule.{Schedule}
 use Rattle.bpf_model.specs.View.{shape_of_view as shape, WorldView, shapes_of}
 use Rattle.bpf_model.specs.Refines.{TracksSchedule}

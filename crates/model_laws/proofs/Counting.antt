@@ -7,7 +7,8 @@ use Rattle.std.proofs.lemmas.Bool.{eqb-true, eq-eqb, false_from_ne_true, and_par
 use Rattle.std.proofs.lemmas.Option.{none-some, same_Some}
 use Rattle.std.proofs.lemmas.List.Sums.{sum_by-cons, sum_by-append}
 use Rattle.bpf_model.proofs.Cases.{option_cases, none-at, none-without}
-use Rattle.bpf_model.specs.Element.{Element, is_linked, is_unlinked}
+use Rattle.bpf_model.specs.Element.{Element, is_linked}
+use Rattle.bpf_model.specs.Schedule.{is_unlinked}
 use Rattle.bpf_model.specs.Schedule.{Queues, is_any, still_open, retired_in, unlinked_between, retired, or_first, first_ready, without_first}
 use Rattle.bpf_model.specs.Refines.{times}
 use Rattle.bpf_model.proofs.Lists.{get-set_cases}

@@ -4,7 +4,7 @@ use Rattle.std.specs.Prelude.{◌↔◌}
 use Rattle.bpf_model.specs.declared.event.Event.{Event}
 use Rattle.bpf_model.specs.declared.event.Answer.{Answer}
 use Rattle.bpf_model.specs.Machine.{Machine}
-use Rattle.bpf_model.specs.History.{HasHistoryTo}
+use Rattle.bpf_model.specs.Replay.{HasHistoryTo}
 
 cut : (m new : Machine) (es fs : List Event) (xs ys : List Answer) → length es ≡ length xs → HasHistoryTo m (es ++ fs) (xs ++ ys) new → (mid : Machine) × HasHistoryTo m es xs mid × HasHistoryTo mid fs ys new
 cut m new [] fs [] ys h run = (m, refl, run)

@@ -43,7 +43,7 @@ use Rattle.bpf_model.specs.Request.{found_value}
 use Rattle.bpf_model.specs.Event.{Starts, ReadsElement, PerformsEvent, Answers, refusal}
 use Rattle.bpf_model.specs.Schedule.{Schedule, first_ready, scheduled, TakesFirst, TakesOldest, DoesScheduled, IsScheduledHistory}
 use Rattle.model_laws.specs.Scheduled.{IsScheduled}
-use Rattle.bpf_model.specs.Consistent.{IsSingle}
+use Rattle.model_laws.specs.Consistent.{IsSingle}
 use Rattle.model_laws.proofs.Stores.{touches-found}
 use Rattle.model_laws.proofs.Scheduling.{same-element, stays_scheduled}
 use Rattle.bpf_model.proofs.Lists.{get-append_last, get-set_there, heads, tails}

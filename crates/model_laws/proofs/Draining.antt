@@ -12,10 +12,11 @@ use Rattle.bpf_model.specs.declared.event.Answer.TheVariants as answers
 use Rattle.bpf_model.specs.declared.event.Given.{Given}
 use Rattle.bpf_model.specs.declared.event.ReapedElement.{ReapedElement}
 use Rattle.bpf_model.specs.Section.{Section, AllEnded}
-use Rattle.bpf_model.specs.Element.{Element, Life, Linked, Unlinked, Reclaimed, HasLife, is_linked, is_unlinked, with_life}
+use Rattle.bpf_model.specs.Element.{Element, Life, Linked, Unlinked, Reclaimed, HasLife, is_linked, with_life}
+use Rattle.bpf_model.specs.Schedule.{is_unlinked}
 use Rattle.bpf_model.specs.MapState.{MapState, Store, given_of}
 use Rattle.bpf_model.specs.Reclaim.{Reclaims}
-use Rattle.bpf_model.specs.MapState.{AreShapes}
+use Rattle.bpf_model.specs.Shapes.{AreShapes}
 use Rattle.bpf_model.specs.Machine.{Loaded, Machine, open_sections, with_store}
 use Rattle.bpf_model.specs.Schedule.{Queues, Schedule, open_flags, is_any, retired_in, unlinked_between, turned, advanced, first_ready, reaped, scheduled, TakesFirst, DoesScheduled, IsScheduledHistory, start_schedule}
 use Rattle.bpf_model.specs.Drain.{IsQuietAdvance, Drains, machines}

@@ -25,7 +25,7 @@ use Rattle.bpf_model.specs.Frame.{byte_of, are_parts, found, read, is_within, wi
 use Rattle.bpf_model.specs.Operand.{operand_value, unary_source, moved, of_numbers, sum_of, difference_of, computed, decided}
 use Rattle.bpf_model.specs.Step.{State, Environment, Outcome, Moves, Exits, entry, forward, sets, jumps_to, jumps_by, loaded, load_from, frame_after, stored, store_to, map_value, after}
 use Rattle.bpf_model.specs.Exit.{names_map}
-use Rattle.bpf_model.specs.Holds.{HoldsValue, HoldsCell, HoldsState}
+use Rattle.model_laws.specs.Holds.{HoldsValue, HoldsCell, HoldsState}
 use Rattle.bpf_model.specs.Element.{Element}
 use Rattle.model_laws.specs.ByKind.{AccessesElement, Acts}
 use Rattle.bpf_model.specs.Step.{returns}

@@ -10,10 +10,11 @@ use Rattle.bpf_model.specs.declared.event.Event.{Event}
 use Rattle.bpf_model.specs.declared.event.Answer.{Answer}
 use Rattle.bpf_model.specs.Section.{Section}
 use Rattle.bpf_model.specs.Element.{Element, Life, Linked, Unlinked, IsLinkedAt}
-use Rattle.bpf_model.specs.MapState.{Store, AreShapes, new_map, all_new_elements}
+use Rattle.bpf_model.specs.MapState.{Store, new_map, all_new_elements}
+use Rattle.bpf_model.specs.Shapes.{AreShapes}
 use Rattle.bpf_model.specs.Machine.{Loaded, Run, Machine, open_sections, run_at, start_machine}
 use Rattle.bpf_model.specs.Event.{DoesEvent}
-use Rattle.bpf_model.specs.Consistent.{HasLengths, StaysLinked, IsConsistent, IsSingle, AllBegun}
+use Rattle.model_laws.specs.Consistent.{HasLengths, StaysLinked, IsConsistent, IsSingle, AllBegun}
 use Rattle.model_laws.proofs.Born.{IsBornState, more-value, more-cell, born-entry}
 use Rattle.model_laws.proofs.Moves.{RunsMove, run-before, started-grows, does-move}
 use Rattle.model_laws.proofs.Stores.{LifeMoves, Stays, Unlinks, Ends, Alters, Born, StoreMoves, is_reap, does-moves}

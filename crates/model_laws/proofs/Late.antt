@@ -10,7 +10,7 @@ use Rattle.bpf_model.specs.Element.{Element, Life, Linked, Unlinked, Reclaimed, 
 use Rattle.bpf_model.specs.Machine.{Machine, open_sections}
 use Rattle.bpf_model.specs.Event.{DoesEvent}
 use Rattle.bpf_model.specs.History.{IsHistory}
-use Rattle.bpf_model.specs.Consistent.{IsConsistent, AllBegun}
+use Rattle.model_laws.specs.Consistent.{IsConsistent, AllBegun}
 use Rattle.bpf_model.specs.Headline.{ReclaimedLate}
 use Rattle.model_laws.proofs.Moves.{does-move}
 use Rattle.model_laws.proofs.Stores.{LifeMoves, Stays, Unlinks, Ends, is_reap, does-moves}

@@ -24,7 +24,7 @@ use Rattle.bpf_model.specs.Step.{State, Outcome, Moves, Exits}
 use Rattle.bpf_model.specs.Section.{Section}
 use Rattle.bpf_model.specs.MapState.{Store}
 use Rattle.bpf_model.specs.Helper.{LooksUp}
-use Rattle.bpf_model.specs.Consistent.{IsBornValue}
+use Rattle.model_laws.specs.Consistent.{IsBornValue}
 use Rattle.bpf_model.specs.Machine.{Loaded, Run, Machine, environment, open_sections, moves, exits, locked, unlocked, fresh_run, with_store, run_at}
 use Rattle.bpf_model.specs.MachineStep.{OutcomeStep, InsnStep, StepsRun}
 use Rattle.model_laws.specs.ByKind.{StepsByKind, KernelStep, HelperStep}

@@ -14,7 +14,8 @@ use Rattle.bpf_model.specs.declared.limits.MapKind.{MapKind}
 use Rattle.bpf_model.specs.declared.limits.MapKind.TheVariants.{Hash, Array}
 use Rattle.bpf_model.specs.declared.limits.TheConstants.{MAX_ENTRIES}
 use Rattle.bpf_model.specs.Element.{Element, Linked, is_linked, is_reclaimed, linked_count}
-use Rattle.bpf_model.specs.MapState.{AreShapes, index_key, array_element, new_elements, all_new_elements}
+use Rattle.bpf_model.specs.Shapes.{AreShapes}
+use Rattle.bpf_model.specs.MapState.{index_key, array_element, new_elements, all_new_elements}
 use Rattle.model_laws.specs.Accounted.{kept_count, born_count}
 use Rattle.model_laws.proofs.Tallies.{one_of, count-cons, of_map, of-same, of-other, kept_uses, uses_of, is_kept}
 

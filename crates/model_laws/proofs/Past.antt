@@ -7,7 +7,7 @@ use Rattle.bpf_model.specs.declared.event.Answer.{Answer}
 use Rattle.bpf_model.specs.Section.{Section, Has, AllEnded}
 use Rattle.bpf_model.specs.Machine.{Run, Machine, open_sections, section_of, run_at}
 use Rattle.bpf_model.specs.History.{IsHistory}
-use Rattle.bpf_model.specs.Consistent.{IsConsistent, HasBegun, AllBegun}
+use Rattle.model_laws.specs.Consistent.{IsConsistent, HasBegun, AllBegun}
 use Rattle.model_laws.proofs.Sections.{OpenAt, open_at, has_open}
 use Rattle.model_laws.proofs.Moves.{RunsMove, run-before, started-grows, does-move}
 

@@ -6,7 +6,8 @@ use Rattle.std.proofs.lemmas.Option.{none-some, same_Some}
 use Rattle.bpf_model.proofs.Lists.{get-map}
 use Rattle.bpf_model.proofs.Cases.{flattened}
 use Rattle.bpf_model.specs.Section.{Section, Has, AllEnded}
-use Rattle.bpf_model.specs.Element.{Element, Life, Linked, Unlinked, Reclaimed, is_linked, is_unlinked}
+use Rattle.bpf_model.specs.Element.{Element, Life, Linked, Unlinked, Reclaimed, is_linked}
+use Rattle.bpf_model.specs.Schedule.{is_unlinked}
 use Rattle.bpf_model.specs.MapState.{Store}
 use Rattle.bpf_model.specs.Machine.{Run, open_sections, run_at}
 use Rattle.bpf_model.specs.Schedule.{Queues, Schedule, is_open, open_flags}
@@ -20,7 +21,7 @@ use Rattle.model_laws.proofs.Counting.{newly}
 use Rattle.std.proofs.Math.Nat.{add-zero, zero-add}
 use Rattle.model_laws.proofs.Lives.{linked≢unlinked, reclaimed≢unlinked}
 use Rattle.model_laws.proofs.Tallies.{one_of, one-most}
-use Rattle.bpf_model.specs.Consistent.{AllBegun}
+use Rattle.model_laws.specs.Consistent.{AllBegun}
 
 -- what is queued is an unlinked element of the map
 pub record Queued (es : List Element) (k n : ℕ) : Type 0 where

@@ -12,14 +12,16 @@ use Rattle.bpf_model.specs.declared.event.Answer.{Answer}
 use Rattle.bpf_model.specs.declared.event.Answer.TheVariants as answers
 use Rattle.bpf_model.specs.declared.event.Given.{Given}
 use Rattle.bpf_model.specs.Section.{Section, Has, AllEnded}
-use Rattle.bpf_model.specs.Element.{Element, is_unlinked, Unlinked, Reclaimed, HasLife, with_life}
-use Rattle.bpf_model.specs.MapState.{Store, AreShapes, new_map, all_new_elements}
+use Rattle.bpf_model.specs.Element.{Element, Unlinked, Reclaimed, HasLife, with_life}
+use Rattle.bpf_model.specs.Schedule.{is_unlinked}
+use Rattle.bpf_model.specs.MapState.{Store, new_map, all_new_elements}
+use Rattle.bpf_model.specs.Shapes.{AreShapes}
 use Rattle.model_laws.proofs.NewElements.{new-once}
 use Rattle.bpf_model.specs.Reclaim.{Reclaims}
 use Rattle.bpf_model.specs.Machine.{Loaded, Machine, open_sections, with_store}
 use Rattle.bpf_model.specs.Event.{DoesEvent}
 use Rattle.bpf_model.specs.Schedule.{Queues, Schedule, open_flags, still_open, is_any, retired_in, unlinked_between, retired, turned, advanced, first_ready, without_first, reaped, scheduled, TakesFirst, DoesScheduled, start_schedule, no_queues}
-use Rattle.bpf_model.specs.Consistent.{IsConsistent}
+use Rattle.model_laws.specs.Consistent.{IsConsistent}
 use Rattle.bpf_model.specs.Refines.{times}
 use Rattle.model_laws.specs.Scheduled.{queued_in, Waits, IsScheduled}
 use Rattle.model_laws.proofs.Sections.{OpenAt, open_at}

@@ -15,7 +15,8 @@ use Rattle.bpf_model.specs.declared.limits.TheConstants.{MAX_ENTRIES}
 use Rattle.bpf_model.specs.declared.limits.MapKind.{MapKind}
 use Rattle.bpf_model.specs.declared.limits.MapKind.TheVariants.{Hash, Array}
 use Rattle.bpf_model.specs.Element.{Element, Linked, is_reclaimed, linked_count}
-use Rattle.bpf_model.specs.MapState.{MapState, AreShapes, slots_of_shape, new_bag, new_map, index_key, array_element, all_new_elements}
+use Rattle.bpf_model.specs.MapState.{MapState, slots_of_shape, new_bag, new_map, index_key, array_element, all_new_elements}
+use Rattle.bpf_model.specs.Shapes.{AreShapes}
 use Rattle.bpf_model.specs.Machine.{Loaded}
 use Rattle.bpf_model.specs.Schedule.{Queues, open_flags, start_schedule, no_queues}
 use Rattle.bpf_model.specs.View.{SlotView, MapView, uses_at, unused_slot, index_below, array_slot, new_view_of, new_map_view, start_view}

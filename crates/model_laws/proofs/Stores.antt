@@ -37,7 +37,7 @@ use Rattle.bpf_model.specs.Helper.{LooksUp, Replaces, Settles, Updates, Removes,
 use Rattle.bpf_model.specs.declared.limits.MapKind.{MapKind}
 use Rattle.bpf_model.specs.declared.limits.MapKind.TheVariants.{Hash, Array}
 use Rattle.bpf_model.specs.Reclaim.{Reclaims}
-use Rattle.bpf_model.specs.Consistent.{HasLengths, IsSingle}
+use Rattle.model_laws.specs.Consistent.{HasLengths, IsSingle}
 use Rattle.bpf_model.specs.Machine.{Run, Machine, environment, open_sections}
 use Rattle.model_laws.specs.ByKind.{StepsByKind, AccessesElement, Acts, HelperStep, element_store, key_argument, value_argument}
 use Rattle.bpf_model.specs.Element.{stored_in}

@@ -7,7 +7,8 @@ use Rattle.std.proofs.lemmas.Bool.{eq-eqb, eqb-true, false_from_ne_true, falseâ‰
 use Rattle.std.proofs.lemmas.Option.{none-some, same_Some}
 use Rattle.std.proofs.lemmas.List.Sums.{sum_by-cons, sum_by_push}
 use Rattle.bpf_model.specs.Section.{Section}
-use Rattle.bpf_model.specs.Element.{Element, Life, Linked, Unlinked, Reclaimed, is_linked, is_unlinked, is_reclaimed, linked_count, with_life}
+use Rattle.bpf_model.specs.Element.{Element, Life, Linked, Unlinked, Reclaimed, is_linked, is_reclaimed, linked_count, with_life}
+use Rattle.bpf_model.specs.Schedule.{is_unlinked}
 use Rattle.model_laws.specs.Accounted.{unlinked_count, kept_count, born_count}
 use Rattle.model_laws.proofs.Stores.{LifeMoves, Stays, Unlinks, Ends, Alters, Touches}
 

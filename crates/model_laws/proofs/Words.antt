@@ -6,7 +6,7 @@ use Rattle.bpf_model.specs.declared.value.Reference.{Reference}
 use Rattle.bpf_model.specs.declared.value.Reference.TheVariants.{Ctx, Frame, MapRef, Elem}
 use Rattle.bpf_model.specs.Element.{Element}
 use Rattle.bpf_model.specs.declared.limits.TheConstants.{MAX_MAPS}
-use Rattle.bpf_model.specs.Near.{IsNearOffset}
+use Rattle.model_laws.specs.Near.{IsNearOffset}
 use Rattle.bpf_model.specs.Word.{ctx_base, frame_base, map_base, slot_base, most_map_slots, IsReferenceWord, element_bases}
 use Rattle.model_laws.specs.Locations.{Location, InContext, InFrame, AtMap, InSlot, IsNearLocation, location_word, named_location}
 

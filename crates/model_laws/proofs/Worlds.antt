@@ -9,7 +9,7 @@ use Rattle.bpf_model.specs.Schedule.{Schedule, IsScheduledHistory}
 use Rattle.bpf_model.specs.Drain.{AnswersAsScheduled, AreScheduledAnswers, machines}
 use Rattle.bpf_model.specs.View.{WorldView}
 use Rattle.bpf_model.specs.Refines.{TracksSchedule, Tracks}
-use Rattle.bpf_model.specs.Consistent.{IsConsistent}
+use Rattle.model_laws.specs.Consistent.{IsConsistent}
 use Rattle.model_laws.proofs.Late.{reclaimed_late}
 use Rattle.model_laws.proofs.Reached.{tracked_is_scheduled}
 

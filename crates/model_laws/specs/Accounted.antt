@@ -1,6 +1,7 @@
 -- What takes the map slots of a map.
 use Rattle.std.specs.Prelude.{◌≡◌, ℕ, ◌+◌, not, ◌==◌, ◌&&◌, List, count_by}
-use Rattle.bpf_model.specs.Element.{Element, is_unlinked, is_reclaimed, linked_count}
+use Rattle.bpf_model.specs.Element.{Element, is_reclaimed, linked_count}
+use Rattle.bpf_model.specs.Schedule.{is_unlinked}
 use Rattle.bpf_model.specs.MapState.{MapState, slots_of_shape}
 
 -- how many elements of the map are unlinked and wait for reclamation

@@ -1,7 +1,7 @@
 -- Runs that have no reference to a map or to an element of one.
 use Rattle.bpf_model.specs.declared.value.Reference.{Reference}
 use Rattle.bpf_model.specs.declared.value.Reference.TheVariants.{Ctx, Frame, MapRef, Elem}
-use Rattle.bpf_model.specs.Holds.{HoldsState}
+use Rattle.model_laws.specs.Holds.{HoldsState}
 use Rattle.bpf_model.specs.Exit.{HasNoMaps}
 use Rattle.bpf_model.specs.Machine.{Run}
 

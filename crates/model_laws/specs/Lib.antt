@@ -1,8 +1,11 @@
-pub mod ByKind
-pub mod Growth
-pub mod Scheduled
-pub mod Locations
-pub mod Steps
 pub mod Accounted
 pub mod Alone
+pub mod ByKind
+pub mod Consistent
 pub mod Example
+pub mod Growth
+pub mod Holds
+pub mod Locations
+pub mod Near
+pub mod Scheduled
+pub mod Steps

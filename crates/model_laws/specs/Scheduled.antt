@@ -4,12 +4,13 @@ use Rattle.std.specs.Prelude.{◌≡◌, ℕ, ◌+◌, ◌<◌, ◌==◌, ◌&&�
 use Rattle.std.specs.Prelude.{slice_get, if◌then◌else◌}
 use Rattle.bpf_model.specs.declared.event.Given.{Given}
 use Rattle.bpf_model.specs.Section.{Section, Has, AllEnded}
-use Rattle.bpf_model.specs.Element.{Element, Unlinked, is_unlinked}
+use Rattle.bpf_model.specs.Element.{Element, Unlinked}
+use Rattle.bpf_model.specs.Schedule.{is_unlinked}
 use Rattle.bpf_model.specs.MapState.{Store}
 use Rattle.bpf_model.specs.Reclaim.{Reclaims}
 use Rattle.bpf_model.specs.Machine.{Run, Machine, open_sections, run_at, section_of}
 use Rattle.bpf_model.specs.Schedule.{Queues, Schedule, open_flags}
-use Rattle.bpf_model.specs.Consistent.{IsConsistent}
+use Rattle.model_laws.specs.Consistent.{IsConsistent}
 use Rattle.bpf_model.specs.Refines.{times}
 
 -- how often a birth with this element stands in the lists of map k: once, when the element is

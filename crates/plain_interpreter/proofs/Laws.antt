@@ -17,8 +17,8 @@ use Rattle.bpf_model.specs.declared.value.Reference.TheVariants.{Ctx, Frame, Map
 use Rattle.bpf_model.specs.Operand.{moved, sum_of, difference_of}
 use Rattle.bpf_model.specs.Access.{region_offset}
 use Rattle.bpf_model.specs.Arithmetic.{signed}
-use Rattle.bpf_model.specs.Places.{start-insn_at, starts_inside, slot_count_some}
-use Rattle.bpf_model.specs.Spelling.{slot_total}
+use Rattle.bpf_model.proofs.Places.{start-insn_at, starts_inside, slot_count_some}
+use Rattle.bpf_model.specs.Places.{slot_total}
 use Rattle.bpf_model.specs.Step.{State, Outcome, Moves, insn_at, entry_value, sets, put, stored, frame_after}
 use Rattle.bpf_model.specs.Value.{◌>>=◌, number}
 use Rattle.plain_interpreter.specs.declared.plain_run.PlainRun.{PlainRun}

@@ -3,7 +3,7 @@ ghost use Rattle.std.specs.Prelude.{◌≡◌, ℕ, ◌+◌, ◌^◌, ◌<◌, �
 ghost use Rattle.bpf_model.specs.declared.insn.Insn.{Insn};
 ghost use Rattle.bpf_model.specs.declared.limits.TheConstants.{CTX_BYTES, MAX_SLOTS};
 ghost use Rattle.bpf_model.specs.Access.{byte_count};
-ghost use Rattle.bpf_model.specs.Spelling.{slot_total};
+ghost use Rattle.bpf_model.specs.Places.{slot_total};
 ghost use Rattle.bpf_model.specs.Step.{Environment, sets, forward, jumps_by, load_from, store_to, stored, insn_at as insn_of};
 ghost use Rattle.bpf_model.specs.Step.{returns};
 ghost use Rattle.plain_interpreter.specs.declared.plain_run.TheConstants.{MAX_PLACE};

@@ -1,7 +1,7 @@
 //! Whole runs.
 ghost use Rattle.std.specs.Prelude.{◌≤◌, length};
 ghost use Rattle.bpf_model.specs.declared.limits.TheConstants.{CTX_BYTES, MAX_SLOTS};
-ghost use Rattle.bpf_model.specs.Spelling.{slot_total};
+ghost use Rattle.bpf_model.specs.Places.{slot_total};
 ghost use Rattle.plain_interpreter.specs.Plain.{plain_state_of};
 ghost use Rattle.bpf_model.specs.Step.{environment_of};
 ghost use Rattle.plain_interpreter.specs.Runs.{EndsAs};

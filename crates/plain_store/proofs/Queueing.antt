@@ -3,7 +3,8 @@ use Rattle.std.proofs.Common.{◌≡◌, ℕ, zero, suc, ◌+◌, ◌<◌, ◌�
 use Rattle.std.specs.Prelude.{slice_get, slice_set, drop, take, is_some, ◌&&◌, ◌==◌, if◌then◌else◌}
 use Rattle.std.proofs.lemmas.List.{append_assoc, append-nil, drop_all, map-set}
 use Rattle.std.proofs.lemmas.Bool.{eq-eqb, ne_eqb}
-use Rattle.bpf_model.specs.Element.{Element, is_linked, is_unlinked}
+use Rattle.bpf_model.specs.Element.{Element, is_linked}
+use Rattle.bpf_model.specs.Schedule.{is_unlinked}
 use Rattle.bpf_model.specs.Schedule.{Queues, turned, retired, retired_in, unlinked_between, first_ready, or_first, without_first}
 use Rattle.bpf_model.specs.Schedule as schedule
 use Rattle.plain_store.specs.State.{queues_of}

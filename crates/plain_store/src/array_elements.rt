@@ -2,7 +2,8 @@
 ghost use Rattle.std.specs.Prelude.{◌≡◌, ◌≤◌, ◌<◌, ◌^◌, ◌++◌, IfOk, IfErr, OnOk, OnErr, replicate};
 ghost use Rattle.bpf_model.specs.declared.limits.MapKind.TheVariants.{Array};
 ghost use Rattle.bpf_model.specs.declared.limits.TheConstants.{VALUE_BYTES};
-ghost use Rattle.bpf_model.specs.MapState.{IsShape, index_key as index_key_of, array_element as array_element_of, new_elements};
+ghost use Rattle.bpf_model.specs.Shapes.{IsShape};
+ghost use Rattle.bpf_model.specs.MapState.{index_key as index_key_of, array_element as array_element_of, new_elements};
 ghost use Rattle.plain_store.specs.declared.fault.ModelFault.TheVariants.{Memory};
 ghost use Rattle.plain_store.specs.State.{element_of, elements_of};
 

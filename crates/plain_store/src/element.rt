@@ -1,7 +1,8 @@
 //! Elements, and what becomes of them.
 ghost use Rattle.std.specs.Prelude.{◌≡◌, ◌+◌, ◌+ℤ◌, false, ◌≤◌, ◌*◌, ◌&&◌, ◌==◌, ◌↔◌, IsTrue, length};
 ghost use Rattle.bpf_model.specs.declared.limits.TheConstants.{FRAME_BYTES};
-ghost use Rattle.bpf_model.specs.Element.{is_linked, is_unlinked, is_reclaimed};
+ghost use Rattle.bpf_model.specs.Element.{is_linked, is_reclaimed};
+ghost use Rattle.bpf_model.specs.Schedule.{is_unlinked};
 ghost use Rattle.bpf_model.specs.Section.{Has, AllEnded};
 ghost use Rattle.bpf_model.specs.Access.{byte_count};
 ghost use Rattle.bpf_model.specs.Access.{with_bytes};

@@ -1,6 +1,7 @@
 //! The lists of a map's unlinked elements, which wait to be reclaimed.
 ghost use Rattle.std.specs.Prelude.{◌≡◌, ◌∷◌, [], ◌++◌, ◌&&◌, ◌==◌, if◌then◌else◌, slice_get, drop, OnOk, List, map};
-ghost use Rattle.bpf_model.specs.Element.{Element as ModelElement, is_linked as is_linked_of, is_unlinked as is_unlinked_of};
+ghost use Rattle.bpf_model.specs.Element.{Element as ModelElement, is_linked as is_linked_of};
+ghost use Rattle.bpf_model.specs.Schedule.{is_unlinked as is_unlinked_of};
 ghost use Rattle.bpf_model.specs.Schedule.{turned, retired, retired_in, first_ready as first_ready_of, without_first};
 ghost use Rattle.plain_store.specs.Retiring.{linked_map};
 ghost use Rattle.plain_store.specs.State.{element_of, elements_of, queues_of};

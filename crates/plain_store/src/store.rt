@@ -2,7 +2,8 @@
 ghost use Rattle.std.specs.Prelude.{◌≡◌, [], ◌∷◌, ◌++◌, ◌<◌, IfOk, IfErr, OnErr, OnOk, Some, Err, length, map};
 ghost use Rattle.std.specs.Option.{option_map};
 ghost use Rattle.bpf_model.specs.Element.{linked_count as linked_count_of, unlinked, overwritten};
-ghost use Rattle.bpf_model.specs.MapState.{AreShapes, IsShape, shape_of, new_map, new_elements, all_new_elements};
+ghost use Rattle.bpf_model.specs.Shapes.{AreShapes, IsShape};
+ghost use Rattle.bpf_model.specs.MapState.{shape_of, new_map, new_elements, all_new_elements};
 ghost use Rattle.bpf_model.specs.Helper.{LooksUp, Updates, Deletes, Removes};
 ghost use Rattle.bpf_model.specs.Access.{byte_count};
 ghost use Rattle.model_laws.specs.ByKind.{element_load, element_store};

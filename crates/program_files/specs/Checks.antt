@@ -1,7 +1,8 @@
 -- What a program file says once it is decoded, verified or disassembled, and the verdict on one that is refused.
 use Rattle.std.specs.Prelude.{◌≡◌, ◌≢◌, ℕ, ◌⊎◌, List, length}
 use Rattle.bpf_model.specs.declared.insn.Insn.{Insn}
-use Rattle.bpf_model.specs.Spelling.{IsProgram, text, slot_total}
+use Rattle.bpf_model.specs.Spelling.{IsProgram, text}
+use Rattle.bpf_model.specs.Places.{slot_total}
 use Rattle.bpf_model.specs.Plain.{IsPlain}
 use Rattle.bpf_model.specs.PlainMaps.{IsPlainWithMaps}
 use Rattle.bpf_model.specs.View.{shapes_of_maps}

@@ -4,7 +4,7 @@ use Rattle.std.specs.Prelude.{Option, Some, None}
 use Rattle.bpf_model.specs.declared.limits.MapKind.TheVariants.{Hash, Array}
 use Rattle.bpf_model.specs.declared.limits.MapShape.{MapShape}
 use Rattle.bpf_model.specs.declared.limits.TheConstants.{CTX_BYTES}
-use Rattle.bpf_model.specs.MapState.{IsArrayShape}
+use Rattle.bpf_model.specs.Shapes.{IsArrayShape}
 use Rattle.bpf_model.specs.View.{new_map_view}
 use Rattle.maps.specs.Registry.{RegistryView, no_maps, creation_fault}
 use Rattle.program_files.specs.Lines.{file_lines, file_words, IsDecimalWord, code_slots}

@@ -6,7 +6,7 @@ use Rattle.std.proofs.lemmas.Option.{none-some, same_Some}
 use Rattle.bpf_model.specs.declared.insn.Insn.{Insn}
 use Rattle.bpf_model.specs.declared.insn.Insn.TheVariants.{Exit}
 use Rattle.bpf_model.specs.Graph.{distance, JumpsTo, EndsWithExit, HasForwardGraph}
-use Rattle.bpf_model.specs.Spelling.{slot_total}
+use Rattle.bpf_model.specs.Places.{slot_total}
 use Rattle.bpf_model.specs.Step.{insn_at}
 use Rattle.program_graph.specs.declared.refusal.GraphFlaw.{GraphFlaw}
 use Rattle.program_graph.specs.declared.refusal.GraphFlaw.TheVariants.{JumpTarget, BackJump, FallsOff, Unreachable}

@@ -3,8 +3,10 @@ use Rattle.std.proofs.Common.{◌≡◌, ℕ, zero, suc, ◌+◌, ◌-◌, ◌<�
 use Rattle.std.specs.Prelude.{slice_index_or}
 use Rattle.std.proofs.lemmas.List.Sums.{sum_by-cons}
 use Rattle.bpf_model.specs.declared.insn.Insn.{Insn}
-use Rattle.bpf_model.specs.Spelling.{starts_from, slot_count, slot_total, IsProgram}
-use Rattle.bpf_model.specs.Places.{insn_of-start, starts_ordered, StartsAt, start-insn}
+use Rattle.bpf_model.specs.Places.{starts_from, slot_count, slot_total}
+use Rattle.bpf_model.specs.Spelling.{IsProgram}
+use Rattle.bpf_model.proofs.Places.{insn_of-start, starts_ordered, start-insn}
+use Rattle.bpf_model.specs.Places.{StartsAt}
 use Rattle.std.proofs.lemmas.Option.{slice_get_within}
 use Rattle.program_graph.specs.declared.refusal.GraphFlaw.TheVariants.{FallsOff, Unreachable}
 use Rattle.program_graph.specs.GraphFlaws.{JumpsWell, HasGraphFlaw, HasGoodGraph}

@@ -5,7 +5,7 @@ use Rattle.std.specs.Prelude.{None, ℤ, pos, negsuc, ◌+ℤ◌, if◌then◌el
 use Rattle.bpf_model.specs.declared.insn.Insn.{Insn}
 use Rattle.bpf_model.specs.declared.insn.Insn.TheVariants.{Exit}
 use Rattle.bpf_model.specs.Graph.{distance, Reached, EndsWithExit}
-use Rattle.bpf_model.specs.Spelling.{slot_total}
+use Rattle.bpf_model.specs.Places.{slot_total}
 use Rattle.bpf_model.specs.Step.{insn_at}
 use Rattle.program_graph.specs.declared.refusal.GraphFlaw.{GraphFlaw}
 use Rattle.program_graph.specs.declared.refusal.GraphFlaw.TheVariants.{JumpTarget, BackJump}

@@ -3,7 +3,8 @@
 ghost use Rattle.std.specs.Prelude.{◌≡◌, ℕ, ◌+◌, ◌<◌, ◌^◌, ◌≤◌, ◌↔◌, true, length, slice_get, IfOk, IfErr, IfSome, OnOk, IsTrue, Some, None, Option, Ok, Err, pos, ◌+ℤ◌, ◌≤ℤ◌, ℤ, MatchOption};
 ghost use Rattle.bpf_model.specs.declared.insn.Insn.{Insn};
 ghost use Rattle.bpf_model.specs.declared.limits.TheConstants.{MAX_SLOTS};
-ghost use Rattle.bpf_model.specs.Spelling.{starts_from, slot_total, IsProgram};
+ghost use Rattle.bpf_model.specs.Places.{starts_from, slot_total};
+ghost use Rattle.bpf_model.specs.Spelling.{IsProgram};
 ghost use Rattle.bpf_model.specs.Graph.{falls as falls_of, distance as distance_of, EndsWithExit};
 ghost use Rattle.program_graph.specs.GraphFlaws.{JumpsWell, HasGoodGraph};
 ghost use Rattle.program_graph.specs.Indexes.{HasTargets};

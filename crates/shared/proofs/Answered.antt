@@ -2,7 +2,8 @@
 use Rattle.std.proofs.Common.{◌≡◌, refl, sym, subst}
 use Rattle.bpf_model.specs.declared.event.Event.{Event}
 use Rattle.bpf_model.specs.declared.event.Answer.{Answer}
-use Rattle.bpf_model.specs.Event.{IsReal, DoesEvent}
+use Rattle.bpf_model.specs.Real.{IsReal}
+use Rattle.bpf_model.specs.Event.{DoesEvent}
 use Rattle.bpf_model.specs.View.{WorldView}
 use Rattle.world_laws.specs.Invariant.{IsWorld}
 use Rattle.world_laws.specs.Reacting.{full_reaction}

@@ -2,7 +2,7 @@
 use Rattle.std.proofs.Common.{◌≡◌, ◌∙◌, ℕ, ◌+◌, ◌^◌, ◌<◌, ◌≤◌, List, [], ◌∷◌, ◌++◌, length, sym, ap, subst, arith, length-append}
 use Rattle.bpf_model.specs.declared.event.Event.{Event}
 use Rattle.bpf_model.specs.declared.event.Answer.{Answer}
-use Rattle.bpf_model.specs.Event.{IsReal}
+use Rattle.bpf_model.specs.Real.{IsReal}
 use Rattle.bpf_model.specs.View.{WorldView}
 use Rattle.bpf_model.specs.declared.entry.Entry.{Entry}
 use Rattle.journal_laws.specs.Replay.{Replays}

@@ -26,7 +26,7 @@ use Rattle.bpf_model.specs.Machine.{Loaded, Run, locked, moves as moves_run, sec
 use Rattle.bpf_model.specs.Frame.{bytes_at, frame_bytes}
 use Rattle.bpf_model.specs.Element.{loaded_from, stored_in}
 use Rattle.bpf_model.specs.Operand.{operand_value}
-use Rattle.bpf_model.specs.Places.{start-insn_at, starts_apart}
+use Rattle.bpf_model.proofs.Places.{start-insn_at, starts_apart}
 use Rattle.bpf_model.specs.Request.{Request as Asked, LoadElement, StoreElement, CallHelper, Enter, Leave, MapArgument, BytesArgument, Argument, asks as asks_of, resumed, section_request as section_asked, signature_of, arguments_of}
 use Rattle.bpf_model.specs.Spelling.{FitsInsn}
 use Rattle.bpf_model.specs.Step.{State, insn_at}

@@ -13,9 +13,9 @@ use Rattle.bpf_model.specs.declared.value.Value.{Value}
 use Rattle.bpf_model.specs.declared.value.Value.TheVariants.{Nothing, Number, Pointer}
 use Rattle.bpf_model.specs.declared.value.Reference.TheVariants.{Elem}
 use Rattle.bpf_model.specs.Access.{region_offset, number_at}
-use Rattle.bpf_model.specs.Consistent.{IsSingle}
+use Rattle.model_laws.specs.Consistent.{IsSingle}
 use Rattle.bpf_model.specs.Element.{Element, Linked, Unlinked, IsLinkedAt, IsAbsent, accessible, changed, is_reclaimed, set_to, with_value}
-use Rattle.bpf_model.specs.Event.{AreBytes}
+use Rattle.bpf_model.specs.Real.{AreBytes}
 use Rattle.bpf_model.specs.Machine.{Run, environment, locked, moves, section_of, unlocked}
 use Rattle.bpf_model.specs.MachineStep.{InsnStep}
 use Rattle.bpf_model.specs.Element.{loaded_from, stored_in}

@@ -3,7 +3,7 @@
 //! Each is a function with an empty body, whose contract is the law.
 ghost use Rattle.std.specs.Prelude.{◌≡◌, ℕ, ◌<◌, ◌≤◌, List, [], Some, length};
 ghost use Rattle.bpf_model.specs.declared.insn.Insn.{Insn};
-ghost use Rattle.bpf_model.specs.Event.{AreBytes};
+ghost use Rattle.bpf_model.specs.Real.{AreBytes};
 ghost use Rattle.bpf_model.specs.Step.{insn_at};
 ghost use Rattle.bpf_model.specs.View.{RunView};
 ghost use Rattle.bpf_model.specs.Word.{most_map_slots};

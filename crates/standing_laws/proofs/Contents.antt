@@ -6,11 +6,11 @@ use Rattle.std.proofs.lemmas.Option.{none-some, same_Some, slice_get_within, sli
 use Rattle.std.proofs.lemmas.List.{length-replicate}
 use Rattle.std.proofs.lemmas.List.FromFn.{get_or-range_with_len, length-range_with_len, length-map-range_with_len}
 use Rattle.bpf_model.specs.declared.limits.MapShape.{MapShape}
-use Rattle.bpf_model.specs.Consistent.{HasLengths, IsSingle}
+use Rattle.model_laws.specs.Consistent.{HasLengths, IsSingle}
 use Rattle.bpf_model.specs.Element.{Element, Linked, Unlinked, accessible, unless_reclaimed, is_reclaimed}
 use Rattle.bpf_model.specs.Value.{◌>>=◌}
 use Rattle.std.proofs.lemmas.Bool.{eq-eqb, eqb-true}
-use Rattle.bpf_model.specs.Event.{AreBytes, AllBytes}
+use Rattle.bpf_model.specs.Real.{AreBytes, AllBytes}
 use Rattle.bpf_model.specs.Machine.{Run, section_of}
 use Rattle.bpf_model.specs.MapState.{new_map}
 use Rattle.bpf_model.specs.Section.{Section}

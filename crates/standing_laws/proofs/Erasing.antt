@@ -12,11 +12,11 @@ use Rattle.bpf_model.specs.declared.value.Value.{Value}
 use Rattle.bpf_model.specs.declared.value.Value.TheVariants.{Nothing, Number, Pointer}
 use Rattle.bpf_model.specs.declared.value.Reference.TheVariants.{Ctx, Frame, MapRef, Elem}
 use Rattle.bpf_model.specs.Element.{Element, accessible}
-use Rattle.bpf_model.specs.Holds.{HoldsValue, HoldsCell}
+use Rattle.model_laws.specs.Holds.{HoldsValue, HoldsCell}
 use Rattle.bpf_model.specs.Machine.{Run, section_of}
 use Rattle.bpf_model.specs.Request.{found_value}
 use Rattle.bpf_model.specs.MapState.{MapState, new_map}
-use Rattle.bpf_model.specs.Near.{IsNear, IsNearCell, IsNearOffset}
+use Rattle.model_laws.specs.Near.{IsNear, IsNearCell, IsNearOffset}
 use Rattle.bpf_model.specs.Step.{State}
 use Rattle.bpf_model.specs.Value.{◌>>=◌}
 use Rattle.bpf_model.specs.View.{RunView}

@@ -2,8 +2,8 @@
 use Rattle.std.specs.Prelude.{◌≡◌, ℕ, List, length, map, None}
 use Rattle.bpf_model.specs.declared.insn.Insn.{Insn}
 use Rattle.bpf_model.specs.declared.limits.MapShape.{MapShape}
-use Rattle.bpf_model.specs.Event.{AreBytes}
-use Rattle.bpf_model.specs.Holds.{HoldsState}
+use Rattle.bpf_model.specs.Real.{AreBytes}
+use Rattle.model_laws.specs.Holds.{HoldsState}
 use Rattle.bpf_model.specs.Machine.{Run, section_of}
 use Rattle.bpf_model.specs.MapState.{new_map}
 use Rattle.bpf_model.specs.View.{RunView}

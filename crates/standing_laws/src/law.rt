@@ -2,7 +2,7 @@
 ghost use Rattle.std.specs.Prelude.{◌≡◌, ℕ, List, length, map, Some};
 ghost use Rattle.bpf_model.specs.declared.insn.Insn.{Insn};
 ghost use Rattle.bpf_model.specs.declared.limits.MapShape.{MapShape};
-ghost use Rattle.bpf_model.specs.Event.{AreBytes};
+ghost use Rattle.bpf_model.specs.Real.{AreBytes};
 ghost use Rattle.bpf_model.specs.Machine.{Loaded, Run, environment, fresh_run, moves};
 ghost use Rattle.bpf_model.specs.MapState.{new_map};
 ghost use Rattle.bpf_model.specs.Step.{Moves, State, after, insn_at};

@@ -17,7 +17,7 @@ use Rattle.bpf_model.specs.MapState.{MapState, Store, shape_in, shape_of}
 use Rattle.bpf_model.specs.Machine.{Run}
 use Rattle.model_laws.specs.ByKind.{bound_map, map_argument, key_argument, value_argument}
 use Rattle.bpf_model.specs.Frame.{bytes_at, frame_bytes}
-use Rattle.bpf_model.specs.Event.{AreBytes}
+use Rattle.bpf_model.specs.Real.{AreBytes}
 use Rattle.typed_runs.specs.Kinds.{Kind, FrameAt, MapAt, CellKind, ByteCell, AbsState}
 use Rattle.typed_runs.specs.Describes.{Scene, scene_of, IsOf, IsOfCell, Describes}
 use Rattle.typed_runs.specs.Effects.{HasMap, HasBytes}

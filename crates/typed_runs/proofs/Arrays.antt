@@ -9,7 +9,7 @@ use Rattle.bpf_model.specs.Section.{Section}
 use Rattle.bpf_model.specs.Element.{Element, Life, Linked, Unlinked, Reclaimed, is_reclaimed}
 use Rattle.bpf_model.specs.MapState.{MapState, Store}
 use Rattle.bpf_model.specs.Machine.{Run}
-use Rattle.bpf_model.specs.Consistent.{StaysLinked}
+use Rattle.model_laws.specs.Consistent.{StaysLinked}
 use Rattle.bpf_model.proofs.Cases.{both}
 use Rattle.bpf_model.proofs.Lists.{get-map}
 use Rattle.model_laws.proofs.Stores.{KeepsShapes}

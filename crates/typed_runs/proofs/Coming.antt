@@ -11,7 +11,8 @@ use Rattle.bpf_model.specs.declared.event.EventRefusal.{EventRefusal}
 use Rattle.bpf_model.specs.declared.event.EventRefusal.TheVariants.{BadContext}
 use Rattle.bpf_model.specs.Machine.{Loaded, Run, Machine, open_sections, fresh_run, lowest_free, run_at}
 use Rattle.bpf_model.specs.MachineStep.{RunStep, StepsRun}
-use Rattle.bpf_model.specs.Event.{PerformsEvent, Answers, DoesEvent, Starts, refusal, start_refusal, if_full, AreBytes, IsReal}
+use Rattle.bpf_model.specs.Event.{PerformsEvent, Answers, DoesEvent, Starts, refusal, start_refusal, if_full}
+use Rattle.bpf_model.specs.Real.{AreBytes, IsReal}
 use Rattle.model_laws.proofs.Sections.{run-set_cases}
 
 pub record FreshRun (m new : Machine) (run : Run) : Type 0 where

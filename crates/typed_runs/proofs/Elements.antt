@@ -27,7 +27,7 @@ use Rattle.bpf_model.specs.Machine.{Run, environment}
 use Rattle.model_laws.specs.ByKind.{element_load, element_store}
 use Rattle.bpf_model.specs.Element.{loaded_from, stored_in}
 use Rattle.bpf_model.specs.Access.{with_bytes}
-use Rattle.bpf_model.specs.Event.{AreBytes, AllBytes}
+use Rattle.bpf_model.specs.Real.{AreBytes, AllBytes}
 use Rattle.model_laws.proofs.Stores.{touches-stored}
 use Rattle.scalar_domain.specs.Scalar.{Holds}
 use Rattle.scalar_domain.specs.declared.scalar.Scalar.{Scalar}

@@ -25,9 +25,9 @@ use Rattle.bpf_model.specs.Value.{◌>>=◌, number}
 use Rattle.bpf_model.specs.Access.{region_offset}
 use Rattle.bpf_model.specs.Frame.{is_within, with_number}
 use Rattle.bpf_model.specs.Operand.{computed}
-use Rattle.bpf_model.specs.Spelling.{slot_count}
+use Rattle.bpf_model.specs.Places.{slot_count}
 use Rattle.bpf_model.specs.Graph.{falls, distance}
-use Rattle.bpf_model.specs.Places.{LeadsTo}
+use Rattle.bpf_model.specs.Graph.{LeadsTo}
 use Rattle.bpf_model.specs.Step.{State, Environment, Outcome, Moves, Exits, after, put, sets, store_to}
 use Rattle.bpf_model.specs.Element.{Element}
 use Rattle.model_laws.specs.ByKind.{AccessesElement, element_store}
@@ -36,7 +36,7 @@ use Rattle.model_laws.specs.Example.{lookup_and_load, lookup_program, example_sh
 use Rattle.scalar_domain.specs.Scalar.{Holds}
 use Rattle.scalar_domain.specs.declared.scalar.Scalar.{Scalar}
 use Rattle.typed_runs.specs.Kinds.{Kind, Blank, Num, FrameAt, MapAt, MaybeNull, CellKind, BlankCell, ByteCell, AbsState}
-use Rattle.bpf_model.specs.Near.{IsNear, IsNearCell}
+use Rattle.model_laws.specs.Near.{IsNear, IsNearCell}
 use Rattle.typed_runs.specs.Describes.{Scene, Naming, Stored, HasOffset, IsOf, IsOfCell, AreNear, Describes}
 use Rattle.typed_runs.specs.Effects.{with_kind, with_cells, after_call, after_lock, after_unlock, when_null, when_there, IsFresh, IsOther, IsOtherCell, IsAlwaysInside, HasBytes}
 use Rattle.typed_runs.specs.Verified.{Plan, Transfers, ActsAlone, IsVerified}

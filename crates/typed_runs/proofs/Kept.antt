@@ -13,9 +13,9 @@ use Rattle.bpf_model.specs.MapState.{Store, with_elements}
 use Rattle.bpf_model.specs.Machine.{Run, Machine, open_sections, section_of, run_at}
 use Rattle.bpf_model.specs.MachineStep.{InsnStep}
 use Rattle.bpf_model.specs.Event.{DoesEvent}
-use Rattle.bpf_model.specs.Consistent.{IsConsistent}
+use Rattle.model_laws.specs.Consistent.{IsConsistent}
 use Rattle.model_laws.proofs.Sections.{has_open}
-use Rattle.bpf_model.specs.Consistent.{IsSingle}
+use Rattle.model_laws.specs.Consistent.{IsSingle}
 use Rattle.model_laws.proofs.Stores.{LifeMoves, Stays, Unlinks, Ends, Alters, Touches, KeepsShapes, AllLengths, StoreMoves, is_reap, does-moves, moves-insn}
 use Rattle.typed_runs.specs.Kinds.{Kind, Blank, Mixed, Ended, Num, CtxAt, FrameAt, MapAt, ValueAt, MaybeNull, CellKind, BlankCell, MixedCell, EndedCell, ByteCell, PartCell, AbsState}
 use Rattle.typed_runs.specs.Describes.{Scene, scene_of, IsGuarded, IsHeld, Naming, IsNullOrHeld, IsOf, Stored, IsOfCell, Describes}

@@ -30,7 +30,7 @@ use Rattle.bpf_model.specs.MachineStep.{OutcomeStep, InsnStep}
 use Rattle.bpf_model.specs.Request.{found_value}
 use Rattle.scalar_domain.specs.Scalar.{Holds}
 use Rattle.scalar_domain.specs.declared.scalar.Scalar.{Scalar}
-use Rattle.bpf_model.specs.Event.{AllBytes}
+use Rattle.bpf_model.specs.Real.{AllBytes}
 use Rattle.typed_runs.specs.Kinds.{Kind, Blank, Mixed, Ended, Num, CtxAt, FrameAt, MapAt, ValueAt, MaybeNull, CellKind, BlankCell, MixedCell, EndedCell, ByteCell, PartCell, AbsState}
 use Rattle.typed_runs.specs.Describes.{Scene, scene_of, Naming, IsNullOrHeld, HasOffset, IsOf, Stored, part_of, IsOfCell, Describes}
 use Rattle.typed_runs.specs.Effects.{null_kind, null_cell, there_kind, there_cell, when_null, when_there}

@@ -7,14 +7,14 @@ use Rattle.bpf_model.specs.declared.event.Answer.{Answer}
 use Rattle.bpf_model.specs.Element.{Element}
 use Rattle.bpf_model.specs.Machine.{Machine}
 use Rattle.bpf_model.specs.Word.{IsReferenceWord, element_bases}
-use Rattle.bpf_model.specs.Event.{AreReal}
+use Rattle.bpf_model.specs.Real.{AreReal}
 use Rattle.bpf_model.specs.History.{IsHistory, AllStates}
 use Rattle.bpf_model.specs.View.{WorldView}
 use Rattle.bpf_model.specs.Refines.{Tracks}
 use Rattle.bpf_model.specs.View.{shapes_of}
 use Rattle.model_laws.specs.Locations.{IsNearLocation, named_location}
 use Rattle.model_laws.proofs.Words.{words_of_locations, near_words_differ}
-use Rattle.bpf_model.specs.Near.{IsNearReference}
+use Rattle.model_laws.specs.Near.{IsNearReference}
 use Rattle.typed_runs.specs.Limits.{IsWithinLimits, IsNearMachine}
 use Rattle.typed_runs.specs.Well.{AreVerified, IsWell}
 use Rattle.typed_runs.proofs.Reaching.{reached_is_well, well_along, all-states}

@@ -11,9 +11,11 @@ use Rattle.bpf_model.specs.declared.event.Answer.{Answer}
 use Rattle.bpf_model.specs.declared.value.Value.TheVariants.{Nothing, Pointer}
 use Rattle.bpf_model.specs.declared.value.Reference.TheVariants.{Ctx, Frame}
 use Rattle.bpf_model.specs.declared.value.Cell.TheVariants.{Unwritten}
-use Rattle.bpf_model.specs.Spelling.{slot_count}
+use Rattle.bpf_model.specs.Places.{slot_count}
 use Rattle.bpf_model.specs.Graph.{distance}
-use Rattle.bpf_model.specs.Places.{StartsAt, LeadsTo, starts-next, start-entry, start-insn}
+use Rattle.bpf_model.specs.Places.{StartsAt}
+use Rattle.bpf_model.specs.Graph.{LeadsTo}
+use Rattle.bpf_model.proofs.Places.{starts-next, start-entry, start-insn}
 use Rattle.bpf_model.specs.Step.{State, entry, put, insn_at}
 use Rattle.bpf_model.specs.Section.{Section}
 use Rattle.bpf_model.specs.MapState.{Store}
@@ -22,7 +24,7 @@ use Rattle.bpf_model.specs.MachineStep.{InsnStep}
 use Rattle.bpf_model.proofs.Cases.{both}
 use Rattle.std.specs.Int.Bits.{and_self}
 use Rattle.scalar_domain.specs.Constant.{le_self}
-use Rattle.bpf_model.specs.Event.{AllBytes}
+use Rattle.bpf_model.specs.Real.{AllBytes}
 use Rattle.typed_runs.specs.Kinds.{Blank, CtxAt, FrameAt, AbsState}
 use Rattle.typed_runs.specs.Describes.{Scene, scene_of, HasOffset, IsContextAt, IsOf, IsOfCell, AreNear, Describes}
 use Rattle.typed_runs.specs.Verified.{Plan, Surrounds, JumpsToSlot, Leads, Transfers, IsPlanned, IsPlannedAfter, IsClosed}

@@ -1,7 +1,7 @@
 -- A machine of verified programs stays well, and is never stuck.
 use Rattle.std.proofs.Common.{◌≡◌, ℕ, suc, ◌+◌, ◌<◌, ◌⊎◌, inl, inr, arith, List, [], ◌∷◌, length, Some, None, refl, sym, ap, subst, ◌∙◌}
 use Rattle.std.specs.Prelude.{slice_get}
-use Rattle.bpf_model.specs.Places.{start-inside, starts_apart}
+use Rattle.bpf_model.proofs.Places.{start-inside, starts_apart}
 use Rattle.bpf_model.specs.Step.{State}
 use Rattle.bpf_model.specs.declared.limits.MapShape.{MapShape}
 use Rattle.bpf_model.specs.declared.limits.TheConstants.{MAX_RUNS}
@@ -9,10 +9,12 @@ use Rattle.bpf_model.specs.declared.insn.Insn.{Insn}
 use Rattle.bpf_model.specs.declared.event.Event.{Event}
 use Rattle.bpf_model.specs.declared.event.Answer.{Answer}
 use Rattle.bpf_model.specs.Section.{Section}
-use Rattle.bpf_model.specs.MapState.{MapState, Store, AreShapes}
+use Rattle.bpf_model.specs.MapState.{MapState, Store}
+use Rattle.bpf_model.specs.Shapes.{AreShapes}
 use Rattle.bpf_model.specs.Machine.{Loaded, Run, Machine, open_sections, fresh_run, run_at, start_machine, moves, locked, unlocked}
 use Rattle.bpf_model.specs.MachineStep.{InsnStep, RunStep, StepsRun, NeverStuck}
-use Rattle.bpf_model.specs.Event.{DoesEvent, AreBytes, IsReal, AreReal, AllBytes}
+use Rattle.bpf_model.specs.Event.{DoesEvent}
+use Rattle.bpf_model.specs.Real.{AreBytes, IsReal, AreReal, AllBytes}
 use Rattle.bpf_model.specs.History.{IsHistory, AllStates, last_of}
 use Rattle.bpf_model.specs.Schedule.{Schedule, IsScheduledHistory, start_schedule}
 use Rattle.bpf_model.specs.declared.event.Answer.TheVariants.{Moved, Exited}

@@ -10,7 +10,7 @@ use Rattle.bpf_model.specs.Request.{found_value}
 use Rattle.bpf_model.specs.Step.{returns}
 use Rattle.scalar_domain.specs.declared.scalar.Scalar.{Scalar}
 use Rattle.typed_runs.specs.Kinds.{Kind, Blank, Mixed, Ended, Num, CtxAt, FrameAt, MapAt, ValueAt, MaybeNull, CellKind, BlankCell, MixedCell, EndedCell, ByteCell, PartCell, AbsState}
-use Rattle.bpf_model.specs.Near.{IsNear}
+use Rattle.model_laws.specs.Near.{IsNear}
 use Rattle.bpf_model.proofs.Cases.{choice}
 use Rattle.typed_runs.specs.Describes.{IsElementOf, Scene, IsArrayMap, IsHeld, Naming, IsNullOrHeld, IsOf, Stored, IsOfCell, AreNear, Describes}
 use Rattle.typed_runs.specs.Effects.{with_kind, returned_kind, after_call, IsOther, IsOtherCell, IsFresh, IsWiderKind, IsWiderCell, IsWider}

@@ -22,16 +22,16 @@ use Rattle.bpf_model.specs.Access.{region_offset, number_at}
 use Rattle.bpf_model.specs.Frame.{byte_of, is_same_reference, is_part, are_parts, found, read, is_within}
 use Rattle.bpf_model.specs.Step.{State, Outcome, Moves, put, sets, load_from, frame_after, store_to}
 use Rattle.bpf_model.specs.Element.{Element}
-use Rattle.bpf_model.specs.Holds.{HoldsValue}
+use Rattle.model_laws.specs.Holds.{HoldsValue}
 use Rattle.model_laws.specs.Alone.{IsOwn}
 use Rattle.model_laws.proofs.Alone.{load-own, store-own}
 use Rattle.bpf_model.specs.MapState.{Store as Maps}
 use Rattle.bpf_model.specs.Machine.{Run, environment}
 use Rattle.model_laws.specs.ByKind.{element_load, element_store}
 use Rattle.bpf_model.specs.Request.{found_value}
-use Rattle.bpf_model.specs.Event.{AllBytes}
+use Rattle.bpf_model.specs.Real.{AllBytes}
 use Rattle.typed_runs.specs.Kinds.{Kind, Blank, Mixed, Ended, Num, CtxAt, FrameAt, MapAt, ValueAt, MaybeNull, CellKind, BlankCell, MixedCell, EndedCell, ByteCell, PartCell, AbsState}
-use Rattle.bpf_model.specs.Near.{IsNear, IsNearCell}
+use Rattle.model_laws.specs.Near.{IsNear, IsNearCell}
 use Rattle.bpf_model.proofs.Cases.{choice}
 use Rattle.typed_runs.specs.Describes.{Scene, scene_of, Naming, IsOf, Stored, part_of, IsOfCell, AreNear, Describes}
 use Rattle.typed_runs.specs.Effects.{with_kind, with_cells, IsWritten, IsPointer}

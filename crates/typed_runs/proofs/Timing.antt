@@ -10,7 +10,8 @@ use Rattle.bpf_model.specs.declared.event.Answer.TheVariants as answers
 use Rattle.bpf_model.specs.declared.event.EventRefusal.{EventRefusal}
 use Rattle.bpf_model.specs.Machine.{Run, Machine, open_sections, fresh_run, run_at}
 use Rattle.bpf_model.specs.MachineStep.{StepsRun}
-use Rattle.bpf_model.specs.Event.{PerformsEvent, Answers, DoesEvent, Starts, refusal, AreReal}
+use Rattle.bpf_model.specs.Event.{PerformsEvent, Answers, DoesEvent, Starts, refusal}
+use Rattle.bpf_model.specs.Real.{AreReal}
 use Rattle.bpf_model.specs.History.{IsHistory}
 use Rattle.bpf_model.specs.Headline.{moved_once, moves_after, moves_of, moved_by, ExitsInTime, AllExitInTime}
 use Rattle.bpf_model.specs.View.{WorldView}

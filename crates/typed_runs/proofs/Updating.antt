@@ -24,11 +24,11 @@ use Rattle.bpf_model.specs.Machine.{Run, moves}
 use Rattle.bpf_model.specs.MachineStep.{InsnStep}
 use Rattle.model_laws.specs.ByKind.{HelperStep, UpdateStep, DeleteStep, value_argument}
 use Rattle.bpf_model.specs.Step.{returns}
-use Rattle.bpf_model.specs.Event.{AreBytes}
+use Rattle.bpf_model.specs.Real.{AreBytes}
 use Rattle.scalar_domain.specs.Scalar.{Holds}
 use Rattle.scalar_domain.specs.declared.scalar.Scalar.{Scalar}
 use Rattle.typed_runs.specs.Kinds.{Num, AbsState}
-use Rattle.bpf_model.specs.Near.{IsNear}
+use Rattle.model_laws.specs.Near.{IsNear}
 use Rattle.typed_runs.specs.Describes.{scene_of, Describes}
 use Rattle.typed_runs.specs.Effects.{after_call, HasMap, HasBytes}
 use Rattle.typed_runs.specs.Verified.{Surrounds, HasStep, Leads, Transfers}

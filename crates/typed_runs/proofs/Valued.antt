@@ -18,7 +18,8 @@ use Rattle.bpf_model.specs.MapState.{MapState, Store, array_element, new_element
 use Rattle.bpf_model.specs.Helper.{Writes, Settles, Updates, Removes, RemovesFrom, Deletes}
 use Rattle.bpf_model.specs.Machine.{Machine, open_sections}
 use Rattle.bpf_model.specs.MachineStep.{StepsRun}
-use Rattle.bpf_model.specs.Event.{PerformsEvent, Answers, DoesEvent, refusal, AreBytes, IsReal, AllBytes}
+use Rattle.bpf_model.specs.Event.{PerformsEvent, Answers, DoesEvent, refusal}
+use Rattle.bpf_model.specs.Real.{AreBytes, IsReal, AllBytes}
 use Rattle.bpf_model.proofs.Lists.{get-append_cases, get-replicate, get-set_cases}
 
 bytes-along : (es new : List Element) → new ≡ es → AllBytes es → AllBytes new

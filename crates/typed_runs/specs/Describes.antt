@@ -14,7 +14,7 @@ use Rattle.bpf_model.specs.Element.{Element, Life, Linked, Unlinked, Reclaimed}
 use Rattle.bpf_model.specs.MapState.{MapState, Store}
 use Rattle.bpf_model.specs.Machine.{Run, section_of}
 use Rattle.bpf_model.specs.Request.{found_value}
-use Rattle.bpf_model.specs.Near.{IsNear, IsNearCell}
+use Rattle.model_laws.specs.Near.{IsNear, IsNearCell}
 use Rattle.scalar_domain.specs.Scalar.{Holds}
 use Rattle.scalar_domain.specs.declared.scalar.Scalar.{Scalar}
 use Rattle.typed_runs.specs.Kinds.{Kind, Blank, Mixed, Ended, Num, CtxAt, FrameAt, MapAt, ValueAt}

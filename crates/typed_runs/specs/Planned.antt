@@ -5,7 +5,7 @@ use Rattle.bpf_model.specs.declared.limits.TheConstants.{FRAME_BYTES}
 use Rattle.bpf_model.specs.declared.insn.Insn.{Insn}
 use Rattle.bpf_model.specs.declared.limits.MapShape.{MapShape}
 use Rattle.bpf_model.specs.Graph.{falls, distance}
-use Rattle.bpf_model.specs.Places.{LeadsTo}
+use Rattle.bpf_model.specs.Graph.{LeadsTo}
 use Rattle.bpf_model.specs.Step.{State}
 use Rattle.scalar_domain.specs.declared.scalar.Scalar.{Scalar}
 use Rattle.scalar_domain.specs.Constant.{constant_of}

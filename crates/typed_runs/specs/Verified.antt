@@ -6,18 +6,18 @@ use Rattle.bpf_model.specs.declared.insn.Insn.TheVariants.{Call}
 use Rattle.bpf_model.specs.declared.limits.MapKind.TheVariants.{Array}
 use Rattle.bpf_model.specs.declared.limits.MapShape.{MapShape}
 use Rattle.bpf_model.specs.declared.event.Answer.{Answer}
-use Rattle.bpf_model.specs.Spelling.{slot_count}
+use Rattle.bpf_model.specs.Places.{slot_count}
 use Rattle.bpf_model.specs.Places.{StartsAt}
 use Rattle.bpf_model.specs.Graph.{falls, distance, JumpsTo}
 use Rattle.bpf_model.specs.Step.{State, Environment, Outcome, Moves, Exits, after, entry, insn_at}
-use Rattle.bpf_model.specs.Consistent.{HasLengths, IsSingle}
+use Rattle.model_laws.specs.Consistent.{HasLengths, IsSingle}
 use Rattle.bpf_model.specs.Section.{Section, Has}
 use Rattle.bpf_model.specs.Element.{Element, is_reclaimed}
 use Rattle.bpf_model.specs.MapState.{MapState, Store}
 use Rattle.bpf_model.specs.Machine.{Run, section_of}
 use Rattle.model_laws.specs.ByKind.{AccessesElement}
 use Rattle.bpf_model.specs.MachineStep.{InsnStep}
-use Rattle.bpf_model.specs.Event.{AreBytes, AllBytes}
+use Rattle.bpf_model.specs.Real.{AreBytes, AllBytes}
 use Rattle.typed_runs.specs.Kinds.{AbsState}
 use Rattle.typed_runs.specs.Describes.{Scene, scene_of, Describes}
 

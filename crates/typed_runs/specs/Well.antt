@@ -3,8 +3,8 @@ use Rattle.std.specs.Prelude.{◌≡◌, ℕ, ◌<◌, ◌≤◌, List, length, 
 use Rattle.bpf_model.specs.declared.limits.MapShape.{MapShape}
 use Rattle.bpf_model.specs.MapState.{MapState, Store, new_map}
 use Rattle.bpf_model.specs.Machine.{Loaded, Run, Machine, run_at}
-use Rattle.bpf_model.specs.Consistent.{IsConsistent}
-use Rattle.bpf_model.specs.Event.{AreBytes, AllBytes}
+use Rattle.model_laws.specs.Consistent.{IsConsistent}
+use Rattle.bpf_model.specs.Real.{AreBytes, AllBytes}
 use Rattle.typed_runs.specs.Describes.{scene_of}
 use Rattle.typed_runs.specs.Verified.{IsPlanned, AreMapsBound, IsVerified}
 

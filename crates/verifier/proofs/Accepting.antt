@@ -12,9 +12,11 @@ use Rattle.bpf_model.specs.Access.{byte_count, region_offset}
 use Rattle.bpf_model.specs.Graph.{distance, JumpsTo, GoesTo}
 use Rattle.bpf_model.specs.Plain.{IsSimple, WritesRegister, WritesByte, TakesByte, WithoutByte, without_entry, without_next}
 use Rattle.bpf_model.specs.PlainMaps.{lookup_call, lock_call, unlock_call, IsGuardedLookup, IsLookupPart, HasForm, InSection, section_entry, section_lock, section_unlock, section_next, LacksRegister, lacks_entry, lacks_call, lacks_next, IsPlainWithMaps, Lookup, LookupPart, FrameCopy, KeyAddress, MapLoad, LookupCall, NullTest, ValueLoad, part_insn, part_slot}
-use Rattle.bpf_model.specs.Spelling.{slot_count}
+use Rattle.bpf_model.specs.Places.{slot_count}
 use Rattle.bpf_model.specs.Step.{insn_at}
-use Rattle.bpf_model.specs.Places.{start_of-insn, LeadsTo, StartsAt, starts_increase, start-insn}
+use Rattle.bpf_model.proofs.Places.{start_of-insn, starts_increase, start-insn}
+use Rattle.bpf_model.specs.Graph.{LeadsTo}
+use Rattle.bpf_model.specs.Places.{StartsAt}
 use Rattle.bpf_model.proofs.Lists.{get-below}
 use Rattle.program_graph.specs.FirstPass.{Follows}
 use Rattle.program_graph.specs.Indexes.{HasTargets, IsTarget}

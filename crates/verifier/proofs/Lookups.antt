@@ -10,9 +10,10 @@ use Rattle.bpf_model.specs.declared.limits.MapShape.{MapShape}
 use Rattle.bpf_model.specs.Graph.{falls, distance, JumpsTo, GoesTo, Reached}
 use Rattle.bpf_model.specs.Plain.{WritesByte}
 use Rattle.bpf_model.specs.PlainMaps.{lookup_call, IsValueLoad, IsGuardedLookup, IsLookupPart, KeepsSection, HasForm, LacksRegister, lacks_call, lacks_next, IsPlainWithMaps, Lookup, LookupPart, FrameCopy, KeyAddress, MapLoad, LookupCall, NullTest, ValueLoad, part_insn, part_slot}
-use Rattle.bpf_model.specs.Spelling.{slot_count, starts_from}
+use Rattle.bpf_model.specs.Places.{slot_count, starts_from}
 use Rattle.bpf_model.specs.Step.{insn_at}
-use Rattle.bpf_model.specs.Places.{StartsAt, starts-next, starts_increase, starts_ordered, start-inside}
+use Rattle.bpf_model.specs.Places.{StartsAt}
+use Rattle.bpf_model.proofs.Places.{starts-next, starts_increase, starts_ordered, start-inside}
 use Rattle.program_graph.proofs.Edges.{index_here}
 use Rattle.typed_runs.specs.Kinds.{AbsState}
 use Rattle.state_steps.specs.Lookups.{Expects, Prepares}

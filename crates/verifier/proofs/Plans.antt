@@ -9,8 +9,10 @@ use Rattle.bpf_model.specs.declared.insn.Insn.{Insn}
 use Rattle.bpf_model.specs.declared.insn.Insn.TheVariants.{Exit}
 use Rattle.bpf_model.specs.declared.limits.MapShape.{MapShape}
 use Rattle.bpf_model.specs.Graph.{falls, distance, EndsWithExit}
-use Rattle.bpf_model.specs.Spelling.{slot_count, slot_total}
-use Rattle.bpf_model.specs.Places.{slot_count_some, starts_apart, start_of-insn, LeadsTo, StartsAt, start-insn, start-entry}
+use Rattle.bpf_model.specs.Places.{slot_count, slot_total}
+use Rattle.bpf_model.proofs.Places.{slot_count_some, starts_apart, start_of-insn, start-insn, start-entry}
+use Rattle.bpf_model.specs.Graph.{LeadsTo}
+use Rattle.bpf_model.specs.Places.{StartsAt}
 use Rattle.program_graph.specs.GraphFlaws.{HasGoodGraph}
 use Rattle.program_graph.specs.FirstPass.{Follows}
 use Rattle.program_graph.specs.Indexes.{HasTargets, IsTarget}

@@ -5,7 +5,8 @@ use Rattle.std.proofs.lemmas.Bool.{eqb-true, eq-eqb, false_from_ne_true, cond-tr
 use Rattle.std.proofs.lemmas.Option.{none-some, same_Some, slice_get_within}
 use Rattle.std.proofs.lemmas.List.{map-append, append-nil}
 use Rattle.bpf_model.specs.Section.{Section}
-use Rattle.bpf_model.specs.Element.{Element, Life, Linked, Unlinked, Reclaimed, is_linked, is_unlinked, with_life, with_value}
+use Rattle.bpf_model.specs.Element.{Element, Life, Linked, Unlinked, Reclaimed, is_linked, with_life, with_value}
+use Rattle.bpf_model.specs.Schedule.{is_unlinked}
 use Rattle.bpf_model.specs.Schedule.{Queues, Schedule, retired_in, unlinked_between, turned, still_open}
 use Rattle.model_laws.specs.Scheduled.{IsScheduled}
 use Rattle.model_laws.proofs.Queueing.{queued-of}

@@ -14,7 +14,8 @@ use Rattle.bpf_model.specs.declared.event.Given.{Given}
 use Rattle.bpf_model.specs.declared.event.Given.TheVariants.{Free, Worn}
 use Rattle.bpf_model.specs.Element.{Element}
 use Rattle.bpf_model.specs.Machine.{Loaded, Run, lowest_free}
-use Rattle.bpf_model.specs.Event.{IsReal, if_ended, if_running, step_refusal, drop_refusal, refusal, key_refusal, update_refusal, start_refusal}
+use Rattle.bpf_model.specs.Real.{IsReal}
+use Rattle.bpf_model.specs.Event.{if_ended, if_running, step_refusal, drop_refusal, refusal, key_refusal, update_refusal, start_refusal}
 use Rattle.bpf_model.specs.Schedule.{Schedule, is_any}
 use Rattle.bpf_model.specs.Drain.{AnswersAsScheduled}
 use Rattle.bpf_model.specs.View.{shape_of_view as shape, MapView, RunView, WorldView, shapes_of}

@@ -3,7 +3,7 @@ use Rattle.std.proofs.Common.{◌≡◌, List, [], ◌∷◌, ◌++◌, inl, inr
 use Rattle.bpf_model.specs.declared.limits.MapShape.{MapShape}
 use Rattle.bpf_model.specs.declared.event.Event.{Event}
 use Rattle.bpf_model.specs.declared.event.Answer.{Answer}
-use Rattle.bpf_model.specs.Event.{IsReal, AreReal}
+use Rattle.bpf_model.specs.Real.{IsReal, AreReal}
 use Rattle.bpf_model.specs.Machine.{Loaded}
 use Rattle.bpf_model.specs.Schedule.{Schedule, DoesScheduled, start_schedule}
 use Rattle.bpf_model.specs.View.{WorldView, shapes_of}

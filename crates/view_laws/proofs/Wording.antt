@@ -10,7 +10,7 @@ use Rattle.bpf_model.specs.declared.value.Cell.TheVariants.{Unwritten, Byte, Par
 use Rattle.bpf_model.specs.Element.{Element}
 use Rattle.bpf_model.specs.Machine.{Loaded, Run}
 use Rattle.bpf_model.specs.Word.{slot_base, IsReferenceWord, WordIs, ByteIs, element_bases}
-use Rattle.bpf_model.specs.Consistent.{IsBorn, IsBornValue, IsBornCell}
+use Rattle.model_laws.specs.Consistent.{IsBorn, IsBornValue, IsBornCell}
 use Rattle.model_laws.proofs.Born.{IsBornState}
 use Rattle.bpf_model.specs.View.{RunView}
 use Rattle.bpf_model.specs.Refines.{RunRefines, RunSlotRefines}

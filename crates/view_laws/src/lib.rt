@@ -15,7 +15,7 @@ ghost use Rattle.bpf_model.specs.Access.{region_offset};
 ghost use Rattle.bpf_model.specs.Call.{kernel_function_of};
 ghost use Rattle.bpf_model.specs.Drain.{AnswersAsScheduled};
 ghost use Rattle.bpf_model.specs.Element.{Element, accessible};
-ghost use Rattle.bpf_model.specs.Event.{IsReal};
+ghost use Rattle.bpf_model.specs.Real.{IsReal};
 ghost use Rattle.bpf_model.specs.Machine.{Run, run_at, with_runs, with_store};
 ghost use Rattle.bpf_model.specs.MachineStep.{StepsRun};
 ghost use Rattle.bpf_model.specs.Access.{with_bytes};

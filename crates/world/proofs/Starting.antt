@@ -3,7 +3,8 @@ use Rattle.std.proofs.Common.{◌≡◌, ◌∙◌, ℕ, ◌≤◌, List, map, l
 use Rattle.std.specs.Prelude.{slice_get}
 use Rattle.std.proofs.lemmas.List.{length-map}
 use Rattle.bpf_model.specs.declared.limits.TheConstants.{MAX_MAPS, MAX_PROGRAMS}
-use Rattle.bpf_model.specs.MapState.{AreShapes, new_map}
+use Rattle.bpf_model.specs.Shapes.{AreShapes}
+use Rattle.bpf_model.specs.MapState.{new_map}
 use Rattle.bpf_model.specs.Refines.{TracksSchedule}
 use Rattle.bpf_model.specs.Schedule.{start_schedule}
 use Rattle.bpf_model.specs.View.{AreNewMaps, MapView, WorldView, start_view, shapes_of_maps, unused_world}

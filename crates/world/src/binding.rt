@@ -1,7 +1,7 @@
 //! Whether programs are bound to maps of the shapes that they were verified for.
 ghost use Rattle.std.specs.Prelude.{◌≡◌, ◌≤◌, ◌↔◌, ℕ, length, IsTrue, IfSome, IfNone, Some, slice_get};
 ghost use Rattle.bpf_model.specs.declared.limits.TheConstants.{MAX_MAPS};
-ghost use Rattle.bpf_model.specs.MapState.{AreShapes};
+ghost use Rattle.bpf_model.specs.Shapes.{AreShapes};
 ghost use Rattle.bpf_model.specs.View.{shapes_of_maps};
 ghost use Rattle.typed_runs.specs.Verified.{IsVerified};
 ghost use Rattle.world_laws.specs.Typed.{IsRealProgram};

@@ -23,7 +23,7 @@ use Rattle.bpf_model.specs.Machine.{Loaded, Run, environment, fresh_run}
 use Rattle.bpf_model.specs.MachineStep.{OutcomeStep, RunStep}
 use Rattle.model_laws.specs.ByKind.{StepsByKind, KernelStep}
 use Rattle.bpf_model.specs.Value.{◌>>=◌, number}
-use Rattle.bpf_model.specs.Holds.{HoldsState}
+use Rattle.model_laws.specs.Holds.{HoldsState}
 use Rattle.model_laws.specs.Alone.{IsOwn, SharesNothing}
 use Rattle.model_laws.proofs.Alone.{insn-all, helper-own, acts-own, starts_sharing_nothing, stays_sharing_nothing}
 use Rattle.typed_runs.proofs.Reaching.{same-insn}

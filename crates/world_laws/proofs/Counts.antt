@@ -7,7 +7,8 @@ use Rattle.std.proofs.lemmas.Option.{slice_get-get_or}
 use Rattle.std.proofs.Math.Nat.{mul-le-mul}
 use Rattle.bpf_model.specs.declared.limits.TheConstants.{MAX_REUSE, MAX_MAPS}
 use Rattle.bpf_model.specs.declared.limits.MapShape.{MapShape}
-use Rattle.bpf_model.specs.MapState.{IsShape, AreShapes, most_births, slots_of_shape}
+use Rattle.bpf_model.specs.Shapes.{IsShape, AreShapes, most_births}
+use Rattle.bpf_model.specs.MapState.{slots_of_shape}
 use Rattle.bpf_model.specs.View.{MapView, WorldView, shapes_of}
 use Rattle.bpf_model.specs.Word.{most_map_slots}
 use Rattle.world_laws.specs.Invariant.{IsWorld}

@@ -4,9 +4,9 @@ use Rattle.std.proofs.lemmas.List.{length-map}
 use Rattle.bpf_model.specs.declared.event.Event.{Event}
 use Rattle.bpf_model.specs.declared.limits.MapShape.{MapShape}
 use Rattle.bpf_model.specs.declared.limits.TheConstants.{MAX_MAPS, MAX_PROGRAMS}
-use Rattle.bpf_model.specs.Event.{IsReal, AreReal}
+use Rattle.bpf_model.specs.Real.{IsReal, AreReal}
 use Rattle.bpf_model.specs.Machine.{Loaded}
-use Rattle.bpf_model.specs.MapState.{AreShapes}
+use Rattle.bpf_model.specs.Shapes.{AreShapes}
 use Rattle.bpf_model.specs.Schedule.{start_schedule}
 use Rattle.bpf_model.specs.View.{WorldView, new_map_view, start_view}
 use Rattle.model_laws.proofs.Starting.{start_tracked}

@@ -18,7 +18,8 @@ use Rattle.bpf_model.specs.declared.value.Value.{Value}
 use Rattle.bpf_model.specs.declared.value.Value.TheVariants.{Nothing, Pointer}
 use Rattle.bpf_model.specs.declared.value.Reference.TheVariants.{MapRef}
 use Rattle.bpf_model.specs.Call.{helper_of, kernel_function_of}
-use Rattle.bpf_model.specs.Event.{DoesEvent, IsReal}
+use Rattle.bpf_model.specs.Event.{DoesEvent}
+use Rattle.bpf_model.specs.Real.{IsReal}
 use Rattle.bpf_model.specs.Machine.{Loaded, Run, Machine, environment, fresh_run, open_sections}
 use Rattle.bpf_model.specs.MachineStep.{OutcomeStep}
 use Rattle.model_laws.specs.ByKind.{StepsByKind, KernelStep, HelperStep}
@@ -29,7 +30,7 @@ use Rattle.bpf_model.specs.Refines.{IsReachedSchedule}
 use Rattle.bpf_model.specs.Schedule.{Schedule, start_schedule}
 use Rattle.bpf_model.specs.Section.{Section}
 use Rattle.bpf_model.specs.Step.{State, Environment, Outcome, Moves, Exits, put, sets, map_value, after}
-use Rattle.bpf_model.specs.Holds.{HoldsValue, HoldsState}
+use Rattle.model_laws.specs.Holds.{HoldsValue, HoldsState}
 use Rattle.bpf_model.proofs.Cases.{choice}
 use Rattle.model_laws.proofs.Holding.{Closed, HoldsOutcome, holds-entry, holds-acts, holds-returns}
 use Rattle.model_laws.proofs.Keeping.{no-run}

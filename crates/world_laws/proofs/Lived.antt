@@ -13,7 +13,8 @@ use Rattle.bpf_model.specs.Section.{Section}
 use Rattle.bpf_model.specs.MapState.{Store}
 use Rattle.bpf_model.specs.Machine.{Loaded, Run, Machine, fresh_run, open_sections, run_at}
 use Rattle.bpf_model.specs.MachineStep.{RunStep}
-use Rattle.bpf_model.specs.Event.{DoesEvent, IsReal, AllBytes}
+use Rattle.bpf_model.specs.Event.{DoesEvent}
+use Rattle.bpf_model.specs.Real.{IsReal, AllBytes}
 use Rattle.bpf_model.specs.Refines.{IsReachedSchedule, RunRefines}
 use Rattle.bpf_model.proofs.Cases.{run-behind}
 use Rattle.bpf_model.specs.Schedule.{Schedule, start_schedule}

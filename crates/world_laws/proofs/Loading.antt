@@ -19,7 +19,7 @@ use Rattle.bpf_model.specs.Frame.{read}
 use Rattle.bpf_model.specs.Machine.{open_sections, Run, environment}
 use Rattle.model_laws.specs.ByKind.{AccessesElement, element_load}
 use Rattle.bpf_model.specs.Element.{loaded_from}
-use Rattle.bpf_model.specs.Near.{IsNear}
+use Rattle.model_laws.specs.Near.{IsNear}
 use Rattle.bpf_model.specs.Schedule.{Schedule}
 use Rattle.bpf_model.specs.Step.{Outcome, sets, load_from, after}
 use Rattle.bpf_model.specs.Value.{◌>>=◌, number}

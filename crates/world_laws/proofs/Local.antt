@@ -13,7 +13,7 @@ use Rattle.bpf_model.specs.Element.{Element, accessible}
 use Rattle.bpf_model.specs.Machine.{Loaded, Run, environment}
 use Rattle.model_laws.specs.ByKind.{AccessesElement, element_load}
 use Rattle.bpf_model.specs.Element.{loaded_from}
-use Rattle.bpf_model.specs.Near.{IsNear}
+use Rattle.model_laws.specs.Near.{IsNear}
 use Rattle.bpf_model.specs.Operand.{operand_value}
 use Rattle.bpf_model.specs.Schedule.{Schedule}
 use Rattle.bpf_model.specs.Step.{Outcome, sets, load_from, after}

@@ -25,7 +25,8 @@ use Rattle.bpf_model.specs.declared.value.Reference.TheVariants.{Ctx, Frame, Map
 use Rattle.bpf_model.specs.Access.{byte_count, unsigned_width, region_offset, number_at}
 use Rattle.bpf_model.specs.Arithmetic.{loaded_signed}
 use Rattle.bpf_model.specs.Call.{helper_of, kernel_function_of}
-use Rattle.bpf_model.specs.Element.{Element, Life, Linked, Unlinked, Reclaimed, accessible, is_reclaimed, is_unlinked}
+use Rattle.bpf_model.specs.Element.{Element, Life, Linked, Unlinked, Reclaimed, accessible, is_reclaimed}
+use Rattle.bpf_model.specs.Schedule.{is_unlinked}
 use Rattle.bpf_model.specs.Frame.{read}
 use Rattle.bpf_model.specs.Machine.{Loaded, Run, environment, open_sections}
 use Rattle.model_laws.specs.ByKind.{StepsByKind, HelperStep, KernelStep, value_argument, element_load}
@@ -33,7 +34,7 @@ use Rattle.bpf_model.specs.MachineStep.{InsnStep}
 use Rattle.bpf_model.specs.Element.{loaded_from}
 use Rattle.bpf_model.specs.Frame.{frame_bytes, bytes_at}
 use Rattle.bpf_model.specs.MapState as map_state
-use Rattle.bpf_model.specs.Near.{IsNear}
+use Rattle.model_laws.specs.Near.{IsNear}
 use Rattle.bpf_model.specs.Operand.{operand_value}
 use Rattle.bpf_model.specs.Refines.{times}
 use Rattle.bpf_model.specs.Schedule.{Queues, Schedule}

@@ -19,7 +19,7 @@ use Rattle.bpf_model.specs.Arithmetic.{immediate}
 use Rattle.bpf_model.specs.Element.{Element}
 use Rattle.bpf_model.specs.Machine.{Loaded, Run, open_sections, moves}
 use Rattle.bpf_model.specs.MachineStep.{InsnStep}
-use Rattle.bpf_model.specs.Near.{IsNear, IsNearReference}
+use Rattle.model_laws.specs.Near.{IsNear, IsNearReference}
 use Rattle.bpf_model.specs.Operand.{operand_value}
 use Rattle.bpf_model.specs.MapState.{Store}
 use Rattle.bpf_model.specs.Refines.{RunRefines, RunSlotRefines, RefinesSchedule}
@@ -27,7 +27,7 @@ use Rattle.bpf_model.specs.Schedule.{Schedule}
 use Rattle.bpf_model.specs.Step.{State, insn_at}
 use Rattle.bpf_model.specs.View.{RunView, WorldView}
 use Rattle.bpf_model.specs.Word.{IsReferenceWord, WordIs, ByteIs, element_bases}
-use Rattle.bpf_model.specs.Holds.{HoldsValue}
+use Rattle.model_laws.specs.Holds.{HoldsValue}
 use Rattle.typed_runs.specs.Describes.{scene_of, AreNear}
 use Rattle.typed_runs.proofs.Reaching.{surrounds}
 use Rattle.view_laws.specs.Matching.{Matches, Simulates, half}

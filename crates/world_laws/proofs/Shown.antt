@@ -5,7 +5,7 @@ use Rattle.std.specs.Option.{option_map}
 use Rattle.std.proofs.lemmas.Option.{slice_get-map, slice_get_within}
 use Rattle.bpf_model.specs.declared.limits.TheConstants.{MAX_ENTRIES, MAX_MAPS, MAX_SPARE}
 use Rattle.bpf_model.specs.Element.{Element, is_reclaimed}
-use Rattle.bpf_model.specs.MapState.{IsShape, AreShapes}
+use Rattle.bpf_model.specs.Shapes.{IsShape, AreShapes}
 use Rattle.bpf_model.specs.Schedule.{Schedule}
 use Rattle.bpf_model.specs.View.{MapView, WorldView, shapes_of}
 use Rattle.bpf_model.specs.Refines.{slot_view, RefinesSchedule}

@@ -11,7 +11,7 @@ use Rattle.bpf_model.specs.declared.value.Reference.TheVariants.{Elem}
 use Rattle.bpf_model.specs.Step.{State, put, insn_at}
 use Rattle.bpf_model.specs.Machine.{Run, Machine, open_sections, run_at}
 use Rattle.bpf_model.specs.Request.{found_value}
-use Rattle.bpf_model.specs.Near.{IsNear}
+use Rattle.model_laws.specs.Near.{IsNear}
 use Rattle.typed_runs.specs.Kinds.{Kind, Blank, Mixed, Ended, Num, CtxAt, FrameAt, MapAt, ValueAt, MaybeNull, AbsState}
 use Rattle.typed_runs.specs.Describes.{Scene, scene_of, IsHeld, Naming, IsNullOrHeld, IsOf, AreNear, Describes}
 use Rattle.typed_runs.specs.Verified.{HasStep, IsPlanned}

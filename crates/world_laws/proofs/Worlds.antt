@@ -6,7 +6,7 @@ use Rattle.bpf_model.specs.declared.limits.TheConstants.{MAX_MAPS, MAX_PROGRAMS}
 use Rattle.bpf_model.specs.declared.event.Event.{Event}
 use Rattle.bpf_model.specs.declared.limits.MapShape.{MapShape}
 use Rattle.bpf_model.specs.Drain.{AnswersAsScheduled, AreScheduledAnswers}
-use Rattle.bpf_model.specs.Event.{IsReal, AreReal}
+use Rattle.bpf_model.specs.Real.{IsReal, AreReal}
 use Rattle.bpf_model.specs.Headline.{AnswersAsMachine, AreMachineAnswers, AreNeverStuck, AllExitInTime, AreReclaimedLate}
 use Rattle.bpf_model.specs.Machine.{Loaded}
 use Rattle.bpf_model.specs.Schedule.{Schedule, DoesScheduled}

@@ -5,11 +5,11 @@ use Rattle.bpf_model.specs.declared.limits.TheConstants.{MAX_MAPS}
 use Rattle.bpf_model.specs.declared.value.Reference.{Reference}
 use Rattle.bpf_model.specs.declared.value.Reference.TheVariants.{Ctx, Frame, MapRef, Elem}
 use Rattle.bpf_model.specs.Machine.{Loaded, Run, Machine, run_at}
-use Rattle.bpf_model.specs.MapState.{AreShapes}
+use Rattle.bpf_model.specs.Shapes.{AreShapes}
 use Rattle.bpf_model.specs.Schedule.{Schedule}
 use Rattle.bpf_model.specs.Spelling.{FitsInsn}
 use Rattle.bpf_model.specs.View.{RunView, WorldView, shapes_of}
-use Rattle.bpf_model.specs.Holds.{HoldsState}
+use Rattle.model_laws.specs.Holds.{HoldsState}
 use Rattle.typed_runs.specs.Well.{IsWell, AreVerified}
 use Rattle.view_laws.specs.Matching.{Matches}
 

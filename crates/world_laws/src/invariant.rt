@@ -6,9 +6,10 @@ ghost use Rattle.std.specs.Prelude.{◌≤◌, ◌<◌, ◌+◌, ◌^◌, ℕ, L
 ghost use Rattle.bpf_model.specs.declared.event.Event.{Event};
 ghost use Rattle.bpf_model.specs.declared.limits.MapShape.{MapShape};
 ghost use Rattle.bpf_model.specs.declared.limits.TheConstants.{MAX_MAPS, MAX_PROGRAMS};
-ghost use Rattle.bpf_model.specs.Event.{IsReal, AreReal};
+ghost use Rattle.bpf_model.specs.Real.{IsReal, AreReal};
 ghost use Rattle.bpf_model.specs.Machine.{Loaded};
-ghost use Rattle.bpf_model.specs.MapState.{AreShapes, new_map};
+ghost use Rattle.bpf_model.specs.Shapes.{AreShapes};
+ghost use Rattle.bpf_model.specs.MapState.{new_map};
 ghost use Rattle.bpf_model.specs.View.{WorldView, start_view};
 ghost use Rattle.typed_runs.specs.Verified.{IsVerified};
 ghost use Rattle.typed_runs.specs.Well.{IsVerifiedFor, AreVerified};

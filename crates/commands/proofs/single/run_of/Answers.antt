@@ -1,7 +1,7 @@
 use Rattle.std.proofs.Common.{rules, ◌≡◌, ◌⊎◌, List, subst, inl}
 use Rattle.std.proofs.lemmas.Result.{err_from_is_err_and}
 use Rattle.bpf_model.specs.declared.event.EventRefusal.{EventRefusal}
-use Rattle.bpf_model.specs.Event.{event_refusal_number}
+use Rattle.bpf_model.specs.EventNumbers.{event_refusal_number}
 use Rattle.bpf_model.specs.View.{shapes_of_maps}
 use Rattle.program_files.specs.declared.verdict.TheConstants.{MEMORY}
 use Rattle.commands.specs.declared.request.MapElement.{MapElement}

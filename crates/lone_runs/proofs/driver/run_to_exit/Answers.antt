@@ -1,5 +1,5 @@
 use Rattle.std.proofs.Common.{◌<◌, ℕ, ◌+◌, ◌-◌, List, arith, length, sym, subst}
-use Rattle.bpf_model.specs.Event.{AreBytes}
+use Rattle.bpf_model.specs.Real.{AreBytes}
 use Rattle.bpf_model.specs.Exit.{ExitsWith}
 use Rattle.model_laws.proofs.Exits.{one_exit}
 use Rattle.view_laws.specs.Reactions.{fresh_view}

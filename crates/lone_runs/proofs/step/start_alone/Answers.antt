@@ -1,5 +1,5 @@
 use Rattle.std.proofs.Common.{sym, subst}
-use Rattle.bpf_model.specs.Event.{AreBytes}
+use Rattle.bpf_model.specs.Real.{AreBytes}
 use Rattle.lone_runs.specs.Lone.{StandsAlone}
 use Rattle.lone_runs.proofs.Starting.{starts}
 use Rattle.lone_runs.proofs.step.start_alone.Goals as goal

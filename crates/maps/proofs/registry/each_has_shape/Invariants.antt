@@ -1,6 +1,6 @@
 use Rattle.std.proofs.Common.{◌≡◌, ℕ, ◌<◌}
 use Rattle.std.specs.Prelude.{slice_get, Some}
-use Rattle.bpf_model.specs.MapState.{IsShape}
+use Rattle.bpf_model.specs.Shapes.{IsShape}
 use Rattle.bpf_model.specs.View.{MapView}
 use Rattle.maps.proofs.registry.each_has_shape.Given as goal
 

@@ -1,6 +1,7 @@
 use Rattle.std.proofs.Common.{ℕ, ◌<◌, length, arith, ap}
 use Rattle.std.specs.Prelude.{slice_index_or}
-use Rattle.bpf_model.specs.Places.{length-starts_from, StartsAt, start-inside}
+use Rattle.bpf_model.proofs.Places.{length-starts_from, start-inside}
+use Rattle.bpf_model.specs.Places.{StartsAt}
 use Rattle.program_graph.proofs.Edges.{start_read, start_below, index_found, index_only}
 use Rattle.std.proofs.lemmas.List.{length-set}
 use Rattle.std.specs.Prelude.{Option}

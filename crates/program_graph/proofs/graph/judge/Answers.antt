@@ -1,5 +1,5 @@
 use Rattle.std.proofs.Common.{◌≡◌, ℕ, ◌<◌, ◌-◌, length, arith, ap, rules}
-use Rattle.bpf_model.specs.Places.{length-starts_from}
+use Rattle.bpf_model.proofs.Places.{length-starts_from}
 use Rattle.program_graph.specs.FirstPass.{IsFirstUnreached, IsInsnReached}
 use Rattle.program_graph.proofs.Verdicts.{some_insn, bad_end, unreachable_at, good_graph}
 use Rattle.std.specs.Prelude.{slice_index_or}

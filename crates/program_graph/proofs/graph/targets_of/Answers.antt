@@ -2,7 +2,8 @@ use Rattle.std.proofs.Common.{◌≡◌, length, arith, ap, sym, refl, subst}
 use Rattle.std.specs.Prelude.{slice_index_or, slice_get, Some, Ok}
 use Rattle.std.proofs.lemmas.Option.{slice_get_read}
 use Rattle.bpf_model.specs.Graph.{distance}
-use Rattle.bpf_model.specs.Places.{length-starts_from, StartsAt, start-insn}
+use Rattle.bpf_model.proofs.Places.{length-starts_from, start-insn}
+use Rattle.bpf_model.specs.Places.{StartsAt}
 use Rattle.program_graph.specs.FirstPass.{target_of}
 use Rattle.program_graph.specs.Indexes.{HasTargets}
 use Rattle.program_graph.proofs.Edges.{start_read, start_below, flaw_found, bad_jump, jumps_before, jumps_all, targets_more, is_target, jumps_more}

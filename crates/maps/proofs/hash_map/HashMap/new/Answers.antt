@@ -1,7 +1,7 @@
 use Rattle.std.proofs.Common.{◌≡◌, ◌∙◌, ◌+◌, sym, ap, refl, subst, arith}
 use Rattle.bpf_model.specs.declared.limits.MapKind.TheVariants.{Hash}
 use Rattle.bpf_model.specs.declared.limits.MapShape.{MapShape}
-use Rattle.bpf_model.specs.MapState.{IsShape}
+use Rattle.bpf_model.specs.Shapes.{IsShape}
 use Rattle.bpf_model.specs.View.{MapView}
 use Rattle.maps.specs.Parted.{PartsView}
 use Rattle.maps.specs.Counting.{IsCounted}

@@ -1,6 +1,6 @@
 use Rattle.std.proofs.Common.{◌≡◌, ◌∙◌, List, ap, sym, subst}
 use Rattle.std.specs.Prelude.{slice_get, Some}
-use Rattle.bpf_model.specs.MapState.{IsShape}
+use Rattle.bpf_model.specs.Shapes.{IsShape}
 use Rattle.bpf_model.specs.View.{MapView, shape_of_view as shape_of}
 use Rattle.model_laws.proofs.Counting.{map-back}
 use Rattle.maps.specs.Registry.{RegistryView}

@@ -1,7 +1,7 @@
 use Rattle.std.proofs.Common.{◌≡◌, ◌∙◌, List, [], ◌∷◌, ◌++◌, None, ap, refl}
 use Rattle.std.specs.Prelude.{OnOk, Ok, Err, slice_get}
 use Rattle.std.specs.List.{flat_map}
-use Rattle.bpf_model.specs.Event.{event_refusal_number}
+use Rattle.bpf_model.specs.EventNumbers.{event_refusal_number}
 use Rattle.bpf_model.specs.View.{WorldView}
 use Rattle.script_lines.specs.declared.reply.Reply.{Reply}
 use Rattle.script_lines.specs.declared.reply.Reply.TheVariants as replies
