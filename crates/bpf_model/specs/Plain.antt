@@ -1,5 +1,5 @@
--- Plain programs, which the verifier owes acceptance: forward jumps, every instruction reached, and
--- on every path each register and each byte of the frame written as a number before it is read.
+-- What an instruction reads and writes, and paths on which something is not written: words for plain
+-- programs, which the verifier owes acceptance (`PlainMaps`).
 use Rattle.std.specs.Prelude.{◌≡◌, ℕ, ◌+◌, ◌<◌, ◌≤◌, List, Some, ℤ, pos, ◌+ℤ◌, ◌⊎◌}
 use Rattle.bpf_model.specs.declared.limits.TheConstants.{FRAME_BYTES}
 use Rattle.bpf_model.specs.declared.insn.Insn.{Insn}
@@ -11,7 +11,7 @@ use Rattle.bpf_model.specs.declared.insn.Operand.TheVariants.{Register, Immediat
 use Rattle.bpf_model.specs.declared.opcode.Width.{Width}
 use Rattle.bpf_model.specs.Access.{byte_count, unsigned_width, region_offset}
 use Rattle.bpf_model.specs.Operand.{unary_source}
-use Rattle.bpf_model.specs.Graph.{GoesTo, HasForwardGraph}
+use Rattle.bpf_model.specs.Graph.{GoesTo}
 use Rattle.bpf_model.specs.Step.{insn_at}
 
 -- the registers that an operand names
@@ -75,21 +75,6 @@ pub data WithoutWrite (program : List Insn) (Writes : Insn → Type 0) : ℕ →
       insn_at program place ≡ Some i → (Writes i → ⊥) → GoesTo i place target →
       WithoutWrite program Writes target
 
--- A path leads to the slot on which the register, or the byte of the frame, isn't written.
-abbrev pub WithoutRegister : List Insn → ℕ → ℕ → Type 0
-WithoutRegister program r place = WithoutWrite program (λ i. WritesRegister i r) place
-
+-- A path leads to the slot on which the byte of the frame isn't written.
 abbrev pub WithoutByte : List Insn → ℕ → ℕ → Type 0
 WithoutByte program k place = WithoutWrite program (λ i. WritesByte i k) place
-
-pub record IsPlain (program : List Insn) : Type 0 where
-  pub graph : HasForwardGraph program
-  pub simple : (place : ℕ) (i : Insn) → insn_at program place ≡ Some i → IsSimple i
-  -- r10 isn't written, and only the accesses to the frame read it
-  pub frame_pointer : (place : ℕ) (i : Insn) → insn_at program place ≡ Some i →
-      (WritesRegister i 10 → ⊥) × (ReadsRegister i 10 → ⊥)
-  pub registers : (place : ℕ) (i : Insn) (r : ℕ) → insn_at program place ≡ Some i →
-      ReadsRegister i r
-      → WithoutRegister program r place → ⊥
-  pub bytes : (place : ℕ) (i : Insn) (k : ℕ) → insn_at program place ≡ Some i → ReadsByte i k →
-      WithoutByte program k place → ⊥

@@ -1,20 +1,17 @@
 -- The journal: entries that replay, as a history of the machine, from a base state in which no run
 -- slot is occupied.
-use Rattle.std.specs.Prelude.{◌≡◌, ℕ, ◌≤◌, List, [], ◌∷◌, length, map}
+use Rattle.std.specs.Prelude.{◌≡◌, ℕ, ◌≤◌, List, length, map}
 use Rattle.bpf_model.specs.declared.entry.Entry.{Entry}
 use Rattle.bpf_model.specs.declared.event.Event.{Event}
 use Rattle.bpf_model.specs.declared.event.Answer.{Answer}
 use Rattle.bpf_model.specs.Machine.{Machine, AreFree}
 use Rattle.bpf_model.specs.Real.{AreReal}
-use Rattle.bpf_model.specs.Event.{DoesEvent}
+use Rattle.bpf_model.specs.History.{IsHistory, last_of}
 
 -- Some history of the machine from m has these answers to these events, and ends in new.
 abbrev pub HasHistoryTo : Machine → List Event → List Answer → Machine → Type 0
-HasHistoryTo m [] [] new = new ≡ m
-HasHistoryTo m (event ∷ events) (answer ∷ answers) new =
-    (next : Machine) × DoesEvent m event answer next
-    × HasHistoryTo next events answers new
-HasHistoryTo m events answers new = ⊥
+HasHistoryTo m events answers new =
+    (states : List Machine) × IsHistory m events answers states × (last_of m states ≡ new)
 
 abbrev pub events_of : List Entry → List Event
 events_of entries = map (λ e. e.event) entries

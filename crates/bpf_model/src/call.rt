@@ -9,6 +9,23 @@ pub enum Helper {
     Delete,
 }
 
+/// What a helper takes in a register: a reference to a map of the program's list; a reference to the frame, to as
+/// many bytes as a key or a value of that map has; or a number.
+#[derive(Clone, Copy, Debug, PartialEq, Eq)]
+pub enum ArgumentKind {
+    MapOfProgram,
+    KeyOfMap,
+    ValueOfMap,
+    AnyNumber,
+}
+
+/// What a helper leaves in r0: a reference to an element's value or 0, or 0 or the number of an error.
+#[derive(Clone, Copy, Debug, PartialEq, Eq)]
+pub enum ResultKind {
+    ElementOrNull,
+    ErrorNumber,
+}
+
 /// A kernel function, called by its BTF number: `bpf_rcu_read_lock` (1) and `bpf_rcu_read_unlock` (2).
 #[derive(Clone, Copy, Debug, PartialEq, Eq)]
 pub enum KernelFunction {
@@ -66,6 +83,7 @@ pub fn ret_word(ret: Result<(), Errno>) -> u64
 impl Helper {
     ghost use Rattle.std.specs.Prelude.{◌≡◌};
     ghost use Rattle.bpf_model.specs.Call.{helper_of};
+    ghost use Rattle.bpf_model.specs.Request.{signature_of};
 
     /// The helper of a static number, or `None` where no helper has it.
     pub fn from_number(number: i32) -> Option<Helper>
@@ -79,6 +97,34 @@ impl Helper {
             Some(Helper::Delete)
         } else {
             None
+        }
+    }
+
+    /// The kinds of its arguments, from r1 on (Linux's `bpf_func_proto`).
+    pub fn arguments(self) -> &'static [ArgumentKind]
+        ensures { result.now ≡ (signature_of self).arguments }
+    {
+        match self {
+            Helper::Lookup | Helper::Delete => &[
+                ArgumentKind::MapOfProgram,
+                ArgumentKind::KeyOfMap,
+            ],
+            Helper::Update => &[
+                ArgumentKind::MapOfProgram,
+                ArgumentKind::KeyOfMap,
+                ArgumentKind::ValueOfMap,
+                ArgumentKind::AnyNumber,
+            ],
+        }
+    }
+
+    /// The kind of its result.
+    pub fn result(self) -> ResultKind
+        ensures { result ≡ (signature_of self).result }
+    {
+        match self {
+            Helper::Lookup => ResultKind::ElementOrNull,
+            Helper::Update | Helper::Delete => ResultKind::ErrorNumber,
         }
     }
 }

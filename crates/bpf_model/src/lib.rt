@@ -20,7 +20,7 @@ mod stat;
 mod value;
 
 pub use array::array_of;
-pub use call::{Errno, Helper, KernelFunction, ret_word};
+pub use call::{ArgumentKind, Errno, Helper, KernelFunction, ResultKind, ret_word};
 pub use entry::Entry;
 pub use event::{Answer, Event, EventRefusal, Given, ReapedElement, are_bytes, are_real};
 pub use id::{MapId, ProgId, RunId};

@@ -4,7 +4,6 @@ use Rattle.std.proofs.lemmas.Bool.Decides.{nat_tests}
 use Rattle.bpf_model.specs.declared.limits.TheConstants.{MAX_PROGRAMS, CTX_BYTES}
 use Rattle.bpf_model.specs.declared.insn.Insn.{Insn}
 use Rattle.bpf_model.specs.declared.limits.MapShape.{MapShape}
-use Rattle.bpf_model.specs.Plain.{IsPlain}
 use Rattle.bpf_model.specs.PlainMaps.{IsPlainWithMaps}
 use Rattle.bpf_model.specs.Spelling.{IsProgram, text}
 use Rattle.verifier.specs.declared.refusal.ProgramRefusal.{ProgramRefusal}
@@ -18,8 +17,8 @@ use Rattle.control.specs.Setups.{SetupView, shapes_made}
 use Rattle.world_laws.specs.Binding.{IsBoundTo}
 
 -- a refusal of the verifier that is not for want of memory
-pub unverified-reply : {E : Type 0} (s : SetupView) (code : List ℕ) (shapes : List MapShape) (maps : List ℕ) (ctx_len : ℕ) (program : List Insn) (refusal : ProgramRefusal) (result : Result Reply E) → IsProgram program → code ≡ text program → IsToldOf program refusal → (IsPlain program → refusal ≡ Memory) → (IsPlainWithMaps program shapes → refusal ≡ Memory) → IfOk result (λ _. refusal ≢ Memory) → IfOk result (λ reply. reply ≡ replies.Refused (refusal_number refusal) (refusal_slot refusal)) → IfOk result (λ reply. ReadReplies s code shapes maps ctx_len reply s)
-unverified-reply s code shapes maps ctx_len program refusal (Ok reply) is spelled told plain with-maps known told-as =
+pub unverified-reply : {E : Type 0} (s : SetupView) (code : List ℕ) (shapes : List MapShape) (maps : List ℕ) (ctx_len : ℕ) (program : List Insn) (refusal : ProgramRefusal) (result : Result Reply E) → IsProgram program → code ≡ text program → IsToldOf program refusal → (IsPlainWithMaps program shapes → refusal ≡ Memory) → IfOk result (λ _. refusal ≢ Memory) → IfOk result (λ reply. reply ≡ replies.Refused (refusal_number refusal) (refusal_slot refusal)) → IfOk result (λ reply. ReadReplies s code shapes maps ctx_len reply s)
+unverified-reply s code shapes maps ctx_len program refusal (Ok reply) is spelled told with-maps known told-as =
     inr (inl (
       record {
         program = program;
@@ -28,13 +27,12 @@ unverified-reply s code shapes maps ctx_len program refusal (Ok reply) is spelle
         refusal = refusal;
         told = told;
         known = known;
-        not_plain = λ p. known (plain p);
         not_plain_with_maps = λ p. known (with-maps p);
         reply_is = told-as;
       },
       refl,
     ))
-unverified-reply s code shapes maps ctx_len program refusal (Err e) is spelled told plain with-maps known told-as = tt
+unverified-reply s code shapes maps ctx_len program refusal (Err e) is spelled told with-maps known told-as = tt
 
 -- no limit refuses where there is room, and the context is not too long
 no-limit : (s : SetupView) (ctx_len : ℕ) → length s.programs < MAX_PROGRAMS → ctx_len ≤ CTX_BYTES → limit_refusal s ctx_len ≡ None

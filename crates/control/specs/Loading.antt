@@ -6,7 +6,6 @@ use Rattle.bpf_model.specs.declared.insn.Insn.{Insn}
 use Rattle.bpf_model.specs.declared.limits.MapShape.{MapShape}
 use Rattle.bpf_model.specs.declared.limits.TheConstants.{MAX_PROGRAMS, CTX_BYTES}
 use Rattle.bpf_model.specs.EventNumbers.{event_refusal_number}
-use Rattle.bpf_model.specs.Plain.{IsPlain}
 use Rattle.bpf_model.specs.PlainMaps.{IsPlainWithMaps}
 use Rattle.bpf_model.specs.Spelling.{IsProgram, text}
 use Rattle.maps.specs.declared.fault.MapFault.{MapFault}
@@ -85,7 +84,6 @@ pub record IsUnverified (code : List ℕ) (shapes : List MapShape) (reply : Repl
   pub refusal : ProgramRefusal
   pub told : IsToldOf program refusal
   pub known : refusal ≢ refusals.Memory
-  pub not_plain : IsPlain program → ⊥
   pub not_plain_with_maps : IsPlainWithMaps program shapes → ⊥
   pub reply_is : reply ≡ replies.Refused (refusal_number refusal) (refusal_slot refusal)
 

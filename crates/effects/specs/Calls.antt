@@ -10,8 +10,11 @@ use Rattle.bpf_model.specs.declared.call.Helper.TheVariants.{Lookup, Update, Del
 use Rattle.bpf_model.specs.declared.call.KernelFunction.{KernelFunction}
 use Rattle.bpf_model.specs.declared.call.KernelFunction.TheVariants.{ReadLock, ReadUnlock}
 use Rattle.bpf_model.specs.Call.{helper_of, kernel_function_of}
-use Rattle.bpf_model.specs.Request.{ArgumentKind, MapOfProgram, KeyOfMap, ValueOfMap, AnyNumber}
-use Rattle.bpf_model.specs.Request.{ResultKind, ElementOrNull, ErrorNumber, signature_of}
+use Rattle.bpf_model.specs.declared.call.ArgumentKind.{ArgumentKind}
+use Rattle.bpf_model.specs.declared.call.ArgumentKind.TheVariants.{MapOfProgram, KeyOfMap, ValueOfMap, AnyNumber}
+use Rattle.bpf_model.specs.declared.call.ResultKind.{ResultKind}
+use Rattle.bpf_model.specs.declared.call.ResultKind.TheVariants.{ElementOrNull, ErrorNumber}
+use Rattle.bpf_model.specs.Request.{signature_of}
 use Rattle.scalar_domain.specs.declared.scalar.Scalar.{Scalar}
 use Rattle.register_kinds.specs.declared.fault.InsnFault.{InsnFault}
 use Rattle.register_kinds.specs.declared.fault.InsnFault.TheVariants.{UnknownCall, OutsideSection}

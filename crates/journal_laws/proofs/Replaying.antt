@@ -56,11 +56,6 @@ replays_push base world new entries entry h real answer is =
     }
 
 -- on the machine
-history-run : (m : Machine) (events : List Event) (answers : List Answer) (states : List Machine) → IsHistory m events answers states → HasHistoryTo m events answers (last_of m states)
-history-run m [] [] [] h = refl
-history-run m (event ∷ events) (answer ∷ answers) (next ∷ states) h = (next, h.0, history-run next events answers states h.1)
-history-run m events answers states h = absurd h
-
 quiet-slot : (slots : List ℕ) (es : List Element) (programs : List Loaded) (o : Option (Option RunView)) (p : Option (Option Run)) → RunSlotRefines slots es programs o p → option_flatten o ≡ None → option_flatten p ≡ None
 quiet-slot slots es programs None None h e = refl
 quiet-slot slots es programs (Some None) (Some None) h e = refl
@@ -77,7 +72,7 @@ pub replays_on_machine : (limit : ℕ) (base world : WorldView) (entries : List 
 replays_on_machine limit base world entries h short m t =
     let run = answers_machine base (events_of entries) h.base_is.ready h.real m t in
     let last = last_of m run.0 in
-    let moved : HasHistoryTo m (events_of entries) (answers_of entries) last = subst (λ (xs : List Answer). HasHistoryTo m (events_of entries) xs last) (sym h.answers) (history-run m (events_of entries) (full_reactions base (events_of entries)).0 run.0 run.1) in (
+    let moved : HasHistoryTo m (events_of entries) (answers_of entries) last = (run.0, subst (λ (xs : List Answer). IsHistory m (events_of entries) xs run.0) (sym h.answers) run.1, refl) in (
       last,
       record { quiet = quiet-machine base m h.quiet t; short = short; real = h.real; replay = moved },
       subst (λ (w : WorldView). Tracks w last) (sym h.world_is) run.2,

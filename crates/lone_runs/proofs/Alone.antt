@@ -16,7 +16,9 @@ use Rattle.bpf_model.specs.Access.{byte_count, unsigned_width}
 use Rattle.bpf_model.specs.Call.{helper_of, kernel_function_of}
 use Rattle.model_laws.specs.Holds.{HoldsState, HoldsValue}
 use Rattle.bpf_model.specs.Operand.{operand_value}
-use Rattle.bpf_model.specs.Request.{AnyNumber, Argument, ArgumentKind, KeyOfMap, MapArgument, MapOfProgram, Request, ValueOfMap, argument_of, arguments_of, asks, load_request, named_map, section_request, signature_of, store_request, CallHelper}
+use Rattle.bpf_model.specs.declared.call.ArgumentKind.TheVariants.{AnyNumber, KeyOfMap, MapOfProgram, ValueOfMap}
+use Rattle.bpf_model.specs.Request.{Argument, MapArgument, Request, argument_of, arguments_of, asks, load_request, named_map, section_request, signature_of, store_request, CallHelper}
+use Rattle.bpf_model.specs.declared.call.ArgumentKind.{ArgumentKind}
 use Rattle.bpf_model.specs.Step.{State}
 use Rattle.bpf_model.specs.Value.{◌>>=◌, reference}
 use Rattle.model_laws.specs.Alone.{IsOwn}

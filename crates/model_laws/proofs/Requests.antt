@@ -32,7 +32,10 @@ use Rattle.bpf_model.specs.Element.{loaded_from, stored_in}
 use Rattle.bpf_model.specs.Frame.{frame_bytes}
 use Rattle.bpf_model.specs.Request.{found_value}
 use Rattle.bpf_model.specs.Step.{returns}
-use Rattle.bpf_model.specs.Request.{ArgumentKind, MapOfProgram, KeyOfMap, ValueOfMap, AnyNumber, ElementOrNull, Argument, MapArgument, BytesArgument, NumberArgument, Request, LoadElement, StoreElement, CallHelper, Enter, Leave, named_map, called_shape, signature_of, argument_of, arguments_of, load_request, store_request, section_request, asks, extended_reply, loads, Calls, IsOfKind, ServesRequest, bound_shape}
+use Rattle.bpf_model.specs.declared.call.ArgumentKind.{ArgumentKind}
+use Rattle.bpf_model.specs.declared.call.ArgumentKind.TheVariants.{MapOfProgram, KeyOfMap, ValueOfMap, AnyNumber}
+use Rattle.bpf_model.specs.declared.call.ResultKind.TheVariants.{ElementOrNull}
+use Rattle.bpf_model.specs.Request.{Argument, MapArgument, BytesArgument, NumberArgument, Request, LoadElement, StoreElement, CallHelper, Enter, Leave, named_map, called_shape, signature_of, argument_of, arguments_of, load_request, store_request, section_request, asks, extended_reply, loads, Calls, IsOfKind, ServesRequest, bound_shape}
 use Rattle.bpf_model.specs.MachineStep.{Resumes, StepsAlone, StepsServed}
 use Rattle.model_laws.proofs.Computations.{first-step, then-step}
 

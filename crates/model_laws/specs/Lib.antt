@@ -7,5 +7,6 @@ pub mod Growth
 pub mod Holds
 pub mod Locations
 pub mod Near
+pub mod PlainAlone
 pub mod Scheduled
 pub mod Steps

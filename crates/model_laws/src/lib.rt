@@ -21,7 +21,7 @@ ghost use Rattle.bpf_model.specs.declared.limits.MapShape.{MapShape};
 ghost use Rattle.bpf_model.specs.Machine.{Machine, Loaded, open_sections, run_at, start_machine};
 ghost use Rattle.bpf_model.specs.Schedule.{Queues, Schedule, is_any, first_ready, DoesScheduled, IsScheduledHistory, start_schedule};
 ghost use Rattle.bpf_model.specs.Drain.{Drains, machines, AnswersAsScheduled, AreScheduledAnswers};
-ghost use Rattle.bpf_model.specs.Plain.{IsPlain};
+ghost use Rattle.model_laws.specs.PlainAlone.{IsPlain};
 ghost use Rattle.bpf_model.specs.PlainMaps.{IsPlainWithMaps};
 ghost use Rattle.bpf_model.specs.Event.{refusal, DoesEvent};
 ghost use Rattle.bpf_model.specs.Replay.{HasHistoryTo};

@@ -5,7 +5,6 @@ use Rattle.std.proofs.lemmas.List.{take_more, map-append}
 use Rattle.std.proofs.lemmas.Option.{slice_get_cases, same_Some, none-some}
 use Rattle.bpf_model.specs.View.{MapView, shapes_of_maps, shape_of_view as shape_of}
 use Rattle.bpf_model.specs.declared.limits.MapShape.{MapShape}
-use Rattle.bpf_model.specs.Plain.{IsPlain}
 use Rattle.bpf_model.specs.PlainMaps.{IsPlainWithMaps}
 use Rattle.verifier.specs.declared.refusal.ProgramRefusal.{ProgramRefusal}
 use Rattle.verifier.specs.declared.refusal.ProgramRefusal.TheVariants.{Memory}
@@ -43,13 +42,12 @@ pub shape_missing : (maps : List MapView) (n id : ℕ) (r : Option MapShape) →
 shape_missing maps n id r same is none below =
     none_is_past maps n (slice_get_cases maps n).1 (ap (λ (k : ℕ). option_map shape_of (slice_get maps k)) (sym same) ∙ (sym is ∙ none)) below
 
-pub verifier_told : (bytes : List ℕ) (s : Source) (r : ProgramRefusal) (v : Verdict) → IsSourceOf bytes s → IsToldOf s.program r → (IsPlain s.program → r ≡ Memory) → (IsPlainWithMaps s.program (shapes_of_maps s.registry.maps) → r ≡ Memory) → IsRefusalVerdict r v → IsCheckedRefusal bytes v
-verifier_told bytes s r v is found plain with_maps told = inr (record {
+pub verifier_told : (bytes : List ℕ) (s : Source) (r : ProgramRefusal) (v : Verdict) → IsSourceOf bytes s → IsToldOf s.program r → (IsPlainWithMaps s.program (shapes_of_maps s.registry.maps) → r ≡ Memory) → IsRefusalVerdict r v → IsCheckedRefusal bytes v
+verifier_told bytes s r v is found with_maps told = inr (record {
   source = s;
   is = is;
   refusal = r;
   found = found;
   told = told;
-  not_plain = λ n p. n (told.code ∙ ap refusal_number (plain p));
   not_plain_with_maps = λ n p. n (told.code ∙ ap refusal_number (with_maps p));
 })

@@ -3,7 +3,6 @@ use Rattle.std.specs.Prelude.{◌≡◌, ◌≢◌, ℕ, ◌⊎◌, List, length
 use Rattle.bpf_model.specs.declared.insn.Insn.{Insn}
 use Rattle.bpf_model.specs.Spelling.{IsProgram, text}
 use Rattle.bpf_model.specs.Places.{slot_total}
-use Rattle.bpf_model.specs.Plain.{IsPlain}
 use Rattle.bpf_model.specs.PlainMaps.{IsPlainWithMaps}
 use Rattle.bpf_model.specs.View.{shapes_of_maps}
 use Rattle.disasm.specs.Text.{program_text}
@@ -69,14 +68,13 @@ pub record IsCodeVerdict (bytes : List ℕ) (v : Verdict) : Type 0 where
   pub told : IsDecodeVerdict fault v
 
 -- The file says a program, and the verdict is the verifier's of it. Unless memory ran out, the
--- program isn't plain, with or without maps.
+-- program isn't plain.
 pub record IsVerifierVerdict (bytes : List ℕ) (v : Verdict) : Type 0 where
   pub source : Source
   pub is : IsSourceOf bytes source
   pub refusal : ProgramRefusal
   pub found : IsToldOf source.program refusal
   pub told : IsRefusalVerdict refusal v
-  pub not_plain : v.code ≢ MEMORY → ¬ (IsPlain source.program)
   pub not_plain_with_maps : v.code ≢ MEMORY →
       ¬ (IsPlainWithMaps source.program (shapes_of_maps source.registry.maps))
 

@@ -1,6 +1,5 @@
 //! A file's program, verified with the file's maps and its context.
 ghost use Rattle.std.specs.Prelude.{◌≡◌, ◌≤◌, length, IfOk, IfErr};
-ghost use Rattle.bpf_model.specs.Plain.{IsPlain};
 ghost use Rattle.bpf_model.specs.PlainMaps.{IsPlainWithMaps};
 ghost use Rattle.bpf_model.specs.declared.limits.TheConstants.{CTX_BYTES, MAX_MAPS};
 ghost use Rattle.bpf_model.specs.View.{shapes_of_maps};
@@ -59,7 +58,6 @@ pub fn verify_source(alloc: Global, source: Source) -> Result<VerifiedSource, Pr
         IsVerified source.program (shapes_of_maps source.registry.maps) source.ctx_len) }
     ensures graph { IfOk result (λ _. HasGoodGraph source.program) }
     ensures told { IfErr result (IsToldOf source.program) }
-    ensures plain { IsPlain source.program → IsTaken result }
     ensures plain_with_maps { IsPlainWithMaps source.program (shapes_of_maps source.registry.maps) →
         IsTaken result }
 {

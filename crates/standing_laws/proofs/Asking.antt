@@ -11,7 +11,8 @@ use Rattle.bpf_model.specs.declared.value.Value.TheVariants.{Nothing, Number, Po
 use Rattle.bpf_model.specs.declared.value.Reference.TheVariants.{Ctx, Frame, MapRef, Elem}
 use Rattle.bpf_model.specs.Frame.{byte_of}
 use Rattle.bpf_model.specs.Frame.{bytes_at, bytes_from, frame_bytes}
-use Rattle.bpf_model.specs.Request.{Argument, MapArgument, BytesArgument, KeyOfMap, MapOfProgram, argument_of, arguments_of, called_shape, named_map, signature_of}
+use Rattle.bpf_model.specs.Request.{Argument, MapArgument, BytesArgument, argument_of, arguments_of, called_shape, named_map, signature_of}
+use Rattle.bpf_model.specs.declared.call.ArgumentKind.TheVariants.{KeyOfMap, MapOfProgram}
 use Rattle.bpf_model.specs.Step.{State}
 use Rattle.bpf_model.specs.Value.{◌>>=◌, reference}
 use Rattle.model_laws.proofs.Computations.{first-step}

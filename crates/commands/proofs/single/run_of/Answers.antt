@@ -17,7 +17,7 @@ use Rattle.commands.proofs.single.run_of.Goals as goal
 pub returns-in_err-checked-clause-refused : goal.returns-in_err-checked-clause-refused
 returns-in_err-checked-clause-refused c bytes h =
     let p = err_from_is_err_and c.from_residual-in_err-checked.result c.from_residual-in_err-checked.ensures.1 in
-    rw p.1 (inl (verifier_told bytes c.in_ok-source.source c.in_err-checked.field-0.0 p.0 (c.in_ok-source.ensures.found bytes h) c.in_err-checked.ensures.told c.in_err-checked.ensures.plain c.in_err-checked.ensures.plain_with_maps p.2))
+    rw p.1 (inl (verifier_told bytes c.in_ok-source.source c.in_err-checked.field-0.0 p.0 (c.in_ok-source.ensures.found bytes h) c.in_err-checked.ensures.told c.in_err-checked.ensures.plain_with_maps p.2))
 
 pub returns-then-len-ctx_len-clause-refused : goal.returns-then-len-ctx_len-clause-refused
 returns-then-len-ctx_len-clause-refused c bytes h =

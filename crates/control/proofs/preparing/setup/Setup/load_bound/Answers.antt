@@ -15,7 +15,7 @@ returns-in-Err-verify-clause-replies c =
     let d = c.in-Ok.ensures in
     let v = c.in-Err-verify.ensures in
     let shapes : c.deref.result.now ≡ c.args.bound.shapes.items = c.deref.ensures.value in
-    unverified-reply c.args.self.now c.args.code.now c.args.bound.shapes.items c.args.bound.maps.items c.args.ctx_len c.in-Ok.program c.in-Err-verify.refusal c.unverified.result d.program d.found v.flaw_is v.plain (subst (λ x. IsPlainWithMaps c.in-Ok.program x → c.in-Err-verify.refusal ≡ Memory) shapes v.plain_with_maps) c.unverified.ensures.known c.unverified.ensures.reply
+    unverified-reply c.args.self.now c.args.code.now c.args.bound.shapes.items c.args.bound.maps.items c.args.ctx_len c.in-Ok.program c.in-Err-verify.refusal c.unverified.result d.program d.found v.flaw_is (subst (λ x. IsPlainWithMaps c.in-Ok.program x → c.in-Err-verify.refusal ≡ Memory) shapes v.plain_with_maps) c.unverified.ensures.known c.unverified.ensures.reply
 
 pub invariant_of-self-2 : goal.invariant_of-self-2
 invariant_of-self-2 c =
