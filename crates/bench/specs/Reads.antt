@@ -1,8 +1,8 @@
 -- What the measurements ask of a table, its readers, its writer and the program that they run.
 use Rattle.std.specs.Prelude.{◌≡◌, All}
-use Rattle.table_rule.specs.declared.view.TableShape.{TableShape}
+use Rattle.read_table.specs.declared.view.TableShape.{TableShape}
 use Rattle.verifier.specs.Checked.{Checked}
-use Rattle.shared_runs.specs.Words.{FitsTable}
+use Rattle.read_table.specs.Words.{FitsTable}
 use Rattle.read_table.specs.Held.{IsReady, TableView}
 use Rattle.bench.specs.declared.reads.reader.Reader.{Reader}
 use Rattle.bench.specs.declared.reads.stage.Stage.{Stage}

@@ -12,7 +12,7 @@ use crate::request::Command;
 use crate::script::run_lines;
 use crate::single::run_single;
 use crate::streams::{unread, write_text, written};
-use explain::explain;
+use program_files::explain;
 use program_files::{Accepted, FileBytes, Verdict, check, read_file, text_of};
 use std::alloc::Global;
 use std::io;

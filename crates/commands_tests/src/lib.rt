@@ -7,6 +7,8 @@ mod answers;
 #[cfg(test)]
 mod dialogues;
 #[cfg(test)]
+mod explained;
+#[cfg(test)]
 mod files;
 #[cfg(test)]
 mod lines;

@@ -32,11 +32,11 @@ use Rattle.world_laws.specs.Local as laws
 use Rattle.world_laws.specs.Moving.{ended_view}
 use Rattle.world_laws.proofs.Alike.{exit_alike}
 use Rattle.world_laws.proofs.Codes.{all-get}
-use Rattle.standing_laws.specs.Around.{MayReply, element_of, elements_around, store_of}
-use Rattle.standing_laws.specs.Described.{IsShownBy}
-use Rattle.standing_laws.proofs.Contents.{plain-content}
-use Rattle.standing_laws.proofs.Described.{plain-guards, plain-single, planned, surrounds}
-use Rattle.standing_laws.proofs.Own.{Does, IsReadyCode}
+use Rattle.world_laws.specs.Around.{MayReply, element_of, elements_around, store_of}
+use Rattle.world_laws.specs.Described.{IsShownBy}
+use Rattle.world_laws.proofs.Contents.{plain-content}
+use Rattle.world_laws.proofs.Described.{plain-guards, plain-single, planned, surrounds}
+use Rattle.world_laws.proofs.StandingOwn.{Does, IsReadyCode}
 use Rattle.verifier.specs.Checked.{Checked}
 use Rattle.verifier.specs.Verdict.{verified_of}
 use Rattle.machine.specs.declared.request.Request.{Request}

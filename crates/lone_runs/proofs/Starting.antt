@@ -17,10 +17,10 @@ use Rattle.model_laws.proofs.Alone.{starts_sharing_nothing}
 use Rattle.model_laws.proofs.Holding.{holds-entry}
 use Rattle.typed_runs.specs.Verified.{AreMapsBound}
 use Rattle.view_laws.specs.Reactions.{fresh_view}
-use Rattle.standing_laws.specs.Described.{region_bases}
-use Rattle.standing_laws.specs.Standing.{AreWords, IsNumbered}
-use Rattle.standing_laws.proofs.Contents.{get-range}
-use Rattle.standing_laws.proofs.Described.{starts-described}
+use Rattle.world_laws.specs.Described.{region_bases}
+use Rattle.world_laws.specs.Standing.{AreWords, IsNumbered}
+use Rattle.world_laws.proofs.Contents.{get-range}
+use Rattle.world_laws.proofs.Described.{starts-described}
 use Rattle.verifier.specs.Checked.{Checked}
 use Rattle.verifier.specs.Verdict.{IsJustified}
 use Rattle.machine.proofs.Turning.{numbered-closed}

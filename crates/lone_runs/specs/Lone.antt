@@ -6,7 +6,7 @@ use Rattle.bpf_model.specs.Machine.{Loaded, Run, fresh_run}
 use Rattle.bpf_model.specs.Places.{StartsAt}
 use Rattle.bpf_model.specs.View.{RunView}
 use Rattle.model_laws.specs.Alone.{SharesNothing}
-use Rattle.standing_laws.specs.Described.{IsShownBy}
+use Rattle.world_laws.specs.Described.{IsShownBy}
 use Rattle.typed_runs.specs.Verified.{IsClosed, Plan}
 use Rattle.verifier.specs.Checked.{Checked}
 use Rattle.verifier.specs.Verdict.{IsJustified}

@@ -3,13 +3,19 @@
 #![tactic(auto)]
 
 mod checking;
+mod explaining;
+mod known;
 mod loader;
+mod meaning;
 mod program_file;
+mod reads;
 mod verdict;
 mod verified_file;
 
 pub use crate::loader::{HEADING, LoadFault, ProgramFile, load};
 pub use checking::{Accepted, check, text_of};
+pub use explaining::explain;
+pub use meaning::{Meaning, meaning_of};
 pub use program_file::{FileBytes, Source, read_file};
 pub use verdict::{MEMORY, Verdict};
 pub use verified_file::{VerifiedSource, known_where_refused, verify_source};

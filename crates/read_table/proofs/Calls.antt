@@ -3,16 +3,16 @@ use Rattle.std.proofs.Common.{◌≡◌, ℕ, ◌+◌, ◌-◌, ◌*◌, ◌/◌
 use mathlib.Core.Option.{none}
 use Rattle.atomic_table.specs.Table.{Me, step, Allows}
 use Rattle.atomic_table.specs.Seated.{TableId}
-use Rattle.table_rule.specs.declared.law.TheConstants.{SECTION_STRIDE}
-use Rattle.table_rule.specs.declared.view.Move.{Move}
-use Rattle.table_rule.specs.declared.view.Move.TheVariants.{Load, Store}
-use Rattle.table_rule.specs.declared.view.TableShape.{TableShape}
-use Rattle.table_rule.specs.declared.view.View.{View}
-use Rattle.table_rule.specs.History.{inside, header_in, word_in, Knows, IsLearnt, IsLawful, IsReader, MayLink}
-use Rattle.table_rule.specs.Law.{headers_from, count_of, width_of, Kept, Gains, opens, closes, learns, stores, changes, scans}
-use Rattle.table_rule.proofs.Places.{IsAt}
-use Rattle.table_rule.proofs.Lists.{stored_here}
-use Rattle.table_rule.proofs.Keeps.{opens_ok, closes_ok, learns_ok, stores_ok, changes_ok, scans_ok}
+use Rattle.read_table.specs.declared.rule.TheConstants.{SECTION_STRIDE}
+use Rattle.read_table.specs.declared.view.Move.{Move}
+use Rattle.read_table.specs.declared.view.Move.TheVariants.{Load, Store}
+use Rattle.read_table.specs.declared.view.TableShape.{TableShape}
+use Rattle.read_table.specs.declared.view.View.{View}
+use Rattle.read_table.specs.History.{inside, header_in, word_in, Knows, IsLearnt, IsLawful, IsReader, MayLink}
+use Rattle.read_table.specs.Law.{headers_from, count_of, width_of, Kept, Gains, opens, closes, learns, stores, changes, scans}
+use Rattle.read_table.proofs.Places.{IsAt}
+use Rattle.read_table.proofs.Lists.{stored_here}
+use Rattle.read_table.proofs.Keeps.{opens_ok, closes_ok, learns_ok, stores_ok, changes_ok, scans_ok}
 use Rattle.read_table.specs.Held.{Holder, Does, IsUnchanged}
 use Rattle.read_table.specs.Slots.{IsFree}
 use Rattle.read_table.proofs.Going.{went_one, goes_known, goes_fact, known_unchanged}

@@ -15,16 +15,16 @@ use Rattle.machine.specs.RunWords.{IsAt, RunWords}
 use Rattle.machine.specs.Standing.{Awaits, IsAnswered, IsStanding}
 use Rattle.machine.specs.Steps.{GoesOnTo}
 use Rattle.machine.proofs.Places.{insn_there}
-use Rattle.table_rule.specs.declared.view.Move.{Move}
-use Rattle.table_rule.specs.declared.view.TableShape.{TableShape}
-use Rattle.table_rule.specs.History.{inside}
-use Rattle.shared_runs.specs.Serving.{CanServe}
-use Rattle.shared_runs.specs.Sharing.{IsSharing, flag_of}
-use Rattle.shared_runs.specs.Words.{FitsTable, UsesSubWords}
-use Rattle.shared_runs.proofs.Asked.{can-serve}
-use Rattle.shared_runs.proofs.Starting.{starts}
-use Rattle.shared_runs.proofs.Steps.{exits, goes-on, moves, standing, steps}
-use Rattle.shared_runs.proofs.Stretches.{inside-over}
+use Rattle.read_table.specs.declared.view.Move.{Move}
+use Rattle.read_table.specs.declared.view.TableShape.{TableShape}
+use Rattle.read_table.specs.History.{inside}
+use Rattle.read_table.specs.Serving.{CanServe}
+use Rattle.read_table.specs.Sharing.{IsSharing, flag_of}
+use Rattle.read_table.specs.Words.{FitsTable, UsesSubWords}
+use Rattle.read_table.proofs.Asked.{can-serve}
+use Rattle.read_table.proofs.Starting.{starts}
+use Rattle.read_table.proofs.Steps.{exits, goes-on, moves, standing, steps}
+use Rattle.read_table.proofs.Stretches.{inside-over}
 use Rattle.read_table.specs.Held.{Goes, Holder, IsReady, IsSized, TableView}
 use Rattle.read_table.specs.Running.{HasComeTo, IsServable, RunsShared, Serves}
 use Rattle.read_table.proofs.Going.{goes_none, goes_then, went_known, went_mine}

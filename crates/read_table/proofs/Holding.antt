@@ -1,11 +1,11 @@
 -- What a reader touches it holds, by any lawful history.
 use Rattle.std.proofs.Common.{◌≡◌, ℕ, ◌<◌, inl, inr, subst, arith, List, [], ◌∷◌, ◌++◌}
-use Rattle.table_rule.specs.declared.view.Move.{Move}
-use Rattle.table_rule.specs.declared.view.Move.TheVariants.{Close, Header, Learn, Load, Open, Scan, Store}
-use Rattle.table_rule.specs.declared.view.TableShape.{TableShape}
-use Rattle.table_rule.specs.declared.view.View.{View}
-use Rattle.table_rule.specs.History.{IsLawful, IsLearnt, MayDo, moves_of}
-use Rattle.table_rule.proofs.Safe.{same_generation}
+use Rattle.read_table.specs.declared.view.Move.{Move}
+use Rattle.read_table.specs.declared.view.Move.TheVariants.{Close, Header, Learn, Load, Open, Scan, Store}
+use Rattle.read_table.specs.declared.view.TableShape.{TableShape}
+use Rattle.read_table.specs.declared.view.View.{View}
+use Rattle.read_table.specs.History.{IsLawful, IsLearnt, MayDo, moves_of}
+use Rattle.read_table.proofs.Safe.{same_generation}
 use Rattle.read_table.specs.Running.{HasHeld, HoldsSlot, Touches}
 
 -- what came before a step was lawful, and the step was

@@ -5,11 +5,11 @@ use native.Mathlib.Decide.{ℕ_discrete}
 use Rattle.std.specs.Prelude.{All}
 use Rattle.std.proofs.lemmas.List.Elements.{All-push}
 use Rattle.atomic_table.specs.Seated.{TableId}
-use Rattle.table_rule.specs.declared.view.Move.{Move}
-use Rattle.table_rule.specs.declared.view.Move.TheVariants.{Store, Header, Scan}
-use Rattle.table_rule.specs.declared.view.TableShape.{TableShape}
-use Rattle.table_rule.specs.declared.view.View.{View}
-use Rattle.table_rule.specs.History.{header_in, Cleared, MayLink}
+use Rattle.read_table.specs.declared.view.Move.{Move}
+use Rattle.read_table.specs.declared.view.Move.TheVariants.{Store, Header, Scan}
+use Rattle.read_table.specs.declared.view.TableShape.{TableShape}
+use Rattle.read_table.specs.declared.view.View.{View}
+use Rattle.read_table.specs.History.{header_in, Cleared, MayLink}
 use Rattle.read_table.specs.Held.{Holder, Went, Goes}
 use Rattle.read_table.specs.Slots.{Fills, Leaves, times_in, scans_outside, IsFree, IsLinked, IsUnlinked, AreSlots, IsWriter}
 use Rattle.read_table.proofs.Going.{went_known, went_mine}

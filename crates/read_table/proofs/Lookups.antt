@@ -4,11 +4,11 @@ use Rattle.std.specs.Prelude.{MatchBool, IfSome}
 use mathlib.Core.Logic.{dite}
 use native.Mathlib.Decide.{ℕ_discrete}
 use Rattle.std.proofs.Math.Decide.{dec_lt}
-use Rattle.table_rule.specs.declared.view.Move.{Move}
-use Rattle.table_rule.specs.declared.view.Move.TheVariants.{Open, Close, Learn, Load, Store, Header, Scan}
-use Rattle.table_rule.specs.declared.view.TableShape.{TableShape}
-use Rattle.table_rule.specs.History.{inside, Knows, IsLearnt}
-use Rattle.table_rule.specs.Lookups.{key_word, OnlySearches, HadWord, Refuted, AnswersLookup}
+use Rattle.read_table.specs.declared.view.Move.{Move}
+use Rattle.read_table.specs.declared.view.Move.TheVariants.{Open, Close, Learn, Load, Store, Header, Scan}
+use Rattle.read_table.specs.declared.view.TableShape.{TableShape}
+use Rattle.read_table.specs.History.{inside, Knows, IsLearnt}
+use Rattle.read_table.specs.Lookups.{key_word, OnlySearches, HadWord, Refuted, AnswersLookup}
 use Rattle.read_table.specs.Held.{Holder, Goes}
 use Rattle.read_table.specs.Search.{HadKey, Searched}
 use Rattle.read_table.proofs.Going.{goes_fact}

@@ -5,19 +5,19 @@ use Rattle.bpf_model.specs.declared.call.Helper.TheVariants.{Lookup}
 use Rattle.bpf_model.specs.declared.opcode.Width.{Width}
 use Rattle.bpf_model.specs.View.{RunView}
 use Rattle.bpf_model.specs.Word.{most_map_slots, slot_base}
-use Rattle.standing_laws.specs.Standing.{IsSlotWord}
+use Rattle.world_laws.specs.Standing.{IsSlotWord}
 use Rattle.world_laws.specs.Calling.{bytes_in, found_word}
 use Rattle.machine.specs.declared.request.Request.{Request}
 use Rattle.machine.specs.declared.request.Request.TheVariants as requests
 use Rattle.machine.specs.Standing.{MayGive}
-use Rattle.table_rule.specs.declared.view.Move.{Move}
-use Rattle.table_rule.specs.declared.view.Move.TheVariants.{Load, Store}
-use Rattle.table_rule.specs.declared.view.TableShape.{TableShape}
-use Rattle.table_rule.specs.History.{IsLearnt}
-use Rattle.table_rule.specs.Lookups.{AnswersLookup, OnlySearches}
-use Rattle.shared_runs.specs.Serving.{CanServe, GoesOnWith, LeadsToWord}
-use Rattle.shared_runs.specs.SharedRuns.{closing, opening}
-use Rattle.shared_runs.proofs.Stretches.{learnt-in}
+use Rattle.read_table.specs.declared.view.Move.{Move}
+use Rattle.read_table.specs.declared.view.Move.TheVariants.{Load, Store}
+use Rattle.read_table.specs.declared.view.TableShape.{TableShape}
+use Rattle.read_table.specs.History.{IsLearnt}
+use Rattle.read_table.specs.Lookups.{AnswersLookup, OnlySearches}
+use Rattle.read_table.specs.Serving.{CanServe, GoesOnWith, LeadsToWord}
+use Rattle.read_table.specs.SharedRuns.{closing, opening}
+use Rattle.read_table.proofs.Stretches.{learnt-in}
 use Rattle.read_table.specs.Held.{IsSized}
 use Rattle.read_table.specs.Running.{Serves}
 

@@ -5,9 +5,9 @@ use native.Mathlib.Decide.{ℕ_discrete}
 use Rattle.std.specs.Prelude.{All}
 use Rattle.std.specs.List.{range_with_len, remove, Contains}
 use Rattle.std.proofs.lemmas.List.FromFn.{length-range_with_len, get_or-range_with_len}
-use Rattle.table_rule.specs.declared.view.TableShape.{TableShape}
-use Rattle.table_rule.specs.declared.view.View.{View}
-use Rattle.table_rule.specs.Law.{writer_after}
+use Rattle.read_table.specs.declared.view.TableShape.{TableShape}
+use Rattle.read_table.specs.declared.view.View.{View}
+use Rattle.read_table.specs.Law.{writer_after}
 use Rattle.read_table.specs.Slots.{one_for, times_in, Leaves, IsFree, IsLinked, IsUnlinked, AreSlots, IsWriter}
 
 pub one_same : (slot s : ℕ) → s ≡ slot → one_for slot s ≡ 1

@@ -1,10 +1,10 @@
 -- What clauses see of a table and of those who hold a seat at it.
 use Rattle.std.specs.Prelude.{◌≡◌, ℕ, ◌*◌, ◌<◌, ◌≤◌, ◌%◌, List, [], ◌∷◌, ◌++◌}
 use Rattle.atomic_table.specs.Seated.{TableId}
-use Rattle.table_rule.specs.declared.view.Move.{Move}
-use Rattle.table_rule.specs.declared.view.TableShape.{TableShape}
-use Rattle.table_rule.specs.declared.view.View.{View}
-use Rattle.table_rule.specs.History.{moves_of, inside, header_in, generation, Knows, IsLawful}
+use Rattle.read_table.specs.declared.view.Move.{Move}
+use Rattle.read_table.specs.declared.view.TableShape.{TableShape}
+use Rattle.read_table.specs.declared.view.View.{View}
+use Rattle.read_table.specs.History.{moves_of, inside, header_in, generation, Knows, IsLawful}
 use Rattle.read_table.specs.declared.limits.TheConstants.{MAX_TABLE_SLOTS, MAX_READERS, MAX_TABLE_BYTES, WORD_BYTES}
 
 -- which table, and how many of each it has

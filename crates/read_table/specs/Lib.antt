@@ -1,4 +1,12 @@
 pub mod Held
-pub mod Search
-pub mod Slots
+pub mod History
+pub mod Law
+pub mod Learnt
+pub mod Lookups
 pub mod Running
+pub mod Search
+pub mod Serving
+pub mod SharedRuns
+pub mod Sharing
+pub mod Slots
+pub mod Words

@@ -5,15 +5,15 @@ use Rattle.verifier.specs.Checked.{Checked}
 use Rattle.machine.specs.declared.request.Request.{Request}
 use Rattle.machine.specs.RunWords.{IsAt, RunWords}
 use Rattle.machine.specs.Standing.{MayGive}
-use Rattle.table_rule.specs.declared.view.Move.{Move}
-use Rattle.table_rule.specs.declared.view.Move.TheVariants.{Load, Store}
-use Rattle.table_rule.specs.declared.view.TableShape.{TableShape}
-use Rattle.table_rule.specs.declared.view.View.{View}
-use Rattle.table_rule.specs.History.{Knows, generation, header_in, moves_of}
-use Rattle.shared_runs.specs.Serving.{CanServe, GoesOnWith}
-use Rattle.shared_runs.specs.Sharing.{IsSharing}
-use Rattle.shared_runs.specs.SharedRuns.{IsSharedRun}
-use Rattle.shared_runs.specs.Words.{loaded_of}
+use Rattle.read_table.specs.declared.view.Move.{Move}
+use Rattle.read_table.specs.declared.view.Move.TheVariants.{Load, Store}
+use Rattle.read_table.specs.declared.view.TableShape.{TableShape}
+use Rattle.read_table.specs.declared.view.View.{View}
+use Rattle.read_table.specs.History.{Knows, generation, header_in, moves_of}
+use Rattle.read_table.specs.Serving.{CanServe, GoesOnWith}
+use Rattle.read_table.specs.Sharing.{IsSharing}
+use Rattle.read_table.specs.SharedRuns.{IsSharedRun}
+use Rattle.read_table.specs.Words.{loaded_of}
 use Rattle.read_table.specs.Held.{Goes, Holder}
 
 -- The seat's list gained the moves of a shared run of the program on the context, which exits with the value, within as

@@ -1,8 +1,8 @@
 -- What a search of some slots for a key found, as a stretch of its seat's list.
 use Rattle.std.specs.Prelude.{◌≡◌, ℕ, ◌<◌, ◌≤◌, List, Option, Some, None}
-use Rattle.table_rule.specs.declared.view.Move.{Move}
-use Rattle.table_rule.specs.declared.view.TableShape.{TableShape}
-use Rattle.table_rule.specs.Lookups.{key_word, HadWord, Refuted, AnswersLookup}
+use Rattle.read_table.specs.declared.view.Move.{Move}
+use Rattle.read_table.specs.declared.view.TableShape.{TableShape}
+use Rattle.read_table.specs.Lookups.{key_word, HadWord, Refuted, AnswersLookup}
 
 -- each word of the key was found in the slot
 abbrev pub HadKey : TableShape → List ℕ → ℕ → List Move → Type 0

@@ -1,10 +1,10 @@
 -- What clauses see of the writer, and what it keeps of its slots.
 use Rattle.std.specs.Prelude.{◌≡◌, ◌≢◌, ℕ, zero, suc, ◌+◌, ◌^◌, ◌%◌, ◌<◌, ◌≤◌, ◌==◌, List, [], ◌∷◌, ◌++◌, All, Some, length, slice_index, if◌then◌else◌}
-use Rattle.table_rule.specs.declared.view.Move.{Move}
-use Rattle.table_rule.specs.declared.view.Move.TheVariants.{Store, Header, Scan}
-use Rattle.table_rule.specs.declared.view.View.{View}
-use Rattle.table_rule.specs.History.{header_in, MayLink}
-use Rattle.table_rule.specs.Lookups.{key_word}
+use Rattle.read_table.specs.declared.view.Move.{Move}
+use Rattle.read_table.specs.declared.view.Move.TheVariants.{Store, Header, Scan}
+use Rattle.read_table.specs.declared.view.View.{View}
+use Rattle.read_table.specs.History.{header_in, MayLink}
+use Rattle.read_table.specs.Lookups.{key_word}
 use Rattle.read_table.specs.Held.{TableView, Holder, IsKnown, Goes}
 
 -- at which table, what the writer did and saw there, and its slots: those that it may link, those that are linked, and

@@ -7,16 +7,30 @@
 
 mod limits;
 mod lookup;
+mod rule;
+mod run_laws;
 mod running;
 mod seats;
 mod setup;
+mod sub_words;
 mod table;
+mod view;
 mod words;
 mod writer;
 mod writing;
 
 pub use limits::{MAX_READERS, MAX_TABLE_BYTES, MAX_TABLE_SLOTS, WORD_BYTES};
+pub use rule::{
+    Changes, Closes, Deals, Law, Learns, Loads, Opens, SECTION_STRIDE, Scans, Stores,
+    held_slots_stay, loads_find_what_was_stored, spare_slots_are_unlearnt,
+};
+pub use run_laws::{
+    moves_below_length, shared_run_asks, shared_run_exits, shared_run_goes_on, shared_run_moves,
+    shared_run_stands, shared_run_starts,
+};
 pub use running::SubWord;
 pub use seats::Seats;
+pub use sub_words::uses_sub_words;
 pub use table::{ReadSeat, ReadTable};
+pub use view::{Move, TableShape, View};
 pub use writer::Writer;

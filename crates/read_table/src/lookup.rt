@@ -1,8 +1,8 @@
 //! Finds the slot of a key, with no lock.
 ghost use Rattle.std.specs.Prelude.{◌≡◌, ℕ, ◌+◌, ◌*◌, ◌<◌, ◌≤◌, ◌++◌, List, MatchBool, Some, IfSome, length};
-ghost use Rattle.table_rule.specs.declared.view.Move.{Move};
-ghost use Rattle.table_rule.specs.History.{inside, Knows, IsLearnt};
-ghost use Rattle.table_rule.specs.Lookups.{OnlySearches, Refuted, AnswersLookup};
+ghost use Rattle.read_table.specs.declared.view.Move.{Move};
+ghost use Rattle.read_table.specs.History.{inside, Knows, IsLearnt};
+ghost use Rattle.read_table.specs.Lookups.{OnlySearches, Refuted, AnswersLookup};
 ghost use Rattle.read_table.specs.declared.limits.TheConstants.{WORD_BYTES};
 ghost use Rattle.read_table.specs.Held.{IsKnown, Goes};
 ghost use Rattle.read_table.specs.Search.{HadKey, Searched};

@@ -5,20 +5,20 @@ ghost use Rattle.bpf_model.specs.Word.{most_map_slots, slot_base};
 ghost use Rattle.world_laws.specs.Calling.{bytes_in, found_word};
 ghost use Rattle.world_laws.specs.Moving.{word_in};
 ghost use Rattle.world_laws.specs.Reaching.{IsInFrame};
-ghost use Rattle.table_rule.specs.declared.view.Move.{Move};
-ghost use Rattle.table_rule.specs.History.{inside};
-ghost use Rattle.table_rule.specs.Lookups.{AnswersLookup, OnlySearches};
-ghost use Rattle.shared_runs.specs.SharedRuns.{closing, opening};
-ghost use Rattle.shared_runs.specs.Sharing.{flag_of};
-ghost use Rattle.shared_runs.specs.Words.{FitsTable, UsesSubWords};
+ghost use Rattle.read_table.specs.declared.view.Move.{Move};
+ghost use Rattle.read_table.specs.History.{inside};
+ghost use Rattle.read_table.specs.Lookups.{AnswersLookup, OnlySearches};
+ghost use Rattle.read_table.specs.SharedRuns.{closing, opening};
+ghost use Rattle.read_table.specs.Sharing.{flag_of};
+ghost use Rattle.read_table.specs.Words.{FitsTable, UsesSubWords};
 ghost use Rattle.read_table.specs.Held.{Goes, IsKnown, IsReady};
 ghost use Rattle.read_table.specs.Running.{HasHeld, IsServable, RunsShared, Serves};
 
 use crate::limits::WORD_BYTES;
 use crate::table::{ReadSeat, ReadTable};
+use crate::uses_sub_words;
 use bpf_model::{CtxBytes, Helper, MapKind, Reg, are_bytes};
 use machine::{Local, Request, Run, SLOT_BASE, SPAN};
-use shared_runs::uses_sub_words;
 use thiserror::Error;
 use verifier::Verified;
 

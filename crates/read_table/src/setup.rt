@@ -1,7 +1,7 @@
 //! Makes a table, its readers' seats and its writer.
 ghost use Rattle.std.specs.Prelude.{◌≡◌, ◌+◌, ◌*◌, ◌/◌, ◌<◌, ◌≤◌, [], length, slice_index, vec_len, IfOk, OnOk, All, ℕ};
 ghost use Rattle.std.specs.List.{range_with_len};
-ghost use Rattle.table_rule.specs.Law.{writer_after, count_of};
+ghost use Rattle.read_table.specs.Law.{writer_after, count_of};
 ghost use Rattle.read_table.specs.declared.limits.TheConstants.{MAX_TABLE_SLOTS, MAX_READERS, WORD_BYTES};
 ghost use Rattle.read_table.specs.Held.{IsTableLength, IsReady, IsNew, IsSized};
 
@@ -9,9 +9,9 @@ use crate::limits::WORD_BYTES;
 use crate::seats::Seats;
 use crate::table::{ReadSeat, ReadTable};
 use crate::writer::Writer;
+use crate::{SECTION_STRIDE, TableShape, View};
 use atomic_table::Seat;
 use std::alloc::{AllocError, Global};
-use table_rule::{SECTION_STRIDE, TableShape, View};
 
 /// So many zeros.
 pub(crate) fn zeros(alloc: Global, count: usize) -> Result<Vec<u64>, AllocError>

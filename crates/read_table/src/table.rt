@@ -1,19 +1,19 @@
 //! The table, and a reader's seat at it.
 ghost use Rattle.std.specs.Prelude.{◌≡◌, ℕ, ◌+◌, ◌-◌, ◌*◌, ◌<◌, ◌≤◌, ◌%◌, ◌↔◌, [], ◌∷◌, length, slice_index, IsTrue, IfOk, true, false};
-ghost use Rattle.table_rule.specs.declared.view.Move.TheVariants.{Open, Close, Learn, Load, Store, Header, Scan};
-ghost use Rattle.table_rule.specs.History.{inside, IsLearnt, header_in, word_in, MayLink};
-ghost use Rattle.table_rule.specs.History.{IsReader};
-ghost use Rattle.table_rule.specs.Law.{count_of, base_of, width_of, writer_after};
+ghost use Rattle.read_table.specs.declared.view.Move.TheVariants.{Open, Close, Learn, Load, Store, Header, Scan};
+ghost use Rattle.read_table.specs.History.{inside, IsLearnt, header_in, word_in, MayLink};
+ghost use Rattle.read_table.specs.History.{IsReader};
+ghost use Rattle.read_table.specs.Law.{count_of, base_of, width_of, writer_after};
 ghost use Rattle.read_table.specs.Held.{IsSized, IsReady, IsNew, Does, Went, IsUnchanged};
 ghost use Rattle.read_table.specs.Slots.{IsFree};
 
-use atomic_table::{Seat, Table};
-use std::alloc::{AllocError, Global};
-use std::marker::Model;
-use table_rule::{
+use crate::{
     Changes, Closes, Deals, Law, Learns, Loads, Opens, SECTION_STRIDE, Scans, Stores, TableShape,
     View,
 };
+use atomic_table::{Seat, Table};
+use std::alloc::{AllocError, Global};
+use std::marker::Model;
 
 /// Words that readers and one writer share with no lock. Contracts see which table it is, and how many of each it has.
 #[derive(Drop)]
@@ -27,7 +27,7 @@ pub struct ReadTable {
 
 impl Model for ReadTable {
     ghost use Rattle.std.specs.Prelude.{◌≡◌};
-    ghost use Rattle.table_rule.specs.Law.{count_of, base_of, width_of};
+    ghost use Rattle.read_table.specs.Law.{count_of, base_of, width_of};
     ghost use Rattle.read_table.specs.Held.{TableView, IsSized};
 
     ghost Value = { TableView };
@@ -50,8 +50,8 @@ pub struct ReadSeat {
 
 impl Model for ReadSeat {
     ghost use Rattle.std.specs.Prelude.{◌≡◌, ◌+◌, ◌*◌, []};
-    ghost use Rattle.table_rule.specs.declared.law.TheConstants.{SECTION_STRIDE};
-    ghost use Rattle.table_rule.specs.History.{IsReader};
+    ghost use Rattle.read_table.specs.declared.rule.TheConstants.{SECTION_STRIDE};
+    ghost use Rattle.read_table.specs.History.{IsReader};
     ghost use Rattle.read_table.specs.Held.{Holder};
 
     ghost Value = { Holder };

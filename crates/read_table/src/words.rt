@@ -1,6 +1,6 @@
 //! The words of a key or of a value, and the slot where a search for a key begins.
 ghost use Rattle.std.specs.Prelude.{◌≡◌, ◌+◌, ◌*◌, ◌<◌, ◌≤◌, length, Some};
-ghost use Rattle.table_rule.specs.Lookups.{key_word};
+ghost use Rattle.read_table.specs.Lookups.{key_word};
 ghost use Rattle.read_table.specs.declared.limits.TheConstants.{WORD_BYTES, MAX_TABLE_SLOTS};
 
 use crate::limits::WORD_BYTES;

@@ -1,12 +1,13 @@
 //! The writer of a table.
 ghost use Rattle.std.specs.Prelude.{◌≡◌, ℕ, ◌+◌, ◌*◌, ◌^◌, ◌%◌, ◌<◌, ◌≤◌, ◌↔◌, ◌⊎◌, [], ◌∷◌, ◌++◌, length, vec_capacity, true, false, All, IsNone, IfNone, IfSome, IfOk};
 ghost use Rattle.std.specs.List.{range_with_len, Contains};
-ghost use Rattle.table_rule.specs.History.{header_in, MayLink};
+ghost use Rattle.read_table.specs.History.{header_in, MayLink};
 ghost use Rattle.read_table.specs.declared.limits.TheConstants.{WORD_BYTES};
 ghost use Rattle.read_table.specs.Slots.{Links, Unlinks, Leaves, Works, SawInside, AreSlots, scans_outside};
-ghost use Rattle.table_rule.specs.declared.view.TableShape.{TableShape};
-ghost use Rattle.table_rule.specs.Law.{writer_after};
+ghost use Rattle.read_table.specs.declared.view.TableShape.{TableShape};
+ghost use Rattle.read_table.specs.Law.{writer_after};
 
+use crate::View;
 use crate::setup::zeros;
 use crate::table::ReadTable;
 use crate::words::home_of;
@@ -14,7 +15,6 @@ use crate::writing::{all_outside, change, take_nearest, take_out, write_slot};
 use atomic_table::Seat;
 use std::alloc::{AllocError, Global};
 use std::marker::Model;
-use table_rule::View;
 
 /// The header of a slot that was linked and unlinked 2^62 times. It is never linked again.
 const LAST_HEADER: u64 = 1 << 63;

@@ -1,18 +1,18 @@
 //! What the calls of the writer are made of.
 ghost use Rattle.std.specs.Prelude.{◌≡◌, ◌≢◌, ℕ, ◌+◌, ◌*◌, ◌<◌, ◌≤◌, ◌%◌, ◌^◌, List, ◌∷◌, ◌++◌, All, length, slice_index, slice_set, vec_len, vec_capacity, true, false};
 ghost use Rattle.std.specs.List.{Contains};
-ghost use Rattle.table_rule.specs.declared.view.Move.{Move};
-ghost use Rattle.table_rule.specs.declared.view.Move.TheVariants.{Header, Scan};
-ghost use Rattle.table_rule.specs.History.{header_in, MayLink};
-ghost use Rattle.table_rule.specs.Law.{width_of};
+ghost use Rattle.read_table.specs.declared.view.Move.{Move};
+ghost use Rattle.read_table.specs.declared.view.Move.TheVariants.{Header, Scan};
+ghost use Rattle.read_table.specs.History.{header_in, MayLink};
+ghost use Rattle.read_table.specs.Law.{width_of};
 ghost use Rattle.read_table.specs.declared.limits.TheConstants.{WORD_BYTES, MAX_TABLE_SLOTS};
 ghost use Rattle.read_table.specs.Held.{IsSized, IsKnown, Went};
 ghost use Rattle.read_table.specs.Slots.{Fills, IsFree, Leaves, scans_outside};
 
+use crate::View;
 use crate::table::ReadTable;
 use crate::words::word_of;
 use atomic_table::Seat;
-use table_rule::View;
 
 /// Writes the words of a key or of a value into a free slot, from a place on.
 fn fill(

@@ -1,6 +1,6 @@
 //! Jobs that the seats of a table serve.
 ghost use Rattle.std.specs.Prelude.{◌≤◌, IfOk};
-ghost use Rattle.shared_runs.specs.Words.{FitsTable};
+ghost use Rattle.read_table.specs.Words.{FitsTable};
 ghost use Rattle.worker_pool.specs.Readings.{AllFit};
 
 use crate::making::{LOAD_BYTE, LOOKUP_AND_LOAD, verified};

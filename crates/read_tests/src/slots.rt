@@ -1,7 +1,7 @@
 //! Lookups of keys that the writer links and unlinks.
 ghost use Rattle.std.specs.Prelude.{◌≡◌};
 ghost use Rattle.std.specs.List.{Contains};
-ghost use Rattle.table_rule.specs.History.{inside};
+ghost use Rattle.read_table.specs.History.{inside};
 ghost use Rattle.read_table.specs.Held.{IsKnown, IsReady};
 
 use crate::making::two_seats;

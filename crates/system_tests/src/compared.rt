@@ -8,7 +8,7 @@ use bpf_model::{CTX_BYTES, Cell, CtxBytes, FRAME_BYTES, REGISTERS, Reg, Value};
 use insn_codec::decode;
 use lone_runs::{Step, has_no_maps, start_alone, step_alone};
 use machine::Run;
-use plain_interpreter::{PlainRun, Progress};
+use reference_interpreter::{PlainRun, Progress};
 use std::alloc::Global;
 use std::test::Fail;
 use verifier::{Verified, verify};

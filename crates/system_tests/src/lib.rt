@@ -9,6 +9,8 @@ mod codec;
 #[cfg(test)]
 mod compared;
 #[cfg(test)]
+mod joins;
+#[cfg(test)]
 mod judged;
 #[cfg(test)]
 mod long;
@@ -20,3 +22,5 @@ mod sets;
 mod standing;
 #[cfg(test)]
 mod text;
+#[cfg(test)]
+mod verdicts;

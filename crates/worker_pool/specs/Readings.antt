@@ -4,10 +4,10 @@ use Rattle.std.specs.Prelude.{All, slice_get}
 use Rattle.std.proofs.Common.{refl, sym, ap, ◌∙◌, append_assoc, inl, inr}
 use Rattle.bpf_model.specs.declared.event.EventRefusal.TheVariants.{BadContext, NoProgram}
 use Rattle.verifier.specs.Checked.{Checked}
-use Rattle.table_rule.specs.declared.view.Move.{Move}
-use Rattle.table_rule.specs.declared.view.TableShape.{TableShape}
-use Rattle.shared_runs.specs.SharedRuns.{IsSharedRun}
-use Rattle.shared_runs.specs.Words.{FitsTable, UsesSubWords, loaded_of}
+use Rattle.read_table.specs.declared.view.Move.{Move}
+use Rattle.read_table.specs.declared.view.TableShape.{TableShape}
+use Rattle.read_table.specs.SharedRuns.{IsSharedRun}
+use Rattle.read_table.specs.Words.{FitsTable, UsesSubWords, loaded_of}
 use Rattle.read_table.specs.Held.{Holder}
 use Rattle.worker_pool.specs.declared.job.Job.{Job}
 use Rattle.worker_pool.specs.declared.job.JobReport.{JobReport}

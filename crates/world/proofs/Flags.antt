@@ -2,7 +2,7 @@
 use Rattle.std.proofs.Common.{◌≡◌, ℕ, List, length, Bool, true, false, Some}
 use Rattle.std.specs.Prelude.{slice_get, slice_set}
 use Rattle.bpf_model.specs.Schedule.{still_open}
-use Rattle.helpers.proofs.Flags.{closed_awaits}
+use Rattle.world.proofs.ServedFlags.{closed_awaits}
 use Rattle.view_laws.proofs.Listing.{still-same}
 
 -- what is awaited is open

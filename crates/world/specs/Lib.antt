@@ -1,8 +1,11 @@
-pub mod Bound
-pub mod Numbers
 pub mod Asking
+pub mod Bound
 pub mod BoundTo
 pub mod Brief
+pub mod Calls
+pub mod Elements
 pub mod Keeping
+pub mod Numbers
 pub mod Programs
+pub mod Serving
 pub mod Stepping

@@ -14,8 +14,8 @@ use Rattle.machine.specs.Requests.{request_of}
 use Rattle.machine.specs.RunWords.{RunWords, IsAt}
 use Rattle.machine.specs.Standing.{IsStanding, MayGive}
 use Rattle.machine.specs.Steps.{CanStep}
-use Rattle.helpers.specs.Serving.{CanServe, HasFlag, IsReply, ShowsGrace}
-use Rattle.helpers.specs.Serving.{world_with}
+use Rattle.world.specs.Serving.{CanServe, HasFlag, IsReply, ShowsGrace}
+use Rattle.world.specs.Serving.{world_with}
 use Rattle.world.specs.declared.kept.loaded.Loaded.{Loaded}
 use Rattle.world.specs.Programs.{program_of}
 

@@ -5,14 +5,20 @@
 //! is reclaimed only when each section that was open at its unlinking has ended.
 #![tactic(auto)]
 
+mod address;
 mod apply;
 mod asking;
 mod binding;
+mod calling;
+mod element;
 mod fault;
 mod kept;
 mod run_all;
+mod section;
+mod serving;
+pub mod serving_laws;
 mod world;
 
+pub use crate::World;
 pub use fault::WorldFault;
 pub use kept::Loaded;
-pub use world::World;

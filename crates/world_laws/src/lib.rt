@@ -6,6 +6,7 @@
 
 mod exits;
 mod invariant;
+mod standing;
 pub mod typed;
 
 ghost use Rattle.std.specs.Prelude.{◌≡◌, ℕ, ◌^◌, ◌<◌, ◌≤◌, ℤ, List, [], ◌∷◌, Some, length};
@@ -59,6 +60,7 @@ pub use invariant::{
     bound_is_verified, count_has_room, reaction_is_world, reactions_make_world, start_is_world,
     world_is_matched,
 };
+pub use standing::{moves_described, stands_among_any, starts_described};
 
 /// The word of a near reference within the limits tells the location that the reference names.
 pub fn words_tell_locations()

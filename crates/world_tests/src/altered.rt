@@ -5,7 +5,7 @@ use crate::making::{bytes_of, judged, numbers_of, plain_program, registry_of};
 use crate::replay::apply_both;
 use bpf_model::{Answer, CtxBytes, Event, MapId, MapKind, MapShape, ProgId, RunId};
 use insn_codec::{Program, decode};
-use plain_model::Machine;
+use reference_model::Machine;
 use std::alloc::Global;
 use std::test::Fail;
 use verifier::Verified;

@@ -4,7 +4,7 @@ use crate::making::{judged, numbers_of, plain_program, registry_of};
 use crate::replay::replay;
 use bpf_model::{MapKind, MapShape};
 use insn_codec::{Program, decode};
-use plain_model::Machine;
+use reference_model::Machine;
 use std::alloc::Global;
 use std::test::Fail;
 use world::{Loaded, World};

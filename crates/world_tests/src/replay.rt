@@ -1,8 +1,8 @@
 //! Machines and worlds over lines of events.
 use crate::script::{Command, command_of, tell, tell_answer};
 use bpf_model::{Answer, Event, RunId, Stat};
-use plain_model::Machine;
-use plain_store::ModelFault;
+use reference_model::Machine;
+use reference_store::ModelFault;
 use std::alloc::{AllocError, Global};
 use std::fmt::Write;
 use std::process::Abort;

@@ -1,6 +1,6 @@
 //! The plain interpreter by itself.
 use bpf_model::{AluOp, Cell, FRAME_BYTES, Insn, Operand, Reference, Reg, Size, Value, Width};
-use plain_interpreter::{Ending, PlainRun, Progress};
+use reference_interpreter::{Ending, PlainRun, Progress};
 
 /// A program of four steps: the sum of two numbers is stored in the last byte of the frame, and is the exit value.
 const SUM_STORED: [Insn; 4] = [

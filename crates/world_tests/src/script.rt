@@ -2,7 +2,7 @@
 //! are named by their numbers.
 use arrayvec::ArrayVec;
 use bpf_model::{Answer, Event, Given, MapId, ProgId, RunId};
-use plain_store::ModelFault;
+use reference_store::ModelFault;
 use std::alloc::{AllocError, Global};
 use std::fmt::Write;
 use std::str::Split;

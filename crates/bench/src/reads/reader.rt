@@ -1,6 +1,6 @@
 //! A reader of the table, and its calls.
 ghost use Rattle.std.specs.Prelude.{◌≡◌};
-ghost use Rattle.table_rule.specs.History.{inside};
+ghost use Rattle.read_table.specs.History.{inside};
 ghost use Rattle.read_table.specs.Held.{IsKnown, IsReady};
 ghost use Rattle.bench.specs.Reads.{HasWordLengths, IsProgramOf};
 

@@ -11,9 +11,9 @@ ghost use Rattle.world.specs.Stepping.{HasGone, HasTaken, IsGoing, MayTake};
 use crate::kept::brief::Brief;
 use crate::kept::loaded::Loaded;
 use crate::kept::parts::Parts;
+use crate::serving::serve;
 use bpf_model::{Answer, EventRefusal, RunId};
 use grace_period::Grace;
-use helpers::serve;
 use machine::{Local, Run};
 use maps::Registry;
 

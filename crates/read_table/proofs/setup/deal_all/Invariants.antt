@@ -1,6 +1,6 @@
 use Rattle.std.proofs.Common.{◌≡◌, ◌≤◌, [], vec_len, vec_capacity}
 use Rattle.std.specs.Prelude.{All}
-use Rattle.table_rule.specs.Law.{writer_after}
+use Rattle.read_table.specs.Law.{writer_after}
 use Rattle.read_table.specs.Held.{IsReady, IsNew}
 use Rattle.read_table.proofs.setup.deal_all.Given as goal
 

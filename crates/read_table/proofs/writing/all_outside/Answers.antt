@@ -1,5 +1,5 @@
 use Rattle.std.proofs.Common.{rules, ◌≡◌, ◌≢◌, ℕ, ◌+◌, ◌<◌, ◌++◌, ◌∷◌, [], sym, ◌∙◌, subst, add-one}
-use Rattle.table_rule.specs.declared.view.Move.TheVariants.{Scan}
+use Rattle.read_table.specs.declared.view.Move.TheVariants.{Scan}
 use Rattle.read_table.specs.Held.{Went}
 use Rattle.read_table.specs.Slots.{scans_outside}
 use Rattle.read_table.proofs.Going.{went_then}

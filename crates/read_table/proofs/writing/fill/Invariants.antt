@@ -1,5 +1,5 @@
 use Rattle.std.proofs.Common.{◌≡◌, ◌++◌, List}
-use Rattle.table_rule.specs.declared.view.Move.{Move}
+use Rattle.read_table.specs.declared.view.Move.{Move}
 use Rattle.read_table.specs.Held.{Went}
 use Rattle.read_table.specs.Slots.{Fills}
 use Rattle.read_table.proofs.writing.fill.Given as goal

@@ -1,5 +1,5 @@
 use Rattle.std.proofs.Common.{subst}
-use Rattle.table_rule.specs.declared.view.TableShape.{TableShape}
+use Rattle.read_table.specs.declared.view.TableShape.{TableShape}
 use Rattle.read_table.specs.Slots.{Fills}
 use Rattle.read_table.proofs.Going.{went_then}
 use Rattle.read_table.proofs.Keeping.{fills_quiet, quiet_free}

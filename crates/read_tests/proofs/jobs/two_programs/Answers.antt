@@ -1,6 +1,6 @@
 use Rattle.std.proofs.Common.{[], ◌∷◌, zero, suc, arith}
 use Rattle.std.specs.Prelude.{All}
-use Rattle.shared_runs.specs.Words.{FitsTable}
+use Rattle.read_table.specs.Words.{FitsTable}
 use Rattle.verifier.specs.Checked.{Checked}
 use Rattle.read_tests.proofs.jobs.two_programs.Goals as goal
 

@@ -1,5 +1,5 @@
 use Rattle.std.proofs.Common.{refl, sym, ap, ◌∙◌}
-use Rattle.table_rule.specs.declared.view.Move.TheVariants.{Close}
+use Rattle.read_table.specs.declared.view.Move.TheVariants.{Close}
 use Rattle.read_table.specs.Held.{TableView, Holder}
 use Rattle.read_table.proofs.Calls.{does, section_within, closes_at}
 use Rattle.read_table.proofs.table.ReadTable.close.Goals as goal

@@ -1,7 +1,7 @@
 use Rattle.std.proofs.Common.{ℕ, ◌<◌, sym, ap, ◌∙◌, subst, arith}
 use Rattle.atomic_table.specs.Table.{Me}
-use Rattle.table_rule.specs.declared.view.View.{View}
-use Rattle.table_rule.proofs.Keeps.{deals_ok}
+use Rattle.read_table.specs.declared.view.View.{View}
+use Rattle.read_table.proofs.Keeps.{deals_ok}
 use Rattle.read_table.specs.Held.{TableView}
 use Rattle.read_table.proofs.table.ReadTable.deal.Goals as goal
 

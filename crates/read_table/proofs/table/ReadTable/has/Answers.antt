@@ -1,5 +1,5 @@
 use Rattle.std.proofs.Common.{rules, ◌≢◌, ◌%◌, ◌++◌, [], ◌∷◌, true, false, IsTrue, arith}
-use Rattle.table_rule.specs.declared.view.Move.TheVariants.{Learn}
+use Rattle.read_table.specs.declared.view.Move.TheVariants.{Learn}
 use Rattle.read_table.proofs.Going.{goes_then}
 use Rattle.read_table.proofs.Lookups.{only_append, has_matched, not_linked}
 use Rattle.read_table.proofs.table.ReadTable.has.Goals as goal

@@ -1,5 +1,5 @@
 use Rattle.std.proofs.Common.{rules, ◌≡◌, ◌≢◌, ◌<◌, [], ◌∷◌, arith, ap, ◌∙◌, ◌≤◌, Some}
-use Rattle.table_rule.specs.declared.view.Move.TheVariants.{Load}
+use Rattle.read_table.specs.declared.view.Move.TheVariants.{Load}
 use Rattle.read_table.proofs.Going.{goes_none, goes_more}
 use Rattle.read_table.proofs.Lookups.{searched_knows, more_had, other_word}
 use Rattle.read_table.proofs.table.ReadTable.has_key.Goals as goal

@@ -1,6 +1,6 @@
 use Rattle.std.proofs.Common.{◌≡◌, ℕ, ◌<◌, List, Some}
-use Rattle.table_rule.specs.declared.view.Move.{Move}
-use Rattle.table_rule.specs.Lookups.{key_word, OnlySearches, HadWord}
+use Rattle.read_table.specs.declared.view.Move.{Move}
+use Rattle.read_table.specs.Lookups.{key_word, OnlySearches, HadWord}
 use Rattle.read_table.specs.Held.{Goes}
 use Rattle.read_table.proofs.table.ReadTable.has_key.Given as goal
 

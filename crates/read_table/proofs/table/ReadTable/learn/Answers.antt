@@ -1,6 +1,6 @@
 use Rattle.std.proofs.Common.{rules, ◌≡◌, ◌<◌, refl, sym, ap, ◌∙◌, subst}
-use Rattle.table_rule.specs.declared.view.Move.TheVariants.{Learn}
-use Rattle.table_rule.specs.History.{inside}
+use Rattle.read_table.specs.declared.view.Move.TheVariants.{Learn}
+use Rattle.read_table.specs.History.{inside}
 use Rattle.read_table.specs.Held.{TableView, Holder}
 use Rattle.read_table.proofs.Calls.{does, learns_at, header_slot, header_within}
 use Rattle.read_table.proofs.Going.{learn_knows}

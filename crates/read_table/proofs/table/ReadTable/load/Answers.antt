@@ -1,10 +1,10 @@
 use Rattle.std.proofs.Common.{◌<◌, sym, ap, ◌∙◌, subst}
-use Rattle.table_rule.specs.declared.view.TableShape.{TableShape}
-use Rattle.table_rule.specs.History.{IsLearnt}
-use Rattle.table_rule.specs.Law.{width_of}
+use Rattle.read_table.specs.declared.view.TableShape.{TableShape}
+use Rattle.read_table.specs.History.{IsLearnt}
+use Rattle.read_table.specs.Law.{width_of}
 use Rattle.read_table.specs.Held.{TableView, Holder}
-use Rattle.table_rule.proofs.Keeps.{loads_ok}
-use Rattle.table_rule.proofs.Places.{IsAt, load_move}
+use Rattle.read_table.proofs.Keeps.{loads_ok}
+use Rattle.read_table.proofs.Places.{IsAt, load_move}
 use Rattle.read_table.proofs.Calls.{does, load_unchanged, load_found}
 use Rattle.read_table.proofs.table.ReadTable.load.Goals as goal
 

@@ -5,7 +5,7 @@ use Rattle.bpf_model.specs.declared.limits.TheConstants.{FRAME_BYTES}
 use Rattle.bpf_model.specs.Word.{frame_base}
 use Rattle.world_laws.specs.Calling.{bytes_in}
 use Rattle.world_laws.specs.Moving.{word_in}
-use Rattle.table_rule.specs.declared.view.TableShape.{TableShape}
+use Rattle.read_table.specs.declared.view.TableShape.{TableShape}
 use Rattle.read_table.proofs.table.ReadTable.look_up.Goals as goal
 
 pub lookup-requires-clause-key : goal.lookup-requires-clause-key

@@ -1,4 +1,4 @@
-use Rattle.table_rule.proofs.Keeps.{starts}
+use Rattle.read_table.proofs.Keeps.{starts}
 use Rattle.read_table.proofs.table.ReadTable.of_words.Goals as goal
 
 pub of_words-requires : goal.of_words-requires

@@ -1,6 +1,6 @@
 use Rattle.std.proofs.Common.{◌-◌, ◌<◌, length, arith, subst}
 use Rattle.bpf_model.specs.Real.{AreBytes}
-use Rattle.table_rule.specs.declared.view.TableShape.{TableShape}
+use Rattle.read_table.specs.declared.view.TableShape.{TableShape}
 use Rattle.read_table.specs.Held.{IsSized}
 use Rattle.read_table.proofs.Coming.{answered, below, exited, has-started, moved-on, resumed-on, section, servable, stands}
 use Rattle.read_table.proofs.table.ReadTable.run_to_exit.Goals as goal

@@ -1,5 +1,5 @@
 use Rattle.std.proofs.Common.{◌+◌, ◌<◌, sym, ap, ◌∙◌, subst}
-use Rattle.table_rule.specs.declared.view.Move.TheVariants.{Scan}
+use Rattle.read_table.specs.declared.view.Move.TheVariants.{Scan}
 use Rattle.read_table.specs.Held.{TableView}
 use Rattle.read_table.proofs.Calls.{scans_at, scan_within, scan_reader}
 use Rattle.read_table.proofs.Going.{went_as}

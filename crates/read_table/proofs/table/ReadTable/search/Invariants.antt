@@ -1,6 +1,6 @@
 use Rattle.std.proofs.Common.{ℕ, ◌<◌, ◌≤◌, List}
-use Rattle.table_rule.specs.declared.view.Move.{Move}
-use Rattle.table_rule.specs.Lookups.{OnlySearches, Refuted}
+use Rattle.read_table.specs.declared.view.Move.{Move}
+use Rattle.read_table.specs.Lookups.{OnlySearches, Refuted}
 use Rattle.read_table.specs.Held.{Goes}
 use Rattle.read_table.proofs.table.ReadTable.search.Given as goal
 

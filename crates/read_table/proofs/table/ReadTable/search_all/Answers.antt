@@ -1,5 +1,5 @@
 use Rattle.std.proofs.Common.{◌++◌, subst, None}
-use Rattle.table_rule.specs.declared.view.TableShape.{TableShape}
+use Rattle.read_table.specs.declared.view.TableShape.{TableShape}
 use Rattle.read_table.specs.Search.{Searched}
 use Rattle.read_table.proofs.Going.{goes_then}
 use Rattle.read_table.proofs.Lookups.{searched_inside, only_append, both_searched}

@@ -4,10 +4,10 @@ use Rattle.std.proofs.lemmas.Int.{to_z-of_z}
 use Rattle.machine.specs.declared.request.Request.{Request}
 use Rattle.machine.specs.declared.request.Request.TheVariants.{Call}
 use Rattle.bpf_model.specs.declared.call.Helper.TheVariants.{Lookup}
-use Rattle.shared_runs.specs.Serving.{CanServe}
-use Rattle.table_rule.specs.declared.view.TableShape.{TableShape}
-use Rattle.table_rule.specs.declared.view.Move.TheVariants.{Load, Store}
-use Rattle.shared_runs.specs.SharedRuns.{closing, opening}
+use Rattle.read_table.specs.Serving.{CanServe}
+use Rattle.read_table.specs.declared.view.TableShape.{TableShape}
+use Rattle.read_table.specs.declared.view.Move.TheVariants.{Load, Store}
+use Rattle.read_table.specs.SharedRuns.{closing, opening}
 use Rattle.read_table.specs.Held.{Goes, IsSized}
 use Rattle.read_table.proofs.Serving.{known-there, serves-enter, serves-leave, serves-load, serves-lookup, serves-store}
 use Rattle.read_table.proofs.table.ReadTable.serve.Goals as goal

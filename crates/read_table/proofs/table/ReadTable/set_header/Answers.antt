@@ -1,7 +1,7 @@
 use Rattle.std.proofs.Common.{◌≡◌, ◌<◌, ◌%◌, refl, sym, ap, ◌∙◌, subst}
-use Rattle.table_rule.specs.declared.view.TableShape.{TableShape}
-use Rattle.table_rule.specs.declared.view.Move.TheVariants.{Header}
-use Rattle.table_rule.specs.History.{MayLink}
+use Rattle.read_table.specs.declared.view.TableShape.{TableShape}
+use Rattle.read_table.specs.declared.view.Move.TheVariants.{Header}
+use Rattle.read_table.specs.History.{MayLink}
 use Rattle.read_table.specs.Held.{TableView}
 use Rattle.read_table.proofs.Calls.{header_slot, header_within, changes_at}
 use Rattle.read_table.proofs.Going.{went_as}

@@ -1,9 +1,9 @@
 use Rattle.std.proofs.Common.{◌<◌, sym, ap, ◌∙◌, subst}
-use Rattle.table_rule.specs.declared.view.TableShape.{TableShape}
-use Rattle.table_rule.specs.History.{IsLearnt}
-use Rattle.table_rule.specs.Law.{width_of}
+use Rattle.read_table.specs.declared.view.TableShape.{TableShape}
+use Rattle.read_table.specs.History.{IsLearnt}
+use Rattle.read_table.specs.Law.{width_of}
 use Rattle.read_table.specs.Held.{TableView, Holder}
-use Rattle.table_rule.proofs.Places.{IsAt, store_move}
+use Rattle.read_table.proofs.Places.{IsAt, store_move}
 use Rattle.read_table.proofs.Calls.{does, stores_at, store_unchanged, store_left}
 use Rattle.read_table.proofs.table.ReadTable.store.Goals as goal
 

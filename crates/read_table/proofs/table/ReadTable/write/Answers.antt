@@ -1,9 +1,9 @@
 use Rattle.std.proofs.Common.{◌<◌, sym, ap, ◌∙◌, subst}
-use Rattle.table_rule.specs.declared.view.TableShape.{TableShape}
-use Rattle.table_rule.specs.declared.view.Move.TheVariants.{Store}
-use Rattle.table_rule.specs.Law.{width_of}
+use Rattle.read_table.specs.declared.view.TableShape.{TableShape}
+use Rattle.read_table.specs.declared.view.Move.TheVariants.{Store}
+use Rattle.read_table.specs.Law.{width_of}
 use Rattle.read_table.specs.Held.{TableView}
-use Rattle.table_rule.proofs.Places.{IsAt, store_move}
+use Rattle.read_table.proofs.Places.{IsAt, store_move}
 use Rattle.read_table.proofs.Calls.{writes_at}
 use Rattle.read_table.proofs.Going.{went_as}
 use Rattle.read_table.proofs.table.ReadTable.write.Goals as goal

@@ -1,7 +1,7 @@
 use Rattle.std.proofs.Common.{rules, ◌≡◌, ◌∙◌, ℕ, length, sym, ap, subst}
 use Rattle.std.specs.List.{range_with_len}
 use Rattle.atomic_table.specs.Table.{Me}
-use Rattle.table_rule.specs.declared.view.View.{View}
+use Rattle.read_table.specs.declared.view.View.{View}
 use Rattle.read_table.specs.Slots.{IsWriter}
 use Rattle.read_table.proofs.Slots.{begins_writer, begins_slots, at_most}
 use Rattle.read_table.proofs.writer.Writer.begin.Goals as goal

@@ -1,8 +1,8 @@
 use Rattle.std.proofs.Common.{ℕ, ◌+◌, ◌%◌, ◌<◌, List, [], ◌∷◌, ◌++◌, refl, sym, ap, ◌∙◌, subst}
-use Rattle.table_rule.specs.declared.view.TableShape.{TableShape}
-use Rattle.table_rule.specs.declared.view.Move.{Move}
-use Rattle.table_rule.specs.declared.view.Move.TheVariants.{Header}
-use Rattle.table_rule.specs.History.{header_in, MayLink}
+use Rattle.read_table.specs.declared.view.TableShape.{TableShape}
+use Rattle.read_table.specs.declared.view.Move.{Move}
+use Rattle.read_table.specs.declared.view.Move.TheVariants.{Header}
+use Rattle.read_table.specs.History.{header_in, MayLink}
 use Rattle.read_table.specs.Held.{TableView, Went}
 use Rattle.read_table.specs.Slots.{WriterView, as_holder, Fills, IsFree, IsWriter, AreSlots}
 use Rattle.read_table.proofs.Going.{went_then}

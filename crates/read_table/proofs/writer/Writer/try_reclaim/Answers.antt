@@ -1,9 +1,9 @@
 use Rattle.std.proofs.Common.{rules, ◌≡◌, ℕ, ◌+◌, ◌^◌, ◌<◌, List, ◌∷◌, length, get_or, refl, sym, ap, ◌∙◌, subst, arith}
 use Rattle.std.proofs.lemmas.Grind.{get_or_default_zero}
-use Rattle.table_rule.specs.declared.view.TableShape.{TableShape}
-use Rattle.table_rule.specs.declared.view.View.{View}
-use Rattle.table_rule.specs.declared.view.Move.TheVariants.{Scan}
-use Rattle.table_rule.specs.History.{MayLink}
+use Rattle.read_table.specs.declared.view.TableShape.{TableShape}
+use Rattle.read_table.specs.declared.view.View.{View}
+use Rattle.read_table.specs.declared.view.Move.TheVariants.{Scan}
+use Rattle.read_table.specs.History.{MayLink}
 use Rattle.read_table.specs.Held.{TableView}
 use Rattle.read_table.specs.Slots.{WriterView, IsUnlinked, AreSlots, scans_outside}
 use Rattle.read_table.proofs.Slots.{at_leaves}

@@ -1,5 +1,5 @@
 use Rattle.std.proofs.Common.{◌∙◌, ℕ, sym, ap, subst, List}
-use Rattle.helpers.specs.Serving.{CanServe, IsReply, maps_after}
+use Rattle.world.specs.Serving.{CanServe, IsReply, maps_after}
 use Rattle.world.proofs.Stepping.{moved_taken, exited_taken, can_serve, can_deep, can_give, served_taken}
 use Rattle.world.proofs.kept.step.step_run.Goals as goal
 

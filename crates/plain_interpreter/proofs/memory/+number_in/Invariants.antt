@@ -1,4 +1,0 @@
-use Rattle.plain_interpreter.proofs.memory.+number_in.Given as goal
-
-abbrev pub decreases-number_in : goal.decreases-number_in
-decreases-number_in l = l.width

@@ -1,7 +1,0 @@
-use Rattle.plain_interpreter.specs.Plain.{plain_state_of}
-use Rattle.bpf_model.specs.Step.{environment_of}
-use Rattle.plain_interpreter.specs.Runs.{Walks}
-use Rattle.plain_interpreter.proofs.plain_run.PlainRun.run.Given as goal
-
-abbrev pub invariant-loop-done : goal.invariant-loop-done
-invariant-loop-done l = Walks l.program (environment_of l.context l.maps) (plain_state_of l.fn.self) l.done (plain_state_of l.self)

@@ -1,6 +1,0 @@
-use Rattle.std.proofs.Common.{arith}
-use Rattle.plain_interpreter.proofs.Laws.{inside}
-use Rattle.plain_interpreter.proofs.plain_run.PlainRun.step.Goals as goal
-
-pub perform-requires-clause-place : goal.perform-requires-clause-place
-perform-requires-clause-place c = omega (arith, inside c.args.program.now c.args.self.now.place _ c.in-Some.ensures c.requires.program)

@@ -1,4 +1,0 @@
-pub mod Events
-pub mod Starts
-pub mod Flags
-pub mod Following

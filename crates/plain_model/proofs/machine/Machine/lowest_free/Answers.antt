@@ -1,9 +1,0 @@
-use Rattle.std.proofs.Common.{ap, ◌∙◌}
-use Rattle.bpf_model.specs.Machine.{lowest_free}
-use Rattle.plain_runs.specs.State.{runs_of}
-use Rattle.plain_model.proofs.machine.Machine.lowest_free.Goals as goal
-
-pub returns : goal.returns
-returns c =
-    let programs = c.args.self.now.programs.items in
-    c.lowest_free.ensures programs ∙ ap (λ rs. lowest_free (runs_of programs rs)) c.as_slice.ensures.value

@@ -1,4 +1,0 @@
-pub mod Acting
-pub mod Bytes
-pub mod Stores
-pub mod BySlot

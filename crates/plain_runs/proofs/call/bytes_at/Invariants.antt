@@ -1,9 +1,0 @@
-use Rattle.std.proofs.Common.{◌≡◌, ◌+◌}
-use Rattle.std.specs.Prelude.{◌-◌}
-use Rattle.bpf_model.specs.Frame.{bytes_at}
-use Rattle.plain_interpreter.specs.Plain.{plain_state_of}
-use Rattle.plain_runs.proofs.Bytes.{with_front}
-use Rattle.plain_runs.proofs.call.bytes_at.Given as goal
-
-abbrev pub invariant-loop-k : goal.invariant-loop-k
-invariant-loop-k g l = bytes_at (plain_state_of l.run).frame l.at l.len ≡ with_front l.bytes.items (bytes_at (plain_state_of l.run).frame (l.at + l.k) (l.len - l.k))

@@ -1,6 +1,0 @@
-use Rattle.std.proofs.Common.{arith}
-use Rattle.plain_store.proofs.Telling.{tells-map}
-use Rattle.plain_runs.proofs.call.read_unlock.Goals as goal
-
-pub returns-clause-unlocks : goal.returns-clause-unlocks
-returns-clause-unlocks c = λ program. tells-map _ _ _ _ c.returns.result (λ a h. ((omega arith, h.1), h.0)) (λ e. absurd e) (c.returns.ensures.moves program)

@@ -1,9 +1,0 @@
-use Rattle.std.proofs.Common.{◌≡◌, ◌++◌, List, map}
-use Rattle.std.specs.Prelude.{drop}
-use Rattle.bpf_model.specs.Schedule.{is_open, open_flags}
-use Rattle.plain_runs.specs.declared.run.Loaded.{Loaded}
-use Rattle.plain_runs.specs.State.{runs_of}
-use Rattle.plain_runs.proofs.run_slots.open_flags.Given as goal
-
-abbrev pub invariant-loop-r : goal.invariant-loop-r
-invariant-loop-r l = (programs : List Loaded) → open_flags (runs_of programs l.runs) ≡ l.flags.items ++ map is_open (drop l.r (runs_of programs l.runs))

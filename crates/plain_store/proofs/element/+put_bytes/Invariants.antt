@@ -1,4 +1,0 @@
-use Rattle.plain_store.proofs.element.+put_bytes.Given as goal
-
-abbrev pub decreases-put_bytes : goal.decreases-put_bytes
-decreases-put_bytes l = l.width

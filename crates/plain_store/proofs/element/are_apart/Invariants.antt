@@ -1,8 +1,0 @@
-use Rattle.std.proofs.Common.{◌≡◌, ◌<◌, ℕ, Some}
-use Rattle.std.specs.Prelude.{slice_get}
-use Rattle.bpf_model.specs.Section.{Section, Has}
-use Rattle.plain_store.specs.State.{sections_of}
-use Rattle.plain_store.proofs.element.are_apart.Given as goal
-
-abbrev pub invariant-loop-i : goal.invariant-loop-i
-invariant-loop-i l = (k : ℕ) → k < l.i → (s : Section) → slice_get (sections_of l.since) k ≡ Some s → Has (sections_of l.opened) s → ⊥

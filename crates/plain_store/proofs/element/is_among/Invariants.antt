@@ -1,7 +1,0 @@
-use Rattle.std.proofs.Common.{◌≡◌, ◌<◌, ℕ, Some}
-use Rattle.std.specs.Prelude.{slice_get}
-use Rattle.plain_store.specs.State.{section_shown, sections_of}
-use Rattle.plain_store.proofs.element.is_among.Given as goal
-
-abbrev pub invariant-loop-j : goal.invariant-loop-j
-invariant-loop-j l = (k : ℕ) → k < l.j → slice_get (sections_of l.sections) k ≡ Some (section_shown l.section) → ⊥

@@ -1,8 +1,0 @@
-use Rattle.std.proofs.Common.{◌≡◌, map}
-use Rattle.std.specs.Prelude.{drop}
-use Rattle.bpf_model.specs.Schedule.{first_ready}
-use Rattle.plain_store.specs.State.{queues_of}
-use Rattle.plain_store.proofs.queues.first_ready.Given as goal
-
-abbrev pub invariant-loop-k : goal.invariant-loop-k
-invariant-loop-k l = first_ready (map queues_of l.queues) ≡ first_ready (drop l.k (map queues_of l.queues))

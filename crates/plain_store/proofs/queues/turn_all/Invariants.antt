@@ -1,8 +1,0 @@
-use Rattle.std.proofs.Common.{◌≡◌, map}
-use Rattle.bpf_model.specs.Schedule.{turned}
-use Rattle.plain_store.specs.State.{queues_of}
-use Rattle.plain_store.proofs.Queueing.{mixed}
-use Rattle.plain_store.proofs.queues.turn_all.Given as goal
-
-abbrev pub invariant-loop-k : goal.invariant-loop-k
-invariant-loop-k l = map queues_of l.queues ≡ mixed (λ _ q. turned q) l.k 0 (map queues_of l.fn.queues)

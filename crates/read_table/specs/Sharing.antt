@@ -1,0 +1,58 @@
+-- What is so of a shared run's words at each step.
+use Rattle.std.specs.Prelude.{◌≡◌, ℕ, ◌+◌, ◌<◌, ◌≤◌, Some, ◌==◌, List, Bool, true, if◌then◌else◌}
+use Rattle.bpf_model.specs.declared.insn.Insn.{Insn}
+use Rattle.bpf_model.specs.Machine.{Run, fresh_run, section_of}
+use Rattle.bpf_model.specs.Step.{insn_at}
+use Rattle.bpf_model.specs.View.{RunView}
+use Rattle.bpf_model.specs.Word.{most_map_slots}
+use Rattle.typed_runs.specs.Describes.{scene_of}
+use Rattle.typed_runs.specs.Verified.{IsClosed, IsPlanned, Plan}
+use Rattle.world_laws.specs.Around.{store_of}
+use Rattle.world_laws.specs.Described.{IsShownBy}
+use Rattle.verifier.specs.Checked.{Checked}
+use Rattle.verifier.specs.Verdict.{IsJustified}
+use Rattle.read_table.specs.declared.view.Move.{Move}
+use Rattle.read_table.specs.declared.view.TableShape.{TableShape}
+use Rattle.read_table.specs.History.{IsLearnt, inside}
+use Rattle.read_table.specs.Learnt.{learnt_elements}
+use Rattle.read_table.specs.SharedRuns.{Comes, IsSharedRun}
+use Rattle.read_table.specs.Words.{FitsTable, UsesSubWords, loaded_of}
+
+-- 1 inside a section, and 0 outside
+abbrev pub flag_of : ℕ → ℕ
+flag_of depth = if depth == 0 then 0 else 1
+
+-- The words stand for a run of the program on the context that has come so far over the table; each plan describes it,
+-- and one among those elements alone that its seat has learnt in the section that is open.
+pub record IsSharing (k : TableShape) (c : Checked) (context : List ℕ) (ms : List Move)
+    (v : RunView) : Type 0 where
+  pub justified : IsJustified c
+  pub fits : FitsTable k c.shapes
+  pub few : k.slots ≤ most_map_slots
+  pub words : UsesSubWords c → ⊥
+  pub run : Run
+  pub program : run.program ≡ loaded_of c
+  pub shown : (plan : Plan) → IsClosed c.program c.shapes c.ctx_len plan →
+      IsShownBy c.program c.shapes c.ctx_len plan c.shapes run v
+  pub learnt : ℕ → Bool
+  pub known : (slot : ℕ) → learnt slot ≡ true → (slot < k.slots) × IsLearnt slot ms
+  pub index : ℕ
+  pub planned : IsPlanned c.program justified.plan index
+      (scene_of (store_of c.shapes (learnt_elements c.shapes (section_of run) learnt)) run)
+      run.state
+  pub came : Comes k c.shapes (fresh_run 0 (loaded_of c) context) ms v.moved run
+  pub section : inside ms ≡ flag_of v.depth
+
+-- So do the second words, after these moves of the seat, with one move of the run more.
+pub record GoesFurther (k : TableShape) (c : Checked) (context : List ℕ) (ms : List Move)
+    (v next : RunView) : Type 0 where
+  pub sharing : IsSharing k c context ms next
+  pub counts : next.moved ≡ v.moved + 1
+
+-- The run has exited, outside every section: its words have these moves, and stand where its exit is.
+pub record ExitsShared (k : TableShape) (c : Checked) (context : List ℕ) (ms : List Move)
+    (after : RunView) (n : ℕ) : Type 0 where
+  pub exit : IsSharedRun k c.shapes (loaded_of c) context ms (after.moved + 1) n
+  pub outside : inside ms ≡ 0
+  pub insn : Insn
+  pub here : insn_at c.program after.place ≡ Some insn

@@ -1,0 +1,12 @@
+-- Maps of a store.
+use Rattle.std.proofs.Common.{◌≡◌, ℕ, zero, suc, ◌<◌, List, [], ◌∷◌, length, Some, map, arith}
+use Rattle.std.specs.Prelude.{slice_get}
+use Rattle.bpf_model.specs.declared.limits.MapShape.{MapShape}
+use Rattle.bpf_model.specs.MapState.{shape_in}
+use Rattle.reference_store.specs.declared.map_state.MapState.{MapState}
+use Rattle.reference_store.specs.State.{map_of}
+
+pub shape-within : (ms : List MapState) (k : ℕ) (shape : MapShape) → shape_in (slice_get (map map_of ms) k) ≡ Some shape → k < length ms
+shape-within [] k shape h = absurd cc
+shape-within (m ∷ ms) zero shape h = omega arith
+shape-within (m ∷ ms) (suc k) shape h = omega (arith, shape-within ms k shape h)

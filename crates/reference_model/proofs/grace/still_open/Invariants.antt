@@ -1,0 +1,7 @@
+use Rattle.std.proofs.Common.{◌≡◌, ◌++◌}
+use Rattle.std.specs.Prelude.{drop}
+use Rattle.bpf_model.specs.Schedule.{still_open}
+use Rattle.reference_model.proofs.grace.still_open.Given as goal
+
+abbrev pub invariant-loop-r : goal.invariant-loop-r
+invariant-loop-r l = still_open l.awaited l.opened ≡ l.flags.items ++ still_open (drop l.r l.awaited) (drop l.r l.opened)

@@ -1,0 +1,6 @@
+use Rattle.std.proofs.Common.{◌≡◌, false}
+use Rattle.std.specs.Prelude.{replicate}
+use Rattle.reference_model.proofs.machine.none_awaited.Given as goal
+
+abbrev pub invariant-loop : goal.invariant-loop
+invariant-loop l = l.awaited.items ≡ replicate l.counter false

@@ -1,0 +1,8 @@
+use Rattle.std.proofs.Common.{◌≡◌, ◌++◌, map}
+use Rattle.std.specs.List.{range_with_len}
+use Rattle.bpf_model.specs.MapState.{array_element}
+use Rattle.reference_store.specs.State.{elements_of}
+use Rattle.reference_store.proofs.array_elements.add_elements.Given as goal
+
+abbrev pub invariant-loop-index : goal.invariant-loop-index
+invariant-loop-index l = elements_of l.elements.items ≡ elements_of l.initial.elements.items ++ map (array_element l.map l.shape) (range_with_len 0 l.index)

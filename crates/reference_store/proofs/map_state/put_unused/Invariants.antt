@@ -1,0 +1,6 @@
+use Rattle.std.proofs.Common.{◌≡◌, ◌++◌}
+use Rattle.std.specs.Prelude.{replicate}
+use Rattle.reference_store.proofs.map_state.put_unused.Given as goal
+
+abbrev pub invariant-loop : goal.invariant-loop
+invariant-loop l = l.bag.items ≡ l.initial.bag.items ++ replicate l.counter 0

@@ -1,5 +1,0 @@
-pub mod Learning
-pub mod Stretches
-pub mod Steps
-pub mod Asked
-pub mod Starting

@@ -1,5 +1,0 @@
-use Rattle.shared_runs.proofs.Steps.{goes-on}
-use Rattle.shared_runs.proofs.law.shared_run_goes_on.Goals as goal
-
-pub returns : goal.returns
-returns g = λ k c context ms v new x m. goes-on k c context ms v new x m

@@ -1,5 +1,0 @@
-use Rattle.standing_laws.proofs.Described.{starts-described}
-use Rattle.standing_laws.proofs.law.starts_described.Goals as goal
-
-pub returns : goal.returns
-returns c code shapes ctx_len plan around name program context closed bound long bytes = starts-described code shapes ctx_len plan closed around name program context bound long bytes

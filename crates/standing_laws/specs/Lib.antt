@@ -1,3 +1,0 @@
-pub mod Around
-pub mod Standing
-pub mod Described

@@ -1,4 +1,0 @@
-pub mod Lists
-pub mod Places
-pub mod Keeps
-pub mod Safe

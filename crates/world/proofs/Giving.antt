@@ -1,0 +1,234 @@
+-- What the world serves is a word that the access can give.
+use Rattle.std.proofs.Common.{◌≡◌, ◌∙◌, ℕ, ◌+◌, ◌^◌, ◌<◌, ◌≤◌, ◌⊎◌, List, Option, Some, None, length, inl, inr, refl, sym, ap, subst, arith}
+use Rattle.std.specs.Prelude.{slice_get, option_map, ℤ, ◌+ℤ◌}
+use Rattle.std.specs.FinMap.{get}
+use Rattle.std.proofs.lemmas.List.{length-map}
+use Rattle.std.proofs.lemmas.Option.{none-some, same_Some}
+use Rattle.bpf_model.specs.declared.call.Helper.{Helper as HelperId}
+use Rattle.bpf_model.specs.declared.call.Helper.TheVariants.{Lookup, Update, Delete}
+use Rattle.bpf_model.specs.declared.call.KernelFunction.{KernelFunction}
+use Rattle.bpf_model.specs.declared.call.KernelFunction.TheVariants.{ReadLock, ReadUnlock}
+use Rattle.bpf_model.specs.declared.event.Event.TheVariants as events
+use Rattle.bpf_model.specs.declared.event.Answer.{Answer}
+use Rattle.bpf_model.specs.declared.insn.CallKind.TheVariants as kinds
+use Rattle.bpf_model.specs.declared.insn.Insn.{Insn}
+use Rattle.bpf_model.specs.declared.insn.Insn.TheVariants as insns
+use Rattle.bpf_model.specs.declared.limits.MapShape.{MapShape}
+use Rattle.bpf_model.specs.declared.limits.TheConstants.{MAX_MAPS}
+use Rattle.bpf_model.specs.declared.value.Value.{Value}
+use Rattle.bpf_model.specs.declared.value.Value.TheVariants.{Nothing, Number, Pointer}
+use Rattle.bpf_model.specs.declared.value.Reference.TheVariants.{Ctx, Frame, MapRef, Elem}
+use Rattle.bpf_model.specs.declared.opcode.SignedWidth.{SignedWidth}
+use Rattle.bpf_model.specs.declared.opcode.Width.{Width}
+use Rattle.bpf_model.specs.Access.{byte_count, number_at, region_offset, unsigned_width}
+use Rattle.bpf_model.specs.Call.{helper_of, kernel_function_of}
+use Rattle.bpf_model.specs.Element.{accessible, is_reclaimed}
+use Rattle.bpf_model.specs.Real.{AreBytes}
+use Rattle.bpf_model.specs.Machine.{Loaded, Run, open_sections}
+use Rattle.bpf_model.specs.MachineStep.{InsnStep}
+use Rattle.model_laws.specs.ByKind.{StepsByKind, element_load}
+use Rattle.bpf_model.specs.Element.{loaded_from}
+use Rattle.bpf_model.specs.Shapes.{AreShapes}
+use Rattle.bpf_model.specs.MapState as map_state
+use Rattle.bpf_model.specs.Schedule.{Schedule}
+use Rattle.bpf_model.specs.Step.{insn_at}
+use Rattle.bpf_model.specs.View.{MapView, RunView, WorldView, shape_of_view as shape, shapes_of}
+use Rattle.bpf_model.specs.Word.{most_map_slots}
+use Rattle.bpf_model.proofs.Lists.{get-below, get-set_there}
+use Rattle.model_laws.specs.Locations.{Location, InContext, InFrame, AtMap, InSlot}
+use Rattle.model_laws.proofs.Computations.{first-step}
+use Rattle.typed_runs.proofs.Elements.{number_read, offset_some}
+use Rattle.typed_runs.proofs.Reaching.{keeps_well, well_never_stuck}
+use Rattle.world_laws.specs.Standing.{IsSlotWord}
+use Rattle.verifier.specs.Checked.{Checked}
+use Rattle.view_laws.specs.Matching.{Matches, Simulates}
+use Rattle.view_laws.proofs.Worlds.{here}
+use Rattle.world_laws.specs.Calling.{bytes_in, found_word}
+use Rattle.world_laws.specs.Local.{Asks, AsksNothing, local_of}
+use Rattle.world_laws.specs.Locating.{bytes_of, loaded_word, location_of, number_from, offset_at}
+use Rattle.world_laws.specs.Moving.{moves_on, word_in}
+use Rattle.world_laws.specs.Reaching.{IsCall}
+use Rattle.world_laws.specs.Reacting.{full_reaction}
+use Rattle.world_laws.specs.Typed.{AreRealPrograms, IsRunning, IsSound}
+use Rattle.world_laws.proofs.Keeping.{full_keeps}
+use Rattle.world_laws.proofs.Listed.{stays_listed}
+use Rattle.world_laws.proofs.Loading.{accessible-known, element-word}
+use Rattle.world_laws.proofs.Local.{asks_nothing}
+use Rattle.world_laws.proofs.Own.{insn-real}
+use Rattle.world_laws.proofs.Ready.{near, refines, register-word}
+use Rattle.world_laws.proofs.Shown.{shown}
+use Rattle.world_laws.proofs.Stepping.{full_simulates}
+use Rattle.machine.specs.declared.request.Request.{Request}
+use Rattle.machine.specs.declared.request.Request.TheVariants as requests
+use Rattle.machine.specs.Regions.{IsCodeOf}
+use Rattle.machine.specs.Requests.{request_of, entered_view, resumed_view, section_request}
+use Rattle.machine.specs.Standing.{MayGive, StandsBy}
+use Rattle.machine.proofs.Laws.{same-program}
+use Rattle.machine.proofs.Reacting.{reacts_by_insn}
+use Rattle.machine.proofs.RunningStands.{running_stands}
+use Rattle.machine.proofs.StandingLaws.{returned}
+use Rattle.world.specs.Calls.{called, called_at, called_on}
+use Rattle.world.specs.Elements.{element_number}
+use Rattle.world.specs.Serving.{CanServe, IsReply, maps_after}
+use Rattle.world.proofs.Running.{running}
+use Rattle.world.proofs.Serving.{resumed-program, served_moves}
+use Rattle.model_laws.proofs.Requests.{by_kind}
+
+-- a number that bytes are
+number-small : (value : List ℕ) (at width n : ℕ) → AreBytes value → at + width ≤ length value → number_at (slice_get value) at width ≡ Some n → n < 256 ^ width
+number-small value at width n bytes inside e =
+    let x = number_read (slice_get value) at width (λ k p q. (let y = get-below value k (omega (arith, q, inside)) in (y.0, y.1, bytes k y.0 y.1))) in
+    let same : x.0 ≡ n = same_Some x.0 n (sym x.1 ∙ e) in
+    subst (λ (k : ℕ). k < 256 ^ width) same x.2
+
+-- a reply leaves the run without an exit value
+entered-exit : (o : Option KernelFunction) (v : RunView) → (entered_view o v).exit ≡ v.exit
+entered-exit (Some ReadLock) v = refl
+entered-exit (Some ReadUnlock) v = refl
+entered-exit None v = refl
+
+resumed-exit : (i : Insn) (word : ℕ) (v : RunView) → (resumed_view i word v).exit ≡ v.exit
+resumed-exit (insns.Load width dst src offset) word v = refl
+resumed-exit (insns.LoadSigned width dst src offset) word v = refl
+resumed-exit (insns.Store width dst offset src) word v = refl
+resumed-exit (insns.Call kinds.Helper imm) word v = refl
+resumed-exit (insns.Call kinds.Kernel imm) word v = entered-exit (kernel_function_of imm) v
+resumed-exit i word v = refl
+
+module _ (w : WorldView) (s : Schedule) (m : Matches w s) (sound : IsSound w s) (r : ℕ) (run : Run) (v : RunView) (k : IsRunning w s r run v) where
+  -- a load
+  element-small : (width : ℕ) (offset : ℤ) (base : Value) (n : ℕ) → element_load s.machine.store.elements width offset base ≡ Some n → n < 256 ^ width
+  element-small width offset Nothing n e = absurd (none-some n e)
+  element-small width offset (Number a) n e = absurd (none-some n e)
+  element-small width offset (Pointer (Ctx o)) n e = absurd (none-some n e)
+  element-small width offset (Pointer (Frame o)) n e = absurd (none-some n e)
+  element-small width offset (Pointer (MapRef i)) n e = absurd (none-some n e)
+  element-small width offset (Pointer (Elem x o)) n e =
+      let f = first-step (accessible s.machine.store.elements x) (loaded_from width (o +ℤ offset)) n e in
+      let g = first-step (region_offset (length f.0.value) width (o +ℤ offset)) (λ at. number_at (slice_get f.0.value) at width) n f.2 in
+      let p = offset_some (length f.0.value) width (o +ℤ offset) g.0 g.1 in
+      number-small f.0.value g.0 width n (sound.well.bytes x f.0 (accessible-known s.machine.store.elements x f.0 f.1).0) p.1 g.2
+
+  found-small : (width x : ℕ) (offset : ℤ) (l : Location) → location_of x ≡ l → loaded_word w v width offset x < 256 ^ width → element_number w.maps width offset l < 256 ^ width
+  found-small width x offset (InSlot map slot o) e h = subst (λ (l : Location). number_from (bytes_of w v l) width (offset_at l +ℤ offset) < 256 ^ width) e h
+  found-small width x offset (InContext o) e h = omega (arith, h)
+  found-small width x offset (InFrame o) e h = omega (arith, h)
+  found-small width x offset (AtMap i) e h = omega (arith, h)
+
+  loads-small : (width src : ℕ) (offset : ℤ) (n : ℕ) → src ≤ 10 → element_load s.machine.store.elements width offset (run.state.regs src) ≡ Some n → element_number w.maps width offset (location_of (word_in v src)) < 256 ^ width
+  loads-small width src offset n l e =
+      let is : loaded_word w v width offset (word_in v src) ≡ n = element-word w s m sound r run v k width (word_in v src) offset (run.state.regs src) n (register-word w s m sound r run v k src l) ((near w s m sound r run v k).regs_near src) e in
+      found-small width (word_in v src) offset (location_of (word_in v src)) refl (subst (λ (x : ℕ). x < 256 ^ width) (sym is) (element-small width offset (run.state.regs src) n e))
+
+  -- the step of a load that asks finds a number of its width
+  load-given : (width : Width) (dst src : ℕ) (offset : ℤ) → insn_at run.program.code run.state.place ≡ Some (insns.Load width dst src offset) → local_of (insns.Load width dst src offset) v ≡ Asks
+      → element_number w.maps (byte_count width) offset (location_of (word_in v src)) < 256 ^ byte_count width
+  load-given width dst src offset known waits =
+      let n = well_never_stuck s.machine sound.well r run k.there k.going in
+      let same : n.3.0 ≡ insns.Load width dst src offset = same_Some n.3.0 (insns.Load width dst src offset) (sym n.3.1 ∙ known) in
+      by n.0 n.1 n.2 (by_kind (insns.Load width dst src offset) s.machine.store (open_sections s.machine.runs) run n.0 n.1 n.2 (subst (λ (i : Insn). InsnStep i s.machine.store (open_sections s.machine.runs) run n.0 n.1 n.2) same n.3.2))
+    where
+      by : (answer : Answer) (new : map_state.Store) (later : Run) → StepsByKind (insns.Load width dst src offset) s.machine.store (open_sections s.machine.runs) run answer new later → element_number w.maps (byte_count width) offset (location_of (word_in v src)) < 256 ^ byte_count width
+      by answer new later (out, es, inl h, kept, ends) = absurd (subst AsksNothing waits (asks_nothing w s m sound r run v k (insns.Load width dst src offset) out known h.0))
+      by answer new later (out, es, inr h, kept, ends) = loads-small (byte_count width) src offset h.0 (insn-real w s m sound r run v k (insns.Load width dst src offset) known).1 h.1
+
+  load-signed-given : (width : SignedWidth) (dst src : ℕ) (offset : ℤ) → insn_at run.program.code run.state.place ≡ Some (insns.LoadSigned width dst src offset) → local_of (insns.LoadSigned width dst src offset) v ≡ Asks
+      → element_number w.maps (byte_count (unsigned_width width)) offset (location_of (word_in v src)) < 256 ^ byte_count (unsigned_width width)
+  load-signed-given width dst src offset known waits =
+      let n = well_never_stuck s.machine sound.well r run k.there k.going in
+      let same : n.3.0 ≡ insns.LoadSigned width dst src offset = same_Some n.3.0 (insns.LoadSigned width dst src offset) (sym n.3.1 ∙ known) in
+      by n.0 n.1 n.2 (by_kind (insns.LoadSigned width dst src offset) s.machine.store (open_sections s.machine.runs) run n.0 n.1 n.2 (subst (λ (i : Insn). InsnStep i s.machine.store (open_sections s.machine.runs) run n.0 n.1 n.2) same n.3.2))
+    where
+      by : (answer : Answer) (new : map_state.Store) (later : Run) → StepsByKind (insns.LoadSigned width dst src offset) s.machine.store (open_sections s.machine.runs) run answer new later → element_number w.maps (byte_count (unsigned_width width)) offset (location_of (word_in v src)) < 256 ^ byte_count (unsigned_width width)
+      by answer new later (out, es, inl h, kept, ends) = absurd (subst AsksNothing waits (asks_nothing w s m sound r run v k (insns.LoadSigned width dst src offset) out known h.0))
+      by answer new later (out, es, inr h, kept, ends) = loads-small (byte_count (unsigned_width width)) src offset h.0 (insn-real w s m sound r run v k (insns.LoadSigned width dst src offset) known).1 h.1
+
+  -- a lookup
+  found-slot : (map : ℕ) (view : MapView) (key : List ℕ) (o : Option ℕ) → slice_get w.maps map ≡ Some view → get view.index key ≡ o → (found_word map o ≡ 0) ⊎ IsSlotWord (found_word map o)
+  found-slot map view key None there e = inl refl
+  found-slot map view key (Some slot) there e =
+      let h = here w s m.refines map view there in
+      let f = h.stands.elements.found key slot e in
+      let x = shown w s m.refines sound.well sound.limits sound.maps f.0 f.1.element f.1.born (ap is_reclaimed f.1.linked) in
+      inr (record {
+        map = map;
+        slot = slot;
+        few_maps = subst (λ (n : ℕ). n < MAX_MAPS) f.1.in_map x.few_maps;
+        few_slots = subst (λ (n : ℕ). n < most_map_slots) f.2 x.few_slots;
+        is = refl;
+      })
+
+  looked-up : (bound : List ℕ) (word : ℕ) → IsCall Lookup bound w.maps v → word ≡ (called Lookup bound v w.maps).0 → (word ≡ 0) ⊎ IsSlotWord word
+  looked-up bound word can reply =
+      let key = bytes_in v 2 can.view.shape.key_len in
+      let is : word ≡ found_word can.map (get can.view.index key) =
+      reply ∙ (ap (λ (o : Option ℕ). (called_on Lookup o v w.maps).0) can.named ∙ ap (λ (o : Option MapView). (called_at Lookup can.map o v w.maps).0) can.there) in
+      subst (λ (x : ℕ). (x ≡ 0) ⊎ IsSlotWord x) (sym is) (found-slot can.map can.view key (get can.view.index key) can.there refl)
+
+  -- what the next world shows
+  module _ (real : r < 2 ^ 64) (program : Loaded) (at : slice_get w.programs v.program ≡ Some program) (c : Checked) (of : IsCodeOf c (shapes_of w) program) where
+    next : Simulates s (events.Step r) (full_reaction w (events.Step r))
+    next = full_simulates w s m sound (events.Step r)
+
+    next-sound : IsSound (full_reaction w (events.Step r)).1 next.next
+    next-sound =
+        let kept = full_keeps w (events.Step r) in
+        let new = (full_reaction w (events.Step r)).1 in
+        let answer = (full_reaction w (events.Step r)).0 in
+        let count : length new.maps ≡ length w.maps = sym (length-map new.maps shape) ∙ (ap length kept.0 ∙ length-map w.maps shape) in
+        let few : length w.maps ≤ MAX_MAPS = sound.maps in
+        record {
+          well = keeps_well s.machine next.next.machine (events.Step r) answer sound.well real next.does.step;
+          listed = stays_listed s.machine next.next.machine (events.Step r) answer real next.does.step sound.listed;
+          limits = subst AreShapes (sym kept.0) sound.limits;
+          maps = omega (arith, count, few);
+          programs = subst AreRealPrograms (sym kept.1) sound.programs;
+        }
+
+    next-stands : (insn : Insn) (request : Request) (word : ℕ) → insn_at program.code v.place ≡ Some insn → request_of insn v ≡ Some request → CanServe request program.maps w.maps v → IsReply request program.maps w.maps v word → StandsBy c (resumed_view insn word v)
+    next-stands insn request word at-place asked can reply =
+        let new = resumed_view insn word v in
+        let after = (full_reaction w (events.Step r)).1 in
+        let kept = full_keeps w (events.Step r) in
+        let going : v.exit ≡ None = (refines w s m sound r run v k).exit ∙ k.going in
+        let reacts : full_reaction w (events.Step r) ≡ moves_on r new (record w { maps = maps_after request program.maps v w.maps }) =
+        reacts_by_insn w r v program insn k.shown going at at-place ∙ served_moves r v w program word insn request asked can reply in
+        let seen : slice_get after.runs r ≡ Some (Some new) = ap (λ (y : Answer × WorldView). slice_get y.1.runs r) reacts ∙ get-set_there w.runs r (Some v) (Some new) k.shown in
+        let y = running after next.next next.matches r new seen (resumed-exit insn word v ∙ going) in
+        let there : slice_get after.programs new.program ≡ Some program = ap (λ (ps : List Loaded). slice_get ps new.program) kept.1 ∙ (ap (slice_get w.programs) (resumed-program insn word v) ∙ at) in
+        running_stands after next.next next.matches next-sound r y.0 new y.1 program there c (subst (λ (l : List MapShape). IsCodeOf c l program) (sym kept.0) of)
+
+    abbrev Gives : Request → ℕ → Type 0
+    Gives request word = CanServe request program.maps w.maps v → IsReply request program.maps w.maps v word → MayGive c v request word
+
+    known : (insn : Insn) → insn_at program.code v.place ≡ Some insn → insn_at run.program.code run.state.place ≡ Some insn
+    known insn at-place = ap (λ (p : Loaded). insn_at p.code run.state.place) (same-program w s m sound r run v k program at) ∙ (ap (insn_at program.code) (sym (refines w s m sound r run v k).place) ∙ at-place)
+
+    helper-given : (insn : Insn) (helper : HelperId) (word : ℕ) → insn_at program.code v.place ≡ Some insn → request_of insn v ≡ Some (requests.Call helper) → Gives (requests.Call helper) word
+    helper-given insn Lookup word at-place asked can reply = looked-up program.maps word can reply
+    helper-given insn Update word at-place asked can reply = subst (StandsBy c) (returned v insn Update word asked) (next-stands insn (requests.Call Update) word at-place asked can reply)
+    helper-given insn Delete word at-place asked can reply = subst (StandsBy c) (returned v insn Delete word asked) (next-stands insn (requests.Call Delete) word at-place asked can reply)
+
+    call-given : (insn : Insn) (o : Option HelperId) (request : Request) (word : ℕ) → insn_at program.code v.place ≡ Some insn → request_of insn v ≡ Some request → option_map requests.Call o ≡ Some request → Gives request word
+    call-given insn None request word at-place asked e = absurd (none-some request e)
+    call-given insn (Some helper) request word at-place asked e =
+        let same : requests.Call helper ≡ request = same_Some (requests.Call helper) request e in
+        subst (λ (a : Request). Gives a word) same (helper-given insn helper word at-place (asked ∙ ap Some (sym same)))
+
+    section-given : (f : KernelFunction) (word : ℕ) → Gives (section_request f) word
+    section-given ReadLock word can reply = tt
+    section-given ReadUnlock word can reply = tt
+
+    kernel-given : (o : Option KernelFunction) (request : Request) (word : ℕ) → option_map section_request o ≡ Some request → Gives request word
+    kernel-given None request word e = absurd (none-some request e)
+    kernel-given (Some f) request word e = subst (λ (a : Request). Gives a word) (same_Some (section_request f) request e) (section-given f word)
+
+    pub may_give : (insn : Insn) (request : Request) (word : ℕ) → insn_at program.code v.place ≡ Some insn → local_of insn v ≡ Asks → request_of insn v ≡ Some request → Gives request word
+    may_give (insns.Load width dst src offset) request word at-place waits asked =
+        subst (λ (a : Request). Gives a word) (same_Some _ request asked) (λ can reply. subst (λ (x : ℕ). x < 256 ^ byte_count width) (sym reply) (load-given width dst src offset (known (insns.Load width dst src offset) at-place) waits))
+    may_give (insns.LoadSigned width dst src offset) request word at-place waits asked =
+        subst (λ (a : Request). Gives a word) (same_Some _ request asked) (λ can reply. subst (λ (x : ℕ). x < 256 ^ byte_count (unsigned_width width)) (sym reply) (load-signed-given width dst src offset (known (insns.LoadSigned width dst src offset) at-place) waits))
+    may_give (insns.Store width dst offset src) request word at-place waits asked = subst (λ (a : Request). Gives a word) (same_Some _ request asked) (λ can reply. tt)
+    may_give (insns.Call kinds.Helper imm) request word at-place waits asked = call-given (insns.Call kinds.Helper imm) (helper_of imm) request word at-place asked asked
+    may_give (insns.Call kinds.Kernel imm) request word at-place waits asked = kernel-given (kernel_function_of imm) request word asked
+    may_give insn request word at-place waits asked = absurd (none-some request asked)

@@ -1,0 +1,12 @@
+use Rattle.std.proofs.Common.{◌∙◌}
+use Rattle.grace_period.specs.State.{GraceState}
+use Rattle.machine.specs.declared.request.Request.TheVariants.{Leave}
+use Rattle.world.specs.Serving.{grace_after}
+use Rattle.world.proofs.ServedFlags.{same-grace, unlocked-awaits}
+use Rattle.world.proofs.section.leave.Goals as goal
+
+pub returns : goal.returns
+returns c =
+    let old : GraceState = c.args.grace.now in
+    same-grace c.close.new.self (grace_after Leave c.args.run old) c.close.ensures.depths
+    (c.close.ensures.awaited ∙ unlocked-awaits old c.args.run c.requires.inside c.requires.depth)

@@ -1,0 +1,41 @@
+//! Each is a function with an empty body, whose contract is the law.
+ghost use Rattle.std.specs.Prelude.{◌≡◌, ℕ, List, length, map, Some};
+ghost use Rattle.bpf_model.specs.declared.insn.Insn.{Insn};
+ghost use Rattle.bpf_model.specs.declared.limits.MapShape.{MapShape};
+ghost use Rattle.bpf_model.specs.Real.{AreBytes};
+ghost use Rattle.bpf_model.specs.Machine.{Loaded, Run, environment, fresh_run, moves};
+ghost use Rattle.bpf_model.specs.MapState.{new_map};
+ghost use Rattle.bpf_model.specs.Step.{Moves, State, after, insn_at};
+ghost use Rattle.bpf_model.specs.View.{RunView};
+ghost use Rattle.typed_runs.specs.Verified.{AreMapsBound, IsClosed, Plan};
+ghost use Rattle.world_laws.specs.Described.{IsDescribed, IsShownBy};
+ghost use Rattle.world_laws.specs.Standing.{StandFor};
+
+/// A run that starts is described by the plan, among whichever maps of the shapes that were verified.
+pub fn starts_described()
+    ensures { (code : List Insn) (shapes : List MapShape) (ctx_len : ℕ) (plan : Plan)
+        (around : List MapShape) (name : ℕ) (program : Loaded) (context : List ℕ) →
+        IsClosed code shapes ctx_len plan →
+        AreMapsBound shapes program.maps (map new_map around) → length context ≡ ctx_len →
+        AreBytes context →
+        IsDescribed code shapes ctx_len plan around (fresh_run name program context) }
+{}
+
+/// A move that a run makes by itself leaves it described.
+pub fn moves_described()
+    ensures { (code : List Insn) (shapes : List MapShape) (ctx_len : ℕ) (plan : Plan)
+        (around : List MapShape) (run : Run) (insn : Insn) (next : State) →
+        IsClosed code shapes ctx_len plan → IsDescribed code shapes ctx_len plan around run →
+        insn_at code run.state.place ≡ Some insn →
+        after insn (environment run) run.state ≡ Some (Moves next) →
+        IsDescribed code shapes ctx_len plan around (moves run next) }
+{}
+
+/// Whatever maps and sections surround the run for which words stand, they stand as well for one that refers only to
+/// what it may access, among maps in which each map slot that has a word has an element.
+pub fn stands_among_any()
+    ensures { (code : List Insn) (shapes : List MapShape) (ctx_len : ℕ) (v : RunView) →
+        StandFor code shapes ctx_len v →
+        (around : List MapShape) × (run : Run) × ((plan : Plan) →
+        IsClosed code shapes ctx_len plan → IsShownBy code shapes ctx_len plan around run v) }
+{}
