@@ -37,7 +37,7 @@ IsValueLoad shape i = ⊥
 
 -- A guarded lookup: the map's index and shape, the key's first byte in the frame and how far it is
 -- from r10, and the load from the value.
-pub record Lookup : Type 0 where
+pub record GuardedLookup : Type 0 where
   pub map : ℕ
   pub shape : MapShape
   pub at : ℕ
@@ -54,7 +54,7 @@ pub data LookupPart : Type 0 where
   NullTest : LookupPart
   ValueLoad : LookupPart
 
-abbrev pub part_insn : Lookup → LookupPart → Insn
+abbrev pub part_insn : GuardedLookup → LookupPart → Insn
 part_insn l FrameCopy = Alu Move Word64 2 (Register 10)
 part_insn l KeyAddress = Alu Add Word64 2 (Immediate l.offset)
 part_insn l MapLoad = LoadMap 1 (pos l.map)
@@ -72,7 +72,7 @@ part_slot NullTest = 5
 part_slot ValueLoad = 6
 
 -- the map is one of the list, the key lies in the frame, and the load in the value
-pub record IsFitting (shapes : List MapShape) (l : Lookup) : Type 0 where
+pub record IsFitting (shapes : List MapShape) (l : GuardedLookup) : Type 0 where
   pub in_list : slice_get shapes l.map ≡ Some l.shape
   pub in_frame : (pos FRAME_BYTES +ℤ l.offset ≡ pos l.at) × (l.at < FRAME_BYTES)
       × (l.at + l.shape.key_len ≤ FRAME_BYTES)
@@ -80,7 +80,7 @@ pub record IsFitting (shapes : List MapShape) (l : Lookup) : Type 0 where
 
 -- From this slot on stands a guarded lookup, and no jump leads into its middle.
 pub record IsGuardedLookup (program : List Insn) (shapes : List MapShape) (start : ℕ) : Type 0 where
-  pub lookup : Lookup
+  pub lookup : GuardedLookup
   pub parts : (p : LookupPart) → insn_at program (start + part_slot p) ≡ Some (part_insn lookup p)
   pub fitting : IsFitting shapes lookup
   pub entered : (place target : ℕ) (i : Insn) → insn_at program place ≡ Some i →

@@ -19,7 +19,7 @@ use Rattle.bpf_model.specs.MachineStep.{InsnStep, RunStep}
 use Rattle.bpf_model.specs.MapState as map_state
 use Rattle.bpf_model.specs.Places.{StartsAt}
 use Rattle.bpf_model.proofs.Places.{start-inside, starts_apart}
-use Rattle.bpf_model.specs.Request.{Request as Asked, ServesRequest, asks as asks_of, bound_shape, section_request as section_asked}
+use Rattle.bpf_model.specs.Request.{Request as Asked, ServesRequest, asks as asks_of, bound_shape, kernel_request as section_asked}
 use Rattle.bpf_model.specs.MachineStep.{StepsAlone, StepsServed}
 use Rattle.bpf_model.specs.Section.{Section}
 use Rattle.bpf_model.specs.Spelling.{FitsInsn}
@@ -42,7 +42,7 @@ use Rattle.verifier.specs.Verdict.{verified_of}
 use Rattle.machine.specs.declared.request.Request.{Request}
 use Rattle.machine.specs.declared.request.Request.TheVariants as requests
 use Rattle.machine.specs.declared.request.Local.TheVariants as locals
-use Rattle.machine.specs.Requests.{request_of, resumed_view, section_request}
+use Rattle.machine.specs.Requests.{request_of, resumed_view, kernel_request}
 use Rattle.machine.specs.Standing.{MayGive, StandsBy}
 use Rattle.machine.specs.Steps.{CanStep, IsLocalStep}
 use Rattle.machine.proofs.Answering.{stands}
@@ -80,19 +80,19 @@ pub record AsksSection (view after : RunView) (insn : Insn) (request : Request) 
   pub is : insn ≡ Call kinds.Kernel imm
   pub function : KernelFunction
   pub known : kernel_function_of imm ≡ Some function
-  pub access_is : request ≡ section_request function
+  pub access_is : request ≡ kernel_request function
   pub asked : request_of insn view ≡ Some request
   pub same : after ≡ view
 
 section-called : (view after : RunView) (insn : Insn) (request : Request) (asked : Asked) → IsSectionCall insn asked → request_of insn view ≡ Some request → after ≡ view → AsksSection view after insn request
 section-called view after insn request asked s of same =
-    let e : request_of (Call kinds.Kernel s.imm) view ≡ Some (section_request s.function) = ap (option_map section_request) s.known in
+    let e : request_of (Call kinds.Kernel s.imm) view ≡ Some (kernel_request s.function) = ap (option_map kernel_request) s.known in
     record {
       imm = s.imm;
       is = s.is;
       function = s.function;
       known = s.known;
-      access_is = same_Some request (section_request s.function) (sym of ∙ (ap (λ (i : Insn). request_of i view) s.is ∙ e));
+      access_is = same_Some request (kernel_request s.function) (sym of ∙ (ap (λ (i : Insn). request_of i view) s.is ∙ e));
       asked = of;
       same = same;
     }
@@ -103,7 +103,7 @@ is-section requests.Enter = true
 is-section requests.Leave = true
 is-section request = false
 
-section-is : (f : KernelFunction) → is-section (section_request f) ≡ true
+section-is : (f : KernelFunction) → is-section (kernel_request f) ≡ true
 section-is ReadLock = refl
 section-is ReadUnlock = refl
 
@@ -111,7 +111,7 @@ pub asks-else : (view after : RunView) (insn : Insn) (request other : Request) �
 asks-else view after insn request other a e h = absurd (false≢true (sym h ∙ (ap is-section (sym e ∙ a.access_is) ∙ section-is a.function)))
 
 -- a lock and an unlock may be answered by any word, and change no map
-section-given : (v : Checked) (view : RunView) (f : KernelFunction) → MayGive v view (section_request f) 0
+section-given : (v : Checked) (view : RunView) (f : KernelFunction) → MayGive v view (kernel_request f) 0
 section-given v view ReadLock = tt
 section-given v view ReadUnlock = tt
 

@@ -23,7 +23,7 @@ use Rattle.machine.specs.declared.workspace.Workspace.{Workspace}
 use Rattle.machine.specs.Requests.{request_of, entered_view, resumed_view}
 use Rattle.machine.specs.RunWords.{run_words}
 use Rattle.machine.specs.Steps.{IsLocalStep}
-use Rattle.machine.specs.Workspaces.{CanDo, CanGoOn, Does, HasGoneOn, HasMoved, IsFreshWorkspace, IsMove, index_after, moved_on, not_yet, once_more, told, view_after, view_at}
+use Rattle.machine.specs.Workspaces.{CanDo, CanGoOn, DoesAt, HasGoneOn, HasMoved, IsFreshWorkspace, IsMove, index_after, moved_on, not_yet, once_more, told, view_after, view_at}
 use Rattle.machine.proofs.Places.{insn_there, next_place}
 use Rattle.machine.proofs.Serving.{can_do}
 use Rattle.lone_runs.specs.Lone.{StandsAlone, loaded_alone}
@@ -68,7 +68,7 @@ module _ (c : Checked) (context : List ℕ) (index moved : ℕ) (w : Workspace) 
       omega (arith, below, length_slots c.program, j.program.limit)
 
   abbrev Did : Workspace → Next → Type 0
-  Did new result = (insn : Insn) → Does c.program context insn index w result new
+  Did new result = (insn : Insn) → DoesAt c.program context insn index w result new
 
   step_to : (new : Workspace) (result next : Next) → Did new result → result ≡ next → (insn : Insn) → insn_at c.program before.place ≡ Some insn
       → IsLocalStep (laws.local_of insn before) (request_of insn before) before (told next) (view_after c.program context index next new b.view)
@@ -142,10 +142,10 @@ module _ (c : Checked) (context : List ℕ) (from before most : ℕ) (start : Wo
     behind index s = subst (λ (n : ℕ). StandsBefore c context index n new) (omega arith) s
 
     pub halts_on : halt.next ≡ On → StandsBefore c context (halt.index + 1) (before + ((most - halt.left) + 1)) new
-    halts_on e = behind (halt.index + 1) (loop_moves c context halt.index (before + (most - halt.left)) h.mid last new On (subst (λ (n : Next). (insn : Insn) → Does c.program context insn halt.index h.mid n new) e h.last) tt)
+    halts_on e = behind (halt.index + 1) (loop_moves c context halt.index (before + (most - halt.left)) h.mid last new On (subst (λ (n : Next). (insn : Insn) → DoesAt c.program context insn halt.index h.mid n new) e h.last) tt)
 
     pub halts_at : (target : ℕ) → halt.next ≡ At target → StandsBefore c context target (before + ((most - halt.left) + 1)) new
-    halts_at target e = behind target (loop_moves c context halt.index (before + (most - halt.left)) h.mid last new (At target) (subst (λ (n : Next). (insn : Insn) → Does c.program context insn halt.index h.mid n new) e h.last) tt)
+    halts_at target e = behind target (loop_moves c context halt.index (before + (most - halt.left)) h.mid last new (At target) (subst (λ (n : Next). (insn : Insn) → DoesAt c.program context insn halt.index h.mid n new) e h.last) tt)
 
     pub halts_shared : (request : Request) → halt.next ≡ Shared request → StandsBefore c context (halt.index + 1) (before + ((most - halt.left) + 1)) new
     halts_shared request e = behind (halt.index + 1) (loop_passes c context halt.index (before + (most - halt.left)) h.mid last new halt.next request h.last e)

@@ -16,7 +16,7 @@ use Rattle.bpf_model.specs.Places.{slot_count}
 use Rattle.bpf_model.specs.Step.{insn_at}
 use Rattle.bpf_model.specs.Graph.{falls, distance, JumpsTo, GoesTo, Reached, reached_entry, reached_next}
 use Rattle.bpf_model.specs.Plain.{ReadsRegister, WritesRegister, ReadsByte, WritesByte, WithoutByte, without_entry, without_next}
-use Rattle.bpf_model.specs.PlainMaps.{lookup_call, lock_call, unlock_call, Lookup, LookupPart, FrameCopy, KeyAddress, MapLoad, LookupCall, NullTest, ValueLoad, part_insn, part_slot, IsGuardedLookup, IsLookupPart, HasForm, InSection, section_entry, section_lock, section_unlock, section_next, LacksRegister, lacks_entry, lacks_call, lacks_next, IsPlainWithMaps}
+use Rattle.bpf_model.specs.PlainMaps.{lookup_call, lock_call, unlock_call, GuardedLookup, LookupPart, FrameCopy, KeyAddress, MapLoad, LookupCall, NullTest, ValueLoad, part_insn, part_slot, IsGuardedLookup, IsLookupPart, HasForm, InSection, section_entry, section_lock, section_unlock, section_next, LacksRegister, lacks_entry, lacks_call, lacks_next, IsPlainWithMaps}
 use Rattle.model_laws.specs.Example.{lookup_and_load, example_shape}
 
 -- what holds of each instruction of a list and the slot where it begins, the first at slot n
@@ -326,7 +326,7 @@ first_at = visit (λ s j. j ≡ Alu Move Word64 2 (Register 10) → s ≡ 3) (
 abbrev shapes : List MapShape
 shapes = example_shape ∷ []
 
-abbrev the : Lookup
+abbrev the : GuardedLookup
 the = record { map = 0; shape = example_shape; at = 508; offset = negsuc 3; load = Load Eight 6 0 (pos 0) }
 
 the_parts : (p : LookupPart) → insn_at lookup_and_load (3 + part_slot p) ≡ Some (part_insn the p)

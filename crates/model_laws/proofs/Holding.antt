@@ -22,7 +22,7 @@ use Rattle.bpf_model.specs.Arithmetic.{alu, signed, unary, loaded_signed}
 use Rattle.bpf_model.specs.Value.{◌>>=◌, held, number, reference}
 use Rattle.bpf_model.specs.Access.{byte_count, unsigned_width, region_offset, number_at}
 use Rattle.bpf_model.specs.Frame.{byte_of, are_parts, found, read, is_within, with_number, with_reference}
-use Rattle.bpf_model.specs.Operand.{operand_value, unary_source, moved, of_numbers, sum_of, difference_of, computed, decided}
+use Rattle.bpf_model.specs.Operand.{operand_value, unary_source, offset_by, of_numbers, sum_of, difference_of, computed, decided}
 use Rattle.bpf_model.specs.Step.{State, Environment, Outcome, Moves, Exits, entry, forward, sets, jumps_to, jumps_by, loaded, load_from, frame_after, stored, store_to, map_value, after}
 use Rattle.bpf_model.specs.Exit.{names_map}
 use Rattle.model_laws.specs.Holds.{HoldsValue, HoldsCell, HoldsState}
@@ -40,7 +40,7 @@ HoldsOutcome P (Exits n) = Unit {0}
 pub record Closed (P : Reference → Type 0) : Type 0 where
   pub context : (o : ℤ) → P (Ctx o)
   pub frame : (o : ℤ) → P (Frame o)
-  pub moved : (n : ℕ) (o p : ℤ) → P (Elem n o) → P (Elem n p)
+  pub offset_by : (n : ℕ) (o p : ℤ) → P (Elem n o) → P (Elem n p)
 
 -- where the instruction loads a map of the program's list, those to maps are of the kind too
 abbrev pub MayName : (Reference → Type 0) → Insn → Type 0
@@ -72,14 +72,14 @@ module _ (P : Reference → Type 0) (c : Closed P) where
   holds-sets_number o f slots dst m out p h = let s = first-step o (λ n. sets slots dst (Number (f n)) m) out h in holds-sets slots dst (Number (f s.0)) m out p tt s.2
 
   -- arithmetic
-  holds-moved : (r : Reference) (d : ℤ) (v : Value) → P r → moved r d ≡ Some v → HoldsValue P v
+  holds-moved : (r : Reference) (d : ℤ) (v : Value) → P r → offset_by r d ≡ Some v → HoldsValue P v
   holds-moved (Ctx o) d v p h = some-value _ v h (c.context (o +ℤ d))
   holds-moved (Frame o) d v p h = some-value _ v h (c.frame (o +ℤ d))
   holds-moved (Elem n o) d v p h = some-value _ v h (c.moved n o (o +ℤ d) p)
   holds-moved (MapRef m) d v p h = absurd (none-some v h)
 
-  holds-moved_by : (o : Option ℕ) (f : ℕ → ℤ) (r : Reference) (v : Value) → P r → (o >>= λ b. moved r (f b)) ≡ Some v → HoldsValue P v
-  holds-moved_by o f r v p h = let s = first-step o (λ b. moved r (f b)) v h in holds-moved r (f s.0) v p s.2
+  holds-moved_by : (o : Option ℕ) (f : ℕ → ℤ) (r : Reference) (v : Value) → P r → (o >>= λ b. offset_by r (f b)) ≡ Some v → HoldsValue P v
+  holds-moved_by o f r v p h = let s = first-step o (λ b. offset_by r (f b)) v h in holds-moved r (f s.0) v p s.2
 
   two-numbers : (a b : Option ℕ) (f : ℕ → ℕ → ℕ) (v : Value) → (a >>= λ x. b >>= λ y. Some (Number (f x y))) ≡ Some v → HoldsValue P v
   two-numbers None b f v h = absurd (none-some v h)

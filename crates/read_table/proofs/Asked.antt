@@ -27,7 +27,7 @@ use Rattle.bpf_model.specs.Frame.{bytes_at, frame_bytes}
 use Rattle.bpf_model.specs.Element.{loaded_from, stored_in}
 use Rattle.bpf_model.specs.Operand.{operand_value}
 use Rattle.bpf_model.proofs.Places.{start-insn_at, starts_apart}
-use Rattle.bpf_model.specs.Request.{Request as Asked, LoadElement, StoreElement, CallHelper, Enter, Leave, MapArgument, BytesArgument, Argument, asks as asks_of, resumed, section_request as section_asked, signature_of, arguments_of}
+use Rattle.bpf_model.specs.Request.{Request as Asked, LoadElement, StoreElement, CallHelper, Enter, Leave, MapArgument, BytesArgument, Argument, asks as asks_of, resumed, kernel_request as section_asked, signature_of, arguments_of}
 use Rattle.bpf_model.specs.Spelling.{FitsInsn}
 use Rattle.bpf_model.specs.Step.{State, insn_at}
 use Rattle.bpf_model.specs.Value.{◌>>=◌}
@@ -46,7 +46,7 @@ use Rattle.world_laws.proofs.Bytes.{argument-bytes}
 use Rattle.effects.specs.declared.region.Region.{Region}
 use Rattle.effects.specs.declared.region.Region.TheVariants as noted
 use Rattle.state_steps.specs.Steps.{IsInRegion, LooksUp, base_of}
-use Rattle.world_laws.specs.Around.{births, element_number, elements_around, key_length, map_of, region_of, regions, store_of, value_length}
+use Rattle.world_laws.specs.Around.{births, element_in_region, elements_around, key_length, map_of, region_of, regions, store_of, value_length}
 use Rattle.world_laws.specs.Described.{region_bases}
 use Rattle.world_laws.proofs.Asking.{lookup-asked}
 use Rattle.world_laws.proofs.Contents.{by-is, get-range, map-below, touched}
@@ -56,7 +56,7 @@ use Rattle.verifier.specs.Checked.{Checked}
 use Rattle.machine.specs.declared.request.Request.{Request}
 use Rattle.machine.specs.declared.request.Request.TheVariants as requests
 use Rattle.machine.specs.declared.request.Local.TheVariants as locals
-use Rattle.machine.specs.Requests.{request_of, resumed_view, section_request}
+use Rattle.machine.specs.Requests.{request_of, resumed_view, kernel_request}
 use Rattle.machine.specs.Steps.{IsLocalStep}
 use Rattle.machine.proofs.AskingSo.{load-asked, store-asked}
 use Rattle.read_table.specs.declared.view.Move.{Move}
@@ -65,7 +65,7 @@ use Rattle.read_table.specs.declared.view.TableShape.{TableShape}
 use Rattle.read_table.specs.History.{IsLearnt}
 use Rattle.read_table.specs.Lookups.{AnswersLookup, OnlySearches}
 use Rattle.read_table.specs.Learnt.{learnt_element, learnt_elements}
-use Rattle.read_table.specs.Serving.{CanServe, GoesOnWith, LeadsToWord}
+use Rattle.read_table.specs.Serving.{CanAnswer, GoesOnWith, LeadsToWord}
 use Rattle.read_table.specs.SharedRuns.{closing, opening}
 use Rattle.read_table.specs.Sharing.{GoesFurther, IsSharing, flag_of}
 use Rattle.read_table.specs.Words.{ChangesMap, IsElementRegion, IsOtherWidth, access_width}
@@ -270,13 +270,13 @@ module _ (k : TableShape) (c : Checked) (context : List ℕ) (ms : List Move) (v
 
     hit : (map slot : ℕ) (key : List ℕ) → Finds map key → (ns : List Move) → OnlySearches k ns → AnswersLookup k key ns (Some slot) → GoesFurther k c context (ns ++ ms) v (resumed_view i (slot_base 0 slot) v)
     hit map slot key f ns searches answers =
-        let reply : Value = Pointer (references.Elem (element_number map slot) (pos 0)) in
+        let reply : Value = Pointer (references.Elem (element_in_region map slot) (pos 0)) in
         let next = moves_run run (resumed i reply run.state) in
         let in_table : slot < k.slots = answers.0 in
         let few = x.few in
         let small : slot < regions = omega (arith, in_table, few) in
         let word : ℕ = slot_base 0 slot in
-        let same : region_bases (element_number map slot) ≡ word = omega (arith, small) in
+        let same : region_bases (element_in_region map slot) ≡ word = omega (arith, small) in
         let stands : WordIs region_bases reply word = omega (arith, ints, same) in
         onward k c context ms v x (ns ++ ms) next (resumed_view i word v) (also slot x.learnt)
         (λ plan closed. (so k c context ms v x plan closed i (Finding map key) here f.asked).goes_on reply word next (inr (map, slot, f.bound, small, refl)) stands refl) refl refl
@@ -292,7 +292,7 @@ module _ (k : TableShape) (c : Checked) (context : List ℕ) (ms : List Move) (v
     found map key f ns None searches answers = missed map key f ns searches answers
     found map key f ns (Some slot) searches answers = hit map slot key f ns searches answers
 
-    pub looks-up : (arguments : List Argument) → LooksUp i → Asks (CallHelper Lookup arguments) → arguments_of (signature_of Lookup).arguments (listed k c context ms v x) run.state 1 ≡ Some arguments → CanServe k c context ms v (requests.Call Lookup)
+    pub looks-up : (arguments : List Argument) → LooksUp i → Asks (CallHelper Lookup arguments) → arguments_of (signature_of Lookup).arguments (listed k c context ms v x) run.state 1 ≡ Some arguments → CanAnswer k c context ms v (requests.Call Lookup)
     looks-up arguments lookup asked e =
         let l = lookup-asked (listed k c context ms v x) run.state arguments e in
         let shape : slice_get c.shapes l.map ≡ Some l.shape = ap (λ (f : ℕ → Option MapShape). f l.map) (listed-shapes k c context ms v x) ∙ l.shape_is in
@@ -355,7 +355,7 @@ module _ (k : TableShape) (c : Checked) (context : List ℕ) (ms : List Move) (v
         (served-step k c context ms v x i Enter here asked [] Nothing next (none_is, refl) (room, refl))
         x.known (x.section ∙ ap flag_of depth-shown ∙ deep-flag run.depth inside_one ∙ sym (deep-flag next.depth (omega (arith, inside_one)))))
 
-    pub enters : Asks Enter → CanServe k c context ms v requests.Enter
+    pub enters : Asks Enter → CanAnswer k c context ms v requests.Enter
     enters asked =
         let a = so k c context ms v x (some k c context ms v x).plan (some k c context ms v x).closed i Enter here asked in
         let room : run.depth < MAX_DEPTH = (a.resumes Nothing).1.0 in
@@ -391,7 +391,7 @@ module _ (k : TableShape) (c : Checked) (context : List ℕ) (ms : List Move) (v
         (served-step k c context ms v x i Leave here asked [] Nothing next (none_is, refl) (within, refl))
         x.known (x.section ∙ ap flag_of depth-shown ∙ deep-flag run.depth within ∙ sym (deep-flag next.depth (omega (arith, deep)))))
 
-    pub leaves : Asks Leave → CanServe k c context ms v requests.Leave
+    pub leaves : Asks Leave → CanAnswer k c context ms v requests.Leave
     leaves asked =
         let a = so k c context ms v x (some k c context ms v x).plan (some k c context ms v x).closed i Leave here asked in
         let within : 0 < run.depth = (a.resumes Nothing).1.0 in
@@ -412,7 +412,7 @@ module _ (k : TableShape) (c : Checked) (context : List ℕ) (ms : List Move) (v
   insn-real-at i here = insn-real c.program c.shapes c.ctx_len (some k c context ms v x).plan (ready k c context ms v x (some k c context ms v x).plan (some k c context ms v x).closed) c.shapes run v (shown k c context ms v x) i here
 
   abbrev Goal : Request → Type 0
-  Goal request = CanServe k c context ms v request
+  Goal request = CanAnswer k c context ms v request
 
   loads-by : (i : Insn) (here : Known k c context ms v x i) (width : Width) (src : ℕ) (offset : ℤ) (b : Bool) (asked : Asked) → src ≤ 10 → base_of i ≡ Some src → access_width i ≡ Some (byte_count width)
       → asks_of i (listed k c context ms v x) run.state ≡ Some asked → LoadAsked (byte_count width) offset (run.state.regs src) b asked → Goal (requests.Load (word_in v src) offset width)
@@ -441,7 +441,7 @@ module _ (k : TableShape) (c : Checked) (context : List ℕ) (ms : List Move) (v
         goes_on = λ reply. goes-at i here (moves_by.Store (region_of a.n) (k.key_words + w.place) number ∷ ms) reply (store-goes i here a.n (a.o +ℤ offset) width_bytes number reply asks r w);
       }
 
-  by-function : (i : Insn) (here : Known k c context ms v x i) (f : KernelFunction) → asks_of i (listed k c context ms v x) run.state ≡ Some (section_asked f) → Goal (section_request f)
+  by-function : (i : Insn) (here : Known k c context ms v x i) (f : KernelFunction) → asks_of i (listed k c context ms v x) run.state ≡ Some (section_asked f) → Goal (kernel_request f)
   by-function i here ReadLock e = enters i here e
   by-function i here ReadUnlock e = leaves i here e
 
@@ -465,7 +465,7 @@ module _ (k : TableShape) (c : Checked) (context : List ℕ) (ms : List Move) (v
       (store-asked (byte_count width) offset (operand_value src run.state.regs) (run.state.regs dst) asked e))
   by-insn (Call kinds.Kernel imm) here request asked of e =
       let f = first-step (kernel_function_of imm) (λ function. Some (section_asked function)) asked e in
-      let same : section_request f.0 ≡ request = same_Some (section_request f.0) request (sym (ap (option_map section_request) f.1) ∙ of) in
+      let same : kernel_request f.0 ≡ request = same_Some (kernel_request f.0) request (sym (ap (option_map kernel_request) f.1) ∙ of) in
       subst Goal same (by-function (Call kinds.Kernel imm) here f.0 (e ∙ sym f.2))
   by-insn (Call kinds.Helper imm) here request asked of e =
       let f = first-step (helper_of imm) (λ helper. arguments_of (signature_of helper).arguments (listed k c context ms v x) run.state 1 >>= λ arguments. Some (CallHelper helper arguments)) asked e in
@@ -475,7 +475,7 @@ module _ (k : TableShape) (c : Checked) (context : List ℕ) (ms : List Move) (v
   by-insn i here request asked of e = absurd (none-some request of)
 
   -- whatever the words of the run ask can be served
-  pub can-serve : (request : Request) (after : RunView) → ((insn : Insn) → insn_at c.program v.place ≡ Some insn → IsLocalStep (local_of insn v) (request_of insn v) v (locals.Shared request) after) → CanServe k c context ms v request × (after ≡ v)
+  pub can-serve : (request : Request) (after : RunView) → ((insn : Insn) → insn_at c.program v.place ≡ Some insn → IsLocalStep (local_of insn v) (request_of insn v) v (locals.Shared request) after) → CanAnswer k c context ms v request × (after ≡ v)
   can-serve request after s =
       let t = steps k c context ms v x in
       let here = known k c context ms v x t.insn t.here in

@@ -8,7 +8,7 @@ use Rattle.read_table.specs.declared.view.Move.{Move}
 use Rattle.read_table.specs.declared.view.Move.TheVariants.{Load, Store}
 use Rattle.read_table.specs.declared.view.TableShape.{TableShape}
 use Rattle.read_table.specs.declared.view.View.{View}
-use Rattle.read_table.specs.History.{inside, header_in, word_in, Knows, IsLearnt, IsLawful, IsReader, MayLink}
+use Rattle.read_table.specs.History.{inside, header_in, word_at_place, Knows, IsLearnt, IsLawful, IsReader, MayLink}
 use Rattle.read_table.specs.Law.{headers_from, count_of, width_of, Kept, Gains, opens, closes, learns, stores, changes, scans}
 use Rattle.read_table.proofs.Places.{IsAt}
 use Rattle.read_table.proofs.Lists.{stored_here}
@@ -29,17 +29,17 @@ writes_at k slots id me i slot place x is e in_slot writer free =
     (inl (writer, (free.even, subst (λ (z : TableShape). MayLink z.readers slot me.0.mine) is free.may)))
 
 -- a word by what the holder saw after a step
-word_seen : (v w : View) (m m' : Move) (slot place : ℕ) → m ≡ m' → (g : Gains v m w) → word_in slot place w.seen ≡ word_in slot place ((v.me, m') ∷ (g.0 ++ v.seen))
-word_seen v w m m' slot place is g = ap (λ (z : View). word_in slot place z.seen) g.1 ∙ ap (λ z. word_in slot place ((v.me, z) ∷ (g.0 ++ v.seen))) is
+word_seen : (v w : View) (m m' : Move) (slot place : ℕ) → m ≡ m' → (g : Gains v m w) → word_at_place slot place w.seen ≡ word_at_place slot place ((v.me, m') ∷ (g.0 ++ v.seen))
+word_seen v w m m' slot place is g = ap (λ (z : View). word_at_place slot place z.seen) g.1 ∙ ap (λ z. word_at_place slot place ((v.me, z) ∷ (g.0 ++ v.seen))) is
 
 -- what a load found, as a clause says it
-pub load_found : (v w : View) (m : Move) (slot place x : ℕ) → m ≡ Load slot place x → Gains v m w → x ≡ word_in slot place w.seen
+pub load_found : (v w : View) (m : Move) (slot place x : ℕ) → m ≡ Load slot place x → Gains v m w → x ≡ word_at_place slot place w.seen
 load_found v w m slot place x is g =
     let now : IsLawful v.shape ((v.me, Load slot place x) ∷ (g.0 ++ v.seen)) = subst (λ z. IsLawful v.shape ((v.me, z) ∷ (g.0 ++ v.seen))) is (subst (λ (z : View). IsLawful v.shape z.seen) g.1 g.2) in
     now.0.1 ∙ sym (word_seen v w m (Load slot place x) slot place is g)
 
 -- what a store left, as a clause says it
-pub store_left : (v w : View) (m : Move) (slot place x : ℕ) → m ≡ Store slot place x → Gains v m w → word_in slot place w.seen ≡ x
+pub store_left : (v w : View) (m : Move) (slot place x : ℕ) → m ≡ Store slot place x → Gains v m w → word_at_place slot place w.seen ≡ x
 store_left v w m slot place x is g = word_seen v w m (Store slot place x) slot place is g ∙ stored_here v.me slot place slot place x (g.0 ++ v.seen) refl refl
 
 abbrev pub holder : TableId → View → Holder

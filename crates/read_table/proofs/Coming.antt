@@ -18,7 +18,7 @@ use Rattle.machine.proofs.Places.{insn_there}
 use Rattle.read_table.specs.declared.view.Move.{Move}
 use Rattle.read_table.specs.declared.view.TableShape.{TableShape}
 use Rattle.read_table.specs.History.{inside}
-use Rattle.read_table.specs.Serving.{CanServe}
+use Rattle.read_table.specs.Serving.{CanAnswer}
 use Rattle.read_table.specs.Sharing.{IsSharing, flag_of}
 use Rattle.read_table.specs.Words.{FitsTable, UsesSubWords}
 use Rattle.read_table.proofs.Asked.{can-serve}
@@ -95,14 +95,14 @@ module _ (here : TableView) (c : Checked) (context : List ℕ) (start now : Hold
       before : IsSharing k c context h.moves g.before × (r.view.moved ≤ g.before.moved)
       before = goes-on k c context h.moves r.view g.before h.sharing g.moved
 
-      asks : CanServe k c context h.moves g.before request × (new.view ≡ g.before)
+      asks : CanAnswer k c context h.moves g.before request × (new.view ≡ g.before)
       asks = can-serve k c context h.moves g.before before.0 request new.view g.last
 
       sharing-now : IsSharing k c context h.moves new.view
       sharing-now = subst (λ (v : RunView). IsSharing k c context h.moves v) (sym asks.1) before.0
 
-      can-now : CanServe k c context h.moves new.view request
-      can-now = subst (λ (v : RunView). CanServe k c context h.moves v request) (sym asks.1) asks.0
+      can-now : CanAnswer k c context h.moves new.view request
+      can-now = subst (λ (v : RunView). CanAnswer k c context h.moves v request) (sym asks.1) asks.0
 
       pub servable : IsServable k now.view.mine new.view request
       servable = record { checked = c; context = context; moves = h.moves; before = start.view.mine; list = mine; can = can-now }

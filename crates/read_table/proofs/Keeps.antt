@@ -11,7 +11,7 @@ use Rattle.read_table.specs.declared.view.Move.{Move}
 use Rattle.read_table.specs.declared.view.Move.TheVariants.{Open, Close, Learn, Load, Store, Header, Scan}
 use Rattle.read_table.specs.declared.view.TableShape.{TableShape}
 use Rattle.read_table.specs.declared.view.View.{View}
-use Rattle.read_table.specs.History.{moves_of, inside, header_in, IsLawful, IsLearnt, IsSpare, MayDo, MayLink, IsReader, word_in}
+use Rattle.read_table.specs.History.{moves_of, inside, header_in, IsLawful, IsLearnt, IsSpare, MayDo, MayLink, IsReader, word_at_place}
 use Rattle.read_table.specs.declared.rule.TheConstants.{SECTION_STRIDE}
 use Rattle.read_table.specs.Law.{headers_from, width_of, count_of, Fits, Kept, writer_of, dealt, reader_of, did, Gains, base_of, index_in, opens, closes, learns, loads, stores, changes, scans}
 use Rattle.read_table.proofs.Lists.{moves_self, moves_else, IsQuiet, IsStill, IsIdle, quiet, still, idle, stored_here, stored_in_another, stored_beside}
@@ -25,7 +25,7 @@ module _ (k : TableShape) where
   pub record Follows (s : St) (log : List (ℕ × Move)) (i x me : ℕ) (m : Move) : Type 0 where
     pub headers : (slot : ℕ) → slot < k.slots → get_or (set s.words i x) (headers_from k + slot) 0 ≡ header_in slot (moves_of 0 ((me, m) ∷ log))
     pub sections : (q : ℕ) → q < k.readers → get_or (set s.words i x) (q * SECTION_STRIDE) 0 ≡ inside (moves_of (q + 1) ((me, m) ∷ log))
-    pub stored : (slot place : ℕ) → slot < k.slots → place < width_of k → get_or (set s.words i x) (index_in k slot place) 0 ≡ word_in slot place ((me, m) ∷ log)
+    pub stored : (slot place : ℕ) → slot < k.slots → place < width_of k → get_or (set s.words i x) (index_in k slot place) 0 ≡ word_at_place slot place ((me, m) ∷ log)
 
   fits_after : (log : List (ℕ × Move)) (next : ℕ) (seat_of : ℕ → ℕ) (id : ℕ) (v : View) (m : Move) (f : Fits k log next seat_of id v)
       → Fits k ((v.me, m) ∷ log) next seat_of id (did v m f.later.0)
@@ -89,7 +89,7 @@ module _ (k : TableShape) where
 
   -- a step on a header or a section changes no word of a slot
   stored_behind : (s : St) (r : Kept k s) (i x me : ℕ) (m : Move) → i < base_of k → IsIdle m → (slot place : ℕ) → slot < k.slots → place < width_of k
-      → get_or (set s.words i x) (index_in k slot place) 0 ≡ word_in slot place ((me, m) ∷ r.log)
+      → get_or (set s.words i x) (index_in k slot place) 0 ≡ word_at_place slot place ((me, m) ∷ r.log)
   stored_behind s r i x me m low d slot place l w = get_or-set_other s.words i (index_in k slot place) x 0 (λ e. absurd (omega arith)) ∙ (r.stored slot place l w ∙ sym (idle me slot place m r.log d))
 
   -- a store changes the word of its slot and place, and no other

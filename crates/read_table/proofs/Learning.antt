@@ -36,7 +36,7 @@ use Rattle.typed_runs.specs.Effects.{is_array_in}
 use Rattle.typed_runs.proofs.Arrays.{array-there, kind-there}
 use Rattle.typed_runs.proofs.Elements.{offset_some, with-bytes}
 use Rattle.typed_runs.proofs.Kept.{Keeps, describes-kept}
-use Rattle.world_laws.specs.Around.{map_of, region_of, regions, element_number, key_length, value_length, elements_by, births, store_of}
+use Rattle.world_laws.specs.Around.{map_of, region_of, regions, element_in_region, key_length, value_length, elements_by, births, store_of}
 use Rattle.world_laws.specs.Described.{IsDescribed}
 use Rattle.world_laws.proofs.StandingBytes.{number-back}
 use Rattle.world_laws.proofs.Contents.{get-by, by-below, by-is, IsContent, zero-bytes, single-one, Guards, keeps-by, keeps-list, changed_at, changed-here, changed-all, linked-at, touch}
@@ -310,9 +310,9 @@ module _ (code : List Insn) (shapes : List MapShape) (ctx_len : ℕ) (hash : Are
         (map, None, bound, absent, refl, refl) refl (subst (λ (z : Run). z.exit ≡ None) is going) learnt (same-keeps (listed base) later))
 
     pub hit-learnt : (i' map region : ℕ) (key : List ℕ) → map < length shapes → slice_get run.program.maps i' ≡ Some map → region < regions → Asked (Finding i' key) → length key ≡ key_length (slice_get shapes map)
-        → (new : Run) → new ≡ moves run (resumed i (Pointer (Elem (element_number map region) (pos 0))) run.state) → new.exit ≡ None → Planned (also region learnt) new
+        → (new : Run) → new ≡ moves run (resumed i (Pointer (Elem (element_in_region map region) (pos 0))) run.state) → new.exit ≡ None → Planned (also region learnt) new
     hit-learnt i' map region key there bound small asked long new is going =
-        let n = element_number map region in
+        let n = element_in_region map region in
         let of_map : map_of n ≡ map = omega (arith, small) in
         let of_region : region_of n ≡ region = omega (arith, small) in
         let below : n < births shapes = omega (arith, there, small) in

@@ -4,7 +4,7 @@ use mathlib.Core.Logic.{dite}
 use native.Mathlib.Decide.{ℕ_discrete}
 use Rattle.read_table.specs.declared.view.Move.{Move}
 use Rattle.read_table.specs.declared.view.Move.TheVariants.{Open, Close, Learn, Load, Store, Header, Scan}
-use Rattle.read_table.specs.History.{moves_of, inside, header_in, word_in}
+use Rattle.read_table.specs.History.{moves_of, inside, header_in, word_at_place}
 
 pub moves_self : (who : ℕ) (m : Move) (es : List (ℕ × Move)) → moves_of who ((who, m) ∷ es) ≡ m ∷ moves_of who es
 moves_self who m es = rw (eq-eqb who who refl) refl
@@ -56,7 +56,7 @@ abbrev pub IsIdle : Move → Type 0
 IsIdle (Store s p x) = ⊥
 IsIdle _ = Unit {0}
 
-pub idle : (me slot place : ℕ) (m : Move) (es : List (ℕ × Move)) → IsIdle m → word_in slot place ((me, m) ∷ es) ≡ word_in slot place es
+pub idle : (me slot place : ℕ) (m : Move) (es : List (ℕ × Move)) → IsIdle m → word_at_place slot place ((me, m) ∷ es) ≡ word_at_place slot place es
 idle me slot place Open es q = refl
 idle me slot place Close es q = refl
 idle me slot place (Learn s h) es q = refl
@@ -65,11 +65,11 @@ idle me slot place (Store s p x) es q = absurd q
 idle me slot place (Header s w) es q = refl
 idle me slot place (Scan r x) es q = refl
 
-pub stored_here : (me s p slot place x : ℕ) (es : List (ℕ × Move)) → s ≡ slot → p ≡ place → word_in slot place ((me, Store s p x) ∷ es) ≡ x
+pub stored_here : (me s p slot place x : ℕ) (es : List (ℕ × Move)) → s ≡ slot → p ≡ place → word_at_place slot place ((me, Store s p x) ∷ es) ≡ x
 stored_here me s p slot place x es e f = rw (eq-eqb s slot e) (rw (eq-eqb p place f) refl)
 
-pub stored_in_another : (me s p slot place x : ℕ) (es : List (ℕ × Move)) → s ≢ slot → word_in slot place ((me, Store s p x) ∷ es) ≡ word_in slot place es
+pub stored_in_another : (me s p slot place x : ℕ) (es : List (ℕ × Move)) → s ≢ slot → word_at_place slot place ((me, Store s p x) ∷ es) ≡ word_at_place slot place es
 stored_in_another me s p slot place x es ne = rw (ne_eqb s slot ne) refl
 
-pub stored_beside : (me s p slot place x : ℕ) (es : List (ℕ × Move)) → s ≡ slot → p ≢ place → word_in slot place ((me, Store s p x) ∷ es) ≡ word_in slot place es
+pub stored_beside : (me s p slot place x : ℕ) (es : List (ℕ × Move)) → s ≡ slot → p ≢ place → word_at_place slot place ((me, Store s p x) ∷ es) ≡ word_at_place slot place es
 stored_beside me s p slot place x es e ne = rw (eq-eqb s slot e) (rw (ne_eqb p place ne) refl)

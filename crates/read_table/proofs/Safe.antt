@@ -5,7 +5,7 @@ use native.Mathlib.Decide.{ℕ_discrete}
 use Rattle.read_table.specs.declared.view.Move.{Move}
 use Rattle.read_table.specs.declared.view.Move.TheVariants.{Open, Close, Learn, Load, Store, Header, Scan}
 use Rattle.read_table.specs.declared.view.TableShape.{TableShape}
-use Rattle.read_table.specs.History.{moves_of, inside, header_in, word_in, generation, Knows, IsLearnt, Cleared, MayLink, IsSpare, IsReader, MayDo, IsLawful}
+use Rattle.read_table.specs.History.{moves_of, inside, header_in, word_at_place, generation, Knows, IsLearnt, Cleared, MayLink, IsSpare, IsReader, MayDo, IsLawful}
 
 -- of what the reader did, a, and what the writer did, b
 record Safe (k : TableShape) (who slot h : ℕ) (a b : List Move) : Type 0 where
@@ -114,5 +114,5 @@ lawful_before k [] before e h = h
 lawful_before k (x ∷ after) before e h = lawful_before k after before e h.1
 
 -- a load finds what was stored last
-pub finds_stored : (k : TableShape) (es : List (ℕ × Move)) → IsLawful k es → (after before : List (ℕ × Move)) (who slot place x : ℕ) → es ≡ after ++ (who, Load slot place x) ∷ before → x ≡ word_in slot place before
+pub finds_stored : (k : TableShape) (es : List (ℕ × Move)) → IsLawful k es → (after before : List (ℕ × Move)) (who slot place x : ℕ) → es ≡ after ++ (who, Load slot place x) ∷ before → x ≡ word_at_place slot place before
 finds_stored k es lawful after before who slot place x e = (lawful_before k after before (who, Load slot place x) (subst (IsLawful k) e lawful)).0.1

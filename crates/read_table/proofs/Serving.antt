@@ -15,7 +15,7 @@ use Rattle.read_table.specs.declared.view.Move.TheVariants.{Load, Store}
 use Rattle.read_table.specs.declared.view.TableShape.{TableShape}
 use Rattle.read_table.specs.History.{IsLearnt}
 use Rattle.read_table.specs.Lookups.{AnswersLookup, OnlySearches}
-use Rattle.read_table.specs.Serving.{CanServe, GoesOnWith, LeadsToWord}
+use Rattle.read_table.specs.Serving.{CanAnswer, GoesOnWith, LeadsToWord}
 use Rattle.read_table.specs.SharedRuns.{closing, opening}
 use Rattle.read_table.proofs.Stretches.{learnt-in}
 use Rattle.read_table.specs.Held.{IsSized}
@@ -41,7 +41,7 @@ known-there k ms before mine address offset width slot place sized w e l =
 module _ (k : TableShape) (v : RunView) (request : Request) where
   pub serves-load : (address : ℕ) (offset : ℤ) (width : Width) (slot place x : ℕ) → request ≡ requests.Load address offset width → IsSized k → LeadsThere address offset slot place → x < 2 ^ 64 → Serves k v request (Load slot (k.key_words + place) x ∷ []) x
   serves-load address offset width slot place x is sized w small = λ c context ms can.
-      let l = subst (λ (q : Request). CanServe k c context ms v q) is can in
+      let l = subst (λ (q : Request). CanAnswer k c context ms v q) is can in
       let t = there k ms address offset width slot place sized w l.leads in (
         subst (λ (s : ℕ). GoesOnWith k c context (Load s (k.key_words + place) x ∷ ms) v x) (sym t.0)
             (subst (λ (p : ℕ). GoesOnWith k c context (Load l.leads.slot (k.key_words + p) x ∷ ms) v x) (sym t.1) (l.goes_on x small)),
@@ -50,7 +50,7 @@ module _ (k : TableShape) (v : RunView) (request : Request) where
 
   pub serves-store : (address : ℕ) (offset : ℤ) (width : Width) (number slot place : ℕ) → request ≡ requests.Store address offset width number → IsSized k → LeadsThere address offset slot place → Serves k v request (Store slot (k.key_words + place) number ∷ []) 0
   serves-store address offset width number slot place is sized w = λ c context ms can.
-      let l = subst (λ (q : Request). CanServe k c context ms v q) is can in
+      let l = subst (λ (q : Request). CanAnswer k c context ms v q) is can in
       let t = there k ms address offset width slot place sized w l.leads in (
         subst (λ (s : ℕ). GoesOnWith k c context (Store s (k.key_words + place) number ∷ ms) v 0) (sym t.0)
             (subst (λ (p : ℕ). GoesOnWith k c context (Store l.leads.slot (k.key_words + p) number ∷ ms) v 0) (sym t.1) (l.goes_on 0)),
@@ -66,17 +66,17 @@ module _ (k : TableShape) (v : RunView) (request : Request) where
 
   pub serves-lookup : (ns : List Move) (found : Option ℕ) (word : ℕ) → request ≡ requests.Call Lookup → IsSized k → OnlySearches k ns → AnswersLookup k (bytes_in v 2 (8 * k.key_words)) ns found → word ≡ found_word 0 found → Serves k v request ns word
   serves-lookup ns found word is sized searches answers e = λ c context ms can.
-      let l = subst (λ (q : Request). CanServe k c context ms v q) is can in (
+      let l = subst (λ (q : Request). CanAnswer k c context ms v q) is can in (
         subst (λ (w : ℕ). GoesOnWith k c context (ns ++ ms) v w) (sym e) (l.goes_on ns found searches answers),
         subst (λ (q : Request). MayGive c v q word) (sym is) (subst (λ (w : ℕ). (w ≡ 0) ⊎ IsSlotWord w) (sym e) (given found ns (bytes_in v 2 (8 * k.key_words)) sized answers)),
       )
 
   pub serves-enter : request ≡ requests.Enter → Serves k v request (opening v.depth) 0
   serves-enter is = λ c context ms can.
-      let l = subst (λ (q : Request). CanServe k c context ms v q) is can in
+      let l = subst (λ (q : Request). CanAnswer k c context ms v q) is can in
       (l.goes_on 0, subst (λ (q : Request). MayGive c v q 0) (sym is) tt)
 
   pub serves-leave : request ≡ requests.Leave → Serves k v request (closing v.depth) 0
   serves-leave is = λ c context ms can.
-      let l = subst (λ (q : Request). CanServe k c context ms v q) is can in
+      let l = subst (λ (q : Request). CanAnswer k c context ms v q) is can in
       (l.goes_on 0, subst (λ (q : Request). MayGive c v q 0) (sym is) tt)

@@ -31,9 +31,9 @@ word_after slot place (Store s p x) old =
 word_after slot place _ old = old
 
 -- The word at a place of a slot after all this: what was stored there last, by whomever, and 0 where nothing was.
-abbrev pub word_in : ℕ → ℕ → List (ℕ × Move) → ℕ
-word_in slot place [] = 0
-word_in slot place (e ∷ es) = word_after slot place e.1 (word_in slot place es)
+abbrev pub word_at_place : ℕ → ℕ → List (ℕ × Move) → ℕ
+word_at_place slot place [] = 0
+word_at_place slot place (e ∷ es) = word_after slot place e.1 (word_at_place slot place es)
 
 -- how often a slot with this header was linked
 abbrev pub generation : ℕ → ℕ
@@ -81,7 +81,7 @@ MayDo k es who Close = IsReader k who
 MayDo k es who (Learn slot h) =
     IsReader k who × (inside (moves_of who es) ≡ 1) × (h ≡ header_in slot (moves_of 0 es))
 MayDo k es who (Load slot place x) =
-    IsLearnt slot (moves_of who es) × (x ≡ word_in slot place es)
+    IsLearnt slot (moves_of who es) × (x ≡ word_at_place slot place es)
 MayDo k es who (Store slot place x) =
     ((who ≡ 0) × IsSpare k.readers slot (moves_of 0 es)) ⊎ IsLearnt slot (moves_of who es)
 MayDo k es who (Header slot w) =

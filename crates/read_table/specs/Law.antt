@@ -9,7 +9,7 @@ use Rattle.read_table.specs.declared.view.Move.{Move}
 use Rattle.read_table.specs.declared.view.Move.TheVariants.{Open, Close, Learn, Load, Store, Header, Scan}
 use Rattle.read_table.specs.declared.view.TableShape.{TableShape}
 use Rattle.read_table.specs.declared.view.View.{View}
-use Rattle.read_table.specs.History.{moves_of, inside, header_in, word_in, IsLawful}
+use Rattle.read_table.specs.History.{moves_of, inside, header_in, word_at_place, IsLawful}
 
 -- how many words a slot has
 abbrev pub width_of : TableShape → ℕ
@@ -58,7 +58,7 @@ pub record Kept (k : TableShape) (s : State ℕ View) : Type 0 where
   pub sections : (r : ℕ) → r < k.readers →
       slice_index s.words (r * SECTION_STRIDE) ≡ inside (moves_of (r + 1) log)
   pub stored : (slot place : ℕ) → slot < k.slots → place < width_of k →
-      slice_index s.words (index_in k slot place) ≡ word_in slot place log
+      slice_index s.words (index_in k slot place) ≡ word_at_place slot place log
   pub lawful : IsLawful k log
   pub fresh : (who : ℕ) → next ≤ who → moves_of who log ≡ []
   pub each_seat : (j : ℕ) (v : View) → get_elem? s.views j ≡ some v → Fits k log next seat_of j v

@@ -10,7 +10,7 @@ use Rattle.read_table.specs.declared.view.Move.TheVariants.{Load, Store}
 use Rattle.read_table.specs.declared.view.TableShape.{TableShape}
 use Rattle.read_table.specs.declared.view.View.{View}
 use Rattle.read_table.specs.History.{Knows, generation, header_in, moves_of}
-use Rattle.read_table.specs.Serving.{CanServe, GoesOnWith}
+use Rattle.read_table.specs.Serving.{CanAnswer, GoesOnWith}
 use Rattle.read_table.specs.Sharing.{IsSharing}
 use Rattle.read_table.specs.SharedRuns.{IsSharedRun}
 use Rattle.read_table.specs.Words.{loaded_of}
@@ -51,12 +51,12 @@ pub record IsServable (k : TableShape) (mine : List Move) (v : RunView) (request
     pub moves : List Move
     pub before : List Move
     pub list : mine ≡ moves ++ before
-    pub can : CanServe k checked context moves v request
+    pub can : CanAnswer k checked context moves v request
 
 -- What was done serves it: with this word each such run goes on.
 abbrev pub Serves : TableShape → RunView → Request → List Move → ℕ → Type 0
 Serves k v request ns word = (c : Checked) (context : List ℕ) (ms : List Move) →
-    CanServe k c context ms v request →
+    CanAnswer k c context ms v request →
     GoesOnWith k c context (ns ++ ms) v word × MayGive c v request word
 
 -- Since this start the seat has done what a shared run of these words asked, and no more.

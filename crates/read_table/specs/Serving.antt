@@ -70,13 +70,13 @@ pub record LeavesSection (k : TableShape) (c : Checked) (context : List ℕ) (ms
   pub goes_on : (word : ℕ) → GoesOnWith k c context (closing v.depth ++ ms) v word
 
 -- what is so of a request of a shared run
-abbrev pub CanServe : TableShape → Checked → List ℕ → List Move → RunView → Request → Type 0
-CanServe k c context ms v (requests.Load address offset width) =
+abbrev pub CanAnswer : TableShape → Checked → List ℕ → List Move → RunView → Request → Type 0
+CanAnswer k c context ms v (requests.Load address offset width) =
     LoadsWord k c context ms v address offset width
-CanServe k c context ms v (requests.Store address offset width number) =
+CanAnswer k c context ms v (requests.Store address offset width number) =
     StoresWord k c context ms v address offset width number
-CanServe k c context ms v (requests.Call Lookup) = LooksUpKey k c context ms v
-CanServe k c context ms v (requests.Call Update) = ⊥
-CanServe k c context ms v (requests.Call Delete) = ⊥
-CanServe k c context ms v requests.Enter = EntersSection k c context ms v
-CanServe k c context ms v requests.Leave = LeavesSection k c context ms v
+CanAnswer k c context ms v (requests.Call Lookup) = LooksUpKey k c context ms v
+CanAnswer k c context ms v (requests.Call Update) = ⊥
+CanAnswer k c context ms v (requests.Call Delete) = ⊥
+CanAnswer k c context ms v requests.Enter = EntersSection k c context ms v
+CanAnswer k c context ms v requests.Leave = LeavesSection k c context ms v

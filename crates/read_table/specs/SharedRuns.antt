@@ -16,7 +16,7 @@ use Rattle.bpf_model.specs.Request.{Request, LoadElement, StoreElement, CallHelp
 use Rattle.bpf_model.specs.Request.{MapArgument, BytesArgument, asks}
 use Rattle.bpf_model.specs.MachineStep.{Resumes}
 use Rattle.bpf_model.specs.Step.{Outcome, after, insn_at}
-use Rattle.world_laws.specs.Around.{element_number, region_of}
+use Rattle.world_laws.specs.Around.{element_in_region, region_of}
 use Rattle.read_table.specs.declared.view.Move.{Move}
 use Rattle.read_table.specs.declared.view.Move.TheVariants.{Open, Close, Load, Store}
 use Rattle.read_table.specs.declared.view.TableShape.{TableShape}
@@ -47,7 +47,7 @@ Replies k depth done (StoreElement n offset width x) ms reply =
     × (ms ≡ Store (region_of n) (k.key_words + place) x ∷ []) × (reply ≡ Nothing)
 Replies k depth done (CallHelper Lookup (MapArgument map ∷ BytesArgument key ∷ [])) ms reply =
     (found : Option ℕ) × OnlySearches k ms × AnswersLookup k key ms found
-    × (reply ≡ found_value (option_map (element_number map) found))
+    × (reply ≡ found_value (option_map (element_in_region map) found))
 Replies k depth done (CallHelper helper arguments) ms reply = ⊥
 Replies k depth done Enter ms reply = (ms ≡ opening depth) × (reply ≡ Nothing)
 Replies k depth done Leave ms reply = (ms ≡ closing depth) × (reply ≡ Nothing)

@@ -3,7 +3,7 @@ ghost use Rattle.std.specs.Prelude.{◌≡◌, ℕ, List, ◌∷◌, ◌++◌};
 ghost use Rattle.read_table.specs.declared.view.Move.{Move};
 ghost use Rattle.read_table.specs.declared.view.Move.TheVariants.{Load};
 ghost use Rattle.read_table.specs.declared.view.TableShape.{TableShape};
-ghost use Rattle.read_table.specs.History.{moves_of, header_in, word_in, generation, Knows, IsLearnt, IsSpare, IsLawful};
+ghost use Rattle.read_table.specs.History.{moves_of, header_in, word_at_place, generation, Knows, IsLearnt, IsSpare, IsLawful};
 
 use crate::view::{TableShape, View};
 use atomic_table::{Play, Split, TableRule};
@@ -30,7 +30,7 @@ pub fn spare_slots_are_unlearnt()
 pub fn loads_find_what_was_stored()
     ensures { (k : TableShape) (es : List (ℕ × Move)) → IsLawful k es →
         (after before : List (ℕ × Move)) (who slot place x : ℕ) →
-        es ≡ after ++ (who, Load slot place x) ∷ before → x ≡ word_in slot place before }
+        es ≡ after ++ (who, Load slot place x) ∷ before → x ≡ word_at_place slot place before }
 {}
 
 /// The rule: the words are what one lawful history of all steps leaves.

@@ -17,7 +17,7 @@ ghost use Rattle.machine.specs.Standing.{StandsBy};
 ghost use Rattle.machine.specs.Steps.{MovesOn, TakesStep};
 ghost use Rattle.read_table.specs.declared.view.Move.{Move};
 ghost use Rattle.read_table.specs.declared.view.TableShape.{TableShape};
-ghost use Rattle.read_table.specs.Serving.{CanServe};
+ghost use Rattle.read_table.specs.Serving.{CanAnswer};
 ghost use Rattle.read_table.specs.Sharing.{ExitsShared, GoesFurther, IsSharing};
 ghost use Rattle.read_table.specs.Words.{FitsTable, UsesSubWords};
 
@@ -70,5 +70,5 @@ pub fn shared_run_asks()
     ensures { (k : TableShape) (c : Checked) (context : List ℕ) (ms : List Move)
         (v after : RunView) (request : Request) → IsSharing k c context ms v →
         TakesStep c v (Shared request) after →
-        CanServe k c context ms v request × (after ≡ v) }
+        CanAnswer k c context ms v request × (after ≡ v) }
 {}

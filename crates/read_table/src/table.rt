@@ -1,7 +1,7 @@
 //! The table, and a reader's seat at it.
 ghost use Rattle.std.specs.Prelude.{◌≡◌, ℕ, ◌+◌, ◌-◌, ◌*◌, ◌<◌, ◌≤◌, ◌%◌, ◌↔◌, [], ◌∷◌, length, slice_index, IsTrue, IfOk, true, false};
 ghost use Rattle.read_table.specs.declared.view.Move.TheVariants.{Open, Close, Learn, Load, Store, Header, Scan};
-ghost use Rattle.read_table.specs.History.{inside, IsLearnt, header_in, word_in, MayLink};
+ghost use Rattle.read_table.specs.History.{inside, IsLearnt, header_in, word_at_place, MayLink};
 ghost use Rattle.read_table.specs.History.{IsReader};
 ghost use Rattle.read_table.specs.Law.{count_of, base_of, width_of, writer_after};
 ghost use Rattle.read_table.specs.Held.{IsSized, IsReady, IsNew, Does, Went, IsUnchanged};
@@ -145,7 +145,7 @@ impl ReadTable {
         ensures step { Does seat.old (Load slot place result) seat.new }
 
         // It's the word that was stored there last, by whomever, of all that had been done to the table.
-        ensures found { result ≡ word_in slot place seat.new.view.seen }
+        ensures found { result ≡ word_at_place slot place seat.new.view.seen }
         ensures unchanged { IsUnchanged slot seat.new }
     {
         let index = self.index_of(slot, place);
@@ -161,7 +161,7 @@ impl ReadTable {
         requires slot { slot < self.now.shape.slots }
         requires place { place < self.now.shape.key_words + self.now.shape.value_words }
         ensures step { Does seat.old (Store slot place word) seat.new }
-        ensures stored { word_in slot place seat.new.view.seen ≡ word }
+        ensures stored { word_at_place slot place seat.new.view.seen ≡ word }
         ensures unchanged { IsUnchanged slot seat.new }
     {
         let index = self.index_of(slot, place);

@@ -14,7 +14,7 @@ use Rattle.bpf_model.specs.declared.value.Value.{Value}
 use Rattle.bpf_model.specs.declared.value.Value.TheVariants.{Nothing, Pointer}
 use Rattle.bpf_model.specs.declared.value.Reference.{Reference}
 use Rattle.bpf_model.specs.declared.value.Reference.TheVariants.{Ctx, Frame, MapRef, Elem}
-use Rattle.bpf_model.specs.Operand.{moved, sum_of, difference_of}
+use Rattle.bpf_model.specs.Operand.{offset_by, sum_of, difference_of}
 use Rattle.bpf_model.specs.Access.{region_offset}
 use Rattle.bpf_model.specs.Arithmetic.{signed}
 use Rattle.bpf_model.proofs.Places.{start-insn_at, starts_inside, slot_count_some}
@@ -59,7 +59,7 @@ entry_reg (suc (suc (suc (suc (suc (suc (suc (suc (suc (suc (suc r))))))))))) = 
     beyond n h = ap (λ t. if t then Pointer (Ctx (pos 0)) else if n == 10 then Pointer (Frame (pos FRAME_BYTES)) else Nothing) (ne_eqb n 1 (λ e. omega arith))
         ∙ ap (λ t. if t then Pointer (Frame (pos FRAME_BYTES)) else Nothing) (ne_eqb n 10 (λ e. omega arith))
 
-pub far_moved : (r : Reference) (offset : Option ℤ) (d : ℤ) → offset ≡ None → ((k : ℕ) → r ≡ MapRef k → ⊥) → IsSum (pointed_offset r +ℤ d) offset → (v : Value) × (moved r d ≡ Some v) × IsFar v
+pub far_moved : (r : Reference) (offset : Option ℤ) (d : ℤ) → offset ≡ None → ((k : ℕ) → r ≡ MapRef k → ⊥) → IsSum (pointed_offset r +ℤ d) offset → (v : Value) × (offset_by r d ≡ Some v) × IsFar v
 far_moved (Ctx o) offset d e other s = (Pointer (Ctx (o +ℤ d)), refl, subst (IsSum (o +ℤ d)) e s)
 far_moved (Frame o) offset d e other s = (Pointer (Frame (o +ℤ d)), refl, subst (IsSum (o +ℤ d)) e s)
 far_moved (Elem k o) offset d e other s = (Pointer (Elem k (o +ℤ d)), refl, subst (IsSum (o +ℤ d)) e s)
@@ -91,11 +91,11 @@ far_set dst v m n far =
       subst (λ t. IsFar (if t then v else m.regs dst)) (sym (eq-eqb dst dst refl)) far,
     )
 
-pub sum_known : (x y : Value) (r : Reference) (b : ℕ) (c : Computed) → x ≡ Pointer r → number y ≡ Some b → IsComputed (moved r (signed w64 b)) c → IsComputed (sum_of x y) c
-sum_known x y r b c e f h = subst (λ x. IsComputed (sum_of x y) c) (sym e) (bind_computes (number y) (λ b. moved r (signed w64 b)) b c f h)
+pub sum_known : (x y : Value) (r : Reference) (b : ℕ) (c : Computed) → x ≡ Pointer r → number y ≡ Some b → IsComputed (offset_by r (signed w64 b)) c → IsComputed (sum_of x y) c
+sum_known x y r b c e f h = subst (λ x. IsComputed (sum_of x y) c) (sym e) (bind_computes (number y) (λ b. offset_by r (signed w64 b)) b c f h)
 
-pub difference_known : (x y : Value) (r : Reference) (b : ℕ) (c : Computed) → x ≡ Pointer r → number y ≡ Some b → IsComputed (moved r (pos 0 -ℤ signed w64 b)) c → IsComputed (difference_of x y) c
-difference_known x y r b c e f h = subst (λ x. IsComputed (difference_of x y) c) (sym e) (bind_computes (number y) (λ b. moved r (pos 0 -ℤ signed w64 b)) b c f h)
+pub difference_known : (x y : Value) (r : Reference) (b : ℕ) (c : Computed) → x ≡ Pointer r → number y ≡ Some b → IsComputed (offset_by r (pos 0 -ℤ signed w64 b)) c → IsComputed (difference_of x y) c
+difference_known x y r b c e f h = subst (λ x. IsComputed (difference_of x y) c) (sym e) (bind_computes (number y) (λ b. offset_by r (pos 0 -ℤ signed w64 b)) b c f h)
 
 pub store_known : (m : State) (width : ℕ) (offset : ℤ) (v : Value) (r : Reference) (o : ℤ) (at : ℕ) (frame : ℕ → Cell) → r ≡ Frame o → region_offset FRAME_BYTES width (o +ℤ offset) ≡ Some at → frame_after at width v m.frame ≡ Some frame
     → stored m width offset v r ≡ Some (Moves (record { regs = m.regs; frame = frame; place = m.place + 1 }))

@@ -2,7 +2,7 @@
 ghost use Rattle.std.specs.Prelude.{◌≡◌, ℤ, ◌+ℤ◌, ◌-ℤ◌, pos};
 ghost use Rattle.bpf_model.specs.declared.value.Value.{Value};
 ghost use Rattle.bpf_model.specs.Value.{number as number_of};
-ghost use Rattle.bpf_model.specs.Operand.{of_numbers as numbers_of, moved, sum_of, difference_of, computed as computed_of, is_zero as is_zero_of, null_test as null_test_of, decided as decided_of};
+ghost use Rattle.bpf_model.specs.Operand.{of_numbers as numbers_of, offset_by, sum_of, difference_of, computed as computed_of, is_zero as is_zero_of, null_test as null_test_of, decided as decided_of};
 ghost use Rattle.reference_interpreter.specs.Plain.{IsComputed, IsSum, pointed_offset};
 
 use alu::{alu, compare};
@@ -60,7 +60,7 @@ fn sub_offset(o: i64, by: i64) -> Option<i64>
 
 /// The reference at another offset.
 fn at_offset(r: Reference, offset: Option<i64>) -> Computed
-    ensures { (d : ℤ) → IsSum (pointed_offset r +ℤ d) offset → IsComputed (moved r d) result }
+    ensures { (d : ℤ) → IsSum (pointed_offset r +ℤ d) offset → IsComputed (offset_by r d) result }
 {
     match r {
         Reference::MapRef(_) => Computed::Stuck,

@@ -8,32 +8,32 @@ use Rattle.atomic_table.proofs.Lists.{at_set, at_snoc, set_again}
 use Rattle.shared.specs.declared.meter.MeterView.{MeterView}
 use Rattle.shared.specs.declared.tally.Totals.{Totals}
 use Rattle.shared.specs.Books.{TotalsRise}
-use Rattle.shared.specs.Meter.{IsKnownOf, FitsMeter, IsMetered, writer_of, writer_at, reader_of, HasWrittenMeter, HasReadMeter}
+use Rattle.shared.specs.Meter.{IsKnownOf, FitsMeter, IsMetered, meter_writer, writer_at, meter_reader, HasWrittenMeter, HasReadMeter}
 
-pub begins : IsMetered (0 ∷ 0 ∷ 0 ∷ []) (writer_of 0 0 0 ∷ [])
+pub begins : IsMetered (0 ∷ 0 ∷ 0 ∷ []) (meter_writer 0 0 0 ∷ [])
 begins = record { writer = 0; each = one }
   where
-    one : (by : ℕ) (v : MeterView) → get_elem? (writer_of 0 0 0 ∷ []) by ≡ some v → FitsMeter 0 (0 ∷ 0 ∷ 0 ∷ []) by v
+    one : (by : ℕ) (v : MeterView) → get_elem? (meter_writer 0 0 0 ∷ []) by ≡ some v → FitsMeter 0 (0 ∷ 0 ∷ 0 ∷ []) by v
     one zero v e = subst (FitsMeter 0 (0 ∷ 0 ∷ 0 ∷ []) 0) (some-injective _ _ e) record { known = record { steps = le_refl 0; unlinked = le_refl 0; reclaimed = le_refl 0 }; own = λ _. refl; same = λ _. refl }
     one (suc by) v e = absurd (some-ne-none v (sym e))
 
 -- the writer writes words that are no less
-pub writes : (by a b c x y z : ℕ) → a ≤ x → b ≤ y → c ≤ z → Turns IsMetered by (writer_of a b c) (λ _. x ∷ y ∷ z ∷ []) HasWrittenMeter
+pub writes : (by a b c x y z : ℕ) → a ≤ x → b ≤ y → c ≤ z → Turns IsMetered by (meter_writer a b c) (λ _. x ∷ y ∷ z ∷ []) HasWrittenMeter
 writes by a b c x y z p q r words views h at =
-    let mine = h.each by (writer_of a b c) at in
+    let mine = h.each by (meter_writer a b c) at in
     let new : List ℕ = x ∷ y ∷ z ∷ [] in
     let same : words ≡ a ∷ b ∷ c ∷ [] = mine.same refl in (
-      writer_of x y z,
+      meter_writer x y z,
       record {
         writer = h.writer;
         each = λ j u e. ⊎_elim
-            (λ (t : (j ≡ by) × (writer_of x y z ≡ u)). subst (λ (k : ℕ × MeterView). FitsMeter h.writer new k.0 k.1) (λ i. (sym t.0 i, t.1 i)) record { known = record { steps = le_refl x; unlinked = le_refl y; reclaimed = le_refl z }; own = λ _. mine.own refl; same = λ _. refl })
+            (λ (t : (j ≡ by) × (meter_writer x y z ≡ u)). subst (λ (k : ℕ × MeterView). FitsMeter h.writer new k.0 k.1) (λ i. (sym t.0 i, t.1 i)) record { known = record { steps = le_refl x; unlinked = le_refl y; reclaimed = le_refl z }; own = λ _. mine.own refl; same = λ _. refl })
             (λ (t : (j ≢ by) × (get_elem? views j ≡ some u)). let f = h.each j u t.1 in let g = subst (IsKnownOf u) same f.known in record {
               known = record { steps = le_trans g.steps p; unlinked = le_trans g.unlinked q; reclaimed = le_trans g.reclaimed r };
               own = f.own;
               same = λ k. absurd (t.0 (f.own k ∙ sym (mine.own refl)));
             })
-            (at_set views by j (writer_of x y z) u e);
+            (at_set views by j (meter_writer x y z) u e);
       },
       refl,
     )
@@ -56,14 +56,14 @@ reads by v not words views h at =
     )
 
 -- the writer makes a reader
-pub forks : (by : ℕ) (v : MeterView) → Forks IsMetered by v v (reader_of v)
+pub forks : (by : ℕ) (v : MeterView) → Forks IsMetered by v v (meter_reader v)
 forks by v words views h at =
     let mine = h.each by v at in record {
       writer = h.writer;
       each = λ j u e. ⊎_elim
           (λ was. h.each j u (subst (λ l. get_elem? l j ≡ some u) (set_again views by v at) was))
-          (λ (same : reader_of v ≡ u). subst (FitsMeter h.writer words j) same record { known = record { steps = mine.known.steps; unlinked = mine.known.unlinked; reclaimed = mine.known.reclaimed }; own = λ k. absurd (true≢false (sym k)); same = λ k. absurd (true≢false (sym k)) })
-          (at_snoc (set views by v) (reader_of v) u j e);
+          (λ (same : meter_reader v ≡ u). subst (FitsMeter h.writer words j) same record { known = record { steps = mine.known.steps; unlinked = mine.known.unlinked; reclaimed = mine.known.reclaimed }; own = λ k. absurd (true≢false (sym k)); same = λ k. absurd (true≢false (sym k)) })
+          (at_snoc (set views by v) (meter_reader v) u j e);
     }
 
 -- a writer whose view is known by an equation may write totals that are no less

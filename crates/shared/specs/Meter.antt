@@ -24,15 +24,15 @@ pub record IsMetered (words : List ℕ) (views : List MeterView) : Type 0 where
   pub writer : ℕ
   pub each : (by : ℕ) (v : MeterView) → get_elem? views by ≡ some v → FitsMeter writer words by v
 
-abbrev pub writer_of : ℕ → ℕ → ℕ → MeterView
-writer_of steps unlinked reclaimed =
+abbrev pub meter_writer : ℕ → ℕ → ℕ → MeterView
+meter_writer steps unlinked reclaimed =
     record { writes = true; steps = steps; unlinked = unlinked; reclaimed = reclaimed }
 
 abbrev pub writer_at : Totals → MeterView
-writer_at t = writer_of t.steps t.unlinked t.reclaimed
+writer_at t = meter_writer t.steps t.unlinked t.reclaimed
 
-abbrev pub reader_of : MeterView → MeterView
-reader_of v = record {
+abbrev pub meter_reader : MeterView → MeterView
+meter_reader v = record {
   writes = false;
   steps = v.steps;
   unlinked = v.unlinked;
@@ -42,7 +42,7 @@ reader_of v = record {
 -- the writer knows what it wrote
 abbrev pub HasWrittenMeter : MeterView → List ℕ → List ℕ → MeterView → Type 0
 HasWrittenMeter v before after w =
-    w ≡ writer_of (slice_index after 0) (slice_index after 1) (slice_index after 2)
+    w ≡ meter_writer (slice_index after 0) (slice_index after 1) (slice_index after 2)
 
 -- the reader knows what it read, which is no less than what it knew
 abbrev pub HasReadMeter : MeterView → List ℕ → List ℕ → MeterView → Type 0

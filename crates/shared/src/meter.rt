@@ -16,11 +16,11 @@ pub struct MeterView {
 pub struct Metering;
 
 impl Protocol<[u64; 3], MeterView> for Metering {
-    ghost use Rattle.shared.specs.Meter.{IsMetered, writer_of};
+    ghost use Rattle.shared.specs.Meter.{IsMetered, meter_writer};
 
     ghost holds = { IsMetered };
 
-    ghost first = { writer_of 0 0 0 };
+    ghost first = { meter_writer 0 0 0 };
 }
 
 /// The pass that writes puts new words in place of the old.
@@ -45,11 +45,11 @@ impl Outcome<[u64; 3], MeterView> for Reads {
 pub struct ForReaders;
 
 impl Split<MeterView> for ForReaders {
-    ghost use Rattle.shared.specs.Meter.{reader_of};
+    ghost use Rattle.shared.specs.Meter.{meter_reader};
 
     ghost left = { λ v. v };
 
-    ghost right = { reader_of };
+    ghost right = { meter_reader };
 }
 
 /// The cell of the counters: three words, of which none ever gets less.

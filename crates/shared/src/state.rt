@@ -4,7 +4,7 @@ ghost use Rattle.std.specs.Arc.{arc_value};
 ghost use Rattle.crossbeam_utils.specs.Seq.{cell_view};
 ghost use Rattle.shared.specs.Noted.{IsEntered, IsExitNote, receipt_of};
 ghost use Rattle.shared.specs.Books.{TotalsRise, CutsTo};
-ghost use Rattle.shared.specs.Meter.{writer_at, writer_of};
+ghost use Rattle.shared.specs.Meter.{writer_at, meter_writer};
 ghost use Rattle.shared.specs.Tally.{IsTallyOf, shown_totals};
 ghost use Rattle.bpf_model.specs.declared.limits.TheConstants.{MAX_JOURNAL};
 ghost use Rattle.journal_laws.specs.Replay.{Replays, HasNoRuns};
@@ -73,7 +73,7 @@ pub(crate) fn begin(
 ) -> Result<(Arc<Meter>, MeterPass, Counters), AllocError>
     ensures cell { IfOk result (λ t.
         t.1.table_id ≡ (arc_value t.0).table.shared.table_id) }
-    ensures view { IfOk result (λ t. cell_view t.1 ≡ writer_of 0 0 0) }
+    ensures view { IfOk result (λ t. cell_view t.1 ≡ meter_writer 0 0 0) }
     ensures counters { IfOk result (λ t. t.2 ≡ shown_totals origin 0 0 0) }
 {
     let (cell, mut pass) = Meter::ruled(alloc, [0, 0, 0])?;

@@ -33,7 +33,7 @@ use Rattle.register_kinds.specs.Changes.{learnt, learnt_kind, learnt_cell}
 use Rattle.state_steps.specs.Stepped.{IsEqualToNull}
 use Rattle.bpf_model.specs.declared.opcode.Size.{Size}
 use Rattle.bpf_model.specs.declared.opcode.Size.TheVariants.{Word64}
-use Rattle.bpf_model.specs.PlainMaps.{IsValueLoad, Lookup, LookupPart, FrameCopy, KeyAddress, MapLoad, LookupCall, NullTest, ValueLoad, part_insn, IsFitting}
+use Rattle.bpf_model.specs.PlainMaps.{IsValueLoad, GuardedLookup, LookupPart, FrameCopy, KeyAddress, MapLoad, LookupCall, NullTest, ValueLoad, part_insn, IsFitting}
 use Rattle.scalar_domain.specs.declared.scalar.Scalar.{Scalar}
 use Rattle.typed_runs.specs.Kinds.{Kind, Blank, Num, FrameAt, MapAt, ValueAt, MaybeNull, ByteCell, AbsState}
 use Rattle.typed_runs.specs.Effects.{with_kind, after_call, after_lock, after_unlock, left_kind, left_cell, IsWritten, HasBytes}
@@ -74,7 +74,7 @@ value_load_serving shape (Load width dst src offset) v = refl
 value_load_serving shape (LoadSigned width dst src offset) v = refl
 value_load_serving shape (Store width dst offset src) v = absurd v
 
-part_serving : (shapes : List MapShape) (l : Lookup) (p : LookupPart) → IsFitting shapes l → is_serving (part_insn l p) ≡ true
+part_serving : (shapes : List MapShape) (l : GuardedLookup) (p : LookupPart) → IsFitting shapes l → is_serving (part_insn l p) ≡ true
 part_serving shapes l FrameCopy f = refl
 part_serving shapes l KeyAddress f = refl
 part_serving shapes l MapLoad f = refl
@@ -87,7 +87,7 @@ section_serving true = refl
 section_serving false = refl
 
 module _ (shapes : List MapShape) (i : Insn) (idle : is_serving i ≡ false) (a : AbsState) where
-  no_part : (l : Lookup) (p : LookupPart) → IsReadyPart shapes l p i a → ⊥
+  no_part : (l : GuardedLookup) (p : LookupPart) → IsReadyPart shapes l p i a → ⊥
   no_part l p ready = (let e : false ≡ true = sym idle ∙ ap is_serving ready.insn ∙ part_serving shapes l p ready.fitting in absurd cc)
 
   no_section : (opens : Bool) → IsReadySection opens i a → ⊥
@@ -107,7 +107,7 @@ no_section_call i false none e = false≢true (sym none ∙ ap is_call e)
 
 -- what stays for a lookup where one register is set
 module _ (dst : ℕ) (kind : Kind) (a b : AbsState) (e : AreAlike (with_kind dst kind a) b) where
-  pub key_kept : (l : Lookup) → IsKeyWritten l a → IsKeyWritten l b
+  pub key_kept : (l : GuardedLookup) → IsKeyWritten l a → IsKeyWritten l b
   key_kept l w k p q = e.cells k ∙ w k p q
 
   -- one that calls may change
@@ -132,10 +132,10 @@ module _ (op : AluOp) (size : Size) (dst : ℕ) (src : Operand) (a : StateHere) 
     (copies : (s : ℕ) → op ≡ Move → size ≡ Word64 → src ≡ RegisterOperand s → (10 ≡ dst → ⊥) → IsWritten (kind_of (kind_in a.regs s)) → R (kind_of (kind_in a.regs s)))
     (frame : (m at : ℕ) (imm : ℤ) → op ≡ Add → size ≡ Word64 → src ≡ Immediate imm → (10 ≡ dst → ⊥) → kind_in a.regs dst ≡ kinds.Frame (pos m) → m ≤ FRAME_BYTES → at ≤ FRAME_BYTES → pos m +ℤ imm ≡ pos at → R (FrameAt (pos at))) where
   -- it sets r2, to the one or to the other
-  abbrev pub SetsByPart : Lookup → LookupPart → Type 0
+  abbrev pub SetsByPart : GuardedLookup → LookupPart → Type 0
   SetsByPart l p = (dst ≡ 2) × (((p ≡ FrameCopy) × R (FrameAt (pos FRAME_BYTES))) ⊎ ((p ≡ KeyAddress) × R (FrameAt (pos l.at))))
 
-  copied : (l : Lookup) → Alu op size dst src ≡ part_insn l FrameCopy → (state_of a).regs 10 ≡ FrameAt (pos FRAME_BYTES) → SetsByPart l FrameCopy
+  copied : (l : GuardedLookup) → Alu op size dst src ≡ part_insn l FrameCopy → (state_of a).regs 10 ≡ FrameAt (pos FRAME_BYTES) → SetsByPart l FrameCopy
   copied l e f =
       let d : dst ≡ 2 = cc in
       let o : op ≡ Move = cc in
@@ -144,7 +144,7 @@ module _ (op : AluOp) (size : Size) (dst : ℕ) (src : Operand) (a : StateHere) 
       let w : IsWritten (kind_of (kind_in a.regs 10)) = subst IsWritten (sym f) tt in
       (d, inl (refl, subst R f (copies 10 o z s (λ p. let q : 10 ≡ 2 = p ∙ d in absurd (omega (arith, q))) w)))
 
-  addressed : (shapes : List MapShape) (l : Lookup) → IsFitting shapes l → Alu op size dst src ≡ part_insn l KeyAddress → (state_of a).regs 2 ≡ FrameAt (pos FRAME_BYTES) → SetsByPart l KeyAddress
+  addressed : (shapes : List MapShape) (l : GuardedLookup) → IsFitting shapes l → Alu op size dst src ≡ part_insn l KeyAddress → (state_of a).regs 2 ≡ FrameAt (pos FRAME_BYTES) → SetsByPart l KeyAddress
   addressed shapes l fit e f =
       let d : dst ≡ 2 = cc in
       let o : op ≡ Add = cc in
@@ -153,7 +153,7 @@ module _ (op : AluOp) (size : Size) (dst : ℕ) (src : Operand) (a : StateHere) 
       let k = kind_is (kind_in a.regs 2) (FrameAt (pos FRAME_BYTES)) f in
       (d, inr (refl, frame FRAME_BYTES l.at l.offset o z s (λ p. let q : 10 ≡ 2 = p ∙ d in absurd (omega (arith, q))) (ap (kind_in a.regs) d ∙ k) (omega arith) (omega (arith, fit.in_frame.1)) fit.in_frame.0))
 
-  pub alu_part : (shapes : List MapShape) (l : Lookup) (p : LookupPart) → IsReadyPart shapes l p (Alu op size dst src) (state_of a) → SetsByPart l p
+  pub alu_part : (shapes : List MapShape) (l : GuardedLookup) (p : LookupPart) → IsReadyPart shapes l p (Alu op size dst src) (state_of a) → SetsByPart l p
   alu_part shapes l FrameCopy ready = copied l ready.insn ready.frame
   alu_part shapes l KeyAddress ready = addressed shapes l ready.fitting ready.insn ready.expects.1
   alu_part shapes l MapLoad ready = (let e = ready.insn in absurd cc)
@@ -174,7 +174,7 @@ module _ (op : AluOp) (size : Size) (dst : ℕ) (src : Operand) (a : StateHere) 
       made : (k : Kind) → R k → dst ≡ 2 → AreAlike (with_kind 2 k (state_of a)) b
       made k r d = subst (λ n. AreAlike (with_kind n k (state_of a)) b) d (alike k r)
 
-      written : (l : Lookup) (p : LookupPart) → (p ≡ FrameCopy) ⊎ (p ≡ KeyAddress) → Expects l p (state_of a) → IsKeyWritten l (state_of a)
+      written : (l : GuardedLookup) (p : LookupPart) → (p ≡ FrameCopy) ⊎ (p ≡ KeyAddress) → Expects l p (state_of a) → IsKeyWritten l (state_of a)
       written l FrameCopy h x = x
       written l KeyAddress h x = x.0
       written l MapLoad h x = x.0
@@ -182,7 +182,7 @@ module _ (op : AluOp) (size : Size) (dst : ℕ) (src : Operand) (a : StateHere) 
       written l NullTest h x = elim h [ inl q ↦ absurd cc | inr q ↦ absurd cc ]
       written l ValueLoad h x = elim h [ inl q ↦ absurd cc | inr q ↦ absurd cc ]
 
-      leaves : (l : Lookup) (p : LookupPart) → IsReadyPart shapes l p (Alu op size dst src) (state_of a) → SetsByPart l p → LeavesPart l p (state_of a) b None
+      leaves : (l : GuardedLookup) (p : LookupPart) → IsReadyPart shapes l p (Alu op size dst src) (state_of a) → SetsByPart l p → LeavesPart l p (state_of a) b None
       leaves l p ready (d, inl h) =
           let k = FrameAt (pos FRAME_BYTES) in
           let e = made k h.1 d in record {
@@ -201,12 +201,12 @@ module _ (op : AluOp) (size : Size) (dst : ℕ) (src : Operand) (a : StateHere) 
           }
 
 -- the load of a map
-map_load : (dst : ℕ) (map : ℤ) (l : Lookup) → LoadMap dst map ≡ part_insn l MapLoad → (dst ≡ 1) × (map ≡ pos l.map)
+map_load : (dst : ℕ) (map : ℤ) (l : GuardedLookup) → LoadMap dst map ≡ part_insn l MapLoad → (dst ≡ 1) × (map ≡ pos l.map)
 map_load dst map l e = (cc, cc)
 
 module _ (dst : ℕ) (map : ℤ) (shapes : List MapShape) (a : AbsState) (R : Kind → Type 0)
     (sets : (n : ℕ) → (10 ≡ dst → ⊥) → map ≡ pos n → n < length shapes → R (MapAt n)) where
-  map_part : (l : Lookup) (p : LookupPart) → IsReadyPart shapes l p (LoadMap dst map) a → (p ≡ MapLoad) × (dst ≡ 1) × R (MapAt l.map)
+  map_part : (l : GuardedLookup) (p : LookupPart) → IsReadyPart shapes l p (LoadMap dst map) a → (p ≡ MapLoad) × (dst ≡ 1) × R (MapAt l.map)
   map_part l FrameCopy ready = (let e = ready.insn in absurd cc)
   map_part l KeyAddress ready = (let e = ready.insn in absurd cc)
   map_part l MapLoad ready =
@@ -222,7 +222,7 @@ module _ (dst : ℕ) (map : ℤ) (shapes : List MapShape) (a : AbsState) (R : Ki
     section = λ opens ready. absurd (no_section_call (LoadMap dst map) opens refl ready.insn);
   }
     where
-      leaves : (l : Lookup) (p : LookupPart) → IsReadyPart shapes l p (LoadMap dst map) a → (p ≡ MapLoad) × (dst ≡ 1) × R (MapAt l.map) → LeavesPart l p a b None
+      leaves : (l : GuardedLookup) (p : LookupPart) → IsReadyPart shapes l p (LoadMap dst map) a → (p ≡ MapLoad) × (dst ≡ 1) × R (MapAt l.map) → LeavesPart l p a b None
       leaves l p ready (h, d, r) =
           let k = MapAt l.map in
           let e : AreAlike (with_kind 1 k a) b = subst (λ n. AreAlike (with_kind n k a) b) d (alike k r) in
@@ -254,7 +254,7 @@ unlock_saves shapes a b e (FrameByte k) s h = e.cells k ∙ ap (left_cell shapes
 unlock_saves shapes a b e FramePointer s h = e.regs 10 ∙ ap (left_kind shapes a.depth) h ∙ left_same shapes a.depth (FrameAt (pos FRAME_BYTES)) refl
 unlock_saves shapes a b e (Section inside) s h = absurd s
 
-key_bytes : (shapes : List MapShape) (l : Lookup) (a : AbsState) → IsFitting shapes l → Expects l LookupCall a → HasBytes a 2 l.shape.key_len
+key_bytes : (shapes : List MapShape) (l : GuardedLookup) (a : AbsState) → IsFitting shapes l → Expects l LookupCall a → HasBytes a 2 l.shape.key_len
 key_bytes shapes l a fit x = record { at = l.at; frame = x.1; inside = fit.in_frame.2; bytes = x.0 }
 
 -- what is said of a call that is not refused
@@ -269,7 +269,7 @@ pub record CallAccepts (kind : CallKind) (imm : ℤ) (shapes : List MapShape) (a
       → slice_get shapes map ≡ Some shape → HasBytes (state_of a) 2 shape.key_len → IsOk result
 
 module _ (kind : CallKind) (imm : ℤ) (shapes : List MapShape) (a : StateHere) where
-  call_part : (l : Lookup) (p : LookupPart) → IsReadyPart shapes l p (Call kind imm) (state_of a) → (p ≡ LookupCall) × (kind ≡ callee.Helper) × (imm ≡ pos 1)
+  call_part : (l : GuardedLookup) (p : LookupPart) → IsReadyPart shapes l p (Call kind imm) (state_of a) → (p ≡ LookupCall) × (kind ≡ callee.Helper) × (imm ≡ pos 1)
   call_part l FrameCopy ready = (let e = ready.insn in absurd cc)
   call_part l KeyAddress ready = (let e = ready.insn in absurd cc)
   call_part l MapLoad ready = (let e = ready.insn in absurd cc)
@@ -284,7 +284,7 @@ module _ (kind : CallKind) (imm : ℤ) (shapes : List MapShape) (a : StateHere) 
   section_is true ready = (let e = ready.insn in (cc, cc))
   section_is false ready = (let e = ready.insn in (cc, cc))
 
-  called_map : (l : Lookup) (p : LookupPart) (ready : IsReadyPart shapes l p (Call kind imm) (state_of a)) → p ≡ LookupCall → kind_in a.regs 1 ≡ kinds.Map l.map
+  called_map : (l : GuardedLookup) (p : LookupPart) (ready : IsReadyPart shapes l p (Call kind imm) (state_of a)) → p ≡ LookupCall → kind_in a.regs 1 ≡ kinds.Map l.map
   called_map l p ready h = let x : Expects l LookupCall (state_of a) = subst (λ p. Expects l p (state_of a)) h ready.expects in kind_is (kind_in a.regs 1) (MapAt l.map) x.2
 
   pub call_ready : (result : Result (Unit {0}) InsnFault) → CallAccepts kind imm shapes a result → IsReadyWithMaps shapes (Call kind imm) (state_of a) → IsOk result
@@ -306,7 +306,7 @@ module _ (kind : CallKind) (imm : ℤ) (shapes : List MapShape) (a : StateHere) 
   pub call_serves : (b : StateHere) → CallLeaves kind imm shapes a b → Serves shapes (Call kind imm) (state_of a) (state_of b) None
   call_serves b done = record { part = leaves; section = ends }
     where
-      leaves : (l : Lookup) (p : LookupPart) → IsReadyPart shapes l p (Call kind imm) (state_of a) → LeavesPart l p (state_of a) (state_of b) None
+      leaves : (l : GuardedLookup) (p : LookupPart) → IsReadyPart shapes l p (Call kind imm) (state_of a) → LeavesPart l p (state_of a) (state_of b) None
       leaves l p ready =
           let e = call_part l p ready in
           let f = done.finds l.map e.1 (lookup_number e.2) (called_map l p ready e.0) in record {
@@ -343,7 +343,7 @@ there_here : (map id : ℕ) (k : Kind) → k ≡ MaybeNull map id → learnt_kin
 there_here map id k e = ap (learnt_kind (IsThere id)) e ∙ ap (λ t. if t then ValueAt map origin else MaybeNull map id) (eq-eqb id id refl)
 
 module _ (condition : Condition) (size : Size) (dst : ℕ) (src : Operand) (offset : ℤ) (shapes : List MapShape) (a : StateHere) where
-  branch_part : (l : Lookup) (p : LookupPart) → IsReadyPart shapes l p (JumpIf condition size dst src offset) (state_of a) → (p ≡ NullTest) × (dst ≡ 0) × ((id : ℕ) × IsEqualToNull condition size dst src l.map id a)
+  branch_part : (l : GuardedLookup) (p : LookupPart) → IsReadyPart shapes l p (JumpIf condition size dst src offset) (state_of a) → (p ≡ NullTest) × (dst ≡ 0) × ((id : ℕ) × IsEqualToNull condition size dst src l.map id a)
   branch_part l FrameCopy ready = (let e = ready.insn in absurd cc)
   branch_part l KeyAddress ready = (let e = ready.insn in absurd cc)
   branch_part l MapLoad ready = (let e = ready.insn in absurd cc)
@@ -367,7 +367,7 @@ module _ (condition : Condition) (size : Size) (dst : ℕ) (src : Operand) (offs
     section = λ opens ready. absurd (no_section_call (JumpIf condition size dst src offset) opens refl ready.insn);
   }
     where
-      leaves : (l : Lookup) (p : LookupPart) → IsReadyPart shapes l p (JumpIf condition size dst src offset) (state_of a) → (p ≡ NullTest) × (dst ≡ 0) × ((id : ℕ) × IsEqualToNull condition size dst src l.map id a)
+      leaves : (l : GuardedLookup) (p : LookupPart) → IsReadyPart shapes l p (JumpIf condition size dst src offset) (state_of a) → (p ≡ NullTest) × (dst ≡ 0) × ((id : ℕ) × IsEqualToNull condition size dst src l.map id a)
           → LeavesPart l p (state_of a) (state_of b) (Some (state_of t))
       leaves l p ready (h, d, (id, test)) =
           let s = splits l.map id test in
@@ -381,12 +381,12 @@ module _ (condition : Condition) (size : Size) (dst : ℕ) (src : Operand) (offs
 -- a load from the value
 module _ (i : Insn) (dst base width : ℕ) (offset : ℤ) (shapes : List MapShape) (a : StateHere)
     (is_load : (shape : MapShape) → IsValueLoad shape i → (base ≡ 0) × (6 ≤ dst) × (dst ≤ 9) × (at : ℕ) × (region_offset shape.value_len width offset ≡ Some at))
-    (no_other : (l : Lookup) (p : LookupPart) → i ≡ part_insn l p → p ≡ ValueLoad) (no_call : (opens : Bool) → i ≡ (section_call opens) → ⊥) where
+    (no_other : (l : GuardedLookup) (p : LookupPart) → i ≡ part_insn l p → p ≡ ValueLoad) (no_call : (opens : Bool) → i ≡ (section_call opens) → ⊥) where
   -- what is read, into r6 to r9
-  abbrev pub LoadsByPart : Lookup → LookupPart → Type 0
+  abbrev pub LoadsByPart : GuardedLookup → LookupPart → Type 0
   LoadsByPart l p = (p ≡ ValueLoad) × (dst ≤ 9) × (10 ≡ dst → ⊥) × ReadsValue shapes a base l.map width offset
 
-  load_part : (l : Lookup) (p : LookupPart) → IsReadyPart shapes l p i (state_of a) → LoadsByPart l p
+  load_part : (l : GuardedLookup) (p : LookupPart) → IsReadyPart shapes l p i (state_of a) → LoadsByPart l p
   load_part l p ready =
       let h = no_other l p ready.insn in
       let e : i ≡ l.load = ready.insn ∙ ap (part_insn l) h in
@@ -416,7 +416,7 @@ module _ (i : Insn) (dst base width : ℕ) (offset : ℤ) (shapes : List MapShap
     section = λ opens ready. absurd (no_call opens ready.insn);
   }
     where
-      leaves : (l : Lookup) (p : LookupPart) → LoadsByPart l p → LeavesPart l p (state_of a) b None
+      leaves : (l : GuardedLookup) (p : LookupPart) → LoadsByPart l p → LeavesPart l p (state_of a) b None
       leaves l p (h, high, ne, reads) =
           let n = loads l.map ne reads in record {
             keeps = load_saves dst n.0 (state_of a) b high n.1;
@@ -425,7 +425,7 @@ module _ (i : Insn) (dst base width : ℕ) (offset : ℤ) (shapes : List MapShap
             keeps_taken = tt;
           }
 
-pub load_no_other : (width : Width) (dst base : ℕ) (offset : ℤ) (l : Lookup) (p : LookupPart) → Load width dst base offset ≡ part_insn l p → p ≡ ValueLoad
+pub load_no_other : (width : Width) (dst base : ℕ) (offset : ℤ) (l : GuardedLookup) (p : LookupPart) → Load width dst base offset ≡ part_insn l p → p ≡ ValueLoad
 load_no_other width dst base offset l FrameCopy e = absurd cc
 load_no_other width dst base offset l KeyAddress e = absurd cc
 load_no_other width dst base offset l MapLoad e = absurd cc
@@ -433,7 +433,7 @@ load_no_other width dst base offset l LookupCall e = absurd cc
 load_no_other width dst base offset l NullTest e = absurd cc
 load_no_other width dst base offset l ValueLoad e = refl
 
-pub signed_no_other : (width : SignedWidth) (dst base : ℕ) (offset : ℤ) (l : Lookup) (p : LookupPart) → LoadSigned width dst base offset ≡ part_insn l p → p ≡ ValueLoad
+pub signed_no_other : (width : SignedWidth) (dst base : ℕ) (offset : ℤ) (l : GuardedLookup) (p : LookupPart) → LoadSigned width dst base offset ≡ part_insn l p → p ≡ ValueLoad
 signed_no_other width dst base offset l FrameCopy e = absurd cc
 signed_no_other width dst base offset l KeyAddress e = absurd cc
 signed_no_other width dst base offset l MapLoad e = absurd cc

@@ -11,7 +11,7 @@ use Rattle.bpf_model.specs.declared.opcode.Width.{Width}
 use Rattle.bpf_model.specs.Access.{byte_count, region_offset}
 use Rattle.bpf_model.specs.Graph.{distance, JumpsTo, GoesTo}
 use Rattle.bpf_model.specs.Plain.{IsSimple, WritesRegister, WritesByte, TakesByte, WithoutByte, without_entry, without_next}
-use Rattle.bpf_model.specs.PlainMaps.{lookup_call, lock_call, unlock_call, IsGuardedLookup, IsLookupPart, HasForm, InSection, section_entry, section_lock, section_unlock, section_next, LacksRegister, lacks_entry, lacks_call, lacks_next, IsPlainWithMaps, Lookup, LookupPart, FrameCopy, KeyAddress, MapLoad, LookupCall, NullTest, ValueLoad, part_insn, part_slot}
+use Rattle.bpf_model.specs.PlainMaps.{lookup_call, lock_call, unlock_call, IsGuardedLookup, IsLookupPart, HasForm, InSection, section_entry, section_lock, section_unlock, section_next, LacksRegister, lacks_entry, lacks_call, lacks_next, IsPlainWithMaps, GuardedLookup, LookupPart, FrameCopy, KeyAddress, MapLoad, LookupCall, NullTest, ValueLoad, part_insn, part_slot}
 use Rattle.bpf_model.specs.Places.{slot_count}
 use Rattle.bpf_model.specs.Step.{insn_at}
 use Rattle.bpf_model.proofs.Places.{start_of-insn, starts_increase, start-insn}
@@ -57,7 +57,7 @@ module _ (a b c : model.AbsState) (joined : AreJoined a b c) where
   both_kinds : (r : ℕ) (x y : model.Kind) → a.regs r ≡ x → b.regs r ≡ y → IsJoinedKind x y (c.regs r)
   both_kinds r x y p q = subst (λ z. IsJoinedKind x z (c.regs r)) q (subst (λ z. IsJoinedKind z (b.regs r) (c.regs r)) p (joined.regs r))
 
-  both_keys : (l : Lookup) → IsKeyWritten l a → IsKeyWritten l b → IsKeyWritten l c
+  both_keys : (l : GuardedLookup) → IsKeyWritten l a → IsKeyWritten l b → IsKeyWritten l c
   both_keys l p q k low high = subst (λ x. IsJoinedCell model.ByteCell x (c.cells k)) (q k low high) (subst (λ x. IsJoinedCell x (b.cells k) (c.cells k)) (p k low high) (joined.cells k))
 
   both_frame : (r : ℕ) (o : ℤ) → a.regs r ≡ model.FrameAt o → b.regs r ≡ model.FrameAt o → c.regs r ≡ model.FrameAt o
@@ -66,7 +66,7 @@ module _ (a b c : model.AbsState) (joined : AreJoined a b c) where
   both_map : (r m : ℕ) → a.regs r ≡ model.MapAt m → b.regs r ≡ model.MapAt m → c.regs r ≡ model.MapAt m
   both_map r m p q = (both_kinds r (model.MapAt m) (model.MapAt m) p q).0 refl
 
-  pub joined_expects : (l : Lookup) (p : LookupPart) → Expects l p a → Expects l p b → Expects l p c
+  pub joined_expects : (l : GuardedLookup) (p : LookupPart) → Expects l p a → Expects l p b → Expects l p c
   joined_expects l FrameCopy x y = both_keys l x y
   joined_expects l KeyAddress x y = (both_keys l x.0 y.0, both_frame 2 (pos FRAME_BYTES) x.1 y.1)
   joined_expects l MapLoad x y = (both_keys l x.0 y.0, both_frame 2 (pos l.at) x.1 y.1)

@@ -9,7 +9,7 @@ use Rattle.bpf_model.specs.declared.insn.CallKind.TheVariants.{Helper, Kernel}
 use Rattle.bpf_model.specs.declared.limits.MapShape.{MapShape}
 use Rattle.bpf_model.specs.Graph.{falls, distance, JumpsTo, GoesTo, Reached}
 use Rattle.bpf_model.specs.Plain.{WritesByte}
-use Rattle.bpf_model.specs.PlainMaps.{lookup_call, IsValueLoad, IsGuardedLookup, IsLookupPart, KeepsSection, HasForm, LacksRegister, lacks_call, lacks_next, IsPlainWithMaps, Lookup, LookupPart, FrameCopy, KeyAddress, MapLoad, LookupCall, NullTest, ValueLoad, part_insn, part_slot}
+use Rattle.bpf_model.specs.PlainMaps.{lookup_call, IsValueLoad, IsGuardedLookup, IsLookupPart, KeepsSection, HasForm, LacksRegister, lacks_call, lacks_next, IsPlainWithMaps, GuardedLookup, LookupPart, FrameCopy, KeyAddress, MapLoad, LookupCall, NullTest, ValueLoad, part_insn, part_slot}
 use Rattle.bpf_model.specs.Places.{slot_count, starts_from}
 use Rattle.bpf_model.specs.Step.{insn_at}
 use Rattle.bpf_model.specs.Places.{StartsAt}
@@ -137,7 +137,7 @@ module _ (program : List Insn) (shapes : List MapShape) (start : ℕ) (l : IsGua
   part_at p = (start, l, omega arith, slot_inside p)
 
   -- what a part prepares is what the one behind it expects
-  pub pass_on : (g : Lookup) (b : AbsState) (q p : LookupPart) → (p ≡ FrameCopy → ⊥) → part_slot p ≡ step_slot q → Prepares g q b → Expects g p b
+  pub pass_on : (g : GuardedLookup) (b : AbsState) (q p : LookupPart) → (p ≡ FrameCopy → ⊥) → part_slot p ≡ step_slot q → Prepares g q b → Expects g p b
   pass_on g b FrameCopy FrameCopy n e x = absurd (n refl)
   pass_on g b FrameCopy KeyAddress n e x = x
   pass_on g b FrameCopy MapLoad n e x = absurd (omega (arith, e))
@@ -241,7 +241,7 @@ lookup_or_not (Store width dst offset src) = inr (λ e. cc)
 
 -- whether a slot belongs to a guarded lookup can be decided
 module _ (program : List Insn) (shapes : List MapShape) (plain : IsPlainWithMaps program shapes) where
-  call_part : (l : Lookup) (p : LookupPart) (shape : MapShape) → IsValueLoad shape l.load → lookup_call ≡ part_insn l p → p ≡ LookupCall
+  call_part : (l : GuardedLookup) (p : LookupPart) (shape : MapShape) → IsValueLoad shape l.load → lookup_call ≡ part_insn l p → p ≡ LookupCall
   call_part l FrameCopy shape v e = absurd cc
   call_part l KeyAddress shape v e = absurd cc
   call_part l MapLoad shape v e = absurd cc

@@ -3,7 +3,7 @@ use Rattle.std.proofs.Common.{◌≡◌, ◌≢◌, ℕ, refl, sym, ◌∙◌, a
 use Rattle.std.specs.Prelude.{◌⊎◌, Option, Some, None, IsSome, IfSome, Box}
 use Rattle.std.proofs.lemmas.Bool.{cases_eq}
 use Rattle.std.proofs.lemmas.Option.{same_Some}
-use Rattle.bpf_model.specs.PlainMaps.{Lookup, LookupPart}
+use Rattle.bpf_model.specs.PlainMaps.{GuardedLookup, LookupPart}
 use Rattle.typed_runs.specs.Planned.{Wider}
 use Rattle.register_kinds.specs.declared.state.AbsState.{AbsState}
 use Rattle.register_kinds.specs.States.{state_of}
@@ -17,7 +17,7 @@ use Rattle.verifier.specs.SecondPass.{Awaited, state_in, AllBelow, JoinsTo, Join
 
 -- the state that waits and the one that comes are both joined into the new one
 pub joined_from : (w new : Waiting) (a b c : AbsState) → w ≢ Differing → state_in w ≡ Some a → state_in new ≡ Some c → Wider (state_of a) (state_of c) → Wider (state_of b) (state_of c)
-    → ((fact : Fact) → FactHolds fact (state_of a) → FactHolds fact (state_of b) → FactHolds fact (state_of c)) → ((l : Lookup) (p : LookupPart) → Expects l p (state_of a) → Expects l p (state_of b) → Expects l p (state_of c)) → Joined w b new
+    → ((fact : Fact) → FactHolds fact (state_of a) → FactHolds fact (state_of b) → FactHolds fact (state_of c)) → ((l : GuardedLookup) (p : LookupPart) → Expects l p (state_of a) → Expects l p (state_of b) → Expects l p (state_of c)) → Joined w b new
 joined_from w new a b c n e f wide wide' facts expects = inr (
   c,
   f,

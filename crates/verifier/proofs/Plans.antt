@@ -29,7 +29,7 @@ use Rattle.effects.specs.Calls.{MayLookUp}
 use Rattle.effects.specs.declared.region.Region.{Region}
 use Rattle.verifier.specs.declared.waiting.Waiting.{Waiting}
 use Rattle.verifier.specs.declared.waiting.Waiting.TheVariants.{Nothing, Differing}
-use Rattle.verifier.specs.SecondPass.{Awaited, Table, size_of, awaited, state_in, planned, Fell, Jumped, Spreads, Advances, Notes, Passed, IsPassed, DiffersAhead, Awaits, StartsFrom}
+use Rattle.verifier.specs.SecondPass.{Awaited, Table, size_of, awaited, state_in, planned, Fell, Jumped, Spreads, Advances, Notes, Passed, IsPassed, DiffersAhead, HasWaiting, StartsFrom}
 use Rattle.verifier.proofs.Merging.{Later, same_later, Stays, AllStay, same_stay, merged_there, merged_later, merged_or}
 use Rattle.bpf_model.proofs.Lists.{get-append_cases, get-below}
 
@@ -288,7 +288,7 @@ module _ (program : List Insn) (targets : List (Option ℕ)) (all : HasTargets p
   passed_more regions count (inr p) = elim steps_or [ inl d ↦ inl d | inr s ↦ inr (spliced p.0, passed_here regions p.0 p.1 count s) ]
 
   -- what waits after the instruction
-  pub awaits_more : Awaits program targets k old → Awaits program targets (k + 1) new
+  pub awaits_more : HasWaiting program targets k old → HasWaiting program targets (k + 1) new
   awaits_more w = record {
     first = λ e. absurd (omega arith);
     ahead = λ j m i t h l e f follows inside. elim (cases_eq j k) [
@@ -313,7 +313,7 @@ passed_none program shapes ctx_len at s = record {
   each = λ j i r e f. absurd (cc);
 }
 
-pub awaits_none : (program : List Insn) (targets : List (Option ℕ)) (at : Awaited) → StartsFrom at → Awaits program targets 0 at
+pub awaits_none : (program : List Insn) (targets : List (Option ℕ)) (at : Awaited) → StartsFrom at → HasWaiting program targets 0 at
 awaits_none program targets at s = record {
   first = λ e f. (let g : None ≡ Some s.state = sym (ap state_in f) ∙ s.waits in cc);
   ahead = λ j m i t h. absurd (omega arith);
@@ -321,7 +321,7 @@ awaits_none program targets at s = record {
 
 -- something waits for each instruction of a good graph
 pub waits_here : (program : List Insn) (targets : List (Option ℕ)) (long : length targets ≡ length program) (all : HasTargets program targets) (k : ℕ) (at : Awaited)
-    → HasGoodGraph program → Awaits program targets k at → k < length program → at k ≢ Nothing
+    → HasGoodGraph program → HasWaiting program targets k at → k < length program → at k ≢ Nothing
 waits_here program targets long all k at graph w h = elim (reached_by (graph.reached s.0 i.0 (start-insn program k s.0 i.0 i.1 s.1))) [
   | inl e ↦
       let k0 : k ≡ 0 = starts_apart 0 program k 0 0 (s.1 ∙ ap Some e) (start-entry program (omega arith)) in

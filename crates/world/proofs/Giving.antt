@@ -61,7 +61,7 @@ use Rattle.world_laws.proofs.Stepping.{full_simulates}
 use Rattle.machine.specs.declared.request.Request.{Request}
 use Rattle.machine.specs.declared.request.Request.TheVariants as requests
 use Rattle.machine.specs.Regions.{IsCodeOf}
-use Rattle.machine.specs.Requests.{request_of, entered_view, resumed_view, section_request}
+use Rattle.machine.specs.Requests.{request_of, entered_view, resumed_view, kernel_request}
 use Rattle.machine.specs.Standing.{MayGive, StandsBy}
 use Rattle.machine.proofs.Laws.{same-program}
 use Rattle.machine.proofs.Reacting.{reacts_by_insn}
@@ -215,13 +215,13 @@ module _ (w : WorldView) (s : Schedule) (m : Matches w s) (sound : IsSound w s) 
         let same : requests.Call helper ≡ request = same_Some (requests.Call helper) request e in
         subst (λ (a : Request). Gives a word) same (helper-given insn helper word at-place (asked ∙ ap Some (sym same)))
 
-    section-given : (f : KernelFunction) (word : ℕ) → Gives (section_request f) word
+    section-given : (f : KernelFunction) (word : ℕ) → Gives (kernel_request f) word
     section-given ReadLock word can reply = tt
     section-given ReadUnlock word can reply = tt
 
-    kernel-given : (o : Option KernelFunction) (request : Request) (word : ℕ) → option_map section_request o ≡ Some request → Gives request word
+    kernel-given : (o : Option KernelFunction) (request : Request) (word : ℕ) → option_map kernel_request o ≡ Some request → Gives request word
     kernel-given None request word e = absurd (none-some request e)
-    kernel-given (Some f) request word e = subst (λ (a : Request). Gives a word) (same_Some (section_request f) request e) (section-given f word)
+    kernel-given (Some f) request word e = subst (λ (a : Request). Gives a word) (same_Some (kernel_request f) request e) (section-given f word)
 
     pub may_give : (insn : Insn) (request : Request) (word : ℕ) → insn_at program.code v.place ≡ Some insn → local_of insn v ≡ Asks → request_of insn v ≡ Some request → Gives request word
     may_give (insns.Load width dst src offset) request word at-place waits asked =

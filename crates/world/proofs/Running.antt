@@ -28,7 +28,7 @@ use Rattle.machine.proofs.Laws.{same-program}
 use Rattle.world_laws.proofs.Reaching.{load_reaches, load_signed_reaches, store_reaches, helper_arguments, kernel_call_allowed}
 use Rattle.machine.specs.declared.request.Request.{Request}
 use Rattle.machine.specs.declared.request.Request.TheVariants.{Call}
-use Rattle.machine.specs.Requests.{request_of, section_request}
+use Rattle.machine.specs.Requests.{request_of, kernel_request}
 use Rattle.world.specs.Elements.{ReachesElement}
 use Rattle.world.specs.Serving.{CanServe, IsFlagged}
 use Rattle.std.specs.Option.{option_flatten}
@@ -67,7 +67,7 @@ module _ (w : WorldView) (s : Schedule) (m : Matches w s) (sound : IsSound w s) 
   abbrev Can : Request → Type 0
   Can request = CanServe request run.program.maps w.maps v
 
-  sections : (f : KernelFunction) → IsAllowed f v.depth → Can (section_request f)
+  sections : (f : KernelFunction) → IsAllowed f v.depth → Can (kernel_request f)
   sections ReadLock h = h
   sections ReadUnlock h = h
 
@@ -83,7 +83,7 @@ module _ (w : WorldView) (s : Schedule) (m : Matches w s) (sound : IsSound w s) 
       subst Can (same_Some (Call x.0) request (ap (option_map Call) (sym x.1) ∙ e)) x.2
   can-here (insns.Call Kernel imm) request here asks e =
       let x = kernel_call_allowed w s m sound r run v k imm here in
-      subst Can (same_Some (section_request x.0) request (ap (option_map section_request) (sym x.1) ∙ e)) (sections x.0 x.2)
+      subst Can (same_Some (kernel_request x.0) request (ap (option_map kernel_request) (sym x.1) ∙ e)) (sections x.0 x.2)
   can-here i request here asks e = absurd (none-some request e)
 
   abbrev Servable : Loaded → Type 0

@@ -33,7 +33,7 @@ use Rattle.machine.specs.declared.request.Request.TheVariants.{Call, Enter, Leav
 use Rattle.machine.specs.declared.request.Local as code
 use Rattle.machine.specs.declared.request.Local.TheVariants as code_answers
 use Rattle.machine.specs.Steps.{IsLocalStep}
-use Rattle.machine.specs.Requests.{request_of, section_request, entered_view, resumed_view}
+use Rattle.machine.specs.Requests.{request_of, kernel_request, entered_view, resumed_view}
 use Rattle.world_laws.specs.Reaching.{IsCall}
 use Rattle.world.specs.Calls.{called, called_on, called_at}
 use Rattle.world.specs.Elements.{ReachesElement, element_number, maps_after_store, stored_element}
@@ -100,7 +100,7 @@ module _ (r : ℕ) (v : RunView) (w : WorldView) where
         ap (λ (o : Option HelperId). helper_called o program r v w) e ∙ helped_is helper program can word reply)
 
     -- a lock and an unlock
-    passes : (imm : ℤ) (o : Option KernelFunction) (request : Request) → kernel_function_of imm ≡ o → option_map section_request o ≡ Some request → Served (insns.Call Kernel imm) request
+    passes : (imm : ℤ) (o : Option KernelFunction) (request : Request) → kernel_function_of imm ≡ o → option_map kernel_request o ≡ Some request → Served (insns.Call Kernel imm) request
     passes imm None request e g = λ can reply. absurd (none-some request g)
     passes imm (Some ReadLock) request e g = subst (Served (insns.Call Kernel imm)) (same_Some Enter request g) (λ can reply.
         ap (λ (o : Option KernelFunction). calling.kernel_called o r v w) e ∙ ap (λ (o : Option KernelFunction). moves_on r (entered_view o v) w) (sym e))
@@ -153,7 +153,7 @@ module _ (g : GraceState) (r : ℕ) (v : RunView) (deep : slice_get g.depths r �
   calls-on None request e = absurd (none-some request e)
   calls-on (Some helper) request e = subst (λ a. IsResumed g r a (returned_view word v)) (same_Some (Call helper) request e) (record { depths = stays; awaited = sym inside })
 
-  passes-on : (o : Option KernelFunction) (request : Request) → option_map section_request o ≡ Some request → IsResumed g r request (entered_view o v)
+  passes-on : (o : Option KernelFunction) (request : Request) → option_map kernel_request o ≡ Some request → IsResumed g r request (entered_view o v)
   passes-on None request e = absurd (none-some request e)
   passes-on (Some ReadLock) request e = subst (λ a. IsResumed g r a (locked_view v)) (same_Some Enter request e) (record {
     depths = ap (λ d. slice_set g.depths r (d + 1)) here;

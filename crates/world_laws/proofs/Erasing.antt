@@ -28,7 +28,7 @@ use Rattle.typed_runs.specs.Describes.{Scene, scene_of, IsArrayMap, IsHeld, Nami
 use Rattle.typed_runs.specs.Verified.{AreMapsBound, IsClosed, Plan}
 use Rattle.typed_runs.proofs.Arrays.{kind-there, there-kind}
 use Rattle.typed_runs.proofs.Elements.{accessible-held}
-use Rattle.world_laws.specs.Around.{regions, region_word, map_of, element_number, element_of, births, elements_around, store_of}
+use Rattle.world_laws.specs.Around.{regions, region_word, map_of, element_in_region, element_of, births, elements_around, store_of}
 use Rattle.world_laws.specs.Standing.{AreWords, IsSlotWord, IsNumbered, StandFor}
 use Rattle.world_laws.specs.Described.{IsShownBy, region_bases}
 use Rattle.world_laws.proofs.Contents.{get-by}
@@ -44,13 +44,13 @@ region-of-slot word h =
     let slots = h.few_slots in
     (omega (arith, is, maps, slots), omega (arith, is, maps, slots))
 
-number-region : (m r : ℕ) → r < regions → region_bases (element_number m r) ≡ region_word r
+number-region : (m r : ℕ) → r < regions → region_bases (element_in_region m r) ≡ region_word r
 number-region m r l = omega (arith, l)
 
-number-map : (m r : ℕ) → r < regions → map_of (element_number m r) ≡ m
+number-map : (m r : ℕ) → r < regions → map_of (element_in_region m r) ≡ m
 number-map m r l = omega (arith, l)
 
-number-below : (m r count : ℕ) → r < regions → m < count → element_number m r < regions * count
+number-below : (m r count : ℕ) → r < regions → m < count → element_in_region m r < regions * count
 number-below m r count l b = omega (arith, l, b)
 
 -- where a value goes
@@ -247,16 +247,16 @@ module _ (code : List Insn) (shapes : List MapShape) (ctx_len : ℕ) (v : RunVie
   around = map (λ (m : MapState). m.shape) h.store.maps
 
   abbrev given : ℕ → Option ℕ
-  given n = accessible es n >>= λ e. Some (element_number e.map (region_at (h.bases n)))
+  given n = accessible es n >>= λ e. Some (element_in_region e.map (region_at (h.bases n)))
 
   abbrev pub bare : Run
   bare = erased given h.run
 
   given-same : (n k : ℕ) → given n ≡ Some k → region_bases k ≡ h.bases n
   given-same n k e =
-      let f = first-step (accessible es n) (λ e. Some (element_number e.map (region_at (h.bases n)))) k e in
+      let f = first-step (accessible es n) (λ e. Some (element_in_region e.map (region_at (h.bases n)))) k e in
       let z = region-of-slot (h.bases n) (h.lie n f.0 f.1) in
-      ap region_bases (sym (same_Some (element_number f.0.map (region_at (h.bases n))) k f.2)) ∙ number-region f.0.map (region_at (h.bases n)) z.0 ∙ z.1
+      ap region_bases (sym (same_Some (element_in_region f.0.map (region_at (h.bases n))) k f.2)) ∙ number-region f.0.map (region_at (h.bases n)) z.0 ∙ z.1
 
   -- an array stays one
   array-around : (map : ℕ) → IsArrayMap (scene_of h.store h.run) map → IsArrayMap (scene_of (store_of around (elements_around around (section_of bare))) bare) map
@@ -273,12 +273,12 @@ module _ (code : List Insn) (shapes : List MapShape) (ctx_len : ℕ) (v : RunVie
   given-held map n x =
       let reached = accessible-held h.store h.run map n h.surrounds.arrays x in
       let z = region-of-slot (h.bases n) (h.lie n x.element reached) in
-      let k = element_number x.element.map (region_at (h.bases n)) in
+      let k = element_in_region x.element.map (region_at (h.bases n)) in
       let l = h.surrounds.lengths n x.element x.born in
       let below : x.element.map < length h.store.maps = slice_get_within h.store.maps x.element.map l.0 l.1 in
       let same : length around ≡ length h.store.maps = length-map h.store.maps (λ (m : MapState). m.shape) in (
         k,
-        then-step (accessible es n) (λ e. Some (element_number e.map (region_at (h.bases n)))) x.element reached,
+        then-step (accessible es n) (λ e. Some (element_in_region e.map (region_at (h.bases n)))) x.element reached,
         record {
           element = element_of around (section_of bare) k;
           born = get-by (births around) (element_of around (section_of bare)) k (number-below x.element.map (region_at (h.bases n)) (length around) z.0 (omega (arith, below, same)));

@@ -32,7 +32,7 @@ use Rattle.typed_runs.specs.Describes.{scene_of, IsGuarded}
 use Rattle.typed_runs.specs.Verified.{Plan, IsClosed, StaysKept}
 use Rattle.typed_runs.proofs.Elements.{offset_some, with-bytes}
 use Rattle.typed_runs.proofs.Kept.{Keeps}
-use Rattle.world_laws.specs.Around.{map_of, regions, element_number, key_length, value_length, element_of, elements_by, births, elements_around, store_of}
+use Rattle.world_laws.specs.Around.{map_of, regions, element_in_region, key_length, value_length, element_of, elements_by, births, elements_around, store_of}
 use Rattle.world_laws.proofs.StandingBytes.{number-back}
 use Rattle.world_laws.proofs.Contents.{get-by, by-below, by-is, IsContent, plain-content, single-one, life-unlinked, Guards, keeps-by, keeps-list, changed_at, changed-here, changed-all, linked-at, Touched, touched, touch}
 use Rattle.world_laws.proofs.Described.{Described, surrounds, planned, plain-single, plain-guards, stepped}
@@ -54,13 +54,13 @@ module _ (code : List Insn) (shapes : List MapShape) (ctx_len : ℕ) (plan : Pla
   Goal new = Described code shapes ctx_len plan closed around new
 
   -- what the machine does at the run's instruction, over contents of which nothing is known
-  pub record Goes (i : Insn) : Type 0 where
+  pub record GoesOnReplied (i : Insn) : Type 0 where
     pub answer : Answer
     pub store : Store
     pub new : Run
     pub step : InsnStep i (over base) (sec ∷ []) run answer store new
 
-  pub goes : (i : Insn) → insn_at code run.state.place ≡ Some i → Goes i
+  pub goes : (i : Insn) → insn_at code run.state.place ≡ Some i → GoesOnReplied i
   goes i here =
       let g = closed.goes x.index (over base) (sec ∷ []) run (surrounds code shapes ctx_len plan closed around run x base (plain-content around sec) (plain-single code shapes ctx_len plan closed around run x)) (planned code shapes ctx_len plan closed around run x base (plain-guards code shapes ctx_len plan closed around run x)) in
       let same : g.0 ≡ i = same_Some g.0 i (sym g.1 ∙ here) in
@@ -203,9 +203,9 @@ module _ (code : List Insn) (shapes : List MapShape) (ctx_len : ℕ) (plan : Pla
         (replied i here (Finding map key) asked base (plain-content around sec) (plain-single code shapes ctx_len plan closed around run x) (plain-guards code shapes ctx_len plan closed around run x) (Number 0) (elements_by (births around) base) (moves run (resumed i (Number 0) run.state))
         (h.0, None, h.2, absent, refl, refl) refl (record { held = λ m n y. y; depth = refl }))
 
-    pub hit-replied : (i' map region : ℕ) (key : List ℕ) → map < length around → slice_get run.program.maps i' ≡ Some map → region < regions → Asked (Finding i' key) → length key ≡ key_length (slice_get around map) → (new : Run) → new ≡ moves run (resumed i (Pointer (Elem (element_number map region) (pos 0))) run.state) → Goal new
+    pub hit-replied : (i' map region : ℕ) (key : List ℕ) → map < length around → slice_get run.program.maps i' ≡ Some map → region < regions → Asked (Finding i' key) → length key ≡ key_length (slice_get around map) → (new : Run) → new ≡ moves run (resumed i (Pointer (Elem (element_in_region map region) (pos 0))) run.state) → Goal new
     hit-replied i' map region key there bound small asked long new is =
-        let n = element_number map region in
+        let n = element_in_region map region in
         let of_map : map_of n ≡ map = omega (arith, small) in
         let below : n < births around = omega (arith, there, small) in
         let c = plain-content around sec in

@@ -32,8 +32,8 @@ map_of n = n / regions
 abbrev pub region_of : ℕ → ℕ
 region_of n = n % regions
 
-abbrev pub element_number : ℕ → ℕ → ℕ
-element_number map region = regions * map + region
+abbrev pub element_in_region : ℕ → ℕ → ℕ
+element_in_region map region = regions * map + region
 
 abbrev pub key_length : Option MapShape → ℕ
 key_length None = 0
@@ -72,7 +72,7 @@ MayReply bound (StoreElement n o width v) reply = reply ≡ Nothing
 MayReply bound (CallHelper Lookup (MapArgument i ∷ more)) reply =
     (reply ≡ Number 0)
     ⊎ ((map : ℕ) × (region : ℕ) × (slice_get bound i ≡ Some map) × (region < regions)
-    × (reply ≡ Pointer (Elem (element_number map region) (pos 0))))
+    × (reply ≡ Pointer (Elem (element_in_region map region) (pos 0))))
 MayReply bound (CallHelper helper arguments) reply = ⊥
 MayReply bound Enter reply = reply ≡ Nothing
 MayReply bound Leave reply = reply ≡ Nothing

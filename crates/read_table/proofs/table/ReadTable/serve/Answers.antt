@@ -4,7 +4,7 @@ use Rattle.std.proofs.lemmas.Int.{to_z-of_z}
 use Rattle.machine.specs.declared.request.Request.{Request}
 use Rattle.machine.specs.declared.request.Request.TheVariants.{Call}
 use Rattle.bpf_model.specs.declared.call.Helper.TheVariants.{Lookup}
-use Rattle.read_table.specs.Serving.{CanServe}
+use Rattle.read_table.specs.Serving.{CanAnswer}
 use Rattle.read_table.specs.declared.view.TableShape.{TableShape}
 use Rattle.read_table.specs.declared.view.Move.TheVariants.{Load, Store}
 use Rattle.read_table.specs.SharedRuns.{closing, opening}
@@ -19,7 +19,7 @@ load-requires-clause-learnt c =
     let sized = subst (λ (k : TableShape). IsSized k) c.shape-shape.ensures.shape c.shape-shape.ensures.sized in
     let s = c.requires.can in
     let k = c.args.self.now.shape in
-    let l = subst (λ (q : Request). CanServe k s.checked s.context s.moves c.args.run.now.view q) c.in-Load.is s.can in
+    let l = subst (λ (q : Request). CanAnswer k s.checked s.context s.moves c.args.run.now.view q) c.in-Load.is s.can in
     known-there k s.moves s.before c.args.seat.now.view.mine c.in-Load.address c.in-Load.offset c.in-Load.width c.value_word-word.result.slot c.value_word-word.result.place sized where_it s.list l.leads
 
 pub store-requires-clause-learnt : goal.store-requires-clause-learnt
@@ -29,7 +29,7 @@ store-requires-clause-learnt c =
     let sized = subst (λ (k : TableShape). IsSized k) c.shape-shape.ensures.shape c.shape-shape.ensures.sized in
     let s = c.requires.can in
     let k = c.args.self.now.shape in
-    let l = subst (λ (q : Request). CanServe k s.checked s.context s.moves c.args.run.now.view q) c.in-Store.is s.can in
+    let l = subst (λ (q : Request). CanAnswer k s.checked s.context s.moves c.args.run.now.view q) c.in-Store.is s.can in
     known-there k s.moves s.before c.args.seat.now.view.mine c.in-Store.address c.in-Store.offset c.in-Store.width c.value_word-word-in-Store.result.slot c.value_word-word-in-Store.result.place sized where_it s.list l.leads
 
 pub returns-in-Load : goal.returns-in-Load
