@@ -1,7 +1,8 @@
 //! The runtime's world.
 ghost use Rattle.std.specs.Prelude.{◌≡◌, ◌⊎◌, ◌<◌, ◌≤◌, ℕ, length, Err, IfOk, IsOk};
 ghost use Rattle.bpf_model.specs.declared.limits.TheConstants.{MAX_PROGRAMS};
-ghost use Rattle.bpf_model.specs.Refines.{TracksSchedule};
+ghost use Rattle.bpf_model.specs.Refines.{TracksSchedule, Tracks};
+ghost use Rattle.bpf_model.specs.Machine.{start_machine};
 ghost use Rattle.bpf_model.specs.Schedule.{start_schedule};
 ghost use Rattle.bpf_model.specs.View.{AreNewMaps, start_view, shapes_of_maps};
 ghost use Rattle.world_laws.specs.Invariant.{IsWorld};
@@ -63,6 +64,8 @@ impl World {
             (programs_in loaded.items)) }
         ensures start { IfOk result (λ w. TracksSchedule w
             (start_schedule (shapes_of_maps registry.maps) (programs_in loaded.items))) }
+        ensures machine { IfOk result (λ w. Tracks w
+            (start_machine (shapes_of_maps registry.maps) (programs_in loaded.items))) }
     {
         if loaded.len() > MAX_PROGRAMS {
             return Err(WorldFault::TooManyPrograms);

@@ -1,11 +1,12 @@
-use Rattle.std.proofs.Common.{◌≡◌, ℕ, ◌≤◌, List, Some, subst, arith, rules, length}
+use Rattle.std.proofs.Common.{◌≡◌, ℕ, ◌≤◌, List, Some, refl, subst, arith, rules, length}
 use Rattle.std.specs.Prelude.{slice_get, vec_len}
 use Rattle.bpf_model.specs.declared.limits.TheConstants.{MAX_PROGRAMS}
 use Rattle.bpf_model.specs.View.{shapes_of_maps}
+use Rattle.bpf_model.specs.Schedule.{start_schedule}
 use Rattle.typed_runs.specs.Verified.{IsVerified}
 use Rattle.world_laws.specs.Typed.{IsRealProgram}
 use Rattle.world.specs.declared.kept.loaded.Loaded.{Loaded}
-use Rattle.world.specs.Programs.{program_of}
+use Rattle.world.specs.Programs.{program_of, programs_in}
 use Rattle.world.specs.BoundTo.{AreProgramsBound}
 use Rattle.world.proofs.Starting.{IsSafe, made-is-world, made-tracks-start}
 use Rattle.world.proofs.world.World.new.Goals as goal
@@ -50,3 +51,7 @@ returns-in-Ok-clause-start c =
       real = subst (λ (xs : List Loaded). (p : ℕ) (x : Loaded) → slice_get xs p ≡ Some x → IsRealProgram (program_of x)) same c.certify_programs.ensures.real;
     } in
     made-tracks-start safe c.in-Ok.parts c.in-Ok.ensures
+
+pub returns-in-Ok-clause-machine : goal.returns-in-Ok-clause-machine
+returns-in-Ok-clause-machine c =
+    (start_schedule (shapes_of_maps c.args.registry.maps) (programs_in c.args.loaded.items), refl, returns-in-Ok-clause-start c)
