@@ -16,7 +16,10 @@ use Rattle.asm.specs.declared.fault.AsmFault.TheVariants.{BadLine, BadOperand, T
 use Rattle.asm.proofs.Assembled.{flaw_no, no_flaw}
 
 -- Of two faulty lines behind sound ones neither stands before the other.
-same_faulty_line : (front front2 : List (List ℕ)) (line line2 : List ℕ) (rest rest2 : List (List ℕ)) → (front ++ line ∷ rest) ≡ front2 ++ line2 ∷ rest2 → AllByRecursion IsSoundLine front → AllByRecursion IsSoundLine front2 → is_comment line ≡ false → is_comment line2 ≡ false → ¬ (IsInsnLine line) → ¬ (IsInsnLine line2) → (length front ≡ length front2) × (line ≡ line2)
+same_faulty_line : (front front2 : List (List ℕ)) (line line2 : List ℕ) (rest rest2 : List (List ℕ)) →
+    (front ++ line ∷ rest) ≡ front2 ++ line2 ∷ rest2 → AllByRecursion IsSoundLine front →
+    AllByRecursion IsSoundLine front2 → is_comment line ≡ false → is_comment line2 ≡ false → ¬ (IsInsnLine line) →
+    ¬ (IsInsnLine line2) → (length front ≡ length front2) × (line ≡ line2)
 same_faulty_line [] [] line line2 rest rest2 e sound sound2 s s2 bad bad2 = (refl, heads line line2 rest rest2 e)
 same_faulty_line [] (first ∷ front2) line line2 rest rest2 e sound sound2 s s2 bad bad2 =
     let same : line ≡ first = heads line first rest (front2 ++ line2 ∷ rest2) e in
@@ -25,12 +28,16 @@ same_faulty_line (first ∷ front) [] line line2 rest rest2 e sound sound2 s s2 
     let same : first ≡ line2 = heads first line2 (front ++ line ∷ rest) rest2 e in
     absurd (bad2 (subst (λ (l : List ℕ). IsInsnLine l) same (sound.0 (ap is_comment same ∙ s2))))
 same_faulty_line (first ∷ front) (first2 ∷ front2) line line2 rest rest2 e sound sound2 s s2 bad bad2 =
-    let more : (length front ≡ length front2) × (line ≡ line2) = same_faulty_line front front2 line line2 rest rest2 (tails first first2 (front ++ line ∷ rest) (front2 ++ line2 ∷ rest2) e) sound.1 sound2.1 s s2 bad bad2 in
+    let more : (length front ≡ length front2) × (line ≡ line2) =
+    same_faulty_line front front2 line line2 rest rest2
+    (tails first first2 (front ++ line ∷ rest) (front2 ++ line2 ∷ rest2) e) sound.1 sound2.1 s s2 bad bad2 in
     (omega (arith, more.0), more.1)
 
 flaws_meet : (text : List ℕ) (f g : LineFlaw) (n m : ℕ) → (h : IsFirstLineFlaw text f n) → (k : IsFirstLineFlaw text g m) → (n ≡ m) × (h.line ≡ k.line)
 flaws_meet text f g n m h k =
-    let met : (length h.front ≡ length k.front) × (h.line ≡ k.line) = same_faulty_line h.front k.front h.line k.line h.rest k.rest (sym h.parts ∙ k.parts) h.sound k.sound h.statement k.statement (flaw_no h.line f h.flawed) (flaw_no k.line g k.flawed) in
+    let met : (length h.front ≡ length k.front) × (h.line ≡ k.line) =
+    same_faulty_line h.front k.front h.line k.line h.rest k.rest (sym h.parts ∙ k.parts) h.sound k.sound
+    h.statement k.statement (flaw_no h.line f h.flawed) (flaw_no k.line g k.flawed) in
     (h.number ∙ ap (λ (j : ℕ). j + 1) met.0 ∙ sym k.number, met.1)
 
 no_both : (text : List ℕ) (n m : ℕ) → IsFirstLineFlaw text NoForm n → IsFirstLineFlaw text OutOfRange m → ⊥

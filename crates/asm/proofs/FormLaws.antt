@@ -220,7 +220,8 @@ formed_of (Store width dst z (operand.Immediate imm)) = rw (formed_memory dst z,
 formed_of (Store width dst z (operand.Register src)) = rw (formed_memory dst z) refl
 
 pub capped_of : (i : Insn) → FitsInsn i → capped_statement (statement_of i) ≡ statement_of i
-capped_of i h = ap (λ (w : Arguments). let s : Statement = record { mnemonic = mnemonic_of i; arguments = w } in s) (small_same (text_arguments i) (small_of i h))
+capped_of i h = ap (λ (w : Arguments). let s : Statement = record { mnemonic = mnemonic_of i; arguments = w } in s)
+    (small_same (text_arguments i) (small_of i h))
 
 -- the one instruction of a statement
 

@@ -42,10 +42,25 @@ below_digits : (c : ℕ) → c < 48 → ¬ (IsInRange 48 57 c)
 below_digits c h range = let low : 48 ≤ c = range.0 in omega arith
 
 pub comma_apart : IsApart 44
-comma_apart = record { digit = below_digits 44 (omega arith); r = omega arith; plus = omega arith; minus = omega arith; open_bracket = omega arith; close_bracket = omega arith }
+comma_apart = record {
+  digit = below_digits 44 (omega arith);
+  r = omega arith;
+  plus = omega arith;
+  minus =
+      omega arith;
+  open_bracket = omega arith;
+  close_bracket = omega arith;
+}
 
 pub feed_apart : IsApart 10
-feed_apart = record { digit = below_digits 10 (omega arith); r = omega arith; plus = omega arith; minus = omega arith; open_bracket = omega arith; close_bracket = omega arith }
+feed_apart = record {
+  digit = below_digits 10 (omega arith);
+  r = omega arith;
+  plus = omega arith;
+  minus = omega arith;
+  open_bracket = omega arith;
+  close_bracket = omega arith;
+}
 
 memory_lacks : (c : ℕ) → IsApart c → (base sign n : ℕ) → sign ≢ c → Lacks c ((91 ∷ 114 ∷ numeral base) ++ (sign ∷ []) ++ numeral n ++ 93 ∷ [])
 memory_lacks c apart base sign n other =
@@ -78,7 +93,8 @@ space_first : (xs : List ℕ) → Lacks 10 xs → Lacks 10 (32 ∷ xs)
 space_first xs h = lacks_cons 10 32 xs (omega arith) h
 
 comma_between : (xs ys : List ℕ) → Lacks 10 xs → Lacks 10 ys → Lacks 10 ((xs ++ 44 ∷ 32 ∷ []) ++ ys)
-comma_between xs ys h k = lacks_append 10 (xs ++ 44 ∷ 32 ∷ []) ys (lacks_append 10 xs (44 ∷ 32 ∷ []) h (lacks_cons 10 44 (32 ∷ []) (omega arith) (space_first [] (nil_lacks 10)))) k
+comma_between xs ys h k = lacks_append 10 (xs ++ 44 ∷ 32 ∷ []) ys
+    (lacks_append 10 xs (44 ∷ 32 ∷ []) h (lacks_cons 10 44 (32 ∷ []) (omega arith) (space_first [] (nil_lacks 10)))) k
 
 pub arguments_lack_feed : (w : Arguments) → Lacks 10 (arguments_text w)
 arguments_lack_feed Zero = nil_lacks 10

@@ -28,22 +28,28 @@ formed_insn line s reads i fits e = ap is_formed (insn_statement line s reads i 
 pub has_form : (line : List ℕ) (s : Statement) → IsStatementRead line s → is_formed s ≡ true → IsFormedLine line
 has_form line s found formed = record { statement = found.0; text = found.1; formed = sym (ap is_formed found.2 ∙ formed_capped found.0) ∙ formed }
 
-pub text_is : (line : List ℕ) (s : Statement) → IsStatementRead line s → (i : Insn) → FitsInsn i → mnemonic_of i ≡ s.mnemonic → text_arguments i ≡ s.arguments → line ≡ line_of i
+pub text_is : (line : List ℕ) (s : Statement) → IsStatementRead line s → (i : Insn) → FitsInsn i →
+    mnemonic_of i ≡ s.mnemonic → text_arguments i ≡ s.arguments → line ≡ line_of i
 text_is line s found i fits em ew =
     let w : Statement = found.0 in
     let capped_is : capped_arguments w.arguments ≡ text_arguments i = sym (ap (λ (t : Statement). t.arguments) found.2) ∙ sym ew in
     let small : IsSmall (capped_arguments w.arguments) = subst (λ (a : Arguments). IsSmall a) (sym capped_is) (small_of i fits) in
     let same_arguments : w.arguments ≡ text_arguments i = sym (back_same w.arguments small) ∙ capped_is in
     let same_mnemonic : w.mnemonic ≡ mnemonic_of i = sym (ap (λ (t : Statement). t.mnemonic) found.2) ∙ sym em in
-    found.1 ∙ ap (λ (m : Mnemonic). mnemonic_text m ++ arguments_text w.arguments) same_mnemonic ∙ ap (λ (a : Arguments). mnemonic_text (mnemonic_of i) ++ arguments_text a) same_arguments
+    found.1 ∙ ap (λ (m : Mnemonic). mnemonic_text m ++ arguments_text w.arguments) same_mnemonic ∙
+    ap (λ (a : Arguments). mnemonic_text (mnemonic_of i) ++ arguments_text a) same_arguments
 
-pub insn_is : (line : List ℕ) (s : Statement) (r : Option Insn) → ReadsStatement line (Some s) → IsOnlyInsn s.mnemonic s.arguments r → (i : Insn) → FitsInsn i → line ≡ line_of i → r ≡ Some i
+pub insn_is : (line : List ℕ) (s : Statement) (r : Option Insn) → ReadsStatement line (Some s) →
+    IsOnlyInsn s.mnemonic s.arguments r → (i : Insn) → FitsInsn i → line ≡ line_of i → r ≡ Some i
 insn_is line s r reads only i fits e =
     let same : s ≡ statement_of i = insn_statement line s reads i fits e in
     told s.mnemonic s.arguments r only i fits (ap (λ (t : Statement). t.mnemonic) same) (ap (λ (t : Statement). t.arguments) same)
 
-pub ok_is : (line : List ℕ) (s : Statement) (j : Insn) → ReadsStatement line (Some s) → IsOnlyInsn s.mnemonic s.arguments (Some j) → (i : Insn) → FitsInsn i → line ≡ line_of i → (let r : Result Insn LineFlaw = Ok j in r ≡ Ok i)
+pub ok_is : (line : List ℕ) (s : Statement) (j : Insn) → ReadsStatement line (Some s) →
+    IsOnlyInsn s.mnemonic s.arguments (Some j) → (i : Insn) → FitsInsn i → line ≡ line_of i →
+    (let r : Result Insn LineFlaw = Ok j in r ≡ Ok i)
 ok_is line s j reads only i fits e = ap Ok (same_Some j i (insn_is line s (Some j) reads only i fits e))
 
-pub not_insn : (line : List ℕ) (s : Statement) → ReadsStatement line (Some s) → IsOnlyInsn s.mnemonic s.arguments None → (i : Insn) → FitsInsn i → line ≡ line_of i → ⊥
+pub not_insn : (line : List ℕ) (s : Statement) → ReadsStatement line (Some s) → IsOnlyInsn s.mnemonic s.arguments None
+    → (i : Insn) → FitsInsn i → line ≡ line_of i → ⊥
 not_insn line s reads only i fits e = none-some i (insn_is line s None reads only i fits e)

@@ -1,5 +1,6 @@
 -- The lines that have been read, and those that are left.
-use Rattle.std.proofs.Common.{ℕ, ◌≡◌, ◌+◌, ◌≤◌, ◌==◌, Bool, true, false, not, cond, List, [], ◌∷◌, ◌++◌, length, get_or, refl, sym, ap, subst, ◌∙◌, arith, append_assoc, length-append, ne_eqb}
+use Rattle.std.proofs.Common.{ℕ, ◌≡◌, ◌+◌, ◌≤◌, ◌==◌, Bool, true, false, not, cond, List, [], ◌∷◌, ◌++◌, length}
+use Rattle.std.proofs.Common.{get_or, refl, sym, ap, subst, ◌∙◌, arith, append_assoc, length-append, ne_eqb}
 use Rattle.std.specs.Prelude.{map}
 use Rattle.std.specs.Str.{IsUtf8}
 use Rattle.std.specs.List.{AllByRecursion, filter, All}
@@ -63,11 +64,15 @@ unique_line line i h statement j k fits_j fits_k e f = sym (h.only j fits_j e) �
 left_out : (line : List ℕ) (xs : List (List ℕ)) → is_comment line ≡ true → (xs ++ filter keeps (line ∷ [])) ≡ xs ++ []
 left_out line xs e = ap (λ (b : Bool). xs ++ cond (not b) (line ∷ []) []) e
 
-kept : (line : List ℕ) (xs : List (List ℕ)) (items : List Insn) (i : Insn) → is_comment line ≡ false → xs ≡ map line_of items → line ≡ line_of i → (xs ++ filter keeps (line ∷ [])) ≡ map line_of items ++ map line_of (i ∷ [])
+kept : (line : List ℕ) (xs : List (List ℕ)) (items : List Insn) (i : Insn) → is_comment line ≡ false →
+    xs ≡ map line_of items → line ≡ line_of i → (xs ++ filter keeps (line ∷ [])) ≡ map line_of items ++ map line_of
+    (i ∷ [])
 kept line xs items i e same is =
-    ap (λ (b : Bool). xs ++ cond (not b) (line ∷ []) []) e ∙ appended xs (line ∷ []) (map line_of items) (map line_of (i ∷ [])) same (ap (λ (t : List ℕ). t ∷ []) is)
+    ap (λ (b : Bool). xs ++ cond (not b) (line ∷ []) []) e ∙
+    appended xs (line ∷ []) (map line_of items) (map line_of (i ∷ [])) same (ap (λ (t : List ℕ). t ∷ []) is)
 
-comment_read : (text line : List ℕ) (left : List (List ℕ)) (items : List Insn) (index : ℕ) → LinesRead text (line ∷ left) items index → is_comment line ≡ true → LinesRead text left items (index + 1)
+comment_read : (text line : List ℕ) (left : List (List ℕ)) (items : List Insn) (index : ℕ) →
+    LinesRead text (line ∷ left) items index → is_comment line ≡ true → LinesRead text left items (index + 1)
 comment_read text line left items index read e =
     record {
       front = read.front ++ line ∷ [];
@@ -79,7 +84,9 @@ comment_read text line left items index read e =
       fits = read.fits;
     }
 
-statement_read : (text line : List ℕ) (left : List (List ℕ)) (items : List Insn) (index : ℕ) → LinesRead text (line ∷ left) items index → is_comment line ≡ false → (i : Insn) → IsLineOf line i → LinesRead text left (items ++ i ∷ []) (index + 1)
+statement_read : (text line : List ℕ) (left : List (List ℕ)) (items : List Insn) (index : ℕ) →
+    LinesRead text (line ∷ left) items index → is_comment line ≡ false → (i : Insn) → IsLineOf line i →
+    LinesRead text left (items ++ i ∷ []) (index + 1)
 statement_read text line left items index read e i is =
     record {
       front = read.front ++ line ∷ [];
@@ -87,24 +94,51 @@ statement_read text line left items index read e i is =
       number = rw (read.number) (sym (length-append read.front (line ∷ [])));
       sound = All-push IsSoundLine read.front line read.sound (λ _. insn_line line i is);
       unique = All-push IsUnique read.front line read.unique (unique_line line i is);
-      lines = filter-append keeps read.front (line ∷ []) ∙ kept line (filter keeps read.front) items i e read.lines is.text ∙ sym (map-append line_of items (i ∷ []));
+      lines = filter-append keeps read.front (line ∷ []) ∙
+          kept line (filter keeps read.front) items i e read.lines is.text ∙ sym (map-append line_of items (i ∷ []));
       fits = All-push FitsInsn items i read.fits is.fits;
     }
 
-by_kind : (text line : List ℕ) (left : List (List ℕ)) (items new : List Insn) (index : ℕ) → LinesRead text (line ∷ left) items index → AddsLine line items new → (b : Bool) → is_comment line ≡ b → LinesRead text left new (index + 1)
+by_kind : (text line : List ℕ) (left : List (List ℕ)) (items new : List Insn) (index : ℕ) →
+    LinesRead text (line ∷ left) items index → AddsLine line items new → (b : Bool) → is_comment line ≡ b →
+    LinesRead text left new (index + 1)
 by_kind text line left items new index read adds true e =
     subst (λ (is : List Insn). LinesRead text left is (index + 1)) (sym (adds.comment e)) (comment_read text line left items index read e)
 by_kind text line left items new index read adds false e =
     let h = adds.statement e in
     subst (λ (is : List Insn). LinesRead text left is (index + 1)) (sym h.2) (statement_read text line left items index read e h.0 h.1)
 
-pub line_read : (text line : List ℕ) (left : List (List ℕ)) (items new : List Insn) (index : ℕ) → LinesRead text (line ∷ left) items index → AddsLine line items new → LinesRead text left new (index + 1)
+pub line_read : (text line : List ℕ) (left : List (List ℕ)) (items new : List Insn) (index : ℕ) →
+    LinesRead text (line ∷ left) items index → AddsLine line items new → LinesRead text left new (index + 1)
 line_read text line left items new index read adds = by_kind text line left items new index read adds (is_comment line) refl
 
 -- a fault is that of the first faulty line
-pub line_fault : (text line : List ℕ) (left : List (List ℕ)) (items : List Insn) (index : ℕ) (f : AsmFault) → LinesRead text (line ∷ left) items index → IsLineFault index line f → IsAsmTextFault text f
-line_fault text line left items index (BadLine n) read h = record { front = read.front; line = line; rest = left; parts = read.parts; number = h.0 ∙ ap (λ k. k + 1) read.number; sound = read.sound; statement = h.1; flawed = h.2 }
-line_fault text line left items index (BadOperand n) read h = record { front = read.front; line = line; rest = left; parts = read.parts; number = h.0 ∙ ap (λ k. k + 1) read.number; sound = read.sound; statement = h.1; flawed = h.2 }
+pub line_fault : (text line : List ℕ) (left : List (List ℕ)) (items : List Insn) (index : ℕ) (f : AsmFault) →
+    LinesRead text (line ∷ left) items index → IsLineFault index line f → IsAsmTextFault text f
+line_fault text line left items index (BadLine n) read h =
+    record {
+      front = read.front;
+      line = line;
+      rest = left;
+      parts = read.parts;
+      number = h.0 ∙
+          ap (λ k. k + 1) read.number;
+      sound = read.sound;
+      statement = h.1;
+      flawed = h.2;
+    }
+line_fault text line left items index (BadOperand n) read h =
+    record {
+      front = read.front;
+      line = line;
+      rest = left;
+      parts = read.parts;
+      number = h.0 ∙
+          ap (λ k. k + 1) read.number;
+      sound = read.sound;
+      statement = h.1;
+      flawed = h.2;
+    }
 line_fault text line left items index TooLong read h = h
 line_fault text line left items index Empty read h = h
 line_fault text line left items index Memory read h = tt
@@ -117,7 +151,10 @@ all_read text items index read = ap (filter keeps) (read.parts ∙ append-nil re
 cons_insns : (i j : Insn) (is js : List Insn) → i ≡ j → is ≡ js → (i ∷ is) ≡ j ∷ js
 cons_insns i j is js e f = cc
 
-same_cons : (line : List ℕ) (rest : List (List ℕ)) (is js : List Insn) → is_comment line ≡ false → IsUnique line → ((is2 js2 : List Insn) → AllByRecursion FitsInsn is2 → AllByRecursion FitsInsn js2 → rest ≡ map line_of is2 → rest ≡ map line_of js2 → is2 ≡ js2) → AllByRecursion FitsInsn is → AllByRecursion FitsInsn js → (line ∷ rest) ≡ map line_of is → (line ∷ rest) ≡ map line_of js → is ≡ js
+same_cons : (line : List ℕ) (rest : List (List ℕ)) (is js : List Insn) → is_comment line ≡ false → IsUnique line →
+    ((is2 js2 : List Insn) → AllByRecursion FitsInsn is2 → AllByRecursion FitsInsn js2 → rest ≡ map line_of is2 →
+    rest ≡ map line_of js2 → is2 ≡ js2) → AllByRecursion FitsInsn is → AllByRecursion FitsInsn js →
+    (line ∷ rest) ≡ map line_of is → (line ∷ rest) ≡ map line_of js → is ≡ js
 same_cons line rest [] js s unique more fits_i fits_j e f = absurd (cons-nil line rest e)
 same_cons line rest (i ∷ is) [] s unique more fits_i fits_j e f = absurd (cons-nil line rest f)
 same_cons line rest (i ∷ is) (j ∷ js) s unique more fits_i fits_j e f =
@@ -127,7 +164,11 @@ same_cons line rest (i ∷ is) (j ∷ js) s unique more fits_i fits_j e f =
     let behind_q : rest ≡ map line_of js = tails line (line_of j) rest (map line_of js) f in
     cons_insns i j is js (unique s i j fits_i.0 fits_j.0 p q) (more is js fits_i.1 fits_j.1 behind_p behind_q)
 
-same_step : (line : List ℕ) (front : List (List ℕ)) (is js : List Insn) (b : Bool) → is_comment line ≡ b → IsUnique line → ((is2 js2 : List Insn) → AllByRecursion FitsInsn is2 → AllByRecursion FitsInsn js2 → filter keeps front ≡ map line_of is2 → filter keeps front ≡ map line_of js2 → is2 ≡ js2) → AllByRecursion FitsInsn is → AllByRecursion FitsInsn js → filter keeps (line ∷ front) ≡ map line_of is → filter keeps (line ∷ front) ≡ map line_of js → is ≡ js
+same_step : (line : List ℕ) (front : List (List ℕ)) (is js : List Insn) (b : Bool) → is_comment line ≡ b →
+    IsUnique line → ((is2 js2 : List Insn) → AllByRecursion FitsInsn is2 → AllByRecursion FitsInsn js2 →
+    filter keeps front ≡ map line_of is2 → filter keeps front ≡ map line_of js2 → is2 ≡ js2) →
+    AllByRecursion FitsInsn is → AllByRecursion FitsInsn js → filter keeps (line ∷ front) ≡ map line_of is →
+    filter keeps (line ∷ front) ≡ map line_of js → is ≡ js
 same_step line front is js true s unique more fits_i fits_j e f =
     let out : filter keeps (line ∷ front) ≡ filter keeps front = ap (λ (b : Bool). cond (not b) (line ∷ filter keeps front) (filter keeps front)) s in
     more is js fits_i fits_j (sym out ∙ e) (sym out ∙ f)
@@ -136,45 +177,58 @@ same_step line front is js false s unique more fits_i fits_j e f =
     same_cons line (filter keeps front) is js s unique more fits_i fits_j (sym out ∙ e) (sym out ∙ f)
 
 -- the lines of two lists of instructions are those of one
-same_insns : (front : List (List ℕ)) (is js : List Insn) → AllByRecursion IsUnique front → AllByRecursion FitsInsn is → AllByRecursion FitsInsn js → filter keeps front ≡ map line_of is → filter keeps front ≡ map line_of js → is ≡ js
+same_insns : (front : List (List ℕ)) (is js : List Insn) → AllByRecursion IsUnique front → AllByRecursion FitsInsn is
+    → AllByRecursion FitsInsn js → filter keeps front ≡ map line_of is → filter keeps front ≡ map line_of js → is ≡ js
 same_insns [] [] [] unique fits_i fits_j e f = refl
 same_insns [] [] (j ∷ js) unique fits_i fits_j e f = absurd (cons-nil (line_of j) (map line_of js) (sym f))
 same_insns [] (i ∷ is) js unique fits_i fits_j e f = absurd (cons-nil (line_of i) (map line_of is) (sym e))
 same_insns (line ∷ front) is js unique fits_i fits_j e f =
     same_step line front is js (is_comment line) refl unique.0 (λ is2 js2 g h k l. same_insns front is2 js2 unique.1 g h k l) fits_i fits_j e f
 
-pub only_read : (text : List ℕ) (items : List Insn) (index : ℕ) → LinesRead text [] items index → (is : List Insn) → AllByRecursion FitsInsn is → statements_in text ≡ map line_of is → items ≡ is
+pub only_read : (text : List ℕ) (items : List Insn) (index : ℕ) → LinesRead text [] items index → (is : List Insn) →
+    AllByRecursion FitsInsn is → statements_in text ≡ map line_of is → items ≡ is
 only_read text items index read is fits e =
     same_insns read.front items is read.unique read.fits fits read.lines (sym (ap (filter keeps) (read.parts ∙ append-nil read.front)) ∙ e)
 
 -- one turn of the loop, and what follows it
 
-left_is : (text : List ℕ) (left left2 : List (List ℕ)) (items : List Insn) (index : ℕ) → left ≡ left2 → LinesRead text left items index → LinesRead text left2 items index
+left_is : (text : List ℕ) (left left2 : List (List ℕ)) (items : List Insn) (index : ℕ) → left ≡ left2 →
+    LinesRead text left items index → LinesRead text left2 items index
 left_is text left left2 items index e read = subst (λ (ls : List (List ℕ)). LinesRead text ls items index) e read
 
-first_left : (text rest line more : List ℕ) (items : List Insn) (index : ℕ) → LinesRead text (lines_in rest) items index → rest ≡ line ++ 10 ∷ more → Lacks 10 line → LinesRead text (line ∷ lines_in more) items index
+first_left : (text rest line more : List ℕ) (items : List Insn) (index : ℕ) →
+    LinesRead text (lines_in rest) items index → rest ≡ line ++ 10 ∷ more → Lacks 10 line →
+    LinesRead text (line ∷ lines_in more) items index
 first_left text rest line more items index read parts lacks =
     left_is text (lines_in rest) (line ∷ lines_in more) items index (ap lines_in parts ∙ first_line line more lacks) read
 
-pub next_read : (text rest line more : List ℕ) (items new : List Insn) (index : ℕ) → LinesRead text (lines_in rest) items index → rest ≡ line ++ 10 ∷ more → Lacks 10 line → AddsLine line items new → LinesRead text (lines_in more) new (index + 1)
+pub next_read : (text rest line more : List ℕ) (items new : List Insn) (index : ℕ) →
+    LinesRead text (lines_in rest) items index → rest ≡ line ++ 10 ∷ more → Lacks 10 line → AddsLine line items new →
+    LinesRead text (lines_in more) new (index + 1)
 next_read text rest line more items new index read parts lacks adds =
     line_read text line (lines_in more) items new index (first_left text rest line more items index read parts lacks) adds
 
-pub next_fault : (text rest line more : List ℕ) (items : List Insn) (index : ℕ) (f : AsmFault) → LinesRead text (lines_in rest) items index → rest ≡ line ++ 10 ∷ more → Lacks 10 line → IsLineFault index line f → IsAsmTextFault text f
+pub next_fault : (text rest line more : List ℕ) (items : List Insn) (index : ℕ) (f : AsmFault) →
+    LinesRead text (lines_in rest) items index → rest ≡ line ++ 10 ∷ more → Lacks 10 line → IsLineFault index line f →
+    IsAsmTextFault text f
 next_fault text rest line more items index f read parts lacks h =
     line_fault text line (lines_in more) items index f (first_left text rest line more items index read parts lacks) h
 
-last_left : (text rest : List ℕ) (items : List Insn) (index : ℕ) → LinesRead text (lines_in rest) items index → Lacks 10 rest → LinesRead text (rest ∷ []) items index
+last_left : (text rest : List ℕ) (items : List Insn) (index : ℕ) → LinesRead text (lines_in rest) items index →
+    Lacks 10 rest → LinesRead text (rest ∷ []) items index
 last_left text rest items index read lacks = left_is text (lines_in rest) (rest ∷ []) items index (last_line rest lacks) read
 
-pub last_read : (text rest : List ℕ) (items new : List Insn) (index : ℕ) → LinesRead text (lines_in rest) items index → Lacks 10 rest → AddsLine rest items new → LinesRead text [] new (index + 1)
+pub last_read : (text rest : List ℕ) (items new : List Insn) (index : ℕ) → LinesRead text (lines_in rest) items index
+    → Lacks 10 rest → AddsLine rest items new → LinesRead text [] new (index + 1)
 last_read text rest items new index read lacks adds =
     line_read text rest [] items new index (last_left text rest items index read lacks) adds
 
-pub last_fault : (text rest : List ℕ) (items : List Insn) (index : ℕ) (f : AsmFault) → LinesRead text (lines_in rest) items index → Lacks 10 rest → IsLineFault index rest f → IsAsmTextFault text f
+pub last_fault : (text rest : List ℕ) (items : List Insn) (index : ℕ) (f : AsmFault) →
+    LinesRead text (lines_in rest) items index → Lacks 10 rest → IsLineFault index rest f → IsAsmTextFault text f
 last_fault text rest items index f read lacks h = line_fault text rest [] items index f (last_left text rest items index read lacks) h
 
-pub next_room : (text rest line more : List ℕ) (index : ℕ) → index + length rest ≤ length text → rest ≡ line ++ 10 ∷ more → index + 1 + length more ≤ length text
+pub next_room : (text rest line more : List ℕ) (index : ℕ) → index + length rest ≤ length text → rest ≡ line ++ 10
+    ∷ more → index + 1 + length more ≤ length text
 next_room text rest line more index room parts =
     let whole : length rest ≡ length line + length (10 ∷ more) = ap length parts ∙ length-append line (10 ∷ more) in
     omega arith

@@ -16,7 +16,9 @@ use Rattle.bpf_model.specs.declared.opcode.Condition.TheVariants as condition
 use Rattle.bpf_model.specs.declared.insn.AluOp.TheVariants as alu
 use Rattle.bpf_model.specs.declared.insn.CallKind.TheVariants.{Helper, Kernel}
 use Rattle.disasm.specs.declared.mnemonic.Mnemonic.{Mnemonic}
-use Rattle.disasm.specs.declared.mnemonic.Mnemonic.TheVariants.{Alu, MoveSigned, Negate, ByteSwap, LoadNumber, LoadMap, Jump, JumpLong, JumpIf, Call, Exit, Load, LoadSigned, Store, StoreRegister}
+use Rattle.disasm.specs.declared.mnemonic.Mnemonic.TheVariants.{Alu, MoveSigned, Negate, ByteSwap, LoadNumber}
+use Rattle.disasm.specs.declared.mnemonic.Mnemonic.TheVariants.{LoadMap, Jump, JumpLong, JumpIf, Call, Exit, Load}
+use Rattle.disasm.specs.declared.mnemonic.Mnemonic.TheVariants.{LoadSigned, Store, StoreRegister}
 use Rattle.disasm.specs.Text.{mnemonic_text}
 use Rattle.asm.specs.declared.names.TheConstants.{MNEMONICS}
 
@@ -110,7 +112,8 @@ again (StoreRegister width.Two) = refl
 again (StoreRegister width.Four) = refl
 again (StoreRegister width.Eight) = refl
 
-passes_or : {X : Type 0} (test : X → Bool) (x : X) (rest : Option X) (b : Bool) → test x ≡ b → IfSome rest (λ y. test y ≡ true) → IfSome (cond b (Some x) rest) (λ y. test y ≡ true)
+passes_or : {X : Type 0} (test : X → Bool) (x : X) (rest : Option X) (b : Bool) → test x ≡ b →
+    IfSome rest (λ y. test y ≡ true) → IfSome (cond b (Some x) rest) (λ y. test y ≡ true)
 passes_or test x rest true e h = e
 passes_or test x rest false e h = h
 

@@ -1,5 +1,6 @@
 -- Numerals: their bytes are digits, the first is 0 in that of 0 alone, and each number has its own.
-use Rattle.std.proofs.Common.{ℕ, zero, suc, ◌≡◌, ◌≢◌, ◌+◌, ◌-◌, ◌*◌, ◌/◌, ◌%◌, ◌^◌, ◌<◌, ◌≤◌, List, [], ◌∷◌, ◌++◌, length, get_or, take, refl, sym, ap, ◌∙◌, arith, inl, inr}
+use Rattle.std.proofs.Common.{ℕ, zero, suc, ◌≡◌, ◌≢◌, ◌+◌, ◌-◌, ◌*◌, ◌/◌, ◌%◌, ◌^◌, ◌<◌, ◌≤◌, List, [], ◌∷◌, ◌++◌}
+use Rattle.std.proofs.Common.{length, get_or, take, refl, sym, ap, ◌∙◌, arith, inl, inr}
 use Rattle.std.specs.Prelude.{map, Option, Some, None, IfSome, IfNone}
 use Rattle.std.specs.Int.{IsInRange}
 use Rattle.std.specs.Int.Digits.{digits_of, AllBelowBase}
@@ -68,7 +69,12 @@ pub numeral_some : (n : ℕ) → 0 < length (numeral n)
 numeral_some n = elim (eq-zero-or-pos n) [ inl e ↦ rw e (omega arith) | inr p ↦ rw (above_zero n p) (glyphs_some n p) ]
 
 pub numeral_first : (n : ℕ) → get_or (numeral n) 0 0 ≡ 48 → n ≡ 0
-numeral_first n h = elim (eq-zero-or-pos n) [ inl e ↦ e | inr p ↦ absurd (let q : 48 < get_or (glyphs n) 0 0 = glyphs_first n p in let r : get_or (glyphs n) 0 0 ≡ 48 = sym (ap (λ ds. get_or ds 0 0) (above_zero n p)) ∙ h in omega arith) ]
+numeral_first n h = elim (eq-zero-or-pos n) [
+  | inl e ↦ e
+  | inr p ↦
+      absurd (let q : 48 < get_or (glyphs n) 0 0 = glyphs_first n p in let r : get_or (glyphs n) 0 0 ≡ 48 =
+      sym (ap (λ ds. get_or ds 0 0) (above_zero n p)) ∙ h in omega arith)
+]
 
 pub numeral_injective : (m n : ℕ) → numeral m ≡ numeral n → m ≡ n
 numeral_injective m n e = elim (eq-zero-or-pos m) [
@@ -95,22 +101,31 @@ first_digit digits i e low first =
 not_zero : (n d : ℕ) → 0 < d → 0 < n * 10 + d
 not_zero n d h = omega arith
 
-pub read_more : (digits : List ℕ) (i value next : ℕ) → IsReadSoFar (take i digits) i value → i < length digits → IsInRange 48 57 (get_or digits i 0) → get_or digits 0 0 ≢ 48 → ((n : ℕ) → value ≡ capped n → next ≡ capped (n * 10 + (get_or digits i 0 - 48))) → next ≤ 2 ^ 64 → IsReadSoFar (take (i + 1) digits) (i + 1) next
+pub read_more : (digits : List ℕ) (i value next : ℕ) → IsReadSoFar (take i digits) i value → i < length digits →
+    IsInRange 48 57 (get_or digits i 0) → get_or digits 0 0 ≢ 48 →
+    ((n : ℕ) → value ≡ capped n → next ≡ capped (n * 10 + (get_or digits i 0 - 48))) → next ≤ 2 ^ 64 →
+    IsReadSoFar (take (i + 1) digits) (i + 1) next
 read_more digits i value next so_far inside digit first pushed limit =
     let d : ℕ = get_or digits i 0 - 48 in
     let low : 48 ≤ get_or digits i 0 = digit.0 in
     let high : get_or digits i 0 ≤ 57 = digit.1 in
-    let some : 0 < so_far.n * 10 + d = elim (eq-zero-or-pos i) [ inl e ↦ not_zero so_far.n d (first_digit digits i e low first) | inr p ↦ let q : 0 < so_far.n = so_far.some p in omega arith ] in
+    let some : 0 < so_far.n * 10 + d = elim (eq-zero-or-pos i) [
+      | inl e ↦ not_zero so_far.n d (first_digit digits i e low first)
+      | inr p ↦ let q : 0 < so_far.n =
+          so_far.some p in omega arith
+    ] in
     let same : 48 + d ≡ get_or digits i 0 = omega arith in
     record {
       n = so_far.n * 10 + d;
-      digits = take_more digits i 0 inside ∙ ap (λ front. front ++ get_or digits i 0 ∷ []) so_far.digits ∙ sym (glyphs_push so_far.n d (omega arith) some ∙ rw same refl);
+      digits = take_more digits i 0 inside ∙ ap (λ front. front ++ get_or digits i 0 ∷ []) so_far.digits ∙
+          sym (glyphs_push so_far.n d (omega arith) some ∙ rw same refl);
       value_is = pushed so_far.n so_far.value_is;
       limit = limit;
       some = λ _. some;
     }
 
-pub numeral_zero_only : (text : List ℕ) → get_or text 0 0 ≡ 48 → (n : ℕ) → text ≡ numeral n → (let zero_value : Option ℕ = Some 0 in zero_value ≡ Some (capped n))
+pub numeral_zero_only : (text : List ℕ) → get_or text 0 0 ≡ 48 → (n : ℕ) → text ≡ numeral n →
+    (let zero_value : Option ℕ = Some 0 in zero_value ≡ Some (capped n))
 numeral_zero_only text first n e =
     let z : n ≡ 0 = numeral_first n (sym (ap (λ t. get_or t 0 0) e) ∙ first) in
     rw z refl
@@ -121,9 +136,13 @@ numeral_not_long text n first long e =
     let one : length text ≡ 1 = ap length e ∙ rw z refl in
     omega arith
 
-pub digits_only : (text : List ℕ) (r : Option ℕ) → IfSome r (λ value. (n : ℕ) × (0 < n) × (text ≡ glyphs n) × (value ≡ capped n)) → IfNone r ((k : ℕ) × (k < length text) × ¬ (IsInRange 48 57 (get_or text k 0))) → (n : ℕ) → text ≡ numeral n → r ≡ Some (capped n)
+pub digits_only : (text : List ℕ) (r : Option ℕ) → IfSome r
+    (λ value. (n : ℕ) × (0 < n) × (text ≡ glyphs n) × (value ≡ capped n)) →
+    IfNone r ((k : ℕ) × (k < length text) × ¬ (IsInRange 48 57 (get_or text k 0))) → (n : ℕ) → text ≡ numeral n →
+    r ≡ Some (capped n)
 digits_only text (Some value) found none n e =
     let same : found.0 ≡ n = numeral_injective found.0 n (above_zero found.0 found.1 ∙ sym found.2 ∙ e) in
     rw (found.3, same) refl
 digits_only text None found none n e =
-    absurd (none.2 (rw e (numeral_digit n none.0 (let l : length text ≡ length (numeral n) = ap length e in let inside : none.0 < length text = none.1 in omega arith))))
+    absurd (none.2 (rw e (numeral_digit n none.0 (let l : length text ≡ length (numeral n) =
+    ap length e in let inside : none.0 < length text = none.1 in omega arith))))

@@ -19,8 +19,11 @@ use Rattle.bpf_model.specs.declared.insn.AluOp.TheVariants as alu
 use Rattle.bpf_model.specs.declared.insn.CallKind.{CallKind}
 use Rattle.bpf_model.specs.declared.insn.CallKind.TheVariants.{Helper, Kernel}
 use Rattle.disasm.specs.declared.mnemonic.Mnemonic.{Mnemonic}
-use Rattle.disasm.specs.declared.mnemonic.Mnemonic.TheVariants.{Alu, MoveSigned, Negate, ByteSwap, LoadNumber, LoadMap, Jump, JumpLong, JumpIf, Call, Exit, Load, LoadSigned, Store, StoreRegister}
-use Rattle.disasm.specs.Text.{mnemonic_text, stem_of, suffix_of, alu_stem, condition_stem, order_stem, size_suffix, jump_suffix, swap_suffix, width_suffix, signed_width_suffix, call_suffix}
+use Rattle.disasm.specs.declared.mnemonic.Mnemonic.TheVariants.{Alu, MoveSigned, Negate, ByteSwap, LoadNumber}
+use Rattle.disasm.specs.declared.mnemonic.Mnemonic.TheVariants.{LoadMap, Jump, JumpLong, JumpIf, Call, Exit, Load}
+use Rattle.disasm.specs.declared.mnemonic.Mnemonic.TheVariants.{LoadSigned, Store, StoreRegister}
+use Rattle.disasm.specs.Text.{mnemonic_text, stem_of, suffix_of, alu_stem, condition_stem, order_stem, size_suffix}
+use Rattle.disasm.specs.Text.{jump_suffix, swap_suffix, width_suffix, signed_width_suffix, call_suffix}
 use Rattle.asm.specs.Reading.{Lacks}
 use Rattle.asm.specs.Faults.{is_comment}
 use Rattle.asm.proofs.Lacking.{lacks_cons, lacks_append, nil_lacks}
@@ -137,7 +140,8 @@ suffix_plain (StoreRegister width) = width_plain width
 
 -- no name has a space or a line feed
 pub name_lacks_any : (c : ℕ) → c < 48 → (m : Mnemonic) → Lacks c (mnemonic_text m)
-name_lacks_any c small m = lacks_append c (stem_of m) (suffix_of m) (plain_lacks c (stem_of m) small (stem_plain m)) (plain_lacks c (suffix_of m) small (suffix_plain m))
+name_lacks_any c small m = lacks_append c (stem_of m) (suffix_of m) (plain_lacks c (stem_of m) small (stem_plain m))
+    (plain_lacks c (suffix_of m) small (suffix_plain m))
 
 pub name_lacks : (m : Mnemonic) → Lacks 32 (mnemonic_text m)
 name_lacks m = name_lacks_any 32 (omega arith) m

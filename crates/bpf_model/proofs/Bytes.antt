@@ -17,4 +17,5 @@ behind at width k h = ap (λ t. t && nat_lt k (at + width)) (le-leb at k (omega 
 
 pub length-with_bytes : (at width n : ℕ) (bytes : List ℕ) → length (with_bytes at width n bytes) ≡ length bytes
 length-with_bytes at zero n bytes = refl
-length-with_bytes at (suc width) n bytes = length-set (with_bytes (suc at) width (n / 256) bytes) at (n % 256) ∙ length-with_bytes (suc at) width (n / 256) bytes
+length-with_bytes at (suc width) n bytes = length-set (with_bytes (suc at) width (n / 256) bytes) at (n % 256) ∙
+    length-with_bytes (suc at) width (n / 256) bytes

@@ -46,7 +46,8 @@ equal-is Greater h = absurd (false≢true h)
 
 -- where no element was born, none takes a map slot
 pub oldest-none : (old new : Store) → length new.elements ≡ length old.elements → TakesOldest old new
-oldest-none old new same e before after at h g = let z : length old.elements < length new.elements = slice_get_within new.elements (length old.elements) e at in absurd (omega arith)
+oldest-none old new same e before after at h g = let z : length old.elements < length new.elements =
+    slice_get_within new.elements (length old.elements) e at in absurd (omega arith)
 
 -- where no birth is ready none is taken
 pub none-at : (ready : List ℕ) (later : Option ℕ) → or_first ready later ≡ None → (ready ≡ []) × (later ≡ None)
@@ -61,11 +62,14 @@ none-without (q ∷ qs) h =
     ∙ ap (λ l. q ∷ l) (none-without qs b.1)
 
 -- a run of the world stands for one of the machine
-pub run-behind : (slots : List ℕ) (es : List Element) (programs : List Loaded) (v : RunView) (shown : Option (Option RunView)) (o : Option (Option Run)) → shown ≡ Some (Some v) → RunSlotRefines slots es programs shown o →
+pub run-behind : (slots : List ℕ) (es : List Element) (programs : List Loaded) (v : RunView)
+    (shown : Option (Option RunView)) (o : Option (Option Run)) → shown ≡ Some (Some v) →
+    RunSlotRefines slots es programs shown o →
     (run : Run) × (o ≡ Some (Some run)) × RunRefines slots es programs v run
 run-behind slots es programs v shown o e h = by o (subst (λ x. RunSlotRefines slots es programs x o) e h)
   where
-    by : (o : Option (Option Run)) → RunSlotRefines slots es programs (Some (Some v)) o → (run : Run) × (o ≡ Some (Some run)) × RunRefines slots es programs v run
+    by : (o : Option (Option Run)) → RunSlotRefines slots es programs (Some (Some v)) o → (run : Run) ×
+        (o ≡ Some (Some run)) × RunRefines slots es programs v run
     by None h = absurd h
     by (Some None) h = absurd h
     by (Some (Some run)) h = (run, refl, h)

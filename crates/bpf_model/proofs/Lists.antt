@@ -42,7 +42,8 @@ pub get-append_last : {A : Type 0} (xs : List A) (y : A) → slice_get (xs ++ y 
 get-append_last [] y = refl
 get-append_last (x ∷ xs) y = get-append_last xs y
 
-pub get-append_cases : {A : Type 0} (xs : List A) (y : A) (i : ℕ) (z : A) → slice_get (xs ++ y ∷ []) i ≡ Some z → (slice_get xs i ≡ Some z) ⊎ ((i ≡ length xs) × (y ≡ z))
+pub get-append_cases : {A : Type 0} (xs : List A) (y : A) (i : ℕ) (z : A) → slice_get (xs ++ y ∷ []) i ≡ Some z →
+    (slice_get xs i ≡ Some z) ⊎ ((i ≡ length xs) × (y ≡ z))
 get-append_cases [] y zero z h = inr (refl, same_Some _ _ h)
 get-append_cases [] y (suc i) z h = inl h
 get-append_cases (x ∷ xs) y zero z h = inl h
@@ -64,7 +65,8 @@ get-set_other (z ∷ xs) zero (suc j) y h = refl
 get-set_other (z ∷ xs) (suc i) zero y h = refl
 get-set_other (z ∷ xs) (suc i) (suc j) y h = get-set_other xs i j y (λ e. h (ap suc e))
 
-pub get-set_cases : {A : Type 0} (xs : List A) (i j : ℕ) (y z : A) → slice_get (slice_set xs i y) j ≡ Some z → ((j ≡ i) × (y ≡ z)) ⊎ ((j ≢ i) × (slice_get xs j ≡ Some z))
+pub get-set_cases : {A : Type 0} (xs : List A) (i j : ℕ) (y z : A) → slice_get (slice_set xs i y) j ≡ Some z →
+    ((j ≡ i) × (y ≡ z)) ⊎ ((j ≢ i) × (slice_get xs j ≡ Some z))
 get-set_cases [] i j y z h = absurd (none-some z h)
 get-set_cases (x ∷ xs) zero zero y z h = inl (refl, same_Some _ _ h)
 get-set_cases (x ∷ xs) zero (suc j) y z h = inr (λ e. absurd (omega arith), h)
@@ -88,10 +90,14 @@ take-next (y ∷ xs) zero x h = ap (λ z. z ∷ []) (same_Some y x h)
 take-next (y ∷ xs) (suc i) x h = ap (λ l. y ∷ l) (take-next xs i x h)
 
 -- two mapped lists stay equal with one more item
-pub map-next : {A B C : Type 0} (f : A → C) (g : B → C) (front : List A) (bs : List B) (a : A) (b : B) → map f front ≡ map g bs → f a ≡ g b → map f (front ++ a ∷ []) ≡ map g (bs ++ b ∷ [])
-map-next f g front bs a b e same = map-append f front (a ∷ []) ∙ (ap (λ l. l ++ f a ∷ []) e ∙ (ap (λ c. map g bs ++ c ∷ []) same ∙ sym (map-append g bs (b ∷ []))))
+pub map-next : {A B C : Type 0} (f : A → C) (g : B → C) (front : List A) (bs : List B) (a : A) (b : B) →
+    map f front ≡ map g bs → f a ≡ g b → map f (front ++ a ∷ []) ≡ map g (bs ++ b ∷ [])
+map-next f g front bs a b e same = map-append f front (a ∷ []) ∙
+    (ap (λ l. l ++ f a ∷ []) e ∙ (ap (λ c. map g bs ++ c ∷ []) same ∙ sym (map-append g bs (b ∷ []))))
 
-pub map-take : {A B C : Type 0} (f : A → C) (g : B → C) (front : List A) (xs : List B) (n : ℕ) (a : A) (b : B) → map f front ≡ map g (take n xs) → slice_get xs n ≡ Some b → f a ≡ g b → map f (front ++ a ∷ []) ≡ map g (take (n + 1) xs)
+pub map-take : {A B C : Type 0} (f : A → C) (g : B → C) (front : List A) (xs : List B) (n : ℕ) (a : A) (b : B) →
+    map f front ≡ map g (take n xs) → slice_get xs n ≡ Some b → f a ≡ g b →
+    map f (front ++ a ∷ []) ≡ map g (take (n + 1) xs)
 map-take f g front xs n a b e at same =
     let next : suc n ≡ n + 1 = omega arith in
     map-next f g front (take n xs) a b e same ∙ (ap (map g) (sym (take-next xs n b at)) ∙ ap (λ k. map g (take k xs)) next)

@@ -8,7 +8,9 @@ use Rattle.script_lines.specs.Answers.{reply_text}
 use Rattle.control.specs.Replies.{AreElements}
 use Rattle.commands.specs.Runs.{AreDumps}
 
-pub one_dump_more : (maps : List MapView) (m : MapView) (text : List ℕ) (elements : List Reply) → AreDumps maps text → AreElements (Some m) None elements → AreDumps (maps ++ m ∷ []) (text ++ flat_map reply_text (elements ++ End ∷ []))
+pub one_dump_more : (maps : List MapView) (m : MapView) (text : List ℕ) (elements : List Reply) → AreDumps maps text →
+    AreElements (Some m) None elements → AreDumps (maps ++ m ∷ [])
+    (text ++ flat_map reply_text (elements ++ End ∷ []))
 one_dump_more [] m text elements before are =
     let added = flat_map reply_text (elements ++ End ∷ []) in
     (elements, [], are, refl, ap (λ (t : List ℕ). t ++ added) before ∙ sym (append-nil added))

@@ -18,16 +18,22 @@ use Rattle.program_files.specs.Checks.{content_with, IsSourceOf, IsVerifiedFile}
 use Rattle.commands.specs.Outputs.{IsPlainVerdict}
 use Rattle.commands.specs.Pools.{entries_line, IsPoolRefusal, IsProgramOf, WritesPool}
 
-abbrev pub file_of : (bytes : List ℕ) (s : Source) → IsSourceOf bytes s → HasGoodGraph s.program → IsVerified s.program (shapes_of_maps s.registry.maps) s.ctx_len → IsVerifiedFile bytes s.program
+abbrev pub file_of : (bytes : List ℕ) (s : Source) → IsSourceOf bytes s → HasGoodGraph s.program →
+    IsVerified s.program (shapes_of_maps s.registry.maps) s.ctx_len → IsVerifiedFile bytes s.program
 file_of bytes s is graph verified = record { content = content_with s; says = is.says; is = is.is; text_is = refl; graph = graph; verified = verified }
 
-pub program_found : (bytes : List ℕ) (s : Source) (program : List Insn) (context_len : ℕ) → IsSourceOf bytes s → HasGoodGraph s.program → IsVerified s.program (shapes_of_maps s.registry.maps) s.ctx_len → program ≡ s.program → context_len ≡ s.ctx_len → IsProgramOf bytes program context_len
+pub program_found : (bytes : List ℕ) (s : Source) (program : List Insn) (context_len : ℕ) → IsSourceOf bytes s →
+    HasGoodGraph s.program → IsVerified s.program (shapes_of_maps s.registry.maps) s.ctx_len → program ≡ s.program →
+    context_len ≡ s.ctx_len → IsProgramOf bytes program context_len
 program_found bytes s program context_len is graph verified same_program same_len =
     let here : IsProgramOf bytes s.program context_len = record { file = file_of bytes s is graph verified; context = same_len } in
     subst (λ (p : List Insn). IsProgramOf bytes p context_len) (sym same_program) here
 
 -- the lines of the jobs, and that of the entries
-pub pool_written : (bytes : List ℕ) (program : List Insn) (context_len count entries : ℕ) (old mid new : Option (List ℕ)) → IsProgramOf bytes program context_len → WritesJobs program context_len count old mid → Appends mid new (entries_line entries) → WritesPool count old new bytes
+pub pool_written : (bytes : List ℕ) (program : List Insn) (context_len count entries : ℕ)
+    (old mid new : Option (List ℕ)) → IsProgramOf bytes program context_len →
+    WritesJobs program context_len count old mid → Appends mid new (entries_line entries) →
+    WritesPool count old new bytes
 pool_written bytes program context_len count entries old mid new found wrote last = (
   wrote.outcomes,
   entries,
@@ -40,8 +46,11 @@ pool_written bytes program context_len count entries old mid new found wrote las
   Appends-trans old mid new (job_lines 0 wrote.outcomes) (entries_line entries) wrote.written last,
 )
 
-pub pool_told : (workers count : ℕ) (bytes : List ℕ) (program : List Insn) (context_len : ℕ) (f : PoolFault) (v : Verdict) → IsProgramOf bytes program context_len → IsFaultOf workers count f → IsPlainVerdict (pool_fault_number f) v → IsPoolRefusal workers count bytes v
-pool_told workers count bytes program context_len f v found fault told = inr (record { program = program; file = found.file; fault = f; is = fault; told = told })
+pub pool_told : (workers count : ℕ) (bytes : List ℕ) (program : List Insn) (context_len : ℕ) (f : PoolFault)
+    (v : Verdict) → IsProgramOf bytes program context_len → IsFaultOf workers count f →
+    IsPlainVerdict (pool_fault_number f) v → IsPoolRefusal workers count bytes v
+pool_told workers count bytes program context_len f v found fault told =
+    inr (record { program = program; file = found.file; fault = f; is = fault; told = told })
 
 -- what has the status 3 is not so where the status is 1
 pub not_so : (P : Type 0) (status : ℕ) → (P → status ≡ 3) → status ≡ 1 → P → ⊥

@@ -18,11 +18,22 @@ of_whole None after read P h (inr f) = record {}
 of_whole (Some bytes) None read P h (inr f) = absurd h
 of_whole (Some bytes) (Some rest) read P h (inr f) = subst P (sym h) (f rest)
 
-pub all_answered : (before after old new : Option (List ℕ)) → ((input text : List ℕ) × (last : History) × Consumes before after input × IsAtEnd after × Appends old new text × Answered Continues new_history (lines_of input) text last) → IfSome before (AnswersAll old new)
+pub all_answered : (before after old new : Option (List ℕ)) →
+    ((input text : List ℕ) × (last : History) × Consumes before after input × IsAtEnd after × Appends old new text ×
+    Answered Continues new_history (lines_of input) text last) → IfSome before (AnswersAll old new)
 all_answered before after old new (input, text, last, consumed, ended, written, answered) =
     Consumes-whole before after input (AnswersAll old new) consumed ended (record { text = text; last = last; answered = answered; written = written })
 
-pub stopped_before : (before after old new : Option (List ℕ)) (why : ScriptFault) → ((line : ℕ) × (why ≡ BadCommand line)) → ((read text : List ℕ) × Consumes before after read × Appends old new text × IsSoOfInput after read (λ input. FailsWith Continues IsNoCommand new_history input text why)) → IfSome before (AnswersBefore old new)
+pub stopped_before : (before after old new : Option (List ℕ)) (why : ScriptFault) →
+    ((line : ℕ) × (why ≡ BadCommand line)) → ((read text : List ℕ) × Consumes before after read × Appends old new text
+    × IsSoOfInput after read (λ input. FailsWith Continues IsNoCommand new_history input text why)) →
+    IfSome before (AnswersBefore old new)
 stopped_before before after old new why (line, is) (read, text, consumed, written, fails) =
-    let told : (input : List ℕ) → FailsWith Continues IsNoCommand new_history input text why → AnswersBefore old new input = λ input f. record { line = line; text = text; answered = f.before line is; written = written } in
+    let told : (input : List ℕ) → FailsWith Continues IsNoCommand new_history input text why →
+    AnswersBefore old new input = λ input f. record {
+      line = line;
+      text = text;
+      answered = f.before line is;
+      written = written;
+    } in
     of_whole before after read (AnswersBefore old new) consumed (so_of_input after read _ _ told fails)

@@ -53,7 +53,11 @@ no_more bound key a [] = omega arith
 no_more bound key a (e ∷ es) = one_le _ _ _ _ (above_later bound key e.0 a) (no_more bound key a es)
 
 -- at one entry: it has the key, or the key is among the rest
-fewer_by : (bound : Option (List ℕ)) (key : List ℕ) (i : ℕ) → IsAbove bound key → (e : List ℕ × ℕ) (es : List (List ℕ × ℕ)) (b : Bool) → eq_by_cmp (slice_cmp nat_cmp) key e.0 ≡ b → cond b (Some e.1) (find (slice_cmp nat_cmp) key es) ≡ Some i → (find (slice_cmp nat_cmp) key es ≡ Some i → above_in (Some key) es < above_in bound es) → above_in (Some key) (e ∷ es) < above_in bound (e ∷ es)
+fewer_by : (bound : Option (List ℕ)) (key : List ℕ) (i : ℕ) → IsAbove bound key →
+    (e : List ℕ × ℕ) (es : List (List ℕ × ℕ)) (b : Bool) → eq_by_cmp (slice_cmp nat_cmp) key e.0 ≡ b →
+    cond b (Some e.1) (find (slice_cmp nat_cmp) key es) ≡ Some i →
+    (find (slice_cmp nat_cmp) key es ≡ Some i → above_in (Some key) es < above_in bound es) →
+    above_in (Some key) (e ∷ es) < above_in bound (e ∷ es)
 fewer_by bound key i a e es true t g rest =
     let same : key ≡ e.0 = exact_bytes key e.0 (equal-is _ t) in
     let not_above : is_above (Some key) e.0 ≡ false = ap is_lt (equal-is _ t) in
@@ -61,7 +65,8 @@ fewer_by bound key i a e es true t g rest =
     new_lt _ _ _ _ not_above above (no_more bound key a es)
 fewer_by bound key i a e es false t g rest = one_lt _ _ _ _ (above_later bound key e.0 a) (rest g)
 
-fewer : (bound : Option (List ℕ)) (key : List ℕ) (i : ℕ) → IsAbove bound key → (es : List (List ℕ × ℕ)) → find (slice_cmp nat_cmp) key es ≡ Some i → above_in (Some key) es < above_in bound es
+fewer : (bound : Option (List ℕ)) (key : List ℕ) (i : ℕ) → IsAbove bound key → (es : List (List ℕ × ℕ)) →
+    find (slice_cmp nat_cmp) key es ≡ Some i → above_in (Some key) es < above_in bound es
 fewer bound key i a [] f = absurd (none-some i f)
 fewer bound key i a (e ∷ es) f =
     fewer_by bound key i a e es (eq_by_cmp (slice_cmp nat_cmp) key e.0) refl f (fewer bound key i a es)

@@ -10,7 +10,8 @@ use Rattle.world.specs.BoundTo.{IsBound, AreProgramsBound}
 use Rattle.bpf_model.proofs.Lists.{get-append, get-append_cases, map-next}
 
 -- Numbers that are found in a list are found in a longer one.
-pub found-more : {A : Type 0} (xs ys : List A) (numbers : List ℕ) (asked : List A) → map (slice_get xs) numbers ≡ map Some asked → map (slice_get (xs ++ ys)) numbers ≡ map Some asked
+pub found-more : {A : Type 0} (xs ys : List A) (numbers : List ℕ) (asked : List A) →
+    map (slice_get xs) numbers ≡ map Some asked → map (slice_get (xs ++ ys)) numbers ≡ map Some asked
 found-more xs ys [] [] e = refl
 found-more xs ys [] (a ∷ asked) e = absurd (cc)
 found-more xs ys (n ∷ numbers) [] e = absurd (cc)
@@ -22,16 +23,20 @@ found-more xs ys (n ∷ numbers) (a ∷ asked) e =
     cc
 
 -- One more number is found after the others.
-pub found-next : {A : Type 0} (xs : List A) (numbers : List ℕ) (asked : List A) (n : ℕ) (a : A) → map (slice_get xs) numbers ≡ map Some asked → slice_get xs n ≡ Some a → map (slice_get xs) (numbers ++ n ∷ []) ≡ map Some (asked ++ a ∷ [])
+pub found-next : {A : Type 0} (xs : List A) (numbers : List ℕ) (asked : List A) (n : ℕ) (a : A) →
+    map (slice_get xs) numbers ≡ map Some asked → slice_get xs n ≡ Some a →
+    map (slice_get xs) (numbers ++ n ∷ []) ≡ map Some (asked ++ a ∷ [])
 found-next xs numbers asked n a e here = map-next (slice_get xs) Some numbers asked n a e here
 
 -- programs stay bound where a map is added
-pub bound-still : (maps : List MapView) (v : MapView) (loaded : List Loaded) → AreProgramsBound (shapes_of_maps maps) loaded → AreProgramsBound (shapes_of_maps (maps ++ v ∷ [])) loaded
+pub bound-still : (maps : List MapView) (v : MapView) (loaded : List Loaded) →
+    AreProgramsBound (shapes_of_maps maps) loaded → AreProgramsBound (shapes_of_maps (maps ++ v ∷ [])) loaded
 bound-still maps v loaded bound p l at =
     subst (λ s. IsBoundTo s l.verified.shapes l.maps.items) (sym (map-append (λ w. w.shape) maps (v ∷ [])))
     (found-more (shapes_of_maps maps) (v.shape ∷ []) l.maps.items l.verified.shapes (bound p l at))
 
 -- one more program that is bound
-pub bound-more : (shapes : List MapShape) (loaded : List Loaded) (l : Loaded) → AreProgramsBound shapes loaded → IsBound shapes l → AreProgramsBound shapes (loaded ++ l ∷ [])
+pub bound-more : (shapes : List MapShape) (loaded : List Loaded) (l : Loaded) → AreProgramsBound shapes loaded →
+    IsBound shapes l → AreProgramsBound shapes (loaded ++ l ∷ [])
 bound-more shapes loaded l bound is p x at =
     elim (get-append_cases loaded l p x at) [ inl before ↦ bound p x before | inr last ↦ subst (IsBound shapes) last.1 is ]

@@ -33,10 +33,12 @@ real_same (suc n) event r = real_cons event (replicate n event) r (real_same n e
 pub nothing : (w : WorldView) → IsWorld w → Happen w [] w
 nothing w is = happen w [] w is real_nil refl
 
-pub one_event : (w : WorldView) (event : Event) (new : WorldView) → IsWorld w → IsReal event → new ≡ (full_reactions w (event ∷ [])).1 → Happen w (event ∷ []) new
+pub one_event : (w : WorldView) (event : Event) (new : WorldView) → IsWorld w → IsReal event →
+    new ≡ (full_reactions w (event ∷ [])).1 → Happen w (event ∷ []) new
 one_event w event new is real e = happen w (event ∷ []) new is (real_cons event [] real real_nil) e
 
-pub steps_happen : (w : WorldView) (run count : ℕ) (steps : List Event) (answer : Answer) (new : WorldView) → IsWorld w → IsReal (Step run) → MakesSteps w run count steps answer new → Happen w steps new
+pub steps_happen : (w : WorldView) (run count : ℕ) (steps : List Event) (answer : Answer) (new : WorldView) →
+    IsWorld w → IsReal (Step run) → MakesSteps w run count steps answer new → Happen w steps new
 steps_happen w run count steps answer new is real m =
     happen w steps new is (subst AreReal (sym m.steps_are) (real_same (m.moves + 1) (Step run) real)) m.new_is
 

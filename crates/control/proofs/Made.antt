@@ -18,7 +18,11 @@ use Rattle.control.specs.declared.session.Session.TheVariants as sessions
 once : (before after : List ℕ) (reply : Reply) → after ≡ before ++ reply_text reply → after ≡ before ++ flat_map reply_text (reply ∷ [])
 once before after reply text = text ∙ ap (λ (xs : List ℕ). before ++ xs) (sym (append-nil (reply_text reply)))
 
-pub map_made : (old : SetupView) (command : Command) (name : List ℕ) (shape : ShapeNumbers) (reply : Reply) (made : SetupView) (before after : List ℕ) → command ≡ commands.Map name shape → MapReplies old name (shape_of_numbers shape) reply made → after ≡ before ++ reply_text reply → (events : List Event) × (replies : List Reply) × SetupReplies old command events replies (sessions.Setup made) × (after ≡ before ++ flat_map reply_text replies)
+pub map_made : (old : SetupView) (command : Command) (name : List ℕ) (shape : ShapeNumbers) (reply : Reply)
+    (made : SetupView) (before after : List ℕ) → command ≡ commands.Map name shape →
+    MapReplies old name (shape_of_numbers shape) reply made → after ≡ before ++ reply_text reply →
+    (events : List Event) × (replies : List Reply) × SetupReplies old command events replies (sessions.Setup made) ×
+    (after ≡ before ++ flat_map reply_text replies)
 map_made old command name shape reply made before after is r text = (
   [],
   reply ∷ [],
@@ -26,7 +30,11 @@ map_made old command name shape reply made before after is r text = (
   once before after reply text,
 )
 
-pub load_made : (old : SetupView) (command : Command) (ctx_len : ℕ) (code : List ℕ) (names : List (List ℕ)) (reply : Reply) (made : SetupView) (before after : List ℕ) → command ≡ commands.Load ctx_len code names → LoadReplies old ctx_len code names reply made → after ≡ before ++ reply_text reply → (events : List Event) × (replies : List Reply) × SetupReplies old command events replies (sessions.Setup made) × (after ≡ before ++ flat_map reply_text replies)
+pub load_made : (old : SetupView) (command : Command) (ctx_len : ℕ) (code : List ℕ) (names : List (List ℕ))
+    (reply : Reply) (made : SetupView) (before after : List ℕ) → command ≡ commands.Load ctx_len code names →
+    LoadReplies old ctx_len code names reply made → after ≡ before ++ reply_text reply → (events : List Event) ×
+    (replies : List Reply) × SetupReplies old command events replies (sessions.Setup made) ×
+    (after ≡ before ++ flat_map reply_text replies)
 load_made old command ctx_len code names reply made before after is r text = (
   [],
   reply ∷ [],
@@ -36,7 +44,10 @@ load_made old command ctx_len code names reply made before after is r text = (
 
 -- the command that makes the world is neither `map` nor `load`
 module _ (old : SetupView) (replies : List Reply) (live : Live) (starts : TracksStart old) where
-  pub world_made : (command : Command) → ((name : List ℕ) (shape : ShapeNumbers) → command ≡ commands.Map name shape → ⊥) → ((ctx_len : ℕ) (code : List ℕ) (names : List (List ℕ)) → command ≡ commands.Load ctx_len code names → ⊥) → (r : LiveReplies (sealed old) command replies live) → SetupReplies old command r.served.events replies (sessions.Live live)
+  pub world_made : (command : Command) → ((name : List ℕ) (shape : ShapeNumbers) → command ≡ commands.Map name shape →
+      ⊥) → ((ctx_len : ℕ) (code : List ℕ) (names : List (List ℕ)) → command ≡ commands.Load ctx_len code names → ⊥) →
+      (r : LiveReplies (sealed old) command replies live) →
+      SetupReplies old command r.served.events replies (sessions.Live live)
   world_made (commands.Map name shape) no_map no_load r = absurd (no_map name shape refl)
   world_made (commands.Load ctx_len code names) no_map no_load r = absurd (no_load ctx_len code names refl)
   world_made (commands.Put name key value flags) no_map no_load r = (starts, (live, r, refl, refl))

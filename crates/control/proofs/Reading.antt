@@ -17,7 +17,12 @@ use Rattle.control.specs.Setups.{SetupView, shapes_made}
 use Rattle.world_laws.specs.Binding.{IsBoundTo}
 
 -- a refusal of the verifier that is not for want of memory
-pub unverified-reply : {E : Type 0} (s : SetupView) (code : List ℕ) (shapes : List MapShape) (maps : List ℕ) (ctx_len : ℕ) (program : List Insn) (refusal : ProgramRefusal) (result : Result Reply E) → IsProgram program → code ≡ text program → IsToldOf program refusal → (IsPlainWithMaps program shapes → refusal ≡ Memory) → IfOk result (λ _. refusal ≢ Memory) → IfOk result (λ reply. reply ≡ replies.Refused (refusal_number refusal) (refusal_slot refusal)) → IfOk result (λ reply. ReadReplies s code shapes maps ctx_len reply s)
+pub unverified-reply : {E : Type 0} (s : SetupView) (code : List ℕ) (shapes : List MapShape) (maps : List ℕ)
+    (ctx_len : ℕ) (program : List Insn) (refusal : ProgramRefusal) (result : Result Reply E) → IsProgram program →
+    code ≡ text program → IsToldOf program refusal → (IsPlainWithMaps program shapes → refusal ≡ Memory) →
+    IfOk result (λ _. refusal ≢ Memory) → IfOk result (λ reply.
+    reply ≡ replies.Refused (refusal_number refusal) (refusal_slot refusal)) →
+    IfOk result (λ reply. ReadReplies s code shapes maps ctx_len reply s)
 unverified-reply s code shapes maps ctx_len program refusal (Ok reply) is spelled told with-maps known told-as =
     inr (inl (
       record {
@@ -39,7 +44,11 @@ no-limit : (s : SetupView) (ctx_len : ℕ) → length s.programs < MAX_PROGRAMS 
 no-limit s ctx_len room fits = grind (arith, nat_tests)
 
 -- what the code is replied, for the maps that are named
-pub read-reply : {E : Type 0} (s new : SetupView) (ctx_len : ℕ) (code : List ℕ) (wanted : List (List ℕ)) (shapes : List MapShape) (maps : List ℕ) (result : Result Reply E) → length s.programs < MAX_PROGRAMS → ctx_len ≤ CTX_BYTES → AreMapsNamed s.registry.names wanted maps → IsBoundTo (shapes_made s) shapes maps → IfOk result (λ reply. ReadReplies s code shapes maps ctx_len reply new) → IfOk result (λ reply. LoadReplies s ctx_len code wanted reply new)
+pub read-reply : {E : Type 0} (s new : SetupView) (ctx_len : ℕ) (code : List ℕ) (wanted : List (List ℕ))
+    (shapes : List MapShape) (maps : List ℕ) (result : Result Reply E) → length s.programs < MAX_PROGRAMS →
+    ctx_len ≤ CTX_BYTES → AreMapsNamed s.registry.names wanted maps → IsBoundTo (shapes_made s) shapes maps →
+    IfOk result (λ reply. ReadReplies s code shapes maps ctx_len reply new) →
+    IfOk result (λ reply. LoadReplies s ctx_len code wanted reply new)
 read-reply s new ctx_len code wanted shapes maps (Ok reply) room fits named bound read =
     subst (λ o. LoadReplied o s ctx_len code wanted reply new) (sym (no-limit s ctx_len room fits))
     (inr (record { maps = maps; named = named; shapes = shapes; bound = bound; read = read }))

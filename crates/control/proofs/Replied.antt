@@ -13,7 +13,10 @@ use Rattle.control.specs.Lives.{IsReplied, Happen}
 use Rattle.control.specs.Replies.{Replies}
 
 -- many replies
-pub replied : (old : Live) (question asked : Asked) (events : List Event) (replies : List Reply) (world : WorldView) (before after : List ℕ) → question ≡ asked → Happen old.world events world → Replies old.world asked events replies world → after ≡ before ++ flat_map reply_text replies → IsReplied old question before after (record { world = world })
+pub replied : (old : Live) (question asked : Asked) (events : List Event) (replies : List Reply) (world : WorldView)
+    (before after : List ℕ) → question ≡ asked → Happen old.world events world →
+    Replies old.world asked events replies world → after ≡ before ++ flat_map reply_text replies →
+    IsReplied old question before after (record { world = world })
 replied old question asked events replies world before after is h r text = record {
   replies = replies;
   served = record {
@@ -25,7 +28,11 @@ replied old question asked events replies world before after is h r text = recor
 }
 
 -- one reply
-pub replied_once : (old : Live) (question asked : Asked) (events : List Event) (told reply : Reply) (world : WorldView) (before after : List ℕ) (result : Result (Unit {0}) AllocError) → question ≡ asked → Happen old.world events world → told ≡ reply → Replies old.world asked events (reply ∷ []) world → OnOk result (after ≡ before ++ reply_text told) → OnOk result (IsReplied old question before after (record { world = world }))
+pub replied_once : (old : Live) (question asked : Asked) (events : List Event) (told reply : Reply)
+    (world : WorldView) (before after : List ℕ) (result : Result (Unit {0}) AllocError) → question ≡ asked →
+    Happen old.world events world → told ≡ reply → Replies old.world asked events (reply ∷ []) world →
+    OnOk result (after ≡ before ++ reply_text told) → OnOk result
+    (IsReplied old question before after (record { world = world }))
 replied_once old question asked events told reply world before after (Ok u) is h same r text =
     replied old question asked events (reply ∷ []) world before after is h r
     (text ∙ ap (λ (xs : List ℕ). before ++ xs) (ap reply_text same ∙ sym (append-nil (reply_text reply))))

@@ -19,7 +19,9 @@ pub record HasMoved (w : WorldView) (run moves : ℕ) (now : WorldView) : Type 0
 pub no_moves : (w : WorldView) (run : ℕ) → HasMoved w run 0 w
 no_moves w run = record { answers_are = refl; now_is = refl }
 
-pub one_move : (w v new : WorldView) (run moves : ℕ) (answer : Answer) → HasMoved w run moves v → answer ≡ (full_reaction v (Step run)).0 → new ≡ (full_reaction v (Step run)).1 → answer ≡ Moved → HasMoved w run (moves + 1) new
+pub one_move : (w v new : WorldView) (run moves : ℕ) (answer : Answer) → HasMoved w run moves v →
+    answer ≡ (full_reaction v (Step run)).0 → new ≡ (full_reaction v (Step run)).1 → answer ≡ Moved →
+    HasMoved w run (moves + 1) new
 one_move w v new run moves answer h a n m = record {
   answers_are =
       sym (replicate_more moves Moved)
@@ -30,7 +32,10 @@ one_move w v new run moves answer h a n m = record {
       ∙ ap (λ (xs : List Event). (full_reactions w xs).1) (replicate_more moves (Step run));
 }
 
-pub last_step : (w v new : WorldView) (run count moves : ℕ) (answer : Answer) → HasMoved w run moves v → answer ≡ (full_reaction v (Step run)).0 → new ≡ (full_reaction v (Step run)).1 → moves < max count 1 → (moves + 1 ≡ max count 1) ⊎ (answer ≢ Moved) → MakesSteps w run count (replicate (moves + 1) (Step run)) answer new
+pub last_step : (w v new : WorldView) (run count moves : ℕ) (answer : Answer) → HasMoved w run moves v →
+    answer ≡ (full_reaction v (Step run)).0 → new ≡ (full_reaction v (Step run)).1 → moves < max count 1 →
+    (moves + 1 ≡ max count 1) ⊎ (answer ≢ Moved) → MakesSteps w run count (replicate (moves + 1) (Step run)) answer
+    new
 last_step w v new run count moves answer h a n few stops = record {
   moves = moves;
   steps_are = refl;

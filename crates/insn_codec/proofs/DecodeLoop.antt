@@ -63,20 +63,28 @@ starts_push n (x ∷ front) i =
 abbrev pub Only : List ℕ → Insn → List ℕ → Type 0
 Only rest i after = (j : Insn) → (r : List ℕ) → FitsInsn j → rest ≡ spelling j ++ r → (i ≡ j) × (after ≡ r)
 
-continues : (is front back : List Insn) (i : Insn) (rest after : List ℕ) → is ≡ front ++ back → rest ≡ text back → AllByRecursion FitsInsn back → 0 < length rest → Only rest i after → Continues is (front ++ i ∷ []) after
+continues : (is front back : List Insn) (i : Insn) (rest after : List ℕ) → is ≡ front ++ back → rest ≡ text back →
+    AllByRecursion FitsInsn back → 0 < length rest → Only rest i after → Continues is (front ++ i ∷ []) after
 continues is front [] i rest after whole r fits long only = absurd (omega (arith, ap (λ (x : List ℕ). length x) r))
 continues is front (j ∷ back) i rest after whole r fits long only =
     let e = only j (text back) fits.0 r in
     record { back = back; whole = whole ∙ rw e.0 (sym (append_assoc front (j ∷ []) back)); rest_is = e.1; fits = fits.1 }
 
-pub goes_on : (bytes : List ℕ) (front : List Insn) (starts : List ℕ) (slot : ℕ) (rest after : List ℕ) (i : Insn) → ReadSoFar bytes front starts slot rest → 0 < length rest → FitsInsn i → rest ≡ spelling i ++ after → Only rest i after → ReadSoFar bytes (front ++ i ∷ []) (starts ++ slot ∷ []) (slot + slot_count i) after
+pub goes_on : (bytes : List ℕ) (front : List Insn) (starts : List ℕ) (slot : ℕ) (rest after : List ℕ) (i : Insn) →
+    ReadSoFar bytes front starts slot rest → 0 < length rest → FitsInsn i → rest ≡ spelling i ++ after →
+    Only rest i after → ReadSoFar bytes (front ++ i ∷ []) (starts ++ slot ∷ []) (slot + slot_count i) after
 goes_on bytes front starts slot rest after i so_far long fits parts only =
-    let l : length rest ≡ 8 * slot_count i + length after = ap (λ (x : List ℕ). length x) parts ∙ length-append (spelling i) after ∙ ap (λ (k : ℕ). k + length after) (length_spelling i) in
+    let l : length rest ≡ 8 * slot_count i + length after = ap (λ (x : List ℕ). length x) parts ∙
+    length-append (spelling i) after ∙ ap (λ (k : ℕ). k + length after) (length_spelling i) in
     record {
-      parts = so_far.parts ∙ ap (λ (r : List ℕ). text front ++ r) parts ∙ sym (append_assoc (text front) (spelling i) after) ∙ ap (λ (t : List ℕ). t ++ after) (sym (text_push front i));
+      parts = so_far.parts ∙ ap (λ (r : List ℕ). text front ++ r) parts ∙
+          sym (append_assoc (text front) (spelling i) after) ∙
+          ap (λ (t : List ℕ). t ++ after) (sym (text_push front i));
       fits = All-push FitsInsn front i so_far.fits fits;
       slot_is = total_push front i ∙ ap (λ (k : ℕ). k + slot_count i) so_far.slot_is;
-      starts_are = rw (so_far.starts_are, starts_push 0 front i, ← so_far.slot_is) (ap (λ (k : ℕ). starts_from 0 front ++ k ∷ []) (let z : slot_total front ≡ 0 + slot_total front = omega arith in z));
+      starts_are = rw (so_far.starts_are, starts_push 0 front i, ← so_far.slot_is)
+          (ap (λ (k : ℕ). starts_from 0 front ++ k ∷ [])
+          (let z : slot_total front ≡ 0 + slot_total front = omega arith in z));
       left = omega (arith, so_far.left);
       bound = omega (arith, so_far.bound);
       only = λ is f e. let k = so_far.only is f e in continues is front k.back i rest after k.whole k.rest_is k.fits long only;

@@ -2,7 +2,9 @@
 use Rattle.std.proofs.Common.{◌≡◌, arith}
 use Rattle.bpf_model.specs.declared.opcode.Size.TheVariants.{Word32, Word64}
 use Rattle.bpf_model.specs.declared.opcode.AluCode.TheVariants.{Add, Sub, Mul, Div, Or, And, ShiftLeft, ShiftRight, Mod, Xor, Move, ShiftRightSigned}
-use Rattle.bpf_model.specs.declared.opcode.Condition.TheVariants.{Equal, Greater, GreaterOrEqual, SharesBits, NotEqual, SignedGreater, SignedGreaterOrEqual, Less, LessOrEqual, SignedLess, SignedLessOrEqual}
+use Rattle.bpf_model.specs.declared.opcode.Condition.TheVariants.{Equal, Greater, GreaterOrEqual, SharesBits}
+use Rattle.bpf_model.specs.declared.opcode.Condition.TheVariants.{NotEqual, SignedGreater, SignedGreaterOrEqual, Less}
+use Rattle.bpf_model.specs.declared.opcode.Condition.TheVariants.{LessOrEqual, SignedLess, SignedLessOrEqual}
 use Rattle.bpf_model.specs.declared.opcode.ByteOrder.TheVariants.{ToLittle, ToBig, Swap}
 use Rattle.bpf_model.specs.declared.opcode.Opcode.{Opcode}
 use Rattle.bpf_model.specs.declared.opcode.Opcode.TheVariants.{Alu, Negate, ByteSwap, Jump, JumpIf, Call, Exit, Load, LoadSigned, Store, Wide, Excluded}

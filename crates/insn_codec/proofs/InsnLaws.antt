@@ -1,5 +1,6 @@
 -- An instruction is read again from its slots.
-use Rattle.std.proofs.Common.{◌≡◌, ℕ, ◌+◌, ◌-◌, ◌*◌, ◌/◌, ◌%◌, ◌^◌, ◌<◌, Bool, false, cond, eqb, not, [], ◌∷◌, take, drop, Option, Some, None, refl, sym, ap, subst, ◌∙◌, arith, ℤ, pos, of_z, ◌⊎◌, inl, inr}
+use Rattle.std.proofs.Common.{◌≡◌, ℕ, ◌+◌, ◌-◌, ◌*◌, ◌/◌, ◌%◌, ◌^◌, ◌<◌, Bool, false, cond, eqb, not, [], ◌∷◌, take}
+use Rattle.std.proofs.Common.{drop, Option, Some, None, refl, sym, ap, subst, ◌∙◌, arith, ℤ, pos, of_z, ◌⊎◌, inl, inr}
 use Rattle.std.specs.Ordering.{int_eq}
 use Rattle.std.specs.Int.{w32, cast_signed}
 use Rattle.std.specs.Prelude.{option_to_list}
@@ -26,7 +27,8 @@ use Rattle.bpf_model.specs.declared.insn.CallKind.TheVariants.{Helper, Kernel}
 use Rattle.bpf_model.specs.declared.insn.Insn.{Insn}
 use Rattle.bpf_model.specs.declared.insn.Insn.TheVariants.{Alu, Unary, LoadNumber, LoadMap, Jump, JumpLong, JumpIf, Call, Exit, Load, LoadSigned, Store}
 use Rattle.bpf_model.specs.Opcode.{opcode_byte}
-use Rattle.bpf_model.specs.Spelling.{FitsInsn, slots_of, first_slot, tail_slot, opcode_of, code_of, alu_offset, extension_size, extension_bits, swap_bits, call_source}
+use Rattle.bpf_model.specs.Spelling.{FitsInsn, slots_of, first_slot, tail_slot, opcode_of, code_of, alu_offset}
+use Rattle.bpf_model.specs.Spelling.{extension_size, extension_bits, swap_bits, call_source}
 use Rattle.bpf_model.specs.Places.{slot_count}
 use Rattle.bpf_model.proofs.Lists.{heads, tails}
 use Rattle.insn_codec.specs.Begins.{BeginsWith}
@@ -48,19 +50,23 @@ shape (LoadNumber dst number) = inr (record { tail = tail_slot (cast_signed w32 
 shape (LoadMap dst map) = inr (record { tail = tail_slot (pos 0); slots = refl; count = refl })
 shape i = inl (record { slots = refl; count = refl })
 
-one_begins : (i : Insn) (s : Slot) (next : Option Slot) → IsOneSlot i → BeginsWith s next i → (first_slot i ≡ s) × (drop 1 (slots_of i) ≡ take (slot_count i - 1) (option_to_list next))
+one_begins : (i : Insn) (s : Slot) (next : Option Slot) → IsOneSlot i → BeginsWith s next i → (first_slot i ≡ s) ×
+    (drop 1 (slots_of i) ≡ take (slot_count i - 1) (option_to_list next))
 one_begins i s next one e =
     let h = heads (first_slot i) s [] [] (sym one.slots ∙ e ∙ ap (λ (n : ℕ). take n (s ∷ option_to_list next)) one.count) in
     (h, rw (one.slots, one.count) refl)
 
-two_begin : (i : Insn) (s : Slot) (next : Option Slot) → (two : IsTwoSlots i) → BeginsWith s next i → (first_slot i ≡ s) × (drop 1 (slots_of i) ≡ take (slot_count i - 1) (option_to_list next))
+two_begin : (i : Insn) (s : Slot) (next : Option Slot) → (two : IsTwoSlots i) → BeginsWith s next i →
+    (first_slot i ≡ s) × (drop 1 (slots_of i) ≡ take (slot_count i - 1) (option_to_list next))
 two_begin i s next two e =
-    let both : first_slot i ∷ two.tail ∷ [] ≡ s ∷ take 1 (option_to_list next) = sym two.slots ∙ e ∙ ap (λ (n : ℕ). take n (s ∷ option_to_list next)) two.count in
+    let both : first_slot i ∷ two.tail ∷ [] ≡ s ∷ take 1 (option_to_list next) = sym two.slots ∙ e ∙
+    ap (λ (n : ℕ). take n (s ∷ option_to_list next)) two.count in
     let behind = tails (first_slot i) s (two.tail ∷ []) (take 1 (option_to_list next)) both in
     (heads (first_slot i) s (two.tail ∷ []) (take 1 (option_to_list next)) both, rw (two.slots, two.count) behind)
 
 -- the first slot, and the rest of the slots
-pub begins_parts : (i : Insn) (s : Slot) (next : Option Slot) → BeginsWith s next i → (first_slot i ≡ s) × (drop 1 (slots_of i) ≡ take (slot_count i - 1) (option_to_list next))
+pub begins_parts : (i : Insn) (s : Slot) (next : Option Slot) → BeginsWith s next i → (first_slot i ≡ s) ×
+    (drop 1 (slots_of i) ≡ take (slot_count i - 1) (option_to_list next))
 begins_parts i s next e = elim (shape i) [ inl one ↦ one_begins i s next one e | inr two ↦ two_begin i s next two e ]
 
 first_opcode : (i : Insn) → (first_slot i).opcode ≡ opcode_byte (opcode_of i)
@@ -167,7 +173,9 @@ half None = 0
 half (Some t) = of_z w32 t.imm
 
 abbrev made : Opcode → Slot → Option Slot → Insn
-made (opcodes.Alu code size sources.Register) s next = cond (is_signed_move code s.offset) (Unary (MoveSigned (extension_for size s.offset) s.src) s.dst) (Alu (operation_for code s.offset) size s.dst (operand.Register s.src))
+made (opcodes.Alu code size sources.Register) s next =
+    cond (is_signed_move code s.offset) (Unary (MoveSigned (extension_for size s.offset) s.src) s.dst)
+    (Alu (operation_for code s.offset) size s.dst (operand.Register s.src))
 made (opcodes.Alu code size sources.Immediate) s next = Alu (operation_for code s.offset) size s.dst (operand.Immediate s.imm)
 made (opcodes.Negate size) s next = Unary (Negate size) s.dst
 made (opcodes.ByteSwap order) s next = Unary (ByteSwap order (width_for s.imm)) s.dst
@@ -187,7 +195,8 @@ made (opcodes.Excluded excluded) s next = Exit
 number_again : (n low high : ℕ) → n < 2 ^ 64 → low ≡ n % 2 ^ 32 → high ≡ n / 2 ^ 32 → low + high * 2 ^ 32 ≡ n
 number_again n low high lt e f = omega arith
 
-made_first : (i : Insn) (next : Option Slot) → FitsInsn i → drop 1 (slots_of i) ≡ take (slot_count i - 1) (option_to_list next) → made (opcode_of i) (first_slot i) next ≡ i
+made_first : (i : Insn) (next : Option Slot) → FitsInsn i →
+    drop 1 (slots_of i) ≡ take (slot_count i - 1) (option_to_list next) → made (opcode_of i) (first_slot i) next ≡ i
 made_first (Alu operation size dst (operand.Register src)) next fits e = let o = operation_again operation in rw (o.1, o.0) refl
 made_first (Alu operation size dst (operand.Immediate imm)) next fits e = let o = operation_again operation in rw o.0 refl
 made_first (Unary (MoveSigned extension src) dst) next fits e = let o = extension_again extension in rw (o.1, o.0) refl
@@ -195,7 +204,9 @@ made_first (Unary (ByteSwap order width) dst) next fits e = rw (width_again widt
 made_first (LoadNumber dst number) None fits e = absurd cc
 made_first (LoadNumber dst number) (Some t) fits e =
     let a = of_z-to_z w32 (number % 2 ^ 32) (omega arith) in
-    let b : of_z w32 t.imm ≡ number / 2 ^ 32 = ap (of_z w32) (let k : t.imm ≡ cast_signed w32 (number / 2 ^ 32) = cc in k) ∙ of_z-to_z w32 (number / 2 ^ 32) (omega (arith, fits.1)) in
+    let b : of_z w32 t.imm ≡ number / 2 ^ 32 = ap (of_z w32)
+    (let k : t.imm ≡ cast_signed w32 (number / 2 ^ 32) = cc in k) ∙
+    of_z-to_z w32 (number / 2 ^ 32) (omega (arith, fits.1)) in
     ap (LoadNumber dst) (number_again number _ _ fits.1 a b)
 made_first (Call kind function) next fits e = rw (kind_again kind) refl
 made_first (Unary (Negate size) dst) next fits e = refl
@@ -213,5 +224,6 @@ made_first (Store width dst offset (operand.Immediate imm)) next fits e = refl
 made_again : (i : Insn) (s : Slot) (next : Option Slot) → FitsInsn i → BeginsWith s next i → made (opcode_of i) s next ≡ i
 made_again i s next fits e = let p = begins_parts i s next e in subst (λ (x : Slot). made (opcode_of i) x next ≡ i) p.0 (made_first i next fits p.1)
 
-pub same : (i j : Insn) (s : Slot) (next : Option Slot) → FitsInsn i → FitsInsn j → BeginsWith s next i → BeginsWith s next j → opcode_of i ≡ opcode_of j → i ≡ j
+pub same : (i j : Insn) (s : Slot) (next : Option Slot) → FitsInsn i → FitsInsn j → BeginsWith s next i →
+    BeginsWith s next j → opcode_of i ≡ opcode_of j → i ≡ j
 same i j s next f g d e o = sym (made_again i s next f d) ∙ ap (λ (k : Opcode). made k s next) o ∙ made_again j s next g e

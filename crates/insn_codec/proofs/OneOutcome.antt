@@ -1,5 +1,6 @@
 -- No two faults of one input, none where it is a text, and no two programs with one text.
-use Rattle.std.proofs.Common.{◌≡◌, ℕ, ◌*◌, ◌%◌, ◌<◌, ◌≤◌, Bool, List, [], ◌∷◌, ◌++◌, length, Option, Some, None, refl, sym, ap, subst, ◌∙◌, arith, append_assoc, drop, cond}
+use Rattle.std.proofs.Common.{◌≡◌, ℕ, ◌*◌, ◌%◌, ◌<◌, ◌≤◌, Bool, List, [], ◌∷◌, ◌++◌, length, Option, Some, None, refl}
+use Rattle.std.proofs.Common.{sym, ap, subst, ◌∙◌, arith, append_assoc, drop, cond}
 use Rattle.std.specs.List.{AllByRecursion}
 use Rattle.std.proofs.lemmas.Bool.Decides.{nat_tests}
 use Rattle.std.proofs.lemmas.List.{append-nil, length-append}
@@ -46,18 +47,24 @@ spelled_has_none bytes x i f fits p h =
     let e = opcodes_are _ h.0 (Some (opcode_of i)) h.1 (opcode_is i _ _ a.begins) in
     let n = no_flaw i _ _ fits a.begins in
     let s = included i in
-    let k : first_flaw (Some (opcode_of i)) (slot_at bytes) (next_slot_at bytes) ≡ Some f = ap (λ (o : Option Opcode). first_flaw o (slot_at bytes) (next_slot_at bytes)) (sym e) ∙ h.2 in
+    let k : first_flaw (Some (opcode_of i)) (slot_at bytes) (next_slot_at bytes) ≡ Some f =
+    ap (λ (o : Option Opcode). first_flaw o (slot_at bytes) (next_slot_at bytes)) (sym e) ∙ h.2 in
     none_some (ap (λ (b : Bool). cond b (Some OutsideProfile) (flaw_with (opcode_of i) (slot_at bytes) (next_slot_at bytes))) s) n k
   where
     none_some : {u v : Option InsnFlaw} → u ≡ v → v ≡ None → u ≡ Some f → ⊥
     none_some p q r = cc
 
-pub one_first_flaw : (bytes r q : List ℕ) (front back : List Insn) (f g : InsnFlaw) → AllByRecursion FitsInsn front → AllByRecursion FitsInsn back → bytes ≡ text front ++ r → bytes ≡ text back ++ q → IsInsnFlawAt r f → IsInsnFlawAt q g → (f ≡ g) × (slot_total front ≡ slot_total back)
+pub one_first_flaw : (bytes r q : List ℕ) (front back : List Insn) (f g : InsnFlaw) → AllByRecursion FitsInsn front →
+    AllByRecursion FitsInsn back → bytes ≡ text front ++ r → bytes ≡ text back ++ q → IsInsnFlawAt r f →
+    IsInsnFlawAt q g → (f ≡ g) × (slot_total front ≡ slot_total back)
 one_first_flaw bytes r q [] [] f g a b p s h k = (one_flaw q f g (subst (λ (x : List ℕ). IsInsnFlawAt x f) (sym p ∙ s) h) k, refl)
-one_first_flaw bytes r q [] (j ∷ back) f g a b p s h k = absurd (spelled_has_none r (text back ++ q) j f b.0 (sym p ∙ s ∙ append_assoc (spelling j) (text back) q) h)
-one_first_flaw bytes r q (i ∷ front) [] f g a b p s h k = absurd (spelled_has_none q (text front ++ r) i g a.0 (sym s ∙ p ∙ append_assoc (spelling i) (text front) r) k)
+one_first_flaw bytes r q [] (j ∷ back) f g a b p s h k =
+    absurd (spelled_has_none r (text back ++ q) j f b.0 (sym p ∙ s ∙ append_assoc (spelling j) (text back) q) h)
+one_first_flaw bytes r q (i ∷ front) [] f g a b p s h k =
+    absurd (spelled_has_none q (text front ++ r) i g a.0 (sym s ∙ p ∙ append_assoc (spelling i) (text front) r) k)
 one_first_flaw bytes r q (i ∷ front) (j ∷ back) f g a b p s h k =
-    let e = one_first bytes (text front ++ r) (text back ++ q) i j a.0 b.0 (p ∙ append_assoc (spelling i) (text front) r) (s ∙ append_assoc (spelling j) (text back) q) in
+    let e = one_first bytes (text front ++ r) (text back ++ q) i j a.0 b.0
+    (p ∙ append_assoc (spelling i) (text front) r) (s ∙ append_assoc (spelling j) (text back) q) in
     let t = one_first_flaw (text front ++ r) r q front back f g a.1 b.1 refl e.1 h k in
     (t.0, omega (arith, total_cons i front, total_cons j back, t.1, ap slot_count e.0))
 
@@ -77,10 +84,18 @@ one_fault bytes f (faults.Insn g t) a b h k = let w = k.0 in absurd cc
 one_fault bytes f g a b h k = cc
 
 long_text : (i : Insn) (is : List Insn) (rest : List ℕ) → [] ≡ text (i ∷ is) ++ rest → ⊥
-long_text i is rest e = omega (arith, slot_count_some i, total_cons i is, length_text (i ∷ is), length-append (text (i ∷ is)) rest, ap (λ (x : List ℕ). length x) e)
+long_text i is rest e = omega (
+  arith,
+  slot_count_some i,
+  total_cons i is,
+  length_text (i ∷ is),
+  length-append (text (i ∷ is)) rest,
+  ap (λ (x : List ℕ). length x) e,
+)
 
 -- no flaw stands in a text
-text_has_none : (is front : List Insn) (rest : List ℕ) (f : InsnFlaw) → AllByRecursion FitsInsn is → AllByRecursion FitsInsn front → text is ≡ text front ++ rest → 0 < length rest → IsInsnFlawAt rest f → ⊥
+text_has_none : (is front : List Insn) (rest : List ℕ) (f : InsnFlaw) → AllByRecursion FitsInsn is →
+    AllByRecursion FitsInsn front → text is ≡ text front ++ rest → 0 < length rest → IsInsnFlawAt rest f → ⊥
 text_has_none [] [] rest f a b p more h = omega (arith, more, ap (λ (x : List ℕ). length x) p)
 text_has_none [] (j ∷ front) rest f a b p more h = long_text j front rest p
 text_has_none (i ∷ is) [] rest f a b p more h = spelled_has_none rest (text is) i f a.0 (sym p) h

@@ -1,5 +1,6 @@
 -- An instruction at the front of bytes, and its slots.
-use Rattle.std.proofs.Common.{◌≡◌, ℕ, ◌*◌, ◌/◌, ◌%◌, ◌^◌, ◌<◌, ◌≤◌, List, [], ◌∷◌, ◌++◌, length, take, drop, Option, Some, None, refl, sym, ap, subst, ◌∙◌, arith, ℤ, pos, inl, inr}
+use Rattle.std.proofs.Common.{◌≡◌, ℕ, ◌*◌, ◌/◌, ◌%◌, ◌^◌, ◌<◌, ◌≤◌, List, [], ◌∷◌, ◌++◌, length, take, drop, Option}
+use Rattle.std.proofs.Common.{Some, None, refl, sym, ap, subst, ◌∙◌, arith, ℤ, pos, inl, inr}
 use Rattle.std.specs.Int.{w16, w32, cast_signed}
 use Rattle.std.specs.Prelude.{FitsSigned, option_to_list}
 use Rattle.std.specs.List.{flat_map}
@@ -20,7 +21,9 @@ use Rattle.bpf_model.specs.declared.insn.CallKind.TheVariants.{Helper, Kernel}
 use Rattle.bpf_model.specs.declared.insn.Insn.{Insn}
 use Rattle.bpf_model.specs.declared.insn.Insn.TheVariants.{Alu, Unary, LoadNumber, LoadMap, Jump, JumpLong, JumpIf, Call, Exit, Load, LoadSigned, Store}
 use Rattle.bpf_model.specs.Opcode.{opcode_byte}
-use Rattle.bpf_model.specs.Spelling.{slot_bytes, slot_at, next_slot_at, FitsSlot, FitsOperand, FitsInsn, spelling, slots_of, first_slot, tail_slot, opcode_of, alu_offset, operand_src, operand_imm, extension_bits, swap_bits, call_source}
+use Rattle.bpf_model.specs.Spelling.{slot_bytes, slot_at, next_slot_at, FitsSlot, FitsOperand, FitsInsn, spelling}
+use Rattle.bpf_model.specs.Spelling.{slots_of, first_slot, tail_slot, opcode_of, alu_offset, operand_src, operand_imm}
+use Rattle.bpf_model.specs.Spelling.{extension_bits, swap_bits, call_source}
 use Rattle.bpf_model.specs.Places.{slot_count}
 use Rattle.std.proofs.lemmas.Bool.{cases_lt, lt-ltb, le-ltb}
 use Rattle.std.proofs.lemmas.List.{drop-drop, length-append, length-drop}
@@ -41,17 +44,21 @@ pub record Front (i : Insn) (bytes : List ℕ) : Type 0 where
 one_slot : (bytes : List ℕ) (s : Slot) → IsBytes bytes → 8 ≤ length bytes → s ≡ slot_at bytes → bytes ≡ flat_map slot_bytes (s ∷ []) ++ drop 8 bytes
 one_slot bytes s small long e = rw e (slot_again bytes small long)
 
-two_slots : (bytes : List ℕ) (s t : Slot) → IsBytes bytes → 16 ≤ length bytes → s ≡ slot_at bytes → t ≡ slot_at (drop 8 bytes) → bytes ≡ flat_map slot_bytes (s ∷ t ∷ []) ++ drop 16 bytes
+two_slots : (bytes : List ℕ) (s t : Slot) → IsBytes bytes → 16 ≤ length bytes → s ≡ slot_at bytes →
+    t ≡ slot_at (drop 8 bytes) → bytes ≡ flat_map slot_bytes (s ∷ t ∷ []) ++ drop 16 bytes
 two_slots bytes s t small long e f =
     let a = slot_again bytes small (omega arith) in
     let b = slot_again (drop 8 bytes) (IsBytes-drop 8 bytes small) (omega (arith, length-drop 8 bytes)) in
     let d : drop 8 (drop 8 bytes) ≡ drop 16 bytes = drop-drop 8 8 bytes in
     rw (e, f) (a ∙ ap (λ (x : List ℕ). slot_bytes (slot_at bytes) ++ x) (b ∙ ap (λ (x : List ℕ). slot_bytes (slot_at (drop 8 bytes)) ++ x) d))
 
-front_of_one : (i : Insn) (bytes : List ℕ) → IsBytes bytes → 8 ≤ length bytes → slots_of i ≡ first_slot i ∷ [] → slot_count i ≡ 1 → first_slot i ≡ slot_at bytes → Front i bytes
+front_of_one : (i : Insn) (bytes : List ℕ) → IsBytes bytes → 8 ≤ length bytes → slots_of i ≡ first_slot i ∷ [] →
+    slot_count i ≡ 1 → first_slot i ≡ slot_at bytes → Front i bytes
 front_of_one i bytes small long e n p = record { within = rw n long; parts = rw (e, n) (one_slot bytes (first_slot i) small long p) }
 
-front_of_two : (i : Insn) (t : Slot) (bytes : List ℕ) → IsBytes bytes → 8 ≤ length bytes → slots_of i ≡ first_slot i ∷ t ∷ [] → slot_count i ≡ 2 → first_slot i ∷ t ∷ [] ≡ slot_at bytes ∷ take 1 (option_to_list (next_slot_at bytes)) → Front i bytes
+front_of_two : (i : Insn) (t : Slot) (bytes : List ℕ) → IsBytes bytes → 8 ≤ length bytes → slots_of i ≡ first_slot i
+    ∷ t ∷ [] → slot_count i ≡ 2 → first_slot i ∷ t ∷ [] ≡ slot_at bytes ∷ take 1 (option_to_list (next_slot_at bytes))
+    → Front i bytes
 front_of_two i t bytes small long e n p =
     elim (cases_lt (length bytes) 16) [
       | inl lt ↦ let k = next_none bytes lt in absurd cc
@@ -66,7 +73,8 @@ pub front_of : (i : Insn) (bytes : List ℕ) → IsBytes bytes → 8 ≤ length 
 front_of i bytes small long e =
     elim (shape i) [
       | inl one ↦ front_of_one i bytes small long one.slots one.count (begins_parts i _ _ e).0
-      | inr two ↦ front_of_two i two.tail bytes small long two.slots two.count (sym two.slots ∙ e ∙ ap (λ (n : ℕ). take n (slot_at bytes ∷ option_to_list (next_slot_at bytes))) two.count)
+      | inr two ↦ front_of_two i two.tail bytes small long two.slots two.count
+          (sym two.slots ∙ e ∙ ap (λ (n : ℕ). take n (slot_at bytes ∷ option_to_list (next_slot_at bytes))) two.count)
     ]
 
 opcode_fits : (o : Opcode) → opcode_byte o < 256
@@ -87,7 +95,15 @@ zero_32 = omega (arith, ints)
 source_fits : (n : ℕ) → n ≤ 10 → n < 16
 source_fits n h = omega arith
 
-slot_fits : (o : Opcode) (dst src : ℕ) (offset imm : ℤ) → dst ≤ 10 → src ≤ 10 → FitsSigned w16 offset → FitsSigned w32 imm → FitsSlot (record { opcode = opcode_byte o; dst = dst; src = src; offset = offset; imm = imm })
+slot_fits : (o : Opcode) (dst src : ℕ) (offset imm : ℤ) → dst ≤ 10 → src ≤ 10 → FitsSigned w16 offset →
+    FitsSigned w32 imm → FitsSlot (record {
+      opcode = opcode_byte o;
+      dst = dst;
+      src = src;
+      offset = offset;
+      imm =
+          imm;
+    })
 slot_fits o dst src offset imm d s f g = record { opcode = opcode_fits o; dst = source_fits dst d; src = source_fits src s; offset = f; imm = g }
 
 none : 0 ≤ 10
@@ -133,15 +149,19 @@ operand_fits (operand.Register src) f = (f, zero_32)
 operand_fits (operand.Immediate imm) f = (none, f)
 
 first_slot_fits : (i : Insn) → FitsInsn i → FitsSlot (first_slot i)
-first_slot_fits (Alu operation size dst src) f = let o = operand_fits src f.1 in slot_fits (opcode_of (Alu operation size dst src)) _ _ _ _ f.0 o.0 (offset_fits operation) o.1
+first_slot_fits (Alu operation size dst src) f = let o =
+    operand_fits src f.1 in slot_fits (opcode_of (Alu operation size dst src)) _ _ _ _ f.0 o.0 (offset_fits operation)
+    o.1
 first_slot_fits (Unary (Negate size) dst) f = slot_fits (opcode_of (Unary (Negate size) dst)) _ _ _ _ f.0 none zero_16 zero_32
 first_slot_fits (Unary (ByteSwap order width) dst) f = slot_fits (opcode_of (Unary (ByteSwap order width) dst)) _ _ _ _ f.0 none zero_16 (swap_fits width)
-first_slot_fits (Unary (MoveSigned extension src) dst) f = slot_fits (opcode_of (Unary (MoveSigned extension src) dst)) _ _ _ _ f.0 f.1 (extension_fits extension) zero_32
+first_slot_fits (Unary (MoveSigned extension src) dst) f =
+    slot_fits (opcode_of (Unary (MoveSigned extension src) dst)) _ _ _ _ f.0 f.1 (extension_fits extension) zero_32
 first_slot_fits (LoadNumber dst number) f = slot_fits (opcode_of (LoadNumber dst number)) _ _ _ _ f.0 none zero_16 (low_fits number)
 first_slot_fits (LoadMap dst map) f = slot_fits (opcode_of (LoadMap dst map)) _ _ _ _ f.0 five zero_16 f.1
 first_slot_fits (Jump offset) f = slot_fits (opcode_of (Jump offset)) _ _ _ _ none none f zero_32
 first_slot_fits (JumpLong offset) f = slot_fits (opcode_of (JumpLong offset)) _ _ _ _ none none zero_16 f
-first_slot_fits (JumpIf condition size dst src offset) f = let o = operand_fits src f.1 in slot_fits (opcode_of (JumpIf condition size dst src offset)) _ _ _ _ f.0 o.0 f.2 o.1
+first_slot_fits (JumpIf condition size dst src offset) f = let o =
+    operand_fits src f.1 in slot_fits (opcode_of (JumpIf condition size dst src offset)) _ _ _ _ f.0 o.0 f.2 o.1
 first_slot_fits (Call kind function) f = slot_fits (opcode_of (Call kind function)) _ _ _ _ none (kind_fits kind) zero_16 f
 first_slot_fits Exit f = slot_fits (opcode_of Exit) _ _ _ _ none none zero_16 zero_32
 first_slot_fits (Load width dst src offset) f = slot_fits (opcode_of (Load width dst src offset)) _ _ _ _ f.0 f.1 f.2 zero_32
@@ -167,12 +187,16 @@ pub record Again (i : Insn) (bytes rest : List ℕ) : Type 0 where
 one_again : (s : Slot) (rest : List ℕ) → FitsSlot s → s ∷ [] ≡ slot_at (slot_bytes s ++ rest) ∷ []
 one_again s rest f = rw (slot_at-slot_bytes s rest f) refl
 
-two_again : (s t : Slot) (rest : List ℕ) → FitsSlot s → FitsSlot t → s ∷ t ∷ [] ≡ slot_at (slot_bytes s ++ (slot_bytes t ++ rest)) ∷ take 1 (option_to_list (next_slot_at (slot_bytes s ++ (slot_bytes t ++ rest))))
+two_again : (s t : Slot) (rest : List ℕ) → FitsSlot s → FitsSlot t → s ∷ t
+    ∷ [] ≡ slot_at (slot_bytes s ++ (slot_bytes t ++ rest))
+    ∷ take 1 (option_to_list (next_slot_at (slot_bytes s ++ (slot_bytes t ++ rest))))
 two_again s t rest f g =
     let bytes : List ℕ = slot_bytes s ++ (slot_bytes t ++ rest) in
     let a : slot_at bytes ≡ s = slot_at-slot_bytes s (slot_bytes t ++ rest) f in
     let b : slot_at (drop 8 bytes) ≡ t = slot_at-slot_bytes t rest g in
-    let n : next_slot_at bytes ≡ Some t = next_some bytes (omega (arith, length-append (slot_bytes s) (slot_bytes t ++ rest), length-append (slot_bytes t) rest)) ∙ ap (λ (x : Slot). Some x) b in
+    let n : next_slot_at bytes ≡ Some t = next_some bytes
+    (omega (arith, length-append (slot_bytes s) (slot_bytes t ++ rest), length-append (slot_bytes t) rest)) ∙
+    ap (λ (x : Slot). Some x) b in
     ap (λ (x : Slot). x ∷ take 1 (option_to_list (Some t))) (sym a) ∙ ap (λ (o : Option Slot). slot_at bytes ∷ take 1 (option_to_list o)) (sym n)
 
 again_one : (i : Insn) (rest : List ℕ) → IsOneSlot i → FitsSlot (first_slot i) → Again i (spelling i ++ rest) rest
@@ -182,4 +206,8 @@ again_two : (i : Insn) (rest : List ℕ) → (two : IsTwoSlots i) → FitsSlot (
 again_two i rest two f g = record { begins = rw (two.slots, two.count) (two_again (first_slot i) two.tail rest f g); rest_is = rw (two.slots, two.count) refl }
 
 pub again : (i : Insn) (rest : List ℕ) → FitsInsn i → Again i (spelling i ++ rest) rest
-again i rest f = elim (shape i) [ inl one ↦ again_one i rest one (first_slot_fits i f) | inr two ↦ again_two i rest two (first_slot_fits i f) (tail_fits i f two) ]
+again i rest f = elim (shape i) [
+  | inl one ↦ again_one i rest one (first_slot_fits i f)
+  | inr two ↦
+      again_two i rest two (first_slot_fits i f) (tail_fits i f two)
+]

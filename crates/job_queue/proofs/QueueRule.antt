@@ -1,5 +1,6 @@
 -- Each move keeps the queue's rule.
-use Rattle.std.proofs.Common.{◌≡◌, ◌≢◌, ◌⊎◌, ℕ, zero, suc, ◌+◌, ◌<◌, ◌≤◌, true, false, true≢false, List, [], ◌∷◌, ◌++◌, length, set, refl, sym, ◌∙◌, subst, ⊎_elim, inl, inr, arith, length-append}
+use Rattle.std.proofs.Common.{◌≡◌, ◌≢◌, ◌⊎◌, ℕ, zero, suc, ◌+◌, ◌<◌, ◌≤◌, true, false, true≢false, List, [], ◌∷◌}
+use Rattle.std.proofs.Common.{◌++◌, length, set, refl, sym, ◌∙◌, subst, ⊎_elim, inl, inr, arith, length-append}
 use mathlib.Core.Option.{some, some-injective, some-ne-none}
 use lib.ListN.{get_elem?}
 use Rattle.crossbeam_queue.specs.Fifo.{Pushes, Pops, Forks, Learns}
@@ -32,11 +33,13 @@ begins = record { front = 0; putter = 0; in_order = tt; each = one; apart = λ b
     none (suc by) v e x a = absurd (some-ne-none v (sym e))
 
 abbrev Apart : List PassView → Type 0
-Apart views = (by other x : ℕ) (v w : PassView) → by ≢ other → get_elem? views by ≡ some v → get_elem? views other ≡ some w → WasTaken x v.taken → WasTaken x w.taken → ⊥
+Apart views = (by other x : ℕ) (v w : PassView) → by ≢ other → get_elem? views by ≡ some v →
+    get_elem? views other ≡ some w → WasTaken x v.taken → WasTaken x w.taken → ⊥
 
 -- after a change of the pass `by` from v to w
 module _ (views : List PassView) (by : ℕ) (v w : PassView) (at : get_elem? views by ≡ some v) where
-  each_set : (F : ℕ → PassView → Type 0) → F by w → ((j : ℕ) (u : PassView) → j ≢ by → get_elem? views j ≡ some u → F j u) → (j : ℕ) (u : PassView) → get_elem? (set views by w) j ≡ some u → F j u
+  each_set : (F : ℕ → PassView → Type 0) → F by w → ((j : ℕ) (u : PassView) → j ≢ by → get_elem? views j ≡ some u →
+      F j u) → (j : ℕ) (u : PassView) → get_elem? (set views by w) j ≡ some u → F j u
   each_set F mine others j u e = ⊎_elim (λ (t : (j ≡ by) × (w ≡ u)). subst (λ (y : ℕ × PassView). F y.0 y.1) (λ i. (sym t.0 i, t.1 i)) mine)
       (λ (t : (j ≢ by) × (get_elem? views j ≡ some u)). others j u t.0 t.1) (at_set views by j w u e)
 
@@ -44,7 +47,8 @@ module _ (views : List PassView) (by : ℕ) (v w : PassView) (at : get_elem? vie
       → (k : ℕ) (q : PassView) (y : ℕ) → k ≢ by → get_elem? views k ≡ some q → WasTaken y w.taken → WasTaken y q.taken → ⊥
   mixed apart new k q y ne e a b = ⊎_elim (λ t. apart by k y v q (λ z. ne (sym z)) at e t b) (λ t. t k q e b) (new y a)
 
-  apart_set : Apart views → ((y : ℕ) → WasTaken y w.taken → WasTaken y v.taken ⊎ ((j : ℕ) (u : PassView) → get_elem? views j ≡ some u → WasTaken y u.taken → ⊥)) → Apart (set views by w)
+  apart_set : Apart views → ((y : ℕ) → WasTaken y w.taken → WasTaken y v.taken
+      ⊎ ((j : ℕ) (u : PassView) → get_elem? views j ≡ some u → WasTaken y u.taken → ⊥)) → Apart (set views by w)
   apart_set apart new j k y p q ne a b c d = ⊎_elim
       (λ (s : (j ≡ by) × (w ≡ p)). ⊎_elim
       (λ (t : (k ≡ by) × (w ≡ q)). ne (s.0 ∙ sym t.0))
@@ -67,7 +71,8 @@ puts n by v x may is items views room h at =
         front = h.front;
         putter = h.putter;
         in_order = from_push h.front items x h.in_order (is ∙ own.1);
-        each = each_set views by v w at (KnowsPass h.front (length (items ++ x ∷ [])) h.putter) record { next = λ _. (own.0, let e = own.1 in omega arith); once = mine.once }
+        each = each_set views by v w at (KnowsPass h.front (length (items ++ x ∷ [])) h.putter)
+            record { next = λ _. (own.0, let e = own.1 in omega arith); once = mine.once }
             (λ j u ne e. let f = h.each j u e in record { next = λ p. absurd (ne ((f.next p).0 ∙ sym own.0)); once = f.once });
         apart = apart_set views by v w at h.apart (λ y a. inl a);
       },
@@ -80,15 +85,27 @@ takes by v x items views h at =
     let w = pass_view v.puts v.next (x ∷ v.taken) in
     let first : x ≡ h.front = h.in_order.0 in
     let len : length (x ∷ items) ≡ length items + 1 = omega arith in
-    let old : (j : ℕ) (u : PassView) → get_elem? views j ≡ some u → WasTaken x u.taken → ⊥ = λ j u e a. let f = h.each j u e in let l = below h.front x u.taken f.once a in absurd (omega arith) in (
+    let old : (j : ℕ) (u : PassView) → get_elem? views j ≡ some u → WasTaken x u.taken → ⊥ = λ j u e a. let f =
+    h.each j u e in let l = below h.front x u.taken f.once a in absurd (omega arith) in (
       w,
       record {
         front = h.front + 1;
         putter = h.putter;
         in_order = h.in_order.1;
-        each = each_set views by v w at (KnowsPass (h.front + 1) (length items) h.putter) record { next = λ p. ((mine.next p).0, let e = (mine.next p).1 in omega arith); once = (omega arith, subst (λ z. FallsFrom z v.taken) (sym first) mine.once) }
-            (λ j u ne e. let f = h.each j u e in record { next = λ p. ((f.next p).0, let e = (f.next p).1 in omega arith); once = falls_more h.front (h.front + 1) u.taken (omega arith) f.once });
-        apart = apart_set views by v w at h.apart (λ y a. ⊎_elim (λ (z : y ≡ x). inr (λ j u e b. old j u e (subst (λ t. WasTaken t u.taken) z b))) (λ t. inl t) a);
+        each = each_set views by v w at (KnowsPass (h.front + 1) (length items) h.putter)
+            record {
+              next = λ p. ((mine.next p).0, let e = (mine.next p).1 in omega arith);
+              once =
+                  (omega arith, subst (λ z. FallsFrom z v.taken) (sym first) mine.once);
+            }
+            (λ j u ne e. let f = h.each j u e in record {
+              next = λ p.
+                  ((f.next p).0, let e = (f.next p).1 in omega arith);
+              once =
+                  falls_more h.front (h.front + 1) u.taken (omega arith) f.once;
+            });
+        apart = apart_set views by v w at h.apart (λ y a.
+            ⊎_elim (λ (z : y ≡ x). inr (λ j u e b. old j u e (subst (λ t. WasTaken t u.taken) z b))) (λ t. inl t) a);
       },
       refl,
     )

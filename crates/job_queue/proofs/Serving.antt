@@ -1,5 +1,6 @@
 -- Results of stations, one after another, and where they stand in the end.
-use Rattle.std.proofs.Common.{◌≡◌, ℕ, ◌+◌, ◌<◌, List, [], ◌∷◌, ◌++◌, length, get_or, sym, ap, ◌∙◌, subst, arith, length-append, map, zero, suc, refl, take, drop, append-nil, ⊎_elim}
+use Rattle.std.proofs.Common.{◌≡◌, ℕ, ◌+◌, ◌<◌, List, [], ◌∷◌, ◌++◌, length, get_or, sym, ap, ◌∙◌, subst, arith}
+use Rattle.std.proofs.Common.{length-append, map, zero, suc, refl, take, drop, append-nil, ⊎_elim}
 use Rattle.std.specs.Prelude.{All, slice_get, slice_index_or, Option, Some, option_map, unwrap_or}
 use Rattle.std.specs.List.{AllZip}
 use Rattle.std.proofs.lemmas.List.Elements.{All-append, All-map}
@@ -18,15 +19,19 @@ use Rattle.job_queue.specs.Sheet.{IsAmong, HasResult, StandsIn, worker_of}
 use Rattle.job_queue.specs.Numbers.{WasTaken}
 
 -- one more result, after which the worker has served more
-pub one_more : {J W T : Type 0} (fits : W → W → J → T → Type 0) (jobs : List J) (first was is : W) → ((job : J) (served : T) → fits first was job served → fits first is job served)
-    → (xs : List (Numbered T)) (d : Numbered T) → All (IsRightNumbered fits jobs first was) xs → IsRightNumbered fits jobs first is d → All (IsRightNumbered fits jobs first is) (xs ++ d ∷ [])
+pub one_more : {J W T : Type 0} (fits : W → W → J → T → Type 0) (jobs : List J) (first was is : W) →
+    ((job : J) (served : T) → fits first was job served → fits first is job served)
+    → (xs : List (Numbered T)) (d : Numbered T) → All (IsRightNumbered fits jobs first was) xs →
+    IsRightNumbered fits jobs first is d → All (IsRightNumbered fits jobs first is) (xs ++ d ∷ [])
 one_more {J} {W} {T} fits jobs first was is more xs d all one k e l = dite (ℕ_discrete k (length xs))
-    (λ same. subst (λ z. IsRightNumbered fits jobs first is (get_or (xs ++ d ∷ []) z e)) (sym same) (subst (IsRightNumbered fits jobs first is) (sym (get_or-append_seam xs d [] e)) one))
+    (λ same. subst (λ z. IsRightNumbered fits jobs first is (get_or (xs ++ d ∷ []) z e)) (sym same)
+    (subst (IsRightNumbered fits jobs first is) (sym (get_or-append_seam xs d [] e)) one))
     (λ ne.
     let n : length (xs ++ d ∷ []) ≡ length xs + 1 = length-append xs (d ∷ []) in
     let low : k < length xs = omega arith in
     let r = all k e low in
-    subst (IsRightNumbered fits jobs first is) (sym (get_or-append xs (d ∷ []) e k low)) record { job = r.job; at = r.at; right = more r.job (get_or xs k e).served r.right })
+    subst (IsRightNumbered fits jobs first is) (sym (get_or-append xs (d ∷ []) e k low))
+    record { job = r.job; at = r.at; right = more r.job (get_or xs k e).served r.right })
 
 -- what a list has, a longer one has too
 pub slice_get_left : {X : Type 0} (xs ys : List X) (k : ℕ) (x : X) → slice_get xs k ≡ Some x → slice_get (xs ++ ys) k ≡ Some x
@@ -36,19 +41,23 @@ slice_get_left (z ∷ zs) ys (suc k) x e = slice_get_left zs ys k x e
 
 pub slice_get_right : {X : Type 0} (xs ys : List X) (k : ℕ) (x : X) → slice_get ys k ≡ Some x → slice_get (xs ++ ys) (length xs + k) ≡ Some x
 slice_get_right {X} [] ys k x e = let n : k ≡ 0 + k = omega arith in subst (λ z. slice_get ys z ≡ Some x) n e
-slice_get_right {X} (z ∷ zs) ys k x e = let n : suc (length zs + k) ≡ length (z ∷ zs) + k = omega arith in subst (λ i. slice_get ((z ∷ zs) ++ ys) i ≡ Some x) n (slice_get_right zs ys k x e)
+slice_get_right {X} (z ∷ zs) ys k x e = let n : suc (length zs + k) ≡ length (z ∷ zs) + k =
+    omega arith in subst (λ i. slice_get ((z ∷ zs) ++ ys) i ≡ Some x) n (slice_get_right zs ys k x e)
 
 pub among_before : {T : Type 0} (xs : List (Numbered T)) (d : Numbered T) (k : ℕ) (served : T) → IsAmong xs k served → IsAmong (xs ++ d ∷ []) k served
 among_before xs d k served a = record { index = a.index; at = slice_get_left xs (d ∷ []) a.index (record { number = k; served = served }) a.at }
 
-pub among_last : {T : Type 0} (xs : List (Numbered T)) (d : Numbered T) (k : ℕ) (served : T) → k ≡ d.number → served ≡ d.served → IsAmong (xs ++ d ∷ []) k served
+pub among_last : {T : Type 0} (xs : List (Numbered T)) (d : Numbered T) (k : ℕ) (served : T) → k ≡ d.number →
+    served ≡ d.served → IsAmong (xs ++ d ∷ []) k served
 among_last {T} xs d k served number same = record {
   index = length xs + 0;
-  at = slice_get_right xs (d ∷ []) 0 (record { number = k; served = served }) (ap (λ (z : Numbered T). Some z) (λ i. record { number = sym number i; served = sym same i }));
+  at = slice_get_right xs (d ∷ []) 0 (record { number = k; served = served })
+      (ap (λ (z : Numbered T). Some z) (λ i. record { number = sym number i; served = sym same i }));
 }
 
 -- one more number that was taken, and its result
-pub kept_more : {T : Type 0} (xs : List (Numbered T)) (d : Numbered T) (taken : List ℕ) (k : ℕ) → WasTaken k (d.number ∷ taken) → (WasTaken k taken → HasResult xs k) → HasResult (xs ++ d ∷ []) k
+pub kept_more : {T : Type 0} (xs : List (Numbered T)) (d : Numbered T) (taken : List ℕ) (k : ℕ) →
+    WasTaken k (d.number ∷ taken) → (WasTaken k taken → HasResult xs k) → HasResult (xs ++ d ∷ []) k
 kept_more xs d taken k is old = ⊎_elim (λ (e : k ≡ d.number). (d.served, among_last xs d k d.served e refl))
     (λ (t : WasTaken k taken). let r = old t in (r.0, among_before xs d k r.0 r.1)) is
 
@@ -57,7 +66,8 @@ pub taken_before : (x k : ℕ) (taken : List ℕ) (n : ℕ) → (x < n → ⊥) 
 taken_before x k taken n past low is = ⊎_elim (λ (e : k ≡ x). absurd (past (subst (λ z. z < n) e low))) (λ t. t) is
 
 -- a station with the same worker and results, which took no further number of a job
-pub still_served : {J W T : Type 0} (fits : W → W → J → T → Type 0) (later : W → W → Type 0) (jobs : List J) (of_queue : Pass ℕ PassView → Type 0) (ready : W → Type 0) (first : W) (s t : Station W T)
+pub still_served : {J W T : Type 0} (fits : W → W → J → T → Type 0) (later : W → W → Type 0) (jobs : List J)
+    (of_queue : Pass ℕ PassView → Type 0) (ready : W → Type 0) (first : W) (s t : Station W T)
     → HasServed fits later jobs of_queue ready first s → of_queue t.pass → t.worker ≡ s.worker → t.results.items ≡ s.results.items
     → ((k : ℕ) → WasTaken k (view t.pass).taken → k < length jobs → WasTaken k (view s.pass).taken) → HasServed fits later jobs of_queue ready first t
 still_served {J} {W} {T} fits later jobs of_queue ready first s t h pass worker results taken = record {
@@ -71,14 +81,16 @@ still_served {J} {W} {T} fits later jobs of_queue ready first s t h pass worker 
 pub stands_before : {W T : Type 0} (xs : List (Station W T)) (s : Station W T) (k : ℕ) (served : T) → StandsIn xs k served → StandsIn (xs ++ s ∷ []) k served
 stands_before xs s k served a = record { index = a.index; station = a.station; at = slice_get_left xs (s ∷ []) a.index a.station a.at; among = a.among }
 
-pub stands_last : {W T : Type 0} (xs : List (Station W T)) (s : Station W T) (k : ℕ) (served : T) → IsAmong s.results.items k served → StandsIn (xs ++ s ∷ []) k served
+pub stands_last : {W T : Type 0} (xs : List (Station W T)) (s : Station W T) (k : ℕ) (served : T) →
+    IsAmong s.results.items k served → StandsIn (xs ++ s ∷ []) k served
 stands_last xs s k served a = record { index = length xs + 0; station = s; at = slice_get_right xs (s ∷ []) 0 s refl; among = a }
 
 pub all_zip_same : {X : Type 0} (R : X → X → Type 0) → ((x : X) → R x x) → (xs : List X) → AllZip R xs xs
 all_zip_same R same [] = tt
 all_zip_same R same (x ∷ xs) = (same x, all_zip_same R same xs)
 
-pub all_zip_join : {J T : Type 0} (R : J → T → Type 0) (us : List J) (vs : List T) (xs : List J) (ys : List T) → AllZip R us vs → AllZip R xs ys → AllZip R (us ++ xs) (vs ++ ys)
+pub all_zip_join : {J T : Type 0} (R : J → T → Type 0) (us : List J) (vs : List T) (xs : List J) (ys : List T) →
+    AllZip R us vs → AllZip R xs ys → AllZip R (us ++ xs) (vs ++ ys)
 all_zip_join R [] [] xs ys h r = r
 all_zip_join R [] (v ∷ vs) xs ys h r = absurd h
 all_zip_join R (u ∷ us) [] xs ys h r = absurd h
@@ -86,7 +98,8 @@ all_zip_join R (u ∷ us) (v ∷ vs) xs ys h r = (h.0, all_zip_join R us vs xs y
 
 -- two lists of stations, one after the other, by a relation that holds at each index
 pub all_zip_stations : {W T : Type 0} (R : W → W → Type 0) (xs ys : List (Station W T)) → length ys ≡ length xs
-    → ((k : ℕ) (d : Station W T) → k < length xs → R (slice_index_or xs k d).worker (slice_index_or ys k d).worker) → AllZip R (map worker_of xs) (map worker_of ys)
+    → ((k : ℕ) (d : Station W T) → k < length xs → R (slice_index_or xs k d).worker (slice_index_or ys k d).worker) →
+    AllZip R (map worker_of xs) (map worker_of ys)
 all_zip_stations R [] [] e each = tt
 all_zip_stations R [] (y ∷ ys) e each = let no : ⊥ = omega arith in absurd no
 all_zip_stations R (x ∷ xs) [] e each = let no : ⊥ = omega arith in absurd no
@@ -102,10 +115,13 @@ module _ {J W T : Type 0} (fits : W → W → J → T → Type 0) (later : W →
       let at_x : slice_get xs s.index ≡ Some (get_or xs s.index s.station) = slice_get-get_or xs s.index s.station (omega arith) in
       let at_y : get_or ys s.index s.station ≡ s.station = get_or_from_slice_get ys s.index s.station s.station s.at in
       let first = (get_or xs s.index s.station).worker in
-      let work : HasServed fits later jobs of_queue ready first s.station = subst (HasServed fits later jobs of_queue ready first) at_y (each s.index s.station (omega arith)) in
+      let work : HasServed fits later jobs of_queue ready first s.station =
+      subst (HasServed fits later jobs of_queue ready first) at_y (each s.index s.station (omega arith)) in
       let a = s.among in
       let one : Numbered T = record { number = k; served = served } in
-      let r : IsRight fits jobs first s.station.worker k served = subst (IsRightNumbered fits jobs first s.station.worker) (get_or_from_slice_get s.station.results.items a.index one one a.at)
+      let r : IsRight fits jobs first s.station.worker k served =
+      subst (IsRightNumbered fits jobs first s.station.worker)
+      (get_or_from_slice_get s.station.results.items a.index one one a.at)
       (work.results a.index one (slice_get_within s.station.results.items a.index one a.at)) in
       record {
         job = r.job;
@@ -127,13 +143,16 @@ module _ {J W T : Type 0} (fits : W → W → J → T → Type 0) (later : W →
       (all_zip_join later front front (map worker_of xs) (map worker_of ys) none (all_zip_stations later xs ys same (λ k d l. (each k d l).later_now)))
 
   pub workers_ready : All ready front → All ready after
-  workers_ready all = subst (All ready) (sym is) (All-append ready front (map worker_of ys) all (All-map ready worker_of ys (λ k d l. (each k d (omega arith)).ready_now)))
+  workers_ready all = subst (All ready) (sym is) (All-append ready front (map worker_of ys) all
+      (All-map ready worker_of ys (λ k d l. (each k d (omega arith)).ready_now)))
 
 -- what was read out of the sheet is right for its job
-pub results_right : {J W T : Type 0} (fits : W → W → J → T → Type 0) (jobs : List J) (before after : List W) (lines : List (Option T)) (results : List T) → AreRightLines fits jobs before after lines
+pub results_right : {J W T : Type 0} (fits : W → W → J → T → Type 0) (jobs : List J) (before after : List W)
+    (lines : List (Option T)) (results : List T) → AreRightLines fits jobs before after lines
     → map (λ (z : T). Some z) results ≡ lines → AreServed fits jobs before after results
 results_right {J} {W} {T} fits jobs before after lines results right same k job served at is =
-    let r = right k served (subst (λ z. slice_get z k ≡ Some (Some served)) same (slice_get-map (λ (z : T). Some z) results k ∙ ap (option_map (λ (z : T). Some z)) is)) in
+    let r = right k served (subst (λ z. slice_get z k ≡ Some (Some served)) same
+    (slice_get-map (λ (z : T). Some z) results k ∙ ap (option_map (λ (z : T). Some z)) is)) in
     subst (λ z. IsServedByOne fits before after z served) (ap (λ (o : Option J). unwrap_or o job) (sym r.at ∙ at)) r.by_one
 
 -- what a mutable slice of a whole vector leaves in it

@@ -29,10 +29,13 @@ module _ (before : List ℕ) (start : ℕ) (at : length before ≡ start) (key v
   value-there : string_in all (start + length key.items) (length value.items) ≡ value
   value-there =
       let key-first : (key.items ++ value.items) ++ rest ≡ key.items ++ (value.items ++ rest) = append_assoc key.items value.items rest in
-      let parted : all ≡ (before ++ key.items) ++ (value.items ++ rest) = ap (λ (xs : List ℕ). before ++ xs) key-first ∙ sym (append_assoc before key.items (value.items ++ rest)) in
+      let parted : all ≡ (before ++ key.items) ++ (value.items ++ rest) = ap (λ (xs : List ℕ). before ++ xs) key-first
+      ∙ sym (append_assoc before key.items (value.items ++ rest)) in
       let l : length (before ++ key.items) ≡ length before + length key.items = length-append before key.items in
       let n : length (before ++ key.items) ≡ start + length key.items = omega (arith, l, at) in
-      let behind : drop (start + length key.items) all ≡ value.items ++ rest = ap (drop (start + length key.items)) parted ∙ drop_at (before ++ key.items) (value.items ++ rest) (start + length key.items) n in
+      let behind : drop (start + length key.items) all ≡ value.items ++ rest =
+      ap (drop (start + length key.items)) parted ∙
+      drop_at (before ++ key.items) (value.items ++ rest) (start + length key.items) n in
       ap (λ (xs : List ℕ). record { items = xs })
       (ap (take (length value.items)) behind ∙ take_at value.items rest (length value.items) refl)
 
@@ -42,16 +45,21 @@ two-strings key value rest =
     let b : length (key ++ value) ≡ length key + length value = length-append key value in
     omega (arith, a, b)
 
-pub updated-row : (worker start map flags k l : ℕ) (key value : ArrayVec ℕ) (answer : Answer) (outcome : Outcome) → answer_of outcome ≡ answer → k ≡ length key.items → l ≡ length value.items → k ≤ KEY_BYTES → l ≤ VALUE_BYTES →
+pub updated-row : (worker start map flags k l : ℕ) (key value : ArrayVec ℕ) (answer : Answer) (outcome : Outcome) →
+    answer_of outcome ≡ answer → k ≡ length key.items → l ≡ length value.items → k ≤ KEY_BYTES → l ≤ VALUE_BYTES →
     IsRowOf start (entry_from worker (events.Update map key value flags) answer) (rows.Updated worker outcome k l map flags start)
 updated-row worker start map flags k l key value answer outcome same ks ls short_key short_value = record {
   same = λ before at.
-      let key-is : string_in (before ++ ((key.items ++ value.items) ++ answer_bytes answer)) start k ≡ key = ap (string_in (before ++ ((key.items ++ value.items) ++ answer_bytes answer)) start) ks ∙ key-there before start at key value (answer_bytes answer) in
+      let key-is : string_in (before ++ ((key.items ++ value.items) ++ answer_bytes answer)) start k ≡ key =
+      ap (string_in (before ++ ((key.items ++ value.items) ++ answer_bytes answer)) start) ks ∙
+      key-there before start at key value (answer_bytes answer) in
       let value-is : string_in (before ++ ((key.items ++ value.items) ++ answer_bytes answer)) (start + k) l ≡ value =
       (ap (λ (n : ℕ). string_in (before ++ ((key.items ++ value.items) ++ answer_bytes answer)) (start + n) l) ks
       ∙ ap (string_in (before ++ ((key.items ++ value.items) ++ answer_bytes answer)) (start + length key.items)) ls)
       ∙ value-there before start at key value (answer_bytes answer) in
-      ap (λ (x : ArrayVec ℕ). entry_from worker (events.Update map x (string_in (before ++ ((key.items ++ value.items) ++ answer_bytes answer)) (start + k) l) flags) (answer_of outcome)) key-is
+      ap (λ (x : ArrayVec ℕ). entry_from worker (events.Update map x
+      (string_in (before ++ ((key.items ++ value.items) ++ answer_bytes answer)) (start + k) l) flags)
+      (answer_of outcome)) key-is
       ∙ (ap (λ (x : ArrayVec ℕ). entry_from worker (events.Update map key x flags) (answer_of outcome)) value-is
       ∙ ap (entry_from worker (events.Update map key value flags)) same);
   stored = let n = two-strings key.items value.items (answer_bytes answer) in (omega (arith, n, ks, ls), short_key, short_value);
@@ -61,17 +69,22 @@ pub found-row : (worker start map k l : ℕ) (key value : ArrayVec ℕ) → k �
     IsRowOf start (entry_from worker (events.Read map key) (answers.Found (Some value))) (rows.Found worker k l map start)
 found-row worker start map k l key value ks ls short_key short_value = record {
   same = λ before at.
-      let whole : before ++ (key.items ++ value.items) ≡ before ++ ((key.items ++ value.items) ++ []) = ap (λ (xs : List ℕ). before ++ xs) (sym (append-nil (key.items ++ value.items))) in
+      let whole : before ++ (key.items ++ value.items) ≡ before ++ ((key.items ++ value.items) ++ []) =
+      ap (λ (xs : List ℕ). before ++ xs) (sym (append-nil (key.items ++ value.items))) in
       let key-is : string_in (before ++ (key.items ++ value.items)) start k ≡ key =
-      (ap (λ (xs : List ℕ). string_in xs start k) whole ∙ ap (string_in (before ++ ((key.items ++ value.items) ++ [])) start) ks) ∙ key-there before start at key value [] in
+      (ap (λ (xs : List ℕ). string_in xs start k) whole ∙
+      ap (string_in (before ++ ((key.items ++ value.items) ++ [])) start) ks) ∙
+      key-there before start at key value [] in
       let value-is : string_in (before ++ (key.items ++ value.items)) (start + k) l ≡ value =
       (ap (λ (xs : List ℕ). string_in xs (start + k) l) whole
       ∙ (ap (λ (n : ℕ). string_in (before ++ ((key.items ++ value.items) ++ [])) (start + n) l) ks
       ∙ ap (string_in (before ++ ((key.items ++ value.items) ++ [])) (start + length key.items)) ls))
       ∙ value-there before start at key value [] in
-      ap (λ (x : ArrayVec ℕ). entry_from worker (events.Read map x) (answers.Found (Some (string_in (before ++ (key.items ++ value.items)) (start + k) l)))) key-is
+      ap (λ (x : ArrayVec ℕ). entry_from worker (events.Read map x)
+      (answers.Found (Some (string_in (before ++ (key.items ++ value.items)) (start + k) l)))) key-is
       ∙ ap (λ (x : ArrayVec ℕ). entry_from worker (events.Read map key) (answers.Found (Some x))) value-is;
-  stored = let n : length (key.items ++ value.items) ≡ length key.items + length value.items = length-append key.items value.items in (omega (arith, n, ks, ls), short_key, short_value);
+  stored = let n : length (key.items ++ value.items) ≡ length key.items + length value.items =
+      length-append key.items value.items in (omega (arith, n, ks, ls), short_key, short_value);
 }
 
 -- more bytes behind
@@ -82,24 +95,41 @@ string-kept bytes more start len inside =
     (ap (take len) (drop-append-le start bytes more (omega (arith, inside))) ∙ take-append-le len (drop start bytes) more (omega (arith, l, inside)))
 
 pub entry-kept : (bytes more : List ℕ) (row : Row) → IsStored (length bytes) row → entry_of (bytes ++ more) row ≡ entry_of bytes row
-entry-kept bytes more (rows.Started worker len prog run start) h = ap (λ (x : ArrayVec ℕ). entry_from worker (events.Start prog x) (answers.Started run)) (string-kept bytes more start len h.0)
-entry-kept bytes more (rows.NotStarted worker refusal len prog start) h = ap (λ (x : ArrayVec ℕ). entry_from worker (events.Start prog x) (answers.Refused refusal)) (string-kept bytes more start len h.0)
+entry-kept bytes more (rows.Started worker len prog run start) h =
+    ap (λ (x : ArrayVec ℕ). entry_from worker (events.Start prog x) (answers.Started run))
+    (string-kept bytes more start len h.0)
+entry-kept bytes more (rows.NotStarted worker refusal len prog start) h =
+    ap (λ (x : ArrayVec ℕ). entry_from worker (events.Start prog x) (answers.Refused refusal))
+    (string-kept bytes more start len h.0)
 entry-kept bytes more (rows.Moved worker run) h = refl
 entry-kept bytes more (rows.Exited worker run value) h = refl
 entry-kept bytes more (rows.NotStepped worker refusal run) h = refl
 entry-kept bytes more (rows.Updated worker outcome k l map flags start) h =
     let inside = h.0 in
-    ap (λ (x : ArrayVec ℕ). entry_from worker (events.Update map x (string_in (bytes ++ more) (start + k) l) flags) (answer_of outcome)) (string-kept bytes more start k (omega (arith, inside)))
-    ∙ ap (λ (x : ArrayVec ℕ). entry_from worker (events.Update map (string_in bytes start k) x flags) (answer_of outcome)) (string-kept bytes more (start + k) l inside)
-entry-kept bytes more (rows.Deleted worker outcome k map start) h = ap (λ (x : ArrayVec ℕ). entry_from worker (events.Delete map x) (answer_of outcome)) (string-kept bytes more start k h.0)
+    ap (λ (x : ArrayVec ℕ). entry_from worker (events.Update map x (string_in (bytes ++ more) (start + k) l) flags)
+    (answer_of outcome)) (string-kept bytes more start k (omega (arith, inside)))
+    ∙ ap (λ (x : ArrayVec ℕ). entry_from worker (events.Update map (string_in bytes start k) x flags)
+    (answer_of outcome)) (string-kept bytes more (start + k) l inside)
+entry-kept bytes more (rows.Deleted worker outcome k map start) h =
+    ap (λ (x : ArrayVec ℕ). entry_from worker (events.Delete map x) (answer_of outcome))
+    (string-kept bytes more start k h.0)
 entry-kept bytes more (rows.Found worker k l map start) h =
     let inside = h.0 in
-    ap (λ (x : ArrayVec ℕ). entry_from worker (events.Read map x) (answers.Found (Some (string_in (bytes ++ more) (start + k) l)))) (string-kept bytes more start k (omega (arith, inside)))
-    ∙ ap (λ (x : ArrayVec ℕ). entry_from worker (events.Read map (string_in bytes start k)) (answers.Found (Some x))) (string-kept bytes more (start + k) l inside)
-entry-kept bytes more (rows.NotFound worker k map start) h = ap (λ (x : ArrayVec ℕ). entry_from worker (events.Read map x) (answers.Found None)) (string-kept bytes more start k h.0)
-entry-kept bytes more (rows.NotRead worker refusal k map start) h = ap (λ (x : ArrayVec ℕ). entry_from worker (events.Read map x) (answers.Refused refusal)) (string-kept bytes more start k h.0)
+    ap (λ (x : ArrayVec ℕ). entry_from worker (events.Read map x)
+    (answers.Found (Some (string_in (bytes ++ more) (start + k) l))))
+    (string-kept bytes more start k (omega (arith, inside)))
+    ∙ ap (λ (x : ArrayVec ℕ). entry_from worker (events.Read map (string_in bytes start k)) (answers.Found (Some x)))
+    (string-kept bytes more (start + k) l inside)
+entry-kept bytes more (rows.NotFound worker k map start) h =
+    ap (λ (x : ArrayVec ℕ). entry_from worker (events.Read map x) (answers.Found None))
+    (string-kept bytes more start k h.0)
+entry-kept bytes more (rows.NotRead worker refusal k map start) h =
+    ap (λ (x : ArrayVec ℕ). entry_from worker (events.Read map x) (answers.Refused refusal))
+    (string-kept bytes more start k h.0)
 entry-kept bytes more (rows.Advanced worker) h = refl
-entry-kept bytes more (rows.Reclaimed worker given k map start) h = ap (λ (x : ArrayVec ℕ). entry_from worker events.Reap (answers.Reaped (Some (record { map = map; key = x; given = given })))) (string-kept bytes more start k h.0)
+entry-kept bytes more (rows.Reclaimed worker given k map start) h =
+    ap (λ (x : ArrayVec ℕ). entry_from worker events.Reap
+    (answers.Reaped (Some (record { map = map; key = x; given = given })))) (string-kept bytes more start k h.0)
 entry-kept bytes more (rows.NothingReady worker) h = refl
 entry-kept bytes more (rows.Dropped worker run) h = refl
 entry-kept bytes more (rows.NotDropped worker refusal run) h = refl
@@ -122,14 +152,18 @@ stored-later n m (rows.Dropped worker run) l h = tt
 stored-later n m (rows.NotDropped worker refusal run) l h = tt
 
 -- one more row
-stored-more : (n : ℕ) (all : List Row) (row : Row) → ((k : ℕ) (r : Row) → slice_get all k ≡ Some r → IsStored n r) → IsStored n row → (k : ℕ) (r : Row) → slice_get (all ++ row ∷ []) k ≡ Some r → IsStored n r
+stored-more : (n : ℕ) (all : List Row) (row : Row) → ((k : ℕ) (r : Row) → slice_get all k ≡ Some r → IsStored n r) →
+    IsStored n row → (k : ℕ) (r : Row) → slice_get (all ++ row ∷ []) k ≡ Some r → IsStored n r
 stored-more n all row each last k r at =
     elim (get-append_cases all row k r at) [ inl before ↦ each k r before | inr there ↦ subst (IsStored n) there.1 last ]
 
-pub stored-push : (all : List Row) (bytes : List ℕ) (e : Entry) (row : Row) → AreStored all bytes → IsRowOf (length bytes) e row → AreStored (all ++ row ∷ []) (bytes ++ entry_bytes e)
+pub stored-push : (all : List Row) (bytes : List ℕ) (e : Entry) (row : Row) → AreStored all bytes →
+    IsRowOf (length bytes) e row → AreStored (all ++ row ∷ []) (bytes ++ entry_bytes e)
 stored-push all bytes e row each is =
     let l : length (bytes ++ entry_bytes e) ≡ length bytes + length (entry_bytes e) = length-append bytes (entry_bytes e) in
-    stored-more (length (bytes ++ entry_bytes e)) all row (λ k r h. stored-later (length bytes) (length (bytes ++ entry_bytes e)) r (omega (arith, l)) (each k r h)) (subst (λ (n : ℕ). IsStored n row) (sym l) is.stored)
+    stored-more (length (bytes ++ entry_bytes e)) all row
+    (λ k r h. stored-later (length bytes) (length (bytes ++ entry_bytes e)) r (omega (arith, l)) (each k r h))
+    (subst (λ (n : ℕ). IsStored n row) (sym l) is.stored)
 
 entries-kept : (all : List Row) (bytes more : List ℕ) → AreStored all bytes → map (entry_of (bytes ++ more)) all ≡ map (entry_of bytes) all
 entries-kept [] bytes more each = refl
@@ -137,7 +171,9 @@ entries-kept (row ∷ all) bytes more each =
     ap (λ (e : Entry). e ∷ map (entry_of (bytes ++ more)) all) (entry-kept bytes more row (each 0 row refl))
     ∙ ap (λ (es : List Entry). entry_of bytes row ∷ es) (entries-kept all bytes more (λ k r h. each (suc k) r h))
 
-pub entries-push : (all : List Row) (bytes : List ℕ) (e : Entry) (row : Row) → AreStored all bytes → IsRowOf (length bytes) e row → map (entry_of (bytes ++ entry_bytes e)) (all ++ row ∷ []) ≡ map (entry_of bytes) all ++ e ∷ []
+pub entries-push : (all : List Row) (bytes : List ℕ) (e : Entry) (row : Row) → AreStored all bytes →
+    IsRowOf (length bytes) e row → map (entry_of (bytes ++ entry_bytes e)) (all ++ row ∷ []) ≡ map (entry_of bytes)
+    all ++ e ∷ []
 entries-push all bytes e row each is =
     map_push (entry_of (bytes ++ entry_bytes e)) all row
     ∙ (ap (λ (es : List Entry). es ++ entry_of (bytes ++ entry_bytes e) row ∷ []) (entries-kept all bytes (entry_bytes e) each)

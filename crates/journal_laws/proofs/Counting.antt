@@ -1,5 +1,6 @@
 -- The lists of a world count the machine's unlinked elements.
-use Rattle.std.proofs.Common.{◌≡◌, ◌≢◌, ◌∙◌, ℕ, zero, suc, ◌+◌, ◌<◌, List, [], ◌∷◌, ◌++◌, length, Bool, true, false, cond, Option, Some, None, refl, sym, ap, arith}
+use Rattle.std.proofs.Common.{◌≡◌, ◌≢◌, ◌∙◌, ℕ, zero, suc, ◌+◌, ◌<◌, List, [], ◌∷◌, ◌++◌, length, Bool, true, false}
+use Rattle.std.proofs.Common.{cond, Option, Some, None, refl, sym, ap, arith}
 use Rattle.std.specs.Prelude.{slice_get, slice_index, ◌==◌, ◌&&◌, not, count_by}
 use Rattle.std.specs.List.{sum_by}
 use Rattle.std.proofs.Math.Dec.{eqb-suc-suc}
@@ -70,7 +71,8 @@ all_births (q ∷ qs) = births q ++ all_births qs
 times-births : (n : ℕ) (q : Queues) → times n (births q) ≡ times n q.next + times n q.waiting + times n q.ready
 times-births n q = times-append n (q.next ++ q.waiting) q.ready ∙ ap (λ k. k + times n q.ready) (times-append n q.next q.waiting)
 
-times-none : (n : ℕ) (qs : List Queues) (f : ℕ → ℕ) → ((j : ℕ) (q : Queues) → slice_get qs j ≡ Some q → times n (births q) ≡ f j) → ((j : ℕ) → f j ≡ 0) → times n (all_births qs) ≡ 0
+times-none : (n : ℕ) (qs : List Queues) (f : ℕ → ℕ) → ((j : ℕ) (q : Queues) → slice_get qs j ≡ Some q →
+    times n (births q) ≡ f j) → ((j : ℕ) → f j ≡ 0) → times n (all_births qs) ≡ 0
 unfolding all_births
 times-none n [] f h z = refl
 times-none n (q ∷ qs) f h z =
@@ -80,7 +82,9 @@ times-none n (q ∷ qs) f h z =
     let rest = times-none n qs (λ j. f (suc j)) (λ j x at. h (suc j) x at) (λ j. z (suc j)) in
     omega (arith, a, first, zeroth, rest)
 
-times-one : (n : ℕ) (qs : List Queues) (f : ℕ → ℕ) (i c : ℕ) → ((j : ℕ) (q : Queues) → slice_get qs j ≡ Some q → times n (births q) ≡ f j) → i < length qs → f i ≡ c → ((j : ℕ) → j ≢ i → f j ≡ 0) → times n (all_births qs) ≡ c
+times-one : (n : ℕ) (qs : List Queues) (f : ℕ → ℕ) (i c : ℕ) →
+    ((j : ℕ) (q : Queues) → slice_get qs j ≡ Some q → times n (births q) ≡ f j) → i < length qs → f i ≡ c →
+    ((j : ℕ) → j ≢ i → f j ≡ 0) → times n (all_births qs) ≡ c
 unfolding all_births
 times-one n [] f i c h l e z = absurd (omega (arith, l))
 times-one n (q ∷ qs) f zero c h l e z =
@@ -122,7 +126,9 @@ lists-long slots v q e =
     let f = length-append q.next q.waiting in
     omega (arith, a, b, c, d, f)
 
-all-long : (vs : List MapView) (qs : List Queues) → length vs ≡ length qs → ((k : ℕ) (v : MapView) (q : Queues) → slice_get vs k ≡ Some v → slice_get qs k ≡ Some q → unlinked_in v ≡ length (births q)) → sum_by unlinked_in vs ≡ length (all_births qs)
+all-long : (vs : List MapView) (qs : List Queues) → length vs ≡ length qs →
+    ((k : ℕ) (v : MapView) (q : Queues) → slice_get vs k ≡ Some v → slice_get qs k ≡ Some q →
+    unlinked_in v ≡ length (births q)) → sum_by unlinked_in vs ≡ length (all_births qs)
 unfolding all_births
 all-long [] [] l h = refl
 all-long [] (q ∷ qs) l h = absurd (omega (arith, l))
@@ -134,7 +140,8 @@ all-long (v ∷ vs) (q ∷ qs) l h =
     let b = length-append (births q) (all_births qs) in
     omega (arith, a, first, rest, b)
 
-map-long : (w : WorldView) (s : Schedule) → (r : RefinesSchedule w s) → (k : ℕ) (v : MapView) (q : Queues) → slice_get w.maps k ≡ Some v → slice_get s.queues k ≡ Some q → unlinked_in v ≡ length (births q)
+map-long : (w : WorldView) (s : Schedule) → (r : RefinesSchedule w s) → (k : ℕ) (v : MapView) (q : Queues) →
+    slice_get w.maps k ≡ Some v → slice_get s.queues k ≡ Some q → unlinked_in v ≡ length (births q)
 map-long w s r k v q hv hq =
     let inside = slice_get_within w.maps k v hv in
     let count : length w.maps ≡ length s.machine.store.maps = r.maps.0 in
@@ -163,7 +170,8 @@ unlinked-now w s t =
     let a = t.refines.maps.0 in
     let b = t.refines.maps.1 in
     let lists : sum_by unlinked_in w.maps ≡ length (all_births s.queues) = all-long w.maps s.queues (omega (arith, a, b)) (map-long w s t.refines) in
-    let counted : length (all_births s.queues) ≡ count_by (λ e. is_unlinked e.life) es = count-of (all_births s.queues) es (λ n. births-flag s n (slice_get es n) sch refl) in
+    let counted : length (all_births s.queues) ≡ count_by (λ e. is_unlinked e.life) es =
+    count-of (all_births s.queues) es (λ n. births-flag s n (slice_get es n) sch refl) in
     lists ∙ counted
 
 schedule-unlinked : (w : WorldView) (s : Schedule) → TracksSchedule w s → unlinked_total w ≡ ever_unlinked s.machine

@@ -27,14 +27,16 @@ outcome-fits : (out : Outcome) (r : ℕ) (run : Run) (answer : Answer) (new : Ru
 outcome-fits (Moves next) r run answer new h = subst (IsAnswerTo (events.Step r)) (sym h.0) tt
 outcome-fits (Exits n) r run answer new h = subst (IsAnswerTo (events.Step r)) (sym h.1) tt
 
-insn-fits : (i : Insn) (r : ℕ) (s : Store) (opened : List Section) (run : Run) (answer : Answer) (new : Store) (new_run : Run) → StepsByKind i s opened run answer new new_run → IsAnswerTo (events.Step r) answer
+insn-fits : (i : Insn) (r : ℕ) (s : Store) (opened : List Section) (run : Run) (answer : Answer) (new : Store)
+    (new_run : Run) → StepsByKind i s opened run answer new new_run → IsAnswerTo (events.Step r) answer
 insn-fits (Call kinds.Kernel imm) r s opened run answer new new_run h = subst (IsAnswerTo (events.Step r)) (sym h.1) tt
 insn-fits (Call kinds.Helper imm) r s opened run answer new new_run h = subst (IsAnswerTo (events.Step r)) (sym h.2) tt
 insn-fits i r s opened run answer new new_run h = outcome-fits h.0 r run answer new_run h.4
 
 performs-fits : (m : Machine) (event : Event) (answer : Answer) (new : Machine) → PerformsEvent m event answer new → IsAnswerTo event answer
 performs-fits m (events.Start prog ctx) (Started r) new h = tt
-performs-fits m (events.Step run) answer new h = insn-fits h.step.0 run m.store (open_sections m.runs) h.run answer h.new_store h.new_run (run_by_kind m run answer new h)
+performs-fits m (events.Step run) answer new h = insn-fits h.step.0 run m.store (open_sections m.runs) h.run answer
+    h.new_store h.new_run (run_by_kind m run answer new h)
 performs-fits m (events.Update map key value flags) (Ret ret) new h = tt
 performs-fits m (events.Delete map key) (Ret ret) new h = tt
 performs-fits m (events.Read map key) (Found (Some value)) new h = tt
@@ -45,14 +47,17 @@ performs-fits m events.Reap (Reaped (Some element)) new h = tt
 performs-fits m (events.Drop run) Done new h = tt
 performs-fits m event answer new h = absurd h
 
-answers-fit : (o : Option EventRefusal) (m : Machine) (event : Event) (answer : Answer) (new : Machine) → ((k : EventRefusal) → IsAnswerTo event (Refused k)) → Answers o m event answer new → IsAnswerTo event answer
+answers-fit : (o : Option EventRefusal) (m : Machine) (event : Event) (answer : Answer) (new : Machine) →
+    ((k : EventRefusal) → IsAnswerTo event (Refused k)) → Answers o m event answer new → IsAnswerTo event answer
 answers-fit (Some k) m event answer new refused h = subst (IsAnswerTo event) (sym h.0) (refused k)
 answers-fit None m event answer new refused h = performs-fits m event answer new h
 
 pub does-fit : (m : Machine) (event : Event) (answer : Answer) (new : Machine) → DoesEvent m event answer new → IsAnswerTo event answer
 does-fit m (events.Start prog ctx) answer new h = answers-fit (refusal m (events.Start prog ctx)) m (events.Start prog ctx) answer new (λ k. tt) h
 does-fit m (events.Step run) answer new h = answers-fit (refusal m (events.Step run)) m (events.Step run) answer new (λ k. tt) h
-does-fit m (events.Update map key value flags) answer new h = answers-fit (refusal m (events.Update map key value flags)) m (events.Update map key value flags) answer new (λ k. tt) h
+does-fit m (events.Update map key value flags) answer new h =
+    answers-fit (refusal m (events.Update map key value flags)) m (events.Update map key value flags) answer new
+    (λ k. tt) h
 does-fit m (events.Delete map key) answer new h = answers-fit (refusal m (events.Delete map key)) m (events.Delete map key) answer new (λ k. tt) h
 does-fit m (events.Read map key) answer new h = answers-fit (refusal m (events.Read map key)) m (events.Read map key) answer new (λ k. tt) h
 does-fit m events.Advance answer new h = performs-fits m events.Advance answer new h

@@ -20,7 +20,8 @@ one-grows : (a b : Bool) → (a ≡ true → b ≡ true) → one_of a ≤ one_of
 one-grows false b h = omega arith
 one-grows true b h = let e : one_of b ≡ 1 = ap one_of (h refl) in omega (arith, e)
 
-count-grows : (p : Element → Bool) → ((e f : Element) → IsLaterElement e f → p e ≡ true → p f ≡ true) → (old new : List Element) → ElementsGrow old new → count_by p old ≤ count_by p new
+count-grows : (p : Element → Bool) → ((e f : Element) → IsLaterElement e f → p e ≡ true → p f ≡ true) →
+    (old new : List Element) → ElementsGrow old new → count_by p old ≤ count_by p new
 count-grows p keeps [] new g = omega arith
 count-grows p keeps (e ∷ old) [] g = let first = g 0 e refl in absurd (none-some first.0 first.1)
 count-grows p keeps (e ∷ old) (f ∷ new) g =
@@ -51,7 +52,9 @@ unlinked_grows w event is real =
     let next = simulates w is.schedule event is.tracks is.ready real in
     let m = is.schedule.machine in
     let grow = elements_only_grow m next.0.machine event (full_reaction w event).0 next.1.step in
-    let more : ever_unlinked m ≤ ever_unlinked next.0.machine = count-grows (λ e. not (is_linked e.life)) (λ e f later. stays-unlinked e.life f.life later.life) m.store.elements next.0.machine.store.elements grow in
+    let more : ever_unlinked m ≤ ever_unlinked next.0.machine =
+    count-grows (λ e. not (is_linked e.life)) (λ e f later. stays-unlinked e.life f.life later.life)
+    m.store.elements next.0.machine.store.elements grow in
     let before = unlinked_is_machines w m (is.schedule, refl, is.tracks) in
     let after = unlinked_is_machines (full_reaction w event).1 next.0.machine (next.0, refl, next.2) in
     omega (arith, more, before, after)
@@ -61,7 +64,9 @@ reclaimed_grows w event is real =
     let next = simulates w is.schedule event is.tracks is.ready real in
     let m = is.schedule.machine in
     let grow = elements_only_grow m next.0.machine event (full_reaction w event).0 next.1.step in
-    let more : ever_reclaimed m ≤ ever_reclaimed next.0.machine = count-grows (λ e. is_reclaimed e.life) (λ e f later. stays-reclaimed e.life f.life later.life) m.store.elements next.0.machine.store.elements grow in
+    let more : ever_reclaimed m ≤ ever_reclaimed next.0.machine =
+    count-grows (λ e. is_reclaimed e.life) (λ e f later. stays-reclaimed e.life f.life later.life)
+    m.store.elements next.0.machine.store.elements grow in
     let before = reclaimed_is_machines w m (is.schedule, refl, is.tracks) in
     let after = reclaimed_is_machines (full_reaction w event).1 next.0.machine (next.0, refl, next.2) in
     omega (arith, more, before, after)

@@ -34,13 +34,17 @@ empty_replays w is quiet = record {
   world_is = refl;
 }
 
-pub run_all_replays : (base : WorldView) (entries : List Entry) → IsWorld base → HasNoRuns base → AreReal (events_of entries) → answers_of entries ≡ (full_reactions base (events_of entries)).0 → Replays base (full_reactions base (events_of entries)).1 entries
+pub run_all_replays : (base : WorldView) (entries : List Entry) → IsWorld base → HasNoRuns base →
+    AreReal (events_of entries) → answers_of entries ≡ (full_reactions base (events_of entries)).0 →
+    Replays base (full_reactions base (events_of entries)).1 entries
 run_all_replays base entries is quiet real answers = record { quiet = quiet; base_is = is; real = real; answers = answers; world_is = refl }
 
 pub replays_to_world : (base world : WorldView) (entries : List Entry) → Replays base world entries → IsWorld world
 replays_to_world base world entries h = subst IsWorld (sym h.world_is) (reactions_make_world base (events_of entries) h.base_is h.real)
 
-pub replays_push : (base world new : WorldView) (entries : List Entry) (entry : Entry) → Replays base world entries → IsReal entry.event → entry.answer ≡ (full_reaction world entry.event).0 → new ≡ (full_reaction world entry.event).1 → Replays base new (entries ++ entry ∷ [])
+pub replays_push : (base world new : WorldView) (entries : List Entry) (entry : Entry) → Replays base world entries →
+    IsReal entry.event → entry.answer ≡ (full_reaction world entry.event).0 →
+    new ≡ (full_reaction world entry.event).1 → Replays base new (entries ++ entry ∷ [])
 replays_push base world new entries entry h real answer is =
     let events = events_of entries in
     let longer : events_of (entries ++ entry ∷ []) ≡ events ++ entry.event ∷ [] = map_push (λ (e : Entry). e.event) entries entry in
@@ -56,7 +60,9 @@ replays_push base world new entries entry h real answer is =
     }
 
 -- on the machine
-quiet-slot : (slots : List ℕ) (es : List Element) (programs : List Loaded) (o : Option (Option RunView)) (p : Option (Option Run)) → RunSlotRefines slots es programs o p → option_flatten o ≡ None → option_flatten p ≡ None
+quiet-slot : (slots : List ℕ) (es : List Element) (programs : List Loaded) (o : Option (Option RunView))
+    (p : Option (Option Run)) → RunSlotRefines slots es programs o p → option_flatten o ≡ None →
+    option_flatten p ≡ None
 quiet-slot slots es programs None None h e = refl
 quiet-slot slots es programs (Some None) (Some None) h e = refl
 quiet-slot slots es programs (Some (Some v)) (Some (Some run)) h e = absurd (none-some v (sym e))
@@ -65,40 +71,54 @@ quiet-slot slots es programs o p h e = absurd h
 quiet-machine : (base : WorldView) (m : Machine) → HasNoRuns base → Tracks base m → HasNoRunsOnMachine m
 quiet-machine base m quiet t r =
     let s = t.0 in
-    let here : run_at s.machine.runs r ≡ None = quiet-slot t.2.refines.slots s.machine.store.elements s.machine.programs (slice_get base.runs r) (slice_get s.machine.runs r) (t.2.refines.runs r) (quiet r) in
+    let here : run_at s.machine.runs r ≡ None = quiet-slot t.2.refines.slots s.machine.store.elements
+    s.machine.programs (slice_get base.runs r) (slice_get s.machine.runs r) (t.2.refines.runs r) (quiet r) in
     subst (λ (x : Machine). run_at x.runs r ≡ None) t.1 here
 
-pub replays_on_machine : (limit : ℕ) (base world : WorldView) (entries : List Entry) → Replays base world entries → length entries ≤ limit → (m : Machine) → Tracks base m → (last : Machine) × ReplaysOnMachine limit m entries last × Tracks world last
+pub replays_on_machine : (limit : ℕ) (base world : WorldView) (entries : List Entry) → Replays base world entries →
+    length entries ≤ limit → (m : Machine) → Tracks base m → (last : Machine) × ReplaysOnMachine limit m entries last
+    × Tracks world last
 replays_on_machine limit base world entries h short m t =
     let run = answers_machine base (events_of entries) h.base_is.ready h.real m t in
     let last = last_of m run.0 in
-    let moved : HasHistoryTo m (events_of entries) (answers_of entries) last = (run.0, subst (λ (xs : List Answer). IsHistory m (events_of entries) xs run.0) (sym h.answers) run.1, refl) in (
+    let moved : HasHistoryTo m (events_of entries) (answers_of entries) last = (
+      run.0,
+      subst (λ (xs : List Answer). IsHistory m (events_of entries) xs run.0) (sym h.answers) run.1,
+      refl,
+    ) in (
       last,
       record { quiet = quiet-machine base m h.quiet t; short = short; real = h.real; replay = moved },
       subst (λ (w : WorldView). Tracks w last) (sym h.world_is) run.2,
     )
 
 -- the main theorem over a whole journal
-pub scheduled_over : (base world : WorldView) (entries : List Entry) → Replays base world entries → AreScheduledAnswers TracksSchedule base (events_of entries) (answers_of entries) world
+pub scheduled_over : (base world : WorldView) (entries : List Entry) → Replays base world entries →
+    AreScheduledAnswers TracksSchedule base (events_of entries) (answers_of entries) world
 scheduled_over base world entries h =
     let law = answers_scheduled base (events_of entries) h.base_is.ready h.real in
     subst (λ (w : WorldView). AreScheduledAnswers TracksSchedule base (events_of entries) (answers_of entries) w) (sym h.world_is)
-    (subst (λ (xs : List Answer). AreScheduledAnswers TracksSchedule base (events_of entries) xs (full_reactions base (events_of entries)).1) (sym h.answers) law)
+    (subst (λ (xs : List Answer). AreScheduledAnswers TracksSchedule base (events_of entries) xs
+    (full_reactions base (events_of entries)).1) (sym h.answers) law)
 
-pub machine_over : (base world : WorldView) (entries : List Entry) → Replays base world entries → AreMachineAnswers Tracks base (events_of entries) (answers_of entries) world
+pub machine_over : (base world : WorldView) (entries : List Entry) → Replays base world entries →
+    AreMachineAnswers Tracks base (events_of entries) (answers_of entries) world
 machine_over base world entries h =
     let law = answers_machine base (events_of entries) h.base_is.ready h.real in
     subst (λ (w : WorldView). AreMachineAnswers Tracks base (events_of entries) (answers_of entries) w) (sym h.world_is)
     (subst (λ (xs : List Answer). AreMachineAnswers Tracks base (events_of entries) xs (full_reactions base (events_of entries)).1) (sym h.answers) law)
 
-pub never_stuck_over : (base world : WorldView) (entries : List Entry) → Replays base world entries → AreNeverStuck Tracks base (events_of entries) (answers_of entries)
+pub never_stuck_over : (base world : WorldView) (entries : List Entry) → Replays base world entries →
+    AreNeverStuck Tracks base (events_of entries) (answers_of entries)
 never_stuck_over base world entries h =
     subst (λ (xs : List Answer). AreNeverStuck Tracks base (events_of entries) xs) (sym h.answers) (never_stuck base (events_of entries) h.base_is.ready h.real)
 
-pub exits_over : (base world : WorldView) (entries : List Entry) → Replays base world entries → AllExitInTime Tracks base (events_of entries) (answers_of entries)
+pub exits_over : (base world : WorldView) (entries : List Entry) → Replays base world entries →
+    AllExitInTime Tracks base (events_of entries) (answers_of entries)
 exits_over base world entries h =
-    subst (λ (xs : List Answer). AllExitInTime Tracks base (events_of entries) xs) (sym h.answers) (exit_in_time base (events_of entries) h.base_is.ready h.real)
+    subst (λ (xs : List Answer). AllExitInTime Tracks base (events_of entries) xs) (sym h.answers)
+    (exit_in_time base (events_of entries) h.base_is.ready h.real)
 
-pub reclaimed_over : (base world : WorldView) (entries : List Entry) → Replays base world entries → AreReclaimedLate Tracks base (events_of entries) (answers_of entries)
+pub reclaimed_over : (base world : WorldView) (entries : List Entry) → Replays base world entries →
+    AreReclaimedLate Tracks base (events_of entries) (answers_of entries)
 reclaimed_over base world entries h =
     subst (λ (xs : List Answer). AreReclaimedLate Tracks base (events_of entries) xs) (sym h.answers) (reclaimed_late base (events_of entries))

@@ -74,7 +74,9 @@ own_push entries entry =
     filter-append (λ (e : Entry). e.worker == entry.worker) entries (entry ∷ [])
     ∙ kept-if (entry.worker == entry.worker) entry (entries_by entry.worker entries) (eq-eqb entry.worker entry.worker refl)
 
-pub others_push : (entries : List Entry) (entry : Entry) (worker : ℕ) → entry.worker ≢ worker → entries_by worker (entries ++ entry ∷ []) ≡ entries_by worker entries
+pub others_push : (entries : List Entry) (entry : Entry) (worker : ℕ) → entry.worker ≢ worker →
+    entries_by worker (entries ++ entry ∷ []) ≡ entries_by worker entries
 others_push entries entry worker ne =
     filter-append (λ (e : Entry). e.worker == worker) entries (entry ∷ [])
-    ∙ left-out (entry.worker == worker) entry (entries_by worker entries) (false_from_ne_true (entry.worker == worker) (λ t. ne (eqb-true entry.worker worker t)))
+    ∙ left-out (entry.worker == worker) entry (entries_by worker entries)
+    (false_from_ne_true (entry.worker == worker) (λ t. ne (eqb-true entry.worker worker t)))

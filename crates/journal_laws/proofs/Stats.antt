@@ -25,14 +25,17 @@ linked_from : ℕ → ℕ → List Element → ℕ
 linked_from k zero es = 0
 linked_from k (suc n) es = linked_count k es + linked_from (suc k) n es
 
-linked-maps : (vs : List MapView) (k : ℕ) (es : List Element) → ((j : ℕ) (v : MapView) → slice_get vs j ≡ Some v → linked_in v ≡ linked_count (k + j) es) → sum_by linked_in vs ≡ linked_from k (length vs) es
+linked-maps : (vs : List MapView) (k : ℕ) (es : List Element) →
+    ((j : ℕ) (v : MapView) → slice_get vs j ≡ Some v → linked_in v ≡ linked_count (k + j) es) →
+    sum_by linked_in vs ≡ linked_from k (length vs) es
 unfolding linked_from
 linked-maps [] k es h = refl
 linked-maps (v ∷ vs) k es h =
     let a = sum_by-cons linked_in v vs in
     let at : k + 0 ≡ k = omega arith in
     let first : linked_in v ≡ linked_count k es = h 0 v refl ∙ ap (λ x. linked_count x es) at in
-    let rest = linked-maps vs (suc k) es (λ j x there. let next : k + suc j ≡ suc k + j = omega arith in h (suc j) x there ∙ ap (λ z. linked_count z es) next) in
+    let rest = linked-maps vs (suc k) es (λ j x there. let next : k + suc j ≡ suc k + j =
+    omega arith in h (suc j) x there ∙ ap (λ z. linked_count z es) next) in
     omega (arith, a, first, rest)
 
 linked-none : (n k : ℕ) → linked_from k n [] ≡ 0
@@ -58,7 +61,8 @@ before (suc n) k e es l =
     let rest = before n (suc k) e es (omega (arith, l)) in
     omega (arith, c, z, rest)
 
-here-or-later : (n k : ℕ) (e : Element) (es : List Element) (t : Bool) → (e.map == k) ≡ t → k ≤ e.map → (k < e.map → linked_from (suc k) n (e ∷ es) ≡ one_of (is_linked e.life) + linked_from (suc k) n es)
+here-or-later : (n k : ℕ) (e : Element) (es : List Element) (t : Bool) → (e.map == k) ≡ t → k ≤ e.map →
+    (k < e.map → linked_from (suc k) n (e ∷ es) ≡ one_of (is_linked e.life) + linked_from (suc k) n es)
     → linked_from k (suc n) (e ∷ es) ≡ one_of (is_linked e.life) + linked_from k (suc n) es
 unfolding linked_from
 here-or-later n k e es true same l later =
@@ -78,7 +82,8 @@ inside : (n k : ℕ) (e : Element) (es : List Element) → k ≤ e.map → e.map
 inside zero k e es a b = absurd (omega (arith, a, b))
 inside (suc n) k e es a b = here-or-later n k e es (e.map == k) refl a (λ further. inside n (suc k) e es (omega (arith, further)) (omega (arith, b)))
 
-linked-all : (es : List Element) (n : ℕ) → ((i : ℕ) (e : Element) → slice_get es i ≡ Some e → e.map < n) → linked_from 0 n es ≡ count_by (λ e. is_linked e.life) es
+linked-all : (es : List Element) (n : ℕ) → ((i : ℕ) (e : Element) → slice_get es i ≡ Some e → e.map < n) →
+    linked_from 0 n es ≡ count_by (λ e. is_linked e.life) es
 linked-all [] n h = linked-none n 0
 linked-all (e ∷ es) n h =
     let one = inside n 0 e es (omega arith) (let l = h 0 e refl in omega (arith, l)) in
@@ -86,7 +91,9 @@ linked-all (e ∷ es) n h =
     let c = count-cons (λ (x : Element). is_linked x.life) e es in
     omega (arith, one, rest, c)
 
-worn-all : (vs : List MapView) (ms : List MapState) → length vs ≡ length ms → ((k : ℕ) (v : MapView) (m : MapState) → slice_get vs k ≡ Some v → slice_get ms k ≡ Some m → v.worn ≡ m.worn) → sum_by worn_in vs ≡ sum_by (λ s. s.worn) ms
+worn-all : (vs : List MapView) (ms : List MapState) → length vs ≡ length ms →
+    ((k : ℕ) (v : MapView) (m : MapState) → slice_get vs k ≡ Some v → slice_get ms k ≡ Some m → v.worn ≡ m.worn) →
+    sum_by worn_in vs ≡ sum_by (λ s. s.worn) ms
 worn-all [] [] l h = refl
 worn-all [] (m ∷ ms) l h = absurd (omega (arith, l))
 worn-all (v ∷ vs) [] l h = absurd (omega (arith, l))
@@ -97,7 +104,9 @@ worn-all (v ∷ vs) (m ∷ ms) l h =
     let rest = worn-all vs ms (omega (arith, l)) (λ k x y hx hy. h (suc k) x y hx hy) in
     omega (arith, a, b, first, rest)
 
-runs-all : (slots : List ℕ) (es : List Element) (programs : List Loaded) (ws : List (Option RunView)) (rs : List (Option Run)) → ((r : ℕ) → RunSlotRefines slots es programs (slice_get ws r) (slice_get rs r)) → count_by is_some ws ≡ count_by is_some rs
+runs-all : (slots : List ℕ) (es : List Element) (programs : List Loaded) (ws : List (Option RunView))
+    (rs : List (Option Run)) → ((r : ℕ) → RunSlotRefines slots es programs (slice_get ws r) (slice_get rs r)) →
+    count_by is_some ws ≡ count_by is_some rs
 runs-all slots es programs [] [] h = refl
 runs-all slots es programs [] (None ∷ rs) h = absurd (h 0)
 runs-all slots es programs [] (Some r ∷ rs) h = absurd (h 0)
@@ -140,7 +149,8 @@ module _ (w : WorldView) (s : Schedule) (t : TracksSchedule w s) where
   same-count = t.refines.maps.0
 
   -- what the machine has of each map that the world has
-  at-map : (k : ℕ) (v : MapView) → slice_get w.maps k ≡ Some v → (x : MapState) × (slice_get m.store.maps k ≡ Some x) × (linked_in v ≡ linked_count (0 + k) m.store.elements) × (v.worn ≡ x.worn)
+  at-map : (k : ℕ) (v : MapView) → slice_get w.maps k ≡ Some v → (x : MapState) × (slice_get m.store.maps k ≡ Some x)
+      × (linked_in v ≡ linked_count (0 + k) m.store.elements) × (v.worn ≡ x.worn)
   at-map k v here =
       let count = same-count in
       let queues : length s.queues ≡ length m.store.maps = t.refines.maps.1 in

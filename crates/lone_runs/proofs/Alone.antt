@@ -17,7 +17,8 @@ use Rattle.bpf_model.specs.Call.{helper_of, kernel_function_of}
 use Rattle.model_laws.specs.Holds.{HoldsState, HoldsValue}
 use Rattle.bpf_model.specs.Operand.{operand_value}
 use Rattle.bpf_model.specs.declared.call.ArgumentKind.TheVariants.{AnyNumber, KeyOfMap, MapOfProgram, ValueOfMap}
-use Rattle.bpf_model.specs.Request.{Argument, MapArgument, Request, argument_of, arguments_of, asks, load_request, named_map, section_request, signature_of, store_request, CallHelper}
+use Rattle.bpf_model.specs.Request.{Argument, MapArgument, Request, argument_of, arguments_of, asks, load_request}
+use Rattle.bpf_model.specs.Request.{named_map, section_request, signature_of, store_request, CallHelper}
 use Rattle.bpf_model.specs.declared.call.ArgumentKind.{ArgumentKind}
 use Rattle.bpf_model.specs.Step.{State}
 use Rattle.bpf_model.specs.Value.{◌>>=◌, reference}
@@ -32,7 +33,8 @@ pub record IsSectionCall (i : Insn) (request : Request) : Type 0 where
   pub known : kernel_function_of imm ≡ Some function
   pub asks_is : section_request function ≡ request
 
-load-none : (width : ℕ) (offset : ℤ) (b : Bool) (base : Value) (request : Request) → HoldsValue IsOwn base → (if b then None else load_request width offset base) ≡ Some request → ⊥
+load-none : (width : ℕ) (offset : ℤ) (b : Bool) (base : Value) (request : Request) → HoldsValue IsOwn base →
+    (if b then None else load_request width offset base) ≡ Some request → ⊥
 load-none width offset true base request p h = none-some request h
 load-none width offset false Nothing request p h = none-some request h
 load-none width offset false (Number x) request p h = none-some request h
@@ -60,25 +62,31 @@ map-none (Pointer (MapRef m)) a p h = p
 map-none (Pointer (Elem n o)) a p h = p
 
 -- each helper is called with a map first
-arguments-none : (more : List ArgumentKind) (shapes : ℕ → Option MapShape) (m : State) (arguments : List Argument) → HoldsState IsOwn m → arguments_of (MapOfProgram ∷ more) shapes m 1 ≡ Some arguments → ⊥
+arguments-none : (more : List ArgumentKind) (shapes : ℕ → Option MapShape) (m : State) (arguments : List Argument) →
+    HoldsState IsOwn m → arguments_of (MapOfProgram ∷ more) shapes m 1 ≡ Some arguments → ⊥
 arguments-none more shapes m arguments p h =
     let f = first-step (argument_of shapes m MapOfProgram 1) (λ argument. arguments_of more shapes m 2 >>= λ rest. Some (argument ∷ rest)) arguments h in
     map-none (m.regs 1) f.0 (p.0 1) f.1
 
-helper-none : (helper : Helper) (shapes : ℕ → Option MapShape) (m : State) (arguments : List Argument) → HoldsState IsOwn m → arguments_of (signature_of helper).arguments shapes m 1 ≡ Some arguments → ⊥
+helper-none : (helper : Helper) (shapes : ℕ → Option MapShape) (m : State) (arguments : List Argument) →
+    HoldsState IsOwn m → arguments_of (signature_of helper).arguments shapes m 1 ≡ Some arguments → ⊥
 helper-none helpers.Lookup shapes m arguments p h = arguments-none (KeyOfMap ∷ []) shapes m arguments p h
 helper-none helpers.Update shapes m arguments p h = arguments-none (KeyOfMap ∷ ValueOfMap ∷ AnyNumber ∷ []) shapes m arguments p h
 helper-none helpers.Delete shapes m arguments p h = arguments-none (KeyOfMap ∷ []) shapes m arguments p h
 
-pub asks_section : (i : Insn) (shapes : ℕ → Option MapShape) (m : State) (request : Request) → HoldsState IsOwn m → asks i shapes m ≡ Some request → IsSectionCall i request
+pub asks_section : (i : Insn) (shapes : ℕ → Option MapShape) (m : State) (request : Request) → HoldsState IsOwn m →
+    asks i shapes m ≡ Some request → IsSectionCall i request
 asks_section (Load width dst src offset) shapes m request p h = absurd (load-none (byte_count width) offset (dst == 10) (m.regs src) request (p.0 src) h)
-asks_section (LoadSigned width dst src offset) shapes m request p h = absurd (load-none (byte_count (unsigned_width width)) offset (dst == 10) (m.regs src) request (p.0 src) h)
-asks_section (Store width dst offset src) shapes m request p h = absurd (store-none (byte_count width) offset (operand_value src m.regs) (m.regs dst) request (p.0 dst) h)
+asks_section (LoadSigned width dst src offset) shapes m request p h =
+    absurd (load-none (byte_count (unsigned_width width)) offset (dst == 10) (m.regs src) request (p.0 src) h)
+asks_section (Store width dst offset src) shapes m request p h =
+    absurd (store-none (byte_count width) offset (operand_value src m.regs) (m.regs dst) request (p.0 dst) h)
 asks_section (Call kinds.Kernel imm) shapes m request p h =
     let f = first-step (kernel_function_of imm) (λ function. Some (section_request function)) request h in
     record { imm = imm; is = refl; function = f.0; known = f.1; asks_is = same_Some (section_request f.0) request f.2 }
 asks_section (Call kinds.Helper imm) shapes m request p h =
-    let f = first-step (helper_of imm) (λ helper. arguments_of (signature_of helper).arguments shapes m 1 >>= λ arguments. Some (CallHelper helper arguments)) request h in
+    let f = first-step (helper_of imm) (λ helper. arguments_of (signature_of helper).arguments shapes m 1
+    >>= λ arguments. Some (CallHelper helper arguments)) request h in
     let g = first-step (arguments_of (signature_of f.0).arguments shapes m 1) (λ arguments. Some (CallHelper f.0 arguments)) request f.2 in
     absurd (helper-none f.0 shapes m g.0 p g.1)
 asks_section i shapes m request p h = absurd (none-some request h)

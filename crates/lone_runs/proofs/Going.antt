@@ -1,5 +1,6 @@
 -- What a step of a run by itself comes to.
-use Rattle.std.proofs.Common.{◌≡◌, ℕ, suc, ◌+◌, ◌<◌, ◌≤◌, List, [], ◌∷◌, length, Option, Some, None, Bool, true, false, inl, inr, refl, sym, ap, subst, ◌∙◌, arith, ℤ}
+use Rattle.std.proofs.Common.{◌≡◌, ℕ, suc, ◌+◌, ◌<◌, ◌≤◌, List, [], ◌∷◌, length, Option, Some, None, Bool, true}
+use Rattle.std.proofs.Common.{false, inl, inr, refl, sym, ap, subst, ◌∙◌, arith, ℤ}
 use Rattle.std.specs.Prelude.{slice_get, option_map}
 use Rattle.std.proofs.lemmas.Bool.{false≢true}
 use Rattle.std.proofs.lemmas.Option.{same_Some}
@@ -58,15 +59,19 @@ went (laws.Goes u) asked view new h = ap laws.Goes (sym h.1)
 went (laws.Ends n) asked view new h = let e : locals.Moved ≡ locals.Exit n = h.0 in absurd (cc)
 went laws.Asks asked view new h = let e : locals.Moved ≡ locals.Shared h.0 = h.2 in absurd (cc)
 
-ended : (l : laws.LocalStep) (asked : Option Request) (view new : RunView) (n : ℕ) → IsLocalStep l asked view (locals.Exit n) new → (l ≡ laws.Ends n) × (new ≡ ended_view n view)
+ended : (l : laws.LocalStep) (asked : Option Request) (view new : RunView) (n : ℕ) →
+    IsLocalStep l asked view (locals.Exit n) new → (l ≡ laws.Ends n) × (new ≡ ended_view n view)
 ended (laws.Goes u) asked view new n h = let e : locals.Exit n ≡ locals.Moved = h.0 in absurd (cc)
-ended (laws.Ends m) asked view new n h = let e : locals.Exit n ≡ locals.Exit m = h.0 in let same : m ≡ n = cc in (ap laws.Ends same, h.1 ∙ ap (λ (k : ℕ). ended_view k view) same)
+ended (laws.Ends m) asked view new n h = let e : locals.Exit n ≡ locals.Exit m = h.0 in let same : m ≡ n =
+    cc in (ap laws.Ends same, h.1 ∙ ap (λ (k : ℕ). ended_view k view) same)
 ended laws.Asks asked view new n h = let e : locals.Exit n ≡ locals.Shared h.0 = h.2 in absurd (cc)
 
-waited : (l : laws.LocalStep) (asked : Option Request) (view new : RunView) (request : Request) → IsLocalStep l asked view (locals.Shared request) new → (l ≡ laws.Asks) × (asked ≡ Some request) × (new ≡ view)
+waited : (l : laws.LocalStep) (asked : Option Request) (view new : RunView) (request : Request) →
+    IsLocalStep l asked view (locals.Shared request) new → (l ≡ laws.Asks) × (asked ≡ Some request) × (new ≡ view)
 waited (laws.Goes u) asked view new request h = let e : locals.Shared request ≡ locals.Moved = h.0 in absurd (cc)
 waited (laws.Ends m) asked view new request h = let e : locals.Shared request ≡ locals.Exit m = h.0 in absurd (cc)
-waited laws.Asks asked view new request h = let e : locals.Shared request ≡ locals.Shared h.0 = h.2 in let same : h.0 ≡ request = cc in (refl, h.1 ∙ ap Some same, h.3)
+waited laws.Asks asked view new request h = let e : locals.Shared request ≡ locals.Shared h.0 =
+    h.2 in let same : h.0 ≡ request = cc in (refl, h.1 ∙ ap Some same, h.3)
 
 goes-asks : (u : RunView) → laws.Goes u ≡ laws.Asks → ⊥
 goes-asks u e = absurd (cc)
@@ -84,7 +89,8 @@ pub record AsksSection (view after : RunView) (insn : Insn) (request : Request) 
   pub asked : request_of insn view ≡ Some request
   pub same : after ≡ view
 
-section-called : (view after : RunView) (insn : Insn) (request : Request) (asked : Asked) → IsSectionCall insn asked → request_of insn view ≡ Some request → after ≡ view → AsksSection view after insn request
+section-called : (view after : RunView) (insn : Insn) (request : Request) (asked : Asked) → IsSectionCall insn asked →
+    request_of insn view ≡ Some request → after ≡ view → AsksSection view after insn request
 section-called view after insn request asked s of same =
     let e : request_of (Call kinds.Kernel s.imm) view ≡ Some (kernel_request s.function) = ap (option_map kernel_request) s.known in
     record {
@@ -107,7 +113,8 @@ section-is : (f : KernelFunction) → is-section (kernel_request f) ≡ true
 section-is ReadLock = refl
 section-is ReadUnlock = refl
 
-pub asks-else : (view after : RunView) (insn : Insn) (request other : Request) → AsksSection view after insn request → request ≡ other → is-section other ≡ false → ⊥
+pub asks-else : (view after : RunView) (insn : Insn) (request other : Request) → AsksSection view after insn request →
+    request ≡ other → is-section other ≡ false → ⊥
 asks-else view after insn request other a e h = absurd (false≢true (sym h ∙ (ap is-section (sym e ∙ a.access_is) ∙ section-is a.function)))
 
 -- a lock and an unlock may be answered by any word, and change no map
@@ -180,23 +187,30 @@ module _ (v : Checked) (view : RunView) (x : StandsAlone v view) where
   abbrev Steps : Insn → Answer → Run → Type 0
   Steps i answer new = InsnStep i store (section ∷ []) run answer store new
 
-  stepped : (i : Insn) (answer : Answer) (new : Run) → insn_at v.program run.state.place ≡ Some i → Steps i answer new → RunStep store (section ∷ []) run answer store new
+  stepped : (i : Insn) (answer : Answer) (new : Run) → insn_at v.program run.state.place ≡ Some i → Steps i answer new
+      → RunStep store (section ∷ []) run answer store new
   stepped i answer new here step = (i, ap (λ (p : Loaded). insn_at p.code run.state.place) x.program ∙ here, step)
 
   -- it is one whatever stands in the maps
-  anywhere : (i : Insn) (answer : Answer) (new : Run) → insn_at v.program run.state.place ≡ Some i → Steps i answer new → (other : map_state.Store) (sections : List Section) → RunStep other sections run answer other new
+  anywhere : (i : Insn) (answer : Answer) (new : Run) → insn_at v.program run.state.place ≡ Some i →
+      Steps i answer new → (other : map_state.Store) (sections : List Section) →
+      RunStep other sections run answer other new
   anywhere i answer new here step = (others_change_nothing store store (section ∷ []) run new answer x.own (stepped i answer new here step)).1
 
   alone : (i : Insn) (out : Outcome) (answer : Answer) (new : Run) → StepsAlone i store run answer store new → Steps i answer new
   alone i out answer new h = inl h
 
   -- it leads further on
-  leads : (i : Insn) (new : Run) → insn_at v.program run.state.place ≡ Some i → Steps i Moved new → new.exit ≡ None → (index : ℕ) → StartsAt v.program index new.state.place → new.moved ≤ index
+  leads : (i : Insn) (new : Run) → insn_at v.program run.state.place ≡ Some i → Steps i Moved new → new.exit ≡ None →
+      (index : ℕ) → StartsAt v.program index new.state.place → new.moved ≤ index
   leads i new here step going index at =
       let d = k.described in
       let l = some.closed.leads d.index i store (section ∷ []) run Moved store new
-      (surrounds v.program v.shapes v.ctx_len some.plan some.closed v.shapes run d (element_of v.shapes section) (plain-content v.shapes section) (plain-single v.program v.shapes v.ctx_len some.plan some.closed v.shapes run d))
-      (planned v.program v.shapes v.ctx_len some.plan some.closed v.shapes run d (element_of v.shapes section) (plain-guards v.program v.shapes v.ctx_len some.plan some.closed v.shapes run d)) here step in
+      (surrounds v.program v.shapes v.ctx_len some.plan some.closed v.shapes run d (element_of v.shapes section)
+      (plain-content v.shapes section) (plain-single v.program v.shapes v.ctx_len some.plan some.closed v.shapes
+      run d))
+      (planned v.program v.shapes v.ctx_len some.plan some.closed v.shapes run d (element_of v.shapes section)
+      (plain-guards v.program v.shapes v.ctx_len some.plan some.closed v.shapes run d)) here step in
       let p = l.1 going in
       let same : p.index ≡ index = starts_apart 0 v.program p.index index new.state.place p.planned.at at in
       let more : d.index < p.index = p.further in
@@ -204,7 +218,8 @@ module _ (v : Checked) (view : RunView) (x : StandsAlone v view) where
       let counts : new.moved ≡ run.moved + 1 = (same-insn i store (section ∷ []) run Moved store new step).counts in
       omega (arith, same, more, few, counts)
 
-  goes-on : (i : Insn) (new : Run) (u : RunView) → insn_at v.program run.state.place ≡ Some i → Steps i Moved new → ((plan : Plan) → IsClosed v.program v.shapes v.ctx_len plan → Shows plan new u) → Further v view u
+  goes-on : (i : Insn) (new : Run) (u : RunView) → insn_at v.program run.state.place ≡ Some i → Steps i Moved new →
+      ((plan : Plan) → IsClosed v.program v.shapes v.ctx_len plan → Shows plan new u) → Further v view u
   goes-on i new u here step shown =
       let same = same-insn i store (section ∷ []) run Moved store new step in
       let w = shown some.plan some.closed in
@@ -225,16 +240,19 @@ module _ (v : Checked) (view : RunView) (x : StandsAlone v view) where
           so_far = λ n value y.
               let f : view.moved + suc n ≡ u.moved + n = omega (arith, moved) in
               subst (λ (c : List ℕ). ExitsFrom (fresh_run 0 (loaded_among v) c) (u.moved + n) value) (sym context)
-              (subst (λ (t : ℕ). ExitsFrom (fresh_run 0 (loaded_among v) view.context) t value) f (x.so_far (suc n) value (exits_later run new n value (anywhere i Moved new here step) y)));
+              (subst (λ (t : ℕ). ExitsFrom (fresh_run 0 (loaded_among v) view.context) t value) f
+              (x.so_far (suc n) value (exits_later run new n value (anywhere i Moved new here step) y)));
         };
         context = context;
         moved = moved;
       }
 
   -- its exit is that of the program by itself
-  finishes : (i : Insn) (n : ℕ) (new : Run) → insn_at v.program run.state.place ≡ Some i → Steps i (Exited n) new → ExitsWith (loaded_alone v) view.context (view.moved + 1) n
+  finishes : (i : Insn) (n : ℕ) (new : Run) → insn_at v.program run.state.place ≡ Some i → Steps i (Exited n) new →
+      ExitsWith (loaded_alone v) view.context (view.moved + 1) n
   finishes i n new here step =
-      exit_alike (loaded_among v) (loaded_alone v) view.context (view.moved + 1) n x.without_maps refl (0, x.so_far 1 n (exits_now run new n (anywhere i (Exited n) new here step)))
+      exit_alike (loaded_among v) (loaded_alone v) view.context (view.moved + 1) n x.without_maps refl
+      (0, x.so_far 1 n (exits_now run new n (anywhere i (Exited n) new here step)))
 
   -- the step that its plan promises
   abbrev Turns : Insn → Type 0
@@ -246,15 +264,19 @@ module _ (v : Checked) (view : RunView) (x : StandsAlone v view) where
   abbrev Doing : Outcome → laws.LocalStep → Type 0
   Doing out l = Does v.program v.shapes v.ctx_len some.plan (ready some.plan some.closed) v.shapes run view k out l
 
-  acted : (i : Insn) (out : Outcome) → insn_at v.program run.state.place ≡ Some i → after_insn i (environment run) run.state ≡ Some out → Doing out (laws.local_of i view)
+  acted : (i : Insn) (out : Outcome) → insn_at v.program run.state.place ≡ Some i →
+      after_insn i (environment run) run.state ≡ Some out → Doing out (laws.local_of i view)
   acted i out here e = acts-alone v.program v.shapes v.ctx_len some.plan (ready some.plan some.closed) v.shapes run view k i out here e
 
-  asked-so : (plan : Plan) (closed : IsClosed v.program v.shapes v.ctx_len plan) (i : Insn) (asked : Asked) → insn_at v.program run.state.place ≡ Some i → asks_of i listed run.state ≡ Some asked
+  asked-so : (plan : Plan) (closed : IsClosed v.program v.shapes v.ctx_len plan) (i : Insn) (asked : Asked) →
+      insn_at v.program run.state.place ≡ Some i → asks_of i listed run.state ≡ Some asked
       → AsksSo v.program v.shapes v.ctx_len plan (ready plan closed) v.shapes run view (x.shown plan closed) i asked
   asked-so plan closed i asked here e = asks-so v.program v.shapes v.ctx_len plan (ready plan closed) v.shapes run view (x.shown plan closed) i asked here e
 
   -- it goes on by itself
-  moved-to : (i : Insn) (out : Outcome) (new : RunView) → insn_at v.program run.state.place ≡ Some i → after_insn i (environment run) run.state ≡ Some out → laws.local_of i view ≡ laws.Goes new → Doing out (laws.Goes new) → Further v view new
+  moved-to : (i : Insn) (out : Outcome) (new : RunView) → insn_at v.program run.state.place ≡ Some i →
+      after_insn i (environment run) run.state ≡ Some out → laws.local_of i view ≡ laws.Goes new →
+      Doing out (laws.Goes new) → Further v view new
   moved-to i (Moves next) new here e is d =
       goes-on i (moves_run run next) new here (alone i (Moves next) Moved (moves_run run next) (Moves next, e, refl, (refl, refl)))
       (λ plan closed. goes-alone v.program v.shapes v.ctx_len plan (ready plan closed) v.shapes run view (x.shown plan closed) i next new here e is)
@@ -264,23 +286,30 @@ module _ (v : Checked) (view : RunView) (x : StandsAlone v view) where
   moved-by i new here is (Acts out e depth) = moved-to i out new here e is (subst (Doing out) is (acted i out here e))
   moved-by i new here is (AsksFor asked e) = absurd (goes-asks new (sym is ∙ (asked-so some.plan some.closed i asked here e).local))
 
-  pub moves : (new : RunView) → ((insn : Insn) → insn_at v.program view.place ≡ Some insn → IsLocalStep (laws.local_of insn view) (request_of insn view) view locals.Moved new) → Further v view new
+  pub moves : (new : RunView) → ((insn : Insn) → insn_at v.program view.place ≡ Some insn →
+      IsLocalStep (laws.local_of insn view) (request_of insn view) view locals.Moved new) → Further v view new
   moves new s =
       let here = known steps.insn steps.here in
-      moved-by steps.insn new here (went (laws.local_of steps.insn view) (request_of steps.insn view) view new (s steps.insn steps.here)) (turned steps.insn here)
+      moved-by steps.insn new here (went (laws.local_of steps.insn view) (request_of steps.insn view) view new
+      (s steps.insn steps.here)) (turned steps.insn here)
 
   -- it ends
-  ended-at : (i : Insn) (out : Outcome) (n : ℕ) → insn_at v.program run.state.place ≡ Some i → after_insn i (environment run) run.state ≡ Some out → ((m : ℕ) → out ≡ Exits m → run.depth ≡ 0) → Doing out (laws.Ends n) → ExitsWith (loaded_alone v) view.context (view.moved + 1) n
+  ended-at : (i : Insn) (out : Outcome) (n : ℕ) → insn_at v.program run.state.place ≡ Some i →
+      after_insn i (environment run) run.state ≡ Some out → ((m : ℕ) → out ≡ Exits m → run.depth ≡ 0) →
+      Doing out (laws.Ends n) → ExitsWith (loaded_alone v) view.context (view.moved + 1) n
   ended-at i (Moves next) n here e depth d = absurd d
   ended-at i (Exits m) n here e depth d =
       subst (λ (value : ℕ). ExitsWith (loaded_alone v) view.context (view.moved + 1) value) (sym d)
       (finishes i m (exits_run run m) here (alone i (Exits m) (Exited m) (exits_run run m) (Exits m, e, refl, (depth m refl, refl, refl))))
 
-  ended-by : (i : Insn) (n : ℕ) → insn_at v.program run.state.place ≡ Some i → laws.local_of i view ≡ laws.Ends n → Turns i → ExitsWith (loaded_alone v) view.context (view.moved + 1) n
+  ended-by : (i : Insn) (n : ℕ) → insn_at v.program run.state.place ≡ Some i → laws.local_of i view ≡ laws.Ends n →
+      Turns i → ExitsWith (loaded_alone v) view.context (view.moved + 1) n
   ended-by i n here is (Acts out e depth) = ended-at i out n here e depth (subst (Doing out) is (acted i out here e))
   ended-by i n here is (AsksFor asked e) = absurd (ends-asks n (sym is ∙ (asked-so some.plan some.closed i asked here e).local))
 
-  pub exits : (n : ℕ) (new : RunView) → ((insn : Insn) → insn_at v.program view.place ≡ Some insn → IsLocalStep (laws.local_of insn view) (request_of insn view) view (locals.Exit n) new) → ExitsWith (loaded_alone v) view.context (view.moved + 1) n × (new.moved ≡ view.moved)
+  pub exits : (n : ℕ) (new : RunView) → ((insn : Insn) → insn_at v.program view.place ≡ Some insn →
+      IsLocalStep (laws.local_of insn view) (request_of insn view) view (locals.Exit n) new) →
+      ExitsWith (loaded_alone v) view.context (view.moved + 1) n × (new.moved ≡ view.moved)
   exits n new s =
       let here = known steps.insn steps.here in
       let o = ended (laws.local_of steps.insn view) (request_of steps.insn view) view new n (s steps.insn steps.here) in
@@ -304,20 +333,35 @@ module _ (v : Checked) (view : RunView) (x : StandsAlone v view) where
   let-through : (i : Insn) (word : ℕ) → insn_at v.program run.state.place ≡ Some i → Waits i → Further v view (resumed_view i word view)
   let-through i word here w =
       let next = (asked-so some.plan some.closed i w.asked here w.is).resumes Nothing in
-      let reply : MayReply run.program.maps w.asked Nothing = subst (λ (q : Asked). MayReply run.program.maps q Nothing) w.section_call.asks_is (section-reply run.program.maps w.section_call.function) in
-      let serves : ServesRequest run.program.maps w.asked store (section ∷ []) Nothing store = subst (λ (q : Asked). ServesRequest run.program.maps q store (section ∷ []) Nothing store) w.section_call.asks_is (section-serves run.program.maps w.section_call.function store (section ∷ [])) in
-      let served : StepsServed i store (section ∷ []) run Moved store next.0 = record { request = w.asked; reply = Nothing; asked = w.is; served = serves; answer_is = refl; resumes = next.1 } in
+      let reply : MayReply run.program.maps w.asked Nothing =
+      subst (λ (q : Asked). MayReply run.program.maps q Nothing) w.section_call.asks_is
+      (section-reply run.program.maps w.section_call.function) in
+      let serves : ServesRequest run.program.maps w.asked store (section ∷ []) Nothing store =
+      subst (λ (q : Asked). ServesRequest run.program.maps q store (section ∷ []) Nothing store)
+      w.section_call.asks_is (section-serves run.program.maps w.section_call.function store (section ∷ [])) in
+      let served : StepsServed i store (section ∷ []) run Moved store next.0 =
+      record {
+        request = w.asked;
+        reply = Nothing;
+        asked = w.is;
+        served = serves;
+        answer_is = refl;
+        resumes =
+            next.1;
+      } in
       goes-on i next.0 (resumed_view i word view) here (inr served)
       (λ plan closed. (asked-so plan closed i w.asked here w.is).goes_on Nothing word next.0 reply tt next.1)
 
   -- what a step leaves that asks something: it may be resumed, and then it has moved
   abbrev Shares : Request → RunView → Type 0
-  Shares request after = (insn : Insn) → insn_at v.program view.place ≡ Some insn → IsLocalStep (laws.local_of insn view) (request_of insn view) view (locals.Shared request) after
+  Shares request after = (insn : Insn) → insn_at v.program view.place ≡ Some insn →
+      IsLocalStep (laws.local_of insn view) (request_of insn view) view (locals.Shared request) after
 
   waits : (request : Request) (after : RunView) → Shares request after → Waits steps.insn
   waits request after s =
       let here = known steps.insn steps.here in
-      waits-by steps.insn here (waited (laws.local_of steps.insn view) (request_of steps.insn view) view after request (s steps.insn steps.here)).0 (turned steps.insn here)
+      waits-by steps.insn here (waited (laws.local_of steps.insn view) (request_of steps.insn view) view after request
+      (s steps.insn steps.here)).0 (turned steps.insn here)
 
   pub shares : (request : Request) (after : RunView) → Shares request after → AsksSection view after steps.insn request
   shares request after s =
@@ -328,8 +372,12 @@ module _ (v : Checked) (view : RunView) (x : StandsAlone v view) where
   pub given : (request : Request) (after : RunView) → Shares request after → MayGive v after request 0
   given request after s = let a = shares request after s in subst (λ (q : Request). MayGive v after q 0) (sym a.access_is) (section-given v after a.function)
 
-  pub resumed : (request : Request) (after new : RunView) (word : ℕ) → Shares request after → ((insn : Insn) → insn_at v.program after.place ≡ Some insn → new ≡ resumed_view insn word after) → Further v view new
+  pub resumed : (request : Request) (after new : RunView) (word : ℕ) → Shares request after →
+      ((insn : Insn) → insn_at v.program after.place ≡ Some insn → new ≡ resumed_view insn word after) →
+      Further v view new
   resumed request after new word s h =
       let a = shares request after s in
-      let e : new ≡ resumed_view steps.insn word view = subst (λ (u : RunView). (insn : Insn) → insn_at v.program u.place ≡ Some insn → new ≡ resumed_view insn word u) a.same h steps.insn steps.here in
+      let e : new ≡ resumed_view steps.insn word view =
+      subst (λ (u : RunView). (insn : Insn) → insn_at v.program u.place ≡ Some insn →
+      new ≡ resumed_view insn word u) a.same h steps.insn steps.here in
       subst (Further v view) (sym e) (let-through steps.insn word (known steps.insn steps.here) (waits request after s))

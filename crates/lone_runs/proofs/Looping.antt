@@ -23,7 +23,8 @@ use Rattle.machine.specs.declared.workspace.Workspace.{Workspace}
 use Rattle.machine.specs.Requests.{request_of, entered_view, resumed_view}
 use Rattle.machine.specs.RunWords.{run_words}
 use Rattle.machine.specs.Steps.{IsLocalStep}
-use Rattle.machine.specs.Workspaces.{CanDo, CanGoOn, DoesAt, HasGoneOn, HasMoved, IsFreshWorkspace, IsMove, index_after, moved_on, not_yet, once_more, told, view_after, view_at}
+use Rattle.machine.specs.Workspaces.{CanDo, CanGoOn, DoesAt, HasGoneOn, HasMoved, IsFreshWorkspace, IsMove}
+use Rattle.machine.specs.Workspaces.{index_after, moved_on, not_yet, once_more, told, view_after, view_at}
 use Rattle.machine.proofs.Places.{insn_there, next_place}
 use Rattle.machine.proofs.Serving.{can_do}
 use Rattle.lone_runs.specs.Lone.{StandsAlone, loaded_alone}
@@ -95,14 +96,17 @@ module _ (c : Checked) (context : List ℕ) (index moved : ℕ) (w : Workspace) 
   -- a lock or an unlock is let through
   entered_at : (f : KernelFunction) (new : Workspace) → slot_total (take (index + 1) c.program) ≡ slot_total (take index c.program) + 1
       → entered_view (Some f) (view_at c.program context index new b.view) ≡ view_at c.program context (index + 1) new (entered_view (Some f) b.view)
-  entered_at ReadLock new e = ap (λ (p : ℕ). (run_words b.view.program context new.registers new.frame p (b.view.depth + 1) (b.view.moved + 1) b.view.exit 0).view) (sym e)
-  entered_at ReadUnlock new e = ap (λ (p : ℕ). (run_words b.view.program context new.registers new.frame p (b.view.depth - 1) (b.view.moved + 1) b.view.exit 0).view) (sym e)
+  entered_at ReadLock new e = ap (λ (p : ℕ). (run_words b.view.program context new.registers new.frame p
+      (b.view.depth + 1) (b.view.moved + 1) b.view.exit 0).view) (sym e)
+  entered_at ReadUnlock new e = ap (λ (p : ℕ). (run_words b.view.program context new.registers new.frame p
+      (b.view.depth - 1) (b.view.moved + 1) b.view.exit 0).view) (sym e)
 
   entered_moved : (f : KernelFunction) → (entered_view (Some f) b.view).moved ≡ moved + 1
   entered_moved ReadLock = ap (λ (n : ℕ). n + 1) b.moved_is
   entered_moved ReadUnlock = ap (λ (n : ℕ). n + 1) b.moved_is
 
-  pub loop_passes : (new : Workspace) (result : Next) (request : Request) → Did new result → result ≡ Shared request → StandsBefore c context (index + 1) (moved + 1) new
+  pub loop_passes : (new : Workspace) (result : Next) (request : Request) → Did new result → result ≡ Shared request →
+      StandsBefore c context (index + 1) (moved + 1) new
   loop_passes new result request does e =
       let after = view_at c.program context index new b.view in
       let shared = step_to new result (Shared request) does e in
@@ -123,7 +127,8 @@ module _ (c : Checked) (context : List ℕ) (index moved : ℕ) (w : Workspace) 
       }
 
 -- after further moves, one after another
-pub along : (c : Checked) (context : List ℕ) (from before : ℕ) (start : Workspace) → StandsBefore c context from before start → (moved index : ℕ) (w : Workspace)
+pub along : (c : Checked) (context : List ℕ) (from before : ℕ) (start : Workspace) →
+    StandsBefore c context from before start → (moved index : ℕ) (w : Workspace)
     → HasMoved c.program context from start moved index w → StandsBefore c context index (before + moved) w
 along c context from before start b moved index w not_yet = subst (λ (n : ℕ). StandsBefore c context from n start) (omega arith) b
 along c context from before start b moved index w (once_more so_far at mid new next h m does) =
@@ -138,14 +143,18 @@ module _ (c : Checked) (context : List ℕ) (from before most : ℕ) (start : Wo
     abbrev last : StandsBefore c context halt.index (before + (most - halt.left)) h.mid
     last = along c context from before start b (most - halt.left) halt.index h.mid h.moves
 
-    behind : (index : ℕ) → StandsBefore c context index (before + (most - halt.left) + 1) new → StandsBefore c context index (before + ((most - halt.left) + 1)) new
+    behind : (index : ℕ) → StandsBefore c context index (before + (most - halt.left) + 1) new →
+        StandsBefore c context index (before + ((most - halt.left) + 1)) new
     behind index s = subst (λ (n : ℕ). StandsBefore c context index n new) (omega arith) s
 
     pub halts_on : halt.next ≡ On → StandsBefore c context (halt.index + 1) (before + ((most - halt.left) + 1)) new
-    halts_on e = behind (halt.index + 1) (loop_moves c context halt.index (before + (most - halt.left)) h.mid last new On (subst (λ (n : Next). (insn : Insn) → DoesAt c.program context insn halt.index h.mid n new) e h.last) tt)
+    halts_on e = behind (halt.index + 1) (loop_moves c context halt.index (before + (most - halt.left)) h.mid last new
+        On (subst (λ (n : Next). (insn : Insn) → DoesAt c.program context insn halt.index h.mid n new) e h.last) tt)
 
     pub halts_at : (target : ℕ) → halt.next ≡ At target → StandsBefore c context target (before + ((most - halt.left) + 1)) new
-    halts_at target e = behind target (loop_moves c context halt.index (before + (most - halt.left)) h.mid last new (At target) (subst (λ (n : Next). (insn : Insn) → DoesAt c.program context insn halt.index h.mid n new) e h.last) tt)
+    halts_at target e = behind target (loop_moves c context halt.index (before + (most - halt.left)) h.mid last new
+        (At target) (subst (λ (n : Next). (insn : Insn) → DoesAt c.program context insn halt.index h.mid n new) e
+        h.last) tt)
 
     pub halts_shared : (request : Request) → halt.next ≡ Shared request → StandsBefore c context (halt.index + 1) (before + ((most - halt.left) + 1)) new
     halts_shared request e = behind (halt.index + 1) (loop_passes c context halt.index (before + (most - halt.left)) h.mid last new halt.next request h.last e)

@@ -40,7 +40,8 @@ start-word (suc (suc (suc (suc (suc (suc (suc (suc (suc zero))))))))) h = tt
 start-word (suc (suc (suc (suc (suc (suc (suc (suc (suc (suc zero)))))))))) h = refl
 start-word (suc (suc (suc (suc (suc (suc (suc (suc (suc (suc (suc r))))))))))) h = absurd (omega arith)
 
-module _ (v : Checked) (justified : IsJustified v) (without-maps : HasNoMaps v.program) (context : List ℕ) (long : length context ≡ v.ctx_len) (bytes : AreBytes context) where
+module _ (v : Checked) (justified : IsJustified v) (without-maps : HasNoMaps v.program) (context : List ℕ)
+    (long : length context ≡ v.ctx_len) (bytes : AreBytes context) where
   -- the program's list names each map by its own number
   bound : AreMapsBound v.shapes (range_with_len 0 (length v.shapes)) (map new_map v.shapes)
   bound = record {

@@ -1,5 +1,7 @@
 -- Each map slot is free, holds an element that isn't reclaimed, or is worn out.
-use Rattle.std.proofs.Common.{◌≡◌, ◌≢◌, ℕ, zero, suc, ◌+◌, ◌*◌, ◌<◌, ◌≤◌, List, [], ◌∷◌, ◌++◌, length, replicate, Option, Some, None, inl, inr, refl, sym, ap, ◌∙◌, arith, subst, Result, Bool, true, false}
+use Rattle.std.proofs.Common.{◌≡◌, ◌≢◌, ℕ, zero, suc, ◌+◌, ◌*◌, ◌<◌, ◌≤◌, List, [], ◌∷◌, ◌++◌, length, replicate}
+use Rattle.std.proofs.Common.{Option, Some, None, inl, inr, refl, sym, ap, ◌∙◌, arith, subst, Result, Bool, true}
+use Rattle.std.proofs.Common.{false}
 use Rattle.std.specs.Prelude.{slice_get, slice_set, ◌↔◌, ◌==◌, not, if◌then◌else◌}
 use Rattle.std.specs.List.{sum_by}
 use Rattle.std.proofs.Math.Nat.{add-mul}
@@ -43,7 +45,10 @@ use Rattle.bpf_model.specs.Shapes.{IsArrayShape, IsShape, AreShapes}
 use Rattle.bpf_model.specs.MapState.{slots_of_shape, new_bag, all_new_elements}
 use Rattle.model_laws.proofs.NewElements.{new_count, new-once, fresh-counts, born-new}
 use Rattle.model_laws.proofs.Counting.{map-back, times-append, times-first, times-other}
-use Rattle.model_laws.proofs.Tallies.{one_of, count-set, sum-set, uses_of, is_kept, of-same, of-other, kept-touched, kept-born, kept-reclaimed, kept-kinds, kept_uses, uses-touched, born-touched, kept-was, kept-is, uses-here, uses-away, uses-born, born-born, uses-reclaimed, born-reclaimed, uses-most}
+use Rattle.model_laws.proofs.Tallies.{one_of, count-set, sum-set, uses_of, is_kept, of-same, of-other, kept-touched}
+use Rattle.model_laws.proofs.Tallies.{kept-born, kept-reclaimed, kept-kinds, kept_uses, uses-touched, born-touched}
+use Rattle.model_laws.proofs.Tallies.{kept-was, kept-is, uses-here, uses-away, uses-born, born-born, uses-reclaimed}
+use Rattle.model_laws.proofs.Tallies.{born-reclaimed, uses-most}
 use Rattle.bpf_model.proofs.Lists.{get-append_cases, get-set_cases}
 use Rattle.bpf_model.specs.History.{last_of}
 use Rattle.model_laws.proofs.Requests.{run_by_kind}
@@ -69,15 +74,22 @@ unused-free (suc n) c h = elim (cases_eq 0 c) [
   | inr ne ↦ let t = times-other c 0 (replicate n 0) ne in unused-free n c (omega arith)
 ]
 
-hash-adds : (k : ℕ) (shape : MapShape) (es : List Element) → born_count k es ≡ 0 → kept_count k es ≡ 0 → kept_uses k es ≡ 0 → ((n : ℕ) (e : Element) → slice_get es n ≡ Some e → e.uses ≡ 1) → AddsUp k es (record { shape = shape; bag = replicate (slots_of_shape shape) 0; worn = 0 })
+hash-adds : (k : ℕ) (shape : MapShape) (es : List Element) → born_count k es ≡ 0 → kept_count k es ≡ 0 →
+    kept_uses k es ≡ 0 → ((n : ℕ) (e : Element) → slice_get es n ≡ Some e → e.uses ≡ 1) →
+    AddsUp k es (record { shape = shape; bag = replicate (slots_of_shape shape) 0; worn = 0 })
 hash-adds k shape es born kept uses ones = record {
-  slots = let free : length (replicate {A = ℕ} (shape.entries + shape.spare) 0) ≡ shape.entries + shape.spare = length-replicate (shape.entries + shape.spare) 0 in omega arith;
-  births = let a : total (replicate (shape.entries + shape.spare) 0) ≡ (shape.entries + shape.spare) * 0 = sum_by-replicate (λ c. c) (shape.entries + shape.spare) 0 in omega arith;
+  slots = let free : length (replicate {A = ℕ} (shape.entries + shape.spare) 0) ≡ shape.entries + shape.spare =
+      length-replicate (shape.entries + shape.spare) 0 in omega arith;
+  births = let a : total (replicate (shape.entries + shape.spare) 0) ≡ (shape.entries + shape.spare) * 0 =
+      sum_by-replicate (λ c. c) (shape.entries + shape.spare) 0 in omega arith;
   free = λ some c h. let z = unused-free (shape.entries + shape.spare) c h in omega arith;
   kept = λ some n e at kept. let one = ones n e at in omega arith;
 }
 
-array-adds : (k : ℕ) (shape : MapShape) (es : List Element) → IsArrayShape shape → born_count k es ≡ shape.entries → kept_count k es ≡ shape.entries → kept_uses k es ≡ shape.entries → ((n : ℕ) (e : Element) → slice_get es n ≡ Some e → e.uses ≡ 1) → AddsUp k es (record { shape = shape; bag = []; worn = 0 })
+array-adds : (k : ℕ) (shape : MapShape) (es : List Element) → IsArrayShape shape → born_count k es ≡ shape.entries →
+    kept_count k es ≡ shape.entries → kept_uses k es ≡ shape.entries →
+    ((n : ℕ) (e : Element) → slice_get es n ≡ Some e → e.uses ≡ 1) →
+    AddsUp k es (record { shape = shape; bag = []; worn = 0 })
 array-adds k shape es array born kept uses ones = record {
   slots = let spare = array.spare in omega arith;
   births = omega arith;
@@ -85,7 +97,9 @@ array-adds k shape es array born kept uses ones = record {
   kept = λ some n e at kept. let one = ones n e at in omega arith;
 }
 
-new-map-adds : (k : ℕ) (kind : MapKind) (shape : MapShape) (es : List Element) → shape.kind ≡ kind → IsShape shape → born_count k es ≡ new_count kind shape → kept_count k es ≡ born_count k es → kept_uses k es ≡ born_count k es → ((n : ℕ) (e : Element) → slice_get es n ≡ Some e → e.uses ≡ 1) →
+new-map-adds : (k : ℕ) (kind : MapKind) (shape : MapShape) (es : List Element) → shape.kind ≡ kind → IsShape shape →
+    born_count k es ≡ new_count kind shape → kept_count k es ≡ born_count k es → kept_uses k es ≡ born_count k es →
+    ((n : ℕ) (e : Element) → slice_get es n ≡ Some e → e.uses ≡ 1) →
     AddsUp k es (record { shape = shape; bag = new_bag kind shape; worn = 0 })
 new-map-adds k Hash shape es is limits born kept uses ones = hash-adds k shape es born (kept ∙ born) (uses ∙ born) ones
 new-map-adds k Array shape es is limits born kept uses ones = array-adds k shape es (limits.array is) born (kept ∙ born) (uses ∙ born) ones
@@ -96,7 +110,8 @@ accounted-start shapes programs limits k m at =
     let es : List Element = all_new_elements 0 shapes in
     let ones = new-once 0 shapes in
     let counts = fresh-counts k es ones in
-    subst (AddsUp k es) b.2 (new-map-adds k b.0.kind b.0 es refl (limits k b.0 b.1) (born-new 0 shapes k k b.0 b.1 (omega arith)) counts.0 counts.1 (λ n e h. (ones n e h).1))
+    subst (AddsUp k es) b.2 (new-map-adds k b.0.kind b.0 es refl (limits k b.0 b.1)
+    (born-new 0 shapes k k b.0 b.1 (omega arith)) counts.0 counts.1 (λ n e h. (ones n e h).1))
 
 -- what a step keeps
 abbrev Accounts : Store → Store → Type 0
@@ -155,7 +170,9 @@ module _ (old new : List ℕ) (count : ℕ) (t : TakesOut old count new) where
       let e = times-first count count t.after refl in
       omega arith
 
-module _ (s : Store) (map : ℕ) (m : MapState) (h : Accounted s) (opened : List Section) (mid : List Element) (key value bag : List ℕ) (count : ℕ) (there : slice_get s.maps map ≡ Some m) (taken : TakesOut m.bag count bag) (touched : Touches false opened s.elements mid) where
+module _ (s : Store) (map : ℕ) (m : MapState) (h : Accounted s) (opened : List Section) (mid : List Element)
+    (key value bag : List ℕ) (count : ℕ) (there : slice_get s.maps map ≡ Some m) (taken : TakesOut m.bag count bag)
+    (touched : Touches false opened s.elements mid) where
   abbrev nb : Element
   nb = newborn map key value count
 
@@ -212,23 +229,29 @@ module _ (s : Store) (map : ℕ) (m : MapState) (h : Accounted s) (opened : List
 
   accounts-born : (new : Store) → new ≡ record { elements = es; maps = slice_set s.maps map (with_bag bag m) } → Accounted new
   accounts-born new e =
-      let holds : Accounted (record { elements = es; maps = slice_set s.maps map (with_bag bag m) }) = λ k state at. elim (get-set_cases s.maps map k (with_bag bag m) state at) [
+      let holds : Accounted (record { elements = es; maps = slice_set s.maps map (with_bag bag m) }) = λ k state at.
+      elim (get-set_cases s.maps map k (with_bag bag m) state at) [
         | inl x ↦ subst (λ z. AddsUp z es state) (sym x.0) (subst (AddsUp map es) x.1 born-here)
         | inr x ↦ born-elsewhere k state x.0 x.1
       ] in
       subst Accounted (sym e) holds
 
-accounts-replaces : (s : Store) (opened : List Section) (map : ℕ) (m : MapState) (key value : List ℕ) (found : Option ℕ) (new : Store) → slice_get s.maps map ≡ Some m → LooksUp s map key found → Replaces s opened map m key value found new → Accounts s new
+accounts-replaces : (s : Store) (opened : List Section) (map : ℕ) (m : MapState) (key value : List ℕ)
+    (found : Option ℕ) (new : Store) → slice_get s.maps map ≡ Some m → LooksUp s map key found →
+    Replaces s opened map m key value found new → Accounts s new
 accounts-replaces s opened map m key value found new there l r h =
-    accounts-born s map m h opened (unlinked opened s.elements found) key value r.bag r.count there r.taken (touches-found false opened s map key found l) new r.new_is
+    accounts-born s map m h opened (unlinked opened s.elements found) key value r.bag r.count there r.taken
+    (touches-found false opened s map key found l) new r.new_is
 
 -- another value changes no count
-adds-set : (k : ℕ) (es : List Element) (n : ℕ) (e : Element) (value : List ℕ) (m : MapState) → slice_get es n ≡ Some e → AddsUp k es m → AddsUp k (slice_set es n (with_value value e)) m
+adds-set : (k : ℕ) (es : List Element) (n : ℕ) (e : Element) (value : List ℕ) (m : MapState) → slice_get es n ≡ Some e
+    → AddsUp k es m → AddsUp k (slice_set es n (with_value value e)) m
 adds-set k es n e value m at a =
     let fs : List Element = slice_set es n (with_value value e) in
     let kept : kept_count k fs + one_of (is_kept k e) ≡ kept_count k es + one_of (is_kept k e) = count-set (is_kept k) es n e (with_value value e) at in
     let uses : kept_uses k fs + uses_of k e ≡ kept_uses k es + uses_of k e = sum-set (uses_of k) es n e (with_value value e) at in
-    let born : born_count k fs + one_of (e.map == k) ≡ born_count k es + one_of (e.map == k) = count-set (λ (x : Element). x.map == k) es n e (with_value value e) at in
+    let born : born_count k fs + one_of (e.map == k) ≡ born_count k es + one_of (e.map == k) =
+    count-set (λ (x : Element). x.map == k) es n e (with_value value e) at in
     let old : total m.bag + kept_uses k es + m.worn * m.shape.reuse_limit ≡ born_count k es = a.births in
     let slots : length m.bag + kept_count k es + m.worn ≡ m.shape.entries + m.shape.spare = a.slots in
     record {
@@ -241,7 +264,8 @@ adds-set k es n e value m at a =
       ];
     }
 
-adds-set_to : (k : ℕ) (es : List Element) (n : ℕ) (value : List ℕ) (m : MapState) (o : Option Element) → slice_get es n ≡ o → AddsUp k es m → AddsUp k (set_to (with_value value) es n o) m
+adds-set_to : (k : ℕ) (es : List Element) (n : ℕ) (value : List ℕ) (m : MapState) (o : Option Element) →
+    slice_get es n ≡ o → AddsUp k es m → AddsUp k (set_to (with_value value) es n o) m
 adds-set_to k es n value m None at a = a
 adds-set_to k es n value m (Some e) at a = adds-set k es n e value m at a
 
@@ -249,23 +273,34 @@ adds-overwritten : (k : ℕ) (es : List Element) (found : Option ℕ) (value : L
 adds-overwritten k es None value m a = a
 adds-overwritten k es (Some n) value m a = adds-set_to k es n value m (slice_get es n) refl a
 
-accounts-writes : (kind : MapKind) (s : Store) (opened : List Section) (map : ℕ) (m : MapState) (key value : List ℕ) (found : Option ℕ) (new : Store) → slice_get s.maps map ≡ Some m → LooksUp s map key found → Writes kind s opened map m key value found new → Accounts s new
+accounts-writes : (kind : MapKind) (s : Store) (opened : List Section) (map : ℕ) (m : MapState) (key value : List ℕ)
+    (found : Option ℕ) (new : Store) → slice_get s.maps map ≡ Some m → LooksUp s map key found →
+    Writes kind s opened map m key value found new → Accounts s new
 accounts-writes Hash s opened map m key value found new there l r = accounts-replaces s opened map m key value found new there l r
-accounts-writes Array s opened map m key value found new there l r = λ h. subst Accounted (sym r) (λ k state at. adds-overwritten k s.elements found value state (h k state at))
+accounts-writes Array s opened map m key value found new there l r = λ h.
+    subst Accounted (sym r) (λ k state at. adds-overwritten k s.elements found value state (h k state at))
 
-accounts-settles : (kind : MapKind) (s : Store) (opened : List Section) (map : ℕ) (m : MapState) (key value : List ℕ) (found : Option ℕ) (new : Store) (error : Option Errno) (ret : Result (Unit {0}) Errno) → slice_get s.maps map ≡ Some m → LooksUp s map key found →
+accounts-settles : (kind : MapKind) (s : Store) (opened : List Section) (map : ℕ) (m : MapState) (key value : List ℕ)
+    (found : Option ℕ) (new : Store) (error : Option Errno) (ret : Result (Unit {0}) Errno) →
+    slice_get s.maps map ≡ Some m → LooksUp s map key found →
     Settles error ret s new (Writes kind s opened map m key value found new) → Accounts s new
 accounts-settles kind s opened map m key value found new None ret there l h = accounts-writes kind s opened map m key value found new there l h.1
 accounts-settles kind s opened map m key value found new (Some e) ret there l h = accounts-same s new h.1
 
-accounts-updates : (s : Store) (opened : List Section) (map : ℕ) (key value : List ℕ) (flags : ℕ) (ret : Result (Unit {0}) Errno) (new : Store) → Updates s opened map key value flags ret new → Accounts s new
-accounts-updates s opened map key value flags ret new u = accounts-settles u.state.shape.kind s opened map u.state key value u.found new _ ret u.there u.lookup u.settled
+accounts-updates : (s : Store) (opened : List Section) (map : ℕ) (key value : List ℕ) (flags : ℕ)
+    (ret : Result (Unit {0}) Errno) (new : Store) → Updates s opened map key value flags ret new → Accounts s new
+accounts-updates s opened map key value flags ret new u =
+    accounts-settles u.state.shape.kind s opened map u.state key value u.found new _ ret u.there u.lookup u.settled
 
-accounts-removes : (s : Store) (opened : List Section) (map : ℕ) (key : List ℕ) (ret : Result (Unit {0}) Errno) (new : Store) (found : Option ℕ) → LooksUp s map key found → Removes found opened ret s new → Accounts s new
+accounts-removes : (s : Store) (opened : List Section) (map : ℕ) (key : List ℕ) (ret : Result (Unit {0}) Errno)
+    (new : Store) (found : Option ℕ) → LooksUp s map key found → Removes found opened ret s new → Accounts s new
 accounts-removes s opened map key ret new None l h = accounts-same s new h.1
-accounts-removes s opened map key ret new (Some n) l h = accounts-elements opened s new (unlinked opened s.elements (Some n)) (touches-found false opened s map key (Some n) l) h.1
+accounts-removes s opened map key ret new (Some n) l h =
+    accounts-elements opened s new (unlinked opened s.elements (Some n))
+    (touches-found false opened s map key (Some n) l) h.1
 
-accounts-deletes : (s : Store) (opened : List Section) (map : ℕ) (key : List ℕ) (ret : Result (Unit {0}) Errno) (new : Store) → Deletes s opened map key ret new → Accounts s new
+accounts-deletes : (s : Store) (opened : List Section) (map : ℕ) (key : List ℕ) (ret : Result (Unit {0}) Errno)
+    (new : Store) → Deletes s opened map key ret new → Accounts s new
 accounts-deletes s opened map key ret new d = by d.state.shape.kind d.removed
   where
     by : (kind : MapKind) → RemovesFrom kind d.found opened ret s new → Accounts s new
@@ -287,7 +322,9 @@ given-uses true uses m is =
     omega arith
 given-uses false uses m is = let a : total (m.bag ++ uses ∷ []) ≡ total m.bag + uses = sum_by_push (λ (c : ℕ). c) m.bag uses in omega arith
 
-given-free : (b : Bool) (uses : ℕ) (m : MapState) → (uses == m.shape.reuse_limit) ≡ b → uses ≤ m.shape.reuse_limit → ((c : ℕ) → 0 < times c m.bag → c < m.shape.reuse_limit) → (c : ℕ) → 0 < times c (with_given (if b then Worn else Free) uses m).bag → c < m.shape.reuse_limit
+given-free : (b : Bool) (uses : ℕ) (m : MapState) → (uses == m.shape.reuse_limit) ≡ b → uses ≤ m.shape.reuse_limit →
+    ((c : ℕ) → 0 < times c m.bag → c < m.shape.reuse_limit) → (c : ℕ) →
+    0 < times c (with_given (if b then Worn else Free) uses m).bag → c < m.shape.reuse_limit
 given-free true uses m is most h c g = h c g
 given-free false uses m is most h c g = elim (cases_eq uses c) [
   | inl same ↦
@@ -300,7 +337,9 @@ given-free false uses m is most h c g = elim (cases_eq uses c) [
       h c (omega arith)
 ]
 
-module _ (s : Store) (n : ℕ) (e : Element) (since : List Section) (m : MapState) (born : slice_get s.elements n ≡ Some e) (life : e.life ≡ Unlinked since) (there : slice_get s.maps e.map ≡ Some m) (h : Accounted s) where
+module _ (s : Store) (n : ℕ) (e : Element) (since : List Section) (m : MapState)
+    (born : slice_get s.elements n ≡ Some e) (life : e.life ≡ Unlinked since)
+    (there : slice_get s.maps e.map ≡ Some m) (h : Accounted s) where
   abbrev rs : List Element
   rs = slice_set s.elements n (with_life Reclaimed e)
 
@@ -332,7 +371,8 @@ module _ (s : Store) (n : ℕ) (e : Element) (since : List Section) (m : MapStat
         births = omega arith;
         free = λ some c g.
             let low : 1 ≤ m.shape.reuse_limit = subst (λ l. 1 ≤ l) limits some in
-            subst (λ l. c < l) (sym limits) (given-free b e.uses m refl (a.kept low n e born (kept-is e.map e (Unlinked since) life refl refl)) (a.free low) c g);
+            subst (λ l. c < l) (sym limits) (given-free b e.uses m refl
+            (a.kept low n e born (kept-is e.map e (Unlinked since) life refl refl)) (a.free low) c g);
         kept = λ some i f at kept. subst (λ l. f.uses ≤ l) (sym limits) (a.kept (subst (λ l. 1 ≤ l) limits some) i f (still-kept e.map i f at kept) kept);
       }
 
@@ -358,53 +398,71 @@ accounts-reclaims : (s : Store) (opened : List Section) (n : ℕ) (e : Element) 
 accounts-reclaims s opened n e given new r h = subst Accounted (sym r.new_is) (accounted-given s n e r.since r.state r.born r.unlinked r.there h)
 
 -- a step
-accounts-helper : (h : Option Helper) (s : Store) (opened : List Section) (run : Run) (ret : Value) (new : Store) → HelperStep h s opened run ret new → Accounts s new
+accounts-helper : (h : Option Helper) (s : Store) (opened : List Section) (run : Run) (ret : Value) (new : Store) →
+    HelperStep h s opened run ret new → Accounts s new
 accounts-helper (Some helpers.Lookup) s opened run ret new h = accounts-same s new h.1
 accounts-helper (Some helpers.Update) s opened run ret new h = accounts-updates s opened h.map h.key h.value h.flags h.outcome new h.updated
 accounts-helper (Some helpers.Delete) s opened run ret new h = accounts-deletes s opened h.map h.key h.outcome new h.deleted
 accounts-helper None s opened run ret new h = absurd h
 
-accounts-insn : (i : Insn) (s : Store) (opened : List Section) (run : Run) (answer : Answer) (new : Store) (new_run : Run) → StepsByKind i s opened run answer new new_run → Accounts s new
+accounts-insn : (i : Insn) (s : Store) (opened : List Section) (run : Run) (answer : Answer) (new : Store)
+    (new_run : Run) → StepsByKind i s opened run answer new new_run → Accounts s new
 accounts-insn (Call kinds.Kernel imm) s opened run answer new new_run h = accounts-same s new h.2
 accounts-insn (Call kinds.Helper imm) s opened run answer new new_run h = accounts-helper (helper_of imm) s opened run h.0 new h.1
-accounts-insn i s opened run answer new new_run h = accounts-elements opened s new h.1 (touches-acts i opened (environment run) s.elements run.state h.0 h.1 h.2) h.3
+accounts-insn i s opened run answer new new_run h = accounts-elements opened s new h.1
+    (touches-acts i opened (environment run) s.elements run.state h.0 h.1 h.2) h.3
 
 accounts-with : (m new : Machine) (store : Store) → Accounts m.store store → new.store ≡ store → Accounts m.store new.store
 accounts-with m new store a e h = subst Accounted (sym e) (a h)
 
 accounts-performs : (m : Machine) (event : Event) (answer : Answer) (new : Machine) → PerformsEvent m event answer new → Accounts m.store new.store
 accounts-performs m (events.Start prog ctx) (answers.Started r) new h = accounts-same m.store new.store (ap (λ x. x.store) h.new_is)
-accounts-performs m (events.Step run) answer new h = accounts-with m new h.new_store (accounts-insn h.step.0 m.store (open_sections m.runs) h.run answer h.new_store h.new_run (run_by_kind m run answer new h)) (ap (λ x. x.store) h.new_is)
-accounts-performs m (events.Update map key value flags) (answers.Ret ret) new h = accounts-with m new h.0 (accounts-updates m.store (open_sections m.runs) map key.items value.items flags ret h.0 h.1) (ap (λ x. x.store) h.2)
-accounts-performs m (events.Delete map key) (answers.Ret ret) new h = accounts-with m new h.0 (accounts-deletes m.store (open_sections m.runs) map key.items ret h.0 h.1) (ap (λ x. x.store) h.2)
+accounts-performs m (events.Step run) answer new h = accounts-with m new h.new_store
+    (accounts-insn h.step.0 m.store (open_sections m.runs) h.run answer h.new_store h.new_run
+    (run_by_kind m run answer new h)) (ap (λ x. x.store) h.new_is)
+accounts-performs m (events.Update map key value flags) (answers.Ret ret) new h =
+    accounts-with m new h.0 (accounts-updates m.store (open_sections m.runs) map key.items value.items flags ret h.0
+    h.1) (ap (λ x. x.store) h.2)
+accounts-performs m (events.Delete map key) (answers.Ret ret) new h =
+    accounts-with m new h.0 (accounts-deletes m.store (open_sections m.runs) map key.items ret h.0 h.1)
+    (ap (λ x. x.store) h.2)
 accounts-performs m (events.Read map key) (answers.Found (Some value)) new h = accounts-same m.store new.store (ap (λ x. x.store) h.1)
 accounts-performs m (events.Read map key) (answers.Found None) new h = accounts-same m.store new.store (ap (λ x. x.store) h.1)
 accounts-performs m events.Advance answers.Done new h = accounts-same m.store new.store (ap (λ x. x.store) h)
 accounts-performs m events.Reap (answers.Reaped None) new h = accounts-same m.store new.store (ap (λ x. x.store) h)
-accounts-performs m events.Reap (answers.Reaped (Some reaped)) new h = accounts-with m new h.2 (accounts-reclaims m.store (open_sections m.runs) h.0 h.1 reaped.given h.2 h.3) (ap (λ x. x.store) h.6)
+accounts-performs m events.Reap (answers.Reaped (Some reaped)) new h =
+    accounts-with m new h.2 (accounts-reclaims m.store (open_sections m.runs) h.0 h.1 reaped.given h.2 h.3)
+    (ap (λ x. x.store) h.6)
 accounts-performs m (events.Drop run) answers.Done new h = accounts-same m.store new.store (ap (λ x. x.store) h)
 accounts-performs m event answer new h = absurd h
 
-accounts-answers : (o : Option EventRefusal) (m : Machine) (event : Event) (answer : Answer) (new : Machine) → Answers o m event answer new → Accounts m.store new.store
+accounts-answers : (o : Option EventRefusal) (m : Machine) (event : Event) (answer : Answer) (new : Machine) →
+    Answers o m event answer new → Accounts m.store new.store
 accounts-answers None m event answer new h = accounts-performs m event answer new h
 accounts-answers (Some k) m event answer new h = accounts-same m.store new.store (ap (λ x. x.store) h.1)
 
 -- a history
-accounted-along : (s : Schedule) (events : List Event) (answers : List Answer) (states : List Schedule) → Accounted s.machine.store → IsScheduledHistory s events answers states → Accounted (last_of s states).machine.store
+accounted-along : (s : Schedule) (events : List Event) (answers : List Answer) (states : List Schedule) →
+    Accounted s.machine.store → IsScheduledHistory s events answers states →
+    Accounted (last_of s states).machine.store
 accounted-along s [] [] [] a h = a
 accounted-along s (event ∷ events) (answer ∷ answers) (next ∷ states) a h =
     accounted-along next events answers states (accounts-answers (refusal s.machine event) s.machine event answer next.machine h.0.step a) h.1
 accounted-along s events answers states a h = absurd h
 
 reached-adds : (shapes : List MapShape) (programs : List Loaded) (s : Schedule) → IsReachedSchedule shapes programs s → Accounted s.machine.store
-reached-adds shapes programs s r = subst (λ (x : Schedule). Accounted x.machine.store) r.last (accounted-along (start_schedule shapes programs) r.events r.answers r.states (accounted-start shapes programs r.limits) r.history)
+reached-adds shapes programs s r = subst (λ (x : Schedule). Accounted x.machine.store) r.last
+    (accounted-along (start_schedule shapes programs) r.events r.answers r.states
+    (accounted-start shapes programs r.limits) r.history)
 
-pub slots_accounted : (shapes : List MapShape) (programs : List Loaded) (s : Schedule) (k : ℕ) (m : MapState) → IsReachedSchedule shapes programs s → slice_get s.machine.store.maps k ≡ Some m →
+pub slots_accounted : (shapes : List MapShape) (programs : List Loaded) (s : Schedule) (k : ℕ) (m : MapState) →
+    IsReachedSchedule shapes programs s → slice_get s.machine.store.maps k ≡ Some m →
     length m.bag + kept_count k s.machine.store.elements + m.worn ≡ m.shape.entries + m.shape.spare
 slots_accounted shapes programs s k m r at =
     (reached-adds shapes programs s r k m at).slots
 
-pub enomem_exactly : (shapes : List MapShape) (programs : List Loaded) (s : Schedule) (k : ℕ) (m : MapState) → IsReachedSchedule shapes programs s → slice_get s.machine.store.maps k ≡ Some m →
+pub enomem_exactly : (shapes : List MapShape) (programs : List Loaded) (s : Schedule) (k : ℕ) (m : MapState) →
+    IsReachedSchedule shapes programs s → slice_get s.machine.store.maps k ≡ Some m →
     (m.bag ≡ []) ↔ IsFull k s.machine.store.elements m
 enomem_exactly shapes programs s k m r at =
     let total = slots_accounted shapes programs s k m r at in
@@ -433,10 +491,15 @@ adds-most k es m a some =
     let free : total m.bag ≤ length m.bag * m.shape.reuse_limit = free-most m.bag m.shape.reuse_limit (a.free some) in
     let kept : kept_uses k es ≤ kept_count k es * m.shape.reuse_limit = uses-most k m.shape.reuse_limit es (a.kept some) in
     let births : total m.bag + kept_uses k es + m.worn * m.shape.reuse_limit ≡ born_count k es = a.births in
-    let one : (length m.bag + kept_count k es) * m.shape.reuse_limit ≡ length m.bag * m.shape.reuse_limit + kept_count k es * m.shape.reuse_limit = add-mul (length m.bag) (kept_count k es) m.shape.reuse_limit in
-    let two : (length m.bag + kept_count k es + m.worn) * m.shape.reuse_limit ≡ (length m.bag + kept_count k es) * m.shape.reuse_limit + m.worn * m.shape.reuse_limit = add-mul (length m.bag + kept_count k es) m.worn m.shape.reuse_limit in
+    let one : (length m.bag + kept_count k es) * m.shape.reuse_limit ≡ length m.bag * m.shape.reuse_limit + kept_count
+    k es * m.shape.reuse_limit = add-mul (length m.bag) (kept_count k es) m.shape.reuse_limit in
+    let two : (length m.bag + kept_count k es + m.worn) * m.shape.reuse_limit ≡ (length m.bag + kept_count k es) *
+    m.shape.reuse_limit + m.worn * m.shape.reuse_limit =
+    add-mul (length m.bag + kept_count k es) m.worn m.shape.reuse_limit in
     let slots : (length m.bag + kept_count k es + m.worn) * m.shape.reuse_limit ≡ most_births m.shape = ap (λ n. n * m.shape.reuse_limit) a.slots in
     omega arith
 
-pub births_bounded : (shapes : List MapShape) (programs : List Loaded) (s : Schedule) (k : ℕ) (m : MapState) → IsReachedSchedule shapes programs s → slice_get s.machine.store.maps k ≡ Some m → 1 ≤ m.shape.reuse_limit → born_count k s.machine.store.elements ≤ most_births m.shape
+pub births_bounded : (shapes : List MapShape) (programs : List Loaded) (s : Schedule) (k : ℕ) (m : MapState) →
+    IsReachedSchedule shapes programs s → slice_get s.machine.store.maps k ≡ Some m → 1 ≤ m.shape.reuse_limit →
+    born_count k s.machine.store.elements ≤ most_births m.shape
 births_bounded shapes programs s k m r at some = adds-most k s.machine.store.elements m (reached-adds shapes programs s r k m at) some

@@ -9,7 +9,8 @@ use Rattle.bpf_model.specs.Machine.{Run, Machine, open_sections, is_inside, sect
 use Rattle.bpf_model.specs.Event.{PerformsEvent}
 use Rattle.bpf_model.specs.Schedule.{Queues, Schedule, open_flags, is_any, turned, advanced, DoesScheduled}
 
-no_flag-at : (b : Bool) (s : Section) (rest : List Section) (flags : List Bool) → (if b then s ∷ rest else rest) ≡ [] → (rest ≡ [] → is_any flags ≡ false) → is_any (b ∷ flags) ≡ false
+no_flag-at : (b : Bool) (s : Section) (rest : List Section) (flags : List Bool) → (if b then s ∷ rest else rest) ≡ []
+    → (rest ≡ [] → is_any flags ≡ false) → is_any (b ∷ flags) ≡ false
 no_flag-at true s rest flags h k = absurd (cc)
 no_flag-at false s rest flags h k = k h
 
@@ -22,7 +23,8 @@ same-machine : (m new : Machine) (answer : Answer) → PerformsEvent m Advance a
 same-machine m new Done h = h
 same-machine m new answer h = absurd h
 
-turns : (s t : Schedule) (answer : Answer) → is_any s.awaited ≡ false → DoesScheduled s Advance answer t → (t.queues ≡ map turned s.queues) × (t.awaited ≡ open_flags t.machine.runs)
+turns : (s t : Schedule) (answer : Answer) → is_any s.awaited ≡ false → DoesScheduled s Advance answer t →
+    (t.queues ≡ map turned s.queues) × (t.awaited ≡ open_flags t.machine.runs)
 turns s t answer h d =
     let e : t ≡ advanced s t.machine false = d.lists ∙ ap (advanced s t.machine) h in
     (ap (λ x. x.queues) e, ap (λ x. x.awaited) e)
@@ -32,8 +34,10 @@ get-turned [] k q h = absurd (cc)
 get-turned (x ∷ qs) zero q h = let e : x ≡ q = cc in ap (λ y. Some (turned y)) e
 get-turned (x ∷ qs) (suc k) q h = get-turned qs k q h
 
-pub two_quiet_advances : (s t u : Schedule) (a b : Answer) → is_any s.awaited ≡ false → open_sections s.machine.runs ≡ [] → DoesScheduled s Advance a t → DoesScheduled t Advance b u →
-    (k : ℕ) (q : Queues) → slice_get s.queues k ≡ Some q → slice_get u.queues k ≡ Some (record { next = []; waiting = []; ready = (q.ready ++ q.waiting) ++ q.next })
+pub two_quiet_advances : (s t u : Schedule) (a b : Answer) → is_any s.awaited ≡ false →
+    open_sections s.machine.runs ≡ [] → DoesScheduled s Advance a t → DoesScheduled t Advance b u →
+    (k : ℕ) (q : Queues) → slice_get s.queues k ≡ Some q →
+    slice_get u.queues k ≡ Some (record { next = []; waiting = []; ready = (q.ready ++ q.waiting) ++ q.next })
 two_quiet_advances s t u a b none quiet first second k q h =
     let m = same-machine s.machine t.machine a first.step in
     let one = turns s t a none first in

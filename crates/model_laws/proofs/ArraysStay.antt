@@ -49,17 +49,23 @@ fixed-same : (maps : List MapState) (es fs : List Element) → fs ≡ es → Fix
 fixed-same maps es fs h n e f at bt stays = subst (StaysLinked maps) (same_Some e f (sym at ∙ (ap (λ l. slice_get l n) (sym h) ∙ bt))) stays
 
 -- a change of one element that doesn't end it
-fixed-set : (maps : List MapState) (es : List Element) (k : ℕ) (new : Element) → ((e : Element) → slice_get es k ≡ Some e → StaysLinked maps e → StaysLinked maps new) → Fixed maps es (slice_set es k new)
+fixed-set : (maps : List MapState) (es : List Element) (k : ℕ) (new : Element) →
+    ((e : Element) → slice_get es k ≡ Some e → StaysLinked maps e → StaysLinked maps new) →
+    Fixed maps es (slice_set es k new)
 fixed-set maps es k new h n e f at bt stays = elim (get-set_cases es k n new f bt) [
   | inl x ↦ subst (StaysLinked maps) x.1 (h e (ap (slice_get es) (sym x.0) ∙ at) stays)
   | inr x ↦ subst (StaysLinked maps) (same_Some e f (sym at ∙ x.1)) stays
 ]
 
-fixed-set_to : (maps : List MapState) (g : Element → Element) (es : List Element) (k : ℕ) (o : Option Element) → slice_get es k ≡ o → ((e : Element) → slice_get es k ≡ Some e → StaysLinked maps e → StaysLinked maps (g e)) → Fixed maps es (set_to g es k o)
+fixed-set_to : (maps : List MapState) (g : Element → Element) (es : List Element) (k : ℕ) (o : Option Element) →
+    slice_get es k ≡ o → ((e : Element) → slice_get es k ≡ Some e → StaysLinked maps e → StaysLinked maps (g e)) →
+    Fixed maps es (set_to g es k o)
 fixed-set_to maps g es k None is h = fixed-same maps es es refl
 fixed-set_to maps g es k (Some x) is h = fixed-set maps es k (g x) (λ e at stays. h x is (subst (StaysLinked maps) (same_Some e x (sym at ∙ is)) stays))
 
-fixed-changed : (maps : List MapState) (g : Element → Element) (es : List Element) (k : ℕ) → ((e : Element) → slice_get es k ≡ Some e → StaysLinked maps e → StaysLinked maps (g e)) → Fixed maps es (changed g es k)
+fixed-changed : (maps : List MapState) (g : Element → Element) (es : List Element) (k : ℕ) →
+    ((e : Element) → slice_get es k ≡ Some e → StaysLinked maps e → StaysLinked maps (g e)) →
+    Fixed maps es (changed g es k)
 fixed-changed maps g es k h = fixed-set_to maps g es k (slice_get es k) refl h
 
 fixed-value : (maps : List MapState) (value : List ℕ) (es : List Element) (k : ℕ) → Fixed maps es (changed (with_value value) es k)
@@ -70,7 +76,9 @@ fixed-overwritten maps value es None = fixed-same maps es es refl
 fixed-overwritten maps value es (Some n) = fixed-value maps value es n
 
 -- an unlinking, in a map that is no array
-fixed-unlinked : (opened : List Section) (s : map_state.Store) (map : ℕ) (m : MapState) (key : List ℕ) (found : Option ℕ) → slice_get s.maps map ≡ Some m → Hash ≡ m.shape.kind → LooksUp s map key found → Fixed s.maps s.elements (unlinked opened s.elements found)
+fixed-unlinked : (opened : List Section) (s : map_state.Store) (map : ℕ) (m : MapState) (key : List ℕ)
+    (found : Option ℕ) → slice_get s.maps map ≡ Some m → Hash ≡ m.shape.kind → LooksUp s map key found →
+    Fixed s.maps s.elements (unlinked opened s.elements found)
 fixed-unlinked opened s map m key None at kind l = fixed-same s.maps s.elements s.elements refl
 fixed-unlinked opened s map m key (Some n) at kind l = fixed-changed s.maps (with_life (Unlinked opened)) s.elements n (λ e bt stays state there array.
     let e_is : l.element ≡ e = same_Some l.element e (sym l.born ∙ bt) in
@@ -88,12 +96,14 @@ fixed-append maps es fs more h same n e f at bt stays =
     h n e f at (g.1 ∙ ap Some (same_Some g.0 f (sym (get-append fs more n g.0 g.1) ∙ bt))) stays
 
 -- a store to an element
-fixed-stored : (maps : List MapState) (es new : List Element) (n width : ℕ) (offset : ℤ) (v : ℕ) (e : Element) → stored_in es n width offset v e ≡ Some new → Fixed maps es new
+fixed-stored : (maps : List MapState) (es new : List Element) (n width : ℕ) (offset : ℤ) (v : ℕ) (e : Element) →
+    stored_in es n width offset v e ≡ Some new → Fixed maps es new
 fixed-stored maps es new n width offset v e h =
     let s = first-step (region_offset (length e.value) width offset) (λ at. Some (changed (with_value (with_bytes at width v e.value)) es n)) new h in
     subst (Fixed maps es) (same_Some _ _ s.2) (fixed-value maps (with_bytes s.0 width v e.value) es n)
 
-fixed-store : (maps : List MapState) (es new : List Element) (width : ℕ) (offset : ℤ) (v base : Value) → element_store es width offset v base ≡ Some new → Fixed maps es new
+fixed-store : (maps : List MapState) (es new : List Element) (width : ℕ) (offset : ℤ) (v base : Value) →
+    element_store es width offset v base ≡ Some new → Fixed maps es new
 fixed-store maps es new width offset Nothing base h = absurd (none-some new h)
 fixed-store maps es new width offset (Pointer r) base h = absurd (none-some new h)
 fixed-store maps es new width offset (Number v) Nothing h = absurd (none-some new h)
@@ -105,13 +115,15 @@ fixed-store maps es new width offset (Number v) (Pointer (Elem n o)) h =
     let s = first-step (accessible es n) (stored_in es n width (o +ℤ offset) v) new h in
     fixed-stored maps es new n width (o +ℤ offset) v s.0 s.2
 
-fixed-access : (i : Insn) (maps : List MapState) (es : List Element) (m : State) (out : Outcome) (new : List Element) → AccessesElement i es m out new → Fixed maps es new
+fixed-access : (i : Insn) (maps : List MapState) (es : List Element) (m : State) (out : Outcome) (new : List Element)
+    → AccessesElement i es m out new → Fixed maps es new
 fixed-access (Load width dst src offset) maps es m out new h = fixed-same maps es new h.3
 fixed-access (LoadSigned width dst src offset) maps es m out new h = fixed-same maps es new h.3
 fixed-access (Store width dst offset src) maps es m out new h = fixed-store maps es new (byte_count width) offset (operand_value src m.regs) (m.regs dst) h.0
 fixed-access i maps es m out new h = absurd h
 
-fixed-acts : (i : Insn) (maps : List MapState) (env : Environment) (es : List Element) (m : State) (out : Outcome) (new : List Element) → Acts i env es m out new → Fixed maps es new
+fixed-acts : (i : Insn) (maps : List MapState) (env : Environment) (es : List Element) (m : State) (out : Outcome)
+    (new : List Element) → Acts i env es m out new → Fixed maps es new
 fixed-acts i maps env es m out new (inl h) = fixed-same maps es new h.1
 fixed-acts i maps env es m out new (inr h) = fixed-access i maps es m out new h
 
@@ -125,62 +137,91 @@ fixes-at s new h = fixed-same s.maps s.elements new.elements (ap (λ x. x.elemen
 fixes-with : (s new : map_state.Store) (es : List Element) → Fixed s.maps s.elements es → new.elements ≡ es → Fixes s new
 fixes-with s new es h e = subst (Fixed s.maps s.elements) (sym e) h
 
-fixes-writes : (kind : MapKind) (s : map_state.Store) (opened : List Section) (map : ℕ) (m : MapState) (key value : List ℕ) (found : Option ℕ) (new : map_state.Store) → kind ≡ m.shape.kind → slice_get s.maps map ≡ Some m → LooksUp s map key found → Writes kind s opened map m key value found new → Fixes s new
+fixes-writes : (kind : MapKind) (s : map_state.Store) (opened : List Section) (map : ℕ) (m : MapState)
+    (key value : List ℕ) (found : Option ℕ) (new : map_state.Store) → kind ≡ m.shape.kind →
+    slice_get s.maps map ≡ Some m → LooksUp s map key found → Writes kind s opened map m key value found new →
+    Fixes s new
 fixes-writes Hash s opened map m key value found new is at l r =
-    fixes-with s new _ (fixed-append s.maps s.elements (unlinked opened s.elements found) _ (fixed-unlinked opened s map m key found at is l) (touches-found false opened s map key found l).births) (ap (λ x. x.elements) r.new_is)
+    fixes-with s new _ (fixed-append s.maps s.elements (unlinked opened s.elements found) _
+    (fixed-unlinked opened s map m key found at is l) (touches-found false opened s map key found l).births)
+    (ap (λ x. x.elements) r.new_is)
 fixes-writes Array s opened map m key value found new is at l r = fixes-with s new _ (fixed-overwritten s.maps value s.elements found) (ap (λ x. x.elements) r)
 
-fixes-settles : (error : Option Errno) (s : map_state.Store) (opened : List Section) (map : ℕ) (m : MapState) (key value : List ℕ) (found : Option ℕ) (ret : Result (Unit {0}) Errno) (new : map_state.Store) → slice_get s.maps map ≡ Some m → LooksUp s map key found →
+fixes-settles : (error : Option Errno) (s : map_state.Store) (opened : List Section) (map : ℕ) (m : MapState)
+    (key value : List ℕ) (found : Option ℕ) (ret : Result (Unit {0}) Errno) (new : map_state.Store) →
+    slice_get s.maps map ≡ Some m → LooksUp s map key found →
     Settles error ret s new (Writes m.shape.kind s opened map m key value found new) → Fixes s new
 fixes-settles None s opened map m key value found ret new at l h = fixes-writes m.shape.kind s opened map m key value found new refl at l h.1
 fixes-settles (Some e) s opened map m key value found ret new at l h = fixes-at s new h.1
 
-fixes-updates : (s : map_state.Store) (opened : List Section) (map : ℕ) (key value : List ℕ) (flags : ℕ) (ret : Result (Unit {0}) Errno) (new : map_state.Store) → Updates s opened map key value flags ret new → Fixes s new
+fixes-updates : (s : map_state.Store) (opened : List Section) (map : ℕ) (key value : List ℕ) (flags : ℕ)
+    (ret : Result (Unit {0}) Errno) (new : map_state.Store) → Updates s opened map key value flags ret new →
+    Fixes s new
 fixes-updates s opened map key value flags ret new u = fixes-settles _ s opened map u.state key value u.found ret new u.there u.lookup u.settled
 
-fixes-removes : (kind : MapKind) (s : map_state.Store) (opened : List Section) (map : ℕ) (m : MapState) (key : List ℕ) (found : Option ℕ) (ret : Result (Unit {0}) Errno) (new : map_state.Store) → kind ≡ m.shape.kind → slice_get s.maps map ≡ Some m → LooksUp s map key found → RemovesFrom kind found opened ret s new → Fixes s new
+fixes-removes : (kind : MapKind) (s : map_state.Store) (opened : List Section) (map : ℕ) (m : MapState) (key : List ℕ)
+    (found : Option ℕ) (ret : Result (Unit {0}) Errno) (new : map_state.Store) → kind ≡ m.shape.kind →
+    slice_get s.maps map ≡ Some m → LooksUp s map key found → RemovesFrom kind found opened ret s new → Fixes s new
 fixes-removes Hash s opened map m key None ret new is at l h = fixes-at s new h.1
-fixes-removes Hash s opened map m key (Some n) ret new is at l h = fixes-with s new _ (fixed-unlinked opened s map m key (Some n) at is l) (ap (λ x. x.elements) h.1)
+fixes-removes Hash s opened map m key (Some n) ret new is at l h =
+    fixes-with s new _ (fixed-unlinked opened s map m key (Some n) at is l) (ap (λ x. x.elements) h.1)
 fixes-removes Array s opened map m key found ret new is at l h = fixes-at s new h.1
 
-fixes-deletes : (s : map_state.Store) (opened : List Section) (map : ℕ) (key : List ℕ) (ret : Result (Unit {0}) Errno) (new : map_state.Store) → Deletes s opened map key ret new → Fixes s new
+fixes-deletes : (s : map_state.Store) (opened : List Section) (map : ℕ) (key : List ℕ) (ret : Result (Unit {0}) Errno)
+    (new : map_state.Store) → Deletes s opened map key ret new → Fixes s new
 fixes-deletes s opened map key ret new d = fixes-removes d.state.shape.kind s opened map d.state key d.found ret new refl d.there d.lookup d.removed
 
-fixes-reclaims : (s : map_state.Store) (opened : List Section) (n : ℕ) (e : Element) (given : Given) (new : map_state.Store) → Reclaims s opened n e given new → Fixes s new
+fixes-reclaims : (s : map_state.Store) (opened : List Section) (n : ℕ) (e : Element) (given : Given)
+    (new : map_state.Store) → Reclaims s opened n e given new → Fixes s new
 fixes-reclaims s opened n e given new r = fixes-with s new _ (fixed-set s.maps s.elements n (with_life Reclaimed e) (λ x at stays state there array.
     let same : x ≡ e = same_Some x e (sym at ∙ r.born) in
-    absurd (linked≢unlinked r.since (sym (stays state (ap (λ (y : Element). slice_get s.maps y.map) same ∙ there) array) ∙ (ap (λ (y : Element). y.life) same ∙ r.unlinked))))) (ap (λ x. x.elements) r.new_is)
+    absurd (linked≢unlinked r.since (sym (stays state (ap (λ (y : Element). slice_get s.maps y.map) same ∙ there)
+    array) ∙ (ap (λ (y : Element). y.life) same ∙ r.unlinked))))) (ap (λ x. x.elements) r.new_is)
 
-fixes-helper : (h : Option Helper) (s : map_state.Store) (opened : List Section) (run : Run) (ret : Value) (new : map_state.Store) → HelperStep h s opened run ret new → Fixes s new
+fixes-helper : (h : Option Helper) (s : map_state.Store) (opened : List Section) (run : Run) (ret : Value)
+    (new : map_state.Store) → HelperStep h s opened run ret new → Fixes s new
 fixes-helper (Some helpers.Lookup) s opened run ret new h = fixes-at s new h.1
 fixes-helper (Some helpers.Update) s opened run ret new h = fixes-updates s opened h.map h.key h.value h.flags h.outcome new h.updated
 fixes-helper (Some helpers.Delete) s opened run ret new h = fixes-deletes s opened h.map h.key h.outcome new h.deleted
 fixes-helper None s opened run ret new h = absurd h
 
-fixes-insn : (i : Insn) (s : map_state.Store) (opened : List Section) (run : Run) (answer : Answer) (new : map_state.Store) (new_run : Run) → StepsByKind i s opened run answer new new_run → Fixes s new
+fixes-insn : (i : Insn) (s : map_state.Store) (opened : List Section) (run : Run) (answer : Answer)
+    (new : map_state.Store) (new_run : Run) → StepsByKind i s opened run answer new new_run → Fixes s new
 fixes-insn (Call kinds.Kernel imm) s opened run answer new new_run h = fixes-at s new h.2
 fixes-insn (Call kinds.Helper imm) s opened run answer new new_run h = fixes-helper (helper_of imm) s opened run h.0 new h.1
-fixes-insn i s opened run answer new new_run h = fixes-with s new h.1 (fixed-acts i s.maps (environment run) s.elements run.state h.0 h.1 h.2) (ap (λ x. x.elements) h.3)
+fixes-insn i s opened run answer new new_run h = fixes-with s new h.1
+    (fixed-acts i s.maps (environment run) s.elements run.state h.0 h.1 h.2) (ap (λ x. x.elements) h.3)
 
 fixes-then : (s mid new : map_state.Store) → Fixes s mid → new ≡ mid → Fixes s new
 fixes-then s mid new h e = subst (Fixes s) (sym e) h
 
 fixes-performs : (m : Machine) (event : Event) (answer : Answer) (new : Machine) → PerformsEvent m event answer new → Fixes m.store new.store
 fixes-performs m (events.Start prog ctx) (answers.Started r) new h = fixes-at m.store new.store (ap (λ x. x.store) h.new_is)
-fixes-performs m (events.Step run) answer new h = fixes-then m.store h.new_store new.store (fixes-insn h.step.0 m.store (open_sections m.runs) h.run answer h.new_store h.new_run (run_by_kind m run answer new h)) (ap (λ x. x.store) h.new_is)
-fixes-performs m (events.Update map key value flags) (answers.Ret ret) new h = fixes-then m.store h.0 new.store (fixes-updates m.store (open_sections m.runs) map key.items value.items flags ret h.0 h.1) (ap (λ x. x.store) h.2)
-fixes-performs m (events.Delete map key) (answers.Ret ret) new h = fixes-then m.store h.0 new.store (fixes-deletes m.store (open_sections m.runs) map key.items ret h.0 h.1) (ap (λ x. x.store) h.2)
+fixes-performs m (events.Step run) answer new h = fixes-then m.store h.new_store new.store
+    (fixes-insn h.step.0 m.store (open_sections m.runs) h.run answer h.new_store h.new_run
+    (run_by_kind m run answer new h)) (ap (λ x. x.store) h.new_is)
+fixes-performs m (events.Update map key value flags) (answers.Ret ret) new h =
+    fixes-then m.store h.0 new.store (fixes-updates m.store (open_sections m.runs) map key.items value.items flags ret
+    h.0 h.1) (ap (λ x. x.store) h.2)
+fixes-performs m (events.Delete map key) (answers.Ret ret) new h =
+    fixes-then m.store h.0 new.store (fixes-deletes m.store (open_sections m.runs) map key.items ret h.0 h.1)
+    (ap (λ x. x.store) h.2)
 fixes-performs m (events.Read map key) (answers.Found (Some value)) new h = fixes-at m.store new.store (ap (λ x. x.store) h.1)
 fixes-performs m (events.Read map key) (answers.Found None) new h = fixes-at m.store new.store (ap (λ x. x.store) h.1)
 fixes-performs m events.Advance answers.Done new h = fixes-at m.store new.store (ap (λ x. x.store) h)
 fixes-performs m events.Reap (answers.Reaped None) new h = fixes-at m.store new.store (ap (λ x. x.store) h)
-fixes-performs m events.Reap (answers.Reaped (Some reaped)) new h = fixes-then m.store h.2 new.store (fixes-reclaims m.store (open_sections m.runs) h.0 h.1 reaped.given h.2 h.3) (ap (λ x. x.store) h.6)
+fixes-performs m events.Reap (answers.Reaped (Some reaped)) new h =
+    fixes-then m.store h.2 new.store (fixes-reclaims m.store (open_sections m.runs) h.0 h.1 reaped.given h.2 h.3)
+    (ap (λ x. x.store) h.6)
 fixes-performs m (events.Drop run) answers.Done new h = fixes-at m.store new.store (ap (λ x. x.store) h)
 fixes-performs m event answer new h = absurd h
 
-fixes-answers : (o : Option EventRefusal) (m : Machine) (event : Event) (answer : Answer) (new : Machine) → Answers o m event answer new → Fixes m.store new.store
+fixes-answers : (o : Option EventRefusal) (m : Machine) (event : Event) (answer : Answer) (new : Machine) →
+    Answers o m event answer new → Fixes m.store new.store
 fixes-answers None m event answer new h = fixes-performs m event answer new h
 fixes-answers (Some k) m event answer new h = fixes-at m.store new.store (ap (λ x. x.store) h.1)
 
-pub does-fix : (m new : Machine) (event : Event) (answer : Answer) → DoesEvent m event answer new → (n : ℕ) (e f : Element) → slice_get m.store.elements n ≡ Some e → slice_get new.store.elements n ≡ Some f → StaysLinked m.store.maps e → StaysLinked m.store.maps f
+pub does-fix : (m new : Machine) (event : Event) (answer : Answer) → DoesEvent m event answer new →
+    (n : ℕ) (e f : Element) → slice_get m.store.elements n ≡ Some e → slice_get new.store.elements n ≡ Some f →
+    StaysLinked m.store.maps e → StaysLinked m.store.maps f
 does-fix m new event answer h = fixes-answers (refusal m event) m event answer new h

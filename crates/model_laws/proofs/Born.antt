@@ -46,7 +46,8 @@ module _ (births : ℕ) where
   pub born-entry : IsBornState births entry
   born-entry = holds-entry (IsBorn births) (born-closed births)
 
-  pub born-acts : (i : Insn) (env : Environment) (es : List Element) (m : State) (out : Outcome) (new : List Element) → IsBornState births m → Acts i env es m out new → IsBornOutcome births out
+  pub born-acts : (i : Insn) (env : Environment) (es : List Element) (m : State) (out : Outcome) (new : List Element)
+      → IsBornState births m → Acts i env es m out new → IsBornOutcome births out
   born-acts i env es m out new p h = holds-acts (IsBorn births) (born-closed births) i env es m out new (λ named n. tt) p h
 
   pub born-returns : (v : Value) (m : State) → IsBornValue births v → IsBornState births m → IsBornState births (returns v m)

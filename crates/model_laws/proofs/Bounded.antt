@@ -36,7 +36,8 @@ born-below k (shape ∷ shapes) e es h =
     let rest = born-below (suc k) shapes e es (omega arith) in
     omega arith
 
-born-within : (k : ℕ) (shapes : List MapShape) (e : Element) (es : List Element) → k ≤ e.map → e.map < k + length shapes → born_from k shapes (e ∷ es) ≡ 1 + born_from k shapes es
+born-within : (k : ℕ) (shapes : List MapShape) (e : Element) (es : List Element) → k ≤ e.map →
+    e.map < k + length shapes → born_from k shapes (e ∷ es) ≡ 1 + born_from k shapes es
 born-within k [] e es low high = absurd (omega arith)
 born-within k (shape ∷ shapes) e es low high =
     let a = born-cons k e es in
@@ -52,7 +53,8 @@ born-within k (shape ∷ shapes) e es low high =
           omega arith
     ]
 
-all-born : (shapes : List MapShape) (es : List Element) → ((n : ℕ) (e : Element) → slice_get es n ≡ Some e → e.map < length shapes) → length es ≤ born_from 0 shapes es
+all-born : (shapes : List MapShape) (es : List Element) →
+    ((n : ℕ) (e : Element) → slice_get es n ≡ Some e → e.map < length shapes) → length es ≤ born_from 0 shapes es
 all-born shapes [] h = omega arith
 all-born shapes (e ∷ es) h =
     let high : e.map < length shapes = h 0 e refl in
@@ -60,7 +62,9 @@ all-born shapes (e ∷ es) h =
     let rest = all-born shapes es (λ n f at. h (suc n) f at) in
     omega arith
 
-born-most : (k : ℕ) (shapes : List MapShape) (es : List Element) → ((i j : ℕ) (shape : MapShape) → slice_get shapes i ≡ Some shape → j ≡ k + i → born_count j es ≤ most_births shape) → born_from k shapes es ≤ sum_by most_births shapes
+born-most : (k : ℕ) (shapes : List MapShape) (es : List Element) →
+    ((i j : ℕ) (shape : MapShape) → slice_get shapes i ≡ Some shape → j ≡ k + i → born_count j es ≤ most_births shape)
+    → born_from k shapes es ≤ sum_by most_births shapes
 born-most k [] es h = omega arith
 born-most k (shape ∷ shapes) es h =
     let a = sum_by-cons most_births shape shapes in
@@ -106,5 +110,7 @@ module _ (w : WorldView) (s : Schedule) (t : TracksSchedule w s) where
       let given : w.given ≡ count_by (λ e. is_reclaimed e.life) s.machine.store.elements = t.refines.given in
       let a = reclaimed-most s.machine.store.elements in
       let b = all-born (shapes_of w) s.machine.store.elements in-map in
-      let c = born-most 0 (shapes_of w) s.machine.store.elements (λ i j x at is. let e : j ≡ i = omega arith in subst (λ z. born_count z s.machine.store.elements ≤ most_births x) (sym e) (map-most i x at)) in
+      let c = born-most 0 (shapes_of w) s.machine.store.elements
+      (λ i j x at is. let e : j ≡ i = omega arith in subst
+      (λ z. born_count z s.machine.store.elements ≤ most_births x) (sym e) (map-most i x at)) in
       omega arith

@@ -8,7 +8,9 @@ pub bag-has : (bag : List ℕ) → (length bag == 0) ≡ false → (c : ℕ) × 
 bag-has [] h = absurd (cc)
 bag-has (c ∷ rest) h = (c, rest, refl)
 
-pub last-false : (a b c d e : Bool) (p q r s t : Errno) → (if a then Some p else if b then Some q else if c then Some r else if d then Some s else if e then Some t else None) ≡ None → e ≡ false
+pub last-false : (a b c d e : Bool) (p q r s t : Errno) →
+    (if a then Some p else if b then Some q else if c then Some r else if d then Some s else if e then Some t else
+    None) ≡ None → e ≡ false
 last-false true b c d e p q r s t h = absurd (cc)
 last-false false true c d e p q r s t h = absurd (cc)
 last-false false false true d e p q r s t h = absurd (cc)

@@ -1,5 +1,6 @@
 -- The lists of unlinked elements, counted.
-use Rattle.std.proofs.Common.{◌≡◌, ℕ, zero, suc, ◌+◌, ◌<◌, ◌≤◌, List, [], ◌∷◌, ◌++◌, length, map, drop, cond, Option, Some, None, inl, inr, refl, sym, ap, ◌∙◌, arith, subst, Bool, true, false}
+use Rattle.std.proofs.Common.{◌≡◌, ℕ, zero, suc, ◌+◌, ◌<◌, ◌≤◌, List, [], ◌∷◌, ◌++◌, length, map, drop, cond, Option}
+use Rattle.std.proofs.Common.{Some, None, inl, inr, refl, sym, ap, ◌∙◌, arith, subst, Bool, true, false}
 use Rattle.std.specs.Prelude.{slice_get, slice_set, ◌==◌, ◌&&◌, ◌||◌, if◌then◌else◌}
 use Rattle.std.proofs.Math.Dec.{eqb-suc-zero}
 use Rattle.std.proofs.Math.Nat.{zero-add}
@@ -23,7 +24,8 @@ pub times-first : (n x : ℕ) (xs : List ℕ) → x ≡ n → times n (x ∷ xs)
 times-first n x xs e = times-cons n x xs ∙ ap (λ b. cond {A = ℕ} b 1 0 + times n xs) (eq-eqb x n e)
 
 pub times-other : (n x : ℕ) (xs : List ℕ) → (x ≡ n → ⊥) → times n (x ∷ xs) ≡ times n xs
-times-other n x xs ne = times-cons n x xs ∙ (ap (λ b. cond {A = ℕ} b 1 0 + times n xs) (false_from_ne_true (x == n) (λ t. ne (eqb-true x n t))) ∙ zero-add (times n xs))
+times-other n x xs ne = times-cons n x xs ∙ (ap (λ b. cond {A = ℕ} b 1 0 + times n xs)
+    (false_from_ne_true (x == n) (λ t. ne (eqb-true x n t))) ∙ zero-add (times n xs))
 
 -- whether an element of a map is unlinked in a step
 abbrev pub newly : ℕ → Option Element → Option Element → ℕ
@@ -47,25 +49,36 @@ between-below : (map b : ℕ) (olds news : List Element) (x : ℕ) → x < b →
 between-below map b [] news x h = refl
 between-below map b (o ∷ olds) [] x h = refl
 between-below map b (o ∷ olds) (w ∷ news) x h =
-    choice-other (is_linked o.life && is_unlinked w.life && (o.map == map)) b x (unlinked_between map (suc b) olds news) (λ e. absurd (omega arith)) ∙ between-below map (suc b) olds news x (omega arith)
+    choice-other (is_linked o.life && is_unlinked w.life && (o.map == map)) b x
+    (unlinked_between map (suc b) olds news) (λ e. absurd (omega arith)) ∙
+    between-below map (suc b) olds news x (omega arith)
 
-between-at : (map b : ℕ) (olds news : List Element) (j x : ℕ) → x ≡ b + j → times x (unlinked_between map b olds news) ≡ newly map (slice_get olds j) (slice_get news j)
+between-at : (map b : ℕ) (olds news : List Element) (j x : ℕ) → x ≡ b + j →
+    times x (unlinked_between map b olds news) ≡ newly map (slice_get olds j) (slice_get news j)
 between-at map b [] news j x e = refl
 between-at map b (o ∷ olds) [] j x e = sym (newly-none map (slice_get (o ∷ olds) j))
 between-at map b (o ∷ olds) (w ∷ news) zero x e =
-    choice-same (is_linked o.life && is_unlinked w.life && (o.map == map)) b x (unlinked_between map (suc b) olds news) (omega arith) (between-below map (suc b) olds news x (omega arith))
+    choice-same (is_linked o.life && is_unlinked w.life && (o.map == map)) b x
+    (unlinked_between map (suc b) olds news) (omega arith) (between-below map (suc b) olds news x (omega arith))
 between-at map b (o ∷ olds) (w ∷ news) (suc j) x e =
-    choice-other (is_linked o.life && is_unlinked w.life && (o.map == map)) b x (unlinked_between map (suc b) olds news) (λ f. absurd (omega arith)) ∙ between-at map (suc b) olds news j x (omega arith)
+    choice-other (is_linked o.life && is_unlinked w.life && (o.map == map)) b x
+    (unlinked_between map (suc b) olds news) (λ f. absurd (omega arith)) ∙
+    between-at map (suc b) olds news j x (omega arith)
 
 pub between-is : (map : ℕ) (olds news : List Element) (x : ℕ) → times x (unlinked_between map 0 olds news) ≡ newly map (slice_get olds x) (slice_get news x)
 between-is map olds news x = between-at map 0 olds news x x (omega arith)
 
-retired-at : (old new : List Element) (qs : List Queues) (k j i : ℕ) (q' : Queues) → i ≡ k + j → slice_get (retired k old new qs) j ≡ Some q' → (q : Queues) × (slice_get qs j ≡ Some q) × (retired_in i old new q ≡ q')
+retired-at : (old new : List Element) (qs : List Queues) (k j i : ℕ) (q' : Queues) → i ≡ k + j →
+    slice_get (retired k old new qs) j ≡ Some q' → (q : Queues) × (slice_get qs j ≡ Some q) ×
+    (retired_in i old new q ≡ q')
 retired-at old new [] k j i q' e h = absurd (none-some q' h)
-retired-at old new (q ∷ qs) k zero i q' e h = let s : i ≡ k = omega arith in (q, refl, ap (λ z. retired_in z old new q) s ∙ same_Some (retired_in k old new q) q' h)
+retired-at old new (q ∷ qs) k zero i q' e h = let s : i ≡ k =
+    omega arith in (q, refl, ap (λ z. retired_in z old new q) s ∙ same_Some (retired_in k old new q) q' h)
 retired-at old new (q ∷ qs) k (suc j) i q' e h = retired-at old new qs (suc k) j i q' (omega arith) h
 
-pub retired-back : (old new : List Element) (qs : List Queues) (k : ℕ) (q' : Queues) → slice_get (retired 0 old new qs) k ≡ Some q' → (q : Queues) × (slice_get qs k ≡ Some q) × (retired_in k old new q ≡ q')
+pub retired-back : (old new : List Element) (qs : List Queues) (k : ℕ) (q' : Queues) →
+    slice_get (retired 0 old new qs) k ≡ Some q' → (q : Queues) × (slice_get qs k ≡ Some q) ×
+    (retired_in k old new q ≡ q')
 retired-back old new qs k q' h = retired-at old new qs 0 k k q' (omega arith) h
 
 pub length-retired : (old new : List Element) (qs : List Queues) (k : ℕ) → length (retired k old new qs) ≡ length qs
@@ -90,7 +103,9 @@ still-back (x ∷ a) [] r h = absurd (none-some true h)
 still-back (x ∷ a) (y ∷ b) zero h = ap Some (and_parts x y (same_Some (x && y) true h)).1
 still-back (x ∷ a) (y ∷ b) (suc r) h = still-back a b r h
 
-any-or : (b : Bool) (flags : List Bool) → (b || is_any flags) ≡ true → (is_any flags ≡ true → (r : ℕ) × (slice_get flags r ≡ Some true)) → (r : ℕ) × (slice_get (b ∷ flags) r ≡ Some true)
+any-or : (b : Bool) (flags : List Bool) → (b || is_any flags) ≡ true →
+    (is_any flags ≡ true → (r : ℕ) × (slice_get flags r ≡ Some true)) → (r : ℕ) ×
+    (slice_get (b ∷ flags) r ≡ Some true)
 any-or true flags h k = (0, refl)
 any-or false flags h k = let r = k h in (suc r.0, r.1)
 
@@ -122,13 +137,30 @@ without_at q qs ready = if length ready == 0 then q ∷ without_first qs else re
 -- The first ready birth stands behind lists that have none, or in the first lists.
 abbrev pub index-later : (q : Queues) (qs : List Queues) (n : ℕ) → q.ready ≡ [] → FirstIndex qs n → FirstIndex (q ∷ qs) n
 index-later q qs n e p =
-    record { map_at = suc p.map_at; lists = p.lists; rest = p.rest; there = p.there; ready_is = p.ready_is; without = ap (without_at q qs) e ∙ ap (λ l. q ∷ l) p.without }
+    record {
+      map_at = suc p.map_at;
+      lists = p.lists;
+      rest = p.rest;
+      there = p.there;
+      ready_is = p.ready_is;
+      without =
+          ap (without_at q qs) e ∙ ap (λ l. q ∷ l) p.without;
+    }
 
 abbrev pub index-here : (q : Queues) (qs : List Queues) (n : ℕ) (rest : List ℕ) → q.ready ≡ n ∷ rest → FirstIndex (q ∷ qs) n
 index-here q qs n rest e =
-    record { map_at = 0; lists = q; rest = rest; there = refl; ready_is = e; without = ap (without_at q qs) e ∙ ap (λ b. if b then q ∷ without_first qs else shortened rest q ∷ qs) (eqb-suc-zero (length rest)) }
+    record {
+      map_at = 0;
+      lists = q;
+      rest = rest;
+      there = refl;
+      ready_is = e;
+      without = ap (without_at q qs) e ∙
+          ap (λ b. if b then q ∷ without_first qs else shortened rest q ∷ qs) (eqb-suc-zero (length rest));
+    }
 
-first-index_at : (ready : List ℕ) (q : Queues) (qs : List Queues) (n : ℕ) → q.ready ≡ ready → or_first ready (first_ready qs) ≡ Some n → (first_ready qs ≡ Some n → FirstIndex qs n) → FirstIndex (q ∷ qs) n
+first-index_at : (ready : List ℕ) (q : Queues) (qs : List Queues) (n : ℕ) → q.ready ≡ ready →
+    or_first ready (first_ready qs) ≡ Some n → (first_ready qs ≡ Some n → FirstIndex qs n) → FirstIndex (q ∷ qs) n
 first-index_at [] q qs n e h more = index-later q qs n e (more h)
 first-index_at (m ∷ ms) q qs n e h more = index-here q qs n ms (e ∙ ap (λ z. z ∷ ms) (same_Some m n h))
 
@@ -156,7 +188,8 @@ times-rest n x xs = let e = times-cons n x xs in omega arith
 shrinks-shortened : (q : Queues) (n : ℕ) (rest : List ℕ) → q.ready ≡ n ∷ rest → Shrinks q (shortened rest q)
 shrinks-shortened q n rest e = record { next = refl; waiting = refl; ready = λ x. subst (λ l. times x rest ≤ times x l) (sym e) (times-rest x n rest) }
 
-pub without-back : (qs : List Queues) (k : ℕ) (new : Queues) → slice_get (without_first qs) k ≡ Some new → (q : Queues) × (slice_get qs k ≡ Some q) × Shrinks q new
+pub without-back : (qs : List Queues) (k : ℕ) (new : Queues) → slice_get (without_first qs) k ≡ Some new →
+    (q : Queues) × (slice_get qs k ≡ Some q) × Shrinks q new
 without-back qs k new h = elim (option_cases (first_ready qs)) [
   | inl none ↦ (new, ap (λ l. slice_get l k) (sym (none-without qs none)) ∙ h, shrinks-same new new refl)
   | inr some ↦

@@ -1,5 +1,6 @@
 -- After two quiet advances, a reap finds nothing only when everything that was unlinked before is reclaimed.
-use Rattle.std.proofs.Common.{◌≡◌, ◌≢◌, ℕ, zero, suc, ◌+◌, ◌<◌, List, [], ◌∷◌, length, map, Option, Some, None, refl, sym, ap, ◌∙◌, arith, subst, Bool, true, false}
+use Rattle.std.proofs.Common.{◌≡◌, ◌≢◌, ℕ, zero, suc, ◌+◌, ◌<◌, List, [], ◌∷◌, length, map, Option, Some, None, refl}
+use Rattle.std.proofs.Common.{sym, ap, ◌∙◌, arith, subst, Bool, true, false}
 use Rattle.std.specs.Prelude.{slice_get, slice_set, ◌==◌, ◌&&◌}
 use Rattle.std.proofs.lemmas.Bool.{false_from_ne_true, false≢true}
 use Rattle.std.proofs.lemmas.Option.{none-some, same_Some, slice_get_within}
@@ -18,13 +19,16 @@ use Rattle.bpf_model.specs.MapState.{MapState, Store, given_of}
 use Rattle.bpf_model.specs.Reclaim.{Reclaims}
 use Rattle.bpf_model.specs.Shapes.{AreShapes}
 use Rattle.bpf_model.specs.Machine.{Loaded, Machine, open_sections, with_store}
-use Rattle.bpf_model.specs.Schedule.{Queues, Schedule, open_flags, is_any, retired_in, unlinked_between, turned, advanced, first_ready, reaped, scheduled, TakesFirst, DoesScheduled, IsScheduledHistory, start_schedule}
+use Rattle.bpf_model.specs.Schedule.{Queues, Schedule, open_flags, is_any, retired_in, unlinked_between, turned}
+use Rattle.bpf_model.specs.Schedule.{advanced, first_ready, reaped, scheduled, TakesFirst, DoesScheduled}
+use Rattle.bpf_model.specs.Schedule.{IsScheduledHistory, start_schedule}
 use Rattle.bpf_model.specs.Drain.{IsQuietAdvance, Drains, machines}
 use Rattle.bpf_model.specs.Refines.{times}
 use Rattle.model_laws.specs.Scheduled.{IsScheduled, IsReapable}
 use Rattle.model_laws.proofs.Advancing.{no_flag}
 use Rattle.model_laws.proofs.Stores.{LifeMoves, Stays, Unlinks, Ends, StoreMoves, is_reap, does-moves}
-use Rattle.model_laws.proofs.Counting.{newly, times-append, times-first, between-is, retired-back, map-back, any-flag, flag-any, first-index, none-ready, without-back}
+use Rattle.model_laws.proofs.Counting.{newly, times-append, times-first, between-is, retired-back, map-back, any-flag}
+use Rattle.model_laws.proofs.Counting.{flag-any, first-index, none-ready, without-back}
 use Rattle.model_laws.proofs.Queueing.{Queued, queued-here}
 use Rattle.model_laws.proofs.Scheduling.{plain, first-queued, starts_scheduled, stays_scheduled}
 use Rattle.model_laws.proofs.Lives.{linked≢unlinked, reclaimed≢linked}
@@ -81,20 +85,23 @@ module _ (s : Schedule) (m : Machine) (n : ℕ) where
   readied-plain : IsOut s.machine.store.elements n → HasReadied s n → HasReadied (plain s m) n
   readied-plain o h k later at =
       let b = retired-back s.machine.store.elements m.store.elements s.queues k later at in
-      subst (λ x. (times n x.next ≡ 0) × (times n x.waiting ≡ 0)) b.2 (next-out k n b.0 s.machine.store.elements m.store.elements o (h k b.0 b.1).0, (h k b.0 b.1).1)
+      subst (λ x. (times n x.next ≡ 0) × (times n x.waiting ≡ 0)) b.2
+      (next-out k n b.0 s.machine.store.elements m.store.elements o (h k b.0 b.1).0, (h k b.0 b.1).1)
 
   waited-reaped : HasWaited s n → HasWaited (reaped s m) n
   waited-reaped h k later at = let b = without-back s.queues k later at in ap (times n) b.2.next ∙ h k b.0 b.1
 
   readied-reaped : HasReadied s n → HasReadied (reaped s m) n
-  readied-reaped h k later at = let b = without-back s.queues k later at in (ap (times n) b.2.next ∙ (h k b.0 b.1).0, ap (times n) b.2.waiting ∙ (h k b.0 b.1).1)
+  readied-reaped h k later at = let b = without-back s.queues k later
+      at in (ap (times n) b.2.next ∙ (h k b.0 b.1).0, ap (times n) b.2.waiting ∙ (h k b.0 b.1).1)
 
   -- after the lists were turned, the element is in no next list
   waited-turned : HasWaited (advanced s m false) n
   waited-turned k later at = let b = map-back turned s.queues k later at in subst (λ x. times n x.next ≡ 0) b.2 refl
 
   readied-turned : HasWaited s n → HasReadied (advanced s m false) n
-  readied-turned h k later at = let b = map-back turned s.queues k later at in subst (λ x. (times n x.next ≡ 0) × (times n x.waiting ≡ 0)) b.2 (refl, h k b.0 b.1)
+  readied-turned h k later at = let b = map-back turned s.queues k later at in subst
+      (λ x. (times n x.next ≡ 0) × (times n x.waiting ≡ 0)) b.2 (refl, h k b.0 b.1)
 
   readied-waited : HasReadied s n → HasWaited s n
   readied-waited h k q at = (h k q at).0
@@ -139,7 +146,8 @@ pub record Readied (s : Schedule) (n : ℕ) : Type 0 where
 
 module _ (s t : Schedule) (event : Event) (answer : Answer) (w : IsScheduled s) (d : DoesScheduled s event answer t) (n : ℕ) where
   out-step : IsOut s.machine.store.elements n → IsOut t.machine.store.elements n
-  out-step o = out-later (is_reap event) (open_sections s.machine.runs) s.machine.store t.machine.store n (does-moves s.machine t.machine event answer w.consistent.single w.consistent.lengths d.step) o
+  out-step o = out-later (is_reap event) (open_sections s.machine.runs) s.machine.store t.machine.store n
+      (does-moves s.machine t.machine event answer w.consistent.single w.consistent.lengths d.step) o
 
   waited-step : Waited s n → Waited t n
   waited-step h = record { out = out-step h.out; lists = subst (λ x. HasWaited x n) (sym d.lists) (waited-scheduled s t.machine n event h.out h.lists) }
@@ -153,17 +161,30 @@ none-any s w quiet = false_from_ne_true (is_any s.awaited) (λ h.
     let r = any-flag s.awaited h in
     false≢true (sym (no_flag s.machine.runs quiet) ∙ flag-any (open_flags s.machine.runs) r.0 (w.awaited r.0 r.1)))
 
-turns-quiet : (s t : Schedule) (answer : Answer) → IsScheduled s → DoesScheduled s events.Advance answer t → open_sections s.machine.runs ≡ [] → advanced s t.machine false ≡ t
+turns-quiet : (s t : Schedule) (answer : Answer) → IsScheduled s → DoesScheduled s events.Advance answer t →
+    open_sections s.machine.runs ≡ [] → advanced s t.machine false ≡ t
 turns-quiet s t answer w d quiet = ap (advanced s t.machine) (sym (none-any s w quiet)) ∙ sym d.lists
 
-first-quiet : (s t : Schedule) (answer : Answer) (n : ℕ) → IsScheduled s → DoesScheduled s events.Advance answer t → open_sections s.machine.runs ≡ [] → IsOut s.machine.store.elements n → Waited t n
-first-quiet s t answer n w d quiet o = record { out = out-step s t events.Advance answer w d n o; lists = subst (λ x. HasWaited x n) (turns-quiet s t answer w d quiet) (waited-turned s t.machine n) }
+first-quiet : (s t : Schedule) (answer : Answer) (n : ℕ) → IsScheduled s → DoesScheduled s events.Advance answer t →
+    open_sections s.machine.runs ≡ [] → IsOut s.machine.store.elements n → Waited t n
+first-quiet s t answer n w d quiet o = record {
+  out = out-step s t events.Advance answer w d n o;
+  lists =
+      subst (λ x. HasWaited x n) (turns-quiet s t answer w d quiet) (waited-turned s t.machine n);
+}
 
-second-quiet : (s t : Schedule) (answer : Answer) (n : ℕ) → IsScheduled s → DoesScheduled s events.Advance answer t → open_sections s.machine.runs ≡ [] → Waited s n → Readied t n
-second-quiet s t answer n w d quiet h = record { out = out-step s t events.Advance answer w d n h.out; lists = subst (λ x. HasReadied x n) (turns-quiet s t answer w d quiet) (readied-turned s t.machine n h.lists) }
+second-quiet : (s t : Schedule) (answer : Answer) (n : ℕ) → IsScheduled s → DoesScheduled s events.Advance answer t →
+    open_sections s.machine.runs ≡ [] → Waited s n → Readied t n
+second-quiet s t answer n w d quiet h = record {
+  out = out-step s t events.Advance answer w d n h.out;
+  lists =
+      subst (λ x. HasReadied x n) (turns-quiet s t answer w d quiet) (readied-turned s t.machine n h.lists);
+}
 
 -- a reap that finds nothing
-nothing-kept : (s : Schedule) (n : ℕ) (e : Element) (since : List Section) (q : Queues) → IsScheduled s → HasReadied s n → first_ready s.queues ≡ None → slice_get s.machine.store.elements n ≡ Some e → e.life ≡ Unlinked since → slice_get s.queues e.map ≡ Some q → ⊥
+nothing-kept : (s : Schedule) (n : ℕ) (e : Element) (since : List Section) (q : Queues) → IsScheduled s →
+    HasReadied s n → first_ready s.queues ≡ None → slice_get s.machine.store.elements n ≡ Some e →
+    e.life ≡ Unlinked since → slice_get s.queues e.map ≡ Some q → ⊥
 nothing-kept s n e since q w h none at life there =
     let a : times n q.next ≡ 0 = (h e.map q there).0 in
     let b : times n q.waiting ≡ 0 = (h e.map q there).1 in
@@ -172,7 +193,8 @@ nothing-kept s n e since q w h none at life there =
     let f = queued-here (slice_get s.machine.store.elements n) e since at life in
     omega arith
 
-has-queues : (s : Schedule) (n : ℕ) (e : Element) → IsScheduled s → slice_get s.machine.store.elements n ≡ Some e → (q : Queues) × (slice_get s.queues e.map ≡ Some q)
+has-queues : (s : Schedule) (n : ℕ) (e : Element) → IsScheduled s → slice_get s.machine.store.elements n ≡ Some e →
+    (q : Queues) × (slice_get s.queues e.map ≡ Some q)
 has-queues s n e w at =
     let m = w.consistent.lengths n e at in
     let within : e.map < length s.machine.store.maps = slice_get_within s.machine.store.maps e.map m.0 m.1 in
@@ -191,16 +213,22 @@ all-gone s n w h none =
     (e, h.out.born, life-gone e.life h.out.out (λ since life. nothing-kept s n e since q.0 w h.lists none h.out.born life q.1))
 
 -- the histories
-reaps-none : (s t : Schedule) (event : Event) (answer : Answer) → event ≡ events.Reap → answer ≡ answers.Reaped None → DoesScheduled s event answer t → first_ready s.queues ≡ None
+reaps-none : (s t : Schedule) (event : Event) (answer : Answer) → event ≡ events.Reap → answer ≡ answers.Reaped None →
+    DoesScheduled s event answer t → first_ready s.queues ≡ None
 reaps-none s t event answer e a d =
-    let first : TakesFirst s events.Reap (answers.Reaped None) t.machine = subst (λ x. TakesFirst s events.Reap x t.machine) a (subst (λ x. TakesFirst s x answer t.machine) e d.first) in
+    let first : TakesFirst s events.Reap (answers.Reaped None) t.machine =
+    subst (λ x. TakesFirst s events.Reap x t.machine) a
+    (subst (λ x. TakesFirst s x answer t.machine) e d.first) in
     first
 
-as-advance : (s t : Schedule) (event : Event) (answer : Answer) → event ≡ events.Advance → DoesScheduled s event answer t → DoesScheduled s events.Advance answer t
+as-advance : (s t : Schedule) (event : Event) (answer : Answer) → event ≡ events.Advance →
+    DoesScheduled s event answer t → DoesScheduled s events.Advance answer t
 as-advance s t event answer e d = subst (λ x. DoesScheduled s x answer t) e d
 
-drain-end : (s : Schedule) (evs : List Event) (ans : List Answer) (states : List Schedule) (n : ℕ) → IsScheduled s → IsScheduledHistory s evs ans states → Readied s n →
-    (k : ℕ) (later : Machine) → slice_get evs k ≡ Some events.Reap → slice_get ans k ≡ Some (answers.Reaped None) → slice_get (machines (s ∷ states)) k ≡ Some later → HasLife later.store.elements n Reclaimed
+drain-end : (s : Schedule) (evs : List Event) (ans : List Answer) (states : List Schedule) (n : ℕ) → IsScheduled s →
+    IsScheduledHistory s evs ans states → Readied s n →
+    (k : ℕ) (later : Machine) → slice_get evs k ≡ Some events.Reap → slice_get ans k ≡ Some (answers.Reaped None) →
+    slice_get (machines (s ∷ states)) k ≡ Some later → HasLife later.store.elements n Reclaimed
 drain-end s [] [] [] n w h r k later ek ak sk = absurd (none-some events.Reap ek)
 drain-end s (event ∷ evs) (answer ∷ ans) (next ∷ states) n w h r zero later ek ak sk =
     subst (λ x. HasLife x.store.elements n Reclaimed) (same_Some s.machine later sk)
@@ -209,8 +237,11 @@ drain-end s (event ∷ evs) (answer ∷ ans) (next ∷ states) n w h r (suc k) l
     drain-end next evs ans states n (stays_scheduled s next event answer w h.0) h.1 (readied-step s next event answer w h.0 n r) k later ek ak sk
 drain-end s evs ans states n w h r k later ek ak sk = absurd h
 
-drain-second : (s : Schedule) (evs : List Event) (ans : List Answer) (states : List Schedule) (n : ℕ) → IsScheduled s → IsScheduledHistory s evs ans states → Waited s n →
-    (j k : ℕ) (second later : Machine) → IsQuietAdvance (machines (s ∷ states)) evs j second → slice_get evs k ≡ Some events.Reap → slice_get ans k ≡ Some (answers.Reaped None) → slice_get (machines (s ∷ states)) k ≡ Some later → j < k → HasLife later.store.elements n Reclaimed
+drain-second : (s : Schedule) (evs : List Event) (ans : List Answer) (states : List Schedule) (n : ℕ) → IsScheduled s
+    → IsScheduledHistory s evs ans states → Waited s n →
+    (j k : ℕ) (second later : Machine) → IsQuietAdvance (machines (s ∷ states)) evs j second →
+    slice_get evs k ≡ Some events.Reap → slice_get ans k ≡ Some (answers.Reaped None) →
+    slice_get (machines (s ∷ states)) k ≡ Some later → j < k → HasLife later.store.elements n Reclaimed
 drain-second s [] [] [] n w h r j k second later q ek ak sk less = absurd (none-some events.Reap ek)
 drain-second s (event ∷ evs) (answer ∷ ans) (next ∷ states) n w h r j zero second later q ek ak sk less = absurd (omega arith)
 drain-second s (event ∷ evs) (answer ∷ ans) (next ∷ states) n w h r zero (suc k) second later q ek ak sk less =
@@ -218,13 +249,18 @@ drain-second s (event ∷ evs) (answer ∷ ans) (next ∷ states) n w h r zero (
     let quiet : open_sections s.machine.runs ≡ [] = ap (λ x. open_sections x.runs) (same_Some s.machine second q.state) ∙ q.quiet in
     drain-end next evs ans states n (stays_scheduled s next event answer w h.0) h.1 (second-quiet s next answer n w d quiet r) k later ek ak sk
 drain-second s (event ∷ evs) (answer ∷ ans) (next ∷ states) n w h r (suc j) (suc k) second later q ek ak sk less =
-    drain-second next evs ans states n (stays_scheduled s next event answer w h.0) h.1 (waited-step s next event answer w h.0 n r) j k second later (record { at = q.at; state = q.state; quiet = q.quiet }) ek ak sk (omega arith)
+    drain-second next evs ans states n (stays_scheduled s next event answer w h.0) h.1
+    (waited-step s next event answer w h.0 n r) j k second later
+    (record { at = q.at; state = q.state; quiet = q.quiet }) ek ak sk (omega arith)
 drain-second s evs ans states n w h r j k second later q ek ak sk less = absurd h
 
-out-unlinked : (s : Schedule) (first : Machine) (n : ℕ) (since : List Section) → s.machine ≡ first → HasLife first.store.elements n (Unlinked since) → IsOut s.machine.store.elements n
-out-unlinked s first n since e h = subst (λ x. IsOut x.store.elements n) (sym e) (record { element = h.0; born = h.1; out = λ l. linked≢unlinked since (sym l ∙ h.2) })
+out-unlinked : (s : Schedule) (first : Machine) (n : ℕ) (since : List Section) → s.machine ≡ first →
+    HasLife first.store.elements n (Unlinked since) → IsOut s.machine.store.elements n
+out-unlinked s first n since e h = subst (λ x. IsOut x.store.elements n) (sym e)
+    (record { element = h.0; born = h.1; out = λ l. linked≢unlinked since (sym l ∙ h.2) })
 
-pub drains_from : (s : Schedule) (evs : List Event) (ans : List Answer) (states : List Schedule) → IsScheduled s → IsScheduledHistory s evs ans states → Drains (machines (s ∷ states)) evs ans
+pub drains_from : (s : Schedule) (evs : List Event) (ans : List Answer) (states : List Schedule) → IsScheduled s →
+    IsScheduledHistory s evs ans states → Drains (machines (s ∷ states)) evs ans
 drains_from s [] [] [] w h i j k n first second later since p q ij ek ak sk jk life = absurd (none-some events.Reap ek)
 drains_from s (event ∷ evs) (answer ∷ ans) (next ∷ states) w h i zero k n first second later since p q ij ek ak sk jk life = absurd (omega arith)
 drains_from s (event ∷ evs) (answer ∷ ans) (next ∷ states) w h i (suc j) zero n first second later since p q ij ek ak sk jk life = absurd (omega arith)
@@ -232,42 +268,77 @@ drains_from s (event ∷ evs) (answer ∷ ans) (next ∷ states) w h zero (suc j
     let d = as-advance s next event answer (same_Some event events.Advance p.at) h.0 in
     let same : s.machine ≡ first = same_Some s.machine first p.state in
     let quiet : open_sections s.machine.runs ≡ [] = ap (λ x. open_sections x.runs) same ∙ p.quiet in
-    drain-second next evs ans states n (stays_scheduled s next event answer w h.0) h.1 (first-quiet s next answer n w d quiet (out-unlinked s first n since same life)) j k second later (record { at = q.at; state = q.state; quiet = q.quiet }) ek ak sk (omega arith)
+    drain-second next evs ans states n (stays_scheduled s next event answer w h.0) h.1
+    (first-quiet s next answer n w d quiet (out-unlinked s first n since same life)) j k second later
+    (record { at = q.at; state = q.state; quiet = q.quiet }) ek ak sk (omega arith)
 drains_from s (event ∷ evs) (answer ∷ ans) (next ∷ states) w h (suc i) (suc j) (suc k) n first second later since p q ij ek ak sk jk life =
-    drains_from next evs ans states (stays_scheduled s next event answer w h.0) h.1 i j k n first second later since (record { at = p.at; state = p.state; quiet = p.quiet }) (record { at = q.at; state = q.state; quiet = q.quiet }) (omega arith) ek ak sk (omega arith) life
+    drains_from next evs ans states (stays_scheduled s next event answer w h.0) h.1 i j k n first second later since
+    (record { at = p.at; state = p.state; quiet = p.quiet })
+    (record { at = q.at; state = q.state; quiet = q.quiet }) (omega arith) ek ak sk (omega arith) life
 drains_from s evs ans states w h i j k n first second later since p q ij ek ak sk jk life = absurd h
 
-pub drains : (shapes : List MapShape) (programs : List Loaded) → AreShapes shapes → (evs : List Event) (ans : List Answer) (states : List Schedule) → IsScheduledHistory (start_schedule shapes programs) evs ans states → Drains (machines (start_schedule shapes programs ∷ states)) evs ans
+pub drains : (shapes : List MapShape) (programs : List Loaded) → AreShapes shapes →
+    (evs : List Event) (ans : List Answer) (states : List Schedule) →
+    IsScheduledHistory (start_schedule shapes programs) evs ans states →
+    Drains (machines (start_schedule shapes programs ∷ states)) evs ans
 drains shapes programs limits evs ans states h = drains_from (start_schedule shapes programs) evs ans states (starts_scheduled shapes programs limits) h
 
 -- the first ready element may be reclaimed
-reclaims-first : (s : Schedule) (n k : ℕ) → IsScheduled s → (d : Queued s.machine.store.elements k n) → AllEnded d.since (open_sections s.machine.runs) → IsReapable s.machine n
+reclaims-first : (s : Schedule) (n k : ℕ) → IsScheduled s → (d : Queued s.machine.store.elements k n) →
+    AllEnded d.since (open_sections s.machine.runs) → IsReapable s.machine n
 reclaims-first s n k w d ended =
-    let m = w.consistent.lengths n d.element d.born in
-    (d.element, given_of d.element.uses m.0, _, record { state = m.0; since = d.since; born = d.born; unlinked = d.life; ended = ended; there = m.1; given_is = refl; new_is = refl })
+    let m = w.consistent.lengths n d.element d.born in (
+      d.element,
+      given_of d.element.uses m.0,
+      _,
+      record {
+        state = m.0;
+        since = d.since;
+        born = d.born;
+        unlinked =
+            d.life;
+        ended = ended;
+        there = m.1;
+        given_is = refl;
+        new_is = refl;
+      },
+    )
 
 pub reapable_in : (s : Schedule) (n : ℕ) → IsScheduled s → first_ready s.queues ≡ Some n → IsReapable s.machine n
 reapable_in s n w first =
     let p = first-index s.queues n first in
     let d = first-queued s n w p in
-    let has : 0 < times n p.lists.ready = let a : times n p.lists.ready ≡ 1 + times n p.rest = ap (times n) p.ready_is ∙ times-first n n p.rest refl in omega arith in
+    let has : 0 < times n p.lists.ready = let a : times n p.lists.ready ≡ 1 + times n p.rest = ap (times n) p.ready_is
+    ∙ times-first n n p.rest refl in omega arith in
     reclaims-first s n p.map_at w d ((w.waits p.map_at p.lists p.there).ended n d.element d.since has d.born d.life)
 
-scheduled-along : (s : Schedule) (evs : List Event) (ans : List Answer) (states : List Schedule) → IsScheduled s → IsScheduledHistory s evs ans states → (j : ℕ) (later : Schedule) → slice_get (s ∷ states) j ≡ Some later → IsScheduled later
+scheduled-along : (s : Schedule) (evs : List Event) (ans : List Answer) (states : List Schedule) → IsScheduled s →
+    IsScheduledHistory s evs ans states → (j : ℕ) (later : Schedule) → slice_get (s ∷ states) j ≡ Some later →
+    IsScheduled later
 scheduled-along s evs ans states w h zero later at = subst IsScheduled (same_Some s later at) w
 scheduled-along s [] [] [] w h (suc j) later at = absurd (none-some later at)
-scheduled-along s (event ∷ evs) (answer ∷ ans) (next ∷ states) w h (suc j) later at = scheduled-along next evs ans states (stays_scheduled s next event answer w h.0) h.1 j later at
+scheduled-along s (event ∷ evs) (answer ∷ ans) (next ∷ states) w h (suc j) later at =
+    scheduled-along next evs ans states (stays_scheduled s next event answer w h.0) h.1 j later at
 scheduled-along s evs ans states w h (suc j) later at = absurd h
 
-pub reapable : (shapes : List MapShape) (programs : List Loaded) → AreShapes shapes → (evs : List Event) (ans : List Answer) (states : List Schedule) (j n : ℕ) (s : Schedule) → IsScheduledHistory (start_schedule shapes programs) evs ans states → slice_get (start_schedule shapes programs ∷ states) j ≡ Some s → first_ready s.queues ≡ Some n → IsReapable s.machine n
-reapable shapes programs limits evs ans states j n s h at first = reapable_in s n (scheduled-along (start_schedule shapes programs) evs ans states (starts_scheduled shapes programs limits) h j s at) first
+pub reapable : (shapes : List MapShape) (programs : List Loaded) → AreShapes shapes →
+    (evs : List Event) (ans : List Answer) (states : List Schedule) (j n : ℕ) (s : Schedule) →
+    IsScheduledHistory (start_schedule shapes programs) evs ans states →
+    slice_get (start_schedule shapes programs ∷ states) j ≡ Some s → first_ready s.queues ≡ Some n →
+    IsReapable s.machine n
+reapable shapes programs limits evs ans states j n s h at first =
+    reapable_in s n (scheduled-along (start_schedule shapes programs) evs ans states
+    (starts_scheduled shapes programs limits) h j s at) first
 
 -- a reap of it is a step
-takes-first : (s : Schedule) (n : ℕ) (e : Element) (taken : ReapedElement) (store : Store) → first_ready s.queues ≡ Some n → Reclaims s.machine.store (open_sections s.machine.runs) n e taken.given store → taken.map ≡ e.map → taken.key.items ≡ e.key →
+takes-first : (s : Schedule) (n : ℕ) (e : Element) (taken : ReapedElement) (store : Store) →
+    first_ready s.queues ≡ Some n → Reclaims s.machine.store (open_sections s.machine.runs) n e taken.given store →
+    taken.map ≡ e.map → taken.key.items ≡ e.key →
     (new : Schedule) × DoesScheduled s events.Reap (answers.Reaped (Some taken)) new
 takes-first s n e taken store first r map key =
     let es : store.elements ≡ slice_set s.machine.store.elements n (with_life Reclaimed e) = ap (λ z. z.elements) r.new_is in
-    let gone : slice_get store.elements n ≡ Some (with_life Reclaimed e) = ap (λ l. slice_get l n) es ∙ get-set_there s.machine.store.elements n e (with_life Reclaimed e) r.born in
+    let gone : slice_get store.elements n ≡ Some (with_life Reclaimed e) = ap (λ l. slice_get l n) es ∙
+    get-set_there s.machine.store.elements n e (with_life Reclaimed e) r.born in
     let same : length store.elements ≡ length s.machine.store.elements = ap length es ∙ length-set s.machine.store.elements n (with_life Reclaimed e) in (
       reaped s (with_store s.machine store),
       record {
@@ -278,15 +349,20 @@ takes-first s n e taken store first r map key =
       },
     )
 
-reclaims-as : (s : Store) (opened : List Section) (n : ℕ) (d e : Element) (given wanted : Given) (new : Store) (state : MapState) → Reclaims s opened n d given new → slice_get s.elements n ≡ Some e → slice_get s.maps e.map ≡ Some state → wanted ≡ given_of e.uses state → Reclaims s opened n e wanted new
+reclaims-as : (s : Store) (opened : List Section) (n : ℕ) (d e : Element) (given wanted : Given) (new : Store)
+    (state : MapState) → Reclaims s opened n d given new → slice_get s.elements n ≡ Some e →
+    slice_get s.maps e.map ≡ Some state → wanted ≡ given_of e.uses state → Reclaims s opened n e wanted new
 reclaims-as s opened n d e given wanted new state r at there w =
     let one : d ≡ e = same_Some d e (sym r.born ∙ at) in
     let maps : r.state ≡ state = same_Some r.state state (sym r.there ∙ (ap (λ x. slice_get s.maps x.map) one ∙ there)) in
     let given_same : given ≡ wanted = r.given_is ∙ (ap (λ x. given_of x.uses r.state) one ∙ (ap (given_of e.uses) maps ∙ sym w)) in
     subst (λ x. Reclaims s opened n e x new) given_same (subst (λ x. Reclaims s opened n x given new) one r)
 
-pub reap_steps : (s : Schedule) (n : ℕ) (e : Element) (state : MapState) (taken : ReapedElement) → IsScheduled s → first_ready s.queues ≡ Some n → slice_get s.machine.store.elements n ≡ Some e → slice_get s.machine.store.maps e.map ≡ Some state →
-    taken.map ≡ e.map → taken.key.items ≡ e.key → taken.given ≡ given_of e.uses state → (new : Schedule) × DoesScheduled s events.Reap (answers.Reaped (Some taken)) new
+pub reap_steps : (s : Schedule) (n : ℕ) (e : Element) (state : MapState) (taken : ReapedElement) → IsScheduled s →
+    first_ready s.queues ≡ Some n → slice_get s.machine.store.elements n ≡ Some e →
+    slice_get s.machine.store.maps e.map ≡ Some state →
+    taken.map ≡ e.map → taken.key.items ≡ e.key → taken.given ≡ given_of e.uses state → (new : Schedule) ×
+    DoesScheduled s events.Reap (answers.Reaped (Some taken)) new
 reap_steps s n e state taken w first at there map key given =
     let r = reapable_in s n w first in
     takes-first s n e taken r.2 first (reclaims-as s.machine.store (open_sections s.machine.runs) n r.0 e r.1 taken.given r.2 state r.3 at there given) map key

@@ -16,7 +16,11 @@ use Rattle.bpf_model.specs.Places.{slot_count}
 use Rattle.bpf_model.specs.Step.{insn_at}
 use Rattle.bpf_model.specs.Graph.{falls, distance, JumpsTo, GoesTo, Reached, reached_entry, reached_next}
 use Rattle.bpf_model.specs.Plain.{ReadsRegister, WritesRegister, ReadsByte, WritesByte, WithoutByte, without_entry, without_next}
-use Rattle.bpf_model.specs.PlainMaps.{lookup_call, lock_call, unlock_call, GuardedLookup, LookupPart, FrameCopy, KeyAddress, MapLoad, LookupCall, NullTest, ValueLoad, part_insn, part_slot, IsGuardedLookup, IsLookupPart, HasForm, InSection, section_entry, section_lock, section_unlock, section_next, LacksRegister, lacks_entry, lacks_call, lacks_next, IsPlainWithMaps}
+use Rattle.bpf_model.specs.PlainMaps.{lookup_call, lock_call, unlock_call, GuardedLookup, LookupPart, FrameCopy}
+use Rattle.bpf_model.specs.PlainMaps.{KeyAddress, MapLoad, LookupCall, NullTest, ValueLoad, part_insn, part_slot}
+use Rattle.bpf_model.specs.PlainMaps.{IsGuardedLookup, IsLookupPart, HasForm, InSection, section_entry, section_lock}
+use Rattle.bpf_model.specs.PlainMaps.{section_unlock, section_next, LacksRegister, lacks_entry, lacks_call}
+use Rattle.bpf_model.specs.PlainMaps.{lacks_next, IsPlainWithMaps}
 use Rattle.model_laws.specs.Example.{lookup_and_load, example_shape}
 
 -- what holds of each instruction of a list and the slot where it begins, the first at slot n
@@ -488,7 +492,8 @@ same_offset d h = cc
 key_place : (d : ℤ) (at : ℕ) → negsuc 3 ≡ d → pos FRAME_BYTES +ℤ d ≡ pos at → at ≡ 508
 key_place d at e h = same-pos at 508 (sym h ∙ ap (λ x. pos FRAME_BYTES +ℤ x) (sym e))
 
-keys : (start k : ℕ) (guarded : IsGuardedLookup lookup_and_load shapes start) → guarded.lookup.at ≤ k → k < guarded.lookup.at + guarded.lookup.shape.key_len → WithoutByte lookup_and_load k start → ⊥
+keys : (start k : ℕ) (guarded : IsGuardedLookup lookup_and_load shapes start) → guarded.lookup.at ≤ k →
+    k < guarded.lookup.at + guarded.lookup.shape.key_len → WithoutByte lookup_and_load k start → ⊥
 keys start k l low high path =
     let first : start ≡ 3 = start_at start l in
     let second : start + 1 ≡ 4 = omega arith in
@@ -579,12 +584,10 @@ reached = visit (λ s j. Reached lookup_and_load s) (
   ),
 )
 
-jumps : (place : ℕ) (i : Insn) → insn_at lookup_and_load place ≡ Some i → (d : ℤ) → distance i ≡ Some d → (target : ℕ) × (next : Insn) × JumpsTo i place target × (place < target) × (insn_at lookup_and_load target ≡ Some next)
-jumps = visit (λ s j. (d : ℤ) → distance j ≡ Some d → (target : ℕ) × (next : Insn) × JumpsTo j s target × (s < target) × (insn_at lookup_and_load target ≡ Some next)) (
-  λ d e. absurd (none-some d e),
-  (
-    λ d e. absurd (none-some d e),
-    (
+jumps : (place : ℕ) (i : Insn) → insn_at lookup_and_load place ≡ Some i → (d : ℤ) → distance i ≡ Some d → (target : ℕ)
+    × (next : Insn) × JumpsTo i place target × (place < target) × (insn_at lookup_and_load target ≡ Some next)
+jumps = visit (λ s j. (d : ℤ) → distance j ≡ Some d → (target : ℕ) × (next : Insn) × JumpsTo j s target × (s < target)
+    × (insn_at lookup_and_load target ≡ Some next)) (
       λ d e. absurd (none-some d e),
       (
         λ d e. absurd (none-some d e),
@@ -595,14 +598,20 @@ jumps = visit (λ s j. (d : ℤ) → distance j ≡ Some d → (target : ℕ) ×
             (
               λ d e. absurd (none-some d e),
               (
-                λ d e. (10, unlock_call, (pos 1, refl, refl), omega arith, refl),
+                λ d e. absurd (none-some d e),
                 (
                   λ d e. absurd (none-some d e),
                   (
-                    λ d e. absurd (none-some d e),
+                    λ d e. (10, unlock_call, (pos 1, refl, refl), omega arith, refl),
                     (
                       λ d e. absurd (none-some d e),
-                      (λ d e. absurd (none-some d e), tt),
+                      (
+                        λ d e. absurd (none-some d e),
+                        (
+                          λ d e. absurd (none-some d e),
+                          (λ d e. absurd (none-some d e), tt),
+                        ),
+                      ),
                     ),
                   ),
                 ),
@@ -611,9 +620,7 @@ jumps = visit (λ s j. (d : ℤ) → distance j ≡ Some d → (target : ℕ) ×
           ),
         ),
       ),
-    ),
-  ),
-)
+    )
 
 forms : (place : ℕ) (i : Insn) → insn_at lookup_and_load place ≡ Some i → HasForm lookup_and_load shapes place i
 forms = visit (λ s j. HasForm lookup_and_load shapes s j) (
@@ -651,7 +658,8 @@ forms = visit (λ s j. HasForm lookup_and_load shapes s j) (
   ),
 )
 
-frame_pointer : (place : ℕ) (i : Insn) → insn_at lookup_and_load place ≡ Some i → (IsLookupPart lookup_and_load shapes place → ⊥) → (WritesRegister i 10 → ⊥) × (ReadsRegister i 10 → ⊥)
+frame_pointer : (place : ℕ) (i : Insn) → insn_at lookup_and_load place ≡ Some i →
+    (IsLookupPart lookup_and_load shapes place → ⊥) → (WritesRegister i 10 → ⊥) × (ReadsRegister i 10 → ⊥)
 frame_pointer = visit (λ s j. (IsLookupPart lookup_and_load shapes s → ⊥) → (WritesRegister j 10 → ⊥) × (ReadsRegister j 10 → ⊥)) (
   λ away. (λ w. absurd (omega arith), λ r. r),
   (
@@ -687,7 +695,9 @@ frame_pointer = visit (λ s j. (IsLookupPart lookup_and_load shapes s → ⊥) �
   ),
 )
 
-registers : (place : ℕ) (i : Insn) → insn_at lookup_and_load place ≡ Some i → (IsLookupPart lookup_and_load shapes place → ⊥) → (r : ℕ) → ReadsRegister i r → LacksRegister lookup_and_load shapes r place → ⊥
+registers : (place : ℕ) (i : Insn) → insn_at lookup_and_load place ≡ Some i →
+    (IsLookupPart lookup_and_load shapes place → ⊥) → (r : ℕ) → ReadsRegister i r →
+    LacksRegister lookup_and_load shapes r place → ⊥
 registers = visit (λ s j. (IsLookupPart lookup_and_load shapes s → ⊥) → (r : ℕ) → ReadsRegister j r → LacksRegister lookup_and_load shapes r s → ⊥) (
   λ away r reads path. reads,
   (

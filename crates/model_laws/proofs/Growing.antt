@@ -3,7 +3,8 @@ use Rattle.std.proofs.Common.{◌≡◌, ℕ, List, ◌++◌, Option, Some, None
 use Rattle.std.specs.Prelude.{slice_get, slice_set}
 use Rattle.std.proofs.lemmas.Bool.{cases_eq}
 use Rattle.bpf_model.specs.Section.{Section}
-use Rattle.bpf_model.specs.Element.{Element, Life, Linked, Unlinked, Reclaimed, IsLinkedAt, HasLife, with_life, with_value, set_to, changed, overwritten, unlinked}
+use Rattle.bpf_model.specs.Element.{Element, Life, Linked, Unlinked, Reclaimed, IsLinkedAt, HasLife, with_life}
+use Rattle.bpf_model.specs.Element.{with_value, set_to, changed, overwritten, unlinked}
 use Rattle.model_laws.specs.Growth.{IsLaterLife, IsLaterElement, ElementsGrow}
 use Rattle.bpf_model.proofs.Lists.{get-append, get-set_other, get-set_there}
 
@@ -60,11 +61,14 @@ grows-set es n old new h f k e at = elim (cases_eq k n) [
   | inr other ↦ (e, get-set_other es n k new other ∙ at, follows-same e)
 ]
 
-grows-set_to : (f : Element → Element) (es : List Element) (n : ℕ) → ((e : Element) → slice_get es n ≡ Some e → IsLaterElement e (f e)) → (o : Option Element) → slice_get es n ≡ o → ElementsGrow es (set_to f es n o)
+grows-set_to : (f : Element → Element) (es : List Element) (n : ℕ) →
+    ((e : Element) → slice_get es n ≡ Some e → IsLaterElement e (f e)) → (o : Option Element) → slice_get es n ≡ o →
+    ElementsGrow es (set_to f es n o)
 grows-set_to f es n h None e = grows-same es
 grows-set_to f es n h (Some x) e = grows-set es n x (f x) e (h x e)
 
-pub grows-changed : (f : Element → Element) (es : List Element) (n : ℕ) → ((e : Element) → slice_get es n ≡ Some e → IsLaterElement e (f e)) → ElementsGrow es (changed f es n)
+pub grows-changed : (f : Element → Element) (es : List Element) (n : ℕ) →
+    ((e : Element) → slice_get es n ≡ Some e → IsLaterElement e (f e)) → ElementsGrow es (changed f es n)
 grows-changed f es n h = grows-set_to f es n h (slice_get es n) refl
 
 -- what was found gets another value
@@ -73,8 +77,11 @@ grows-overwritten value es None = grows-same es
 grows-overwritten value es (Some n) = grows-changed (with_value value) es n (λ e h. follows-value value e)
 
 -- what was found is unlinked
-pub grows-unlinked : (opened : List Section) (es : List Element) (map : ℕ) (key : List ℕ) (n : ℕ) → IsLinkedAt es map key n → ElementsGrow es (unlinked opened es (Some n))
-grows-unlinked opened es map key n l = grows-changed (with_life (Unlinked opened)) es n (λ e h. follows-unlinked opened e (let both : Some l.element ≡ Some e = sym l.born ∙ h in let equal : l.element ≡ e = cc in ap (λ x. x.life) (sym equal) ∙ l.linked))
+pub grows-unlinked : (opened : List Section) (es : List Element) (map : ℕ) (key : List ℕ) (n : ℕ) →
+    IsLinkedAt es map key n → ElementsGrow es (unlinked opened es (Some n))
+grows-unlinked opened es map key n l = grows-changed (with_life (Unlinked opened)) es n
+    (λ e h. follows-unlinked opened e (let both : Some l.element ≡ Some e = sym l.born ∙
+    h in let equal : l.element ≡ e = cc in ap (λ x. x.life) (sym equal) ∙ l.linked))
 
 pub stays-reclaimed : (es new : List Element) (n : ℕ) → ElementsGrow es new → HasLife es n Reclaimed → HasLife new n Reclaimed
 stays-reclaimed es new n g h =

@@ -1,5 +1,6 @@
 -- What a step of a run by itself can bring into its registers and its frame: only references of a kind that it holds already.
-use Rattle.std.proofs.Common.{◌≡◌, refl, ℕ, ◌+◌, ◌-◌, ◌/◌, ◌%◌, ◌^◌, List, Option, Some, None, ℤ, pos, negsuc, ◌+ℤ◌, ◌-ℤ◌, sym, subst, Bool, true, false, inl, inr}
+use Rattle.std.proofs.Common.{◌≡◌, refl, ℕ, ◌+◌, ◌-◌, ◌/◌, ◌%◌, ◌^◌, List, Option, Some, None, ℤ, pos, negsuc, ◌+ℤ◌}
+use Rattle.std.proofs.Common.{◌-ℤ◌, sym, subst, Bool, true, false, inl, inr}
 use Rattle.std.specs.Prelude.{slice_get, if◌then◌else◌, ◌==◌, ◌&&◌, nat_le, nat_lt, length}
 use Rattle.std.specs.Int.{w64}
 use Rattle.std.proofs.lemmas.Option.{none-some, same_Some}
@@ -23,7 +24,8 @@ use Rattle.bpf_model.specs.Value.{◌>>=◌, held, number, reference}
 use Rattle.bpf_model.specs.Access.{byte_count, unsigned_width, region_offset, number_at}
 use Rattle.bpf_model.specs.Frame.{byte_of, are_parts, found, read, is_within, with_number, with_reference}
 use Rattle.bpf_model.specs.Operand.{operand_value, unary_source, offset_by, of_numbers, sum_of, difference_of, computed, decided}
-use Rattle.bpf_model.specs.Step.{State, Environment, Outcome, Moves, Exits, entry, forward, sets, jumps_to, jumps_by, loaded, load_from, frame_after, stored, store_to, map_value, after}
+use Rattle.bpf_model.specs.Step.{State, Environment, Outcome, Moves, Exits, entry, forward, sets, jumps_to, jumps_by}
+use Rattle.bpf_model.specs.Step.{loaded, load_from, frame_after, stored, store_to, map_value, after}
 use Rattle.bpf_model.specs.Exit.{names_map}
 use Rattle.model_laws.specs.Holds.{HoldsValue, HoldsCell, HoldsState}
 use Rattle.bpf_model.specs.Element.{Element}
@@ -40,7 +42,7 @@ HoldsOutcome P (Exits n) = Unit {0}
 pub record Closed (P : Reference → Type 0) : Type 0 where
   pub context : (o : ℤ) → P (Ctx o)
   pub frame : (o : ℤ) → P (Frame o)
-  pub offset_by : (n : ℕ) (o p : ℤ) → P (Elem n o) → P (Elem n p)
+  pub moved : (n : ℕ) (o p : ℤ) → P (Elem n o) → P (Elem n p)
 
 -- where the instruction loads a map of the program's list, those to maps are of the kind too
 abbrev pub MayName : (Reference → Type 0) → Insn → Type 0
@@ -65,11 +67,14 @@ module _ (P : Reference → Type 0) (c : Closed P) where
   holds-sets : (slots dst : ℕ) (v : Value) (m : State) (out : Outcome) → HoldsState P m → HoldsValue P v → sets slots dst v m ≡ Some out → HoldsOutcome P out
   holds-sets slots dst v m out p q h = sets-or (dst == 10) _ out h (λ i. choice (HoldsValue P) (i == dst) v (m.regs i) q (p.0 i), p.1)
 
-  holds-sets_some : (o : Option Value) (slots dst : ℕ) (m : State) (out : Outcome) → HoldsState P m → ((v : Value) → o ≡ Some v → HoldsValue P v) → (o >>= λ v. sets slots dst v m) ≡ Some out → HoldsOutcome P out
+  holds-sets_some : (o : Option Value) (slots dst : ℕ) (m : State) (out : Outcome) → HoldsState P m →
+      ((v : Value) → o ≡ Some v → HoldsValue P v) → (o >>= λ v. sets slots dst v m) ≡ Some out → HoldsOutcome P out
   holds-sets_some o slots dst m out p q h = let s = first-step o (λ v. sets slots dst v m) out h in holds-sets slots dst s.0 m out p (q s.0 s.1) s.2
 
-  holds-sets_number : (o : Option ℕ) (f : ℕ → ℕ) (slots dst : ℕ) (m : State) (out : Outcome) → HoldsState P m → (o >>= λ n. sets slots dst (Number (f n)) m) ≡ Some out → HoldsOutcome P out
-  holds-sets_number o f slots dst m out p h = let s = first-step o (λ n. sets slots dst (Number (f n)) m) out h in holds-sets slots dst (Number (f s.0)) m out p tt s.2
+  holds-sets_number : (o : Option ℕ) (f : ℕ → ℕ) (slots dst : ℕ) (m : State) (out : Outcome) → HoldsState P m →
+      (o >>= λ n. sets slots dst (Number (f n)) m) ≡ Some out → HoldsOutcome P out
+  holds-sets_number o f slots dst m out p h = let s = first-step o (λ n. sets slots dst (Number (f n)) m) out
+      h in holds-sets slots dst (Number (f s.0)) m out p tt s.2
 
   -- arithmetic
   holds-moved : (r : Reference) (d : ℤ) (v : Value) → P r → offset_by r d ≡ Some v → HoldsValue P v
@@ -129,9 +134,11 @@ module _ (P : Reference → Type 0) (c : Closed P) where
   holds-found frame at width (Byte b) v p h = one-number (number_at (λ k. byte_of (frame k)) at width) (λ n. n) v h
   holds-found frame at width (Part i r) v p h = parts-or ((width == 8) && are_parts 0 r frame at 8) r v p h
 
-  holds-loaded : (env : Environment) (m : State) (width : ℕ) (offset : ℤ) (r : Reference) (v : Value) → HoldsState P m → loaded env m width offset r ≡ Some v → HoldsValue P v
+  holds-loaded : (env : Environment) (m : State) (width : ℕ) (offset : ℤ) (r : Reference) (v : Value) → HoldsState P m
+      → loaded env m width offset r ≡ Some v → HoldsValue P v
   holds-loaded env m width offset (Ctx o) v p h =
-      let s = first-step (region_offset (length env.context) width (o +ℤ offset)) (λ at. number_at (slice_get env.context) at width >>= λ n. Some (Number n)) v h in
+      let s = first-step (region_offset (length env.context) width (o +ℤ offset))
+      (λ at. number_at (slice_get env.context) at width >>= λ n. Some (Number n)) v h in
       one-number (number_at (slice_get env.context) s.0 width) (λ n. n) v s.2
   holds-loaded env m width offset (Frame o) v p h =
       let s = first-step (region_offset FRAME_BYTES width (o +ℤ offset)) (λ at. read m.frame at width) v h in
@@ -139,20 +146,28 @@ module _ (P : Reference → Type 0) (c : Closed P) where
   holds-loaded env m width offset (MapRef n) v p h = absurd (none-some v h)
   holds-loaded env m width offset (Elem n o) v p h = absurd (none-some v h)
 
-  holds-load : (env : Environment) (m : State) (width : ℕ) (offset : ℤ) (base v : Value) → HoldsState P m → load_from env m width offset base ≡ Some v → HoldsValue P v
-  holds-load env m width offset base v p h = let s = first-step (reference base) (λ r. loaded env m width offset r) v h in holds-loaded env m width offset s.0 v p s.2
+  holds-load : (env : Environment) (m : State) (width : ℕ) (offset : ℤ) (base v : Value) → HoldsState P m →
+      load_from env m width offset base ≡ Some v → HoldsValue P v
+  holds-load env m width offset base v p h = let s = first-step (reference base) (λ r. loaded env m width offset r) v
+      h in holds-loaded env m width offset s.0 v p s.2
 
   -- stores
   frame-or : (b : Bool) (x new : ℕ → Cell) → (if b then Some x else None) ≡ Some new → ((k : ℕ) → HoldsCell P (x k)) → (k : ℕ) → HoldsCell P (new k)
   frame-or true x new h p k = subst (λ f. HoldsCell P (f k)) (same_Some x new h) (p k)
   frame-or false x new h p k = absurd (none-some new h)
 
-  holds-frame : (at width : ℕ) (v : Value) (frame new : ℕ → Cell) → HoldsValue P v → ((k : ℕ) → HoldsCell P (frame k)) → frame_after at width v frame ≡ Some new → (k : ℕ) → HoldsCell P (new k)
+  holds-frame : (at width : ℕ) (v : Value) (frame new : ℕ → Cell) → HoldsValue P v → ((k : ℕ) → HoldsCell P (frame k))
+      → frame_after at width v frame ≡ Some new → (k : ℕ) → HoldsCell P (new k)
   holds-frame at width Nothing frame new q p h k = absurd (none-some new h)
-  holds-frame at width (Number n) frame new q p h k = subst (λ f. HoldsCell P (f k)) (same_Some (with_number at width n frame) new h) (choice (HoldsCell P) (is_within at width k) (Byte (n / 256 ^ (k - at) % 256)) (frame k) tt (p k))
-  holds-frame at width (Pointer r) frame new q p h k = frame-or (width == 8) (with_reference at r frame) new h (λ j. choice (HoldsCell P) (is_within at 8 j) (Part (j - at) r) (frame j) q (p j)) k
+  holds-frame at width (Number n) frame new q p h k = subst (λ f. HoldsCell P (f k))
+      (same_Some (with_number at width n frame) new h)
+      (choice (HoldsCell P) (is_within at width k) (Byte (n / 256 ^ (k - at) % 256)) (frame k) tt (p k))
+  holds-frame at width (Pointer r) frame new q p h k =
+      frame-or (width == 8) (with_reference at r frame) new h
+      (λ j. choice (HoldsCell P) (is_within at 8 j) (Part (j - at) r) (frame j) q (p j)) k
 
-  holds-stored : (m : State) (width : ℕ) (offset : ℤ) (v : Value) (r : Reference) (out : Outcome) → HoldsState P m → HoldsValue P v → stored m width offset v r ≡ Some out → HoldsOutcome P out
+  holds-stored : (m : State) (width : ℕ) (offset : ℤ) (v : Value) (r : Reference) (out : Outcome) → HoldsState P m →
+      HoldsValue P v → stored m width offset v r ≡ Some out → HoldsOutcome P out
   holds-stored m width offset v (Frame o) out p q h =
       let goes : (ℕ → Cell) → Option Outcome = λ frame. Some (Moves (record { regs = m.regs; frame = frame; place = m.place + 1 })) in
       let s = first-step (region_offset FRAME_BYTES width (o +ℤ offset)) (λ at. frame_after at width v m.frame >>= goes) out h in
@@ -162,15 +177,19 @@ module _ (P : Reference → Type 0) (c : Closed P) where
   holds-stored m width offset v (MapRef n) out p q h = absurd (none-some out h)
   holds-stored m width offset v (Elem n o) out p q h = absurd (none-some out h)
 
-  holds-store : (m : State) (width : ℕ) (offset : ℤ) (v base : Value) (out : Outcome) → HoldsState P m → HoldsValue P v → store_to m width offset v base ≡ Some out → HoldsOutcome P out
-  holds-store m width offset v base out p q h = let s = first-step (reference base) (λ r. stored m width offset v r) out h in holds-stored m width offset v s.0 out p q s.2
+  holds-store : (m : State) (width : ℕ) (offset : ℤ) (v base : Value) (out : Outcome) → HoldsState P m →
+      HoldsValue P v → store_to m width offset v base ≡ Some out → HoldsOutcome P out
+  holds-store m width offset v base out p q h = let s =
+      first-step (reference base) (λ r. stored m width offset v r) out h in holds-stored m width offset v s.0 out p q
+      s.2
 
   -- jumps
   holds-jump : (z : ℤ) (m : State) (out : Outcome) → HoldsState P m → jumps_to z m ≡ Some out → HoldsOutcome P out
   holds-jump (pos n) m out p h = some-outcome _ out h p
   holds-jump (negsuc n) m out p h = absurd (none-some out h)
 
-  holds-taken : (taken : Bool) (offset : ℤ) (m : State) (out : Outcome) → HoldsState P m → (if taken then jumps_by offset m else Some (Moves (forward 1 m))) ≡ Some out → HoldsOutcome P out
+  holds-taken : (taken : Bool) (offset : ℤ) (m : State) (out : Outcome) → HoldsState P m →
+      (if taken then jumps_by offset m else Some (Moves (forward 1 m))) ≡ Some out → HoldsOutcome P out
   holds-taken true offset m out p h = holds-jump (pos (m.place + 1) +ℤ offset) m out p h
   holds-taken false offset m out p h = some-outcome _ out h p
 
@@ -183,37 +202,49 @@ module _ (P : Reference → Type 0) (c : Closed P) where
   holds-map env (negsuc n) v p h = absurd (none-some v h)
 
   pub holds-after : (i : Insn) (env : Environment) (m : State) (out : Outcome) → MayName P i → HoldsState P m → after i env m ≡ Some out → HoldsOutcome P out
-  holds-after (Alu op size dst src) env m out maps p h = holds-sets_some (computed size op (m.regs dst) (operand_value src m.regs)) 1 dst m out p (λ v. holds-computed size op (m.regs dst) (operand_value src m.regs) v (p.0 dst) (holds-operand src m p)) h
+  holds-after (Alu op size dst src) env m out maps p h =
+      holds-sets_some (computed size op (m.regs dst) (operand_value src m.regs)) 1 dst m out p
+      (λ v. holds-computed size op (m.regs dst) (operand_value src m.regs) v (p.0 dst) (holds-operand src m p)) h
   holds-after (Unary op dst) env m out maps p h = holds-sets_number (number (m.regs (unary_source op dst))) (unary op) 1 dst m out p h
   holds-after (LoadNumber dst n) env m out maps p h = holds-sets 2 dst (Number n) m out p tt h
   holds-after (LoadMap dst map) env m out maps p h = holds-sets_some (map_value env map) 2 dst m out p (λ v. holds-map env map v (maps refl)) h
   holds-after (Jump offset) env m out maps p h = holds-jump (pos (m.place + 1) +ℤ offset) m out p h
   holds-after (JumpLong imm) env m out maps p h = holds-jump (pos (m.place + 1) +ℤ imm) m out p h
   holds-after (JumpIf condition size dst src offset) env m out maps p h =
-      let s = first-step (decided condition size src (m.regs dst) (operand_value src m.regs)) (λ taken. if taken then jumps_by offset m else Some (Moves (forward 1 m))) out h in
+      let s = first-step (decided condition size src (m.regs dst) (operand_value src m.regs))
+      (λ taken. if taken then jumps_by offset m else Some (Moves (forward 1 m))) out h in
       holds-taken s.0 offset m out p s.2
   holds-after (Call kind imm) env m out maps p h = absurd (none-some out h)
   holds-after Exit env m out maps p h = let s = first-step (number (m.regs 0)) (λ n. Some (Exits n)) out h in some-outcome (Exits s.0) out s.2 tt
   holds-after (Load width dst src offset) env m out maps p h =
-      holds-sets_some (load_from env m (byte_count width) offset (m.regs src)) 1 dst m out p (λ v. holds-load env m (byte_count width) offset (m.regs src) v p) h
+      holds-sets_some (load_from env m (byte_count width) offset (m.regs src)) 1 dst m out p
+      (λ v. holds-load env m (byte_count width) offset (m.regs src) v p) h
   holds-after (LoadSigned width dst src offset) env m out maps p h =
-      let s = first-step (load_from env m (byte_count (unsigned_width width)) offset (m.regs src)) (λ v. number v >>= λ n. sets 1 dst (Number (loaded_signed width n)) m) out h in
+      let s = first-step (load_from env m (byte_count (unsigned_width width)) offset (m.regs src))
+      (λ v. number v >>= λ n. sets 1 dst (Number (loaded_signed width n)) m) out h in
       holds-sets_number (number s.0) (loaded_signed width) 1 dst m out p s.2
-  holds-after (Store width dst offset src) env m out maps p h = holds-store m (byte_count width) offset (operand_value src m.regs) (m.regs dst) out p (holds-operand src m p) h
+  holds-after (Store width dst offset src) env m out maps p h =
+      holds-store m (byte_count width) offset (operand_value src m.regs) (m.regs dst) out p (holds-operand src m p) h
 
   holds-forward : (m : State) (out : Outcome) → HoldsState P m → out ≡ Moves (forward 1 m) → HoldsOutcome P out
   holds-forward m out p h = subst (HoldsOutcome P) (sym h) p
 
-  holds-access : (i : Insn) (es : List Element) (m : State) (out : Outcome) (new : List Element) → HoldsState P m → AccessesElement i es m out new → HoldsOutcome P out
+  holds-access : (i : Insn) (es : List Element) (m : State) (out : Outcome) (new : List Element) → HoldsState P m →
+      AccessesElement i es m out new → HoldsOutcome P out
   holds-access (Load width dst src offset) es m out new p h = holds-sets 1 dst (Number h.0) m out p tt h.2
   holds-access (LoadSigned width dst src offset) es m out new p h = holds-sets 1 dst (Number (loaded_signed width h.0)) m out p tt h.2
   holds-access (Store width dst offset src) es m out new p h = holds-forward m out p h.1
   holds-access i es m out new p h = absurd h
 
-  pub holds-acts : (i : Insn) (env : Environment) (es : List Element) (m : State) (out : Outcome) (new : List Element) → MayName P i → HoldsState P m → Acts i env es m out new → HoldsOutcome P out
+  pub holds-acts : (i : Insn) (env : Environment) (es : List Element) (m : State) (out : Outcome) (new : List Element)
+      → MayName P i → HoldsState P m → Acts i env es m out new → HoldsOutcome P out
   holds-acts i env es m out new maps p (inl h) = holds-after i env m out maps p h.0
   holds-acts i env es m out new maps p (inr h) = holds-access i es m out new p h
 
   -- a call
   pub holds-returns : (v : Value) (m : State) → HoldsValue P v → HoldsState P m → HoldsState P (returns v m)
-  holds-returns v m q p = (λ i. choice (HoldsValue P) (i == 0) v (if nat_le i 5 then Nothing else m.regs i) q (choice (HoldsValue P) (nat_le i 5) Nothing (m.regs i) tt (p.0 i)), p.1)
+  holds-returns v m q p = (
+    λ i. choice (HoldsValue P) (i == 0) v (if nat_le i 5 then Nothing else m.regs i) q
+        (choice (HoldsValue P) (nat_le i 5) Nothing (m.regs i) tt (p.0 i)),
+    p.1,
+  )

@@ -29,7 +29,8 @@ pub index-got : (n : ℕ) (key : List ℕ) (i : ℕ) → get (index_below n) key
 index-got zero key i h = absurd (none-some i (sym (get-empty (slice_cmp nat_cmp) key) ∙ h))
 index-got (suc n) key i h = elim (key_cases key (index_key n)) [
   | inl same ↦
-      let at : get (insert (index_below n) (index_key n) n) key ≡ Some n = ap (get (insert (index_below n) (index_key n) n)) same ∙ insert-same (index_below n) (index_key n) n in
+      let at : get (insert (index_below n) (index_key n) n) key ≡ Some n =
+      ap (get (insert (index_below n) (index_key n) n)) same ∙ insert-same (index_below n) (index_key n) n in
       let is : n ≡ i = same_Some n i (sym at ∙ h) in
       (omega arith, ap index_key (sym is) ∙ sym same)
   | inr ne ↦

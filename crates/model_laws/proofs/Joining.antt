@@ -24,13 +24,15 @@ module _ {World : Type 0} (Tracks : World → Schedule → Type 0) where
       (first.0 ∷ rest.0, (first.1, rest.1), rest.2)
   steps_make_history old new events answers h s t = absurd h
 
-pub steps_make_scheduled : (old new : WorldView) (events : List Event) (answers : List Answer) → AreSteps TracksSchedule old events answers new → AreScheduledAnswers TracksSchedule old events answers new
+pub steps_make_scheduled : (old new : WorldView) (events : List Event) (answers : List Answer) →
+    AreSteps TracksSchedule old events answers new → AreScheduledAnswers TracksSchedule old events answers new
 steps_make_scheduled old new events answers h s t =
     let r = steps_make_history TracksSchedule old new events answers h s t in
     (r.0, r.1, drains_from s events answers r.0 (tracked_is_scheduled old s t) r.1, r.2)
 
 -- two histories that meet
-pub history-join : (s : Schedule) (es fs : List Event) (xs ys : List Answer) (states more : List Schedule) → IsScheduledHistory s es xs states → IsScheduledHistory (last_of s states) fs ys more →
+pub history-join : (s : Schedule) (es fs : List Event) (xs ys : List Answer) (states more : List Schedule) →
+    IsScheduledHistory s es xs states → IsScheduledHistory (last_of s states) fs ys more →
     IsScheduledHistory s (es ++ fs) (xs ++ ys) (states ++ more)
 history-join s [] fs [] ys [] more h g = g
 history-join s (e ∷ es) fs (x ∷ xs) ys (t ∷ states) more h g = (h.0, history-join t es fs xs ys states more h.1 g)
@@ -40,24 +42,39 @@ pub last-join : (s : Schedule) (states more : List Schedule) → last_of s (stat
 last-join s [] more = refl
 last-join s (t ∷ states) more = last-join t states more
 
-pub scheduled_join : (old mid new : WorldView) (es fs : List Event) (xs ys : List Answer) → AreScheduledAnswers TracksSchedule old es xs mid → AreScheduledAnswers TracksSchedule mid fs ys new → AreScheduledAnswers TracksSchedule old (es ++ fs) (xs ++ ys) new
+pub scheduled_join : (old mid new : WorldView) (es fs : List Event) (xs ys : List Answer) →
+    AreScheduledAnswers TracksSchedule old es xs mid → AreScheduledAnswers TracksSchedule mid fs ys new →
+    AreScheduledAnswers TracksSchedule old (es ++ fs) (xs ++ ys) new
 scheduled_join old mid new es fs xs ys h g s t =
     let r = h s t in
     let n = g (last_of s r.0) r.3 in
-    let history = history-join s es fs xs ys r.0 n.0 r.1 n.1 in
-    (r.0 ++ n.0, history, drains_from s (es ++ fs) (xs ++ ys) (r.0 ++ n.0) (tracked_is_scheduled old s t) history, subst (TracksSchedule new) (sym (last-join s r.0 n.0)) n.3)
+    let history = history-join s es fs xs ys r.0 n.0 r.1 n.1 in (
+      r.0 ++ n.0,
+      history,
+      drains_from s (es ++ fs) (xs ++ ys) (r.0 ++ n.0) (tracked_is_scheduled old s t) history,
+      subst (TracksSchedule new) (sym (last-join s r.0 n.0)) n.3,
+    )
 
 -- one more step
-pub scheduled_grow : (old mid new : WorldView) (events : List Event) (answers : List Answer) (event : Event) (answer : Answer) → AreScheduledAnswers TracksSchedule old events answers mid →
+pub scheduled_grow : (old mid new : WorldView) (events : List Event) (answers : List Answer) (event : Event)
+    (answer : Answer) → AreScheduledAnswers TracksSchedule old events answers mid →
     AnswersAsScheduled TracksSchedule mid event answer new → AreScheduledAnswers TracksSchedule old (events ++ event ∷ []) (answers ++ answer ∷ []) new
 scheduled_grow old mid new events answers event answer h step s t =
     let r = h s t in
     let n = step (last_of s r.0) r.3 in
-    let history = history-join s events (event ∷ []) answers (answer ∷ []) r.0 (n.0 ∷ []) r.1 (n.1, tt) in
-    (r.0 ++ n.0 ∷ [], history, drains_from s (events ++ event ∷ []) (answers ++ answer ∷ []) (r.0 ++ n.0 ∷ []) (tracked_is_scheduled old s t) history, subst (TracksSchedule new) (sym (last-join s r.0 (n.0 ∷ []))) n.2)
+    let history = history-join s events (event ∷ []) answers (answer ∷ []) r.0 (n.0 ∷ []) r.1 (n.1, tt) in (
+      r.0 ++ n.0 ∷ [],
+      history,
+      drains_from s (events ++ event ∷ []) (answers ++ answer ∷ []) (r.0 ++ n.0 ∷ [])
+          (tracked_is_scheduled old s t) history,
+      subst (TracksSchedule new) (sym (last-join s r.0 (n.0 ∷ []))) n.2,
+    )
 
-pub scheduled_from_start : (shapes : List MapShape) (programs : List Loaded) (old new : WorldView) (events : List Event) (answers : List Answer) → TracksSchedule old (start_schedule shapes programs) → AreScheduledAnswers TracksSchedule old events answers new →
-    (states : List Schedule) × IsScheduledHistory (start_schedule shapes programs) events answers states × TracksSchedule new (last_of (start_schedule shapes programs) states)
+pub scheduled_from_start : (shapes : List MapShape) (programs : List Loaded) (old new : WorldView)
+    (events : List Event) (answers : List Answer) → TracksSchedule old (start_schedule shapes programs) →
+    AreScheduledAnswers TracksSchedule old events answers new →
+    (states : List Schedule) × IsScheduledHistory (start_schedule shapes programs) events answers states ×
+    TracksSchedule new (last_of (start_schedule shapes programs) states)
 scheduled_from_start shapes programs old new events answers t h =
     let r = h (start_schedule shapes programs) t in
     (r.0, r.1, r.3)

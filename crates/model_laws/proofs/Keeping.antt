@@ -31,7 +31,8 @@ no-run zero r run h = none-some run h
 no-run (suc n) zero run h = none-some run h
 no-run (suc n) (suc r) run h = no-run n r run h
 
-new-lengths : (shapes : List MapShape) → AreShapes shapes → (n : ℕ) (e : Element) → slice_get (all_new_elements 0 shapes) n ≡ Some e → HasLengths (map new_map shapes) e
+new-lengths : (shapes : List MapShape) → AreShapes shapes → (n : ℕ) (e : Element) →
+    slice_get (all_new_elements 0 shapes) n ≡ Some e → HasLengths (map new_map shapes) e
 new-lengths shapes limits n e h =
     let r = new-element 0 shapes n e h in
     let z : 0 + r.offset ≡ e.map = ap (λ (x : Element). x.map) r.is in
@@ -63,7 +64,8 @@ pub record Past (reap : Bool) (opened : List Section) (s : Store) (n : ℕ) (f :
   pub there : slice_get s.elements n ≡ Some old
   pub alters : Alters reap opened old f
 
-pub element-before : (reap : Bool) (opened : List Section) (s new : Store) (n : ℕ) (f : Element) → StoreMoves reap opened s new → slice_get new.elements n ≡ Some f → Past reap opened s n f ⊎ Born s new n f
+pub element-before : (reap : Bool) (opened : List Section) (s new : Store) (n : ℕ) (f : Element) →
+    StoreMoves reap opened s new → slice_get new.elements n ≡ Some f → Past reap opened s n f ⊎ Born s new n f
 element-before reap opened s new n f mv h = elim (mv.back n f h) [
   | inl x ↦
       let g = mv.forth n x.0 x.1 in
@@ -78,7 +80,8 @@ linked-before reap opened old new (Unlinks l e) h = l
 linked-before reap opened old new (Ends since r l ended e) h = absurd (reclaimed≢linked (sym e ∙ h))
 
 module _ (reap : Bool) (opened : List Section) (s new : Store) (mv : StoreMoves reap opened s new) where
-  link-before : (map : ℕ) (key : List ℕ) (a : ℕ) → IsLinkedAt new.elements map key a → IsLinkedAt s.elements map key a ⊎ ((b : ℕ) → IsLinkedAt new.elements map key b → b ≡ a)
+  link-before : (map : ℕ) (key : List ℕ) (a : ℕ) → IsLinkedAt new.elements map key a → IsLinkedAt s.elements map key a
+      ⊎ ((b : ℕ) → IsLinkedAt new.elements map key b → b ≡ a)
   link-before map key a l = elim (element-before reap opened s new a l.element mv l.born) [
     | inl x ↦ inl (record {
       element = x.old;
@@ -87,7 +90,14 @@ module _ (reap : Bool) (opened : List Section) (s new : Store) (mv : StoreMoves 
       in_map = sym x.alters.in_map ∙ l.in_map;
       under = sym x.alters.under ∙ l.under;
     })
-    | inr x ↦ inr (λ b k. x.only b (record { element = k.element; born = k.born; linked = k.linked; in_map = k.in_map ∙ sym l.in_map; under = k.under ∙ sym l.under }))
+    | inr x ↦ inr (λ b k. x.only b (record {
+      element = k.element;
+      born = k.born;
+      linked = k.linked;
+      in_map = k.in_map
+          ∙ sym l.in_map;
+      under = k.under ∙ sym l.under;
+    }))
   ]
 
   keeps-single : IsSingle s.elements → IsSingle new.elements
@@ -107,7 +117,8 @@ module _ (reap : Bool) (opened : List Section) (s new : Store) (mv : StoreMoves 
   lengths-altered : (e f : Element) → Alters reap opened e f → HasLengths new.maps e → HasLengths new.maps f
   lengths-altered e f a h = (h.0, ap (slice_get new.maps) a.in_map ∙ h.1, ap length a.under ∙ h.2, a.size ∙ h.3)
 
-  keeps-lengths : ((n : ℕ) (e : Element) → slice_get s.elements n ≡ Some e → HasLengths s.maps e) → (n : ℕ) (e : Element) → slice_get new.elements n ≡ Some e → HasLengths new.maps e
+  keeps-lengths : ((n : ℕ) (e : Element) → slice_get s.elements n ≡ Some e → HasLengths s.maps e) →
+      (n : ℕ) (e : Element) → slice_get new.elements n ≡ Some e → HasLengths new.maps e
   keeps-lengths w n e h = elim (element-before reap opened s new n e mv h) [
     | inl x ↦ lengths-altered x.old e x.alters (lengths-later x.old (w n x.old x.there))
     | inr x ↦ lengths-later e x.fits
@@ -123,20 +134,24 @@ module _ (reap : Bool) (opened : List Section) (s new : Store) (mv : StoreMoves 
     | inr more ↦ more
   ]
 
-begun-life : (reap : Bool) (m : Machine) (old new : Life) (since : List Section) → IsConsistent m → LifeMoves reap (open_sections m.runs) old new → new ≡ Unlinked since → (old ≡ Unlinked since → AllBegun m since) → AllBegun m since
+begun-life : (reap : Bool) (m : Machine) (old new : Life) (since : List Section) → IsConsistent m →
+    LifeMoves reap (open_sections m.runs) old new → new ≡ Unlinked since → (old ≡ Unlinked since → AllBegun m since) →
+    AllBegun m since
 begun-life reap m old new since w (Stays e) h k = k (sym e ∙ h)
 begun-life reap m old new since w (Unlinks l e) h k = subst (AllBegun m) (same-since _ _ (sym e ∙ h)) (open-begun m w)
 begun-life reap m old new since w (Ends past r l ended e) h k = absurd (reclaimed≢unlinked since (sym e ∙ h))
 
 -- what is so of the old maps is so of the new ones
-stays-later : (reap : Bool) (opened : List Section) (s new : Store) (e : Element) → StoreMoves reap opened s new → HasLengths s.maps e → StaysLinked s.maps e → StaysLinked new.maps e
+stays-later : (reap : Bool) (opened : List Section) (s new : Store) (e : Element) → StoreMoves reap opened s new →
+    HasLengths s.maps e → StaysLinked s.maps e → StaysLinked new.maps e
 stays-later reap opened s new e mv h stays state at array =
     let n = mv.shapes e.map h.0 h.1 in
     let same : n.0 ≡ state = same_Some n.0 state (sym n.1 ∙ at) in
     stays h.0 h.1 (ap (λ x. x.kind) (sym n.2) ∙ (ap (λ x. x.shape.kind) same ∙ array))
 
 module _ (reap : Bool) (m new : Machine) (w : IsConsistent m) (runs : RunsMove m new) (mv : StoreMoves reap (open_sections m.runs) m.store new.store)
-    (fixes : (n : ℕ) (e f : Element) → slice_get m.store.elements n ≡ Some e → slice_get new.store.elements n ≡ Some f → StaysLinked m.store.maps e → StaysLinked m.store.maps f) where
+    (fixes : (n : ℕ) (e f : Element) → slice_get m.store.elements n ≡ Some e → slice_get new.store.elements n ≡ Some f
+    → StaysLinked m.store.maps e → StaysLinked m.store.maps f) where
   arrays-new : (n : ℕ) (f : Element) → slice_get new.store.elements n ≡ Some f → StaysLinked new.store.maps f
   arrays-new n f at = elim (element-before reap (open_sections m.runs) m.store new.store n f mv at) [
     | inl x ↦
@@ -218,4 +233,5 @@ module _ (reap : Bool) (m new : Machine) (w : IsConsistent m) (runs : RunsMove m
   }
 
 pub stays_consistent : (m new : Machine) (event : Event) (answer : Answer) → IsConsistent m → DoesEvent m event answer new → IsConsistent new
-stays_consistent m new event answer w h = keeps-consistent (is_reap event) m new w (does-move m new event answer h) (does-moves m new event answer w.single w.lengths h) (does-fix m new event answer h)
+stays_consistent m new event answer w h = keeps-consistent (is_reap event) m new w (does-move m new event answer h)
+    (does-moves m new event answer w.single w.lengths h) (does-fix m new event answer h)

@@ -28,9 +28,14 @@ not-free runs r q run free at same = none-some run (sym (ap option_flatten (free
 set-elsewhere : (runs : List (Option Run)) (r q : ℕ) (x : Option Run) → r ≢ q → run_at (slice_set runs q x) r ≡ run_at runs r
 set-elsewhere runs r q x ne = ap option_flatten (get-set_other runs q r x ne)
 
-performs-leaves : (m : Machine) (event : Event) (answer : Answer) (new : Machine) (r : ℕ) (run : Run) → PerformsEvent m event answer new → run_at m.runs r ≡ Some run → event ≢ events.Step r → event ≢ events.Drop r → run_at new.runs r ≡ Some run
-performs-leaves m (events.Start prog ctx) (answers.Started q) new r run h at s d = ap (λ (x : Machine). run_at x.runs r) h.new_is ∙ (set-elsewhere m.runs r q (Some (fresh_run m.started h.program ctx.items)) (not-free m.runs r q run h.lowest at) ∙ at)
-performs-leaves m (events.Step q) answer new r run h at s d = ap (λ (x : Machine). run_at x.runs r) h.new_is ∙ (set-elsewhere m.runs r q (Some h.new_run) (λ same. s (ap events.Step (sym same))) ∙ at)
+performs-leaves : (m : Machine) (event : Event) (answer : Answer) (new : Machine) (r : ℕ) (run : Run) →
+    PerformsEvent m event answer new → run_at m.runs r ≡ Some run → event ≢ events.Step r → event ≢ events.Drop r →
+    run_at new.runs r ≡ Some run
+performs-leaves m (events.Start prog ctx) (answers.Started q) new r run h at s d =
+    ap (λ (x : Machine). run_at x.runs r) h.new_is ∙ (set-elsewhere m.runs r q
+    (Some (fresh_run m.started h.program ctx.items)) (not-free m.runs r q run h.lowest at) ∙ at)
+performs-leaves m (events.Step q) answer new r run h at s d = ap (λ (x : Machine). run_at x.runs r) h.new_is ∙
+    (set-elsewhere m.runs r q (Some h.new_run) (λ same. s (ap events.Step (sym same))) ∙ at)
 performs-leaves m (events.Update map key value flags) (answers.Ret ret) new r run h at s d = ap (λ (x : Machine). run_at x.runs r) h.2 ∙ at
 performs-leaves m (events.Delete map key) (answers.Ret ret) new r run h at s d = ap (λ (x : Machine). run_at x.runs r) h.2 ∙ at
 performs-leaves m (events.Read map key) (answers.Found (Some value)) new r run h at s d = ap (λ (x : Machine). run_at x.runs r) h.1 ∙ at
@@ -38,12 +43,17 @@ performs-leaves m (events.Read map key) (answers.Found None) new r run h at s d 
 performs-leaves m events.Advance answers.Done new r run h at s d = ap (λ (x : Machine). run_at x.runs r) h ∙ at
 performs-leaves m events.Reap (answers.Reaped None) new r run h at s d = ap (λ (x : Machine). run_at x.runs r) h ∙ at
 performs-leaves m events.Reap (answers.Reaped (Some reaped)) new r run h at s d = ap (λ (x : Machine). run_at x.runs r) h.6 ∙ at
-performs-leaves m (events.Drop q) answers.Done new r run h at s d = ap (λ (x : Machine). run_at x.runs r) h ∙ (set-elsewhere m.runs r q None (λ same. d (ap events.Drop (sym same))) ∙ at)
+performs-leaves m (events.Drop q) answers.Done new r run h at s d = ap (λ (x : Machine). run_at x.runs r) h ∙
+    (set-elsewhere m.runs r q None (λ same. d (ap events.Drop (sym same))) ∙ at)
 performs-leaves m event answer new r run h at s d = absurd h
 
-answers-leave : (o : Option EventRefusal) (m : Machine) (event : Event) (answer : Answer) (new : Machine) (r : ℕ) (run : Run) → Answers o m event answer new → run_at m.runs r ≡ Some run → event ≢ events.Step r → event ≢ events.Drop r → run_at new.runs r ≡ Some run
+answers-leave : (o : Option EventRefusal) (m : Machine) (event : Event) (answer : Answer) (new : Machine) (r : ℕ)
+    (run : Run) → Answers o m event answer new → run_at m.runs r ≡ Some run → event ≢ events.Step r →
+    event ≢ events.Drop r → run_at new.runs r ≡ Some run
 answers-leave None m event answer new r run h at s d = performs-leaves m event answer new r run h at s d
 answers-leave (Some k) m event answer new r run h at s d = ap (λ (x : Machine). run_at x.runs r) h.1 ∙ at
 
-pub others_leave_runs : (m new : Machine) (event : Event) (answer : Answer) (r : ℕ) (run : Run) → DoesEvent m event answer new → run_at m.runs r ≡ Some run → event ≢ events.Step r → event ≢ events.Drop r → run_at new.runs r ≡ Some run
+pub others_leave_runs : (m new : Machine) (event : Event) (answer : Answer) (r : ℕ) (run : Run) →
+    DoesEvent m event answer new → run_at m.runs r ≡ Some run → event ≢ events.Step r → event ≢ events.Drop r →
+    run_at new.runs r ≡ Some run
 others_leave_runs m new event answer r run h at s d = answers-leave (refusal m event) m event answer new r run h at s d

@@ -94,12 +94,14 @@ changed-kernel (Some ReadLock) run answer new h e = Locks (returns Nothing run.s
 changed-kernel (Some ReadUnlock) run answer new h e = Unlocks (returns Nothing run.state) h.0 e h.1
 changed-kernel None run answer new h e = absurd h
 
-changed-kind : (i : Insn) (s : Store) (opened : List Section) (run : Run) (answer : Answer) (new_store : Store) (new : Run) → StepsByKind i s opened run answer new_store new → Changes run answer new
+changed-kind : (i : Insn) (s : Store) (opened : List Section) (run : Run) (answer : Answer) (new_store : Store)
+    (new : Run) → StepsByKind i s opened run answer new_store new → Changes run answer new
 changed-kind (Call kinds.Kernel imm) s opened run answer new_store new h = changed-kernel (kernel_function_of imm) run answer new h.0 h.1
 changed-kind (Call kinds.Helper imm) s opened run answer new_store new h = Goes (returns h.0 run.state) h.2 h.3
 changed-kind i s opened run answer new_store new h = changed-ends h.0 run answer new h.4
 
-pub changed-insn : (i : Insn) (s : Store) (opened : List Section) (run : Run) (answer : Answer) (new_store : Store) (new : Run) → InsnStep i s opened run answer new_store new → Changes run answer new
+pub changed-insn : (i : Insn) (s : Store) (opened : List Section) (run : Run) (answer : Answer) (new_store : Store)
+    (new : Run) → InsnStep i s opened run answer new_store new → Changes run answer new
 changed-insn i s opened run answer new_store new h = changed-kind i s opened run answer new_store new (by_kind i s opened run answer new_store new h)
 
 goes-changed : (run : Run) (answer : Answer) (new : Run) → run.exit ≡ None → Changes run answer new → GoesOn run new
@@ -109,7 +111,8 @@ goes-changed run answer new going (Unlocks next inside e f) = subst (GoesOn run)
 goes-changed run answer new going (Ends n out e f) = subst (GoesOn run) (sym f) (goes-exits run n out)
 
 -- its registers and its frame
-born-ends : (births : ℕ) (out : Outcome) (run : Run) (answer : Answer) (new : Run) → IsBornState births run.state → IsBornOutcome births out → OutcomeStep out run answer new → IsBornState births new.state
+born-ends : (births : ℕ) (out : Outcome) (run : Run) (answer : Answer) (new : Run) → IsBornState births run.state →
+    IsBornOutcome births out → OutcomeStep out run answer new → IsBornState births new.state
 born-ends births (Moves next) run answer new p q h = subst (λ r. IsBornState births r.state) (sym h.1) q
 born-ends births (Exits n) run answer new p q h = subst (λ r. IsBornState births r.state) (sym h.2) p
 
@@ -122,22 +125,35 @@ born-looked_up : (s : Store) (map : ℕ) (key : List ℕ) (found : Option ℕ) �
 born-looked_up s map key None h = tt
 born-looked_up s map key (Some n) h = slice_get_within s.elements n h.element h.born
 
-born-helper : (f : Option Helper) (s : Store) (opened : List Section) (run : Run) (ret : Value) (new : Store) → IsBornState (length s.elements) run.state → HelperStep f s opened run ret new → IsBornState (length s.elements) (returns ret run.state)
-born-helper (Some helpers.Lookup) s opened run ret new p h = born-returns_as (length s.elements) ret (found_value h.0.found) run.state h.0.ret_is (born-looked_up s h.0.map h.0.key h.0.found h.0.looked_up) p
+born-helper : (f : Option Helper) (s : Store) (opened : List Section) (run : Run) (ret : Value) (new : Store) →
+    IsBornState (length s.elements) run.state → HelperStep f s opened run ret new →
+    IsBornState (length s.elements) (returns ret run.state)
+born-helper (Some helpers.Lookup) s opened run ret new p h =
+    born-returns_as (length s.elements) ret (found_value h.0.found) run.state h.0.ret_is
+    (born-looked_up s h.0.map h.0.key h.0.found h.0.looked_up) p
 born-helper (Some helpers.Update) s opened run ret new p h = born-returns_as (length s.elements) ret (Number (ret_word h.outcome)) run.state h.ret_is tt p
 born-helper (Some helpers.Delete) s opened run ret new p h = born-returns_as (length s.elements) ret (Number (ret_word h.outcome)) run.state h.ret_is tt p
 born-helper None s opened run ret new p h = absurd h
 
-born-insn : (i : Insn) (s : Store) (opened : List Section) (run : Run) (answer : Answer) (new_store : Store) (new : Run) → StepsByKind i s opened run answer new_store new → IsBornState (length s.elements) run.state → IsBornState (length s.elements) new.state
+born-insn : (i : Insn) (s : Store) (opened : List Section) (run : Run) (answer : Answer) (new_store : Store)
+    (new : Run) → StepsByKind i s opened run answer new_store new → IsBornState (length s.elements) run.state →
+    IsBornState (length s.elements) new.state
 born-insn (Call kinds.Kernel imm) s opened run answer new_store new h p = born-kernel (length s.elements) (kernel_function_of imm) run new p h.0
-born-insn (Call kinds.Helper imm) s opened run answer new_store new h p = subst (λ r. IsBornState (length s.elements) r.state) (sym h.3) (born-helper (helper_of imm) s opened run h.0 new_store p h.1)
-born-insn i s opened run answer new_store new h p = born-ends (length s.elements) h.0 run answer new p (born-acts (length s.elements) i (environment run) s.elements run.state h.0 h.1 p h.2) h.4
+born-insn (Call kinds.Helper imm) s opened run answer new_store new h p =
+    subst (λ r. IsBornState (length s.elements) r.state) (sym h.3)
+    (born-helper (helper_of imm) s opened run h.0 new_store p h.1)
+born-insn i s opened run answer new_store new h p = born-ends (length s.elements) h.0 run answer new p
+    (born-acts (length s.elements) i (environment run) s.elements run.state h.0 h.1 p h.2) h.4
 
 -- the runs stay, one goes on, one begins, or one leaves
 pub data RunsMove (m new : Machine) : Type 0 where
   Stay : new.runs ≡ m.runs → new.started ≡ m.started → RunsMove m new
-  Go : (r : ℕ) (run later : Run) → run_at m.runs r ≡ Some run → GoesOn run later → (IsBornState (length m.store.elements) run.state → IsBornState (length m.store.elements) later.state) → new.runs ≡ slice_set m.runs r (Some later) → new.started ≡ m.started → RunsMove m new
-  Begin : (r : ℕ) (program : Loaded) (context : List ℕ) → new.runs ≡ slice_set m.runs r (Some (fresh_run m.started program context)) → new.started ≡ m.started + 1 → RunsMove m new
+  Go : (r : ℕ) (run later : Run) → run_at m.runs r ≡ Some run → GoesOn run later →
+      (IsBornState (length m.store.elements) run.state → IsBornState (length m.store.elements) later.state) →
+      new.runs ≡ slice_set m.runs r (Some later) → new.started ≡ m.started → RunsMove m new
+  Begin : (r : ℕ) (program : Loaded) (context : List ℕ) →
+      new.runs ≡ slice_set m.runs r (Some (fresh_run m.started program context)) → new.started ≡ m.started + 1 →
+      RunsMove m new
   Leave : (r : ℕ) → new.runs ≡ slice_set m.runs r None → new.started ≡ m.started → RunsMove m new
 
 stays : (m new : Machine) → new ≡ m → RunsMove m new
@@ -188,13 +204,16 @@ pub record Before (m : Machine) (r : ℕ) (run : Run) : Type 0 where
 before-same : (m : Machine) (r : ℕ) (run : Run) → run_at m.runs r ≡ Some run → Before m r run
 before-same m r run h = record { old = run; there = h; goes = goes-same run; born = λ p. p }
 
-only-begun : (m new : Machine) (r : ℕ) (fresh : Option Run) → new.runs ≡ slice_set m.runs r fresh → (k : ℕ) → k ≡ r → (q : ℕ) (other : Run) → run_at new.runs q ≡ Some other → q ≢ k → run_at m.runs q ≡ Some other
+only-begun : (m new : Machine) (r : ℕ) (fresh : Option Run) → new.runs ≡ slice_set m.runs r fresh → (k : ℕ) → k ≡ r →
+    (q : ℕ) (other : Run) → run_at new.runs q ≡ Some other → q ≢ k → run_at m.runs q ≡ Some other
 only-begun m new r fresh e k same q other h ne = elim (run-set_cases m.runs r q fresh other (ap (λ l. run_at l q) (sym e) ∙ h)) [
   | inl x ↦ absurd (ne (x.0 ∙ sym same))
   | inr x ↦ x.1
 ]
 
-before-go : (m : Machine) (r q : ℕ) (old later run : Run) → run_at m.runs r ≡ Some old → GoesOn old later → (IsBornState (length m.store.elements) old.state → IsBornState (length m.store.elements) later.state) → q ≡ r → later ≡ run → Before m q run
+before-go : (m : Machine) (r q : ℕ) (old later run : Run) → run_at m.runs r ≡ Some old → GoesOn old later →
+    (IsBornState (length m.store.elements) old.state → IsBornState (length m.store.elements) later.state) → q ≡ r →
+    later ≡ run → Before m q run
 before-go m r q old later run at g b same e = record {
   old = old;
   there = ap (run_at m.runs) same ∙ at;
@@ -208,10 +227,12 @@ run-before m new q run (Go r old later at g b e s) h = elim (run-set_cases m.run
   | inl x ↦ inl (before-go m r q old later run at g b x.0 (same_Some _ _ x.1))
   | inr x ↦ inl (before-same m q run x.1)
 ]
-run-before m new q run (Begin r program context e s) h = elim (run-set_cases m.runs r q (Some (fresh_run m.started program context)) run (ap (λ l. run_at l q) (sym e) ∙ h)) [
-  | inl x ↦ inr (record { is = (program, context, same_Some _ _ x.1); started = s; only = only-begun m new r _ e q x.0 })
-  | inr x ↦ inl (before-same m q run x.1)
-]
+run-before m new q run (Begin r program context e s) h =
+    elim (run-set_cases m.runs r q (Some (fresh_run m.started program context)) run
+    (ap (λ l. run_at l q) (sym e) ∙ h)) [
+      | inl x ↦ inr (record { is = (program, context, same_Some _ _ x.1); started = s; only = only-begun m new r _ e q x.0 })
+      | inr x ↦ inl (before-same m q run x.1)
+    ]
 run-before m new q run (Leave r e s) h = elim (run-set_cases m.runs r q None run (ap (λ l. run_at l q) (sym e) ∙ h)) [
   | inl x ↦ absurd (none-some run x.1)
   | inr x ↦ inl (before-same m q run x.1)

@@ -1,5 +1,6 @@
 -- The elements that new maps have: those of arrays.
-use Rattle.std.proofs.Common.{◌≡◌, ℕ, zero, suc, ◌+◌, ◌*◌, ◌<◌, ◌≤◌, List, [], ◌∷◌, ◌++◌, length, map, cond, Some, ◌⊎◌, inl, inr, refl, sym, ap, ◌∙◌, arith, subst, ◌^◌}
+use Rattle.std.proofs.Common.{◌≡◌, ℕ, zero, suc, ◌+◌, ◌*◌, ◌<◌, ◌≤◌, List, [], ◌∷◌, ◌++◌, length, map, cond, Some}
+use Rattle.std.proofs.Common.{◌⊎◌, inl, inr, refl, sym, ap, ◌∙◌, arith, subst, ◌^◌}
 use Rattle.std.specs.Prelude.{slice_get, not, ◌==◌, ◌&&◌}
 use Rattle.std.specs.List.{range_with_len}
 use Rattle.std.specs.Int.{w32, from_le_bytes}
@@ -42,7 +43,8 @@ range-get f a (suc n) zero h = let e : a ≡ a + 0 = omega arith in ap (λ m. So
 range-get f a (suc n) (suc j) h = let e : (a + 1) + j ≡ a + suc j = omega arith in range-get f (a + 1) n j (omega arith) ∙ ap (λ m. Some (f m)) e
 
 -- an item of two lists joined
-pub get-joined : {A : Type 0} (xs ys : List A) (i : ℕ) (z : A) → slice_get (xs ++ ys) i ≡ Some z → (slice_get xs i ≡ Some z) ⊎ ((j : ℕ) × (i ≡ length xs + j) × (slice_get ys j ≡ Some z))
+pub get-joined : {A : Type 0} (xs ys : List A) (i : ℕ) (z : A) → slice_get (xs ++ ys) i ≡ Some z →
+    (slice_get xs i ≡ Some z) ⊎ ((j : ℕ) × (i ≡ length xs + j) × (slice_get ys j ≡ Some z))
 get-joined [] ys i z h = inr (i, omega arith, h)
 get-joined (x ∷ xs) ys zero z h = inl h
 get-joined (x ∷ xs) ys (suc i) z h = elim (get-joined xs ys i z h) [
@@ -87,7 +89,9 @@ pub record IsNew (k : ℕ) (shapes : List MapShape) (n : ℕ) (e : Element) : Ty
   pub is : array_element (k + offset) shape index ≡ e
   pub slot : slice_get (all_new_slots shapes) n ≡ Some index
 
-new-of : (kind : MapKind) (k : ℕ) (shape : MapShape) (n : ℕ) (e : Element) → slice_get (new_elements kind k shape) n ≡ Some e → (kind ≡ Array) × (n < shape.entries) × (array_element k shape n ≡ e)
+new-of : (kind : MapKind) (k : ℕ) (shape : MapShape) (n : ℕ) (e : Element) →
+    slice_get (new_elements kind k shape) n ≡ Some e → (kind ≡ Array) × (n < shape.entries) ×
+    (array_element k shape n ≡ e)
 new-of Hash k shape n e h = absurd (none-some e h)
 new-of Array k shape n e h =
     let r = get-range (array_element k shape) 0 shape.entries n e h in
@@ -143,21 +147,31 @@ pub record IsThere (k : ℕ) (shapes : List MapShape) (shape : MapShape) (m inde
   pub there : slice_get (all_new_elements k shapes) n ≡ Some (array_element m shape index)
   pub slot : slice_get (all_new_slots shapes) n ≡ Some index
 
-there-of : (kind : MapKind) (k : ℕ) (shape : MapShape) (i : ℕ) → kind ≡ Array → i < shape.entries → slice_get (new_elements kind k shape) i ≡ Some (array_element k shape i)
+there-of : (kind : MapKind) (k : ℕ) (shape : MapShape) (i : ℕ) → kind ≡ Array → i < shape.entries →
+    slice_get (new_elements kind k shape) i ≡ Some (array_element k shape i)
 there-of Hash k shape i h less = absurd (cc)
-there-of Array k shape i h less = let z : 0 + i ≡ i = omega arith in range-get (array_element k shape) 0 shape.entries i less ∙ ap (λ j. Some (array_element k shape j)) z
+there-of Array k shape i h less = let z : 0 + i ≡ i = omega arith in range-get (array_element k shape) 0 shape.entries
+    i less ∙ ap (λ j. Some (array_element k shape j)) z
 
-pub new-there : (k : ℕ) (shapes : List MapShape) (offset m : ℕ) (shape : MapShape) (i : ℕ) → slice_get shapes offset ≡ Some shape → m ≡ k + offset → shape.kind ≡ Array → i < shape.entries → IsThere k shapes shape m i
+pub new-there : (k : ℕ) (shapes : List MapShape) (offset m : ℕ) (shape : MapShape) (i : ℕ) →
+    slice_get shapes offset ≡ Some shape → m ≡ k + offset → shape.kind ≡ Array → i < shape.entries →
+    IsThere k shapes shape m i
 new-there k [] offset m shape i at is array less = absurd (none-some shape at)
 new-there k (x ∷ shapes) zero m shape i at is array less =
     let same : x ≡ shape = same_Some x shape at in
     let here : m ≡ k = omega arith in
-    let a : slice_get (new_elements x.kind k x) i ≡ Some (array_element k x i) = there-of x.kind k x i (ap (λ (y : MapShape). y.kind) same ∙ array) (subst (λ (y : MapShape). i < y.entries) (sym same) less) in
-    let b : slice_get (new_elements x.kind k x) i ≡ Some (array_element m shape i) = a ∙ (ap (λ (y : MapShape). Some (array_element k y i)) same ∙ ap (λ j. Some (array_element j shape i)) (sym here)) in
+    let a : slice_get (new_elements x.kind k x) i ≡ Some (array_element k x i) =
+    there-of x.kind k x i (ap (λ (y : MapShape). y.kind) same ∙ array)
+    (subst (λ (y : MapShape). i < y.entries) (sym same) less) in
+    let b : slice_get (new_elements x.kind k x) i ≡ Some (array_element m shape i) = a ∙
+    (ap (λ (y : MapShape). Some (array_element k y i)) same ∙
+    ap (λ j. Some (array_element j shape i)) (sym here)) in
     record {
       n = i;
       there = get-front (new_elements x.kind k x) (all_new_elements (suc k) shapes) i (array_element m shape i) b;
-      slot = get-front (new_slots x.kind x) (all_new_slots shapes) i i (slot-of x.kind x i (ap (λ (y : MapShape). y.kind) same ∙ array) (subst (λ (y : MapShape). i < y.entries) (sym same) less));
+      slot = get-front (new_slots x.kind x) (all_new_slots shapes) i i
+          (slot-of x.kind x i (ap (λ (y : MapShape). y.kind) same ∙ array)
+          (subst (λ (y : MapShape). i < y.entries) (sym same) less));
     }
 new-there k (x ∷ shapes) (suc offset) m shape i at is array less =
     let r = new-there (suc k) shapes offset m shape i at (omega arith) array less in
@@ -170,7 +184,9 @@ new-there k (x ∷ shapes) (suc offset) m shape i at is array less =
     }
 
 -- No two of them are of one map and have one key.
-pub new-single : (k : ℕ) (shapes : List MapShape) → AreShapes shapes → (a b : ℕ) (d e : Element) → slice_get (all_new_elements k shapes) a ≡ Some d → slice_get (all_new_elements k shapes) b ≡ Some e → d.map ≡ e.map → d.key ≡ e.key → a ≡ b
+pub new-single : (k : ℕ) (shapes : List MapShape) → AreShapes shapes → (a b : ℕ) (d e : Element) →
+    slice_get (all_new_elements k shapes) a ≡ Some d → slice_get (all_new_elements k shapes) b ≡ Some e →
+    d.map ≡ e.map → d.key ≡ e.key → a ≡ b
 new-single k [] limits a b d e ha hb maps keys = absurd (none-some d ha)
 new-single k (shape ∷ shapes) limits a b d e ha hb maps keys =
     let heads : List Element = new_elements shape.kind k shape in
@@ -214,7 +230,9 @@ new-once k shapes n e h =
     (ap (λ (z : Element). z.life) (sym r.is), ap (λ (z : Element). z.uses) (sym r.is))
 
 -- so what is born is kept, linked and used once
-pub fresh-counts : (k : ℕ) (es : List Element) → ((n : ℕ) (e : Element) → slice_get es n ≡ Some e → (e.life ≡ Linked) × (e.uses ≡ 1)) → (kept_count k es ≡ born_count k es) × (kept_uses k es ≡ born_count k es) × (linked_count k es ≡ born_count k es)
+pub fresh-counts : (k : ℕ) (es : List Element) → ((n : ℕ) (e : Element) → slice_get es n ≡ Some e → (e.life ≡ Linked)
+    × (e.uses ≡ 1)) → (kept_count k es ≡ born_count k es) × (kept_uses k es ≡ born_count k es) ×
+    (linked_count k es ≡ born_count k es)
 fresh-counts k [] h = (refl, refl, refl)
 fresh-counts k (e ∷ es) h =
     let rest = fresh-counts k es (λ n f at. h (suc n) f at) in
@@ -268,7 +286,9 @@ born-before m (shape ∷ shapes) k less =
     let rest = born-before (suc m) shapes k (omega arith) in
     omega arith
 
-pub born-new : (m : ℕ) (shapes : List MapShape) (offset k : ℕ) (shape : MapShape) → slice_get shapes offset ≡ Some shape → k ≡ m + offset → born_count k (all_new_elements m shapes) ≡ new_count shape.kind shape
+pub born-new : (m : ℕ) (shapes : List MapShape) (offset k : ℕ) (shape : MapShape) →
+    slice_get shapes offset ≡ Some shape → k ≡ m + offset →
+    born_count k (all_new_elements m shapes) ≡ new_count shape.kind shape
 born-new m [] offset k shape at is = absurd (none-some shape at)
 born-new m (x ∷ shapes) zero k shape at is =
     let same : x ≡ shape = same_Some x shape at in

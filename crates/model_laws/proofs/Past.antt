@@ -11,7 +11,8 @@ use Rattle.model_laws.specs.Consistent.{IsConsistent, HasBegun, AllBegun}
 use Rattle.model_laws.proofs.Sections.{OpenAt, open_at, has_open}
 use Rattle.model_laws.proofs.Moves.{RunsMove, run-before, started-grows, does-move}
 
-opened-later : (m new : Machine) (s : Section) → RunsMove m new → HasBegun m s → (r : ℕ) (run : Run) → run_at new.runs r ≡ Some run → run.name ≡ s.run → s.lock ≤ run.locks
+opened-later : (m new : Machine) (s : Section) → RunsMove m new → HasBegun m s → (r : ℕ) (run : Run) →
+    run_at new.runs r ≡ Some run → run.name ≡ s.run → s.lock ≤ run.locks
 opened-later m new s mv b r run at same = elim (run-before m new r run mv at) [
   | inl x ↦
       let first : s.lock ≤ x.old.locks = b.opened r x.old x.there (sym x.goes.name ∙ same) in
@@ -32,7 +33,8 @@ begun-later m new s mv b = record {
 pub all-begun-later : (m new : Machine) (since : List Section) → RunsMove m new → AllBegun m since → AllBegun new since
 all-begun-later m new since mv all s h = begun-later m new s mv (all s h)
 
-same-section : (m new : Machine) (s : Section) (r : ℕ) (old run : Run) → run_at m.runs r ≡ Some old → 0 < old.depth → run.name ≡ old.name → run.locks ≡ old.locks → section_of run ≡ s → Has (open_sections m.runs) s
+same-section : (m new : Machine) (s : Section) (r : ℕ) (old run : Run) → run_at m.runs r ≡ Some old → 0 < old.depth →
+    run.name ≡ old.name → run.locks ≡ old.locks → section_of run ≡ s → Has (open_sections m.runs) s
 same-section m new s r old run at inside name locks is =
     let a : old.name ≡ s.run = sym name ∙ ap (λ x. x.run) is in
     let b : old.locks ≡ s.lock = sym locks ∙ ap (λ x. x.lock) is in
@@ -58,11 +60,13 @@ reopened m new s mv b o = elim (run-before m new o.slot o.run mv o.there) [
 pub open-before : (m new : Machine) (s : Section) → RunsMove m new → HasBegun m s → Has (open_sections new.runs) s → Has (open_sections m.runs) s
 open-before m new s mv b h = reopened m new s mv b (open_at new.runs s h)
 
-pub ended-later : (m new : Machine) (since : List Section) → RunsMove m new → AllBegun m since → AllEnded since (open_sections m.runs) → AllEnded since (open_sections new.runs)
+pub ended-later : (m new : Machine) (since : List Section) → RunsMove m new → AllBegun m since →
+    AllEnded since (open_sections m.runs) → AllEnded since (open_sections new.runs)
 ended-later m new since mv all ended s h opened = ended s h (open-before m new s mv (all s h) opened)
 
 pub section_never_reopens : (m later : Machine) (events : List Event) (answers : List Answer) (states : List Machine) (j : ℕ) (s : Section) →
-    IsHistory m events answers states → slice_get states j ≡ Some later → HasBegun m s → (Has (open_sections m.runs) s → ⊥) → Has (open_sections later.runs) s → ⊥
+    IsHistory m events answers states → slice_get states j ≡ Some later → HasBegun m s →
+    (Has (open_sections m.runs) s → ⊥) → Has (open_sections later.runs) s → ⊥
 section_never_reopens m later [] [] [] j s h at b out = absurd (none-some later at)
 section_never_reopens m later (event ∷ events) (answer ∷ answers) (next ∷ states) zero s h at b out =
     let mv = does-move m next event answer h.0 in
@@ -76,7 +80,8 @@ section_never_reopens m later events answers states j s h at b out = absurd h
 pub open-begun : (m : Machine) → IsConsistent m → AllBegun m (open_sections m.runs)
 open-begun m w s h = begun-of m w s (open_at m.runs s h)
   where
-    same-run : (m : Machine) → IsConsistent m → (s : Section) (o : OpenAt m.runs s) (r : ℕ) (run : Run) → run_at m.runs r ≡ Some run → run.name ≡ s.run → o.run ≡ run
+    same-run : (m : Machine) → IsConsistent m → (s : Section) (o : OpenAt m.runs s) (r : ℕ) (run : Run) →
+        run_at m.runs r ≡ Some run → run.name ≡ s.run → o.run ≡ run
     same-run m w s o r run at same =
         let slot : r ≡ o.slot = w.apart r o.slot run o.run at o.there (same ∙ sym (ap (λ x. x.run) o.is)) in
         same_Some o.run run (sym o.there ∙ (ap (run_at m.runs) (sym slot) ∙ at))

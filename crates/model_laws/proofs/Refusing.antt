@@ -21,13 +21,15 @@ ends-answer : (out : Outcome) (run : Run) (k : EventRefusal) (new : Run) → Out
 ends-answer (Moves next) run k new h = let e : Refused k ≡ Moved = h.0 in cc
 ends-answer (Exits n) run k new h = let e : Refused k ≡ Exited n = h.1 in cc
 
-insn-answer : (i : Insn) (s : Store) (opened : List Section) (run : Run) (k : EventRefusal) (new : Store) (new_run : Run) → StepsByKind i s opened run (Refused k) new new_run → ⊥
+insn-answer : (i : Insn) (s : Store) (opened : List Section) (run : Run) (k : EventRefusal) (new : Store)
+    (new_run : Run) → StepsByKind i s opened run (Refused k) new new_run → ⊥
 insn-answer (Call kinds.Kernel imm) s opened run k new new_run h = let e : Refused k ≡ Moved = h.1 in cc
 insn-answer (Call kinds.Helper imm) s opened run k new new_run h = let e : Refused k ≡ Moved = h.2 in cc
 insn-answer i s opened run k new new_run h = ends-answer h.0 run k new_run h.4
 
 performs-answer : (m : Machine) (event : Event) (k : EventRefusal) (new : Machine) → PerformsEvent m event (Refused k) new → ⊥
-performs-answer m (events.Step run) k new h = insn-answer h.step.0 m.store (open_sections m.runs) h.run k h.new_store h.new_run (run_by_kind m run (Refused k) new h)
+performs-answer m (events.Step run) k new h = insn-answer h.step.0 m.store (open_sections m.runs) h.run k h.new_store
+    h.new_run (run_by_kind m run (Refused k) new h)
 performs-answer m event k new h = h
 
 told : (o : Option EventRefusal) (m new : Machine) (event : Event) (k : EventRefusal) → Answers o m event (Refused k) new → (o ≡ Some k) × (new ≡ m)

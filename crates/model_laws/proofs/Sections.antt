@@ -6,12 +6,14 @@ use Rattle.std.proofs.lemmas.Option.{none-some, same_Some}
 use Rattle.bpf_model.specs.Section.{Section, Has}
 use Rattle.bpf_model.specs.Machine.{Run, is_inside, section_of, open_sections, run_at}
 
-pub run-set_cases : (runs : List (Option Run)) (r q : ℕ) (new : Option Run) (x : Run) → run_at (slice_set runs r new) q ≡ Some x → ((q ≡ r) × (new ≡ Some x)) ⊎ ((q ≢ r) × (run_at runs q ≡ Some x))
+pub run-set_cases : (runs : List (Option Run)) (r q : ℕ) (new : Option Run) (x : Run) →
+    run_at (slice_set runs r new) q ≡ Some x → ((q ≡ r) × (new ≡ Some x)) ⊎ ((q ≢ r) × (run_at runs q ≡ Some x))
 run-set_cases [] r q new x h = absurd (none-some x h)
 run-set_cases (y ∷ runs) zero zero new x h = inl (refl, h)
 run-set_cases (y ∷ runs) zero (suc q) new x h = inr (λ e. absurd (omega arith), h)
 run-set_cases (y ∷ runs) (suc r) zero new x h = inr (λ e. absurd (omega arith), h)
-run-set_cases (y ∷ runs) (suc r) (suc q) new x h = elim (run-set_cases runs r q new x h) [ inl p ↦ inl (ap suc p.0, p.1) | inr p ↦ inr (λ e. p.0 (omega arith), p.1) ]
+run-set_cases (y ∷ runs) (suc r) (suc q) new x h = elim (run-set_cases runs r q new x h)
+    [ inl p ↦ inl (ap suc p.0, p.1) | inr p ↦ inr (λ e. p.0 (omega arith), p.1) ]
 
 -- a section that is open is that of a run
 pub record OpenAt (runs : List (Option Run)) (s : Section) : Type 0 where
@@ -24,7 +26,8 @@ pub record OpenAt (runs : List (Option Run)) (s : Section) : Type 0 where
 later-slot : (x : Option Run) (runs : List (Option Run)) (s : Section) → OpenAt runs s → OpenAt (x ∷ runs) s
 later-slot x runs s o = record { slot = suc o.slot; run = o.run; there = o.there; inside = o.inside; is = o.is }
 
-open_at-first : (b : Bool) (run : Run) (runs : List (Option Run)) (s : Section) (k : ℕ) → is_inside run ≡ b → slice_get (if b then section_of run ∷ open_sections runs else open_sections runs) k ≡ Some s →
+open_at-first : (b : Bool) (run : Run) (runs : List (Option Run)) (s : Section) (k : ℕ) → is_inside run ≡ b →
+    slice_get (if b then section_of run ∷ open_sections runs else open_sections runs) k ≡ Some s →
     ((k : ℕ) → slice_get (open_sections runs) k ≡ Some s → OpenAt runs s) → OpenAt (Some run ∷ runs) s
 open_at-first true run runs s zero e h more = record { slot = 0; run = run; there = refl; inside = ltb-true 0 run.depth e; is = same_Some _ _ h }
 open_at-first true run runs s (suc k) e h more = later-slot (Some run) runs s (more k h)

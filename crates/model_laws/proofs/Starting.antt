@@ -1,5 +1,6 @@
 -- The world at the start tracks the schedule at the start.
-use Rattle.std.proofs.Common.{◌≡◌, ℕ, zero, suc, ◌+◌, ◌<◌, ◌≤◌, List, [], ◌∷◌, map, length, replicate, Some, None, inl, inr, refl, sym, ap, ◌∙◌, arith, subst, false}
+use Rattle.std.proofs.Common.{◌≡◌, ℕ, zero, suc, ◌+◌, ◌<◌, ◌≤◌, List, [], ◌∷◌, map, length, replicate, Some, None}
+use Rattle.std.proofs.Common.{inl, inr, refl, sym, ap, ◌∙◌, arith, subst, false}
 use Rattle.std.specs.Prelude.{slice_get, slice_index, count_by}
 use Rattle.std.specs.List.{range_with_len}
 use Rattle.std.specs.FinMap.{get, get-empty, len-empty}
@@ -22,7 +23,8 @@ use Rattle.bpf_model.specs.Schedule.{Queues, open_flags, start_schedule, no_queu
 use Rattle.bpf_model.specs.View.{SlotView, MapView, uses_at, unused_slot, index_below, array_slot, new_view_of, new_map_view, start_view}
 use Rattle.bpf_model.specs.Refines.{times, slot_view, MapRefines, RunSlotRefines, RefinesSchedule, TracksSchedule}
 use Rattle.model_laws.proofs.Tallies.{one_of, count-cons}
-use Rattle.model_laws.proofs.NewElements.{range-get, all_new_slots, length-all_new, new-element, new-there, new-single, new-once, fresh-counts, new_count, born-new}
+use Rattle.model_laws.proofs.NewElements.{range-get, all_new_slots, length-all_new, new-element, new-there}
+use Rattle.model_laws.proofs.NewElements.{new-single, new-once, fresh-counts, new_count, born-new}
 use Rattle.model_laws.proofs.Indices.{index-got, index-gets, len-index}
 use Rattle.model_laws.proofs.Counting.{times-first, times-other, map-back}
 
@@ -91,7 +93,9 @@ module _ (shapes : List MapShape) (limits : AreShapes shapes) (k : ℕ) (shape :
       let m : 0 + r.offset ≡ e.map = ap (λ (z : Element). z.map) r.is in
       let o : r.offset ≡ k = omega arith in
       let same : r.shape ≡ shape = same_Some r.shape shape (sym r.there ∙ (ap (slice_get shapes) o ∙ at)) in
-      let first : array_element k shape r.index ≡ array_element (0 + r.offset) r.shape r.index = ap (λ z. array_element z shape r.index) (sym (m ∙ in_map)) ∙ ap (λ z. array_element (0 + r.offset) z r.index) (sym same) in
+      let first : array_element k shape r.index ≡ array_element (0 + r.offset) r.shape r.index =
+      ap (λ z. array_element z shape r.index) (sym (m ∙ in_map)) ∙
+      ap (λ z. array_element (0 + r.offset) z r.index) (sym same) in
       record {
         index = r.index;
         array = ap (λ (z : MapShape). z.kind) (sym same) ∙ r.array;
@@ -153,7 +157,9 @@ module _ (shapes : List MapShape) (limits : AreShapes shapes) (k : ℕ) (shape :
               let h = here a d kept.born kept.in_map in
               let g = here b e other.born other.in_map in
               let indices : h.index ≡ g.index = sym h.slot ∙ (same ∙ g.slot) in
-              new-single 0 shapes limits a b d e kept.born other.born (kept.in_map ∙ sym other.in_map) (ap (λ (x : Element). x.key) (sym h.is) ∙ (ap index_key indices ∙ ap (λ (x : Element). x.key) g.is));
+              new-single 0 shapes limits a b d e kept.born other.born (kept.in_map ∙ sym other.in_map)
+              (ap (λ (x : Element). x.key) (sym h.is) ∙
+              (ap index_key indices ∙ ap (λ (x : Element). x.key) g.is));
           apart = λ n e kept. refl;
           found = λ key i h.
               let r = index-got shape.entries key i h in
@@ -161,19 +167,22 @@ module _ (shapes : List MapShape) (limits : AreShapes shapes) (k : ℕ) (shape :
               (t.n, record { element = array_element k shape i; born = t.there; linked = refl; in_map = refl; under = r.1 }, index-there slots t.n i t.slot);
           finds = λ key n l.
               let h = here n l.element l.born l.in_map in
-              ap (get (index_below shape.entries)) (sym l.under ∙ ap (λ (x : Element). x.key) (sym h.is)) ∙ (index-gets shape.entries h.index most h.within ∙ ap Some (sym h.slot));
+              ap (get (index_below shape.entries)) (sym l.under ∙ ap (λ (x : Element). x.key) (sym h.is)) ∙
+              (index-gets shape.entries h.index most h.within ∙ ap Some (sym h.slot));
           counted = len-index shape.entries most ∙ sym (linked-all ∙ ap (λ z. new_count z shape) is);
         };
       }
 
-  by_kind : (kind : MapKind) → shape.kind ≡ kind → MapRefines slots k es no_queues (new_view_of kind shape) (record { shape = shape; bag = new_bag kind shape; worn = 0 })
+  by_kind : (kind : MapKind) → shape.kind ≡ kind → MapRefines slots k es no_queues (new_view_of kind shape)
+      (record { shape = shape; bag = new_bag kind shape; worn = 0 })
   by_kind Hash is = hash-map is
   by_kind Array is = array-map is
 
   pub new-map : MapRefines slots k es no_queues (new_map_view shape) (new_map shape)
   new-map = by_kind shape.kind refl
 
-maps-refine : (shapes : List MapShape) → AreShapes shapes → (k : ℕ) (v : MapView) (m : MapState) (q : Queues) → slice_get (map new_map_view shapes) k ≡ Some v → slice_get (map new_map shapes) k ≡ Some m →
+maps-refine : (shapes : List MapShape) → AreShapes shapes → (k : ℕ) (v : MapView) (m : MapState) (q : Queues) →
+    slice_get (map new_map_view shapes) k ≡ Some v → slice_get (map new_map shapes) k ≡ Some m →
     slice_get (map (λ (x : MapShape). no_queues) shapes) k ≡ Some q → MapRefines (all_new_slots shapes) k (all_new_elements 0 shapes) q v m
 maps-refine shapes limits k v m q hv hm hq =
     let a = map-back new_map_view shapes k v hv in
@@ -182,16 +191,20 @@ maps-refine shapes limits k v m q hv hm hq =
     let same : a.0 ≡ b.0 = same_Some a.0 b.0 (sym a.1 ∙ b.1) in
     let slots : List ℕ = all_new_slots shapes in
     let es : List Element = all_new_elements 0 shapes in
-    let one : MapRefines slots k es no_queues (new_map_view a.0) m = subst (MapRefines slots k es no_queues (new_map_view a.0)) (ap new_map same ∙ b.2) (new-map shapes limits k a.0 a.1) in
+    let one : MapRefines slots k es no_queues (new_map_view a.0) m =
+    subst (MapRefines slots k es no_queues (new_map_view a.0)) (ap new_map same ∙ b.2)
+    (new-map shapes limits k a.0 a.1) in
     let two : MapRefines slots k es no_queues v m = subst (λ x. MapRefines slots k es no_queues x m) a.2 one in
     subst (λ x. MapRefines slots k es x v m) c.2 two
 
-runs-refine : (slots : List ℕ) (es : List Element) (programs : List Loaded) (n r : ℕ) → RunSlotRefines slots es programs (slice_get (replicate n None) r) (slice_get (replicate n None) r)
+runs-refine : (slots : List ℕ) (es : List Element) (programs : List Loaded) (n r : ℕ) →
+    RunSlotRefines slots es programs (slice_get (replicate n None) r) (slice_get (replicate n None) r)
 runs-refine slots es programs zero r = tt
 runs-refine slots es programs (suc n) zero = tt
 runs-refine slots es programs (suc n) (suc r) = runs-refine slots es programs n r
 
-none-reclaimed : (es : List Element) → ((n : ℕ) (e : Element) → slice_get es n ≡ Some e → (e.life ≡ Linked) × (e.uses ≡ 1)) → count_by (λ e. is_reclaimed e.life) es ≡ 0
+none-reclaimed : (es : List Element) → ((n : ℕ) (e : Element) → slice_get es n ≡ Some e → (e.life ≡ Linked) ×
+    (e.uses ≡ 1)) → count_by (λ e. is_reclaimed e.life) es ≡ 0
 none-reclaimed [] h = refl
 none-reclaimed (e ∷ es) h =
     let a = count-cons (λ (x : Element). is_reclaimed x.life) e es in
@@ -203,7 +216,8 @@ none-open : (n : ℕ) → replicate n false ≡ open_flags (replicate n None)
 none-open zero = refl
 none-open (suc n) = ap (λ l. false ∷ l) (none-open n)
 
-start-refined : (names : List (List ℕ)) (shapes : List MapShape) (programs : List Loaded) → AreShapes shapes → RefinesSchedule (start_view names shapes programs) (start_schedule shapes programs)
+start-refined : (names : List (List ℕ)) (shapes : List MapShape) (programs : List Loaded) → AreShapes shapes →
+    RefinesSchedule (start_view names shapes programs) (start_schedule shapes programs)
 start-refined names shapes programs limits = record {
   slots = all_new_slots shapes;
   named = length-all_new 0 shapes;
@@ -220,14 +234,25 @@ start-refined names shapes programs limits = record {
 -- its maps have the shapes
 pub shapes-start : (shapes : List MapShape) → map (λ (v : MapView). v.shape) (map new_map_view shapes) ≡ shapes
 shapes-start [] = refl
-shapes-start (shape ∷ shapes) = ap (λ z. z ∷ map (λ (v : MapView). v.shape) (map new_map_view shapes)) (shape-of shape.kind shape) ∙ ap (λ l. shape ∷ l) (shapes-start shapes)
+shapes-start (shape ∷ shapes) = ap (λ z. z ∷ map (λ (v : MapView). v.shape) (map new_map_view shapes))
+    (shape-of shape.kind shape) ∙ ap (λ l. shape ∷ l) (shapes-start shapes)
   where
     shape-of : (kind : MapKind) (shape : MapShape) → (new_view_of kind shape).shape ≡ shape
     shape-of Hash shape = refl
     shape-of Array shape = refl
 
-pub start_tracked : (names : List (List ℕ)) (shapes : List MapShape) (programs : List Loaded) → AreShapes shapes → TracksSchedule (start_view names shapes programs) (start_schedule shapes programs)
+pub start_tracked : (names : List (List ℕ)) (shapes : List MapShape) (programs : List Loaded) → AreShapes shapes →
+    TracksSchedule (start_view names shapes programs) (start_schedule shapes programs)
 start_tracked names shapes programs h = record {
   refines = start-refined names shapes programs h;
-  reached = record { limits = subst AreShapes (sym (shapes-start shapes)) h; events = []; answers = []; states = []; real = λ k event at. absurd (none-some event at); history = tt; last = ap (λ l. start_schedule l programs) (shapes-start shapes) };
+  reached = record {
+    limits = subst AreShapes (sym (shapes-start shapes)) h;
+    events = [];
+    answers = [];
+    states = [];
+    real = λ k event at. absurd (none-some event at);
+    history = tt;
+    last =
+        ap (λ l. start_schedule l programs) (shapes-start shapes);
+  };
 }

@@ -36,7 +36,9 @@ use Rattle.bpf_model.specs.History.{IsHistory}
 use Rattle.bpf_model.specs.Element.{Reclaimed, HasLife}
 use Rattle.model_laws.specs.Growth.{ElementsGrow}
 use Rattle.model_laws.proofs.Computations.{first-step}
-use Rattle.model_laws.proofs.Growing.{grows-same, grows-along, grows-append, grows-set, grows-changed, grows-overwritten, grows-unlinked, follows-value, follows-reclaimed, stays-reclaimed}
+use Rattle.model_laws.proofs.Growing.{grows-same, grows-along, grows-append, grows-set, grows-changed}
+use Rattle.model_laws.proofs.Growing.{grows-overwritten, grows-unlinked, follows-value, follows-reclaimed}
+use Rattle.model_laws.proofs.Growing.{stays-reclaimed}
 use Rattle.model_laws.proofs.Requests.{run_by_kind}
 
 -- a store to an element
@@ -70,89 +72,124 @@ grows-act i env es m out new (inl h) = grows-along es new h.1
 grows-act i env es m out new (inr h) = grows-access i es m out new h
 
 -- what was found, or nothing
-grows-found : (s : map_state.Store) (opened : List Section) (map : ℕ) (key : List ℕ) (found : Option ℕ) → LooksUp s map key found → ElementsGrow s.elements (unlinked opened s.elements found)
+grows-found : (s : map_state.Store) (opened : List Section) (map : ℕ) (key : List ℕ) (found : Option ℕ) →
+    LooksUp s map key found → ElementsGrow s.elements (unlinked opened s.elements found)
 grows-found s opened map key None h = grows-same s.elements
 grows-found s opened map key (Some n) h = grows-unlinked opened s.elements map key n h
 
-grows-replaces : (s : map_state.Store) (opened : List Section) (map : ℕ) (m : map_state.MapState) (key value : List ℕ) (found : Option ℕ) (new : map_state.Store) → LooksUp s map key found → Replaces s opened map m key value found new → ElementsGrow s.elements new.elements
+grows-replaces : (s : map_state.Store) (opened : List Section) (map : ℕ) (m : map_state.MapState) (key value : List ℕ)
+    (found : Option ℕ) (new : map_state.Store) → LooksUp s map key found → Replaces s opened map m key value found new
+    → ElementsGrow s.elements new.elements
 grows-replaces s opened map m key value found new l r =
-    subst (λ x. ElementsGrow s.elements x) (sym (ap (λ x. x.elements) r.new_is)) (grows-append s.elements (unlinked opened s.elements found) _ (grows-found s opened map key found l))
+    subst (λ x. ElementsGrow s.elements x) (sym (ap (λ x. x.elements) r.new_is))
+    (grows-append s.elements (unlinked opened s.elements found) _ (grows-found s opened map key found l))
 
-grows-writes : (kind : MapKind) (s : map_state.Store) (opened : List Section) (map : ℕ) (m : map_state.MapState) (key value : List ℕ) (found : Option ℕ) (new : map_state.Store) → LooksUp s map key found → Writes kind s opened map m key value found new → ElementsGrow s.elements new.elements
+grows-writes : (kind : MapKind) (s : map_state.Store) (opened : List Section) (map : ℕ) (m : map_state.MapState)
+    (key value : List ℕ) (found : Option ℕ) (new : map_state.Store) → LooksUp s map key found →
+    Writes kind s opened map m key value found new → ElementsGrow s.elements new.elements
 grows-writes Hash s opened map m key value found new l h = grows-replaces s opened map m key value found new l h
-grows-writes Array s opened map m key value found new l h = subst (λ x. ElementsGrow s.elements x) (sym (ap (λ x. x.elements) h)) (grows-overwritten value s.elements found)
+grows-writes Array s opened map m key value found new l h =
+    subst (λ x. ElementsGrow s.elements x) (sym (ap (λ x. x.elements) h)) (grows-overwritten value s.elements found)
 
-grows-settles : (kind : MapKind) (s : map_state.Store) (opened : List Section) (map : ℕ) (m : map_state.MapState) (key value : List ℕ) (found : Option ℕ) (new : map_state.Store) (error : Option Errno) (ret : Result (Unit {0}) Errno) →
+grows-settles : (kind : MapKind) (s : map_state.Store) (opened : List Section) (map : ℕ) (m : map_state.MapState)
+    (key value : List ℕ) (found : Option ℕ) (new : map_state.Store) (error : Option Errno)
+    (ret : Result (Unit {0}) Errno) →
     LooksUp s map key found → Settles error ret s new (Writes kind s opened map m key value found new) → ElementsGrow s.elements new.elements
 grows-settles kind s opened map m key value found new None ret l h = grows-writes kind s opened map m key value found new l h.1
 grows-settles kind s opened map m key value found new (Some e) ret l h = grows-along s.elements new.elements (ap (λ x. x.elements) h.1)
 
-grows-updates : (s : map_state.Store) (opened : List Section) (map : ℕ) (key value : List ℕ) (flags : ℕ) (ret : Result (Unit {0}) Errno) (new : map_state.Store) → Updates s opened map key value flags ret new → ElementsGrow s.elements new.elements
+grows-updates : (s : map_state.Store) (opened : List Section) (map : ℕ) (key value : List ℕ) (flags : ℕ)
+    (ret : Result (Unit {0}) Errno) (new : map_state.Store) → Updates s opened map key value flags ret new →
+    ElementsGrow s.elements new.elements
 grows-updates s opened map key value flags ret new u = grows-settles u.state.shape.kind s opened map u.state key value u.found new _ ret u.lookup u.settled
 
-grows-removes : (s : map_state.Store) (opened : List Section) (map : ℕ) (key : List ℕ) (ret : Result (Unit {0}) Errno) (new : map_state.Store) (found : Option ℕ) → LooksUp s map key found → Removes found opened ret s new → ElementsGrow s.elements new.elements
+grows-removes : (s : map_state.Store) (opened : List Section) (map : ℕ) (key : List ℕ) (ret : Result (Unit {0}) Errno)
+    (new : map_state.Store) (found : Option ℕ) → LooksUp s map key found → Removes found opened ret s new →
+    ElementsGrow s.elements new.elements
 grows-removes s opened map key ret new None l h = grows-along s.elements new.elements (ap (λ x. x.elements) h.1)
-grows-removes s opened map key ret new (Some n) l h = subst (λ x. ElementsGrow s.elements x) (sym (ap (λ x. x.elements) h.1)) (grows-unlinked opened s.elements map key n l)
+grows-removes s opened map key ret new (Some n) l h = subst (λ x. ElementsGrow s.elements x)
+    (sym (ap (λ x. x.elements) h.1)) (grows-unlinked opened s.elements map key n l)
 
-grows-deletes : (s : map_state.Store) (opened : List Section) (map : ℕ) (key : List ℕ) (ret : Result (Unit {0}) Errno) (new : map_state.Store) → Deletes s opened map key ret new → ElementsGrow s.elements new.elements
+grows-deletes : (s : map_state.Store) (opened : List Section) (map : ℕ) (key : List ℕ) (ret : Result (Unit {0}) Errno)
+    (new : map_state.Store) → Deletes s opened map key ret new → ElementsGrow s.elements new.elements
 grows-deletes s opened map key ret new d = by d.state.shape.kind d.removed
   where
     by : (kind : MapKind) → RemovesFrom kind d.found opened ret s new → ElementsGrow s.elements new.elements
     by Hash h = grows-removes s opened map key ret new d.found d.lookup h
     by Array h = grows-along s.elements new.elements (ap (λ x. x.elements) h.1)
 
-grows-reclaims : (s : map_state.Store) (opened : List Section) (n : ℕ) (e : Element) (given : _) (new : map_state.Store) → Reclaims s opened n e given new → ElementsGrow s.elements new.elements
-grows-reclaims s opened n e given new r = subst (λ x. ElementsGrow s.elements x) (sym (ap (λ x. x.elements) r.new_is)) (grows-set s.elements n e (with_life Reclaimed e) r.born (follows-reclaimed e r.since r.unlinked))
+grows-reclaims : (s : map_state.Store) (opened : List Section) (n : ℕ) (e : Element) (given : _)
+    (new : map_state.Store) → Reclaims s opened n e given new → ElementsGrow s.elements new.elements
+grows-reclaims s opened n e given new r = subst (λ x. ElementsGrow s.elements x) (sym (ap (λ x. x.elements) r.new_is))
+    (grows-set s.elements n e (with_life Reclaimed e) r.born (follows-reclaimed e r.since r.unlinked))
 
-grows-helper : (h : Option Helper) (s : map_state.Store) (opened : List Section) (run : Run) (ret : Value) (new : map_state.Store) → HelperStep h s opened run ret new → ElementsGrow s.elements new.elements
+grows-helper : (h : Option Helper) (s : map_state.Store) (opened : List Section) (run : Run) (ret : Value)
+    (new : map_state.Store) → HelperStep h s opened run ret new → ElementsGrow s.elements new.elements
 grows-helper (Some helpers.Lookup) s opened run ret new h = grows-along s.elements new.elements (ap (λ x. x.elements) h.1)
 grows-helper (Some helpers.Update) s opened run ret new h = grows-updates s opened h.map h.key h.value h.flags h.outcome new h.updated
 grows-helper (Some helpers.Delete) s opened run ret new h = grows-deletes s opened h.map h.key h.outcome new h.deleted
 grows-helper None s opened run ret new h = absurd h
 
-grows-alone : (i : Insn) (s : map_state.Store) (run : Run) (env : Environment) (out : Outcome) (es : List Element) (new : map_state.Store) → Acts i env s.elements run.state out es → new ≡ map_state.with_elements es s → ElementsGrow s.elements new.elements
+grows-alone : (i : Insn) (s : map_state.Store) (run : Run) (env : Environment) (out : Outcome) (es : List Element)
+    (new : map_state.Store) → Acts i env s.elements run.state out es → new ≡ map_state.with_elements es s →
+    ElementsGrow s.elements new.elements
 grows-alone i s run env out es new a h = subst (λ x. ElementsGrow s.elements x) (sym (ap (λ x. x.elements) h)) (grows-act i env s.elements run.state out es a)
 
-grows-insn : (i : Insn) (s : map_state.Store) (opened : List Section) (run : Run) (answer : Answer) (new : map_state.Store) (new_run : Run) → StepsByKind i s opened run answer new new_run → ElementsGrow s.elements new.elements
+grows-insn : (i : Insn) (s : map_state.Store) (opened : List Section) (run : Run) (answer : Answer)
+    (new : map_state.Store) (new_run : Run) → StepsByKind i s opened run answer new new_run →
+    ElementsGrow s.elements new.elements
 grows-insn (Call kinds.Kernel imm) s opened run answer new new_run h = grows-along s.elements new.elements (ap (λ x. x.elements) h.2)
 grows-insn (Call kinds.Helper imm) s opened run answer new new_run h = grows-helper (helper_of imm) s opened run h.0 new h.1
 grows-insn i s opened run answer new new_run h = grows-alone i s run (environment run) h.0 h.1 new h.2 h.3
 
 grows-run : (m : Machine) (r : ℕ) (answer : Answer) (new : Machine) → StepsRun m r answer new → ElementsGrow m.store.elements new.store.elements
 grows-run m r answer new h =
-    subst (λ x. ElementsGrow m.store.elements x) (sym (ap (λ x. x.store.elements) h.new_is)) (grows-insn h.step.0 m.store (open_sections m.runs) h.run answer h.new_store h.new_run (run_by_kind m r answer new h))
+    subst (λ x. ElementsGrow m.store.elements x) (sym (ap (λ x. x.store.elements) h.new_is))
+    (grows-insn h.step.0 m.store (open_sections m.runs) h.run answer h.new_store h.new_run
+    (run_by_kind m r answer new h))
 
 grows-at : (m new : Machine) → new ≡ m → ElementsGrow m.store.elements new.store.elements
 grows-at m new h = grows-along m.store.elements new.store.elements (ap (λ x. x.store.elements) h)
 
-grows-store_in : (m new : Machine) (store : map_state.Store) → ElementsGrow m.store.elements store.elements → new ≡ with_store m store → ElementsGrow m.store.elements new.store.elements
+grows-store_in : (m new : Machine) (store : map_state.Store) → ElementsGrow m.store.elements store.elements →
+    new ≡ with_store m store → ElementsGrow m.store.elements new.store.elements
 grows-store_in m new store g h = subst (λ x. ElementsGrow m.store.elements x) (sym (ap (λ x. x.store.elements) h)) g
 
-grows-performs : (m : Machine) (event : Event) (answer : Answer) (new : Machine) → PerformsEvent m event answer new → ElementsGrow m.store.elements new.store.elements
+grows-performs : (m : Machine) (event : Event) (answer : Answer) (new : Machine) → PerformsEvent m event answer new →
+    ElementsGrow m.store.elements new.store.elements
 grows-performs m (events.Start prog ctx) (answers.Started r) new h = grows-along m.store.elements new.store.elements (ap (λ x. x.store.elements) h.new_is)
 grows-performs m (events.Step run) answer new h = grows-run m run answer new h
-grows-performs m (events.Update map key value flags) (answers.Ret ret) new h = grows-store_in m new h.0 (grows-updates m.store (open_sections m.runs) map key.items value.items flags ret h.0 h.1) h.2
-grows-performs m (events.Delete map key) (answers.Ret ret) new h = grows-store_in m new h.0 (grows-deletes m.store (open_sections m.runs) map key.items ret h.0 h.1) h.2
+grows-performs m (events.Update map key value flags) (answers.Ret ret) new h =
+    grows-store_in m new h.0 (grows-updates m.store (open_sections m.runs) map key.items value.items flags ret h.0
+    h.1) h.2
+grows-performs m (events.Delete map key) (answers.Ret ret) new h =
+    grows-store_in m new h.0 (grows-deletes m.store (open_sections m.runs) map key.items ret h.0 h.1) h.2
 grows-performs m (events.Read map key) (answers.Found (Some value)) new h = grows-at m new h.1
 grows-performs m (events.Read map key) (answers.Found None) new h = grows-at m new h.1
 grows-performs m events.Advance answers.Done new h = grows-at m new h
 grows-performs m events.Reap (answers.Reaped None) new h = grows-at m new h
-grows-performs m events.Reap (answers.Reaped (Some reaped)) new h = grows-store_in m new h.2 (grows-reclaims m.store (open_sections m.runs) h.0 h.1 reaped.given h.2 h.3) h.6
+grows-performs m events.Reap (answers.Reaped (Some reaped)) new h =
+    grows-store_in m new h.2 (grows-reclaims m.store (open_sections m.runs) h.0 h.1 reaped.given h.2 h.3) h.6
 grows-performs m (events.Drop run) answers.Done new h = grows-along m.store.elements new.store.elements (ap (λ x. x.store.elements) h)
 grows-performs m event answer new h = absurd h
 
-grows-answers : (o : Option EventRefusal) (m : Machine) (event : Event) (answer : Answer) (new : Machine) → Answers o m event answer new → ElementsGrow m.store.elements new.store.elements
+grows-answers : (o : Option EventRefusal) (m : Machine) (event : Event) (answer : Answer) (new : Machine) →
+    Answers o m event answer new → ElementsGrow m.store.elements new.store.elements
 grows-answers None m event answer new h = grows-performs m event answer new h
 grows-answers (Some k) m event answer new h = grows-at m new h.1
 
 pub elements_only_grow : (m new : Machine) (event : Event) (answer : Answer) → DoesEvent m event answer new → ElementsGrow m.store.elements new.store.elements
 elements_only_grow m new event answer h = grows-answers (refusal m event) m event answer new h
 
-pub reclaimed_for_ever : (m later : Machine) (events : List Event) (answers : List Answer) (states : List Machine) (j n : ℕ) → IsHistory m events answers states → slice_get states j ≡ Some later → HasLife m.store.elements n Reclaimed → HasLife later.store.elements n Reclaimed
+pub reclaimed_for_ever : (m later : Machine) (events : List Event) (answers : List Answer) (states : List Machine)
+    (j n : ℕ) → IsHistory m events answers states → slice_get states j ≡ Some later →
+    HasLife m.store.elements n Reclaimed → HasLife later.store.elements n Reclaimed
 reclaimed_for_ever m later [] [] [] j n h at life = absurd (cc)
 reclaimed_for_ever m later (event ∷ events) (answer ∷ answers) (next ∷ states) zero n h at life =
     let same : next ≡ later = cc in
-    subst (λ x. HasLife x.store.elements n Reclaimed) same (stays-reclaimed m.store.elements next.store.elements n (elements_only_grow m next event answer h.0) life)
+    subst (λ x. HasLife x.store.elements n Reclaimed) same
+    (stays-reclaimed m.store.elements next.store.elements n (elements_only_grow m next event answer h.0) life)
 reclaimed_for_ever m later (event ∷ events) (answer ∷ answers) (next ∷ states) (suc j) n h at life =
-    reclaimed_for_ever next later events answers states j n h.1 at (stays-reclaimed m.store.elements next.store.elements n (elements_only_grow m next event answer h.0) life)
+    reclaimed_for_ever next later events answers states j n h.1 at
+    (stays-reclaimed m.store.elements next.store.elements n (elements_only_grow m next event answer h.0) life)
 reclaimed_for_ever m later events answers states j n h at life = absurd h

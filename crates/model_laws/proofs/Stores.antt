@@ -1,5 +1,6 @@
 -- What a step of the machine does to its elements and maps.
-use Rattle.std.proofs.Common.{◌≡◌, ℕ, zero, suc, ◌+◌, List, [], ◌∷◌, ◌++◌, length, Option, Some, None, ◌⊎◌, inl, inr, refl, sym, ap, ◌∙◌, Bool, true, false, subst, Result, ℤ, pos, negsuc, ◌+ℤ◌}
+use Rattle.std.proofs.Common.{◌≡◌, ℕ, zero, suc, ◌+◌, List, [], ◌∷◌, ◌++◌, length, Option, Some, None, ◌⊎◌, inl, inr}
+use Rattle.std.proofs.Common.{refl, sym, ap, ◌∙◌, Bool, true, false, subst, Result, ℤ, pos, negsuc, ◌+ℤ◌}
 use Rattle.std.specs.Prelude.{slice_get, slice_set, ◌==◌, ◌&&◌, nat_le, if◌then◌else◌}
 use Rattle.std.proofs.lemmas.Bool.{cases_eq, eqb-true}
 use Rattle.std.proofs.lemmas.Option.{none-some, same_Some}
@@ -30,7 +31,9 @@ use Rattle.bpf_model.specs.Frame.{byte_of}
 use Rattle.bpf_model.specs.Call.{helper_of}
 use Rattle.bpf_model.specs.Step.{State, Environment, Outcome}
 use Rattle.bpf_model.specs.Section.{Section, AllEnded}
-use Rattle.bpf_model.specs.Element.{Element, Life, Linked, Unlinked, Reclaimed, IsLinkedAt, IsAbsent, with_value, with_life, set_to, changed, unlinked, unless_reclaimed, accessible, newborn, overwritten}
+use Rattle.bpf_model.specs.Element.{Element, Life, Linked, Unlinked, Reclaimed, IsLinkedAt, IsAbsent, with_value}
+use Rattle.bpf_model.specs.Element.{with_life, set_to, changed, unlinked, unless_reclaimed, accessible, newborn}
+use Rattle.bpf_model.specs.Element.{overwritten}
 use Rattle.bpf_model.specs.MapState as map_state
 use Rattle.bpf_model.specs.MapState.{MapState, with_bag, with_elements, with_given, given_of, returned, shape_in, shape_of}
 use Rattle.bpf_model.specs.Helper.{LooksUp, Replaces, Settles, Updates, Removes, Deletes, Writes, RemovesFrom}
@@ -86,26 +89,47 @@ forth-set reap opened es n old new h a k e at = elim (cases_eq k n) [
   | inr other ↦ (e, get-set_other es n k new other ∙ at, alters-same reap opened e)
 ]
 
-back-set : (es : List Element) (n : ℕ) (old new : Element) → slice_get es n ≡ Some old → (k : ℕ) (f : Element) → slice_get (slice_set es n new) k ≡ Some f → (e : Element) × (slice_get es k ≡ Some e)
+back-set : (es : List Element) (n : ℕ) (old new : Element) → slice_get es n ≡ Some old → (k : ℕ) (f : Element) →
+    slice_get (slice_set es n new) k ≡ Some f → (e : Element) × (slice_get es k ≡ Some e)
 back-set es n old new h k f at = elim (get-set_cases es n k new f at) [
   | inl x ↦ (old, ap (slice_get es) x.0 ∙ h)
   | inr x ↦ (f, x.1)
 ]
 
-touches-set : (reap : Bool) (opened : List Section) (es : List Element) (n : ℕ) (old new : Element) → slice_get es n ≡ Some old → Alters reap opened old new → Touches reap opened es (slice_set es n new)
-touches-set reap opened es n old new h a = record { forth = forth-set reap opened es n old new h a; back = back-set es n old new h; births = length-set es n new }
+touches-set : (reap : Bool) (opened : List Section) (es : List Element) (n : ℕ) (old new : Element) →
+    slice_get es n ≡ Some old → Alters reap opened old new → Touches reap opened es (slice_set es n new)
+touches-set reap opened es n old new h a = record {
+  forth = forth-set reap opened es n old new h a;
+  back =
+      back-set es n old new h;
+  births = length-set es n new;
+}
 
-touches-changed : (reap : Bool) (opened : List Section) (f : Element → Element) (es : List Element) (n : ℕ) (e : Element) → slice_get es n ≡ Some e → Alters reap opened e (f e) → Touches reap opened es (changed f es n)
+touches-changed : (reap : Bool) (opened : List Section) (f : Element → Element) (es : List Element) (n : ℕ)
+    (e : Element) → slice_get es n ≡ Some e → Alters reap opened e (f e) → Touches reap opened es (changed f es n)
 touches-changed reap opened f es n e h a = subst (Touches reap opened es) (sym (ap (set_to f es n) h)) (touches-set reap opened es n e (f e) h a)
 
-pub touches-found : (reap : Bool) (opened : List Section) (s : map_state.Store) (map : ℕ) (key : List ℕ) (found : Option ℕ) → LooksUp s map key found → Touches reap opened s.elements (unlinked opened s.elements found)
+pub touches-found : (reap : Bool) (opened : List Section) (s : map_state.Store) (map : ℕ) (key : List ℕ)
+    (found : Option ℕ) → LooksUp s map key found → Touches reap opened s.elements (unlinked opened s.elements found)
 touches-found reap opened s map key None h = touches-same reap opened s.elements
-touches-found reap opened s map key (Some n) h = touches-changed reap opened (with_life (Unlinked opened)) s.elements n h.element h.born (record { in_map = refl; under = refl; uses = refl; size = refl; life = Unlinks h.linked refl })
+touches-found reap opened s map key (Some n) h = touches-changed reap opened (with_life (Unlinked opened)) s.elements
+    n h.element h.born (record {
+      in_map = refl;
+      under = refl;
+      uses = refl;
+      size = refl;
+      life =
+          Unlinks h.linked refl;
+    })
 
 -- what was found gets another value of the same length
-pub touches-overwritten : (reap : Bool) (opened : List Section) (s : map_state.Store) (map : ℕ) (key value : List ℕ) (found : Option ℕ) → LooksUp s map key found → ((n : ℕ) (e : Element) → slice_get s.elements n ≡ Some e → e.map ≡ map → length value ≡ length e.value) → Touches reap opened s.elements (overwritten value s.elements found)
+pub touches-overwritten : (reap : Bool) (opened : List Section) (s : map_state.Store) (map : ℕ) (key value : List ℕ)
+    (found : Option ℕ) → LooksUp s map key found → ((n : ℕ) (e : Element) → slice_get s.elements n ≡ Some e →
+    e.map ≡ map → length value ≡ length e.value) → Touches reap opened s.elements (overwritten value s.elements found)
 touches-overwritten reap opened s map key value None h sizes = touches-same reap opened s.elements
-touches-overwritten reap opened s map key value (Some n) h sizes = touches-changed reap opened (with_value value) s.elements n h.element h.born (record { in_map = refl; under = refl; uses = refl; size = sizes n h.element h.born h.in_map; life = Stays refl })
+touches-overwritten reap opened s map key value (Some n) h sizes =
+    touches-changed reap opened (with_value value) s.elements n h.element h.born
+    (record { in_map = refl; under = refl; uses = refl; size = sizes n h.element h.born h.in_map; life = Stays refl })
 
 -- An element that is born in a step: the last one, linked, alone under its key, of the lengths of its map.
 pub record Born (s new : map_state.Store) (n : ℕ) (f : Element) : Type 0 where
@@ -134,16 +158,22 @@ shapes-set maps n old new h e k state at = elim (cases_eq k n) [
   | inr other ↦ (state, get-set_other maps n k new other ∙ at, refl)
 ]
 
-moves-touches : (reap : Bool) (opened : List Section) (s new : map_state.Store) → Touches reap opened s.elements new.elements → KeepsShapes s.maps new.maps → length new.maps ≡ length s.maps → StoreMoves reap opened s new
+moves-touches : (reap : Bool) (opened : List Section) (s new : map_state.Store) →
+    Touches reap opened s.elements new.elements → KeepsShapes s.maps new.maps → length new.maps ≡ length s.maps →
+    StoreMoves reap opened s new
 moves-touches reap opened s new t shapes maps = record { forth = t.forth; back = λ n f h. inl (t.back n f h); shapes = shapes; maps = maps }
 
 pub moves-same : (reap : Bool) (opened : List Section) (s new : map_state.Store) → new ≡ s → StoreMoves reap opened s new
-moves-same reap opened s new e = subst (StoreMoves reap opened s) (sym e) (moves-touches reap opened s s (touches-same reap opened s.elements) (shapes-same s.maps) refl)
+moves-same reap opened s new e = subst (StoreMoves reap opened s) (sym e)
+    (moves-touches reap opened s s (touches-same reap opened s.elements) (shapes-same s.maps) refl)
 
-moves-elements : (reap : Bool) (opened : List Section) (s new : map_state.Store) (es : List Element) → Touches reap opened s.elements es → new ≡ with_elements es s → StoreMoves reap opened s new
-moves-elements reap opened s new es t e = subst (StoreMoves reap opened s) (sym e) (moves-touches reap opened s (with_elements es s) t (shapes-same s.maps) refl)
+moves-elements : (reap : Bool) (opened : List Section) (s new : map_state.Store) (es : List Element) →
+    Touches reap opened s.elements es → new ≡ with_elements es s → StoreMoves reap opened s new
+moves-elements reap opened s new es t e = subst (StoreMoves reap opened s) (sym e)
+    (moves-touches reap opened s (with_elements es s) t (shapes-same s.maps) refl)
 
-pub accessible-born : (es : List Element) (n : ℕ) (o : Option Element) (e : Element) → slice_get es n ≡ o → (o >>= unless_reclaimed) ≡ Some e → slice_get es n ≡ Some e
+pub accessible-born : (es : List Element) (n : ℕ) (o : Option Element) (e : Element) → slice_get es n ≡ o →
+    (o >>= unless_reclaimed) ≡ Some e → slice_get es n ≡ Some e
 accessible-born es n None e at h = absurd (none-some e h)
 accessible-born es n (Some x) e at h = at ∙ ap Some (unless-same x e h)
   where
@@ -154,13 +184,22 @@ accessible-born es n (Some x) e at h = at ∙ ap Some (unless-same x e h)
     unless-same : (x e : Element) → unless_reclaimed x ≡ Some e → x ≡ e
     unless-same x e h = choice _ x e h
 
-pub touches-stored : (opened : List Section) (es new : List Element) (n width : ℕ) (offset : ℤ) (v : ℕ) (e : Element) → slice_get es n ≡ Some e → stored_in es n width offset v e ≡ Some new → Touches false opened es new
+pub touches-stored : (opened : List Section) (es new : List Element) (n width : ℕ) (offset : ℤ) (v : ℕ) (e : Element)
+    → slice_get es n ≡ Some e → stored_in es n width offset v e ≡ Some new → Touches false opened es new
 touches-stored opened es new n width offset v e at h =
     let s = first-step (region_offset (length e.value) width offset) (λ at. Some (changed (with_value (with_bytes at width v e.value)) es n)) new h in
     let same : changed (with_value (with_bytes s.0 width v e.value)) es n ≡ new = same_Some _ _ s.2 in
-    subst (Touches false opened es) same (touches-changed false opened (with_value (with_bytes s.0 width v e.value)) es n e at (record { in_map = refl; under = refl; uses = refl; size = length-with_bytes s.0 width v e.value; life = Stays refl }))
+    subst (Touches false opened es) same (touches-changed false opened (with_value (with_bytes s.0 width v e.value))
+    es n e at (record {
+      in_map = refl;
+      under = refl;
+      uses = refl;
+      size = length-with_bytes s.0 width v e.value;
+      life = Stays refl;
+    }))
 
-touches-store : (opened : List Section) (es new : List Element) (width : ℕ) (offset : ℤ) (v base : Value) → element_store es width offset v base ≡ Some new → Touches false opened es new
+touches-store : (opened : List Section) (es new : List Element) (width : ℕ) (offset : ℤ) (v base : Value) →
+    element_store es width offset v base ≡ Some new → Touches false opened es new
 touches-store opened es new width offset Nothing base h = absurd (none-some new h)
 touches-store opened es new width offset (Pointer r) base h = absurd (none-some new h)
 touches-store opened es new width offset (Number v) Nothing h = absurd (none-some new h)
@@ -175,13 +214,16 @@ touches-store opened es new width offset (Number v) (Pointer (Elem n o)) h =
 touches-along : (opened : List Section) (es new : List Element) → new ≡ es → Touches false opened es new
 touches-along opened es new e = subst (Touches false opened es) (sym e) (touches-same false opened es)
 
-touches-access : (i : Insn) (opened : List Section) (es : List Element) (m : State) (out : Outcome) (new : List Element) → AccessesElement i es m out new → Touches false opened es new
+touches-access : (i : Insn) (opened : List Section) (es : List Element) (m : State) (out : Outcome)
+    (new : List Element) → AccessesElement i es m out new → Touches false opened es new
 touches-access (Load width dst src offset) opened es m out new h = touches-along opened es new h.3
 touches-access (LoadSigned width dst src offset) opened es m out new h = touches-along opened es new h.3
-touches-access (Store width dst offset src) opened es m out new h = touches-store opened es new (byte_count width) offset (operand_value src m.regs) (m.regs dst) h.0
+touches-access (Store width dst offset src) opened es m out new h =
+    touches-store opened es new (byte_count width) offset (operand_value src m.regs) (m.regs dst) h.0
 touches-access i opened es m out new h = absurd h
 
-pub touches-acts : (i : Insn) (opened : List Section) (env : Environment) (es : List Element) (m : State) (out : Outcome) (new : List Element) → Acts i env es m out new → Touches false opened es new
+pub touches-acts : (i : Insn) (opened : List Section) (env : Environment) (es : List Element) (m : State)
+    (out : Outcome) (new : List Element) → Acts i env es m out new → Touches false opened es new
 touches-acts i opened env es m out new (inl h) = touches-along opened es new h.1
 touches-acts i opened env es m out new (inr h) = touches-access i opened es m out new h
 
@@ -193,22 +235,27 @@ Fits s map key value = (state : MapState) → slice_get s.maps map ≡ Some stat
 abbrev pub AllLengths : map_state.Store → Type 0
 AllLengths s = (n : ℕ) (e : Element) → slice_get s.elements n ≡ Some e → HasLengths s.maps e
 
-pub same-size : (s : map_state.Store) (map : ℕ) (m : MapState) (value : List ℕ) → slice_get s.maps map ≡ Some m → length value ≡ m.shape.value_len → AllLengths s → (n : ℕ) (e : Element) → slice_get s.elements n ≡ Some e → e.map ≡ map → length value ≡ length e.value
+pub same-size : (s : map_state.Store) (map : ℕ) (m : MapState) (value : List ℕ) → slice_get s.maps map ≡ Some m →
+    length value ≡ m.shape.value_len → AllLengths s → (n : ℕ) (e : Element) → slice_get s.elements n ≡ Some e →
+    e.map ≡ map → length value ≡ length e.value
 same-size s map m value at size lengths n e born in_map =
     let h = lengths n e born in
     let same : m ≡ h.0 = same_Some m h.0 (sym at ∙ (ap (slice_get s.maps) (sym in_map) ∙ h.1)) in
     size ∙ (ap (λ x. x.shape.value_len) same ∙ sym h.3)
 
-absent-set : (opened : List Section) (es : List Element) (map : ℕ) (key : List ℕ) (n : ℕ) (e : Element) → IsSingle es → IsLinkedAt es map key n → IsAbsent (slice_set es n (with_life (Unlinked opened) e)) map key
+absent-set : (opened : List Section) (es : List Element) (map : ℕ) (key : List ℕ) (n : ℕ) (e : Element) → IsSingle es
+    → IsLinkedAt es map key n → IsAbsent (slice_set es n (with_life (Unlinked opened) e)) map key
 absent-set opened es map key n e single l a found = elim (get-set_cases es n a (with_life (Unlinked opened) e) found.element found.born) [
   | inl x ↦ absurd (linked≢unlinked opened (sym found.linked ∙ ap (λ z. z.life) (sym x.1)))
   | inr x ↦ x.0 (single map key a n (record { element = found.element; born = x.1; linked = found.linked; in_map = found.in_map; under = found.under }) l)
 ]
 
-absent-found : (opened : List Section) (s : map_state.Store) (map : ℕ) (key : List ℕ) (found : Option ℕ) → IsSingle s.elements → LooksUp s map key found → IsAbsent (unlinked opened s.elements found) map key
+absent-found : (opened : List Section) (s : map_state.Store) (map : ℕ) (key : List ℕ) (found : Option ℕ) →
+    IsSingle s.elements → LooksUp s map key found → IsAbsent (unlinked opened s.elements found) map key
 absent-found opened s map key None single h = h
 absent-found opened s map key (Some n) single h =
-    subst (λ es. IsAbsent es map key) (sym (ap (set_to (with_life (Unlinked opened)) s.elements n) h.born)) (absent-set opened s.elements map key n h.element single h)
+    subst (λ es. IsAbsent es map key) (sym (ap (set_to (with_life (Unlinked opened)) s.elements n) h.born))
+    (absent-set opened s.elements map key n h.element single h)
 
 only-last : (mid : List Element) (nb : Element) (a : ℕ) → IsAbsent mid nb.map nb.key → IsLinkedAt (mid ++ nb ∷ []) nb.map nb.key a → a ≡ length mid
 only-last mid nb a absent l = elim (get-append_cases mid nb a l.element l.born) [
@@ -219,7 +266,8 @@ only-last mid nb a absent l = elim (get-append_cases mid nb a l.element l.born) 
 born-last : (s new : map_state.Store) (n : ℕ) (nb f : Element) → nb ≡ f → Born s new n nb → Born s new n f
 born-last s new n nb f e h = subst (Born s new n) e h
 
-moves-birth : (opened : List Section) (s new : map_state.Store) (mid : List Element) (maps : List MapState) (nb : Element) → Touches false opened s.elements mid → IsAbsent mid nb.map nb.key →
+moves-birth : (opened : List Section) (s new : map_state.Store) (mid : List Element) (maps : List MapState)
+    (nb : Element) → Touches false opened s.elements mid → IsAbsent mid nb.map nb.key →
     HasLengths s.maps nb → nb.life ≡ Linked →
     KeepsShapes s.maps maps → length maps ≡ length s.maps → new ≡ record { elements = mid ++ nb ∷ []; maps = maps } → StoreMoves false opened s new
 moves-birth opened s new mid maps nb t absent fits linked shapes count e =
@@ -228,38 +276,62 @@ moves-birth opened s new mid maps nb t absent fits linked shapes count e =
       forth = λ n e h. let f = t.forth n e h in (f.0, get-append mid (nb ∷ []) n f.0 f.1, f.2);
       back = λ n f h. elim (get-append_cases mid nb n f h) [
         | inl x ↦ inl (t.back n f x)
-        | inr x ↦ inr (born-last s all n nb f x.1 (record { last = x.0 ∙ t.births; linked = linked; only = λ a l. only-last mid nb a absent l ∙ sym x.0; fits = fits }))
+        | inr x ↦ inr (born-last s all n nb f x.1 (record {
+          last = x.0 ∙ t.births;
+          linked = linked;
+          only = λ a l.
+              only-last mid nb a absent l ∙ sym x.0;
+          fits = fits;
+        }))
       ];
       shapes = shapes;
       maps = count;
     } in
     subst (StoreMoves false opened s) (sym e) moves
 
-moves-replaces : (s : map_state.Store) (opened : List Section) (map : ℕ) (m : MapState) (key value : List ℕ) (found : Option ℕ) (new : map_state.Store) → IsSingle s.elements → Fits s map key value → slice_get s.maps map ≡ Some m → LooksUp s map key found →
+moves-replaces : (s : map_state.Store) (opened : List Section) (map : ℕ) (m : MapState) (key value : List ℕ)
+    (found : Option ℕ) (new : map_state.Store) → IsSingle s.elements → Fits s map key value →
+    slice_get s.maps map ≡ Some m → LooksUp s map key found →
     Replaces s opened map m key value found new → StoreMoves false opened s new
 moves-replaces s opened map m key value found new single fits at l r =
     moves-birth opened s new (unlinked opened s.elements found) (slice_set s.maps map (with_bag r.bag m)) (newborn map key value r.count)
     (touches-found false opened s map key found l) (absent-found opened s map key found single l) (m, at, (fits m at).0, (fits m at).1) refl
     (shapes-set s.maps map m (with_bag r.bag m) at refl) (length-set s.maps map (with_bag r.bag m)) r.new_is
 
-moves-writes : (kind : MapKind) (s : map_state.Store) (opened : List Section) (map : ℕ) (m : MapState) (key value : List ℕ) (found : Option ℕ) (new : map_state.Store) → IsSingle s.elements → AllLengths s → Fits s map key value → slice_get s.maps map ≡ Some m → LooksUp s map key found →
+moves-writes : (kind : MapKind) (s : map_state.Store) (opened : List Section) (map : ℕ) (m : MapState)
+    (key value : List ℕ) (found : Option ℕ) (new : map_state.Store) → IsSingle s.elements → AllLengths s →
+    Fits s map key value → slice_get s.maps map ≡ Some m → LooksUp s map key found →
     Writes kind s opened map m key value found new → StoreMoves false opened s new
 moves-writes Hash s opened map m key value found new single lengths fits at l h = moves-replaces s opened map m key value found new single fits at l h
-moves-writes Array s opened map m key value found new single lengths fits at l h = moves-elements false opened s new (overwritten value s.elements found) (touches-overwritten false opened s map key value found l (same-size s map m value at (fits m at).1 lengths)) h
+moves-writes Array s opened map m key value found new single lengths fits at l h =
+    moves-elements false opened s new (overwritten value s.elements found)
+    (touches-overwritten false opened s map key value found l (same-size s map m value at (fits m at).1 lengths)) h
 
-moves-settles : (kind : MapKind) (s : map_state.Store) (opened : List Section) (map : ℕ) (m : MapState) (key value : List ℕ) (found : Option ℕ) (new : map_state.Store) (error : Option Errno) (ret : Result (Unit {0}) Errno) → IsSingle s.elements → AllLengths s → Fits s map key value → slice_get s.maps map ≡ Some m →
+moves-settles : (kind : MapKind) (s : map_state.Store) (opened : List Section) (map : ℕ) (m : MapState)
+    (key value : List ℕ) (found : Option ℕ) (new : map_state.Store) (error : Option Errno)
+    (ret : Result (Unit {0}) Errno) → IsSingle s.elements → AllLengths s → Fits s map key value →
+    slice_get s.maps map ≡ Some m →
     LooksUp s map key found → Settles error ret s new (Writes kind s opened map m key value found new) → StoreMoves false opened s new
-moves-settles kind s opened map m key value found new None ret single lengths fits at l h = moves-writes kind s opened map m key value found new single lengths fits at l h.1
+moves-settles kind s opened map m key value found new None ret single lengths fits at l h =
+    moves-writes kind s opened map m key value found new single lengths fits at l h.1
 moves-settles kind s opened map m key value found new (Some e) ret single lengths fits at l h = moves-same false opened s new h.1
 
-moves-updates : (s : map_state.Store) (opened : List Section) (map : ℕ) (key value : List ℕ) (flags : ℕ) (ret : Result (Unit {0}) Errno) (new : map_state.Store) → IsSingle s.elements → AllLengths s → Fits s map key value → Updates s opened map key value flags ret new → StoreMoves false opened s new
-moves-updates s opened map key value flags ret new single lengths fits u = moves-settles u.state.shape.kind s opened map u.state key value u.found new _ ret single lengths fits u.there u.lookup u.settled
+moves-updates : (s : map_state.Store) (opened : List Section) (map : ℕ) (key value : List ℕ) (flags : ℕ)
+    (ret : Result (Unit {0}) Errno) (new : map_state.Store) → IsSingle s.elements → AllLengths s →
+    Fits s map key value → Updates s opened map key value flags ret new → StoreMoves false opened s new
+moves-updates s opened map key value flags ret new single lengths fits u =
+    moves-settles u.state.shape.kind s opened map u.state key value u.found new _ ret single lengths fits u.there
+    u.lookup u.settled
 
-moves-removes : (s : map_state.Store) (opened : List Section) (map : ℕ) (key : List ℕ) (ret : Result (Unit {0}) Errno) (new : map_state.Store) (found : Option ℕ) → LooksUp s map key found → Removes found opened ret s new → StoreMoves false opened s new
+moves-removes : (s : map_state.Store) (opened : List Section) (map : ℕ) (key : List ℕ) (ret : Result (Unit {0}) Errno)
+    (new : map_state.Store) (found : Option ℕ) → LooksUp s map key found → Removes found opened ret s new →
+    StoreMoves false opened s new
 moves-removes s opened map key ret new None l h = moves-same false opened s new h.1
-moves-removes s opened map key ret new (Some n) l h = moves-elements false opened s new (unlinked opened s.elements (Some n)) (touches-found false opened s map key (Some n) l) h.1
+moves-removes s opened map key ret new (Some n) l h = moves-elements false opened s new
+    (unlinked opened s.elements (Some n)) (touches-found false opened s map key (Some n) l) h.1
 
-moves-deletes : (s : map_state.Store) (opened : List Section) (map : ℕ) (key : List ℕ) (ret : Result (Unit {0}) Errno) (new : map_state.Store) → Deletes s opened map key ret new → StoreMoves false opened s new
+moves-deletes : (s : map_state.Store) (opened : List Section) (map : ℕ) (key : List ℕ) (ret : Result (Unit {0}) Errno)
+    (new : map_state.Store) → Deletes s opened map key ret new → StoreMoves false opened s new
 moves-deletes s opened map key ret new d = by d.state.shape.kind d.removed
   where
     by : (kind : MapKind) → RemovesFrom kind d.found opened ret s new → StoreMoves false opened s new
@@ -271,13 +343,23 @@ pub shape-given : (given : Given) (uses : ℕ) (m : MapState) → (with_given gi
 shape-given Free uses m = refl
 shape-given Worn uses m = refl
 
-moves-reclaims : (s : map_state.Store) (opened : List Section) (n : ℕ) (e : Element) (given : Given) (new : map_state.Store) → Reclaims s opened n e given new → StoreMoves true opened s new
+moves-reclaims : (s : map_state.Store) (opened : List Section) (n : ℕ) (e : Element) (given : Given)
+    (new : map_state.Store) → Reclaims s opened n e given new → StoreMoves true opened s new
 moves-reclaims s opened n e given new r =
     let maps : List MapState = slice_set s.maps e.map (returned e.uses r.state) in
     let all : map_state.Store = record { elements = slice_set s.elements n (with_life Reclaimed e); maps = maps } in
     subst (StoreMoves true opened s) (sym r.new_is) (moves-touches true opened s all
-    (touches-set true opened s.elements n e (with_life Reclaimed e) r.born (record { in_map = refl; under = refl; uses = refl; size = refl; life = Ends r.since refl r.unlinked r.ended refl }))
-    (shapes-set s.maps e.map r.state (returned e.uses r.state) r.there (shape-given (given_of e.uses r.state) e.uses r.state)) (length-set s.maps e.map (returned e.uses r.state)))
+    (touches-set true opened s.elements n e (with_life Reclaimed e) r.born
+    (record {
+      in_map = refl;
+      under = refl;
+      uses = refl;
+      size = refl;
+      life =
+          Ends r.since refl r.unlinked r.ended refl;
+    }))
+    (shapes-set s.maps e.map r.state (returned e.uses r.state) r.there
+    (shape-given (given_of e.uses r.state) e.uses r.state)) (length-set s.maps e.map (returned e.uses r.state)))
 
 -- the lengths of keys and values
 length-bytes_at : (frame : ℕ → Cell) (at n : ℕ) (bytes : List ℕ) → bytes_at frame at n ≡ Some bytes → length bytes ≡ n
@@ -304,13 +386,20 @@ length-frame frame len (Pointer (MapRef m)) bytes h = absurd (none-some bytes h)
 length-frame frame len (Pointer (Elem n o)) bytes h = absurd (none-some bytes h)
 
 -- an argument has the length that the map's shape names
-length-argument : (o : Option MapShape) (len : MapShape → ℕ) (frame : ℕ → Cell) (v : Value) (bytes : List ℕ) (shape : MapShape) → (o >>= λ x. frame_bytes frame (len x) v) ≡ Some bytes → o ≡ Some shape → length bytes ≡ len shape
+length-argument : (o : Option MapShape) (len : MapShape → ℕ) (frame : ℕ → Cell) (v : Value) (bytes : List ℕ)
+    (shape : MapShape) → (o >>= λ x. frame_bytes frame (len x) v) ≡ Some bytes → o ≡ Some shape →
+    length bytes ≡ len shape
 length-argument None len frame v bytes shape h e = absurd (none-some bytes h)
 length-argument (Some x) len frame v bytes shape h e = length-frame frame (len x) v bytes h ∙ ap len (same_Some x shape e)
 
-fits-arguments : (s : map_state.Store) (run : Run) (map : ℕ) (key value : List ℕ) → key_argument s run map ≡ Some key → value_argument s run map ≡ Some value → Fits s map key value
-fits-arguments s run map key value hk hv state at =
-    (length-argument (shape_of s map) (λ x. x.key_len) run.state.frame (run.state.regs 2) key state.shape hk (ap shape_in at), length-argument (shape_of s map) (λ x. x.value_len) run.state.frame (run.state.regs 3) value state.shape hv (ap shape_in at))
+fits-arguments : (s : map_state.Store) (run : Run) (map : ℕ) (key value : List ℕ) → key_argument s run map ≡ Some key
+    → value_argument s run map ≡ Some value → Fits s map key value
+fits-arguments s run map key value hk hv state at = (
+  length-argument (shape_of s map) (λ x. x.key_len) run.state.frame (run.state.regs 2) key state.shape hk
+      (ap shape_in at),
+  length-argument (shape_of s map) (λ x. x.value_len) run.state.frame (run.state.regs 3) value
+      state.shape hv (ap shape_in at),
+)
 
 lengths-pass : (a b : Bool) → (if a && b then None else Some BadLength) ≡ None → (a ≡ true) × (b ≡ true)
 lengths-pass true true h = (refl, refl)
@@ -319,24 +408,36 @@ lengths-pass false b h = absurd (cc)
 
 fits-event : (s : map_state.Store) (map : ℕ) (key value : List ℕ) → update_refusal (shape_of s map) (length key) (length value) ≡ None → Fits s map key value
 fits-event s map key value h state at =
-    let e : update_refusal (Some state.shape) (length key) (length value) ≡ None = ap (λ o. update_refusal (shape_in o) (length key) (length value)) (sym at) ∙ h in
+    let e : update_refusal (Some state.shape) (length key) (length value) ≡ None =
+    ap (λ o. update_refusal (shape_in o) (length key) (length value)) (sym at) ∙ h in
     let b = lengths-pass (length key == state.shape.key_len) (length value == state.shape.value_len) e in
     (eqb-true _ _ b.0, eqb-true _ _ b.1)
 
 -- a step
-moves-helper : (h : Option Helper) (s : map_state.Store) (opened : List Section) (run : Run) (ret : Value) (new : map_state.Store) → IsSingle s.elements → AllLengths s → HelperStep h s opened run ret new → StoreMoves false opened s new
+moves-helper : (h : Option Helper) (s : map_state.Store) (opened : List Section) (run : Run) (ret : Value)
+    (new : map_state.Store) → IsSingle s.elements → AllLengths s → HelperStep h s opened run ret new →
+    StoreMoves false opened s new
 moves-helper (Some helpers.Lookup) s opened run ret new single lengths h = moves-same false opened s new h.1
-moves-helper (Some helpers.Update) s opened run ret new single lengths h = moves-updates s opened h.map h.key h.value h.flags h.outcome new single lengths (fits-arguments s run h.map h.key h.value h.key_is h.value_is) h.updated
+moves-helper (Some helpers.Update) s opened run ret new single lengths h =
+    moves-updates s opened h.map h.key h.value h.flags h.outcome new single lengths
+    (fits-arguments s run h.map h.key h.value h.key_is h.value_is) h.updated
 moves-helper (Some helpers.Delete) s opened run ret new single lengths h = moves-deletes s opened h.map h.key h.outcome new h.deleted
 moves-helper None s opened run ret new single lengths h = absurd h
 
-moves-kind : (i : Insn) (s : map_state.Store) (opened : List Section) (run : Run) (answer : Answer) (new : map_state.Store) (new_run : Run) → IsSingle s.elements → AllLengths s → StepsByKind i s opened run answer new new_run → StoreMoves false opened s new
+moves-kind : (i : Insn) (s : map_state.Store) (opened : List Section) (run : Run) (answer : Answer)
+    (new : map_state.Store) (new_run : Run) → IsSingle s.elements → AllLengths s →
+    StepsByKind i s opened run answer new new_run → StoreMoves false opened s new
 moves-kind (Call kinds.Kernel imm) s opened run answer new new_run single lengths h = moves-same false opened s new h.2
 moves-kind (Call kinds.Helper imm) s opened run answer new new_run single lengths h = moves-helper (helper_of imm) s opened run h.0 new single lengths h.1
-moves-kind i s opened run answer new new_run single lengths h = moves-elements false opened s new h.1 (touches-acts i opened (environment run) s.elements run.state h.0 h.1 h.2) h.3
+moves-kind i s opened run answer new new_run single lengths h =
+    moves-elements false opened s new h.1 (touches-acts i opened (environment run) s.elements run.state h.0 h.1 h.2)
+    h.3
 
-pub moves-insn : (i : Insn) (s : map_state.Store) (opened : List Section) (run : Run) (answer : Answer) (new : map_state.Store) (new_run : Run) → IsSingle s.elements → AllLengths s → InsnStep i s opened run answer new new_run → StoreMoves false opened s new
-moves-insn i s opened run answer new new_run single lengths h = moves-kind i s opened run answer new new_run single lengths (by_kind i s opened run answer new new_run h)
+pub moves-insn : (i : Insn) (s : map_state.Store) (opened : List Section) (run : Run) (answer : Answer)
+    (new : map_state.Store) (new_run : Run) → IsSingle s.elements → AllLengths s →
+    InsnStep i s opened run answer new new_run → StoreMoves false opened s new
+moves-insn i s opened run answer new new_run single lengths h =
+    moves-kind i s opened run answer new new_run single lengths (by_kind i s opened run answer new new_run h)
 
 abbrev pub is_reap : Event → Bool
 is_reap events.Reap = true
@@ -349,25 +450,40 @@ MachineMoves reap m new = StoreMoves reap (open_sections m.runs) m.store new.sto
 moves-at : (reap : Bool) (m new : Machine) → new ≡ m → MachineMoves reap m new
 moves-at reap m new h = moves-same reap (open_sections m.runs) m.store new.store (ap (λ x. x.store) h)
 
-moves-with : (reap : Bool) (m new : Machine) (store : map_state.Store) → StoreMoves reap (open_sections m.runs) m.store store → new.store ≡ store → MachineMoves reap m new
+moves-with : (reap : Bool) (m new : Machine) (store : map_state.Store) →
+    StoreMoves reap (open_sections m.runs) m.store store → new.store ≡ store → MachineMoves reap m new
 moves-with reap m new store h e = subst (StoreMoves reap (open_sections m.runs) m.store) (sym e) h
 
-performs-moves : (m : Machine) (event : Event) (answer : Answer) (new : Machine) → IsSingle m.store.elements → AllLengths m.store → refusal m event ≡ None → PerformsEvent m event answer new → MachineMoves (is_reap event) m new
-performs-moves m (events.Start prog ctx) (answers.Started r) new single lengths pass h = moves-same false (open_sections m.runs) m.store new.store (ap (λ x. x.store) h.new_is)
-performs-moves m (events.Step run) answer new single lengths pass h = moves-with false m new h.new_store (moves-insn h.step.0 m.store (open_sections m.runs) h.run answer h.new_store h.new_run single lengths h.step.2) (ap (λ x. x.store) h.new_is)
-performs-moves m (events.Update map key value flags) (answers.Ret ret) new single lengths pass h = moves-with false m new h.0 (moves-updates m.store (open_sections m.runs) map key.items value.items flags ret h.0 single lengths (fits-event m.store map key.items value.items pass) h.1) (ap (λ x. x.store) h.2)
-performs-moves m (events.Delete map key) (answers.Ret ret) new single lengths pass h = moves-with false m new h.0 (moves-deletes m.store (open_sections m.runs) map key.items ret h.0 h.1) (ap (λ x. x.store) h.2)
+performs-moves : (m : Machine) (event : Event) (answer : Answer) (new : Machine) → IsSingle m.store.elements →
+    AllLengths m.store → refusal m event ≡ None → PerformsEvent m event answer new →
+    MachineMoves (is_reap event) m new
+performs-moves m (events.Start prog ctx) (answers.Started r) new single lengths pass h =
+    moves-same false (open_sections m.runs) m.store new.store (ap (λ x. x.store) h.new_is)
+performs-moves m (events.Step run) answer new single lengths pass h =
+    moves-with false m new h.new_store (moves-insn h.step.0 m.store (open_sections m.runs) h.run answer h.new_store
+    h.new_run single lengths h.step.2) (ap (λ x. x.store) h.new_is)
+performs-moves m (events.Update map key value flags) (answers.Ret ret) new single lengths pass h =
+    moves-with false m new h.0 (moves-updates m.store (open_sections m.runs) map key.items value.items flags ret h.0
+    single lengths (fits-event m.store map key.items value.items pass) h.1) (ap (λ x. x.store) h.2)
+performs-moves m (events.Delete map key) (answers.Ret ret) new single lengths pass h =
+    moves-with false m new h.0 (moves-deletes m.store (open_sections m.runs) map key.items ret h.0 h.1)
+    (ap (λ x. x.store) h.2)
 performs-moves m (events.Read map key) (answers.Found (Some value)) new single lengths pass h = moves-at false m new h.1
 performs-moves m (events.Read map key) (answers.Found None) new single lengths pass h = moves-at false m new h.1
 performs-moves m events.Advance answers.Done new single lengths pass h = moves-at false m new h
 performs-moves m events.Reap (answers.Reaped None) new single lengths pass h = moves-at true m new h
-performs-moves m events.Reap (answers.Reaped (Some reaped)) new single lengths pass h = moves-with true m new h.2 (moves-reclaims m.store (open_sections m.runs) h.0 h.1 reaped.given h.2 h.3) (ap (λ x. x.store) h.6)
+performs-moves m events.Reap (answers.Reaped (Some reaped)) new single lengths pass h =
+    moves-with true m new h.2 (moves-reclaims m.store (open_sections m.runs) h.0 h.1 reaped.given h.2 h.3)
+    (ap (λ x. x.store) h.6)
 performs-moves m (events.Drop run) answers.Done new single lengths pass h = moves-same false (open_sections m.runs) m.store new.store (ap (λ x. x.store) h)
 performs-moves m event answer new single lengths pass h = absurd h
 
-answers-moves : (o : Option EventRefusal) (m : Machine) (event : Event) (answer : Answer) (new : Machine) → IsSingle m.store.elements → AllLengths m.store → refusal m event ≡ o → Answers o m event answer new → MachineMoves (is_reap event) m new
+answers-moves : (o : Option EventRefusal) (m : Machine) (event : Event) (answer : Answer) (new : Machine) →
+    IsSingle m.store.elements → AllLengths m.store → refusal m event ≡ o → Answers o m event answer new →
+    MachineMoves (is_reap event) m new
 answers-moves None m event answer new single lengths pass h = performs-moves m event answer new single lengths pass h
 answers-moves (Some k) m event answer new single lengths pass h = moves-at (is_reap event) m new h.1
 
-pub does-moves : (m new : Machine) (event : Event) (answer : Answer) → IsSingle m.store.elements → AllLengths m.store → DoesEvent m event answer new → MachineMoves (is_reap event) m new
+pub does-moves : (m new : Machine) (event : Event) (answer : Answer) → IsSingle m.store.elements → AllLengths m.store
+    → DoesEvent m event answer new → MachineMoves (is_reap event) m new
 does-moves m new event answer single lengths h = answers-moves (refusal m event) m event answer new single lengths refl h

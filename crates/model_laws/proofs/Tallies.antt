@@ -19,7 +19,9 @@ one_of b = cond {A = ℕ} b 1 0
 pub count-cons : {A : Type 0} (p : A → Bool) (x : A) (xs : List A) → count_by p (x ∷ xs) ≡ one_of (p x) + count_by p xs
 count-cons p x xs = sum_by-cons (λ y. cond (p y) 1 0) x xs
 
-sum-same : {A : Type 0} (f : A → ℕ) (xs ys : List A) → length ys ≡ length xs → ((n : ℕ) (x : A) → slice_get xs n ≡ Some x → (y : A) × (slice_get ys n ≡ Some y) × (f y ≡ f x)) → sum_by f ys ≡ sum_by f xs
+sum-same : {A : Type 0} (f : A → ℕ) (xs ys : List A) → length ys ≡ length xs →
+    ((n : ℕ) (x : A) → slice_get xs n ≡ Some x → (y : A) × (slice_get ys n ≡ Some y) × (f y ≡ f x)) →
+    sum_by f ys ≡ sum_by f xs
 sum-same f [] [] l h = refl
 sum-same f [] (y ∷ ys) l h = absurd (omega arith)
 sum-same f (x ∷ xs) [] l h = absurd (omega arith)
@@ -42,10 +44,13 @@ sum-set f (z ∷ xs) (suc n) x y h =
     let c = sum-set f xs n x y h in
     omega arith
 
-count-same : {A : Type 0} (p : A → Bool) (xs ys : List A) → length ys ≡ length xs → ((n : ℕ) (x : A) → slice_get xs n ≡ Some x → (y : A) × (slice_get ys n ≡ Some y) × (p y ≡ p x)) → count_by p ys ≡ count_by p xs
+count-same : {A : Type 0} (p : A → Bool) (xs ys : List A) → length ys ≡ length xs →
+    ((n : ℕ) (x : A) → slice_get xs n ≡ Some x → (y : A) × (slice_get ys n ≡ Some y) × (p y ≡ p x)) →
+    count_by p ys ≡ count_by p xs
 count-same p xs ys l h = sum-same (λ x. one_of (p x)) xs ys l (λ n x at. let g = h n x at in (g.0, g.1, ap one_of g.2))
 
-pub count-set : {A : Type 0} (p : A → Bool) (xs : List A) (n : ℕ) (x y : A) → slice_get xs n ≡ Some x → count_by p (slice_set xs n y) + one_of (p x) ≡ count_by p xs + one_of (p y)
+pub count-set : {A : Type 0} (p : A → Bool) (xs : List A) (n : ℕ) (x y : A) → slice_get xs n ≡ Some x →
+    count_by p (slice_set xs n y) + one_of (p x) ≡ count_by p xs + one_of (p y)
 count-set p xs n x y h = sum-set (λ x. one_of (p x)) xs n x y h
 
 -- elements that are kept
@@ -67,7 +72,8 @@ reclaimed-same opened old new (Unlinks l e) = ap is_reclaimed e ∙ sym (ap is_r
 reclaimed-same opened old new (Ends since r l ended e) = absurd (false≢true r)
 
 kept-altered : (opened : List Section) (k : ℕ) (e f : Element) → Alters false opened e f → is_kept k f ≡ is_kept k e
-kept-altered opened k e f a = ap (λ b. not b && (f.map == k)) (reclaimed-same opened e.life f.life a.life) ∙ ap (λ m. not (is_reclaimed e.life) && (m == k)) a.in_map
+kept-altered opened k e f a = ap (λ b. not b && (f.map == k)) (reclaimed-same opened e.life f.life a.life) ∙
+    ap (λ m. not (is_reclaimed e.life) && (m == k)) a.in_map
 
 pub kept-touched : (opened : List Section) (old new : List Element) → Touches false opened old new → (k : ℕ) → kept_count k new ≡ kept_count k old
 kept-touched opened old new t k = count-same (is_kept k) old new t.births (λ n e at. let f = t.forth n e at in (f.0, f.1, kept-altered opened k e f.0 f.2))
@@ -78,7 +84,9 @@ kept-life e k l same h = ap (λ x. one_of (not (is_reclaimed x) && (e.map == k))
 pub kept-born : (es : List Element) (nb : Element) (k : ℕ) → nb.life ≡ Linked → kept_count k (es ++ nb ∷ []) ≡ kept_count k es + of_map nb.map k
 kept-born es nb k life = sum_by_push (λ e. cond (is_kept k e) 1 0) es nb ∙ ap (λ n. kept_count k es + n) (kept-life nb k Linked life refl)
 
-pub kept-reclaimed : (es : List Element) (n : ℕ) (e : Element) (since : List Section) (k : ℕ) → slice_get es n ≡ Some e → e.life ≡ Unlinked since → kept_count k (slice_set es n (with_life Reclaimed e)) + of_map e.map k ≡ kept_count k es
+pub kept-reclaimed : (es : List Element) (n : ℕ) (e : Element) (since : List Section) (k : ℕ) →
+    slice_get es n ≡ Some e → e.life ≡ Unlinked since →
+    kept_count k (slice_set es n (with_life Reclaimed e)) + of_map e.map k ≡ kept_count k es
 kept-reclaimed es n e since k at life =
     let a = count-set (is_kept k) es n e (with_life Reclaimed e) at in
     let b : one_of (is_kept k e) ≡ of_map e.map k = kept-life e k (Unlinked since) life refl in
@@ -116,9 +124,12 @@ uses-touched opened old new t k = sum-same (uses_of k) old new t.births (λ n e 
     (f.0, f.1, ap (λ b. cond b f.0.uses 0) (kept-altered opened k e f.0 f.2) ∙ ap (λ u. cond (is_kept k e) u 0) f.2.uses))
 
 pub born-touched : (opened : List Section) (old new : List Element) → Touches false opened old new → (k : ℕ) → born_count k new ≡ born_count k old
-born-touched opened old new t k = count-same (λ (e : Element). e.map == k) old new t.births (λ n e at. let f = t.forth n e at in (f.0, f.1, ap (λ m. m == k) f.2.in_map))
+born-touched opened old new t k = count-same (λ (e : Element). e.map == k) old new t.births
+    (λ n e at. let f = t.forth n e at in (f.0, f.1, ap (λ m. m == k) f.2.in_map))
 
-pub kept-was : (opened : List Section) (old new : List Element) (k n : ℕ) (f : Element) → Touches false opened old new → slice_get new n ≡ Some f → is_kept k f ≡ true → (e : Element) × (slice_get old n ≡ Some e) × (is_kept k e ≡ true) × (f.uses ≡ e.uses)
+pub kept-was : (opened : List Section) (old new : List Element) (k n : ℕ) (f : Element) → Touches false opened old new
+    → slice_get new n ≡ Some f → is_kept k f ≡ true → (e : Element) × (slice_get old n ≡ Some e) ×
+    (is_kept k e ≡ true) × (f.uses ≡ e.uses)
 kept-was opened old new k n f t at kept =
     let e = t.back n f at in
     let g = t.forth n e.0 e.1 in
@@ -148,21 +159,26 @@ uses-born es nb k = sum_by_push (uses_of k) es nb
 pub born-born : (es : List Element) (nb : Element) (k : ℕ) → born_count k (es ++ nb ∷ []) ≡ born_count k es + of_map nb.map k
 born-born es nb k = sum_by_push (λ (e : Element). cond (e.map == k) 1 0) es nb
 
-pub uses-reclaimed : (es : List Element) (n : ℕ) (e : Element) (k : ℕ) → slice_get es n ≡ Some e → kept_uses k (slice_set es n (with_life Reclaimed e)) + uses_of k e ≡ kept_uses k es
-uses-reclaimed es n e k at = let a = sum-set (uses_of k) es n e (with_life Reclaimed e) at in let c : uses_of k (with_life Reclaimed e) ≡ 0 = refl in omega arith
+pub uses-reclaimed : (es : List Element) (n : ℕ) (e : Element) (k : ℕ) → slice_get es n ≡ Some e →
+    kept_uses k (slice_set es n (with_life Reclaimed e)) + uses_of k e ≡ kept_uses k es
+uses-reclaimed es n e k at = let a = sum-set (uses_of k) es n e (with_life Reclaimed e) at in let c : uses_of k
+    (with_life Reclaimed e) ≡ 0 = refl in omega arith
 
-pub born-reclaimed : (es : List Element) (n : ℕ) (e : Element) (k : ℕ) → slice_get es n ≡ Some e → born_count k (slice_set es n (with_life Reclaimed e)) ≡ born_count k es
+pub born-reclaimed : (es : List Element) (n : ℕ) (e : Element) (k : ℕ) → slice_get es n ≡ Some e →
+    born_count k (slice_set es n (with_life Reclaimed e)) ≡ born_count k es
 born-reclaimed es n e k at = let a = count-set (λ (x : Element). x.map == k) es n e (with_life Reclaimed e) at in omega arith
 
 -- the uses of a map's kept elements, where each was used so often at most
-pub uses-most : (k limit : ℕ) (es : List Element) → ((n : ℕ) (e : Element) → slice_get es n ≡ Some e → is_kept k e ≡ true → e.uses ≤ limit) → kept_uses k es ≤ kept_count k es * limit
+pub uses-most : (k limit : ℕ) (es : List Element) → ((n : ℕ) (e : Element) → slice_get es n ≡ Some e →
+    is_kept k e ≡ true → e.uses ≤ limit) → kept_uses k es ≤ kept_count k es * limit
 uses-most k limit [] h = omega arith
 uses-most k limit (e ∷ es) h =
     let a = sum_by-cons (uses_of k) e es in
     let b = count-cons (is_kept k) e es in
     let rest = uses-most k limit es (λ n f at kept. h (suc n) f at kept) in
     let one : uses_of k e ≤ one_of (is_kept k e) * limit = by (is_kept k e) refl in
-    let c : kept_count k (e ∷ es) * limit ≡ one_of (is_kept k e) * limit + kept_count k es * limit = ap (λ n. n * limit) b ∙ add-mul (one_of (is_kept k e)) (kept_count k es) limit in
+    let c : kept_count k (e ∷ es) * limit ≡ one_of (is_kept k e) * limit + kept_count k es * limit =
+    ap (λ n. n * limit) b ∙ add-mul (one_of (is_kept k e)) (kept_count k es) limit in
     omega arith
   where
     by : (b : Bool) → is_kept k e ≡ b → cond {A = ℕ} b e.uses 0 ≤ one_of b * limit

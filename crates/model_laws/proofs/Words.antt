@@ -74,7 +74,8 @@ near-bounds : (p : Location) → IsNearLocation p → (2 ^ 40 ≤ base_of p) × 
 near-bounds (InContext o) h = let s : shift o ≤ 2 ^ 30 = shift-most o h in (omega arith, omega arith)
 near-bounds (InFrame o) h = let s : shift o ≤ 2 ^ 30 = shift-most o h in (omega arith, omega arith)
 near-bounds (AtMap m) h = (omega arith, omega arith)
-near-bounds (InSlot m slot o) h = let s : shift o ≤ 2 ^ 30 = shift-most o h.2 in let a : m < MAX_MAPS = h.0 in let b : slot < most_map_slots = h.1 in (omega arith, omega arith)
+near-bounds (InSlot m slot o) h = let s : shift o ≤ 2 ^ 30 = shift-most o h.2 in let a : m < MAX_MAPS =
+    h.0 in let b : slot < most_map_slots = h.1 in (omega arith, omega arith)
 
 -- each near location has a word, which is not 0
 pub near_words_fit : (p : Location) → IsNearLocation p → (w : ℕ) × (location_word p ≡ pos w) × (0 < w) × (w < 2 ^ 64)
@@ -89,7 +90,8 @@ near_words_fit p h =
 same-count : (p q : Location) → HasWord p → HasWord q → location_word p ≡ location_word q → base_of p + shift_of p ≡ base_of q + shift_of q
 same-count p q v w e = let s : v.word ≡ w.word = same-pos v.word w.word (sym v.is ∙ (e ∙ w.is)) in sym v.counted ∙ (ap (λ x. x + 2 ^ 29) s ∙ w.counted)
 
-same-slot : (m n a b s t : ℕ) → a < most_map_slots → b < most_map_slots → s ≤ 2 ^ 30 → t ≤ 2 ^ 30 → slot_base m a + s ≡ slot_base n b + t → (m ≡ n) × (a ≡ b) × (s ≡ t)
+same-slot : (m n a b s t : ℕ) → a < most_map_slots → b < most_map_slots → s ≤ 2 ^ 30 → t ≤ 2 ^ 30 →
+    slot_base m a + s ≡ slot_base n b + t → (m ≡ n) × (a ≡ b) × (s ≡ t)
 same-slot m n a b s t ha hb hs ht e =
     let one : most_map_slots * m + a ≡ most_map_slots * n + b = omega arith in
     let maps : m ≡ n = omega arith in
@@ -104,7 +106,8 @@ differ : (p q : Location) → IsNearLocation p → IsNearLocation q → base_of 
 differ (InContext o) (InContext p) h g e = let s : shift o ≡ shift p = omega arith in ap InContext (shift-same o p h g s)
 differ (InFrame o) (InFrame p) h g e = let s : shift o ≡ shift p = omega arith in ap InFrame (shift-same o p h g s)
 differ (AtMap m) (AtMap n) h g e = let s : m ≡ n = omega arith in ap AtMap s
-differ (InSlot m a o) (InSlot n b p) h g e = slots-agree m n a b o p h.2 g.2 (same-slot m n a b (shift o) (shift p) h.1 g.1 (shift-most o h.2) (shift-most p g.2) e)
+differ (InSlot m a o) (InSlot n b p) h g e = slots-agree m n a b o p h.2 g.2
+    (same-slot m n a b (shift o) (shift p) h.1 g.1 (shift-most o h.2) (shift-most p g.2) e)
 differ (InContext o) (InFrame p) h g e = let s : shift o ≤ 2 ^ 30 = shift-most o h in absurd (omega arith)
 differ (InContext o) (AtMap n) h g e = let s : shift o ≤ 2 ^ 30 = shift-most o h in absurd (omega arith)
 differ (InContext o) (InSlot n b p) h g e = let s : shift o ≤ 2 ^ 30 = shift-most o h in absurd (omega arith)
@@ -122,7 +125,8 @@ pub near_words_differ : (p q : Location) → IsNearLocation p → IsNearLocation
 near_words_differ p q h g e = differ p q h g (same-count p q (has-word p h) (has-word q g) e)
 
 -- the words of references
-pub words_of_locations : (slots : List ℕ) (es : List Element) (r : Reference) (w : ℕ) → IsReferenceWord (element_bases slots es) r w ↔ (pos w ≡ location_word (named_location slots es r))
+pub words_of_locations : (slots : List ℕ) (es : List Element) (r : Reference) (w : ℕ) →
+    IsReferenceWord (element_bases slots es) r w ↔ (pos w ≡ location_word (named_location slots es r))
 words_of_locations slots es (Ctx o) w = (λ h. h, λ h. h)
 words_of_locations slots es (Frame o) w = (λ h. h, λ h. h)
 words_of_locations slots es (MapRef m) w = (λ h. h, λ h. h)

@@ -1,5 +1,6 @@
 -- Program files, line by line.
-use Rattle.std.proofs.Common.{◌≡◌, ◌≢◌, ℕ, ◌==◌, Bool, false, List, [], ◌∷◌, ◌++◌, length, flat_map, inl, inr, refl, sym, ap, ap₂, subst, ◌∙◌, arith, append_assoc, append-nil}
+use Rattle.std.proofs.Common.{◌≡◌, ◌≢◌, ℕ, ◌==◌, Bool, false, List, [], ◌∷◌, ◌++◌, length, flat_map, inl, inr, refl}
+use Rattle.std.proofs.Common.{sym, ap, ap₂, subst, ◌∙◌, arith, append_assoc, append-nil}
 use Rattle.std.specs.Prelude.{Option, Some, None, Result, Ok, Err, OnOk, codes}
 use lib.Pointwise.{pointwise}
 use Rattle.std.proofs.lemmas.Bool.{false≢true}
@@ -12,7 +13,9 @@ use Rattle.bpf_model.proofs.Lists.{heads, tails, cons-nil}
 use Rattle.maps.specs.Registry.{RegistryView, no_maps}
 use Rattle.program_files.specs.Lines.{file_words, IsDecimalWord, code_slots, slot_in}
 use Rattle.std.specs.Fmt.{option_append}
-use Rattle.program_files.specs.ProgramFile.{FileContent, IsContextLine, AreHashWords, AreArrayWords, AreShapeWords, IsMapLine, AddsMap, AddMaps, IsProgramFile, IsFileBeginning, IsWrongAfter, IsFirstWrongLine}
+use Rattle.program_files.specs.ProgramFile.{FileContent, IsContextLine, AreHashWords, AreArrayWords, AreShapeWords}
+use Rattle.program_files.specs.ProgramFile.{IsMapLine, AddsMap, AddMaps, IsProgramFile, IsFileBeginning, IsWrongAfter}
+use Rattle.program_files.specs.ProgramFile.{IsFirstWrongLine}
 use Rattle.program_files.specs.Reading.{AreMapsSoFar, IsAtStage}
 use Rattle.program_files.proofs.Slots.{joined_nil}
 use Rattle.program_files.specs.declared.loader.fault.LineFault.{LineFault}
@@ -27,14 +30,60 @@ code_line = codes "code"
 same_number : (v w : List ℕ) (m n : ℕ) → v ≡ w → IsDecimalWord v m → IsDecimalWord w n → m ≡ n
 same_number v w m n e h k = let a = h.value in let b = k.value in cc
 
-same_shape : (s t : MapShape) → s.kind ≡ t.kind → s.key_len ≡ t.key_len → s.value_len ≡ t.value_len → s.entries ≡ t.entries → s.spare ≡ t.spare → s.reuse_limit ≡ t.reuse_limit → s ≡ t
+same_shape : (s t : MapShape) → s.kind ≡ t.kind → s.key_len ≡ t.key_len → s.value_len ≡ t.value_len →
+    s.entries ≡ t.entries → s.spare ≡ t.spare → s.reuse_limit ≡ t.reuse_limit → s ≡ t
 same_shape s t k a b c d e =
-    ap (λ (n : MapKind). let z : MapShape = record { kind = n; key_len = s.key_len; value_len = s.value_len; entries = s.entries; spare = s.spare; reuse_limit = s.reuse_limit } in z) k
-    ∙ ap (λ (n : ℕ). let z : MapShape = record { kind = t.kind; key_len = n; value_len = s.value_len; entries = s.entries; spare = s.spare; reuse_limit = s.reuse_limit } in z) a
-    ∙ ap (λ (n : ℕ). let z : MapShape = record { kind = t.kind; key_len = t.key_len; value_len = n; entries = s.entries; spare = s.spare; reuse_limit = s.reuse_limit } in z) b
-    ∙ ap (λ (n : ℕ). let z : MapShape = record { kind = t.kind; key_len = t.key_len; value_len = t.value_len; entries = n; spare = s.spare; reuse_limit = s.reuse_limit } in z) c
-    ∙ ap (λ (n : ℕ). let z : MapShape = record { kind = t.kind; key_len = t.key_len; value_len = t.value_len; entries = t.entries; spare = n; reuse_limit = s.reuse_limit } in z) d
-    ∙ ap (λ (n : ℕ). let z : MapShape = record { kind = t.kind; key_len = t.key_len; value_len = t.value_len; entries = t.entries; spare = t.spare; reuse_limit = n } in z) e
+    ap (λ (n : MapKind). let z : MapShape = record {
+      kind = n;
+      key_len = s.key_len;
+      value_len = s.value_len;
+      entries =
+          s.entries;
+      spare = s.spare;
+      reuse_limit = s.reuse_limit;
+    } in z) k
+    ∙ ap (λ (n : ℕ). let z : MapShape = record {
+      kind = t.kind;
+      key_len = n;
+      value_len = s.value_len;
+      entries =
+          s.entries;
+      spare = s.spare;
+      reuse_limit = s.reuse_limit;
+    } in z) a
+    ∙ ap (λ (n : ℕ). let z : MapShape = record {
+      kind = t.kind;
+      key_len = t.key_len;
+      value_len = n;
+      entries =
+          s.entries;
+      spare = s.spare;
+      reuse_limit = s.reuse_limit;
+    } in z) b
+    ∙ ap (λ (n : ℕ). let z : MapShape = record {
+      kind = t.kind;
+      key_len = t.key_len;
+      value_len = t.value_len;
+      entries = n;
+      spare = s.spare;
+      reuse_limit = s.reuse_limit;
+    } in z) c
+    ∙ ap (λ (n : ℕ). let z : MapShape = record {
+      kind = t.kind;
+      key_len = t.key_len;
+      value_len = t.value_len;
+      entries = t.entries;
+      spare = n;
+      reuse_limit = s.reuse_limit;
+    } in z) d
+    ∙ ap (λ (n : ℕ). let z : MapShape = record {
+      kind = t.kind;
+      key_len = t.key_len;
+      value_len = t.value_len;
+      entries = t.entries;
+      spare = t.spare;
+      reuse_limit = n;
+    } in z) e
 
 same_words : (a b c d e a2 b2 c2 d2 e2 : List ℕ) → (a ∷ b ∷ c ∷ d ∷ e ∷ []) ≡ a2 ∷ b2 ∷ c2 ∷ d2 ∷ e2 ∷ [] → (a ≡ a2) × (b ≡ b2) × (c ≡ c2) × (d ≡ d2) × (e ≡ e2)
 same_words a b c d e a2 b2 c2 d2 e2 h = ((cc), (cc), (cc), (cc), (cc))
@@ -46,7 +95,9 @@ same_line m a b xs ys e = ((cc), (cc))
 same_hash_words : (s t : MapShape) (numbers : List (List ℕ)) → AreHashWords numbers s → AreHashWords numbers t → s ≡ t
 same_hash_words s t numbers h k =
     let w = same_words h.key h.value h.entries h.spare h.reuse k.key k.value k.entries k.spare k.reuse (sym h.words_are ∙ k.words_are) in
-    same_shape s t (h.kind ∙ sym k.kind) (same_number _ _ _ _ w.0 h.key_len k.key_len) (same_number _ _ _ _ w.1 h.value_len k.value_len) (same_number _ _ _ _ w.2 h.entries_is k.entries_is) (same_number _ _ _ _ w.3 h.spare_is k.spare_is) (same_number _ _ _ _ w.4 h.reuse_limit k.reuse_limit)
+    same_shape s t (h.kind ∙ sym k.kind) (same_number _ _ _ _ w.0 h.key_len k.key_len)
+    (same_number _ _ _ _ w.1 h.value_len k.value_len) (same_number _ _ _ _ w.2 h.entries_is k.entries_is)
+    (same_number _ _ _ _ w.3 h.spare_is k.spare_is) (same_number _ _ _ _ w.4 h.reuse_limit k.reuse_limit)
 
 two_words : (w a b c d : List ℕ) → (w ∷ a ∷ b ∷ []) ≡ w ∷ c ∷ d ∷ [] → (a ≡ c) × (b ≡ d)
 two_words w a b c d e = ((cc), (cc))
@@ -54,7 +105,9 @@ two_words w a b c d e = ((cc), (cc))
 same_array_words : (s t : MapShape) (numbers : List (List ℕ)) → AreArrayWords numbers s → AreArrayWords numbers t → s ≡ t
 same_array_words s t numbers h k =
     let w = two_words (codes "array") h.value h.entries k.value k.entries (sym h.words_are ∙ k.words_are) in
-    same_shape s t (h.kind ∙ sym k.kind) (h.array.key ∙ sym k.array.key) (same_number _ _ _ _ w.0 h.value_len k.value_len) (same_number _ _ _ _ w.1 h.entries_is k.entries_is) (h.array.spare ∙ sym k.array.spare) (h.array.reuse ∙ sym k.array.reuse)
+    same_shape s t (h.kind ∙ sym k.kind) (h.array.key ∙ sym k.array.key)
+    (same_number _ _ _ _ w.0 h.value_len k.value_len) (same_number _ _ _ _ w.1 h.entries_is k.entries_is)
+    (h.array.spare ∙ sym k.array.spare) (h.array.reuse ∙ sym k.array.reuse)
 
 -- a hash map's words are five, an array's three
 not_both : (s t : MapShape) (numbers : List (List ℕ)) → AreHashWords numbers s → AreArrayWords numbers t → ⊥
@@ -95,13 +148,15 @@ code_is_no_map old new line e h =
 
 -- more lines of maps
 
-pub add_last : (old mid new : RegistryView) (lines : List (List ℕ)) (line : List ℕ) → AddMaps old lines mid → AddsMap mid line new → AddMaps old (lines ++ line ∷ []) new
+pub add_last : (old mid new : RegistryView) (lines : List (List ℕ)) (line : List ℕ) → AddMaps old lines mid →
+    AddsMap mid line new → AddMaps old (lines ++ line ∷ []) new
 add_last old mid new [] line e h = (new, subst (λ r. AddsMap r line new) e h, refl)
 add_last old mid new (first ∷ lines) line h k = (h.0, h.1, add_last h.0 mid new lines line h.2 k)
 
 -- where the maps end
 
-pub same_parts : (old r s : RegistryView) (ms ns cs ds : List (List ℕ)) → AddMaps old ms r → AddMaps old ns s → (ms ++ code_line ∷ cs) ≡ ns ++ code_line ∷ ds → (r ≡ s) × (cs ≡ ds)
+pub same_parts : (old r s : RegistryView) (ms ns cs ds : List (List ℕ)) → AddMaps old ms r → AddMaps old ns s →
+    (ms ++ code_line ∷ cs) ≡ ns ++ code_line ∷ ds → (r ≡ s) × (cs ≡ ds)
 same_parts old r s [] [] cs ds h k e = (h ∙ sym k, tails code_line code_line cs ds e)
 same_parts old r s [] (n ∷ ns) cs ds h k e = absurd (code_is_no_map old k.0 n (sym (heads code_line n cs (ns ++ code_line ∷ ds) e)) k.1)
 same_parts old r s (m ∷ ms) [] cs ds h k e = absurd (code_is_no_map old h.0 m (heads m code_line (ms ++ code_line ∷ cs) ds e) h.1)
@@ -110,7 +165,9 @@ same_parts old r s (m ∷ ms) (n ∷ ns) cs ds h k e =
     let next : k.0 ≡ h.0 = same_added old k.0 h.0 m (subst (λ l. AddsMap old l k.0) line k.1) h.1 in
     same_parts h.0 r s ms ns cs ds h.2 (subst (λ x. AddMaps x ns s) next k.2) (tails m n (ms ++ code_line ∷ cs) (ns ++ code_line ∷ ds) e)
 
-no_map_line : (old r s : RegistryView) (ms ns ds : List (List ℕ)) (line : List ℕ) (rest : List (List ℕ)) → AddMaps old ms r → AddMaps old ns s → line ≢ code_line → ((new : RegistryView) → ¬ (AddsMap r line new)) → (ms ++ line ∷ rest) ≡ ns ++ code_line ∷ ds → ⊥
+no_map_line : (old r s : RegistryView) (ms ns ds : List (List ℕ)) (line : List ℕ) (rest : List (List ℕ)) →
+    AddMaps old ms r → AddMaps old ns s → line ≢ code_line → ((new : RegistryView) → ¬ (AddsMap r line new)) →
+    (ms ++ line ∷ rest) ≡ ns ++ code_line ∷ ds → ⊥
 no_map_line old r s [] [] ds line rest h k other wrong e = other (heads line code_line rest ds e)
 no_map_line old r s [] (n ∷ ns) ds line rest h k other wrong e =
     wrong k.0 (subst (λ x. AddsMap x line k.0) (sym h) (subst (λ l. AddsMap old l k.0) (sym (heads line n rest (ns ++ code_line ∷ ds) e)) k.1))
@@ -143,7 +200,8 @@ none_begins = (
   },
 )
 
-pub maps_begin : (lines : List (List ℕ)) (context : ℕ) (r : RegistryView) → AreMapsSoFar lines context r → IsProgramFile (lines ++ code_line ∷ []) (record { ctx_len = context; registry = r; code = [] })
+pub maps_begin : (lines : List (List ℕ)) (context : ℕ) (r : RegistryView) → AreMapsSoFar lines context r →
+    IsProgramFile (lines ++ code_line ∷ []) (record { ctx_len = context; registry = r; code = [] })
 maps_begin lines context r h = record {
   first = h.first;
   map_lines = h.map_lines;
@@ -168,7 +226,8 @@ context_wrong lines line e wrong b =
     let whole : (line ∷ b.0) ≡ h.first ∷ (h.map_lines ++ code_line ∷ h.code_lines) = sym (ap (λ ls. (ls ++ line ∷ []) ++ b.0) e) ∙ h.parts in
     wrong b.1.ctx_len (subst (λ l. IsContextLine l b.1.ctx_len) (sym (heads line h.first b.0 _ whole)) h.context)
 
-pub map_taken : (lines : List (List ℕ)) (line : List ℕ) (n : ℕ) (r s : RegistryView) → AreMapsSoFar lines n r → AddsMap r line s → AreMapsSoFar (lines ++ line ∷ []) n s
+pub map_taken : (lines : List (List ℕ)) (line : List ℕ) (n : ℕ) (r s : RegistryView) → AreMapsSoFar lines n r →
+    AddsMap r line s → AreMapsSoFar (lines ++ line ∷ []) n s
 map_taken lines line n r s h k = record {
   first = h.first;
   map_lines = h.map_lines ++ line ∷ [];
@@ -177,7 +236,8 @@ map_taken lines line n r s h k = record {
   maps = add_last no_maps r s h.map_lines line h.maps k;
 }
 
-pub map_wrong : (lines : List (List ℕ)) (line : List ℕ) (n : ℕ) (r : RegistryView) → AreMapsSoFar lines n r → line ≢ code_line → ((s : RegistryView) → ¬ (AddsMap r line s)) → ¬ (IsFileBeginning (lines ++ line ∷ []))
+pub map_wrong : (lines : List (List ℕ)) (line : List ℕ) (n : ℕ) (r : RegistryView) → AreMapsSoFar lines n r →
+    line ≢ code_line → ((s : RegistryView) → ¬ (AddsMap r line s)) → ¬ (IsFileBeginning (lines ++ line ∷ []))
 map_wrong lines line n r h other wrong b =
     let k = b.2 in
     let whole : (h.first ∷ (h.map_lines ++ line ∷ b.0)) ≡ k.first ∷ (k.map_lines ++ code_line ∷ k.code_lines) =
@@ -198,10 +258,14 @@ joined_none : (x : Option (List ℕ)) → option_append x None ≡ None
 joined_none None = refl
 joined_none (Some a) = refl
 
-lines_append : (xs ys : List (List ℕ)) → code_slots (flat_map file_words (xs ++ ys)) ≡ option_append (code_slots (flat_map file_words xs)) (code_slots (flat_map file_words ys))
+lines_append : (xs ys : List (List ℕ)) → code_slots (flat_map file_words (xs ++ ys)) ≡ option_append
+    (code_slots (flat_map file_words xs)) (code_slots (flat_map file_words ys))
 lines_append xs ys = ap code_slots (flat_map-append file_words xs ys) ∙ slots_append (flat_map file_words xs) (flat_map file_words ys)
 
-pub slots_taken : (lines : List (List ℕ)) (line : List ℕ) (n : ℕ) (r : RegistryView) (code new bytes : List ℕ) → IsProgramFile lines (record { ctx_len = n; registry = r; code = code }) → code_slots (file_words line) ≡ Some bytes → new ≡ code ++ bytes → IsProgramFile (lines ++ line ∷ []) (record { ctx_len = n; registry = r; code = new })
+pub slots_taken : (lines : List (List ℕ)) (line : List ℕ) (n : ℕ) (r : RegistryView) (code new bytes : List ℕ) →
+    IsProgramFile lines (record { ctx_len = n; registry = r; code = code }) →
+    code_slots (file_words line) ≡ Some bytes → new ≡ code ++ bytes →
+    IsProgramFile (lines ++ line ∷ []) (record { ctx_len = n; registry = r; code = new })
 slots_taken lines line n r code new bytes h e added =
     let one : code_slots (flat_map file_words (line ∷ [])) ≡ Some bytes = ap code_slots (append-nil (file_words line)) ∙ e in
     record {
@@ -214,16 +278,22 @@ slots_taken lines line n r code new bytes h e added =
       code = lines_append h.code_lines (line ∷ []) ∙ ap₂ option_append h.code one ∙ ap Some (sym added);
     }
 
-pub slots_wrong : (lines : List (List ℕ)) (line : List ℕ) (c : FileContent) → IsProgramFile lines c → code_slots (file_words line) ≡ None → ¬ (IsFileBeginning (lines ++ line ∷ []))
+pub slots_wrong : (lines : List (List ℕ)) (line : List ℕ) (c : FileContent) → IsProgramFile lines c →
+    code_slots (file_words line) ≡ None → ¬ (IsFileBeginning (lines ++ line ∷ []))
 slots_wrong lines line c h e b =
     let k = b.2 in
     let whole : (h.first ∷ (h.map_lines ++ code_line ∷ (h.code_lines ++ line ∷ b.0))) ≡ k.first ∷ (k.map_lines ++ code_line ∷ k.code_lines) =
     ap (λ (ls : List (List ℕ)). h.first ∷ ls) (sym (append_assoc h.map_lines (code_line ∷ h.code_lines) (line ∷ b.0)))
     ∙ sym (append_assoc (h.first ∷ (h.map_lines ++ code_line ∷ h.code_lines)) (line ∷ []) b.0)
     ∙ sym (ap (λ ls. (ls ++ line ∷ []) ++ b.0) h.parts) ∙ k.parts in
-    let same = same_parts no_maps c.registry b.1.registry h.map_lines k.map_lines (h.code_lines ++ line ∷ b.0) k.code_lines h.maps k.maps (tails h.first k.first _ _ whole) in
-    let rest : code_slots (flat_map file_words (line ∷ b.0)) ≡ None = slots_append (file_words line) (flat_map file_words b.0) ∙ ap (λ s. option_append s (code_slots (flat_map file_words b.0))) e in
-    let none : code_slots (flat_map file_words k.code_lines) ≡ None = ap (λ ls. code_slots (flat_map file_words ls)) (sym same.1) ∙ lines_append h.code_lines (line ∷ b.0) ∙ ap (option_append (code_slots (flat_map file_words h.code_lines))) rest ∙ joined_none _ in
+    let same = same_parts no_maps c.registry b.1.registry h.map_lines k.map_lines (h.code_lines ++ line ∷ b.0)
+    k.code_lines h.maps k.maps (tails h.first k.first _ _ whole) in
+    let rest : code_slots (flat_map file_words (line ∷ b.0)) ≡ None =
+    slots_append (file_words line) (flat_map file_words b.0) ∙
+    ap (λ s. option_append s (code_slots (flat_map file_words b.0))) e in
+    let none : code_slots (flat_map file_words k.code_lines) ≡ None =
+    ap (λ ls. code_slots (flat_map file_words ls)) (sym same.1) ∙ lines_append h.code_lines (line ∷ b.0) ∙
+    ap (option_append (code_slots (flat_map file_words h.code_lines))) rest ∙ joined_none _ in
     none-some b.1.code (sym none ∙ k.code)
 
 -- no file ends there
@@ -269,31 +339,44 @@ not_code line literal r e f h same = absurd (false≢true (sym h ∙ e ∙ ap₂
 third : (a b c d : List ℕ) (xs ys : List (List ℕ)) → (a ∷ b ∷ xs) ≡ c ∷ d ∷ ys → xs ≡ ys
 third a b c d xs ys e = cc
 
-pub shape_words : (line word name1 name2 : List ℕ) (left : List (List ℕ)) (shape : MapShape) → file_words line ≡ word ∷ name1 ∷ left → IsMapLine line name2 shape → AreShapeWords left shape
+pub shape_words : (line word name1 name2 : List ℕ) (left : List (List ℕ)) (shape : MapShape) → file_words line ≡ word
+    ∷ name1 ∷ left → IsMapLine line name2 shape → AreShapeWords left shape
 shape_words line word name1 name2 left shape e h =
     subst (λ (n : List (List ℕ)). AreShapeWords n shape) (third (codes "map") name2 word name1 _ _ (sym h.words ∙ e)) h.shape_is
 
-pub context_refuses : (stage : Stage) (lines : List (List ℕ)) (line : List ℕ) (c : FileContent) → stage ≡ Context → ((n : ℕ) → ¬ (IsContextLine line n)) → IsAtStage stage lines c → ¬ (IsFileBeginning (lines ++ line ∷ []))
+pub context_refuses : (stage : Stage) (lines : List (List ℕ)) (line : List ℕ) (c : FileContent) → stage ≡ Context →
+    ((n : ℕ) → ¬ (IsContextLine line n)) → IsAtStage stage lines c → ¬ (IsFileBeginning (lines ++ line ∷ []))
 context_refuses stage lines line c e wrong h =
     let k = subst (λ (s : Stage). IsAtStage s lines c) e h in context_wrong lines line k.0 wrong
 
-pub maps_step : (stage : Stage) (lines : List (List ℕ)) (line : List ℕ) (c : FileContent) (s : RegistryView) (r : Result (Unit {0}) LineFault) → stage ≡ Maps → OnOk r (AddsMap c.registry line s) → IsAtStage stage lines c → OnOk r (IsAtStage stage (lines ++ line ∷ []) (record { ctx_len = c.ctx_len; registry = s; code = c.code }))
+pub maps_step : (stage : Stage) (lines : List (List ℕ)) (line : List ℕ) (c : FileContent) (s : RegistryView)
+    (r : Result (Unit {0}) LineFault) → stage ≡ Maps → OnOk r (AddsMap c.registry line s) → IsAtStage stage lines c →
+    OnOk r (IsAtStage stage (lines ++ line ∷ []) (record { ctx_len = c.ctx_len; registry = s; code = c.code }))
 maps_step stage lines line c s (Ok x) e added h =
     let k = subst (λ (t : Stage). IsAtStage t lines c) e h in
-    subst (λ (t : Stage). IsAtStage t (lines ++ line ∷ []) (record { ctx_len = c.ctx_len; registry = s; code = c.code })) (sym e) (map_taken lines line c.ctx_len c.registry s k.0 added, k.1)
+    subst (λ (t : Stage). IsAtStage t (lines ++ line ∷ [])
+    (record { ctx_len = c.ctx_len; registry = s; code = c.code })) (sym e)
+    (map_taken lines line c.ctx_len c.registry s k.0 added, k.1)
 maps_step stage lines line c s (Err f) e added h = tt
 
-pub maps_refuse : (stage : Stage) (lines : List (List ℕ)) (line : List ℕ) (c : FileContent) → stage ≡ Maps → line ≢ code_line → ((s : RegistryView) → ¬ (AddsMap c.registry line s)) → IsAtStage stage lines c → ¬ (IsFileBeginning (lines ++ line ∷ []))
+pub maps_refuse : (stage : Stage) (lines : List (List ℕ)) (line : List ℕ) (c : FileContent) → stage ≡ Maps →
+    line ≢ code_line → ((s : RegistryView) → ¬ (AddsMap c.registry line s)) → IsAtStage stage lines c →
+    ¬ (IsFileBeginning (lines ++ line ∷ []))
 maps_refuse stage lines line c e other wrong h =
     let k = subst (λ (t : Stage). IsAtStage t lines c) e h in map_wrong lines line c.ctx_len c.registry k.0 other wrong
 
-pub code_step : (stage : Stage) (lines : List (List ℕ)) (line : List ℕ) (c : FileContent) (new : List ℕ) (r : Result (Unit {0}) LineFault) → stage ≡ Code → OnOk r ((bytes : List ℕ) × (code_slots (file_words line) ≡ Some bytes) × (new ≡ c.code ++ bytes)) → IsAtStage stage lines c → OnOk r (IsAtStage stage (lines ++ line ∷ []) (record { ctx_len = c.ctx_len; registry = c.registry; code = new }))
+pub code_step : (stage : Stage) (lines : List (List ℕ)) (line : List ℕ) (c : FileContent) (new : List ℕ)
+    (r : Result (Unit {0}) LineFault) → stage ≡ Code →
+    OnOk r ((bytes : List ℕ) × (code_slots (file_words line) ≡ Some bytes) × (new ≡ c.code ++ bytes)) →
+    IsAtStage stage lines c → OnOk r (IsAtStage stage (lines ++ line ∷ [])
+    (record { ctx_len = c.ctx_len; registry = c.registry; code = new }))
 code_step stage lines line c new (Ok x) e added h =
     subst (λ (t : Stage). IsAtStage t (lines ++ line ∷ []) (record { ctx_len = c.ctx_len; registry = c.registry; code = new })) (sym e)
     (slots_taken lines line c.ctx_len c.registry c.code new added.0 (subst (λ (t : Stage). IsAtStage t lines c) e h) added.1 added.2)
 code_step stage lines line c new (Err f) e added h = tt
 
-pub code_refuses : (stage : Stage) (lines : List (List ℕ)) (line : List ℕ) (c : FileContent) → stage ≡ Code → code_slots (file_words line) ≡ None → IsAtStage stage lines c → ¬ (IsFileBeginning (lines ++ line ∷ []))
+pub code_refuses : (stage : Stage) (lines : List (List ℕ)) (line : List ℕ) (c : FileContent) → stage ≡ Code →
+    code_slots (file_words line) ≡ None → IsAtStage stage lines c → ¬ (IsFileBeginning (lines ++ line ∷ []))
 code_refuses stage lines line c e none h = slots_wrong lines line c (subst (λ (t : Stage). IsAtStage t lines c) e h) none
 
 pub unfinished : (stage : Stage) (lines : List (List ℕ)) (c d : FileContent) → stage ≢ Code → IsAtStage stage lines c → ¬ (IsProgramFile lines d)

@@ -20,17 +20,21 @@ no_value words one a s e none h =
     let f = h.words_are in
     absurd (none h.value (h.entries ∷ h.spare ∷ h.reuse ∷ []) s.value_len (cc) h.value_len)
 
-pub no_entries : (words one two : List (List ℕ)) (a b : List ℕ) (s : MapShape) → words ≡ a ∷ one → one ≡ b ∷ two → BeginsWithNone two → AreHashWords words s → MAX_REUSE < s.reuse_limit
+pub no_entries : (words one two : List (List ℕ)) (a b : List ℕ) (s : MapShape) → words ≡ a ∷ one → one ≡ b ∷ two →
+    BeginsWithNone two → AreHashWords words s → MAX_REUSE < s.reuse_limit
 no_entries words one two a b s e e2 none h =
     let f = h.words_are in
     absurd (none h.entries (h.spare ∷ h.reuse ∷ []) s.entries (cc) h.entries_is)
 
-pub no_spare : (words one two three : List (List ℕ)) (a b d : List ℕ) (s : MapShape) → words ≡ a ∷ one → one ≡ b ∷ two → two ≡ d ∷ three → BeginsWithNone three → AreHashWords words s → MAX_REUSE < s.reuse_limit
+pub no_spare : (words one two three : List (List ℕ)) (a b d : List ℕ) (s : MapShape) → words ≡ a ∷ one → one ≡ b ∷ two
+    → two ≡ d ∷ three → BeginsWithNone three → AreHashWords words s → MAX_REUSE < s.reuse_limit
 no_spare words one two three a b d s e e2 e3 none h =
     let f = h.words_are in
     absurd (none h.spare (h.reuse ∷ []) s.spare (cc) h.spare_is)
 
-pub no_reuse : (words one two three four : List (List ℕ)) (a b d g : List ℕ) (s : MapShape) → words ≡ a ∷ one → one ≡ b ∷ two → two ≡ d ∷ three → three ≡ g ∷ four → BeginsWithNone four → AreHashWords words s → MAX_REUSE < s.reuse_limit
+pub no_reuse : (words one two three four : List (List ℕ)) (a b d g : List ℕ) (s : MapShape) → words ≡ a ∷ one →
+    one ≡ b ∷ two → two ≡ d ∷ three → three ≡ g ∷ four → BeginsWithNone four → AreHashWords words s →
+    MAX_REUSE < s.reuse_limit
 no_reuse words one two three four a b d g s e e2 e3 e4 none h =
     let f = h.words_are in
     absurd (none h.reuse [] s.reuse_limit (cc) h.reuse_limit)

@@ -20,17 +20,21 @@ IsAt maps n =
     ((m : MapView) × (n < length maps) × (slice_get maps n ≡ Some m) × (get_or maps n m ≡ m))
     ⊎ ((length maps ≤ n) × (slice_get maps n ≡ None))
 
-more_by : (maps : List MapView) (n : ℕ) (s : MapShape) → IsAt maps n → option_map shape_of (slice_get maps n) ≡ Some s → map shape_of (take n maps) ++ s ∷ [] ≡ map shape_of (take (n + 1) maps)
+more_by : (maps : List MapView) (n : ℕ) (s : MapShape) → IsAt maps n → option_map shape_of (slice_get maps n) ≡ Some s
+    → map shape_of (take n maps) ++ s ∷ [] ≡ map shape_of (take (n + 1) maps)
 more_by maps n s (inl (m, inside, found, read)) e =
     let same : m.shape ≡ s = same_Some m.shape s (ap (option_map shape_of) (sym found) ∙ e) in
     let taken : take (n + 1) maps ≡ take n maps ++ m ∷ [] = take_more maps n m inside ∙ ap (λ (x : MapView). take n maps ++ x ∷ []) read in
-    let shapes : map shape_of (take (n + 1) maps) ≡ map shape_of (take n maps) ++ m.shape ∷ [] = ap (map shape_of) taken ∙ map-append shape_of (take n maps) (m ∷ []) in
+    let shapes : map shape_of (take (n + 1) maps) ≡ map shape_of (take n maps) ++ m.shape ∷ [] =
+    ap (map shape_of) taken ∙ map-append shape_of (take n maps) (m ∷ []) in
     sym (shapes ∙ ap (λ (x : MapShape). map shape_of (take n maps) ++ x ∷ []) same)
 more_by maps n s (inr (past, none)) e = absurd (none-some s (ap (option_map shape_of) (sym none) ∙ e))
 
 -- the shape of the map of a number, found or not
 
-pub shape_found : (maps : List MapView) (n id : ℕ) (r : Option MapShape) (s : MapShape) → id ≡ n → r ≡ option_map shape_of (slice_get maps id) → r ≡ Some s → map shape_of (take n maps) ++ s ∷ [] ≡ map shape_of (take (n + 1) maps)
+pub shape_found : (maps : List MapView) (n id : ℕ) (r : Option MapShape) (s : MapShape) → id ≡ n →
+    r ≡ option_map shape_of (slice_get maps id) → r ≡ Some s → map shape_of (take n maps) ++ s
+    ∷ [] ≡ map shape_of (take (n + 1) maps)
 shape_found maps n id r s same is found =
     more_by maps n s (slice_get_cases maps n).1 (ap (λ (k : ℕ). option_map shape_of (slice_get maps k)) (sym same) ∙ (sym is ∙ found))
 
@@ -38,11 +42,14 @@ none_is_past : (maps : List MapView) (n : ℕ) → IsAt maps n → option_map sh
 none_is_past maps n (inl (m, inside, found, read)) e below = none-some m.shape (sym e ∙ ap (option_map shape_of) found)
 none_is_past maps n (inr (past, none)) e below = omega arith
 
-pub shape_missing : (maps : List MapView) (n id : ℕ) (r : Option MapShape) → id ≡ n → r ≡ option_map shape_of (slice_get maps id) → r ≡ None → n < length maps → ⊥
+pub shape_missing : (maps : List MapView) (n id : ℕ) (r : Option MapShape) → id ≡ n →
+    r ≡ option_map shape_of (slice_get maps id) → r ≡ None → n < length maps → ⊥
 shape_missing maps n id r same is none below =
     none_is_past maps n (slice_get_cases maps n).1 (ap (λ (k : ℕ). option_map shape_of (slice_get maps k)) (sym same) ∙ (sym is ∙ none)) below
 
-pub verifier_told : (bytes : List ℕ) (s : Source) (r : ProgramRefusal) (v : Verdict) → IsSourceOf bytes s → IsToldOf s.program r → (IsPlainWithMaps s.program (shapes_of_maps s.registry.maps) → r ≡ Memory) → IsRefusalVerdict r v → IsCheckedRefusal bytes v
+pub verifier_told : (bytes : List ℕ) (s : Source) (r : ProgramRefusal) (v : Verdict) → IsSourceOf bytes s →
+    IsToldOf s.program r → (IsPlainWithMaps s.program (shapes_of_maps s.registry.maps) → r ≡ Memory) →
+    IsRefusalVerdict r v → IsCheckedRefusal bytes v
 verifier_told bytes s r v is found with_maps told = inr (record {
   source = s;
   is = is;

@@ -25,7 +25,8 @@ joined_nil (Some bytes) = refl
 -- a registry takes no such map
 
 abbrev fault_of : Bool → Bool → Bool → Bool → Option MapFault
-fault_of named taken shaped full = cond (not named) (Some BadName) (cond taken (Some NameTaken) (cond (not shaped) (Some BadShape) (cond full (Some TooMany) None)))
+fault_of named taken shaped full = cond (not named) (Some BadName)
+    (cond taken (Some NameTaken) (cond (not shaped) (Some BadShape) (cond full (Some TooMany) None)))
 
 sound : (named taken shaped full : Bool) → fault_of named taken shaped full ≡ None → (named ≡ true) × (shaped ≡ true)
 sound false taken shaped full e = absurd (let h : Some BadName ≡ None = e in cc)

@@ -1,5 +1,6 @@
 -- The lines of a text, read up to one of them.
-use Rattle.std.proofs.Common.{◌≡◌, ℕ, ◌+◌, ◌<◌, ◌≤◌, ◌==◌, Bool, false, not, List, [], ◌∷◌, ◌++◌, length, Bor, refl, sym, ap, subst, ◌∙◌, arith, append_assoc, append-nil, inl, inr}
+use Rattle.std.proofs.Common.{◌≡◌, ℕ, ◌+◌, ◌<◌, ◌≤◌, ◌==◌, Bool, false, not, List, [], ◌∷◌, ◌++◌, length, Bor, refl}
+use Rattle.std.proofs.Common.{sym, ap, subst, ◌∙◌, arith, append_assoc, append-nil, inl, inr}
 use Rattle.std.specs.Prelude.{Option, Some, None, MatchOption, Result, Ok, Err, IfOk, IfErr, MatchResult}
 use Rattle.std.proofs.lemmas.Bool.{false≢true}
 use Rattle.std.proofs.lemmas.Bool.Decides.{nat_tests}
@@ -24,16 +25,26 @@ pub record IsReadTo (text rest : List ℕ) (loading : Loading) (number : ℕ) : 
   pub room : number + length rest ≤ length text + 2
 
 -- the first line of a text that is not empty, and the lines of what is behind it
-pub lines_cut : (text front : List ℕ) (rest : Option (Bor (List ℕ))) (more : List ℕ) → 0 < length text → HasNoByte 10 front → MatchOption rest (text ≡ front) (λ r. text ≡ front ++ 10 ∷ r.now) → MatchOption rest (more ≡ []) (λ r. more ≡ r.now) → (file_lines text ≡ front ∷ file_lines more) × (length more < length text)
+pub lines_cut : (text front : List ℕ) (rest : Option (Bor (List ℕ))) (more : List ℕ) → 0 < length text →
+    HasNoByte 10 front → MatchOption rest (text ≡ front) (λ r. text ≡ front ++ 10 ∷ r.now) →
+    MatchOption rest (more ≡ []) (λ r. more ≡ r.now) → (file_lines text ≡ front ∷ file_lines more) ×
+    (length more < length text)
 lines_cut [] front None more some h e f = absurd (omega arith)
-lines_cut (b ∷ text) front None more some h e f =
-    (last_line b text (subst (HasNoByte 10) (sym e) h) ∙ ap (λ (l : List ℕ). l ∷ []) e ∙ ap (λ (m : List ℕ). front ∷ file_lines m) (sym f), let l : length more ≡ 0 = ap length f in omega arith)
+lines_cut (b ∷ text) front None more some h e f = (
+  last_line b text (subst (HasNoByte 10) (sym e) h) ∙ ap (λ (l : List ℕ). l ∷ []) e ∙
+      ap (λ (m : List ℕ). front ∷ file_lines m) (sym f),
+  let l : length more ≡ 0 = ap length f in omega arith,
+)
 lines_cut text front (Some r) more some h e f = (
   ap file_lines e ∙ first_line front r.now h ∙ ap (λ (m : List ℕ). front ∷ file_lines m) (sym f),
-  let a : length text ≡ length front + length (10 ∷ r.now) = ap length e ∙ length-append front (10 ∷ r.now) in let m : length more ≡ length r.now = ap length f in omega arith,
+  let a : length text ≡ length front + length (10 ∷ r.now) = ap length e ∙
+      length-append front (10 ∷ r.now) in let m : length more ≡ length r.now = ap length f in omega arith,
 )
 
-pub read_line : (text rest line more : List ℕ) (old new : Loading) (number : ℕ) → IsReadTo text rest old number → (file_lines rest ≡ line ∷ file_lines more) × (length more < length rest) → ((lines : List (List ℕ)) → HasLoaded lines old → HasLoaded (lines ++ line ∷ []) new) → IsReadTo text more new (number + 1)
+pub read_line : (text rest line more : List ℕ) (old new : Loading) (number : ℕ) → IsReadTo text rest old number →
+    (file_lines rest ≡ line ∷ file_lines more) × (length more < length rest) →
+    ((lines : List (List ℕ)) → HasLoaded lines old → HasLoaded (lines ++ line ∷ []) new) →
+    IsReadTo text more new (number + 1)
 read_line text rest line more old new number h cut taken = record {
   front = h.front ++ line ∷ [];
   lines = h.lines ∙ ap (λ ls. h.front ++ ls) cut.0 ∙ sym (append_assoc h.front (line ∷ []) (file_lines more));
@@ -42,7 +53,11 @@ read_line text rest line more old new number h cut taken = record {
   room = let r = h.room in let s = cut.1 in omega arith;
 }
 
-pub wrong_line : (text rest line more : List ℕ) (old : Loading) (number : ℕ) → IsReadTo text rest old number → (file_lines rest ≡ line ∷ file_lines more) × (length more < length rest) → ((lines : List (List ℕ)) → HasLoaded lines old → IsFileBeginning lines) → ((lines : List (List ℕ)) → HasLoaded lines old → ¬ (IsFileBeginning (lines ++ line ∷ []))) → IsFirstWrongLine (file_lines text) number
+pub wrong_line : (text rest line more : List ℕ) (old : Loading) (number : ℕ) → IsReadTo text rest old number →
+    (file_lines rest ≡ line ∷ file_lines more) × (length more < length rest) →
+    ((lines : List (List ℕ)) → HasLoaded lines old → IsFileBeginning lines) →
+    ((lines : List (List ℕ)) → HasLoaded lines old → ¬ (IsFileBeginning (lines ++ line ∷ []))) →
+    IsFirstWrongLine (file_lines text) number
 wrong_line text rest line more old number h cut begins wrong = record {
   front = h.front;
   rest = line ∷ file_lines more;
@@ -52,11 +67,16 @@ wrong_line text rest line more old number h cut begins wrong = record {
   wrong = wrong h.front h.loaded;
 }
 
-pub whole_file : (text rest : List ℕ) (old : Loading) (number : ℕ) (content : FileContent) → IsReadTo text rest old number → rest ≡ [] → ((lines : List (List ℕ)) → HasLoaded lines old → IsProgramFile lines content) → IsProgramFile (file_lines text) content
+pub whole_file : (text rest : List ℕ) (old : Loading) (number : ℕ) (content : FileContent) →
+    IsReadTo text rest old number → rest ≡ [] → ((lines : List (List ℕ)) → HasLoaded lines old →
+    IsProgramFile lines content) → IsProgramFile (file_lines text) content
 whole_file text rest old number content h e finished =
     subst (λ ls. IsProgramFile ls content) (sym (h.lines ∙ ap (λ r. h.front ++ file_lines r) e ∙ append-nil h.front)) (finished h.front h.loaded)
 
-pub short_file : (text rest : List ℕ) (old : Loading) (number : ℕ) → IsReadTo text rest old number → rest ≡ [] → ((lines : List (List ℕ)) → HasLoaded lines old → IsFileBeginning lines) → ((lines : List (List ℕ)) → HasLoaded lines old → (content : FileContent) → ¬ (IsProgramFile lines content)) → IsFirstWrongLine (file_lines text) number
+pub short_file : (text rest : List ℕ) (old : Loading) (number : ℕ) → IsReadTo text rest old number → rest ≡ [] →
+    ((lines : List (List ℕ)) → HasLoaded lines old → IsFileBeginning lines) →
+    ((lines : List (List ℕ)) → HasLoaded lines old → (content : FileContent) → ¬ (IsProgramFile lines content)) →
+    IsFirstWrongLine (file_lines text) number
 short_file text rest old number h e begins unfinished = record {
   front = h.front;
   rest = [];
@@ -85,7 +105,9 @@ not_both bytes n c h (inl k) =
     not_wrong (file_lines h.0) n c h.2 (subst (λ t. IsProgramFile (file_lines t) c) same k.2)
 not_both bytes n c h (inr k) = k.0 h.0 h.1
 
-pub only_content : (bytes : List ℕ) (c : FileContent) (r : Result ProgramFile LoadFault) → IfOk r (λ f. FileSays bytes (loaded_content f)) → IfErr r (IsLoadFault bytes) → FileSays bytes c → MatchResult r (λ f. loaded_content f ≡ c) (λ e. e ≡ Memory)
+pub only_content : (bytes : List ℕ) (c : FileContent) (r : Result ProgramFile LoadFault) →
+    IfOk r (λ f. FileSays bytes (loaded_content f)) → IfErr r (IsLoadFault bytes) → FileSays bytes c →
+    MatchResult r (λ f. loaded_content f ≡ c) (λ e. e ≡ Memory)
 only_content bytes c (Ok f) found fault says = one_says bytes (loaded_content f) c found says
 only_content bytes c (Err (BadFile n)) found fault says = absurd (not_both bytes n c fault says)
 only_content bytes c (Err Memory) found fault says = refl

@@ -10,7 +10,8 @@ use Rattle.bpf_model.specs.Places.{slot_total}
 use Rattle.bpf_model.specs.Step.{insn_at}
 use Rattle.program_graph.specs.declared.refusal.GraphFlaw.{GraphFlaw}
 use Rattle.program_graph.specs.declared.refusal.GraphFlaw.TheVariants.{JumpTarget, BackJump, FallsOff, Unreachable}
-use Rattle.program_graph.specs.GraphFlaws.{missing, landing_flaw, distance_flaw, jump_flaw, JumpsWell, IsFirstBadJump, IsFirstUnreachable, IsBadEnd, HasGraphFlaw, HasGoodGraph}
+use Rattle.program_graph.specs.GraphFlaws.{missing, landing_flaw, distance_flaw, jump_flaw, JumpsWell, IsFirstBadJump}
+use Rattle.program_graph.specs.GraphFlaws.{IsFirstUnreachable, IsBadEnd, HasGraphFlaw, HasGoodGraph}
 use Rattle.std.proofs.lemmas.Bool.{cases_lt, lt-leb}
 
 bad_not_well : (program : List Insn) (f : GraphFlaw) (s : ℕ) → IsFirstBadJump program f s → JumpsWell program → ⊥
@@ -60,7 +61,11 @@ one_flaw program BackJump FallsOff s t a b = absurd (bad_not_well program BackJu
 one_flaw program BackJump Unreachable s t a b = absurd (bad_not_well program BackJump s a b.jumps)
 one_flaw program FallsOff JumpTarget s t a b = absurd (bad_not_well program JumpTarget t b a.jumps)
 one_flaw program FallsOff BackJump s t a b = absurd (bad_not_well program BackJump t b a.jumps)
-one_flaw program FallsOff FallsOff s t a b = (refl, a.slot_is ∙ ap slot_total (same_from_push a.front b.front a.insn b.insn (sym a.last ∙ b.last)).0 ∙ sym b.slot_is)
+one_flaw program FallsOff FallsOff s t a b = (
+  refl,
+  a.slot_is ∙
+      ap slot_total (same_from_push a.front b.front a.insn b.insn (sym a.last ∙ b.last)).0 ∙ sym b.slot_is,
+)
 one_flaw program FallsOff Unreachable s t a b = absurd (bad_end_not_exit program s a b.last)
 one_flaw program Unreachable JumpTarget s t a b = absurd (bad_not_well program JumpTarget t b a.jumps)
 one_flaw program Unreachable BackJump s t a b = absurd (bad_not_well program BackJump t b a.jumps)
@@ -85,4 +90,9 @@ good_jump program slot i jumps = by (distance i) refl
         ∙ ap missing j.4
 
 pub forward_graph : (program : List Insn) → HasForwardGraph program → HasGoodGraph program
-forward_graph program graph = record { jumps = λ slot i at. good_jump program slot i (λ d e. graph.jumps slot i d at e); last = graph.last; reached = graph.reached }
+forward_graph program graph = record {
+  jumps = λ slot i at.
+      good_jump program slot i (λ d e. graph.jumps slot i d at e);
+  last = graph.last;
+  reached = graph.reached;
+}

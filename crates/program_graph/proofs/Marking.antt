@@ -31,7 +31,8 @@ pub record HasEdge (program : List Insn) (targets : List (Option ℕ)) (j k : �
   pub before : j < k
 
 module _ (program : List Insn) (targets : List (Option ℕ)) (long : length targets ≡ length program) (all : HasTargets program targets) where
-  falls_into : (j k slot p : ℕ) (i : Insn) → slice_get program j ≡ Some i → StartsAt program j slot → StartsAt program k p → p ≡ slot + slot_count i → (k ≡ suc j) × (j < k)
+  falls_into : (j k slot p : ℕ) (i : Insn) → slice_get program j ≡ Some i → StartsAt program j slot →
+      StartsAt program k p → p ≡ slot + slot_count i → (k ≡ suc j) × (j < k)
   falls_into j k slot p i e at there f =
       let before : slot < p = omega (arith, slot_count_some i) in
       let h : j < k = starts_ordered 0 program j k slot p at there before in
@@ -39,7 +40,8 @@ module _ (program : List Insn) (targets : List (Option ℕ)) (long : length targ
       let next : StartsAt program (suc j) (slot + slot_count i) = starts-next 0 program j slot i e at inside in
       (starts_apart 0 program k (suc j) p there (next ∙ ap Some (sym f)), h)
 
-  jumps_into : (j k slot p : ℕ) (i : Insn) (t : Option ℕ) → StartsAt program j slot → StartsAt program k p → JumpsTo i slot p → IsTarget program j i t → (t ≡ Some k) × (j < k)
+  jumps_into : (j k slot p : ℕ) (i : Insn) (t : Option ℕ) → StartsAt program j slot → StartsAt program k p →
+      JumpsTo i slot p → IsTarget program j i t → (t ≡ Some k) × (j < k)
   jumps_into j k slot p i None at there jumps none = absurd (let e : Some jumps.0 ≡ None = sym jumps.1 ∙ none in cc)
   jumps_into j k slot p i (Some u) at there jumps leads =
       let by : jumps.0 ≡ leads.by = same_Some _ _ (sym jumps.1 ∙ leads.by_is) in
@@ -49,7 +51,8 @@ module _ (program : List Insn) (targets : List (Option ℕ)) (long : length targ
       (ap Some same, subst (λ u. j < u) same leads.further)
 
   -- an edge by slots into an instruction's start is one by indexes
-  pub edge_into : (k slot p : ℕ) (i : Insn) → insn_at program slot ≡ Some i → GoesTo i slot p → StartsAt program k p → (j : ℕ) × HasEdge program targets j k i slot
+  pub edge_into : (k slot p : ℕ) (i : Insn) → insn_at program slot ≡ Some i → GoesTo i slot p → StartsAt program k p →
+      (j : ℕ) × HasEdge program targets j k i slot
   edge_into k slot p i e goes there = at goes
     where
       j : (j : ℕ) × (slice_get program j ≡ Some i) × StartsAt program j slot
@@ -67,7 +70,9 @@ module _ (program : List Insn) (targets : List (Option ℕ)) (long : length targ
           (j.0, record { insn = j.1; start = j.2; target = t.0; target_is = t.1; follows = inr r.0; before = r.1 })
 
   -- an index that follows another gives an edge between their slots
-  pub edge_from : (j k slot p : ℕ) (i : Insn) (t : Option ℕ) → slice_get program j ≡ Some i → slice_get targets j ≡ Some t → Follows i t j k → StartsAt program j slot → StartsAt program k p → GoesTo i slot p
+  pub edge_from : (j k slot p : ℕ) (i : Insn) (t : Option ℕ) → slice_get program j ≡ Some i →
+      slice_get targets j ≡ Some t → Follows i t j k → StartsAt program j slot → StartsAt program k p →
+      GoesTo i slot p
   edge_from j k slot p i t e f (inl g) at there =
       let inside : suc j < length program = omega (arith, start-inside program k p there, g.1) in
       let next : StartsAt program (suc j) (slot + slot_count i) = starts-next 0 program j slot i e at inside in
@@ -87,21 +92,25 @@ target_fits program k i None leads = tt
 target_fits program k i (Some t) leads = target_within program k i t leads
 
 -- a slot that is reached and isn't the first is reached along an edge
-pub reached_by : {program : List Insn} {p : ℕ} → Reached program p → (p ≡ 0) ⊎ ((slot : ℕ) × (i : Insn) × Reached program slot × (insn_at program slot ≡ Some i) × GoesTo i slot p)
+pub reached_by : {program : List Insn} {p : ℕ} → Reached program p → (p ≡ 0)
+    ⊎ ((slot : ℕ) × (i : Insn) × Reached program slot × (insn_at program slot ≡ Some i) × GoesTo i slot p)
 reached_by reached_entry = inl refl
 reached_by (reached_next slot target i r e g) = inr (slot, i, r, e, g)
 
 -- an instruction that follows a reached one is reached
-pub reached_on : (program : List Insn) (targets : List (Option ℕ)) (long : length targets ≡ length program) (all : HasTargets program targets) (j k : ℕ) (i : Insn) (t : Option ℕ)
+pub reached_on : (program : List Insn) (targets : List (Option ℕ)) (long : length targets ≡ length program)
+    (all : HasTargets program targets) (j k : ℕ) (i : Insn) (t : Option ℕ)
     → slice_get program j ≡ Some i → slice_get targets j ≡ Some t → Follows i t j k → IsInsnReached program j → IsInsnReached program k
 reached_on program targets long all j k i t e f follows r p there =
     let s = start_of-insn 0 program j i e in
     reached_next s.0 p i (r s.0 s.1) (start-insn program j s.0 i e s.1) (edge_from program targets long all j k s.0 p i t e f follows s.1 there)
 
 -- what is reached and lies behind instructions that are all done is marked
-module _ (program : List Insn) (targets : List (Option ℕ)) (long : length targets ≡ length program) (all : HasTargets program targets) (reached : List Bool) (k : ℕ)
+module _ (program : List Insn) (targets : List (Option ℕ)) (long : length targets ≡ length program)
+    (all : HasTargets program targets) (reached : List Bool) (k : ℕ)
     (first : slice_get reached 0 ≡ Some true)
-    (ahead : (j m : ℕ) (i : Insn) (t : Option ℕ) → j < k → slice_get program j ≡ Some i → slice_get targets j ≡ Some t → Follows i t j m → slice_get reached m ≡ Some true) where
+    (ahead : (j m : ℕ) (i : Insn) (t : Option ℕ) → j < k → slice_get program j ≡ Some i → slice_get targets j ≡ Some t
+    → Follows i t j m → slice_get reached m ≡ Some true) where
   pub marked : (p : ℕ) → StartsAt program k p → Reached program p → slice_get reached k ≡ Some true
   marked p there r = elim (reached_by r) [
     | inl e ↦
@@ -114,7 +123,8 @@ module _ (program : List Insn) (targets : List (Option ℕ)) (long : length targ
   ]
 
 -- one more instruction was marked from
-pub marks_sound : (program : List Insn) (targets : List (Option ℕ)) (long : length targets ≡ length program) (all : HasTargets program targets) (old new : List Bool) (k : ℕ) (i : Insn) (t : Option ℕ)
+pub marks_sound : (program : List Insn) (targets : List (Option ℕ)) (long : length targets ≡ length program)
+    (all : HasTargets program targets) (old new : List Bool) (k : ℕ) (i : Insn) (t : Option ℕ)
     → slice_get program k ≡ Some i → slice_get targets k ≡ Some t → IsInsnReached program k
     → ((j : ℕ) → slice_get old j ≡ Some true → IsInsnReached program j) → Marks i t k old new
     → (j : ℕ) → slice_get new j ≡ Some true → IsInsnReached program j
@@ -125,9 +135,11 @@ marks_sound program targets long all old new k i t e f r sound marks j g = elim 
 
 pub marks_ahead : (program : List Insn) (targets : List (Option ℕ)) (old new : List Bool) (k : ℕ) (insn : Insn) (target : Option ℕ)
     → slice_get program k ≡ Some insn → slice_get targets k ≡ Some target
-    → ((j m : ℕ) (i : Insn) (t : Option ℕ) → j < k → slice_get program j ≡ Some i → slice_get targets j ≡ Some t → Follows i t j m → slice_get old m ≡ Some true)
+    → ((j m : ℕ) (i : Insn) (t : Option ℕ) → j < k → slice_get program j ≡ Some i → slice_get targets j ≡ Some t →
+    Follows i t j m → slice_get old m ≡ Some true)
     → Marks insn target k old new
-    → (j m : ℕ) (i : Insn) (t : Option ℕ) → j < k + 1 → slice_get program j ≡ Some i → slice_get targets j ≡ Some t → Follows i t j m → slice_get new m ≡ Some true
+    → (j m : ℕ) (i : Insn) (t : Option ℕ) → j < k + 1 → slice_get program j ≡ Some i → slice_get targets j ≡ Some t →
+    Follows i t j m → slice_get new m ≡ Some true
 marks_ahead program targets old new k insn target here there ahead marks j m i t h e f follows = elim (cases_eq j k) [
   | inl g ↦
       let same_insn : i ≡ insn = same_Some _ _ (sym e ∙ ap (slice_get program) g ∙ here) in
@@ -136,5 +148,6 @@ marks_ahead program targets old new k insn target here there ahead marks j m i t
   | inr n ↦ marks.stays m (ahead j m i t (omega arith) e f follows)
 ]
 
-pub before_more : (program : List Insn) (k : ℕ) → IsInsnReached program k → ((j : ℕ) → j < k → IsInsnReached program j) → (j : ℕ) → j < k + 1 → IsInsnReached program j
+pub before_more : (program : List Insn) (k : ℕ) → IsInsnReached program k →
+    ((j : ℕ) → j < k → IsInsnReached program j) → (j : ℕ) → j < k + 1 → IsInsnReached program j
 before_more program k here before j h = elim (cases_eq j k) [ inl g ↦ subst (IsInsnReached program) (sym g) here | inr n ↦ before j (omega arith) ]

@@ -39,7 +39,9 @@ pub some_insn : (program : List Insn) → IsProgram program → 0 < length progr
 some_insn [] p = absurd (let h : 1 ≤ slot_total [] = p.some in omega (arith, h))
 some_insn (i ∷ is) p = omega arith
 
-pub bad_end : (program : List Insn) (starts : List ℕ) (k : ℕ) → IsProgram program → starts ≡ starts_from 0 program → k ≡ length program - 1 → JumpsWell program → (EndsWithExit program → ⊥) → HasGraphFlaw program FallsOff (slice_index_or starts k 0)
+pub bad_end : (program : List Insn) (starts : List ℕ) (k : ℕ) → IsProgram program → starts ≡ starts_from 0 program →
+    k ≡ length program - 1 → JumpsWell program → (EndsWithExit program → ⊥) →
+    HasGraphFlaw program FallsOff (slice_index_or starts k 0)
 bad_end program starts k p e at jumps not_exit =
     let r = last_of 0 k program (omega (arith, some_insn program p)) in
     record {
@@ -53,7 +55,9 @@ bad_end program starts k p e at jumps not_exit =
           ap (λ xs. slice_index_or xs k 0) e ∙ r.slot ∙ g;
     }
 
-pub unreachable_at : (program : List Insn) (starts : List ℕ) (k : ℕ) → starts ≡ starts_from 0 program → JumpsWell program → EndsWithExit program → IsFirstUnreached program k → HasGraphFlaw program Unreachable (slice_index_or starts k 0)
+pub unreachable_at : (program : List Insn) (starts : List ℕ) (k : ℕ) → starts ≡ starts_from 0 program →
+    JumpsWell program → EndsWithExit program → IsFirstUnreached program k →
+    HasGraphFlaw program Unreachable (slice_index_or starts k 0)
 unreachable_at program starts k e jumps last first =
     let at : StartsAt program k (slice_index_or starts k 0) = start_read program starts k e first.inside in
     let i = insn_of-start 0 program k (slice_index_or starts k 0) at in
@@ -66,7 +70,8 @@ unreachable_at program starts k e jumps last first =
       first = λ q j h f. (let r = index_here program q j f in first.first r.0 (starts_ordered 0 program r.0 k q (slice_index_or starts k 0) r.2 at h) q r.2);
     }
 
-pub good_graph : (program : List Insn) → JumpsWell program → EndsWithExit program → ((k : ℕ) → k < length program → IsInsnReached program k) → HasGoodGraph program
+pub good_graph : (program : List Insn) → JumpsWell program → EndsWithExit program →
+    ((k : ℕ) → k < length program → IsInsnReached program k) → HasGoodGraph program
 good_graph program jumps last reached = record {
   jumps = jumps;
   last = last;

@@ -1,5 +1,6 @@
 -- What a shared run asks is served by its seat, and it goes on.
-use Rattle.std.proofs.Common.{◌≡◌, ℕ, ◌+◌, ◌-◌, ◌*◌, ◌/◌, ◌%◌, ◌^◌, ◌<◌, ◌≤◌, ◌⊎◌, inl, inr, refl, sym, ap, subst, ◌∙◌, arith, List, [], ◌∷◌, ◌++◌, length, map, Option, Some, None, Bool, true, false, ℤ}
+use Rattle.std.proofs.Common.{◌≡◌, ℕ, ◌+◌, ◌-◌, ◌*◌, ◌/◌, ◌%◌, ◌^◌, ◌<◌, ◌≤◌, ◌⊎◌, inl, inr, refl, sym, ap, subst}
+use Rattle.std.proofs.Common.{◌∙◌, arith, List, [], ◌∷◌, ◌++◌, length, map, Option, Some, None, Bool, true, false, ℤ}
 use Rattle.std.specs.Prelude.{slice_get, option_map, pos, negsuc, ◌+ℤ◌, ◌==◌, nat_le, take, drop, if◌then◌else◌}
 use Rattle.std.proofs.lemmas.Bool.{cases_eq, false≢true, leb-true, ne_eqb}
 use Rattle.std.proofs.lemmas.Bool.Decides.{eqb_tells}
@@ -27,7 +28,9 @@ use Rattle.bpf_model.specs.Frame.{bytes_at, frame_bytes}
 use Rattle.bpf_model.specs.Element.{loaded_from, stored_in}
 use Rattle.bpf_model.specs.Operand.{operand_value}
 use Rattle.bpf_model.proofs.Places.{start-insn_at, starts_apart}
-use Rattle.bpf_model.specs.Request.{Request as Asked, LoadElement, StoreElement, CallHelper, Enter, Leave, MapArgument, BytesArgument, Argument, asks as asks_of, resumed, kernel_request as section_asked, signature_of, arguments_of}
+use Rattle.bpf_model.specs.Request.{Request as Asked, LoadElement, StoreElement, CallHelper, Enter, Leave}
+use Rattle.bpf_model.specs.Request.{MapArgument, BytesArgument, Argument, asks as asks_of, resumed}
+use Rattle.bpf_model.specs.Request.{kernel_request as section_asked, signature_of, arguments_of}
 use Rattle.bpf_model.specs.Spelling.{FitsInsn}
 use Rattle.bpf_model.specs.Step.{State, insn_at}
 use Rattle.bpf_model.specs.Value.{◌>>=◌}
@@ -69,7 +72,9 @@ use Rattle.read_table.specs.Serving.{CanAnswer, GoesOnWith, LeadsToWord}
 use Rattle.read_table.specs.SharedRuns.{closing, opening}
 use Rattle.read_table.specs.Sharing.{GoesFurther, IsSharing, flag_of}
 use Rattle.read_table.specs.Words.{ChangesMap, IsElementRegion, IsOtherWidth, access_width}
-use Rattle.read_table.proofs.Learning.{Reached, also, enter-learnt, hit-learnt, learnt-guarded, leave-learnt, load-learnt, miss-learnt, nest-learnt, no-array, none, not-array, store-learnt, unnest-learnt}
+use Rattle.read_table.proofs.Learning.{Reached, also, enter-learnt, hit-learnt, learnt-guarded, leave-learnt}
+use Rattle.read_table.proofs.Learning.{load-learnt, miss-learnt, nest-learnt, no-array, none, not-array, store-learnt}
+use Rattle.read_table.proofs.Learning.{unnest-learnt}
 use Rattle.read_table.proofs.Steps.{Known, aligned, are-hash, asking, known, listed, listed-shapes, onward, ready, served-step, shown, so, some, steps, waited}
 use Rattle.read_table.proofs.Stretches.{also-cases, inside-same, learnt-before, learnt-in}
 
@@ -102,30 +107,39 @@ module _ (k : TableShape) (c : Checked) (context : List ℕ) (ms : List Move) (v
     -- the elements around the run are all of those that it may have learnt
     load-reached : (n : ℕ) (o : ℤ) (width : ℕ) → Asks (LoadElement n o width) → Reached c.shapes n o width
     load-reached n o width e =
-        let s = replied.served c.program c.shapes c.ctx_len (some k c context ms v x).plan (some k c context ms v x).closed c.shapes run (shown k c context ms v x).described i here (LoadElement n o width) e in
+        let s = replied.served c.program c.shapes c.ctx_len (some k c context ms v x).plan
+        (some k c context ms v x).closed c.shapes run (shown k c context ms v x).described i here
+        (LoadElement n o width) e in
         let h = s.serves in
         let f = first-step (accessible (elements_around c.shapes (section_of run)) n) (loaded_from width o) h.0 h.1 in
         let g = first-step (region_offset (length f.0.value) width o) (λ at. number_at (slice_get f.0.value) at width) h.0 f.2 in
         let t = touched c.shapes (section_of run) n f.0 f.1 in
-        let long : length f.0.value ≡ value_length (slice_get c.shapes (map_of n)) = ap (λ (e : Element). length e.value) (sym t.is) ∙ length-replicate (value_length (slice_get c.shapes (map_of n))) 0 in
+        let long : length f.0.value ≡ value_length (slice_get c.shapes (map_of n)) =
+        ap (λ (e : Element). length e.value) (sym t.is) ∙
+        length-replicate (value_length (slice_get c.shapes (map_of n))) 0 in
         record { below = t.below; at = g.0; region = subst (λ len. region_offset len width o ≡ Some g.0) long g.1 }
 
     store-reached : (n : ℕ) (o : ℤ) (width w : ℕ) → Asks (StoreElement n o width w) → Reached c.shapes n o width
     store-reached n o width w e =
-        let s = replied.served c.program c.shapes c.ctx_len (some k c context ms v x).plan (some k c context ms v x).closed c.shapes run (shown k c context ms v x).described i here (StoreElement n o width w) e in
+        let s = replied.served c.program c.shapes c.ctx_len (some k c context ms v x).plan
+        (some k c context ms v x).closed c.shapes run (shown k c context ms v x).described i here
+        (StoreElement n o width w) e in
         let h = s.serves in
         let all = elements_around c.shapes (section_of run) in
         let f = first-step (accessible all n) (stored_in all n width o w) h.0 h.1 in
         let g = first-step (region_offset (length f.0.value) width o) _ h.0 f.2 in
         let t = touched c.shapes (section_of run) n f.0 f.1 in
-        let long : length f.0.value ≡ value_length (slice_get c.shapes (map_of n)) = ap (λ (e : Element). length e.value) (sym t.is) ∙ length-replicate (value_length (slice_get c.shapes (map_of n))) 0 in
+        let long : length f.0.value ≡ value_length (slice_get c.shapes (map_of n)) =
+        ap (λ (e : Element). length e.value) (sym t.is) ∙
+        length-replicate (value_length (slice_get c.shapes (map_of n))) 0 in
         record { below = t.below; at = g.0; region = subst (λ len. region_offset len width o ≡ Some g.0) long g.1 }
 
     -- the instruction has an index, and a region is noted for it
     index-there : slice_get c.program x.index ≡ Some i
     index-there =
         let r = start-insn_at 0 c.program run.state.place i here in
-        let same : r.0 ≡ x.index = starts_apart 0 c.program r.0 x.index run.state.place (r.2 ∙ ap Some (let z : 0 + run.state.place ≡ run.state.place = omega arith in z)) x.planned.at in
+        let same : r.0 ≡ x.index = starts_apart 0 c.program r.0 x.index run.state.place
+        (r.2 ∙ ap Some (let z : 0 + run.state.place ≡ run.state.place = omega arith in z)) x.planned.at in
         subst (λ j. slice_get c.program j ≡ Some i) same r.1
 
     region-noted : (region : Region) × (slice_get c.regions x.index ≡ Some region)
@@ -135,15 +149,19 @@ module _ (k : TableShape) (c : Checked) (context : List ℕ) (ms : List Move) (v
         get-below c.regions x.index (omega (arith, l, long))
 
     -- what is reached through a reference to an element was learnt
-    held-learnt : (n map : ℕ) → IsHeld (scene_of (store_of c.shapes (learnt_elements c.shapes (section_of run) x.learnt)) run) map n → x.learnt (region_of n) ≡ true
+    held-learnt : (n map : ℕ) → IsHeld (scene_of (store_of c.shapes
+        (learnt_elements c.shapes (section_of run) x.learnt)) run) map n → x.learnt (region_of n) ≡ true
     held-learnt n map h =
         let is = by-is (births c.shapes) (learnt_element c.shapes (section_of run) x.learnt) n h.element h.born in
         elim h.allowed [
-          | inl g ↦ learnt-guarded (x.learnt (region_of n)) (section_of run) (section_of run) (subst (λ (e : Element). IsGuarded e.life (section_of run)) (sym is) g.1)
+          | inl g ↦ learnt-guarded (x.learnt (region_of n)) (section_of run) (section_of run)
+              (subst (λ (e : Element). IsGuarded e.life (section_of run)) (sym is) g.1)
           | inr a ↦ absurd (not-array c.shapes (are-hash k c context ms v x) (learnt_elements c.shapes (section_of run) x.learnt) run map a)
         ]
 
-    by-region : (n : ℕ) (off : ℤ) (u : Value) (region : Region) → u ≡ Pointer (references.Elem n off) → IsInRegion (scene_of (store_of c.shapes (learnt_elements c.shapes (section_of run) x.learnt)) run) region u → IsElementRegion region × (x.learnt (region_of n) ≡ true)
+    by-region : (n : ℕ) (off : ℤ) (u : Value) (region : Region) → u ≡ Pointer (references.Elem n off) →
+        IsInRegion (scene_of (store_of c.shapes (learnt_elements c.shapes (section_of run) x.learnt)) run) region u →
+        IsElementRegion region × (x.learnt (region_of n) ≡ true)
     by-region n off u noted.None is q = absurd q
     by-region n off u noted.Ctx is q = let e : Pointer (references.Ctx q.0) ≡ Pointer (references.Elem n off) = sym q.1 ∙ is in absurd (cc)
     by-region n off u noted.Frame is q = let e : Pointer (references.Frame q.0) ≡ Pointer (references.Elem n off) = sym q.1 ∙ is in absurd (cc)
@@ -155,11 +173,24 @@ module _ (k : TableShape) (c : Checked) (context : List ℕ) (ms : List Move) (v
     word-of : (n : ℕ) (o : ℤ) (width : ℕ) → Reached c.shapes n o width → Accesses i n o width run.state → WordOf k ms x.learnt n o width
     word-of n o width r a =
         let region = region-noted in
-        let inside_region = x.justified.justified.regions x.index i a.base region.0 (scene_of (store_of c.shapes (learnt_elements c.shapes (section_of run) x.learnt)) run) run.state index-there a.base_is region.1 x.planned in
+        let inside_region = x.justified.justified.regions x.index i a.base region.0
+        (scene_of (store_of c.shapes (learnt_elements c.shapes (section_of run) x.learnt)) run) run.state
+        index-there a.base_is region.1 x.planned in
         let q = by-region n a.offset (run.state.regs a.base) region.0 a.refers inside_region in
         let wide : width ≡ 8 = elim (cases_eq width 8) [
           | inl e ↦ e
-          | inr e ↦ absurd (x.words (record { index = x.index; insn = i; there = index-there; uses = inl (record { other = subst IsOtherWidth (sym a.width_is) e; region = region.0; noted = region.1; element = q.0 }) }))
+          | inr e ↦ absurd (x.words (record {
+            index = x.index;
+            insn = i;
+            there = index-there;
+            uses =
+                inl (record {
+                  other = subst IsOtherWidth (sym a.width_is) e;
+                  region = region.0;
+                  noted = region.1;
+                  element = q.0;
+                });
+          }))
         ] in
         let shape = get-below c.shapes (map_of n) (map-below c.shapes n r.below) in
         let long : value_length (slice_get c.shapes (map_of n)) ≡ 8 * k.value_words = ap value_length shape.1 ∙ (x.fits (map_of n) shape.0 shape.1).1 in
@@ -178,23 +209,35 @@ module _ (k : TableShape) (c : Checked) (context : List ℕ) (ms : List Move) (v
         }
 
     -- The run goes on from a load.
-    load-goes : (n : ℕ) (o : ℤ) (width y : ℕ) → y < 2 ^ 64 → Asks (LoadElement n o width) → Reached c.shapes n o width → (w : WordOf k ms x.learnt n o width) → GoesFurther k c context (moves_by.Load (region_of n) (k.key_words + w.place) y ∷ ms) v (resumed_view i y v)
+    load-goes : (n : ℕ) (o : ℤ) (width y : ℕ) → y < 2 ^ 64 → Asks (LoadElement n o width) → Reached c.shapes n o width
+        → (w : WordOf k ms x.learnt n o width) → GoesFurther k c context
+        (moves_by.Load (region_of n) (k.key_words + w.place) y ∷ ms) v (resumed_view i y v)
     load-goes n o width y small e r w =
         let next = moves_run run (resumed i (Number y) run.state) in
         let low : y < 256 ^ width = subst (λ z. y < 256 ^ z) (sym w.wide) small in
         onward k c context ms v x (moves_by.Load (region_of n) (k.key_words + w.place) y ∷ ms) next (resumed_view i y v) x.learnt
         (λ plan closed. (so k c context ms v x plan closed i (LoadElement n o width) here e).goes_on (Number y) y next (y, low, refl) refl refl) refl refl
-        (load-learnt c.program c.shapes c.ctx_len (are-hash k c context ms v x) (some k c context ms v x).plan (some k c context ms v x).closed run (shown k c context ms v x).described x.learnt x.index x.planned i here n o width y low e r w.is_learnt next refl (shown k c context ms v x).described.going)
-        (served-step k c context ms v x i (LoadElement n o width) here e (moves_by.Load (region_of n) (k.key_words + w.place) y ∷ []) (Number y) next (w.place, y, w.wide, w.offset, w.within, w.slot, w.learnt_here, small, refl, refl) refl)
+        (load-learnt c.program c.shapes c.ctx_len (are-hash k c context ms v x) (some k c context ms v x).plan
+        (some k c context ms v x).closed run (shown k c context ms v x).described x.learnt x.index x.planned i
+        here n o width y low e r w.is_learnt next refl (shown k c context ms v x).described.going)
+        (served-step k c context ms v x i (LoadElement n o width) here e
+        (moves_by.Load (region_of n) (k.key_words + w.place) y ∷ []) (Number y) next
+        (w.place, y, w.wide, w.offset, w.within, w.slot, w.learnt_here, small, refl, refl) refl)
         x.known (x.section ∙ ap flag_of (shown k c context ms v x).words.depth)
 
-    store-goes : (n : ℕ) (o : ℤ) (width y word : ℕ) → Asks (StoreElement n o width y) → Reached c.shapes n o width → (w : WordOf k ms x.learnt n o width) → GoesFurther k c context (moves_by.Store (region_of n) (k.key_words + w.place) y ∷ ms) v (resumed_view i word v)
+    store-goes : (n : ℕ) (o : ℤ) (width y word : ℕ) → Asks (StoreElement n o width y) → Reached c.shapes n o width →
+        (w : WordOf k ms x.learnt n o width) → GoesFurther k c context
+        (moves_by.Store (region_of n) (k.key_words + w.place) y ∷ ms) v (resumed_view i word v)
     store-goes n o width y word e r w =
         let next = moves_run run (resumed i Nothing run.state) in
         onward k c context ms v x (moves_by.Store (region_of n) (k.key_words + w.place) y ∷ ms) next (resumed_view i word v) x.learnt
         (λ plan closed. (so k c context ms v x plan closed i (StoreElement n o width y) here e).goes_on Nothing word next refl tt refl) refl refl
-        (store-learnt c.program c.shapes c.ctx_len (are-hash k c context ms v x) (some k c context ms v x).plan (some k c context ms v x).closed run (shown k c context ms v x).described x.learnt x.index x.planned i here n o width y e r w.is_learnt next refl (shown k c context ms v x).described.going)
-        (served-step k c context ms v x i (StoreElement n o width y) here e (moves_by.Store (region_of n) (k.key_words + w.place) y ∷ []) Nothing next (w.place, w.wide, w.offset, w.within, w.slot, w.learnt_here, refl, refl) refl)
+        (store-learnt c.program c.shapes c.ctx_len (are-hash k c context ms v x) (some k c context ms v x).plan
+        (some k c context ms v x).closed run (shown k c context ms v x).described x.learnt x.index x.planned i
+        here n o width y e r w.is_learnt next refl (shown k c context ms v x).described.going)
+        (served-step k c context ms v x i (StoreElement n o width y) here e
+        (moves_by.Store (region_of n) (k.key_words + w.place) y ∷ []) Nothing next
+        (w.place, w.wide, w.offset, w.within, w.slot, w.learnt_here, refl, refl) refl)
         x.known (x.section ∙ ap flag_of (shown k c context ms v x).words.depth)
 
     -- the instruction at the run's place is this one
@@ -205,7 +248,9 @@ module _ (k : TableShape) (c : Checked) (context : List ℕ) (ms : List Move) (v
     goes-at ns word h = λ insn there. subst (λ (j : Insn). GoesFurther k c context ns v (resumed_view j word v)) (at-place v refl insn there) h
 
     -- where an address leads
-    leads : (n : ℕ) (o offset : ℤ) (width : Width) (address : ℕ) → WordIs region_bases (Pointer (references.Elem n o)) address → WordOf k ms x.learnt n (o +ℤ offset) (byte_count width) → LeadsToWord k ms address offset width
+    leads : (n : ℕ) (o offset : ℤ) (width : Width) (address : ℕ) →
+        WordIs region_bases (Pointer (references.Elem n o)) address →
+        WordOf k ms x.learnt n (o +ℤ offset) (byte_count width) → LeadsToWord k ms address offset width
     leads n o offset width address word w =
         let off = w.offset in
         record {
@@ -219,14 +264,18 @@ module _ (k : TableShape) (c : Checked) (context : List ℕ) (ms : List Move) (v
         }
 
     register : (q : ℕ) → q ≤ 10 → WordIs region_bases (run.state.regs q) (word_in v q)
-    register q l = register-word c.program c.shapes c.ctx_len (some k c context ms v x).plan (ready k c context ms v x (some k c context ms v x).plan (some k c context ms v x).closed) c.shapes run v (shown k c context ms v x) q l
+    register q l = register-word c.program c.shapes c.ctx_len (some k c context ms v x).plan
+        (ready k c context ms v x (some k c context ms v x).plan (some k c context ms v x).closed) c.shapes run v
+        (shown k c context ms v x) q l
 
     -- a key in the frame
     record KeyAt (word len : ℕ) (key : List ℕ) : Type 0 where
       pub inside : IsInFrame word len
       pub is : take len (drop (word - frame_base) v.frame) ≡ key
 
-    key-inside : (at len : ℕ) (key : List ℕ) (t : Bool) → nat_le (at + len) FRAME_BYTES ≡ t → (if t then bytes_at run.state.frame at len else None) ≡ Some key → (at + len ≤ FRAME_BYTES) × (bytes_at run.state.frame at len ≡ Some key)
+    key-inside : (at len : ℕ) (key : List ℕ) (t : Bool) → nat_le (at + len) FRAME_BYTES ≡ t →
+        (if t then bytes_at run.state.frame at len else None) ≡ Some key → (at + len ≤ FRAME_BYTES) ×
+        (bytes_at run.state.frame at len ≡ Some key)
     key-inside at len key true is h = (leb-true (at + len) FRAME_BYTES is, h)
     key-inside at len key false is h = absurd (none-some key h)
 
@@ -245,7 +294,10 @@ module _ (k : TableShape) (c : Checked) (context : List ℕ) (ms : List Move) (v
         record {
           inside = record { least = omega (arith, ints, w); inside = omega (arith, is, f.0) };
           is = ap (λ at. take len (drop at v.frame)) is
-              ∙ argument-bytes region_bases run.state.frame v.frame (byte-stands c.program c.shapes c.ctx_len (some k c context ms v x).plan (ready k c context ms v x (some k c context ms v x).plan (some k c context ms v x).closed) c.shapes run v s) len at key (omega (arith, f.0, long)) f.1;
+              ∙ argument-bytes region_bases run.state.frame v.frame
+              (byte-stands c.program c.shapes c.ctx_len (some k c context ms v x).plan
+              (ready k c context ms v x (some k c context ms v x).plan (some k c context ms v x).closed) c.shapes
+              run v s) len at key (omega (arith, f.0, long)) f.1;
         }
 
     -- a lookup
@@ -258,17 +310,22 @@ module _ (k : TableShape) (c : Checked) (context : List ℕ) (ms : List Move) (v
       pub bound : slice_get run.program.maps map ≡ Some map
       pub long : length key ≡ key_length (slice_get c.shapes map)
 
-    missed : (map : ℕ) (key : List ℕ) → Finds map key → (ns : List Move) → OnlySearches k ns → AnswersLookup k key ns None → GoesFurther k c context (ns ++ ms) v (resumed_view i 0 v)
+    missed : (map : ℕ) (key : List ℕ) → Finds map key → (ns : List Move) → OnlySearches k ns →
+        AnswersLookup k key ns None → GoesFurther k c context (ns ++ ms) v (resumed_view i 0 v)
     missed map key f ns searches answers =
         let next = moves_run run (resumed i (Number 0) run.state) in
         onward k c context ms v x (ns ++ ms) next (resumed_view i 0 v) x.learnt
         (λ plan closed. (so k c context ms v x plan closed i (Finding map key) here f.asked).goes_on (Number 0) 0 next (inl refl) refl refl) refl refl
-        (miss-learnt c.program c.shapes c.ctx_len (are-hash k c context ms v x) (some k c context ms v x).plan (some k c context ms v x).closed run (shown k c context ms v x).described x.learnt x.index x.planned i here map map key f.bound f.asked next refl (shown k c context ms v x).described.going)
+        (miss-learnt c.program c.shapes c.ctx_len (are-hash k c context ms v x) (some k c context ms v x).plan
+        (some k c context ms v x).closed run (shown k c context ms v x).described x.learnt x.index x.planned i
+        here map map key f.bound f.asked next refl (shown k c context ms v x).described.going)
         (served-step k c context ms v x i (Finding map key) here f.asked ns (Number 0) next (None, searches, answers, refl) refl)
         (λ slot e. ((x.known slot e).0, learnt-before k slot ns ms searches (x.known slot e).1))
         (inside-same k ns ms searches ∙ (x.section ∙ ap flag_of (shown k c context ms v x).words.depth))
 
-    hit : (map slot : ℕ) (key : List ℕ) → Finds map key → (ns : List Move) → OnlySearches k ns → AnswersLookup k key ns (Some slot) → GoesFurther k c context (ns ++ ms) v (resumed_view i (slot_base 0 slot) v)
+    hit : (map slot : ℕ) (key : List ℕ) → Finds map key → (ns : List Move) → OnlySearches k ns →
+        AnswersLookup k key ns (Some slot) → GoesFurther k c context (ns ++ ms) v
+        (resumed_view i (slot_base 0 slot) v)
     hit map slot key f ns searches answers =
         let reply : Value = Pointer (references.Elem (element_in_region map slot) (pos 0)) in
         let next = moves_run run (resumed i reply run.state) in
@@ -279,8 +336,12 @@ module _ (k : TableShape) (c : Checked) (context : List ℕ) (ms : List Move) (v
         let same : region_bases (element_in_region map slot) ≡ word = omega (arith, small) in
         let stands : WordIs region_bases reply word = omega (arith, ints, same) in
         onward k c context ms v x (ns ++ ms) next (resumed_view i word v) (also slot x.learnt)
-        (λ plan closed. (so k c context ms v x plan closed i (Finding map key) here f.asked).goes_on reply word next (inr (map, slot, f.bound, small, refl)) stands refl) refl refl
-        (hit-learnt c.program c.shapes c.ctx_len (are-hash k c context ms v x) (some k c context ms v x).plan (some k c context ms v x).closed run (shown k c context ms v x).described x.learnt x.index x.planned i here map map slot key f.below f.bound small f.asked f.long next refl (shown k c context ms v x).described.going)
+        (λ plan closed. (so k c context ms v x plan closed i (Finding map key) here f.asked).goes_on reply word next
+        (inr (map, slot, f.bound, small, refl)) stands refl) refl refl
+        (hit-learnt c.program c.shapes c.ctx_len (are-hash k c context ms v x) (some k c context ms v x).plan
+        (some k c context ms v x).closed run (shown k c context ms v x).described x.learnt x.index x.planned i
+        here map map slot key f.below f.bound small f.asked f.long next refl
+        (shown k c context ms v x).described.going)
         (served-step k c context ms v x i (Finding map key) here f.asked ns reply next (Some slot, searches, answers, refl) refl)
         (λ r e. elim (also-cases slot x.learnt r e) [
           | inl is ↦ (subst (λ j. j < k.slots) (sym is) in_table, subst (λ j. IsLearnt j (ns ++ ms)) (sym is) (learnt-in slot ns ms answers.1))
@@ -288,11 +349,14 @@ module _ (k : TableShape) (c : Checked) (context : List ℕ) (ms : List Move) (v
         ])
         (inside-same k ns ms searches ∙ (x.section ∙ ap flag_of (shown k c context ms v x).words.depth))
 
-    found : (map : ℕ) (key : List ℕ) → Finds map key → (ns : List Move) (o : Option ℕ) → OnlySearches k ns → AnswersLookup k key ns o → GoesFurther k c context (ns ++ ms) v (resumed_view i (found_word 0 o) v)
+    found : (map : ℕ) (key : List ℕ) → Finds map key → (ns : List Move) (o : Option ℕ) → OnlySearches k ns →
+        AnswersLookup k key ns o → GoesFurther k c context (ns ++ ms) v (resumed_view i (found_word 0 o) v)
     found map key f ns None searches answers = missed map key f ns searches answers
     found map key f ns (Some slot) searches answers = hit map slot key f ns searches answers
 
-    pub looks-up : (arguments : List Argument) → LooksUp i → Asks (CallHelper Lookup arguments) → arguments_of (signature_of Lookup).arguments (listed k c context ms v x) run.state 1 ≡ Some arguments → CanAnswer k c context ms v (requests.Call Lookup)
+    pub looks-up : (arguments : List Argument) → LooksUp i → Asks (CallHelper Lookup arguments) →
+        arguments_of (signature_of Lookup).arguments (listed k c context ms v x) run.state 1 ≡ Some arguments →
+        CanAnswer k c context ms v (requests.Call Lookup)
     looks-up arguments lookup asked e =
         let l = lookup-asked (listed k c context ms v x) run.state arguments e in
         let shape : slice_get c.shapes l.map ≡ Some l.shape = ap (λ (f : ℕ → Option MapShape). f l.map) (listed-shapes k c context ms v x) ∙ l.shape_is in
@@ -305,7 +369,9 @@ module _ (k : TableShape) (c : Checked) (context : List ℕ) (ms : List Move) (v
           bound = ap (λ (p : Loaded). slice_get p.maps l.map) x.program ∙ get-range (length c.shapes) l.map below;
           long = l.long ∙ sym (ap key_length shape);
         } in
-        let deep : 0 < run.depth = elim (x.justified.justified.looked_up x.index i (scene_of (store_of c.shapes (learnt_elements c.shapes (section_of run) x.learnt)) run) run.state index-there lookup x.planned) [
+        let deep : 0 < run.depth = elim (x.justified.justified.looked_up x.index i
+        (scene_of (store_of c.shapes (learnt_elements c.shapes (section_of run) x.learnt)) run) run.state
+        index-there lookup x.planned) [
           | inl inside ↦ inside
           | inr a ↦ absurd (no-array c.shapes (are-hash k c context ms v x) a.0 a.2)
         ] in
@@ -339,7 +405,9 @@ module _ (k : TableShape) (c : Checked) (context : List ℕ) (ms : List Move) (v
         let deeper : next.depth ≡ 1 = omega (arith, outside) in
         goes-at (moves_by.Open ∷ ms) word (onward k c context ms v x (moves_by.Open ∷ ms) next (resumed_view i word v) none
         (λ plan closed. (so k c context ms v x plan closed i Enter here asked).goes_on Nothing word next refl tt (room, refl)) refl refl
-        (enter-learnt c.program c.shapes c.ctx_len (are-hash k c context ms v x) (some k c context ms v x).plan (some k c context ms v x).closed run s.described x.learnt x.index x.planned i here outside asked next (room, refl) s.described.going)
+        (enter-learnt c.program c.shapes c.ctx_len (are-hash k c context ms v x) (some k c context ms v x).plan
+        (some k c context ms v x).closed run s.described x.learnt x.index x.planned i here outside asked next
+        (room, refl) s.described.going)
         (served-step k c context ms v x i Enter here asked (moves_by.Open ∷ []) Nothing next (sym (ap opening outside), refl) (room, refl))
         (λ slot e. absurd (false≢true e)) (sym (ap flag_of deeper)))
 
@@ -348,10 +416,13 @@ module _ (k : TableShape) (c : Checked) (context : List ℕ) (ms : List Move) (v
     enters-again asked room inside_one word =
         let s = shown k c context ms v x in
         let next = moves_run (locked run) (resumed i Nothing run.state) in
-        let none_is : [] ≡ opening run.depth = sym (ap (λ b. if b then moves_by.Open ∷ [] else []) (ne_eqb run.depth 0 (λ e. absurd (omega (arith, inside_one, e))))) in
+        let none_is : [] ≡ opening run.depth = sym (ap (λ b. if b then moves_by.Open ∷ [] else [])
+        (ne_eqb run.depth 0 (λ e. absurd (omega (arith, inside_one, e))))) in
         goes-at ms word (onward k c context ms v x ms next (resumed_view i word v) x.learnt
         (λ plan closed. (so k c context ms v x plan closed i Enter here asked).goes_on Nothing word next refl tt (room, refl)) refl refl
-        (nest-learnt c.program c.shapes c.ctx_len (are-hash k c context ms v x) (some k c context ms v x).plan (some k c context ms v x).closed run s.described x.learnt x.index x.planned i here inside_one asked next (room, refl) s.described.going)
+        (nest-learnt c.program c.shapes c.ctx_len (are-hash k c context ms v x) (some k c context ms v x).plan
+        (some k c context ms v x).closed run s.described x.learnt x.index x.planned i here inside_one asked next
+        (room, refl) s.described.going)
         (served-step k c context ms v x i Enter here asked [] Nothing next (none_is, refl) (room, refl))
         x.known (x.section ∙ ap flag_of depth-shown ∙ deep-flag run.depth inside_one ∙ sym (deep-flag next.depth (omega (arith, inside_one)))))
 
@@ -362,7 +433,9 @@ module _ (k : TableShape) (c : Checked) (context : List ℕ) (ms : List Move) (v
         record {
           goes_on = subst EntersBy (sym depth-shown) (elim (eqb_tells run.depth 0) [
             | inl (t, outside) ↦ subst EntersBy (sym outside) (enters-first asked room outside)
-            | inr (t, deep) ↦ (λ word. subst (λ ns. GoesOnWith k c context (ns ++ ms) v word) (sym (ap (λ b. if b then moves_by.Open ∷ [] else []) t)) (enters-again asked room (omega (arith, deep)) word))
+            | inr (t, deep) ↦ (λ word. subst (λ ns. GoesOnWith k c context (ns ++ ms) v word)
+                (sym (ap (λ b. if b then moves_by.Open ∷ [] else []) t))
+                (enters-again asked room (omega (arith, deep)) word))
           ]);
         }
 
@@ -374,7 +447,9 @@ module _ (k : TableShape) (c : Checked) (context : List ℕ) (ms : List Move) (v
         let ended : next.depth ≡ 0 = omega (arith, inside_one) in
         goes-at (moves_by.Close ∷ ms) word (onward k c context ms v x (moves_by.Close ∷ ms) next (resumed_view i word v) none
         (λ plan closed. (so k c context ms v x plan closed i Leave here asked).goes_on Nothing word next refl tt (within, refl)) refl refl
-        (leave-learnt c.program c.shapes c.ctx_len (are-hash k c context ms v x) (some k c context ms v x).plan (some k c context ms v x).closed run s.described x.learnt x.index x.planned i here inside_one asked next (within, refl) s.described.going)
+        (leave-learnt c.program c.shapes c.ctx_len (are-hash k c context ms v x) (some k c context ms v x).plan
+        (some k c context ms v x).closed run s.described x.learnt x.index x.planned i here inside_one asked next
+        (within, refl) s.described.going)
         (served-step k c context ms v x i Leave here asked (moves_by.Close ∷ []) Nothing next (sym (ap closing inside_one), refl) (within, refl))
         (λ slot e. absurd (false≢true e)) (sym (ap flag_of ended)))
 
@@ -384,10 +459,13 @@ module _ (k : TableShape) (c : Checked) (context : List ℕ) (ms : List Move) (v
         let s = shown k c context ms v x in
         let within : 0 < run.depth = omega (arith, deep) in
         let next = moves_run (unlocked run) (resumed i Nothing run.state) in
-        let none_is : [] ≡ closing run.depth = sym (ap (λ b. if b then moves_by.Close ∷ [] else []) (ne_eqb run.depth 1 (λ e. absurd (omega (arith, deep, e))))) in
+        let none_is : [] ≡ closing run.depth = sym (ap (λ b. if b then moves_by.Close ∷ [] else [])
+        (ne_eqb run.depth 1 (λ e. absurd (omega (arith, deep, e))))) in
         goes-at ms word (onward k c context ms v x ms next (resumed_view i word v) x.learnt
         (λ plan closed. (so k c context ms v x plan closed i Leave here asked).goes_on Nothing word next refl tt (within, refl)) refl refl
-        (unnest-learnt c.program c.shapes c.ctx_len (are-hash k c context ms v x) (some k c context ms v x).plan (some k c context ms v x).closed run s.described x.learnt x.index x.planned i here deep asked next (within, refl) s.described.going)
+        (unnest-learnt c.program c.shapes c.ctx_len (are-hash k c context ms v x) (some k c context ms v x).plan
+        (some k c context ms v x).closed run s.described x.learnt x.index x.planned i here deep asked next
+        (within, refl) s.described.going)
         (served-step k c context ms v x i Leave here asked [] Nothing next (none_is, refl) (within, refl))
         x.known (x.section ∙ ap flag_of depth-shown ∙ deep-flag run.depth within ∙ sym (deep-flag next.depth (omega (arith, deep)))))
 
@@ -400,22 +478,41 @@ module _ (k : TableShape) (c : Checked) (context : List ℕ) (ms : List Move) (v
           inside = omega (arith, within, depth);
           goes_on = subst LeavesBy (sym depth-shown) (elim (eqb_tells run.depth 1) [
             | inl (t, one) ↦ subst LeavesBy (sym one) (leaves-last asked within one)
-            | inr (t, more) ↦ (λ word. subst (λ ns. GoesOnWith k c context (ns ++ ms) v word) (sym (ap (λ b. if b then moves_by.Close ∷ [] else []) t)) (leaves-inner asked (omega (arith, within, more)) word))
+            | inr (t, more) ↦ (λ word. subst (λ ns. GoesOnWith k c context (ns ++ ms) v word)
+                (sym (ap (λ b. if b then moves_by.Close ∷ [] else []) t))
+                (leaves-inner asked (omega (arith, within, more)) word))
           ]);
         }
 
     changes-none : (helper : Helper) (imm : ℤ) → i ≡ Call kinds.Helper imm → helper_of imm ≡ Some helper → (helper ≡ Update) ⊎ (helper ≡ Delete) → ⊥
-    changes-none helper imm is e (inl u) = x.words (record { index = x.index; insn = i; there = index-there; uses = inr (subst (λ (j : Insn). ChangesMap j) (sym is) (inl (e ∙ ap Some u))) })
-    changes-none helper imm is e (inr d) = x.words (record { index = x.index; insn = i; there = index-there; uses = inr (subst (λ (j : Insn). ChangesMap j) (sym is) (inr (e ∙ ap Some d))) })
+    changes-none helper imm is e (inl u) = x.words (record {
+      index = x.index;
+      insn = i;
+      there = index-there;
+      uses =
+          inr (subst (λ (j : Insn). ChangesMap j) (sym is) (inl (e ∙ ap Some u)));
+    })
+    changes-none helper imm is e (inr d) = x.words (record {
+      index = x.index;
+      insn = i;
+      there = index-there;
+      uses =
+          inr (subst (λ (j : Insn). ChangesMap j) (sym is) (inr (e ∙ ap Some d)));
+    })
 
   insn-real-at : (i : Insn) → Known k c context ms v x i → FitsInsn i
-  insn-real-at i here = insn-real c.program c.shapes c.ctx_len (some k c context ms v x).plan (ready k c context ms v x (some k c context ms v x).plan (some k c context ms v x).closed) c.shapes run v (shown k c context ms v x) i here
+  insn-real-at i here = insn-real c.program c.shapes c.ctx_len (some k c context ms v x).plan
+      (ready k c context ms v x (some k c context ms v x).plan (some k c context ms v x).closed) c.shapes run v
+      (shown k c context ms v x) i here
 
   abbrev Goal : Request → Type 0
   Goal request = CanAnswer k c context ms v request
 
-  loads-by : (i : Insn) (here : Known k c context ms v x i) (width : Width) (src : ℕ) (offset : ℤ) (b : Bool) (asked : Asked) → src ≤ 10 → base_of i ≡ Some src → access_width i ≡ Some (byte_count width)
-      → asks_of i (listed k c context ms v x) run.state ≡ Some asked → LoadAsked (byte_count width) offset (run.state.regs src) b asked → Goal (requests.Load (word_in v src) offset width)
+  loads-by : (i : Insn) (here : Known k c context ms v x i) (width : Width) (src : ℕ) (offset : ℤ) (b : Bool)
+      (asked : Asked) → src ≤ 10 → base_of i ≡ Some src → access_width i ≡ Some (byte_count width)
+      → asks_of i (listed k c context ms v x) run.state ≡ Some asked →
+      LoadAsked (byte_count width) offset (run.state.regs src) b asked →
+      Goal (requests.Load (word_in v src) offset width)
   unfolding leads word-of
   loads-by i here width src offset b asked l base wide e a =
       let width_bytes = byte_count width in
@@ -424,58 +521,80 @@ module _ (k : TableShape) (c : Checked) (context : List ℕ) (ms : List Move) (v
       let w = word-of i here a.n (a.o +ℤ offset) width_bytes r (record { base = src; offset = a.o; base_is = base; refers = a.base_is; width_is = wide }) in
       record {
         leads = leads i here a.n a.o offset width (word_in v src) (subst (λ u. WordIs region_bases u (word_in v src)) a.base_is (register i here src l)) w;
-        goes_on = λ y small. goes-at i here (moves_by.Load (region_of a.n) (k.key_words + w.place) y ∷ ms) y (load-goes i here a.n (a.o +ℤ offset) width_bytes y small asks r w);
+        goes_on = λ y small. goes-at i here (moves_by.Load (region_of a.n) (k.key_words + w.place) y ∷ ms) y
+            (load-goes i here a.n (a.o +ℤ offset) width_bytes y small asks r w);
       }
 
-  stores-by : (i : Insn) (here : Known k c context ms v x i) (width : Width) (dst : ℕ) (offset : ℤ) (value : Value) (number : ℕ) (asked : Asked) → dst ≤ 10 → base_of i ≡ Some dst → access_width i ≡ Some (byte_count width)
-      → asks_of i (listed k c context ms v x) run.state ≡ Some asked → WordIs region_bases value number → StoreAsked (byte_count width) offset value (run.state.regs dst) asked → Goal (requests.Store (word_in v dst) offset width number)
+  stores-by : (i : Insn) (here : Known k c context ms v x i) (width : Width) (dst : ℕ) (offset : ℤ) (value : Value)
+      (number : ℕ) (asked : Asked) → dst ≤ 10 → base_of i ≡ Some dst → access_width i ≡ Some (byte_count width)
+      → asks_of i (listed k c context ms v x) run.state ≡ Some asked → WordIs region_bases value number →
+      StoreAsked (byte_count width) offset value (run.state.regs dst) asked →
+      Goal (requests.Store (word_in v dst) offset width number)
   unfolding leads word-of
   stores-by i here width dst offset value number asked l base wide e word a =
       let width_bytes = byte_count width in
       let same : number ≡ a.x = subst (λ u. WordIs region_bases u number) a.value_is word in
-      let asks : asks_of i (listed k c context ms v x) run.state ≡ Some (StoreElement a.n (a.o +ℤ offset) width_bytes number) = e ∙ ap Some (sym a.request_is) ∙ ap (λ n. Some (StoreElement a.n (a.o +ℤ offset) width_bytes n)) (sym same) in
+      let asks : asks_of i (listed k c context ms v x) run.state ≡ Some
+      (StoreElement a.n (a.o +ℤ offset) width_bytes number) = e ∙ ap Some (sym a.request_is) ∙
+      ap (λ n. Some (StoreElement a.n (a.o +ℤ offset) width_bytes n)) (sym same) in
       let r = store-reached i here a.n (a.o +ℤ offset) width_bytes number asks in
       let w = word-of i here a.n (a.o +ℤ offset) width_bytes r (record { base = dst; offset = a.o; base_is = base; refers = a.base_is; width_is = wide }) in
       record {
         leads = leads i here a.n a.o offset width (word_in v dst) (subst (λ u. WordIs region_bases u (word_in v dst)) a.base_is (register i here dst l)) w;
-        goes_on = λ reply. goes-at i here (moves_by.Store (region_of a.n) (k.key_words + w.place) number ∷ ms) reply (store-goes i here a.n (a.o +ℤ offset) width_bytes number reply asks r w);
+        goes_on = λ reply. goes-at i here (moves_by.Store (region_of a.n) (k.key_words + w.place) number ∷ ms) reply
+            (store-goes i here a.n (a.o +ℤ offset) width_bytes number reply asks r w);
       }
 
-  by-function : (i : Insn) (here : Known k c context ms v x i) (f : KernelFunction) → asks_of i (listed k c context ms v x) run.state ≡ Some (section_asked f) → Goal (kernel_request f)
+  by-function : (i : Insn) (here : Known k c context ms v x i) (f : KernelFunction) →
+      asks_of i (listed k c context ms v x) run.state ≡ Some (section_asked f) → Goal (kernel_request f)
   by-function i here ReadLock e = enters i here e
   by-function i here ReadUnlock e = leaves i here e
 
-  by-helper : (imm : ℤ) (here : Known k c context ms v x (Call kinds.Helper imm)) (helper : Helper) (arguments : List Argument) → helper_of imm ≡ Some helper → arguments_of (signature_of helper).arguments (listed k c context ms v x) run.state 1 ≡ Some arguments
+  by-helper : (imm : ℤ) (here : Known k c context ms v x (Call kinds.Helper imm)) (helper : Helper)
+      (arguments : List Argument) → helper_of imm ≡ Some helper →
+      arguments_of (signature_of helper).arguments (listed k c context ms v x) run.state 1 ≡ Some arguments
       → asks_of (Call kinds.Helper imm) (listed k c context ms v x) run.state ≡ Some (CallHelper helper arguments) → Goal (requests.Call helper)
   by-helper imm here Lookup arguments e of asks = looks-up (Call kinds.Helper imm) here arguments e asks of
   by-helper imm here Update arguments e of asks = changes-none (Call kinds.Helper imm) here Update imm refl e (inl refl)
   by-helper imm here Delete arguments e of asks = changes-none (Call kinds.Helper imm) here Delete imm refl e (inr refl)
 
-  by-insn : (i : Insn) (here : Known k c context ms v x i) (request : Request) (asked : Asked) → request_of i v ≡ Some request → asks_of i (listed k c context ms v x) run.state ≡ Some asked → Goal request
+  by-insn : (i : Insn) (here : Known k c context ms v x i) (request : Request) (asked : Asked) →
+      request_of i v ≡ Some request → asks_of i (listed k c context ms v x) run.state ≡ Some asked → Goal request
   by-insn (Load width dst src offset) here request asked of e =
       let real = insn-real-at (Load width dst src offset) here in
-      subst Goal (same_Some _ request of) (loads-by (Load width dst src offset) here width src offset (dst == 10) asked real.1 refl refl e (load-asked (byte_count width) offset (run.state.regs src) (dst == 10) asked e))
+      subst Goal (same_Some _ request of) (loads-by (Load width dst src offset) here width src offset (dst == 10)
+      asked real.1 refl refl e (load-asked (byte_count width) offset (run.state.regs src) (dst == 10) asked e))
   by-insn (LoadSigned width dst src offset) here request asked of e =
       let real = insn-real-at (LoadSigned width dst src offset) here in
-      subst Goal (same_Some _ request of) (loads-by (LoadSigned width dst src offset) here (unsigned_width width) src offset (dst == 10) asked real.1 refl refl e (load-asked (byte_count (unsigned_width width)) offset (run.state.regs src) (dst == 10) asked e))
+      subst Goal (same_Some _ request of) (loads-by (LoadSigned width dst src offset) here (unsigned_width width) src
+      offset (dst == 10) asked real.1 refl refl e (load-asked (byte_count (unsigned_width width)) offset
+      (run.state.regs src) (dst == 10) asked e))
   by-insn (Store width dst offset src) here request asked of e =
       let real = insn-real-at (Store width dst offset src) here in
-      subst Goal (same_Some _ request of) (stores-by (Store width dst offset src) here width dst offset (operand_value src run.state.regs) (operand_word v src) asked real.0 refl refl e
-      (operand-stands c.program c.shapes c.ctx_len (some k c context ms v x).plan (ready k c context ms v x (some k c context ms v x).plan (some k c context ms v x).closed) c.shapes run v (shown k c context ms v x) src real.1)
+      subst Goal (same_Some _ request of) (stores-by (Store width dst offset src) here width dst offset
+      (operand_value src run.state.regs) (operand_word v src) asked real.0 refl refl e
+      (operand-stands c.program c.shapes c.ctx_len (some k c context ms v x).plan
+      (ready k c context ms v x (some k c context ms v x).plan (some k c context ms v x).closed) c.shapes run v
+      (shown k c context ms v x) src real.1)
       (store-asked (byte_count width) offset (operand_value src run.state.regs) (run.state.regs dst) asked e))
   by-insn (Call kinds.Kernel imm) here request asked of e =
       let f = first-step (kernel_function_of imm) (λ function. Some (section_asked function)) asked e in
       let same : kernel_request f.0 ≡ request = same_Some (kernel_request f.0) request (sym (ap (option_map kernel_request) f.1) ∙ of) in
       subst Goal same (by-function (Call kinds.Kernel imm) here f.0 (e ∙ sym f.2))
   by-insn (Call kinds.Helper imm) here request asked of e =
-      let f = first-step (helper_of imm) (λ helper. arguments_of (signature_of helper).arguments (listed k c context ms v x) run.state 1 >>= λ arguments. Some (CallHelper helper arguments)) asked e in
-      let g = first-step (arguments_of (signature_of f.0).arguments (listed k c context ms v x) run.state 1) (λ arguments. Some (CallHelper f.0 arguments)) asked f.2 in
+      let f = first-step (helper_of imm) (λ helper. arguments_of (signature_of helper).arguments
+      (listed k c context ms v x) run.state 1 >>= λ arguments. Some (CallHelper helper arguments)) asked e in
+      let g = first-step (arguments_of (signature_of f.0).arguments (listed k c context ms v x) run.state 1)
+      (λ arguments. Some (CallHelper f.0 arguments)) asked f.2 in
       let same : requests.Call f.0 ≡ request = same_Some (requests.Call f.0) request (sym (ap (option_map requests.Call) f.1) ∙ of) in
       subst Goal same (by-helper imm here f.0 g.0 f.1 g.1 (e ∙ sym g.2))
   by-insn i here request asked of e = absurd (none-some request of)
 
   -- whatever the words of the run ask can be served
-  pub can-serve : (request : Request) (after : RunView) → ((insn : Insn) → insn_at c.program v.place ≡ Some insn → IsLocalStep (local_of insn v) (request_of insn v) v (locals.Shared request) after) → CanAnswer k c context ms v request × (after ≡ v)
+  pub can-serve : (request : Request) (after : RunView) →
+      ((insn : Insn) → insn_at c.program v.place ≡ Some insn →
+      IsLocalStep (local_of insn v) (request_of insn v) v (locals.Shared request) after) →
+      CanAnswer k c context ms v request × (after ≡ v)
   can-serve request after s =
       let t = steps k c context ms v x in
       let here = known k c context ms v x t.insn t.here in

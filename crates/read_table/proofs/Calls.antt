@@ -17,11 +17,13 @@ use Rattle.read_table.specs.Held.{Holder, Does, IsUnchanged}
 use Rattle.read_table.specs.Slots.{IsFree}
 use Rattle.read_table.proofs.Going.{went_one, goes_known, goes_fact, known_unchanged}
 
-pub stores_at : (k : TableShape) (slots id : ℕ) (me : Me ℕ View) (i slot place x : ℕ) → IsAt k i slot place → slot < k.slots → place < width_of k → IsLearnt slot me.0.mine
+pub stores_at : (k : TableShape) (slots id : ℕ) (me : Me ℕ View) (i slot place x : ℕ) → IsAt k i slot place →
+    slot < k.slots → place < width_of k → IsLearnt slot me.0.mine
     → Allows (Kept k) slots id me i (λ _. x) (λ _. stores (step slots i x 0 none) me x)
 stores_at k slots id me i slot place x e low in_slot known = stores_ok k slots id me i slot place x e low in_slot (inr known)
 
-pub writes_at : (k : TableShape) (slots id : ℕ) (me : Me ℕ View) (i slot place x : ℕ) → me.0.shape ≡ k → IsAt k i slot place → place < width_of k → me.0.me ≡ 0 → IsFree me.0 slot
+pub writes_at : (k : TableShape) (slots id : ℕ) (me : Me ℕ View) (i slot place x : ℕ) → me.0.shape ≡ k →
+    IsAt k i slot place → place < width_of k → me.0.me ≡ 0 → IsFree me.0 slot
     → Allows (Kept k) slots id me i (λ _. x) (λ _. stores (step slots i x 0 none) me x)
 writes_at k slots id me i slot place x is e in_slot writer free =
     stores_ok k slots id me i slot place x e
@@ -29,13 +31,17 @@ writes_at k slots id me i slot place x is e in_slot writer free =
     (inl (writer, (free.even, subst (λ (z : TableShape). MayLink z.readers slot me.0.mine) is free.may)))
 
 -- a word by what the holder saw after a step
-word_seen : (v w : View) (m m' : Move) (slot place : ℕ) → m ≡ m' → (g : Gains v m w) → word_at_place slot place w.seen ≡ word_at_place slot place ((v.me, m') ∷ (g.0 ++ v.seen))
-word_seen v w m m' slot place is g = ap (λ (z : View). word_at_place slot place z.seen) g.1 ∙ ap (λ z. word_at_place slot place ((v.me, z) ∷ (g.0 ++ v.seen))) is
+word_seen : (v w : View) (m m' : Move) (slot place : ℕ) → m ≡ m' → (g : Gains v m w) →
+    word_at_place slot place w.seen ≡ word_at_place slot place ((v.me, m') ∷ (g.0 ++ v.seen))
+word_seen v w m m' slot place is g = ap (λ (z : View). word_at_place slot place z.seen) g.1 ∙
+    ap (λ z. word_at_place slot place ((v.me, z) ∷ (g.0 ++ v.seen))) is
 
 -- what a load found, as a clause says it
 pub load_found : (v w : View) (m : Move) (slot place x : ℕ) → m ≡ Load slot place x → Gains v m w → x ≡ word_at_place slot place w.seen
 load_found v w m slot place x is g =
-    let now : IsLawful v.shape ((v.me, Load slot place x) ∷ (g.0 ++ v.seen)) = subst (λ z. IsLawful v.shape ((v.me, z) ∷ (g.0 ++ v.seen))) is (subst (λ (z : View). IsLawful v.shape z.seen) g.1 g.2) in
+    let now : IsLawful v.shape ((v.me, Load slot place x) ∷ (g.0 ++ v.seen)) =
+    subst (λ z. IsLawful v.shape ((v.me, z) ∷ (g.0 ++ v.seen))) is
+    (subst (λ (z : View). IsLawful v.shape z.seen) g.1 g.2) in
     now.0.1 ∙ sym (word_seen v w m (Load slot place x) slot place is g)
 
 -- what a store left, as a clause says it
@@ -54,10 +60,12 @@ does t t' v w s m m' is same move g =
     }
 
 pub load_unchanged : (s t : Holder) (slot place x : ℕ) → Does s (Load slot place x) t → IsLearnt slot s.view.mine → IsUnchanged slot t
-load_unchanged s t slot place x d known = known_unchanged t slot known.0 (goes_known s t (Load slot place x ∷ []) d) (goes_fact (Knows slot known.0) s t (Load slot place x ∷ []) d known.1)
+load_unchanged s t slot place x d known = known_unchanged t slot known.0 (goes_known s t (Load slot place x ∷ []) d)
+    (goes_fact (Knows slot known.0) s t (Load slot place x ∷ []) d known.1)
 
 pub store_unchanged : (s t : Holder) (slot place x : ℕ) → Does s (Store slot place x) t → IsLearnt slot s.view.mine → IsUnchanged slot t
-store_unchanged s t slot place x d known = known_unchanged t slot known.0 (goes_known s t (Store slot place x ∷ []) d) (goes_fact (Knows slot known.0) s t (Store slot place x ∷ []) d known.1)
+store_unchanged s t slot place x d known = known_unchanged t slot known.0 (goes_known s t (Store slot place x ∷ []) d)
+    (goes_fact (Knows slot known.0) s t (Store slot place x ∷ []) d known.1)
 
 -- where a reader's section word lies, as an equation
 abbrev pub IsSection : ℕ → ℕ → Type 0
@@ -66,17 +74,20 @@ IsSection i me = i + SECTION_STRIDE ≡ me * SECTION_STRIDE
 pub section_within : (j k : TableShape) (i me n : ℕ) → j ≡ k → IsReader j me → IsSection i me → n ≡ count_of k → i < n
 section_within j k i me n same reader at e = let r : IsReader k me = subst (λ (z : TableShape). IsReader z me) same reader in omega arith
 
-pub opens_at : (j k : TableShape) (slots id : ℕ) (me : Me ℕ View) (i : ℕ) → j ≡ k → IsReader j me.0.me → IsSection i me.0.me → Allows (Kept k) slots id me i (λ _. 1) (λ _. opens (step slots i 1 0 none) me 1)
+pub opens_at : (j k : TableShape) (slots id : ℕ) (me : Me ℕ View) (i : ℕ) → j ≡ k → IsReader j me.0.me →
+    IsSection i me.0.me → Allows (Kept k) slots id me i (λ _. 1) (λ _. opens (step slots i 1 0 none) me 1)
 opens_at j k slots id me i same reader at =
     let r : IsReader k me.0.me = subst (λ (z : TableShape). IsReader z me.0.me) same reader in
     opens_ok k slots id me i (me.0.me - 1) (omega arith) (omega arith) (omega arith)
 
-pub closes_at : (j k : TableShape) (slots id : ℕ) (me : Me ℕ View) (i : ℕ) → j ≡ k → IsReader j me.0.me → IsSection i me.0.me → Allows (Kept k) slots id me i (λ _. 0) (λ _. closes (step slots i 0 0 none) me 0)
+pub closes_at : (j k : TableShape) (slots id : ℕ) (me : Me ℕ View) (i : ℕ) → j ≡ k → IsReader j me.0.me →
+    IsSection i me.0.me → Allows (Kept k) slots id me i (λ _. 0) (λ _. closes (step slots i 0 0 none) me 0)
 closes_at j k slots id me i same reader at =
     let r : IsReader k me.0.me = subst (λ (z : TableShape). IsReader z me.0.me) same reader in
     closes_ok k slots id me i (me.0.me - 1) (omega arith) (omega arith) (omega arith)
 
-pub learns_at : (j k : TableShape) (slots id : ℕ) (me : Me ℕ View) (slot : ℕ) → me.0.shape ≡ j → j ≡ k → slot < j.slots → IsReader me.0.shape me.0.me → inside me.0.mine ≡ 1
+pub learns_at : (j k : TableShape) (slots id : ℕ) (me : Me ℕ View) (slot : ℕ) → me.0.shape ≡ j → j ≡ k →
+    slot < j.slots → IsReader me.0.shape me.0.me → inside me.0.mine ≡ 1
     → Allows (Kept k) slots id me (headers_from j + slot) (λ n. n) (learns (step slots (headers_from j + slot) 0 0 none) me)
 learns_at j k slots id me slot same is l reader one =
     let e : headers_from j ≡ headers_from k = ap headers_from is in
@@ -92,7 +103,8 @@ header_slot j k slot same = slot_is (headers_from j) slot (headers_from k) (ap h
 pub header_within : (j k : TableShape) (slot n : ℕ) → j ≡ k → slot < j.slots → n ≡ count_of k → headers_from k + slot < n
 header_within j k slot n same l e = let m : slot < k.slots = subst (λ (z : TableShape). slot < z.slots) same l in omega arith
 
-pub changes_at : (j k : TableShape) (slots id : ℕ) (me : Me ℕ View) (slot x : ℕ) → me.0.shape ≡ j → j ≡ k → slot < j.slots → me.0.me ≡ 0 → x ≡ header_in slot me.0.mine + 1 → (x % 2 ≡ 1 → MayLink j.readers slot me.0.mine)
+pub changes_at : (j k : TableShape) (slots id : ℕ) (me : Me ℕ View) (slot x : ℕ) → me.0.shape ≡ j → j ≡ k →
+    slot < j.slots → me.0.me ≡ 0 → x ≡ header_in slot me.0.mine + 1 → (x % 2 ≡ 1 → MayLink j.readers slot me.0.mine)
     → Allows (Kept k) slots id me (headers_from j + slot) (λ _. x) (λ _. changes (step slots (headers_from j + slot) x 0 none) me x)
 changes_at j k slots id me slot x same is l writer h may =
     let e : headers_from j ≡ headers_from k = ap headers_from is in
@@ -110,4 +122,5 @@ scan_reader reader = omega arith
 
 pub scans_at : (j k : TableShape) (slots id : ℕ) (me : Me ℕ View) (reader : ℕ) → j ≡ k → reader < j.readers → me.0.me ≡ 0
     → Allows (Kept k) slots id me (reader * SECTION_STRIDE) (λ n. n) (scans (step slots (reader * SECTION_STRIDE) 0 0 none) me)
-scans_at j k slots id me reader is l writer = scans_ok k slots id me (reader * SECTION_STRIDE) reader refl (subst (λ (z : TableShape). reader < z.readers) is l) writer
+scans_at j k slots id me reader is l writer = scans_ok k slots id me (reader * SECTION_STRIDE) reader refl
+    (subst (λ (z : TableShape). reader < z.readers) is l) writer

@@ -29,7 +29,9 @@ use Rattle.read_table.specs.Held.{Goes, Holder, IsReady, IsSized, TableView}
 use Rattle.read_table.specs.Running.{HasComeTo, IsServable, RunsShared, Serves}
 use Rattle.read_table.proofs.Going.{goes_none, goes_then, went_known, went_mine}
 
-pub has-started : (here : TableView) (c : Checked) (context : List ℕ) (seat : Holder) (r : RunWords) → IsSized here.shape → IsReady here seat → IsJustified c → FitsTable here.shape c.shapes → (UsesSubWords c → ⊥) → length context ≡ c.ctx_len → AreBytes context
+pub has-started : (here : TableView) (c : Checked) (context : List ℕ) (seat : Holder) (r : RunWords) →
+    IsSized here.shape → IsReady here seat → IsJustified c → FitsTable here.shape c.shapes → (UsesSubWords c → ⊥) →
+    length context ≡ c.ctx_len → AreBytes context
     → IsAt c.program r → r.view ≡ fresh_view 0 context → HasComeTo here.shape c context seat seat r
 has-started here c context seat r sized ready j fits words long bytes at view =
     let few = sized.slots in
@@ -37,10 +39,12 @@ has-started here c context seat r sized ready j fits words long bytes at view =
       moves = [];
       goes = goes_none seat ready.known;
       at = at;
-      sharing = subst (λ (v : RunView). IsSharing here.shape c context [] v) (sym view) (starts here.shape c j fits (omega (arith, few)) words context long bytes);
+      sharing = subst (λ (v : RunView). IsSharing here.shape c context [] v) (sym view)
+          (starts here.shape c j fits (omega (arith, few)) words context long bytes);
     }
 
-module _ (here : TableView) (c : Checked) (context : List ℕ) (start now : Holder) (r : RunWords) (ready : IsReady here start) (h : HasComeTo here.shape c context start now r) where
+module _ (here : TableView) (c : Checked) (context : List ℕ) (start now : Holder) (r : RunWords)
+    (ready : IsReady here start) (h : HasComeTo here.shape c context start now r) where
   abbrev k : TableShape
   k = here.shape
 
@@ -114,7 +118,9 @@ module _ (here : TableView) (c : Checked) (context : List ℕ) (start now : Hold
         pub answered : Awaits c request new → IsAnswered c new word
         answered a = record { request = request; awaits = a; given = (served c context h.moves can-now).1 }
 
-        pub resumed-on : (later : Holder) (last : RunWords) → Goes now ns later → IsAt c.program last → ((insn : Insn) → insn_at c.program new.view.place ≡ Some insn → last.view ≡ resumed_view insn word new.view)
+        pub resumed-on : (later : Holder) (last : RunWords) → Goes now ns later → IsAt c.program last →
+            ((insn : Insn) → insn_at c.program new.view.place ≡ Some insn →
+            last.view ≡ resumed_view insn word new.view)
             → HasComeTo k c context start later last × (r.view.moved < last.view.moved)
         resumed-on later last goes there view =
             let s = steps k c context h.moves new.view sharing-now in

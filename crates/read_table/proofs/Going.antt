@@ -26,7 +26,14 @@ went_mine v w ms g = ap (λ (z : View). z.mine) g.1
 pub went_after : (u v w : View) (ms ns : List Move) → Went u ms v → Went v ns w → Went u ns w
 went_after u v w ms ns g h = (
   h.0 ++ g.0,
-  h.1 ∙ (λ i. record { shape = (g.1 i).shape; me = (g.1 i).me; next = (g.1 i).next; mine = ns; seen = (ap (λ (z : View). h.0 ++ z.seen) g.1 ∙ sym (append_assoc h.0 g.0 u.seen)) i }),
+  h.1 ∙ (λ i. record {
+    shape = (g.1 i).shape;
+    me = (g.1 i).me;
+    next = (g.1 i).next;
+    mine = ns;
+    seen =
+        (ap (λ (z : View). h.0 ++ z.seen) g.1 ∙ sym (append_assoc h.0 g.0 u.seen)) i;
+  }),
   subst (λ z. IsLawful z w.seen) (ap (λ (z : View). z.shape) g.1) h.2,
   subst (λ z. moves_of z w.seen ≡ ns) (ap (λ (z : View). z.me) g.1) h.3,
 )

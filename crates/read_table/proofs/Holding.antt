@@ -16,7 +16,8 @@ lawful-before k (x ∷ after) before e h = lawful-before k after before e h.1
 learnt-holds : (k : TableShape) (es : List (ℕ × Move)) (who s slot : ℕ) → IsLawful k es → s ≡ slot → IsLearnt s (moves_of who es) → HoldsSlot who slot es
 learnt-holds k es who s slot lawful same l = subst (λ (n : ℕ). HoldsSlot who n es) same (l.0, l.1, same_generation k es lawful who s l.0 l.1)
 
-touched : (k : TableShape) (es : List (ℕ × Move)) (who slot : ℕ) (m : Move) → 0 < who → IsLawful k es → MayDo k es who m → Touches slot m → HoldsSlot who slot es
+touched : (k : TableShape) (es : List (ℕ × Move)) (who slot : ℕ) (m : Move) → 0 < who → IsLawful k es →
+    MayDo k es who m → Touches slot m → HoldsSlot who slot es
 touched k es who slot (Load s place x) some lawful may t = learnt-holds k es who s slot lawful t may.0
 touched k es who slot (Store s place x) some lawful (inl writer) t = absurd (omega (arith, some, writer.0))
 touched k es who slot (Store s place x) some lawful (inr l) t = learnt-holds k es who s slot lawful t l

@@ -1,5 +1,7 @@
 -- What the writer keeps through its steps.
-use Rattle.std.proofs.Common.{◌≡◌, ◌≢◌, ⊎_elim, ℕ, zero, suc, ◌+◌, ◌^◌, ◌%◌, ◌<◌, ◌≤◌, List, [], ◌∷◌, ◌++◌, get_or, set, refl, sym, ap, ◌∙◌, subst, inl, inr, arith, eq-eqb, ne_eqb, append_assoc, length-set, get_or-set_other, get_or-set_same}
+use Rattle.std.proofs.Common.{◌≡◌, ◌≢◌, ⊎_elim, ℕ, zero, suc, ◌+◌, ◌^◌, ◌%◌, ◌<◌, ◌≤◌, List, [], ◌∷◌, ◌++◌, get_or}
+use Rattle.std.proofs.Common.{set, refl, sym, ap, ◌∙◌, subst, inl, inr, arith, eq-eqb, ne_eqb, append_assoc}
+use Rattle.std.proofs.Common.{length-set, get_or-set_other, get_or-set_same}
 use mathlib.Core.Logic.{dite}
 use native.Mathlib.Decide.{ℕ_discrete}
 use Rattle.std.specs.Prelude.{All}
@@ -57,7 +59,8 @@ went_shape v w ms g = ap (λ (z : View). z.shape) g.1
 went_me : (v w : View) (ms : List Move) → Went v ms w → w.me ≡ v.me
 went_me v w ms g = ap (λ (z : View). z.me) g.1
 
-pub free_stays : (v w : View) (s : ℕ) → w.shape ≡ v.shape → header_in s w.mine ≡ header_in s v.mine → ((r : ℕ) → Cleared r s v.mine → Cleared r s w.mine) → IsFree v s → IsFree w s
+pub free_stays : (v w : View) (s : ℕ) → w.shape ≡ v.shape → header_in s w.mine ≡ header_in s v.mine →
+    ((r : ℕ) → Cleared r s v.mine → Cleared r s w.mine) → IsFree v s → IsFree w s
 free_stays v w s same h c f = record {
   within = subst (λ (k : TableShape). s < k.slots) (sym same) f.within;
   even = ap (λ z. z % 2) h ∙ f.even;
@@ -137,7 +140,8 @@ module _ (v w : View) (slot : ℕ) (g : Went v (Header slot (header_in slot v.mi
         known = went_known v w (Header slot (header_in slot v.mine + 1) ∷ v.mine) g;
         count = length-set headers slot (header_in slot v.mine + 1) ∙ (count ∙ sym slots);
         are_headers = λ s l. dite (ℕ_discrete s slot)
-            (λ e. subst (λ z. get_or (set headers slot (header_in slot v.mine + 1)) z 0 ≡ header_in z w.mine) (sym e) (get_or-set_same headers slot (header_in slot v.mine + 1) 0 (omega arith) ∙ sym here))
+            (λ e. subst (λ z. get_or (set headers slot (header_in slot v.mine + 1)) z 0 ≡ header_in z w.mine) (sym e)
+            (get_or-set_same headers slot (header_in slot v.mine + 1) 0 (omega arith) ∙ sym here))
             (λ ne. get_or-set_other headers slot s (header_in slot v.mine + 1) 0 ne ∙ (b.are_headers s (omega arith) ∙ sym (there s ne)));
       }
 
@@ -151,7 +155,8 @@ module _ (v w : View) (slot : ℕ) (g : Went v (Header slot (header_in slot v.mi
   unlinked_else unlinked none all = all_else (IsUnlinked v) (IsUnlinked w) slot unlinked none (λ s ne f. unlinked_stays v w s shape (there s ne) f) all
 
   -- a free slot is linked now
-  pub linked_slots : (old free linked unlinked : List ℕ) → Leaves slot old free → AreSlots v old linked unlinked → AreSlots w free (linked ++ slot ∷ []) unlinked
+  pub linked_slots : (old free linked unlinked : List ℕ) → Leaves slot old free → AreSlots v old linked unlinked →
+      AreSlots w free (linked ++ slot ∷ []) unlinked
   linked_slots old free linked unlinked leaves a =
       let f = at_leaves (IsFree v) slot old free leaves a.are_free in
       let slots : w.shape.slots ≡ v.shape.slots = ap (λ (k : TableShape). k.slots) shape in
@@ -177,7 +182,8 @@ module _ (v w : View) (slot : ℕ) (g : Went v (Header slot (header_in slot v.mi
       }
 
   -- a linked slot is unlinked now
-  pub unlinked_slots : (free old linked unlinked : List ℕ) → Leaves slot old linked → AreSlots v free old unlinked → AreSlots w free linked (unlinked ++ slot ∷ [])
+  pub unlinked_slots : (free old linked unlinked : List ℕ) → Leaves slot old linked → AreSlots v free old unlinked →
+      AreSlots w free linked (unlinked ++ slot ∷ [])
   unlinked_slots free old linked unlinked leaves a =
       let f = at_leaves (IsLinked v) slot old linked leaves a.are_linked in
       let slots : w.shape.slots ≡ v.shape.slots = ap (λ (k : TableShape). k.slots) shape in
@@ -203,7 +209,9 @@ module _ (v w : View) (slot : ℕ) (g : Went v (Header slot (header_in slot v.mi
       }
 
 -- an unlinked slot is free now
-pub reclaimed_slots : (v : View) (slot : ℕ) (free linked old unlinked : List ℕ) → Leaves slot old unlinked → header_in slot v.mine < 2 ^ 63 → MayLink v.shape.readers slot v.mine → AreSlots v free linked old → AreSlots v (free ++ slot ∷ []) linked unlinked
+pub reclaimed_slots : (v : View) (slot : ℕ) (free linked old unlinked : List ℕ) → Leaves slot old unlinked →
+    header_in slot v.mine < 2 ^ 63 → MayLink v.shape.readers slot v.mine → AreSlots v free linked old →
+    AreSlots v (free ++ slot ∷ []) linked unlinked
 reclaimed_slots v slot free linked old unlinked leaves bounded may a =
     let f = at_leaves (IsUnlinked v) slot old unlinked leaves a.are_unlinked in
     let count = a.count in
@@ -236,8 +244,10 @@ pub record Filled (v w : View) (headers free linked unlinked : List ℕ) (slot :
   pub same : header_in slot w.mine ≡ header_in slot v.mine
   pub shape : w.shape ≡ v.shape
 
-pub filled : (v w : View) (headers free linked unlinked new : List ℕ) (slot : ℕ) (k : TableShape) (key value : List ℕ) → IsWriter v headers → AreSlots v free linked unlinked → Leaves slot free new
-    → (ks vs : List Move) → Fills slot 0 key k.key_words ks → Fills slot k.key_words value k.value_words vs → Went v ((vs ++ ks) ++ v.mine) w → Filled v w headers free linked unlinked slot
+pub filled : (v w : View) (headers free linked unlinked new : List ℕ) (slot : ℕ) (k : TableShape) (key value : List ℕ)
+    → IsWriter v headers → AreSlots v free linked unlinked → Leaves slot free new
+    → (ks vs : List Move) → Fills slot 0 key k.key_words ks → Fills slot k.key_words value k.value_words vs →
+    Went v ((vs ++ ks) ++ v.mine) w → Filled v w headers free linked unlinked slot
 filled v w headers free linked unlinked new slot k key value b a leaves ks vs fk fv g =
     let f = at_leaves (IsFree v) slot free new leaves a.are_free in
     let q = quiet_append vs ks (fills_quiet slot k.key_words k.value_words value vs fv) (fills_quiet slot 0 k.key_words key ks fk) in record {

@@ -1,5 +1,7 @@
 -- Each step keeps the rule.
-use Rattle.std.proofs.Common.{◌≡◌, ◌≢◌, ◌⊎◌, ℕ, zero, suc, ◌+◌, ◌-◌, ◌*◌, ◌/◌, ◌%◌, ◌<◌, ◌≤◌, List, [], ◌∷◌, ◌++◌, length, get_or, set, refl, sym, ap, ◌∙◌, subst, ⊎_elim, inl, inr, arith, eq-eqb, ne_eqb, append-nil, ◌==◌, if◌then◌else◌, length-set, get_or-set_other, get_or-set_same}
+use Rattle.std.proofs.Common.{◌≡◌, ◌≢◌, ◌⊎◌, ℕ, zero, suc, ◌+◌, ◌-◌, ◌*◌, ◌/◌, ◌%◌, ◌<◌, ◌≤◌, List, [], ◌∷◌, ◌++◌}
+use Rattle.std.proofs.Common.{length, get_or, set, refl, sym, ap, ◌∙◌, subst, ⊎_elim, inl, inr, arith, eq-eqb, ne_eqb}
+use Rattle.std.proofs.Common.{append-nil, ◌==◌, if◌then◌else◌, length-set, get_or-set_other, get_or-set_same}
 use mathlib.Core.Logic.{dite}
 use mathlib.Core.Option.{some, none, some-injective, some-ne-none}
 use native.Mathlib.Decide.{ℕ_discrete}
@@ -13,7 +15,8 @@ use Rattle.read_table.specs.declared.view.TableShape.{TableShape}
 use Rattle.read_table.specs.declared.view.View.{View}
 use Rattle.read_table.specs.History.{moves_of, inside, header_in, IsLawful, IsLearnt, IsSpare, MayDo, MayLink, IsReader, word_at_place}
 use Rattle.read_table.specs.declared.rule.TheConstants.{SECTION_STRIDE}
-use Rattle.read_table.specs.Law.{headers_from, width_of, count_of, Fits, Kept, writer_of, dealt, reader_of, did, Gains, base_of, index_in, opens, closes, learns, loads, stores, changes, scans}
+use Rattle.read_table.specs.Law.{headers_from, width_of, count_of, Fits, Kept, writer_of, dealt, reader_of, did}
+use Rattle.read_table.specs.Law.{Gains, base_of, index_in, opens, closes, learns, loads, stores, changes, scans}
 use Rattle.read_table.proofs.Lists.{moves_self, moves_else, IsQuiet, IsStill, IsIdle, quiet, still, idle, stored_here, stored_in_another, stored_beside}
 use Rattle.read_table.proofs.Places.{IsAt, load_move, store_move, same_place, place_within}
 
@@ -25,7 +28,8 @@ module _ (k : TableShape) where
   pub record Follows (s : St) (log : List (ℕ × Move)) (i x me : ℕ) (m : Move) : Type 0 where
     pub headers : (slot : ℕ) → slot < k.slots → get_or (set s.words i x) (headers_from k + slot) 0 ≡ header_in slot (moves_of 0 ((me, m) ∷ log))
     pub sections : (q : ℕ) → q < k.readers → get_or (set s.words i x) (q * SECTION_STRIDE) 0 ≡ inside (moves_of (q + 1) ((me, m) ∷ log))
-    pub stored : (slot place : ℕ) → slot < k.slots → place < width_of k → get_or (set s.words i x) (index_in k slot place) 0 ≡ word_at_place slot place ((me, m) ∷ log)
+    pub stored : (slot place : ℕ) → slot < k.slots → place < width_of k →
+        get_or (set s.words i x) (index_in k slot place) 0 ≡ word_at_place slot place ((me, m) ∷ log)
 
   fits_after : (log : List (ℕ × Move)) (next : ℕ) (seat_of : ℕ → ℕ) (id : ℕ) (v : View) (m : Move) (f : Fits k log next seat_of id v)
       → Fits k ((v.me, m) ∷ log) next seat_of id (did v m f.later.0)
@@ -38,7 +42,8 @@ module _ (k : TableShape) where
     later = ([], ap (λ es. (v.me, m) ∷ es) f.later.1);
   }
 
-  fits_still : (log : List (ℕ × Move)) (next : ℕ) (seat_of : ℕ → ℕ) (id j : ℕ) (v u : View) (m : Move) → Fits k log next seat_of id v → Fits k log next seat_of j u → j ≢ id
+  fits_still : (log : List (ℕ × Move)) (next : ℕ) (seat_of : ℕ → ℕ) (id j : ℕ) (v u : View) (m : Move) →
+      Fits k log next seat_of id v → Fits k log next seat_of j u → j ≢ id
       → Fits k ((v.me, m) ∷ log) next seat_of j u
   fits_still log next seat_of id j v u m f g apart = record {
     shape = g.shape;
@@ -49,7 +54,8 @@ module _ (k : TableShape) where
     later = ((v.me, m) ∷ g.later.0, ap (λ es. (v.me, m) ∷ es) g.later.1);
   }
 
-  pub advance : (s : St) (r : Kept k s) (id i x : ℕ) (v : View) (cs : List (ℕ × ℕ)) (m : Move) → get_elem? s.views id ≡ some v → MayDo k r.log v.me m → Follows s r.log i x v.me m
+  pub advance : (s : St) (r : Kept k s) (id i x : ℕ) (v : View) (cs : List (ℕ × ℕ)) (m : Move) →
+      get_elem? s.views id ≡ some v → MayDo k r.log v.me m → Follows s r.log i x v.me m
       → (w : View) × Kept k (stepped s i x id cs w keeps) × Gains v m w
   advance s r id i x v cs m at may go =
       let f = r.each_seat id v at in
@@ -67,7 +73,9 @@ module _ (k : TableShape) where
           lawful = lawful;
           fresh = λ who n. let known = f.known in moves_else v.me who m r.log (λ e. absurd (omega arith)) ∙ r.fresh who n;
           each_seat = λ j u e. ⊎_elim
-              (λ (t : (j ≡ id) × (w ≡ u)). subst (λ (y : ℕ × View). Fits k ((v.me, m) ∷ r.log) r.next r.seat_of y.0 y.1) (λ a. (sym t.0 a, t.1 a)) (fits_after r.log r.next r.seat_of id v m f))
+              (λ (t : (j ≡ id) × (w ≡ u)). subst (λ (y : ℕ × View).
+              Fits k ((v.me, m) ∷ r.log) r.next r.seat_of y.0 y.1) (λ a. (sym t.0 a, t.1 a))
+              (fits_after r.log r.next r.seat_of id v m f))
               (λ (t : (j ≢ id) × (get_elem? s.views j ≡ some u)). fits_still r.log r.next r.seat_of id j v u m f (r.each_seat j u t.1) t.0)
               (at_set s.views id j w u e);
         },
@@ -90,18 +98,22 @@ module _ (k : TableShape) where
   -- a step on a header or a section changes no word of a slot
   stored_behind : (s : St) (r : Kept k s) (i x me : ℕ) (m : Move) → i < base_of k → IsIdle m → (slot place : ℕ) → slot < k.slots → place < width_of k
       → get_or (set s.words i x) (index_in k slot place) 0 ≡ word_at_place slot place ((me, m) ∷ r.log)
-  stored_behind s r i x me m low d slot place l w = get_or-set_other s.words i (index_in k slot place) x 0 (λ e. absurd (omega arith)) ∙ (r.stored slot place l w ∙ sym (idle me slot place m r.log d))
+  stored_behind s r i x me m low d slot place l w = get_or-set_other s.words i (index_in k slot place) x 0
+      (λ e. absurd (omega arith)) ∙ (r.stored slot place l w ∙ sym (idle me slot place m r.log d))
 
   -- a store changes the word of its slot and place, and no other
   follows_store : (s : St) (r : Kept k s) (i n p x me : ℕ) → IsAt k i n p → n < k.slots → p < width_of k → Follows s r.log i x me (Store n p x)
   follows_store s r i n p x me is low in_slot = let within = place_within k n p low in_slot in let wide = r.wide in record {
-    headers = λ slot l. get_or-set_other s.words i (headers_from k + slot) x 0 (λ e. absurd (omega arith)) ∙ (r.headers slot l ∙ sym (quiet me 0 slot (Store n p x) r.log tt));
-    sections = λ j l. get_or-set_other s.words i (j * SECTION_STRIDE) x 0 (λ e. absurd (omega arith)) ∙ (r.sections j l ∙ sym (still me (j + 1) (Store n p x) r.log tt));
+    headers = λ slot l. get_or-set_other s.words i (headers_from k + slot) x 0 (λ e. absurd (omega arith)) ∙
+        (r.headers slot l ∙ sym (quiet me 0 slot (Store n p x) r.log tt));
+    sections = λ j l. get_or-set_other s.words i (j * SECTION_STRIDE) x 0 (λ e. absurd (omega arith)) ∙
+        (r.sections j l ∙ sym (still me (j + 1) (Store n p x) r.log tt));
     stored = λ slot place l w.
         let other = λ (ne : index_in k slot place ≢ i). get_or-set_other s.words i (index_in k slot place) x 0 ne ∙ r.stored slot place l w in
         dite (ℕ_discrete n slot)
         (λ e. dite (ℕ_discrete p place)
-        (λ f. ap (λ z. get_or (set s.words i x) z 0) ((λ a. index_in k (sym e a) (sym f a)) ∙ sym is) ∙ (get_or-set_same s.words i x 0 (omega arith) ∙ sym (stored_here me n p slot place x r.log e f)))
+        (λ f. ap (λ z. get_or (set s.words i x) z 0) ((λ a. index_in k (sym e a) (sym f a)) ∙ sym is) ∙
+        (get_or-set_same s.words i x 0 (omega arith) ∙ sym (stored_here me n p slot place x r.log e f)))
         (λ ne. other (λ z. ne (same_place k n p slot place in_slot w (z ∙ is)).1) ∙ sym (stored_beside me n p slot place x r.log e ne)))
         (λ ne. other (λ z. ne (same_place k n p slot place in_slot w (z ∙ is)).0) ∙ sym (stored_in_another me n p slot place x r.log ne));
   }
@@ -109,7 +121,8 @@ module _ (k : TableShape) where
   same_slot : (s : St) (r : Kept k s) (i slot : ℕ) → slot < k.slots → headers_from k + slot ≡ i → get_or s.words i 0 ≡ header_in slot (moves_of 0 r.log)
   same_slot s r i slot l e = ap (λ j. get_or s.words j 0) (sym e) ∙ r.headers slot l
 
-  pub learns_ok : (slots id : ℕ) (me : Me ℕ View) (i : ℕ) → headers_from k ≤ i → i < base_of k → IsReader k me.0.me → inside me.0.mine ≡ 1 → Allows (Kept k) slots id me i (λ n. n) (learns (step slots i 0 0 none) me)
+  pub learns_ok : (slots id : ℕ) (me : Me ℕ View) (i : ℕ) → headers_from k ≤ i → i < base_of k → IsReader k me.0.me →
+      inside me.0.mine ≡ 1 → Allows (Kept k) slots id me i (λ n. n) (learns (step slots i 0 0 none) me)
   learns_ok slots id me i low high reader inside_now s r _ at _ =
       let f = r.each_seat id me.0 at in
       let e : me.0.shape.readers ≡ k.readers = ap (λ (z : TableShape). z.readers) f.shape in
@@ -127,18 +140,28 @@ module _ (k : TableShape) where
       let p : ℕ = i - base_of me.0.shape in
       let m : Move = Load (p / width_of me.0.shape) (p % width_of me.0.shape) x in
       let same : m ≡ Load slot place x = load_move me.0.shape k i slot place x f.shape is in_slot in
-      let may : MayDo k r.log me.0.me (Load slot place x) = (subst (IsLearnt slot) (sym f.mine) known, ap (λ z. get_or s.words z 0) is ∙ r.stored slot place low in_slot) in
+      let may : MayDo k r.log me.0.me (Load slot place x) = (
+        subst (IsLearnt slot) (sym f.mine) known,
+        ap (λ z. get_or s.words z 0) is ∙
+            r.stored slot place low in_slot,
+      ) in
       let t = advance s r id i x me.0 me.1 m at (subst (MayDo k r.log me.0.me) (sym same) may) (follows_load s r i me.0.me m tt tt tt) in
       (t.0, keeps, tt, t.1, (subst (λ (z : TableShape). base_of z ≤ i) (sym f.shape) (omega arith), t.2, refl))
 
-  pub scans_ok : (slots id : ℕ) (me : Me ℕ View) (i r : ℕ) → i ≡ r * SECTION_STRIDE → r < k.readers → me.0.me ≡ 0 → Allows (Kept k) slots id me i (λ n. n) (scans (step slots i 0 0 none) me)
+  pub scans_ok : (slots id : ℕ) (me : Me ℕ View) (i r : ℕ) → i ≡ r * SECTION_STRIDE → r < k.readers → me.0.me ≡ 0 →
+      Allows (Kept k) slots id me i (λ n. n) (scans (step slots i 0 0 none) me)
   scans_ok slots id me i q is low writer s r _ at _ =
       let m : Move = Scan (i / SECTION_STRIDE + 1) (get_or s.words i 0) in
       let own : i / SECTION_STRIDE ≡ q = omega arith in
-      let t = advance s r id i (get_or s.words i 0) me.0 me.1 m at (writer, subst (λ (z : ℕ × ℕ). get_or s.words z.0 0 ≡ inside (moves_of (z.1 + 1) r.log)) (λ a. (sym is a, sym own a)) (r.sections q low)) (follows_load s r i me.0.me m tt tt tt) in
+      let t = advance s r id i (get_or s.words i 0) me.0 me.1 m at (
+        writer,
+        subst (λ (z : ℕ × ℕ). get_or s.words z.0 0 ≡ inside (moves_of (z.1 + 1) r.log))
+            (λ a. (sym is a, sym own a)) (r.sections q low),
+      ) (follows_load s r i me.0.me m tt tt tt) in
       (t.0, keeps, tt, t.1, (t.2, refl))
 
-  pub stores_ok : (slots id : ℕ) (me : Me ℕ View) (i slot place x : ℕ) → IsAt k i slot place → slot < k.slots → place < width_of k → ((me.0.me ≡ 0) × IsSpare k.readers slot me.0.mine) ⊎ IsLearnt slot me.0.mine
+  pub stores_ok : (slots id : ℕ) (me : Me ℕ View) (i slot place x : ℕ) → IsAt k i slot place → slot < k.slots →
+      place < width_of k → ((me.0.me ≡ 0) × IsSpare k.readers slot me.0.mine) ⊎ IsLearnt slot me.0.mine
       → Allows (Kept k) slots id me i (λ _. x) (λ _. stores (step slots i x 0 none) me x)
   stores_ok slots id me i slot place x is low in_slot may s r _ at _ =
       let f = r.each_seat id me.0 at in
@@ -146,28 +169,37 @@ module _ (k : TableShape) where
       let m : Move = Store (p / width_of me.0.shape) (p % width_of me.0.shape) x in
       let same : m ≡ Store slot place x = store_move me.0.shape k i slot place x f.shape is in_slot in
       let does : MayDo k r.log me.0.me (Store slot place x) = ⊎_elim
-      (λ (w : (me.0.me ≡ 0) × IsSpare k.readers slot me.0.mine). inl (w.0, subst (IsSpare k.readers slot) (sym (ap (λ z. moves_of z r.log) (sym w.0) ∙ f.mine)) w.1))
+      (λ (w : (me.0.me ≡ 0) × IsSpare k.readers slot me.0.mine).
+      inl (w.0, subst (IsSpare k.readers slot) (sym (ap (λ z. moves_of z r.log) (sym w.0) ∙ f.mine)) w.1))
       (λ l. inr (subst (IsLearnt slot) (sym f.mine) l)) may in
-      let t = advance s r id i x me.0 me.1 m at (subst (MayDo k r.log me.0.me) (sym same) does) (subst (Follows s r.log i x me.0.me) (sym same) (follows_store s r i slot place x me.0.me is low in_slot)) in
+      let t = advance s r id i x me.0 me.1 m at (subst (MayDo k r.log me.0.me) (sym same) does)
+      (subst (Follows s r.log i x me.0.me) (sym same)
+      (follows_store s r i slot place x me.0.me is low in_slot)) in
       (t.0, keeps, tt, t.1, (subst (λ (z : TableShape). base_of z ≤ i) (sym f.shape) (omega arith), t.2, refl))
 
   -- a step that sets the section word of its own reader
-  follows_section : (s : St) (r : Kept k s) (i n x me : ℕ) (m : Move) → i ≡ n * SECTION_STRIDE → n < k.readers → me ≡ n + 1 → IsQuiet m → IsIdle m → ((ms : List Move) → inside (m ∷ ms) ≡ x) → Follows s r.log i x me m
+  follows_section : (s : St) (r : Kept k s) (i n x me : ℕ) (m : Move) → i ≡ n * SECTION_STRIDE → n < k.readers →
+      me ≡ n + 1 → IsQuiet m → IsIdle m → ((ms : List Move) → inside (m ∷ ms) ≡ x) → Follows s r.log i x me m
   follows_section s r i n x me m at low mine q d sets = let wide = r.wide in record {
-    headers = λ slot l. get_or-set_other s.words i (headers_from k + slot) x 0 (λ e. absurd (omega arith)) ∙ (r.headers slot l ∙ sym (quiet me 0 slot m r.log q));
+    headers = λ slot l. get_or-set_other s.words i (headers_from k + slot) x 0 (λ e. absurd (omega arith)) ∙
+        (r.headers slot l ∙ sym (quiet me 0 slot m r.log q));
     sections = λ j l. dite (ℕ_discrete j n)
         (λ e. ap (λ z. get_or (set s.words i x) z 0) (ap (λ z. z * SECTION_STRIDE) e ∙ sym at) ∙ (get_or-set_same s.words i x 0 (omega arith)
-        ∙ sym (subst (λ z. inside (moves_of z ((me, m) ∷ r.log)) ≡ x) (mine ∙ ap (λ z. z + 1) (sym e)) (ap inside (moves_self me m r.log) ∙ sets (moves_of me r.log)))))
-        (λ ne. get_or-set_other s.words i (j * SECTION_STRIDE) x 0 (λ e. ne (omega arith)) ∙ (r.sections j l ∙ sym (ap inside (moves_else me (j + 1) m r.log (λ e. ne (omega arith))))));
+        ∙ sym (subst (λ z. inside (moves_of z ((me, m) ∷ r.log)) ≡ x) (mine ∙ ap (λ z. z + 1) (sym e))
+        (ap inside (moves_self me m r.log) ∙ sets (moves_of me r.log)))))
+        (λ ne. get_or-set_other s.words i (j * SECTION_STRIDE) x 0 (λ e. ne (omega arith)) ∙
+        (r.sections j l ∙ sym (ap inside (moves_else me (j + 1) m r.log (λ e. ne (omega arith))))));
     stored = stored_behind s r i x me m (omega arith) d;
   }
 
-  pub opens_ok : (slots id : ℕ) (me : Me ℕ View) (i n : ℕ) → i ≡ n * SECTION_STRIDE → n < k.readers → me.0.me ≡ n + 1 → Allows (Kept k) slots id me i (λ _. 1) (λ _. opens (step slots i 1 0 none) me 1)
+  pub opens_ok : (slots id : ℕ) (me : Me ℕ View) (i n : ℕ) → i ≡ n * SECTION_STRIDE → n < k.readers → me.0.me ≡ n + 1
+      → Allows (Kept k) slots id me i (λ _. 1) (λ _. opens (step slots i 1 0 none) me 1)
   opens_ok slots id me i n is low mine s r _ at _ =
       let t = advance s r id i 1 me.0 me.1 Open at (omega arith, omega arith) (follows_section s r i n 1 me.0.me Open is low mine tt tt (λ ms. refl)) in
       (t.0, keeps, tt, t.1, (t.2, refl))
 
-  pub closes_ok : (slots id : ℕ) (me : Me ℕ View) (i n : ℕ) → i ≡ n * SECTION_STRIDE → n < k.readers → me.0.me ≡ n + 1 → Allows (Kept k) slots id me i (λ _. 0) (λ _. closes (step slots i 0 0 none) me 0)
+  pub closes_ok : (slots id : ℕ) (me : Me ℕ View) (i n : ℕ) → i ≡ n * SECTION_STRIDE → n < k.readers → me.0.me ≡ n + 1
+      → Allows (Kept k) slots id me i (λ _. 0) (λ _. closes (step slots i 0 0 none) me 0)
   closes_ok slots id me i n is low mine s r _ at _ =
       let t = advance s r id i 0 me.0 me.1 Close at (omega arith, omega arith) (follows_section s r i n 0 me.0.me Close is low mine tt tt (λ ms. refl)) in
       (t.0, keeps, tt, t.1, (t.2, refl))
@@ -178,8 +210,10 @@ module _ (k : TableShape) where
   header_else : (slot other w : ℕ) (ms : List Move) → slot ≢ other → header_in other (Header slot w ∷ ms) ≡ header_in other ms
   header_else slot other w ms ne = rw (ne_eqb slot other ne) refl
 
-  pub changes_ok : (slots id : ℕ) (me : Me ℕ View) (i x : ℕ) → headers_from k ≤ i → i < base_of k → me.0.me ≡ 0 → x ≡ header_in (i - headers_from me.0.shape) me.0.mine + 1
-      → (x % 2 ≡ 1 → MayLink k.readers (i - headers_from me.0.shape) me.0.mine) → Allows (Kept k) slots id me i (λ _. x) (λ _. changes (step slots i x 0 none) me x)
+  pub changes_ok : (slots id : ℕ) (me : Me ℕ View) (i x : ℕ) → headers_from k ≤ i → i < base_of k → me.0.me ≡ 0 →
+      x ≡ header_in (i - headers_from me.0.shape) me.0.mine + 1
+      → (x % 2 ≡ 1 → MayLink k.readers (i - headers_from me.0.shape) me.0.mine) →
+      Allows (Kept k) slots id me i (λ _. x) (λ _. changes (step slots i x 0 none) me x)
   changes_ok slots id me i x low high writer is may s r _ at _ =
       let f = r.each_seat id me.0 at in
       let wide = r.wide in
@@ -191,10 +225,15 @@ module _ (k : TableShape) where
         headers = λ other l. dite (ℕ_discrete slot other)
             (λ same. let here : headers_from k + other ≡ i = omega arith in
             ap (λ j. get_or (set s.words i x) j 0) here ∙ (get_or-set_same s.words i x 0 (omega arith)
-            ∙ sym (subst (λ (z : ℕ × ℕ). header_in z.1 (moves_of z.0 ((me.0.me, m) ∷ r.log)) ≡ x) (λ a. (writer a, same a)) (ap (header_in slot) (moves_self me.0.me m r.log) ∙ header_same slot x (moves_of me.0.me r.log)))))
+            ∙ sym (subst (λ (z : ℕ × ℕ). header_in z.1 (moves_of z.0 ((me.0.me, m) ∷ r.log)) ≡ x)
+            (λ a. (writer a, same a)) (ap (header_in slot) (moves_self me.0.me m r.log) ∙
+            header_same slot x (moves_of me.0.me r.log)))))
             (λ ne. get_or-set_other s.words i (headers_from k + other) x 0 (λ z. ne (omega arith)) ∙ (r.headers other l
-            ∙ sym (subst (λ z. header_in other (moves_of z ((me.0.me, m) ∷ r.log)) ≡ header_in other (moves_of z r.log)) writer (ap (header_in other) (moves_self me.0.me m r.log) ∙ header_else slot other x (moves_of me.0.me r.log) ne))));
-        sections = λ j l. get_or-set_other s.words i (j * SECTION_STRIDE) x 0 (λ z. absurd (omega arith)) ∙ (r.sections j l ∙ sym (still me.0.me (j + 1) m r.log tt));
+            ∙ sym (subst (λ z. header_in other (moves_of z ((me.0.me, m) ∷ r.log)) ≡ header_in other
+            (moves_of z r.log)) writer (ap (header_in other) (moves_self me.0.me m r.log) ∙
+            header_else slot other x (moves_of me.0.me r.log) ne))));
+        sections = λ j l. get_or-set_other s.words i (j * SECTION_STRIDE) x 0 (λ z. absurd (omega arith)) ∙
+            (r.sections j l ∙ sym (still me.0.me (j + 1) m r.log tt));
         stored = stored_behind s r i x me.0.me m high tt;
       } in
       let t = advance s r id i x me.0 me.1 m at
@@ -269,5 +308,14 @@ module _ (k : TableShape) where
   }
     where
       one : (j : ℕ) (u : View) → get_elem? (writer_of k ∷ []) j ≡ some u → Fits k [] 1 (λ _. 0) j u
-      one zero u e = subst (Fits k [] 1 (λ _. 0) 0) (some-injective _ _ e) record { shape = refl; seat = refl; known = omega arith; deals = λ _. refl; mine = refl; later = ([], refl) }
+      one zero u e = subst (Fits k [] 1 (λ _. 0) 0) (some-injective _ _ e)
+          record {
+            shape = refl;
+            seat = refl;
+            known = omega arith;
+            deals = λ _. refl;
+            mine = refl;
+            later =
+                ([], refl);
+          }
       one (suc j) u e = absurd (some-ne-none u (sym e))

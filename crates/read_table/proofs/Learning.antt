@@ -1,5 +1,6 @@
 -- What the plan says of a run among the elements alone that it has learnt in the section that is open, and that a step keeps it so.
-use Rattle.std.proofs.Common.{◌≡◌, ℕ, ◌+◌, ◌^◌, ◌<◌, ◌≤◌, inl, inr, refl, sym, ap, subst, ◌∙◌, arith, List, [], ◌∷◌, length, map, Option, Some, None, Bool, true, false}
+use Rattle.std.proofs.Common.{◌≡◌, ℕ, ◌+◌, ◌^◌, ◌<◌, ◌≤◌, inl, inr, refl, sym, ap, subst, ◌∙◌, arith, List, [], ◌∷◌}
+use Rattle.std.proofs.Common.{length, map, Option, Some, None, Bool, true, false}
 use Rattle.std.specs.Prelude.{slice_get, slice_set, ℤ, pos, ◌==◌, if◌then◌else◌}
 use Rattle.std.proofs.lemmas.Option.{same_Some, slice_get_within}
 use Rattle.std.proofs.lemmas.Bool.{false≢true, eq-eqb, ne_eqb}
@@ -21,7 +22,8 @@ use Rattle.bpf_model.specs.MachineStep.{InsnStep}
 use Rattle.bpf_model.specs.Element.{loaded_from, stored_in}
 use Rattle.bpf_model.specs.Access.{with_bytes}
 use Rattle.bpf_model.specs.MapState.{MapState, Store, new_map}
-use Rattle.bpf_model.specs.Request.{Request, LoadElement, StoreElement, CallHelper, Enter, Leave, MapArgument, BytesArgument, ServesRequest, asks, bound_shape, resumed}
+use Rattle.bpf_model.specs.Request.{Request, LoadElement, StoreElement, CallHelper, Enter, Leave, MapArgument}
+use Rattle.bpf_model.specs.Request.{BytesArgument, ServesRequest, asks, bound_shape, resumed}
 use Rattle.bpf_model.specs.MachineStep.{StepsAlone, Resumes}
 use Rattle.bpf_model.specs.Section.{Section}
 use Rattle.bpf_model.specs.Step.{State, Moves, after, insn_at}
@@ -39,7 +41,8 @@ use Rattle.typed_runs.proofs.Kept.{Keeps, describes-kept}
 use Rattle.world_laws.specs.Around.{map_of, region_of, regions, element_in_region, key_length, value_length, elements_by, births, store_of}
 use Rattle.world_laws.specs.Described.{IsDescribed}
 use Rattle.world_laws.proofs.StandingBytes.{number-back}
-use Rattle.world_laws.proofs.Contents.{get-by, by-below, by-is, IsContent, zero-bytes, single-one, Guards, keeps-by, keeps-list, changed_at, changed-here, changed-all, linked-at, touch}
+use Rattle.world_laws.proofs.Contents.{get-by, by-below, by-is, IsContent, zero-bytes, single-one, Guards, keeps-by}
+use Rattle.world_laws.proofs.Contents.{keeps-list, changed_at, changed-here, changed-all, linked-at, touch}
 use Rattle.world_laws.proofs.Described.{surrounds}
 use Rattle.read_table.specs.Learnt.{learnt_element, learnt_elements, life_of}
 
@@ -82,7 +85,8 @@ hash-array : (kind : MapKind) → kind ≡ Hash → kind ≡ Array → ⊥
 hash-array kind h a = let e : Hash ≡ Array = sym h ∙ a in absurd (cc)
 
 -- and none of them is an array
-pub none-array : (shapes : List MapShape) → AreHash shapes → (n : ℕ) (state : MapState) → slice_get (map new_map shapes) n ≡ Some state → state.shape.kind ≡ Array → ⊥
+pub none-array : (shapes : List MapShape) → AreHash shapes → (n : ℕ) (state : MapState) →
+    slice_get (map new_map shapes) n ≡ Some state → state.shape.kind ≡ Array → ⊥
 none-array shapes hash n state at is =
     let l : n < length (map new_map shapes) = slice_get_within (map new_map shapes) n state at in
     let long : length (map new_map shapes) ≡ length shapes = length-map shapes new_map in
@@ -90,7 +94,8 @@ none-array shapes hash n state at is =
     let same : new_map x.0 ≡ state = same_Some (new_map x.0) state (sym (get-map new_map shapes n x.0 x.1) ∙ at) in
     hash-array x.0.kind (hash n x.0 x.1) (ap (λ (m : MapState). m.shape.kind) same ∙ is)
 
-pub not-array : (shapes : List MapShape) → AreHash shapes → (es : List Element) (run : Run) (index : ℕ) → IsArrayMap (scene_of (store_of shapes es) run) index → ⊥
+pub not-array : (shapes : List MapShape) → AreHash shapes → (es : List Element) (run : Run) (index : ℕ) →
+    IsArrayMap (scene_of (store_of shapes es) run) index → ⊥
 not-array shapes hash es run index a = let x = kind-there (map new_map shapes) a.number Array a.array in none-array shapes hash a.number x.0 x.1 x.2
 
 pub no-array : (shapes : List MapShape) → AreHash shapes → (index : ℕ) → is_array_in shapes index ≡ true → ⊥
@@ -105,7 +110,9 @@ pub record Reached (shapes : List MapShape) (n : ℕ) (o : ℤ) (width : ℕ) : 
 abbrev pub none : ℕ → Bool
 none r = false
 
-module _ (code : List Insn) (shapes : List MapShape) (ctx_len : ℕ) (hash : AreHash shapes) (plan : Plan) (closed : IsClosed code shapes ctx_len plan) (run : Run) (x : IsDescribed code shapes ctx_len plan shapes run) (learnt : ℕ → Bool) (index : ℕ)
+module _ (code : List Insn) (shapes : List MapShape) (ctx_len : ℕ) (hash : AreHash shapes) (plan : Plan)
+    (closed : IsClosed code shapes ctx_len plan) (run : Run) (x : IsDescribed code shapes ctx_len plan shapes run)
+    (learnt : ℕ → Bool) (index : ℕ)
     (p : IsPlanned code plan index (scene_of (store_of shapes (learnt_elements shapes (section_of run) learnt)) run) run.state) where
   abbrev sec : Section
   sec = section_of run
@@ -136,8 +143,12 @@ module _ (code : List Insn) (shapes : List MapShape) (ctx_len : ℕ) (hash : Are
   Planned later new = (k : ℕ) × IsPlanned code plan k (scene_of (store_of shapes (learnt_elements shapes (section_of new) later)) new) new.state
 
   -- a step over some contents
-  stepped : (f : ℕ → Element) → IsContent shapes f → IsSingle (listed f) → Keeps (scene_of (over base) run) (scene_of (over f) run) → (i : Insn) → insn_at code run.state.place ≡ Some i → (es : List Element) (new : Run)
-      → InsnStep i (over f) (sec ∷ []) run Moved (store_of shapes es) new → new.exit ≡ None → (later : ℕ → Bool) → Keeps (scene_of (store_of shapes es) new) (scene_of (store_of shapes (learnt_elements shapes (section_of new) later)) new) → Planned later new
+  stepped : (f : ℕ → Element) → IsContent shapes f → IsSingle (listed f) →
+      Keeps (scene_of (over base) run) (scene_of (over f) run) → (i : Insn) → insn_at code run.state.place ≡ Some i →
+      (es : List Element) (new : Run)
+      → InsnStep i (over f) (sec ∷ []) run Moved (store_of shapes es) new → new.exit ≡ None → (later : ℕ → Bool) →
+      Keeps (scene_of (store_of shapes es) new) (scene_of
+      (store_of shapes (learnt_elements shapes (section_of new) later)) new) → Planned later new
   stepped f c one keeps i here es new step going later onward =
       let before : IsPlanned code plan index (scene_of (over f) run) run.state = record {
         at = p.at;
@@ -145,14 +156,17 @@ module _ (code : List Insn) (shapes : List MapShape) (ctx_len : ℕ) (hash : Are
         planned = p.planned;
         describes = describes-kept (scene_of (over base) run) (scene_of (over f) run) keeps p.known run.state p.describes;
       } in
-      let l = closed.leads index i (over f) (sec ∷ []) run Moved (store_of shapes es) new (surrounds code shapes ctx_len plan closed shapes run x f c one) before here step in
+      let l = closed.leads index i (over f) (sec ∷ []) run Moved (store_of shapes es) new
+      (surrounds code shapes ctx_len plan closed shapes run x f c one) before here step in
       let q : IsPlannedAfter code plan index (scene_of (store_of shapes es) new) new.state = l.1 going in (
         q.index,
         record {
           at = q.planned.at;
           known = q.planned.known;
           planned = q.planned.planned;
-          describes = describes-kept (scene_of (store_of shapes es) new) (scene_of (store_of shapes (learnt_elements shapes (section_of new) later)) new) onward q.planned.known new.state q.planned.describes;
+          describes = describes-kept (scene_of (store_of shapes es) new)
+              (scene_of (store_of shapes (learnt_elements shapes (section_of new) later)) new) onward q.planned.known
+              new.state q.planned.describes;
         },
       )
 
@@ -160,7 +174,9 @@ module _ (code : List Insn) (shapes : List MapShape) (ctx_len : ℕ) (hash : Are
   same-keeps es r = record { held = λ map n h. h; depth = refl }
 
   -- a step that the run makes by itself
-  pub alone-learnt : (i : Insn) (next : State) → insn_at code run.state.place ≡ Some i → after i (environment run) run.state ≡ Some (Moves next) → (moves run next).exit ≡ None → Planned learnt (moves run next)
+  pub alone-learnt : (i : Insn) (next : State) → insn_at code run.state.place ≡ Some i →
+      after i (environment run) run.state ≡ Some (Moves next) → (moves run next).exit ≡ None →
+      Planned learnt (moves run next)
   alone-learnt i next here e going =
       let s = over base in
       let alone : StepsAlone i s run Moved s (moves run next) = (Moves next, e, refl, (refl, refl)) in
@@ -175,14 +191,22 @@ module _ (code : List Insn) (shapes : List MapShape) (ctx_len : ℕ) (hash : Are
     Asked request = asks i (bound_shape shown run.program.maps) run.state ≡ Some request
 
     -- a reply that some contents give
-    replied : (f : ℕ → Element) → IsContent shapes f → IsSingle (listed f) → Keeps (scene_of (over base) run) (scene_of (over f) run) → (request : Request) → Asked request → (reply : Value) (es : List Element) (new : Run)
-        → ServesRequest run.program.maps request (over f) (sec ∷ []) reply (store_of shapes es) → Resumes request i reply run new → new.exit ≡ None → (later : ℕ → Bool) → Keeps (scene_of (store_of shapes es) new) (scene_of (store_of shapes (learnt_elements shapes (section_of new) later)) new) → Planned later new
+    replied : (f : ℕ → Element) → IsContent shapes f → IsSingle (listed f) →
+        Keeps (scene_of (over base) run) (scene_of (over f) run) → (request : Request) → Asked request →
+        (reply : Value) (es : List Element) (new : Run)
+        → ServesRequest run.program.maps request (over f) (sec ∷ []) reply (store_of shapes es) →
+        Resumes request i reply run new → new.exit ≡ None → (later : ℕ → Bool) →
+        Keeps (scene_of (store_of shapes es) new) (scene_of
+        (store_of shapes (learnt_elements shapes (section_of new) later)) new) → Planned later new
     replied f c one keeps request asked reply es new serves resumes going later onward =
         stepped f c one keeps i here es new
         (inr (record { request = request; reply = reply; asked = asked; served = serves; answer_is = refl; resumes = resumes })) going later onward
 
     -- other contents at one number
-    special-content : (n : ℕ) (e : Element) → e.map ≡ map_of n → length e.key ≡ key_length (slice_get shapes (map_of n)) → length e.value ≡ value_length (slice_get shapes (map_of n)) → AreBytes e.value → IsContent shapes (changed_at n e base)
+    special-content : (n : ℕ) (e : Element) → e.map ≡ map_of n →
+        length e.key ≡ key_length (slice_get shapes (map_of n)) →
+        length e.value ≡ value_length (slice_get shapes (map_of n)) → AreBytes e.value →
+        IsContent shapes (changed_at n e base)
     special-content n e in_map key value bytes =
         let c = content learnt in
         record {
@@ -199,21 +223,27 @@ module _ (code : List Insn) (shapes : List MapShape) (ctx_len : ℕ) (hash : Are
       guard = changed-all (λ k y. IsGuarded (base k).life sec → IsGuarded y.life sec) n e base guard (λ k g. g);
     }
 
-    back-guards : (later : ℕ → Bool) (n : ℕ) (e : Element) → e.map ≡ map_of n → later (region_of n) ≡ true → ((r : ℕ) → learnt r ≡ true → later r ≡ true) → Guards sec (changed_at n e base) (learnt_element shapes sec later)
+    back-guards : (later : ℕ → Bool) (n : ℕ) (e : Element) → e.map ≡ map_of n → later (region_of n) ≡ true →
+        ((r : ℕ) → learnt r ≡ true → later r ≡ true) →
+        Guards sec (changed_at n e base) (learnt_element shapes sec later)
     back-guards later n e in_map there more = record {
       same = changed-all (λ k y. map_of k ≡ y.map) n e base (sym in_map) (λ k. refl);
-      guard = changed-all (λ k y. IsGuarded y.life sec → IsGuarded (life_of (later (region_of k)) sec) sec) n e base (λ g. guarded-learnt (later (region_of n)) sec there)
+      guard = changed-all (λ k y. IsGuarded y.life sec → IsGuarded (life_of (later (region_of k)) sec) sec) n e base
+          (λ g. guarded-learnt (later (region_of n)) sec there)
           (λ k g. guarded-learnt (later (region_of k)) sec (more (region_of k) (learnt-guarded (learnt (region_of k)) sec sec g)));
     }
 
     unlinked-all : (n : ℕ) (e : Element) → e.life ≡ Unlinked (sec ∷ []) → (k : ℕ) → (changed_at n e base k).life ≡ Linked → ⊥
-    unlinked-all n e is k = changed-all (λ j y. y.life ≡ Linked → ⊥) n e base (λ l. never-linked true sec (sym is ∙ l)) (λ j. never-linked (learnt (region_of j)) sec) k
+    unlinked-all n e is k = changed-all (λ j y. y.life ≡ Linked → ⊥) n e base
+        (λ l. never-linked true sec (sym is ∙ l)) (λ j. never-linked (learnt (region_of j)) sec) k
 
     zeros-long : (n : ℕ) → length (base n).value ≡ value_length (slice_get shapes (map_of n))
     zeros-long n = (content learnt).value n
 
     -- a load finds any number
-    pub load-learnt : (n : ℕ) (o : ℤ) (width v : ℕ) → v < 256 ^ width → Asked (LoadElement n o width) → Reached shapes n o width → learnt (region_of n) ≡ true → (new : Run) → new ≡ moves run (resumed i (Number v) run.state) → new.exit ≡ None → Planned learnt new
+    pub load-learnt : (n : ℕ) (o : ℤ) (width v : ℕ) → v < 256 ^ width → Asked (LoadElement n o width) →
+        Reached shapes n o width → learnt (region_of n) ≡ true → (new : Run) →
+        new ≡ moves run (resumed i (Number v) run.state) → new.exit ≡ None → Planned learnt new
     load-learnt n o width v small asked r known new is going =
         let zeros = (base n).value in
         let q = offset_some (value_length (slice_get shapes (map_of n))) width o r.at r.region in
@@ -242,23 +272,38 @@ module _ (code : List Insn) (shapes : List MapShape) (ctx_len : ℕ) (hash : Are
         let y = base n in
         let g = first-step (region_offset (length y.value) width o) (λ p. Some (changed (with_value (with_bytes p width v y.value)) all n)) es h in
         let one : Element → Element = with_value (with_bytes g.0 width v y.value) in
-        let is : slice_set all n (one (base n)) ≡ es = ap (λ (z : Option Element). set_to one all n z) (sym (get-by (births shapes) base n below)) ∙ same_Some (changed one all n) es g.2 in
+        let is : slice_set all n (one (base n)) ≡ es =
+        ap (λ (z : Option Element). set_to one all n z) (sym (get-by (births shapes) base n below)) ∙
+        same_Some (changed one all n) es g.2 in
         elim (get-set_cases all n k (one (base n)) e (ap (λ (l : List Element). slice_get l k) is ∙ at)) [
-          | inl z ↦ subst (λ (j : ℕ). (j < births shapes) × ((base j).map ≡ e.map) × (IsGuarded e.life sec → IsGuarded (base j).life sec)) (sym z.0) (below, ap (λ (w : Element). w.map) z.1, λ q. subst (λ (w : Element). IsGuarded w.life sec) (sym z.1) q)
-          | inr z ↦ (let w = by-is (births shapes) base k e z.1 in (by-below (births shapes) base k e z.1, ap (λ (u : Element). u.map) w, λ q. subst (λ (u : Element). IsGuarded u.life sec) (sym w) q))
+          | inl z ↦ subst (λ (j : ℕ). (j < births shapes) × ((base j).map ≡ e.map) ×
+              (IsGuarded e.life sec → IsGuarded (base j).life sec)) (sym z.0)
+              (below, ap (λ (w : Element). w.map) z.1, λ q. subst (λ (w : Element). IsGuarded w.life sec) (sym z.1) q)
+          | inr z ↦ (let w = by-is (births shapes) base k e
+              z.1 in (
+                by-below (births shapes) base k e z.1,
+                ap (λ (u : Element). u.map) w,
+                λ q.
+                    subst (λ (u : Element). IsGuarded u.life sec) (sym w) q,
+              ))
         ]
 
-    pub store-learnt : (n : ℕ) (o : ℤ) (width v : ℕ) → Asked (StoreElement n o width v) → Reached shapes n o width → learnt (region_of n) ≡ true → (new : Run) → new ≡ moves run (resumed i Nothing run.state) → new.exit ≡ None → Planned learnt new
+    pub store-learnt : (n : ℕ) (o : ℤ) (width v : ℕ) → Asked (StoreElement n o width v) → Reached shapes n o width →
+        learnt (region_of n) ≡ true → (new : Run) → new ≡ moves run (resumed i Nothing run.state) → new.exit ≡ None →
+        Planned learnt new
     store-learnt n o width v asked r known new is going =
         let all = listed base in
         let y = base n in
         let es = changed (with_value (with_bytes r.at width v y.value)) all n in
         let region : region_offset (length y.value) width o ≡ Some r.at = ap (λ len. region_offset len width o) (zeros-long n) ∙ r.region in
         let stores : stored_in all n width o v y ≡ Some es = ap (λ z. z >>= λ p. Some (changed (with_value (with_bytes p width v y.value)) all n)) region in
-        let there : (accessible all n >>= stored_in all n width o v) ≡ Some es = ap (λ z. z >>= stored_in all n width o v) (touch (births shapes) base n y r.below refl (kept-alive (learnt (region_of n)) sec known)) ∙ stores in
+        let there : (accessible all n >>= stored_in all n width o v) ≡ Some es =
+        ap (λ z. z >>= stored_in all n width o v) (touch (births shapes) base n y r.below refl
+        (kept-alive (learnt (region_of n)) sec known)) ∙ stores in
         let later = moves run (resumed i Nothing run.state) in
         subst (Planned learnt) (sym is)
-        (replied base (content learnt) (single learnt) (same-keeps (listed base) run) (StoreElement n o width v) asked Nothing es later (es, there, refl, refl) refl (subst (λ (z : Run). z.exit ≡ None) is going) learnt
+        (replied base (content learnt) (single learnt) (same-keeps (listed base) run) (StoreElement n o width v) asked
+        Nothing es later (es, there, refl, refl) refl (subst (λ (z : Run). z.exit ≡ None) is going) learnt
         (keeps-list shapes es base later (set-at n width o v es r.below stores)))
 
     -- a section opens, in which nothing is learnt yet
@@ -267,7 +312,14 @@ module _ (code : List Insn) (shapes : List MapShape) (ctx_len : ℕ) (hash : Are
         let empty = learnt_element shapes sec none in
         let later = moves (locked run) (resumed i Nothing run.state) in
         subst (Planned none) (sym h.1)
-        (replied empty (content none) (single none) (record { held = λ map n y. elim y.allowed [ inl g ↦ (let inside : 0 < run.depth = g.0 in absurd (omega (arith, inside, outside))) | inr a ↦ absurd (not-array shapes hash (listed base) run map a) ]; depth = refl })
+        (replied empty (content none) (single none) (record {
+          held = λ map n y.
+              elim y.allowed [
+                | inl g ↦ (let inside : 0 < run.depth = g.0 in absurd (omega (arith, inside, outside)))
+                | inr a ↦ absurd (not-array shapes hash (listed base) run map a)
+              ];
+          depth = refl;
+        })
         Enter asked Nothing (listed empty) later (refl, refl) (h.0, refl) (subst (λ (z : Run). z.exit ≡ None) h.1 going) none
         (keeps-by shapes empty (learnt_element shapes (section_of later) none) later (record { same = λ k. refl; guard = λ k g. absurd g })))
 
@@ -275,17 +327,23 @@ module _ (code : List Insn) (shapes : List MapShape) (ctx_len : ℕ) (hash : Are
     pub nest-learnt : 0 < run.depth → Asked Enter → (new : Run) → Resumes Enter i Nothing run new → new.exit ≡ None → Planned learnt new
     nest-learnt inside asked new h going =
         let later = moves (locked run) (resumed i Nothing run.state) in
-        let same : section_of later ≡ sec = ap (λ (b : Bool). record { run = run.name; lock = if b then run.locks + 1 else run.locks }) (ne_eqb run.depth 0 (λ e. absurd (omega (arith, inside, e)))) in
+        let same : section_of later ≡ sec = ap (λ (b : Bool).
+        record { run = run.name; lock = if b then run.locks + 1 else run.locks })
+        (ne_eqb run.depth 0 (λ e. absurd (omega (arith, inside, e)))) in
         subst (Planned learnt) (sym h.1)
-        (replied base (content learnt) (single learnt) (same-keeps (listed base) run) Enter asked Nothing (listed base) later (refl, refl) (h.0, refl) (subst (λ (z : Run). z.exit ≡ None) h.1 going) learnt
-        (subst (λ (s : Section). Keeps (scene_of (over base) later) (scene_of (store_of shapes (learnt_elements shapes s learnt)) later)) (sym same) (same-keeps (listed base) later)))
+        (replied base (content learnt) (single learnt) (same-keeps (listed base) run) Enter asked Nothing
+        (listed base) later (refl, refl) (h.0, refl) (subst (λ (z : Run). z.exit ≡ None) h.1 going) learnt
+        (subst (λ (s : Section). Keeps (scene_of (over base) later)
+        (scene_of (store_of shapes (learnt_elements shapes s learnt)) later)) (sym same)
+        (same-keeps (listed base) later)))
 
     -- so does an unlock that is not the outermost
     pub unnest-learnt : 1 < run.depth → Asked Leave → (new : Run) → Resumes Leave i Nothing run new → new.exit ≡ None → Planned learnt new
     unnest-learnt deep asked new h going =
         let later = moves (unlocked run) (resumed i Nothing run.state) in
         subst (Planned learnt) (sym h.1)
-        (replied base (content learnt) (single learnt) (same-keeps (listed base) run) Leave asked Nothing (listed base) later (refl, refl) (h.0, refl) (subst (λ (z : Run). z.exit ≡ None) h.1 going) learnt
+        (replied base (content learnt) (single learnt) (same-keeps (listed base) run) Leave asked Nothing
+        (listed base) later (refl, refl) (h.0, refl) (subst (λ (z : Run). z.exit ≡ None) h.1 going) learnt
         (same-keeps (listed base) later))
 
     -- it ends with the outermost, after which nothing is held
@@ -294,23 +352,38 @@ module _ (code : List Insn) (shapes : List MapShape) (ctx_len : ℕ) (hash : Are
         let later = moves (unlocked run) (resumed i Nothing run.state) in
         let outside : later.depth ≡ 0 = omega (arith, inside) in
         subst (Planned none) (sym h.1)
-        (replied base (content learnt) (single learnt) (same-keeps (listed base) run) Leave asked Nothing (listed base) later (refl, refl) (h.0, refl) (subst (λ (z : Run). z.exit ≡ None) h.1 going) none
-        (record { held = λ map n y. elim y.allowed [ inl g ↦ (let d : 0 < later.depth = g.0 in absurd (omega (arith, d, outside))) | inr a ↦ absurd (not-array shapes hash (listed base) later map a) ]; depth = refl }))
+        (replied base (content learnt) (single learnt) (same-keeps (listed base) run) Leave asked Nothing
+        (listed base) later (refl, refl) (h.0, refl) (subst (λ (z : Run). z.exit ≡ None) h.1 going) none
+        (record {
+          held = λ map n y. elim y.allowed [
+            | inl g ↦
+                (let d : 0 < later.depth = g.0 in absurd (omega (arith, d, outside)))
+            | inr a ↦
+                absurd (not-array shapes hash (listed base) later map a)
+          ];
+          depth = refl;
+        }))
 
     -- a lookup finds nothing, or any slot, which is learnt
     abbrev Finding : ℕ → List ℕ → Request
     Finding map key = CallHelper Lookup (MapArgument map ∷ BytesArgument key ∷ [])
 
-    pub miss-learnt : (i' map : ℕ) (key : List ℕ) → slice_get run.program.maps i' ≡ Some map → Asked (Finding i' key) → (new : Run) → new ≡ moves run (resumed i (Number 0) run.state) → new.exit ≡ None → Planned learnt new
+    pub miss-learnt : (i' map : ℕ) (key : List ℕ) → slice_get run.program.maps i' ≡ Some map → Asked (Finding i' key)
+        → (new : Run) → new ≡ moves run (resumed i (Number 0) run.state) → new.exit ≡ None → Planned learnt new
     miss-learnt i' map key bound asked new is going =
-        let absent : IsAbsent (listed base) map key = λ n l. never-linked (learnt (region_of n)) sec (ap (λ (e : Element). e.life) (by-is (births shapes) base n l.element l.born) ∙ l.linked) in
+        let absent : IsAbsent (listed base) map key = λ n l.
+        never-linked (learnt (region_of n)) sec (ap (λ (e : Element). e.life)
+        (by-is (births shapes) base n l.element l.born) ∙ l.linked) in
         let later = moves run (resumed i (Number 0) run.state) in
         subst (Planned learnt) (sym is)
         (replied base (content learnt) (single learnt) (same-keeps (listed base) run) (Finding i' key) asked (Number 0) (listed base) later
         (map, None, bound, absent, refl, refl) refl (subst (λ (z : Run). z.exit ≡ None) is going) learnt (same-keeps (listed base) later))
 
-    pub hit-learnt : (i' map region : ℕ) (key : List ℕ) → map < length shapes → slice_get run.program.maps i' ≡ Some map → region < regions → Asked (Finding i' key) → length key ≡ key_length (slice_get shapes map)
-        → (new : Run) → new ≡ moves run (resumed i (Pointer (Elem (element_in_region map region) (pos 0))) run.state) → new.exit ≡ None → Planned (also region learnt) new
+    pub hit-learnt : (i' map region : ℕ) (key : List ℕ) → map < length shapes →
+        slice_get run.program.maps i' ≡ Some map → region < regions → Asked (Finding i' key) →
+        length key ≡ key_length (slice_get shapes map)
+        → (new : Run) → new ≡ moves run (resumed i (Pointer (Elem (element_in_region map region) (pos 0))) run.state)
+        → new.exit ≡ None → Planned (also region learnt) new
     hit-learnt i' map region key there bound small asked long new is going =
         let n = element_in_region map region in
         let of_map : map_of n ≡ map = omega (arith, small) in
@@ -331,5 +404,10 @@ module _ (code : List Insn) (shapes : List MapShape) (ctx_len : ℕ) (hash : Are
         subst (Planned (also region learnt)) (sym is)
         (replied all (special-content n e refl (long ∙ ap (λ k. key_length (slice_get shapes k)) (sym of_map)) (c.value n) (c.bytes n))
         (single-one (births shapes) all n (linked-at n e base (λ k l. never-linked (learnt (region_of k)) sec l)))
-        (keeps-by shapes base all run (special-guards n e refl (λ g. tt))) (Finding i' key) asked reply (listed all) later (map, Some n, bound, found, refl, refl) refl (subst (λ (z : Run). z.exit ≡ None) is going) (also region learnt)
-        (keeps-by shapes all (learnt_element shapes sec (also region learnt)) later (back-guards (also region learnt) n e refl (subst (λ r. also region learnt r ≡ true) (sym of_region) (also-here region learnt)) (also-before region learnt))))
+        (keeps-by shapes base all run (special-guards n e refl (λ g. tt))) (Finding i' key) asked reply (listed all)
+        later (map, Some n, bound, found, refl, refl) refl (subst (λ (z : Run). z.exit ≡ None) is going)
+        (also region learnt)
+        (keeps-by shapes all (learnt_element shapes sec (also region learnt)) later
+        (back-guards (also region learnt) n e refl
+        (subst (λ r. also region learnt r ≡ true) (sym of_region) (also-here region learnt))
+        (also-before region learnt))))

@@ -68,8 +68,10 @@ idle me slot place (Scan r x) es q = refl
 pub stored_here : (me s p slot place x : ℕ) (es : List (ℕ × Move)) → s ≡ slot → p ≡ place → word_at_place slot place ((me, Store s p x) ∷ es) ≡ x
 stored_here me s p slot place x es e f = rw (eq-eqb s slot e) (rw (eq-eqb p place f) refl)
 
-pub stored_in_another : (me s p slot place x : ℕ) (es : List (ℕ × Move)) → s ≢ slot → word_at_place slot place ((me, Store s p x) ∷ es) ≡ word_at_place slot place es
+pub stored_in_another : (me s p slot place x : ℕ) (es : List (ℕ × Move)) → s ≢ slot →
+    word_at_place slot place ((me, Store s p x) ∷ es) ≡ word_at_place slot place es
 stored_in_another me s p slot place x es ne = rw (ne_eqb s slot ne) refl
 
-pub stored_beside : (me s p slot place x : ℕ) (es : List (ℕ × Move)) → s ≡ slot → p ≢ place → word_at_place slot place ((me, Store s p x) ∷ es) ≡ word_at_place slot place es
+pub stored_beside : (me s p slot place x : ℕ) (es : List (ℕ × Move)) → s ≡ slot → p ≢ place →
+    word_at_place slot place ((me, Store s p x) ∷ es) ≡ word_at_place slot place es
 stored_beside me s p slot place x es e ne = rw (eq-eqb s slot e) (rw (ne_eqb p place ne) refl)

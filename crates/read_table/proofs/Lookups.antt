@@ -1,5 +1,6 @@
 -- Stretches that only search.
-use Rattle.std.proofs.Common.{◌≡◌, ◌≢◌, ℕ, ◌+◌, ◌%◌, ◌<◌, ◌≤◌, List, [], ◌∷◌, ◌++◌, Bool, true, false, refl, sym, ap, ◌∙◌, subst, inl, inr, arith, Option, Some, None}
+use Rattle.std.proofs.Common.{◌≡◌, ◌≢◌, ℕ, ◌+◌, ◌%◌, ◌<◌, ◌≤◌, List, [], ◌∷◌, ◌++◌, Bool, true, false, refl, sym, ap}
+use Rattle.std.proofs.Common.{◌∙◌, subst, inl, inr, arith, Option, Some, None}
 use Rattle.std.specs.Prelude.{MatchBool, IfSome}
 use mathlib.Core.Logic.{dite}
 use native.Mathlib.Decide.{ℕ_discrete}
@@ -46,7 +47,8 @@ only_inside k (Header s w ∷ ns) ms n = absurd n
 only_inside k (Scan r x ∷ ns) ms n = absurd n
 
 -- a holder that only searched knows what it knew
-pub searched_knows : (k : TableShape) (s t : Holder) (ms : List Move) → Goes s ms t → OnlySearches k ms → (slot h : ℕ) → Knows slot h s.view.mine → Knows slot h t.view.mine
+pub searched_knows : (k : TableShape) (s t : Holder) (ms : List Move) → Goes s ms t → OnlySearches k ms → (slot h : ℕ)
+    → Knows slot h s.view.mine → Knows slot h t.view.mine
 searched_knows k s t ms g o slot h known = goes_fact (Knows slot h) s t ms g (only_knows k slot h ms s.view.mine o known)
 
 -- and is inside its section, if it was
@@ -97,7 +99,8 @@ refuted_back k key slot (Store s p x ∷ ns) ms r = refuted_back k key slot ns m
 refuted_back k key slot (Header s w ∷ ns) ms r = refuted_back k key slot ns ms r
 refuted_back k key slot (Scan q x ∷ ns) ms r = refuted_back k key slot ns ms r
 
-pub found_front : (k : TableShape) (key : List ℕ) (slot : ℕ) (ns ms : List Move) → AnswersLookup k key ns (Some slot) → AnswersLookup k key (ns ++ ms) (Some slot)
+pub found_front : (k : TableShape) (key : List ℕ) (slot : ℕ) (ns ms : List Move) → AnswersLookup k key ns (Some slot)
+    → AnswersLookup k key (ns ++ ms) (Some slot)
 found_front k key slot ns ms a = (a.0, (a.1.0, knows_front slot a.1.0 ns ms a.1.1), λ place word l e. had_front slot place word ns ms (a.2 place word l e))
 
 abbrev number_in : Option ℕ → ℕ
@@ -108,18 +111,21 @@ same_number : (x y : ℕ) → Some x ≡ Some y → x ≡ y
 same_number x y e = ap number_in e
 
 -- one more word of a key was found
-pub more_had : (key : List ℕ) (slot place x : ℕ) (ms : List Move) → ((p w : ℕ) → p < place → key_word key p ≡ Some w → HadWord slot p w ms) → key_word key place ≡ Some x
+pub more_had : (key : List ℕ) (slot place x : ℕ) (ms : List Move) →
+    ((p w : ℕ) → p < place → key_word key p ≡ Some w → HadWord slot p w ms) → key_word key place ≡ Some x
     → (p w : ℕ) → p < place + 1 → key_word key p ≡ Some w → HadWord slot p w (Load slot place x ∷ ms)
 more_had key slot place x ms had is p w l e = dite (ℕ_discrete place p)
     (λ same. inl (refl, same, same_number x w (sym is ∙ (ap (key_word key) same ∙ e))))
     (λ ne. inr (had p w (omega arith) e))
 
 -- another word was found
-pub other_word : (k : TableShape) (key : List ℕ) (slot place x w : ℕ) (ms : List Move) → place < k.key_words → key_word key place ≡ Some w → x ≢ w → Refuted k key slot (Load slot place x ∷ ms)
+pub other_word : (k : TableShape) (key : List ℕ) (slot place x w : ℕ) (ms : List Move) → place < k.key_words →
+    key_word key place ≡ Some w → x ≢ w → Refuted k key slot (Load slot place x ∷ ms)
 other_word k key slot place x w ms l is ne = inl (refl, l, λ e. ne (same_number x w (e ∙ is)))
 
 -- the words of a key that was found, and what was learnt before
-pub found_key : (k : TableShape) (key : List ℕ) (slot h : ℕ) (ms : List Move) → slot < k.slots → h % 2 ≡ 1 → OnlySearches k ms → HadKey k key slot ms → AnswersLookup k key (ms ++ Learn slot h ∷ []) (Some slot)
+pub found_key : (k : TableShape) (key : List ℕ) (slot h : ℕ) (ms : List Move) → slot < k.slots → h % 2 ≡ 1 →
+    OnlySearches k ms → HadKey k key slot ms → AnswersLookup k key (ms ++ Learn slot h ∷ []) (Some slot)
 found_key k key slot h ms l odd only had = (
   l,
   (h, only_knows k slot h ms (Learn slot h ∷ []) only (inl (refl, refl, odd))),
@@ -127,25 +133,30 @@ found_key k key slot h ms l odd only had = (
 )
 
 -- one more slot was searched
-pub more_refuted : (k : TableShape) (key : List ℕ) (low at : ℕ) (ns ms : List Move) → ((s : ℕ) → low ≤ s → s < at → Refuted k key s ms) → Refuted k key at ns → (s : ℕ) → low ≤ s → s < at + 1 → Refuted k key s (ns ++ ms)
+pub more_refuted : (k : TableShape) (key : List ℕ) (low at : ℕ) (ns ms : List Move) →
+    ((s : ℕ) → low ≤ s → s < at → Refuted k key s ms) → Refuted k key at ns → (s : ℕ) → low ≤ s → s < at + 1 →
+    Refuted k key s (ns ++ ms)
 more_refuted k key low at ns ms all one s l m = dite (ℕ_discrete at s)
     (λ e. refuted_front k key s ns ms (subst (λ z. Refuted k key z ns) e one))
     (λ ne. refuted_back k key s ns ms (all s l (omega arith)))
 
 -- the upper slots and then the lower ones were searched
-pub both_searched : (k : TableShape) (key : List ℕ) (home : ℕ) (ns ms : List Move) (found : Option ℕ) → Searched k key home k.slots ms None → Searched k key 0 home ns found → AnswersLookup k key (ns ++ ms) found
+pub both_searched : (k : TableShape) (key : List ℕ) (home : ℕ) (ns ms : List Move) (found : Option ℕ) →
+    Searched k key home k.slots ms None → Searched k key 0 home ns found → AnswersLookup k key (ns ++ ms) found
 both_searched k key home ns ms None upper lower = λ slot l. dite (dec_lt slot home)
     (λ low. refuted_front k key slot ns ms (lower slot (omega arith) low))
     (λ high. refuted_back k key slot ns ms (upper slot (omega arith) l))
 both_searched k key home ns ms (Some slot) upper lower = found_front k key slot ns ms lower
 
 -- whether a slot that was learnt as linked has the key
-pub has_matched : (k : TableShape) (key : List ℕ) (slot h : ℕ) (ms : List Move) (b : Bool) → slot < k.slots → h % 2 ≡ 1 → OnlySearches k ms → MatchBool b (HadKey k key slot ms) (Refuted k key slot ms)
+pub has_matched : (k : TableShape) (key : List ℕ) (slot h : ℕ) (ms : List Move) (b : Bool) → slot < k.slots →
+    h % 2 ≡ 1 → OnlySearches k ms → MatchBool b (HadKey k key slot ms) (Refuted k key slot ms)
     → MatchBool b (AnswersLookup k key (ms ++ Learn slot h ∷ []) (Some slot)) (Refuted k key slot (ms ++ Learn slot h ∷ []))
 has_matched k key slot h ms true l odd only had = found_key k key slot h ms l odd only had
 has_matched k key slot h ms false l odd only r = refuted_front k key slot ms (Learn slot h ∷ []) r
 
-pub answers_learnt : (k : TableShape) (key : List ℕ) (s t : Holder) (ms : List Move) (found : Option ℕ) → Goes s ms t → AnswersLookup k key ms found → IfSome found (λ slot. IsLearnt slot t.view.mine)
+pub answers_learnt : (k : TableShape) (key : List ℕ) (s t : Holder) (ms : List Move) (found : Option ℕ) → Goes s ms t
+    → AnswersLookup k key ms found → IfSome found (λ slot. IsLearnt slot t.view.mine)
 answers_learnt k key s t ms None g a = tt
 answers_learnt k key s t ms (Some slot) g a = goes_learnt s t ms slot g a.1
 
@@ -154,5 +165,6 @@ answers_slot k key ms None a = tt
 answers_slot k key ms (Some slot) a = a.0
 
 -- a slot that was learnt as not linked
-pub not_linked : (k : TableShape) (key : List ℕ) (slot h : ℕ) (b : Bool) (P : Type 0) → b ≡ false → h % 2 ≡ 0 → MatchBool b P (Refuted k key slot (Learn slot h ∷ []))
+pub not_linked : (k : TableShape) (key : List ℕ) (slot h : ℕ) (b : Bool) (P : Type 0) → b ≡ false → h % 2 ≡ 0 →
+    MatchBool b P (Refuted k key slot (Learn slot h ∷ []))
 not_linked k key slot h b P is even = subst (λ z. MatchBool z P (Refuted k key slot (Learn slot h ∷ []))) (sym is) (inl (refl, even))

@@ -11,18 +11,22 @@ IsAt k i slot place = i ≡ index_in k slot place
 
 -- the slot and the place of a word
 pub slot_back : (k : TableShape) (i slot place : ℕ) → IsAt k i slot place → place < width_of k → (i - base_of k) / width_of k ≡ slot
-slot_back k i slot place e l = let p : i - base_of k ≡ slot * width_of k + place = omega arith in ap (λ z. z / width_of k) p ∙ div-mul-add slot (width_of k) place l
+slot_back k i slot place e l = let p : i - base_of k ≡ slot * width_of k + place =
+    omega arith in ap (λ z. z / width_of k) p ∙ div-mul-add slot (width_of k) place l
 
 pub place_back : (k : TableShape) (i slot place : ℕ) → IsAt k i slot place → place < width_of k → (i - base_of k) % width_of k ≡ place
-place_back k i slot place e l = let p : i - base_of k ≡ slot * width_of k + place = omega arith in ap (λ z. z % width_of k) p ∙ mod-mul-add slot (width_of k) place l
+place_back k i slot place e l = let p : i - base_of k ≡ slot * width_of k + place =
+    omega arith in ap (λ z. z % width_of k) p ∙ mod-mul-add slot (width_of k) place l
 
-pub load_move : (j k : TableShape) (i slot place x : ℕ) → j ≡ k → IsAt k i slot place → place < width_of k → Load ((i - base_of j) / width_of j) ((i - base_of j) % width_of j) x ≡ Load slot place x
+pub load_move : (j k : TableShape) (i slot place x : ℕ) → j ≡ k → IsAt k i slot place → place < width_of k →
+    Load ((i - base_of j) / width_of j) ((i - base_of j) % width_of j) x ≡ Load slot place x
 load_move j k i slot place x is e l =
     let b = subst (λ (z : TableShape). IsAt z i slot place) (sym is) e in
     let w = subst (λ (z : TableShape). place < width_of z) (sym is) l in
     λ a. Load (slot_back j i slot place b w a) (place_back j i slot place b w a) x
 
-pub store_move : (j k : TableShape) (i slot place x : ℕ) → j ≡ k → IsAt k i slot place → place < width_of k → Store ((i - base_of j) / width_of j) ((i - base_of j) % width_of j) x ≡ Store slot place x
+pub store_move : (j k : TableShape) (i slot place x : ℕ) → j ≡ k → IsAt k i slot place → place < width_of k →
+    Store ((i - base_of j) / width_of j) ((i - base_of j) % width_of j) x ≡ Store slot place x
 store_move j k i slot place x is e l =
     let b = subst (λ (z : TableShape). IsAt z i slot place) (sym is) e in
     let w = subst (λ (z : TableShape). place < width_of z) (sym is) l in

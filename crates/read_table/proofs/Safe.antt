@@ -5,7 +5,8 @@ use native.Mathlib.Decide.{ℕ_discrete}
 use Rattle.read_table.specs.declared.view.Move.{Move}
 use Rattle.read_table.specs.declared.view.Move.TheVariants.{Open, Close, Learn, Load, Store, Header, Scan}
 use Rattle.read_table.specs.declared.view.TableShape.{TableShape}
-use Rattle.read_table.specs.History.{moves_of, inside, header_in, word_at_place, generation, Knows, IsLearnt, Cleared, MayLink, IsSpare, IsReader, MayDo, IsLawful}
+use Rattle.read_table.specs.History.{moves_of, inside, header_in, word_at_place, generation, Knows, IsLearnt, Cleared}
+use Rattle.read_table.specs.History.{MayLink, IsSpare, IsReader, MayDo, IsLawful}
 
 -- of what the reader did, a, and what the writer did, b
 record Safe (k : TableShape) (who slot h : ℕ) (a b : List Move) : Type 0 where
@@ -15,7 +16,8 @@ record Safe (k : TableShape) (who slot h : ℕ) (a b : List Move) : Type 0 where
   held : (header_in slot b ≡ h) ⊎ ((header_in slot b ≡ h + 1) × (Cleared who slot b → ⊥))
 
 -- the writer's next move
-writes : (k : TableShape) (who slot h : ℕ) (es : List (ℕ × Move)) (m : Move) → MayDo k es 0 m → Safe k who slot h (moves_of who es) (moves_of 0 es) → Safe k who slot h (moves_of who es) (m ∷ moves_of 0 es)
+writes : (k : TableShape) (who slot h : ℕ) (es : List (ℕ × Move)) (m : Move) → MayDo k es 0 m →
+    Safe k who slot h (moves_of who es) (moves_of 0 es) → Safe k who slot h (moves_of who es) (m ∷ moves_of 0 es)
 writes k who slot h es Open may s = absurd (omega arith)
 writes k who slot h es Close may s = absurd (omega arith)
 writes k who slot h es (Learn x y) may s = absurd (omega arith)
@@ -29,7 +31,8 @@ writes k who slot h es (Scan r x) may s = record {
       (λ t. inr (
         t.0,
         λ c. ⊎_elim
-            (λ (z : (r ≡ who) × (x ≡ 0)). let o = s.open_now in let e : inside (moves_of who es) ≡ 0 = ap (λ w. inside (moves_of w es)) (sym z.0) ∙ (sym may.1 ∙ z.1) in absurd (omega arith))
+            (λ (z : (r ≡ who) × (x ≡ 0)). let o = s.open_now in let e : inside (moves_of who es) ≡ 0 =
+            ap (λ w. inside (moves_of w es)) (sym z.0) ∙ (sym may.1 ∙ z.1) in absurd (omega arith))
             t.1 c,
       )) s.held;
 }
@@ -54,7 +57,9 @@ writes k who slot h es (Header x y) may s = dite (ℕ_discrete x slot)
     })
 
 -- the reader's own next move
-reads : (k : TableShape) (who slot h : ℕ) (es : List (ℕ × Move)) (m : Move) → MayDo k es who m → (Knows slot h (moves_of who es) → Safe k who slot h (moves_of who es) (moves_of 0 es)) → Knows slot h (m ∷ moves_of who es)
+reads : (k : TableShape) (who slot h : ℕ) (es : List (ℕ × Move)) (m : Move) → MayDo k es who m →
+    (Knows slot h (moves_of who es) → Safe k who slot h (moves_of who es) (moves_of 0 es)) →
+    Knows slot h (m ∷ moves_of who es)
     → Safe k who slot h (m ∷ moves_of who es) (moves_of 0 es)
 reads k who slot h es Open may ih known = absurd known
 reads k who slot h es Close may ih known = absurd known
@@ -71,7 +76,8 @@ reads k who slot h es (Store x p y) may ih known = let s = ih known in record { 
 reads k who slot h es (Header x y) may ih known = let s = ih known in record { reader = s.reader; open_now = s.open_now; odd = s.odd; held = s.held }
 reads k who slot h es (Scan x y) may ih known = let s = ih known in record { reader = s.reader; open_now = s.open_now; odd = s.odd; held = s.held }
 
-safe : (k : TableShape) (es : List (ℕ × Move)) → IsLawful k es → (who slot h : ℕ) → Knows slot h (moves_of who es) → Safe k who slot h (moves_of who es) (moves_of 0 es)
+safe : (k : TableShape) (es : List (ℕ × Move)) → IsLawful k es → (who slot h : ℕ) → Knows slot h (moves_of who es) →
+    Safe k who slot h (moves_of who es) (moves_of 0 es)
 safe k [] lawful who slot h known = absurd known
 safe k (e ∷ es) lawful who slot h known = dite (ℕ_discrete e.0 who)
     (λ mine. let own : moves_of who (e ∷ es) ≡ e.1 ∷ moves_of who es = rw (eq-eqb e.0 who mine) refl in
@@ -83,7 +89,8 @@ safe k (e ∷ es) lawful who slot h known = dite (ℕ_discrete e.0 who)
     let s = safe k es lawful.1 who slot h (subst (Knows slot h) same known) in
     dite (ℕ_discrete e.0 0)
     (λ writer. let own : moves_of 0 (e ∷ es) ≡ e.1 ∷ moves_of 0 es = rw (eq-eqb e.0 0 writer) refl in
-    subst (λ (y : List Move × List Move). Safe k who slot h y.0 y.1) (λ a. (sym same a, sym own a)) (writes k who slot h es e.1 (subst (λ z. MayDo k es z e.1) writer lawful.0) s))
+    subst (λ (y : List Move × List Move). Safe k who slot h y.0 y.1) (λ a. (sym same a, sym own a))
+    (writes k who slot h es e.1 (subst (λ z. MayDo k es z e.1) writer lawful.0) s))
     (λ reader. let other : moves_of 0 (e ∷ es) ≡ moves_of 0 es = rw (ne_eqb e.0 0 reader) refl in
     subst (λ (y : List Move × List Move). Safe k who slot h y.0 y.1) (λ a. (sym same a, sym other a)) s))
 
@@ -91,13 +98,17 @@ half_up : (h : ℕ) → h % 2 ≡ 1 → generation (h + 1) ≡ generation h
 half_up h odd = omega arith
 
 -- the slot has the generation with which it was learnt
-pub same_generation : (k : TableShape) (es : List (ℕ × Move)) → IsLawful k es → (who slot h : ℕ) → Knows slot h (moves_of who es) → generation (header_in slot (moves_of 0 es)) ≡ generation h
+pub same_generation : (k : TableShape) (es : List (ℕ × Move)) → IsLawful k es → (who slot h : ℕ) →
+    Knows slot h (moves_of who es) → generation (header_in slot (moves_of 0 es)) ≡ generation h
 same_generation k es lawful who slot h known =
     let s = safe k es lawful who slot h known in
-    ⊎_elim (λ (t : header_in slot (moves_of 0 es) ≡ h). ap generation t) (λ (t : (header_in slot (moves_of 0 es) ≡ h + 1) × (Cleared who slot (moves_of 0 es) → ⊥)). ap generation t.0 ∙ half_up h s.odd) s.held
+    ⊎_elim (λ (t : header_in slot (moves_of 0 es) ≡ h). ap generation t)
+    (λ (t : (header_in slot (moves_of 0 es) ≡ h + 1) × (Cleared who slot (moves_of 0 es) → ⊥)). ap generation t.0
+    ∙ half_up h s.odd) s.held
 
 -- nobody has learnt a spare slot
-pub spare_unlearnt : (k : TableShape) (es : List (ℕ × Move)) → IsLawful k es → (who slot : ℕ) → IsSpare k.readers slot (moves_of 0 es) → IsLearnt slot (moves_of who es) → ⊥
+pub spare_unlearnt : (k : TableShape) (es : List (ℕ × Move)) → IsLawful k es → (who slot : ℕ) →
+    IsSpare k.readers slot (moves_of 0 es) → IsLearnt slot (moves_of who es) → ⊥
 spare_unlearnt k es lawful who slot spare known =
     let s = safe k es lawful who slot known.0 known.1 in
     let odd = s.odd in
@@ -109,10 +120,13 @@ spare_unlearnt k es lawful who slot spare known =
     ⊎_elim (λ (z : header_in slot (moves_of 0 es) ≡ 0). absurd (omega arith)) (λ all. t.1 (all who s.reader.0 s.reader.1)) spare.1) s.held
 
 -- what came before a step was lawful, and the step was
-pub lawful_before : (k : TableShape) (after before : List (ℕ × Move)) (e : ℕ × Move) → IsLawful k (after ++ e ∷ before) → MayDo k before e.0 e.1 × IsLawful k before
+pub lawful_before : (k : TableShape) (after before : List (ℕ × Move)) (e : ℕ × Move) →
+    IsLawful k (after ++ e ∷ before) → MayDo k before e.0 e.1 × IsLawful k before
 lawful_before k [] before e h = h
 lawful_before k (x ∷ after) before e h = lawful_before k after before e h.1
 
 -- a load finds what was stored last
-pub finds_stored : (k : TableShape) (es : List (ℕ × Move)) → IsLawful k es → (after before : List (ℕ × Move)) (who slot place x : ℕ) → es ≡ after ++ (who, Load slot place x) ∷ before → x ≡ word_at_place slot place before
+pub finds_stored : (k : TableShape) (es : List (ℕ × Move)) → IsLawful k es →
+    (after before : List (ℕ × Move)) (who slot place x : ℕ) → es ≡ after ++ (who, Load slot place x) ∷ before →
+    x ≡ word_at_place slot place before
 finds_stored k es lawful after before who slot place x e = (lawful_before k after before (who, Load slot place x) (subst (IsLawful k) e lawful)).0.1

@@ -23,9 +23,12 @@ use Rattle.read_table.specs.Running.{Serves}
 
 -- what the code finds out of an address: the slot, and the place in the value
 abbrev pub LeadsThere : ℕ → ℤ → ℕ → ℕ → Type 0
-LeadsThere address offset slot place = (s p : ℕ) → s < most_map_slots → p < 2 ^ 20 → pos address +ℤ offset ≡ pos (slot_base 0 s + 8 * p) → (slot ≡ s) × (place ≡ p)
+LeadsThere address offset slot place = (s p : ℕ) → s < most_map_slots → p < 2 ^ 20 →
+    pos address +ℤ offset ≡ pos (slot_base 0 s + 8 * p) → (slot ≡ s) × (place ≡ p)
 
-pub there : (k : TableShape) (ms : List Move) (address : ℕ) (offset : ℤ) (width : Width) (slot place : ℕ) → IsSized k → LeadsThere address offset slot place → (l : LeadsToWord k ms address offset width) → (slot ≡ l.slot) × (place ≡ l.place)
+pub there : (k : TableShape) (ms : List Move) (address : ℕ) (offset : ℤ) (width : Width) (slot place : ℕ) → IsSized k
+    → LeadsThere address offset slot place → (l : LeadsToWord k ms address offset width) → (slot ≡ l.slot) ×
+    (place ≡ l.place)
 there k ms address offset width slot place sized w l =
     let few = sized.slots in
     let small = sized.value in
@@ -33,13 +36,17 @@ there k ms address offset width slot place sized w l =
     let in_value = l.in_value in
     w l.slot l.place (omega (arith, few, in_table)) (omega (arith, small, in_value)) l.at
 
-pub known-there : (k : TableShape) (ms before mine : List Move) (address : ℕ) (offset : ℤ) (width : Width) (slot place : ℕ) → IsSized k → LeadsThere address offset slot place → mine ≡ ms ++ before → LeadsToWord k ms address offset width → IsLearnt slot mine
+pub known-there : (k : TableShape) (ms before mine : List Move) (address : ℕ) (offset : ℤ) (width : Width)
+    (slot place : ℕ) → IsSized k → LeadsThere address offset slot place → mine ≡ ms ++ before →
+    LeadsToWord k ms address offset width → IsLearnt slot mine
 known-there k ms before mine address offset width slot place sized w e l =
     let t = there k ms address offset width slot place sized w l in
     subst (λ (m : List Move). IsLearnt slot m) (sym e) (subst (λ (s : ℕ). IsLearnt s (ms ++ before)) (sym t.0) (learnt-in l.slot ms before l.learnt))
 
 module _ (k : TableShape) (v : RunView) (request : Request) where
-  pub serves-load : (address : ℕ) (offset : ℤ) (width : Width) (slot place x : ℕ) → request ≡ requests.Load address offset width → IsSized k → LeadsThere address offset slot place → x < 2 ^ 64 → Serves k v request (Load slot (k.key_words + place) x ∷ []) x
+  pub serves-load : (address : ℕ) (offset : ℤ) (width : Width) (slot place x : ℕ) →
+      request ≡ requests.Load address offset width → IsSized k → LeadsThere address offset slot place → x < 2 ^ 64 →
+      Serves k v request (Load slot (k.key_words + place) x ∷ []) x
   serves-load address offset width slot place x is sized w small = λ c context ms can.
       let l = subst (λ (q : Request). CanAnswer k c context ms v q) is can in
       let t = there k ms address offset width slot place sized w l.leads in (
@@ -48,7 +55,9 @@ module _ (k : TableShape) (v : RunView) (request : Request) where
         subst (λ (q : Request). MayGive c v q x) (sym is) (subst (λ (n : ℕ). x < 256 ^ n) (sym l.leads.wide) small),
       )
 
-  pub serves-store : (address : ℕ) (offset : ℤ) (width : Width) (number slot place : ℕ) → request ≡ requests.Store address offset width number → IsSized k → LeadsThere address offset slot place → Serves k v request (Store slot (k.key_words + place) number ∷ []) 0
+  pub serves-store : (address : ℕ) (offset : ℤ) (width : Width) (number slot place : ℕ) →
+      request ≡ requests.Store address offset width number → IsSized k → LeadsThere address offset slot place →
+      Serves k v request (Store slot (k.key_words + place) number ∷ []) 0
   serves-store address offset width number slot place is sized w = λ c context ms can.
       let l = subst (λ (q : Request). CanAnswer k c context ms v q) is can in
       let t = there k ms address offset width slot place sized w l.leads in (
@@ -57,18 +66,23 @@ module _ (k : TableShape) (v : RunView) (request : Request) where
         subst (λ (q : Request). MayGive c v q 0) (sym is) tt,
       )
 
-  given : (found : Option ℕ) (ns : List Move) (key : List ℕ) → IsSized k → AnswersLookup k key ns found → (found_word 0 found ≡ 0) ⊎ IsSlotWord (found_word 0 found)
+  given : (found : Option ℕ) (ns : List Move) (key : List ℕ) → IsSized k → AnswersLookup k key ns found →
+      (found_word 0 found ≡ 0) ⊎ IsSlotWord (found_word 0 found)
   given None ns key sized a = inl refl
   given (Some slot) ns key sized a =
       let in_table = a.0 in
       let few = sized.slots in
       inr (record { map = 0; slot = slot; few_maps = omega arith; few_slots = omega (arith, in_table, few); is = refl })
 
-  pub serves-lookup : (ns : List Move) (found : Option ℕ) (word : ℕ) → request ≡ requests.Call Lookup → IsSized k → OnlySearches k ns → AnswersLookup k (bytes_in v 2 (8 * k.key_words)) ns found → word ≡ found_word 0 found → Serves k v request ns word
+  pub serves-lookup : (ns : List Move) (found : Option ℕ) (word : ℕ) → request ≡ requests.Call Lookup → IsSized k →
+      OnlySearches k ns → AnswersLookup k (bytes_in v 2 (8 * k.key_words)) ns found → word ≡ found_word 0 found →
+      Serves k v request ns word
   serves-lookup ns found word is sized searches answers e = λ c context ms can.
       let l = subst (λ (q : Request). CanAnswer k c context ms v q) is can in (
         subst (λ (w : ℕ). GoesOnWith k c context (ns ++ ms) v w) (sym e) (l.goes_on ns found searches answers),
-        subst (λ (q : Request). MayGive c v q word) (sym is) (subst (λ (w : ℕ). (w ≡ 0) ⊎ IsSlotWord w) (sym e) (given found ns (bytes_in v 2 (8 * k.key_words)) sized answers)),
+        subst (λ (q : Request). MayGive c v q word) (sym is)
+            (subst (λ (w : ℕ). (w ≡ 0) ⊎ IsSlotWord w) (sym e)
+            (given found ns (bytes_in v 2 (8 * k.key_words)) sized answers)),
       )
 
   pub serves-enter : request ≡ requests.Enter → Serves k v request (opening v.depth) 0

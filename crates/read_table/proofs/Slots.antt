@@ -1,5 +1,6 @@
 -- The writer's lists of slots.
-use Rattle.std.proofs.Common.{◌≡◌, ◌≢◌, ℕ, zero, suc, ◌+◌, ◌<◌, ◌≤◌, List, [], ◌∷◌, ◌++◌, length, get_or, refl, sym, ap, ◌∙◌, subst, inl, arith, eq-eqb, ne_eqb, add-one, length-append}
+use Rattle.std.proofs.Common.{◌≡◌, ◌≢◌, ℕ, zero, suc, ◌+◌, ◌<◌, ◌≤◌, List, [], ◌∷◌, ◌++◌, length, get_or, refl, sym}
+use Rattle.std.proofs.Common.{ap, ◌∙◌, subst, inl, arith, eq-eqb, ne_eqb, add-one, length-append}
 use mathlib.Core.Logic.{dite}
 use native.Mathlib.Decide.{ℕ_discrete}
 use Rattle.std.specs.Prelude.{All}
@@ -46,7 +47,8 @@ none_at : (P : ℕ → Type 0) → All P []
 none_at P k d l = absurd (omega arith)
 
 -- the writer at first: each slot is free
-pub begins_writer : (n : ℕ) (k : TableShape) (headers : List ℕ) → length headers ≡ k.slots → ((j : ℕ) → get_or headers j 0 ≡ 0) → IsWriter (writer_after n k) headers
+pub begins_writer : (n : ℕ) (k : TableShape) (headers : List ℕ) → length headers ≡ k.slots →
+    ((j : ℕ) → get_or headers j 0 ≡ 0) → IsWriter (writer_after n k) headers
 begins_writer n k headers len zeros = record { me = refl; known = (tt, refl); count = len; are_headers = λ slot _. zeros slot }
 
 add : (j : ℕ) → 0 + j ≡ j
@@ -63,7 +65,8 @@ begins_at_slots n k = let len = length-range_with_len 0 k.slots in record {
   are_unlinked = none_at (IsUnlinked (writer_after n k));
 }
 
-pub begins_slots : (v : View) (n : ℕ) (k : TableShape) (free linked unlinked : List ℕ) → v ≡ writer_after n k → free ≡ range_with_len 0 k.slots → linked ≡ [] → unlinked ≡ [] → AreSlots v free linked unlinked
+pub begins_slots : (v : View) (n : ℕ) (k : TableShape) (free linked unlinked : List ℕ) → v ≡ writer_after n k →
+    free ≡ range_with_len 0 k.slots → linked ≡ [] → unlinked ≡ [] → AreSlots v free linked unlinked
 begins_slots v n k free linked unlinked e f l u =
     subst (λ z. AreSlots z free linked unlinked) (sym e)
     (subst (λ z. AreSlots (writer_after n k) z linked unlinked) (sym f)

@@ -52,9 +52,13 @@ shape-in : (shapes : List MapShape) (i : ℕ) → slice_get shapes i ≡ bound_s
 shape-in shapes i = elim (cases_lt i (length shapes)) [
   | inl l ↦
       let x = get-below shapes i l in
-      x.1 ∙ sym (ap (λ o. o >>= map_state.shape_of (store_of shapes [])) (get-range (length shapes) i l) ∙ ap map_state.shape_in (get-map map_state.new_map shapes i x.0 x.1))
+      x.1 ∙ sym (ap (λ o. o >>= map_state.shape_of (store_of shapes [])) (get-range (length shapes) i l) ∙
+      ap map_state.shape_in (get-map map_state.new_map shapes i x.0 x.1))
   | inr l ↦
-      slice_get_past shapes i l ∙ sym (ap (λ o. o >>= map_state.shape_of (store_of shapes [])) (slice_get_past (range_with_len 0 (length shapes)) i (let long : length (range_with_len 0 (length shapes)) ≡ length shapes = length-range_with_len 0 (length shapes) in omega (arith, long, l))))
+      slice_get_past shapes i l ∙ sym (ap (λ o. o >>= map_state.shape_of (store_of shapes []))
+      (slice_get_past (range_with_len 0 (length shapes)) i
+      (let long : length (range_with_len 0 (length shapes)) ≡ length shapes =
+      length-range_with_len 0 (length shapes) in omega (arith, long, l))))
 ]
 
 pub same-shapes : (shapes : List MapShape) → slice_get shapes ≡ bound_shape (store_of shapes []) (range_with_len 0 (length shapes))
@@ -74,15 +78,19 @@ went (laws.Goes u) asked view new h = ap laws.Goes (sym h.1)
 went (laws.Ends n) asked view new h = let e : locals.Moved ≡ locals.Exit n = h.0 in absurd (cc)
 went laws.Asks asked view new h = let e : locals.Moved ≡ locals.Shared h.0 = h.2 in absurd (cc)
 
-ended : (l : laws.LocalStep) (asked : Option Request) (view new : RunView) (n : ℕ) → IsLocalStep l asked view (locals.Exit n) new → (l ≡ laws.Ends n) × (new ≡ ended_view n view)
+ended : (l : laws.LocalStep) (asked : Option Request) (view new : RunView) (n : ℕ) →
+    IsLocalStep l asked view (locals.Exit n) new → (l ≡ laws.Ends n) × (new ≡ ended_view n view)
 ended (laws.Goes u) asked view new n h = let e : locals.Exit n ≡ locals.Moved = h.0 in absurd (cc)
-ended (laws.Ends m) asked view new n h = let e : locals.Exit n ≡ locals.Exit m = h.0 in let same : m ≡ n = cc in (ap laws.Ends same, h.1 ∙ ap (λ (k : ℕ). ended_view k view) same)
+ended (laws.Ends m) asked view new n h = let e : locals.Exit n ≡ locals.Exit m = h.0 in let same : m ≡ n =
+    cc in (ap laws.Ends same, h.1 ∙ ap (λ (k : ℕ). ended_view k view) same)
 ended laws.Asks asked view new n h = let e : locals.Exit n ≡ locals.Shared h.0 = h.2 in absurd (cc)
 
-pub waited : (l : laws.LocalStep) (asked : Option Request) (view new : RunView) (request : Request) → IsLocalStep l asked view (locals.Shared request) new → (l ≡ laws.Asks) × (asked ≡ Some request) × (new ≡ view)
+pub waited : (l : laws.LocalStep) (asked : Option Request) (view new : RunView) (request : Request) →
+    IsLocalStep l asked view (locals.Shared request) new → (l ≡ laws.Asks) × (asked ≡ Some request) × (new ≡ view)
 waited (laws.Goes u) asked view new request h = let e : locals.Shared request ≡ locals.Moved = h.0 in absurd (cc)
 waited (laws.Ends m) asked view new request h = let e : locals.Shared request ≡ locals.Exit m = h.0 in absurd (cc)
-waited laws.Asks asked view new request h = let e : locals.Shared request ≡ locals.Shared h.0 = h.2 in let same : h.0 ≡ request = cc in (refl, h.1 ∙ ap Some same, h.3)
+waited laws.Asks asked view new request h = let e : locals.Shared request ≡ locals.Shared h.0 =
+    h.2 in let same : h.0 ≡ request = cc in (refl, h.1 ∙ ap Some same, h.3)
 
 goes-asks : (u : RunView) → laws.Goes u ≡ laws.Asks → ⊥
 goes-asks u e = absurd (cc)
@@ -142,7 +150,8 @@ module _ (k : TableShape) (c : Checked) (context : List ℕ) (ms : List Move) (v
   asked-listed i request e =
       ap (λ (shapes : ℕ → Option MapShape). asks_of i shapes run.state) listed-shapes ∙ e
 
-  pub so : (plan : Plan) (closed : IsClosed c.program c.shapes c.ctx_len plan) (i : Insn) (request : Asked) → Known i → asks_of i listed run.state ≡ Some request
+  pub so : (plan : Plan) (closed : IsClosed c.program c.shapes c.ctx_len plan) (i : Insn) (request : Asked) → Known i
+      → asks_of i listed run.state ≡ Some request
       → AsksSo c.program c.shapes c.ctx_len plan (ready plan closed) c.shapes run v (x.shown plan closed) i request
   so plan closed i request here e = asks-so c.program c.shapes c.ctx_len plan (ready plan closed) c.shapes run v (x.shown plan closed) i request here e
 
@@ -164,7 +173,9 @@ module _ (k : TableShape) (c : Checked) (context : List ℕ) (ms : List Move) (v
   NextPlanned later new = Planned c.program c.shapes c.ctx_len are-hash some.plan some.closed run shown.described x.learnt x.index x.planned later new
 
   -- the run and its words go on
-  pub onward : (ns : List Move) (next : Run) (u : RunView) (later : ℕ → Bool) → ((plan : Plan) → IsClosed c.program c.shapes c.ctx_len plan → Shows plan next u) → next.program ≡ run.program → next.moved ≡ run.moved + 1
+  pub onward : (ns : List Move) (next : Run) (u : RunView) (later : ℕ → Bool) →
+      ((plan : Plan) → IsClosed c.program c.shapes c.ctx_len plan → Shows plan next u) → next.program ≡ run.program →
+      next.moved ≡ run.moved + 1
       → NextPlanned later next → Comes k c.shapes (fresh_run 0 (loaded_of c) context) ns (suc v.moved) next
       → ((slot : ℕ) → later slot ≡ true → (slot < k.slots) × IsLearnt slot ns) → inside ns ≡ flag_of next.depth → GoesFurther k c context ns v u
   onward ns next u later all program counts planned came known_later at_depth =
@@ -195,11 +206,14 @@ module _ (k : TableShape) (c : Checked) (context : List ℕ) (ms : List Move) (v
   depth-is = shown.words.depth
 
   -- it goes on by itself
-  moved-to : (i : Insn) (out : Outcome) (new : RunView) → Known i → after_insn i (environment run) run.state ≡ Some out → laws.local_of i v ≡ laws.Goes new → Doing out (laws.Goes new) → GoesFurther k c context ms v new
+  moved-to : (i : Insn) (out : Outcome) (new : RunView) → Known i →
+      after_insn i (environment run) run.state ≡ Some out → laws.local_of i v ≡ laws.Goes new →
+      Doing out (laws.Goes new) → GoesFurther k c context ms v new
   moved-to i (Moves next) new here e is d =
       onward ms (moves_run run next) new x.learnt
       (λ plan closed. goes-alone c.program c.shapes c.ctx_len plan (ready plan closed) c.shapes run v (x.shown plan closed) i next new here e is) refl refl
-      (alone-learnt c.program c.shapes c.ctx_len are-hash some.plan some.closed run shown.described x.learnt x.index x.planned i next here e shown.described.going)
+      (alone-learnt c.program c.shapes c.ctx_len are-hash some.plan some.closed run shown.described x.learnt x.index
+      x.planned i next here e shown.described.going)
       (itself ms v.moved run (moves_run run next) x.came (record { insn = i; here = in-program i here; out = Moves next; does = e; leads = (refl, refl) }))
       x.known (x.section ∙ ap flag_of depth-is)
   moved-to i (Exits n) new here e is d = absurd d
@@ -208,13 +222,15 @@ module _ (k : TableShape) (c : Checked) (context : List ℕ) (ms : List Move) (v
   moved-by i new here is (Acts out e depth) = moved-to i out new here e is (subst (Doing out) is (acted i out here e))
   moved-by i new here is (AsksFor asked e) = absurd (goes-asks new (sym is ∙ (so some.plan some.closed i asked here e).local))
 
-  pub moves : (new : RunView) → ((insn : Insn) → insn_at c.program v.place ≡ Some insn → IsLocalStep (laws.local_of insn v) (request_of insn v) v locals.Moved new) → GoesFurther k c context ms v new
+  pub moves : (new : RunView) → ((insn : Insn) → insn_at c.program v.place ≡ Some insn →
+      IsLocalStep (laws.local_of insn v) (request_of insn v) v locals.Moved new) → GoesFurther k c context ms v new
   moves new s =
       let here = known steps.insn steps.here in
       moved-by steps.insn new here (went (laws.local_of steps.insn v) (request_of steps.insn v) v new (s steps.insn steps.here)) (turned steps.insn here)
 
   -- it ends, outside every section
-  exited : (i : Insn) (n : ℕ) → Known i → after_insn i (environment run) run.state ≡ Some (Exits n) → run.depth ≡ 0 → IsSharedRun k c.shapes (loaded_of c) context ms (v.moved + 1) n × (inside ms ≡ 0)
+  exited : (i : Insn) (n : ℕ) → Known i → after_insn i (environment run) run.state ≡ Some (Exits n) → run.depth ≡ 0 →
+      IsSharedRun k c.shapes (loaded_of c) context ms (v.moved + 1) n × (inside ms ≡ 0)
   exited i n here e depth = (
     record {
       name = 0;
@@ -231,7 +247,8 @@ module _ (k : TableShape) (c : Checked) (context : List ℕ) (ms : List Move) (v
   abbrev Ending : ℕ → Type 0
   Ending n = IsSharedRun k c.shapes (loaded_of c) context ms (v.moved + 1) n × (inside ms ≡ 0)
 
-  ended-at : (i : Insn) (out : Outcome) (n : ℕ) → Known i → after_insn i (environment run) run.state ≡ Some out → ((m : ℕ) → out ≡ Exits m → run.depth ≡ 0) → Doing out (laws.Ends n) → Ending n
+  ended-at : (i : Insn) (out : Outcome) (n : ℕ) → Known i → after_insn i (environment run) run.state ≡ Some out →
+      ((m : ℕ) → out ≡ Exits m → run.depth ≡ 0) → Doing out (laws.Ends n) → Ending n
   ended-at i (Moves next) n here e depth d = absurd d
   ended-at i (Exits m) n here e depth d = subst Ending (sym d) (exited i m here e (depth m refl))
 
@@ -239,7 +256,8 @@ module _ (k : TableShape) (c : Checked) (context : List ℕ) (ms : List Move) (v
   ended-by i n here is (Acts out e depth) = ended-at i out n here e depth (subst (Doing out) is (acted i out here e))
   ended-by i n here is (AsksFor asked e) = absurd (ends-asks n (sym is ∙ (so some.plan some.closed i asked here e).local))
 
-  pub exits : (n : ℕ) (new : RunView) → ((insn : Insn) → insn_at c.program v.place ≡ Some insn → IsLocalStep (laws.local_of insn v) (request_of insn v) v (locals.Exit n) new) → ExitsShared k c context ms new n
+  pub exits : (n : ℕ) (new : RunView) → ((insn : Insn) → insn_at c.program v.place ≡ Some insn →
+      IsLocalStep (laws.local_of insn v) (request_of insn v) v (locals.Exit n) new) → ExitsShared k c context ms new n
   exits n new s =
       let here = known steps.insn steps.here in
       let o = ended (laws.local_of steps.insn v) (request_of steps.insn v) v new n (s steps.insn steps.here) in
@@ -268,13 +286,25 @@ module _ (k : TableShape) (c : Checked) (context : List ℕ) (ms : List Move) (v
   asking i here is = asks-by i here is (turned i here)
 
   -- a step of the run that its seat serves
-  pub served-step : (i : Insn) (asked : Asked) → Known i → asks_of i listed run.state ≡ Some asked → (ns : List Move) (reply : Value) (next : Run) → Replies k run.depth ms asked ns reply → Resumes asked i reply run next
+  pub served-step : (i : Insn) (asked : Asked) → Known i → asks_of i listed run.state ≡ Some asked →
+      (ns : List Move) (reply : Value) (next : Run) → Replies k run.depth ms asked ns reply →
+      Resumes asked i reply run next
       → Comes k c.shapes (fresh_run 0 (loaded_of c) context) (ns ++ ms) (suc v.moved) next
   served-step i asked here e ns reply next replied resumes =
-      shared ms ns v.moved run next x.came (record { insn = i; here = in-program i here; request = asked; reply = reply; asked = asked-listed i asked e; replied = replied; resumes = resumes })
+      shared ms ns v.moved run next x.came (record {
+        insn = i;
+        here = in-program i here;
+        request = asked;
+        reply =
+            reply;
+        asked = asked-listed i asked e;
+        replied = replied;
+        resumes = resumes;
+      })
 
 -- moves one after another
-pub goes-on : (k : TableShape) (c : Checked) (context : List ℕ) (ms : List Move) (v new : RunView) → IsSharing k c context ms v → MovesOn c v new → IsSharing k c context ms new × (v.moved ≤ new.moved)
+pub goes-on : (k : TableShape) (c : Checked) (context : List ℕ) (ms : List Move) (v new : RunView) →
+    IsSharing k c context ms v → MovesOn c v new → IsSharing k c context ms new × (v.moved ≤ new.moved)
 goes-on k c context ms v new x stays = (x, omega arith)
 goes-on k c context ms v new x (more before next m step) =
     let b = goes-on k c context ms v before x m in

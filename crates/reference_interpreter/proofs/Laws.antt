@@ -27,7 +27,8 @@ use Rattle.reference_interpreter.specs.declared.value.Computed.{Computed}
 use Rattle.reference_interpreter.specs.Plain.{cells_of, Comes, IsComputed, IsFar, IsSum, pointed_offset}
 use Rattle.bpf_model.proofs.Bytes.{before, behind, within}
 
-pub bind_comes : {A : Type 0} (o : Option A) (f : A → Option Outcome) (x : A) (answer : Progress) (old new : PlainRun) → o ≡ Some x → Comes (f x) answer old new → Comes (o >>= f) answer old new
+pub bind_comes : {A : Type 0} (o : Option A) (f : A → Option Outcome) (x : A) (answer : Progress) (old new : PlainRun)
+    → o ≡ Some x → Comes (f x) answer old new → Comes (o >>= f) answer old new
 bind_comes o f x answer old new e h = subst (λ o. Comes (o >>= f) answer old new) (sym e) h
 
 pub bind_none : {A B : Type 0} (o : Option A) (f : A → Option B) → o ≡ None → (o >>= f) ≡ None
@@ -41,7 +42,8 @@ inside is p i e l =
     let s = start-insn_at 0 is p i e in
     omega (arith, starts_inside 0 is s.0 (0 + p) i s.1 s.2, slot_count_some i)
 
-pub entry_reg : (r : ℕ) → slice_index_or (Nothing ∷ Pointer (Ctx (pos 0)) ∷ Nothing ∷ Nothing ∷ Nothing ∷ Nothing ∷ Nothing ∷ Nothing ∷ Nothing ∷ Nothing ∷ Pointer (Frame (pos FRAME_BYTES)) ∷ []) r Nothing ≡ entry_value r
+pub entry_reg : (r : ℕ) → slice_index_or (Nothing ∷ Pointer (Ctx (pos 0)) ∷ Nothing ∷ Nothing ∷ Nothing ∷ Nothing
+    ∷ Nothing ∷ Nothing ∷ Nothing ∷ Nothing ∷ Pointer (Frame (pos FRAME_BYTES)) ∷ []) r Nothing ≡ entry_value r
 entry_reg zero = refl
 entry_reg (suc zero) = refl
 entry_reg (suc (suc zero)) = refl
@@ -53,13 +55,15 @@ entry_reg (suc (suc (suc (suc (suc (suc (suc zero))))))) = refl
 entry_reg (suc (suc (suc (suc (suc (suc (suc (suc zero)))))))) = refl
 entry_reg (suc (suc (suc (suc (suc (suc (suc (suc (suc zero))))))))) = refl
 entry_reg (suc (suc (suc (suc (suc (suc (suc (suc (suc (suc zero)))))))))) = refl
-entry_reg (suc (suc (suc (suc (suc (suc (suc (suc (suc (suc (suc r))))))))))) = sym (beyond (suc (suc (suc (suc (suc (suc (suc (suc (suc (suc (suc r))))))))))) (omega arith))
+entry_reg (suc (suc (suc (suc (suc (suc (suc (suc (suc (suc (suc r))))))))))) =
+    sym (beyond (suc (suc (suc (suc (suc (suc (suc (suc (suc (suc (suc r))))))))))) (omega arith))
   where
     beyond : (n : ℕ) → 11 ≤ n → entry_value n ≡ Nothing
     beyond n h = ap (λ t. if t then Pointer (Ctx (pos 0)) else if n == 10 then Pointer (Frame (pos FRAME_BYTES)) else Nothing) (ne_eqb n 1 (λ e. omega arith))
         ∙ ap (λ t. if t then Pointer (Frame (pos FRAME_BYTES)) else Nothing) (ne_eqb n 10 (λ e. omega arith))
 
-pub far_moved : (r : Reference) (offset : Option ℤ) (d : ℤ) → offset ≡ None → ((k : ℕ) → r ≡ MapRef k → ⊥) → IsSum (pointed_offset r +ℤ d) offset → (v : Value) × (offset_by r d ≡ Some v) × IsFar v
+pub far_moved : (r : Reference) (offset : Option ℤ) (d : ℤ) → offset ≡ None → ((k : ℕ) → r ≡ MapRef k → ⊥) →
+    IsSum (pointed_offset r +ℤ d) offset → (v : Value) × (offset_by r d ≡ Some v) × IsFar v
 far_moved (Ctx o) offset d e other s = (Pointer (Ctx (o +ℤ d)), refl, subst (IsSum (o +ℤ d)) e s)
 far_moved (Frame o) offset d e other s = (Pointer (Frame (o +ℤ d)), refl, subst (IsSum (o +ℤ d)) e s)
 far_moved (Elem k o) offset d e other s = (Pointer (Elem k (o +ℤ d)), refl, subst (IsSum (o +ℤ d)) e s)
@@ -74,11 +78,14 @@ same_within at i j n = elim (cases_lt j at) [
   ]
 ]
 
-pub cells_more : (frame old : List Cell) (f : ℕ → Cell) (at i : ℕ) (c : Cell) → at + i < length frame → c ≡ f (at + i) → ((j : ℕ) → cells_of frame j ≡ (if is_within at i j then f j else cells_of old j))
+pub cells_more : (frame old : List Cell) (f : ℕ → Cell) (at i : ℕ) (c : Cell) → at + i < length frame → c ≡ f (at + i)
+    → ((j : ℕ) → cells_of frame j ≡ (if is_within at i j then f j else cells_of old j))
     → (j : ℕ) → cells_of (slice_set frame (at + i) c) j ≡ (if is_within at (i + 1) j then f j else cells_of old j)
 cells_more frame old f at i c l e all j = elim (cases_eq j (at + i)) [
   | inl h ↦ subst (λ j. cells_of (slice_set frame (at + i) c) j ≡ (if is_within at (i + 1) j then f j else cells_of old j)) (sym h)
-      (get_or-set_same frame (at + i) c Unwritten l ∙ e ∙ sym (ap (λ t. if t then f (at + i) else cells_of old (at + i)) (within at (i + 1) (at + i) (omega arith) (omega arith))))
+      (get_or-set_same frame (at + i) c Unwritten l ∙ e ∙
+      sym (ap (λ t. if t then f (at + i) else cells_of old (at + i))
+      (within at (i + 1) (at + i) (omega arith) (omega arith))))
   | inr n ↦ get_or-set_other frame (at + i) j c Unwritten n ∙ all j ∙ ap (λ t. if t then f j else cells_of old j) (same_within at i j n)
 ]
 
@@ -91,20 +98,27 @@ far_set dst v m n far =
       subst (λ t. IsFar (if t then v else m.regs dst)) (sym (eq-eqb dst dst refl)) far,
     )
 
-pub sum_known : (x y : Value) (r : Reference) (b : ℕ) (c : Computed) → x ≡ Pointer r → number y ≡ Some b → IsComputed (offset_by r (signed w64 b)) c → IsComputed (sum_of x y) c
+pub sum_known : (x y : Value) (r : Reference) (b : ℕ) (c : Computed) → x ≡ Pointer r → number y ≡ Some b →
+    IsComputed (offset_by r (signed w64 b)) c → IsComputed (sum_of x y) c
 sum_known x y r b c e f h = subst (λ x. IsComputed (sum_of x y) c) (sym e) (bind_computes (number y) (λ b. offset_by r (signed w64 b)) b c f h)
 
-pub difference_known : (x y : Value) (r : Reference) (b : ℕ) (c : Computed) → x ≡ Pointer r → number y ≡ Some b → IsComputed (offset_by r (pos 0 -ℤ signed w64 b)) c → IsComputed (difference_of x y) c
-difference_known x y r b c e f h = subst (λ x. IsComputed (difference_of x y) c) (sym e) (bind_computes (number y) (λ b. offset_by r (pos 0 -ℤ signed w64 b)) b c f h)
+pub difference_known : (x y : Value) (r : Reference) (b : ℕ) (c : Computed) → x ≡ Pointer r → number y ≡ Some b →
+    IsComputed (offset_by r (pos 0 -ℤ signed w64 b)) c → IsComputed (difference_of x y) c
+difference_known x y r b c e f h = subst (λ x. IsComputed (difference_of x y) c) (sym e)
+    (bind_computes (number y) (λ b. offset_by r (pos 0 -ℤ signed w64 b)) b c f h)
 
-pub store_known : (m : State) (width : ℕ) (offset : ℤ) (v : Value) (r : Reference) (o : ℤ) (at : ℕ) (frame : ℕ → Cell) → r ≡ Frame o → region_offset FRAME_BYTES width (o +ℤ offset) ≡ Some at → frame_after at width v m.frame ≡ Some frame
+pub store_known : (m : State) (width : ℕ) (offset : ℤ) (v : Value) (r : Reference) (o : ℤ) (at : ℕ) (frame : ℕ → Cell)
+    → r ≡ Frame o → region_offset FRAME_BYTES width (o +ℤ offset) ≡ Some at →
+    frame_after at width v m.frame ≡ Some frame
     → stored m width offset v r ≡ Some (Moves (record { regs = m.regs; frame = frame; place = m.place + 1 }))
 store_known m width offset v r o at frame e f g =
     ap (stored m width offset v) e
     ∙ ap (λ p. p >>= λ at. frame_after at width v m.frame >>= λ frame. Some (Moves (record { regs = m.regs; frame = frame; place = m.place + 1 }))) f
     ∙ ap (λ q. q >>= λ frame. Some (Moves (record { regs = m.regs; frame = frame; place = m.place + 1 }))) g
 
-pub same_state : (f g : ℕ → Value) (p q : ℕ → Cell) (place : ℕ) → ((r : ℕ) → f r ≡ g r) → ((k : ℕ) → p k ≡ q k) → (let s : State = record { regs = f; frame = p; place = place } in s) ≡ record { regs = g; frame = q; place = place }
+pub same_state : (f g : ℕ → Value) (p q : ℕ → Cell) (place : ℕ) → ((r : ℕ) → f r ≡ g r) → ((k : ℕ) → p k ≡ q k) →
+    (let s : State = record { regs = f; frame = p; place = place } in s) ≡
+    record { regs = g; frame = q; place = place }
 same_state f g p q place e h =
     let mk : (ℕ → Value) → (ℕ → Cell) → State = λ f p. record { regs = f; frame = p; place = place } in
     ap (λ f. mk f p) (fun_ext e) ∙ ap (mk g) (fun_ext h)

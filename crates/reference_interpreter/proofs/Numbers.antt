@@ -12,10 +12,12 @@ pow_step w h = let e : w ≡ suc (w - 1) = omega arith in ap (λ (k : ℕ). 256 
 pub pow_top : (w : ℕ) → w ≤ 8 → 256 ^ w ≤ 2 ^ 64
 pow_top w h = let l : 256 ^ w ≤ 256 ^ 8 = pow-le-pow_right (lit< tt) h in l
 
-pub number_step : (bytes : ℕ → Option ℕ) (at w b h n : ℕ) → 0 < w → bytes at ≡ Some b → number_at bytes (at + 1) (w - 1) ≡ Some h → n ≡ b + 256 * h → Some n ≡ number_at bytes at w
+pub number_step : (bytes : ℕ → Option ℕ) (at w b h n : ℕ) → 0 < w → bytes at ≡ Some b →
+    number_at bytes (at + 1) (w - 1) ≡ Some h → n ≡ b + 256 * h → Some n ≡ number_at bytes at w
 number_step bytes at zero b h n p e f g = absurd (omega arith)
 number_step bytes at (suc w) b h n p e f g =
-    let k : number_at bytes (suc at) w ≡ Some h = sym (ap (λ k. number_at bytes k w) (add-one at)) ∙ sym (ap (λ k. number_at bytes (at + 1) k) (sub-one (suc w))) ∙ f in
+    let k : number_at bytes (suc at) w ≡ Some h = sym (ap (λ k. number_at bytes k w) (add-one at)) ∙
+    sym (ap (λ k. number_at bytes (at + 1) k) (sub-one (suc w))) ∙ f in
     ap Some g ∙ sym (ap (λ o. o >>= λ b. number_at bytes (suc at) w >>= λ n. Some (b + 256 * n)) e ∙ ap (λ o. o >>= λ n. Some (b + 256 * n)) k)
 
 pub div_step : (n i : ℕ) → n / 256 ^ i / 256 ≡ n / 256 ^ (i + 1)

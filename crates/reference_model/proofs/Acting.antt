@@ -47,9 +47,13 @@ element-is (Pointer (Elem k p)) n o h =
 -- a load from an element, whose number comes to the register as it is, or with its sign extended
 module _ (i : Insn) (extended : ℕ → ℕ) (loads : Option ℕ) (dst : ℕ) (env : Environment) (es : List Element) (old new : PlainRun)
     (waits : after i env (plain_state_of old) ≡ None)
-    (from : (k : ℕ) (out : Outcome) → loads ≡ Some k → sets 1 dst (Number (extended k)) (plain_state_of old) ≡ Some out → AccessesElement i es (plain_state_of old) out es)
-    (into : (out : Outcome) (more : List Element) → AccessesElement i es (plain_state_of old) out more → (k : ℕ) × (loads ≡ Some k) × (sets 1 dst (Number (extended k)) (plain_state_of old) ≡ Some out)) where
-  found : (q : Option ℕ) (out : Outcome) → (q >>= λ k. sets 1 dst (Number (extended k)) (plain_state_of old)) ≡ Some out → (k : ℕ) × (q ≡ Some k) × (sets 1 dst (Number (extended k)) (plain_state_of old) ≡ Some out)
+    (from : (k : ℕ) (out : Outcome) → loads ≡ Some k →
+    sets 1 dst (Number (extended k)) (plain_state_of old) ≡ Some out →
+    AccessesElement i es (plain_state_of old) out es)
+    (into : (out : Outcome) (more : List Element) → AccessesElement i es (plain_state_of old) out more → (k : ℕ) ×
+    (loads ≡ Some k) × (sets 1 dst (Number (extended k)) (plain_state_of old) ≡ Some out)) where
+  found : (q : Option ℕ) (out : Outcome) → (q >>= λ k. sets 1 dst (Number (extended k)) (plain_state_of old)) ≡ Some
+      out → (k : ℕ) × (q ≡ Some k) × (sets 1 dst (Number (extended k)) (plain_state_of old) ≡ Some out)
   found None out e = absurd cc
   found (Some k) out e = (k, refl, e)
 
@@ -68,8 +72,10 @@ module _ (i : Insn) (extended : ℕ → ℕ) (loads : Option ℕ) (dst : ℕ) (e
   ]
   load-acts progress.OutOfRange c = tt
 
-pub loaded-acts : (width : Width) (dst src : ℕ) (offset : ℤ) (env : Environment) (es : List Element) (old new : PlainRun) (p : Progress) (n : ℕ) (o : ℤ) → element_in ((plain_state_of old).regs src) ≡ Some (n, o) →
-    Comes (load_outcome es (byte_count width) offset (Pointer (Elem n o)) dst (plain_state_of old)) p old new → ActsAs (Load width dst src offset) env es old p es new
+pub loaded-acts : (width : Width) (dst src : ℕ) (offset : ℤ) (env : Environment) (es : List Element)
+    (old new : PlainRun) (p : Progress) (n : ℕ) (o : ℤ) → element_in ((plain_state_of old).regs src) ≡ Some (n, o) →
+    Comes (load_outcome es (byte_count width) offset (Pointer (Elem n o)) dst (plain_state_of old)) p old new →
+    ActsAs (Load width dst src offset) env es old p es new
 loaded-acts width dst src offset env es old new p n o b h =
     let base = element-is ((plain_state_of old).regs src) n o b in
     load-acts (Load width dst src offset) (λ k. k) (element_load es (byte_count width) offset ((plain_state_of old).regs src)) dst env es old new
@@ -77,23 +83,33 @@ loaded-acts width dst src offset env es old new p n o b h =
     (λ k out e f. (k, e, f, refl)) (λ out more x. (x.0, x.1, x.2)) p
     (subst (λ v. Comes (load_outcome es (byte_count width) offset v dst (plain_state_of old)) p old new) (sym base) h)
 
-pub extended-acts : (width : SignedWidth) (dst src : ℕ) (offset : ℤ) (env : Environment) (es : List Element) (old new : PlainRun) (p : Progress) (n : ℕ) (o : ℤ) → element_in ((plain_state_of old).regs src) ≡ Some (n, o) →
-    Comes (extended_outcome es width offset (Pointer (Elem n o)) dst (plain_state_of old)) p old new → ActsAs (LoadSigned width dst src offset) env es old p es new
+pub extended-acts : (width : SignedWidth) (dst src : ℕ) (offset : ℤ) (env : Environment) (es : List Element)
+    (old new : PlainRun) (p : Progress) (n : ℕ) (o : ℤ) → element_in ((plain_state_of old).regs src) ≡ Some (n, o) →
+    Comes (extended_outcome es width offset (Pointer (Elem n o)) dst (plain_state_of old)) p old new →
+    ActsAs (LoadSigned width dst src offset) env es old p es new
 extended-acts width dst src offset env es old new p n o b h =
     let base = element-is ((plain_state_of old).regs src) n o b in
-    load-acts (LoadSigned width dst src offset) (loaded_signed width) (element_load es (byte_count (unsigned_width width)) offset ((plain_state_of old).regs src)) dst env es old new
-    (ap (λ q. q >>= λ v. number v >>= λ k. sets 1 dst (Number (loaded_signed width k)) (plain_state_of old)) (ap (load_from env (plain_state_of old) (byte_count (unsigned_width width)) offset) base))
+    load-acts (LoadSigned width dst src offset) (loaded_signed width)
+    (element_load es (byte_count (unsigned_width width)) offset ((plain_state_of old).regs src)) dst env es old
+    new
+    (ap (λ q. q >>= λ v. number v >>= λ k. sets 1 dst (Number (loaded_signed width k)) (plain_state_of old))
+    (ap (load_from env (plain_state_of old) (byte_count (unsigned_width width)) offset) base))
     (λ k out e f. (k, e, f, refl)) (λ out more x. (x.0, x.1, x.2)) p
     (subst (λ v. Comes (extended_outcome es width offset v dst (plain_state_of old)) p old new) (sym base) h)
 
 -- a lock or an unlock is the step of its call
-pub kernel-steps : (imm : ℤ) (s : maps.Store) (opened : List Section) (run : Run) (answer : Result Answer ModelFault) (q : Run) → KernelsAs (kernel_function_of imm) run answer q → InsnStepsAs (Call kinds.Kernel imm) s opened run answer s q
-kernel-steps imm s opened run answer q h = tells-map _ _ _ _ answer (λ a k. of_kind (Call kinds.Kernel imm) s opened run a s q (k.0, k.1, refl)) (λ none a t p k. none p (by_kind (Call kinds.Kernel imm) s opened run a t p k).0) h
+pub kernel-steps : (imm : ℤ) (s : maps.Store) (opened : List Section) (run : Run) (answer : Result Answer ModelFault)
+    (q : Run) → KernelsAs (kernel_function_of imm) run answer q →
+    InsnStepsAs (Call kinds.Kernel imm) s opened run answer s q
+kernel-steps imm s opened run answer q h = tells-map _ _ _ _ answer
+    (λ a k. of_kind (Call kinds.Kernel imm) s opened run a s q (k.0, k.1, refl))
+    (λ none a t p k. none p (by_kind (Call kinds.Kernel imm) s opened run a t p k).0) h
 
 -- a step by the kind of its instruction
 pub of-kinds : (i : Insn) (s : maps.Store) (opened : List Section) (run : Run) (answer : Result Answer ModelFault) (t : maps.Store) (q : Run) →
     KindStepsAs i s opened run answer t q → InsnStepsAs i s opened run answer t q
-of-kinds i s opened run answer t q h = tells-map _ _ _ _ answer (λ a k. of_kind i s opened run a t q k) (λ none a u p k. none a u p (by_kind i s opened run a u p k)) h
+of-kinds i s opened run answer t q h = tells-map _ _ _ _ answer (λ a k. of_kind i s opened run a t q k)
+    (λ none a u p k. none a u p (by_kind i s opened run a u p k)) h
 
 -- what an instruction other than a call does is its step
 pub alone-steps : (i : Insn) (s : maps.Store) (opened : List Section) (run : Run) (answer : Result Answer ModelFault) (t : maps.Store) (q : Run) →

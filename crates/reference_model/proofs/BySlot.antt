@@ -33,18 +33,23 @@ later-more n (Some r) = let e : r + 1 + n ≡ r + (n + 1) = omega arith in ap So
 abbrev pub lowest_from : List Loaded → List (Option Run) → ℕ → Option ℕ
 lowest_from programs runs r = lowest_free (runs_of programs (drop r runs))
 
-pub lowest-here : (programs : List Loaded) (runs : List (Option Run)) (r : ℕ) (x : Option Run) → slice_get runs r ≡ Some x → is_some x ≡ false → lowest_from programs runs r ≡ Some 0
+pub lowest-here : (programs : List Loaded) (runs : List (Option Run)) (r : ℕ) (x : Option Run) →
+    slice_get runs r ≡ Some x → is_some x ≡ false → lowest_from programs runs r ≡ Some 0
 lowest-here programs runs r None h e = ap (λ rs. lowest_free (runs_of programs rs)) (drop-at runs r None h)
 lowest-here programs runs r (Some run) h e = absurd cc
 
-pub lowest-later : (programs : List Loaded) (runs : List (Option Run)) (r : ℕ) (x : Option Run) → slice_get runs r ≡ Some x → is_some x ≡ true → later r (lowest_from programs runs r) ≡ later (r + 1) (lowest_from programs runs (r + 1))
+pub lowest-later : (programs : List Loaded) (runs : List (Option Run)) (r : ℕ) (x : Option Run) →
+    slice_get runs r ≡ Some x → is_some x ≡ true → later r (lowest_from programs runs r) ≡ later (r + 1)
+    (lowest_from programs runs (r + 1))
 lowest-later programs runs r None h e = absurd cc
-lowest-later programs runs r (Some run) h e = ap (λ rs. later r (lowest_free (runs_of programs rs))) (drop-at runs r (Some run) h) ∙ later-more r (lowest_from programs runs (r + 1))
+lowest-later programs runs r (Some run) h e = ap (λ rs. later r (lowest_free (runs_of programs rs)))
+    (drop-at runs r (Some run) h) ∙ later-more r (lowest_from programs runs (r + 1))
 
 pub lowest-past : (programs : List Loaded) (runs : List (Option Run)) (r : ℕ) → length runs ≤ r → lowest_from programs runs r ≡ None
 lowest-past programs runs r h = ap (λ rs. lowest_free (runs_of programs rs)) (drop_all r runs h)
 
-later-within : (rs : List (Option model.Run)) (o : Option ℕ) (r : ℕ) → ((q : ℕ) → o ≡ Some q → q < length rs) → option_map (λ q. q + 1) o ≡ Some r → r < length rs + 1
+later-within : (rs : List (Option model.Run)) (o : Option ℕ) (r : ℕ) → ((q : ℕ) → o ≡ Some q → q < length rs) →
+    option_map (λ q. q + 1) o ≡ Some r → r < length rs + 1
 later-within rs None r w h = absurd cc
 later-within rs (Some q) r w h =
     let e : q + 1 ≡ r = cc in
@@ -62,7 +67,8 @@ inside-append false s xs ys zs e = e
 open-append : (xs ys : List (Option model.Run)) → open_sections (xs ++ ys) ≡ open_sections xs ++ open_sections ys
 open-append [] ys = refl
 open-append (None ∷ xs) ys = open-append xs ys
-open-append (Some run ∷ xs) ys = inside-append (is_inside run) (section_of run) (open_sections xs) (open_sections ys) (open_sections (xs ++ ys)) (open-append xs ys)
+open-append (Some run ∷ xs) ys = inside-append (is_inside run) (section_of run) (open_sections xs) (open_sections ys)
+    (open_sections (xs ++ ys)) (open-append xs ys)
 
 pub open-more : (programs : List Loaded) (runs : List (Option Run)) (r : ℕ) (x : Option Run) → slice_get runs r ≡ Some x →
     open_sections (runs_of programs (take r runs)) ++ open_sections (option_map (run_of programs) x ∷ []) ≡ open_sections (runs_of programs (take (r + 1) runs))
@@ -71,6 +77,9 @@ open-more programs runs r x h =
     ∙ ap open_sections (sym (map-append (option_map (run_of programs)) (take r runs) (x ∷ [])) ∙ ap (runs_of programs) (sym (take-at runs r x h)))
 
 -- a step of the run in a run slot, under another name
-pub slot-steps : (s : maps.Store) (opened : List Section) (run old new next : model.Run) (answer : Result Answer ModelFault) (t : maps.Store) → old ≡ run → next ≡ new → RunStepsAs s opened run answer t new → SlotStepsAs s opened (Some old) answer t (Some next)
+pub slot-steps : (s : maps.Store) (opened : List Section) (run old new next : model.Run)
+    (answer : Result Answer ModelFault) (t : maps.Store) → old ≡ run → next ≡ new →
+    RunStepsAs s opened run answer t new → SlotStepsAs s opened (Some old) answer t (Some next)
 slot-steps s opened run old new next answer t e f h =
-    tells-map _ _ _ _ answer (λ a k. (new, ap Some f, subst (λ r. RunStep s opened r a t new) (sym e) k)) (λ none a u q k. none a u k.0 (subst (λ r. RunStep s opened r a u k.0) e k.2)) h
+    tells-map _ _ _ _ answer (λ a k. (new, ap Some f, subst (λ r. RunStep s opened r a t new) (sym e) k))
+    (λ none a u q k. none a u k.0 (subst (λ r. RunStep s opened r a u k.0) e k.2)) h

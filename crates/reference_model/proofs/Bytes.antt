@@ -19,13 +19,16 @@ pub bytes-next : (frame : ℕ → Cell) (at k len : ℕ) (xs : List ℕ) (b : �
 bytes-next frame at k len xs b h e =
     let rest : len - k ≡ suc (len - (k + 1)) = omega arith in
     let next : suc (at + k) ≡ at + (k + 1) = omega arith in
-    ap (λ n. with_front xs (bytes_at frame (at + k) n)) rest ∙ ap (λ o. with_front xs (o >>= λ b. bytes_at frame (suc (at + k)) (len - (k + 1)) >>= λ bs. Some (b ∷ bs))) e
+    ap (λ n. with_front xs (bytes_at frame (at + k) n)) rest ∙
+    ap (λ o. with_front xs (o >>= λ b. bytes_at frame (suc (at + k)) (len - (k + 1)) >>= λ bs. Some (b ∷ bs))) e
     ∙ assoc xs b (bytes_at frame (suc (at + k)) (len - (k + 1))) ∙ ap (λ a. with_front (xs ++ b ∷ []) (bytes_at frame a (len - (k + 1)))) next
 
-pub bytes-stuck : (frame : ℕ → Cell) (at k len : ℕ) (xs : List ℕ) → k < len → byte_of (frame (at + k)) ≡ None → with_front xs (bytes_at frame (at + k) (len - k)) ≡ None
+pub bytes-stuck : (frame : ℕ → Cell) (at k len : ℕ) (xs : List ℕ) → k < len → byte_of (frame (at + k)) ≡ None →
+    with_front xs (bytes_at frame (at + k) (len - k)) ≡ None
 bytes-stuck frame at k len xs h e =
     let rest : len - k ≡ suc (len - (k + 1)) = omega arith in
-    ap (λ n. with_front xs (bytes_at frame (at + k) n)) rest ∙ ap (λ o. with_front xs (o >>= λ b. bytes_at frame (suc (at + k)) (len - (k + 1)) >>= λ bs. Some (b ∷ bs))) e
+    ap (λ n. with_front xs (bytes_at frame (at + k) n)) rest ∙
+    ap (λ o. with_front xs (o >>= λ b. bytes_at frame (suc (at + k)) (len - (k + 1)) >>= λ bs. Some (b ∷ bs))) e
 
 pub bytes-end : (frame : ℕ → Cell) (at k len : ℕ) (xs : List ℕ) → len - k ≡ 0 → with_front xs (bytes_at frame (at + k) (len - k)) ≡ Some xs
 bytes-end frame at k len xs h = ap (λ n. with_front xs (bytes_at frame (at + k) n)) h ∙ ap Some (append-nil xs)

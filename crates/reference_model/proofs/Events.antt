@@ -21,10 +21,12 @@ use Rattle.reference_model.specs.Acting.{SlotStep, SlotStepsAs}
 use Rattle.reference_model.specs.Following.{DoesAs}
 use Rattle.reference_store.proofs.Telling.{tells-map}
 
-pub does-performs : (m : Machine) (event : Event) (answer : Answer) (new : Machine) → refusal m event ≡ None → PerformsEvent m event answer new → DoesEvent m event answer new
+pub does-performs : (m : Machine) (event : Event) (answer : Answer) (new : Machine) → refusal m event ≡ None →
+    PerformsEvent m event answer new → DoesEvent m event answer new
 does-performs m event answer new h p = subst (λ o. Answers o m event answer new) (sym h) p
 
-does-only : (m : Machine) (event : Event) (answer : Answer) (new : Machine) → refusal m event ≡ None → DoesEvent m event answer new → PerformsEvent m event answer new
+does-only : (m : Machine) (event : Event) (answer : Answer) (new : Machine) → refusal m event ≡ None →
+    DoesEvent m event answer new → PerformsEvent m event answer new
 does-only m event answer new h d = subst (λ o. Answers o m event answer new) h d
 
 -- the run in a run slot
@@ -39,7 +41,8 @@ going-on (Some x) run h e =
     by None f g = f
     by (Some n) f g = absurd (let p : if_ended (Some n) ≡ None = ap if_ended (sym f) ∙ g in cc)
 
-pub step-does : (m : Machine) (r : ℕ) (old : Option Run) (answer : Result Answer ModelFault) (t : Store) (q : Option Run) (new : Machine) → slice_get m.runs r ≡ Some old → step_refusal (run_at m.runs r) ≡ None →
+pub step-does : (m : Machine) (r : ℕ) (old : Option Run) (answer : Result Answer ModelFault) (t : Store)
+    (q : Option Run) (new : Machine) → slice_get m.runs r ≡ Some old → step_refusal (run_at m.runs r) ≡ None →
     new ≡ with_runs (with_store m t) (slice_set m.runs r q) → SlotStepsAs m.store (open_sections m.runs) old answer t q → DoesAs m (events.Step r) answer new
 step-does m r old answer t q new h free is s = tells-map _ _ _ _ answer done stuck s
   where
@@ -61,22 +64,32 @@ step-does m r old answer t q new h free is s = tells-map _ _ _ _ answer done stu
           new_is = is ∙ ap (λ x. with_runs (with_store m t) (slice_set m.runs r x)) k.1;
         }
 
-    stuck : ((a : Answer) (u : Store) (p : Option Run) → SlotStep m.store (open_sections m.runs) old a u p → ⊥) → (a : Answer) (next : Machine) → DoesEvent m (events.Step r) a next → ⊥
+    stuck : ((a : Answer) (u : Store) (p : Option Run) → SlotStep m.store (open_sections m.runs) old a u p → ⊥) →
+        (a : Answer) (next : Machine) → DoesEvent m (events.Step r) a next → ⊥
     stuck none a next d =
         let p = does-only m (events.Step r) a next free d in
         let o : old ≡ Some p.run = sym at ∙ p.there in
-        none a p.new_store (Some p.new_run) (subst (λ x. SlotStep m.store (open_sections m.runs) x a p.new_store (Some p.new_run)) (sym o) (p.new_run, refl, p.step))
+        none a p.new_store (Some p.new_run) (subst (λ x.
+        SlotStep m.store (open_sections m.runs) x a p.new_store (Some p.new_run)) (sym o)
+        (p.new_run, refl, p.step))
 
-pub start-does : (m : Machine) (prog r : ℕ) (ctx : ArrayVec ℕ) (program : Loaded) (new : Machine) → slice_get m.programs prog ≡ Some program → length ctx.items ≡ program.context_len → lowest_free m.runs ≡ Some r →
+pub start-does : (m : Machine) (prog r : ℕ) (ctx : ArrayVec ℕ) (program : Loaded) (new : Machine) →
+    slice_get m.programs prog ≡ Some program → length ctx.items ≡ program.context_len → lowest_free m.runs ≡ Some r →
     new ≡ begins m r program ctx.items → DoesEvent m (events.Start prog ctx) (Started r) new
 start-does m prog r ctx program new h l free is =
-    let none : refusal m (events.Start prog ctx) ≡ None = ap (λ o. start_refusal o (length ctx.items) (lowest_free m.runs)) h ∙ ap (λ b. if b then if_full (lowest_free m.runs) else Some BadContext) (eq-eqb (length ctx.items) program.context_len l) ∙ ap if_full free in
+    let none : refusal m (events.Start prog ctx) ≡ None =
+    ap (λ o. start_refusal o (length ctx.items) (lowest_free m.runs)) h ∙
+    ap (λ b. if b then if_full (lowest_free m.runs) else Some BadContext)
+    (eq-eqb (length ctx.items) program.context_len l) ∙ ap if_full free in
     does-performs m (events.Start prog ctx) (Started r) new none (record { program = program; there = h; lowest = free; new_is = is })
 
 abbrev pub bytes_of : ArrayVec ℕ → List ℕ
 bytes_of v = v.items
 
-pub read-does : (m : Machine) (map : ℕ) (key : ArrayVec ℕ) (found : Option (ArrayVec ℕ)) → key_refusal (shape_of m.store map) (length key.items) ≡ None → Finds m.store.elements map key.items (option_map bytes_of found) →
+pub read-does : (m : Machine) (map : ℕ) (key : ArrayVec ℕ) (found : Option (ArrayVec ℕ)) →
+    key_refusal (shape_of m.store map) (length key.items) ≡ None →
+    Finds m.store.elements map key.items (option_map bytes_of found) →
     DoesEvent m (events.Read map key) (Found found) m
 read-does m map key None free absent = does-performs m (events.Read map key) (Found None) m free (absent, refl)
-read-does m map key (Some value) free f = does-performs m (events.Read map key) (Found (Some value)) m free (record { n = f.0; linked = f.1; value_is = f.2 }, refl)
+read-does m map key (Some value) free f = does-performs m (events.Read map key) (Found (Some value)) m free
+    (record { n = f.0; linked = f.1; value_is = f.2 }, refl)

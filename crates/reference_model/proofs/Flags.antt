@@ -5,8 +5,12 @@ use Rattle.std.proofs.lemmas.List.{append_assoc, append-nil, drop_all}
 use Rattle.bpf_model.specs.Schedule.{still_open}
 use Rattle.reference_store.proofs.Lists.{drop-at}
 
-pub flags-more : (xs ys done : List Bool) (i : ℕ) (a b : Bool) → slice_get xs i ≡ Some a → slice_get ys i ≡ Some b → done ++ still_open (drop i xs) (drop i ys) ≡ (done ++ (a && b) ∷ []) ++ still_open (drop (i + 1) xs) (drop (i + 1) ys)
-flags-more xs ys done i a b h g = ap (λ l. done ++ still_open l (drop i ys)) (drop-at xs i a h) ∙ ap (λ l. done ++ still_open (a ∷ drop (i + 1) xs) l) (drop-at ys i b g) ∙ sym (append_assoc done ((a && b) ∷ []) (still_open (drop (i + 1) xs) (drop (i + 1) ys)))
+pub flags-more : (xs ys done : List Bool) (i : ℕ) (a b : Bool) → slice_get xs i ≡ Some a → slice_get ys i ≡ Some b →
+    done ++ still_open (drop i xs) (drop i ys) ≡ (done ++ (a && b) ∷ []) ++ still_open (drop (i + 1) xs)
+    (drop (i + 1) ys)
+flags-more xs ys done i a b h g = ap (λ l. done ++ still_open l (drop i ys)) (drop-at xs i a h) ∙
+    ap (λ l. done ++ still_open (a ∷ drop (i + 1) xs) l) (drop-at ys i b g) ∙
+    sym (append_assoc done ((a && b) ∷ []) (still_open (drop (i + 1) xs) (drop (i + 1) ys)))
 
 no-second : (xs : List Bool) → still_open xs [] ≡ []
 no-second [] = refl

@@ -8,10 +8,12 @@ use Rattle.reference_store.specs.State.{IsLinkedHere}
 use Rattle.std.proofs.lemmas.Option.{slice_get_past}
 
 -- an element of the list is what the map has under the key, when it says so
-pub linked-here : (es : List Element) (map : ℕ) (key : List ℕ) (n : ℕ) (e : Element) → slice_get es n ≡ Some e → IsLinkedHere e map key → IsLinkedAt es map key n
+pub linked-here : (es : List Element) (map : ℕ) (key : List ℕ) (n : ℕ) (e : Element) → slice_get es n ≡ Some e →
+    IsLinkedHere e map key → IsLinkedAt es map key n
 linked-here es map key n e h l = record { element = e; born = h; linked = l.0; in_map = l.1; under = l.2 }
 
-pub not-here : (es : List Element) (map : ℕ) (key : List ℕ) (n : ℕ) (e : Element) → slice_get es n ≡ Some e → (IsLinkedHere e map key → ⊥) → IsLinkedAt es map key n → ⊥
+pub not-here : (es : List Element) (map : ℕ) (key : List ℕ) (n : ℕ) (e : Element) → slice_get es n ≡ Some e →
+    (IsLinkedHere e map key → ⊥) → IsLinkedAt es map key n → ⊥
 not-here es map key n e h no-link l =
     let same : Some l.element ≡ Some e = sym l.born ∙ h in
     let equal : l.element ≡ e = cc in
@@ -36,15 +38,18 @@ changed-append : (f : Element → Element) (es ys : List Element) (n : ℕ) → 
 changed-append f [] ys n h = absurd (omega arith)
 changed-append f (e ∷ es) ys zero h = refl
 changed-append f (e ∷ es) ys (suc n) h =
-    set_to-cons f e (es ++ ys) n (slice_get (es ++ ys) n) ∙ ap (λ l. e ∷ l) (changed-append f es ys n (omega arith)) ∙ sym (ap (λ l. l ++ ys) (set_to-cons f e es n (slice_get es n)))
+    set_to-cons f e (es ++ ys) n (slice_get (es ++ ys) n) ∙ ap (λ l. e ∷ l) (changed-append f es ys n (omega arith)) ∙
+    sym (ap (λ l. l ++ ys) (set_to-cons f e es n (slice_get es n)))
 
-pub born-found : (opened : List Section) (es more new : List Element) (x : Element) (n : ℕ) → n < length es → more ≡ es ++ x ∷ [] → new ≡ unlinked opened more (Some n) → new ≡ unlinked opened es (Some n) ++ x ∷ []
+pub born-found : (opened : List Section) (es more new : List Element) (x : Element) (n : ℕ) → n < length es →
+    more ≡ es ++ x ∷ [] → new ≡ unlinked opened more (Some n) → new ≡ unlinked opened es (Some n) ++ x ∷ []
 born-found opened es more new x n h e f = f ∙ ap (λ l. unlinked opened l (Some n)) e ∙ changed-append (with_life (Unlinked opened)) es (x ∷ []) n h
 
 pub within : (es : List Element) (map : ℕ) (key : List ℕ) (n : ℕ) → IsLinkedAt es map key n → n < length es
 within es map key n l = slice_get_within es n l.element l.born
 
-pub one-element : (es : List Element) (map : ℕ) (key : List ℕ) (n : ℕ) (e : Element) (l : IsLinkedAt es map key n) → slice_get es n ≡ Some e → e.value ≡ l.element.value
+pub one-element : (es : List Element) (map : ℕ) (key : List ℕ) (n : ℕ) (e : Element) (l : IsLinkedAt es map key n) →
+    slice_get es n ≡ Some e → e.value ≡ l.element.value
 one-element es map key n e l h =
     let p : Some e ≡ Some l.element = sym h ∙ l.born in
     let q : e ≡ l.element = cc in

@@ -1,5 +1,6 @@
 -- The lists of unlinked elements, changed map by map.
-use Rattle.std.proofs.Common.{◌≡◌, ℕ, zero, suc, ◌+◌, ◌<◌, ◌≤◌, List, [], ◌∷◌, ◌++◌, Option, Some, None, Bool, refl, sym, ap, ◌∙◌, arith, length, true, false, map}
+use Rattle.std.proofs.Common.{◌≡◌, ℕ, zero, suc, ◌+◌, ◌<◌, ◌≤◌, List, [], ◌∷◌, ◌++◌, Option, Some, None, Bool, refl}
+use Rattle.std.proofs.Common.{sym, ap, ◌∙◌, arith, length, true, false, map}
 use Rattle.std.specs.Prelude.{slice_get, slice_set, drop, take, is_some, ◌&&◌, ◌==◌, if◌then◌else◌}
 use Rattle.std.proofs.lemmas.List.{append_assoc, append-nil, drop_all, map-set}
 use Rattle.std.proofs.lemmas.Bool.{eq-eqb, ne_eqb}
@@ -23,7 +24,8 @@ mixed-get f zero i qs = refl
 mixed-get f (suc k) i [] = refl
 mixed-get f (suc k) i (q ∷ qs) = mixed-get f k (suc i) qs
 
-mixed-next : {A : Type 0} (f : ℕ → A → A) (k i : ℕ) (qs : List A) (x : A) → slice_get qs k ≡ Some x → slice_set (mixed f k i qs) k (f (k + i) x) ≡ mixed f (suc k) i qs
+mixed-next : {A : Type 0} (f : ℕ → A → A) (k i : ℕ) (qs : List A) (x : A) → slice_get qs k ≡ Some x →
+    slice_set (mixed f k i qs) k (f (k + i) x) ≡ mixed f (suc k) i qs
 mixed-next f k i [] x h = absurd cc
 mixed-next f zero i (q ∷ qs) x h =
     let e : q ≡ x = cc in
@@ -33,7 +35,8 @@ mixed-next f (suc k) i (q ∷ qs) x h =
     let z : suc k + i ≡ k + suc i = omega arith in
     ap (λ l. f i q ∷ l) (ap (λ n. slice_set (mixed f k (suc i) qs) k (f n x)) z ∙ mixed-next f k (suc i) qs x h)
 
-pub mixed-more : {A : Type 0} (f : ℕ → A → A) (k : ℕ) (qs : List A) (x : A) → slice_get qs k ≡ Some x → slice_set (mixed f k 0 qs) k (f k x) ≡ mixed f (k + 1) 0 qs
+pub mixed-more : {A : Type 0} (f : ℕ → A → A) (k : ℕ) (qs : List A) (x : A) → slice_get qs k ≡ Some x →
+    slice_set (mixed f k 0 qs) k (f k x) ≡ mixed f (k + 1) 0 qs
 mixed-more f k qs x h =
     let z : k ≡ k + 0 = omega arith in
     let next : suc k ≡ k + 1 = omega arith in
@@ -57,12 +60,16 @@ if-retired done rest n true = sym (append_assoc done (n ∷ []) rest)
 if-retired done rest n false = ap (λ l. l ++ rest) (sym (append-nil done))
 
 pub unlinked-more : (olds news : List Element) (k n : ℕ) (done : List ℕ) (o e : Element) → slice_get olds n ≡ Some o → slice_get news n ≡ Some e →
-    done ++ unlinked_between k n (drop n olds) (drop n news) ≡ (done ++ (if is_linked o.life && is_unlinked e.life && (o.map == k) then n ∷ [] else [])) ++ unlinked_between k (n + 1) (drop (n + 1) olds) (drop (n + 1) news)
+    done ++ unlinked_between k n (drop n olds) (drop n news) ≡
+    (done ++ (if is_linked o.life && is_unlinked e.life && (o.map == k) then n ∷ [] else [])) ++ unlinked_between
+    k (n + 1) (drop (n + 1) olds) (drop (n + 1) news)
 unlinked-more olds news k n done o e h g =
     let next : suc n ≡ n + 1 = omega arith in
-    ap (λ l. done ++ unlinked_between k n l (drop n news)) (drop-at olds n o h) ∙ ap (λ l. done ++ unlinked_between k n (o ∷ drop (n + 1) olds) l) (drop-at news n e g)
+    ap (λ l. done ++ unlinked_between k n l (drop n news)) (drop-at olds n o h) ∙
+    ap (λ l. done ++ unlinked_between k n (o ∷ drop (n + 1) olds) l) (drop-at news n e g)
     ∙ if-retired done (unlinked_between k (suc n) (drop (n + 1) olds) (drop (n + 1) news)) n (is_linked o.life && is_unlinked e.life && (o.map == k))
-    ∙ ap (λ i. (done ++ (if is_linked o.life && is_unlinked e.life && (o.map == k) then n ∷ [] else [])) ++ unlinked_between k i (drop (n + 1) olds) (drop (n + 1) news)) next
+    ∙ ap (λ i. (done ++ (if is_linked o.life && is_unlinked e.life && (o.map == k) then n ∷ [] else [])) ++
+    unlinked_between k i (drop (n + 1) olds) (drop (n + 1) news)) next
 
 no-news : (k n : ℕ) (olds : List Element) → unlinked_between k n olds [] ≡ []
 no-news k n [] = refl
@@ -72,7 +79,8 @@ pub unlinked-first : (olds news : List Element) (k n : ℕ) (done : List ℕ) �
 unlinked-first olds news k n done h = ap (λ l. done ++ unlinked_between k n l (drop n news)) (drop_all n olds h) ∙ append-nil done
 
 pub unlinked-second : (olds news : List Element) (k n : ℕ) (done : List ℕ) → length news ≤ n → done ++ unlinked_between k n (drop n olds) (drop n news) ≡ done
-unlinked-second olds news k n done h = ap (λ l. done ++ unlinked_between k n (drop n olds) l) (drop_all n news h) ∙ ap (λ l. done ++ l) (no-news k n (drop n olds)) ∙ append-nil done
+unlinked-second olds news k n done h = ap (λ l. done ++ unlinked_between k n (drop n olds) l) (drop_all n news h) ∙
+    ap (λ l. done ++ l) (no-news k n (drop n olds)) ∙ append-nil done
 
 -- The first ready birth, from list k on.
 no-first : (r : List ℕ) → slice_get r 0 ≡ None → length r ≡ 0
@@ -95,7 +103,8 @@ first-later : (r : List ℕ) (later : Option ℕ) → slice_get r 0 ≡ None →
 first-later [] later h = refl
 first-later (m ∷ r) later h = absurd cc
 
-pub ready-later : (qs : List Queues) (k : ℕ) (q : Queues) → slice_get qs k ≡ Some q → slice_get q.ready 0 ≡ None → first_ready (drop k qs) ≡ first_ready (drop (k + 1) qs)
+pub ready-later : (qs : List Queues) (k : ℕ) (q : Queues) → slice_get qs k ≡ Some q → slice_get q.ready 0 ≡ None →
+    first_ready (drop k qs) ≡ first_ready (drop (k + 1) qs)
 ready-later qs k q h e = ap first_ready (drop-at qs k q h) ∙ first-later q.ready (first_ready (drop (k + 1) qs)) e
 
 pub ready-here : (qs : List Queues) (k : ℕ) (q : Queues) (n : ℕ) → slice_get qs k ≡ Some q → slice_get q.ready 0 ≡ Some n → first_ready (drop k qs) ≡ Some n
@@ -105,7 +114,8 @@ pub ready-past : (qs : List Queues) (k : ℕ) → length qs ≤ k → first_read
 ready-past qs k h = ap first_ready (drop_all k qs h)
 
 -- the lists without that birth
-without-next : (qs : List Queues) (k : ℕ) (q : Queues) → slice_get qs k ≡ Some q → slice_get q.ready 0 ≡ None → take k qs ++ without_first (drop k qs) ≡ take (suc k) qs ++ without_first (drop (suc k) qs)
+without-next : (qs : List Queues) (k : ℕ) (q : Queues) → slice_get qs k ≡ Some q → slice_get q.ready 0 ≡ None →
+    take k qs ++ without_first (drop k qs) ≡ take (suc k) qs ++ without_first (drop (suc k) qs)
 without-next [] k q h e = absurd cc
 without-next (x ∷ qs) zero q h e =
     let same : x ≡ q = cc in
@@ -113,7 +123,8 @@ without-next (x ∷ qs) zero q h e =
     ap (λ b. if b then x ∷ without_first qs else record { next = x.next; waiting = x.waiting; ready = drop 1 x.ready } ∷ qs) none
 without-next (x ∷ qs) (suc k) q h e = ap (λ l. x ∷ l) (without-next qs k q h e)
 
-pub without-later : (qs : List Queues) (k : ℕ) (q : Queues) → slice_get qs k ≡ Some q → slice_get q.ready 0 ≡ None → take k qs ++ without_first (drop k qs) ≡ take (k + 1) qs ++ without_first (drop (k + 1) qs)
+pub without-later : (qs : List Queues) (k : ℕ) (q : Queues) → slice_get qs k ≡ Some q → slice_get q.ready 0 ≡ None →
+    take k qs ++ without_first (drop k qs) ≡ take (k + 1) qs ++ without_first (drop (k + 1) qs)
 without-later qs k q h e =
     let next : suc k ≡ k + 1 = omega arith in
     without-next qs k q h e ∙ ap (λ n. take n qs ++ without_first (drop n qs)) next
@@ -123,11 +134,15 @@ pub without-here : (qs : List Queues) (k : ℕ) (q : Queues) → slice_get qs k 
 without-here [] k q h e = absurd cc
 without-here (x ∷ qs) zero q h e =
     let same : x ≡ q = cc in
-    let some : (length x.ready == 0) ≡ false = ne_eqb (length x.ready) 0 (λ z. let y : length q.ready ≡ 0 = sym (ap (λ y. length y.ready) same) ∙ z in absurd (omega arith)) in
-    ap (λ b. if b then x ∷ without_first qs else record { next = x.next; waiting = x.waiting; ready = drop 1 x.ready } ∷ qs) some ∙ ap (λ y. record { next = y.next; waiting = y.waiting; ready = drop 1 y.ready } ∷ qs) same
+    let some : (length x.ready == 0) ≡ false = ne_eqb (length x.ready) 0
+    (λ z. let y : length q.ready ≡ 0 = sym (ap (λ y. length y.ready) same) ∙ z in absurd (omega arith)) in
+    ap (λ b. if b then x ∷ without_first qs else record { next = x.next; waiting = x.waiting; ready = drop 1 x.ready }
+    ∷ qs) some ∙ ap (λ y. record { next = y.next; waiting = y.waiting; ready = drop 1 y.ready } ∷ qs) same
 without-here (x ∷ qs) (suc k) q h e = ap (λ l. x ∷ l) (without-here qs k q h e)
 
-pub changed-one : (f : ℕ → schedule.Queues → schedule.Queues) (items xs : List plain.Queues) (k : ℕ) (x new : plain.Queues) → map queues_of xs ≡ mixed f k 0 (map queues_of items) → slice_get xs k ≡ Some x → queues_of new ≡ f k (queues_of x) →
+pub changed-one : (f : ℕ → schedule.Queues → schedule.Queues) (items xs : List plain.Queues) (k : ℕ)
+    (x new : plain.Queues) → map queues_of xs ≡ mixed f k 0 (map queues_of items) → slice_get xs k ≡ Some x →
+    queues_of new ≡ f k (queues_of x) →
     map queues_of (slice_set xs k new) ≡ mixed f (k + 1) 0 (map queues_of items)
 changed-one f items xs k x new inv there e =
     let qs = map queues_of items in

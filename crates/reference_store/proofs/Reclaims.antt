@@ -22,5 +22,6 @@ reclaims-at s opened n x y z given new hx hy may given_is z_is elements maps =
       ended = may.2;
       there = hy;
       given_is = given_is;
-      new_is = ap (λ es. record { elements = es; maps = new.maps }) elements ∙ ap (λ ms. record { elements = slice_set s.elements n (with_life Reclaimed x); maps = ms }) new_maps;
+      new_is = ap (λ es. record { elements = es; maps = new.maps }) elements ∙
+          ap (λ ms. record { elements = slice_set s.elements n (with_life Reclaimed x); maps = ms }) new_maps;
     }

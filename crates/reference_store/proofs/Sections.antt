@@ -16,7 +16,8 @@ same-section x s e = ap (λ b. b && (x.lock == s.lock)) (eq-eqb x.run s.run (ap 
 -- one more section is none of them
 pub not-among : (xs : List Section) (s d : Section) (j : ℕ) (b : Bool) → j < length xs →
     b ≡ ((slice_index_or xs j d).run == s.run) && ((slice_index_or xs j d).lock == s.lock) → b ≡ false →
-    ((k : ℕ) → k < j → slice_get (sections_of xs) k ≡ Some (section_shown s) → ⊥) → (k : ℕ) → k < j + 1 → slice_get (sections_of xs) k ≡ Some (section_shown s) → ⊥
+    ((k : ℕ) → k < j → slice_get (sections_of xs) k ≡ Some (section_shown s) → ⊥) → (k : ℕ) → k < j + 1 →
+    slice_get (sections_of xs) k ≡ Some (section_shown s) → ⊥
 not-among xs s d j b h e f before k l g = elim (cases_lt k j) [
   | inl a ↦ before k a g
   | inr a ↦
@@ -28,7 +29,9 @@ not-among xs s d j b h e f before k l g = elim (cases_lt k j) [
       false≢true (sym f ∙ e ∙ same-section x s one)
 ]
 
-pub none-among : (xs : List Section) (s : Section) (j : ℕ) → length xs ≤ j → ((k : ℕ) → k < j → slice_get (sections_of xs) k ≡ Some (section_shown s) → ⊥) → model.Has (sections_of xs) (section_shown s) → ⊥
+pub none-among : (xs : List Section) (s : Section) (j : ℕ) → length xs ≤ j →
+    ((k : ℕ) → k < j → slice_get (sections_of xs) k ≡ Some (section_shown s) → ⊥) →
+    model.Has (sections_of xs) (section_shown s) → ⊥
 none-among xs s j h before has = elim (cases_lt has.0 j) [
   | inl a ↦ before has.0 a has.1
   | inr a ↦
@@ -45,7 +48,8 @@ not-ended xs opened d i h has ended =
     ended (section_shown x) (i, get-map section_shown xs i x (slice_get-get_or xs i d h)) has
 
 -- one more section has ended
-pub apart-more : (xs opened : List Section) (d : Section) (i : ℕ) → i < length xs → (model.Has (sections_of opened) (section_shown (slice_index_or xs i d)) → ⊥) →
+pub apart-more : (xs opened : List Section) (d : Section) (i : ℕ) → i < length xs →
+    (model.Has (sections_of opened) (section_shown (slice_index_or xs i d)) → ⊥) →
     ((k : ℕ) → k < i → (s : model.Section) → slice_get (sections_of xs) k ≡ Some s → model.Has (sections_of opened) s → ⊥) →
     (k : ℕ) → k < i + 1 → (s : model.Section) → slice_get (sections_of xs) k ≡ Some s → model.Has (sections_of opened) s → ⊥
 apart-more xs opened d i h ended before k l s g o = elim (cases_lt k i) [
@@ -53,12 +57,15 @@ apart-more xs opened d i h ended before k l s g o = elim (cases_lt k i) [
   | inr a ↦
       let same : k ≡ i = omega arith in
       let x = slice_index_or xs i d in
-      let both : Some (section_shown x) ≡ Some s = sym (get-map section_shown xs i x (slice_get-get_or xs i d h)) ∙ ap (slice_get (sections_of xs)) (sym same) ∙ g in
+      let both : Some (section_shown x) ≡ Some s = sym (get-map section_shown xs i x (slice_get-get_or xs i d h)) ∙
+      ap (slice_get (sections_of xs)) (sym same) ∙ g in
       let one : section_shown x ≡ s = cc in
       ended (subst (λ t. model.Has (sections_of opened) t) (sym one) o)
 ]
 
-pub all-apart : (xs opened : List Section) (i : ℕ) → length xs ≤ i → ((k : ℕ) → k < i → (s : model.Section) → slice_get (sections_of xs) k ≡ Some s → model.Has (sections_of opened) s → ⊥) →
+pub all-apart : (xs opened : List Section) (i : ℕ) → length xs ≤ i →
+    ((k : ℕ) → k < i → (s : model.Section) → slice_get (sections_of xs) k ≡ Some s → model.Has (sections_of opened) s
+    → ⊥) →
     model.AllEnded (sections_of xs) (sections_of opened)
 all-apart xs opened i h before s has o = elim (cases_lt has.0 i) [
   | inl a ↦ before has.0 a s has.1 o

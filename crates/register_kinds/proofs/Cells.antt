@@ -19,7 +19,9 @@ use Rattle.register_kinds.specs.JoinTable.{PairsGrow, pair_of, JoinsKind, JoinsC
 
 module _ (top : ℕ) (pairs : List (ℕ × ℕ)) where
   -- parts on both sides
-  part_joined : (x y z : RegKind) → JoinsKind top pairs (kind_of x) (kind_of y) (kind_of z) → JoinsCell top pairs (PartCell (kind_of x)) (PartCell (kind_of y)) (cell_of z (if is_pointer z then cells.Part else cells.Mixed))
+  part_joined : (x y z : RegKind) → JoinsKind top pairs (kind_of x) (kind_of y) (kind_of z) →
+      JoinsCell top pairs (PartCell (kind_of x)) (PartCell (kind_of y))
+      (cell_of z (if is_pointer z then cells.Part else cells.Mixed))
   part_joined x y kinds.Unwritten j = record { left = tt; right = tt; exact = (kind_of kinds.Unwritten, j.exact, refl) }
   part_joined x y kinds.Ended j = record { left = tt; right = tt; exact = (kind_of kinds.Ended, j.exact, refl) }
   part_joined x y kinds.Mixed j = record { left = tt; right = tt; exact = (kind_of kinds.Mixed, j.exact, refl) }
@@ -30,7 +32,8 @@ module _ (top : ℕ) (pairs : List (ℕ × ℕ)) where
   part_joined x y (kinds.Value map s) j = record { left = j.left; right = j.right; exact = (kind_of (kinds.Value map s), j.exact, refl) }
   part_joined x y (kinds.MaybeNull map id) j = record { left = j.left; right = j.right; exact = (kind_of (kinds.MaybeNull map id), j.exact, refl) }
 
-  cell_joined : (x y z : RegKind) → JoinsKind top pairs (kind_of x) (kind_of y) (kind_of z) → (a b : classes.CellKind) → JoinsCell top pairs (cell_of x a) (cell_of y b) (cell_of z (joined_class a b (is_pointer z)))
+  cell_joined : (x y z : RegKind) → JoinsKind top pairs (kind_of x) (kind_of y) (kind_of z) → (a b : classes.CellKind)
+      → JoinsCell top pairs (cell_of x a) (cell_of y b) (cell_of z (joined_class a b (is_pointer z)))
   cell_joined x y z j cells.Unwritten cells.Unwritten = record { left = tt; right = tt; exact = refl }
   cell_joined x y z j cells.Unwritten cells.Ended = record { left = tt; right = tt; exact = refl }
   cell_joined x y z j cells.Unwritten cells.Mixed = record { left = tt; right = tt; exact = refl }
@@ -58,20 +61,27 @@ module _ (top : ℕ) (pairs : List (ℕ × ℕ)) where
   cell_joined x y z j cells.Part cells.Part = part_joined x y z j
 
   pub cells_joined : (a b c : FrameCells) → ((g : ℕ) → JoinsKind top pairs (kind_at a.spills g) (kind_at b.spills g) (kind_at c.spills g))
-      → ((k : ℕ) → class_in c.cells k ≡ joined_class (class_in a.cells k) (class_in b.cells k) (is_pointer (kind_in c.spills (k / 8)))) → (k : ℕ) → JoinsCell top pairs (cell_at a k) (cell_at b k) (cell_at c k)
+      → ((k : ℕ) → class_in c.cells k ≡ joined_class (class_in a.cells k) (class_in b.cells k)
+      (is_pointer (kind_in c.spills (k / 8)))) → (k : ℕ) →
+      JoinsCell top pairs (cell_at a k) (cell_at b k) (cell_at c k)
   cells_joined a b c spills classes k = subst (λ x. JoinsCell top pairs (cell_at a k) (cell_at b k) (cell_of (kind_in c.spills (k / 8)) x)) (sym (classes k))
       (cell_joined (kind_in a.spills (k / 8)) (kind_in b.spills (k / 8)) (kind_in c.spills (k / 8)) (spills (k / 8)) (class_in a.cells k) (class_in b.cells k))
 
 -- the bytes of two frames are joined where each byte's class is
 pub joined_all : (xs old others : List classes.CellKind) (g : ℕ → RegKind) → length xs ≡ length others → length old ≡ length others
-    → ((k : ℕ) → k < length others → class_in xs k ≡ joined_class (class_in old k) (class_in others k) (is_pointer (g k))) → (k : ℕ) → class_in xs k ≡ joined_class (class_in old k) (class_in others k) (is_pointer (g k))
+    → ((k : ℕ) → k < length others → class_in xs k ≡ joined_class (class_in old k) (class_in others k)
+    (is_pointer (g k))) → (k : ℕ) → class_in xs k ≡ joined_class (class_in old k) (class_in others k)
+    (is_pointer (g k))
 joined_all xs old others g e f all k = elim (cases_lt k (length others)) [
   | inl l ↦ all k l
-  | inr l ↦ get_or_past xs k cells.Unwritten (omega arith) ∙ sym (ap₂ (λ a b. joined_class a b (is_pointer (g k))) (get_or_past old k cells.Unwritten (omega arith)) (get_or_past others k cells.Unwritten (omega arith)))
+  | inr l ↦ get_or_past xs k cells.Unwritten (omega arith) ∙
+      sym (ap₂ (λ a b. joined_class a b (is_pointer (g k))) (get_or_past old k cells.Unwritten (omega arith))
+      (get_or_past others k cells.Unwritten (omega arith)))
 ]
 
 -- whole states are joined where their registers and their cells are
-module _ (top : ℕ) (before pairs : List (ℕ × ℕ)) (a b c : StateHere) (x : PairsGrow before pairs) (regs : (r : ℕ) → JoinsKind top before (kind_at a.regs r) (kind_at b.regs r) (kind_at c.regs r))
+module _ (top : ℕ) (before pairs : List (ℕ × ℕ)) (a b c : StateHere) (x : PairsGrow before pairs)
+    (regs : (r : ℕ) → JoinsKind top before (kind_at a.regs r) (kind_at b.regs r) (kind_at c.regs r))
     (cells : (k : ℕ) → JoinsCell top pairs (cell_at a.frame k) (cell_at b.frame k) (cell_at c.frame k)) where
   pub states_join : a.depth ≡ b.depth → c.depth ≡ a.depth → Joins (pair_of top pairs) (state_of a) (state_of b) (state_of c)
   states_join e f = record {

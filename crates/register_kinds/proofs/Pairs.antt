@@ -98,31 +98,41 @@ module _ (top : ℕ) (pairs : List (ℕ × ℕ)) where
 
 -- registers joined in turn: with one more, and all of the list
 pub kinds_more : (top i : ℕ) (pairs pairs' : List (ℕ × ℕ)) (xs old others : List RegKind) (k : RegKind) → i < length xs → PairsGrow pairs pairs'
-    → ((r : ℕ) → r < i → JoinsKind top pairs (kind_at old r) (kind_at others r) (kind_at xs r)) → JoinsKind top pairs' (kind_at old i) (kind_at others i) (kind_of k)
+    → ((r : ℕ) → r < i → JoinsKind top pairs (kind_at old r) (kind_at others r) (kind_at xs r)) →
+    JoinsKind top pairs' (kind_at old i) (kind_at others i) (kind_of k)
     → (r : ℕ) → r < i + 1 → JoinsKind top pairs' (kind_at old r) (kind_at others r) (kind_at (slice_set xs i k) r)
 kinds_more top i pairs pairs' xs old others k l x done here = below_more _ i
-    (λ r h. let ne : r ≢ i = omega arith in subst (λ y. JoinsKind top pairs' (kind_at old r) (kind_at others r) (kind_of y)) (sym (get_or-set_other xs i r k kinds.Unwritten ne)) (kind_later top pairs pairs' x _ _ _ (done r h)))
+    (λ r h. let ne : r ≢ i = omega arith in subst (λ y.
+    JoinsKind top pairs' (kind_at old r) (kind_at others r) (kind_of y))
+    (sym (get_or-set_other xs i r k kinds.Unwritten ne)) (kind_later top pairs pairs' x _ _ _ (done r h)))
     (subst (λ y. JoinsKind top pairs' (kind_at old i) (kind_at others i) (kind_of y)) (sym (get_or-set_same xs i k kinds.Unwritten l)) here)
 
 -- with one more that is unwritten
 pub kinds_kept : (top i : ℕ) (pairs : List (ℕ × ℕ)) (xs old others : List RegKind) → kind_in xs i ≡ kinds.Unwritten → kind_in old i ≡ kinds.Unwritten
-    → ((r : ℕ) → r < i → JoinsKind top pairs (kind_at old r) (kind_at others r) (kind_at xs r)) → (r : ℕ) → r < i + 1 → JoinsKind top pairs (kind_at old r) (kind_at others r) (kind_at xs r)
+    → ((r : ℕ) → r < i → JoinsKind top pairs (kind_at old r) (kind_at others r) (kind_at xs r)) → (r : ℕ) → r < i + 1
+    → JoinsKind top pairs (kind_at old r) (kind_at others r) (kind_at xs r)
 kinds_kept top i pairs xs old others e f done = below_more _ i done
-    (subst (λ y. JoinsKind top pairs (kind_of y) (kind_at others i) (kind_at xs i)) (sym f) (subst (λ y. JoinsKind top pairs Blank (kind_at others i) (kind_of y)) (sym e) (joins_blank top pairs (kind_at others i))))
+    (subst (λ y. JoinsKind top pairs (kind_of y) (kind_at others i) (kind_at xs i)) (sym f)
+    (subst (λ y. JoinsKind top pairs Blank (kind_at others i) (kind_of y)) (sym e)
+    (joins_blank top pairs (kind_at others i))))
 
 pub kinds_all : (top : ℕ) (pairs : List (ℕ × ℕ)) (old others xs : List RegKind) → length xs ≡ length others → length old ≡ length others
-    → ((r : ℕ) → r < length others → JoinsKind top pairs (kind_at old r) (kind_at others r) (kind_at xs r)) → (r : ℕ) → JoinsKind top pairs (kind_at old r) (kind_at others r) (kind_at xs r)
+    → ((r : ℕ) → r < length others → JoinsKind top pairs (kind_at old r) (kind_at others r) (kind_at xs r)) → (r : ℕ)
+    → JoinsKind top pairs (kind_at old r) (kind_at others r) (kind_at xs r)
 kinds_all top pairs old others xs e f all r = elim (cases_lt r (length others)) [
   | inl l ↦ all r l
   | inr l ↦ subst (λ y. JoinsKind top pairs (kind_at old r) (kind_at others r) (kind_of y)) (sym (get_or_past xs r kinds.Unwritten (omega arith)))
-      (subst (λ y. JoinsKind top pairs (kind_of y) (kind_at others r) (kind_of kinds.Unwritten)) (sym (get_or_past old r kinds.Unwritten (omega arith))) (joins_blank top pairs (kind_at others r)))
+      (subst (λ y. JoinsKind top pairs (kind_of y) (kind_at others r) (kind_of kinds.Unwritten))
+      (sym (get_or_past old r kinds.Unwritten (omega arith))) (joins_blank top pairs (kind_at others r)))
 ]
 
 pair-there : (top : ℕ) (pairs : List (ℕ × ℕ)) (id : ℕ) → top ≤ id → id < top + length pairs → slice_get pairs (id - top) ≡ Some (pair_of top pairs id)
 pair-there top pairs id l h =
     let e : slice_get pairs (id - top) ≡ Some (slice_index_or pairs (id - top) (0, 0)) = slice_get-get_or pairs (id - top) (0, 0) (omega arith) in
     let i : top + (id - top) ≡ id = omega arith in
-    let p : pair_of top pairs id ≡ slice_index_or pairs (id - top) (0, 0) = subst (λ j. pair_of top pairs j ≡ slice_index_or pairs (id - top) (0, 0)) i (pair_new top pairs (id - top) (slice_index_or pairs (id - top) (0, 0)) e) in
+    let p : pair_of top pairs id ≡ slice_index_or pairs (id - top) (0, 0) =
+    subst (λ j. pair_of top pairs j ≡ slice_index_or pairs (id - top) (0, 0)) i
+    (pair_new top pairs (id - top) (slice_index_or pairs (id - top) (0, 0)) e) in
     e ∙ ap Some (sym p)
 
 pub table_pairs : (top n : ℕ) (pairs : List (ℕ × ℕ)) → n ≡ top + length pairs → IsTable pairs → IsPairing top n (pair_of top pairs)
@@ -130,18 +140,23 @@ table_pairs top n pairs e t = record {
   same = λ id l. pair_old top pairs id l;
   unequal = λ id l h f. t.unequal (id - top) (pair_of top pairs id) (pair-there top pairs id l (omega (arith, e))) f;
   single = λ i j a b c d f.
-      let same : i - top ≡ j - top = t.single (i - top) (j - top) (pair_of top pairs i) (pair-there top pairs i a (omega (arith, e))) (pair-there top pairs j c (omega (arith, e)) ∙ ap Some (sym f)) in
+      let same : i - top ≡ j - top = t.single (i - top) (j - top) (pair_of top pairs i)
+      (pair-there top pairs i a (omega (arith, e)))
+      (pair-there top pairs j c (omega (arith, e)) ∙ ap Some (sym f)) in
       omega arith;
 }
 
-pub maybe_joined : (top : ℕ) (pairs : List (ℕ × ℕ)) (a b : RegKind) (m n x y z : ℕ) → a ≡ kinds.MaybeNull m x → b ≡ kinds.MaybeNull n y → m ≡ n → ((map : ℕ) → JoinsKind top pairs (MaybeNull map x) (MaybeNull map y) (MaybeNull map z)) → JoinsKind top pairs (kind_of a) (kind_of b) (MaybeNull m z)
+pub maybe_joined : (top : ℕ) (pairs : List (ℕ × ℕ)) (a b : RegKind) (m n x y z : ℕ) → a ≡ kinds.MaybeNull m x →
+    b ≡ kinds.MaybeNull n y → m ≡ n → ((map : ℕ) → JoinsKind top pairs (MaybeNull map x) (MaybeNull map y)
+    (MaybeNull map z)) → JoinsKind top pairs (kind_of a) (kind_of b) (MaybeNull m z)
 maybe_joined top pairs a b m n x y z e f g h =
     let ea : kind_of a ≡ MaybeNull m x = ap kind_of e in
     let eb : kind_of b ≡ MaybeNull m y = ap kind_of f ∙ ap (λ k. MaybeNull k y) (sym g) in
     subst (λ k. JoinsKind top pairs k (kind_of b) (MaybeNull m z)) (sym ea) (subst (λ k. JoinsKind top pairs (MaybeNull m x) k (MaybeNull m z)) (sym eb) (h m))
 
 -- numbers, and offsets in one region: the hull
-module _ (top : ℕ) (pairs : List (ℕ × ℕ)) (a b : RegKind) (s t u : Scalar) (l : (n : ℕ) → Holds s n → Holds u n) (r : (n : ℕ) → Holds t n → Holds u n) (hull : IsHull s t u) where
+module _ (top : ℕ) (pairs : List (ℕ × ℕ)) (a b : RegKind) (s t u : Scalar) (l : (n : ℕ) → Holds s n → Holds u n)
+    (r : (n : ℕ) → Holds t n → Holds u n) (hull : IsHull s t u) where
   offset_wider : (x : Scalar) → ((n : ℕ) → Holds x n → Holds u n) → (o : ℤ) → HasOffset x o → HasOffset u o
   offset_wider x f o h = record { raised = h.raised; is = h.is; limit = h.limit; holds = f h.raised h.holds }
 
@@ -160,7 +175,8 @@ module _ (top : ℕ) (pairs : List (ℕ × ℕ)) (a b : RegKind) (s t u : Scalar
 
   pub values_joined : (m n : ℕ) → a ≡ kinds.Value m s → b ≡ kinds.Value n t → m ≡ n → JoinsKind top pairs (kind_of a) (kind_of b) (ValueAt m u)
   values_joined m n e f g =
-      subst (λ k. JoinsKind top pairs (kind_of k) (kind_of b) (ValueAt m u)) (sym e) (subst (λ k. JoinsKind top pairs (ValueAt m s) (kind_of k) (ValueAt m u)) (sym f) (values_are m n g))
+      subst (λ k. JoinsKind top pairs (kind_of k) (kind_of b) (ValueAt m u)) (sym e)
+      (subst (λ k. JoinsKind top pairs (ValueAt m s) (kind_of k) (ValueAt m u)) (sym f) (values_are m n g))
 
 -- registers and bytes of the entry's state are unwritten
 pub kinds_unwritten : (n r : ℕ) → kind_in (replicate n kinds.Unwritten) r ≡ kinds.Unwritten

@@ -49,7 +49,15 @@ pub within-both : (n a b : ℕ) → Within n a → Within n b → Within n (bit_
 within-both n a b h k = within_from _ _ (λ i. omega (arith, within_bit n a i h, within_bit n b i k, bit_at_and a b i))
 
 pub within-xor : (x y a b : ℕ) → Within x a → Within y b → Within (bit_xor x y) (bit_or a b)
-within-xor x y a b h k = within_from _ _ (λ i. omega (arith, within_bit x a i h, within_bit y b i k, bit_at_or a b i, bit_at_xor x y i, bit_at-lt x i, bit_at-lt y i))
+within-xor x y a b h k = within_from _ _ (λ i. omega (
+  arith,
+  within_bit x a i h,
+  within_bit y b i k,
+  bit_at_or a b i,
+  bit_at_xor x y i,
+  bit_at-lt x i,
+  bit_at-lt y i,
+))
 
 pub within-shr : (n m k : ℕ) → Within n m → Within (n / 2 ^ k) (m / 2 ^ k)
 within-shr n m k h = sym (and_shr n m k) ∙ ap (λ x. x / 2 ^ k) h

@@ -56,7 +56,8 @@ opened_bit : (a a' b b' l g i : ℕ) → bit_at (opened a a' b b' l g) i
 opened_bit a a' b b' l g i =
     bit_at_or _ _ i ∙ ap₂ max (bit_at_or _ _ i ∙ ap₂ max (bit_at_xor a' a i) (bit_at_xor b' b i)) (bit_at_xor l g i)
 
-between : (a x a' b y b' c l g i : ℕ) → l ≡ (a + b + c) % 2 ^ 64 → g ≡ (a' + b' + c) % 2 ^ 64 → c ≤ 1 → Within a x → Within x a' → Within b y → Within y b' → i < 64
+between : (a x a' b y b' c l g i : ℕ) → l ≡ (a + b + c) % 2 ^ 64 → g ≡ (a' + b' + c) % 2 ^ 64 → c ≤ 1 → Within a x →
+    Within x a' → Within b y → Within y b' → i < 64
     → (bit_at ((x + y + c) % 2 ^ 64) i ≤ max (bit_at l i) (bit_at (opened a a' b b' l g) i))
     × (min (bit_at l i) (1 - bit_at (opened a a' b b' l g) i) ≤ bit_at ((x + y + c) % 2 ^ 64) i)
 between a x a' b y b' c l g i e f small ha ha' hb hb' h =
@@ -66,7 +67,8 @@ between a x a' b y b' c l g i e f small ha ha' hb hb' h =
     (within_bit b y i hb) (within_bit y b' i hb') (omega (arith, bit_at-lt b' i))
     (carry_mono a b x y c i (low_le a x i ha) (low_le b y i hb)) (carry_mono x y a' b' c i (low_le x a' i ha') (low_le y b' i hb'))
     (carry_small a' b' c i small)
-    (ap (λ n. bit_at n i) e ∙ low_bit _ 64 i h ∙ bit_of_sum a b c i) (low_bit _ 64 i h ∙ bit_of_sum x y c i) (ap (λ n. bit_at n i) f ∙ low_bit _ 64 i h ∙ bit_of_sum a' b' c i)
+    (ap (λ n. bit_at n i) e ∙ low_bit _ 64 i h ∙ bit_of_sum a b c i) (low_bit _ 64 i h ∙ bit_of_sum x y c i)
+    (ap (λ n. bit_at n i) f ∙ low_bit _ 64 i h ∙ bit_of_sum a' b' c i)
     (opened_bit a a' b b' l g i)
 
 past : (n i : ℕ) → 64 ≤ i → bit_at (n % 2 ^ 64) i ≡ 0
@@ -85,7 +87,12 @@ sum_bits a x a' b y b' c l g e f fits small h k =
         | no above ↦ omega (arith, past (x + y + c) i (omega (arith, above)))
       ]);
       ones = within_from (bit_and l (bit_not w64 u)) s (λ i. elim (dec_lt i 64) [
-        | yes below ↦ omega (arith, bit_at_and l (bit_not w64 u) i, bit_at_not w64 u i fits below, (between a x a' b y b' c l g i e f small h.ones h.zeros k.ones k.zeros below).1)
+        | yes below ↦ omega (
+          arith,
+          bit_at_and l (bit_not w64 u) i,
+          bit_at_not w64 u i fits below,
+          (between a x a' b y b' c l g i e f small h.ones h.zeros k.ones k.zeros below).1,
+        )
         | no above ↦ omega (arith, bit_at_and l (bit_not w64 u) i, ap (λ n. bit_at n i) e, past (a + b + c) i (omega (arith, above)))
       ]);
     }
@@ -94,7 +101,8 @@ sum_bits a x a' b y b' c l g e f fits small h k =
 low_sum : (a a' b b' c t : ℕ) → t ≤ 64 → a % 2 ^ t ≡ a' % 2 ^ t → b % 2 ^ t ≡ b' % 2 ^ t → (a + b + c) % 2 ^ 64 % 2 ^ t ≡ (a' + b' + c) % 2 ^ 64 % 2 ^ t
 low_sum a a' b b' c t h e f =
     let one : (a + b) % 2 ^ t ≡ (a' + b') % 2 ^ t = add-mod a b (2 ^ t) ∙ ap₂ (λ m n. (m + n) % 2 ^ t) e f ∙ sym (add-mod a' b' (2 ^ t)) in
-    below_word (a + b + c) t h ∙ add-mod (a + b) c (2 ^ t) ∙ ap (λ n. (n + c % 2 ^ t) % 2 ^ t) one ∙ sym (add-mod (a' + b') c (2 ^ t)) ∙ sym (below_word (a' + b' + c) t h)
+    below_word (a + b + c) t h ∙ add-mod (a + b) c (2 ^ t) ∙ ap (λ n. (n + c % 2 ^ t) % 2 ^ t) one ∙
+    sym (add-mod (a' + b') c (2 ^ t)) ∙ sym (below_word (a' + b' + c) t h)
 
 pub same_low : (n m t i : ℕ) → n % 2 ^ t ≡ m % 2 ^ t → i < t → bit_at n i ≡ bit_at m i
 same_low n m t i e h = sym (low_bit n t i h) ∙ ap (λ x. bit_at x i) e ∙ low_bit m t i h
@@ -108,7 +116,18 @@ low_known a a' b b' c l g t e f fits h i j =
     let p = same_low a' a t k i below in
     let q = same_low b' b t k j below in
     let r = same_low l g t k (ap (λ n. n % 2 ^ t) e ∙ low_sum a a' b b' c t h (sym i) (sym j) ∙ sym (ap (λ n. n % 2 ^ t) f)) below in
-    low_bit _ t k below ∙ omega (arith, p, q, r, opened_bit a a' b b' l g k, bit_at_or l u k, bit_at_and l (bit_not w64 u) k, bit_at_not w64 u k fits (omega (arith, h, below)), bit_at-lt l k) ∙ sym (low_bit _ t k below))
+    low_bit _ t k below ∙ omega (
+      arith,
+      p,
+      q,
+      r,
+      opened_bit a a' b b' l g k,
+      bit_at_or l u k,
+      bit_at_and l (bit_not w64 u) k,
+      bit_at_not w64 u k fits (omega (arith, h, below)),
+      bit_at-lt l k,
+    ) ∙
+    sym (low_bit _ t k below))
 
 -- all bits turned over
 pub not_within : (n m : ℕ) → n < 2 ^ 64 → m < 2 ^ 64 → Within n m → Within (bit_not w64 m) (bit_not w64 n)
@@ -120,7 +139,12 @@ not_within n m p q h = within_from _ _ (λ i. elim (dec_lt i 64) [
 pub not_low : (n m t : ℕ) → n < 2 ^ 64 → m < 2 ^ 64 → t ≤ 64 → AreKnownBelow t m n → AreKnownBelow t (bit_not w64 n) (bit_not w64 m)
 not_low n m t p q h e =
     same_from_bits_below t _ _ (mod_below _ (2 ^ t) (pow_pos t)) (mod_below _ (2 ^ t) (pow_pos t)) (λ k below.
-    low_bit _ t k below ∙ omega (arith, same_low m n t k e below, bit_at_not w64 n k p (omega (arith, h, below)), bit_at_not w64 m k q (omega (arith, h, below))) ∙ sym (low_bit _ t k below))
+    low_bit _ t k below ∙ omega (
+      arith,
+      same_low m n t k e below,
+      bit_at_not w64 n k p (omega (arith, h, below)),
+      bit_at_not w64 m k q (omega (arith, h, below)),
+    ) ∙ sym (low_bit _ t k below))
 
 -- low bits of a sum are zero, where those of the least one are and they are known
 pub zero_sum : (m n r s t : ℕ) → t ≤ 64 → m % 2 ^ t ≡ 0 → n % 2 ^ t ≡ 0 → Within r ((m + n + 0) % 2 ^ 64) → AreKnownBelow t s r → s % 2 ^ t ≡ 0

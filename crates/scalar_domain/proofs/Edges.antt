@@ -3,7 +3,8 @@ use Rattle.std.proofs.Common.{◌≡◌, ℕ, suc, pos, negsuc, refl, ap, ap₂,
 use Rattle.std.specs.Prelude.{bit_and, ◌==◌, int_lt, int_le, Option, Some, None, IsSomeAnd}
 use Rattle.std.specs.Int.{Width, w32, w64}
 use mir.Val.{bits, hbits, sel}
-use Rattle.std.proofs.lemmas.Bool.{eqb-true, eqb-false, not-true, eq-eqb, ltb-true, ltb-false, leb-true, leb-false, lt-ltb, le-ltb, le-leb, lt-leb, not-false, not_from_true, false≢true, cases_lt}
+use Rattle.std.proofs.lemmas.Bool.{eqb-true, eqb-false, not-true, eq-eqb, ltb-true, ltb-false, leb-true, leb-false}
+use Rattle.std.proofs.lemmas.Bool.{lt-ltb, le-ltb, le-leb, lt-leb, not-false, not_from_true, false≢true, cases_lt}
 use Rattle.std.proofs.lemmas.Int.{to_z_pos}
 use Rattle.std.proofs.lemmas.Nat.{and-not, and_comm}
 use Rattle.std.proofs.Math.Nat.{mod-eq_of_lt}
@@ -14,7 +15,8 @@ use Rattle.scalar_domain.specs.declared.scalar.Scalar.{Scalar}
 use Rattle.scalar_domain.specs.declared.relation.Relation.{Relation}
 use Rattle.scalar_domain.specs.Scalar.{IsNoWider}
 use Rattle.scalar_domain.specs.Mask.{Within}
-use Rattle.scalar_domain.specs.Relation.{Related, Bounding, relation_on, unsigned_condition, signed_order, SignedRelated, MovesBounds, GoesAlong, TellsDifferent}
+use Rattle.scalar_domain.specs.Relation.{Related, Bounding, relation_on, unsigned_condition, signed_order}
+use Rattle.scalar_domain.specs.Relation.{SignedRelated, MovesBounds, GoesAlong, TellsDifferent}
 use Rattle.scalar_domain.specs.declared.relation.Relation.TheVariants.{Different}
 use Rattle.scalar_domain.proofs.Bits.{within-and, within_le, within-trans}
 use Rattle.std.specs.Int.Bits.{and_self}
@@ -134,7 +136,8 @@ le_false w x y p e = elim (cases_lt x (2 ^ hbits w)) [
   | inr q ↦ let n = negative w x q in absurd (false≢true (sym e ∙ ap₂ int_le n.1 (to_z_pos w y p)))
 ]
 
-pub signed_related : (w : Width) (c : Condition) (t : Bool) (x y : ℕ) → signed_order c ≡ true → holds w c x y ≡ t → SignedRelated (2 ^ hbits w) (relation_on (unsigned_condition c) t) x y
+pub signed_related : (w : Width) (c : Condition) (t : Bool) (x y : ℕ) → signed_order c ≡ true → holds w c x y ≡ t →
+    SignedRelated (2 ^ hbits w) (relation_on (unsigned_condition c) t) x y
 signed_related w condition.Equal true x y s e = absurd (false≢true s)
 signed_related w condition.Equal false x y s e = absurd (false≢true s)
 signed_related w condition.Greater true x y s e = absurd (false≢true s)

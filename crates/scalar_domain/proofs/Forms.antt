@@ -9,21 +9,26 @@ use Rattle.std.proofs.Math.Nat.{mod-eq_of_lt, div-le_self, mod-le}
 use Rattle.scalar_domain.proofs.Multiples.{below_word}
 use Rattle.bpf_model.specs.Arithmetic.{operate, word, signed}
 use Rattle.bpf_model.specs.declared.insn.AluOp.{AluOp}
-use Rattle.bpf_model.specs.declared.insn.AluOp.TheVariants.{Add, Sub, Mul, Div, SignedDiv, Or, And, ShiftLeft, ShiftRight, Mod, SignedMod, Xor, Move, ShiftRightSigned}
+use Rattle.bpf_model.specs.declared.insn.AluOp.TheVariants.{Add, Sub, Mul, Div, SignedDiv, Or, And, ShiftLeft}
+use Rattle.bpf_model.specs.declared.insn.AluOp.TheVariants.{ShiftRight, Mod, SignedMod, Xor, Move, ShiftRightSigned}
 use Rattle.scalar_domain.specs.Unsigned.{unsigned_form}
 use Rattle.scalar_domain.proofs.Words.{operate_lt}
 
 pub word_difference : (x y : ℕ) → y < 2 ^ 64 → word w64 (pos x -ℤ pos y) ≡ (x + (2 ^ 64 - y)) % 2 ^ 64
-word_difference x y q = ap unsigned_abs (int_rem_euclid_is (pos x -ℤ pos y) (pos (2 ^ 64)) (2 ^ 64) 1 (x + (2 ^ 64 - y)) (pow_pos 64) refl (omega (arith, ints)))
+word_difference x y q = ap unsigned_abs (int_rem_euclid_is (pos x -ℤ pos y) (pos (2 ^ 64)) (2 ^ 64) 1
+    (x + (2 ^ 64 - y)) (pow_pos 64) refl (omega (arith, ints)))
 
 pub narrow_difference : (x y : ℕ) → y < 2 ^ 32 → word w32 (pos x -ℤ pos y) ≡ (x + (2 ^ 64 - y)) % 2 ^ 32
-narrow_difference x y q = ap unsigned_abs (int_rem_euclid_is (pos x -ℤ pos y) (pos (2 ^ 32)) (2 ^ 32) (2 ^ 32) (x + (2 ^ 64 - y)) (pow_pos 32) refl (omega (arith, ints)))
+narrow_difference x y q = ap unsigned_abs (int_rem_euclid_is (pos x -ℤ pos y) (pos (2 ^ 32)) (2 ^ 32) (2 ^ 32)
+    (x + (2 ^ 64 - y)) (pow_pos 32) refl (omega (arith, ints)))
 
 pub negated_difference : (x : ℕ) → x < 2 ^ 64 → word w64 (neg_ℤ (pos x)) ≡ (0 + (2 ^ 64 - x)) % 2 ^ 64
-negated_difference x q = ap unsigned_abs (int_rem_euclid_is (neg_ℤ (pos x)) (pos (2 ^ 64)) (2 ^ 64) 1 (0 + (2 ^ 64 - x)) (pow_pos 64) refl (omega (arith, ints)))
+negated_difference x q = ap unsigned_abs (int_rem_euclid_is (neg_ℤ (pos x)) (pos (2 ^ 64)) (2 ^ 64) 1
+    (0 + (2 ^ 64 - x)) (pow_pos 64) refl (omega (arith, ints)))
 
 pub narrow_negated : (x : ℕ) → x < 2 ^ 32 → word w32 (neg_ℤ (pos x)) ≡ (0 + (2 ^ 64 - x)) % 2 ^ 32
-narrow_negated x q = ap unsigned_abs (int_rem_euclid_is (neg_ℤ (pos x)) (pos (2 ^ 32)) (2 ^ 32) (2 ^ 32) (0 + (2 ^ 64 - x)) (pow_pos 32) refl (omega (arith, ints)))
+narrow_negated x q = ap unsigned_abs (int_rem_euclid_is (neg_ℤ (pos x)) (pos (2 ^ 32)) (2 ^ 32) (2 ^ 32)
+    (0 + (2 ^ 64 - x)) (pow_pos 32) refl (omega (arith, ints)))
 
 -- Signed readings of words whose sign bit is 0.
 whole : (w : Width) (n m : ℕ) → n ≤ m → m < 2 ^ bits w → word w (pos n) ≡ n
@@ -32,7 +37,8 @@ whole w n m h l = mod-eq_of_lt (omega arith)
 same_else : {A : Type 0} (t : Bool) (a b c : A) → b ≡ c → cond t a b ≡ cond t a c
 same_else t a b c e = ap (cond t a) e
 
-pub unsigned_same : (w : Width) → ((n : ℕ) → n < 2 ^ hbits w → n < 2 ^ bits w) → (op : AluOp) (x y : ℕ) → x < 2 ^ hbits w → y < 2 ^ hbits w → operate w op x y ≡ operate w (unsigned_form op) x y
+pub unsigned_same : (w : Width) → ((n : ℕ) → n < 2 ^ hbits w → n < 2 ^ bits w) → (op : AluOp) (x y : ℕ) →
+    x < 2 ^ hbits w → y < 2 ^ hbits w → operate w op x y ≡ operate w (unsigned_form op) x y
 unsigned_same w half SignedDiv x y p q = same_else (y == 0) 0 (word w (int_div (signed w x) (signed w y))) (x / y)
     (ap₂ (λ a b. word w (int_div a b)) (to_z_pos w x p) (to_z_pos w y q) ∙ whole w (x / y) x (div-le_self x y) (half x p))
 unsigned_same w half SignedMod x y p q = same_else (y == 0) x (word w (int_rem (signed w x) (signed w y))) (x % y)
@@ -58,10 +64,12 @@ pub narrow_same : (op : AluOp) (x y : ℕ) → x < 2 ^ 31 → y < 2 ^ 31 → ope
 narrow_same op x y p q = unsigned_same w32 (λ n h. omega arith) op x y p q
 
 -- On words of 32 bits, the operations are those on 64 bits, cut.
-pub low_same : (op : AluOp) (x y : ℕ) → x < 2 ^ 32 → y < 2 ^ 32 → (op ≡ SignedDiv → ⊥) → (op ≡ SignedMod → ⊥) → (op ≡ ShiftLeft → ⊥) → (op ≡ ShiftRight → ⊥) → (op ≡ ShiftRightSigned → ⊥) →
+pub low_same : (op : AluOp) (x y : ℕ) → x < 2 ^ 32 → y < 2 ^ 32 → (op ≡ SignedDiv → ⊥) → (op ≡ SignedMod → ⊥) →
+    (op ≡ ShiftLeft → ⊥) → (op ≡ ShiftRight → ⊥) → (op ≡ ShiftRightSigned → ⊥) →
     operate w64 op x y % 2 ^ 32 ≡ operate w32 op x y
 low_same Add x y p q d m l r s = below_word (x + y) 32 (omega arith)
-low_same Sub x y p q d m l r s = ap (λ n. n % 2 ^ 32) (word_difference x y (omega arith)) ∙ below_word (x + (2 ^ 64 - y)) 32 (omega arith) ∙ sym (narrow_difference x y q)
+low_same Sub x y p q d m l r s = ap (λ n. n % 2 ^ 32) (word_difference x y (omega arith)) ∙
+    below_word (x + (2 ^ 64 - y)) 32 (omega arith) ∙ sym (narrow_difference x y q)
 low_same Mul x y p q d m l r s = below_word (x * y) 32 (omega arith)
 low_same Div x y p q d m l r s = mod-eq_of_lt (operate_lt w32 Div x y p q)
 low_same Or x y p q d m l r s = mod-eq_of_lt (operate_lt w32 Or x y p q)

@@ -73,7 +73,8 @@ sum_low x y t k e f = below_word (x + y) t k ∙ add-mod x y (2 ^ t) ∙ ap₂ (
 
 -- a multiple times a number is a multiple
 pub product_low : (x y t : ℕ) → t ≤ 64 → x % 2 ^ t ≡ 0 → (x * y) % 2 ^ 64 % 2 ^ t ≡ 0
-product_low x y t k e = below_word (x * y) t k ∙ mul-mod x y (2 ^ t) ∙ ap (λ n. (n * (y % 2 ^ t)) % 2 ^ t) e ∙ ap (λ n. n % 2 ^ t) (omega arith) ∙ zero-mod (2 ^ t)
+product_low x y t k e = below_word (x * y) t k ∙ mul-mod x y (2 ^ t) ∙ ap (λ n. (n * (y % 2 ^ t)) % 2 ^ t) e ∙
+    ap (λ n. n % 2 ^ t) (omega arith) ∙ zero-mod (2 ^ t)
 
 pub only_zero : (n : ℕ) → n < 2 ^ 64 → n % 2 ^ 64 ≡ 0 → Within n 0
 only_zero n l e =

@@ -69,7 +69,8 @@ told_along w condition.SignedLess t x y s m h = absurd (false≢true (sym s))
 told_along w condition.SignedLessOrEqual t x y s m h = absurd (false≢true (sym s))
 
 -- the same of signed orders, of numbers without a sign
-pub told_signed : (w : Width) (c : Condition) (t : Bool) (x y : ℕ) → signed_order c ≡ true → ToldSigned (2 ^ hbits w) (relation_on (unsigned_condition c) t) x y → holds w c x y ≡ t
+pub told_signed : (w : Width) (c : Condition) (t : Bool) (x y : ℕ) → signed_order c ≡ true →
+    ToldSigned (2 ^ hbits w) (relation_on (unsigned_condition c) t) x y → holds w c x y ≡ t
 told_signed w condition.Equal t x y s h = absurd (false≢true s)
 told_signed w condition.Greater t x y s h = absurd (false≢true s)
 told_signed w condition.GreaterOrEqual t x y s h = absurd (false≢true s)
@@ -87,7 +88,8 @@ told_signed w condition.SignedLessOrEqual true x y s h = ap₂ int_le (to_z_pos 
 told_signed w condition.SignedLessOrEqual false x y s h = ap₂ int_le (to_z_pos w x h.left) (to_z_pos w y h.right) ∙ lt-leb x y h.related
 
 -- a pair of numbers below 2^32 by their whole, and so by their low halves
-pub narrow_pair : (c : Condition) (t : Bool) (a b : Scalar) → a.greatest < 2 ^ 32 → b.greatest < 2 ^ 32 → HasPair (λ x y. holds w32 c x y ≡ t) a b → SomeGoAlong Word32 c t a b
+pub narrow_pair : (c : Condition) (t : Bool) (a b : Scalar) → a.greatest < 2 ^ 32 → b.greatest < 2 ^ 32 →
+    HasPair (λ x y. holds w32 c x y ≡ t) a b → SomeGoAlong Word32 c t a b
 narrow_pair c t a b p q h =
     mapped (λ x y. holds w32 c x y ≡ t) (λ x y. compares Word32 c x y ≡ t) a b h
     (λ x y i j e. narrow_compares c x y (omega (arith, i.greatest, p)) (omega (arith, j.greatest, q)) ∙ e)

@@ -20,8 +20,10 @@ pub swap_lt : (width : SwapWidth) (n : ℕ) → swap_bytes (swapped_width width)
 swap_lt swap_width.Two n = omega (arith, byte n, byte (n / 256))
 swap_lt swap_width.Four n = omega (arith, byte n, byte (n / 256), byte (n / 65536), byte (n / 16777216))
 swap_lt swap_width.Eight n =
-    eight (n % 256) (n / 256 % 256) (n / 65536 % 256) (n / 16777216 % 256) (n / 4294967296 % 256) (n / 1099511627776 % 256) (n / 281474976710656 % 256) (n / 72057594037927936 % 256)
-    (byte n) (byte (n / 256)) (byte (n / 65536)) (byte (n / 16777216)) (byte (n / 4294967296)) (byte (n / 1099511627776)) (byte (n / 281474976710656)) (byte (n / 72057594037927936))
+    eight (n % 256) (n / 256 % 256) (n / 65536 % 256) (n / 16777216 % 256) (n / 4294967296 % 256)
+    (n / 1099511627776 % 256) (n / 281474976710656 % 256) (n / 72057594037927936 % 256)
+    (byte n) (byte (n / 256)) (byte (n / 65536)) (byte (n / 16777216)) (byte (n / 4294967296))
+    (byte (n / 1099511627776)) (byte (n / 281474976710656)) (byte (n / 72057594037927936))
 
 pub reordered_below : (order : ByteOrder) (width : SwapWidth) (n : ℕ) → reordered order width n < 2 ^ bits (swapped_width width)
 reordered_below ToLittle width n = mod_below n (2 ^ bits (swapped_width width)) (pow_pos (bits (swapped_width width)))

@@ -7,7 +7,8 @@ use Rattle.std.proofs.lemmas.Nat.{and_le_l, or_lt, xor_lt, mod_below, pow_pos, s
 use Rattle.std.proofs.Math.Nat.{div-le_self, mod-le}
 use Rattle.bpf_model.specs.Arithmetic.{operate, alu, word, signed, negated, moved_signed, loaded_signed}
 use Rattle.bpf_model.specs.declared.insn.AluOp.{AluOp}
-use Rattle.bpf_model.specs.declared.insn.AluOp.TheVariants.{Add, Sub, Mul, Div, SignedDiv, Or, And, ShiftLeft, ShiftRight, Mod, SignedMod, Xor, Move, ShiftRightSigned}
+use Rattle.bpf_model.specs.declared.insn.AluOp.TheVariants.{Add, Sub, Mul, Div, SignedDiv, Or, And, ShiftLeft}
+use Rattle.bpf_model.specs.declared.insn.AluOp.TheVariants.{ShiftRight, Mod, SignedMod, Xor, Move, ShiftRightSigned}
 use Rattle.bpf_model.specs.declared.insn.SignExtension.{SignExtension}
 use Rattle.bpf_model.specs.declared.insn.SignExtension.TheVariants.{ByteTo32, ShortTo32, ByteTo64, ShortTo64, WordTo64}
 use Rattle.bpf_model.specs.declared.opcode.SignedWidth.{SignedWidth}
@@ -28,13 +29,15 @@ operate_lt w Add x y p q = word_lt w (pos x +ℤ pos y)
 operate_lt w Sub x y p q = word_lt w (pos x -ℤ pos y)
 operate_lt w Mul x y p q = word_lt w (pos x *ℤ pos y)
 operate_lt w Div x y p q = either_lt (y == 0) 0 (x / y) (2 ^ bits w) (pow_pos (bits w)) (omega (arith, div-le_self x y))
-operate_lt w SignedDiv x y p q = either_lt (y == 0) 0 (word w (int_div (signed w x) (signed w y))) (2 ^ bits w) (pow_pos (bits w)) (word_lt w (int_div (signed w x) (signed w y)))
+operate_lt w SignedDiv x y p q = either_lt (y == 0) 0 (word w (int_div (signed w x) (signed w y))) (2 ^ bits w)
+    (pow_pos (bits w)) (word_lt w (int_div (signed w x) (signed w y)))
 operate_lt w Or x y p q = or_lt (bits w) x y p q
 operate_lt w And x y p q = omega (arith, and_le_l x y)
 operate_lt w ShiftLeft x y p q = mod_below (x * 2 ^ (y % bits w)) (2 ^ bits w) (pow_pos (bits w))
 operate_lt w ShiftRight x y p q = omega (arith, shr_le x (y % bits w))
 operate_lt w Mod x y p q = either_lt (y == 0) x (x % y) (2 ^ bits w) p (omega (arith, mod-le x y))
-operate_lt w SignedMod x y p q = either_lt (y == 0) x (word w (int_rem (signed w x) (signed w y))) (2 ^ bits w) p (word_lt w (int_rem (signed w x) (signed w y)))
+operate_lt w SignedMod x y p q = either_lt (y == 0) x (word w (int_rem (signed w x) (signed w y))) (2 ^ bits w) p
+    (word_lt w (int_rem (signed w x) (signed w y)))
 operate_lt w Xor x y p q = xor_lt (bits w) x y p q
 operate_lt w Move x y p q = q
 operate_lt w ShiftRightSigned x y p q = word_lt w (int_shr (signed w x) (y % bits w))

@@ -1,5 +1,6 @@
 -- What is written of numbers and bytes is read again.
-use Rattle.std.proofs.Common.{ℕ, zero, suc, ◌≡◌, ◌*◌, ◌^◌, ◌<◌, ◌==◌, Bool, true, false, not, ◌&&◌, ◌||◌, List, [], ◌∷◌, length, get_or, refl, sym, ap, ◌∙◌, arith}
+use Rattle.std.proofs.Common.{ℕ, zero, suc, ◌≡◌, ◌*◌, ◌^◌, ◌<◌, ◌==◌, Bool, true, false, not, ◌&&◌, ◌||◌, List, []}
+use Rattle.std.proofs.Common.{◌∷◌, length, get_or, refl, sym, ap, ◌∙◌, arith}
 use Rattle.std.specs.Prelude.{Option, Some, None, Ok, nat_lt, if◌then◌else◌, codes, bytes_eq}
 use Rattle.std.specs.Fmt.{decimal}
 use Rattle.std.specs.Str.{all_ascii_digits}
@@ -29,7 +30,8 @@ decimal_begins_well (suc n) h =
     let other : (get_or (decimal (suc n)) 0 0 == 48) ≡ false = ne_eqb (get_or (decimal (suc n)) 0 0) 48 (λ e. omega (arith, first, e)) in
     ap (λ b. length (decimal (suc n)) == 1 || not b) other ∙ or-true (length (decimal (suc n)) == 1)
 
-read_as : (word : List ℕ) (n : ℕ) → is_word word ≡ true → begins_well word ≡ true → all_ascii_digits word ≡ true → digits_value 10 word ≡ n → n < 2 ^ 64 → number_in word ≡ Some n
+read_as : (word : List ℕ) (n : ℕ) → is_word word ≡ true → begins_well word ≡ true → all_ascii_digits word ≡ true →
+    digits_value 10 word ≡ n → n < 2 ^ 64 → number_in word ≡ Some n
 read_as word n some begins digits value h =
     let below : nat_lt n (2 ^ 64) ≡ true = grind (arith, nat_tests) in
     rw (some, begins, digits, value, below) refl

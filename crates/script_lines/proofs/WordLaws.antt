@@ -1,5 +1,6 @@
 -- The words of a line, one after another.
-use Rattle.std.proofs.Common.{ℕ, suc, ◌≡◌, ◌≢◌, ◌<◌, ◌≤◌, ◌==◌, Bool, true, false, not, ◌⊎◌, inl, inr, List, [], ◌∷◌, ◌++◌, length, get_or, take, drop, refl, sym, ap, ◌∙◌, arith}
+use Rattle.std.proofs.Common.{ℕ, suc, ◌≡◌, ◌≢◌, ◌<◌, ◌≤◌, ◌==◌, Bool, true, false, not, ◌⊎◌, inl, inr, List, [], ◌∷◌}
+use Rattle.std.proofs.Common.{◌++◌, length, get_or, take, drop, refl, sym, ap, ◌∙◌, arith}
 use Rattle.std.specs.Prelude.{filter}
 use Rattle.std.specs.List.{slice_split, All}
 use Rattle.std.proofs.Math.Seq.{drop-cons}
@@ -40,17 +41,20 @@ at_end line n some same lacks =
     let lacks_all : All (λ b. is_space b ≡ false) line = rw all at lacks in
     rw (all, none) (last_word line (omega arith) lacks_all)
 
-at_space : (line : List ℕ) (n : ℕ) → 0 < n → n < length line → get_or line n 0 ≡ 32 → All (λ b. is_space b ≡ false) (take n line) → words_of line ≡ take n line ∷ words_of (drop n line)
+at_space : (line : List ℕ) (n : ℕ) → 0 < n → n < length line → get_or line n 0 ≡ 32 →
+    All (λ b. is_space b ≡ false) (take n line) → words_of line ≡ take n line ∷ words_of (drop n line)
 at_space line n some inside space lacks =
     let rest : drop n line ≡ 32 ∷ drop (suc n) line = drop-cons line n 0 inside ∙ ap (λ b. b ∷ drop (suc n) line) space in
     let parts : line ≡ take n line ++ 32 ∷ drop (suc n) line = sym (take-append-drop n line) ∙ ap (λ xs. take n line ++ xs) rest in
-    ap words_of parts ∙ word_before_space (take n line) (drop (suc n) line) (omega (arith, length-take n line)) lacks ∙ ap (λ xs. take n line ∷ words_of xs) (sym rest)
+    ap words_of parts ∙ word_before_space (take n line) (drop (suc n) line) (omega (arith, length-take n line)) lacks
+    ∙ ap (λ xs. take n line ∷ words_of xs) (sym rest)
 
 end_or_inside : (m n : ℕ) → m ≤ n → (m ≡ n) ⊎ (m < n)
 end_or_inside m n h = elim (eqb_tells m n) [ inl same ↦ inl same.1 | inr other ↦ inr (let apart : m ≢ n = other.1 in omega (arith, apart, h)) ]
 
 -- what stands before the first space is the first word
-pub first_word : (line : List ℕ) (n : ℕ) → 0 < n → n ≤ length line → ((k : ℕ) → k < n → get_or line k 0 ≢ 32) → (n < length line → get_or line n 0 ≡ 32) → words_of line ≡ take n line ∷ words_of (drop n line)
+pub first_word : (line : List ℕ) (n : ℕ) → 0 < n → n ≤ length line → ((k : ℕ) → k < n → get_or line k 0 ≢ 32) →
+    (n < length line → get_or line n 0 ≡ 32) → words_of line ≡ take n line ∷ words_of (drop n line)
 first_word line n some within before space =
     let lacks = no_spaces line n within before in
     elim (end_or_inside n (length line) within) [

@@ -1,5 +1,6 @@
 -- Steps of a script.
-use Rattle.std.proofs.Common.{◌≡◌, ℕ, ◌+◌, ◌-◌, ◌<◌, ◌⊎◌, List, [], ◌∷◌, ◌++◌, length, refl, sym, ap, subst, ◌∙◌, append_assoc, append-nil, length-append, arith, inl, inr, Result, Ok, Err, OnOk}
+use Rattle.std.proofs.Common.{◌≡◌, ℕ, ◌+◌, ◌-◌, ◌<◌, ◌⊎◌, List, [], ◌∷◌, ◌++◌, length, refl, sym, ap, subst, ◌∙◌}
+use Rattle.std.proofs.Common.{append_assoc, append-nil, length-append, arith, inl, inr, Result, Ok, Err, OnOk}
 use Rattle.std.specs.Io.Iter.{u64_saturate}
 use Rattle.script_stream.specs.declared.progress.Progress.{Progress}
 use Rattle.script_stream.specs.declared.progress.TheConstants.{LINE_BYTES}
@@ -8,7 +9,8 @@ use Rattle.script_stream.specs.declared.fault.ScriptFault.TheVariants.{BadComman
 use Rattle.script_stream.specs.Lines.{lines_of, ended, HasNoFeed}
 use Rattle.script_stream.specs.Answered.{Answered, AnsweredBefore, BeginsAnswered, FailsWith, IsBadLine}
 use Rattle.script_stream.specs.Progress.{IsProgressAt, IsOutputFault}
-use Rattle.script_stream.proofs.LineLemmas.{lines_of-feed, lines_of-ended, lines_of-last, lines_of-open, HasFirst, HasNoFeed-append, HaveNoFeed-snoc, ended-snoc}
+use Rattle.script_stream.proofs.LineLemmas.{lines_of-feed, lines_of-ended, lines_of-last, lines_of-open, HasFirst}
+use Rattle.script_stream.proofs.LineLemmas.{HasNoFeed-append, HaveNoFeed-snoc, ended-snoc}
 
 pub saturate_more : (n m : ℕ) → m ≡ u64_saturate n → u64_saturate (m + 1) ≡ u64_saturate (n + 1)
 saturate_more n m e = omega arith
@@ -107,7 +109,8 @@ module _ {S : Type 0} (answers : S → List ℕ → List ℕ → S → Type 0) w
 
   -- the next line is bad
   pub before : (is_bad : List ℕ → Type 0) (old : S) (read written : List ℕ) (p : Progress) (now : S) (after bad : List ℕ) (others : List (List ℕ)) (line : ℕ)
-      → IsProgressAt answers old read written p now → lines_of (p.rest.items ++ after) ≡ bad ∷ others → IsBadLine is_bad bad → line ≡ u64_saturate (p.answered + 1)
+      → IsProgressAt answers old read written p now → lines_of (p.rest.items ++ after) ≡ bad ∷ others →
+      IsBadLine is_bad bad → line ≡ u64_saturate (p.answered + 1)
       → AnsweredBefore answers is_bad old (read ++ after) line (written ++ p.out.items)
   before is_bad old read written p now after bad others line at e is number = record {
     good = at.lines;
@@ -283,7 +286,8 @@ module _ {S : Type 0} (answers : S → List ℕ → List ℕ → S → Type 0) w
       subst (λ r. IsProgressAt answers old r written' p now) e (subst (λ t. IsProgressAt answers old read t p now) f h)
 
 -- what was read before a chunk, the chunk, and what follows
-pub read_on : (read front back chunk rest : List ℕ) → chunk ≡ front ++ back → (after : List ℕ) → after ≡ back ++ rest → (read ++ front) ++ after ≡ (read ++ chunk) ++ rest
+pub read_on : (read front back chunk rest : List ℕ) → chunk ≡ front ++ back → (after : List ℕ) → after ≡ back ++ rest
+    → (read ++ front) ++ after ≡ (read ++ chunk) ++ rest
 read_on read front back chunk rest e after f =
     ap (λ a. (read ++ front) ++ a) f
     ∙ sym (append_assoc (read ++ front) back rest)

@@ -18,17 +18,23 @@ use Rattle.shared.specs.Tally.{CountsOn, IsTallyOf, steps_by, reclaimed_by}
 use Rattle.shared.proofs.Counting.{IsCountedOn, full-counts}
 
 -- what is counted of the reaction that is seen
-counted-here : (w new : WorldView) (event : Event) (answer : Answer) → answer ≡ (full_reaction w event).0 → new ≡ (full_reaction w event).1 → IsCountedOn w (answer, new)
+counted-here : (w new : WorldView) (event : Event) (answer : Answer) → answer ≡ (full_reaction w event).0 →
+    new ≡ (full_reaction w event).1 → IsCountedOn w (answer, new)
 counted-here w new event answer a n = subst (IsCountedOn w) (λ i. (sym a i, sym n i)) (full-counts w event)
 
-pub counts-on : (w new : WorldView) (event : Event) (answer : Answer) (unreclaimed : ℕ) → unreclaimed ≡ unreclaimed_in w → answer ≡ (full_reaction w event).0 → new ≡ (full_reaction w event).1 → CountsOn answer unreclaimed (unreclaimed_in new)
-counts-on w new event answer unreclaimed same a n = subst (λ (k : ℕ). CountsOn answer k (unreclaimed_in new)) (sym same) (counted-here w new event answer a n).counts
+pub counts-on : (w new : WorldView) (event : Event) (answer : Answer) (unreclaimed : ℕ) →
+    unreclaimed ≡ unreclaimed_in w → answer ≡ (full_reaction w event).0 → new ≡ (full_reaction w event).1 →
+    CountsOn answer unreclaimed (unreclaimed_in new)
+counts-on w new event answer unreclaimed same a n = subst (λ (k : ℕ). CountsOn answer k (unreclaimed_in new))
+    (sym same) (counted-here w new event answer a n).counts
 
-pub tally-push : (old new : Tally) (w next : WorldView) (event : Event) (answer : Answer) → IsTallyOf old w → answer ≡ (full_reaction w event).0 → next ≡ (full_reaction w event).1
+pub tally-push : (old new : Tally) (w next : WorldView) (event : Event) (answer : Answer) → IsTallyOf old w →
+    answer ≡ (full_reaction w event).0 → next ≡ (full_reaction w event).1
     → new.origin ≡ old.origin → new.unreclaimed ≡ unreclaimed_in next
     → new.totals.reclaimed ≡ old.totals.reclaimed + reclaimed_by answer
     → new.totals.unlinked + old.unreclaimed ≡ old.totals.unlinked + new.unreclaimed + reclaimed_by answer
-    → IsTallyOf new next × (new.totals.unlinked ≤ old.totals.unlinked + 1) × (old.totals.unlinked ≤ new.totals.unlinked) × (new.totals.reclaimed ≤ old.totals.reclaimed + 1)
+    → IsTallyOf new next × (new.totals.unlinked ≤ old.totals.unlinked + 1) ×
+    (old.totals.unlinked ≤ new.totals.unlinked) × (new.totals.reclaimed ≤ old.totals.reclaimed + 1)
 tally-push old new w next event answer t a n o unr rec unl =
     let c = counted-here w next event answer a n in
     let given = c.given in
@@ -45,7 +51,8 @@ tally-push old new w next event answer t a n o unr rec unl =
       omega (arith, one, rec),
     )
 
-pub balanced-push : (old new : BooksView) (total worker : ℕ) (event : Event) (answer : Answer) → AreBalanced old total → total + 1 < 2 ^ 64 → IsReal event → Enters old worker event answer new
+pub balanced-push : (old new : BooksView) (total worker : ℕ) (event : Event) (answer : Answer) → AreBalanced old total
+    → total + 1 < 2 ^ 64 → IsReal event → Enters old worker event answer new
     → length old.journal < old.limit
     → new.tally.unreclaimed ≡ unreclaimed_in new.world
     → new.tally.totals.reclaimed ≡ old.tally.totals.reclaimed + reclaimed_by answer
@@ -53,7 +60,8 @@ pub balanced-push : (old new : BooksView) (total worker : ℕ) (event : Event) (
     → AreBalanced new (total + 1)
 balanced-push old new total worker event answer b fits real e room unr rec unl =
     let entry : Entry = record { worker = worker; event = event; answer = answer } in
-    let r : Replays old.base new.world (old.journal ++ entry ∷ []) = replays_push old.base old.world new.world old.journal entry b.replays real e.answers e.world in
+    let r : Replays old.base new.world (old.journal ++ entry ∷ []) =
+    replays_push old.base old.world new.world old.journal entry b.replays real e.answers e.world in
     let n : length new.journal ≡ length old.journal + 1 = ap length e.journal ∙ length-append old.journal (entry ∷ []) in
     let s : steps_of new.journal ≡ steps_of old.journal + steps_by answer = ap steps_of e.journal ∙ steps_push old.journal entry in
     let t = tally-push old.tally new.tally old.world new.world event answer b.tally e.answers e.world e.origin unr rec unl in

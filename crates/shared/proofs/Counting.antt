@@ -1,5 +1,6 @@
 -- Each reaction unlinks or reclaims at most one element, and says so where it reclaims.
-use Rattle.std.proofs.Common.{◌≡◌, ◌∙◌, ℕ, ◌+◌, ◌≤◌, List, [], ◌∷◌, map, length, Option, Some, None, refl, ap, subst, arith, Bool, true, false, length-append, length-drop}
+use Rattle.std.proofs.Common.{◌≡◌, ◌∙◌, ℕ, ◌+◌, ◌≤◌, List, [], ◌∷◌, map, length, Option, Some, None, refl, ap, subst}
+use Rattle.std.proofs.Common.{arith, Bool, true, false, length-append, length-drop}
 use Rattle.std.specs.Prelude.{slice_get, ℤ, pos, negsuc, ◌+ℤ◌}
 use Rattle.std.specs.List.{sum_by}
 use Rattle.std.specs.FinMap.{get}
@@ -33,8 +34,13 @@ use Rattle.bpf_model.specs.Step.{insn_at}
 use Rattle.bpf_model.specs.View.{MapView, RunView, WorldView}
 use Rattle.model_laws.specs.Locations.{Location, InContext, InFrame, AtMap, InSlot}
 use Rattle.maps.specs.Counting.{unlinked_in}
-use Rattle.view_laws.specs.Views.{retired_slot, retired_key, deleted, deleted_from, filled_from, overwritten_slot, written_by, updated_by, shown_error, turned_view, slot_given_back, given_at, reaped_view}
-use Rattle.view_laws.specs.Reactions.{with_map, shape_shown, refused_as, delete_at, delete_reaction, update_at, update_reaction, read_at, read_reaction, advanced_by, advance_reaction, Pick, first_pick, reap_by, reap_reaction, start_by, start_reaction, step_refused, drop_refused, drop_by, drop_reaction, step_by, reaction}
+use Rattle.view_laws.specs.Views.{retired_slot, retired_key, deleted, deleted_from, filled_from, overwritten_slot}
+use Rattle.view_laws.specs.Views.{written_by, updated_by, shown_error, turned_view, slot_given_back, given_at}
+use Rattle.view_laws.specs.Views.{reaped_view}
+use Rattle.view_laws.specs.Reactions.{with_map, shape_shown, refused_as, delete_at, delete_reaction, update_at}
+use Rattle.view_laws.specs.Reactions.{update_reaction, read_at, read_reaction, advanced_by, advance_reaction, Pick}
+use Rattle.view_laws.specs.Reactions.{first_pick, reap_by, reap_reaction, start_by, start_reaction, step_refused}
+use Rattle.view_laws.specs.Reactions.{drop_refused, drop_by, drop_reaction, step_by, reaction}
 use Rattle.world_laws.specs.Locating.{location_of}
 use Rattle.world_laws.specs.Moving.{word_in, operand_word, stored_slot, stored_at}
 use Rattle.world_laws.specs.Calling.{bytes_in, bound_number, serves, helper_called_on, helper_called, kernel_called}
@@ -96,22 +102,41 @@ returned-count Worn i v some = let n = length-drop 1 v.ready in omega (arith, n,
 
 module _ (w : WorldView) where
   -- nothing is unlinked, nothing reclaimed
-  still : (answer : Answer) (new : WorldView) → reclaimed_by answer ≡ 0 → unreclaimed_in new ≡ unreclaimed_in w → new.given ≡ w.given → IsCountedOn w (answer, new)
-  still answer new none e g = record { counts = record { unlinked = 0; one = omega (arith, none); sum = omega (arith, none, e) }; given = omega (arith, none, g) }
+  still : (answer : Answer) (new : WorldView) → reclaimed_by answer ≡ 0 → unreclaimed_in new ≡ unreclaimed_in w →
+      new.given ≡ w.given → IsCountedOn w (answer, new)
+  still answer new none e g = record {
+    counts = record {
+      unlinked = 0;
+      one = omega (arith, none);
+      sum =
+          omega (arith, none, e);
+    };
+    given = omega (arith, none, g);
+  }
 
   -- one map has another view
-  in-map : (answer : Answer) (k : ℕ) (v new : MapView) → reclaimed_by answer ≡ 0 → slice_get w.maps k ≡ Some v → Gains v new → IsCountedOn w (answer, with_map k new w)
+  in-map : (answer : Answer) (k : ℕ) (v new : MapView) → reclaimed_by answer ≡ 0 → slice_get w.maps k ≡ Some v →
+      Gains v new → IsCountedOn w (answer, with_map k new w)
   in-map answer k v new none at g =
       let s = sum-set unlinked_in w.maps k v new at in
       let m = g.sum in
-      let one = g.one in record { counts = record { unlinked = g.more; one = omega (arith, none, one); sum = omega (arith, none, s, m) }; given = omega (arith, none) }
+      let one = g.one in record {
+        counts = record {
+          unlinked = g.more;
+          one = omega (arith, none, one);
+          sum =
+              omega (arith, none, s, m);
+        };
+        given = omega (arith, none);
+      }
 
   delete-counts : (r : Option EventRefusal) (o : Option MapView) (k : ℕ) (key : List ℕ) → slice_get w.maps k ≡ o → IsCountedOn w (delete_at r o w k key)
   delete-counts (Some refusal) o k key at = still _ w refl refl refl
   delete-counts None None k key at = still _ w refl refl refl
   delete-counts None (Some v) k key at = in-map _ k v (deleted v key).1 refl at (deleted-gains v.shape.kind v key)
 
-  update-counts : (r : Option EventRefusal) (o : Option MapView) (k : ℕ) (key value : List ℕ) (flags : ℕ) → slice_get w.maps k ≡ o → IsCountedOn w (update_at r o w k key value flags)
+  update-counts : (r : Option EventRefusal) (o : Option MapView) (k : ℕ) (key value : List ℕ) (flags : ℕ) →
+      slice_get w.maps k ≡ o → IsCountedOn w (update_at r o w k key value flags)
   update-counts (Some refusal) o k key value flags at = still _ w refl refl refl
   update-counts None None k key value flags at = still _ w refl refl refl
   update-counts None (Some v) k key value flags at = in-map _ k v _ refl at (updated-gains (shown_error v key flags) v key value)
@@ -153,17 +178,27 @@ module _ (w : WorldView) where
   same-counts x y h k = subst (IsCountedOn w) (same_Some x y h) k
 
   reaction-counts : (event : Event) (x : Answer × WorldView) → reaction w event ≡ Some x → IsCountedOn w x
-  reaction-counts (events.Start prog ctx) x h = same-counts (start_reaction w prog ctx.items) x h (start-counts (start_refusal (slice_get w.programs prog) (length ctx.items) (lowest_free w.runs)) (lowest_free w.runs) prog ctx.items)
+  reaction-counts (events.Start prog ctx) x h = same-counts (start_reaction w prog ctx.items) x h
+      (start-counts (start_refusal (slice_get w.programs prog) (length ctx.items) (lowest_free w.runs))
+      (lowest_free w.runs) prog ctx.items)
   reaction-counts (events.Step r) x h = step-counts (step_refused (run_at w.runs r)) x h
-  reaction-counts (events.Update map key value flags) x h = same-counts (update_reaction w map key.items value.items flags) x h (update-counts (update_refusal (shape_shown (slice_get w.maps map)) (length key.items) (length value.items)) (slice_get w.maps map) map key.items value.items flags refl)
-  reaction-counts (events.Delete map key) x h = same-counts (delete_reaction w map key.items) x h (delete-counts (key_refusal (shape_shown (slice_get w.maps map)) (length key.items)) (slice_get w.maps map) map key.items refl)
-  reaction-counts (events.Read map key) x h = same-counts (read_reaction w map key.items) x h (read-counts (key_refusal (shape_shown (slice_get w.maps map)) (length key.items)) (slice_get w.maps map) key.items)
+  reaction-counts (events.Update map key value flags) x h =
+      same-counts (update_reaction w map key.items value.items flags) x h
+      (update-counts (update_refusal (shape_shown (slice_get w.maps map)) (length key.items) (length value.items))
+      (slice_get w.maps map) map key.items value.items flags refl)
+  reaction-counts (events.Delete map key) x h = same-counts (delete_reaction w map key.items) x h
+      (delete-counts (key_refusal (shape_shown (slice_get w.maps map)) (length key.items)) (slice_get w.maps map) map
+      key.items refl)
+  reaction-counts (events.Read map key) x h = same-counts (read_reaction w map key.items) x h
+      (read-counts (key_refusal (shape_shown (slice_get w.maps map)) (length key.items)) (slice_get w.maps map)
+      key.items)
   reaction-counts events.Advance x h = same-counts (advance_reaction w) x h (advance-counts (is_any w.awaited))
   reaction-counts events.Reap x h = same-counts (reap_reaction w) x h (reap-counts (first_pick 0 w.maps) refl)
   reaction-counts (events.Drop r) x h = same-counts (drop_reaction w r) x h (drop-counts (drop_refused (run_at w.runs r)) r)
 
   -- a step of a run
-  slot-counts : (answer : Answer) (width x : ℕ) (z : ℤ) (k slot : ℕ) (o : Option MapView) → reclaimed_by answer ≡ 0 → slice_get w.maps k ≡ o → IsCountedOn w (answer, stored_slot width x z k o slot w)
+  slot-counts : (answer : Answer) (width x : ℕ) (z : ℤ) (k slot : ℕ) (o : Option MapView) → reclaimed_by answer ≡ 0 →
+      slice_get w.maps k ≡ o → IsCountedOn w (answer, stored_slot width x z k o slot w)
   slot-counts answer width x (pos at) k slot (Some v) none e = in-map answer k v _ none e (gains-none v _ refl)
   slot-counts answer width x (pos at) k slot None none e = still answer w none refl refl
   slot-counts answer width x (negsuc n) k slot o none e = still answer w none refl refl
@@ -179,7 +214,8 @@ module _ (w : WorldView) where
   serves-counts Lookup k r v (Some m) e = still _ _ refl refl refl
   serves-counts Update k r v (Some m) e =
       let key = bytes_in v 2 m.shape.key_len in
-      let c = in-map Moved k m _ refl e (updated-gains (shown_error m key (word_in v 4)) m key (bytes_in v 3 m.shape.value_len)) in record { counts = c.counts; given = c.given }
+      let c = in-map Moved k m _ refl e (updated-gains (shown_error m key (word_in v 4)) m key
+      (bytes_in v 3 m.shape.value_len)) in record { counts = c.counts; given = c.given }
   serves-counts Delete k r v (Some m) e =
       let key = bytes_in v 2 m.shape.key_len in
       let c = in-map Moved k m _ refl e (deleted-gains m.shape.kind m key) in record { counts = c.counts; given = c.given }

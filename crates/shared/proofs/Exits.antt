@@ -8,7 +8,8 @@ use Rattle.world_laws.specs.Invariant.{IsWorld}
 use Rattle.world_laws.proofs.Lived.{may_exit_as, exits_as}
 use Rattle.shared.specs.Receipts.{IsExitOf, HasExitedOnce, IsPossibleExit, IsOwnExit}
 
-pub exits-once : (programs : List Checked) (p : Option Checked) (w : WorldView) (run prog : ℕ) (context : List ℕ) (exit : Option ℕ) → IsWorld w → p ≡ slice_get programs prog
+pub exits-once : (programs : List Checked) (p : Option Checked) (w : WorldView) (run prog : ℕ) (context : List ℕ)
+    (exit : Option ℕ) → IsWorld w → p ≡ slice_get programs prog
     → IfSome exit (λ n. IsExitOf w run p context n) → IfSome exit (λ n. HasExitedOnce programs run prog context n)
 exits-once programs p w run prog context exit is same h =
     IfSome_then exit h (λ n e. record { world = w; is_world = is; exited = subst (λ (q : Option Checked). IsExitOf w run q context n) same e })
@@ -22,8 +23,10 @@ own : (o : Option Checked) (context : List ℕ) (n : ℕ) → IsPossibleExit o c
 own None context n h = h
 own (Some p) context n h = λ none. exits_as p.program context n none h
 
-pub possible-once : (programs : List Checked) (run prog : ℕ) (context : List ℕ) (n : ℕ) → HasExitedOnce programs run prog context n → IsPossibleExit (slice_get programs prog) context n
+pub possible-once : (programs : List Checked) (run prog : ℕ) (context : List ℕ) (n : ℕ) →
+    HasExitedOnce programs run prog context n → IsPossibleExit (slice_get programs prog) context n
 possible-once programs run prog context n h = possible (slice_get programs prog) h.world run context n h.is_world h.exited
 
-pub own-once : (programs : List Checked) (run prog : ℕ) (context : List ℕ) (n : ℕ) → HasExitedOnce programs run prog context n → IsOwnExit (slice_get programs prog) context n
+pub own-once : (programs : List Checked) (run prog : ℕ) (context : List ℕ) (n : ℕ) →
+    HasExitedOnce programs run prog context n → IsOwnExit (slice_get programs prog) context n
 own-once programs run prog context n h = own (slice_get programs prog) context n (possible-once programs run prog context n h)

@@ -18,7 +18,9 @@ pub record IsKeptAs (among : List MapShape) (c : Checked) (l : Loaded) : Type 0 
   pub context : c.ctx_len ≡ l.context_len
   pub bound : map Some c.shapes ≡ map (slice_get among) l.maps
 
-pub kept-more : (among : List MapShape) (kept : List Checked) (programs : List Loaded) (n : ℕ) (c : Checked) (l : Loaded) → AreKept among kept (take n programs) → slice_get programs n ≡ Some l → IsKeptAs among c l → AreKept among (kept ++ c ∷ []) (take (n + 1) programs)
+pub kept-more : (among : List MapShape) (kept : List Checked) (programs : List Loaded) (n : ℕ) (c : Checked)
+    (l : Loaded) → AreKept among kept (take n programs) → slice_get programs n ≡ Some l → IsKeptAs among c l →
+    AreKept among (kept ++ c ∷ []) (take (n + 1) programs)
 kept-more among kept programs n c l k at same =
     record {
       codes = map-take (λ (p : Checked). p.program) (λ (l : Loaded). l.code) kept programs n c l k.codes at same.code;

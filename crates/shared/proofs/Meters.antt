@@ -14,7 +14,12 @@ pub begins : IsMetered (0 ∷ 0 ∷ 0 ∷ []) (meter_writer 0 0 0 ∷ [])
 begins = record { writer = 0; each = one }
   where
     one : (by : ℕ) (v : MeterView) → get_elem? (meter_writer 0 0 0 ∷ []) by ≡ some v → FitsMeter 0 (0 ∷ 0 ∷ 0 ∷ []) by v
-    one zero v e = subst (FitsMeter 0 (0 ∷ 0 ∷ 0 ∷ []) 0) (some-injective _ _ e) record { known = record { steps = le_refl 0; unlinked = le_refl 0; reclaimed = le_refl 0 }; own = λ _. refl; same = λ _. refl }
+    one zero v e = subst (FitsMeter 0 (0 ∷ 0 ∷ 0 ∷ []) 0) (some-injective _ _ e)
+        record {
+          known = record { steps = le_refl 0; unlinked = le_refl 0; reclaimed = le_refl 0 };
+          own = λ _. refl;
+          same = λ _. refl;
+        }
     one (suc by) v e = absurd (some-ne-none v (sym e))
 
 -- the writer writes words that are no less
@@ -27,7 +32,14 @@ writes by a b c x y z p q r words views h at =
       record {
         writer = h.writer;
         each = λ j u e. ⊎_elim
-            (λ (t : (j ≡ by) × (meter_writer x y z ≡ u)). subst (λ (k : ℕ × MeterView). FitsMeter h.writer new k.0 k.1) (λ i. (sym t.0 i, t.1 i)) record { known = record { steps = le_refl x; unlinked = le_refl y; reclaimed = le_refl z }; own = λ _. mine.own refl; same = λ _. refl })
+            (λ (t : (j ≡ by) × (meter_writer x y z ≡ u)).
+            subst (λ (k : ℕ × MeterView). FitsMeter h.writer new k.0 k.1) (λ i. (sym t.0 i, t.1 i))
+            record {
+              known = record { steps = le_refl x; unlinked = le_refl y; reclaimed = le_refl z };
+              own = λ _.
+                  mine.own refl;
+              same = λ _. refl;
+            })
             (λ (t : (j ≢ by) × (get_elem? views j ≡ some u)). let f = h.each j u t.1 in let g = subst (IsKnownOf u) same f.known in record {
               known = record { steps = le_trans g.steps p; unlinked = le_trans g.unlinked q; reclaimed = le_trans g.reclaimed r };
               own = f.own;
@@ -48,7 +60,13 @@ reads by v not words views h at =
       record {
         writer = h.writer;
         each = λ j u e. ⊎_elim
-            (λ (t : (j ≡ by) × (w ≡ u)). subst (λ (k : ℕ × MeterView). FitsMeter h.writer words k.0 k.1) (λ i. (sym t.0 i, t.1 i)) record { known = record { steps = le_refl _; unlinked = le_refl _; reclaimed = le_refl _ }; own = λ k. absurd (off k); same = λ k. absurd (off k) })
+            (λ (t : (j ≡ by) × (w ≡ u)). subst (λ (k : ℕ × MeterView). FitsMeter h.writer words k.0 k.1)
+            (λ i. (sym t.0 i, t.1 i)) record {
+              known =
+                  record { steps = le_refl _; unlinked = le_refl _; reclaimed = le_refl _ };
+              own = λ k. absurd (off k);
+              same = λ k. absurd (off k);
+            })
             (λ (t : (j ≢ by) × (get_elem? views j ≡ some u)). h.each j u t.1)
             (at_set views by j w u e);
       },
@@ -62,11 +80,25 @@ forks by v words views h at =
       writer = h.writer;
       each = λ j u e. ⊎_elim
           (λ was. h.each j u (subst (λ l. get_elem? l j ≡ some u) (set_again views by v at) was))
-          (λ (same : meter_reader v ≡ u). subst (FitsMeter h.writer words j) same record { known = record { steps = mine.known.steps; unlinked = mine.known.unlinked; reclaimed = mine.known.reclaimed }; own = λ k. absurd (true≢false (sym k)); same = λ k. absurd (true≢false (sym k)) })
+          (λ (same : meter_reader v ≡ u). subst (FitsMeter h.writer words j) same
+          record {
+            known = record {
+              steps = mine.known.steps;
+              unlinked = mine.known.unlinked;
+              reclaimed =
+                  mine.known.reclaimed;
+            };
+            own = λ k. absurd (true≢false (sym k));
+            same = λ k.
+                absurd (true≢false (sym k));
+          })
           (at_snoc (set views by v) (meter_reader v) u j e);
     }
 
 -- a writer whose view is known by an equation may write totals that are no less
-pub writes_totals : (by : ℕ) (v : MeterView) (old new : Totals) → v ≡ writer_at old → TotalsRise old new → Turns IsMetered by v (λ _. new.steps ∷ new.unlinked ∷ new.reclaimed ∷ []) HasWrittenMeter
+pub writes_totals : (by : ℕ) (v : MeterView) (old new : Totals) → v ≡ writer_at old → TotalsRise old new →
+    Turns IsMetered by v (λ _. new.steps ∷ new.unlinked ∷ new.reclaimed ∷ []) HasWrittenMeter
 writes_totals by v old new is rise =
-    subst (λ (k : MeterView). Turns IsMetered by k (λ _. new.steps ∷ new.unlinked ∷ new.reclaimed ∷ []) HasWrittenMeter) (sym is) (writes by old.steps old.unlinked old.reclaimed new.steps new.unlinked new.reclaimed rise.steps rise.unlinked rise.reclaimed)
+    subst (λ (k : MeterView). Turns IsMetered by k (λ _. new.steps ∷ new.unlinked ∷ new.reclaimed ∷ [])
+    HasWrittenMeter) (sym is) (writes by old.steps old.unlinked old.reclaimed new.steps new.unlinked new.reclaimed
+    rise.steps rise.unlinked rise.reclaimed)

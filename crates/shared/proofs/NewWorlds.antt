@@ -10,10 +10,13 @@ use Rattle.bpf_model.specs.View.{WorldView, RunView, start_view}
 use Rattle.journal_laws.specs.Replay.{HasNoRuns}
 use Rattle.std.specs.Option.{option_flatten}
 
-no_run_at : (r : ℕ) → (slots : List (Option RunView)) → slots ≡ replicate MAX_RUNS None → ((o : Option RunView) × (r < length slots) × (slice_get slots r ≡ Some o) × (get_or slots r o ≡ o)) ⊎ ((length slots ≤ r) × (slice_get slots r ≡ None)) → option_flatten (slice_get slots r) ≡ None
+no_run_at : (r : ℕ) → (slots : List (Option RunView)) → slots ≡ replicate MAX_RUNS None →
+    ((o : Option RunView) × (r < length slots) × (slice_get slots r ≡ Some o) × (get_or slots r o ≡ o))
+    ⊎ ((length slots ≤ r) × (slice_get slots r ≡ None)) → option_flatten (slice_get slots r) ≡ None
 no_run_at r slots e (inl (o, inside, found, read)) =
     let count : length slots ≡ MAX_RUNS = ap length e ∙ length-replicate {A = Option RunView} MAX_RUNS None in
-    let none : get_or slots r o ≡ None = ap (λ (s : List (Option RunView)). get_or s r o) e ∙ get_or-replicate {A = Option RunView} MAX_RUNS r None o (omega (arith, inside, count)) in
+    let none : get_or slots r o ≡ None = ap (λ (s : List (Option RunView)). get_or s r o) e ∙
+    get_or-replicate {A = Option RunView} MAX_RUNS r None o (omega (arith, inside, count)) in
     ap option_flatten found ∙ (sym read ∙ none)
 no_run_at r slots e (inr (past, none)) = ap option_flatten none
 

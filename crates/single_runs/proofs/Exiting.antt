@@ -1,5 +1,6 @@
 -- A run of a program that exits in time has exited, by the answers, once it has made as many steps as the program has instructions.
-use Rattle.std.proofs.Common.{◌≡◌, ℕ, zero, suc, ◌+◌, ◌<◌, List, [], ◌∷◌, length, replicate, All, Option, Some, None, ◌⊎◌, inl, inr, refl, sym, ap, subst, ◌∙◌, arith}
+use Rattle.std.proofs.Common.{◌≡◌, ℕ, zero, suc, ◌+◌, ◌<◌, List, [], ◌∷◌, length, replicate, All, Option, Some, None}
+use Rattle.std.proofs.Common.{◌⊎◌, inl, inr, refl, sym, ap, subst, ◌∙◌, arith}
 use Rattle.std.specs.Prelude.{slice_get, slice_set, take, if◌then◌else◌}
 use Rattle.std.proofs.lemmas.Bool.{eq-eqb}
 use Rattle.std.proofs.lemmas.Option.{none-some, same_Some}
@@ -40,11 +41,13 @@ record Going (m : Machine) (program : Loaded) : Type 0 where
 updated : (m next : Machine) (program : Loaded) → Ready m program → next.runs ≡ m.runs → next.programs ≡ m.programs → Ready next program
 updated m next program r runs programs = record { free = ap lowest_free runs ∙ r.free; loaded = ap (λ l. slice_get l 0) programs ∙ r.loaded }
 
-performs-update : (m next : Machine) (program : Loaded) (map : ℕ) (key value : _) (flags : ℕ) (answer : Answer) → Ready m program → PerformsEvent m (Update map key value flags) answer next → Ready next program
+performs-update : (m next : Machine) (program : Loaded) (map : ℕ) (key value : _) (flags : ℕ) (answer : Answer) →
+    Ready m program → PerformsEvent m (Update map key value flags) answer next → Ready next program
 performs-update m next program map key value flags (Ret ret) r h = updated m next program r (ap (λ x. x.runs) h.2) (ap (λ x. x.programs) h.2)
 performs-update m next program map key value flags answer r h = absurd h
 
-does-update : (o : Option EventRefusal) (m next : Machine) (program : Loaded) (map : ℕ) (key value : _) (flags : ℕ) (answer : Answer) → Ready m program → Answers o m (Update map key value flags) answer next → Ready next program
+does-update : (o : Option EventRefusal) (m next : Machine) (program : Loaded) (map : ℕ) (key value : _) (flags : ℕ)
+    (answer : Answer) → Ready m program → Answers o m (Update map key value flags) answer next → Ready next program
 does-update None m next program map key value flags answer r h = performs-update m next program map key value flags answer r h
 does-update (Some k) m next program map key value flags answer r h = updated m next program r (ap (λ x. x.runs) h.1) (ap (λ x. x.programs) h.1)
 
@@ -53,7 +56,8 @@ set-free : (runs : List (Option Run)) (new : Run) → lowest_free runs ≡ Some 
 set-free [] new h = absurd (none-some 0 h)
 set-free (x ∷ runs) new h = refl
 
-starts : (m next : Machine) (program : Loaded) (context : List ℕ) (q : ℕ) → Ready m program → Starts m 0 context q next → (Started q ≡ Started 0) × Going next program
+starts : (m next : Machine) (program : Loaded) (context : List ℕ) (q : ℕ) → Ready m program →
+    Starts m 0 context q next → (Started q ≡ Started 0) × Going next program
 starts m next program context q r h =
     let slot : q ≡ 0 = same_Some q 0 (sym h.lowest ∙ r.free) in
     let fresh = fresh_run m.started h.program context in (
@@ -66,19 +70,25 @@ starts m next program context q r h =
       },
     )
 
-performs-start : (m next : Machine) (program : Loaded) (context : List ℕ) (answer : Answer) → Ready m program → PerformsEvent m (Start 0 (record { items = context })) answer next → (answer ≡ Started 0) × Going next program
+performs-start : (m next : Machine) (program : Loaded) (context : List ℕ) (answer : Answer) → Ready m program →
+    PerformsEvent m (Start 0 (record { items = context })) answer next → (answer ≡ Started 0) × Going next program
 performs-start m next program context (Started q) r h = starts m next program context q r h
 performs-start m next program context answer r h = absurd h
 
-start-allowed : (m : Machine) (program : Loaded) (context : List ℕ) → Ready m program → length context ≡ program.context_len → refusal m (Start 0 (record { items = context })) ≡ None
+start-allowed : (m : Machine) (program : Loaded) (context : List ℕ) → Ready m program →
+    length context ≡ program.context_len → refusal m (Start 0 (record { items = context })) ≡ None
 start-allowed m program context r len =
     ap (λ p. start_refusal p (length context) (lowest_free m.runs)) r.loaded
     ∙ (ap (λ f. start_refusal (Some program) (length context) f) r.free
     ∙ ap (λ b. if b then None else Some BadContext) (eq-eqb (length context) program.context_len len))
 
-does-start : (m next : Machine) (program : Loaded) (context : List ℕ) (answer : Answer) → Ready m program → length context ≡ program.context_len → DoesEvent m (Start 0 (record { items = context })) answer next → (answer ≡ Started 0) × Going next program
+does-start : (m next : Machine) (program : Loaded) (context : List ℕ) (answer : Answer) → Ready m program →
+    length context ≡ program.context_len → DoesEvent m (Start 0 (record { items = context })) answer next →
+    (answer ≡ Started 0) × Going next program
 does-start m next program context answer r len h =
-    performs-start m next program context answer r (subst (λ o. Answers o m (Start 0 (record { items = context })) answer next) (start-allowed m program context r len) h)
+    performs-start m next program context answer r (subst
+    (λ o. Answers o m (Start 0 (record { items = context })) answer next) (start-allowed m program context r len)
+    h)
 
 -- a step of a run that has not exited
 set-there : (runs : List (Option Run)) (old new : Run) → run_at runs 0 ≡ Some old → run_at (slice_set runs 0 (Some new)) 0 ≡ Some new
@@ -91,7 +101,8 @@ step-allowed m program g = ap step_refusal g.there ∙ ap if_ended g.going
 abbrev ExitsOrMoves : Machine → Loaded → Answer → Type 0
 ExitsOrMoves next program answer = ((value : ℕ) × (answer ≡ Exited value)) ⊎ ((answer ≡ Moved) × Going next program)
 
-moves-on : (m next : Machine) (program : Loaded) (answer : Answer) (h : StepsRun m 0 answer next) → h.run.program ≡ program → answer ≡ Moved → h.new_run.exit ≡ h.run.exit → ExitsOrMoves next program answer
+moves-on : (m next : Machine) (program : Loaded) (answer : Answer) (h : StepsRun m 0 answer next) →
+    h.run.program ≡ program → answer ≡ Moved → h.new_run.exit ≡ h.run.exit → ExitsOrMoves next program answer
 moves-on m next program answer h same moved exit =
     let s = same-insn h.step.0 m.store (open_sections m.runs) h.run answer h.new_store h.new_run h.step.2 in
     inr (
@@ -104,7 +115,8 @@ moves-on m next program answer h same moved exit =
       },
     )
 
-changes : (m next : Machine) (program : Loaded) (answer : Answer) (h : StepsRun m 0 answer next) → h.run.program ≡ program → Changes h.run answer h.new_run → ExitsOrMoves next program answer
+changes : (m next : Machine) (program : Loaded) (answer : Answer) (h : StepsRun m 0 answer next) →
+    h.run.program ≡ program → Changes h.run answer h.new_run → ExitsOrMoves next program answer
 changes m next program answer h same (Goes s moved new) = moves-on m next program answer h same moved (ap (λ (x : Run). x.exit) new)
 changes m next program answer h same (Locks s room moved new) = moves-on m next program answer h same moved (ap (λ (x : Run). x.exit) new)
 changes m next program answer h same (Unlocks s inside moved new) = moves-on m next program answer h same moved (ap (λ (x : Run). x.exit) new)
@@ -132,16 +144,21 @@ exit-later answer given x = exit-at 0 (suc x.0) x.1 (suc (0 + x.0)) (answer ∷ 
 exit-behind : (before : ℕ) (answer : Answer) (given : List Answer) → HasExit before given → HasExit (suc before) (answer ∷ given)
 exit-behind before answer given x = exit-at (suc before) x.0 x.1 (suc (before + x.0)) (answer ∷ given) (omega arith) x.2
 
-after-exit : (k n : ℕ) (last : Machine) (program : Loaded) (answer : Answer) (given : List Answer) (value : ℕ) → answer ≡ Exited value → ExitsOrGoes 0 n last program (replicate (suc k) (Step 0)) (answer ∷ given) (n + suc k)
+after-exit : (k n : ℕ) (last : Machine) (program : Loaded) (answer : Answer) (given : List Answer) (value : ℕ) →
+    answer ≡ Exited value → ExitsOrGoes 0 n last program (replicate (suc k) (Step 0)) (answer ∷ given) (n + suc k)
 after-exit k n last program answer given value exited = inl (exit-at 0 0 value 0 (answer ∷ given) refl (ap Some exited))
 
-after-move : (k n : ℕ) (last : Machine) (program : Loaded) (answer : Answer) (given : List Answer) → answer ≡ Moved → ExitsOrGoes 0 (n + 1) last program (replicate k (Step 0)) given (n + 1 + k) → ExitsOrGoes 0 n last program (replicate (suc k) (Step 0)) (answer ∷ given) (n + suc k)
+after-move : (k n : ℕ) (last : Machine) (program : Loaded) (answer : Answer) (given : List Answer) → answer ≡ Moved →
+    ExitsOrGoes 0 (n + 1) last program (replicate k (Step 0)) given (n + 1 + k) →
+    ExitsOrGoes 0 n last program (replicate (suc k) (Step 0)) (answer ∷ given) (n + suc k)
 after-move k n last program answer given moved (inl x) = inl (exit-later answer given x)
 after-move k n last program answer given moved (inr x) =
     let count : n + 1 + k ≡ n + suc k = omega arith in
     inr (x.0, ap (λ a. moves_of 0 (n + moved_once a) (replicate k (Step 0)) given) moved ∙ (x.1 ∙ count))
 
-steps : (k n : ℕ) (m : Machine) (program : Loaded) (given : List Answer) (states : List Machine) → Going m program → IsHistory m (replicate k (Step 0)) given states → ExitsOrGoes 0 n (last_of m states) program (replicate k (Step 0)) given (n + k)
+steps : (k n : ℕ) (m : Machine) (program : Loaded) (given : List Answer) (states : List Machine) → Going m program →
+    IsHistory m (replicate k (Step 0)) given states → ExitsOrGoes 0 n (last_of m states) program
+    (replicate k (Step 0)) given (n + k)
 steps zero n m program [] [] g h = let count : n ≡ n + 0 = omega arith in inr (g, count)
 steps (suc k) n m program (answer ∷ given) (next ∷ states) g h = elim (does-step m next program answer g h.0) [
   | inl x ↦ after-exit k n (last_of next states) program answer given x.0 x.1
@@ -150,18 +167,26 @@ steps (suc k) n m program (answer ∷ given) (next ∷ states) g h = elim (does-
 steps k n m program given states g h = absurd h
 
 -- the start, from which a run counts its moves anew
-after-start : (k n : ℕ) (last : Machine) (program : Loaded) (context : List ℕ) (answer : Answer) (given : List Answer) → answer ≡ Started 0 → ExitsOrGoes 0 0 last program (replicate k (Step 0)) given (0 + k) → ExitsOrGoes 0 n last program (one_run [] context k) (answer ∷ given) k
+after-start : (k n : ℕ) (last : Machine) (program : Loaded) (context : List ℕ) (answer : Answer) (given : List Answer)
+    → answer ≡ Started 0 → ExitsOrGoes 0 0 last program (replicate k (Step 0)) given (0 + k) →
+    ExitsOrGoes 0 n last program (one_run [] context k) (answer ∷ given) k
 after-start k n last program context answer given started (inl x) = inl (exit-later answer given x)
 after-start k n last program context answer given started (inr x) =
     let count : 0 + k ≡ k = omega arith in
     inr (x.0, ap (λ a. moves_of 0 (moves_after 0 n (Start 0 (record { items = context })) a) (replicate k (Step 0)) given) started ∙ (x.1 ∙ count))
 
 -- an update before it
-after-update : (before n count : ℕ) (last : Machine) (program : Loaded) (map : ℕ) (key value : _) (flags : ℕ) (events : List Event) (answer : Answer) (given : List Answer) → ExitsOrGoes before n last program events given count → ExitsOrGoes (suc before) n last program (Update map key value flags ∷ events) (answer ∷ given) count
+after-update : (before n count : ℕ) (last : Machine) (program : Loaded) (map : ℕ) (key value : _) (flags : ℕ)
+    (events : List Event) (answer : Answer) (given : List Answer) →
+    ExitsOrGoes before n last program events given count →
+    ExitsOrGoes (suc before) n last program (Update map key value flags ∷ events) (answer ∷ given) count
 after-update before n count last program map key value flags events answer given (inl x) = inl (exit-behind before answer given x)
 after-update before n count last program map key value flags events answer given (inr x) = inr x
 
-one-run : (before : List Event) (k n : ℕ) (m : Machine) (program : Loaded) (context : List ℕ) (given : List Answer) (states : List Machine) → All IsUpdate before → Ready m program → length context ≡ program.context_len → IsHistory m (one_run before context k) given states → ExitsOrGoes (length before) n (last_of m states) program (one_run before context k) given k
+one-run : (before : List Event) (k n : ℕ) (m : Machine) (program : Loaded) (context : List ℕ) (given : List Answer)
+    (states : List Machine) → All IsUpdate before → Ready m program → length context ≡ program.context_len →
+    IsHistory m (one_run before context k) given states →
+    ExitsOrGoes (length before) n (last_of m states) program (one_run before context k) given k
 one-run [] k n m program context (answer ∷ given) (next ∷ states) all r len h =
     let s = does-start m next program context answer r len h.0 in
     after-start k n (last_of next states) program context answer given s.0 (steps k 0 next program given states s.1 h.1)
@@ -177,7 +202,8 @@ last-there : (m : Machine) (states : List Machine) → slice_get (m ∷ states) 
 last-there m [] = refl
 last-there m (next ∷ states) = last-there next states
 
-as-many : (m : Machine) (events : List Event) (given : List Answer) (states : List Machine) → IsHistory m events given states → (take (length states) events ≡ events) × (take (length states) given ≡ given)
+as-many : (m : Machine) (events : List Event) (given : List Answer) (states : List Machine) →
+    IsHistory m events given states → (take (length states) events ≡ events) × (take (length states) given ≡ given)
 as-many m [] [] [] h = (refl, refl)
 as-many m (event ∷ events) (answer ∷ given) (next ∷ states) h =
     let rest = as-many next events given states h.1 in
@@ -185,7 +211,9 @@ as-many m (event ∷ events) (answer ∷ given) (next ∷ states) h =
 as-many m events given states h = absurd h
 
 -- a run of the program that goes on at last has moved less often than the program is long
-goes-in-time : (m : Machine) (program : Loaded) (events : List Event) (given : List Answer) (states : List Machine) → IsHistory m events given states → ExitsInTime m events given states → Going (last_of m states) program → moves_of 0 (moved_by (run_at m.runs 0)) events given < length program.code
+goes-in-time : (m : Machine) (program : Loaded) (events : List Event) (given : List Answer) (states : List Machine) →
+    IsHistory m events given states → ExitsInTime m events given states → Going (last_of m states) program →
+    moves_of 0 (moved_by (run_at m.runs 0)) events given < length program.code
 goes-in-time m program events given states h time g =
     let all = as-many m events given states h in
     let n = moved_by (run_at m.runs 0) in
@@ -194,8 +222,10 @@ goes-in-time m program events given states h time g =
     let of_answers = subst (λ xs. moves_of 0 n events xs < length g.run.program.code) all.1 of_events in
     subst (λ (p : Loaded). moves_of 0 n events given < length p.code) g.same of_answers
 
-exits : (before : List Event) (m : Machine) (program : Loaded) (context : List ℕ) (given : List Answer) (states : List Machine) → All IsUpdate before → Ready m program → length context ≡ program.context_len →
-    IsHistory m (one_run before context (length program.code)) given states → ExitsInTime m (one_run before context (length program.code)) given states → HasExit (length before) given
+exits : (before : List Event) (m : Machine) (program : Loaded) (context : List ℕ) (given : List Answer)
+    (states : List Machine) → All IsUpdate before → Ready m program → length context ≡ program.context_len →
+    IsHistory m (one_run before context (length program.code)) given states →
+    ExitsInTime m (one_run before context (length program.code)) given states → HasExit (length before) given
 exits before m program context given states all r len h time =
     let n = moved_by (run_at m.runs 0) in
     elim (one-run before (length program.code) n m program context given states all r len h) [
@@ -204,7 +234,12 @@ exits before m program context given states all r len h time =
     ]
 
 -- so has a run in a world of the program alone
-pub exits_there : (w new : WorldView) (shapes : List MapShape) (programs : List Loaded) (program : List Insn) (before : List Event) (context : List ℕ) (events : List Event) (given : List Answer) → TracksSchedule w (start_schedule shapes programs) → programs ≡ bound_to_all (length shapes) program (length context) ∷ [] → events ≡ one_run before context (length program) → All IsUpdate before → AreMachineAnswers Tracks w events given new → AllExitInTime Tracks w events given → HasExit (length before) given
+pub exits_there : (w new : WorldView) (shapes : List MapShape) (programs : List Loaded) (program : List Insn)
+    (before : List Event) (context : List ℕ) (events : List Event) (given : List Answer) →
+    TracksSchedule w (start_schedule shapes programs) →
+    programs ≡ bound_to_all (length shapes) program (length context) ∷ [] →
+    events ≡ one_run before context (length program) → All IsUpdate before →
+    AreMachineAnswers Tracks w events given new → AllExitInTime Tracks w events given → HasExit (length before) given
 exits_there w new shapes programs program before context events given tracks bound events_are all machine time =
     let m = start_machine shapes programs in
     let tracked : Tracks w m = (start_schedule shapes programs, refl, tracks) in

@@ -17,7 +17,12 @@ use Rattle.world.specs.Programs.{programs_in}
 use Rattle.single_runs.specs.declared.once.RunEnd.{RunEnd}
 use Rattle.single_runs.specs.Once.{one_run, bound_to_all, start_with, IsEnd, ComesTo}
 
-pub comes_to : (w new : WorldView) (shapes : List MapShape) (programs : List Loaded) (program : List Insn) (before : List Event) (context : List ℕ) (events : List Event) (given : List Answer) (outcome : RunEnd) → TracksSchedule w (start_schedule shapes programs) → programs ≡ bound_to_all (length shapes) program (length context) ∷ [] → events ≡ one_run before context (length program) → AreMachineAnswers Tracks w events given new → IsEnd (length before) given outcome → ComesTo shapes program before context outcome new
+pub comes_to : (w new : WorldView) (shapes : List MapShape) (programs : List Loaded) (program : List Insn)
+    (before : List Event) (context : List ℕ) (events : List Event) (given : List Answer) (outcome : RunEnd) →
+    TracksSchedule w (start_schedule shapes programs) →
+    programs ≡ bound_to_all (length shapes) program (length context) ∷ [] →
+    events ≡ one_run before context (length program) → AreMachineAnswers Tracks w events given new →
+    IsEnd (length before) given outcome → ComesTo shapes program before context outcome new
 comes_to w new shapes programs program before context events given outcome tracks bound events_are machine is =
     let started = machine (start_machine shapes programs) (start_schedule shapes programs, refl, tracks) in
     let of_programs = subst (λ (p : List Loaded). IsHistory (start_machine shapes p) events given started.0) bound started.1 in
@@ -32,7 +37,10 @@ comes_to w new shapes programs program before context events given outcome track
     }
 
 -- the one loaded program of a world is bound to all of its maps
-pub bound_program : (items : List world.Loaded) (l : world.Loaded) (v : Checked) (shapes : List MapShape) (context : List ℕ) → items ≡ l ∷ [] → l.verified ≡ v → l.maps.items ≡ range_with_len 0 (length v.shapes) → v.shapes ≡ shapes → length context ≡ v.ctx_len → programs_in items ≡ bound_to_all (length shapes) v.program (length context) ∷ []
+pub bound_program : (items : List world.Loaded) (l : world.Loaded) (v : Checked) (shapes : List MapShape)
+    (context : List ℕ) → items ≡ l ∷ [] → l.verified ≡ v → l.maps.items ≡ range_with_len 0 (length v.shapes) →
+    v.shapes ≡ shapes → length context ≡ v.ctx_len → programs_in items ≡ bound_to_all (length shapes) v.program
+    (length context) ∷ []
 bound_program items l v shapes context items_are verified_is maps_are shapes_are len_is =
     let of : Checked → List ℕ → List Loaded = λ x maps. record { code = x.program; maps = maps; context_len = x.ctx_len } ∷ [] in
     let with : List ℕ → ℕ → List Loaded = λ maps n. record { code = v.program; maps = maps; context_len = n } ∷ [] in

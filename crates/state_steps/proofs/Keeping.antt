@@ -6,7 +6,8 @@ use Rattle.std.proofs.lemmas.Option.{same_Some}
 use Rattle.bpf_model.specs.declared.insn.Insn.{Insn}
 use Rattle.bpf_model.specs.declared.insn.Insn.TheVariants.{Alu, Load, LoadSigned, Store}
 use Rattle.bpf_model.specs.declared.insn.AluOp.{AluOp}
-use Rattle.bpf_model.specs.declared.insn.AluOp.TheVariants.{Add, Sub, Mul, Div, SignedDiv, Or, And, ShiftLeft, ShiftRight, Mod, SignedMod, Xor, Move, ShiftRightSigned}
+use Rattle.bpf_model.specs.declared.insn.AluOp.TheVariants.{Add, Sub, Mul, Div, SignedDiv, Or, And, ShiftLeft}
+use Rattle.bpf_model.specs.declared.insn.AluOp.TheVariants.{ShiftRight, Mod, SignedMod, Xor, Move, ShiftRightSigned}
 use Rattle.bpf_model.specs.declared.insn.Operand.{Operand}
 use Rattle.bpf_model.specs.declared.insn.Operand.TheVariants.{Register, Immediate}
 use Rattle.bpf_model.specs.declared.opcode.Size.{Size}
@@ -55,9 +56,12 @@ byte-there : (b : Bool) (x : CellKind) → (b ≡ true) ⊎ (x ≡ ByteCell) →
 byte-there true x h = refl
 byte-there false x h = elim h [ inl p ↦ absurd cc | inr q ↦ q ]
 
-pub store_keeps : (i : Insn) (at width : ℕ) (a b : AbsState) → ((r : ℕ) → WritesRegister i r → ⊥) → ((k : ℕ) → WritesByte i k → is_within at width k ≡ true) → AreAlike (with_cells at width ByteCell a) b → KeepsFacts i a b
+pub store_keeps : (i : Insn) (at width : ℕ) (a b : AbsState) → ((r : ℕ) → WritesRegister i r → ⊥) →
+    ((k : ℕ) → WritesByte i k → is_within at width k ≡ true) → AreAlike (with_cells at width ByteCell a) b →
+    KeepsFacts i a b
 store_keeps i at width a b no_reg bytes e (RegisterFact r) h = elim h [ inl p ↦ (p.0, e.regs r ∙ p.1) | inr w ↦ absurd (no_reg r w) ]
-store_keeps i at width a b no_reg bytes e (FrameByte k) h = e.cells k ∙ byte-there (is_within at width k) (a.cells k) (elim h [ inl p ↦ inr p | inr w ↦ inl (bytes k w) ])
+store_keeps i at width a b no_reg bytes e (FrameByte k) h = e.cells k ∙
+    byte-there (is_within at width k) (a.cells k) (elim h [ inl p ↦ inr p | inr w ↦ inl (bytes k w) ])
 store_keeps i at width a b no_reg bytes e FramePointer h = e.regs 10 ∙ (elim h [ inl p ↦ p | inr w ↦ absurd w ])
 store_keeps i at width a b no_reg bytes e (Section inside) h = e.depth ∙ (elim h [ inl p ↦ p | inr w ↦ absurd w ])
 
@@ -78,7 +82,8 @@ side_cases dst r src = elim (cases_eq r dst) [
 no-frame : (s : Scalar) (o : ℤ) (k : Kind) → k ≡ Num s → k ≡ FrameAt o → ⊥
 no-frame s o k e f = cc
 
-pub narrow_keeps : (i : Insn) (dst : ℕ) (src : Operand) (o : ℤ) (a b : AbsState) → ((r : ℕ) → WritesRegister i r → ⊥) → ((k : ℕ) → WritesByte i k → ⊥) → ((r : ℕ) → (r ≡ dst) ⊎ Names src r → HasNumber a r) → a.regs 10 ≡ FrameAt o
+pub narrow_keeps : (i : Insn) (dst : ℕ) (src : Operand) (o : ℤ) (a b : AbsState) → ((r : ℕ) → WritesRegister i r → ⊥)
+    → ((k : ℕ) → WritesByte i k → ⊥) → ((r : ℕ) → (r ≡ dst) ⊎ Names src r → HasNumber a r) → a.regs 10 ≡ FrameAt o
     → AreNarrowed dst src a b → KeepsFacts i a b
 narrow_keeps i dst src o a b no_reg no_byte numbers frame e (RegisterFact r) h = elim (side_cases dst r src) [
   | inl p ↦ e.sides r p
@@ -118,26 +123,33 @@ module _ (size : Size) (dst : ℕ) (src : Operand) (a : AbsState) where
   alu_reads ShiftRightSigned h = other ShiftRightSigned h
 
 -- an access to the frame that is ready lies inside it, and what it takes is bytes of numbers
-reaches : (width : Width) (base : ℕ) (offset : ℤ) (a : AbsState) (f : IsFrameAccess width base offset) → a.regs 10 ≡ FrameAt (pos FRAME_BYTES) → ReachesFrame a base (byte_count width) offset f.1
+reaches : (width : Width) (base : ℕ) (offset : ℤ) (a : AbsState) (f : IsFrameAccess width base offset) →
+    a.regs 10 ≡ FrameAt (pos FRAME_BYTES) → ReachesFrame a base (byte_count width) offset f.1
 reaches width base offset a f e = record { start = pos FRAME_BYTES; base = ap a.regs f.0 ∙ e; inside = f.2 }
 
-reads_bytes : (width : Width) (base : ℕ) (offset : ℤ) (a : AbsState) (f : IsFrameAccess width base offset) → a.regs 10 ≡ FrameAt (pos FRAME_BYTES) → ((k : ℕ) → TakesByte width offset k → a.cells k ≡ ByteCell)
+reads_bytes : (width : Width) (base : ℕ) (offset : ℤ) (a : AbsState) (f : IsFrameAccess width base offset) →
+    a.regs 10 ≡ FrameAt (pos FRAME_BYTES) → ((k : ℕ) → TakesByte width offset k → a.cells k ≡ ByteCell)
     → ReadsBytes a base (byte_count width) offset
 reads_bytes width base offset a f e bytes = record { at = f.1; reaches = reaches width base offset a f e; bytes = λ k l h. bytes k (f.1, f.2, l, h) }
 
-pub load_ready : (width : Width) (dst base : ℕ) (offset : ℤ) (a : AbsState) → IsReadyInsn (Load width dst base offset) a → ReadsBytes a base (byte_count width) offset
+pub load_ready : (width : Width) (dst base : ℕ) (offset : ℤ) (a : AbsState) →
+    IsReadyInsn (Load width dst base offset) a → ReadsBytes a base (byte_count width) offset
 load_ready width dst base offset a ready = reads_bytes width base offset a ready.simple ready.frame ready.bytes
 
-pub signed_ready : (width : SignedWidth) (dst base : ℕ) (offset : ℤ) (a : AbsState) → IsReadyInsn (LoadSigned width dst base offset) a → ReadsBytes a base (byte_count (unsigned_width width)) offset
+pub signed_ready : (width : SignedWidth) (dst base : ℕ) (offset : ℤ) (a : AbsState) →
+    IsReadyInsn (LoadSigned width dst base offset) a → ReadsBytes a base (byte_count (unsigned_width width)) offset
 signed_ready width dst base offset a ready = reads_bytes (unsigned_width width) base offset a ready.simple ready.frame ready.bytes
 
-pub store_reaches : (width : Width) (dst : ℕ) (offset : ℤ) (src : Operand) (a : AbsState) (ready : IsReadyInsn (Store width dst offset src) a) → ReachesFrame a dst (byte_count width) offset ready.simple.1
+pub store_reaches : (width : Width) (dst : ℕ) (offset : ℤ) (src : Operand) (a : AbsState)
+    (ready : IsReadyInsn (Store width dst offset src) a) → ReachesFrame a dst (byte_count width) offset ready.simple.1
 store_reaches width dst offset src a ready = reaches width dst offset a ready.simple ready.frame
 
 pub store_number : (width : Width) (dst : ℕ) (offset : ℤ) (src : Operand) (a : AbsState) → IsReadyInsn (Store width dst offset src) a → IsNumberOperand a src
 store_number width dst offset src a ready = operand_number src a ready.registers
 
-pub taken_within : (width : Width) (offset : ℤ) (at k : ℕ) → region_offset FRAME_BYTES (byte_count width) (pos FRAME_BYTES +ℤ offset) ≡ Some at → TakesByte width offset k → is_within at (byte_count width) k ≡ true
+pub taken_within : (width : Width) (offset : ℤ) (at k : ℕ) →
+    region_offset FRAME_BYTES (byte_count width) (pos FRAME_BYTES +ℤ offset) ≡ Some at → TakesByte width offset k →
+    is_within at (byte_count width) k ≡ true
 taken_within width offset at k e t =
     let same = same_Some t.0 at (sym t.1 ∙ e) in
     subst (λ (n : ℕ). is_within n (byte_count width) k ≡ true) same (within t.0 (byte_count width) k t.2 t.3)

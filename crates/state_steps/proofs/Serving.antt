@@ -1,5 +1,6 @@
 -- Parts of guarded lookups and calls that begin or end a section are accepted, and leave what the next part needs.
-use Rattle.std.proofs.Common.{◌≡◌, ℕ, ◌+◌, ◌-◌, ◌<◌, ◌≤◌, List, length, Option, Some, None, refl, sym, ap, subst, ◌∙◌, inl, inr, arith, ℤ, pos, Bool, true, false}
+use Rattle.std.proofs.Common.{◌≡◌, ℕ, ◌+◌, ◌-◌, ◌<◌, ◌≤◌, List, length, Option, Some, None, refl, sym, ap, subst, ◌∙◌}
+use Rattle.std.proofs.Common.{inl, inr, arith, ℤ, pos, Bool, true, false}
 use Rattle.std.specs.Prelude.{◌⊎◌, if◌then◌else◌, ◌+ℤ◌, slice_get, Result, IsOk}
 use Rattle.std.proofs.lemmas.Bool.{cases_eq, eq-eqb, false≢true}
 use Rattle.typed_runs.specs.Verified.{is_call}
@@ -33,7 +34,8 @@ use Rattle.register_kinds.specs.Changes.{learnt, learnt_kind, learnt_cell}
 use Rattle.state_steps.specs.Stepped.{IsEqualToNull}
 use Rattle.bpf_model.specs.declared.opcode.Size.{Size}
 use Rattle.bpf_model.specs.declared.opcode.Size.TheVariants.{Word64}
-use Rattle.bpf_model.specs.PlainMaps.{IsValueLoad, GuardedLookup, LookupPart, FrameCopy, KeyAddress, MapLoad, LookupCall, NullTest, ValueLoad, part_insn, IsFitting}
+use Rattle.bpf_model.specs.PlainMaps.{IsValueLoad, GuardedLookup, LookupPart, FrameCopy, KeyAddress, MapLoad}
+use Rattle.bpf_model.specs.PlainMaps.{LookupCall, NullTest, ValueLoad, part_insn, IsFitting}
 use Rattle.scalar_domain.specs.declared.scalar.Scalar.{Scalar}
 use Rattle.typed_runs.specs.Kinds.{Kind, Blank, Num, FrameAt, MapAt, ValueAt, MaybeNull, ByteCell, AbsState}
 use Rattle.typed_runs.specs.Effects.{with_kind, after_call, after_lock, after_unlock, left_kind, left_cell, IsWritten, HasBytes}
@@ -42,7 +44,8 @@ use Rattle.register_kinds.specs.declared.kind.RegKind.TheVariants as kinds
 use Rattle.register_kinds.specs.declared.state.AbsState.{AbsState as StateHere}
 use Rattle.register_kinds.specs.States.{kind_of, kind_in, state_of}
 use Rattle.state_steps.specs.Facts.{Register, FrameByte, FramePointer, Section}
-use Rattle.state_steps.specs.Lookups.{IsKeyWritten, Expects, Prepares, KeepsSaved, IsReadyPart, LeavesPart, IsReadySection, LeavesSection, IsReadyWithMaps, Serves, section_call}
+use Rattle.state_steps.specs.Lookups.{IsKeyWritten, Expects, Prepares, KeepsSaved, IsReadyPart, LeavesPart}
+use Rattle.state_steps.specs.Lookups.{IsReadySection, LeavesSection, IsReadyWithMaps, Serves, section_call}
 use Rattle.register_kinds.proofs.Setting.{set-there, set-elsewhere}
 
 -- what is ready among instructions that are no part of a lookup, and no call
@@ -129,8 +132,11 @@ load_saves dst n a b high e (Section inside) s h = absurd s
 
 -- operations: the copy of r10, and the key's address
 module _ (op : AluOp) (size : Size) (dst : ℕ) (src : Operand) (a : StateHere) (R : Kind → Type 0)
-    (copies : (s : ℕ) → op ≡ Move → size ≡ Word64 → src ≡ RegisterOperand s → (10 ≡ dst → ⊥) → IsWritten (kind_of (kind_in a.regs s)) → R (kind_of (kind_in a.regs s)))
-    (frame : (m at : ℕ) (imm : ℤ) → op ≡ Add → size ≡ Word64 → src ≡ Immediate imm → (10 ≡ dst → ⊥) → kind_in a.regs dst ≡ kinds.Frame (pos m) → m ≤ FRAME_BYTES → at ≤ FRAME_BYTES → pos m +ℤ imm ≡ pos at → R (FrameAt (pos at))) where
+    (copies : (s : ℕ) → op ≡ Move → size ≡ Word64 → src ≡ RegisterOperand s → (10 ≡ dst → ⊥) →
+    IsWritten (kind_of (kind_in a.regs s)) → R (kind_of (kind_in a.regs s)))
+    (frame : (m at : ℕ) (imm : ℤ) → op ≡ Add → size ≡ Word64 → src ≡ Immediate imm → (10 ≡ dst → ⊥) →
+    kind_in a.regs dst ≡ kinds.Frame (pos m) → m ≤ FRAME_BYTES → at ≤ FRAME_BYTES → pos m +ℤ imm ≡ pos at →
+    R (FrameAt (pos at))) where
   -- it sets r2, to the one or to the other
   abbrev pub SetsByPart : GuardedLookup → LookupPart → Type 0
   SetsByPart l p = (dst ≡ 2) × (((p ≡ FrameCopy) × R (FrameAt (pos FRAME_BYTES))) ⊎ ((p ≡ KeyAddress) × R (FrameAt (pos l.at))))
@@ -144,14 +150,22 @@ module _ (op : AluOp) (size : Size) (dst : ℕ) (src : Operand) (a : StateHere) 
       let w : IsWritten (kind_of (kind_in a.regs 10)) = subst IsWritten (sym f) tt in
       (d, inl (refl, subst R f (copies 10 o z s (λ p. let q : 10 ≡ 2 = p ∙ d in absurd (omega (arith, q))) w)))
 
-  addressed : (shapes : List MapShape) (l : GuardedLookup) → IsFitting shapes l → Alu op size dst src ≡ part_insn l KeyAddress → (state_of a).regs 2 ≡ FrameAt (pos FRAME_BYTES) → SetsByPart l KeyAddress
+  addressed : (shapes : List MapShape) (l : GuardedLookup) → IsFitting shapes l →
+      Alu op size dst src ≡ part_insn l KeyAddress → (state_of a).regs 2 ≡ FrameAt (pos FRAME_BYTES) →
+      SetsByPart l KeyAddress
   addressed shapes l fit e f =
       let d : dst ≡ 2 = cc in
       let o : op ≡ Add = cc in
       let z : size ≡ Word64 = cc in
       let s : src ≡ Immediate l.offset = cc in
-      let k = kind_is (kind_in a.regs 2) (FrameAt (pos FRAME_BYTES)) f in
-      (d, inr (refl, frame FRAME_BYTES l.at l.offset o z s (λ p. let q : 10 ≡ 2 = p ∙ d in absurd (omega (arith, q))) (ap (kind_in a.regs) d ∙ k) (omega arith) (omega (arith, fit.in_frame.1)) fit.in_frame.0))
+      let k = kind_is (kind_in a.regs 2) (FrameAt (pos FRAME_BYTES)) f in (
+        d,
+        inr (
+          refl,
+          frame FRAME_BYTES l.at l.offset o z s (λ p. let q : 10 ≡ 2 = p ∙ d in absurd (omega (arith, q)))
+              (ap (kind_in a.regs) d ∙ k) (omega arith) (omega (arith, fit.in_frame.1)) fit.in_frame.0,
+        ),
+      )
 
   pub alu_part : (shapes : List MapShape) (l : GuardedLookup) (p : LookupPart) → IsReadyPart shapes l p (Alu op size dst src) (state_of a) → SetsByPart l p
   alu_part shapes l FrameCopy ready = copied l ready.insn ready.frame
@@ -162,10 +176,13 @@ module _ (op : AluOp) (size : Size) (dst : ℕ) (src : Operand) (a : StateHere) 
   alu_part shapes l ValueLoad ready = absurd (subst (IsValueLoad l.shape) (sym ready.insn) ready.fitting.in_value)
 
   pub alu_ready : (shapes : List MapShape) → ((k : Kind) → R k → ⊥) → IsReadyWithMaps shapes (Alu op size dst src) (state_of a) → ⊥
-  alu_ready shapes never (inl x) = elim (alu_part shapes x.0 x.1 x.2).1 [ inl h ↦ never (FrameAt (pos FRAME_BYTES)) h.1 | inr h ↦ never (FrameAt (pos x.0.at)) h.1 ]
+  alu_ready shapes never (inl x) = elim (alu_part shapes x.0 x.1 x.2).1
+      [ inl h ↦ never (FrameAt (pos FRAME_BYTES)) h.1 | inr h ↦ never (FrameAt (pos x.0.at)) h.1 ]
   alu_ready shapes never (inr x) = no_section_call (Alu op size dst src) x.0 refl x.1.insn
 
-  pub alu_serves : (shapes : List MapShape) (b : AbsState) → ((k : Kind) → R k → AreAlike (with_kind dst k (state_of a)) b) → Serves shapes (Alu op size dst src) (state_of a) b None
+  pub alu_serves : (shapes : List MapShape) (b : AbsState) →
+      ((k : Kind) → R k → AreAlike (with_kind dst k (state_of a)) b) →
+      Serves shapes (Alu op size dst src) (state_of a) b None
   alu_serves shapes b alike = record {
     part = λ l p ready. leaves l p ready (alu_part shapes l p ready);
     section = λ opens ready. absurd (no_section_call (Alu op size dst src) opens refl ready.insn);
@@ -182,13 +199,17 @@ module _ (op : AluOp) (size : Size) (dst : ℕ) (src : Operand) (a : StateHere) 
       written l NullTest h x = elim h [ inl q ↦ absurd cc | inr q ↦ absurd cc ]
       written l ValueLoad h x = elim h [ inl q ↦ absurd cc | inr q ↦ absurd cc ]
 
-      leaves : (l : GuardedLookup) (p : LookupPart) → IsReadyPart shapes l p (Alu op size dst src) (state_of a) → SetsByPart l p → LeavesPart l p (state_of a) b None
+      leaves : (l : GuardedLookup) (p : LookupPart) → IsReadyPart shapes l p (Alu op size dst src) (state_of a) →
+          SetsByPart l p → LeavesPart l p (state_of a) b None
       leaves l p ready (d, inl h) =
           let k = FrameAt (pos FRAME_BYTES) in
           let e = made k h.1 d in record {
             keeps = set_saves 2 k (state_of a) b e (omega arith);
             depth = e.depth;
-            prepares = subst (λ p. Prepares l p b) (sym h.0) (key_kept 2 k (state_of a) b e l (written l p (inl h.0) ready.expects), set-there 2 2 k (state_of a) b e refl);
+            prepares = subst (λ p. Prepares l p b) (sym h.0) (
+              key_kept 2 k (state_of a) b e l (written l p (inl h.0) ready.expects),
+              set-there 2 2 k (state_of a) b e refl,
+            );
             keeps_taken = tt;
           }
       leaves l p ready (d, inr h) =
@@ -196,7 +217,10 @@ module _ (op : AluOp) (size : Size) (dst : ℕ) (src : Operand) (a : StateHere) 
           let e = made k h.1 d in record {
             keeps = set_saves 2 k (state_of a) b e (omega arith);
             depth = e.depth;
-            prepares = subst (λ p. Prepares l p b) (sym h.0) (key_kept 2 k (state_of a) b e l (written l p (inr h.0) ready.expects), set-there 2 2 k (state_of a) b e refl);
+            prepares = subst (λ p. Prepares l p b) (sym h.0) (
+              key_kept 2 k (state_of a) b e l (written l p (inr h.0) ready.expects),
+              set-there 2 2 k (state_of a) b e refl,
+            );
             keeps_taken = tt;
           }
 
@@ -222,7 +246,8 @@ module _ (dst : ℕ) (map : ℤ) (shapes : List MapShape) (a : AbsState) (R : Ki
     section = λ opens ready. absurd (no_section_call (LoadMap dst map) opens refl ready.insn);
   }
     where
-      leaves : (l : GuardedLookup) (p : LookupPart) → IsReadyPart shapes l p (LoadMap dst map) a → (p ≡ MapLoad) × (dst ≡ 1) × R (MapAt l.map) → LeavesPart l p a b None
+      leaves : (l : GuardedLookup) (p : LookupPart) → IsReadyPart shapes l p (LoadMap dst map) a → (p ≡ MapLoad) ×
+          (dst ≡ 1) × R (MapAt l.map) → LeavesPart l p a b None
       leaves l p ready (h, d, r) =
           let k = MapAt l.map in
           let e : AreAlike (with_kind 1 k a) b = subst (λ n. AreAlike (with_kind n k a) b) d (alike k r) in
@@ -248,8 +273,11 @@ lock_saves a b e FramePointer s h = e.regs 10 ∙ h
 lock_saves a b e (Section inside) s h = absurd s
 
 unlock_saves : (shapes : List MapShape) (a b : AbsState) → AreAlike (after_unlock shapes a) b → KeepsSaved a b
-unlock_saves shapes a b e (Register r) s h =
-    (h.0, e.regs r ∙ returned_above Blank (λ r. left_kind shapes a.depth (a.regs r)) r s ∙ ap (left_kind shapes a.depth) h.1 ∙ left_same shapes a.depth (Num h.0) refl)
+unlock_saves shapes a b e (Register r) s h = (
+  h.0,
+  e.regs r ∙ returned_above Blank (λ r. left_kind shapes a.depth (a.regs r)) r s ∙
+      ap (left_kind shapes a.depth) h.1 ∙ left_same shapes a.depth (Num h.0) refl,
+)
 unlock_saves shapes a b e (FrameByte k) s h = e.cells k ∙ ap (left_cell shapes a.depth) h ∙ left_cell_same shapes a.depth ByteCell refl
 unlock_saves shapes a b e FramePointer s h = e.regs 10 ∙ ap (left_kind shapes a.depth) h ∙ left_same shapes a.depth (FrameAt (pos FRAME_BYTES)) refl
 unlock_saves shapes a b e (Section inside) s h = absurd s
@@ -265,11 +293,13 @@ pub record CallLeaves (kind : CallKind) (imm : ℤ) (shapes : List MapShape) (a 
 -- the calls that are not refused but for want of memory
 pub record CallAccepts (kind : CallKind) (imm : ℤ) (shapes : List MapShape) (a : StateHere) (result : Result (Unit {0}) InsnFault) : Type 0 where
   pub kernel : kind ≡ callee.Kernel → result ≡ outcome_of (section_fault kind imm shapes (state_of a))
-  pub lookup : (map : ℕ) (shape : MapShape) → kind ≡ callee.Helper → helper_of imm ≡ Some helpers.Lookup → (0 < a.depth) ⊎ (shape.kind ≡ Array) → kind_in a.regs 1 ≡ kinds.Map map
+  pub lookup : (map : ℕ) (shape : MapShape) → kind ≡ callee.Helper → helper_of imm ≡ Some helpers.Lookup →
+      (0 < a.depth) ⊎ (shape.kind ≡ Array) → kind_in a.regs 1 ≡ kinds.Map map
       → slice_get shapes map ≡ Some shape → HasBytes (state_of a) 2 shape.key_len → IsOk result
 
 module _ (kind : CallKind) (imm : ℤ) (shapes : List MapShape) (a : StateHere) where
-  call_part : (l : GuardedLookup) (p : LookupPart) → IsReadyPart shapes l p (Call kind imm) (state_of a) → (p ≡ LookupCall) × (kind ≡ callee.Helper) × (imm ≡ pos 1)
+  call_part : (l : GuardedLookup) (p : LookupPart) → IsReadyPart shapes l p (Call kind imm) (state_of a) →
+      (p ≡ LookupCall) × (kind ≡ callee.Helper) × (imm ≡ pos 1)
   call_part l FrameCopy ready = (let e = ready.insn in absurd cc)
   call_part l KeyAddress ready = (let e = ready.insn in absurd cc)
   call_part l MapLoad ready = (let e = ready.insn in absurd cc)
@@ -284,14 +314,18 @@ module _ (kind : CallKind) (imm : ℤ) (shapes : List MapShape) (a : StateHere) 
   section_is true ready = (let e = ready.insn in (cc, cc))
   section_is false ready = (let e = ready.insn in (cc, cc))
 
-  called_map : (l : GuardedLookup) (p : LookupPart) (ready : IsReadyPart shapes l p (Call kind imm) (state_of a)) → p ≡ LookupCall → kind_in a.regs 1 ≡ kinds.Map l.map
-  called_map l p ready h = let x : Expects l LookupCall (state_of a) = subst (λ p. Expects l p (state_of a)) h ready.expects in kind_is (kind_in a.regs 1) (MapAt l.map) x.2
+  called_map : (l : GuardedLookup) (p : LookupPart) (ready : IsReadyPart shapes l p (Call kind imm) (state_of a)) →
+      p ≡ LookupCall → kind_in a.regs 1 ≡ kinds.Map l.map
+  called_map l p ready h = let x : Expects l LookupCall (state_of a) =
+      subst (λ p. Expects l p (state_of a)) h ready.expects in kind_is (kind_in a.regs 1) (MapAt l.map) x.2
 
-  pub call_ready : (result : Result (Unit {0}) InsnFault) → CallAccepts kind imm shapes a result → IsReadyWithMaps shapes (Call kind imm) (state_of a) → IsOk result
+  pub call_ready : (result : Result (Unit {0}) InsnFault) → CallAccepts kind imm shapes a result →
+      IsReadyWithMaps shapes (Call kind imm) (state_of a) → IsOk result
   call_ready result accepts (inl (l, p, ready)) =
       let e = call_part l p ready in
       let x : Expects l LookupCall (state_of a) = subst (λ p. Expects l p (state_of a)) e.0 ready.expects in
-      accepts.lookup l.map l.shape e.1 (lookup_number e.2) (inl ready.inside) (called_map l p ready e.0) ready.fitting.in_list (key_bytes shapes l (state_of a) ready.fitting x)
+      accepts.lookup l.map l.shape e.1 (lookup_number e.2) (inl ready.inside) (called_map l p ready e.0)
+      ready.fitting.in_list (key_bytes shapes l (state_of a) ready.fitting x)
   call_ready result accepts (inr (true, ready)) =
       let e = section_is true ready in
       let f : result ≡ outcome_of (kernel_fault (Some ReadLock) 0) = accepts.kernel e.0 ∙ ap (λ k. outcome_of (section_fault k imm shapes (state_of a))) e.0
@@ -319,11 +353,13 @@ module _ (kind : CallKind) (imm : ℤ) (shapes : List MapShape) (a : StateHere) 
       ends : (opens : Bool) → IsReadySection opens (Call kind imm) (state_of a) → LeavesSection opens (state_of a) (state_of b)
       ends true ready =
           let e = section_is true ready in
-          let f : AreAlike (after_lock (state_of a)) (state_of b) = subst (λ z. Called (kernel_function_of z) shapes (state_of a) (state_of b)) e.1 (done.called e.0) in
+          let f : AreAlike (after_lock (state_of a)) (state_of b) =
+          subst (λ z. Called (kernel_function_of z) shapes (state_of a) (state_of b)) e.1 (done.called e.0) in
           (lock_saves (state_of a) (state_of b) f, f.depth ∙ ap (λ n. n + 1) ready.before)
       ends false ready =
           let e = section_is false ready in
-          let f : AreAlike (after_unlock shapes (state_of a)) (state_of b) = subst (λ z. Called (kernel_function_of z) shapes (state_of a) (state_of b)) e.1 (done.called e.0) in
+          let f : AreAlike (after_unlock shapes (state_of a)) (state_of b) =
+          subst (λ z. Called (kernel_function_of z) shapes (state_of a) (state_of b)) e.1 (done.called e.0) in
           (unlock_saves shapes (state_of a) (state_of b) f, f.depth ∙ ap (λ n. n - 1) ready.before)
 
 -- a test for null
@@ -343,7 +379,9 @@ there_here : (map id : ℕ) (k : Kind) → k ≡ MaybeNull map id → learnt_kin
 there_here map id k e = ap (learnt_kind (IsThere id)) e ∙ ap (λ t. if t then ValueAt map origin else MaybeNull map id) (eq-eqb id id refl)
 
 module _ (condition : Condition) (size : Size) (dst : ℕ) (src : Operand) (offset : ℤ) (shapes : List MapShape) (a : StateHere) where
-  branch_part : (l : GuardedLookup) (p : LookupPart) → IsReadyPart shapes l p (JumpIf condition size dst src offset) (state_of a) → (p ≡ NullTest) × (dst ≡ 0) × ((id : ℕ) × IsEqualToNull condition size dst src l.map id a)
+  branch_part : (l : GuardedLookup) (p : LookupPart) →
+      IsReadyPart shapes l p (JumpIf condition size dst src offset) (state_of a) → (p ≡ NullTest) × (dst ≡ 0) ×
+      ((id : ℕ) × IsEqualToNull condition size dst src l.map id a)
   branch_part l FrameCopy ready = (let e = ready.insn in absurd cc)
   branch_part l KeyAddress ready = (let e = ready.insn in absurd cc)
   branch_part l MapLoad ready = (let e = ready.insn in absurd cc)
@@ -353,34 +391,54 @@ module _ (condition : Condition) (size : Size) (dst : ℕ) (src : Operand) (offs
       let d : dst ≡ 0 = cc in
       let c : condition ≡ Equal = cc in
       let z : size ≡ Word64 = cc in
-      let s : src ≡ Immediate (pos 0) = cc in
-      (refl, d, (ready.expects.0, record { condition_is = c; size_is = z; src_is = s; kind = ap (kind_in a.regs) d ∙ kind_is (kind_in a.regs 0) (MaybeNull l.map ready.expects.0) ready.expects.1 }))
+      let s : src ≡ Immediate (pos 0) = cc in (
+        refl,
+        d,
+        (
+          ready.expects.0,
+          record {
+            condition_is = c;
+            size_is = z;
+            src_is = s;
+            kind = ap (kind_in a.regs) d ∙
+                kind_is (kind_in a.regs 0) (MaybeNull l.map ready.expects.0) ready.expects.1;
+          },
+        ),
+      )
   branch_part l ValueLoad ready = absurd (subst (IsValueLoad l.shape) (sym ready.insn) ready.fitting.in_value)
 
   pub branch_ready : IsReadyWithMaps shapes (JumpIf condition size dst src offset) (state_of a) → (map id : ℕ) × IsEqualToNull condition size dst src map id a
   branch_ready (inl x) = let r = (branch_part x.0 x.1 x.2).2 in (x.0.map, r.0, r.1)
   branch_ready (inr x) = absurd (no_section_call (JumpIf condition size dst src offset) x.0 refl x.1.insn)
 
-  pub branch_serves : (b t : StateHere) → ((map id : ℕ) → IsEqualToNull condition size dst src map id a → Splits id a t b) → Serves shapes (JumpIf condition size dst src offset) (state_of a) (state_of b) (Some (state_of t))
+  pub branch_serves : (b t : StateHere) → ((map id : ℕ) → IsEqualToNull condition size dst src map id a →
+      Splits id a t b) → Serves shapes (JumpIf condition size dst src offset) (state_of a) (state_of b)
+      (Some (state_of t))
   branch_serves b t splits = record {
     part = λ l p ready. leaves l p ready (branch_part l p ready);
     section = λ opens ready. absurd (no_section_call (JumpIf condition size dst src offset) opens refl ready.insn);
   }
     where
-      leaves : (l : GuardedLookup) (p : LookupPart) → IsReadyPart shapes l p (JumpIf condition size dst src offset) (state_of a) → (p ≡ NullTest) × (dst ≡ 0) × ((id : ℕ) × IsEqualToNull condition size dst src l.map id a)
+      leaves : (l : GuardedLookup) (p : LookupPart) → IsReadyPart shapes l p (JumpIf condition size dst src offset)
+          (state_of a) → (p ≡ NullTest) × (dst ≡ 0) × ((id : ℕ) × IsEqualToNull condition size dst src l.map id a)
           → LeavesPart l p (state_of a) (state_of b) (Some (state_of t))
       leaves l p ready (h, d, (id, test)) =
           let s = splits l.map id test in
           let k : (state_of a).regs 0 ≡ MaybeNull l.map id = subst (λ r. (state_of a).regs r ≡ MaybeNull l.map id) d (ap kind_of test.kind) in record {
             keeps = there_saves id (state_of a) (state_of b) s.is_there;
             depth = s.is_there.depth;
-            prepares = subst (λ p. Prepares l p (state_of b)) (sym h) (origin, s.is_there.regs 0 ∙ there_here l.map id ((state_of a).regs 0) k, record { least = refl; greatest = refl });
+            prepares = subst (λ p. Prepares l p (state_of b)) (sym h) (
+              origin,
+              s.is_there.regs 0 ∙ there_here l.map id ((state_of a).regs 0) k,
+              record { least = refl; greatest = refl },
+            );
             keeps_taken = (null_saves id (state_of a) (state_of t) s.is_null, s.is_null.depth);
           }
 
 -- a load from the value
 module _ (i : Insn) (dst base width : ℕ) (offset : ℤ) (shapes : List MapShape) (a : StateHere)
-    (is_load : (shape : MapShape) → IsValueLoad shape i → (base ≡ 0) × (6 ≤ dst) × (dst ≤ 9) × (at : ℕ) × (region_offset shape.value_len width offset ≡ Some at))
+    (is_load : (shape : MapShape) → IsValueLoad shape i → (base ≡ 0) × (6 ≤ dst) × (dst ≤ 9) × (at : ℕ) ×
+    (region_offset shape.value_len width offset ≡ Some at))
     (no_other : (l : GuardedLookup) (p : LookupPart) → i ≡ part_insn l p → p ≡ ValueLoad) (no_call : (opens : Bool) → i ≡ (section_call opens) → ⊥) where
   -- what is read, into r6 to r9
   abbrev pub LoadsByPart : GuardedLookup → LookupPart → Type 0
@@ -410,7 +468,8 @@ module _ (i : Insn) (dst base width : ℕ) (offset : ℤ) (shapes : List MapShap
   load_ready_maps (inl x) = let r = load_part x.0 x.1 x.2 in (r.2, (x.0.map, r.3))
   load_ready_maps (inr x) = absurd (no_call x.0 x.1.insn)
 
-  pub load_serves : (b : AbsState) → ((map : ℕ) → (10 ≡ dst → ⊥) → ReadsValue shapes a base map width offset → (n : Scalar) × AreAlike (with_kind dst (Num n) (state_of a)) b) → Serves shapes i (state_of a) b None
+  pub load_serves : (b : AbsState) → ((map : ℕ) → (10 ≡ dst → ⊥) → ReadsValue shapes a base map width offset →
+      (n : Scalar) × AreAlike (with_kind dst (Num n) (state_of a)) b) → Serves shapes i (state_of a) b None
   load_serves b loads = record {
     part = λ l p ready. leaves l p (load_part l p ready);
     section = λ opens ready. absurd (no_call opens ready.insn);
@@ -425,7 +484,8 @@ module _ (i : Insn) (dst base width : ℕ) (offset : ℤ) (shapes : List MapShap
             keeps_taken = tt;
           }
 
-pub load_no_other : (width : Width) (dst base : ℕ) (offset : ℤ) (l : GuardedLookup) (p : LookupPart) → Load width dst base offset ≡ part_insn l p → p ≡ ValueLoad
+pub load_no_other : (width : Width) (dst base : ℕ) (offset : ℤ) (l : GuardedLookup) (p : LookupPart) →
+    Load width dst base offset ≡ part_insn l p → p ≡ ValueLoad
 load_no_other width dst base offset l FrameCopy e = absurd cc
 load_no_other width dst base offset l KeyAddress e = absurd cc
 load_no_other width dst base offset l MapLoad e = absurd cc
@@ -433,7 +493,8 @@ load_no_other width dst base offset l LookupCall e = absurd cc
 load_no_other width dst base offset l NullTest e = absurd cc
 load_no_other width dst base offset l ValueLoad e = refl
 
-pub signed_no_other : (width : SignedWidth) (dst base : ℕ) (offset : ℤ) (l : GuardedLookup) (p : LookupPart) → LoadSigned width dst base offset ≡ part_insn l p → p ≡ ValueLoad
+pub signed_no_other : (width : SignedWidth) (dst base : ℕ) (offset : ℤ) (l : GuardedLookup) (p : LookupPart) →
+    LoadSigned width dst base offset ≡ part_insn l p → p ≡ ValueLoad
 signed_no_other width dst base offset l FrameCopy e = absurd cc
 signed_no_other width dst base offset l KeyAddress e = absurd cc
 signed_no_other width dst base offset l MapLoad e = absurd cc

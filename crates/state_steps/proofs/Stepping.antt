@@ -65,29 +65,33 @@ pub record IsQuiet (i : Insn) : Type 0 where
 
 pub quiet_step : (i : Insn) (shapes : List MapShape) (ctx_len top : ℕ) (a b : AbsState) (f : Flow) → f ≡ single_flow regions.None → IsQuiet i
     → Transfers i shapes ctx_len (state_of a) (state_of b) None → AreBelow top b
-    → (IsReadyInsn i (state_of a) → KeepsFacts i (state_of a) (state_of b)) → Serves shapes i (state_of a) (state_of b) None → KeepsInsnFloor i (state_of a) (state_of b) None → KeepsNumbers i (state_of a) (state_of b) → (LooksUp i → MayLookUp shapes (state_of a)) → Stepped i shapes ctx_len top a b (Ok f)
-quiet_step i shapes ctx_len top a b f e q sound below keeps serves floor others looks_up = subst (λ (f : Flow). Stepped i shapes ctx_len top a b (Ok f)) (sym e) (record {
-  done = record {
-    transfer = record {
-      sound = sound;
-      branches = λ x. absurd (q.no_branch x);
-      reaches = λ r c m x d. absurd (none-some r (sym q.no_base ∙ x));
-      compares = λ r c m x d. absurd (q.no_test r x);
-      looks_up = looks_up;
-      keeps = keeps;
-      keeps_taken = λ ready. tt;
-      serves = serves;
-      floor = floor;
-      others = others;
-      others_taken = tt;
-    };
-    taken_below = tt;
-  };
-  below = below;
-  unchanged = tt;
-  accepts = λ ready. tt;
-  accepts_maps = λ ready. tt;
-})
+    → (IsReadyInsn i (state_of a) → KeepsFacts i (state_of a) (state_of b)) →
+    Serves shapes i (state_of a) (state_of b) None → KeepsInsnFloor i (state_of a) (state_of b) None →
+    KeepsNumbers i (state_of a) (state_of b) → (LooksUp i → MayLookUp shapes (state_of a)) →
+    Stepped i shapes ctx_len top a b (Ok f)
+quiet_step i shapes ctx_len top a b f e q sound below keeps serves floor others looks_up =
+    subst (λ (f : Flow). Stepped i shapes ctx_len top a b (Ok f)) (sym e) (record {
+      done = record {
+        transfer = record {
+          sound = sound;
+          branches = λ x. absurd (q.no_branch x);
+          reaches = λ r c m x d. absurd (none-some r (sym q.no_base ∙ x));
+          compares = λ r c m x d. absurd (q.no_test r x);
+          looks_up = looks_up;
+          keeps = keeps;
+          keeps_taken = λ ready. tt;
+          serves = serves;
+          floor = floor;
+          others = others;
+          others_taken = tt;
+        };
+        taken_below = tt;
+      };
+      below = below;
+      unchanged = tt;
+      accepts = λ ready. tt;
+      accepts_maps = λ ready. tt;
+    })
 
 -- a test for null of what may be null
 null_comparable : (equal : Bool) (dst : ℕ) (offset : ℤ) (v : Value) (o : Option ℕ) → v ≡ found_value o
@@ -111,24 +115,33 @@ pub record IsNullTestBy (equal : Bool) (condition : Condition) (size : Size) (sr
 by_test : (P : Condition → Size → Operand → Type 0) (equal : Bool) (condition : Condition) (size : Size) (src : Operand) → IsNullTestBy equal condition size src
     → P (if equal then Equal else NotEqual) Word64 (Immediate (pos 0)) → P condition size src
 by_test P equal condition size src t p =
-    subst (λ (x : Condition). P x size src) (sym t.condition_is) (subst (λ (x : Size). P (if equal then Equal else NotEqual) x src) (sym t.size_is) (subst (λ (x : Operand). P (if equal then Equal else NotEqual) Word64 x) (sym t.src_is) p))
+    subst (λ (x : Condition). P x size src) (sym t.condition_is)
+    (subst (λ (x : Size). P (if equal then Equal else NotEqual) x src) (sym t.size_is)
+    (subst (λ (x : Operand). P (if equal then Equal else NotEqual) Word64 x) (sym t.src_is) p))
 
-pub null_forks : (equal : Bool) (condition : Condition) (size : Size) (dst : ℕ) (src : Operand) (a b t : AbsState) → IsNullTestBy equal condition size src → ForksOnNull equal dst a b t → Forks condition size dst src a b t
+pub null_forks : (equal : Bool) (condition : Condition) (size : Size) (dst : ℕ) (src : Operand) (a b t : AbsState) →
+    IsNullTestBy equal condition size src → ForksOnNull equal dst a b t → Forks condition size dst src a b t
 null_forks equal condition size dst src a b t is f = by_test (λ x y z. Forks x y dst z a b t) equal condition size src is f
 
-pub maybe_compares : (equal : Bool) (condition : Condition) (size : Size) (dst map id : ℕ) (src : Operand) (a : AbsState) → IsNullTestBy equal condition size src → kind_in a.regs dst ≡ kinds.MaybeNull map id
+pub maybe_compares : (equal : Bool) (condition : Condition) (size : Size) (dst map id : ℕ) (src : Operand)
+    (a : AbsState) → IsNullTestBy equal condition size src → kind_in a.regs dst ≡ kinds.MaybeNull map id
     → ComparesWell condition size dst src (state_of a)
 maybe_compares equal condition size dst map id src a is e = by_test (λ x y z. ComparesWell x y dst z (state_of a)) equal condition size src is
     (λ offset r c m x d. elim x [
-      | inl p ↦ null_comparable equal dst offset (m.regs r) (d.naming id) (subst (λ (k : Kind). IsOf c d.naming k (m.regs r)) (ap (λ q. kind_of (kind_in a.regs q)) p ∙ ap kind_of e) (d.regs r)).0
+      | inl p ↦ null_comparable equal dst offset (m.regs r) (d.naming id)
+          (subst (λ (k : Kind). IsOf c d.naming k (m.regs r)) (ap (λ q. kind_of (kind_in a.regs q)) p ∙ ap kind_of e)
+          (d.regs r)).0
       | inr p ↦ absurd p
     ])
 
-pub value_compares : (equal : Bool) (condition : Condition) (size : Size) (dst map : ℕ) (s : Scalar) (src : Operand) (a : AbsState) → IsNullTestBy equal condition size src → kind_in a.regs dst ≡ kinds.Value map s
+pub value_compares : (equal : Bool) (condition : Condition) (size : Size) (dst map : ℕ) (s : Scalar) (src : Operand)
+    (a : AbsState) → IsNullTestBy equal condition size src → kind_in a.regs dst ≡ kinds.Value map s
     → ComparesWell condition size dst src (state_of a)
 value_compares equal condition size dst map s src a is e = by_test (λ x y z. ComparesWell x y dst z (state_of a)) equal condition size src is
     (λ offset r c m x d. elim x [
-      | inl p ↦ let h = subst (λ (k : Kind). IsOf c d.naming k (m.regs r)) (ap (λ q. kind_of (kind_in a.regs q)) p ∙ ap kind_of e) (d.regs r) in value_comparable equal dst h.n offset h.offset (m.regs r) h.is
+      | inl p ↦ let h = subst (λ (k : Kind). IsOf c d.naming k (m.regs r))
+          (ap (λ q. kind_of (kind_in a.regs q)) p ∙ ap kind_of e) (d.regs r) in value_comparable equal dst h.n offset
+          h.offset (m.regs r) h.is
       | inr p ↦ absurd p
     ])
 
@@ -136,7 +149,8 @@ named : (src : Operand) (r : ℕ) (m : State) → Names src r → m.regs r ≡ o
 named (Register s) r m e = ap m.regs e
 named (Immediate imm) r m e = absurd e
 
-pub numbers_compare : (condition : Condition) (size : Size) (dst : ℕ) (src : Operand) (a : AbsState) → ComparesNumbers (state_of a) dst src → ComparesWell condition size dst src (state_of a)
+pub numbers_compare : (condition : Condition) (size : Size) (dst : ℕ) (src : Operand) (a : AbsState) →
+    ComparesNumbers (state_of a) dst src → ComparesWell condition size dst src (state_of a)
 numbers_compare condition size dst src a h offset r c m x d =
     let n = h c m d in
     elim x [
@@ -157,30 +171,36 @@ pub record IsAccess (i : Insn) (base : ℕ) : Type 0 where
   pub no_test : (r : ℕ) → Compares i r → ⊥
   pub no_branch : IsBranch i → ⊥
 
-pub access_step : (i : Insn) (shapes : List MapShape) (ctx_len top : ℕ) (a b : AbsState) (f : Flow) (region : Region) (base : ℕ) → f ≡ single_flow region → IsAccess i base → IsBase region (kind_at a.regs base)
-    → Transfers i shapes ctx_len (state_of a) (state_of b) None → AreBelow top b → (IsReadyInsn i (state_of a) → KeepsFacts i (state_of a) (state_of b)) → Serves shapes i (state_of a) (state_of b) None → KeepsInsnFloor i (state_of a) (state_of b) None → KeepsNumbers i (state_of a) (state_of b) → Stepped i shapes ctx_len top a b (Ok f)
-access_step i shapes ctx_len top a b f region base e q is sound below keeps serves floor others = subst (λ (f : Flow). Stepped i shapes ctx_len top a b (Ok f)) (sym e) (record {
-  done = record {
-    transfer = record {
-      sound = sound;
-      branches = λ x. absurd (q.no_branch x);
-      reaches = λ r c m x d. subst (λ (n : ℕ). IsInRegion c region (m.regs n)) (same_Some base r (sym q.base_is ∙ x)) (in_region region (kind_at a.regs base) c d.naming (m.regs base) is (d.regs base));
-      compares = λ r c m x d. absurd (q.no_test r x);
-      looks_up = λ h. absurd (none-some base (sym (no-base i h) ∙ q.base_is));
-      keeps = keeps;
-      keeps_taken = λ ready. tt;
-      serves = serves;
-      floor = floor;
-      others = others;
-      others_taken = tt;
-    };
-    taken_below = tt;
-  };
-  below = below;
-  unchanged = tt;
-  accepts = λ ready. tt;
-  accepts_maps = λ ready. tt;
-})
+pub access_step : (i : Insn) (shapes : List MapShape) (ctx_len top : ℕ) (a b : AbsState) (f : Flow) (region : Region)
+    (base : ℕ) → f ≡ single_flow region → IsAccess i base → IsBase region (kind_at a.regs base)
+    → Transfers i shapes ctx_len (state_of a) (state_of b) None → AreBelow top b →
+    (IsReadyInsn i (state_of a) → KeepsFacts i (state_of a) (state_of b)) →
+    Serves shapes i (state_of a) (state_of b) None → KeepsInsnFloor i (state_of a) (state_of b) None →
+    KeepsNumbers i (state_of a) (state_of b) → Stepped i shapes ctx_len top a b (Ok f)
+access_step i shapes ctx_len top a b f region base e q is sound below keeps serves floor others =
+    subst (λ (f : Flow). Stepped i shapes ctx_len top a b (Ok f)) (sym e) (record {
+      done = record {
+        transfer = record {
+          sound = sound;
+          branches = λ x. absurd (q.no_branch x);
+          reaches = λ r c m x d. subst (λ (n : ℕ). IsInRegion c region (m.regs n)) (same_Some base r (sym q.base_is ∙ x))
+              (in_region region (kind_at a.regs base) c d.naming (m.regs base) is (d.regs base));
+          compares = λ r c m x d. absurd (q.no_test r x);
+          looks_up = λ h. absurd (none-some base (sym (no-base i h) ∙ q.base_is));
+          keeps = keeps;
+          keeps_taken = λ ready. tt;
+          serves = serves;
+          floor = floor;
+          others = others;
+          others_taken = tt;
+        };
+        taken_below = tt;
+      };
+      below = below;
+      unchanged = tt;
+      accepts = λ ready. tt;
+      accepts_maps = λ ready. tt;
+    })
 
 -- what may be null and an element's value are no numbers
 pub null_no_number : (k : RegKind) (map id : ℕ) (s : Scalar) → k ≡ kinds.MaybeNull map id → kind_of k ≡ Num s → ⊥
@@ -203,11 +223,13 @@ learnt_numbers : (lesson : Lesson) (a b : Known) → AreAlike (learnt lesson a) 
 learnt_numbers lesson a b e r s n = e.regs r ∙ (ap (learnt_kind lesson) n ∙ learnt_number lesson s)
 
 -- both edges of a test for null: where control falls through, and where it jumps
-pub null_others : (equal : Bool) (id : ℕ) (a b t : AbsState) → (equal ≡ true → Splits id a t b) → (equal ≡ false → Splits id a b t) → KeepsAllNumbers (state_of a) (state_of b)
+pub null_others : (equal : Bool) (id : ℕ) (a b t : AbsState) → (equal ≡ true → Splits id a t b) →
+    (equal ≡ false → Splits id a b t) → KeepsAllNumbers (state_of a) (state_of b)
 null_others true id a b t f g = learnt_numbers (IsThere id) (state_of a) (state_of b) (f refl).is_there
 null_others false id a b t f g = learnt_numbers (IsNull id) (state_of a) (state_of b) (g refl).is_null
 
-pub null_others_taken : (equal : Bool) (id : ℕ) (a b t : AbsState) → (equal ≡ true → Splits id a t b) → (equal ≡ false → Splits id a b t) → KeepsAllNumbers (state_of a) (state_of t)
+pub null_others_taken : (equal : Bool) (id : ℕ) (a b t : AbsState) → (equal ≡ true → Splits id a t b) →
+    (equal ≡ false → Splits id a b t) → KeepsAllNumbers (state_of a) (state_of t)
 null_others_taken true id a b t f g = learnt_numbers (IsNull id) (state_of a) (state_of t) (f refl).is_null
 null_others_taken false id a b t f g = learnt_numbers (IsThere id) (state_of a) (state_of t) (g refl).is_there
 
@@ -218,10 +240,15 @@ above_five r n = elim (cases_lt 5 r) [
 ]
 
 -- a lookup that is not refused is made inside a section, or in an array
-pub inside_here : (kind : CallKind) (imm : ℤ) (shapes : List MapShape) (a : Known) (P : InsnFault → Type 0) → LooksUp (Call kind imm) → IfSome (section_fault kind imm shapes a) P → ((e : InsnFault) → P e → ⊥) → MayLookUp shapes a
-inside_here callee.Helper imm shapes a P h first none = by (nat_lt 0 a.depth) (is_array_of shapes (a.regs 1)) refl refl (subst (λ (o : Option Helper). IfSome (helper_fault o shapes a) P) h first)
+pub inside_here : (kind : CallKind) (imm : ℤ) (shapes : List MapShape) (a : Known) (P : InsnFault → Type 0) →
+    LooksUp (Call kind imm) → IfSome (section_fault kind imm shapes a) P → ((e : InsnFault) → P e → ⊥) →
+    MayLookUp shapes a
+inside_here callee.Helper imm shapes a P h first none =
+    by (nat_lt 0 a.depth) (is_array_of shapes (a.regs 1)) refl refl
+    (subst (λ (o : Option Helper). IfSome (helper_fault o shapes a) P) h first)
   where
-    by : (inside array : Bool) → nat_lt 0 a.depth ≡ inside → is_array_of shapes (a.regs 1) ≡ array → IfSome (if inside || array then None else Some OutsideSection) P → MayLookUp shapes a
+    by : (inside array : Bool) → nat_lt 0 a.depth ≡ inside → is_array_of shapes (a.regs 1) ≡ array →
+        IfSome (if inside || array then None else Some OutsideSection) P → MayLookUp shapes a
     by true array e f first = inl (ltb-true 0 a.depth e)
     by false true e f first = inr (array_of shapes (a.regs 1) f)
     by false false e f first = absurd (none OutsideSection first)

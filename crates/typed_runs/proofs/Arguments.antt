@@ -34,7 +34,8 @@ bytes-cons x xs l h zero b at = subst (λ y. y < 256) (same_Some x b at) l
 bytes-cons x xs l h (suc k) b at = h k b at
 
 -- bytes of the frame are read
-bytes-read : (frame : ℕ → Cell) (at n : ℕ) → ((k : ℕ) → at ≤ k → k < at + n → (b : ℕ) × (frame k ≡ Byte b) × (b < 256)) → (bs : List ℕ) × (bytes_at frame at n ≡ Some bs) × AreBytes bs
+bytes-read : (frame : ℕ → Cell) (at n : ℕ) → ((k : ℕ) → at ≤ k → k < at + n → (b : ℕ) × (frame k ≡ Byte b) ×
+    (b < 256)) → (bs : List ℕ) × (bytes_at frame at n ≡ Some bs) × AreBytes bs
 bytes-read frame at zero h = ([], refl, λ k b e. absurd (none-some b e))
 bytes-read frame at (suc n) h =
     let low = h at (omega arith) (omega arith) in
@@ -44,7 +45,8 @@ bytes-read frame at (suc n) h =
       bytes-cons low.0 rest.0 low.2 rest.2,
     )
 
-pub has-bytes : (a : AbsState) (c : Scene) (m : State) (r len : ℕ) (d : Describes a c m) → HasBytes a r len → (bs : List ℕ) × (frame_bytes m.frame len (m.regs r) ≡ Some bs) × AreBytes bs
+pub has-bytes : (a : AbsState) (c : Scene) (m : State) (r len : ℕ) (d : Describes a c m) → HasBytes a r len →
+    (bs : List ℕ) × (frame_bytes m.frame len (m.regs r) ≡ Some bs) × AreBytes bs
 has-bytes a c m r len d h =
     let v : m.regs r ≡ Pointer (Frame (pos h.at)) = reg-is a c m r (FrameAt (pos h.at)) d h.frame in
     let x = bytes-read m.frame h.at len (λ k p q. cell-is a c m k ByteCell d (h.bytes k p q)) in (
@@ -61,10 +63,15 @@ pub record Bound (shapes : List MapShape) (s : Store) (run : Run) (map : ℕ) (s
   pub there : slice_get s.maps number ≡ Some state
   pub shape_is : state.shape ≡ shape
 
-pub bound : (shapes : List MapShape) (ctx_len : ℕ) (s : Store) (opened : List Section) (run : Run) (map : ℕ) (shape : MapShape) → Surrounds shapes ctx_len s opened run → slice_get shapes map ≡ Some shape → Bound shapes s run map shape
-bound shapes ctx_len s opened run map shape w at = let x = w.bound.each map shape at in record { number = x.0; state = x.1; listed = x.2; there = x.3; shape_is = x.4 }
+pub bound : (shapes : List MapShape) (ctx_len : ℕ) (s : Store) (opened : List Section) (run : Run) (map : ℕ)
+    (shape : MapShape) → Surrounds shapes ctx_len s opened run → slice_get shapes map ≡ Some shape →
+    Bound shapes s run map shape
+bound shapes ctx_len s opened run map shape w at = let x =
+    w.bound.each map shape at in record { number = x.0; state = x.1; listed = x.2; there = x.3; shape_is = x.4 }
 
-module _ (shapes : List MapShape) (s : Store) (run : Run) (a : AbsState) (map : ℕ) (shape : MapShape) (d : Describes a (scene_of s run) run.state) (h : HasMap shapes a map shape) (b : Bound shapes s run map shape) where
+module _ (shapes : List MapShape) (s : Store) (run : Run) (a : AbsState) (map : ℕ) (shape : MapShape)
+    (d : Describes a (scene_of s run) run.state) (h : HasMap shapes a map shape)
+    (b : Bound shapes s run map shape) where
   pub map-listed : map_argument run ≡ slice_get run.program.maps map
   map-listed = ap (λ v. reference v >>= bound_map run.program.maps) (reg-is a (scene_of s run) run.state 1 (MapAt map) d h.map_is)
 
@@ -75,7 +82,18 @@ module _ (shapes : List MapShape) (s : Store) (run : Run) (a : AbsState) (map : 
   shape-is = ap shape_in b.there ∙ ap Some b.shape_is
 
   pub key-is : HasBytes a 2 shape.key_len → (bs : List ℕ) × (key_argument s run b.number ≡ Some bs)
-  key-is k = let x = has-bytes a (scene_of s run) run.state 2 shape.key_len d k in (x.0, ap (λ o. o >>= λ (y : MapShape). frame_bytes run.state.frame y.key_len (run.state.regs 2)) shape-is ∙ x.1)
+  key-is k = let x = has-bytes a (scene_of s run) run.state 2 shape.key_len d
+      k in (
+        x.0,
+        ap (λ o. o >>= λ (y : MapShape). frame_bytes run.state.frame y.key_len (run.state.regs 2)) shape-is ∙
+            x.1,
+      )
 
   pub value-is : HasBytes a 3 shape.value_len → (bs : List ℕ) × (value_argument s run b.number ≡ Some bs) × AreBytes bs
-  value-is k = let x = has-bytes a (scene_of s run) run.state 3 shape.value_len d k in (x.0, ap (λ o. o >>= λ (y : MapShape). frame_bytes run.state.frame y.value_len (run.state.regs 3)) shape-is ∙ x.1, x.2)
+  value-is k = let x = has-bytes a (scene_of s run) run.state 3 shape.value_len d
+      k in (
+        x.0,
+        ap (λ o. o >>= λ (y : MapShape). frame_bytes run.state.frame y.value_len (run.state.regs 3)) shape-is
+            ∙ x.1,
+        x.2,
+      )

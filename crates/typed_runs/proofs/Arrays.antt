@@ -18,16 +18,19 @@ use Rattle.typed_runs.specs.Effects.{is_array, has_array_shape, is_array_in}
 use Rattle.typed_runs.specs.Verified.{AreMapsBound, StaysKept}
 
 -- a map of this number has the kind
-pub kind-there : (states : List MapState) (n : ℕ) (kind : MapKind) → slice_get (kinds_of states) n ≡ Some kind → (state : MapState) × (slice_get states n ≡ Some state) × (state.shape.kind ≡ kind)
+pub kind-there : (states : List MapState) (n : ℕ) (kind : MapKind) → slice_get (kinds_of states) n ≡ Some kind →
+    (state : MapState) × (slice_get states n ≡ Some state) × (state.shape.kind ≡ kind)
 kind-there [] n kind h = absurd (none-some kind h)
 kind-there (state ∷ states) zero kind h = (state, refl, same_Some state.shape.kind kind h)
 kind-there (state ∷ states) (suc n) kind h = kind-there states n kind h
 
-pub there-kind : (states : List MapState) (n : ℕ) (state : MapState) (kind : MapKind) → slice_get states n ≡ Some state → state.shape.kind ≡ kind → slice_get (kinds_of states) n ≡ Some kind
+pub there-kind : (states : List MapState) (n : ℕ) (state : MapState) (kind : MapKind) →
+    slice_get states n ≡ Some state → state.shape.kind ≡ kind → slice_get (kinds_of states) n ≡ Some kind
 there-kind states n state kind at is = get-map (λ (state : MapState). state.shape.kind) states n state at ∙ ap Some is
 
 -- an array stays one
-pub array-kept : (s new : Store) (run : Run) → KeepsShapes s.maps new.maps → (index : ℕ) → IsArrayMap (scene_of s run) index → IsArrayMap (scene_of new run) index
+pub array-kept : (s new : Store) (run : Run) → KeepsShapes s.maps new.maps → (index : ℕ) →
+    IsArrayMap (scene_of s run) index → IsArrayMap (scene_of new run) index
 array-kept s new run k index a =
     let x = kind-there s.maps a.number Array a.array in
     let y = k a.number x.0 x.1 in
@@ -42,18 +45,22 @@ shape-there : (o : Option MapShape) → has_array_shape o ≡ true → (shape : 
 shape-there None h = absurd (cc)
 shape-there (Some shape) h = (shape, refl, shape-array shape.kind h)
 
-pub array-there : (shapes : List MapShape) (map : ℕ) → is_array_in shapes map ≡ true → (shape : MapShape) × (slice_get shapes map ≡ Some shape) × (shape.kind ≡ Array)
+pub array-there : (shapes : List MapShape) (map : ℕ) → is_array_in shapes map ≡ true → (shape : MapShape) ×
+    (slice_get shapes map ≡ Some shape) × (shape.kind ≡ Array)
 array-there shapes map h = shape-there (slice_get shapes map) h
 
 pub there-array : (shapes : List MapShape) (map : ℕ) (shape : MapShape) → slice_get shapes map ≡ Some shape → shape.kind ≡ Array → is_array_in shapes map ≡ true
 there-array shapes map shape at is = ap has_array_shape at ∙ ap is_array is
 
-pub shape-bound : (shapes : List MapShape) (s : Store) (run : Run) → AreMapsBound shapes run.program.maps s.maps → (index : ℕ) (shape : MapShape) → slice_get shapes index ≡ Some shape → shape.kind ≡ Array → IsArrayMap (scene_of s run) index
+pub shape-bound : (shapes : List MapShape) (s : Store) (run : Run) → AreMapsBound shapes run.program.maps s.maps →
+    (index : ℕ) (shape : MapShape) → slice_get shapes index ≡ Some shape → shape.kind ≡ Array →
+    IsArrayMap (scene_of s run) index
 shape-bound shapes s run b index shape at is =
     let x = b.each index shape at in
     record { number = x.0; listed = x.2; array = there-kind s.maps x.0 x.1 Array x.3 (ap (λ (shape : MapShape). shape.kind) x.4 ∙ is) }
 
-pub array-bound : (shapes : List MapShape) (s : Store) (run : Run) → AreMapsBound shapes run.program.maps s.maps → (index : ℕ) → is_array_in shapes index ≡ true → IsArrayMap (scene_of s run) index
+pub array-bound : (shapes : List MapShape) (s : Store) (run : Run) → AreMapsBound shapes run.program.maps s.maps →
+    (index : ℕ) → is_array_in shapes index ≡ true → IsArrayMap (scene_of s run) index
 array-bound shapes s run b index h = let x = array-there shapes index h in shape-bound shapes s run b index x.0 x.1 x.2
 
 -- the elements of arrays aren't reclaimed
@@ -68,7 +75,9 @@ unreclaimed Linked s h = refl
 unreclaimed (Unlinked since) s h = refl
 unreclaimed Reclaimed s h = absurd h
 
-array-unreclaimed : (s : Store) (run : Run) (index n : ℕ) (e : Element) → AllStayKept s → slice_get s.elements n ≡ Some e → slice_get run.program.maps index ≡ Some e.map → IsArrayMap (scene_of s run) index → is_reclaimed e.life ≡ false
+array-unreclaimed : (s : Store) (run : Run) (index n : ℕ) (e : Element) → AllStayKept s →
+    slice_get s.elements n ≡ Some e → slice_get run.program.maps index ≡ Some e.map →
+    IsArrayMap (scene_of s run) index → is_reclaimed e.life ≡ false
 array-unreclaimed s run index n e arrays born in_map a =
     let same : a.number ≡ e.map = both (slice_get run.program.maps index) a.number e.map a.listed in_map in
     let x = kind-there s.maps a.number Array a.array in

@@ -31,9 +31,16 @@ bound-alike a b maps states p q =
     let state : right.1 ≡ left.1 = same_Some right.1 left.1 (sym right.3 ∙ (ap (slice_get states) number ∙ left.3)) in
     there.1 ∙ ap Some (sym right.4 ∙ (ap (λ (m : MapState). m.shape) state ∙ left.4)))
 
-pub described-by : (s : Store) (run : Run) (t : IsTyped s run) (shapes : List MapShape) → AreMapsBound shapes run.program.maps s.maps → (v : IsVerified run.program.code shapes run.program.context_len) → IsPlanned run.program.code v.plan t.index (scene_of s run) run.state
+pub described-by : (s : Store) (run : Run) (t : IsTyped s run) (shapes : List MapShape) →
+    AreMapsBound shapes run.program.maps s.maps → (v : IsVerified run.program.code shapes run.program.context_len) →
+    IsPlanned run.program.code v.plan t.index (scene_of s run) run.state
 described-by s run t shapes bound =
-    subst (λ (l : List MapShape). (v : IsVerified run.program.code l run.program.context_len) → IsPlanned run.program.code v.plan t.index (scene_of s run) run.state) (bound-alike t.safe.shapes shapes run.program.maps s.maps t.safe.bound bound) t.planned
+    subst (λ (l : List MapShape). (v : IsVerified run.program.code l run.program.context_len) →
+    IsPlanned run.program.code v.plan t.index (scene_of s run) run.state)
+    (bound-alike t.safe.shapes shapes run.program.maps s.maps t.safe.bound bound) t.planned
 
-pub each_plan_describes : (m : Machine) (r : ℕ) (run : Run) → IsWell m → run_at m.runs r ≡ Some run → run.exit ≡ None → (shapes : List MapShape) → AreMapsBound shapes run.program.maps m.store.maps → (v : IsVerified run.program.code shapes run.program.context_len) → (k : ℕ) × IsPlanned run.program.code v.plan k (scene_of m.store run) run.state
+pub each_plan_describes : (m : Machine) (r : ℕ) (run : Run) → IsWell m → run_at m.runs r ≡ Some run → run.exit ≡ None
+    → (shapes : List MapShape) → AreMapsBound shapes run.program.maps m.store.maps →
+    (v : IsVerified run.program.code shapes run.program.context_len) → (k : ℕ) ×
+    IsPlanned run.program.code v.plan k (scene_of m.store run) run.state
 each_plan_describes m r run w at going shapes bound v = let t = w.runs r run at going in (t.index, described-by m.store run t shapes bound v)

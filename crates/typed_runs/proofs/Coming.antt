@@ -43,16 +43,30 @@ context-fits : (b : Bool) (o : Option ℕ) → (if b then if_full o else Some Ba
 context-fits true o h = refl
 context-fits false o h = absurd (cc)
 
-comes-start : (m : Machine) (prog : ℕ) (ctx : List ℕ) (r : ℕ) (new : Machine) → AreBytes ctx → start_refusal (slice_get m.programs prog) (length ctx) (lowest_free m.runs) ≡ None → Starts m prog ctx r new → (q : ℕ) (run : Run) → run_at new.runs q ≡ Some run → Comes m new q run
+comes-start : (m : Machine) (prog : ℕ) (ctx : List ℕ) (r : ℕ) (new : Machine) → AreBytes ctx →
+    start_refusal (slice_get m.programs prog) (length ctx) (lowest_free m.runs) ≡ None → Starts m prog ctx r new →
+    (q : ℕ) (run : Run) → run_at new.runs q ≡ Some run → Comes m new q run
 comes-start m prog ctx r new real pass h q run at =
     let runs : new.runs ≡ slice_set m.runs r (Some (fresh_run m.started h.program ctx)) = ap (λ x. x.runs) h.new_is in
-    let fits : (length ctx == h.program.context_len) ≡ true = context-fits _ (lowest_free m.runs) (ap (λ o. start_refusal o (length ctx) (lowest_free m.runs)) (sym h.there) ∙ pass) in
+    let fits : (length ctx == h.program.context_len) ≡ true =
+    context-fits _ (lowest_free m.runs) (ap (λ o. start_refusal o (length ctx) (lowest_free m.runs)) (sym h.there)
+    ∙ pass) in
     elim (run-set_cases m.runs r q (Some (fresh_run m.started h.program ctx)) run (ap (λ l. run_at l q) (sym runs) ∙ at)) [
-      | inl x ↦ Starting (record { index = prog; program = h.program; loaded = h.there; context = ctx; long = eqb-true _ _ fits; bytes = real; is = same_Some _ _ x.1 })
+      | inl x ↦ Starting (record {
+        index = prog;
+        program = h.program;
+        loaded = h.there;
+        context = ctx;
+        long =
+            eqb-true _ _ fits;
+        bytes = real;
+        is = same_Some _ _ x.1;
+      })
       | inr x ↦ Stands x.1
     ]
 
-comes-step : (m : Machine) (r : ℕ) (answer : Answer) (new : Machine) → StepsRun m r answer new → (q : ℕ) (run : Run) → run_at new.runs q ≡ Some run → Comes m new q run
+comes-step : (m : Machine) (r : ℕ) (answer : Answer) (new : Machine) → StepsRun m r answer new → (q : ℕ) (run : Run) →
+    run_at new.runs q ≡ Some run → Comes m new q run
 comes-step m r answer new h q run at =
     let runs : new.runs ≡ slice_set m.runs r (Some h.new_run) = ap (λ x. x.runs) h.new_is in
     let store : h.new_store ≡ new.store = ap (λ x. x.store) (sym h.new_is) in
@@ -62,7 +76,9 @@ comes-step m r answer new h q run at =
         there = ap (run_at m.runs) x.0 ∙ h.there;
         going = h.going;
         answer = answer;
-        step = subst (λ s. RunStep m.store (open_sections m.runs) h.run answer s run) store (subst (λ y. RunStep m.store (open_sections m.runs) h.run answer h.new_store y) (same_Some _ _ x.1) h.step);
+        step = subst (λ s. RunStep m.store (open_sections m.runs) h.run answer s run) store
+            (subst (λ y. RunStep m.store (open_sections m.runs) h.run answer h.new_store y) (same_Some _ _ x.1)
+            h.step);
       })
       | inr x ↦ Stands x.1
     ]
@@ -73,7 +89,9 @@ comes-drop m new r e q run at = elim (run-set_cases m.runs r q None run (ap (λ 
   | inr x ↦ Stands x.1
 ]
 
-performs-comes : (m : Machine) (event : Event) (answer : Answer) (new : Machine) → IsReal event → refusal m event ≡ None → PerformsEvent m event answer new → (q : ℕ) (run : Run) → run_at new.runs q ≡ Some run → Comes m new q run
+performs-comes : (m : Machine) (event : Event) (answer : Answer) (new : Machine) → IsReal event →
+    refusal m event ≡ None → PerformsEvent m event answer new → (q : ℕ) (run : Run) → run_at new.runs q ≡ Some run →
+    Comes m new q run
 performs-comes m (events.Start prog ctx) (answers.Started r) new real pass h q run at = comes-start m prog ctx.items r new real.1 pass h q run at
 performs-comes m (events.Step r) answer new real pass h q run at = comes-step m r answer new h q run at
 performs-comes m (events.Update map key value flags) (answers.Ret ret) new real pass h q run at = stands m new q run (ap (λ x. x.runs) h.2) at
@@ -86,9 +104,12 @@ performs-comes m events.Reap (answers.Reaped (Some reaped)) new real pass h q ru
 performs-comes m (events.Drop r) answers.Done new real pass h q run at = comes-drop m new r (ap (λ x. x.runs) h) q run at
 performs-comes m event answer new real pass h q run at = absurd h
 
-answers-come : (o : Option EventRefusal) (m : Machine) (event : Event) (answer : Answer) (new : Machine) → IsReal event → refusal m event ≡ o → Answers o m event answer new → (q : ℕ) (run : Run) → run_at new.runs q ≡ Some run → Comes m new q run
+answers-come : (o : Option EventRefusal) (m : Machine) (event : Event) (answer : Answer) (new : Machine) →
+    IsReal event → refusal m event ≡ o → Answers o m event answer new → (q : ℕ) (run : Run) →
+    run_at new.runs q ≡ Some run → Comes m new q run
 answers-come None m event answer new real pass h q run at = performs-comes m event answer new real pass h q run at
 answers-come (Some k) m event answer new real pass h q run at = stands m new q run (ap (λ x. x.runs) h.1) at
 
-pub does-come : (m new : Machine) (event : Event) (answer : Answer) → IsReal event → DoesEvent m event answer new → (q : ℕ) (run : Run) → run_at new.runs q ≡ Some run → Comes m new q run
+pub does-come : (m new : Machine) (event : Event) (answer : Answer) → IsReal event → DoesEvent m event answer new →
+    (q : ℕ) (run : Run) → run_at new.runs q ≡ Some run → Comes m new q run
 does-come m new event answer real h q run at = answers-come (refusal m event) m event answer new real refl h q run at

@@ -1,5 +1,6 @@
 -- Loads from elements and stores to them: an element that is held isn't reclaimed, and its value is as long as its map's shape says.
-use Rattle.std.proofs.Common.{◌≡◌, ℕ, zero, suc, ◌+◌, ◌*◌, ◌<◌, ◌≤◌, ◌^◌, ◌%◌, ◌/◌, List, length, Option, Some, None, inl, inr, refl, sym, ap, subst, ◌∙◌, ℤ, pos, negsuc, arith, false}
+use Rattle.std.proofs.Common.{◌≡◌, ℕ, zero, suc, ◌+◌, ◌*◌, ◌<◌, ◌≤◌, ◌^◌, ◌%◌, ◌/◌, List, length, Option, Some, None}
+use Rattle.std.proofs.Common.{inl, inr, refl, sym, ap, subst, ◌∙◌, ℤ, pos, negsuc, arith, false}
 use Rattle.std.specs.Prelude.{slice_get, slice_set, if◌then◌else◌, ◌==◌, ◌&&◌, ◌+ℤ◌, nat_le}
 use Rattle.std.proofs.lemmas.Bool.{ne_eqb, leb-true, and_parts}
 use Rattle.std.proofs.lemmas.Option.{none-some, same_Some, cond_some}
@@ -44,10 +45,13 @@ use Rattle.typed_runs.proofs.Local.{Acting, no-call, acts-transfers}
 use Rattle.bpf_model.proofs.Lists.{get-below, get-set_cases}
 
 pub accessible-held : (s : Maps) (run : Run) (map n : ℕ) → AllStayKept s → (h : IsHeld (scene_of s run) map n) → accessible s.elements n ≡ Some h.element
-accessible-held s run map n arrays h = ap (λ o. o >>= unless_reclaimed) h.born ∙ ap (λ b. if b then None else Some h.element) (held-unreclaimed s run map n arrays h)
+accessible-held s run map n arrays h = ap (λ o. o >>= unless_reclaimed) h.born ∙
+    ap (λ b. if b then None else Some h.element) (held-unreclaimed s run map n arrays h)
 
 -- the value is as long as the shape says
-pub value-long : (shapes : List MapShape) (ctx_len : ℕ) (s : Maps) (opened : List Section) (run : Run) (map n : ℕ) (shape : MapShape) → Surrounds shapes ctx_len s opened run → slice_get shapes map ≡ Some shape → (h : IsHeld (scene_of s run) map n) → length h.element.value ≡ shape.value_len
+pub value-long : (shapes : List MapShape) (ctx_len : ℕ) (s : Maps) (opened : List Section) (run : Run) (map n : ℕ)
+    (shape : MapShape) → Surrounds shapes ctx_len s opened run → slice_get shapes map ≡ Some shape →
+    (h : IsHeld (scene_of s run) map n) → length h.element.value ≡ shape.value_len
 value-long shapes ctx_len s opened run map n shape w at h =
     let b = bound shapes ctx_len s opened run map shape w at in
     let z = w.lengths n h.element h.born in
@@ -75,17 +79,24 @@ number_read bytes at (suc width) h =
       omega (arith, low.2, high.2),
     )
 
-value-bytes : (value : List ℕ) (at width : ℕ) → AreBytes value → at + width ≤ length value → (k : ℕ) → at ≤ k → k < at + width → (b : ℕ) × (slice_get value k ≡ Some b) × (b < 256)
+value-bytes : (value : List ℕ) (at width : ℕ) → AreBytes value → at + width ≤ length value → (k : ℕ) → at ≤ k →
+    k < at + width → (b : ℕ) × (slice_get value k ≡ Some b) × (b < 256)
 value-bytes value at width bytes fits k p q = let x = get-below value k (omega arith) in (x.0, x.1, bytes k x.0 x.1)
 
 -- what a load finds
-pub element-loads : (shapes : List MapShape) (ctx_len : ℕ) (s : Maps) (opened : List Section) (run : Run) (map : ℕ) (shape : MapShape) (scalar : Scalar) (width : ℕ) (offset : ℤ) (v : Value) → Surrounds shapes ctx_len s opened run → slice_get shapes map ≡ Some shape →
-    IsAlwaysInside scalar width offset shape.value_len → IsElementOf (scene_of s run) map scalar v → (n : ℕ) × (element_load s.elements width offset v ≡ Some n) × (n < 256 ^ width)
+pub element-loads : (shapes : List MapShape) (ctx_len : ℕ) (s : Maps) (opened : List Section) (run : Run) (map : ℕ)
+    (shape : MapShape) (scalar : Scalar) (width : ℕ) (offset : ℤ) (v : Value) → Surrounds shapes ctx_len s opened run
+    → slice_get shapes map ≡ Some shape →
+    IsAlwaysInside scalar width offset shape.value_len → IsElementOf (scene_of s run) map scalar v → (n : ℕ) ×
+    (element_load s.elements width offset v ≡ Some n) × (n < 256 ^ width)
 element-loads shapes ctx_len s opened run map shape scalar width offset v w at placed x =
     let long = value-long shapes ctx_len s opened run map x.n shape w at x.held in
     let p = placed x.offset x.there in
-    let fits : region_offset (length x.held.element.value) width (x.offset +ℤ offset) ≡ Some p.0 = ap (λ l. region_offset l width (x.offset +ℤ offset)) long ∙ p.1 in
-    let r = number_read (slice_get x.held.element.value) p.0 width (value-bytes x.held.element.value p.0 width (w.bytes x.n x.held.element x.held.born) (offset_some _ _ _ _ fits).1) in (
+    let fits : region_offset (length x.held.element.value) width (x.offset +ℤ offset) ≡ Some p.0 =
+    ap (λ l. region_offset l width (x.offset +ℤ offset)) long ∙ p.1 in
+    let r = number_read (slice_get x.held.element.value) p.0 width
+    (value-bytes x.held.element.value p.0 width (w.bytes x.n x.held.element x.held.born)
+    (offset_some _ _ _ _ fits).1) in (
       r.0,
       ap (element_load s.elements width offset) x.is
           ∙ (ap (λ o. o >>= loaded_from width (x.offset +ℤ offset)) (accessible-held s run map x.n w.arrays x.held)
@@ -106,12 +117,19 @@ no-load env m width offset v b o e = ap (load_from env m width offset) e
 no-store : (m : State) (width : ℕ) (offset : ℤ) (v base : Value) (b : ℕ) (o : ℤ) → base ≡ Pointer (Elem b o) → store_to m width offset v base ≡ None
 no-store m width offset v base b o e = ap (store_to m width offset v) e
 
-pub set-is : (slots dst : ℕ) (v : Value) (m : State) → (10 ≡ dst → ⊥) → sets slots dst v m ≡ Some (Moves (record { regs = put dst v m.regs; frame = m.frame; place = m.place + slots }))
-set-is slots dst v m ne = ap (λ b. if b then None else Some (Moves (record { regs = put dst v m.regs; frame = m.frame; place = m.place + slots }))) (ne_eqb dst 10 (λ e. ne (sym e)))
+pub set-is : (slots dst : ℕ) (v : Value) (m : State) → (10 ≡ dst → ⊥) →
+    sets slots dst v m ≡ Some (Moves (record { regs = put dst v m.regs; frame = m.frame; place = m.place + slots }))
+set-is slots dst v m ne = ap (λ b. if b then None else Some
+    (Moves (record { regs = put dst v m.regs; frame = m.frame; place = m.place + slots })))
+    (ne_eqb dst 10 (λ e. ne (sym e)))
 
 module _ (width : Width) (dst src : ℕ) (offset : ℤ) (shapes : List MapShape) (ctx_len : ℕ) (a : AbsState) (map : ℕ) (shape : MapShape) (scalar t : Scalar) where
-  load-acts : a.regs src ≡ ValueAt map scalar → slice_get shapes map ≡ Some shape → IsAlwaysInside scalar (byte_count width) offset shape.value_len → (10 ≡ dst → ⊥) → ((n : ℕ) → n < 256 ^ byte_count width → Holds t n) →
-      (s : Maps) (opened : List Section) (run : Run) → Surrounds shapes ctx_len s opened run → Describes a (scene_of s run) run.state → Acting (Load width dst src offset) s run (with_kind dst (Num t) a) None
+  load-acts : a.regs src ≡ ValueAt map scalar → slice_get shapes map ≡ Some shape →
+      IsAlwaysInside scalar (byte_count width) offset shape.value_len → (10 ≡ dst → ⊥) →
+      ((n : ℕ) → n < 256 ^ byte_count width → Holds t n) →
+      (s : Maps) (opened : List Section) (run : Run) → Surrounds shapes ctx_len s opened run →
+      Describes a (scene_of s run) run.state → Acting (Load width dst src offset) s run (with_kind dst (Num t) a)
+      None
   load-acts e at placed ne all s opened run w d =
       let x : IsElementOf (scene_of s run) map scalar (run.state.regs src) = reg-is a (scene_of s run) run.state src (ValueAt map scalar) d e in
       let l = element-loads shapes ctx_len s opened run map shape scalar (byte_count width) offset (run.state.regs src) w at placed x in
@@ -122,15 +140,28 @@ module _ (width : Width) (dst src : ℕ) (offset : ℤ) (shapes : List MapShape)
         acts = inr (l.0, l.1, set-is 1 dst (Number l.0) run.state ne, refl);
         only = λ other fs h. elim h [
           | inl y ↦ absurd (none-some other (sym (ap (λ o. o >>= λ v. sets 1 dst v run.state) nothing) ∙ y.0))
-          | inr y ↦ (same_Some out other (sym (set-is 1 dst (Number l.0) run.state ne) ∙ (ap (λ n. sets 1 dst (Number n) run.state) (same_Some l.0 y.0 (sym l.1 ∙ y.1)) ∙ y.2)), sym y.3)
+          | inr y ↦ (
+            same_Some out other (sym (set-is 1 dst (Number l.0) run.state ne) ∙
+                (ap (λ n. sets 1 dst (Number n) run.state) (same_Some l.0 y.0 (sym l.1 ∙ y.1)) ∙ y.2)),
+            sym y.3,
+          )
         ];
         bytes = w.bytes;
-        reaches = inl (refl, refl, set-described a (scene_of s run) run.state dst (run.state.place + 1) (Num t) (Number l.0) d (l.0, refl, wide-fits width l.0 l.2, all l.0 l.2) tt);
+        reaches = inl (
+          refl,
+          refl,
+          set-described a (scene_of s run) run.state dst (run.state.place + 1) (Num t)
+              (Number l.0) d (l.0, refl, wide-fits width l.0 l.2, all l.0 l.2) tt,
+        );
       }
 
-  pub load_transfers : a.regs src ≡ ValueAt map scalar → slice_get shapes map ≡ Some shape → IsAlwaysInside scalar (byte_count width) offset shape.value_len → (10 ≡ dst → ⊥) → ((n : ℕ) → n < 256 ^ byte_count width → Holds t n) →
+  pub load_transfers : a.regs src ≡ ValueAt map scalar → slice_get shapes map ≡ Some shape →
+      IsAlwaysInside scalar (byte_count width) offset shape.value_len → (10 ≡ dst → ⊥) →
+      ((n : ℕ) → n < 256 ^ byte_count width → Holds t n) →
       Transfers (Load width dst src offset) shapes ctx_len a (with_kind dst (Num t) a) None
-  load_transfers e at placed ne all = acts-transfers (Load width dst src offset) shapes ctx_len a (with_kind dst (Num t) a) None (no-call (Load width dst src offset) refl) (λ s opened run w target. load-acts e at placed ne all s opened run w)
+  load_transfers e at placed ne all = acts-transfers (Load width dst src offset) shapes ctx_len a
+      (with_kind dst (Num t) a) None (no-call (Load width dst src offset) refl)
+      (λ s opened run w target. load-acts e at placed ne all s opened run w)
 
 -- a store
 set-bytes : (bytes : List ℕ) (at n : ℕ) → AreBytes bytes → AreBytes (slice_set bytes at (n % 256))
@@ -150,29 +181,40 @@ pub record StoredIn (s : Maps) (run : Run) (width : ℕ) (offset : ℤ) (v base 
   pub bytes : AllBytes es
   pub keeps : Keeps (scene_of s run) (scene_of (with_elements es s) run)
 
-pub element-stores : (shapes : List MapShape) (ctx_len : ℕ) (s : Maps) (opened : List Section) (run : Run) (map : ℕ) (shape : MapShape) (scalar : Scalar) (width : ℕ) (offset : ℤ) (n : ℕ) (v base : Value) → Surrounds shapes ctx_len s opened run → slice_get shapes map ≡ Some shape →
+pub element-stores : (shapes : List MapShape) (ctx_len : ℕ) (s : Maps) (opened : List Section) (run : Run) (map : ℕ)
+    (shape : MapShape) (scalar : Scalar) (width : ℕ) (offset : ℤ) (n : ℕ) (v base : Value) →
+    Surrounds shapes ctx_len s opened run → slice_get shapes map ≡ Some shape →
     IsAlwaysInside scalar width offset shape.value_len → v ≡ Number n → IsElementOf (scene_of s run) map scalar base → StoredIn s run width offset v base
 element-stores shapes ctx_len s opened run map shape scalar width offset n v base w at placed number x =
     let long = value-long shapes ctx_len s opened run map x.n shape w at x.held in
     let p = placed x.offset x.there in
-    let fits : region_offset (length x.held.element.value) width (x.offset +ℤ offset) ≡ Some p.0 = ap (λ l. region_offset l width (x.offset +ℤ offset)) long ∙ p.1 in
+    let fits : region_offset (length x.held.element.value) width (x.offset +ℤ offset) ≡ Some p.0 =
+    ap (λ l. region_offset l width (x.offset +ℤ offset)) long ∙ p.1 in
     let es : List Element = changed (with_value (with_bytes p.0 width n x.held.element.value)) s.elements x.n in
-    let stored : stored_in s.elements x.n width (x.offset +ℤ offset) n x.held.element ≡ Some es = ap (λ o. o >>= λ k. Some (changed (with_value (with_bytes k width n x.held.element.value)) s.elements x.n)) fits in record {
+    let stored : stored_in s.elements x.n width (x.offset +ℤ offset) n x.held.element ≡ Some es =
+    ap (λ o. o >>= λ k. Some (changed (with_value (with_bytes k width n x.held.element.value)) s.elements x.n))
+    fits in record {
       es = es;
       stores = ap (λ y. element_store s.elements width offset y base) number ∙ (ap (element_store s.elements width offset (Number n)) x.is
           ∙ (ap (λ o. o >>= stored_in s.elements x.n width (x.offset +ℤ offset) n) (accessible-held s run map x.n w.arrays x.held) ∙ stored));
-      bytes = bytes-changed (with_value (with_bytes p.0 width n x.held.element.value)) s.elements x.n w.bytes (λ e born. with-bytes p.0 width n x.held.element.value (w.bytes x.n x.held.element x.held.born));
-      keeps = keeps-touches false opened s es run w.section (touches-stored opened s.elements es x.n width (x.offset +ℤ offset) n x.held.element x.held.born stored);
+      bytes = bytes-changed (with_value (with_bytes p.0 width n x.held.element.value)) s.elements x.n w.bytes
+          (λ e born. with-bytes p.0 width n x.held.element.value (w.bytes x.n x.held.element x.held.born));
+      keeps = keeps-touches false opened s es run w.section
+          (touches-stored opened s.elements es x.n width (x.offset +ℤ offset) n x.held.element x.held.born stored);
     }
 
 -- an operand that is known to be a number is one in each described state
-pub operand-number : (a : AbsState) (c : Scene) (m : State) (src : Operand) → Describes a c m → IsNumberOperand a src → (n : ℕ) × (operand_value src m.regs ≡ Number n)
+pub operand-number : (a : AbsState) (c : Scene) (m : State) (src : Operand) → Describes a c m → IsNumberOperand a src
+    → (n : ℕ) × (operand_value src m.regs ≡ Number n)
 operand-number a c m (Register r) d k = let y = reg-is a c m r (Num k.0) d k.1 in (y.0, y.1)
 operand-number a c m (Immediate imm) d k = (immediate imm, refl)
 
-module _ (width : Width) (dst : ℕ) (offset : ℤ) (src : Operand) (shapes : List MapShape) (ctx_len : ℕ) (a : AbsState) (map : ℕ) (shape : MapShape) (scalar : Scalar) where
-  store-acts : a.regs dst ≡ ValueAt map scalar → IsNumberOperand a src → slice_get shapes map ≡ Some shape → IsAlwaysInside scalar (byte_count width) offset shape.value_len →
-      (s : Maps) (opened : List Section) (run : Run) → Surrounds shapes ctx_len s opened run → Describes a (scene_of s run) run.state → Acting (Store width dst offset src) s run a None
+module _ (width : Width) (dst : ℕ) (offset : ℤ) (src : Operand) (shapes : List MapShape) (ctx_len : ℕ) (a : AbsState)
+    (map : ℕ) (shape : MapShape) (scalar : Scalar) where
+  store-acts : a.regs dst ≡ ValueAt map scalar → IsNumberOperand a src → slice_get shapes map ≡ Some shape →
+      IsAlwaysInside scalar (byte_count width) offset shape.value_len →
+      (s : Maps) (opened : List Section) (run : Run) → Surrounds shapes ctx_len s opened run →
+      Describes a (scene_of s run) run.state → Acting (Store width dst offset src) s run a None
   store-acts e f at placed s opened run w d =
       let x : IsElementOf (scene_of s run) map scalar (run.state.regs dst) = reg-is a (scene_of s run) run.state dst (ValueAt map scalar) d e in
       let v : Value = operand_value src run.state.regs in
@@ -187,17 +229,30 @@ module _ (width : Width) (dst : ℕ) (offset : ℤ) (src : Operand) (shapes : Li
           | inr q ↦ (sym q.1, same_Some z.es fs (sym z.stores ∙ q.0))
         ];
         bytes = z.bytes;
-        reaches = inl (refl, refl, placed-described a (scene_of (with_elements z.es s) run) run.state (run.state.place + 1) (describes-kept (scene_of s run) (scene_of (with_elements z.es s) run) z.keeps a run.state d));
+        reaches = inl (
+          refl,
+          refl,
+          placed-described a (scene_of (with_elements z.es s) run) run.state
+              (run.state.place + 1) (describes-kept (scene_of s run) (scene_of (with_elements z.es s) run) z.keeps a
+              run.state d),
+        );
       }
 
-  pub store_transfers : a.regs dst ≡ ValueAt map scalar → IsNumberOperand a src → slice_get shapes map ≡ Some shape → IsAlwaysInside scalar (byte_count width) offset shape.value_len → Transfers (Store width dst offset src) shapes ctx_len a a None
-  store_transfers e f at placed = acts-transfers (Store width dst offset src) shapes ctx_len a a None (no-call (Store width dst offset src) refl) (λ s opened run w target. store-acts e f at placed s opened run w)
+  pub store_transfers : a.regs dst ≡ ValueAt map scalar → IsNumberOperand a src → slice_get shapes map ≡ Some shape →
+      IsAlwaysInside scalar (byte_count width) offset shape.value_len →
+      Transfers (Store width dst offset src) shapes ctx_len a a None
+  store_transfers e f at placed = acts-transfers (Store width dst offset src) shapes ctx_len a a None
+      (no-call (Store width dst offset src) refl) (λ s opened run w target. store-acts e f at placed s opened run w)
 
 -- a load with sign extension
-module _ (width : SignedWidth) (dst src : ℕ) (offset : ℤ) (shapes : List MapShape) (ctx_len : ℕ) (a : AbsState) (map : ℕ) (shape : MapShape) (scalar t : Scalar) where
-  signed-acts : a.regs src ≡ ValueAt map scalar → slice_get shapes map ≡ Some shape → IsAlwaysInside scalar (byte_count (unsigned_width width)) offset shape.value_len → (10 ≡ dst → ⊥) →
+module _ (width : SignedWidth) (dst src : ℕ) (offset : ℤ) (shapes : List MapShape) (ctx_len : ℕ) (a : AbsState)
+    (map : ℕ) (shape : MapShape) (scalar t : Scalar) where
+  signed-acts : a.regs src ≡ ValueAt map scalar → slice_get shapes map ≡ Some shape →
+      IsAlwaysInside scalar (byte_count (unsigned_width width)) offset shape.value_len → (10 ≡ dst → ⊥) →
       ((n : ℕ) → n < 256 ^ byte_count (unsigned_width width) → (loaded_signed width n < 2 ^ 64) × Holds t (loaded_signed width n)) →
-      (s : Maps) (opened : List Section) (run : Run) → Surrounds shapes ctx_len s opened run → Describes a (scene_of s run) run.state → Acting (LoadSigned width dst src offset) s run (with_kind dst (Num t) a) None
+      (s : Maps) (opened : List Section) (run : Run) → Surrounds shapes ctx_len s opened run →
+      Describes a (scene_of s run) run.state → Acting (LoadSigned width dst src offset) s run
+      (with_kind dst (Num t) a) None
   signed-acts e at placed ne all s opened run w d =
       let bytes : ℕ = byte_count (unsigned_width width) in
       let x : IsElementOf (scene_of s run) map scalar (run.state.regs src) = reg-is a (scene_of s run) run.state src (ValueAt map scalar) d e in
@@ -211,12 +266,27 @@ module _ (width : SignedWidth) (dst src : ℕ) (offset : ℤ) (shapes : List Map
         acts = inr (l.0, l.1, set-is 1 dst v run.state ne, refl);
         only = λ other fs h. elim h [
           | inl y ↦ absurd (none-some other (sym (ap (λ o. o >>= λ q. number q >>= λ n. sets 1 dst (Number (loaded_signed width n)) run.state) nothing) ∙ y.0))
-          | inr y ↦ (same_Some out other (sym (set-is 1 dst v run.state ne) ∙ (ap (λ n. sets 1 dst (Number (loaded_signed width n)) run.state) (same_Some l.0 y.0 (sym l.1 ∙ y.1)) ∙ y.2)), sym y.3)
+          | inr y ↦ (
+            same_Some out other (sym (set-is 1 dst v run.state ne) ∙
+                (ap (λ n. sets 1 dst (Number (loaded_signed width n)) run.state) (same_Some l.0 y.0 (sym l.1 ∙ y.1)) ∙
+                y.2)),
+            sym y.3,
+          )
         ];
         bytes = w.bytes;
-        reaches = inl (refl, refl, set-described a (scene_of s run) run.state dst (run.state.place + 1) (Num t) v d (loaded_signed width l.0, refl, fits.0, fits.1) tt);
+        reaches = inl (
+          refl,
+          refl,
+          set-described a (scene_of s run) run.state dst (run.state.place + 1) (Num t) v d
+              (loaded_signed width l.0, refl, fits.0, fits.1) tt,
+        );
       }
 
-  pub load_signed_transfers : a.regs src ≡ ValueAt map scalar → slice_get shapes map ≡ Some shape → IsAlwaysInside scalar (byte_count (unsigned_width width)) offset shape.value_len → (10 ≡ dst → ⊥) →
-      ((n : ℕ) → n < 256 ^ byte_count (unsigned_width width) → (loaded_signed width n < 2 ^ 64) × Holds t (loaded_signed width n)) → Transfers (LoadSigned width dst src offset) shapes ctx_len a (with_kind dst (Num t) a) None
-  load_signed_transfers e at placed ne all = acts-transfers (LoadSigned width dst src offset) shapes ctx_len a (with_kind dst (Num t) a) None (no-call (LoadSigned width dst src offset) refl) (λ s opened run w target. signed-acts e at placed ne all s opened run w)
+  pub load_signed_transfers : a.regs src ≡ ValueAt map scalar → slice_get shapes map ≡ Some shape →
+      IsAlwaysInside scalar (byte_count (unsigned_width width)) offset shape.value_len → (10 ≡ dst → ⊥) →
+      ((n : ℕ) → n < 256 ^ byte_count (unsigned_width width) → (loaded_signed width n < 2 ^ 64) ×
+      Holds t (loaded_signed width n)) → Transfers (LoadSigned width dst src offset) shapes ctx_len a
+      (with_kind dst (Num t) a) None
+  load_signed_transfers e at placed ne all = acts-transfers (LoadSigned width dst src offset) shapes ctx_len a
+      (with_kind dst (Num t) a) None (no-call (LoadSigned width dst src offset) refl)
+      (λ s opened run w target. signed-acts e at placed ne all s opened run w)

@@ -1,5 +1,6 @@
 -- A program with a guarded lookup is verified: the plan has a state for each of its instructions.
-use Rattle.std.proofs.Common.{◌≡◌, ℕ, zero, suc, ◌+◌, ◌-◌, ◌<◌, ◌≤◌, ◌^◌, ◌%◌, ◌/◌, List, [], ◌∷◌, Some, None, inl, inr, refl, sym, ap, subst, ◌∙◌, ℤ, pos, negsuc, arith, Bool, true, false}
+use Rattle.std.proofs.Common.{◌≡◌, ℕ, zero, suc, ◌+◌, ◌-◌, ◌<◌, ◌≤◌, ◌^◌, ◌%◌, ◌/◌, List, [], ◌∷◌, Some, None, inl}
+use Rattle.std.proofs.Common.{inr, refl, sym, ap, subst, ◌∙◌, ℤ, pos, negsuc, arith, Bool, true, false}
 use Rattle.std.specs.Prelude.{slice_get, if◌then◌else◌, ◌==◌, ◌+ℤ◌, nat_le, nat_lt}
 use Rattle.std.proofs.lemmas.Bool.{cases_eq, eq-eqb, ne_eqb}
 use Rattle.std.proofs.lemmas.Option.{none-some, same_Some}
@@ -38,7 +39,8 @@ use Rattle.scalar_domain.specs.declared.scalar.Scalar.{Scalar}
 use Rattle.typed_runs.specs.Kinds.{Kind, Blank, Num, FrameAt, MapAt, MaybeNull, CellKind, BlankCell, ByteCell, AbsState}
 use Rattle.model_laws.specs.Near.{IsNear, IsNearCell}
 use Rattle.typed_runs.specs.Describes.{Scene, Naming, Stored, HasOffset, IsOf, IsOfCell, AreNear, Describes}
-use Rattle.typed_runs.specs.Effects.{with_kind, with_cells, after_call, after_lock, after_unlock, when_null, when_there, IsFresh, IsOther, IsOtherCell, IsAlwaysInside, HasBytes}
+use Rattle.typed_runs.specs.Effects.{with_kind, with_cells, after_call, after_lock, after_unlock, when_null}
+use Rattle.typed_runs.specs.Effects.{when_there, IsFresh, IsOther, IsOtherCell, IsAlwaysInside, HasBytes}
 use Rattle.typed_runs.specs.Verified.{Plan, Transfers, ActsAlone, IsVerified}
 use Rattle.typed_runs.specs.Planned.{number_zero, origin, Wider, entry_state, IsCovered}
 use Rattle.typed_runs.proofs.Sets.{set-described}
@@ -57,25 +59,39 @@ use Rattle.bpf_model.proofs.Bytes.{within}
 use Rattle.bpf_model.proofs.Cases.{choice}
 
 -- bytes stored to the frame
-byte-cell : (c : Scene) (ρ : Naming) (σ : Stored) (b : Bool) (k n : ℕ) (cell : CellKind) (x : Cell) → n < 256 → IsOfCell c ρ σ k cell x → IsOfCell c ρ σ k (if b then ByteCell else cell) (if b then Byte n else x)
+byte-cell : (c : Scene) (ρ : Naming) (σ : Stored) (b : Bool) (k n : ℕ) (cell : CellKind) (x : Cell) → n < 256 →
+    IsOfCell c ρ σ k cell x → IsOfCell c ρ σ k (if b then ByteCell else cell) (if b then Byte n else x)
 byte-cell c ρ σ true k n cell x l h = (n, refl, l)
 byte-cell c ρ σ false k n cell x l h = h
 
 near-bytes : (m : State) (at width n : ℕ) → AreNear m.regs m.frame → AreNear m.regs (with_number at width n m.frame)
-near-bytes m at width n h = record { regs_near = h.regs_near; cells_near = λ k. choice IsNearCell (is_within at width k) (Byte (n / 256 ^ (k - at) % 256)) (m.frame k) tt (h.cells_near k) }
+near-bytes m at width n h = record {
+  regs_near = h.regs_near;
+  cells_near = λ k.
+      choice IsNearCell (is_within at width k) (Byte (n / 256 ^ (k - at) % 256)) (m.frame k) tt (h.cells_near k);
+}
 
-pub bytes-described : (a : AbsState) (c : Scene) (m : State) (at width n place : ℕ) → Describes a c m → Describes (with_cells at width ByteCell a) c (record { regs = m.regs; frame = with_number at width n m.frame; place = place })
+pub bytes-described : (a : AbsState) (c : Scene) (m : State) (at width n place : ℕ) → Describes a c m →
+    Describes (with_cells at width ByteCell a) c (record {
+      regs = m.regs;
+      frame = with_number at width n m.frame;
+      place = place;
+    })
 bytes-described a c m at width n place d = record {
   naming = d.naming;
   stored = d.stored;
   depth = d.depth;
   near = near-bytes m at width n d.near;
   regs = d.regs;
-  cells = λ k. byte-cell c d.naming d.stored (is_within at width k) k (n / 256 ^ (k - at) % 256) (a.cells k) (m.frame k) (mod_below _ 256 (omega arith)) (d.cells k);
+  cells = λ k. byte-cell c d.naming d.stored (is_within at width k) k (n / 256 ^ (k - at) % 256) (a.cells k)
+      (m.frame k) (mod_below _ 256 (omega arith)) (d.cells k);
 }
 
 -- a move, a sum: what is computed is of the kind
-computes : (i : Insn) (dst : ℕ) (kind : Kind) (v : Value) (a : AbsState) (c : Scene) (env : Environment) (m : State) → falls i ≡ true → slot_count i ≡ 1 → ((es fs : List Element) (other : Outcome) → AccessesElement i es m other fs → ⊥) → (10 ≡ dst → ⊥) → after i env m ≡ sets 1 dst v m → (d : Describes a c m) → IsOf c d.naming kind v → IsNear v → ActsAlone i (with_kind dst kind a) None c env m
+computes : (i : Insn) (dst : ℕ) (kind : Kind) (v : Value) (a : AbsState) (c : Scene) (env : Environment) (m : State) →
+    falls i ≡ true → slot_count i ≡ 1 → ((es fs : List Element) (other : Outcome) → AccessesElement i es m other fs →
+    ⊥) → (10 ≡ dst → ⊥) → after i env m ≡ sets 1 dst v m → (d : Describes a c m) → IsOf c d.naming kind v → IsNear v →
+    ActsAlone i (with_kind dst kind a) None c env m
 computes i dst kind v a c env m f one alone ne is d p n = record {
   out = Moves (record { regs = put dst v m.regs; frame = m.frame; place = m.place + 1 });
   after_is = is ∙ set-is 1 dst v m ne;
@@ -152,17 +168,24 @@ abbrev AllCovered : Plan → List Entry → Type 0
 AllCovered plan [] = Unit {0}
 AllCovered plan (e ∷ es) = (e.index < 12) × IsCovered lookup_and_load shapes 0 plan e.index e.state × AllCovered plan es
 
-each-covered : (plan : Plan) (es : List Entry) → AllCovered plan es → (k : ℕ) (a : AbsState) → find es k ≡ Some a → (k < 12) × IsCovered lookup_and_load shapes 0 plan k a
+each-covered : (plan : Plan) (es : List Entry) → AllCovered plan es → (k : ℕ) (a : AbsState) → find es k ≡ Some a →
+    (k < 12) × IsCovered lookup_and_load shapes 0 plan k a
 each-covered plan [] h k a at = absurd (none-some a at)
 each-covered plan (e ∷ es) h k a at = elim (cases_eq k e.index) [
-  | inl s ↦ subst (λ p. (p < 12) × IsCovered lookup_and_load shapes 0 plan p a) (sym s) (h.0, subst (IsCovered lookup_and_load shapes 0 plan e.index) (same_Some e.state a (sym (ap (λ b. if b then Some e.state else find es k) (eq-eqb k e.index s)) ∙ at)) h.1)
+  | inl s ↦ subst (λ p. (p < 12) × IsCovered lookup_and_load shapes 0 plan p a) (sym s) (
+    h.0,
+    subst (IsCovered lookup_and_load shapes 0 plan e.index)
+        (same_Some e.state a (sym (ap (λ b. if b then Some e.state else find es k) (eq-eqb k e.index s)) ∙ at)) h.1,
+  )
   | inr n ↦ each-covered plan es h.2 k a (sym (ap (λ b. if b then Some e.state else find es k) (ne_eqb k e.index n)) ∙ at)
 ]
 
 no-jump : (i : Insn) (by : ℤ) → distance i ≡ None → distance i ≡ Some by → ⊥
 no-jump i by e j = none-some by (sym e ∙ j)
 
-covered : (plan : Plan) (i : Insn) (k : ℕ) (a new b : AbsState) → slice_get lookup_and_load k ≡ Some i → Transfers i shapes 0 a new None → distance i ≡ None → plan (suc k) ≡ Some b → Wider new b → IsCovered lookup_and_load shapes 0 plan k a
+covered : (plan : Plan) (i : Insn) (k : ℕ) (a new b : AbsState) → slice_get lookup_and_load k ≡ Some i →
+    Transfers i shapes 0 a new None → distance i ≡ None → plan (suc k) ≡ Some b → Wider new b →
+    IsCovered lookup_and_load shapes 0 plan k a
 covered plan i k a new b at t e next wide = record {
   insn = i;
   there = at;
@@ -197,7 +220,8 @@ module _ (any : Scalar) (all : (n : ℕ) → n < 2 ^ 64 → Holds any n) where
 
   t0 : Transfers (Alu Move Word64 6 (Immediate (pos 0))) shapes 0 (s0 any) (s1 any) None
   t0 = alone_transfers (Alu Move Word64 6 (Immediate (pos 0))) shapes 0 (s0 any) (s1 any) None refl (λ c env m w target d.
-      computes (Alu Move Word64 6 (Immediate (pos 0))) 6 (Num number_zero) (Number 0) (s0 any) c env m refl refl (λ es fs other h. h) (λ e. omega arith) refl d (0, refl, omega arith, zero_holds) tt)
+      computes (Alu Move Word64 6 (Immediate (pos 0))) 6 (Num number_zero) (Number 0) (s0 any) c env m refl refl
+      (λ es fs other h. h) (λ e. omega arith) refl d (0, refl, omega arith, zero_holds) tt)
 
   t1 : Transfers (Call Kernel (pos 1)) shapes 0 (s1 any) (s2 any) None
   t1 = lock_transfers (pos 1) shapes 0 (s1 any) refl (omega arith)
@@ -214,13 +238,15 @@ module _ (any : Scalar) (all : (n : ℕ) → n < 2 ^ 64 → Holds any n) where
   t3 : Transfers (Alu Move Word64 2 (Register 10)) shapes 0 (s3 any) (s4 any) None
   t3 = alone_transfers (Alu Move Word64 2 (Register 10)) shapes 0 (s3 any) (s4 any) None refl (λ c env m w target d.
       let base : m.regs 10 ≡ Pointer (Frame (pos FRAME_BYTES)) = reg-is (s3 any) c m 10 (FrameAt (pos FRAME_BYTES)) d refl in
-      computes (Alu Move Word64 2 (Register 10)) 2 (FrameAt (pos FRAME_BYTES)) (Pointer (Frame (pos FRAME_BYTES))) (s3 any) c env m refl refl (λ es fs other h. h) (λ e. omega arith)
+      computes (Alu Move Word64 2 (Register 10)) 2 (FrameAt (pos FRAME_BYTES)) (Pointer (Frame (pos FRAME_BYTES)))
+      (s3 any) c env m refl refl (λ es fs other h. h) (λ e. omega arith)
       (ap (λ v. computed Word64 Move (m.regs 2) v >>= λ y. sets 1 2 y m) base) d refl (omega arith))
 
   t4 : Transfers (Alu Add Word64 2 (Immediate (negsuc 3))) shapes 0 (s4 any) (s5 any) None
   t4 = alone_transfers (Alu Add Word64 2 (Immediate (negsuc 3))) shapes 0 (s4 any) (s5 any) None refl (λ c env m w target d.
       let base : m.regs 2 ≡ Pointer (Frame (pos FRAME_BYTES)) = reg-is (s4 any) c m 2 (FrameAt (pos FRAME_BYTES)) d refl in
-      computes (Alu Add Word64 2 (Immediate (negsuc 3))) 2 (FrameAt (pos 508)) (Pointer (Frame (pos 508))) (s4 any) c env m refl refl (λ es fs other h. h) (λ e. omega arith)
+      computes (Alu Add Word64 2 (Immediate (negsuc 3))) 2 (FrameAt (pos 508)) (Pointer (Frame (pos 508))) (s4 any) c
+      env m refl refl (λ es fs other h. h) (λ e. omega arith)
       (ap (λ v. computed Word64 Add v (Number (immediate (negsuc 3))) >>= λ y. sets 1 2 y m) base) d refl (omega arith))
 
   t5 : Transfers (LoadMap 1 (pos 0)) shapes 0 (s5 any) (s7 any) None
@@ -233,7 +259,10 @@ module _ (any : Scalar) (all : (n : ℕ) → n < 2 ^ 64 → Holds any n) where
 
   fresh : IsFresh 0 (s7 any)
   fresh = record {
-    regs = λ r. choice (IsOther 0) (r == 1) _ _ tt (choice (IsOther 0) (r == 2) _ _ tt (choice (IsOther 0) (r == 2) _ _ tt (choice (IsOther 0) (r == 0) _ _ tt (choice (IsOther 0) (nat_le r 5) _ _ tt (choice (IsOther 0) (r == 6) _ _ tt (choice (IsOther 0) (r == 1) _ _ tt (choice (IsOther 0) (r == 10) _ _ tt tt)))))));
+    regs = λ r. choice (IsOther 0) (r == 1) _ _ tt (choice (IsOther 0) (r == 2) _ _ tt
+        (choice (IsOther 0) (r == 2) _ _ tt (choice (IsOther 0) (r == 0) _ _ tt
+        (choice (IsOther 0) (nat_le r 5) _ _ tt (choice (IsOther 0) (r == 6) _ _ tt
+        (choice (IsOther 0) (r == 1) _ _ tt (choice (IsOther 0) (r == 10) _ _ tt tt)))))));
     cells = λ k. choice (IsOtherCell 0) (is_within 508 4 k) _ _ tt tt;
   }
 
@@ -275,14 +304,17 @@ module _ (any : Scalar) (all : (n : ℕ) → n < 2 ^ 64 → Holds any n) where
     depth = d.depth ∙ into;
     near = d.near;
     regs = λ r. elim (cases_eq r 6) [
-      | inl e ↦ subst (λ b. IsOf c d.naming (if b then Num any else Blank) (m.regs r)) (sym (eq-eqb r 6 e)) (subst (λ q. IsOf c d.naming (Num any) (m.regs q)) (sym e) (f c m d))
+      | inl e ↦ subst (λ b. IsOf c d.naming (if b then Num any else Blank) (m.regs r)) (sym (eq-eqb r 6 e))
+          (subst (λ q. IsOf c d.naming (Num any) (m.regs q)) (sym e) (f c m d))
       | inr n ↦ subst (λ b. IsOf c d.naming (if b then Num any else Blank) (m.regs r)) (sym (ne_eqb r 6 n)) tt
     ];
     cells = λ k. tt;
   }
 
   from-null : Wider (when_null 0 number_zero (s8 any)) (s10 any)
-  from-null = wide-ten (when_null 0 number_zero (s8 any)) refl (λ c m d. let n = reg-is (when_null 0 number_zero (s8 any)) c m 6 (Num number_zero) d refl in (n.0, n.1, n.2, all n.0 n.2))
+  from-null = wide-ten (when_null 0 number_zero (s8 any)) refl
+      (λ c m d. let n = reg-is (when_null 0 number_zero (s8 any)) c m 6 (Num number_zero) d
+      refl in (n.0, n.1, n.2, all n.0 n.2))
 
   from-load : Wider (with_kind 6 (Num any) (s9 any)) (s10 any)
   from-load = wide-ten (with_kind 6 (Num any) (s9 any)) refl (λ c m d. reg-is (with_kind 6 (Num any) (s9 any)) c m 6 (Num any) d refl)
@@ -367,13 +399,23 @@ module _ (any : Scalar) (all : (n : ℕ) → n < 2 ^ 64 → Holds any n) where
     });
   }
 
-bound-one : (i : ℕ) (shape : MapShape) → slice_get shapes i ≡ Some shape → (map : ℕ) × (state : MapState) × (slice_get (0 ∷ []) i ≡ Some map) × (slice_get (new_map example_shape ∷ []) map ≡ Some state) × (state.shape ≡ shape)
+bound-one : (i : ℕ) (shape : MapShape) → slice_get shapes i ≡ Some shape → (map : ℕ) × (state : MapState) ×
+    (slice_get (0 ∷ []) i ≡ Some map) × (slice_get (new_map example_shape ∷ []) map ≡ Some state) ×
+    (state.shape ≡ shape)
 bound-one zero shape at = (0, new_map example_shape, refl, refl, same_Some example_shape shape at)
 bound-one (suc i) shape at = absurd (none-some shape at)
 
-pub safe-one : (any : Scalar) → ((n : ℕ) → n < 2 ^ 64 → Holds any n) → (p : ℕ) (program : Loaded) → slice_get (lookup_program ∷ []) p ≡ Some program → IsVerifiedFor (new_map example_shape ∷ []) program
-safe-one any all zero program at = subst (IsVerifiedFor (new_map example_shape ∷ [])) (same_Some lookup_program program at) (record { shapes = shapes; bound = record { count = refl; each = bound-one }; verified = lookup_is_verified any all })
+pub safe-one : (any : Scalar) → ((n : ℕ) → n < 2 ^ 64 → Holds any n) → (p : ℕ) (program : Loaded) →
+    slice_get (lookup_program ∷ []) p ≡ Some program → IsVerifiedFor (new_map example_shape ∷ []) program
+safe-one any all zero program at = subst (IsVerifiedFor (new_map example_shape ∷ []))
+    (same_Some lookup_program program at) (record {
+      shapes = shapes;
+      bound =
+          record { count = refl; each = bound-one };
+      verified = lookup_is_verified any all;
+    })
 safe-one any all (suc p) program at = absurd (none-some program at)
 
-pub lookup_never_stuck : (any : Scalar) → ((n : ℕ) → n < 2 ^ 64 → Holds any n) → (s : Schedule) → IsReachedSchedule (example_shape ∷ []) (lookup_program ∷ []) s → NeverStuck s.machine
+pub lookup_never_stuck : (any : Scalar) → ((n : ℕ) → n < 2 ^ 64 → Holds any n) → (s : Schedule) →
+    IsReachedSchedule (example_shape ∷ []) (lookup_program ∷ []) s → NeverStuck s.machine
 lookup_never_stuck any all s r = well_never_stuck s.machine (reached_is_well (example_shape ∷ []) (lookup_program ∷ []) s (safe-one any all) r)

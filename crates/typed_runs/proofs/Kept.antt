@@ -17,11 +17,13 @@ use Rattle.model_laws.specs.Consistent.{IsConsistent}
 use Rattle.model_laws.proofs.Sections.{has_open}
 use Rattle.model_laws.specs.Consistent.{IsSingle}
 use Rattle.model_laws.proofs.Stores.{LifeMoves, Stays, Unlinks, Ends, Alters, Touches, KeepsShapes, AllLengths, StoreMoves, is_reap, does-moves, moves-insn}
-use Rattle.typed_runs.specs.Kinds.{Kind, Blank, Mixed, Ended, Num, CtxAt, FrameAt, MapAt, ValueAt, MaybeNull, CellKind, BlankCell, MixedCell, EndedCell, ByteCell, PartCell, AbsState}
+use Rattle.typed_runs.specs.Kinds.{Kind, Blank, Mixed, Ended, Num, CtxAt, FrameAt, MapAt, ValueAt, MaybeNull}
+use Rattle.typed_runs.specs.Kinds.{CellKind, BlankCell, MixedCell, EndedCell, ByteCell, PartCell, AbsState}
 use Rattle.typed_runs.specs.Describes.{Scene, scene_of, IsGuarded, IsHeld, Naming, IsNullOrHeld, IsOf, Stored, IsOfCell, Describes}
 use Rattle.typed_runs.proofs.Arrays.{array-kept}
 
-guarded-later : (reap : Bool) (opened : List Section) (old new : Life) (s : Section) → Has opened s → LifeMoves reap opened old new → IsGuarded old s → IsGuarded new s
+guarded-later : (reap : Bool) (opened : List Section) (old new : Life) (s : Section) → Has opened s →
+    LifeMoves reap opened old new → IsGuarded old s → IsGuarded new s
 guarded-later reap opened old new s h (Stays e) g = subst (λ l. IsGuarded l s) (sym e) g
 guarded-later reap opened old new s h (Unlinks l e) g = subst (λ x. IsGuarded x s) (sym e) h
 guarded-later reap opened old new s h (Ends since r l ended e) g = absurd (ended s (subst (λ x. IsGuarded x s) l g) h)
@@ -55,8 +57,15 @@ module _ (reap : Bool) (opened : List Section) (s new : Store) (run : Run) (in_s
   pub keeps-moves : StoreMoves reap opened s new → Keeps (scene_of s run) (scene_of new run)
   keeps-moves mv = record { held = held-forth mv.forth mv.shapes; depth = refl }
 
-pub keeps-touches : (reap : Bool) (opened : List Section) (s : Store) (es : List Element) (run : Run) → (0 < run.depth → Has opened (section_of run)) → Touches reap opened s.elements es → Keeps (scene_of s run) (scene_of (with_elements es s) run)
-keeps-touches reap opened s es run in_section t = record { held = held-forth reap opened s (with_elements es s) run in_section t.forth (λ k state at. (state, at, refl)); depth = refl }
+pub keeps-touches : (reap : Bool) (opened : List Section) (s : Store) (es : List Element) (run : Run) →
+    (0 < run.depth → Has opened (section_of run)) → Touches reap opened s.elements es →
+    Keeps (scene_of s run) (scene_of (with_elements es s) run)
+keeps-touches reap opened s es run in_section t = record {
+  held =
+      held-forth reap opened s (with_elements es s) run in_section t.forth (λ k state at. (state, at, refl));
+  depth =
+      refl;
+}
 
 module _ (c d : Scene) (k : HoldsOn c d) where
   null-kept : (map : ℕ) (o : Option ℕ) → IsNullOrHeld c map o → IsNullOrHeld d map o
@@ -92,13 +101,18 @@ describes-kept c d k a m h = record {
 }
 
 -- whatever event comes, its own step too: what describes the run describes it among the elements after it
-pub stays_described : (m new : Machine) (event : Event) (answer : Answer) (r : ℕ) (run : Run) (a : AbsState) → IsConsistent m → DoesEvent m event answer new → run_at m.runs r ≡ Some run →
+pub stays_described : (m new : Machine) (event : Event) (answer : Answer) (r : ℕ) (run : Run) (a : AbsState) →
+    IsConsistent m → DoesEvent m event answer new → run_at m.runs r ≡ Some run →
     Describes a (scene_of m.store run) run.state → Describes a (scene_of new.store run) run.state
 stays_described m new event answer r run a w h at d =
     describes-kept (scene_of m.store run) (scene_of new.store run)
-    (keeps-moves (is_reap event) (open_sections m.runs) m.store new.store run (λ inside. has_open m.runs r run at inside) (does-moves m new event answer w.single w.lengths h)) a run.state d
+    (keeps-moves (is_reap event) (open_sections m.runs) m.store new.store run
+    (λ inside. has_open m.runs r run at inside) (does-moves m new event answer w.single w.lengths h)) a run.state
+    d
 
 -- an instruction's step keeps what the run's scene holds, and its depth
-pub insn-keeps : (i : Insn) (s : Store) (opened : List Section) (run : Run) (answer : Answer) (new : Store) (new_run : Run) → IsSingle s.elements → AllLengths s → (0 < run.depth → Has opened (section_of run)) →
+pub insn-keeps : (i : Insn) (s : Store) (opened : List Section) (run : Run) (answer : Answer) (new : Store)
+    (new_run : Run) → IsSingle s.elements → AllLengths s → (0 < run.depth → Has opened (section_of run)) →
     InsnStep i s opened run answer new new_run → Keeps (scene_of s run) (scene_of new run)
-insn-keeps i s opened run answer new new_run single lengths in_section h = keeps-moves _ opened s new run in_section (moves-insn i s opened run answer new new_run single lengths h)
+insn-keeps i s opened run answer new new_run single lengths in_section h =
+    keeps-moves _ opened s new run in_section (moves-insn i s opened run answer new new_run single lengths h)

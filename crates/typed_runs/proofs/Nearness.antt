@@ -22,17 +22,23 @@ use Rattle.typed_runs.proofs.Reaching.{reached_is_well, well_along, all-states}
 pub well_is_near : (m : Machine) → IsWell m → IsNearMachine m
 well_is_near m w r run at going = let t = w.runs r run at going in (t.planned t.safe.verified).describes.near
 
-pub tracked_is_near : (w : WorldView) (events : List Event) (answers : List Answer) → AreVerified (shapes_of w) w.programs → AreReal events → (m : Machine) → Tracks w m → (states : List Machine) → IsHistory m events answers states → AllStates IsNearMachine (m ∷ states)
+pub tracked_is_near : (w : WorldView) (events : List Event) (answers : List Answer) →
+    AreVerified (shapes_of w) w.programs → AreReal events → (m : Machine) → Tracks w m → (states : List Machine) →
+    IsHistory m events answers states → AllStates IsNearMachine (m ∷ states)
 tracked_is_near w events answers safe real m t states h =
-    all-states IsWell IsNearMachine (m ∷ states) well_is_near (well_along m events answers states (subst IsWell t.1 (reached_is_well (shapes_of w) w.programs t.0 safe t.2.reached)) real h)
+    all-states IsWell IsNearMachine (m ∷ states) well_is_near
+    (well_along m events answers states (subst IsWell t.1
+    (reached_is_well (shapes_of w) w.programs t.0 safe t.2.reached)) real h)
 
-near-location : (slots : List ℕ) (es : List Element) (r : Reference) → IsNearReference r → IsWithinLimits slots es r → IsNearLocation (named_location slots es r)
+near-location : (slots : List ℕ) (es : List Element) (r : Reference) → IsNearReference r → IsWithinLimits slots es r →
+    IsNearLocation (named_location slots es r)
 near-location slots es (Ctx o) n l = n
 near-location slots es (Frame o) n l = n
 near-location slots es (MapRef map) n l = l
 near-location slots es (Elem b o) n l = (l.0, l.1, n)
 
-pub near_references_differ : (slots : List ℕ) (es : List Element) (r q : Reference) (w : ℕ) → IsNearReference r → IsNearReference q → IsWithinLimits slots es r → IsWithinLimits slots es q →
+pub near_references_differ : (slots : List ℕ) (es : List Element) (r q : Reference) (w : ℕ) → IsNearReference r →
+    IsNearReference q → IsWithinLimits slots es r → IsWithinLimits slots es q →
     IsReferenceWord (element_bases slots es) r w → IsReferenceWord (element_bases slots es) q w → named_location slots es r ≡ named_location slots es q
 near_references_differ slots es r q w n o l k a b =
     near_words_differ (named_location slots es r) (named_location slots es q) (near-location slots es r n l) (near-location slots es q o k)

@@ -1,5 +1,7 @@
 -- References in the frame: a group of eight cells holds what was stored there last.
-use Rattle.std.proofs.Common.{◌≡◌, ◌≢◌, ℕ, zero, suc, ◌+◌, ◌-◌, ◌*◌, ◌<◌, ◌≤◌, ◌^◌, ◌%◌, ◌/◌, List, Option, Some, None, ◌⊎◌, inl, inr, refl, sym, ap, subst, ◌∙◌, ℤ, pos, negsuc, arith, Bool, true, false}
+use Rattle.std.proofs.Common.{◌≡◌, ◌≢◌, ℕ, zero, suc, ◌+◌, ◌-◌, ◌*◌, ◌<◌, ◌≤◌, ◌^◌, ◌%◌, ◌/◌, List, Option, Some}
+use Rattle.std.proofs.Common.{None, ◌⊎◌, inl, inr, refl, sym, ap, subst, ◌∙◌, ℤ, pos, negsuc, arith, Bool, true}
+use Rattle.std.proofs.Common.{false}
 use Rattle.std.specs.Prelude.{if◌then◌else◌, ◌==◌, ◌&&◌, ◌+ℤ◌, nat_le, nat_lt}
 use Rattle.std.specs.Ordering.{int_eq}
 use Rattle.std.proofs.lemmas.Bool.{cases_lt, eq-eqb, ne_eqb, le-leb, lt-leb, lt-ltb, le-ltb, eqb-true}
@@ -30,7 +32,8 @@ use Rattle.bpf_model.specs.Machine.{Run, environment}
 use Rattle.model_laws.specs.ByKind.{element_load, element_store}
 use Rattle.bpf_model.specs.Request.{found_value}
 use Rattle.bpf_model.specs.Real.{AllBytes}
-use Rattle.typed_runs.specs.Kinds.{Kind, Blank, Mixed, Ended, Num, CtxAt, FrameAt, MapAt, ValueAt, MaybeNull, CellKind, BlankCell, MixedCell, EndedCell, ByteCell, PartCell, AbsState}
+use Rattle.typed_runs.specs.Kinds.{Kind, Blank, Mixed, Ended, Num, CtxAt, FrameAt, MapAt, ValueAt, MaybeNull}
+use Rattle.typed_runs.specs.Kinds.{CellKind, BlankCell, MixedCell, EndedCell, ByteCell, PartCell, AbsState}
 use Rattle.model_laws.specs.Near.{IsNear, IsNearCell}
 use Rattle.bpf_model.proofs.Cases.{choice}
 use Rattle.typed_runs.specs.Describes.{Scene, scene_of, Naming, IsOf, Stored, part_of, IsOfCell, AreNear, Describes}
@@ -107,7 +110,9 @@ module _ (c : Scene) (ρ : Naming) (σ : Stored) (at : ℕ) (v : Value) (kind : 
   moved-cell k ByteCell x e h = h
   moved-cell k (PartCell other) x e h = subst (λ (y : Value). (x ≡ part_of (k % 8) y) × IsOf c ρ other y) (sym e) h
 
-  spilled-cell : (k : ℕ) (cell : CellKind) (x : Cell) → IsOf c ρ kind v → Where at k → IsOfCell c ρ σ k cell x → IsOfCell c ρ (put (at / 8) v σ) k (if is_within at 8 k then PartCell kind else cell) (if is_within at 8 k then part_of (k - at) v else x)
+  spilled-cell : (k : ℕ) (cell : CellKind) (x : Cell) → IsOf c ρ kind v → Where at k → IsOfCell c ρ σ k cell x →
+      IsOfCell c ρ (put (at / 8) v σ) k (if is_within at 8 k then PartCell kind else cell)
+      (if is_within at 8 k then part_of (k - at) v else x)
   spilled-cell k cell x p (inl w) h =
       let here : put (at / 8) v σ (k / 8) ≡ v = ap (λ b. if b then v else σ (k / 8)) (eq-eqb (k / 8) (at / 8) w.1) in
       subst (λ b. IsOfCell c ρ (put (at / 8) v σ) k (if b then PartCell kind else cell) (if b then part_of (k - at) v else x)) (sym w.0)
@@ -128,9 +133,20 @@ part-near i (Number n) h = tt
 part-near i (Pointer r) h = h
 
 near-spilled : (at : ℕ) (v : Value) (m : State) → IsNear v → AreNear m.regs m.frame → AreNear m.regs (with_value at v m.frame)
-near-spilled at v m p h = record { regs_near = h.regs_near; cells_near = λ k. choice IsNearCell (is_within at 8 k) (part_of (k - at) v) (m.frame k) (near-part (k - at) v p) (h.cells_near k) }
+near-spilled at v m p h = record {
+  regs_near = h.regs_near;
+  cells_near = λ k.
+      choice IsNearCell (is_within at 8 k) (part_of (k - at) v) (m.frame k) (near-part (k - at) v p) (h.cells_near k);
+}
 
-spilled-described : (a : AbsState) (c : Scene) (m : State) (at place : ℕ) (kind : Kind) (v : Value) → at % 8 ≡ 0 → (d : Describes a c m) → IsOf c d.naming kind v → IsNear v → Describes (with_cells at 8 (PartCell kind) a) c (record { regs = m.regs; frame = with_value at v m.frame; place = place })
+spilled-described : (a : AbsState) (c : Scene) (m : State) (at place : ℕ) (kind : Kind) (v : Value) → at % 8 ≡ 0 →
+    (d : Describes a c m) → IsOf c d.naming kind v → IsNear v →
+    Describes (with_cells at 8 (PartCell kind) a) c (record {
+      regs = m.regs;
+      frame = with_value at v m.frame;
+      place =
+          place;
+    })
 spilled-described a c m at place kind v e d p n = record {
   naming = d.naming;
   stored = put (at / 8) v d.stored;
@@ -141,26 +157,47 @@ spilled-described a c m at place kind v e d p n = record {
 }
 
 -- a reference to the run's own context or frame reaches no element
-pub no-element : (es : List Element) (width : ℕ) (offset : ℤ) (v base : Value) (r : Reference) (new : List Element) → IsOwn r → base ≡ Pointer r → element_store es width offset v base ≡ Some new → ⊥
+pub no-element : (es : List Element) (width : ℕ) (offset : ℤ) (v base : Value) (r : Reference) (new : List Element) →
+    IsOwn r → base ≡ Pointer r → element_store es width offset v base ≡ Some new → ⊥
 no-element es width offset v base r new own e h = store-own es new width offset v base (subst (HoldsValue IsOwn) (sym e) own) h
 
-pub no-element-load : (es : List Element) (width : ℕ) (offset : ℤ) (base : Value) (r : Reference) (n : ℕ) → IsOwn r → base ≡ Pointer r → element_load es width offset base ≡ Some n → ⊥
+pub no-element-load : (es : List Element) (width : ℕ) (offset : ℤ) (base : Value) (r : Reference) (n : ℕ) → IsOwn r →
+    base ≡ Pointer r → element_load es width offset base ≡ Some n → ⊥
 no-element-load es width offset base r n own e h = load-own es width offset base n (subst (HoldsValue IsOwn) (sym e) own) h
 
 module _ (dst src : ℕ) (offset o : ℤ) (at : ℕ) (shapes : List MapShape) (ctx_len : ℕ) (a : AbsState) (kind : Kind) where
-  spill-acts : a.regs dst ≡ FrameAt o → region_offset FRAME_BYTES 8 (o +ℤ offset) ≡ Some at → a.regs src ≡ kind → IsWritten kind → (s : Maps) (run : Run) → AllBytes s.elements → Describes a (scene_of s run) run.state →
+  spill-acts : a.regs dst ≡ FrameAt o → region_offset FRAME_BYTES 8 (o +ℤ offset) ≡ Some at → a.regs src ≡ kind →
+      IsWritten kind → (s : Maps) (run : Run) → AllBytes s.elements → Describes a (scene_of s run) run.state →
       Acting (Store Eight dst offset (Register src)) s run (with_cells at 8 (PartCell kind) a) None
   spill-acts e p f w s run bytes d =
       let base : run.state.regs dst ≡ Pointer (Frame o) = reg-is a (scene_of s run) run.state dst (FrameAt o) d e in
       let v = reg-is a (scene_of s run) run.state src kind d f in
       let goes : (ℕ → Cell) → Option Outcome = λ frame. Some (Moves (record { regs = run.state.regs; frame = frame; place = run.state.place + 1 })) in
-      by-itself (Store Eight dst offset (Register src)) s run (with_cells at 8 (PartCell kind) a) None (Moves (record { regs = run.state.regs; frame = with_value at (run.state.regs src) run.state.frame; place = run.state.place + 1 })) bytes
-      (ap (store_to run.state 8 offset (run.state.regs src)) base ∙ (ap (λ q. q >>= λ k. frame_after k 8 (run.state.regs src) run.state.frame >>= goes) p ∙ ap (λ q. q >>= goes) (frame-is at (run.state.regs src) run.state.frame (written (scene_of s run) d.naming kind (run.state.regs src) w v))))
+      by-itself (Store Eight dst offset (Register src)) s run (with_cells at 8 (PartCell kind) a) None
+      (Moves (record {
+        regs = run.state.regs;
+        frame = with_value at (run.state.regs src) run.state.frame;
+        place =
+            run.state.place + 1;
+      })) bytes
+      (ap (store_to run.state 8 offset (run.state.regs src)) base ∙
+      (ap (λ q. q >>= λ k. frame_after k 8 (run.state.regs src) run.state.frame >>= goes) p ∙
+      ap (λ q. q >>= goes) (frame-is at (run.state.regs src) run.state.frame
+      (written (scene_of s run) d.naming kind (run.state.regs src) w v))))
       (λ other fs h. no-element s.elements 8 offset (run.state.regs src) (run.state.regs dst) (Frame o) fs tt base h.0)
-      (inl (refl, refl, spilled-described a (scene_of s run) run.state at (run.state.place + 1) kind (run.state.regs src) (aligned (o +ℤ offset) at p) d v (d.near.regs_near src)))
+      (inl (
+        refl,
+        refl,
+        spilled-described a (scene_of s run) run.state at (run.state.place + 1) kind
+            (run.state.regs src) (aligned (o +ℤ offset) at p) d v (d.near.regs_near src),
+      ))
 
-  pub spill_transfers : a.regs dst ≡ FrameAt o → region_offset FRAME_BYTES 8 (o +ℤ offset) ≡ Some at → a.regs src ≡ kind → IsWritten kind → Transfers (Store Eight dst offset (Register src)) shapes ctx_len a (with_cells at 8 (PartCell kind) a) None
-  spill_transfers e p f w = acts-transfers (Store Eight dst offset (Register src)) shapes ctx_len a (with_cells at 8 (PartCell kind) a) None (no-call (Store Eight dst offset (Register src)) refl) (λ s opened run x t d. spill-acts e p f w s run x.bytes d)
+  pub spill_transfers : a.regs dst ≡ FrameAt o → region_offset FRAME_BYTES 8 (o +ℤ offset) ≡ Some at →
+      a.regs src ≡ kind → IsWritten kind → Transfers (Store Eight dst offset (Register src)) shapes ctx_len a
+      (with_cells at 8 (PartCell kind) a) None
+  spill_transfers e p f w = acts-transfers (Store Eight dst offset (Register src)) shapes ctx_len a
+      (with_cells at 8 (PartCell kind) a) None (no-call (Store Eight dst offset (Register src)) refl)
+      (λ s opened run x t d. spill-acts e p f w s run x.bytes d)
 
 -- eight parts are read back
 same-int : (o : ℤ) → int_eq o o ≡ true
@@ -191,7 +228,8 @@ zeros-are bytes zero at h = refl
 zeros-are bytes (suc n) at h =
     let here : at + 0 ≡ at = omega arith in
     ap (λ o. o >>= λ low. number_at bytes (suc at) n >>= λ high. Some (low + 256 * high)) (ap bytes (sym here) ∙ h 0 (omega arith))
-    ∙ ap (λ o. o >>= λ high. Some (0 + 256 * high)) (zeros-are bytes n (suc at) (λ j l. let x : suc at + j ≡ at + suc j = omega arith in ap bytes x ∙ h (suc j) (omega arith)))
+    ∙ ap (λ o. o >>= λ high. Some (0 + 256 * high)) (zeros-are bytes n (suc at)
+    (λ j l. let x : suc at + j ≡ at + suc j = omega arith in ap bytes x ∙ h (suc j) (omega arith)))
 
 zero-part : (i : ℕ) → part_of i (Number 0) ≡ Byte 0
 zero-part i =
@@ -228,11 +266,15 @@ read-back frame at v (inr x) h =
     let here : at + 0 ≡ at = omega arith in
     let cell : (j : ℕ) → j < 8 → frame (at + j) ≡ Part j x.0 = λ j l. h j l ∙ ap (part_of j) x.1 in
     ap (found frame at 8) (ap frame (sym here) ∙ cell 0 (omega arith))
-    ∙ (ap (λ b. if b then Some (Pointer x.0) else None) (parts-are x.0 frame 8 0 at (λ j l. let z : j ≡ 0 + j = omega arith in cell j l ∙ ap (λ k. Part k x.0) z)) ∙ ap Some (sym x.1))
+    ∙ (ap (λ b. if b then Some (Pointer x.0) else None)
+    (parts-are x.0 frame 8 0 at (λ j l. let z : j ≡ 0 + j = omega arith in cell j l ∙ ap (λ k. Part k x.0) z)) ∙
+    ap Some (sym x.1))
 
 module _ (dst src : ℕ) (offset o : ℤ) (at : ℕ) (shapes : List MapShape) (ctx_len : ℕ) (a : AbsState) (kind : Kind) where
-  fill-acts : a.regs src ≡ FrameAt o → region_offset FRAME_BYTES 8 (o +ℤ offset) ≡ Some at → ((j : ℕ) → j < 8 → a.cells (at + j) ≡ PartCell kind) → IsPointer kind → (10 ≡ dst → ⊥) →
-      (s : Maps) (run : Run) → AllBytes s.elements → Describes a (scene_of s run) run.state → Acting (Load Eight dst src offset) s run (with_kind dst kind a) None
+  fill-acts : a.regs src ≡ FrameAt o → region_offset FRAME_BYTES 8 (o +ℤ offset) ≡ Some at →
+      ((j : ℕ) → j < 8 → a.cells (at + j) ≡ PartCell kind) → IsPointer kind → (10 ≡ dst → ⊥) →
+      (s : Maps) (run : Run) → AllBytes s.elements → Describes a (scene_of s run) run.state →
+      Acting (Load Eight dst src offset) s run (with_kind dst kind a) None
   fill-acts e p cells w ne s run bytes d =
       let m : State = run.state in
       let c : Scene = scene_of s run in
@@ -246,10 +288,20 @@ module _ (dst src : ℕ) (offset o : ℤ) (at : ℕ) (shapes : List MapShape) (c
       (h.0 ∙ (ap (λ k. part_of k (d.stored ((at + j) / 8))) i ∙ ap (λ k. part_of j (d.stored k)) g), subst (λ k. IsOf c d.naming kind (d.stored k)) g h.1) in
       let of_kind : IsOf c d.naming kind v = (part 0 (omega arith)).1 in
       let reads : read m.frame at 8 ≡ Some v = read-back m.frame at v (pointer-value c d.naming kind v w of_kind) (λ j l. (part j l).0) in
-      by-itself (Load Eight dst src offset) s run (with_kind dst kind a) None (Moves (record { regs = put dst v m.regs; frame = m.frame; place = m.place + 1 })) bytes
-      (ap (λ q. q >>= λ y. sets 1 dst y m) (ap (load_from (environment run) m 8 offset) base ∙ (ap (λ q. q >>= λ k. read m.frame k 8) p ∙ reads)) ∙ set-is 1 dst v m ne)
+      by-itself (Load Eight dst src offset) s run (with_kind dst kind a) None
+      (Moves (record { regs = put dst v m.regs; frame = m.frame; place = m.place + 1 })) bytes
+      (ap (λ q. q >>= λ y. sets 1 dst y m) (ap (load_from (environment run) m 8 offset) base ∙
+      (ap (λ q. q >>= λ k. read m.frame k 8) p ∙ reads)) ∙ set-is 1 dst v m ne)
       (λ other fs h. no-element-load s.elements 8 offset (m.regs src) (Frame o) h.0 tt base h.1)
-      (inl (refl, refl, set-described a c m dst (m.place + 1) kind v d of_kind (part-near 0 v (subst IsNearCell (part 0 (omega arith)).0 (d.near.cells_near (at + 0))))))
+      (inl (
+        refl,
+        refl,
+        set-described a c m dst (m.place + 1) kind v d of_kind
+            (part-near 0 v (subst IsNearCell (part 0 (omega arith)).0 (d.near.cells_near (at + 0)))),
+      ))
 
-  pub fill_transfers : a.regs src ≡ FrameAt o → region_offset FRAME_BYTES 8 (o +ℤ offset) ≡ Some at → ((j : ℕ) → j < 8 → a.cells (at + j) ≡ PartCell kind) → IsPointer kind → (10 ≡ dst → ⊥) → Transfers (Load Eight dst src offset) shapes ctx_len a (with_kind dst kind a) None
-  fill_transfers e p cells w ne = acts-transfers (Load Eight dst src offset) shapes ctx_len a (with_kind dst kind a) None (no-call (Load Eight dst src offset) refl) (λ s opened run x t d. fill-acts e p cells w ne s run x.bytes d)
+  pub fill_transfers : a.regs src ≡ FrameAt o → region_offset FRAME_BYTES 8 (o +ℤ offset) ≡ Some at →
+      ((j : ℕ) → j < 8 → a.cells (at + j) ≡ PartCell kind) → IsPointer kind → (10 ≡ dst → ⊥) →
+      Transfers (Load Eight dst src offset) shapes ctx_len a (with_kind dst kind a) None
+  fill_transfers e p cells w ne = acts-transfers (Load Eight dst src offset) shapes ctx_len a (with_kind dst kind a)
+      None (no-call (Load Eight dst src offset) refl) (λ s opened run x t d. fill-acts e p cells w ne s run x.bytes d)

@@ -31,11 +31,13 @@ bytes-set es n f h b k e at = elim (get-set_cases es n k f e at) [
   | inr x ↦ h k e x.1
 ]
 
-bytes-set_to : (f : Element → Element) (es : List Element) (n : ℕ) (o : Option Element) → AllBytes es → ((e : Element) → o ≡ Some e → AreBytes (f e).value) → AllBytes (set_to f es n o)
+bytes-set_to : (f : Element → Element) (es : List Element) (n : ℕ) (o : Option Element) → AllBytes es →
+    ((e : Element) → o ≡ Some e → AreBytes (f e).value) → AllBytes (set_to f es n o)
 bytes-set_to f es n None h b = h
 bytes-set_to f es n (Some e) h b = bytes-set es n (f e) h (b e refl)
 
-pub bytes-changed : (f : Element → Element) (es : List Element) (n : ℕ) → AllBytes es → ((e : Element) → slice_get es n ≡ Some e → AreBytes (f e).value) → AllBytes (changed f es n)
+pub bytes-changed : (f : Element → Element) (es : List Element) (n : ℕ) → AllBytes es →
+    ((e : Element) → slice_get es n ≡ Some e → AreBytes (f e).value) → AllBytes (changed f es n)
 bytes-changed f es n h b = bytes-set_to f es n (slice_get es n) h b
 
 bytes-unlinked : (opened : List Section) (es : List Element) (found : Option ℕ) → AllBytes es → AllBytes (unlinked opened es found)
@@ -52,28 +54,38 @@ bytes-overwritten : (value : List ℕ) (es : List Element) (found : Option ℕ) 
 bytes-overwritten value es None h b = h
 bytes-overwritten value es (Some n) h b = bytes-changed (with_value value) es n h (λ e at. b)
 
-bytes-writes : (kind : MapKind) (s : Store) (opened : List Section) (map : ℕ) (m : MapState) (key value : List ℕ) (found : Option ℕ) (new : Store) → AllBytes s.elements → AreBytes value → Writes kind s opened map m key value found new → AllBytes new.elements
+bytes-writes : (kind : MapKind) (s : Store) (opened : List Section) (map : ℕ) (m : MapState) (key value : List ℕ)
+    (found : Option ℕ) (new : Store) → AllBytes s.elements → AreBytes value →
+    Writes kind s opened map m key value found new → AllBytes new.elements
 bytes-writes Hash s opened map m key value found new h b w =
-    bytes-along _ new.elements (ap (λ x. x.elements) w.new_is) (bytes-born (unlinked opened s.elements found) (newborn map key value w.count) (bytes-unlinked opened s.elements found h) b)
+    bytes-along _ new.elements (ap (λ x. x.elements) w.new_is)
+    (bytes-born (unlinked opened s.elements found) (newborn map key value w.count)
+    (bytes-unlinked opened s.elements found h) b)
 bytes-writes Array s opened map m key value found new h b w = bytes-along _ new.elements (ap (λ x. x.elements) w) (bytes-overwritten value s.elements found h b)
 
-bytes-settles : (kind : MapKind) (s : Store) (opened : List Section) (map : ℕ) (m : MapState) (key value : List ℕ) (found : Option ℕ) (new : Store) (error : Option Errno) (ret : Result (Unit {0}) Errno) →
+bytes-settles : (kind : MapKind) (s : Store) (opened : List Section) (map : ℕ) (m : MapState) (key value : List ℕ)
+    (found : Option ℕ) (new : Store) (error : Option Errno) (ret : Result (Unit {0}) Errno) →
     AllBytes s.elements → AreBytes value → Settles error ret s new (Writes kind s opened map m key value found new) → AllBytes new.elements
 bytes-settles kind s opened map m key value found new (Some e) ret h b st = bytes-along s.elements new.elements (ap (λ x. x.elements) st.1) h
 bytes-settles kind s opened map m key value found new None ret h b st = bytes-writes kind s opened map m key value found new h b st.1
 
-pub bytes-updates : (s : Store) (opened : List Section) (map : ℕ) (key value : List ℕ) (flags : ℕ) (ret : Result (Unit {0}) Errno) (new : Store) → AllBytes s.elements → AreBytes value → Updates s opened map key value flags ret new → AllBytes new.elements
+pub bytes-updates : (s : Store) (opened : List Section) (map : ℕ) (key value : List ℕ) (flags : ℕ)
+    (ret : Result (Unit {0}) Errno) (new : Store) → AllBytes s.elements → AreBytes value →
+    Updates s opened map key value flags ret new → AllBytes new.elements
 bytes-updates s opened map key value flags ret new h b u = bytes-settles u.state.shape.kind s opened map u.state key value u.found new _ ret h b u.settled
 
-bytes-removes : (s : Store) (opened : List Section) (ret : Result (Unit {0}) Errno) (new : Store) (found : Option ℕ) → AllBytes s.elements → Removes found opened ret s new → AllBytes new.elements
+bytes-removes : (s : Store) (opened : List Section) (ret : Result (Unit {0}) Errno) (new : Store) (found : Option ℕ) →
+    AllBytes s.elements → Removes found opened ret s new → AllBytes new.elements
 bytes-removes s opened ret new None h r = bytes-along s.elements new.elements (ap (λ x. x.elements) r.1) h
 bytes-removes s opened ret new (Some n) h r = bytes-along _ new.elements (ap (λ x. x.elements) r.1) (bytes-unlinked opened s.elements (Some n) h)
 
-bytes-removed : (kind : MapKind) (s : Store) (opened : List Section) (ret : Result (Unit {0}) Errno) (new : Store) (found : Option ℕ) → AllBytes s.elements → RemovesFrom kind found opened ret s new → AllBytes new.elements
+bytes-removed : (kind : MapKind) (s : Store) (opened : List Section) (ret : Result (Unit {0}) Errno) (new : Store)
+    (found : Option ℕ) → AllBytes s.elements → RemovesFrom kind found opened ret s new → AllBytes new.elements
 bytes-removed Hash s opened ret new found h r = bytes-removes s opened ret new found h r
 bytes-removed Array s opened ret new found h r = bytes-along s.elements new.elements (ap (λ x. x.elements) r.1) h
 
-pub bytes-deletes : (s : Store) (opened : List Section) (map : ℕ) (key : List ℕ) (ret : Result (Unit {0}) Errno) (new : Store) → AllBytes s.elements → Deletes s opened map key ret new → AllBytes new.elements
+pub bytes-deletes : (s : Store) (opened : List Section) (map : ℕ) (key : List ℕ) (ret : Result (Unit {0}) Errno)
+    (new : Store) → AllBytes s.elements → Deletes s opened map key ret new → AllBytes new.elements
 bytes-deletes s opened map key ret new h d = bytes-removed d.state.shape.kind s opened ret new d.found h d.removed
 
 pub same-bytes : (s new : Store) → new ≡ s → AllBytes s.elements → AllBytes new.elements
@@ -99,14 +111,18 @@ bytes-new Array k shape n e at = bytes-each k shape (range_with_len 0 shape.entr
 
 pub bytes-start : (k : ℕ) (shapes : List MapShape) → AllBytes (all_new_elements k shapes)
 bytes-start k [] n e at = absurd (none-some e at)
-bytes-start k (shape ∷ shapes) n e at = bytes-append (new_elements shape.kind k shape) (all_new_elements (suc k) shapes) (bytes-new shape.kind k shape) (bytes-start (suc k) shapes) n e at
+bytes-start k (shape ∷ shapes) n e at = bytes-append (new_elements shape.kind k shape)
+    (all_new_elements (suc k) shapes) (bytes-new shape.kind k shape) (bytes-start (suc k) shapes) n e at
 
 -- of a step of a run it is known by its program's verification
-performs-bytes : (m : Machine) (event : Event) (answer : Answer) (new : Machine) → IsReal event → ((r : ℕ) → StepsRun m r answer new → AllBytes new.store.elements) → AllBytes m.store.elements → PerformsEvent m event answer new → AllBytes new.store.elements
+performs-bytes : (m : Machine) (event : Event) (answer : Answer) (new : Machine) → IsReal event →
+    ((r : ℕ) → StepsRun m r answer new → AllBytes new.store.elements) → AllBytes m.store.elements →
+    PerformsEvent m event answer new → AllBytes new.store.elements
 performs-bytes m (events.Start prog ctx) (answers.Started r) new real step h p = same-bytes m.store new.store (ap (λ x. x.store) p.new_is) h
 performs-bytes m (events.Step r) answer new real step h p = step r p
 performs-bytes m (events.Update map key value flags) (answers.Ret ret) new real step h p =
-    subst (λ (s : Store). AllBytes s.elements) (ap (λ x. x.store) (sym p.2)) (bytes-updates m.store (open_sections m.runs) map key.items value.items flags ret p.0 h real.2 p.1)
+    subst (λ (s : Store). AllBytes s.elements) (ap (λ x. x.store) (sym p.2))
+    (bytes-updates m.store (open_sections m.runs) map key.items value.items flags ret p.0 h real.2 p.1)
 performs-bytes m (events.Delete map key) (answers.Ret ret) new real step h p =
     subst (λ (s : Store). AllBytes s.elements) (ap (λ x. x.store) (sym p.2)) (bytes-deletes m.store (open_sections m.runs) map key.items ret p.0 h p.1)
 performs-bytes m (events.Read map key) (answers.Found (Some value)) new real step h p = same-bytes m.store new.store (ap (λ x. x.store) p.1) h
@@ -114,15 +130,20 @@ performs-bytes m (events.Read map key) (answers.Found None) new real step h p = 
 performs-bytes m events.Advance answers.Done new real step h p = same-bytes m.store new.store (ap (λ x. x.store) p) h
 performs-bytes m events.Reap (answers.Reaped None) new real step h p = same-bytes m.store new.store (ap (λ x. x.store) p) h
 performs-bytes m events.Reap (answers.Reaped (Some reaped)) new real step h p =
-    subst (λ (s : Store). AllBytes s.elements) (sym p.3.new_is ∙ ap (λ x. x.store) (sym p.6)) (bytes-set m.store.elements p.0 (with_life Reclaimed p.1) h (h p.0 p.1 p.3.born))
+    subst (λ (s : Store). AllBytes s.elements) (sym p.3.new_is ∙ ap (λ x. x.store) (sym p.6))
+    (bytes-set m.store.elements p.0 (with_life Reclaimed p.1) h (h p.0 p.1 p.3.born))
 performs-bytes m (events.Drop r) answers.Done new real step h p = same-bytes m.store new.store (ap (λ x. x.store) p) h
 performs-bytes m event answer new real step h p = absurd p
 
-answers-bytes : (o : Option EventRefusal) (m : Machine) (event : Event) (answer : Answer) (new : Machine) → IsReal event → ((r : ℕ) → StepsRun m r answer new → AllBytes new.store.elements) → AllBytes m.store.elements → Answers o m event answer new → AllBytes new.store.elements
+answers-bytes : (o : Option EventRefusal) (m : Machine) (event : Event) (answer : Answer) (new : Machine) →
+    IsReal event → ((r : ℕ) → StepsRun m r answer new → AllBytes new.store.elements) → AllBytes m.store.elements →
+    Answers o m event answer new → AllBytes new.store.elements
 answers-bytes None m event answer new real step h p = performs-bytes m event answer new real step h p
 answers-bytes (Some k) m event answer new real step h p = same-bytes m.store new.store (ap (λ x. x.store) p.1) h
 
-pub does-bytes : (m new : Machine) (event : Event) (answer : Answer) → IsReal event → ((r : ℕ) → StepsRun m r answer new → AllBytes new.store.elements) → AllBytes m.store.elements → DoesEvent m event answer new → AllBytes new.store.elements
+pub does-bytes : (m new : Machine) (event : Event) (answer : Answer) → IsReal event →
+    ((r : ℕ) → StepsRun m r answer new → AllBytes new.store.elements) → AllBytes m.store.elements →
+    DoesEvent m event answer new → AllBytes new.store.elements
 does-bytes m new event answer real step h p = answers-bytes (refusal m event) m event answer new real step h p
 
 -- the programs stay
@@ -139,7 +160,8 @@ performs-programs m events.Reap (answers.Reaped (Some reaped)) new h = ap (λ x.
 performs-programs m (events.Drop run) answers.Done new h = ap (λ x. x.programs) h
 performs-programs m event answer new h = absurd h
 
-answers-programs : (o : Option EventRefusal) (m : Machine) (event : Event) (answer : Answer) (new : Machine) → Answers o m event answer new → new.programs ≡ m.programs
+answers-programs : (o : Option EventRefusal) (m : Machine) (event : Event) (answer : Answer) (new : Machine) →
+    Answers o m event answer new → new.programs ≡ m.programs
 answers-programs None m event answer new h = performs-programs m event answer new h
 answers-programs (Some k) m event answer new h = ap (λ x. x.programs) h.1
 

@@ -11,7 +11,11 @@ use Rattle.bpf_model.specs.declared.opcode.Width.{Width}
 use Rattle.bpf_model.specs.Access.{byte_count, region_offset}
 use Rattle.bpf_model.specs.Graph.{distance, JumpsTo, GoesTo}
 use Rattle.bpf_model.specs.Plain.{IsSimple, WritesRegister, WritesByte, TakesByte, WithoutByte, without_entry, without_next}
-use Rattle.bpf_model.specs.PlainMaps.{lookup_call, lock_call, unlock_call, IsGuardedLookup, IsLookupPart, HasForm, InSection, section_entry, section_lock, section_unlock, section_next, LacksRegister, lacks_entry, lacks_call, lacks_next, IsPlainWithMaps, GuardedLookup, LookupPart, FrameCopy, KeyAddress, MapLoad, LookupCall, NullTest, ValueLoad, part_insn, part_slot}
+use Rattle.bpf_model.specs.PlainMaps.{lookup_call, lock_call, unlock_call, IsGuardedLookup, IsLookupPart, HasForm}
+use Rattle.bpf_model.specs.PlainMaps.{InSection, section_entry, section_lock, section_unlock, section_next}
+use Rattle.bpf_model.specs.PlainMaps.{LacksRegister, lacks_entry, lacks_call, lacks_next, IsPlainWithMaps}
+use Rattle.bpf_model.specs.PlainMaps.{GuardedLookup, LookupPart, FrameCopy, KeyAddress, MapLoad, LookupCall, NullTest}
+use Rattle.bpf_model.specs.PlainMaps.{ValueLoad, part_insn, part_slot}
 use Rattle.bpf_model.specs.Places.{slot_count}
 use Rattle.bpf_model.specs.Step.{insn_at}
 use Rattle.bpf_model.proofs.Places.{start_of-insn, starts_increase, start-insn}
@@ -37,15 +41,19 @@ use Rattle.verifier.specs.declared.waiting.Waiting.TheVariants.{Nothing, Known, 
 use Rattle.verifier.specs.FactsKnown.{IsInner, Knows, WithoutFact, IsExpected, IsKnown, AreKnown, CanAccept}
 use Rattle.verifier.specs.SecondPass.{Awaited, state_in, IsConflict, JoinsTo, Merged, Fell, Jumped, Advances, StartsFrom, refusal_of}
 use Rattle.verifier.specs.Verdict.{IsAccepted}
-use Rattle.verifier.proofs.Lookups.{part_or_not, part_of_slot, part_no_byte, part_keeps, behind, falls_from, slot_inside, slot_behind, pass_on, part_low, part_at}
+use Rattle.verifier.proofs.Lookups.{part_or_not, part_of_slot, part_no_byte, part_keeps, behind, falls_from}
+use Rattle.verifier.proofs.Lookups.{slot_inside, slot_behind, pass_on, part_low, part_at}
 use Rattle.verifier.proofs.Plans.{falls_inside}
 
 -- what both states know the joined one knows
 pub joined_facts : (a b c : model.AbsState) → AreJoined a b c → c.depth ≡ a.depth → (fact : Fact) → FactHolds fact a → FactHolds fact b → FactHolds fact c
 joined_facts a b c joined inside (Register r) p q =
-    let j : IsJoinedKind (model.Num p.0) (model.Num q.0) (c.regs r) = subst (λ x. IsJoinedKind (model.Num p.0) x (c.regs r)) q.1 (subst (λ x. IsJoinedKind x (b.regs r) (c.regs r)) p.1 (joined.regs r)) in
+    let j : IsJoinedKind (model.Num p.0) (model.Num q.0) (c.regs r) =
+    subst (λ x. IsJoinedKind (model.Num p.0) x (c.regs r)) q.1
+    (subst (λ x. IsJoinedKind x (b.regs r) (c.regs r)) p.1 (joined.regs r)) in
     (j.0, j.1)
-joined_facts a b c joined inside (FrameByte k) p q = subst (λ x. IsJoinedCell model.ByteCell x (c.cells k)) q (subst (λ x. IsJoinedCell x (b.cells k) (c.cells k)) p (joined.cells k))
+joined_facts a b c joined inside (FrameByte k) p q = subst (λ x. IsJoinedCell model.ByteCell x (c.cells k)) q
+    (subst (λ x. IsJoinedCell x (b.cells k) (c.cells k)) p (joined.cells k))
 joined_facts a b c joined inside FramePointer p q =
     let j : IsJoinedKind (model.FrameAt (pos FRAME_BYTES)) (model.FrameAt (pos FRAME_BYTES)) (c.regs 10) =
     subst (λ x. IsJoinedKind (model.FrameAt (pos FRAME_BYTES)) x (c.regs 10)) q (subst (λ x. IsJoinedKind x (b.regs 10) (c.regs 10)) p (joined.regs 10)) in
@@ -58,7 +66,8 @@ module _ (a b c : model.AbsState) (joined : AreJoined a b c) where
   both_kinds r x y p q = subst (λ z. IsJoinedKind x z (c.regs r)) q (subst (λ z. IsJoinedKind z (b.regs r) (c.regs r)) p (joined.regs r))
 
   both_keys : (l : GuardedLookup) → IsKeyWritten l a → IsKeyWritten l b → IsKeyWritten l c
-  both_keys l p q k low high = subst (λ x. IsJoinedCell model.ByteCell x (c.cells k)) (q k low high) (subst (λ x. IsJoinedCell x (b.cells k) (c.cells k)) (p k low high) (joined.cells k))
+  both_keys l p q k low high = subst (λ x. IsJoinedCell model.ByteCell x (c.cells k)) (q k low high)
+      (subst (λ x. IsJoinedCell x (b.cells k) (c.cells k)) (p k low high) (joined.cells k))
 
   both_frame : (r : ℕ) (o : ℤ) → a.regs r ≡ model.FrameAt o → b.regs r ≡ model.FrameAt o → c.regs r ≡ model.FrameAt o
   both_frame r o p q = (both_kinds r (model.FrameAt o) (model.FrameAt o) p q).0 refl
@@ -101,7 +110,8 @@ writes_or_not (Store width dst offset src) r = inr (λ h. h)
 takes_or_not : (width : Width) (offset : ℤ) (k : ℕ) → TakesByte width offset k ⊎ (TakesByte width offset k → ⊥)
 takes_or_not width offset k = at (region_offset FRAME_BYTES (byte_count width) (pos FRAME_BYTES +ℤ offset)) refl
   where
-    at : (o : Option ℕ) → region_offset FRAME_BYTES (byte_count width) (pos FRAME_BYTES +ℤ offset) ≡ o → TakesByte width offset k ⊎ (TakesByte width offset k → ⊥)
+    at : (o : Option ℕ) → region_offset FRAME_BYTES (byte_count width) (pos FRAME_BYTES +ℤ offset) ≡ o →
+        TakesByte width offset k ⊎ (TakesByte width offset k → ⊥)
     at None e = inr (λ t. let f : None ≡ Some t.0 = sym e ∙ t.1 in cc)
     at (Some p) e = elim (cases_lt k p) [
       | inl h ↦ inr (λ t. let same : p ≡ t.0 = same_Some _ _ (sym e ∙ t.1) in let l : t.0 ≤ k = t.2 in omega arith)
@@ -149,9 +159,11 @@ section_which false i e = inr (inl e)
 
 -- what stands at a slot, where what is part of a guarded lookup is nothing else
 abbrev pub Stands : List Insn → List MapShape → ℕ → Insn → Type 0
-Stands program shapes slot i = IsLookupPart program shapes slot ⊎ ((IsLookupPart program shapes slot → ⊥) × (((opens : Bool) × (i ≡ section_call opens)) ⊎ IsSimple i))
+Stands program shapes slot i = IsLookupPart program shapes slot
+    ⊎ ((IsLookupPart program shapes slot → ⊥) × (((opens : Bool) × (i ≡ section_call opens)) ⊎ IsSimple i))
 
-stands : (program : List Insn) (shapes : List MapShape) → IsPlainWithMaps program shapes → (slot : ℕ) (i : Insn) → insn_at program slot ≡ Some i → Stands program shapes slot i
+stands : (program : List Insn) (shapes : List MapShape) → IsPlainWithMaps program shapes → (slot : ℕ) (i : Insn) →
+    insn_at program slot ≡ Some i → Stands program shapes slot i
 stands program shapes plain slot i h = elim (part_or_not program shapes plain slot) [
   | inl part ↦ inl part
   | inr away ↦ inr (away, by away (plain.forms slot i h))
@@ -164,7 +176,9 @@ stands program shapes plain slot i h = elim (part_or_not program shapes plain sl
     by away (inr (inr (inr simple))) = inr simple
 
 -- a state of a plain program is as deep as some path is: outside, or in a section that does not nest
-section_here : (program : List Insn) (shapes : List MapShape) → IsPlainWithMaps program shapes → (k s : ℕ) (a : AbsState) → StartsAt program k s → Knows program shapes k a → (b : Bool) × (a.depth ≡ depth_of b) × InSection program b s
+section_here : (program : List Insn) (shapes : List MapShape) → IsPlainWithMaps program shapes →
+    (k s : ℕ) (a : AbsState) → StartsAt program k s → Knows program shapes k a → (b : Bool) × (a.depth ≡ depth_of b) ×
+    InSection program b s
 section_here program shapes plain k s a there knows = elim (knows (Section false)) [
   | inl outside ↦ elim (knows (Section true)) [
     | inl deep ↦ absurd (let o : a.depth ≡ 0 = outside in let d : a.depth ≡ 1 = deep in omega (arith, o, d))
@@ -177,7 +191,8 @@ section_here program shapes plain k s a there knows = elim (knows (Section false
 ]
 
 -- all paths to a slot of a plain program agree in it
-one_section : (program : List Insn) (shapes : List MapShape) → IsPlainWithMaps program shapes → (s : ℕ) (x y : Bool) → InSection program x s → InSection program y s → x ≡ y
+one_section : (program : List Insn) (shapes : List MapShape) → IsPlainWithMaps program shapes → (s : ℕ) (x y : Bool) →
+    InSection program x s → InSection program y s → x ≡ y
 one_section program shapes plain s true true p q = refl
 one_section program shapes plain s false false p q = refl
 one_section program shapes plain s true false p q = absurd (plain.settled s p q)
@@ -185,12 +200,14 @@ one_section program shapes plain s false true p q = absurd (plain.settled s q p)
 
 -- What is known before an instruction is known, by what it keeps, before those that follow.
 module _ (program : List Insn) (shapes : List MapShape) (plain : IsPlainWithMaps program shapes) (k m s : ℕ) (i : Insn) (a b : AbsState)
-    (there : StartsAt program k s) (here : insn_at program s ≡ Some i) (goes : (t : ℕ) → StartsAt program m t → GoesTo i s t) (knows : Knows program shapes k a) where
+    (there : StartsAt program k s) (here : insn_at program s ≡ Some i)
+    (goes : (t : ℕ) → StartsAt program m t → GoesTo i s t) (knows : Knows program shapes k a) where
   simple_keeps : IsSimple i → (i ≡ lock_call → ⊥) × (i ≡ unlock_call → ⊥)
   simple_keeps simple = ((λ e. subst IsSimple e simple), (λ e. subst IsSimple e simple))
 
   -- over an ordinary instruction
-  ordinary_on : (IsLookupPart program shapes s → ⊥) → IsSimple i → (fact : Fact) → (Makes i fact → ⊥) → (t : ℕ) → GoesTo i s t → WithoutFact program shapes fact s → WithoutFact program shapes fact t
+  ordinary_on : (IsLookupPart program shapes s → ⊥) → IsSimple i → (fact : Fact) → (Makes i fact → ⊥) → (t : ℕ) →
+      GoesTo i s t → WithoutFact program shapes fact s → WithoutFact program shapes fact t
   ordinary_on away simple (Register r) n t g (inl w) = inl (lacks_next s t i w here (λ x. absurd (n x)) g)
   ordinary_on away simple (Register r) n t g (inr w) = absurd (away (w.1.start, w.1.lookup, omega (arith, w.1.behind), w.1.inside))
   ordinary_on away simple (FrameByte j) n t g w = without_next s t i w here n g
@@ -212,7 +229,8 @@ module _ (program : List Insn) (shapes : List MapShape) (plain : IsPlainWithMaps
     part_here = subst (IsLookupPart program shapes) (sym at_part) (part_at program shapes start l q)
 
     low_on : (r t : ℕ) → r ≤ 5 → GoesTo i s t → LacksRegister program shapes r t ⊎ ((r ≤ 5) × IsInner program shapes t)
-    low_on r t low g = part_low program shapes start l plain.graph.reached r low q t (subst (λ n. GoesTo (part_insn l.lookup q) n t) at_part (subst (λ i. GoesTo i s t) is g))
+    low_on r t low g = part_low program shapes start l plain.graph.reached r low q t
+        (subst (λ n. GoesTo (part_insn l.lookup q) n t) at_part (subst (λ i. GoesTo i s t) is g))
 
     no_byte : (j : ℕ) → WritesByte i j → ⊥
     no_byte j w = part_no_byte program shapes start l q j (subst (λ i. WritesByte i j) is w)
@@ -277,7 +295,8 @@ module _ (program : List Insn) (shapes : List MapShape) (plain : IsPlainWithMaps
     ]
     section_facts left (Section v) = by v opens left.1 (λ t at e. section_to t (if v then false else true) (goes t at) e)
       where
-        by : (v o : Bool) → b.depth ≡ depth_of o → ((t : ℕ) → StartsAt program m t → (if v then false else true) ≡ o → InSection program (if v then false else true) t)
+        by : (v o : Bool) → b.depth ≡ depth_of o → ((t : ℕ) → StartsAt program m t → (if v then false else true) ≡ o →
+            InSection program (if v then false else true) t)
             → (b.depth ≡ depth_of v) ⊎ ((t : ℕ) → StartsAt program m t → InSection program (if v then false else true) t)
         by true true e to = inl e
         by true false e to = inr (λ t at. to t at refl)
@@ -285,13 +304,20 @@ module _ (program : List Insn) (shapes : List MapShape) (plain : IsPlainWithMaps
         by false false e to = inl e
 
 -- a part of a guarded lookup is ready where this is known
-part_ready : (program : List Insn) (shapes : List MapShape) → IsPlainWithMaps program shapes → (k s : ℕ) (i : Insn) (a : AbsState) → StartsAt program k s → IsKnown program shapes k a
-    → (start : ℕ) (l : IsGuardedLookup program shapes start) (q : LookupPart) → s ≡ start + part_slot q → i ≡ part_insn l.lookup q → IsReadyPart shapes l.lookup q i (state_of a)
+part_ready : (program : List Insn) (shapes : List MapShape) → IsPlainWithMaps program shapes →
+    (k s : ℕ) (i : Insn) (a : AbsState) → StartsAt program k s → IsKnown program shapes k a
+    → (start : ℕ) (l : IsGuardedLookup program shapes start) (q : LookupPart) → s ≡ start + part_slot q →
+    i ≡ part_insn l.lookup q → IsReadyPart shapes l.lookup q i (state_of a)
 part_ready program shapes plain k s i a there known start l q at_part is = record {
   insn = is;
   fitting = l.fitting;
   frame = elim (known.facts FramePointer) [ inl h ↦ h | inr w ↦ absurd (w s there) ];
-  inside = elim (known.facts (Section true)) [ inl h ↦ (let d : a.depth ≡ 1 = h in omega (arith, d)) | inr w ↦ absurd (plain.lookup_inside s (subst (IsLookupPart program shapes) (sym at_part) (part_at program shapes start l q)) (w s there)) ];
+  inside = elim (known.facts (Section true)) [
+    | inl h ↦ (let d : a.depth ≡ 1 = h in omega (arith, d))
+    | inr w ↦
+        absurd (plain.lookup_inside s (subst (IsLookupPart program shapes) (sym at_part)
+        (part_at program shapes start l q)) (w s there))
+  ];
   expects = by q at_part;
 }
   where
@@ -313,7 +339,8 @@ part_ready program shapes plain k s i a there known start l q at_part is = recor
     by ValueLoad e = later ValueLoad (λ f. cc) e
 
 -- a call that begins or ends a section is ready
-section_ready : (program : List Insn) (shapes : List MapShape) → IsPlainWithMaps program shapes → (k s : ℕ) (i : Insn) (a : AbsState) → StartsAt program k s → insn_at program s ≡ Some i → Knows program shapes k a
+section_ready : (program : List Insn) (shapes : List MapShape) → IsPlainWithMaps program shapes →
+    (k s : ℕ) (i : Insn) (a : AbsState) → StartsAt program k s → insn_at program s ≡ Some i → Knows program shapes k a
     → (opens : Bool) → i ≡ section_call opens → IsReadySection opens i (state_of a)
 section_ready program shapes plain k s i a there here knows true e = record {
   insn = e;
@@ -325,7 +352,8 @@ section_ready program shapes plain k s i a there here knows false e = record {
 }
 
 -- an ordinary instruction is ready
-ordinary_ready : (program : List Insn) (shapes : List MapShape) → IsPlainWithMaps program shapes → (k s : ℕ) (i : Insn) (a : AbsState) → StartsAt program k s → insn_at program s ≡ Some i → Knows program shapes k a
+ordinary_ready : (program : List Insn) (shapes : List MapShape) → IsPlainWithMaps program shapes →
+    (k s : ℕ) (i : Insn) (a : AbsState) → StartsAt program k s → insn_at program s ≡ Some i → Knows program shapes k a
     → (IsLookupPart program shapes s → ⊥) → IsSimple i → IsReadyInsn i (state_of a)
 ordinary_ready program shapes plain k s i a there here knows away simple = record {
   simple = simple;
@@ -343,7 +371,9 @@ ordinary_ready program shapes plain k s i a there here knows away simple = recor
 }
 
 -- an instruction of a plain program is ready where this is known
-pub ready_here : (program : List Insn) (shapes : List MapShape) (k : ℕ) (i : Insn) (a : AbsState) → IsPlainWithMaps program shapes → slice_get program k ≡ Some i → IsKnown program shapes k a → IsReadyInsn i (state_of a) ⊎ IsReadyWithMaps shapes i (state_of a)
+pub ready_here : (program : List Insn) (shapes : List MapShape) (k : ℕ) (i : Insn) (a : AbsState) →
+    IsPlainWithMaps program shapes → slice_get program k ≡ Some i → IsKnown program shapes k a →
+    IsReadyInsn i (state_of a) ⊎ IsReadyWithMaps shapes i (state_of a)
 ready_here program shapes k i a plain e known = by (stands program shapes plain s.0 i here)
   where
     s : (p : ℕ) × StartsAt program k p
@@ -359,7 +389,8 @@ ready_here program shapes k i a plain e known = by (stands program shapes plain 
     by (inr (away, inl c)) = inr (inr (c.0, section_ready program shapes plain k s.0 i a s.1 here known.facts c.0 c.1))
     by (inr (away, inr simple)) = inl (ordinary_ready program shapes plain k s.0 i a s.1 here known.facts away simple)
 
-pub can_accept : (program : List Insn) (shapes : List MapShape) (k : ℕ) (at : Awaited) → IsPlainWithMaps program shapes → AreKnown program shapes k at → CanAccept program shapes k at
+pub can_accept : (program : List Insn) (shapes : List MapShape) (k : ℕ) (at : Awaited) →
+    IsPlainWithMaps program shapes → AreKnown program shapes k at → CanAccept program shapes k at
 can_accept program shapes k at plain known = record {
   paired = known.paired k (omega arith);
   ready = λ i a e f. ready_here program shapes k i a plain e (known.knows k a (omega arith) f);
@@ -372,7 +403,9 @@ no_conflict (Known b) state n same c = c (same b.value refl)
 no_conflict Differing state n same c = n refl
 
 -- a join of states of which this is known keeps it known
-merged_known : (program : List Insn) (shapes : List MapShape) → IsPlainWithMaps program shapes → (k at : ℕ) (state : AbsState) (old new : Awaited) → Merged at state old new → k ≤ at → at < length program → IsKnown program shapes at state → AreKnown program shapes k old → AreKnown program shapes k new
+merged_known : (program : List Insn) (shapes : List MapShape) → IsPlainWithMaps program shapes →
+    (k at : ℕ) (state : AbsState) (old new : Awaited) → Merged at state old new → k ≤ at → at < length program →
+    IsKnown program shapes at state → AreKnown program shapes k old → AreKnown program shapes k new
 merged_known program shapes plain k at state old new merged ahead inside known before = record { paired = paired; knows = knows }
   where
     slot : (p : ℕ) × StartsAt program at p
@@ -396,7 +429,8 @@ merged_known program shapes plain k at state old new merged ahead inside known b
     facts_at : (a : AbsState) → JoinsTo (old at) state a → Knows program shapes at a
     facts_at a j fact = elim (known.facts fact) [ inl holds ↦ among (state_in (old at)) refl holds | inr without ↦ inr without ]
       where
-        among : (o : Option AbsState) → state_in (old at) ≡ o → FactHolds fact (state_of state) → FactHolds fact (state_of a) ⊎ ((p : ℕ) → StartsAt program at p → WithoutFact program shapes fact p)
+        among : (o : Option AbsState) → state_in (old at) ≡ o → FactHolds fact (state_of state) →
+            FactHolds fact (state_of a) ⊎ ((p : ℕ) → StartsAt program at p → WithoutFact program shapes fact p)
         among None g holds = inl (j.facts fact holds (λ b h. absurd (let c : Some b ≡ None = sym h ∙ g in cc)))
         among (Some b) g holds = elim ((before.knows at b ahead g).facts fact) [
           | inl q ↦ inl (j.facts fact holds (λ c h. subst (λ c. FactHolds fact (state_of c)) (same_Some _ _ (sym g ∙ h)) q))
@@ -418,7 +452,8 @@ merged_known program shapes plain k at state old new merged ahead inside known b
       | inr n ↦ before.knows m a h (ap state_in (sym (merged.others m n)) ∙ e)
     ]
 
-same_known : (program : List Insn) (shapes : List MapShape) (k : ℕ) (old new : Awaited) → new ≡ old → AreKnown program shapes k old → AreKnown program shapes k new
+same_known : (program : List Insn) (shapes : List MapShape) (k : ℕ) (old new : Awaited) → new ≡ old →
+    AreKnown program shapes k old → AreKnown program shapes k new
 same_known program shapes k old new e known = subst (AreKnown program shapes k) (sym e) known
 
 -- what holds of an optional state
@@ -431,7 +466,9 @@ some_here P None s e h = absurd (none-some s e)
 some_here P (Some t) s e h = subst P (same_Some _ _ e) h
 
 module _ (program : List Insn) (targets : List (Option ℕ)) (long : length targets ≡ length program) (all : HasTargets program targets)
-    (k : ℕ) (shapes : List MapShape) (ctx_len : ℕ) (region : Region) (old new : Awaited) (done : Advances program targets k shapes ctx_len region old new) (plain : IsPlainWithMaps program shapes) (known : AreKnown program shapes k old) where
+    (k : ℕ) (shapes : List MapShape) (ctx_len : ℕ) (region : Region) (old new : Awaited)
+    (done : Advances program targets k shapes ctx_len region old new) (plain : IsPlainWithMaps program shapes)
+    (known : AreKnown program shapes k old) where
   here : IsKnown program shapes k done.state
   here = known.knows k done.state (omega arith) done.waited
 
@@ -445,7 +482,8 @@ module _ (program : List Insn) (targets : List (Option ℕ)) (long : length targ
   goes_on m t follows there = edge_from program targets long all k m s.0 t done.insn done.target done.insn_is done.target_is follows s.1 there
 
   -- what holds of both states behind the instruction holds of the one that jumps
-  jumping_is : (P : AbsState → Type 0) → P done.spreads.next → ((t : AbsState) → done.spreads.taken ≡ Some t → P t) → (b : AbsState) → done.spreads.jumping ≡ Some b → P b
+  jumping_is : (P : AbsState → Type 0) → P done.spreads.next → ((t : AbsState) → done.spreads.taken ≡ Some t → P t) →
+      (b : AbsState) → done.spreads.jumping ≡ Some b → P b
   jumping_is P next taken b f = by done.spreads.fell
     where
       of_unwrapped : (o : Option AbsState) → done.spreads.taken ≡ o → unwrap_or o done.spreads.next ≡ b → P b
@@ -457,22 +495,30 @@ module _ (program : List Insn) (targets : List (Option ℕ)) (long : length targ
       by (inr g) = of_unwrapped done.spreads.taken refl (same_Some _ _ (sym g.2 ∙ f))
 
   module _ (m : ℕ) (follows : Follows done.insn done.target k m) where
-    ordinary_to : (b : AbsState) → (IsLookupPart program shapes s.0 → ⊥) → IsSimple done.insn → KeepsFacts done.insn (state_of done.state) (state_of b) → Knows program shapes m b
-    ordinary_to b away simple keeps = ordinary_facts program shapes plain k m s.0 done.insn done.state b s.1 at (λ t there. goes_on m t follows there) here.facts away simple keeps
+    ordinary_to : (b : AbsState) → (IsLookupPart program shapes s.0 → ⊥) → IsSimple done.insn →
+        KeepsFacts done.insn (state_of done.state) (state_of b) → Knows program shapes m b
+    ordinary_to b away simple keeps = ordinary_facts program shapes plain k m s.0 done.insn done.state b s.1 at
+        (λ t there. goes_on m t follows there) here.facts away simple keeps
 
-    part_to : (b : AbsState) (start : ℕ) (l : IsGuardedLookup program shapes start) (q : LookupPart) → s.0 ≡ start + part_slot q → done.insn ≡ part_insn l.lookup q
+    part_to : (b : AbsState) (start : ℕ) (l : IsGuardedLookup program shapes start) (q : LookupPart) →
+        s.0 ≡ start + part_slot q → done.insn ≡ part_insn l.lookup q
         → KeepsSaved (state_of done.state) (state_of b) → b.depth ≡ done.state.depth → Knows program shapes m b
-    part_to b start l q at_part is keeps inside = part_facts program shapes plain k m s.0 done.insn done.state b s.1 at (λ t there. goes_on m t follows there) here.facts start l q at_part is keeps inside
+    part_to b start l q at_part is keeps inside = part_facts program shapes plain k m s.0 done.insn done.state b s.1
+        at (λ t there. goes_on m t follows there) here.facts start l q at_part is keeps inside
 
-    section_to_next : (b : AbsState) → (IsLookupPart program shapes s.0 → ⊥) → (opens : Bool) → done.insn ≡ section_call opens → LeavesSection opens (state_of done.state) (state_of b) → Knows program shapes m b
-    section_to_next b away opens is left = section_facts program shapes plain k m s.0 done.insn done.state b s.1 at (λ t there. goes_on m t follows there) here.facts away opens is left
+    section_to_next : (b : AbsState) → (IsLookupPart program shapes s.0 → ⊥) → (opens : Bool) →
+        done.insn ≡ section_call opens → LeavesSection opens (state_of done.state) (state_of b) →
+        Knows program shapes m b
+    section_to_next b away opens is left = section_facts program shapes plain k m s.0 done.insn done.state b s.1 at
+        (λ t there. goes_on m t follows there) here.facts away opens is left
 
   ready_ordinary : (IsLookupPart program shapes s.0 → ⊥) → IsSimple done.insn → IsReadyInsn done.insn (state_of done.state)
   ready_ordinary away simple = ordinary_ready program shapes plain k s.0 done.insn done.state s.1 at here.facts away simple
 
   leaves : (start : ℕ) (l : IsGuardedLookup program shapes start) (q : LookupPart) → s.0 ≡ start + part_slot q → done.insn ≡ part_insn l.lookup q
       → LeavesPart l.lookup q (state_of done.state) (state_of done.spreads.next) (option_map state_of done.spreads.taken)
-  leaves start l q at_part is = done.spreads.transfer.serves.part l.lookup q (part_ready program shapes plain k s.0 done.insn done.state s.1 here start l q at_part is)
+  leaves start l q at_part is = done.spreads.transfer.serves.part l.lookup q
+      (part_ready program shapes plain k s.0 done.insn done.state s.1 here start l q at_part is)
 
   -- where control falls through
   next_facts : Follows done.insn done.target k (suc k) → Stands program shapes s.0 done.insn → Knows program shapes (suc k) done.spreads.next
@@ -481,8 +527,11 @@ module _ (program : List Insn) (targets : List (Option ℕ)) (long : length targ
       let left = leaves part.0 part.1 q.0 q.1 q.2 in
       part_to (suc k) follows done.spreads.next part.0 part.1 q.0 q.1 q.2 left.keeps left.depth
   next_facts follows (inr (away, inl c)) =
-      section_to_next (suc k) follows done.spreads.next away c.0 c.1 (done.spreads.transfer.serves.section c.0 (section_ready program shapes plain k s.0 done.insn done.state s.1 at here.facts c.0 c.1))
-  next_facts follows (inr (away, inr simple)) = ordinary_to (suc k) follows done.spreads.next away simple (done.spreads.transfer.keeps (ready_ordinary away simple))
+      section_to_next (suc k) follows done.spreads.next away c.0 c.1
+      (done.spreads.transfer.serves.section c.0 (section_ready program shapes plain k s.0 done.insn done.state s.1
+      at here.facts c.0 c.1))
+  next_facts follows (inr (away, inr simple)) = ordinary_to (suc k) follows done.spreads.next away simple
+      (done.spreads.transfer.keeps (ready_ordinary away simple))
 
   next_expected : Follows done.insn done.target k (suc k) → IsExpected program shapes (suc k) done.spreads.next
   next_expected follows start l p n there =
@@ -496,7 +545,8 @@ module _ (program : List Insn) (targets : List (Option ℕ)) (long : length targ
         | inr j ↦ absurd (l.entered s.0 (start + part_slot p) done.insn at j (slot_behind program shapes start l p n) (slot_inside program shapes start l p))
       ] in
       let at_part = q.1 in
-      pass_on program shapes start l l.lookup (state_of done.spreads.next) q.0 p n (omega (arith, next, at_part, behind_is)) (leaves start l q.0 q.1 q.2).prepares
+      pass_on program shapes start l l.lookup (state_of done.spreads.next) q.0 p n
+      (omega (arith, next, at_part, behind_is)) (leaves start l q.0 q.1 q.2).prepares
 
   next_known : Follows done.insn done.target k (suc k) → IsKnown program shapes (suc k) done.spreads.next
   next_known follows = record { facts = next_facts follows (stands program shapes plain s.0 done.insn at); expected = next_expected follows }
@@ -528,7 +578,9 @@ module _ (program : List Insn) (targets : List (Option ℕ)) (long : length targ
     jump_known : IsKnown program shapes t b
     jump_known = record {
       facts = jump_facts (stands program shapes plain s.0 done.insn at);
-      expected = λ start l p n there. absurd (l.entered s.0 (start + part_slot p) done.insn at (jumps (start + part_slot p) there) (slot_behind program shapes start l p n) (slot_inside program shapes start l p));
+      expected = λ start l p n there. absurd (l.entered s.0 (start + part_slot p) done.insn at
+          (jumps (start + part_slot p) there) (slot_behind program shapes start l p n)
+          (slot_inside program shapes start l p));
     }
 
   before : AreKnown program shapes (k + 1) done.rest
@@ -537,8 +589,10 @@ module _ (program : List Insn) (targets : List (Option ℕ)) (long : length targ
     knows = λ m a h e. known.knows m a (omega arith) (ap state_in (sym (done.others m (let n : m ≢ k = omega arith in n))) ∙ e);
   }
 
-  fell_known : Fell done.insn k done.spreads.next done.spreads.taken done.spreads.jumping done.rest done.spreads.mid → AreKnown program shapes (k + 1) done.spreads.mid
-  fell_known (inl f) = merged_known program shapes plain (k + 1) (suc k) done.spreads.next done.rest done.spreads.mid f.1 (omega arith) (falls_inside program k done.insn plain.graph.last done.insn_is f.0)
+  fell_known : Fell done.insn k done.spreads.next done.spreads.taken done.spreads.jumping done.rest done.spreads.mid →
+      AreKnown program shapes (k + 1) done.spreads.mid
+  fell_known (inl f) = merged_known program shapes plain (k + 1) (suc k) done.spreads.next done.rest done.spreads.mid
+      f.1 (omega arith) (falls_inside program k done.insn plain.graph.last done.insn_is f.0)
       (next_known (inl (f.0, refl))) before
   fell_known (inr f) = same_known program shapes (k + 1) done.rest done.spreads.mid f.1 before
 
@@ -546,7 +600,8 @@ module _ (program : List Insn) (targets : List (Option ℕ)) (long : length targ
   jumped_known (inl f) =
       let l = leads f.0 f.2 f.1 f.3 in
       let further = l.further in
-      merged_known program shapes plain (k + 1) f.0 f.1 done.spreads.mid new f.4 (omega (arith, further)) (target_within program k done.insn f.0 l) (jump_known f.0 f.2 f.1 f.3) (fell_known done.spreads.fell)
+      merged_known program shapes plain (k + 1) f.0 f.1 done.spreads.mid new f.4 (omega (arith, further))
+      (target_within program k done.insn f.0 l) (jump_known f.0 f.2 f.1 f.3) (fell_known done.spreads.fell)
   jumped_known (inr f) = same_known program shapes (k + 1) done.spreads.mid new f.1 (fell_known done.spreads.fell)
 
   pub known_more : AreKnown program shapes (k + 1) new

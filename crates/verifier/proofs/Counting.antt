@@ -22,20 +22,25 @@ index_counted [] i h = absurd (omega arith)
 index_counted (w ∷ ws) zero h = omega (arith, sum_by-cons occupied w ws)
 index_counted (w ∷ ws) (suc i) h = omega (arith, sum_by-cons occupied w ws, index_counted ws i (omega arith))
 
-pub set_counted : (ws : List Waiting) (i : ℕ) (w : Waiting) → i < length ws → states_in (slice_set ws i w) + occupied (slice_index_or ws i Nothing) ≡ states_in ws + occupied w
+pub set_counted : (ws : List Waiting) (i : ℕ) (w : Waiting) → i < length ws →
+    states_in (slice_set ws i w) + occupied (slice_index_or ws i Nothing) ≡ states_in ws + occupied w
 set_counted [] i w h = absurd (omega arith)
 set_counted (v ∷ ws) zero w h = omega (arith, sum_by-cons occupied v ws, sum_by-cons occupied w ws)
 set_counted (v ∷ ws) (suc i) w h = omega (arith, sum_by-cons occupied v ws, sum_by-cons occupied v (slice_set ws i w), set_counted ws i w (omega arith))
 
 -- how many states wait at an index that is read
-pub count_at : (ws : List Waiting) (i : ℕ) (d x : Waiting) (n : ℕ) → i < length ws → n ≡ occupied x → x ≡ slice_index_or ws i d → n ≡ occupied (slice_index_or ws i Nothing)
+pub count_at : (ws : List Waiting) (i : ℕ) (d x : Waiting) (n : ℕ) → i < length ws → n ≡ occupied x →
+    x ≡ slice_index_or ws i d → n ≡ occupied (slice_index_or ws i Nothing)
 count_at ws i d x n h e f = e ∙ ap occupied (f ∙ get_or_default ws i d Nothing h)
 
-pub count_set : (ws : List Waiting) (i : ℕ) (w d x : Waiting) (n : ℕ) → i < length ws → n ≡ occupied x → x ≡ slice_index_or (slice_set ws i w) i d → n ≡ occupied w
+pub count_set : (ws : List Waiting) (i : ℕ) (w d x : Waiting) (n : ℕ) → i < length ws → n ≡ occupied x →
+    x ≡ slice_index_or (slice_set ws i w) i d → n ≡ occupied w
 count_set ws i w d x n h e f = e ∙ ap occupied (f ∙ get_or-set_same ws i w d h)
 
 -- what waits at one index changes
-pub counted_set : (ws : List Waiting) (i : ℕ) (w : Waiting) (len peak before after new : ℕ) → i < length ws → AreStatesCounted ws len peak → before ≡ occupied (slice_index_or ws i Nothing) → after ≡ occupied w → new ≡ max peak (len - before + after)
+pub counted_set : (ws : List Waiting) (i : ℕ) (w : Waiting) (len peak before after new : ℕ) → i < length ws →
+    AreStatesCounted ws len peak → before ≡ occupied (slice_index_or ws i Nothing) → after ≡ occupied w →
+    new ≡ max peak (len - before + after)
     → AreStatesCounted (slice_set ws i w) (len - before + after) new
 counted_set ws i w len peak before after new h c b a e =
     let count : len - before + after ≡ states_in (slice_set ws i w) = omega (arith, c.count, b, a, index_counted ws i h, set_counted ws i w h) in

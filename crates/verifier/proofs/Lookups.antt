@@ -9,7 +9,10 @@ use Rattle.bpf_model.specs.declared.insn.CallKind.TheVariants.{Helper, Kernel}
 use Rattle.bpf_model.specs.declared.limits.MapShape.{MapShape}
 use Rattle.bpf_model.specs.Graph.{falls, distance, JumpsTo, GoesTo, Reached}
 use Rattle.bpf_model.specs.Plain.{WritesByte}
-use Rattle.bpf_model.specs.PlainMaps.{lookup_call, IsValueLoad, IsGuardedLookup, IsLookupPart, KeepsSection, HasForm, LacksRegister, lacks_call, lacks_next, IsPlainWithMaps, GuardedLookup, LookupPart, FrameCopy, KeyAddress, MapLoad, LookupCall, NullTest, ValueLoad, part_insn, part_slot}
+use Rattle.bpf_model.specs.PlainMaps.{lookup_call, IsValueLoad, IsGuardedLookup, IsLookupPart, KeepsSection, HasForm}
+use Rattle.bpf_model.specs.PlainMaps.{LacksRegister, lacks_call, lacks_next, IsPlainWithMaps, GuardedLookup}
+use Rattle.bpf_model.specs.PlainMaps.{LookupPart, FrameCopy, KeyAddress, MapLoad, LookupCall, NullTest, ValueLoad}
+use Rattle.bpf_model.specs.PlainMaps.{part_insn, part_slot}
 use Rattle.bpf_model.specs.Places.{slot_count, starts_from}
 use Rattle.bpf_model.specs.Step.{insn_at}
 use Rattle.bpf_model.specs.Places.{StartsAt}
@@ -47,7 +50,14 @@ load_is shape (JumpIf condition size dst src offset) v = absurd v
 load_is shape (Call kind imm) v = absurd v
 load_is shape Exit v = absurd v
 load_is shape (Load width dst src offset) v = record { slots = refl; falls_on = refl; no_jump = refl; no_byte = λ k h. h; no_call = ((λ e. cc), (λ e. cc)) }
-load_is shape (LoadSigned width dst src offset) v = record { slots = refl; falls_on = refl; no_jump = refl; no_byte = λ k h. h; no_call = ((λ e. cc), (λ e. cc)) }
+load_is shape (LoadSigned width dst src offset) v = record {
+  slots = refl;
+  falls_on = refl;
+  no_jump = refl;
+  no_byte =
+      λ k h. h;
+  no_call = ((λ e. cc), (λ e. cc));
+}
 load_is shape (Store width dst offset src) v = absurd v
 
 module _ (program : List Insn) (shapes : List MapShape) (start : ℕ) (l : IsGuardedLookup program shapes start) where
@@ -87,14 +97,20 @@ module _ (program : List Insn) (shapes : List MapShape) (start : ℕ) (l : IsGua
       let a = index_here program (start + 2) (part_insn l.lookup MapLoad) (l.parts MapLoad) in
       let b = index_here program (start + 3) i h in
       let further : a.0 < b.0 = starts_ordered 0 program a.0 b.0 (start + 2) (start + 3) a.2 b.2 (omega arith) in
-      let next : StartsAt program (suc a.0) (start + 2 + 2) = starts-next 0 program a.0 (start + 2) (part_insn l.lookup MapLoad) a.1 a.2 (omega (arith, start-inside program b.0 (start + 3) b.2, further)) in
+      let next : StartsAt program (suc a.0) (start + 2 + 2) =
+      starts-next 0 program a.0 (start + 2) (part_insn l.lookup MapLoad) a.1 a.2
+      (omega (arith, start-inside program b.0 (start + 3) b.2, further)) in
       elim (cases_eq b.0 (suc a.0)) [
-        | inl e ↦ (let same : start + 3 ≡ start + 2 + 2 = same_Some _ _ (sym b.2 ∙ ap (slice_get (starts_from 0 program)) e ∙ next) in absurd (omega (arith, same)))
-        | inr n ↦ (let more : start + 2 + 2 < start + 3 = starts_increase 0 program (suc a.0) b.0 (start + 2 + 2) (start + 3) next b.2 (omega (arith, further, n)) in absurd (omega (arith, more)))
+        | inl e ↦ (let same : start + 3 ≡ start + 2 + 2 =
+            same_Some _ _ (sym b.2 ∙ ap (slice_get (starts_from 0 program)) e ∙ next) in absurd (omega (arith, same)))
+        | inr n ↦ (let more : start + 2 + 2 < start + 3 =
+            starts_increase 0 program (suc a.0) b.0 (start + 2 + 2) (start + 3) next b.2
+            (omega (arith, further, n)) in absurd (omega (arith, more)))
       ]
 
   -- what stands at its slots is its parts
-  pub part_of_slot : (slot : ℕ) (i : Insn) → insn_at program slot ≡ Some i → start ≤ slot → slot ≤ start + 6 → (p : LookupPart) × (slot ≡ start + part_slot p) × (i ≡ part_insn l.lookup p)
+  pub part_of_slot : (slot : ℕ) (i : Insn) → insn_at program slot ≡ Some i → start ≤ slot → slot ≤ start + 6 →
+      (p : LookupPart) × (slot ≡ start + part_slot p) × (i ≡ part_insn l.lookup p)
   part_of_slot slot i h low high = elim (cases_eq slot start) [
     | inl e ↦ (FrameCopy, (let g : slot ≡ start + 0 = omega (arith, e) in g), same_Some _ _ (sym h ∙ ap (insn_at program) e ∙ at_start))
     | inr n0 ↦ elim (cases_eq slot (start + 1)) [
@@ -107,7 +123,12 @@ module _ (program : List Insn) (shapes : List MapShape) (start : ℕ) (l : IsGua
             | inl e ↦ (LookupCall, e, same_Some _ _ (sym h ∙ ap (insn_at program) e ∙ l.parts LookupCall))
             | inr n4 ↦ elim (cases_eq slot (start + 5)) [
               | inl e ↦ (NullTest, e, same_Some _ _ (sym h ∙ ap (insn_at program) e ∙ l.parts NullTest))
-              | inr n5 ↦ (let e : slot ≡ start + 6 = omega (arith, low, high, n0, n1, n2, n3, n4, n5) in (ValueLoad, e, same_Some _ _ (sym h ∙ ap (insn_at program) e ∙ l.parts ValueLoad)))
+              | inr n5 ↦ (let e : slot ≡ start + 6 = omega
+                  (arith, low, high, n0, n1, n2, n3, n4, n5) in (
+                    ValueLoad,
+                    e,
+                    same_Some _ _ (sym h ∙ ap (insn_at program) e ∙ l.parts ValueLoad),
+                  ))
             ]
           ]
         ]
@@ -186,15 +207,18 @@ module _ (program : List Insn) (shapes : List MapShape) (start : ℕ) (l : IsGua
   -- behind the call r0 to r5 hold no number
   module _ (reached : (slot : ℕ) (i : Insn) → insn_at program slot ≡ Some i → Reached program slot) (r : ℕ) (low : r ≤ 5) where
     lacks_5 : LacksRegister program shapes r (start + 5)
-    lacks_5 = lacks_call (start + 4) (start + 5) lookup_call (reached (start + 4) lookup_call (l.parts LookupCall)) (l.parts LookupCall) (inr (inr refl)) low (inl (refl, (let g : start + 5 ≡ start + 4 + 1 = omega arith in g)))
+    lacks_5 = lacks_call (start + 4) (start + 5) lookup_call (reached (start + 4) lookup_call (l.parts LookupCall))
+        (l.parts LookupCall) (inr (inr refl)) low (inl (refl, (let g : start + 5 ≡ start + 4 + 1 = omega arith in g)))
 
     lacks_6 : LacksRegister program shapes r (start + 6)
-    lacks_6 = lacks_next (start + 5) (start + 6) _ lacks_5 (l.parts NullTest) (λ w. absurd w) (inl (refl, (let g : start + 6 ≡ start + 5 + 1 = omega arith in g)))
+    lacks_6 = lacks_next (start + 5) (start + 6) _ lacks_5 (l.parts NullTest) (λ w. absurd w)
+        (inl (refl, (let g : start + 6 ≡ start + 5 + 1 = omega arith in g)))
 
     jumps_not : (p : LookupPart) (t : ℕ) → distance (part_insn l.lookup p) ≡ None → JumpsTo (part_insn l.lookup p) (start + part_slot p) t → ⊥
     jumps_not p t none j = none-some j.0 (sym none ∙ j.1)
 
-    inner : (p : LookupPart) (t : ℕ) → t ≡ start + part_slot p + slot_count (part_insn l.lookup p) → 0 < step_slot p → step_slot p ≤ 6 → IsInner program shapes t
+    inner : (p : LookupPart) (t : ℕ) → t ≡ start + part_slot p + slot_count (part_insn l.lookup p) → 0 < step_slot p →
+        step_slot p ≤ 6 → IsInner program shapes t
     inner p t e low high =
         let b = behind p in record {
           start = start;
@@ -204,7 +228,8 @@ module _ (program : List Insn) (shapes : List MapShape) (start : ℕ) (l : IsGua
         }
 
     -- nothing is said of them inside, and behind the lookup they lack a number
-    pub part_low : (p : LookupPart) (t : ℕ) → GoesTo (part_insn l.lookup p) (start + part_slot p) t → LacksRegister program shapes r t ⊎ ((r ≤ 5) × IsInner program shapes t)
+    pub part_low : (p : LookupPart) (t : ℕ) → GoesTo (part_insn l.lookup p) (start + part_slot p) t →
+        LacksRegister program shapes r t ⊎ ((r ≤ 5) × IsInner program shapes t)
     part_low FrameCopy t (inl f) = inr (low, inner FrameCopy t f.1 (omega arith) (omega arith))
     part_low FrameCopy t (inr j) = absurd (jumps_not FrameCopy t refl j)
     part_low KeyAddress t (inl f) = inr (low, inner KeyAddress t f.1 (omega arith) (omega arith))

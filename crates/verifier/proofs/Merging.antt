@@ -16,8 +16,11 @@ use Rattle.verifier.specs.declared.waiting.Waiting.TheVariants.{Nothing, Differi
 use Rattle.verifier.specs.SecondPass.{Awaited, state_in, AllBelow, JoinsTo, Joined, Merged}
 
 -- the state that waits and the one that comes are both joined into the new one
-pub joined_from : (w new : Waiting) (a b c : AbsState) → w ≢ Differing → state_in w ≡ Some a → state_in new ≡ Some c → Wider (state_of a) (state_of c) → Wider (state_of b) (state_of c)
-    → ((fact : Fact) → FactHolds fact (state_of a) → FactHolds fact (state_of b) → FactHolds fact (state_of c)) → ((l : GuardedLookup) (p : LookupPart) → Expects l p (state_of a) → Expects l p (state_of b) → Expects l p (state_of c)) → Joined w b new
+pub joined_from : (w new : Waiting) (a b c : AbsState) → w ≢ Differing → state_in w ≡ Some a → state_in new ≡ Some c →
+    Wider (state_of a) (state_of c) → Wider (state_of b) (state_of c)
+    → ((fact : Fact) → FactHolds fact (state_of a) → FactHolds fact (state_of b) → FactHolds fact (state_of c)) →
+    ((l : GuardedLookup) (p : LookupPart) → Expects l p (state_of a) → Expects l p (state_of b) →
+    Expects l p (state_of c)) → Joined w b new
 joined_from w new a b c n e f wide wide' facts expects = inr (
   c,
   f,
@@ -31,7 +34,8 @@ joined_from w new a b c n e f wide wide' facts expects = inr (
 )
 
 -- all that waits is below, but for one index: there too
-pub merged_below : (top index : ℕ) (old new : Awaited) → AllBelow top old → ((k : ℕ) → k ≢ index → new k ≡ old k) → IfSome (state_in (new index)) (AreBelow top) → AllBelow top new
+pub merged_below : (top index : ℕ) (old new : Awaited) → AllBelow top old → ((k : ℕ) → k ≢ index → new k ≡ old k) →
+    IfSome (state_in (new index)) (AreBelow top) → AllBelow top new
 merged_below top index old new b others here k a e = elim (cases_eq k index) [
   | inl g ↦ at_some (state_in (new index)) (ap (λ k. state_in (new k)) (sym g) ∙ e) here
   | inr n ↦ b k a (ap state_in (sym (others k n)) ∙ e)
@@ -106,7 +110,8 @@ pub taken_below : (top index : ℕ) (old new : Awaited) → AllBelow top old →
 taken_below top index old new b others gone = merged_below top index old new b others (subst (λ w. IfSome (state_in w) (AreBelow top)) (sym gone) tt)
 
 -- what waits after what waited at one index was taken out
-pub taken_others : (index : ℕ) (old rest : Awaited) → rest index ≡ Nothing → ((k : ℕ) → k ≢ index → rest k ≡ old k) → (k : ℕ) (a : AbsState) → state_in (rest k) ≡ Some a → (k ≢ index) × (state_in (old k) ≡ Some a)
+pub taken_others : (index : ℕ) (old rest : Awaited) → rest index ≡ Nothing → ((k : ℕ) → k ≢ index → rest k ≡ old k) →
+    (k : ℕ) (a : AbsState) → state_in (rest k) ≡ Some a → (k ≢ index) × (state_in (old k) ≡ Some a)
 taken_others index old rest gone others k a e = elim (cases_eq k index) [
   | inl g ↦ absurd (let f : None ≡ Some a = sym (ap state_in (ap rest g ∙ gone)) ∙ e in cc)
   | inr n ↦ (n, ap state_in (sym (others k n)) ∙ e)

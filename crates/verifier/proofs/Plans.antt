@@ -29,7 +29,8 @@ use Rattle.effects.specs.Calls.{MayLookUp}
 use Rattle.effects.specs.declared.region.Region.{Region}
 use Rattle.verifier.specs.declared.waiting.Waiting.{Waiting}
 use Rattle.verifier.specs.declared.waiting.Waiting.TheVariants.{Nothing, Differing}
-use Rattle.verifier.specs.SecondPass.{Awaited, Table, size_of, awaited, state_in, planned, Fell, Jumped, Spreads, Advances, Notes, Passed, IsPassed, DiffersAhead, HasWaiting, StartsFrom}
+use Rattle.verifier.specs.SecondPass.{Awaited, Table, size_of, awaited, state_in, planned, Fell, Jumped, Spreads}
+use Rattle.verifier.specs.SecondPass.{Advances, Notes, Passed, IsPassed, DiffersAhead, HasWaiting, StartsFrom}
 use Rattle.verifier.proofs.Merging.{Later, same_later, Stays, AllStay, same_stay, merged_there, merged_later, merged_or}
 use Rattle.bpf_model.proofs.Lists.{get-append_cases, get-below}
 
@@ -39,7 +40,8 @@ length_slots [] = omega arith
 length_slots (i ∷ is) = omega (arith, length_slots is, slot_count_some i, sum_by-cons slot_count i is)
 
 -- an instruction that falls through isn't the last
-exit_last : (program front : List Insn) (k : ℕ) (i : Insn) → program ≡ front ++ Exit ∷ [] → slice_get program k ≡ Some i → falls i ≡ true → suc k < length program
+exit_last : (program front : List Insn) (k : ℕ) (i : Insn) → program ≡ front ++ Exit ∷ [] →
+    slice_get program k ≡ Some i → falls i ≡ true → suc k < length program
 exit_last program front k i e f g = subst (λ p. suc k < length p) (sym e) (at front k (ap (λ p. slice_get p k) (sym e) ∙ f))
   where
     at : (front : List Insn) (k : ℕ) → slice_get (front ++ Exit ∷ []) k ≡ Some i → suc k < length (front ++ Exit ∷ [])
@@ -56,7 +58,9 @@ pub falls_inside : (program : List Insn) (k : ℕ) (i : Insn) → EndsWithExit p
 falls_inside program k i last e f = exit_last program last.0 k i last.1 e f
 
 -- a jump leads further on
-pub jumps_further : (program : List Insn) (targets : List (Option ℕ)) (long : length targets ≡ length program) (all : HasTargets program targets) (k : ℕ) (target : Option ℕ) → slice_get targets k ≡ Some target → (t : ℕ) → target ≡ Some t → k < t
+pub jumps_further : (program : List Insn) (targets : List (Option ℕ)) (long : length targets ≡ length program)
+    (all : HasTargets program targets) (k : ℕ) (target : Option ℕ) → slice_get targets k ≡ Some target → (t : ℕ) →
+    target ≡ Some t → k < t
 jumps_further program targets long all k target e t f =
     let i = get-below program k (let h = slice_get_within targets k target e in omega (arith, h, long)) in
     let l : LeadsTo program k i.0 t = subst (IsTarget program k i.0) f (all.each k i.0 target i.1 e) in
@@ -106,7 +110,8 @@ module _ (target : Option ℕ) (jumping : Option AbsState) (mid new : Awaited) w
   jumped_there (inr (inl f, h)) t s e g = absurd (let x : None ≡ Some t = sym f ∙ e in cc)
   jumped_there (inr (inr f, h)) t s e g = absurd (let x : None ≡ Some s = sym f ∙ g in cc)
 
-  jumped_or : Jumped target jumping mid new → ((t : ℕ) × (target ≡ Some t) × (new t ≡ Differing)) ⊎ (AllStay mid new × ((t : ℕ) (s : AbsState) → target ≡ Some t → jumping ≡ Some s → Stays new t s))
+  jumped_or : Jumped target jumping mid new → ((t : ℕ) × (target ≡ Some t) × (new t ≡ Differing))
+      ⊎ (AllStay mid new × ((t : ℕ) (s : AbsState) → target ≡ Some t → jumping ≡ Some s → Stays new t s))
   jumped_or (inl f) = elim (merged_or f.0 f.1 mid new f.4) [
     | inl h ↦ inl (f.0, f.2, h)
     | inr h ↦ inr (h.0, λ t s e g. subst (λ t. Stays new t s) (same_Some _ _ (sym f.2 ∙ e)) (subst (Stays new f.0) (same_Some _ _ (sym f.3 ∙ g)) h.1))
@@ -140,7 +145,8 @@ module _ (program : List Insn) (targets : List (Option ℕ)) (all : HasTargets p
       go (Some t) f = (t, f)
 
   jumping_state : (t : ℕ) → done.target ≡ Some t → spread.jumping ≡ Some (unwrap_or spread.taken spread.next)
-  jumping_state t e = jumping_is spread.next done.insn k spread.taken spread.jumping done.rest spread.mid spread.fell (λ f. spread.transfer.branches (f, has_distance t e))
+  jumping_state t e = jumping_is spread.next done.insn k spread.taken spread.jumping done.rest spread.mid spread.fell
+      (λ f. spread.transfer.branches (f, has_distance t e))
 
   later : Later done.rest new
   later =
@@ -185,7 +191,13 @@ module _ (program : List Insn) (targets : List (Option ℕ)) (all : HasTargets p
   pub differs_on : DiffersAhead (length program) k old → DiffersAhead (length program) (k + 1) new
   differs_on d =
       let other : d.index ≢ k = (λ e. (let g : None ≡ Some done.state = sym (ap state_in (ap old (sym e) ∙ d.differs)) ∙ done.waited in cc)) in
-      record { index = d.index; ahead = (let h = d.ahead in omega arith); inside = d.inside; differs = later.differs d.index (done.others d.index other ∙ d.differs) }
+      record {
+        index = d.index;
+        ahead = (let h = d.ahead in omega arith);
+        inside = d.inside;
+        differs =
+            later.differs d.index (done.others d.index other ∙ d.differs);
+      }
 
   -- the plan so far up to the instruction, and what waits behind it
   abbrev spliced : Plan → Plan
@@ -235,13 +247,15 @@ module _ (program : List Insn) (targets : List (Option ℕ)) (all : HasTargets p
     known_here : (a : model.AbsState) → spliced plan k ≡ Some a → state_of done.state ≡ a
     known_here a e = same_Some _ _ (sym (ap (option_map state_of) done.waited) ∙ sym (before.rest k (omega arith)) ∙ back k a (omega arith) e)
 
-    jumps_here : (by : ℤ) → distance done.insn ≡ Some by → (t : ℕ) × LeadsTo program k done.insn t × Covers (spliced plan) t (unwrap_or (option_map state_of spread.taken) (state_of spread.next))
+    jumps_here : (by : ℤ) → distance done.insn ≡ Some by → (t : ℕ) × LeadsTo program k done.insn t ×
+        Covers (spliced plan) t (unwrap_or (option_map state_of spread.taken) (state_of spread.next))
     jumps_here by e =
         let t = has_target by e in
         let l = leads_to t.0 t.1 in (
           t.0,
           l,
-          subst (Covers (spliced plan) t.0) (unwrapped_state spread.taken spread.next) (covers_waiting t.0 (unwrap_or spread.taken spread.next) l.further (steps.jumps_on t.0 t.1)),
+          subst (Covers (spliced plan) t.0) (unwrapped_state spread.taken spread.next)
+              (covers_waiting t.0 (unwrap_or spread.taken spread.next) l.further (steps.jumps_on t.0 t.1)),
         )
 
     covered_here : plans.IsCovered program shapes ctx_len (spliced plan) k (state_of done.state)
@@ -302,11 +316,14 @@ module _ (program : List Insn) (targets : List (Option ℕ)) (all : HasTargets p
     where
       here : (m : ℕ) → Follows done.insn done.target k m → new m ≢ Nothing
       here m (inl g) x =
-          (jumped_later done.target spread.jumping spread.mid new spread.jumped).waits (suc k) (fell_there spread.next done.insn k spread.taken spread.jumping done.rest spread.mid spread.fell g.0) (ap new (sym g.1) ∙ x)
+          (jumped_later done.target spread.jumping spread.mid new spread.jumped).waits (suc k)
+          (fell_there spread.next done.insn k spread.taken spread.jumping done.rest spread.mid spread.fell g.0)
+          (ap new (sym g.1) ∙ x)
       here m (inr g) x = jumped_there done.target spread.jumping spread.mid new spread.jumped m (unwrap_or spread.taken spread.next) g (jumping_state m g) x
 
 -- before the first instruction
-pub passed_none : (program : List Insn) (shapes : List MapShape) (ctx_len : ℕ) (at : Awaited) → StartsFrom at → Passed program [] shapes ctx_len 0 (planned at) at
+pub passed_none : (program : List Insn) (shapes : List MapShape) (ctx_len : ℕ) (at : Awaited) → StartsFrom at →
+    Passed program [] shapes ctx_len 0 (planned at) at
 passed_none program shapes ctx_len at s = record {
   start = (state_of s.state, ap (option_map state_of) s.waits, alike_wider entry_state (state_of s.state) s.alike);
   rest = λ m h. refl;
@@ -320,7 +337,8 @@ awaits_none program targets at s = record {
 }
 
 -- something waits for each instruction of a good graph
-pub waits_here : (program : List Insn) (targets : List (Option ℕ)) (long : length targets ≡ length program) (all : HasTargets program targets) (k : ℕ) (at : Awaited)
+pub waits_here : (program : List Insn) (targets : List (Option ℕ)) (long : length targets ≡ length program)
+    (all : HasTargets program targets) (k : ℕ) (at : Awaited)
     → HasGoodGraph program → HasWaiting program targets k at → k < length program → at k ≢ Nothing
 waits_here program targets long all k at graph w h = elim (reached_by (graph.reached s.0 i.0 (start-insn program k s.0 i.0 i.1 s.1))) [
   | inl e ↦
@@ -338,7 +356,8 @@ waits_here program targets long all k at graph w h = elim (reached_by (graph.rea
     s = start_of-insn 0 program k i.0 i.1
 
 -- all instructions are done
-pub passed_all : (program : List Insn) (regions : List Region) (shapes : List MapShape) (ctx_len k : ℕ) (t : Table) → k ≡ length program → size_of t ≡ length program
+pub passed_all : (program : List Insn) (regions : List Region) (shapes : List MapShape) (ctx_len k : ℕ) (t : Table) →
+    k ≡ length program → size_of t ≡ length program
     → DiffersAhead (length program) k (awaited t) ⊎ ((plan : Plan) × Passed program regions shapes ctx_len k plan (awaited t))
     → (plan : Plan) × IsPassed program regions shapes ctx_len plan
 passed_all program regions shapes ctx_len k t e f (inl d) = absurd (let h = d.ahead in let l = d.inside in omega arith)

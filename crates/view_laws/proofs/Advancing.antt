@@ -15,12 +15,22 @@ use Rattle.view_laws.proofs.Listing.{named-turned}
 use Rattle.bpf_model.proofs.Cases.{oldest-none}
 use Rattle.view_laws.proofs.Worlds.{steps}
 
-stands-turned : (w : WorldView) (s : Schedule) (x : RefinesSchedule w s) (k : ℕ) (v : MapView) (m : MapState) (q : Queues) → MapRefines x.slots k s.machine.store.elements q v m → MapRefines x.slots k s.machine.store.elements (turned q) (turned_view v) m
+stands-turned : (w : WorldView) (s : Schedule) (x : RefinesSchedule w s) (k : ℕ) (v : MapView) (m : MapState)
+    (q : Queues) → MapRefines x.slots k s.machine.store.elements q v m →
+    MapRefines x.slots k s.machine.store.elements (turned q) (turned_view v) m
 stands-turned w s x k v m q h = record {
   state = h.state;
   lists = ap turned h.lists ∙ named-turned x.slots q;
   free = record { room = h.free.room; once = h.free.once; inside = h.free.inside };
-  elements = record { occupied = h.elements.occupied; single = h.elements.single; apart = h.elements.apart; found = h.elements.found; finds = h.elements.finds; counted = h.elements.counted };
+  elements = record {
+    occupied = h.elements.occupied;
+    single = h.elements.single;
+    apart = h.elements.apart;
+    found =
+        h.elements.found;
+    finds = h.elements.finds;
+    counted = h.elements.counted;
+  };
 }
 
 abbrev later : Schedule → Schedule
@@ -34,7 +44,9 @@ world-turned w s x = record {
   map = λ k v m q at there listed.
       let a = map-back turned_view w.maps k v at in
       let b = map-back turned s.queues k q listed in
-      subst (λ z. MapRefines x.slots k s.machine.store.elements z v m) b.2 (subst (λ z. MapRefines x.slots k s.machine.store.elements (turned b.0) z m) a.2 (stands-turned w s x k a.0 m b.0 (x.map k a.0 m b.0 a.1 there b.1)));
+      subst (λ z. MapRefines x.slots k s.machine.store.elements z v m) b.2
+      (subst (λ z. MapRefines x.slots k s.machine.store.elements (turned b.0) z m) a.2
+      (stands-turned w s x k a.0 m b.0 (x.map k a.0 m b.0 a.1 there b.1)));
   runs = x.runs;
   opened = x.opened;
   awaited = x.opened;

@@ -46,7 +46,8 @@ changes-same k slots es = record {
   counts = λ j ne. refl;
 }
 
-pub changes-trans : (k : ℕ) (slots names more : List ℕ) (es fs gs : List Element) → Changes k slots names es fs → Changes k names more fs gs → Changes k slots more es gs
+pub changes-trans : (k : ℕ) (slots names more : List ℕ) (es fs gs : List Element) → Changes k slots names es fs →
+    Changes k names more fs gs → Changes k slots more es gs
 changes-trans k slots names more es fs gs a b = record {
   grows = λ n h. b.grows n (a.grows n h);
   named = λ n h. b.named n (a.grows n h) ∙ a.named n h;
@@ -113,14 +114,18 @@ module _ (k : ℕ) (es : List Element) (n : ℕ) (e : Element) (l : Life) (born 
     grows = λ a h. subst (λ x. a < x) (sym (length-set es n (with_life l e))) h;
     named = λ a h. refl;
     maps = λ a h. elim (cases_eq a n) [
-      | inl same ↦ ap (λ b. map_in (slice_get fs b)) same ∙ (ap map_in (get-set_there es n e (with_life l e) born ∙ refl) ∙ (ap map_in (sym born) ∙ ap (λ b. map_in (slice_get es b)) (sym same)))
+      | inl same ↦ ap (λ b. map_in (slice_get fs b)) same ∙
+          (ap map_in (get-set_there es n e (with_life l e) born ∙ refl) ∙
+          (ap map_in (sym born) ∙ ap (λ b. map_in (slice_get es b)) (sym same)))
       | inr ne ↦ ap map_in (at-other a ne)
     ];
     back = λ a f h at kept_now. elim (get-set_cases es n a (with_life l e) f at) [
       | inl x ↦ record { element = e; born = ap (slice_get es) x.0 ∙ born; kept = kept; in_map = ap (λ z. z.map) x.1; view = λ ne. ap slot_view x.1 }
       | inr x ↦ was-same k es a f x.1 kept_now
     ];
-    newborns = λ a f h at kept_now. let z : a < length fs = slice_get_within fs a f at in let s : length fs ≡ length es = length-set es n (with_life l e) in absurd (omega arith);
+    newborns = λ a f h at kept_now. let z : a < length fs =
+        slice_get_within fs a f at in let s : length fs ≡ length es =
+        length-set es n (with_life l e) in absurd (omega arith);
     links = λ j key a ne h. link-kept j key a (away j key a ne h) h;
     linked = λ j key a ne h. link-back j key a (gone j key a ne h) h;
     counts = λ j ne.
@@ -149,7 +154,14 @@ module _ (k : ℕ) (es : List Element) (n : ℕ) (e : Element) (value : List ℕ
           in_map = ap (λ z. z.map) (sym x) ∙ h.in_map;
           under = ap (λ z. z.key) (sym x) ∙ h.under;
         }
-    | inr ne ↦ record { element = h.element; born = get-set_other es n a (with_value value e) ne ∙ h.born; linked = h.linked; in_map = h.in_map; under = h.under }
+    | inr ne ↦ record {
+      element = h.element;
+      born = get-set_other es n a (with_value value e) ne ∙ h.born;
+      linked =
+          h.linked;
+      in_map = h.in_map;
+      under = h.under;
+    }
   ]
 
   pub link-unwritten : (j : ℕ) (key : List ℕ) (a : ℕ) → IsLinkedAt vs j key a → IsLinkedAt es j key a
@@ -163,7 +175,13 @@ module _ (k : ℕ) (es : List Element) (n : ℕ) (e : Element) (value : List ℕ
           in_map = ap (λ (z : Element). z.map) x ∙ h.in_map;
           under = ap (λ (z : Element). z.key) x ∙ h.under;
         }
-    | inr ne ↦ record { element = h.element; born = sym (get-set_other es n a (with_value value e) ne) ∙ h.born; linked = h.linked; in_map = h.in_map; under = h.under }
+    | inr ne ↦ record {
+      element = h.element;
+      born = sym (get-set_other es n a (with_value value e) ne) ∙ h.born;
+      linked = h.linked;
+      in_map = h.in_map;
+      under = h.under;
+    }
   ]
 
   pub count-written : (p : Life → ℕ → Bool) → count_by (λ x. p x.life x.map) vs ≡ count_by (λ x. p x.life x.map) es
@@ -174,14 +192,25 @@ module _ (k : ℕ) (es : List Element) (n : ℕ) (e : Element) (value : List ℕ
     grows = λ a h. subst (λ x. a < x) (sym (length-set es n (with_value value e))) h;
     named = λ a h. refl;
     maps = λ a h. elim (cases_eq a n) [
-      | inl same ↦ ap (λ b. map_in (slice_get vs b)) same ∙ (ap map_in (get-set_there es n e (with_value value e) born) ∙ (ap map_in (sym born) ∙ ap (λ b. map_in (slice_get es b)) (sym same)))
+      | inl same ↦ ap (λ b. map_in (slice_get vs b)) same ∙
+          (ap map_in (get-set_there es n e (with_value value e) born) ∙
+          (ap map_in (sym born) ∙ ap (λ b. map_in (slice_get es b)) (sym same)))
       | inr ne ↦ ap map_in (get-set_other es n a (with_value value e) ne)
     ];
     back = λ a f h at kept_now. elim (get-set_cases es n a (with_value value e) f at) [
-      | inl x ↦ record { element = e; born = ap (slice_get es) x.0 ∙ born; kept = kept; in_map = ap (λ (z : Element). z.map) x.1; view = λ ne. absurd (ne (ap (λ (z : Element). z.map) (sym x.1) ∙ in_map)) }
+      | inl x ↦ record {
+        element = e;
+        born = ap (slice_get es) x.0 ∙ born;
+        kept = kept;
+        in_map =
+            ap (λ (z : Element). z.map) x.1;
+        view = λ ne. absurd (ne (ap (λ (z : Element). z.map) (sym x.1) ∙ in_map));
+      }
       | inr x ↦ was-same k es a f x.1 kept_now
     ];
-    newborns = λ a f h at kept_now. let z : a < length vs = slice_get_within vs a f at in let s : length vs ≡ length es = length-set es n (with_value value e) in absurd (omega arith);
+    newborns = λ a f h at kept_now. let z : a < length vs =
+        slice_get_within vs a f at in let s : length vs ≡ length es =
+        length-set es n (with_value value e) in absurd (omega arith);
     links = λ j key a ne h. link-written j key a h;
     linked = λ j key a ne h. link-unwritten j key a h;
     counts = λ j ne. count-written (λ life map. is_linked life && (map == j));
@@ -199,7 +228,14 @@ module _ (k : ℕ) (slots : List ℕ) (es : List Element) (births : length slots
   length-born = length-append es (child ∷ [])
 
   pub link-grown : (j : ℕ) (q : List ℕ) (a : ℕ) → IsLinkedAt es j q a → IsLinkedAt gs j q a
-  link-grown j q a h = record { element = h.element; born = get-append es (child ∷ []) a h.element h.born; linked = h.linked; in_map = h.in_map; under = h.under }
+  link-grown j q a h = record {
+    element = h.element;
+    born = get-append es (child ∷ []) a h.element h.born;
+    linked =
+        h.linked;
+    in_map = h.in_map;
+    under = h.under;
+  }
 
   -- a linked element was so before, or is the one that is born
   pub link-cases : (j : ℕ) (q : List ℕ) (a : ℕ) → IsLinkedAt gs j q a → IsLinkedAt es j q a ⊎ ((a ≡ length es) × (k ≡ j) × (key ≡ q))
@@ -226,5 +262,6 @@ module _ (k : ℕ) (slots : List ℕ) (es : List Element) (births : length slots
     ];
     links = λ j q a ne h. link-grown j q a h;
     linked = λ j q a ne h. elim (link-cases j q a h) [ inl x ↦ x | inr x ↦ absurd (ne (sym x.1)) ];
-    counts = λ j ne. let c = count-born j in let z : one_of (k == j) ≡ 0 = ap one_of (false_from_ne_true (k == j) (λ t. ne (sym (eqb-true k j t)))) in omega arith;
+    counts = λ j ne. let c = count-born j in let z : one_of (k == j) ≡ 0 =
+        ap one_of (false_from_ne_true (k == j) (λ t. ne (sym (eqb-true k j t)))) in omega arith;
   }

@@ -51,7 +51,8 @@ pub record Drops (slots : List ℕ) (k : ℕ) (store : Store) (opened : List Sec
   pub long : length left ≡ length store.elements
   pub changes : Changes k slots slots store.elements left
   pub given : count_by (λ e. is_reclaimed e.life) left ≡ count_by (λ e. is_reclaimed e.life) store.elements
-  pub lists : (more : List Element) (names : List ℕ) → Renames slots names (length store.elements) → lists_of new ≡ named names (retired_in k store.elements (left ++ more) q)
+  pub lists : (more : List Element) (names : List ℕ) → Renames slots names (length store.elements) →
+      lists_of new ≡ named names (retired_in k store.elements (left ++ more) q)
   pub others : (j : ℕ) → j ≢ k → (more : List Element) → unlinked_between j 0 store.elements (left ++ more) ≡ []
   pub state : map_state_of new ≡ map_state_of v
   pub free : new.free ≡ v.free
@@ -59,13 +60,17 @@ pub record Drops (slots : List ℕ) (k : ℕ) (store : Store) (opened : List Sec
   pub elements : ElementsStand slots k left new
   pub absent : get new.index key ≡ None
 
-reclaimed-same : (es : List Element) (n : ℕ) (e : Element) (opened : List Section) → slice_get es n ≡ Some e → e.life ≡ Linked → count_by (λ x. is_reclaimed x.life) (slice_set es n (with_life (Unlinked opened) e)) ≡ count_by (λ x. is_reclaimed x.life) es
+reclaimed-same : (es : List Element) (n : ℕ) (e : Element) (opened : List Section) → slice_get es n ≡ Some e →
+    e.life ≡ Linked → count_by (λ x. is_reclaimed x.life) (slice_set es n (with_life (Unlinked opened) e)) ≡ count_by
+    (λ x. is_reclaimed x.life) es
 reclaimed-same es n e opened at life =
     let a = count-set (λ (x : Element). is_reclaimed x.life) es n e (with_life (Unlinked opened) e) at in
     let b : one_of (is_reclaimed e.life) ≡ 0 = ap (λ l. one_of (is_reclaimed l)) life in
     omega arith
 
-module _ (slots : List ℕ) (k : ℕ) (store : Store) (opened : List Section) (q : Queues) (v : MapView) (key : List ℕ) (s : ElementsStand slots k store.elements v) (free : SlotsStand v) (lists : (names : List ℕ) → Renames slots names (length store.elements) → lists_of v ≡ named names q) where
+module _ (slots : List ℕ) (k : ℕ) (store : Store) (opened : List Section) (q : Queues) (v : MapView) (key : List ℕ)
+    (s : ElementsStand slots k store.elements v) (free : SlotsStand v)
+    (lists : (names : List ℕ) → Renames slots names (length store.elements) → lists_of v ≡ named names q) where
   drops-none : get v.index key ≡ None → Drops slots k store opened q v v key None
   drops-none h = record {
     found = None;
@@ -77,7 +82,8 @@ module _ (slots : List ℕ) (k : ℕ) (store : Store) (opened : List Section) (q
     long = refl;
     changes = changes-same k slots store.elements;
     given = refl;
-    lists = λ more names same. lists names same ∙ ap (named names) (sym (more-none k store.elements (store.elements ++ more) q (between-more k 0 store.elements more)));
+    lists = λ more names same. lists names same ∙ ap (named names)
+        (sym (more-none k store.elements (store.elements ++ more) q (between-more k 0 store.elements more)));
     others = λ j ne more. between-more j 0 store.elements more;
     state = refl;
     free = refl;
@@ -86,7 +92,9 @@ module _ (slots : List ℕ) (k : ℕ) (store : Store) (opened : List Section) (q
     absent = h;
   }
 
-  drops-some : (n : ℕ) → (h : IsLinkedAt store.elements k key n) → Drops slots k store opened q v (retired_slot v key (Some (slice_index slots n))) key (Some (slice_index slots n))
+  drops-some : (n : ℕ) → (h : IsLinkedAt store.elements k key n) →
+      Drops slots k store opened q v (retired_slot v key (Some (slice_index slots n))) key
+      (Some (slice_index slots n))
   drops-some n h =
       let left : List Element = slice_set store.elements n (with_life (Unlinked opened) h.element) in
       let is : left ≡ unlinked opened store.elements (Some n) = ap (set_to (with_life (Unlinked opened)) store.elements n) (sym h.born) in
@@ -102,9 +110,21 @@ module _ (slots : List ℕ) (k : ℕ) (store : Store) (opened : List Section) (q
         given = reclaimed-same store.elements n h.element opened h.born h.linked;
         lists = λ more names same.
             let zero_plus : n ≡ 0 + n = omega arith in
-            ap (λ (l : Queues). let z : Queues = record { next = l.next ++ slice_index slots n ∷ []; waiting = l.waiting; ready = l.ready } in z) (lists names same)
-            ∙ (ap (λ j. let z : Queues = record { next = map (slice_index names) q.next ++ j ∷ []; waiting = map (slice_index names) q.waiting; ready = map (slice_index names) q.ready } in z) (sym (same n (slice_get_within store.elements n h.element h.born)))
-            ∙ sym (more-one k n names store.elements (left ++ more) q (between-one k 0 store.elements more n n h.element opened h.born h.linked h.in_map zero_plus)));
+            ap (λ (l : Queues). let z : Queues = record {
+              next = l.next ++ slice_index slots n ∷ [];
+              waiting =
+                  l.waiting;
+              ready = l.ready;
+            } in z) (lists names same)
+            ∙ (ap (λ j. let z : Queues = record {
+              next = map (slice_index names) q.next ++ j ∷ [];
+              waiting =
+                  map (slice_index names) q.waiting;
+              ready = map (slice_index names) q.ready;
+            } in z)
+            (sym (same n (slice_get_within store.elements n h.element h.born)))
+            ∙ sym (more-one k n names store.elements (left ++ more) q
+            (between-one k 0 store.elements more n n h.element opened h.born h.linked h.in_map zero_plus)));
         others = λ j ne more. between-other j 0 store.elements more n h.element (Unlinked opened) h.born (λ e. ne (sym e ∙ h.in_map));
         state = refl;
         free = refl;
@@ -123,7 +143,8 @@ module _ (slots : List ℕ) (k : ℕ) (store : Store) (opened : List Section) (q
   drops = drops-at (get v.index key) refl
 
 -- a map of a world that stands
-module _ (w : WorldView) (s : Schedule) (x : RefinesSchedule w s) (i : IsScheduled s) (k : ℕ) (v : MapView) (at : slice_get w.maps k ≡ Some v) (key : List ℕ) where
+module _ (w : WorldView) (s : Schedule) (x : RefinesSchedule w s) (i : IsScheduled s) (k : ℕ) (v : MapView)
+    (at : slice_get w.maps k ≡ Some v) (key : List ℕ) where
   abbrev pub h : Here w s x k v
   h = here w s x k v at
 
@@ -131,28 +152,37 @@ module _ (w : WorldView) (s : Schedule) (x : RefinesSchedule w s) (i : IsSchedul
   Dropped = Drops x.slots k s.machine.store (open_sections s.machine.runs) h.lists v (retired_key v key) key (get v.index key)
 
   pub drop : Dropped
-  drop = drops x.slots k s.machine.store (open_sections s.machine.runs) h.lists v key h.stands.elements h.stands.free (λ names same. h.stands.lists ∙ named-kept s i k h.lists h.listed x.slots names same)
+  drop = drops x.slots k s.machine.store (open_sections s.machine.runs) h.lists v key h.stands.elements h.stands.free
+      (λ names same. h.stands.lists ∙ named-kept s i k h.lists h.listed x.slots names same)
 
   -- the lists of the next schedule, whatever else is born
-  pub lists-left : (d : Dropped) (more : List Element) (names : List ℕ) → Renames x.slots names (length s.machine.store.elements) → (q : Queues) → slice_get (retired 0 s.machine.store.elements (d.left ++ more) s.queues) k ≡ Some q → lists_of (retired_key v key) ≡ named names q
+  pub lists-left : (d : Dropped) (more : List Element) (names : List ℕ) →
+      Renames x.slots names (length s.machine.store.elements) → (q : Queues) →
+      slice_get (retired 0 s.machine.store.elements (d.left ++ more) s.queues) k ≡ Some q →
+      lists_of (retired_key v key) ≡ named names q
   lists-left d more names same q g =
       let b = retired-back s.machine.store.elements (d.left ++ more) s.queues k q g in
       let one : h.lists ≡ b.0 = same_Some h.lists b.0 (sym h.listed ∙ b.1) in
       d.lists more names same ∙ ap (named names) (ap (retired_in k s.machine.store.elements (d.left ++ more)) one ∙ b.2)
 
-  pub lists-others : (d : Dropped) (more : List Element) (j : ℕ) (q : Queues) → j ≢ k → slice_get (retired 0 s.machine.store.elements (d.left ++ more) s.queues) j ≡ Some q → slice_get s.queues j ≡ Some q
+  pub lists-others : (d : Dropped) (more : List Element) (j : ℕ) (q : Queues) → j ≢ k →
+      slice_get (retired 0 s.machine.store.elements (d.left ++ more) s.queues) j ≡ Some q →
+      slice_get s.queues j ≡ Some q
   lists-others d more j q ne g =
       let b = retired-back s.machine.store.elements (d.left ++ more) s.queues j q g in
       b.1 ∙ ap Some (sym (more-none j s.machine.store.elements (d.left ++ more) b.0 (d.others j ne more)) ∙ b.2)
 
   -- what a delete does to the store
-  pub deletes-by : (d : Dropped) (kind : MapKind) → v.shape.kind ≡ kind → (ret : Result (Unit {0}) Errno) (new : Store) → RemovesFrom kind d.found (open_sections s.machine.runs) ret s.machine.store new → Deletes s.machine.store (open_sections s.machine.runs) k key ret new
+  pub deletes-by : (d : Dropped) (kind : MapKind) → v.shape.kind ≡ kind →
+      (ret : Result (Unit {0}) Errno) (new : Store) → RemovesFrom kind d.found (open_sections s.machine.runs) ret
+      s.machine.store new → Deletes s.machine.store (open_sections s.machine.runs) k key ret new
   deletes-by d kind is ret new r = record {
     state = h.state;
     there = h.there;
     found = d.found;
     lookup = d.looks;
-    removed = subst (λ j. RemovesFrom j d.found (open_sections s.machine.runs) ret s.machine.store new) (sym (ap (λ (m : MapState). m.shape.kind) h.stands.state ∙ is)) r;
+    removed = subst (λ j. RemovesFrom j d.found (open_sections s.machine.runs) ret s.machine.store new)
+        (sym (ap (λ (m : MapState). m.shape.kind) h.stands.state ∙ is)) r;
   }
 
   -- a delete from a hash map
@@ -187,7 +217,14 @@ module _ (w : WorldView) (s : Schedule) (x : RefinesSchedule w s) (i : IsSchedul
     deletes kind = deletes-by d Hash kind (delete_result (get v.index key)) after d.result
 
     pub deletes-half : v.shape.kind ≡ Hash → DeletesHalf (with_map k (retired_key v key) w) s k key (delete_result (get v.index key))
-    deletes-half kind = record { store = after; changes = deletes kind; oldest = oldest-none s.machine.store after d.long; refines = turned-world w s x i k (retired_key v key) after queues s.awaited w.given turns refl (x.given ∙ sym d.given) }
+    deletes-half kind = record {
+      store = after;
+      changes = deletes kind;
+      oldest =
+          oldest-none s.machine.store after d.long;
+      refines =
+          turned-world w s x i k (retired_key v key) after queues s.awaited w.given turns refl (x.given ∙ sym d.given);
+    }
 
 module _ (w : WorldView) (s : Schedule) (sim : Matches w s) (k : ℕ) (v : MapView) (key : List ℕ) (at : slice_get w.maps k ≡ Some v) where
   dropped : Dropped w s sim.refines sim.scheduled k v at key
@@ -195,13 +232,17 @@ module _ (w : WorldView) (s : Schedule) (sim : Matches w s) (k : ℕ) (v : MapVi
 
   half-by : (kind : MapKind) → v.shape.kind ≡ kind → DeletesHalf (with_map k (deleted_from kind v key).1 w) s k key (deleted_from kind v key).0
   half-by Hash is = deletes-half w s sim.refines sim.scheduled k v at key dropped is
-  half-by Array is = stays-half w s sim.refines sim.scheduled k v at (Deletes s.machine.store (open_sections s.machine.runs) k key (Err InvalidArgument)) (deletes-by w s sim.refines sim.scheduled k v at key dropped Array is (Err InvalidArgument) s.machine.store (refl, refl))
+  half-by Array is = stays-half w s sim.refines sim.scheduled k v at
+      (Deletes s.machine.store (open_sections s.machine.runs) k key (Err InvalidArgument))
+      (deletes-by w s sim.refines sim.scheduled k v at key dropped Array is (Err InvalidArgument) s.machine.store
+      (refl, refl))
 
   pub delete_half : DeletesHalf (with_map k (deleted v key).1 w) s k key (deleted v key).0
   delete_half = half-by v.shape.kind refl
 
 module _ (w : WorldView) (s : Schedule) (sim : Matches w s) (k : ℕ) (key : ArrayVec ℕ) where
-  deletes-at : (v : MapView) → slice_get w.maps k ≡ Some v → refusal s.machine (events.Delete k key) ≡ None → Simulates s (events.Delete k key) (Ret (deleted v key.items).0, with_map k (deleted v key.items).1 w)
+  deletes-at : (v : MapView) → slice_get w.maps k ≡ Some v → refusal s.machine (events.Delete k key) ≡ None →
+      Simulates s (events.Delete k key) (Ret (deleted v key.items).0, with_map k (deleted v key.items).1 w)
   deletes-at v at pass =
       let event = events.Delete k key in
       let new : WorldView = with_map k (deleted v key.items).1 w in
@@ -214,9 +255,16 @@ module _ (w : WorldView) (s : Schedule) (sim : Matches w s) (k : ℕ) (key : Arr
         lists = refl;
       })
 
-  delete-cases : (r : Option EventRefusal) (o : Option MapView) → key_refusal (shape_shown (slice_get w.maps k)) (length key.items) ≡ r → slice_get w.maps k ≡ o →
+  delete-cases : (r : Option EventRefusal) (o : Option MapView) →
+      key_refusal (shape_shown (slice_get w.maps k)) (length key.items) ≡ r → slice_get w.maps k ≡ o →
       Simulates s (events.Delete k key) (delete_at r o w k key.items)
-  delete-cases (Some r) o e at = record { next = s; does = refuses w s sim.refines sim.scheduled r (events.Delete k key) (key-refusal-is w s sim.refines k (length key.items) (Some r) e); matches = sim }
+  delete-cases (Some r) o e at = record {
+    next = s;
+    does =
+        refuses w s sim.refines sim.scheduled r (events.Delete k key)
+        (key-refusal-is w s sim.refines k (length key.items) (Some r) e);
+    matches = sim;
+  }
   delete-cases None None e at = absurd (none-some NoMap (sym e ∙ ap (λ z. key_refusal (shape_shown z) (length key.items)) at))
   delete-cases None (Some v) e at = deletes-at v at (key-refusal-is w s sim.refines k (length key.items) None e)
 

@@ -27,20 +27,30 @@ record Kin (slots names : List ℕ) (k : ℕ) (es : List Element) (n : ℕ) (f :
   pub view : slot_view old ≡ slot_view f
   pub slot : slice_index names n ≡ slice_index slots n
 
-kin-old : (j k : ℕ) (slots names : List ℕ) (es fs : List Element) → Changes k slots names es fs → j ≢ k → (n : ℕ) (f : Element) → n < length es → IsElementKept fs j n f → Kin slots names j es n f
+kin-old : (j k : ℕ) (slots names : List ℕ) (es fs : List Element) → Changes k slots names es fs → j ≢ k →
+    (n : ℕ) (f : Element) → n < length es → IsElementKept fs j n f → Kin slots names j es n f
 kin-old j k slots names es fs c ne n f less h =
     let x = c.back n f less h.born h.kept in
-    record { old = x.element; was = record { born = x.born; in_map = x.in_map ∙ h.in_map; kept = x.kept }; view = x.view (λ e. ne (sym h.in_map ∙ e)); slot = c.named n less }
+    record {
+      old = x.element;
+      was = record { born = x.born; in_map = x.in_map ∙ h.in_map; kept = x.kept };
+      view =
+          x.view (λ e. ne (sym h.in_map ∙ e));
+      slot = c.named n less;
+    }
 
 -- an element that is kept in the same map, after one has a new life, was kept before with the same view and map slot
-kin-life : (slots : List ℕ) (k : ℕ) (es : List Element) (n : ℕ) (e : Element) (l : Life) → slice_get es n ≡ Some e → e.map ≡ k → is_reclaimed e.life ≡ false → (a : ℕ) (f : Element) → IsElementKept (slice_set es n (with_life l e)) k a f → Kin slots slots k es a f
+kin-life : (slots : List ℕ) (k : ℕ) (es : List Element) (n : ℕ) (e : Element) (l : Life) → slice_get es n ≡ Some e →
+    e.map ≡ k → is_reclaimed e.life ≡ false → (a : ℕ) (f : Element) →
+    IsElementKept (slice_set es n (with_life l e)) k a f → Kin slots slots k es a f
 kin-life slots k es n e l born in_map kept a f g = elim (get-set_cases es n a (with_life l e) f g.born) [
   | inl x ↦ record { old = e; was = record { born = ap (slice_get es) x.0 ∙ born; in_map = in_map; kept = kept }; view = ap slot_view x.1; slot = refl }
   | inr x ↦ record { old = f; was = record { born = x.1; in_map = g.in_map; kept = g.kept }; view = refl; slot = refl }
 ]
 
 -- the elements of another map stand as they did
-module _ (j k : ℕ) (slots names : List ℕ) (es fs : List Element) (v : MapView) (c : Changes k slots names es fs) (ne : j ≢ k) (s : ElementsStand slots j es v) where
+module _ (j k : ℕ) (slots names : List ℕ) (es fs : List Element) (v : MapView) (c : Changes k slots names es fs)
+    (ne : j ≢ k) (s : ElementsStand slots j es v) where
   kin : (n : ℕ) (f : Element) → IsElementKept fs j n f → Kin slots names j es n f
   kin n f h = elim (cases_lt n (length es)) [
     | inl y ↦ kin-old j k slots names es fs c ne n f y h
@@ -64,7 +74,8 @@ kept-linked : (es : List Element) (k : ℕ) (key : List ℕ) (n : ℕ) → (h : 
 kept-linked es k key n h = record { born = h.born; in_map = h.in_map; kept = ap is_reclaimed h.linked }
 
 -- the element of a key is unlinked
-module _ (slots : List ℕ) (k : ℕ) (es : List Element) (v : MapView) (key : List ℕ) (n : ℕ) (opened : List Section) (s : ElementsStand slots k es v) (h : IsLinkedAt es k key n) where
+module _ (slots : List ℕ) (k : ℕ) (es : List Element) (v : MapView) (key : List ℕ) (n : ℕ) (opened : List Section)
+    (s : ElementsStand slots k es v) (h : IsLinkedAt es k key n) where
   abbrev fs : List Element
   fs = slice_set es n (with_life (Unlinked opened) h.element)
 
@@ -80,7 +91,8 @@ module _ (slots : List ℕ) (k : ℕ) (es : List Element) (v : MapView) (key : L
       ne (s.single a n g.element h.element (kept-linked es k q a g) (kept-linked es k key n h) x)
 
   other-birth : (q : List ℕ) (a : ℕ) → IsLinkedAt es k q a → q ≢ key → a ≢ n
-  other-birth q a g ne same = ne (sym g.under ∙ (ap (λ (z : Element). z.key) (same_Some g.element h.element (sym g.born ∙ (ap (slice_get es) same ∙ h.born))) ∙ h.under))
+  other-birth q a g ne same = ne (sym g.under ∙ (ap (λ (z : Element). z.key)
+      (same_Some g.element h.element (sym g.born ∙ (ap (slice_get es) same ∙ h.born))) ∙ h.under))
 
   found-left : (q : List ℕ) (i : ℕ) → get (remove v.index key) q ≡ Some i → (a : ℕ) × IsLinkedAt fs k q a × (slice_index slots a ≡ i)
   found-left q i g = elim (key_cases q key) [
@@ -100,7 +112,9 @@ module _ (slots : List ℕ) (k : ℕ) (es : List Element) (v : MapView) (key : L
   counted-left =
       let a = len-remove_found v.index key (slice_index slots n) (s.finds key n h) in
       let b = count-set (λ (e : Element). is_linked e.life && (e.map == k)) es n h.element (with_life (Unlinked opened) h.element) h.born in
-      let c : one_of (is_linked h.element.life && (h.element.map == k)) ≡ 1 = ap (λ l. one_of (is_linked l && (h.element.map == k))) h.linked ∙ ap one_of (eq-eqb h.element.map k h.in_map) in
+      let c : one_of (is_linked h.element.life && (h.element.map == k)) ≡ 1 =
+      ap (λ l. one_of (is_linked l && (h.element.map == k))) h.linked ∙
+      ap one_of (eq-eqb h.element.map k h.in_map) in
       let d : len v.index ≡ linked_count k es = s.counted in
       omega arith
 
@@ -115,7 +129,9 @@ module _ (slots : List ℕ) (k : ℕ) (es : List Element) (v : MapView) (key : L
   }
 
 -- an element is reclaimed
-module _ (slots : List ℕ) (k : ℕ) (es : List Element) (v : MapView) (n : ℕ) (e : Element) (since : List Section) (s : ElementsStand slots k es v) (born : slice_get es n ≡ Some e) (life : e.life ≡ Unlinked since) (in_map : e.map ≡ k) where
+module _ (slots : List ℕ) (k : ℕ) (es : List Element) (v : MapView) (n : ℕ) (e : Element) (since : List Section)
+    (s : ElementsStand slots k es v) (born : slice_get es n ≡ Some e) (life : e.life ≡ Unlinked since)
+    (in_map : e.map ≡ k) where
   abbrev rs : List Element
   rs = slice_set es n (with_life Reclaimed e)
 
@@ -129,14 +145,17 @@ module _ (slots : List ℕ) (k : ℕ) (es : List Element) (v : MapView) (n : ℕ
   was a f g = kin-life slots k es n e Reclaimed born in_map (ap is_reclaimed life) a f g
 
   another : (a : ℕ) (f : Element) → IsElementKept rs k a f → a ≢ n
-  another a f g same = false≢true (sym g.kept ∙ ap (λ (z : Element). is_reclaimed z.life) (same_Some f (with_life Reclaimed e) (sym g.born ∙ (ap (slice_get rs) same ∙ get-set_there es n e (with_life Reclaimed e) born))))
+  another a f g same = false≢true (sym g.kept ∙ ap (λ (z : Element). is_reclaimed z.life)
+      (same_Some f (with_life Reclaimed e) (sym g.born ∙
+      (ap (slice_get rs) same ∙ get-set_there es n e (with_life Reclaimed e) born))))
 
   was-linked : (q : List ℕ) (a : ℕ) → IsLinkedAt es k q a → a ≢ n
   was-linked q a g same =
       let x : g.element ≡ e = same_Some g.element e (sym g.born ∙ (ap (slice_get es) same ∙ born)) in
       false≢true (sym (ap is_linked life) ∙ (ap (λ (z : Element). is_linked z.life) (sym x) ∙ ap is_linked g.linked))
 
-  apart-given : (given : Given) (a : ℕ) (f : Element) → IsElementKept rs k a f → times (slice_index slots a) (slot_given_back given (slice_index slots n) v).free ≡ 0
+  apart-given : (given : Given) (a : ℕ) (f : Element) → IsElementKept rs k a f →
+      times (slice_index slots a) (slot_given_back given (slice_index slots n) v).free ≡ 0
   apart-given Free a f g =
       let x = was a f g in
       let ne : slice_index slots n ≢ slice_index slots a = λ same. another a f g (s.single a n x.old e x.was kept-one (sym same)) in
@@ -167,8 +186,24 @@ module _ (slots : List ℕ) (k : ℕ) (es : List Element) (v : MapView) (n : ℕ
   finds-rest q a g = s.finds q a (link-back k es n e Reclaimed born in_map k q a (not-linked k es n e Reclaimed born in_map refl k q a g) g)
 
   pub elements-given : (given : Given) → ElementsStand slots k rs (slot_given_back given (slice_index slots n) v)
-  elements-given Free = record { occupied = occupied-rest; single = single-rest; apart = apart-given Free; found = found-rest; finds = finds-rest; counted = counted-same }
-  elements-given Worn = record { occupied = occupied-rest; single = single-rest; apart = apart-given Worn; found = found-rest; finds = finds-rest; counted = counted-same }
+  elements-given Free = record {
+    occupied = occupied-rest;
+    single = single-rest;
+    apart = apart-given Free;
+    found =
+        found-rest;
+    finds = finds-rest;
+    counted = counted-same;
+  }
+  elements-given Worn = record {
+    occupied = occupied-rest;
+    single = single-rest;
+    apart = apart-given Worn;
+    found =
+        found-rest;
+    finds = finds-rest;
+    counted = counted-same;
+  }
 
 -- an element is born in the first free map slot
 module _ (slots : List ℕ) (k : ℕ) (es : List Element) (v : MapView) (i : ℕ) (rest key value : List ℕ) (s : ElementsStand slots k es v) (free : SlotsStand v)
@@ -214,10 +249,12 @@ module _ (slots : List ℕ) (k : ℕ) (es : List Element) (v : MapView) (i : ℕ
 
   occupied-born : (a : ℕ) (f : Element) → IsElementKept gs k a f → slice_get (filled v i rest key value).slots (slice_index names a) ≡ Some (slot_view f)
   occupied-born a f g = elim (kept-cases a f g) [
-    | inl x ↦ ap (slice_get (filled v i rest key value).slots) (old-slot a x.1) ∙ (get-set_other v.slots i (slice_index slots a) _ (differs a f x.0) ∙ s.occupied a f x.0)
+    | inl x ↦ ap (slice_get (filled v i rest key value).slots) (old-slot a x.1) ∙
+        (get-set_other v.slots i (slice_index slots a) _ (differs a f x.0) ∙ s.occupied a f x.0)
     | inr x ↦
         let old = get-below v.slots i in-range in
-        ap (slice_get (filled v i rest key value).slots) (new-slot a x.0) ∙ (get-set_there v.slots i old.0 _ old.1 ∙ ap (λ (z : Element). Some (slot_view z)) x.1)
+        ap (slice_get (filled v i rest key value).slots) (new-slot a x.0) ∙
+        (get-set_there v.slots i old.0 _ old.1 ∙ ap (λ (z : Element). Some (slot_view z)) x.1)
   ]
 
   single-born : (a b : ℕ) (d f : Element) → IsElementKept gs k a d → IsElementKept gs k b f → slice_index names a ≡ slice_index names b → a ≡ b
@@ -246,7 +283,12 @@ module _ (slots : List ℕ) (k : ℕ) (es : List Element) (v : MapView) (i : ℕ
 
   found-born : (q : List ℕ) (x : ℕ) → get (insert v.index key i) q ≡ Some x → (a : ℕ) × IsLinkedAt gs k q a × (slice_index names a ≡ x)
   found-born q x h = elim (key_cases q key) [
-    | inl same ↦ (length es, subst (λ z. IsLinkedAt gs k z (length es)) (sym same) child-linked, new-slot (length es) refl ∙ same_Some i x (sym (insert-same v.index key i) ∙ (ap (get (insert v.index key i)) (sym same) ∙ h)))
+    | inl same ↦ (
+      length es,
+      subst (λ z. IsLinkedAt gs k z (length es)) (sym same) child-linked,
+      new-slot (length es) refl ∙ same_Some i x (sym (insert-same v.index key i) ∙
+          (ap (get (insert v.index key i)) (sym same) ∙ h)),
+    )
     | inr ne ↦
         let y = s.found q x (sym (insert-other v.index key i q ne) ∙ h) in
         (y.0, link-grown k slots es births i key value count k q y.0 y.1, old-slot y.0 (within q y.0 y.1) ∙ y.2)
@@ -276,7 +318,8 @@ module _ (slots : List ℕ) (k : ℕ) (es : List Element) (v : MapView) (i : ℕ
   slots-born = record {
     room = length-set v.slots i _ ∙ free.room;
     once = λ x. elim (cases_eq i x) [
-      | inl y ↦ let t : times x v.free ≡ 1 + times x rest = ap (times x) first ∙ times-first x i rest y in let o : times x v.free ≤ 1 = free.once x in omega arith
+      | inl y ↦ let t : times x v.free ≡ 1 + times x rest = ap (times x) first ∙
+          times-first x i rest y in let o : times x v.free ≤ 1 = free.once x in omega arith
       | inr ne ↦ let t : times x v.free ≡ times x rest = ap (times x) first ∙ times-other x i rest ne in let o : times x v.free ≤ 1 = free.once x in omega arith
     ];
     inside = λ x h. subst (λ z. x < z) (sym (length-set v.slots i _)) (elim (cases_eq i x) [

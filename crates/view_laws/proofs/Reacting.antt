@@ -21,8 +21,13 @@ use Rattle.bpf_model.specs.Drain.{AnswersAsScheduled}
 use Rattle.bpf_model.specs.View.{shape_of_view as shape, MapView, RunView, WorldView, shapes_of}
 use Rattle.bpf_model.specs.Refines.{RunSlotRefines, TracksSchedule}
 use Rattle.model_laws.proofs.Reached.{tracked_is_scheduled}
-use Rattle.view_laws.specs.Views.{retired_slot, retired_key, deleted_from, deleted, filled_from, overwritten_slot, written_by, updated_by, updated, shown_error, turned_view, slot_given_back, given_at, reaped_view}
-use Rattle.view_laws.specs.Reactions.{with_map, shape_shown, refused_as, delete_at, delete_reaction, update_at, update_reaction, read_at, read_reaction, advanced_by, advance_reaction, Pick, or_pick, first_pick, reap_by, reap_reaction, start_by, start_reaction, step_refused, drop_refused, drop_by, drop_reaction, step_by, reaction}
+use Rattle.view_laws.specs.Views.{retired_slot, retired_key, deleted_from, deleted, filled_from, overwritten_slot}
+use Rattle.view_laws.specs.Views.{written_by, updated_by, updated, shown_error, turned_view, slot_given_back}
+use Rattle.view_laws.specs.Views.{given_at, reaped_view}
+use Rattle.view_laws.specs.Reactions.{with_map, shape_shown, refused_as, delete_at, delete_reaction, update_at}
+use Rattle.view_laws.specs.Reactions.{update_reaction, read_at, read_reaction, advanced_by, advance_reaction, Pick}
+use Rattle.view_laws.specs.Reactions.{or_pick, first_pick, reap_by, reap_reaction, start_by, start_reaction}
+use Rattle.view_laws.specs.Reactions.{step_refused, drop_refused, drop_by, drop_reaction, step_by, reaction}
 use Rattle.view_laws.specs.Matching.{Matches, Simulates}
 use Rattle.view_laws.proofs.Worlds.{refuses}
 use Rattle.view_laws.proofs.Deleting.{delete_simulates}
@@ -38,13 +43,17 @@ use Rattle.bpf_model.proofs.Lists.{set-same}
 use Rattle.std.specs.Option.{option_flatten}
 
 -- the refusals of a step and of a drop
-step-refusal_is : (slots : List ℕ) (es : List Element) (programs : List Loaded) (v : Option (Option RunView)) (run : Option (Option Run)) → RunSlotRefines slots es programs v run → step_refusal (option_flatten run) ≡ step_refused (option_flatten v)
+step-refusal_is : (slots : List ℕ) (es : List Element) (programs : List Loaded) (v : Option (Option RunView))
+    (run : Option (Option Run)) → RunSlotRefines slots es programs v run →
+    step_refusal (option_flatten run) ≡ step_refused (option_flatten v)
 step-refusal_is slots es programs None None h = refl
 step-refusal_is slots es programs (Some None) (Some None) h = refl
 step-refusal_is slots es programs (Some (Some v)) (Some (Some run)) h = ap if_ended (sym h.exit)
 step-refusal_is slots es programs v run h = absurd h
 
-drop-refusal_is : (slots : List ℕ) (es : List Element) (programs : List Loaded) (v : Option (Option RunView)) (run : Option (Option Run)) → RunSlotRefines slots es programs v run → drop_refusal (option_flatten run) ≡ drop_refused (option_flatten v)
+drop-refusal_is : (slots : List ℕ) (es : List Element) (programs : List Loaded) (v : Option (Option RunView))
+    (run : Option (Option Run)) → RunSlotRefines slots es programs v run →
+    drop_refusal (option_flatten run) ≡ drop_refused (option_flatten v)
 drop-refusal_is slots es programs None None h = refl
 drop-refusal_is slots es programs (Some None) (Some None) h = refl
 drop-refusal_is slots es programs (Some (Some v)) (Some (Some run)) h = ap if_running (sym h.exit)
@@ -54,11 +63,14 @@ module _ (w : WorldView) (s : Schedule) (m : Matches w s) where
   step-refused : (r : ℕ) (k : EventRefusal) → step_refused (option_flatten (slice_get w.runs r)) ≡ Some k → Simulates s (events.Step r) (refused_as k w)
   step-refused r k e = record {
     next = s;
-    does = refuses w s m.refines m.scheduled k (events.Step r) (step-refusal_is m.refines.slots s.machine.store.elements s.machine.programs (slice_get w.runs r) (slice_get s.machine.runs r) (m.refines.runs r) ∙ e);
+    does = refuses w s m.refines m.scheduled k (events.Step r)
+        (step-refusal_is m.refines.slots s.machine.store.elements s.machine.programs (slice_get w.runs r)
+        (slice_get s.machine.runs r) (m.refines.runs r) ∙ e);
     matches = m;
   }
 
-  step-by : (r : ℕ) (o : Option EventRefusal) → step_refused (option_flatten (slice_get w.runs r)) ≡ o → (x : Answer × WorldView) → step_by o w ≡ Some x → Simulates s (events.Step r) x
+  step-by : (r : ℕ) (o : Option EventRefusal) → step_refused (option_flatten (slice_get w.runs r)) ≡ o →
+      (x : Answer × WorldView) → step_by o w ≡ Some x → Simulates s (events.Step r) x
   step-by r (Some k) e x h = subst (Simulates s (events.Step r)) (same_Some (refused_as k w) x h) (step-refused r k e)
   step-by r None e x h = absurd (none-some x h)
 
@@ -77,7 +89,9 @@ module _ (w : WorldView) (s : Schedule) (m : Matches w s) where
       by : (o : Option EventRefusal) → drop_refused (option_flatten (slice_get w.runs r)) ≡ o → Simulates s (events.Drop r) (drop_by o w r)
       by (Some k) e = record {
         next = s;
-        does = refuses w s m.refines m.scheduled k (events.Drop r) (drop-refusal_is m.refines.slots s.machine.store.elements s.machine.programs (slice_get w.runs r) (slice_get s.machine.runs r) (m.refines.runs r) ∙ e);
+        does = refuses w s m.refines m.scheduled k (events.Drop r)
+            (drop-refusal_is m.refines.slots s.machine.store.elements s.machine.programs (slice_get w.runs r)
+            (slice_get s.machine.runs r) (m.refines.runs r) ∙ e);
         matches = m;
       }
       by None e = let x = ended-shown (slice_get w.runs r) e in dropped_run w s m r x.1 x.0 x.2 x.3
@@ -85,7 +99,9 @@ module _ (w : WorldView) (s : Schedule) (m : Matches w s) where
   pub reaction_simulates : (event : Event) (x : Answer × WorldView) → reaction w event ≡ Some x → Simulates s event x
   reaction_simulates (events.Start prog ctx) x h = subst (Simulates s (events.Start prog ctx)) (same_Some _ x h) (start_simulates w s m prog ctx)
   reaction_simulates (events.Step r) x h = step-by r (step_refused (option_flatten (slice_get w.runs r))) refl x h
-  reaction_simulates (events.Update map key value flags) x h = subst (Simulates s (events.Update map key value flags)) (same_Some _ x h) (update_simulates w s m map key value flags)
+  reaction_simulates (events.Update map key value flags) x h =
+      subst (Simulates s (events.Update map key value flags)) (same_Some _ x h)
+      (update_simulates w s m map key value flags)
   reaction_simulates (events.Delete map key) x h = subst (Simulates s (events.Delete map key)) (same_Some _ x h) (delete_simulates w s m map key)
   reaction_simulates (events.Read map key) x h = subst (Simulates s (events.Read map key)) (same_Some _ x h) (read_simulates w s m map key)
   reaction_simulates events.Advance x h = subst (Simulates s events.Advance) (same_Some _ x h) (advance_simulates w s m)
@@ -122,7 +138,8 @@ given-shape Free i v = refl
 given-shape Worn i v = refl
 
 pub set-shapes : (vs : List MapView) (k : ℕ) (v new : MapView) → slice_get vs k ≡ Some v → new.shape ≡ v.shape → map shape (slice_set vs k new) ≡ map shape vs
-set-shapes vs k v new at same = map-set shape vs k new ∙ (ap (slice_set (map shape vs) k) same ∙ (sym (map-set shape vs k v) ∙ ap (map shape) (set-same vs k v at)))
+set-shapes vs k v new at same = map-set shape vs k new ∙
+    (ap (slice_set (map shape vs) k) same ∙ (sym (map-set shape vs k v) ∙ ap (map shape) (set-same vs k v at)))
 
 turned-shapes : (vs : List MapView) → map shape (map turned_view vs) ≡ map shape vs
 turned-shapes [] = refl
@@ -135,7 +152,9 @@ pub record IsPickedAt (k : ℕ) (vs : List MapView) (p : Pick) : Type 0 where
   pub there : slice_get vs index ≡ Some p.view
   pub some : 1 ≤ length p.view.ready
 
-picked-first : (k : ℕ) (v : MapView) (vs : List MapView) (p : Pick) (ready : List ℕ) → v.ready ≡ ready → (first_pick (suc k) vs ≡ Some p → IsPickedAt (suc k) vs p) → or_pick ready k v (first_pick (suc k) vs) ≡ Some p → IsPickedAt k (v ∷ vs) p
+picked-first : (k : ℕ) (v : MapView) (vs : List MapView) (p : Pick) (ready : List ℕ) → v.ready ≡ ready →
+    (first_pick (suc k) vs ≡ Some p → IsPickedAt (suc k) vs p) → or_pick ready k v (first_pick (suc k) vs) ≡ Some p →
+    IsPickedAt k (v ∷ vs) p
 picked-first k v vs p [] e more h =
     let later = more h in
     let number : p.map ≡ suc k + later.index = later.number in record { index = suc later.index; number = omega arith; there = later.there; some = later.some }
@@ -166,7 +185,8 @@ module _ (w : WorldView) where
   delete-keeps None None k key at = (refl, refl, refl)
   delete-keeps None (Some v) k key at = map-keeps k v (deleted v key).1 at (deleted-shape v.shape.kind v key)
 
-  update-keeps : (r : Option EventRefusal) (o : Option MapView) (k : ℕ) (key value : List ℕ) (flags : ℕ) → slice_get w.maps k ≡ o → Keeps w (update_at r o w k key value flags).1
+  update-keeps : (r : Option EventRefusal) (o : Option MapView) (k : ℕ) (key value : List ℕ) (flags : ℕ) →
+      slice_get w.maps k ≡ o → Keeps w (update_at r o w k key value flags).1
   update-keeps (Some refusal) o k key value flags at = (refl, refl, refl)
   update-keeps None None k key value flags at = (refl, refl, refl)
   update-keeps None (Some v) k key value flags at = map-keeps k v (updated v key value flags).1 at (updated-shape (shown_error v key flags) v key value)
@@ -184,8 +204,12 @@ module _ (w : WorldView) where
   reap-keeps None h = (refl, refl, refl)
   reap-keeps (Some p) h =
       let x = picked-at 0 w.maps p h in
-      let number : p.map ≡ x.index = x.number ∙ (let z : 0 + x.index ≡ x.index = omega arith in z) in
-      (set-shapes w.maps p.map p.view (reaped_view p.view p.slot) (ap (slice_get w.maps) number ∙ x.there) (given-shape (given_at p.view p.slot) p.slot p.view), refl, refl)
+      let number : p.map ≡ x.index = x.number ∙ (let z : 0 + x.index ≡ x.index = omega arith in z) in (
+        set-shapes w.maps p.map p.view (reaped_view p.view p.slot) (ap (slice_get w.maps) number ∙ x.there)
+            (given-shape (given_at p.view p.slot) p.slot p.view),
+        refl,
+        refl,
+      )
 
   start-keeps : (r : Option EventRefusal) (o : Option ℕ) (prog : ℕ) (context : List ℕ) → Keeps w (start_by r o w prog context).1
   start-keeps (Some refusal) o prog context = (refl, refl, refl)
@@ -204,11 +228,20 @@ module _ (w : WorldView) where
   same-keeps x y h k = subst (λ (z : Answer × WorldView). Keeps w z.1) (same_Some x y h) k
 
   pub reaction_keeps : (event : Event) (x : Answer × WorldView) → reaction w event ≡ Some x → Keeps w x.1
-  reaction_keeps (events.Start prog ctx) x h = same-keeps (start_reaction w prog ctx.items) x h (start-keeps (start_refusal (slice_get w.programs prog) (length ctx.items) (lowest_free w.runs)) (lowest_free w.runs) prog ctx.items)
+  reaction_keeps (events.Start prog ctx) x h = same-keeps (start_reaction w prog ctx.items) x h
+      (start-keeps (start_refusal (slice_get w.programs prog) (length ctx.items) (lowest_free w.runs))
+      (lowest_free w.runs) prog ctx.items)
   reaction_keeps (events.Step r) x h = step-keeps (step_refused (option_flatten (slice_get w.runs r))) x h
-  reaction_keeps (events.Update map key value flags) x h = same-keeps (update_reaction w map key.items value.items flags) x h (update-keeps (update_refusal (shape_shown (slice_get w.maps map)) (length key.items) (length value.items)) (slice_get w.maps map) map key.items value.items flags refl)
-  reaction_keeps (events.Delete map key) x h = same-keeps (delete_reaction w map key.items) x h (delete-keeps (key_refusal (shape_shown (slice_get w.maps map)) (length key.items)) (slice_get w.maps map) map key.items refl)
-  reaction_keeps (events.Read map key) x h = same-keeps (read_reaction w map key.items) x h (read-keeps (key_refusal (shape_shown (slice_get w.maps map)) (length key.items)) (slice_get w.maps map) key.items)
+  reaction_keeps (events.Update map key value flags) x h =
+      same-keeps (update_reaction w map key.items value.items flags) x h
+      (update-keeps (update_refusal (shape_shown (slice_get w.maps map)) (length key.items) (length value.items))
+      (slice_get w.maps map) map key.items value.items flags refl)
+  reaction_keeps (events.Delete map key) x h = same-keeps (delete_reaction w map key.items) x h
+      (delete-keeps (key_refusal (shape_shown (slice_get w.maps map)) (length key.items)) (slice_get w.maps map) map
+      key.items refl)
+  reaction_keeps (events.Read map key) x h = same-keeps (read_reaction w map key.items) x h
+      (read-keeps (key_refusal (shape_shown (slice_get w.maps map)) (length key.items)) (slice_get w.maps map)
+      key.items)
   reaction_keeps events.Advance x h = same-keeps (advance_reaction w) x h (advance-keeps (is_any w.awaited))
   reaction_keeps events.Reap x h = same-keeps (reap_reaction w) x h (reap-keeps (first_pick 0 w.maps) refl)
   reaction_keeps (events.Drop r) x h = same-keeps (drop_reaction w r) x h (drop-keeps (drop_refused (option_flatten (slice_get w.runs r))) r)
@@ -217,7 +250,8 @@ module _ (w : WorldView) where
 pub tracked_matches : (w : WorldView) (s : Schedule) → TracksSchedule w s → Matches w s
 tracked_matches w s t = record { refines = t.refines; scheduled = tracked_is_scheduled w s t }
 
-pub reaction_tracks : (w : WorldView) (event : Event) (x : Answer × WorldView) → IsReal event → reaction w event ≡ Some x → AnswersAsScheduled TracksSchedule w event x.0 x.1
+pub reaction_tracks : (w : WorldView) (event : Event) (x : Answer × WorldView) → IsReal event →
+    reaction w event ≡ Some x → AnswersAsScheduled TracksSchedule w event x.0 x.1
 reaction_tracks w event x real h s t =
     let k = reaction_keeps w event x h in
     let d = simulates_tracks w x.1 s event x.0 t real k.0 k.1 (reaction_simulates w s (tracked_matches w s t) event x h) in

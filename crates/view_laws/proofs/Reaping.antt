@@ -42,7 +42,8 @@ AreReady slots vs qs = (j : ℕ) (v : MapView) (q : Queues) → slice_get vs j �
 
 module _ (slots : List ℕ) where
   pick-later : (k : ℕ) (v : MapView) (q : Queues) (vs : List MapView) (qs : List Queues) → v.ready ≡ [] → q.ready ≡ [] →
-      ((first_pick (suc k) vs ≡ None) × (first_ready qs ≡ None)) ⊎ Picked slots (suc k) vs qs → ((first_pick k (v ∷ vs) ≡ None) × (first_ready (q ∷ qs) ≡ None)) ⊎ Picked slots k (v ∷ vs) (q ∷ qs)
+      ((first_pick (suc k) vs ≡ None) × (first_ready qs ≡ None)) ⊎ Picked slots (suc k) vs qs →
+      ((first_pick k (v ∷ vs) ≡ None) × (first_ready (q ∷ qs) ≡ None)) ⊎ Picked slots k (v ∷ vs) (q ∷ qs)
   pick-later k v q vs qs a b (inl x) = inl (ap (λ l. or_pick l k v (first_pick (suc k) vs)) a ∙ x.0, ap (λ l. or_first l (first_ready qs)) b ∙ x.1)
   pick-later k v q vs qs a b (inr p) = inr (record {
     pick = p.pick;
@@ -55,7 +56,8 @@ module _ (slots : List ℕ) where
     first = ap (λ l. or_first l (first_ready qs)) b ∙ p.first;
   })
 
-  pick-here : (k : ℕ) (v : MapView) (q : Queues) (vs : List MapView) (qs : List Queues) (n : ℕ) (rest : List ℕ) → v.ready ≡ map (slice_index slots) q.ready → q.ready ≡ n ∷ rest → Picked slots k (v ∷ vs) (q ∷ qs)
+  pick-here : (k : ℕ) (v : MapView) (q : Queues) (vs : List MapView) (qs : List Queues) (n : ℕ) (rest : List ℕ) →
+      v.ready ≡ map (slice_index slots) q.ready → q.ready ≡ n ∷ rest → Picked slots k (v ∷ vs) (q ∷ qs)
   pick-here k v q vs qs n rest same b = record {
     pick = record { map = k; view = v; slot = slice_index slots n };
     n = n;
@@ -67,12 +69,15 @@ module _ (slots : List ℕ) where
     first = ap (λ l. or_first l (first_ready qs)) b;
   }
 
-  picks-at : (k : ℕ) (v : MapView) (q : Queues) (vs : List MapView) (qs : List Queues) (ready : List ℕ) → q.ready ≡ ready → v.ready ≡ map (slice_index slots) q.ready →
-      ((first_pick (suc k) vs ≡ None) × (first_ready qs ≡ None)) ⊎ Picked slots (suc k) vs qs → ((first_pick k (v ∷ vs) ≡ None) × (first_ready (q ∷ qs) ≡ None)) ⊎ Picked slots k (v ∷ vs) (q ∷ qs)
+  picks-at : (k : ℕ) (v : MapView) (q : Queues) (vs : List MapView) (qs : List Queues) (ready : List ℕ) →
+      q.ready ≡ ready → v.ready ≡ map (slice_index slots) q.ready →
+      ((first_pick (suc k) vs ≡ None) × (first_ready qs ≡ None)) ⊎ Picked slots (suc k) vs qs →
+      ((first_pick k (v ∷ vs) ≡ None) × (first_ready (q ∷ qs) ≡ None)) ⊎ Picked slots k (v ∷ vs) (q ∷ qs)
   picks-at k v q vs qs [] e same more = pick-later k v q vs qs (same ∙ ap (map (slice_index slots)) e) e more
   picks-at k v q vs qs (n ∷ rest) e same more = inr (pick-here k v q vs qs n rest same e)
 
-  picks : (k : ℕ) (vs : List MapView) (qs : List Queues) → length vs ≡ length qs → AreReady slots vs qs → ((first_pick k vs ≡ None) × (first_ready qs ≡ None)) ⊎ Picked slots k vs qs
+  picks : (k : ℕ) (vs : List MapView) (qs : List Queues) → length vs ≡ length qs → AreReady slots vs qs →
+      ((first_pick k vs ≡ None) × (first_ready qs ≡ None)) ⊎ Picked slots k vs qs
   picks k [] [] l h = inl (refl, refl)
   picks k [] (q ∷ qs) l h = absurd (omega arith)
   picks k (v ∷ vs) [] l h = absurd (omega arith)
@@ -84,7 +89,8 @@ slots-given v i Worn s less none = record { room = s.room; once = s.once; inside
 slots-given v i Free s less none = record {
   room = s.room;
   once = λ x. let a = times-append x v.free (i ∷ []) in elim (cases_eq i x) [
-    | inl y ↦ let t : times x (i ∷ []) ≡ 1 + times x [] = times-first x i [] y in let n : times x [] ≡ 0 = refl in let z : times x v.free ≡ 0 = subst (λ j. times j v.free ≡ 0) y none in omega arith
+    | inl y ↦ let t : times x (i ∷ []) ≡ 1 + times x [] = times-first x i [] y in let n : times x [] ≡ 0 =
+        refl in let z : times x v.free ≡ 0 = subst (λ j. times j v.free ≡ 0) y none in omega arith
     | inr ne ↦ let t : times x (i ∷ []) ≡ 0 = times-other x i [] ne in let o : times x v.free ≤ 1 = s.once x in omega arith
   ];
   inside = λ x h. let a = times-append x v.free (i ∷ []) in elim (cases_eq i x) [
@@ -101,7 +107,9 @@ lists-given : (v : MapView) (i : ℕ) (g : Given) → lists_of (slot_given_back 
 lists-given v i Free = refl
 lists-given v i Worn = refl
 
-module _ (w : WorldView) (s : Schedule) (x : RefinesSchedule w s) (i : IsScheduled s) (k : ℕ) (v : MapView) (at : slice_get w.maps k ≡ Some v) (q : Queues) (listed : slice_get s.queues k ≡ Some q) (n : ℕ) (rest : List ℕ) (ready : q.ready ≡ n ∷ rest)
+module _ (w : WorldView) (s : Schedule) (x : RefinesSchedule w s) (i : IsScheduled s) (k : ℕ) (v : MapView)
+    (at : slice_get w.maps k ≡ Some v) (q : Queues) (listed : slice_get s.queues k ≡ Some q) (n : ℕ) (rest : List ℕ)
+    (ready : q.ready ≡ n ∷ rest)
     (first : first_ready s.queues ≡ Some n) (without : without_first s.queues ≡ slice_set s.queues k (shortened rest q)) where
   abbrev es : List Element
   es = s.machine.store.elements
@@ -149,7 +157,11 @@ module _ (w : WorldView) (s : Schedule) (x : RefinesSchedule w s) (i : IsSchedul
       ended = (i.waits k q listed).ended n e.element e.since is-ready e.born e.life;
       there = ap (slice_get s.machine.store.maps) e.in_map ∙ h.there;
       given_is = λ j. given_of (sym uses-is j) (sym h.stands.state j);
-      new_is = λ j. record { elements = slice_set es n (with_life Reclaimed e.element); maps = slice_set s.machine.store.maps (sym e.in_map j) (returned (sym uses-is j) (sym h.stands.state j)) };
+      new_is = λ j. record {
+        elements = slice_set es n (with_life Reclaimed e.element);
+        maps =
+            slice_set s.machine.store.maps (sym e.in_map j) (returned (sym uses-is j) (sym h.stands.state j));
+      };
     }
 
     same-lists : h.lists ≡ q
@@ -160,13 +172,21 @@ module _ (w : WorldView) (s : Schedule) (x : RefinesSchedule w s) (i : IsSchedul
         let l : lists_of v ≡ named x.slots q = h.stands.lists ∙ ap (named x.slots) same-lists in
         lists-given v slot (given_at v slot)
         ∙ (ap (λ (z : Queues). let y : Queues = record { next = z.next; waiting = z.waiting; ready = drop 1 z.ready } in y) l
-        ∙ ap (λ r. let y : Queues = record { next = map (slice_index x.slots) q.next; waiting = map (slice_index x.slots) q.waiting; ready = drop 1 (map (slice_index x.slots) r) } in y) ready)
+        ∙ ap (λ r. let y : Queues = record {
+          next = map (slice_index x.slots) q.next;
+          waiting =
+              map (slice_index x.slots) q.waiting;
+          ready = drop 1 (map (slice_index x.slots) r);
+        } in y) ready)
 
-    stands : (m : MapState) (p : Queues) → slice_get after.maps k ≡ Some m → slice_get next.queues k ≡ Some p → MapRefines x.slots k after.elements p (reaped_view v slot) m
+    stands : (m : MapState) (p : Queues) → slice_get after.maps k ≡ Some m → slice_get next.queues k ≡ Some p →
+        MapRefines x.slots k after.elements p (reaped_view v slot) m
     stands m p there g = record {
       state = same_Some m state (sym there ∙ get-set_there s.machine.store.maps k h.state state h.there) ∙ state-given v slot (given_at v slot);
-      lists = lists-left ∙ ap (named x.slots) (same_Some (shortened rest q) p (sym (get-set_there s.queues k q (shortened rest q) listed) ∙ (ap (λ l. slice_get l k) (sym without) ∙ g)));
-      free = slots-given v slot (given_at v slot) h.stands.free (slice_get_within v.slots slot (slot_view e.element) stored) (h.stands.elements.apart n e.element kept);
+      lists = lists-left ∙ ap (named x.slots) (same_Some (shortened rest q) p
+          (sym (get-set_there s.queues k q (shortened rest q) listed) ∙ (ap (λ l. slice_get l k) (sym without) ∙ g)));
+      free = slots-given v slot (given_at v slot) h.stands.free
+          (slice_get_within v.slots slot (slot_view e.element) stored) (h.stands.elements.apart n e.element kept);
       elements = elements-given x.slots k es v n e.element e.since h.stands.elements e.born e.life e.in_map (given_at v slot);
     }
 
@@ -204,7 +224,9 @@ module _ (w : WorldView) (s : Schedule) (x : RefinesSchedule w s) (i : IsSchedul
     takes = record {
       next = next;
       does = does;
-      matches = steps (with_reaped pick w) s next events.Reap (reap_by (Some pick) w).0 i does (turned-world w s x i k (reaped_view v slot) after next.queues s.awaited (w.given + 1) turns refl given-more);
+      matches = steps (with_reaped pick w) s next events.Reap (reap_by (Some pick) w).0 i does
+          (turned-world w s x i k (reaped_view v slot) after next.queues s.awaited (w.given + 1) turns refl
+          given-more);
     }
 
 module _ (w : WorldView) (s : Schedule) (sim : Matches w s) where
@@ -219,16 +241,25 @@ module _ (w : WorldView) (s : Schedule) (sim : Matches w s) where
   finds-none : first_pick 0 w.maps ≡ None → first_ready s.queues ≡ None → Simulates s events.Reap (reap_by (first_pick 0 w.maps) w)
   finds-none a b = subst (λ o. Simulates s events.Reap (reap_by o w)) (sym a) (record {
     next = s;
-    does = record { step = refl; first = b; oldest = oldest-none s.machine.store s.machine.store refl; lists = λ j. record { machine = s.machine; queues = sym (none-without s.queues b) j; awaited = s.awaited } };
+    does = record {
+      step = refl;
+      first = b;
+      oldest = oldest-none s.machine.store s.machine.store refl;
+      lists = λ j.
+          record { machine = s.machine; queues = sym (none-without s.queues b) j; awaited = s.awaited };
+    };
     matches = sim;
   })
 
   finds-one : Picked x.slots 0 w.maps s.queues → Simulates s events.Reap (reap_by (first_pick 0 w.maps) w)
   finds-one p =
       let number : p.pick.map ≡ p.index.map_at = p.number ∙ (let z : 0 + p.index.map_at ≡ p.index.map_at = omega arith in z) in
-      let same : p.pick ≡ record { map = p.index.map_at; view = p.pick.view; slot = slice_index x.slots p.n } = λ j. record { map = number j; view = p.pick.view; slot = sym p.slot j } in
+      let same : p.pick ≡ record { map = p.index.map_at; view = p.pick.view; slot = slice_index x.slots p.n } = λ j.
+      record { map = number j; view = p.pick.view; slot = sym p.slot j } in
       subst (λ o. Simulates s events.Reap (reap_by o w)) (sym (p.is ∙ ap Some same))
-      (takes w s x sim.scheduled p.index.map_at p.pick.view p.at p.index.lists p.index.there p.n p.index.rest p.index.ready_is p.first p.index.without (taken w s x sim.scheduled p.index.map_at p.pick.view p.at p.index.lists p.index.there p.n p.index.rest p.index.ready_is p.first p.index.without))
+      (takes w s x sim.scheduled p.index.map_at p.pick.view p.at p.index.lists p.index.there p.n p.index.rest
+      p.index.ready_is p.first p.index.without (taken w s x sim.scheduled p.index.map_at p.pick.view p.at
+      p.index.lists p.index.there p.n p.index.rest p.index.ready_is p.first p.index.without))
 
   pub reap_simulates : Simulates s events.Reap (reap_reaction w)
   reap_simulates = elim (picks x.slots 0 w.maps s.queues (x.maps.0 ∙ sym x.maps.1) are-ready) [

@@ -1,5 +1,6 @@
 -- A change of one run slot, by its run's step or a drop, is a step of the schedule.
-use Rattle.std.proofs.Common.{◌≡◌, ◌∙◌, ℕ, suc, ◌+◌, ◌-◌, ◌<◌, List, [], ◌∷◌, length, Option, Some, None, inl, inr, refl, sym, ap, arith, Bool, true, false, subst, ℤ}
+use Rattle.std.proofs.Common.{◌≡◌, ◌∙◌, ℕ, suc, ◌+◌, ◌-◌, ◌<◌, List, [], ◌∷◌, length, Option, Some, None, inl, inr}
+use Rattle.std.proofs.Common.{refl, sym, ap, arith, Bool, true, false, subst, ℤ}
 use Rattle.std.specs.Prelude.{slice_get, slice_set, slice_index, nat_lt, nat_le, ◌==◌, if◌then◌else◌}
 use Rattle.std.proofs.lemmas.Bool.{cases_eq}
 use Rattle.std.proofs.lemmas.Option.{same_Some}
@@ -40,7 +41,8 @@ length-still [] (y ∷ b) l = absurd (omega arith)
 length-still (x ∷ a) [] l = absurd (omega arith)
 length-still (x ∷ a) (y ∷ b) l = ap suc (length-still a b (omega arith))
 
-open-is : (slots : List ℕ) (es : List Element) (programs : List Loaded) (v : Option RunView) (run : Option Run) → RunSlotRefines slots es programs (Some v) (Some run) → is_open run ≡ is_open_view v
+open-is : (slots : List ℕ) (es : List Element) (programs : List Loaded) (v : Option RunView) (run : Option Run) →
+    RunSlotRefines slots es programs (Some v) (Some run) → is_open run ≡ is_open_view v
 open-is slots es programs None None h = refl
 open-is slots es programs (Some v) (Some run) h = ap (nat_lt 0) (sym h.depth)
 open-is slots es programs v run h = absurd h
@@ -53,11 +55,14 @@ run-changed s r run started = record {
 }
 
 -- the other half of a step: the store stays, and one run slot changes
-pub run-world : (w : WorldView) (s : Schedule) (x : RefinesSchedule w s) (r : ℕ) (old : Option RunView) (before : Option Run) (v : Option RunView) (run : Option Run) (started : ℕ) → slice_get w.runs r ≡ Some old → slice_get s.machine.runs r ≡ Some before →
+pub run-world : (w : WorldView) (s : Schedule) (x : RefinesSchedule w s) (r : ℕ) (old : Option RunView)
+    (before : Option Run) (v : Option RunView) (run : Option Run) (started : ℕ) → slice_get w.runs r ≡ Some old →
+    slice_get s.machine.runs r ≡ Some before →
     RunSlotRefines x.slots s.machine.store.elements s.machine.programs (Some v) (Some run) → RefinesSchedule (with_run r v w) (run-changed s r run started)
 run-world w s x r old before v run started at there h =
     let opened : slice_set w.opened r (is_open_view v) ≡ open_flags (slice_set s.machine.runs r run) =
-    ap (λ b. slice_set w.opened r b) (sym (open-is x.slots s.machine.store.elements s.machine.programs v run h)) ∙ (ap (λ l. slice_set l r (is_open run)) x.opened ∙ sym (map-set is_open s.machine.runs r run)) in
+    ap (λ b. slice_set w.opened r b) (sym (open-is x.slots s.machine.store.elements s.machine.programs v run h)) ∙
+    (ap (λ l. slice_set l r (is_open run)) x.opened ∙ sym (map-set is_open s.machine.runs r run)) in
     record {
       slots = x.slots;
       named = x.named;
@@ -67,14 +72,18 @@ run-world w s x r old before v run started at there h =
         | inl same ↦
             let P : Option (Option RunView) → Option (Option Run) → Type 0 = RunSlotRefines x.slots s.machine.store.elements s.machine.programs in
             subst (λ z. P (slice_get (slice_set w.runs r v) z) (slice_get (slice_set s.machine.runs r run) z)) (sym same)
-            (subst (λ z. P z (slice_get (slice_set s.machine.runs r run) r)) (sym (get-set_there w.runs r old v at)) (subst (λ z. P (Some v) z) (sym (get-set_there s.machine.runs r before run there)) h))
+            (subst (λ z. P z (slice_get (slice_set s.machine.runs r run) r)) (sym (get-set_there w.runs r old v at))
+            (subst (λ z. P (Some v) z) (sym (get-set_there s.machine.runs r before run there)) h))
         | inr ne ↦
             let P : Option (Option RunView) → Option (Option Run) → Type 0 = RunSlotRefines x.slots s.machine.store.elements s.machine.programs in
-            subst (λ z. P z (slice_get (slice_set s.machine.runs r run) q)) (sym (get-set_other w.runs r q v ne)) (subst (λ z. P (slice_get w.runs q) z) (sym (get-set_other s.machine.runs r q run ne)) (x.runs q))
+            subst (λ z. P z (slice_get (slice_set s.machine.runs r run) q)) (sym (get-set_other w.runs r q v ne))
+            (subst (λ z. P (slice_get w.runs q) z) (sym (get-set_other s.machine.runs r q run ne)) (x.runs q))
       ];
       opened = opened;
       awaited = λ j. still_open (x.awaited j) (opened j);
-      flags = length-still s.awaited (open_flags (slice_set s.machine.runs r run)) (x.flags ∙ (sym (length-set (open_flags s.machine.runs) r (is_open run)) ∙ ap length (sym (map-set is_open s.machine.runs r run))));
+      flags = length-still s.awaited (open_flags (slice_set s.machine.runs r run))
+          (x.flags ∙ (sym (length-set (open_flags s.machine.runs) r (is_open run)) ∙
+          ap length (sym (map-set is_open s.machine.runs r run))));
       programs = x.programs;
       given = x.given;
     }
@@ -83,7 +92,9 @@ module _ (w : WorldView) (s : Schedule) (sim : Matches w s) (r : ℕ) where
   abbrev x : RefinesSchedule w s
   x = sim.refines
 
-  there : (old : RunView) → slice_get w.runs r ≡ Some (Some old) → (before : Run) × (slice_get s.machine.runs r ≡ Some (Some before)) × RunRefines x.slots s.machine.store.elements s.machine.programs old before
+  there : (old : RunView) → slice_get w.runs r ≡ Some (Some old) → (before : Run) ×
+      (slice_get s.machine.runs r ≡ Some (Some before)) ×
+      RunRefines x.slots s.machine.store.elements s.machine.programs old before
   there old at = run-behind x.slots s.machine.store.elements s.machine.programs old (slice_get w.runs r) (slice_get s.machine.runs r) at (x.runs r)
 
   pub lists-same : (run : Option Run) (started : ℕ) → run-changed s r run started ≡ record {
@@ -91,12 +102,20 @@ module _ (w : WorldView) (s : Schedule) (sim : Matches w s) (r : ℕ) where
     queues = retired 0 s.machine.store.elements s.machine.store.elements s.queues;
     awaited = still_open s.awaited (open_flags (slice_set s.machine.runs r run));
   }
-  lists-same run started = λ j. record { machine = (run-changed s r run started).machine; queues = sym (retired-same 0 s.machine.store.elements s.queues) j; awaited = still_open s.awaited (open_flags (slice_set s.machine.runs r run)) }
+  lists-same run started = λ j. record {
+    machine = (run-changed s r run started).machine;
+    queues =
+        sym (retired-same 0 s.machine.store.elements s.queues) j;
+    awaited =
+        still_open s.awaited (open_flags (slice_set s.machine.runs r run));
+  }
 
   going : (run : Run) → run_at s.machine.runs r ≡ Some run → run.exit ≡ None → refusal s.machine (events.Step r) ≡ None
   going run at e = ap step_refusal at ∙ ap if_ended e
 
-  module _ (run later : Run) (old new : RunView) (answer : Answer) (run_is : run_at s.machine.runs r ≡ Some run) (at : slice_get w.runs r ≡ Some (Some old)) (h : RunRefines x.slots s.machine.store.elements s.machine.programs new later)
+  module _ (run later : Run) (old new : RunView) (answer : Answer) (run_is : run_at s.machine.runs r ≡ Some run)
+      (at : slice_get w.runs r ≡ Some (Some old)) (h : RunRefines x.slots s.machine.store.elements s.machine.programs
+      new later)
       (step : StepsRun s.machine r answer (with_runs s.machine (slice_set s.machine.runs r (Some later)))) where
     pub move_simulates : Simulates s (events.Step r) (answer, with_run r (Some new) w)
     move_simulates =
@@ -108,11 +127,21 @@ module _ (w : WorldView) (s : Schedule) (sim : Matches w s) (r : ℕ) where
           oldest = oldest-none s.machine.store s.machine.store refl;
           lists = lists-same (Some later) s.machine.started;
         } in
-        record { next = t; does = does; matches = steps (with_run r (Some new) w) s t (events.Step r) answer sim.scheduled does (run-world w s x r (Some old) (Some b.0) (Some new) (Some later) s.machine.started at b.1 h) }
+        record {
+          next = t;
+          does = does;
+          matches = steps (with_run r (Some new) w) s t (events.Step r) answer
+              sim.scheduled does (run-world w s x r (Some old) (Some b.0) (Some new) (Some later) s.machine.started at
+              b.1 h);
+        }
 
   -- a step whose first half changed the store
-  pub halves_simulate : (store : Store) (u : WorldView) (y : RefinesSchedule u (half s store)) (run later : Run) (old new : RunView) (answer : Answer) → run_at s.machine.runs r ≡ Some run → slice_get u.runs r ≡ Some (Some old) → RunRefines y.slots store.elements s.machine.programs new later →
-      TakesOldest s.machine.store store → StepsRun s.machine r answer (with_runs (with_store s.machine store) (slice_set s.machine.runs r (Some later))) → Simulates s (events.Step r) (answer, with_run r (Some new) u)
+  pub halves_simulate : (store : Store) (u : WorldView) (y : RefinesSchedule u (half s store)) (run later : Run)
+      (old new : RunView) (answer : Answer) → run_at s.machine.runs r ≡ Some run →
+      slice_get u.runs r ≡ Some (Some old) → RunRefines y.slots store.elements s.machine.programs new later →
+      TakesOldest s.machine.store store → StepsRun s.machine r answer
+      (with_runs (with_store s.machine store) (slice_set s.machine.runs r (Some later))) →
+      Simulates s (events.Step r) (answer, with_run r (Some new) u)
   halves_simulate store u y run later old new answer run_is at h oldest step =
       let b = run-behind y.slots store.elements s.machine.programs old (slice_get u.runs r) (slice_get s.machine.runs r) at (y.runs r) in
       let t : Schedule = run-changed (half s store) r (Some later) s.machine.started in
@@ -122,22 +151,48 @@ module _ (w : WorldView) (s : Schedule) (sim : Matches w s) (r : ℕ) where
         oldest = oldest;
         lists = refl;
       } in
-      record { next = t; does = does; matches = steps (with_run r (Some new) u) s t (events.Step r) answer sim.scheduled does (run-world u (half s store) y r (Some old) (Some b.0) (Some new) (Some later) s.machine.started at b.1 h) }
+      record {
+        next = t;
+        does = does;
+        matches = steps (with_run r (Some new) u) s t (events.Step r) answer
+            sim.scheduled does (run-world u (half s store) y r (Some old) (Some b.0) (Some new) (Some later)
+            s.machine.started at b.1 h);
+      }
 
   -- registers after a call without a result
-  nothing-word : (a b : Bool) (v : Value) (word : ℕ) → WordIs (element_bases x.slots s.machine.store.elements) v word → WordIs (element_bases x.slots s.machine.store.elements) (if a then Nothing else if b then Nothing else v) word
+  nothing-word : (a b : Bool) (v : Value) (word : ℕ) → WordIs (element_bases x.slots s.machine.store.elements) v word
+      → WordIs (element_bases x.slots s.machine.store.elements) (if a then Nothing else if b then Nothing else v) word
   nothing-word true b v word h = tt
   nothing-word false true v word h = tt
   nothing-word false false v word h = h
 
-  module _ (run : Run) (old : RunView) (imm : ℤ) (run_is : run_at s.machine.runs r ≡ Some run) (at : slice_get w.runs r ≡ Some (Some old)) (alive : run.exit ≡ None) (insn : insn_at run.program.code run.state.place ≡ Some (Call kinds.Kernel imm)) where
+  module _ (run : Run) (old : RunView) (imm : ℤ) (run_is : run_at s.machine.runs r ≡ Some run)
+      (at : slice_get w.runs r ≡ Some (Some old)) (alive : run.exit ≡ None)
+      (insn : insn_at run.program.code run.state.place ≡ Some (Call kinds.Kernel imm)) where
     refines : RunRefines x.slots s.machine.store.elements s.machine.programs old run
-    refines = let b = there old at in subst (RunRefines x.slots s.machine.store.elements s.machine.programs old) (same_Some b.0 run (ap option_flatten (sym b.1) ∙ run_is)) b.2
+    refines = let b = there old at in subst (RunRefines x.slots s.machine.store.elements s.machine.programs old)
+        (same_Some b.0 run (ap option_flatten (sym b.1) ∙ run_is)) b.2
 
-    call-step : (later : Run) → KernelStep (kernel_function_of imm) run later → StepsRun s.machine r Moved (with_runs s.machine (slice_set s.machine.runs r (Some later)))
-    call-step later k = record { run = run; there = run_is; going = alive; new_store = s.machine.store; new_run = later; step = (Call kinds.Kernel imm, insn, of_kind (Call kinds.Kernel imm) s.machine.store (open_sections s.machine.runs) run Moved s.machine.store later (k, refl, refl)); new_is = refl }
+    call-step : (later : Run) → KernelStep (kernel_function_of imm) run later →
+        StepsRun s.machine r Moved (with_runs s.machine (slice_set s.machine.runs r (Some later)))
+    call-step later k = record {
+      run = run;
+      there = run_is;
+      going = alive;
+      new_store = s.machine.store;
+      new_run =
+          later;
+      step = (
+        Call kinds.Kernel imm,
+        insn,
+        of_kind (Call kinds.Kernel imm) s.machine.store
+            (open_sections s.machine.runs) run Moved s.machine.store later (k, refl, refl),
+      );
+      new_is = refl;
+    }
 
-    pub lock_simulates : kernel_function_of imm ≡ Some ReadLock → run.depth < MAX_DEPTH → Simulates s (events.Step r) (Moved, with_run r (Some (locked_view old)) w)
+    pub lock_simulates : kernel_function_of imm ≡ Some ReadLock → run.depth < MAX_DEPTH →
+        Simulates s (events.Step r) (Moved, with_run r (Some (locked_view old)) w)
     lock_simulates f room =
         let h = refines in
         let later : Run = moves (locked run) (returns Nothing run.state) in
@@ -154,7 +209,8 @@ module _ (w : WorldView) (s : Schedule) (sim : Matches w s) (r : ℕ) where
           exit = h.exit;
         }) (call-step later (subst (λ o. KernelStep o run later) (sym f) (room, refl)))
 
-    pub unlock_simulates : kernel_function_of imm ≡ Some ReadUnlock → 0 < run.depth → Simulates s (events.Step r) (Moved, with_run r (Some (unlocked_view old)) w)
+    pub unlock_simulates : kernel_function_of imm ≡ Some ReadUnlock → 0 < run.depth →
+        Simulates s (events.Step r) (Moved, with_run r (Some (unlocked_view old)) w)
     unlock_simulates f inside =
         let h = refines in
         let later : Run = moves (unlocked run) (returns Nothing run.state) in
@@ -182,4 +238,9 @@ module _ (w : WorldView) (s : Schedule) (sim : Matches w s) (r : ℕ) where
         oldest = oldest-none s.machine.store s.machine.store refl;
         lists = lists-same None s.machine.started;
       } in
-      record { next = t; does = does; matches = steps (with_run r None w) s t (events.Drop r) Done sim.scheduled does (run-world w s x r (Some old) (Some b.0) None None s.machine.started at b.1 tt) }
+      record {
+        next = t;
+        does = does;
+        matches = steps (with_run r None w) s t (events.Drop r) Done sim.scheduled does
+            (run-world w s x r (Some old) (Some b.0) None None s.machine.started at b.1 tt);
+      }

@@ -27,7 +27,9 @@ use Rattle.view_laws.proofs.Running.{run-changed, run-world, lists-same}
 
 -- the same run slots are free in the view and in the machine
 module _ (slots : List ℕ) (es : List Element) (programs : List Loaded) where
-  free-agrees : (vs : List (Option RunView)) (runs : List (Option Run)) → ((r : ℕ) → RunSlotRefines slots es programs (slice_get vs r) (slice_get runs r)) → lowest_free vs ≡ lowest_free runs
+  free-agrees : (vs : List (Option RunView)) (runs : List (Option Run)) →
+      ((r : ℕ) → RunSlotRefines slots es programs (slice_get vs r) (slice_get runs r)) →
+      lowest_free vs ≡ lowest_free runs
   free-agrees [] [] h = refl
   free-agrees [] (None ∷ runs) h = absurd (h 0)
   free-agrees [] (Some run ∷ runs) h = absurd (h 0)
@@ -52,7 +54,8 @@ module _ (slots : List ℕ) (es : List Element) (programs : List Loaded) where
   fresh-words (suc (suc (suc (suc (suc (suc (suc (suc (suc (suc zero)))))))))) h = refl
   fresh-words (suc (suc (suc (suc (suc (suc (suc (suc (suc (suc (suc r))))))))))) h = absurd (omega arith)
 
-  fresh-refines : (prog : ℕ) (program : Loaded) (context : List ℕ) (name : ℕ) → slice_get programs prog ≡ Some program → RunRefines slots es programs (fresh_view prog context) (fresh_run name program context)
+  fresh-refines : (prog : ℕ) (program : Loaded) (context : List ℕ) (name : ℕ) → slice_get programs prog ≡ Some program
+      → RunRefines slots es programs (fresh_view prog context) (fresh_run name program context)
   fresh-refines prog program context name h = record {
     program = h;
     context = refl;
@@ -81,12 +84,17 @@ module _ (w : WorldView) (s : Schedule) (sim : Matches w s) (prog : ℕ) (ctx : 
   agrees : lowest_free w.runs ≡ lowest_free s.machine.runs
   agrees = free-agrees x.slots s.machine.store.elements s.machine.programs w.runs s.machine.runs x.runs
 
-  refusal-is : (r : Option EventRefusal) → start_refusal (slice_get w.programs prog) (length ctx.items) (lowest_free w.runs) ≡ r → refusal s.machine (events.Start prog ctx) ≡ r
-  refusal-is r e = ap (λ l. start_refusal (slice_get l prog) (length ctx.items) (lowest_free s.machine.runs)) (sym x.programs) ∙ (ap (start_refusal (slice_get w.programs prog) (length ctx.items)) (sym agrees) ∙ e)
+  refusal-is : (r : Option EventRefusal) → start_refusal (slice_get w.programs prog) (length ctx.items)
+      (lowest_free w.runs) ≡ r → refusal s.machine (events.Start prog ctx) ≡ r
+  refusal-is r e = ap (λ l. start_refusal (slice_get l prog) (length ctx.items) (lowest_free s.machine.runs))
+      (sym x.programs) ∙ (ap (start_refusal (slice_get w.programs prog) (length ctx.items)) (sym agrees) ∙ e)
 
-  by : (r : Option EventRefusal) (o : Option ℕ) → start_refusal (slice_get w.programs prog) (length ctx.items) (lowest_free w.runs) ≡ r → lowest_free w.runs ≡ o → Simulates s (events.Start prog ctx) (start_by r o w prog ctx.items)
+  by : (r : Option EventRefusal) (o : Option ℕ) → start_refusal (slice_get w.programs prog) (length ctx.items)
+      (lowest_free w.runs) ≡ r → lowest_free w.runs ≡ o →
+      Simulates s (events.Start prog ctx) (start_by r o w prog ctx.items)
   by (Some r) o e free = record { next = s; does = refuses w s x sim.scheduled r (events.Start prog ctx) (refusal-is (Some r) e); matches = sim }
-  by None None e free = absurd (full (slice_get w.programs prog) (length ctx.items) (ap (start_refusal (slice_get w.programs prog) (length ctx.items)) (sym free) ∙ e))
+  by None None e free = absurd (full (slice_get w.programs prog) (length ctx.items)
+      (ap (start_refusal (slice_get w.programs prog) (length ctx.items)) (sym free) ∙ e))
     where
       full : (o : Option Loaded) (len : ℕ) → start_refusal o len None ≡ None → ⊥
       full None len h = none-some NoProgram (sym h)
@@ -98,7 +106,8 @@ module _ (w : WorldView) (s : Schedule) (sim : Matches w s) (prog : ℕ) (ctx : 
       let run : Run = fresh_run s.machine.started p.0 ctx.items in
       let t : Schedule = run-changed s r (Some run) (s.machine.started + 1) in
       let does : DoesScheduled s (events.Start prog ctx) (Started r) t = record {
-        step = subst (λ z. Answers z s.machine (events.Start prog ctx) (Started r) t.machine) (sym (refusal-is None e)) (record { program = p.0; there = there; lowest = lowest; new_is = refl });
+        step = subst (λ z. Answers z s.machine (events.Start prog ctx) (Started r) t.machine)
+            (sym (refusal-is None e)) (record { program = p.0; there = there; lowest = lowest; new_is = refl });
         first = tt;
         oldest = oldest-none s.machine.store s.machine.store refl;
         lists = lists-same w s sim r (Some run) (s.machine.started + 1);
@@ -107,7 +116,10 @@ module _ (w : WorldView) (s : Schedule) (sim : Matches w s) (prog : ℕ) (ctx : 
         next = t;
         does = does;
         matches = steps (with_run r (Some (fresh_view prog ctx.items)) w) s t (events.Start prog ctx) (Started r) sim.scheduled does
-            (run-world w s x r None None (Some (fresh_view prog ctx.items)) (Some run) (s.machine.started + 1) (free-there w.runs r free) (free-there s.machine.runs r lowest) (fresh-refines x.slots s.machine.store.elements s.machine.programs prog p.0 ctx.items s.machine.started there));
+            (run-world w s x r None None (Some (fresh_view prog ctx.items)) (Some run) (s.machine.started + 1)
+            (free-there w.runs r free) (free-there s.machine.runs r lowest)
+            (fresh-refines x.slots s.machine.store.elements s.machine.programs prog p.0 ctx.items
+            s.machine.started there));
       }
 
   pub start_simulates : Simulates s (events.Start prog ctx) (start_reaction w prog ctx.items)

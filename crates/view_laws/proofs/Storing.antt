@@ -26,7 +26,8 @@ use Rattle.std.proofs.lemmas.List.{length-set}
 use Rattle.bpf_model.proofs.Lists.{get-set_cases, get-set_other, get-set_there}
 
 -- an element that may be accessed is not reclaimed
-pub accessible-kept : (es : List Element) (n : ℕ) (o : Option Element) (e : Element) → slice_get es n ≡ o → (o >>= unless_reclaimed) ≡ Some e → is_reclaimed e.life ≡ false
+pub accessible-kept : (es : List Element) (n : ℕ) (o : Option Element) (e : Element) → slice_get es n ≡ o →
+    (o >>= unless_reclaimed) ≡ Some e → is_reclaimed e.life ≡ false
 accessible-kept es n None e at h = absurd (none-some e h)
 accessible-kept es n (Some x) e at h = choice (is_reclaimed x.life) refl h
   where
@@ -35,7 +36,8 @@ accessible-kept es n (Some x) e at h = choice (is_reclaimed x.life) refl h
     choice false is g = ap (λ (z : Element). is_reclaimed z.life) (sym (same_Some x e g)) ∙ is
 
 -- the element that is accessed stands in its map slot
-module _ (w : WorldView) (s : Schedule) (m : Matches w s) (n : ℕ) (e : Element) (v : MapView) (access : accessible s.machine.store.elements n ≡ Some e) (at : slice_get w.maps e.map ≡ Some v) where
+module _ (w : WorldView) (s : Schedule) (m : Matches w s) (n : ℕ) (e : Element) (v : MapView)
+    (access : accessible s.machine.store.elements n ≡ Some e) (at : slice_get w.maps e.map ≡ Some v) where
   abbrev es : List Element
   es = s.machine.store.elements
 
@@ -49,13 +51,16 @@ module _ (w : WorldView) (s : Schedule) (m : Matches w s) (n : ℕ) (e : Element
   shown = (here w s m.refines e.map v at).stands.elements.occupied n e (record { born = born; in_map = refl; kept = kept })
 
 -- a map slot with another value
-uses-kept : (slots : List SlotView) (i : ℕ) (old new : SlotView) → slice_get slots i ≡ Some old → new.uses ≡ old.uses → (x : ℕ) → uses_at (slice_set slots i new) x ≡ uses_at slots x
+uses-kept : (slots : List SlotView) (i : ℕ) (old new : SlotView) → slice_get slots i ≡ Some old → new.uses ≡ old.uses
+    → (x : ℕ) → uses_at (slice_set slots i new) x ≡ uses_at slots x
 uses-kept slots i old new at same x = elim (cases_eq x i) [
-  | inl is ↦ ap (uses_at (slice_set slots i new)) is ∙ (ap uses_in (get-set_there slots i old new at) ∙ (same ∙ (ap uses_in (sym at) ∙ ap (uses_at slots) (sym is))))
+  | inl is ↦ ap (uses_at (slice_set slots i new)) is ∙
+      (ap uses_in (get-set_there slots i old new at) ∙ (same ∙ (ap uses_in (sym at) ∙ ap (uses_at slots) (sym is))))
   | inr ne ↦ ap uses_in (get-set_other slots i x new ne)
 ]
 
-module _ (slots : List ℕ) (k : ℕ) (es : List Element) (v : MapView) (n : ℕ) (e : Element) (value : List ℕ) (s : ElementsStand slots k es v) (free : SlotsStand v) (kept : IsElementKept es k n e) where
+module _ (slots : List ℕ) (k : ℕ) (es : List Element) (v : MapView) (n : ℕ) (e : Element) (value : List ℕ)
+    (s : ElementsStand slots k es v) (free : SlotsStand v) (kept : IsElementKept es k n e) where
   abbrev i : ℕ
   i = slice_index slots n
 
@@ -69,8 +74,29 @@ module _ (slots : List ℕ) (k : ℕ) (es : List Element) (v : MapView) (n : ℕ
   stored = s.occupied n e kept
 
   -- the map slot that the view has is that of the element with the value
-  slot-is : new ≡ record { shape = v.shape; slots = slice_set v.slots i (slot_view (with_value value e)); free = v.free; index = v.index; next = v.next; waiting = v.waiting; ready = v.ready; worn = v.worn }
-  slot-is = ap (λ (o : Option SlotView). let z : MapView = record { shape = v.shape; slots = slice_set v.slots i (record { key = key_in o; value = value; uses = uses_in o }); free = v.free; index = v.index; next = v.next; waiting = v.waiting; ready = v.ready; worn = v.worn } in z) stored
+  slot-is : new ≡ record {
+    shape = v.shape;
+    slots = slice_set v.slots i (slot_view (with_value value e));
+    free =
+        v.free;
+    index = v.index;
+    next = v.next;
+    waiting = v.waiting;
+    ready = v.ready;
+    worn = v.worn;
+  }
+  slot-is = ap (λ (o : Option SlotView). let z : MapView =
+      record {
+        shape = v.shape;
+        slots = slice_set v.slots i
+            (record { key = key_in o; value = value; uses = uses_in o });
+        free = v.free;
+        index = v.index;
+        next = v.next;
+        waiting = v.waiting;
+        ready = v.ready;
+        worn = v.worn;
+      } in z) stored
 
   cases : (a : ℕ) (f : Element) → IsElementKept vs k a f → ((a ≡ n) × (with_value value e ≡ f)) ⊎ ((a ≢ n) × IsElementKept es k a f)
   cases a f g = elim (get-set_cases es n a (with_value value e) f g.born) [
@@ -85,13 +111,25 @@ module _ (slots : List ℕ) (k : ℕ) (es : List Element) (v : MapView) (n : ℕ
   ]
 
   abbrev after : MapView
-  after = record { shape = v.shape; slots = slice_set v.slots i (slot_view (with_value value e)); free = v.free; index = v.index; next = v.next; waiting = v.waiting; ready = v.ready; worn = v.worn }
+  after = record {
+    shape = v.shape;
+    slots = slice_set v.slots i (slot_view (with_value value e));
+    free = v.free;
+    index = v.index;
+    next = v.next;
+    waiting = v.waiting;
+    ready = v.ready;
+    worn = v.worn;
+  }
 
   elements-after : ElementsStand slots k vs after
   elements-after = record {
     occupied = λ a f g. elim (cases a f g) [
-      | inl x ↦ ap (λ b. slice_get after.slots (slice_index slots b)) x.0 ∙ (get-set_there v.slots i (slot_view e) (slot_view (with_value value e)) stored ∙ ap (λ (z : Element). Some (slot_view z)) x.1)
-      | inr x ↦ get-set_other v.slots i (slice_index slots a) (slot_view (with_value value e)) (λ same. x.0 (s.single a n f e x.1 kept same)) ∙ s.occupied a f x.1
+      | inl x ↦ ap (λ b. slice_get after.slots (slice_index slots b)) x.0 ∙
+          (get-set_there v.slots i (slot_view e) (slot_view (with_value value e)) stored ∙
+          ap (λ (z : Element). Some (slot_view z)) x.1)
+      | inr x ↦ get-set_other v.slots i (slice_index slots a) (slot_view (with_value value e))
+          (λ same. x.0 (s.single a n f e x.1 kept same)) ∙ s.occupied a f x.1
     ];
     single = λ a b d f g h same. let x = before a d g in let y = before b f h in s.single a b x.0 y.0 x.1 y.1 same;
     apart = λ a f g. let x = before a f g in s.apart a x.0 x.1;
@@ -111,10 +149,14 @@ module _ (slots : List ℕ) (k : ℕ) (es : List Element) (v : MapView) (n : ℕ
   }
 
   pub state-written : map_state_of new ≡ map_state_of v
-  state-written = ap (λ bag. let z : MapState = record { shape = v.shape; bag = bag; worn = v.worn } in z) (map-same (uses_at new.slots) (uses_at v.slots) v.free (λ a x g. uses-kept v.slots i (slot_view e) _ stored (ap uses_in stored) x))
+  state-written = ap (λ bag. let z : MapState = record { shape = v.shape; bag = bag; worn = v.worn } in z)
+      (map-same (uses_at new.slots) (uses_at v.slots) v.free
+      (λ a x g. uses-kept v.slots i (slot_view e) _ stored (ap uses_in stored) x))
 
 -- the half of a step
-module _ (w : WorldView) (s : Schedule) (m : Matches w s) (n : ℕ) (e : Element) (v : MapView) (is-born : slice_get s.machine.store.elements n ≡ Some e) (is-kept : is_reclaimed e.life ≡ false) (at : slice_get w.maps e.map ≡ Some v) (value : List ℕ) where
+module _ (w : WorldView) (s : Schedule) (m : Matches w s) (n : ℕ) (e : Element) (v : MapView)
+    (is-born : slice_get s.machine.store.elements n ≡ Some e) (is-kept : is_reclaimed e.life ≡ false)
+    (at : slice_get w.maps e.map ≡ Some v) (value : List ℕ) where
   abbrev x : RefinesSchedule w s
   x = m.refines
 
@@ -154,7 +196,8 @@ module _ (w : WorldView) (s : Schedule) (m : Matches w s) (n : ℕ) (e : Element
     queued = length-retired all fs s.queues 0;
     lists = λ j q ne g. lists-same j q g;
     stands = λ t q there g. record {
-      state = same_Some t h.state (sym there ∙ h.there) ∙ (h.stands.state ∙ sym (state-written x.slots e.map all v n e value h.stands.elements h.stands.free one));
+      state = same_Some t h.state (sym there ∙ h.there) ∙
+          (h.stands.state ∙ sym (state-written x.slots e.map all v n e value h.stands.elements h.stands.free one));
       lists = h.stands.lists ∙ ap (named x.slots) (same_Some h.lists q (sym h.listed ∙ lists-same e.map q g));
       free = slots-written x.slots e.map all v n e value h.stands.elements h.stands.free one;
       elements = elements-written x.slots e.map all v n e value h.stands.elements h.stands.free one;
@@ -162,10 +205,15 @@ module _ (w : WorldView) (s : Schedule) (m : Matches w s) (n : ℕ) (e : Element
   }
 
   pub written-half : RefinesSchedule (with_map e.map view w) (half s store)
-  written-half = turned-world w s x m.scheduled e.map view store queues s.awaited w.given turns refl (x.given ∙ sym (count-written e.map all n e value is-born refl (λ life map. is_reclaimed life)))
+  written-half = turned-world w s x m.scheduled e.map view store queues s.awaited w.given turns refl
+      (x.given ∙ sym (count-written e.map all n e value is-born refl (λ life map. is_reclaimed life)))
 
-pub store_half : (w : WorldView) (s : Schedule) (m : Matches w s) (n : ℕ) (e : Element) (v : MapView) (offset : ℤ) (width start x : ℕ) → accessible s.machine.store.elements n ≡ Some e → slice_get w.maps e.map ≡ Some v → region_offset (length e.value) width offset ≡ Some start →
-    StoresHalf (with_map e.map (written v (slice_index m.refines.slots n) (with_bytes start width x (value_in (slice_get v.slots (slice_index m.refines.slots n))))) w) s n width offset x
+pub store_half : (w : WorldView) (s : Schedule) (m : Matches w s) (n : ℕ) (e : Element) (v : MapView) (offset : ℤ)
+    (width start x : ℕ) → accessible s.machine.store.elements n ≡ Some e → slice_get w.maps e.map ≡ Some v →
+    region_offset (length e.value) width offset ≡ Some start →
+    StoresHalf (with_map e.map (written v (slice_index m.refines.slots n)
+    (with_bytes start width x (value_in (slice_get v.slots (slice_index m.refines.slots n))))) w) s n width offset
+    x
 store_half w s m n e v offset width start x access at inside =
     let es = s.machine.store.elements in
     let new = with_bytes start width x e.value in
@@ -174,7 +222,12 @@ store_half w s m n e v offset width start x access at inside =
     let is = shown w s m n e v access at in
     record {
       elements = fs;
-      stored = ap (λ o. o >>= stored_in es n width offset x) access ∙ (ap (λ o. o >>= λ p. Some (changed (with_value (with_bytes p width x e.value)) es n)) inside ∙ ap (λ o. Some (set_to (with_value new) es n o)) there);
+      stored = ap (λ o. o >>= stored_in es n width offset x) access ∙
+          (ap (λ o. o >>= λ p. Some (changed (with_value (with_bytes p width x e.value)) es n)) inside ∙
+          ap (λ o. Some (set_to (with_value new) es n o)) there);
       oldest = oldest-none s.machine.store (with_elements fs s.machine.store) (length-set es n _);
-      refines = subst (λ o. RefinesSchedule (with_map e.map (written v (slice_index m.refines.slots n) (with_bytes start width x (value_in o))) w) (half s (with_elements fs s.machine.store))) (sym is) (written-half w s m n e v there (kept w s m n e v access at) at new);
+      refines = subst (λ o. RefinesSchedule (with_map e.map
+          (written v (slice_index m.refines.slots n) (with_bytes start width x (value_in o))) w)
+          (half s (with_elements fs s.machine.store))) (sym is)
+          (written-half w s m n e v there (kept w s m n e v access at) at new);
     }

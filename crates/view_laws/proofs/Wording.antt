@@ -37,7 +37,8 @@ module _ (k : ℕ) (slots names : List ℕ) (es fs : List Element) (c : Changes 
   cell-byte (Byte n) byte b h = h
   cell-byte (Part i r) byte b h = (h.0, h.1, reference-word r h.0 b h.2, h.3)
 
-  run-kept : (programs : List Loaded) (w : RunView) (run : Run) → IsBornState (length es) run.state → RunRefines slots es programs w run → RunRefines names fs programs w run
+  run-kept : (programs : List Loaded) (w : RunView) (run : Run) → IsBornState (length es) run.state →
+      RunRefines slots es programs w run → RunRefines names fs programs w run
   run-kept programs w run b h = record {
     program = h.program;
     context = h.context;
@@ -55,7 +56,8 @@ module _ (k : ℕ) (slots names : List ℕ) (es fs : List Element) (c : Changes 
   abbrev pub AreBorn : Option (Option Run) → Type 0
   AreBorn run = (x : Run) → option_flatten run ≡ Some x → IsBornState (length es) x.state
 
-  pub slot-kept : (programs : List Loaded) (w : Option (Option RunView)) (run : Option (Option Run)) → AreBorn run → RunSlotRefines slots es programs w run → RunSlotRefines names fs programs w run
+  pub slot-kept : (programs : List Loaded) (w : Option (Option RunView)) (run : Option (Option Run)) → AreBorn run →
+      RunSlotRefines slots es programs w run → RunSlotRefines names fs programs w run
   slot-kept programs None None b h = tt
   slot-kept programs (Some None) (Some None) b h = tt
   slot-kept programs (Some (Some w)) (Some (Some run)) b h = run-kept programs w run (b run refl) h

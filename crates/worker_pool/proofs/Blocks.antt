@@ -20,15 +20,20 @@ use Rattle.worker_pool.specs.Trails.{IsServedJob}
 use Rattle.worker_pool.proofs.JobLines.{job_lines-append}
 use Rattle.worker_pool.proofs.Outcomes.{reports_of}
 
-pub runs_of : (program : List Insn) (n len : ℕ) (programs : List Checked) (jobs lent : List Job) → map (λ p. p.program) programs ≡ program ∷ [] → n ≡ len → lent ≡ jobs → All (IsZeroJob n) jobs → AreRunsOf program len programs lent
+pub runs_of : (program : List Insn) (n len : ℕ) (programs : List Checked) (jobs lent : List Job) →
+    map (λ p. p.program) programs ≡ program ∷ [] → n ≡ len → lent ≡ jobs → All (IsZeroJob n) jobs →
+    AreRunsOf program len programs lent
 runs_of program n len programs jobs lent only same is zeros =
     record { only = only; zeros = subst (λ (m : ℕ). All (IsZeroJob m) lent) same (subst (All (IsZeroJob n)) (sym is) zeros) }
 
 -- the lines of further outcomes are written behind those of the first jobs
-more_written : (program : List Insn) (len first : ℕ) (old mid new : Option (List ℕ)) (outcomes : List Outcome) → WritesJobs program len first old mid → All (IsOutcomeOf program len) outcomes → Appends mid new (job_lines first outcomes) → WritesJobs program len (first + length outcomes) old new
+more_written : (program : List Insn) (len first : ℕ) (old mid new : Option (List ℕ)) (outcomes : List Outcome) →
+    WritesJobs program len first old mid → All (IsOutcomeOf program len) outcomes →
+    Appends mid new (job_lines first outcomes) → WritesJobs program len (first + length outcomes) old new
 more_written program len first old mid new outcomes w each wrote =
     let number : length (w.outcomes ++ outcomes) ≡ first + length outcomes = omega (arith, length-append w.outcomes outcomes, w.number) in
-    let lines : job_lines 0 (w.outcomes ++ outcomes) ≡ job_lines 0 w.outcomes ++ job_lines first outcomes = job_lines-append 0 first w.outcomes outcomes (omega (arith, w.number)) in
+    let lines : job_lines 0 (w.outcomes ++ outcomes) ≡ job_lines 0 w.outcomes ++ job_lines first outcomes =
+    job_lines-append 0 first w.outcomes outcomes (omega (arith, w.number)) in
     record {
       outcomes = w.outcomes ++ outcomes;
       number = number;
@@ -37,9 +42,14 @@ more_written program len first old mid new outcomes w each wrote =
     }
 
 -- some of the jobs are served, and the lines of their reports are written
-pub block_written : (programs : List Checked) (program : List Insn) (len first some : ℕ) (jobs : List Job) (before after : List WorkerView) (reports : List (JobReport Trail)) (old mid new : Option (List ℕ)) → AreRunsOf program len programs jobs → some ≤ length jobs → length reports ≡ length (take some jobs) → AreServed (IsServedJob programs) (take some jobs) before after reports → WritesJobs program len first old mid → Appends mid new (job_lines first (map outcome_of reports)) → WritesJobs program len (first + some) old new
+pub block_written : (programs : List Checked) (program : List Insn) (len first some : ℕ) (jobs : List Job)
+    (before after : List WorkerView) (reports : List (JobReport Trail)) (old mid new : Option (List ℕ)) →
+    AreRunsOf program len programs jobs → some ≤ length jobs → length reports ≡ length (take some jobs) →
+    AreServed (IsServedJob programs) (take some jobs) before after reports → WritesJobs program len first old mid →
+    Appends mid new (job_lines first (map outcome_of reports)) → WritesJobs program len (first + some) old new
 block_written programs program len first some jobs before after reports old mid new runs inside count served w wrote =
     let zeros : All (IsZeroJob len) (take some jobs) = All-take (IsZeroJob len) some jobs runs.zeros in
-    let each = All-map (IsOutcomeOf program len) outcome_of reports (reports_of programs program runs.only len (take some jobs) before after reports count zeros served) in
+    let each = All-map (IsOutcomeOf program len) outcome_of reports
+    (reports_of programs program runs.only len (take some jobs) before after reports count zeros served) in
     let total : first + length (map outcome_of reports) ≡ first + some = omega (arith, length-map reports outcome_of, count, length-take-le some jobs inside) in
     subst (λ (n : ℕ). WritesJobs program len n old new) total (more_written program len first old mid new (map outcome_of reports) w each wrote)

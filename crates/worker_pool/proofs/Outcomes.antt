@@ -24,7 +24,8 @@ code_of p = p.program
 
 -- the only program is the first
 
-first_program : (programs : List Checked) (code : List Insn) → map code_of programs ≡ code ∷ [] → (p : Checked) × (slice_get programs 0 ≡ Some p) × (p.program ≡ code)
+first_program : (programs : List Checked) (code : List Insn) → map code_of programs ≡ code ∷ [] → (p : Checked) ×
+    (slice_get programs 0 ≡ Some p) × (p.program ≡ code)
 first_program [] code e = absurd (let h : [] ≡ code ∷ [] = e in cc)
 first_program (p ∷ programs) code e = (p, refl, ap (λ (xs : List (List Insn)). get_or xs 0 code) e)
 
@@ -39,31 +40,45 @@ module _ (programs : List Checked) (code : List Insn) (only : map code_of progra
       let f = first_program programs code only in
       subst (λ (c : List Insn). HasNoMaps c → ExitsAs c context n) f.2 (subst (λ (o : Option Checked). IsOwnExit o context n) f.1 h)
 
-  zero_exit : (len : ℕ) (job : Job) (n : ℕ) → IsZeroJob len job → IsPossibleExit (slice_get programs job.prog) job.ctx.items n → IsOwnExit (slice_get programs job.prog) job.ctx.items n → IsZeroExit code len n
+  zero_exit : (len : ℕ) (job : Job) (n : ℕ) → IsZeroJob len job →
+      IsPossibleExit (slice_get programs job.prog) job.ctx.items n →
+      IsOwnExit (slice_get programs job.prog) job.ctx.items n → IsZeroExit code len n
   zero_exit len job n z may own =
       let at : slice_get programs job.prog ≡ slice_get programs 0 = ap (slice_get programs) z.prog in
       record {
-        may = may_exit (replicate len 0) n (subst (λ (c : List ℕ). IsPossibleExit (slice_get programs 0) c n) z.context (subst (λ (o : Option Checked). IsPossibleExit o job.ctx.items n) at may));
-        alone = own_exit (replicate len 0) n (subst (λ (c : List ℕ). IsOwnExit (slice_get programs 0) c n) z.context (subst (λ (o : Option Checked). IsOwnExit o job.ctx.items n) at own));
+        may = may_exit (replicate len 0) n (subst (λ (c : List ℕ). IsPossibleExit (slice_get programs 0) c n)
+            z.context (subst (λ (o : Option Checked). IsPossibleExit o job.ctx.items n) at may));
+        alone = own_exit (replicate len 0) n (subst (λ (c : List ℕ). IsOwnExit (slice_get programs 0) c n) z.context
+            (subst (λ (o : Option Checked). IsOwnExit o job.ctx.items n) at own));
       }
 
-  told_exit : (len run value : ℕ) (reply : Result Answer SharedFault) (outcome : Outcome) → IsZeroExit code len value → TellsExit run value reply outcome → IsOutcomeOf code len outcome
+  told_exit : (len run value : ℕ) (reply : Result Answer SharedFault) (outcome : Outcome) → IsZeroExit code len value
+      → TellsExit run value reply outcome → IsOutcomeOf code len outcome
   told_exit len run value reply outcome v (inl (done, is)) = subst (IsOutcomeOf code len) (sym is) v
   told_exit len run value reply outcome v (inr stops) = subst (IsOutcomeOf code len) (sym stops.told) (record {})
 
-  fits_outcome : (len : ℕ) (job : Job) (outcome : Outcome) (trail : Trail) → IsZeroJob len job → FitsJob programs job outcome trail → IsOutcomeOf code len outcome
+  fits_outcome : (len : ℕ) (job : Job) (outcome : Outcome) (trail : Trail) → IsZeroJob len job →
+      FitsJob programs job outcome trail → IsOutcomeOf code len outcome
   fits_outcome len job outcome (trails.Unstarted start) z h = subst (IsOutcomeOf code len) (sym h.stops.told) (record {})
   fits_outcome len job outcome (trails.Halted start step) z (run, started, halts) = subst (IsOutcomeOf code len) (sym halts.stops.told) (record {})
-  fits_outcome len job outcome (trails.OtherRun start step note) z (run, started, exits, asks, strange) = subst (IsOutcomeOf code len) (sym strange.told) (record {})
+  fits_outcome len job outcome (trails.OtherRun start step note) z (run, started, exits, asks, strange) =
+      subst (IsOutcomeOf code len) (sym strange.told) (record {})
   fits_outcome len job outcome (trails.Ended start step note dropped) z (run, started, exits, asks, x) =
       told_exit len run x.value dropped.reply outcome (zero_exit len job x.value z x.may x.alone) x.told
 
-  report_of : (len : ℕ) (jobs : List Job) (before after : List WorkerView) (reports : List (JobReport Trail)) (k : ℕ) (report : JobReport Trail) → All (IsZeroJob len) jobs → AreServed (IsServedJob programs) jobs before after reports → slice_get reports k ≡ Some report → ((job : Job) × (k < length jobs) × (slice_get jobs k ≡ Some job) × (get_or jobs k job ≡ job)) ⊎ ((length jobs ≤ k) × (slice_get jobs k ≡ None)) → k < length jobs → IsReportOf code len report
+  report_of : (len : ℕ) (jobs : List Job) (before after : List WorkerView) (reports : List (JobReport Trail)) (k : ℕ)
+      (report : JobReport Trail) → All (IsZeroJob len) jobs →
+      AreServed (IsServedJob programs) jobs before after reports → slice_get reports k ≡ Some report →
+      ((job : Job) × (k < length jobs) × (slice_get jobs k ≡ Some job) × (get_or jobs k job ≡ job))
+      ⊎ ((length jobs ≤ k) × (slice_get jobs k ≡ None)) → k < length jobs → IsReportOf code len report
   report_of len jobs before after reports k report zeros served at (inl (job, inside, found, read)) below =
       let one = served k job report found at in
       fits_outcome len job report.outcome report.trail (subst (IsZeroJob len) read (zeros k job inside)) one.right.fits
   report_of len jobs before after reports k report zeros served at (inr (past, none)) below = absurd (omega arith)
 
-  pub reports_of : (len : ℕ) (jobs : List Job) (before after : List WorkerView) (reports : List (JobReport Trail)) → length reports ≡ length jobs → All (IsZeroJob len) jobs → AreServed (IsServedJob programs) jobs before after reports → All (IsReportOf code len) reports
+  pub reports_of : (len : ℕ) (jobs : List Job) (before after : List WorkerView) (reports : List (JobReport Trail)) →
+      length reports ≡ length jobs → All (IsZeroJob len) jobs →
+      AreServed (IsServedJob programs) jobs before after reports → All (IsReportOf code len) reports
   reports_of len jobs before after reports count zeros served k d inside =
-      report_of len jobs before after reports k (get_or reports k d) zeros served (slice_get-get_or reports k d inside) (slice_get_cases jobs k).1 (omega (arith, count, inside))
+      report_of len jobs before after reports k (get_or reports k d) zeros served
+      (slice_get-get_or reports k d inside) (slice_get_cases jobs k).1 (omega (arith, count, inside))

@@ -56,13 +56,15 @@ pub record AllReact (w : WorldView) (events : List Event) (answers : List Answer
   pub answers_are : answers ≡ (full_reactions w events).0
   pub new_is : new ≡ (full_reactions w events).1
 
-pub all_scheduled : {w new : WorldView} {events : List Event} {answers : List Answer} → AllReact w events answers new → AreScheduledAnswers TracksSchedule w events answers new
+pub all_scheduled : {w new : WorldView} {events : List Event} {answers : List Answer} → AllReact w events answers new
+    → AreScheduledAnswers TracksSchedule w events answers new
 all_scheduled {w} {new} {events} {answers} r =
     let law = laws.answers_scheduled w events r.is.ready r.real in
     let there = subst (λ (x : List Answer). AreScheduledAnswers TracksSchedule w events x (full_reactions w events).1) (sym r.answers_are) law in
     subst (λ (v : WorldView). AreScheduledAnswers TracksSchedule w events answers v) (sym r.new_is) there
 
-pub all_machine : {w new : WorldView} {events : List Event} {answers : List Answer} → AllReact w events answers new → AreMachineAnswers Tracks w events answers new
+pub all_machine : {w new : WorldView} {events : List Event} {answers : List Answer} → AllReact w events answers new →
+    AreMachineAnswers Tracks w events answers new
 all_machine {w} {new} {events} {answers} r =
     let law = laws.answers_machine w events r.is.ready r.real in
     let there = subst (λ (x : List Answer). AreMachineAnswers Tracks w events x (full_reactions w events).1) (sym r.answers_are) law in

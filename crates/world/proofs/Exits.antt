@@ -32,7 +32,9 @@ all-some (x ∷ xs) (y ∷ ys) e =
     let rest : map Some xs ≡ map Some ys = cc in
     ap (λ z. z ∷ xs) first ∙ ap (λ zs. y ∷ zs) (all-some xs ys rest)
 
-module _ (names : List (List ℕ)) (maps : List MapView) (runs : Runs) (grace : GraceState) (programs : List Loaded) (given : ℕ) (w : WorldView) (is : world_of names maps runs grace programs given ≡ w) (r : ℕ) (code : List Insn) (shapes : List MapShape) (context_len : ℕ) (context : List ℕ) where
+module _ (names : List (List ℕ)) (maps : List MapView) (runs : Runs) (grace : GraceState) (programs : List Loaded)
+    (given : ℕ) (w : WorldView) (is : world_of names maps runs grace programs given ≡ w) (r : ℕ) (code : List Insn)
+    (shapes : List MapShape) (context_len : ℕ) (context : List ℕ) where
   abbrev World : WorldView
   World = world_of names maps runs grace programs given
 
@@ -44,7 +46,8 @@ module _ (names : List (List ℕ)) (maps : List MapView) (runs : Runs) (grace : 
 
   module _ (run : RunWords) (there : slice_get runs r ≡ Some (Some run)) where
     same-run : (n : ℕ) (g : HasExited World r code shapes context_len context n) → run.view ≡ g.run
-    same-run n g = same_Some run.view g.run (same_Some (Some run.view) (Some g.run) (sym (slice_get-map view_of runs r ∙ ap (option_map view_of) there) ∙ g.there))
+    same-run n g = same_Some run.view g.run (same_Some (Some run.view) (Some g.run)
+        (sym (slice_get-map view_of runs r ∙ ap (option_map view_of) there) ∙ g.there))
 
     same-program : (n : ℕ) (g : HasExited World r code shapes context_len context n) → slice_get (map program_of programs) run.view.program ≡ Some g.program
     same-program n g = ap (λ (v : RunView). slice_get (map program_of programs) v.program) (same-run n g) ∙ g.loaded
@@ -56,17 +59,29 @@ module _ (names : List (List ℕ)) (maps : List MapView) (runs : Runs) (grace : 
 
     module _ (program : Loaded) (loaded : slice_get programs run.view.program ≡ Some program) (bound : IsBound (shapes_of_maps maps) program) where
       program-is : (n : ℕ) (g : HasExited World r code shapes context_len context n) → program_of program ≡ g.program
-      program-is n g = same_Some (program_of program) g.program (sym (slice_get-map program_of programs run.view.program ∙ ap (option_map program_of) loaded) ∙ same-program n g)
+      program-is n g = same_Some (program_of program) g.program
+          (sym (slice_get-map program_of programs run.view.program ∙ ap (option_map program_of) loaded) ∙
+          same-program n g)
 
       -- what is asked of a run and its program
       abbrev IsAsked : Type 0
-      IsAsked = ((program.verified.program ≡ code) × (program.verified.shapes ≡ shapes) × (program.verified.ctx_len ≡ context_len)) × (run.view.context ≡ context)
+      IsAsked = ((program.verified.program ≡ code) × (program.verified.shapes ≡ shapes) ×
+          (program.verified.ctx_len ≡ context_len)) × (run.view.context ≡ context)
 
       same-shapes : (n : ℕ) (g : HasExited World r code shapes context_len context n) → program.verified.shapes ≡ shapes
-      same-shapes n g = all-some program.verified.shapes shapes (sym bound ∙ (ap (λ (p : machine.Loaded). map (slice_get (shapes_of_maps maps)) p.maps) (program-is n g) ∙ g.bound))
+      same-shapes n g = all-some program.verified.shapes shapes
+          (sym bound ∙ (ap (λ (p : machine.Loaded). map (slice_get (shapes_of_maps maps)) p.maps) (program-is n g) ∙
+          g.bound))
 
       asked : (n : ℕ) (g : HasExited World r code shapes context_len context n) → IsAsked
-      asked n g = ((ap (λ (p : machine.Loaded). p.code) (program-is n g) ∙ g.code_is, same-shapes n g, ap (λ (p : machine.Loaded). p.context_len) (program-is n g) ∙ g.context_len_is), ap (λ (v : RunView). v.context) (same-run n g) ∙ g.context_is)
+      asked n g = (
+        (
+          ap (λ (p : machine.Loaded). p.code) (program-is n g) ∙ g.code_is,
+          same-shapes n g,
+          ap (λ (p : machine.Loaded). p.context_len) (program-is n g) ∙ g.context_len_is,
+        ),
+        ap (λ (v : RunView). v.context) (same-run n g) ∙ g.context_is,
+      )
 
       pub exits-other : (IsAsked → ⊥) → (n : ℕ) → HasExited w r code shapes context_len context n → ⊥
       exits-other other n h =

@@ -10,5 +10,6 @@ abbrev pub AwaitsOpen : List Bool → List Bool → Type 0
 AwaitsOpen awaited opened = (r : ℕ) → slice_get awaited r ≡ Some true → slice_get opened r ≡ Some true
 
 -- a run slot whose flag is cleared is awaited no more
-pub still-cleared : (awaited opened : List Bool) (r : ℕ) → length awaited ≡ length opened → AwaitsOpen awaited opened → still_open awaited (slice_set opened r false) ≡ slice_set awaited r false
+pub still-cleared : (awaited opened : List Bool) (r : ℕ) → length awaited ≡ length opened → AwaitsOpen awaited opened
+    → still_open awaited (slice_set opened r false) ≡ slice_set awaited r false
 still-cleared awaited opened r n h = closed_awaits awaited opened r (still-same awaited opened n h)

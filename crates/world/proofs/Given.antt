@@ -5,6 +5,7 @@ use Rattle.bpf_model.specs.declared.limits.MapShape.{MapShape}
 use Rattle.world.specs.declared.kept.loaded.Loaded.{Loaded}
 use Rattle.world.specs.BoundTo.{AreProgramsBound, IsBound}
 
-pub program-bound : (shapes : List MapShape) (programs : List Loaded) → AreProgramsBound shapes programs → (p : ℕ) (o : Option (Bor Loaded)) → option_copied o ≡ slice_get programs p → IfSome o (λ l. IsBound shapes l.now)
+pub program-bound : (shapes : List MapShape) (programs : List Loaded) → AreProgramsBound shapes programs →
+    (p : ℕ) (o : Option (Bor Loaded)) → option_copied o ≡ slice_get programs p → IfSome o (λ l. IsBound shapes l.now)
 program-bound shapes programs bound p None e = tt
 program-bound shapes programs bound p (Some l) e = bound p l.now (sym e)

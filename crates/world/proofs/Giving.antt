@@ -109,42 +109,71 @@ module _ (w : WorldView) (s : Schedule) (m : Matches w s) (sound : IsSound w s) 
       let p = offset_some (length f.0.value) width (o +ℤ offset) g.0 g.1 in
       number-small f.0.value g.0 width n (sound.well.bytes x f.0 (accessible-known s.machine.store.elements x f.0 f.1).0) p.1 g.2
 
-  found-small : (width x : ℕ) (offset : ℤ) (l : Location) → location_of x ≡ l → loaded_word w v width offset x < 256 ^ width → element_number w.maps width offset l < 256 ^ width
+  found-small : (width x : ℕ) (offset : ℤ) (l : Location) → location_of x ≡ l →
+      loaded_word w v width offset x < 256 ^ width → element_number w.maps width offset l < 256 ^ width
   found-small width x offset (InSlot map slot o) e h = subst (λ (l : Location). number_from (bytes_of w v l) width (offset_at l +ℤ offset) < 256 ^ width) e h
   found-small width x offset (InContext o) e h = omega (arith, h)
   found-small width x offset (InFrame o) e h = omega (arith, h)
   found-small width x offset (AtMap i) e h = omega (arith, h)
 
-  loads-small : (width src : ℕ) (offset : ℤ) (n : ℕ) → src ≤ 10 → element_load s.machine.store.elements width offset (run.state.regs src) ≡ Some n → element_number w.maps width offset (location_of (word_in v src)) < 256 ^ width
+  loads-small : (width src : ℕ) (offset : ℤ) (n : ℕ) → src ≤ 10 →
+      element_load s.machine.store.elements width offset (run.state.regs src) ≡ Some n →
+      element_number w.maps width offset (location_of (word_in v src)) < 256 ^ width
   loads-small width src offset n l e =
-      let is : loaded_word w v width offset (word_in v src) ≡ n = element-word w s m sound r run v k width (word_in v src) offset (run.state.regs src) n (register-word w s m sound r run v k src l) ((near w s m sound r run v k).regs_near src) e in
-      found-small width (word_in v src) offset (location_of (word_in v src)) refl (subst (λ (x : ℕ). x < 256 ^ width) (sym is) (element-small width offset (run.state.regs src) n e))
+      let is : loaded_word w v width offset (word_in v src) ≡ n =
+      element-word w s m sound r run v k width (word_in v src) offset (run.state.regs src) n
+      (register-word w s m sound r run v k src l) ((near w s m sound r run v k).regs_near src) e in
+      found-small width (word_in v src) offset (location_of (word_in v src)) refl
+      (subst (λ (x : ℕ). x < 256 ^ width) (sym is) (element-small width offset (run.state.regs src) n e))
 
   -- the step of a load that asks finds a number of its width
-  load-given : (width : Width) (dst src : ℕ) (offset : ℤ) → insn_at run.program.code run.state.place ≡ Some (insns.Load width dst src offset) → local_of (insns.Load width dst src offset) v ≡ Asks
+  load-given : (width : Width) (dst src : ℕ) (offset : ℤ) →
+      insn_at run.program.code run.state.place ≡ Some (insns.Load width dst src offset) →
+      local_of (insns.Load width dst src offset) v ≡ Asks
       → element_number w.maps (byte_count width) offset (location_of (word_in v src)) < 256 ^ byte_count width
   load-given width dst src offset known waits =
       let n = well_never_stuck s.machine sound.well r run k.there k.going in
       let same : n.3.0 ≡ insns.Load width dst src offset = same_Some n.3.0 (insns.Load width dst src offset) (sym n.3.1 ∙ known) in
-      by n.0 n.1 n.2 (by_kind (insns.Load width dst src offset) s.machine.store (open_sections s.machine.runs) run n.0 n.1 n.2 (subst (λ (i : Insn). InsnStep i s.machine.store (open_sections s.machine.runs) run n.0 n.1 n.2) same n.3.2))
+      by n.0 n.1 n.2 (by_kind (insns.Load width dst src offset) s.machine.store (open_sections s.machine.runs) run n.0
+      n.1 n.2 (subst (λ (i : Insn). InsnStep i s.machine.store (open_sections s.machine.runs) run n.0 n.1 n.2)
+      same n.3.2))
     where
-      by : (answer : Answer) (new : map_state.Store) (later : Run) → StepsByKind (insns.Load width dst src offset) s.machine.store (open_sections s.machine.runs) run answer new later → element_number w.maps (byte_count width) offset (location_of (word_in v src)) < 256 ^ byte_count width
-      by answer new later (out, es, inl h, kept, ends) = absurd (subst AsksNothing waits (asks_nothing w s m sound r run v k (insns.Load width dst src offset) out known h.0))
-      by answer new later (out, es, inr h, kept, ends) = loads-small (byte_count width) src offset h.0 (insn-real w s m sound r run v k (insns.Load width dst src offset) known).1 h.1
+      by : (answer : Answer) (new : map_state.Store) (later : Run) →
+          StepsByKind (insns.Load width dst src offset) s.machine.store (open_sections s.machine.runs) run answer new
+          later → element_number w.maps (byte_count width) offset (location_of (word_in v src)) < 256 ^ byte_count
+          width
+      by answer new later (out, es, inl h, kept, ends) =
+          absurd (subst AsksNothing waits (asks_nothing w s m sound r run v k (insns.Load width dst src offset) out
+          known h.0))
+      by answer new later (out, es, inr h, kept, ends) =
+          loads-small (byte_count width) src offset h.0
+          (insn-real w s m sound r run v k (insns.Load width dst src offset) known).1 h.1
 
-  load-signed-given : (width : SignedWidth) (dst src : ℕ) (offset : ℤ) → insn_at run.program.code run.state.place ≡ Some (insns.LoadSigned width dst src offset) → local_of (insns.LoadSigned width dst src offset) v ≡ Asks
+  load-signed-given : (width : SignedWidth) (dst src : ℕ) (offset : ℤ) →
+      insn_at run.program.code run.state.place ≡ Some (insns.LoadSigned width dst src offset) →
+      local_of (insns.LoadSigned width dst src offset) v ≡ Asks
       → element_number w.maps (byte_count (unsigned_width width)) offset (location_of (word_in v src)) < 256 ^ byte_count (unsigned_width width)
   load-signed-given width dst src offset known waits =
       let n = well_never_stuck s.machine sound.well r run k.there k.going in
       let same : n.3.0 ≡ insns.LoadSigned width dst src offset = same_Some n.3.0 (insns.LoadSigned width dst src offset) (sym n.3.1 ∙ known) in
-      by n.0 n.1 n.2 (by_kind (insns.LoadSigned width dst src offset) s.machine.store (open_sections s.machine.runs) run n.0 n.1 n.2 (subst (λ (i : Insn). InsnStep i s.machine.store (open_sections s.machine.runs) run n.0 n.1 n.2) same n.3.2))
+      by n.0 n.1 n.2 (by_kind (insns.LoadSigned width dst src offset) s.machine.store (open_sections s.machine.runs)
+      run n.0 n.1 n.2 (subst (λ (i : Insn). InsnStep i s.machine.store (open_sections s.machine.runs) run n.0 n.1
+      n.2) same n.3.2))
     where
-      by : (answer : Answer) (new : map_state.Store) (later : Run) → StepsByKind (insns.LoadSigned width dst src offset) s.machine.store (open_sections s.machine.runs) run answer new later → element_number w.maps (byte_count (unsigned_width width)) offset (location_of (word_in v src)) < 256 ^ byte_count (unsigned_width width)
-      by answer new later (out, es, inl h, kept, ends) = absurd (subst AsksNothing waits (asks_nothing w s m sound r run v k (insns.LoadSigned width dst src offset) out known h.0))
-      by answer new later (out, es, inr h, kept, ends) = loads-small (byte_count (unsigned_width width)) src offset h.0 (insn-real w s m sound r run v k (insns.LoadSigned width dst src offset) known).1 h.1
+      by : (answer : Answer) (new : map_state.Store) (later : Run) →
+          StepsByKind (insns.LoadSigned width dst src offset) s.machine.store (open_sections s.machine.runs) run
+          answer new later → element_number w.maps (byte_count (unsigned_width width)) offset
+          (location_of (word_in v src)) < 256 ^ byte_count (unsigned_width width)
+      by answer new later (out, es, inl h, kept, ends) =
+          absurd (subst AsksNothing waits (asks_nothing w s m sound r run v k (insns.LoadSigned width dst src offset)
+          out known h.0))
+      by answer new later (out, es, inr h, kept, ends) =
+          loads-small (byte_count (unsigned_width width)) src offset h.0
+          (insn-real w s m sound r run v k (insns.LoadSigned width dst src offset) known).1 h.1
 
   -- a lookup
-  found-slot : (map : ℕ) (view : MapView) (key : List ℕ) (o : Option ℕ) → slice_get w.maps map ≡ Some view → get view.index key ≡ o → (found_word map o ≡ 0) ⊎ IsSlotWord (found_word map o)
+  found-slot : (map : ℕ) (view : MapView) (key : List ℕ) (o : Option ℕ) → slice_get w.maps map ≡ Some view →
+      get view.index key ≡ o → (found_word map o ≡ 0) ⊎ IsSlotWord (found_word map o)
   found-slot map view key None there e = inl refl
   found-slot map view key (Some slot) there e =
       let h = here w s m.refines map view there in
@@ -162,11 +191,13 @@ module _ (w : WorldView) (s : Schedule) (m : Matches w s) (sound : IsSound w s) 
   looked-up bound word can reply =
       let key = bytes_in v 2 can.view.shape.key_len in
       let is : word ≡ found_word can.map (get can.view.index key) =
-      reply ∙ (ap (λ (o : Option ℕ). (called_on Lookup o v w.maps).0) can.named ∙ ap (λ (o : Option MapView). (called_at Lookup can.map o v w.maps).0) can.there) in
+      reply ∙ (ap (λ (o : Option ℕ). (called_on Lookup o v w.maps).0) can.named ∙
+      ap (λ (o : Option MapView). (called_at Lookup can.map o v w.maps).0) can.there) in
       subst (λ (x : ℕ). (x ≡ 0) ⊎ IsSlotWord x) (sym is) (found-slot can.map can.view key (get can.view.index key) can.there refl)
 
   -- what the next world shows
-  module _ (real : r < 2 ^ 64) (program : Loaded) (at : slice_get w.programs v.program ≡ Some program) (c : Checked) (of : IsCodeOf c (shapes_of w) program) where
+  module _ (real : r < 2 ^ 64) (program : Loaded) (at : slice_get w.programs v.program ≡ Some program) (c : Checked)
+      (of : IsCodeOf c (shapes_of w) program) where
     next : Simulates s (events.Step r) (full_reaction w (events.Step r))
     next = full_simulates w s m sound (events.Step r)
 
@@ -185,7 +216,9 @@ module _ (w : WorldView) (s : Schedule) (m : Matches w s) (sound : IsSound w s) 
           programs = subst AreRealPrograms (sym kept.1) sound.programs;
         }
 
-    next-stands : (insn : Insn) (request : Request) (word : ℕ) → insn_at program.code v.place ≡ Some insn → request_of insn v ≡ Some request → CanServe request program.maps w.maps v → IsReply request program.maps w.maps v word → StandsBy c (resumed_view insn word v)
+    next-stands : (insn : Insn) (request : Request) (word : ℕ) → insn_at program.code v.place ≡ Some insn →
+        request_of insn v ≡ Some request → CanServe request program.maps w.maps v →
+        IsReply request program.maps w.maps v word → StandsBy c (resumed_view insn word v)
     next-stands insn request word at-place asked can reply =
         let new = resumed_view insn word v in
         let after = (full_reaction w (events.Step r)).1 in
@@ -193,23 +226,37 @@ module _ (w : WorldView) (s : Schedule) (m : Matches w s) (sound : IsSound w s) 
         let going : v.exit ≡ None = (refines w s m sound r run v k).exit ∙ k.going in
         let reacts : full_reaction w (events.Step r) ≡ moves_on r new (record w { maps = maps_after request program.maps v w.maps }) =
         reacts_by_insn w r v program insn k.shown going at at-place ∙ served_moves r v w program word insn request asked can reply in
-        let seen : slice_get after.runs r ≡ Some (Some new) = ap (λ (y : Answer × WorldView). slice_get y.1.runs r) reacts ∙ get-set_there w.runs r (Some v) (Some new) k.shown in
+        let seen : slice_get after.runs r ≡ Some (Some new) =
+        ap (λ (y : Answer × WorldView). slice_get y.1.runs r) reacts ∙
+        get-set_there w.runs r (Some v) (Some new) k.shown in
         let y = running after next.next next.matches r new seen (resumed-exit insn word v ∙ going) in
-        let there : slice_get after.programs new.program ≡ Some program = ap (λ (ps : List Loaded). slice_get ps new.program) kept.1 ∙ (ap (slice_get w.programs) (resumed-program insn word v) ∙ at) in
-        running_stands after next.next next.matches next-sound r y.0 new y.1 program there c (subst (λ (l : List MapShape). IsCodeOf c l program) (sym kept.0) of)
+        let there : slice_get after.programs new.program ≡ Some program =
+        ap (λ (ps : List Loaded). slice_get ps new.program) kept.1 ∙
+        (ap (slice_get w.programs) (resumed-program insn word v) ∙ at) in
+        running_stands after next.next next.matches next-sound r y.0 new y.1 program there c
+        (subst (λ (l : List MapShape). IsCodeOf c l program) (sym kept.0) of)
 
     abbrev Gives : Request → ℕ → Type 0
     Gives request word = CanServe request program.maps w.maps v → IsReply request program.maps w.maps v word → MayGive c v request word
 
     known : (insn : Insn) → insn_at program.code v.place ≡ Some insn → insn_at run.program.code run.state.place ≡ Some insn
-    known insn at-place = ap (λ (p : Loaded). insn_at p.code run.state.place) (same-program w s m sound r run v k program at) ∙ (ap (insn_at program.code) (sym (refines w s m sound r run v k).place) ∙ at-place)
+    known insn at-place = ap (λ (p : Loaded). insn_at p.code run.state.place)
+        (same-program w s m sound r run v k program at) ∙
+        (ap (insn_at program.code) (sym (refines w s m sound r run v k).place) ∙ at-place)
 
-    helper-given : (insn : Insn) (helper : HelperId) (word : ℕ) → insn_at program.code v.place ≡ Some insn → request_of insn v ≡ Some (requests.Call helper) → Gives (requests.Call helper) word
+    helper-given : (insn : Insn) (helper : HelperId) (word : ℕ) → insn_at program.code v.place ≡ Some insn →
+        request_of insn v ≡ Some (requests.Call helper) → Gives (requests.Call helper) word
     helper-given insn Lookup word at-place asked can reply = looked-up program.maps word can reply
-    helper-given insn Update word at-place asked can reply = subst (StandsBy c) (returned v insn Update word asked) (next-stands insn (requests.Call Update) word at-place asked can reply)
-    helper-given insn Delete word at-place asked can reply = subst (StandsBy c) (returned v insn Delete word asked) (next-stands insn (requests.Call Delete) word at-place asked can reply)
+    helper-given insn Update word at-place asked can reply =
+        subst (StandsBy c) (returned v insn Update word asked)
+        (next-stands insn (requests.Call Update) word at-place asked can reply)
+    helper-given insn Delete word at-place asked can reply =
+        subst (StandsBy c) (returned v insn Delete word asked)
+        (next-stands insn (requests.Call Delete) word at-place asked can reply)
 
-    call-given : (insn : Insn) (o : Option HelperId) (request : Request) (word : ℕ) → insn_at program.code v.place ≡ Some insn → request_of insn v ≡ Some request → option_map requests.Call o ≡ Some request → Gives request word
+    call-given : (insn : Insn) (o : Option HelperId) (request : Request) (word : ℕ) →
+        insn_at program.code v.place ≡ Some insn → request_of insn v ≡ Some request →
+        option_map requests.Call o ≡ Some request → Gives request word
     call-given insn None request word at-place asked e = absurd (none-some request e)
     call-given insn (Some helper) request word at-place asked e =
         let same : requests.Call helper ≡ request = same_Some (requests.Call helper) request e in
@@ -223,12 +270,19 @@ module _ (w : WorldView) (s : Schedule) (m : Matches w s) (sound : IsSound w s) 
     kernel-given None request word e = absurd (none-some request e)
     kernel-given (Some f) request word e = subst (λ (a : Request). Gives a word) (same_Some (kernel_request f) request e) (section-given f word)
 
-    pub may_give : (insn : Insn) (request : Request) (word : ℕ) → insn_at program.code v.place ≡ Some insn → local_of insn v ≡ Asks → request_of insn v ≡ Some request → Gives request word
+    pub may_give : (insn : Insn) (request : Request) (word : ℕ) → insn_at program.code v.place ≡ Some insn →
+        local_of insn v ≡ Asks → request_of insn v ≡ Some request → Gives request word
     may_give (insns.Load width dst src offset) request word at-place waits asked =
-        subst (λ (a : Request). Gives a word) (same_Some _ request asked) (λ can reply. subst (λ (x : ℕ). x < 256 ^ byte_count width) (sym reply) (load-given width dst src offset (known (insns.Load width dst src offset) at-place) waits))
+        subst (λ (a : Request). Gives a word) (same_Some _ request asked)
+        (λ can reply. subst (λ (x : ℕ). x < 256 ^ byte_count width) (sym reply)
+        (load-given width dst src offset (known (insns.Load width dst src offset) at-place) waits))
     may_give (insns.LoadSigned width dst src offset) request word at-place waits asked =
-        subst (λ (a : Request). Gives a word) (same_Some _ request asked) (λ can reply. subst (λ (x : ℕ). x < 256 ^ byte_count (unsigned_width width)) (sym reply) (load-signed-given width dst src offset (known (insns.LoadSigned width dst src offset) at-place) waits))
-    may_give (insns.Store width dst offset src) request word at-place waits asked = subst (λ (a : Request). Gives a word) (same_Some _ request asked) (λ can reply. tt)
-    may_give (insns.Call kinds.Helper imm) request word at-place waits asked = call-given (insns.Call kinds.Helper imm) (helper_of imm) request word at-place asked asked
+        subst (λ (a : Request). Gives a word) (same_Some _ request asked)
+        (λ can reply. subst (λ (x : ℕ). x < 256 ^ byte_count (unsigned_width width)) (sym reply)
+        (load-signed-given width dst src offset (known (insns.LoadSigned width dst src offset) at-place) waits))
+    may_give (insns.Store width dst offset src) request word at-place waits asked =
+        subst (λ (a : Request). Gives a word) (same_Some _ request asked) (λ can reply. tt)
+    may_give (insns.Call kinds.Helper imm) request word at-place waits asked =
+        call-given (insns.Call kinds.Helper imm) (helper_of imm) request word at-place asked asked
     may_give (insns.Call kinds.Kernel imm) request word at-place waits asked = kernel-given (kernel_function_of imm) request word asked
     may_give insn request word at-place waits asked = absurd (none-some request asked)

@@ -9,7 +9,8 @@ use Rattle.world_laws.specs.Moving.{word_in}
 use Rattle.world_laws.specs.Reaching.{IsCall}
 use Rattle.world.specs.Calls.{called, called_on, called_at}
 
-module _ (helper known : Helper) (bound : List ℕ) (maps : List MapView) (v : RunView) (c : IsCall helper bound maps v) (k id : ℕ) (at : k ≡ word_in v 1 - map_base) (is : id ≡ slice_index bound k) where
+module _ (helper known : Helper) (bound : List ℕ) (maps : List MapView) (v : RunView) (c : IsCall helper bound maps v)
+    (k id : ℕ) (at : k ≡ word_in v 1 - map_base) (is : id ≡ slice_index bound k) where
   numbered : id ≡ c.map
   numbered = is ∙ ap (slice_index bound) at ∙ get_or_from_slice_get bound (word_in v 1 - map_base) c.map 0 c.named
 

@@ -31,8 +31,11 @@ stands v i (inr h) =
     omega arith
 
 -- what an access reaches, where its location is known
-pub reached : (maps : List MapView) (width : ℕ) (offset : ℤ) (l : Location) (map slot : ℕ) (o : ℤ) → ReachesElement maps width offset l → l ≡ InSlot map slot o → IsElementReached maps width map slot (o +ℤ offset)
+pub reached : (maps : List MapView) (width : ℕ) (offset : ℤ) (l : Location) (map slot : ℕ) (o : ℤ) →
+    ReachesElement maps width offset l → l ≡ InSlot map slot o → IsElementReached maps width map slot (o +ℤ offset)
 reached maps width offset l map slot o h e = subst (ReachesElement maps width offset) e h
 
-pub occupied : (maps : List MapView) (width map slot : ℕ) (offset : ℤ) (v : MapView) → IsElementReached maps width map slot offset → slice_get maps map ≡ Some v → shown.IsOccupied v slot
-occupied maps width map slot offset v h e = stands v slot (subst (λ (u : MapView). reaching.HasElement u slot) (same_Some h.view v (sym h.there ∙ e)) h.occupied)
+pub occupied : (maps : List MapView) (width map slot : ℕ) (offset : ℤ) (v : MapView) →
+    IsElementReached maps width map slot offset → slice_get maps map ≡ Some v → shown.IsOccupied v slot
+occupied maps width map slot offset v h e = stands v slot
+    (subst (λ (u : MapView). reaching.HasElement u slot) (same_Some h.view v (sym h.there ∙ e)) h.occupied)

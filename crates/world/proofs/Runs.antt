@@ -23,7 +23,8 @@ use Rattle.std.proofs.lemmas.List.{length-map, length-set, map-set}
 use Rattle.bpf_model.proofs.Lists.{get-map, set-same, get-set_cases, get-replicate}
 use Rattle.bpf_model.specs.Machine.{lowest_free}
 
-same_world : (names : List (List ℕ)) (maps : List MapView) (programs : List machine.Loaded) (given : ℕ) (rs qs : List (Option RunView)) (os ps cs bs : List Bool) → rs ≡ qs → os ≡ ps → cs ≡ bs →
+same_world : (names : List (List ℕ)) (maps : List MapView) (programs : List machine.Loaded) (given : ℕ)
+    (rs qs : List (Option RunView)) (os ps cs bs : List Bool) → rs ≡ qs → os ≡ ps → cs ≡ bs →
     let a : WorldView = record { names = names; maps = maps; runs = rs; opened = os; awaited = cs; programs = programs; given = given } in
     let b : WorldView = record { names = names; maps = maps; runs = qs; opened = ps; awaited = bs; programs = programs; given = given } in
     a ≡ b
@@ -33,11 +34,14 @@ same_world names maps programs given rs qs os ps cs bs e f g = cc
 as-many : (g : GraceState) → IsGrace g → length g.awaited ≡ length (opened_in g)
 as-many g sound = sound.awaited ∙ (sym sound.depths ∙ sym (length-map g.depths is_open_depth))
 
-module _ (names : List (List ℕ)) (maps : List MapView) (runs : Runs) (grace new : GraceState) (programs : List Loaded) (given i r : ℕ) (same : i ≡ r) (kept : AreRunsKept runs grace programs) (sound : IsGrace grace) (depths : new.depths ≡ slice_set grace.depths r 0) (awaited : new.awaited ≡ slice_set grace.awaited r false) where
+module _ (names : List (List ℕ)) (maps : List MapView) (runs : Runs) (grace new : GraceState) (programs : List Loaded)
+    (given i r : ℕ) (same : i ≡ r) (kept : AreRunsKept runs grace programs) (sound : IsGrace grace)
+    (depths : new.depths ≡ slice_set grace.depths r 0) (awaited : new.awaited ≡ slice_set grace.awaited r false) where
   pub dropped-kept : AreRunsKept (slice_set runs i None) new programs
   dropped-kept = record {
     slots = length-set runs i None ∙ kept.slots;
-    depths = depths ∙ (ap (λ (ds : List ℕ). slice_set ds r 0) kept.depths ∙ (ap (λ k. slice_set (map depth_of_run runs) k 0) (sym same) ∙ sym (map-set depth_of_run runs i None)));
+    depths = depths ∙ (ap (λ (ds : List ℕ). slice_set ds r 0) kept.depths ∙
+        (ap (λ k. slice_set (map depth_of_run runs) k 0) (sym same) ∙ sym (map-set depth_of_run runs i None)));
     of_program = λ k run e. elim (get-set_cases runs i k None (Some run) e) [
       | inl z ↦ absurd (none-some run z.1)
       | inr z ↦ kept.of_program k run z.1
@@ -51,7 +55,10 @@ module _ (names : List (List ℕ)) (maps : List MapView) (runs : Runs) (grace ne
       (ap (map is_open_depth) depths ∙ map-set is_open_depth grace.depths r 0)
       (awaited ∙ sym (still-cleared grace.awaited (opened_in grace) r (as-many grace sound) sound.inside))
 
-module _ (names : List (List ℕ)) (maps : List MapView) (runs : Runs) (grace : GraceState) (programs : List Loaded) (given i prog : ℕ) (context : List ℕ) (program : Loaded) (run : RunWords) (free : slice_get runs i ≡ Some None) (kept : AreRunsKept runs grace programs) (there : slice_get programs prog ≡ Some program) (fresh : run.view ≡ fresh_view prog context) (stands : IsAt program.verified.program run) where
+module _ (names : List (List ℕ)) (maps : List MapView) (runs : Runs) (grace : GraceState) (programs : List Loaded)
+    (given i prog : ℕ) (context : List ℕ) (program : Loaded) (run : RunWords) (free : slice_get runs i ≡ Some None)
+    (kept : AreRunsKept runs grace programs) (there : slice_get programs prog ≡ Some program)
+    (fresh : run.view ≡ fresh_view prog context) (stands : IsAt program.verified.program run) where
   started-depth : depth_of_run (Some run) ≡ 0
   started-depth = ap (λ (v : RunView). v.depth) fresh
 
@@ -75,7 +82,8 @@ module _ (names : List (List ℕ)) (maps : List MapView) (runs : Runs) (grace : 
     ];
   }
 
-  pub started-view : IsGrace grace → world_of names maps (slice_set runs i (Some run)) grace programs given ≡ with_run i (Some (fresh_view prog context)) (world_of names maps runs grace programs given)
+  pub started-view : IsGrace grace → world_of names maps (slice_set runs i (Some run)) grace programs given ≡ with_run
+      i (Some (fresh_view prog context)) (world_of names maps runs grace programs given)
   started-view sound =
       same_world names maps (map program_of programs) given _ _ _ _ _ _
       (map-set view_of runs i (Some run) ∙ ap (λ (v : RunView). slice_set (map view_of runs) i (Some v)) fresh)
@@ -83,14 +91,20 @@ module _ (names : List (List ℕ)) (maps : List MapView) (runs : Runs) (grace : 
       (sym (still-same grace.awaited (opened_in grace) (as-many grace sound) sound.inside) ∙ ap (still_open grace.awaited) (sym started-opened))
 
 -- a start that neither the program nor the context refuses
-pub start-goes : (w : WorldView) (prog : ℕ) (context : List ℕ) (program : machine.Loaded) (o : Option ℕ) → slice_get w.programs prog ≡ Some program → length context ≡ program.context_len → lowest_free w.runs ≡ o → start_reaction w prog context ≡ start_by (if_full o) o w prog context
+pub start-goes : (w : WorldView) (prog : ℕ) (context : List ℕ) (program : machine.Loaded) (o : Option ℕ) →
+    slice_get w.programs prog ≡ Some program → length context ≡ program.context_len → lowest_free w.runs ≡ o →
+    start_reaction w prog context ≡ start_by (if_full o) o w prog context
 start-goes w prog context program o there long free =
     ap (λ p. start_by (start_refusal p (length context) (lowest_free w.runs)) (lowest_free w.runs) w prog context) there
-    ∙ (ap (λ z. start_by (cond z (if_full (lowest_free w.runs)) (Some BadContext)) (lowest_free w.runs) w prog context) (eq-eqb (length context) program.context_len long)
+    ∙ (ap (λ z. start_by (cond z (if_full (lowest_free w.runs)) (Some BadContext)) (lowest_free w.runs) w prog
+    context) (eq-eqb (length context) program.context_len long)
     ∙ ap (λ f. start_by (if_full f) f w prog context) free)
 
-pub started : (names : List (List ℕ)) (maps : List MapView) (runs : Runs) (grace : GraceState) (programs : List Loaded) (given prog : ℕ) (context : List ℕ) (program : Loaded) (o : Option ℕ) (w : WorldView) → world_of names maps runs grace programs given ≡ w →
-    slice_get programs prog ≡ Some program → length context ≡ program.verified.ctx_len → o ≡ lowest_free (map view_of runs) → start_reaction w prog context ≡ start_by (if_full o) o w prog context
+pub started : (names : List (List ℕ)) (maps : List MapView) (runs : Runs) (grace : GraceState)
+    (programs : List Loaded) (given prog : ℕ) (context : List ℕ) (program : Loaded) (o : Option ℕ) (w : WorldView) →
+    world_of names maps runs grace programs given ≡ w →
+    slice_get programs prog ≡ Some program → length context ≡ program.verified.ctx_len →
+    o ≡ lowest_free (map view_of runs) → start_reaction w prog context ≡ start_by (if_full o) o w prog context
 started names maps runs grace programs given prog context program o w e there long free =
     start-goes w prog context (program_of program) o
     (ap (λ (z : WorldView). slice_get z.programs prog) (sym e) ∙ (slice_get-map program_of programs prog ∙ ap (option_map program_of) there))
@@ -104,19 +118,23 @@ map-replicate f (suc n) x = ap (λ l. f x ∷ l) (map-replicate f n x)
 none-in : {A : Type 0} (n r : ℕ) (x : A) → slice_get (replicate n None) r ≡ Some (Some x) → ⊥
 none-in n r x e = none-some x (sym (get-replicate n r None (Some x) e))
 
-pub fresh-kept : (runs : Runs) (grace : GraceState) (programs : List Loaded) → runs ≡ replicate MAX_RUNS None → grace.depths ≡ replicate MAX_RUNS 0 → AreRunsKept runs grace programs
+pub fresh-kept : (runs : Runs) (grace : GraceState) (programs : List Loaded) → runs ≡ replicate MAX_RUNS None →
+    grace.depths ≡ replicate MAX_RUNS 0 → AreRunsKept runs grace programs
 fresh-kept runs grace programs e o = record {
   slots = ap (λ (rs : Runs). length rs) e;
   depths = o ∙ (sym (map-replicate depth_of_run MAX_RUNS None) ∙ sym (ap (map depth_of_run) e));
   of_program = λ r run g. absurd (none-in MAX_RUNS r run (ap (λ (rs : Runs). slice_get rs r) (sym e) ∙ g));
 }
 
-depths-stay : (turns : Bool) (grace new : GraceState) → new ≡ cond turns (record { depths = grace.depths; awaited = opened_in grace }) grace → new.depths ≡ grace.depths
+depths-stay : (turns : Bool) (grace new : GraceState) →
+    new ≡ cond turns (record { depths = grace.depths; awaited = opened_in grace }) grace → new.depths ≡ grace.depths
 depths-stay true grace new is = ap (λ (g : GraceState). g.depths) is
 depths-stay false grace new is = ap (λ (g : GraceState). g.depths) is
 
 -- where a grace period ends, the runs are as deep as before
-pub turned-kept : (turns : Bool) (runs : Runs) (grace new : GraceState) (programs : List Loaded) → new ≡ cond turns (record { depths = grace.depths; awaited = opened_in grace }) grace → AreRunsKept runs grace programs → AreRunsKept runs new programs
+pub turned-kept : (turns : Bool) (runs : Runs) (grace new : GraceState) (programs : List Loaded) →
+    new ≡ cond turns (record { depths = grace.depths; awaited = opened_in grace }) grace →
+    AreRunsKept runs grace programs → AreRunsKept runs new programs
 turned-kept turns runs grace new programs is kept = record {
   slots = kept.slots;
   depths = depths-stay turns grace new is ∙ kept.depths;

@@ -50,22 +50,50 @@ unaries (MoveSigned x a) (MoveSigned y b) = through _ (both _ _ (named extension
 unaries a b = (λ e. absurd (false≢true e), λ e. cc)
 
 pub insns-decides : (a b : Insn) → Decides (insn.eq-value.it a b) (a ≡ b)
-insns-decides (insns.Alu p s d a) (insns.Alu q t e b) = through _ (both _ _ (named alu_op.the_type tt p q) (both _ _ (named size.the_type tt s t) (both _ _ (Decides-eqb d e) (operands a b)))) (λ h. cc) (λ h. (cc, (cc, (cc, cc))))
+insns-decides (insns.Alu p s d a) (insns.Alu q t e b) =
+    through _ (both _ _ (named alu_op.the_type tt p q)
+    (both _ _ (named size.the_type tt s t) (both _ _ (Decides-eqb d e) (operands a b)))) (λ h. cc)
+    (λ h. (cc, (cc, (cc, cc))))
 insns-decides (insns.Unary p d) (insns.Unary q e) = through _ (both _ _ (unaries p q) (Decides-eqb d e)) (λ h. cc) (λ h. (cc, cc))
 insns-decides (insns.LoadNumber d n) (insns.LoadNumber e m) = through _ (both _ _ (Decides-eqb d e) (Decides-eqb n m)) (λ h. cc) (λ h. (cc, cc))
 insns-decides (insns.LoadMap d n) (insns.LoadMap e m) = through _ (both _ _ (Decides-eqb d e) (Decides-int_eq n m)) (λ h. cc) (λ h. (cc, cc))
 insns-decides (insns.Jump o) (insns.Jump p) = through _ (Decides-int_eq o p) (λ h. ap insns.Jump h) (λ h. cc)
 insns-decides (insns.JumpLong o) (insns.JumpLong p) = through _ (Decides-int_eq o p) (λ h. ap insns.JumpLong h) (λ h. cc)
-insns-decides (insns.JumpIf c s d a o) (insns.JumpIf k t e b p) = through _ (both _ _ (named condition.the_type tt c k) (both _ _ (named size.the_type tt s t) (both _ _ (Decides-eqb d e) (both _ _ (operands a b) (Decides-int_eq o p))))) (λ h. cc) (λ h. (cc, (cc, (cc, (cc, cc)))))
+insns-decides (insns.JumpIf c s d a o) (insns.JumpIf k t e b p) =
+    through _ (both _ _ (named condition.the_type tt c k)
+    (both _ _ (named size.the_type tt s t) (both _ _ (Decides-eqb d e)
+    (both _ _ (operands a b) (Decides-int_eq o p))))) (λ h. cc) (λ h. (cc, (cc, (cc, (cc, cc)))))
 insns-decides (insns.Call k i) (insns.Call l j) = through _ (both _ _ (named call_kind.the_type tt k l) (Decides-int_eq i j)) (λ h. cc) (λ h. (cc, cc))
 insns-decides insns.Exit insns.Exit = (λ h. refl, λ h. refl)
-insns-decides (insns.Load v d a o) (insns.Load w e b p) = through _ (both _ _ (named width.the_type tt v w) (both _ _ (Decides-eqb d e) (both _ _ (Decides-eqb a b) (Decides-int_eq o p)))) (λ h. cc) (λ h. (cc, (cc, (cc, cc))))
-insns-decides (insns.LoadSigned v d a o) (insns.LoadSigned w e b p) = through _ (both _ _ (named signed_width.the_type tt v w) (both _ _ (Decides-eqb d e) (both _ _ (Decides-eqb a b) (Decides-int_eq o p)))) (λ h. cc) (λ h. (cc, (cc, (cc, cc))))
-insns-decides (insns.Store v d o a) (insns.Store w e p b) = through _ (both _ _ (named width.the_type tt v w) (both _ _ (Decides-eqb d e) (both _ _ (Decides-int_eq o p) (operands a b)))) (λ h. cc) (λ h. (cc, (cc, (cc, cc))))
+insns-decides (insns.Load v d a o) (insns.Load w e b p) =
+    through _ (both _ _ (named width.the_type tt v w) (both _ _ (Decides-eqb d e)
+    (both _ _ (Decides-eqb a b) (Decides-int_eq o p)))) (λ h. cc) (λ h. (cc, (cc, (cc, cc))))
+insns-decides (insns.LoadSigned v d a o) (insns.LoadSigned w e b p) =
+    through _ (both _ _ (named signed_width.the_type tt v w)
+    (both _ _ (Decides-eqb d e) (both _ _ (Decides-eqb a b) (Decides-int_eq o p)))) (λ h. cc)
+    (λ h. (cc, (cc, (cc, cc))))
+insns-decides (insns.Store v d o a) (insns.Store w e p b) =
+    through _ (both _ _ (named width.the_type tt v w) (both _ _ (Decides-eqb d e)
+    (both _ _ (Decides-int_eq o p) (operands a b)))) (λ h. cc) (λ h. (cc, (cc, (cc, cc))))
 insns-decides a b = (λ e. absurd (false≢true e), λ e. cc)
 
 pub shapes-decides : (a b : MapShape) → Decides (shape.eq-value.it a b) (a ≡ b)
 shapes-decides a b =
-    through _ (both _ _ (named map_kind.the_type tt a.kind b.kind) (both _ _ (Decides-eqb a.key_len b.key_len) (both _ _ (Decides-eqb a.value_len b.value_len) (both _ _ (Decides-eqb a.entries b.entries) (both _ _ (Decides-eqb a.spare b.spare) (Decides-eqb a.reuse_limit b.reuse_limit))))))
+    through _ (both _ _ (named map_kind.the_type tt a.kind b.kind)
+    (both _ _ (Decides-eqb a.key_len b.key_len) (both _ _ (Decides-eqb a.value_len b.value_len)
+    (both _ _ (Decides-eqb a.entries b.entries) (both _ _ (Decides-eqb a.spare b.spare)
+    (Decides-eqb a.reuse_limit b.reuse_limit))))))
     (λ h j. record { kind = h.0 j; key_len = h.1.0 j; value_len = h.1.1.0 j; entries = h.1.1.1.0 j; spare = h.1.1.1.1.0 j; reuse_limit = h.1.1.1.1.1 j })
-    (λ h. (ap (λ (x : MapShape). x.kind) h, (ap (λ (x : MapShape). x.key_len) h, (ap (λ (x : MapShape). x.value_len) h, (ap (λ (x : MapShape). x.entries) h, (ap (λ (x : MapShape). x.spare) h, ap (λ (x : MapShape). x.reuse_limit) h))))))
+    (λ h. (
+      ap (λ (x : MapShape). x.kind) h,
+      (
+        ap (λ (x : MapShape). x.key_len) h,
+        (
+          ap (λ (x : MapShape). x.value_len) h,
+          (
+            ap (λ (x : MapShape). x.entries) h,
+            (ap (λ (x : MapShape). x.spare) h, ap (λ (x : MapShape). x.reuse_limit) h),
+          ),
+        ),
+      ),
+    ))

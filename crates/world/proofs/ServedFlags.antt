@@ -46,7 +46,8 @@ module _ (g : GraceState) (r : ℕ) (inside : still_open g.awaited (opened_in g)
 
   -- so does an unlock, by the depth that it finds
   pub unlocked-awaits : 0 < depth_at g r
-      → (if depth_at g r == 1 then slice_set g.awaited r false else g.awaited) ≡ still_open g.awaited (map is_open_depth (slice_set g.depths r (depth_at g r - 1)))
+      → (if depth_at g r == 1 then slice_set g.awaited r false else g.awaited) ≡ still_open g.awaited
+      (map is_open_depth (slice_set g.depths r (depth_at g r - 1)))
   unlocked-awaits some = elim (cases_eq (depth_at g r) 1) [
     | inl e ↦ cond-true _ _ _ (eq-eqb (depth_at g r) 1 e) ∙ sym (outside-awaits (depth_at g r - 1) (omega (arith, e)))
     | inr ne ↦ cond-false _ _ _ (ne_eqb (depth_at g r) 1 ne) ∙ sym (inside-awaits (depth_at g r - 1) (omega (arith, some, ne)))

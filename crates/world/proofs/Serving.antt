@@ -24,7 +24,8 @@ use Rattle.view_laws.specs.Reactions.{with_run, locked_view, unlocked_view}
 use Rattle.world_laws.specs.Calling.{serves, helper_called, helper_called_on, returned_view}
 use Rattle.world_laws.specs.Calling as calling
 use Rattle.world_laws.specs.Locating.{location_of, loaded_word, number_from, bytes_of, offset_at}
-use Rattle.world_laws.specs.Moving.{word_in, operand_word, with_word, jumped_to, branched, moves_on, ended_view, stored_frame, stored_slot, stored_at, advanced_view}
+use Rattle.world_laws.specs.Moving.{word_in, operand_word, with_word, jumped_to, branched, moves_on, ended_view}
+use Rattle.world_laws.specs.Moving.{stored_frame, stored_slot, stored_at, advanced_view}
 use Rattle.world_laws.specs.Local.{LocalStep, Goes, Ends, Asks, local_of, local_load, local_store, Agrees}
 use Rattle.world_laws.specs.Reacting.{insn_step}
 use Rattle.world_laws.proofs.Local.{local_agrees}
@@ -37,7 +38,8 @@ use Rattle.machine.specs.Requests.{request_of, kernel_request, entered_view, res
 use Rattle.world_laws.specs.Reaching.{IsCall}
 use Rattle.world.specs.Calls.{called, called_on, called_at}
 use Rattle.world.specs.Elements.{ReachesElement, element_number, maps_after_store, stored_element}
-use Rattle.world.specs.Serving.{CanServe, IsReply, maps_after, grace_after, IsFlagged, IsOwnWorld, ShowsGrace, served_step, with_view, world_showing, world_with}
+use Rattle.world.specs.Serving.{CanServe, IsReply, maps_after, grace_after, IsFlagged, IsOwnWorld, ShowsGrace}
+use Rattle.world.specs.Serving.{served_step, with_view, world_showing, world_with}
 use Rattle.bpf_model.proofs.Lists.{set-same}
 
 -- what a load finds, where it reaches an element
@@ -49,7 +51,8 @@ loaded_is w v width offset (InFrame o) h = absurd h
 loaded_is w v width offset (AtMap map) h = absurd h
 
 -- what a store leaves
-slot_is : (w : WorldView) (width number map slot : ℕ) (z : ℤ) (m : Option MapView) → stored_slot width number z map m slot w ≡ record w { maps = maps_after_store m map slot width number z w.maps }
+slot_is : (w : WorldView) (width number map slot : ℕ) (z : ℤ) (m : Option MapView) →
+    stored_slot width number z map m slot w ≡ record w { maps = maps_after_store m map slot width number z w.maps }
 slot_is w width number map slot (pos at) (Some m) = refl
 slot_is w width number map slot (pos at) None = refl
 slot_is w width number map slot (negsuc n) (Some m) = refl
@@ -70,7 +73,8 @@ module _ (r : ℕ) (v : RunView) (w : WorldView) where
   stored width number offset (AtMap map) h = absurd h
 
   -- a helper
-  helping : (helper : HelperId) (map : ℕ) (m : MapView) → let x : ℕ × List MapView = called_at helper map (Some m) v w.maps in serves helper map (Some m) r v w ≡ goes x.1 (returned_view x.0 v)
+  helping : (helper : HelperId) (map : ℕ) (m : MapView) → let x : ℕ × List MapView =
+      called_at helper map (Some m) v w.maps in serves helper map (Some m) r v w ≡ goes x.1 (returned_view x.0 v)
   helping Lookup map m = refl
   helping Update map m = refl
   helping Delete map m = refl
@@ -100,16 +104,20 @@ module _ (r : ℕ) (v : RunView) (w : WorldView) where
         ap (λ (o : Option HelperId). helper_called o program r v w) e ∙ helped_is helper program can word reply)
 
     -- a lock and an unlock
-    passes : (imm : ℤ) (o : Option KernelFunction) (request : Request) → kernel_function_of imm ≡ o → option_map kernel_request o ≡ Some request → Served (insns.Call Kernel imm) request
+    passes : (imm : ℤ) (o : Option KernelFunction) (request : Request) → kernel_function_of imm ≡ o →
+        option_map kernel_request o ≡ Some request → Served (insns.Call Kernel imm) request
     passes imm None request e g = λ can reply. absurd (none-some request g)
     passes imm (Some ReadLock) request e g = subst (Served (insns.Call Kernel imm)) (same_Some Enter request g) (λ can reply.
         ap (λ (o : Option KernelFunction). calling.kernel_called o r v w) e ∙ ap (λ (o : Option KernelFunction). moves_on r (entered_view o v) w) (sym e))
     passes imm (Some ReadUnlock) request e g = subst (Served (insns.Call Kernel imm)) (same_Some Leave request g) (λ can reply.
         ap (λ (o : Option KernelFunction). calling.kernel_called o r v w) e ∙ ap (λ (o : Option KernelFunction). moves_on r (entered_view o v) w) (sym e))
 
-    loads : (make : ℕ → ℕ) (dst width address : ℕ) (offset : ℤ) → ReachesElement w.maps width offset (location_of address) → word ≡ element_number w.maps width offset (location_of address)
+    loads : (make : ℕ → ℕ) (dst width address : ℕ) (offset : ℤ) →
+        ReachesElement w.maps width offset (location_of address) →
+        word ≡ element_number w.maps width offset (location_of address)
         → moves_on r (with_word 1 dst (make (loaded_word w v width offset address)) v) w ≡ goes w.maps (with_word 1 dst (make word) v)
-    loads make dst width address offset can reply = ap (λ (n : ℕ). moves_on r (with_word 1 dst (make n) v) w) (loaded_is w v width offset (location_of address) can ∙ sym reply)
+    loads make dst width address offset can reply = ap (λ (n : ℕ). moves_on r (with_word 1 dst (make n) v) w)
+        (loaded_is w v width offset (location_of address) can ∙ sym reply)
 
     pub served_moves : (i : Insn) (request : Request) → request_of i v ≡ Some request → Served i request
     served_moves (insns.Load width dst src offset) request e = subst (Served (insns.Load width dst src offset)) (same_Some _ request e)
@@ -142,7 +150,8 @@ pub record IsResumed (g : GraceState) (r : ℕ) (request : Request) (new : RunVi
   pub depths : (grace_after request r g).depths ≡ slice_set g.depths r new.depth
   pub awaited : (grace_after request r g).awaited ≡ still_open g.awaited (opened_in (grace_after request r g))
 
-module _ (g : GraceState) (r : ℕ) (v : RunView) (deep : slice_get g.depths r ≡ Some v.depth) (inside : still_open g.awaited (opened_in g) ≡ g.awaited) (word : ℕ) where
+module _ (g : GraceState) (r : ℕ) (v : RunView) (deep : slice_get g.depths r ≡ Some v.depth)
+    (inside : still_open g.awaited (opened_in g) ≡ g.awaited) (word : ℕ) where
   stays : g.depths ≡ slice_set g.depths r v.depth
   stays = sym (set-same g.depths r v.depth deep)
 
@@ -151,7 +160,8 @@ module _ (g : GraceState) (r : ℕ) (v : RunView) (deep : slice_get g.depths r �
 
   calls-on : (o : Option HelperId) (request : Request) → option_map Call o ≡ Some request → IsResumed g r request (returned_view word v)
   calls-on None request e = absurd (none-some request e)
-  calls-on (Some helper) request e = subst (λ a. IsResumed g r a (returned_view word v)) (same_Some (Call helper) request e) (record { depths = stays; awaited = sym inside })
+  calls-on (Some helper) request e = subst (λ a. IsResumed g r a (returned_view word v))
+      (same_Some (Call helper) request e) (record { depths = stays; awaited = sym inside })
 
   passes-on : (o : Option KernelFunction) (request : Request) → option_map kernel_request o ≡ Some request → IsResumed g r request (entered_view o v)
   passes-on None request e = absurd (none-some request e)
@@ -165,25 +175,34 @@ module _ (g : GraceState) (r : ℕ) (v : RunView) (deep : slice_get g.depths r �
   })
 
   pub goes_on : (i : Insn) (request : Request) → request_of i v ≡ Some request → IsResumed g r request (resumed_view i word v)
-  goes_on (insns.Load width dst src offset) request e = subst (λ a. IsResumed g r a (with_word 1 dst word v)) (same_Some _ request e) (record { depths = stays; awaited = sym inside })
-  goes_on (insns.LoadSigned width dst src offset) request e = subst (λ a. IsResumed g r a (with_word 1 dst (loaded_signed width word) v)) (same_Some _ request e) (record { depths = stays; awaited = sym inside })
-  goes_on (insns.Store width dst offset src) request e = subst (λ a. IsResumed g r a (advanced_view 1 v)) (same_Some _ request e) (record { depths = stays; awaited = sym inside })
+  goes_on (insns.Load width dst src offset) request e =
+      subst (λ a. IsResumed g r a (with_word 1 dst word v)) (same_Some _ request e)
+      (record { depths = stays; awaited = sym inside })
+  goes_on (insns.LoadSigned width dst src offset) request e =
+      subst (λ a. IsResumed g r a (with_word 1 dst (loaded_signed width word) v)) (same_Some _ request e)
+      (record { depths = stays; awaited = sym inside })
+  goes_on (insns.Store width dst offset src) request e =
+      subst (λ a. IsResumed g r a (advanced_view 1 v)) (same_Some _ request e)
+      (record { depths = stays; awaited = sym inside })
   goes_on (insns.Call Helper imm) request e = calls-on (helper_of imm) request e
   goes_on (insns.Call Kernel imm) request e = passes-on (kernel_function_of imm) request e
   goes_on i request e = absurd (none-some request e)
 
 -- equal flags make equal worlds
-same-showing : (maps : List MapView) (os ps cs ds : List Bool) (r : ℕ) (v : RunView) (w : WorldView) → os ≡ ps → cs ≡ ds → world_showing maps os cs r v w ≡ world_showing maps ps ds r v w
+same-showing : (maps : List MapView) (os ps cs ds : List Bool) (r : ℕ) (v : RunView) (w : WorldView) → os ≡ ps →
+    cs ≡ ds → world_showing maps os cs r v w ≡ world_showing maps ps ds r v w
 same-showing maps os ps cs ds r v w e f =
     ap (λ (l : List Bool). world_showing maps l cs r v w) e ∙ ap (λ (l : List Bool). world_showing maps ps l r v w) f
 
 -- A world that shows the depths, in which the run has moved on, shows the depths of then.
 module _ (r : ℕ) (w : WorldView) (g : GraceState) (shows : ShowsGrace w g) where
-  pub shown-after : (request : Request) (maps : List MapView) (new : RunView) → IsResumed g r request new → with_run r (Some new) (record w { maps = maps }) ≡ world_with maps (grace_after request r g) r new w
+  pub shown-after : (request : Request) (maps : List MapView) (new : RunView) → IsResumed g r request new →
+      with_run r (Some new) (record w { maps = maps }) ≡ world_with maps (grace_after request r g) r new w
   shown-after request maps new on =
       let after : GraceState = grace_after request r g in
       let e : slice_set w.opened r (nat_lt 0 new.depth) ≡ opened_in after =
-      ap (λ (os : List Bool). slice_set os r (nat_lt 0 new.depth)) shows.opened ∙ (sym (map-set is_open_depth g.depths r new.depth) ∙ ap (map is_open_depth) (sym on.depths)) in
+      ap (λ (os : List Bool). slice_set os r (nat_lt 0 new.depth)) shows.opened ∙
+      (sym (map-set is_open_depth g.depths r new.depth) ∙ ap (map is_open_depth) (sym on.depths)) in
       let f : still_open w.awaited (slice_set w.opened r (nat_lt 0 new.depth)) ≡ after.awaited =
       ap (still_open w.awaited) e ∙ (ap (λ (fs : List Bool). still_open fs (opened_in after)) shows.awaited ∙ sym on.awaited) in
       same-showing maps _ _ _ _ r new w e f
@@ -195,12 +214,16 @@ module _ (r : ℕ) (w : WorldView) (g : GraceState) (shows : ShowsGrace w g) whe
   pub shown-inside : still_open w.awaited w.opened ≡ w.awaited → still_open g.awaited (opened_in g) ≡ g.awaited
   shown-inside e = ap (still_open g.awaited) (sym shows.opened) ∙ (ap (λ (fs : List Bool). still_open fs w.opened) (sym shows.awaited) ∙ (e ∙ shows.awaited))
 
-pub served_is : (r : ℕ) (v : RunView) (w : WorldView) → IsFlagged w r v → (g : GraceState) → ShowsGrace w g → slice_get g.depths r ≡ Some v.depth → (program : Loaded) (word : ℕ) (i : Insn) (request : Request) → request_of i v ≡ Some request
-    → CanServe request program.maps w.maps v → IsReply request program.maps w.maps v word → insn_step i program r v w ≡ served_step request i program word r v g w
+pub served_is : (r : ℕ) (v : RunView) (w : WorldView) → IsFlagged w r v → (g : GraceState) → ShowsGrace w g →
+    slice_get g.depths r ≡ Some v.depth → (program : Loaded) (word : ℕ) (i : Insn) (request : Request) →
+    request_of i v ≡ Some request
+    → CanServe request program.maps w.maps v → IsReply request program.maps w.maps v word →
+    insn_step i program r v w ≡ served_step request i program word r v g w
 served_is r v w f g shows deep program word i request asked can reply =
     let on = goes_on g r v deep (shown-inside r w g shows f.awaited) word i request asked in
     served_moves r v w program word i request asked can reply
-    ∙ ap (λ (x : WorldView). (let y : Answer × WorldView = (answers.Moved, x) in y)) (shown-after r w g shows request (maps_after request program.maps v w.maps) (resumed_view i word v) on)
+    ∙ ap (λ (x : WorldView). (let y : Answer × WorldView = (answers.Moved, x) in y))
+    (shown-after r w g shows request (maps_after request program.maps v w.maps) (resumed_view i word v) on)
 
 -- What a run does by itself leaves its depth and its program.
 abbrev pub SameRun : RunView → RunView → Type 0
@@ -246,19 +269,22 @@ keeps-run (insns.JumpIf condition size dst src offset) v = branched-run (compare
 keeps-run (insns.Call kind imm) v = tt
 keeps-run insns.Exit v = tt
 keeps-run (insns.Load width dst src offset) v = load-run (byte_count width) offset dst (λ n. n) (location_of (word_in v src)) v
-keeps-run (insns.LoadSigned width dst src offset) v = load-run (byte_count (unsigned_width width)) offset dst (loaded_signed width) (location_of (word_in v src)) v
+keeps-run (insns.LoadSigned width dst src offset) v = load-run (byte_count (unsigned_width width)) offset dst
+    (loaded_signed width) (location_of (word_in v src)) v
 keeps-run (insns.Store width dst offset src) v = store-run (byte_count width) offset (operand_word v src) (location_of (word_in v dst)) v
 
 module _ (r : ℕ) (v : RunView) (w : WorldView) (f : IsFlagged w r v) where
   -- a move at the same depth leaves all flags
   kept : (new : RunView) → new.depth ≡ v.depth → with_run r (Some new) w ≡ with_view r new w
   kept new same =
-      let e : slice_set w.opened r (nat_lt 0 new.depth) ≡ w.opened = ap (λ d. slice_set w.opened r (nat_lt 0 d)) same ∙ set-same w.opened r (nat_lt 0 v.depth) f.opened in
+      let e : slice_set w.opened r (nat_lt 0 new.depth) ≡ w.opened = ap (λ d. slice_set w.opened r (nat_lt 0 d)) same
+      ∙ set-same w.opened r (nat_lt 0 v.depth) f.opened in
       let g : still_open w.awaited (slice_set w.opened r (nat_lt 0 new.depth)) ≡ w.awaited = ap (still_open w.awaited) e ∙ f.awaited in
       same-showing w.maps _ _ _ _ r new w e g
 
   module _ (asked : Option Request) (after : RunView) (x : Answer × WorldView) where
-    own : (local : LocalStep) (answer : code.Local) → Agrees local r v w x → KeepsRun v local → IsLocalStep local asked v answer after → IsOwnWorld answer asked r v after w x
+    own : (local : LocalStep) (answer : code.Local) → Agrees local r v w x → KeepsRun v local →
+        IsLocalStep local asked v answer after → IsOwnWorld answer asked r v after w x
     own (Goes new) answer agrees same (e, g) = subst (λ (a : code.Local). IsOwnWorld a asked r v after w x) (sym e)
         (agrees ∙ ap (λ (u : WorldView). (let y : Answer × WorldView = (answers.Moved, u) in y)) (kept new same.0)
         ∙ ap (λ (n : RunView). (let y : Answer × WorldView = (answers.Moved, with_view r n w) in y)) (sym g))
@@ -267,11 +293,15 @@ module _ (r : ℕ) (v : RunView) (w : WorldView) (f : IsFlagged w r v) where
         ∙ ap (λ (u : RunView). (let y : Answer × WorldView = (answers.Exited n, with_view r u w) in y)) (sym g))
     own Asks answer agrees same (request, is, e, g) = subst (λ (a : code.Local). IsOwnWorld a asked r v after w x) (sym e) (is, g)
 
-pub own_is : (i : Insn) (program : Loaded) (r : ℕ) (v after : RunView) (w : WorldView) (asked : Option Request) (answer : code.Local) → IsFlagged w r v → IsLocalStep (local_of i v) asked v answer after → IsOwnWorld answer asked r v after w (insn_step i program r v w)
-own_is i program r v after w asked answer f h = own r v w f asked after (insn_step i program r v w) (local_of i v) answer (local_agrees i program r v w) (keeps-run i v) h
+pub own_is : (i : Insn) (program : Loaded) (r : ℕ) (v after : RunView) (w : WorldView) (asked : Option Request)
+    (answer : code.Local) → IsFlagged w r v → IsLocalStep (local_of i v) asked v answer after →
+    IsOwnWorld answer asked r v after w (insn_step i program r v w)
+own_is i program r v after w asked answer f h = own r v w f asked after (insn_step i program r v w) (local_of i v)
+    answer (local_agrees i program r v w) (keeps-run i v) h
 
 -- the run after its step is of the same program, and as deep
-pub own_keeps : (i : Insn) (v after : RunView) (asked : Option Request) (answer : code.Local) → IsLocalStep (local_of i v) asked v answer after → SameRun v after
+pub own_keeps : (i : Insn) (v after : RunView) (asked : Option Request) (answer : code.Local) →
+    IsLocalStep (local_of i v) asked v answer after → SameRun v after
 own_keeps i v after asked answer h = by (local_of i v) (keeps-run i v) h
   where
     by : (local : LocalStep) → KeepsRun v local → IsLocalStep local asked v answer after → SameRun v after
@@ -280,7 +310,9 @@ own_keeps i v after asked answer h = by (local_of i v) (keeps-run i v) h
     by Asks same (request, is, e, g) = subst (SameRun v) (sym g) (refl, refl)
 
 -- where it asks, it asks by the law too
-pub own_asks : (i : Insn) (v after : RunView) (asked : Option Request) (request : Request) → IsLocalStep (local_of i v) asked v (code_answers.Shared request) after → (local_of i v ≡ Asks) × (asked ≡ Some request) × (after ≡ v)
+pub own_asks : (i : Insn) (v after : RunView) (asked : Option Request) (request : Request) →
+    IsLocalStep (local_of i v) asked v (code_answers.Shared request) after → (local_of i v ≡ Asks) ×
+    (asked ≡ Some request) × (after ≡ v)
 own_asks i v after asked request h = by (local_of i v) h
   where
     by : (local : LocalStep) → IsLocalStep local asked v (code_answers.Shared request) after → (local ≡ Asks) × (asked ≡ Some request) × (after ≡ v)

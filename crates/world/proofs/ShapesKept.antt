@@ -19,7 +19,9 @@ pub bound_still : (maps new : List MapView) (programs : List Loaded) → shapes_
 bound_still maps new programs same bound = subst (λ shapes. AreProgramsBound shapes programs) (sym same) bound
 
 -- a map is put in the place of one of its shape
-pub bound_changed : (maps : List MapView) (k : ℕ) (v new : MapView) (programs : List Loaded) → slice_get maps k ≡ Some v → new.shape ≡ v.shape → AreBound maps programs → AreBound (slice_set maps k new) programs
+pub bound_changed : (maps : List MapView) (k : ℕ) (v new : MapView) (programs : List Loaded) →
+    slice_get maps k ≡ Some v → new.shape ≡ v.shape → AreBound maps programs →
+    AreBound (slice_set maps k new) programs
 bound_changed maps k v new programs at same bound = bound_still maps (slice_set maps k new) programs (set-shapes maps k v new at same) bound
 
 turned-shapes : (maps : List MapView) → shapes_of_maps (map turned_view maps) ≡ shapes_of_maps maps
@@ -31,7 +33,8 @@ pub bound_turned : (maps new : List MapView) (programs : List Loaded) → new �
 bound_turned maps new programs is bound = bound_still maps new programs (ap shapes_of_maps is ∙ turned-shapes maps) bound
 
 -- an element is reclaimed
-pub bound_reaped : (w : WorldView) (new : List MapView) (element : ReapedElement) (programs : List Loaded) → IsPicked w.maps new element → AreBound w.maps programs → AreBound new programs
+pub bound_reaped : (w : WorldView) (new : List MapView) (element : ReapedElement) (programs : List Loaded) →
+    IsPicked w.maps new element → AreBound w.maps programs → AreBound new programs
 bound_reaped w new element programs picked bound =
     bound_still w.maps new programs
     (ap shapes_of_maps picked.new_is ∙ (ap (λ (o : Option Pick). shapes_of_maps (reap_by o w).1.maps) (sym picked.first) ∙ (full_keeps w events.Reap).0))

@@ -1,5 +1,6 @@
 -- Run slots: the lowest free one.
-use Rattle.std.proofs.Common.{◌≡◌, ◌∙◌, ℕ, zero, suc, ◌+◌, ◌<◌, List, [], ◌∷◌, length, Option, Some, None, refl, sym, ap, arith, add-one, below_more, get_or, true, false}
+use Rattle.std.proofs.Common.{◌≡◌, ◌∙◌, ℕ, zero, suc, ◌+◌, ◌<◌, List, [], ◌∷◌, length, Option, Some, None, refl, sym}
+use Rattle.std.proofs.Common.{ap, arith, add-one, below_more, get_or, true, false}
 use Rattle.std.specs.Prelude.{slice_get, map, option_map, is_some}
 use Rattle.std.proofs.lemmas.Bool.{false≢true}
 use Rattle.std.proofs.lemmas.Option.{none-some, same_Some, slice_get-get_or}
@@ -39,4 +40,5 @@ pub free-at : (runs : Runs) (n : ℕ) (d : Option RunWords) → n < length runs 
 free-at runs n d h e = slice_get-get_or runs n d h ∙ ap (λ o. Some o) (none-of (get_or runs n d) e)
 
 pub taken-more : (runs : Runs) (n : ℕ) (d : Option RunWords) → n < length runs → is_some (get_or runs n d) ≡ true → AreTaken runs n → AreTaken runs (n + 1)
-taken-more runs n d h e taken = below_more (λ k. slice_get runs k ≡ Some None → ⊥) n taken (λ z. not-none (get_or runs n d) e (same_Some (get_or runs n d) None (sym (slice_get-get_or runs n d h) ∙ z)))
+taken-more runs n d h e taken = below_more (λ k. slice_get runs k ≡ Some None → ⊥) n taken
+    (λ z. not-none (get_or runs n d) e (same_Some (get_or runs n d) None (sym (slice_get-get_or runs n d h) ∙ z)))

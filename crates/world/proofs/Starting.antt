@@ -30,7 +30,9 @@ pub record IsSafe (maps : List MapView) (loaded : List Loaded) : Type 0 where
   pub verified : (p : ℕ) (x : Loaded) → slice_get loaded p ≡ Some x → IsVerified x.verified.program x.verified.shapes x.verified.ctx_len
   pub real : (p : ℕ) (x : Loaded) → slice_get loaded p ≡ Some x → IsRealProgram (program_of x)
 
-pub made-is-start : {names : List (List ℕ)} {maps : List MapView} {loaded : List Loaded} → IsSafe maps loaded → (w : WorldView) → w ≡ unused_world names maps (programs_in loaded) → w ≡ start_view names (shapes_of_maps maps) (programs_in loaded)
+pub made-is-start : {names : List (List ℕ)} {maps : List MapView} {loaded : List Loaded} → IsSafe maps loaded →
+    (w : WorldView) → w ≡ unused_world names maps (programs_in loaded) →
+    w ≡ start_view names (shapes_of_maps maps) (programs_in loaded)
 made-is-start {names} {maps} {loaded} safe w e = e ∙ ap (λ (ms : List MapView). unused_world names ms (programs_in loaded)) safe.new_maps
 
 are_verified : (maps : List MapView) (loaded : List Loaded) → IsSafe maps loaded → AreVerified (shapes_of_maps maps) (programs_in loaded)
@@ -45,16 +47,25 @@ are_programs maps loaded safe p program at =
     let of_loaded = map-back program_of loaded p program at in
     subst IsRealProgram of_loaded.2 (safe.real p of_loaded.0 of_loaded.1)
 
-pub start-is-world : (names : List (List ℕ)) {maps : List MapView} {loaded : List Loaded} → IsSafe maps loaded → IsWorld (start_view names (shapes_of_maps maps) (programs_in loaded))
+pub start-is-world : (names : List (List ℕ)) {maps : List MapView} {loaded : List Loaded} → IsSafe maps loaded →
+    IsWorld (start_view names (shapes_of_maps maps) (programs_in loaded))
 start-is-world names {maps} {loaded} safe =
     let shape = λ (v : MapView). v.shape in
-    let few : length (shapes_of_maps maps) ≤ MAX_MAPS = let count : length (shapes_of_maps maps) ≡ length maps = length-map maps shape in let limit : length maps ≤ MAX_MAPS = safe.maps_limit in omega arith in
-    let few_programs : length (programs_in loaded) ≤ MAX_PROGRAMS = let count : length (programs_in loaded) ≡ length loaded = length-map loaded program_of in let limit : length loaded ≤ MAX_PROGRAMS = safe.programs_limit in omega arith in
+    let few : length (shapes_of_maps maps) ≤ MAX_MAPS = let count : length (shapes_of_maps maps) ≡ length maps =
+    length-map maps shape in let limit : length maps ≤ MAX_MAPS = safe.maps_limit in omega arith in
+    let few_programs : length (programs_in loaded) ≤ MAX_PROGRAMS =
+    let count : length (programs_in loaded) ≡ length loaded =
+    length-map loaded program_of in let limit : length loaded ≤ MAX_PROGRAMS =
+    safe.programs_limit in omega arith in
     start_is_world names (shapes_of_maps maps) (programs_in loaded) safe.shapes few few_programs (are_verified maps loaded safe) (are_programs maps loaded safe)
 
-pub made-is-world : {names : List (List ℕ)} {maps : List MapView} {loaded : List Loaded} → IsSafe maps loaded → (w : WorldView) → w ≡ unused_world names maps (programs_in loaded) → IsWorld w
+pub made-is-world : {names : List (List ℕ)} {maps : List MapView} {loaded : List Loaded} → IsSafe maps loaded →
+    (w : WorldView) → w ≡ unused_world names maps (programs_in loaded) → IsWorld w
 made-is-world {names} {maps} {loaded} safe w e = subst IsWorld (sym (made-is-start safe w e)) (start-is-world names safe)
 
-pub made-tracks-start : {names : List (List ℕ)} {maps : List MapView} {loaded : List Loaded} → IsSafe maps loaded → (w : WorldView) → w ≡ unused_world names maps (programs_in loaded) → TracksSchedule w (start_schedule (shapes_of_maps maps) (programs_in loaded))
+pub made-tracks-start : {names : List (List ℕ)} {maps : List MapView} {loaded : List Loaded} → IsSafe maps loaded →
+    (w : WorldView) → w ≡ unused_world names maps (programs_in loaded) →
+    TracksSchedule w (start_schedule (shapes_of_maps maps) (programs_in loaded))
 made-tracks-start {names} {maps} {loaded} safe w e =
-    subst (λ (v : WorldView). TracksSchedule v (start_schedule (shapes_of_maps maps) (programs_in loaded))) (sym (made-is-start safe w e)) (start_tracked names (shapes_of_maps maps) (programs_in loaded) safe.shapes)
+    subst (λ (v : WorldView). TracksSchedule v (start_schedule (shapes_of_maps maps) (programs_in loaded)))
+    (sym (made-is-start safe w e)) (start_tracked names (shapes_of_maps maps) (programs_in loaded) safe.shapes)

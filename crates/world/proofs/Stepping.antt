@@ -56,7 +56,8 @@ module _ (loaded : Loaded) (maps : List MapView) (g : GraceState) (r : ℕ) (old
   }
 
   -- the parts of a world, put in for those that they are
-  parts-are : (answer : Answer) (new : RunView) (w : WorldView) → w.maps ≡ maps → ShowsGrace w g → (let y : Answer × WorldView = (answer, with_view r new w) in y) ≡ (answer, world_with maps g r new w)
+  parts-are : (answer : Answer) (new : RunView) (w : WorldView) → w.maps ≡ maps → ShowsGrace w g →
+      (let y : Answer × WorldView = (answer, with_view r new w) in y) ≡ (answer, world_with maps g r new w)
   parts-are answer new w em eg =
       ap (λ (x : WorldView). (let y : Answer × WorldView = (answer, x) in y)) (shown-still r w g eg new)
       ∙ ap (λ (ms : List MapView). (let y : Answer × WorldView = (answer, world_with ms g r new w) in y)) em
@@ -65,25 +66,29 @@ module _ (loaded : Loaded) (maps : List MapView) (g : GraceState) (r : ℕ) (old
   same-depths new e = sym (ap (slice_set g.depths r) e ∙ set-same g.depths r v.depth can.depth_is)
 
   -- a step that the run makes by itself
-  pub moved_taken : (new : RunWords) → IsLocalStep (local_of i v) (request_of i v) v code.Moved new.view → IsAt loaded.verified.program new → HasTaken loaded r old new maps maps g g answers.Moved
+  pub moved_taken : (new : RunWords) → IsLocalStep (local_of i v) (request_of i v) v code.Moved new.view →
+      IsAt loaded.verified.program new → HasTaken loaded r old new maps maps g g answers.Moved
   moved_taken new h at =
       let same = own_keeps i v new.view (request_of i v) code.Moved h in
       record {
         insn = i;
         here = can.step.here;
-        step = λ w em eg. own_is i (program_of loaded) r v new.view w (request_of i v) code.Moved (is-flagged w eg) h ∙ parts-are answers.Moved new.view w em eg;
+        step = λ w em eg. own_is i (program_of loaded) r v new.view w (request_of i v) code.Moved (is-flagged w eg) h
+            ∙ parts-are answers.Moved new.view w em eg;
         depths = same-depths new.view same.0;
         program = same.1;
         stands = at;
       }
 
-  pub exited_taken : (n : ℕ) (new : RunWords) → IsLocalStep (local_of i v) (request_of i v) v (code.Exit n) new.view → IsAt loaded.verified.program new → HasTaken loaded r old new maps maps g g (answers.Exited n)
+  pub exited_taken : (n : ℕ) (new : RunWords) → IsLocalStep (local_of i v) (request_of i v) v (code.Exit n) new.view →
+      IsAt loaded.verified.program new → HasTaken loaded r old new maps maps g g (answers.Exited n)
   exited_taken n new h at =
       let same = own_keeps i v new.view (request_of i v) (code.Exit n) h in
       record {
         insn = i;
         here = can.step.here;
-        step = λ w em eg. own_is i (program_of loaded) r v new.view w (request_of i v) (code.Exit n) (is-flagged w eg) h ∙ parts-are (answers.Exited n) new.view w em eg;
+        step = λ w em eg. own_is i (program_of loaded) r v new.view w (request_of i v) (code.Exit n) (is-flagged w eg)
+            h ∙ parts-are (answers.Exited n) new.view w em eg;
         depths = same-depths new.view same.0;
         program = same.1;
         stands = at;
@@ -109,7 +114,8 @@ module _ (loaded : Loaded) (maps : List MapView) (g : GraceState) (r : ℕ) (old
     pub can_give : (word : ℕ) → IsReply request loaded.maps.items maps mid.view word → MayGive loaded.verified mid.view request word
     can_give word reply =
         subst (λ (u : RunView). MayGive loaded.verified u request word) (sym same)
-        (can.ask.give i request word can.step.here (own_asks i v mid.view (request_of i v) request h).0 asks (subst (λ (u : RunView). IsReply request loaded.maps.items maps u word) same reply))
+        (can.ask.give i request word can.step.here (own_asks i v mid.view (request_of i v) request h).0 asks
+        (subst (λ (u : RunView). IsReply request loaded.maps.items maps u word) same reply))
 
     here-too : insn_at loaded.verified.program mid.view.place ≡ Some i
     here-too = ap (λ (u : RunView). insn_at loaded.verified.program u.place) same ∙ can.step.here
@@ -124,7 +130,9 @@ module _ (loaded : Loaded) (maps : List MapView) (g : GraceState) (r : ℕ) (old
         let ms : maps_after request bound v maps ≡ maps_new = ap (λ (u : RunView). maps_after request bound u maps) (sym same) ∙ sym em in
         let word-is : IsReply request bound maps v word = subst (λ (u : RunView). IsReply request bound maps u word) same reply in
         let on = goes_on g r v can.depth_is can.flag.inside word i request asks in
-        let out : List MapView → GraceState → RunView → WorldView → Answer × WorldView = λ (ms : List MapView) (x : GraceState) (u : RunView) (w : WorldView). (answers.Moved, world_with ms x r u w) in
+        let out : List MapView → GraceState → RunView → WorldView → Answer × WorldView =
+        λ (ms : List MapView) (x : GraceState) (u : RunView) (w : WorldView).
+        (answers.Moved, world_with ms x r u w) in
         record {
           insn = i;
           here = can.step.here;
@@ -142,23 +150,27 @@ module _ (loaded : Loaded) (maps : List MapView) (g : GraceState) (r : ℕ) (old
         }
 
 -- a run slot from which a step is not refused
-going : (o : Option (Option RunWords)) → step_refused (option_flatten (option_map view_of o)) ≡ None → (run : RunWords) × (o ≡ Some (Some run)) × (run.view.exit ≡ None)
+going : (o : Option (Option RunWords)) → step_refused (option_flatten (option_map view_of o)) ≡ None →
+    (run : RunWords) × (o ≡ Some (Some run)) × (run.view.exit ≡ None)
 going None e = absurd (none-some _ (sym e))
 going (Some None) e = absurd (none-some _ (sym e))
 going (Some (Some run)) e = (run, refl, not-ended run.view.exit e)
 
-module _ (names : List (List ℕ)) (maps : List MapView) (runs : List (Option RunWords)) (g : GraceState) (programs : List Loaded) (given r : ℕ) (kept : IsKept maps runs g programs) where
+module _ (names : List (List ℕ)) (maps : List MapView) (runs : List (Option RunWords)) (g : GraceState)
+    (programs : List Loaded) (given r : ℕ) (kept : IsKept maps runs g programs) where
   abbrev w : WorldView
   w = world_of names maps runs g programs given
 
-  loaded-shown : (run : RunWords) (loaded : Loaded) → slice_get programs run.view.program ≡ Some loaded → slice_get w.programs run.view.program ≡ Some (program_of loaded)
+  loaded-shown : (run : RunWords) (loaded : Loaded) → slice_get programs run.view.program ≡ Some loaded →
+      slice_get w.programs run.view.program ≡ Some (program_of loaded)
   loaded-shown run loaded e = slice_get-map program_of programs run.view.program ∙ ap (option_map program_of) e
 
   run-at : (run : RunWords) → slice_get runs r ≡ Some (Some run) → slice_get w.runs r ≡ Some (Some run.view)
   run-at run e = slice_get-map view_of runs r ∙ ap (option_map view_of) e
 
   -- a loaded program's code is that of the program that the world shows
-  code-of : (loaded : Loaded) (p : ℕ) → slice_get programs p ≡ Some loaded → IsJustified loaded.verified → IsCodeOf loaded.verified (shapes_of w) (program_of loaded)
+  code-of : (loaded : Loaded) (p : ℕ) → slice_get programs p ≡ Some loaded → IsJustified loaded.verified →
+      IsCodeOf loaded.verified (shapes_of w) (program_of loaded)
   code-of loaded p e justified = record { justified = justified; code = refl; context = refl; bound = kept.bound p loaded e }
 
   -- in a sound world the run in a slot may make a step, unless that is refused
@@ -178,12 +190,20 @@ module _ (names : List (List ℕ)) (maps : List MapView) (runs : List (Option Ru
         of = of.there;
         may = record {
           can = λ justified. record {
-            stands = record { at = of.stands; stands = running_stands w s m sound r y.0 x.0.view y.1 (program_of of.program) at of.program.verified (code-of of.program x.0.view.program of.there justified) };
-            step = can_step w s m sound r y.0 x.0.view y.1 (program_of of.program) at of.program.verified (code-of of.program x.0.view.program of.there justified);
+            stands = record {
+              at = of.stands;
+              stands =
+                  running_stands w s m sound r y.0 x.0.view y.1 (program_of of.program) at of.program.verified
+                  (code-of of.program x.0.view.program of.there justified);
+            };
+            step = can_step w s m sound r y.0 x.0.view y.1 (program_of of.program) at of.program.verified
+                (code-of of.program x.0.view.program of.there justified);
             ask = record {
               serve = can_be_served w s m sound r y.0 x.0.view y.1 (program_of of.program) at;
               give = λ i request word here waits asked reply.
-                  may_give w s m sound r y.0 x.0.view y.1 (omega (arith, within)) (program_of of.program) at of.program.verified (code-of of.program x.0.view.program of.there justified) i request word here waits asked
+                  may_give w s m sound r y.0 x.0.view y.1 (omega (arith, within)) (program_of of.program) at
+                  of.program.verified (code-of of.program x.0.view.program of.there justified) i request word here
+                  waits asked
                   (can_be_served w s m sound r y.0 x.0.view y.1 (program_of of.program) at i request here waits asked) reply;
             };
             flag = record { slot = within; inside = f.awaited };
@@ -193,7 +213,8 @@ module _ (names : List (List ℕ)) (maps : List MapView) (runs : List (Option Ru
         };
       }
 
-  module _ (runs_new : List (Option RunWords)) (maps_new : List MapView) (g_new : GraceState) (answer : Answer) (gone : HasGone runs runs_new programs maps maps_new g g_new r answer) where
+  module _ (runs_new : List (Option RunWords)) (maps_new : List MapView) (g_new : GraceState) (answer : Answer)
+      (gone : HasGone runs runs_new programs maps maps_new g g_new r answer) where
     -- what is kept of the runs holds after the step
     gone-runs : AreRunsKept runs_new g_new programs
     gone-runs = subst (λ (l : List (Option RunWords)). AreRunsKept l g_new programs) (sym gone.runs_are) (record {
@@ -213,7 +234,19 @@ module _ (names : List (List ℕ)) (maps : List MapView) (runs : List (Option Ru
     pub gone_is : word_step w r ≡ (answer, world_of names maps_new runs_new g_new programs given)
     gone_is =
         let run : RunWords = gone.run in
-        let out : List (Option RunView) → Answer × WorldView = λ (l : List (Option RunView)). (answer, record { names = names; maps = maps_new; runs = l; opened = opened_in g_new; awaited = g_new.awaited; programs = w.programs; given = given }) in
+        let out : List (Option RunView) → Answer × WorldView = λ (l : List (Option RunView)). (
+          answer,
+          record {
+            names = names;
+            maps = maps_new;
+            runs = l;
+            opened = opened_in g_new;
+            awaited =
+                g_new.awaited;
+            programs = w.programs;
+            given = given;
+          },
+        ) in
         ap (λ (o : Option (Option RunView)). run_step_of (option_flatten o) r w) (run-at run gone.there)
         ∙ ap (λ (o : Option machine.Loaded). step_in o r run.view w) (loaded-shown run gone.loaded gone.of)
         ∙ ap (λ (o : Option Insn). step_at o (program_of gone.loaded) r run.view w) gone.taken.here
@@ -224,5 +257,7 @@ module _ (names : List (List ℕ)) (maps : List MapView) (runs : List (Option Ru
     pub gone_kept : IsKept maps_new runs_new g_new programs
     gone_kept = record {
       of_runs = gone-runs;
-      bound = subst (λ shapes. AreProgramsBound shapes programs) (sym (ap (λ (x : Answer × WorldView). shapes_of_maps x.1.maps) (sym gone_is) ∙ (step-keeps w r).0)) kept.bound;
+      bound = subst (λ shapes. AreProgramsBound shapes programs)
+          (sym (ap (λ (x : Answer × WorldView). shapes_of_maps x.1.maps) (sym gone_is) ∙ (step-keeps w r).0))
+          kept.bound;
     }

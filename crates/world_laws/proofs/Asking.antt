@@ -58,7 +58,8 @@ pub record LookupAsked (shapes : ℕ → Option MapShape) (m : State) (arguments
   pub long : length key ≡ shape.key_len
   pub arguments_are : arguments ≡ MapArgument map ∷ BytesArgument key ∷ []
 
-pub lookup-asked : (shapes : ℕ → Option MapShape) (m : State) (arguments : List Argument) → arguments_of (signature_of Lookup).arguments shapes m 1 ≡ Some arguments → LookupAsked shapes m arguments
+pub lookup-asked : (shapes : ℕ → Option MapShape) (m : State) (arguments : List Argument) →
+    arguments_of (signature_of Lookup).arguments shapes m 1 ≡ Some arguments → LookupAsked shapes m arguments
 lookup-asked shapes m arguments e =
     let o : Option ℕ = reference (m.regs 1) >>= named_map in
     let f = first-step (argument_of shapes m MapOfProgram 1) (λ a. arguments_of (KeyOfMap ∷ []) shapes m 2 >>= λ more. Some (a ∷ more)) arguments e in
@@ -80,5 +81,7 @@ lookup-asked shapes m arguments e =
       arguments_are =
           sym (same_Some (f.0 ∷ g.0) arguments g.2)
           ∙ ap (λ (a : Argument). a ∷ g.0) (sym (same_Some (MapArgument p.0) f.0 p.2))
-          ∙ ap (λ (l : List Argument). MapArgument p.0 ∷ l) (sym (same_Some (h.0 ∷ []) g.0 h.2) ∙ ap (λ (a : Argument). a ∷ []) (sym (same_Some (BytesArgument r.0) h.0 r.2)));
+          ∙ ap (λ (l : List Argument). MapArgument p.0 ∷ l)
+          (sym (same_Some (h.0 ∷ []) g.0 h.2) ∙ ap (λ (a : Argument). a ∷ [])
+          (sym (same_Some (BytesArgument r.0) h.0 r.2)));
     }

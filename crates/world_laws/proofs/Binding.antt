@@ -16,7 +16,9 @@ pub bound-count : (shapes asked : List MapShape) (numbers : List ℕ) → map (s
 bound-count shapes asked numbers bound =
     sym (length-map numbers (slice_get shapes)) ∙ (ap length bound ∙ length-map asked Some)
 
-pub bound-each : (shapes asked : List MapShape) (numbers : List ℕ) → map (slice_get shapes) numbers ≡ map Some asked → (i : ℕ) (shape : MapShape) → slice_get asked i ≡ Some shape → (number : ℕ) × (slice_get numbers i ≡ Some number) × (slice_get shapes number ≡ Some shape)
+pub bound-each : (shapes asked : List MapShape) (numbers : List ℕ) → map (slice_get shapes) numbers ≡ map Some asked →
+    (i : ℕ) (shape : MapShape) → slice_get asked i ≡ Some shape → (number : ℕ) × (slice_get numbers i ≡ Some number) ×
+    (slice_get shapes number ≡ Some shape)
 bound-each shapes [] numbers bound i shape at = absurd (none-some shape at)
 bound-each shapes (a ∷ asked) [] bound i shape at = absurd (cc)
 bound-each shapes (a ∷ asked) (n ∷ numbers) bound zero shape at = (n, refl, cc)
@@ -29,7 +31,8 @@ view-of : (o : Option MapView) (shape : MapShape) → option_map (λ v. v.shape)
 view-of None shape e = absurd (none-some shape e)
 view-of (Some v) shape e = (v, refl, same_Some v.shape shape e)
 
-pub bound-behind : (w : WorldView) (s : Schedule) → RefinesSchedule w s → (asked : List MapShape) (numbers : List ℕ) → map (slice_get (shapes_of w)) numbers ≡ map Some asked → AreMapsBound asked numbers s.machine.store.maps
+pub bound-behind : (w : WorldView) (s : Schedule) → RefinesSchedule w s → (asked : List MapShape) (numbers : List ℕ) →
+    map (slice_get (shapes_of w)) numbers ≡ map Some asked → AreMapsBound asked numbers s.machine.store.maps
 bound-behind w s x asked numbers bound = record {
   count = bound-count (shapes_of w) asked numbers bound;
   each = λ i shape at.

@@ -9,7 +9,8 @@ use Rattle.typed_runs.specs.Well.{IsVerifiedFor}
 use Rattle.world_laws.proofs.Binding.{bound-count, bound-each}
 use Rattle.world_laws.specs.Binding.{IsBoundTo}
 
-pub bound_is_verified : (shapes asked : List MapShape) (program : Loaded) → IsBoundTo shapes asked program.maps → IsVerified program.code asked program.context_len → IsVerifiedFor (map new_map shapes) program
+pub bound_is_verified : (shapes asked : List MapShape) (program : Loaded) → IsBoundTo shapes asked program.maps →
+    IsVerified program.code asked program.context_len → IsVerifiedFor (map new_map shapes) program
 bound_is_verified shapes asked program bound verified = record {
   shapes = asked;
   bound = record {

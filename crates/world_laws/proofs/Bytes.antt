@@ -36,7 +36,9 @@ first-digit : (n at k : ℕ) → k ≡ at → n / 256 ^ (k - at) % 256 ≡ n % 2
 first-digit n at k e = let f : k - at ≡ 0 = omega arith in ap (λ (e : ℕ). n / 256 ^ e % 256) f ∙ (let g : n / 1 % 256 ≡ n % 256 = omega arith in g)
 
 -- the bytes after a number was written
-pub bytes-written : (width at n : ℕ) (xs : List ℕ) → at + width ≤ length xs → (k : ℕ) → slice_index (with_bytes at width n xs) k ≡ (if is_within at width k then n / 256 ^ (k - at) % 256 else slice_index xs k)
+pub bytes-written : (width at n : ℕ) (xs : List ℕ) → at + width ≤ length xs → (k : ℕ) →
+    slice_index (with_bytes at width n xs) k ≡ (if is_within at width k then n / 256 ^ (k - at) % 256 else slice_index
+    xs k)
 bytes-written zero at n xs l k = elim (cases_lt k at) [
   | inl h ↦ sym (cond-false (is_within at 0 k) (n / 256 ^ (k - at) % 256) (slice_index xs k) (before at 0 k h))
   | inr h ↦ sym (cond-false (is_within at 0 k) (n / 256 ^ (k - at) % 256) (slice_index xs k) (behind at 0 k (omega arith)))
@@ -79,7 +81,9 @@ pub number-read : (bytes : List ℕ) (width at n : ℕ) (z : ℤ) → z ≡ pos 
 number-read bytes width at n z e h = ap (number_from bytes width) e ∙ ap (λ o. unwrap_or o 0) h
 
 -- the bytes of an argument
-pub argument-bytes : (bases : ℕ → ℕ) (cells : ℕ → Cell) (bytes : List ℕ) → ((k : ℕ) → k < length bytes → ByteIs bases (cells k) (slice_index bytes k)) → (len at : ℕ) (found : List ℕ) → at + len ≤ length bytes
+pub argument-bytes : (bases : ℕ → ℕ) (cells : ℕ → Cell) (bytes : List ℕ) →
+    ((k : ℕ) → k < length bytes → ByteIs bases (cells k) (slice_index bytes k)) → (len at : ℕ) (found : List ℕ) →
+    at + len ≤ length bytes
     → bytes_at cells at len ≡ Some found → take len (drop at bytes) ≡ found
 argument-bytes bases cells bytes all zero at found l h = same_Some [] found h
 argument-bytes bases cells bytes all (suc len) at found l h =
@@ -87,4 +91,6 @@ argument-bytes bases cells bytes all (suc len) at found l h =
     let r = first-step (bytes_at cells (suc at) len) (λ bs. Some (b.0 ∷ bs)) found b.2 in
     let first : slice_index bytes at ≡ b.0 = byte_known bases (cells at) (slice_index bytes at) b.0 (all at (omega arith)) b.1 in
     let rest : take len (drop (suc at) bytes) ≡ r.0 = argument-bytes bases cells bytes all len (suc at) r.0 (omega arith) r.1 in
-    ap (take (suc len)) (drop-next bytes at (slice_index bytes at) (slice_get-get_or bytes at 0 (omega arith))) ∙ ap (λ x. x ∷ take len (drop (suc at) bytes)) first ∙ ap (λ xs. b.0 ∷ xs) rest ∙ same_Some (b.0 ∷ r.0) found r.2
+    ap (take (suc len)) (drop-next bytes at (slice_index bytes at) (slice_get-get_or bytes at 0 (omega arith))) ∙
+    ap (λ x. x ∷ take len (drop (suc at) bytes)) first ∙ ap (λ xs. b.0 ∷ xs) rest ∙
+    same_Some (b.0 ∷ r.0) found r.2

@@ -1,5 +1,6 @@
 -- Elements by a function of their numbers: what stands around a run, as far as it can tell.
-use Rattle.std.proofs.Common.{◌≡◌, ℕ, ◌+◌, ◌<◌, refl, sym, ap, subst, ◌∙◌, arith, inl, inr, List, [], ◌∷◌, length, map, replicate, Option, Some, None, Bool, true, false}
+use Rattle.std.proofs.Common.{◌≡◌, ℕ, ◌+◌, ◌<◌, refl, sym, ap, subst, ◌∙◌, arith, inl, inr, List, [], ◌∷◌, length}
+use Rattle.std.proofs.Common.{map, replicate, Option, Some, None, Bool, true, false}
 use Rattle.std.specs.Prelude.{slice_get, ◌==◌, if◌then◌else◌}
 use Rattle.std.specs.List.{range_with_len}
 use Rattle.std.proofs.lemmas.Option.{none-some, same_Some, slice_get_within, slice_get-get_or}
@@ -24,13 +25,15 @@ use Rattle.world_laws.specs.Around.{map_of, key_length, value_length, element_of
 pub get-range : (count n : ℕ) → n < count → slice_get (range_with_len 0 count) n ≡ Some n
 get-range count n l =
     let long : length (range_with_len 0 count) ≡ count = length-range_with_len 0 count in
-    slice_get-get_or (range_with_len 0 count) n 0 (omega (arith, l, long)) ∙ ap Some (get_or-range_with_len 0 count n 0 l ∙ (let z : 0 + n ≡ n = omega arith in z))
+    slice_get-get_or (range_with_len 0 count) n 0 (omega (arith, l, long)) ∙
+    ap Some (get_or-range_with_len 0 count n 0 l ∙ (let z : 0 + n ≡ n = omega arith in z))
 
 pub get-by : (count : ℕ) (f : ℕ → Element) (n : ℕ) → n < count → slice_get (elements_by count f) n ≡ Some (f n)
 get-by count f n l = get-map f (range_with_len 0 count) n n (get-range count n l)
 
 pub by-below : (count : ℕ) (f : ℕ → Element) (n : ℕ) (e : Element) → slice_get (elements_by count f) n ≡ Some e → n < count
-by-below count f n e at = let l = slice_get_within (elements_by count f) n e at in let long : length (elements_by count f) ≡ count = length-map-range_with_len f 0 count in omega (arith, l, long)
+by-below count f n e at = let l = slice_get_within (elements_by count f) n e at in let long : length
+    (elements_by count f) ≡ count = length-map-range_with_len f 0 count in omega (arith, l, long)
 
 pub by-is : (count : ℕ) (f : ℕ → Element) (n : ℕ) (e : Element) → slice_get (elements_by count f) n ≡ Some e → f n ≡ e
 by-is count f n e at = same_Some (f n) e (sym (get-by count f n (by-below count f n e at)) ∙ at)
@@ -92,10 +95,13 @@ pub record Guards (section : Section) (f g : ℕ → Element) : Type 0 where
   pub guard : (n : ℕ) → IsGuarded (f n).life section → IsGuarded (g n).life section
 
 -- the maps are the same ones, whatever stands in them
-same-array : (around : List MapShape) (es fs : List Element) (run : Run) (map : ℕ) → IsArrayMap (scene_of (store_of around es) run) map → IsArrayMap (scene_of (store_of around fs) run) map
+same-array : (around : List MapShape) (es fs : List Element) (run : Run) (map : ℕ) →
+    IsArrayMap (scene_of (store_of around es) run) map → IsArrayMap (scene_of (store_of around fs) run) map
 same-array around es fs run map a = record { number = a.number; listed = a.listed; array = a.array }
 
-pub keeps-by : (around : List MapShape) (f g : ℕ → Element) (run : Run) → Guards (section_of run) f g → Keeps (scene_of (store_of around (elements_by (births around) f)) run) (scene_of (store_of around (elements_by (births around) g)) run)
+pub keeps-by : (around : List MapShape) (f g : ℕ → Element) (run : Run) → Guards (section_of run) f g →
+    Keeps (scene_of (store_of around (elements_by (births around) f)) run)
+    (scene_of (store_of around (elements_by (births around) g)) run)
 keeps-by around f g run h = record {
   held = λ map n x. (
       let count = births around in
@@ -113,7 +119,9 @@ keeps-by around f g run h = record {
 }
 
 -- the same, for any list of elements
-pub keeps-list : (around : List MapShape) (es : List Element) (g : ℕ → Element) (run : Run) → ((k : ℕ) (e : Element) → slice_get es k ≡ Some e → (k < births around) × ((g k).map ≡ e.map) × (IsGuarded e.life (section_of run) → IsGuarded (g k).life (section_of run)))
+pub keeps-list : (around : List MapShape) (es : List Element) (g : ℕ → Element) (run : Run) →
+    ((k : ℕ) (e : Element) → slice_get es k ≡ Some e → (k < births around) × ((g k).map ≡ e.map) ×
+    (IsGuarded e.life (section_of run) → IsGuarded (g k).life (section_of run)))
     → Keeps (scene_of (store_of around es) run) (scene_of (store_of around (elements_by (births around) g)) run)
 keeps-list around es g run h = record {
   held = λ map n x. (
@@ -137,14 +145,16 @@ changed_at n e f k = if k == n then e else f k
 pub changed-here : (n : ℕ) (e : Element) (f : ℕ → Element) → changed_at n e f n ≡ e
 changed-here n e f = ap (λ b. if b then e else f n) (eq-eqb n n refl)
 
-changed-by : (P : ℕ → Element → Type 0) (n : ℕ) (e : Element) (f : ℕ → Element) → P n e → (k : ℕ) (b : Bool) → (k == n) ≡ b → P k (f k) → P k (if b then e else f k)
+changed-by : (P : ℕ → Element → Type 0) (n : ℕ) (e : Element) (f : ℕ → Element) → P n e → (k : ℕ) (b : Bool) →
+    (k == n) ≡ b → P k (f k) → P k (if b then e else f k)
 changed-by P n e f here k true is other = subst (λ (j : ℕ). P j e) (sym (eqb-true k n is)) here
 changed-by P n e f here k false is other = other
 
 pub changed-all : (P : ℕ → Element → Type 0) (n : ℕ) (e : Element) (f : ℕ → Element) → P n e → ((k : ℕ) → P k (f k)) → (k : ℕ) → P k (changed_at n e f k)
 changed-all P n e f here others k = changed-by P n e f here k (k == n) refl (others k)
 
-linked-by : (n : ℕ) (e : Element) (f : ℕ → Element) → ((k : ℕ) → (f k).life ≡ Linked → ⊥) → (k : ℕ) (b : Bool) → (k == n) ≡ b → (if b then e else f k).life ≡ Linked → k ≡ n
+linked-by : (n : ℕ) (e : Element) (f : ℕ → Element) → ((k : ℕ) → (f k).life ≡ Linked → ⊥) → (k : ℕ) (b : Bool) →
+    (k == n) ≡ b → (if b then e else f k).life ≡ Linked → k ≡ n
 linked-by n e f none k true is h = eqb-true k n is
 linked-by n e f none k false is h = absurd (none k h)
 
@@ -152,7 +162,9 @@ pub linked-at : (n : ℕ) (e : Element) (f : ℕ → Element) → ((k : ℕ) →
 linked-at n e f none k = linked-by n e f none k (k == n) refl
 
 -- what may be accessed was born
-born-if : (count : ℕ) (f : ℕ → Element) (n : ℕ) (o : Option Element) (y : Element) → slice_get (elements_by count f) n ≡ o → (o >>= unless_reclaimed) ≡ Some y → (n < count) × (unless_reclaimed (f n) ≡ Some y)
+born-if : (count : ℕ) (f : ℕ → Element) (n : ℕ) (o : Option Element) (y : Element) →
+    slice_get (elements_by count f) n ≡ o → (o >>= unless_reclaimed) ≡ Some y → (n < count) ×
+    (unless_reclaimed (f n) ≡ Some y)
 born-if count f n None y e h = absurd (none-some y h)
 born-if count f n (Some x) y e h = (by-below count f n x e, ap unless_reclaimed (by-is count f n x e) ∙ h)
 
@@ -160,13 +172,15 @@ pub record Touched (around : List MapShape) (section : Section) (n : ℕ) (y : E
   pub below : n < births around
   pub is : element_of around section n ≡ y
 
-pub touched : (around : List MapShape) (section : Section) (n : ℕ) (y : Element) → accessible (elements_by (births around) (element_of around section)) n ≡ Some y → Touched around section n y
+pub touched : (around : List MapShape) (section : Section) (n : ℕ) (y : Element) →
+    accessible (elements_by (births around) (element_of around section)) n ≡ Some y → Touched around section n y
 touched around section n y h =
     let f = element_of around section in
     let b = born-if (births around) f n (slice_get (elements_by (births around) f) n) y refl h in
     record { below = b.0; is = same_Some (f n) y b.1 }
 
 -- an element of these contents that isn't reclaimed may be accessed
-pub touch : (count : ℕ) (f : ℕ → Element) (n : ℕ) (e : Element) → n < count → f n ≡ e → is_reclaimed e.life ≡ false → accessible (elements_by count f) n ≡ Some e
+pub touch : (count : ℕ) (f : ℕ → Element) (n : ℕ) (e : Element) → n < count → f n ≡ e → is_reclaimed e.life ≡ false →
+    accessible (elements_by count f) n ≡ Some e
 touch count f n e l is kept =
     ap (λ o. o >>= unless_reclaimed) (get-by count f n l ∙ ap Some is) ∙ ap (λ b. if b then None else Some e) kept

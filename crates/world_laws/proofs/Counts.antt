@@ -21,7 +21,9 @@ births-few shape is =
 
 all-births-few : (shapes : List MapShape) → AreShapes shapes → sum_by most_births shapes ≤ length shapes * (most_map_slots * MAX_REUSE)
 all-births-few shapes are =
-    sum_by-le most_births (most_map_slots * MAX_REUSE) shapes (λ k d within. births-few (get_or shapes k d) (are k (get_or shapes k d) (slice_get-get_or shapes k d within)))
+    sum_by-le most_births (most_map_slots * MAX_REUSE) shapes
+    (λ k d within. births-few (get_or shapes k d) (are k (get_or shapes k d)
+    (slice_get-get_or shapes k d within)))
 
 pub count_has_room : (w : WorldView) → IsWorld w → w.given + 1 < 2 ^ 64
 count_has_room w is =

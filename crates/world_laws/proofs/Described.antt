@@ -24,7 +24,9 @@ module _ (code : List Insn) (shapes : List MapShape) (ctx_len : ℕ) (plan : Pla
   abbrev pub Described : Run → Type 0
   Described run = IsDescribed code shapes ctx_len plan around run
 
-  pub starts-described : (name : ℕ) (program : Loaded) (context : List ℕ) → AreMapsBound shapes program.maps (map new_map around) → length context ≡ ctx_len → AreBytes context → Described (fresh_run name program context)
+  pub starts-described : (name : ℕ) (program : Loaded) (context : List ℕ) →
+      AreMapsBound shapes program.maps (map new_map around) → length context ≡ ctx_len → AreBytes context →
+      Described (fresh_run name program context)
   starts-described name program context bound long bytes =
       let run = fresh_run name program context in
       record {
@@ -47,7 +49,8 @@ module _ (code : List Insn) (shapes : List MapShape) (ctx_len : ℕ) (plan : Pla
     with_content f = store_of around (elements_by (births around) f)
 
     -- any contents may stand there
-    pub surrounds : (f : ℕ → Element) → IsContent around f → IsSingle (elements_by (births around) f) → Surrounds shapes ctx_len (with_content f) (section ∷ []) run
+    pub surrounds : (f : ℕ → Element) → IsContent around f → IsSingle (elements_by (births around) f) →
+        Surrounds shapes ctx_len (with_content f) (section ∷ []) run
     surrounds f c single = record {
       going = x.going;
       section = λ inside. (0, refl);
@@ -65,7 +68,8 @@ module _ (code : List Insn) (shapes : List MapShape) (ctx_len : ℕ) (plan : Pla
       at = x.planned.at;
       known = x.planned.known;
       planned = x.planned.planned;
-      describes = describes-kept (scene_of (with_content plain) run) (scene_of (with_content f) run) (keeps-by around plain f run g) x.planned.known run.state x.planned.describes;
+      describes = describes-kept (scene_of (with_content plain) run) (scene_of (with_content f) run)
+          (keeps-by around plain f run g) x.planned.known run.state x.planned.describes;
     }
 
     pub plain-single : IsSingle (elements_by (births around) plain)
@@ -75,8 +79,11 @@ module _ (code : List Insn) (shapes : List MapShape) (ctx_len : ℕ) (plan : Pla
     plain-guards = record { same = λ n. refl; guard = λ n g. g }
 
     -- a step over some contents
-    pub stepped : (f : ℕ → Element) → IsContent around f → IsSingle (elements_by (births around) f) → Guards section plain f → (i : Insn) → insn_at code run.state.place ≡ Some i → (es : List Element) (new : Run)
-        → InsnStep i (with_content f) (section ∷ []) run Moved (store_of around es) new → Keeps (scene_of (store_of around es) new) (scene_of (store_of around (elements_around around (section_of new))) new) → Described new
+    pub stepped : (f : ℕ → Element) → IsContent around f → IsSingle (elements_by (births around) f) →
+        Guards section plain f → (i : Insn) → insn_at code run.state.place ≡ Some i → (es : List Element) (new : Run)
+        → InsnStep i (with_content f) (section ∷ []) run Moved (store_of around es) new →
+        Keeps (scene_of (store_of around es) new) (scene_of
+        (store_of around (elements_around around (section_of new))) new) → Described new
     stepped f c single g i here es new step keeps =
         let same = same-insn i (with_content f) (section ∷ []) run Moved (store_of around es) new step in
         let going : new.exit ≡ None = elim same.moved [
@@ -95,12 +102,15 @@ module _ (code : List Insn) (shapes : List MapShape) (ctx_len : ℕ) (plan : Pla
             at = p.planned.at;
             known = p.planned.known;
             planned = p.planned.planned;
-            describes = describes-kept (scene_of (store_of around es) new) (scene_of (store_of around (elements_around around (section_of new))) new) keeps p.planned.known new.state p.planned.describes;
+            describes = describes-kept (scene_of (store_of around es) new)
+                (scene_of (store_of around (elements_around around (section_of new))) new) keeps p.planned.known
+                new.state p.planned.describes;
           };
         }
 
     -- a step that the run makes by itself
-    pub alone-described : (i : Insn) (next : State) → insn_at code run.state.place ≡ Some i → after i (environment run) run.state ≡ Some (Moves next) → Described (moves run next)
+    pub alone-described : (i : Insn) (next : State) → insn_at code run.state.place ≡ Some i →
+        after i (environment run) run.state ≡ Some (Moves next) → Described (moves run next)
     alone-described i next here e =
         let s = with_content plain in
         let alone : StepsAlone i s run Moved s (moves run next) = (Moves next, e, refl, (refl, refl)) in

@@ -1,4 +1,6 @@
--- Each element that may be accessed is given the number of its map and its region; a reference to any other is forgotten. The run that is left stands for the same words, and what described it does so still.
+-- Each element that may be accessed is given the number of its map and its region; a reference to
+-- any other is forgotten. The run that is left stands for the same words, and what described it
+-- does so still.
 use Rattle.std.proofs.Common.{◌≡◌, ℕ, inl, inr, ◌-◌, ◌*◌, ◌/◌, ◌%◌, ◌^◌, ◌<◌, refl, sym, ap, subst, ◌∙◌, arith, List, length, map, Option, Some, None}
 use Rattle.std.specs.Prelude.{slice_index, ℤ, pos, ◌+ℤ◌}
 use Rattle.std.proofs.lemmas.Option.{none-some, same_Some, slice_get_within}
@@ -23,7 +25,8 @@ use Rattle.bpf_model.specs.View.{RunView}
 use Rattle.bpf_model.specs.Word.{WordIs, ByteIs}
 use Rattle.bpf_model.proofs.Lists.{get-map}
 use Rattle.model_laws.proofs.Computations.{first-step, then-step}
-use Rattle.typed_runs.specs.Kinds.{Kind, Blank, Mixed, Ended, Num, CtxAt, FrameAt, MapAt, ValueAt, MaybeNull, CellKind, BlankCell, MixedCell, EndedCell, ByteCell, PartCell, AbsState}
+use Rattle.typed_runs.specs.Kinds.{Kind, Blank, Mixed, Ended, Num, CtxAt, FrameAt, MapAt, ValueAt, MaybeNull}
+use Rattle.typed_runs.specs.Kinds.{CellKind, BlankCell, MixedCell, EndedCell, ByteCell, PartCell, AbsState}
 use Rattle.typed_runs.specs.Describes.{Scene, scene_of, IsArrayMap, IsHeld, Naming, IsNullOrHeld, IsOf, Stored, IsOfCell, Describes, part_of}
 use Rattle.typed_runs.specs.Verified.{AreMapsBound, IsClosed, Plan}
 use Rattle.typed_runs.proofs.Arrays.{kind-there, there-kind}
@@ -213,7 +216,8 @@ module _ (g : ℕ → Option ℕ) where
         record { n = q.0; offset = h.offset; is = ap value h.is ∙ ap (λ o. value-to o h.offset) q.1; there = h.there; held = q.2 }
     of-erased ρ (MaybeNull map id) u h = let q = null-erased map (ρ id) h.1 in (ap value h.0 ∙ q.0, q.1)
 
-    cell-erased : (ρ : Naming) (σ : Stored) (k : ℕ) (kind : CellKind) (x : Cell) → IsOfCell c ρ σ k kind x → IsOfCell d (λ id. naming-to (ρ id)) (λ j. value (σ j)) k kind (cell x)
+    cell-erased : (ρ : Naming) (σ : Stored) (k : ℕ) (kind : CellKind) (x : Cell) → IsOfCell c ρ σ k kind x →
+        IsOfCell d (λ id. naming-to (ρ id)) (λ j. value (σ j)) k kind (cell x)
     cell-erased ρ σ k BlankCell x h = tt
     cell-erased ρ σ k MixedCell x h = tt
     cell-erased ρ σ k EndedCell x h = tt
@@ -231,12 +235,19 @@ module _ (g : ℕ → Option ℕ) where
     }
 
 -- the maps around, by their shapes alone
-bound-shapes : (shapes : List MapShape) (maps : List ℕ) (states : List MapState) → AreMapsBound shapes maps states → AreMapsBound shapes maps (map new_map (map (λ (m : MapState). m.shape) states))
+bound-shapes : (shapes : List MapShape) (maps : List ℕ) (states : List MapState) → AreMapsBound shapes maps states →
+    AreMapsBound shapes maps (map new_map (map (λ (m : MapState). m.shape) states))
 bound-shapes shapes maps states b = record {
   count = b.count;
   each = λ i shape at. (
-      let x = b.each i shape at in
-      (x.0, new_map x.1.shape, x.2, get-map new_map (map (λ (m : MapState). m.shape) states) x.0 x.1.shape (get-map (λ (m : MapState). m.shape) states x.0 x.1 x.3), x.4));
+      let x = b.each i shape at in (
+        x.0,
+        new_map x.1.shape,
+        x.2,
+        get-map new_map (map (λ (m : MapState). m.shape) states) x.0 x.1.shape
+            (get-map (λ (m : MapState). m.shape) states x.0 x.1 x.3),
+        x.4,
+      ));
 }
 
 module _ (code : List Insn) (shapes : List MapShape) (ctx_len : ℕ) (v : RunView) (h : StandFor code shapes ctx_len v) where
@@ -259,7 +270,8 @@ module _ (code : List Insn) (shapes : List MapShape) (ctx_len : ℕ) (v : RunVie
       ap region_bases (sym (same_Some (element_in_region f.0.map (region_at (h.bases n))) k f.2)) ∙ number-region f.0.map (region_at (h.bases n)) z.0 ∙ z.1
 
   -- an array stays one
-  array-around : (map : ℕ) → IsArrayMap (scene_of h.store h.run) map → IsArrayMap (scene_of (store_of around (elements_around around (section_of bare))) bare) map
+  array-around : (map : ℕ) → IsArrayMap (scene_of h.store h.run) map →
+      IsArrayMap (scene_of (store_of around (elements_around around (section_of bare))) bare) map
   array-around index a =
       let x = kind-there h.store.maps a.number Array a.array in
       let shape = get-map (λ (m : MapState). m.shape) h.store.maps a.number x.0 x.1 in
@@ -269,7 +281,8 @@ module _ (code : List Insn) (shapes : List MapShape) (ctx_len : ℕ) (v : RunVie
         array = there-kind (map new_map around) a.number (new_map x.0.shape) Array (get-map new_map around a.number x.0.shape shape) x.2;
       }
 
-  given-held : (map n : ℕ) → IsHeld (scene_of h.store h.run) map n → (k : ℕ) × (given n ≡ Some k) × IsHeld (scene_of (store_of around (elements_around around (section_of bare))) bare) map k
+  given-held : (map n : ℕ) → IsHeld (scene_of h.store h.run) map n → (k : ℕ) × (given n ≡ Some k) ×
+      IsHeld (scene_of (store_of around (elements_around around (section_of bare))) bare) map k
   given-held map n x =
       let reached = accessible-held h.store h.run map n h.surrounds.arrays x in
       let z = region-of-slot (h.bases n) (h.lie n x.element reached) in
@@ -281,7 +294,8 @@ module _ (code : List Insn) (shapes : List MapShape) (ctx_len : ℕ) (v : RunVie
         then-step (accessible es n) (λ e. Some (element_in_region e.map (region_at (h.bases n)))) x.element reached,
         record {
           element = element_of around (section_of bare) k;
-          born = get-by (births around) (element_of around (section_of bare)) k (number-below x.element.map (region_at (h.bases n)) (length around) z.0 (omega (arith, below, same)));
+          born = get-by (births around) (element_of around (section_of bare)) k
+              (number-below x.element.map (region_at (h.bases n)) (length around) z.0 (omega (arith, below, same)));
           in_map = x.in_map ∙ ap Some (sym (number-map x.element.map (region_at (h.bases n)) z.0));
           allowed = elim x.allowed [ inl g ↦ inl (g.0, (0, refl)) | inr a ↦ inr (array-around map a) ];
         },
@@ -301,7 +315,9 @@ module _ (code : List Insn) (shapes : List MapShape) (ctx_len : ℕ) (v : RunVie
             at = p.1.at;
             known = p.1.known;
             planned = p.1.planned;
-            describes = describes-erased given (scene_of h.store h.run) (scene_of (store_of around (elements_around around (section_of bare))) bare) refl given-held p.1.known h.run.state p.1.describes;
+            describes = describes-erased given (scene_of h.store h.run)
+                (scene_of (store_of around (elements_around around (section_of bare))) bare) refl given-held p.1.known
+                h.run.state p.1.describes;
           };
         };
         numbered = (λ r. numbered-value given (h.run.state.regs r) (h.numbered.0 r), λ k. numbered-cell given (h.run.state.frame k) (h.numbered.1 k));

@@ -14,11 +14,35 @@ use Rattle.world_laws.proofs.Codes.{all-get}
 use Rattle.world_laws.proofs.Worlds.{starts_ready}
 
 code-real : AllByRecursion FitsInsn lookup_and_load
-code-real =
-    ((omega arith, sfits_lit tt), (sfits_lit tt, ((omega arith, sfits_lit tt, sfits_lit tt), ((omega arith, omega arith), ((omega arith, sfits_lit tt), ((omega arith, sfits_lit tt), (sfits_lit tt, ((omega arith, sfits_lit tt, sfits_lit tt), ((omega arith, omega arith, sfits_lit tt), (sfits_lit tt, ((omega arith, omega arith), (tt, tt))))))))))))
+code-real = (
+  (omega arith, sfits_lit tt),
+  (
+    sfits_lit tt,
+    (
+      (omega arith, sfits_lit tt, sfits_lit tt),
+      (
+        (omega arith, omega arith),
+        (
+          (omega arith, sfits_lit tt),
+          (
+            (omega arith, sfits_lit tt),
+            (
+              sfits_lit tt,
+              (
+                (omega arith, sfits_lit tt, sfits_lit tt),
+                ((omega arith, omega arith, sfits_lit tt), (sfits_lit tt, ((omega arith, omega arith), (tt, tt)))),
+              ),
+            ),
+          ),
+        ),
+      ),
+    ),
+  ),
+)
 
 one-program : AreRealPrograms (lookup_program ∷ [])
-one-program zero program e = subst IsRealProgram (same_Some lookup_program program e) (record { code = all-get FitsInsn lookup_and_load code-real; maps = omega arith })
+one-program zero program e = subst IsRealProgram (same_Some lookup_program program e)
+    (record { code = all-get FitsInsn lookup_and_load code-real; maps = omega arith })
 one-program (suc p) program e = absurd (none-some program e)
 
 module _ (any : Scalar) (all : (n : ℕ) → n < 2 ^ 64 → Holds any n) where

@@ -23,7 +23,8 @@ module _ (w : WorldView) (s : Schedule) (m : Matches w s) where
       ∙ awaited-same w s m.refines m.scheduled
       ∙ sym m.refines.awaited
 
-module _ (w : WorldView) (s : Schedule) (m : Matches w s) (sound : IsSound w s) (r : ℕ) (run : Run) (v new : RunView) (k : IsRunning w s r run v) (same : new.depth ≡ v.depth) where
+module _ (w : WorldView) (s : Schedule) (m : Matches w s) (sound : IsSound w s) (r : ℕ) (run : Run) (v new : RunView)
+    (k : IsRunning w s r run v) (same : new.depth ≡ v.depth) where
   pub flag : slice_get w.opened r ≡ Some (nat_lt 0 new.depth)
   flag =
       let depth : new.depth ≡ run.depth = same ∙ (refines w s m sound r run v k).depth in

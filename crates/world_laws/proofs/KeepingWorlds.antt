@@ -18,7 +18,9 @@ use Rattle.world_laws.specs.Typed.{AreRealPrograms, IsMatched}
 use Rattle.world_laws.proofs.Worlds.{starts_ready, ready_stays, bounded_stays, simulates, tracked_is_sound}
 use Rattle.world_laws.specs.Invariant.{IsWorld}
 
-pub start_is_world : (names : List (List ℕ)) (shapes : List MapShape) (programs : List Loaded) → AreShapes shapes → length shapes ≤ MAX_MAPS → length programs ≤ MAX_PROGRAMS → AreVerified shapes programs → AreRealPrograms programs → IsWorld (start_view names shapes programs)
+pub start_is_world : (names : List (List ℕ)) (shapes : List MapShape) (programs : List Loaded) → AreShapes shapes →
+    length shapes ≤ MAX_MAPS → length programs ≤ MAX_PROGRAMS → AreVerified shapes programs → AreRealPrograms programs
+    → IsWorld (start_view names shapes programs)
 start_is_world names shapes programs right few few_programs verified real =
     let count : length (map new_map_view shapes) ≡ length shapes = length-map shapes new_map_view in
     record {

@@ -68,16 +68,20 @@ moves-or-ends run answer new (Ends n out e f) = Ended n e (ap (λ (x : Run). x.p
 same-exits : (old new : Run) (n : ℕ) → new.program ≡ old.program → new.context ≡ old.context → MayExit old n → MayExit new n
 same-exits old new n p c x = (x.0, subst (λ (z : Loaded × List ℕ). MayExitWith z.0 z.1 x.0 n) (λ i. (sym p i, sym c i)) x.1)
 
-lived-step : (s new_store : Store) (opened : List Section) (old new : Run) (answer : Answer) → AllBytes s.elements → HasLived old → old.exit ≡ None → RunStep s opened old answer new_store new → MovesOrEnds old answer new → HasLived new
+lived-step : (s new_store : Store) (opened : List Section) (old new : Run) (answer : Answer) → AllBytes s.elements →
+    HasLived old → old.exit ≡ None → RunStep s opened old answer new_store new → MovesOrEnds old answer new →
+    HasLived new
 lived-step s new_store opened old new answer bytes lived going h (Further e g) =
     let step : RunStep s opened old Moved new_store new = subst (λ (a : Answer). RunStep s opened old a new_store new) e h in record {
-      going = λ on steps n x. same-exits old new n g.program g.context (lived.going going (suc steps) n (may_exit_later s new_store opened old new steps n bytes step x));
+      going = λ on steps n x. same-exits old new n g.program g.context
+          (lived.going going (suc steps) n (may_exit_later s new_store opened old new steps n bytes step x));
       ended = λ n done. absurd (none-some n (sym (g.exit ∙ going) ∙ done));
     }
 lived-step s new_store opened old new answer bytes lived going h (Ended n e p c x) =
     let step : RunStep s opened old (Exited n) new_store new = subst (λ (a : Answer). RunStep s opened old a new_store new) e h in record {
       going = λ on steps k y. absurd (none-some n (sym on ∙ x));
-      ended = λ k done. let same : n ≡ k = same_Some n k (sym x ∙ done) in subst (MayExit new) same (same-exits old new n p c (lived.going going 1 n (may_exit_now s new_store opened old new n bytes step)));
+      ended = λ k done. let same : n ≡ k = same_Some n k (sym x ∙ done) in subst (MayExit new) same
+          (same-exits old new n p c (lived.going going 1 n (may_exit_now s new_store opened old new n bytes step)));
     }
 
 -- all runs of a machine
@@ -87,9 +91,12 @@ AllLived m = (r : ℕ) (run : Run) → run_at m.runs r ≡ Some run → HasLived
 lived-come : (m new : Machine) (r : ℕ) (run : Run) → AllBytes m.store.elements → AllLived m → Comes m new r run → HasLived run
 lived-come m new r run bytes all (Stands at) = all r run at
 lived-come m new r run bytes all (Starting f) = subst HasLived f.is (lived-fresh m.started f.program f.context)
-lived-come m new r run bytes all (Stepping s) = lived-step m.store new.store (open_sections m.runs) s.old run s.answer bytes (all r s.old s.there) s.going s.step (moves-or-ends s.old s.answer run (changed-insn s.step.0 m.store (open_sections m.runs) s.old s.answer new.store run s.step.2))
+lived-come m new r run bytes all (Stepping s) = lived-step m.store new.store (open_sections m.runs) s.old run s.answer
+    bytes (all r s.old s.there) s.going s.step (moves-or-ends s.old s.answer run
+    (changed-insn s.step.0 m.store (open_sections m.runs) s.old s.answer new.store run s.step.2))
 
-all-lived : (m new : Machine) (event : Event) (answer : Answer) → IsReal event → AllBytes m.store.elements → AllLived m → DoesEvent m event answer new → AllLived new
+all-lived : (m new : Machine) (event : Event) (answer : Answer) → IsReal event → AllBytes m.store.elements →
+    AllLived m → DoesEvent m event answer new → AllLived new
 all-lived m new event answer real bytes all h r run at = lived-come m new r run bytes all (does-come m new event answer real h r run at)
 
 lived-start : (shapes : List MapShape) (programs : List Loaded) → AllLived (start_schedule shapes programs).machine
@@ -102,22 +109,29 @@ HasLivedWell m = IsWell m × AllLived m
 stays-lived : (m new : Machine) (event : Event) (answer : Answer) → IsReal event → DoesEvent m event answer new → HasLivedWell m → HasLivedWell new
 stays-lived m new event answer real h w = (keeps_well m new event answer w.0 real h, all-lived m new event answer real w.0.bytes w.1 h)
 
-reached_has_lived : (shapes : List MapShape) (programs : List Loaded) (s : Schedule) → AreVerified shapes programs → IsReachedSchedule shapes programs s → AllLived s.machine
+reached_has_lived : (shapes : List MapShape) (programs : List Loaded) (s : Schedule) → AreVerified shapes programs →
+    IsReachedSchedule shapes programs s → AllLived s.machine
 reached_has_lived shapes programs s safe r =
     let start = start_schedule shapes programs in
-    let w = kept-last HasLivedWell stays-lived start r.events r.answers r.states (starts_well shapes programs r.limits safe, lived-start shapes programs) r.real r.history in
+    let w = kept-last HasLivedWell stays-lived start r.events r.answers r.states
+    (starts_well shapes programs r.limits safe, lived-start shapes programs) r.real r.history in
     subst (λ (x : Schedule). AllLived x.machine) r.last w.1
 
-module _ (w : WorldView) (r : ℕ) (code : List Insn) (shapes : List MapShape) (context_len : ℕ) (context : List ℕ) (n : ℕ) (is : IsWorld w) (h : HasExited w r code shapes context_len context n) where
-  stands : (run : Run) × (slice_get is.schedule.machine.runs r ≡ Some (Some run)) × RunRefines is.tracks.refines.slots is.schedule.machine.store.elements is.schedule.machine.programs h.run run
-  stands = run-behind is.tracks.refines.slots is.schedule.machine.store.elements is.schedule.machine.programs h.run (slice_get w.runs r) (slice_get is.schedule.machine.runs r) h.there (is.tracks.refines.runs r)
+module _ (w : WorldView) (r : ℕ) (code : List Insn) (shapes : List MapShape) (context_len : ℕ) (context : List ℕ)
+    (n : ℕ) (is : IsWorld w) (h : HasExited w r code shapes context_len context n) where
+  stands : (run : Run) × (slice_get is.schedule.machine.runs r ≡ Some (Some run)) ×
+      RunRefines is.tracks.refines.slots is.schedule.machine.store.elements is.schedule.machine.programs h.run run
+  stands = run-behind is.tracks.refines.slots is.schedule.machine.store.elements is.schedule.machine.programs h.run
+      (slice_get w.runs r) (slice_get is.schedule.machine.runs r) h.there (is.tracks.refines.runs r)
 
   same-program : stands.0.program ≡ h.program
-  same-program = same_Some stands.0.program h.program (sym stands.2.program ∙ (ap (λ (ps : List Loaded). slice_get ps h.run.program) (sym is.tracks.refines.programs) ∙ h.loaded))
+  same-program = same_Some stands.0.program h.program (sym stands.2.program ∙
+      (ap (λ (ps : List Loaded). slice_get ps h.run.program) (sym is.tracks.refines.programs) ∙ h.loaded))
 
   pub may_exit_as : MayExitAs code context n
   may_exit_as =
-      let x : MayExit stands.0 n = (reached_has_lived (shapes_of w) w.programs is.schedule is.ready.verified is.tracks.reached r stands.0 (ap option_flatten stands.1)).ended n (sym stands.2.exit ∙ h.ended) in record {
+      let x : MayExit stands.0 n = (reached_has_lived (shapes_of w) w.programs is.schedule is.ready.verified
+      is.tracks.reached r stands.0 (ap option_flatten stands.1)).ended n (sym stands.2.exit ∙ h.ended) in record {
         program = stands.0.program;
         code_is = ap (λ (l : Loaded). l.code) same-program ∙ h.code_is;
         steps = x.0;

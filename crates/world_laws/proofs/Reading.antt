@@ -29,7 +29,8 @@ use Rattle.world_laws.specs.WorldExample.{key_zero, value_263, example_world, ex
 use Rattle.std.specs.Option.{option_flatten}
 
 -- one event before others
-next : (w new : WorldView) (e : Event) (a : Answer) (es : List Event) → full_reaction w e ≡ (a, new) → (full_reactions w (e ∷ es)).0 ≡ a ∷ (full_reactions new es).0
+next : (w new : WorldView) (e : Event) (a : Answer) (es : List Event) → full_reaction w e ≡ (a, new) →
+    (full_reactions w (e ∷ es)).0 ≡ a ∷ (full_reactions new es).0
 next w new e a es h = ap (λ (x : Answer × WorldView). x.0 ∷ (full_reactions x.1 es).0) h
 
 -- the update
@@ -49,8 +50,15 @@ stocked = with_map 0 (filled_from fresh.free fresh key_zero.items value_263.item
 
 updates : full_reaction example_world (Update 0 key_zero value_263 0) ≡ (Ret (Ok tt), stocked)
 updates =
-    ap (λ (o : Option Errno). (Ret (updated_by o fresh key_zero.items value_263.items).0, with_map 0 (updated_by o fresh key_zero.items value_263.items).1 example_world)) no-error
-    ∙ ap (λ (o : Option ℕ). (Ret (Ok tt), with_map 0 (filled_from fresh.free (retired_slot fresh key_zero.items o) key_zero.items value_263.items) example_world)) (get-empty (slice_cmp nat_cmp) key_zero.items)
+    ap (λ (o : Option Errno). (
+      Ret (updated_by o fresh key_zero.items value_263.items).0,
+      with_map 0 (updated_by o fresh key_zero.items value_263.items).1 example_world,
+    )) no-error
+    ∙ ap (λ (o : Option ℕ). (
+      Ret (Ok tt),
+      with_map 0 (filled_from fresh.free (retired_slot fresh key_zero.items o)
+          key_zero.items value_263.items) example_world,
+    )) (get-empty (slice_cmp nat_cmp) key_zero.items)
 
 -- up to the lookup
 abbrev first : List Event
@@ -84,7 +92,8 @@ abbrev deleted_world : WorldView
 deleted_world = with_map 0 (retired_slot held key_zero.items (Some 0)) found
 
 -- (of any world, so that no whole world is compared)
-deletes-in : (w : WorldView) (v : MapView) (slot : ℕ) → slice_get w.maps 0 ≡ Some v → v.shape.key_len ≡ 4 → v.shape.kind ≡ Hash → get v.index key_zero.items ≡ Some slot
+deletes-in : (w : WorldView) (v : MapView) (slot : ℕ) → slice_get w.maps 0 ≡ Some v → v.shape.key_len ≡ 4 →
+    v.shape.kind ≡ Hash → get v.index key_zero.items ≡ Some slot
     → full_reaction w (Delete 0 key_zero) ≡ (Ret (Ok tt), with_map 0 (retired_slot v key_zero.items (Some slot)) w)
 deletes-in w v slot at long hash h =
     ap (λ (o : Option MapView). delete_at (key_refusal (shape_shown o) 4) o w 0 key_zero.items) at
@@ -103,7 +112,8 @@ abbrev rest : List Event
 rest = Advance ∷ Advance ∷ Reap ∷ Step 0 ∷ Step 0 ∷ Step 0 ∷ Advance ∷ Reap ∷ Step 0 ∷ Step 0 ∷ Drop 0 ∷ []
 
 abbrev rest_answers : List Answer
-rest_answers = Done ∷ Done ∷ Reaped None ∷ Moved ∷ Moved ∷ Moved ∷ Done ∷ Reaped (Some (record { map = 0; key = key_zero; given = Free })) ∷ Moved ∷ Exited 263 ∷ Done ∷ []
+rest_answers = Done ∷ Done ∷ Reaped None ∷ Moved ∷ Moved ∷ Moved ∷ Done
+    ∷ Reaped (Some (record { map = 0; key = key_zero; given = Free })) ∷ Moved ∷ Exited 263 ∷ Done ∷ []
 
 rest-answers : (full_reactions deleted_world rest).0 ≡ rest_answers
 rest-answers = refl

@@ -45,9 +45,12 @@ immediate-below (pos n) f = omega (arith, ints, f)
 immediate-below (negsuc n) f = omega arith
 
 -- the words after a move, over any elements
-pub move-refines : (slots : List ℕ) (es : List Element) (programs : List Loaded) (v : RunView) (run : Run) → RunRefines slots es programs v run → (registers frame : List ℕ) (place : ℕ) (next : State)
+pub move-refines : (slots : List ℕ) (es : List Element) (programs : List Loaded) (v : RunView) (run : Run) →
+    RunRefines slots es programs v run → (registers frame : List ℕ) (place : ℕ) (next : State)
     → length registers ≡ REGISTERS → ((q : ℕ) → q < REGISTERS → WordIs (element_bases slots es) (next.regs q) (slice_index registers q))
-    → length frame ≡ FRAME_BYTES → ((j : ℕ) → j < FRAME_BYTES → ByteIs (element_bases slots es) (next.frame j) (slice_index frame j)) → place ≡ next.place → RunRefines slots es programs (moved_view registers frame place v) (moves run next)
+    → length frame ≡ FRAME_BYTES → ((j : ℕ) → j < FRAME_BYTES →
+    ByteIs (element_bases slots es) (next.frame j) (slice_index frame j)) → place ≡ next.place →
+    RunRefines slots es programs (moved_view registers frame place v) (moves run next)
 move-refines slots es programs v run h registers frame place next register_count regs cells bytes at = record {
   program = h.program;
   context = h.context;
@@ -103,36 +106,59 @@ module _ (w : WorldView) (s : Schedule) (m : Matches w s) (sound : IsSound w s) 
       let slot = x.few_slots in
       (omega (arith, b, few, slot), omega (arith, b, few, slot))
 
-  pub reference-fits : (q : Reference) (x : ℕ) → IsReferenceWord bases q x → IsNearReference q → IsListed MAX_MAPS q → IsSure (scene_of s.machine.store run) (Pointer q) → IsBased bases q × (x < 2 ^ 64)
+  pub reference-fits : (q : Reference) (x : ℕ) → IsReferenceWord bases q x → IsNearReference q → IsListed MAX_MAPS q →
+      IsSure (scene_of s.machine.store run) (Pointer q) → IsBased bases q × (x < 2 ^ 64)
   reference-fits (Ctx o) x e n l h = (tt, omega (arith, ints, e, n))
   reference-fits (Frame o) x e n l h = (tt, omega (arith, ints, e, n))
   reference-fits (MapRef i) x e n l h = (tt, omega (arith, ints, e, l))
   reference-fits (Elem b o) x e n l h = let f = based (Elem b o) h in (f, omega (arith, ints, e, n, f.0, f.1))
 
-  pub value-fits : (u : Value) (x : ℕ) → u ≢ Nothing → WordIs bases u x → IsNear u → HoldsValue (IsListed MAX_MAPS) u → IsSure (scene_of s.machine.store run) u → x < 2 ^ 64
+  pub value-fits : (u : Value) (x : ℕ) → u ≢ Nothing → WordIs bases u x → IsNear u → HoldsValue (IsListed MAX_MAPS) u
+      → IsSure (scene_of s.machine.store run) u → x < 2 ^ 64
   value-fits Nothing x some e n l h = absurd (some refl)
   value-fits (Number a) x some e n l h = omega (arith, e, h)
   value-fits (Pointer q) x some e n l h = (reference-fits q x e n l h).1
 
   -- a step to a later run, which leaves the maps
-  pub moves-to : (i : Insn) (later : Run) (new : RunView) (answer : Answer) → insn_at run.program.code run.state.place ≡ Some i → InsnStep i s.machine.store (open_sections s.machine.runs) run answer s.machine.store later → Refines new later
+  pub moves-to : (i : Insn) (later : Run) (new : RunView) (answer : Answer) →
+      insn_at run.program.code run.state.place ≡ Some i →
+      InsnStep i s.machine.store (open_sections s.machine.runs) run answer s.machine.store later → Refines new later
       → Simulates s (events.Step r) (answer, with_run r (Some new) w)
-  moves-to i later new answer here step h = move_simulates w s m r run later v new answer k.there k.shown h (record { run = run; there = k.there; going = k.going; new_store = s.machine.store; new_run = later; step = (i, here, step); new_is = refl })
+  moves-to i later new answer here step h = move_simulates w s m r run later v new answer k.there k.shown h
+      (record {
+        run = run;
+        there = k.there;
+        going = k.going;
+        new_store = s.machine.store;
+        new_run = later;
+        step =
+            (i, here, step);
+        new_is = refl;
+      })
 
   -- what the run has after a step is near
-  pub near-after : (i : Insn) (next : State) → insn_at run.program.code run.state.place ≡ Some i → InsnStep i s.machine.store (open_sections s.machine.runs) run Moved s.machine.store (moves run next) → AreNear next.regs next.frame
+  pub near-after : (i : Insn) (next : State) → insn_at run.program.code run.state.place ≡ Some i →
+      InsnStep i s.machine.store (open_sections s.machine.runs) run Moved s.machine.store (moves run next) →
+      AreNear next.regs next.frame
   near-after i next here step =
       let t = typed s.machine r run sound.well k.there k.going in
-      let l = t.safe.verified.closed.leads t.index i s.machine.store (open_sections s.machine.runs) run Moved s.machine.store (moves run next) (surrounds s.machine r run sound.well k.there k.going t) (t.planned t.safe.verified) here step in
+      let l = t.safe.verified.closed.leads t.index i s.machine.store (open_sections s.machine.runs) run Moved
+      s.machine.store (moves run next) (surrounds s.machine r run sound.well k.there k.going t)
+      (t.planned t.safe.verified) here step in
       (l.1 k.going).planned.describes.near
 
   -- the words after a move
-  pub moved-refines : (registers frame : List ℕ) (place : ℕ) (next : State) → length registers ≡ REGISTERS → ((q : ℕ) → q < REGISTERS → WordIs bases (next.regs q) (slice_index registers q))
-      → length frame ≡ FRAME_BYTES → ((j : ℕ) → j < FRAME_BYTES → ByteIs bases (next.frame j) (slice_index frame j)) → place ≡ next.place → Refines (moved_view registers frame place v) (moves run next)
-  moved-refines registers frame place next register_count regs cells bytes at = move-refines slots es s.machine.programs v run refines registers frame place next register_count regs cells bytes at
+  pub moved-refines : (registers frame : List ℕ) (place : ℕ) (next : State) → length registers ≡ REGISTERS →
+      ((q : ℕ) → q < REGISTERS → WordIs bases (next.regs q) (slice_index registers q))
+      → length frame ≡ FRAME_BYTES → ((j : ℕ) → j < FRAME_BYTES → ByteIs bases (next.frame j) (slice_index frame j)) →
+      place ≡ next.place → Refines (moved_view registers frame place v) (moves run next)
+  moved-refines registers frame place next register_count regs cells bytes at =
+      move-refines slots es s.machine.programs v run refines registers frame place next register_count regs cells
+      bytes at
 
   -- what the run stands for when the maps have changed
-  pub half-refines : (store : Store) (u : WorldView) (y : RefinesSchedule u (half s store)) → u.runs ≡ w.runs → RunRefines y.slots store.elements s.machine.programs v run
+  pub half-refines : (store : Store) (u : WorldView) (y : RefinesSchedule u (half s store)) → u.runs ≡ w.runs →
+      RunRefines y.slots store.elements s.machine.programs v run
   half-refines store u y same =
       subst (λ o. RunSlotRefines y.slots store.elements s.machine.programs o (Some (Some run))) (ap (λ runs. slice_get runs r) same ∙ k.shown)
       (subst (RunSlotRefines y.slots store.elements s.machine.programs (slice_get u.runs r)) (flattened (slice_get s.machine.runs r) run k.there) (y.runs r))

@@ -1,5 +1,6 @@
 -- Whatever may be replied to what a run asks, the plan describes the run that goes on with it.
-use Rattle.std.proofs.Common.{◌≡◌, ℕ, ◌+◌, ◌^◌, ◌<◌, ◌≤◌, ◌⊎◌, inl, inr, refl, sym, ap, subst, ◌∙◌, arith, List, [], ◌∷◌, length, map, Option, Some, None, false}
+use Rattle.std.proofs.Common.{◌≡◌, ℕ, ◌+◌, ◌^◌, ◌<◌, ◌≤◌, ◌⊎◌, inl, inr, refl, sym, ap, subst, ◌∙◌, arith, List, []}
+use Rattle.std.proofs.Common.{◌∷◌, length, map, Option, Some, None, false}
 use Rattle.std.specs.Prelude.{slice_get, slice_set, ℤ, pos}
 use Rattle.std.proofs.lemmas.Option.{none-some, same_Some}
 use Rattle.bpf_model.specs.declared.call.Helper.TheVariants.{Lookup}
@@ -19,7 +20,8 @@ use Rattle.bpf_model.specs.MachineStep.{InsnStep}
 use Rattle.bpf_model.specs.Element.{loaded_from, stored_in}
 use Rattle.bpf_model.specs.Access.{with_bytes}
 use Rattle.bpf_model.specs.MapState.{Store, new_map}
-use Rattle.bpf_model.specs.Request.{Request, LoadElement, StoreElement, CallHelper, Enter, Leave, MapArgument, BytesArgument, ServesRequest, asks, bound_shape, resumed}
+use Rattle.bpf_model.specs.Request.{Request, LoadElement, StoreElement, CallHelper, Enter, Leave, MapArgument}
+use Rattle.bpf_model.specs.Request.{BytesArgument, ServesRequest, asks, bound_shape, resumed}
 use Rattle.bpf_model.specs.MachineStep.{StepsAlone, StepsServed, Resumes}
 use Rattle.bpf_model.specs.Section.{Section}
 use Rattle.bpf_model.specs.Step.{insn_at}
@@ -34,10 +36,14 @@ use Rattle.typed_runs.proofs.Elements.{offset_some, with-bytes}
 use Rattle.typed_runs.proofs.Kept.{Keeps}
 use Rattle.world_laws.specs.Around.{map_of, regions, element_in_region, key_length, value_length, element_of, elements_by, births, elements_around, store_of}
 use Rattle.world_laws.proofs.StandingBytes.{number-back}
-use Rattle.world_laws.proofs.Contents.{get-by, by-below, by-is, IsContent, plain-content, single-one, life-unlinked, Guards, keeps-by, keeps-list, changed_at, changed-here, changed-all, linked-at, Touched, touched, touch}
+use Rattle.world_laws.proofs.Contents.{get-by, by-below, by-is, IsContent, plain-content, single-one, life-unlinked}
+use Rattle.world_laws.proofs.Contents.{Guards, keeps-by, keeps-list, changed_at, changed-here, changed-all, linked-at}
+use Rattle.world_laws.proofs.Contents.{Touched, touched, touch}
 use Rattle.world_laws.proofs.Described.{Described, surrounds, planned, plain-single, plain-guards, stepped}
 
-module _ (code : List Insn) (shapes : List MapShape) (ctx_len : ℕ) (plan : Plan) (closed : IsClosed code shapes ctx_len plan) (around : List MapShape) (run : Run) (x : Described code shapes ctx_len plan closed around run) where
+module _ (code : List Insn) (shapes : List MapShape) (ctx_len : ℕ) (plan : Plan)
+    (closed : IsClosed code shapes ctx_len plan) (around : List MapShape) (run : Run)
+    (x : Described code shapes ctx_len plan closed around run) where
   abbrev pub shown : Store
   shown = store_of around []
 
@@ -62,11 +68,16 @@ module _ (code : List Insn) (shapes : List MapShape) (ctx_len : ℕ) (plan : Pla
 
   pub goes : (i : Insn) → insn_at code run.state.place ≡ Some i → GoesOnReplied i
   goes i here =
-      let g = closed.goes x.index (over base) (sec ∷ []) run (surrounds code shapes ctx_len plan closed around run x base (plain-content around sec) (plain-single code shapes ctx_len plan closed around run x)) (planned code shapes ctx_len plan closed around run x base (plain-guards code shapes ctx_len plan closed around run x)) in
+      let g = closed.goes x.index (over base) (sec ∷ []) run
+      (surrounds code shapes ctx_len plan closed around run x base (plain-content around sec)
+      (plain-single code shapes ctx_len plan closed around run x))
+      (planned code shapes ctx_len plan closed around run x base
+      (plain-guards code shapes ctx_len plan closed around run x)) in
       let same : g.0 ≡ i = same_Some g.0 i (sym g.1 ∙ here) in
       record { answer = g.2.0; store = g.2.1; new = g.2.2; step = subst (λ (j : Insn). InsnStep j (over base) (sec ∷ []) run g.2.0 g.2.1 g.2.2) same g.2.3 }
 
-  module _ (i : Insn) (here : insn_at code run.state.place ≡ Some i) (request : Request) (asked : asks i (bound_shape shown run.program.maps) run.state ≡ Some request) where
+  module _ (i : Insn) (here : insn_at code run.state.place ≡ Some i) (request : Request)
+      (asked : asks i (bound_shape shown run.program.maps) run.state ≡ Some request) where
     -- how it is served over those
     pub record Served : Type 0 where
       pub reply : Value
@@ -75,8 +86,11 @@ module _ (code : List Insn) (shapes : List MapShape) (ctx_len : ℕ) (plan : Pla
       pub serves : ServesRequest run.program.maps request (over base) (sec ∷ []) reply store
       pub resumes : Resumes request i reply run new
 
-    served-by : (answer : Answer) (store : Store) (new : Run) → (StepsAlone i (over base) run answer store new ⊎ StepsServed i (over base) (sec ∷ []) run answer store new) → Served
-    served-by answer store new (inl a) = absurd (none-some a.0 (sym (asks_or_acts i (bound_shape shown run.program.maps) (environment run) run.state request asked) ∙ a.1))
+    served-by : (answer : Answer) (store : Store) (new : Run) →
+        (StepsAlone i (over base) run answer store new ⊎ StepsServed i (over base) (sec ∷ []) run answer store new) →
+        Served
+    served-by answer store new (inl a) = absurd (none-some a.0
+        (sym (asks_or_acts i (bound_shape shown run.program.maps) (environment run) run.state request asked) ∙ a.1))
     served-by answer store new (inr s) =
         let same : s.request ≡ request = same_Some s.request request (sym s.asked ∙ asked) in
         record {
@@ -93,14 +107,19 @@ module _ (code : List Insn) (shapes : List MapShape) (ctx_len : ℕ) (plan : Pla
         served-by g.answer g.store g.new g.step
 
     -- a reply that some contents give
-    replied : (f : ℕ → Element) → IsContent around f → IsSingle (elements_by (births around) f) → Guards sec base f → (reply : Value) (es : List Element) (new : Run) → ServesRequest run.program.maps request (over f) (sec ∷ []) reply (store_of around es) → Resumes request i reply run new
+    replied : (f : ℕ → Element) → IsContent around f → IsSingle (elements_by (births around) f) → Guards sec base f →
+        (reply : Value) (es : List Element) (new : Run) →
+        ServesRequest run.program.maps request (over f) (sec ∷ []) reply (store_of around es) →
+        Resumes request i reply run new
         → Keeps (scene_of (store_of around es) new) (scene_of (store_of around (elements_around around (section_of new))) new) → Goal new
     replied f c single g reply es new serves resumes keeps =
         stepped code shapes ctx_len plan closed around run x f c single g i here es new
         (inr (record { request = request; reply = reply; asked = asked; served = serves; answer_is = refl; resumes = resumes })) keeps
 
   -- other contents at one number
-  special-content : (n : ℕ) (e : Element) → e.map ≡ map_of n → length e.key ≡ key_length (slice_get around (map_of n)) → length e.value ≡ value_length (slice_get around (map_of n)) → AreBytes e.value → is_reclaimed e.life ≡ false → IsContent around (changed_at n e base)
+  special-content : (n : ℕ) (e : Element) → e.map ≡ map_of n → length e.key ≡ key_length (slice_get around (map_of n))
+      → length e.value ≡ value_length (slice_get around (map_of n)) → AreBytes e.value → is_reclaimed e.life ≡ false →
+      IsContent around (changed_at n e base)
   special-content n e in_map key value bytes kept =
       let c = plain-content around sec in
       record {
@@ -128,7 +147,8 @@ module _ (code : List Insn) (shapes : List MapShape) (ctx_len : ℕ) (plan : Pla
     Asked request = asks i (bound_shape shown run.program.maps) run.state ≡ Some request
 
     -- a load finds any number
-    pub load-replied : (n : ℕ) (o : ℤ) (width v : ℕ) → v < 256 ^ width → Asked (LoadElement n o width) → (new : Run) → new ≡ moves run (resumed i (Number v) run.state) → Goal new
+    pub load-replied : (n : ℕ) (o : ℤ) (width v : ℕ) → v < 256 ^ width → Asked (LoadElement n o width) → (new : Run) →
+        new ≡ moves run (resumed i (Number v) run.state) → Goal new
     load-replied n o width v small asked new is =
         let s = served i here (LoadElement n o width) asked in
         let h = s.serves in
@@ -149,31 +169,53 @@ module _ (code : List Insn) (shapes : List MapShape) (ctx_len : ℕ) (plan : Pla
         ∙ ap (λ r. r >>= λ at. number_at (slice_get e.value) at width) region ∙ number-back width g.0 v zeros inside small in
         let content = special-content n e refl (c.key n) (long ∙ c.value n) (with-bytes g.0 width v zeros (c.bytes n)) refl in
         subst (Goal) (sym is)
-        (replied i here (LoadElement n o width) asked all content (single-one (births around) all n (λ k l. absurd (life-unlinked sec (sym (changed-all (λ j y. y.life ≡ Unlinked (sec ∷ [])) n e base refl (λ j. refl) k) ∙ l))))
+        (replied i here (LoadElement n o width) asked all content
+        (single-one (births around) all n (λ k l. absurd
+        (life-unlinked sec (sym (changed-all (λ j y. y.life ≡ Unlinked (sec ∷ [])) n e base refl (λ j. refl) k) ∙
+        l))))
         (special-guards n e refl (λ y. y)) (Number v) (elements_by (births around) all) (moves run (resumed i (Number v) run.state)) (v, loads, refl, refl) refl
         (keeps-by around all base (moves run (resumed i (Number v) run.state)) (back-guards n e refl)))
 
     -- a store is made
-    set-at : (n width : ℕ) (o : ℤ) (v : ℕ) (y : Element) (es : List Element) → Touched around sec n y → stored_in (elements_by (births around) base) n width o v y ≡ Some es
+    set-at : (n width : ℕ) (o : ℤ) (v : ℕ) (y : Element) (es : List Element) → Touched around sec n y →
+        stored_in (elements_by (births around) base) n width o v y ≡ Some es
         → (k : ℕ) (e : Element) → slice_get es k ≡ Some e → (k < births around) × ((base k).map ≡ e.map) × (IsGuarded e.life sec → IsGuarded (base k).life sec)
     set-at n width o v y es t h k e at =
         let all = elements_by (births around) base in
         let g = first-step (region_offset (length y.value) width o) (λ p. Some (changed (with_value (with_bytes p width v y.value)) all n)) es h in
         let one : Element → Element = with_value (with_bytes g.0 width v y.value) in
-        let is : slice_set all n (one (base n)) ≡ es = ap (λ (z : Option Element). set_to one all n z) (sym (get-by (births around) base n t.below)) ∙ same_Some (changed one all n) es g.2 in
+        let is : slice_set all n (one (base n)) ≡ es =
+        ap (λ (z : Option Element). set_to one all n z) (sym (get-by (births around) base n t.below)) ∙
+        same_Some (changed one all n) es g.2 in
         elim (get-set_cases all n k (one (base n)) e (ap (λ (l : List Element). slice_get l k) is ∙ at)) [
-          | inl z ↦ subst (λ (j : ℕ). (j < births around) × ((base j).map ≡ e.map) × (IsGuarded e.life sec → IsGuarded (base j).life sec)) (sym z.0) (t.below, ap (λ (w : Element). w.map) z.1, λ q. subst (λ (w : Element). IsGuarded w.life sec) (sym z.1) q)
-          | inr z ↦ (let w = by-is (births around) base k e z.1 in (by-below (births around) base k e z.1, ap (λ (u : Element). u.map) w, λ q. subst (λ (u : Element). IsGuarded u.life sec) (sym w) q))
+          | inl z ↦ subst (λ (j : ℕ). (j < births around) × ((base j).map ≡ e.map) ×
+              (IsGuarded e.life sec → IsGuarded (base j).life sec)) (sym z.0) (
+                t.below,
+                ap (λ (w : Element). w.map) z.1,
+                λ q.
+                    subst (λ (w : Element). IsGuarded w.life sec) (sym z.1) q,
+              )
+          | inr z ↦ (let w = by-is (births around) base k e
+              z.1 in (
+                by-below (births around) base k e z.1,
+                ap (λ (u : Element). u.map) w,
+                λ q.
+                    subst (λ (u : Element). IsGuarded u.life sec) (sym w) q,
+              ))
         ]
 
-    pub store-replied : (n : ℕ) (o : ℤ) (width v : ℕ) → Asked (StoreElement n o width v) → (new : Run) → new ≡ moves run (resumed i Nothing run.state) → Goal new
+    pub store-replied : (n : ℕ) (o : ℤ) (width v : ℕ) → Asked (StoreElement n o width v) → (new : Run) →
+        new ≡ moves run (resumed i Nothing run.state) → Goal new
     store-replied n o width v asked new is =
         let s = served i here (StoreElement n o width v) asked in
         let h = s.serves in
         let f = first-step (accessible (elements_by (births around) base) n) (stored_in (elements_by (births around) base) n width o v) h.0 h.1 in
         let t = touched around sec n f.0 f.1 in
         subst (Goal) (sym is)
-        (replied i here (StoreElement n o width v) asked base (plain-content around sec) (plain-single code shapes ctx_len plan closed around run x) (plain-guards code shapes ctx_len plan closed around run x) Nothing h.0 (moves run (resumed i Nothing run.state)) (h.0, h.1, refl, refl) refl
+        (replied i here (StoreElement n o width v) asked base (plain-content around sec)
+        (plain-single code shapes ctx_len plan closed around run x)
+        (plain-guards code shapes ctx_len plan closed around run x) Nothing h.0
+        (moves run (resumed i Nothing run.state)) (h.0, h.1, refl, refl) refl
         (keeps-list around h.0 base (moves run (resumed i Nothing run.state)) (set-at n width o v f.0 h.0 t f.2)))
 
     -- a section opens, or ends
@@ -181,14 +223,20 @@ module _ (code : List Insn) (shapes : List MapShape) (ctx_len : ℕ) (plan : Pla
     enter-replied asked new h =
         let later = moves (locked run) (resumed i Nothing run.state) in
         subst (Goal) (sym h.1)
-        (replied i here Enter asked base (plain-content around sec) (plain-single code shapes ctx_len plan closed around run x) (plain-guards code shapes ctx_len plan closed around run x) Nothing (elements_by (births around) base) later (refl, refl) (h.0, refl)
+        (replied i here Enter asked base (plain-content around sec)
+        (plain-single code shapes ctx_len plan closed around run x)
+        (plain-guards code shapes ctx_len plan closed around run x) Nothing (elements_by (births around) base)
+        later (refl, refl) (h.0, refl)
         (keeps-by around base (element_of around (section_of later)) later (record { same = λ k. refl; guard = λ k g. (0, refl) })))
 
     pub leave-replied : Asked Leave → (new : Run) → Resumes Leave i Nothing run new → Goal new
     leave-replied asked new h =
         let later = moves (unlocked run) (resumed i Nothing run.state) in
         subst Goal (sym h.1)
-        (replied i here Leave asked base (plain-content around sec) (plain-single code shapes ctx_len plan closed around run x) (plain-guards code shapes ctx_len plan closed around run x) Nothing (elements_by (births around) base) later (refl, refl) (h.0, refl)
+        (replied i here Leave asked base (plain-content around sec)
+        (plain-single code shapes ctx_len plan closed around run x)
+        (plain-guards code shapes ctx_len plan closed around run x) Nothing (elements_by (births around) base)
+        later (refl, refl) (h.0, refl)
         (keeps-by around base (element_of around (section_of later)) later (record { same = λ k. refl; guard = λ k g. (0, refl) })))
 
     -- a lookup finds nothing, or any slot
@@ -198,12 +246,20 @@ module _ (code : List Insn) (shapes : List MapShape) (ctx_len : ℕ) (plan : Pla
     pub miss-replied : (map : ℕ) (key : List ℕ) → Asked (Finding map key) → (new : Run) → new ≡ moves run (resumed i (Number 0) run.state) → Goal new
     miss-replied map key asked new is =
         let h = (served i here (Finding map key) asked).serves in
-        let absent : IsAbsent (elements_by (births around) base) h.0 key = λ n l. life-unlinked sec (ap (λ (e : Element). e.life) (by-is (births around) base n l.element l.born) ∙ l.linked) in
+        let absent : IsAbsent (elements_by (births around) base) h.0 key = λ n l.
+        life-unlinked sec (ap (λ (e : Element). e.life) (by-is (births around) base n l.element l.born) ∙
+        l.linked) in
         subst (Goal) (sym is)
-        (replied i here (Finding map key) asked base (plain-content around sec) (plain-single code shapes ctx_len plan closed around run x) (plain-guards code shapes ctx_len plan closed around run x) (Number 0) (elements_by (births around) base) (moves run (resumed i (Number 0) run.state))
+        (replied i here (Finding map key) asked base (plain-content around sec)
+        (plain-single code shapes ctx_len plan closed around run x)
+        (plain-guards code shapes ctx_len plan closed around run x) (Number 0) (elements_by (births around) base)
+        (moves run (resumed i (Number 0) run.state))
         (h.0, None, h.2, absent, refl, refl) refl (record { held = λ m n y. y; depth = refl }))
 
-    pub hit-replied : (i' map region : ℕ) (key : List ℕ) → map < length around → slice_get run.program.maps i' ≡ Some map → region < regions → Asked (Finding i' key) → length key ≡ key_length (slice_get around map) → (new : Run) → new ≡ moves run (resumed i (Pointer (Elem (element_in_region map region) (pos 0))) run.state) → Goal new
+    pub hit-replied : (i' map region : ℕ) (key : List ℕ) → map < length around →
+        slice_get run.program.maps i' ≡ Some map → region < regions → Asked (Finding i' key) →
+        length key ≡ key_length (slice_get around map) → (new : Run) →
+        new ≡ moves run (resumed i (Pointer (Elem (element_in_region map region) (pos 0))) run.state) → Goal new
     hit-replied i' map region key there bound small asked long new is =
         let n = element_in_region map region in
         let of_map : map_of n ≡ map = omega (arith, small) in
@@ -220,8 +276,10 @@ module _ (code : List Insn) (shapes : List MapShape) (ctx_len : ℕ) (plan : Pla
         } in
         let reply = Pointer (Elem n (pos 0)) in
         subst Goal (sym is)
-        (replied i here (Finding i' key) asked all (special-content n e refl (long ∙ ap (λ k. key_length (slice_get around k)) (sym of_map)) (c.value n) (c.bytes n) refl)
+        (replied i here (Finding i' key) asked all (special-content n e refl
+        (long ∙ ap (λ k. key_length (slice_get around k)) (sym of_map)) (c.value n) (c.bytes n) refl)
         (single-one (births around) all n (linked-at n e base (λ k l. life-unlinked sec l)))
-        (special-guards n e refl (λ g. tt)) reply (elements_by (births around) all) (moves run (resumed i reply run.state)) (map, Some n, bound, found, refl, refl) refl
+        (special-guards n e refl (λ g. tt)) reply (elements_by (births around) all)
+        (moves run (resumed i reply run.state)) (map, Some n, bound, found, refl, refl) refl
         (keeps-by around all base (moves run (resumed i reply run.state))
         (back-guards n e refl)))

@@ -26,7 +26,8 @@ pub record Shown (w : WorldView) (s : Schedule) (x : RefinesSchedule w s) (n : �
   pub few_slots : slice_index x.slots n < most_map_slots
   pub base : element_bases x.slots s.machine.store.elements n ≡ slot_base e.map (slice_index x.slots n)
 
-module _ (w : WorldView) (s : Schedule) (x : RefinesSchedule w s) (well : IsWell s.machine) (limits : AreShapes (shapes_of w)) (maps : length w.maps ≤ MAX_MAPS) where
+module _ (w : WorldView) (s : Schedule) (x : RefinesSchedule w s) (well : IsWell s.machine)
+    (limits : AreShapes (shapes_of w)) (maps : length w.maps ≤ MAX_MAPS) where
   pub shape-of : (k : ℕ) (v : MapView) → slice_get w.maps k ≡ Some v → IsShape v.shape
   shape-of k v at = limits k v.shape (slice_get-map (λ v. v.shape) w.maps k ∙ ap (option_map (λ v. v.shape)) at)
 

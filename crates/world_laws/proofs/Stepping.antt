@@ -26,7 +26,8 @@ use Rattle.view_laws.proofs.Reacting.{reaction_simulates}
 use Rattle.world_laws.specs.Reacting.{insn_step, step_at, step_in, run_step_of, word_step, or_step, full_reaction}
 use Rattle.world_laws.specs.Typed.{IsSound, IsRunning}
 use Rattle.world_laws.proofs.Ready.{refines}
-use Rattle.world_laws.proofs.Own.{alu-simulates, unary-simulates, number-simulates, map-simulates, jump-simulates, long-simulates, branch-simulates, exit-simulates}
+use Rattle.world_laws.proofs.Own.{alu-simulates, unary-simulates, number-simulates, map-simulates, jump-simulates}
+use Rattle.world_laws.proofs.Own.{long-simulates, branch-simulates, exit-simulates}
 use Rattle.world_laws.proofs.Loading.{load-simulates, load-signed-simulates, element-load-simulates, element-load-signed-simulates}
 use Rattle.world_laws.proofs.Storing.{store-simulates, element-store-simulates}
 use Rattle.world_laws.proofs.Calling.{kernel-simulates, helper-simulates}
@@ -35,37 +36,55 @@ use Rattle.std.specs.Option.{option_flatten}
 use Rattle.model_laws.proofs.Requests.{by_kind}
 
 module _ (w : WorldView) (s : Schedule) (m : Matches w s) (sound : IsSound w s) (r : ℕ) (run : Run) (v : RunView) (k : IsRunning w s r run v) where
-  pub own_step_simulates : (i : Insn) (out : Outcome) (answer : Answer) (later : Run) → insn_at run.program.code run.state.place ≡ Some i → after i (environment run) run.state ≡ Some out → OutcomeStep out run answer later → Simulates s (events.Step r) (insn_step i run.program r v w)
+  pub own_step_simulates : (i : Insn) (out : Outcome) (answer : Answer) (later : Run) →
+      insn_at run.program.code run.state.place ≡ Some i → after i (environment run) run.state ≡ Some out →
+      OutcomeStep out run answer later → Simulates s (events.Step r) (insn_step i run.program r v w)
   own_step_simulates (Alu op size dst src) out answer later here e ends = alu-simulates w s m sound r run v k op size dst src out here e
   own_step_simulates (Unary op dst) out answer later here e ends = unary-simulates w s m sound r run v k op dst out here e
   own_step_simulates (LoadNumber dst n) out answer later here e ends = number-simulates w s m sound r run v k dst n out here e
   own_step_simulates (LoadMap dst map) out answer later here e ends = map-simulates w s m sound r run v k dst map out here e
   own_step_simulates (Jump offset) out answer later here e ends = jump-simulates w s m sound r run v k offset out here e
   own_step_simulates (JumpLong imm) out answer later here e ends = long-simulates w s m sound r run v k imm out here e
-  own_step_simulates (JumpIf condition size dst src offset) out answer later here e ends = branch-simulates w s m sound r run v k condition size dst src offset out here e
+  own_step_simulates (JumpIf condition size dst src offset) out answer later here e ends =
+      branch-simulates w s m sound r run v k condition size dst src offset out here e
   own_step_simulates (Call kind imm) out answer later here e ends = absurd (none-some out e)
   own_step_simulates Exit out answer later here e ends = exit-simulates w s m sound r run v k out answer later here e ends
   own_step_simulates (Load width dst src offset) out answer later here e ends = load-simulates w s m sound r run v k width dst src offset out here e
-  own_step_simulates (LoadSigned width dst src offset) out answer later here e ends = load-signed-simulates w s m sound r run v k width dst src offset out here e
+  own_step_simulates (LoadSigned width dst src offset) out answer later here e ends =
+      load-signed-simulates w s m sound r run v k width dst src offset out here e
   own_step_simulates (Store width dst offset src) out answer later here e ends = store-simulates w s m sound r run v k width dst offset src here out e
 
-  pub access_simulates : (i : Insn) (out : Outcome) (es : List Element) (answer : Answer) (later : Run) → insn_at run.program.code run.state.place ≡ Some i → AccessesElement i s.machine.store.elements run.state out es → OutcomeStep out run answer later → Simulates s (events.Step r) (insn_step i run.program r v w)
-  access_simulates (Load width dst src offset) out es answer later here h ends = element-load-simulates w s m sound r run v k width dst src offset out here (h.0, h.1, h.2, refl)
-  access_simulates (LoadSigned width dst src offset) out es answer later here h ends = element-load-signed-simulates w s m sound r run v k width dst src offset out here (h.0, h.1, h.2, refl)
+  pub access_simulates : (i : Insn) (out : Outcome) (es : List Element) (answer : Answer) (later : Run) →
+      insn_at run.program.code run.state.place ≡ Some i → AccessesElement i s.machine.store.elements run.state out es
+      → OutcomeStep out run answer later → Simulates s (events.Step r) (insn_step i run.program r v w)
+  access_simulates (Load width dst src offset) out es answer later here h ends =
+      element-load-simulates w s m sound r run v k width dst src offset out here (h.0, h.1, h.2, refl)
+  access_simulates (LoadSigned width dst src offset) out es answer later here h ends =
+      element-load-signed-simulates w s m sound r run v k width dst src offset out here (h.0, h.1, h.2, refl)
   access_simulates (Store width dst offset src) out es answer later here h ends = element-store-simulates w s m sound r run v k width dst offset src here es h.0
   access_simulates i out es answer later here h ends = absurd h
 
-  acts-simulates : (i : Insn) (out : Outcome) (es : List Element) (answer : Answer) (later : Run) → insn_at run.program.code run.state.place ≡ Some i → Acts i (environment run) s.machine.store.elements run.state out es → OutcomeStep out run answer later → Simulates s (events.Step r) (insn_step i run.program r v w)
+  acts-simulates : (i : Insn) (out : Outcome) (es : List Element) (answer : Answer) (later : Run) →
+      insn_at run.program.code run.state.place ≡ Some i →
+      Acts i (environment run) s.machine.store.elements run.state out es → OutcomeStep out run answer later →
+      Simulates s (events.Step r) (insn_step i run.program r v w)
   acts-simulates i out es answer later here (inl h) ends = own_step_simulates i out answer later here h.0 ends
   acts-simulates i out es answer later here (inr h) ends = access_simulates i out es answer later here h ends
 
-  kind-simulates : (i : Insn) (answer : Answer) (new_store : map_state.Store) (later : Run) → insn_at run.program.code run.state.place ≡ Some i → StepsByKind i s.machine.store (open_sections s.machine.runs) run answer new_store later → Simulates s (events.Step r) (insn_step i run.program r v w)
+  kind-simulates : (i : Insn) (answer : Answer) (new_store : map_state.Store) (later : Run) →
+      insn_at run.program.code run.state.place ≡ Some i →
+      StepsByKind i s.machine.store (open_sections s.machine.runs) run answer new_store later →
+      Simulates s (events.Step r) (insn_step i run.program r v w)
   kind-simulates (Call kinds.Kernel imm) answer new_store later here h = kernel-simulates w s m sound r run v k imm later (kernel_function_of imm) here refl h.0
   kind-simulates (Call kinds.Helper imm) answer new_store later here h = helper-simulates w s m sound r run v k imm h.0 new_store (helper_of imm) here refl h.1
   kind-simulates i answer new_store later here h = acts-simulates i h.0 h.1 answer later here h.2 h.4
 
-  pub insn_simulates : (i : Insn) (answer : Answer) (new_store : map_state.Store) (later : Run) → insn_at run.program.code run.state.place ≡ Some i → InsnStep i s.machine.store (open_sections s.machine.runs) run answer new_store later → Simulates s (events.Step r) (insn_step i run.program r v w)
-  insn_simulates i answer new_store later here h = kind-simulates i answer new_store later here (by_kind i s.machine.store (open_sections s.machine.runs) run answer new_store later h)
+  pub insn_simulates : (i : Insn) (answer : Answer) (new_store : map_state.Store) (later : Run) →
+      insn_at run.program.code run.state.place ≡ Some i →
+      InsnStep i s.machine.store (open_sections s.machine.runs) run answer new_store later →
+      Simulates s (events.Step r) (insn_step i run.program r v w)
+  insn_simulates i answer new_store later here h = kind-simulates i answer new_store later here
+      (by_kind i s.machine.store (open_sections s.machine.runs) run answer new_store later h)
 
   -- the run's step, whichever it is
   pub step_simulates : Simulates s (events.Step r) (word_step w r)
@@ -96,7 +115,8 @@ module _ (w : WorldView) (s : Schedule) (m : Matches w s) (sound : IsSound w s) 
   running-step r e =
       let x = going-shown (option_flatten (slice_get w.runs r)) e in
       let at = flattened (slice_get w.runs r) x.0 x.1 in
-      let y = run-behind m.refines.slots s.machine.store.elements s.machine.programs x.0 (slice_get w.runs r) (slice_get s.machine.runs r) at (m.refines.runs r) in
+      let y = run-behind m.refines.slots s.machine.store.elements s.machine.programs x.0 (slice_get w.runs r)
+      (slice_get s.machine.runs r) at (m.refines.runs r) in
       step_simulates w s m sound r y.0 x.0 (record { there = ap option_flatten y.1; shown = at; going = sym y.2.exit ∙ x.2 })
 
   left : (event : Event) → reaction w event ≡ None → Simulates s event (or_step None w event)

@@ -56,13 +56,24 @@ abbrev pub emptied : ℕ → State → State
 emptied q m = record { regs = put q Nothing m.regs; frame = m.frame; place = m.place }
 
 abbrev pub emptied_run : ℕ → Run → Run
-emptied_run q run = record { name = run.name; program = run.program; context = run.context; state = emptied q run.state; depth = run.depth; locks = run.locks; moved = run.moved; exit = run.exit }
+emptied_run q run = record {
+  name = run.name;
+  program = run.program;
+  context = run.context;
+  state =
+      emptied q run.state;
+  depth = run.depth;
+  locks = run.locks;
+  moved = run.moved;
+  exit = run.exit;
+}
 
 near-emptied : (b : Bool) (v : Value) → IsNear v → IsNear (if b then Nothing else v)
 near-emptied true v n = tt
 near-emptied false v n = n
 
-of-emptied : (c : Scene) (ρ : Naming) (kinds : ℕ → Kind) (values : ℕ → Value) (q j : ℕ) (b : Bool) → (j == q) ≡ b → IsLoose (kinds q) → IsOf c ρ (kinds j) (values j) → IsOf c ρ (kinds j) (if b then Nothing else values j)
+of-emptied : (c : Scene) (ρ : Naming) (kinds : ℕ → Kind) (values : ℕ → Value) (q j : ℕ) (b : Bool) → (j == q) ≡ b →
+    IsLoose (kinds q) → IsOf c ρ (kinds j) (values j) → IsOf c ρ (kinds j) (if b then Nothing else values j)
 of-emptied c ρ kinds values q j true e l h = loose-of c ρ (kinds j) Nothing (subst (λ j. IsLoose (kinds j)) (sym (eqb-true j q e)) l)
 of-emptied c ρ kinds values q j false e l h = h
 
@@ -88,7 +99,9 @@ module _ (m : Machine) (r : ℕ) (run : Run) (w : IsWell m) (at : run_at m.runs 
   run-near = described.describes.near
 
   -- a loose register is emptied, and there is a step all the same
-  steps-emptied : (q : ℕ) → IsLoose (described.known.regs q) → (i : Insn) × (insn_at run.program.code run.state.place ≡ Some i) × HasStep i m.store (open_sections m.runs) (emptied_run q run)
+  steps-emptied : (q : ℕ) → IsLoose (described.known.regs q) → (i : Insn) ×
+      (insn_at run.program.code run.state.place ≡ Some i) ×
+      HasStep i m.store (open_sections m.runs) (emptied_run q run)
   steps-emptied q l =
       let s = surrounds m r run w at going typed in
       typed.safe.verified.closed.goes typed.index m.store (open_sections m.runs) (emptied_run q run) (record {
@@ -109,7 +122,10 @@ module _ (m : Machine) (r : ℕ) (run : Run) (w : IsWell m) (at : run_at m.runs 
       })
 
   -- where there is none, the register is sure
-  pub sure : (i : Insn) (q : ℕ) → insn_at run.program.code run.state.place ≡ Some i → (HasStep i m.store (open_sections m.runs) (emptied_run q run) → ⊥) → IsSure (scene_of m.store run) (run.state.regs q)
+  pub sure : (i : Insn) (q : ℕ) → insn_at run.program.code run.state.place ≡ Some i →
+      (HasStep i m.store (open_sections m.runs) (emptied_run q run) → ⊥) →
+      IsSure (scene_of m.store run) (run.state.regs q)
   sure i q here stuck =
       sure-of (scene_of m.store run) described.describes.naming (described.known.regs q) (run.state.regs q) (described.describes.regs q)
-      (λ l. let s = steps-emptied q l in stuck (subst (λ j. HasStep j m.store (open_sections m.runs) (emptied_run q run)) (same_Some s.0 i (sym s.1 ∙ here)) s.2))
+      (λ l. let s = steps-emptied q l in stuck (subst (λ j.
+      HasStep j m.store (open_sections m.runs) (emptied_run q run)) (same_Some s.0 i (sym s.1 ∙ here)) s.2))

@@ -37,10 +37,13 @@ tracked_is_sound w s t ready = record {
   programs = ready.programs;
 }
 
-pub simulates : (w : WorldView) (s : Schedule) (event : Event) → TracksSchedule w s → IsReadyWorld w → IsReal event → (next : Schedule) × DoesScheduled s event (full_reaction w event).0 next × TracksSchedule (full_reaction w event).1 next
+pub simulates : (w : WorldView) (s : Schedule) (event : Event) → TracksSchedule w s → IsReadyWorld w → IsReal event →
+    (next : Schedule) × DoesScheduled s event (full_reaction w event).0 next ×
+    TracksSchedule (full_reaction w event).1 next
 simulates w s event t ready real =
     let k = full_keeps w event in
-    let d = simulates_tracks w (full_reaction w event).1 s event (full_reaction w event).0 t real k.0 k.1 (full_simulates w s (tracked_matches w s t) (tracked_is_sound w s t ready) event) in
+    let d = simulates_tracks w (full_reaction w event).1 s event (full_reaction w event).0 t real k.0 k.1
+    (full_simulates w s (tracked_matches w s t) (tracked_is_sound w s t ready) event) in
     (d.0, d.1, d.2)
 
 -- what a world is asked for stays
@@ -59,7 +62,8 @@ ready_stays w event ready =
       maps = omega (arith, count, few);
     }
 
-pub bounded_stays : (w : WorldView) (s : Schedule) (event : Event) → TracksSchedule w s → IsReadyWorld w → IsReal event → IsBounded w → IsBounded (full_reaction w event).1
+pub bounded_stays : (w : WorldView) (s : Schedule) (event : Event) → TracksSchedule w s → IsReadyWorld w →
+    IsReal event → IsBounded w → IsBounded (full_reaction w event).1
 bounded_stays w s event t ready real b =
     let k = full_keeps w event in
     let new = (full_reaction w event).1 in
@@ -71,11 +75,14 @@ bounded_stays w s event t ready real b =
     }
 
 -- one event
-pub answers_as_scheduled : (w : WorldView) (event : Event) → IsReadyWorld w → IsReal event → AnswersAsScheduled TracksSchedule w event (full_reaction w event).0 (full_reaction w event).1
+pub answers_as_scheduled : (w : WorldView) (event : Event) → IsReadyWorld w → IsReal event →
+    AnswersAsScheduled TracksSchedule w event (full_reaction w event).0 (full_reaction w event).1
 answers_as_scheduled w event ready real s t = simulates w s event t ready real
 
-pub answers_as_machine : (w : WorldView) (event : Event) → IsReadyWorld w → IsReal event → AnswersAsMachine Tracks w event (full_reaction w event).0 (full_reaction w event).1
-answers_as_machine w event ready real = scheduled_is_machine_once w (full_reaction w event).1 event (full_reaction w event).0 (answers_as_scheduled w event ready real)
+pub answers_as_machine : (w : WorldView) (event : Event) → IsReadyWorld w → IsReal event →
+    AnswersAsMachine Tracks w event (full_reaction w event).0 (full_reaction w event).1
+answers_as_machine w event ready real = scheduled_is_machine_once w (full_reaction w event).1 event
+    (full_reaction w event).0 (answers_as_scheduled w event ready real)
 
 one-real : (event : Event) → IsReal event → AreReal (event ∷ [])
 one-real event real zero e at = subst IsReal (same_Some event e at) real
@@ -91,17 +98,21 @@ pub reclaimed_once : (w : WorldView) (event : Event) → AreReclaimedLate Tracks
 reclaimed_once w event = tracked_reclaimed_late w (event ∷ []) ((full_reaction w event).0 ∷ [])
 
 -- a list of events
-pub are_steps : (w : WorldView) (events : List Event) → IsReadyWorld w → AreReal events → AreSteps TracksSchedule w events (full_reactions w events).0 (full_reactions w events).1
+pub are_steps : (w : WorldView) (events : List Event) → IsReadyWorld w → AreReal events →
+    AreSteps TracksSchedule w events (full_reactions w events).0 (full_reactions w events).1
 are_steps w [] ready real = refl
 are_steps w (event ∷ events) ready real =
     let first = full_reaction w event in
     (first.1, answers_as_scheduled w event ready (real 0 event refl), are_steps first.1 events (ready_stays w event ready) (real-rest event events real))
 
-pub answers_scheduled : (w : WorldView) (events : List Event) → IsReadyWorld w → AreReal events → AreScheduledAnswers TracksSchedule w events (full_reactions w events).0 (full_reactions w events).1
+pub answers_scheduled : (w : WorldView) (events : List Event) → IsReadyWorld w → AreReal events →
+    AreScheduledAnswers TracksSchedule w events (full_reactions w events).0 (full_reactions w events).1
 answers_scheduled w events ready real = steps_make_scheduled w (full_reactions w events).1 events (full_reactions w events).0 (are_steps w events ready real)
 
-pub answers_machine : (w : WorldView) (events : List Event) → IsReadyWorld w → AreReal events → AreMachineAnswers Tracks w events (full_reactions w events).0 (full_reactions w events).1
-answers_machine w events ready real = scheduled_is_machine w (full_reactions w events).1 events (full_reactions w events).0 (answers_scheduled w events ready real)
+pub answers_machine : (w : WorldView) (events : List Event) → IsReadyWorld w → AreReal events →
+    AreMachineAnswers Tracks w events (full_reactions w events).0 (full_reactions w events).1
+answers_machine w events ready real = scheduled_is_machine w (full_reactions w events).1 events
+    (full_reactions w events).0 (answers_scheduled w events ready real)
 
 pub never_stuck : (w : WorldView) (events : List Event) → IsReadyWorld w → AreReal events → AreNeverStuck Tracks w events (full_reactions w events).0
 never_stuck w events ready real = tracked_never_stuck w events (full_reactions w events).0 ready.verified real
@@ -116,14 +127,18 @@ pub ready_after : (w : WorldView) (events : List Event) → IsReadyWorld w → I
 ready_after w [] ready = ready
 ready_after w (event ∷ events) ready = ready_after (full_reaction w event).1 events (ready_stays w event ready)
 
-pub bounded_after : (w : WorldView) (s : Schedule) (events : List Event) → TracksSchedule w s → IsReadyWorld w → AreReal events → IsBounded w → IsBounded (full_reactions w events).1
+pub bounded_after : (w : WorldView) (s : Schedule) (events : List Event) → TracksSchedule w s → IsReadyWorld w →
+    AreReal events → IsBounded w → IsBounded (full_reactions w events).1
 bounded_after w s [] t ready real b = b
 bounded_after w s (event ∷ events) t ready real b =
     let first = simulates w s event t ready (real 0 event refl) in
-    bounded_after (full_reaction w event).1 first.0 events first.2 (ready_stays w event ready) (real-rest event events real) (bounded_stays w s event t ready (real 0 event refl) b)
+    bounded_after (full_reaction w event).1 first.0 events first.2 (ready_stays w event ready)
+    (real-rest event events real) (bounded_stays w s event t ready (real 0 event refl) b)
 
 -- at the start
-pub starts_ready : (names : List (List ℕ)) (shapes : List MapShape) (programs : List Loaded) → length shapes ≤ MAX_MAPS → AreVerified shapes programs → AreRealPrograms programs → IsReadyWorld (start_view names shapes programs)
+pub starts_ready : (names : List (List ℕ)) (shapes : List MapShape) (programs : List Loaded) →
+    length shapes ≤ MAX_MAPS → AreVerified shapes programs → AreRealPrograms programs →
+    IsReadyWorld (start_view names shapes programs)
 starts_ready names shapes programs few verified real =
     let count : length (map new_map_view shapes) ≡ length shapes = length-map shapes new_map_view in
     record {

@@ -5,4 +5,5 @@ use Rattle.disasm.specs.Text.{mnemonic_text}
 use Rattle.asm.proofs.names.first_named.Given as goal
 
 abbrev pub invariant-loop-mnemonic : goal.invariant-loop-mnemonic
-invariant-loop-mnemonic l = find (λ m. bytes_eq (mnemonic_text m) l.name) (drop l.mnemonic-index l.mnemonics) ≡ find (λ m. bytes_eq (mnemonic_text m) l.name) l.mnemonics
+invariant-loop-mnemonic l = find (λ m. bytes_eq (mnemonic_text m) l.name) (drop l.mnemonic-index l.mnemonics) ≡ find
+    (λ m. bytes_eq (mnemonic_text m) l.name) l.mnemonics

@@ -4,4 +4,6 @@ use Rattle.asm.proofs.numeral.read_digits.Goals as goal
 
 pub loop-digit-preserved : goal.loop-digit-preserved
 loop-digit-preserved c =
-    read_more c.args.digits.now c.loop-digit.digit-index c.loop-digit.value c.push_digit-value.result c.loop-digit.invariant c.loop-digit-test.true (search rules) c.requires.first c.push_digit-value.ensures.value c.push_digit-value.ensures.limit
+    read_more c.args.digits.now c.loop-digit.digit-index c.loop-digit.value c.push_digit-value.result
+    c.loop-digit.invariant c.loop-digit-test.true (search rules) c.requires.first c.push_digit-value.ensures.value
+    c.push_digit-value.ensures.limit

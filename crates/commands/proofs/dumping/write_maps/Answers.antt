@@ -1,4 +1,5 @@
-use Rattle.std.proofs.Common.{rules, ◌≡◌, ◌∙◌, ◌⊎◌, ◌<◌, ◌≤◌, ◌+◌, ℕ, List, [], ◌∷◌, ◌++◌, Option, Some, None, length, take, get_or, refl, sym, ap, subst, inl, inr, append_assoc, append-nil, arith}
+use Rattle.std.proofs.Common.{rules, ◌≡◌, ◌∙◌, ◌⊎◌, ◌<◌, ◌≤◌, ◌+◌, ℕ, List, [], ◌∷◌, ◌++◌, Option, Some, None, length}
+use Rattle.std.proofs.Common.{take, get_or, refl, sym, ap, subst, inl, inr, append_assoc, append-nil, arith}
 use Rattle.std.specs.Prelude.{slice_get}
 use Rattle.std.specs.List.{flat_map}
 use Rattle.std.proofs.lemmas.List.{take_more, take_all}
@@ -17,7 +18,8 @@ IsAt maps k =
     ⊎ ((length maps ≤ k) × (slice_get maps k ≡ None))
 
 -- the map at an index, and the maps below the next one
-next_map : (maps : List MapView) (k : ℕ) → IsAt maps k → k < length maps → (m : MapView) × (slice_get maps k ≡ Some m) × (take (k + 1) maps ≡ take k maps ++ m ∷ [])
+next_map : (maps : List MapView) (k : ℕ) → IsAt maps k → k < length maps → (m : MapView) × (slice_get maps k ≡ Some m)
+    × (take (k + 1) maps ≡ take k maps ++ m ∷ [])
 next_map maps k (inl (m, within, found, read)) inside = (m, found, take_more maps k m within ∙ ap (λ (x : MapView). take k maps ++ x ∷ []) read)
 next_map maps k (inr (past, none)) inside = absurd (omega (arith, past, inside))
 

@@ -24,7 +24,8 @@ returns-in-Ok-run_program-clause-pooled g c zero =
     let contents = g.W.Write.contents in
     let last = so_written c.write_entries.result c.written.result c.written.ensures zero c.write_entries.ensures in
     IfSome_then (g.R.Read.remaining c.args.input.now) c.in-Ok.ensures
-    (λ bytes holds. pool_written bytes p.program p.ctx_len c.args.size.count c.in-Ok-run_program.entries (contents c.args.out.now) (contents c.run_program.new.out) (contents c.write_entries.new.out)
+    (λ bytes holds. pool_written bytes p.program p.ctx_len c.args.size.count c.in-Ok-run_program.entries
+    (contents c.args.out.now) (contents c.run_program.new.out) (contents c.write_entries.new.out)
     (c.in-Ok-program_of.ensures.found bytes holds) c.in-Ok-run_program.ensures.written last)
 
 pub returns-in-Err-Pool-clause-refused : goal.returns-in-Err-Pool-clause-refused
@@ -38,5 +39,7 @@ returns-in-Err-Pool-clause-refused g c one =
       v,
       not_so (v.code ≡ MEMORY) c.refused-in-Err-Pool.result told.memory one,
       not_so (v.code ≡ LOST) c.refused-in-Err-Pool.result told.lost one,
-      pool_told c.args.size.workers c.args.size.count bytes p.program p.ctx_len c.in-Err-Pool.fault v (c.in-Ok-program_of.ensures.found bytes holds) fault (subst (λ (n : ℕ). IsPlainVerdict n v) c.code.ensures c.plain_verdict.ensures),
+      pool_told c.args.size.workers c.args.size.count bytes p.program p.ctx_len c.in-Err-Pool.fault v
+          (c.in-Ok-program_of.ensures.found bytes holds) fault
+          (subst (λ (n : ℕ). IsPlainVerdict n v) c.code.ensures c.plain_verdict.ensures),
     ))

@@ -22,7 +22,12 @@ returns-in-Err-clause-refused c =
     let k = c.loop-number.number in
     let e = c.index-elements-number.result in
     let inside : k < length elements = search rules in
-    inr (c.in-Err.refusal, first_bad c.args.registry.now elements k e c.in-Err.refusal inside (sym c.index-elements-number.is) c.loop-number.invariant.0 c.in-Err.ensures.refused, search rules)
+    inr (
+      c.in-Err.refusal,
+      first_bad c.args.registry.now elements k e c.in-Err.refusal inside
+          (sym c.index-elements-number.is) c.loop-number.invariant.0 c.in-Err.ensures.refused,
+      search rules,
+    )
 
 pub returns-clause-fit : goal.returns-clause-fit
 returns-clause-fit c =

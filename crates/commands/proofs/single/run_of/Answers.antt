@@ -17,20 +17,34 @@ use Rattle.commands.proofs.single.run_of.Goals as goal
 pub returns-in_err-checked-clause-refused : goal.returns-in_err-checked-clause-refused
 returns-in_err-checked-clause-refused c bytes h =
     let p = err_from_is_err_and c.from_residual-in_err-checked.result c.from_residual-in_err-checked.ensures.1 in
-    rw p.1 (inl (verifier_told bytes c.in_ok-source.source c.in_err-checked.field-0.0 p.0 (c.in_ok-source.ensures.found bytes h) c.in_err-checked.ensures.told c.in_err-checked.ensures.plain_with_maps p.2))
+    rw p.1 (inl (verifier_told bytes c.in_ok-source.source c.in_err-checked.field-0.0 p.0
+    (c.in_ok-source.ensures.found bytes h) c.in_err-checked.ensures.told c.in_err-checked.ensures.plain_with_maps
+    p.2))
 
 pub returns-then-len-ctx_len-clause-refused : goal.returns-then-len-ctx_len-clause-refused
 returns-then-len-ctx_len-clause-refused c bytes h =
-    let good : IsGood bytes c.in_ok-source.source = record { is = c.in_ok-source.ensures.found bytes h; graph = c.in_ok-checked.ensures.graph; verified = c.in_ok-checked.ensures.verified } in
+    let good : IsGood bytes c.in_ok-source.source = record {
+      is = c.in_ok-source.ensures.found bytes h;
+      graph =
+          c.in_ok-checked.ensures.graph;
+      verified = c.in_ok-checked.ensures.verified;
+    } in
     context_told bytes c.args.single.now c.in_ok-source.source c.plain_verdict.result good (search rules) c.plain_verdict.ensures
 
 pub returns-in_err-puts-clause-refused : goal.returns-in_err-puts-clause-refused
 returns-in_err-puts-clause-refused c bytes h =
-    let good : IsGood bytes c.in_ok-source.source = record { is = c.in_ok-source.ensures.found bytes h; graph = c.in_ok-checked.ensures.graph; verified = c.in_ok-checked.ensures.verified } in
+    let good : IsGood bytes c.in_ok-source.source = record {
+      is = c.in_ok-source.ensures.found bytes h;
+      graph =
+          c.in_ok-checked.ensures.graph;
+      verified = c.in_ok-checked.ensures.verified;
+    } in
     let p = err_from_is_err_and c.from_residual-in_err-puts.result c.from_residual-in_err-puts.ensures.1 in
     let v = c.in_err-puts.field-0.0 in
     let maps = c.in_ok-checked.checked.registry in
-    let refused = subst (λ (es : List MapElement). (v.code ≡ MEMORY) ⊎ ((r : EventRefusal) × HasBadElement maps es r × IsPlainVerdict (event_refusal_number r) v)) c.deref.ensures.value c.in_err-puts.ensures.refused in
+    let refused = subst (λ (es : List MapElement). (v.code ≡ MEMORY)
+    ⊎ ((r : EventRefusal) × HasBadElement maps es r × IsPlainVerdict (event_refusal_number r) v))
+    c.deref.ensures.value c.in_err-puts.ensures.refused in
     rw (p.1, p.2) (puts_told bytes c.args.single.now c.in_ok-source.source maps v good (search rules) c.in_ok-checked.ensures.registry refused)
 
 pub run_once-requires-clause-updates : goal.run_once-requires-clause-updates
@@ -44,10 +58,18 @@ returns-in-Exited-clause-ended c bytes h =
     let s = c.in_ok-source.source in
     let checked = c.in_ok-checked.checked in
     let ran = c.in-Ok.ran in
-    let good : IsGood bytes s = record { is = c.in_ok-source.ensures.found bytes h; graph = c.in_ok-checked.ensures.graph; verified = c.in_ok-checked.ensures.verified } in
-    let run = subst (λ (o : RunEnd). ComesTo (shapes_of_maps checked.registry.maps) checked.verified.program c.in_ok-puts.puts.items c.array_of-context.result.items o ran.world) c.in-Exited.is c.in-Ok.ensures in
+    let good : IsGood bytes s = record {
+      is = c.in_ok-source.ensures.found bytes h;
+      graph =
+          c.in_ok-checked.ensures.graph;
+      verified = c.in_ok-checked.ensures.verified;
+    } in
+    let run = subst (λ (o : RunEnd). ComesTo (shapes_of_maps checked.registry.maps) checked.verified.program
+    c.in_ok-puts.puts.items c.array_of-context.result.items o ran.world) c.in-Exited.is c.in-Ok.ensures in
     ended_of bytes c.args.single.now s checked.registry c.in-Exited.ended ran.world good (search rules) c.in_ok-checked.ensures.registry (search rules)
-    (of_source c.args.single.now s checked.verified.program checked.registry c.in_ok-puts.puts.items c.array_of-context.result.items (Exited c.in-Exited.ended) ran.world c.in_ok-checked.ensures.program c.in_ok-checked.ensures.registry (search rules) (search rules) run)
+    (of_source c.args.single.now s checked.verified.program checked.registry c.in_ok-puts.puts.items
+    c.array_of-context.result.items (Exited c.in-Exited.ended) ran.world c.in_ok-checked.ensures.program
+    c.in_ok-checked.ensures.registry (search rules) (search rules) run)
 
 pub returns-in-NotDone-clause-refused : goal.returns-in-NotDone-clause-refused
 returns-in-NotDone-clause-refused c bytes h =
@@ -55,8 +77,17 @@ returns-in-NotDone-clause-refused c bytes h =
     let checked = c.in_ok-checked.checked in
     let ran = c.in-Ok.ran in
     let k = c.in-NotDone.field-0 in
-    let good : IsGood bytes s = record { is = c.in_ok-source.ensures.found bytes h; graph = c.in_ok-checked.ensures.graph; verified = c.in_ok-checked.ensures.verified } in
-    let run = subst (λ (o : RunEnd). ComesTo (shapes_of_maps checked.registry.maps) checked.verified.program c.in_ok-puts.puts.items c.array_of-context.result.items o ran.world) c.in-NotDone.is c.in-Ok.ensures in
-    place_told bytes c.args.single.now s checked.registry k ran.world c.plain_verdict-in-NotDone.result good (search rules) c.in_ok-checked.ensures.registry (search rules)
-    (of_source c.args.single.now s checked.verified.program checked.registry c.in_ok-puts.puts.items c.array_of-context.result.items (NotDone k) ran.world c.in_ok-checked.ensures.program c.in_ok-checked.ensures.registry (search rules) (search rules) run)
+    let good : IsGood bytes s = record {
+      is = c.in_ok-source.ensures.found bytes h;
+      graph =
+          c.in_ok-checked.ensures.graph;
+      verified = c.in_ok-checked.ensures.verified;
+    } in
+    let run = subst (λ (o : RunEnd). ComesTo (shapes_of_maps checked.registry.maps) checked.verified.program
+    c.in_ok-puts.puts.items c.array_of-context.result.items o ran.world) c.in-NotDone.is c.in-Ok.ensures in
+    place_told bytes c.args.single.now s checked.registry k ran.world c.plain_verdict-in-NotDone.result good
+    (search rules) c.in_ok-checked.ensures.registry (search rules)
+    (of_source c.args.single.now s checked.verified.program checked.registry c.in_ok-puts.puts.items
+    c.array_of-context.result.items (NotDone k) ran.world c.in_ok-checked.ensures.program
+    c.in_ok-checked.ensures.registry (search rules) (search rules) run)
     c.plain_verdict-in-NotDone.ensures

@@ -15,5 +15,6 @@ returns c =
     let world = c.in_ok-world.ensures.world ∙ ap (λ (s : SetupView). start_view s.registry.names (shapes_made s) s.programs) old in
     let same : ◌≡◌ {A = Live} (record { world = c.in_ok-world.world }) (sealed c.args.setup.now) = λ i. record { world = world i } in
     let first = subst (λ (s : SetupView). TracksSchedule c.in_ok-world.world (start_schedule (shapes_made s) s.programs)) old c.in_ok-world.ensures.start in
-    let starts : TracksStart c.args.setup.now = subst (λ (w : WorldView). TracksSchedule w (start_schedule (shapes_made c.args.setup.now) c.args.setup.now.programs)) world first in
+    let starts : TracksStart c.args.setup.now = subst (λ (w : WorldView).
+    TracksSchedule w (start_schedule (shapes_made c.args.setup.now) c.args.setup.now.programs)) world first in
     (a.0, starts, subst (λ (l : Live). LiveReplies l c.args.command a.0 c.answer.new.self) same a.1, a.2)

@@ -29,7 +29,8 @@ returns-clause-failed g c =
     IfErr-weaker c.serve.result _ _
     (λ fault e.
     let script : Script = record { alloc = c.args.alloc; session = c.new.result; text = c.new-2.result } in
-    let more : (input : List ℕ) → FailsWith (by_part (λ (s : Script). s.session) IsAnswered) IsNoCommand script input e.1 fault → FailsWith Continues IsNoCommand new_history input e.1 fault = λ input f.
+    let more : (input : List ℕ) → FailsWith (by_part (λ (s : Script). s.session) IsAnswered) IsNoCommand script input
+    e.1 fault → FailsWith Continues IsNoCommand new_history input e.1 fault = λ input f.
     let lifted = fails (λ (s : Script). s.session) IsAnswered IsNoCommand script input e.1 fault f in
     let there = subst (λ (s : Session). FailsWith IsAnswered IsNoCommand s input e.1 fault) c.new.ensures lifted in
     fails_at IsNoCommand new_session no_maps_or_programs [] input e.1 fault (refl, refl) there

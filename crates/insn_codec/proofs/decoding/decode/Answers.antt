@@ -12,7 +12,8 @@ pub returns-then-bytes-ne0-clause-only : goal.returns-then-bytes-ne0-clause-only
 returns-then-bytes-ne0-clause-only c = λ p is e. let l = program_length c.args.bytes.now p e in absurd (omega (arith, is.limit))
 
 pub returns-then-is_empty-clause-only : goal.returns-then-is_empty-clause-only
-returns-then-is_empty-clause-only c = λ p is e. let l = program_length c.args.bytes.now p e in absurd (omega (arith, is.some, none_from _ c.if-is_empty.ensures))
+returns-then-is_empty-clause-only c = λ p is e. let l =
+    program_length c.args.bytes.now p e in absurd (omega (arith, is.some, none_from _ c.if-is_empty.ensures))
 
 pub returns-then-bytes-clause-only : goal.returns-then-bytes-clause-only
 returns-then-bytes-clause-only c = λ p is e. let l = program_length c.args.bytes.now p e in absurd (omega (arith, is.limit))
@@ -24,4 +25,5 @@ from_parts-requires-clause-program c =
     record { fits = c.in_ok-instructions.ensures.fits; some = omega arith; limit = omega arith }
 
 pub from_parts-requires-clause-slots : goal.from_parts-requires-clause-slots
-from_parts-requires-clause-slots c = let l = program_length c.args.bytes.now c.in_ok-instructions.instructions.items c.in_ok-instructions.ensures.found in omega arith
+from_parts-requires-clause-slots c = let l = program_length c.args.bytes.now c.in_ok-instructions.instructions.items
+    c.in_ok-instructions.ensures.found in omega arith

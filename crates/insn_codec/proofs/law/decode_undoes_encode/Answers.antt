@@ -16,7 +16,11 @@ only_memory (Err f) p (inl e) = absurd cc
 only_memory (Err f) p (inr e) = cc
 
 pub returns-clause-same : goal.returns-clause-same
-returns-clause-same c = same c.decode.result c.args.program.now (c.decode.ensures.only c.args.program.now c.encode.ensures.program (c.deref.ensures.value ∙ c.in_ok-bytes.ensures.text))
+returns-clause-same c = same c.decode.result c.args.program.now
+    (c.decode.ensures.only c.args.program.now c.encode.ensures.program
+    (c.deref.ensures.value ∙ c.in_ok-bytes.ensures.text))
 
 pub returns-clause-fault : goal.returns-clause-fault
-returns-clause-fault c = only_memory c.decode.result c.args.program.now (c.decode.ensures.only c.args.program.now c.encode.ensures.program (c.deref.ensures.value ∙ c.in_ok-bytes.ensures.text))
+returns-clause-fault c = only_memory c.decode.result c.args.program.now
+    (c.decode.ensures.only c.args.program.now c.encode.ensures.program
+    (c.deref.ensures.value ∙ c.in_ok-bytes.ensures.text))

@@ -23,11 +23,13 @@ abbrev Fine : Opcode → Slot → Option Slot → Result Insn InsnFlaw → Type 
 Fine o s next (Ok j) = BeginsWith s next j × FitsInsn j × (opcode_of j ≡ o)
 Fine o s next (Err f) = flaw_with o s next ≡ Some f
 
-is_only : (o : Opcode) (s : Slot) (next : Option Slot) (r : Result Insn InsnFlaw) → Fine o s next r → (i : Insn) → o ≡ opcode_of i → FitsInsn i → BeginsWith s next i → r ≡ Ok i
+is_only : (o : Opcode) (s : Slot) (next : Option Slot) (r : Result Insn InsnFlaw) → Fine o s next r → (i : Insn) →
+    o ≡ opcode_of i → FitsInsn i → BeginsWith s next i → r ≡ Ok i
 is_only o s next (Ok j) h i e fits begins = ap Ok (same j i s next h.1 fits h.0 begins (h.2 ∙ e))
 is_only o s next (Err f) h i e fits begins = let n = no_flaw i s next fits begins in let k = ap (λ (p : Opcode). flaw_with p s next) e in absurd cc
 
-fine : (o : Opcode) (s : Slot) (next : Option Slot) (r : Result Insn InsnFlaw) → IfOk r (λ i. BeginsWith s next i) → IfOk r FitsInsn → IfOk r (λ i. opcode_of i ≡ o) → IfErr r (λ f. flaw_with o s next ≡ Some f) → Fine o s next r
+fine : (o : Opcode) (s : Slot) (next : Option Slot) (r : Result Insn InsnFlaw) → IfOk r (λ i. BeginsWith s next i) →
+    IfOk r FitsInsn → IfOk r (λ i. opcode_of i ≡ o) → IfErr r (λ f. flaw_with o s next ≡ Some f) → Fine o s next r
 fine o s next (Ok j) a b c d = (a, b, c)
 fine o s next (Err f) a b c d = d
 

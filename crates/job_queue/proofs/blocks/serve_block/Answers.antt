@@ -24,5 +24,7 @@ loop-job-preserved g c =
           (one_more_result (fits first was) (fits first is)
           (λ job served. laws.fits_wider c.args.serve.now first first was is job served (laws.later_same first) e.later)
           c.args.jobs.now c.loop-job.job-index c.job-item.result c.loop-job.results.items one c.loop-job-test.true i.results
-          (subst (λ z. fits first is z one) c.job-item.is (laws.fits_wider c.args.serve.now first was is is c.job-item.result one i.later_now (laws.later_same is) e.fits)));
+          (subst (λ z. fits first is z one) c.job-item.is
+          (laws.fits_wider c.args.serve.now first was is is c.job-item.result one i.later_now (laws.later_same is)
+          e.fits)));
     }

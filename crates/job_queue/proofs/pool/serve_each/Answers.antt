@@ -11,7 +11,8 @@ use Rattle.job_queue.proofs.pool.serve_each.Goals as goal
 
 pub serve_at-requires-clause-ready : goal.serve_at-requires-clause-ready
 serve_at-requires-clause-ready g c κs within =
-    subst (All (g.S.Serve.ready c.args.serve.now)) (sym c.in-Ok.ensures.workers) (All-take (g.S.Serve.ready c.args.serve.now) c.args.first c.args.workers.now.items c.requires.ready)
+    subst (All (g.S.Serve.ready c.args.serve.now)) (sym c.in-Ok.ensures.workers)
+    (All-take (g.S.Serve.ready c.args.serve.now) c.args.first c.args.workers.now.items c.requires.ready)
 
 pub serve_at-requires-clause-room : goal.serve_at-requires-clause-room
 serve_at-requires-clause-room g c κs within =
@@ -30,12 +31,15 @@ serve_at-requires-clause-room g c κs within =
 
 pub returns-clause-each : goal.returns-clause-each
 returns-clause-each g c =
-    let whole = ap (λ z. z ++ map worker_of c.in-Ok.stations.items) c.in-Ok.ensures.workers ∙ (ap (λ z. take c.args.first c.args.workers.now.items ++ z) c.in-Ok.ensures.stations ∙ take-append-drop c.args.first c.args.workers.now.items) in
+    let whole = ap (λ z. z ++ map worker_of c.in-Ok.stations.items) c.in-Ok.ensures.workers ∙
+    (ap (λ z. take c.args.first c.args.workers.now.items ++ z) c.in-Ok.ensures.stations ∙
+    take-append-drop c.args.first c.args.workers.now.items) in
     let fits = InBlocks (g.S.Serve.fits c.args.serve.now) in
     let after = c.serve_at.new.workers.items in
     let lines = c.serve_at.new.sheet.lines.items in
     IfOk-weaker c.read_out.result _ _
-    (λ v same. results_right fits c.args.blocks.now c.args.workers.now.items after lines v.items (subst (λ z. AreRightLines fits c.args.blocks.now z after lines) whole c.serve_at.ensures.lines) same)
+    (λ v same. results_right fits c.args.blocks.now c.args.workers.now.items after lines v.items
+    (subst (λ z. AreRightLines fits c.args.blocks.now z after lines) whole c.serve_at.ensures.lines) same)
     c.read_out.ensures.lines
 
 pub returns-clause-err : goal.returns-clause-err

@@ -11,7 +11,8 @@ use Rattle.job_queue.proofs.pool.serve_in_blocks.Goals as goal
 
 -- the results stand in the jobs' order
 in_order : (g : given.Over) (c : goal.After-drop-blocks-2 g) →
-    IfOk c.join.result (λ v. AllZip (IsServedByOne (g.S.Serve.fits c.args.serve.now) c.args.workers.now.items c.serve_each.new.workers.items) c.args.jobs.now v.items)
+    IfOk c.join.result (λ v. AllZip (IsServedByOne (g.S.Serve.fits c.args.serve.now) c.args.workers.now.items
+    c.serve_each.new.workers.items) c.args.jobs.now v.items)
 in_order g c =
     let served = c.in_ok-served.served in
     let blocks = c.as_slice-2.result.now in
@@ -22,9 +23,13 @@ in_order g c =
 -- src/pool.rt:172:1
 pub returns-clause-count : goal.returns-clause-count
 returns-clause-count g c =
-    IfOk-weaker c.join.result _ _ (λ v right. v.ok.0 ∙ AllZip-long (IsServedByOne (g.S.Serve.fits c.args.serve.now) c.args.workers.now.items c.serve_each.new.workers.items) c.args.jobs.now v.items right) (in_order g c)
+    IfOk-weaker c.join.result _ _ (λ v right. v.ok.0 ∙
+    AllZip-long (IsServedByOne (g.S.Serve.fits c.args.serve.now) c.args.workers.now.items
+    c.serve_each.new.workers.items) c.args.jobs.now v.items right) (in_order g c)
 
 -- src/pool.rt:172:1
 pub returns-clause-each : goal.returns-clause-each
 returns-clause-each g c =
-    IfOk-weaker c.join.result _ _ (λ v right. at_each_index (IsServedByOne (g.S.Serve.fits c.args.serve.now) c.args.workers.now.items c.serve_each.new.workers.items) c.args.jobs.now v.items right) (in_order g c)
+    IfOk-weaker c.join.result _ _ (λ v right. at_each_index
+    (IsServedByOne (g.S.Serve.fits c.args.serve.now) c.args.workers.now.items c.serve_each.new.workers.items)
+    c.args.jobs.now v.items right) (in_order g c)

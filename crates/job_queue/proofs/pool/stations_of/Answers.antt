@@ -20,8 +20,17 @@ loop-worker-preserved g c =
     record {
       pass = search rules;
       ready = All-tail ready c.in-Some.worker c.next.new.self.rest.items all;
-      fresh = subst (All fresh) (sym c.push_reserved.ensures.items) (All-append fresh c.loop-worker.stations.items _ i.fresh (All-cons fresh _ [] record { pass = search rules; fresh = search rules; ready_now = All-head ready c.in-Some.worker c.next.new.self.rest.items all; nothing = search rules } (All-nil fresh)));
-      stations = ap (map worker_of) c.push_reserved.ensures.items ∙ (map-append worker_of c.loop-worker.stations.items _ ∙ ap (λ z. z ++ c.in-Some.worker ∷ []) i.stations);
+      fresh = subst (All fresh) (sym c.push_reserved.ensures.items)
+          (All-append fresh c.loop-worker.stations.items _ i.fresh
+          (All-cons fresh _ [] record {
+            pass = search rules;
+            fresh = search rules;
+            ready_now =
+                All-head ready c.in-Some.worker c.next.new.self.rest.items all;
+            nothing = search rules;
+          } (All-nil fresh)));
+      stations = ap (map worker_of) c.push_reserved.ensures.items ∙
+          (map-append worker_of c.loop-worker.stations.items _ ∙ ap (λ z. z ++ c.in-Some.worker ∷ []) i.stations);
       room = search rules;
     }
 

@@ -12,7 +12,9 @@ loop-station-preserved g c =
     let xs = c.loop-station.yielded in
     let s = c.in-Some.station in
     record {
-      workers = c.push_reserved.ensures.items ∙ (ap (λ z. z ++ s.worker ∷ []) i.workers ∙ (append_assoc c.args.workers.now.items (map worker_of xs) (s.worker ∷ []) ∙ ap (λ z. c.args.workers.now.items ++ z) (sym (map-append worker_of xs (s ∷ [])))));
+      workers = c.push_reserved.ensures.items ∙ (ap (λ z. z ++ s.worker ∷ []) i.workers ∙
+          (append_assoc c.args.workers.now.items (map worker_of xs) (s.worker ∷ []) ∙
+          ap (λ z. c.args.workers.now.items ++ z) (sym (map-append worker_of xs (s ∷ [])))));
       capacity = search rules;
       count = e.count ∙ i.count;
       lines = λ k served at. ⊎_elim

@@ -9,6 +9,7 @@ invariant-loop-station g l = record {
   workers : l.workers.items ≡ l.fn.workers.items ++ map worker_of l.yielded;
   capacity : vec_capacity l.workers ≡ vec_capacity l.fn.workers;
   count : vec_len l.sheet.lines ≡ vec_len l.fn.sheet.lines;
-  lines : (k : ℕ) (served : g.row.T.Denot) → slice_get l.sheet.lines.items k ≡ Some (Some served) → (slice_get l.fn.sheet.lines.items k ≡ Some (Some served)) ⊎ StandsIn l.yielded k served;
+  lines : (k : ℕ) (served : g.row.T.Denot) → slice_get l.sheet.lines.items k ≡ Some (Some served) →
+      (slice_get l.fn.sheet.lines.items k ≡ Some (Some served)) ⊎ StandsIn l.yielded k served;
   short : l.any_short ≡ list_any is_short l.yielded;
 }

@@ -34,16 +34,22 @@ loop-preserved g c =
       later_now = laws.later_again first was is i.later_now e.later;
       results = subst (All (IsRightNumbered each c.args.blocks.now first is)) (sym items)
           (one_more each c.args.blocks.now first was is
-          (λ block served. right_wider fits first first was is (λ job one. laws.fits_wider c.args.serve.now first first was is job one (laws.later_same first) e.later) block.now served)
+          (λ block served. right_wider fits first first was is
+          (λ job one. laws.fits_wider c.args.serve.now first first was is job one (laws.later_same first) e.later)
+          block.now served)
           c.loop.station.results.items one i.results
           record {
             job = c.in-Some-get.block.now;
             at = (let k = c.in-Some-get.ensures.lookup in slice_get_read c.args.blocks.now _ c.in-Some.number c.in-Some-get.block.now refl k.3.0 k.1);
-            right = right_wider fits first was is is (λ job one. laws.fits_wider c.args.serve.now first was is is job one i.later_now (laws.later_same is)) c.in-Some-get.block.now.now c.serve_block-served.result e.fits;
+            right = right_wider fits first was is is (λ job one.
+                laws.fits_wider c.args.serve.now first was is is job one i.later_now (laws.later_same is))
+                c.in-Some-get.block.now.now c.serve_block-served.result e.fits;
           });
       kept = λ k taken low. subst (λ z. HasResult z k) (sym items)
           (kept_more c.loop.station.results.items one (view c.loop.station.pass).taken k
-          (subst (λ (z : PassView). WasTaken k z.taken) {x = view c.pop_as.new.pass} {y = pass_view (view c.loop.station.pass).puts (view c.loop.station.pass).next (c.in-Some.number ∷ (view c.loop.station.pass).taken)} (search rules) taken) (λ old. i.kept k old low));
+          (subst (λ (z : PassView). WasTaken k z.taken) {x = view c.pop_as.new.pass}
+          {y = pass_view (view c.loop.station.pass).puts (view c.loop.station.pass).next
+          (c.in-Some.number ∷ (view c.loop.station.pass).taken)} (search rules) taken) (λ old. i.kept k old low));
     }
 
 pub returns-then-is_err : goal.returns-then-is_err

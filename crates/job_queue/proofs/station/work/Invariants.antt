@@ -4,4 +4,5 @@ use Rattle.job_queue.specs.Serving.{HasServed}
 use Rattle.job_queue.proofs.station.work.Given as goal
 
 abbrev pub invariant-loop : goal.invariant-loop
-invariant-loop g l = HasServed (InBlocks (g.S.Serve.fits l.serve)) g.S.Serve.later l.blocks (IsPassOf l.queue) (g.S.Serve.ready l.serve) l.fn.station.worker l.station
+invariant-loop g l = HasServed (InBlocks (g.S.Serve.fits l.serve)) g.S.Serve.later l.blocks (IsPassOf l.queue)
+    (g.S.Serve.ready l.serve) l.fn.station.worker l.station

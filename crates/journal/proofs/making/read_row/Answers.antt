@@ -13,4 +13,5 @@ returns-in-Found-Some c =
     let row = rows.Found c.args.worker c.len-key_len.result c.len.result c.args.map c.args.start in
     let is : c.args.answer.now ≡ answers.Found (Some value) = search rules in
     subst (λ (answer : Answer). IsRowOf c.args.start (entry_from c.args.worker (events.Read c.args.map c.args.key.now) answer) row) (sym is)
-    (found-row c.args.worker c.args.start c.args.map c.len-key_len.result c.len.result c.args.key.now value c.len-key_len.ensures.value c.len.ensures.value c.len-key_len.ensures.fits c.len.ensures.fits)
+    (found-row c.args.worker c.args.start c.args.map c.len-key_len.result c.len.result c.args.key.now value
+    c.len-key_len.ensures.value c.len.ensures.value c.len-key_len.ensures.fits c.len.ensures.fits)

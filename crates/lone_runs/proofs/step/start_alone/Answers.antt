@@ -9,5 +9,7 @@ returns-clause-run c =
     let v = c.args.verified.now in
     record {
       at = c.start.ensures.run v.program;
-      stands = subst (StandsAlone v) (sym c.start.ensures.view) (starts v c.program-program.ensures.justified c.requires.maps c.args.ctx.now.items c.requires.context (subst AreBytes c.as_slice.ensures.value c.are_bytes.ensures));
+      stands = subst (StandsAlone v) (sym c.start.ensures.view)
+          (starts v c.program-program.ensures.justified c.requires.maps c.args.ctx.now.items c.requires.context
+          (subst AreBytes c.as_slice.ensures.value c.are_bytes.ensures));
     }

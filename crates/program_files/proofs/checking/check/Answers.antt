@@ -5,4 +5,6 @@ use Rattle.program_files.proofs.checking.check.Goals as goal
 pub returns-in_err-checked-clause-refused : goal.returns-in_err-checked-clause-refused
 returns-in_err-checked-clause-refused c bytes h =
     let p = err_from_is_err_and c.from_residual-in_err-checked.result c.from_residual-in_err-checked.ensures.1 in
-    rw p.1 (verifier_told bytes c.in_ok-source.source c.in_err-checked.field-0.0 p.0 (c.in_ok-source.ensures.found bytes h) c.in_err-checked.ensures.told c.in_err-checked.ensures.plain_with_maps p.2)
+    rw p.1 (verifier_told bytes c.in_ok-source.source c.in_err-checked.field-0.0 p.0
+    (c.in_ok-source.ensures.found bytes h) c.in_err-checked.ensures.told c.in_err-checked.ensures.plain_with_maps
+    p.2)

@@ -9,6 +9,9 @@ loop-number-preserved c =
     let maps = c.args.registry.now.maps in
     let n = c.loop-number.number in
     elim c.match-shape.branch [
-      | in-Some+in_ok-push w ↦ rw w.shapes-is (w.in_ok-push.ensures.items ∙ (ap (λ (xs : List MapShape). xs ++ w.in-Some.shape ∷ []) c.loop-number.invariant ∙ shape_found maps n c.new.result c.shape.result w.in-Some.shape c.new.ensures c.shape.ensures w.in-Some.is))
-      | in_default w ↦ absurd (shape_missing maps n c.new.result c.shape.result c.new.ensures c.shape.ensures w.in_default.is (omega (arith, c.loop-number-test.true, c.len-number-end.ensures.value)))
+      | in-Some+in_ok-push w ↦ rw w.shapes-is (w.in_ok-push.ensures.items ∙
+          (ap (λ (xs : List MapShape). xs ++ w.in-Some.shape ∷ []) c.loop-number.invariant ∙
+          shape_found maps n c.new.result c.shape.result w.in-Some.shape c.new.ensures c.shape.ensures w.in-Some.is))
+      | in_default w ↦ absurd (shape_missing maps n c.new.result c.shape.result c.new.ensures c.shape.ensures
+          w.in_default.is (omega (arith, c.loop-number-test.true, c.len-number-end.ensures.value)))
     ]

@@ -10,5 +10,6 @@ invariant-loop-index l = record {
   first : slice_get l.reached 0 ≡ Some true;
   sound : (j : ℕ) → slice_get l.reached j ≡ Some true → IsInsnReached l.instructions j;
   before : (j : ℕ) → j < l.index → IsInsnReached l.instructions j;
-  ahead : (j m : ℕ) (i : Insn) (t : Option ℕ) → j < l.index → slice_get l.instructions j ≡ Some i → slice_get l.targets j ≡ Some t → Follows i t j m → slice_get l.reached m ≡ Some true;
+  ahead : (j m : ℕ) (i : Insn) (t : Option ℕ) → j < l.index → slice_get l.instructions j ≡ Some i →
+      slice_get l.targets j ≡ Some t → Follows i t j m → slice_get l.reached m ≡ Some true;
 }

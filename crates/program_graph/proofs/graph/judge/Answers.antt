@@ -9,16 +9,28 @@ use Rattle.program_graph.proofs.graph.judge.Goals as goal
 use Rattle.bpf_model.specs.Graph.{EndsWithExit}
 
 pub overflow_sub-result : goal.overflow_sub-result
-overflow_sub-result c = omega (arith, ap length c.requires.starts, length-starts_from 0 c.args.instructions.now, some_insn c.args.instructions.now c.requires.program)
+overflow_sub-result c = omega (
+  arith,
+  ap length c.requires.starts,
+  length-starts_from 0 c.args.instructions.now,
+  some_insn c.args.instructions.now c.requires.program,
+)
 
 pub bounds-starts-starts : goal.bounds-starts-starts
-bounds-starts-starts c = omega (arith, ap length c.requires.starts, length-starts_from 0 c.args.instructions.now, some_insn c.args.instructions.now c.requires.program)
+bounds-starts-starts c = omega (
+  arith,
+  ap length c.requires.starts,
+  length-starts_from 0 c.args.instructions.now,
+  some_insn c.args.instructions.now c.requires.program,
+)
 
 pub returns-then-not-ends_with_exit-clause-told : goal.returns-then-not-ends_with_exit-clause-told
 returns-then-not-ends_with_exit-clause-told c =
-    let long : length c.args.starts.now - 1 ≡ length c.args.instructions.now - 1 = omega (arith, ap length c.requires.starts, length-starts_from 0 c.args.instructions.now) in
+    let long : length c.args.starts.now - 1 ≡ length c.args.instructions.now - 1 =
+    omega (arith, ap length c.requires.starts, length-starts_from 0 c.args.instructions.now) in
     let not_exit : EndsWithExit c.args.instructions.now → ⊥ = search rules in
-    bad_end c.args.instructions.now c.args.starts.now (length c.args.starts.now - 1) c.requires.program c.requires.starts long c.in_ok-targets.ensures.jumps not_exit
+    bad_end c.args.instructions.now c.args.starts.now (length c.args.starts.now - 1) c.requires.program
+    c.requires.starts long c.in_ok-targets.ensures.jumps not_exit
 
 pub bounds-starts-index : goal.bounds-starts-index
 bounds-starts-index c =
@@ -41,4 +53,6 @@ pub returns-in-Some-clause-accepts : goal.returns-in-Some-clause-accepts
 returns-in-Some-clause-accepts c = λ good.
     let first : IsFirstUnreached c.args.instructions.now c.in-Some.index = rw c.in-Some.is at c.in_ok-index.ensures in
     let last : EndsWithExit c.args.instructions.now = good.last in
-    absurd (good_has_none c.args.instructions.now Unreachable (slice_index_or c.args.starts.now c.in-Some.index 0) good (unreachable_at c.args.instructions.now c.args.starts.now c.in-Some.index c.requires.starts c.in_ok-targets.ensures.jumps last first))
+    absurd (good_has_none c.args.instructions.now Unreachable (slice_index_or c.args.starts.now c.in-Some.index 0)
+    good (unreachable_at c.args.instructions.now c.args.starts.now c.in-Some.index c.requires.starts
+    c.in_ok-targets.ensures.jumps last first))

@@ -20,18 +20,27 @@ bounds-starts-index-in-Err c = omega (arith, ap length c.requires.starts, length
 
 pub target_of-requires : goal.target_of-requires
 target_of-requires c =
-    let at : StartsAt c.args.instructions.now c.loop-index.index (slice_index_or c.args.starts.now c.loop-index.index 0) = start_read c.args.instructions.now c.args.starts.now c.loop-index.index c.requires.starts (omega arith) in
+    let at : StartsAt c.args.instructions.now c.loop-index.index
+    (slice_index_or c.args.starts.now c.loop-index.index 0) =
+    start_read c.args.instructions.now c.args.starts.now c.loop-index.index c.requires.starts (omega arith) in
     omega (arith, start_below c.args.instructions.now c.loop-index.index (slice_index_or c.args.starts.now c.loop-index.index 0) at, c.requires.small)
 
 -- the jump at hand is the first bad one
 bad_here : (c : After-drop-targets-in-Err) → HasGraphFlaw c.args.instructions.now c.in-Err.flaw (slice_index_or c.args.starts.now c.loop-index.index 0)
 bad_here c =
-    let at : StartsAt c.args.instructions.now c.loop-index.index (slice_index_or c.args.starts.now c.loop-index.index 0) = start_read c.args.instructions.now c.args.starts.now c.loop-index.index c.requires.starts (omega arith) in
-    let here : slice_get c.args.instructions.now c.loop-index.index ≡ Some c.index-instructions-index.result = slice_get_read c.args.instructions.now (length c.args.instructions.now) c.loop-index.index c.index-instructions-index.result refl (omega arith) c.index-instructions-index.is in
+    let at : StartsAt c.args.instructions.now c.loop-index.index
+    (slice_index_or c.args.starts.now c.loop-index.index 0) =
+    start_read c.args.instructions.now c.args.starts.now c.loop-index.index c.requires.starts (omega arith) in
+    let here : slice_get c.args.instructions.now c.loop-index.index ≡ Some c.index-instructions-index.result =
+    slice_get_read c.args.instructions.now (length c.args.instructions.now) c.loop-index.index
+    c.index-instructions-index.result refl (omega arith) c.index-instructions-index.is in
     bad_jump c.args.instructions.now c.in-Err.flaw (slice_index_or c.args.starts.now c.loop-index.index 0) (record {
       insn = c.index-instructions-index.result;
-      at = start-insn c.args.instructions.now c.loop-index.index (slice_index_or c.args.starts.now c.loop-index.index 0) c.index-instructions-index.result here at;
-      bad = flaw_found c.args.instructions.now c.args.indexes.now c.requires.indexes (slice_index_or c.args.starts.now c.loop-index.index 0) c.index-instructions-index.result c.in-Err.flaw (sym c.in-Err.ensures);
+      at = start-insn c.args.instructions.now c.loop-index.index
+          (slice_index_or c.args.starts.now c.loop-index.index 0) c.index-instructions-index.result here at;
+      bad = flaw_found c.args.instructions.now c.args.indexes.now c.requires.indexes
+          (slice_index_or c.args.starts.now c.loop-index.index 0) c.index-instructions-index.result c.in-Err.flaw
+          (sym c.in-Err.ensures);
       first = jumps_before c.args.instructions.now c.loop-index.index (slice_index_or c.args.starts.now c.loop-index.index 0) at c.loop-index.invariant.jumps;
     })
 
@@ -40,15 +49,26 @@ returns-in-Err-clause-told c = bad_here (goal.at.returns-in-Err-clause-told c).A
 
 pub loop-index-preserved : goal.loop-index-preserved
 loop-index-preserved c =
-    let at : StartsAt c.args.instructions.now c.loop-index.index (slice_index_or c.args.starts.now c.loop-index.index 0) = start_read c.args.instructions.now c.args.starts.now c.loop-index.index c.requires.starts (omega arith) in
-    let here : slice_get c.args.instructions.now c.loop-index.index ≡ Some c.index-instructions-index.result = slice_get_read c.args.instructions.now (length c.args.instructions.now) c.loop-index.index c.index-instructions-index.result refl (omega arith) c.index-instructions-index.is in
-    let found : target_of c.args.indexes.now (slice_index_or c.args.starts.now c.loop-index.index 0) (distance c.index-instructions-index.result) ≡ Ok c.in-Ok.target = sym c.in-Ok.ensures in
+    let at : StartsAt c.args.instructions.now c.loop-index.index
+    (slice_index_or c.args.starts.now c.loop-index.index 0) =
+    start_read c.args.instructions.now c.args.starts.now c.loop-index.index c.requires.starts (omega arith) in
+    let here : slice_get c.args.instructions.now c.loop-index.index ≡ Some c.index-instructions-index.result =
+    slice_get_read c.args.instructions.now (length c.args.instructions.now) c.loop-index.index
+    c.index-instructions-index.result refl (omega arith) c.index-instructions-index.is in
+    let found : target_of c.args.indexes.now (slice_index_or c.args.starts.now c.loop-index.index 0)
+    (distance c.index-instructions-index.result) ≡ Ok c.in-Ok.target = sym c.in-Ok.ensures in
     record {
       long = omega (arith, c.in_ok-push-in-Ok.ensures.len, c.loop-index.invariant.long);
       targets = subst (HasTargets c.args.instructions.now) (sym c.in_ok-push-in-Ok.ensures.items)
-          (targets_more c.args.instructions.now c.loop-index.targets.items c.loop-index.index c.index-instructions-index.result c.in-Ok.target c.loop-index.invariant.long here c.loop-index.invariant.targets
-          (is_target c.args.instructions.now c.args.indexes.now c.requires.indexes c.loop-index.index (slice_index_or c.args.starts.now c.loop-index.index 0) c.index-instructions-index.result c.in-Ok.target at found));
-      jumps = jumps_more c.args.instructions.now c.args.indexes.now c.requires.indexes c.loop-index.index (slice_index_or c.args.starts.now c.loop-index.index 0) c.index-instructions-index.result c.in-Ok.target here at found c.loop-index.invariant.jumps;
+          (targets_more c.args.instructions.now c.loop-index.targets.items c.loop-index.index
+          c.index-instructions-index.result c.in-Ok.target c.loop-index.invariant.long here
+          c.loop-index.invariant.targets
+          (is_target c.args.instructions.now c.args.indexes.now c.requires.indexes c.loop-index.index
+          (slice_index_or c.args.starts.now c.loop-index.index 0) c.index-instructions-index.result c.in-Ok.target
+          at found));
+      jumps = jumps_more c.args.instructions.now c.args.indexes.now c.requires.indexes c.loop-index.index
+          (slice_index_or c.args.starts.now c.loop-index.index 0) c.index-instructions-index.result c.in-Ok.target
+          here at found c.loop-index.invariant.jumps;
     }
 
 pub returns-clause-jumps : goal.returns-clause-jumps
@@ -56,4 +76,6 @@ returns-clause-jumps c = jumps_all c.args.instructions.now (λ j p i h e f. c.lo
 
 pub returns-in-Err-clause-accepts : goal.returns-in-Err-clause-accepts
 returns-in-Err-clause-accepts c = λ good.
-    absurd (good_has_none c.args.instructions.now c.in-Err.flaw (slice_index_or c.args.starts.now c.loop-index.index 0) good (bad_here (goal.at.returns-in-Err-clause-accepts c).After-drop-targets-in-Err))
+    absurd (good_has_none c.args.instructions.now c.in-Err.flaw
+    (slice_index_or c.args.starts.now c.loop-index.index 0) good
+    (bad_here (goal.at.returns-in-Err-clause-accepts c).After-drop-targets-in-Err))

@@ -11,7 +11,9 @@ loop-index-preserved c = λ k i below at bad.
     let v = c.args.verified.now in
     let all = c.instructions-instructions.result.now in
     let read = slice_get_read all (length all) c.loop-index.index c.index-instructions-index.result refl c.loop-index-test.true c.index-instructions-index.is in
-    let here : slice_get v.program c.loop-index.index ≡ Some c.index-instructions-index.result = ap (λ (xs : List Insn). slice_get xs c.loop-index.index) (sym (c.instructions-instructions.ensures.value ∙ c.program.ensures.value)) ∙ read in
+    let here : slice_get v.program c.loop-index.index ≡ Some c.index-instructions-index.result =
+    ap (λ (xs : List Insn). slice_get xs c.loop-index.index)
+    (sym (c.instructions-instructions.ensures.value ∙ c.program.ensures.value)) ∙ read in
     elim (cases_eq k c.loop-index.index) [
       | inl same ↦
           let is : i ≡ c.index-instructions-index.result = same_Some i c.index-instructions-index.result (sym at ∙ (ap (slice_get v.program) same ∙ here)) in

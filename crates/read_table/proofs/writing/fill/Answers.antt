@@ -13,7 +13,8 @@ loop-place-preserved c =
       c.write.ensures.held ∙ i.1,
       (
         m ∷ i.2.0,
-        subst (λ z. Fills c.args.slot c.args.from c.args.bytes.now z (m ∷ i.2.0)) (sym (add-one c.loop-place.place)) (c.word_of.result, i.2.0, refl, c.word_of.ensures, i.2.1),
+        subst (λ z. Fills c.args.slot c.args.from c.args.bytes.now z (m ∷ i.2.0)) (sym (add-one c.loop-place.place))
+            (c.word_of.result, i.2.0, refl, c.word_of.ensures, i.2.1),
         went_then c.args.seat.now.me.0 c.loop-place.seat.me.0 c.write.new.seat.me.0 i.2.0 (m ∷ []) i.2.2 c.write.ensures.step,
       ),
     )
@@ -21,4 +22,6 @@ loop-place-preserved c =
 pub write-requires-clause-free : goal.write-requires-clause-free
 write-requires-clause-free c =
     let i = c.loop-place.invariant in
-    quiet_free c.args.seat.now.me.0 c.loop-place.seat.me.0 i.2.0 (fills_quiet c.args.slot c.args.from c.loop-place.place c.args.bytes.now i.2.0 i.2.1) i.2.2 c.args.slot c.requires.free
+    quiet_free c.args.seat.now.me.0 c.loop-place.seat.me.0 i.2.0
+    (fills_quiet c.args.slot c.args.from c.loop-place.place c.args.bytes.now i.2.0 i.2.1) i.2.2 c.args.slot
+    c.requires.free

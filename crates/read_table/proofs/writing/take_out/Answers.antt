@@ -7,4 +7,5 @@ pub returns-clause-leaves : goal.returns-clause-leaves
 returns-clause-leaves c =
     let within : c.position_of-at.result < length c.args.list.now.items = search rules in
     let is : get_or c.args.list.now.items c.position_of-at.result c.args.slot ≡ c.args.slot = search rules in
-    subst (Leaves c.args.slot c.args.list.now.items) (sym c.remove.ensures.items) (leaves_remove c.args.list.now.items c.position_of-at.result c.args.slot within is)
+    subst (Leaves c.args.slot c.args.list.now.items) (sym c.remove.ensures.items)
+    (leaves_remove c.args.list.now.items c.position_of-at.result c.args.slot within is)

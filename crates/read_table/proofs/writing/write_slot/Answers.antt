@@ -20,4 +20,6 @@ returns-clause-steps c =
 pub fill-requires-2-clause-free : goal.fill-requires-2-clause-free
 fill-requires-2-clause-free c =
     let ks = c.fill.ensures.steps in
-    quiet_free c.args.seat.now.me.0 c.fill.new.seat.me.0 ks.0 (fills_quiet c.args.slot 0 c.shape-shape.result.key_words c.args.key.now ks.0 ks.1) ks.2 c.args.slot c.requires.free
+    quiet_free c.args.seat.now.me.0 c.fill.new.seat.me.0 ks.0
+    (fills_quiet c.args.slot 0 c.shape-shape.result.key_words c.args.key.now ks.0 ks.1) ks.2 c.args.slot
+    c.requires.free

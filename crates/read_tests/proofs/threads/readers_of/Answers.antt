@@ -15,7 +15,8 @@ loop-seat-preserved c =
     let fresh = λ (r : Reader). IsReady c.args.table.now r.seat in
     let i = c.loop-seat.invariant in
     let all = subst (All ready) c.in-Some.ensures.steps.0 i.0 in
-    let pushed = All-append fresh c.loop-seat.readers.items _ i.1 (All-cons fresh _ [] (All-head ready c.in-Some.seat c.next.new.self.rest.items all) (All-nil fresh)) in (
+    let pushed = All-append fresh c.loop-seat.readers.items _ i.1
+    (All-cons fresh _ [] (All-head ready c.in-Some.seat c.next.new.self.rest.items all) (All-nil fresh)) in (
       All-tail ready c.in-Some.seat c.next.new.self.rest.items all,
       subst (All fresh) (sym c.push.ensures.items) (all-either fresh _ _ _ pushed i.1),
     )

@@ -9,6 +9,7 @@ loop-i-preserved c =
     let k : c.loop-i.i ≡ c.args.at + c.loop-i.i - c.args.at = omega arith in
     record {
       rest = ap (λ r. r / 256) c.loop-i.invariant.rest ∙ div_step c.args.n c.loop-i.i;
-      cells = cells_more c.loop-i.frame c.args.frame.now (λ j. Byte (c.args.n / 256 ^ (j - c.args.at) % 256)) c.args.at c.loop-i.i (Byte (c.loop-i.rest % 256)) (omega arith)
+      cells = cells_more c.loop-i.frame c.args.frame.now (λ j. Byte (c.args.n / 256 ^ (j - c.args.at) % 256))
+          c.args.at c.loop-i.i (Byte (c.loop-i.rest % 256)) (omega arith)
           (ap (λ r. Byte (r % 256)) c.loop-i.invariant.rest ∙ ap (λ (i : ℕ). Byte (c.args.n / 256 ^ i % 256)) k) c.loop-i.invariant.cells;
     }

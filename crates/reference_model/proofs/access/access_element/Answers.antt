@@ -17,7 +17,8 @@ returns-in-Load-clause-acts c = λ context maps.
     let h : SFits w64 c.args.o = c.ranges.o in
     let loads = simp to_z-of_z at c.load.ensures in
     subst (λ i. ActsAs i (environment_of context maps) es c.args.run.now c.load.result es c.load.new.run) (sym c.in-Load.is)
-    (loaded-acts c.in-Load.width c.in-Load.dst c.in-Load.src c.in-Load.offset (environment_of context maps) es c.args.run.now c.load.new.run c.load.result c.args.n c.args.o base loads)
+    (loaded-acts c.in-Load.width c.in-Load.dst c.in-Load.src c.in-Load.offset (environment_of context maps) es
+    c.args.run.now c.load.new.run c.load.result c.args.n c.args.o base loads)
 
 pub returns-in-LoadSigned-clause-acts : goal.returns-in-LoadSigned-clause-acts
 returns-in-LoadSigned-clause-acts c = λ context maps.
@@ -27,4 +28,6 @@ returns-in-LoadSigned-clause-acts c = λ context maps.
     let h : SFits w64 c.args.o = c.ranges.o in
     let loads = simp to_z-of_z at c.load_extended.ensures in
     subst (λ i. ActsAs i (environment_of context maps) es c.args.run.now c.load_extended.result es c.load_extended.new.run) (sym c.in-LoadSigned.is)
-    (extended-acts c.in-LoadSigned.width c.in-LoadSigned.dst c.in-LoadSigned.src c.in-LoadSigned.offset (environment_of context maps) es c.args.run.now c.load_extended.new.run c.load_extended.result c.args.n c.args.o base loads)
+    (extended-acts c.in-LoadSigned.width c.in-LoadSigned.dst c.in-LoadSigned.src c.in-LoadSigned.offset
+    (environment_of context maps) es c.args.run.now c.load_extended.new.run c.load_extended.result c.args.n
+    c.args.o base loads)

@@ -13,11 +13,14 @@ loop-k-init g c =
 pub loop-k-preserved : goal.loop-k-preserved
 loop-k-preserved g c =
     let frame = (plain_state_of c.args.run.now).frame in
-    c.loop-k.invariant ∙ bytes-next frame c.args.at c.loop-k.k c.args.len c.loop-k.bytes.items c.in-Some.byte c.loop-k-test.true (sym c.byte_in.ensures ∙ c.in-Some.is)
+    c.loop-k.invariant ∙ bytes-next frame c.args.at c.loop-k.k c.args.len c.loop-k.bytes.items c.in-Some.byte
+    c.loop-k-test.true (sym c.byte_in.ensures ∙ c.in-Some.is)
     ∙ ap (λ xs. with_front xs (bytes_at frame (c.args.at + (c.loop-k.k + 1)) (c.args.len - (c.loop-k.k + 1)))) (sym c.in-Ok.ensures.ok)
 
 pub returns-in_default : goal.returns-in_default
-returns-in_default g c = c.loop-k.invariant ∙ bytes-stuck (plain_state_of c.args.run.now).frame c.args.at c.loop-k.k c.args.len c.loop-k.bytes.items c.loop-k-test.true (sym c.byte_in.ensures ∙ c.in_default.is)
+returns-in_default g c = c.loop-k.invariant ∙ bytes-stuck (plain_state_of c.args.run.now).frame c.args.at c.loop-k.k
+    c.args.len c.loop-k.bytes.items c.loop-k-test.true (sym c.byte_in.ensures ∙ c.in_default.is)
 
 pub returns : goal.returns
-returns g c = c.loop-k.invariant ∙ bytes-end (plain_state_of c.args.run.now).frame c.args.at c.loop-k.k c.args.len c.loop-k.bytes.items (omega (arith, c.loop-k-test.false))
+returns g c = c.loop-k.invariant ∙ bytes-end (plain_state_of c.args.run.now).frame c.args.at c.loop-k.k c.args.len
+    c.loop-k.bytes.items (omega (arith, c.loop-k-test.false))

@@ -18,5 +18,7 @@ returns-in-Some-Lookup-clause-tells c =
     let run = run_with (loaded_of c.args.program.now) c.args.run.now in
     let g : SFits w32 c.args.imm = c.ranges.imm in
     let e = simp to_z-of_z at c.from_number.ensures in
-    subst (λ f. TellsResult (λ ret. HelperStep f s opened run ret s) ((ret : Value) (t : Store) → HelperStep f s opened run ret t → ⊥) c.lookup.result) (ap Some (sym c.in-Some-Lookup.field-0-is) ∙ sym c.in-Some-Lookup.is ∙ e)
+    subst (λ f. TellsResult (λ ret. HelperStep f s opened run ret s)
+    ((ret : Value) (t : Store) → HelperStep f s opened run ret t → ⊥) c.lookup.result)
+    (ap Some (sym c.in-Some-Lookup.field-0-is) ∙ sym c.in-Some-Lookup.is ∙ e)
     (tells-map _ _ _ _ c.lookup.result (λ a h. (h, refl)) (λ none ret t h. none ret h.0) c.lookup.ensures)

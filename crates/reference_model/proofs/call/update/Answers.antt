@@ -15,7 +15,9 @@ returns-clause-tells c =
     let at = c.in_ok-at.at in
     let is = c.in_ok-at.ensures in
     let frame = run.state.frame in
-    let value : value_argument s run at.map ≡ Some c.in_ok-value.value.items = ap (λ o. o >>= λ shape. frame_bytes frame shape.value_len (run.state.regs 3)) is.shape ∙ ap (frame_bytes frame at.shape.value_len) (sym c.register.ensures) ∙ c.in_ok-value.ensures in
+    let value : value_argument s run at.map ≡ Some c.in_ok-value.value.items =
+    ap (λ o. o >>= λ shape. frame_bytes frame shape.value_len (run.state.regs 3)) is.shape ∙
+    ap (frame_bytes frame at.shape.value_len) (sym c.register.ensures) ∙ c.in_ok-value.ensures in
     record {
       map = at.map;
       key = at.key.items;

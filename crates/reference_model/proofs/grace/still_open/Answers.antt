@@ -16,7 +16,9 @@ loop-r-preserved c =
     let first : r < length xs = omega (arith, c.loop-r-test.true, c.min-r-end.ensures) in
     let second : r < length ys = omega (arith, c.loop-r-test.true, c.min-r-end.ensures) in
     let pushed = c.in_ok-push.ensures.items ∙ ap (λ f. c.loop-r.flags.items ++ f ∷ []) c.both.ensures in
-    c.loop-r.invariant ∙ flags-more xs ys c.loop-r.flags.items r a b (slice_get-get_or xs r false first) (slice_get-get_or ys r false second) ∙ ap (λ l. l ++ still_open (drop (r + 1) xs) (drop (r + 1) ys)) (sym pushed)
+    c.loop-r.invariant ∙ flags-more xs ys c.loop-r.flags.items r a b (slice_get-get_or xs r false first)
+    (slice_get-get_or ys r false second) ∙ ap (λ l. l ++ still_open (drop (r + 1) xs) (drop (r + 1) ys))
+    (sym pushed)
 
 pub returns : goal.returns
 returns c =

@@ -16,14 +16,18 @@ returns-then-is_none c = λ programs.
     let x = c.index-runs-r.result in
     let free : is_some x ≡ false = c.is_none.ensures ∙ ap not c.if-is_none.true in
     let zero : 0 + r ≡ r = omega arith in
-    ap Some (sym zero) ∙ sym (c.loop-r.invariant programs ∙ ap (later r) (lowest-here programs runs r x (slice_get_read runs (length runs) r x refl c.loop-r-test.true c.index-runs-r.is) free))
+    ap Some (sym zero) ∙ sym (c.loop-r.invariant programs ∙
+    ap (later r) (lowest-here programs runs r x (slice_get_read runs (length runs) r x refl c.loop-r-test.true
+    c.index-runs-r.is) free))
 
 pub loop-r-preserved : goal.loop-r-preserved
 loop-r-preserved c = λ programs.
     let runs = c.args.runs.now in
     let x = c.index-runs-r.result in
     let taken : is_some x ≡ true = c.is_none.ensures ∙ ap not c.if-is_none.false in
-    c.loop-r.invariant programs ∙ lowest-later programs runs c.loop-r.r x (slice_get_read runs (length runs) c.loop-r.r x refl c.loop-r-test.true c.index-runs-r.is) taken
+    c.loop-r.invariant programs ∙ lowest-later programs runs c.loop-r.r x
+    (slice_get_read runs (length runs) c.loop-r.r x refl c.loop-r-test.true c.index-runs-r.is) taken
 
 pub returns : goal.returns
-returns c = λ programs. sym (c.loop-r.invariant programs ∙ ap (later c.loop-r.r) (lowest-past programs c.args.runs.now c.loop-r.r (omega (arith, c.loop-r-test.false))))
+returns c = λ programs. sym (c.loop-r.invariant programs ∙
+    ap (later c.loop-r.r) (lowest-past programs c.args.runs.now c.loop-r.r (omega (arith, c.loop-r-test.false))))

@@ -12,7 +12,9 @@ loop-r-preserved c = λ programs.
     let runs = c.args.runs.now in
     let r = c.loop-r.r in
     let x = c.index-runs-r.result in
-    c.in_ok-push_section.ensures programs ∙ ap (λ l. l ++ open_sections (option_map (run_of programs) x ∷ [])) (c.loop-r.invariant programs) ∙ open-more programs runs r x (slice_get_read runs (length runs) r x refl c.loop-r-test.true c.index-runs-r.is)
+    c.in_ok-push_section.ensures programs ∙ ap (λ l. l ++ open_sections (option_map (run_of programs) x ∷ []))
+    (c.loop-r.invariant programs) ∙ open-more programs runs r x
+    (slice_get_read runs (length runs) r x refl c.loop-r-test.true c.index-runs-r.is)
 
 pub returns : goal.returns
 returns c = λ programs.

@@ -18,8 +18,11 @@ returns-in-Some-Kernel-default-clause-steps c =
     let imm = c.in-Some-Kernel-default.imm in
     let g : SFits w32 imm = search rules in
     let steps = simp to_z-of_z at c.call_kernel.ensures.steps in
-    let is = call-is c.args.insn.now kinds.Kernel imm (sym c.call_of.ensures ∙ c.in-Some-Kernel-default.is ∙ ap (λ k. Some (call-pair k imm)) c.in-Some-Kernel-default.field-0-0-is) in
-    subst (λ i. InsnStepsAs i s (sections_of c.args.opened.now) run c.call_kernel.result s new) (sym is) (kernel-steps imm s (sections_of c.args.opened.now) run c.call_kernel.result new (steps (loaded_of c.args.program.now)))
+    let is = call-is c.args.insn.now kinds.Kernel imm (sym c.call_of.ensures ∙ c.in-Some-Kernel-default.is ∙
+    ap (λ k. Some (call-pair k imm)) c.in-Some-Kernel-default.field-0-0-is) in
+    subst (λ i. InsnStepsAs i s (sections_of c.args.opened.now) run c.call_kernel.result s new) (sym is)
+    (kernel-steps imm s (sections_of c.args.opened.now) run c.call_kernel.result new
+    (steps (loaded_of c.args.program.now)))
 
 pub returns-in-Some-Helper-default-clause-steps : goal.returns-in-Some-Helper-default-clause-steps
 returns-in-Some-Helper-default-clause-steps c =
@@ -28,9 +31,15 @@ returns-in-Some-Helper-default-clause-steps c =
     let imm = c.in-Some-Helper-default.imm in
     let g : SFits w32 imm = search rules in
     let steps = simp to_z-of_z at c.call_helper.ensures.steps in
-    let is = call-is c.args.insn.now kinds.Helper imm (sym c.call_of.ensures ∙ c.in-Some-Helper-default.is ∙ ap (λ k. Some (call-pair k imm)) c.in-Some-Helper-default.field-0-0-is) in
-    subst (λ i. InsnStepsAs i (store_of c.args.store.now) (sections_of c.args.opened.now) run c.call_helper.result (store_of c.call_helper.new.store) new) (sym is) (of-kinds (Call kinds.Helper imm) (store_of c.args.store.now) (sections_of c.args.opened.now) run c.call_helper.result (store_of c.call_helper.new.store) new steps)
+    let is = call-is c.args.insn.now kinds.Helper imm (sym c.call_of.ensures ∙ c.in-Some-Helper-default.is ∙
+    ap (λ k. Some (call-pair k imm)) c.in-Some-Helper-default.field-0-0-is) in
+    subst (λ i. InsnStepsAs i (store_of c.args.store.now) (sections_of c.args.opened.now) run c.call_helper.result
+    (store_of c.call_helper.new.store) new) (sym is)
+    (of-kinds (Call kinds.Helper imm) (store_of c.args.store.now) (sections_of c.args.opened.now) run
+    c.call_helper.result (store_of c.call_helper.new.store) new steps)
 
 pub returns-in-None-clause-steps : goal.returns-in-None-clause-steps
-returns-in-None-clause-steps c = alone-steps c.args.insn.now (store_of c.args.store.now) (sections_of c.args.opened.now) (run_with (loaded_of c.args.program.now) c.args.run.now) c.step_alone.result (store_of c.step_alone.new.store)
+returns-in-None-clause-steps c = alone-steps c.args.insn.now (store_of c.args.store.now)
+    (sections_of c.args.opened.now) (run_with (loaded_of c.args.program.now) c.args.run.now) c.step_alone.result
+    (store_of c.step_alone.new.store)
     (run_with (loaded_of c.args.program.now) c.step_alone.new.run) (sym c.call_of.ensures ∙ c.in-None.is) c.step_alone.ensures.steps

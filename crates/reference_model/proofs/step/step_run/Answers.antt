@@ -15,4 +15,6 @@ returns-in-Some-clause-steps c =
     let run = run_with (loaded_of c.args.program.now) c.args.run.now in
     let i : Insn = c.in-Some.insn.now in
     let at : insn_at run.program.code run.state.place ≡ Some i = search rules in
-    tells-map _ _ _ _ c.step_insn.result (λ a h. (i, at, h)) (λ none a t q g. none a t q (subst (λ j. InsnStep j s opened run a t q) (same_Some g.0 i (sym g.1 ∙ at)) g.2)) c.step_insn.ensures.steps
+    tells-map _ _ _ _ c.step_insn.result (λ a h. (i, at, h))
+    (λ none a t q g. none a t q (subst (λ j. InsnStep j s opened run a t q) (same_Some g.0 i (sym g.1 ∙ at)) g.2))
+    c.step_insn.ensures.steps

@@ -23,10 +23,14 @@ loop-n-preserved c = record {
       let second : n < length elements = omega (arith, c.loop-n-test.true, c.min-n-end.ensures) in
       let x = c.index-elements-n.result in
       let o = made-from linked_map olds before n None h first in
-      let there : slice_get (elements_of elements) n ≡ Some (element_of x) = get-map element_of elements n x (slice_get_read elements (length elements) n x refl second c.index-elements-n.is) in
+      let there : slice_get (elements_of elements) n ≡ Some (element_of x) =
+      get-map element_of elements n x (slice_get_read elements (length elements) n x refl second
+      c.index-elements-n.is) in
       let wanted = c.is_retired.ensures o.0 o.2 in
       let pushed = c.in_ok-push_if.ensures ∙ ap (λ b. done ++ (if b then n ∷ [] else [])) wanted in
-      c.loop-n.invariant.next olds h ∙ unlinked-more olds (elements_of elements) k n done o.0 (element_of x) o.1 there ∙ ap (λ l. l ++ unlinked_between k (n + 1) (drop (n + 1) olds) (drop (n + 1) (elements_of elements))) (sym pushed);
+      c.loop-n.invariant.next olds h ∙ unlinked-more olds (elements_of elements) k n done o.0 (element_of x) o.1 there
+      ∙ ap (λ l. l ++ unlinked_between k (n + 1) (drop (n + 1) olds) (drop (n + 1) (elements_of elements)))
+      (sym pushed);
   waiting = c.loop-n.invariant.waiting;
   ready = c.loop-n.invariant.ready;
 }
@@ -46,5 +50,7 @@ returns c = λ olds h.
     ] in
     let next : now.next.items ≡ old.next.items ++ unlinked_between k 0 olds news = sym (c.loop-n.invariant.next olds h ∙ rest) in
     let of : List ℕ → List ℕ → List ℕ → Queues = λ a b d. record { next = a; waiting = b; ready = d } in
-    ap (λ a. of a now.waiting.items now.ready.items) next ∙ ap (λ v. of (old.next.items ++ unlinked_between k 0 olds news) v.items now.ready.items) c.loop-n.invariant.waiting
+    ap (λ a. of a now.waiting.items now.ready.items) next ∙
+    ap (λ v. of (old.next.items ++ unlinked_between k 0 olds news) v.items now.ready.items)
+    c.loop-n.invariant.waiting
     ∙ ap (λ v. of (old.next.items ++ unlinked_between k 0 olds news) old.waiting.items v.items) c.loop-n.invariant.ready

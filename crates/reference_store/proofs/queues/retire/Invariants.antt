@@ -9,7 +9,8 @@ use Rattle.reference_store.proofs.queues.retire.Given as goal
 abbrev pub invariant-loop-n : goal.invariant-loop-n
 invariant-loop-n l = record {
   next : (olds : List Element) → l.before ≡ map linked_map olds →
-      l.fn.queues.next.items ++ unlinked_between l.k 0 olds (elements_of l.elements) ≡ l.queues.next.items ++ unlinked_between l.k l.n (drop l.n olds) (drop l.n (elements_of l.elements));
+      l.fn.queues.next.items ++ unlinked_between l.k 0 olds (elements_of l.elements) ≡ l.queues.next.items ++
+      unlinked_between l.k l.n (drop l.n olds) (drop l.n (elements_of l.elements));
   waiting : l.queues.waiting ≡ l.fn.queues.waiting;
   ready : l.queues.ready ≡ l.fn.queues.ready;
 }

@@ -15,9 +15,11 @@ loop-k-preserved c = λ olds h.
     let news = elements_of c.args.elements.now in
     let bound : k < length xs = omega (arith, c.loop-k-test.true, c.loop-k.auto.queues) in
     let done = c.in_ok-retire.ensures olds h ∙ ap (λ q. retired_in k olds news (queues_of q)) (sym c.index-queues-k.is) in
-    changed-one (λ j. retired_in j olds news) c.args.queues.now xs k x c.retire.new.queues (c.loop-k.invariant olds h) (slice_get_read xs (length xs) k x refl bound c.index-queues-k.is) done
+    changed-one (λ j. retired_in j olds news) c.args.queues.now xs k x c.retire.new.queues (c.loop-k.invariant olds h)
+    (slice_get_read xs (length xs) k x refl bound c.index-queues-k.is) done
 
 pub returns : goal.returns
 returns c = λ olds h.
     let items = c.args.queues.now in
-    c.loop-k.invariant olds h ∙ all-retired olds (elements_of c.args.elements.now) (map queues_of items) c.loop-k.k 0 (omega (arith, length-map items queues_of, c.loop-k-test.false))
+    c.loop-k.invariant olds h ∙ all-retired olds (elements_of c.args.elements.now) (map queues_of items) c.loop-k.k 0
+    (omega (arith, length-map items queues_of, c.loop-k-test.false))

@@ -7,4 +7,5 @@ use Rattle.reference_store.proofs.Queueing.{mixed}
 use Rattle.reference_store.proofs.queues.retire_all.Given as goal
 
 abbrev pub invariant-loop-k : goal.invariant-loop-k
-invariant-loop-k l = (olds : List Element) → l.before ≡ map linked_map olds → map queues_of l.queues ≡ mixed (λ j. retired_in j olds (elements_of l.elements)) l.k 0 (map queues_of l.fn.queues)
+invariant-loop-k l = (olds : List Element) → l.before ≡ map linked_map olds →
+    map queues_of l.queues ≡ mixed (λ j. retired_in j olds (elements_of l.elements)) l.k 0 (map queues_of l.fn.queues)

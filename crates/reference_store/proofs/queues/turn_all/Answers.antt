@@ -14,7 +14,8 @@ loop-k-preserved c =
     let x = c.index-queues-k.result in
     let bound : k < length xs = omega (arith, c.loop-k-test.true, c.loop-k.auto.queues) in
     let done = c.in_ok-turn.ensures ∙ ap (λ q. turned (queues_of q)) (sym c.index-queues-k.is) in
-    changed-one (λ _ q. turned q) c.args.queues.now xs k x c.turn.new.queues c.loop-k.invariant (slice_get_read xs (length xs) k x refl bound c.index-queues-k.is) done
+    changed-one (λ _ q. turned q) c.args.queues.now xs k x c.turn.new.queues c.loop-k.invariant
+    (slice_get_read xs (length xs) k x refl bound c.index-queues-k.is) done
 
 pub returns : goal.returns
 returns c =

@@ -19,4 +19,5 @@ loop-i-preserved g c =
 
 pub returns : goal.returns
 returns g c = same_lists c.loop-i.items c.args.others.now (omega arith)
-    (λ k d h. sym (unwrap_or-slice_get c.loop-i.items k d) ∙ (ap (λ o. unwrap_or o d) (c.loop-i.invariant k (omega arith)) ∙ unwrap_or-slice_get c.args.others.now k d))
+    (λ k d h. sym (unwrap_or-slice_get c.loop-i.items k d) ∙
+    (ap (λ o. unwrap_or o d) (c.loop-i.invariant k (omega arith)) ∙ unwrap_or-slice_get c.args.others.now k d))

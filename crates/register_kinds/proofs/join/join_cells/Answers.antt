@@ -24,4 +24,5 @@ loop-g-preserved c =
     }
 
 pub returns : goal.returns
-returns c = joined_all c.loop-g.cells c.args.cells.now c.args.others.now (λ k. kind_in c.args.spills.now (k / 8)) (omega arith) c.requires.long (λ k h. c.loop-g.invariant.done k (omega arith))
+returns c = joined_all c.loop-g.cells c.args.cells.now c.args.others.now (λ k. kind_in c.args.spills.now (k / 8))
+    (omega arith) c.requires.long (λ k h. c.loop-g.invariant.done k (omega arith))

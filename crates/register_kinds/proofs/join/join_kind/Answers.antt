@@ -21,9 +21,11 @@ returns-in-Value-Value-clause-joins c =
     let h = c.in-Value-Value in
     let e = c.join-in-Value-Value.ensures in
     let hull : IsHull h.s h.t c.join-in-Value-Value.result = record { least = e.least; greatest = e.greatest; zeros = e.zeros; ones = e.ones } in
-    values_joined c.args.top c.args.pairs.now.items c.args.a c.args.b h.s h.t c.join-in-Value-Value.result e.left e.right hull h.m h.n h.is-0 h.is-1 c.if-m-n-2.true
+    values_joined c.args.top c.args.pairs.now.items c.args.a c.args.b h.s h.t c.join-in-Value-Value.result e.left
+    e.right hull h.m h.n h.is-0 h.is-1 c.if-m-n-2.true
 
 pub returns-in-MaybeNull-MaybeNull-clause-joins : goal.returns-in-MaybeNull-MaybeNull-clause-joins
 returns-in-MaybeNull-MaybeNull-clause-joins c =
     let h = c.in-MaybeNull-MaybeNull in
-    maybe_joined c.args.top c.join_identities.new.pairs.items c.args.a c.args.b h.m h.n h.x h.y c.join_identities.result h.is-0 h.is-1 c.if-m-n-3.true c.join_identities.ensures.joins
+    maybe_joined c.args.top c.join_identities.new.pairs.items c.args.a c.args.b h.m h.n h.x h.y
+    c.join_identities.result h.is-0 h.is-1 c.if-m-n-3.true c.join_identities.ensures.joins

@@ -23,7 +23,8 @@ pub returns-in_default : goal.returns-in_default
 returns-in_default c = record {
   sound = λ x y p q h k.
       subst (Holds c.low_bits-in_default.result)
-      (low_same c.args.op x y p q c.in_default.not-SignedDiv c.in_default.not-SignedMod c.in_default.not-ShiftLeft c.in_default.not-ShiftRight c.in_default.not-ShiftRightSigned)
+      (low_same c.args.op x y p q c.in_default.not-SignedDiv c.in_default.not-SignedMod c.in_default.not-ShiftLeft
+      c.in_default.not-ShiftRight c.in_default.not-ShiftRightSigned)
       (c.low_bits-in_default.ensures.sound _ (c.apply_unsigned.ensures.sound x y (omega (arith, p)) (omega (arith, q)) h k));
   bound = c.low_bits-in_default.ensures.greatest;
 }

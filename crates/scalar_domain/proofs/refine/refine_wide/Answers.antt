@@ -33,10 +33,12 @@ returns-then-is_signed-clause-pair c = λ m.
     let i = c.relation_of-relation.ensures ∙ ap (λ d. relation_on d c.args.taken) c.condition_without_sign.ensures in
     IfSome_then c.relate_signed.result c.relate_signed.ensures.pair (λ p h.
     mapped (ToldSigned (2 ^ 63) c.relation_of-relation.result) (λ x y. holds w64 c.args.condition x y ≡ c.args.taken) c.args.a c.args.b h
-    (λ x y p q t. told_signed w64 c.args.condition c.args.taken x y (sym c.is_signed.ensures ∙ c.if-is_signed.true) (subst (λ r. ToldSigned (2 ^ 63) r x y) i t)))
+    (λ x y p q t. told_signed w64 c.args.condition c.args.taken x y (sym c.is_signed.ensures ∙ c.if-is_signed.true)
+    (subst (λ r. ToldSigned (2 ^ 63) r x y) i t)))
 
 pub returns-else-is_signed-clause-pair : goal.returns-else-is_signed-clause-pair
 returns-else-is_signed-clause-pair c = λ m.
     IfSome_then c.relate.result c.relate.ensures.pair (λ p h.
     mapped (Told c.relation_of.result) (λ x y. holds w64 c.args.condition x y ≡ c.args.taken) c.args.a c.args.b h
-    (λ x y p q t. told_along w64 c.args.condition c.args.taken x y (sym c.is_signed.ensures ∙ c.if-is_signed.false) m (subst (λ r. Told r x y) c.relation_of.ensures t)))
+    (λ x y p q t. told_along w64 c.args.condition c.args.taken x y (sym c.is_signed.ensures ∙ c.if-is_signed.false) m
+    (subst (λ r. Told r x y) c.relation_of.ensures t)))

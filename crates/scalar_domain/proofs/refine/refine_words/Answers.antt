@@ -18,9 +18,13 @@ pub returns-in-Word64-clause-apart : goal.returns-in-Word64-clause-apart
 returns-in-Word64-clause-apart c = λ k x s. c.refine_wide.ensures.apart k x
 
 pub returns-in-Word64-clause-pair : goal.returns-in-Word64-clause-pair
-returns-in-Word64-clause-pair c = λ f g m. subst (λ s. IfSome c.refine_wide.result (λ _. SomeGoAlong s c.args.condition c.args.taken c.args.a c.args.b)) (sym c.in-Word64.is) (c.refine_wide.ensures.pair m)
+returns-in-Word64-clause-pair c = λ f g m. subst (λ s.
+    IfSome c.refine_wide.result (λ _. SomeGoAlong s c.args.condition c.args.taken c.args.a c.args.b))
+    (sym c.in-Word64.is) (c.refine_wide.ensures.pair m)
 
 pub returns-then-b-lt4294967296-clause-pair : goal.returns-then-b-lt4294967296-clause-pair
 returns-then-b-lt4294967296-clause-pair c = λ f g m.
     subst (λ s. IfSome c.refine_narrow.result (λ _. SomeGoAlong s c.args.condition c.args.taken c.args.a c.args.b)) (sym c.in-Word32.is)
-    (IfSome_then c.refine_narrow.result (c.refine_narrow.ensures.pair m) (λ p h. narrow_pair c.args.condition c.args.taken c.args.a c.args.b c.if-a-lt4294967296.true c.if-b-lt4294967296.true h))
+    (IfSome_then c.refine_narrow.result (c.refine_narrow.ensures.pair m)
+    (λ p h. narrow_pair c.args.condition c.args.taken c.args.a c.args.b c.if-a-lt4294967296.true
+    c.if-b-lt4294967296.true h))

@@ -31,7 +31,8 @@ pub returns-in-Different-clause-apart : goal.returns-in-Different-clause-apart
 returns-in-Different-clause-apart c = λ k x e. c.different.ensures.apart k x
 
 pub returns-in-Equal-clause-pair : goal.returns-in-Equal-clause-pair
-returns-in-Equal-clause-pair c = IfSome_then c.equal.result c.equal.ensures.meet (λ p l. subst (λ o. HasPair (Told o) c.args.a c.args.b) (sym c.in-Equal.is) (met c.args.a c.args.b l.0 l.1))
+returns-in-Equal-clause-pair c = IfSome_then c.equal.result c.equal.ensures.meet
+    (λ p l. subst (λ o. HasPair (Told o) c.args.a c.args.b) (sym c.in-Equal.is) (met c.args.a c.args.b l.0 l.1))
 
 pub returns-in-Apart-clause-pair : goal.returns-in-Apart-clause-pair
 returns-in-Apart-clause-pair c = subst (λ o. HasPair (Told o) c.args.a c.args.b) (sym c.in-Apart.is) (pair_up (λ x y. Unit {0}) c.args.a c.args.b tt)

@@ -7,5 +7,7 @@ some_before line n some first space = grind (arith, first, space)
 
 pub returns : goal.returns
 returns c =
-    let first = first_word c.args.line.now c.word_end.result (some_before c.args.line.now c.word_end.result c.requires.some c.requires.first c.word_end.ensures.space) c.word_end.ensures.within c.word_end.ensures.before c.word_end.ensures.space in
+    let first = first_word c.args.line.now c.word_end.result
+    (some_before c.args.line.now c.word_end.result c.requires.some c.requires.first c.word_end.ensures.space)
+    c.word_end.ensures.within c.word_end.ensures.before c.word_end.ensures.space in
     rw (c.split_at.ensures.front, c.split_at.ensures.back) first

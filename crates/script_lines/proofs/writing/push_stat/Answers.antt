@@ -10,4 +10,9 @@ three start first second third p q r one two all =
 
 pub returns : goal.returns
 returns c =
-    on_ok_weaker c.push_pair-3.result (three c.args.out.now.items c.push_pair.new.out.items c.push_pair-2.new.out.items c.push_pair-3.new.out.items (counted (codes "stat linked ") c.args.stat.linked ++ counted (codes " unlinked ") c.args.stat.unlinked) (counted (codes " given ") c.args.stat.given ++ counted (codes " worn ") c.args.stat.worn) (counted (codes " runs ") c.args.stat.runs ++ counted (codes " open ") c.args.stat.«open») c.in_ok-push_pair.ensures c.in_ok-push_pair-2.ensures) c.push_pair-3.ensures
+    on_ok_weaker c.push_pair-3.result (three c.args.out.now.items c.push_pair.new.out.items
+    c.push_pair-2.new.out.items c.push_pair-3.new.out.items
+    (counted (codes "stat linked ") c.args.stat.linked ++ counted (codes " unlinked ") c.args.stat.unlinked)
+    (counted (codes " given ") c.args.stat.given ++ counted (codes " worn ") c.args.stat.worn)
+    (counted (codes " runs ") c.args.stat.runs ++ counted (codes " open ") c.args.stat.«open»)
+    c.in_ok-push_pair.ensures c.in_ok-push_pair-2.ensures) c.push_pair-3.ensures

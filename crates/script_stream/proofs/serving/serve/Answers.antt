@@ -9,18 +9,21 @@ use Rattle.script_stream.proofs.serving.serve.Goals as goal
 pub returns-in_err-chunk-clause-failed : goal.returns-in_err-chunk-clause-failed
 returns-in_err-chunk-clause-failed g c =
     let p = err_from_is_err_and c.from_residual.result c.from_residual.ensures.1 in
-    let start = IsAt-start g.A.Respond.answers c.args.responder.now c.new-progress.result c.new-progress.ensures.rest c.new-progress.ensures.out c.new-progress.ensures.answered in
+    let start = IsAt-start g.A.Respond.answers c.args.responder.now c.new-progress.result c.new-progress.ensures.rest
+    c.new-progress.ensures.out c.new-progress.ensures.answered in
     rw (p.1, p.2) (
       [],
       [],
       Consumes-nil _,
       Appends-nil _,
-      inr (λ rest. fails_reading g.A.Respond.answers g.A.Respond.is_bad c.args.responder.now [] rest [] c.new-progress.result c.args.responder.now _ start (not_read_bad _ (inr refl))),
+      inr (λ rest. fails_reading g.A.Respond.answers g.A.Respond.is_bad c.args.responder.now [] rest []
+          c.new-progress.result c.args.responder.now _ start (not_read_bad _ (inr refl))),
     )
 
 pub loop-init : goal.loop-init
 loop-init g c =
-    let start = IsAt-start g.A.Respond.answers c.args.responder.now c.new-progress.result c.new-progress.ensures.rest c.new-progress.ensures.out c.new-progress.ensures.answered in
+    let start = IsAt-start g.A.Respond.answers c.args.responder.now c.new-progress.result c.new-progress.ensures.rest
+    c.new-progress.ensures.out c.new-progress.ensures.answered in
     ([], [], Consumes-nil _, Appends-nil _, start, omega (arith, c.in_ok-chunk.ensures.len, c.in_ok-chunk.chunk.ok.0))
 
 pub returns-in_err-goes_on-clause-failed : goal.returns-in_err-goes_on-clause-failed
@@ -56,5 +59,6 @@ returns-clause-failed g c =
       inv.1,
       inv.2,
       inv.3,
-      inr (λ rest. fails_reading g.A.Respond.answers g.A.Respond.is_bad c.args.responder.now inv.0 rest inv.1 c.loop.progress c.loop.responder _ inv.4 (not_read_bad _ (inl refl))),
+      inr (λ rest. fails_reading g.A.Respond.answers g.A.Respond.is_bad c.args.responder.now inv.0 rest inv.1
+          c.loop.progress c.loop.responder _ inv.4 (not_read_bad _ (inl refl))),
     )

@@ -18,7 +18,8 @@ returns-in_err-count-clause-err g c = λ first input written at.
       inr (λ rest.
           FailsWith-at g.A.Respond.answers g.A.Respond.is_bad first (input ++ rest) ((input ++ []) ++ rest) written (written ++ []) _
           (ap (λ r. r ++ rest) (sym (append-nil input))) (sym (append-nil written))
-          (fails_reading g.A.Respond.answers g.A.Respond.is_bad first input rest written c.args.progress.now c.args.responder.now _ at (not_read_bad _ e.fault))),
+          (fails_reading g.A.Respond.answers g.A.Respond.is_bad first input rest written c.args.progress.now
+          c.args.responder.now _ at (not_read_bad _ e.fault))),
     )
 
 pub returns-in_err-finish-clause-err : goal.returns-in_err-finish-clause-err
@@ -72,9 +73,11 @@ returns-in_err-send-clause-err g c = λ first input written at.
       c.in_ok-count.ensures.ok,
       Appends-trans _ _ _ t.0 s.1.0 t.1 s.1.3,
       inr (λ rest.
-          FailsWith-at g.A.Respond.answers g.A.Respond.is_bad first ((input ++ took) ++ rest) ((input ++ took) ++ rest) ((written ++ t.0) ++ s.1.0) (written ++ (t.0 ++ s.1.0)) _
+          FailsWith-at g.A.Respond.answers g.A.Respond.is_bad first ((input ++ took) ++ rest)
+          ((input ++ took) ++ rest) ((written ++ t.0) ++ s.1.0) (written ++ (t.0 ++ s.1.0)) _
           refl (append_assoc written t.0 s.1.0)
-          (fails_writing g.A.Respond.answers g.A.Respond.is_bad first (input ++ took) rest ((input ++ took) ++ rest) (written ++ t.0) c.take.new.self c.take.new.responder s.1.0 s.1.1 _ t.2
+          (fails_writing g.A.Respond.answers g.A.Respond.is_bad first (input ++ took) rest ((input ++ took) ++ rest)
+          (written ++ t.0) c.take.new.self c.take.new.responder s.1.0 s.1.1 _ t.2
           refl s.1.2 s.0)),
     )
 
@@ -89,5 +92,6 @@ returns-clause-ok g c = λ first input written at.
       Appends-trans _ _ _ t.0 s.0 t.1 s.2,
       IsAt-at g.A.Respond.answers first (input ++ took) (input ++ took) ((written ++ t.0) ++ s.0) (written ++ (t.0 ++ s.0)) _ _
           refl (append_assoc written t.0 s.0)
-          (IsAt-sent g.A.Respond.answers first (input ++ took) (written ++ t.0) c.take.new.self c.send.new.self c.take.new.responder s.0 t.2 c.send.ensures.rest s.1 c.send.ensures.answered),
+          (IsAt-sent g.A.Respond.answers first (input ++ took) (written ++ t.0) c.take.new.self c.send.new.self
+          c.take.new.responder s.0 t.2 c.send.ensures.rest s.1 c.send.ensures.answered),
     )

@@ -13,9 +13,12 @@ end_of-outcome-requires c =
     let context = c.args.context.items in
     let given = c.in_ok-answers.answers.items in
     let pushed : c.push.new.self.items ≡ c.in_order.result ∷ [] = search rules in
-    let bound = bound_program c.push.new.self.items c.in_order.result c.args.verified shapes context pushed c.in_order.ensures.verified c.in_order.ensures.maps c.requires.shapes c.requires.context in
+    let bound = bound_program c.push.new.self.items c.in_order.result c.args.verified shapes context pushed
+    c.in_order.ensures.verified c.in_order.ensures.maps c.requires.shapes c.requires.context in
     let updates : c.len-updates.result ≡ length before = search rules in
-    let exit : HasExit (length before) given = exits_there c.in-Ok.world _ shapes _ c.args.verified.program before context _ given c.in-Ok.ensures.start bound (search rules) c.requires.updates c.in_ok-answers.ensures.answers c.in_ok-answers.ensures.exits in
+    let exit : HasExit (length before) given = exits_there c.in-Ok.world _ shapes _ c.args.verified.program before
+    context _ given c.in-Ok.ensures.start bound (search rules) c.requires.updates c.in_ok-answers.ensures.answers
+    c.in_ok-answers.ensures.exits in
     subst (λ (xs : List Answer). HasExit c.len-updates.result xs) (sym c.deref-2.ensures.value) (subst (λ n. HasExit n given) (sym updates) exit)
 
 pub returns : goal.returns
@@ -25,8 +28,10 @@ returns c =
     let given = c.in_ok-answers.answers.items in
     let outcome = c.end_of-outcome.result in
     let pushed : c.push.new.self.items ≡ c.in_order.result ∷ [] = search rules in
-    let bound = bound_program c.push.new.self.items c.in_order.result c.args.verified shapes c.args.context.items pushed c.in_order.ensures.verified c.in_order.ensures.maps c.requires.shapes c.requires.context in
+    let bound = bound_program c.push.new.self.items c.in_order.result c.args.verified shapes c.args.context.items
+    pushed c.in_order.ensures.verified c.in_order.ensures.maps c.requires.shapes c.requires.context in
     let updates : c.len-updates.result ≡ length before = search rules in
     let of_answers = subst (λ (xs : List Answer). IsEnd c.len-updates.result xs outcome) c.deref-2.ensures.value c.end_of-outcome.ensures in
     let is : IsEnd (length before) given outcome = subst (λ n. IsEnd n given outcome) updates of_answers in
-    comes_to c.in-Ok.world _ shapes _ c.args.verified.program before c.args.context.items _ _ outcome c.in-Ok.ensures.start bound (search rules) c.in_ok-answers.ensures.answers is
+    comes_to c.in-Ok.world _ shapes _ c.args.verified.program before c.args.context.items _ _ outcome
+    c.in-Ok.ensures.start bound (search rules) c.in_ok-answers.ensures.answers is

@@ -11,12 +11,17 @@ pub returns : goal.returns
 returns c = λ shapes ctx_len top below.
     let a = c.args.state.now in
     let b = c.alu.new.state in
-    quiet_step (Alu c.args.op c.args.size c.args.dst c.args.src.now) shapes ctx_len top a b c.single.result c.single.ensures (record { no_base = refl; no_test = λ r x. x; no_branch = λ x. x.1 refl }) (c.in_ok-alu.ensures.sound shapes ctx_len) (c.alu.ensures.below top below)
+    quiet_step (Alu c.args.op c.args.size c.args.dst c.args.src.now) shapes ctx_len top a b c.single.result
+    c.single.ensures (record { no_base = refl; no_test = λ r x. x; no_branch = λ x. x.1 refl })
+    (c.in_ok-alu.ensures.sound shapes ctx_len) (c.alu.ensures.below top below)
     (λ ready.
     let r = alu_reads c.args.size c.args.dst c.args.src.now (state_of a) c.args.op ready.registers in
     let n = c.in_ok-alu.ensures.numbers ready.keeps_frame r.0 r.1 in
-    set_keeps (Alu c.args.op c.args.size c.args.dst c.args.src.now) c.args.dst n.number (state_of a) (state_of b) (record { writes = λ r w. w; no_bytes = λ k w. w }) ready.keeps_frame n.alike)
-    (alu_serves c.args.op c.args.size c.args.dst c.args.src.now a (λ k. SetsKind c.alu.result c.args.dst k (state_of a) (state_of b)) c.alu.ensures.copies c.alu.ensures.frame shapes (state_of b) (λ k r. r.alike))
+    set_keeps (Alu c.args.op c.args.size c.args.dst c.args.src.now) c.args.dst n.number (state_of a) (state_of b)
+    (record { writes = λ r w. w; no_bytes = λ k w. w }) ready.keeps_frame n.alike)
+    (alu_serves c.args.op c.args.size c.args.dst c.args.src.now a
+    (λ k. SetsKind c.alu.result c.args.dst k (state_of a) (state_of b)) c.alu.ensures.copies c.alu.ensures.frame
+    shapes (state_of b) (λ k r. r.alike))
     c.in_ok-alu.ensures.floor
     (λ r s n e. c.in_ok-alu.ensures.others r n ∙ e)
     (λ h. absurd h)

@@ -11,10 +11,13 @@ pub returns : goal.returns
 returns c = λ shapes ctx_len top below.
     let a = c.args.state.now in
     let b = c.unary.new.state in
-    quiet_step (Unary c.args.op.now c.args.dst) shapes ctx_len top a b c.single.result c.single.ensures (record { no_base = refl; no_test = λ r x. x; no_branch = λ x. x.1 refl }) (c.in_ok-unary.ensures.sound shapes ctx_len) (c.unary.ensures.below top below)
+    quiet_step (Unary c.args.op.now c.args.dst) shapes ctx_len top a b c.single.result c.single.ensures
+    (record { no_base = refl; no_test = λ r x. x; no_branch = λ x. x.1 refl })
+    (c.in_ok-unary.ensures.sound shapes ctx_len) (c.unary.ensures.below top below)
     (λ ready.
     let n = c.in_ok-unary.ensures.numbers ready.keeps_frame (ready.registers (unary_source c.args.op.now c.args.dst) refl) in
-    set_keeps (Unary c.args.op.now c.args.dst) c.args.dst n.number (state_of a) (state_of b) (record { writes = λ r w. w; no_bytes = λ k w. w }) ready.keeps_frame n.alike)
+    set_keeps (Unary c.args.op.now c.args.dst) c.args.dst n.number (state_of a) (state_of b)
+    (record { writes = λ r w. w; no_bytes = λ k w. w }) ready.keeps_frame n.alike)
     (serves_none shapes (Unary c.args.op.now c.args.dst) refl (state_of a) (state_of b) None)
     c.in_ok-unary.ensures.floor
     (λ r s n e. c.in_ok-unary.ensures.others r n ∙ e)

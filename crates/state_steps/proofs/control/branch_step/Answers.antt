@@ -20,12 +20,16 @@ returns c = λ offset shapes ctx_len top below.
           reaches = λ r scene m x d. absurd (none-some r x);
           compares = t.compares offset;
           looks_up = λ h. absurd h;
-          keeps = λ ready. narrow_keeps i c.args.dst c.args.src.now (pos FRAME_BYTES) a b (λ r x. x) (λ k x. x) ready.registers ready.frame (t.narrowed (ready.registers c.args.dst (inl refl)));
-          keeps_taken = λ ready. narrow_keeps i c.args.dst c.args.src.now (pos FRAME_BYTES) a (state_of c.in_ok-taken.taken.value) (λ r x. x) (λ k x. x) ready.registers ready.frame (t.taken_narrowed (ready.registers c.args.dst (inl refl)));
+          keeps = λ ready. narrow_keeps i c.args.dst c.args.src.now (pos FRAME_BYTES) a b (λ r x. x) (λ k x. x)
+              ready.registers ready.frame (t.narrowed (ready.registers c.args.dst (inl refl)));
+          keeps_taken = λ ready. narrow_keeps i c.args.dst c.args.src.now (pos FRAME_BYTES) a
+              (state_of c.in_ok-taken.taken.value) (λ r x. x) (λ k x. x) ready.registers ready.frame
+              (t.taken_narrowed (ready.registers c.args.dst (inl refl)));
           floor = (t.floor, t.taken_floor);
           others = t.others offset;
           others_taken = t.others_taken offset;
-          serves = branch_serves c.args.condition c.args.size c.args.dst c.args.src.now offset shapes c.args.state.now c.branch-state.new.state c.in_ok-taken.taken.value t.splits;
+          serves = branch_serves c.args.condition c.args.size c.args.dst c.args.src.now offset shapes c.args.state.now
+              c.branch-state.new.state c.in_ok-taken.taken.value t.splits;
         };
         taken_below = t.taken_below top below;
       };
@@ -41,7 +45,8 @@ returns-in_err-taken c = λ offset shapes ctx_len top below. record {
   below = c.branch-state.ensures.below top below;
   unchanged = search rules;
   accepts = λ ready.
-      let memory = c.in_err-taken.ensures.accepts (ready.registers c.args.dst (inl refl)) (operand_number c.args.src.now (state_of c.args.state.now) (λ r n. ready.registers r (inr n))) in
+      let memory = c.in_err-taken.ensures.accepts (ready.registers c.args.dst (inl refl))
+      (operand_number c.args.src.now (state_of c.args.state.now) (λ r n. ready.registers r (inr n))) in
       search (rules, memory);
   accepts_maps = λ ready.
       let r = branch_ready c.args.condition c.args.size c.args.dst c.args.src.now offset shapes c.args.state.now ready in

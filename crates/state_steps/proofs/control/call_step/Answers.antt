@@ -28,9 +28,13 @@ returns-clause-stepped c = λ ctx_len.
     let sound = simp to_z-of_z at c.in_ok-call.ensures.sound in
     let finds = simp to_z-of_z at c.in_ok-call.ensures.finds in
     let called = simp to_z-of_z at c.in_ok-call.ensures.called in
-    quiet_step (Call c.args.kind c.args.imm) c.args.shape.now.shapes.now ctx_len c.call.new.ids.next c.args.state.now c.call.new.state c.single.result c.single.ensures (record { no_base = refl; no_test = λ r x. x; no_branch = λ x. x.1 refl })
+    quiet_step (Call c.args.kind c.args.imm) c.args.shape.now.shapes.now ctx_len c.call.new.ids.next c.args.state.now
+    c.call.new.state c.single.result c.single.ensures
+    (record { no_base = refl; no_test = λ r x. x; no_branch = λ x. x.1 refl })
     (sound ctx_len) c.call.ensures.below (λ ready. absurd ready.simple)
     (call_serves c.args.kind c.args.imm c.args.shape.now.shapes.now c.args.state.now c.call.new.state (record { finds = finds; called = called }))
     tt
     (λ r s n e. c.in_ok-call.ensures.others r s (above_five r n) e)
-    (λ h. inside_here c.args.kind c.args.imm c.args.shape.now.shapes.now (state_of c.args.state.now) (λ e. c.call.result ≡ Err e) h (simp to_z-of_z at c.call.ensures.first) (λ e is. (let clash : Ok c.in_ok-call.field-0 ≡ Err e = sym c.in_ok-call.was ∙ is in absurd cc)))
+    (λ h. inside_here c.args.kind c.args.imm c.args.shape.now.shapes.now (state_of c.args.state.now)
+    (λ e. c.call.result ≡ Err e) h (simp to_z-of_z at c.call.ensures.first)
+    (λ e is. (let clash : Ok c.in_ok-call.field-0 ≡ Err e = sym c.in_ok-call.was ∙ is in absurd cc)))

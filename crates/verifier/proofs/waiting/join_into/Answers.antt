@@ -11,6 +11,9 @@ returns-then-deref-clause-joined c =
     let waited : state_in c.args.waiting.now ≡ Some c.deref_mut.result.now = ap state_in c.in-Known.is ∙ ap Some (sym c.deref_mut.ensures.value) in
     let paired : c.args.waiting.now ≢ Differing = (λ d. (let g : Known c.in-Known.before ≡ Differing = sym c.in-Known.is ∙ d in cc)) in
     subst (λ b. Joined c.args.waiting.now b (Known (Rattle.std.specs.Box.with_value c.in-Known.before c.join.new.self))) c.deref-then-deref.ensures
-    (joined_from c.args.waiting.now (Known (Rattle.std.specs.Box.with_value c.in-Known.before c.join.new.self)) c.deref_mut.result.now c.deref-then-deref.result.now c.join.new.self paired waited refl c.join.ensures.left c.join.ensures.right
-    (joined_facts (state_of c.deref_mut.result.now) (state_of c.deref-then-deref.result.now) (state_of c.join.new.self) c.join.ensures.exact c.join.ensures.joins.2.left.depth)
+    (joined_from c.args.waiting.now (Known (Rattle.std.specs.Box.with_value c.in-Known.before c.join.new.self))
+    c.deref_mut.result.now c.deref-then-deref.result.now c.join.new.self paired waited refl c.join.ensures.left
+    c.join.ensures.right
+    (joined_facts (state_of c.deref_mut.result.now) (state_of c.deref-then-deref.result.now)
+    (state_of c.join.new.self) c.join.ensures.exact c.join.ensures.joins.2.left.depth)
     (joined_expects (state_of c.deref_mut.result.now) (state_of c.deref-then-deref.result.now) (state_of c.join.new.self) c.join.ensures.exact))

@@ -32,6 +32,10 @@ returns-clause-fits g c =
         may = subst (λ o. IfSome o (IsPossibleExit (slice_get c.args.shared.now c.args.job.now.prog) c.args.job.now.ctx.items)) noted n.may;
         alone = subst (λ o. IfSome o (IsOwnExit (slice_get c.args.shared.now c.args.job.now.prog) c.args.job.now.ctx.items)) noted n.alone;
         event = c.act_noted-end.ensures.event;
-        told = elim c.match-dropped.branch [ in-Ok w ↦ inl (search rules, search rules) | in-Err-dropped w ↦ inr (record { cause = w.in-Err-dropped.cause; why = search rules; told = search rules }) ];
+        told = elim c.match-dropped.branch [
+          | in-Ok w ↦ inl (search rules, search rules)
+          | in-Err-dropped w ↦
+              inr (record { cause = w.in-Err-dropped.cause; why = search rules; told = search rules })
+        ];
       },
     )

@@ -6,9 +6,13 @@ pub returns-in_err-serve_blocks-clause-part : goal.returns-in_err-serve_blocks-c
 returns-in_err-serve_blocks-clause-part g c =
     let v = c.args.program.verified in
     let p = err_from_is_err_and c.from_residual.result c.from_residual.ensures.1 in
-    rw (p.1, p.2) (c.in_err-serve_blocks.ensures.part v.program v.ctx_len (runs_of v.program c.ctx_len.result v.ctx_len c.in-Ok-shared.shared c.in-Ok.jobs.items c.deref.result.now c.in-Ok-shared.ensures.codes c.ctx_len.ensures.value c.deref.ensures.value c.in-Ok.ensures.each))
+    rw (p.1, p.2) (c.in_err-serve_blocks.ensures.part v.program v.ctx_len
+    (runs_of v.program c.ctx_len.result v.ctx_len c.in-Ok-shared.shared c.in-Ok.jobs.items c.deref.result.now
+    c.in-Ok-shared.ensures.codes c.ctx_len.ensures.value c.deref.ensures.value c.in-Ok.ensures.each))
 
 pub returns-clause-written : goal.returns-clause-written
 returns-clause-written g c =
     let v = c.args.program.verified in
-    c.in_ok-serve_blocks.ensures.written v.program v.ctx_len (runs_of v.program c.ctx_len.result v.ctx_len c.in-Ok-shared.shared c.in-Ok.jobs.items c.deref.result.now c.in-Ok-shared.ensures.codes c.ctx_len.ensures.value c.deref.ensures.value c.in-Ok.ensures.each)
+    c.in_ok-serve_blocks.ensures.written v.program v.ctx_len
+    (runs_of v.program c.ctx_len.result v.ctx_len c.in-Ok-shared.shared c.in-Ok.jobs.items c.deref.result.now
+    c.in-Ok-shared.ensures.codes c.ctx_len.ensures.value c.deref.ensures.value c.in-Ok.ensures.each)

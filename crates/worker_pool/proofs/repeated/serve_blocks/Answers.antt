@@ -25,6 +25,7 @@ loop-first-preserved g c =
     record {
       workers = omega (arith, length_all_zip IsLater c.loop-first.workers c.run_jobs.new.workers c.run_jobs.ensures.later, at.workers);
       within = omega arith;
-      written = λ program ctx_len runs. block_written c.args.shared.now program ctx_len first some c.args.jobs.now c.loop-first.workers c.run_jobs.new.workers reports _ _ _ runs
+      written = λ program ctx_len runs. block_written c.args.shared.now program ctx_len first some c.args.jobs.now
+          c.loop-first.workers c.run_jobs.new.workers reports _ _ _ runs
           inside count c.in_ok-report.ensures.each (at.written program ctx_len runs) wrote;
     }

@@ -13,8 +13,10 @@ IsReal x = IsRealProgram (program_of x)
 
 pub loop-program-preserved : goal.loop-program-preserved
 loop-program-preserved c = record {
-  verified = each-more IsChecked c.args.loaded.now c.loop-program.program-index c.program-item.result c.program-item.is c.certify.ensures.verified c.loop-program.invariant.verified;
-  real = each-more IsReal c.args.loaded.now c.loop-program.program-index c.program-item.result c.program-item.is c.certify.ensures.real c.loop-program.invariant.real;
+  verified = each-more IsChecked c.args.loaded.now c.loop-program.program-index c.program-item.result
+      c.program-item.is c.certify.ensures.verified c.loop-program.invariant.verified;
+  real = each-more IsReal c.args.loaded.now c.loop-program.program-index c.program-item.result c.program-item.is
+      c.certify.ensures.real c.loop-program.invariant.real;
 }
 
 pub returns-clause-verified : goal.returns-clause-verified

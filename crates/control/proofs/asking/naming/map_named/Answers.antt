@@ -8,7 +8,9 @@ use Rattle.control.specs.Names.{map_name}
 use Rattle.control.proofs.asking.naming.map_named.Goals as goal
 
 -- no name before the next index is the wanted one
-none-more : (all : List (List ℕ)) (wanted text : List ℕ) (i : ℕ) (b : Bool) → slice_get all i ≡ Some text → b ≡ bytes_eq text wanted → b ≡ false → ((k : ℕ) → k < i → slice_get all k ≡ Some wanted → ⊥) → (k : ℕ) → k < i + 1 → slice_get all k ≡ Some wanted → ⊥
+none-more : (all : List (List ℕ)) (wanted text : List ℕ) (i : ℕ) (b : Bool) → slice_get all i ≡ Some text →
+    b ≡ bytes_eq text wanted → b ≡ false → ((k : ℕ) → k < i → slice_get all k ≡ Some wanted → ⊥) → (k : ℕ) → k < i + 1
+    → slice_get all k ≡ Some wanted → ⊥
 none-more all wanted text i b here e f before k l g = elim (cases_lt k i) [
   | inl a ↦ before k a g
   | inr a ↦

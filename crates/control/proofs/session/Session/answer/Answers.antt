@@ -11,7 +11,19 @@ use Rattle.control.specs.declared.session.Session.TheVariants as sessions
 use Rattle.control.proofs.session.Session.answer.Goals as goal
 
 pub returns-in-Live : goal.returns-in-Live
-returns-in-Live c = elim (c.answer.result) as (λ r. OnOk r ((replies : List Reply) × LiveReplies c.in-Live.live c.args.command replies c.answer.new.self × (c.answer.new.out.items ≡ c.args.out.now.items ++ flat_map reply_text replies)) → OnOk r ((events : List Event) × (replies : List Reply) × SessionReplies c.args.self.now c.args.command events replies (sessions.Live c.answer.new.self) × (c.answer.new.out.items ≡ c.args.out.now.items ++ flat_map reply_text replies))) [
-  | Ok u ↦ λ e. (e.1.served.events, e.0, subst (λ (s : Session). SessionReplies s c.args.command e.1.served.events e.0 (sessions.Live c.answer.new.self)) (sym c.in-Live.is) (c.answer.new.self, e.1, refl, refl), e.2)
-  | Err u ↦ λ e. tt
-] c.answer.ensures
+returns-in-Live c = elim (c.answer.result) as (λ r. OnOk r
+    ((replies : List Reply) × LiveReplies c.in-Live.live c.args.command replies c.answer.new.self ×
+    (c.answer.new.out.items ≡ c.args.out.now.items ++ flat_map reply_text replies)) →
+    OnOk r ((events : List Event) × (replies : List Reply) ×
+    SessionReplies c.args.self.now c.args.command events replies (sessions.Live c.answer.new.self) ×
+    (c.answer.new.out.items ≡ c.args.out.now.items ++ flat_map reply_text replies))) [
+      | Ok u ↦ λ e. (
+        e.1.served.events,
+        e.0,
+        subst (λ (s : Session).
+            SessionReplies s c.args.command e.1.served.events e.0 (sessions.Live c.answer.new.self)) (sym c.in-Live.is)
+            (c.answer.new.self, e.1, refl, refl),
+        e.2,
+      )
+      | Err u ↦ λ e. tt
+    ] c.answer.ensures

@@ -18,4 +18,5 @@ index-requires c = omega (arith, c.self.inside.starts.ok.0, starts_length _ _ _ 
 pub returns : goal.returns
 returns c =
     let within : c.args.index < length c.self.inside.starts.items = omega (arith, starts_length _ _ _ c.self.invariant.1 c.self.view_is) in
-    get_or_read c.self.inside.starts.items _ _ within c.index.ensures 0 ∙ ap (λ (x : List ℕ). get_or x c.args.index 0) (starts_are _ _ _ c.self.invariant.1 c.self.view_is)
+    get_or_read c.self.inside.starts.items _ _ within c.index.ensures 0 ∙
+    ap (λ (x : List ℕ). get_or x c.args.index 0) (starts_are _ _ _ c.self.invariant.1 c.self.view_is)

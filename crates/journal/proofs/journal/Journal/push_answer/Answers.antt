@@ -28,7 +28,8 @@ returns-clause-entries c =
     let row = c.row_of-row.result in
     let at : c.len.result ≡ length bytes = search rules in
     let is : IsRowOf (length bytes) e row = subst (λ (n : ℕ). IsRowOf n e row) at c.row_of-row.ensures in
-    let all : map (entry_of (bytes ++ entry_bytes e)) (rows ++ row ∷ []) ≡ map (entry_of bytes) rows ++ e ∷ [] = entries-push rows bytes e row c.self.invariant.0 is in
+    let all : map (entry_of (bytes ++ entry_bytes e)) (rows ++ row ∷ []) ≡ map (entry_of bytes) rows ++ e ∷ [] =
+    entries-push rows bytes e row c.self.invariant.0 is in
     let here : map (entry_of c.append.new.bytes.items) c.push_reserved.new.self.items ≡ map (entry_of bytes) rows ++ e ∷ [] =
     (ap (λ (xs : List ℕ). map (entry_of xs) c.push_reserved.new.self.items) c.append.ensures
     ∙ ap (map (entry_of (bytes ++ entry_bytes e))) c.push_reserved.ensures.items)

@@ -25,4 +25,6 @@ returns-in_err-reuse_limit-clause-none c =
     let value = c.in_ok-value_len.ensures.some in
     let entries = c.in_ok-entries.ensures.some in
     let spare = c.in_ok-spare.ensures.some in
-    if_none c.from_residual-in_err-reuse_limit.result (λ s h. no_reuse _ _ _ _ _ key.0 value.0 entries.0 spare.0 s key.1 value.1 entries.1 spare.1 c.in_err-reuse_limit.ensures.none h)
+    if_none c.from_residual-in_err-reuse_limit.result (λ s h.
+    no_reuse _ _ _ _ _ key.0 value.0 entries.0 spare.0 s key.1 value.1 entries.1 spare.1
+    c.in_err-reuse_limit.ensures.none h)

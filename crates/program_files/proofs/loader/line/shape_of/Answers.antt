@@ -8,4 +8,5 @@ by_none (Some x) f p = tt
 
 pub returns-in-None-clause-none : goal.returns-in-None-clause-none
 returns-in-None-clause-none c =
-    by_none c.hash_shape.result (λ none s words. elim words [ inl hash ↦ none s hash | inr array ↦ absurd (c.in-None.ensures.none s array) ]) c.hash_shape.ensures.none
+    by_none c.hash_shape.result (λ none s words. elim words
+    [ inl hash ↦ none s hash | inr array ↦ absurd (c.in-None.ensures.none s array) ]) c.hash_shape.ensures.none

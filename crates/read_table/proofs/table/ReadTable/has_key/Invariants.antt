@@ -5,4 +5,5 @@ use Rattle.read_table.specs.Held.{Goes}
 use Rattle.read_table.proofs.table.ReadTable.has_key.Given as goal
 
 abbrev pub invariant-loop-place : goal.invariant-loop-place
-invariant-loop-place l = (ms : List Move) × Goes l.fn.seat ms l.seat × OnlySearches l.self.shape ms × ((place word : ℕ) → place < l.place → key_word l.key place ≡ Some word → HadWord l.slot place word ms)
+invariant-loop-place l = (ms : List Move) × Goes l.fn.seat ms l.seat × OnlySearches l.self.shape ms ×
+    ((place word : ℕ) → place < l.place → key_word l.key place ≡ Some word → HadWord l.slot place word ms)

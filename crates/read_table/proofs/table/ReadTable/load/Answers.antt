@@ -15,9 +15,15 @@ load-requires c =
     let known = subst (λ (h : Holder). IsLearnt c.args.slot h.view.mine) (sym c.seat.view_is) c.requires.learnt in
     let own = subst (λ (q : TableView). IsAt q.shape c.index_of-index.result c.args.slot c.args.place) (sym c.self.view_is) c.index_of-index.ensures.index in
     let at = subst (λ (k : TableShape). IsAt k c.index_of-index.result c.args.slot c.args.place) (sym t.0) own in
-    let l = subst (λ (k : TableShape). c.args.place < width_of k) (sym t.0) (subst (λ (q : TableView). c.args.place < width_of q.shape) (sym c.self.view_is) c.requires.place) in
-    let low = subst (λ (k : TableShape). c.args.slot < k.slots) (sym t.0) (subst (λ (q : TableView). c.args.slot < q.shape.slots) (sym c.self.view_is) c.requires.slot) in
-    (ap (λ (q : TableView). q.id) p, subst (λ (q : TableView). c.index_of-index.result < q.id.words) (sym c.self.view_is) c.index_of-index.ensures.within, loads_ok _ _ _ _ _ c.args.slot c.args.place at low l known)
+    let l = subst (λ (k : TableShape). c.args.place < width_of k) (sym t.0)
+    (subst (λ (q : TableView). c.args.place < width_of q.shape) (sym c.self.view_is) c.requires.place) in
+    let low = subst (λ (k : TableShape). c.args.slot < k.slots) (sym t.0)
+    (subst (λ (q : TableView). c.args.slot < q.shape.slots) (sym c.self.view_is) c.requires.slot) in (
+      ap (λ (q : TableView). q.id) p,
+      subst (λ (q : TableView). c.index_of-index.result < q.id.words)
+          (sym c.self.view_is) c.index_of-index.ensures.within,
+      loads_ok _ _ _ _ _ c.args.slot c.args.place at low l known,
+    )
 
 pub returns-clause-step : goal.returns-clause-step
 returns-clause-step c =

@@ -18,4 +18,5 @@ lookup-requires-clause-key c =
     let rest : length (drop at v.frame) ≡ length v.frame - at = length-drop at v.frame in
     let long : length (take len (drop at v.frame)) ≡ min len (length (drop at v.frame)) = length-take len (drop at v.frame) in
     let same : length (take len (drop at v.frame)) ≡ len = omega (arith, inside, frame, rest, long) in
-    ap (λ (xs : List ℕ). length xs) c.bytes_argument-key.ensures ∙ (ap (λ (k : TableShape). length (bytes_in v 2 (8 * k.key_words))) c.shape.ensures.shape ∙ same)
+    ap (λ (xs : List ℕ). length xs) c.bytes_argument-key.ensures ∙
+    (ap (λ (k : TableShape). length (bytes_in v 2 (8 * k.key_words))) c.shape.ensures.shape ∙ same)

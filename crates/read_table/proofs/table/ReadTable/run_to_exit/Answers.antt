@@ -6,44 +6,70 @@ use Rattle.read_table.proofs.Coming.{answered, below, exited, has-started, moved
 use Rattle.read_table.proofs.table.ReadTable.run_to_exit.Goals as goal
 
 pub steps-init : goal.steps-init
-steps-init c = has-started c.args.self.now c.args.verified.now c.args.ctx.now.items c.args.seat.now c.start-run.result (subst (λ (k : TableShape). IsSized k) c.shape-shape.ensures.shape c.shape-shape.ensures.sized) c.requires.ready c.program-program.ensures.justified c.requires.maps c.requires.words c.requires.context (subst AreBytes c.as_slice.ensures.value c.are_bytes.ensures) (c.start-run.ensures.run c.args.verified.now.program) c.start-run.ensures.view
+steps-init c = has-started c.args.self.now c.args.verified.now c.args.ctx.now.items c.args.seat.now c.start-run.result
+    (subst (λ (k : TableShape). IsSized k) c.shape-shape.ensures.shape c.shape-shape.ensures.sized) c.requires.ready
+    c.program-program.ensures.justified c.requires.maps c.requires.words c.requires.context
+    (subst AreBytes c.as_slice.ensures.value c.are_bytes.ensures)
+    (c.start-run.ensures.run c.args.verified.now.program) c.start-run.ensures.view
 
 pub go_on-requires : goal.go_on-requires
 go_on-requires c = stands c.args.self.now c.args.verified.now c.args.ctx.now.items c.args.seat.now c.steps.seat c.steps.run c.requires.ready c.steps.invariant
 
 pub steps-smaller-in-Moved : goal.steps-smaller-in-Moved
 steps-smaller-in-Moved c =
-    let m = moved-on c.args.self.now c.args.verified.now c.args.ctx.now.items c.args.seat.now c.steps.seat c.steps.run c.requires.ready c.steps.invariant c.go_on.new.self c.go_on.ensures.run c.in-Moved.ensures.steps in
+    let m = moved-on c.args.self.now c.args.verified.now c.args.ctx.now.items c.args.seat.now c.steps.seat c.steps.run
+    c.requires.ready c.steps.invariant c.go_on.new.self c.go_on.ensures.run c.in-Moved.ensures.steps in
     let b = below c.args.self.now c.args.verified.now c.args.ctx.now.items c.args.seat.now c.steps.seat c.steps.run c.requires.ready c.steps.invariant in
     let further = m.1 in
-    let less : length c.args.verified.now.program - c.go_on.new.self.view.moved < length c.args.verified.now.program - c.steps.run.view.moved = omega (arith, further, b) in
+    let less : length c.args.verified.now.program - c.go_on.new.self.view.moved < length c.args.verified.now.program -
+    c.steps.run.view.moved = omega (arith, further, b) in
     less
 
 pub steps-preserved-in-Moved : goal.steps-preserved-in-Moved
-steps-preserved-in-Moved c = (moved-on c.args.self.now c.args.verified.now c.args.ctx.now.items c.args.seat.now c.steps.seat c.steps.run c.requires.ready c.steps.invariant c.go_on.new.self c.go_on.ensures.run c.in-Moved.ensures.steps).0
+steps-preserved-in-Moved c = (moved-on c.args.self.now c.args.verified.now c.args.ctx.now.items c.args.seat.now
+    c.steps.seat c.steps.run c.requires.ready c.steps.invariant c.go_on.new.self c.go_on.ensures.run
+    c.in-Moved.ensures.steps).0
 
 pub serve-word-requires-clause-section : goal.serve-word-requires-clause-section
-serve-word-requires-clause-section c = section c.args.self.now c.args.verified.now c.args.ctx.now.items c.args.seat.now c.steps.seat c.steps.run c.requires.ready c.steps.invariant c.go_on.new.self c.go_on.ensures.run c.in-Shared.request c.in-Shared.ensures.steps
+serve-word-requires-clause-section c = section c.args.self.now c.args.verified.now c.args.ctx.now.items
+    c.args.seat.now c.steps.seat c.steps.run c.requires.ready c.steps.invariant c.go_on.new.self c.go_on.ensures.run
+    c.in-Shared.request c.in-Shared.ensures.steps
 
 pub serve-word-requires-clause-can : goal.serve-word-requires-clause-can
-serve-word-requires-clause-can c = servable c.args.self.now c.args.verified.now c.args.ctx.now.items c.args.seat.now c.steps.seat c.steps.run c.requires.ready c.steps.invariant c.go_on.new.self c.go_on.ensures.run c.in-Shared.request c.in-Shared.ensures.steps
+serve-word-requires-clause-can c = servable c.args.self.now c.args.verified.now c.args.ctx.now.items c.args.seat.now
+    c.steps.seat c.steps.run c.requires.ready c.steps.invariant c.go_on.new.self c.go_on.ensures.run
+    c.in-Shared.request c.in-Shared.ensures.steps
 
 pub resume-requires : goal.resume-requires
-resume-requires c = answered c.args.self.now c.args.verified.now c.args.ctx.now.items c.args.seat.now c.steps.seat c.steps.run c.requires.ready c.steps.invariant c.go_on.new.self c.go_on.ensures.run c.in-Shared.request c.in-Shared.ensures.steps c.serve-word.ensures.0 c.serve-word.result c.serve-word.ensures.2 c.in-Shared.ensures.stands
+resume-requires c = answered c.args.self.now c.args.verified.now c.args.ctx.now.items c.args.seat.now c.steps.seat
+    c.steps.run c.requires.ready c.steps.invariant c.go_on.new.self c.go_on.ensures.run c.in-Shared.request
+    c.in-Shared.ensures.steps c.serve-word.ensures.0 c.serve-word.result c.serve-word.ensures.2
+    c.in-Shared.ensures.stands
 
 pub steps-smaller : goal.steps-smaller
 steps-smaller c =
-    let m = resumed-on c.args.self.now c.args.verified.now c.args.ctx.now.items c.args.seat.now c.steps.seat c.steps.run c.requires.ready c.steps.invariant c.go_on.new.self c.go_on.ensures.run c.in-Shared.request c.in-Shared.ensures.steps c.serve-word.ensures.0 c.serve-word.result c.serve-word.ensures.2 c.serve-word.new.seat c.resume.new.self c.serve-word.ensures.1 c.resume.ensures.run c.resume.ensures.view in
+    let m = resumed-on c.args.self.now c.args.verified.now c.args.ctx.now.items c.args.seat.now c.steps.seat
+    c.steps.run c.requires.ready c.steps.invariant c.go_on.new.self c.go_on.ensures.run c.in-Shared.request
+    c.in-Shared.ensures.steps c.serve-word.ensures.0 c.serve-word.result c.serve-word.ensures.2
+    c.serve-word.new.seat c.resume.new.self c.serve-word.ensures.1 c.resume.ensures.run c.resume.ensures.view in
     let b = below c.args.self.now c.args.verified.now c.args.ctx.now.items c.args.seat.now c.steps.seat c.steps.run c.requires.ready c.steps.invariant in
     let further = m.1 in
-    let less : length c.args.verified.now.program - c.resume.new.self.view.moved < length c.args.verified.now.program - c.steps.run.view.moved = omega (arith, further, b) in
+    let less : length c.args.verified.now.program - c.resume.new.self.view.moved < length c.args.verified.now.program
+    - c.steps.run.view.moved = omega (arith, further, b) in
     less
 
 pub steps-preserved : goal.steps-preserved
-steps-preserved c = (resumed-on c.args.self.now c.args.verified.now c.args.ctx.now.items c.args.seat.now c.steps.seat c.steps.run c.requires.ready c.steps.invariant c.go_on.new.self c.go_on.ensures.run c.in-Shared.request c.in-Shared.ensures.steps c.serve-word.ensures.0 c.serve-word.result c.serve-word.ensures.2 c.serve-word.new.seat c.resume.new.self c.serve-word.ensures.1 c.resume.ensures.run c.resume.ensures.view).0
+steps-preserved c = (resumed-on c.args.self.now c.args.verified.now c.args.ctx.now.items c.args.seat.now c.steps.seat
+    c.steps.run c.requires.ready c.steps.invariant c.go_on.new.self c.go_on.ensures.run c.in-Shared.request
+    c.in-Shared.ensures.steps c.serve-word.ensures.0 c.serve-word.result c.serve-word.ensures.2 c.serve-word.new.seat
+    c.resume.new.self c.serve-word.ensures.1 c.resume.ensures.run c.resume.ensures.view).0
 
 pub returns-in-Exit-clause-runs : goal.returns-in-Exit-clause-runs
-returns-in-Exit-clause-runs c = (exited c.args.self.now c.args.verified.now c.args.ctx.now.items c.args.seat.now c.steps.seat c.steps.run c.requires.ready c.steps.invariant c.go_on.new.self c.go_on.ensures.run c.in-Exit.value c.in-Exit.ensures.steps).0
+returns-in-Exit-clause-runs c = (exited c.args.self.now c.args.verified.now c.args.ctx.now.items c.args.seat.now
+    c.steps.seat c.steps.run c.requires.ready c.steps.invariant c.go_on.new.self c.go_on.ensures.run c.in-Exit.value
+    c.in-Exit.ensures.steps).0
 
 pub returns-in-Exit-clause-ready : goal.returns-in-Exit-clause-ready
-returns-in-Exit-clause-ready c = (exited c.args.self.now c.args.verified.now c.args.ctx.now.items c.args.seat.now c.steps.seat c.steps.run c.requires.ready c.steps.invariant c.go_on.new.self c.go_on.ensures.run c.in-Exit.value c.in-Exit.ensures.steps).1
+returns-in-Exit-clause-ready c = (exited c.args.self.now c.args.verified.now c.args.ctx.now.items c.args.seat.now
+    c.steps.seat c.steps.run c.requires.ready c.steps.invariant c.go_on.new.self c.go_on.ensures.run c.in-Exit.value
+    c.in-Exit.ensures.steps).1

@@ -5,4 +5,5 @@ use Rattle.read_table.specs.Held.{Goes}
 use Rattle.read_table.proofs.table.ReadTable.search.Given as goal
 
 abbrev pub invariant-loop-slot : goal.invariant-loop-slot
-invariant-loop-slot l = (ms : List Move) × Goes l.fn.seat ms l.seat × OnlySearches l.self.shape ms × ((s : ℕ) → l.low ≤ s → s < l.slot → Refuted l.self.shape l.key s ms)
+invariant-loop-slot l = (ms : List Move) × Goes l.fn.seat ms l.seat × OnlySearches l.self.shape ms ×
+    ((s : ℕ) → l.low ≤ s → s < l.slot → Refuted l.self.shape l.key s ms)

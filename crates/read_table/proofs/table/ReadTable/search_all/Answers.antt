@@ -18,5 +18,6 @@ returns c =
       goes_then c.args.seat.now c.search.new.seat c.search-2.new.seat h.0 g.0 h.1 g.1,
       only_append c.args.self.now.shape g.0 h.0 g.2 h.2,
       both_searched c.args.self.now.shape c.args.key.now c.home_of-home.result g.0 h.0 c.search-2.result
-          (subst (λ (k : TableShape). Searched c.args.self.now.shape c.args.key.now c.home_of-home.result k.slots h.0 None) c.shape-shape.ensures.shape h.3) g.3,
+          (subst (λ (k : TableShape). Searched c.args.self.now.shape c.args.key.now c.home_of-home.result k.slots h.0
+          None) c.shape-shape.ensures.shape h.3) g.3,
     )

@@ -20,7 +20,8 @@ load-requires-clause-learnt c =
     let s = c.requires.can in
     let k = c.args.self.now.shape in
     let l = subst (λ (q : Request). CanAnswer k s.checked s.context s.moves c.args.run.now.view q) c.in-Load.is s.can in
-    known-there k s.moves s.before c.args.seat.now.view.mine c.in-Load.address c.in-Load.offset c.in-Load.width c.value_word-word.result.slot c.value_word-word.result.place sized where_it s.list l.leads
+    known-there k s.moves s.before c.args.seat.now.view.mine c.in-Load.address c.in-Load.offset c.in-Load.width
+    c.value_word-word.result.slot c.value_word-word.result.place sized where_it s.list l.leads
 
 pub store-requires-clause-learnt : goal.store-requires-clause-learnt
 store-requires-clause-learnt c =
@@ -30,7 +31,8 @@ store-requires-clause-learnt c =
     let s = c.requires.can in
     let k = c.args.self.now.shape in
     let l = subst (λ (q : Request). CanAnswer k s.checked s.context s.moves c.args.run.now.view q) c.in-Store.is s.can in
-    known-there k s.moves s.before c.args.seat.now.view.mine c.in-Store.address c.in-Store.offset c.in-Store.width c.value_word-word-in-Store.result.slot c.value_word-word-in-Store.result.place sized where_it s.list l.leads
+    known-there k s.moves s.before c.args.seat.now.view.mine c.in-Store.address c.in-Store.offset c.in-Store.width
+    c.value_word-word-in-Store.result.slot c.value_word-word-in-Store.result.place sized where_it s.list l.leads
 
 pub returns-in-Load : goal.returns-in-Load
 returns-in-Load c =
@@ -40,8 +42,10 @@ returns-in-Load c =
     let slot = c.value_word-word.result.slot in
     let place = c.value_word-word.result.place in (
       Load slot (c.args.self.now.shape.key_words + place) c.load.result ∷ [],
-      subst (λ (k : TableShape). Goes c.args.seat.now (Load slot (k.key_words + place) c.load.result ∷ []) c.load.new.seat) c.shape-shape.ensures.shape c.load.ensures.step,
-      serves-load c.args.self.now.shape c.args.run.now.view c.args.request c.in-Load.address c.in-Load.offset c.in-Load.width slot place c.load.result c.in-Load.is sized where_it c.load.type_inv,
+      subst (λ (k : TableShape). Goes c.args.seat.now (Load slot (k.key_words + place) c.load.result ∷ [])
+          c.load.new.seat) c.shape-shape.ensures.shape c.load.ensures.step,
+      serves-load c.args.self.now.shape c.args.run.now.view c.args.request c.in-Load.address c.in-Load.offset
+          c.in-Load.width slot place c.load.result c.in-Load.is sized where_it c.load.type_inv,
     )
 
 pub returns-in-Store : goal.returns-in-Store
@@ -52,8 +56,10 @@ returns-in-Store c =
     let slot = c.value_word-word-in-Store.result.slot in
     let place = c.value_word-word-in-Store.result.place in (
       Store slot (c.args.self.now.shape.key_words + place) c.in-Store.number ∷ [],
-      subst (λ (k : TableShape). Goes c.args.seat.now (Store slot (k.key_words + place) c.in-Store.number ∷ []) c.store.new.seat) c.shape-shape.ensures.shape c.store.ensures.step,
-      serves-store c.args.self.now.shape c.args.run.now.view c.args.request c.in-Store.address c.in-Store.offset c.in-Store.width c.in-Store.number slot place c.in-Store.is sized where_it,
+      subst (λ (k : TableShape). Goes c.args.seat.now (Store slot (k.key_words + place) c.in-Store.number ∷ [])
+          c.store.new.seat) c.shape-shape.ensures.shape c.store.ensures.step,
+      serves-store c.args.self.now.shape c.args.run.now.view c.args.request c.in-Store.address c.in-Store.offset
+          c.in-Store.width c.in-Store.number slot place c.in-Store.is sized where_it,
     )
 
 pub returns-in-Call-Lookup : goal.returns-in-Call-Lookup

@@ -14,8 +14,11 @@ store-requires c =
     let view = ap (λ (q : TableView). q.shape) c.self.view_is in
     let same = c.requires.table.1 ∙ sym view in
     let slot = subst (λ (k : TableShape). c.args.slot < k.slots) (sym view) c.requires.slot in
-    let may = subst (λ (k : TableShape). c.args.header % 2 ≡ 1 → MayLink k.readers c.args.slot c.args.seat.now.me.0.mine) (sym view) c.requires.reuse in
-    (c.requires.table.0 ∙ sym id, header_within _ _ _ _ refl slot t.1, changes_at _ _ _ _ _ c.args.slot _ same (sym t.0) slot c.requires.writer c.requires.header may)
+    let may = subst (λ (k : TableShape). c.args.header % 2 ≡ 1 → MayLink k.readers c.args.slot c.args.seat.now.me.0.mine) (sym view) c.requires.reuse in (
+      c.requires.table.0 ∙ sym id,
+      header_within _ _ _ _ refl slot t.1,
+      changes_at _ _ _ _ _ c.args.slot _ same (sym t.0) slot c.requires.writer c.requires.header may,
+    )
 
 pub returns-clause-step : goal.returns-clause-step
 returns-clause-step c =

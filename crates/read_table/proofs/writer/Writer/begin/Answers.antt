@@ -14,7 +14,8 @@ invariant_of-result c =
     let headers = c.in_ok-headers.ensures in
     let len : length c.in_ok-headers.headers.items ≡ w.1.slots = search rules in (
       subst (λ v. IsWriter v c.in_ok-headers.headers.items) (sym view) (begins_writer w.0 w.1 _ len headers.zeros),
-      begins_slots _ w.0 w.1 _ _ _ view (c.in_ok-free.ensures.numbers ∙ ap (range_with_len 0) (sym w.3)) c.in_ok-linked.ensures.items c.in_ok-unlinked.ensures.items,
+      begins_slots _ w.0 w.1 _ _ _ view (c.in_ok-free.ensures.numbers ∙ ap (range_with_len 0) (sym w.3))
+          c.in_ok-linked.ensures.items c.in_ok-unlinked.ensures.items,
       ap (λ (m : Me ℕ View). m.1) w.2,
       at_most _ _ _ slots c.in_ok-free.ensures.capacity,
       at_most _ _ _ slots c.in_ok-linked.ensures.capacity,

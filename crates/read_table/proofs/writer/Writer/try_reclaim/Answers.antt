@@ -44,7 +44,10 @@ invariant_of-self-2 c =
     let may_now = subst (λ (k : TableShape). MayLink k.readers c.args.slot c.all_outside.new.seat.me.0.mine) (sym (same ∙ shape)) may in
     let slots = quiet_slots c.self.inside.seat.me.0 c.all_outside.new.seat.me.0 (scans_outside n) q g _ _ _ i.1 in (
       quiet_writer c.self.inside.seat.me.0 c.all_outside.new.seat.me.0 (scans_outside n) q g _ i.0,
-      subst (λ (z : List ℕ). AreSlots c.all_outside.new.seat.me.0 z c.self.inside.linked.items c.take_out.new.list.items) (sym c.push_reserved.ensures.items) (reclaimed_slots c.all_outside.new.seat.me.0 c.args.slot _ _ _ _ c.take_out.ensures.leaves bounded may_now slots),
+      subst (λ (z : List ℕ). AreSlots c.all_outside.new.seat.me.0 z c.self.inside.linked.items
+          c.take_out.new.list.items) (sym c.push_reserved.ensures.items)
+          (reclaimed_slots c.all_outside.new.seat.me.0 c.args.slot _ _ _ _ c.take_out.ensures.leaves bounded may_now
+          slots),
       c.all_outside.ensures.held ∙ i.2,
       fits c.self.inside.seat.me.0 c.all_outside.new.seat.me.0 _ _ same c.push_reserved.ensures.capacity i.3,
       fits c.self.inside.seat.me.0 c.all_outside.new.seat.me.0 _ _ same refl i.4,

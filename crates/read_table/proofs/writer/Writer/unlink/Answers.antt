@@ -10,8 +10,11 @@ invariant_of-self c =
     let f = at_leaves (IsLinked c.self.inside.seat.me.0) c.args.slot _ _ c.take_out.ensures.leaves i.1.are_linked in
     let g = c.change.ensures.step in
     let same = went_shape c.self.inside.seat.me.0 c.change.new.seat.me.0 _ g in (
-      subst (IsWriter c.change.new.seat.me.0) (sym c.change.ensures.headers) (changed_writer c.self.inside.seat.me.0 c.change.new.seat.me.0 c.args.slot g _ f.within i.0),
-      subst (λ (z : List ℕ). AreSlots c.change.new.seat.me.0 c.self.inside.free.items c.take_out.new.list.items z) (sym c.push_reserved.ensures.items) (unlinked_slots c.self.inside.seat.me.0 c.change.new.seat.me.0 c.args.slot g _ _ _ _ c.take_out.ensures.leaves i.1),
+      subst (IsWriter c.change.new.seat.me.0) (sym c.change.ensures.headers)
+          (changed_writer c.self.inside.seat.me.0 c.change.new.seat.me.0 c.args.slot g _ f.within i.0),
+      subst (λ (z : List ℕ). AreSlots c.change.new.seat.me.0 c.self.inside.free.items c.take_out.new.list.items z)
+          (sym c.push_reserved.ensures.items) (unlinked_slots c.self.inside.seat.me.0 c.change.new.seat.me.0
+          c.args.slot g _ _ _ _ c.take_out.ensures.leaves i.1),
       c.change.ensures.held ∙ i.2,
       fits c.self.inside.seat.me.0 c.change.new.seat.me.0 _ _ same refl i.3,
       fits c.self.inside.seat.me.0 c.change.new.seat.me.0 _ _ same c.take_out.ensures.capacity i.4,

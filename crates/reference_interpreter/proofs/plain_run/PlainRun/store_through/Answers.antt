@@ -12,5 +12,6 @@ returns-in-Some c =
     let g : SFits w16 c.args.offset = c.ranges.offset in
     let h : SFits w64 c.in-Frame.o = search rules in
     let e = simp to_z-of_z at c.region_offset.ensures.value in
-    store_known (plain_state_of c.args.self.now) (byte_count c.args.width) c.args.offset c.args.v c.args.r c.in-Frame.o c.in-Some.at (cells_of c.write.new.frame) c.in-Frame.is (sym e ∙ c.in-Some.is)
+    store_known (plain_state_of c.args.self.now) (byte_count c.args.width) c.args.offset c.args.v c.args.r
+    c.in-Frame.o c.in-Some.at (cells_of c.write.new.frame) c.in-Frame.is (sym e ∙ c.in-Some.is)
     (subst (λ t. WritesFrame c.in-Some.at (byte_count c.args.width) c.args.v c.args.self.now.frame t c.write.new.frame) c.if-write.true c.write.ensures)

@@ -11,10 +11,14 @@ pub returns-in_ok-advance-in-Advance-clause-lists : goal.returns-in_ok-advance-i
 returns-in_ok-advance-in-Advance-clause-lists c =
     let s = schedule_of c.args.self.now in
     let new = schedule_of c.advance.new.self in
-    subst (λ e. FollowsLists s e Done new) (sym c.in-Advance.is) (advance-follows s new c.in_ok-advance-in-Advance.ensures.machine c.in_ok-advance-in-Advance.ensures.lists)
+    subst (λ e. FollowsLists s e Done new) (sym c.in-Advance.is)
+    (advance-follows s new c.in_ok-advance-in-Advance.ensures.machine c.in_ok-advance-in-Advance.ensures.lists)
 
 pub returns-in-Reap-clause-machine : goal.returns-in-Reap-clause-machine
-returns-in-Reap-clause-machine c = subst (λ e. DoesAs (machine_of c.args.self.now) e c.reap.result (machine_of c.reap.new.self)) (sym c.in-Reap.is) c.reap.ensures.machine
+returns-in-Reap-clause-machine c = subst (λ e. DoesAs (machine_of c.args.self.now) e c.reap.result
+    (machine_of c.reap.new.self)) (sym c.in-Reap.is) c.reap.ensures.machine
 
 pub returns-in-Reap-clause-lists : goal.returns-in-Reap-clause-lists
-returns-in-Reap-clause-lists c = subst (λ e. IfOk c.reap.result (λ answer. FollowsLists (schedule_of c.args.self.now) e answer (schedule_of c.reap.new.self))) (sym c.in-Reap.is) c.reap.ensures.lists
+returns-in-Reap-clause-lists c = subst (λ e. IfOk c.reap.result
+    (λ answer. FollowsLists (schedule_of c.args.self.now) e answer (schedule_of c.reap.new.self))) (sym c.in-Reap.is)
+    c.reap.ensures.lists

@@ -13,8 +13,11 @@ returns-clause-machine c =
     let self = c.args.self.now in
     let s = store_of self.store in
     let free : key_refusal (shape_of s c.args.map) (length c.args.key.items) ≡ None =
-    ap (λ k. key_refusal (shape_of s k) (length c.args.key.items)) (sym c.index.ensures) ∙ ap (key_refusal (shape_of s c.index.result)) (sym c.len.ensures.value) ∙ sym (c.key_refusal.ensures.key refl) ∙ c.in_default.is in
+    ap (λ k. key_refusal (shape_of s k) (length c.args.key.items)) (sym c.index.ensures) ∙
+    ap (key_refusal (shape_of s c.index.result)) (sym c.len.ensures.value) ∙ sym (c.key_refusal.ensures.key refl)
+    ∙ c.in_default.is in
     let found = c.in_ok-found.found in
-    let by_key = subst (λ k. Finds (elements_of self.store.elements.items) c.index-2.result k (option_map bytes_of found)) c.as_slice.ensures.value c.in_ok-found.ensures in
+    let by_key = subst (λ k. Finds (elements_of self.store.elements.items) c.index-2.result k
+    (option_map bytes_of found)) c.as_slice.ensures.value c.in_ok-found.ensures in
     let finds = subst (λ k. Finds (elements_of self.store.elements.items) k c.args.key.items (option_map bytes_of found)) c.index-2.ensures by_key in
     read-does (machine_of self) c.args.map c.args.key found free finds

@@ -36,11 +36,17 @@ returns-clause-machine c =
     let bound : p < length programs = omega (arith, c.if-p-len.false, c.len.ensures, len) in
     let one : slice_get programs p ≡ Some x = slice_get_read programs (length programs) p x refl bound c.index.ensures in
     let there : slice_get (map loaded_of programs) p ≡ Some (loaded_of x) = get-map loaded_of programs p x one in
-    let fresh : run_of programs run ≡ fresh_run self.started (loaded_of x) c.args.ctx.items = ap (λ k. run_with (or_no_program (slice_get programs k)) run) c.new.ensures.program ∙ ap (λ o. run_with (or_no_program o) run) one ∙ c.new.ensures.run (loaded_of x) in
-    let runs : runs_of programs (slice_set items r (Some run)) ≡ slice_set m.runs r (Some (fresh_run self.started (loaded_of x) c.args.ctx.items)) = map-set (option_map (run_of programs)) items r (Some run) ∙ ap (λ f. slice_set m.runs r (Some f)) fresh in
+    let fresh : run_of programs run ≡ fresh_run self.started (loaded_of x) c.args.ctx.items =
+    ap (λ k. run_with (or_no_program (slice_get programs k)) run) c.new.ensures.program ∙
+    ap (λ o. run_with (or_no_program o) run) one ∙ c.new.ensures.run (loaded_of x) in
+    let runs : runs_of programs (slice_set items r (Some run)) ≡ slice_set m.runs r
+    (Some (fresh_run self.started (loaded_of x) c.args.ctx.items)) =
+    map-set (option_map (run_of programs)) items r (Some run) ∙ ap (λ f. slice_set m.runs r (Some f)) fresh in
     let at : ℕ → Machine = λ n. record { store = m.store; runs = runs_of programs (slice_set items r (Some run)); started = n; programs = m.programs } in
     let new : Machine = at c.in_ok-next.next in
-    let is : new ≡ begins m r (loaded_of x) c.args.ctx.items = ap at c.in_ok-next.ensures ∙ ap (λ rs. record { store = m.store; runs = rs; started = m.started + 1; programs = m.programs }) runs in
+    let is : new ≡ begins m r (loaded_of x) c.args.ctx.items = ap at c.in_ok-next.ensures ∙
+    ap (λ rs. record { store = m.store; runs = rs; started = m.started + 1; programs = m.programs }) runs in
     let context : length c.args.ctx.items ≡ x.context_len = sym c.len-2.ensures.value ∙ c.if-len-index.false in
     let does = start-does m p r c.args.ctx (loaded_of x) new there context (sym c.lowest_free.ensures ∙ c.in-Some.is) is in
-    subst (λ k. DoesEvent m (events.Start k c.args.ctx) (Started c.new-2.result) new) c.index-p.ensures (subst (λ q. DoesEvent m (events.Start p c.args.ctx) (Started q) new) (sym c.new-2.ensures) does)
+    subst (λ k. DoesEvent m (events.Start k c.args.ctx) (Started c.new-2.result) new) c.index-p.ensures
+    (subst (λ q. DoesEvent m (events.Start p c.args.ctx) (Started q) new) (sym c.new-2.ensures) does)

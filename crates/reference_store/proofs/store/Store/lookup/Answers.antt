@@ -18,7 +18,9 @@ returns-then-is_linked_at c =
     let len : vec_len c.args.self.now.elements ≡ length items = search rules in
     let bound : c.loop-n.n < length items = omega (arith, c.loop-n-test.true, c.len-n-end.ensures, len) in
     let here = c.is_linked_at.ensures.0 c.if-is_linked_at.true in
-    linked-here (elements_of items) c.args.map c.args.key.now c.loop-n.n (element_of e) (get-map element_of items c.loop-n.n e (slice_get_read items (length items) c.loop-n.n e refl bound c.index.ensures)) here
+    linked-here (elements_of items) c.args.map c.args.key.now c.loop-n.n (element_of e)
+    (get-map element_of items c.loop-n.n e (slice_get_read items (length items) c.loop-n.n e refl bound
+    c.index.ensures)) here
 
 pub loop-n-preserved : goal.loop-n-preserved
 loop-n-preserved c =
@@ -27,12 +29,15 @@ loop-n-preserved c =
     let len : vec_len c.args.self.now.elements ≡ length items = search rules in
     let bound : c.loop-n.n < length items = omega (arith, c.loop-n-test.true, c.len-n-end.ensures, len) in
     let read = get-map element_of items c.loop-n.n e (slice_get_read items (length items) c.loop-n.n e refl bound c.index.ensures) in
-    let away : IsLinkedHere (element_of e) c.args.map c.args.key.now → ⊥ = λ h. let t : c.is_linked_at.result ≡ true = c.is_linked_at.ensures.1 h in false≢true (sym c.if-is_linked_at.false ∙ t) in
+    let away : IsLinkedHere (element_of e) c.args.map c.args.key.now → ⊥ = λ h. let t : c.is_linked_at.result ≡ true =
+    c.is_linked_at.ensures.1 h in false≢true (sym c.if-is_linked_at.false ∙ t) in
     λ k h l. elim (cases_lt k c.loop-n.n) [
       | inl a ↦ c.loop-n.invariant k a l
       | inr a ↦
           let same : c.loop-n.n ≡ k = omega arith in
-          not-here (elements_of items) c.args.map c.args.key.now c.loop-n.n (element_of e) read away (let P : ℕ → Type 0 = λ n. IsLinkedAt (elements_of items) c.args.map c.args.key.now n in subst P (sym same) l)
+          not-here (elements_of items) c.args.map c.args.key.now c.loop-n.n (element_of e) read away
+          (let P : ℕ → Type 0 = λ n. IsLinkedAt (elements_of items) c.args.map c.args.key.now n in subst P
+          (sym same) l)
     ]
 
 pub returns : goal.returns

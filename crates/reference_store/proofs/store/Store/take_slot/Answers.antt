@@ -12,7 +12,9 @@ pub returns-then-not-is_empty-clause-maps : goal.returns-then-not-is_empty-claus
 returns-then-not-is_empty-clause-maps c =
     let items = c.args.self.now.maps.items in
     let m = c.index_mut.result.now in
-    let at : slice_get (map map_of items) c.args.map ≡ Some (map_of m) = get-map map_of items c.args.map m (slice_get_read items (length items) c.args.map m refl c.requires c.index_mut.ensures.value) in
+    let at : slice_get (map map_of items) c.args.map ≡ Some (map_of m) =
+    get-map map_of items c.args.map m (slice_get_read items (length items) c.args.map m refl c.requires
+    c.index_mut.ensures.value) in
     let bag = c.remove.ensures.items ∙ remove-first m.bag.items in
     map-set map_of items c.args.map _ ∙ ap (λ b. slice_set (map map_of items) c.args.map (record { shape = m.shape; bag = b; worn = m.worn })) bag
     ∙ sym (without_first-at (map map_of items) c.args.map (map_of m) at)
@@ -21,6 +23,8 @@ pub returns-else-not-is_empty-clause-maps : goal.returns-else-not-is_empty-claus
 returns-else-not-is_empty-clause-maps c =
     let items = c.args.self.now.maps.items in
     let m = c.index.result.now in
-    let at : slice_get (map map_of items) c.args.map ≡ Some (map_of m) = get-map map_of items c.args.map m (slice_get_read items (length items) c.args.map m refl c.requires c.index.ensures) in
+    let at : slice_get (map map_of items) c.args.map ≡ Some (map_of m) =
+    get-map map_of items c.args.map m (slice_get_read items (length items) c.args.map m refl c.requires
+    c.index.ensures) in
     let empty : length m.bag.items ≡ 0 = search rules in
     sym (without_first-none (map map_of items) c.args.map (map_of m) at empty)

@@ -28,11 +28,14 @@ module _ (a a' b b' c : ℕ) (p : a < 2 ^ 64) (p' : a' < 2 ^ 64) (q : b < 2 ^ 64
   unfolding open_bits
   fits = or_lt 64 _ _ (or_lt 64 _ _ (xor_lt 64 a' a p' p) (xor_lt 64 b' b q' q)) (xor_lt 64 _ _ (carried_lt a b c) (carried_lt a' b' c))
 
-  sound : (x y : ℕ) → c ≤ 1 → HasBits a' a x → HasBits b' b y → HasBits (bit_or (carried a b c) open_bits) (bit_and (carried a b c) (bit_not w64 open_bits)) ((x + y + c) % 2 ^ 64)
+  sound : (x y : ℕ) → c ≤ 1 → HasBits a' a x → HasBits b' b y →
+      HasBits (bit_or (carried a b c) open_bits) (bit_and (carried a b c) (bit_not w64 open_bits))
+      ((x + y + c) % 2 ^ 64)
   unfolding open_bits
   sound x y l h k = sum_bits a x a' b y b' c _ _ (carried_is a b c) (carried_is a' b' c) fits l h k
 
-  low : (t : ℕ) → t ≤ 64 → AreKnownBelow t a' a → AreKnownBelow t b' b → AreKnownBelow t (bit_or (carried a b c) open_bits) (bit_and (carried a b c) (bit_not w64 open_bits))
+  low : (t : ℕ) → t ≤ 64 → AreKnownBelow t a' a → AreKnownBelow t b' b →
+      AreKnownBelow t (bit_or (carried a b c) open_bits) (bit_and (carried a b c) (bit_not w64 open_bits))
   unfolding open_bits
   low t l i j = low_known a a' b b' c _ _ t (carried_is a b c) (carried_is a' b' c) fits l i j
 

@@ -27,7 +27,9 @@ returns-in-Some-Some-clause-floor c =
             (subst (IsConstant c.constant.result) e c.constant.ensures.exact) (c.constant.ensures.zeros ∙ e) (c.constant.ensures.ones ∙ e);
         difference = λ o.
             let e : c.alu.result ≡ (u + (2 ^ 64 - v)) % 2 ^ 64 = c.alu.ensures ∙ ap₂ (λ z op. alu z op u v) s o ∙ word_difference u v (omega arith) in
-            difference_of_constants c.args.a c.args.b c.constant.result u v (omega (arith, c.in-Some-Some.ensures.least)) (omega arith) c.in-Some-Some.ensures c.in-Some-Some.ensures'
+            difference_of_constants c.args.a c.args.b c.constant.result u v
+            (omega (arith, c.in-Some-Some.ensures.least)) (omega arith) c.in-Some-Some.ensures
+            c.in-Some-Some.ensures'
             (subst (IsConstant c.constant.result) e c.constant.ensures.exact) (c.constant.ensures.zeros ∙ e) (c.constant.ensures.ones ∙ e);
         mask = λ k o i.
             let e : c.alu.result ≡ bit_and u v = c.alu.ensures ∙ ap₂ (λ z op. alu z op u v) s o in

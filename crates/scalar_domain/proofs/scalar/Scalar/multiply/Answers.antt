@@ -18,4 +18,5 @@ returns-in-Some c = λ x y p q h k.
 pub returns-in-None : goal.returns-in-None
 returns-in-None c = λ x y p q h k.
     c.masked-in-None.ensures.sound ((x * y) % 2 ^ 64) (omega arith) (omega (arith, mod_below (x * y) (2 ^ 64) (pow_pos 64)))
-    (product_within x y c.args.self.may c.args.other.may c.ones_from.result c.ones_from-2.result c.ones_from.ensures.multiples c.ones_from-2.ensures.multiples h.zeros k.zeros)
+    (product_within x y c.args.self.may c.args.other.may c.ones_from.result c.ones_from-2.result
+    c.ones_from.ensures.multiples c.ones_from-2.ensures.multiples h.zeros k.zeros)

@@ -16,4 +16,5 @@ returns-in-Word32-clause-sound c = λ x p h.
     let l : x % 2 ^ 32 < 2 ^ 32 = mod_below x (2 ^ 32) (pow_pos 32) in
     subst (Holds c.low_bits-in-Word32.result)
     (below_word (0 + (2 ^ 64 - x % 2 ^ 32)) 32 (omega arith) ∙ sym (ap (λ s. negated s x) c.in-Word32.is ∙ narrow_negated (x % 2 ^ 32) l))
-    (c.low_bits-in-Word32.ensures.sound _ (c.subtract-in-Word32.ensures.sound 0 (x % 2 ^ 32) (omega arith) (omega (arith, l)) c.constant-in-Word32.ensures.sound (c.low_bits.ensures.sound x h)))
+    (c.low_bits-in-Word32.ensures.sound _ (c.subtract-in-Word32.ensures.sound 0 (x % 2 ^ 32) (omega arith)
+    (omega (arith, l)) c.constant-in-Word32.ensures.sound (c.low_bits.ensures.sound x h)))

@@ -13,6 +13,15 @@ returns c = record {
       let m = bit_or c.args.self.must c.args.other.must in
       let o : Within (bit_and m b) (bit_or x y) = and-within_l (bit_or x y) m b (within-or _ _ x y h.ones k.ones) in
       c.new.ensures.sound (bit_or x y)
-      (let l : c.max-2.result ≤ bit_or x y = omega (arith, le_or_l x y, le_or_r x y, h.least, k.least, within_le _ _ o, c.max.ensures, c.max-2.ensures) in omega (arith, l, c.min.ensures))
+      (let l : c.max-2.result ≤ bit_or x y = omega (
+        arith,
+        le_or_l x y,
+        le_or_r x y,
+        h.least,
+        k.least,
+        within_le _ _ o,
+        c.max.ensures,
+        c.max-2.ensures,
+      ) in omega (arith, l, c.min.ensures))
       (within_le _ _ z) z o;
 }

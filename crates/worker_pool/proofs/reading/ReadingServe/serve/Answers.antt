@@ -12,11 +12,15 @@ use Rattle.worker_pool.proofs.reading.ReadingServe.serve.Goals as goal
 pub returns-in-Ok-clause-fits : goal.returns-in-Ok-clause-fits
 returns-in-Ok-clause-fits g c =
     let v = c.in-Some.verified.now in
-    let here : slice_get c.args.self.now.programs.now c.args.job.now.prog ≡ Some v = (let q = c.in-Some.ensures.lookup in ap (λ (n : ℕ). slice_get c.args.self.now.programs.now n) (sym c.index.ensures) ∙ slice_get_read c.args.self.now.programs.now (length c.args.self.now.programs.now) c.index.result v refl q.3.0 q.1) in
+    let here : slice_get c.args.self.now.programs.now c.args.job.now.prog ≡ Some v =
+    (let q = c.in-Some.ensures.lookup in ap (λ (n : ℕ). slice_get c.args.self.now.programs.now n)
+    (sym c.index.ensures) ∙ slice_get_read c.args.self.now.programs.now (length c.args.self.now.programs.now)
+    c.index.result v refl q.3.0 q.1) in
     let long : length c.args.job.now.ctx.items ≡ v.ctx_len = search rules in
     let r = c.in-Ok.ensures.runs in
     let whole : UsesSubWords v → ⊥ = λ u. absurd (false≢true (c.in-Ok.ensures.refused.1 u)) in
-    subst (λ (o : Option Checked). IsReadOutcome c.args.self.now.table.now.shape c.args.seat.now c.run_shared.new.seat c.args.job.now o (Exit c.in-Ok.value)) (sym here)
+    subst (λ (o : Option Checked). IsReadOutcome c.args.self.now.table.now.shape c.args.seat.now c.run_shared.new.seat
+    c.args.job.now o (Exit c.in-Ok.value)) (sym here)
     (inr (inr (
       long,
       whole,
@@ -36,8 +40,12 @@ returns-in-Ok-clause-fits g c =
 pub returns-in-Err-clause-fits : goal.returns-in-Err-clause-fits
 returns-in-Err-clause-fits g c =
     let v = c.in-Some.verified.now in
-    let here : slice_get c.args.self.now.programs.now c.args.job.now.prog ≡ Some v = (let q = c.in-Some.ensures.lookup in ap (λ (n : ℕ). slice_get c.args.self.now.programs.now n) (sym c.index.ensures) ∙ slice_get_read c.args.self.now.programs.now (length c.args.self.now.programs.now) c.index.result v refl q.3.0 q.1) in
+    let here : slice_get c.args.self.now.programs.now c.args.job.now.prog ≡ Some v =
+    (let q = c.in-Some.ensures.lookup in ap (λ (n : ℕ). slice_get c.args.self.now.programs.now n)
+    (sym c.index.ensures) ∙ slice_get_read c.args.self.now.programs.now (length c.args.self.now.programs.now)
+    c.index.result v refl q.3.0 q.1) in
     let long : length c.args.job.now.ctx.items ≡ v.ctx_len = search rules in
     let uses : UsesSubWords v = c.in-Err.ensures.refused.0 refl in
-    subst (λ (o : Option Checked). IsReadOutcome c.args.self.now.table.now.shape c.args.seat.now c.run_shared.new.seat c.args.job.now o c.unbegun-in-Err.result.outcome) (sym here)
+    subst (λ (o : Option Checked). IsReadOutcome c.args.self.now.table.now.shape c.args.seat.now c.run_shared.new.seat
+    c.args.job.now o c.unbegun-in-Err.result.outcome) (sym here)
     (inr (inl (long, uses, c.unbegun-in-Err.ensures)))

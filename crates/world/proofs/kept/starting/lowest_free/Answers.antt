@@ -4,13 +4,17 @@ use Rattle.world.proofs.Slots.{AreTaken, free-here, free-none, free-at, taken-mo
 use Rattle.world.proofs.kept.starting.lowest_free.Goals as goal
 
 pub returns-then-is_none-clause-free : goal.returns-then-is_none-clause-free
-returns-then-is_none-clause-free c = free-at c.args.runs.now c.loop-slot.slot c.index-runs-slot.result c.loop-slot-test.true (sym (ap is_some c.index-runs-slot.is) ∙ c.if-is_none.ensures)
+returns-then-is_none-clause-free c = free-at c.args.runs.now c.loop-slot.slot c.index-runs-slot.result
+    c.loop-slot-test.true (sym (ap is_some c.index-runs-slot.is) ∙ c.if-is_none.ensures)
 
 pub returns-then-is_none-clause-slot : goal.returns-then-is_none-clause-slot
-returns-then-is_none-clause-slot c = sym (free-here c.args.runs.now c.loop-slot.slot (free-at c.args.runs.now c.loop-slot.slot c.index-runs-slot.result c.loop-slot-test.true (sym (ap is_some c.index-runs-slot.is) ∙ c.if-is_none.ensures)) c.loop-slot.invariant)
+returns-then-is_none-clause-slot c = sym (free-here c.args.runs.now c.loop-slot.slot
+    (free-at c.args.runs.now c.loop-slot.slot c.index-runs-slot.result c.loop-slot-test.true
+    (sym (ap is_some c.index-runs-slot.is) ∙ c.if-is_none.ensures)) c.loop-slot.invariant)
 
 pub loop-slot-preserved : goal.loop-slot-preserved
-loop-slot-preserved c = taken-more c.args.runs.now c.loop-slot.slot c.index-runs-slot.result c.loop-slot-test.true (sym (ap is_some c.index-runs-slot.is) ∙ c.if-is_none.ensures) c.loop-slot.invariant
+loop-slot-preserved c = taken-more c.args.runs.now c.loop-slot.slot c.index-runs-slot.result c.loop-slot-test.true
+    (sym (ap is_some c.index-runs-slot.is) ∙ c.if-is_none.ensures) c.loop-slot.invariant
 
 pub returns-clause-slot : goal.returns-clause-slot
 returns-clause-slot c =

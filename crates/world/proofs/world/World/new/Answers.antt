@@ -28,7 +28,9 @@ invariant_of-result c =
       maps_limit = c.certify_maps.ensures.limit;
       programs_limit = few loaded (vec_len c.args.loaded) count limit;
       bound = bound;
-      verified = subst (λ (xs : List Loaded). (p : ℕ) (x : Loaded) → slice_get xs p ≡ Some x → IsVerified x.verified.program x.verified.shapes x.verified.ctx_len) same c.certify_programs.ensures.verified;
+      verified = subst (λ (xs : List Loaded). (p : ℕ) (x : Loaded) → slice_get xs p ≡ Some x →
+          IsVerified x.verified.program x.verified.shapes x.verified.ctx_len) same
+          c.certify_programs.ensures.verified;
       real = subst (λ (xs : List Loaded). (p : ℕ) (x : Loaded) → slice_get xs p ≡ Some x → IsRealProgram (program_of x)) same c.certify_programs.ensures.real;
     } in
     made-is-world safe c.in-Ok.parts c.in-Ok.ensures
@@ -47,7 +49,9 @@ returns-in-Ok-clause-start c =
       maps_limit = c.certify_maps.ensures.limit;
       programs_limit = few loaded (vec_len c.args.loaded) count limit;
       bound = bound;
-      verified = subst (λ (xs : List Loaded). (p : ℕ) (x : Loaded) → slice_get xs p ≡ Some x → IsVerified x.verified.program x.verified.shapes x.verified.ctx_len) same c.certify_programs.ensures.verified;
+      verified = subst (λ (xs : List Loaded). (p : ℕ) (x : Loaded) → slice_get xs p ≡ Some x →
+          IsVerified x.verified.program x.verified.shapes x.verified.ctx_len) same
+          c.certify_programs.ensures.verified;
       real = subst (λ (xs : List Loaded). (p : ℕ) (x : Loaded) → slice_get xs p ≡ Some x → IsRealProgram (program_of x)) same c.certify_programs.ensures.real;
     } in
     made-tracks-start safe c.in-Ok.parts c.in-Ok.ensures

@@ -14,43 +14,89 @@ loop-event-preserved c =
     let i = c.loop-event.event-index in
     let es = c.args.events.now in
     let e = c.event-item.result in
-    let taken : take (i + 1) es ≡ take i es ++ e ∷ [] = take_more es i e c.loop-event-test.true ∙ ap (λ (x : Event). take i es ++ x ∷ []) (sym c.event-item.is) in
+    let taken : take (i + 1) es ≡ take i es ++ e ∷ [] = take_more es i e c.loop-event-test.true ∙
+    ap (λ (x : Event). take i es ++ x ∷ []) (sym c.event-item.is) in
     let answer : Answer = (full_reaction c.loop-event.self e).0 in
-    let answers = answers_grow w c.loop-event.self (take i es) e c.loop-event.answers.items answer c.loop-event.invariant.answers c.loop-event.invariant.view refl in
+    let answers = answers_grow w c.loop-event.self (take i es) e c.loop-event.answers.items answer
+    c.loop-event.invariant.answers c.loop-event.invariant.view refl in
     let view = view_grows w c.loop-event.self c.answer_last.new.self (take i es) e c.loop-event.invariant.view c.answer_last.ensures.new in
     record {
       answers = c.answer_last.ensures.items ∙ (answers ∙ ap (λ (xs : List Event). (full_reactions w xs).0) (sym taken));
       view = view ∙ ap (λ (xs : List Event). (full_reactions w xs).1) (sym taken);
-      count = let l : vec_len c.answer_last.new.answers ≡ vec_len c.loop-event.answers + 1 = c.answer_last.ensures.len in let n : vec_len c.loop-event.answers ≡ i = c.loop-event.invariant.count in omega arith;
-      room = let r : vec_capacity c.loop-event.answers ≤ vec_capacity c.answer_last.new.answers = c.answer_last.ensures.room in let a : length es ≤ vec_capacity c.loop-event.answers = c.loop-event.invariant.room in omega arith;
+      count = let l : vec_len c.answer_last.new.answers ≡ vec_len c.loop-event.answers + 1 =
+          c.answer_last.ensures.len in let n : vec_len c.loop-event.answers ≡ i =
+          c.loop-event.invariant.count in omega arith;
+      room = let r : vec_capacity c.loop-event.answers ≤ vec_capacity c.answer_last.new.answers =
+          c.answer_last.ensures.room in let a : length es ≤ vec_capacity c.loop-event.answers =
+          c.loop-event.invariant.room in omega arith;
     }
 
 pub returns-clause-schedule : goal.returns-clause-schedule
 returns-clause-schedule c =
     let whole = take_all c.loop-event.event-index c.args.events.now c.loop-event-test.false in
-    let r : AllReact c.args.self.now c.args.events.now c.loop-event.answers.items c.loop-event.self = record { is = c.is_world.ensures; real = c.are_real.ensures; answers_are = c.loop-event.invariant.answers ∙ ap (λ (xs : List Event). (full_reactions c.args.self.now xs).0) whole; new_is = c.loop-event.invariant.view ∙ ap (λ (xs : List Event). (full_reactions c.args.self.now xs).1) whole } in
+    let r : AllReact c.args.self.now c.args.events.now c.loop-event.answers.items c.loop-event.self =
+    record {
+      is = c.is_world.ensures;
+      real = c.are_real.ensures;
+      answers_are = c.loop-event.invariant.answers ∙
+          ap (λ (xs : List Event). (full_reactions c.args.self.now xs).0) whole;
+      new_is = c.loop-event.invariant.view ∙
+          ap (λ (xs : List Event). (full_reactions c.args.self.now xs).1) whole;
+    } in
     all_scheduled r
 
 pub returns-clause-answers : goal.returns-clause-answers
 returns-clause-answers c =
     let whole = take_all c.loop-event.event-index c.args.events.now c.loop-event-test.false in
-    let r : AllReact c.args.self.now c.args.events.now c.loop-event.answers.items c.loop-event.self = record { is = c.is_world.ensures; real = c.are_real.ensures; answers_are = c.loop-event.invariant.answers ∙ ap (λ (xs : List Event). (full_reactions c.args.self.now xs).0) whole; new_is = c.loop-event.invariant.view ∙ ap (λ (xs : List Event). (full_reactions c.args.self.now xs).1) whole } in
+    let r : AllReact c.args.self.now c.args.events.now c.loop-event.answers.items c.loop-event.self =
+    record {
+      is = c.is_world.ensures;
+      real = c.are_real.ensures;
+      answers_are = c.loop-event.invariant.answers ∙
+          ap (λ (xs : List Event). (full_reactions c.args.self.now xs).0) whole;
+      new_is = c.loop-event.invariant.view ∙
+          ap (λ (xs : List Event). (full_reactions c.args.self.now xs).1) whole;
+    } in
     all_machine r
 
 pub returns-clause-never_stuck : goal.returns-clause-never_stuck
 returns-clause-never_stuck c =
     let whole = take_all c.loop-event.event-index c.args.events.now c.loop-event-test.false in
-    let r : AllReact c.args.self.now c.args.events.now c.loop-event.answers.items c.loop-event.self = record { is = c.is_world.ensures; real = c.are_real.ensures; answers_are = c.loop-event.invariant.answers ∙ ap (λ (xs : List Event). (full_reactions c.args.self.now xs).0) whole; new_is = c.loop-event.invariant.view ∙ ap (λ (xs : List Event). (full_reactions c.args.self.now xs).1) whole } in
+    let r : AllReact c.args.self.now c.args.events.now c.loop-event.answers.items c.loop-event.self =
+    record {
+      is = c.is_world.ensures;
+      real = c.are_real.ensures;
+      answers_are = c.loop-event.invariant.answers ∙
+          ap (λ (xs : List Event). (full_reactions c.args.self.now xs).0) whole;
+      new_is = c.loop-event.invariant.view ∙
+          ap (λ (xs : List Event). (full_reactions c.args.self.now xs).1) whole;
+    } in
     all_never_stuck r
 
 pub returns-clause-exits : goal.returns-clause-exits
 returns-clause-exits c =
     let whole = take_all c.loop-event.event-index c.args.events.now c.loop-event-test.false in
-    let r : AllReact c.args.self.now c.args.events.now c.loop-event.answers.items c.loop-event.self = record { is = c.is_world.ensures; real = c.are_real.ensures; answers_are = c.loop-event.invariant.answers ∙ ap (λ (xs : List Event). (full_reactions c.args.self.now xs).0) whole; new_is = c.loop-event.invariant.view ∙ ap (λ (xs : List Event). (full_reactions c.args.self.now xs).1) whole } in
+    let r : AllReact c.args.self.now c.args.events.now c.loop-event.answers.items c.loop-event.self =
+    record {
+      is = c.is_world.ensures;
+      real = c.are_real.ensures;
+      answers_are = c.loop-event.invariant.answers ∙
+          ap (λ (xs : List Event). (full_reactions c.args.self.now xs).0) whole;
+      new_is = c.loop-event.invariant.view ∙
+          ap (λ (xs : List Event). (full_reactions c.args.self.now xs).1) whole;
+    } in
     all_exit r
 
 pub returns-clause-reclaimed : goal.returns-clause-reclaimed
 returns-clause-reclaimed c =
     let whole = take_all c.loop-event.event-index c.args.events.now c.loop-event-test.false in
-    let r : AllReact c.args.self.now c.args.events.now c.loop-event.answers.items c.loop-event.self = record { is = c.is_world.ensures; real = c.are_real.ensures; answers_are = c.loop-event.invariant.answers ∙ ap (λ (xs : List Event). (full_reactions c.args.self.now xs).0) whole; new_is = c.loop-event.invariant.view ∙ ap (λ (xs : List Event). (full_reactions c.args.self.now xs).1) whole } in
+    let r : AllReact c.args.self.now c.args.events.now c.loop-event.answers.items c.loop-event.self =
+    record {
+      is = c.is_world.ensures;
+      real = c.are_real.ensures;
+      answers_are = c.loop-event.invariant.answers ∙
+          ap (λ (xs : List Event). (full_reactions c.args.self.now xs).0) whole;
+      new_is = c.loop-event.invariant.view ∙
+          ap (λ (xs : List Event). (full_reactions c.args.self.now xs).1) whole;
+    } in
     all_reclaimed r

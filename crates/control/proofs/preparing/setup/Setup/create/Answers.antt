@@ -21,9 +21,17 @@ invariant_of-self-2 c =
     let names = c.in-Ok.ensures.names in
     let maps = c.in-Ok.ensures.maps in
     record {
-      one_name_each = omega (arith, ap length names, ap length maps, length-append old.names (c.in-Some.text.now ∷ []), length-append old.maps (new_map_view shape ∷ []), i.one_name_each);
+      one_name_each = omega (
+        arith,
+        ap length names,
+        ap length maps,
+        length-append old.names (c.in-Some.text.now ∷ []),
+        length-append old.maps (new_map_view shape ∷ []),
+        i.one_name_each,
+      );
       new_maps = subst AreNewMaps (sym maps) (new-more old.maps shape i.new_maps);
-      bound = subst (λ m. AreProgramsBound (shapes_of_maps m) c.self.inside.loaded.items) (sym maps) (bound-still old.maps (new_map_view shape) c.self.inside.loaded.items i.bound);
+      bound = subst (λ m. AreProgramsBound (shapes_of_maps m) c.self.inside.loaded.items) (sym maps)
+          (bound-still old.maps (new_map_view shape) c.self.inside.loaded.items i.bound);
       few = i.few;
     }
 
@@ -35,4 +43,5 @@ returns-in-Err-clause-replies c =
     let text : c.in-Some.text.now ≡ c.args.name.now = c.in-Some.ensures.some in
     let before : c.self.inside.registry ≡ s.registry = ap (λ v. v.registry) c.self.view_is in
     let same = ap (λ r. creation_fault r c.in-Some.text.now shape) before ∙ ap (λ n. creation_fault s.registry n shape) text in
-    create-refused s c.args.name.now shape c.in-Err.fault _ _ c.uncreated.result _ same e.tested e.made c.uncreated.ensures.known c.uncreated.ensures.reply (cc (e.err, c.self.view_is))
+    create-refused s c.args.name.now shape c.in-Err.fault _ _ c.uncreated.result _ same e.tested e.made
+    c.uncreated.ensures.known c.uncreated.ensures.reply (cc (e.err, c.self.view_is))

@@ -5,12 +5,18 @@ use Rattle.world.proofs.kept.parts.Parts.dropped.Goals as goal
 
 pub invariant_of-self : goal.invariant_of-self
 invariant_of-self c = record {
-  of_runs = dropped-kept c.self.inside.registry.names c.self.inside.registry.maps c.self.inside.runs.items c.self.inside.grace c.close_all.new.self c.self.inside.programs.items c.self.inside.given c.index.result c.args.run c.index.ensures c.self.invariant.of_runs c.keeps_awaited_open.ensures c.close_all.ensures.depths c.close_all.ensures.awaited;
+  of_runs = dropped-kept c.self.inside.registry.names c.self.inside.registry.maps c.self.inside.runs.items
+      c.self.inside.grace c.close_all.new.self c.self.inside.programs.items c.self.inside.given c.index.result
+      c.args.run c.index.ensures c.self.invariant.of_runs c.keeps_awaited_open.ensures c.close_all.ensures.depths
+      c.close_all.ensures.awaited;
   bound = c.self.invariant.bound;
 }
 
 pub returns-in-None-clause-new : goal.returns-in-None-clause-new
 returns-in-None-clause-new c =
-    dropped-view c.self.inside.registry.names c.self.inside.registry.maps c.self.inside.runs.items c.self.inside.grace c.close_all.new.self c.self.inside.programs.items c.self.inside.given c.index.result c.args.run c.index.ensures c.self.invariant.of_runs c.keeps_awaited_open.ensures c.close_all.ensures.depths c.close_all.ensures.awaited
+    dropped-view c.self.inside.registry.names c.self.inside.registry.maps c.self.inside.runs.items c.self.inside.grace
+    c.close_all.new.self c.self.inside.programs.items c.self.inside.given c.index.result c.args.run
+    c.index.ensures c.self.invariant.of_runs c.keeps_awaited_open.ensures c.close_all.ensures.depths
+    c.close_all.ensures.awaited
     ∙ (ap (with_run c.args.run None) c.self.view_is
     ∙ ap (λ o. (drop_by o c.args.self.now c.args.run).1) c.in-None.ensures)

@@ -15,7 +15,8 @@ use Rattle.std.specs.Option.{option_flatten}
 pub step_slot-requires : goal.step_slot-requires
 step_slot-requires c =
     let here : WorldView → Type 0 = λ (w : WorldView). step_refused (option_flatten (slice_get w.runs c.args.run)) ≡ None in
-    is_going c.self.inside.registry.names c.self.inside.registry.maps c.self.inside.runs.items c.self.inside.grace c.self.inside.programs.items c.self.inside.given c.args.run c.self.invariant
+    is_going c.self.inside.registry.names c.self.inside.registry.maps c.self.inside.runs.items c.self.inside.grace
+    c.self.inside.programs.items c.self.inside.given c.args.run c.self.invariant
     c.requires.sound.schedule
     (subst (λ (w : WorldView). Matches w c.requires.sound.schedule) (sym c.self.view_is) c.requires.sound.matches)
     (subst (λ (w : WorldView). IsSound w c.requires.sound.schedule) (sym c.self.view_is) c.requires.sound.sound)
@@ -23,18 +24,22 @@ step_slot-requires c =
 
 pub invariant_of-self : goal.invariant_of-self
 invariant_of-self c =
-    gone_kept c.self.inside.registry.names c.self.inside.registry.maps c.self.inside.runs.items c.self.inside.grace c.self.inside.programs.items c.self.inside.given c.args.run c.self.invariant
+    gone_kept c.self.inside.registry.names c.self.inside.registry.maps c.self.inside.runs.items c.self.inside.grace
+    c.self.inside.programs.items c.self.inside.given c.args.run c.self.invariant
     c.step_slot.new.runs.items c.step_slot.new.maps.maps c.step_slot.new.grace (brief_answer c.step_slot.result) c.step_slot.ensures.gone
 
 pub returns-clause-answer : goal.returns-clause-answer
 returns-clause-answer c =
-    let e = gone_is c.self.inside.registry.names c.self.inside.registry.maps c.self.inside.runs.items c.self.inside.grace c.self.inside.programs.items c.self.inside.given c.args.run c.self.invariant
+    let e = gone_is c.self.inside.registry.names c.self.inside.registry.maps c.self.inside.runs.items
+    c.self.inside.grace c.self.inside.programs.items c.self.inside.given c.args.run c.self.invariant
     c.step_slot.new.runs.items c.step_slot.new.maps.maps c.step_slot.new.grace (brief_answer c.step_slot.result) c.step_slot.ensures.gone in
     sym (ap (λ (x : Answer × WorldView). x.0) e) ∙ ap (λ (w : WorldView). (word_step w c.args.run).0) c.self.view_is
 
 pub returns-clause-new : goal.returns-clause-new
 returns-clause-new c =
-    let e = gone_is c.self.inside.registry.names c.self.inside.registry.maps c.self.inside.runs.items c.self.inside.grace c.self.inside.programs.items c.self.inside.given c.args.run c.self.invariant
+    let e = gone_is c.self.inside.registry.names c.self.inside.registry.maps c.self.inside.runs.items
+    c.self.inside.grace c.self.inside.programs.items c.self.inside.given c.args.run c.self.invariant
     c.step_slot.new.runs.items c.step_slot.new.maps.maps c.step_slot.new.grace (brief_answer c.step_slot.result) c.step_slot.ensures.gone in
-    ap (λ (names : List (List ℕ)). world_of names c.step_slot.new.maps.maps c.step_slot.new.runs.items c.step_slot.new.grace c.self.inside.programs.items c.self.inside.given) c.step_slot.ensures.names
+    ap (λ (names : List (List ℕ)). world_of names c.step_slot.new.maps.maps c.step_slot.new.runs.items
+    c.step_slot.new.grace c.self.inside.programs.items c.self.inside.given) c.step_slot.ensures.names
     ∙ sym (ap (λ (x : Answer × WorldView). x.1) e) ∙ ap (λ (w : WorldView). (word_step w c.args.run).1) c.self.view_is
