@@ -1,6 +1,8 @@
 pub mod Lines
 pub mod Numbers
 pub mod Outcomes
-pub mod Runs
-pub mod Trails
+pub mod ReadingLemmas
 pub mod Readings
+pub mod Runs
+pub mod TrailLemmas
+pub mod Trails

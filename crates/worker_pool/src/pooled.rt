@@ -96,7 +96,8 @@ fn finish_job<L: Ledger, R: Wait>(
 }
 
 impl<L: Ledger + Send + Sync> Serve for Pooled<'_, L> {
-    ghost use Rattle.worker_pool.specs.Trails.{IsLater, IsServedJob, later_same, later_again, served_wider};
+    ghost use Rattle.worker_pool.specs.Trails.{IsLater, IsServedJob};
+    ghost use Rattle.worker_pool.specs.TrailLemmas.{later_same, later_again, served_wider};
 
     type Job = Job;
 

@@ -36,7 +36,8 @@ fn unbegun(cause: StopCause) -> JobReport<()>
 
 impl Serve for Reading<'_> {
     ghost use Rattle.read_table.specs.Held.{IsReady};
-    ghost use Rattle.worker_pool.specs.Readings.{AllFit, HasGained, IsReadJob, gained_same, gained_again, read_wider};
+    ghost use Rattle.worker_pool.specs.Readings.{AllFit, HasGained, IsReadJob};
+    ghost use Rattle.worker_pool.specs.ReadingLemmas.{gained_same, gained_again, read_wider};
 
     type Job = Job;
 
