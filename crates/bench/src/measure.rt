@@ -6,7 +6,7 @@ use crate::measurements::{BATCHES, Decimal, LEAST_MILLIS, quotient};
 use crate::trial::{Trial, counted_run, counting_bytes};
 use anyhow::{Result, ensure};
 use bpf_model::CtxBytes;
-use lone_runs::run_to_exit;
+use map_free_runs::run_to_exit;
 use std::alloc::Global;
 use std::rt::Clock;
 use std::time::{Duration, Instant};

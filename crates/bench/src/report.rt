@@ -1,7 +1,7 @@
 //! The lines that the program prints.
 ghost use Rattle.std.specs.Prelude.{◌≡◌, ◌++◌, IfOk, string_bytes, codes, decimal};
 
-use lone_runs::Finished;
+use map_free_runs::Finished;
 use std::alloc::{AllocError, Global};
 
 /// The line of a program that is built in: its name, and what it came to.

@@ -8,15 +8,15 @@ use Rattle.bpf_model.specs.EventNumbers.{event_refusal_number}
 use Rattle.bpf_model.specs.View.{WorldView, shapes_of_maps}
 use Rattle.maps.specs.Registry.{RegistryView}
 use Rattle.program_graph.specs.GraphFlaws.{HasGoodGraph}
-use Rattle.typed_runs.specs.Verified.{IsVerified}
+use Rattle.plan_laws.specs.Verified.{IsVerified}
 use Rattle.program_files.specs.declared.program_file.Source.{Source}
 use Rattle.program_files.specs.declared.verdict.Verdict.{Verdict}
 use Rattle.program_files.specs.declared.verdict.TheConstants.{MEMORY}
 use Rattle.program_files.specs.Checks.{content_with, IsSourceOf}
-use Rattle.single_runs.specs.declared.once.Ended.{Ended}
-use Rattle.single_runs.specs.declared.once.RunEnd.{RunEnd}
-use Rattle.single_runs.specs.declared.once.RunEnd.TheVariants.{Exited, NotDone}
-use Rattle.single_runs.specs.Once.{ComesTo, IsUpdate}
+use Rattle.run_once.specs.declared.once.Ended.{Ended}
+use Rattle.run_once.specs.declared.once.RunEnd.{RunEnd}
+use Rattle.run_once.specs.declared.once.RunEnd.TheVariants.{Exited, NotDone}
+use Rattle.run_once.specs.Once.{ComesTo, IsUpdate}
 use Rattle.commands.specs.declared.report.TheConstants.{BAD_CONTEXT, NO_PLACE}
 use Rattle.commands.specs.declared.request.MapElement.{MapElement}
 use Rattle.commands.specs.declared.request.SingleRun.{SingleRun}

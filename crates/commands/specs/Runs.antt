@@ -22,10 +22,10 @@ use Rattle.program_files.specs.declared.verdict.Verdict.{Verdict}
 use Rattle.program_files.specs.declared.verdict.TheConstants.{MEMORY}
 use Rattle.program_files.specs.Checks.{IsVerifiedFile, IsCheckedRefusal}
 use Rattle.program_files.specs.ProgramFile.{FileContent}
-use Rattle.single_runs.specs.declared.once.Ended.{Ended}
-use Rattle.single_runs.specs.declared.once.RunEnd.{RunEnd}
-use Rattle.single_runs.specs.declared.once.RunEnd.TheVariants.{Exited, NotDone}
-use Rattle.single_runs.specs.Once.{ComesTo}
+use Rattle.run_once.specs.declared.once.Ended.{Ended}
+use Rattle.run_once.specs.declared.once.RunEnd.{RunEnd}
+use Rattle.run_once.specs.declared.once.RunEnd.TheVariants.{Exited, NotDone}
+use Rattle.run_once.specs.Once.{ComesTo}
 use Rattle.commands.specs.declared.request.MapElement.{MapElement}
 use Rattle.commands.specs.declared.request.SingleRun.{SingleRun}
 use Rattle.commands.specs.declared.report.TheConstants.{BAD_CONTEXT, NO_PLACE}

@@ -10,7 +10,7 @@ use crate::request::SingleRun;
 use crate::streams::{unread, write_text, written};
 use bpf_model::array_of;
 use program_files::{FileBytes, MEMORY, Verdict, VerifiedSource, read_file, verify_source};
-use single_runs::{Ended, RunEnd, run_once};
+use run_once::{Ended, RunEnd, run_once};
 use std::alloc::Global;
 use std::io;
 use std::io::{Read, Write};

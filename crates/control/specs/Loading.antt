@@ -14,7 +14,7 @@ use Rattle.insn_codec.specs.declared.fault.DecodeFault.{DecodeFault}
 use Rattle.insn_codec.specs.declared.fault.DecodeFault.TheVariants as decode_faults
 use Rattle.insn_codec.specs.Faults.{IsDecodeFault, decode_fault_number, decode_fault_slot}
 use Rattle.program_graph.specs.GraphFlaws.{HasGoodGraph}
-use Rattle.typed_runs.specs.Verified.{IsVerified}
+use Rattle.plan_laws.specs.Verified.{IsVerified}
 use Rattle.verifier.specs.declared.refusal.ProgramRefusal.{ProgramRefusal}
 use Rattle.verifier.specs.declared.refusal.ProgramRefusal.TheVariants as refusals
 use Rattle.verifier.specs.Numbers.{refusal_number, refusal_slot}

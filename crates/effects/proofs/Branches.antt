@@ -17,14 +17,14 @@ use Rattle.bpf_model.specs.Operand.{operand_value, decided}
 use Rattle.bpf_model.specs.Step.{State, Environment, Moves, Exits, forward, jumps_to, jumps_by}
 use Rattle.scalar_domain.specs.declared.scalar.Scalar.{Scalar}
 use Rattle.scalar_domain.specs.Scalar.{Holds}
-use Rattle.typed_runs.specs.Kinds.{Num, ValueAt, AbsState}
-use Rattle.typed_runs.specs.Describes.{Scene, Describes}
-use Rattle.typed_runs.specs.Effects.{with_kind}
-use Rattle.typed_runs.specs.Verified.{JumpsToSlot, ActsAlone, Transfers}
-use Rattle.typed_runs.specs.Planned.{AreAlike}
-use Rattle.typed_runs.proofs.Sets.{placed-described}
-use Rattle.typed_runs.proofs.Arguments.{reg-is}
-use Rattle.typed_runs.proofs.Local.{alone_transfers}
+use Rattle.plan_laws.specs.Kinds.{Num, ValueAt, AbsState}
+use Rattle.plan_laws.specs.Describes.{Scene, Describes}
+use Rattle.plan_laws.specs.Effects.{with_kind}
+use Rattle.plan_laws.specs.Verified.{JumpsToSlot, ActsAlone, Transfers}
+use Rattle.plan_laws.specs.Planned.{AreAlike}
+use Rattle.plan_laws.proofs.Sets.{placed-described}
+use Rattle.plan_laws.proofs.Arguments.{reg-is}
+use Rattle.plan_laws.proofs.Local.{alone_transfers}
 use Rattle.register_kinds.specs.declared.kind.RegKind.{RegKind}
 use Rattle.register_kinds.specs.declared.kind.RegKind.TheVariants as kinds
 use Rattle.register_kinds.specs.declared.state.AbsState.{AbsState as StateHere}

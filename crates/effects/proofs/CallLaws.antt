@@ -17,15 +17,15 @@ use Rattle.scalar_domain.specs.declared.scalar.Scalar.{Scalar}
 use Rattle.std.specs.Prelude.{Bool, ◌==◌, if◌then◌else◌, pos, nat_le, slice_get}
 use Rattle.std.proofs.lemmas.Option.{same_Some}
 use Rattle.std.proofs.lemmas.Bool.{ne_eqb, lt-leb}
-use Rattle.typed_runs.specs.Kinds.{Kind, Blank, Mixed, Ended, Num, CtxAt, FrameAt, MapAt, ValueAt, MaybeNull, CellKind, AbsState}
-use Rattle.typed_runs.specs.Effects.{after_call, after_lock, after_unlock, is_array_in, returned_kind, ended_kind, ended_cell, left_kind, left_cell, IsOther, IsOtherCell, IsFresh, HasMap, HasBytes, when_null, when_there}
-use Rattle.typed_runs.specs.Verified.{Transfers}
-use Rattle.typed_runs.specs.Planned.{AreAlike, number_zero, origin}
-use Rattle.typed_runs.proofs.Planning.{alike_wider, transfers_wider, origin_has, zero_holds, to_alike}
-use Rattle.typed_runs.proofs.Arrays.{array-there}
-use Rattle.typed_runs.proofs.Calls.{lock_transfers, unlock_transfers, lookup_transfers}
-use Rattle.typed_runs.proofs.Updating.{update_transfers, delete_transfers}
-use Rattle.typed_runs.proofs.Local.{equal_transfers, not_equal_transfers}
+use Rattle.plan_laws.specs.Kinds.{Kind, Blank, Mixed, Ended, Num, CtxAt, FrameAt, MapAt, ValueAt, MaybeNull, CellKind, AbsState}
+use Rattle.plan_laws.specs.Effects.{after_call, after_lock, after_unlock, is_array_in, returned_kind, ended_kind, ended_cell, left_kind, left_cell, IsOther, IsOtherCell, IsFresh, HasMap, HasBytes, when_null, when_there}
+use Rattle.plan_laws.specs.Verified.{Transfers}
+use Rattle.plan_laws.specs.Planned.{AreAlike, number_zero, origin}
+use Rattle.plan_laws.proofs.Planning.{alike_wider, transfers_wider, origin_has, zero_holds, to_alike}
+use Rattle.plan_laws.proofs.Arrays.{array-there}
+use Rattle.plan_laws.proofs.Calls.{lock_transfers, unlock_transfers, lookup_transfers}
+use Rattle.plan_laws.proofs.Updating.{update_transfers, delete_transfers}
+use Rattle.plan_laws.proofs.Local.{equal_transfers, not_equal_transfers}
 use Rattle.register_kinds.specs.declared.kind.RegKind.{RegKind}
 use Rattle.register_kinds.specs.declared.kind.RegKind.TheVariants as kinds
 use Rattle.register_kinds.specs.declared.kind.CellKind as classes

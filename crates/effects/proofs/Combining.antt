@@ -27,16 +27,16 @@ use Rattle.bpf_model.specs.Element.{Element}
 use Rattle.model_laws.specs.ByKind.{AccessesElement}
 use Rattle.scalar_domain.specs.declared.scalar.Scalar.{Scalar}
 use Rattle.scalar_domain.specs.Scalar.{Holds}
-use Rattle.typed_runs.specs.Kinds.{Kind, Blank, Num, CtxAt, MapAt, ValueAt, AbsState}
-use Rattle.typed_runs.specs.Describes.{Scene, HasOffset, IsOf, Describes}
-use Rattle.typed_runs.specs.Effects.{with_kind}
-use Rattle.typed_runs.specs.Verified.{IsEnvironment, Transfers, is_call}
-use Rattle.typed_runs.specs.Planned.{AreAlike}
-use Rattle.typed_runs.proofs.Sets.{set-described}
-use Rattle.typed_runs.proofs.Arguments.{reg-is}
-use Rattle.typed_runs.proofs.Local.{alone_transfers}
-use Rattle.typed_runs.proofs.Elements.{set-is}
-use Rattle.typed_runs.proofs.Planning.{to_alike}
+use Rattle.plan_laws.specs.Kinds.{Kind, Blank, Num, CtxAt, MapAt, ValueAt, AbsState}
+use Rattle.plan_laws.specs.Describes.{Scene, HasOffset, IsOf, Describes}
+use Rattle.plan_laws.specs.Effects.{with_kind}
+use Rattle.plan_laws.specs.Verified.{IsEnvironment, Transfers, is_call}
+use Rattle.plan_laws.specs.Planned.{AreAlike}
+use Rattle.plan_laws.proofs.Sets.{set-described}
+use Rattle.plan_laws.proofs.Arguments.{reg-is}
+use Rattle.plan_laws.proofs.Local.{alone_transfers}
+use Rattle.plan_laws.proofs.Elements.{set-is}
+use Rattle.plan_laws.proofs.Planning.{to_alike}
 use Rattle.register_kinds.specs.declared.kind.RegKind.{RegKind}
 use Rattle.register_kinds.specs.declared.kind.RegKind.TheVariants as kinds
 use Rattle.register_kinds.specs.declared.state.AbsState.{AbsState as StateHere}

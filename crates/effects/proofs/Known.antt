@@ -8,7 +8,7 @@ use Rattle.scalar_domain.specs.declared.scalar.Scalar.{Scalar}
 use Rattle.scalar_domain.specs.Scalar.{IsConstant}
 use Rattle.scalar_domain.specs.Floor.{KeepsWideFloor, KeepsFloor}
 use Rattle.scalar_domain.proofs.Edges.{no_wider-refl}
-use Rattle.typed_runs.specs.Kinds.{Num}
+use Rattle.plan_laws.specs.Kinds.{Num}
 use Rattle.register_kinds.specs.declared.kind.RegKind.{RegKind}
 use Rattle.register_kinds.specs.declared.kind.RegKind.TheVariants as kinds
 use Rattle.register_kinds.specs.States.{kind_of}

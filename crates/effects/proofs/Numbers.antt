@@ -6,8 +6,8 @@ use Rattle.register_kinds.proofs.KindLaws.{kind_is}
 use Rattle.bpf_model.specs.declared.insn.Operand.TheVariants.{Immediate}
 use Rattle.scalar_domain.specs.declared.scalar.Scalar.{Scalar}
 use Rattle.scalar_domain.specs.Scalar.{Holds, IsConstant}
-use Rattle.typed_runs.specs.Describes.{HasOffset}
-use Rattle.typed_runs.specs.Kinds.{Num}
+use Rattle.plan_laws.specs.Describes.{HasOffset}
+use Rattle.plan_laws.specs.Kinds.{Num}
 use Rattle.register_kinds.specs.declared.kind.RegKind.{RegKind}
 use Rattle.register_kinds.specs.declared.kind.RegKind.TheVariants as kinds
 use Rattle.register_kinds.specs.States.{kind_of}

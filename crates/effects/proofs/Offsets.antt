@@ -10,7 +10,7 @@ use Rattle.bpf_model.specs.Arithmetic.{signed, word, immediate}
 use Rattle.scalar_domain.specs.declared.scalar.Scalar.{Scalar}
 use Rattle.scalar_domain.specs.Scalar.{Holds}
 use Rattle.scalar_domain.proofs.Forms.{word_difference}
-use Rattle.typed_runs.specs.Describes.{HasOffset}
+use Rattle.plan_laws.specs.Describes.{HasOffset}
 use Rattle.effects.specs.Computes.{IsNearStep, MovesOffsets, shifted_word}
 use Rattle.effects.specs.declared.moving.Way.{Way}
 use Rattle.effects.specs.declared.moving.Way.TheVariants.{Forward, Back}

@@ -22,15 +22,15 @@ use Rattle.bpf_model.specs.Element.{Element}
 use Rattle.model_laws.specs.ByKind.{element_load}
 use Rattle.scalar_domain.specs.declared.scalar.Scalar.{Scalar}
 use Rattle.scalar_domain.specs.Scalar.{Holds}
-use Rattle.typed_runs.specs.Kinds.{Kind, Num, CtxAt, FrameAt, ByteCell, PartCell, AbsState}
-use Rattle.typed_runs.specs.Describes.{Scene, IsContextAt, Describes}
-use Rattle.typed_runs.specs.Effects.{with_kind, IsAlwaysInside, IsPointer}
-use Rattle.typed_runs.specs.Verified.{IsEnvironment, Transfers}
-use Rattle.typed_runs.proofs.Sets.{set-described}
-use Rattle.typed_runs.proofs.Arguments.{reg-is, cell-is}
-use Rattle.typed_runs.proofs.Local.{alone_transfers}
-use Rattle.typed_runs.proofs.Elements.{number_read, offset_some, set-is, load_transfers, load_signed_transfers, wide-fits}
-use Rattle.typed_runs.proofs.Spilling.{fill_transfers, no-element-load}
+use Rattle.plan_laws.specs.Kinds.{Kind, Num, CtxAt, FrameAt, ByteCell, PartCell, AbsState}
+use Rattle.plan_laws.specs.Describes.{Scene, IsContextAt, Describes}
+use Rattle.plan_laws.specs.Effects.{with_kind, IsAlwaysInside, IsPointer}
+use Rattle.plan_laws.specs.Verified.{IsEnvironment, Transfers}
+use Rattle.plan_laws.proofs.Sets.{set-described}
+use Rattle.plan_laws.proofs.Arguments.{reg-is, cell-is}
+use Rattle.plan_laws.proofs.Local.{alone_transfers}
+use Rattle.plan_laws.proofs.Elements.{number_read, offset_some, set-is, load_transfers, load_signed_transfers, wide-fits}
+use Rattle.plan_laws.proofs.Spilling.{fill_transfers, no-element-load}
 use Rattle.register_kinds.specs.declared.kind.RegKind.{RegKind}
 use Rattle.register_kinds.specs.declared.kind.RegKind.TheVariants as kinds
 use Rattle.register_kinds.specs.declared.kind.CellKind.TheVariants as class

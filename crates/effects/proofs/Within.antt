@@ -9,7 +9,7 @@ use Rattle.bpf_model.specs.declared.opcode.Width.TheVariants as widths
 use Rattle.bpf_model.specs.Access.{byte_count, region_offset}
 use Rattle.scalar_domain.specs.declared.scalar.Scalar.{Scalar}
 use Rattle.scalar_domain.specs.Scalar.{Holds}
-use Rattle.typed_runs.specs.Effects.{IsAlwaysInside}
+use Rattle.plan_laws.specs.Effects.{IsAlwaysInside}
 
 -- low bits of which each is known
 low-known : (t n may must : ℕ) → bit_and n may ≡ n → bit_and must n ≡ must → may % 2 ^ t ≡ must % 2 ^ t → n % 2 ^ t ≡ must % 2 ^ t

@@ -16,14 +16,14 @@ use Rattle.bpf_model.specs.Operand.{operand_value}
 use Rattle.bpf_model.specs.Access.{byte_count, region_offset}
 use Rattle.bpf_model.specs.Frame.{with_number}
 use Rattle.bpf_model.specs.Step.{Outcome, Moves, stored, frame_after, store_to}
-use Rattle.typed_runs.specs.Kinds.{Kind, FrameAt, ByteCell, PartCell, AbsState}
-use Rattle.typed_runs.specs.Effects.{with_cells, IsNumberOperand, IsWritten}
-use Rattle.typed_runs.specs.Verified.{Transfers}
-use Rattle.typed_runs.proofs.Arguments.{reg-is}
-use Rattle.typed_runs.proofs.Local.{alone_transfers}
-use Rattle.typed_runs.proofs.Example.{bytes-described}
-use Rattle.typed_runs.proofs.Spilling.{spill_transfers, no-element}
-use Rattle.typed_runs.proofs.Elements.{operand-number}
+use Rattle.plan_laws.specs.Kinds.{Kind, FrameAt, ByteCell, PartCell, AbsState}
+use Rattle.plan_laws.specs.Effects.{with_cells, IsNumberOperand, IsWritten}
+use Rattle.plan_laws.specs.Verified.{Transfers}
+use Rattle.plan_laws.proofs.Arguments.{reg-is}
+use Rattle.plan_laws.proofs.Local.{alone_transfers}
+use Rattle.plan_laws.proofs.Example.{bytes-described}
+use Rattle.plan_laws.proofs.Spilling.{spill_transfers, no-element}
+use Rattle.plan_laws.proofs.Elements.{operand-number}
 
 pub number_stored : (width : Width) (dst : ℕ) (offset : ℤ) (src : Operand) (shapes : List MapShape) (ctx_len : ℕ) (a : AbsState) (o : ℤ) (at : ℕ) → a.regs dst ≡ FrameAt o
     → region_offset FRAME_BYTES (byte_count width) (o +ℤ offset) ≡ Some at → IsNumberOperand a src → Transfers (Store width dst offset src) shapes ctx_len a (with_cells at (byte_count width) ByteCell a) None

@@ -5,10 +5,10 @@ use Rattle.bpf_model.specs.declared.limits.TheConstants.{FRAME_BYTES}
 use Rattle.bpf_model.specs.declared.limits.MapShape.{MapShape}
 use Rattle.bpf_model.specs.Access.{region_offset}
 use Rattle.scalar_domain.specs.declared.scalar.Scalar.{Scalar}
-use Rattle.typed_runs.specs.Kinds.{Kind, Num, CtxAt, FrameAt, ValueAt, ByteCell, PartCell}
-use Rattle.typed_runs.specs.Kinds.{AbsState as Known}
-use Rattle.typed_runs.specs.Effects.{IsAlwaysInside, IsPointer, with_cells}
-use Rattle.typed_runs.specs.Planned.{AreAlike}
+use Rattle.plan_laws.specs.Kinds.{Kind, Num, CtxAt, FrameAt, ValueAt, ByteCell, PartCell}
+use Rattle.plan_laws.specs.Kinds.{AbsState as Known}
+use Rattle.plan_laws.specs.Effects.{IsAlwaysInside, IsPointer, with_cells}
+use Rattle.plan_laws.specs.Planned.{AreAlike}
 use Rattle.register_kinds.specs.declared.fault.InsnFault.{InsnFault}
 use Rattle.register_kinds.specs.declared.state.AbsState.{AbsState}
 use Rattle.register_kinds.specs.declared.kind.RegKind.TheVariants as kinds

@@ -20,10 +20,10 @@ use Rattle.register_kinds.specs.declared.fault.InsnFault.{InsnFault}
 use Rattle.register_kinds.specs.declared.fault.InsnFault.TheVariants.{UnknownCall, OutsideSection}
 use Rattle.register_kinds.specs.declared.fault.InsnFault.TheVariants.{UnpairedSection}
 use Rattle.bpf_model.specs.declared.insn.Insn.TheVariants.{Call}
-use Rattle.typed_runs.specs.Kinds.{Kind, Num, MapAt, MaybeNull, AbsState as Known}
-use Rattle.typed_runs.specs.Effects.{HasBytes, HasNumber, after_call, after_lock, after_unlock}
-use Rattle.typed_runs.specs.Effects.{is_array_in}
-use Rattle.typed_runs.specs.Planned.{AreAlike}
+use Rattle.plan_laws.specs.Kinds.{Kind, Num, MapAt, MaybeNull, AbsState as Known}
+use Rattle.plan_laws.specs.Effects.{HasBytes, HasNumber, after_call, after_lock, after_unlock}
+use Rattle.plan_laws.specs.Effects.{is_array_in}
+use Rattle.plan_laws.specs.Planned.{AreAlike}
 use Rattle.register_kinds.specs.declared.learn.Lesson.TheVariants.{IsNull, IsThere}
 use Rattle.register_kinds.specs.Changes.{learnt}
 use Rattle.register_kinds.specs.declared.state.AbsState.{AbsState}

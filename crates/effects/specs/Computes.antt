@@ -15,13 +15,13 @@ use Rattle.model_laws.specs.Near.{IsNear}
 use Rattle.bpf_model.specs.Step.{State}
 use Rattle.scalar_domain.specs.declared.scalar.Scalar.{Scalar}
 use Rattle.scalar_domain.specs.Scalar.{Holds, IsConstant}
-use Rattle.typed_runs.specs.Kinds.{Kind, AbsState as Known}
-use Rattle.typed_runs.specs.Effects.{with_kind, IsWritten, HasNumber}
-use Rattle.typed_runs.specs.Planned.{AreAlike}
+use Rattle.plan_laws.specs.Kinds.{Kind, AbsState as Known}
+use Rattle.plan_laws.specs.Effects.{with_kind, IsWritten, HasNumber}
+use Rattle.plan_laws.specs.Planned.{AreAlike}
 use Rattle.register_kinds.specs.declared.fault.InsnFault.{InsnFault}
 use Rattle.register_kinds.specs.declared.kind.RegKind.{RegKind}
 use Rattle.register_kinds.specs.declared.kind.RegKind.TheVariants as kinds
-use Rattle.typed_runs.specs.Describes.{Scene, Naming, HasOffset, IsOf, Describes}
+use Rattle.plan_laws.specs.Describes.{Scene, Naming, HasOffset, IsOf, Describes}
 use Rattle.register_kinds.specs.declared.state.AbsState.{AbsState}
 use Rattle.register_kinds.specs.States.{kind_at, kind_in}
 use Rattle.effects.specs.declared.moving.Way.{Way}

@@ -10,7 +10,7 @@ use Rattle.bpf_model.specs.declared.opcode.Size.{Size}
 use Rattle.scalar_domain.specs.declared.scalar.Scalar.{Scalar}
 use Rattle.scalar_domain.specs.Constant.{constant_of}
 use Rattle.scalar_domain.specs.Floor.{KeepsFloor}
-use Rattle.typed_runs.specs.Kinds.{Kind, Num, AbsState as Known}
+use Rattle.plan_laws.specs.Kinds.{Kind, Num, AbsState as Known}
 use Rattle.effects.specs.Performs.{IsNumbers}
 
 -- the kind of a second operand

@@ -6,9 +6,9 @@ use Rattle.bpf_model.specs.Plain.{Names}
 use Rattle.bpf_model.specs.Step.{State}
 use Rattle.bpf_model.specs.Value.{IsNumber}
 use Rattle.scalar_domain.specs.declared.scalar.Scalar.{Scalar}
-use Rattle.typed_runs.specs.Kinds.{Num, AbsState as Known}
-use Rattle.typed_runs.specs.Describes.{Scene, IsOf, Describes}
-use Rattle.typed_runs.specs.Effects.{HasNumber}
+use Rattle.plan_laws.specs.Kinds.{Num, AbsState as Known}
+use Rattle.plan_laws.specs.Describes.{Scene, IsOf, Describes}
+use Rattle.plan_laws.specs.Effects.{HasNumber}
 use Rattle.bpf_model.specs.declared.opcode.Condition.{Condition}
 use Rattle.bpf_model.specs.declared.opcode.Size.{Size}
 use Rattle.scalar_domain.specs.Floor.{KeepsEdgeFloor}

@@ -3,10 +3,10 @@ use Rattle.std.specs.Prelude.{◌≡◌, ℕ, List, None, Result, IsOk}
 use Rattle.bpf_model.specs.declared.limits.MapShape.{MapShape}
 use Rattle.bpf_model.specs.declared.insn.Insn.{Insn}
 use Rattle.scalar_domain.specs.declared.scalar.Scalar.{Scalar}
-use Rattle.typed_runs.specs.Kinds.{Kind, Num, AbsState as Known}
-use Rattle.typed_runs.specs.Effects.{with_kind}
-use Rattle.typed_runs.specs.Planned.{AreAlike}
-use Rattle.typed_runs.specs.Verified.{Transfers}
+use Rattle.plan_laws.specs.Kinds.{Kind, Num, AbsState as Known}
+use Rattle.plan_laws.specs.Effects.{with_kind}
+use Rattle.plan_laws.specs.Planned.{AreAlike}
+use Rattle.plan_laws.specs.Verified.{Transfers}
 use Rattle.register_kinds.specs.declared.state.AbsState.{AbsState}
 use Rattle.register_kinds.specs.States.{kind_at, state_of}
 use Rattle.register_kinds.specs.declared.fault.InsnFault.{InsnFault}

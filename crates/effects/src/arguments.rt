@@ -1,7 +1,7 @@
 //! The arguments of a helper, from r1 on.
 ghost use Rattle.std.specs.Prelude.{◌≡◌, ℕ, ◌+◌, ◌≤◌, OnOk, IfOk, IsOk, Some, slice_get, pos};
 ghost use Rattle.bpf_model.specs.declared.limits.TheConstants.{FRAME_BYTES};
-ghost use Rattle.typed_runs.specs.Effects.{HasBytes, HasMap};
+ghost use Rattle.plan_laws.specs.Effects.{HasBytes, HasMap};
 ghost use Rattle.bpf_model.specs.declared.limits.MapShape.{MapShape};
 ghost use Rattle.register_kinds.specs.States.{kind_in, state_of};
 

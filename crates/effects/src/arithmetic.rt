@@ -1,11 +1,11 @@
 //! Instructions that compute, and those that load a number or a map from the program.
 ghost use Rattle.std.specs.Prelude.{◌≡◌, ℕ, ◌<◌, ◌≤◌, OnOk, OnErr, IfOk, Ok, ℤ, pos, ◌+ℤ◌, List, length};
 ghost use Rattle.bpf_model.specs.declared.limits.TheConstants.{FRAME_BYTES};
-ghost use Rattle.typed_runs.specs.Kinds as model;
+ghost use Rattle.plan_laws.specs.Kinds as model;
 ghost use Rattle.bpf_model.specs.declared.limits.MapShape.{MapShape};
 ghost use Rattle.bpf_model.specs.Operand.{unary_source};
 ghost use Rattle.effects.specs.Performs.{IsNumbers, SetsNumber, Performs, PerformsAnywhere, KeepsOthers};
-ghost use Rattle.typed_runs.specs.Effects.{IsNumberOperand, IsWritten, HasNumber};
+ghost use Rattle.plan_laws.specs.Effects.{IsNumberOperand, IsWritten, HasNumber};
 ghost use Rattle.register_kinds.specs.States.{kind_at, kind_in, kind_of, state_of};
 ghost use Rattle.register_kinds.specs.Pairs.{IsBelow, AreBelow};
 ghost use Rattle.effects.specs.Computes.{Computes, ReadsNumber, GivesNumber, SetsKind};

@@ -6,8 +6,8 @@ ghost use Rattle.bpf_model.specs.declared.limits.MapShape.{MapShape};
 ghost use Rattle.scalar_domain.specs.declared.scalar.Scalar.{Scalar};
 ghost use Rattle.register_kinds.specs.States.{kind_at, kind_in, state_of};
 ghost use Rattle.register_kinds.specs.Pairs.{AreBelow, TakesFew};
-ghost use Rattle.typed_runs.specs.Effects.{HasBytes, after_lock, after_unlock};
-ghost use Rattle.typed_runs.specs.Planned.{AreAlike};
+ghost use Rattle.plan_laws.specs.Effects.{HasBytes, after_lock, after_unlock};
+ghost use Rattle.plan_laws.specs.Planned.{AreAlike};
 ghost use Rattle.bpf_model.specs.declared.call.Helper.{Helper as HelperId};
 ghost use Rattle.effects.specs.Calls.{PerformsCall, FindsIn, GoesBySignature, MayLookUp, is_array_of, helper_fault, kernel_fault, section_fault, outcome_of, Called, KeepsOwnNumbers};
 

@@ -2,9 +2,9 @@
 ghost use Rattle.std.specs.Prelude.{◌≡◌, ℕ, ℤ, List, None, OnOk, IsOk};
 ghost use Rattle.bpf_model.specs.declared.limits.MapShape.{MapShape};
 ghost use Rattle.effects.specs.Performs.{PerformsAnywhere};
-ghost use Rattle.typed_runs.specs.Kinds as model;
-ghost use Rattle.typed_runs.specs.Effects.{HasNumber};
-ghost use Rattle.typed_runs.specs.Verified.{Transfers};
+ghost use Rattle.plan_laws.specs.Kinds as model;
+ghost use Rattle.plan_laws.specs.Effects.{HasNumber};
+ghost use Rattle.plan_laws.specs.Verified.{Transfers};
 ghost use Rattle.register_kinds.specs.States.{state_of};
 
 use bpf_model::{Insn, Reg};

@@ -1,8 +1,8 @@
 //! Conditional jumps.
 ghost use Rattle.std.specs.Prelude.{◌≡◌, ℕ, ◌<◌, IfOk, IsOk, OnOk, OnErr, Bool, true, false};
 ghost use Rattle.std.specs.Prelude.{IsOkUnless};
-ghost use Rattle.typed_runs.specs.Kinds as model;
-ghost use Rattle.typed_runs.specs.Effects.{IsNumberOperand, HasNumber};
+ghost use Rattle.plan_laws.specs.Kinds as model;
+ghost use Rattle.plan_laws.specs.Effects.{IsNumberOperand, HasNumber};
 ghost use Rattle.register_kinds.specs.States.{kind_in, state_of};
 ghost use Rattle.register_kinds.specs.Pairs.{AreBelow};
 ghost use Rattle.effects.specs.Computes.{HasValue};

@@ -3,8 +3,8 @@ ghost use Rattle.std.specs.Prelude.{◌≡◌, ℕ, ◌+◌, ◌≤◌, ◌^◌,
 ghost use Rattle.bpf_model.specs.declared.limits.TheConstants.{FRAME_BYTES};
 ghost use Rattle.bpf_model.specs.Arithmetic.{immediate};
 ghost use Rattle.scalar_domain.specs.Scalar.{IsConstant};
-ghost use Rattle.typed_runs.specs.Kinds as model;
-ghost use Rattle.typed_runs.specs.Effects.{IsWritten, IsNumberOperand};
+ghost use Rattle.plan_laws.specs.Kinds as model;
+ghost use Rattle.plan_laws.specs.Effects.{IsWritten, IsNumberOperand};
 ghost use Rattle.register_kinds.specs.States.{kind_of, state_of};
 ghost use Rattle.register_kinds.specs.Pairs.{IsBelow, AreBelow};
 ghost use Rattle.effects.specs.Computes.{Combines, HasValue, IsMove, IsNearStep, shifted_word, GivesNumber, HasOperand};

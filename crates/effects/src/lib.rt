@@ -7,7 +7,7 @@
 //! - Jumps, with a condition or without, and the exit.
 //!
 //! Each function of this crate that does not refuse leads from each described run to a described
-//! one, in the words of `typed_runs` (`Transfers`), whatever other runs do.
+//! one, in the words of `plan_laws` (`Transfers`), whatever other runs do.
 #![tactic(auto)]
 
 mod arguments;

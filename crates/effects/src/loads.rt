@@ -2,7 +2,7 @@
 ghost use Rattle.std.specs.Prelude.{◌≡◌, ℕ, OnOk, OnErr, IfOk};
 ghost use Rattle.register_kinds.specs.States.{kind_at, state_of};
 ghost use Rattle.bpf_model.specs.Access.{byte_count, unsigned_width};
-ghost use Rattle.typed_runs.specs.Effects.{HasNumber};
+ghost use Rattle.plan_laws.specs.Effects.{HasNumber};
 ghost use Rattle.effects.specs.Performs.{Performs, SetsNumber, KeepsOthers};
 ghost use Rattle.register_kinds.specs.Pairs.{AreBelow};
 ghost use Rattle.effects.specs.Accesses.{IsBase, ReadsBytes, ReadsValue, LoadsKnown};

@@ -2,7 +2,7 @@
 ghost use Rattle.std.specs.Prelude.{◌≡◌, ℕ, ◌+◌, ◌<◌, ◌≤◌, ◌^◌, ℤ, pos, ◌+ℤ◌, IfOk, OnOk, IsOk, Ok};
 ghost use Rattle.model_laws.specs.Near.{IsNearOffset};
 ghost use Rattle.scalar_domain.specs.Scalar.{Holds, IsConstant};
-ghost use Rattle.typed_runs.specs.Describes.{HasOffset};
+ghost use Rattle.plan_laws.specs.Describes.{HasOffset};
 ghost use Rattle.effects.specs.Computes.{MovesOffsets, IsNearStep, signed_move, shifted_word};
 
 use bpf_model::{AluOp, NEAR_LIMIT, Size};

@@ -2,7 +2,7 @@
 ghost use Rattle.std.specs.Prelude.{◌≡◌, ℕ, ◌+◌, ◌%◌, ◌^◌, ◌<◌, ◌≤◌, IfOk, OnOk, IsOk, IfSome, MatchOption, Some, Ok, ◌+ℤ◌, pos, ◌<ℤ◌};
 ghost use Rattle.bpf_model.specs.Access.{byte_count, region_offset};
 ghost use Rattle.scalar_domain.specs.Scalar.{Holds};
-ghost use Rattle.typed_runs.specs.Effects.{IsAlwaysInside};
+ghost use Rattle.plan_laws.specs.Effects.{IsAlwaysInside};
 ghost use Rattle.effects.specs.Accesses.{IsStart};
 
 use bpf_model::{NEAR_LIMIT, Width};

@@ -1,7 +1,7 @@
 //! Where a load reads: in the context, in the value of an element, or in the frame.
 ghost use Rattle.std.specs.Prelude.{◌≡◌, ℕ, IfOk, IsOk, Ok, List, Some, slice_get};
 ghost use Rattle.bpf_model.specs.Access.{byte_count, region_offset};
-ghost use Rattle.typed_runs.specs.Effects.{IsAlwaysInside};
+ghost use Rattle.plan_laws.specs.Effects.{IsAlwaysInside};
 ghost use Rattle.register_kinds.specs.States.{kind_in, kind_of, state_of};
 ghost use Rattle.register_kinds.specs.Pairs.{IsBelow, AreBelow};
 ghost use Rattle.effects.specs.Accesses.{IsReadByLoad, IsBase, IsStart, ReadsBytes, ReadsValue, read_kind};
@@ -108,7 +108,7 @@ pub(crate) fn read(
 
 impl Reads {
     ghost use Rattle.bpf_model.specs.declared.limits.MapShape.{MapShape};
-    ghost use Rattle.typed_runs.specs.Kinds.{AbsState as Known};
+    ghost use Rattle.plan_laws.specs.Kinds.{AbsState as Known};
     ghost use Rattle.effects.specs.declared.region.Address.{Address};
 
     /// The region that what is read lies in.

@@ -2,7 +2,7 @@
 ghost use Rattle.std.specs.Prelude.{◌≡◌, ℕ, OnOk, OnErr, IfOk, Ok};
 ghost use Rattle.bpf_model.specs.Access.{byte_count};
 ghost use Rattle.effects.specs.Performs.{Performs, PerformsAnywhere, KeepsRegisters};
-ghost use Rattle.typed_runs.specs.Effects.{IsNumberOperand, IsWritten};
+ghost use Rattle.plan_laws.specs.Effects.{IsNumberOperand, IsWritten};
 ghost use Rattle.register_kinds.specs.States.{kind_in, kind_at, kind_of, state_of};
 ghost use Rattle.register_kinds.specs.Pairs.{AreBelow};
 ghost use Rattle.effects.specs.Accesses.{IsBase, ReachesFrame, StoresBytes};

@@ -11,7 +11,7 @@ use Rattle.insn_codec.specs.Faults.{IsDecodeFault}
 use Rattle.program_graph.specs.GraphFlaws.{HasGoodGraph}
 use Rattle.program_files.specs.declared.loader.fault.LoadFault.{LoadFault}
 use Rattle.program_files.specs.ProgramFile.{FileContent, FileSays, IsLoadFault}
-use Rattle.typed_runs.specs.Verified.{IsVerified}
+use Rattle.plan_laws.specs.Verified.{IsVerified}
 use Rattle.verifier.specs.declared.refusal.ProgramRefusal.{ProgramRefusal}
 use Rattle.verifier.specs.Verdict.{IsToldOf}
 use Rattle.program_files.specs.declared.verdict.Verdict.{Verdict}

@@ -39,8 +39,8 @@ use Rattle.bpf_model.specs.Word.{WordIs, frame_base, slot_base}
 use Rattle.bpf_model.proofs.Lists.{get-below}
 use Rattle.model_laws.proofs.Computations.{first-step}
 use Rattle.model_laws.proofs.Requests.{LoadAsked, StoreAsked}
-use Rattle.typed_runs.specs.Describes.{scene_of, IsGuarded, IsHeld}
-use Rattle.typed_runs.proofs.Elements.{offset_some}
+use Rattle.plan_laws.specs.Describes.{scene_of, IsGuarded, IsHeld}
+use Rattle.plan_laws.proofs.Elements.{offset_some}
 use Rattle.world_laws.specs.Calling.{bytes_in, found_word}
 use Rattle.world_laws.specs.Local.{local_of}
 use Rattle.world_laws.specs.Moving.{operand_word, word_in}

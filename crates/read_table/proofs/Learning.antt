@@ -32,12 +32,12 @@ use Rattle.bpf_model.proofs.Bytes.{length-with_bytes}
 use Rattle.bpf_model.proofs.Lists.{get-below, get-map, get-set_cases}
 use Rattle.std.proofs.lemmas.List.{length-map, length-replicate}
 use Rattle.model_laws.proofs.Computations.{first-step}
-use Rattle.typed_runs.specs.Describes.{scene_of, IsArrayMap, IsGuarded}
-use Rattle.typed_runs.specs.Verified.{Plan, IsClosed, IsPlanned, IsPlannedAfter, StaysKept}
-use Rattle.typed_runs.specs.Effects.{is_array_in}
-use Rattle.typed_runs.proofs.Arrays.{array-there, kind-there}
-use Rattle.typed_runs.proofs.Elements.{offset_some, with-bytes}
-use Rattle.typed_runs.proofs.Kept.{Keeps, describes-kept}
+use Rattle.plan_laws.specs.Describes.{scene_of, IsArrayMap, IsGuarded}
+use Rattle.plan_laws.specs.Verified.{Plan, IsClosed, IsPlanned, IsPlannedAfter, StaysKept}
+use Rattle.plan_laws.specs.Effects.{is_array_in}
+use Rattle.plan_laws.proofs.Arrays.{array-there, kind-there}
+use Rattle.plan_laws.proofs.Elements.{offset_some, with-bytes}
+use Rattle.plan_laws.proofs.Kept.{Keeps, describes-kept}
 use Rattle.world_laws.specs.Around.{map_of, region_of, regions, element_in_region, key_length, value_length, elements_by, births, store_of}
 use Rattle.world_laws.specs.Described.{IsDescribed}
 use Rattle.world_laws.proofs.StandingBytes.{number-back}

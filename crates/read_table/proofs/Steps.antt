@@ -20,7 +20,7 @@ use Rattle.bpf_model.specs.Step.{Exits, Moves, Outcome, after as after_insn, ins
 use Rattle.bpf_model.specs.Value.{◌>>=◌}
 use Rattle.bpf_model.specs.View.{RunView}
 use Rattle.bpf_model.proofs.Lists.{get-below, get-map}
-use Rattle.typed_runs.specs.Verified.{IsClosed, IsVerified, Plan}
+use Rattle.plan_laws.specs.Verified.{IsClosed, IsVerified, Plan}
 use Rattle.world_laws.specs.Local as laws
 use Rattle.world_laws.specs.Moving.{ended_view}
 use Rattle.world_laws.proofs.Codes.{all-get}

@@ -5,8 +5,8 @@ use Rattle.bpf_model.specs.Machine.{Run, fresh_run, section_of}
 use Rattle.bpf_model.specs.Step.{insn_at}
 use Rattle.bpf_model.specs.View.{RunView}
 use Rattle.bpf_model.specs.Word.{most_map_slots}
-use Rattle.typed_runs.specs.Describes.{scene_of}
-use Rattle.typed_runs.specs.Verified.{IsClosed, IsPlanned, Plan}
+use Rattle.plan_laws.specs.Describes.{scene_of}
+use Rattle.plan_laws.specs.Verified.{IsClosed, IsPlanned, Plan}
 use Rattle.world_laws.specs.Around.{store_of}
 use Rattle.world_laws.specs.Described.{IsShownBy}
 use Rattle.verifier.specs.Checked.{Checked}

@@ -3,7 +3,7 @@ use Rattle.std.proofs.Common.{◌≡◌, ◌≢◌, ℕ, ◌+◌, ◌<◌, ◌�
 use Rattle.std.specs.Prelude.{slice_set, slice_index_or}
 use Rattle.std.proofs.lemmas.Bool.{cases_lt}
 use Rattle.std.proofs.lemmas.List.{get_or-set_same, get_or-set_other, get_or_past}
-use Rattle.typed_runs.specs.Kinds.{Blank}
+use Rattle.plan_laws.specs.Kinds.{Blank}
 use Rattle.register_kinds.specs.declared.learn.Lesson.{Lesson}
 use Rattle.register_kinds.specs.declared.learn.Lesson.TheVariants.{SectionEnds, IsNull, IsThere}
 use Rattle.register_kinds.specs.Changes.{learnt_kind}

@@ -1,6 +1,6 @@
 -- The kind in code of a kind of the laws.
 use Rattle.std.proofs.Common.{◌≡◌, refl, sym, ap, ◌∙◌}
-use Rattle.typed_runs.specs.Kinds.{Kind, Blank, Ended, Mixed, Num, CtxAt, FrameAt, MapAt, ValueAt, MaybeNull}
+use Rattle.plan_laws.specs.Kinds.{Kind, Blank, Ended, Mixed, Num, CtxAt, FrameAt, MapAt, ValueAt, MaybeNull}
 use Rattle.register_kinds.specs.declared.kind.RegKind.{RegKind}
 use Rattle.register_kinds.specs.declared.kind.RegKind.TheVariants as kinds
 use Rattle.register_kinds.specs.States.{kind_of}

@@ -8,9 +8,9 @@ use Rattle.std.specs.Prelude.{ℤ}
 use Rattle.std.proofs.Math.ListN.{replicate}
 use Rattle.scalar_domain.specs.Scalar.{Holds}
 use Rattle.scalar_domain.specs.declared.scalar.Scalar.{Scalar}
-use Rattle.typed_runs.specs.Describes.{HasOffset}
-use Rattle.typed_runs.specs.Kinds.{Kind, Blank, Mixed, Ended, Num, CtxAt, FrameAt, MapAt, ValueAt, MaybeNull}
-use Rattle.typed_runs.specs.Effects.{IsWiderKind}
+use Rattle.plan_laws.specs.Describes.{HasOffset}
+use Rattle.plan_laws.specs.Kinds.{Kind, Blank, Mixed, Ended, Num, CtxAt, FrameAt, MapAt, ValueAt, MaybeNull}
+use Rattle.plan_laws.specs.Effects.{IsWiderKind}
 use Rattle.register_kinds.specs.declared.kind.RegKind.{RegKind}
 use Rattle.register_kinds.specs.declared.kind.RegKind.TheVariants as kinds
 use Rattle.register_kinds.specs.declared.kind.CellKind.TheVariants as cells

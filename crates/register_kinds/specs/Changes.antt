@@ -1,9 +1,9 @@
 -- What changes in a state, register by register and byte by byte.
 use Rattle.std.specs.Prelude.{◌==◌, if◌then◌else◌}
-use Rattle.typed_runs.specs.Kinds.{Kind, CellKind, AbsState as Known}
-use Rattle.typed_runs.specs.Effects.{ended_kind, ended_cell, null_kind, null_cell, there_kind}
-use Rattle.typed_runs.specs.Effects.{there_cell, is_array_in}
-use Rattle.typed_runs.specs.Planned.{number_zero, origin}
+use Rattle.plan_laws.specs.Kinds.{Kind, CellKind, AbsState as Known}
+use Rattle.plan_laws.specs.Effects.{ended_kind, ended_cell, null_kind, null_cell, there_kind}
+use Rattle.plan_laws.specs.Effects.{there_cell, is_array_in}
+use Rattle.plan_laws.specs.Planned.{number_zero, origin}
 use Rattle.register_kinds.specs.declared.kind.RegKind.{RegKind}
 use Rattle.register_kinds.specs.declared.kind.RegKind.TheVariants as kinds
 use Rattle.register_kinds.specs.declared.kind.CellKind as classes

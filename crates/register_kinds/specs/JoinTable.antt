@@ -1,8 +1,8 @@
 -- The table of pairs while two states are joined, and what a joined kind or cell is by it.
 use Rattle.std.specs.Prelude.{◌≡◌, ℕ, ◌+◌, ◌-◌, nat_lt, List, length, slice_get, Some}
 use Rattle.std.specs.Prelude.{unwrap_or, if◌then◌else◌}
-use Rattle.typed_runs.specs.Kinds.{Kind, CellKind}
-use Rattle.typed_runs.specs.Effects.{IsWiderKind, IsWiderCell}
+use Rattle.plan_laws.specs.Kinds.{Kind, CellKind}
+use Rattle.plan_laws.specs.Effects.{IsWiderKind, IsWiderCell}
 use Rattle.register_kinds.specs.Joined.{IsJoinedKind, IsJoinedCell}
 use Rattle.register_kinds.specs.Pairs.{IsBelow}
 

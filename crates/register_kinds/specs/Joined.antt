@@ -1,9 +1,9 @@
 -- What the kind of a joined register or byte is.
 use Rattle.std.specs.Prelude.{◌≡◌, ℕ, Bool, if◌then◌else◌, min, max, bit_and, bit_or}
 use Rattle.scalar_domain.specs.declared.scalar.Scalar.{Scalar}
-use Rattle.typed_runs.specs.Kinds.{Kind, Blank, Mixed, Ended, Num, CtxAt, FrameAt, MapAt, ValueAt}
-use Rattle.typed_runs.specs.Kinds.{MaybeNull, CellKind, BlankCell, MixedCell, EndedCell, ByteCell}
-use Rattle.typed_runs.specs.Kinds.{PartCell, AbsState as Known}
+use Rattle.plan_laws.specs.Kinds.{Kind, Blank, Mixed, Ended, Num, CtxAt, FrameAt, MapAt, ValueAt}
+use Rattle.plan_laws.specs.Kinds.{MaybeNull, CellKind, BlankCell, MixedCell, EndedCell, ByteCell}
+use Rattle.plan_laws.specs.Kinds.{PartCell, AbsState as Known}
 use Rattle.register_kinds.specs.declared.kind.CellKind as classes
 use Rattle.register_kinds.specs.declared.kind.CellKind.TheVariants.{Unwritten, Byte, Part}
 use Rattle.register_kinds.specs.declared.kind.CellKind.TheVariants as class

@@ -1,6 +1,6 @@
 -- Identities in a join: each new one stands for a pair.
 use Rattle.std.specs.Prelude.{◌≡◌, ℕ, ◌+◌, ◌<◌, ◌≤◌}
-use Rattle.typed_runs.specs.Kinds.{Kind, MaybeNull}
+use Rattle.plan_laws.specs.Kinds.{Kind, MaybeNull}
 use Rattle.register_kinds.specs.declared.state.AbsState.{AbsState}
 use Rattle.register_kinds.specs.States.{kind_at}
 

@@ -1,6 +1,6 @@
 -- Which abstract state of the laws a state in code is.
 use Rattle.std.specs.Prelude.{ℕ, ◌/◌, List, slice_index_or, Bool, true, false}
-use Rattle.typed_runs.specs.Kinds as model
+use Rattle.plan_laws.specs.Kinds as model
 use Rattle.register_kinds.specs.declared.kind.RegKind.{RegKind}
 use Rattle.register_kinds.specs.declared.kind.RegKind.TheVariants.{Unwritten, Ended, Mixed, Num}
 use Rattle.register_kinds.specs.declared.kind.RegKind.TheVariants.{Ctx, Frame, Map, Value}

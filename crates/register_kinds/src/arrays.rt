@@ -1,6 +1,6 @@
 //! Which maps of a program's list are arrays.
 ghost use Rattle.std.specs.Prelude.{◌≡◌};
-ghost use Rattle.typed_runs.specs.Effects.{is_array_in};
+ghost use Rattle.plan_laws.specs.Effects.{is_array_in};
 
 use bpf_model::{MapKind, MapShape};
 

@@ -1,9 +1,9 @@
 //! Registers and bytes that an instruction sets.
 ghost use Rattle.std.specs.Prelude.{◌≡◌, ℕ, ◌+◌, ◌%◌, ◌<◌, ◌≤◌};
 ghost use Rattle.bpf_model.specs.declared.limits.TheConstants.{FRAME_BYTES, MAX_DEPTH};
-ghost use Rattle.typed_runs.specs.Kinds as model;
-ghost use Rattle.typed_runs.specs.Effects.{with_kind, with_cells, after_call, after_lock, after_unlock, returned_kind};
-ghost use Rattle.typed_runs.specs.Planned.{AreAlike};
+ghost use Rattle.plan_laws.specs.Kinds as model;
+ghost use Rattle.plan_laws.specs.Effects.{with_kind, with_cells, after_call, after_lock, after_unlock, returned_kind};
+ghost use Rattle.plan_laws.specs.Planned.{AreAlike};
 ghost use Rattle.register_kinds.specs.States.{kind_of, kind_at, kind_in, state_of};
 ghost use Rattle.register_kinds.specs.Pairs.{IsBelow, AreBelow};
 

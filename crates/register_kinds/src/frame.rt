@@ -2,7 +2,7 @@
 ghost use Rattle.std.specs.Prelude.{◌≡◌, ℕ, ◌+◌, ◌%◌, ◌^◌, ◌<◌, ◌≤◌, length, slice_get, if◌then◌else◌};
 ghost use Rattle.bpf_model.specs.declared.limits.TheConstants.{FRAME_BYTES};
 ghost use Rattle.bpf_model.specs.Frame.{is_within};
-ghost use Rattle.typed_runs.specs.Kinds as model;
+ghost use Rattle.plan_laws.specs.Kinds as model;
 ghost use Rattle.register_kinds.specs.declared.identities.TheConstants.{MAX_PAIRS};
 ghost use Rattle.register_kinds.specs.States.{kind_of, kind_in, class_in, kind_at, cell_at};
 ghost use Rattle.register_kinds.specs.Pairs.{IsBelow};

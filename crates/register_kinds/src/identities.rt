@@ -1,6 +1,6 @@
 //! Identities of what may be null.
 ghost use Rattle.std.specs.Prelude.{◌≡◌, ◌≢◌, ℕ, ◌+◌, ◌^◌, ◌<◌, ◌≤◌, length, slice_get, Some};
-ghost use Rattle.typed_runs.specs.Kinds as model;
+ghost use Rattle.plan_laws.specs.Kinds as model;
 ghost use Rattle.register_kinds.specs.JoinTable.{PairsGrow, IsTable, JoinsKind};
 
 use crate::frame::GROUPS;

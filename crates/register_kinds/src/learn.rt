@@ -1,6 +1,6 @@
 //! What is learnt at once of all that may be an element, in registers and in the frame.
 ghost use Rattle.std.specs.Prelude.{◌≡◌, ℕ, ◌*◌, ◌/◌, ◌<◌, ◌≤◌, length};
-ghost use Rattle.typed_runs.specs.Planned.{AreAlike};
+ghost use Rattle.plan_laws.specs.Planned.{AreAlike};
 ghost use Rattle.register_kinds.specs.States.{kind_of, kind_at, kind_in, class_in, state_of};
 ghost use Rattle.register_kinds.specs.Pairs.{IsBelow, AreBelow};
 ghost use Rattle.register_kinds.specs.Changes.{learnt_kind, learnt_part, learnt_class, learnt};

@@ -3,7 +3,7 @@
 //! such states. And the tests of an instruction: what of registers and of the frame may be read, and
 //! why it may not.
 //!
-//! `specs/States` says which abstract state of `typed_runs` a value of this crate is;
+//! `specs/States` says which abstract state of `plan_laws` a value of this crate is;
 //! `specs/Joined` what the kind of a joined register or byte is.
 #![tactic(auto)]
 

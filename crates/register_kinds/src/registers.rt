@@ -2,7 +2,7 @@
 ghost use Rattle.std.specs.Prelude.{◌≡◌, ℕ, OnOk, IfOk, IsOk, slice_get, Some};
 ghost use Rattle.bpf_model.specs.declared.limits.MapShape.{MapShape};
 ghost use Rattle.scalar_domain.specs.declared.scalar.Scalar.{Scalar};
-ghost use Rattle.typed_runs.specs.Effects.{IsWritten};
+ghost use Rattle.plan_laws.specs.Effects.{IsWritten};
 ghost use Rattle.register_kinds.specs.States.{kind_in, kind_of};
 ghost use Rattle.register_kinds.specs.Tests.{held_kind, frame_of, numbers_of};
 

@@ -1,6 +1,6 @@
 //! Abstract states: at the entry, copied and joined.
 ghost use Rattle.std.specs.Prelude.{◌≡◌, ℕ, ◌+◌, ◌^◌, ◌<◌, IfOk};
-ghost use Rattle.typed_runs.specs.Planned.{AreAlike, Joins, Wider, entry_kind, entry_state};
+ghost use Rattle.plan_laws.specs.Planned.{AreAlike, Joins, Wider, entry_kind, entry_state};
 ghost use Rattle.register_kinds.specs.declared.identities.TheConstants.{MAX_PAIRS};
 ghost use Rattle.register_kinds.specs.States.{kind_at, state_of};
 ghost use Rattle.register_kinds.specs.Joined.{AreJoined};

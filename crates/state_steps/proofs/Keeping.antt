@@ -19,9 +19,9 @@ use Rattle.bpf_model.specs.declared.opcode.SignedWidth.{SignedWidth}
 use Rattle.bpf_model.specs.declared.limits.TheConstants.{FRAME_BYTES}
 use Rattle.effects.specs.Accesses.{ReachesFrame, ReadsBytes}
 use Rattle.scalar_domain.specs.declared.scalar.Scalar.{Scalar}
-use Rattle.typed_runs.specs.Kinds.{Kind, CellKind, Num, FrameAt, ByteCell, AbsState}
-use Rattle.typed_runs.specs.Effects.{with_kind, with_cells, IsNumberOperand, HasNumber}
-use Rattle.typed_runs.specs.Planned.{AreAlike}
+use Rattle.plan_laws.specs.Kinds.{Kind, CellKind, Num, FrameAt, ByteCell, AbsState}
+use Rattle.plan_laws.specs.Effects.{with_kind, with_cells, IsNumberOperand, HasNumber}
+use Rattle.plan_laws.specs.Planned.{AreAlike}
 use Rattle.effects.specs.Computes.{ReadsNumber}
 use Rattle.effects.specs.Narrowing.{AreNarrowed}
 use Rattle.state_steps.specs.Facts.{Register as RegisterFact, FrameByte, FramePointer, Section, KeepsFacts, ReadsNumbers, IsReadyInsn}

@@ -3,7 +3,7 @@ use Rattle.std.proofs.Common.{◌≡◌, ℕ, ◌+◌, ◌-◌, ◌<◌, ◌≤�
 use Rattle.std.proofs.Common.{inl, inr, arith, ℤ, pos, Bool, true, false}
 use Rattle.std.specs.Prelude.{◌⊎◌, if◌then◌else◌, ◌+ℤ◌, slice_get, Result, IsOk}
 use Rattle.std.proofs.lemmas.Bool.{cases_eq, eq-eqb, false≢true}
-use Rattle.typed_runs.specs.Verified.{is_call}
+use Rattle.plan_laws.specs.Verified.{is_call}
 use Rattle.register_kinds.proofs.KindLaws.{kind_is}
 use Rattle.bpf_model.specs.declared.limits.TheConstants.{FRAME_BYTES}
 use Rattle.bpf_model.specs.declared.limits.MapShape.{MapShape}
@@ -37,9 +37,9 @@ use Rattle.bpf_model.specs.declared.opcode.Size.TheVariants.{Word64}
 use Rattle.bpf_model.specs.PlainMaps.{IsValueLoad, GuardedLookup, LookupPart, FrameCopy, KeyAddress, MapLoad}
 use Rattle.bpf_model.specs.PlainMaps.{LookupCall, NullTest, ValueLoad, part_insn, IsFitting}
 use Rattle.scalar_domain.specs.declared.scalar.Scalar.{Scalar}
-use Rattle.typed_runs.specs.Kinds.{Kind, Blank, Num, FrameAt, MapAt, ValueAt, MaybeNull, ByteCell, AbsState}
-use Rattle.typed_runs.specs.Effects.{with_kind, after_call, after_lock, after_unlock, left_kind, left_cell, IsWritten, HasBytes}
-use Rattle.typed_runs.specs.Planned.{AreAlike, origin}
+use Rattle.plan_laws.specs.Kinds.{Kind, Blank, Num, FrameAt, MapAt, ValueAt, MaybeNull, ByteCell, AbsState}
+use Rattle.plan_laws.specs.Effects.{with_kind, after_call, after_lock, after_unlock, left_kind, left_cell, IsWritten, HasBytes}
+use Rattle.plan_laws.specs.Planned.{AreAlike, origin}
 use Rattle.register_kinds.specs.declared.kind.RegKind.TheVariants as kinds
 use Rattle.register_kinds.specs.declared.state.AbsState.{AbsState as StateHere}
 use Rattle.register_kinds.specs.States.{kind_of, kind_in, state_of}

@@ -23,10 +23,10 @@ use Rattle.bpf_model.specs.Operand.{operand_value}
 use Rattle.bpf_model.specs.Plain.{Names}
 use Rattle.bpf_model.specs.Step.{State}
 use Rattle.scalar_domain.specs.declared.scalar.Scalar.{Scalar}
-use Rattle.typed_runs.specs.Kinds.{Kind, Num, AbsState as Known}
-use Rattle.typed_runs.specs.Describes.{Scene, Naming, IsOf}
-use Rattle.typed_runs.specs.Verified.{Transfers}
-use Rattle.typed_runs.specs.Planned.{AreAlike}
+use Rattle.plan_laws.specs.Kinds.{Kind, Num, AbsState as Known}
+use Rattle.plan_laws.specs.Describes.{Scene, Naming, IsOf}
+use Rattle.plan_laws.specs.Verified.{Transfers}
+use Rattle.plan_laws.specs.Planned.{AreAlike}
 use Rattle.register_kinds.specs.declared.learn.Lesson.{Lesson}
 use Rattle.register_kinds.specs.declared.learn.Lesson.TheVariants.{SectionEnds, IsNull, IsThere}
 use Rattle.register_kinds.specs.Changes.{learnt, learnt_kind}

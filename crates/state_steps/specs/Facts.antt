@@ -6,8 +6,8 @@ use Rattle.bpf_model.specs.declared.insn.Insn.{Insn}
 use Rattle.bpf_model.specs.declared.insn.Insn.TheVariants.{Exit}
 use Rattle.bpf_model.specs.declared.limits.TheConstants.{FRAME_BYTES}
 use Rattle.bpf_model.specs.Plain.{ReadsRegister, WritesRegister, ReadsByte, WritesByte, IsSimple}
-use Rattle.typed_runs.specs.Kinds.{FrameAt, ByteCell, AbsState as Known}
-use Rattle.typed_runs.specs.Effects.{HasNumber}
+use Rattle.plan_laws.specs.Kinds.{FrameAt, ByteCell, AbsState as Known}
+use Rattle.plan_laws.specs.Effects.{HasNumber}
 
 -- a register is a number, a byte of the frame is written, r10 is the frame's end, or a section is
 -- open or is not

@@ -9,8 +9,8 @@ use Rattle.bpf_model.specs.declared.insn.Insn.TheVariants.{LoadSigned, LoadMap, 
 use Rattle.scalar_domain.specs.declared.scalar.Scalar.{Scalar}
 use Rattle.scalar_domain.specs.Scalar.{IsConstant}
 use Rattle.scalar_domain.specs.Floor.{KeepsUnaryFloor}
-use Rattle.typed_runs.specs.Kinds.{Num, AbsState as Known}
-use Rattle.typed_runs.specs.Effects.{HasNumber}
+use Rattle.plan_laws.specs.Kinds.{Num, AbsState as Known}
+use Rattle.plan_laws.specs.Effects.{HasNumber}
 use Rattle.effects.specs.Accesses.{LoadsKnown}
 use Rattle.effects.specs.Performs.{IsNumbers}
 use Rattle.effects.specs.Floor.{operand_kind, LeavesKnown}

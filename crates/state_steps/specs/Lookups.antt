@@ -9,7 +9,7 @@ use Rattle.bpf_model.specs.PlainMaps.{lock_call, unlock_call, GuardedLookup, Loo
 use Rattle.bpf_model.specs.PlainMaps.{KeyAddress, MapLoad, LookupCall, NullTest, ValueLoad}
 use Rattle.bpf_model.specs.PlainMaps.{part_insn, IsFitting}
 use Rattle.scalar_domain.specs.declared.scalar.Scalar.{Scalar}
-use Rattle.typed_runs.specs.Kinds.{FrameAt, MapAt, ValueAt, MaybeNull, AbsState as Known}
+use Rattle.plan_laws.specs.Kinds.{FrameAt, MapAt, ValueAt, MaybeNull, AbsState as Known}
 use Rattle.effects.specs.Accesses.{IsStart}
 use Rattle.state_steps.specs.Facts.{Fact, Register, FrameByte, FramePointer, Section, FactHolds}
 use Rattle.state_steps.specs.Facts.{depth_of}

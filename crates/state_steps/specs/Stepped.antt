@@ -11,9 +11,9 @@ use Rattle.bpf_model.specs.declared.opcode.Condition.TheVariants.{Equal}
 use Rattle.bpf_model.specs.declared.opcode.Size.{Size}
 use Rattle.bpf_model.specs.declared.opcode.Size.TheVariants.{Word64}
 use Rattle.bpf_model.specs.Step.{State}
-use Rattle.typed_runs.specs.Kinds.{AbsState as Known}
-use Rattle.typed_runs.specs.Describes.{Scene, Describes}
-use Rattle.typed_runs.specs.Verified.{Transfers}
+use Rattle.plan_laws.specs.Kinds.{AbsState as Known}
+use Rattle.plan_laws.specs.Describes.{Scene, Describes}
+use Rattle.plan_laws.specs.Verified.{Transfers}
 use Rattle.register_kinds.specs.declared.state.AbsState.{AbsState}
 use Rattle.register_kinds.specs.Pairs.{AreBelow}
 use Rattle.register_kinds.specs.declared.kind.RegKind.TheVariants as kinds

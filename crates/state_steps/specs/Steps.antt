@@ -16,7 +16,7 @@ use Rattle.bpf_model.specs.Call.{helper_of}
 use Rattle.bpf_model.specs.Graph.{falls, distance}
 use Rattle.bpf_model.specs.Plain.{Names}
 use Rattle.bpf_model.specs.Value.{IsNumber}
-use Rattle.typed_runs.specs.Describes.{Scene, IsHeld}
+use Rattle.plan_laws.specs.Describes.{Scene, IsHeld}
 use Rattle.register_kinds.specs.declared.state.AbsState.{AbsState}
 use Rattle.register_kinds.specs.declared.fault.InsnFault.{InsnFault}
 use Rattle.register_kinds.specs.declared.fault.InsnFault.TheVariants.{Memory}

@@ -2,7 +2,7 @@
 ghost use Rattle.std.specs.Prelude.{◌≡◌, ℕ, ℤ, List, Ok, Some, true, false, ◌+◌, ◌^◌, ◌<◌, IfOk, OnOk, OnErr, IfSome, if◌then◌else◌, pos};
 ghost use Rattle.std.specs.Prelude.{IsOkUnless};
 ghost use Rattle.bpf_model.specs.declared.limits.MapShape.{MapShape};
-ghost use Rattle.typed_runs.specs.Effects.{IsNumberOperand, HasNumber};
+ghost use Rattle.plan_laws.specs.Effects.{IsNumberOperand, HasNumber};
 ghost use Rattle.register_kinds.specs.declared.state.AbsState.{AbsState as StateHere};
 ghost use Rattle.register_kinds.specs.Pairs.{AreBelow, TakesFew};
 ghost use Rattle.register_kinds.specs.States.{state_of};

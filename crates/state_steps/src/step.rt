@@ -1,8 +1,8 @@
 //! The step of any instruction.
 ghost use Rattle.std.specs.Prelude.{◌≡◌, ℕ, ◌+◌, ◌^◌, ◌<◌, IfOk, OnOk, OnErr, IfSome, IsSome, Some, option_map};
 ghost use Rattle.bpf_model.specs.Step.{State};
-ghost use Rattle.typed_runs.specs.Describes.{Scene, Describes};
-ghost use Rattle.typed_runs.specs.Verified.{Transfers};
+ghost use Rattle.plan_laws.specs.Describes.{Scene, Describes};
+ghost use Rattle.plan_laws.specs.Verified.{Transfers};
 ghost use Rattle.register_kinds.specs.Pairs.{AreBelow, TakesFew};
 ghost use Rattle.register_kinds.specs.States.{state_of};
 ghost use Rattle.effects.specs.Calls.{MayLookUp};

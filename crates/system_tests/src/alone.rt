@@ -2,7 +2,7 @@
 use crate::standing::SHAPE;
 use asm::assemble;
 use bpf_model::CtxBytes;
-use lone_runs::{has_no_maps, run_to_exit};
+use map_free_runs::{has_no_maps, run_to_exit};
 use std::test::Fail;
 use verifier::verify;
 

@@ -6,7 +6,7 @@ ghost use Rattle.bpf_model.specs.Exit.{HasNoMaps};
 use crate::judged::{bytes_of, context_of};
 use bpf_model::{CTX_BYTES, Cell, CtxBytes, FRAME_BYTES, REGISTERS, Reg, Value};
 use insn_codec::decode;
-use lone_runs::{Step, has_no_maps, start_alone, step_alone};
+use map_free_runs::{Step, has_no_maps, start_alone, step_alone};
 use machine::Run;
 use reference_interpreter::{PlainRun, Progress};
 use std::alloc::Global;

@@ -3,7 +3,7 @@ ghost use Rattle.std.specs.Prelude.{◌≡◌, IfOk};
 
 use bpf_model::CtxBytes;
 use insn_codec::decode;
-use lone_runs::{has_no_maps, run_to_exit};
+use map_free_runs::{has_no_maps, run_to_exit};
 use std::alloc::Global;
 use std::test::Fail;
 use verifier::verify;

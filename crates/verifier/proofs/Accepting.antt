@@ -25,7 +25,7 @@ use Rattle.bpf_model.proofs.Lists.{get-below}
 use Rattle.program_graph.specs.FirstPass.{Follows}
 use Rattle.program_graph.specs.Indexes.{HasTargets, IsTarget}
 use Rattle.program_graph.proofs.Marking.{edge_from, first_start, target_within}
-use Rattle.typed_runs.specs.Kinds as model
+use Rattle.plan_laws.specs.Kinds as model
 use Rattle.register_kinds.specs.declared.state.AbsState.{AbsState}
 use Rattle.register_kinds.specs.States.{state_of}
 use Rattle.register_kinds.specs.Joined.{IsJoinedKind, IsJoinedCell, AreJoined}

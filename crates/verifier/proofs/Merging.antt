@@ -4,7 +4,7 @@ use Rattle.std.specs.Prelude.{◌⊎◌, Option, Some, None, IsSome, IfSome, Box
 use Rattle.std.proofs.lemmas.Bool.{cases_eq}
 use Rattle.std.proofs.lemmas.Option.{same_Some}
 use Rattle.bpf_model.specs.PlainMaps.{GuardedLookup, LookupPart}
-use Rattle.typed_runs.specs.Planned.{Wider}
+use Rattle.plan_laws.specs.Planned.{Wider}
 use Rattle.register_kinds.specs.declared.state.AbsState.{AbsState}
 use Rattle.register_kinds.specs.States.{state_of}
 use Rattle.register_kinds.specs.Pairs.{AreBelow}

@@ -17,12 +17,12 @@ use Rattle.program_graph.specs.GraphFlaws.{HasGoodGraph}
 use Rattle.program_graph.specs.FirstPass.{Follows}
 use Rattle.program_graph.specs.Indexes.{HasTargets, IsTarget}
 use Rattle.program_graph.proofs.Marking.{edge_into, reached_by, target_within}
-use Rattle.typed_runs.specs.Kinds as model
-use Rattle.typed_runs.specs.Describes.{Describes}
-use Rattle.typed_runs.specs.Verified.{Plan}
-use Rattle.typed_runs.specs.Planned as plans
-use Rattle.typed_runs.specs.Planned.{Covers, entry_state}
-use Rattle.typed_runs.proofs.Planning.{alike_wider}
+use Rattle.plan_laws.specs.Kinds as model
+use Rattle.plan_laws.specs.Describes.{Describes}
+use Rattle.plan_laws.specs.Verified.{Plan}
+use Rattle.plan_laws.specs.Planned as plans
+use Rattle.plan_laws.specs.Planned.{Covers, entry_state}
+use Rattle.plan_laws.proofs.Planning.{alike_wider}
 use Rattle.register_kinds.specs.declared.state.AbsState.{AbsState}
 use Rattle.register_kinds.specs.States.{state_of}
 use Rattle.effects.specs.Calls.{MayLookUp}

@@ -11,10 +11,10 @@ use Rattle.bpf_model.specs.Spelling.{IsProgram}
 use Rattle.bpf_model.specs.Step.{State}
 use Rattle.program_graph.specs.GraphFlaws.{HasGraphFlaw, HasGoodGraph}
 use Rattle.program_graph.specs.Indexes.{HasTargets}
-use Rattle.typed_runs.specs.Kinds as model
-use Rattle.typed_runs.specs.Describes.{Scene}
-use Rattle.typed_runs.specs.Effects.{is_array_in}
-use Rattle.typed_runs.specs.Verified.{Plan, IsPlanned, IsClosed, IsVerified}
+use Rattle.plan_laws.specs.Kinds as model
+use Rattle.plan_laws.specs.Describes.{Scene}
+use Rattle.plan_laws.specs.Effects.{is_array_in}
+use Rattle.plan_laws.specs.Verified.{Plan, IsPlanned, IsClosed, IsVerified}
 use Rattle.register_kinds.specs.declared.fault.InsnFault.{InsnFault}
 use Rattle.register_kinds.specs.FaultNumbers.{insn_fault_number}
 use Rattle.effects.specs.declared.region.Region.{Region}

@@ -37,8 +37,8 @@ use Rattle.bpf_model.specs.Word.{most_map_slots}
 use Rattle.bpf_model.proofs.Lists.{get-below, get-set_there}
 use Rattle.model_laws.specs.Locations.{Location, InContext, InFrame, AtMap, InSlot}
 use Rattle.model_laws.proofs.Computations.{first-step}
-use Rattle.typed_runs.proofs.Elements.{number_read, offset_some}
-use Rattle.typed_runs.proofs.Reaching.{keeps_well, well_never_stuck}
+use Rattle.plan_laws.proofs.Elements.{number_read, offset_some}
+use Rattle.plan_laws.proofs.Reaching.{keeps_well, well_never_stuck}
 use Rattle.world_laws.specs.Standing.{IsSlotWord}
 use Rattle.verifier.specs.Checked.{Checked}
 use Rattle.view_laws.specs.Matching.{Matches, Simulates}

@@ -10,8 +10,8 @@ use Rattle.bpf_model.specs.Schedule.{start_schedule}
 use Rattle.bpf_model.specs.View.{AreNewMaps, MapView, WorldView, start_view, shapes_of_maps, unused_world}
 use Rattle.model_laws.proofs.Counting.{map-back}
 use Rattle.model_laws.proofs.Starting.{start_tracked}
-use Rattle.typed_runs.specs.Verified.{IsVerified}
-use Rattle.typed_runs.specs.Well.{IsVerifiedFor, AreVerified}
+use Rattle.plan_laws.specs.Verified.{IsVerified}
+use Rattle.plan_laws.specs.Well.{IsVerifiedFor, AreVerified}
 use Rattle.world_laws.specs.Typed.{IsRealProgram, AreRealPrograms}
 use Rattle.world.specs.declared.kept.loaded.Loaded.{Loaded}
 use Rattle.world.specs.Programs.{program_of, programs_in}

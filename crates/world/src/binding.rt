@@ -3,7 +3,7 @@ ghost use Rattle.std.specs.Prelude.{◌≡◌, ◌≤◌, ◌↔◌, ℕ, length
 ghost use Rattle.bpf_model.specs.declared.limits.TheConstants.{MAX_MAPS};
 ghost use Rattle.bpf_model.specs.Shapes.{AreShapes};
 ghost use Rattle.bpf_model.specs.View.{shapes_of_maps};
-ghost use Rattle.typed_runs.specs.Verified.{IsVerified};
+ghost use Rattle.plan_laws.specs.Verified.{IsVerified};
 ghost use Rattle.world_laws.specs.Typed.{IsRealProgram};
 ghost use Rattle.world_laws.specs.Binding.{IsBoundTo};
 ghost use Rattle.world.specs.declared.kept.loaded.Loaded.{Loaded};

@@ -26,7 +26,7 @@ use Rattle.bpf_model.specs.Value.{◌>>=◌, number}
 use Rattle.model_laws.specs.Holds.{HoldsState}
 use Rattle.model_laws.specs.Alone.{IsOwn, SharesNothing}
 use Rattle.model_laws.proofs.Alone.{insn-all, helper-own, acts-own, starts_sharing_nothing, stays_sharing_nothing}
-use Rattle.typed_runs.proofs.Reaching.{same-insn}
+use Rattle.plan_laws.proofs.Reaching.{same-insn}
 use Rattle.model_laws.proofs.Requests.{by_kind, of_kind}
 
 -- the run, as one of another program

@@ -9,7 +9,7 @@ use Rattle.bpf_model.specs.MapState.{MapState}
 use Rattle.bpf_model.specs.Refines.{RefinesSchedule}
 use Rattle.bpf_model.specs.Schedule.{Schedule}
 use Rattle.bpf_model.specs.View.{MapView, WorldView, shapes_of}
-use Rattle.typed_runs.specs.Verified.{AreMapsBound}
+use Rattle.plan_laws.specs.Verified.{AreMapsBound}
 use Rattle.view_laws.proofs.Worlds.{here}
 
 pub bound-count : (shapes asked : List MapShape) (numbers : List ℕ) → map (slice_get shapes) numbers ≡ map Some asked → length numbers ≡ length asked

@@ -4,8 +4,8 @@ use Rattle.bpf_model.proofs.Lists.{get-map}
 use Rattle.bpf_model.specs.declared.limits.MapShape.{MapShape}
 use Rattle.bpf_model.specs.Machine.{Loaded}
 use Rattle.bpf_model.specs.MapState.{new_map}
-use Rattle.typed_runs.specs.Verified.{IsVerified}
-use Rattle.typed_runs.specs.Well.{IsVerifiedFor}
+use Rattle.plan_laws.specs.Verified.{IsVerified}
+use Rattle.plan_laws.specs.Well.{IsVerifiedFor}
 use Rattle.world_laws.proofs.Binding.{bound-count, bound-each}
 use Rattle.world_laws.specs.Binding.{IsBoundTo}
 

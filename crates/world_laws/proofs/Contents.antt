@@ -16,10 +16,10 @@ use Rattle.bpf_model.specs.Machine.{Run, section_of}
 use Rattle.bpf_model.specs.MapState.{new_map}
 use Rattle.bpf_model.specs.Section.{Section}
 use Rattle.bpf_model.proofs.Lists.{get-map, get-replicate, get-below}
-use Rattle.typed_runs.specs.Describes.{scene_of, IsArrayMap, IsGuarded}
-use Rattle.typed_runs.specs.Verified.{StaysKept}
-use Rattle.typed_runs.proofs.Arrays.{AllStayKept}
-use Rattle.typed_runs.proofs.Kept.{Keeps}
+use Rattle.plan_laws.specs.Describes.{scene_of, IsArrayMap, IsGuarded}
+use Rattle.plan_laws.specs.Verified.{StaysKept}
+use Rattle.plan_laws.proofs.Arrays.{AllStayKept}
+use Rattle.plan_laws.proofs.Kept.{Keeps}
 use Rattle.world_laws.specs.Around.{map_of, key_length, value_length, element_of, elements_by, births, store_of}
 
 pub get-range : (count n : ℕ) → n < count → slice_get (range_with_len 0 count) n ≡ Some n

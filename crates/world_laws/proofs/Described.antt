@@ -12,10 +12,10 @@ use Rattle.bpf_model.specs.MapState.{Store, new_map}
 use Rattle.bpf_model.specs.MachineStep.{StepsAlone}
 use Rattle.bpf_model.specs.Section.{Section}
 use Rattle.bpf_model.specs.Step.{State, Moves, after, insn_at}
-use Rattle.typed_runs.specs.Describes.{scene_of}
-use Rattle.typed_runs.specs.Verified.{Plan, AreMapsBound, Surrounds, IsPlanned, IsPlannedAfter, IsClosed}
-use Rattle.typed_runs.proofs.Kept.{Keeps, describes-kept}
-use Rattle.typed_runs.proofs.Reaching.{same-insn}
+use Rattle.plan_laws.specs.Describes.{scene_of}
+use Rattle.plan_laws.specs.Verified.{Plan, AreMapsBound, Surrounds, IsPlanned, IsPlannedAfter, IsClosed}
+use Rattle.plan_laws.proofs.Kept.{Keeps, describes-kept}
+use Rattle.plan_laws.proofs.Reaching.{same-insn}
 use Rattle.world_laws.specs.Around.{element_of, elements_by, births, elements_around, store_of}
 use Rattle.world_laws.specs.Described.{IsDescribed}
 use Rattle.world_laws.proofs.Contents.{IsContent, plain-content, lengths, all-bytes, all-kept, single-one, life-unlinked, Guards, keeps-by}

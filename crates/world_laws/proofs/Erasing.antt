@@ -25,12 +25,12 @@ use Rattle.bpf_model.specs.View.{RunView}
 use Rattle.bpf_model.specs.Word.{WordIs, ByteIs}
 use Rattle.bpf_model.proofs.Lists.{get-map}
 use Rattle.model_laws.proofs.Computations.{first-step, then-step}
-use Rattle.typed_runs.specs.Kinds.{Kind, Blank, Mixed, Ended, Num, CtxAt, FrameAt, MapAt, ValueAt, MaybeNull}
-use Rattle.typed_runs.specs.Kinds.{CellKind, BlankCell, MixedCell, EndedCell, ByteCell, PartCell, AbsState}
-use Rattle.typed_runs.specs.Describes.{Scene, scene_of, IsArrayMap, IsHeld, Naming, IsNullOrHeld, IsOf, Stored, IsOfCell, Describes, part_of}
-use Rattle.typed_runs.specs.Verified.{AreMapsBound, IsClosed, Plan}
-use Rattle.typed_runs.proofs.Arrays.{kind-there, there-kind}
-use Rattle.typed_runs.proofs.Elements.{accessible-held}
+use Rattle.plan_laws.specs.Kinds.{Kind, Blank, Mixed, Ended, Num, CtxAt, FrameAt, MapAt, ValueAt, MaybeNull}
+use Rattle.plan_laws.specs.Kinds.{CellKind, BlankCell, MixedCell, EndedCell, ByteCell, PartCell, AbsState}
+use Rattle.plan_laws.specs.Describes.{Scene, scene_of, IsArrayMap, IsHeld, Naming, IsNullOrHeld, IsOf, Stored, IsOfCell, Describes, part_of}
+use Rattle.plan_laws.specs.Verified.{AreMapsBound, IsClosed, Plan}
+use Rattle.plan_laws.proofs.Arrays.{kind-there, there-kind}
+use Rattle.plan_laws.proofs.Elements.{accessible-held}
 use Rattle.world_laws.specs.Around.{regions, region_word, map_of, element_in_region, element_of, births, elements_around, store_of}
 use Rattle.world_laws.specs.Standing.{AreWords, IsSlotWord, IsNumbered, StandFor}
 use Rattle.world_laws.specs.Described.{IsShownBy, region_bases}

@@ -7,7 +7,7 @@ use Rattle.bpf_model.specs.Spelling.{FitsInsn}
 use Rattle.model_laws.specs.Example.{lookup_and_load, lookup_program, example_shape}
 use Rattle.scalar_domain.specs.Scalar.{Holds}
 use Rattle.scalar_domain.specs.declared.scalar.Scalar.{Scalar}
-use Rattle.typed_runs.proofs.Example.{safe-one}
+use Rattle.plan_laws.proofs.Example.{safe-one}
 use Rattle.world_laws.specs.Typed.{IsRealProgram, AreRealPrograms, IsReadyWorld}
 use Rattle.world_laws.specs.WorldExample.{example_world}
 use Rattle.world_laws.proofs.Codes.{all-get}

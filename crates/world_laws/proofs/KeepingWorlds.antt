@@ -10,8 +10,8 @@ use Rattle.bpf_model.specs.Shapes.{AreShapes}
 use Rattle.bpf_model.specs.Schedule.{start_schedule}
 use Rattle.bpf_model.specs.View.{WorldView, new_map_view, start_view}
 use Rattle.model_laws.proofs.Starting.{start_tracked}
-use Rattle.typed_runs.specs.Well.{AreVerified}
-use Rattle.typed_runs.proofs.Reaching.{real-rest}
+use Rattle.plan_laws.specs.Well.{AreVerified}
+use Rattle.plan_laws.proofs.Reaching.{real-rest}
 use Rattle.view_laws.proofs.Reacting.{tracked_matches}
 use Rattle.world_laws.specs.Reacting.{full_reaction, full_reactions}
 use Rattle.world_laws.specs.Typed.{AreRealPrograms, IsMatched}

@@ -34,8 +34,8 @@ use Rattle.model_laws.specs.Holds.{HoldsValue, HoldsState}
 use Rattle.bpf_model.proofs.Cases.{choice}
 use Rattle.model_laws.proofs.Holding.{Closed, HoldsOutcome, holds-entry, holds-acts, holds-returns}
 use Rattle.model_laws.proofs.Keeping.{no-run}
-use Rattle.typed_runs.proofs.Coming.{Comes, Stands, Starting, Stepping, does-come}
-use Rattle.typed_runs.proofs.Reaching.{kept-last}
+use Rattle.plan_laws.proofs.Coming.{Comes, Stands, Starting, Stepping, does-come}
+use Rattle.plan_laws.proofs.Reaching.{kept-last}
 use Rattle.world_laws.specs.Typed.{IsListed, AreListed}
 use Rattle.world_laws.proofs.Words.{refused}
 use Rattle.model_laws.proofs.Computations.{first-step}

@@ -22,9 +22,9 @@ use Rattle.bpf_model.specs.View.{WorldView, shapes_of}
 use Rattle.model_laws.proofs.Exits.{exits_alone}
 use Rattle.model_laws.proofs.Keeping.{no-run}
 use Rattle.model_laws.proofs.Moves.{Changes, Goes, Locks, Unlocks, Ends, changed-insn}
-use Rattle.typed_runs.proofs.Coming.{Comes, Stands, Starting, Stepping, does-come}
-use Rattle.typed_runs.proofs.Reaching.{kept-last, keeps_well, starts_well}
-use Rattle.typed_runs.specs.Well.{IsWell, AreVerified}
+use Rattle.plan_laws.proofs.Coming.{Comes, Stands, Starting, Stepping, does-come}
+use Rattle.plan_laws.proofs.Reaching.{kept-last, keeps_well, starts_well}
+use Rattle.plan_laws.specs.Well.{IsWell, AreVerified}
 use Rattle.world_laws.specs.Exited.{HasExited}
 use Rattle.world_laws.specs.Invariant.{IsWorld}
 use Rattle.world_laws.specs.Exits.{MayExitAs, ExitsAs}

@@ -4,7 +4,7 @@ use Rattle.std.specs.Prelude.{slice_get, slice_index, ℤ, pos, ◌+ℤ◌}
 use Rattle.std.proofs.lemmas.Option.{none-some, same_Some}
 use Rattle.view_laws.proofs.Storing.{accessible-kept}
 use Rattle.model_laws.proofs.Stores.{accessible-born}
-use Rattle.typed_runs.proofs.Elements.{offset_some}
+use Rattle.plan_laws.proofs.Elements.{offset_some}
 use Rattle.bpf_model.specs.declared.limits.TheConstants.{FRAME_BYTES}
 use Rattle.bpf_model.specs.declared.insn.Insn.TheVariants.{Load, LoadSigned}
 use Rattle.bpf_model.specs.declared.opcode.Width.{Width}

@@ -6,7 +6,7 @@ use Rattle.std.specs.FinMap.{get}
 use Rattle.std.proofs.lemmas.Int.{ints}
 use Rattle.std.proofs.lemmas.Bool.{cases_eq, eq-eqb, leb-true}
 use Rattle.std.proofs.lemmas.Option.{none-some, same_Some}
-use Rattle.typed_runs.proofs.Elements.{offset_some}
+use Rattle.plan_laws.proofs.Elements.{offset_some}
 use Rattle.bpf_model.specs.declared.limits.TheConstants.{FRAME_BYTES, MAX_DEPTH}
 use Rattle.bpf_model.specs.declared.call.Helper.{Helper}
 use Rattle.bpf_model.specs.declared.call.Helper.TheVariants.{Lookup, Update, Delete}
@@ -46,7 +46,7 @@ use Rattle.bpf_model.specs.Word.{WordIs}
 use Rattle.model_laws.specs.Locations.{Location}
 use Rattle.model_laws.specs.Scheduled.{queued_in}
 use Rattle.model_laws.proofs.Counting.{times-first, times-other, times-rest}
-use Rattle.typed_runs.proofs.Reaching.{well_never_stuck}
+use Rattle.plan_laws.proofs.Reaching.{well_never_stuck}
 use Rattle.view_laws.specs.Matching.{Matches}
 use Rattle.view_laws.proofs.Worlds.{here}
 use Rattle.world_laws.specs.Locating.{location_of}

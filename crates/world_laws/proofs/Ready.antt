@@ -28,8 +28,8 @@ use Rattle.bpf_model.specs.Step.{State, insn_at}
 use Rattle.bpf_model.specs.View.{RunView, WorldView}
 use Rattle.bpf_model.specs.Word.{IsReferenceWord, WordIs, ByteIs, element_bases}
 use Rattle.model_laws.specs.Holds.{HoldsValue}
-use Rattle.typed_runs.specs.Describes.{scene_of, AreNear}
-use Rattle.typed_runs.proofs.Reaching.{surrounds}
+use Rattle.plan_laws.specs.Describes.{scene_of, AreNear}
+use Rattle.plan_laws.proofs.Reaching.{surrounds}
 use Rattle.view_laws.specs.Matching.{Matches, Simulates, half}
 use Rattle.view_laws.specs.Reactions.{with_run}
 use Rattle.view_laws.proofs.Running.{move_simulates}

@@ -30,10 +30,10 @@ use Rattle.bpf_model.proofs.Bytes.{length-with_bytes}
 use Rattle.bpf_model.proofs.Lists.{get-set_cases}
 use Rattle.model_laws.proofs.Computations.{first-step}
 use Rattle.model_laws.proofs.Requests.{asks_or_acts}
-use Rattle.typed_runs.specs.Describes.{scene_of, IsGuarded}
-use Rattle.typed_runs.specs.Verified.{Plan, IsClosed, StaysKept}
-use Rattle.typed_runs.proofs.Elements.{offset_some, with-bytes}
-use Rattle.typed_runs.proofs.Kept.{Keeps}
+use Rattle.plan_laws.specs.Describes.{scene_of, IsGuarded}
+use Rattle.plan_laws.specs.Verified.{Plan, IsClosed, StaysKept}
+use Rattle.plan_laws.proofs.Elements.{offset_some, with-bytes}
+use Rattle.plan_laws.proofs.Kept.{Keeps}
 use Rattle.world_laws.specs.Around.{map_of, regions, element_in_region, key_length, value_length, element_of, elements_by, births, elements_around, store_of}
 use Rattle.world_laws.proofs.StandingBytes.{number-back}
 use Rattle.world_laws.proofs.Contents.{get-by, by-below, by-is, IsContent, plain-content, single-one, life-unlinked}

@@ -11,10 +11,10 @@ use Rattle.bpf_model.specs.View.{MapView, WorldView, shapes_of}
 use Rattle.bpf_model.specs.Refines.{slot_view, RefinesSchedule}
 use Rattle.bpf_model.specs.Word.{element_bases, map_in, slot_base, most_map_slots}
 use Rattle.bpf_model.specs.Machine.{Machine, Run}
-use Rattle.typed_runs.specs.Describes.{scene_of, IsHeld}
-use Rattle.typed_runs.specs.Well.{IsWell}
+use Rattle.plan_laws.specs.Describes.{scene_of, IsHeld}
+use Rattle.plan_laws.specs.Well.{IsWell}
 use Rattle.view_laws.proofs.Worlds.{here}
-use Rattle.typed_runs.proofs.Arrays.{held-unreclaimed, linked-kept}
+use Rattle.plan_laws.proofs.Arrays.{held-unreclaimed, linked-kept}
 use Rattle.bpf_model.proofs.Lists.{get-below}
 
 -- An element that is kept stands in a map slot of its map, and its first byte has that map slot's word.

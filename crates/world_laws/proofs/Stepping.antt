@@ -19,7 +19,7 @@ use Rattle.bpf_model.specs.MapState as map_state
 use Rattle.bpf_model.specs.Schedule.{Schedule}
 use Rattle.bpf_model.specs.Step.{Outcome, after, insn_at}
 use Rattle.bpf_model.specs.View.{RunView, WorldView}
-use Rattle.typed_runs.proofs.Reaching.{well_never_stuck}
+use Rattle.plan_laws.proofs.Reaching.{well_never_stuck}
 use Rattle.view_laws.specs.Matching.{Matches, Simulates}
 use Rattle.view_laws.specs.Reactions.{step_refused, step_by, reaction}
 use Rattle.view_laws.proofs.Reacting.{reaction_simulates}

@@ -12,11 +12,11 @@ use Rattle.bpf_model.specs.Step.{State, put, insn_at}
 use Rattle.bpf_model.specs.Machine.{Run, Machine, open_sections, run_at}
 use Rattle.bpf_model.specs.Request.{found_value}
 use Rattle.model_laws.specs.Near.{IsNear}
-use Rattle.typed_runs.specs.Kinds.{Kind, Blank, Mixed, Ended, Num, CtxAt, FrameAt, MapAt, ValueAt, MaybeNull, AbsState}
-use Rattle.typed_runs.specs.Describes.{Scene, scene_of, IsHeld, Naming, IsNullOrHeld, IsOf, AreNear, Describes}
-use Rattle.typed_runs.specs.Verified.{HasStep, IsPlanned}
-use Rattle.typed_runs.specs.Well.{IsTyped, IsWell}
-use Rattle.typed_runs.proofs.Reaching.{surrounds}
+use Rattle.plan_laws.specs.Kinds.{Kind, Blank, Mixed, Ended, Num, CtxAt, FrameAt, MapAt, ValueAt, MaybeNull, AbsState}
+use Rattle.plan_laws.specs.Describes.{Scene, scene_of, IsHeld, Naming, IsNullOrHeld, IsOf, AreNear, Describes}
+use Rattle.plan_laws.specs.Verified.{HasStep, IsPlanned}
+use Rattle.plan_laws.specs.Well.{IsTyped, IsWell}
+use Rattle.plan_laws.proofs.Reaching.{surrounds}
 
 abbrev pub IsSure : Scene → Value → Type 0
 IsSure c (Number n) = n < 2 ^ 64

@@ -17,9 +17,9 @@ use Rattle.model_laws.proofs.Bounded.{given_bounded}
 use Rattle.model_laws.proofs.Joining.{steps_make_scheduled}
 use Rattle.model_laws.proofs.Worlds.{scheduled_is_machine, scheduled_is_machine_once, tracked_reclaimed_late}
 use Rattle.model_laws.proofs.Starting.{shapes-start}
-use Rattle.typed_runs.specs.Well.{AreVerified}
-use Rattle.typed_runs.proofs.Reaching.{reached_is_well, real-rest, tracked_never_stuck}
-use Rattle.typed_runs.proofs.Timing.{tracked_exits_in_time}
+use Rattle.plan_laws.specs.Well.{AreVerified}
+use Rattle.plan_laws.proofs.Reaching.{reached_is_well, real-rest, tracked_never_stuck}
+use Rattle.plan_laws.proofs.Timing.{tracked_exits_in_time}
 use Rattle.view_laws.proofs.Reacting.{tracked_matches}
 use Rattle.view_laws.proofs.Tracking.{simulates_tracks}
 use Rattle.world_laws.specs.Reacting.{full_reaction, full_reactions}

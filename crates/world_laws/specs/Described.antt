@@ -7,8 +7,8 @@ use Rattle.model_laws.specs.Holds.{HoldsState}
 use Rattle.bpf_model.specs.Machine.{Run, section_of}
 use Rattle.bpf_model.specs.MapState.{new_map}
 use Rattle.bpf_model.specs.View.{RunView}
-use Rattle.typed_runs.specs.Describes.{scene_of}
-use Rattle.typed_runs.specs.Verified.{AreMapsBound, IsPlanned, Plan}
+use Rattle.plan_laws.specs.Describes.{scene_of}
+use Rattle.plan_laws.specs.Verified.{AreMapsBound, IsPlanned, Plan}
 use Rattle.world_laws.specs.Around.{elements_around, region_of, region_word, store_of}
 use Rattle.world_laws.specs.Standing.{AreWords, IsNumbered}
 

@@ -10,7 +10,7 @@ use Rattle.bpf_model.specs.Schedule.{Schedule}
 use Rattle.bpf_model.specs.Spelling.{FitsInsn}
 use Rattle.bpf_model.specs.View.{RunView, WorldView, shapes_of}
 use Rattle.model_laws.specs.Holds.{HoldsState}
-use Rattle.typed_runs.specs.Well.{IsWell, AreVerified}
+use Rattle.plan_laws.specs.Well.{IsWell, AreVerified}
 use Rattle.view_laws.specs.Matching.{Matches}
 
 -- A program is a value of its type: its instructions name registers and numbers that there are (in

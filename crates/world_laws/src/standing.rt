@@ -7,7 +7,7 @@ ghost use Rattle.bpf_model.specs.Machine.{Loaded, Run, environment, fresh_run, m
 ghost use Rattle.bpf_model.specs.MapState.{new_map};
 ghost use Rattle.bpf_model.specs.Step.{Moves, State, after, insn_at};
 ghost use Rattle.bpf_model.specs.View.{RunView};
-ghost use Rattle.typed_runs.specs.Verified.{AreMapsBound, IsClosed, Plan};
+ghost use Rattle.plan_laws.specs.Verified.{AreMapsBound, IsClosed, Plan};
 ghost use Rattle.world_laws.specs.Described.{IsDescribed, IsShownBy};
 ghost use Rattle.world_laws.specs.Standing.{StandFor};
 

@@ -8,9 +8,9 @@ use Rattle.commands.specs.declared.request.MapElement.{MapElement}
 use Rattle.commands.specs.Outputs.{IsPlainVerdict}
 use Rattle.commands.specs.Runs.{HasBadElement}
 use Rattle.program_files.proofs.Shapes.{verifier_told}
-use Rattle.single_runs.specs.declared.once.RunEnd.{RunEnd}
-use Rattle.single_runs.specs.declared.once.RunEnd.TheVariants.{Exited, NotDone}
-use Rattle.single_runs.specs.Once.{ComesTo}
+use Rattle.run_once.specs.declared.once.RunEnd.{RunEnd}
+use Rattle.run_once.specs.declared.once.RunEnd.TheVariants.{Exited, NotDone}
+use Rattle.run_once.specs.Once.{ComesTo}
 use Rattle.commands.proofs.Ran.{IsGood, are_updates, of_source, ended_of, context_told, puts_told, place_told}
 use Rattle.commands.proofs.single.run_of.Goals as goal
 

@@ -1,14 +1,14 @@
 use Rattle.register_kinds.proofs.Results.{same_Ok}
 use Rattle.register_kinds.specs.States.{kind_of, state_of, kind_in}
 use Rattle.std.proofs.Common.{refl, sym, subst}
-use Rattle.typed_runs.specs.Effects.{with_kind}
-use Rattle.typed_runs.specs.Planned.{AreAlike}
+use Rattle.plan_laws.specs.Effects.{with_kind}
+use Rattle.plan_laws.specs.Planned.{AreAlike}
 use Rattle.register_kinds.specs.declared.kind.RegKind.{RegKind}
 use Rattle.effects.proofs.Combining.{alu_sound}
 use Rattle.effects.proofs.arithmetic.alu.Goals as goal
 use Rattle.register_kinds.proofs.Setting.{set-there, set-elsewhere}
 use Rattle.effects.specs.Floor.{LeavesKnown, operand_kind}
-use Rattle.typed_runs.specs.Kinds.{Kind}
+use Rattle.plan_laws.specs.Kinds.{Kind}
 
 pub returns-clause-sound : goal.returns-clause-sound
 returns-clause-sound c = alu_sound c.args.op c.args.size c.args.dst c.args.src.now c.args.state.now c.set.new.self (kind_of c.in_ok-kind.kind) c.in_ok-kind.ensures.sound c.in_ok-check_writable.ensures.value c.set.ensures.alike

@@ -1,6 +1,6 @@
 use Rattle.std.proofs.Common.{sym, ap, subst, ◌∙◌, inl, inr}
 use Rattle.std.proofs.lemmas.Result.{IfOk-weaker}
-use Rattle.typed_runs.specs.Kinds.{Num}
+use Rattle.plan_laws.specs.Kinds.{Num}
 use Rattle.register_kinds.proofs.KindLaws.{kind_is}
 use Rattle.register_kinds.proofs.Results.{same_Ok}
 use Rattle.register_kinds.specs.States.{kind_of, state_of}

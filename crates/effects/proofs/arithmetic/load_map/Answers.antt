@@ -3,7 +3,7 @@ use mir.Val.{SFits}
 use Rattle.std.proofs.lemmas.Int.{to_z-of_z}
 use Rattle.effects.proofs.Combining.{map_sound}
 use Rattle.register_kinds.proofs.Setting.{set-elsewhere}
-use Rattle.typed_runs.specs.Kinds.{MapAt}
+use Rattle.plan_laws.specs.Kinds.{MapAt}
 use Rattle.register_kinds.specs.States.{state_of}
 use Rattle.effects.proofs.arithmetic.load_map.Goals as goal
 

@@ -2,7 +2,7 @@ use Rattle.std.proofs.Common.{arith, refl}
 use Rattle.effects.proofs.Combining.{number_sound}
 use Rattle.effects.proofs.arithmetic.load_number.Goals as goal
 use Rattle.register_kinds.proofs.Setting.{set-there, set-elsewhere}
-use Rattle.typed_runs.specs.Kinds.{Num}
+use Rattle.plan_laws.specs.Kinds.{Num}
 use Rattle.register_kinds.specs.States.{state_of}
 
 pub returns-clause-sound : goal.returns-clause-sound

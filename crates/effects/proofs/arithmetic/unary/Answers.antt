@@ -2,7 +2,7 @@ use Rattle.std.proofs.Common.{◌≡◌, refl, sym, ap, subst, ◌∙◌}
 use Rattle.effects.proofs.Combining.{unary_sound}
 use Rattle.effects.proofs.arithmetic.unary.Goals as goal
 use Rattle.register_kinds.proofs.Setting.{set-there, set-elsewhere}
-use Rattle.typed_runs.specs.Kinds.{Num}
+use Rattle.plan_laws.specs.Kinds.{Num}
 use Rattle.scalar_domain.specs.declared.scalar.Scalar.{Scalar}
 use Rattle.scalar_domain.specs.Floor.{KeepsUnaryFloor}
 use Rattle.register_kinds.specs.States.{kind_of, kind_in, state_of}

@@ -1,4 +1,4 @@
-use Rattle.typed_runs.specs.Kinds.{Num}
+use Rattle.plan_laws.specs.Kinds.{Num}
 use Rattle.register_kinds.specs.States.{state_of}
 use Rattle.effects.proofs.CallLaws.{delete_sound, call_others}
 use Rattle.effects.proofs.calls.delete.Goals as goal

@@ -1,4 +1,4 @@
-use Rattle.typed_runs.specs.Kinds.{MaybeNull}
+use Rattle.plan_laws.specs.Kinds.{MaybeNull}
 use Rattle.register_kinds.specs.States.{state_of}
 use Rattle.effects.proofs.CallLaws.{lookup_sound, call_others}
 use Rattle.effects.proofs.calls.lookup.Goals as goal

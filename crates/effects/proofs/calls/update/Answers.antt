@@ -1,4 +1,4 @@
-use Rattle.typed_runs.specs.Kinds.{Num}
+use Rattle.plan_laws.specs.Kinds.{Num}
 use Rattle.effects.proofs.CallLaws.{update_sound, call_others}
 use Rattle.std.proofs.Common.{ap}
 use Rattle.register_kinds.specs.States.{kind_of, state_of}

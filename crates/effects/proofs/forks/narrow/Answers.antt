@@ -1,7 +1,7 @@
 use Rattle.std.proofs.Common.{subst}
-use Rattle.typed_runs.specs.Kinds.{Num}
-use Rattle.typed_runs.specs.Effects.{with_kind}
-use Rattle.typed_runs.specs.Planned.{AreAlike}
+use Rattle.plan_laws.specs.Kinds.{Num}
+use Rattle.plan_laws.specs.Effects.{with_kind}
+use Rattle.plan_laws.specs.Planned.{AreAlike}
 use Rattle.register_kinds.specs.declared.state.AbsState.{AbsState}
 use Rattle.register_kinds.specs.States.{state_of}
 use Rattle.effects.proofs.Branches.{narrowed_one, narrowed_both, sides_one, sides_both}

@@ -5,7 +5,7 @@ use Rattle.bpf_model.specs.Arithmetic.{immediate}
 use Rattle.bpf_model.specs.declared.insn.Operand.TheVariants.{Register, Immediate}
 use Rattle.scalar_domain.specs.Scalar.{IsConstant}
 use Rattle.bpf_model.specs.declared.insn.Operand.{Operand}
-use Rattle.typed_runs.specs.Effects.{IsNumberOperand}
+use Rattle.plan_laws.specs.Effects.{IsNumberOperand}
 use Rattle.register_kinds.specs.States.{kind_in, state_of}
 use Rattle.effects.proofs.Numbers.{held_number, same_immediate}
 use Rattle.effects.proofs.kinds.operand.Goals as goal

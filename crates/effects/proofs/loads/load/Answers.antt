@@ -1,14 +1,14 @@
 use Rattle.std.proofs.Common.{refl, sym, subst, ap, ◌∙◌}
 use Rattle.register_kinds.proofs.Results.{same_Ok}
 use Rattle.bpf_model.specs.declared.insn.Insn.TheVariants.{Load}
-use Rattle.typed_runs.specs.Kinds.{Kind}
-use Rattle.typed_runs.specs.Effects.{with_kind}
-use Rattle.typed_runs.specs.Planned.{AreAlike}
+use Rattle.plan_laws.specs.Kinds.{Kind}
+use Rattle.plan_laws.specs.Effects.{with_kind}
+use Rattle.plan_laws.specs.Planned.{AreAlike}
 use Rattle.register_kinds.specs.States.{state_of, kind_of}
 use Rattle.effects.specs.Accesses.{read_kind, LoadsKnown}
 use Rattle.effects.proofs.Reading.{read_transfers, load_known}
 use Rattle.effects.proofs.loads.load.Goals as goal
-use Rattle.typed_runs.proofs.Planning.{to_alike}
+use Rattle.plan_laws.proofs.Planning.{to_alike}
 use Rattle.register_kinds.proofs.Setting.{set-there, set-elsewhere}
 
 pub returns-clause-sound : goal.returns-clause-sound

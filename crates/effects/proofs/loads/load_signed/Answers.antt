@@ -4,15 +4,15 @@ use Rattle.register_kinds.proofs.Results.{same_Ok}
 use Rattle.bpf_model.specs.declared.insn.Insn.TheVariants.{LoadSigned}
 use Rattle.bpf_model.specs.declared.opcode.Width.{Width}
 use Rattle.bpf_model.specs.Access.{byte_count}
-use Rattle.typed_runs.specs.Kinds.{Kind}
-use Rattle.typed_runs.specs.Effects.{with_kind}
-use Rattle.typed_runs.specs.Planned.{AreAlike}
+use Rattle.plan_laws.specs.Kinds.{Kind}
+use Rattle.plan_laws.specs.Effects.{with_kind}
+use Rattle.plan_laws.specs.Planned.{AreAlike}
 use Rattle.register_kinds.specs.States.{kind_of, state_of}
 use Rattle.effects.specs.Accesses.{read_kind, IsReadByLoad}
 use Rattle.effects.proofs.Reading.{read_signed_transfers, number_loaded}
 use Rattle.scalar_domain.proofs.Words.{loaded_signed_lt}
 use Rattle.effects.proofs.loads.load_signed.Goals as goal
-use Rattle.typed_runs.proofs.Planning.{to_alike}
+use Rattle.plan_laws.proofs.Planning.{to_alike}
 use Rattle.register_kinds.proofs.Setting.{set-there, set-elsewhere}
 
 pub returns-clause-sound : goal.returns-clause-sound

@@ -1,7 +1,7 @@
 use Rattle.std.proofs.Common.{rules, ap, w16}
 use mir.Val.{SFits}
 use Rattle.std.proofs.lemmas.Int.{to_z-of_z}
-use Rattle.typed_runs.proofs.Elements.{store_transfers}
+use Rattle.plan_laws.proofs.Elements.{store_transfers}
 use Rattle.register_kinds.specs.States.{kind_of, state_of}
 use Rattle.effects.proofs.stores.check_store.Goals as goal
 

@@ -3,13 +3,13 @@ use mir.Val.{SFits}
 use Rattle.std.proofs.lemmas.Int.{to_z-of_z}
 use Rattle.bpf_model.specs.declared.insn.Insn.TheVariants.{Store}
 use Rattle.bpf_model.specs.Access.{byte_count}
-use Rattle.typed_runs.specs.Kinds.{ByteCell}
-use Rattle.typed_runs.specs.Effects.{with_cells}
-use Rattle.typed_runs.specs.Planned.{AreAlike}
+use Rattle.plan_laws.specs.Kinds.{ByteCell}
+use Rattle.plan_laws.specs.Effects.{with_cells}
+use Rattle.plan_laws.specs.Planned.{AreAlike}
 use Rattle.register_kinds.specs.States.{kind_of, state_of}
 use Rattle.effects.proofs.Writing.{number_stored}
 use Rattle.effects.proofs.stores.store_number.Goals as goal
-use Rattle.typed_runs.proofs.Planning.{to_alike}
+use Rattle.plan_laws.proofs.Planning.{to_alike}
 
 pub returns-clause-sound : goal.returns-clause-sound
 returns-clause-sound c =

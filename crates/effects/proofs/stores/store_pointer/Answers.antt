@@ -2,12 +2,12 @@ use Rattle.std.proofs.Common.{rules, ap, w16, w32}
 use mir.Val.{SFits}
 use Rattle.std.proofs.lemmas.Int.{to_z-of_z}
 use Rattle.bpf_model.specs.declared.insn.Insn.TheVariants.{Store}
-use Rattle.typed_runs.specs.Kinds.{PartCell}
-use Rattle.typed_runs.specs.Effects.{with_cells}
+use Rattle.plan_laws.specs.Kinds.{PartCell}
+use Rattle.plan_laws.specs.Effects.{with_cells}
 use Rattle.register_kinds.specs.States.{kind_of, state_of}
 use Rattle.effects.proofs.Writing.{spill_stored}
 use Rattle.effects.proofs.stores.store_pointer.Goals as goal
-use Rattle.typed_runs.proofs.Planning.{to_alike}
+use Rattle.plan_laws.proofs.Planning.{to_alike}
 
 pub returns-in_ok-at-in-Eight-clause-sound : goal.returns-in_ok-at-in-Eight-clause-sound
 returns-in_ok-at-in-Eight-clause-sound c =

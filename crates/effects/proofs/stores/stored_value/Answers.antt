@@ -1,6 +1,6 @@
 use Rattle.std.proofs.Common.{subst, sym, ap, ◌∙◌}
 use Rattle.bpf_model.specs.declared.insn.Operand.{Operand}
-use Rattle.typed_runs.specs.Effects.{IsNumberOperand}
+use Rattle.plan_laws.specs.Effects.{IsNumberOperand}
 use Rattle.register_kinds.specs.States.{kind_of, state_of}
 use Rattle.effects.proofs.stores.stored_value.Goals as goal
 

@@ -2,7 +2,7 @@ use Rattle.std.proofs.Common.{◌≡◌, sym, subst, ◌∙◌}
 use Rattle.std.proofs.lemmas.Result.{on_ok_weaker, IfOk-weaker}
 use Rattle.state_steps.proofs.Stepping.{null_forks, null_others, null_others_taken, maybe_compares, value_compares}
 use Rattle.state_steps.proofs.Stepping.{numbers_compare, null_no_number, value_no_number}
-use Rattle.typed_runs.specs.Kinds.{Num}
+use Rattle.plan_laws.specs.Kinds.{Num}
 use Rattle.register_kinds.specs.declared.state.AbsState.{AbsState}
 use Rattle.register_kinds.specs.States.{kind_at}
 use Rattle.state_steps.proofs.control.branch.Goals as goal

@@ -1,6 +1,6 @@
 use Rattle.std.proofs.Common.{◌≡◌, ℕ, ◌<◌}
 use Rattle.std.specs.Prelude.{slice_get, Some}
-use Rattle.typed_runs.specs.Verified.{IsVerified}
+use Rattle.plan_laws.specs.Verified.{IsVerified}
 use Rattle.world_laws.specs.Typed.{IsRealProgram}
 use Rattle.world.specs.declared.kept.loaded.Loaded.{Loaded}
 use Rattle.world.specs.Programs.{program_of}

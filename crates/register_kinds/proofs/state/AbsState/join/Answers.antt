@@ -1,5 +1,5 @@
 use Rattle.std.proofs.Common.{◌+◌, refl, ap}
-use Rattle.typed_runs.proofs.Planning.{join_left, join_right}
+use Rattle.plan_laws.proofs.Planning.{join_left, join_right}
 use Rattle.register_kinds.specs.declared.state.AbsState.{AbsState}
 use Rattle.register_kinds.specs.States.{state_of}
 use Rattle.register_kinds.specs.JoinTable.{pair_of}

@@ -3,7 +3,7 @@ use Rattle.std.specs.Prelude.{slice_get, vec_len}
 use Rattle.bpf_model.specs.declared.limits.TheConstants.{MAX_PROGRAMS}
 use Rattle.bpf_model.specs.View.{shapes_of_maps}
 use Rattle.bpf_model.specs.Schedule.{start_schedule}
-use Rattle.typed_runs.specs.Verified.{IsVerified}
+use Rattle.plan_laws.specs.Verified.{IsVerified}
 use Rattle.world_laws.specs.Typed.{IsRealProgram}
 use Rattle.world.specs.declared.kept.loaded.Loaded.{Loaded}
 use Rattle.world.specs.Programs.{program_of, programs_in}

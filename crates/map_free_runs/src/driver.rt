@@ -1,0 +1,65 @@
+//! Whole runs.
+ghost use Rattle.std.specs.Prelude.{◌≡◌, ℕ, ◌<◌, ◌≤◌, length};
+ghost use Rattle.bpf_model.specs.declared.limits.TheConstants.{MAX_SLOTS};
+ghost use Rattle.bpf_model.specs.Exit.{ExitsWith, HasNoMaps, MayExitWith};
+ghost use Rattle.map_free_runs.specs.Lone.{loaded_alone};
+
+use bpf_model::{CtxBytes, MAX_SLOTS, are_bytes};
+use machine::{Next, Workspace};
+use verifier::Verified;
+
+/// How a run ended: its exit value, and how many steps it made, the exit among them.
+#[derive(Clone, Copy, Debug, PartialEq, Eq)]
+pub struct Finished {
+    pub value: u64,
+    pub steps: usize,
+}
+
+/// Runs a program that names no map, on a context of the length that it was verified for, to its exit,
+/// whatever the maps are for which it was verified. It takes no memory and cannot fail.
+///
+/// The value and the steps are those of the program's definition, which has no others, whatever other
+/// actors do; and the steps are at most as many as it has instructions.
+pub fn run_to_exit(verified: &Verified, ctx: &CtxBytes) -> Finished
+    requires maps { HasNoMaps verified.now.program }
+    requires context { length ctx.now.items ≡ verified.now.ctx_len }
+    ensures exits { ExitsWith (loaded_alone verified.now) ctx.now.items result.steps result.value }
+    ensures only { (steps value : ℕ) →
+        MayExitWith (loaded_alone verified.now) ctx.now.items steps value →
+        (result.steps ≡ steps) × (result.value ≡ value) }
+    ensures bounded { result.steps ≤ length verified.now.program }
+    ensures some { 0 < result.steps }
+    ensures limit { result.steps ≤ MAX_SLOTS }
+{
+    let _program = verified.program();
+    let context = ctx.as_slice();
+    are_bytes(context);
+    let mut workspace = Workspace::start();
+    let mut index = 0;
+    let mut moved = 0;
+    'steps: loop {
+        let halt = workspace.go_on(verified, context, index, MAX_SLOTS);
+        let before_last = MAX_SLOTS - halt.left;
+        match halt.next {
+            Next::On => {
+                index = halt.index + 1;
+                moved += before_last + 1;
+            }
+            Next::At(target) => {
+                index = target;
+                moved += before_last + 1;
+            }
+            // A lock or an unlock: a run alone asks nothing else.
+            Next::Shared(_) => {
+                index = halt.index + 1;
+                moved += before_last + 1;
+            }
+            Next::Exit(value) => {
+                return Finished {
+                    value,
+                    steps: moved + before_last + 1,
+                };
+            }
+        }
+    }
+}

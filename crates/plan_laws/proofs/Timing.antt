@@ -1,0 +1,126 @@
+-- Runs of verified programs exit in time: what a run has moved, by the answers, is less than its program is long.
+use Rattle.std.proofs.Common.{◌≡◌, ℕ, zero, suc, ◌+◌, ◌<◌, List, [], ◌∷◌, length, Option, Some, None, inl, inr, refl}
+use Rattle.std.proofs.Common.{sym, ap, subst, ◌∙◌, Bool, true, false, arith}
+use Rattle.std.specs.Prelude.{slice_get, slice_set, take, ◌==◌, if◌then◌else◌}
+use Rattle.std.proofs.lemmas.Bool.{eq-eqb, ne_eqb}
+use Rattle.std.proofs.lemmas.Option.{none-some, same_Some}
+use Rattle.bpf_model.specs.declared.event.Event.{Event}
+use Rattle.bpf_model.specs.declared.event.Event.TheVariants as events
+use Rattle.bpf_model.specs.declared.event.Answer.{Answer}
+use Rattle.bpf_model.specs.declared.event.Answer.TheVariants as answers
+use Rattle.bpf_model.specs.declared.event.EventRefusal.{EventRefusal}
+use Rattle.bpf_model.specs.Machine.{Run, Machine, open_sections, fresh_run, run_at}
+use Rattle.bpf_model.specs.MachineStep.{StepsRun}
+use Rattle.bpf_model.specs.Event.{PerformsEvent, Answers, DoesEvent, Starts, refusal}
+use Rattle.bpf_model.specs.Real.{AreReal}
+use Rattle.bpf_model.specs.History.{IsHistory}
+use Rattle.bpf_model.specs.Headline.{moved_once, moves_after, moves_of, moved_by, ExitsInTime, AllExitInTime}
+use Rattle.bpf_model.specs.View.{WorldView}
+use Rattle.bpf_model.specs.Refines.{Tracks}
+use Rattle.bpf_model.specs.View.{shapes_of}
+use Rattle.model_laws.proofs.Sections.{run-set_cases}
+use Rattle.plan_laws.specs.Well.{AreVerified, IsWell}
+use Rattle.plan_laws.proofs.Reaching.{same-insn, keeps_well, reached_is_well, real-rest}
+
+-- the number is what the run in run slot r has moved, where there is one
+abbrev pub Counts : ℕ → ℕ → Machine → Type 0
+Counts r n m = (run : Run) → run_at m.runs r ≡ Some run → n ≡ run.moved
+
+counts-same : (r n : ℕ) (m new : Machine) → new.runs ≡ m.runs → Counts r n m → Counts r n new
+counts-same r n m new e h run at = h run (ap (λ l. run_at l r) (sym e) ∙ at)
+
+counts-start : (r n : ℕ) (m : Machine) (prog : ℕ) (ctx : List ℕ) (q : ℕ) (new : Machine) → Counts r n m →
+    Starts m prog ctx q new → Counts r (if q == r then 0 else n) new
+counts-start r n m prog ctx q new c h run at =
+    elim (run-set_cases m.runs q r (Some (fresh_run m.started h.program ctx)) run (ap (λ (x : Machine). run_at x.runs r) (sym h.new_is) ∙ at)) [
+      | inl x ↦ ap (λ b. if b then 0 else n) (eq-eqb q r (sym x.0)) ∙ ap (λ (y : Run). y.moved) (same_Some (fresh_run m.started h.program ctx) run x.1)
+      | inr x ↦ ap (λ b. if b then 0 else n) (ne_eqb q r (λ e. x.0 (sym e))) ∙ c run x.1
+    ]
+
+counts-step : (r n : ℕ) (m : Machine) (q : ℕ) (answer : Answer) (new : Machine) → Counts r n m →
+    StepsRun m q answer new → Counts r (if q == r then n + moved_once answer else n) new
+counts-step r n m q answer new c h run at =
+    elim (run-set_cases m.runs q r (Some h.new_run) run (ap (λ (x : Machine). run_at x.runs r) (sym h.new_is) ∙ at)) [
+      | inl x ↦
+          let s = same-insn h.step.0 m.store (open_sections m.runs) h.run answer h.new_store h.new_run h.step.2 in
+          let e : n ≡ h.run.moved = c h.run (ap (run_at m.runs) x.0 ∙ h.there) in
+          ap (λ b. if b then n + moved_once answer else n) (eq-eqb q r (sym x.0)) ∙
+          (ap (λ k. k + moved_once answer) e ∙ (sym s.counts ∙
+          ap (λ (y : Run). y.moved) (same_Some h.new_run run x.1)))
+      | inr x ↦ ap (λ b. if b then n + moved_once answer else n) (ne_eqb q r (λ e. x.0 (sym e))) ∙ c run x.1
+    ]
+
+counts-drop : (r n : ℕ) (m : Machine) (q : ℕ) (new : Machine) → Counts r n m → new.runs ≡ slice_set m.runs q None → Counts r n new
+counts-drop r n m q new c e run at = elim (run-set_cases m.runs q r None run (ap (λ l. run_at l r) (sym e) ∙ at)) [
+  | inl x ↦ absurd (none-some run x.1)
+  | inr x ↦ c run x.1
+]
+
+performs-counts : (r n : ℕ) (m : Machine) (event : Event) (answer : Answer) (new : Machine) → Counts r n m →
+    PerformsEvent m event answer new → Counts r (moves_after r n event answer) new
+performs-counts r n m (events.Start prog ctx) (answers.Started q) new c h = counts-start r n m prog ctx.items q new c h
+performs-counts r n m (events.Step q) answer new c h = counts-step r n m q answer new c h
+performs-counts r n m (events.Update map key value flags) (answers.Ret ret) new c h = counts-same r n m new (ap (λ x. x.runs) h.2) c
+performs-counts r n m (events.Delete map key) (answers.Ret ret) new c h = counts-same r n m new (ap (λ x. x.runs) h.2) c
+performs-counts r n m (events.Read map key) (answers.Found (Some value)) new c h = counts-same r n m new (ap (λ x. x.runs) h.1) c
+performs-counts r n m (events.Read map key) (answers.Found None) new c h = counts-same r n m new (ap (λ x. x.runs) h.1) c
+performs-counts r n m events.Advance answers.Done new c h = counts-same r n m new (ap (λ x. x.runs) h) c
+performs-counts r n m events.Reap (answers.Reaped None) new c h = counts-same r n m new (ap (λ x. x.runs) h) c
+performs-counts r n m events.Reap (answers.Reaped (Some reaped)) new c h = counts-same r n m new (ap (λ x. x.runs) h.6) c
+performs-counts r n m (events.Drop q) answers.Done new c h = counts-drop r n m q new c (ap (λ x. x.runs) h)
+performs-counts r n m event answer new c h = absurd h
+
+same-or : (b : Bool) (n k : ℕ) → k ≡ 0 → (if b then n + k else n) ≡ n
+same-or true n k e = omega (arith, e)
+same-or false n k e = refl
+
+-- a refusal counts nothing
+refused-same : (r n : ℕ) (event : Event) (k : EventRefusal) → moves_after r n event (answers.Refused k) ≡ n
+refused-same r n (events.Start prog ctx) k = refl
+refused-same r n (events.Step q) k = same-or (q == r) n (moved_once (answers.Refused k)) refl
+refused-same r n (events.Update map key value flags) k = refl
+refused-same r n (events.Delete map key) k = refl
+refused-same r n (events.Read map key) k = refl
+refused-same r n events.Advance k = refl
+refused-same r n events.Reap k = refl
+refused-same r n (events.Drop q) k = refl
+
+answers-count : (o : Option EventRefusal) (r n : ℕ) (m : Machine) (event : Event) (answer : Answer) (new : Machine) →
+    Counts r n m → Answers o m event answer new → Counts r (moves_after r n event answer) new
+answers-count None r n m event answer new c h = performs-counts r n m event answer new c h
+answers-count (Some k) r n m event answer new c h =
+    subst (λ x. Counts r x new) (sym (ap (moves_after r n event) h.0 ∙ refused-same r n event k)) (counts-same r n m new (ap (λ x. x.runs) h.1) c)
+
+-- what the answers count is what the run has moved
+pub does_count : (r n : ℕ) (m new : Machine) (event : Event) (answer : Answer) → Counts r n m →
+    DoesEvent m event answer new → Counts r (moves_after r n event answer) new
+does_count r n m new event answer c h = answers-count (refusal m event) r n m event answer new c h
+
+below-well : (r n : ℕ) (m : Machine) (run : Run) → IsWell m → Counts r n m → run_at m.runs r ≡ Some run → n < length run.program.code
+below-well r n m run w c at = let e : n ≡ run.moved = c run at in let l : run.moved < length run.program.code = w.moved r run at in omega arith
+
+in-time : (m : Machine) (events : List Event) (answers : List Answer) (states : List Machine) → IsWell m →
+    AreReal events → IsHistory m events answers states → (r n j : ℕ) (later : Machine) (run : Run) → Counts r n m →
+    slice_get (m ∷ states) j ≡ Some later → run_at later.runs r ≡ Some run → moves_of r n (take j events) (take j answers) < length run.program.code
+in-time m events answers states w real h r n zero later run c at there =
+    below-well r n m run w c (ap (λ (x : Machine). run_at x.runs r) (same_Some m later at) ∙ there)
+in-time m [] [] [] w real h r n (suc j) later run c at there = absurd (none-some later at)
+in-time m (event ∷ events) (answer ∷ answers) (next ∷ states) w real h r n (suc j) later run c at there =
+    in-time next events answers states (keeps_well m next event answer w (real 0 event refl) h.0)
+    (real-rest event events real) h.1 r (moves_after r n event answer) j later run
+    (does_count r n m next event answer c h.0) at there
+in-time m events answers states w real h r n (suc j) later run c at there = absurd h
+
+-- at first it is what the run there had moved
+moved-first : (r : ℕ) (m : Machine) → Counts r (moved_by (run_at m.runs r)) m
+moved-first r m run at = ap moved_by at
+
+pub exits_in_time_along : (m : Machine) (events : List Event) (answers : List Answer) (states : List Machine) →
+    IsWell m → AreReal events → IsHistory m events answers states → ExitsInTime m events answers states
+exits_in_time_along m events answers states w real h j r later run at there =
+    in-time m events answers states w real h r (moved_by (run_at m.runs r)) j later run (moved-first r m) at there
+
+pub tracked_exits_in_time : (w : WorldView) (events : List Event) (answers : List Answer) →
+    AreVerified (shapes_of w) w.programs → AreReal events → AllExitInTime Tracks w events answers
+tracked_exits_in_time w events answers safe real m t states h =
+    exits_in_time_along m events answers states (subst IsWell t.1 (reached_is_well (shapes_of w) w.programs t.0 safe t.2.reached)) real h
