@@ -19,14 +19,14 @@ use Rattle.plan_laws.specs.Describes.{HasOffset}
 
 -- a register is set
 abbrev pub with_kind : ℕ → Kind → AbsState → AbsState
-with_kind r kind a = record { regs = put r kind a.regs; cells = a.cells; depth = a.depth }
+with_kind r kind a = record a { regs = put r kind a.regs }
 
 -- the registers after a call: r0 has the result's kind, and r1 to r5 may be unwritten
 abbrev pub returned_kind : Kind → (ℕ → Kind) → ℕ → Kind
 returned_kind kind regs r = if r == 0 then kind else if nat_le r 5 then Blank else regs r
 
 abbrev pub after_call : Kind → AbsState → AbsState
-after_call kind a = record { regs = returned_kind kind a.regs; cells = a.cells; depth = a.depth }
+after_call kind a = record a { regs = returned_kind kind a.regs }
 
 -- a map of this kind is an array, and that of this index in a program's list
 abbrev pub is_array : MapKind → Bool
@@ -122,10 +122,8 @@ when_there id origin a = record {
 
 -- a store to the frame: bytes, or a value of a kind at a group
 abbrev pub with_cells : ℕ → ℕ → CellKind → AbsState → AbsState
-with_cells at width cell a = record {
-  regs = a.regs;
+with_cells at width cell a = record a {
   cells = λ k. if is_within at width k then cell else a.cells k;
-  depth = a.depth;
 }
 
 -- each access of the width, at one of the offsets, lies in a region of that length

@@ -40,13 +40,7 @@ IsKnown v = IsLawful v.shape v.seen × (moves_of v.me v.seen ≡ v.mine)
 abbrev pub Went : View → List Move → View → Type 0
 Went v ms w =
     (before : List (ℕ × Move))
-    × (w ≡ record {
-      shape = v.shape;
-      me = v.me;
-      next = v.next;
-      mine = ms;
-      seen = before ++ v.seen;
-    })
+    × (w ≡ record v { mine = ms; seen = before ++ v.seen })
     × IsLawful v.shape w.seen × (moves_of v.me w.seen ≡ ms)
 
 -- the holder did just these steps, the newest first

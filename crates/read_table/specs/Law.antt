@@ -73,7 +73,7 @@ writer_after n k = record { shape = k; me = 0; next = n + 1; mine = []; seen = [
 
 -- the writer, once it has made one more reader
 abbrev pub dealt : View → View
-dealt v = record { shape = v.shape; me = v.me; next = v.next + 1; mine = v.mine; seen = v.seen }
+dealt v = record v { next = v.next + 1 }
 
 -- the reader that the writer makes next
 abbrev pub reader_of : View → View
@@ -81,13 +81,7 @@ reader_of v = record { shape = v.shape; me = v.next; next = 0; mine = []; seen =
 
 -- the holder after its next step, with what others did between
 abbrev pub did : View → Move → List (ℕ × Move) → View
-did v m between = record {
-  shape = v.shape;
-  me = v.me;
-  next = v.next;
-  mine = m ∷ v.mine;
-  seen = (v.me, m) ∷ (between ++ v.seen);
-}
+did v m between = record v { mine = m ∷ v.mine; seen = (v.me, m) ∷ (between ++ v.seen) }
 
 -- The holder did just this. It saw a lawful history, which goes on from what it saw before and in which its own part is
 -- what it did.

@@ -32,12 +32,7 @@ abbrev pub writer_at : Totals → MeterView
 writer_at t = meter_writer t.steps t.unlinked t.reclaimed
 
 abbrev pub meter_reader : MeterView → MeterView
-meter_reader v = record {
-  writes = false;
-  steps = v.steps;
-  unlinked = v.unlinked;
-  reclaimed = v.reclaimed;
-}
+meter_reader v = record v { writes = false }
 
 -- the writer knows what it wrote
 abbrev pub HasWrittenMeter : MeterView → List ℕ → List ℕ → MeterView → Type 0

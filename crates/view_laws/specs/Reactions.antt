@@ -21,15 +21,7 @@ use Rattle.view_laws.specs.Views.{value_read, deleted, updated, turned_view, giv
 
 -- Map k has another view.
 abbrev pub with_map : ℕ → MapView → WorldView → WorldView
-with_map k v w = record {
-  names = w.names;
-  maps = slice_set w.maps k v;
-  runs = w.runs;
-  opened = w.opened;
-  awaited = w.awaited;
-  programs = w.programs;
-  given = w.given;
-}
+with_map k v w = record w { maps = slice_set w.maps k v }
 
 abbrev pub shape_shown : Option MapView → Option MapShape
 shape_shown None = None
@@ -80,15 +72,7 @@ read_reaction w k key =
 abbrev pub advanced_by : Bool → WorldView → WorldView
 advanced_by true w = w
 advanced_by false w =
-    record {
-      names = w.names;
-      maps = map turned_view w.maps;
-      runs = w.runs;
-      opened = w.opened;
-      awaited = w.opened;
-      programs = w.programs;
-      given = w.given;
-    }
+    record w { maps = map turned_view w.maps; awaited = w.opened }
 
 abbrev pub advance_reaction : WorldView → Answer × WorldView
 advance_reaction w = (Done, advanced_by (is_any w.awaited) w)
@@ -111,13 +95,8 @@ first_pick k [] = None
 first_pick k (v ∷ vs) = or_pick v.ready k v (first_pick (suc k) vs)
 
 abbrev pub with_reaped : Pick → WorldView → WorldView
-with_reaped p w = record {
-  names = w.names;
+with_reaped p w = record w {
   maps = slice_set w.maps p.map (reaped_view p.view p.slot);
-  runs = w.runs;
-  opened = w.opened;
-  awaited = w.awaited;
-  programs = w.programs;
   given = w.given + 1;
 }
 
@@ -144,41 +123,19 @@ is_open_view (Some v) = nat_lt 0 v.depth
 -- A run slot changes: its flag tells whether its run is inside a section, and it is awaited no more
 -- where it isn't.
 abbrev pub with_run : ℕ → Option RunView → WorldView → WorldView
-with_run r v w = record {
-  names = w.names;
-  maps = w.maps;
+with_run r v w = record w {
   runs = slice_set w.runs r v;
   opened = slice_set w.opened r (is_open_view v);
   awaited = still_open w.awaited (slice_set w.opened r (is_open_view v));
-  programs = w.programs;
-  given = w.given;
 }
 
 -- A run goes through a lock or an unlock. Its words stay: r0 to r5 hold nothing after a call
 -- without a result, for which any word stands.
 abbrev pub locked_view : RunView → RunView
-locked_view v = record {
-  program = v.program;
-  context = v.context;
-  registers = v.registers;
-  frame = v.frame;
-  place = v.place + 1;
-  depth = v.depth + 1;
-  moved = v.moved + 1;
-  exit = v.exit;
-}
+locked_view v = record v { place = v.place + 1; depth = v.depth + 1; moved = v.moved + 1 }
 
 abbrev pub unlocked_view : RunView → RunView
-unlocked_view v = record {
-  program = v.program;
-  context = v.context;
-  registers = v.registers;
-  frame = v.frame;
-  place = v.place + 1;
-  depth = v.depth - 1;
-  moved = v.moved + 1;
-  exit = v.exit;
-}
+unlocked_view v = record v { place = v.place + 1; depth = v.depth - 1; moved = v.moved + 1 }
 
 -- a run before its first instruction, as a world shows it
 abbrev pub fresh_view : ℕ → List ℕ → RunView

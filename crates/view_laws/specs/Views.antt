@@ -41,16 +41,7 @@ value_read v key = value_shown v (get v.index key)
 abbrev pub retired_slot : MapView → List ℕ → Option ℕ → MapView
 retired_slot v key None = v
 retired_slot v key (Some i) =
-    record {
-      shape = v.shape;
-      slots = v.slots;
-      free = v.free;
-      index = remove v.index key;
-      next = v.next ++ i ∷ [];
-      waiting = v.waiting;
-      ready = v.ready;
-      worn = v.worn;
-    }
+    record v { index = remove v.index key; next = v.next ++ i ∷ [] }
 
 abbrev pub retired_key : MapView → List ℕ → MapView
 retired_key v key = retired_slot v key (get v.index key)
@@ -132,27 +123,9 @@ turned_view v = with_lists (turned (lists_of v)) v
 -- The first ready map slot is given back: it is the last of the free ones, or it is worn out.
 abbrev pub slot_given_back : Given → ℕ → MapView → MapView
 slot_given_back Free i v =
-    record {
-      shape = v.shape;
-      slots = v.slots;
-      free = v.free ++ i ∷ [];
-      index = v.index;
-      next = v.next;
-      waiting = v.waiting;
-      ready = drop 1 v.ready;
-      worn = v.worn;
-    }
+    record v { free = v.free ++ i ∷ []; ready = drop 1 v.ready }
 slot_given_back Worn i v =
-    record {
-      shape = v.shape;
-      slots = v.slots;
-      free = v.free;
-      index = v.index;
-      next = v.next;
-      waiting = v.waiting;
-      ready = drop 1 v.ready;
-      worn = v.worn + 1;
-    }
+    record v { ready = drop 1 v.ready; worn = v.worn + 1 }
 
 abbrev pub given_at : MapView → ℕ → Given
 given_at v i = given_of (uses_at v.slots i) (map_state_of v)

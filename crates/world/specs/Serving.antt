@@ -80,15 +80,7 @@ pub record ShowsGrace (w : WorldView) (g : GraceState) : Type 0 where
 abbrev pub world_showing : List MapView → List Bool → List Bool → ℕ → RunView → WorldView →
     WorldView
 world_showing maps opened awaited r v w =
-    record {
-      names = w.names;
-      maps = maps;
-      runs = slice_set w.runs r (Some v);
-      opened = opened;
-      awaited = awaited;
-      programs = w.programs;
-      given = w.given;
-    }
+    record w { maps = maps; runs = slice_set w.runs r (Some v); opened = opened; awaited = awaited }
 
 -- with these maps, and with the flags that these depths come to
 abbrev pub world_with : List MapView → GraceState → ℕ → RunView → WorldView → WorldView
