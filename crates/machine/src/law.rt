@@ -18,7 +18,7 @@ ghost use Rattle.machine.specs.declared.request.Local.{Local};
 ghost use Rattle.machine.specs.Regions.{IsCodeOf};
 ghost use Rattle.machine.specs.Replies.{IsOwnStep, ServesRequest};
 ghost use Rattle.machine.specs.Requests.{request_of};
-ghost use Rattle.machine.specs.Standing.{StandsBy};
+ghost use Rattle.machine.specs.Standing.{IsRunOfChecked};
 ghost use Rattle.machine.specs.Steps.{CanStep, IsLocalStep};
 
 /// A run that has not ended may step, by the code of its program: whatever it reaches lies in the
@@ -35,7 +35,7 @@ pub fn running_stands()
     ensures { (w : WorldView) (s : Schedule) → Matches w s → IsSound w s →
         (r : ℕ) (run : Run) (v : RunView) → IsRunning w s r run v →
         (program : Loaded) → slice_get w.programs v.program ≡ Some program →
-        (c : Checked) → IsCodeOf c (shapes_of w) program → StandsBy c v }
+        (c : Checked) → IsCodeOf c (shapes_of w) program → IsRunOfChecked c v }
 {}
 
 /// The world's step of an instruction that asks something is to serve the request, and to resume the run.

@@ -44,7 +44,7 @@ use Rattle.machine.specs.declared.request.Request.{Request}
 use Rattle.machine.specs.declared.request.Request.TheVariants as requests
 use Rattle.machine.specs.declared.request.Local.TheVariants as locals
 use Rattle.machine.specs.Requests.{request_of, resumed_view, kernel_request}
-use Rattle.machine.specs.Standing.{MayGive, StandsBy}
+use Rattle.machine.specs.Standing.{MayGive, IsRunOfChecked}
 use Rattle.machine.specs.Steps.{CanStep, IsLocalStep}
 use Rattle.machine.proofs.Answering.{stands}
 use Rattle.machine.proofs.AskingSo.{AsksSo, asks-so}
@@ -166,7 +166,7 @@ module _ (v : Checked) (view : RunView) (x : StandsAlone v view) where
   k = x.shown some.plan some.closed
 
   -- the run's steps may be made, and its words stand for it
-  pub standing : StandsBy v view
+  pub standing : IsRunOfChecked v view
   standing = stands v.program v.shapes v.ctx_len real some v.shapes run view x.shown
 
   pub steps : CanStep v view

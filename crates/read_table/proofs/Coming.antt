@@ -12,7 +12,7 @@ use Rattle.machine.specs.declared.request.Request.{Request}
 use Rattle.machine.specs.declared.request.Local.TheVariants.{Exit, Moved, Shared}
 use Rattle.machine.specs.Requests.{resumed_view}
 use Rattle.machine.specs.RunWords.{IsAt, RunWords}
-use Rattle.machine.specs.Standing.{Awaits, IsAnswered, IsStanding}
+use Rattle.machine.specs.Standing.{Awaits, IsAnswered, IsValidRun}
 use Rattle.machine.specs.Steps.{GoesOnTo}
 use Rattle.machine.proofs.Places.{insn_there}
 use Rattle.read_table.specs.declared.view.Move.{Move}
@@ -48,7 +48,7 @@ module _ (here : TableView) (c : Checked) (context : List ℕ) (start now : Hold
   abbrev k : TableShape
   k = here.shape
 
-  pub stands : IsStanding c r
+  pub stands : IsValidRun c r
   stands = record { at = h.at; stands = standing k c context h.moves r.view h.sharing }
 
   -- it has moved less often than its program has instructions

@@ -33,7 +33,7 @@ use Rattle.verifier.specs.Verdict.{verified_of}
 use Rattle.machine.specs.declared.request.Request.{Request}
 use Rattle.machine.specs.declared.request.Local.TheVariants as locals
 use Rattle.machine.specs.Requests.{request_of}
-use Rattle.machine.specs.Standing.{StandsBy}
+use Rattle.machine.specs.Standing.{IsRunOfChecked}
 use Rattle.machine.specs.Steps.{CanStep, IsLocalStep, MovesOn, moves as more, stays}
 use Rattle.machine.proofs.Answering.{stands}
 use Rattle.machine.proofs.AskingSo.{AsksSo, asks-so}
@@ -124,7 +124,7 @@ module _ (k : TableShape) (c : Checked) (context : List ℕ) (ms : List Move) (v
   shown = x.shown some.plan some.closed
 
   -- the run's steps may be made
-  pub standing : StandsBy c v
+  pub standing : IsRunOfChecked c v
   standing = stands c.program c.shapes c.ctx_len real some c.shapes run v x.shown
 
   pub steps : CanStep c v

@@ -13,7 +13,7 @@ ghost use Rattle.verifier.specs.Verdict.{IsJustified};
 ghost use Rattle.machine.specs.declared.request.Request.{Request};
 ghost use Rattle.machine.specs.declared.request.Local.TheVariants.{Exit, Moved, Shared};
 ghost use Rattle.machine.specs.RunWords.{IsAt, RunWords};
-ghost use Rattle.machine.specs.Standing.{StandsBy};
+ghost use Rattle.machine.specs.Standing.{IsRunOfChecked};
 ghost use Rattle.machine.specs.Steps.{MovesOn, TakesStep};
 ghost use Rattle.read_table.specs.declared.view.Move.{Move};
 ghost use Rattle.read_table.specs.declared.view.TableShape.{TableShape};
@@ -33,7 +33,7 @@ pub fn shared_run_starts()
 /// Such a run may be stepped.
 pub fn shared_run_stands()
     ensures { (k : TableShape) (c : Checked) (context : List ℕ) (ms : List Move) (v : RunView) →
-        IsSharing k c context ms v → StandsBy c v }
+        IsSharing k c context ms v → IsRunOfChecked c v }
 {}
 
 /// A move that it makes by itself leaves it such a run, of which its seat has done nothing more.

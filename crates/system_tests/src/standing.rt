@@ -1,6 +1,6 @@
 //! A run that no world serves: it is stepped by itself, and what it asks is answered by hand.
 ghost use Rattle.std.specs.Prelude.{◌≡◌, true, length};
-ghost use Rattle.machine.specs.Standing.{Awaits, IsStanding};
+ghost use Rattle.machine.specs.Standing.{Awaits, IsValidRun};
 
 use asm::assemble;
 use bpf_model::{CtxBytes, Helper, MapKind, MapShape};
@@ -42,7 +42,7 @@ struct Replies {
 /// Answers what the run asks, unless it changes a map.
 fn answer(run: &mut Run, verified: &Verified, request: Request, replies: &Replies) -> bool
     requires { Awaits verified.now request run.old }
-    ensures { result ≡ true → IsStanding verified.now run.new }
+    ensures { result ≡ true → IsValidRun verified.now run.new }
 {
     match request {
         Request::Load { .. } => run.resume(verified, u64::from(replies.number)),

@@ -62,7 +62,7 @@ use Rattle.machine.specs.declared.request.Request.{Request}
 use Rattle.machine.specs.declared.request.Request.TheVariants as requests
 use Rattle.machine.specs.Regions.{IsCodeOf}
 use Rattle.machine.specs.Requests.{request_of, entered_view, resumed_view, kernel_request}
-use Rattle.machine.specs.Standing.{MayGive, StandsBy}
+use Rattle.machine.specs.Standing.{MayGive, IsRunOfChecked}
 use Rattle.machine.proofs.Laws.{same-program}
 use Rattle.machine.proofs.Reacting.{reacts_by_insn}
 use Rattle.machine.proofs.RunningStands.{running_stands}
@@ -218,7 +218,7 @@ module _ (w : WorldView) (s : Schedule) (m : Matches w s) (sound : IsSound w s) 
 
     next-stands : (insn : Insn) (request : Request) (word : ℕ) → insn_at program.code v.place ≡ Some insn →
         request_of insn v ≡ Some request → CanServe request program.maps w.maps v →
-        IsReply request program.maps w.maps v word → StandsBy c (resumed_view insn word v)
+        IsReply request program.maps w.maps v word → IsRunOfChecked c (resumed_view insn word v)
     next-stands insn request word at-place asked can reply =
         let new = resumed_view insn word v in
         let after = (full_reaction w (events.Step r)).1 in
@@ -248,10 +248,10 @@ module _ (w : WorldView) (s : Schedule) (m : Matches w s) (sound : IsSound w s) 
         request_of insn v ≡ Some (requests.Call helper) → Gives (requests.Call helper) word
     helper-given insn Lookup word at-place asked can reply = looked-up program.maps word can reply
     helper-given insn Update word at-place asked can reply =
-        subst (StandsBy c) (returned v insn Update word asked)
+        subst (IsRunOfChecked c) (returned v insn Update word asked)
         (next-stands insn (requests.Call Update) word at-place asked can reply)
     helper-given insn Delete word at-place asked can reply =
-        subst (StandsBy c) (returned v insn Delete word asked)
+        subst (IsRunOfChecked c) (returned v insn Delete word asked)
         (next-stands insn (requests.Call Delete) word at-place asked can reply)
 
     call-given : (insn : Insn) (o : Option HelperId) (request : Request) (word : ℕ) →

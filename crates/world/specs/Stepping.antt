@@ -12,7 +12,7 @@ use Rattle.world_laws.specs.Reacting.{insn_step}
 use Rattle.machine.specs.declared.request.Request.{Request}
 use Rattle.machine.specs.Requests.{request_of}
 use Rattle.machine.specs.RunWords.{RunWords, IsAt}
-use Rattle.machine.specs.Standing.{IsStanding, MayGive}
+use Rattle.machine.specs.Standing.{IsValidRun, MayGive}
 use Rattle.machine.specs.Steps.{CanStep}
 use Rattle.world.specs.Serving.{CanServe, HasFlag, IsReply, ShowsGrace}
 use Rattle.world.specs.Serving.{world_with}
@@ -33,7 +33,7 @@ pub record CanAsk (loaded : Loaded) (maps : List MapView) (v : RunView) : Type 0
 -- what it needs is there.
 pub record CanTake (loaded : Loaded) (maps : List MapView) (g : GraceState) (r : ℕ) (run : RunWords)
     : Type 0 where
-  pub stands : IsStanding loaded.verified run
+  pub stands : IsValidRun loaded.verified run
   pub step : CanStep loaded.verified run.view
   pub ask : CanAsk loaded maps run.view
   pub flag : HasFlag g r

@@ -32,7 +32,7 @@ use Rattle.plan_laws.specs.Verified.{AreMapsBound, IsClosed, Plan}
 use Rattle.plan_laws.proofs.Arrays.{kind-there, there-kind}
 use Rattle.plan_laws.proofs.Elements.{accessible-held}
 use Rattle.world_laws.specs.Around.{regions, region_word, map_of, element_in_region, element_of, births, elements_around, store_of}
-use Rattle.world_laws.specs.Standing.{AreWords, IsSlotWord, IsNumbered, StandFor}
+use Rattle.world_laws.specs.Standing.{AreWords, IsSlotWord, IsNumbered, IsRunOf}
 use Rattle.world_laws.specs.Described.{IsShownBy, region_bases}
 use Rattle.world_laws.proofs.Contents.{get-by}
 
@@ -250,7 +250,7 @@ bound-shapes shapes maps states b = record {
       ));
 }
 
-module _ (code : List Insn) (shapes : List MapShape) (ctx_len : ℕ) (v : RunView) (h : StandFor code shapes ctx_len v) where
+module _ (code : List Insn) (shapes : List MapShape) (ctx_len : ℕ) (v : RunView) (h : IsRunOf code shapes ctx_len v) where
   abbrev es : List Element
   es = h.store.elements
 

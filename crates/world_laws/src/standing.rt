@@ -9,7 +9,7 @@ ghost use Rattle.bpf_model.specs.Step.{Moves, State, after, insn_at};
 ghost use Rattle.bpf_model.specs.View.{RunView};
 ghost use Rattle.plan_laws.specs.Verified.{AreMapsBound, IsClosed, Plan};
 ghost use Rattle.world_laws.specs.Described.{IsDescribed, IsShownBy};
-ghost use Rattle.world_laws.specs.Standing.{StandFor};
+ghost use Rattle.world_laws.specs.Standing.{IsRunOf};
 
 /// A run that starts is described by the plan, among whichever maps of the shapes that were verified.
 pub fn starts_described()
@@ -35,7 +35,7 @@ pub fn moves_described()
 /// what it may access, among maps in which each map slot that has a word has an element.
 pub fn stands_among_any()
     ensures { (code : List Insn) (shapes : List MapShape) (ctx_len : ℕ) (v : RunView) →
-        StandFor code shapes ctx_len v →
+        IsRunOf code shapes ctx_len v →
         (around : List MapShape) × (run : Run) × ((plan : Plan) →
         IsClosed code shapes ctx_len plan → IsShownBy code shapes ctx_len plan around run v) }
 {}

@@ -1,6 +1,6 @@
-use Rattle.machine.specs.Standing.{IsStanding}
+use Rattle.machine.specs.Standing.{IsValidRun}
 use Rattle.system_tests.proofs.standing.value_of.Given as goal
 
 -- the run stands
 abbrev pub invariant-loop : goal.invariant-loop
-invariant-loop l = IsStanding l.verified l.run
+invariant-loop l = IsValidRun l.verified l.run
