@@ -1,10 +1,10 @@
 -- The journal: entries that replay, as a history of the machine, from a base state in which no run
 -- slot is occupied.
-use Rattle.std.specs.Prelude.{◌≡◌, ℕ, ◌≤◌, List, length, map}
+use Rattle.std.specs.Prelude.{◌≡◌, ℕ, ◌≤◌, List, Option, None, length, map}
 use Rattle.bpf_model.specs.declared.entry.Entry.{Entry}
 use Rattle.bpf_model.specs.declared.event.Event.{Event}
 use Rattle.bpf_model.specs.declared.event.Answer.{Answer}
-use Rattle.bpf_model.specs.Machine.{Machine, AreFree}
+use Rattle.bpf_model.specs.Machine.{Machine, run_at}
 use Rattle.bpf_model.specs.Real.{AreReal}
 use Rattle.bpf_model.specs.History.{IsHistory, last_of}
 
@@ -18,6 +18,10 @@ events_of entries = map (λ e. e.event) entries
 
 abbrev pub answers_of : List Entry → List Answer
 answers_of entries = map (λ e. e.answer) entries
+
+-- no run slot is occupied, of the machine or of what a world shows of it
+abbrev pub AreFree : {A : Type 0} → List (Option A) → Type 0
+AreFree runs = (r : ℕ) → run_at runs r ≡ None
 
 -- no run slot of the machine is occupied
 abbrev pub HasNoRunsOnMachine : Machine → Type 0

@@ -4,7 +4,7 @@
 use Rattle.std.specs.Prelude.{◌≡◌, List}
 use Rattle.bpf_model.specs.declared.entry.Entry.{Entry}
 use Rattle.bpf_model.specs.Real.{AreReal}
-use Rattle.bpf_model.specs.Machine.{AreFree}
+use Rattle.bpf_model.specs.Replay.{AreFree}
 use Rattle.bpf_model.specs.Replay.{answers_of, events_of}
 use Rattle.bpf_model.specs.View.{WorldView}
 use Rattle.world_laws.specs.Reacting.{full_reactions}

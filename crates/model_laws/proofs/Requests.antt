@@ -40,7 +40,8 @@ use Rattle.bpf_model.specs.declared.call.ResultKind.TheVariants.{ElementOrNull}
 use Rattle.bpf_model.specs.Request.{Argument, MapArgument, BytesArgument, NumberArgument, Request, LoadElement}
 use Rattle.bpf_model.specs.Request.{StoreElement, CallHelper, Enter, Leave, named_map, called_shape, signature_of}
 use Rattle.bpf_model.specs.Request.{argument_of, arguments_of, load_request, store_request, section_request, asks}
-use Rattle.bpf_model.specs.Request.{extended_reply, loads, Calls, IsOfKind, ServesRequest, bound_shape}
+use Rattle.bpf_model.specs.Request.{extended_reply, loads, Calls, ServesRequest, bound_shape}
+use Rattle.model_laws.specs.Replies.{IsOfKind}
 use Rattle.bpf_model.specs.MachineStep.{Resumes, StepsAlone, StepsServed}
 use Rattle.model_laws.proofs.Computations.{first-step, then-step}
 

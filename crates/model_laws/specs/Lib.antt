@@ -8,5 +8,6 @@ pub mod Holds
 pub mod Locations
 pub mod Near
 pub mod PlainAlone
+pub mod Replies
 pub mod Scheduled
 pub mod Steps

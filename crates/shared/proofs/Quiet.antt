@@ -2,7 +2,7 @@
 use Rattle.std.proofs.Common.{◌≡◌, zero, suc, List, [], ◌∷◌, Option, Some, None, refl, sym, arith}
 use Rattle.std.specs.Prelude.{is_some, count_by}
 use Rattle.std.proofs.lemmas.Option.{none-some}
-use Rattle.bpf_model.specs.Machine.{AreFree}
+use Rattle.bpf_model.specs.Replay.{AreFree}
 use Rattle.model_laws.proofs.Tallies.{count-cons}
 use Rattle.bpf_model.specs.View.{RunView}
 

@@ -17,7 +17,8 @@ use Rattle.bpf_model.specs.Arithmetic.{loaded_signed}
 use Rattle.bpf_model.specs.Call.{helper_of, kernel_function_of}
 use Rattle.bpf_model.specs.Exit.{names_map, HasNoMaps, ExitsFrom, exits_now, exits_later, ExitsWith}
 use Rattle.bpf_model.specs.Section.{Section}
-use Rattle.bpf_model.specs.Step.{State, environment_of, Outcome, Moves, Exits, load_from, sets, after, insn_at}
+use Rattle.bpf_model.specs.Step.{State, Outcome, Moves, Exits, load_from, sets, after, insn_at}
+use Rattle.bpf_model.specs.Step.{environment_of}
 use Rattle.bpf_model.specs.MapState.{Store}
 use Rattle.bpf_model.specs.Machine.{Loaded, Run, environment, fresh_run}
 use Rattle.bpf_model.specs.MachineStep.{OutcomeStep, RunStep}
