@@ -1,12 +1,16 @@
 -- What a call or a test for null makes of states, by the laws of the known kinds.
-use Rattle.std.proofs.Common.{◌≡◌, ℕ, ◌^◌, ◌/◌, ◌<◌, List, Some, ◌⊎◌, inl, inr, refl, sym, ap, ◌∙◌, ℤ, arith, true, false}
+use Rattle.std.proofs.Common.{◌≡◌, ℕ, ◌^◌, ◌/◌, ◌<◌, List, None, Some, ◌⊎◌, inl, inr, refl, sym, ap, subst, ◌∙◌, ℤ, arith, true, false}
 use Rattle.bpf_model.specs.declared.limits.MapKind.TheVariants.{Array}
 use Rattle.bpf_model.specs.declared.limits.MapShape.{MapShape}
 use Rattle.bpf_model.specs.declared.limits.TheConstants.{MAX_DEPTH}
 use Rattle.bpf_model.specs.declared.insn.Insn.{Insn}
 use Rattle.bpf_model.specs.declared.insn.Insn.TheVariants.{Call, JumpIf}
 use Rattle.bpf_model.specs.declared.insn.CallKind.TheVariants as callee
+use Rattle.bpf_model.specs.declared.call.Helper.{Helper}
 use Rattle.bpf_model.specs.declared.call.Helper.TheVariants as helpers
+use Rattle.bpf_model.specs.declared.call.ResultKind.{ResultKind}
+use Rattle.bpf_model.specs.declared.call.ResultKind.TheVariants.{ElementOrNull, ErrorNumber}
+use Rattle.bpf_model.specs.Request.{signature_of}
 use Rattle.bpf_model.specs.declared.call.KernelFunction.TheVariants.{ReadLock, ReadUnlock}
 use Rattle.bpf_model.specs.Call.{helper_of, kernel_function_of}
 use Rattle.bpf_model.specs.declared.insn.Operand.TheVariants.{Immediate}
@@ -14,11 +18,11 @@ use Rattle.bpf_model.specs.declared.opcode.Condition.TheVariants.{Equal, NotEqua
 use Rattle.bpf_model.specs.declared.opcode.Size.TheVariants.{Word64}
 use Rattle.scalar_domain.specs.Scalar.{Holds}
 use Rattle.scalar_domain.specs.declared.scalar.Scalar.{Scalar}
-use Rattle.std.specs.Prelude.{Bool, ◌==◌, if◌then◌else◌, pos, nat_le, slice_get}
+use Rattle.std.specs.Prelude.{Bool, ◌==◌, ◌||◌, if◌then◌else◌, pos, nat_le, nat_lt, slice_get}
 use Rattle.std.proofs.lemmas.Option.{same_Some}
-use Rattle.std.proofs.lemmas.Bool.{ne_eqb, lt-leb}
+use Rattle.std.proofs.lemmas.Bool.{ne_eqb, lt-leb, lt-ltb}
 use Rattle.plan_laws.specs.Kinds.{Kind, Blank, Mixed, Ended, Num, CtxAt, FrameAt, MapAt, ValueAt, MaybeNull, CellKind, AbsState}
-use Rattle.plan_laws.specs.Effects.{after_call, after_lock, after_unlock, is_array_in, returned_kind, ended_kind, ended_cell, left_kind, left_cell, IsOther, IsOtherCell, IsFresh, HasMap, HasBytes, when_null, when_there}
+use Rattle.plan_laws.specs.Effects.{after_call, after_lock, after_unlock, is_array, has_array_shape, is_array_in, returned_kind, ended_kind, ended_cell, left_kind, left_cell, IsOther, IsOtherCell, IsFresh, HasMap, when_null, when_there}
 use Rattle.plan_laws.specs.Verified.{Transfers}
 use Rattle.plan_laws.specs.Planned.{AreAlike, number_zero, origin}
 use Rattle.plan_laws.proofs.Planning.{alike_wider, transfers_wider, origin_has, zero_holds, to_alike}
@@ -31,12 +35,13 @@ use Rattle.register_kinds.specs.declared.kind.RegKind.TheVariants as kinds
 use Rattle.register_kinds.specs.declared.kind.CellKind as classes
 use Rattle.register_kinds.specs.declared.kind.CellKind.TheVariants as class
 use Rattle.register_kinds.specs.declared.state.AbsState.{AbsState as StateHere}
+use Rattle.register_kinds.specs.declared.fault.InsnFault.TheVariants.{OutsideSection}
 use Rattle.register_kinds.specs.declared.learn.Lesson.TheVariants.{IsNull, IsThere}
 use Rattle.register_kinds.specs.States.{kind_of, cell_of, kind_at, kind_in, class_in, state_of}
 use Rattle.register_kinds.specs.Pairs.{IsBelow, AreBelow}
 use Rattle.register_kinds.specs.Changes.{learnt}
 use Rattle.effects.specs.Forks.{ForksOnNull}
-use Rattle.effects.specs.Calls.{PerformsCall, MayLookUp, is_array_of, KeepsOwnNumbers}
+use Rattle.effects.specs.Calls.{PerformsCall, MayLookUp, is_array_of, helper_fault, AreArguments, IsResult, KeepsOwnNumbers}
 
 -- a jump where the register is equal to 0, or where it is not
 abbrev null_jump : Bool → ℕ → ℤ → Insn
@@ -88,20 +93,42 @@ inside_or_array shapes a map shape m (inr x) =
     let here : y.0 ≡ shape = same_Some y.0 shape (sym y.1 ∙ (ap (slice_get shapes) same ∙ m.shape_is)) in
     inr (ap (λ (s : MapShape). s.kind) (sym here) ∙ y.2)
 
-pub lookup_sound : (a b : StateHere) (shapes : List MapShape) (map id : ℕ) (shape : MapShape) → MayLookUp shapes (state_of a) → HasMap shapes (state_of a) map shape → HasBytes (state_of a) 2 shape.key_len → AreBelow id a → AreAlike (after_call (MaybeNull map id) (state_of a)) (state_of b) →
-    (imm : ℤ) → helper_of imm ≡ Some helpers.Lookup → PerformsCall callee.Helper imm shapes a b
-lookup_sound a b shapes map id shape may m key below e imm f ctx_len =
-    to_alike (Call callee.Helper imm) shapes ctx_len (state_of a) (after_call (MaybeNull map id) (state_of a)) (state_of b) e (lookup_transfers imm shapes ctx_len (state_of a) map id shape f (inside_or_array shapes (state_of a) map shape m may) m key (untaken_fresh id a below))
+-- what a helper leaves in r0, by the kind of its result
+abbrev pub IsLeft : ResultKind → ℕ → ℕ → RegKind → Type 0
+IsLeft kind map id k =
+    (kind ≡ ElementOrNull → k ≡ kinds.MaybeNull map id) × (kind ≡ ErrorNumber → (s : Scalar) × (k ≡ kinds.Num s) × ((n : ℕ) → n < 2 ^ 64 → Holds s n))
 
-pub update_sound : (a b : StateHere) (shapes : List MapShape) (map : ℕ) (shape : MapShape) (t q : Scalar) → ((n : ℕ) → n < 2 ^ 64 → Holds t n) → HasMap shapes (state_of a) map shape → HasBytes (state_of a) 2 shape.key_len → HasBytes (state_of a) 3 shape.value_len →
-    kind_in a.regs 4 ≡ kinds.Num q → AreAlike (after_call (Num t) (state_of a)) (state_of b) → (imm : ℤ) → helper_of imm ≡ Some helpers.Update → PerformsCall callee.Helper imm shapes a b
-update_sound a b shapes map shape t q all m key value flags e imm f ctx_len =
-    to_alike (Call callee.Helper imm) shapes ctx_len (state_of a) (after_call (Num t) (state_of a)) (state_of b) e (update_transfers imm shapes ctx_len (state_of a) map shape t all m key value q (ap kind_of flags) f)
+-- each helper transfers where its arguments are those of its signature
+helper-transfers : (helper : Helper) (imm : ℤ) (shapes : List MapShape) (ctx_len : ℕ) (a : AbsState) (map id : ℕ) (shape : MapShape) (k : RegKind) → ((signature_of helper).result ≡ ElementOrNull → MayLookUp shapes a) → HasMap shapes a map shape → AreArguments shapes a shape (signature_of helper).arguments 1 →
+    IsFresh id a → IsLeft (signature_of helper).result map id k → helper_of imm ≡ Some helper → Transfers (Call callee.Helper imm) shapes ctx_len a (after_call (kind_of k) a) None
+helper-transfers helpers.Lookup imm shapes ctx_len a map id shape k may m args fresh left f =
+    subst (λ (x : RegKind). Transfers (Call callee.Helper imm) shapes ctx_len a (after_call (kind_of x) a) None) (sym (left.0 refl)) (lookup_transfers imm shapes ctx_len a map id shape f (inside_or_array shapes a map shape m (may refl)) m args.1.0 fresh)
+helper-transfers helpers.Update imm shapes ctx_len a map id shape k may m args fresh left f =
+    let t = left.1 refl in
+    let flags = args.1.1.1.0 in
+    subst (λ (x : RegKind). Transfers (Call callee.Helper imm) shapes ctx_len a (after_call (kind_of x) a) None) (sym t.1) (update_transfers imm shapes ctx_len a map shape t.0 t.2 m args.1.0 args.1.1.0 flags.0 flags.1 f)
+helper-transfers helpers.Delete imm shapes ctx_len a map id shape k may m args fresh left f =
+    let t = left.1 refl in
+    subst (λ (x : RegKind). Transfers (Call callee.Helper imm) shapes ctx_len a (after_call (kind_of x) a) None) (sym t.1) (delete_transfers imm shapes ctx_len a map shape t.0 t.2 m args.1.0 f)
 
-pub delete_sound : (a b : StateHere) (shapes : List MapShape) (map : ℕ) (shape : MapShape) (t : Scalar) → ((n : ℕ) → n < 2 ^ 64 → Holds t n) → HasMap shapes (state_of a) map shape → HasBytes (state_of a) 2 shape.key_len →
-    AreAlike (after_call (Num t) (state_of a)) (state_of b) → (imm : ℤ) → helper_of imm ≡ Some helpers.Delete → PerformsCall callee.Helper imm shapes a b
-delete_sound a b shapes map shape t all m key e imm f ctx_len =
-    to_alike (Call callee.Helper imm) shapes ctx_len (state_of a) (after_call (Num t) (state_of a)) (state_of b) e (delete_transfers imm shapes ctx_len (state_of a) map shape t all m key f)
+pub helper_sound : (helper : Helper) (a b : StateHere) (shapes : List MapShape) (map id : ℕ) (shape : MapShape) (k : RegKind) → ((signature_of helper).result ≡ ElementOrNull → MayLookUp shapes (state_of a)) → HasMap shapes (state_of a) map shape → AreArguments shapes (state_of a) shape (signature_of helper).arguments 1 →
+    AreBelow id a → IsLeft (signature_of helper).result map id k → AreAlike (after_call (kind_of k) (state_of a)) (state_of b) → (imm : ℤ) → helper_of imm ≡ Some helper → PerformsCall callee.Helper imm shapes a b
+helper_sound helper a b shapes map id shape k may m args below left e imm f ctx_len =
+    to_alike (Call callee.Helper imm) shapes ctx_len (state_of a) (after_call (kind_of k) (state_of a)) (state_of b) e (helper-transfers helper imm shapes ctx_len (state_of a) map id shape k may m args (untaken_fresh id a below) left f)
+
+pub left_result : (kind : ResultKind) (map id : ℕ) (k : RegKind) (x : Kind) → IsLeft kind map id k → x ≡ kind_of k → IsResult kind x
+left_result ElementOrNull map id k x left e = (map, id, e ∙ ap kind_of (left.0 refl))
+left_result ErrorNumber map id k x left e = let t = left.1 refl in (t.0, e ∙ ap kind_of t.1)
+
+-- a lookup inside a section, or in an array, passes the section test
+pub lookup_inside : (shapes : List MapShape) (a : AbsState) (map : ℕ) (shape : MapShape) → (0 < a.depth) ⊎ (shape.kind ≡ Array) → a.regs 1 ≡ MapAt map → slice_get shapes map ≡ Some shape → helper_fault (Some helpers.Lookup) shapes a ≡ None
+lookup_inside shapes a map shape (inl into) is at = ap (λ (b : Bool). if b || is_array_of shapes (a.regs 1) then None else Some OutsideSection) (lt-ltb 0 a.depth into)
+lookup_inside shapes a map shape (inr array) is at =
+    ap (λ (b : Bool). if nat_lt 0 a.depth || b then None else Some OutsideSection) (ap (is_array_of shapes) is ∙ (ap has_array_shape at ∙ ap is_array array)) ∙ by (nat_lt 0 a.depth)
+  where
+    by : (b : Bool) → (if b || true then None else Some OutsideSection) ≡ None
+    by true = refl
+    by false = refl
 
 -- a test for null leads to two states: there the element is, and there it is null
 pub null_jumps : (a b taken : StateHere) (id dst map : ℕ) → AreAlike (learnt (IsThere id) (state_of a)) (state_of b) → AreAlike (learnt (IsNull id) (state_of a)) (state_of taken) → kind_in a.regs dst ≡ kinds.MaybeNull map id → ForksOnNull true dst a b taken

@@ -8,3 +8,4 @@ pub mod Known
 pub mod Numbers
 pub mod Branches
 pub mod CallLaws
+pub mod ArgumentLaws

@@ -1,19 +1,21 @@
 //! Lookup, update and delete; lock and unlock.
-ghost use Rattle.std.specs.Prelude.{◌≡◌, ℕ, IfSome, Err, IsOk, slice_get, ◌+◌, ◌^◌, ◌<◌, ◌⊎◌, OnOk, OnErr, Some, List, ℤ};
+ghost use Rattle.std.specs.Prelude.{◌≡◌, ℕ, IfSome, None, Err, IsOk, slice_get, ◌+◌, ◌^◌, ◌<◌, ◌⊎◌, OnOk, OnErr, Some, List, ℤ};
 ghost use Rattle.bpf_model.specs.Call.{helper_of, kernel_function_of};
 ghost use Rattle.bpf_model.specs.declared.limits.MapKind.{MapKind};
 ghost use Rattle.bpf_model.specs.declared.limits.MapShape.{MapShape};
+ghost use Rattle.bpf_model.specs.Request.{signature_of};
+ghost use Rattle.scalar_domain.specs.Scalar.{Holds};
 ghost use Rattle.scalar_domain.specs.declared.scalar.Scalar.{Scalar};
-ghost use Rattle.register_kinds.specs.States.{kind_at, kind_in, state_of};
-ghost use Rattle.register_kinds.specs.Pairs.{AreBelow, TakesFew};
+ghost use Rattle.register_kinds.specs.States.{kind_at, kind_in, kind_of, state_of};
+ghost use Rattle.register_kinds.specs.Pairs.{IsBelow, AreBelow, TakesFew};
 ghost use Rattle.plan_laws.specs.Effects.{HasBytes, after_lock, after_unlock};
 ghost use Rattle.plan_laws.specs.Planned.{AreAlike};
 ghost use Rattle.bpf_model.specs.declared.call.Helper.{Helper as HelperId};
-ghost use Rattle.effects.specs.Calls.{PerformsCall, FindsIn, GoesBySignature, MayLookUp, is_array_of, helper_fault, kernel_fault, section_fault, outcome_of, Called, KeepsOwnNumbers};
+ghost use Rattle.effects.specs.Calls.{PerformsCall, FindsIn, AreArguments, GoesBySignature, MayLookUp, is_array_of, helper_fault, kernel_fault, section_fault, outcome_of, Called, KeepsOwnNumbers};
 
-use crate::arguments::{called_map, check_bytes_argument};
-use bpf_model::{CallKind, Helper, KernelFunction, MAX_DEPTH, MapShape, Reg};
-use register_kinds::{AbsState, Identities, InsnFault, RegKind, is_array, number_argument};
+use crate::arguments::check_arguments;
+use bpf_model::{CallKind, Helper, KernelFunction, MAX_DEPTH, MapShape, Reg, ResultKind};
+use register_kinds::{AbsState, Identities, InsnFault, RegKind, is_array};
 use scalar_domain::Scalar;
 
 /// A lock. Error: `UnpairedSection` where `MAX_DEPTH` are open.
@@ -65,89 +67,71 @@ fn is_array_argument(state: &AbsState, shapes: &[MapShape]) -> bool
     }
 }
 
-/// A lookup is made inside a section, or in an array.
-fn check_inside(state: &AbsState, shapes: &[MapShape]) -> Result<(), InsnFault>
-    ensures may { OnOk result (MayLookUp shapes.now (state_of state.now)) }
+/// The section test of a helper: one that gives an element is called inside a section, or with an array.
+fn check_inside(helper: Helper, state: &AbsState, shapes: &[MapShape]) -> Result<(), InsnFault>
+    ensures may { OnOk result ((signature_of helper).result ≡ ResultKind.ElementOrNull
+        → MayLookUp shapes.now (state_of state.now)) }
     ensures result { result
-        ≡ outcome_of (helper_fault (Some Helper.Lookup) shapes.now (state_of state.now)) }
+        ≡ outcome_of (helper_fault (Some helper) shapes.now (state_of state.now)) }
 {
-    if state.depth == 0 && !is_array_argument(state, shapes) {
+    let gives_element = helper.result() == ResultKind::ElementOrNull;
+    if gives_element && state.depth == 0 && !is_array_argument(state, shapes) {
         return Err(InsnFault::OutsideSection);
     }
     Ok(())
 }
 
-/// A lookup: r0 may be null, with an identity of its own. Errors, in this order: `OutsideSection`
-/// outside every section, unless r1 is an array of the list; those of the map, those of the key.
-fn lookup(state: &mut AbsState, shapes: &[MapShape], ids: &mut Identities) -> Result<(), InsnFault>
+/// What a helper leaves in r0: what may be null or an element of the map has an identity of its own.
+fn returned(kind: ResultKind, map: u32, ids: &mut Identities) -> RegKind
+    requires room { ids.old.next + 1 < 2 ^ 32 }
+    ensures element { kind ≡ ResultKind.ElementOrNull
+        → result ≡ RegKind.MaybeNull map ids.old.next }
+    ensures number { kind ≡ ResultKind.ErrorNumber
+        → (s : Scalar) × (result ≡ RegKind.Num s) × ((n : ℕ) → n < 2 ^ 64 → Holds s n) }
+    ensures below { IsBelow ids.new.next (kind_of result) }
+    ensures few { TakesFew 1 ids.old.next ids.new.next }
+{
+    match kind {
+        ResultKind::ElementOrNull => {
+            let id = ids.next;
+            ids.next += 1;
+            RegKind::MaybeNull { map, id }
+        }
+        ResultKind::ErrorNumber => RegKind::Num(Scalar::unknown()),
+    }
+}
+
+/// A call by a helper's signature. Errors, in this order: `OutsideSection`; those of the arguments, from r1 on.
+fn call_by_signature(
+    state: &mut AbsState,
+    helper: Helper,
+    shapes: &[MapShape],
+    ids: &mut Identities,
+) -> Result<(), InsnFault>
     requires room { ids.old.next + 1 < 2 ^ 32 }
     requires below { AreBelow ids.old.next state.old }
-    ensures sound { OnOk result ((imm : ℤ) → helper_of imm ≡ Some Helper.Lookup
+    ensures sound { OnOk result ((imm : ℤ) → helper_of imm ≡ Some helper
         → PerformsCall CallKind.Helper imm shapes.now state.old state.new) }
-    ensures first { IfSome (helper_fault (Some Helper.Lookup) shapes.now (state_of state.old))
+    ensures first { IfSome (helper_fault (Some helper) shapes.now (state_of state.old))
         (λ e. result ≡ Err e) }
-    ensures accepts { (map : ℕ) (shape : MapShape)
-        → (0 < state.old.depth) ⊎ (shape.kind ≡ MapKind.Array)
-        → kind_in state.old.regs 1 ≡ RegKind.Map map
-        → slice_get shapes.now map ≡ Some shape → HasBytes (state_of state.old) 2 shape.key_len
+    ensures accepts { (shape : MapShape)
+        → helper_fault (Some helper) shapes.now (state_of state.old) ≡ None
+        → AreArguments shapes.now (state_of state.old) shape (signature_of helper).arguments 1
         → IsOk result }
-    ensures finds { OnOk result ((map : ℕ) → kind_in state.old.regs 1 ≡ RegKind.Map map
-        → FindsIn map state.old state.new) }
-    ensures signature { OnOk result (GoesBySignature Helper.Lookup shapes.now
+    ensures finds { OnOk result ((map : ℕ)
+        → (signature_of helper).result ≡ ResultKind.ElementOrNull
+        → kind_in state.old.regs 1 ≡ RegKind.Map map → FindsIn map state.old state.new) }
+    ensures signature { OnOk result (GoesBySignature helper shapes.now
         (state_of state.old) (state_of state.new)) }
     ensures others { OnOk result (KeepsOwnNumbers (state_of state.old) (state_of state.new)) }
     ensures below { AreBelow ids.new.next state.new }
     ensures few { TakesFew 1 ids.old.next ids.new.next }
     ensures unchanged { OnErr result (state.new ≡ state.old) }
 {
-    check_inside(state, shapes)?;
-    let (map, shape) = called_map(state, shapes)?;
-    check_bytes_argument(state, Reg::R2, shape.key_len)?;
-    let id = ids.next;
-    ids.next += 1;
-    state.leave_call(RegKind::MaybeNull { map, id });
-    Ok(())
-}
-
-/// An update. Errors, in this order: those of the map, of the key, of the value, of the flags.
-fn update(state: &mut AbsState, shapes: &[MapShape]) -> Result<(), InsnFault>
-    ensures sound { OnOk result ((imm : ℤ) → helper_of imm ≡ Some Helper.Update
-        → PerformsCall CallKind.Helper imm shapes.now state.old state.new) }
-    ensures accepts { (map : ℕ) (shape : MapShape) (q : Scalar)
-        → kind_in state.old.regs 1 ≡ RegKind.Map map → slice_get shapes.now map ≡ Some shape
-        → HasBytes (state_of state.old) 2 shape.key_len
-        → HasBytes (state_of state.old) 3 shape.value_len
-        → kind_in state.old.regs 4 ≡ RegKind.Num q → IsOk result }
-    ensures signature { OnOk result (GoesBySignature Helper.Update shapes.now
-        (state_of state.old) (state_of state.new)) }
-    ensures others { OnOk result (KeepsOwnNumbers (state_of state.old) (state_of state.new)) }
-    ensures below { (top : ℕ) → AreBelow top state.old → AreBelow top state.new }
-    ensures unchanged { OnErr result (state.new ≡ state.old) }
-{
-    let (_, shape) = called_map(state, shapes)?;
-    check_bytes_argument(state, Reg::R2, shape.key_len)?;
-    check_bytes_argument(state, Reg::R3, shape.value_len)?;
-    let _flags = number_argument(state, Reg::R4)?;
-    state.leave_call(RegKind::Num(Scalar::unknown()));
-    Ok(())
-}
-
-/// A delete. Errors, in this order: those of the map, of the key.
-fn delete(state: &mut AbsState, shapes: &[MapShape]) -> Result<(), InsnFault>
-    ensures sound { OnOk result ((imm : ℤ) → helper_of imm ≡ Some Helper.Delete
-        → PerformsCall CallKind.Helper imm shapes.now state.old state.new) }
-    ensures accepts { (map : ℕ) (shape : MapShape) → kind_in state.old.regs 1 ≡ RegKind.Map map
-        → slice_get shapes.now map ≡ Some shape → HasBytes (state_of state.old) 2 shape.key_len
-        → IsOk result }
-    ensures signature { OnOk result (GoesBySignature Helper.Delete shapes.now
-        (state_of state.old) (state_of state.new)) }
-    ensures others { OnOk result (KeepsOwnNumbers (state_of state.old) (state_of state.new)) }
-    ensures below { (top : ℕ) → AreBelow top state.old → AreBelow top state.new }
-    ensures unchanged { OnErr result (state.new ≡ state.old) }
-{
-    let (_, shape) = called_map(state, shapes)?;
-    check_bytes_argument(state, Reg::R2, shape.key_len)?;
-    state.leave_call(RegKind::Num(Scalar::unknown()));
+    check_inside(helper, state, shapes)?;
+    let map = check_arguments(state, helper, shapes)?;
+    let r0 = returned(helper.result(), map, ids);
+    state.leave_call(r0);
     Ok(())
 }
 
@@ -180,10 +164,9 @@ fn call_helper(
     ensures sound { OnOk result (PerformsCall CallKind.Helper imm shapes.now state.old state.new) }
     ensures first { IfSome (helper_fault (helper_of imm) shapes.now (state_of state.old))
         (λ e. result ≡ Err e) }
-    ensures accepts_lookup { (map : ℕ) (shape : MapShape) → helper_of imm ≡ Some Helper.Lookup
-        → (0 < state.old.depth) ⊎ (shape.kind ≡ MapKind.Array)
-        → kind_in state.old.regs 1 ≡ RegKind.Map map
-        → slice_get shapes.now map ≡ Some shape → HasBytes (state_of state.old) 2 shape.key_len
+    ensures accepts { (helper : HelperId) (shape : MapShape) → helper_of imm ≡ Some helper
+        → helper_fault (Some helper) shapes.now (state_of state.old) ≡ None
+        → AreArguments shapes.now (state_of state.old) shape (signature_of helper).arguments 1
         → IsOk result }
     ensures finds { OnOk result ((map : ℕ) → helper_of imm ≡ Some Helper.Lookup
         → kind_in state.old.regs 1 ≡ RegKind.Map map → FindsIn map state.old state.new) }
@@ -195,9 +178,7 @@ fn call_helper(
     ensures unchanged { OnErr result (state.new ≡ state.old) }
 {
     match Helper::from_number(imm) {
-        Some(Helper::Lookup) => lookup(state, shapes, ids),
-        Some(Helper::Update) => update(state, shapes),
-        Some(Helper::Delete) => delete(state, shapes),
+        Some(helper) => call_by_signature(state, helper, shapes, ids),
         None => Err(InsnFault::UnknownCall),
     }
 }

@@ -1,11 +1,13 @@
-use Rattle.std.proofs.Common.{◌≡◌, Some, subst, sym, ℤ, w32}
+use Rattle.std.proofs.Common.{◌≡◌, Some, subst, sym, ap, ℤ, w32}
 use Rattle.bpf_model.specs.Call.{helper_of}
 use Rattle.bpf_model.specs.declared.call.Helper.TheVariants.{Lookup}
 use Rattle.std.proofs.lemmas.Int.{to_z-of_z}
 use Rattle.std.proofs.lemmas.Result.{on_ok_weaker}
 use Rattle.bpf_model.specs.declared.insn.CallKind.{CallKind}
 use Rattle.bpf_model.specs.declared.insn.CallKind.TheVariants as callee
+use Rattle.register_kinds.specs.States.{kind_of, state_of}
 use Rattle.effects.specs.Calls.{PerformsCall}
+use Rattle.effects.proofs.CallLaws.{lookup_inside}
 use Rattle.effects.proofs.calls.call.Goals as goal
 
 pub returns-in-Kernel-clause-sound : goal.returns-in-Kernel-clause-sound
@@ -19,8 +21,8 @@ returns-in-Helper-clause-sound c = on_ok_weaker c.call_helper.result
     (subst (λ (z : ℤ). PerformsCall callee.Helper z c.args.shapes.now c.args.state.now c.call_helper.new.state) (to_z-of_z w32 c.args.imm c.ranges.imm) e)) c.call_helper.ensures.sound
 
 pub returns-in-Helper-clause-accepts_lookup : goal.returns-in-Helper-clause-accepts_lookup
-returns-in-Helper-clause-accepts_lookup c = λ map shape kind is into key at bytes. c.call_helper.ensures.accepts_lookup map shape
-    (subst (λ (z : ℤ). helper_of z ≡ Some Lookup) (sym (to_z-of_z w32 c.args.imm c.ranges.imm)) is) into key at bytes
+returns-in-Helper-clause-accepts_lookup c = λ map shape kind is into key at bytes. c.call_helper.ensures.accepts Lookup shape
+    (subst (λ (z : ℤ). helper_of z ≡ Some Lookup) (sym (to_z-of_z w32 c.args.imm c.ranges.imm)) is) (lookup_inside c.args.shapes.now (state_of c.args.state.now) map shape into (ap kind_of key) at) ((map, ap kind_of key, at), (bytes, tt))
 
 pub returns-in-Helper-clause-signature : goal.returns-in-Helper-clause-signature
 returns-in-Helper-clause-signature c = on_ok_weaker c.call_helper.result
