@@ -9,7 +9,8 @@ use Rattle.plan_laws.specs.Kinds.{AbsState}
 use Rattle.effects.specs.Calls.{IsArgument, AreArguments}
 
 -- those from one on are it and those behind it
-module _ (shapes : List MapShape) (a : AbsState) (shape : MapShape) (kinds : List ArgumentKind) (i : ℕ) (default : ArgumentKind) (within : i < length kinds) where
+module _ (shapes : List MapShape) (a : AbsState) (shape : MapShape) (kinds : List ArgumentKind) (i : ℕ)
+    (default : ArgumentKind) (within : i < length kinds) where
   next : suc i ≡ i + 1
   next = omega arith
 
@@ -19,8 +20,15 @@ module _ (shapes : List MapShape) (a : AbsState) (shape : MapShape) (kinds : Lis
   split : drop i kinds ≡ get_or kinds i default ∷ drop (i + 1) kinds
   split = drop-next kinds i (get_or kinds i default) (slice_get-get_or kinds i default within) ∙ ap (λ (n : ℕ). get_or kinds i default ∷ drop n kinds) next
 
-  pub from_next : IsArgument shapes a shape (get_or kinds i default) (1 + i) → AreArguments shapes a shape (drop (i + 1) kinds) (1 + (i + 1)) → AreArguments shapes a shape (drop i kinds) (1 + i)
-  from_next x xs = subst (λ (k : List ArgumentKind). AreArguments shapes a shape k (1 + i)) (sym split) (x, subst (AreArguments shapes a shape (drop (i + 1) kinds)) (sym next-register) xs)
+  pub from_next : IsArgument shapes a shape (get_or kinds i default) (1 + i) →
+      AreArguments shapes a shape (drop (i + 1) kinds) (1 + (i + 1)) →
+      AreArguments shapes a shape (drop i kinds) (1 + i)
+  from_next x xs = subst (λ (k : List ArgumentKind). AreArguments shapes a shape k (1 + i)) (sym split)
+      (x, subst (AreArguments shapes a shape (drop (i + 1) kinds)) (sym next-register) xs)
 
-  pub to_next : AreArguments shapes a shape (drop i kinds) (1 + i) → IsArgument shapes a shape (get_or kinds i default) (1 + i) × AreArguments shapes a shape (drop (i + 1) kinds) (1 + (i + 1))
-  to_next xs = let both : AreArguments shapes a shape (get_or kinds i default ∷ drop (i + 1) kinds) (1 + i) = subst (λ (k : List ArgumentKind). AreArguments shapes a shape k (1 + i)) split xs in (both.0, subst (AreArguments shapes a shape (drop (i + 1) kinds)) next-register both.1)
+  pub to_next : AreArguments shapes a shape (drop i kinds) (1 + i) →
+      IsArgument shapes a shape (get_or kinds i default) (1 + i) ×
+      AreArguments shapes a shape (drop (i + 1) kinds) (1 + (i + 1))
+  to_next xs = let both : AreArguments shapes a shape (get_or kinds i default ∷ drop (i + 1) kinds) (1 + i) =
+      subst (λ (k : List ArgumentKind). AreArguments shapes a shape k (1 + i)) split
+      xs in (both.0, subst (AreArguments shapes a shape (drop (i + 1) kinds)) next-register both.1)

@@ -22,7 +22,9 @@ use Rattle.std.specs.Prelude.{Bool, ◌==◌, ◌||◌, if◌then◌else◌, pos
 use Rattle.std.proofs.lemmas.Option.{same_Some}
 use Rattle.std.proofs.lemmas.Bool.{ne_eqb, lt-leb, lt-ltb}
 use Rattle.plan_laws.specs.Kinds.{Kind, Blank, Mixed, Ended, Num, CtxAt, FrameAt, MapAt, ValueAt, MaybeNull, CellKind, AbsState}
-use Rattle.plan_laws.specs.Effects.{after_call, after_lock, after_unlock, is_array, has_array_shape, is_array_in, returned_kind, ended_kind, ended_cell, left_kind, left_cell, IsOther, IsOtherCell, IsFresh, HasMap, when_null, when_there}
+use Rattle.plan_laws.specs.Effects.{after_call, after_lock, after_unlock, is_array, has_array_shape, is_array_in}
+use Rattle.plan_laws.specs.Effects.{returned_kind, ended_kind, ended_cell, left_kind, left_cell, IsOther, IsOtherCell}
+use Rattle.plan_laws.specs.Effects.{IsFresh, HasMap, when_null, when_there}
 use Rattle.plan_laws.specs.Verified.{Transfers}
 use Rattle.plan_laws.specs.Planned.{AreAlike, number_zero, origin}
 use Rattle.plan_laws.proofs.Planning.{alike_wider, transfers_wider, origin_has, zero_holds, to_alike}
@@ -47,14 +49,21 @@ use Rattle.effects.specs.Calls.{PerformsCall, MayLookUp, is_array_of, helper_fau
 abbrev null_jump : Bool → ℕ → ℤ → Insn
 null_jump equal dst offset = JumpIf (if equal then Equal else NotEqual) Word64 dst (Immediate (pos 0)) offset
 
-to-both : (i : Insn) (shapes : List MapShape) (ctx_len : ℕ) (a b c x y : AbsState) → AreAlike b c → AreAlike x y → Transfers i shapes ctx_len a b (Some x) → Transfers i shapes ctx_len a c (Some y)
+to-both : (i : Insn) (shapes : List MapShape) (ctx_len : ℕ) (a b c x y : AbsState) → AreAlike b c → AreAlike x y →
+    Transfers i shapes ctx_len a b (Some x) → Transfers i shapes ctx_len a c (Some y)
 to-both i shapes ctx_len a b c x y e f t = transfers_wider i shapes ctx_len a a b c (Some x) (Some y) (λ c m d. d) (alike_wider b c e) (alike_wider x y f) t
 
-pub lock_sound : (a b : StateHere) → a.depth < MAX_DEPTH → AreAlike (after_lock (state_of a)) (state_of b) → (imm : ℤ) (shapes : List MapShape) → kernel_function_of imm ≡ Some ReadLock → PerformsCall callee.Kernel imm shapes a b
-lock_sound a b out e imm shapes f ctx_len = to_alike (Call callee.Kernel imm) shapes ctx_len (state_of a) (after_lock (state_of a)) (state_of b) e (lock_transfers imm shapes ctx_len (state_of a) f out)
+pub lock_sound : (a b : StateHere) → a.depth < MAX_DEPTH → AreAlike (after_lock (state_of a)) (state_of b) →
+    (imm : ℤ) (shapes : List MapShape) → kernel_function_of imm ≡ Some ReadLock →
+    PerformsCall callee.Kernel imm shapes a b
+lock_sound a b out e imm shapes f ctx_len = to_alike (Call callee.Kernel imm) shapes ctx_len (state_of a)
+    (after_lock (state_of a)) (state_of b) e (lock_transfers imm shapes ctx_len (state_of a) f out)
 
-pub unlock_sound : (a b : StateHere) (shapes : List MapShape) → 0 < a.depth → AreAlike (after_unlock shapes (state_of a)) (state_of b) → (imm : ℤ) → kernel_function_of imm ≡ Some ReadUnlock → PerformsCall callee.Kernel imm shapes a b
-unlock_sound a b shapes into e imm f ctx_len = to_alike (Call callee.Kernel imm) shapes ctx_len (state_of a) (after_unlock shapes (state_of a)) (state_of b) e (unlock_transfers imm shapes ctx_len (state_of a) f into)
+pub unlock_sound : (a b : StateHere) (shapes : List MapShape) → 0 < a.depth →
+    AreAlike (after_unlock shapes (state_of a)) (state_of b) → (imm : ℤ) → kernel_function_of imm ≡ Some ReadUnlock →
+    PerformsCall callee.Kernel imm shapes a b
+unlock_sound a b shapes into e imm f ctx_len = to_alike (Call callee.Kernel imm) shapes ctx_len (state_of a)
+    (after_unlock shapes (state_of a)) (state_of b) e (unlock_transfers imm shapes ctx_len (state_of a) f into)
 
 -- an identity that isn't taken is nowhere
 other-below : (top : ℕ) (k : Kind) → IsBelow top k → IsOther top k
@@ -85,7 +94,8 @@ untaken_fresh top a b = record {
 same-map : (a b : ℕ) → MapAt a ≡ MapAt b → a ≡ b
 same-map a b e = cc
 
-inside_or_array : (shapes : List MapShape) (a : AbsState) (map : ℕ) (shape : MapShape) → HasMap shapes a map shape → MayLookUp shapes a → (0 < a.depth) ⊎ (shape.kind ≡ Array)
+inside_or_array : (shapes : List MapShape) (a : AbsState) (map : ℕ) (shape : MapShape) → HasMap shapes a map shape →
+    MayLookUp shapes a → (0 < a.depth) ⊎ (shape.kind ≡ Array)
 inside_or_array shapes a map shape m (inl into) = inl into
 inside_or_array shapes a map shape m (inr x) =
     let same : x.0 ≡ map = same-map x.0 map (sym x.1 ∙ m.map_is) in
@@ -99,51 +109,76 @@ IsLeft kind map id k =
     (kind ≡ ElementOrNull → k ≡ kinds.MaybeNull map id) × (kind ≡ ErrorNumber → (s : Scalar) × (k ≡ kinds.Num s) × ((n : ℕ) → n < 2 ^ 64 → Holds s n))
 
 -- each helper transfers where its arguments are those of its signature
-helper-transfers : (helper : Helper) (imm : ℤ) (shapes : List MapShape) (ctx_len : ℕ) (a : AbsState) (map id : ℕ) (shape : MapShape) (k : RegKind) → ((signature_of helper).result ≡ ElementOrNull → MayLookUp shapes a) → HasMap shapes a map shape → AreArguments shapes a shape (signature_of helper).arguments 1 →
-    IsFresh id a → IsLeft (signature_of helper).result map id k → helper_of imm ≡ Some helper → Transfers (Call callee.Helper imm) shapes ctx_len a (after_call (kind_of k) a) None
+helper-transfers : (helper : Helper) (imm : ℤ) (shapes : List MapShape) (ctx_len : ℕ) (a : AbsState) (map id : ℕ)
+    (shape : MapShape) (k : RegKind) → ((signature_of helper).result ≡ ElementOrNull → MayLookUp shapes a) →
+    HasMap shapes a map shape → AreArguments shapes a shape (signature_of helper).arguments 1 →
+    IsFresh id a → IsLeft (signature_of helper).result map id k → helper_of imm ≡ Some helper →
+    Transfers (Call callee.Helper imm) shapes ctx_len a (after_call (kind_of k) a) None
 helper-transfers helpers.Lookup imm shapes ctx_len a map id shape k may m args fresh left f =
-    subst (λ (x : RegKind). Transfers (Call callee.Helper imm) shapes ctx_len a (after_call (kind_of x) a) None) (sym (left.0 refl)) (lookup_transfers imm shapes ctx_len a map id shape f (inside_or_array shapes a map shape m (may refl)) m args.1.0 fresh)
+    subst (λ (x : RegKind). Transfers (Call callee.Helper imm) shapes ctx_len a (after_call (kind_of x) a) None)
+    (sym (left.0 refl)) (lookup_transfers imm shapes ctx_len a map id shape f
+    (inside_or_array shapes a map shape m (may refl)) m args.1.0 fresh)
 helper-transfers helpers.Update imm shapes ctx_len a map id shape k may m args fresh left f =
     let t = left.1 refl in
     let flags = args.1.1.1.0 in
-    subst (λ (x : RegKind). Transfers (Call callee.Helper imm) shapes ctx_len a (after_call (kind_of x) a) None) (sym t.1) (update_transfers imm shapes ctx_len a map shape t.0 t.2 m args.1.0 args.1.1.0 flags.0 flags.1 f)
+    subst (λ (x : RegKind). Transfers (Call callee.Helper imm) shapes ctx_len a (after_call (kind_of x) a) None)
+    (sym t.1) (update_transfers imm shapes ctx_len a map shape t.0 t.2 m args.1.0 args.1.1.0 flags.0 flags.1 f)
 helper-transfers helpers.Delete imm shapes ctx_len a map id shape k may m args fresh left f =
     let t = left.1 refl in
-    subst (λ (x : RegKind). Transfers (Call callee.Helper imm) shapes ctx_len a (after_call (kind_of x) a) None) (sym t.1) (delete_transfers imm shapes ctx_len a map shape t.0 t.2 m args.1.0 f)
+    subst (λ (x : RegKind). Transfers (Call callee.Helper imm) shapes ctx_len a (after_call (kind_of x) a) None)
+    (sym t.1) (delete_transfers imm shapes ctx_len a map shape t.0 t.2 m args.1.0 f)
 
-pub helper_sound : (helper : Helper) (a b : StateHere) (shapes : List MapShape) (map id : ℕ) (shape : MapShape) (k : RegKind) → ((signature_of helper).result ≡ ElementOrNull → MayLookUp shapes (state_of a)) → HasMap shapes (state_of a) map shape → AreArguments shapes (state_of a) shape (signature_of helper).arguments 1 →
-    AreBelow id a → IsLeft (signature_of helper).result map id k → AreAlike (after_call (kind_of k) (state_of a)) (state_of b) → (imm : ℤ) → helper_of imm ≡ Some helper → PerformsCall callee.Helper imm shapes a b
+pub helper_sound : (helper : Helper) (a b : StateHere) (shapes : List MapShape) (map id : ℕ) (shape : MapShape)
+    (k : RegKind) → ((signature_of helper).result ≡ ElementOrNull → MayLookUp shapes (state_of a)) →
+    HasMap shapes (state_of a) map shape → AreArguments shapes (state_of a) shape (signature_of helper).arguments 1 →
+    AreBelow id a → IsLeft (signature_of helper).result map id k →
+    AreAlike (after_call (kind_of k) (state_of a)) (state_of b) → (imm : ℤ) → helper_of imm ≡ Some helper →
+    PerformsCall callee.Helper imm shapes a b
 helper_sound helper a b shapes map id shape k may m args below left e imm f ctx_len =
-    to_alike (Call callee.Helper imm) shapes ctx_len (state_of a) (after_call (kind_of k) (state_of a)) (state_of b) e (helper-transfers helper imm shapes ctx_len (state_of a) map id shape k may m args (untaken_fresh id a below) left f)
+    to_alike (Call callee.Helper imm) shapes ctx_len (state_of a) (after_call (kind_of k) (state_of a)) (state_of b) e
+    (helper-transfers helper imm shapes ctx_len (state_of a) map id shape k may m args (untaken_fresh id a below)
+    left f)
 
 pub left_result : (kind : ResultKind) (map id : ℕ) (k : RegKind) (x : Kind) → IsLeft kind map id k → x ≡ kind_of k → IsResult kind x
 left_result ElementOrNull map id k x left e = (map, id, e ∙ ap kind_of (left.0 refl))
 left_result ErrorNumber map id k x left e = let t = left.1 refl in (t.0, e ∙ ap kind_of t.1)
 
 -- a lookup inside a section, or in an array, passes the section test
-pub lookup_inside : (shapes : List MapShape) (a : AbsState) (map : ℕ) (shape : MapShape) → (0 < a.depth) ⊎ (shape.kind ≡ Array) → a.regs 1 ≡ MapAt map → slice_get shapes map ≡ Some shape → helper_fault (Some helpers.Lookup) shapes a ≡ None
-lookup_inside shapes a map shape (inl into) is at = ap (λ (b : Bool). if b || is_array_of shapes (a.regs 1) then None else Some OutsideSection) (lt-ltb 0 a.depth into)
+pub lookup_inside : (shapes : List MapShape) (a : AbsState) (map : ℕ) (shape : MapShape) → (0 < a.depth)
+    ⊎ (shape.kind ≡ Array) → a.regs 1 ≡ MapAt map → slice_get shapes map ≡ Some shape →
+    helper_fault (Some helpers.Lookup) shapes a ≡ None
+lookup_inside shapes a map shape (inl into) is at = ap
+    (λ (b : Bool). if b || is_array_of shapes (a.regs 1) then None else Some OutsideSection) (lt-ltb 0 a.depth into)
 lookup_inside shapes a map shape (inr array) is at =
-    ap (λ (b : Bool). if nat_lt 0 a.depth || b then None else Some OutsideSection) (ap (is_array_of shapes) is ∙ (ap has_array_shape at ∙ ap is_array array)) ∙ by (nat_lt 0 a.depth)
+    ap (λ (b : Bool). if nat_lt 0 a.depth || b then None else Some OutsideSection)
+    (ap (is_array_of shapes) is ∙ (ap has_array_shape at ∙ ap is_array array)) ∙ by (nat_lt 0 a.depth)
   where
     by : (b : Bool) → (if b || true then None else Some OutsideSection) ≡ None
     by true = refl
     by false = refl
 
 -- a test for null leads to two states: there the element is, and there it is null
-pub null_jumps : (a b taken : StateHere) (id dst map : ℕ) → AreAlike (learnt (IsThere id) (state_of a)) (state_of b) → AreAlike (learnt (IsNull id) (state_of a)) (state_of taken) → kind_in a.regs dst ≡ kinds.MaybeNull map id → ForksOnNull true dst a b taken
+pub null_jumps : (a b taken : StateHere) (id dst map : ℕ) → AreAlike (learnt (IsThere id) (state_of a)) (state_of b) →
+    AreAlike (learnt (IsNull id) (state_of a)) (state_of taken) → kind_in a.regs dst ≡ kinds.MaybeNull map id →
+    ForksOnNull true dst a b taken
 null_jumps a b taken id dst map e f g shapes ctx_len offset =
-    to-both (null_jump true dst offset) shapes ctx_len (state_of a) (when_there id origin (state_of a)) (state_of b) (when_null id number_zero (state_of a)) (state_of taken) e f
+    to-both (null_jump true dst offset) shapes ctx_len (state_of a) (when_there id origin (state_of a)) (state_of b)
+    (when_null id number_zero (state_of a)) (state_of taken) e f
     (equal_transfers shapes ctx_len dst offset map id (state_of a) number_zero origin zero_holds origin_has (ap kind_of g))
 
-pub null_falls_through : (a b taken : StateHere) (id dst map : ℕ) → AreAlike (learnt (IsNull id) (state_of a)) (state_of b) → AreAlike (learnt (IsThere id) (state_of a)) (state_of taken) → kind_in a.regs dst ≡ kinds.MaybeNull map id → ForksOnNull false dst a b taken
+pub null_falls_through : (a b taken : StateHere) (id dst map : ℕ) →
+    AreAlike (learnt (IsNull id) (state_of a)) (state_of b) →
+    AreAlike (learnt (IsThere id) (state_of a)) (state_of taken) → kind_in a.regs dst ≡ kinds.MaybeNull map id →
+    ForksOnNull false dst a b taken
 null_falls_through a b taken id dst map e f g shapes ctx_len offset =
-    to-both (null_jump false dst offset) shapes ctx_len (state_of a) (when_null id number_zero (state_of a)) (state_of b) (when_there id origin (state_of a)) (state_of taken) e f
+    to-both (null_jump false dst offset) shapes ctx_len (state_of a) (when_null id number_zero (state_of a))
+    (state_of b) (when_there id origin (state_of a)) (state_of taken) e f
     (not_equal_transfers shapes ctx_len dst offset map id (state_of a) number_zero origin zero_holds origin_has (ap kind_of g))
 
 -- a call, a lock and an unlock leave numbers in r6 to r9 as they are
 pub returned_above : (kind : Kind) (regs : ℕ → Kind) (r : ℕ) → 5 < r → returned_kind kind regs r ≡ regs r
-returned_above kind regs r h = ap (λ t. if t then kind else if nat_le r 5 then Blank else regs r) (ne_eqb r 0 (λ q. absurd (omega (arith, q, h)))) ∙ ap (λ t. if t then Blank else regs r) (lt-leb r 5 h)
+returned_above kind regs r h = ap (λ t. if t then kind else if nat_le r 5 then Blank else regs r)
+    (ne_eqb r 0 (λ q. absurd (omega (arith, q, h)))) ∙ ap (λ t. if t then Blank else regs r) (lt-leb r 5 h)
 
 pub call_others : (kind : Kind) (a b : AbsState) → AreAlike (after_call kind a) b → KeepsOwnNumbers a b
 call_others kind a b e r s h n = e.regs r ∙ (returned_above kind a.regs r h ∙ n)

@@ -49,7 +49,8 @@ use Rattle.effects.proofs.Laws.{unary_lt, computed_numbers}
 use Rattle.scalar_domain.proofs.Words.{alu_lt}
 
 -- an operation of two numbers gives one of the numbers that the domain answers
-pub numbers_combine : (size : Size) (op : AluOp) (x y : RegKind) (a b r : Scalar) → x ≡ kinds.Num a → y ≡ kinds.Num b → ((p q : ℕ) → p < 2 ^ 64 → q < 2 ^ 64 → Holds a p → Holds b q → Holds r (alu size op p q))
+pub numbers_combine : (size : Size) (op : AluOp) (x y : RegKind) (a b r : Scalar) → x ≡ kinds.Num a → y ≡ kinds.Num b
+    → ((p q : ℕ) → p < 2 ^ 64 → q < 2 ^ 64 → Holds a p → Holds b q → Holds r (alu size op p q))
     → Combines size op (kind_of x) (kind_of y) (Num r)
 numbers_combine size op x y a b r e f sound =
     subst (λ k. Combines size op (kind_of k) (kind_of y) (Num r)) (sym e) (subst (λ k. Combines size op (Num a) (kind_of k) (Num r)) (sym f)
@@ -67,15 +68,18 @@ near-offset t o h =
     let l : h.raised ≤ 2 ^ 30 = h.limit in
     (omega (arith, ints, e, l), omega (arith, ints, e, l))
 
-ctx-moved : (way : Way) (size : Size) (op : AluOp) (o : ℤ) (n : ℕ) → IsMove way size op → computed size op (Pointer (Ctx o)) (Number n) ≡ Some (Pointer (Ctx (o +ℤ signed_move way n)))
+ctx-moved : (way : Way) (size : Size) (op : AluOp) (o : ℤ) (n : ℕ) → IsMove way size op →
+    computed size op (Pointer (Ctx o)) (Number n) ≡ Some (Pointer (Ctx (o +ℤ signed_move way n)))
 ctx-moved Forward size op o n h = ap₂ (λ s p. computed s p (Pointer (Ctx o)) (Number n)) h.0 h.1
 ctx-moved Back size op o n h = ap₂ (λ s p. computed s p (Pointer (Ctx o)) (Number n)) h.0 h.1
 
-element-moved : (way : Way) (size : Size) (op : AluOp) (e : ℕ) (o : ℤ) (n : ℕ) → IsMove way size op → computed size op (Pointer (Elem e o)) (Number n) ≡ Some (Pointer (Elem e (o +ℤ signed_move way n)))
+element-moved : (way : Way) (size : Size) (op : AluOp) (e : ℕ) (o : ℤ) (n : ℕ) → IsMove way size op →
+    computed size op (Pointer (Elem e o)) (Number n) ≡ Some (Pointer (Elem e (o +ℤ signed_move way n)))
 element-moved Forward size op e o n h = ap₂ (λ s p. computed s p (Pointer (Elem e o)) (Number n)) h.0 h.1
 element-moved Back size op e o n h = ap₂ (λ s p. computed s p (Pointer (Elem e o)) (Number n)) h.0 h.1
 
-pub context_moves : (way : Way) (x : RegKind) (s by t : Scalar) → x ≡ kinds.Ctx s → MovesOffsets way s by t → (size : Size) (op : AluOp) → IsMove way size op → Combines size op (kind_of x) (Num by) (CtxAt t)
+pub context_moves : (way : Way) (x : RegKind) (s by t : Scalar) → x ≡ kinds.Ctx s → MovesOffsets way s by t →
+    (size : Size) (op : AluOp) → IsMove way size op → Combines size op (kind_of x) (Num by) (CtxAt t)
 context_moves way x s by t e moves size op is = subst (λ k. Combines size op (kind_of k) (Num by) (CtxAt t)) (sym e) (λ c ρ v w i j near.
     let there = moves i.offset j.0 i.there j.2 j.3 in
     let o : ℤ = i.offset +ℤ signed_move way j.0 in (
@@ -85,7 +89,9 @@ context_moves way x s by t e moves size op is = subst (λ k. Combines size op (k
       near-offset t o there,
     ))
 
-pub value_moves : (way : Way) (x : RegKind) (map : ℕ) (s by t : Scalar) → x ≡ kinds.Value map s → MovesOffsets way s by t → (size : Size) (op : AluOp) → IsMove way size op → Combines size op (kind_of x) (Num by) (ValueAt map t)
+pub value_moves : (way : Way) (x : RegKind) (map : ℕ) (s by t : Scalar) → x ≡ kinds.Value map s →
+    MovesOffsets way s by t → (size : Size) (op : AluOp) → IsMove way size op →
+    Combines size op (kind_of x) (Num by) (ValueAt map t)
 value_moves way x map s by t e moves size op is = subst (λ k. Combines size op (kind_of k) (Num by) (ValueAt map t)) (sym e) (λ c ρ v w i j near.
     let there = moves i.offset j.0 i.there j.2 j.3 in
     let o : ℤ = i.offset +ℤ signed_move way j.0 in (
@@ -95,7 +101,8 @@ value_moves way x map s by t e moves size op is = subst (λ k. Combines size op 
       near-offset t o there,
     ))
 
-pub low_combines : (size : Size) (y : RegKind) (z b r : Scalar) → size ≡ Word32 → y ≡ kinds.Num b → Holds z 0 → ((p q : ℕ) → p < 2 ^ 64 → q < 2 ^ 64 → Holds z p → Holds b q → Holds r (alu size Move p q))
+pub low_combines : (size : Size) (y : RegKind) (z b r : Scalar) → size ≡ Word32 → y ≡ kinds.Num b → Holds z 0 →
+    ((p q : ℕ) → p < 2 ^ 64 → q < 2 ^ 64 → Holds z p → Holds b q → Holds r (alu size Move p q))
     → Combines size Move Blank (kind_of y) (Num r)
 low_combines size y z b r e f zero sound =
     subst (λ k. Combines size Move Blank (kind_of k) (Num r)) (sym f) (λ c ρ v w i j near. (
@@ -110,21 +117,29 @@ near-operand : (src : Operand) (a : AbsState) (c : Scene) (m : State) → Descri
 near-operand (Register r) a c m d = d.near.regs_near r
 near-operand (Immediate imm) a c m d = tt
 
-pub moves_compute : (size : Size) (op : AluOp) (dst : ℕ) (src : Operand) (a : AbsState) (y k : Kind) → op ≡ Move → HasValue a src y → Combines size Move Blank y k → Computes size op dst src a k
-moves_compute size op dst src a y k e value f = subst (λ (o : AluOp). Computes size o dst src a k) (sym e) (λ c m d. f c d.naming (m.regs dst) (operand_value src m.regs) tt (value c m d) (near-operand src a c m d))
+pub moves_compute : (size : Size) (op : AluOp) (dst : ℕ) (src : Operand) (a : AbsState) (y k : Kind) → op ≡ Move →
+    HasValue a src y → Combines size Move Blank y k → Computes size op dst src a k
+moves_compute size op dst src a y k e value f = subst (λ (o : AluOp). Computes size o dst src a k) (sym e)
+    (λ c m d. f c d.naming (m.regs dst) (operand_value src m.regs) tt (value c m d) (near-operand src a c m d))
 
-pub others_compute : (size : Size) (op : AluOp) (dst : ℕ) (src : Operand) (a : StateHere) (x : RegKind) (y k : Kind) → kind_in a.regs dst ≡ x → HasValue (state_of a) src y → Combines size op (kind_of x) y k → Computes size op dst src (state_of a) k
+pub others_compute : (size : Size) (op : AluOp) (dst : ℕ) (src : Operand) (a : StateHere) (x : RegKind) (y k : Kind) →
+    kind_in a.regs dst ≡ x → HasValue (state_of a) src y → Combines size op (kind_of x) y k →
+    Computes size op dst src (state_of a) k
 others_compute size op dst src a x y k e value f c m d =
-    f c d.naming (m.regs dst) (operand_value src m.regs) (reg-is (state_of a) c m dst (kind_of x) d (ap kind_of e)) (value c m d) (near-operand src (state_of a) c m d)
+    f c d.naming (m.regs dst) (operand_value src m.regs) (reg-is (state_of a) c m dst (kind_of x) d (ap kind_of e))
+    (value c m d) (near-operand src (state_of a) c m d)
 
 -- an instruction that sets a register, and accesses nothing
 pub record Sets (i : Insn) (ctx_len maps : ℕ) (dst : ℕ) (a : AbsState) (k : Kind) : Type 0 where
   pub no_call : is_call i ≡ false
   pub falls_on : falls i ≡ true
   pub nothing : (es fs : List Element) (m : State) (out : Outcome) → AccessesElement i es m out fs → ⊥
-  pub value : (c : Scene) (env : Environment) (m : State) → IsEnvironment ctx_len maps env → (d : Describes a c m) → (v : Value) × (after i env m ≡ sets (slot_count i) dst v m) × IsOf c d.naming k v × IsNear v
+  pub value : (c : Scene) (env : Environment) (m : State) → IsEnvironment ctx_len maps env → (d : Describes a c m) →
+      (v : Value) × (after i env m ≡ sets (slot_count i) dst v m) × IsOf c d.naming k v × IsNear v
 
-pub sets_transfers : (i : Insn) (shapes : List MapShape) (ctx_len dst : ℕ) (a b : StateHere) (k : Kind) → Sets i ctx_len (length shapes) dst (state_of a) k → (10 ≡ dst → ⊥) → AreAlike (with_kind dst k (state_of a)) (state_of b)
+pub sets_transfers : (i : Insn) (shapes : List MapShape) (ctx_len dst : ℕ) (a b : StateHere) (k : Kind) →
+    Sets i ctx_len (length shapes) dst (state_of a) k → (10 ≡ dst → ⊥) →
+    AreAlike (with_kind dst k (state_of a)) (state_of b)
     → Transfers i shapes ctx_len (state_of a) (state_of b) None
 sets_transfers i shapes ctx_len dst a b k s ne alike =
     to_alike i shapes ctx_len (state_of a) (with_kind dst k (state_of a)) (state_of b) alike
@@ -136,7 +151,9 @@ sets_transfers i shapes ctx_len dst a b k s ne alike =
       lands = inl (s.falls_on, refl, set-described (state_of a) c m dst (m.place + slot_count i) k x.0 d x.2 x.3);
     }))
 
-pub alu_sound : (op : AluOp) (size : Size) (dst : ℕ) (src : Operand) (a b : StateHere) (k : Kind) → Computes size op dst src (state_of a) k → (10 ≡ dst → ⊥) → AreAlike (with_kind dst k (state_of a)) (state_of b) → PerformsAnywhere (Alu op size dst src) a b
+pub alu_sound : (op : AluOp) (size : Size) (dst : ℕ) (src : Operand) (a b : StateHere) (k : Kind) →
+    Computes size op dst src (state_of a) k → (10 ≡ dst → ⊥) → AreAlike (with_kind dst k (state_of a)) (state_of b) →
+    PerformsAnywhere (Alu op size dst src) a b
 alu_sound op size dst src a b k f ne alike shapes ctx_len = sets_transfers (Alu op size dst src) shapes ctx_len dst a b k (record {
   no_call = refl;
   falls_on = refl;
@@ -146,7 +163,9 @@ alu_sound op size dst src a b k f ne alike shapes ctx_len = sets_transfers (Alu 
       (g.0, ap (λ o. o >>= λ v. sets 1 dst v m) g.1, g.2, g.3);
 }) ne alike
 
-pub unary_sound : (op : UnaryOp) (dst r : ℕ) (n t : Scalar) (kind : RegKind) (a b : StateHere) → r ≡ unary_source op dst → kind_in a.regs r ≡ kind → kind ≡ kinds.Num n → ((x : ℕ) → x < 2 ^ 64 → Holds n x → Holds t (unary op x)) → (10 ≡ dst → ⊥)
+pub unary_sound : (op : UnaryOp) (dst r : ℕ) (n t : Scalar) (kind : RegKind) (a b : StateHere) →
+    r ≡ unary_source op dst → kind_in a.regs r ≡ kind → kind ≡ kinds.Num n →
+    ((x : ℕ) → x < 2 ^ 64 → Holds n x → Holds t (unary op x)) → (10 ≡ dst → ⊥)
     → AreAlike (with_kind dst (Num t) (state_of a)) (state_of b) → PerformsAnywhere (Unary op dst) a b
 unary_sound op dst r n t kind a b source is e sound ne alike shapes ctx_len = sets_transfers (Unary op dst) shapes ctx_len dst a b (Num t) (record {
   no_call = refl;
@@ -155,13 +174,15 @@ unary_sound op dst r n t kind a b source is e sound ne alike shapes ctx_len = se
   value = λ c env m i d.
       let x = reg-is (state_of a) c m r (Num n) d (ap kind_of (is ∙ e)) in (
         Number (unary op x.0),
-        ap (λ q. number (m.regs q) >>= λ n. sets 1 dst (Number (unary op n)) m) (sym source) ∙ ap (λ v. number v >>= λ n. sets 1 dst (Number (unary op n)) m) x.1,
+        ap (λ q. number (m.regs q) >>= λ n. sets 1 dst (Number (unary op n)) m) (sym source) ∙
+            ap (λ v. number v >>= λ n. sets 1 dst (Number (unary op n)) m) x.1,
         (unary op x.0, refl, unary_lt op x.0, sound x.0 x.2 x.3),
         tt,
       );
 }) ne alike
 
-pub number_sound : (dst n : ℕ) (t : Scalar) (a b : StateHere) → n < 2 ^ 64 → Holds t n → (10 ≡ dst → ⊥) → AreAlike (with_kind dst (Num t) (state_of a)) (state_of b) → PerformsAnywhere (LoadNumber dst n) a b
+pub number_sound : (dst n : ℕ) (t : Scalar) (a b : StateHere) → n < 2 ^ 64 → Holds t n → (10 ≡ dst → ⊥) →
+    AreAlike (with_kind dst (Num t) (state_of a)) (state_of b) → PerformsAnywhere (LoadNumber dst n) a b
 number_sound dst n t a b l h ne alike shapes ctx_len = sets_transfers (LoadNumber dst n) shapes ctx_len dst a b (Num t) (record {
   no_call = refl;
   falls_on = refl;
@@ -169,7 +190,9 @@ number_sound dst n t a b l h ne alike shapes ctx_len = sets_transfers (LoadNumbe
   value = λ c env m e d. (Number n, refl, (n, refl, l, h), tt);
 }) ne alike
 
-pub map_sound : (dst : ℕ) (map : ℤ) (n maps : ℕ) (a b : StateHere) → map ≡ pos n → n < maps → (10 ≡ dst → ⊥) → AreAlike (with_kind dst (MapAt n) (state_of a)) (state_of b) → (shapes : List MapShape) (ctx_len : ℕ) → length shapes ≡ maps
+pub map_sound : (dst : ℕ) (map : ℤ) (n maps : ℕ) (a b : StateHere) → map ≡ pos n → n < maps → (10 ≡ dst → ⊥) →
+    AreAlike (with_kind dst (MapAt n) (state_of a)) (state_of b) → (shapes : List MapShape) (ctx_len : ℕ) →
+    length shapes ≡ maps
     → Transfers (LoadMap dst map) shapes ctx_len (state_of a) (state_of b) None
 map_sound dst map n maps a b e l ne alike shapes ctx_len long = sets_transfers (LoadMap dst map) shapes ctx_len dst a b (MapAt n) (record {
   no_call = refl;
@@ -177,7 +200,9 @@ map_sound dst map n maps a b e l ne alike shapes ctx_len long = sets_transfers (
   nothing = λ es fs m out h. h;
   value = λ c env m i d. (
     Pointer (MapRef n),
-    ap (λ q. q >>= λ v. sets 2 dst v m) (ap (map_value env) e ∙ ap (λ t. if t then Some (Pointer (MapRef n)) else None) (lt-ltb n env.maps (subst (λ k. n < k) (sym (i.bound ∙ long)) l))),
+    ap (λ q. q >>= λ v. sets 2 dst v m) (ap (map_value env) e ∙
+        ap (λ t. if t then Some (Pointer (MapRef n)) else None)
+        (lt-ltb n env.maps (subst (λ k. n < k) (sym (i.bound ∙ long)) l))),
     refl,
     tt,
   );

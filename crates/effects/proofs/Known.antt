@@ -19,7 +19,8 @@ pub same_num : (a b : Scalar) → Num a ≡ Num b → a ≡ b
 same_num a b e = cc
 
 -- of two numbers the result is known as well as the domain promises
-pub numbers_known : (size : Size) (op : AluOp) (x y : RegKind) (a b r : Scalar) → x ≡ kinds.Num a → y ≡ kinds.Num b → KeepsFloor size op a b r → CombinesKnown size op (kind_of x) (kind_of y) (Num r)
+pub numbers_known : (size : Size) (op : AluOp) (x y : RegKind) (a b r : Scalar) → x ≡ kinds.Num a → y ≡ kinds.Num b →
+    KeepsFloor size op a b r → CombinesKnown size op (kind_of x) (kind_of y) (Num r)
 numbers_known size op x y a b r e f floor p q g h =
     let u : a ≡ p = same_num a p (sym (ap kind_of e) ∙ g) in
     let v : b ≡ q = same_num b q (sym (ap kind_of f) ∙ h) in
@@ -51,7 +52,8 @@ low_known a b z r zero floor = record {
   wide = λ e. absurd cc;
 }
 
-pub moved_known : (size : Size) (k : RegKind) (a b low z r : Scalar) → size ≡ Word32 → k ≡ kinds.Num low → IsConstant z 0 → KeepsFloor size Move z low r → kind_of k ≡ Num b → IsNumbers (KeepsFloor size Move a b) (Num r)
+pub moved_known : (size : Size) (k : RegKind) (a b low z r : Scalar) → size ≡ Word32 → k ≡ kinds.Num low →
+    IsConstant z 0 → KeepsFloor size Move z low r → kind_of k ≡ Num b → IsNumbers (KeepsFloor size Move a b) (Num r)
 moved_known size k a b low z r s is zero floor e =
     let same : low ≡ b = same_num low b (sym (ap kind_of is) ∙ e) in
     let at : KeepsFloor Word32 Move z b r = subst (λ s. KeepsFloor s Move z b r) s (subst (λ b. KeepsFloor size Move z b r) same floor) in

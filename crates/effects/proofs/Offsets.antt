@@ -32,7 +32,8 @@ forward x n l f (inr h) g =
     let s : pos ((x + n) % 2 ^ 64) ≡ pos x +ℤ negsuc (2 ^ 64 - suc n) = omega (arith, ints, e, d) in
     s ∙ ap (λ z. pos x +ℤ z) (sym z)
 
-back : (x n : ℕ) → x ≤ 2 ^ 30 → n < 2 ^ 64 → IsNearStep n → (x + (2 ^ 64 - n)) % 2 ^ 64 ≤ 2 ^ 30 → pos ((x + (2 ^ 64 - n)) % 2 ^ 64) ≡ pos x +ℤ (pos 0 -ℤ signed w64 n)
+back : (x n : ℕ) → x ≤ 2 ^ 30 → n < 2 ^ 64 → IsNearStep n → (x + (2 ^ 64 - n)) % 2 ^ 64 ≤ 2 ^ 30 →
+    pos ((x + (2 ^ 64 - n)) % 2 ^ 64) ≡ pos x +ℤ (pos 0 -ℤ signed w64 n)
 back x n l f (inl h) g =
     let e : ((x + (2 ^ 64 - n)) % 2 ^ 64) + n ≡ x = omega (arith, l, f, h, g) in
     let s : pos ((x + (2 ^ 64 - n)) % 2 ^ 64) ≡ pos x +ℤ (pos 0 -ℤ pos n) = omega (arith, ints, e) in
@@ -64,7 +65,8 @@ module _ (s by t : Scalar) (small : t.greatest ≤ 2 ^ 30) (steps : (n : ℕ) �
   moves Back sound = moves_back sound
 
 -- a field imm by which an offset inside the frame is moved to another
-pub step_inside : (m at : ℕ) (imm : ℤ) → m ≤ FRAME_BYTES → at ≤ FRAME_BYTES → pos m +ℤ imm ≡ pos at → IsNearStep (immediate imm) × (shifted_word Forward (m + 2 ^ 29) (immediate imm) ≡ at + 2 ^ 29)
+pub step_inside : (m at : ℕ) (imm : ℤ) → m ≤ FRAME_BYTES → at ≤ FRAME_BYTES → pos m +ℤ imm ≡ pos at →
+    IsNearStep (immediate imm) × (shifted_word Forward (m + 2 ^ 29) (immediate imm) ≡ at + 2 ^ 29)
 step_inside m at (pos k) l h e =
     let s : m + k ≡ at = omega (arith, ints, e) in
     let w : (m + 2 ^ 29 + k) % 2 ^ 64 ≡ at + 2 ^ 29 = omega (arith, s, h) in

@@ -16,7 +16,8 @@ low-known : (t n may must : ℕ) → bit_and n may ≡ n → bit_and must n ≡ 
 low-known t n may must z o e =
     ap (λ x. x % 2 ^ t) (sym z) ∙ (and_mod n may t ∙ (ap (bit_and (n % 2 ^ t)) e ∙ (sym (and_mod n must t) ∙ ap (λ x. x % 2 ^ t) (and_comm n must ∙ o))))
 
-pub same_remainder : (width : Width) (s : Scalar) (n : ℕ) → Holds s n → s.may % byte_count width ≡ s.must % byte_count width → n % byte_count width ≡ s.must % byte_count width
+pub same_remainder : (width : Width) (s : Scalar) (n : ℕ) → Holds s n →
+    s.may % byte_count width ≡ s.must % byte_count width → n % byte_count width ≡ s.must % byte_count width
 same_remainder widths.One s n h e = low-known 0 n s.may s.must h.zeros h.ones e
 same_remainder widths.Two s n h e = low-known 1 n s.may s.must h.zeros h.ones e
 same_remainder widths.Four s n h e = low-known 2 n s.may s.must h.zeros h.ones e
@@ -32,7 +33,9 @@ shifted widths.Two m p e h = omega (arith, e, h)
 shifted widths.Four m p e h = omega (arith, e, h)
 shifted widths.Eight m p e h = omega (arith, e, h)
 
-pub always_inside : (s : Scalar) (width : Width) (offset : ℤ) (len by : ℕ) → pos by ≡ offset +ℤ pos (2 ^ 15) → ((n : ℕ) → Holds s n → 2 ^ 29 + 2 ^ 15 ≤ n + by) → ((n : ℕ) → Holds s n → n + by + byte_count width ≤ len + (2 ^ 29 + 2 ^ 15))
+pub always_inside : (s : Scalar) (width : Width) (offset : ℤ) (len by : ℕ) → pos by ≡ offset +ℤ pos (2 ^ 15) →
+    ((n : ℕ) → Holds s n → 2 ^ 29 + 2 ^ 15 ≤ n + by) →
+    ((n : ℕ) → Holds s n → n + by + byte_count width ≤ len + (2 ^ 29 + 2 ^ 15))
     → ((n : ℕ) → Holds s n → (n + by) % byte_count width ≡ 0) → IsAlwaysInside s (byte_count width) offset len
 always_inside s width offset len by e start end aligned o h =
     let n : ℕ = h.raised in

@@ -25,9 +25,13 @@ use Rattle.plan_laws.proofs.Example.{bytes-described}
 use Rattle.plan_laws.proofs.Spilling.{spill_transfers, no-element}
 use Rattle.plan_laws.proofs.Elements.{operand-number}
 
-pub number_stored : (width : Width) (dst : ℕ) (offset : ℤ) (src : Operand) (shapes : List MapShape) (ctx_len : ℕ) (a : AbsState) (o : ℤ) (at : ℕ) → a.regs dst ≡ FrameAt o
-    → region_offset FRAME_BYTES (byte_count width) (o +ℤ offset) ≡ Some at → IsNumberOperand a src → Transfers (Store width dst offset src) shapes ctx_len a (with_cells at (byte_count width) ByteCell a) None
-number_stored width dst offset src shapes ctx_len a o at e p number = alone_transfers (Store width dst offset src) shapes ctx_len a (with_cells at (byte_count width) ByteCell a) None refl (λ c env m i target d.
+pub number_stored : (width : Width) (dst : ℕ) (offset : ℤ) (src : Operand) (shapes : List MapShape) (ctx_len : ℕ)
+    (a : AbsState) (o : ℤ) (at : ℕ) → a.regs dst ≡ FrameAt o
+    → region_offset FRAME_BYTES (byte_count width) (o +ℤ offset) ≡ Some at → IsNumberOperand a src →
+    Transfers (Store width dst offset src) shapes ctx_len a (with_cells at (byte_count width) ByteCell a) None
+number_stored width dst offset src shapes ctx_len a o at e p number =
+    alone_transfers (Store width dst offset src) shapes ctx_len a (with_cells at (byte_count width) ByteCell a) None
+    refl (λ c env m i target d.
     let w : ℕ = byte_count width in
     let base : m.regs dst ≡ Pointer (Frame o) = reg-is a c m dst (FrameAt o) d e in
     let x = operand-number a c m src d number in
@@ -39,8 +43,10 @@ number_stored width dst offset src shapes ctx_len a o at e p number = alone_tran
       lands = inl (refl, refl, bytes-described a c m at w x.0 (m.place + 1) d);
     })
 
-pub spill_stored : (width : Width) (dst : ℕ) (offset : ℤ) (src : Operand) (shapes : List MapShape) (ctx_len : ℕ) (a : AbsState) (o : ℤ) (at r : ℕ) (kind : Kind) → width ≡ Eight → src ≡ Register r → a.regs dst ≡ FrameAt o
-    → region_offset FRAME_BYTES 8 (o +ℤ offset) ≡ Some at → a.regs r ≡ kind → IsWritten kind → Transfers (Store width dst offset src) shapes ctx_len a (with_cells at 8 (PartCell kind) a) None
+pub spill_stored : (width : Width) (dst : ℕ) (offset : ℤ) (src : Operand) (shapes : List MapShape) (ctx_len : ℕ)
+    (a : AbsState) (o : ℤ) (at r : ℕ) (kind : Kind) → width ≡ Eight → src ≡ Register r → a.regs dst ≡ FrameAt o
+    → region_offset FRAME_BYTES 8 (o +ℤ offset) ≡ Some at → a.regs r ≡ kind → IsWritten kind →
+    Transfers (Store width dst offset src) shapes ctx_len a (with_cells at 8 (PartCell kind) a) None
 spill_stored width dst offset src shapes ctx_len a o at r kind e f base p value written =
     subst (λ (w : Width). Transfers (Store w dst offset src) shapes ctx_len a (with_cells at 8 (PartCell kind) a) None) (sym e)
     (subst (λ (x : Operand). Transfers (Store Eight dst offset x) shapes ctx_len a (with_cells at 8 (PartCell kind) a) None) (sym f)

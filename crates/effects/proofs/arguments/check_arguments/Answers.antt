@@ -12,7 +12,8 @@ loop-index-preserved c =
     let shape = c.in_ok-map.shape in
     let kinds = c.arguments-kind-items.result.now in
     let i = c.loop-index.index in
-    let x = subst (λ (r : ℕ). IsArgument shapes a shape (get_or kinds i MapOfProgram) r) c.argument_register.ensures c.in_ok-check_argument.ensures.argument in (
+    let x = subst (λ (r : ℕ). IsArgument shapes a shape (get_or kinds i MapOfProgram) r) c.argument_register.ensures
+    c.in_ok-check_argument.ensures.argument in (
       c.loop-index.invariant.0,
       λ left. c.loop-index.invariant.1 (from_next shapes a shape kinds i MapOfProgram c.loop-index-test.true x left),
       λ all. (to_next shapes a shape kinds i MapOfProgram c.loop-index-test.true (c.loop-index.invariant.2 all)).1,

@@ -12,15 +12,20 @@ use Rattle.effects.specs.Performs.{IsNumbers}
 
 pub returns-in_ok-operand-in-Move-clause-sound : goal.returns-in_ok-operand-in-Move-clause-sound
 returns-in_ok-operand-in-Move-clause-sound c = IfOk-weaker c.copied.result _ _
-    (λ k f. moves_compute c.args.size c.args.op c.args.dst c.args.src.now (state_of c.args.state.now) (kind_of c.in_ok-operand-in-Move.field-0) (kind_of k) c.in-Move.is c.in_ok-operand-in-Move.ensures.value f) c.copied.ensures.sound
+    (λ k f. moves_compute c.args.size c.args.op c.args.dst c.args.src.now (state_of c.args.state.now)
+    (kind_of c.in_ok-operand-in-Move.field-0) (kind_of k) c.in-Move.is c.in_ok-operand-in-Move.ensures.value f)
+    c.copied.ensures.sound
 
 pub returns-in_ok-operand-in-Move-clause-below : goal.returns-in_ok-operand-in-Move-clause-below
-returns-in_ok-operand-in-Move-clause-below c = IfOk-weaker c.copied.result _ _ (λ k f top b. f top (c.in_ok-operand-in-Move.ensures.below top b)) c.copied.ensures.below
+returns-in_ok-operand-in-Move-clause-below c = IfOk-weaker c.copied.result _ _
+    (λ k f top b. f top (c.in_ok-operand-in-Move.ensures.below top b)) c.copied.ensures.below
 
 pub returns-in_ok-y-in_default : goal.returns-in_ok-y-in_default
 returns-in_ok-y-in_default c = record {
   sound = IfOk-weaker c.combined.result _ _
-      (λ k f. others_compute c.args.size c.args.op c.args.dst c.args.src.now c.args.state.now c.in_ok-x-in_default.x (kind_of c.in_ok-y-in_default.y) (kind_of k) c.in_ok-x-in_default.ensures.value c.in_ok-y-in_default.ensures.value f) c.combined.ensures.sound;
+      (λ k f. others_compute c.args.size c.args.op c.args.dst c.args.src.now c.args.state.now c.in_ok-x-in_default.x
+      (kind_of c.in_ok-y-in_default.y) (kind_of k) c.in_ok-x-in_default.ensures.value
+      c.in_ok-y-in_default.ensures.value f) c.combined.ensures.sound;
   floor = IfOk-weaker c.combined.result _ _
       (λ k f a b reads e. elim reads [
         | inl move ↦ absurd (c.in_default.not-Move move)
@@ -46,4 +51,5 @@ returns-in_ok-operand-in-Move-clause-numbers c = λ reads src.
 
 pub returns-in_ok-operand-in-Move-clause-floor : goal.returns-in_ok-operand-in-Move-clause-floor
 returns-in_ok-operand-in-Move-clause-floor c = IfOk-weaker c.copied.result _ _
-    (λ k f a b reads e. subst (λ (op : AluOp). IsNumbers (KeepsFloor c.args.size op a b) (kind_of k)) (sym c.in-Move.is) (f a b (sym c.in_ok-operand-in-Move.ensures.kind ∙ e))) c.copied.ensures.floor
+    (λ k f a b reads e. subst (λ (op : AluOp). IsNumbers (KeepsFloor c.args.size op a b) (kind_of k))
+    (sym c.in-Move.is) (f a b (sym c.in_ok-operand-in-Move.ensures.kind ∙ e))) c.copied.ensures.floor

@@ -9,7 +9,9 @@ use Rattle.register_kinds.specs.States.{kind_of, kind_in, state_of}
 use Rattle.effects.proofs.Known.{same_num}
 
 pub returns-clause-sound : goal.returns-clause-sound
-returns-clause-sound c = unary_sound c.args.op.now c.args.dst c.source.result c.in_ok-n.n c.unary.result c.in_ok-kind.kind c.args.state.now c.set.new.self c.source.ensures c.in_ok-kind.ensures.value c.in_ok-n.ensures.value c.unary.ensures.sound c.in_ok-check_writable.ensures.value c.set.ensures.alike
+returns-clause-sound c = unary_sound c.args.op.now c.args.dst c.source.result c.in_ok-n.n c.unary.result
+    c.in_ok-kind.kind c.args.state.now c.set.new.self c.source.ensures c.in_ok-kind.ensures.value
+    c.in_ok-n.ensures.value c.unary.ensures.sound c.in_ok-check_writable.ensures.value c.set.ensures.alike
 
 pub returns-clause-floor : goal.returns-clause-floor
 returns-clause-floor c = λ a e.

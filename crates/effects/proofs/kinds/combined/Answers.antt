@@ -11,7 +11,8 @@ use Rattle.effects.proofs.kinds.combined.Goals as goal
 use Rattle.effects.proofs.Known.{same_num, numbers_known}
 
 pub returns-in-Num-Num-clause-sound : goal.returns-in-Num-Num-clause-sound
-returns-in-Num-Num-clause-sound c = numbers_combine c.args.size c.args.op c.args.x c.args.y c.in-Num-Num.a c.in-Num-Num.b c.apply.result c.in-Num-Num.is-0 c.in-Num-Num.is-1 c.apply.ensures.sound
+returns-in-Num-Num-clause-sound c = numbers_combine c.args.size c.args.op c.args.x c.args.y c.in-Num-Num.a
+    c.in-Num-Num.b c.apply.result c.in-Num-Num.is-0 c.in-Num-Num.is-1 c.apply.ensures.sound
 
 pub returns-in-Num-Num-clause-numbers : goal.returns-in-Num-Num-clause-numbers
 returns-in-Num-Num-clause-numbers c = λ a b e f. (c.apply.result, refl)
@@ -25,4 +26,5 @@ returns-in_ok-way_of-in_default-Num-clause-frame c = λ m at imm by size op x y 
     (subst (λ way. shifted_word way (m + 2 ^ 29) (immediate imm) ≡ at + 2 ^ 29) (sym forward) moves.1) (omega (arith, h))
 
 pub returns-in-Num-Num-clause-floor : goal.returns-in-Num-Num-clause-floor
-returns-in-Num-Num-clause-floor c = numbers_known c.args.size c.args.op c.args.x c.args.y c.in-Num-Num.a c.in-Num-Num.b c.apply.result c.in-Num-Num.is-0 c.in-Num-Num.is-1 c.apply.ensures.floor
+returns-in-Num-Num-clause-floor c = numbers_known c.args.size c.args.op c.args.x c.args.y c.in-Num-Num.a
+    c.in-Num-Num.b c.apply.result c.in-Num-Num.is-0 c.in-Num-Num.is-1 c.apply.ensures.floor

@@ -23,5 +23,11 @@ returns-in-Immediate-clause-operand c =
     let f : SFits w32 c.in-Immediate.imm = search rules in
     let value = simp to_z-of_z at c.immediate.ensures in record {
       register = λ s e w. absurd (let g : Immediate c.in-Immediate.imm ≡ Register s = sym c.in-Immediate.is ∙ e in cc);
-      number = λ imm e. (c.constant.result, refl, subst (IsConstant c.constant.result) (value ∙ ap immediate (same_immediate c.in-Immediate.imm imm (sym c.in-Immediate.is ∙ e))) c.constant.ensures.exact);
+      number = λ imm e. (
+        c.constant.result,
+        refl,
+        subst (IsConstant c.constant.result)
+            (value ∙ ap immediate (same_immediate c.in-Immediate.imm imm (sym c.in-Immediate.is ∙ e)))
+            c.constant.ensures.exact,
+      );
     }

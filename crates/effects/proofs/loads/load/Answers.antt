@@ -15,9 +15,12 @@ pub returns-clause-sound : goal.returns-clause-sound
 returns-clause-sound c =
     let a = state_of c.args.state.now in
     let kind = read_kind c.in_ok-reads.reads c.loaded.result in
-    to_alike (Load c.args.width c.args.dst c.args.from.base c.args.from.offset) c.args.shape.now.shapes.now c.args.shape.now.ctx_len a (with_kind c.args.dst kind a) (state_of c.set.new.self)
+    to_alike (Load c.args.width c.args.dst c.args.from.base c.args.from.offset) c.args.shape.now.shapes.now
+    c.args.shape.now.ctx_len a (with_kind c.args.dst kind a) (state_of c.set.new.self)
     (subst (λ (k : Kind). AreAlike (with_kind c.args.dst k a) (state_of c.set.new.self)) c.kind.ensures c.set.ensures.alike)
-    (read_transfers c.args.dst c.args.from c.args.shape.now.ctx_len c.args.shape.now.shapes.now a c.loaded.result c.in_ok-check_writable.ensures.value c.in_ok-reads.reads c.args.width c.loaded.ensures.sound c.in_ok-reads.ensures.reads)
+    (read_transfers c.args.dst c.args.from c.args.shape.now.ctx_len c.args.shape.now.shapes.now a c.loaded.result
+    c.in_ok-check_writable.ensures.value c.in_ok-reads.reads c.args.width c.loaded.ensures.sound
+    c.in_ok-reads.ensures.reads)
 
 pub returns-clause-bytes : goal.returns-clause-bytes
 returns-clause-bytes c = λ ne b. record {
@@ -43,7 +46,9 @@ returns-clause-floor c =
     let a = state_of c.args.state.now in
     let there = set-there c.args.dst c.args.dst (kind_of c.kind.result) a (state_of c.set.new.self) c.set.ensures.alike refl in
     subst (λ (k : Kind). LoadsKnown c.args.width k) (sym (there ∙ c.kind.ensures))
-    (load_known c.in_ok-reads.reads c.loaded.result c.args.width a c.args.from c.args.shape.now.ctx_len c.args.shape.now.shapes.now c.in_ok-reads.ensures.reads c.loaded.ensures.floor)
+    (load_known c.in_ok-reads.reads c.loaded.result c.args.width a c.args.from c.args.shape.now.ctx_len
+    c.args.shape.now.shapes.now c.in_ok-reads.ensures.reads c.loaded.ensures.floor)
 
 pub returns-clause-others : goal.returns-clause-others
-returns-clause-others c = λ r ne. set-elsewhere c.args.dst r (kind_of c.kind.result) (state_of c.args.state.now) (state_of c.set.new.self) c.set.ensures.alike ne
+returns-clause-others c = λ r ne. set-elsewhere c.args.dst r (kind_of c.kind.result) (state_of c.args.state.now)
+    (state_of c.set.new.self) c.set.ensures.alike ne

@@ -18,7 +18,9 @@ returns-in-Pointer-clause-reads c =
     let h = c.in_ok-read_frame.ensures.pointer c.in-Pointer.kind c.in-Pointer.is in
     let wide = rw c.bytes.ensures.value at h.0 in
     let all = subst (λ b. AreAll c.args.state.now.frame.cells c.in_ok-at.at b Part) c.bytes.ensures.value h.3 in
-    λ ctx_len shapes. parts_read c.args.state.now c.args.from c.args.width c.args.start c.in_ok-at.at c.requires value c.in-Pointer.kind c.in_ok-at.ensures.aligned wide h.1 h.2 all
+    λ ctx_len shapes. parts_read c.args.state.now c.args.from c.args.width c.args.start c.in_ok-at.at c.requires value
+    c.in-Pointer.kind c.in_ok-at.ensures.aligned wide h.1 h.2 all
 
 pub returns-in-Pointer-clause-below : goal.returns-in-Pointer-clause-below
-returns-in-Pointer-clause-below c = λ top t b. subst (λ (k : RegKind). IsBelow top (kind_of k)) (c.in_ok-read_frame.ensures.pointer c.in-Pointer.kind c.in-Pointer.is).1 (b.spills (c.in_ok-at.at / 8))
+returns-in-Pointer-clause-below c = λ top t b. subst (λ (k : RegKind). IsBelow top (kind_of k))
+    (c.in_ok-read_frame.ensures.pointer c.in-Pointer.kind c.in-Pointer.is).1 (b.spills (c.in_ok-at.at / 8))

@@ -18,9 +18,12 @@ returns-clause-sound c =
     let value = simp to_z-of_z at c.in_ok-at.ensures.value in
     let a = state_of c.args.state.now in
     let at = c.in_ok-at.at in
-    λ shapes ctx_len. to_alike (Store c.args.fields.width c.args.fields.to.base c.args.fields.to.offset c.args.fields.src) shapes ctx_len a (with_cells at (byte_count c.args.fields.width) ByteCell a) (state_of c.write.new.self)
+    λ shapes ctx_len. to_alike (Store c.args.fields.width c.args.fields.to.base c.args.fields.to.offset
+    c.args.fields.src) shapes ctx_len a (with_cells at (byte_count c.args.fields.width) ByteCell a)
+    (state_of c.write.new.self)
     (subst (λ (w : ℕ). AreAlike (with_cells at w ByteCell a) (state_of c.write.new.self)) c.bytes.ensures.value c.write.ensures.alike)
-    (number_stored c.args.fields.width c.args.fields.to.base c.args.fields.to.offset c.args.fields.src shapes ctx_len a c.args.start at (ap kind_of c.requires.base) value c.requires.number)
+    (number_stored c.args.fields.width c.args.fields.to.base c.args.fields.to.offset c.args.fields.src shapes ctx_len
+    a c.args.start at (ap kind_of c.requires.base) value c.requires.number)
 
 pub returns-clause-others : goal.returns-clause-others
 returns-clause-others c = λ r. c.write.ensures.alike.regs r

@@ -18,8 +18,12 @@ returns-in_ok-at-in-Eight-clause-sound c =
     let at = c.in_ok-at-in-Eight.at in
     let kind = kind_of c.args.kind in
     let v = c.requires.value in
-    λ shapes ctx_len. to_alike (Store c.args.fields.width c.args.fields.to.base c.args.fields.to.offset c.args.fields.src) shapes ctx_len a (with_cells at 8 (PartCell kind) a) (state_of c.spill.new.self) c.spill.ensures.alike
-    (spill_stored c.args.fields.width c.args.fields.to.base c.args.fields.to.offset c.args.fields.src shapes ctx_len a c.args.start at v.0 kind c.in-Eight.is v.1 (ap kind_of c.requires.base) value (ap kind_of v.2) c.requires.written)
+    λ shapes ctx_len. to_alike (Store c.args.fields.width c.args.fields.to.base c.args.fields.to.offset
+    c.args.fields.src) shapes ctx_len a (with_cells at 8 (PartCell kind) a) (state_of c.spill.new.self)
+    c.spill.ensures.alike
+    (spill_stored c.args.fields.width c.args.fields.to.base c.args.fields.to.offset c.args.fields.src shapes ctx_len a
+    c.args.start at v.0 kind c.in-Eight.is v.1 (ap kind_of c.requires.base) value (ap kind_of v.2)
+    c.requires.written)
 
 pub returns-in_ok-at-in-Eight-clause-others : goal.returns-in_ok-at-in-Eight-clause-others
 returns-in_ok-at-in-Eight-clause-others c = λ r. c.spill.ensures.alike.regs r
