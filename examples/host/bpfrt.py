@@ -4,8 +4,8 @@
         program = bpf.load(open("policy.bpfrt").read())
         values = bpf.run_many(program, [bytes(16)] * 1000)
 
-A call that cannot be written raises TypeError or ValueError; one that is refused, Refused; an update or a delete that gives an
-error of Linux's, OSError. The next call is answered all the same. Behind these it is not:
+A call that cannot be written raises TypeError or ValueError, and one that is refused Refused. An update or a delete that gives an
+error of Linux's raises OSError. The next call is answered all the same. Behind these it is not:
 - Ended: the process has ended.
 - Broken: a call was cut off between its command and its answers, as by a deadline or Ctrl-C, or what was written is no answer.
 Each later call raises the same, since it might take another command's answer for its own. Make another Runtime: its maps are new.
