@@ -7,5 +7,6 @@ pub mod Multiples
 pub mod Pairs
 pub mod Quotients
 pub mod Shifts
+pub mod Splits
 pub mod Swaps
 pub mod Words

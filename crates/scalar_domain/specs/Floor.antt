@@ -15,10 +15,9 @@ use Rattle.bpf_model.specs.declared.opcode.Size.{Size}
 use Rattle.bpf_model.specs.declared.opcode.Width.{Width}
 use Rattle.bpf_model.specs.declared.opcode.Size.TheVariants.{Word32, Word64}
 use Rattle.scalar_domain.specs.declared.scalar.Scalar.{Scalar}
-use Rattle.scalar_domain.specs.Scalar.{IsConstant, IsNoWider}
+use Rattle.scalar_domain.specs.Scalar.{Holds, IsConstant, IsNoWider}
 use Rattle.scalar_domain.specs.Precision.{Adds, Subtracts, Masks, ShiftsLeft, ShiftsRight}
-use Rattle.scalar_domain.specs.Relation.{MovesBounds, GoesAlong, IsBetween, TellsDifferent}
-use Rattle.scalar_domain.specs.Relation.{IsNoBound}
+use Rattle.scalar_domain.specs.Relation.{MovesBounds, GoesAlong, TellsDifferent, IsNoBound}
 
 -- A load without sign gives a number of so many bytes.
 abbrev pub KeepsLoadFloor : Width → Scalar → Type 0
@@ -56,13 +55,13 @@ pub record KeepsUnaryFloor (op : UnaryOp) (a result : Scalar) : Type 0 where
   pub narrow : result.greatest < 2 ^ result_bits op
 
 -- What remains of both sides of a comparison, on one of its edges, is at least this narrow. By a
--- constant the unsigned orders and equality move the bounds, where a number between them goes along
--- the edge; where none does, no bounds could. Where it differs from a constant, that is no bound.
+-- constant the unsigned orders and equality move the bounds, where a number of the other side goes
+-- along the edge; where none does, none is left. Where it differs from a constant, that is no bound.
 pub record KeepsEdgeFloor (size : Size) (c : Condition) (taken : Bool) (a b left right : Scalar)
     : Type 0 where
   pub no_wider_left : IsNoWider left a
   pub no_wider_right : IsNoWider right b
-  pub bounds : (k x : ℕ) → size ≡ Word64 → MovesBounds c taken → IsConstant b k → IsBetween a x
+  pub bounds : (k x : ℕ) → size ≡ Word64 → MovesBounds c taken → IsConstant b k → Holds a x
       → holds w64 c x k ≡ taken → GoesAlong c taken left k
-  pub apart : (k x : ℕ) → size ≡ Word64 → TellsDifferent c taken → IsConstant b k → IsBetween a x
+  pub apart : (k x : ℕ) → size ≡ Word64 → TellsDifferent c taken → IsConstant b k → Holds a x
       → x ≢ k → IsNoBound left k

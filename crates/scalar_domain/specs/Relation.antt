@@ -1,5 +1,5 @@
 -- What an edge of a conditional jump says of the two operands, in their unsigned order.
-use Rattle.std.specs.Prelude.{◌≡◌, ◌≢◌, ℕ, ◌<◌, ◌≤◌, ◌^◌, bit_and, Bool, true, false}
+use Rattle.std.specs.Prelude.{◌≡◌, ◌≢◌, ℕ, ◌<◌, ◌≤◌, ◌^◌, ◌⊎◌, bit_and, Bool, true, false}
 use Rattle.std.specs.Int.{w64}
 use Rattle.bpf_model.specs.Arithmetic.{compares, holds}
 use Rattle.bpf_model.specs.declared.opcode.Condition.{Condition}
@@ -11,7 +11,8 @@ use Rattle.scalar_domain.specs.declared.relation.Relation.{Relation}
 use Rattle.scalar_domain.specs.declared.relation.Relation.TheVariants.{Below, AtMost, Above}
 use Rattle.scalar_domain.specs.declared.relation.Relation.TheVariants.{AtLeast, Equal, Different}
 use Rattle.scalar_domain.specs.declared.relation.Relation.TheVariants.{Apart, Unknown}
-use Rattle.scalar_domain.specs.Scalar.{Holds, IsNoWider}
+use Rattle.scalar_domain.specs.Mask.{HasBits}
+use Rattle.scalar_domain.specs.Scalar.{Holds, HoldsSome, IsNoWider}
 
 -- two numbers stand in this relation
 abbrev pub Related : Relation → ℕ → ℕ → Type 0
@@ -119,27 +120,44 @@ abbrev pub FitsSize : Size → Scalar → Type 0
 FitsSize Word32 s = s.greatest < 2 ^ 32
 FitsSize Word64 s = Unit {0}
 
--- The edges of which bounds tell: all but that where two numbers share no bit.
-abbrev pub TellsOfBounds : Condition → Bool → Type 0
-TellsOfBounds condition.SharesBits false = ⊥
-TellsOfBounds other taken = Unit {0}
+-- By which numbers of the one side the other is refined: where they are to be equal by those that it
+-- holds, where they share no bit by those with its known bits that are not above its greatest bound,
+-- else by those between its bounds.
+abbrev pub Counts : Relation → Scalar → ℕ → Type 0
+Counts Equal s n = Holds s n
+Counts Apart s n = HasBits s.may s.must n × n ≤ s.greatest
+Counts other s n = IsBetween s n
 
--- A number between the bounds of the one side and one between those of the other are such a pair.
-pub record HasPair (P : ℕ → ℕ → Type 0) (a b : Scalar) : Type 0 where
+-- A number of the first kind and one of the second stand so.
+pub record HasPair (P : ℕ → ℕ → Type 0) (A B : ℕ → Type 0) : Type 0 where
   pub left : ℕ
   pub right : ℕ
-  pub left_between : IsBetween a left
-  pub right_between : IsBetween b right
+  pub of_left : A left
+  pub of_right : B right
   pub holds : P left right
 
--- Between the bounds of both sides two numbers go along the edge.
-abbrev pub SomeGoAlong : Size → Condition → Bool → Scalar → Scalar → Type 0
-SomeGoAlong size c taken a b = HasPair (λ x y. compares size c x y ≡ taken) a b
+-- Each side holds a number that stands so with one of those by which it is refined.
+pub record AreLeft (P : ℕ → ℕ → Type 0) (K : Scalar → ℕ → Type 0) (a b : Scalar) : Type 0 where
+  pub left : HasPair P (Holds a) (K b)
+  pub right : HasPair P (K a) (Holds b)
 
--- Bounds have two numbers that stand in this relation, which is known; of shared bits they tell
--- nothing.
+-- What is left of both sides: where each holds some number, each side held one that stands so.
+abbrev pub LeavesPairs : (ℕ → ℕ → Type 0) → (Scalar → ℕ → Type 0) → Scalar → Scalar
+    → Scalar × Scalar → Type 0
+LeavesPairs P K a b p = HoldsSome p.0 → HoldsSome p.1 → AreLeft P K a b
+
+-- The same, or both sides stay as they were.
+abbrev pub LeavesSome : (ℕ → ℕ → Type 0) → (Scalar → ℕ → Type 0) → Scalar → Scalar
+    → Scalar × Scalar → Type 0
+LeavesSome P K a b p = HoldsSome p.0 → HoldsSome p.1 → (p ≡ (a, b)) ⊎ AreLeft P K a b
+
+-- The refinement on this edge leaves a number of each side.
+abbrev pub LeavesNumbers : Size → Condition → Bool → Scalar → Scalar → Type 0
+LeavesNumbers size c taken a b =
+    AreLeft (λ x y. compares size c x y ≡ taken) (Counts (relation_on c taken)) a b
+
+-- Two numbers stand in this relation, which is known.
 abbrev pub Told : Relation → ℕ → ℕ → Type 0
-Told Apart x y = Unit {0}
 Told Unknown x y = ⊥
 Told relation x y = Related relation x y
 

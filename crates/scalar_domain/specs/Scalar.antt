@@ -10,6 +10,11 @@ pub record Holds (s : Scalar) (n : ℕ) : Type 0 where
   pub zeros : Within n s.may
   pub ones : Within s.must n
 
+-- The scalar stands for some number: by bounds and bits together one is left.
+pub record HoldsSome (s : Scalar) : Type 0 where
+  pub number : ℕ
+  pub held : Holds s number
+
 -- The scalar stands for this number alone.
 pub record IsConstant (s : Scalar) (n : ℕ) : Type 0 where
   pub least : s.least ≡ n

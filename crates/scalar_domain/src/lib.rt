@@ -7,6 +7,7 @@
 
 mod apply;
 mod bitwise;
+mod inhabited;
 mod known;
 mod moves;
 mod refine;

@@ -4,9 +4,9 @@ ghost use Rattle.std.specs.Int.{w32, w64};
 ghost use Rattle.bpf_model.specs.Arithmetic.{compares, holds};
 ghost use Rattle.bpf_model.specs.declared.opcode.Size.TheVariants.{Word64};
 ghost use Rattle.scalar_domain.specs.Mask.{Within};
-ghost use Rattle.scalar_domain.specs.Scalar.{Holds, IsConstant, IsNoWider};
+ghost use Rattle.scalar_domain.specs.Scalar.{Holds, HoldsSome, IsConstant, IsNoWider};
 ghost use Rattle.scalar_domain.specs.Floor.{KeepsEdgeFloor};
-ghost use Rattle.scalar_domain.specs.Relation.{Related, SignedRelated, Bounding, MovesBounds, GoesAlong, TellsDifferent, IsNoBound, AreHeld, AreNoWider, IsBetween, FitsSize, TellsOfBounds, HasPair, SomeGoAlong, Told, ToldSigned};
+ghost use Rattle.scalar_domain.specs.Relation.{Related, SignedRelated, Bounding, MovesBounds, GoesAlong, TellsDifferent, IsNoBound, AreHeld, AreNoWider, IsBetween, FitsSize, Counts, LeavesPairs, LeavesSome, LeavesNumbers, Told, ToldSigned, relation_on};
 
 use crate::relation::{Relation, condition_without_sign, is_signed, relation_of};
 use crate::scalar::Scalar;
@@ -17,9 +17,8 @@ const HIGH_HALF: u64 = 0xffff_ffff_0000_0000;
 
 impl Scalar {
     /// What remains of two sets on the edge of a conditional jump where it is taken, or where it is
-    /// not. Where by the bounds no number of the one side goes there with one of the other, both sets stay as
-    /// they are; of 32 bits this is so where both sides are below 2^32, and where two numbers share no bit
-    /// the bounds tell nothing.
+    /// not. Where that would leave no number of one of them, by bounds and known bits together, both stay
+    /// as they are.
     pub fn refine(
         size: Size,
         condition: Condition,
@@ -30,11 +29,18 @@ impl Scalar {
         ensures sound { (x y : ℕ) → x < 2 ^ 64 → y < 2 ^ 64 → Holds a x → Holds b y
             → compares size condition x y ≡ taken → AreHeld x y result }
         ensures floor { KeepsEdgeFloor size condition taken a b result.0 result.1 }
-        ensures kept { FitsSize size a → FitsSize size b → TellsOfBounds condition taken
-            → (SomeGoAlong size condition taken a b → ⊥) → result ≡ (a, b) }
+        ensures remains { (result ≡ (a, b)) ⊎ (HoldsSome result.0 × HoldsSome result.1) }
+        ensures kept { FitsSize size a → FitsSize size b
+            → (LeavesNumbers size condition taken a b → ⊥) → result ≡ (a, b) }
     {
         match refine_words(size, condition, a, b, taken) {
-            Some(sides) => sides,
+            Some((left, right)) => {
+                if left.is_inhabited() && right.is_inhabited() {
+                    (left, right)
+                } else {
+                    (a, b)
+                }
+            }
             None => (a, b),
         }
     }
@@ -60,7 +66,7 @@ impl Scalar {
         ensures sound { (x : ℕ) → x < 2 ^ 64 → Holds self x → x ≢ k
             → IfSome result (λ r. Holds r x) }
         ensures no_wider { IfSome result (λ r. IsNoWider r self) }
-        ensures other { IfSome result (λ _. (self.least ≢ k) ⊎ (self.greatest ≢ k)) }
+        ensures other { IfSome result (λ r. (r ≡ self) ⊎ ((x : ℕ) → IsBetween r x → x ≢ k)) }
         ensures apart { (x : ℕ) → IsBetween self x → x ≢ k
             → IsSomeAnd result (λ r. IsNoBound r k) }
     {
@@ -74,28 +80,30 @@ impl Scalar {
     }
 
     /// The numbers whose low half is one of these.
-    fn with_low(self, low: Scalar) -> Scalar
+    fn with_low(self, low: Scalar) -> Option<Scalar>
         ensures sound { (x : ℕ) → x < 2 ^ 64 → Holds self x → Holds low (x % 2 ^ 32)
-            → Holds result x }
-        ensures no_wider { IsNoWider result self }
+            → IfSome result (λ r. Holds r x) }
+        ensures no_wider { IfSome result (λ r. IsNoWider r self) }
     {
         self.with_bits(HIGH_HALF | low.possible_ones(), low.must)
     }
 
-    /// The numbers whose bits are also within these masks. Where no number has such bits, it stays
-    /// as it is.
-    fn with_bits(self, may: u64, must: u64) -> Scalar
-        ensures sound { (x : ℕ) → Holds self x → Within x may → Within must x → Holds result x }
-        ensures no_wider { IsNoWider result self }
-        ensures least { result.least ≡ self.least }
-        ensures greatest { result.greatest ≡ self.greatest }
+    /// The numbers whose bits are also within these masks; `None` where a bit would be known both
+    /// 0 and 1.
+    fn with_bits(self, may: u64, must: u64) -> Option<Scalar>
+        ensures sound { (x : ℕ) → Holds self x → Within x may → Within must x
+            → IfSome result (λ r. Holds r x) }
+        ensures no_wider { IfSome result (λ r. IsNoWider r self) }
+        ensures bits { IfSome result (λ r. Within r.may may × Within must r.must) }
+        ensures bounds { IfSome result (λ r. (r.least ≡ self.least) × (r.greatest ≡ self.greatest)) }
+        ensures found { (x : ℕ) → Holds self x → Within x may → Within must x → IsSome result }
     {
         let may = self.may & may;
         let must = self.must | must;
         if must & may != must {
-            return self;
+            return None;
         }
-        Scalar::new(self.least, self.greatest, may, must)
+        Some(Scalar::new(self.least, self.greatest, may, must))
     }
 }
 
@@ -111,12 +119,13 @@ fn refine_words(
         → compares size condition x y ≡ taken → IfSome result (AreHeld x y) }
     ensures no_wider { IfSome result (AreNoWider a b) }
     ensures bounds { (k x : ℕ) → size ≡ Word64 → MovesBounds condition taken → IsConstant b k
-        → IsBetween a x → holds w64 condition x k ≡ taken
+        → Holds a x → holds w64 condition x k ≡ taken
         → IsSomeAnd result (λ p. GoesAlong condition taken p.0 k) }
     ensures apart { (k x : ℕ) → size ≡ Word64 → TellsDifferent condition taken → IsConstant b k
-        → IsBetween a x → x ≢ k → IsSomeAnd result (λ p. IsNoBound p.0 k) }
-    ensures pair { FitsSize size a → FitsSize size b → TellsOfBounds condition taken
-        → IfSome result (λ _. SomeGoAlong size condition taken a b) }
+        → Holds a x → x ≢ k → IsSomeAnd result (λ p. IsNoBound p.0 k) }
+    ensures remains { FitsSize size a → FitsSize size b
+        → IfSome result (LeavesSome (λ x y. compares size condition x y ≡ taken)
+        (Counts (relation_on condition taken)) a b) }
 {
     match size {
         Size::Word64 => refine_wide(condition, a, b, taken),
@@ -135,13 +144,13 @@ fn refine_wide(condition: Condition, a: Scalar, b: Scalar, taken: bool) -> Optio
     ensures sound { (x y : ℕ) → x < 2 ^ 64 → y < 2 ^ 64 → Holds a x → Holds b y
         → holds w64 condition x y ≡ taken → IfSome result (AreHeld x y) }
     ensures no_wider { IfSome result (AreNoWider a b) }
-    ensures bounds { (k x : ℕ) → MovesBounds condition taken → IsConstant b k → IsBetween a x
+    ensures bounds { (k x : ℕ) → MovesBounds condition taken → IsConstant b k → Holds a x
         → holds w64 condition x k ≡ taken
         → IsSomeAnd result (λ p. GoesAlong condition taken p.0 k) }
-    ensures apart { (k x : ℕ) → TellsDifferent condition taken → IsConstant b k → IsBetween a x
+    ensures apart { (k x : ℕ) → TellsDifferent condition taken → IsConstant b k → Holds a x
         → x ≢ k → IsSomeAnd result (λ p. IsNoBound p.0 k) }
-    ensures pair { TellsOfBounds condition taken
-        → IfSome result (λ _. HasPair (λ x y. holds w64 condition x y ≡ taken) a b) }
+    ensures remains { IfSome result (LeavesSome (λ x y. holds w64 condition x y ≡ taken)
+        (Counts (relation_on condition taken)) a b) }
 {
     if is_signed(condition) {
         let relation = relation_of(condition_without_sign(condition), taken);
@@ -161,8 +170,8 @@ fn refine_narrow(
     ensures sound { (x y : ℕ) → x < 2 ^ 32 → y < 2 ^ 32 → Holds a x → Holds b y
         → holds w32 condition x y ≡ taken → IfSome result (AreHeld x y) }
     ensures no_wider { IfSome result (AreNoWider a b) }
-    ensures pair { TellsOfBounds condition taken
-        → IfSome result (λ _. HasPair (λ x y. holds w32 condition x y ≡ taken) a b) }
+    ensures remains { IfSome result (LeavesSome (λ x y. holds w32 condition x y ≡ taken)
+        (Counts (relation_on condition taken)) a b) }
 {
     if is_signed(condition) {
         let relation = relation_of(condition_without_sign(condition), taken);
@@ -179,7 +188,10 @@ fn refine_low(condition: Condition, a: Scalar, b: Scalar, taken: bool) -> Option
     ensures no_wider { IfSome result (AreNoWider a b) }
 {
     let (left, right) = refine_narrow(condition, a.low_bits(32), b.low_bits(32), taken)?;
-    Some((a.with_low(left), b.with_low(right)))
+    if !left.is_inhabited() || !right.is_inhabited() {
+        return None;
+    }
+    Some((a.with_low(left)?, b.with_low(right)?))
 }
 
 /// As `relate`, by the order of signed numbers, which tells something where the lesser side has no
@@ -189,7 +201,7 @@ fn relate_signed(relation: Relation, a: Scalar, b: Scalar, sign: u64) -> Option<
     ensures sound { (x y : ℕ) → x < 2 ^ 64 → y < 2 ^ 64 → Holds a x → Holds b y
         → SignedRelated sign relation x y → IfSome result (AreHeld x y) }
     ensures no_wider { IfSome result (AreNoWider a b) }
-    ensures pair { IfSome result (λ _. HasPair (ToldSigned sign relation) a b) }
+    ensures remains { IfSome result (LeavesPairs (ToldSigned sign relation) IsBetween a b) }
 {
     match relation {
         Relation::Below if a.greatest < sign => below(a, b.clip(0, sign - 1)?),
@@ -207,17 +219,17 @@ fn relate_signed(relation: Relation, a: Scalar, b: Scalar, sign: u64) -> Option<
 }
 
 /// The numbers that stand in this relation to one of the other side; `None` where there are none by
-/// the bounds, or where the relation tells nothing.
+/// the bounds or by the known bits, or where the relation tells nothing.
 fn relate(relation: Relation, a: Scalar, b: Scalar) -> Option<(Scalar, Scalar)>
     ensures sound { (x y : ℕ) → x < 2 ^ 64 → y < 2 ^ 64 → Holds a x → Holds b y
         → Related relation x y → IfSome result (AreHeld x y) }
     ensures no_wider { IfSome result (AreNoWider a b) }
-    ensures bounds { (k x : ℕ) → IsConstant b k → IsBetween a x → Bounding relation
+    ensures bounds { (k x : ℕ) → IsConstant b k → Holds a x → Bounding relation
         → Related relation x k
         → IsSomeAnd result (λ p. Related relation p.0.least k × Related relation p.0.greatest k) }
-    ensures apart { (k x : ℕ) → relation ≡ Relation.Different → IsConstant b k → IsBetween a x
+    ensures apart { (k x : ℕ) → relation ≡ Relation.Different → IsConstant b k → Holds a x
         → x ≢ k → IsSomeAnd result (λ p. IsNoBound p.0 k) }
-    ensures pair { IfSome result (λ _. HasPair (Told relation) a b) }
+    ensures remains { IfSome result (LeavesSome (Told relation) (Counts relation) a b) }
 {
     match relation {
         Relation::Below => below(a, b),
@@ -232,7 +244,11 @@ fn relate(relation: Relation, a: Scalar, b: Scalar) -> Option<(Scalar, Scalar)>
         }
         Relation::Equal => equal(a, b),
         Relation::Different => different(a, b),
-        Relation::Apart => Some((a.with_bits(!b.must, 0), b.with_bits(!a.must, 0))),
+        Relation::Apart => {
+            let left = a.with_bits(!b.must, 0)?;
+            let right = b.with_bits(!a.must, 0)?;
+            Some((left, right))
+        }
         Relation::Unknown => None,
     }
 }
@@ -243,7 +259,7 @@ fn different(a: Scalar, b: Scalar) -> Option<(Scalar, Scalar)>
     ensures sound { (x y : ℕ) → x < 2 ^ 64 → y < 2 ^ 64 → Holds a x → Holds b y → x ≢ y
         → IfSome result (AreHeld x y) }
     ensures no_wider { IfSome result (AreNoWider a b) }
-    ensures pair { IfSome result (λ _. HasPair (λ x y. x ≢ y) a b) }
+    ensures remains { IfSome result (LeavesSome (λ x y. x ≢ y) IsBetween a b) }
     ensures apart { (k x : ℕ) → IsConstant b k → IsBetween a x → x ≢ k
         → IsSomeAnd result (λ p. IsNoBound p.0 k) }
 {
@@ -259,15 +275,14 @@ fn equal(a: Scalar, b: Scalar) -> Option<(Scalar, Scalar)>
     ensures sound { (x : ℕ) → Holds a x → Holds b x → IfSome result (AreHeld x x) }
     ensures no_wider { IfSome result (AreNoWider a b) }
     ensures bounds { IfSome result (λ p. (b.least ≤ p.0.least) × (p.0.greatest ≤ b.greatest)) }
-    ensures meet { IfSome result (λ _. (a.least ≤ b.greatest) × (b.least ≤ a.greatest)) }
-    ensures found { (x : ℕ) → IsBetween a x → IsBetween b x → IsSome result }
+    ensures remains { IfSome result (LeavesPairs (λ x y. x ≡ y) Holds a b) }
+    ensures found { (x : ℕ) → Holds a x → Holds b x → IsSome result }
 {
     let left = a.clip(b.least, b.greatest)?;
     let right = b.clip(a.least, a.greatest)?;
-    Some((
-        left.with_bits(b.may, b.must),
-        right.with_bits(a.may, a.must),
-    ))
+    let one = left.with_bits(b.may, b.must)?;
+    let other = right.with_bits(a.may, a.must)?;
+    Some((one, other))
 }
 
 /// The numbers that are at most one of the other side, and those that are at least one.
@@ -275,9 +290,9 @@ fn at_most(a: Scalar, b: Scalar) -> Option<(Scalar, Scalar)>
     ensures sound { (x y : ℕ) → y < 2 ^ 64 → Holds a x → Holds b y → x ≤ y
         → IfSome result (AreHeld x y) }
     ensures no_wider { IfSome result (AreNoWider a b) }
-    ensures pair { IfSome result (λ _. a.least ≤ b.greatest) }
-    ensures left { IfSome result (λ p. p.0.greatest ≤ b.greatest) }
-    ensures right { IfSome result (λ p. a.least ≤ p.1.least) }
+    ensures bound { IfSome result (λ p. p.0.greatest ≤ b.greatest) }
+    ensures other { IfSome result (λ p. a.least ≤ p.1.least) }
+    ensures remains { IfSome result (LeavesPairs (λ x y. x ≤ y) IsBetween a b) }
     ensures found { (x y : ℕ) → IsBetween a x → IsBetween b y → x ≤ y → IsSome result }
 {
     let left = a.clip(0, b.greatest)?;
@@ -290,9 +305,9 @@ fn below(a: Scalar, b: Scalar) -> Option<(Scalar, Scalar)>
     ensures sound { (x y : ℕ) → y < 2 ^ 64 → Holds a x → Holds b y → x < y
         → IfSome result (AreHeld x y) }
     ensures no_wider { IfSome result (AreNoWider a b) }
-    ensures pair { IfSome result (λ _. a.least < b.greatest) }
-    ensures left { IfSome result (λ p. p.0.greatest < b.greatest) }
-    ensures right { IfSome result (λ p. a.least < p.1.least) }
+    ensures bound { IfSome result (λ p. p.0.greatest < b.greatest) }
+    ensures other { IfSome result (λ p. a.least < p.1.least) }
+    ensures remains { IfSome result (LeavesPairs (λ x y. x < y) IsBetween a b) }
     ensures found { (x y : ℕ) → IsBetween a x → IsBetween b y → x < y → IsSome result }
 {
     let left = a.clip(0, b.greatest.checked_sub(1)?)?;

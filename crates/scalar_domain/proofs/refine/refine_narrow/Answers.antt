@@ -1,10 +1,9 @@
-use Rattle.std.proofs.Common.{◌≡◌, ◌^◌, sym, ◌∙◌, ap, subst, arith}
+use Rattle.std.proofs.Common.{◌^◌, inl, inr, sym, ◌∙◌, ap, subst, arith}
 use Rattle.std.proofs.lemmas.Option.{IfSome_then}
 use Rattle.std.specs.Int.{w32}
-use Rattle.bpf_model.specs.Arithmetic.{holds}
-use Rattle.scalar_domain.specs.Relation.{Related, SignedRelated, Told, ToldSigned, relation_on}
+use Rattle.scalar_domain.specs.Relation.{Related, SignedRelated, AreLeft, Counts, IsBetween, Told, ToldSigned, relation_on}
 use Rattle.scalar_domain.proofs.Edges.{related, signed_related}
-use Rattle.scalar_domain.proofs.Pairs.{mapped, told_along, told_signed}
+use Rattle.scalar_domain.proofs.Pairs.{left_along, left_signed}
 use Rattle.scalar_domain.proofs.refine.refine_narrow.Goals as goal
 
 pub returns-then-is_signed-clause-sound : goal.returns-then-is_signed-clause-sound
@@ -18,17 +17,17 @@ returns-else-is_signed-clause-sound c = λ x y p q h k e.
     c.relate.ensures.sound x y (omega (arith, p)) (omega (arith, q)) h k
     (subst (λ r. Related r x y) (sym c.relation_of.ensures) (related w32 c.args.condition c.args.taken x y e))
 
-pub returns-then-is_signed-clause-pair : goal.returns-then-is_signed-clause-pair
-returns-then-is_signed-clause-pair c = λ m.
+pub returns-then-is_signed-clause-remains : goal.returns-then-is_signed-clause-remains
+returns-then-is_signed-clause-remains c =
     let i = c.relation_of-relation.ensures ∙ ap (λ d. relation_on d c.args.taken) c.condition_without_sign.ensures in
-    IfSome_then c.relate_signed.result c.relate_signed.ensures.pair (λ p h.
-    mapped (ToldSigned (2 ^ 31) c.relation_of-relation.result) (λ x y. holds w32 c.args.condition x y ≡ c.args.taken) c.args.a c.args.b h
-    (λ x y p q t. told_signed w32 c.args.condition c.args.taken x y (sym c.is_signed.ensures ∙ c.if-is_signed.true)
-    (subst (λ r. ToldSigned (2 ^ 31) r x y) i t)))
+    IfSome_then c.relate_signed.result c.relate_signed.ensures.remains (λ p f h k.
+    inr (left_signed w32 c.args.condition c.args.taken c.args.a c.args.b (sym c.is_signed.ensures ∙ c.if-is_signed.true)
+    (subst (λ r. AreLeft (ToldSigned (2 ^ 31) r) IsBetween c.args.a c.args.b) i (f h k))))
 
-pub returns-else-is_signed-clause-pair : goal.returns-else-is_signed-clause-pair
-returns-else-is_signed-clause-pair c = λ m.
-    IfSome_then c.relate.result c.relate.ensures.pair (λ p h.
-    mapped (Told c.relation_of.result) (λ x y. holds w32 c.args.condition x y ≡ c.args.taken) c.args.a c.args.b h
-    (λ x y p q t. told_along w32 c.args.condition c.args.taken x y (sym c.is_signed.ensures ∙ c.if-is_signed.false) m
-    (subst (λ r. Told r x y) c.relation_of.ensures t)))
+pub returns-else-is_signed-clause-remains : goal.returns-else-is_signed-clause-remains
+returns-else-is_signed-clause-remains c =
+    IfSome_then c.relate.result c.relate.ensures.remains (λ p f h k. elim (f h k) [
+      | inl e ↦ inl e
+      | inr g ↦ inr (left_along w32 c.args.condition c.args.taken c.args.a c.args.b (sym c.is_signed.ensures ∙ c.if-is_signed.false)
+          (subst (λ r. AreLeft (Told r) (Counts r) c.args.a c.args.b) c.relation_of.ensures g))
+    ])

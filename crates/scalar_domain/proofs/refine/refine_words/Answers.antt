@@ -1,10 +1,10 @@
-use Rattle.std.proofs.Common.{◌<◌, ◌^◌, sym, ◌∙◌, ap, subst, arith}
+use Rattle.std.proofs.Common.{◌≡◌, ◌<◌, ◌^◌, inl, inr, sym, ◌∙◌, ap, subst, arith}
 use Rattle.std.specs.Prelude.{IfSome}
 use Rattle.std.proofs.lemmas.Option.{IfSome_then}
 use Rattle.bpf_model.specs.Arithmetic.{compares}
-use Rattle.scalar_domain.specs.Relation.{SomeGoAlong}
+use Rattle.scalar_domain.specs.Relation.{Counts, LeavesSome, relation_on}
 use Rattle.scalar_domain.proofs.Edges.{narrow_compares}
-use Rattle.scalar_domain.proofs.Pairs.{narrow_pair}
+use Rattle.scalar_domain.proofs.Pairs.{left_narrow}
 use Rattle.scalar_domain.proofs.refine.refine_words.Goals as goal
 
 pub returns-then-b-lt4294967296-clause-sound : goal.returns-then-b-lt4294967296-clause-sound
@@ -17,14 +17,18 @@ returns-then-b-lt4294967296-clause-sound c = λ x y p q h k e.
 pub returns-in-Word64-clause-apart : goal.returns-in-Word64-clause-apart
 returns-in-Word64-clause-apart c = λ k x s. c.refine_wide.ensures.apart k x
 
-pub returns-in-Word64-clause-pair : goal.returns-in-Word64-clause-pair
-returns-in-Word64-clause-pair c = λ f g m. subst (λ s.
-    IfSome c.refine_wide.result (λ _. SomeGoAlong s c.args.condition c.args.taken c.args.a c.args.b))
-    (sym c.in-Word64.is) (c.refine_wide.ensures.pair m)
+pub returns-in-Word64-clause-remains : goal.returns-in-Word64-clause-remains
+returns-in-Word64-clause-remains c = λ f g. subst (λ s.
+    IfSome c.refine_wide.result (LeavesSome (λ x y. compares s c.args.condition x y ≡ c.args.taken)
+    (Counts (relation_on c.args.condition c.args.taken)) c.args.a c.args.b))
+    (sym c.in-Word64.is) c.refine_wide.ensures.remains
 
-pub returns-then-b-lt4294967296-clause-pair : goal.returns-then-b-lt4294967296-clause-pair
-returns-then-b-lt4294967296-clause-pair c = λ f g m.
-    subst (λ s. IfSome c.refine_narrow.result (λ _. SomeGoAlong s c.args.condition c.args.taken c.args.a c.args.b)) (sym c.in-Word32.is)
-    (IfSome_then c.refine_narrow.result (c.refine_narrow.ensures.pair m)
-    (λ p h. narrow_pair c.args.condition c.args.taken c.args.a c.args.b c.if-a-lt4294967296.true
-    c.if-b-lt4294967296.true h))
+pub returns-then-b-lt4294967296-clause-remains : goal.returns-then-b-lt4294967296-clause-remains
+returns-then-b-lt4294967296-clause-remains c = λ f g.
+    subst (λ s. IfSome c.refine_narrow.result (LeavesSome (λ x y. compares s c.args.condition x y ≡ c.args.taken)
+    (Counts (relation_on c.args.condition c.args.taken)) c.args.a c.args.b)) (sym c.in-Word32.is)
+    (IfSome_then c.refine_narrow.result c.refine_narrow.ensures.remains (λ p f h k. elim (f h k) [
+      | inl e ↦ inl e
+      | inr g ↦ inr (left_narrow c.args.condition c.args.taken c.args.a c.args.b c.if-a-lt4294967296.true
+          c.if-b-lt4294967296.true g)
+    ]))

@@ -1,8 +1,9 @@
-use Rattle.std.proofs.Common.{sym, subst, arith}
+use Rattle.std.proofs.Common.{◌<◌, ◌≤◌, sym, subst, arith}
 use Rattle.std.proofs.lemmas.Option.{IfSome_then}
-use Rattle.scalar_domain.specs.Relation.{Related, SignedRelated}
+use Rattle.scalar_domain.specs.Relation.{SignedRelated, AreLeft, IsBetween, ToldSigned}
+use Rattle.scalar_domain.specs.declared.relation.Relation.TheVariants.{Below, AtMost, Above, AtLeast}
 use Rattle.scalar_domain.proofs.Edges.{no_wider-trans}
-use Rattle.scalar_domain.proofs.Pairs.{low, high, wider}
+use Rattle.scalar_domain.proofs.Pairs.{signed_left, signed_right}
 use Rattle.scalar_domain.proofs.refine.relate_signed.Goals as goal
 
 pub returns-in_ok-clip-in-Below-clause-no_wider : goal.returns-in_ok-clip-in-Below-clause-no_wider
@@ -39,32 +40,32 @@ returns-in_ok-right-in-AtLeast-clause-no_wider c =
     let r = c.in_ok-clip-in-AtLeast in
     (no_wider-trans c.in_ok-right-in-AtLeast.left r.field-0 c.args.a n.1 r.ensures.no_wider, n.0)
 
-pub returns-in_ok-right-in-Above-clause-pair : goal.returns-in_ok-right-in-Above-clause-pair
-returns-in_ok-right-in-Above-clause-pair c =
-    let r = c.in_ok-clip-in-Above in
-    record {
-      left = r.field-0.greatest;
-      right = c.args.b.least;
-      left_between = wider r.field-0 c.args.a r.field-0.greatest r.ensures.no_wider (high r.field-0);
-      right_between = low c.args.b;
-      holds = record {
-        left = omega (arith, r.ensures.bounds.1, c.requires);
-        right = omega (arith, c.args.b.ordered, c.if-b-sign.true);
-        related = subst (λ o. Related o r.field-0.greatest c.args.b.least) (sym c.in-Above.is) c.in_ok-right-in-Above.ensures.pair;
-      };
-    }
+pub returns-in_ok-clip-in-Below-clause-remains : goal.returns-in_ok-clip-in-Below-clause-remains
+returns-in_ok-clip-in-Below-clause-remains c =
+    let r = c.in_ok-clip-in-Below in
+    IfSome_then c.below.result c.below.ensures.remains (λ p f h k.
+    subst (λ o. AreLeft (ToldSigned c.args.sign o) IsBetween c.args.a c.args.b) (sym c.in-Below.is)
+    (signed_left Below (λ x y. x < y) c.args.sign c.args.a c.args.b r.field-0 c.requires c.if-a-sign.true
+    r.ensures.bounds.1 r.ensures.no_wider (λ x y e. e) (f h k)))
 
-pub returns-in_ok-right-in-AtLeast-clause-pair : goal.returns-in_ok-right-in-AtLeast-clause-pair
-returns-in_ok-right-in-AtLeast-clause-pair c =
+pub returns-in_ok-clip-in-AtMost-clause-remains : goal.returns-in_ok-clip-in-AtMost-clause-remains
+returns-in_ok-clip-in-AtMost-clause-remains c =
+    let r = c.in_ok-clip-in-AtMost in
+    IfSome_then c.at_most.result c.at_most.ensures.remains (λ p f h k.
+    subst (λ o. AreLeft (ToldSigned c.args.sign o) IsBetween c.args.a c.args.b) (sym c.in-AtMost.is)
+    (signed_left AtMost (λ x y. x ≤ y) c.args.sign c.args.a c.args.b r.field-0 c.requires c.if-a-sign-2.true
+    r.ensures.bounds.1 r.ensures.no_wider (λ x y e. e) (f h k)))
+
+pub returns-in_ok-right-in-Above-clause-remains : goal.returns-in_ok-right-in-Above-clause-remains
+returns-in_ok-right-in-Above-clause-remains c = λ h k.
+    let r = c.in_ok-clip-in-Above in
+    subst (λ o. AreLeft (ToldSigned c.args.sign o) IsBetween c.args.a c.args.b) (sym c.in-Above.is)
+    (signed_right Above (λ x y. x < y) c.args.sign c.args.a c.args.b r.field-0 c.requires c.if-b-sign.true
+    r.ensures.bounds.1 r.ensures.no_wider (λ x y e. e) (c.in_ok-right-in-Above.ensures.remains k h))
+
+pub returns-in_ok-right-in-AtLeast-clause-remains : goal.returns-in_ok-right-in-AtLeast-clause-remains
+returns-in_ok-right-in-AtLeast-clause-remains c = λ h k.
     let r = c.in_ok-clip-in-AtLeast in
-    record {
-      left = r.field-0.greatest;
-      right = c.args.b.least;
-      left_between = wider r.field-0 c.args.a r.field-0.greatest r.ensures.no_wider (high r.field-0);
-      right_between = low c.args.b;
-      holds = record {
-        left = omega (arith, r.ensures.bounds.1, c.requires);
-        right = omega (arith, c.args.b.ordered, c.if-b-sign-2.true);
-        related = subst (λ o. Related o r.field-0.greatest c.args.b.least) (sym c.in-AtLeast.is) c.in_ok-right-in-AtLeast.ensures.pair;
-      };
-    }
+    subst (λ o. AreLeft (ToldSigned c.args.sign o) IsBetween c.args.a c.args.b) (sym c.in-AtLeast.is)
+    (signed_right AtLeast (λ x y. x ≤ y) c.args.sign c.args.a c.args.b r.field-0 c.requires c.if-b-sign-2.true
+    r.ensures.bounds.1 r.ensures.no_wider (λ x y e. e) (c.in_ok-right-in-AtLeast.ensures.remains k h))
