@@ -15,6 +15,7 @@ ghost use Rattle.maps.specs.Counting.{counts_of};
 use crate::array_map::ArrayMap;
 use crate::counts::Counts;
 use crate::hash_map::HashMap;
+use crate::map_table::MapTable;
 use bpf_model::{Errno, Given, KeyBytes, MapKind, MapShape, ValueBytes, Width};
 use hash_index::Buckets;
 use std::alloc::{AllocError, Global};

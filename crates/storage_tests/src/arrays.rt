@@ -1,6 +1,6 @@
 //! The calls of an array.
 use bpf_model::{Errno, MapKind, MapShape};
-use maps::ArrayMap;
+use maps::{ArrayMap, MapTable};
 use std::test::Fail;
 
 /// Three values of eight bytes.

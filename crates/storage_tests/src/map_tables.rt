@@ -4,7 +4,7 @@
 use crate::vectors::Vectors;
 use bpf_model::{Errno, Given, MapId, MapKind, MapShape};
 use hash_index::{Buckets, Index, Sorted};
-use maps::{HashMap, Registry};
+use maps::{HashMap, MapTable, Registry};
 use std::alloc::Global;
 use std::fmt::Write;
 use std::process::Abort;

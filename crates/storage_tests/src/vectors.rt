@@ -3,7 +3,7 @@
 use crate::map_tables::put;
 use bpf_model::{MapKind, MapShape};
 use hash_index::{Buckets, Index, Sorted};
-use maps::HashMap;
+use maps::{HashMap, MapTable};
 use std::alloc::Global;
 use std::collections::VecDeque;
 use std::mem::swap;

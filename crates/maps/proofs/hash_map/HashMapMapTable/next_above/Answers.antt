@@ -1,5 +1,5 @@
 use Rattle.maps.proofs.Parting.{linked-stands, standing-taken}
-use Rattle.maps.proofs.hash_map.HashMap.next_above.Goals as goal
+use Rattle.maps.proofs.hash_map.HashMapMapTable.next_above.Goals as goal
 
 pub key-requires : goal.key-requires
 key-requires g c = (standing-taken c.self.inside.parts c.in-Some.slot c.in-Some.ensures.parted

@@ -10,7 +10,7 @@ use Rattle.view_laws.specs.Views.{written}
 use Rattle.maps.specs.Arrays.{array_view, IsArrayMap}
 use Rattle.maps.specs.Shown.{IsOccupied}
 use Rattle.maps.proofs.Arrays.{occupied-in, room-at, value-at, written-view, written-kept}
-use Rattle.maps.proofs.array_map.ArrayMap.store.Goals as goal
+use Rattle.maps.proofs.array_map.ArrayMapMapTable.store.Goals as goal
 
 pub write_inside-requires-clause-room : goal.write_inside-requires-clause-room
 write_inside-requires-clause-room c =

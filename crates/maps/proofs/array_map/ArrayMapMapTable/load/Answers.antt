@@ -7,7 +7,7 @@ use Rattle.element_store.specs.State.{value_at}
 use Rattle.element_store.proofs.Slots.{block-full}
 use Rattle.maps.specs.Shown.{IsOccupied}
 use Rattle.maps.proofs.Arrays.{occupied-in, room-at, value-at}
-use Rattle.maps.proofs.array_map.ArrayMap.load.Goals as goal
+use Rattle.maps.proofs.array_map.ArrayMapMapTable.load.Goals as goal
 
 pub block-value-requires : goal.block-value-requires
 block-value-requires c =

@@ -7,7 +7,7 @@ use Rattle.view_laws.specs.Views.{value_shown, value_read}
 use Rattle.maps.specs.Arrays.{array_view}
 use Rattle.model_laws.proofs.Indices.{index-got}
 use Rattle.maps.proofs.Arrays.{room-at, value-at}
-use Rattle.maps.proofs.array_map.ArrayMap.bytes_of.Goals as goal
+use Rattle.maps.proofs.array_map.ArrayMapMapTable.bytes_of.Goals as goal
 
 pub block-requires : goal.block-requires
 block-requires c =

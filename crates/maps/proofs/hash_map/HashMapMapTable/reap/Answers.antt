@@ -11,7 +11,7 @@ use Rattle.maps.specs.Parted.{PartsView}
 use Rattle.maps.specs.Shown.{map_view}
 use Rattle.maps.proofs.Counting.{reaped-counted}
 use Rattle.maps.proofs.Leaving.{given-is, reaped-shown}
-use Rattle.maps.proofs.hash_map.HashMap.reap.Goals as goal
+use Rattle.maps.proofs.hash_map.HashMapMapTable.reap.Goals as goal
 
 pub returns-in-Some-clause-some : goal.returns-in-Some-clause-some
 returns-in-Some-clause-some g c =

@@ -3,7 +3,7 @@ use Rattle.bpf_model.specs.declared.limits.TheConstants.{MAX_ENTRIES, MAX_SPARE}
 use Rattle.maps.specs.Counting.{unlinked_in}
 use Rattle.maps.specs.Shown.{map_view}
 use Rattle.maps.proofs.Counting.{few-unlinked}
-use Rattle.maps.proofs.hash_map.HashMap.counts.Goals as goal
+use Rattle.maps.proofs.hash_map.HashMapMapTable.counts.Goals as goal
 
 pub returns-clause-unlinked : goal.returns-clause-unlinked
 returns-clause-unlinked g c =

@@ -7,7 +7,7 @@ use Rattle.view_laws.specs.Views.{updated}
 use Rattle.maps.specs.Arrays.{array_view, IsArrayMap}
 use Rattle.model_laws.proofs.Indices.{index-got}
 use Rattle.maps.proofs.Arrays.{room-at, written-view, written-kept, array-updates}
-use Rattle.maps.proofs.array_map.ArrayMap.update.Goals as goal
+use Rattle.maps.proofs.array_map.ArrayMapMapTable.update.Goals as goal
 
 pub write_block-requires : goal.write_block-requires
 write_block-requires c =

@@ -7,7 +7,7 @@ use Rattle.maps.specs.Arrays.{array_view}
 use Rattle.maps.specs.Shown.{IsNext}
 use Rattle.model_laws.proofs.Indices.{index-gets}
 use Rattle.maps.proofs.Arrays.{value-at}
-use Rattle.maps.proofs.array_map.ArrayMap.next_above.Goals as goal
+use Rattle.maps.proofs.array_map.ArrayMapMapTable.next_above.Goals as goal
 
 pub returns-in-Some-clause-some : goal.returns-in-Some-clause-some
 returns-in-Some-clause-some c =

@@ -2,7 +2,7 @@ use Rattle.std.proofs.Common.{ℕ, ◌∙◌, sym, ap}
 use Rattle.maps.specs.declared.counts.Counts.{Counts}
 use Rattle.maps.specs.Counting.{counts_of}
 use Rattle.model_laws.proofs.Indices.{len-index}
-use Rattle.maps.proofs.array_map.ArrayMap.counts.Goals as goal
+use Rattle.maps.proofs.array_map.ArrayMapMapTable.counts.Goals as goal
 
 pub returns-clause-value : goal.returns-clause-value
 returns-clause-value c =

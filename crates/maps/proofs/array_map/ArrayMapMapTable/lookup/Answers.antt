@@ -6,7 +6,7 @@ use Rattle.bpf_model.specs.declared.limits.TheConstants.{MAX_ENTRIES, MAX_SPARE}
 use Rattle.bpf_model.specs.View.{MapView, index_below}
 use Rattle.maps.specs.Arrays.{IsArrayMap}
 use Rattle.model_laws.proofs.Indices.{index-got}
-use Rattle.maps.proofs.array_map.ArrayMap.lookup.Goals as goal
+use Rattle.maps.proofs.array_map.ArrayMapMapTable.lookup.Goals as goal
 
 module _ (shape : MapShape) (values : List ℕ) (kept : IsArrayMap shape values) (key : List ℕ) where
   long : (o : Option ℕ) → o ≡ get (index_below shape.entries) key → IfSome o (λ i. length key ≡ shape.key_len)

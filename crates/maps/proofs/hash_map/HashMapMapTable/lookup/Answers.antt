@@ -9,7 +9,7 @@ use Rattle.maps.specs.Parted.{PartsView, IsParted}
 use Rattle.maps.specs.Shown.{IsMap}
 use Rattle.maps.proofs.Parting.{standing-taken, linked-stands}
 use Rattle.maps.proofs.Counting.{few-slots}
-use Rattle.maps.proofs.hash_map.HashMap.lookup.Goals as goal
+use Rattle.maps.proofs.hash_map.HashMapMapTable.lookup.Goals as goal
 
 found-inside : (shape : MapShape) (p : PartsView) (n : ℕ) (key : List ℕ) (o : Option ℕ) → IsMap shape p n → IsParted p
     → o ≡ get p.index key → IfSome o (λ i. i < MAX_ENTRIES + MAX_SPARE)

@@ -8,7 +8,7 @@ use Rattle.maps.specs.Updated.{unlinked_of}
 use Rattle.maps.proofs.Updating.{len-some}
 use Rattle.maps.proofs.Leaving.{retired-kept}
 use Rattle.maps.proofs.Counting.{few-unlinked}
-use Rattle.maps.proofs.hash_map.HashMap.delete.Goals as goal
+use Rattle.maps.proofs.hash_map.HashMapMapTable.delete.Goals as goal
 
 pub overflow_sub-self : goal.overflow_sub-self
 overflow_sub-self g c =

@@ -9,7 +9,7 @@ use Rattle.maps.specs.Shown.{map_view}
 use Rattle.maps.specs.Updated.{error_of}
 use Rattle.maps.proofs.Updating.{put-kept, put-updates, put-view, updated-by}
 use Rattle.maps.proofs.Counting.{put-counted, few-unlinked}
-use Rattle.maps.proofs.hash_map.HashMap.update.Goals as goal
+use Rattle.maps.proofs.hash_map.HashMapMapTable.update.Goals as goal
 
 pub returns-in-Err-clause-result : goal.returns-in-Err-clause-result
 returns-in-Err-clause-result g c =
