@@ -1,18 +1,19 @@
 //! The world with its journal, and the ledger that counts its entries. No method waits.
-ghost use Rattle.std.specs.Prelude.{◌≡◌, ◌+◌, ◌-◌, ◌^◌, ◌<◌, ◌≤◌, ◌↔◌, [], length, IsTrue, true, OnErr, OnOk, Err, Ok, option_copied};
+ghost use Rattle.std.specs.Prelude.{◌≡◌, ℕ, ◌+◌, ◌-◌, ◌^◌, ◌<◌, ◌≤◌, ◌↔◌, [], length, IsTrue, true, IfNone, IfSome, OnErr, OnOk, Err, Ok, option_copied};
 ghost use Rattle.bpf_model.specs.declared.limits.TheConstants.{MAX_JOURNAL};
 ghost use Rattle.journal_laws.specs.Replay.{Replays, HasNoRuns};
-ghost use Rattle.shared.specs.Noted.{IsEntered, IsExitNote, receipt_of};
+ghost use Rattle.shared.specs.Noted.{IsEntered, receipt_of};
+ghost use Rattle.shared.specs.Receipts.{IsExitOf};
+ghost use Rattle.world_laws.specs.Invariant.{IsWorld};
 ghost use Rattle.shared.specs.Tally.{IsTallyOf, origin_of};
 ghost use Rattle.shared.specs.Books.{HasNoRoom, TotalsRise, CutsTo};
 ghost use Rattle.shared.specs.declared.fault.SharedFault.TheVariants as fault;
 ghost use Rattle.shared.specs.declared.fault.CutFault.TheVariants as cut_fault;
 
 use crate::fault::{CutFault, SharedFault};
-use crate::receipt::{ExitNote, Receipt};
 use crate::tally::{Tally, Totals, unreclaimed};
 use crate::worker::Worker;
-use bpf_model::{Answer, CtxBytes, Event, ProgId, RunId};
+use bpf_model::{Answer, CtxBytes, Event, RunId};
 use journal::{Journal, JournalFault};
 use std::alloc::Global;
 use std::marker::Model;
@@ -140,55 +141,24 @@ impl<L: Ledger> Books<L> {
         Ok(())
     }
 
-    /// Applies the event of a receipt and enters it, or changes nothing. The receipt is then that of this call;
-    /// the clauses are those of `act_noted`.
-    pub fn act_again(&mut self, worker: &mut Worker<L>, receipt: &mut Receipt)
-        ensures noted { IsEntered self.old worker.old receipt.old.event receipt.new self.new worker.new }
-        ensures rise { TotalsRise self.old.tally.totals self.new.tally.totals }
-    {
-        receipt.forget_fault();
-        receipt.worker = worker.number;
-        let outcome = match &mut receipt.reply {
-            Ok(answer) => self.act_into(worker, &receipt.event, answer),
-            Err(_) => unreachable!(),
-        };
-        receipt.made = worker.made;
-        if let Err(fault) = outcome {
-            receipt.reply = Err(fault);
-        }
-    }
-
-    /// Applies the event and enters it, or changes nothing.
-    ///
-    /// The reply is `JournalFull` exactly when the journal has as many entries as it may have, or when as many
-    /// as 64 bits count were made since the world was shared; `Memory` when the journal could not grow.
-    pub fn act_noted(&mut self, worker: &mut Worker<L>, event: Event) -> Receipt
-        ensures noted { IsEntered self.old worker.old event result self.new worker.new }
-        ensures rise { TotalsRise self.old.tally.totals self.new.tally.totals }
-    {
-        let mut receipt = Receipt::new(worker.number, worker.made, event, Ok(Answer::Moved));
-        self.act_again(worker, &mut receipt);
-        receipt
-    }
-
-    /// Asks the world for the exit value of a run, for a program and a context. Nothing changes.
-    pub fn exit_noted(
+    /// The exit value of a run that has ended and was started with this program on this context, if it is so.
+    pub fn exit_of(
         &self,
-        worker: &Worker<L>,
         run: RunId,
-        prog: ProgId,
         program: Option<&Verified>,
         ctx: &CtxBytes,
-    ) -> ExitNote
-        ensures noted { IsExitNote self.now.world worker.now run prog
-            (option_copied program.entry) ctx.now.items result }
+    ) -> Option<u64>
+        ensures world { IsWorld self.now.world }
+        ensures some { IfSome result (λ n. IsExitOf self.now.world run (option_copied program.entry)
+            ctx.now.items n) }
+        ensures none { IfNone result ((n : ℕ) → IsExitOf self.now.world run
+            (option_copied program.entry) ctx.now.items n → ⊥) }
     {
         self.world.is_world();
-        let exit = match program {
+        match program {
             Some(program) => self.world.exit_of(run, program, ctx),
             None => None,
-        };
-        ExitNote::new(worker.number, worker.made, run, prog, ctx, exit)
+        }
     }
 
     /// Makes the world its own new base and empties the journal, whose entries are counted as those before the

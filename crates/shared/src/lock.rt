@@ -11,8 +11,7 @@ ghost use Rattle.journal_laws.specs.Replay.{Replays, HasNoRuns};
 use crate::books::{Books, Finished};
 use crate::counters::Counters;
 use crate::fault::{CutFault, SharedFault};
-use crate::receipt::{ExitNote, Receipt};
-use crate::state::{State, begin};
+use crate::state::{ExitNote, Receipt, State, begin};
 use crate::tally::Origin;
 use crate::worker::{Worker, Workers, merged, new_workers};
 use bpf_model::{Answer, CtxBytes, Event, MAX_JOURNAL, MAX_PROGRAMS, ProgId, RunId};
@@ -145,9 +144,7 @@ impl<L: Ledger> Shared<L> {
             × (worker.new.parts ≡ worker.old.parts) }
         ensures err { OnErr result.reply (worker.new ≡ worker.old) }
     {
-        let mut receipt = Receipt::new(worker.number, worker.made, event, Ok(Answer::Moved));
-        self.act_again(rt, worker, &mut receipt);
-        receipt
+        self.state.lock(rt).act_noted(rt, worker, event)
     }
 
     /// Applies the event of a receipt once more. The receipt is then that of this call; the clauses are those of
@@ -162,8 +159,7 @@ impl<L: Ledger> Shared<L> {
             × (worker.new.parts ≡ worker.old.parts) }
         ensures err { OnErr receipt.new.reply (worker.new ≡ worker.old) }
     {
-        let mut state = self.state.lock(rt);
-        state.act_again(rt, worker, receipt);
+        self.state.lock(rt).act_again(rt, worker, receipt);
     }
 
     /// Applies one event, and puts its answer in the place of another one. It waits for the lock, and takes no

@@ -1,8 +1,8 @@
 //! What the lock guards: the books, with the one pass that writes the counters.
-ghost use Rattle.std.specs.Prelude.{◌≡◌, ◌+◌, ◌≤◌, ◌↔◌, length, IfOk, OnErr, OnOk, Err, option_copied};
+ghost use Rattle.std.specs.Prelude.{◌≡◌, ◌+◌, ◌≤◌, ◌↔◌, length, IfOk, OnErr, OnOk, Err};
 ghost use Rattle.std.specs.Arc.{arc_value};
 ghost use Rattle.crossbeam_utils.specs.Seq.{cell_view};
-ghost use Rattle.shared.specs.Noted.{IsEntered, IsExitNote, receipt_of};
+ghost use Rattle.shared.specs.Noted.{IsEntered, receipt_of};
 ghost use Rattle.shared.specs.Books.{TotalsRise, CutsTo};
 ghost use Rattle.shared.specs.Meter.{writer_at, meter_writer};
 ghost use Rattle.shared.specs.Tally.{IsTallyOf, shown_totals};
@@ -10,19 +10,23 @@ ghost use Rattle.bpf_model.specs.declared.limits.TheConstants.{MAX_JOURNAL};
 ghost use Rattle.journal_laws.specs.Replay.{Replays, HasNoRuns};
 ghost use Rattle.shared.specs.declared.fault.CutFault.TheVariants as cut_fault;
 
+mod note;
+mod receipt;
+
+pub use note::ExitNote;
+pub use receipt::Receipt;
+
 use crate::books::{Books, Finished};
 use crate::counters::Counters;
 use crate::fault::{CutFault, SharedFault};
 use crate::meter::{ForReaders, Meter, MeterPass, Writes};
-use crate::receipt::{ExitNote, Receipt};
 use crate::tally::{Origin, Totals};
 use crate::worker::Worker;
-use bpf_model::{Answer, CtxBytes, Event, ProgId, RunId};
+use bpf_model::{Answer, Event};
 use std::alloc::{AllocError, Global};
 use std::marker::Model;
 use std::sync::ledger::{Ledger, Share};
 use std::sync::{Arc, Wait};
-use verifier::Verified;
 
 /// The books, and the pass that writes the counters' cell. Whenever the lock is free the books balance, and
 /// the pass knows the words of the cell: they are the totals of the books.
@@ -111,42 +115,6 @@ impl<L: Ledger> State<L> {
         let after = self.books.totals();
         publish(rt, &self.cell, &mut self.pass, before, after);
         outcome
-    }
-
-    /// Applies the event of a receipt, enters it and writes the counters, or changes nothing. The receipt is then
-    /// that of this call.
-    pub fn act_again<R: Wait>(&mut self, rt: &R, worker: &mut Worker<L>, receipt: &mut Receipt)
-        ensures noted { IsEntered self.old worker.old receipt.old.event receipt.new self.new worker.new }
-    {
-        let before = self.books.totals();
-        self.books.act_again(worker, receipt);
-        let after = self.books.totals();
-        publish(rt, &self.cell, &mut self.pass, before, after);
-    }
-
-    /// Applies the event, enters it and writes the counters, or changes nothing. The clauses are those of the
-    /// books, which do not wait.
-    pub fn act_noted<R: Wait>(&mut self, rt: &R, worker: &mut Worker<L>, event: Event) -> Receipt
-        ensures noted { IsEntered self.old worker.old event result self.new worker.new }
-    {
-        let mut receipt = Receipt::new(worker.number, worker.made, event, Ok(Answer::Moved));
-        self.act_again(rt, worker, &mut receipt);
-        receipt
-    }
-
-    /// Asks the world for the exit value of a run, for a program and a context. Nothing changes.
-    pub fn exit_noted(
-        &self,
-        worker: &Worker<L>,
-        run: RunId,
-        prog: ProgId,
-        program: Option<&Verified>,
-        ctx: &CtxBytes,
-    ) -> ExitNote
-        ensures noted { IsExitNote self.now.world worker.now run prog
-            (option_copied program.entry) ctx.now.items result }
-    {
-        self.books.exit_noted(worker, run, prog, program, ctx)
     }
 
     /// Makes the world its own new base and empties the journal, whose entries are counted as those before the
