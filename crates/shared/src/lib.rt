@@ -7,7 +7,6 @@
 
 mod books;
 mod bound;
-mod counters;
 mod fault;
 mod lock;
 mod meter;
@@ -17,9 +16,8 @@ mod worker;
 
 pub use books::{Books, Finished, is_quiet};
 pub use bound::ProgramWithMaps;
-pub use counters::Counters;
 pub use fault::{CutFault, SharedFault};
 pub use lock::Shared;
-pub use state::{ExitNote, Receipt, State};
+pub use state::{Counters, ExitNote, Receipt, State};
 pub use tally::Totals;
 pub use worker::{MAX_WORKERS, Worker, Workers};

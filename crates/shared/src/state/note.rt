@@ -46,7 +46,7 @@ impl<L: Ledger> State<L> {
         program: Option<&Verified>,
         ctx: &CtxBytes,
     ) -> ExitNote
-        ensures noted { IsExitNote self.now.world worker.now run prog
+        ensures noted { IsExitNote self.now.books.world worker.now run prog
             (option_copied program.entry) ctx.now.items result }
     {
         let exit = self.books.exit_of(run, program, ctx);

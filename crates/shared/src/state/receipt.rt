@@ -36,7 +36,8 @@ impl Model for Receipt {
 impl<L: Ledger> State<L> {
     /// Applies the event, enters it and writes the counters, or changes nothing. The receipt says which.
     pub fn act_noted<R: Wait>(&mut self, rt: &R, worker: &mut Worker<L>, event: Event) -> Receipt
-        ensures noted { IsEntered self.old worker.old event result self.new worker.new }
+        ensures noted { IsEntered self.old.books worker.old event result self.new.books worker.new }
+        ensures cell { self.new.meter ≡ self.old.meter }
     {
         let mut receipt = Receipt {
             worker: worker.number,
@@ -51,7 +52,9 @@ impl<L: Ledger> State<L> {
     /// Applies the event of a receipt, enters it and writes the counters, or changes nothing. The receipt is then
     /// that of this call.
     pub fn act_again<R: Wait>(&mut self, rt: &R, worker: &mut Worker<L>, receipt: &mut Receipt)
-        ensures noted { IsEntered self.old worker.old receipt.old.event receipt.new self.new worker.new }
+        ensures noted { IsEntered self.old.books worker.old receipt.old.event receipt.new
+            self.new.books worker.new }
+        ensures cell { self.new.meter ≡ self.old.meter }
     {
         receipt.forget_fault();
         receipt.worker = worker.number;
