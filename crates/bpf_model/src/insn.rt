@@ -141,7 +141,7 @@ pub enum Insn {
 
 impl Insn {
     ghost use Rattle.std.specs.Prelude.{◌≡◌, ◌≤◌};
-    ghost use Rattle.bpf_model.specs.Places.{slot_count as slot_count_of};
+    ghost use Rattle.bpf_model.specs.Step.{slot_count as slot_count_of};
 
     /// How many slots the instruction takes: 2 for the wide ones, else 1.
     pub fn slot_count(&self) -> usize

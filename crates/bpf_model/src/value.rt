@@ -1,5 +1,5 @@
 //! The values of the abstract machine. The runtime itself keeps untyped words; these are what contracts
-//! speak of, and what the plain model computes with.
+//! speak of, and what the reference model computes with.
 
 /// A reference: to the context, the frame or an element, at an offset in bytes from the start of its
 /// region, or to a map. An element is named by its birth number, a map by its index in the program's list.

@@ -1,12 +1,12 @@
 //! The calls on programs.
 ghost use Rattle.std.specs.Prelude.{◌≡◌, IfOk};
-ghost use Rattle.element_arena.specs.State.{new_arena};
+ghost use Rattle.element_store.specs.State.{new_arena};
 
 use anyhow::{Result, ensure};
 use asm::{AsmFault, assemble};
 use bpf_model::{MapKind, MapShape};
 use disasm::disassemble;
-use element_arena::Arena;
+use element_store::Arena;
 use insn_codec::{DecodeFault, Program, decode, encode};
 use std::alloc::Global;
 use verifier::{ProgramRefusal, Verified, verify};

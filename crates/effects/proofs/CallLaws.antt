@@ -1,5 +1,5 @@
 -- What a call or a test for null makes of states, by the laws of the known kinds.
-use Rattle.std.proofs.Common.{◌≡◌, ℕ, ◌^◌, ◌/◌, ◌<◌, List, None, Some, ◌⊎◌, inl, inr, refl, sym, ap, subst, ◌∙◌, ℤ, arith, true, false}
+use Rattle.std.proofs.Common.{◌≡◌, ℕ, ◌/◌, ◌<◌, List, None, Some, ◌⊎◌, inl, inr, refl, sym, ap, subst, ◌∙◌, ℤ, arith, true, false}
 use Rattle.bpf_model.specs.declared.limits.MapKind.TheVariants.{Array}
 use Rattle.bpf_model.specs.declared.limits.MapShape.{MapShape}
 use Rattle.bpf_model.specs.declared.limits.TheConstants.{MAX_DEPTH}
@@ -16,8 +16,6 @@ use Rattle.bpf_model.specs.Call.{helper_of, kernel_function_of}
 use Rattle.bpf_model.specs.declared.insn.Operand.TheVariants.{Immediate}
 use Rattle.bpf_model.specs.declared.opcode.Condition.TheVariants.{Equal, NotEqual}
 use Rattle.bpf_model.specs.declared.opcode.Size.TheVariants.{Word64}
-use Rattle.scalar_domain.specs.Scalar.{Holds}
-use Rattle.scalar_domain.specs.declared.scalar.Scalar.{Scalar}
 use Rattle.std.specs.Prelude.{Bool, ◌==◌, ◌||◌, if◌then◌else◌, pos, nat_le, nat_lt, slice_get}
 use Rattle.std.proofs.lemmas.Option.{same_Some}
 use Rattle.std.proofs.lemmas.Bool.{ne_eqb, lt-leb, lt-ltb}
@@ -43,7 +41,7 @@ use Rattle.register_kinds.specs.States.{kind_of, cell_of, kind_at, kind_in, clas
 use Rattle.register_kinds.specs.Pairs.{IsBelow, AreBelow}
 use Rattle.register_kinds.specs.Changes.{learnt}
 use Rattle.effects.specs.Forks.{ForksOnNull}
-use Rattle.effects.specs.Calls.{PerformsCall, MayLookUp, is_array_of, helper_fault, AreArguments, IsResult, KeepsOwnNumbers}
+use Rattle.effects.specs.Calls.{PerformsCall, MayLookUp, is_array_of, helper_fault, AreArguments, IsResult, IsLeft, KeepsOwnNumbers}
 
 -- a jump where the register is equal to 0, or where it is not
 abbrev null_jump : Bool → ℕ → ℤ → Insn
@@ -103,11 +101,6 @@ inside_or_array shapes a map shape m (inr x) =
     let here : y.0 ≡ shape = same_Some y.0 shape (sym y.1 ∙ (ap (slice_get shapes) same ∙ m.shape_is)) in
     inr (ap (λ (s : MapShape). s.kind) (sym here) ∙ y.2)
 
--- what a helper leaves in r0, by the kind of its result
-abbrev pub IsLeft : ResultKind → ℕ → ℕ → RegKind → Type 0
-IsLeft kind map id k =
-    (kind ≡ ElementOrNull → k ≡ kinds.MaybeNull map id) × (kind ≡ ErrorNumber → (s : Scalar) × (k ≡ kinds.Num s) × ((n : ℕ) → n < 2 ^ 64 → Holds s n))
-
 -- each helper transfers where its arguments are those of its signature
 helper-transfers : (helper : Helper) (imm : ℤ) (shapes : List MapShape) (ctx_len : ℕ) (a : AbsState) (map id : ℕ)
     (shape : MapShape) (k : RegKind) → ((signature_of helper).result ≡ ElementOrNull → MayLookUp shapes a) →
@@ -116,17 +109,16 @@ helper-transfers : (helper : Helper) (imm : ℤ) (shapes : List MapShape) (ctx_l
     Transfers (Call callee.Helper imm) shapes ctx_len a (after_call (kind_of k) a) None
 helper-transfers helpers.Lookup imm shapes ctx_len a map id shape k may m args fresh left f =
     subst (λ (x : RegKind). Transfers (Call callee.Helper imm) shapes ctx_len a (after_call (kind_of x) a) None)
-    (sym (left.0 refl)) (lookup_transfers imm shapes ctx_len a map id shape f
+    (sym left) (lookup_transfers imm shapes ctx_len a map id shape f
     (inside_or_array shapes a map shape m (may refl)) m args.1.0 fresh)
 helper-transfers helpers.Update imm shapes ctx_len a map id shape k may m args fresh left f =
-    let t = left.1 refl in
     let flags = args.1.1.1.0 in
     subst (λ (x : RegKind). Transfers (Call callee.Helper imm) shapes ctx_len a (after_call (kind_of x) a) None)
-    (sym t.1) (update_transfers imm shapes ctx_len a map shape t.0 t.2 m args.1.0 args.1.1.0 flags.0 flags.1 f)
+    (sym left.1) (update_transfers imm shapes ctx_len a map shape left.0 left.2 m args.1.0 args.1.1.0 flags.0
+    flags.1 f)
 helper-transfers helpers.Delete imm shapes ctx_len a map id shape k may m args fresh left f =
-    let t = left.1 refl in
     subst (λ (x : RegKind). Transfers (Call callee.Helper imm) shapes ctx_len a (after_call (kind_of x) a) None)
-    (sym t.1) (delete_transfers imm shapes ctx_len a map shape t.0 t.2 m args.1.0 f)
+    (sym left.1) (delete_transfers imm shapes ctx_len a map shape left.0 left.2 m args.1.0 f)
 
 pub helper_sound : (helper : Helper) (a b : StateHere) (shapes : List MapShape) (map id : ℕ) (shape : MapShape)
     (k : RegKind) → ((signature_of helper).result ≡ ElementOrNull → MayLookUp shapes (state_of a)) →
@@ -140,8 +132,8 @@ helper_sound helper a b shapes map id shape k may m args below left e imm f ctx_
     left f)
 
 pub left_result : (kind : ResultKind) (map id : ℕ) (k : RegKind) (x : Kind) → IsLeft kind map id k → x ≡ kind_of k → IsResult kind x
-left_result ElementOrNull map id k x left e = (map, id, e ∙ ap kind_of (left.0 refl))
-left_result ErrorNumber map id k x left e = let t = left.1 refl in (t.0, e ∙ ap kind_of t.1)
+left_result ElementOrNull map id k x left e = (map, id, e ∙ ap kind_of left)
+left_result ErrorNumber map id k x left e = (left.0, e ∙ ap kind_of left.1)
 
 -- a lookup inside a section, or in an array, passes the section test
 pub lookup_inside : (shapes : List MapShape) (a : AbsState) (map : ℕ) (shape : MapShape) → (0 < a.depth)

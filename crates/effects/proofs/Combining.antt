@@ -21,7 +21,7 @@ use Rattle.bpf_model.specs.Value.{◌>>=◌, number}
 use Rattle.bpf_model.specs.Operand.{operand_value, computed, unary_source}
 use Rattle.model_laws.specs.Near.{IsNear, IsNearOffset}
 use Rattle.bpf_model.specs.Graph.{falls}
-use Rattle.bpf_model.specs.Places.{slot_count}
+use Rattle.bpf_model.specs.Step.{slot_count}
 use Rattle.bpf_model.specs.Step.{State, Environment, Outcome, Moves as Goes, put, sets, after, map_value}
 use Rattle.bpf_model.specs.Element.{Element}
 use Rattle.model_laws.specs.ByKind.{AccessesElement}

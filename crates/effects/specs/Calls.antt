@@ -1,5 +1,5 @@
 -- Calls and tests for null in words of the laws.
-use Rattle.std.specs.Prelude.{◌≡◌, ℕ, suc, ◌<◌, List, [], ◌∷◌, Option, Some, None, Result, Ok, Err}
+use Rattle.std.specs.Prelude.{◌≡◌, ℕ, suc, ◌^◌, ◌<◌, List, [], ◌∷◌, Option, Some, None, Result, Ok, Err}
 use Rattle.std.specs.Prelude.{ℤ, slice_get, nat_lt, if◌then◌else◌, ◌⊎◌, ◌||◌, Bool, true, false}
 use Rattle.bpf_model.specs.declared.limits.TheConstants.{MAX_DEPTH}
 use Rattle.bpf_model.specs.declared.limits.MapShape.{MapShape}
@@ -15,6 +15,7 @@ use Rattle.bpf_model.specs.declared.call.ArgumentKind.TheVariants.{MapOfProgram,
 use Rattle.bpf_model.specs.declared.call.ResultKind.{ResultKind}
 use Rattle.bpf_model.specs.declared.call.ResultKind.TheVariants.{ElementOrNull, ErrorNumber}
 use Rattle.bpf_model.specs.Request.{signature_of}
+use Rattle.scalar_domain.specs.Scalar.{Holds}
 use Rattle.scalar_domain.specs.declared.scalar.Scalar.{Scalar}
 use Rattle.register_kinds.specs.declared.fault.InsnFault.{InsnFault}
 use Rattle.register_kinds.specs.declared.fault.InsnFault.TheVariants.{UnknownCall, OutsideSection}
@@ -24,6 +25,8 @@ use Rattle.plan_laws.specs.Kinds.{Kind, Num, MapAt, MaybeNull, AbsState as Known
 use Rattle.plan_laws.specs.Effects.{HasBytes, HasNumber, after_call, after_lock, after_unlock}
 use Rattle.plan_laws.specs.Effects.{is_array_in}
 use Rattle.plan_laws.specs.Planned.{AreAlike}
+use Rattle.register_kinds.specs.declared.kind.RegKind.{RegKind}
+use Rattle.register_kinds.specs.declared.kind.RegKind.TheVariants as kinds
 use Rattle.register_kinds.specs.declared.learn.Lesson.TheVariants.{IsNull, IsThere}
 use Rattle.register_kinds.specs.Changes.{learnt}
 use Rattle.register_kinds.specs.declared.state.AbsState.{AbsState}
@@ -92,6 +95,13 @@ AreArguments shapes a shape (kind ∷ kinds) r =
 abbrev pub IsResult : ResultKind → Kind → Type 0
 IsResult ElementOrNull k = (map : ℕ) × (id : ℕ) × (k ≡ MaybeNull map id)
 IsResult ErrorNumber k = (s : Scalar) × (k ≡ Num s)
+
+-- What a call leaves in r0 for a result of this kind: a reference to an element of the map or null,
+-- by an identity, or any number.
+abbrev pub IsLeft : ResultKind → ℕ → ℕ → RegKind → Type 0
+IsLeft ElementOrNull map id k = k ≡ kinds.MaybeNull map id
+IsLeft ErrorNumber map id k =
+    (s : Scalar) × (k ≡ kinds.Num s) × ((n : ℕ) → n < 2 ^ 64 → Holds s n)
 
 -- Before the call the arguments are known to be those of the helper's signature; after it r0 has a
 -- result of its kind.

@@ -4,7 +4,7 @@ use Rattle.bpf_model.specs.declared.insn.Operand.{Operand}
 use Rattle.bpf_model.specs.Operand.{operand_value}
 use Rattle.bpf_model.specs.Plain.{Names}
 use Rattle.bpf_model.specs.Step.{State}
-use Rattle.bpf_model.specs.Value.{IsNumber}
+use Rattle.model_laws.specs.Replies.{IsNumber}
 use Rattle.scalar_domain.specs.declared.scalar.Scalar.{Scalar}
 use Rattle.plan_laws.specs.Kinds.{Num, AbsState as Known}
 use Rattle.plan_laws.specs.Describes.{Scene, IsOf, Describes}

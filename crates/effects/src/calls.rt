@@ -1,17 +1,15 @@
-//! Lookup, update and delete; lock and unlock.
+//! Calls of helpers, by their signatures; lock and unlock.
 ghost use Rattle.std.specs.Prelude.{◌≡◌, ℕ, IfSome, None, Err, IsOk, slice_get, ◌+◌, ◌^◌, ◌<◌, ◌⊎◌, OnOk, OnErr, Some, List, ℤ};
 ghost use Rattle.bpf_model.specs.Call.{helper_of, kernel_function_of};
 ghost use Rattle.bpf_model.specs.declared.limits.MapKind.{MapKind};
 ghost use Rattle.bpf_model.specs.declared.limits.MapShape.{MapShape};
 ghost use Rattle.bpf_model.specs.Request.{signature_of};
-ghost use Rattle.scalar_domain.specs.Scalar.{Holds};
-ghost use Rattle.scalar_domain.specs.declared.scalar.Scalar.{Scalar};
 ghost use Rattle.register_kinds.specs.States.{kind_at, kind_in, kind_of, state_of};
 ghost use Rattle.register_kinds.specs.Pairs.{IsBelow, AreBelow, TakesFew};
 ghost use Rattle.plan_laws.specs.Effects.{HasBytes, after_lock, after_unlock};
 ghost use Rattle.plan_laws.specs.Planned.{AreAlike};
 ghost use Rattle.bpf_model.specs.declared.call.Helper.{Helper as HelperId};
-ghost use Rattle.effects.specs.Calls.{PerformsCall, FindsIn, AreArguments, GoesBySignature, MayLookUp, is_array_of, helper_fault, kernel_fault, section_fault, outcome_of, Called, KeepsOwnNumbers};
+ghost use Rattle.effects.specs.Calls.{PerformsCall, FindsIn, AreArguments, IsLeft, GoesBySignature, MayLookUp, is_array_of, helper_fault, kernel_fault, section_fault, outcome_of, Called, KeepsOwnNumbers};
 
 use crate::arguments::check_arguments;
 use bpf_model::{CallKind, Helper, KernelFunction, MAX_DEPTH, MapShape, Reg, ResultKind};
@@ -84,10 +82,7 @@ fn check_inside(helper: Helper, state: &AbsState, shapes: &[MapShape]) -> Result
 /// What a helper leaves in r0: what may be null or an element of the map has an identity of its own.
 fn returned(kind: ResultKind, map: u32, ids: &mut Identities) -> RegKind
     requires room { ids.old.next + 1 < 2 ^ 32 }
-    ensures element { kind ≡ ResultKind.ElementOrNull
-        → result ≡ RegKind.MaybeNull map ids.old.next }
-    ensures number { kind ≡ ResultKind.ErrorNumber
-        → (s : Scalar) × (result ≡ RegKind.Num s) × ((n : ℕ) → n < 2 ^ 64 → Holds s n) }
+    ensures left { IsLeft kind map ids.old.next result }
     ensures below { IsBelow ids.new.next (kind_of result) }
     ensures few { TakesFew 1 ids.old.next ids.new.next }
 {

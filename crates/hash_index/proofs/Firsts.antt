@@ -51,22 +51,30 @@ below_all k (e ∷ es) = is_lt (slice_cmp nat_cmp k e.0) && below_all k es
 below_behind : (k : List ℕ) (es : List (List ℕ × ℕ)) (q : List ℕ) (j : ℕ) → T (below_all k es) → find (slice_cmp nat_cmp) q es ≡ Some j → IsLess k q
 below_behind k [] q j h f = absurd (none-some j f)
 below_behind k (e ∷ es) q j h f = elim (cases_Bool (same_key q e.0)) [
-  | inl y ↦ subst (IsLess k) (sym (same_key-true q e.0 y)) (less_from (slice_cmp nat_cmp k e.0) (left_true (is_lt (slice_cmp nat_cmp k e.0)) (below_all k es) h))
+  | inl y ↦ subst (IsLess k) (sym (same_key-true q e.0 y))
+      (less_from (slice_cmp nat_cmp k e.0) (left_true (is_lt (slice_cmp nat_cmp k e.0)) (below_all k es) h))
   | inr n ↦ below_behind k es q j (right_true (is_lt (slice_cmp nat_cmp k e.0)) (below_all k es) h) (sym (cond-false _ _ _ n) ∙ f)
 ]
 
 -- what stands behind an entry has a greater key
-behind : (e : List ℕ × ℕ) (es : List (List ℕ × ℕ)) (q : List ℕ) (j : ℕ) → T (is_sorted (slice_cmp nat_cmp) (e ∷ es)) → find (slice_cmp nat_cmp) q es ≡ Some j → IsLess e.0 q
+behind : (e : List ℕ × ℕ) (es : List (List ℕ × ℕ)) (q : List ℕ) (j : ℕ) → T (is_sorted (slice_cmp nat_cmp) (e ∷ es)) →
+    find (slice_cmp nat_cmp) q es ≡ Some j → IsLess e.0 q
 behind e es q j s h = below_behind e.0 es q j (left_true (below_all e.0 es) (is_sorted (slice_cmp nat_cmp) es) s) h
 
 sorted_behind : (e : List ℕ × ℕ) (es : List (List ℕ × ℕ)) → T (is_sorted (slice_cmp nat_cmp) (e ∷ es)) → T (is_sorted (slice_cmp nat_cmp) es)
 sorted_behind e es s = right_true (below_all e.0 es) (is_sorted (slice_cmp nat_cmp) es) s
 
-find_behind : (e : List ℕ × ℕ) (es : List (List ℕ × ℕ)) (q : List ℕ) (j : ℕ) → T (is_sorted (slice_cmp nat_cmp) (e ∷ es)) → find (slice_cmp nat_cmp) q es ≡ Some j → find (slice_cmp nat_cmp) q (e ∷ es) ≡ Some j
+find_behind : (e : List ℕ × ℕ) (es : List (List ℕ × ℕ)) (q : List ℕ) (j : ℕ) →
+    T (is_sorted (slice_cmp nat_cmp) (e ∷ es)) → find (slice_cmp nat_cmp) q es ≡ Some j →
+    find (slice_cmp nat_cmp) q (e ∷ es) ≡ Some j
 find_behind e es q j s f = cond-false _ _ _ (false_from_ne_true _ (λ y. less_other e.0 q (behind e es q j s f) (sym (same_key-true q e.0 y)))) ∙ f
 
-first_is : (key : ℕ → List ℕ) (bound : Option (List ℕ)) (es : List (List ℕ × ℕ)) → T (is_sorted (slice_cmp nat_cmp) es) → (r : Option ℕ) → IfSome r (λ i. find (slice_cmp nat_cmp) (key i) es ≡ Some i) → IfSome r (λ i. IsAbove bound (key i)) →
-    IfSome r (λ i. (q : List ℕ) (j : ℕ) → find (slice_cmp nat_cmp) q es ≡ Some j → IsAbove bound q → IsLess q (key i) → ⊥) → IfNone r ((q : List ℕ) (j : ℕ) → find (slice_cmp nat_cmp) q es ≡ Some j → IsAbove bound q → ⊥) → r ≡ first_above bound es
+first_is : (key : ℕ → List ℕ) (bound : Option (List ℕ)) (es : List (List ℕ × ℕ)) →
+    T (is_sorted (slice_cmp nat_cmp) es) → (r : Option ℕ) →
+    IfSome r (λ i. find (slice_cmp nat_cmp) (key i) es ≡ Some i) → IfSome r (λ i. IsAbove bound (key i)) →
+    IfSome r (λ i. (q : List ℕ) (j : ℕ) → find (slice_cmp nat_cmp) q es ≡ Some j → IsAbove bound q → IsLess q (key i)
+    → ⊥) → IfNone r ((q : List ℕ) (j : ℕ) → find (slice_cmp nat_cmp) q es ≡ Some j → IsAbove bound q → ⊥) →
+    r ≡ first_above bound es
 first_is key bound [] s None found above least none = refl
 first_is key bound [] s (Some i) found above least none = absurd (none-some i found)
 first_is key bound (e ∷ es) s None found above least none = elim (cases_Bool (is_above bound e.0)) [
@@ -80,11 +88,15 @@ first_is key bound (e ∷ es) s (Some i) found above least none = elim (cases_Bo
   ]
   | inr n ↦ elim (cases_Bool (same_key (key i) e.0)) [
     | inl same ↦ absurd (false≢true (sym n ∙ above_test bound e.0 (subst (IsAbove bound) (same_key-true (key i) e.0 same) above)))
-    | inr other ↦ first_is key bound es (sorted_behind e es s) (Some i) (sym (cond-false _ _ _ other) ∙ found) above (λ q j f. least q j (find_behind e es q j s f)) tt ∙ sym (cond-false _ _ _ n)
+    | inr other ↦ first_is key bound es (sorted_behind e es s) (Some i) (sym (cond-false _ _ _ other) ∙ found) above
+        (λ q j f. least q j (find_behind e es q j s f)) tt ∙ sym (cond-false _ _ _ n)
   ]
 ]
 
 -- the reply of an index is that of its finite map
-pub next_is : (key : ℕ → List ℕ) (bound : Option (List ℕ)) (m : KeyMap) (r : Option ℕ) → IfSome r (λ i. get m (key i) ≡ Some i) → IfSome r (λ i. IsAbove bound (key i)) → IfSome r (λ i. NoneBetween m bound (key i)) → IfNone r (NoneAbove m bound) → r ≡ first_above bound (entries m)
+pub next_is : (key : ℕ → List ℕ) (bound : Option (List ℕ)) (m : KeyMap) (r : Option ℕ) →
+    IfSome r (λ i. get m (key i) ≡ Some i) → IfSome r (λ i. IsAbove bound (key i)) →
+    IfSome r (λ i. NoneBetween m bound (key i)) → IfNone r (NoneAbove m bound) → r ≡ first_above bound (entries m)
 next_is key bound m None some above least none = first_is key bound (entries m) (entries_sorted m) None tt tt tt (λ q j f. none q j (get-entries m q ∙ f))
-next_is key bound m (Some i) some above least none = first_is key bound (entries m) (entries_sorted m) (Some i) (sym (get-entries m (key i)) ∙ some) above (λ q j f. least q j (get-entries m q ∙ f)) tt
+next_is key bound m (Some i) some above least none = first_is key bound (entries m) (entries_sorted m) (Some i)
+    (sym (get-entries m (key i)) ∙ some) above (λ q j f. least q j (get-entries m q ∙ f)) tt

@@ -1,12 +1,13 @@
 -- The slot of the least key above a bound, among slots that are looked at one after another.
-use Rattle.std.proofs.Common.{◌≡◌, ◌∙◌, ℕ, zero, suc, ◌<◌, List, [], ◌∷◌, ◌++◌, length, Option, Some, None, ◌⊎◌, inl, inr, refl, sym, ap, arith, cond, eqb, subst, append_assoc}
+use Rattle.std.proofs.Common.{◌≡◌, ◌∙◌, ℕ, zero, suc, ◌<◌, List, [], ◌∷◌, ◌++◌, length, Option, Some, None, ◌⊎◌, inl}
+use Rattle.std.proofs.Common.{inr, refl, sym, ap, arith, cond, eqb, subst, append_assoc}
 use Rattle.std.specs.Prelude.{slice_get, replicate, IfSome, IfNone}
 use Rattle.std.proofs.lemmas.List.{append-nil, length-replicate}
 use Rattle.std.specs.FinMap.{get, empty}
-use Rattle.element_arena.specs.State.{ArenaState, times_in, key_at, link_at, contents_of}
-use Rattle.element_arena.specs.Threads.{IsThread, chain_of}
-use Rattle.element_arena.proofs.Counts.{one_cases, one_same, times-append}
-use Rattle.element_arena.proofs.Indexing.{AreUnique, get-contents, slot_of-present, times-get}
+use Rattle.element_store.specs.State.{ArenaState, times_in, key_at, link_at, contents_of}
+use Rattle.element_store.specs.Threads.{IsThread, chain_of}
+use Rattle.element_store.proofs.Counts.{one_cases, one_same, times-append}
+use Rattle.element_store.proofs.Indexing.{AreUnique, get-contents, slot_of-present, times-get}
 use Rattle.hash_index.specs.Order.{IsLess, IsAbove, NoneAbove, NoneBetween, IsLeastOf}
 use Rattle.hash_index.specs.Chains.{IsChain}
 use Rattle.hash_index.specs.Buckets.{HeadsFit, slots_from, chained_slots}
@@ -26,7 +27,8 @@ module _ (key : ℕ → List ℕ) (xs : List ℕ) (bound : Option (List ℕ)) wh
 
   pub least_between : (r : Option ℕ) → IsLeastOf key bound xs r → IfSome r (λ i. NoneBetween (contents_of key xs) bound (key i))
   least_between None f = tt
-  least_between (Some i) f = λ k j g a l. let p = times-get key xs k j g in f.2 j p.0 (subst (IsAbove bound) (sym p.1) a) (subst (λ z. IsLess z (key i)) (sym p.1) l)
+  least_between (Some i) f = λ k j g a l. let p = times-get key xs k j g in f.2 j p.0
+      (subst (IsAbove bound) (sym p.1) a) (subst (λ z. IsLess z (key i)) (sym p.1) l)
 
   pub least_none : (r : Option ℕ) → IsLeastOf key bound xs r → IfNone r (NoneAbove (contents_of key xs) bound)
   least_none None f = λ k j g a. let p = times-get key xs k j g in f j p.0 (subst (IsAbove bound) (sym p.1) a)
@@ -70,7 +72,8 @@ module _ (key : ℕ → List ℕ) (bound : Option (List ℕ)) (slot : ℕ) (xs :
     ],
   )
 
-  pub least_replaced : (i : ℕ) → IsAbove bound (key slot) → IsLess (key slot) (key i) → IsLeastOf key bound xs (Some i) → IsLeastOf key bound (xs ++ slot ∷ []) (Some slot)
+  pub least_replaced : (i : ℕ) → IsAbove bound (key slot) → IsLess (key slot) (key i) →
+      IsLeastOf key bound xs (Some i) → IsLeastOf key bound (xs ++ slot ∷ []) (Some slot)
   least_replaced i above less f = (
     held_end xs slot,
     above,
@@ -101,18 +104,24 @@ pub record IsScanned (a : ArenaState) (bound : Option (List ℕ)) (first before 
 -- along a chain
 module _ (a : ArenaState) (bound : Option (List ℕ)) (first before : Option ℕ) where
   pub scan_step : (at r least new : Option ℕ) (slot : ℕ) → IsChain a at → at ≡ Some slot → r ≡ link_at a.links slot → IsScanned a bound first before at least →
-      ((xs : List ℕ) → IsLeastOf (key_at a.slots) bound xs least → IsLeastOf (key_at a.slots) bound (xs ++ slot ∷ []) new) → IsScanned a bound first before r new
+      ((xs : List ℕ) → IsLeastOf (key_at a.slots) bound xs least →
+      IsLeastOf (key_at a.slots) bound (xs ++ slot ∷ []) new) → IsScanned a bound first before r new
   scan_step at r least new slot c e next s more =
       let t = chain_step a slot (chain_at a at slot c e) in
       record {
         front = s.front ++ slot ∷ [];
-        split = s.split ∙ (ap (λ o. s.front ++ chain_of a o) e ∙ (ap (λ l. s.front ++ l) (t.0 ∙ ap (λ o. slot ∷ chain_of a o) (sym next)) ∙ sym (append_assoc s.front (slot ∷ []) (chain_of a r))));
+        split = s.split ∙ (ap (λ o. s.front ++ chain_of a o) e ∙
+            (ap (λ l. s.front ++ l) (t.0 ∙ ap (λ o. slot ∷ chain_of a o) (sym next)) ∙
+            sym (append_assoc s.front (slot ∷ []) (chain_of a r))));
         least_of = λ xs f. subst (λ l. IsLeastOf (key_at a.slots) bound l new) (append_assoc xs s.front (slot ∷ [])) (more (xs ++ s.front) (s.least_of xs f));
       }
 
-  pub scan_end : (at least : Option ℕ) → at ≡ None → IsScanned a bound first before at least → (xs : List ℕ) → IsLeastOf (key_at a.slots) bound xs before → IsLeastOf (key_at a.slots) bound (xs ++ chain_of a first) least
+  pub scan_end : (at least : Option ℕ) → at ≡ None → IsScanned a bound first before at least → (xs : List ℕ) →
+      IsLeastOf (key_at a.slots) bound xs before → IsLeastOf (key_at a.slots) bound (xs ++ chain_of a first) least
   scan_end at least e s xs f =
-      let all : chain_of a first ≡ s.front = s.split ∙ (ap (λ o. s.front ++ chain_of a o) e ∙ (ap (λ l. s.front ++ l) (walk_none (length a.slots) (link_at a.links)) ∙ append-nil s.front)) in
+      let all : chain_of a first ≡ s.front = s.split ∙
+      (ap (λ o. s.front ++ chain_of a o) e ∙ (ap (λ l. s.front ++ l)
+      (walk_none (length a.slots) (link_at a.links)) ∙ append-nil s.front)) in
       subst (λ l. IsLeastOf (key_at a.slots) bound (xs ++ l) least) (sym all) (s.least_of xs f)
 
 -- which chains are still to be searched for the least key
@@ -125,7 +134,8 @@ pub record IsGathered (a : ArenaState) (bound : Option (List ℕ))
 -- over all chains
 module _ (a : ArenaState) (bound : Option (List ℕ)) (heads : List (Option ℕ)) where
   pub gather_step : (o : Option ℕ) (rest : List (Option ℕ)) (least new : Option ℕ) → IsGathered a bound heads (o ∷ rest) least →
-      ((xs : List ℕ) → IsLeastOf (key_at a.slots) bound xs least → IsLeastOf (key_at a.slots) bound (xs ++ chain_of a o) new) → IsGathered a bound heads rest new
+      ((xs : List ℕ) → IsLeastOf (key_at a.slots) bound xs least →
+      IsLeastOf (key_at a.slots) bound (xs ++ chain_of a o) new) → IsGathered a bound heads rest new
   gather_step o rest least new g more = record {
     done = g.done ++ chain_of a o;
     split = g.split ∙ sym (append_assoc g.done (chain_of a o) (slots_from (length a.slots) (link_at a.links) rest));
@@ -143,7 +153,9 @@ module _ (heads : List (Option ℕ)) (count : ℕ) (a : ArenaState) where
       let slots : chained_slots heads a ≡ [] = ap (slots_from (length a.slots) (link_at a.links)) e ∙ slots_of_none count (length a.slots) (link_at a.links) in
       let long : length heads ≡ count = ap (λ (l : List (Option ℕ)). length l) e ∙ length-replicate {A = Option ℕ} count None in
       let zero_times : (j : ℕ) → times_in j (chained_slots heads a) ≡ 0 = λ j. ap (times_in j) slots in
-      let none : (k : ℕ) (o : Option ℕ) → slice_get heads k ≡ Some o → chain_of a o ≡ [] = λ k o h. ap (chain_of a) (get-replicate count k None o (ap (λ l. slice_get l k) (sym e) ∙ h)) ∙ walk_none (length a.slots) (link_at a.links) in
+      let none : (k : ℕ) (o : Option ℕ) → slice_get heads k ≡ Some o → chain_of a o ≡ [] = λ k o h.
+      ap (chain_of a) (get-replicate count k None o (ap (λ l. slice_get l k) (sym e) ∙ h)) ∙
+      walk_none (length a.slots) (link_at a.links) in
       record {
         some = omega arith;
         thread = λ k o h. subst (IsThread (link_at a.links) o) (sym (none k o h)) (get-replicate count k None o (ap (λ l. slice_get l k) (sym e) ∙ h));
@@ -154,4 +166,5 @@ module _ (heads : List (Option ℕ)) (count : ℕ) (a : ArenaState) where
       }
 
   pub contents_none : heads ≡ replicate count None → contents_of (key_at a.slots) (chained_slots heads a) ≡ empty
-  contents_none e = ap (contents_of (key_at a.slots)) (ap (slots_from (length a.slots) (link_at a.links)) e ∙ slots_of_none count (length a.slots) (link_at a.links))
+  contents_none e = ap (contents_of (key_at a.slots)) (ap (slots_from (length a.slots) (link_at a.links)) e ∙
+      slots_of_none count (length a.slots) (link_at a.links))

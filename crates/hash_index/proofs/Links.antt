@@ -10,10 +10,10 @@ use Rattle.std.specs.Option.{option_flatten}
 use Rattle.bpf_model.specs.View.{KeyMap}
 use Rattle.bpf_model.proofs.Keys.{same_key, same-same_key}
 use Rattle.bpf_model.proofs.Lists.{get-set_other}
-use Rattle.element_arena.specs.State.{ArenaState, LinksOf, contents_of, is_at, link_at, times_in, with_link}
-use Rattle.element_arena.specs.Threads.{chain_of}
-use Rattle.element_arena.proofs.Counts.{one_same}
-use Rattle.element_arena.proofs.Indexing.{get_at-insert, get_at-remove, times-get}
+use Rattle.element_store.specs.State.{ArenaState, LinksOf, contents_of, is_at, link_at, times_in, with_link}
+use Rattle.element_store.specs.Threads.{chain_of}
+use Rattle.element_store.proofs.Counts.{one_same}
+use Rattle.element_store.proofs.Indexing.{get_at-insert, get_at-remove, times-get}
 use Rattle.hash_index.specs.Chains.{StandsBehind, bucket_of}
 use Rattle.hash_index.specs.Buckets.{IsPlaceIn}
 use Rattle.hash_index.specs.declared.place.Place.{Place}
@@ -22,7 +22,9 @@ use Rattle.hash_index.specs.declared.place.Place.{Place}
 pub at_some : (o : Option ℕ) (P : ℕ → Type 0) (s : ℕ) → o ≡ Some s → IfSome o P → P s
 at_some o P s e h = subst (λ (z : Option ℕ). IfSome z P) e h
 
-pub place_in : (heads : List (Option ℕ)) (a : ArenaState) (key : List ℕ) (p : Place) (k : ℕ) (o : Option ℕ) → k ≡ bucket_of (length heads) key → p.home ≡ k → slice_get heads k ≡ Some o → IfSome p.slot (StandsBehind (chain_of a o) p.last) → IsPlaceIn heads a key p
+pub place_in : (heads : List (Option ℕ)) (a : ArenaState) (key : List ℕ) (p : Place) (k : ℕ) (o : Option ℕ) →
+    k ≡ bucket_of (length heads) key → p.home ≡ k → slice_get heads k ≡ Some o →
+    IfSome p.slot (StandsBehind (chain_of a o) p.last) → IsPlaceIn heads a key p
 place_in heads a key p k o home same at behind = record {
   home = same ∙ home;
   behind = λ q s here e.
@@ -69,5 +71,6 @@ pub head_at : (heads : List (Option ℕ)) (k : ℕ) (o : Option ℕ) → k < len
 head_at heads k o inside e = slice_get_read heads (length heads) k o refl inside e
 
 -- a slot that is found has the key
-pub found_same : (key : ℕ → List ℕ) (xs : List ℕ) (k : List ℕ) (o : Option ℕ) (i : ℕ) → o ≡ get (contents_of key xs) k → o ≡ Some i → (0 < times_in i xs) × (key i ≡ k)
+pub found_same : (key : ℕ → List ℕ) (xs : List ℕ) (k : List ℕ) (o : Option ℕ) (i : ℕ) → o ≡ get (contents_of key xs) k
+    → o ≡ Some i → (0 < times_in i xs) × (key i ≡ k)
 found_same key xs k o i f e = times-get key xs k i (sym f ∙ e)

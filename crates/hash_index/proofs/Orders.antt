@@ -9,8 +9,8 @@ use Rattle.std.proofs.lemmas.Bool.{cases_order, false≢true}
 use Rattle.std.proofs.lemmas.Cmp.{nat_list_cmp_total, tied_itself}
 use Rattle.std.proofs.lemmas.Map.Lookups.{exact_bytes}
 use Rattle.std.proofs.lemmas.Option.{none-some, same_Some, slice_get_within}
-use Rattle.element_arena.specs.State.{times_in, slot_of}
-use Rattle.element_arena.proofs.Indexing.{AreUnique, slot_of-absent, slot_of-present, slot_of-none}
+use Rattle.element_store.specs.State.{times_in, slot_of}
+use Rattle.element_store.proofs.Indexing.{AreUnique, slot_of-absent, slot_of-present, slot_of-none}
 use Rattle.hash_index.specs.Order.{IsLess, IsLeastOf}
 use Rattle.hash_index.specs.Held.{held_at, index_held}
 use Rattle.hash_index.specs.Sorted.{IsAscending, IsPosition, IsPositionAbove}
@@ -39,7 +39,8 @@ less_or_more a b ne not_less = by (slice_cmp nat_cmp a b) refl
 
 module _ (key : ℕ → List ℕ) (xs : List ℕ) (k : List ℕ) where
   -- the search by halves goes on above the middle
-  pub halved_below : (m s : ℕ) → IsAscending key xs → slice_get xs m ≡ Some s → IsLess (key s) k → (i t : ℕ) → i < m + 1 → slice_get xs i ≡ Some t → IsLess (key t) k
+  pub halved_below : (m s : ℕ) → IsAscending key xs → slice_get xs m ≡ Some s → IsLess (key s) k → (i t : ℕ) →
+      i < m + 1 → slice_get xs i ≡ Some t → IsLess (key t) k
   halved_below m s asc at l i t h g = elim (cases_order i m) [
     | inl e ↦ subst (λ z. IsLess (key z) k) (same_Some s t (sym at ∙ (ap (slice_get xs) (sym e) ∙ g))) l
     | inr r ↦ elim r [
@@ -49,7 +50,8 @@ module _ (key : ℕ → List ℕ) (xs : List ℕ) (k : List ℕ) where
   ]
 
   -- the search by halves goes on below the middle
-  pub halved_above : (m s : ℕ) → IsAscending key xs → slice_get xs m ≡ Some s → (IsLess (key s) k → ⊥) → (i t : ℕ) → m ≤ i → slice_get xs i ≡ Some t → IsLess (key t) k → ⊥
+  pub halved_above : (m s : ℕ) → IsAscending key xs → slice_get xs m ≡ Some s → (IsLess (key s) k → ⊥) → (i t : ℕ) →
+      m ≤ i → slice_get xs i ≡ Some t → IsLess (key t) k → ⊥
   halved_above m s asc at not_less i t h g l = elim (cases_order m i) [
     | inl e ↦ not_less (subst (λ z. IsLess (key z) k) (same_Some t s (sym g ∙ (ap (slice_get xs) (sym e) ∙ at))) l)
     | inr r ↦ elim r [
@@ -111,7 +113,9 @@ module _ (key : ℕ → List ℕ) (xs : List ℕ) (k : List ℕ) where
 
 module _ (key : ℕ → List ℕ) (xs : List ℕ) (k : List ℕ) (p : ℕ) where
   -- what stands at the position of a key, if it has the key, is the slot of the key
-  pub found : AreUnique key xs → IsAscending key xs → IsPosition key xs k p → (r : Option ℕ) → IfSome r (λ s. slice_get xs p ≡ Some s) → IfSome r (λ s. key s ≡ k) → IfNone r ((s : ℕ) → slice_get xs p ≡ Some s → key s ≢ k) → r ≡ slot_of key xs k
+  pub found : AreUnique key xs → IsAscending key xs → IsPosition key xs k p → (r : Option ℕ) →
+      IfSome r (λ s. slice_get xs p ≡ Some s) → IfSome r (λ s. key s ≡ k) →
+      IfNone r ((s : ℕ) → slice_get xs p ≡ Some s → key s ≢ k) → r ≡ slot_of key xs k
   found unique asc f None some same none = sym (slot_of-absent key xs k (not_at_position key xs k p asc f none))
   found unique asc f (Some s) some same none = sym (slot_of-present key xs k s unique (held_at xs p s some) same)
 
@@ -165,7 +169,8 @@ inserted_at (y ∷ xs) (suc p) x (suc i) s h g = elim (inserted_at xs p x i s (o
   ]
 ]
 
-removed_at : (xs : List ℕ) (p i s : ℕ) → slice_get (remove xs p) i ≡ Some s → ((i < p) × (slice_get xs i ≡ Some s)) ⊎ ((p ≤ i) × (slice_get xs (suc i) ≡ Some s))
+removed_at : (xs : List ℕ) (p i s : ℕ) → slice_get (remove xs p) i ≡ Some s → ((i < p) × (slice_get xs i ≡ Some s))
+    ⊎ ((p ≤ i) × (slice_get xs (suc i) ≡ Some s))
 removed_at [] zero i s g = absurd (none-some s g)
 removed_at [] (suc p) i s g = absurd (none-some s g)
 removed_at (x ∷ xs) zero i s g = inr (omega arith, g)
@@ -191,7 +196,9 @@ module _ (key : ℕ → List ℕ) (xs : List ℕ) (p : ℕ) where
         | inl m ↦ let a : j < p = m.0 in let b : i ≡ p = d.0 in absurd (omega arith)
         | inr r ↦ elim r [
           | inl e ↦ let a : j ≡ p = e.0 in let b : i ≡ p = d.0 in absurd (omega arith)
-          | inr m ↦ subst (λ z. IsLess (key z) (key t)) d.1 (less_or_more (key t) (key x) (slot_of-none key xs (key x) t none (held_at xs m.0 t m.3)) (f.above m.0 t m.2 m.3))
+          | inr m ↦ subst (λ z. IsLess (key z) (key t)) d.1
+              (less_or_more (key t) (key x) (slot_of-none key xs (key x) t none (held_at xs m.0 t m.3))
+              (f.above m.0 t m.2 m.3))
         ]
       ]
       | inr u ↦ elim (inserted_at xs p x j t f.within gt) [

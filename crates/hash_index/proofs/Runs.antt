@@ -9,8 +9,8 @@ use Rattle.std.proofs.lemmas.Bool.{cond-true, cond-false, cases_Bool}
 use Rattle.std.proofs.lemmas.Cmp.{nat_list_cmp_total}
 use Rattle.std.proofs.lemmas.Map.Lookups.{exact_bytes}
 use Rattle.std.proofs.lemmas.Option.{none-some, same_Some}
-use Rattle.element_arena.specs.State.{ArenaState, key_at}
-use Rattle.element_arena.proofs.Indexing.{get_at-insert, get_at-remove}
+use Rattle.element_store.specs.State.{ArenaState, key_at}
+use Rattle.element_store.proofs.Indexing.{get_at-insert, get_at-remove}
 use Rattle.hash_index.specs.declared.commands.Command.{Command}
 use Rattle.hash_index.specs.declared.commands.Command.TheVariants.{Link, Find, Unlink, Above}
 use Rattle.hash_index.specs.Replies.{IsKeyed, reply_of, after_command, replies}
@@ -53,7 +53,9 @@ links_still a b c e f = f ∙ ap (λ (z : ArenaState). let w : ArenaState = reco
 
 -- one reply more: those so far and those to what is left are those to all
 pub told_more : (key was : ℕ → List ℕ) (commands rest left : List Command) (told new : List (Option ℕ)) (command : Command) (r : Option ℕ) (m n : KeyMap) →
-    was ≡ key → rest ≡ command ∷ left → new ≡ told ++ r ∷ [] → r ≡ reply_of was command m → n ≡ after_command was command m → told ++ replies key rest m ≡ replies key commands empty → new ++ replies key left n ≡ replies key commands empty
+    was ≡ key → rest ≡ command ∷ left → new ≡ told ++ r ∷ [] → r ≡ reply_of was command m →
+    n ≡ after_command was command m → told ++ replies key rest m ≡ replies key commands empty →
+    new ++ replies key left n ≡ replies key commands empty
 told_more key was commands rest left told new command r m n same split items reply step h =
     ap (λ l. l ++ replies key left n) items
     ∙ (append_assoc told (r ∷ []) (replies key left n)

@@ -4,9 +4,9 @@ use Rattle.std.specs.Prelude.{min, slice_get}
 use Rattle.std.specs.Int.{IsPowerOfTwo}
 use Rattle.bpf_model.specs.declared.limits.TheConstants.{MAX_ENTRIES}
 use Rattle.bpf_model.specs.View.{KeyMap}
-use Rattle.element_arena.specs.State.{ArenaState, IsTaken, link_at, key_at, times_in, contents_of}
-use Rattle.element_arena.specs.Threads.{IsThread, walk, chain_of}
-use Rattle.element_arena.proofs.Indexing.{AreUnique}
+use Rattle.element_store.specs.State.{ArenaState, IsTaken, link_at, key_at, times_in, contents_of}
+use Rattle.element_store.specs.Threads.{IsThread, walk, chain_of}
+use Rattle.element_store.proofs.Indexing.{AreUnique}
 use Rattle.hash_index.specs.Chains.{bucket_of, StandsBehind}
 use Rattle.hash_index.specs.declared.buckets.Buckets.{Buckets}
 use Rattle.hash_index.specs.declared.place.Place.{Place}

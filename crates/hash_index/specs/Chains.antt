@@ -3,8 +3,8 @@ use Rattle.std.specs.Int.{from_le_bytes, w64}
 use Rattle.std.specs.Prelude.{◌≡◌, ℕ, zero, suc, ◌+◌, ◌<◌, ◌-◌, ◌*◌, ◌/◌, ◌%◌, ◌^◌, bit_and}
 use Rattle.std.specs.Prelude.{bit_xor}
 use Rattle.std.specs.Prelude.{List, [], ◌∷◌, ◌++◌, Option, None, Some, cond, drop, eqb, length}
-use Rattle.element_arena.specs.State.{ArenaState, IsTaken, link_at, times_in}
-use Rattle.element_arena.specs.Threads.{IsThread, chain_of}
+use Rattle.element_store.specs.State.{ArenaState, IsTaken, link_at, times_in}
+use Rattle.element_store.specs.Threads.{IsThread, chain_of}
 use Rattle.hash_index.specs.declared.hash.TheConstants.{FNV_OFFSET, FNV_PRIME, WORD_BYTES}
 use Rattle.hash_index.specs.declared.hash.TheConstants.{WORD_FACTOR}
 

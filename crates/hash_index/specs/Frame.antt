@@ -3,12 +3,12 @@ use Rattle.std.proofs.Common.{◌≡◌, ◌∙◌, ℕ, ◌<◌, ◌≤◌, Lis
 use Rattle.std.proofs.Common.{ap, arith, subst}
 use Rattle.std.specs.Prelude.{slice_get}
 use Rattle.std.specs.FinMap.{from_entries}
-use Rattle.element_arena.specs.State.{ArenaState, IsTaken, SameAt, indexed, link_at, key_at}
-use Rattle.element_arena.specs.State.{times_in, entries_of, contents_of}
-use Rattle.element_arena.specs.Threads.{IsThread, walk, chain_of}
-use Rattle.element_arena.proofs.Counts.{times_first}
-use Rattle.element_arena.proofs.Threading.{thread-agree, walk-agree}
-use Rattle.element_arena.proofs.Indexing.{indexed-times}
+use Rattle.element_store.specs.State.{ArenaState, IsTaken, SameAt, indexed, link_at, key_at}
+use Rattle.element_store.specs.State.{times_in, entries_of, contents_of}
+use Rattle.element_store.specs.Threads.{IsThread, walk, chain_of}
+use Rattle.element_store.proofs.Counts.{times_first}
+use Rattle.element_store.proofs.Threading.{thread-agree, walk-agree}
+use Rattle.element_store.proofs.Indexing.{indexed-times}
 use Rattle.hash_index.specs.Chains.{bucket_of, StandsBehind}
 use Rattle.hash_index.specs.declared.buckets.Buckets.{Buckets}
 use Rattle.hash_index.specs.declared.place.Place.{Place}

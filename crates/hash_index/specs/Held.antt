@@ -3,8 +3,8 @@ use Rattle.std.proofs.Common.{◌≡◌, ℕ, zero, suc, ◌<◌, List, [], ◌�
 use Rattle.std.proofs.Common.{arith, cond, eqb}
 use Rattle.std.specs.Prelude.{slice_get}
 use Rattle.std.proofs.lemmas.Option.{none-some, same_Some}
-use Rattle.element_arena.specs.State.{times_in}
-use Rattle.element_arena.proofs.Counts.{one_cases, times_first}
+use Rattle.element_store.specs.State.{times_in}
+use Rattle.element_store.proofs.Counts.{one_cases, times_first}
 
 pub held_at : (xs : List ℕ) (i s : ℕ) → slice_get xs i ≡ Some s → 0 < times_in s xs
 held_at [] i s h = absurd (none-some s h)

@@ -4,10 +4,10 @@ use Rattle.std.proofs.Common.{Option, Some, inl, inr, refl, ap, arith, eqb}
 use Rattle.std.specs.Prelude.{slice_get, slice_set}
 use Rattle.std.proofs.lemmas.Bool.{eqb-true, eqb-false, cases_Bool}
 use Rattle.std.proofs.lemmas.Option.{none-some, same_Some}
-use Rattle.element_arena.specs.State.{times_in}
-use Rattle.element_arena.specs.Threads.{walk}
-use Rattle.element_arena.proofs.Counts.{times-append}
-use Rattle.element_arena.proofs.Threading.{walk-agree}
+use Rattle.element_store.specs.State.{times_in}
+use Rattle.element_store.specs.Threads.{walk}
+use Rattle.element_store.proofs.Counts.{times-append}
+use Rattle.element_store.proofs.Threading.{walk-agree}
 use Rattle.hash_index.specs.Buckets.{slots_from}
 
 module _ (n : ℕ) (f : ℕ → Option ℕ) where

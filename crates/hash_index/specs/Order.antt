@@ -5,7 +5,7 @@ use Rattle.std.specs.declared.cmp.Ordering.TheVariants.{Less}
 use Rattle.std.specs.Cmp.Lexicographic.{slice_cmp}
 use Rattle.std.specs.FinMap.{get}
 use Rattle.bpf_model.specs.View.{KeyMap}
-use Rattle.element_arena.specs.State.{times_in}
+use Rattle.element_store.specs.State.{times_in}
 
 -- a comes before b in byte order
 abbrev pub IsLess : List ℕ → List ℕ → Type 0

@@ -5,7 +5,7 @@ use Rattle.std.specs.Ordering.{nat_cmp, is_lt}
 use Rattle.std.specs.Cmp.Lexicographic.{slice_cmp}
 use Rattle.std.specs.FinMap.{get, insert, remove, entries}
 use Rattle.bpf_model.specs.View.{KeyMap}
-use Rattle.element_arena.specs.State.{ArenaState, IsTaken}
+use Rattle.element_store.specs.State.{ArenaState, IsTaken}
 use Rattle.hash_index.specs.declared.commands.Command.{Command}
 use Rattle.hash_index.specs.declared.commands.Command.TheVariants.{Link, Find, Unlink, Above}
 

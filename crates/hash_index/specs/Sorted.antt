@@ -3,9 +3,9 @@ use Rattle.std.specs.Prelude.{◌≡◌, ℕ, ◌<◌, ◌≤◌, List, Option, 
 use Rattle.std.specs.FinMap.{from_entries}
 use Rattle.std.proofs.Common.{arith, sym, subst, ap, ◌∙◌}
 use Rattle.bpf_model.specs.View.{KeyMap}
-use Rattle.element_arena.specs.State.{ArenaState, IsTaken, SameAt, indexed, key_at, times_in}
-use Rattle.element_arena.specs.State.{contents_of}
-use Rattle.element_arena.proofs.Indexing.{AreUnique, indexed-times}
+use Rattle.element_store.specs.State.{ArenaState, IsTaken, SameAt, indexed, key_at, times_in}
+use Rattle.element_store.specs.State.{contents_of}
+use Rattle.element_store.proofs.Indexing.{AreUnique, indexed-times}
 use Rattle.hash_index.specs.Order.{IsLess, IsAbove}
 use Rattle.hash_index.specs.Held.{held_at}
 use Rattle.hash_index.specs.Frame.{entries-agree}

@@ -2,7 +2,7 @@
 ghost use Rattle.std.specs.Prelude.{◌≡◌, IfOk, None, Some, length, min, option_copied, replicate};
 ghost use Rattle.std.specs.FinMap as map;
 ghost use Rattle.bpf_model.specs.declared.limits.TheConstants.{MAX_ENTRIES};
-ghost use Rattle.element_arena.specs.State.{IsTaken, LinksOf, indexed, is_at, key_at};
+ghost use Rattle.element_store.specs.State.{IsTaken, LinksOf, indexed, is_at, key_at};
 ghost use Rattle.hash_index.specs.Buckets.{BucketsFits, HeadsFit, IsLeastPowerOfTwo, IsPlaceIn, chained_slots, contents_in};
 ghost use Rattle.hash_index.specs.Chains.{bucket_of};
 ghost use Rattle.hash_index.specs.declared.hash.TheConstants.{WORD_BYTES};
@@ -13,7 +13,7 @@ use crate::hash::{WORD_BYTES, bucket};
 use crate::index::Index;
 use crate::place::Place;
 use bpf_model::MAX_ENTRIES;
-use element_arena::Arena;
+use element_store::Arena;
 use std::alloc::{AllocError, Global};
 
 /// The heads of chains of slots, whose links stand in the slots themselves: the least power of two that is

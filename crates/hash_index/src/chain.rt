@@ -1,14 +1,14 @@
 //! Chains of slots, by the links that stand in them.
 ghost use Rattle.std.specs.Prelude.{◌≡◌, ◌≢◌, ◌<◌, ◌≤◌, Some, ◌++◌, ℕ, List, length, option_copied, IfSome, ◌∷◌, []};
-ghost use Rattle.element_arena.specs.State.{key_at, times_in, slot_of};
+ghost use Rattle.element_store.specs.State.{key_at, times_in, slot_of};
 ghost use Rattle.hash_index.specs.Order.{IsLeastOf};
-ghost use Rattle.element_arena.specs.Threads.{chain_of};
+ghost use Rattle.element_store.specs.Threads.{chain_of};
 ghost use Rattle.hash_index.specs.declared.hash.TheConstants.{WORD_BYTES};
 ghost use Rattle.hash_index.specs.Chains.{IsChain, IsCut, StandsBehind};
 
 use crate::keys::{has_key, has_word, is_above, is_less};
 use crate::place::Place;
-use element_arena::Arena;
+use element_store::Arena;
 
 /// The place of a key whose chain is this one: the first slot of the chain that has the key, and the
 /// slot before it.

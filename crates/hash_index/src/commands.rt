@@ -1,12 +1,12 @@
 //! Commands to an index of any form, and its replies.
 ghost use Rattle.std.specs.Prelude.{◌≡◌, ◌≤◌, IfOk, is_some, option_map, length, if◌then◌else◌};
 ghost use Rattle.std.specs.FinMap as map;
-ghost use Rattle.element_arena.specs.State.{IsTaken, key_at};
+ghost use Rattle.element_store.specs.State.{IsTaken, key_at};
 ghost use Rattle.hash_index.specs.Replies.{IsKeyed, IsReadyCommand, AreReadyCommands, first_above, reply_of, after_command, replies};
 
 use crate::index::Index;
 use bpf_model::KeyBytes;
-use element_arena::Arena;
+use element_store::Arena;
 use std::alloc::{AllocError, Global};
 
 /// A command to an index. The reply to each is the slot that the index had before it under the command's key,

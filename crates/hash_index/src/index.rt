@@ -2,12 +2,12 @@
 ghost use Rattle.std.specs.Prelude.{◌≡◌, ◌≤◌, ◌+◌, ℕ, List, Some, length, IfOk, IfSome, IfNone, option_copied};
 ghost use Rattle.std.specs.FinMap as map;
 ghost use Rattle.bpf_model.specs.View.{KeyMap};
-ghost use Rattle.element_arena.specs.State.{ArenaState, IsTaken, LinksOf, SameAt, indexed, is_at, key_at};
+ghost use Rattle.element_store.specs.State.{ArenaState, IsTaken, LinksOf, SameAt, indexed, is_at, key_at};
 ghost use Rattle.hash_index.specs.declared.place.Place.{Place};
 ghost use Rattle.hash_index.specs.Order.{IsAbove, NoneAbove, NoneBetween};
 
 use crate::place::Place;
-use element_arena::Arena;
+use element_store::Arena;
 use std::alloc::{AllocError, Global};
 
 /// Slots of an arena by their keys, at most one of a key. What an index has is read over the arena's state:

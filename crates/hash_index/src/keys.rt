@@ -2,12 +2,12 @@
 ghost use Rattle.std.specs.Prelude.{bytes_eq, ◌≡◌, ◌<◌, ◌↔◌, length, IsTrue, option_copied};
 ghost use Rattle.std.specs.Ordering.{nat_cmp, eq_by_cmp};
 ghost use Rattle.std.specs.Cmp.Lexicographic.{slice_cmp};
-ghost use Rattle.element_arena.specs.State.{key_at};
+ghost use Rattle.element_store.specs.State.{key_at};
 ghost use Rattle.hash_index.specs.Order.{IsLess, IsAbove};
 ghost use Rattle.hash_index.specs.declared.hash.TheConstants.{WORD_BYTES};
 
 use crate::hash::{WORD_BYTES, word_at_start};
-use element_arena::Arena;
+use element_store::Arena;
 
 /// Whether a slot has the key.
 pub(crate) fn has_key(arena: &Arena, slot: usize, key: &[u8]) -> bool

@@ -1,12 +1,12 @@
 //! Positions in a vector of slots whose keys ascend.
 ghost use Rattle.std.specs.Prelude.{◌≡◌, ◌≢◌, ◌<◌, ℕ, Some, length, IfSome, IfNone, option_copied, slice_get};
-ghost use Rattle.element_arena.specs.State.{key_at, slot_of};
+ghost use Rattle.element_store.specs.State.{key_at, slot_of};
 ghost use Rattle.hash_index.specs.Order.{IsLeastOf};
 ghost use Rattle.hash_index.specs.Sorted.{AllWithin, IsAscending, IsPosition, IsPositionAbove};
 
 use crate::keys::{has_key, is_less};
 use crate::place::Place;
-use element_arena::Arena;
+use element_store::Arena;
 
 /// Where a key stands among the slots, or would: how many slots have a lesser key.
 pub(crate) fn position(slots: &[usize], arena: &Arena, key: &[u8]) -> usize

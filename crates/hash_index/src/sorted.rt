@@ -1,13 +1,13 @@
 //! An index in the order of the keys.
 ghost use Rattle.std.specs.Prelude.{◌≡◌, ◌<◌, ◌≤◌, IfOk, None, Some, insert, slice_get, vec_capacity, vec_len};
 ghost use Rattle.std.specs.FinMap as map;
-ghost use Rattle.element_arena.specs.State.{IsTaken, key_at};
+ghost use Rattle.element_store.specs.State.{IsTaken, key_at};
 ghost use Rattle.hash_index.specs.Sorted.{SortedFits, sorted_contents};
 
 use crate::index::Index;
 use crate::place::Place;
 use crate::position::{least_above, locate_in, position};
-use element_arena::Arena;
+use element_store::Arena;
 use std::alloc::{AllocError, Global};
 
 /// The slots in a vector with room for all of them, in the order of their keys. Every call searches by

@@ -7,7 +7,8 @@ use Rattle.std.proofs.lemmas.List.{append-nil, length-append}
 use Rattle.std.proofs.lemmas.List.Sums.{sum_by-cons}
 use Rattle.bpf_model.specs.declared.insn.Insn.{Insn}
 use Rattle.bpf_model.specs.Spelling.{FitsInsn, spelling, text}
-use Rattle.bpf_model.specs.Places.{slot_count, slot_total, starts_from}
+use Rattle.bpf_model.specs.Step.{slot_count}
+use Rattle.bpf_model.specs.Places.{slot_total, starts_from}
 use Rattle.insn_codec.proofs.InsnLaws.{shape}
 use Rattle.bpf_model.proofs.Places.{slot_count_some}
 

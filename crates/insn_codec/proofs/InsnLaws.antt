@@ -29,7 +29,7 @@ use Rattle.bpf_model.specs.declared.insn.Insn.TheVariants.{Alu, Unary, LoadNumbe
 use Rattle.bpf_model.specs.Opcode.{opcode_byte}
 use Rattle.bpf_model.specs.Spelling.{FitsInsn, slots_of, first_slot, tail_slot, opcode_of, code_of, alu_offset}
 use Rattle.bpf_model.specs.Spelling.{extension_size, extension_bits, swap_bits, call_source}
-use Rattle.bpf_model.specs.Places.{slot_count}
+use Rattle.bpf_model.specs.Step.{slot_count}
 use Rattle.bpf_model.proofs.Lists.{heads, tails}
 use Rattle.insn_codec.specs.Begins.{BeginsWith}
 use Rattle.insn_codec.specs.Faults.{flaw_with, is_excluded}

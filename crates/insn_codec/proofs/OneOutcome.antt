@@ -9,7 +9,8 @@ use Rattle.bpf_model.specs.declared.limits.TheConstants.{MAX_SLOTS}
 use Rattle.bpf_model.specs.declared.opcode.Opcode.{Opcode}
 use Rattle.bpf_model.specs.declared.insn.Insn.{Insn}
 use Rattle.bpf_model.specs.Spelling.{FitsInsn, IsProgram, spelling, text, slot_at, next_slot_at, opcode_of}
-use Rattle.bpf_model.specs.Places.{slot_count, slot_total}
+use Rattle.bpf_model.specs.Step.{slot_count}
+use Rattle.bpf_model.specs.Places.{slot_total}
 use Rattle.insn_codec.specs.declared.fault.DecodeFault.{DecodeFault}
 use Rattle.insn_codec.specs.declared.fault.DecodeFault.TheVariants as faults
 use Rattle.insn_codec.specs.declared.flaw.InsnFlaw.{InsnFlaw}

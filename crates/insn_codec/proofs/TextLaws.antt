@@ -24,7 +24,7 @@ use Rattle.bpf_model.specs.Opcode.{opcode_byte}
 use Rattle.bpf_model.specs.Spelling.{slot_bytes, slot_at, next_slot_at, FitsSlot, FitsOperand, FitsInsn, spelling}
 use Rattle.bpf_model.specs.Spelling.{slots_of, first_slot, tail_slot, opcode_of, alu_offset, operand_src, operand_imm}
 use Rattle.bpf_model.specs.Spelling.{extension_bits, swap_bits, call_source}
-use Rattle.bpf_model.specs.Places.{slot_count}
+use Rattle.bpf_model.specs.Step.{slot_count}
 use Rattle.std.proofs.lemmas.Bool.{cases_lt, lt-ltb, le-ltb}
 use Rattle.std.proofs.lemmas.List.{drop-drop, length-append, length-drop}
 use Rattle.insn_codec.proofs.SlotLaws.{IsBytes, IsBytes-drop, slot_again, slot_at-slot_bytes}

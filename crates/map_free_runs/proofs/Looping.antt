@@ -7,7 +7,8 @@ use Rattle.bpf_model.specs.declared.call.KernelFunction.{KernelFunction}
 use Rattle.bpf_model.specs.declared.call.KernelFunction.TheVariants.{ReadLock, ReadUnlock}
 use Rattle.bpf_model.specs.declared.insn.Insn.{Insn}
 use Rattle.bpf_model.specs.Exit.{ExitsWith}
-use Rattle.bpf_model.specs.Places.{slot_count, slot_total}
+use Rattle.bpf_model.specs.Step.{slot_count}
+use Rattle.bpf_model.specs.Places.{slot_total}
 use Rattle.bpf_model.specs.Step.{insn_at}
 use Rattle.bpf_model.specs.View.{RunView}
 use Rattle.view_laws.specs.Reactions.{fresh_view}

@@ -46,7 +46,7 @@ pub fn start_alone(verified: &Verified, ctx: &CtxBytes) -> Run
     Run::start(verified, 0, ctx)
 }
 
-/// One step of a lone run: it stays a lone run on its context, with one move more; or it exits, with the
+/// One step of such a run: it stays a run on its context, with one move more; or it exits, with the
 /// value and after the moves with which the program exits on this context.
 pub fn step_alone(run: &mut Run, verified: &Verified) -> Step
     requires { IsLone verified.now run.old }

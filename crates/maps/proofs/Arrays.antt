@@ -1,5 +1,6 @@
 -- What is seen of an array, through each change of its values.
-use Rattle.std.proofs.Common.{◌≡◌, ◌≢◌, ◌∙◌, ℕ, ◌+◌, ◌*◌, ◌<◌, ◌≤◌, List, [], length, map, replicate, Option, Some, None, Result, Ok, inl, inr, sym, ap, arith, subst}
+use Rattle.std.proofs.Common.{◌≡◌, ◌≢◌, ◌∙◌, ℕ, ◌+◌, ◌*◌, ◌<◌, ◌≤◌, List, [], length, map, replicate, Option, Some}
+use Rattle.std.proofs.Common.{None, Result, Ok, inl, inr, sym, ap, arith, subst}
 use Rattle.std.specs.Prelude.{slice_get, slice_set, is_some}
 use Rattle.std.specs.List.{range_with_len}
 use Rattle.std.specs.FinMap.{get, len}
@@ -14,9 +15,9 @@ use Rattle.bpf_model.specs.Helper.{array_error, error_of_kind}
 use Rattle.bpf_model.specs.MapState.{index_key}
 use Rattle.bpf_model.specs.View.{SlotView, MapView, array_slot, index_below, key_in, value_in, uses_in, map_state_of, new_view_of, new_map_view}
 use Rattle.bpf_model.proofs.Lists.{get-set_other, get-set_there}
-use Rattle.element_arena.specs.Blocks.{block, with_block}
-use Rattle.element_arena.specs.State.{is_at, key_at, value_at}
-use Rattle.element_arena.proofs.BlockLaws.{room, block-written, block-other, block-zeros, length-with_block}
+use Rattle.element_store.specs.Blocks.{block, with_block}
+use Rattle.element_store.specs.State.{is_at, key_at, value_at}
+use Rattle.element_store.proofs.BlockLaws.{room, block-written, block-other, block-zeros, length-with_block}
 use Rattle.view_laws.specs.Views.{updated, updated_by, written_by, overwritten_slot, written}
 use Rattle.maps.specs.Arrays.{index_slot, array_view, IsArrayMap}
 use Rattle.maps.specs.Shown.{IsOccupied}
@@ -92,13 +93,24 @@ module _ (shape : MapShape) (values : List ℕ) where
             ∙ (ap Some slot-is ∙ ap (λ k. Some (index_slot shape (with_block i new values) k)) (sym same)))
         | inr ne ↦
             get-set_other view.slots i j slot ne
-            ∙ (slot-at j in_ ∙ ap (λ bytes. let z : Option SlotView = Some (record { key = index_key j; value = bytes; uses = 1 }) in z) (sym (same-there j ne)))
+            ∙ (slot-at j in_ ∙ ap (λ bytes. let z : Option SlotView =
+            Some (record { key = index_key j; value = bytes; uses = 1 }) in z) (sym (same-there j ne)))
       ]
 
       pub written-view : array_view shape (with_block i new values) ≡ written view i new
       written-view =
           let l = length-set view.slots i slot ∙ length-map-range_with_len (index_slot shape values) 0 shape.entries in
-          ap (λ (slots : List SlotView). let v : MapView = record { shape = shape; slots = slots; free = []; index = index_below shape.entries; next = []; waiting = []; ready = []; worn = 0 } in v)
+          ap (λ (slots : List SlotView). let v : MapView =
+          record {
+            shape = shape;
+            slots = slots;
+            free = [];
+            index = index_below shape.entries;
+            next = [];
+            waiting = [];
+            ready = [];
+            worn = 0;
+          } in v)
           (range-as (index_slot shape (with_block i new values)) shape.entries (slice_set view.slots i slot) l slots-after)
 
       pub written-kept : IsArrayMap shape (with_block i new values)
@@ -109,13 +121,27 @@ pub fresh-array : (shape : MapShape) → shape.kind ≡ Array → array_view sha
 fresh-array shape array =
     let zeros : List ℕ = replicate (shape.entries * shape.value_len) 0 in
     let slots = map (array_slot shape) (range_with_len 0 shape.entries) in
-    ap (λ (slots : List SlotView). let v : MapView = record { shape = shape; slots = slots; free = []; index = index_below shape.entries; next = []; waiting = []; ready = []; worn = 0 } in v)
+    ap (λ (slots : List SlotView). let v : MapView = record {
+      shape = shape;
+      slots = slots;
+      free = [];
+      index =
+          index_below shape.entries;
+      next = [];
+      waiting = [];
+      ready = [];
+      worn = 0;
+    } in v)
     (range-as (index_slot shape zeros) shape.entries slots (length-map-range_with_len (array_slot shape) 0 shape.entries) (λ j less.
-    range-at (array_slot shape) shape.entries j less ∙ ap (λ bytes. let z : Option SlotView = Some (record { key = index_key j; value = bytes; uses = 1 }) in z) (sym (block-zeros shape.value_len j shape.entries less))))
+    range-at (array_slot shape) shape.entries j less ∙
+    ap (λ bytes. let z : Option SlotView = Some (record { key = index_key j; value = bytes; uses = 1 }) in z)
+    (sym (block-zeros shape.value_len j shape.entries less))))
     ∙ ap (λ kind. new_view_of kind shape) (sym array)
 
 -- an update that no test refuses
-pub array-updates : (v : MapView) (key value : List ℕ) (flags i : ℕ) → v.shape.kind ≡ Array → array_error flags (is_some (get v.index key)) ≡ None → get v.index key ≡ Some i → updated v key value flags ≡ (Ok tt, written v i value)
+pub array-updates : (v : MapView) (key value : List ℕ) (flags i : ℕ) → v.shape.kind ≡ Array →
+    array_error flags (is_some (get v.index key)) ≡ None → get v.index key ≡ Some i →
+    updated v key value flags ≡ (Ok tt, written v i value)
 array-updates v key value flags i array pass found =
     ap (λ kind. updated_by (error_of_kind kind flags (is_some (get v.index key)) (len v.index) (map_state_of v)) v key value) array
     ∙ (ap (λ o. updated_by o v key value) pass

@@ -9,10 +9,10 @@ use Rattle.bpf_model.specs.declared.event.Given.TheVariants.{Free, Worn}
 use Rattle.bpf_model.specs.declared.limits.MapShape.{MapShape}
 use Rattle.bpf_model.specs.Shapes.{IsShape}
 use Rattle.bpf_model.specs.MapState.{slots_of_shape}
-use Rattle.element_arena.specs.State.{times_in}
-use Rattle.element_arena.specs.State as arena
-use Rattle.element_arena.proofs.Counts.{times-append, length_once}
-use Rattle.deferred_free.specs.Queued.{queued, reaped_lists}
+use Rattle.element_store.specs.State.{times_in}
+use Rattle.element_store.specs.State as arena
+use Rattle.element_store.proofs.Counts.{times-append, length_once}
+use Rattle.element_store.specs.Queued.{queued, reaped_lists}
 use Rattle.view_laws.specs.Views.{given_at, slot_given_back, reaped_view, filled, retired_slot}
 use Rattle.maps.specs.declared.counts.Counts.{Counts}
 use Rattle.maps.specs.Counting.{unlinked_in, worn_in, counts_linked, counts_reaped, IsCounted}
@@ -37,8 +37,10 @@ module _ (shape : MapShape) (p : PartsView) (n : ℕ) (h : IsParted p) (m : IsMa
       omega (arith, few-slots, length-append (p.lists.next ++ p.lists.waiting) p.lists.ready, length-append p.lists.next p.lists.waiting)
 
 -- the counts after an update
-pub put-counted : (shape : MapShape) (p r : PartsView) (i : ℕ) (rest key value : List ℕ) (found : Option ℕ) (c : Counts) → IsCounted shape p c → IsMap shape r (linked_with found c.linked) →
-    IfNone found (len p.index < shape.entries) → map_view shape r ≡ filled (retired_slot (map_view shape p) key found) i rest key value → IsCounted shape r (counts_linked found c)
+pub put-counted : (shape : MapShape) (p r : PartsView) (i : ℕ) (rest key value : List ℕ) (found : Option ℕ)
+    (c : Counts) → IsCounted shape p c → IsMap shape r (linked_with found c.linked) →
+    IfNone found (len p.index < shape.entries) → map_view shape r ≡ filled (retired_slot (map_view shape p) key found)
+    i rest key value → IsCounted shape r (counts_linked found c)
 put-counted shape p r i rest key value None c h k room e = record {
   kept = k;
   few = let n : c.linked ≡ len p.index = h.kept.count in omega arith;
@@ -59,7 +61,8 @@ length-rest : (xs : List ℕ) (i : ℕ) → slice_get xs 0 ≡ Some i → length
 length-rest [] i e = absurd (none-some i e)
 length-rest (x ∷ xs) i e = omega arith
 
-reaped-by : (shape : MapShape) (p r : PartsView) (i : ℕ) (given : Given) (c : Counts) → IsCounted shape p c → IsMap shape r c.linked → slice_get p.lists.ready 0 ≡ Some i →
+reaped-by : (shape : MapShape) (p r : PartsView) (i : ℕ) (given : Given) (c : Counts) → IsCounted shape p c →
+    IsMap shape r c.linked → slice_get p.lists.ready 0 ≡ Some i →
     map_view shape r ≡ slot_given_back given i (map_view shape p) → IsCounted shape r (counts_reaped given c)
 reaped-by shape p r i Free c h k first e = record {
   kept = k;
@@ -81,15 +84,34 @@ reaped-by shape p r i Worn c h k first e = record {
 }
 
 -- the counts after a reap
-pub reaped-counted : (shape : MapShape) (p r : PartsView) (i : ℕ) (l : List (Option ℕ)) (given : Given) (c : Counts) → IsCounted shape p c → slice_get p.lists.ready 0 ≡ Some i →
-    r ≡ record { index = p.index; lists = reaped_lists p.lists; arena = arena.given_back (record p.arena { links = l }) i } → given ≡ given_at (map_view shape p) i →
+pub reaped-counted : (shape : MapShape) (p r : PartsView) (i : ℕ) (l : List (Option ℕ)) (given : Given) (c : Counts) →
+    IsCounted shape p c → slice_get p.lists.ready 0 ≡ Some i →
+    r ≡ record {
+      index = p.index;
+      lists = reaped_lists p.lists;
+      arena =
+          arena.given_back (record p.arena { links = l }) i;
+    } → given ≡ given_at (map_view shape p) i →
     map_view shape r ≡ reaped_view (map_view shape p) i → IsCounted shape r (counts_reaped given c)
 reaped-counted shape p r i l given c h first s g e =
-    let k : IsMap shape (record { index = p.index; lists = reaped_lists p.lists; arena = arena.given_back (record p.arena { links = l }) i }) c.linked = record {
+    let k : IsMap shape (record {
+      index = p.index;
+      lists = reaped_lists p.lists;
+      arena =
+          arena.given_back (record p.arena { links = l }) i;
+    }) c.linked = record {
       valid = h.kept.valid;
       hash = h.kept.hash;
-      arena = record { slots = h.kept.arena.slots; key_len = h.kept.arena.key_len; value_len = h.kept.arena.value_len; limit = h.kept.arena.limit; keys = h.kept.arena.keys; values = h.kept.arena.values };
+      arena = record {
+        slots = h.kept.arena.slots;
+        key_len = h.kept.arena.key_len;
+        value_len = h.kept.arena.value_len;
+        limit = h.kept.arena.limit;
+        keys = h.kept.arena.keys;
+        values = h.kept.arena.values;
+      };
       keys = h.kept.keys;
       count = h.kept.count;
     } in
-    reaped-by shape p r i given c h (subst (λ (z : PartsView). IsMap shape z c.linked) (sym s) k) first (e ∙ ap (λ z. slot_given_back z i (map_view shape p)) (sym g))
+    reaped-by shape p r i given c h (subst (λ (z : PartsView). IsMap shape z c.linked) (sym s) k) first
+    (e ∙ ap (λ z. slot_given_back z i (map_view shape p)) (sym g))

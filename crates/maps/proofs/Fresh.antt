@@ -8,7 +8,7 @@ use Rattle.std.specs.FinMap as map
 use Rattle.std.specs.FinMap.{get, get-empty, len-empty}
 use Rattle.std.proofs.lemmas.List.Folds.{sum_by-replicate}
 use Rattle.std.proofs.Math.Nat.{mul-zero}
-use Rattle.element_arena.proofs.Fresh.{times-once, times-below}
+use Rattle.element_store.proofs.Fresh.{times-once, times-below}
 use Rattle.bpf_model.specs.declared.limits.MapKind.TheVariants.{Hash}
 use Rattle.bpf_model.specs.declared.limits.MapShape.{MapShape}
 use Rattle.bpf_model.specs.Shapes.{IsShape}
@@ -16,7 +16,7 @@ use Rattle.std.proofs.lemmas.Option.{none-some}
 use Rattle.std.proofs.lemmas.List.{length-replicate}
 use Rattle.bpf_model.specs.View.{MapView, SlotView, unused_slot, new_view_of, new_map_view, key_in, value_in}
 use Rattle.bpf_model.specs.Schedule.{no_queues}
-use Rattle.element_arena.specs.State.{times_in, is_at, indexed, key_at, worn_at, new_arena}
+use Rattle.element_store.specs.State.{times_in, is_at, indexed, key_at, worn_at, new_arena}
 use Rattle.maps.specs.Parted.{PartsView, IsParted}
 use Rattle.maps.specs.Shown.{map_view, IsMap}
 
@@ -33,7 +33,8 @@ fresh n key_len value_len limit = record { index = map.empty; lists = no_queues;
 
 pub parted-fresh : (n key_len value_len limit : ℕ) → IsParted (fresh n key_len value_len limit)
 parted-fresh n key_len value_len limit =
-    let unlinked : (i : ℕ) → indexed (map.empty {K = List ℕ} {X = ℕ} {R = slice_cmp nat_cmp}) (replicate n unused_slot) i ≡ 0 = λ i. ap (λ o. is_at o i) (no-key (key_at (replicate n unused_slot) i)) in
+    let unlinked : (i : ℕ) → indexed (map.empty {K = List ℕ} {X = ℕ} {R = slice_cmp nat_cmp})
+    (replicate n unused_slot) i ≡ 0 = λ i. ap (λ o. is_at o i) (no-key (key_at (replicate n unused_slot) i)) in
     let long : length (replicate n unused_slot) ≡ n = length-replicate n unused_slot in
     let flags : length (replicate n false) ≡ n = length-replicate n false in
     record {
@@ -46,19 +47,35 @@ parted-fresh n key_len value_len limit =
 none-counted : (n : ℕ) → count_by (λ b. b) (replicate n false) ≡ 0
 none-counted n = sum_by-replicate (λ (x : Bool). cond {A = ℕ} x 1 0) n false ∙ mul-zero n
 
-pub fresh-hash : (shape : MapShape) → map_view shape (fresh (shape.entries + shape.spare) shape.key_len shape.value_len shape.reuse_limit) ≡ new_view_of Hash shape
-fresh-hash shape = ap (λ n. let v : MapView = record { shape = shape; slots = replicate (shape.entries + shape.spare) unused_slot; free = range_with_len 0 (shape.entries + shape.spare); index = map.empty; next = []; waiting = []; ready = []; worn = n } in v) (none-counted (shape.entries + shape.spare))
+pub fresh-hash : (shape : MapShape) → map_view shape (fresh (shape.entries + shape.spare) shape.key_len
+    shape.value_len shape.reuse_limit) ≡ new_view_of Hash shape
+fresh-hash shape = ap (λ n. let v : MapView = record {
+  shape = shape;
+  slots =
+      replicate (shape.entries + shape.spare) unused_slot;
+  free = range_with_len 0 (shape.entries + shape.spare);
+  index = map.empty;
+  next = [];
+  waiting = [];
+  ready = [];
+  worn = n;
+} in v)
+    (none-counted (shape.entries + shape.spare))
 
-pub fresh-view : (shape : MapShape) → shape.kind ≡ Hash → map_view shape (fresh (shape.entries + shape.spare) shape.key_len shape.value_len shape.reuse_limit) ≡ new_map_view shape
+pub fresh-view : (shape : MapShape) → shape.kind ≡ Hash →
+    map_view shape (fresh (shape.entries + shape.spare) shape.key_len shape.value_len shape.reuse_limit) ≡
+    new_map_view shape
 fresh-view shape hash = fresh-hash shape ∙ ap (λ kind. new_view_of kind shape) (sym hash)
 
 -- the bytes that are read of a slot, its key or its value
-unused-length : (bytes : Option SlotView → List ℕ) → length (bytes None) ≡ 0 → length (bytes (Some unused_slot)) ≡ 0 → (n i : ℕ) → length (bytes (slice_get (replicate n unused_slot) i)) ≡ 0
+unused-length : (bytes : Option SlotView → List ℕ) → length (bytes None) ≡ 0 → length (bytes (Some unused_slot)) ≡ 0 →
+    (n i : ℕ) → length (bytes (slice_get (replicate n unused_slot) i)) ≡ 0
 unused-length bytes none unused zero i = none
 unused-length bytes none unused (suc n) zero = unused
 unused-length bytes none unused (suc n) (suc i) = unused-length bytes none unused n i
 
-pub fresh-map : (shape : MapShape) → IsShape shape → shape.kind ≡ Hash → IsMap shape (fresh (shape.entries + shape.spare) shape.key_len shape.value_len shape.reuse_limit) 0
+pub fresh-map : (shape : MapShape) → IsShape shape → shape.kind ≡ Hash →
+    IsMap shape (fresh (shape.entries + shape.spare) shape.key_len shape.value_len shape.reuse_limit) 0
 fresh-map shape h hash = record {
   valid = h;
   hash = hash;

@@ -72,7 +72,8 @@ key-low : (b : List ℕ) (j : ℕ) → slice_index b 0 < j % 256 → IsLess b (i
 key-low [] j h = refl
 key-low (x ∷ b) j h = less-head x (j % 256) b (rest 1 3 j) h
 
-module _ (b : List ℕ) (limit low high : ℕ) (most : limit ≤ MAX_ENTRIES) (low-is : low ≡ slice_index b 0) (high-is : high ≡ slice_index b 1) (small : low < 256) where
+module _ (b : List ℕ) (limit low high : ℕ) (most : limit ≤ MAX_ENTRIES) (low-is : low ≡ slice_index b 0)
+    (high-is : high ≡ slice_index b 1) (small : low < 256) where
   -- an index whose key is above the bound
   abbrev pub Candidate : ℕ → Type 0
   Candidate i = (i < limit) × IsLess b (index_key i)
@@ -136,7 +137,11 @@ module _ (b : List ℕ) (limit low high : ℕ) (most : limit ≤ MAX_ENTRIES) (l
             let s : high < j / 256 = second-from j c e in
             let less : j < limit = c.0 in
             let past : first + 256 < limit = omega arith in
-            absurd (not-second (past, key-behind b (first + 256) (omega arith) (sym low-is ∙ (let z : low ≡ (first + 256) % 256 = omega arith in z)) (omega (arith, high-is))))
+            absurd (not-second (
+              past,
+              key-behind b (first + 256) (omega arith)
+                  (sym low-is ∙ (let z : low ≡ (first + 256) % 256 = omega arith in z)) (omega (arith, high-is)),
+            ))
       ]
 
       pub least-third : low + 1 < limit → NoneBetween (index_below limit) (Some b) (index_key (low + 1))

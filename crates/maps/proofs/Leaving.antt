@@ -9,22 +9,31 @@ use Rattle.bpf_model.specs.declared.event.Given.{Given}
 use Rattle.bpf_model.specs.declared.event.Given.TheVariants.{Free, Worn}
 use Rattle.bpf_model.specs.declared.limits.MapShape.{MapShape}
 use Rattle.bpf_model.specs.View.{MapView, uses_at}
-use Rattle.element_arena.specs.State.{worn_at, flag_in, is_last_use, given_back}
+use Rattle.element_store.specs.State.{worn_at, flag_in, is_last_use, given_back}
 use Rattle.view_laws.specs.Views.{given_at, reaped_view}
 use Rattle.view_laws.specs.Views as views
 use Rattle.view_laws.proofs.Lists.{len-remove_found}
-use Rattle.deferred_free.specs.Queued.{reaped_lists}
+use Rattle.element_store.specs.Queued.{reaped_lists}
 use Rattle.maps.specs.Parted.{PartsView}
 use Rattle.maps.specs.Updated.{unlinked_of}
 use Rattle.maps.specs.Shown.{map_view, IsMap, IsOfShape}
 use Rattle.maps.proofs.Lengths.{long-removed}
 
-pub retired-kept : (shape : MapShape) (p r : PartsView) (key : List ℕ) (i n : ℕ) → IsMap shape p n → get p.index key ≡ Some i → r ≡ unlinked_of p key (Some i) r.arena.links → IsMap shape r (n - 1)
+pub retired-kept : (shape : MapShape) (p r : PartsView) (key : List ℕ) (i n : ℕ) → IsMap shape p n →
+    get p.index key ≡ Some i → r ≡ unlinked_of p key (Some i) r.arena.links → IsMap shape r (n - 1)
 retired-kept shape p r key i n h g e =
     let k : IsMap shape (unlinked_of p key (Some i) r.arena.links) (n - 1) = record {
       valid = h.valid;
       hash = h.hash;
-      arena = record { slots = h.arena.slots; key_len = h.arena.key_len; value_len = h.arena.value_len; limit = h.arena.limit; keys = h.arena.keys; values = h.arena.values };
+      arena = record {
+        slots = h.arena.slots;
+        key_len = h.arena.key_len;
+        value_len = h.arena.value_len;
+        limit =
+            h.arena.limit;
+        keys = h.arena.keys;
+        values = h.arena.values;
+      };
       keys = long-removed p.index key shape.key_len h.keys;
       count = ap (λ m. m - 1) h.count ∙ sym (len-remove_found p.index key i g);
     } in
@@ -54,9 +63,25 @@ module _ (shape : MapShape) (p : PartsView) (i : ℕ) (l : List (Option ℕ)) (a
   }
 
   abbrev with_worn : ℕ → MapView
-  with_worn n = record { shape = shape; slots = p.arena.slots; free = p.arena.free; index = p.index; next = p.lists.next; waiting = p.lists.waiting; ready = (reaped_lists p.lists).ready; worn = n }
+  with_worn n = record {
+    shape = shape;
+    slots = p.arena.slots;
+    free = p.arena.free;
+    index = p.index;
+    next =
+        p.lists.next;
+    waiting = p.lists.waiting;
+    ready = (reaped_lists p.lists).ready;
+    worn = n;
+  }
 
-  pub reaped-shown : worn_at p.arena.worn i ≡ 0 → i < length p.arena.worn → map_view shape (record { index = p.index; lists = reaped_lists p.lists; arena = given_back (record p.arena { links = l }) i }) ≡ reaped_view (map_view shape p) i
+  pub reaped-shown : worn_at p.arena.worn i ≡ 0 → i < length p.arena.worn →
+      map_view shape (record {
+        index = p.index;
+        lists = reaped_lists p.lists;
+        arena =
+            given_back (record p.arena { links = l }) i;
+      }) ≡ reaped_view (map_view shape p) i
   reaped-shown w h = elim (cases_Bool (is_last_use p.arena i)) [
     | inl y ↦
         ap (λ b. by_last b) y

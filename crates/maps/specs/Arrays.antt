@@ -7,7 +7,7 @@ use Rattle.bpf_model.specs.declared.limits.MapShape.{MapShape}
 use Rattle.bpf_model.specs.Shapes.{IsShape}
 use Rattle.bpf_model.specs.MapState.{index_key}
 use Rattle.bpf_model.specs.View.{SlotView, MapView, index_below}
-use Rattle.element_arena.specs.Blocks.{block}
+use Rattle.element_store.specs.Blocks.{block}
 
 -- the map slot of an index
 abbrev pub index_slot : MapShape → List ℕ → ℕ → SlotView

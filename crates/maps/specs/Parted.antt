@@ -5,9 +5,9 @@ use Rattle.std.specs.FinMap.{remove}
 use Rattle.bpf_model.specs.Codes.{key_map_code, queues_code}
 use Rattle.bpf_model.specs.Schedule.{Queues}
 use Rattle.bpf_model.specs.View.{KeyMap, SlotView}
-use Rattle.element_arena.specs.Codes.{arena_code}
-use Rattle.element_arena.specs.State.{ArenaState, IsTaken, times_in, indexed, key_at, worn_at}
-use Rattle.deferred_free.specs.Queued.{queued, retired_lists}
+use Rattle.element_store.specs.Codes.{arena_code}
+use Rattle.element_store.specs.State.{ArenaState, IsTaken, times_in, indexed, key_at, worn_at}
+use Rattle.element_store.specs.Queued.{queued, retired_lists}
 use Rattle.hash_index.specs.Replies.{IsKeyed}
 
 -- what the index has, the three lists, and the arena over which both are read

@@ -11,7 +11,7 @@ use Rattle.bpf_model.specs.MapState.{MapState, slots_of_shape}
 use Rattle.bpf_model.specs.Shapes.{IsShape}
 use Rattle.bpf_model.specs.View.{KeyMap, MapView}
 use Rattle.bpf_model.specs.Refines.{lists_of}
-use Rattle.element_arena.specs.State.{ArenaState, key_at, value_at}
+use Rattle.element_store.specs.State.{ArenaState, key_at, value_at}
 use Rattle.hash_index.specs.Order.{IsAbove, NoneBetween}
 use Rattle.view_laws.specs.Views.{given_at, reaped_view}
 use Rattle.maps.specs.Parted.{PartsView, IsInUse}

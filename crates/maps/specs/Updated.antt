@@ -2,7 +2,7 @@
 use Rattle.std.specs.Prelude.{◌≡◌, ℕ, List, ◌∷◌, Option, Some, None, Result, Ok, Err}
 use Rattle.std.specs.FinMap.{insert}
 use Rattle.bpf_model.specs.declared.call.Errno.{Errno}
-use Rattle.element_arena.specs.State.{taken}
+use Rattle.element_store.specs.State.{taken}
 use Rattle.maps.specs.Parted.{PartsView, without_key}
 
 -- the parts once a free slot is taken for a key and a value, and rest is free

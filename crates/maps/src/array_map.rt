@@ -7,7 +7,7 @@ ghost use Rattle.bpf_model.specs.Access.{byte_count, number_at};
 ghost use Rattle.bpf_model.specs.Access.{with_bytes};
 ghost use Rattle.bpf_model.specs.Shapes.{IsShape};
 ghost use Rattle.bpf_model.specs.View.{new_map_view};
-ghost use Rattle.element_arena.specs.State.{value_at};
+ghost use Rattle.element_store.specs.State.{value_at};
 ghost use Rattle.hash_index.specs.Order.{NoneAbove};
 ghost use Rattle.view_laws.specs.Views.{updated, deleted, written, turned_view, value_read};
 ghost use Rattle.maps.specs.Shown.{IsOccupied, IsReaped, IsNext};
@@ -17,7 +17,7 @@ use crate::admission::slot_to_write;
 use crate::counts::Counts;
 use crate::index_key::{index_key, index_of, next_index};
 use bpf_model::{Errno, Given, KeyBytes, MapShape, ValueBytes, Width, array_of, number_of};
-use element_arena::{block, write_block, write_inside, zero_blocks};
+use element_store::{block, write_block, write_inside, zero_blocks};
 use std::alloc::{AllocError, Global};
 use std::marker::Model;
 

@@ -7,7 +7,7 @@ ghost use Rattle.bpf_model.specs.Access.{byte_count, number_at};
 ghost use Rattle.bpf_model.specs.Access.{with_bytes};
 ghost use Rattle.bpf_model.specs.Shapes.{IsShape};
 ghost use Rattle.bpf_model.specs.View.{new_map_view};
-ghost use Rattle.element_arena.specs.State.{value_at};
+ghost use Rattle.element_store.specs.State.{value_at};
 ghost use Rattle.hash_index.specs.Order.{NoneAbove};
 ghost use Rattle.view_laws.specs.Views.{updated, deleted, written, turned_view, value_read};
 ghost use Rattle.maps.specs.Shown.{IsOccupied, IsReaped, IsNext};
@@ -17,7 +17,6 @@ use crate::admission::Admission;
 use crate::counts::{Counts, counts_after_reap, counts_after_update};
 use crate::parts::Parts;
 use bpf_model::{Errno, Given, KeyBytes, MapShape, ValueBytes, Width, array_of};
-use deferred_free::Deferred;
 use hash_index::Index;
 use std::alloc::{AllocError, Global};
 use std::marker::Model;
@@ -25,13 +24,13 @@ use std::marker::Model;
 /// Elements by key, in map slots that were all allocated when the map was made. An element that is
 /// unlinked keeps its map slot until a grace period has passed.
 #[derive(Drop)]
-pub struct HashMap<I: Index, D: Deferred> {
+pub struct HashMap<I: Index> {
     shape: MapShape,
-    parts: Parts<I, D>,
+    parts: Parts<I>,
     counts: Counts,
 }
 
-impl<I: Index, D: Deferred> Model for HashMap<I, D> {
+impl<I: Index> Model for HashMap<I> {
     ghost use Rattle.bpf_model.specs.View.{MapView};
     ghost use Rattle.bpf_model.specs.Codes.{view_code};
     ghost use Rattle.maps.specs.Counting.{IsCounted};
@@ -46,7 +45,7 @@ impl<I: Index, D: Deferred> Model for HashMap<I, D> {
     ghost invariant = { λ h. IsCounted h.shape h.parts h.counts };
 }
 
-impl<I: Index, D: Deferred> HashMap<I, D> {
+impl<I: Index> HashMap<I> {
     /// The lengths of its keys and values, and its limits.
     pub fn shape(&self) -> MapShape
         ensures { result ≡ self.now.shape }
@@ -206,9 +205,9 @@ impl<I: Index, D: Deferred> HashMap<I, D> {
     }
 }
 
-impl<I: Index + Drop, D: Deferred + Drop> HashMap<I, D> {
+impl<I: Index + Drop> HashMap<I> {
     /// A map that has nothing. All the memory that it ever takes is taken here.
-    pub fn new(alloc: Global, shape: MapShape) -> Result<HashMap<I, D>, AllocError>
+    pub fn new(alloc: Global, shape: MapShape) -> Result<HashMap<I>, AllocError>
         requires shape { IsShape shape }
         requires hash { shape.kind ≡ MapKind.Hash }
         ensures { IfOk result (λ m. m ≡ new_map_view shape) }
@@ -226,7 +225,7 @@ impl<I: Index + Drop, D: Deferred + Drop> HashMap<I, D> {
     }
 
     /// Another map in the same state. Fails where memory runs out.
-    pub fn copy(&self, alloc: Global) -> Result<HashMap<I, D>, AllocError>
+    pub fn copy(&self, alloc: Global) -> Result<HashMap<I>, AllocError>
         ensures { IfOk result (λ m. m ≡ self.now) }
     {
         let parts = self.parts.copy(alloc)?;

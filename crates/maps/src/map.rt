@@ -6,7 +6,7 @@ ghost use Rattle.bpf_model.specs.Access.{byte_count, number_at};
 ghost use Rattle.bpf_model.specs.Access.{with_bytes};
 ghost use Rattle.bpf_model.specs.Shapes.{IsShape};
 ghost use Rattle.bpf_model.specs.View.{new_map_view};
-ghost use Rattle.element_arena.specs.State.{value_at};
+ghost use Rattle.element_store.specs.State.{value_at};
 ghost use Rattle.hash_index.specs.Order.{NoneAbove};
 ghost use Rattle.view_laws.specs.Views.{updated, deleted, written, turned_view, value_read};
 ghost use Rattle.maps.specs.Shown.{IsOccupied, IsReaped, IsNext};
@@ -16,7 +16,6 @@ use crate::array_map::ArrayMap;
 use crate::counts::Counts;
 use crate::hash_map::HashMap;
 use bpf_model::{Errno, Given, KeyBytes, MapKind, MapShape, ValueBytes, Width};
-use deferred_free::Threaded;
 use hash_index::Buckets;
 use std::alloc::{AllocError, Global};
 use std::marker::Model;
@@ -25,7 +24,7 @@ use std::marker::Model;
 /// map slots.
 #[derive(Drop)]
 enum Elements {
-    Hash(HashMap<Buckets, Threaded>),
+    Hash(HashMap<Buckets>),
     Array(ArrayMap),
 }
 

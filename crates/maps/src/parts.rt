@@ -8,16 +8,15 @@ ghost use Rattle.bpf_model.specs.Access.{with_bytes};
 ghost use Rattle.bpf_model.specs.Helper.{hash_error};
 ghost use Rattle.bpf_model.specs.MapState.{MapState, slots_of_shape};
 ghost use Rattle.bpf_model.specs.Shapes.{IsShape};
-ghost use Rattle.element_arena.specs.State.{key_at, value_at, is_last_use, given_back, with_slot_value, new_arena};
+ghost use Rattle.element_store.specs.State.{key_at, value_at, is_last_use, given_back, with_slot_value, new_arena};
 ghost use Rattle.hash_index.specs.Order.{IsAbove, NoneAbove, NoneBetween};
-ghost use Rattle.deferred_free.specs.Queued.{reaped_lists};
+ghost use Rattle.element_store.specs.Queued.{reaped_lists};
 ghost use Rattle.maps.specs.Parted.{IsParted, IsInHand, IsInUse};
 ghost use Rattle.maps.specs.Updated.{IsPut, error_of, unlinked_of};
 
 use crate::admission::Admission;
 use bpf_model::{Errno, Given, MapShape, Width};
-use deferred_free::Deferred;
-use element_arena::Arena;
+use element_store::{Arena, DeferredSlots};
 use hash_index::Index;
 use std::alloc::{AllocError, Global};
 use std::marker::Model;
@@ -25,13 +24,14 @@ use std::marker::Model;
 /// The slots of a map, each of which stands once at most: free, linked, in one of the three lists, or
 /// worn. Between two calls a slot may be in hand: taken, and standing nowhere.
 #[derive(Drop)]
-pub struct Parts<I: Index, D: Deferred> {
+pub struct Parts<I: Index> {
     arena: Arena,
     index: I,
-    deferred: D,
+    deferred: DeferredSlots,
 }
 
-impl<I: Index, D: Deferred> Model for Parts<I, D> {
+impl<I: Index> Model for Parts<I> {
+    ghost use Rattle.element_store.specs.Deferred.{DeferredFits, deferred_lists};
     ghost use Rattle.maps.specs.Parted.{PartsView, IsParted, parts_code};
 
     ghost Value = { PartsView };
@@ -40,19 +40,19 @@ impl<I: Index, D: Deferred> Model for Parts<I, D> {
 
     ghost view = { λ p. record {
       index = I.contents p.index p.arena;
-      lists = D.lists p.deferred p.arena;
+      lists = deferred_lists p.deferred p.arena;
       arena = p.arena;
     } };
 
-    ghost invariant = { λ p. (I.fits p.index p.arena × D.fits p.deferred p.arena)
+    ghost invariant = { λ p. (I.fits p.index p.arena × DeferredFits p.deferred p.arena)
         × IsParted (record {
           index = I.contents p.index p.arena;
-          lists = D.lists p.deferred p.arena;
+          lists = deferred_lists p.deferred p.arena;
           arena = p.arena;
         }) };
 }
 
-impl<I: Index, D: Deferred> Parts<I, D> {
+impl<I: Index> Parts<I> {
     /// A law: each slot stands once at most.
     pub fn is_parted(&self)
         ensures { IsParted self.now }
@@ -216,10 +216,10 @@ impl<I: Index, D: Deferred> Parts<I, D> {
     }
 }
 
-impl<I: Index + Drop, D: Deferred + Drop> Parts<I, D> {
+impl<I: Index + Drop> Parts<I> {
     /// The parts of a map that has nothing: a free slot for each of its entries and spare ones, and an
     /// index for its entries. Fails where memory runs out.
-    pub fn new(alloc: Global, shape: MapShape) -> Result<Parts<I, D>, AllocError>
+    pub fn new(alloc: Global, shape: MapShape) -> Result<Parts<I>, AllocError>
         requires { IsShape shape }
         ensures { IfOk result (λ p. p ≡ record {
           index = map.empty;
@@ -237,25 +237,23 @@ impl<I: Index + Drop, D: Deferred + Drop> Parts<I, D> {
             shape.reuse_limit,
         )?;
         let index = I::new(alloc, shape.entries, slots)?;
-        let deferred = D::new(alloc, slots)?;
         Ok(Parts {
             arena,
             index,
-            deferred,
+            deferred: DeferredSlots::new(),
         })
     }
 
     /// Other parts in the same state. Fails where memory runs out.
-    pub fn copy(&self, alloc: Global) -> Result<Parts<I, D>, AllocError>
+    pub fn copy(&self, alloc: Global) -> Result<Parts<I>, AllocError>
         ensures { IfOk result (λ p. p ≡ self.now) }
     {
         let arena = self.arena.copy()?;
         let index = self.index.copy(alloc)?;
-        let deferred = self.deferred.copy(alloc)?;
         Ok(Parts {
             arena,
             index,
-            deferred,
+            deferred: self.deferred.copy(),
         })
     }
 }

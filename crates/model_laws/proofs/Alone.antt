@@ -18,7 +18,7 @@ use Rattle.bpf_model.specs.declared.value.Reference.TheVariants.{Ctx, Frame, Map
 use Rattle.bpf_model.specs.Value.{◌>>=◌, reference}
 use Rattle.bpf_model.specs.Access.{byte_count, unsigned_width}
 use Rattle.bpf_model.specs.Operand.{operand_value}
-use Rattle.bpf_model.specs.Places.{slot_count}
+use Rattle.bpf_model.specs.Step.{slot_count}
 use Rattle.bpf_model.specs.Step.{State, Environment, Outcome, Moves, Exits, after, insn_at}
 use Rattle.bpf_model.specs.Call.{helper_of, kernel_function_of}
 use Rattle.bpf_model.specs.Exit.{names_map, HasNoMaps}

@@ -5,7 +5,10 @@ use Rattle.bpf_model.specs.declared.call.ResultKind.TheVariants.{ElementOrNull, 
 use Rattle.bpf_model.specs.declared.value.Value.{Value}
 use Rattle.bpf_model.specs.declared.value.Value.TheVariants.{Number, Pointer}
 use Rattle.bpf_model.specs.declared.value.Reference.TheVariants.{Elem}
-use Rattle.bpf_model.specs.Value.{IsNumber}
+
+-- the value is a number
+abbrev pub IsNumber : Value → Type 0
+IsNumber v = (n : ℕ) × (v ≡ Number n)
 
 -- a result of a kind: a reference to an element's value or 0, or a number
 abbrev pub IsOfKind : ResultKind → Value → Type 0

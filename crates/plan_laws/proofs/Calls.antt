@@ -17,7 +17,7 @@ use Rattle.bpf_model.specs.declared.value.Value.{Value}
 use Rattle.bpf_model.specs.declared.value.Value.TheVariants.{Nothing}
 use Rattle.bpf_model.specs.declared.value.Cell.{Cell}
 use Rattle.bpf_model.specs.Call.{helper_of, kernel_function_of}
-use Rattle.bpf_model.specs.Places.{slot_count}
+use Rattle.bpf_model.specs.Step.{slot_count}
 use Rattle.bpf_model.specs.Graph.{falls}
 use Rattle.bpf_model.specs.Step.{State}
 use Rattle.bpf_model.specs.Section.{Section}

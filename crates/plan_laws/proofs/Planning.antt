@@ -11,7 +11,7 @@ use Rattle.bpf_model.specs.declared.event.Answer.{Answer}
 use Rattle.bpf_model.specs.declared.value.Value.TheVariants.{Nothing, Pointer}
 use Rattle.bpf_model.specs.declared.value.Reference.TheVariants.{Ctx, Frame}
 use Rattle.bpf_model.specs.declared.value.Cell.TheVariants.{Unwritten}
-use Rattle.bpf_model.specs.Places.{slot_count}
+use Rattle.bpf_model.specs.Step.{slot_count}
 use Rattle.bpf_model.specs.Graph.{distance}
 use Rattle.bpf_model.specs.Places.{StartsAt}
 use Rattle.bpf_model.specs.Graph.{LeadsTo}

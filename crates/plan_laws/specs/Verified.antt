@@ -6,7 +6,7 @@ use Rattle.bpf_model.specs.declared.insn.Insn.TheVariants.{Call}
 use Rattle.bpf_model.specs.declared.limits.MapKind.TheVariants.{Array}
 use Rattle.bpf_model.specs.declared.limits.MapShape.{MapShape}
 use Rattle.bpf_model.specs.declared.event.Answer.{Answer}
-use Rattle.bpf_model.specs.Places.{slot_count}
+use Rattle.bpf_model.specs.Step.{slot_count}
 use Rattle.bpf_model.specs.Places.{StartsAt}
 use Rattle.bpf_model.specs.Graph.{falls, distance, JumpsTo}
 use Rattle.bpf_model.specs.Step.{State, Environment, Outcome, Moves, Exits, after, entry, insn_at}

@@ -1,4 +1,4 @@
-//! Laws of typed runs: what is known of a run before an instruction, with references to elements, is kept by its
+//! Laws of runs of verified programs: what is known of a run before an instruction, with references to elements, is kept by its
 //! own step and by the steps of all others; and a run of a verified program is never stuck, exits in time, and
 //! has near references alone.
 //!

@@ -27,14 +27,22 @@ fn operand(src: &Operand) -> [bool; REGISTERS] {
     }
 }
 
+/// Those of a function with so many arguments, the first in r1.
+fn first_arguments(count: usize) -> [bool; REGISTERS] {
+    let mut read = [false; REGISTERS];
+    for argument in read.iter_mut().skip(1).take(count) {
+        *argument = true;
+    }
+    read
+}
+
 /// The arguments that a function is called with.
 fn arguments(kind: CallKind, number: i32) -> [bool; REGISTERS] {
     if kind != CallKind::Helper {
         return marked(&[]);
     }
     match Helper::from_number(number) {
-        Some(Helper::Lookup | Helper::Delete) => marked(&[Reg::R1, Reg::R2]),
-        Some(Helper::Update) => marked(&[Reg::R1, Reg::R2, Reg::R3, Reg::R4]),
+        Some(helper) => first_arguments(helper.arguments().len()),
         None => marked(&[]),
     }
 }

@@ -6,7 +6,8 @@ use Rattle.std.proofs.lemmas.Option.{slice_get_within, same_Some}
 use Rattle.bpf_model.proofs.Cases.{same-pos}
 use Rattle.bpf_model.specs.declared.insn.Insn.{Insn}
 use Rattle.bpf_model.specs.Graph.{JumpsTo, GoesTo, Reached, reached_entry, reached_next}
-use Rattle.bpf_model.specs.Places.{starts_from, slot_count}
+use Rattle.bpf_model.specs.Places.{starts_from}
+use Rattle.bpf_model.specs.Step.{slot_count}
 use Rattle.bpf_model.specs.Step.{insn_at}
 use Rattle.bpf_model.proofs.Places.{starts-next, starts_ordered, starts_apart, start_of-insn, slot_count_some, start-entry, start-insn, start-inside}
 use Rattle.bpf_model.specs.Graph.{LeadsTo}

@@ -3,7 +3,8 @@ use Rattle.std.proofs.Common.{◌≡◌, ℕ, zero, suc, ◌+◌, ◌-◌, ◌<�
 use Rattle.std.specs.Prelude.{slice_index_or}
 use Rattle.std.proofs.lemmas.List.Sums.{sum_by-cons}
 use Rattle.bpf_model.specs.declared.insn.Insn.{Insn}
-use Rattle.bpf_model.specs.Places.{starts_from, slot_count, slot_total}
+use Rattle.bpf_model.specs.Places.{starts_from, slot_total}
+use Rattle.bpf_model.specs.Step.{slot_count}
 use Rattle.bpf_model.specs.Spelling.{IsProgram}
 use Rattle.bpf_model.proofs.Places.{insn_of-start, starts_ordered, start-insn}
 use Rattle.bpf_model.specs.Places.{StartsAt}

@@ -1,4 +1,4 @@
-//! A plain interpreter of the abstract machine: values of known kinds, tested at each step.
+//! A reference interpreter of the abstract machine: values of known kinds, tested at each step.
 //!
 //! It follows the definitions of `bpf_model` case by case, and is neither fast nor small. Its contract is
 //! the definition itself: a run is stuck exactly where the definition has no step. It serves to compare

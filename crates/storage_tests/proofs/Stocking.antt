@@ -2,10 +2,10 @@
 use Rattle.std.proofs.Common.{◌≡◌, ◌∙◌, ℕ, suc, ◌+◌, ◌-◌, ◌<◌, ◌≤◌, List, [], ◌∷◌, ◌++◌, length, drop, Option, Some, None, sym, ap, arith, Bool}
 use Rattle.std.specs.Prelude.{IfSome, IfNone}
 use Rattle.std.specs.List.{range_with_len}
-use Rattle.element_arena.specs.State.{ArenaState, times_in, worn_at, taken, new_arena}
+use Rattle.element_store.specs.State.{ArenaState, times_in, worn_at, taken, new_arena}
 use Rattle.std.proofs.lemmas.List.{length-replicate, length-set}
 use Rattle.maps.proofs.Fresh.{none-worn}
-use Rattle.element_arena.proofs.Fresh.{times-before}
+use Rattle.element_store.proofs.Fresh.{times-before}
 use Rattle.hash_index.specs.declared.commands.Command.{Command}
 use Rattle.hash_index.specs.declared.commands.Command.TheVariants.{Link, Find, Unlink, Above}
 use Rattle.hash_index.specs.Replies.{IsReadyCommand, AreReadyCommands}
@@ -14,7 +14,9 @@ use Rattle.storage_tests.specs.Stock.{IsStocked, IsFilled, IsLinkable, AreLinkab
 range_step : (slots count : ℕ) → count < slots → range_with_len count (slots - count) ≡ count ∷ range_with_len (count + 1) (slots - (count + 1))
 range_step slots count h = let e : slots - count ≡ suc (slots - (count + 1)) = omega arith in ap (range_with_len count) e
 
-pub took : (slots count : ℕ) (a b : ArenaState) (key value : List ℕ) (r : Option ℕ) → IsFilled slots count a → count < slots → IfNone r (a.free ≡ []) → IfSome r (λ i. a.free ≡ i ∷ b.free) → IfSome r (λ i. b ≡ taken a i b.free key value) → IsFilled slots (count + 1) b
+pub took : (slots count : ℕ) (a b : ArenaState) (key value : List ℕ) (r : Option ℕ) → IsFilled slots count a →
+    count < slots → IfNone r (a.free ≡ []) → IfSome r (λ i. a.free ≡ i ∷ b.free) →
+    IfSome r (λ i. b ≡ taken a i b.free key value) → IsFilled slots (count + 1) b
 took slots count a b key value None f h none slot new =
     let e : count ∷ range_with_len (count + 1) (slots - (count + 1)) ≡ [] = sym (range_step slots count h) ∙ (sym f.free ∙ none) in
     let l : suc (length (range_with_len (count + 1) (slots - (count + 1)))) ≡ 0 = ap (λ (xs : List ℕ). length xs) e in
@@ -53,7 +55,8 @@ stocked_when slots count a f = record {
       };
 }
 
-pub linkable_append : (count : ℕ) (all : List Command) (command : Command) → AreLinkable count all → IsLinkable count command → AreLinkable count (all ++ command ∷ [])
+pub linkable_append : (count : ℕ) (all : List Command) (command : Command) → AreLinkable count all →
+    IsLinkable count command → AreLinkable count (all ++ command ∷ [])
 linkable_append count [] command h l = (l, tt)
 linkable_append count (c ∷ all) command h l = (h.0, linkable_append count all command h.1 l)
 

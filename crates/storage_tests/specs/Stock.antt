@@ -1,7 +1,7 @@
 -- Arenas for tests, of which the first slots are taken.
 use Rattle.std.specs.Prelude.{◌≡◌, ℕ, ◌-◌, ◌<◌, ◌≤◌, false, List, [], ◌∷◌, length, replicate}
 use Rattle.std.specs.List.{range_with_len}
-use Rattle.element_arena.specs.State.{ArenaState, IsTaken}
+use Rattle.element_store.specs.State.{ArenaState, IsTaken}
 use Rattle.hash_index.specs.declared.commands.Command.{Command}
 use Rattle.hash_index.specs.declared.commands.Command.TheVariants.{Link, Find, Unlink, Above}
 

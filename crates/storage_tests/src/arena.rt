@@ -1,9 +1,9 @@
 //! The slots of one map: slots for keys of two bytes and values of eight, each used twice at most.
 ghost use Rattle.std.specs.Prelude.{◌≡◌, [], ◌∷◌, IfOk};
-ghost use Rattle.element_arena.specs.State.{new_arena, taken};
+ghost use Rattle.element_store.specs.State.{new_arena, taken};
 
 use bpf_model::{Given, Width};
-use element_arena::{Arena, Stale, Tag};
+use element_store::{Arena, Stale, Tag};
 use std::alloc::{AllocError, Global};
 use std::test::Fail;
 

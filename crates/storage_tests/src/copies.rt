@@ -1,7 +1,7 @@
 //! Copies of maps and of their registry: a copy answers as the original would, whatever becomes of the other.
 use crate::map_tables::{SMALL, replay};
+use crate::vectors::Vectors;
 use bpf_model::MapId;
-use deferred_free::{Deferred, Threaded, Vectors};
 use hash_index::{Buckets, Index, Sorted};
 use maps::{HashMap, Registry};
 use std::alloc::Global;
@@ -32,22 +32,24 @@ reap = 09 worn\n\
 reap = none\n";
 
 /// The answers of a copy that is made between `BEFORE` and `AFTER`, when the original has gone on first.
-fn copy_answers<I: Index + Drop, D: Deferred + Drop>(alloc: Global) -> Result<String, Fail> {
-    let mut map: HashMap<I, D> = HashMap::new(alloc, SMALL)?;
-    replay(alloc, &mut map, BEFORE)?;
+fn copy_answers<I: Index + Drop>(alloc: Global) -> Result<String, Fail> {
+    let mut map: HashMap<I> = HashMap::new(alloc, SMALL)?;
+    let mut vectors = Vectors::new(alloc);
+    replay(alloc, &mut map, &mut vectors, BEFORE)?;
     let mut copy = map.copy(alloc)?;
-    replay(alloc, &mut map, AFTER)?;
+    let mut copied = vectors.copy(alloc)?;
+    replay(alloc, &mut map, &mut vectors, AFTER)?;
     drop(map);
-    replay(alloc, &mut copy, AFTER)
+    replay(alloc, &mut copy, &mut copied, AFTER)
 }
 
 #[test]
 fn copies_of_maps(rt: HostRuntime) -> Result<(), Fail> {
     let alloc = rt.alloc();
-    let threaded = copy_answers::<Buckets, Threaded>(alloc)?;
-    assert_eq!(rt; threaded.as_str(), AFTER);
-    let vectors = copy_answers::<Sorted, Vectors>(alloc)?;
-    assert_eq!(rt; vectors.as_str(), AFTER);
+    let buckets = copy_answers::<Buckets>(alloc)?;
+    assert_eq!(rt; buckets.as_str(), AFTER);
+    let sorted = copy_answers::<Sorted>(alloc)?;
+    assert_eq!(rt; sorted.as_str(), AFTER);
     Ok(())
 }
 

@@ -1,7 +1,7 @@
 //! Grace periods: how deep runs are inside sections, which are awaited, and when an advance turns.
 
 use bpf_model::{MAX_DEPTH, MAX_RUNS, RunId};
-use grace_period::Grace;
+use element_store::Grace;
 use std::process::Abort;
 use std::test::Fail;
 

@@ -5,7 +5,7 @@ ghost use Rattle.storage_tests.specs.declared.indexes.TheConstants.{MANY};
 ghost use Rattle.storage_tests.specs.Stock.{IsStocked, IsFilled, IsLinkable, AreLinkable};
 
 use bpf_model::KeyBytes;
-use element_arena::Arena;
+use element_store::Arena;
 use hash_index::{Buckets, Command, Index, Sorted, run};
 use std::alloc::{AllocError, Global};
 

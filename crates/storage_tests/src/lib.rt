@@ -13,3 +13,5 @@ mod grace;
 mod indexes;
 #[cfg(test)]
 mod map_tables;
+#[cfg(test)]
+mod vectors;

@@ -1,8 +1,8 @@
 //! Maps of both forms over lines of commands, with the answers that they must have, worked out by hand; and the registry.
 //! Bytes are hexadecimal digits. `slot` asks for the slot of a key, `above` for the element with the least key above
 //! another, or of all (`-`).
+use crate::vectors::Vectors;
 use bpf_model::{Errno, Given, MapId, MapKind, MapShape};
-use deferred_free::{Deferred, Threaded, Vectors};
 use hash_index::{Buckets, Index, Sorted};
 use maps::{HashMap, Registry};
 use std::alloc::Global;
@@ -100,8 +100,8 @@ fn tell_result(text: &mut String, told: Result<(), Errno>) -> Result<(), Fail> {
     Ok(())
 }
 
-fn put<I: Index, D: Deferred>(
-    map: &mut HashMap<I, D>,
+pub(crate) fn put<I: Index>(
+    map: &mut HashMap<I>,
     key: &[u8],
     value: &[u8],
     flags: u64,
@@ -121,12 +121,21 @@ fn tell_slot(text: &mut String, slot: Option<usize>) -> Result<(), Fail> {
     Ok(())
 }
 
-fn reap<I: Index, D: Deferred>(
+fn reap<I: Index>(
     alloc: Global,
-    map: &mut HashMap<I, D>,
+    map: &mut HashMap<I>,
+    vectors: &mut Vectors,
     text: &mut String,
 ) -> Result<(), Fail> {
-    match map.reap() {
+    let reaped = map.reap();
+    let first = match &reaped {
+        Some((key, _)) => key.as_slice().first().copied(),
+        None => None,
+    };
+    if first != vectors.reap() {
+        return Err(Fail::from("another element than in the vectors"));
+    }
+    match reaped {
         Some((key, given)) => {
             let key = hex::encode(alloc, key.as_slice())?;
             let how = match given {
@@ -140,9 +149,9 @@ fn reap<I: Index, D: Deferred>(
     Ok(())
 }
 
-fn above<I: Index, D: Deferred>(
+fn above<I: Index>(
     alloc: Global,
-    map: &HashMap<I, D>,
+    map: &HashMap<I>,
     bound: &str,
     text: &mut String,
 ) -> Result<(), Fail> {
@@ -164,10 +173,11 @@ fn above<I: Index, D: Deferred>(
     Ok(())
 }
 
-/// Does the command of a line, and writes its answer.
-fn answer<I: Index, D: Deferred>(
+/// Does the command of a line, also on the vectors, and writes its answer.
+fn answer<I: Index>(
     alloc: Global,
-    map: &mut HashMap<I, D>,
+    map: &mut HashMap<I>,
+    vectors: &mut Vectors,
     line: &str,
     text: &mut String,
 ) -> Result<(), Fail> {
@@ -177,21 +187,30 @@ fn answer<I: Index, D: Deferred>(
         "put" => {
             let key = bytes(alloc, words)?;
             let value = bytes(alloc, words)?;
+            let was_linked = map.lookup(&key).is_some();
             let told = put(map, &key, &value, flags(words)?)?;
+            if was_linked && told.is_ok() {
+                vectors.retire(&key)?;
+            }
             tell_result(text, told)
         }
         "del" => {
             let key = bytes(alloc, words)?;
-            tell_result(text, map.delete(&key))
+            let told = map.delete(&key);
+            if told.is_ok() {
+                vectors.retire(&key)?;
+            }
+            tell_result(text, told)
         }
         "slot" => {
             let key = bytes(alloc, words)?;
             tell_slot(text, map.lookup(&key))
         }
         "above" => above(alloc, map, word(words)?, text),
-        "reap" => reap(alloc, map, text),
+        "reap" => reap(alloc, map, vectors, text),
         "advance" => {
             map.advance();
+            vectors.advance()?;
             text.push_str("ok")?;
             Ok(())
         }
@@ -199,10 +218,11 @@ fn answer<I: Index, D: Deferred>(
     }
 }
 
-/// The lines with the answers that a map gives.
-pub(crate) fn replay<I: Index, D: Deferred>(
+/// The lines with the answers that a map gives. What it reaps is what the vectors have.
+pub(crate) fn replay<I: Index>(
     alloc: Global,
-    map: &mut HashMap<I, D>,
+    map: &mut HashMap<I>,
+    vectors: &mut Vectors,
     lines: &str,
 ) -> Result<String, Fail> {
     let mut text = String::new(alloc);
@@ -211,20 +231,18 @@ pub(crate) fn replay<I: Index, D: Deferred>(
             return Err(Fail::from("no answer is wanted"));
         };
         write!(text, "{command} = ")?;
-        answer(alloc, map, command, &mut text)?;
+        answer(alloc, map, vectors, command, &mut text)?;
         text.push('\n')?;
     }
     Ok(text)
 }
 
-/// Maps of this index and these lists answer the table.
-fn answers_table<I: Index + Drop, D: Deferred + Drop, R: Abort>(
-    rt: &R,
-    alloc: Global,
-) -> Result<(), Fail> {
-    let mut small: HashMap<I, D> = HashMap::new(alloc, SMALL)?;
+/// Maps of this index answer the table.
+fn answers_table<I: Index + Drop, R: Abort>(rt: &R, alloc: Global) -> Result<(), Fail> {
+    let mut small: HashMap<I> = HashMap::new(alloc, SMALL)?;
+    let mut vectors = Vectors::new(alloc);
     assert_eq!(rt;
-        replay(alloc, &mut small, SMALL_LINES)?.as_str(),
+        replay(alloc, &mut small, &mut vectors, SMALL_LINES)?.as_str(),
         SMALL_LINES
     );
     Ok(())
@@ -232,8 +250,8 @@ fn answers_table<I: Index + Drop, D: Deferred + Drop, R: Abort>(
 
 #[test]
 fn maps_of_both_forms(rt: HostRuntime) -> Result<(), Fail> {
-    answers_table::<Buckets, Threaded, _>(&rt, rt.alloc())?;
-    answers_table::<Sorted, Vectors, _>(&rt, rt.alloc())
+    answers_table::<Buckets, _>(&rt, rt.alloc())?;
+    answers_table::<Sorted, _>(&rt, rt.alloc())
 }
 
 /// A shape of no map: it has no entries.

@@ -1,4 +1,4 @@
-//! Runs on words beside the plain interpreter, step by step, and beside exit values that another interpreter,
+//! Runs on words beside the reference interpreter, step by step, and beside exit values that another interpreter,
 //! written apart from this repository, computed.
 ghost use Rattle.std.specs.Prelude.{◌≡◌, IfOk, length};
 ghost use Rattle.bpf_model.specs.Exit.{HasNoMaps};

@@ -16,7 +16,7 @@ use Rattle.bpf_model.specs.PlainMaps.{InSection, section_entry, section_lock, se
 use Rattle.bpf_model.specs.PlainMaps.{LacksRegister, lacks_entry, lacks_call, lacks_next, IsPlainWithMaps}
 use Rattle.bpf_model.specs.PlainMaps.{GuardedLookup, LookupPart, FrameCopy, KeyAddress, MapLoad, LookupCall, NullTest}
 use Rattle.bpf_model.specs.PlainMaps.{ValueLoad, part_insn, part_slot}
-use Rattle.bpf_model.specs.Places.{slot_count}
+use Rattle.bpf_model.specs.Step.{slot_count}
 use Rattle.bpf_model.specs.Step.{insn_at}
 use Rattle.bpf_model.proofs.Places.{start_of-insn, starts_increase, start-insn}
 use Rattle.bpf_model.specs.Graph.{LeadsTo}

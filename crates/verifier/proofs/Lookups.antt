@@ -13,7 +13,8 @@ use Rattle.bpf_model.specs.PlainMaps.{lookup_call, IsValueLoad, IsGuardedLookup,
 use Rattle.bpf_model.specs.PlainMaps.{LacksRegister, lacks_call, lacks_next, IsPlainWithMaps, GuardedLookup}
 use Rattle.bpf_model.specs.PlainMaps.{LookupPart, FrameCopy, KeyAddress, MapLoad, LookupCall, NullTest, ValueLoad}
 use Rattle.bpf_model.specs.PlainMaps.{part_insn, part_slot}
-use Rattle.bpf_model.specs.Places.{slot_count, starts_from}
+use Rattle.bpf_model.specs.Step.{slot_count}
+use Rattle.bpf_model.specs.Places.{starts_from}
 use Rattle.bpf_model.specs.Step.{insn_at}
 use Rattle.bpf_model.specs.Places.{StartsAt}
 use Rattle.bpf_model.proofs.Places.{starts-next, starts_increase, starts_ordered, start-inside}

@@ -9,7 +9,8 @@ use Rattle.bpf_model.specs.declared.insn.Insn.{Insn}
 use Rattle.bpf_model.specs.declared.insn.Insn.TheVariants.{Exit}
 use Rattle.bpf_model.specs.declared.limits.MapShape.{MapShape}
 use Rattle.bpf_model.specs.Graph.{falls, distance, EndsWithExit}
-use Rattle.bpf_model.specs.Places.{slot_count, slot_total}
+use Rattle.bpf_model.specs.Step.{slot_count}
+use Rattle.bpf_model.specs.Places.{slot_total}
 use Rattle.bpf_model.proofs.Places.{slot_count_some, starts_apart, start_of-insn, start-insn, start-entry}
 use Rattle.bpf_model.specs.Graph.{LeadsTo}
 use Rattle.bpf_model.specs.Places.{StartsAt}

@@ -7,7 +7,7 @@ use Rattle.bpf_model.specs.declared.limits.MapShape.{MapShape}
 use Rattle.bpf_model.specs.Machine as machine
 use Rattle.bpf_model.specs.View.{MapView, RunView, WorldView, shapes_of_maps}
 use Rattle.world_laws.specs.Exited.{HasExited}
-use Rattle.grace_period.specs.State.{GraceState}
+use Rattle.element_store.specs.Sections.{GraceState}
 use Rattle.machine.specs.RunWords.{RunWords}
 use Rattle.world.specs.declared.kept.loaded.Loaded.{Loaded}
 use Rattle.world.specs.BoundTo.{IsBound}

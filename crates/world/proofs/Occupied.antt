@@ -7,8 +7,8 @@ use Rattle.std.proofs.lemmas.Option.{same_Some}
 use Rattle.std.proofs.Common.{subst}
 use Rattle.bpf_model.specs.View.{MapView}
 use Rattle.bpf_model.specs.Refines as refines
-use Rattle.element_arena.specs.State as state
-use Rattle.element_arena.proofs.Counts.{one_same}
+use Rattle.element_store.specs.State as state
+use Rattle.element_store.proofs.Counts.{one_same}
 use Rattle.model_laws.specs.Locations.{Location, InSlot}
 use Rattle.maps.specs.Shown as shown
 use Rattle.world_laws.specs.Reaching as reaching

@@ -9,8 +9,8 @@ use Rattle.bpf_model.specs.Event.{start_refusal, if_full}
 use Rattle.bpf_model.specs.Schedule.{still_open}
 use Rattle.bpf_model.specs.Machine as machine
 use Rattle.bpf_model.specs.View.{MapView, RunView, WorldView}
-use Rattle.element_arena.proofs.Views.{map-set_same}
-use Rattle.grace_period.specs.State.{GraceState, IsGrace, is_open_depth, opened_in}
+use Rattle.element_store.proofs.Views.{map-set_same}
+use Rattle.element_store.specs.Sections.{GraceState, IsGrace, is_open_depth, opened_in}
 use Rattle.view_laws.specs.Reactions.{with_run, fresh_view, start_by, start_reaction}
 use Rattle.view_laws.proofs.Listing.{still-same}
 use Rattle.machine.specs.RunWords.{RunWords, IsAt}

@@ -7,7 +7,7 @@ use Rattle.std.proofs.lemmas.Bool.{cases_eq, cond-false, cond-true, eq-eqb, le-l
 use Rattle.std.proofs.lemmas.List.{map-set}
 use Rattle.bpf_model.specs.Schedule.{still_open}
 use Rattle.bpf_model.proofs.Lists.{heads, tails}
-use Rattle.grace_period.specs.State.{GraceState, depth_at, is_open_depth, opened_in}
+use Rattle.element_store.specs.Sections.{GraceState, depth_at, is_open_depth, opened_in}
 
 -- a section that is opened is awaited no more than before
 pub opened_awaits : (fs os : List Bool) (r : ℕ) → still_open fs os ≡ fs → still_open fs (slice_set os r true) ≡ fs

@@ -18,7 +18,7 @@ use Rattle.bpf_model.specs.Call.{helper_of, kernel_function_of}
 use Rattle.bpf_model.specs.Machine.{Loaded}
 use Rattle.bpf_model.specs.Schedule.{still_open}
 use Rattle.bpf_model.specs.View.{MapView, RunView, WorldView}
-use Rattle.grace_period.specs.State.{GraceState, depth_at, is_open_depth, opened_in}
+use Rattle.element_store.specs.Sections.{GraceState, depth_at, is_open_depth, opened_in}
 use Rattle.model_laws.specs.Locations.{Location, InContext, InFrame, AtMap, InSlot}
 use Rattle.view_laws.specs.Reactions.{with_run, locked_view, unlocked_view}
 use Rattle.world_laws.specs.Calling.{serves, helper_called, helper_called_on, returned_view}

@@ -10,7 +10,7 @@ use Rattle.bpf_model.specs.Machine as machine
 use Rattle.bpf_model.specs.Schedule.{Schedule, still_open}
 use Rattle.bpf_model.specs.Step.{insn_at}
 use Rattle.bpf_model.specs.View.{MapView, RunView, WorldView, shapes_of, shapes_of_maps}
-use Rattle.grace_period.specs.State.{GraceState, is_open_depth, opened_in}
+use Rattle.element_store.specs.Sections.{GraceState, is_open_depth, opened_in}
 use Rattle.verifier.specs.Verdict.{IsJustified}
 use Rattle.view_laws.specs.Matching.{Matches}
 use Rattle.view_laws.specs.Reactions.{step_refused}

@@ -4,7 +4,7 @@ use Rattle.std.specs.Prelude.{◌≡◌, ℕ, Bool, List, length, map, Option, S
 use Rattle.std.specs.Prelude.{option_map}
 use Rattle.bpf_model.specs.declared.limits.TheConstants.{MAX_RUNS}
 use Rattle.bpf_model.specs.View.{MapView, RunView, WorldView, shapes_of_maps}
-use Rattle.grace_period.specs.State.{GraceState, is_open_depth, opened_in}
+use Rattle.element_store.specs.Sections.{GraceState, is_open_depth, opened_in}
 use Rattle.machine.specs.RunWords.{RunWords, IsAt}
 use Rattle.world.specs.declared.kept.loaded.Loaded.{Loaded}
 use Rattle.world.specs.BoundTo.{AreProgramsBound}

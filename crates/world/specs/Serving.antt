@@ -10,7 +10,7 @@ use Rattle.bpf_model.specs.Access.{byte_count}
 use Rattle.bpf_model.specs.Machine.{Loaded}
 use Rattle.bpf_model.specs.Schedule.{still_open}
 use Rattle.bpf_model.specs.View.{MapView, RunView, WorldView}
-use Rattle.grace_period.specs.State.{GraceState, depth_at, is_open_depth, opened_in}
+use Rattle.element_store.specs.Sections.{GraceState, depth_at, is_open_depth, opened_in}
 use Rattle.world_laws.specs.Locating.{location_of}
 use Rattle.world_laws.specs.Reaching.{IsCall}
 use Rattle.machine.specs.declared.request.Request.{Request}

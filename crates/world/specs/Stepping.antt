@@ -5,7 +5,7 @@ use Rattle.bpf_model.specs.declared.insn.Insn.{Insn}
 use Rattle.bpf_model.specs.declared.limits.TheConstants.{MAX_DEPTH}
 use Rattle.bpf_model.specs.Step.{insn_at}
 use Rattle.bpf_model.specs.View.{MapView, RunView, WorldView}
-use Rattle.grace_period.specs.State.{GraceState}
+use Rattle.element_store.specs.Sections.{GraceState}
 use Rattle.verifier.specs.Verdict.{IsJustified}
 use Rattle.world_laws.specs.Local.{Asks, local_of}
 use Rattle.world_laws.specs.Reacting.{insn_step}

@@ -2,12 +2,12 @@
 ghost use Rattle.std.specs.Prelude.{◌≡◌, ◌<◌};
 ghost use Rattle.bpf_model.specs.declared.limits.TheConstants.{MAX_DEPTH, MAX_RUNS};
 ghost use Rattle.bpf_model.specs.Schedule.{still_open};
-ghost use Rattle.grace_period.specs.State.{depth_at, opened_in};
+ghost use Rattle.element_store.specs.Sections.{depth_at, opened_in};
 ghost use Rattle.machine.specs.declared.request.Request.TheVariants.{Enter, Leave};
 ghost use Rattle.world.specs.Serving.{grace_after};
 
 use bpf_model::RunId;
-use grace_period::Grace;
+use element_store::Grace;
 
 /// The run goes one lock deeper. Where that opens a section, the present grace period does not wait for it.
 #[inline]

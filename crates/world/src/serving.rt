@@ -6,7 +6,7 @@ use crate::calling::call;
 use crate::element::{load, store};
 use crate::section::{enter, leave};
 use bpf_model::RunId;
-use grace_period::Grace;
+use element_store::Grace;
 use machine::{Request, Run};
 use maps::Registry;
 

@@ -18,7 +18,7 @@ ghost use Rattle.machine.specs.Regions.{IsCodeOf};
 ghost use Rattle.machine.specs.Requests.{request_of};
 ghost use Rattle.machine.specs.Standing.{MayGive};
 ghost use Rattle.machine.specs.Steps.{IsLocalStep};
-ghost use Rattle.grace_period.specs.State.{GraceState};
+ghost use Rattle.element_store.specs.Sections.{GraceState};
 ghost use Rattle.world.specs.Serving.{CanServe, IsFlagged, IsOwnWorld, IsReply, ShowsGrace};
 ghost use Rattle.world.specs.Serving.{served_step};
 

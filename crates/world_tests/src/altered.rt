@@ -1,6 +1,6 @@
 //! A hundred programs that differ from a lookup in one bit. Each is refused by its number, in decoding or by the
 //! verifier; or it is accepted, and then run with its key deleted before each step in turn. It exits within as many steps
-//! as it has instructions, with the plain model's answers all along.
+//! as it has instructions, with the reference model's answers all along.
 use crate::making::{bytes_of, judged, numbers_of, plain_program, registry_of};
 use crate::replay::apply_both;
 use bpf_model::{Answer, CtxBytes, Event, MapId, MapKind, MapShape, ProgId, RunId};
@@ -91,7 +91,7 @@ fn delete() -> Event {
     }
 }
 
-/// A world and the plain model beside it.
+/// A world and the reference model beside it.
 #[derive(Drop)]
 struct Both {
     alloc: Global,

@@ -21,7 +21,7 @@ struct Setting {
 }
 
 /// A setting and its events. Where the program is one that can be stuck, it is said by what number and
-/// at which slot the verifier refuses it, and the plain model alone goes through the events.
+/// at which slot the verifier refuses it, and the reference model alone goes through the events.
 struct Case {
     setting: Setting,
     refused: Option<(u8, usize)>,
@@ -641,7 +641,7 @@ fn refusal_of(alloc: Global, setting: &Setting) -> Result<Option<(u8, usize)>, F
     }
 }
 
-/// The answers of the plain model, and those of the world where the program is accepted.
+/// The answers of the reference model, and those of the world where the program is accepted.
 fn answers(
     alloc: Global,
     setting: &Setting,

@@ -1,4 +1,4 @@
-//! Two programs that clang compiled from C, with their maps, by the world and by the plain model: the sources are those of
+//! Two programs that clang compiled from C, with their maps, by the world and by the reference model: the sources are those of
 //! examples/c. What they are answered was computed by `examples/c/native`; the scripts of `checks/data` have more of them.
 use crate::making::{judged, numbers_of, plain_program, registry_of};
 use crate::replay::replay;
@@ -178,7 +178,7 @@ fn compiled_programs(rt: HostRuntime) -> Result<(), Fail> {
         assert_eq!(rt;
             told.as_str(),
             row.events,
-            "{} by the plain model",
+            "{} by the reference model",
             row.name
         );
         let mut world = world_of(alloc, row)?;

@@ -1,4 +1,4 @@
-//! The world beside the plain model on events of a fixed sequence of numbers, event for event: three hash maps and an
+//! The world beside the reference model on events of a fixed sequence of numbers, event for event: three hash maps and an
 //! array, at most eight runs at once, thirteen programs.
 use crate::making::{Source, bytes_of, machine_of, world_of};
 use crate::programs::{

@@ -1,5 +1,5 @@
-//! Tests of the world, and of the plain model beside it: lists of events and the answers that they must have, worked
-//! out by hand, and generated lists on which both must agree. Since the plain model's answers are proved to be the
+//! Tests of the world, and of the reference model beside it: lists of events and the answers that they must have, worked
+//! out by hand, and generated lists on which both must agree. Since the reference model's answers are proved to be the
 //! definitions' own, its answers are tests of the definitions.
 #![tactic(auto)]
 

@@ -1,4 +1,4 @@
-//! Machines of the plain model, and worlds, of the same maps and programs.
+//! Machines of the reference model, and worlds, of the same maps and programs.
 ghost use Rattle.std.specs.Prelude.{IfOk};
 ghost use Rattle.bpf_model.specs.View.{AreNewMaps};
 
@@ -41,7 +41,7 @@ pub fn assembled(alloc: Global, text: &str) -> Result<Program, Fail> {
     }
 }
 
-/// The program as the plain model takes it, which asks for no verdict.
+/// The program as the reference model takes it, which asks for no verdict.
 pub fn plain_program(
     alloc: Global,
     program: &Program,
@@ -55,7 +55,7 @@ pub fn plain_program(
     })
 }
 
-/// A machine of the plain model with maps of these shapes.
+/// A machine of the reference model with maps of these shapes.
 pub fn machine_of(alloc: Global, shapes: &[MapShape], sources: &[Source]) -> Result<Machine, Fail> {
     let mut programs = Vec::new(alloc);
     for source in sources {

@@ -97,7 +97,7 @@ pub fn answers_as<M: Answering, R: Abort>(
     Ok(())
 }
 
-/// The world's answer, and its text and the plain model's.
+/// The world's answer, and its text and the reference model's.
 pub fn apply_both(
     alloc: Global,
     world: &mut World,

@@ -1,4 +1,4 @@
-//! The plain interpreter by itself.
+//! The reference interpreter by itself.
 use bpf_model::{AluOp, Cell, FRAME_BYTES, Insn, Operand, Reference, Reg, Size, Value, Width};
 use reference_interpreter::{Ending, PlainRun, Progress};
 

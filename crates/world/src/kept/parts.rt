@@ -9,7 +9,7 @@ use crate::kept::by_number::program_at;
 use crate::kept::copying::{copy_of_programs, copy_of_runs};
 use crate::kept::loaded::Loaded;
 use bpf_model::{MAX_RUNS, ProgId};
-use grace_period::Grace;
+use element_store::Grace;
 use machine::Run;
 use maps::Registry;
 use std::alloc::{AllocError, Global};

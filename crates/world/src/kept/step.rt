@@ -13,7 +13,7 @@ use crate::kept::loaded::Loaded;
 use crate::kept::parts::Parts;
 use crate::serving::serve;
 use bpf_model::{Answer, EventRefusal, RunId};
-use grace_period::Grace;
+use element_store::Grace;
 use machine::{Local, Run};
 use maps::Registry;
 

@@ -2,13 +2,13 @@ use Rattle.std.proofs.Common.{subst}
 use Rattle.bpf_model.specs.declared.call.ResultKind.{ResultKind}
 use Rattle.bpf_model.specs.Request.{signature_of}
 use Rattle.register_kinds.specs.States.{kind_at}
-use Rattle.effects.proofs.CallLaws.{IsLeft, helper_sound, left_result}
+use Rattle.effects.specs.Calls.{IsLeft}
+use Rattle.effects.proofs.CallLaws.{helper_sound, left_result}
 use Rattle.effects.proofs.calls.call_by_signature.Goals as goal
 use Rattle.effects.proofs.calls.call_by_signature.Goals.{After-leave_call}
 
 left : (c : After-leave_call) → IsLeft (signature_of c.args.helper).result c.in_ok-map.map c.args.ids.now.next c.returned-r0.result
-left c = subst (λ (kind : ResultKind). IsLeft kind c.in_ok-map.map c.args.ids.now.next c.returned-r0.result)
-    c.result.ensures (c.returned-r0.ensures.element, c.returned-r0.ensures.number)
+left c = subst (λ (kind : ResultKind). IsLeft kind c.in_ok-map.map c.args.ids.now.next c.returned-r0.result) c.result.ensures c.returned-r0.ensures.left
 
 pub returns-clause-sound : goal.returns-clause-sound
 returns-clause-sound c =

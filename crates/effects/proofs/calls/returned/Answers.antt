@@ -1,5 +1,10 @@
-use Rattle.std.proofs.Common.{refl}
+use Rattle.std.proofs.Common.{refl, sym, subst}
+use Rattle.bpf_model.specs.declared.call.ResultKind.{ResultKind}
+use Rattle.register_kinds.specs.declared.kind.RegKind.TheVariants.{Num}
+use Rattle.effects.specs.Calls.{IsLeft}
 use Rattle.effects.proofs.calls.returned.Goals as goal
 
-pub returns-in-ErrorNumber-clause-number : goal.returns-in-ErrorNumber-clause-number
-returns-in-ErrorNumber-clause-number c is = (c.unknown.result, refl, c.unknown.ensures.sound)
+pub returns-in-ErrorNumber-clause-left : goal.returns-in-ErrorNumber-clause-left
+returns-in-ErrorNumber-clause-left c = subst (λ (kind : ResultKind).
+    IsLeft kind c.args.map c.args.ids.now.next (Num c.unknown.result)) (sym c.in-ErrorNumber.is)
+    (c.unknown.result, refl, c.unknown.ensures.sound)

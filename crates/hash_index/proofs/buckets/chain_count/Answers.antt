@@ -7,5 +7,6 @@ pub returns : goal.returns
 returns c = subst (λ n. IsLeastPowerOfTwo n c.next_power_of_two.result) c.min.ensures (record {
   power = c.next_power_of_two.ensures.power;
   enough = c.next_power_of_two.ensures.lower_bound;
-  least = λ k. no_lesser _ c.next_power_of_two.result c.next_power_of_two.ensures.power.0 k c.next_power_of_two.ensures.power.1 c.next_power_of_two.ensures.upper_bound;
+  least = λ k. no_lesser _ c.next_power_of_two.result c.next_power_of_two.ensures.power.0 k
+      c.next_power_of_two.ensures.power.1 c.next_power_of_two.ensures.upper_bound;
 })

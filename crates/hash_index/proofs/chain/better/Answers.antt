@@ -1,13 +1,15 @@
 use Rattle.std.proofs.Common.{◌∙◌, ℕ, Option, sym, subst}
 use Rattle.std.specs.Prelude.{option_copied}
 use Rattle.std.proofs.lemmas.Bool.{false≢true}
-use Rattle.element_arena.specs.State.{key_at}
+use Rattle.element_store.specs.State.{key_at}
 use Rattle.hash_index.specs.Order.{IsLess, IsLeastOf}
 use Rattle.hash_index.proofs.Least.{least_passed, least_kept, least_replaced, least_first}
 use Rattle.hash_index.proofs.chain.better.Goals as goal
 
 pub returns-then-not-is_above-clause-least : goal.returns-then-not-is_above-clause-least
-returns-then-not-is_above-clause-least c xs f = least_passed (key_at c.args.arena.now.slots) (option_copied c.args.bound) c.args.slot xs c.args.least (λ a. false≢true (sym c.if-not-is_above.true ∙ c.is_above.ensures.1 a)) f
+returns-then-not-is_above-clause-least c xs f = least_passed (key_at c.args.arena.now.slots)
+    (option_copied c.args.bound) c.args.slot xs c.args.least
+    (λ a. false≢true (sym c.if-not-is_above.true ∙ c.is_above.ensures.1 a)) f
 
 pub returns-in-Some-clause-least : goal.returns-in-Some-clause-least
 returns-in-Some-clause-least c xs f = least_kept (key_at c.args.arena.now.slots) (option_copied c.args.bound) c.args.slot xs c.in-Some.other
@@ -21,4 +23,7 @@ returns-in_default-clause-least c xs f = least_replaced (key_at c.args.arena.now
     (subst (λ (o : Option ℕ). IsLeastOf (key_at c.args.arena.now.slots) (option_copied c.args.bound) xs o) c.in-Some.is f)
 
 pub returns-in_default-2-clause-least : goal.returns-in_default-2-clause-least
-returns-in_default-2-clause-least c xs f = least_first (key_at c.args.arena.now.slots) (option_copied c.args.bound) c.args.slot xs (c.is_above.ensures.0 c.if-not-is_above.false) (subst (λ (o : Option ℕ). IsLeastOf (key_at c.args.arena.now.slots) (option_copied c.args.bound) xs o) c.in_default.is f)
+returns-in_default-2-clause-least c xs f = least_first (key_at c.args.arena.now.slots) (option_copied c.args.bound)
+    c.args.slot xs (c.is_above.ensures.0 c.if-not-is_above.false)
+    (subst (λ (o : Option ℕ). IsLeastOf (key_at c.args.arena.now.slots) (option_copied c.args.bound) xs o)
+    c.in_default.is f)

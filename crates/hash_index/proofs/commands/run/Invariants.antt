@@ -1,6 +1,6 @@
 use Rattle.std.proofs.Common.{◌≡◌, ◌++◌, drop}
 use Rattle.std.specs.FinMap.{empty}
-use Rattle.element_arena.specs.State.{key_at}
+use Rattle.element_store.specs.State.{key_at}
 use Rattle.hash_index.specs.Replies.{AreReadyCommands, IsKeyed, replies}
 use Rattle.hash_index.proofs.commands.run.Given as goal
 

@@ -11,4 +11,5 @@ one_word key h =
     ∙ ap (bytes_hash (mixed_hash FNV_OFFSET (hashed_word key))) (ap (λ (n : ℕ). drop n key) (sym h) ∙ drop-length key)
 
 pub returns-then-key-eq-WORD_BYTES : goal.returns-then-key-eq-WORD_BYTES
-returns-then-key-eq-WORD_BYTES c = c.mix.ensures ∙ (ap (mixed_hash FNV_OFFSET) c.word_at_start.ensures ∙ sym (one_word c.args.key.now c.if-key-eq-WORD_BYTES.true))
+returns-then-key-eq-WORD_BYTES c = c.mix.ensures ∙ (ap (mixed_hash FNV_OFFSET) c.word_at_start.ensures ∙
+    sym (one_word c.args.key.now c.if-key-eq-WORD_BYTES.true))

@@ -1,7 +1,7 @@
 use Rattle.std.proofs.Common.{◌∙◌, ap}
 use Rattle.std.specs.Prelude.{bytes_eq}
 use Rattle.std.specs.Cmp.Lexicographic.{texts_ties}
-use Rattle.element_arena.specs.State.{key_at}
+use Rattle.element_store.specs.State.{key_at}
 use Rattle.hash_index.proofs.keys.has_key.Goals as goal
 
 pub returns : goal.returns

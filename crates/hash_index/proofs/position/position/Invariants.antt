@@ -1,6 +1,6 @@
 use Rattle.std.proofs.Common.{◌≡◌, ◌<◌, ◌≤◌, ◌-◌, ℕ, Some, length}
 use Rattle.std.specs.Prelude.{slice_get}
-use Rattle.element_arena.specs.State.{key_at}
+use Rattle.element_store.specs.State.{key_at}
 use Rattle.hash_index.specs.Order.{IsLess}
 use Rattle.hash_index.proofs.position.position.Given as goal
 

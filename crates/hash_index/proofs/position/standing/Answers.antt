@@ -1,7 +1,7 @@
 use Rattle.std.proofs.Common.{◌≡◌, ◌∙◌, ◌<◌, length, arith, ap, sym}
 use Rattle.std.specs.Prelude.{slice_index_or}
 use Rattle.std.proofs.lemmas.Option.{slice_get-get_or, same_Some, slice_get_within}
-use Rattle.element_arena.specs.State.{key_at}
+use Rattle.element_store.specs.State.{key_at}
 use Rattle.hash_index.specs.Held.{held_at}
 use Rattle.hash_index.proofs.position.standing.Goals as goal
 use Rattle.hash_index.proofs.position.standing.Goals.{else-at-slots-via-then-at-slots+else-has_key, else-at-slots-via-else-at-slots}
@@ -19,7 +19,8 @@ returns-then-has_key-clause-same c = sym (same_key-true _ _ (sym c.has_key.ensur
 pub returns-clause-none : goal.returns-clause-none
 returns-clause-none c s at e = elim c.else-at-slots.branch [
   | else-at-slots-via-then-at-slots+else-has_key w ↦
-      let same : slice_index_or c.args.slots.now c.args.at 0 ≡ s = same_Some _ s (sym (slice_get-get_or c.args.slots.now c.args.at 0 w.if-at-slots.true) ∙ at) in
+      let same : slice_index_or c.args.slots.now c.args.at 0 ≡ s =
+      same_Some _ s (sym (slice_get-get_or c.args.slots.now c.args.at 0 w.if-at-slots.true) ∙ at) in
       same_key-false _ _ (sym w.has_key.ensures ∙ w.if-has_key.false) (sym (ap (key_at c.args.arena.now.slots) same ∙ e))
   | else-at-slots-via-else-at-slots w ↦
       let in_ : c.args.at < length c.args.slots.now = slice_get_within c.args.slots.now c.args.at s at in

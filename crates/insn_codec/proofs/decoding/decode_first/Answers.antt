@@ -4,7 +4,7 @@ use Rattle.std.proofs.lemmas.List.{take_rest}
 use Rattle.bpf_model.specs.declared.slot.Slot.{Slot}
 use Rattle.bpf_model.specs.declared.insn.Insn.{Insn}
 use Rattle.bpf_model.specs.Spelling.{FitsInsn, spelling, slot_at, next_slot_at}
-use Rattle.bpf_model.specs.Places.{slot_count}
+use Rattle.bpf_model.specs.Step.{slot_count}
 use Rattle.insn_codec.specs.declared.flaw.InsnFlaw.{InsnFlaw}
 use Rattle.insn_codec.specs.Faults.{IsInsnFlaw, IsInsnFlawAt}
 use Rattle.insn_codec.specs.Begins.{BeginsWith}

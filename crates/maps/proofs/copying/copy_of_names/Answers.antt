@@ -7,4 +7,5 @@ pub returns-clause-same : goal.returns-clause-same
 returns-clause-same c = same_named (string_bytes {Z = Global}) c.args.names.now.keys c.in_ok-copy.copy.keys c.in_ok-copy.ensures.cases
 
 pub returns-clause-long : goal.returns-clause-long
-returns-clause-long c = as_long (string_bytes {Z = Global}) c.args.names.now.keys c.in_ok-copy.copy.keys (same_named (string_bytes {Z = Global}) c.args.names.now.keys c.in_ok-copy.copy.keys c.in_ok-copy.ensures.cases)
+returns-clause-long c = as_long (string_bytes {Z = Global}) c.args.names.now.keys c.in_ok-copy.copy.keys
+    (same_named (string_bytes {Z = Global}) c.args.names.now.keys c.in_ok-copy.copy.keys c.in_ok-copy.ensures.cases)

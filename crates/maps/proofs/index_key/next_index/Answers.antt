@@ -7,7 +7,8 @@ use Rattle.hash_index.specs.Order.{NoneAbove, NoneBetween}
 use Rattle.maps.proofs.IndexOrder.{between-any, above-any}
 use Rattle.maps.proofs.index_key.next_index.Goals as goal
 
-least : (limit : ℕ) (o : Option ℕ) → IfSome o (λ i. NoneBetween (index_below limit) (Some []) (index_key i)) → IfSome o (λ i. NoneBetween (index_below limit) None (index_key i))
+least : (limit : ℕ) (o : Option ℕ) → IfSome o (λ i. NoneBetween (index_below limit) (Some []) (index_key i)) →
+    IfSome o (λ i. NoneBetween (index_below limit) None (index_key i))
 least limit None h = tt
 least limit (Some i) h = between-any limit (index_key i) h
 
@@ -17,7 +18,8 @@ none limit (Some i) h = tt
 
 pub returns-in-None-clause-least : goal.returns-in-None-clause-least
 returns-in-None-clause-least c =
-    subst (λ (b : Option (List ℕ)). IfSome c.index_above.result (λ i. NoneBetween (index_below c.args.limit) b (index_key i))) (sym (ap option_copied c.in-None.is))
+    subst (λ (b : Option (List ℕ)). IfSome c.index_above.result
+    (λ i. NoneBetween (index_below c.args.limit) b (index_key i))) (sym (ap option_copied c.in-None.is))
     (least c.args.limit c.index_above.result c.index_above.ensures.least)
 
 pub returns-in-None-clause-none : goal.returns-in-None-clause-none

@@ -1,5 +1,5 @@
 use Rattle.std.proofs.Common.{◌∙◌, ◌+◌, sym, arith}
-use Rattle.grace_period.specs.State.{GraceState, depth_at}
+use Rattle.element_store.specs.Sections.{GraceState, depth_at}
 use Rattle.machine.specs.declared.request.Request.TheVariants.{Enter}
 use Rattle.world.specs.Serving.{grace_after}
 use Rattle.world.proofs.ServedFlags.{inside-awaits, same-grace}

@@ -1,5 +1,5 @@
 use Rattle.std.proofs.Common.{◌∙◌}
-use Rattle.grace_period.specs.State.{GraceState}
+use Rattle.element_store.specs.Sections.{GraceState}
 use Rattle.machine.specs.declared.request.Request.TheVariants.{Leave}
 use Rattle.world.specs.Serving.{grace_after}
 use Rattle.world.proofs.ServedFlags.{same-grace, unlocked-awaits}

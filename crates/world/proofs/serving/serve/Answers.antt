@@ -1,7 +1,7 @@
 use Rattle.std.proofs.Common.{◌≡◌, ℕ, ◌<◌, sym, subst}
 use Rattle.std.proofs.lemmas.Option.{get_or_from_slice_get}
 use Rattle.bpf_model.specs.declared.limits.TheConstants.{MAX_DEPTH}
-use Rattle.grace_period.specs.State.{depth_at}
+use Rattle.element_store.specs.Sections.{depth_at}
 use Rattle.machine.specs.declared.request.Request.{Request}
 use Rattle.world.specs.Serving.{CanServe}
 use Rattle.world.proofs.serving.serve.Goals as goal

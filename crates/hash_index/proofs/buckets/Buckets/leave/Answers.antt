@@ -28,18 +28,21 @@ returns-clause-contents c =
     let heads = c.args.self.now.heads.items in
     let inside : c.args.place.home < length c.args.self.now.heads.items = search rules in
     let at = head_at heads c.args.place.home c.index-first.result.now inside c.index-first.ensures in
-    (unlinked_in heads c.args.arena.now c.cut.new.arena c.args.place.home c.index-first.result.now c.cut.result c.args.slot c.requires.fits at c.requires.place.home c.requires.linked c.cut.ensures).contents
+    (unlinked_in heads c.args.arena.now c.cut.new.arena c.args.place.home c.index-first.result.now c.cut.result
+    c.args.slot c.requires.fits at c.requires.place.home c.requires.linked c.cut.ensures).contents
 
 pub returns-clause-fits : goal.returns-clause-fits
 returns-clause-fits c =
     let heads = c.args.self.now.heads.items in
     let inside : c.args.place.home < length c.args.self.now.heads.items = search rules in
     let at = head_at heads c.args.place.home c.index-first.result.now inside c.index-first.ensures in
-    (unlinked_in heads c.args.arena.now c.cut.new.arena c.args.place.home c.index-first.result.now c.cut.result c.args.slot c.requires.fits at c.requires.place.home c.requires.linked c.cut.ensures).fits
+    (unlinked_in heads c.args.arena.now c.cut.new.arena c.args.place.home c.index-first.result.now c.cut.result
+    c.args.slot c.requires.fits at c.requires.place.home c.requires.linked c.cut.ensures).fits
 
 pub returns-clause-links : goal.returns-clause-links
 returns-clause-links c =
     let heads = c.args.self.now.heads.items in
     let inside : c.args.place.home < length c.args.self.now.heads.items = search rules in
     let at = head_at heads c.args.place.home c.index-first.result.now inside c.index-first.ensures in
-    (unlinked_in heads c.args.arena.now c.cut.new.arena c.args.place.home c.index-first.result.now c.cut.result c.args.slot c.requires.fits at c.requires.place.home c.requires.linked c.cut.ensures).links
+    (unlinked_in heads c.args.arena.now c.cut.new.arena c.args.place.home c.index-first.result.now c.cut.result
+    c.args.slot c.requires.fits at c.requires.place.home c.requires.linked c.cut.ensures).links

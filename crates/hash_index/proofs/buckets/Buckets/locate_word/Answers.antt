@@ -17,7 +17,8 @@ returns-clause-slot c =
     let at = head_at c.args.self.now.heads.items c.bucket-home.result c.index.result.now in_ c.index.ensures in
     let long : c.len.result ≡ length c.args.self.now.heads.items = search rules in
     let home = c.bucket-home.ensures.bucket ∙ ap (λ n. bucket_of n c.args.key.now) long in
-    c.search_word.ensures.slot ∙ lookup_home c.args.self.now.heads.items c.args.arena.now c.args.key.now c.index.result.now c.requires.fits (ap (slice_get c.args.self.now.heads.items) (sym home) ∙ at)
+    c.search_word.ensures.slot ∙ lookup_home c.args.self.now.heads.items c.args.arena.now c.args.key.now
+    c.index.result.now c.requires.fits (ap (slice_get c.args.self.now.heads.items) (sym home) ∙ at)
 
 pub returns-clause-place : goal.returns-clause-place
 returns-clause-place c =
@@ -25,4 +26,5 @@ returns-clause-place c =
     let at = head_at c.args.self.now.heads.items c.bucket-home.result c.index.result.now in_ c.index.ensures in
     let long : c.len.result ≡ length c.args.self.now.heads.items = search rules in
     let home = c.bucket-home.ensures.bucket ∙ ap (λ n. bucket_of n c.args.key.now) long in
-    place_in c.args.self.now.heads.items c.args.arena.now c.args.key.now c.search_word.result c.bucket-home.result c.index.result.now home c.search_word.ensures.home at c.search_word.ensures.behind
+    place_in c.args.self.now.heads.items c.args.arena.now c.args.key.now c.search_word.result c.bucket-home.result
+    c.index.result.now home c.search_word.ensures.home at c.search_word.ensures.behind

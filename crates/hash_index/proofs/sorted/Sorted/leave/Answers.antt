@@ -11,7 +11,11 @@ remove-slot-requires c =
     omega arith
 
 pub returns-clause-contents : goal.returns-clause-contents
-returns-clause-contents c = (sorted_unlink c.args.self.now (record { slots = c.remove-slot.new.self }) c.args.arena.now c.args.slot c.args.position c.requires.fits c.requires.at c.remove-slot.ensures.items c.remove-slot.ensures.capacity).1
+returns-clause-contents c = (sorted_unlink c.args.self.now (record { slots = c.remove-slot.new.self })
+    c.args.arena.now c.args.slot c.args.position c.requires.fits c.requires.at c.remove-slot.ensures.items
+    c.remove-slot.ensures.capacity).1
 
 pub returns-clause-fits : goal.returns-clause-fits
-returns-clause-fits c = (sorted_unlink c.args.self.now (record { slots = c.remove-slot.new.self }) c.args.arena.now c.args.slot c.args.position c.requires.fits c.requires.at c.remove-slot.ensures.items c.remove-slot.ensures.capacity).0
+returns-clause-fits c = (sorted_unlink c.args.self.now (record { slots = c.remove-slot.new.self }) c.args.arena.now
+    c.args.slot c.args.position c.requires.fits c.requires.at c.remove-slot.ensures.items
+    c.remove-slot.ensures.capacity).0

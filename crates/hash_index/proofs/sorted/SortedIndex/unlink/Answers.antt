@@ -1,6 +1,6 @@
 use Rattle.std.proofs.Common.{◌∙◌, sym, ap}
 use Rattle.std.specs.FinMap as map
-use Rattle.element_arena.specs.State.{key_at}
+use Rattle.element_store.specs.State.{key_at}
 use Rattle.hash_index.specs.Sorted.{sorted_contents}
 use Rattle.hash_index.proofs.Links.{found_same}
 use Rattle.hash_index.proofs.Runs.{remove_absent}
@@ -9,13 +9,17 @@ use Rattle.hash_index.proofs.sorted.SortedIndex.unlink.Goals as goal
 
 pub leave-requires-clause-at : goal.leave-requires-clause-at
 leave-requires-clause-at c =
-    let same = found_same (key_at c.args.arena.now.slots) c.args.self.now.slots.items c.args.key.now _ c.in-Some.slot c.locate-place.ensures.slot c.in-Some.is in
-    stands_at (key_at c.args.arena.now.slots) c.args.self.now.slots.items c.args.key.now c.locate-place.result.home c.in-Some.slot c.requires.fits.order c.locate-place.ensures.place same.0 same.1
+    let same = found_same (key_at c.args.arena.now.slots) c.args.self.now.slots.items c.args.key.now _ c.in-Some.slot
+    c.locate-place.ensures.slot c.in-Some.is in
+    stands_at (key_at c.args.arena.now.slots) c.args.self.now.slots.items c.args.key.now c.locate-place.result.home
+    c.in-Some.slot c.requires.fits.order c.locate-place.ensures.place same.0 same.1
 
 pub returns-in-None-clause-contents : goal.returns-in-None-clause-contents
-returns-in-None-clause-contents c = sym (remove_absent (sorted_contents c.args.self.now c.args.arena.now) c.args.key.now (sym c.locate-place.ensures.slot ∙ c.in-None.is))
+returns-in-None-clause-contents c = sym (remove_absent (sorted_contents c.args.self.now c.args.arena.now)
+    c.args.key.now (sym c.locate-place.ensures.slot ∙ c.in-None.is))
 
 pub returns-in-Some-clause-contents : goal.returns-in-Some-clause-contents
 returns-in-Some-clause-contents c =
-    let same = found_same (key_at c.args.arena.now.slots) c.args.self.now.slots.items c.args.key.now _ c.in-Some.slot c.locate-place.ensures.slot c.in-Some.is in
+    let same = found_same (key_at c.args.arena.now.slots) c.args.self.now.slots.items c.args.key.now _ c.in-Some.slot
+    c.locate-place.ensures.slot c.in-Some.is in
     c.leave.ensures.contents ∙ ap (map.remove (sorted_contents c.args.self.now c.args.arena.now)) same.1

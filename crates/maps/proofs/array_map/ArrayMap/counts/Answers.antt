@@ -6,5 +6,6 @@ use Rattle.maps.proofs.array_map.ArrayMap.counts.Goals as goal
 
 pub returns-clause-value : goal.returns-clause-value
 returns-clause-value c =
-    ap (λ (n : ℕ). let r : Counts = record { linked = n; unlinked = 0; worn = 0 } in r) (sym (len-index c.self.inside.shape.entries c.self.invariant.valid.entries.1))
+    ap (λ (n : ℕ). let r : Counts = record { linked = n; unlinked = 0; worn = 0 } in r)
+    (sym (len-index c.self.inside.shape.entries c.self.invariant.valid.entries.1))
     ∙ ap counts_of c.self.view_is

@@ -2,9 +2,9 @@ use Rattle.std.proofs.Common.{◌≡◌, ◌∙◌, ℕ, ◌+◌, ◌*◌, ◌<�
 use Rattle.std.specs.Prelude.{slice_get}
 use Rattle.bpf_model.specs.Access.{byte_count, number_at}
 use Rattle.bpf_model.specs.View.{MapView}
-use Rattle.element_arena.specs.Blocks.{block}
-use Rattle.element_arena.specs.State.{value_at}
-use Rattle.element_arena.proofs.Slots.{block-full}
+use Rattle.element_store.specs.Blocks.{block}
+use Rattle.element_store.specs.State.{value_at}
+use Rattle.element_store.proofs.Slots.{block-full}
 use Rattle.maps.specs.Shown.{IsOccupied}
 use Rattle.maps.proofs.Arrays.{occupied-in, room-at, value-at}
 use Rattle.maps.proofs.array_map.ArrayMap.load.Goals as goal
@@ -12,13 +12,16 @@ use Rattle.maps.proofs.array_map.ArrayMap.load.Goals as goal
 pub block-value-requires : goal.block-value-requires
 block-value-requires c =
     let s = c.self.inside in
-    let less : c.args.slot < s.shape.entries = occupied-in s.shape s.values.items c.args.slot (subst (λ (v : MapView). IsOccupied v c.args.slot) (sym c.self.view_is) c.requires.occupied) in
-    subst (λ (l : List ℕ). c.args.slot * s.shape.value_len + s.shape.value_len ≤ length l) (sym c.deref.ensures.value) (room-at s.shape s.values.items c.self.invariant c.args.slot less)
+    let less : c.args.slot < s.shape.entries = occupied-in s.shape s.values.items c.args.slot
+    (subst (λ (v : MapView). IsOccupied v c.args.slot) (sym c.self.view_is) c.requires.occupied) in
+    subst (λ (l : List ℕ). c.args.slot * s.shape.value_len + s.shape.value_len ≤ length l) (sym c.deref.ensures.value)
+    (room-at s.shape s.values.items c.self.invariant c.args.slot less)
 
 pub number_of-requires : goal.number_of-requires
 number_of-requires c =
     let s = c.self.inside in
-    let less : c.args.slot < s.shape.entries = occupied-in s.shape s.values.items c.args.slot (subst (λ (v : MapView). IsOccupied v c.args.slot) (sym c.self.view_is) c.requires.occupied) in
+    let less : c.args.slot < s.shape.entries = occupied-in s.shape s.values.items c.args.slot
+    (subst (λ (v : MapView). IsOccupied v c.args.slot) (sym c.self.view_is) c.requires.occupied) in
     let long : length c.block-value.result.now ≡ c.args.self.now.shape.value_len =
     ap (λ (l : List ℕ). length l) (c.block-value.ensures ∙ ap (block s.shape.value_len c.args.slot) c.deref.ensures.value)
     ∙ (block-full s.shape.value_len c.args.slot s.values.items (room-at s.shape s.values.items c.self.invariant c.args.slot less)
@@ -28,7 +31,8 @@ number_of-requires c =
 pub returns : goal.returns
 returns c =
     let s = c.self.inside in
-    let less : c.args.slot < s.shape.entries = occupied-in s.shape s.values.items c.args.slot (subst (λ (v : MapView). IsOccupied v c.args.slot) (sym c.self.view_is) c.requires.occupied) in
+    let less : c.args.slot < s.shape.entries = occupied-in s.shape s.values.items c.args.slot
+    (subst (λ (v : MapView). IsOccupied v c.args.slot) (sym c.self.view_is) c.requires.occupied) in
     let bytes =
     c.block-value.ensures
     ∙ (ap (block s.shape.value_len c.args.slot) c.deref.ensures.value

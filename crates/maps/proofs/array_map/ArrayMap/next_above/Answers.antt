@@ -2,7 +2,7 @@ use Rattle.std.proofs.Common.{◌≡◌, ◌∙◌, ℕ, List, sym, ap, subst}
 use Rattle.std.specs.Option.{option_copied}
 use Rattle.bpf_model.specs.MapState.{index_key}
 use Rattle.bpf_model.specs.View.{MapView}
-use Rattle.element_arena.specs.Blocks.{block}
+use Rattle.element_store.specs.Blocks.{block}
 use Rattle.maps.specs.Arrays.{array_view}
 use Rattle.maps.specs.Shown.{IsNext}
 use Rattle.model_laws.proofs.Indices.{index-gets}
@@ -17,7 +17,9 @@ returns-in-Some-clause-some c =
     let next : IsNext view (option_copied c.args.bound) (index_key c.in-Some.index) c.array_of-value.result.items = record {
       slot = c.in-Some.index;
       linked = index-gets s.shape.entries c.in-Some.index c.self.invariant.valid.entries.1 c.in-Some.ensures.some;
-      value_is = c.array_of-value.ensures ∙ (c.block.ensures ∙ (ap (block s.shape.value_len c.in-Some.index) c.deref.ensures.value ∙ sym (value-at s.shape s.values.items c.in-Some.index c.in-Some.ensures.some)));
+      value_is = c.array_of-value.ensures ∙ (c.block.ensures ∙
+          (ap (block s.shape.value_len c.in-Some.index) c.deref.ensures.value ∙
+          sym (value-at s.shape s.values.items c.in-Some.index c.in-Some.ensures.some)));
       above = c.in-Some.ensures.above;
       least = c.in-Some.ensures.least;
     } in

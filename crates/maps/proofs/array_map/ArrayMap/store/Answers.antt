@@ -3,9 +3,9 @@ use Rattle.bpf_model.specs.Access.{byte_count}
 use Rattle.bpf_model.specs.Access.{with_bytes}
 use Rattle.bpf_model.specs.View.{MapView}
 use Rattle.bpf_model.proofs.Bytes.{length-with_bytes}
-use Rattle.element_arena.specs.Blocks.{block}
-use Rattle.element_arena.specs.State.{value_at}
-use Rattle.element_arena.proofs.Slots.{block-full}
+use Rattle.element_store.specs.Blocks.{block}
+use Rattle.element_store.specs.State.{value_at}
+use Rattle.element_store.proofs.Slots.{block-full}
 use Rattle.view_laws.specs.Views.{written}
 use Rattle.maps.specs.Arrays.{array_view, IsArrayMap}
 use Rattle.maps.specs.Shown.{IsOccupied}
@@ -15,26 +15,36 @@ use Rattle.maps.proofs.array_map.ArrayMap.store.Goals as goal
 pub write_inside-requires-clause-room : goal.write_inside-requires-clause-room
 write_inside-requires-clause-room c =
     let s = c.self.inside in
-    let less : c.args.slot < s.shape.entries = occupied-in s.shape s.values.items c.args.slot (subst (λ (v : MapView). IsOccupied v c.args.slot) (sym c.self.view_is) c.requires.occupied) in
+    let less : c.args.slot < s.shape.entries = occupied-in s.shape s.values.items c.args.slot
+    (subst (λ (v : MapView). IsOccupied v c.args.slot) (sym c.self.view_is) c.requires.occupied) in
     room-at s.shape s.values.items c.self.invariant c.args.slot less
 
 pub invariant_of-self : goal.invariant_of-self
 invariant_of-self c =
     let s = c.self.inside in
-    let less : c.args.slot < s.shape.entries = occupied-in s.shape s.values.items c.args.slot (subst (λ (v : MapView). IsOccupied v c.args.slot) (sym c.self.view_is) c.requires.occupied) in
+    let less : c.args.slot < s.shape.entries = occupied-in s.shape s.values.items c.args.slot
+    (subst (λ (v : MapView). IsOccupied v c.args.slot) (sym c.self.view_is) c.requires.occupied) in
     let old : List ℕ = block s.shape.value_len c.args.slot s.values.items in
     let new : List ℕ = with_bytes c.args.offset (byte_count c.args.width) c.args.number old in
-    let long : length new ≡ s.shape.value_len = length-with_bytes c.args.offset (byte_count c.args.width) c.args.number old ∙ block-full s.shape.value_len c.args.slot s.values.items (room-at s.shape s.values.items c.self.invariant c.args.slot less) in
+    let long : length new ≡ s.shape.value_len = length-with_bytes c.args.offset (byte_count c.args.width)
+    c.args.number old ∙ block-full s.shape.value_len c.args.slot s.values.items
+    (room-at s.shape s.values.items c.self.invariant c.args.slot less) in
     subst (IsArrayMap s.shape) (sym c.write_inside.ensures) (written-kept s.shape s.values.items c.self.invariant c.args.slot new less long)
 
 pub returns : goal.returns
 returns c =
     let s = c.self.inside in
-    let less : c.args.slot < s.shape.entries = occupied-in s.shape s.values.items c.args.slot (subst (λ (v : MapView). IsOccupied v c.args.slot) (sym c.self.view_is) c.requires.occupied) in
+    let less : c.args.slot < s.shape.entries = occupied-in s.shape s.values.items c.args.slot
+    (subst (λ (v : MapView). IsOccupied v c.args.slot) (sym c.self.view_is) c.requires.occupied) in
     let old : List ℕ = block s.shape.value_len c.args.slot s.values.items in
     let new : List ℕ = with_bytes c.args.offset (byte_count c.args.width) c.args.number old in
-    let long : length new ≡ s.shape.value_len = length-with_bytes c.args.offset (byte_count c.args.width) c.args.number old ∙ block-full s.shape.value_len c.args.slot s.values.items (room-at s.shape s.values.items c.self.invariant c.args.slot less) in
+    let long : length new ≡ s.shape.value_len = length-with_bytes c.args.offset (byte_count c.args.width)
+    c.args.number old ∙ block-full s.shape.value_len c.args.slot s.values.items
+    (room-at s.shape s.values.items c.self.invariant c.args.slot less) in
     ap (array_view s.shape) c.write_inside.ensures
     ∙ (written-view s.shape s.values.items c.self.invariant c.args.slot new less long
-    ∙ (ap (λ (l : List ℕ). written (array_view s.shape s.values.items) c.args.slot (with_bytes c.args.offset (byte_count c.args.width) c.args.number l)) (sym (value-at s.shape s.values.items c.args.slot less))
-    ∙ ap (λ (v : MapView). written v c.args.slot (with_bytes c.args.offset (byte_count c.args.width) c.args.number (value_at v.slots c.args.slot))) c.self.view_is))
+    ∙ (ap (λ (l : List ℕ). written (array_view s.shape s.values.items) c.args.slot
+    (with_bytes c.args.offset (byte_count c.args.width) c.args.number l))
+    (sym (value-at s.shape s.values.items c.args.slot less))
+    ∙ ap (λ (v : MapView). written v c.args.slot (with_bytes c.args.offset (byte_count c.args.width) c.args.number
+    (value_at v.slots c.args.slot))) c.self.view_is))

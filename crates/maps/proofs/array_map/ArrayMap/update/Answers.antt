@@ -30,7 +30,8 @@ returns-in-Ok-clause-new c =
     let long : length c.args.value.now ≡ s.shape.value_len = c.requires.value ∙ ap (λ (v : MapView). v.shape.value_len) (sym c.self.view_is) in
     let found : get (index_below s.shape.entries) c.args.key.now ≡ Some c.in-Ok.index = sym c.index_of.ensures ∙ c.in-Ok.ensures.found in
     let less : c.in-Ok.index < s.shape.entries = (index-got s.shape.entries c.args.key.now c.in-Ok.index found).0 in
-    let pass : array_error c.args.flags (is_some (get (index_below s.shape.entries) c.args.key.now)) ≡ None = ap (λ o. array_error c.args.flags (is_some o)) (sym c.index_of.ensures) ∙ sym c.in-Ok.ensures.tested in
+    let pass : array_error c.args.flags (is_some (get (index_below s.shape.entries) c.args.key.now)) ≡ None =
+    ap (λ o. array_error c.args.flags (is_some o)) (sym c.index_of.ensures) ∙ sym c.in-Ok.ensures.tested in
     let updates =
     ap (λ (v : MapView). updated v c.args.key.now c.args.value.now c.args.flags) (sym c.self.view_is)
     ∙ array-updates view c.args.key.now c.args.value.now c.args.flags c.in-Ok.index c.self.invariant.array pass found in

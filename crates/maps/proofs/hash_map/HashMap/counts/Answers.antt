@@ -7,6 +7,8 @@ use Rattle.maps.proofs.hash_map.HashMap.counts.Goals as goal
 
 pub returns-clause-unlinked : goal.returns-clause-unlinked
 returns-clause-unlinked g c =
-    let f : unlinked_in (map_view c.self.inside.shape c.self.inside.parts) ≤ MAX_ENTRIES + MAX_SPARE = few-unlinked c.self.inside.shape c.self.inside.parts c.self.inside.counts.linked c.is_parted.ensures c.self.invariant.kept in
+    let f : unlinked_in (map_view c.self.inside.shape c.self.inside.parts) ≤ MAX_ENTRIES + MAX_SPARE =
+    few-unlinked c.self.inside.shape c.self.inside.parts c.self.inside.counts.linked c.is_parted.ensures
+    c.self.invariant.kept in
     let e : c.self.inside.counts.unlinked ≡ unlinked_in (map_view c.self.inside.shape c.self.inside.parts) = c.self.invariant.unlinked in
     omega arith

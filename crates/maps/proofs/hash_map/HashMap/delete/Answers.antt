@@ -19,20 +19,28 @@ overflow_sub-self g c =
 
 pub overflow_add-self : goal.overflow_add-self
 overflow_add-self g c =
-    let f : unlinked_in (map_view c.self.inside.shape c.self.inside.parts) ≤ MAX_ENTRIES + MAX_SPARE = few-unlinked c.self.inside.shape c.self.inside.parts c.self.inside.counts.linked c.remove.ensures.parted c.self.invariant.kept in
+    let f : unlinked_in (map_view c.self.inside.shape c.self.inside.parts) ≤ MAX_ENTRIES + MAX_SPARE =
+    few-unlinked c.self.inside.shape c.self.inside.parts c.self.inside.counts.linked c.remove.ensures.parted
+    c.self.invariant.kept in
     let e : c.self.inside.counts.unlinked ≡ unlinked_in (map_view c.self.inside.shape c.self.inside.parts) = c.self.invariant.unlinked in
     omega arith
 
 pub invariant_of-self-in-Some : goal.invariant_of-self-in-Some
 invariant_of-self-in-Some g c =
     let some : map.get c.self.inside.parts.index c.args.key.now ≡ Some c.in-Some.field-0 = sym c.remove.ensures.found ∙ c.in-Some.is in
-    let gone : c.remove.new.self ≡ unlinked_of c.self.inside.parts c.args.key.now (Some c.in-Some.field-0) c.remove.new.self.arena.links = c.remove.ensures.new ∙ ap (λ o. unlinked_of c.self.inside.parts c.args.key.now o c.remove.new.self.arena.links) c.in-Some.is in
+    let gone : c.remove.new.self ≡ unlinked_of c.self.inside.parts c.args.key.now (Some c.in-Some.field-0)
+    c.remove.new.self.arena.links = c.remove.ensures.new ∙
+    ap (λ o. unlinked_of c.self.inside.parts c.args.key.now o c.remove.new.self.arena.links) c.in-Some.is in
     record {
-      kept = retired-kept c.self.inside.shape c.self.inside.parts c.remove.new.self c.args.key.now c.in-Some.field-0 c.self.inside.counts.linked c.self.invariant.kept some gone;
+      kept = retired-kept c.self.inside.shape c.self.inside.parts c.remove.new.self c.args.key.now c.in-Some.field-0
+          c.self.inside.counts.linked c.self.invariant.kept some gone;
       few = let n : c.self.inside.counts.linked ≤ c.self.inside.shape.entries = c.self.invariant.few in omega arith;
       unlinked = (
           let was : c.self.inside.counts.unlinked ≡ unlinked_in (map_view c.self.inside.shape c.self.inside.parts) = c.self.invariant.unlinked in
-          let new : unlinked_in (map_view c.self.inside.shape c.remove.new.self) ≡ length (c.self.inside.parts.lists.next ++ c.in-Some.field-0 ∷ []) + length c.self.inside.parts.lists.waiting + length c.self.inside.parts.lists.ready = ap (λ (z : PartsView). unlinked_in (map_view c.self.inside.shape z)) gone in
+          let new : unlinked_in (map_view c.self.inside.shape c.remove.new.self) ≡ length
+          (c.self.inside.parts.lists.next ++ c.in-Some.field-0 ∷ []) + length c.self.inside.parts.lists.waiting +
+          length c.self.inside.parts.lists.ready =
+          ap (λ (z : PartsView). unlinked_in (map_view c.self.inside.shape z)) gone in
           omega (arith, length-append c.self.inside.parts.lists.next (c.in-Some.field-0 ∷ [])));
       worn = c.self.invariant.worn ∙ sym (ap (λ (z : PartsView). worn_in (map_view c.self.inside.shape z)) gone);
     }

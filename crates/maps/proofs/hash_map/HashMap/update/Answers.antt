@@ -13,21 +13,33 @@ use Rattle.maps.proofs.hash_map.HashMap.update.Goals as goal
 
 pub returns-in-Err-clause-result : goal.returns-in-Err-clause-result
 returns-in-Err-clause-result g c =
-    let tested = c.update.ensures.tested (map_state_of (map_view c.self.inside.shape c.self.inside.parts)) refl (length-map c.self.inside.parts.arena.free (uses_at c.self.inside.parts.arena.slots)) in
-    let by = updated-by (map_view c.self.inside.shape c.self.inside.parts) c.args.key.now c.args.value.now c.args.flags c.self.inside.counts.linked (error_of c.update.result) c.self.invariant.kept.hash c.self.invariant.kept.count tested in
-    let e = subst (λ (v : MapView). updated v c.args.key.now c.args.value.now c.args.flags ≡ (Err c.in-Err.errno, v)) c.self.view_is (by ∙ ap (λ r. updated_by (error_of r) (map_view c.self.inside.shape c.self.inside.parts) c.args.key.now c.args.value.now) c.in-Err.is) in
+    let tested = c.update.ensures.tested (map_state_of (map_view c.self.inside.shape c.self.inside.parts)) refl
+    (length-map c.self.inside.parts.arena.free (uses_at c.self.inside.parts.arena.slots)) in
+    let by = updated-by (map_view c.self.inside.shape c.self.inside.parts) c.args.key.now c.args.value.now
+    c.args.flags c.self.inside.counts.linked (error_of c.update.result) c.self.invariant.kept.hash
+    c.self.invariant.kept.count tested in
+    let e = subst (λ (v : MapView). updated v c.args.key.now c.args.value.now c.args.flags ≡ (Err c.in-Err.errno, v))
+    c.self.view_is (by ∙ ap (λ r. updated_by (error_of r) (map_view c.self.inside.shape c.self.inside.parts)
+    c.args.key.now c.args.value.now) c.in-Err.is) in
     sym (ap (λ r. r.0) e)
 
 pub returns-in-Err-clause-new : goal.returns-in-Err-clause-new
 returns-in-Err-clause-new g c =
-    let tested = c.update.ensures.tested (map_state_of (map_view c.self.inside.shape c.self.inside.parts)) refl (length-map c.self.inside.parts.arena.free (uses_at c.self.inside.parts.arena.slots)) in
-    let by = updated-by (map_view c.self.inside.shape c.self.inside.parts) c.args.key.now c.args.value.now c.args.flags c.self.inside.counts.linked (error_of c.update.result) c.self.invariant.kept.hash c.self.invariant.kept.count tested in
-    let e = subst (λ (v : MapView). updated v c.args.key.now c.args.value.now c.args.flags ≡ (Err c.in-Err.errno, v)) c.self.view_is (by ∙ ap (λ r. updated_by (error_of r) (map_view c.self.inside.shape c.self.inside.parts) c.args.key.now c.args.value.now) c.in-Err.is) in
+    let tested = c.update.ensures.tested (map_state_of (map_view c.self.inside.shape c.self.inside.parts)) refl
+    (length-map c.self.inside.parts.arena.free (uses_at c.self.inside.parts.arena.slots)) in
+    let by = updated-by (map_view c.self.inside.shape c.self.inside.parts) c.args.key.now c.args.value.now
+    c.args.flags c.self.inside.counts.linked (error_of c.update.result) c.self.invariant.kept.hash
+    c.self.invariant.kept.count tested in
+    let e = subst (λ (v : MapView). updated v c.args.key.now c.args.value.now c.args.flags ≡ (Err c.in-Err.errno, v))
+    c.self.view_is (by ∙ ap (λ r. updated_by (error_of r) (map_view c.self.inside.shape c.self.inside.parts)
+    c.args.key.now c.args.value.now) c.in-Err.is) in
     ap (map_view c.self.inside.shape) c.in-Err.ensures.err ∙ (c.self.view_is ∙ sym (ap (λ r. r.1) e))
 
 pub counts_after_update-self-inside-requires-clause-unlinked : goal.counts_after_update-self-inside-requires-clause-unlinked
 counts_after_update-self-inside-requires-clause-unlinked g c =
-    let f : unlinked_in (map_view c.self.inside.shape c.self.inside.parts) ≤ MAX_ENTRIES + MAX_SPARE = few-unlinked c.self.inside.shape c.self.inside.parts c.self.inside.counts.linked c.update.ensures.parted c.self.invariant.kept in
+    let f : unlinked_in (map_view c.self.inside.shape c.self.inside.parts) ≤ MAX_ENTRIES + MAX_SPARE =
+    few-unlinked c.self.inside.shape c.self.inside.parts c.self.inside.counts.linked c.update.ensures.parted
+    c.self.invariant.kept in
     let e : c.self.inside.counts.unlinked ≡ unlinked_in (map_view c.self.inside.shape c.self.inside.parts) = c.self.invariant.unlinked in
     omega arith
 
@@ -37,20 +49,38 @@ invariant_of-self-in-Ok g c =
     let value : length c.args.value.now ≡ c.self.inside.shape.value_len = c.requires.value ∙ ap (λ (v : MapView). v.shape.value_len) (sym c.self.view_is) in
     let h = c.in-Ok.ensures.put in
     let room = subst (λ n. IfNone c.in-Ok.found (n < c.self.inside.shape.entries)) c.self.invariant.kept.count c.in-Ok.ensures.room in
-    let kept = put-kept c.self.inside.parts c.update.new.self h.slot h.rest c.args.key.now c.args.value.now c.in-Ok.found h.new_is c.self.inside.shape c.self.inside.counts.linked c.self.invariant.kept c.in-Ok.ensures.found key value in
+    let kept = put-kept c.self.inside.parts c.update.new.self h.slot h.rest c.args.key.now c.args.value.now
+    c.in-Ok.found h.new_is c.self.inside.shape c.self.inside.counts.linked c.self.invariant.kept
+    c.in-Ok.ensures.found key value in
     let view = put-view c.self.inside.parts c.update.new.self h.slot h.rest c.args.key.now c.args.value.now c.in-Ok.found h.new_is c.self.inside.shape in
-    subst (IsCounted c.self.inside.shape c.update.new.self) (sym c.counts_after_update-self-inside.ensures) (put-counted c.self.inside.shape c.self.inside.parts c.update.new.self h.slot h.rest c.args.key.now c.args.value.now c.in-Ok.found c.self.inside.counts c.self.invariant kept room view)
+    subst (IsCounted c.self.inside.shape c.update.new.self) (sym c.counts_after_update-self-inside.ensures)
+    (put-counted c.self.inside.shape c.self.inside.parts c.update.new.self h.slot h.rest c.args.key.now
+    c.args.value.now c.in-Ok.found c.self.inside.counts c.self.invariant kept room view)
 
 pub returns-in-Ok-clause-result : goal.returns-in-Ok-clause-result
 returns-in-Ok-clause-result g c =
-    let tested = c.update.ensures.tested (map_state_of (map_view c.self.inside.shape c.self.inside.parts)) refl (length-map c.self.inside.parts.arena.free (uses_at c.self.inside.parts.arena.slots)) in
-    let by = updated-by (map_view c.self.inside.shape c.self.inside.parts) c.args.key.now c.args.value.now c.args.flags c.self.inside.counts.linked (error_of c.update.result) c.self.invariant.kept.hash c.self.invariant.kept.count tested in
-    let e = ap (λ (v : MapView). updated v c.args.key.now c.args.value.now c.args.flags) (sym c.self.view_is) ∙ (by ∙ (ap (λ r. updated_by (error_of r) (map_view c.self.inside.shape c.self.inside.parts) c.args.key.now c.args.value.now) c.in-Ok.is ∙ put-updates c.self.inside.shape c.self.inside.parts c.update.new.self c.args.key.now c.args.value.now c.in-Ok.found c.self.invariant.kept.hash c.in-Ok.ensures.found c.in-Ok.ensures.put)) in
+    let tested = c.update.ensures.tested (map_state_of (map_view c.self.inside.shape c.self.inside.parts)) refl
+    (length-map c.self.inside.parts.arena.free (uses_at c.self.inside.parts.arena.slots)) in
+    let by = updated-by (map_view c.self.inside.shape c.self.inside.parts) c.args.key.now c.args.value.now
+    c.args.flags c.self.inside.counts.linked (error_of c.update.result) c.self.invariant.kept.hash
+    c.self.invariant.kept.count tested in
+    let e = ap (λ (v : MapView). updated v c.args.key.now c.args.value.now c.args.flags) (sym c.self.view_is) ∙
+    (by ∙ (ap (λ r. updated_by (error_of r) (map_view c.self.inside.shape c.self.inside.parts) c.args.key.now
+    c.args.value.now) c.in-Ok.is ∙ put-updates c.self.inside.shape c.self.inside.parts c.update.new.self
+    c.args.key.now c.args.value.now c.in-Ok.found c.self.invariant.kept.hash c.in-Ok.ensures.found
+    c.in-Ok.ensures.put)) in
     sym (ap (λ r. r.0) e)
 
 pub returns-in-Ok-clause-new : goal.returns-in-Ok-clause-new
 returns-in-Ok-clause-new g c =
-    let tested = c.update.ensures.tested (map_state_of (map_view c.self.inside.shape c.self.inside.parts)) refl (length-map c.self.inside.parts.arena.free (uses_at c.self.inside.parts.arena.slots)) in
-    let by = updated-by (map_view c.self.inside.shape c.self.inside.parts) c.args.key.now c.args.value.now c.args.flags c.self.inside.counts.linked (error_of c.update.result) c.self.invariant.kept.hash c.self.invariant.kept.count tested in
-    let e = ap (λ (v : MapView). updated v c.args.key.now c.args.value.now c.args.flags) (sym c.self.view_is) ∙ (by ∙ (ap (λ r. updated_by (error_of r) (map_view c.self.inside.shape c.self.inside.parts) c.args.key.now c.args.value.now) c.in-Ok.is ∙ put-updates c.self.inside.shape c.self.inside.parts c.update.new.self c.args.key.now c.args.value.now c.in-Ok.found c.self.invariant.kept.hash c.in-Ok.ensures.found c.in-Ok.ensures.put)) in
+    let tested = c.update.ensures.tested (map_state_of (map_view c.self.inside.shape c.self.inside.parts)) refl
+    (length-map c.self.inside.parts.arena.free (uses_at c.self.inside.parts.arena.slots)) in
+    let by = updated-by (map_view c.self.inside.shape c.self.inside.parts) c.args.key.now c.args.value.now
+    c.args.flags c.self.inside.counts.linked (error_of c.update.result) c.self.invariant.kept.hash
+    c.self.invariant.kept.count tested in
+    let e = ap (λ (v : MapView). updated v c.args.key.now c.args.value.now c.args.flags) (sym c.self.view_is) ∙
+    (by ∙ (ap (λ r. updated_by (error_of r) (map_view c.self.inside.shape c.self.inside.parts) c.args.key.now
+    c.args.value.now) c.in-Ok.is ∙ put-updates c.self.inside.shape c.self.inside.parts c.update.new.self
+    c.args.key.now c.args.value.now c.in-Ok.found c.self.invariant.kept.hash c.in-Ok.ensures.found
+    c.in-Ok.ensures.put)) in
     sym (ap (λ r. r.1) e)

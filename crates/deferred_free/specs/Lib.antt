@@ -1,5 +1,0 @@
-pub mod Queued
-pub mod Lines
-pub mod Fits
-pub mod Frame
-pub mod Rooms

@@ -1,9 +1,0 @@
-pub mod BlockLaws
-pub mod Counts
-pub mod Fresh
-pub mod Gives
-pub mod Indexing
-pub mod Keeps
-pub mod Slots
-pub mod Threading
-pub mod Views

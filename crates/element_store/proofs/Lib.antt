@@ -1,0 +1,13 @@
+pub mod BlockLaws
+pub mod Counts
+pub mod DeferredFrame
+pub mod DeferredMoves
+pub mod Depths
+pub mod Fresh
+pub mod Gives
+pub mod Indexing
+pub mod Keeps
+pub mod RunWords
+pub mod Slots
+pub mod Threading
+pub mod Views

@@ -1,0 +1,10 @@
+pub mod Blocks
+pub mod Codes
+pub mod Deferred
+pub mod Fresh
+pub mod Kept
+pub mod Lines
+pub mod Queued
+pub mod Sections
+pub mod State
+pub mod Threads

@@ -1,7 +1,0 @@
-use Rattle.std.proofs.Common.{◌∙◌, ap}
-use Rattle.std.specs.Prelude.{true, slice_set}
-use Rattle.grace_period.proofs.Words.{flags-set}
-use Rattle.grace_period.proofs.run_set.RunSet.insert.Goals as goal
-
-pub returns : goal.returns
-returns c = flags-set c.self.inside.words c.args.run c.self.told c.requires ∙ ap (λ fs. slice_set fs c.args.run true) c.self.view_is

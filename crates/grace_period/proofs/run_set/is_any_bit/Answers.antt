@@ -1,8 +1,0 @@
-use Rattle.std.proofs.Common.{◌∙◌, refl}
-use Rattle.std.proofs.lemmas.Bool.Decides.{Decides-eqb}
-use Rattle.std.proofs.lemmas.Slice.Eq.{slice_eq-Decides}
-use Rattle.grace_period.proofs.Words.{any-of}
-use Rattle.grace_period.proofs.run_set.is_any_bit.Goals as goal
-
-pub returns : goal.returns
-returns c = c.ne.ensures ∙ any-of c.args.words.now _ c.told-words c.fits-words (slice_eq-Decides Decides-eqb c.args.words.now _ _ refl)
