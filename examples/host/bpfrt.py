@@ -1,6 +1,39 @@
-"""`bpfrt script` as a co-process: one class, to be copied. It needs Python's standard library alone."""
+"""`bpfrt script` as a co-process: one class, to be copied. It needs Python 3.8 or later, and its standard library alone.
+
+    with Runtime("bpfrt") as bpf:
+        program = bpf.load(open("policy.bpfrt").read())
+        values = bpf.run_many(program, [bytes(16)] * 1000)
+
+A call that cannot be written raises TypeError or ValueError, and one that is refused Refused. An update or a delete that gives an
+error of Linux's raises OSError. The next call is answered all the same. Behind these it is not:
+- Ended: the process has ended.
+- Broken: a call was cut off between its command and its answers, as by a deadline or Ctrl-C, or what was written is no answer.
+Each later call raises the same, since it might take another command's answer for its own. Make another Runtime: its maps are new.
+
+A call waits as long as it takes; a deadline is an exception from a signal's handler. Threads may share a Runtime: calls wait for
+one another. The process has a session of its own, so Ctrl-C on a terminal does not reach it; it ends with its input."""
+import collections
 import errno
+import operator
+import os
+import re
+import select
+import signal
 import subprocess
+import tempfile
+import threading
+
+HEX = "(?:[0-9a-f]{2})+"
+IS_ELEMENT = re.compile(f"{HEX} {HEX}").fullmatch
+# For each command the answers that are no refusals; a dump's elements stand before its `end`.
+ANSWERS = {
+    "map": r"map \d+", "load": r"prog \d+", "start": r"run \d+", "step": r"moved|exit \d+", "drop": "ok", "advance": "ok",
+    "put": "ret (?:0|-2|-7|-12|-17|-22)", "get": f"value {HEX}|none", "del": "ret (?:0|-2|-22)", "dump": "end",
+    "reap": rf"reaped \S+ {HEX} (?:free|worn)|none",
+    "stat": r"stat linked \d+ unlinked \d+ given \d+ worn \d+ runs \d+ open \d+",
+}
+IS_ANSWER = {word: re.compile(rf"{form}|refused \d+(?: at \d+)?").fullmatch for word, form in ANSWERS.items()}
+LONGEST_LINE, MOST_STEPS, RUN_SLOTS = 70_000, 4096, 256
 
 
 class Refused(Exception):
@@ -12,133 +45,262 @@ class Refused(Exception):
         self.code, self.slot = int(words[1]), int(words[3]) if len(words) > 2 else None
 
 
-class Ended(Exception):
-    """The script has ended: what it says on standard error."""
+class Broken(Exception):
+    """An answer could be another command's: why."""
+
+
+class Ended(Broken):
+    """The process has ended: its status, which is below zero where a signal ended it, and what it said on standard error."""
+
+    def __init__(self, status, said):
+        super().__init__(status, said)
+        self.status, self.said = status, said
+
+    def __str__(self):
+        by = f" ({signal.strsignal(-self.status)})" if (self.status or 0) < 0 else ""
+        return f"bpfrt script has ended with status {self.status}{by}, and said: {self.said or 'nothing'}"
+
+
+def name_word(name):
+    """A name, as any word that may stand for one."""
+    if not re.fullmatch("[^ \n]+", name):
+        raise ValueError(f"{name!r} is no word")
+    return name
+
+
+def number_word(number):
+    if not 0 <= operator.index(number) < 1 << 64:
+        raise ValueError(f"{number} is no number below 2^64")
+    return f"{operator.index(number):d}"
+
+
+def hex_word(data):
+    return memoryview(data).hex() or "-"
 
 
 class Runtime:
-    # So many lines are written before their answers are read: the answers, of at most 590 bytes, are fewer than a pipe holds.
-    AT_ONCE = 100
+    PATIENCE = 2  # So many seconds the process has to end in, before it is killed.
+    PIECE = 1 << 16  # So many bytes are written or read at once, at most.
 
     def __init__(self, bpfrt="bpfrt"):
-        pipe = subprocess.PIPE
-        self.child = subprocess.Popen([bpfrt, "script"], stdin=pipe, stdout=pipe, stderr=pipe, bufsize=0)
-        self.rest, self.said = b"", None
+        self._errors = tempfile.TemporaryFile()  # The process can always write there.
+        self.child = subprocess.Popen([bpfrt, "script"], stdin=subprocess.PIPE, stdout=subprocess.PIPE, stderr=self._errors,
+                                      bufsize=0, start_new_session=True)
+        self._into, self._out = self.child.stdin.fileno(), self.child.stdout.fileno()
+        os.set_blocking(self._into, False)
+        self._reading, self._either = select.poll(), select.poll()
+        self._reading.register(self._out, select.POLLIN)
+        self._either.register(self._out, select.POLLIN)
+        self._either.register(self._into, select.POLLOUT)
+        self._turn = threading.RLock()
+        self._why = None  # Why no call is answered any more: an exception's class and arguments.
+        self._unwritten, self._lines, self._rest = b"", collections.deque(), ""  # Of the present call.
+        self._runs = set()  # The run slots that are taken.
 
     def __enter__(self):
         return self
 
     def __exit__(self, *_):
+        self.close()
+
+    def close(self):
+        """Ends the process: its status."""
+        self._why = self._why or (Broken, ("the Runtime is closed",))
+        for file in (self.child.stdin, self.child.stdout, self._errors):
+            file.close()
+        return self._status()
+
+    def _status(self):
+        """The status of the process, which is killed where it does not end by itself; None where even then it has not ended."""
+        for seconds in self.PATIENCE, 10:
+            try:
+                return self.child.wait(seconds)
+            except BaseException as error:
+                self.child.kill()
+                if not isinstance(error, subprocess.TimeoutExpired):
+                    raise
+
+    def _ended(self):
+        """A pipe of the process is closed: how it has ended."""
         self.child.stdin.close()
-        self.child.wait()
-        self.child.stdout.close()
-        self.child.stderr.close()
+        return Ended(self._status(), os.pread(self._errors.fileno(), self.PIECE, 0).decode("utf-8", "replace").strip())
 
-    def ended(self):
-        """Why the script has ended."""
-        if self.said is None:
-            self.said = self.child.stderr.read().decode().strip()
-        return Ended(self.said)
-
-    def lines(self, count):
-        """So many further lines of answers."""
-        parts, found = [self.rest], self.rest.count(b"\n")
-        while found < count:
-            part = self.child.stdout.read(1 << 16)
-            if not part:
-                raise self.ended()
-            parts.append(part)
-            found += part.count(b"\n")
-        *answers, self.rest = b"".join(parts).decode().split("\n", count)
-        self.rest = self.rest.encode()
-        return answers
-
-    def write(self, commands):
+    def _write(self):
+        """Writes as much of what is left as the process takes."""
         try:
-            self.child.stdin.write("".join(command + "\n" for command in commands).encode())
+            self._unwritten = self._unwritten[os.write(self._into, self._unwritten[:self.PIECE]):]
         except BrokenPipeError:
-            raise self.ended() from None
+            raise self._ended() from None
+
+    def _read(self):
+        """Waits for lines or a part of one."""
+        self._wait(self._reading)
+        part = os.read(self._out, self.PIECE)
+        if not part:
+            raise self._ended()
+        *lines, self._rest = (self._rest + part.decode("ascii", "backslashreplace")).split("\n")
+        self._lines += lines
+        if len(self._rest) > LONGEST_LINE:
+            raise Broken(f"a line without an end was written: {self._rest[:60]}")
+
+    @staticmethod
+    def _wait(poll):
+        """Which pipes are ready. A signal just before the system's wait does not end it: its handler runs a second later."""
+        while not (ready := poll.poll(1000)):
+            pass
+        return [file for file, _ in ready]
+
+    def _line(self):
+        """The next line. What is left is written meanwhile, so that neither side waits for the other."""
+        while not self._lines:
+            if not self._unwritten or self._out in self._wait(self._either):
+                self._read()
+            else:
+                self._write()
+        return self._lines.popleft()
+
+    def _answer(self, command, word):
+        """The answer to a command. What it says of run slots is kept."""
+        line, elements = self._lines.popleft() if self._lines else self._line(), []
+        while word == "dump" and IS_ELEMENT(line):
+            elements.append(line)
+            line = self._line()
+        if not IS_ANSWER[word](line) or elements and line != "end":
+            raise Broken(f"no answer to `{command[:60]}` was written: {line[:60]}")
+        if word == "start" and line.startswith("run"):
+            self._runs.add(int(line[4:]))
+        elif word == "drop" and line == "ok":
+            self._runs.discard(int(command[5:]))
+        return "\n".join([*elements, line]) if elements else line
 
     def batch(self, commands):
-        """The answers to a list of commands that have one each (all but `dump`), refusals among them."""
-        answers = []
-        for at in range(0, len(commands), self.AT_ONCE):
-            part = commands[at:at + self.AT_ONCE]
-            self.write(part)
-            answers += self.lines(len(part))
+        """The answers to commands, by one write and one read: a line each, refusals among them, and a dump's of several lines."""
+        commands = list(commands)
+        words = [command.split(" ", 1)[0] for command in commands]
+        text = "".join([command + "\n" for command in commands]).encode()
+        if not ANSWERS.keys() >= set(words) or text.count(b"\n") != len(commands):
+            raise ValueError("a command is one line, and its first word one of " + ", ".join(ANSWERS))
+        if len(text) > LONGEST_LINE and max(map(len, text.split(b"\n"))) > LONGEST_LINE:
+            raise ValueError(f"a command has at most {LONGEST_LINE} bytes")
+        with self._turn:
+            if self._why:
+                raise self._why[0](*self._why[1])
+            self._why = Broken, ("a call is under way, or was cut off",)
+            try:
+                if self._reading.poll(0):  # before a command: the process has ended, or wrote what is no answer
+                    self._read()
+                else:
+                    self._unwritten = memoryview(text)
+                    self._write()
+                    answers = [self._answer(*it) for it in zip(commands, words)]
+                if self._rest or self._lines or self._unwritten:
+                    raise Broken(f"more than the answers was written: {[*self._lines, self._rest][0][:60]}")
+            except BaseException as error:
+                told = error if isinstance(error, Broken) else Broken(f"a call was cut off before its answers, by {error!r}")
+                self._why = type(told), told.args
+                raise
+            self._why = None
         return answers
 
     def ask(self, command):
-        if not command or command.startswith("#"):
-            raise ValueError("an empty line or a comment has no answer")
-        self.write([command])
-        answer = self.lines(1)[0]
+        """The answer to a command that is not refused."""
+        answer, = self.batch([command])
         if answer.startswith("refused"):
             raise Refused(command, answer)
         return answer
 
     def _changed(self, command):
-        """0, or the error of Linux's as an OSError."""
+        """Nothing, or the error of Linux's as an OSError."""
         number = -int(self.ask(command).split()[1])
         if number:
             raise OSError(number, errno.errorcode[number], command)
 
+    def map(self, name, key, value, entries, spare, reuse):
+        """Makes a hash map: its number."""
+        shape = " ".join(map(number_word, (key, value, entries, spare, reuse)))
+        return int(self.ask(f"map {name_word(name)} {shape}").split()[1])
+
+    def array(self, name, value, entries):
+        """Makes an array: its number."""
+        return int(self.ask(f"map {name_word(name)} array {number_word(value)} {number_word(entries)}").split()[1])
+
+    def load_code(self, code, context=0, maps=()):
+        """Loads a program's bytes, for contexts of so many bytes and maps of these names: its number."""
+        return int(self.ask(" ".join(["load", number_word(context), hex_word(code), *map(name_word, maps)])).split()[1])
+
     def load(self, text, make_maps=True):
         """Makes the maps of a program file's text, or takes those of the same names, and loads its program: its number.
         Maps stay where the program is refused: load the next text for them with make_maps=False."""
-        if not text.startswith("bpfrt 1\nctx ") or "\ncode\n" not in text:
+        parts = re.fullmatch(r"bpfrt 1\nctx (\d+)\n((?:map \S+ (?:array|\d+ \d+ \d+) \d+ \d+\n)*)code\n([0-9a-fA-F \n]*)", text)
+        if not parts:
             raise ValueError("no program file as text: `bpfrt asm --file` or examples/c/build makes one")
-        _, context, *lines = text.splitlines()
-        maps = lines[:lines.index("code")]
-        code = "".join(lines[len(maps) + 1:]).replace(" ", "")
-        for line in maps if make_maps else []:
+        for line in parts[2].splitlines() if make_maps else []:
             self.ask(line)
-        return int(self.ask(" ".join(["load", context.split()[1], code, *(it.split()[1] for it in maps)])).split()[1])
-
-    def start(self, program, context=b""):
-        return int(self.ask(f"start {program} {context.hex() or '-'}").split()[1])
-
-    def step(self, run, count=1):
-        """The exit value, once the run has it."""
-        if not 1 <= count <= 4096:
-            raise ValueError("1 to 4096 steps")
-        word, *value = self.ask(f"step {run} {count}").split()
-        return int(value[0]) if word == "exit" else None
-
-    def run(self, program, context=b""):
-        """Starts a run, steps it to its exit and drops it: its exit value."""
-        number = self.start(program, context)
-        value = self.step(number, 4096)
-        self.ask(f"drop {number}")
-        return value
+        return self.load_code(bytes.fromhex(parts[3]), int(parts[1]), re.findall(r"^map (\S+)", parts[2], re.M))
 
     def put(self, name, key, value, flags=0):
-        self._changed(f"put {name} {key.hex()} {value.hex()} {flags}")
+        """Updates: flags 0 any key, 1 only a new one, 2 only one that is there."""
+        self._changed(f"put {name_word(name)} {hex_word(key)} {hex_word(value)} {number_word(flags)}")
 
     def get(self, name, key):
-        word, *value = self.ask(f"get {name} {key.hex()}").split()
+        """The value, or None."""
+        word, *value = self.ask(f"get {name_word(name)} {hex_word(key)}").split()
         return bytes.fromhex(value[0]) if word == "value" else None
 
     def delete(self, name, key):
-        self._changed(f"del {name} {key.hex()}")
+        self._changed(f"del {name_word(name)} {hex_word(key)}")
 
     def dump(self, name):
         """All elements, by keys in the order of their bytes."""
-        answer, elements = self.ask(f"dump {name}"), {}
-        while answer != "end":
-            key, value = answer.split()
-            elements[bytes.fromhex(key)] = bytes.fromhex(value)
-            answer = self.lines(1)[0]
-        return elements
+        words = self.ask(f"dump {name_word(name)}").split()[:-1]
+        return dict(zip(map(bytes.fromhex, words[::2]), map(bytes.fromhex, words[1::2])))
+
+    def start(self, program, context=b""):
+        """Starts a run: its run slot."""
+        return int(self.ask(f"start {number_word(program)} {hex_word(context)}").split()[1])
+
+    def step(self, run, count=1):
+        """The exit value, once the run has it."""
+        if not 1 <= count <= MOST_STEPS:
+            raise ValueError(f"1 to {MOST_STEPS} steps")
+        word, *value = self.ask(f"step {number_word(run)} {number_word(count)}").split()
+        return int(value[0]) if word == "exit" else None
+
+    def drop(self, run):
+        """Takes a run that has exited out of its run slot."""
+        self.ask(f"drop {number_word(run)}")
+
+    def run(self, program, context=b""):
+        """Starts a run, steps it to its exit and drops it: its exit value."""
+        return self.run_many(program, [context])[0]
+
+    def run_many(self, program, contexts):
+        """Runs a program on each context, one after another: the exit values. It is one write and one read, since each run has
+        the lowest run slot that is free. Where a start is refused, the first such refusal is raised when the others have run."""
+        starts = [f"start {number_word(program)} {hex_word(context)}" for context in contexts]
+        with self._turn:
+            # The slot behind the last, where none is free: all three lines are refused then.
+            slot = next(it for it in range(RUN_SLOTS + 1) if it not in self._runs)
+            answers = self.batch(line for it in starts for line in (it, f"step {slot} {MOST_STEPS}", f"drop {slot}"))
+            rows = [*zip(starts, answers[::3], answers[1::3], answers[2::3])]
+            for start, began, left, dropped in rows:
+                if began.startswith("refused"):
+                    raise Refused(start, began)
+                if began != f"run {slot}" or not left.startswith("exit") or dropped != "ok":
+                    self._why = Broken, (f"run slot {slot} was free, and gave {began}, {left}, {dropped}",)
+                    raise Broken(*self._why[1])
+        return [int(left[5:]) for _, _, left, _ in rows]
 
     def advance(self):
+        """Ends the grace period, if it can end, and begins the next."""
         self.ask("advance")
 
     def reap(self):
-        """The name of a map and the key that was reclaimed from it; None where none was."""
+        """Reclaims an element: its map's name, its key, and whether its map slot is worn out; None where there is none."""
         word, *of = self.ask("reap").split()
-        return (of[0], bytes.fromhex(of[1])) if word == "reaped" else None
+        return (of[0], bytes.fromhex(of[1]), of[2] == "worn") if word == "reaped" else None
 
     def stat(self):
+        """The counts, by their names: linked, unlinked, given, worn, runs, open."""
         words = self.ask("stat").split()[1:]
         return dict(zip(words[::2], map(int, words[1::2])))

@@ -36,6 +36,7 @@ with Runtime(sys.argv[1]) as bpf:
     bpf.advance()
     print("a grace period is not over, and reclaims", bpf.reap())
     print("the run that holds the old rule is", VERDICTS[bpf.step(held, 4096)])
+    bpf.drop(held)
     bpf.advance()
     print("now it is over, and reclaims", bpf.reap()[0])
     try:
@@ -46,6 +47,8 @@ with Runtime(sys.argv[1]) as bpf:
         bpf.start(policy, b"short")
     except Refused as refused:
         print("to start on a short context is refused", refused.code)
-    answers = bpf.batch(["advance"] * 10_000)
-    print("a batch:", len(answers), "answers,", set(answers))
+    bpf.put("rules", KEY, rule(1))
+    values = bpf.run_many(policy, [flow(400)] * 4)
+    print("four flows in one write are", ", ".join(VERDICTS[value] for value in values))
+    print("lines in one write are answered", bpf.batch(["advance", "dump rules", "reap"]))
     print(bpf.stat())

@@ -20,7 +20,7 @@ use Rattle.bpf_model.specs.MachineStep.{InsnStep, RunStep}
 use Rattle.bpf_model.specs.MapState as map_state
 use Rattle.bpf_model.specs.Places.{StartsAt}
 use Rattle.bpf_model.proofs.Places.{start-inside, starts_apart}
-use Rattle.bpf_model.specs.Request.{Request as Asked, ServesRequest, asks as asks_of, bound_shape, kernel_request as section_asked}
+use Rattle.bpf_model.specs.Request.{Request as Asked, ServesRequest, asks as asks_of, bound_shape, section_request as section_asked}
 use Rattle.bpf_model.specs.MachineStep.{StepsAlone, StepsServed}
 use Rattle.bpf_model.specs.Section.{Section}
 use Rattle.bpf_model.specs.Spelling.{FitsInsn}

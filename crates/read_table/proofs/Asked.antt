@@ -30,7 +30,7 @@ use Rattle.bpf_model.specs.Operand.{operand_value}
 use Rattle.bpf_model.proofs.Places.{start-insn_at, starts_apart}
 use Rattle.bpf_model.specs.Request.{Request as Asked, LoadElement, StoreElement, CallHelper, Enter, Leave}
 use Rattle.bpf_model.specs.Request.{MapArgument, BytesArgument, Argument, asks as asks_of, resumed}
-use Rattle.bpf_model.specs.Request.{kernel_request as section_asked, signature_of, arguments_of}
+use Rattle.bpf_model.specs.Request.{section_request as section_asked, signature_of, arguments_of}
 use Rattle.bpf_model.specs.Spelling.{FitsInsn}
 use Rattle.bpf_model.specs.Step.{State, insn_at}
 use Rattle.bpf_model.specs.Value.{◌>>=◌}

@@ -71,7 +71,7 @@ use Rattle.world.specs.Calls.{called, called_at, called_on}
 use Rattle.world.specs.Elements.{element_number}
 use Rattle.world.specs.Serving.{CanServe, IsReply, maps_after}
 use Rattle.world.proofs.Running.{running}
-use Rattle.world.proofs.Serving.{resumed-program, served_moves}
+use Rattle.world.proofs.ServedSteps.{resumed-program, served_moves}
 use Rattle.model_laws.proofs.Requests.{by_kind}
 
 -- a number that bytes are

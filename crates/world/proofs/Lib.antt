@@ -10,7 +10,7 @@ pub mod Running
 pub mod Runs
 pub mod Same
 pub mod ServedFlags
-pub mod Serving
+pub mod ServedSteps
 pub mod Shapes
 pub mod ShapesKept
 pub mod Slots

@@ -31,7 +31,7 @@ use Rattle.machine.proofs.RunningStands.{running_stands}
 use Rattle.world.specs.Serving.{CanServe, IsReply, IsFlagged, ShowsGrace, grace_after, maps_after, with_view, world_with}
 use Rattle.world.proofs.Giving.{may_give}
 use Rattle.world.proofs.Running.{running, flagged, can_be_served}
-use Rattle.world.proofs.Serving.{own_is, own_keeps, own_asks, served_is, goes_on, resumed-program, shown-still}
+use Rattle.world.proofs.ServedSteps.{own_is, own_keeps, own_asks, served_is, goes_on, resumed-program, shown-still}
 use Rattle.world.specs.declared.kept.loaded.Loaded.{Loaded}
 use Rattle.world.specs.Programs.{program_of}
 use Rattle.world.specs.BoundTo.{AreProgramsBound}

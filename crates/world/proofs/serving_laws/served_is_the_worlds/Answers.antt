@@ -1,4 +1,4 @@
-use Rattle.world.proofs.Serving.{served_is}
+use Rattle.world.proofs.ServedSteps.{served_is}
 use Rattle.world.proofs.serving_laws.served_is_the_worlds.Goals as goal
 
 pub returns : goal.returns
