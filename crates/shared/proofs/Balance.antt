@@ -51,14 +51,14 @@ tally-push old new w next event answer t a n o unr rec unl =
       omega (arith, one, rec),
     )
 
-pub balanced-push : (old new : BooksView) (total worker : ℕ) (event : Event) (answer : Answer) → AreBalanced old total
-    → total + 1 < 2 ^ 64 → IsReal event → Enters old worker event answer new
+pub balanced-push : (old new : BooksView) (worker : ℕ) (event : Event) (answer : Answer) → AreBalanced old
+    → old.total + 1 < 2 ^ 64 → IsReal event → Enters old worker event answer new
     → length old.journal < old.limit
     → new.tally.unreclaimed ≡ unreclaimed_in new.world
     → new.tally.totals.reclaimed ≡ old.tally.totals.reclaimed + reclaimed_by answer
     → new.tally.totals.unlinked + old.tally.unreclaimed ≡ old.tally.totals.unlinked + new.tally.unreclaimed + reclaimed_by answer
-    → AreBalanced new (total + 1)
-balanced-push old new total worker event answer b fits real e room unr rec unl =
+    → AreBalanced new
+balanced-push old new worker event answer b fits real e room unr rec unl =
     let entry : Entry = record { worker = worker; event = event; answer = answer } in
     let r : Replays old.base new.world (old.journal ++ entry ∷ []) =
     replays_push old.base old.world new.world old.journal entry b.replays real e.answers e.world in
@@ -76,16 +76,17 @@ balanced-push old new total worker event answer b fits real e room unr rec unl =
     let few_reclaimed = b.few_reclaimed in
     let limit = b.limit in
     let same_limit = e.limit in
+    let total = e.total in
     let t1 = t.1 in
     let t3 = t.3 in record {
       replays = subst (λ (z : WorldView × List Entry). Replays z.0 new.world z.1) (λ i. (sym e.base i, sym e.journal i)) r;
-      count = omega (arith, n, count, before);
-      fits = fits;
+      count = omega (arith, n, count, before, total);
+      fits = omega (arith, fits, total);
       tally = t.0;
       steps = omega (arith, s, steps, steps_before, steps_now);
-      few_steps = omega (arith, few_steps, steps_now, one);
-      few_unlinked = omega (arith, few_unlinked, t1);
-      few_reclaimed = omega (arith, few_reclaimed, t3);
+      few_steps = omega (arith, few_steps, steps_now, one, total);
+      few_unlinked = omega (arith, few_unlinked, t1, total);
+      few_reclaimed = omega (arith, few_reclaimed, t3, total);
       limit = omega (arith, limit, same_limit);
       short = omega (arith, n, room, same_limit);
     }

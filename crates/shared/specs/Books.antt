@@ -10,12 +10,14 @@ use Rattle.journal.specs.Entries.{JournalView}
 use Rattle.journal_laws.specs.Replay.{Replays}
 use Rattle.journal_laws.specs.Totals.{steps_of}
 use Rattle.world_laws.specs.Reacting.{full_reaction}
+use Rattle.atomic_table.specs.Seated.{TableId}
 use Rattle.shared.specs.declared.tally.Tally.{Tally}
 use Rattle.shared.specs.declared.tally.Totals.{Totals}
 use Rattle.shared.specs.Tally.{IsTallyOf, steps_by, greatest_count}
 
 -- The base, the world now, the entries from the one to the other and how many there may be, how
--- many entries there were before the base and how many of them were steps, and what is counted.
+-- many entries there were before the base and how many of them were steps, how many the ledger
+-- counts, and what is counted of the world.
 pub record BooksView : Type 0 where
   pub base : WorldView
   pub world : WorldView
@@ -23,21 +25,22 @@ pub record BooksView : Type 0 where
   pub limit : ℕ
   pub before : ℕ
   pub steps_before : ℕ
+  pub total : ℕ
   pub tally : Tally
 
 -- The books balance: the journal replays from the base, which has no run, to the world; the
 -- ledger's total is the number of the entries before the base and of those in the journal; the
 -- totals are the world's, and no greater than that number. The journal has at most as many entries
 -- as it may have, which are no more than `MAX_JOURNAL`.
-pub record AreBalanced (b : BooksView) (total : ℕ) : Type 0 where
+pub record AreBalanced (b : BooksView) : Type 0 where
   pub replays : Replays b.base b.world b.journal
-  pub count : b.before + length b.journal ≡ total
-  pub fits : total < 2 ^ 64
+  pub count : b.before + length b.journal ≡ b.total
+  pub fits : b.total < 2 ^ 64
   pub tally : IsTallyOf b.tally b.world
   pub steps : b.steps_before + steps_of b.journal ≡ b.tally.totals.steps
-  pub few_steps : b.tally.totals.steps ≤ total
-  pub few_unlinked : b.tally.totals.unlinked ≤ total
-  pub few_reclaimed : b.tally.totals.reclaimed ≤ total
+  pub few_steps : b.tally.totals.steps ≤ b.total
+  pub few_unlinked : b.tally.totals.unlinked ≤ b.total
+  pub few_reclaimed : b.tally.totals.reclaimed ≤ b.total
   pub limit : b.limit ≤ MAX_JOURNAL
   pub short : length b.journal ≤ b.limit
 
@@ -52,15 +55,21 @@ abbrev pub AreNumbered : List WorkerView → Type 0
 AreNumbered workers =
     (k : ℕ) (w : WorkerView) → slice_get workers k ≡ Some w → w.number ≡ k
 
+-- what the lock guards: the books, and which cell their counters are read from
+pub record StateView : Type 0 where
+  pub books : BooksView
+  pub meter : TableId
+
 -- the view of books with these parts; of the journal only the entries and the limit are seen
-abbrev pub books_view : WorldView → WorldView → JournalView → ℕ → ℕ → Tally → BooksView
-books_view base world journal before steps_before tally = record {
+abbrev pub books_view : WorldView → WorldView → JournalView → ℕ → ℕ → ℕ → Tally → BooksView
+books_view base world journal before steps_before total tally = record {
   base = base;
   world = world;
   journal = journal.entries;
   limit = journal.limit;
   before = before;
   steps_before = steps_before;
+  total = total;
   tally = tally;
 }
 
@@ -85,6 +94,7 @@ pub record Enters (old : BooksView) (worker : ℕ) (event : Event) (answer : Ans
   pub limit : new.limit ≡ old.limit
   pub before : new.before ≡ old.before
   pub steps_before : new.steps_before ≡ old.steps_before
+  pub total : new.total ≡ old.total + 1
   pub origin : new.tally.origin ≡ old.tally.origin
   pub steps : new.tally.totals.steps ≡ old.tally.totals.steps + steps_by answer
 
@@ -103,4 +113,5 @@ pub record CutsTo (old new : BooksView) : Type 0 where
   pub limit : new.limit ≡ old.limit
   pub before : new.before ≡ old.before + length old.journal
   pub steps_before : new.steps_before ≡ old.steps_before + steps_of old.journal
+  pub total : new.total ≡ old.total
   pub tally : new.tally ≡ old.tally

@@ -3,6 +3,7 @@
 use Rattle.std.specs.Prelude.{◌≡◌, ℕ, ◌≤◌, List, [], ◌∷◌, slice_index, true, false}
 use mathlib.Core.Option.{some}
 use lib.ListN.{get_elem?}
+use Rattle.atomic_table.specs.Seated.{TableId}
 use Rattle.shared.specs.declared.meter.MeterView.{MeterView}
 use Rattle.shared.specs.declared.tally.Totals.{Totals}
 
@@ -49,3 +50,8 @@ HasReadMeter v before after w =
       reclaimed = slice_index after 2;
     })
     × IsKnownOf v after
+
+-- counters: which cell they read, and what they have read last
+pub record CountersView : Type 0 where
+  pub meter : TableId
+  pub shown : Totals

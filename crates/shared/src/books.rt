@@ -1,18 +1,20 @@
 //! The world with its journal, and the ledger that counts its entries. No method waits.
-ghost use Rattle.std.specs.Prelude.{◌≡◌, ◌+◌, ◌-◌, ◌^◌, ◌<◌, ◌≤◌, ◌↔◌, [], length, IsTrue, true, OnErr, OnOk, Err, Ok, option_copied};
+ghost use Rattle.std.specs.Prelude.{◌≡◌, ℕ, ◌+◌, ◌-◌, ◌^◌, ◌<◌, ◌≤◌, ◌↔◌, [], length, IsTrue, true, IfNone, IfSome, OnErr, OnOk, Err, Ok, option_copied};
 ghost use Rattle.bpf_model.specs.declared.limits.TheConstants.{MAX_JOURNAL};
 ghost use Rattle.journal_laws.specs.Replay.{Replays, HasNoRuns};
-ghost use Rattle.shared.specs.Noted.{IsEntered, IsExitNote, receipt_of};
+ghost use Rattle.journal_laws.specs.Totals.{steps_of};
+ghost use Rattle.shared.specs.Noted.{IsEntered, receipt_of};
+ghost use Rattle.shared.specs.Receipts.{IsExitOf};
+ghost use Rattle.world_laws.specs.Invariant.{IsWorld};
 ghost use Rattle.shared.specs.Tally.{IsTallyOf, origin_of};
 ghost use Rattle.shared.specs.Books.{HasNoRoom, TotalsRise, CutsTo};
 ghost use Rattle.shared.specs.declared.fault.SharedFault.TheVariants as fault;
 ghost use Rattle.shared.specs.declared.fault.CutFault.TheVariants as cut_fault;
 
 use crate::fault::{CutFault, SharedFault};
-use crate::receipt::{ExitNote, Receipt};
-use crate::tally::{Tally, Totals, unreclaimed};
+use crate::tally::{Origin, Tally, Totals, unreclaimed};
 use crate::worker::Worker;
-use bpf_model::{Answer, CtxBytes, Event, ProgId, RunId};
+use bpf_model::{Answer, CtxBytes, Event, RunId};
 use journal::{Journal, JournalFault};
 use std::alloc::Global;
 use std::marker::Model;
@@ -42,18 +44,21 @@ impl<L: Ledger> Model for Books<L> {
 
     ghost use Rattle.shared.specs.Books.{books_view, AreBalanced};
 
-    ghost view = { λ b. books_view b.base b.world b.journal b.before b.steps_before b.tally };
+    ghost view = { λ b. books_view b.base b.world b.journal b.before b.steps_before b.book.total
+        b.tally };
 
     ghost invariant = { λ b. AreBalanced
-        (books_view b.base b.world b.journal b.before b.steps_before b.tally) b.book.total };
+        (books_view b.base b.world b.journal b.before b.steps_before b.book.total b.tally) };
 }
 
-/// What a shared world leaves: the base, the world now, and the journal from the one to the other.
+/// What a shared world leaves: the base, the world now, the journal from the one to the other, and how many
+/// entries were made before the base.
 #[derive(Drop)]
 pub struct Finished {
     pub base: World,
     pub world: World,
     pub journal: Journal,
+    pub before: u64,
 }
 
 /// Whether no run slot of a world is occupied.
@@ -96,6 +101,7 @@ impl<L: Ledger> Books<L> {
         ensures world { result.world ≡ base }
         ensures journal { result.journal ≡ [] }
         ensures limit { result.limit ≡ journal.limit }
+        ensures total { result.total ≡ 0 }
         ensures before { (result.before ≡ 0) × (result.steps_before ≡ 0) }
         ensures origin { result.tally.origin ≡ origin_of base }
         ensures totals { result.tally.totals ≡ record { steps = 0; unlinked = 0; reclaimed = 0 } }
@@ -140,55 +146,19 @@ impl<L: Ledger> Books<L> {
         Ok(())
     }
 
-    /// Applies the event of a receipt and enters it, or changes nothing. The receipt is then that of this call;
-    /// the clauses are those of `act_noted`.
-    pub fn act_again(&mut self, worker: &mut Worker<L>, receipt: &mut Receipt)
-        ensures noted { IsEntered self.old worker.old receipt.old.event receipt.new self.new worker.new }
-        ensures rise { TotalsRise self.old.tally.totals self.new.tally.totals }
-    {
-        receipt.forget_fault();
-        receipt.worker = worker.number;
-        let outcome = match &mut receipt.reply {
-            Ok(answer) => self.act_into(worker, &receipt.event, answer),
-            Err(_) => unreachable!(),
-        };
-        receipt.made = worker.made;
-        if let Err(fault) = outcome {
-            receipt.reply = Err(fault);
-        }
-    }
-
-    /// Applies the event and enters it, or changes nothing.
-    ///
-    /// The reply is `JournalFull` exactly when the journal has as many entries as it may have, or when as many
-    /// as 64 bits count were made since the world was shared; `Memory` when the journal could not grow.
-    pub fn act_noted(&mut self, worker: &mut Worker<L>, event: Event) -> Receipt
-        ensures noted { IsEntered self.old worker.old event result self.new worker.new }
-        ensures rise { TotalsRise self.old.tally.totals self.new.tally.totals }
-    {
-        let mut receipt = Receipt::new(worker.number, worker.made, event, Ok(Answer::Moved));
-        self.act_again(worker, &mut receipt);
-        receipt
-    }
-
-    /// Asks the world for the exit value of a run, for a program and a context. Nothing changes.
-    pub fn exit_noted(
-        &self,
-        worker: &Worker<L>,
-        run: RunId,
-        prog: ProgId,
-        program: Option<&Verified>,
-        ctx: &CtxBytes,
-    ) -> ExitNote
-        ensures noted { IsExitNote self.now.world worker.now run prog
-            (option_copied program.entry) ctx.now.items result }
+    /// The exit value of a run that has ended and was started with this program on this context, if it is so.
+    pub fn exit_of(&self, run: RunId, program: Option<&Verified>, ctx: &CtxBytes) -> Option<u64>
+        ensures world { IsWorld self.now.world }
+        ensures some { IfSome result (λ n. IsExitOf self.now.world run (option_copied program.entry)
+            ctx.now.items n) }
+        ensures none { IfNone result ((n : ℕ) → IsExitOf self.now.world run
+            (option_copied program.entry) ctx.now.items n → ⊥) }
     {
         self.world.is_world();
-        let exit = match program {
+        match program {
             Some(program) => self.world.exit_of(run, program, ctx),
             None => None,
-        };
-        ExitNote::new(worker.number, worker.made, run, prog, ctx, exit)
+        }
     }
 
     /// Makes the world its own new base and empties the journal, whose entries are counted as those before the
@@ -216,10 +186,14 @@ impl<L: Ledger> Books<L> {
         }
     }
 
-    /// A law: the journal replays from the base to the world, the totals are the world's, since its origin, and
-    /// there are no more entries than there may be, which are at most `MAX_JOURNAL`.
+    /// A law: the journal replays from the base to the world; the ledger counts its entries and those before the
+    /// base; the totals are the world's, since its origin, the steps those of all entries; and there are no more
+    /// entries than there may be, which are at most `MAX_JOURNAL`.
     pub fn are_balanced(&self)
         ensures replays { Replays self.now.base self.now.world self.now.journal }
+        ensures total { self.now.before + length self.now.journal ≡ self.now.total }
+        ensures steps { self.now.steps_before + steps_of self.now.journal
+            ≡ self.now.tally.totals.steps }
         ensures tally { IsTallyOf self.now.tally self.now.world }
         ensures limit { self.now.limit ≤ MAX_JOURNAL }
         ensures short { length self.now.journal ≤ self.now.limit }
@@ -236,16 +210,17 @@ impl<L: Ledger> Books<L> {
         ensures journal { result.journal.entries ≡ self.journal }
         ensures replays { Replays result.base result.world result.journal.entries }
         ensures limit { result.journal.limit ≡ self.limit }
+        ensures before { result.before ≡ self.before }
         ensures few { self.limit ≤ MAX_JOURNAL }
         ensures short { length result.journal.entries ≤ self.limit }
-        ensures total { self.before + length result.journal.entries ≡ all.old.amount }
+        ensures total { result.before + length result.journal.entries ≡ all.old.amount }
     {
         self.book.audit(all);
         let Books {
             base,
             world,
             journal,
-            before: _,
+            before,
             steps_before: _,
             tally: _,
             book: _,
@@ -254,7 +229,15 @@ impl<L: Ledger> Books<L> {
             base,
             world,
             journal,
+            before,
         }
+    }
+
+    /// What the counts of the world were when it was shared.
+    pub(crate) fn origin(&self) -> Origin
+        ensures { result ≡ self.now.tally.origin }
+    {
+        self.tally.origin
     }
 
     /// The three totals since the world was shared.

@@ -7,21 +7,17 @@
 
 mod books;
 mod bound;
-mod counters;
 mod fault;
 mod lock;
 mod meter;
-mod receipt;
 mod state;
 mod tally;
 mod worker;
 
 pub use books::{Books, Finished, is_quiet};
 pub use bound::ProgramWithMaps;
-pub use counters::Counters;
 pub use fault::{CutFault, SharedFault};
 pub use lock::Shared;
-pub use receipt::{ExitNote, Receipt};
-pub use state::State;
+pub use state::{Counters, ExitNote, Receipt, State};
 pub use tally::Totals;
 pub use worker::{MAX_WORKERS, Worker, Workers};

@@ -1,5 +1,5 @@
 //! A world behind a lock: how its sharing begins and ends, and what workers ask of it.
-ghost use Rattle.std.specs.Prelude.{◌≡◌, ℕ, ◌+◌, ◌<◌, ◌≤◌, length, map, sum_by, All, IfOk, IfSome, OnErr, OnOk, Some, option_copied, slice_get};
+ghost use Rattle.std.specs.Prelude.{◌≡◌, ◌+◌, ◌<◌, ◌≤◌, length, map, sum_by, All, IfOk, IfSome, OnErr, OnOk, Some, option_copied, slice_get};
 ghost use Rattle.bpf_model.specs.declared.limits.TheConstants.{MAX_JOURNAL};
 ghost use Rattle.bpf_model.specs.View.{shapes_of};
 ghost use Rattle.shared.specs.declared.worker.TheConstants.{MAX_WORKERS};
@@ -9,11 +9,8 @@ ghost use Rattle.shared.specs.Tally.{origin_of, shown_totals};
 ghost use Rattle.journal_laws.specs.Replay.{Replays, HasNoRuns};
 
 use crate::books::{Books, Finished};
-use crate::counters::Counters;
 use crate::fault::{CutFault, SharedFault};
-use crate::receipt::{ExitNote, Receipt};
-use crate::state::{State, begin};
-use crate::tally::Origin;
+use crate::state::{Counters, ExitNote, Receipt, State};
 use crate::worker::{Worker, Workers, merged, new_workers};
 use bpf_model::{Answer, CtxBytes, Event, MAX_JOURNAL, MAX_PROGRAMS, ProgId, RunId};
 use journal::Journal;
@@ -77,7 +74,7 @@ impl<L: Ledger> Shared<L> {
         ensures count { IfOk result (λ t. length t.1 ≡ workers) }
         ensures made { IfOk result (λ t. All (λ w. w.made ≡ 0) t.1) }
         ensures numbers { IfOk result (λ t. AreNumbered t.1) }
-        ensures counters { IfOk result (λ t. t.2 ≡ shown_totals (origin_of world) 0 0 0) }
+        ensures counters { IfOk result (λ t. t.2.shown ≡ shown_totals (origin_of world) 0 0 0) }
         ensures codes { IfOk result (λ t.
             map (λ p. p.program) t.0 ≡ map (λ l. l.code) world.programs) }
         ensures contexts { IfOk result (λ t.
@@ -107,7 +104,7 @@ impl<L: Ledger> Shared<L> {
         ensures count { IfOk result (λ t. length t.1 ≡ workers) }
         ensures made { IfOk result (λ t. All (λ w. w.made ≡ 0) t.1) }
         ensures numbers { IfOk result (λ t. AreNumbered t.1) }
-        ensures counters { IfOk result (λ t. t.2 ≡ shown_totals (origin_of world) 0 0 0) }
+        ensures counters { IfOk result (λ t. t.2.shown ≡ shown_totals (origin_of world) 0 0 0) }
         ensures codes { IfOk result (λ t.
             map (λ p. p.program) t.0 ≡ map (λ l. l.code) world.programs) }
         ensures contexts { IfOk result (λ t.
@@ -118,12 +115,12 @@ impl<L: Ledger> Shared<L> {
     {
         let programs = programs_of(alloc, &world)?;
         let base = world.copy(alloc)?;
-        let (cell, pass, counters) = begin(alloc, Origin::of(&world))?;
         let (book, all) = blank.open::<L>();
         let workers = new_workers(alloc, all, workers)?;
         let books = Books::new(base, world, Journal::with_limit(alloc, limit), book);
+        let (state, counters) = State::new(alloc, books)?;
         let shared = Shared {
-            state: Mutex::new(State::new(books, cell, pass)),
+            state: Mutex::new(state),
             programs,
         };
         Ok((shared, workers, counters))
@@ -145,9 +142,7 @@ impl<L: Ledger> Shared<L> {
             × (worker.new.parts ≡ worker.old.parts) }
         ensures err { OnErr result.reply (worker.new ≡ worker.old) }
     {
-        let mut receipt = Receipt::new(worker.number, worker.made, event, Ok(Answer::Moved));
-        self.act_again(rt, worker, &mut receipt);
-        receipt
+        self.state.lock(rt).act_noted(rt, worker, event)
     }
 
     /// Applies the event of a receipt once more. The receipt is then that of this call; the clauses are those of
@@ -162,8 +157,7 @@ impl<L: Ledger> Shared<L> {
             × (worker.new.parts ≡ worker.old.parts) }
         ensures err { OnErr receipt.new.reply (worker.new ≡ worker.old) }
     {
-        let mut state = self.state.lock(rt);
-        state.act_again(rt, worker, receipt);
+        self.state.lock(rt).act_again(rt, worker, receipt);
     }
 
     /// Applies one event, and puts its answer in the place of another one. It waits for the lock, and takes no
@@ -278,15 +272,15 @@ impl<L: Ledger> Shared<L> {
         state.cut(alloc)
     }
 
-    /// Ends the sharing, for which all workers come back, and hands out the base, the world and the
-    /// journal, also where the journal is full or a run slot is occupied. The shares of all workers add up to the
-    /// entries before the base and those in the journal.
+    /// Ends the sharing, for which all workers come back, and hands out the base, the world, the journal and the
+    /// number of entries before the base, also where the journal is full or a run slot is occupied. The shares of
+    /// all workers add up to the entries before the base and those in the journal.
     pub fn finish(self, workers: Workers<L>) -> Finished
         ensures replays { Replays result.base result.world result.journal.entries }
         ensures limit { result.journal.limit ≤ MAX_JOURNAL }
         ensures short { length result.journal.entries ≤ result.journal.limit }
-        ensures total { (before : ℕ) × (before + length result.journal.entries
-            ≡ sum_by (λ w. w.made) workers) }
+        ensures total { result.before + length result.journal.entries
+            ≡ sum_by (λ w. w.made) workers }
     {
         let Shared { state, programs: _ } = self;
         let Workers { list } = workers;

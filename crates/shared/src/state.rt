@@ -1,28 +1,34 @@
 //! What the lock guards: the books, with the one pass that writes the counters.
-ghost use Rattle.std.specs.Prelude.{◌≡◌, ◌+◌, ◌≤◌, ◌↔◌, length, IfOk, OnErr, OnOk, Err, option_copied};
+ghost use Rattle.std.specs.Prelude.{◌≡◌, ◌+◌, ◌≤◌, ◌↔◌, length, IfOk, OnErr, OnOk, Err};
 ghost use Rattle.std.specs.Arc.{arc_value};
 ghost use Rattle.crossbeam_utils.specs.Seq.{cell_view};
-ghost use Rattle.shared.specs.Noted.{IsEntered, IsExitNote, receipt_of};
+ghost use Rattle.shared.specs.Noted.{IsEntered, receipt_of};
 ghost use Rattle.shared.specs.Books.{TotalsRise, CutsTo};
-ghost use Rattle.shared.specs.Meter.{writer_at, meter_writer};
+ghost use Rattle.shared.specs.Meter.{writer_at};
 ghost use Rattle.shared.specs.Tally.{IsTallyOf, shown_totals};
 ghost use Rattle.bpf_model.specs.declared.limits.TheConstants.{MAX_JOURNAL};
 ghost use Rattle.journal_laws.specs.Replay.{Replays, HasNoRuns};
+ghost use Rattle.journal_laws.specs.Totals.{steps_of};
 ghost use Rattle.shared.specs.declared.fault.CutFault.TheVariants as cut_fault;
 
+mod counters;
+mod note;
+mod receipt;
+
 use crate::books::{Books, Finished};
-use crate::counters::Counters;
 use crate::fault::{CutFault, SharedFault};
-use crate::meter::{ForReaders, Meter, MeterPass, Writes};
-use crate::receipt::{ExitNote, Receipt};
-use crate::tally::{Origin, Totals};
+use crate::meter::{Meter, MeterPass, Writes};
+use crate::state::counters::begin;
+use crate::tally::Totals;
 use crate::worker::Worker;
-use bpf_model::{Answer, CtxBytes, Event, ProgId, RunId};
+use bpf_model::{Answer, Event};
+pub use counters::Counters;
+pub use note::ExitNote;
+pub use receipt::Receipt;
 use std::alloc::{AllocError, Global};
 use std::marker::Model;
 use std::sync::ledger::{Ledger, Share};
 use std::sync::{Arc, Wait};
-use verifier::Verified;
 
 /// The books, and the pass that writes the counters' cell. Whenever the lock is free the books balance, and
 /// the pass knows the words of the cell: they are the totals of the books.
@@ -34,19 +40,19 @@ pub struct State<L: Ledger> {
 }
 
 impl<L: Ledger> Model for State<L> {
-    ghost use Rattle.shared.specs.Books.{BooksView};
-    ghost use Rattle.shared.specs.Codes.{books_code};
+    ghost use Rattle.shared.specs.Books.{StateView};
+    ghost use Rattle.shared.specs.Codes.{state_code};
 
-    ghost Value = { BooksView };
+    ghost Value = { StateView };
 
-    ghost coded = { books_code };
+    ghost coded = { state_code };
 
     ghost use Rattle.std.specs.Prelude.{◌≡◌};
     ghost use Rattle.std.specs.Arc.{arc_value};
     ghost use Rattle.crossbeam_utils.specs.Seq.{cell_view};
     ghost use Rattle.shared.specs.Meter.{writer_at};
 
-    ghost view = { λ s. s.books };
+    ghost view = { λ s. record { books = s.books; meter = s.pass.table_id } };
 
     ghost invariant = { λ s. (s.pass.table_id ≡ (arc_value s.cell).table.shared.table_id)
         × (cell_view s.pass ≡ writer_at s.books.tally.totals) };
@@ -66,31 +72,17 @@ fn publish<R: Wait>(rt: &R, cell: &Meter, pass: &mut MeterPass, before: Totals, 
     }
 }
 
-/// A cell in which nothing is counted yet, with the pass that writes it, and counters that read it.
-pub(crate) fn begin(
-    alloc: Global,
-    origin: Origin,
-) -> Result<(Arc<Meter>, MeterPass, Counters), AllocError>
-    ensures cell { IfOk result (λ t.
-        t.1.table_id ≡ (arc_value t.0).table.shared.table_id) }
-    ensures view { IfOk result (λ t. cell_view t.1 ≡ meter_writer 0 0 0) }
-    ensures counters { IfOk result (λ t. t.2 ≡ shown_totals origin 0 0 0) }
-{
-    let (cell, mut pass) = Meter::ruled(alloc, [0, 0, 0])?;
-    let reader = cell.split_pass::<ForReaders>(&mut pass);
-    let cell = Arc::new(alloc, cell)?;
-    let counters = Counters::new(origin, Arc::try_clone(&cell)?, reader);
-    Ok((cell, pass, counters))
-}
-
 impl<L: Ledger> State<L> {
-    /// The books, with the cell of their counters and the one pass that writes it.
-    pub(crate) fn new(books: Books<L>, cell: Arc<Meter>, pass: MeterPass) -> State<L>
-        requires cell { pass.table_id ≡ (arc_value cell).table.shared.table_id }
-        requires view { cell_view pass ≡ writer_at books.tally.totals }
-        ensures { result ≡ books }
+    /// The books, with a cell in which nothing is counted yet and the one pass that writes it, and counters that
+    /// read this cell. The error is that there is no memory left.
+    pub(crate) fn new(alloc: Global, books: Books<L>) -> Result<(State<L>, Counters), AllocError>
+        requires { books.tally.totals ≡ record { steps = 0; unlinked = 0; reclaimed = 0 } }
+        ensures books { IfOk result (λ t. t.0.books ≡ books) }
+        ensures cell { IfOk result (λ t. t.1.meter ≡ t.0.meter) }
+        ensures shown { IfOk result (λ t. t.1.shown ≡ shown_totals books.tally.origin 0 0 0) }
     {
-        State { books, cell, pass }
+        let (cell, pass, counters) = begin(alloc, books.origin())?;
+        Ok((State { books, cell, pass }, counters))
     }
 
     /// Applies the event, enters it and writes the counters, and puts the answer in the place of another one; or
@@ -102,8 +94,9 @@ impl<L: Ledger> State<L> {
         event: &Event,
         answer: &mut Answer,
     ) -> Result<(), SharedFault>
-        ensures noted { IsEntered self.old worker.old event.now
-            (receipt_of worker.new event.now result answer.new) self.new worker.new }
+        ensures noted { IsEntered self.old.books worker.old event.now
+            (receipt_of worker.new event.now result answer.new) self.new.books worker.new }
+        ensures cell { self.new.meter ≡ self.old.meter }
         ensures err { OnErr result (answer.new ≡ answer.old) }
     {
         let before = self.books.totals();
@@ -113,76 +106,51 @@ impl<L: Ledger> State<L> {
         outcome
     }
 
-    /// Applies the event of a receipt, enters it and writes the counters, or changes nothing. The receipt is then
-    /// that of this call.
-    pub fn act_again<R: Wait>(&mut self, rt: &R, worker: &mut Worker<L>, receipt: &mut Receipt)
-        ensures noted { IsEntered self.old worker.old receipt.old.event receipt.new self.new worker.new }
-    {
-        let before = self.books.totals();
-        self.books.act_again(worker, receipt);
-        let after = self.books.totals();
-        publish(rt, &self.cell, &mut self.pass, before, after);
-    }
-
-    /// Applies the event, enters it and writes the counters, or changes nothing. The clauses are those of the
-    /// books, which do not wait.
-    pub fn act_noted<R: Wait>(&mut self, rt: &R, worker: &mut Worker<L>, event: Event) -> Receipt
-        ensures noted { IsEntered self.old worker.old event result self.new worker.new }
-    {
-        let mut receipt = Receipt::new(worker.number, worker.made, event, Ok(Answer::Moved));
-        self.act_again(rt, worker, &mut receipt);
-        receipt
-    }
-
-    /// Asks the world for the exit value of a run, for a program and a context. Nothing changes.
-    pub fn exit_noted(
-        &self,
-        worker: &Worker<L>,
-        run: RunId,
-        prog: ProgId,
-        program: Option<&Verified>,
-        ctx: &CtxBytes,
-    ) -> ExitNote
-        ensures noted { IsExitNote self.now.world worker.now run prog
-            (option_copied program.entry) ctx.now.items result }
-    {
-        self.books.exit_noted(worker, run, prog, program, ctx)
-    }
-
     /// Makes the world its own new base and empties the journal, whose entries are counted as those before the
     /// base. The world stays as it was.
     ///
     /// Errors, and then nothing has changed: `NotQuiet` where a run slot is occupied; else `Memory` where there
     /// is none for the copy.
     pub fn cut(&mut self, alloc: Global) -> Result<(), CutFault>
-        ensures quiet { (result ≡ Err cut_fault.NotQuiet) ↔ (HasNoRuns self.old.world → ⊥) }
-        ensures ok { OnOk result (CutsTo self.old self.new) }
+        ensures quiet { (result ≡ Err cut_fault.NotQuiet)
+            ↔ (HasNoRuns self.old.books.world → ⊥) }
+        ensures ok { OnOk result (CutsTo self.old.books self.new.books) }
+        ensures cell { self.new.meter ≡ self.old.meter }
         ensures err { OnErr result (self.new ≡ self.old) }
     {
         self.books.cut(alloc)
     }
 
-    /// A law: the journal replays from the base to the world, the totals are the world's, since its origin, and
-    /// there are no more entries than there may be, which are at most `MAX_JOURNAL`. It is so of each value that a lock
-    /// of this type has, whoever made it.
+    /// A law: the journal replays from the base to the world; the ledger counts its entries and those before the
+    /// base; the totals are the world's, since its origin, the steps those of all entries; and there are no more
+    /// entries than there may be, which are at most `MAX_JOURNAL`. It is so of each value that a lock of this type
+    /// has, whoever made it.
     pub fn are_balanced(&self)
-        ensures replays { Replays self.now.base self.now.world self.now.journal }
-        ensures tally { IsTallyOf self.now.tally self.now.world }
-        ensures limit { self.now.limit ≤ MAX_JOURNAL }
-        ensures short { length self.now.journal ≤ self.now.limit }
+        ensures replays { Replays self.now.books.base self.now.books.world self.now.books.journal }
+        ensures total { self.now.books.before + length self.now.books.journal
+            ≡ self.now.books.total }
+        ensures steps { self.now.books.steps_before + steps_of self.now.books.journal
+            ≡ self.now.books.tally.totals.steps }
+        ensures tally { IsTallyOf self.now.books.tally self.now.books.world }
+        ensures limit { self.now.books.limit ≤ MAX_JOURNAL }
+        ensures short { length self.now.books.journal ≤ self.now.books.limit }
     {
         self.books.are_balanced();
     }
 
-    /// The base, the world and the journal. The shares of all workers add up to the entries before the base
-    /// and those in the journal.
+    /// The base, the world, the journal, and how many entries were made before the base. The shares of all workers
+    /// add up to these and those in the journal.
     pub(crate) fn finish(self, all: &mut Share<L>) -> Finished
         requires { all.old.parts ≡ L.parts }
+        ensures base { result.base ≡ self.books.base }
+        ensures world { result.world ≡ self.books.world }
+        ensures journal { result.journal.entries ≡ self.books.journal }
+        ensures limit { result.journal.limit ≡ self.books.limit }
+        ensures before { result.before ≡ self.books.before }
         ensures replays { Replays result.base result.world result.journal.entries }
-        ensures limit { result.journal.limit ≡ self.limit }
-        ensures few { self.limit ≤ MAX_JOURNAL }
-        ensures short { length result.journal.entries ≤ self.limit }
-        ensures total { self.before + length result.journal.entries ≡ all.old.amount }
+        ensures few { self.books.limit ≤ MAX_JOURNAL }
+        ensures short { length result.journal.entries ≤ self.books.limit }
+        ensures total { result.before + length result.journal.entries ≡ all.old.amount }
     {
         let State {
             books,

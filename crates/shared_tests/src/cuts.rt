@@ -51,7 +51,8 @@ fn cut<L: Ledger + Send + Sync, R: Wait + Abort>(
         assert!(rt; matches!(receipt.reply(), Ok(Answer::Refused(_))));
     }
     let finished = shared.finish(workers);
-    assert_eq!(rt; finished.journal.len(), 1);
+    assert_eq!(rt; (finished.before, finished.journal.len()), (5, 1));
+    assert_eq!(rt; finished.journal.limit(), 16_777_216);
     assert_eq!(rt; finished.base.stat().linked, 1);
     assert_eq!(rt; finished.world.stat(), finished.base.stat());
     Ok(())

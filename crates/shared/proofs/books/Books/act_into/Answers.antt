@@ -7,7 +7,7 @@ use Rattle.bpf_model.specs.declared.entry.Entry.{Entry}
 use Rattle.journal.specs.Entries.{IsAnswerTo, JournalView}
 use Rattle.journal_laws.proofs.Fitting.{reaction_fits}
 use Rattle.world_laws.specs.Reacting.{full_reaction}
-use Rattle.shared.specs.Books.{BooksView, WorkerView, AreBalanced, Enters, TotalsRise, books_view}
+use Rattle.shared.specs.Books.{BooksView, WorkerView, Enters, TotalsRise, books_view}
 use Rattle.shared.specs.Noted.{IsEntered}
 use Rattle.shared.specs.Receipts.{ReceiptView}
 use Rattle.shared.specs.Tally.{CountsOn, steps_by}
@@ -31,17 +31,17 @@ push_answer-requires-clause-answer g c =
     subst (λ (a : Answer). IsAnswerTo c.args.event.now a) (sym c.apply_into.ensures.answer)
     (reaction_fits c.self.inside.world c.args.event.now c.is_world.ensures c.is_real.ensures)
 
-entered : (base world later : WorldView) (journal room pushed : JournalView) (before steps_before : ℕ)
+entered : (base world later : WorldView) (journal room pushed : JournalView) (before steps_before total sum : ℕ)
     (tally counted : Tally) (worker : ℕ) (event : Event) (answer : Answer) → room.entries ≡ journal.entries →
     room.limit ≡ journal.limit
     → pushed.entries ≡ room.entries ++ (record { worker = worker; event = event; answer = answer }) ∷ [] →
     pushed.limit ≡ room.limit → answer ≡ (full_reaction world event).0 → later ≡ (full_reaction world event).1 →
     counted.origin ≡ tally.origin
-    → counted.totals.steps ≡ tally.totals.steps + steps_by answer →
-    Enters (books_view base world journal before steps_before tally) worker event answer
-    (books_view base later pushed before steps_before counted)
-entered base world later journal room pushed before steps_before tally counted worker event answer same-entries
-    same-limit items limit answers next origin steps = record {
+    → counted.totals.steps ≡ tally.totals.steps + steps_by answer → sum ≡ total + 1 →
+    Enters (books_view base world journal before steps_before total tally) worker event answer
+    (books_view base later pushed before steps_before sum counted)
+entered base world later journal room pushed before steps_before total sum tally counted worker event answer same-entries
+    same-limit items limit answers next origin steps more = record {
       journal = items ∙ ap (λ (z : List Entry). z ++ (record { worker = worker; event = event; answer = answer }) ∷ []) same-entries;
       answers = answers;
       world = next;
@@ -49,6 +49,7 @@ entered base world later journal room pushed before steps_before tally counted w
       limit = limit ∙ same-limit;
       before = refl;
       steps_before = refl;
+      total = more;
       origin = origin;
       steps = steps;
     }
@@ -56,32 +57,31 @@ entered base world later journal room pushed before steps_before tally counted w
 pub invariant_of-self-2 : goal.invariant_of-self-2
 invariant_of-self-2 g c =
     let old : BooksView = books_view c.self.inside.base c.self.inside.world c.self.inside.journal c.self.inside.before
-    c.self.inside.steps_before c.self.inside.tally in
+    c.self.inside.steps_before c.self.inside.book.total c.self.inside.tally in
     let new : BooksView = books_view c.self.inside.base c.apply_into.new.self c.push_answer.new.self
-    c.self.inside.before c.self.inside.steps_before c.count.new.self in
+    c.self.inside.before c.self.inside.steps_before c.add.new.self.total c.count.new.self in
     let count = c.self.invariant.count in
     let room = c.in_ok-make_room.ensures.count in
     let fits : c.self.inside.book.total + 1 < 2 ^ 64 = omega (arith, count, room) in
     let total : c.add.new.self.total ≡ c.self.inside.book.total + 1 = c.add.ensures.total ∙ ap (λ (k : ℕ). k + 1) c.audit.ensures.total in
     let enters : Enters old c.worker.inside.number c.args.event.now c.apply_into.new.answer new =
-    entered _ _ _ c.self.inside.journal c.make_room.new.journal c.push_answer.new.self _ _ _ _ _ _ _
+    entered _ _ _ c.self.inside.journal c.make_room.new.journal c.push_answer.new.self _ _ _ _ _ _ _ _ _
     c.make_room.ensures.entries c.make_room.ensures.limit c.push_answer.ensures.entries
     c.push_answer.ensures.limit
-    c.apply_into.ensures.answer c.apply_into.ensures.new c.count.ensures.origin c.count.ensures.steps in
-    subst (AreBalanced new) (sym total)
-    (balanced-push old new c.self.inside.book.total c.worker.inside.number c.args.event.now c.apply_into.new.answer
+    c.apply_into.ensures.answer c.apply_into.ensures.new c.count.ensures.origin c.count.ensures.steps total in
+    balanced-push old new c.worker.inside.number c.args.event.now c.apply_into.new.answer
     c.self.invariant fits c.is_real.ensures enters
     c.in_ok-make_room.ensures.few
     (c.count.ensures.unreclaimed ∙ c.unreclaimed.ensures)
     c.count.ensures.reclaimed
-    (let u = c.count.ensures.unlinked in let same = c.count.ensures.unreclaimed in omega (arith, u, same)))
+    (let u = c.count.ensures.unlinked in let same = c.count.ensures.unreclaimed in omega (arith, u, same))
 
 pub returns-clause-noted : goal.returns-clause-noted
 returns-clause-noted g c =
     let old : BooksView = books_view c.self.inside.base c.self.inside.world c.self.inside.journal c.self.inside.before
-    c.self.inside.steps_before c.self.inside.tally in
+    c.self.inside.steps_before c.self.inside.book.total c.self.inside.tally in
     let new : BooksView = books_view c.self.inside.base c.apply_into.new.self c.push_answer.new.self
-    c.self.inside.before c.self.inside.steps_before c.count.new.self in
+    c.self.inside.before c.self.inside.steps_before c.add.new.self.total c.count.new.self in
     let caller : WorkerView = record { number = c.worker.inside.number; made = c.worker.inside.made; parts = c.worker.inside.share.parts } in
     let later : WorkerView = record { number = c.worker.inside.number; made = c.worker.inside.made + 1; parts = c.add.new.share.parts } in
     let receipt : ReceiptView = record {
@@ -95,10 +95,11 @@ returns-clause-noted g c =
       worker = refl;
       asked = refl;
       count = refl;
-      entered = entered _ _ _ c.self.inside.journal c.make_room.new.journal c.push_answer.new.self _ _ _ _ _ _ _
+      entered = entered _ _ _ c.self.inside.journal c.make_room.new.journal c.push_answer.new.self _ _ _ _ _ _ _ _ _
           c.make_room.ensures.entries c.make_room.ensures.limit c.push_answer.ensures.entries
           c.push_answer.ensures.limit
-          c.apply_into.ensures.answer c.apply_into.ensures.new c.count.ensures.origin c.count.ensures.steps;
+          c.apply_into.ensures.answer c.apply_into.ensures.new c.count.ensures.origin c.count.ensures.steps
+          (c.add.ensures.total ∙ ap (λ (k : ℕ). k + 1) c.audit.ensures.total);
       answered = answered c.self.inside.world c.args.event.now c.apply_into.new.answer c.is_world.ensures c.is_real.ensures c.apply_into.ensures.answer;
       made = refl;
       same_number = refl;

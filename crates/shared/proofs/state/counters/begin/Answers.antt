@@ -1,6 +1,6 @@
 use Rattle.std.proofs.Common.{rules}
 use Rattle.shared.proofs.Meters.{begins, forks}
-use Rattle.shared.proofs.state.begin.Goals as goal
+use Rattle.shared.proofs.state.counters.begin.Goals as goal
 
 pub ruled-requires : goal.ruled-requires
 ruled-requires c = (search rules, (search rules, begins))

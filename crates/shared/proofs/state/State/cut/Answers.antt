@@ -1,0 +1,10 @@
+use Rattle.std.proofs.Common.{◌≡◌, subst}
+use Rattle.std.specs.Prelude.{◌↔◌, Err}
+use Rattle.journal_laws.specs.Replay.{HasNoRuns}
+use Rattle.shared.specs.Books.{StateView}
+use Rattle.shared.specs.declared.fault.CutFault.TheVariants as cut_fault
+use Rattle.shared.proofs.state.State.cut.Goals as goal
+
+pub returns-clause-quiet : goal.returns-clause-quiet
+returns-clause-quiet g c =
+    subst (λ (s : StateView). (c.cut.result ≡ Err cut_fault.NotQuiet) ↔ (HasNoRuns s.books.world → ⊥)) c.self.view_is c.cut.ensures.quiet
