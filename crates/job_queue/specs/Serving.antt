@@ -5,13 +5,20 @@ use Rattle.crossbeam_queue.specs.Passes.{Pass, view}
 use Rattle.job_queue.specs.Numbers.{pass_view, WasTaken}
 use Rattle.job_queue.specs.Sheet.{HasResult}
 use Rattle.job_queue.specs.declared.numbers.PassView.{PassView}
-use Rattle.job_queue.specs.declared.pool.TheConstants.{MAX_WORKERS}
 use Rattle.job_queue.specs.declared.station.Numbered.{Numbered}
 use Rattle.job_queue.specs.declared.station.Station.{Station}
 
+-- the most jobs of a pool
+abbrev pub most_jobs : ℕ
+most_jobs = 65536
+
+-- the most threads of a pool
+abbrev pub most_workers : ℕ
+most_workers = 8
+
 -- no number of threads for a pool that has so many workers
 abbrev pub IsBadCount : ℕ → ℕ → Type 0
-IsBadCount threads workers = (threads ≡ 0) ⊎ (MAX_WORKERS < threads) ⊎ (workers < threads)
+IsBadCount threads workers = (threads ≡ 0) ⊎ (most_workers < threads) ⊎ (workers < threads)
 
 module _ {J W T : Type 0} (fits : W → W → J → T → Type 0) where
   -- The result is right for the job, by one of the workers, between what that worker was before and

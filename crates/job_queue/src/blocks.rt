@@ -2,10 +2,9 @@
 ghost use Rattle.std.specs.Prelude.{◌≡◌, ◌<◌, ◌≤◌, [], length, IfOk, IfErr, IfSome, OnOk, IsSome, All, vec_len};
 ghost use Rattle.std.specs.List.{flat_map};
 ghost use Rattle.job_queue.specs.Blocks.{jobs_of, results_of, AreRightIn};
-ghost use Rattle.job_queue.specs.declared.pool.TheConstants.{MAX_WORKERS};
+ghost use Rattle.job_queue.specs.Serving.{most_workers};
 
 use crate::fault::PoolFault;
-use crate::pool::MAX_WORKERS;
 use crate::serve::Serve;
 use std::alloc::{AllocError, Global};
 use std::sync::Wait;
@@ -19,10 +18,9 @@ const BLOCKS_PER_THREAD: usize = 8;
 
 /// How many jobs a block has, where so many threads serve so many jobs.
 pub fn block_size(jobs: usize, threads: usize) -> usize
-    requires { (0 < threads) × (threads ≤ MAX_WORKERS) }
+    requires { (0 < threads) × (threads ≤ most_workers) }
     ensures { 0 < result }
 {
-    let _most = MAX_WORKERS;
     (jobs / (threads * BLOCKS_PER_THREAD)).clamp(1, MAX_BLOCK)
 }
 

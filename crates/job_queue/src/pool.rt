@@ -2,10 +2,9 @@
 ghost use Rattle.std.specs.Prelude.{◌≡◌, true, false, [], ◌⊎◌, ◌+◌, ◌<◌, ◌≤◌, ◌++◌, length, map, take, drop, Err, All, IsOk, IfErr, IfOk, OnOk, OnErr, vec_len, vec_capacity};
 ghost use Rattle.std.specs.List.{AllZip};
 ghost use Rattle.crossbeam_queue.specs.Passes.{view, IsPassOf};
-ghost use Rattle.job_queue.specs.declared.pool.TheConstants.{MAX_JOBS, MAX_WORKERS};
 ghost use Rattle.job_queue.specs.Blocks.{InBlocks};
 ghost use Rattle.job_queue.specs.Numbers.{pass_view};
-ghost use Rattle.job_queue.specs.Serving.{IsNewStation, AreRightLines, AreServed, IsBadCount};
+ghost use Rattle.job_queue.specs.Serving.{IsNewStation, AreRightLines, AreServed, IsBadCount, most_jobs, most_workers};
 ghost use Rattle.job_queue.specs.Sheet.{worker_of, IsBlank};
 
 use crate::blocks::{block_size, blocks_of, join};
@@ -180,7 +179,7 @@ fn serve_in_blocks<S: Serve + Sync, R: Threads + Wait + Sync>(
     workers: &mut Vec<S::Worker>,
 ) -> Result<Vec<S::Served>, PoolFault>
     requires some { 0 < length jobs.now }
-    requires threads { (0 < threads) × (threads ≤ MAX_WORKERS) × (threads ≤ vec_len workers.old) }
+    requires threads { (0 < threads) × (threads ≤ most_workers) × (threads ≤ vec_len workers.old) }
     requires ready { All (S.ready serve.now) workers.old.items }
     ensures ready { All (S.ready serve.now) workers.new.items }
     ensures later { AllZip S.later workers.old.items workers.new.items }
@@ -223,11 +222,11 @@ pub fn serve_all<S: Serve + Sync, R: Threads + Wait + Sync>(
     ensures bad_workers { IsBadCount threads (vec_len workers.old) →
         result ≡ Err PoolFault.BadWorkers }
     ensures too_many_jobs { (IsBadCount threads (vec_len workers.old) → ⊥)
-        → MAX_JOBS < length jobs.now → result ≡ Err PoolFault.TooManyJobs }
+        → most_jobs < length jobs.now → result ≡ Err PoolFault.TooManyJobs }
     ensures served { (IsBadCount threads (vec_len workers.old) → ⊥)
-        → length jobs.now ≤ MAX_JOBS
+        → length jobs.now ≤ most_jobs
         → IsOk result ⊎ (result ≡ Err PoolFault.Memory) ⊎ (result ≡ Err PoolFault.Lost) }
-    ensures refused { IsBadCount threads (vec_len workers.old) ⊎ (MAX_JOBS < length jobs.now)
+    ensures refused { IsBadCount threads (vec_len workers.old) ⊎ (most_jobs < length jobs.now)
         → workers.new ≡ workers.old }
     ensures ready { All (S.ready serve.now) workers.new.items }
     ensures later { AllZip S.later workers.old.items workers.new.items }

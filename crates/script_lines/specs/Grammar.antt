@@ -1,7 +1,6 @@
 -- The commands, as words.
 use Rattle.std.specs.Prelude.{ℕ, nat_le, if◌then◌else◌, List, [], ◌∷◌, length, codes, bytes_eq}
 use Rattle.std.specs.Prelude.{Option, Some, None}
-use Rattle.std.specs.List.{find}
 use Rattle.script_lines.specs.Words.{number_in, count_in, hex_bytes_in, key_bytes_in}
 use Rattle.script_lines.specs.Words.{value_bytes_in, context_bytes_in}
 use Rattle.script_lines.specs.declared.command.Command.{Command}
@@ -12,7 +11,6 @@ use Rattle.bpf_model.specs.declared.limits.TheConstants.{MAX_MAPS, INDEX_BYTES}
 use Rattle.script_lines.specs.declared.command.ShapeNumbers.{ShapeNumbers}
 use Rattle.script_lines.specs.declared.verb.Verb.{Verb}
 use Rattle.script_lines.specs.declared.verb.Verb.TheVariants as verbs
-use Rattle.script_lines.specs.declared.verb.TheConstants.{VERBS}
 
 -- the word that a command begins with
 abbrev pub verb_name : Verb → List ℕ
@@ -29,8 +27,22 @@ verb_name verbs.Drop = codes "drop"
 verb_name verbs.Stat = codes "stat"
 verb_name verbs.Dump = codes "dump"
 
+-- the verb that the word is, of twelve
 abbrev pub verb_of : List ℕ → Option Verb
-verb_of word = find (λ verb. bytes_eq (verb_name verb) word) VERBS
+verb_of word =
+    if bytes_eq word (codes "map") then Some verbs.Map
+    else if bytes_eq word (codes "load") then Some verbs.Load
+    else if bytes_eq word (codes "put") then Some verbs.Put
+    else if bytes_eq word (codes "get") then Some verbs.Get
+    else if bytes_eq word (codes "del") then Some verbs.Del
+    else if bytes_eq word (codes "start") then Some verbs.Start
+    else if bytes_eq word (codes "step") then Some verbs.Step
+    else if bytes_eq word (codes "advance") then Some verbs.Advance
+    else if bytes_eq word (codes "reap") then Some verbs.Reap
+    else if bytes_eq word (codes "drop") then Some verbs.Drop
+    else if bytes_eq word (codes "stat") then Some verbs.Stat
+    else if bytes_eq word (codes "dump") then Some verbs.Dump
+    else None
 
 -- `KEY VALUE ENTRIES SPARE REUSE`: the shape of a hash map, from the word KEY and those behind it
 abbrev pub hash_shape_in : List ℕ → List (List ℕ) → Option ShapeNumbers

@@ -5,7 +5,10 @@ use Rattle.script_lines.specs.Words.{words_of}
 use Rattle.script_lines.specs.Grammar.{command_of}
 use Rattle.script_lines.specs.declared.command.BadLine.{BadLine}
 use Rattle.script_lines.specs.declared.command.Command.{Command}
-use Rattle.script_lines.specs.declared.parsing.TheConstants.{LINE_BYTES}
+
+-- the most bytes of a line, without its line feed
+abbrev pub longest_line : ℕ
+longest_line = 70000
 
 -- a line that is empty or begins with `#`, which is byte 35, says nothing
 abbrev pub is_silent : List ℕ → Bool
@@ -23,7 +26,7 @@ command_or_bad (Some command) = Ok (Some command)
 -- a line, without the line feed that ends it
 abbrev pub line_says : List ℕ → Result (Option Command) BadLine
 line_says line =
-    if nat_lt LINE_BYTES (length line) then Err (record {})
+    if nat_lt longest_line (length line) then Err (record {})
     else if is_silent line then Ok None
     else if has_outer_space line then Err (record {})
     else command_or_bad (command_of (words_of line))

@@ -12,7 +12,6 @@ use Rattle.hex.specs.Hex.{decode_of}
 use Rattle.bpf_model.specs.declared.limits.TheConstants.{KEY_BYTES, VALUE_BYTES, CTX_BYTES}
 use Rattle.script_lines.specs.declared.bytes.Bytes.{Bytes}
 use Rattle.script_lines.specs.declared.bytes.Bytes.TheVariants.{Fit, TooLong}
-use Rattle.script_lines.specs.declared.parsing.TheConstants.{MAX_COUNT}
 
 abbrev pub is_word : List ℕ → Bool
 is_word part = not (length part == 0)
@@ -32,11 +31,15 @@ number_in word =
     if is_numeral word && nat_lt (digits_value 10 word) (2 ^ 64) then Some (digits_value 10 word)
     else None
 
--- how many steps a word asks for: 1 to MAX_COUNT
+-- the most steps that one `step` asks for
+abbrev pub most_steps : ℕ
+most_steps = 4096
+
+-- how many steps a word asks for: 1 to most_steps
 abbrev pub count_in : List ℕ → Option ℕ
 count_in word = do
   count ← number_in word
-  if nat_le 1 count && nat_le count MAX_COUNT then Some count else None
+  if nat_le 1 count && nat_le count most_steps then Some count else None
 
 -- the bytes that a word writes: each as two hexadecimal digits of either case, or `-` for none
 abbrev pub hex_bytes_in : List ℕ → Option (List ℕ)

@@ -63,13 +63,13 @@ impl Verb {
 
 /// Whether the word is the command's name.
 fn is_named(verb: Verb, word: &[u8]) -> bool
-    ensures { result ≡ bytes_eq (verb_name verb) word.now }
+    ensures { result ≡ bytes_eq word.now (verb_name verb) }
 {
-    verb.name().as_bytes() == word
+    word == verb.name().as_bytes()
 }
 
 fn first_named(verbs: &[Verb], word: &[u8]) -> Option<Verb>
-    ensures { result ≡ find (λ v. bytes_eq (verb_name v) word.now) verbs.now }
+    ensures { result ≡ find (λ v. bytes_eq word.now (verb_name v)) verbs.now }
 {
     for verb in verbs {
         if is_named(*verb, word) {

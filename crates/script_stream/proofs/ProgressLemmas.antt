@@ -3,11 +3,10 @@ use Rattle.std.proofs.Common.{◌≡◌, ℕ, ◌+◌, ◌-◌, ◌<◌, ◌⊎�
 use Rattle.std.proofs.Common.{append_assoc, append-nil, length-append, arith, inl, inr, Result, Ok, Err, OnOk}
 use Rattle.std.specs.Io.Iter.{u64_saturate}
 use Rattle.script_stream.specs.declared.progress.Progress.{Progress}
-use Rattle.script_stream.specs.declared.progress.TheConstants.{LINE_BYTES}
 use Rattle.script_stream.specs.declared.fault.ScriptFault.{ScriptFault}
 use Rattle.script_stream.specs.declared.fault.ScriptFault.TheVariants.{BadCommand, Read, Memory}
 use Rattle.script_stream.specs.Lines.{lines_of, ended, HasNoFeed}
-use Rattle.script_stream.specs.Answered.{Answered, AnsweredBefore, BeginsAnswered, FailsWith, IsBadLine}
+use Rattle.script_stream.specs.Answered.{Answered, AnsweredBefore, BeginsAnswered, FailsWith, IsBadLine, longest_line}
 use Rattle.script_stream.specs.Progress.{IsProgressAt, IsOutputFault}
 use Rattle.script_stream.proofs.LineLemmas.{lines_of-feed, lines_of-ended, lines_of-last, lines_of-open, HasFirst}
 use Rattle.script_stream.proofs.LineLemmas.{HasNoFeed-append, HaveNoFeed-snoc, ended-snoc}
@@ -223,16 +222,16 @@ module _ {S : Type 0} (answers : S → List ℕ → List ℕ → S → Type 0) w
     number = number;
   }
 
-  longer : (is_bad : List ℕ → Type 0) (front more : List ℕ) → LINE_BYTES < length front → IsBadLine is_bad (front ++ more)
+  longer : (is_bad : List ℕ → Type 0) (front more : List ℕ) → longest_line < length front → IsBadLine is_bad (front ++ more)
   longer is_bad front more h = inl (simp length-append (omega arith))
 
-  open_first : (line after : List ℕ) → LINE_BYTES < length line → HasNoFeed line → HasFirst line (lines_of (line ++ after))
+  open_first : (line after : List ℕ) → longest_line < length line → HasNoFeed line → HasFirst line (lines_of (line ++ after))
   open_first [] after h k = absurd (omega arith)
   open_first (b ∷ line) after h k = lines_of-open b line after k
 
   -- the open line is too long, whatever follows
   pub next_too_long : (is_bad : List ℕ → Type 0) (old : S) (read written : List ℕ) (p : Progress) (now : S) (piece after : List ℕ) (line : ℕ)
-      → IsProgressAt answers old read written p now → HasNoFeed piece → LINE_BYTES < length (p.rest.items ++ piece) → line ≡ u64_saturate (p.answered + 1)
+      → IsProgressAt answers old read written p now → HasNoFeed piece → longest_line < length (p.rest.items ++ piece) → line ≡ u64_saturate (p.answered + 1)
       → NextIsBad is_bad p (piece ++ after) line
   next_too_long is_bad old read written p now piece after line at clear long number =
       let whole = p.rest.items ++ piece in

@@ -5,12 +5,15 @@ use Rattle.std.specs.Io.Iter.{u64_saturate}
 use Rattle.std.specs.Io.KnownBytes.{IsAtEnd}
 use Rattle.script_stream.specs.declared.fault.ScriptFault.{ScriptFault}
 use Rattle.script_stream.specs.declared.fault.ScriptFault.TheVariants.{BadCommand}
-use Rattle.script_stream.specs.declared.progress.TheConstants.{LINE_BYTES}
 use Rattle.script_stream.specs.Lines.{lines_of}
+
+-- the most bytes of a line, without its line feed
+abbrev pub longest_line : ℕ
+longest_line = 70000
 
 -- A line that ends the script: it is too long, or no command.
 abbrev pub IsBadLine : (List ℕ → Type 0) → List ℕ → Type 0
-IsBadLine is_bad line = (LINE_BYTES < length line) ⊎ is_bad line
+IsBadLine is_bad line = (longest_line < length line) ⊎ is_bad line
 
 -- It is so of the whole input, of which these bytes were read: of them alone where the reader has
 -- none left, or else of them with whatever follows.

@@ -2,7 +2,7 @@
 ghost use Rattle.std.specs.Prelude.{◌≡◌, ◌⊎◌, ℕ, ◌+◌, ◌<◌, List, [], ◌∷◌, ◌++◌, length, IfErr, OnOk, OnErr, Err};
 ghost use Rattle.std.specs.Io.KnownBytes.{Appends};
 ghost use Rattle.std.specs.Io.Iter.{u64_saturate};
-ghost use Rattle.script_stream.specs.Answered.{Answered, FailsWith, IsBadLine};
+ghost use Rattle.script_stream.specs.Answered.{Answered, FailsWith, IsBadLine, longest_line};
 ghost use Rattle.script_stream.specs.Lines.{HasNoFeed, lines_of};
 ghost use Rattle.script_stream.specs.Progress.{IsProgressAt, IsOutputFault};
 
@@ -186,7 +186,7 @@ impl Progress {
         ensures answered { self.new.answered ≡ self.old.answered }
         ensures bad { (n : ℕ) → result ≡ Err (ScriptFault.BadCommand n)
             → (n ≡ u64_saturate (self.old.answered + 1))
-            × (LINE_BYTES < length (self.old.rest.items ++ piece.now)) }
+            × (longest_line < length (self.old.rest.items ++ piece.now)) }
     {
         self.rest.extend_from_slice(piece)?;
         if self.rest.len() > LINE_BYTES {
