@@ -17,7 +17,6 @@ use Rattle.script_lines.specs.declared.reply.Reply.TheVariants as replies
 use Rattle.control.specs.declared.asking.asked.Asked.{Asked}
 use Rattle.control.specs.declared.asking.asked.Asked.TheVariants as asked
 use Rattle.control.specs.Replying.{refused, reply_to}
-use Rattle.control.specs.declared.driving.live.TheConstants.{SEALED}
 
 -- a context that is longer than any has another length than each program's
 abbrev pub overlong_refusal : Option Loaded → EventRefusal
@@ -43,10 +42,14 @@ AreElements v bound (replies.Element key value ∷ rest) =
     IsFound v bound key.items value.items × AreElements v (Some key.items) rest
 AreElements v bound (_ ∷ rest) = ⊥
 
+-- the number by which a map or a program is refused once there is a world
+abbrev pub sealed_number : ℕ
+sealed_number = 56
+
 -- What is replied, with the events that happen.
 abbrev pub Replies : WorldView → Asked → List Event → List Reply → WorldView → Type 0
 Replies w asked.Sealed es rs new =
-    (es ≡ []) × (rs ≡ refused SEALED ∷ []) × (new ≡ w)
+    (es ≡ []) × (rs ≡ refused sealed_number ∷ []) × (new ≡ w)
 Replies w (asked.Refused refusal) es rs new =
     (es ≡ []) × (rs ≡ refused (event_refusal_number refusal) ∷ []) × (new ≡ w)
 Replies w (asked.Event event) es rs new =

@@ -6,7 +6,7 @@ use Rattle.world_laws.specs.Exits.{MayExitAs, ExitsAs}
 use Rattle.job_queue.specs.declared.fault.PoolFault.{PoolFault}
 use Rattle.job_queue.specs.declared.fault.PoolFault.TheVariants.{BadWorkers, TooManyJobs, Memory}
 use Rattle.job_queue.specs.declared.fault.PoolFault.TheVariants.{Lost}
-use Rattle.job_queue.specs.declared.pool.TheConstants.{MAX_JOBS, MAX_WORKERS}
+use Rattle.job_queue.specs.Serving.{most_jobs, most_workers}
 use Rattle.verifier.specs.Checked.{Checked}
 use Rattle.worker_pool.specs.declared.job.Job.{Job}
 use Rattle.worker_pool.specs.declared.job.JobReport.{JobReport}
@@ -16,8 +16,8 @@ use Rattle.worker_pool.specs.declared.job.Trail.{Trail}
 
 -- The fault is one of so many workers and jobs, or of memory or a result.
 abbrev pub IsFaultOf : ℕ → ℕ → PoolFault → Type 0
-IsFaultOf workers count BadWorkers = (workers ≡ 0) ⊎ (MAX_WORKERS < workers)
-IsFaultOf workers count TooManyJobs = MAX_JOBS < count
+IsFaultOf workers count BadWorkers = (workers ≡ 0) ⊎ (most_workers < workers)
+IsFaultOf workers count TooManyJobs = most_jobs < count
 IsFaultOf workers count Memory = ⊤
 IsFaultOf workers count Lost = ⊤
 

@@ -1,10 +1,9 @@
 //! All jobs, by as many workers as the caller says.
 ghost use Rattle.std.specs.Prelude.{◌≡◌, ◌⊎◌, ◌<◌, ◌≤◌, length, vec_len, Err, IsOk, IfOk};
 ghost use Rattle.std.specs.List.{AllZip};
-ghost use Rattle.job_queue.specs.declared.pool.TheConstants.{MAX_JOBS};
 ghost use Rattle.job_queue.specs.declared.fault.PoolFault.{PoolFault};
 ghost use Rattle.job_queue.specs.declared.fault.PoolFault.TheVariants as faults;
-ghost use Rattle.job_queue.specs.Serving.{AreServed, IsBadCount};
+ghost use Rattle.job_queue.specs.Serving.{AreServed, IsBadCount, most_jobs};
 ghost use Rattle.worker_pool.specs.Trails.{IsLater, IsServedJob};
 
 use crate::job::{Job, Report, Trail};
@@ -38,11 +37,11 @@ pub fn run_jobs<L: Ledger + Send + Sync, R: Threads + Wait + Sync>(
     ensures bad_workers { IsBadCount threads (length workers.old) →
         result ≡ Err faults.BadWorkers }
     ensures too_many_jobs { (IsBadCount threads (length workers.old) → ⊥)
-        → MAX_JOBS < length jobs.now → result ≡ Err faults.TooManyJobs }
+        → most_jobs < length jobs.now → result ≡ Err faults.TooManyJobs }
     ensures served { (IsBadCount threads (length workers.old) → ⊥)
-        → length jobs.now ≤ MAX_JOBS
+        → length jobs.now ≤ most_jobs
         → IsOk result ⊎ (result ≡ Err faults.Memory) ⊎ (result ≡ Err faults.Lost) }
-    ensures refused { IsBadCount threads (length workers.old) ⊎ (MAX_JOBS < length jobs.now)
+    ensures refused { IsBadCount threads (length workers.old) ⊎ (most_jobs < length jobs.now)
         → workers.new ≡ workers.old }
     ensures later { AllZip IsLater workers.old workers.new }
     ensures count { IfOk result (λ report. vec_len report.jobs ≡ length jobs.now) }

@@ -1,10 +1,9 @@
 //! Jobs that are served from a table, with no lock round an instruction.
 ghost use Rattle.std.specs.Prelude.{◌≡◌, ◌⊎◌, ◌<◌, ◌≤◌, All, None, length, vec_len, Err, IsOk, IfOk};
 ghost use Rattle.std.specs.List.{AllZip};
-ghost use Rattle.job_queue.specs.declared.pool.TheConstants.{MAX_JOBS, MAX_WORKERS};
 ghost use Rattle.job_queue.specs.declared.fault.PoolFault.{PoolFault};
 ghost use Rattle.job_queue.specs.declared.fault.PoolFault.TheVariants as faults;
-ghost use Rattle.job_queue.specs.Serving.{AreServed};
+ghost use Rattle.job_queue.specs.Serving.{AreServed, most_jobs, most_workers};
 ghost use Rattle.read_table.specs.Held.{IsReady};
 ghost use Rattle.worker_pool.specs.Readings.{AllFit, HasGained, IsReadJob};
 
@@ -96,13 +95,13 @@ pub fn run_read_jobs<R: Threads + Wait + Sync>(
     seats: &mut Seats,
 ) -> Result<Report<()>, PoolFault>
     requires some { 0 < length seats.old }
-    requires few { length seats.old ≤ MAX_WORKERS }
+    requires few { length seats.old ≤ most_workers }
     requires ready { All (IsReady table.now) seats.old }
     requires fit { AllFit table.now.shape programs.now }
-    ensures too_many_jobs { MAX_JOBS < length jobs.now → result ≡ Err faults.TooManyJobs }
-    ensures served { length jobs.now ≤ MAX_JOBS →
+    ensures too_many_jobs { most_jobs < length jobs.now → result ≡ Err faults.TooManyJobs }
+    ensures served { length jobs.now ≤ most_jobs →
         IsOk result ⊎ (result ≡ Err faults.Memory) ⊎ (result ≡ Err faults.Lost) }
-    ensures refused { MAX_JOBS < length jobs.now → seats.new ≡ seats.old }
+    ensures refused { most_jobs < length jobs.now → seats.new ≡ seats.old }
     ensures ready { All (IsReady table.now) seats.new }
     ensures later { AllZip HasGained seats.old seats.new }
     ensures count { IfOk result (λ report. vec_len report.jobs ≡ length jobs.now) }

@@ -3,7 +3,7 @@ ghost use Rattle.std.specs.Prelude.{◌≡◌, ◌⊎◌, ◌≤◌, ◌<◌, �
 ghost use Rattle.bpf_model.specs.declared.insn.Insn.{Insn};
 ghost use Rattle.bpf_model.specs.View.{AreNewMaps, shapes_of_maps};
 ghost use Rattle.job_queue.specs.declared.fault.PoolFault.TheVariants as faults;
-ghost use Rattle.job_queue.specs.declared.pool.TheConstants.{MAX_JOBS, MAX_WORKERS};
+ghost use Rattle.job_queue.specs.Serving.{most_jobs, most_workers};
 ghost use Rattle.worker_pool.specs.Outcomes.{IsZeroJob, AreRunsOf};
 ghost use Rattle.worker_pool.specs.Runs.{IsLate, IsRunFaultOf, WritesJobs, WritesPart};
 
@@ -35,9 +35,9 @@ fn serve_blocks<L: Ledger + Send + Sync, R: Threads + Wait + Sync, W: Write>(
     workers: &mut Workers<L>,
     out: &mut W,
 ) -> Result<(), RunFault>
-    requires workers { (0 < length workers.old) × (length workers.old ≤ MAX_WORKERS) }
+    requires workers { (0 < length workers.old) × (length workers.old ≤ most_workers) }
     requires some { 0 < count → 0 < length jobs.now }
-    requires limit { (length jobs.now ≤ MAX_JOBS) × (count ≤ MAX_JOBS) }
+    requires limit { (length jobs.now ≤ most_jobs) × (count ≤ most_jobs) }
     ensures fault { IfErr result IsLate }
     ensures written { (program : List Insn) (ctx_len : ℕ) →
         AreRunsOf program ctx_len shared.now jobs.now
@@ -72,8 +72,8 @@ fn run_shared<L: Ledger + Send + Sync, R: Threads + Wait + Sync, W: Write>(
 ) -> Result<usize, RunFault>
     requires new_maps { AreNewMaps program.registry.maps }
     requires shapes { program.verified.shapes ≡ shapes_of_maps program.registry.maps }
-    requires workers { (0 < workers) × (workers ≤ MAX_WORKERS) }
-    requires count { count ≤ MAX_JOBS }
+    requires workers { (0 < workers) × (workers ≤ most_workers) }
+    requires count { count ≤ most_jobs }
     requires name { blank.name ≡ L.name }
     requires parts { (blank.parts ≡ L.parts) × (blank.parts ≡ workers) }
     ensures fault { IfErr result IsLate }
@@ -119,11 +119,11 @@ pub fn run_program<R: Threads + Wait + Sync, W: Write>(
 ) -> Result<usize, RunFault>
     requires new_maps { AreNewMaps program.registry.maps }
     requires shapes { program.verified.shapes ≡ shapes_of_maps program.registry.maps }
-    ensures bad_workers { (workers ≡ 0) ⊎ (MAX_WORKERS < workers) →
+    ensures bad_workers { (workers ≡ 0) ⊎ (most_workers < workers) →
         result ≡ Err (RunFault.Pool faults.BadWorkers) }
-    ensures too_many_jobs { 0 < workers → workers ≤ MAX_WORKERS → MAX_JOBS < count →
+    ensures too_many_jobs { 0 < workers → workers ≤ most_workers → most_jobs < count →
         result ≡ Err (RunFault.Pool faults.TooManyJobs) }
-    ensures refused { (workers ≡ 0) ⊎ (MAX_WORKERS < workers) ⊎ (MAX_JOBS < count) →
+    ensures refused { (workers ≡ 0) ⊎ (most_workers < workers) ⊎ (most_jobs < count) →
         out.new ≡ out.old }
     ensures fault { IfErr result (IsRunFaultOf workers count) }
     // A job that has exited has exited with a value of the program's definition.

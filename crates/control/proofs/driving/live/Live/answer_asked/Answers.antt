@@ -11,15 +11,14 @@ use Rattle.control.specs.declared.asking.asked.Asked.TheVariants as asked
 use Rattle.control.specs.Replying.{refused, reply_to}
 use Rattle.world.specs.Asking.{stat_of}
 use Rattle.control.specs.Lives.{IsReplied}
-use Rattle.control.specs.declared.driving.live.TheConstants.{SEALED}
-use Rattle.control.specs.Replies.{AreElements, overlong_refusal}
+use Rattle.control.specs.Replies.{AreElements, overlong_refusal, sealed_number}
 use Rattle.control.proofs.Happening.{nothing, one_event, steps_happen, names_stay}
 use Rattle.control.proofs.Replied.{replied, replied_once}
 use Rattle.control.proofs.driving.live.Live.answer_asked.Goals as goal
 
 pub returns-in-Sealed : goal.returns-in-Sealed
 returns-in-Sealed c =
-    replied_once c.args.self.now c.args.asked asked.Sealed [] c.refused.result (refused SEALED) c.args.self.now.world
+    replied_once c.args.self.now c.args.asked asked.Sealed [] c.refused.result (refused sealed_number) c.args.self.now.world
     _ _ c.write_reply.result c.in-Sealed.is (nothing c.args.self.now.world c.is_world.ensures) c.refused.ensures
     (refl, refl, refl) c.write_reply.ensures
 
