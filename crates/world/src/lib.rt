@@ -19,6 +19,6 @@ mod serving;
 pub mod serving_laws;
 mod world;
 
-pub use world::World;
 pub use fault::WorldFault;
 pub use kept::Loaded;
+pub use world::World;
