@@ -101,6 +101,7 @@ pub fn go_round<L: Ledger + Send + Sync, R: Threads + Wait + Sync>(
     tally.worn = finished.world.stat().worn as u64;
     let Finished {
         base: _,
+        before: _,
         mut world,
         journal: _,
     } = finished;
