@@ -1,4 +1,4 @@
-//! The slots of one map: slots for keys of two bytes and values of eight, each used twice at most.
+//! The slots of one map: slots for keys of two bytes, or of four, and values of eight, each used twice at most.
 ghost use Rattle.std.specs.Prelude.{◌≡◌, [], ◌∷◌, IfOk};
 ghost use Rattle.element_store.specs.State.{new_arena, taken};
 
@@ -8,6 +8,8 @@ use std::alloc::{AllocError, Global};
 use std::test::Fail;
 
 const KEY: [u8; 2] = [1, 2];
+
+const LONG_KEY: [u8; 4] = [1, 2, 3, 4];
 
 const VALUE: [u8; 8] = [0x11, 0x22, 0x33, 0x44, 0x55, 0x66, 0x77, 0x88];
 
@@ -115,13 +117,13 @@ fn in_the_order_of_return(rt: HostRuntime) -> Result<(), Fail> {
     Ok(())
 }
 
-/// One slot, which is taken.
+/// One slot for keys of four bytes, which is taken.
 fn only_slot_taken(alloc: Global) -> Result<Arena, AllocError>
-    ensures { IfOk result (λ a. a ≡ taken (new_arena 1 2 8 2) 0 [] (1 ∷ 2 ∷ [])
+    ensures { IfOk result (λ a. a ≡ taken (new_arena 1 4 8 2) 0 [] (1 ∷ 2 ∷ 3 ∷ 4 ∷ [])
         (17 ∷ 34 ∷ 51 ∷ 68 ∷ 85 ∷ 102 ∷ 119 ∷ 136 ∷ [])) }
 {
-    let mut arena = Arena::new(alloc, 1, 2, 8, 2)?;
-    let _slot = arena.take(&KEY, &VALUE);
+    let mut arena = Arena::new(alloc, 1, 4, 8, 2)?;
+    let _slot = arena.take(&LONG_KEY, &VALUE);
     Ok(arena)
 }
 
@@ -133,9 +135,9 @@ fn a_slot_wears_out(rt: HostRuntime) -> Result<(), Fail> {
     let tag = arena.tag(0);
     let first = arena.give(0);
     let stale = arena.peek(tag);
-    let again = arena.take(&KEY, &VALUE);
+    let again = arena.take(&LONG_KEY, &VALUE);
     let second = arena.give(0);
-    let none = arena.take(&KEY, &VALUE);
+    let none = arena.take(&LONG_KEY, &VALUE);
     let still_stale = arena.peek(tag);
     assert_eq!(rt; first, Given::Free);
     assert!(rt; stale.is_err());

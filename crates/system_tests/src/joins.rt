@@ -40,6 +40,16 @@ fn peak(alloc: Global, parts: &[&str]) -> Result<usize, Fail> {
     }
 }
 
+/// So many moves of 0 to r0, and an exit.
+fn straight(alloc: Global, moves: usize) -> Result<Vec<&'static str>, Fail> {
+    let mut parts = Vec::new(alloc);
+    for _ in 0..moves {
+        parts.push("mov64 r0, 0")?;
+    }
+    parts.push("exit")?;
+    Ok(parts)
+}
+
 #[test]
 fn waiting_states(rt: HostRuntime) -> Result<(), Fail> {
     let alloc = rt.alloc();
@@ -52,6 +62,10 @@ fn waiting_states(rt: HostRuntime) -> Result<(), Fail> {
         "jeq r0, 0, +1; ldxdw r6, [r0+0]; callbtf 2; mov64 r0, 0; exit",
     ];
     assert_eq!(rt; peak(alloc, &lookup)?, 2);
+    // Where nothing jumps, each instruction has one successor: one state waits, however long the program is. The
+    // longest has 4,096 slots.
+    assert_eq!(rt; peak(alloc, &["mov64 r0, 1; exit"])?, 1);
+    assert_eq!(rt; peak(alloc, &straight(alloc, 4095)?)?, 1);
     Ok(())
 }
 
