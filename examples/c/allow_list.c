@@ -21,7 +21,7 @@ struct list {
 };
 
 CONTEXT(struct call);
-MAP(lists, u32, struct list, 16, 16, 1000000);
+MAP(lists, u32, struct list, 16, 16, 4294967295);
 
 // The list's version where an address is allowed, and 0 where it is not.
 u64 judge(const struct call *call)

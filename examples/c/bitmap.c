@@ -13,7 +13,7 @@ struct set {
 };
 
 CONTEXT(struct claim);
-MAP(sets, u32, struct set, 64, 8, 1000);
+MAP(sets, u32, struct set, 64, 8, 4294967295);
 
 u64 claim(const struct claim *claim)
 {

@@ -13,8 +13,8 @@ typedef signed long long s64;
 #define INLINE static inline __attribute__((always_inline))
 
 // A map: its kind, lengths of keys and values in bytes, most linked elements, further slots, and
-// how often a slot is taken. The maps of a program are numbered in the order in which its file has
-// them.
+// how often a slot is taken (4294967295 in a map that lasts). The maps of a program are numbered in
+// the order in which its file has them.
 struct bpf_map {
     u32 kind;
     u32 key_len;

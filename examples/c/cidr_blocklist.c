@@ -23,8 +23,8 @@ struct rule {
 };
 
 CONTEXT(struct packet);
-MAP(interfaces, u32, struct interface, 64, 8, 1000);
-MAP(rules, struct prefix, struct rule, 1024, 64, 1000);
+MAP(interfaces, u32, struct interface, 64, 8, 4294967295);
+MAP(rules, struct prefix, struct rule, 1024, 64, 4294967295);
 
 enum { NONE = 0, ALLOW = 1, BLOCK = 2 };
 

@@ -16,7 +16,7 @@ struct account {
 };
 
 CONTEXT(struct order);
-MAP(accounts, u32, struct account, 1000, 100, 1000);
+MAP(accounts, u32, struct account, 1000, 100, 4294967295);
 
 u64 buy(const struct order *order)
 {

@@ -12,7 +12,7 @@ struct total {
 };
 
 CONTEXT(struct event);
-MAP(totals, u32, struct total, 64, 64, 1000);
+MAP(totals, u32, struct total, 64, 64, 4294967295);
 
 u64 count(const struct event *event)
 {

@@ -14,7 +14,7 @@ struct day {
 };
 
 CONTEXT(struct visit);
-MAP(days, u32, struct day, 100, 10, 1000);
+MAP(days, u32, struct day, 100, 10, 4294967295);
 
 u64 visit(const struct visit *visit)
 {

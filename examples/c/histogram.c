@@ -14,7 +14,7 @@ struct histogram {
 };
 
 CONTEXT(struct sample);
-MAP(histograms, u64, struct histogram, 256, 32, 1000);
+MAP(histograms, u64, struct histogram, 256, 32, 4294967295);
 
 // The power of four at or below a number of 32 bits.
 INLINE u32 power(u32 n)

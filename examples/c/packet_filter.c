@@ -17,7 +17,7 @@ struct port {
 };
 
 CONTEXT(struct packet);
-MAP(ports, u16, struct port, 1024, 64, 1000);
+MAP(ports, u16, struct port, 1024, 64, 4294967295);
 
 enum { DROP = 0, PASS = 1 };
 

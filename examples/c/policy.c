@@ -24,7 +24,7 @@ struct rule {
 };
 
 CONTEXT(struct flow);
-MAP(rules, struct match, struct rule, 512, 64, 1000);
+MAP(rules, struct match, struct rule, 512, 64, 4294967295);
 
 enum { DENY = 0, ALLOW = 1, AUDIT = 2 };
 

@@ -16,7 +16,7 @@ struct bucket {
 };
 
 CONTEXT(struct call);
-MAP(buckets, u64, struct bucket, 4096, 512, 100000);
+MAP(buckets, u64, struct bucket, 4096, 512, 4294967295);
 
 #define FULL 1000
 

@@ -13,7 +13,7 @@ struct table {
 };
 
 CONTEXT(struct query);
-MAP(tables, u32, struct table, 16, 4, 100);
+MAP(tables, u32, struct table, 16, 4, 4294967295);
 
 u64 find(const struct query *query)
 {

@@ -13,7 +13,7 @@ struct board {
 };
 
 CONTEXT(struct step);
-MAP(boards, u32, struct board, 16, 4, 100);
+MAP(boards, u32, struct board, 16, 4, 4294967295);
 
 u64 step(const struct step *step)
 {

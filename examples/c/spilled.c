@@ -17,8 +17,8 @@ struct account {
 };
 
 CONTEXT(struct transfer);
-MAP(accounts, u32, struct account, 1000, 100, 1000);
-MAP(banks, u32, struct account, 10, 10, 1000);
+MAP(accounts, u32, struct account, 1000, 100, 4294967295);
+MAP(banks, u32, struct account, 10, 10, 4294967295);
 
 u64 transfer(const struct transfer *transfer)
 {

@@ -18,8 +18,8 @@ struct user {
 };
 
 CONTEXT(struct asked);
-MAP(sessions, u64, struct session, 512, 64, 1000);
-MAP(users, u32, struct user, 256, 16, 1000);
+MAP(sessions, u64, struct session, 512, 64, 4294967295);
+MAP(users, u32, struct user, 256, 16, 4294967295);
 
 u64 may(const struct asked *asked)
 {

@@ -15,7 +15,7 @@ struct pattern {
 };
 
 CONTEXT(struct text);
-MAP(patterns, u32, struct pattern, 128, 16, 1000);
+MAP(patterns, u32, struct pattern, 128, 16, 4294967295);
 
 u64 match(const struct text *text)
 {

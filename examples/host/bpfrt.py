@@ -33,6 +33,8 @@ ANSWERS = {
     "stat": r"stat linked \d+ unlinked \d+ given \d+ worn \d+ runs \d+ open \d+",
 }
 IS_ANSWER = {word: re.compile(rf"{form}|refused \d+(?: at \d+)?").fullmatch for word, form in ANSWERS.items()}
+IS_REFUSAL = re.compile(r"refused \d+(?: at \d+)?").fullmatch
+ARE_EXITS = re.compile(r"(?:exit \d+\n)*").fullmatch
 LONGEST_LINE, MOST_STEPS, RUN_SLOTS = 70_000, 4096, 256
 
 
@@ -150,13 +152,17 @@ class Runtime:
             pass
         return [file for file, _ in ready]
 
+    def _more(self):
+        """Waits for lines. What is left is written meanwhile, so that neither side waits for the other."""
+        if not self._unwritten or self._out in self._wait(self._either):
+            self._read()
+        else:
+            self._write()
+
     def _line(self):
-        """The next line. What is left is written meanwhile, so that neither side waits for the other."""
+        """The next line."""
         while not self._lines:
-            if not self._unwritten or self._out in self._wait(self._either):
-                self._read()
-            else:
-                self._write()
+            self._more()
         return self._lines.popleft()
 
     def _answer(self, command, word):
@@ -173,15 +179,14 @@ class Runtime:
             self._runs.discard(int(command[5:]))
         return "\n".join([*elements, line]) if elements else line
 
-    def batch(self, commands):
-        """The answers to commands, by one write and one read: a line each, refusals among them, and a dump's of several lines."""
-        commands = list(commands)
-        words = [command.split(" ", 1)[0] for command in commands]
-        text = "".join([command + "\n" for command in commands]).encode()
-        if not ANSWERS.keys() >= set(words) or text.count(b"\n") != len(commands):
-            raise ValueError("a command is one line, and its first word one of " + ", ".join(ANSWERS))
-        if len(text) > LONGEST_LINE and max(map(len, text.split(b"\n"))) > LONGEST_LINE:
-            raise ValueError(f"a command has at most {LONGEST_LINE} bytes")
+    def _many(self, count):
+        """So many lines, of commands that have one each."""
+        while len(self._lines) < count:
+            self._more()
+        return [self._lines.popleft() for _ in range(count)]
+
+    def _call(self, text, answers):
+        """Writes commands, and takes their answers: what `answers` gives. A call that is cut off is the last."""
         with self._turn:
             if self._why:
                 raise self._why[0](*self._why[1])
@@ -192,7 +197,7 @@ class Runtime:
                 else:
                     self._unwritten = memoryview(text)
                     self._write()
-                    answers = [self._answer(*it) for it in zip(commands, words)]
+                    taken = answers()
                 if self._rest or self._lines or self._unwritten:
                     raise Broken(f"more than the answers was written: {[*self._lines, self._rest][0][:60]}")
             except BaseException as error:
@@ -200,7 +205,18 @@ class Runtime:
                 self._why = type(told), told.args
                 raise
             self._why = None
-        return answers
+        return taken
+
+    def batch(self, commands):
+        """The answers to commands, by one write and one read: a line each, refusals among them, and a dump's of several lines."""
+        commands = list(commands)
+        words = [command.split(" ", 1)[0] for command in commands]
+        text = "".join([command + "\n" for command in commands]).encode()
+        if not ANSWERS.keys() >= set(words) or text.count(b"\n") != len(commands):
+            raise ValueError("a command is one line, and its first word one of " + ", ".join(ANSWERS))
+        if len(text) > LONGEST_LINE and max(map(len, text.split(b"\n"))) > LONGEST_LINE:
+            raise ValueError(f"a command has at most {LONGEST_LINE} bytes")
+        return self._call(text, lambda: [self._answer(*it) for it in zip(commands, words)])
 
     def ask(self, command):
         """The answer to a command that is not refused."""
@@ -277,19 +293,29 @@ class Runtime:
     def run_many(self, program, contexts):
         """Runs a program on each context, one after another: the exit values. It is one write and one read, since each run has
         the lowest run slot that is free. Where a start is refused, the first such refusal is raised when the others have run."""
-        starts = [f"start {number_word(program)} {hex_word(context)}" for context in contexts]
+        begin = f"start {number_word(program)} "
+        starts = [begin + hex_word(context) for context in contexts]
+        if max(map(len, starts), default=0) > LONGEST_LINE:
+            raise ValueError(f"a command has at most {LONGEST_LINE} bytes")
         with self._turn:
             # The slot behind the last, where none is free: all three lines are refused then.
             slot = next(it for it in range(RUN_SLOTS + 1) if it not in self._runs)
-            answers = self.batch(line for it in starts for line in (it, f"step {slot} {MOST_STEPS}", f"drop {slot}"))
-            rows = [*zip(starts, answers[::3], answers[1::3], answers[2::3])]
-            for start, began, left, dropped in rows:
-                if began.startswith("refused"):
-                    raise Refused(start, began)
-                if began != f"run {slot}" or not left.startswith("exit") or dropped != "ok":
-                    self._why = Broken, (f"run slot {slot} was free, and gave {began}, {left}, {dropped}",)
-                    raise Broken(*self._why[1])
-        return [int(left[5:]) for _, _, left, _ in rows]
+            text = f"\nstep {slot} {MOST_STEPS}\ndrop {slot}\n".join([*starts, ""]).encode()
+            lines = self._call(text, lambda: self._many(3 * len(starts)))
+            began, left, dropped = lines[::3], lines[1::3], lines[2::3]
+            all_ran = began.count(f"run {slot}") == dropped.count("ok") == len(starts)
+            if not (all_ran and ARE_EXITS("\n".join([*left, ""]))):
+                self._tell_first(slot, zip(starts, began, left, dropped))
+        return [int(line[5:]) for line in left]
+
+    def _tell_first(self, slot, rows):
+        """Raises what is wrong with the first run of many that was refused, or was answered otherwise than a run is."""
+        for start, began, left, dropped in rows:
+            if IS_REFUSAL(began):
+                raise Refused(start, began)
+            if began != f"run {slot}" or not ARE_EXITS(left + "\n") or dropped != "ok":
+                self._why = Broken, (f"run slot {slot} was free, and gave {began[:60]}, {left[:60]}, {dropped[:60]}",)
+                raise Broken(*self._why[1])
 
     def advance(self):
         """Ends the grace period, if it can end, and begins the next."""

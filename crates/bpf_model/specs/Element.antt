@@ -30,13 +30,11 @@ newborn map key value count =
 
 abbrev pub is_linked : Life → Bool
 is_linked Linked = true
-is_linked (Unlinked opened) = false
-is_linked Reclaimed = false
+is_linked life = false
 
 abbrev pub is_reclaimed : Life → Bool
-is_reclaimed Linked = false
-is_reclaimed (Unlinked opened) = false
 is_reclaimed Reclaimed = true
+is_reclaimed life = false
 
 abbrev pub with_life : Life → Element → Element
 with_life life e = record e { life = life }

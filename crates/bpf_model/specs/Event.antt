@@ -69,9 +69,8 @@ refusal m (events.Update map key value flags) =
     update_refusal (shape_of m.store map) (length key.items) (length value.items)
 refusal m (events.Delete map key) = key_refusal (shape_of m.store map) (length key.items)
 refusal m (events.Read map key) = key_refusal (shape_of m.store map) (length key.items)
-refusal m events.Advance = None
-refusal m events.Reap = None
 refusal m (events.Drop run) = drop_refusal (run_at m.runs run)
+refusal m event = None
 
 -- The start of a program: the run takes the lowest free run slot.
 pub record Starts (m : Machine) (prog : ℕ) (context : List ℕ) (r : ℕ) (new : Machine) : Type 0 where

@@ -18,8 +18,6 @@ pub mod MapState
 pub mod Opcode
 pub mod Operand
 pub mod Places
-pub mod Plain
-pub mod PlainMaps
 pub mod Real
 pub mod Reclaim
 pub mod Refines

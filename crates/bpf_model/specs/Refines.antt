@@ -75,21 +75,25 @@ pub record MapRefines (slots : List ℕ) (k : ℕ) (es : List Element) (q : Queu
   pub free : SlotsStand v
   pub elements : ElementsStand slots k es v
 
--- A run: its words and bytes stand for its registers and its frame.
-pub record RunRefines (slots : List ℕ) (es : List Element) (programs : List Loaded) (w : RunView)
-    (run : Run) : Type 0 where
-  pub program : slice_get programs w.program ≡ Some run.program
+-- The words and bytes stand for the run's registers and frame, where elements lie at these words.
+pub record AreWords (bases : ℕ → ℕ) (w : RunView) (run : Run) : Type 0 where
   pub context : w.context ≡ run.context
   pub register_count : length w.registers ≡ REGISTERS
   pub registers : (r : ℕ) → r < REGISTERS →
-      WordIs (element_bases slots es) (run.state.regs r) (slice_index w.registers r)
+      WordIs bases (run.state.regs r) (slice_index w.registers r)
   pub cells : length w.frame ≡ FRAME_BYTES
   pub frame : (k : ℕ) → k < FRAME_BYTES →
-      ByteIs (element_bases slots es) (run.state.frame k) (slice_index w.frame k)
+      ByteIs bases (run.state.frame k) (slice_index w.frame k)
   pub place : w.place ≡ run.state.place
   pub depth : w.depth ≡ run.depth
   pub moved : w.moved ≡ run.moved
   pub exit : w.exit ≡ run.exit
+
+-- A run: its program, and its words.
+pub record RunRefines (slots : List ℕ) (es : List Element) (programs : List Loaded) (w : RunView)
+    (run : Run) : Type 0 where
+  pub program : slice_get programs w.program ≡ Some run.program
+  pub words : AreWords (element_bases slots es) w run
 
 abbrev pub RunSlotRefines : List ℕ → List Element → List Loaded → Option (Option RunView) →
     Option (Option Run) → Type 0

@@ -7,7 +7,7 @@ use Rattle.std.specs.Prelude.{◌≡◌, ℕ, List, Some, slice_get}
 -- start: the next run of the same run slot is another run.
 pub record Section : Type 0 where
   pub run : ℕ
-  pub lock : ℕ
+  pub number : ℕ
 
 -- the section is one of them
 abbrev pub Has : List Section → Section → Type 0

@@ -23,7 +23,7 @@ pub enum ArgumentKind {
 #[derive(Clone, Copy, Debug, PartialEq, Eq)]
 pub enum ResultKind {
     ElementOrNull,
-    ErrorNumber,
+    Integer,
 }
 
 /// A kernel function, called by its BTF number: `bpf_rcu_read_lock` (1) and `bpf_rcu_read_unlock` (2).
@@ -124,7 +124,7 @@ impl Helper {
     {
         match self {
             Helper::Lookup => ResultKind::ElementOrNull,
-            Helper::Update | Helper::Delete => ResultKind::ErrorNumber,
+            Helper::Update | Helper::Delete => ResultKind::Integer,
         }
     }
 }

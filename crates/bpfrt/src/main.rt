@@ -4,7 +4,7 @@
 mod progress;
 
 use crate::progress::Progress;
-use commands::{Command, UsageFault, no_command, parse_words, run, unread};
+use commands::{BpfrtCommand, WordsFault, no_command, parse_words, run, unread};
 use std::alloc::Global;
 use std::env;
 use std::fs::File;
@@ -18,7 +18,7 @@ use std::thread::Threads;
 fn run_into<H: Threads + Wait + Sync, W: Write>(
     rt: &HostRuntime,
     threads: &H,
-    command: &Command,
+    command: &BpfrtCommand,
     out: &mut W,
 ) -> u8 {
     let alloc = rt.alloc();
@@ -33,17 +33,16 @@ fn run_into<H: Threads + Wait + Sync, W: Write>(
 }
 
 /// How many jobs a pool has whose progress is told: standard error is a terminal, and the lines go elsewhere.
-fn jobs_told(rt: &HostRuntime, command: &Command) -> Option<u64> {
+fn jobs_told(rt: &HostRuntime, command: &BpfrtCommand) -> Option<u64> {
     match command {
-        Command::Pool { count, .. } if rt.stderr().is_terminal() && !rt.stdout().is_terminal() => {
-            Some(*count)
-        }
+        BpfrtCommand::Pool { count, .. }
+            if rt.stderr().is_terminal() && !rt.stdout().is_terminal() => { Some(*count) }
         _ => None,
     }
 }
 
 /// Runs the command into standard output.
-fn run_told<H: Threads + Wait + Sync>(rt: &HostRuntime, threads: &H, command: &Command) -> u8 {
+fn run_told<H: Threads + Wait + Sync>(rt: &HostRuntime, threads: &H, command: &BpfrtCommand) -> u8 {
     match jobs_told(rt, command) {
         None => run_into(rt, threads, command, &mut rt.stdout()),
         Some(jobs) => {
@@ -57,11 +56,11 @@ fn run_told<H: Threads + Wait + Sync>(rt: &HostRuntime, threads: &H, command: &C
 
 /// The words of the command line, the program's own name first. A word that is not text is no usage
 /// of it.
-fn words_of(rt: &HostRuntime, alloc: Global) -> Result<Vec<String>, UsageFault> {
+fn words_of(rt: &HostRuntime, alloc: Global) -> Result<Vec<String>, WordsFault> {
     let arguments = match env::args(rt) {
         Ok(arguments) => arguments,
-        Err(error) if error.kind() == ErrorKind::OutOfMemory => return Err(UsageFault::Memory),
-        Err(_) => return Err(UsageFault::NotText),
+        Err(error) if error.kind() == ErrorKind::OutOfMemory => return Err(WordsFault::Memory),
+        Err(_) => return Err(WordsFault::NotText),
     };
     let mut words = Vec::new(alloc);
     for word in arguments {
@@ -71,7 +70,7 @@ fn words_of(rt: &HostRuntime, alloc: Global) -> Result<Vec<String>, UsageFault> 
 }
 
 /// Runs the command that the words ask for, and answers the exit status.
-fn status_of<H: Threads + Wait + Sync>(rt: &HostRuntime, threads: &H) -> Result<u8, UsageFault> {
+fn status_of<H: Threads + Wait + Sync>(rt: &HostRuntime, threads: &H) -> Result<u8, WordsFault> {
     let alloc = rt.alloc();
     let words = words_of(rt, alloc)?;
     let command = parse_words(alloc, &words)?;

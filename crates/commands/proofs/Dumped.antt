@@ -4,7 +4,7 @@ use Rattle.std.specs.List.{flat_map}
 use Rattle.bpf_model.specs.View.{MapView}
 use Rattle.script_lines.specs.declared.reply.Reply.{Reply}
 use Rattle.script_lines.specs.declared.reply.Reply.TheVariants.{End}
-use Rattle.script_lines.specs.Answers.{reply_text}
+use Rattle.script_lines.specs.ReplyText.{reply_text}
 use Rattle.control.specs.Replies.{AreElements}
 use Rattle.commands.specs.Runs.{AreDumps}
 

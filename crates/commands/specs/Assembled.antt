@@ -11,8 +11,8 @@ use Rattle.asm.specs.declared.fault.AsmFault.TheVariants as asm_faults
 use Rattle.asm.specs.Faults.{statements_in, IsAsmFault}
 use Rattle.program_files.specs.declared.loader.fault.LoadFault.TheVariants as load_faults
 use Rattle.program_files.specs.ProgramFile.{FileContent, FileSays, IsLoadFault, heading}
-use Rattle.commands.specs.declared.assembling.TextFault.{TextFault}
-use Rattle.commands.specs.declared.assembling.TextFault.TheVariants.{NotUtf8, Flawed, BadHead, Memory}
+use Rattle.commands.specs.declared.assembly.TextFault.{TextFault}
+use Rattle.commands.specs.declared.assembly.TextFault.TheVariants.{NotUtf8, Flawed, BadHead, Memory}
 
 -- the line that stands between a program file's head and its slots
 abbrev pub code_line : List ℕ

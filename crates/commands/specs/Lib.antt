@@ -1,5 +1,6 @@
 pub mod Assembled
 pub mod Commands
+pub mod Filters
 pub mod Outputs
 pub mod Pools
 pub mod Runs

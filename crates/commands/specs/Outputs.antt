@@ -5,7 +5,7 @@ use Rattle.std.specs.Io.KnownBytes.{Appends}
 use Rattle.bpf_model.specs.declared.insn.Insn.{Insn}
 use Rattle.bpf_model.specs.Places.{slot_total}
 use Rattle.program_files.specs.declared.verdict.Verdict.{Verdict}
-use Rattle.program_files.specs.declared.verdict.TheConstants.{MEMORY}
+use Rattle.program_files.specs.Verdicts.{memory_number}
 use Rattle.program_files.specs.Checks.{IsVerifiedFile, IsTextOf, IsDecodeRefusal, IsCheckedRefusal}
 
 -- the verdict has this number, and neither slot nor line
@@ -16,12 +16,12 @@ pub record IsPlainVerdict (code : ℕ) (v : Verdict) : Type 0 where
 
 -- The file, or its code, has a fault other than want of memory.
 abbrev pub IsRefusedByDecode : List ℕ → Type 0
-IsRefusedByDecode bytes = (v : Verdict) × (v.code ≢ MEMORY) × IsDecodeRefusal bytes v
+IsRefusedByDecode bytes = (v : Verdict) × (v.code ≢ memory_number) × IsDecodeRefusal bytes v
 
 -- the file or its code has a fault other than want of memory, or the verifier has such a verdict of
 -- its program
 abbrev pub IsRefusedByCheck : List ℕ → Type 0
-IsRefusedByCheck bytes = (v : Verdict) × (v.code ≢ MEMORY) × IsCheckedRefusal bytes v
+IsRefusedByCheck bytes = (v : Verdict) × (v.code ≢ memory_number) × IsCheckedRefusal bytes v
 
 -- what `check` says of a program of so many instructions and slots
 abbrev pub accepted_line : ℕ → ℕ → List ℕ

@@ -5,14 +5,14 @@ use Rattle.std.specs.Fmt.{decimal}
 use Rattle.std.specs.Io.KnownBytes.{Appends}
 use Rattle.bpf_model.specs.declared.insn.Insn.{Insn}
 use Rattle.job_queue.specs.declared.fault.PoolFault.{PoolFault}
+use Rattle.job_queue.specs.declared.fault.PoolFault.TheVariants.{Lost}
 use Rattle.job_queue.specs.Faults.{pool_fault_number}
 use Rattle.worker_pool.specs.declared.job.Outcome.{Outcome}
 use Rattle.worker_pool.specs.Lines.{job_lines}
 use Rattle.worker_pool.specs.Outcomes.{IsFaultOf, IsOutcomeOf}
 use Rattle.program_files.specs.declared.verdict.Verdict.{Verdict}
-use Rattle.program_files.specs.declared.verdict.TheConstants.{MEMORY}
+use Rattle.program_files.specs.Verdicts.{memory_number}
 use Rattle.program_files.specs.Checks.{IsVerifiedFile, IsCheckedRefusal}
-use Rattle.commands.specs.declared.report.TheConstants.{LOST}
 use Rattle.commands.specs.Outputs.{IsPlainVerdict}
 
 -- how many entries the journal has
@@ -60,4 +60,4 @@ IsPoolRefusal workers count bytes v =
 -- result.
 abbrev pub IsRefusedByPool : ℕ → ℕ → List ℕ → Type 0
 IsRefusedByPool workers count bytes =
-    (v : Verdict) × (v.code ≢ MEMORY) × (v.code ≢ LOST) × IsPoolRefusal workers count bytes v
+    (v : Verdict) × (v.code ≢ memory_number) × (v.code ≢ pool_fault_number Lost) × IsPoolRefusal workers count bytes v

@@ -8,6 +8,7 @@ use Rattle.std.specs.Io.KnownBytes.{Appends}
 use Rattle.bpf_model.specs.declared.event.Event.{Event}
 use Rattle.bpf_model.specs.declared.event.Event.TheVariants.{Update}
 use Rattle.bpf_model.specs.declared.event.EventRefusal.{EventRefusal}
+use Rattle.bpf_model.specs.declared.event.EventRefusal.TheVariants.{BadContext}
 use Rattle.bpf_model.specs.declared.insn.Insn.{Insn}
 use Rattle.bpf_model.specs.declared.limits.MapShape.{MapShape}
 use Rattle.bpf_model.specs.EventNumbers.{event_refusal_number}
@@ -16,10 +17,10 @@ use Rattle.bpf_model.specs.View.{MapView, WorldView, shapes_of_maps}
 use Rattle.maps.specs.Registry.{RegistryView}
 use Rattle.script_lines.specs.declared.reply.Reply.{Reply}
 use Rattle.script_lines.specs.declared.reply.Reply.TheVariants.{End}
-use Rattle.script_lines.specs.Answers.{reply_text}
+use Rattle.script_lines.specs.ReplyText.{reply_text}
 use Rattle.control.specs.Replies.{AreElements}
 use Rattle.program_files.specs.declared.verdict.Verdict.{Verdict}
-use Rattle.program_files.specs.declared.verdict.TheConstants.{MEMORY}
+use Rattle.program_files.specs.Verdicts.{memory_number}
 use Rattle.program_files.specs.Checks.{IsVerifiedFile, IsCheckedRefusal}
 use Rattle.program_files.specs.ProgramFile.{FileContent}
 use Rattle.run_once.specs.declared.once.Ended.{Ended}
@@ -28,7 +29,6 @@ use Rattle.run_once.specs.declared.once.RunEnd.TheVariants.{Exited, NotDone}
 use Rattle.run_once.specs.Once.{ComesTo}
 use Rattle.commands.specs.declared.request.MapElement.{MapElement}
 use Rattle.commands.specs.declared.request.SingleRun.{SingleRun}
-use Rattle.commands.specs.declared.report.TheConstants.{BAD_CONTEXT, NO_PLACE}
 use Rattle.commands.specs.Outputs.{IsPlainVerdict}
 
 -- the number of the map that has the name
@@ -91,11 +91,16 @@ abbrev pub IsDumped : Bool → List MapView → List ℕ → Type 0
 IsDumped true maps text = AreDumps maps text
 IsDumped false maps text = text ≡ []
 
+-- the text that tells the run: how it has exited, and what is in its maps
+abbrev pub IsRunText : SingleRun → List ℕ → List ℕ → Type 0
+IsRunText single bytes text =
+    (e : Ended) × (last : WorldView) × (dumped : List ℕ) × HasEnded bytes single e last
+    × IsDumped single.dump last.maps dumped × (text ≡ ended_line e.value e.steps ++ dumped)
+
 -- what `run` adds to the output
 abbrev pub WritesRun : SingleRun → Option (List ℕ) → Option (List ℕ) → List ℕ → Type 0
 WritesRun single old new bytes =
-    (e : Ended) × (last : WorldView) × (dumped : List ℕ) × HasEnded bytes single e last
-    × IsDumped single.dump last.maps dumped × Appends old new (ended_line e.value e.steps ++ dumped)
+    (text : List ℕ) × IsRunText single bytes text × Appends old new text
 
 -- the first element that fails a test fails this one
 abbrev pub HasBadElement : RegistryView → List MapElement → EventRefusal → Type 0
@@ -103,18 +108,22 @@ HasBadElement maps elements r =
     (good : List MapElement) × (bad : MapElement) × (others : List MapElement)
     × (elements ≡ good ++ bad ∷ others) × AllFit maps good × (element_refusal maps bad ≡ Some r)
 
+-- the number of an element that its map has no place for
+abbrev pub no_place_number : ℕ
+no_place_number = 98
+
 -- What this number tells of a run: the context has another length than the file tells; or it has
 -- that, and the first element that fails a test fails this one; or all fit, and one isn't put, since
 -- its map has no place for it.
 abbrev pub IsRunFault : SingleRun → FileContent → List Insn → ℕ → Type 0
 IsRunFault single content program number =
-    ((length single.context.items ≢ content.ctx_len) × (number ≡ BAD_CONTEXT))
+    ((length single.context.items ≢ content.ctx_len) × (number ≡ event_refusal_number BadContext))
     ⊎ ((length single.context.items ≡ content.ctx_len)
     × (((r : EventRefusal) × HasBadElement content.registry single.elements.items r
     × (number ≡ event_refusal_number r))
     ⊎ (AllFit content.registry single.elements.items
     × ((k : ℕ) × (last : WorldView) × RunComesTo single content program (NotDone k) last)
-    × (number ≡ NO_PLACE))))
+    × (number ≡ no_place_number))))
 
 -- The file says a program that is verified with its maps and context, and its run has a fault.
 pub record IsRunVerdict (single : SingleRun) (bytes : List ℕ) (v : Verdict) : Type 0 where
@@ -130,4 +139,4 @@ IsRunRefusal single bytes v = IsCheckedRefusal bytes v ⊎ IsRunVerdict single b
 
 -- `run` refuses the file, the context or an element, by a verdict that is not want of memory.
 abbrev pub IsRefusedByRun : SingleRun → List ℕ → Type 0
-IsRefusedByRun single bytes = (v : Verdict) × (v.code ≢ MEMORY) × IsRunRefusal single bytes v
+IsRefusedByRun single bytes = (v : Verdict) × (v.code ≢ memory_number) × IsRunRefusal single bytes v

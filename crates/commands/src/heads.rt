@@ -59,21 +59,17 @@ fn last_line(head: &str) -> usize
 
 /// The slots of a program's bytes, a line of digits each.
 fn slots_of(alloc: Global, code: &[u8]) -> Result<Vec<u8>, AllocError> {
-    const DIGITS: &[u8; 16] = b"0123456789abcdef";
     let mut slots = Vec::new(alloc);
-    for number in 0..code.len() {
-        let byte = code[number];
-        slots.push(DIGITS[usize::from(byte >> 4)])?;
-        slots.push(DIGITS[usize::from(byte & 15)])?;
-        if number % 8 == 7 {
-            slots.push(b'\n')?;
-        }
+    let digits = hex::encode(alloc, code)?;
+    for slot in digits.as_bytes().chunks(16) {
+        slots.extend_from_slice(slot)?;
+        slots.push(b'\n')?;
     }
     Ok(slots)
 }
 
 /// The text of a program file: a head, and the slots of a program's bytes.
-fn text_of(alloc: Global, head: &str, code: &[u8]) -> Result<Vec<u8>, AllocError>
+pub fn text_of(alloc: Global, head: &str, code: &[u8]) -> Result<Vec<u8>, AllocError>
     ensures { IfOk result (λ file. (slots : List ℕ)
         × (file.items ≡ heading ++ (head.now ++ (code_line ++ slots)))) }
 {

@@ -138,3 +138,24 @@ Example:
   exit 42 steps 12
   00000000 2a00000000000000
   end";
+
+/// Behind the arguments of `bpfrt filter --help`.
+pub const FILTER_HELP: &str = "\
+Reads a classic BPF program: a filter as `tcpdump -ddd` writes it, or with --seccomp a policy as libseccomp exports
+it. `-` is standard input.
+
+Prints a program file, whose program exits with what the classic program returns. The context of a filter is how
+many bytes were captured and how many the packet had on the wire, 4 bytes each with the lowest first, and 248 bytes
+of packet, zeros behind what was captured; that of a policy is struct seccomp_data (examples/filters).
+
+Status, and the line on standard error:
+  0  written
+  1  refused 100, 101 at L, 102  no such text, line L of it, or array
+     refused C, refused C at I   it is no program, or has no translation, by instruction I from 0: 103 to 113
+                                 (docs/REFUSALS.md)
+  2  usage
+  3  fault 13, 96, 97            out of memory; FILE or the output failed
+
+Example:
+  $ printf '1\\n6 0 0 262144\\n' | bpfrt filter - | bpfrt check /dev/stdin
+  accepted 25 instructions 25 slots";

@@ -1,22 +1,23 @@
 //! The commands of the program `bpfrt`: which one words ask for, and what each reads, writes and answers.
 #![tactic(auto)]
 
-mod assembling;
-mod dumping;
+mod assembly;
+mod dispatch;
+mod dump;
+mod filter;
 mod heads;
 mod help;
 mod pool;
-mod putting;
+mod puts;
 mod report;
 mod request;
-mod running;
 mod script;
 mod single;
 mod streams;
 mod words;
 
+pub use dispatch::run;
 pub use report::no_command;
-pub use request::{Command, MapElement, SingleRun, UsageFault};
-pub use running::run;
+pub use request::{BpfrtCommand, FilterFile, MapElement, SingleRun, WordsFault};
 pub use streams::unread;
 pub use words::parse_words;

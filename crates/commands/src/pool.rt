@@ -8,7 +8,7 @@ ghost use Rattle.commands.specs.Pools.{entries_line, IsProgramOf, IsRefusedByPoo
 
 use crate::report::{plain_verdict, refused};
 use crate::streams::{unread, written};
-use program_files::{FileBytes, Verdict, VerifiedSource, read_file, verify_source};
+use program_files::{FileBytes, Verdict, read_file, verify_for_maps};
 use std::alloc::Global;
 use std::io;
 use std::io::{Read, Write};
@@ -33,9 +33,11 @@ fn program_of(alloc: Global, file: &FileBytes) -> Result<ProgramWithMaps, Verdic
         IfErr result (IsCheckedRefusal bytes) }
 {
     let source = file.source(alloc)?;
-    let checked = verify_source(alloc, source)?;
-    let VerifiedSource { verified, registry } = checked;
-    Ok(ProgramWithMaps { verified, registry })
+    let verified = verify_for_maps(alloc, source.program, &source.registry, source.ctx_len)?;
+    Ok(ProgramWithMaps {
+        verified,
+        registry: source.registry,
+    })
 }
 
 /// Writes how many entries the journal has.

@@ -1,7 +1,11 @@
 //! What the program can be asked to do.
 
+use classic::Data;
 use std::alloc::{AllocError, AllocFailed};
 use thiserror::Error;
+
+/// The version of the program. `docs/CHANGELOG.md` says what each has.
+pub const VERSION: &str = "0.1.0";
 
 /// An element that is put into the map of a name.
 #[derive(Debug, Drop)]
@@ -20,9 +24,16 @@ pub struct SingleRun {
     pub dump: bool,
 }
 
+/// Where a classic program is read from.
+#[derive(Debug, Drop)]
+pub enum FilterFile {
+    StandardInput,
+    Path(String),
+}
+
 /// What the program is asked to do.
 #[derive(Debug, Drop)]
-pub enum Command {
+pub enum BpfrtCommand {
     /// Verify the program in a file and say how long it is; or why it is refused, in words too.
     Check {
         file: String,
@@ -52,11 +63,16 @@ pub enum Command {
         file: String,
         single: SingleRun,
     },
+    /// Write the program file of the classic program in a file, a filter of packets or a policy of system calls.
+    Filter {
+        file: FilterFile,
+        kind: Data,
+    },
 }
 
 /// Why the words are no command.
 #[derive(Debug, Drop, Error)]
-pub enum UsageFault {
+pub enum WordsFault {
     /// The words are refused; the text says why, or is the help that was asked for.
     #[error("{0}")]
     Usage(String),
@@ -68,38 +84,42 @@ pub enum UsageFault {
     Memory,
 }
 
-impl From<AllocError> for UsageFault {
+impl From<AllocError> for WordsFault {
     ghost use Rattle.std.specs.Prelude.{◌≡◌};
-    ghost use Rattle.commands.specs.declared.request.UsageFault.TheVariants.{Memory};
+    ghost use Rattle.commands.specs.declared.request.WordsFault.TheVariants.{Memory};
 
     ghost from_gives = { λ _ e. e ≡ Memory };
 
-    fn from(_: AllocError) -> UsageFault {
-        UsageFault::Memory
+    fn from(_: AllocError) -> WordsFault {
+        WordsFault::Memory
     }
 }
 
-impl<T: Drop> From<AllocFailed<T>> for UsageFault {
+impl<T: Drop> From<AllocFailed<T>> for WordsFault {
     ghost use Rattle.std.specs.Prelude.{◌≡◌};
-    ghost use Rattle.commands.specs.declared.request.UsageFault.TheVariants.{Memory};
+    ghost use Rattle.commands.specs.declared.request.WordsFault.TheVariants.{Memory};
 
     ghost from_gives = { λ _ e. e ≡ Memory };
 
-    fn from(_: AllocFailed<T>) -> UsageFault {
-        UsageFault::Memory
+    fn from(_: AllocFailed<T>) -> WordsFault {
+        WordsFault::Memory
     }
 }
 
-impl Command {
+impl BpfrtCommand {
     /// The path of the file that the command reads; none where it reads standard input, or nothing.
     pub fn file(&self) -> Option<&str> {
         match self {
-            Command::Check { file, .. }
-            | Command::Disasm { file }
-            | Command::Asm { file, .. }
-            | Command::Pool { file, .. }
-            | Command::Run { file, .. } => Some(file.as_str()),
-            Command::Script | Command::Version => None,
+            BpfrtCommand::Check { file, .. }
+            | BpfrtCommand::Disasm { file }
+            | BpfrtCommand::Asm { file, .. }
+            | BpfrtCommand::Pool { file, .. }
+            | BpfrtCommand::Run { file, .. } => Some(file.as_str()),
+            BpfrtCommand::Filter { file, .. } => match file {
+                FilterFile::Path(path) => Some(path.as_str()),
+                FilterFile::StandardInput => None,
+            },
+            BpfrtCommand::Script | BpfrtCommand::Version => None,
         }
     }
 }

@@ -2,35 +2,17 @@
 ghost use Rattle.std.specs.Prelude.{◌≡◌, OnOk, MatchResult};
 ghost use Rattle.std.specs.Io.KnownBytes.{Appends};
 
-use crate::report::{READ, WRITE, fault};
-use program_files::MEMORY;
+use crate::report::fault;
+use script_stream::{ScriptFault, stream_fault};
 use std::io;
-use std::io::{ErrorKind, Write};
-
-/// On which side of the program a stream failed.
-#[derive(Clone, Copy)]
-enum Side {
-    Input,
-    Output,
-}
-
-/// The fault of a stream: want of memory, or that of its side.
-fn stream_fault(error: &io::Error, side: Side) -> u8 {
-    if error.kind() == ErrorKind::OutOfMemory {
-        return MEMORY;
-    }
-    match side {
-        Side::Input => READ,
-        Side::Output => WRITE,
-    }
-}
+use std::io::Write;
 
 /// The status where an input cannot be opened or read, which is told on `err`: out of memory, `fault 13`,
 /// or else `fault 96`.
 pub fn unread<E: Write>(err: &mut E, error: &io::Error) -> u8
     ensures { result ≡ 3 }
 {
-    fault(err, stream_fault(error, Side::Input))
+    fault(err, stream_fault(error, ScriptFault::Read).code())
 }
 
 /// Writes all of a text, and flushes the stream.
@@ -47,6 +29,6 @@ pub fn written<E: Write>(err: &mut E, outcome: io::Result<()>) -> u8
 {
     match outcome {
         Ok(()) => 0,
-        Err(error) => fault(err, stream_fault(&error, Side::Output)),
+        Err(error) => fault(err, stream_fault(&error, ScriptFault::Write).code()),
     }
 }

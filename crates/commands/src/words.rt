@@ -1,9 +1,12 @@
 //! The words of the command line.
 
-use crate::help::{ASM_HELP, CHECK_HELP, DISASM_HELP, HELP, POOL_HELP, RUN_HELP, SCRIPT_HELP};
-use crate::request::{Command, MapElement, SingleRun, UsageFault};
+use crate::help::{
+    ASM_HELP, CHECK_HELP, DISASM_HELP, FILTER_HELP, HELP, POOL_HELP, RUN_HELP, SCRIPT_HELP,
+};
+use crate::request::{BpfrtCommand, FilterFile, MapElement, SingleRun, VERSION, WordsFault};
 use clap::error::ErrorKind;
 use clap::{Arg, ArgAction, ArgMatches};
+use classic::Data;
 use hex::{FromHexError, decode};
 use script_lines::number_of;
 use std::alloc::{AllocError, Global};
@@ -68,6 +71,27 @@ fn run_grammar<'a>(alloc: Global) -> Result<clap::Command<'a>, AllocError> {
         )
 }
 
+/// The grammar of the words of `filter`.
+fn filter_grammar<'a>(alloc: Global) -> Result<clap::Command<'a>, AllocError> {
+    clap::Command::new(alloc, "filter")
+        .about("Translates the classic program in FILE, and writes a program file")
+        .after_help(FILTER_HELP)
+        .arg(
+            Arg::new(alloc, "FILE")
+                .help(
+                    "what `tcpdump -ddd` writes, or of a seccomp policy an array of struct sock_filter; `-` for standard input",
+                )
+                .required(true)
+                .action(ArgAction::Set),
+        )?
+        .arg(
+            Arg::new(alloc, "seccomp")
+                .long("seccomp")
+                .help("take a policy of system calls, as libseccomp exports it")
+                .action(ArgAction::SetTrue),
+        )
+}
+
 /// The grammar of the words.
 fn grammar<'a>(alloc: Global) -> Result<clap::Command<'a>, AllocError> {
     let check = clap::Command::new(alloc, "check")
@@ -104,7 +128,7 @@ fn grammar<'a>(alloc: Global) -> Result<clap::Command<'a>, AllocError> {
         .after_help(SCRIPT_HELP);
     clap::Command::new(alloc, "bpfrt")
         .about("An eBPF runtime with proved contracts")
-        .version("0.1.0")
+        .version(VERSION)
         .after_help(HELP)
         .subcommand_required(true)
         .subcommand(check)?
@@ -112,7 +136,8 @@ fn grammar<'a>(alloc: Global) -> Result<clap::Command<'a>, AllocError> {
         .subcommand(asm)?
         .subcommand(script)?
         .subcommand(pool_grammar(alloc)?)?
-        .subcommand(run_grammar(alloc)?)
+        .subcommand(run_grammar(alloc)?)?
+        .subcommand(filter_grammar(alloc)?)
 }
 
 /// The text without white space behind it, and with U+FFFD for each other control character, which could come
@@ -126,26 +151,26 @@ fn shown(alloc: Global, text: &str) -> Result<String, AllocError> {
     Ok(shown)
 }
 
-fn usage_fault(alloc: Global, text: Result<String, AllocError>) -> UsageFault {
+fn usage_fault(alloc: Global, text: Result<String, AllocError>) -> WordsFault {
     match text.and_then(|text| shown(alloc, text.as_str())) {
-        Ok(text) => UsageFault::Usage(text),
-        Err(_) => UsageFault::Memory,
+        Ok(text) => WordsFault::Usage(text),
+        Err(_) => WordsFault::Memory,
     }
 }
 
 /// The command that the word names but for the case of its letters.
 fn command_in_other_case(word: &str) -> Option<&'static str> {
-    ["check", "disasm", "asm", "script", "pool", "run"]
+    ["check", "disasm", "asm", "script", "pool", "run", "filter"]
         .into_iter()
         .find(|name| word.eq_ignore_ascii_case(name))
 }
 
 /// Why the words are no command. `clap` finds no command near a word that differs from it in every
 /// letter's case.
-fn usage(alloc: Global, error: &clap::Error, words: &[String]) -> UsageFault {
+fn usage(alloc: Global, error: &clap::Error, words: &[String]) -> WordsFault {
     let first = words.get(1).map_or("", String::as_str);
     match (error.kind(), command_in_other_case(first)) {
-        (ErrorKind::OutOfMemory, _) => UsageFault::Memory,
+        (ErrorKind::OutOfMemory, _) => WordsFault::Memory,
         (ErrorKind::InvalidSubcommand, Some(name)) => {
             let text = format!(in alloc;
                 "\
@@ -163,15 +188,15 @@ For more information, try '--help'."
     }
 }
 
-fn file_of(alloc: Global, matches: &ArgMatches<'_>) -> Result<String, UsageFault> {
+fn file_of(alloc: Global, matches: &ArgMatches<'_>) -> Result<String, WordsFault> {
     match matches.get_str("FILE") {
         Some(file) => Ok(String::from_str(alloc, file)?),
-        None => Err(UsageFault::Usage(String::from_str(alloc, "a file is missing")?)),
+        None => Err(WordsFault::Usage(String::from_str(alloc, "a file is missing")?)),
     }
 }
 
 /// The number that the argument of this name is.
-fn number_at(alloc: Global, matches: &ArgMatches<'_>, id: &str) -> Result<u64, UsageFault> {
+fn number_at(alloc: Global, matches: &ArgMatches<'_>, id: &str) -> Result<u64, WordsFault> {
     let word = matches.get_str(id).unwrap_or("");
     match number_of(word.as_bytes()) {
         Some(number) => Ok(number),
@@ -190,7 +215,7 @@ For more information, try 'bpfrt pool --help'."
 }
 
 /// The fault of a word of `run` that is no value of an argument.
-fn bad_value(alloc: Global, word: &str, argument: &str, why: &str) -> UsageFault {
+fn bad_value(alloc: Global, word: &str, argument: &str, why: &str) -> WordsFault {
     let text = format!(in alloc;
         "\
 error: invalid value '{word}' for '{argument}': {why}
@@ -203,16 +228,16 @@ For more information, try 'bpfrt run --help'."
 }
 
 /// The bytes that a word is, two hexadecimal digits each, in either case.
-fn bytes_of(alloc: Global, word: &str) -> Result<Option<Vec<u8>>, UsageFault> {
+fn bytes_of(alloc: Global, word: &str) -> Result<Option<Vec<u8>>, WordsFault> {
     match decode(alloc, word) {
         Ok(bytes) => Ok(Some(bytes)),
-        Err(FromHexError::OutOfMemory) => Err(UsageFault::Memory),
+        Err(FromHexError::OutOfMemory) => Err(WordsFault::Memory),
         Err(_) => Ok(None),
     }
 }
 
 /// The context that the words of `run` tell.
-fn context_of(alloc: Global, matches: &ArgMatches<'_>) -> Result<Vec<u8>, UsageFault> {
+fn context_of(alloc: Global, matches: &ArgMatches<'_>) -> Result<Vec<u8>, WordsFault> {
     let word = matches.get_str("CTX").unwrap_or("");
     match bytes_of(alloc, word)? {
         Some(bytes) => Ok(bytes),
@@ -224,7 +249,7 @@ fn context_of(alloc: Global, matches: &ArgMatches<'_>) -> Result<Vec<u8>, UsageF
 }
 
 /// The element that a word `KEY=VALUE` is, if it is one.
-fn element_of(alloc: Global, map: &str, word: &str) -> Result<Option<MapElement>, UsageFault> {
+fn element_of(alloc: Global, map: &str, word: &str) -> Result<Option<MapElement>, WordsFault> {
     let Some((key, value)) = word.split_once('=') else {
         return Ok(None);
     };
@@ -243,7 +268,7 @@ fn push_elements(
     alloc: Global,
     elements: &mut Vec<MapElement>,
     words: &[&str],
-) -> Result<(), UsageFault> {
+) -> Result<(), WordsFault> {
     let Some((map, words)) = words.split_first() else {
         return Ok(());
     };
@@ -260,7 +285,7 @@ fn push_elements(
 }
 
 /// The elements that the words of `run` tell.
-fn elements_of(alloc: Global, matches: &ArgMatches<'_>) -> Result<Vec<MapElement>, UsageFault> {
+fn elements_of(alloc: Global, matches: &ArgMatches<'_>) -> Result<Vec<MapElement>, WordsFault> {
     let mut elements = Vec::new(alloc);
     if let Some(uses) = matches.get_raw_occurrences("map") {
         for words in uses {
@@ -271,8 +296,8 @@ fn elements_of(alloc: Global, matches: &ArgMatches<'_>) -> Result<Vec<MapElement
 }
 
 /// The words of `pool`. They are judged before the file is read.
-fn pool_of(alloc: Global, matches: &ArgMatches<'_>) -> Result<Command, UsageFault> {
-    Ok(Command::Pool {
+fn pool_of(alloc: Global, matches: &ArgMatches<'_>) -> Result<BpfrtCommand, WordsFault> {
+    Ok(BpfrtCommand::Pool {
         workers: number_at(alloc, matches, "WORKERS")?,
         file: file_of(alloc, matches)?,
         count: number_at(alloc, matches, "COUNT")?,
@@ -280,8 +305,8 @@ fn pool_of(alloc: Global, matches: &ArgMatches<'_>) -> Result<Command, UsageFaul
 }
 
 /// The words of `run`. They are judged before the file is read.
-fn run_of(alloc: Global, matches: &ArgMatches<'_>) -> Result<Command, UsageFault> {
-    Ok(Command::Run {
+fn run_of(alloc: Global, matches: &ArgMatches<'_>) -> Result<BpfrtCommand, WordsFault> {
+    Ok(BpfrtCommand::Run {
         file: file_of(alloc, matches)?,
         single: SingleRun {
             context: context_of(alloc, matches)?,
@@ -291,30 +316,47 @@ fn run_of(alloc: Global, matches: &ArgMatches<'_>) -> Result<Command, UsageFault
     })
 }
 
+/// The words of `filter`.
+fn filter_of(alloc: Global, matches: &ArgMatches<'_>) -> Result<BpfrtCommand, WordsFault> {
+    let path = file_of(alloc, matches)?;
+    let file = if path.as_str() == "-" {
+        FilterFile::StandardInput
+    } else {
+        FilterFile::Path(path)
+    };
+    let kind = if matches.get_flag("seccomp") {
+        Data::Seccomp
+    } else {
+        Data::Packet
+    };
+    Ok(BpfrtCommand::Filter { file, kind })
+}
+
 /// The command that the words ask for. The first word is the program's own name.
 ///
-/// Help, too, is a `UsageFault`, since it is no command to run. The version is one.
-pub fn parse_words<'a>(alloc: Global, words: &'a [String]) -> Result<Command, UsageFault> {
+/// Help, too, is a `WordsFault`, since it is no command to run. The version is one.
+pub fn parse_words<'a>(alloc: Global, words: &'a [String]) -> Result<BpfrtCommand, WordsFault> {
     let matches = match grammar(alloc)?.try_get_matches_from(words) {
         Ok(matches) => matches,
-        Err(error) if error.kind() == ErrorKind::DisplayVersion => return Ok(Command::Version),
+        Err(error) if error.kind() == ErrorKind::DisplayVersion => return Ok(BpfrtCommand::Version),
         Err(error) => return Err(usage(alloc, &error, words)),
     };
     match matches.subcommand() {
-        Some(("check", matches)) => Ok(Command::Check {
+        Some(("check", matches)) => Ok(BpfrtCommand::Check {
             file: file_of(alloc, matches)?,
             explain: matches.get_flag("explain"),
         }),
-        Some(("disasm", matches)) => Ok(Command::Disasm {
+        Some(("disasm", matches)) => Ok(BpfrtCommand::Disasm {
             file: file_of(alloc, matches)?,
         }),
-        Some(("asm", matches)) => Ok(Command::Asm {
+        Some(("asm", matches)) => Ok(BpfrtCommand::Asm {
             file: file_of(alloc, matches)?,
             whole: matches.get_flag("file"),
         }),
-        Some(("script", _)) => Ok(Command::Script),
+        Some(("script", _)) => Ok(BpfrtCommand::Script),
         Some(("pool", matches)) => pool_of(alloc, matches),
         Some(("run", matches)) => run_of(alloc, matches),
-        _ => Err(UsageFault::Usage(String::from_str(alloc, "a command is missing")?)),
+        Some(("filter", matches)) => filter_of(alloc, matches),
+        _ => Err(WordsFault::Usage(String::from_str(alloc, "a command is missing")?)),
     }
 }

@@ -1,5 +1,5 @@
 //! Commands, each with what it is answered, through `run_script`. Those of `checks/data/scripts` go through the program.
-use crate::making::Dialogue;
+use crate::dialogue::Dialogue;
 use control::{ScriptFault, run_script};
 use std::test::Fail;
 

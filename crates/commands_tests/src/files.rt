@@ -1,6 +1,6 @@
 //! Files that `check` and `disasm` read.
 
-use crate::running::{EXIT, EXIT_ONE, LOOKUP_FILE, WIDE, command_of, output, refusal, runs};
+use crate::command_runs::{EXIT, EXIT_ONE, LOOKUP_FILE, WIDE, command_of, output, refusal, runs};
 use std::test::Fail;
 
 /// Files that `check` refuses, and what it says of each on standard error. Those of `checks/data/files` go through the

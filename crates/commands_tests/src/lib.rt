@@ -5,6 +5,10 @@
 #[cfg(test)]
 mod answers;
 #[cfg(test)]
+mod command_runs;
+#[cfg(test)]
+mod dialogue;
+#[cfg(test)]
 mod dialogues;
 #[cfg(test)]
 mod explained;
@@ -13,11 +17,7 @@ mod files;
 #[cfg(test)]
 mod lines;
 #[cfg(test)]
-mod making;
-#[cfg(test)]
 mod pools;
-#[cfg(test)]
-mod running;
 #[cfg(test)]
 mod scripts;
 #[cfg(test)]

@@ -1,6 +1,6 @@
 //! Lines, and what they say: what their answers do not show. The others stand in `checks/data`.
 use crate::shown::shown;
-use script_lines::LINE_BYTES;
+use script_stream::LINE_BYTES;
 use std::test::Fail;
 
 /// Lines, and what each says: numbers at their limit, no bytes, bytes in either case, spaces, and names that are no text.

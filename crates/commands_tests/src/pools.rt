@@ -1,6 +1,6 @@
 //! Pools of workers.
 
-use crate::running::{EXIT, EXIT_ONE, LOOKUP_FILE, output, pool_of, refusal, runs};
+use crate::command_runs::{EXIT, EXIT_ONE, LOOKUP_FILE, output, pool_of, refusal, runs};
 use commands::run as run_command;
 use std::alloc::Global;
 use std::io;

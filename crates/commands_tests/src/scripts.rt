@@ -1,7 +1,7 @@
 //! Scripts on standard input.
 
-use crate::running::{Wanted, runs};
-use commands::Command;
+use crate::command_runs::{Wanted, runs};
+use commands::BpfrtCommand;
 use std::test::Fail;
 
 /// Scripts, their answers, and what is said where a line is no command.
@@ -29,7 +29,7 @@ fn scripts(rt: HostRuntime) -> Result<(), Fail> {
             out,
             err,
         };
-        runs(&rt, rt.alloc(), &Command::Script, &mut input, &wanted)?;
+        runs(&rt, rt.alloc(), &BpfrtCommand::Script, &mut input, &wanted)?;
     }
     Ok(())
 }

@@ -2,7 +2,7 @@
 //! array's shape), and its bytes in hexadecimal behind a colon (`:..` where there are more than any such thing has).
 use arrayvec::ArrayVec;
 use bpf_model::{KEY_BYTES, MAX_MAPS, MapKind};
-use script_lines::{Bytes, Code, Command, Name, Names, ShapeNumbers, parse_line};
+use script_lines::{Bytes, Code, Name, Names, ScriptCommand, ShapeNumbers, parse_line};
 use std::alloc::{AllocError, Global};
 use std::fmt::Write;
 
@@ -82,15 +82,19 @@ fn push_load(
     Ok(())
 }
 
-fn push_command(out: &mut String, alloc: Global, command: Command<'_>) -> Result<(), AllocError> {
+fn push_command(
+    out: &mut String,
+    alloc: Global,
+    command: ScriptCommand<'_>,
+) -> Result<(), AllocError> {
     match command {
-        Command::Map { name, shape } => push_map(out, &name, shape),
-        Command::Load {
+        ScriptCommand::Map { name, shape } => push_map(out, &name, shape),
+        ScriptCommand::Load {
             ctx_len,
             code,
             maps,
         } => push_load(out, alloc, ctx_len, &code, maps),
-        Command::Put {
+        ScriptCommand::Put {
             map,
             key,
             value,
@@ -100,18 +104,18 @@ fn push_command(out: &mut String, alloc: Global, command: Command<'_>) -> Result
             push_bytes(out, &value)?;
             write!(out, " {flags}")
         }
-        Command::Get { map, key } => push_keyed(out, "get", &map, &key),
-        Command::Del { map, key } => push_keyed(out, "del", &map, &key),
-        Command::Start { prog, ctx } => {
+        ScriptCommand::Get { map, key } => push_keyed(out, "get", &map, &key),
+        ScriptCommand::Del { map, key } => push_keyed(out, "del", &map, &key),
+        ScriptCommand::Start { prog, ctx } => {
             write!(out, "start {prog}")?;
             push_bytes(out, &ctx)
         }
-        Command::Step { run, count } => write!(out, "step {run} {count}"),
-        Command::Advance => out.push_str("advance"),
-        Command::Reap => out.push_str("reap"),
-        Command::Drop { run } => write!(out, "drop {run}"),
-        Command::Stat => out.push_str("stat"),
-        Command::Dump { map } => {
+        ScriptCommand::Step { run, count } => write!(out, "step {run} {count}"),
+        ScriptCommand::Advance => out.push_str("advance"),
+        ScriptCommand::Reap => out.push_str("reap"),
+        ScriptCommand::Drop { run } => write!(out, "drop {run}"),
+        ScriptCommand::Stat => out.push_str("stat"),
+        ScriptCommand::Dump { map } => {
             out.push_str("dump")?;
             push_name(out, &map)
         }

@@ -1,6 +1,6 @@
 //! Programs that are run once.
 
-use crate::running::{EXIT, EXIT_ONE, LOOKUP_FILE, WIDE, output, refusal, run_of, runs};
+use crate::command_runs::{EXIT, EXIT_ONE, LOOKUP_FILE, WIDE, output, refusal, run_of, runs};
 use std::test::Fail;
 
 /// The sum of the context's two bytes.

@@ -1,9 +1,9 @@
 //! Readers that are slow, fail or never end, and writers that fail.
 
-use crate::running::{
+use crate::command_runs::{
     EXIT, EXIT_ONE, WIDE, Wanted, command_of, fault, output, pool_of, run_of, runs,
 };
-use commands::{Command, run as run_command};
+use commands::{BpfrtCommand, run as run_command};
 use std::io;
 use std::io::{ErrorKind, Read, Write};
 use std::test::Fail;
@@ -91,7 +91,7 @@ const HEAD: &[u8] = b"bpfrt 1\nctx 0\ncode\n";
 fn readers(rt: HostRuntime) -> Result<(), Fail> {
     let alloc = rt.alloc();
     let (check, disasm) = (command_of(alloc, false)?, command_of(alloc, true)?);
-    let (script, pool) = (Command::Script, pool_of(alloc, 1, 1)?);
+    let (script, pool) = (BpfrtCommand::Script, pool_of(alloc, 1, 1)?);
     let single = run_of(alloc, b"", &[], true)?;
     let answered = Wanted {
         status: 3,
@@ -106,7 +106,7 @@ fn readers(rt: HostRuntime) -> Result<(), Fail> {
     let endless = fault(b"fault 13\n");
     let text = output(b"lddw r0, 8589934593\nexit\n");
     let slow = output(b"ok\nnone\n");
-    let rows: [(&Command, &[u8], Then, bool, Wanted<'_>); 9] = [
+    let rows: [(&BpfrtCommand, &[u8], Then, bool, Wanted<'_>); 9] = [
         (&check, b"", Then::Fails, false, fault(b"fault 96\n")),
         (&script, b"", Then::Fails, false, fault(b"fault 96\n")),
         (&pool, b"", Then::Fails, false, fault(b"fault 96\n")),
@@ -134,9 +134,9 @@ fn readers(rt: HostRuntime) -> Result<(), Fail> {
 fn writers(rt: HostRuntime) -> Result<(), Fail> {
     let alloc = rt.alloc();
     let check = command_of(alloc, false)?;
-    let (script, pool) = (Command::Script, pool_of(alloc, 1, 1)?);
+    let (script, pool) = (BpfrtCommand::Script, pool_of(alloc, 1, 1)?);
     let single = run_of(alloc, b"", &[], true)?;
-    let rows: [(&Command, &[u8], Taking, u64, u8); 9] = [
+    let rows: [(&BpfrtCommand, &[u8], Taking, u64, u8); 9] = [
         (&check, &EXIT_ONE, Taking::Failing, 1, 3),
         (&pool, &EXIT_ONE, Taking::Failing, 1, 3),
         (&single, &EXIT_ONE, Taking::Failing, 1, 3),

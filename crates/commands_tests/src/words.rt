@@ -1,13 +1,18 @@
 //! The words of the command line.
 
-use commands::{Command, MapElement, UsageFault, no_command, parse_words};
+use classic::Data;
+use commands::{BpfrtCommand, FilterFile, MapElement, WordsFault, no_command, parse_words};
 use std::alloc::Global;
 use std::fmt::Write;
 use std::process::Abort;
 use std::test::Fail;
 
 /// The command that words ask for, or the text of the usage fault as `no_command` writes it.
-fn asked(rt: &impl Abort, alloc: Global, texts: &[&str]) -> Result<Result<Command, String>, Fail> {
+fn asked(
+    rt: &impl Abort,
+    alloc: Global,
+    texts: &[&str],
+) -> Result<Result<BpfrtCommand, String>, Fail> {
     let mut words = Vec::new(alloc);
     for text in texts {
         words.push(String::from_str(alloc, text)?)?;
@@ -68,22 +73,22 @@ fn words_of_commands(rt: HostRuntime) -> Result<(), Fail> {
     }
     let check = asked(&rt, alloc, &["bpfrt", "check", "a.bpf"])?;
     assert!(rt;
-        matches!(&check, Ok(Command::Check { file, explain: false }) if file.as_str() == "a.bpf")
+        matches!(&check, Ok(BpfrtCommand::Check { file, explain: false }) if file.as_str() == "a.bpf")
     );
     let explained = asked(&rt, alloc, &["bpfrt", "check", "--explain", "a.bpf"])?;
-    assert!(rt; matches!(&explained, Ok(Command::Check { explain: true, .. })));
+    assert!(rt; matches!(&explained, Ok(BpfrtCommand::Check { explain: true, .. })));
     let disasm = asked(&rt, alloc, &["bpfrt", "disasm", "b.bpf"])?;
-    assert!(rt; matches!(&disasm, Ok(Command::Disasm { file }) if file.as_str() == "b.bpf"));
+    assert!(rt; matches!(&disasm, Ok(BpfrtCommand::Disasm { file }) if file.as_str() == "b.bpf"));
     assert!(rt;
         matches!(
             asked(&rt, alloc, &["bpfrt", "script"])?,
-            Ok(Command::Script)
+            Ok(BpfrtCommand::Script)
         )
     );
     assert!(rt;
         matches!(
             asked(&rt, alloc, &["bpfrt", "--version"])?,
-            Ok(Command::Version)
+            Ok(BpfrtCommand::Version)
         )
     );
     let pool = asked(
@@ -91,22 +96,38 @@ fn words_of_commands(rt: HostRuntime) -> Result<(), Fail> {
         alloc,
         &["bpfrt", "pool", "0", "c.bpf", "18446744073709551615"],
     )?;
-    let Ok(Command::Pool { workers, count, .. }) = pool else {
+    let Ok(BpfrtCommand::Pool { workers, count, .. }) = pool else {
         return Err(Fail::from("no pool"));
     };
     assert_eq!(rt; workers, 0);
     assert_eq!(rt; count, u64::MAX);
     let run = asked(&rt, alloc, &["bpfrt", "run", "d.bpf", "00aBfF"])?;
-    let Ok(Command::Run { single, .. }) = run else {
+    let Ok(BpfrtCommand::Run { single, .. }) = run else {
         return Err(Fail::from("no run"));
     };
     assert_eq!(rt; single.context.as_slice(), [0x00, 0xab, 0xff].as_slice());
     assert!(rt; single.elements.is_empty() && !single.dump);
     let run = asked(&rt, alloc, &ELEMENTS)?;
-    let Ok(Command::Run { single, .. }) = run else {
+    let Ok(BpfrtCommand::Run { single, .. }) = run else {
         return Err(Fail::from("no run with elements"));
     };
     assert!(rt; single.context.is_empty() && single.dump);
+    let filter = asked(&rt, alloc, &["bpfrt", "filter", "-"])?;
+    assert!(rt;
+        matches!(
+            &filter,
+            Ok(BpfrtCommand::Filter {
+                file: FilterFile::StandardInput,
+                kind: Data::Packet,
+            })
+        )
+    );
+    let policy = asked(&rt, alloc, &["bpfrt", "filter", "--seccomp", "e.bpf"])?;
+    let Ok(BpfrtCommand::Filter { file, kind }) = policy else {
+        return Err(Fail::from("no filter"));
+    };
+    assert!(rt; matches!(&file, FilterFile::Path(path) if path.as_str() == "e.bpf"));
+    assert_eq!(rt; kind, Data::Seccomp);
     let mut said = String::new(alloc);
     for element in &single.elements {
         let MapElement { map, key, value } = element;
@@ -114,8 +135,8 @@ fn words_of_commands(rt: HostRuntime) -> Result<(), Fail> {
     }
     assert_eq!(rt; said.as_str(), "m [0, 171] [1], m [] [2], n [3] [], ");
     let mut err: Vec<u8> = Vec::new(alloc);
-    assert_eq!(rt; no_command(&mut err, &UsageFault::NotText), 2);
-    assert_eq!(rt; no_command(&mut err, &UsageFault::Memory), 3);
+    assert_eq!(rt; no_command(&mut err, &WordsFault::NotText), 2);
+    assert_eq!(rt; no_command(&mut err, &WordsFault::Memory), 3);
     assert_eq!(rt;
         err.as_slice(),
         b"a word is not UTF-8 text\nfault 13\n".as_slice()

@@ -2,14 +2,14 @@
 use Rattle.std.proofs.Common.{◌≡◌, ◌∙◌, ℕ, List, [], ◌∷◌, ◌++◌, sym, ap, subst, refl, append-nil}
 use Rattle.std.specs.List.{flat_map}
 use Rattle.bpf_model.specs.declared.event.Event.{Event}
-use Rattle.script_lines.specs.Answers.{reply_text}
-use Rattle.script_lines.specs.declared.command.Command.{Command}
-use Rattle.script_lines.specs.declared.command.Command.TheVariants as commands
+use Rattle.script_lines.specs.ReplyText.{reply_text}
+use Rattle.script_lines.specs.declared.command.ScriptCommand.{ScriptCommand}
+use Rattle.script_lines.specs.declared.command.ScriptCommand.TheVariants as commands
 use Rattle.script_lines.specs.declared.command.ShapeNumbers.{ShapeNumbers}
 use Rattle.script_lines.specs.declared.reply.Reply.{Reply}
-use Rattle.control.specs.Loading.{MapReplies, LoadReplies, shape_of_numbers}
+use Rattle.control.specs.MapAndLoad.{MapReplies, LoadReplies, shape_of_numbers}
 use Rattle.control.specs.Setups.{SetupView}
-use Rattle.control.specs.declared.driving.live.Live.{Live}
+use Rattle.control.specs.declared.live.Live.{Live}
 use Rattle.control.specs.Lives.{LiveReplies}
 use Rattle.control.specs.Sessions.{SetupReplies, TracksStart, sealed}
 use Rattle.control.specs.declared.session.Session.TheVariants as sessions
@@ -18,7 +18,7 @@ use Rattle.control.specs.declared.session.Session.TheVariants as sessions
 once : (before after : List ℕ) (reply : Reply) → after ≡ before ++ reply_text reply → after ≡ before ++ flat_map reply_text (reply ∷ [])
 once before after reply text = text ∙ ap (λ (xs : List ℕ). before ++ xs) (sym (append-nil (reply_text reply)))
 
-pub map_made : (old : SetupView) (command : Command) (name : List ℕ) (shape : ShapeNumbers) (reply : Reply)
+pub map_made : (old : SetupView) (command : ScriptCommand) (name : List ℕ) (shape : ShapeNumbers) (reply : Reply)
     (made : SetupView) (before after : List ℕ) → command ≡ commands.Map name shape →
     MapReplies old name (shape_of_numbers shape) reply made → after ≡ before ++ reply_text reply →
     (events : List Event) × (replies : List Reply) × SetupReplies old command events replies (sessions.Setup made) ×
@@ -26,11 +26,11 @@ pub map_made : (old : SetupView) (command : Command) (name : List ℕ) (shape : 
 map_made old command name shape reply made before after is r text = (
   [],
   reply ∷ [],
-  subst (λ (c : Command). SetupReplies old c [] (reply ∷ []) (sessions.Setup made)) (sym is) (reply, made, r, refl, refl, refl),
+  subst (λ (c : ScriptCommand). SetupReplies old c [] (reply ∷ []) (sessions.Setup made)) (sym is) (reply, made, r, refl, refl, refl),
   once before after reply text,
 )
 
-pub load_made : (old : SetupView) (command : Command) (ctx_len : ℕ) (code : List ℕ) (names : List (List ℕ))
+pub load_made : (old : SetupView) (command : ScriptCommand) (ctx_len : ℕ) (code : List ℕ) (names : List (List ℕ))
     (reply : Reply) (made : SetupView) (before after : List ℕ) → command ≡ commands.Load ctx_len code names →
     LoadReplies old ctx_len code names reply made → after ≡ before ++ reply_text reply → (events : List Event) ×
     (replies : List Reply) × SetupReplies old command events replies (sessions.Setup made) ×
@@ -38,13 +38,13 @@ pub load_made : (old : SetupView) (command : Command) (ctx_len : ℕ) (code : Li
 load_made old command ctx_len code names reply made before after is r text = (
   [],
   reply ∷ [],
-  subst (λ (c : Command). SetupReplies old c [] (reply ∷ []) (sessions.Setup made)) (sym is) (reply, made, r, refl, refl, refl),
+  subst (λ (c : ScriptCommand). SetupReplies old c [] (reply ∷ []) (sessions.Setup made)) (sym is) (reply, made, r, refl, refl, refl),
   once before after reply text,
 )
 
 -- the command that makes the world is neither `map` nor `load`
 module _ (old : SetupView) (replies : List Reply) (live : Live) (starts : TracksStart old) where
-  pub world_made : (command : Command) → ((name : List ℕ) (shape : ShapeNumbers) → command ≡ commands.Map name shape →
+  pub world_made : (command : ScriptCommand) → ((name : List ℕ) (shape : ShapeNumbers) → command ≡ commands.Map name shape →
       ⊥) → ((ctx_len : ℕ) (code : List ℕ) (names : List (List ℕ)) → command ≡ commands.Load ctx_len code names → ⊥) →
       (r : LiveReplies (sealed old) command replies live) →
       SetupReplies old command r.served.events replies (sessions.Live live)

@@ -4,17 +4,17 @@ use Rattle.std.specs.Prelude.{Result, Ok, Err}
 use Rattle.bpf_model.specs.declared.event.Event.{Event}
 use Rattle.script_lines.specs.Lines.{line_says}
 use Rattle.script_lines.specs.declared.command.BadLine.{BadLine}
-use Rattle.script_lines.specs.declared.command.Command.{Command}
-use Rattle.script_lines.specs.declared.command.Command.TheVariants as commands
+use Rattle.script_lines.specs.declared.command.ScriptCommand.{ScriptCommand}
+use Rattle.script_lines.specs.declared.command.ScriptCommand.TheVariants as commands
 use Rattle.script_lines.specs.declared.reply.Reply.{Reply}
-use Rattle.control.specs.Loading.{MapReplies, LoadReplies, shape_of_numbers}
+use Rattle.control.specs.MapAndLoad.{MapReplies, LoadReplies, shape_of_numbers}
 use Rattle.control.specs.Setups.{SetupView}
 use Rattle.script_stream.specs.Answered.{Answered, FailsWith}
 use Rattle.script_stream.specs.declared.fault.ScriptFault.{ScriptFault}
-use Rattle.control.specs.declared.driving.live.Live.{Live}
+use Rattle.control.specs.declared.live.Live.{Live}
 use Rattle.control.specs.Lives.{Happen}
-use Rattle.control.proofs.Happening.{happen_more}
-use Rattle.control.proofs.Lifting.{fails_by}
+use Rattle.control.proofs.Happenings.{happen_more}
+use Rattle.control.proofs.PartOfState.{fails_by}
 use Rattle.control.specs.Histories.{History, Continues, RunsTo, StaysMade}
 use Rattle.control.specs.Sessions.{AnswersCommand, LineAnswers, RepliesOnce, SessionReplies, SetupReplies, WorldReplies, TracksStart, sealed}
 use Rattle.control.specs.declared.session.Session.{Session}
@@ -40,7 +40,7 @@ same_run made before events old new e n r =
     (made, stays new made, subst (λ (xs : List Event). RunsTo made xs new) (sym nothing) (subst (λ (s : Session). RunsTo made before s) (sym n) r))
 
 -- in a world
-world_runs : (made : SetupView) (before events : List Event) (old : Live) (command : Command) (replies : List Reply)
+world_runs : (made : SetupView) (before events : List Event) (old : Live) (command : ScriptCommand) (replies : List Reply)
     (new : Session) → TracksStart made → Happen (sealed made).world before old.world →
     WorldReplies old command events replies new → Onward made (before ++ events) new
 world_runs made before events old command replies new starts h (live, r, e, n) =
@@ -57,7 +57,7 @@ world_runs made before events old command replies new starts h (live, r, e, n) =
     subst (λ (s : Session). Onward made (before ++ events) s) (sym n) there
 
 -- in a world that is made
-first_runs : (made : SetupView) (before events : List Event) (old : SetupView) (command : Command)
+first_runs : (made : SetupView) (before events : List Event) (old : SetupView) (command : ScriptCommand)
     (replies : List Reply) (new : Session) → made ≡ old → before ≡ [] → TracksStart old →
     WorldReplies (sealed old) command events replies new → Onward made (before ++ events) new
 first_runs made before events old command replies new m b starts (live, r, e, n) =
@@ -79,7 +79,7 @@ once_runs made before events Says replies new b (reply, next, says, e, s, n) =
     let there : Onward made (before ++ events) (sessions.Setup next) = (next, tt, (refl, ap (λ (xs : List Event). before ++ xs) e ∙ (append-nil before ∙ b))) in
     subst (λ (s : Session). Onward made (before ++ events) s) (sym n) there
 
-setup_runs : (made : SetupView) (before events : List Event) (old : SetupView) (command : Command)
+setup_runs : (made : SetupView) (before events : List Event) (old : SetupView) (command : ScriptCommand)
     (replies : List Reply) (new : Session) → made ≡ old → before ≡ [] → SetupReplies old command events replies new →
     Onward made (before ++ events) new
 setup_runs made before events old (commands.Map name shape) replies new m b r =
@@ -100,13 +100,13 @@ setup_runs made before events old (commands.Drop run) replies new m b r = first_
 setup_runs made before events old commands.Stat replies new m b r = first_runs made before events old commands.Stat replies new m b r.0 r.1
 setup_runs made before events old (commands.Dump name) replies new m b r = first_runs made before events old (commands.Dump name) replies new m b r.0 r.1
 
-session_runs : (made : SetupView) (before events : List Event) (old : Session) (command : Command)
+session_runs : (made : SetupView) (before events : List Event) (old : Session) (command : ScriptCommand)
     (replies : List Reply) (new : Session) → RunsTo made before old → SessionReplies old command events replies new →
     Onward made (before ++ events) new
 session_runs made before events (sessions.Setup old) command replies new (m, b) r = setup_runs made before events old command replies new m b r
 session_runs made before events (sessions.Live old) command replies new (starts, h) r = world_runs made before events old command replies new starts h r
 
-says_runs : (made : SetupView) (before events : List Event) (says : Result (Option Command) BadLine) (old : Session)
+says_runs : (made : SetupView) (before events : List Event) (says : Result (Option ScriptCommand) BadLine) (old : Session)
     (text : List ℕ) (new : Session) → RunsTo made before old → AnswersCommand says old events text new →
     Onward made (before ++ events) new
 says_runs made before events (Ok None) old text new r (e, t, n) = same_run made before events old new e n r

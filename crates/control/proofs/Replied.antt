@@ -6,9 +6,9 @@ use Rattle.std.specs.declared.alloc.AllocError.{AllocError}
 use Rattle.bpf_model.specs.declared.event.Event.{Event}
 use Rattle.bpf_model.specs.View.{WorldView}
 use Rattle.script_lines.specs.declared.reply.Reply.{Reply}
-use Rattle.script_lines.specs.Answers.{reply_text}
-use Rattle.control.specs.declared.asking.asked.Asked.{Asked}
-use Rattle.control.specs.declared.driving.live.Live.{Live}
+use Rattle.script_lines.specs.ReplyText.{reply_text}
+use Rattle.control.specs.declared.asked.Asked.{Asked}
+use Rattle.control.specs.declared.live.Live.{Live}
 use Rattle.control.specs.Lives.{IsReplied, Happen}
 use Rattle.control.specs.Replies.{Replies}
 

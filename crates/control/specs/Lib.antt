@@ -1,9 +1,9 @@
 pub mod Histories
 pub mod Sessions
-pub mod Asking
+pub mod Questions
 pub mod Names
-pub mod Replying
-pub mod Loading
+pub mod AnswerReplies
+pub mod MapAndLoad
 pub mod Setups
 pub mod Lives
 pub mod Replies

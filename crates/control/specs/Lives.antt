@@ -8,12 +8,12 @@ use Rattle.bpf_model.specs.Refines.{TracksSchedule}
 use Rattle.bpf_model.specs.View.{WorldView}
 use Rattle.world_laws.specs.Reacting.{full_reactions}
 use Rattle.world_laws.specs.Invariant.{IsWorld}
-use Rattle.script_lines.specs.Answers.{reply_text}
-use Rattle.script_lines.specs.declared.command.Command.{Command}
+use Rattle.script_lines.specs.ReplyText.{reply_text}
+use Rattle.script_lines.specs.declared.command.ScriptCommand.{ScriptCommand}
 use Rattle.script_lines.specs.declared.reply.Reply.{Reply}
-use Rattle.control.specs.declared.asking.asked.Asked.{Asked}
-use Rattle.control.specs.Asking.{IsAsked}
-use Rattle.control.specs.declared.driving.live.Live.{Live}
+use Rattle.control.specs.declared.asked.Asked.{Asked}
+use Rattle.control.specs.Questions.{IsAsked}
+use Rattle.control.specs.declared.live.Live.{Live}
 use Rattle.control.specs.Replies.{Replies}
 
 -- These events happen in a world of the runtime, and leave the other. With their answers they are a
@@ -32,7 +32,7 @@ pub record AskedReplies (old : Live) (asked : Asked) (replies : List Reply) (new
   pub replied : Replies old.world asked events replies new.world
 
 -- The world is asked what the command says of its maps' names, and these are the replies.
-pub record LiveReplies (old : Live) (command : Command) (replies : List Reply) (new : Live)
+pub record LiveReplies (old : Live) (command : ScriptCommand) (replies : List Reply) (new : Live)
     : Type 0 where
   pub asked : Asked
   pub is_asked : IsAsked old.world.names command asked

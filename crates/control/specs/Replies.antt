@@ -14,9 +14,9 @@ use Rattle.world_laws.specs.Reacting.{full_reaction, full_reactions}
 use Rattle.world.specs.Asking.{stat_of, IsFound, HasNone}
 use Rattle.script_lines.specs.declared.reply.Reply.{Reply}
 use Rattle.script_lines.specs.declared.reply.Reply.TheVariants as replies
-use Rattle.control.specs.declared.asking.asked.Asked.{Asked}
-use Rattle.control.specs.declared.asking.asked.Asked.TheVariants as asked
-use Rattle.control.specs.Replying.{refused, reply_to}
+use Rattle.control.specs.declared.asked.Asked.{Asked}
+use Rattle.control.specs.declared.asked.Asked.TheVariants as asked
+use Rattle.control.specs.AnswerReplies.{refused, reply_to}
 
 -- a context that is longer than any has another length than each program's
 abbrev pub overlong_refusal : Option Loaded → EventRefusal

@@ -5,15 +5,15 @@ use Rattle.bpf_model.specs.declared.event.Event.{Event}
 use Rattle.bpf_model.specs.Refines.{TracksSchedule}
 use Rattle.bpf_model.specs.Schedule.{start_schedule}
 use Rattle.bpf_model.specs.View.{start_view}
-use Rattle.script_lines.specs.Answers.{reply_text}
+use Rattle.script_lines.specs.ReplyText.{reply_text}
 use Rattle.script_lines.specs.Lines.{line_says}
 use Rattle.script_lines.specs.declared.command.BadLine.{BadLine}
-use Rattle.script_lines.specs.declared.command.Command.{Command}
-use Rattle.script_lines.specs.declared.command.Command.TheVariants as commands
+use Rattle.script_lines.specs.declared.command.ScriptCommand.{ScriptCommand}
+use Rattle.script_lines.specs.declared.command.ScriptCommand.TheVariants as commands
 use Rattle.script_lines.specs.declared.reply.Reply.{Reply}
 use Rattle.control.specs.Setups.{SetupView, shapes_made, no_maps_or_programs}
-use Rattle.control.specs.Loading.{MapReplies, LoadReplies, shape_of_numbers}
-use Rattle.control.specs.declared.driving.live.Live.{Live}
+use Rattle.control.specs.MapAndLoad.{MapReplies, LoadReplies, shape_of_numbers}
+use Rattle.control.specs.declared.live.Live.{Live}
 use Rattle.control.specs.Lives.{LiveReplies}
 use Rattle.control.specs.declared.session.Session.{Session}
 use Rattle.control.specs.declared.session.Session.TheVariants as sessions
@@ -36,7 +36,7 @@ abbrev pub TracksStart : SetupView → Type 0
 TracksStart s = TracksSchedule (sealed s).world (start_schedule (shapes_made s) s.programs)
 
 -- A command that a world is for, once it is there.
-abbrev pub WorldReplies : Live → Command → List Event → List Reply → Session → Type 0
+abbrev pub WorldReplies : Live → ScriptCommand → List Event → List Reply → Session → Type 0
 WorldReplies old command events replies new =
     (live : Live) × (r : LiveReplies old command replies live) × (events ≡ r.served.events)
     × (new ≡ sessions.Live live)
@@ -49,7 +49,7 @@ RepliesOnce Says events replies new =
 
 -- While maps and programs are being made: `map` and `load` make them, and any other command makes
 -- the world, which it is for.
-abbrev pub SetupReplies : SetupView → Command → List Event → List Reply → Session → Type 0
+abbrev pub SetupReplies : SetupView → ScriptCommand → List Event → List Reply → Session → Type 0
 SetupReplies old (commands.Map name shape) events replies new =
     RepliesOnce (MapReplies old name (shape_of_numbers shape)) events replies new
 SetupReplies old (commands.Load ctx_len code maps) events replies new =
@@ -57,14 +57,14 @@ SetupReplies old (commands.Load ctx_len code maps) events replies new =
 SetupReplies old command events replies new =
     TracksStart old × WorldReplies (sealed old) command events replies new
 
-abbrev pub SessionReplies : Session → Command → List Event → List Reply → Session → Type 0
+abbrev pub SessionReplies : Session → ScriptCommand → List Event → List Reply → Session → Type 0
 SessionReplies (sessions.Setup old) command events replies new =
     SetupReplies old command events replies new
 SessionReplies (sessions.Live old) command events replies new =
     WorldReplies old command events replies new
 
 -- A line that says nothing is answered nothing, and a command by the text of its replies.
-abbrev pub AnswersCommand : Result (Option Command) BadLine → Session → List Event → List ℕ →
+abbrev pub AnswersCommand : Result (Option ScriptCommand) BadLine → Session → List Event → List ℕ →
     Session → Type 0
 AnswersCommand (Ok None) old events text new = (events ≡ []) × (text ≡ []) × (new ≡ old)
 AnswersCommand (Ok (Some command)) old events text new =

@@ -4,19 +4,22 @@
 //! later ones of these two are refused.
 #![tactic(auto)]
 
-mod asking;
-mod driving;
-mod making;
-mod preparing;
-mod running;
+mod asked;
+mod dump;
+mod faults;
+mod live;
+mod map_names;
+mod replies;
+mod script;
 mod session;
+mod setup;
+mod setup_commands;
+mod shape;
+mod steps;
 
-pub use driving::{Live, write_elements};
-pub use preparing::Setup;
-pub use running::run_script;
-use script_lines::LINE_BYTES;
+pub use dump::write_elements;
+pub use live::Live;
+pub use script::run_script;
 pub use script_stream::ScriptFault;
 pub use session::Session;
-
-// A line may be as long where the input is cut into lines as where a line is read.
-const _: () = prove!(LINE_BYTES == script_stream::LINE_BYTES);
+pub use setup::Setup;

@@ -1,9 +1,9 @@
 //! The state of a script.
 
-use crate::driving::Live;
-use crate::making::answer_setup;
-use crate::preparing::Setup;
-use script_lines::Command;
+use crate::live::Live;
+use crate::setup::Setup;
+use crate::setup_commands::answer_setup;
+use script_lines::ScriptCommand;
 use std::alloc::{AllocError, Global};
 
 /// The state of a script: maps and programs are being made, or there is a world.
@@ -17,7 +17,7 @@ impl Session {
     ghost use Rattle.std.specs.Prelude.{◌≡◌, ◌++◌, List, OnOk};
     ghost use Rattle.std.specs.List.{flat_map};
     ghost use Rattle.bpf_model.specs.declared.event.Event.{Event};
-    ghost use Rattle.script_lines.specs.Answers.{reply_text};
+    ghost use Rattle.script_lines.specs.ReplyText.{reply_text};
     ghost use Rattle.script_lines.specs.declared.reply.Reply.{Reply};
     ghost use Rattle.control.specs.Sessions.{SessionReplies, new_session};
 
@@ -37,7 +37,7 @@ impl Session {
     pub fn answer(
         &mut self,
         alloc: Global,
-        command: Command<'_>,
+        command: ScriptCommand<'_>,
         out: &mut Vec<u8>,
     ) -> Result<(), AllocError>
         ensures { OnOk result ((events : List Event) × (replies : List Reply)

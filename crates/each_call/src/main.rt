@@ -1,14 +1,18 @@
 //! Makes each of the library's calls that take memory, and prints a line for each: `NAME done`. Where the call was refused
-//! memory, all is found as it was before, the call is made once more, and the line is `NAME 13 done`. It is run with each
-//! growth of memory refused in turn (checks/memory_agree).
+//! memory, all is found as it was before, the call is made once more, and the line is `NAME 13 done`. A shared world shows
+//! what is under its lock only at its end, so there is also one that ends at the refused call. It is run with each growth of
+//! memory refused in turn (checks/memory_agree).
 #![tactic(auto)]
 
+mod alike;
 mod pooled;
 mod programs;
+mod stopped;
 mod worlds;
 
 use crate::pooled::share;
 use crate::programs::{arena, assembled, decoded, disassembled, encoded, verified};
+use crate::stopped::stop;
 use crate::worlds::{created, make_world, run_events};
 use anyhow::Result;
 use std::marker::Brand;
@@ -67,8 +71,9 @@ fn make_all(rt: &HostRuntime) -> Result<World> {
 
 fn main(rt: HostRuntime) -> Result<()> {
     let world = make_all(&rt)?;
+    let refused = stop::<Brand, _>(&rt, rt.alloc(), &world, Blank::new(2))?;
     let calls = share::<Brand, _>(&rt, rt.alloc(), world, Blank::new(2))?;
-    tell(&rt, "act", calls.act)?;
-    tell(&rt, "cut", calls.cut)?;
+    tell(&rt, "act", refused.act || calls.act)?;
+    tell(&rt, "cut", refused.cut || calls.cut)?;
     tell(&rt, "run_jobs", calls.jobs)
 }

@@ -21,7 +21,7 @@ pub struct Told {
 }
 
 /// How many updates there are, and how many jobs.
-const TIMES: usize = 100;
+pub const TIMES: usize = 100;
 
 /// Makes updates. One that was refused memory has made no entry.
 fn act<L: Ledger + Send + Sync, R: Wait>(
@@ -32,10 +32,10 @@ fn act<L: Ledger + Send + Sync, R: Wait>(
     let mut again = false;
     for _ in 0..TIMES {
         let made = worker.made();
-        match shared.act(rt, worker, update()) {
+        match shared.act(rt, worker, update(42)) {
             Err(SharedFault::Memory) => {
                 ensure!(worker.made() == made, "an entry was made");
-                shared.act(rt, worker, update())?;
+                shared.act(rt, worker, update(42))?;
                 again = true;
             }
             answer => {
@@ -96,7 +96,7 @@ fn serve<L: Ledger + Send + Sync, R: Threads + Wait + Sync>(
     let jobs = jobs(alloc)?;
     match run_jobs(rt, alloc, &jobs, 2, shared, workers) {
         Ok(report) if have_exited(&report) => return Ok(false),
-        Ok(_) | Err(PoolFault::Memory | PoolFault::Lost) => {}
+        Ok(_) | Err(PoolFault::Memory) => {}
         Err(fault) => return Err(fault.into()),
     }
     let report = run_jobs(rt, alloc, &jobs, 2, shared, workers)?;
@@ -107,7 +107,7 @@ fn serve<L: Ledger + Send + Sync, R: Threads + Wait + Sync>(
 }
 
 /// How many entries the workers have made.
-fn made_by<L: Ledger>(workers: &Workers<L>) -> u64 {
+pub fn made_by<L: Ledger>(workers: &Workers<L>) -> u64 {
     let mut sum = 0u64;
     for worker in &workers.list {
         sum = sum.saturating_add(worker.made());

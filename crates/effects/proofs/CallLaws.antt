@@ -9,7 +9,7 @@ use Rattle.bpf_model.specs.declared.insn.CallKind.TheVariants as callee
 use Rattle.bpf_model.specs.declared.call.Helper.{Helper}
 use Rattle.bpf_model.specs.declared.call.Helper.TheVariants as helpers
 use Rattle.bpf_model.specs.declared.call.ResultKind.{ResultKind}
-use Rattle.bpf_model.specs.declared.call.ResultKind.TheVariants.{ElementOrNull, ErrorNumber}
+use Rattle.bpf_model.specs.declared.call.ResultKind.TheVariants.{ElementOrNull, Integer}
 use Rattle.bpf_model.specs.Request.{signature_of}
 use Rattle.bpf_model.specs.declared.call.KernelFunction.TheVariants.{ReadLock, ReadUnlock}
 use Rattle.bpf_model.specs.Call.{helper_of, kernel_function_of}
@@ -133,7 +133,7 @@ helper_sound helper a b shapes map id shape k may m args below left e imm f ctx_
 
 pub left_result : (kind : ResultKind) (map id : ℕ) (k : RegKind) (x : Kind) → IsLeft kind map id k → x ≡ kind_of k → IsResult kind x
 left_result ElementOrNull map id k x left e = (map, id, e ∙ ap kind_of left)
-left_result ErrorNumber map id k x left e = (left.0, e ∙ ap kind_of left.1)
+left_result Integer map id k x left e = (left.0, e ∙ ap kind_of left.1)
 
 -- a lookup inside a section, or in an array, passes the section test
 pub lookup_inside : (shapes : List MapShape) (a : AbsState) (map : ℕ) (shape : MapShape) → (0 < a.depth)

@@ -13,7 +13,7 @@ use Rattle.bpf_model.specs.Call.{helper_of, kernel_function_of}
 use Rattle.bpf_model.specs.declared.call.ArgumentKind.{ArgumentKind}
 use Rattle.bpf_model.specs.declared.call.ArgumentKind.TheVariants.{MapOfProgram, KeyOfMap, ValueOfMap, AnyNumber}
 use Rattle.bpf_model.specs.declared.call.ResultKind.{ResultKind}
-use Rattle.bpf_model.specs.declared.call.ResultKind.TheVariants.{ElementOrNull, ErrorNumber}
+use Rattle.bpf_model.specs.declared.call.ResultKind.TheVariants.{ElementOrNull, Integer}
 use Rattle.bpf_model.specs.Request.{signature_of}
 use Rattle.scalar_domain.specs.Scalar.{Holds}
 use Rattle.scalar_domain.specs.declared.scalar.Scalar.{Scalar}
@@ -94,13 +94,13 @@ AreArguments shapes a shape (kind ∷ kinds) r =
 -- what is known of r0 after a call of a helper whose result is of this kind
 abbrev pub IsResult : ResultKind → Kind → Type 0
 IsResult ElementOrNull k = (map : ℕ) × (id : ℕ) × (k ≡ MaybeNull map id)
-IsResult ErrorNumber k = (s : Scalar) × (k ≡ Num s)
+IsResult Integer k = (s : Scalar) × (k ≡ Num s)
 
 -- What a call leaves in r0 for a result of this kind: a reference to an element of the map or null,
 -- by an identity, or any number.
 abbrev pub IsLeft : ResultKind → ℕ → ℕ → RegKind → Type 0
 IsLeft ElementOrNull map id k = k ≡ kinds.MaybeNull map id
-IsLeft ErrorNumber map id k =
+IsLeft Integer map id k =
     (s : Scalar) × (k ≡ kinds.Num s) × ((n : ℕ) → n < 2 ^ 64 → Holds s n)
 
 -- Before the call the arguments are known to be those of the helper's signature; after it r0 has a

@@ -2,7 +2,7 @@
 use Rattle.std.specs.Prelude.{◌≡◌, ℕ, ◌⊎◌, Bool}
 use Rattle.bpf_model.specs.declared.insn.Operand.{Operand}
 use Rattle.bpf_model.specs.Operand.{operand_value}
-use Rattle.bpf_model.specs.Plain.{Names}
+use Rattle.model_laws.specs.Plain.{Names}
 use Rattle.bpf_model.specs.Step.{State}
 use Rattle.model_laws.specs.Replies.{IsNumber}
 use Rattle.scalar_domain.specs.declared.scalar.Scalar.{Scalar}

@@ -92,7 +92,7 @@ fn returned(kind: ResultKind, map: u32, ids: &mut Identities) -> RegKind
             ids.next += 1;
             RegKind::MaybeNull { map, id }
         }
-        ResultKind::ErrorNumber => RegKind::Num(Scalar::unknown()),
+        ResultKind::Integer => RegKind::Num(Scalar::unknown()),
     }
 }
 

@@ -18,7 +18,7 @@ use std::alloc::{AllocError, Global};
 
 /// The heads of chains of slots, whose links stand in the slots themselves: the least power of two that is
 /// no less than the entries, at most `MAX_ENTRIES`. The chain of a key is told by a hash of its bytes:
-/// `locate` and `unlink` hash a key and walk its chain once, `put` does neither, and `next_above` walks all
+/// `find` and `unlink` hash a key and walk its chain once, `link` does neither, and `next_above` walks all
 /// chains. A slot joins at the head of its chain.
 #[derive(Drop)]
 pub struct Buckets {
@@ -56,7 +56,7 @@ fn least_in(heads: &[Option<usize>], arena: &Arena, bound: Option<&[u8]>) -> Opt
 impl Buckets {
     /// The place of a key, of any length.
     #[inline(never)]
-    fn locate_bytes(&self, arena: &Arena, key: &[u8]) -> Place
+    fn find_bytes(&self, arena: &Arena, key: &[u8]) -> Place
         requires { BucketsFits self.now arena.now }
         ensures slot { result.slot ≡ map.get (contents_in self.now arena.now) key.now }
         ensures place { IsPlaceIn self.now.heads.items arena.now key.now result }
@@ -67,7 +67,7 @@ impl Buckets {
 
     /// The place of a key of one word: the same without a call.
     #[inline]
-    fn locate_word(&self, arena: &Arena, key: &[u8]) -> Place
+    fn find_word(&self, arena: &Arena, key: &[u8]) -> Place
         requires fits { BucketsFits self.now arena.now }
         requires word { length key.now ≡ WORD_BYTES }
         ensures slot { result.slot ≡ map.get (contents_in self.now arena.now) key.now }
@@ -133,16 +133,16 @@ impl Index for Buckets {
     }
 
     #[inline]
-    fn locate(&self, arena: &Arena, key: &[u8]) -> Place {
+    fn find(&self, arena: &Arena, key: &[u8]) -> Place {
         if key.len() == WORD_BYTES {
-            self.locate_word(arena, key)
+            self.find_word(arena, key)
         } else {
-            self.locate_bytes(arena, key)
+            self.find_bytes(arena, key)
         }
     }
 
     #[inline]
-    fn put(&mut self, arena: &mut Arena, place: Place, slot: usize) {
+    fn link(&mut self, arena: &mut Arena, place: Place, slot: usize) {
         match place.slot {
             None => self.join(arena, place.home, slot),
             Some(old) => {
@@ -154,7 +154,7 @@ impl Index for Buckets {
 
     #[inline]
     fn unlink(&mut self, arena: &mut Arena, key: &[u8]) -> Option<usize> {
-        let place = self.locate(arena, key);
+        let place = self.find(arena, key);
         match place.slot {
             None => None,
             Some(slot) => {

@@ -35,11 +35,11 @@ fn link_absent<I: Index>(index: &mut I, arena: &mut Arena, slot: usize) -> Optio
     ensures fits { I.fits index.new arena.new }
     ensures links { arena.new ≡ record arena.old { links = arena.new.links } }
 {
-    let place = index.locate(arena, arena.key(slot));
+    let place = index.find(arena, arena.key(slot));
     match place.slot {
         Some(other) => Some(other),
         None => {
-            index.put(arena, place, slot);
+            index.link(arena, place, slot);
             None
         }
     }
@@ -71,7 +71,7 @@ fn step<I: Index>(index: &mut I, arena: &mut Arena, command: &Command) -> Option
 {
     match command {
         Command::Link(slot) => link_absent(index, arena, *slot),
-        Command::Find(key) => index.locate(arena, key.as_slice()).slot,
+        Command::Find(key) => index.find(arena, key.as_slice()).slot,
         Command::Unlink(key) => index.unlink(arena, key.as_slice()),
         Command::Above(bound) => find_above(index, arena, bound),
     }

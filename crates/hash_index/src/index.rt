@@ -36,14 +36,14 @@ pub trait Index {
         ensures made { IfOk result (λ x. is_made_for x entries) };
 
     /// The place of a key, with the key's slot if there is one.
-    fn locate(&self, arena: &Arena, key: &[u8]) -> Place
+    fn find(&self, arena: &Arena, key: &[u8]) -> Place
         requires { fits self.now arena.now }
         ensures slot { result.slot ≡ map.get (contents self.now arena.now) key.now }
         ensures place { is_place self.now arena.now key.now result };
 
     /// A taken slot that the index does not have joins under its key, at the place of that key. The slot
     /// that the key had leaves.
-    fn put(&mut self, arena: &mut Arena, place: Place, slot: usize)
+    fn link(&mut self, arena: &mut Arena, place: Place, slot: usize)
         requires fits { fits self.old arena.old }
         requires taken { IsTaken arena.old slot }
         requires apart { indexed (contents self.old arena.old) arena.old.slots slot ≡ 0 }

@@ -42,7 +42,7 @@ fn standing(slots: &[usize], arena: &Arena, at: usize, key: &[u8]) -> Option<usi
 }
 
 /// The place of a key.
-pub(crate) fn locate_in(slots: &[usize], arena: &Arena, key: &[u8]) -> Place
+pub(crate) fn find_in(slots: &[usize], arena: &Arena, key: &[u8]) -> Place
     requires within { AllWithin slots.now (length arena.now.slots) }
     requires ascending { IsAscending (key_at arena.now.slots) slots.now }
     ensures slot { result.slot ≡ slot_of (key_at arena.now.slots) slots.now key.now }

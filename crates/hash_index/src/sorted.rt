@@ -6,12 +6,12 @@ ghost use Rattle.hash_index.specs.Sorted.{SortedFits, sorted_contents};
 
 use crate::index::Index;
 use crate::place::Place;
-use crate::position::{least_above, locate_in, position};
+use crate::position::{find_in, least_above, position};
 use element_store::Arena;
 use std::alloc::{AllocError, Global};
 
 /// The slots in a vector with room for all of them, in the order of their keys. Every call searches by
-/// halves, and `put` and `unlink` move the slots with greater keys.
+/// halves, and `link` and `unlink` move the slots with greater keys.
 #[derive(Drop)]
 pub struct Sorted {
     slots: Vec<usize>,
@@ -85,11 +85,11 @@ impl Index for Sorted {
         })
     }
 
-    fn locate(&self, arena: &Arena, key: &[u8]) -> Place {
-        locate_in(&self.slots, arena, key)
+    fn find(&self, arena: &Arena, key: &[u8]) -> Place {
+        find_in(&self.slots, arena, key)
     }
 
-    fn put(&mut self, arena: &mut Arena, place: Place, slot: usize) {
+    fn link(&mut self, arena: &mut Arena, place: Place, slot: usize) {
         match place.slot {
             None => self.join(arena, slot),
             Some(old) => {
@@ -100,7 +100,7 @@ impl Index for Sorted {
     }
 
     fn unlink(&mut self, arena: &mut Arena, key: &[u8]) -> Option<usize> {
-        let place = self.locate(arena, key);
+        let place = self.find(arena, key);
         match place.slot {
             None => None,
             Some(slot) => {

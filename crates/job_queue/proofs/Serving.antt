@@ -1,7 +1,7 @@
 -- Results of stations, one after another, and where they stand in the end.
 use Rattle.std.proofs.Common.{◌≡◌, ℕ, ◌+◌, ◌<◌, List, [], ◌∷◌, ◌++◌, length, get_or, sym, ap, ◌∙◌, subst, arith}
-use Rattle.std.proofs.Common.{length-append, map, zero, suc, refl, take, drop, append-nil, ⊎_elim}
-use Rattle.std.specs.Prelude.{All, slice_get, slice_index_or, Option, Some, option_map, unwrap_or}
+use Rattle.std.proofs.Common.{length-append, map, zero, suc, refl, take, drop, append-nil, ⊎_elim, inl, inr, true, ◌⊎◌}
+use Rattle.std.specs.Prelude.{All, slice_get, slice_set, slice_index_or, Option, Some, None, IsSome, option_map, unwrap_or}
 use Rattle.std.specs.List.{AllZip}
 use Rattle.std.proofs.lemmas.List.Elements.{All-append, All-map}
 use Rattle.crossbeam_queue.specs.Passes.{Pass, view}
@@ -14,8 +14,8 @@ use Rattle.job_queue.specs.declared.station.Numbered.{Numbered}
 use Rattle.std.proofs.lemmas.Option.{slice_get_within, slice_get-get_or, slice_get-map, get_or_from_slice_get}
 use Rattle.std.proofs.lemmas.List.{take_all, drop_all}
 use Rattle.job_queue.specs.declared.station.Station.{Station}
-use Rattle.job_queue.specs.Serving.{IsRight, IsRightNumbered, HasServed, IsServedByOne, IsServedFor, AreRightLines, AreServed}
-use Rattle.job_queue.specs.Sheet.{IsAmong, HasResult, StandsIn, worker_of}
+use Rattle.job_queue.specs.Serving.{IsRight, IsRightNumbered, IsKept, HasServed, IsServedByOne, IsServedFor, AreRightLines, AreServed}
+use Rattle.job_queue.specs.Sheet.{HasLine, IsAmong, HasResult, StandsIn, worker_of}
 use Rattle.job_queue.specs.Numbers.{WasTaken}
 
 -- one more result, after which the worker has served more
@@ -55,6 +55,50 @@ among_last {T} xs d k served number same = record {
       (ap (λ (z : Numbered T). Some z) (λ i. record { number = sym number i; served = sym same i }));
 }
 
+-- a line has its result where one was put there, and keeps it where another is put
+pub line_set : {T : Type 0} (lines : List (Option T)) (n k : ℕ) (served : T) → HasLine lines k → HasLine (slice_set lines n (Some served)) k
+line_set [] n k served (x, at) = absurd (cc)
+line_set (l ∷ ls) zero zero served h = (served, refl)
+line_set (l ∷ ls) zero (suc k) served h = h
+line_set (l ∷ ls) (suc n) zero served h = h
+line_set (l ∷ ls) (suc n) (suc k) served h = line_set ls n k served h
+
+pub line_here : {T : Type 0} (lines : List (Option T)) (n : ℕ) (served : T) → n < length lines → HasLine (slice_set lines n (Some served)) n
+line_here [] n served low = absurd (omega arith)
+line_here (l ∷ ls) zero served low = (served, refl)
+line_here (l ∷ ls) (suc n) served low = line_here ls n served (omega arith)
+
+has_some : {T : Type 0} (o : Option T) (x : T) → o ≡ Some x → IsSome o
+has_some None x e = absurd (cc)
+has_some (Some y) x e = search
+
+pub all_lines : {T : Type 0} (lines : List (Option T)) → ((k : ℕ) → k < length lines → HasLine lines k) → All IsSome lines
+all_lines lines each k d low = let h = each k low in has_some (get_or lines k d) h.0 (get_or_from_slice_get lines k (Some h.0) d h.1)
+
+pub no_none : {X : Type 0} (o : Option X) → o ≡ None → IsSome o → ⊥
+no_none None e is = cc
+no_none (Some x) e is = cc
+
+-- a result among these and one more is one of these or that one
+pub result_of_more : {T : Type 0} (xs : List (Numbered T)) (d : Numbered T) (k : ℕ) → HasResult (xs ++ d ∷ []) k →
+    HasResult xs k ⊎ (k ≡ d.number)
+result_of_more {T} xs d k (served, a) =
+    let one : Numbered T = record { number = k; served = served } in
+    let low : a.index < length (xs ++ d ∷ []) = slice_get_within (xs ++ d ∷ []) a.index one a.at in
+    let n : length (xs ++ d ∷ []) ≡ length xs + 1 = length-append xs (d ∷ []) in
+    let is : get_or (xs ++ d ∷ []) a.index one ≡ one = get_or_from_slice_get (xs ++ d ∷ []) a.index one one a.at in
+    dite (ℕ_discrete a.index (length xs))
+    (λ same. inr (ap (λ (z : Numbered T). z.number)
+    (sym is ∙ (ap (λ (i : ℕ). get_or (xs ++ d ∷ []) i one) same ∙ get_or-append_seam xs d [] one))))
+    (λ ne. let inside : a.index < length xs = omega (arith, low, n, ne) in
+    inl (
+      served,
+      record {
+        index = a.index;
+        at = slice_get-get_or xs a.index one inside ∙ ap (λ (z : Numbered T). Some z) (sym (get_or-append xs (d ∷ []) one a.index inside) ∙ is);
+      },
+    ))
+
 -- one more number that was taken, and its result
 pub kept_more : {T : Type 0} (xs : List (Numbered T)) (d : Numbered T) (taken : List ℕ) (k : ℕ) →
     WasTaken k (d.number ∷ taken) → (WasTaken k taken → HasResult xs k) → HasResult (xs ++ d ∷ []) k
@@ -68,14 +112,17 @@ taken_before x k taken n past low is = ⊎_elim (λ (e : k ≡ x). absurd (past 
 -- a station with the same worker and results, which took no further number of a job
 pub still_served : {J W T : Type 0} (fits : W → W → J → T → Type 0) (later : W → W → Type 0) (jobs : List J)
     (of_queue : Pass ℕ PassView → Type 0) (ready : W → Type 0) (first : W) (s t : Station W T)
-    → HasServed fits later jobs of_queue ready first s → of_queue t.pass → t.worker ≡ s.worker → t.results.items ≡ s.results.items
+    → HasServed fits later jobs of_queue ready first s → of_queue t.pass → (view t.pass).takes ≡ true → t.worker ≡ s.worker → t.results.items ≡ s.results.items
     → ((k : ℕ) → WasTaken k (view t.pass).taken → k < length jobs → WasTaken k (view s.pass).taken) → HasServed fits later jobs of_queue ready first t
-still_served {J} {W} {T} fits later jobs of_queue ready first s t h pass worker results taken = record {
-  pass = pass;
+still_served {J} {W} {T} fits later jobs of_queue ready first s t h pass takes worker results taken = record {
+  kept = record {
+    pass = pass;
+    takes = takes;
+    results = λ k is low. subst (λ (z : List (Numbered T)). HasResult z k) (sym results) (h.kept.results k (taken k is low) low);
+  };
   ready_now = subst ready (sym worker) h.ready_now;
   later_now = subst (later first) (sym worker) h.later_now;
   results = subst (λ (z : W × List (Numbered T)). All (IsRightNumbered fits jobs first z.0) z.1) (λ i. (sym worker i, sym results i)) h.results;
-  kept = λ k is low. subst (λ (z : List (Numbered T)). HasResult z k) (sym results) (h.kept k (taken k is low) low);
 }
 
 pub stands_before : {W T : Type 0} (xs : List (Station W T)) (s : Station W T) (k : ℕ) (served : T) → StandsIn xs k served → StandsIn (xs ++ s ∷ []) k served
@@ -145,6 +192,10 @@ module _ {J W T : Type 0} (fits : W → W → J → T → Type 0) (later : W →
   pub workers_ready : All ready front → All ready after
   workers_ready all = subst (All ready) (sym is) (All-append ready front (map worker_of ys) all
       (All-map ready worker_of ys (λ k d l. (each k d (omega arith)).ready_now)))
+
+  -- each number that a station took has a result
+  pub stations_kept : All (IsKept of_queue (length jobs)) ys
+  stations_kept k d l = (each k d (omega arith)).kept
 
 -- what was read out of the sheet is right for its job
 pub results_right : {J W T : Type 0} (fits : W → W → J → T → Type 0) (jobs : List J) (before after : List W)

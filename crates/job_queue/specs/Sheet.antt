@@ -1,14 +1,10 @@
 -- Where a result on the sheet comes from.
-use Rattle.std.specs.Prelude.{◌≡◌, ◌≢◌, ◌⊎◌, ℕ, Bool, true, List, slice_get, Option, Some, None}
-use Rattle.job_queue.specs.declared.sheet.Sheet.{Sheet}
+use Rattle.std.specs.Prelude.{◌≡◌, ◌≢◌, ℕ, List, slice_get, Option, Some}
 use Rattle.job_queue.specs.declared.station.Numbered.{Numbered}
 use Rattle.job_queue.specs.declared.station.Station.{Station}
 
 abbrev pub worker_of : {W T : Type 0} → Station W T → W
 worker_of s = s.worker
-
-abbrev pub is_short : {W T : Type 0} → Station W T → Bool
-is_short s = s.short
 
 -- one of the results is this, under this number
 pub record IsAmong {T : Type 0} (results : List (Numbered T)) (k : ℕ) (served : T) : Type 0 where
@@ -31,11 +27,6 @@ pub record StandsIn {W T : Type 0} (stations : List (Station W T)) (k : ℕ) (se
 abbrev pub IsBlank : {T : Type 0} → List (Option T) → Type 0
 IsBlank {T} lines = (k : ℕ) (served : T) → slice_get lines k ≢ Some (Some served)
 
--- one of the lines has no result
-pub record HasBlankLine {T : Type 0} (lines : List (Option T)) : Type 0 where
-  pub index : ℕ
-  pub at : slice_get lines index ≡ Some None
-
--- the sheet is spoilt, or one of its lines has no result
-abbrev pub IsUnfinished : {T : Type 0} → Sheet T → Type 0
-IsUnfinished s = (s.spoilt ≡ true) ⊎ HasBlankLine s.lines.items
+-- the line of this number has a result
+abbrev pub HasLine : {T : Type 0} → List (Option T) → ℕ → Type 0
+HasLine {T} lines k = (served : T) × (slice_get lines k ≡ Some (Some served))

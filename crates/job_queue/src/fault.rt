@@ -12,6 +12,7 @@ pub enum PoolFault {
     TooManyJobs,
     #[error("out of memory")]
     Memory,
+    /// No call answers it: each job that is served has its result.
     #[error("the result of a job is missing or double, or is of no job")]
     Lost,
 }

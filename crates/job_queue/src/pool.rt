@@ -1,15 +1,15 @@
 //! All jobs, served by as many threads as the caller says.
-ghost use Rattle.std.specs.Prelude.{◌≡◌, true, false, [], ◌⊎◌, ◌+◌, ◌<◌, ◌≤◌, ◌++◌, length, map, take, drop, Err, All, IsOk, IfErr, IfOk, OnOk, OnErr, vec_len, vec_capacity};
+ghost use Rattle.std.specs.Prelude.{◌≡◌, true, [], ◌⊎◌, ◌+◌, ◌<◌, ◌≤◌, ◌++◌, length, map, take, drop, Err, All, IsOk, IfErr, IfOk, OnOk, OnErr, vec_len, vec_capacity, IsSome, IsTrue};
 ghost use Rattle.std.specs.List.{AllZip};
 ghost use Rattle.crossbeam_queue.specs.Passes.{view, IsPassOf};
 ghost use Rattle.job_queue.specs.Blocks.{InBlocks};
-ghost use Rattle.job_queue.specs.Numbers.{pass_view};
+ghost use Rattle.job_queue.specs.Numbers.{putter};
 ghost use Rattle.job_queue.specs.Serving.{IsNewStation, AreRightLines, AreServed, IsBadCount, most_jobs, most_workers};
 ghost use Rattle.job_queue.specs.Sheet.{worker_of, IsBlank};
 
 use crate::blocks::{block_size, blocks_of, join};
 use crate::fault::PoolFault;
-use crate::numbers::{NumberPass, NumberQueue, Taker, fill};
+use crate::numbers::{NumberPass, NumberQueue, Taker, Takes, fill};
 use crate::serve::Serve;
 use crate::sheet::{Sheet, gather};
 use crate::station::{BlockResults, Station, work_all};
@@ -47,8 +47,11 @@ fn stations_of<S: Serve>(
     first: usize,
 ) -> Result<Vec<Station<S::Worker, BlockResults<S::Served>>>, AllocError>
     requires pass { IsPassOf queue.now pass.old }
+    requires knows { view pass.old ≡ putter (view pass.old).next 0 [] }
     requires ready { All (S.ready serve.now) workers.old.items }
     requires first { first ≤ vec_len workers.old }
+    ensures pass { IsPassOf queue.now pass.new }
+    ensures knows { IfOk result (λ v. view pass.new ≡ putter (view pass.old).next (vec_len v) []) }
     ensures fresh { IfOk result (λ v.
         All (IsNewStation (IsPassOf queue.now) (S.ready serve.now)) v.items) }
     ensures stations { IfOk result (λ v. map worker_of v.items ≡ drop first workers.old.items) }
@@ -64,7 +67,6 @@ fn stations_of<S: Serve>(
             worker,
             pass,
             results: Vec::new(alloc),
-            short: false,
         };
         stations.push_reserved(station);
     }
@@ -72,21 +74,25 @@ fn stations_of<S: Serve>(
 }
 
 /// Serves all blocks of jobs by the stations, adds their workers to the others, and brings the results onto the sheet.
-/// Whether some thread was short of memory.
+/// Whether all blocks were served, as they are where no thread was short of memory.
 fn serve_at<S: Serve + Sync, R: Threads + Wait + Sync>(
     rt: &R,
     alloc: Global,
     queue: &NumberQueue,
+    pass: &mut NumberPass,
     serve: &S,
     blocks: &[&[S::Job]],
     mut stations: Vec<Station<S::Worker, BlockResults<S::Served>>>,
     workers: &mut Vec<S::Worker>,
     sheet: &mut Sheet<BlockResults<S::Served>>,
 ) -> bool
+    requires pass { IsPassOf queue.now pass.old }
+    requires knows { view pass.old ≡ putter (length blocks.now) (vec_len stations) [] }
     requires fresh { All (IsNewStation (IsPassOf queue.now) (S.ready serve.now)) stations.items }
     requires ready { All (S.ready serve.now) workers.old.items }
     requires room { vec_len workers.old + vec_len stations ≤ vec_capacity workers.old }
     requires blank { IsBlank sheet.old.lines.items }
+    requires lines { vec_len sheet.old.lines ≡ length blocks.now }
     ensures ready { All (S.ready serve.now) workers.new.items }
     ensures later { AllZip S.later (workers.old.items ++ map worker_of stations.items)
         workers.new.items }
@@ -94,10 +100,12 @@ fn serve_at<S: Serve + Sync, R: Threads + Wait + Sync>(
     ensures lines { AreRightLines (InBlocks (S.fits serve.now)) blocks.now
         (workers.old.items ++ map worker_of stations.items) workers.new.items
         sheet.new.lines.items }
+    ensures each { IsTrue result → All IsSome sheet.new.lines.items }
 {
     unchanged::<S>(workers.as_slice());
     work_all(rt, alloc, queue, serve, blocks, stations.as_mut_slice());
-    gather(stations, workers, sheet)
+    gather(queue, pass, stations, workers, sheet);
+    queue.pop_as::<Takes, R>(rt, pass).is_none()
 }
 
 /// Takes what memory so many blocks want but that of the threads, and puts the blocks' numbers into a queue.
@@ -106,10 +114,9 @@ fn prepare<T: Drop, R: Wait>(rt: &R, alloc: Global, count: usize) -> Result<Prep
     ensures pass { IfOk result (λ p. IsPassOf p.queue p.pass) }
     ensures sheet { IfOk result (λ p. vec_len p.sheet.lines ≡ count) }
     ensures blank { IfOk result (λ p. IsBlank p.sheet.lines.items) }
-    ensures whole { IfOk result (λ p. p.sheet.spoilt ≡ false) }
     ensures results { IfOk result (λ p.
         (vec_len p.results ≡ 0) × (count ≤ vec_capacity p.results)) }
-    ensures filled { IfOk result (λ p. view p.pass ≡ pass_view true count []) }
+    ensures filled { IfOk result (λ p. view p.pass ≡ putter count 0 []) }
     ensures err { IfErr result (λ e. e ≡ PoolFault.Memory) }
 {
     let Ok(sheet) = Sheet::blank(alloc, count) else {
@@ -149,7 +156,7 @@ fn serve_each<S: Serve + Sync, R: Threads + Wait + Sync>(
     ensures count { IfOk result (λ v. vec_len v ≡ length blocks.now) }
     ensures each { IfOk result (λ v.
         AreServed (InBlocks (S.fits serve.now)) blocks.now workers.old.items workers.new.items v.items) }
-    ensures err { IfErr result (λ e. (e ≡ PoolFault.Memory) ⊎ (e ≡ PoolFault.Lost)) }
+    ensures err { IfErr result (λ e. e ≡ PoolFault.Memory) }
 {
     unchanged::<S>(workers.as_slice());
     let Prepared {
@@ -162,11 +169,11 @@ fn serve_each<S: Serve + Sync, R: Threads + Wait + Sync>(
         return Err(PoolFault::Memory);
     };
     if serve_at(
-        rt, alloc, &queue, serve, blocks, stations, workers, &mut sheet,
+        rt, alloc, &queue, &mut pass, serve, blocks, stations, workers, &mut sheet,
     ) {
-        return Err(PoolFault::Memory);
+        return Ok(sheet.read_out(results));
     }
-    sheet.read_out(results)
+    Err(PoolFault::Memory)
 }
 
 /// Serves all jobs, of which there is one at least, by the last workers, as many as `threads`.
@@ -186,7 +193,7 @@ fn serve_in_blocks<S: Serve + Sync, R: Threads + Wait + Sync>(
     ensures count { IfOk result (λ v. vec_len v ≡ length jobs.now) }
     ensures each { IfOk result (λ v.
         AreServed (S.fits serve.now) jobs.now workers.old.items workers.new.items v.items) }
-    ensures err { IfErr result (λ e. (e ≡ PoolFault.Memory) ⊎ (e ≡ PoolFault.Lost)) }
+    ensures err { IfErr result (λ e. e ≡ PoolFault.Memory) }
 {
     unchanged::<S>(workers.as_slice());
     let Ok(blocks) = blocks_of(alloc, jobs, block_size(jobs.len(), threads)) else {
@@ -207,7 +214,8 @@ fn serve_in_blocks<S: Serve + Sync, R: Threads + Wait + Sync>(
 /// - `BadWorkers`: `threads` is 0, above `MAX_WORKERS`, or more than there are workers.
 /// - `TooManyJobs`: there are more than `MAX_JOBS`.
 /// - `Memory`: there is none; some jobs may have been served.
-/// - `Lost`: the result of a job is missing or double, or is of no job.
+///
+/// No result is lost: each number that the queue handed out has its result, and it hands out each number once.
 ///
 /// That it returns is not claimed: its threads wait for one another.
 pub fn serve_all<S: Serve + Sync, R: Threads + Wait + Sync>(
@@ -225,7 +233,7 @@ pub fn serve_all<S: Serve + Sync, R: Threads + Wait + Sync>(
         → most_jobs < length jobs.now → result ≡ Err PoolFault.TooManyJobs }
     ensures served { (IsBadCount threads (vec_len workers.old) → ⊥)
         → length jobs.now ≤ most_jobs
-        → IsOk result ⊎ (result ≡ Err PoolFault.Memory) ⊎ (result ≡ Err PoolFault.Lost) }
+        → IsOk result ⊎ (result ≡ Err PoolFault.Memory) }
     ensures refused { IsBadCount threads (vec_len workers.old) ⊎ (most_jobs < length jobs.now)
         → workers.new ≡ workers.old }
     ensures ready { All (S.ready serve.now) workers.new.items }

@@ -1,9 +1,11 @@
 //! The results of all threads, brought into job order.
-ghost use Rattle.std.specs.Prelude.{◌≡◌, ◌⊎◌, ℕ, ◌+◌, ◌≤◌, ◌++◌, slice_get, Some, None, IfErr, IfOk, OnOk, false, vec_len, vec_capacity, map};
-ghost use Rattle.std.specs.List.{list_any};
-ghost use Rattle.job_queue.specs.Sheet.{is_short, IsAmong, IsBlank, IsUnfinished, StandsIn, worker_of};
+ghost use Rattle.std.specs.Prelude.{◌≡◌, ◌⊎◌, ℕ, ◌+◌, ◌<◌, ◌≤◌, ◌++◌, [], slice_get, Some, IfOk, true, vec_len, vec_capacity, map, All, IsSome};
+ghost use Rattle.crossbeam_queue.specs.Passes.{view, IsPassOf};
+ghost use Rattle.job_queue.specs.Numbers.{putter, WasTaken};
+ghost use Rattle.job_queue.specs.Serving.{IsKept};
+ghost use Rattle.job_queue.specs.Sheet.{HasLine, HasResult, IsAmong, IsBlank, StandsIn, worker_of};
 
-use crate::fault::PoolFault;
+use crate::numbers::{ComesBack, NumberPass, NumberQueue};
 use crate::station::{Numbered, Station};
 use std::alloc::{AllocError, Global};
 
@@ -11,8 +13,6 @@ use std::alloc::{AllocError, Global};
 #[derive(Drop)]
 pub struct Sheet<T> {
     pub lines: Vec<Option<T>>,
-    /// Whether a result came double, or of no job.
-    pub spoilt: bool,
 }
 
 impl<T: Drop> Sheet<T> {
@@ -20,39 +20,27 @@ impl<T: Drop> Sheet<T> {
     pub fn blank(alloc: Global, count: usize) -> Result<Sheet<T>, AllocError>
         ensures count { IfOk result (λ s. vec_len s.lines ≡ count) }
         ensures blank { IfOk result (λ s. IsBlank s.lines.items) }
-        ensures whole { IfOk result (λ s. s.spoilt ≡ false) }
     {
         let mut lines = Vec::with_capacity(alloc, count)?;
         for _ in 0..count {
             lines.push_reserved(None);
         }
-        Ok(Sheet {
-            lines,
-            spoilt: false,
-        })
+        Ok(Sheet { lines })
     }
 
-    /// Puts a result on its line. A double, or one of no job, spoils the sheet.
+    /// Puts a result on its line.
     fn put(&mut self, one: Numbered<T>)
         ensures count { vec_len self.new.lines ≡ vec_len self.old.lines }
         ensures lines { (k : ℕ) (served : T)
             → slice_get self.new.lines.items k ≡ Some (Some served)
             → (slice_get self.old.lines.items k ≡ Some (Some served))
             ⊎ ((k ≡ one.number) × (served ≡ one.served)) }
-        ensures put { slice_get self.old.lines.items one.number ≡ Some None
-            → (slice_get self.new.lines.items one.number ≡ Some (Some one.served))
-            × (self.new.spoilt ≡ self.old.spoilt) }
+        ensures stays { (k : ℕ) → HasLine self.old.lines.items k → HasLine self.new.lines.items k }
+        ensures put { one.number < vec_len self.old.lines → HasLine self.new.lines.items one.number }
     {
         let Numbered { number, served } = one;
-        match self.lines.get_mut(number as usize) {
-            Some(line) => {
-                if line.is_some() {
-                    self.spoilt = true;
-                } else {
-                    *line = Some(served);
-                }
-            }
-            None => self.spoilt = true,
+        if let Some(line) = self.lines.get_mut(number as usize) {
+            *line = Some(served);
         }
     }
 
@@ -63,6 +51,9 @@ impl<T: Drop> Sheet<T> {
             → slice_get self.new.lines.items k ≡ Some (Some served)
             → (slice_get self.old.lines.items k ≡ Some (Some served))
             ⊎ IsAmong results.items k served }
+        ensures stays { (k : ℕ) → HasLine self.old.lines.items k → HasLine self.new.lines.items k }
+        ensures entered { (k : ℕ) → k < vec_len self.old.lines → HasResult results.items k →
+            HasLine self.new.lines.items k }
     {
         for one in results {
             self.put(one);
@@ -70,54 +61,57 @@ impl<T: Drop> Sheet<T> {
     }
 
     /// All results, where each line has one.
-    pub fn read_out(self, mut results: Vec<T>) -> Result<Vec<T>, PoolFault>
+    pub fn read_out(self, mut results: Vec<T>) -> Vec<T>
         requires empty { vec_len results ≡ 0 }
         requires room { vec_len self.lines ≤ vec_capacity results }
-        ensures lines { IfOk result (λ v. map Some v.items ≡ self.lines.items) }
-        ensures whole { OnOk result (self.spoilt ≡ false) }
-        ensures err { IfErr result (λ e. (e ≡ PoolFault.Lost) × IsUnfinished self) }
+        requires each { All IsSome self.lines.items }
+        ensures lines { map Some result.items ≡ self.lines.items }
     {
-        let Sheet { lines, spoilt } = self;
-        if spoilt {
-            return Err(PoolFault::Lost);
-        }
+        let Sheet { lines } = self;
         for line in lines {
             match line {
                 Some(served) => results.push_reserved(served),
-                None => return Err(PoolFault::Lost),
+                None => unreachable!(),
             }
         }
-        Ok(results)
+        results
     }
 }
 
-/// Takes the workers back in order, and puts all results on the sheet. Whether some thread was short of
-/// memory.
+/// Takes the workers back in order, and their passes, and puts all results on the sheet.
 pub fn gather<W: Drop, T: Drop>(
+    queue: &NumberQueue,
+    pass: &mut NumberPass,
     stations: Vec<Station<W, T>>,
     workers: &mut Vec<W>,
     sheet: &mut Sheet<T>,
-) -> bool
+)
+    requires pass { IsPassOf queue.now pass.old }
+    requires knows { view pass.old ≡ putter (vec_len sheet.old.lines) (vec_len stations) [] }
+    requires kept { All (IsKept (IsPassOf queue.now) (vec_len sheet.old.lines)) stations.items }
     requires room { vec_len workers.old + vec_len stations ≤ vec_capacity workers.old }
+    ensures pass { IsPassOf queue.now pass.new }
+    ensures puts { (view pass.new).puts ≡ true }
+    ensures takes { (view pass.new).takes ≡ true }
+    ensures next { (view pass.new).next ≡ vec_len sheet.old.lines }
+    ensures home { (view pass.new).out ≡ 0 }
     ensures workers { workers.new.items ≡ workers.old.items ++ map worker_of stations.items }
     ensures count { vec_len sheet.new.lines ≡ vec_len sheet.old.lines }
     ensures lines { (k : ℕ) (served : T)
         → slice_get sheet.new.lines.items k ≡ Some (Some served)
         → (slice_get sheet.old.lines.items k ≡ Some (Some served))
         ⊎ StandsIn stations.items k served }
-    ensures short { result ≡ list_any is_short stations.items }
+    ensures taken { (k : ℕ) → k < vec_len sheet.old.lines → WasTaken k (view pass.new).taken →
+        HasLine sheet.new.lines.items k }
 {
-    let mut any_short = false;
     for station in stations {
         let Station {
             worker,
-            pass: _,
+            pass: theirs,
             results,
-            short,
         } = station;
+        queue.absorb::<ComesBack>(pass, theirs);
         sheet.enter(results);
         workers.push_reserved(worker);
-        any_short |= short;
     }
-    any_short
 }

@@ -28,14 +28,12 @@ pub struct Station<W, T> {
     pub worker: W,
     pub pass: NumberPass,
     pub results: Vec<Numbered<T>>,
-    /// Whether memory ran out for a result; no further job was served then.
-    pub short: bool,
 }
 
 /// What serving a block of jobs gave; nothing where there was no memory for it.
 pub type BlockResults<T> = Option<Vec<T>>;
 
-/// Serves blocks of jobs until none is left or memory runs out.
+/// Serves blocks of jobs until none is left, or there is no memory for one more result.
 fn work<S: Serve, R: Wait>(
     rt: &R,
     alloc: Global,
@@ -50,7 +48,6 @@ fn work<S: Serve, R: Wait>(
 {
     for _ in 0..blocks.len() {
         if station.results.reserve(1).is_err() {
-            station.short = true;
             return;
         }
         let Some(number) = queue.pop_as::<Takes, R>(rt, &mut station.pass) else {

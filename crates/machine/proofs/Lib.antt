@@ -15,3 +15,4 @@ pub mod Answering
 pub mod StandingLaws
 pub mod RunningStands
 pub mod RunningOn
+pub mod Possible

@@ -1,16 +1,22 @@
-//! Laws of runs in a world: when they may step, and that what is asked and answered is the world's step.
+//! Laws of runs in a world: when they may step, and that what is asked and answered is the world's step. The last two
+//! are of runs outside a world: words that some maps answer.
 //!
 //! Each is a function with an empty body, whose contract is the law.
-ghost use Rattle.std.specs.Prelude.{◌≡◌, ℕ, Option, Some, None, slice_get};
+ghost use Rattle.std.specs.Prelude.{◌≡◌, ℕ, Option, Some, None, Err, slice_get};
+ghost use Rattle.bpf_model.specs.declared.call.Errno.{Errno};
+ghost use Rattle.bpf_model.specs.declared.call.Helper.{Helper};
 ghost use Rattle.bpf_model.specs.declared.event.Event.{Event};
 ghost use Rattle.bpf_model.specs.declared.insn.Insn.{Insn};
+ghost use Rattle.bpf_model.specs.Call.{ret_word};
 ghost use Rattle.bpf_model.specs.Machine.{Loaded, Run};
 ghost use Rattle.bpf_model.specs.Schedule.{Schedule};
 ghost use Rattle.bpf_model.specs.Step.{insn_at};
 ghost use Rattle.bpf_model.specs.View.{RunView, WorldView, shapes_of};
 ghost use Rattle.verifier.specs.Checked.{Checked};
+ghost use Rattle.verifier.specs.Verdict.{IsJustified};
 ghost use Rattle.view_laws.specs.Matching.{Matches};
 ghost use Rattle.world_laws.specs.Local.{local_of};
+ghost use Rattle.world_laws.specs.Moving.{word_in};
 ghost use Rattle.world_laws.specs.Reacting.{full_reaction, insn_step};
 ghost use Rattle.world_laws.specs.Typed.{IsSound, IsRunning};
 ghost use Rattle.machine.specs.declared.request.Request.{Request};
@@ -18,7 +24,8 @@ ghost use Rattle.machine.specs.declared.request.Local.{Local};
 ghost use Rattle.machine.specs.Regions.{IsCodeOf};
 ghost use Rattle.machine.specs.Replies.{IsOwnStep, ServesRequest};
 ghost use Rattle.machine.specs.Requests.{request_of};
-ghost use Rattle.machine.specs.Standing.{IsRunOfChecked};
+ghost use Rattle.machine.specs.RunWords.{RunWords};
+ghost use Rattle.machine.specs.Standing.{AreHashMaps, Awaits, IsRunOfChecked, MayGive};
 ghost use Rattle.machine.specs.Steps.{CanStep, IsLocalStep};
 
 /// A run that has not ended may step, by the code of its program: whatever it reaches lies in the
@@ -60,4 +67,18 @@ pub fn own_step_is_the_worlds()
         (asked : Option Request) (answer : Local) →
         IsLocalStep (local_of insn v) asked v answer after →
         IsOwnStep answer asked r v after w (insn_step insn program r v w) }
+{}
+
+/// Some maps answer an update without flags by 0, where those of the program are hash maps with room.
+pub fn update_may_succeed()
+    ensures { (c : Checked) (r : RunWords) → IsJustified c → AreHashMaps c.shapes →
+        Awaits c (Request.Call Helper.Update) r → word_in r.view 4 ≡ 0 →
+        MayGive c r.view (Request.Call Helper.Update) 0 }
+{}
+
+/// Some maps answer a delete by the error that the key has no element, where those of the program are hash maps.
+pub fn delete_may_find_nothing()
+    ensures { (c : Checked) (r : RunWords) → IsJustified c → AreHashMaps c.shapes →
+        Awaits c (Request.Call Helper.Delete) r →
+        MayGive c r.view (Request.Call Helper.Delete) (ret_word (Err Errno.NoEntry)) }
 {}

@@ -21,7 +21,8 @@ mod transfer;
 mod workspace;
 
 pub use law::{
-    own_step_is_the_worlds, reacts_by_insn, running_can_step, running_stands, served_as_asked,
+    delete_may_find_nothing, own_step_is_the_worlds, reacts_by_insn, running_can_step,
+    running_stands, served_as_asked, update_may_succeed,
 };
 pub use regions::{SLOT_BASE, SPAN};
 pub use request::{Local, Next, Request};

@@ -18,12 +18,13 @@ use Rattle.model_laws.proofs.Holding.{holds-entry}
 use Rattle.plan_laws.specs.Verified.{AreMapsBound}
 use Rattle.view_laws.specs.Reactions.{fresh_view}
 use Rattle.world_laws.specs.Described.{region_bases}
-use Rattle.world_laws.specs.Standing.{AreWords, IsNumbered}
+use Rattle.bpf_model.specs.Refines.{AreWords}
+use Rattle.world_laws.specs.Standing.{IsNumbered}
 use Rattle.world_laws.proofs.Contents.{get-range}
 use Rattle.world_laws.proofs.Described.{starts-described}
 use Rattle.verifier.specs.Checked.{Checked}
 use Rattle.verifier.specs.Verdict.{IsJustified}
-use Rattle.machine.proofs.Turning.{numbered-closed}
+use Rattle.world_laws.proofs.Answered.{numbered-closed}
 use Rattle.map_free_runs.specs.Lone.{StandsAlone, loaded_among}
 
 start-word : (r : ℕ) → r < REGISTERS → WordIs region_bases (entry.regs r) (slice_index (fresh_view 0 []).registers r)

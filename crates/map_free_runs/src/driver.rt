@@ -1,7 +1,9 @@
 //! Whole runs.
-ghost use Rattle.std.specs.Prelude.{◌≡◌, ℕ, ◌<◌, ◌≤◌, length};
+ghost use Rattle.std.specs.Prelude.{◌≡◌, ℕ, ◌<◌, ◌≤◌, List, length};
 ghost use Rattle.bpf_model.specs.declared.limits.TheConstants.{MAX_SLOTS};
-ghost use Rattle.bpf_model.specs.Exit.{ExitsWith, HasNoMaps, MayExitWith};
+ghost use Rattle.bpf_model.specs.declared.limits.MapShape.{MapShape};
+ghost use Rattle.bpf_model.specs.Exit.{ExitsWith, HasNoMaps};
+ghost use Rattle.plan_laws.specs.MayExit.{MayExitWith};
 ghost use Rattle.map_free_runs.specs.Lone.{loaded_alone};
 
 use bpf_model::{CtxBytes, MAX_SLOTS, are_bytes};
@@ -24,8 +26,8 @@ pub fn run_to_exit(verified: &Verified, ctx: &CtxBytes) -> Finished
     requires maps { HasNoMaps verified.now.program }
     requires context { length ctx.now.items ≡ verified.now.ctx_len }
     ensures exits { ExitsWith (loaded_alone verified.now) ctx.now.items result.steps result.value }
-    ensures only { (steps value : ℕ) →
-        MayExitWith (loaded_alone verified.now) ctx.now.items steps value →
+    ensures only { (shapes : List MapShape) (steps value : ℕ) →
+        MayExitWith shapes (loaded_alone verified.now) ctx.now.items steps value →
         (result.steps ≡ steps) × (result.value ≡ value) }
     ensures bounded { result.steps ≤ length verified.now.program }
     ensures some { 0 < result.steps }

@@ -12,3 +12,4 @@ pub mod Counting
 pub mod NewMaps
 pub mod IndexOrder
 pub mod Arrays
+pub mod Becoming

@@ -24,7 +24,7 @@ pub struct HashMap<I: Index> {
 
 impl<I: Index> Model for HashMap<I> {
     ghost use Rattle.bpf_model.specs.View.{MapView};
-    ghost use Rattle.bpf_model.specs.Codes.{view_code};
+    ghost use Rattle.view_laws.specs.Codes.{view_code};
     ghost use Rattle.maps.specs.Counting.{IsCounted};
     ghost use Rattle.maps.specs.Shown.{map_view};
 

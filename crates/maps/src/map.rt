@@ -37,7 +37,7 @@ pub struct Map {
 
 impl Model for Map {
     ghost use Rattle.bpf_model.specs.View.{MapView};
-    ghost use Rattle.bpf_model.specs.Codes.{view_code};
+    ghost use Rattle.view_laws.specs.Codes.{view_code};
 
     ghost Value = { MapView };
 

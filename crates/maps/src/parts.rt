@@ -65,7 +65,7 @@ impl<I: Index> Parts<I> {
         ensures found { result ≡ map.get self.now.index key.now }
         ensures parted { IsParted self.now }
     {
-        self.index.locate(&self.arena, key).slot
+        self.index.find(&self.arena, key).slot
     }
 
     /// Links the slot that has been free longest under a key; key and value have the arena's lengths. The
@@ -90,13 +90,13 @@ impl<I: Index> Parts<I> {
         ensures room { IfOk result (λ found. IfNone found (admission.linked < admission.entries)) }
         ensures put { IfOk result (λ found. IsPut self.old self.new key.now value.now found) }
     {
-        let place = self.index.locate(&self.arena, key);
+        let place = self.index.find(&self.arena, key);
         match admission.first_error(place.slot.is_some()) {
             Some(errno) => Err(errno),
             None => match self.arena.take(key, value) {
                 None => Err(Errno::NoMemory),
                 Some(slot) => {
-                    self.index.put(&mut self.arena, place, slot);
+                    self.index.link(&mut self.arena, place, slot);
                     match place.slot {
                         None => Ok(None),
                         Some(old) => {

@@ -15,12 +15,12 @@ use Rattle.bpf_model.specs.declared.opcode.Width.TheVariants.{Eight}
 use Rattle.bpf_model.specs.Step.{slot_count}
 use Rattle.bpf_model.specs.Step.{insn_at}
 use Rattle.bpf_model.specs.Graph.{falls, distance, JumpsTo, GoesTo, Reached, reached_entry, reached_next}
-use Rattle.bpf_model.specs.Plain.{ReadsRegister, WritesRegister, ReadsByte, WritesByte, WithoutByte, without_entry, without_next}
-use Rattle.bpf_model.specs.PlainMaps.{lookup_call, lock_call, unlock_call, GuardedLookup, LookupPart, FrameCopy}
-use Rattle.bpf_model.specs.PlainMaps.{KeyAddress, MapLoad, LookupCall, NullTest, ValueLoad, part_insn, part_slot}
-use Rattle.bpf_model.specs.PlainMaps.{IsGuardedLookup, IsLookupPart, HasForm, InSection, section_entry, section_lock}
-use Rattle.bpf_model.specs.PlainMaps.{section_unlock, section_next, LacksRegister, lacks_entry, lacks_call}
-use Rattle.bpf_model.specs.PlainMaps.{lacks_next, IsPlainWithMaps}
+use Rattle.model_laws.specs.Plain.{ReadsRegister, WritesRegister, ReadsByte, WritesByte, WithoutByte, without_entry, without_next}
+use Rattle.model_laws.specs.PlainMaps.{lookup_call, lock_call, unlock_call, GuardedLookup, LookupPart, FrameCopy}
+use Rattle.model_laws.specs.PlainMaps.{KeyAddress, MapLoad, LookupCall, NullTest, ValueLoad, part_insn, part_slot}
+use Rattle.model_laws.specs.PlainMaps.{IsGuardedLookup, IsLookupPart, HasForm, InSection, section_entry, section_lock}
+use Rattle.model_laws.specs.PlainMaps.{section_unlock, section_next, LacksRegister, lacks_entry, lacks_call}
+use Rattle.model_laws.specs.PlainMaps.{lacks_next, IsPlainWithMaps}
 use Rattle.model_laws.specs.Example.{lookup_and_load, example_shape}
 
 -- what holds of each instruction of a list and the slot where it begins, the first at slot n

@@ -100,7 +100,7 @@ module _ (reap : Bool) (opened : List Section) (s new : Store) (mv : StoreMoves 
     }))
   ]
 
-  keeps-single : IsSingle s.elements → IsSingle new.elements
+  pub keeps-single : IsSingle s.elements → IsSingle new.elements
   keeps-single w map key a b la lb = elim (link-before map key a la) [
     | inl x ↦ elim (link-before map key b lb) [
       | inl y ↦ w map key a b x y
@@ -117,7 +117,7 @@ module _ (reap : Bool) (opened : List Section) (s new : Store) (mv : StoreMoves 
   lengths-altered : (e f : Element) → Alters reap opened e f → HasLengths new.maps e → HasLengths new.maps f
   lengths-altered e f a h = (h.0, ap (slice_get new.maps) a.in_map ∙ h.1, ap length a.under ∙ h.2, a.size ∙ h.3)
 
-  keeps-lengths : ((n : ℕ) (e : Element) → slice_get s.elements n ≡ Some e → HasLengths s.maps e) →
+  pub keeps-lengths : ((n : ℕ) (e : Element) → slice_get s.elements n ≡ Some e → HasLengths s.maps e) →
       (n : ℕ) (e : Element) → slice_get new.elements n ≡ Some e → HasLengths new.maps e
   keeps-lengths w n e h = elim (element-before reap opened s new n e mv h) [
     | inl x ↦ lengths-altered x.old e x.alters (lengths-later x.old (w n x.old x.there))

@@ -38,42 +38,42 @@ use Rattle.model_laws.proofs.Requests.{by_kind, run_by_kind}
 -- what stays of a run in a step of it
 pub record GoesOn (run new : Run) : Type 0 where
   pub name : new.name ≡ run.name
-  pub locks : run.locks ≤ new.locks
-  pub section : 0 < new.depth → ((0 < run.depth) × (new.locks ≡ run.locks)) ⊎ (run.locks < new.locks)
+  pub sections : run.sections ≤ new.sections
+  pub section : 0 < new.depth → ((0 < run.depth) × (new.sections ≡ run.sections)) ⊎ (run.sections < new.sections)
   pub deep : run.depth ≤ MAX_DEPTH → new.depth ≤ MAX_DEPTH
   pub ends : new.exit ≢ None → ((run.exit ≢ None) × (new.depth ≡ run.depth)) ⊎ (new.depth ≡ 0)
 
 pub goes-same : (run : Run) → GoesOn run run
-goes-same run = record { name = refl; locks = omega arith; section = λ h. inl (h, refl); deep = λ h. h; ends = λ h. inl (h, refl) }
+goes-same run = record { name = refl; sections = omega arith; section = λ h. inl (h, refl); deep = λ h. h; ends = λ h. inl (h, refl) }
 
 goes-moves : (run : Run) (next : State) → GoesOn run (moves run next)
-goes-moves run next = record { name = refl; locks = omega arith; section = λ h. inl (h, refl); deep = λ h. h; ends = λ h. inl (h, refl) }
+goes-moves run next = record { name = refl; sections = omega arith; section = λ h. inl (h, refl); deep = λ h. h; ends = λ h. inl (h, refl) }
 
 goes-exits : (run : Run) (n : ℕ) → run.depth ≡ 0 → GoesOn run (exits run n)
-goes-exits run n out = record { name = refl; locks = omega arith; section = λ h. inl (h, refl); deep = λ h. h; ends = λ h. inr out }
+goes-exits run n out = record { name = refl; sections = omega arith; section = λ h. inl (h, refl); deep = λ h. h; ends = λ h. inr out }
 
 goes-unlocked : (run : Run) (next : State) → run.exit ≡ None → 0 < run.depth → GoesOn run (moves (unlocked run) next)
 goes-unlocked run next going inside = record {
   name = refl;
-  locks = omega arith;
+  sections = omega arith;
   section = λ h. inl (inside, refl);
   deep = λ h. omega arith;
   ends = λ h. absurd (h going);
 }
 
-locks-more : (b : Bool) (l : ℕ) → l ≤ (if b then l + 1 else l)
-locks-more true l = omega arith
-locks-more false l = omega arith
+sections-more : (b : Bool) (l : ℕ) → l ≤ (if b then l + 1 else l)
+sections-more true l = omega arith
+sections-more false l = omega arith
 
-locks-section : (b : Bool) (d l : ℕ) → (d == 0) ≡ b → ((0 < d) × ((if b then l + 1 else l) ≡ l)) ⊎ (l < (if b then l + 1 else l))
-locks-section true d l e = inr (omega arith)
-locks-section false d l e = inl (elim (cases_lt 0 d) [ inl y ↦ y | inr z ↦ absurd (eqb-false d 0 e (omega arith)) ], refl)
+section-or-more : (b : Bool) (d l : ℕ) → (d == 0) ≡ b → ((0 < d) × ((if b then l + 1 else l) ≡ l)) ⊎ (l < (if b then l + 1 else l))
+section-or-more true d l e = inr (omega arith)
+section-or-more false d l e = inl (elim (cases_lt 0 d) [ inl y ↦ y | inr z ↦ absurd (eqb-false d 0 e (omega arith)) ], refl)
 
 goes-locked : (run : Run) (next : State) → run.exit ≡ None → run.depth < MAX_DEPTH → GoesOn run (moves (locked run) next)
 goes-locked run next going room = record {
   name = refl;
-  locks = locks-more (run.depth == 0) run.locks;
-  section = λ h. locks-section (run.depth == 0) run.depth run.locks refl;
+  sections = sections-more (run.depth == 0) run.sections;
+  section = λ h. section-or-more (run.depth == 0) run.depth run.sections refl;
   deep = λ h. omega arith;
   ends = λ h. absurd (h going);
 }

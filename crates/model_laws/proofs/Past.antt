@@ -12,11 +12,11 @@ use Rattle.model_laws.proofs.Sections.{OpenAt, open_at, has_open}
 use Rattle.model_laws.proofs.Moves.{RunsMove, run-before, started-grows, does-move}
 
 opened-later : (m new : Machine) (s : Section) → RunsMove m new → HasBegun m s → (r : ℕ) (run : Run) →
-    run_at new.runs r ≡ Some run → run.name ≡ s.run → s.lock ≤ run.locks
+    run_at new.runs r ≡ Some run → run.name ≡ s.run → s.number ≤ run.sections
 opened-later m new s mv b r run at same = elim (run-before m new r run mv at) [
   | inl x ↦
-      let first : s.lock ≤ x.old.locks = b.opened r x.old x.there (sym x.goes.name ∙ same) in
-      let then : x.old.locks ≤ run.locks = x.goes.locks in
+      let first : s.number ≤ x.old.sections = b.opened r x.old x.there (sym x.goes.name ∙ same) in
+      let then : x.old.sections ≤ run.sections = x.goes.sections in
       omega arith
   | inr x ↦
       let name : m.started ≡ run.name = ap (λ q. q.name) x.is.2 in
@@ -34,10 +34,10 @@ pub all-begun-later : (m new : Machine) (since : List Section) → RunsMove m ne
 all-begun-later m new since mv all s h = begun-later m new s mv (all s h)
 
 same-section : (m new : Machine) (s : Section) (r : ℕ) (old run : Run) → run_at m.runs r ≡ Some old → 0 < old.depth →
-    run.name ≡ old.name → run.locks ≡ old.locks → section_of run ≡ s → Has (open_sections m.runs) s
-same-section m new s r old run at inside name locks is =
+    run.name ≡ old.name → run.sections ≡ old.sections → section_of run ≡ s → Has (open_sections m.runs) s
+same-section m new s r old run at inside name sections is =
     let a : old.name ≡ s.run = sym name ∙ ap (λ x. x.run) is in
-    let b : old.locks ≡ s.lock = sym locks ∙ ap (λ x. x.lock) is in
+    let b : old.sections ≡ s.number = sym sections ∙ ap (λ x. x.number) is in
     let same : section_of old ≡ s = cc in
     subst (Has (open_sections m.runs)) same (has_open m.runs r old at inside)
 
@@ -46,8 +46,8 @@ reopened m new s mv b o = elim (run-before m new o.slot o.run mv o.there) [
   | inl x ↦ elim (x.goes.section o.inside) [
     | inl y ↦ same-section m new s o.slot x.old o.run x.there y.0 x.goes.name y.1 o.is
     | inr y ↦
-        let e : o.run.locks ≡ s.lock = ap (λ z. z.lock) o.is in
-        let most : s.lock ≤ x.old.locks = b.opened o.slot x.old x.there (sym x.goes.name ∙ ap (λ z. z.run) o.is) in
+        let e : o.run.sections ≡ s.number = ap (λ z. z.number) o.is in
+        let most : s.number ≤ x.old.sections = b.opened o.slot x.old x.there (sym x.goes.name ∙ ap (λ z. z.run) o.is) in
         absurd (omega arith)
   ]
   | inr x ↦
@@ -91,6 +91,6 @@ open-begun m w s h = begun-of m w s (open_at m.runs s h)
       started = (let named : o.run.name < m.started = w.named o.slot o.run o.there in let e : o.run.name ≡ s.run = ap (λ x. x.run) o.is in omega arith);
       opened = λ r run at same.
           let e : o.run ≡ run = same-run m w s o r run at same in
-          let l : run.locks ≡ s.lock = ap (λ x. x.locks) (sym e) ∙ ap (λ x. x.lock) o.is in
+          let l : run.sections ≡ s.number = ap (λ x. x.sections) (sym e) ∙ ap (λ x. x.number) o.is in
           omega arith;
     }

@@ -86,11 +86,11 @@ since-before reap opened s new k n f since mv q at life = elim (element-before r
 pub open-flag : (runs : List (Option Run)) (r : ℕ) (run : Run) → run_at runs r ≡ Some run → 0 < run.depth → slice_get (open_flags runs) r ≡ Some true
 open-flag runs r run at inside = get-map is_open runs r (Some run) (flattened (slice_get runs r) run at) ∙ ap Some (lt-ltb 0 run.depth inside)
 
--- a section that an element keeps, under another name of the same run and lock
-has-same : (since : List Section) (name old_name lock old_lock : ℕ) → name ≡ old_name → lock ≡ old_lock →
-    Has since (record { run = name; lock = lock }) → Has since (record { run = old_name; lock = old_lock })
-has-same since name old_name lock old_lock a b h = subst (λ x. Has since (record { run = old_name; lock = x })) b
-    (subst (λ x. Has since (record { run = x; lock = lock })) a h)
+-- a section that an element keeps, under another name of the same run and number
+has-same : (since : List Section) (name old_name count old_count : ℕ) → name ≡ old_name → count ≡ old_count →
+    Has since (record { run = name; number = count }) → Has since (record { run = old_name; number = old_count })
+has-same since name old_name count old_count a b h = subst (λ x. Has since (record { run = old_name; number = x })) b
+    (subst (λ x. Has since (record { run = x; number = count })) a h)
 
 module _ (reap : Bool) (s new : Schedule) (w : IsScheduled s) (runs : RunsMove s.machine new.machine)
     (mv : StoreMoves reap (open_sections s.machine.runs) s.machine.store new.machine.store) where
@@ -105,16 +105,18 @@ module _ (reap : Bool) (s new : Schedule) (w : IsScheduled s) (runs : RunsMove s
   awaited-before : (k n : ℕ) (q : Queues) (e : Element) (since : List Section) (r : ℕ) (run : Run) →
       slice_get s.queues k ≡ Some q → 0 < times n q.waiting → slice_get s.machine.store.elements n ≡ Some e →
       e.life ≡ Unlinked since → AllBegun s.machine since →
-      run_at new.machine.runs r ≡ Some run → 0 < run.depth → Has since (record { run = run.name; lock = run.locks }) → slice_get s.awaited r ≡ Some true
+      run_at new.machine.runs r ≡ Some run → 0 < run.depth → Has since (record { run = run.name; number = run.sections }) → slice_get s.awaited r ≡ Some true
   awaited-before k n q e since r run at has born life begun there inside h = elim (run-before s.machine new.machine r run runs there) [
     | inl x ↦ elim (x.goes.section inside) [
-      | inl y ↦ (w.waits k q at).awaits n e since r x.old has born life x.there y.0 (has-same since run.name x.old.name run.locks x.old.locks x.goes.name y.1 h)
+      | inl y ↦
+          let same = has-same since run.name x.old.name run.sections x.old.sections x.goes.name y.1 h in
+          (w.waits k q at).awaits n e since r x.old has born life x.there y.0 same
       | inr y ↦
-          let most : run.locks ≤ x.old.locks = (begun (record { run = run.name; lock = run.locks }) h).opened r x.old x.there (sym x.goes.name) in
+          let most : run.sections ≤ x.old.sections = (begun (record { run = run.name; number = run.sections }) h).opened r x.old x.there (sym x.goes.name) in
           absurd (omega arith)
     ]
     | inr x ↦
-        let before : run.name < s.machine.started = (begun (record { run = run.name; lock = run.locks }) h).started in
+        let before : run.name < s.machine.started = (begun (record { run = run.name; number = run.sections }) h).started in
         let now : s.machine.started ≡ run.name = ap (λ z. z.name) x.is.2 in
         absurd (omega arith)
   ]

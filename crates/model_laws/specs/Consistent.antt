@@ -45,7 +45,7 @@ IsSingle es = (map : ℕ) (key : List ℕ) (a b : ℕ) → IsLinkedAt es map key
 pub record HasBegun (m : Machine) (s : Section) : Type 0 where
   pub started : s.run < m.started
   pub opened : (r : ℕ) (run : Run) → run_at m.runs r ≡ Some run → run.name ≡ s.run →
-      s.lock ≤ run.locks
+      s.number ≤ run.sections
 
 abbrev pub AllBegun : Machine → List Section → Type 0
 AllBegun m sections = (s : Section) → Has sections s → HasBegun m s

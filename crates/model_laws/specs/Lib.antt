@@ -7,7 +7,9 @@ pub mod Growth
 pub mod Holds
 pub mod Locations
 pub mod Near
+pub mod Plain
 pub mod PlainAlone
+pub mod PlainMaps
 pub mod Replies
 pub mod Scheduled
 pub mod Steps

@@ -4,8 +4,8 @@
 use Rattle.std.specs.Prelude.{◌≡◌, ℕ, List, Some}
 use Rattle.bpf_model.specs.declared.insn.Insn.{Insn}
 use Rattle.bpf_model.specs.Graph.{HasForwardGraph}
-use Rattle.bpf_model.specs.Plain.{ReadsRegister, WritesRegister, ReadsByte, IsSimple, WithoutWrite}
-use Rattle.bpf_model.specs.Plain.{WithoutByte}
+use Rattle.model_laws.specs.Plain.{ReadsRegister, WritesRegister, ReadsByte, IsSimple, WithoutWrite}
+use Rattle.model_laws.specs.Plain.{WithoutByte}
 use Rattle.bpf_model.specs.Step.{insn_at}
 
 -- a path leads to the slot on which the register isn't written

@@ -22,7 +22,7 @@ ghost use Rattle.bpf_model.specs.Machine.{Machine, Loaded, open_sections, run_at
 ghost use Rattle.bpf_model.specs.Schedule.{Queues, Schedule, is_any, first_ready, DoesScheduled, IsScheduledHistory, start_schedule};
 ghost use Rattle.bpf_model.specs.Drain.{Drains, machines, AnswersAsScheduled, AreScheduledAnswers};
 ghost use Rattle.model_laws.specs.PlainAlone.{IsPlain};
-ghost use Rattle.bpf_model.specs.PlainMaps.{IsPlainWithMaps};
+ghost use Rattle.model_laws.specs.PlainMaps.{IsPlainWithMaps};
 ghost use Rattle.bpf_model.specs.Event.{refusal, DoesEvent};
 ghost use Rattle.bpf_model.specs.Replay.{HasHistoryTo};
 ghost use Rattle.bpf_model.specs.History.{IsHistory, last_of};
@@ -33,7 +33,7 @@ ghost use Rattle.bpf_model.specs.declared.value.Reference.{Reference};
 ghost use Rattle.bpf_model.specs.View.{WorldView, start_view, shapes_of};
 ghost use Rattle.bpf_model.specs.Refines.{IsReachedSchedule, TracksSchedule, Tracks};
 ghost use Rattle.bpf_model.specs.Word.{IsReferenceWord, element_bases};
-ghost use Rattle.bpf_model.specs.Exit.{ExitsWith, MayExitWith, HasNoMaps};
+ghost use Rattle.bpf_model.specs.Exit.{HasNoMaps};
 ghost use Rattle.bpf_model.specs.Machine.{Run, fresh_run};
 ghost use Rattle.model_laws.specs.ByKind.{StepsByKind};
 ghost use Rattle.bpf_model.specs.MachineStep.{InsnStep, RunStep};
@@ -389,22 +389,6 @@ pub fn one_step_alone()
         (run new next : Run) (a b : Answer) →
         SharesNothing run → RunStep store opened run a new_store new →
         RunStep other sections run b other_store next → new ≡ next }
-{}
-
-/// Where a program exits on a context whatever other actors do, it has no other exit: no run of it,
-/// over any maps and open sections, exits after another number of steps or with another value.
-pub fn one_exit()
-    ensures steps { (program : Loaded) (context : List ℕ) (s t n k : ℕ) →
-        ExitsWith program context s n → MayExitWith program context t k → s ≡ t }
-    ensures value { (program : Loaded) (context : List ℕ) (s t n k : ℕ) →
-        ExitsWith program context s n → MayExitWith program context t k → n ≡ k }
-{}
-
-/// A program without map references exits, where it does over some maps and open sections, so whatever other
-/// actors do.
-pub fn exits_alone()
-    ensures { (program : Loaded) (context : List ℕ) (s n : ℕ) → HasNoMaps program.code →
-        MayExitWith program context s n → ExitsWith program context s n }
 {}
 
 /// A step of an instruction, told by the kind of the instruction: by itself, an access to an element, a call

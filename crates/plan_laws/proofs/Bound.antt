@@ -19,7 +19,7 @@ same-items (x ∷ xs) (y ∷ ys) e h =
     ap (λ z. z ∷ xs) (sym (same_Some y x (h 0 x refl))) ∙ ap (λ zs. y ∷ zs) rest
 
 -- the maps of a list have one list of shapes
-bound-alike : (a b : List MapShape) (maps : List ℕ) (states : List MapState) → AreMapsBound a maps states → AreMapsBound b maps states → a ≡ b
+pub bound-alike : (a b : List MapShape) (maps : List ℕ) (states : List MapState) → AreMapsBound a maps states → AreMapsBound b maps states → a ≡ b
 bound-alike a b maps states p q =
     let count : length a ≡ length b = sym p.count ∙ q.count in
     same-items a b count (λ i x at.

@@ -57,7 +57,7 @@ lock-holds s run map n h = record {
     | inl g ↦
         let inside : 0 < run.depth = g.0 in
         let same : section_of (locked run) ≡ section_of run =
-        ap (λ (b : Bool). record { run = run.name; lock = if b then run.locks + 1 else run.locks })
+        ap (λ (b : Bool). record { run = run.name; number = if b then run.sections + 1 else run.sections })
         (ne_eqb run.depth 0 (λ e. absurd (omega (arith, inside, e)))) in
         inl (omega (arith, inside), subst (IsGuarded h.element.life) (sym same) g.1)
     | inr a ↦ inr (record { number = a.number; listed = a.listed; array = a.array })

@@ -52,6 +52,8 @@ ghost use Rattle.bpf_model.specs.Element.{Element};
 ghost use Rattle.bpf_model.specs.Word.{IsReferenceWord, element_bases};
 ghost use Rattle.model_laws.specs.Near.{IsNearReference};
 ghost use Rattle.model_laws.specs.Locations.{named_location};
+ghost use Rattle.bpf_model.specs.Exit.{ExitsWith, HasNoMaps};
+ghost use Rattle.plan_laws.specs.MayExit.{MayExitWith};
 ghost use Rattle.plan_laws.specs.Limits.{IsWithinLimits, IsNearMachine};
 ghost use Rattle.plan_laws.specs.Well.{AreVerified, IsWell};
 
@@ -322,4 +324,22 @@ pub fn array_outside()
 pub fn array_cell_outside()
     ensures { (a : AbsState) (c : Scene) (m : State) (k map : ℕ) (s : Scalar) → Describes a c m
         → a.depth ≡ 0 → a.cells k ≡ PartCell (ValueAt map s) → IsArrayMap c map }
+{}
+
+/// Where a program exits on a context whatever other actors do, it has no other exit: no run of it, among maps of any
+/// shapes for which it may have been verified, exits after another number of steps or with another value.
+pub fn one_exit()
+    ensures steps { (shapes : List MapShape) (program : Loaded) (context : List ℕ)
+        (s t n k : ℕ) → ExitsWith program context s n → MayExitWith shapes program context t k
+        → s ≡ t }
+    ensures value { (shapes : List MapShape) (program : Loaded) (context : List ℕ)
+        (s t n k : ℕ) → ExitsWith program context s n → MayExitWith shapes program context t k
+        → n ≡ k }
+{}
+
+/// A program without map references exits, where it may, so whatever other actors do.
+pub fn exits_alone()
+    ensures { (shapes : List MapShape) (program : Loaded) (context : List ℕ) (s n : ℕ) →
+        HasNoMaps program.code → MayExitWith shapes program context s n →
+        ExitsWith program context s n }
 {}

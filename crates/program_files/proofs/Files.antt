@@ -11,24 +11,25 @@ use Rattle.bpf_model.specs.declared.limits.MapShape.{MapShape}
 use Rattle.bpf_model.specs.View.{new_map_view}
 use Rattle.bpf_model.proofs.Lists.{heads, tails, cons-nil}
 use Rattle.maps.specs.Registry.{RegistryView, no_maps}
-use Rattle.program_files.specs.Lines.{file_words, IsDecimalWord, code_slots, slot_in}
+use Rattle.program_files.specs.Lines.{file_words, code_slots, slot_in}
+use Rattle.script_lines.specs.Words.{number_in}
 use Rattle.std.specs.Fmt.{option_append}
 use Rattle.program_files.specs.ProgramFile.{FileContent, IsContextLine, AreHashWords, AreArrayWords, AreShapeWords}
 use Rattle.program_files.specs.ProgramFile.{IsMapLine, AddsMap, AddMaps, IsProgramFile, IsFileBeginning, IsWrongAfter}
 use Rattle.program_files.specs.ProgramFile.{IsFirstWrongLine}
-use Rattle.program_files.specs.Reading.{AreMapsSoFar, IsAtStage}
+use Rattle.program_files.specs.Stages.{AreMapsSoFar, IsAtStage}
 use Rattle.program_files.proofs.Slots.{joined_nil}
 use Rattle.program_files.specs.declared.loader.fault.LineFault.{LineFault}
-use Rattle.program_files.specs.declared.loader.loading.Stage.{Stage}
-use Rattle.program_files.specs.declared.loader.loading.Stage.TheVariants.{Context, Maps, Code}
+use Rattle.program_files.specs.declared.loader.lines_read.Stage.{Stage}
+use Rattle.program_files.specs.declared.loader.lines_read.Stage.TheVariants.{Context, Maps, Code}
 
 abbrev code_line : List ℕ
 code_line = codes "code"
 
 -- a line tells one map, and a registry becomes one other by it
 
-same_number : (v w : List ℕ) (m n : ℕ) → v ≡ w → IsDecimalWord v m → IsDecimalWord w n → m ≡ n
-same_number v w m n e h k = let a = h.value in let b = k.value in cc
+same_number : (v w : List ℕ) (m n : ℕ) → v ≡ w → number_in v ≡ Some m → number_in w ≡ Some n → m ≡ n
+same_number v w m n e h k = same_Some m n (sym h ∙ (ap number_in e ∙ k))
 
 same_shape : (s t : MapShape) → s.kind ≡ t.kind → s.key_len ≡ t.key_len → s.value_len ≡ t.value_len →
     s.entries ≡ t.entries → s.spare ≡ t.spare → s.reuse_limit ≡ t.reuse_limit → s ≡ t
@@ -194,7 +195,7 @@ none_begins = (
     map_lines = [];
     code_lines = [];
     parts = refl;
-    context = record { word = codes "0"; words = refl; number = record { numeral = refl; value = refl; fits = omega arith }; limit = omega arith };
+    context = record { word = codes "0"; words = refl; number = refl; limit = omega arith };
     maps = refl;
     code = refl;
   },

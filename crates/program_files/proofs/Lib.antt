@@ -1,9 +1,9 @@
 pub mod NewMaps
 pub mod Numbers
 pub mod Raw
-pub mod Reading
+pub mod GivenBytes
 pub mod Shapes
 pub mod Files
 pub mod Slots
-pub mod Splitting
+pub mod Cuts
 pub mod Texts

@@ -1,15 +1,15 @@
--- Where a number is missing among the words of a hash map's shape.
+-- Where a number is missing among the words of a map's shape.
 use Rattle.std.proofs.Common.{◌≡◌, ◌<◌, ◌∷◌, [], ℕ, List}
 use Rattle.std.specs.Prelude.{Option, Some, None, IfNone}
 use Rattle.bpf_model.specs.declared.limits.MapShape.{MapShape}
 use Rattle.bpf_model.specs.declared.limits.TheConstants.{MAX_REUSE}
-use Rattle.program_files.specs.Lines.{IsDecimalWord}
-use Rattle.program_files.specs.ProgramFile.{AreHashWords}
+use Rattle.script_lines.specs.Words.{number_in}
+use Rattle.program_files.specs.ProgramFile.{AreHashWords, AreArrayWords}
 
 -- the first of these words is no number
 abbrev pub BeginsWithNone : List (List ℕ) → Type 0
 BeginsWithNone words =
-    (w : List ℕ) (ws : List (List ℕ)) (n : ℕ) → words ≡ w ∷ ws → IsDecimalWord w n → ⊥
+    (w : List ℕ) (ws : List (List ℕ)) (n : ℕ) → words ≡ w ∷ ws → number_in w ≡ Some n → ⊥
 
 pub if_none : {X P : Type 0} (r : Option X) → P → IfNone r P
 if_none None p = p
@@ -38,3 +38,9 @@ pub no_reuse : (words one two three four : List (List ℕ)) (a b d g : List ℕ)
 no_reuse words one two three four a b d g s e e2 e3 e4 none h =
     let f = h.words_are in
     absurd (none h.reuse [] s.reuse_limit (cc) h.reuse_limit)
+
+pub no_array_entries : (words one two : List (List ℕ)) (a b : List ℕ) (s : MapShape) → words ≡ a ∷ one → one ≡ b ∷ two
+    → BeginsWithNone two → AreArrayWords words s → ⊥
+no_array_entries words one two a b s e e2 none h =
+    let f = h.words_are in
+    none h.entries [] s.entries (cc) h.entries_is

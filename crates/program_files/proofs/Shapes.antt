@@ -5,7 +5,7 @@ use Rattle.std.proofs.lemmas.List.{take_more, map-append}
 use Rattle.std.proofs.lemmas.Option.{slice_get_cases, same_Some, none-some}
 use Rattle.bpf_model.specs.View.{MapView, shapes_of_maps, shape_of_view as shape_of}
 use Rattle.bpf_model.specs.declared.limits.MapShape.{MapShape}
-use Rattle.bpf_model.specs.PlainMaps.{IsPlainWithMaps}
+use Rattle.model_laws.specs.PlainMaps.{IsPlainWithMaps}
 use Rattle.verifier.specs.declared.refusal.ProgramRefusal.{ProgramRefusal}
 use Rattle.verifier.specs.declared.refusal.ProgramRefusal.TheVariants.{Memory}
 use Rattle.verifier.specs.Numbers.{refusal_number}

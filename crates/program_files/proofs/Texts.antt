@@ -5,21 +5,21 @@ use Rattle.std.specs.Prelude.{Option, Some, None, MatchOption, Result, Ok, Err, 
 use Rattle.std.proofs.lemmas.Bool.{false≢true}
 use Rattle.std.proofs.lemmas.Bool.Decides.{nat_tests}
 use Rattle.std.proofs.lemmas.List.{length-append}
-use Rattle.program_files.specs.Lines.{file_lines}
+use Rattle.script_stream.specs.Lines.{lines_of}
 use Rattle.program_files.specs.ProgramFile.{FileContent, heading, IsProgramFile, IsFileBeginning, IsFirstWrongLine, FileSays, IsWrongFile, IsLoadFault}
-use Rattle.program_files.specs.Reading.{HasNoByte, HasLoaded}
-use Rattle.program_files.specs.declared.loader.loading.Loading.{Loading}
+use Rattle.program_files.specs.Stages.{HasNoByte, HasLoaded}
+use Rattle.program_files.specs.declared.loader.lines_read.LinesRead.{LinesRead}
 use Rattle.program_files.specs.Loaded.{loaded_content}
 use Rattle.program_files.specs.declared.loader.fault.LoadFault.{LoadFault}
 use Rattle.program_files.specs.declared.loader.fault.LoadFault.TheVariants.{BadFile, Memory}
 use Rattle.program_files.specs.declared.loader.program_file.ProgramFile.{ProgramFile}
 use Rattle.program_files.proofs.Files.{one_content, not_wrong}
-use Rattle.program_files.proofs.Splitting.{first_line, last_line}
+use Rattle.program_files.proofs.Cuts.{first_line, last_line}
 
 -- what was loaded is the lines but for those of the rest, and the number is that of the next one
-pub record IsReadTo (text rest : List ℕ) (loading : Loading) (number : ℕ) : Type 0 where
+pub record IsReadTo (text rest : List ℕ) (loading : LinesRead) (number : ℕ) : Type 0 where
   pub front : List (List ℕ)
-  pub lines : file_lines text ≡ front ++ file_lines rest
+  pub lines : lines_of text ≡ front ++ lines_of rest
   pub loaded : HasLoaded front loading
   pub number_is : number ≡ length front + 2
   pub room : number + length rest ≤ length text + 2
@@ -27,60 +27,60 @@ pub record IsReadTo (text rest : List ℕ) (loading : Loading) (number : ℕ) : 
 -- the first line of a text that is not empty, and the lines of what is behind it
 pub lines_cut : (text front : List ℕ) (rest : Option (Bor (List ℕ))) (more : List ℕ) → 0 < length text →
     HasNoByte 10 front → MatchOption rest (text ≡ front) (λ r. text ≡ front ++ 10 ∷ r.now) →
-    MatchOption rest (more ≡ []) (λ r. more ≡ r.now) → (file_lines text ≡ front ∷ file_lines more) ×
+    MatchOption rest (more ≡ []) (λ r. more ≡ r.now) → (lines_of text ≡ front ∷ lines_of more) ×
     (length more < length text)
 lines_cut [] front None more some h e f = absurd (omega arith)
 lines_cut (b ∷ text) front None more some h e f = (
   last_line b text (subst (HasNoByte 10) (sym e) h) ∙ ap (λ (l : List ℕ). l ∷ []) e ∙
-      ap (λ (m : List ℕ). front ∷ file_lines m) (sym f),
+      ap (λ (m : List ℕ). front ∷ lines_of m) (sym f),
   let l : length more ≡ 0 = ap length f in omega arith,
 )
 lines_cut text front (Some r) more some h e f = (
-  ap file_lines e ∙ first_line front r.now h ∙ ap (λ (m : List ℕ). front ∷ file_lines m) (sym f),
+  ap lines_of e ∙ first_line front r.now h ∙ ap (λ (m : List ℕ). front ∷ lines_of m) (sym f),
   let a : length text ≡ length front + length (10 ∷ r.now) = ap length e ∙
       length-append front (10 ∷ r.now) in let m : length more ≡ length r.now = ap length f in omega arith,
 )
 
-pub read_line : (text rest line more : List ℕ) (old new : Loading) (number : ℕ) → IsReadTo text rest old number →
-    (file_lines rest ≡ line ∷ file_lines more) × (length more < length rest) →
+pub read_line : (text rest line more : List ℕ) (old new : LinesRead) (number : ℕ) → IsReadTo text rest old number →
+    (lines_of rest ≡ line ∷ lines_of more) × (length more < length rest) →
     ((lines : List (List ℕ)) → HasLoaded lines old → HasLoaded (lines ++ line ∷ []) new) →
     IsReadTo text more new (number + 1)
 read_line text rest line more old new number h cut taken = record {
   front = h.front ++ line ∷ [];
-  lines = h.lines ∙ ap (λ ls. h.front ++ ls) cut.0 ∙ sym (append_assoc h.front (line ∷ []) (file_lines more));
+  lines = h.lines ∙ ap (λ ls. h.front ++ ls) cut.0 ∙ sym (append_assoc h.front (line ∷ []) (lines_of more));
   loaded = taken h.front h.loaded;
   number_is = let l : length (h.front ++ line ∷ []) ≡ length h.front + 1 = length-append h.front (line ∷ []) in let n = h.number_is in omega arith;
   room = let r = h.room in let s = cut.1 in omega arith;
 }
 
-pub wrong_line : (text rest line more : List ℕ) (old : Loading) (number : ℕ) → IsReadTo text rest old number →
-    (file_lines rest ≡ line ∷ file_lines more) × (length more < length rest) →
+pub wrong_line : (text rest line more : List ℕ) (old : LinesRead) (number : ℕ) → IsReadTo text rest old number →
+    (lines_of rest ≡ line ∷ lines_of more) × (length more < length rest) →
     ((lines : List (List ℕ)) → HasLoaded lines old → IsFileBeginning lines) →
     ((lines : List (List ℕ)) → HasLoaded lines old → ¬ (IsFileBeginning (lines ++ line ∷ []))) →
-    IsFirstWrongLine (file_lines text) number
+    IsFirstWrongLine (lines_of text) number
 wrong_line text rest line more old number h cut begins wrong = record {
   front = h.front;
-  rest = line ∷ file_lines more;
+  rest = line ∷ lines_of more;
   parts = h.lines ∙ ap (λ ls. h.front ++ ls) cut.0;
   number = h.number_is;
   begins = begins h.front h.loaded;
   wrong = wrong h.front h.loaded;
 }
 
-pub whole_file : (text rest : List ℕ) (old : Loading) (number : ℕ) (content : FileContent) →
+pub whole_file : (text rest : List ℕ) (old : LinesRead) (number : ℕ) (content : FileContent) →
     IsReadTo text rest old number → rest ≡ [] → ((lines : List (List ℕ)) → HasLoaded lines old →
-    IsProgramFile lines content) → IsProgramFile (file_lines text) content
+    IsProgramFile lines content) → IsProgramFile (lines_of text) content
 whole_file text rest old number content h e finished =
-    subst (λ ls. IsProgramFile ls content) (sym (h.lines ∙ ap (λ r. h.front ++ file_lines r) e ∙ append-nil h.front)) (finished h.front h.loaded)
+    subst (λ ls. IsProgramFile ls content) (sym (h.lines ∙ ap (λ r. h.front ++ lines_of r) e ∙ append-nil h.front)) (finished h.front h.loaded)
 
-pub short_file : (text rest : List ℕ) (old : Loading) (number : ℕ) → IsReadTo text rest old number → rest ≡ [] →
+pub short_file : (text rest : List ℕ) (old : LinesRead) (number : ℕ) → IsReadTo text rest old number → rest ≡ [] →
     ((lines : List (List ℕ)) → HasLoaded lines old → IsFileBeginning lines) →
     ((lines : List (List ℕ)) → HasLoaded lines old → (content : FileContent) → ¬ (IsProgramFile lines content)) →
-    IsFirstWrongLine (file_lines text) number
+    IsFirstWrongLine (lines_of text) number
 short_file text rest old number h e begins unfinished = record {
   front = h.front;
   rest = [];
-  parts = h.lines ∙ ap (λ r. h.front ++ file_lines r) e;
+  parts = h.lines ∙ ap (λ r. h.front ++ lines_of r) e;
   number = h.number_is;
   begins = begins h.front h.loaded;
   wrong = unfinished h.front h.loaded;
@@ -94,7 +94,7 @@ heading_cut s t e = cc
 one_says : (bytes : List ℕ) (c d : FileContent) → FileSays bytes c → FileSays bytes d → c ≡ d
 one_says bytes c d (inl h) (inl k) =
     let same : k.0 ≡ h.0 = heading_cut k.0 h.0 (sym k.1 ∙ h.1) in
-    one_content (file_lines h.0) c d h.2 (subst (λ t. IsProgramFile (file_lines t) d) same k.2)
+    one_content (lines_of h.0) c d h.2 (subst (λ t. IsProgramFile (lines_of t) d) same k.2)
 one_says bytes c d (inl h) (inr k) = absurd (k.0 h.0 h.1)
 one_says bytes c d (inr h) (inl k) = absurd (h.0 k.0 k.1)
 one_says bytes c d (inr h) (inr k) = h.1 ∙ sym k.1
@@ -102,7 +102,7 @@ one_says bytes c d (inr h) (inr k) = h.1 ∙ sym k.1
 not_both : (bytes : List ℕ) (n : ℕ) (c : FileContent) → IsWrongFile bytes n → FileSays bytes c → ⊥
 not_both bytes n c h (inl k) =
     let same : k.0 ≡ h.0 = heading_cut k.0 h.0 (sym k.1 ∙ h.1) in
-    not_wrong (file_lines h.0) n c h.2 (subst (λ t. IsProgramFile (file_lines t) c) same k.2)
+    not_wrong (lines_of h.0) n c h.2 (subst (λ t. IsProgramFile (lines_of t) c) same k.2)
 not_both bytes n c h (inr k) = k.0 h.0 h.1
 
 pub only_content : (bytes : List ℕ) (c : FileContent) (r : Result ProgramFile LoadFault) →

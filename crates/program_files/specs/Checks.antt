@@ -3,7 +3,7 @@ use Rattle.std.specs.Prelude.{◌≡◌, ◌≢◌, ℕ, ◌⊎◌, List, length
 use Rattle.bpf_model.specs.declared.insn.Insn.{Insn}
 use Rattle.bpf_model.specs.Spelling.{IsProgram, text}
 use Rattle.bpf_model.specs.Places.{slot_total}
-use Rattle.bpf_model.specs.PlainMaps.{IsPlainWithMaps}
+use Rattle.model_laws.specs.PlainMaps.{IsPlainWithMaps}
 use Rattle.bpf_model.specs.View.{shapes_of_maps}
 use Rattle.disasm.specs.Text.{program_text}
 use Rattle.insn_codec.specs.declared.fault.DecodeFault.{DecodeFault}
@@ -16,9 +16,8 @@ use Rattle.verifier.specs.declared.refusal.ProgramRefusal.{ProgramRefusal}
 use Rattle.verifier.specs.Verdict.{IsToldOf}
 use Rattle.program_files.specs.declared.verdict.Verdict.{Verdict}
 use Rattle.program_files.specs.declared.program_file.Source.{Source}
-use Rattle.program_files.specs.declared.checking.Accepted.{Accepted}
-use Rattle.program_files.specs.Verdicts.{IsDecodeVerdict, IsRefusalVerdict, IsLoadVerdict}
-use Rattle.program_files.specs.declared.verdict.TheConstants.{MEMORY}
+use Rattle.program_files.specs.declared.file_check.Accepted.{Accepted}
+use Rattle.program_files.specs.Verdicts.{memory_number, IsDecodeVerdict, IsRefusalVerdict, IsLoadVerdict}
 
 -- what a file says whose code is the text of a program
 abbrev pub content_with : Source → FileContent
@@ -75,12 +74,12 @@ pub record IsVerifierVerdict (bytes : List ℕ) (v : Verdict) : Type 0 where
   pub refusal : ProgramRefusal
   pub found : IsToldOf source.program refusal
   pub told : IsRefusalVerdict refusal v
-  pub not_plain_with_maps : v.code ≢ MEMORY →
+  pub not_plain_with_maps : v.code ≢ memory_number →
       ¬ (IsPlainWithMaps source.program (shapes_of_maps source.registry.maps))
 
 -- The verdict is want of memory, or the first fault of the file, or of its code.
 abbrev pub IsDecodeRefusal : List ℕ → Verdict → Type 0
-IsDecodeRefusal bytes v = (v.code ≡ MEMORY) ⊎ (IsFileVerdict bytes v ⊎ IsCodeVerdict bytes v)
+IsDecodeRefusal bytes v = (v.code ≡ memory_number) ⊎ (IsFileVerdict bytes v ⊎ IsCodeVerdict bytes v)
 
 -- What `check` refuses with: want of memory, a fault of the file or of its code, or the
 -- verifier's verdict.

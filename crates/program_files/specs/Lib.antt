@@ -4,4 +4,4 @@ pub mod Verdicts
 pub mod Lines
 pub mod Loaded
 pub mod ProgramFile
-pub mod Reading
+pub mod Stages

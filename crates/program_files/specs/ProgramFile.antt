@@ -7,7 +7,9 @@ use Rattle.bpf_model.specs.declared.limits.TheConstants.{CTX_BYTES}
 use Rattle.bpf_model.specs.Shapes.{IsArrayShape}
 use Rattle.bpf_model.specs.View.{new_map_view}
 use Rattle.maps.specs.Registry.{RegistryView, no_maps, creation_fault}
-use Rattle.program_files.specs.Lines.{file_lines, file_words, IsDecimalWord, code_slots}
+use Rattle.program_files.specs.Lines.{file_words, code_slots}
+use Rattle.script_stream.specs.Lines.{lines_of}
+use Rattle.script_lines.specs.Words.{number_in}
 use Rattle.program_files.specs.declared.loader.fault.LoadFault.{LoadFault}
 use Rattle.program_files.specs.declared.loader.fault.LoadFault.TheVariants.{BadFile, Memory}
 
@@ -21,7 +23,7 @@ pub record FileContent : Type 0 where
 pub record IsContextLine (line : List ℕ) (n : ℕ) : Type 0 where
   pub word : List ℕ
   pub words : file_words line ≡ codes "ctx" ∷ word ∷ []
-  pub number : IsDecimalWord word n
+  pub number : number_in word ≡ Some n
   pub limit : n ≤ CTX_BYTES
 
 -- `KEY VALUE ENTRIES SPARE REUSE`: the words are the numbers of a hash map's shape.
@@ -33,11 +35,11 @@ pub record AreHashWords (words : List (List ℕ)) (shape : MapShape) : Type 0 wh
   pub reuse : List ℕ
   pub words_are : words ≡ key ∷ value ∷ entries ∷ spare ∷ reuse ∷ []
   pub kind : shape.kind ≡ Hash
-  pub key_len : IsDecimalWord key shape.key_len
-  pub value_len : IsDecimalWord value shape.value_len
-  pub entries_is : IsDecimalWord entries shape.entries
-  pub spare_is : IsDecimalWord spare shape.spare
-  pub reuse_limit : IsDecimalWord reuse shape.reuse_limit
+  pub key_len : number_in key ≡ Some shape.key_len
+  pub value_len : number_in value ≡ Some shape.value_len
+  pub entries_is : number_in entries ≡ Some shape.entries
+  pub spare_is : number_in spare ≡ Some shape.spare
+  pub reuse_limit : number_in reuse ≡ Some shape.reuse_limit
 
 -- `array VALUE ENTRIES`: the words are of an array, whose keys are indices.
 pub record AreArrayWords (words : List (List ℕ)) (shape : MapShape) : Type 0 where
@@ -46,8 +48,8 @@ pub record AreArrayWords (words : List (List ℕ)) (shape : MapShape) : Type 0 w
   pub words_are : words ≡ codes "array" ∷ value ∷ entries ∷ []
   pub kind : shape.kind ≡ Array
   pub array : IsArrayShape shape
-  pub value_len : IsDecimalWord value shape.value_len
-  pub entries_is : IsDecimalWord entries shape.entries
+  pub value_len : number_in value ≡ Some shape.value_len
+  pub entries_is : number_in entries ≡ Some shape.entries
 
 abbrev pub AreShapeWords : List (List ℕ) → MapShape → Type 0
 AreShapeWords words shape = AreHashWords words shape ⊎ AreArrayWords words shape
@@ -118,13 +120,13 @@ raw_content bytes = record { ctx_len = 0; registry = no_maps; code = bytes }
 -- What a file of these bytes says.
 abbrev pub FileSays : List ℕ → FileContent → Type 0
 FileSays bytes content =
-    ((text : List ℕ) × (bytes ≡ heading ++ text) × IsProgramFile (file_lines text) content)
+    ((text : List ℕ) × (bytes ≡ heading ++ text) × IsProgramFile (lines_of text) content)
     ⊎ (IsRawFile bytes × (content ≡ raw_content bytes))
 
 -- The file says nothing: this line is wrong.
 abbrev pub IsWrongFile : List ℕ → ℕ → Type 0
 IsWrongFile bytes n =
-    (text : List ℕ) × (bytes ≡ heading ++ text) × IsFirstWrongLine (file_lines text) n
+    (text : List ℕ) × (bytes ≡ heading ++ text) × IsFirstWrongLine (lines_of text) n
 
 -- Why a file says nothing; that memory ran out may be said of any.
 abbrev pub IsLoadFault : List ℕ → LoadFault → Type 0

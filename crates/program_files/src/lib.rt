@@ -2,8 +2,8 @@
 //! and the verdict on each that is refused.
 #![tactic(auto)]
 
-mod checking;
-mod explaining;
+mod explanation;
+mod file_check;
 mod known;
 mod loader;
 mod meaning;
@@ -13,9 +13,9 @@ mod verdict;
 mod verified_file;
 
 pub use crate::loader::{HEADING, LoadFault, ProgramFile, load};
-pub use checking::{Accepted, check, text_of};
-pub use explaining::explain;
+pub use explanation::explain;
+pub use file_check::{Accepted, check, text_of};
 pub use meaning::{Meaning, meaning_of};
-pub use program_file::{FileBytes, Source, read_file};
+pub use program_file::{FileBytes, Source, read_file, read_text};
 pub use verdict::{MEMORY, Verdict};
-pub use verified_file::{VerifiedSource, known_where_refused, verify_source};
+pub use verified_file::{known_where_refused, verify_for_maps};

@@ -3,7 +3,7 @@
 
 mod fault;
 mod line;
-mod loading;
+mod lines_read;
 mod program_file;
 mod words;
 

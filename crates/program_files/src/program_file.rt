@@ -1,5 +1,5 @@
 //! The bytes of a program file, read in bounded memory where it is raw, and what they say.
-ghost use Rattle.std.specs.Prelude.{List, [], ℕ, ◌++◌, ◌≤◌, length, IfOk, IfErr, IfSome, OnOk};
+ghost use Rattle.std.specs.Prelude.{◌≡◌, List, [], ℕ, ◌++◌, ◌≤◌, length, IfOk, IfErr, IfSome, OnOk};
 ghost use Rattle.bpf_model.specs.declared.limits.TheConstants.{CTX_BYTES};
 ghost use Rattle.program_files.specs.Files.{HoldsBytes};
 ghost use Rattle.bpf_model.specs.View.{AreNewMaps};
@@ -10,6 +10,7 @@ use crate::verdict::Verdict;
 use bpf_model::MAX_SLOTS;
 use insn_codec::{DecodeFault, Program, decode};
 use maps::Registry;
+use script_stream::read_some;
 use std::alloc::{AllocError, Global};
 use std::io;
 use std::io::{ErrorKind, Read};
@@ -114,15 +115,30 @@ pub fn read_file<R: Read>(alloc: Global, input: &mut R) -> io::Result<FileBytes>
     let mut file = FileBytes::empty(alloc);
     let mut chunk = [0u8; CHUNK];
     for _ in 0..u64::MAX {
-        let count = match input.read(&mut chunk) {
-            Ok(count) => count,
-            Err(error) if error.kind() == ErrorKind::Interrupted => continue,
-            Err(error) => return Err(error),
-        };
+        let count = read_some(input, &mut chunk)?;
         if count == 0 {
             return Ok(file);
         }
         file.append(&chunk[..count])?;
+    }
+    Err(io::Error::from(ErrorKind::FileTooLarge))
+}
+
+/// Reads a text to its end. One that goes on where `TEXT_BYTES` or more are kept is want of memory.
+pub fn read_text<R: Read>(alloc: Global, input: &mut R) -> io::Result<Vec<u8>>
+    ensures { IfOk result (λ text. IfSome (R.remaining input.old) (λ bytes. text.items ≡ bytes)) }
+{
+    let mut text = Vec::new(alloc);
+    let mut chunk = [0u8; CHUNK];
+    for _ in 0..u64::MAX {
+        let count = read_some(input, &mut chunk)?;
+        if count == 0 {
+            return Ok(text);
+        }
+        if text.len() >= TEXT_BYTES {
+            return Err(io::Error::from(ErrorKind::OutOfMemory));
+        }
+        text.extend_from_slice(&chunk[..count])?;
     }
     Err(io::Error::from(ErrorKind::FileTooLarge))
 }

@@ -1,6 +1,6 @@
 //! Why a program file is refused.
 ghost use Rattle.std.specs.Prelude.{◌≡◌};
-ghost use Rattle.program_files.specs.declared.verdict.TheConstants.{MEMORY};
+ghost use Rattle.program_files.specs.Verdicts.{memory_number};
 
 use crate::loader::LoadFault;
 use insn_codec::DecodeFault;
@@ -62,7 +62,7 @@ impl From<LoadFault> for Verdict {
 }
 
 impl From<AllocError> for Verdict {
-    ghost from_gives = { λ _ v. v.code ≡ MEMORY };
+    ghost from_gives = { λ _ v. v.code ≡ memory_number };
 
     fn from(_: AllocError) -> Verdict {
         Verdict {

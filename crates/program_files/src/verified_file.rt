@@ -1,6 +1,6 @@
-//! A file's program, verified with the file's maps and its context.
+//! A program, verified with its file's maps and its context.
 ghost use Rattle.std.specs.Prelude.{◌≡◌, ◌≤◌, length, IfOk, IfErr};
-ghost use Rattle.bpf_model.specs.PlainMaps.{IsPlainWithMaps};
+ghost use Rattle.model_laws.specs.PlainMaps.{IsPlainWithMaps};
 ghost use Rattle.bpf_model.specs.declared.limits.TheConstants.{CTX_BYTES, MAX_MAPS};
 ghost use Rattle.bpf_model.specs.View.{shapes_of_maps};
 ghost use Rattle.program_graph.specs.GraphFlaws.{HasGoodGraph};
@@ -9,16 +9,10 @@ ghost use Rattle.verifier.specs.Verdict.{IsToldOf, IsAccepted as IsTaken};
 
 use crate::program_file::Source;
 use bpf_model::{MapId, MapShape};
+use insn_codec::Program;
 use maps::Registry;
 use std::alloc::{AllocError, Global};
 use verifier::{AbsState, ProgramRefusal, Verified, verify};
-
-/// A program that is verified with its file's context and with the shapes of these maps, in their order.
-#[derive(Drop)]
-pub struct VerifiedSource {
-    pub verified: Verified,
-    pub registry: Registry,
-}
 
 /// The shapes of a registry's maps, by their numbers.
 fn shapes_of(alloc: Global, registry: &Registry) -> Result<Vec<MapShape>, AllocError>
@@ -47,24 +41,23 @@ pub fn known_where_refused(
     verifier::known_where_refused(alloc, &source.program, &shapes, source.ctx_len)
 }
 
-/// Verifies a file's program with its maps and its context.
-pub fn verify_source(alloc: Global, source: Source) -> Result<VerifiedSource, ProgramRefusal>
-    requires { source.ctx_len ≤ CTX_BYTES }
-    ensures program { IfOk result (λ v. v.verified.program ≡ source.program) }
-    ensures shapes { IfOk result (λ v. v.verified.shapes ≡ shapes_of_maps source.registry.maps) }
-    ensures context { IfOk result (λ v. v.verified.ctx_len ≡ source.ctx_len) }
-    ensures registry { IfOk result (λ v. v.registry ≡ source.registry) }
-    ensures verified { IfOk result (λ v.
-        IsVerified source.program (shapes_of_maps source.registry.maps) source.ctx_len) }
-    ensures graph { IfOk result (λ _. HasGoodGraph source.program) }
-    ensures told { IfErr result (IsToldOf source.program) }
-    ensures plain_with_maps { IsPlainWithMaps source.program (shapes_of_maps source.registry.maps) →
+/// Verifies a program for contexts of this length and for maps of the shapes of these, in their order.
+pub fn verify_for_maps(
+    alloc: Global,
+    program: Program,
+    maps: &Registry,
+    ctx_len: usize,
+) -> Result<Verified, ProgramRefusal>
+    requires { ctx_len ≤ CTX_BYTES }
+    ensures program { IfOk result (λ v. v.program ≡ program) }
+    ensures shapes { IfOk result (λ v. v.shapes ≡ shapes_of_maps maps.now.maps) }
+    ensures context { IfOk result (λ v. v.ctx_len ≡ ctx_len) }
+    ensures verified { IfOk result (λ v. IsVerified program (shapes_of_maps maps.now.maps) ctx_len) }
+    ensures graph { IfOk result (λ _. HasGoodGraph program) }
+    ensures told { IfErr result (IsToldOf program) }
+    ensures plain_with_maps { IsPlainWithMaps program (shapes_of_maps maps.now.maps) →
         IsTaken result }
 {
-    let shapes = shapes_of(alloc, &source.registry)?;
-    let verified = verify(alloc, source.program, &shapes, source.ctx_len)?;
-    Ok(VerifiedSource {
-        verified,
-        registry: source.registry,
-    })
+    let shapes = shapes_of(alloc, maps)?;
+    verify(alloc, program, &shapes, ctx_len)
 }

@@ -60,13 +60,13 @@ use Rattle.machine.specs.declared.request.Request.{Request}
 use Rattle.machine.specs.declared.request.Request.TheVariants as requests
 use Rattle.machine.specs.declared.request.Local.TheVariants as locals
 use Rattle.machine.specs.Requests.{request_of, resumed_view, kernel_request}
-use Rattle.machine.specs.Steps.{IsLocalStep}
+use Rattle.machine.specs.Steps.{TakesStep}
 use Rattle.machine.proofs.AskingSo.{load-asked, store-asked}
 use Rattle.read_table.specs.declared.view.Move.{Move}
 use Rattle.read_table.specs.declared.view.Move.TheVariants as moves_by
 use Rattle.read_table.specs.declared.view.TableShape.{TableShape}
 use Rattle.read_table.specs.History.{IsLearnt}
-use Rattle.read_table.specs.Lookups.{AnswersLookup, OnlySearches}
+use Rattle.read_table.specs.Lookups.{AnswersLookup, IsBrief, OnlySearches}
 use Rattle.read_table.specs.Learnt.{learnt_element, learnt_elements}
 use Rattle.read_table.specs.Serving.{CanAnswer, GoesOnWith, LeadsToWord}
 use Rattle.read_table.specs.SharedRuns.{closing, opening}
@@ -75,7 +75,7 @@ use Rattle.read_table.specs.Words.{ChangesMap, IsElementRegion, IsOtherWidth, ac
 use Rattle.read_table.proofs.Learning.{Reached, also, enter-learnt, hit-learnt, learnt-guarded, leave-learnt}
 use Rattle.read_table.proofs.Learning.{load-learnt, miss-learnt, nest-learnt, no-array, none, not-array, store-learnt}
 use Rattle.read_table.proofs.Learning.{unnest-learnt}
-use Rattle.read_table.proofs.Steps.{Known, aligned, are-hash, asking, known, listed, listed-shapes, onward, ready, served-step, shown, so, some, steps, waited}
+use Rattle.read_table.proofs.Steps.{Known, aligned, are-hash, asking, known, listed, listed-shapes, onward, ready, served-step, shown, so, some, waited}
 use Rattle.read_table.proofs.Stretches.{also-cases, inside-same, learnt-before, learnt-in}
 
 -- the width of the access that an element's base is reached by
@@ -240,12 +240,9 @@ module _ (k : TableShape) (c : Checked) (context : List ℕ) (ms : List Move) (v
         (w.place, w.wide, w.offset, w.within, w.slot, w.learnt_here, refl, refl) refl)
         x.known (x.section ∙ ap flag_of (shown k c context ms v x).words.depth)
 
-    -- the instruction at the run's place is this one
-    at-place : (u : RunView) → (v.place ≡ u.place) → (insn : Insn) → insn_at c.program v.place ≡ Some insn → i ≡ insn
-    at-place u e insn there = same_Some i insn (sym here ∙ (ap (insn_at c.program) (sym (shown k c context ms v x).words.place) ∙ there))
-
+    -- this instruction stands at the run's place
     goes-at : (ns : List Move) (word : ℕ) → GoesFurther k c context ns v (resumed_view i word v) → GoesOnWith k c context ns v word
-    goes-at ns word h = λ insn there. subst (λ (j : Insn). GoesFurther k c context ns v (resumed_view j word v)) (at-place v refl insn there) h
+    goes-at ns word h = (i, ap (insn_at c.program) (shown k c context ms v x).words.place ∙ here, h)
 
     -- where an address leads
     leads : (n : ℕ) (o offset : ℤ) (width : Width) (address : ℕ) →
@@ -311,22 +308,22 @@ module _ (k : TableShape) (c : Checked) (context : List ℕ) (ms : List Move) (v
       pub long : length key ≡ key_length (slice_get c.shapes map)
 
     missed : (map : ℕ) (key : List ℕ) → Finds map key → (ns : List Move) → OnlySearches k ns →
-        AnswersLookup k key ns None → GoesFurther k c context (ns ++ ms) v (resumed_view i 0 v)
-    missed map key f ns searches answers =
+        AnswersLookup k key ns None → IsBrief k ns → GoesFurther k c context (ns ++ ms) v (resumed_view i 0 v)
+    missed map key f ns searches answers brief =
         let next = moves_run run (resumed i (Number 0) run.state) in
         onward k c context ms v x (ns ++ ms) next (resumed_view i 0 v) x.learnt
         (λ plan closed. (so k c context ms v x plan closed i (Finding map key) here f.asked).goes_on (Number 0) 0 next (inl refl) refl refl) refl refl
         (miss-learnt c.program c.shapes c.ctx_len (are-hash k c context ms v x) (some k c context ms v x).plan
         (some k c context ms v x).closed run (shown k c context ms v x).described x.learnt x.index x.planned i
         here map map key f.bound f.asked next refl (shown k c context ms v x).described.going)
-        (served-step k c context ms v x i (Finding map key) here f.asked ns (Number 0) next (None, searches, answers, refl) refl)
+        (served-step k c context ms v x i (Finding map key) here f.asked ns (Number 0) next (None, searches, answers, brief, refl) refl)
         (λ slot e. ((x.known slot e).0, learnt-before k slot ns ms searches (x.known slot e).1))
         (inside-same k ns ms searches ∙ (x.section ∙ ap flag_of (shown k c context ms v x).words.depth))
 
     hit : (map slot : ℕ) (key : List ℕ) → Finds map key → (ns : List Move) → OnlySearches k ns →
-        AnswersLookup k key ns (Some slot) → GoesFurther k c context (ns ++ ms) v
+        AnswersLookup k key ns (Some slot) → IsBrief k ns → GoesFurther k c context (ns ++ ms) v
         (resumed_view i (slot_base 0 slot) v)
-    hit map slot key f ns searches answers =
+    hit map slot key f ns searches answers brief =
         let reply : Value = Pointer (references.Elem (element_in_region map slot) (pos 0)) in
         let next = moves_run run (resumed i reply run.state) in
         let in_table : slot < k.slots = answers.0 in
@@ -342,7 +339,7 @@ module _ (k : TableShape) (c : Checked) (context : List ℕ) (ms : List Move) (v
         (some k c context ms v x).closed run (shown k c context ms v x).described x.learnt x.index x.planned i
         here map map slot key f.below f.bound small f.asked f.long next refl
         (shown k c context ms v x).described.going)
-        (served-step k c context ms v x i (Finding map key) here f.asked ns reply next (Some slot, searches, answers, refl) refl)
+        (served-step k c context ms v x i (Finding map key) here f.asked ns reply next (Some slot, searches, answers, brief, refl) refl)
         (λ r e. elim (also-cases slot x.learnt r e) [
           | inl is ↦ (subst (λ j. j < k.slots) (sym is) in_table, subst (λ j. IsLearnt j (ns ++ ms)) (sym is) (learnt-in slot ns ms answers.1))
           | inr before ↦ ((x.known r before).0, learnt-before k r ns ms searches (x.known r before).1)
@@ -350,9 +347,9 @@ module _ (k : TableShape) (c : Checked) (context : List ℕ) (ms : List Move) (v
         (inside-same k ns ms searches ∙ (x.section ∙ ap flag_of (shown k c context ms v x).words.depth))
 
     found : (map : ℕ) (key : List ℕ) → Finds map key → (ns : List Move) (o : Option ℕ) → OnlySearches k ns →
-        AnswersLookup k key ns o → GoesFurther k c context (ns ++ ms) v (resumed_view i (found_word 0 o) v)
-    found map key f ns None searches answers = missed map key f ns searches answers
-    found map key f ns (Some slot) searches answers = hit map slot key f ns searches answers
+        AnswersLookup k key ns o → IsBrief k ns → GoesFurther k c context (ns ++ ms) v (resumed_view i (found_word 0 o) v)
+    found map key f ns None searches answers brief = missed map key f ns searches answers brief
+    found map key f ns (Some slot) searches answers brief = hit map slot key f ns searches answers brief
 
     pub looks-up : (arguments : List Argument) → LooksUp i → Asks (CallHelper Lookup arguments) →
         arguments_of (signature_of Lookup).arguments (listed k c context ms v x) run.state 1 ≡ Some arguments →
@@ -380,8 +377,8 @@ module _ (k : TableShape) (c : Checked) (context : List ℕ) (ms : List Move) (v
           inside = omega (arith, deep, depth);
           frame = (shown k c context ms v x).words.cells;
           key = subst (IsInFrame (word_in v 2)) fits.0 at.inside;
-          goes_on = λ ns o searches answers. goes-at (ns ++ ms) (found_word 0 o)
-              (found l.map l.key f ns o searches (subst (λ key. AnswersLookup k key ns o) (ap (bytes_in v 2) (sym fits.0) ∙ at.is) answers));
+          goes_on = λ ns o searches answers brief. goes-at (ns ++ ms) (found_word 0 o)
+              (found l.map l.key f ns o searches (subst (λ key. AnswersLookup k key ns o) (ap (bytes_in v 2) (sym fits.0) ∙ at.is) answers) brief);
         }
 
     -- sections
@@ -591,13 +588,10 @@ module _ (k : TableShape) (c : Checked) (context : List ℕ) (ms : List Move) (v
   by-insn i here request asked of e = absurd (none-some request of)
 
   -- whatever the words of the run ask can be served
-  pub can-serve : (request : Request) (after : RunView) →
-      ((insn : Insn) → insn_at c.program v.place ≡ Some insn →
-      IsLocalStep (local_of insn v) (request_of insn v) v (locals.Shared request) after) →
+  pub can-serve : (request : Request) (after : RunView) → TakesStep c v (locals.Shared request) after →
       CanAnswer k c context ms v request × (after ≡ v)
   can-serve request after s =
-      let t = steps k c context ms v x in
-      let here = known k c context ms v x t.insn t.here in
-      let o = waited (local_of t.insn v) (request_of t.insn v) v after request (s t.insn t.here) in
-      let a = asking k c context ms v x t.insn here o.0 in
-      (by-insn t.insn here request a.asked o.1 a.is, o.2)
+      let here = known k c context ms v x s.0 s.1 in
+      let o = waited (local_of s.0 v) (request_of s.0 v) v after request s.2 in
+      let a = asking k c context ms v x s.0 here o.0 in
+      (by-insn s.0 here request a.asked o.1 a.is, o.2)

@@ -123,9 +123,9 @@ module _ (here : TableView) (c : Checked) (context : List ℕ) (start now : Hold
             last.view ≡ resumed_view insn word new.view)
             → HasComeTo k c context start later last × (r.view.moved < last.view.moved)
         resumed-on later last goes there view =
-            let s = steps k c context h.moves new.view sharing-now in
-            let f = (served c context h.moves can-now).0 s.insn s.here in
-            let e = view s.insn s.here in
+            let on = (served c context h.moves can-now).0 in
+            let f = on.2 in
+            let e = view on.0 on.1 in
             let more : last.view.moved ≡ new.view.moved + 1 = ap (λ (v : RunView). v.moved) e ∙ f.counts in
             let same : new.view.moved ≡ g.before.moved = ap (λ (v : RunView). v.moved) asks.1 in
             let far = before.1 in (

@@ -328,7 +328,7 @@ module _ (code : List Insn) (shapes : List MapShape) (ctx_len : ℕ) (hash : Are
     nest-learnt inside asked new h going =
         let later = moves (locked run) (resumed i Nothing run.state) in
         let same : section_of later ≡ sec = ap (λ (b : Bool).
-        record { run = run.name; lock = if b then run.locks + 1 else run.locks })
+        record { run = run.name; number = if b then run.sections + 1 else run.sections })
         (ne_eqb run.depth 0 (λ e. absurd (omega (arith, inside, e)))) in
         subst (Planned learnt) (sym h.1)
         (replied base (content learnt) (single learnt) (same-keeps (listed base) run) Enter asked Nothing

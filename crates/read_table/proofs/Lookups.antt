@@ -1,6 +1,8 @@
 -- Stretches that only search.
-use Rattle.std.proofs.Common.{◌≡◌, ◌≢◌, ℕ, ◌+◌, ◌%◌, ◌<◌, ◌≤◌, List, [], ◌∷◌, ◌++◌, Bool, true, false, refl, sym, ap}
-use Rattle.std.proofs.Common.{◌∙◌, subst, inl, inr, arith, Option, Some, None}
+use Rattle.std.proofs.Common.{◌≡◌, ◌≢◌, ℕ, ◌+◌, ◌*◌, ◌%◌, ◌<◌, ◌≤◌, List, [], ◌∷◌, ◌++◌, Bool, true, false, refl, sym, ap}
+use Rattle.std.proofs.Common.{◌∙◌, subst, inl, inr, arith, length, Option, Some, None}
+use Rattle.std.proofs.lemmas.List.{length-append}
+use Rattle.std.proofs.lemmas.Nat.{mul-le}
 use Rattle.std.specs.Prelude.{MatchBool, IfSome}
 use mathlib.Core.Logic.{dite}
 use native.Mathlib.Decide.{ℕ_discrete}
@@ -168,3 +170,22 @@ answers_slot k key ms (Some slot) a = a.0
 pub not_linked : (k : TableShape) (key : List ℕ) (slot h : ℕ) (b : Bool) (P : Type 0) → b ≡ false → h % 2 ≡ 0 →
     MatchBool b P (Refuted k key slot (Learn slot h ∷ []))
 not_linked k key slot h b P is even = subst (λ z. MatchBool z P (Refuted k key slot (Learn slot h ∷ []))) (sym is) (inl (refl, even))
+
+-- how many moves a search of some slots takes, at most w of each
+pub more_steps : (low slot w : ℕ) (ns ms : List Move) → length ms + low * w ≤ slot * w → length ns ≤ w →
+    length (ns ++ ms) + low * w ≤ (slot + 1) * w
+more_steps low slot w ns ms few one = omega (arith, few, one, length-append ns ms)
+
+pub upper_steps : (low slot high w : ℕ) (ms : List Move) → slot ≤ high → length ms + low * w ≤ slot * w →
+    length ms + low * w ≤ high * w
+upper_steps low slot high w ms le few = omega (arith, few, mul-le slot w high w le (omega arith))
+
+pub last_steps : (low slot high w : ℕ) (ns ms : List Move) → slot < high → length ms + low * w ≤ slot * w →
+    length ns ≤ w → length (ns ++ ms) + low * w ≤ high * w
+last_steps low slot high w ns ms below few one =
+    upper_steps low (slot + 1) high w (ns ++ ms) (omega (arith, below)) (more_steps low slot w ns ms few one)
+
+-- the upper slots and then the lower ones
+pub both_steps : (slots home w : ℕ) (ns ms : List Move) → length ms + home * w ≤ slots * w →
+    length ns + 0 * w ≤ home * w → length (ns ++ ms) ≤ slots * w
+both_steps slots home w ns ms upper lower = omega (arith, upper, lower, length-append ns ms)

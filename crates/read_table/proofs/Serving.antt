@@ -14,7 +14,7 @@ use Rattle.read_table.specs.declared.view.Move.{Move}
 use Rattle.read_table.specs.declared.view.Move.TheVariants.{Load, Store}
 use Rattle.read_table.specs.declared.view.TableShape.{TableShape}
 use Rattle.read_table.specs.History.{IsLearnt}
-use Rattle.read_table.specs.Lookups.{AnswersLookup, OnlySearches}
+use Rattle.read_table.specs.Lookups.{AnswersLookup, IsBrief, OnlySearches}
 use Rattle.read_table.specs.Serving.{CanAnswer, GoesOnWith, LeadsToWord}
 use Rattle.read_table.specs.SharedRuns.{closing, opening}
 use Rattle.read_table.proofs.Stretches.{learnt-in}
@@ -75,11 +75,12 @@ module _ (k : TableShape) (v : RunView) (request : Request) where
       inr (record { map = 0; slot = slot; few_maps = omega arith; few_slots = omega (arith, in_table, few); is = refl })
 
   pub serves-lookup : (ns : List Move) (found : Option ℕ) (word : ℕ) → request ≡ requests.Call Lookup → IsSized k →
-      OnlySearches k ns → AnswersLookup k (bytes_in v 2 (8 * k.key_words)) ns found → word ≡ found_word 0 found →
+      OnlySearches k ns → AnswersLookup k (bytes_in v 2 (8 * k.key_words)) ns found → IsBrief k ns →
+      word ≡ found_word 0 found →
       Serves k v request ns word
-  serves-lookup ns found word is sized searches answers e = λ c context ms can.
+  serves-lookup ns found word is sized searches answers brief e = λ c context ms can.
       let l = subst (λ (q : Request). CanAnswer k c context ms v q) is can in (
-        subst (λ (w : ℕ). GoesOnWith k c context (ns ++ ms) v w) (sym e) (l.goes_on ns found searches answers),
+        subst (λ (w : ℕ). GoesOnWith k c context (ns ++ ms) v w) (sym e) (l.goes_on ns found searches answers brief),
         subst (λ (q : Request). MayGive c v q word) (sym is)
             (subst (λ (w : ℕ). (w ≡ 0) ⊎ IsSlotWord w) (sym e)
             (given found ns (bytes_in v 2 (8 * k.key_words)) sized answers)),

@@ -34,7 +34,7 @@ use Rattle.machine.specs.declared.request.Request.{Request}
 use Rattle.machine.specs.declared.request.Local.TheVariants as locals
 use Rattle.machine.specs.Requests.{request_of}
 use Rattle.machine.specs.Standing.{IsRunOfChecked}
-use Rattle.machine.specs.Steps.{CanStep, IsLocalStep, MovesOn, moves as more, stays}
+use Rattle.machine.specs.Steps.{CanStep, IsLocalStep, MovesOn, TakesStep, moves as more, stays}
 use Rattle.machine.proofs.Answering.{stands}
 use Rattle.machine.proofs.AskingSo.{AsksSo, asks-so}
 use Rattle.machine.proofs.StandingLaws.{can_step}
@@ -222,17 +222,17 @@ module _ (k : TableShape) (c : Checked) (context : List ℕ) (ms : List Move) (v
   moved-by i new here is (Acts out e depth) = moved-to i out new here e is (subst (Doing out) is (acted i out here e))
   moved-by i new here is (AsksFor asked e) = absurd (goes-asks new (sym is ∙ (so some.plan some.closed i asked here e).local))
 
-  pub moves : (new : RunView) → ((insn : Insn) → insn_at c.program v.place ≡ Some insn →
-      IsLocalStep (laws.local_of insn v) (request_of insn v) v locals.Moved new) → GoesFurther k c context ms v new
+  pub moves : (new : RunView) → TakesStep c v locals.Moved new → GoesFurther k c context ms v new
   moves new s =
-      let here = known steps.insn steps.here in
-      moved-by steps.insn new here (went (laws.local_of steps.insn v) (request_of steps.insn v) v new (s steps.insn steps.here)) (turned steps.insn here)
+      let here = known s.0 s.1 in
+      moved-by s.0 new here (went (laws.local_of s.0 v) (request_of s.0 v) v new s.2) (turned s.0 here)
 
   -- it ends, outside every section
   exited : (i : Insn) (n : ℕ) → Known i → after_insn i (environment run) run.state ≡ Some (Exits n) → run.depth ≡ 0 →
       IsSharedRun k c.shapes (loaded_of c) context ms (v.moved + 1) n × (inside ms ≡ 0)
   exited i n here e depth = (
     record {
+      fits = x.fits;
       name = 0;
       moves = v.moved;
       last = run;
@@ -256,17 +256,16 @@ module _ (k : TableShape) (c : Checked) (context : List ℕ) (ms : List Move) (v
   ended-by i n here is (Acts out e depth) = ended-at i out n here e depth (subst (Doing out) is (acted i out here e))
   ended-by i n here is (AsksFor asked e) = absurd (ends-asks n (sym is ∙ (so some.plan some.closed i asked here e).local))
 
-  pub exits : (n : ℕ) (new : RunView) → ((insn : Insn) → insn_at c.program v.place ≡ Some insn →
-      IsLocalStep (laws.local_of insn v) (request_of insn v) v (locals.Exit n) new) → ExitsShared k c context ms new n
+  pub exits : (n : ℕ) (new : RunView) → TakesStep c v (locals.Exit n) new → ExitsShared k c context ms new n
   exits n new s =
-      let here = known steps.insn steps.here in
-      let o = ended (laws.local_of steps.insn v) (request_of steps.insn v) v new n (s steps.insn steps.here) in
-      let e = ended-by steps.insn n here o.0 (turned steps.insn here) in
+      let here = known s.0 s.1 in
+      let o = ended (laws.local_of s.0 v) (request_of s.0 v) v new n s.2 in
+      let e = ended-by s.0 n here o.0 (turned s.0 here) in
       record {
         exit = subst (λ (u : RunView). IsSharedRun k c.shapes (loaded_of c) context ms (u.moved + 1) n) (sym o.1) e.0;
         outside = e.1;
-        insn = steps.insn;
-        here = subst (λ (u : RunView). insn_at c.program u.place ≡ Some steps.insn) (sym o.1) steps.here;
+        insn = s.0;
+        here = subst (λ (u : RunView). insn_at c.program u.place ≡ Some s.0) (sym o.1) s.1;
       }
 
   -- a run whose words wait asks what they ask

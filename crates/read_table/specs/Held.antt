@@ -5,7 +5,7 @@ use Rattle.read_table.specs.declared.view.Move.{Move}
 use Rattle.read_table.specs.declared.view.TableShape.{TableShape}
 use Rattle.read_table.specs.declared.view.View.{View}
 use Rattle.read_table.specs.History.{moves_of, inside, header_in, generation, Knows, IsLawful}
-use Rattle.read_table.specs.declared.limits.TheConstants.{MAX_TABLE_SLOTS, MAX_READERS, MAX_TABLE_BYTES, WORD_BYTES}
+use Rattle.read_table.specs.Limits.{most_table_slots, most_readers, most_table_bytes, word_bytes}
 
 -- which table, and how many of each it has
 pub record TableView : Type 0 where
@@ -19,17 +19,17 @@ pub record Holder : Type 0 where
 
 -- the length of a key or of a value, in bytes: some whole words
 abbrev pub IsTableLength : ℕ → Type 0
-IsTableLength n = (0 < n) × (n ≤ MAX_TABLE_BYTES) × (n % WORD_BYTES ≡ 0)
+IsTableLength n = (0 < n) × (n ≤ most_table_bytes) × (n % word_bytes ≡ 0)
 
 -- the table is within its limits
 pub record IsSized (k : TableShape) : Type 0 where
-  pub readers : k.readers ≤ MAX_READERS
+  pub readers : k.readers ≤ most_readers
   pub some_slots : 0 < k.slots
-  pub slots : k.slots ≤ MAX_TABLE_SLOTS
+  pub slots : k.slots ≤ most_table_slots
   pub some_key : 0 < k.key_words
-  pub key : k.key_words * WORD_BYTES ≤ MAX_TABLE_BYTES
+  pub key : k.key_words * word_bytes ≤ most_table_bytes
   pub some_value : 0 < k.value_words
-  pub value : k.value_words * WORD_BYTES ≤ MAX_TABLE_BYTES
+  pub value : k.value_words * word_bytes ≤ most_table_bytes
 
 -- what the holder saw is lawful, and its own part of it is its list
 abbrev pub IsKnown : View → Type 0

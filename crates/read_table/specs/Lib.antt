@@ -2,6 +2,7 @@ pub mod Held
 pub mod History
 pub mod Law
 pub mod Learnt
+pub mod Limits
 pub mod Lookups
 pub mod Running
 pub mod Search

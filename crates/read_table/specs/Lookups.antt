@@ -1,5 +1,5 @@
 -- What a lookup does to a table, as a stretch of its seat's list, the newest first, and what it finds.
-use Rattle.std.specs.Prelude.{◌≡◌, ◌≢◌, ◌⊎◌, ℕ, ◌*◌, ◌%◌, ◌<◌, List, [], ◌∷◌, Option, Some, None, slice_get}
+use Rattle.std.specs.Prelude.{◌≡◌, ◌≢◌, ◌⊎◌, ℕ, ◌+◌, ◌*◌, ◌%◌, ◌<◌, ◌≤◌, List, [], ◌∷◌, length, Option, Some, None, slice_get}
 use Rattle.bpf_model.specs.Access.{number_at}
 use Rattle.read_table.specs.declared.view.Move.{Move}
 use Rattle.read_table.specs.declared.view.Move.TheVariants.{Learn, Load}
@@ -16,6 +16,10 @@ OnlySearches k [] = Unit {0}
 OnlySearches k (Learn slot h ∷ ms) = OnlySearches k ms
 OnlySearches k (Load slot place x ∷ ms) = (place < k.key_words) × OnlySearches k ms
 OnlySearches k (_ ∷ ms) = ⊥
+
+-- it makes no more moves than a learn for each slot and a load for each word of its key
+abbrev pub IsBrief : TableShape → List Move → Type 0
+IsBrief k ms = length ms ≤ k.slots * (1 + k.key_words)
 
 -- the slot had this word at the place
 abbrev pub HadWord : ℕ → ℕ → ℕ → List Move → Type 0

@@ -19,14 +19,16 @@ use Rattle.read_table.specs.declared.view.Move.{Move}
 use Rattle.read_table.specs.declared.view.Move.TheVariants.{Load, Store}
 use Rattle.read_table.specs.declared.view.TableShape.{TableShape}
 use Rattle.read_table.specs.History.{IsLearnt}
-use Rattle.read_table.specs.Lookups.{AnswersLookup, OnlySearches}
+use Rattle.read_table.specs.Lookups.{AnswersLookup, IsBrief, OnlySearches}
 use Rattle.read_table.specs.SharedRuns.{closing, opening}
 use Rattle.read_table.specs.Sharing.{GoesFurther}
 
--- Resumed with this word, after these moves of its seat, the run has come one step further over the table.
+-- Some instruction stands at the run's place, and resumed with this word, after these moves of its seat, the run has
+-- come one step further over the table.
 abbrev pub GoesOnWith : TableShape → Checked → List ℕ → List Move → RunView → ℕ → Type 0
-GoesOnWith k c context ms v word = (insn : Insn) → insn_at c.program v.place ≡ Some insn →
-    GoesFurther k c context ms v (resumed_view insn word v)
+GoesOnWith k c context ms v word =
+    (insn : Insn) × (insn_at c.program v.place ≡ Some insn)
+    × GoesFurther k c context ms v (resumed_view insn word v)
 
 -- The address leads to a word of the value in a slot that was learnt in the section that is open.
 pub record LeadsToWord (k : TableShape) (ms : List Move) (address : ℕ) (offset : ℤ) (width : Width)
@@ -57,7 +59,7 @@ pub record LooksUpKey (k : TableShape) (c : Checked) (context : List ℕ) (ms : 
   pub frame : length v.frame ≡ FRAME_BYTES
   pub key : IsInFrame (word_in v 2) (8 * k.key_words)
   pub goes_on : (ns : List Move) (found : Option ℕ) → OnlySearches k ns →
-      AnswersLookup k (bytes_in v 2 (8 * k.key_words)) ns found →
+      AnswersLookup k (bytes_in v 2 (8 * k.key_words)) ns found → IsBrief k ns →
       GoesOnWith k c context (ns ++ ms) v (found_word 0 found)
 
 pub record EntersSection (k : TableShape) (c : Checked) (context : List ℕ) (ms : List Move)

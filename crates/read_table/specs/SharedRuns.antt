@@ -21,7 +21,8 @@ use Rattle.read_table.specs.declared.view.Move.{Move}
 use Rattle.read_table.specs.declared.view.Move.TheVariants.{Open, Close, Load, Store}
 use Rattle.read_table.specs.declared.view.TableShape.{TableShape}
 use Rattle.read_table.specs.History.{IsLearnt}
-use Rattle.read_table.specs.Lookups.{AnswersLookup, OnlySearches}
+use Rattle.read_table.specs.Lookups.{AnswersLookup, IsBrief, OnlySearches}
+use Rattle.read_table.specs.Words.{FitsTable}
 
 -- The outermost lock of a run opens its seat's section, and the outermost unlock closes it; those between are no moves of
 -- the seat.
@@ -34,8 +35,8 @@ closing depth = if depth == 1 then Close ∷ [] else []
 -- What a table replies to a request of a run whose locks are so many deep, by what its seat does then, after all that it
 -- did for the run before. A number names a slot, and the map through which it was found: within a section a slot that was
 -- learnt is one element. A word of a value is loaded or stored in a slot that was learnt, linked, in the section that is
--- open. A lookup is a stretch of learns and loads of key words that answers null, or a slot that was learnt in it. Nothing
--- else is served.
+-- open. A lookup is a stretch of learns and loads of key words, of at most so many, that answers null, or a slot that was
+-- learnt in it. Nothing else is served.
 abbrev pub Replies : TableShape → ℕ → List Move → Request → List Move → Value → Type 0
 Replies k depth done (LoadElement n offset width) ms reply =
     (place x : ℕ) × (width ≡ 8) × (offset ≡ pos (8 * place)) × (place < k.value_words)
@@ -46,7 +47,7 @@ Replies k depth done (StoreElement n offset width x) ms reply =
     × (region_of n < k.slots) × IsLearnt (region_of n) done
     × (ms ≡ Store (region_of n) (k.key_words + place) x ∷ []) × (reply ≡ Nothing)
 Replies k depth done (CallHelper Lookup (MapArgument map ∷ BytesArgument key ∷ [])) ms reply =
-    (found : Option ℕ) × OnlySearches k ms × AnswersLookup k key ms found
+    (found : Option ℕ) × OnlySearches k ms × AnswersLookup k key ms found × IsBrief k ms
     × (reply ≡ found_value (option_map (element_in_region map) found))
 Replies k depth done (CallHelper helper arguments) ms reply = ⊥
 Replies k depth done Enter ms reply = (ms ≡ opening depth) × (reply ≡ Nothing)
@@ -80,10 +81,11 @@ pub data Comes (k : TableShape) (shapes : List MapShape) (start : Run) : List Mo
   shared : (ms ns : List Move) (steps : ℕ) (run next : Run) → Comes k shapes start ms steps run →
       StepsShared k shapes ms run ns next → Comes k shapes start (ns ++ ms) (suc steps) next
 
--- A shared run of the program on the context: it begins at the entry, outside every section, what its seat did is the
--- list, and it exits with the value; so many steps it makes, the exit among them.
+-- A shared run of the program on the context: each map of its list is the table, it begins at the entry, outside every
+-- section, what its seat did is the list, and it exits with the value; so many steps it makes, the exit among them.
 pub record IsSharedRun (k : TableShape) (shapes : List MapShape) (program : Loaded)
     (context : List ℕ) (ms : List Move) (steps value : ℕ) : Type 0 where
+  pub fits : FitsTable k shapes
   pub name : ℕ
   pub moves : ℕ
   pub last : Run

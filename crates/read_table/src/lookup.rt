@@ -2,8 +2,8 @@
 ghost use Rattle.std.specs.Prelude.{◌≡◌, ℕ, ◌+◌, ◌*◌, ◌<◌, ◌≤◌, ◌++◌, List, MatchBool, Some, IfSome, length};
 ghost use Rattle.read_table.specs.declared.view.Move.{Move};
 ghost use Rattle.read_table.specs.History.{inside, Knows, IsLearnt};
-ghost use Rattle.read_table.specs.Lookups.{OnlySearches, Refuted, AnswersLookup};
-ghost use Rattle.read_table.specs.declared.limits.TheConstants.{WORD_BYTES};
+ghost use Rattle.read_table.specs.Lookups.{OnlySearches, IsBrief, Refuted, AnswersLookup};
+ghost use Rattle.read_table.specs.Limits.{word_bytes};
 ghost use Rattle.read_table.specs.Held.{IsKnown, Goes};
 ghost use Rattle.read_table.specs.Search.{HadKey, Searched};
 
@@ -17,9 +17,9 @@ impl ReadTable {
         requires table { seat.old.table ≡ self.now }
         requires inside { inside seat.old.view.mine ≡ 1 }
         requires known { IsKnown seat.old.view }
-        requires key { length key.now ≡ WORD_BYTES * self.now.shape.key_words }
+        requires key { length key.now ≡ word_bytes * self.now.shape.key_words }
         ensures searched { (ms : List Move) × Goes seat.old ms seat.new × OnlySearches self.now.shape ms
-            × AnswersLookup self.now.shape key.now ms result }
+            × AnswersLookup self.now.shape key.now ms result × IsBrief self.now.shape ms }
         ensures inside { inside seat.new.view.mine ≡ 1 }
         ensures learnt { IfSome result (λ slot. IsLearnt slot seat.new.view.mine) }
         ensures slot { IfSome result (λ slot. slot < self.now.shape.slots) }
@@ -35,9 +35,9 @@ impl ReadTable {
         requires table { seat.old.table ≡ self.now }
         requires inside { inside seat.old.view.mine ≡ 1 }
         requires known { IsKnown seat.old.view }
-        requires key { length key.now ≡ WORD_BYTES * self.now.shape.key_words }
+        requires key { length key.now ≡ word_bytes * self.now.shape.key_words }
         ensures { (ms : List Move) × Goes seat.old ms seat.new × OnlySearches self.now.shape ms
-            × AnswersLookup self.now.shape key.now ms result }
+            × AnswersLookup self.now.shape key.now ms result × IsBrief self.now.shape ms }
     {
         let shape = self.shape();
         let home = home_of(key, shape.key_words, shape.slots);
@@ -52,10 +52,12 @@ impl ReadTable {
         requires table { seat.old.table ≡ self.now }
         requires inside { inside seat.old.view.mine ≡ 1 }
         requires known { IsKnown seat.old.view }
-        requires key { length key.now ≡ WORD_BYTES * self.now.shape.key_words }
+        requires key { length key.now ≡ word_bytes * self.now.shape.key_words }
         requires slots { (low ≤ high) × (high ≤ self.now.shape.slots) }
         ensures { (ms : List Move) × Goes seat.old ms seat.new × OnlySearches self.now.shape ms
-            × Searched self.now.shape key.now low high ms result }
+            × Searched self.now.shape key.now low high ms result
+            × (length ms + low * (1 + self.now.shape.key_words)
+            ≤ high * (1 + self.now.shape.key_words)) }
     {
         for slot in low..high {
             if self.has(seat, slot, key) {
@@ -71,10 +73,11 @@ impl ReadTable {
         requires table { seat.old.table ≡ self.now }
         requires inside { inside seat.old.view.mine ≡ 1 }
         requires slot { slot < self.now.shape.slots }
-        requires key { length key.now ≡ WORD_BYTES * self.now.shape.key_words }
+        requires key { length key.now ≡ word_bytes * self.now.shape.key_words }
         ensures { (ms : List Move) × Goes seat.old ms seat.new × OnlySearches self.now.shape ms
             × MatchBool result (AnswersLookup self.now.shape key.now ms (Some slot))
-            (Refuted self.now.shape key.now slot ms) }
+            (Refuted self.now.shape key.now slot ms)
+            × (length ms ≤ 1 + self.now.shape.key_words) }
     {
         self.learn(seat, slot) && self.has_key(seat, slot, key)
     }
@@ -86,10 +89,10 @@ impl ReadTable {
         requires learnt { IsLearnt slot seat.old.view.mine }
         requires known { IsKnown seat.old.view }
         requires slot { slot < self.now.shape.slots }
-        requires key { length key.now ≡ WORD_BYTES * self.now.shape.key_words }
+        requires key { length key.now ≡ word_bytes * self.now.shape.key_words }
         ensures { (ms : List Move) × Goes seat.old ms seat.new × OnlySearches self.now.shape ms
             × MatchBool result (HadKey self.now.shape key.now slot ms)
-            (Refuted self.now.shape key.now slot ms) }
+            (Refuted self.now.shape key.now slot ms) × (length ms ≤ self.now.shape.key_words) }
     {
         for place in 0..self.shape().key_words {
             if self.load(seat, slot, place) != word_of(key, place) {

@@ -7,7 +7,7 @@ ghost use Rattle.world_laws.specs.Moving.{word_in};
 ghost use Rattle.world_laws.specs.Reaching.{IsInFrame};
 ghost use Rattle.read_table.specs.declared.view.Move.{Move};
 ghost use Rattle.read_table.specs.History.{inside};
-ghost use Rattle.read_table.specs.Lookups.{AnswersLookup, OnlySearches};
+ghost use Rattle.read_table.specs.Lookups.{AnswersLookup, IsBrief, OnlySearches};
 ghost use Rattle.read_table.specs.SharedRuns.{closing, opening};
 ghost use Rattle.read_table.specs.Sharing.{flag_of};
 ghost use Rattle.read_table.specs.Words.{FitsTable, UsesSubWords};
@@ -95,7 +95,7 @@ impl ReadTable {
         ensures { (ns : List Move) × (found : Option ℕ) × Goes seat.old ns seat.new
             × OnlySearches self.now.shape ns
             × AnswersLookup self.now.shape (bytes_in run.now.view 2 (8 * self.now.shape.key_words))
-            ns found × (result ≡ found_word 0 found) }
+            ns found × IsBrief self.now.shape ns × (result ≡ found_word 0 found) }
     {
         let key = run.bytes_argument(Reg::R2, WORD_BYTES * self.shape().key_words);
         word_of_slot(self.lookup(seat, key))

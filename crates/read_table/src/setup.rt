@@ -2,7 +2,7 @@
 ghost use Rattle.std.specs.Prelude.{◌≡◌, ◌+◌, ◌*◌, ◌/◌, ◌<◌, ◌≤◌, [], length, slice_index, vec_len, IfOk, OnOk, All, ℕ};
 ghost use Rattle.std.specs.List.{range_with_len};
 ghost use Rattle.read_table.specs.Law.{writer_after, count_of};
-ghost use Rattle.read_table.specs.declared.limits.TheConstants.{MAX_TABLE_SLOTS, MAX_READERS, WORD_BYTES};
+ghost use Rattle.read_table.specs.Limits.{most_table_slots, most_readers, word_bytes};
 ghost use Rattle.read_table.specs.Held.{IsTableLength, IsReady, IsNew, IsSized};
 
 use crate::limits::WORD_BYTES;
@@ -59,15 +59,15 @@ impl ReadTable {
         value_len: usize,
         readers: usize,
     ) -> Result<(ReadTable, Seats, Writer), AllocError>
-        requires slots { (0 < slots) × (slots ≤ MAX_TABLE_SLOTS) }
+        requires slots { (0 < slots) × (slots ≤ most_table_slots) }
         requires key { IsTableLength key_len }
         requires value { IsTableLength value_len }
-        requires readers { (0 < readers) × (readers ≤ MAX_READERS) }
+        requires readers { (0 < readers) × (readers ≤ most_readers) }
         ensures shape { IfOk result (λ t. t.0.shape ≡ record {
           readers = readers;
           slots = slots;
-          key_words = key_len / WORD_BYTES;
-          value_words = value_len / WORD_BYTES;
+          key_words = key_len / word_bytes;
+          value_words = value_len / word_bytes;
         }) }
         ensures count { IfOk result (λ t. length t.1 ≡ readers) }
         ensures ready { IfOk result (λ t. All (IsReady t.0) t.1) }

@@ -1,9 +1,11 @@
 //! The table, and a reader's seat at it.
+ghost use Rattle.atomic_table.specs.Table.{State};
 ghost use Rattle.std.specs.Prelude.{◌≡◌, ℕ, ◌+◌, ◌-◌, ◌*◌, ◌<◌, ◌≤◌, ◌%◌, ◌↔◌, [], ◌∷◌, length, slice_index, IsTrue, IfOk, true, false};
 ghost use Rattle.read_table.specs.declared.view.Move.TheVariants.{Open, Close, Learn, Load, Store, Header, Scan};
 ghost use Rattle.read_table.specs.History.{inside, IsLearnt, header_in, word_at_place, MayLink};
 ghost use Rattle.read_table.specs.History.{IsReader};
-ghost use Rattle.read_table.specs.Law.{count_of, base_of, width_of, writer_after};
+ghost use Rattle.read_table.specs.Law.{Kept, count_of, base_of, width_of, writer_after};
+ghost use Rattle.read_table.specs.declared.view.View.{View};
 ghost use Rattle.read_table.specs.Held.{IsSized, IsReady, IsNew, Does, Went, IsUnchanged};
 ghost use Rattle.read_table.specs.Slots.{IsFree};
 
@@ -11,7 +13,7 @@ use crate::{
     Changes, Closes, Deals, Law, Learns, Loads, Opens, SECTION_STRIDE, Scans, Stores, TableShape,
     View,
 };
-use atomic_table::{Seat, Table};
+use atomic_table::{Seat, Shared, Table, TableRule};
 use std::alloc::{AllocError, Global};
 use std::marker::Model;
 
@@ -72,9 +74,29 @@ impl ReadSeat {
     {
         let _ = &self.seat;
     }
+
+    /// The seat's share of the table: the view stands among those of whom the rule of the table speaks
+    /// (`ReadTable::ruled`).
+    pub fn share(&self) -> &Seat<u8, View>
+        ensures table { result.now.table_id ≡ self.now.table.id }
+        ensures view { result.now.me ≡ (self.now.view, []) }
+    {
+        &self.seat
+    }
 }
 
 impl ReadTable {
+    /// The words that all share, under their rule, which holds between any two steps, of whichever threads: there is one
+    /// lawful history of all that was done, the words are what it leaves, and the view of each share of this table
+    /// (`ReadSeat::share`, `Writer::share`) has its holder's part of it.
+    pub fn ruled(&self) -> &Shared<u8, View, TableShape, Law>
+        ensures table { result.now.table_id ≡ self.now.id }
+        ensures rule { (s : State ℕ View) →
+            ⟦<Law as TableRule<u8, View, TableShape>>⟧.holds result.now.key s → Kept self.now.shape s }
+    {
+        &self.table.shared
+    }
+
     /// How many of each the table has.
     #[inline]
     pub fn shape(&self) -> TableShape

@@ -1,7 +1,7 @@
 //! The words of a key or of a value, and the slot where a search for a key begins.
 ghost use Rattle.std.specs.Prelude.{◌≡◌, ◌+◌, ◌*◌, ◌<◌, ◌≤◌, length, Some};
 ghost use Rattle.read_table.specs.Lookups.{key_word};
-ghost use Rattle.read_table.specs.declared.limits.TheConstants.{WORD_BYTES, MAX_TABLE_SLOTS};
+ghost use Rattle.read_table.specs.Limits.{word_bytes, most_table_slots};
 
 use crate::limits::WORD_BYTES;
 use bpf_model::{Width, number_of};
@@ -12,7 +12,7 @@ const WORD_FACTOR: u64 = 11_400_714_819_323_198_485;
 /// The little-endian number of the eight bytes at a place, where places count words.
 #[inline]
 pub(crate) fn word_of(bytes: &[u8], place: usize) -> u64
-    requires { WORD_BYTES * place + WORD_BYTES ≤ length bytes.now }
+    requires { word_bytes * place + word_bytes ≤ length bytes.now }
     ensures { key_word bytes.now place ≡ Some result }
 {
     number_of(bytes, WORD_BYTES * place, Width::Eight)
@@ -21,7 +21,7 @@ pub(crate) fn word_of(bytes: &[u8], place: usize) -> u64
 /// A hash of a key of so many words. Its high half depends on all bits of the key.
 #[inline]
 fn hash_of(key: &[u8], words: usize) -> u64
-    requires { length key.now ≡ WORD_BYTES * words }
+    requires { length key.now ≡ word_bytes * words }
 {
     let mut hash: u64 = 0;
     for place in 0..words {
@@ -34,8 +34,8 @@ fn hash_of(key: &[u8], words: usize) -> u64
 /// The slot where a search for the key begins. Nothing is promised of how keys spread.
 #[inline]
 pub(crate) fn home_of(key: &[u8], words: usize, slots: usize) -> usize
-    requires key { length key.now ≡ WORD_BYTES * words }
-    requires slots { (0 < slots) × (slots ≤ MAX_TABLE_SLOTS) }
+    requires key { length key.now ≡ word_bytes * words }
+    requires slots { (0 < slots) × (slots ≤ most_table_slots) }
     ensures { result < slots }
 {
     let high = hash_of(key, words) >> 32;

@@ -2,7 +2,7 @@
 ghost use Rattle.std.specs.Prelude.{◌≡◌, ℕ, ◌+◌, ◌*◌, ◌^◌, ◌%◌, ◌<◌, ◌≤◌, ◌↔◌, ◌⊎◌, [], ◌∷◌, ◌++◌, length, vec_capacity, true, false, All, IsNone, IfNone, IfSome, IfOk};
 ghost use Rattle.std.specs.List.{range_with_len, Contains};
 ghost use Rattle.read_table.specs.History.{header_in, MayLink};
-ghost use Rattle.read_table.specs.declared.limits.TheConstants.{WORD_BYTES};
+ghost use Rattle.read_table.specs.Limits.{word_bytes};
 ghost use Rattle.read_table.specs.Slots.{Links, Unlinks, Leaves, Works, SawInside, AreSlots, scans_outside};
 ghost use Rattle.read_table.specs.declared.view.TableShape.{TableShape};
 ghost use Rattle.read_table.specs.Law.{writer_after};
@@ -69,8 +69,8 @@ impl Writer {
     /// begins. `None` where no slot is free. Keys are not compared: a key that is linked twice is found at either slot.
     pub fn link(&mut self, table: &ReadTable, key: &[u8], value: &[u8]) -> Option<usize>
         requires table { self.old.table ≡ table.now }
-        requires key { length key.now ≡ WORD_BYTES * table.now.shape.key_words }
-        requires value { length value.now ≡ WORD_BYTES * table.now.shape.value_words }
+        requires key { length key.now ≡ word_bytes * table.now.shape.key_words }
+        requires value { length value.now ≡ word_bytes * table.now.shape.value_words }
         ensures table { self.new.table ≡ self.old.table }
         ensures none { IsNone result ↔ (self.old.free ≡ []) }
         ensures unchanged { IfNone result (self.new ≡ self.old) }
@@ -131,6 +131,15 @@ impl Writer {
         take_out(&mut self.unlinked, slot);
         self.free.push_reserved(slot);
         true
+    }
+
+    /// The writer's share of the table: the view stands among those of whom the rule of the table speaks
+    /// (`ReadTable::ruled`).
+    pub fn share(&self) -> &Seat<u8, View>
+        ensures table { result.now.table_id ≡ self.now.table.id }
+        ensures view { result.now.me ≡ (self.now.view, []) }
+    {
+        &self.seat
     }
 
     /// A law: each slot stands in one of the three lists, once: a free one may be linked, a linked one has an odd header,

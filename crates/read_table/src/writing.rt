@@ -5,7 +5,7 @@ ghost use Rattle.read_table.specs.declared.view.Move.{Move};
 ghost use Rattle.read_table.specs.declared.view.Move.TheVariants.{Header, Scan};
 ghost use Rattle.read_table.specs.History.{header_in, MayLink};
 ghost use Rattle.read_table.specs.Law.{width_of};
-ghost use Rattle.read_table.specs.declared.limits.TheConstants.{WORD_BYTES, MAX_TABLE_SLOTS};
+ghost use Rattle.read_table.specs.Limits.{word_bytes, most_table_slots};
 ghost use Rattle.read_table.specs.Held.{IsSized, IsKnown, Went};
 ghost use Rattle.read_table.specs.Slots.{Fills, IsFree, Leaves, scans_outside};
 
@@ -28,7 +28,7 @@ fn fill(
     requires known { IsKnown seat.old.me.0 }
     requires slot { slot < table.now.shape.slots }
     requires free { IsFree seat.old.me.0 slot }
-    requires bytes { length bytes.now ≡ WORD_BYTES * words }
+    requires bytes { length bytes.now ≡ word_bytes * words }
     requires places { from + words ≤ width_of table.now.shape }
     requires sized { IsSized table.now.shape }
     ensures table { seat.new.table_id ≡ seat.old.table_id }
@@ -54,8 +54,8 @@ pub(crate) fn write_slot(
     requires known { IsKnown seat.old.me.0 }
     requires slot { slot < table.now.shape.slots }
     requires free { IsFree seat.old.me.0 slot }
-    requires key { length key.now ≡ WORD_BYTES * table.now.shape.key_words }
-    requires value { length value.now ≡ WORD_BYTES * table.now.shape.value_words }
+    requires key { length key.now ≡ word_bytes * table.now.shape.key_words }
+    requires value { length value.now ≡ word_bytes * table.now.shape.value_words }
     ensures table { seat.new.table_id ≡ seat.old.table_id }
     ensures held { seat.new.me.1 ≡ seat.old.me.1 }
     ensures steps { (ks vs : List Move) × Fills slot 0 key.now table.now.shape.key_words ks
@@ -141,7 +141,7 @@ pub(crate) fn take_out(list: &mut Vec<usize>, slot: usize)
 
 /// How far a slot lies behind a home, where the first slot comes behind the last.
 fn distance(slot: usize, home: usize, slots: usize) -> usize
-    requires { (slot < slots) × (home < slots) × (slots ≤ MAX_TABLE_SLOTS) }
+    requires { (slot < slots) × (home < slots) × (slots ≤ most_table_slots) }
     ensures { result < slots }
 {
     if home <= slot {
@@ -155,7 +155,7 @@ fn distance(slot: usize, home: usize, slots: usize) -> usize
 fn nearest(free: &[usize], home: usize, slots: usize) -> usize
     requires some { 0 < length free.now }
     requires within { All (λ slot. slot < slots) free.now }
-    requires home { (home < slots) × (slots ≤ MAX_TABLE_SLOTS) }
+    requires home { (home < slots) × (slots ≤ most_table_slots) }
     ensures { result < length free.now }
 {
     let mut best = 0;
@@ -174,7 +174,7 @@ fn nearest(free: &[usize], home: usize, slots: usize) -> usize
 pub(crate) fn take_nearest(free: &mut Vec<usize>, home: usize, slots: usize) -> usize
     requires some { 0 < length free.old.items }
     requires within { All (λ slot. slot < slots) free.old.items }
-    requires home { (home < slots) × (slots ≤ MAX_TABLE_SLOTS) }
+    requires home { (home < slots) × (slots ≤ most_table_slots) }
     ensures leaves { Leaves result free.old.items free.new.items }
     ensures capacity { vec_capacity free.new ≡ vec_capacity free.old }
 {

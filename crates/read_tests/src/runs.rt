@@ -1,11 +1,14 @@
 //! Runs of programs over the table.
 ghost use Rattle.std.specs.Prelude.{◌≡◌};
+ghost use Rattle.read_table.specs.Held.{IsReady};
 
 use crate::making::{
     LOAD_BYTE, LOOKUP_AND_LOAD, LOOKUP_AND_STORE, NESTED, run, two_seats, verified,
 };
-use read_table::{ReadTable, SubWord};
+use atomic_table::{Seat, Shared};
+use read_table::{Law, ReadSeat, ReadTable, SubWord, TableShape, View, Writer};
 use std::test::Fail;
+use verifier::Verified;
 
 /// A lookup finds no value, one that was linked, and one that another seat's run has stored since.
 #[test]
@@ -73,5 +76,56 @@ fn a_load_of_a_byte_is_refused(rt: HostRuntime) -> Result<(), Fail> {
     assert_eq!(rt; run(&table, seat, &byte), Some(Err(SubWord)));
     assert_eq!(rt; SubWord.code(), 80);
     assert_eq!(rt; run(&table, seat, &load), Some(Ok(0x0707_0707_0707_0707)));
+    Ok(())
+}
+
+/// The share is one of the table of these words, so their rule speaks of what its holder did.
+fn are_tied(words: &Shared<u8, View, TableShape, Law>, share: &Seat<u8, View>)
+    requires { share.now.table_id ≡ words.now.table_id }
+{
+    let _ = (words, share);
+}
+
+/// The shares of a seat and of the writer are of the table whose words it hands out.
+fn shares_are_tied(table: &ReadTable, seat: &ReadSeat, writer: &Writer)
+    requires seat { seat.now.table ≡ table.now }
+    requires writer { writer.now.table ≡ table.now }
+{
+    are_tied(table.ruled(), seat.share());
+    are_tied(table.ruled(), writer.share());
+}
+
+/// What a table, a seat and the writer hand out is of one history, before and after a run.
+fn run_tied(
+    table: &ReadTable,
+    seat: &mut ReadSeat,
+    writer: &Writer,
+    load: &Verified,
+) -> Option<Result<u64, SubWord>>
+    requires ready { IsReady table.now seat.old }
+    requires writer { writer.now.table ≡ table.now }
+{
+    shares_are_tied(table, seat, writer);
+    let value = run(table, seat, load);
+    shares_are_tied(table, seat, writer);
+    value
+}
+
+/// A run is as ever where what ties its holders was handed out before.
+#[test]
+fn shares_are_of_one_table(rt: HostRuntime) -> Result<(), Fail> {
+    let alloc = rt.alloc();
+    let load = verified(alloc, LOOKUP_AND_LOAD, 0)?;
+    let (table, seats, mut writer) = ReadTable::new(alloc, 4, 8, 8, 1)?;
+    let mut list = seats.list;
+    let Some(seat) = list.first_mut() else {
+        return Err(Fail::from("no seat"));
+    };
+    assert!(rt;
+        writer
+            .link(&table, &[0; 8], &[5, 0, 0, 0, 0, 0, 0, 0])
+            .is_some()
+    );
+    assert_eq!(rt; run_tied(&table, seat, &writer, &load), Some(Ok(5)));
     Ok(())
 }

@@ -23,7 +23,7 @@ run_with program run =
       context = run.context.items;
       state = plain_state_of run.state;
       depth = run.depth;
-      locks = run.locks;
+      sections = run.sections;
       moved =
           run.moved;
       exit = run.exit;

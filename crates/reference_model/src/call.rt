@@ -49,21 +49,21 @@ fn returns(run: &mut Run, value: Value) -> Result<Answer, ModelFault>
 }
 
 /// How many sections the run has opened after a lock: the outermost one opens a section.
-fn locks_after(run: &Run) -> Result<u64, ModelFault>
+fn sections_after(run: &Run) -> Result<u64, ModelFault>
     ensures { TellsResult (λ n. n
-        ≡ (if run.now.depth == 0 then run.now.locks + 1 else run.now.locks)) ⊥
+        ≡ (if run.now.depth == 0 then run.now.sections + 1 else run.now.sections)) ⊥
         result }
 {
     if run.depth == 0 {
-        one_more(run.locks)
+        one_more(run.sections)
     } else {
-        Ok(run.locks)
+        Ok(run.sections)
     }
 }
 
 fn read_lock(run: &mut Run) -> Result<Answer, ModelFault>
     requires { (plain_state_of run.old.state).place < MAX_PLACE }
-    ensures locks { (program : ModelLoaded) →
+    ensures step { (program : ModelLoaded) →
         KernelsAs (Some functions.ReadLock) (run_with program run.old) result
         (run_with program run.new) }
     ensures program { run.new.program ≡ run.old.program }
@@ -71,7 +71,7 @@ fn read_lock(run: &mut Run) -> Result<Answer, ModelFault>
     if run.depth >= MAX_DEPTH {
         return Err(ModelFault::Stuck);
     }
-    run.locks = locks_after(run)?;
+    run.sections = sections_after(run)?;
     run.depth += 1;
     returns(run, Value::Nothing)
 }

@@ -29,7 +29,7 @@ pub struct Run {
     /// How many of its locks are open.
     pub depth: usize,
     /// How many sections it has opened.
-    pub locks: u64,
+    pub sections: u64,
     /// How many of its steps have led further on; an exit isn't counted.
     pub moved: u64,
     /// Its exit value, once it has ended.
@@ -49,7 +49,7 @@ impl Run {
             context,
             state: PlainRun::entry(),
             depth: 0,
-            locks: 0,
+            sections: 0,
             moved: 0,
             exit: None,
         }

@@ -45,7 +45,7 @@ fn push_section(sections: &mut Vec<Section>, slot: &Option<Run>) -> Result<(), A
         if 0 < run.depth {
             sections.push(Section {
                 run: run.name,
-                lock: run.locks,
+                number: run.sections,
             })?;
         }
     }

@@ -10,12 +10,12 @@ use Rattle.std.proofs.lemmas.Option.{slice_get_past}
 use Rattle.std.proofs.lemmas.List.{length-map}
 use Rattle.bpf_model.proofs.Lists.{get-map}
 
-same-section : (x s : Section) → section_shown x ≡ section_shown s → ((x.run == s.run) && (x.lock == s.lock)) ≡ true
-same-section x s e = ap (λ b. b && (x.lock == s.lock)) (eq-eqb x.run s.run (ap (λ t. t.run) e)) ∙ eq-eqb x.lock s.lock (ap (λ t. t.lock) e)
+same-section : (x s : Section) → section_shown x ≡ section_shown s → ((x.run == s.run) && (x.number == s.number)) ≡ true
+same-section x s e = ap (λ b. b && (x.number == s.number)) (eq-eqb x.run s.run (ap (λ t. t.run) e)) ∙ eq-eqb x.number s.number (ap (λ t. t.number) e)
 
 -- one more section is none of them
 pub not-among : (xs : List Section) (s d : Section) (j : ℕ) (b : Bool) → j < length xs →
-    b ≡ ((slice_index_or xs j d).run == s.run) && ((slice_index_or xs j d).lock == s.lock) → b ≡ false →
+    b ≡ ((slice_index_or xs j d).run == s.run) && ((slice_index_or xs j d).number == s.number) → b ≡ false →
     ((k : ℕ) → k < j → slice_get (sections_of xs) k ≡ Some (section_shown s) → ⊥) → (k : ℕ) → k < j + 1 →
     slice_get (sections_of xs) k ≡ Some (section_shown s) → ⊥
 not-among xs s d j b h e f before k l g = elim (cases_lt k j) [

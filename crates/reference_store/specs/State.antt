@@ -13,7 +13,7 @@ use Rattle.bpf_model.specs.MapState as model_maps
 use Rattle.bpf_model.specs.Schedule as schedule
 
 abbrev pub section_shown : Section → model_section.Section
-section_shown s = record { run = s.run; lock = s.lock }
+section_shown s = record { run = s.run; number = s.number }
 
 abbrev pub sections_of : List Section → List model_section.Section
 sections_of ss = map section_shown ss

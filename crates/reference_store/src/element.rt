@@ -19,7 +19,7 @@ use reference_interpreter::region_offset;
 #[derive(Clone, Copy, Debug, PartialEq, Eq)]
 pub struct Section {
     pub run: u64,
-    pub lock: u64,
+    pub number: u64,
 }
 
 /// An element is linked; or unlinked, with the sections that were open at that moment; or reclaimed.

@@ -5,7 +5,7 @@ use crate::state::AbsState;
 use std::alloc::{AllocError, Global};
 
 /// Where copies of states are put: in the box of a state that is no longer of use, or in memory of
-/// this allocator.
+/// this allocator. At most one such box is kept.
 #[derive(Drop)]
 pub struct Boxes {
     alloc: Global,

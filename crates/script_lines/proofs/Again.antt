@@ -13,7 +13,7 @@ use Rattle.std.proofs.lemmas.Str.Parse.{IsNumeralModel, numerals_by_value, tells
 use Rattle.std.proofs.Math.Bool.{or-true}
 use Rattle.hex.specs.Hex.{IsBytes, decode_of, encode_lower, lower_digits}
 use Rattle.hex.proofs.HexLemmas.{decode_of-encode_lower, length-encode_with}
-use Rattle.script_lines.specs.Answers.{bytes_text}
+use Rattle.script_lines.specs.ReplyText.{bytes_text}
 use Rattle.script_lines.specs.Words.{is_word, is_numeral, number_in, hex_bytes_in}
 use Rattle.script_lines.proofs.WordLaws.{long_is_word}
 

@@ -3,9 +3,9 @@ use Rattle.std.specs.Prelude.{ℕ, nat_le, if◌then◌else◌, List, [], ◌∷
 use Rattle.std.specs.Prelude.{Option, Some, None}
 use Rattle.script_lines.specs.Words.{number_in, count_in, hex_bytes_in, key_bytes_in}
 use Rattle.script_lines.specs.Words.{value_bytes_in, context_bytes_in}
-use Rattle.script_lines.specs.declared.command.Command.{Command}
+use Rattle.script_lines.specs.declared.command.ScriptCommand.{ScriptCommand}
 use Rattle.bpf_model.specs.Value.{◌>>=◌}
-use Rattle.script_lines.specs.declared.command.Command.TheVariants as commands
+use Rattle.script_lines.specs.declared.command.ScriptCommand.TheVariants as commands
 use Rattle.bpf_model.specs.declared.limits.MapKind.TheVariants.{Hash, Array}
 use Rattle.bpf_model.specs.declared.limits.TheConstants.{MAX_MAPS, INDEX_BYTES}
 use Rattle.script_lines.specs.declared.command.ShapeNumbers.{ShapeNumbers}
@@ -87,14 +87,14 @@ shape_in (word ∷ words) =
 -- Each command from the words behind its verb. A word for a name may be any.
 
 -- `map NAME KEY VALUE ENTRIES SPARE REUSE`, `map NAME array VALUE ENTRIES`
-abbrev pub map_command : List (List ℕ) → Option Command
+abbrev pub map_command : List (List ℕ) → Option ScriptCommand
 map_command [] = None
 map_command (name ∷ words) = do
   shape ← shape_in words
   Some (commands.Map name shape)
 
 -- `load CTXLEN BYTES [NAME ..]`
-abbrev pub load_command : List (List ℕ) → Option Command
+abbrev pub load_command : List (List ℕ) → Option ScriptCommand
 load_command (ctx ∷ bytes ∷ names) = do
   ctx_len ← number_in ctx
   code ← hex_bytes_in bytes
@@ -102,7 +102,7 @@ load_command (ctx ∷ bytes ∷ names) = do
 load_command _ = None
 
 -- `put NAME KEY VALUE FLAGS`
-abbrev pub put_command : List (List ℕ) → Option Command
+abbrev pub put_command : List (List ℕ) → Option ScriptCommand
 put_command (name ∷ key ∷ value ∷ flags ∷ []) = do
   k ← key_bytes_in key
   v ← value_bytes_in value
@@ -111,21 +111,21 @@ put_command (name ∷ key ∷ value ∷ flags ∷ []) = do
 put_command _ = None
 
 -- `get NAME KEY`
-abbrev pub get_command : List (List ℕ) → Option Command
+abbrev pub get_command : List (List ℕ) → Option ScriptCommand
 get_command (name ∷ key ∷ []) = do
   k ← key_bytes_in key
   Some (commands.Get name k)
 get_command _ = None
 
 -- `del NAME KEY`
-abbrev pub del_command : List (List ℕ) → Option Command
+abbrev pub del_command : List (List ℕ) → Option ScriptCommand
 del_command (name ∷ key ∷ []) = do
   k ← key_bytes_in key
   Some (commands.Del name k)
 del_command _ = None
 
 -- `start PROG CTX`
-abbrev pub start_command : List (List ℕ) → Option Command
+abbrev pub start_command : List (List ℕ) → Option ScriptCommand
 start_command (prog ∷ ctx ∷ []) = do
   n ← number_in prog
   c ← context_bytes_in ctx
@@ -133,7 +133,7 @@ start_command (prog ∷ ctx ∷ []) = do
 start_command _ = None
 
 -- `step RUN [COUNT]`, where no COUNT is 1
-abbrev pub step_command : List (List ℕ) → Option Command
+abbrev pub step_command : List (List ℕ) → Option ScriptCommand
 step_command (run ∷ []) = do
   n ← number_in run
   Some (commands.Step n 1)
@@ -144,23 +144,23 @@ step_command (run ∷ count ∷ []) = do
 step_command _ = None
 
 -- `drop RUN`
-abbrev pub drop_command : List (List ℕ) → Option Command
+abbrev pub drop_command : List (List ℕ) → Option ScriptCommand
 drop_command (run ∷ []) = do
   n ← number_in run
   Some (commands.Drop n)
 drop_command _ = None
 
 -- `dump NAME`
-abbrev pub dump_command : List (List ℕ) → Option Command
+abbrev pub dump_command : List (List ℕ) → Option ScriptCommand
 dump_command (name ∷ []) = Some (commands.Dump name)
 dump_command _ = None
 
 -- `advance`, `reap`, `stat`
-abbrev pub alone : Command → List (List ℕ) → Option Command
+abbrev pub alone : ScriptCommand → List (List ℕ) → Option ScriptCommand
 alone command [] = Some command
 alone command _ = None
 
-abbrev pub arguments_for : Verb → List (List ℕ) → Option Command
+abbrev pub arguments_for : Verb → List (List ℕ) → Option ScriptCommand
 arguments_for verbs.Map words = map_command words
 arguments_for verbs.Load words = load_command words
 arguments_for verbs.Put words = put_command words
@@ -175,7 +175,7 @@ arguments_for verbs.Stat words = alone commands.Stat words
 arguments_for verbs.Dump words = dump_command words
 
 -- the command that the words are
-abbrev pub command_of : List (List ℕ) → Option Command
+abbrev pub command_of : List (List ℕ) → Option ScriptCommand
 command_of [] = None
 command_of (word ∷ words) = do
   verb ← verb_of word

@@ -1,4 +1,4 @@
-pub mod Answers
+pub mod ReplyText
 pub mod Grammar
 pub mod Lines
 pub mod Words

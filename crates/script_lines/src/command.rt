@@ -22,7 +22,7 @@ pub struct ShapeNumbers {
 
 /// What a line asks for. Names and a program's bytes are lent from the line; numbers are any below 2^64.
 #[derive(Drop)]
-pub enum Command<'a> {
+pub enum ScriptCommand<'a> {
     /// `map NAME KEY VALUE ENTRIES SPARE REUSE`: a hash map is created; `map NAME array VALUE ENTRIES`: an array.
     Map {
         name: Name<'a>,

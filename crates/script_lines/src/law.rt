@@ -1,7 +1,7 @@
 //! Laws: what answers have is read again, and a number is written in one way.
 ghost use Rattle.std.specs.Prelude.{ℕ, ◌≡◌, Some};
 ghost use Rattle.std.specs.Fmt.{decimal};
-ghost use Rattle.script_lines.specs.Answers.{bytes_text};
+ghost use Rattle.script_lines.specs.ReplyText.{bytes_text};
 ghost use Rattle.script_lines.specs.Words.{number_in, hex_bytes_in};
 
 /// A law: the text of a number is read as that number.

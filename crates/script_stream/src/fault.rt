@@ -40,7 +40,7 @@ impl ScriptFault {
 }
 
 /// The fault of a stream that failed: want of memory, or that of its side.
-pub(crate) fn stream_fault(error: &io::Error, side: ScriptFault) -> ScriptFault
+pub fn stream_fault(error: &io::Error, side: ScriptFault) -> ScriptFault
     ensures { (result ≡ side) ⊎ (result ≡ ScriptFault.Memory) }
 {
     if error.kind() == ErrorKind::OutOfMemory {

@@ -6,13 +6,15 @@
 #![tactic(auto)]
 
 mod fault;
+mod input;
 mod lines;
+mod output;
 mod progress;
 mod respond;
-mod serving;
-mod writing;
+mod stream;
 
-pub use fault::ScriptFault;
+pub use fault::{ScriptFault, stream_fault};
+pub use input::read_some;
 pub use progress::LINE_BYTES;
 pub use respond::{LineFault, Respond};
-pub use serving::serve;
+pub use stream::serve;

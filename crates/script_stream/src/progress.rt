@@ -8,8 +8,8 @@ ghost use Rattle.script_stream.specs.Progress.{IsProgressAt, IsOutputFault};
 
 use crate::fault::ScriptFault;
 use crate::lines::cut_line;
+use crate::output::{flush, write_text};
 use crate::respond::{LineFault, Respond};
-use crate::writing::{flush, write_text};
 use std::alloc::Global;
 use std::io::Write;
 

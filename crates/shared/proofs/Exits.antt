@@ -17,7 +17,7 @@ exits-once programs p w run prog context exit is same h =
 -- such a value is one of the program's definition
 possible : (o : Option Checked) (w : WorldView) (run : ℕ) (context : List ℕ) (n : ℕ) → IsWorld w → IsExitOf w run o context n → IsPossibleExit o context n
 possible None w run context n is h = h
-possible (Some p) w run context n is h = may_exit_as w run p.program p.shapes p.ctx_len context n is h
+possible (Some p) w run context n is h = (may_exit_as w run p.program p.shapes p.ctx_len context n is h).0
 
 own : (o : Option Checked) (context : List ℕ) (n : ℕ) → IsPossibleExit o context n → IsOwnExit o context n
 own None context n h = h

@@ -42,6 +42,7 @@ fn cut<L: Ledger + Send + Sync, R: Wait + Abort>(
         assert!(rt; matches!(last, Ok(Answer::Exited(1))));
         let note = shared.exit_noted(rt, worker, run, prog, &ctx);
         assert_eq!(rt; (note.exit(), note.made(), note.worker()), (Some(1), 4, 0));
+        assert_eq!(rt; shared.exit_of(rt, worker, run, prog, &ctx), Some(1));
         assert_eq!(rt; shared.exit_of(rt, worker, run, ProgId::new(1), &ctx), None);
         let _ = shared.act(rt, worker, Event::Drop { run });
         assert_eq!(rt; shared.cut(rt, alloc), Ok(()));

@@ -3,7 +3,8 @@ ghost use Rattle.std.specs.Prelude.{◌≡◌};
 
 use crate::making::{job, made_by, start, step, world_of};
 use bpf_model::{Answer, Event, RunId};
-use shared::{CutFault, Shared, SharedFault, is_quiet};
+use journal::{Entry, Journal};
+use shared::{CutFault, Shared, SharedFault, Worker, is_quiet};
 use std::alloc::Global;
 use std::marker::Brand;
 use std::process::Abort;
@@ -12,6 +13,42 @@ use std::sync::ledger::{Blank, Ledger};
 use std::test::Fail;
 use std::thread::Threads;
 use worker_pool::{Outcome, StopCause, run_jobs};
+
+/// A run of program 0, event by event: it starts in run slot 0, moves, and exits with 1. These are three entries.
+fn run_to_exit<L: Ledger, R: Wait + Abort>(rt: &R, shared: &Shared<L>, worker: &mut Worker<L>) {
+    let started = shared.act(rt, worker, start(0));
+    assert!(rt; matches!(started, Ok(Answer::Started(run)) if run == RunId::new(0)));
+    let moved = shared.act(rt, worker, step(0));
+    assert!(rt; matches!(moved, Ok(Answer::Moved)));
+    let exited = shared.act(rt, worker, step(0));
+    assert!(rt; matches!(exited, Ok(Answer::Exited(1))));
+    assert_eq!(rt; worker.made(), 3);
+}
+
+/// Whether an entry is the one that a job of program 0 makes as its first to fourth: a start, two steps and a drop, of
+/// run slot 0.
+fn is_of_a_job(entry: &Entry, place: usize) -> bool {
+    match (place, &entry.event, &entry.answer) {
+        (0, Event::Start { .. }, Answer::Started(run)) => run.index() == 0,
+        (1, Event::Step { run }, Answer::Moved) => run.index() == 0,
+        (2, Event::Step { run }, Answer::Exited(value)) => run.index() == 0 && *value == 1,
+        (3, Event::Drop { run }, Answer::Done) => run.index() == 0,
+        _ => false,
+    }
+}
+
+/// How many entries of a journal are those of jobs one behind the other, from the first on.
+fn count_of_jobs(journal: &Journal) -> usize {
+    for index in 0..journal.len() {
+        if !journal
+            .entry(index)
+            .is_some_and(|entry| is_of_a_job(&entry, index % 4))
+        {
+            return index;
+        }
+    }
+    journal.len()
+}
 
 #[test]
 fn a_full_journal_takes_nothing(rt: HostRuntime) -> Result<(), Fail> {
@@ -32,12 +69,7 @@ fn full<L: Ledger + Send + Sync, R: Wait + Abort>(
     assert!(rt; is_quiet(&world));
     let (shared, mut workers, _) = Shared::<L>::with_limit(alloc, world, 1, 3, blank)?;
     if let [worker] = workers.as_mut_slice() {
-        let started = shared.act(rt, worker, start(0));
-        assert!(rt; matches!(started, Ok(Answer::Started(_))));
-        let moved = shared.act(rt, worker, step(0));
-        assert!(rt; matches!(moved, Ok(Answer::Moved)));
-        let exited = shared.act(rt, worker, step(0));
-        assert!(rt; matches!(exited, Ok(Answer::Exited(1))));
+        run_to_exit(rt, &shared, worker);
         let dropped = shared.act(rt, worker, Event::Drop { run: RunId::new(0) });
         assert!(rt; matches!(dropped, Err(SharedFault::JournalFull)));
         assert_eq!(rt; SharedFault::JournalFull.code(), 70);
@@ -47,6 +79,7 @@ fn full<L: Ledger + Send + Sync, R: Wait + Abort>(
     assert_eq!(rt; made_by(&workers), 3);
     let finished = shared.finish(workers);
     assert_eq!(rt; (finished.journal.len(), finished.journal.limit()), (3, 3));
+    assert_eq!(rt; (finished.before, count_of_jobs(&finished.journal)), (0, 3));
     assert_eq!(rt;
         (finished.base.stat().runs, finished.world.stat().runs),
         (0, 1)
@@ -72,9 +105,7 @@ fn emptied<L: Ledger + Send + Sync, R: Wait + Abort>(
     assert!(rt; is_quiet(&world));
     let (shared, mut workers, _) = Shared::<L>::with_limit(alloc, world, 1, 4, blank)?;
     if let [worker] = workers.as_mut_slice() {
-        let _ = shared.act(rt, worker, start(0));
-        let _ = shared.act(rt, worker, step(0));
-        let _ = shared.act(rt, worker, step(0));
+        run_to_exit(rt, &shared, worker);
         let dropped = shared.act(rt, worker, Event::Drop { run: RunId::new(0) });
         assert!(rt; matches!(dropped, Ok(Answer::Done)));
         let refused = shared.act(rt, worker, Event::Advance);
@@ -84,7 +115,15 @@ fn emptied<L: Ledger + Send + Sync, R: Wait + Abort>(
         assert!(rt; matches!(done, Ok(Answer::Done)));
     }
     assert_eq!(rt; made_by(&workers), 5);
-    assert_eq!(rt; shared.finish(workers).journal.len(), 1);
+    // The four are before the base, and the advance alone is in the journal.
+    let finished = shared.finish(workers);
+    assert_eq!(rt; (finished.before, finished.journal.len()), (4, 1));
+    assert!(rt;
+        finished
+            .journal
+            .entry(0)
+            .is_some_and(|entry| matches!(entry.event, Event::Advance))
+    );
     Ok(())
 }
 
@@ -120,6 +159,8 @@ fn filled<L: Ledger + Send + Sync, R: Threads + Wait + Abort + Sync>(
         assert!(rt; served.outcome == outcome);
     }
     assert_eq!(rt; (report.jobs.len(), cause.code()), (3, 70));
-    assert_eq!(rt; shared.finish(workers).journal.len(), 10);
+    let finished = shared.finish(workers);
+    assert_eq!(rt; (finished.before, finished.journal.len()), (0, 10));
+    assert_eq!(rt; count_of_jobs(&finished.journal), 10);
     Ok(())
 }

@@ -12,7 +12,7 @@ use Rattle.bpf_model.specs.declared.insn.Operand.{Operand}
 use Rattle.bpf_model.specs.declared.insn.Operand.TheVariants.{Register, Immediate}
 use Rattle.bpf_model.specs.declared.opcode.Size.{Size}
 use Rattle.bpf_model.specs.Frame.{is_within}
-use Rattle.bpf_model.specs.Plain.{WritesRegister, WritesByte, Names, TakesByte, IsFrameAccess}
+use Rattle.model_laws.specs.Plain.{WritesRegister, WritesByte, Names, TakesByte, IsFrameAccess}
 use Rattle.bpf_model.specs.Access.{byte_count, unsigned_width, region_offset}
 use Rattle.bpf_model.specs.declared.opcode.Width.{Width}
 use Rattle.bpf_model.specs.declared.opcode.SignedWidth.{SignedWidth}

@@ -34,8 +34,8 @@ use Rattle.register_kinds.specs.Changes.{learnt, learnt_kind, learnt_cell}
 use Rattle.state_steps.specs.Stepped.{IsEqualToNull}
 use Rattle.bpf_model.specs.declared.opcode.Size.{Size}
 use Rattle.bpf_model.specs.declared.opcode.Size.TheVariants.{Word64}
-use Rattle.bpf_model.specs.PlainMaps.{IsValueLoad, GuardedLookup, LookupPart, FrameCopy, KeyAddress, MapLoad}
-use Rattle.bpf_model.specs.PlainMaps.{LookupCall, NullTest, ValueLoad, part_insn, IsFitting}
+use Rattle.model_laws.specs.PlainMaps.{IsValueLoad, GuardedLookup, LookupPart, FrameCopy, KeyAddress, MapLoad}
+use Rattle.model_laws.specs.PlainMaps.{LookupCall, NullTest, ValueLoad, part_insn, IsFitting}
 use Rattle.scalar_domain.specs.declared.scalar.Scalar.{Scalar}
 use Rattle.plan_laws.specs.Kinds.{Kind, Blank, Num, FrameAt, MapAt, ValueAt, MaybeNull, ByteCell, AbsState}
 use Rattle.plan_laws.specs.Effects.{with_kind, after_call, after_lock, after_unlock, left_kind, left_cell, IsWritten, HasBytes}

@@ -20,7 +20,7 @@ use Rattle.bpf_model.specs.declared.value.Value.TheVariants.{Pointer}
 use Rattle.bpf_model.specs.declared.value.Reference.TheVariants.{Elem}
 use Rattle.bpf_model.specs.Request.{found_value}
 use Rattle.bpf_model.specs.Operand.{operand_value}
-use Rattle.bpf_model.specs.Plain.{Names}
+use Rattle.model_laws.specs.Plain.{Names}
 use Rattle.bpf_model.specs.Step.{State}
 use Rattle.scalar_domain.specs.declared.scalar.Scalar.{Scalar}
 use Rattle.plan_laws.specs.Kinds.{Kind, Num, AbsState as Known}

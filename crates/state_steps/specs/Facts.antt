@@ -5,7 +5,7 @@ use Rattle.std.specs.Prelude.{◌≡◌, ℕ, ◌⊎◌, pos, Bool, false, if◌
 use Rattle.bpf_model.specs.declared.insn.Insn.{Insn}
 use Rattle.bpf_model.specs.declared.insn.Insn.TheVariants.{Exit}
 use Rattle.bpf_model.specs.declared.limits.TheConstants.{FRAME_BYTES}
-use Rattle.bpf_model.specs.Plain.{ReadsRegister, WritesRegister, ReadsByte, WritesByte, IsSimple}
+use Rattle.model_laws.specs.Plain.{ReadsRegister, WritesRegister, ReadsByte, WritesByte, IsSimple}
 use Rattle.plan_laws.specs.Kinds.{FrameAt, ByteCell, AbsState as Known}
 use Rattle.plan_laws.specs.Effects.{HasNumber}
 

@@ -2,7 +2,7 @@
 -- the scalar domain promises.
 use Rattle.std.specs.Prelude.{◌≡◌, ℕ, ◌≤◌, ◌⊎◌, true, false, Option, IfSome}
 use Rattle.bpf_model.specs.Operand.{unary_source}
-use Rattle.bpf_model.specs.Plain.{Names}
+use Rattle.model_laws.specs.Plain.{Names}
 use Rattle.bpf_model.specs.declared.insn.Insn.{Insn}
 use Rattle.bpf_model.specs.declared.insn.Insn.TheVariants.{Alu, Unary, LoadNumber, JumpIf, Load}
 use Rattle.bpf_model.specs.declared.insn.Insn.TheVariants.{LoadSigned, LoadMap, Call}

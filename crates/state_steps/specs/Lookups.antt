@@ -5,9 +5,9 @@ use Rattle.std.specs.Prelude.{pos, Bool, if◌then◌else◌}
 use Rattle.bpf_model.specs.declared.limits.TheConstants.{FRAME_BYTES}
 use Rattle.bpf_model.specs.declared.limits.MapShape.{MapShape}
 use Rattle.bpf_model.specs.declared.insn.Insn.{Insn}
-use Rattle.bpf_model.specs.PlainMaps.{lock_call, unlock_call, GuardedLookup, LookupPart, FrameCopy}
-use Rattle.bpf_model.specs.PlainMaps.{KeyAddress, MapLoad, LookupCall, NullTest, ValueLoad}
-use Rattle.bpf_model.specs.PlainMaps.{part_insn, IsFitting}
+use Rattle.model_laws.specs.PlainMaps.{lock_call, unlock_call, GuardedLookup, LookupPart, FrameCopy}
+use Rattle.model_laws.specs.PlainMaps.{KeyAddress, MapLoad, LookupCall, NullTest, ValueLoad}
+use Rattle.model_laws.specs.PlainMaps.{part_insn, IsFitting}
 use Rattle.scalar_domain.specs.declared.scalar.Scalar.{Scalar}
 use Rattle.plan_laws.specs.Kinds.{FrameAt, MapAt, ValueAt, MaybeNull, AbsState as Known}
 use Rattle.effects.specs.Accesses.{IsStart}

@@ -14,7 +14,7 @@ use Rattle.bpf_model.specs.declared.opcode.Condition.TheVariants.{Equal, NotEqua
 use Rattle.bpf_model.specs.declared.opcode.Size.TheVariants.{Word64}
 use Rattle.bpf_model.specs.Call.{helper_of}
 use Rattle.bpf_model.specs.Graph.{falls, distance}
-use Rattle.bpf_model.specs.Plain.{Names}
+use Rattle.model_laws.specs.Plain.{Names}
 use Rattle.model_laws.specs.Replies.{IsNumber}
 use Rattle.plan_laws.specs.Describes.{Scene, IsHeld}
 use Rattle.register_kinds.specs.declared.state.AbsState.{AbsState}

@@ -10,12 +10,12 @@ use Rattle.bpf_model.specs.declared.limits.TheConstants.{FRAME_BYTES}
 use Rattle.bpf_model.specs.declared.opcode.Width.{Width}
 use Rattle.bpf_model.specs.Access.{byte_count, region_offset}
 use Rattle.bpf_model.specs.Graph.{distance, JumpsTo, GoesTo}
-use Rattle.bpf_model.specs.Plain.{IsSimple, WritesRegister, WritesByte, TakesByte, WithoutByte, without_entry, without_next}
-use Rattle.bpf_model.specs.PlainMaps.{lookup_call, lock_call, unlock_call, IsGuardedLookup, IsLookupPart, HasForm}
-use Rattle.bpf_model.specs.PlainMaps.{InSection, section_entry, section_lock, section_unlock, section_next}
-use Rattle.bpf_model.specs.PlainMaps.{LacksRegister, lacks_entry, lacks_call, lacks_next, IsPlainWithMaps}
-use Rattle.bpf_model.specs.PlainMaps.{GuardedLookup, LookupPart, FrameCopy, KeyAddress, MapLoad, LookupCall, NullTest}
-use Rattle.bpf_model.specs.PlainMaps.{ValueLoad, part_insn, part_slot}
+use Rattle.model_laws.specs.Plain.{IsSimple, WritesRegister, WritesByte, TakesByte, WithoutByte, without_entry, without_next}
+use Rattle.model_laws.specs.PlainMaps.{lookup_call, lock_call, unlock_call, IsGuardedLookup, IsLookupPart, HasForm}
+use Rattle.model_laws.specs.PlainMaps.{InSection, section_entry, section_lock, section_unlock, section_next}
+use Rattle.model_laws.specs.PlainMaps.{LacksRegister, lacks_entry, lacks_call, lacks_next, IsPlainWithMaps}
+use Rattle.model_laws.specs.PlainMaps.{GuardedLookup, LookupPart, FrameCopy, KeyAddress, MapLoad, LookupCall, NullTest}
+use Rattle.model_laws.specs.PlainMaps.{ValueLoad, part_insn, part_slot}
 use Rattle.bpf_model.specs.Step.{slot_count}
 use Rattle.bpf_model.specs.Step.{insn_at}
 use Rattle.bpf_model.proofs.Places.{start_of-insn, starts_increase, start-insn}

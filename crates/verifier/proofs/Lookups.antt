@@ -8,11 +8,11 @@ use Rattle.bpf_model.specs.declared.insn.Insn.TheVariants.{Alu, Unary, LoadNumbe
 use Rattle.bpf_model.specs.declared.insn.CallKind.TheVariants.{Helper, Kernel}
 use Rattle.bpf_model.specs.declared.limits.MapShape.{MapShape}
 use Rattle.bpf_model.specs.Graph.{falls, distance, JumpsTo, GoesTo, Reached}
-use Rattle.bpf_model.specs.Plain.{WritesByte}
-use Rattle.bpf_model.specs.PlainMaps.{lookup_call, IsValueLoad, IsGuardedLookup, IsLookupPart, KeepsSection, HasForm}
-use Rattle.bpf_model.specs.PlainMaps.{LacksRegister, lacks_call, lacks_next, IsPlainWithMaps, GuardedLookup}
-use Rattle.bpf_model.specs.PlainMaps.{LookupPart, FrameCopy, KeyAddress, MapLoad, LookupCall, NullTest, ValueLoad}
-use Rattle.bpf_model.specs.PlainMaps.{part_insn, part_slot}
+use Rattle.model_laws.specs.Plain.{WritesByte}
+use Rattle.model_laws.specs.PlainMaps.{lookup_call, IsValueLoad, IsGuardedLookup, IsLookupPart, KeepsSection, HasForm}
+use Rattle.model_laws.specs.PlainMaps.{LacksRegister, lacks_call, lacks_next, IsPlainWithMaps, GuardedLookup}
+use Rattle.model_laws.specs.PlainMaps.{LookupPart, FrameCopy, KeyAddress, MapLoad, LookupCall, NullTest, ValueLoad}
+use Rattle.model_laws.specs.PlainMaps.{part_insn, part_slot}
 use Rattle.bpf_model.specs.Step.{slot_count}
 use Rattle.bpf_model.specs.Places.{starts_from}
 use Rattle.bpf_model.specs.Step.{insn_at}

@@ -3,7 +3,7 @@ use Rattle.std.proofs.Common.{◌≡◌, ◌≢◌, ℕ, refl, sym, ◌∙◌, a
 use Rattle.std.specs.Prelude.{◌⊎◌, Option, Some, None, IsSome, IfSome, Box}
 use Rattle.std.proofs.lemmas.Bool.{cases_eq}
 use Rattle.std.proofs.lemmas.Option.{same_Some}
-use Rattle.bpf_model.specs.PlainMaps.{GuardedLookup, LookupPart}
+use Rattle.model_laws.specs.PlainMaps.{GuardedLookup, LookupPart}
 use Rattle.plan_laws.specs.Planned.{Wider}
 use Rattle.register_kinds.specs.declared.state.AbsState.{AbsState}
 use Rattle.register_kinds.specs.States.{state_of}

@@ -3,9 +3,9 @@ use Rattle.std.specs.Prelude.{◌≡◌, ◌≢◌, ℕ, ◌+◌, ◌<◌, ◌�
 use Rattle.std.specs.Prelude.{if◌then◌else◌}
 use Rattle.bpf_model.specs.declared.insn.Insn.{Insn}
 use Rattle.bpf_model.specs.declared.limits.MapShape.{MapShape}
-use Rattle.bpf_model.specs.Plain.{WithoutByte}
-use Rattle.bpf_model.specs.PlainMaps.{IsGuardedLookup, InSection, LacksRegister, LookupPart}
-use Rattle.bpf_model.specs.PlainMaps.{FrameCopy, ValueLoad, part_slot}
+use Rattle.model_laws.specs.Plain.{WithoutByte}
+use Rattle.model_laws.specs.PlainMaps.{IsGuardedLookup, InSection, LacksRegister, LookupPart}
+use Rattle.model_laws.specs.PlainMaps.{FrameCopy, ValueLoad, part_slot}
 use Rattle.bpf_model.specs.Places.{StartsAt}
 use Rattle.register_kinds.specs.declared.state.AbsState.{AbsState}
 use Rattle.register_kinds.specs.States.{state_of}

@@ -24,7 +24,7 @@ use Rattle.state_steps.specs.Steps.{base_of, IsInRegion, Compares, IsComparable,
 use Rattle.verifier.specs.declared.refusal.ProgramRefusal.{ProgramRefusal}
 use Rattle.verifier.specs.declared.refusal.ProgramRefusal.TheVariants.{Graph, Instruction, Memory}
 use Rattle.verifier.specs.Checked.{Checked}
-use Rattle.verifier.specs.Peak.{AreFew}
+use Rattle.verifier.specs.Peak.{IsPeak}
 
 -- A lookup that is made here is made inside a section, or in an array of the list, to which r1
 -- refers.
@@ -62,7 +62,7 @@ pub record IsJustified (c : Checked) : Type 0 where
   pub targets : HasTargets c.program c.targets
   pub some_states : 1 ≤ c.peak_states
   pub inside_program : c.peak_states ≤ length c.program
-  pub few_states : AreFew c.targets c.peak_states
+  pub peak : IsPeak c.targets c.peak_states
   pub plan : Plan
   pub justified : Justifies c plan
 

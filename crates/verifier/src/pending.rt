@@ -81,6 +81,7 @@ impl Pending {
         ensures others { (k : ℕ) → k ≢ index → awaited self.new k ≡ awaited self.old k }
         ensures size { size_of self.new ≡ size_of self.old }
         ensures peak { self.new.peak ≡ self.old.peak }
+        ensures covered { states_in self.new.by_index ≤ self.new.peak }
     {
         let taken = std::mem::replace(&mut self.by_index[index], Waiting::Nothing);
         self.len -= taken.count();

@@ -48,7 +48,7 @@ step-refusal_is : (slots : List ℕ) (es : List Element) (programs : List Loaded
     step_refusal (option_flatten run) ≡ step_refused (option_flatten v)
 step-refusal_is slots es programs None None h = refl
 step-refusal_is slots es programs (Some None) (Some None) h = refl
-step-refusal_is slots es programs (Some (Some v)) (Some (Some run)) h = ap if_ended (sym h.exit)
+step-refusal_is slots es programs (Some (Some v)) (Some (Some run)) h = ap if_ended (sym h.words.exit)
 step-refusal_is slots es programs v run h = absurd h
 
 drop-refusal_is : (slots : List ℕ) (es : List Element) (programs : List Loaded) (v : Option (Option RunView))
@@ -56,7 +56,7 @@ drop-refusal_is : (slots : List ℕ) (es : List Element) (programs : List Loaded
     drop_refusal (option_flatten run) ≡ drop_refused (option_flatten v)
 drop-refusal_is slots es programs None None h = refl
 drop-refusal_is slots es programs (Some None) (Some None) h = refl
-drop-refusal_is slots es programs (Some (Some v)) (Some (Some run)) h = ap if_running (sym h.exit)
+drop-refusal_is slots es programs (Some (Some v)) (Some (Some run)) h = ap if_running (sym h.words.exit)
 drop-refusal_is slots es programs v run h = absurd h
 
 module _ (w : WorldView) (s : Schedule) (m : Matches w s) where

@@ -44,7 +44,7 @@ length-still (x ∷ a) (y ∷ b) l = ap suc (length-still a b (omega arith))
 open-is : (slots : List ℕ) (es : List Element) (programs : List Loaded) (v : Option RunView) (run : Option Run) →
     RunSlotRefines slots es programs (Some v) (Some run) → is_open run ≡ is_open_view v
 open-is slots es programs None None h = refl
-open-is slots es programs (Some v) (Some run) h = ap (nat_lt 0) (sym h.depth)
+open-is slots es programs (Some v) (Some run) h = ap (nat_lt 0) (sym h.words.depth)
 open-is slots es programs v run h = absurd h
 
 abbrev pub run-changed : Schedule → ℕ → Option Run → ℕ → Schedule
@@ -198,15 +198,17 @@ module _ (w : WorldView) (s : Schedule) (sim : Matches w s) (r : ℕ) where
         let later : Run = moves (locked run) (returns Nothing run.state) in
         move_simulates run later old (locked_view old) Moved run_is at (record {
           program = h.program;
-          context = h.context;
-          register_count = h.register_count;
-          registers = λ q less. nothing-word (q == 0) (nat_le q 5) (run.state.regs q) (slice_index old.registers q) (h.registers q less);
-          cells = h.cells;
-          frame = h.frame;
-          place = ap (λ n. n + 1) h.place;
-          depth = ap (λ n. n + 1) h.depth;
-          moved = ap (λ n. n + 1) h.moved;
-          exit = h.exit;
+          words = record {
+            context = h.words.context;
+            register_count = h.words.register_count;
+            registers = λ q less. nothing-word (q == 0) (nat_le q 5) (run.state.regs q) (slice_index old.registers q) (h.words.registers q less);
+            cells = h.words.cells;
+            frame = h.words.frame;
+            place = ap (λ n. n + 1) h.words.place;
+            depth = ap (λ n. n + 1) h.words.depth;
+            moved = ap (λ n. n + 1) h.words.moved;
+            exit = h.words.exit;
+          };
         }) (call-step later (subst (λ o. KernelStep o run later) (sym f) (room, refl)))
 
     pub unlock_simulates : kernel_function_of imm ≡ Some ReadUnlock → 0 < run.depth →
@@ -216,22 +218,24 @@ module _ (w : WorldView) (s : Schedule) (sim : Matches w s) (r : ℕ) where
         let later : Run = moves (unlocked run) (returns Nothing run.state) in
         move_simulates run later old (unlocked_view old) Moved run_is at (record {
           program = h.program;
-          context = h.context;
-          register_count = h.register_count;
-          registers = λ q less. nothing-word (q == 0) (nat_le q 5) (run.state.regs q) (slice_index old.registers q) (h.registers q less);
-          cells = h.cells;
-          frame = h.frame;
-          place = ap (λ n. n + 1) h.place;
-          depth = ap (λ n. n - 1) h.depth;
-          moved = ap (λ n. n + 1) h.moved;
-          exit = h.exit;
+          words = record {
+            context = h.words.context;
+            register_count = h.words.register_count;
+            registers = λ q less. nothing-word (q == 0) (nat_le q 5) (run.state.regs q) (slice_index old.registers q) (h.words.registers q less);
+            cells = h.words.cells;
+            frame = h.words.frame;
+            place = ap (λ n. n + 1) h.words.place;
+            depth = ap (λ n. n - 1) h.words.depth;
+            moved = ap (λ n. n + 1) h.words.moved;
+            exit = h.words.exit;
+          };
         }) (call-step later (subst (λ o. KernelStep o run later) (sym f) (inside, refl)))
 
   pub dropped_run : (n : ℕ) (old : RunView) → slice_get w.runs r ≡ Some (Some old) → old.exit ≡ Some n → Simulates s (events.Drop r) (Done, with_run r None w)
   dropped_run n old at ended =
       let b = there old at in
       let t : Schedule = run-changed s r None s.machine.started in
-      let pass : refusal s.machine (events.Drop r) ≡ None = ap (λ o. drop_refusal (option_flatten o)) b.1 ∙ ap if_running (sym b.2.exit ∙ ended) in
+      let pass : refusal s.machine (events.Drop r) ≡ None = ap (λ o. drop_refusal (option_flatten o)) b.1 ∙ ap if_running (sym b.2.words.exit ∙ ended) in
       let does : DoesScheduled s (events.Drop r) Done t = record {
         step = subst (λ z. Answers z s.machine (events.Drop r) Done t.machine) (sym pass) refl;
         first = tt;

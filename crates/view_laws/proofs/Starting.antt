@@ -58,15 +58,17 @@ module _ (slots : List ℕ) (es : List Element) (programs : List Loaded) where
       → RunRefines slots es programs (fresh_view prog context) (fresh_run name program context)
   fresh-refines prog program context name h = record {
     program = h;
-    context = refl;
-    register_count = refl;
-    registers = fresh-words;
-    cells = length-replicate {A = ℕ} FRAME_BYTES 0;
-    frame = λ k less. tt;
-    place = refl;
-    depth = refl;
-    moved = refl;
-    exit = refl;
+    words = record {
+      context = refl;
+      register_count = refl;
+      registers = fresh-words;
+      cells = length-replicate {A = ℕ} FRAME_BYTES 0;
+      frame = λ k less. tt;
+      place = refl;
+      depth = refl;
+      moved = refl;
+      exit = refl;
+    };
   }
 
 none-if : (b : Bool) → (if b then Some RunsFull else Some BadContext) ≡ None → ⊥

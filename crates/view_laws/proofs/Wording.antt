@@ -41,15 +41,17 @@ module _ (k : ℕ) (slots names : List ℕ) (es fs : List Element) (c : Changes 
       RunRefines slots es programs w run → RunRefines names fs programs w run
   run-kept programs w run b h = record {
     program = h.program;
-    context = h.context;
-    register_count = h.register_count;
-    registers = λ r less. value-word (run.state.regs r) (slice_index w.registers r) (b.0 r) (h.registers r less);
-    cells = h.cells;
-    frame = λ i less. cell-byte (run.state.frame i) (slice_index w.frame i) (b.1 i) (h.frame i less);
-    place = h.place;
-    depth = h.depth;
-    moved = h.moved;
-    exit = h.exit;
+    words = record {
+      context = h.words.context;
+      register_count = h.words.register_count;
+      registers = λ r less. value-word (run.state.regs r) (slice_index w.registers r) (b.0 r) (h.words.registers r less);
+      cells = h.words.cells;
+      frame = λ i less. cell-byte (run.state.frame i) (slice_index w.frame i) (b.1 i) (h.words.frame i less);
+      place = h.words.place;
+      depth = h.words.depth;
+      moved = h.words.moved;
+      exit = h.words.exit;
+    };
   }
 
   -- each reference of the run is to an element that was born

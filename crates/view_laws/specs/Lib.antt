@@ -1,3 +1,4 @@
+pub mod Codes
 pub mod Views
 pub mod Reactions
 pub mod Matching

@@ -1,6 +1,7 @@
 -- What the outcomes of jobs say, where each is borne out by its trail.
 use Rattle.std.proofs.Common.{◌≡◌, ◌⊎◌, ℕ, ◌<◌, ◌≤◌, List, [], ◌∷◌, length, map, get_or, replicate, All, refl, ap, sym, subst, inl, inr, arith}
 use Rattle.std.specs.Prelude.{Option, Some, None, Result, slice_get}
+use Rattle.std.proofs.lemmas.List.Elements.{All-cons, All-nil}
 use Rattle.std.proofs.lemmas.Option.{slice_get_cases, slice_get-get_or}
 use Rattle.bpf_model.specs.declared.insn.Insn.{Insn}
 use Rattle.bpf_model.specs.declared.event.Answer.{Answer}
@@ -13,7 +14,10 @@ use Rattle.shared.specs.Receipts.{IsPossibleExit, IsOwnExit}
 use Rattle.verifier.specs.Checked.{Checked}
 use Rattle.worker_pool.specs.declared.job.Job.{Job}
 use Rattle.worker_pool.specs.declared.job.JobReport.{JobReport}
+use Rattle.worker_pool.specs.declared.job.StopCause.{StopCause}
+use Rattle.worker_pool.specs.declared.job.StopCause.TheVariants.{OtherRun}
 use Rattle.worker_pool.specs.declared.job.Outcome.{Outcome}
+use Rattle.worker_pool.specs.declared.job.Outcome.TheVariants.{Exit, Stopped}
 use Rattle.worker_pool.specs.declared.job.Trail.{Trail}
 use Rattle.worker_pool.specs.declared.job.Trail.TheVariants as trails
 use Rattle.worker_pool.specs.Trails.{FitsJob, TellsExit, IsServedJob}
@@ -22,8 +26,10 @@ use Rattle.worker_pool.specs.Outcomes.{IsZeroJob, IsZeroExit, IsOutcomeOf, IsRep
 abbrev pub code_of : Checked → List Insn
 code_of p = p.program
 
--- the only program is the first
+no_stop : (n : ℕ) (run : Option ℕ) (cause : StopCause) → Exit n ≡ Stopped run cause → ⊥
+no_stop n run cause e = cc
 
+-- the only program is the first
 first_program : (programs : List Checked) (code : List Insn) → map code_of programs ≡ code ∷ [] → (p : Checked) ×
     (slice_get programs 0 ≡ Some p) × (p.program ≡ code)
 first_program [] code e = absurd (let h : [] ≡ code ∷ [] = e in cc)
@@ -52,19 +58,30 @@ module _ (programs : List Checked) (code : List Insn) (only : map code_of progra
             (subst (λ (o : Option Checked). IsOwnExit o job.ctx.items n) at own));
       }
 
-  told_exit : (len run value : ℕ) (reply : Result Answer SharedFault) (outcome : Outcome) → IsZeroExit code len value
-      → TellsExit run value reply outcome → IsOutcomeOf code len outcome
-  told_exit len run value reply outcome v (inl (done, is)) = subst (IsOutcomeOf code len) (sym is) v
-  told_exit len run value reply outcome v (inr stops) = subst (IsOutcomeOf code len) (sym stops.told) (record {})
+  told_exit : (len n run value : ℕ) (reply : Result Answer SharedFault) → IsZeroExit code len value
+      → TellsExit run value reply (Exit n) → IsZeroExit code len n
+  told_exit len n run value reply v (inl (done, is)) = subst (IsOutcomeOf code len) (sym is) v
+  told_exit len n run value reply v (inr stops) = absurd (no_stop n (Some run) stops.cause stops.told)
+
+  exit_outcome : (len : ℕ) (job : Job) (n : ℕ) (trail : Trail) → IsZeroJob len job →
+      FitsJob programs job (Exit n) trail → IsZeroExit code len n
+  exit_outcome len job n (trails.Unstarted start) z h = absurd (no_stop n None h.stops.cause h.stops.told)
+  exit_outcome len job n (trails.Halted start step) z (run, started, halts) = absurd (no_stop n (Some run) halts.stops.cause halts.stops.told)
+  exit_outcome len job n (trails.OtherRun start step note) z (run, started, exits, asks, strange) =
+      absurd (no_stop n (Some run) OtherRun strange.told)
+  exit_outcome len job n (trails.Ended start step note dropped) z (run, started, exits, asks, x) =
+      told_exit len n run x.value dropped.reply (zero_exit len job x.value z x.may x.alone) x.told
 
   fits_outcome : (len : ℕ) (job : Job) (outcome : Outcome) (trail : Trail) → IsZeroJob len job →
       FitsJob programs job outcome trail → IsOutcomeOf code len outcome
-  fits_outcome len job outcome (trails.Unstarted start) z h = subst (IsOutcomeOf code len) (sym h.stops.told) (record {})
-  fits_outcome len job outcome (trails.Halted start step) z (run, started, halts) = subst (IsOutcomeOf code len) (sym halts.stops.told) (record {})
-  fits_outcome len job outcome (trails.OtherRun start step note) z (run, started, exits, asks, strange) =
-      subst (IsOutcomeOf code len) (sym strange.told) (record {})
-  fits_outcome len job outcome (trails.Ended start step note dropped) z (run, started, exits, asks, x) =
-      told_exit len run x.value dropped.reply outcome (zero_exit len job x.value z x.may x.alone) x.told
+  fits_outcome len job (Exit n) trail z h = exit_outcome len job n trail z h
+  fits_outcome len job (Stopped run cause) trail z h = record {
+    programs = programs;
+    job = job;
+    trail = trail;
+    is = record { only = only; zeros = All-cons (IsZeroJob len) job [] z (All-nil (IsZeroJob len)) };
+    fits = h;
+  }
 
   report_of : (len : ℕ) (jobs : List Job) (before after : List WorkerView) (reports : List (JobReport Trail)) (k : ℕ)
       (report : JobReport Trail) → All (IsZeroJob len) jobs →

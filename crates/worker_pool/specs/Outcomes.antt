@@ -13,13 +13,14 @@ use Rattle.worker_pool.specs.declared.job.JobReport.{JobReport}
 use Rattle.worker_pool.specs.declared.job.Outcome.{Outcome}
 use Rattle.worker_pool.specs.declared.job.Outcome.TheVariants.{Exit, Stopped}
 use Rattle.worker_pool.specs.declared.job.Trail.{Trail}
+use Rattle.worker_pool.specs.Trails.{FitsJob}
 
--- The fault is one of so many workers and jobs, or of memory or a result.
+-- The fault is one of so many workers and jobs, or of memory. No result is lost.
 abbrev pub IsFaultOf : ℕ → ℕ → PoolFault → Type 0
 IsFaultOf workers count BadWorkers = (workers ≡ 0) ⊎ (most_workers < workers)
 IsFaultOf workers count TooManyJobs = most_jobs < count
 IsFaultOf workers count Memory = ⊤
-IsFaultOf workers count Lost = ⊤
+IsFaultOf workers count Lost = ⊥
 
 -- a job of program 0 on a context of so many zeros
 pub record IsZeroJob (context_len : ℕ) (job : Job) : Type 0 where
@@ -38,10 +39,20 @@ pub record IsZeroExit (program : List Insn) (context_len n : ℕ) : Type 0 where
   pub may : MayExitAs program (replicate context_len 0) n
   pub alone : HasNoMaps program → ExitsAs program (replicate context_len 0) n
 
--- a job that has exited has exited with such a value
+-- A job of this program alone, on so many zeros, has this outcome, and its trail bears it out.
+pub record HasTrail (program : List Insn) (context_len : ℕ) (outcome : Outcome) : Type 0 where
+  pub programs : List Checked
+  pub job : Job
+  pub trail : Trail
+  pub is : AreRunsOf program context_len programs (job ∷ [])
+  pub fits : FitsJob programs job outcome trail
+
+-- a job that has exited has exited with such a value, and one that was stopped has its cause in a
+-- trail
 abbrev pub IsOutcomeOf : List Insn → ℕ → Outcome → Type 0
 IsOutcomeOf program context_len (Exit n) = IsZeroExit program context_len n
-IsOutcomeOf program context_len (Stopped run cause) = ⊤
+IsOutcomeOf program context_len (Stopped run cause) =
+    HasTrail program context_len (Stopped run cause)
 
 abbrev pub IsReportOf : List Insn → ℕ → JobReport Trail → Type 0
 IsReportOf program context_len report = IsOutcomeOf program context_len report.outcome

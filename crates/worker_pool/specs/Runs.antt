@@ -11,7 +11,7 @@ use Rattle.worker_pool.specs.Lines.{job_lines}
 use Rattle.worker_pool.specs.Outcomes.{IsFaultOf, IsOutcomeOf}
 
 -- The output gains the lines of so many jobs, numbered from 0 on. Those that have exited have exited
--- as the program may on so many zeros.
+-- as the program may on so many zeros, the others were stopped by a cause that a trail bears out.
 pub record WritesJobs (program : List Insn) (context_len count : ℕ) (old new : Option (List ℕ))
     : Type 0 where
   pub outcomes : List Outcome
@@ -31,7 +31,7 @@ abbrev pub IsLate : RunFault → Type 0
 IsLate (Pool BadWorkers) = ⊥
 IsLate (Pool TooManyJobs) = ⊥
 IsLate (Pool Memory) = ⊤
-IsLate (Pool Lost) = ⊤
+IsLate (Pool Lost) = ⊥
 IsLate (Write error) = ⊤
 
 -- the fault is one of a pool of so many workers and jobs, or of the output

@@ -21,11 +21,10 @@ use std::thread::Threads;
 /// Errors: the first of these that holds.
 /// - `BadWorkers`: `threads` is not 1 to `MAX_WORKERS`, or more than there are workers. Nothing was done.
 /// - `TooManyJobs`: there are more than `MAX_JOBS`. Nothing was done.
-/// - `Memory`: there is none for the results.
-/// - `Lost`: the result of a job is missing or double, or is of no job.
+/// - `Memory`: there is none for the results. The entries that workers made stay in the journal then, and a run
+///   of a job may stay in the world.
 ///
-/// After the last two the entries that workers made stay in the journal, and a run of a job may stay in the
-/// world. That it returns is not claimed: each event waits for the lock.
+/// That it returns is not claimed: each event waits for the lock.
 pub fn run_jobs<L: Ledger + Send + Sync, R: Threads + Wait + Sync>(
     rt: &R,
     alloc: Global,
@@ -40,7 +39,7 @@ pub fn run_jobs<L: Ledger + Send + Sync, R: Threads + Wait + Sync>(
         → most_jobs < length jobs.now → result ≡ Err faults.TooManyJobs }
     ensures served { (IsBadCount threads (length workers.old) → ⊥)
         → length jobs.now ≤ most_jobs
-        → IsOk result ⊎ (result ≡ Err faults.Memory) ⊎ (result ≡ Err faults.Lost) }
+        → IsOk result ⊎ (result ≡ Err faults.Memory) }
     ensures refused { IsBadCount threads (length workers.old) ⊎ (most_jobs < length jobs.now)
         → workers.new ≡ workers.old }
     ensures later { AllZip IsLater workers.old workers.new }

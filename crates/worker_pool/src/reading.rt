@@ -83,7 +83,6 @@ impl Serve for Reading<'_> {
 /// Errors: the first of these that holds.
 /// - `TooManyJobs`: there are more than `MAX_JOBS`. Nothing was done.
 /// - `Memory`: there is none for the results.
-/// - `Lost`: the result of a job is missing or double, or is of no job.
 ///
 /// That it returns is not claimed: its threads wait for one another's numbers.
 pub fn run_read_jobs<R: Threads + Wait + Sync>(
@@ -100,7 +99,7 @@ pub fn run_read_jobs<R: Threads + Wait + Sync>(
     requires fit { AllFit table.now.shape programs.now }
     ensures too_many_jobs { most_jobs < length jobs.now → result ≡ Err faults.TooManyJobs }
     ensures served { length jobs.now ≤ most_jobs →
-        IsOk result ⊎ (result ≡ Err faults.Memory) ⊎ (result ≡ Err faults.Lost) }
+        IsOk result ⊎ (result ≡ Err faults.Memory) }
     ensures refused { most_jobs < length jobs.now → seats.new ≡ seats.old }
     ensures ready { All (IsReady table.now) seats.new }
     ensures later { AllZip HasGained seats.old seats.new }

@@ -103,10 +103,9 @@ fn run_shared<L: Ledger + Send + Sync, R: Threads + Wait + Sync, W: Write>(
 /// - `Pool(BadWorkers)`: `workers` is not 1 to `MAX_WORKERS`. Nothing was written.
 /// - `Pool(TooManyJobs)`: `count` is above `MAX_JOBS`. Nothing was written.
 /// - `Pool(Memory)`: there is none for the world, the jobs, the results or their lines.
-/// - `Pool(Lost)`: the result of a job is missing or double, or is of no job.
 /// - `Write`: `out` failed. A part of the lines may have been written, and no clause says which.
 ///
-/// The lines of some first jobs are written where memory runs out or a result is lost.
+/// The lines of some first jobs are written where memory runs out.
 ///
 /// That it returns is not claimed: each event waits for the lock.
 pub fn run_program<R: Threads + Wait + Sync, W: Write>(
@@ -126,7 +125,7 @@ pub fn run_program<R: Threads + Wait + Sync, W: Write>(
     ensures refused { (workers ≡ 0) ⊎ (most_workers < workers) ⊎ (most_jobs < count) →
         out.new ≡ out.old }
     ensures fault { IfErr result (IsRunFaultOf workers count) }
-    // A job that has exited has exited with a value of the program's definition.
+    // A job that has exited has exited with a value of the program's definition; one that was stopped has its cause.
     ensures written { OnOk result (WritesJobs program.verified.program program.verified.ctx_len count
         (W.contents out.old) (W.contents out.new)) }
     ensures part { IfErr result (WritesPart program.verified.program program.verified.ctx_len count

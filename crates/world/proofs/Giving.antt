@@ -1,6 +1,6 @@
 -- What the world serves is a word that the access can give.
 use Rattle.std.proofs.Common.{◌≡◌, ◌∙◌, ℕ, ◌+◌, ◌^◌, ◌<◌, ◌≤◌, ◌⊎◌, List, Option, Some, None, length, inl, inr, refl, sym, ap, subst, arith}
-use Rattle.std.specs.Prelude.{slice_get, option_map, ℤ, ◌+ℤ◌}
+use Rattle.std.specs.Prelude.{slice_get, slice_index, option_map, ℤ, ◌+ℤ◌}
 use Rattle.std.specs.FinMap.{get}
 use Rattle.std.proofs.lemmas.List.{length-map}
 use Rattle.std.proofs.lemmas.Option.{none-some, same_Some}
@@ -13,8 +13,8 @@ use Rattle.bpf_model.specs.declared.event.Answer.{Answer}
 use Rattle.bpf_model.specs.declared.insn.CallKind.TheVariants as kinds
 use Rattle.bpf_model.specs.declared.insn.Insn.{Insn}
 use Rattle.bpf_model.specs.declared.insn.Insn.TheVariants as insns
-use Rattle.bpf_model.specs.declared.limits.MapShape.{MapShape}
-use Rattle.bpf_model.specs.declared.limits.TheConstants.{MAX_MAPS}
+use Rattle.bpf_model.specs.declared.call.ResultKind.TheVariants.{Integer}
+use Rattle.bpf_model.specs.declared.limits.TheConstants.{MAX_MAPS, REGISTERS}
 use Rattle.bpf_model.specs.declared.value.Value.{Value}
 use Rattle.bpf_model.specs.declared.value.Value.TheVariants.{Nothing, Number, Pointer}
 use Rattle.bpf_model.specs.declared.value.Reference.TheVariants.{Ctx, Frame, MapRef, Elem}
@@ -24,32 +24,38 @@ use Rattle.bpf_model.specs.Access.{byte_count, number_at, region_offset, unsigne
 use Rattle.bpf_model.specs.Call.{helper_of, kernel_function_of}
 use Rattle.bpf_model.specs.Element.{accessible, is_reclaimed}
 use Rattle.bpf_model.specs.Real.{AreBytes}
-use Rattle.bpf_model.specs.Machine.{Loaded, Run, open_sections}
-use Rattle.bpf_model.specs.MachineStep.{InsnStep}
+use Rattle.bpf_model.specs.Machine.{Loaded, Run, environment, moves, open_sections}
+use Rattle.bpf_model.specs.MachineStep.{InsnStep, Resumes, RunStep, StepsServed}
+use Rattle.bpf_model.specs.Refines.{RunRefines}
+use Rattle.bpf_model.specs.Request.{CallHelper, ServesRequest, arguments_of, bound_shape, resumed, signature_of}
 use Rattle.model_laws.specs.ByKind.{StepsByKind, element_load}
 use Rattle.bpf_model.specs.Element.{loaded_from}
 use Rattle.bpf_model.specs.Shapes.{AreShapes}
 use Rattle.bpf_model.specs.MapState as map_state
 use Rattle.bpf_model.specs.Schedule.{Schedule}
-use Rattle.bpf_model.specs.Step.{insn_at}
+use Rattle.bpf_model.specs.Step.{after as after_insn, insn_at}
+use Rattle.bpf_model.specs.Value.{◌>>=◌}
 use Rattle.bpf_model.specs.View.{MapView, RunView, WorldView, shape_of_view as shape, shapes_of}
-use Rattle.bpf_model.specs.Word.{most_map_slots}
+use Rattle.bpf_model.specs.Word.{WordIs, element_bases, most_map_slots}
 use Rattle.bpf_model.proofs.Lists.{get-below, get-set_there}
+use Rattle.model_laws.specs.Replies.{IsNumber, IsOfKind}
 use Rattle.model_laws.specs.Locations.{Location, InContext, InFrame, AtMap, InSlot}
 use Rattle.model_laws.proofs.Computations.{first-step}
+use Rattle.plan_laws.proofs.Coming.{Comes, Stands, Starting, Stepping, does-come}
 use Rattle.plan_laws.proofs.Elements.{number_read, offset_some}
 use Rattle.plan_laws.proofs.Reaching.{keeps_well, well_never_stuck}
-use Rattle.world_laws.specs.Standing.{IsSlotWord}
+use Rattle.world_laws.specs.Standing.{IsSlotWord, MapsAnswer}
 use Rattle.verifier.specs.Checked.{Checked}
 use Rattle.view_laws.specs.Matching.{Matches, Simulates}
 use Rattle.view_laws.proofs.Worlds.{here}
-use Rattle.world_laws.specs.Calling.{bytes_in, found_word}
+use Rattle.world_laws.specs.Calling.{bytes_in, found_word, returned_view}
 use Rattle.world_laws.specs.Local.{Asks, AsksNothing, local_of}
 use Rattle.world_laws.specs.Locating.{bytes_of, loaded_word, location_of, number_from, offset_at}
 use Rattle.world_laws.specs.Moving.{moves_on, word_in}
 use Rattle.world_laws.specs.Reaching.{IsCall}
 use Rattle.world_laws.specs.Reacting.{full_reaction}
 use Rattle.world_laws.specs.Typed.{AreRealPrograms, IsRunning, IsSound}
+use Rattle.world_laws.proofs.Bytes.{set_cond}
 use Rattle.world_laws.proofs.Keeping.{full_keeps}
 use Rattle.world_laws.proofs.Listed.{stays_listed}
 use Rattle.world_laws.proofs.Loading.{accessible-known, element-word}
@@ -62,17 +68,16 @@ use Rattle.machine.specs.declared.request.Request.{Request}
 use Rattle.machine.specs.declared.request.Request.TheVariants as requests
 use Rattle.machine.specs.Regions.{IsCodeOf}
 use Rattle.machine.specs.Requests.{request_of, entered_view, resumed_view, kernel_request}
-use Rattle.machine.specs.Standing.{MayGive, IsRunOfChecked}
+use Rattle.machine.specs.Standing.{MayGive}
 use Rattle.machine.proofs.Laws.{same-program}
 use Rattle.machine.proofs.Reacting.{reacts_by_insn}
-use Rattle.machine.proofs.RunningStands.{running_stands}
-use Rattle.machine.proofs.StandingLaws.{returned}
+use Rattle.machine.proofs.RunningStands.{running_answers}
 use Rattle.world.specs.Calls.{called, called_at, called_on}
 use Rattle.world.specs.Elements.{element_number}
 use Rattle.world.specs.Serving.{CanServe, IsReply, maps_after}
 use Rattle.world.proofs.Running.{running}
-use Rattle.world.proofs.ServedSteps.{resumed-program, served_moves}
-use Rattle.model_laws.proofs.Requests.{by_kind}
+use Rattle.world.proofs.ServedSteps.{served_moves}
+use Rattle.model_laws.proofs.Requests.{by_kind, replies_by_signature}
 
 -- a number that bytes are
 number-small : (value : List ℕ) (at width n : ℕ) → AreBytes value → at + width ≤ length value → number_at (slice_get value) at width ≡ Some n → n < 256 ^ width
@@ -216,51 +221,128 @@ module _ (w : WorldView) (s : Schedule) (m : Matches w s) (sound : IsSound w s) 
           programs = subst AreRealPrograms (sym kept.1) sound.programs;
         }
 
-    next-stands : (insn : Insn) (request : Request) (word : ℕ) → insn_at program.code v.place ≡ Some insn →
+    abbrev after : WorldView
+    after = (full_reaction w (events.Step r)).1
+
+    -- the run of the next machine
+    next-run : (insn : Insn) (request : Request) (word : ℕ) → insn_at program.code v.place ≡ Some insn →
         request_of insn v ≡ Some request → CanServe request program.maps w.maps v →
-        IsReply request program.maps w.maps v word → IsRunOfChecked c (resumed_view insn word v)
-    next-stands insn request word at-place asked can reply =
+        IsReply request program.maps w.maps v word → (later : Run) × IsRunning after next.next r later (resumed_view insn word v)
+    next-run insn request word at-place asked can reply =
         let new = resumed_view insn word v in
-        let after = (full_reaction w (events.Step r)).1 in
-        let kept = full_keeps w (events.Step r) in
-        let going : v.exit ≡ None = (refines w s m sound r run v k).exit ∙ k.going in
+        let going : v.exit ≡ None = (refines w s m sound r run v k).words.exit ∙ k.going in
         let reacts : full_reaction w (events.Step r) ≡ moves_on r new (record w { maps = maps_after request program.maps v w.maps }) =
         reacts_by_insn w r v program insn k.shown going at at-place ∙ served_moves r v w program word insn request asked can reply in
         let seen : slice_get after.runs r ≡ Some (Some new) =
         ap (λ (y : Answer × WorldView). slice_get y.1.runs r) reacts ∙
         get-set_there w.runs r (Some v) (Some new) k.shown in
-        let y = running after next.next next.matches r new seen (resumed-exit insn word v ∙ going) in
-        let there : slice_get after.programs new.program ≡ Some program =
-        ap (λ (ps : List Loaded). slice_get ps new.program) kept.1 ∙
-        (ap (slice_get w.programs) (resumed-program insn word v) ∙ at) in
-        running_stands after next.next next.matches next-sound r y.0 new y.1 program there c
-        (subst (λ (l : List MapShape). IsCodeOf c l program) (sym kept.0) of)
-
-    abbrev Gives : Request → ℕ → Type 0
-    Gives request word = CanServe request program.maps w.maps v → IsReply request program.maps w.maps v word → MayGive c v request word
+        running after next.next next.matches r new seen (resumed-exit insn word v ∙ going)
 
     known : (insn : Insn) → insn_at program.code v.place ≡ Some insn → insn_at run.program.code run.state.place ≡ Some insn
     known insn at-place = ap (λ (p : Loaded). insn_at p.code run.state.place)
         (same-program w s m sound r run v k program at) ∙
-        (ap (insn_at program.code) (sym (refines w s m sound r run v k).place) ∙ at-place)
+        (ap (insn_at program.code) (sym (refines w s m sound r run v k).words.place) ∙ at-place)
 
-    helper-given : (insn : Insn) (helper : HelperId) (word : ℕ) → insn_at program.code v.place ≡ Some insn →
-        request_of insn v ≡ Some (requests.Call helper) → Gives (requests.Call helper) word
-    helper-given insn Lookup word at-place asked can reply = looked-up program.maps word can reply
-    helper-given insn Update word at-place asked can reply =
-        subst (IsRunOfChecked c) (returned v insn Update word asked)
-        (next-stands insn (requests.Call Update) word at-place asked can reply)
-    helper-given insn Delete word at-place asked can reply =
-        subst (IsRunOfChecked c) (returned v insn Delete word asked)
-        (next-stands insn (requests.Call Delete) word at-place asked can reply)
+    -- the machine's step of a call whose result is a number
+    module _ (imm : ℤ) (helper : HelperId) (word : ℕ) (at-place : insn_at program.code v.place ≡ Some (insns.Call kinds.Helper imm))
+        (is : helper_of imm ≡ Some helper) (result : (signature_of helper).result ≡ Integer) (later : Run)
+        (later_is : IsRunning after next.next r later (returned_view word v)) where
+      abbrev call : Insn
+      call = insns.Call kinds.Helper imm
 
-    call-given : (insn : Insn) (o : Option HelperId) (request : Request) (word : ℕ) →
-        insn_at program.code v.place ≡ Some insn → request_of insn v ≡ Some request →
+      abbrev Goal : Type 0
+      Goal = MapsAnswer c.program c.shapes c.ctx_len v word
+
+      later-refines : RunRefines next.matches.refines.slots next.next.machine.store.elements next.next.machine.programs
+          (returned_view word v) later
+      later-refines = refines after next.next next.matches next-sound r later (returned_view word v) later_is
+
+      moved-once : later.moved ≡ run.moved + 1
+      moved-once = sym later-refines.words.moved ∙ ap (λ n. n + 1) (refines w s m sound r run v k).words.moved
+
+      -- r0 has the word, and it is the number
+      word-in : slice_index (returned_view word v).registers 0 ≡ word
+      word-in =
+          let count : length v.registers ≡ REGISTERS = (refines w s m sound r run v k).words.register_count in
+          set_cond v.registers 0 word 0 (omega (arith, count))
+
+      same-number : (n : ℕ) → later.state.regs 0 ≡ Number n → word ≡ n
+      same-number n e =
+          let some : 0 < REGISTERS = omega arith in
+          sym word-in ∙ subst (λ u. WordIs (element_bases next.matches.refines.slots next.next.machine.store.elements) u
+          (slice_index (returned_view word v).registers 0)) e (later-refines.words.registers 0 some)
+
+      numbered : (reply : Value) → IsOfKind (signature_of helper).result reply → IsNumber reply
+      numbered reply h = subst (λ kind. IsOfKind kind reply) result h
+
+      by-served : (answer : Answer) (new_store : map_state.Store) →
+          StepsServed call s.machine.store (open_sections s.machine.runs) run answer new_store later → Goal
+      by-served answer new_store step =
+          let f = first-step (helper_of imm) (λ h. arguments_of (signature_of h).arguments (bound_shape s.machine.store run.program.maps) run.state 1
+          >>= λ arguments. Some (CallHelper h arguments)) step.request step.asked in
+          let g = first-step (arguments_of (signature_of f.0).arguments (bound_shape s.machine.store run.program.maps) run.state 1)
+          (λ arguments. Some (CallHelper f.0 arguments)) step.request f.2 in
+          let same : f.0 ≡ helper = same_Some f.0 helper (sym f.1 ∙ is) in
+          let request : step.request ≡ CallHelper helper g.0 = sym (same_Some _ step.request g.2) ∙ ap (λ h. CallHelper h g.0) same in
+          let served = subst (λ q. ServesRequest run.program.maps q s.machine.store (open_sections s.machine.runs) step.reply new_store) request step.served in
+          let resumes : later ≡ moves run (resumed call step.reply run.state) = subst (λ q. Resumes q call step.reply run later) request step.resumes in
+          let n = numbered step.reply
+          (replies_by_signature helper g.0 run.program.maps s.machine.store (open_sections s.machine.runs) step.reply new_store served) in
+          let word-is : word ≡ n.0 = same-number n.0 (ap (λ (x : Run). x.state.regs 0) resumes ∙ n.1) in
+          running_answers w s m sound r run v k program at c of imm at-place answer new_store later step word
+          (n.1 ∙ ap Number (sym word-is))
+
+      by-step : (i : Insn) (answer : Answer) (new_store : map_state.Store) → i ≡ call →
+          InsnStep i s.machine.store (open_sections s.machine.runs) run answer new_store later → Goal
+      by-step i answer new_store same (inl h) =
+          absurd (none-some h.0 (subst (λ j. after_insn j (environment run) run.state ≡ Some h.0) same h.1))
+      by-step i answer new_store same (inr h) = by-served answer new_store
+          (subst (λ j. StepsServed j s.machine.store (open_sections s.machine.runs) run answer new_store later) same h)
+
+      by-run-step : (old : Run) (answer : Answer) → old ≡ run →
+          RunStep s.machine.store (open_sections s.machine.runs) old answer next.next.machine.store later → Goal
+      by-run-step old answer same h =
+          let g = subst (λ (x : Run). RunStep s.machine.store (open_sections s.machine.runs) x answer next.next.machine.store later) same h in
+          by-step g.0 answer next.next.machine.store (same_Some g.0 call (sym g.1 ∙ known call at-place)) g.2
+
+      by-origin : Comes s.machine next.next.machine r later → Goal
+      by-origin (Stands there) =
+          let same : later.moved ≡ run.moved = ap (λ (x : Run). x.moved) (same_Some later run (sym there ∙ k.there)) in
+          let moved : later.moved ≡ run.moved + 1 = moved-once in
+          absurd (omega (arith, same, moved))
+      by-origin (Starting f) =
+          let none : 0 ≡ later.moved = ap (λ (x : Run). x.moved) f.is in
+          let moved : later.moved ≡ run.moved + 1 = moved-once in
+          absurd (omega (arith, none, moved))
+      by-origin (Stepping g) = by-run-step g.old g.answer (same_Some g.old run (sym g.there ∙ k.there)) g.step
+
+      number-given : Goal
+      number-given = by-origin (does-come s.machine next.next.machine (events.Step r) (full_reaction w (events.Step r)).0 real
+          next.does.step r later later_is.there)
+
+    abbrev Gives : Request → ℕ → Type 0
+    Gives request word = CanServe request program.maps w.maps v → IsReply request program.maps w.maps v word → MayGive c v request word
+
+    number-results : (imm : ℤ) (helper : HelperId) (word : ℕ) → insn_at program.code v.place ≡ Some (insns.Call kinds.Helper imm) →
+        helper_of imm ≡ Some helper → (signature_of helper).result ≡ Integer → CanServe (requests.Call helper) program.maps w.maps v →
+        IsReply (requests.Call helper) program.maps w.maps v word → MapsAnswer c.program c.shapes c.ctx_len v word
+    number-results imm helper word at-place is result can reply =
+        let y = next-run (insns.Call kinds.Helper imm) (requests.Call helper) word at-place (ap (option_map requests.Call) is) can reply in
+        number-given imm helper word at-place is result y.0 y.1
+
+    helper-given : (imm : ℤ) (helper : HelperId) (word : ℕ) → insn_at program.code v.place ≡ Some (insns.Call kinds.Helper imm) →
+        helper_of imm ≡ Some helper → Gives (requests.Call helper) word
+    helper-given imm Lookup word at-place is can reply = looked-up program.maps word can reply
+    helper-given imm Update word at-place is can reply = number-results imm Update word at-place is refl can reply
+    helper-given imm Delete word at-place is can reply = number-results imm Delete word at-place is refl can reply
+
+    call-given : (imm : ℤ) (o : Option HelperId) (request : Request) (word : ℕ) →
+        insn_at program.code v.place ≡ Some (insns.Call kinds.Helper imm) → helper_of imm ≡ o →
         option_map requests.Call o ≡ Some request → Gives request word
-    call-given insn None request word at-place asked e = absurd (none-some request e)
-    call-given insn (Some helper) request word at-place asked e =
+    call-given imm None request word at-place is e = absurd (none-some request e)
+    call-given imm (Some helper) request word at-place is e =
         let same : requests.Call helper ≡ request = same_Some (requests.Call helper) request e in
-        subst (λ (a : Request). Gives a word) same (helper-given insn helper word at-place (asked ∙ ap Some (sym same)))
+        subst (λ (a : Request). Gives a word) same (helper-given imm helper word at-place is)
 
     section-given : (f : KernelFunction) (word : ℕ) → Gives (kernel_request f) word
     section-given ReadLock word can reply = tt
@@ -283,6 +365,6 @@ module _ (w : WorldView) (s : Schedule) (m : Matches w s) (sound : IsSound w s) 
     may_give (insns.Store width dst offset src) request word at-place waits asked =
         subst (λ (a : Request). Gives a word) (same_Some _ request asked) (λ can reply. tt)
     may_give (insns.Call kinds.Helper imm) request word at-place waits asked =
-        call-given (insns.Call kinds.Helper imm) (helper_of imm) request word at-place asked asked
+        call-given imm (helper_of imm) request word at-place refl asked
     may_give (insns.Call kinds.Kernel imm) request word at-place waits asked = kernel-given (kernel_function_of imm) request word asked
     may_give insn request word at-place waits asked = absurd (none-some request asked)

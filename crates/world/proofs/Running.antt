@@ -39,7 +39,7 @@ pub running : (w : WorldView) (s : Schedule) → Matches w s → (r : ℕ) (v : 
 running w s m r v shown going =
     let y = run-behind m.refines.slots s.machine.store.elements s.machine.programs v (slice_get w.runs r)
     (slice_get s.machine.runs r) shown (m.refines.runs r) in
-    (y.0, record { there = ap option_flatten y.1; shown = shown; going = sym y.2.exit ∙ going })
+    (y.0, record { there = ap option_flatten y.1; shown = shown; going = sym y.2.words.exit ∙ going })
 
 goes-asks : (new : RunView) → Goes new ≡ Asks → ⊥
 goes-asks new e = absurd (cc)
@@ -62,7 +62,7 @@ stores-element w v width offset number (InFrame o) h e = absurd (goes-asks _ e)
 module _ (w : WorldView) (s : Schedule) (m : Matches w s) (sound : IsSound w s) (r : ℕ) (run : Run) (v : RunView) (k : IsRunning w s r run v) where
   pub flagged : IsFlagged w r v
   flagged =
-      let depth : v.depth ≡ run.depth = (refines w s m sound r run v k).depth in
+      let depth : v.depth ≡ run.depth = (refines w s m sound r run v k).words.depth in
       record {
         opened = flag w s m sound r run v v k refl;
         awaited = awaited_open w s m;
@@ -101,4 +101,4 @@ module _ (w : WorldView) (s : Schedule) (m : Matches w s) (sound : IsSound w s) 
 
   pub can_be_served : (program : Loaded) → slice_get w.programs v.program ≡ Some program → Servable program
   can_be_served program at = subst Servable (same-program w s m sound r run v k program at)
-      (λ i request here. can-here i request (sym (ap (insn_at run.program.code) (refines w s m sound r run v k).place) ∙ here))
+      (λ i request here. can-here i request (sym (ap (insn_at run.program.code) (refines w s m sound r run v k).words.place) ∙ here))

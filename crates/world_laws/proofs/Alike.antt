@@ -38,8 +38,8 @@ of p run = record {
   context = run.context;
   state = run.state;
   depth = run.depth;
-  locks =
-      run.locks;
+  sections =
+      run.sections;
   moved = run.moved;
   exit = run.exit;
 }

@@ -61,13 +61,13 @@ returned-refines : (slots : List ℕ) (es : List Element) (programs : List Loade
     RunRefines slots es programs v run → (ret : Value) (word : ℕ) → WordIs (element_bases slots es) ret word →
     RunRefines slots es programs (returned_view word v) (moves run (returns ret run.state))
 returned-refines slots es programs v run h ret word is =
-    let register_count : length v.registers ≡ REGISTERS = h.register_count in
+    let register_count : length v.registers ≡ REGISTERS = h.words.register_count in
     let bases = element_bases slots es in
     move-refines slots es programs v run h (slice_set v.registers 0 word) v.frame (v.place + 1)
-    (returns ret run.state) (length-set v.registers 0 word ∙ h.register_count)
+    (returns ret run.state) (length-set v.registers 0 word ∙ h.words.register_count)
     (λ q l. subst (λ y. WordIs bases (returned_value ret run.state.regs q) y) (sym (set_cond v.registers 0 word q (omega (arith, register_count))))
-    (word-returned bases (q == 0) (nat_le q 5) word (slice_index v.registers q) ret (run.state.regs q) is (h.registers q l)))
-    h.cells h.frame (ap (λ p. p + 1) h.place)
+    (word-returned bases (q == 0) (nat_le q 5) word (slice_index v.registers q) ret (run.state.regs q) is (h.words.registers q l)))
+    h.words.cells h.words.frame (ap (λ p. p + 1) h.words.place)
 
 module _ (w : WorldView) (s : Schedule) (m : Matches w s) (sound : IsSound w s) (r : ℕ) (run : Run) (v : RunView) (k : IsRunning w s r run v) where
   abbrev b : ℕ → ℕ
@@ -107,7 +107,7 @@ module _ (w : WorldView) (s : Schedule) (m : Matches w s) (sound : IsSound w s) 
   bytes-from (Pointer (Frame (negsuc n))) x len bytes word e = absurd (none-some bytes e)
   bytes-from (Pointer (Frame (pos at))) x len bytes word e =
       let f = inside (nat_le (at + len) FRAME_BYTES) refl e in
-      let long : length v.frame ≡ FRAME_BYTES = (refines w s m sound r run v k).cells in
+      let long : length v.frame ≡ FRAME_BYTES = (refines w s m sound r run v k).words.cells in
       let is : x - frame_base ≡ at = omega (arith, ints, word) in
       ap (λ at. take len (drop at v.frame)) is ∙ argument-bytes b run.state.frame v.frame
       (byte-stands w s m sound r run v k) len at bytes (omega (arith, f.0, long)) f.1

@@ -32,7 +32,8 @@ use Rattle.plan_laws.specs.Verified.{AreMapsBound, IsClosed, Plan}
 use Rattle.plan_laws.proofs.Arrays.{kind-there, there-kind}
 use Rattle.plan_laws.proofs.Elements.{accessible-held}
 use Rattle.world_laws.specs.Around.{regions, region_word, map_of, element_in_region, element_of, births, elements_around, store_of}
-use Rattle.world_laws.specs.Standing.{AreWords, IsSlotWord, IsNumbered, IsRunOf}
+use Rattle.bpf_model.specs.Refines.{AreWords}
+use Rattle.world_laws.specs.Standing.{IsSlotWord, IsNumbered, IsRunOf}
 use Rattle.world_laws.specs.Described.{IsShownBy, region_bases}
 use Rattle.world_laws.proofs.Contents.{get-by}
 
@@ -66,7 +67,7 @@ cell-to None i o = Unwritten
 cell-to (Some k) i o = Part i (Elem k o)
 
 module _ (g : ℕ → Option ℕ) where
-  abbrev value : Value → Value
+  abbrev pub value : Value → Value
   value Nothing = Nothing
   value (Number n) = Number n
   value (Pointer (Ctx o)) = Pointer (Ctx o)
@@ -74,7 +75,7 @@ module _ (g : ℕ → Option ℕ) where
   value (Pointer (MapRef m)) = Pointer (MapRef m)
   value (Pointer (Elem n o)) = value-to (g n) o
 
-  abbrev cell : Cell → Cell
+  abbrev pub cell : Cell → Cell
   cell Unwritten = Unwritten
   cell (Byte b) = Byte b
   cell (Part i (Ctx o)) = Part i (Ctx o)
@@ -82,10 +83,10 @@ module _ (g : ℕ → Option ℕ) where
   cell (Part i (MapRef m)) = Part i (MapRef m)
   cell (Part i (Elem n o)) = cell-to (g n) i o
 
-  abbrev state : State → State
+  abbrev pub state : State → State
   state m = record { regs = λ r. value (m.regs r); frame = λ k. cell (m.frame k); place = m.place }
 
-  abbrev erased : Run → Run
+  abbrev pub erased : Run → Run
   erased run = record run { state = state run.state }
 
   -- parts of a value go where the value goes
@@ -130,7 +131,7 @@ module _ (g : ℕ → Option ℕ) where
   numbered-to o None = tt
   numbered-to o (Some k) = tt
 
-  numbered-value : (u : Value) → HoldsValue IsNumbered u → HoldsValue IsNumbered (value u)
+  pub numbered-value : (u : Value) → HoldsValue IsNumbered u → HoldsValue IsNumbered (value u)
   numbered-value Nothing h = tt
   numbered-value (Number n) h = tt
   numbered-value (Pointer (Ctx o)) h = tt
@@ -142,7 +143,7 @@ module _ (g : ℕ → Option ℕ) where
   numbered-cell-to i o None = tt
   numbered-cell-to i o (Some k) = tt
 
-  numbered-cell : (x : Cell) → HoldsCell IsNumbered x → HoldsCell IsNumbered (cell x)
+  pub numbered-cell : (x : Cell) → HoldsCell IsNumbered x → HoldsCell IsNumbered (cell x)
   numbered-cell Unwritten h = tt
   numbered-cell (Byte b) h = tt
   numbered-cell (Part i (Ctx o)) h = tt
@@ -176,7 +177,7 @@ module _ (g : ℕ → Option ℕ) where
     byte-erased (Part i (MapRef m)) b h = h
     byte-erased (Part i (Elem n o)) b h = byte-to i n b o (g n) refl h
 
-    words-erased : (v : RunView) (run : Run) → AreWords bases v run → AreWords later v (erased run)
+    pub words-erased : (v : RunView) (run : Run) → AreWords bases v run → AreWords later v (erased run)
     words-erased v run h = record {
       context = h.context;
       register_count = h.register_count;

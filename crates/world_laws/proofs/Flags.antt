@@ -27,7 +27,7 @@ module _ (w : WorldView) (s : Schedule) (m : Matches w s) (sound : IsSound w s) 
     (k : IsRunning w s r run v) (same : new.depth ≡ v.depth) where
   pub flag : slice_get w.opened r ≡ Some (nat_lt 0 new.depth)
   flag =
-      let depth : new.depth ≡ run.depth = same ∙ (refines w s m sound r run v k).depth in
+      let depth : new.depth ≡ run.depth = same ∙ (refines w s m sound r run v k).words.depth in
       ap (λ (l : List Bool). slice_get l r) m.refines.opened
       ∙ slice_get-map is_open s.machine.runs r
       ∙ ap (option_map is_open) (flattened (slice_get s.machine.runs r) run k.there)

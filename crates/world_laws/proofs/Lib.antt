@@ -1,4 +1,5 @@
 pub mod Alike
+pub mod Answered
 pub mod Appending
 pub mod Asked
 pub mod Asking

@@ -8,22 +8,26 @@ use Rattle.bpf_model.specs.declared.event.Answer.{Answer}
 use Rattle.bpf_model.specs.declared.event.Answer.TheVariants.{Moved, Exited}
 use Rattle.bpf_model.specs.declared.limits.TheConstants.{MAX_RUNS}
 use Rattle.bpf_model.specs.declared.limits.MapShape.{MapShape}
-use Rattle.bpf_model.specs.Exit.{MayExitFrom, may_exit_now, may_exit_later, MayExitWith, HasNoMaps}
-use Rattle.bpf_model.specs.Section.{Section}
-use Rattle.bpf_model.specs.MapState.{Store}
+use Rattle.bpf_model.specs.Exit.{HasNoMaps}
+use Rattle.bpf_model.specs.MapState.{MapState}
 use Rattle.bpf_model.specs.Machine.{Loaded, Run, Machine, fresh_run, open_sections, run_at}
 use Rattle.bpf_model.specs.MachineStep.{RunStep}
 use Rattle.bpf_model.specs.Event.{DoesEvent}
-use Rattle.bpf_model.specs.Real.{IsReal, AllBytes}
+use Rattle.bpf_model.specs.Real.{IsReal}
 use Rattle.bpf_model.specs.Refines.{IsReachedSchedule, RunRefines}
 use Rattle.bpf_model.proofs.Cases.{run-behind}
 use Rattle.bpf_model.specs.Schedule.{Schedule, start_schedule}
 use Rattle.bpf_model.specs.View.{WorldView, shapes_of}
-use Rattle.model_laws.proofs.Exits.{exits_alone}
 use Rattle.model_laws.proofs.Keeping.{no-run}
 use Rattle.model_laws.proofs.Moves.{Changes, Goes, Locks, Unlocks, Ends, changed-insn}
+use Rattle.model_laws.proofs.Stores.{KeepsShapes, does-moves}
+use Rattle.plan_laws.specs.MayExit.{MayExitFrom, MayExitWith, may_exit_now, may_exit_later}
+use Rattle.plan_laws.specs.Verified.{AreMapsBound, Surrounds}
+use Rattle.plan_laws.proofs.Bound.{bound-alike}
+use Rattle.world_laws.proofs.Binding.{bound-behind}
+use Rattle.plan_laws.proofs.Exits.{exits_alone}
 use Rattle.plan_laws.proofs.Coming.{Comes, Stands, Starting, Stepping, does-come}
-use Rattle.plan_laws.proofs.Reaching.{kept-last, keeps_well, starts_well}
+use Rattle.plan_laws.proofs.Reaching.{bound-kept, kept-last, keeps_well, starts_well, surrounds}
 use Rattle.plan_laws.specs.Well.{IsWell, AreVerified}
 use Rattle.world_laws.specs.Exited.{HasExited}
 use Rattle.world_laws.specs.Invariant.{IsWorld}
@@ -31,16 +35,18 @@ use Rattle.world_laws.specs.Exits.{MayExitAs, ExitsAs}
 use Rattle.std.specs.Option.{option_flatten}
 
 -- an exit of the run's program on its context
-abbrev MayExit : Run → ℕ → Type 0
-MayExit run n = (steps : ℕ) × MayExitWith run.program run.context steps n
+abbrev MayExit : List MapShape → Run → ℕ → Type 0
+MayExit shapes run n = (steps : ℕ) × MayExitWith shapes run.program run.context steps n
 
-pub record HasLived (run : Run) : Type 0 where
-  pub going : run.exit ≡ None → (steps n : ℕ) → MayExitFrom run steps n → MayExit run n
-  pub ended : (n : ℕ) → run.exit ≡ Some n → MayExit run n
+-- among maps in these states
+pub record HasLived (states : List MapState) (run : Run) : Type 0 where
+  pub going : (shapes : List MapShape) → AreMapsBound shapes run.program.maps states → run.exit ≡ None → (steps n : ℕ) →
+      MayExitFrom shapes run steps n → MayExit shapes run n
+  pub ended : (n : ℕ) → run.exit ≡ Some n → (shapes : List MapShape) × AreMapsBound shapes run.program.maps states × MayExit shapes run n
 
-lived-fresh : (name : ℕ) (program : Loaded) (context : List ℕ) → HasLived (fresh_run name program context)
-lived-fresh name program context = record {
-  going = λ going steps n x. (steps, (name, x));
+lived-fresh : (states : List MapState) (name : ℕ) (program : Loaded) (context : List ℕ) → HasLived states (fresh_run name program context)
+lived-fresh states name program context = record {
+  going = λ shapes bound going steps n x. (steps, (name, x));
   ended = λ n e. absurd (none-some n e);
 }
 
@@ -65,39 +71,72 @@ moves-or-ends run answer new (Unlocks next inside e f) = further run _ new answe
 moves-or-ends run answer new (Ends n out e f) = Ended n e (ap (λ (x : Run). x.program) f) (ap (λ (x : Run). x.context) f) (ap (λ (x : Run). x.exit) f)
 
 -- an exit of the run's program is one of the next run's, which is of the same
-same-exits : (old new : Run) (n : ℕ) → new.program ≡ old.program → new.context ≡ old.context → MayExit old n → MayExit new n
-same-exits old new n p c x = (x.0, subst (λ (z : Loaded × List ℕ). MayExitWith z.0 z.1 x.0 n) (λ i. (sym p i, sym c i)) x.1)
-
-lived-step : (s new_store : Store) (opened : List Section) (old new : Run) (answer : Answer) → AllBytes s.elements →
-    HasLived old → old.exit ≡ None → RunStep s opened old answer new_store new → MovesOrEnds old answer new →
-    HasLived new
-lived-step s new_store opened old new answer bytes lived going h (Further e g) =
-    let step : RunStep s opened old Moved new_store new = subst (λ (a : Answer). RunStep s opened old a new_store new) e h in record {
-      going = λ on steps n x. same-exits old new n g.program g.context
-          (lived.going going (suc steps) n (may_exit_later s new_store opened old new steps n bytes step x));
-      ended = λ n done. absurd (none-some n (sym (g.exit ∙ going) ∙ done));
-    }
-lived-step s new_store opened old new answer bytes lived going h (Ended n e p c x) =
-    let step : RunStep s opened old (Exited n) new_store new = subst (λ (a : Answer). RunStep s opened old a new_store new) e h in record {
-      going = λ on steps k y. absurd (none-some n (sym on ∙ x));
-      ended = λ k done. let same : n ≡ k = same_Some n k (sym x ∙ done) in subst (MayExit new) same
-          (same-exits old new n p c (lived.going going 1 n (may_exit_now s new_store opened old new n bytes step)));
-    }
+same-exits : (shapes : List MapShape) (old new : Run) (n : ℕ) → new.program ≡ old.program → new.context ≡ old.context →
+    MayExit shapes old n → MayExit shapes new n
+same-exits shapes old new n p c x = (x.0, subst (λ (z : Loaded × List ℕ). MayExitWith shapes z.0 z.1 x.0 n) (λ i. (sym p i, sym c i)) x.1)
 
 -- all runs of a machine
 abbrev pub AllLived : Machine → Type 0
-AllLived m = (r : ℕ) (run : Run) → run_at m.runs r ≡ Some run → HasLived run
+AllLived m = (r : ℕ) (run : Run) → run_at m.runs r ≡ Some run → HasLived m.store.maps run
 
-lived-come : (m new : Machine) (r : ℕ) (run : Run) → AllBytes m.store.elements → AllLived m → Comes m new r run → HasLived run
-lived-come m new r run bytes all (Stands at) = all r run at
-lived-come m new r run bytes all (Starting f) = subst HasLived f.is (lived-fresh m.started f.program f.context)
-lived-come m new r run bytes all (Stepping s) = lived-step m.store new.store (open_sections m.runs) s.old run s.answer
-    bytes (all r s.old s.there) s.going s.step (moves-or-ends s.old s.answer run
-    (changed-insn s.step.0 m.store (open_sections m.runs) s.old s.answer new.store run s.step.2))
+module _ (m new : Machine) (w : IsWell m) (shapes_stay : KeepsShapes m.store.maps new.store.maps) where
+  -- the shapes to which a run's program is bound are those that it was verified for
+  bound-as : (r : ℕ) (run : Run) (at : run_at m.runs r ≡ Some run) (going : run.exit ≡ None) (shapes : List MapShape) →
+      AreMapsBound shapes run.program.maps new.store.maps → (w.runs r run at going).safe.shapes ≡ shapes
+  bound-as r run at going shapes bound =
+      let t = w.runs r run at going in
+      bound-alike t.safe.shapes shapes run.program.maps new.store.maps
+      (bound-kept t.safe.shapes run.program.maps m.store.maps new.store.maps shapes_stay t.safe.bound) bound
 
-all-lived : (m new : Machine) (event : Event) (answer : Answer) → IsReal event → AllBytes m.store.elements →
-    AllLived m → DoesEvent m event answer new → AllLived new
-all-lived m new event answer real bytes all h r run at = lived-come m new r run bytes all (does-come m new event answer real h r run at)
+  -- a run that makes no step
+  lived-kept : (r : ℕ) (run : Run) → run_at m.runs r ≡ Some run → HasLived m.store.maps run → HasLived new.store.maps run
+  lived-kept r run at lived = record {
+    going = λ shapes bound going. lived.going shapes
+        (subst (λ l. AreMapsBound l run.program.maps m.store.maps) (bound-as r run at going shapes bound) (w.runs r run at going).safe.bound) going;
+    ended = λ n e. let x = lived.ended n e in (x.0, bound-kept x.0 run.program.maps m.store.maps new.store.maps shapes_stay x.1, x.2);
+  }
+
+  lived-step : (r : ℕ) (old run : Run) (answer : Answer) → run_at m.runs r ≡ Some old → (going : old.exit ≡ None) → HasLived m.store.maps old →
+      RunStep m.store (open_sections m.runs) old answer new.store run → MovesOrEnds old answer run → HasLived new.store.maps run
+  lived-step r old run answer at going lived h (Further e g) =
+      let step : RunStep m.store (open_sections m.runs) old Moved new.store run =
+      subst (λ (a : Answer). RunStep m.store (open_sections m.runs) old a new.store run) e h in
+      let t = w.runs r old at going in
+      record {
+        going = λ shapes bound on steps n x.
+            let is = bound-as r old at going shapes (subst (λ (p : Loaded). AreMapsBound shapes p.maps new.store.maps) g.program bound) in
+            let around = subst (λ l. Surrounds l old.program.context_len m.store (open_sections m.runs) old) is (surrounds m r old w at going t) in
+            same-exits shapes old run n g.program g.context
+            (lived.going shapes (subst (λ l. AreMapsBound l old.program.maps m.store.maps) is t.safe.bound) going (suc steps) n
+            (may_exit_later m.store new.store (open_sections m.runs) old run steps n around step x));
+        ended = λ n done. absurd (none-some n (sym (g.exit ∙ going) ∙ done));
+      }
+  lived-step r old run answer at going lived h (Ended n e p c x) =
+      let step : RunStep m.store (open_sections m.runs) old (Exited n) new.store run =
+      subst (λ (a : Answer). RunStep m.store (open_sections m.runs) old a new.store run) e h in
+      let t = w.runs r old at going in
+      let exit : MayExit t.safe.shapes run n = same-exits t.safe.shapes old run n p c (lived.going t.safe.shapes t.safe.bound going 1 n
+      (may_exit_now m.store new.store (open_sections m.runs) old run n (surrounds m r old w at going t) step)) in
+      record {
+        going = λ shapes bound on steps k y. absurd (none-some n (sym on ∙ x));
+        ended = λ k done. let same : n ≡ k = same_Some n k (sym x ∙ done) in (
+          t.safe.shapes,
+          subst (λ (q : Loaded). AreMapsBound t.safe.shapes q.maps new.store.maps) (sym p)
+              (bound-kept t.safe.shapes old.program.maps m.store.maps new.store.maps shapes_stay t.safe.bound),
+          subst (MayExit t.safe.shapes run) same exit,
+        );
+      }
+
+  lived-come : (r : ℕ) (run : Run) → AllLived m → Comes m new r run → HasLived new.store.maps run
+  lived-come r run all (Stands at) = lived-kept r run at (all r run at)
+  lived-come r run all (Starting f) = subst (HasLived new.store.maps) f.is (lived-fresh new.store.maps m.started f.program f.context)
+  lived-come r run all (Stepping s) = lived-step r s.old run s.answer s.there s.going (all r s.old s.there) s.step
+      (moves-or-ends s.old s.answer run (changed-insn s.step.0 m.store (open_sections m.runs) s.old s.answer new.store run s.step.2))
+
+all-lived : (m new : Machine) (event : Event) (answer : Answer) → IsReal event → IsWell m → AllLived m → DoesEvent m event answer new → AllLived new
+all-lived m new event answer real w all h r run at =
+    lived-come m new w (does-moves m new event answer w.consistent.single w.consistent.lengths h).shapes r run all
+    (does-come m new event answer real h r run at)
 
 lived-start : (shapes : List MapShape) (programs : List Loaded) → AllLived (start_schedule shapes programs).machine
 lived-start shapes programs r run at = absurd (no-run MAX_RUNS r run at)
@@ -107,7 +146,7 @@ abbrev HasLivedWell : Machine → Type 0
 HasLivedWell m = IsWell m × AllLived m
 
 stays-lived : (m new : Machine) (event : Event) (answer : Answer) → IsReal event → DoesEvent m event answer new → HasLivedWell m → HasLivedWell new
-stays-lived m new event answer real h w = (keeps_well m new event answer w.0 real h, all-lived m new event answer real w.0.bytes w.1 h)
+stays-lived m new event answer real h w = (keeps_well m new event answer w.0 real h, all-lived m new event answer real w.0 w.1 h)
 
 reached_has_lived : (shapes : List MapShape) (programs : List Loaded) (s : Schedule) → AreVerified shapes programs →
     IsReachedSchedule shapes programs s → AllLived s.machine
@@ -128,15 +167,24 @@ module _ (w : WorldView) (r : ℕ) (code : List Insn) (shapes : List MapShape) (
   same-program = same_Some stands.0.program h.program (sym stands.2.program ∙
       (ap (λ (ps : List Loaded). slice_get ps h.run.program) (sym is.tracks.refines.programs) ∙ h.loaded))
 
-  pub may_exit_as : MayExitAs code context n
+  pub may_exit_as : (x : MayExitAs code context n) × (x.shapes ≡ shapes)
   may_exit_as =
-      let x : MayExit stands.0 n = (reached_has_lived (shapes_of w) w.programs is.schedule is.ready.verified
-      is.tracks.reached r stands.0 (ap option_flatten stands.1)).ended n (sym stands.2.exit ∙ h.ended) in record {
-        program = stands.0.program;
-        code_is = ap (λ (l : Loaded). l.code) same-program ∙ h.code_is;
-        steps = x.0;
-        exits = subst (λ (c : List ℕ). MayExitWith stands.0.program c x.0 n) (sym stands.2.context ∙ h.context_is) x.1;
-      }
+      let x = (reached_has_lived (shapes_of w) w.programs is.schedule is.ready.verified
+      is.tracks.reached r stands.0 (ap option_flatten stands.1)).ended n (sym stands.2.words.exit ∙ h.ended) in
+      let asked : AreMapsBound shapes stands.0.program.maps is.schedule.machine.store.maps =
+      subst (λ (l : Loaded). AreMapsBound shapes l.maps is.schedule.machine.store.maps) (sym same-program)
+      (bound-behind w is.schedule is.tracks.refines shapes h.program.maps h.bound) in
+      let same : x.0 ≡ shapes = bound-alike x.0 shapes stands.0.program.maps is.schedule.machine.store.maps x.1 asked in (
+        record {
+          program = stands.0.program;
+          code_is = ap (λ (l : Loaded). l.code) same-program ∙ h.code_is;
+          shapes = shapes;
+          steps = x.2.0;
+          exits = subst (λ (l : List MapShape). MayExitWith l stands.0.program context x.2.0 n) same
+              (subst (λ (c : List ℕ). MayExitWith x.0 stands.0.program c x.2.0 n) (sym stands.2.words.context ∙ h.context_is) x.2.1);
+        },
+        refl,
+      )
 
 -- without map references it is the one exit
 pub exits_as : (code : List Insn) (context : List ℕ) (n : ℕ) → HasNoMaps code → MayExitAs code context n → ExitsAs code context n
@@ -144,5 +192,5 @@ exits_as code context n none x = record {
   program = x.program;
   code_is = x.code_is;
   steps = x.steps;
-  exits = exits_alone x.program context x.steps n (subst HasNoMaps (sym x.code_is) none) x.exits;
+  exits = exits_alone x.shapes x.program context x.steps n (subst HasNoMaps (sym x.code_is) none) x.exits;
 }

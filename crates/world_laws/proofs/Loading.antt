@@ -66,12 +66,12 @@ module _ (w : WorldView) (s : Schedule) (m : Matches w s) (sound : IsSound w s) 
       let h = refines w s m sound r run v k in
       subst (λ u. WordIs (bases w s m sound r run v k) u (loaded_word w v width offset x)) (same_Some (Number g.0) u g.2)
       (located width x offset (InContext o) (context-location x o n word)
-      ∙ number-read v.context width f.0 g.0 (o +ℤ offset) p.0 (ap (λ (c : List ℕ). number_at (slice_get c) f.0 width) h.context ∙ g.1))
+      ∙ number-read v.context width f.0 g.0 (o +ℤ offset) p.0 (ap (λ (c : List ℕ). number_at (slice_get c) f.0 width) h.words.context ∙ g.1))
   load-word width x offset (Pointer (Frame o)) u word n e =
       let f = first-step (region_offset FRAME_BYTES width (o +ℤ offset)) (λ at. read run.state.frame at width) u e in
       let p = offset_some FRAME_BYTES width (o +ℤ offset) f.0 f.1 in
       let h = refines w s m sound r run v k in
-      let cells : length v.frame ≡ FRAME_BYTES = h.cells in
+      let cells : length v.frame ≡ FRAME_BYTES = h.words.cells in
       let inside : f.0 + width ≤ length v.frame = omega (arith, p.1, cells) in
       let g = number-there v.frame width f.0 inside in
       subst (WordIs (bases w s m sound r run v k) u)

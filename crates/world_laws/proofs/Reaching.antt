@@ -146,7 +146,7 @@ module _ (w : WorldView) (s : Schedule) (m : Matches w s) (sound : IsSound w s) 
       (λ at. number_at (slice_get run.context) at width >>= λ n. Some (Number n)) u e in
       subst (Reaches w v width offset) (sym (context-location x o n word))
       (subst (λ (c : List ℕ). IsInside (length c) width (o +ℤ offset))
-      (sym (refines w s m sound r run v k).context) (inside-of (length run.context) width f.0 (o +ℤ offset) f.1))
+      (sym (refines w s m sound r run v k).words.context) (inside-of (length run.context) width f.0 (o +ℤ offset) f.1))
   load-reaches width x offset (Pointer (Frame o)) u word n e =
       let f = first-step (region_offset FRAME_BYTES width (o +ℤ offset)) (λ at. read run.state.frame at width) u e in
       subst (Reaches w v width offset) (sym (frame-location x o n word)) (inside-of FRAME_BYTES width f.0 (o +ℤ offset) f.1)
@@ -273,7 +273,7 @@ module _ (w : WorldView) (s : Schedule) (m : Matches w s) (sound : IsSound w s) 
   is-call : (helper : Helper) (map : ℕ) (key : List ℕ) (c : CalledWith w s m sound r run v k map key) →
       AreInFrame (signature_of helper).arguments c.view v 1 → IsCall helper run.program.maps w.maps v
   is-call helper map key c arguments =
-      record { map = map; view = c.view; named = c.bound; there = c.there; arguments = arguments; frame = (refines w s m sound r run v k).cells }
+      record { map = map; view = c.view; named = c.bound; there = c.there; arguments = arguments; frame = (refines w s m sound r run v k).words.cells }
 
   value-inside : (map : ℕ) (value : List ℕ) (shape : MapShape) → map_state.shape_of s.machine.store map ≡ Some shape →
       value_argument s.machine.store run map ≡ Some value → IsInFrame (word_in v 3) shape.value_len
@@ -310,8 +310,8 @@ module _ (w : WorldView) (s : Schedule) (m : Matches w s) (sound : IsSound w s) 
   Allowed imm = (f : KernelFunction) × (kernel_function_of imm ≡ Some f) × IsAllowed f v.depth
 
   allowed : (imm : ℤ) (o : Option KernelFunction) (later : Run) → kernel_function_of imm ≡ o → KernelStep o run later → Allowed imm
-  allowed imm (Some ReadLock) later e h = (ReadLock, e, subst (λ d. d < MAX_DEPTH) (sym (refines w s m sound r run v k).depth) h.0)
-  allowed imm (Some ReadUnlock) later e h = (ReadUnlock, e, subst (λ d. 0 < d) (sym (refines w s m sound r run v k).depth) h.0)
+  allowed imm (Some ReadLock) later e h = (ReadLock, e, subst (λ d. d < MAX_DEPTH) (sym (refines w s m sound r run v k).words.depth) h.0)
+  allowed imm (Some ReadUnlock) later e h = (ReadUnlock, e, subst (λ d. 0 < d) (sym (refines w s m sound r run v k).words.depth) h.0)
   allowed imm None later e h = absurd h
 
   pub kernel_call_allowed : (imm : ℤ) → Known w s m sound r run v k (Call kinds.Kernel imm) → Allowed imm
@@ -326,5 +326,5 @@ module _ (w : WorldView) (s : Schedule) (m : Matches w s) (sound : IsSound w s) 
         program = run.program;
         insn = n.3.0;
         loaded = ap (λ (ps : List Loaded). slice_get ps v.program) m.refines.programs ∙ h.program;
-        here = ap (insn_at run.program.code) h.place ∙ n.3.1;
+        here = ap (insn_at run.program.code) h.words.place ∙ n.3.1;
       }

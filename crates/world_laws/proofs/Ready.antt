@@ -53,15 +53,17 @@ pub move-refines : (slots : List ℕ) (es : List Element) (programs : List Loade
     RunRefines slots es programs (moved_view registers frame place v) (moves run next)
 move-refines slots es programs v run h registers frame place next register_count regs cells bytes at = record {
   program = h.program;
-  context = h.context;
-  register_count = register_count;
-  registers = regs;
-  cells = cells;
-  frame = bytes;
-  place = at;
-  depth = h.depth;
-  moved = ap (λ n. n + 1) h.moved;
-  exit = h.exit;
+  words = record {
+    context = h.words.context;
+    register_count = register_count;
+    registers = regs;
+    cells = cells;
+    frame = bytes;
+    place = at;
+    depth = h.words.depth;
+    moved = ap (λ n. n + 1) h.words.moved;
+    exit = h.words.exit;
+  };
 }
 
 module _ (w : WorldView) (s : Schedule) (m : Matches w s) (sound : IsSound w s) (r : ℕ) (run : Run) (v : RunView) (k : IsRunning w s r run v) where
@@ -85,14 +87,14 @@ module _ (w : WorldView) (s : Schedule) (m : Matches w s) (sound : IsSound w s) 
   near = run-near s.machine r run sound.well k.there k.going
 
   pub register-word : (q : ℕ) → q ≤ 10 → WordIs bases (run.state.regs q) (word_in v q)
-  register-word q l = refines.registers q (omega (arith, l))
+  register-word q l = refines.words.registers q (omega (arith, l))
 
   pub operand-stands : (src : Operand) → FitsOperand src → WordIs bases (operand_value src run.state.regs) (operand_word v src)
   operand-stands (Register q) l = register-word q l
   operand-stands (Immediate imm) l = refl
 
   pub byte-stands : (j : ℕ) → j < length v.frame → ByteIs bases (run.state.frame j) (slice_index v.frame j)
-  byte-stands j l = let c : length v.frame ≡ FRAME_BYTES = refines.cells in refines.frame j (omega (arith, l, c))
+  byte-stands j l = let c : length v.frame ≡ FRAME_BYTES = refines.words.cells in refines.words.frame j (omega (arith, l, c))
 
   -- the words of references that are sure
   based : (q : Reference) → IsSure (scene_of s.machine.store run) (Pointer q) → IsBased bases q

@@ -92,7 +92,7 @@ module _ (w : WorldView) (s : Schedule) (m : Matches w s) (sound : IsSound w s) 
       let n = well_never_stuck s.machine sound.well r run k.there k.going in
       let h = refines w s m sound r run v k in
       let loaded : slice_get w.programs v.program ≡ Some run.program = ap (λ (ps : List Loaded). slice_get ps v.program) m.refines.programs ∙ h.program in
-      let at : insn_at run.program.code v.place ≡ Some n.3.0 = ap (insn_at run.program.code) h.place ∙ n.3.1 in
+      let at : insn_at run.program.code v.place ≡ Some n.3.0 = ap (insn_at run.program.code) h.words.place ∙ n.3.1 in
       subst (λ o. Simulates s (events.Step r) (run_step_of (option_flatten o) r w)) (sym k.shown)
       (subst (λ o. Simulates s (events.Step r) (step_in o r v w)) (sym loaded)
       (subst (λ o. Simulates s (events.Step r) (step_at o run.program r v w)) (sym at) (insn_simulates n.3.0 n.0 n.1 n.2 n.3.1 n.3.2)))
@@ -117,7 +117,7 @@ module _ (w : WorldView) (s : Schedule) (m : Matches w s) (sound : IsSound w s) 
       let at = flattened (slice_get w.runs r) x.0 x.1 in
       let y = run-behind m.refines.slots s.machine.store.elements s.machine.programs x.0 (slice_get w.runs r)
       (slice_get s.machine.runs r) at (m.refines.runs r) in
-      step_simulates w s m sound r y.0 x.0 (record { there = ap option_flatten y.1; shown = at; going = sym y.2.exit ∙ x.2 })
+      step_simulates w s m sound r y.0 x.0 (record { there = ap option_flatten y.1; shown = at; going = sym y.2.words.exit ∙ x.2 })
 
   left : (event : Event) → reaction w event ≡ None → Simulates s event (or_step None w event)
   left (events.Step r) e = running-step r (not-refused (step_refused (option_flatten (slice_get w.runs r))) w e)

@@ -63,7 +63,7 @@ emptied_run q run = record {
   state =
       emptied q run.state;
   depth = run.depth;
-  locks = run.locks;
+  sections = run.sections;
   moved = run.moved;
   exit = run.exit;
 }

@@ -10,7 +10,8 @@ use Rattle.bpf_model.specs.View.{RunView}
 use Rattle.plan_laws.specs.Describes.{scene_of}
 use Rattle.plan_laws.specs.Verified.{AreMapsBound, IsPlanned, Plan}
 use Rattle.world_laws.specs.Around.{elements_around, region_of, region_word, store_of}
-use Rattle.world_laws.specs.Standing.{AreWords, IsNumbered}
+use Rattle.bpf_model.specs.Refines.{AreWords}
+use Rattle.world_laws.specs.Standing.{IsNumbered}
 
 pub record IsDescribed (code : List Insn) (shapes : List MapShape) (ctx_len : ℕ) (plan : Plan)
     (around : List MapShape) (run : Run) : Type 0 where

@@ -13,12 +13,13 @@ ghost use Rattle.world_laws.specs.Exited.{HasExited};
 ghost use Rattle.world_laws.specs.Invariant.{IsWorld};
 ghost use Rattle.world_laws.specs.Exits.{MayExitAs, ExitsAs};
 
-/// A run that has ended in a world may exit so by its program's definition, over some maps and open
-/// sections before each of its steps. Without map references it exits so whatever other actors do.
+/// A run that has ended in a world may exit so by its program's definition, among maps of the shapes that are asked for.
+/// Without map references it exits so whatever other actors do.
 pub fn exited_as_defined()
     ensures may { (w : WorldView) (r : ℕ) (code : List Insn) (shapes : List MapShape)
         (context_len : ℕ) (context : List ℕ) (n : ℕ) → IsWorld w →
-        HasExited w r code shapes context_len context n → MayExitAs code context n }
+        HasExited w r code shapes context_len context n →
+        (x : MayExitAs code context n) × (x.shapes ≡ shapes) }
     ensures alone { (w : WorldView) (r : ℕ) (code : List Insn) (shapes : List MapShape)
         (context_len : ℕ) (context : List ℕ) (n : ℕ) → IsWorld w → HasNoMaps code →
         HasExited w r code shapes context_len context n → ExitsAs code context n }

@@ -60,7 +60,7 @@ pub use invariant::{
     bound_is_verified, count_has_room, reaction_is_world, reactions_make_world, start_is_world,
     world_is_matched,
 };
-pub use standing::{moves_described, stands_among_any, starts_described};
+pub use standing::{answer_stands, moves_described, stands_among_any, starts_described};
 
 /// The word of a near reference within the limits tells the location that the reference names.
 pub fn words_tell_locations()

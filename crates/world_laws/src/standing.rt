@@ -7,9 +7,10 @@ ghost use Rattle.bpf_model.specs.Machine.{Loaded, Run, environment, fresh_run, m
 ghost use Rattle.bpf_model.specs.MapState.{new_map};
 ghost use Rattle.bpf_model.specs.Step.{Moves, State, after, insn_at};
 ghost use Rattle.bpf_model.specs.View.{RunView};
-ghost use Rattle.plan_laws.specs.Verified.{AreMapsBound, IsClosed, Plan};
+ghost use Rattle.plan_laws.specs.Verified.{AreMapsBound, IsClosed, IsVerified, Plan};
+ghost use Rattle.world_laws.specs.Calling.{returned_view};
 ghost use Rattle.world_laws.specs.Described.{IsDescribed, IsShownBy};
-ghost use Rattle.world_laws.specs.Standing.{IsRunOf};
+ghost use Rattle.world_laws.specs.Standing.{IsRunOf, MapsAnswer};
 
 /// A run that starts is described by the plan, among whichever maps of the shapes that were verified.
 pub fn starts_described()
@@ -38,4 +39,13 @@ pub fn stands_among_any()
         IsRunOf code shapes ctx_len v →
         (around : List MapShape) × (run : Run) × ((plan : Plan) →
         IsClosed code shapes ctx_len plan → IsShownBy code shapes ctx_len plan around run v) }
+{}
+
+/// Where some maps among which words stand answer the call of a helper by a number, the words that have it in r0 stand for
+/// the run that goes on.
+pub fn answer_stands()
+    ensures { (code : List Insn) (shapes : List MapShape) (ctx_len : ℕ) (v : RunView)
+        (number : ℕ) → IsVerified code shapes ctx_len →
+        MapsAnswer code shapes ctx_len v number →
+        IsRunOf code shapes ctx_len (returned_view number v) }
 {}

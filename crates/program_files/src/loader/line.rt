@@ -5,7 +5,7 @@ ghost use Rattle.bpf_model.specs.declared.limits.TheConstants.{MAX_REUSE};
 ghost use Rattle.maps.specs.Registry.{RegistryView};
 ghost use Rattle.program_files.specs.Lines.{file_words, slot_in, code_slots};
 ghost use Rattle.program_files.specs.ProgramFile.{IsContextLine, AreHashWords, AreArrayWords, AreShapeWords, IsMapLine, AddsMap};
-ghost use Rattle.program_files.specs.Reading.{words_left};
+ghost use Rattle.program_files.specs.Stages.{words_left};
 
 use crate::loader::fault::LineFault;
 use crate::loader::words::Words;

@@ -1,12 +1,12 @@
 //! Program files.
 ghost use Rattle.std.specs.Prelude.{◌≡◌, ◌∷◌, ◌+◌, ◌<◌, ◌≤◌, ◌^◌, length, IfOk, IfErr, MatchResult};
 ghost use Rattle.bpf_model.specs.declared.limits.TheConstants.{CTX_BYTES};
-ghost use Rattle.program_files.specs.Lines.{file_lines};
+ghost use Rattle.script_stream.specs.Lines.{lines_of};
 ghost use Rattle.program_files.specs.ProgramFile.{FileContent, IsProgramFile, FileSays, IsLoadFault};
 ghost use Rattle.program_files.specs.Loaded.{loaded_content, IsFileTextFault};
 
 use crate::loader::fault::{LineFault, LoadFault};
-use crate::loader::loading::Loading;
+use crate::loader::lines_read::LinesRead;
 use crate::loader::words::cut;
 use maps::Registry;
 use std::alloc::Global;
@@ -28,7 +28,7 @@ pub struct ProgramFile {
 /// The first line of a text that is not empty, and what stands behind it.
 fn first_line(text: &[u8]) -> (&[u8], &[u8])
     requires { 0 < length text.now }
-    ensures lines { file_lines text.now ≡ result.0.now ∷ file_lines result.1.now }
+    ensures lines { lines_of text.now ≡ result.0.now ∷ lines_of result.1.now }
     ensures shorter { length result.1.now < length text.now }
 {
     let (line, rest) = cut(text, b'\n');
@@ -41,10 +41,10 @@ fn first_line(text: &[u8]) -> (&[u8], &[u8])
 /// What the lines behind the heading say.
 fn load_text(alloc: Global, text: &[u8]) -> Result<ProgramFile, LoadFault>
     requires { length text.now + 8 < 2 ^ 64 }
-    ensures found { IfOk result (λ f. IsProgramFile (file_lines text.now) (loaded_content f)) }
+    ensures found { IfOk result (λ f. IsProgramFile (lines_of text.now) (loaded_content f)) }
     ensures fault { IfErr result (IsFileTextFault text.now) }
 {
-    let mut loading = Loading::new(alloc);
+    let mut loading = LinesRead::new(alloc);
     let mut rest = text;
     let mut number = 2;
     while !rest.is_empty() {

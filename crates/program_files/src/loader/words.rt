@@ -1,7 +1,10 @@
 //! The words of a line.
-ghost use Rattle.std.specs.Prelude.{◌≡◌, ◌≢◌, ℕ, true, false, ◌++◌, ◌∷◌, [], List, IfSome, IfNone, MatchOption};
-ghost use Rattle.program_files.specs.Lines.{file_words, IsDecimalWord};
-ghost use Rattle.program_files.specs.Reading.{HasNoByte, words_left};
+ghost use Rattle.std.specs.Prelude.{◌≡◌, ◌≢◌, ℕ, true, false, ◌++◌, ◌∷◌, [], List, Some, IfSome, IfNone, MatchOption};
+ghost use Rattle.program_files.specs.Lines.{file_words};
+ghost use Rattle.script_lines.specs.Words.{number_in};
+ghost use Rattle.program_files.specs.Stages.{HasNoByte, words_left};
+
+use script_lines::number_of;
 
 /// What stands before the first such byte, and what stands behind it, if there is one.
 pub fn cut(bytes: &[u8], at: u8) -> (&[u8], Option<&[u8]>)
@@ -15,14 +18,6 @@ pub fn cut(bytes: &[u8], at: u8) -> (&[u8], Option<&[u8]>)
         }
     }
     (bytes, None)
-}
-
-/// The number that a word is.
-fn number_of(word: &[u8]) -> Option<u64>
-    ensures some { IfSome result (IsDecimalWord word.now) }
-    ensures none { IfNone result ((n : ℕ) → ¬ (IsDecimalWord word.now n)) }
-{
-    script_lines::number_of(word)
 }
 
 /// The words of a line that are left.
@@ -54,9 +49,9 @@ impl<'a> Words<'a> {
     /// The number that the next word is.
     pub fn number(&mut self) -> Option<u64>
         ensures some { IfSome result (λ n. (w : List ℕ) ×
-            (words_left self.old.rest ≡ w ∷ words_left self.new.rest) × IsDecimalWord w n) }
+            (words_left self.old.rest ≡ w ∷ words_left self.new.rest) × (number_in w ≡ Some n)) }
         ensures none { IfNone result ((w : List ℕ) (ws : List (List ℕ)) (n : ℕ) →
-            words_left self.old.rest ≡ w ∷ ws → ¬ (IsDecimalWord w n)) }
+            words_left self.old.rest ≡ w ∷ ws → ¬ (number_in w ≡ Some n)) }
     {
         number_of(self.word()?)
     }

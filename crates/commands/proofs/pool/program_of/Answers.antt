@@ -5,13 +5,13 @@ use Rattle.commands.proofs.pool.program_of.Goals as goal
 
 pub returns-clause-found : goal.returns-clause-found
 returns-clause-found c bytes h =
-    program_found bytes c.in_ok-source.source c.in_ok-checked.checked.verified.program
-    c.in_ok-checked.checked.verified.ctx_len (c.in_ok-source.ensures.found bytes h) c.in_ok-checked.ensures.graph
-    c.in_ok-checked.ensures.verified c.in_ok-checked.ensures.program c.in_ok-checked.ensures.context
+    program_found bytes c.in_ok-source.source c.in_ok-verified.verified.program
+    c.in_ok-verified.verified.ctx_len (c.in_ok-source.ensures.found bytes h) c.in_ok-verified.ensures.graph
+    c.in_ok-verified.ensures.verified c.in_ok-verified.ensures.program c.in_ok-verified.ensures.context
 
-pub returns-in_err-checked-clause-refused : goal.returns-in_err-checked-clause-refused
-returns-in_err-checked-clause-refused c bytes h =
-    let p = err_from_is_err_and c.from_residual-in_err-checked.result c.from_residual-in_err-checked.ensures.1 in
-    rw p.1 (verifier_told bytes c.in_ok-source.source c.in_err-checked.field-0.0 p.0
-    (c.in_ok-source.ensures.found bytes h) c.in_err-checked.ensures.told c.in_err-checked.ensures.plain_with_maps
+pub returns-in_err-verified-clause-refused : goal.returns-in_err-verified-clause-refused
+returns-in_err-verified-clause-refused c bytes h =
+    let p = err_from_is_err_and c.from_residual-in_err-verified.result c.from_residual-in_err-verified.ensures.1 in
+    rw p.1 (verifier_told bytes c.in_ok-source.source c.in_err-verified.field-0.0 p.0
+    (c.in_ok-source.ensures.found bytes h) c.in_err-verified.ensures.told c.in_err-verified.ensures.plain_with_maps
     p.2)

@@ -1,7 +1,8 @@
 use Rattle.std.proofs.Common.{◌≡◌, ℕ, inl, subst}
 use Rattle.std.proofs.lemmas.Option.{IfSome_then}
-use Rattle.program_files.specs.declared.verdict.TheConstants.{MEMORY}
-use Rattle.commands.specs.declared.report.TheConstants.{LOST}
+use Rattle.program_files.specs.Verdicts.{memory_number}
+use Rattle.job_queue.specs.declared.fault.PoolFault.TheVariants.{Lost}
+use Rattle.job_queue.specs.Faults.{pool_fault_number}
 use Rattle.commands.specs.Outputs.{IsPlainVerdict}
 use Rattle.commands.proofs.Pooled.{not_so, pool_told, pool_written, so_written}
 use Rattle.commands.proofs.pool.run_pool.Goals as goal
@@ -13,8 +14,8 @@ returns-in-Err-program_of-clause-refused g c one =
     IfSome_then (g.R.Read.remaining c.args.input.now) c.in-Ok.ensures
     (λ bytes holds. (
       v,
-      not_so (v.code ≡ MEMORY) c.refused.result told.memory one,
-      not_so (v.code ≡ LOST) c.refused.result told.lost one,
+      not_so (v.code ≡ memory_number) c.refused.result told.memory one,
+      not_so (v.code ≡ pool_fault_number Lost) c.refused.result told.lost one,
       inl (c.in-Err-program_of.ensures.refused bytes holds),
     ))
 
@@ -37,8 +38,8 @@ returns-in-Err-Pool-clause-refused g c one =
     IfSome_then (g.R.Read.remaining c.args.input.now) c.in-Ok.ensures
     (λ bytes holds. (
       v,
-      not_so (v.code ≡ MEMORY) c.refused-in-Err-Pool.result told.memory one,
-      not_so (v.code ≡ LOST) c.refused-in-Err-Pool.result told.lost one,
+      not_so (v.code ≡ memory_number) c.refused-in-Err-Pool.result told.memory one,
+      not_so (v.code ≡ pool_fault_number Lost) c.refused-in-Err-Pool.result told.lost one,
       pool_told c.args.size.workers c.args.size.count bytes p.program p.ctx_len c.in-Err-Pool.fault v
           (c.in-Ok-program_of.ensures.found bytes holds) fault
           (subst (λ (n : ℕ). IsPlainVerdict n v) c.code.ensures c.plain_verdict.ensures),

@@ -1,4 +1,4 @@
-use Rattle.commands.proofs.Reading.{all_answered, stopped_before}
+use Rattle.commands.proofs.ScriptEnds.{all_answered, stopped_before}
 use Rattle.commands.proofs.script.run_lines.Goals as goal
 
 pub returns-in-Ok-clause-answered : goal.returns-in-Ok-clause-answered

@@ -1,8 +1,7 @@
-use Rattle.std.proofs.Common.{◌≡◌, ◌++◌, ◌-◌, length, map, take, sym, ap, ◌∙◌, subst, arith, vec_len, inr}
+use Rattle.std.proofs.Common.{◌≡◌, ◌++◌, ◌-◌, length, map, take, sym, ap, ◌∙◌, subst, arith, vec_len}
 use Rattle.std.specs.Prelude.{All}
 use Rattle.std.proofs.lemmas.List.{take-append-drop, length-map, length-drop, length-take-le}
 use Rattle.std.proofs.lemmas.List.Elements.{All-take}
-use Rattle.std.proofs.lemmas.Result.{IfOk-weaker, IfErr-weaker}
 use Rattle.job_queue.specs.Blocks.{InBlocks}
 use Rattle.job_queue.specs.Serving.{AreRightLines}
 use Rattle.job_queue.specs.Sheet.{worker_of}
@@ -29,18 +28,13 @@ serve_at-requires-clause-room g c κs within =
     let full = old.ok.1 in
     omega arith
 
-pub returns-clause-each : goal.returns-clause-each
-returns-clause-each g c =
+pub returns-then-serve_at-clause-each : goal.returns-then-serve_at-clause-each
+returns-then-serve_at-clause-each g c =
     let whole = ap (λ z. z ++ map worker_of c.in-Ok.stations.items) c.in-Ok.ensures.workers ∙
     (ap (λ z. take c.args.first c.args.workers.now.items ++ z) c.in-Ok.ensures.stations ∙
     take-append-drop c.args.first c.args.workers.now.items) in
     let fits = InBlocks (g.S.Serve.fits c.args.serve.now) in
     let after = c.serve_at.new.workers.items in
     let lines = c.serve_at.new.sheet.lines.items in
-    IfOk-weaker c.read_out.result _ _
-    (λ v same. results_right fits c.args.blocks.now c.args.workers.now.items after lines v.items
-    (subst (λ z. AreRightLines fits c.args.blocks.now z after lines) whole c.serve_at.ensures.lines) same)
-    c.read_out.ensures.lines
-
-pub returns-clause-err : goal.returns-clause-err
-returns-clause-err g c = IfErr-weaker c.read_out.result _ _ (λ e is. inr is.0) c.read_out.ensures.err
+    results_right fits c.args.blocks.now c.args.workers.now.items after lines c.read_out.result.items
+    (subst (λ z. AreRightLines fits c.args.blocks.now z after lines) whole c.serve_at.ensures.lines) c.read_out.ensures.lines

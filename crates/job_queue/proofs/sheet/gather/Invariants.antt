@@ -1,15 +1,23 @@
-use Rattle.std.proofs.Common.{◌≡◌, ◌⊎◌, ◌++◌, ℕ, map, vec_len, vec_capacity, Some}
-use Rattle.std.specs.Prelude.{slice_get}
-use Rattle.job_queue.specs.Sheet.{StandsIn, worker_of, is_short}
-use Rattle.std.specs.List.{list_any}
+use Rattle.std.proofs.Common.{◌≡◌, ◌⊎◌, ◌++◌, ◌<◌, ℕ, true, map, vec_len, vec_capacity, Some, length}
+use Rattle.std.specs.Prelude.{slice_get, All}
+use Rattle.crossbeam_queue.specs.Passes.{view, IsPassOf}
+use Rattle.job_queue.specs.Numbers.{WasTaken}
+use Rattle.job_queue.specs.Serving.{IsKept}
+use Rattle.job_queue.specs.Sheet.{HasLine, StandsIn, worker_of}
 use Rattle.job_queue.proofs.sheet.gather.Given as goal
 
 abbrev pub invariant-loop-station : goal.invariant-loop-station
 invariant-loop-station g l = record {
+  pass : IsPassOf l.queue l.pass;
+  puts : (view l.pass).puts ≡ true;
+  takes : (view l.pass).takes ≡ true;
+  next : (view l.pass).next ≡ vec_len l.fn.sheet.lines;
+  out : (view l.pass).out ≡ length l.station-iterator.rest.items;
+  kept : All (IsKept (IsPassOf l.queue) (vec_len l.fn.sheet.lines)) l.station-iterator.rest.items;
   workers : l.workers.items ≡ l.fn.workers.items ++ map worker_of l.yielded;
   capacity : vec_capacity l.workers ≡ vec_capacity l.fn.workers;
   count : vec_len l.sheet.lines ≡ vec_len l.fn.sheet.lines;
   lines : (k : ℕ) (served : g.row.T.Denot) → slice_get l.sheet.lines.items k ≡ Some (Some served) →
       (slice_get l.fn.sheet.lines.items k ≡ Some (Some served)) ⊎ StandsIn l.yielded k served;
-  short : l.any_short ≡ list_any is_short l.yielded;
+  taken : (k : ℕ) → k < vec_len l.fn.sheet.lines → WasTaken k (view l.pass).taken → HasLine l.sheet.lines.items k;
 }

@@ -5,16 +5,16 @@ use Rattle.job_queue.specs.declared.station.Numbered.{Numbered}
 use Rattle.job_queue.specs.Serving.{IsRightNumbered}
 use Rattle.job_queue.specs.Blocks.{InBlocks}
 use Rattle.job_queue.proofs.BlockResults.{right_wider}
-use Rattle.job_queue.proofs.QueueRule.{takes, learns}
+use Rattle.job_queue.proofs.QueueRule.{takes, learns_all}
 use Rattle.crossbeam_queue.specs.Passes.{view}
 use Rattle.job_queue.specs.declared.numbers.PassView.{PassView}
-use Rattle.job_queue.specs.Numbers.{WasTaken, pass_view}
+use Rattle.job_queue.specs.Numbers.{WasTaken, without_number}
 use Rattle.job_queue.specs.Sheet.{HasResult}
 use Rattle.job_queue.proofs.Serving.{one_more, kept_more, still_served, taken_before}
 use Rattle.job_queue.proofs.station.work.Goals as goal
 
 pub pop_as-requires-clause-rule : goal.pop_as-requires-clause-rule
-pop_as-requires-clause-rule g c = (takes _ _, learns _ _)
+pop_as-requires-clause-rule g c = (takes _ _ c.loop.invariant.kept.takes, learns_all _ _)
 
 pub loop-preserved : goal.loop-preserved
 loop-preserved g c =
@@ -29,7 +29,14 @@ loop-preserved g c =
     let fits = g.S.Serve.fits c.args.serve.now in
     let each = InBlocks fits in
     record {
-      pass = search rules;
+      kept = record {
+        pass = search rules;
+        takes = search rules;
+        results = λ k taken low. subst (λ z. HasResult z k) (sym items)
+            (kept_more c.loop.station.results.items one (view c.loop.station.pass).taken k
+            (subst (λ (z : PassView). WasTaken k z.taken) {x = view c.pop_as.new.pass}
+            {y = without_number c.in-Some.number (view c.loop.station.pass)} (search rules) taken) (λ old. i.kept.results k old low));
+      };
       ready_now = e.ready;
       later_now = laws.later_again first was is i.later_now e.later;
       results = subst (All (IsRightNumbered each c.args.blocks.now first is)) (sym items)
@@ -45,23 +52,18 @@ loop-preserved g c =
                 laws.fits_wider c.args.serve.now first was is is job one i.later_now (laws.later_same is))
                 c.in-Some-get.block.now.now c.serve_block-served.result e.fits;
           });
-      kept = λ k taken low. subst (λ z. HasResult z k) (sym items)
-          (kept_more c.loop.station.results.items one (view c.loop.station.pass).taken k
-          (subst (λ (z : PassView). WasTaken k z.taken) {x = view c.pop_as.new.pass}
-          {y = pass_view (view c.loop.station.pass).puts (view c.loop.station.pass).next
-          (c.in-Some.number ∷ (view c.loop.station.pass).taken)} (search rules) taken) (λ old. i.kept k old low));
     }
 
 pub returns-then-is_err : goal.returns-then-is_err
 returns-then-is_err g c =
     let i = c.loop.invariant in
-    record { served = still_served _ _ _ _ _ _ c.loop.station _ i i.pass refl c.reserve.ensures.items (λ k taken low. taken) }
+    record { served = still_served _ _ _ _ _ _ c.loop.station _ i i.kept.pass i.kept.takes refl c.reserve.ensures.items (λ k taken low. taken) }
 
 pub returns-in_default : goal.returns-in_default
 returns-in_default g c =
     let i = c.loop.invariant in
     record {
-      served = still_served _ _ _ _ _ _ c.loop.station _ i (search rules) refl c.reserve.ensures.items
+      served = still_served _ _ _ _ _ _ c.loop.station _ i (search rules) (search rules) refl c.reserve.ensures.items
           (λ k taken low. subst (λ (z : PassView). WasTaken k z.taken) c.in_default.ensures.rule.0 taken);
     }
 
@@ -70,7 +72,7 @@ returns-in_default-get g c =
     let i = c.loop.invariant in
     let past : c.in-Some.number < length c.args.blocks.now → ⊥ = search rules in
     record {
-      served = still_served _ _ _ _ _ _ c.loop.station _ i (search rules) refl c.reserve.ensures.items
+      served = still_served _ _ _ _ _ _ c.loop.station _ i (search rules) (search rules) refl c.reserve.ensures.items
           (λ k taken low. taken_before c.in-Some.number k (view c.loop.station.pass).taken (length c.args.blocks.now) past low
           (subst (λ (z : PassView). WasTaken k z.taken) c.in-Some.ensures.rule taken));
     }

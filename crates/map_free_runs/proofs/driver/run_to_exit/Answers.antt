@@ -1,7 +1,7 @@
 use Rattle.std.proofs.Common.{◌<◌, ℕ, ◌+◌, ◌-◌, List, arith, length, sym, subst}
 use Rattle.bpf_model.specs.Real.{AreBytes}
 use Rattle.bpf_model.specs.Exit.{ExitsWith}
-use Rattle.model_laws.proofs.Exits.{one_exit}
+use Rattle.plan_laws.proofs.Exits.{one_exit}
 use Rattle.view_laws.specs.Reactions.{fresh_view}
 use Rattle.map_free_runs.specs.Lone.{StandsAlone, loaded_alone}
 use Rattle.map_free_runs.proofs.Looping.{halts_at, halts_below, halts_exited, halts_limit, halts_on, halts_room, halts_shared, loop_can_go_on, stands_first}
@@ -128,13 +128,13 @@ returns-in-Exit-clause-exits c =
     c.in-Exit.value c.in-Exit.is)
 
 pub returns-in-Exit-clause-only : goal.returns-in-Exit-clause-only
-returns-in-Exit-clause-only c = λ steps value may.
+returns-in-Exit-clause-only c = λ shapes steps value may.
     let exits = subst (λ (b : List ℕ). ExitsWith (loaded_alone c.args.verified.now) b
     (c.steps.moved + (MAX_SLOTS - c.go_on-halt.result.left) + 1) c.in-Exit.value) c.as_slice-context.ensures.value
     (halts_exited c.args.verified.now c.as_slice-context.result.now c.steps.index c.steps.moved MAX_SLOTS
     c.steps.workspace c.steps.invariant c.go_on-halt.result c.go_on-halt.new.self c.go_on-halt.ensures
     c.in-Exit.value c.in-Exit.is) in
-    one_exit (loaded_alone c.args.verified.now) c.args.ctx.now.items
+    one_exit shapes (loaded_alone c.args.verified.now) c.args.ctx.now.items
     (c.steps.moved + (MAX_SLOTS - c.go_on-halt.result.left) + 1) steps c.in-Exit.value value exits may
 
 pub returns-in-Exit-clause-bounded : goal.returns-in-Exit-clause-bounded

@@ -1,4 +1,4 @@
-use Rattle.program_files.proofs.Reading.{HasRead}
+use Rattle.program_files.proofs.GivenBytes.{HasRead}
 use Rattle.program_files.proofs.program_file.read_file.Given as goal
 
 abbrev pub invariant-loop : goal.invariant-loop

@@ -12,7 +12,7 @@ returns-in-Some-ReadLock-clause-steps c = λ program.
     let e = simp to_z-of_z at c.from_number.ensures in
     subst (λ f. KernelsAs f (run_with program c.args.run.now) c.read_lock.result
     (run_with program c.read_lock.new.run)) (ap Some (sym c.in-Some-ReadLock.field-0-is) ∙
-    sym c.in-Some-ReadLock.is ∙ e) (c.read_lock.ensures.locks program)
+    sym c.in-Some-ReadLock.is ∙ e) (c.read_lock.ensures.step program)
 
 pub returns-in-Some-ReadUnlock-clause-steps : goal.returns-in-Some-ReadUnlock-clause-steps
 returns-in-Some-ReadUnlock-clause-steps c = λ program.

@@ -4,7 +4,7 @@ use Rattle.reference_store.proofs.Sections.{apart-more, all-apart, not-ended}
 use Rattle.reference_store.proofs.element.are_apart.Goals as goal
 
 pub loop-i-preserved : goal.loop-i-preserved
-loop-i-preserved c = apart-more c.args.since.now c.args.opened.now (record { run = 0; lock = 0 }) c.loop-i.i
+loop-i-preserved c = apart-more c.args.since.now c.args.opened.now (record { run = 0; number = 0 }) c.loop-i.i
     c.loop-i-test.true (c.is_among.ensures.apart c.if-is_among.false) c.loop-i.invariant
 
 pub returns : goal.returns
@@ -14,6 +14,6 @@ pub returns-then-is_among : goal.returns-then-is_among
 returns-then-is_among c = (
   λ t. absurd (false≢true t),
   λ ended. absurd (not-ended c.args.since.now c.args.opened.now
-      (record { run = 0; lock = 0 }) c.loop-i.i c.loop-i-test.true (c.is_among.ensures.among c.if-is_among.true)
+      (record { run = 0; number = 0 }) c.loop-i.i c.loop-i-test.true (c.is_among.ensures.among c.if-is_among.true)
       ended),
 )

@@ -2,7 +2,7 @@ use Rattle.std.proofs.Common.{◌≡◌, List, ◌++◌, refl, subst, sym}
 use Rattle.std.specs.Prelude.{OnOk, Ok, Err}
 use Rattle.std.specs.List.{flat_map}
 use Rattle.bpf_model.specs.declared.event.Event.{Event}
-use Rattle.script_lines.specs.Answers.{reply_text}
+use Rattle.script_lines.specs.ReplyText.{reply_text}
 use Rattle.script_lines.specs.declared.reply.Reply.{Reply}
 use Rattle.control.specs.Lives.{LiveReplies}
 use Rattle.control.specs.Sessions.{SessionReplies}

@@ -1,12 +1,21 @@
-use Rattle.std.proofs.Common.{◌∙◌, ◌<◌, ℕ, List, Option, Some, sym, ap, subst, rules, length, refl, true, false}
-use Rattle.std.specs.Prelude.{slice_set, IfSome}
+use Rattle.std.proofs.Common.{◌≡◌, ◌∙◌, ◌<◌, ℕ, List, Option, Some, sym, ap, subst, rules, length, refl, true, false}
+use Rattle.std.specs.Prelude.{slice_get, slice_set, IfSome}
 use Rattle.std.proofs.lemmas.Option.{slice_get_read}
 use Rattle.std.proofs.lemmas.Bool.{eq-eqb, eqb-true, false_from_ne_true}
 use Rattle.element_store.specs.declared.cell.SlotCell.{SlotCell}
 use Rattle.element_store.specs.Kept.{AreCellsKept, IsLaidOut, arena_state_of, linked_behind, given_cell}
 use Rattle.element_store.specs.declared.cell.Standing.TheVariants.{Free}
 use Rattle.element_store.proofs.Gives.{held, countable, told, worn-kept, worn-state, last-inside, freed-kept, freed-state}
+use Rattle.element_store.proofs.arena.Arena.give.Goals.{After-index-old}
 use Rattle.element_store.proofs.arena.Arena.give.Goals as goal
+
+-- the cell of the slot
+old_at : (c : After-index-old) → slice_get c.self.inside.cells.items c.args.slot ≡ Some c.index-old.result.now
+old_at c =
+    let s = c.self.inside in
+    let h = held s.key_len s.value_len s.limit s.cells.items s.first s.last s.keys.items s.values.items c.args.slot
+    c.args.self.now c.self.view_is c.self.invariant c.requires in
+    slice_get_read s.cells.items (length s.cells.items) c.args.slot c.index-old.result.now refl h.inside c.index-old.ensures
 
 pub index-old-requires : goal.index-old-requires
 index-old-requires c =
@@ -32,27 +41,21 @@ index_mut-requires-2 c =
 pub given_cell-requires : goal.given_cell-requires
 given_cell-requires c =
     let s = c.self.inside in
-    let h = held s.key_len s.value_len s.limit s.cells.items s.first s.last s.keys.items s.values.items c.args.slot
-    c.args.self.now c.self.view_is c.self.invariant c.requires in
-    let at = slice_get_read s.cells.items (length s.cells.items) c.args.slot c.index-old.result.now refl h.inside c.index-old.ensures in
+    let at = old_at (goal.at.given_cell-requires c).After-index-old in
     countable s.key_len s.value_len s.limit s.cells.items s.first s.last s.keys.items s.values.items c.args.slot
     c.args.self.now c.self.view_is c.self.invariant c.requires c.index-old.result.now at
 
 pub given_cell-requires-2 : goal.given_cell-requires-2
 given_cell-requires-2 c =
     let s = c.self.inside in
-    let h = held s.key_len s.value_len s.limit s.cells.items s.first s.last s.keys.items s.values.items c.args.slot
-    c.args.self.now c.self.view_is c.self.invariant c.requires in
-    let at = slice_get_read s.cells.items (length s.cells.items) c.args.slot c.index-old.result.now refl h.inside c.index-old.ensures in
+    let at = old_at (goal.at.given_cell-requires-2 c).After-index-old in
     countable s.key_len s.value_len s.limit s.cells.items s.first s.last s.keys.items s.values.items c.args.slot
     c.args.self.now c.self.view_is c.self.invariant c.requires c.index-old.result.now at
 
 pub invariant_of-self : goal.invariant_of-self
 invariant_of-self c =
     let s = c.self.inside in
-    let h = held s.key_len s.value_len s.limit s.cells.items s.first s.last s.keys.items s.values.items c.args.slot
-    c.args.self.now c.self.view_is c.self.invariant c.requires in
-    let at = slice_get_read s.cells.items (length s.cells.items) c.args.slot c.index-old.result.now refl h.inside c.index-old.ensures in
+    let at = old_at (goal.at.invariant_of-self c).After-index-old in
     subst (λ (d : SlotCell). AreCellsKept (slice_set s.cells.items c.args.slot d) s.first s.last s.limit ×
     IsLaidOut (slice_set s.cells.items c.args.slot d) s.keys.items s.values.items s.key_len s.value_len)
     (sym c.given_cell.ensures) (worn-kept s.key_len s.value_len s.limit s.cells.items s.first s.last s.keys.items
@@ -62,9 +65,7 @@ invariant_of-self c =
 pub returns-then-old-self-clause-given : goal.returns-then-old-self-clause-given
 returns-then-old-self-clause-given c =
     let s = c.self.inside in
-    let h = held s.key_len s.value_len s.limit s.cells.items s.first s.last s.keys.items s.values.items c.args.slot
-    c.args.self.now c.self.view_is c.self.invariant c.requires in
-    let at = slice_get_read s.cells.items (length s.cells.items) c.args.slot c.index-old.result.now refl h.inside c.index-old.ensures in
+    let at = old_at (goal.at.returns-then-old-self-clause-given c).After-index-old in
     told s.key_len s.value_len s.limit s.cells.items s.first s.last s.keys.items s.values.items c.args.slot
     c.args.self.now c.self.view_is c.self.invariant c.requires c.index-old.result.now at true
     (eq-eqb _ _ c.if-old-self.true)
@@ -72,9 +73,7 @@ returns-then-old-self-clause-given c =
 pub returns-then-old-self-clause-new : goal.returns-then-old-self-clause-new
 returns-then-old-self-clause-new c =
     let s = c.self.inside in
-    let h = held s.key_len s.value_len s.limit s.cells.items s.first s.last s.keys.items s.values.items c.args.slot
-    c.args.self.now c.self.view_is c.self.invariant c.requires in
-    let at = slice_get_read s.cells.items (length s.cells.items) c.args.slot c.index-old.result.now refl h.inside c.index-old.ensures in
+    let at = old_at (goal.at.returns-then-old-self-clause-new c).After-index-old in
     ap (λ (d : SlotCell). arena_state_of (slice_set s.cells.items c.args.slot d) s.first s.keys.items s.values.items
     s.key_len s.value_len s.limit) c.given_cell.ensures
     ∙ worn-state s.key_len s.value_len s.limit s.cells.items s.first s.last s.keys.items s.values.items c.args.slot
@@ -84,9 +83,7 @@ returns-then-old-self-clause-new c =
 pub append-self-inside-requires : goal.append-self-inside-requires
 append-self-inside-requires c =
     let s = c.self.inside in
-    let h = held s.key_len s.value_len s.limit s.cells.items s.first s.last s.keys.items s.values.items c.args.slot
-    c.args.self.now c.self.view_is c.self.invariant c.requires in
-    let at = slice_get_read s.cells.items (length s.cells.items) c.args.slot c.index-old.result.now refl h.inside c.index-old.ensures in
+    let at = old_at (goal.at.append-self-inside-requires c).After-index-old in
     subst (λ (d : SlotCell). IfSome s.last (λ l. l < length (slice_set s.cells.items c.args.slot d)))
     (sym c.given_cell-2.ensures) (last-inside s.key_len s.value_len s.limit s.cells.items s.first s.last
     s.keys.items s.values.items c.args.slot c.args.self.now c.self.view_is c.self.invariant c.requires
@@ -95,9 +92,7 @@ append-self-inside-requires c =
 pub invariant_of-self-2 : goal.invariant_of-self-2
 invariant_of-self-2 c =
     let s = c.self.inside in
-    let h = held s.key_len s.value_len s.limit s.cells.items s.first s.last s.keys.items s.values.items c.args.slot
-    c.args.self.now c.self.view_is c.self.invariant c.requires in
-    let at = slice_get_read s.cells.items (length s.cells.items) c.args.slot c.index-old.result.now refl h.inside c.index-old.ensures in
+    let at = old_at (goal.at.invariant_of-self-2 c).After-index-old in
     let cells = c.append-self-inside.ensures.cells ∙ ap
     (λ (d : SlotCell). linked_behind (slice_set s.cells.items c.args.slot d) s.last c.args.slot)
     c.given_cell-2.ensures in
@@ -115,9 +110,7 @@ invariant_of-self-2 c =
 pub returns-clause-given : goal.returns-clause-given
 returns-clause-given c =
     let s = c.self.inside in
-    let h = held s.key_len s.value_len s.limit s.cells.items s.first s.last s.keys.items s.values.items c.args.slot
-    c.args.self.now c.self.view_is c.self.invariant c.requires in
-    let at = slice_get_read s.cells.items (length s.cells.items) c.args.slot c.index-old.result.now refl h.inside c.index-old.ensures in
+    let at = old_at (goal.at.returns-clause-given c).After-index-old in
     told s.key_len s.value_len s.limit s.cells.items s.first s.last s.keys.items s.values.items c.args.slot
     c.args.self.now c.self.view_is c.self.invariant c.requires c.index-old.result.now at false
     (false_from_ne_true _ (λ y. c.if-old-self.false (eqb-true _ _ y)))
@@ -125,9 +118,7 @@ returns-clause-given c =
 pub returns-clause-new : goal.returns-clause-new
 returns-clause-new c =
     let s = c.self.inside in
-    let h = held s.key_len s.value_len s.limit s.cells.items s.first s.last s.keys.items s.values.items c.args.slot
-    c.args.self.now c.self.view_is c.self.invariant c.requires in
-    let at = slice_get_read s.cells.items (length s.cells.items) c.args.slot c.index-old.result.now refl h.inside c.index-old.ensures in
+    let at = old_at (goal.at.returns-clause-new c).After-index-old in
     let cells = c.append-self-inside.ensures.cells ∙ ap
     (λ (d : SlotCell). linked_behind (slice_set s.cells.items c.args.slot d) s.last c.args.slot)
     c.given_cell-2.ensures in

@@ -10,16 +10,16 @@ use Rattle.hash_index.proofs.sorted.SortedIndex.unlink.Goals as goal
 pub leave-requires-clause-at : goal.leave-requires-clause-at
 leave-requires-clause-at c =
     let same = found_same (key_at c.args.arena.now.slots) c.args.self.now.slots.items c.args.key.now _ c.in-Some.slot
-    c.locate-place.ensures.slot c.in-Some.is in
-    stands_at (key_at c.args.arena.now.slots) c.args.self.now.slots.items c.args.key.now c.locate-place.result.home
-    c.in-Some.slot c.requires.fits.order c.locate-place.ensures.place same.0 same.1
+    c.find-place.ensures.slot c.in-Some.is in
+    stands_at (key_at c.args.arena.now.slots) c.args.self.now.slots.items c.args.key.now c.find-place.result.home
+    c.in-Some.slot c.requires.fits.order c.find-place.ensures.place same.0 same.1
 
 pub returns-in-None-clause-contents : goal.returns-in-None-clause-contents
 returns-in-None-clause-contents c = sym (remove_absent (sorted_contents c.args.self.now c.args.arena.now)
-    c.args.key.now (sym c.locate-place.ensures.slot ∙ c.in-None.is))
+    c.args.key.now (sym c.find-place.ensures.slot ∙ c.in-None.is))
 
 pub returns-in-Some-clause-contents : goal.returns-in-Some-clause-contents
 returns-in-Some-clause-contents c =
     let same = found_same (key_at c.args.arena.now.slots) c.args.self.now.slots.items c.args.key.now _ c.in-Some.slot
-    c.locate-place.ensures.slot c.in-Some.is in
+    c.find-place.ensures.slot c.in-Some.is in
     c.leave.ensures.contents ∙ ap (map.remove (sorted_contents c.args.self.now c.args.arena.now)) same.1

@@ -11,20 +11,26 @@ use Rattle.maps.specs.Parted.{PartsView}
 use Rattle.maps.specs.Shown.{map_view}
 use Rattle.maps.proofs.Counting.{reaped-counted}
 use Rattle.maps.proofs.Leaving.{given-is, reaped-shown}
+use Rattle.maps.proofs.hash_map.HashMapMapTable.reap.Given.{Over}
+use Rattle.maps.proofs.hash_map.HashMapMapTable.reap.Goals.{In-Some}
 use Rattle.maps.proofs.hash_map.HashMapMapTable.reap.Goals as goal
+
+-- the slot that was reaped is one of the arena's, and not worn
+unworn : (g : Over) (c : In-Some g) → (worn_at c.self.inside.parts.arena.worn c.in-Some.slot ≡ 0)
+    × (c.in-Some.slot < length c.self.inside.parts.arena.worn)
+unworn g c =
+    let held = c.in-Some.ensures.held in
+    let parted = c.in-Some.ensures.parted in
+    let in_slots : c.in-Some.slot < length c.reap.new.self.arena.slots = held.taken.inside in
+    let flags : length c.reap.new.self.arena.worn ≡ length c.reap.new.self.arena.slots = parted.flags in
+    let in_worn : c.in-Some.slot < length c.reap.new.self.arena.worn = omega arith in (
+      ap (λ (p : PartsView). worn_at p.arena.worn c.in-Some.slot) (sym c.in-Some.ensures.new) ∙ held.taken.not_worn,
+      subst (λ (p : PartsView). c.in-Some.slot < length p.arena.worn) c.in-Some.ensures.new in_worn,
+    )
 
 pub returns-in-Some-clause-some : goal.returns-in-Some-clause-some
 returns-in-Some-clause-some g c =
-    let held = c.in-Some.ensures.held in
-    let parted = c.in-Some.ensures.parted in
-    let worn : worn_at c.self.inside.parts.arena.worn c.in-Some.slot ≡ 0 =
-    ap (λ (p : PartsView). worn_at p.arena.worn c.in-Some.slot) (sym c.in-Some.ensures.new) ∙
-    held.taken.not_worn in
-    let in_slots : c.in-Some.slot < length c.reap.new.self.arena.slots = held.taken.inside in
-    let flags : length c.reap.new.self.arena.worn ≡ length c.reap.new.self.arena.slots = parted.flags in
-    let in_worn : c.in-Some.slot < length c.reap.new.self.arena.worn = omega arith in
-    let in_ : c.in-Some.slot < length c.self.inside.parts.arena.worn =
-    subst (λ (p : PartsView). c.in-Some.slot < length p.arena.worn) c.in-Some.ensures.new in_worn in
+    let one = unworn g (goal.at.returns-in-Some-clause-some g c).In-Some in
     record {
       slot = c.in-Some.slot;
       first = ap (λ (v : MapView). slice_get v.ready 0) (sym c.self.view_is) ∙ sym c.in-Some.ensures.first;
@@ -41,22 +47,13 @@ returns-in-Some-clause-some g c =
           ∙ (ap (λ (p : PartsView). map_view c.self.inside.shape
           (record { index = p.index; lists = p.lists; arena = given_back p.arena c.in-Some.slot }))
           c.in-Some.ensures.new
-          ∙ (reaped-shown c.self.inside.shape c.self.inside.parts c.in-Some.slot c.reap.new.self.arena.links c.self.invariant.kept.arena worn in_
+          ∙ (reaped-shown c.self.inside.shape c.self.inside.parts c.in-Some.slot c.reap.new.self.arena.links c.self.invariant.kept.arena one.0 one.1
           ∙ ap (λ (v : MapView). reaped_view v c.in-Some.slot) c.self.view_is));
     }
 
 pub invariant_of-self-in-Some : goal.invariant_of-self-in-Some
 invariant_of-self-in-Some g c =
-    let held = c.in-Some.ensures.held in
-    let parted = c.in-Some.ensures.parted in
-    let worn : worn_at c.self.inside.parts.arena.worn c.in-Some.slot ≡ 0 =
-    ap (λ (p : PartsView). worn_at p.arena.worn c.in-Some.slot) (sym c.in-Some.ensures.new) ∙
-    held.taken.not_worn in
-    let in_slots : c.in-Some.slot < length c.reap.new.self.arena.slots = held.taken.inside in
-    let flags : length c.reap.new.self.arena.worn ≡ length c.reap.new.self.arena.slots = parted.flags in
-    let in_worn : c.in-Some.slot < length c.reap.new.self.arena.worn = omega arith in
-    let in_ : c.in-Some.slot < length c.self.inside.parts.arena.worn =
-    subst (λ (p : PartsView). c.in-Some.slot < length p.arena.worn) c.in-Some.ensures.new in_worn in
+    let one = unworn g (goal.at.invariant_of-self-in-Some g c).In-Some in
     let is : c.give-given.new.self ≡ record {
       index = c.self.inside.parts.index;
       lists =
@@ -76,4 +73,4 @@ invariant_of-self-in-Some g c =
     c.reap.new.self.arena.links c.give-given.result c.self.inside.counts c.self.invariant
     (sym c.in-Some.ensures.first) is given
     (ap (map_view c.self.inside.shape) is ∙ reaped-shown c.self.inside.shape c.self.inside.parts c.in-Some.slot
-    c.reap.new.self.arena.links c.self.invariant.kept.arena worn in_))
+    c.reap.new.self.arena.links c.self.invariant.kept.arena one.0 one.1))

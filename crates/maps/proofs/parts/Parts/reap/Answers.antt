@@ -4,24 +4,33 @@ use Rattle.element_store.specs.State.{ArenaState}
 use Rattle.element_store.specs.Queued.{reaped_lists}
 use Rattle.element_store.specs.Deferred.{deferred_lists}
 use Rattle.maps.specs.Parted.{PartsView, IsParted, IsInHand}
+use Rattle.maps.proofs.Becoming.{Become}
 use Rattle.maps.proofs.Parting.{reaped-held}
 use Rattle.maps.proofs.Moves.{reaped-step, held-links}
+use Rattle.maps.proofs.parts.Parts.reap.Given.{Over}
+use Rattle.maps.proofs.parts.Parts.reap.Goals.{After-reap}
 use Rattle.maps.proofs.parts.Parts.reap.Goals as goal
 
-pub invariant_of-self : goal.invariant_of-self
-invariant_of-self g c = (reaped-step g.row.I.Denot g.I.Index.contents g.I.Index.fits g.met.I.Index.frame
+-- the parts once the first of the ready slots left
+reaped : (g : Over) (c : After-reap g) → Become g.row.I.Denot g.I.Index.contents g.I.Index.fits c.self.inside.index
+    c.reap.new.self c.reap.new.arena (record {
+      index = g.I.Index.contents c.self.inside.index c.self.inside.arena;
+      lists = reaped_lists (deferred_lists c.self.inside.deferred c.self.inside.arena);
+      arena = c.reap.new.arena;
+    })
+reaped g c = reaped-step g.row.I.Denot g.I.Index.contents g.I.Index.fits g.met.I.Index.frame
     c.self.inside.index c.self.inside.deferred c.reap.new.self c.self.inside.arena c.reap.new.arena c.self.invariant
-    c.reap.ensures.lists c.reap.ensures.fits c.reap.ensures.links).0
+    c.reap.ensures.lists c.reap.ensures.fits c.reap.ensures.links
+
+pub invariant_of-self : goal.invariant_of-self
+invariant_of-self g c = (reaped g (goal.at.invariant_of-self g c).After-reap).0
 
 pub returns-clause-first : goal.returns-clause-first
 returns-clause-first g c = c.reap.ensures.first ∙ ap (λ (p : PartsView). slice_get p.lists.ready 0) c.self.view_is
 
 pub returns-clause-new : goal.returns-clause-new
 returns-clause-new g c =
-    let s = reaped-step g.row.I.Denot g.I.Index.contents g.I.Index.fits g.met.I.Index.frame c.self.inside.index
-    c.self.inside.deferred c.reap.new.self c.self.inside.arena c.reap.new.arena c.self.invariant
-    c.reap.ensures.lists c.reap.ensures.fits c.reap.ensures.links in
-    s.1
+    (reaped g (goal.at.returns-clause-new g c).After-reap).1
     ∙ (ap (λ (z : ArenaState). let r : PartsView = record {
       index =
           g.I.Index.contents c.self.inside.index c.self.inside.arena;
@@ -45,18 +54,13 @@ held (Some i) p r b h e l s = subst (λ z. IsInHand z i) (sym s) (held-links p.i
 
 pub returns-clause-held : goal.returns-clause-held
 returns-clause-held g c =
-    let s = reaped-step g.row.I.Denot g.I.Index.contents g.I.Index.fits g.met.I.Index.frame c.self.inside.index
-    c.self.inside.deferred c.reap.new.self c.self.inside.arena c.reap.new.arena c.self.invariant
-    c.reap.ensures.lists c.reap.ensures.fits c.reap.ensures.links in
     held c.reap.result (record {
       index = g.I.Index.contents c.self.inside.index c.self.inside.arena;
       lists =
           deferred_lists c.self.inside.deferred c.self.inside.arena;
       arena = c.self.inside.arena;
     }) _ c.reap.new.arena
-    c.self.invariant.1 c.reap.ensures.first c.reap.ensures.links.rest s.1
+    c.self.invariant.1 c.reap.ensures.first c.reap.ensures.links.rest (reaped g (goal.at.returns-clause-held g c).After-reap).1
 
 pub returns-clause-parted : goal.returns-clause-parted
-returns-clause-parted g c = (reaped-step g.row.I.Denot g.I.Index.contents g.I.Index.fits g.met.I.Index.frame
-    c.self.inside.index c.self.inside.deferred c.reap.new.self c.self.inside.arena c.reap.new.arena c.self.invariant
-    c.reap.ensures.lists c.reap.ensures.fits c.reap.ensures.links).0.1
+returns-clause-parted g c = (reaped g (goal.at.returns-clause-parted g c).After-reap).0.1

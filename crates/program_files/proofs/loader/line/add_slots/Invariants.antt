@@ -1,5 +1,5 @@
 use Rattle.std.proofs.Common.{length}
-use Rattle.program_files.specs.Reading.{words_left}
+use Rattle.program_files.specs.Stages.{words_left}
 use Rattle.program_files.proofs.Slots.{HasSlots}
 use Rattle.program_files.proofs.loader.line.add_slots.Given as goal
 

@@ -1,6 +1,6 @@
 use Rattle.std.proofs.Common.{rules, subst, take_all}
-use Rattle.program_files.specs.Reading.{HasNoByte}
-use Rattle.program_files.proofs.Splitting.{no_byte_more}
+use Rattle.program_files.specs.Stages.{HasNoByte}
+use Rattle.program_files.proofs.Cuts.{no_byte_more}
 use Rattle.program_files.proofs.loader.words.cut.Goals as goal
 
 pub loop-index-preserved : goal.loop-index-preserved

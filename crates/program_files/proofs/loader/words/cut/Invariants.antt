@@ -1,5 +1,5 @@
 use Rattle.std.proofs.Common.{take}
-use Rattle.program_files.specs.Reading.{HasNoByte}
+use Rattle.program_files.specs.Stages.{HasNoByte}
 use Rattle.program_files.proofs.loader.words.cut.Given as goal
 
 abbrev pub invariant-loop-index : goal.invariant-loop-index

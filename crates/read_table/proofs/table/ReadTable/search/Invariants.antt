@@ -1,4 +1,4 @@
-use Rattle.std.proofs.Common.{ℕ, ◌<◌, ◌≤◌, List}
+use Rattle.std.proofs.Common.{ℕ, ◌+◌, ◌*◌, ◌<◌, ◌≤◌, List, length}
 use Rattle.read_table.specs.declared.view.Move.{Move}
 use Rattle.read_table.specs.Lookups.{OnlySearches, Refuted}
 use Rattle.read_table.specs.Held.{Goes}
@@ -6,4 +6,5 @@ use Rattle.read_table.proofs.table.ReadTable.search.Given as goal
 
 abbrev pub invariant-loop-slot : goal.invariant-loop-slot
 invariant-loop-slot l = (ms : List Move) × Goes l.fn.seat ms l.seat × OnlySearches l.self.shape ms ×
-    ((s : ℕ) → l.low ≤ s → s < l.slot → Refuted l.self.shape l.key s ms)
+    ((s : ℕ) → l.low ≤ s → s < l.slot → Refuted l.self.shape l.key s ms) ×
+    (length ms + l.low * (1 + l.self.shape.key_words) ≤ l.slot * (1 + l.self.shape.key_words))

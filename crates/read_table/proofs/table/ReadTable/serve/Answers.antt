@@ -67,7 +67,7 @@ returns-in-Call-Lookup c =
     let sized = subst (λ (k : TableShape). IsSized k) c.shape-shape.ensures.shape c.shape-shape.ensures.sized in
     let l = c.look_up.ensures in
     let asked : c.args.request ≡ Call Lookup = search (rules, c.in-Call-Lookup.is, c.in-Call-Lookup.helper-is) in
-    (l.0, l.2, serves-lookup c.args.self.now.shape c.args.run.now.view c.args.request l.0 l.1 c.look_up.result asked sized l.3 l.4 l.5)
+    (l.0, l.2, serves-lookup c.args.self.now.shape c.args.run.now.view c.args.request l.0 l.1 c.look_up.result asked sized l.3 l.4 l.5 l.6)
 
 pub returns-in-Enter : goal.returns-in-Enter
 returns-in-Enter c = (opening c.args.run.now.view.depth, c.enter.ensures, serves-enter c.args.self.now.shape c.args.run.now.view c.args.request c.in-Enter.is)

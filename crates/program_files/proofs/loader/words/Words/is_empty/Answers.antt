@@ -1,4 +1,4 @@
-use Rattle.program_files.proofs.Splitting.{words_some}
+use Rattle.program_files.proofs.Cuts.{words_some}
 use Rattle.program_files.proofs.loader.words.Words.is_empty.Goals as goal
 
 pub returns-clause-more : goal.returns-clause-more

@@ -1,6 +1,6 @@
 use Rattle.std.proofs.Common.{◌∙◌, ap}
-use Rattle.program_files.specs.Reading.{words_left}
-use Rattle.program_files.proofs.Splitting.{word_cut}
+use Rattle.program_files.specs.Stages.{words_left}
+use Rattle.program_files.proofs.Cuts.{word_cut}
 use Rattle.program_files.proofs.loader.words.Words.word.Goals as goal
 
 pub returns-clause-some : goal.returns-clause-some

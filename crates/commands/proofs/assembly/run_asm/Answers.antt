@@ -1,0 +1,10 @@
+use Rattle.std.proofs.Common.{◌∙◌, subst}
+use Rattle.std.proofs.lemmas.Option.{IfSome_then}
+use Rattle.commands.specs.Assembled.{IsTextFault}
+use Rattle.commands.proofs.assembly.run_asm.Goals as goal
+
+pub returns-clause-refused : goal.returns-clause-refused
+returns-clause-refused g c =
+    let why = c.in-Err-make_code.why in
+    λ is. IfSome_then (g.R.Read.remaining c.args.input.now) c.in-Ok.ensures
+    (λ bytes same. (why, c.flawed.ensures.refused is, subst (λ z. IsTextFault z why) (c.deref.ensures.value ∙ same) c.in-Err-make_code.ensures.fault))

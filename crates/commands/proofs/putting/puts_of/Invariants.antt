@@ -1,8 +1,0 @@
-use Rattle.std.proofs.Common.{◌≡◌, map, take}
-use Rattle.commands.specs.Runs.{put_event, AllFit}
-use Rattle.commands.proofs.putting.puts_of.Given as goal
-
-abbrev pub invariant-loop-number : goal.invariant-loop-number
-invariant-loop-number l =
-    AllFit l.registry (take l.number l.elements)
-    × (l.puts.items ≡ map (put_event l.registry) (take l.number l.elements))

@@ -1,0 +1,144 @@
+//! Running a command.
+ghost use Rattle.std.specs.Prelude.{◌≡◌, ◌⊎◌, IfSome, OnOk, codes};
+ghost use Rattle.std.specs.Io.KnownBytes.{Appends};
+ghost use Rattle.program_files.specs.Verdicts.{memory_number};
+ghost use Rattle.commands.specs.Outputs.{IsRefusedByDecode, IsRefusedByCheck, accepted_line, WritesAccepted, WritesText};
+ghost use Rattle.commands.specs.Commands.{ReadsFile, Refuses, Writes};
+
+use crate::assembly::run_asm;
+use crate::filter::run_filter;
+use crate::pool::{PoolSize, run_pool};
+use crate::report::refused;
+use crate::request::{BpfrtCommand, VERSION};
+use crate::script::run_lines;
+use crate::single::run_single;
+use crate::streams::{unread, write_text, written};
+use program_files::{Accepted, FileBytes, Verdict, check, explain, read_file, text_of};
+use std::alloc::Global;
+use std::io;
+use std::io::{Read, Write};
+use std::sync::Wait;
+use std::thread::Threads;
+
+fn write_version<W: Write>(out: &mut W) -> io::Result<()>
+    ensures { OnOk result (Appends (W.contents out.old) (W.contents out.new) (codes "bpfrt 0.1.0\n")) }
+{
+    writeln!(out, "bpfrt {VERSION}")?;
+    out.flush()
+}
+
+fn write_accepted<W: Write>(out: &mut W, accepted: &Accepted) -> io::Result<()>
+    ensures { OnOk result (Appends (W.contents out.old) (W.contents out.new)
+        (accepted_line accepted.now.instructions accepted.now.slots)) }
+{
+    writeln!(
+        out,
+        "accepted {} instructions {} slots",
+        accepted.instructions, accepted.slots
+    )?;
+    out.flush()
+}
+
+/// Tells a verdict on a file, in words too where it is asked for, and answers the status.
+fn told<E: Write>(
+    alloc: Global,
+    file: &FileBytes,
+    verdict: Verdict,
+    in_words: bool,
+    err: &mut E,
+) -> u8
+    ensures status { (result ≡ 1) ⊎ (result ≡ 3) }
+    ensures memory { verdict.code ≡ memory_number → result ≡ 3 }
+{
+    let status = refused(err, verdict);
+    if in_words && status == 1 {
+        let _ = explain(alloc, file, &verdict, err);
+    }
+    status
+}
+
+/// Checks the program that the input, a program file, says.
+fn run_check<R: Read, W: Write, E: Write>(
+    alloc: Global,
+    in_words: bool,
+    input: &mut R,
+    out: &mut W,
+    err: &mut E,
+) -> u8
+    ensures status { (result ≡ 0) ⊎ (result ≡ 1) ⊎ (result ≡ 3) }
+    ensures accepted { result ≡ 0 → IfSome (R.remaining input.old)
+        (WritesAccepted (W.contents out.old) (W.contents out.new)) }
+    ensures refused { result ≡ 1 → IfSome (R.remaining input.old) IsRefusedByCheck }
+    ensures silent { result ≡ 1 → out.new ≡ out.old }
+{
+    let file = match read_file(alloc, input) {
+        Ok(file) => file,
+        Err(error) => return unread(err, &error),
+    };
+    match check(alloc, &file) {
+        Ok(accepted) => written(err, write_accepted(out, &accepted)),
+        Err(verdict) => told(alloc, &file, verdict, in_words, err),
+    }
+}
+
+/// Writes the text of the program that the input, a program file, says.
+fn run_disasm<R: Read, W: Write, E: Write>(
+    alloc: Global,
+    input: &mut R,
+    out: &mut W,
+    err: &mut E,
+) -> u8
+    ensures status { (result ≡ 0) ⊎ (result ≡ 1) ⊎ (result ≡ 3) }
+    ensures text { result ≡ 0 → IfSome (R.remaining input.old)
+        (WritesText (W.contents out.old) (W.contents out.new)) }
+    ensures refused { result ≡ 1 → IfSome (R.remaining input.old) IsRefusedByDecode }
+    ensures silent { result ≡ 1 → out.new ≡ out.old }
+{
+    let file = match read_file(alloc, input) {
+        Ok(file) => file,
+        Err(error) => return unread(err, &error),
+    };
+    match text_of(alloc, &file) {
+        Ok(text) => written(err, write_text(out, text.as_bytes())),
+        Err(verdict) => refused(err, verdict),
+    }
+}
+
+/// Runs a command on its input, its file's bytes or a script, and answers the exit status: 0 fine, 1
+/// refused or a line that is wrong, 3 a fault of memory (13), of a job's result (92), of reading (96)
+/// or of writing (97). A refusal or a fault is one line on `err`. After a refusal of a file nothing
+/// was written on `out`, and after line L of a script is wrong (95) the answers of the lines before;
+/// after a fault of writing, of a script or of a pool a part may have been. Which fault it was, and that there was one, no
+/// clause says: status 3 tells nothing. That a pool returns is not claimed: it waits for a lock.
+pub fn run<H: Threads + Wait + Sync, R: Read, W: Write, E: Write>(
+    rt: &H,
+    alloc: Global,
+    command: &BpfrtCommand,
+    input: &mut R,
+    out: &mut W,
+    err: &mut E,
+) -> u8
+    ensures status { (result ≡ 0) ⊎ (result ≡ 1) ⊎ (result ≡ 3) }
+    ensures fine { result ≡ 0 → IfSome (R.remaining input.old)
+        (Writes command.now (W.contents out.old) (W.contents out.new)) }
+    ensures refused { result ≡ 1 → IfSome (R.remaining input.old)
+        (Refuses command.now (W.contents out.old) (W.contents out.new)) }
+    ensures silent { result ≡ 1 → ReadsFile command.now → out.new ≡ out.old }
+{
+    match command {
+        BpfrtCommand::Check { explain, .. } => run_check(alloc, *explain, input, out, err),
+        BpfrtCommand::Disasm { .. } => run_disasm(alloc, input, out, err),
+        BpfrtCommand::Asm { whole, .. } => run_asm(alloc, *whole, input, out, err),
+        BpfrtCommand::Script => run_lines(alloc, input, out, err),
+        BpfrtCommand::Version => written(err, write_version(out)),
+        BpfrtCommand::Pool { workers, count, .. } => {
+            let size = PoolSize {
+                workers: *workers,
+                count: *count,
+            };
+            run_pool(rt, alloc, size, input, out, err)
+        }
+        BpfrtCommand::Run { single, .. } => run_single(alloc, single, input, out, err),
+        BpfrtCommand::Filter { kind, .. } => run_filter(alloc, *kind, input, out, err),
+    }
+}

@@ -1,0 +1,189 @@
+//! The program file of a classic program.
+ghost use Rattle.std.specs.Prelude.{◌≡◌, ◌≢◌, ◌⊎◌, IfOk, IfErr, IfSome, IsTrue};
+ghost use Rattle.classic.specs.Context.{context_bytes};
+ghost use Rattle.program_files.specs.ProgramFile.{IsLoadFault};
+ghost use Rattle.commands.specs.Filters.{
+  IsFileOfCode,
+  IsFilterFault,
+  IsFilterFile,
+  IsRefusedByFilter,
+  WritesFilter,
+  IsListed,
+};
+
+use crate::heads::{lines_in, text_of};
+use crate::report::fault;
+use crate::streams::{unread, write_text, written};
+use classic::{
+    ClassicFault, Data, ReadFault, SockFilter, TranslateFault, check, read_filter_array,
+    read_listing, translate,
+};
+use insn_codec::encode;
+use program_files::{LoadFault, MEMORY, load, read_text};
+use std::alloc::Global;
+use std::io::{Read, Write};
+use std::str;
+
+/// Why bytes are no classic program, or have no program file.
+#[derive(Clone, Copy, Debug, PartialEq, Eq)]
+pub enum FilterFault {
+    /// This line is the first that is not UTF-8.
+    NotUtf8 { line: usize },
+    /// The bytes are no listing, or no array of instructions.
+    Unread(ReadFault),
+    /// The instructions are no program.
+    Flawed(ClassicFault),
+    /// The program has no translation.
+    Untranslated(TranslateFault),
+    /// An allocation failed.
+    Memory,
+}
+
+/// The head of a program file for contexts of these data.
+fn head_for(kind: Data) -> &'static str {
+    match kind {
+        Data::Packet => "ctx 256",
+        Data::Seccomp => "ctx 64",
+    }
+}
+
+/// Whether a program file says a program of these bytes, without maps, on a context of these data.
+fn says(alloc: Global, file: &[u8], kind: Data, code: &[u8]) -> Result<bool, LoadFault>
+    ensures { IfOk result (λ yes. IsTrue yes → IsFileOfCode kind code.now file.now) }
+{
+    let said = load(alloc, file)?;
+    Ok(
+        said.code.as_slice() == code
+            && said.ctx_len == kind.context_len()
+            && said.registry.len() == 0,
+    )
+}
+
+/// A program file that says a program of these bytes. What is made is read again, so that nothing is written that says
+/// otherwise.
+fn file_for(alloc: Global, kind: Data, code: &[u8]) -> Result<Vec<u8>, FilterFault>
+    ensures file { IfOk result (λ file. IsFileOfCode kind code.now file.items) }
+    ensures fault { IfErr result (λ e. e ≡ FilterFault.Memory) }
+{
+    let Ok(file) = text_of(alloc, head_for(kind), code) else {
+        return Err(FilterFault::Memory);
+    };
+    match says(alloc, &file, kind, code) {
+        Ok(true) => Ok(file),
+        _ => Err(FilterFault::Memory),
+    }
+}
+
+/// The instructions that a text lists.
+fn listed_in_text(alloc: Global, bytes: &[u8]) -> Result<Vec<SockFilter>, FilterFault>
+    ensures listed { IfOk result (λ filter. IsListed Data.Packet bytes.now filter.items) }
+    ensures fault { IfErr result (IsFilterFault Data.Packet bytes.now) }
+{
+    let text = match str::from_utf8(bytes) {
+        Ok(text) => text,
+        Err(error) => {
+            let line = lines_in(&bytes[..error.valid_up_to()]).saturating_add(1);
+            return Err(FilterFault::NotUtf8 { line });
+        }
+    };
+    match read_listing(alloc, text) {
+        Ok(filter) => Ok(filter),
+        Err(ReadFault::Memory) => Err(FilterFault::Memory),
+        Err(fault) => Err(FilterFault::Unread(fault)),
+    }
+}
+
+/// The instructions that an array lists.
+fn listed_in_array(alloc: Global, bytes: &[u8]) -> Result<Vec<SockFilter>, FilterFault>
+    ensures listed { IfOk result (λ filter. IsListed Data.Seccomp bytes.now filter.items) }
+    ensures fault { IfErr result (IsFilterFault Data.Seccomp bytes.now) }
+{
+    match read_filter_array(alloc, bytes) {
+        Ok(filter) => Ok(filter),
+        Err(ReadFault::Memory) => Err(FilterFault::Memory),
+        Err(fault) => Err(FilterFault::Unread(fault)),
+    }
+}
+
+/// The instructions that a text or an array lists.
+fn listed(alloc: Global, kind: Data, bytes: &[u8]) -> Result<Vec<SockFilter>, FilterFault>
+    ensures listed { IfOk result (λ filter. IsListed kind bytes.now filter.items) }
+    ensures fault { IfErr result (IsFilterFault kind bytes.now) }
+{
+    match kind {
+        Data::Packet => listed_in_text(alloc, bytes),
+        Data::Seccomp => listed_in_array(alloc, bytes),
+    }
+}
+
+/// The program file of a classic program.
+fn make_file(alloc: Global, kind: Data, bytes: &[u8]) -> Result<Vec<u8>, FilterFault>
+    ensures file { IfOk result (λ file. IsFilterFile kind bytes.now file.items) }
+    ensures fault { IfErr result (IsFilterFault kind bytes.now) }
+{
+    let filter = listed(alloc, kind, bytes)?;
+    let program = match check(alloc, &filter, kind) {
+        Ok(program) => program,
+        Err(ClassicFault::Memory) => return Err(FilterFault::Memory),
+        Err(fault) => return Err(FilterFault::Flawed(fault)),
+    };
+    let translation = match translate(alloc, &program) {
+        Ok(translation) => translation,
+        Err(TranslateFault::Memory) => return Err(FilterFault::Memory),
+        Err(fault) => return Err(FilterFault::Untranslated(fault)),
+    };
+    let Ok(code) = encode(alloc, &translation) else {
+        return Err(FilterFault::Memory);
+    };
+    file_for(alloc, kind, &code)
+}
+
+/// Writes `refused C`, or `refused C at N` for a line or an instruction.
+fn tell_refusal<E: Write>(err: &mut E, code: u8, place: Option<usize>) {
+    let _ = match place {
+        Some(place) => writeln!(err, "refused {code} at {place}"),
+        None => writeln!(err, "refused {code}"),
+    };
+}
+
+/// Writes why bytes are no classic program, or have no program file, or the fault where memory ran out, and answers the
+/// status.
+fn told<E: Write>(err: &mut E, why: &FilterFault) -> u8
+    ensures status { (result ≡ 1) ⊎ (result ≡ 3) }
+    ensures refused { result ≡ 1 → why.now ≢ FilterFault.Memory }
+{
+    match why {
+        FilterFault::Memory => return fault(err, MEMORY),
+        FilterFault::NotUtf8 { line } => {
+            tell_refusal(err, ReadFault::BadLine(*line).code(), Some(*line));
+        }
+        FilterFault::Unread(fault) => tell_refusal(err, fault.code(), fault.line()),
+        FilterFault::Flawed(fault) => tell_refusal(err, fault.code(), fault.instruction()),
+        FilterFault::Untranslated(fault) => tell_refusal(err, fault.code(), fault.instruction()),
+    }
+    1
+}
+
+/// Writes the program file of the classic program that the input is.
+pub fn run_filter<R: Read, W: Write, E: Write>(
+    alloc: Global,
+    kind: Data,
+    input: &mut R,
+    out: &mut W,
+    err: &mut E,
+) -> u8
+    ensures status { (result ≡ 0) ⊎ (result ≡ 1) ⊎ (result ≡ 3) }
+    ensures file { result ≡ 0 → IfSome (R.remaining input.old)
+        (WritesFilter kind (W.contents out.old) (W.contents out.new)) }
+    ensures refused { result ≡ 1 → IfSome (R.remaining input.old) (IsRefusedByFilter kind) }
+    ensures silent { result ≡ 1 → out.new ≡ out.old }
+{
+    let bytes = match read_text(alloc, input) {
+        Ok(bytes) => bytes,
+        Err(error) => return unread(err, &error),
+    };
+    match make_file(alloc, kind, &bytes) {
+        Ok(file) => written(err, write_text(out, &file)),
+        Err(why) => told(err, &why),
+    }
+}

@@ -1,6 +1,0 @@
-use Rattle.std.proofs.Common.{◌≡◌, ℕ, ◌<◌}
-use Rattle.std.specs.Prelude.{slice_get, Some}
-use Rattle.control.proofs.asking.naming.map_named.Given as goal
-
-abbrev pub invariant-loop-number : goal.invariant-loop-number
-invariant-loop-number l = (map : ℕ) → map < l.number → slice_get l.maps.names map ≡ Some l.name → ⊥

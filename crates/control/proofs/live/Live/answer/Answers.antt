@@ -1,0 +1,27 @@
+use Rattle.std.proofs.Common.{◌≡◌, List, ◌++◌, subst}
+use Rattle.std.specs.Prelude.{OnOk, Ok, Err}
+use Rattle.std.specs.List.{flat_map}
+use Rattle.script_lines.specs.declared.reply.Reply.{Reply}
+use Rattle.script_lines.specs.ReplyText.{reply_text}
+use Rattle.control.specs.Questions.{IsAsked}
+use Rattle.control.specs.Lives.{IsReplied, LiveReplies}
+use Rattle.control.proofs.live.Live.answer.Goals as goal
+
+pub returns : goal.returns
+returns c = elim (c.answer_asked.result) as (λ r. OnOk r
+    (IsReplied c.args.self.now c.ask-asked.result c.args.out.now.items c.answer_asked.new.out.items
+    c.answer_asked.new.self) → OnOk r ((replies : List Reply) ×
+    LiveReplies c.args.self.now c.args.command replies c.answer_asked.new.self ×
+    (c.answer_asked.new.out.items ≡ c.args.out.now.items ++ flat_map reply_text replies))) [
+      | Ok u ↦ λ e. (
+        e.replies,
+        record {
+          asked = c.ask-asked.result;
+          is_asked =
+              subst (λ names. IsAsked names c.args.command c.ask-asked.result) c.registry.ensures.names c.ask-asked.ensures;
+          served = e.served;
+        },
+        e.text,
+      )
+      | Err u ↦ λ e. tt
+    ] c.answer_asked.ensures

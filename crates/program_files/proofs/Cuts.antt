@@ -1,0 +1,68 @@
+-- Bytes that are cut at the first of one byte: words and lines.
+use Rattle.std.proofs.Common.{◌≡◌, ◌≢◌, ℕ, ◌+◌, ◌<◌, ◌==◌, Bool, true, false, not, cond, List, [], ◌∷◌, ◌++◌, length}
+use Rattle.std.proofs.Common.{get_or, take, Bor, refl, sym, ap, subst, ◌∙◌}
+use Rattle.std.specs.Prelude.{Option, Some, None, is_some, MatchOption}
+use Rattle.std.specs.List.{onto_first}
+use Rattle.std.proofs.lemmas.Bool.{cond-false, false≢true, ne_eqb}
+use Rattle.std.proofs.lemmas.List.{take_more}
+use Rattle.std.proofs.lemmas.List.Elements.{All-nil, All-cons, All-head, All-tail, All-append}
+use Rattle.program_files.specs.Lines.{file_words}
+use Rattle.script_stream.specs.Lines.{lines_of}
+use Rattle.program_files.specs.Stages.{HasNoByte, words_left}
+
+-- one byte more that is another
+pub no_byte_more : (at : ℕ) (bytes : List ℕ) (i : ℕ) → i < length bytes → HasNoByte at (take i bytes) →
+    get_or bytes i 0 ≢ at → HasNoByte at (take (i + 1) bytes)
+no_byte_more at bytes i inside h other =
+    subst (HasNoByte at) (sym (take_more bytes i 0 inside))
+    (All-append (λ b. (b == at) ≡ false) (take i bytes) (get_or bytes i 0 ∷ []) h
+    (All-cons (λ b. (b == at) ≡ false) (get_or bytes i 0) [] (ne_eqb (get_or bytes i 0) at other)
+    (All-nil (λ b. (b == at) ≡ false))))
+
+-- words
+
+pub one_word : (line : List ℕ) → HasNoByte 32 line → file_words line ≡ line ∷ []
+one_word [] h = refl
+one_word (b ∷ line) h =
+    cond-false (b == 32) _ _ (All-head (λ x. (x == 32) ≡ false) b line h) ∙ ap (onto_first b) (one_word line (All-tail (λ x. (x == 32) ≡ false) b line h))
+
+pub first_word : (front rest : List ℕ) → HasNoByte 32 front → file_words (front ++ 32 ∷ rest) ≡ front ∷ file_words rest
+first_word [] rest h = refl
+first_word (b ∷ front) rest h =
+    cond-false (b == 32) _ _ (All-head (λ x. (x == 32) ≡ false) b front h) ∙
+    ap (onto_first b) (first_word front rest (All-tail (λ x. (x == 32) ≡ false) b front h))
+
+pub word_cut : (line front : List ℕ) (rest : Option (Bor (List ℕ))) → HasNoByte 32 front →
+    MatchOption rest (line ≡ front) (λ r. line ≡ front ++ 32 ∷ r.now) → file_words line ≡ front ∷ words_left rest
+word_cut line front None h e = ap file_words e ∙ one_word front h
+word_cut line front (Some r) h e = ap file_words e ∙ first_word front r.now h
+
+onto_some : (b : ℕ) (parts : List (List ℕ)) → onto_first b parts ≢ []
+onto_some b [] h = cc
+onto_some b (part ∷ parts) h = cc
+
+pub some_word : (line : List ℕ) → file_words line ≢ []
+some_word [] h = cc
+some_word (b ∷ line) h =
+    elim (b == 32) as (λ (v : Bool). cond v ([] ∷ file_words line) (onto_first b (file_words line)) ≡ [] → ⊥) [
+      | true ↦ (λ (e : [] ∷ file_words line ≡ []). cc)
+      | false ↦ (λ e. onto_some b (file_words line) e)
+    ] h
+
+pub words_some : (rest : Option (Bor (List ℕ))) (r : Bool) → is_some rest ≡ not r → r ≡ false → words_left rest ≢ []
+words_some None r e h = absurd (false≢true (e ∙ ap not h))
+words_some (Some line) r e h = some_word line.now
+
+-- lines
+
+pub last_line : (b : ℕ) (line : List ℕ) → HasNoByte 10 (b ∷ line) → lines_of (b ∷ line) ≡ (b ∷ line) ∷ []
+last_line b [] h = cond-false (b == 10) _ _ (All-head (λ x. (x == 10) ≡ false) b [] h)
+last_line b (d ∷ line) h =
+    cond-false (b == 10) _ _ (All-head (λ x. (x == 10) ≡ false) b (d ∷ line) h) ∙
+    ap (onto_first b) (last_line d line (All-tail (λ x. (x == 10) ≡ false) b (d ∷ line) h))
+
+pub first_line : (front rest : List ℕ) → HasNoByte 10 front → lines_of (front ++ 10 ∷ rest) ≡ front ∷ lines_of rest
+first_line [] rest h = refl
+first_line (b ∷ front) rest h =
+    cond-false (b == 10) _ _ (All-head (λ x. (x == 10) ≡ false) b front h) ∙
+    ap (onto_first b) (first_line front rest (All-tail (λ x. (x == 10) ≡ false) b front h))

@@ -1,0 +1,10 @@
+use Rattle.std.proofs.lemmas.Result.{err_from_is_err_and}
+use Rattle.program_files.proofs.Shapes.{verifier_told}
+use Rattle.program_files.proofs.file_check.check.Goals as goal
+
+pub returns-in_err-verified-clause-refused : goal.returns-in_err-verified-clause-refused
+returns-in_err-verified-clause-refused c bytes h =
+    let p = err_from_is_err_and c.from_residual-in_err-verified.result c.from_residual-in_err-verified.ensures.1 in
+    rw p.1 (verifier_told bytes c.in_ok-source.source c.in_err-verified.field-0.0 p.0
+    (c.in_ok-source.ensures.found bytes h) c.in_err-verified.ensures.told c.in_err-verified.ensures.plain_with_maps
+    p.2)

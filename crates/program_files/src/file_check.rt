@@ -1,0 +1,44 @@
+//! What is answered of a program file that is checked or disassembled.
+ghost use Rattle.std.specs.Prelude.{List, ℕ, IfOk, IfErr, string_bytes};
+ghost use Rattle.program_files.specs.Files.{HoldsBytes};
+ghost use Rattle.program_files.specs.Checks.{IsAcceptedFile, IsTextOf, IsDecodeRefusal, IsCheckedRefusal};
+
+use crate::program_file::FileBytes;
+use crate::verdict::Verdict;
+use crate::verified_file::verify_for_maps;
+use disasm::disassemble;
+use std::alloc::Global;
+
+/// How long an accepted program is.
+#[derive(Clone, Copy)]
+pub struct Accepted {
+    pub instructions: usize,
+    pub slots: usize,
+}
+
+/// Decodes and verifies a file's program.
+pub fn check(alloc: Global, file: &FileBytes) -> Result<Accepted, Verdict>
+    ensures accepted { (bytes : List ℕ) → HoldsBytes file.now bytes →
+        IfOk result (IsAcceptedFile bytes) }
+    ensures refused { (bytes : List ℕ) → HoldsBytes file.now bytes →
+        IfErr result (IsCheckedRefusal bytes) }
+{
+    let source = file.source(alloc)?;
+    let verified = verify_for_maps(alloc, source.program, &source.registry, source.ctx_len)?;
+    let program = verified.program();
+    Ok(Accepted {
+        instructions: program.len(),
+        slots: program.slot_count(),
+    })
+}
+
+/// The text of a file's program.
+pub fn text_of(alloc: Global, file: &FileBytes) -> Result<String, Verdict>
+    ensures text { (bytes : List ℕ) → HoldsBytes file.now bytes →
+        IfOk result (λ lines. IsTextOf bytes (string_bytes lines)) }
+    ensures refused { (bytes : List ℕ) → HoldsBytes file.now bytes →
+        IfErr result (IsDecodeRefusal bytes) }
+{
+    let source = file.source(alloc)?;
+    Ok(disassemble(alloc, &source.program)?)
+}
