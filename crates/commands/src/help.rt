@@ -105,7 +105,6 @@ Status, and the line on standard error:
      refused 91                  COUNT is above 65536
   2  usage; so a WORKERS or COUNT that is no number, before FILE is read
   3  fault 13, 96, 97            out of memory; FILE or the output failed
-     fault 92                    the result of a job was lost
                                  (the lines of some jobs may have been printed)
 
 Example:
@@ -150,7 +149,8 @@ of packet, zeros behind what was captured; that of a policy is struct seccomp_da
 
 Status, and the line on standard error:
   0  written
-  1  refused 100, 101 at L, 102  no such text, line L of it, or array
+  1  refused 100 at 1, 101 at L  no such text, by its line
+     refused 102                 no such array
      refused C, refused C at I   it is no program, or has no translation, by instruction I from 0: 103 to 113
                                  (docs/REFUSALS.md)
   2  usage
