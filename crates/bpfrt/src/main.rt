@@ -8,10 +8,32 @@ use commands::{BpfrtCommand, WordsFault, no_command, parse_words, run, unread};
 use std::alloc::Global;
 use std::env;
 use std::fs::File;
-use std::io::{ErrorKind, IsTerminal, Write};
+use std::io::{Error, ErrorKind, IsTerminal, Write};
 use std::process::ExitCode;
 use std::sync::Wait;
 use std::thread::Threads;
+
+/// Why a file cannot be opened, unless memory ran out.
+fn reason(path: &str, kind: ErrorKind) -> Option<&'static str> {
+    match kind {
+        ErrorKind::OutOfMemory => None,
+        ErrorKind::NotFound if path == "-" => Some(
+            "there is no such file; standard input is /dev/stdin",
+        ),
+        ErrorKind::NotFound => Some("there is no such file"),
+        ErrorKind::PermissionDenied => Some("it may not be read"),
+        _ => Some("it cannot be opened"),
+    }
+}
+
+/// Writes the fault of a file that cannot be opened, and behind it a line with its name and the reason. Answers the status.
+fn unopened<E: Write>(err: &mut E, path: &str, error: &Error) -> u8 {
+    let status = unread(err, error);
+    if let Some(reason) = reason(path, error.kind()) {
+        let _ = writeln!(err, "{path:?}: {reason}");
+    }
+    status
+}
 
 /// Runs the command on the file that it names, or on standard input. The handle for threads and for
 /// waiting is the runtime again.
@@ -27,7 +49,7 @@ fn run_into<H: Threads + Wait + Sync, W: Write>(
         None => run(threads, alloc, command, &mut rt.stdin(), out, &mut err),
         Some(path) => match File::open(rt, path) {
             Ok(mut file) => run(threads, alloc, command, &mut file, out, &mut err),
-            Err(error) => unread(&mut err, &error),
+            Err(error) => unopened(&mut err, path, &error),
         },
     }
 }
