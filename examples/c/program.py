@@ -122,8 +122,12 @@ def code_of(obj):
             struct.pack_into("<BBhi", code, place, CALL, 2 << 4, 0, KERNEL_FUNCTIONS[symbol[0]])
         else:
             name = symbol[0] or obj.section_of(symbol)
-            is_data = (obj.section_of(symbol) or "").startswith((".bss", ".data", ".rodata"))
-            why = "; what a program keeps stands in a map" if is_data else ""
+            section = obj.section_of(symbol) or ""
+            why = ""
+            if section.startswith((".bss", ".data")):
+                why = "; what a program keeps stands in a map"
+            if section.startswith(".rodata"):
+                why = "; a table of constants stands in a map that the host fills, or in the context"
             sys.exit(f"slot {place // 8} names {name}, which is neither a map nor a kernel function{why}")
     return [bytes(code[i:i + 8]) for i in range(0, len(code), 8)]
 
@@ -168,7 +172,10 @@ def lines_in(path):
         return data.decode(errors="replace").splitlines()
     if data[:6] != b"\x7fELF\2\1" or struct.unpack_from("<HH", data.ljust(64), 16) != (RELOCATABLE, FOR_BPF):
         sys.exit(f"{path} is no object that clang wrote for the target bpf")
-    return program_lines(Object(data))
+    try:
+        return program_lines(Object(data))
+    except (struct.error, IndexError, KeyError, ValueError):
+        sys.exit("the object is cut off or damaged: clang is to write it anew")
 
 
 def main(words):

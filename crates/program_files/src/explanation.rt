@@ -3,9 +3,11 @@ ghost use Rattle.std.specs.Prelude.{◌≤◌};
 ghost use Rattle.bpf_model.specs.declared.limits.TheConstants.{CTX_BYTES};
 
 use crate::known::write_kind;
+use crate::likeness::{write_likeness, write_line};
 use crate::meaning::meaning_of;
+use crate::missing::write_missing;
 use crate::reads::registers_read;
-use crate::{FileBytes, Source, Verdict, known_where_refused};
+use crate::{FileBytes, HEADING, MEMORY, Source, Verdict, known_where_refused};
 use bpf_model::Insn;
 use disasm::line_of;
 use std::alloc::Global;
@@ -43,10 +45,14 @@ fn write_known<W: Write>(
     writeln!(out, "  locks that are not given up: {depth}")
 }
 
-/// Writes the text of the instruction at which a program is refused, and what was known there.
+/// The number of a refusal for bytes of the frame that are not written on every path.
+const UNWRITTEN_FRAME: u8 = 29;
+
+/// Writes the text of the instruction at which a program is refused by this number, and what was known there.
 fn write_instruction<W: Write>(
     alloc: Global,
     source: &Source,
+    code: u8,
     slot: usize,
     out: &mut W,
 ) -> io::Result<()>
@@ -59,13 +65,32 @@ fn write_instruction<W: Write>(
     writeln!(out, "at {slot}: {text}")?;
     if let Some(state) = known_where_refused(alloc, source)? {
         write_known(out, source, insn, &state)?;
+        if code == UNWRITTEN_FRAME {
+            write_missing(out, source, insn, &state)?;
+        }
+    }
+    Ok(())
+}
+
+/// Writes what bytes look like that are refused for a slot's form, and the line of a text that is wrong.
+fn write_source<W: Write>(file: &FileBytes, verdict: &Verdict, out: &mut W) -> io::Result<()> {
+    let FileBytes::Whole(bytes) = file else {
+        return Ok(());
+    };
+    if let Some(line) = verdict.line {
+        return write_line(out, bytes, line);
+    }
+    if verdict.code < MEMORY && !bytes.starts_with(HEADING) {
+        return write_likeness(out, bytes);
     }
     Ok(())
 }
 
 /// Writes what a verdict on a program file means: a line with its name and its meaning; and where it is of an
-/// instruction, that one's text, what each register that it reads may hold, and how many locks are open. The frame is
-/// told from r10 on, maps by their place in the program's list.
+/// instruction, that one's text, what each register that it reads may hold, how many locks are open, and which byte of
+/// the frame is missing. The frame is told from r10 on, maps by their place in the program's list and their names. Where
+/// a line of the file is wrong, it is shown; bytes that are read as slots and are none may look like something else, and
+/// then that is said.
 ///
 /// An error says that nothing more could be written, or that memory ran out.
 pub fn explain<W: Write>(
@@ -79,8 +104,9 @@ pub fn explain<W: Write>(
         let text = meaning.text;
         writeln!(out, "{name}: {text}")?;
     }
+    write_source(file, verdict, out)?;
     if let (Some(slot), Ok(source)) = (verdict.slot, file.source(alloc)) {
-        write_instruction(alloc, &source, slot, out)?;
+        write_instruction(alloc, &source, verdict.code, slot, out)?;
     }
     Ok(())
 }

@@ -1,7 +1,7 @@
 //! What is known of a register, in words.
 
 use crate::Source;
-use bpf_model::{FRAME_BYTES, MapId};
+use bpf_model::{FRAME_BYTES, MapId, MapKind};
 use register_kinds::{ORIGIN, RegKind};
 use scalar_domain::Scalar;
 use std::io;
@@ -78,6 +78,30 @@ fn write_context<W: Write>(out: &mut W, source: &Source, offsets: &Scalar) -> io
     write_offsets(out, offsets)
 }
 
+/// Writes a map by its place in the program's list, and its name.
+fn write_map<W: Write>(out: &mut W, source: &Source, map: u32) -> io::Result<()> {
+    match source.registry.name(MapId::new(map as usize)) {
+        Some(name) => write!(out, "map {map} ({name})"),
+        None => write!(out, "map {map}"),
+    }
+}
+
+/// Writes a map, and its shape.
+fn write_shape<W: Write>(out: &mut W, source: &Source, map: u32) -> io::Result<()> {
+    write_map(out, source, map)?;
+    let Some(shape) = source.registry.shape(MapId::new(map as usize)) else {
+        return Ok(());
+    };
+    let (key_len, value_len) = (shape.key_len, shape.value_len);
+    match shape.kind {
+        MapKind::Hash => write!(
+            out,
+            ", a hash map, keys of {key_len} bytes, values of {value_len}"
+        ),
+        MapKind::Array => write!(out, ", an array, values of {value_len} bytes"),
+    }
+}
+
 /// Writes where in the value of an element of the program's map of this number a reference is.
 fn write_value<W: Write>(
     out: &mut W,
@@ -85,7 +109,8 @@ fn write_value<W: Write>(
     map: u32,
     offsets: &Scalar,
 ) -> io::Result<()> {
-    write!(out, "the value of an element of map {map}")?;
+    write!(out, "the value of an element of ")?;
+    write_map(out, source, map)?;
     if let Some(shape) = source.registry.shape(MapId::new(map as usize)) {
         let length = shape.value_len;
         write!(out, ", of {length} bytes")?;
@@ -105,11 +130,12 @@ pub fn write_kind<W: Write>(out: &mut W, source: &Source, kind: &RegKind) -> io:
         RegKind::Num(numbers) => write_numbers(out, numbers),
         RegKind::Ctx(offsets) => write_context(out, source, offsets),
         RegKind::Frame(offset) => write_place(out, *offset),
-        RegKind::Map(map) => write!(out, "map {map}"),
+        RegKind::Map(map) => write_shape(out, source, *map),
         RegKind::Value { map, offset } => write_value(out, source, *map, offset),
-        RegKind::MaybeNull { map, .. } => write!(
-            out,
-            "what a lookup in map {map} gave, which may be null"
-        ),
+        RegKind::MaybeNull { map, .. } => {
+            write!(out, "what a lookup in ")?;
+            write_map(out, source, *map)?;
+            write!(out, " gave, which may be null")
+        }
     }
 }

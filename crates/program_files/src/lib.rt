@@ -5,8 +5,10 @@
 mod explanation;
 mod file_check;
 mod known;
+mod likeness;
 mod loader;
 mod meaning;
+mod missing;
 mod program_file;
 mod reads;
 mod verdict;
