@@ -17,7 +17,7 @@ Writes (Disasm file) old new bytes = WritesText old new bytes
 Writes (Asm file whole) old new bytes = WritesCode whole old new bytes
 Writes Script old new bytes = AnswersAll old new bytes
 Writes Version old new bytes = Appends old new (codes "bpfrt 0.1.0\n")
-Writes (Pool workers file count) old new bytes = WritesPool count old new bytes
+Writes (Pool workers file count explain) old new bytes = WritesPool count old new bytes
 Writes (Run file single) old new bytes = WritesRun single old new bytes
 Writes (Filter file kind) old new bytes = WritesFilter kind old new bytes
 
@@ -30,7 +30,7 @@ Refuses (Disasm file) old new bytes = IsRefusedByDecode bytes
 Refuses (Asm file whole) old new bytes = IsRefusedByAsm bytes
 Refuses Script old new bytes = AnswersBefore old new bytes
 Refuses Version old new bytes = ⊥
-Refuses (Pool workers file count) old new bytes = IsRefusedByPool workers count bytes
+Refuses (Pool workers file count explain) old new bytes = IsRefusedByPool workers count bytes
 Refuses (Run file single) old new bytes = IsRefusedByRun single bytes
 Refuses (Filter file kind) old new bytes = IsRefusedByFilter kind bytes
 
@@ -41,6 +41,6 @@ ReadsFile (Disasm file) = ⊤
 ReadsFile (Asm file whole) = ⊤
 ReadsFile Script = ⊥
 ReadsFile Version = ⊥
-ReadsFile (Pool workers file count) = ⊤
+ReadsFile (Pool workers file count explain) = ⊤
 ReadsFile (Run file single) = ⊤
 ReadsFile (Filter file kind) = ⊤

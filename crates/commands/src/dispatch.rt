@@ -1,19 +1,18 @@
 //! Running a command.
 ghost use Rattle.std.specs.Prelude.{◌≡◌, ◌⊎◌, IfSome, OnOk, codes};
 ghost use Rattle.std.specs.Io.KnownBytes.{Appends};
-ghost use Rattle.program_files.specs.Verdicts.{memory_number};
 ghost use Rattle.commands.specs.Outputs.{IsRefusedByDecode, IsRefusedByCheck, accepted_line, WritesAccepted, WritesText};
 ghost use Rattle.commands.specs.Commands.{ReadsFile, Refuses, Writes};
 
 use crate::assembly::run_asm;
 use crate::filter::run_filter;
 use crate::pool::{PoolSize, run_pool};
-use crate::report::refused;
+use crate::report::{refused, told};
 use crate::request::{BpfrtCommand, VERSION};
 use crate::script::run_lines;
 use crate::single::run_single;
 use crate::streams::{unread, write_text, written};
-use program_files::{Accepted, FileBytes, Verdict, check, explain, read_file, text_of};
+use program_files::{Accepted, check, read_file, text_of};
 use std::alloc::Global;
 use std::io;
 use std::io::{Read, Write};
@@ -37,24 +36,6 @@ fn write_accepted<W: Write>(out: &mut W, accepted: &Accepted) -> io::Result<()>
         accepted.instructions, accepted.slots
     )?;
     out.flush()
-}
-
-/// Tells a verdict on a file, in words too where it is asked for, and answers the status.
-fn told<E: Write>(
-    alloc: Global,
-    file: &FileBytes,
-    verdict: Verdict,
-    in_words: bool,
-    err: &mut E,
-) -> u8
-    ensures status { (result ≡ 1) ⊎ (result ≡ 3) }
-    ensures memory { verdict.code ≡ memory_number → result ≡ 3 }
-{
-    let status = refused(err, verdict);
-    if in_words && status == 1 {
-        let _ = explain(alloc, file, &verdict, err);
-    }
-    status
 }
 
 /// Checks the program that the input, a program file, says.
@@ -130,12 +111,17 @@ pub fn run<H: Threads + Wait + Sync, R: Read, W: Write, E: Write>(
         BpfrtCommand::Asm { whole, .. } => run_asm(alloc, *whole, input, out, err),
         BpfrtCommand::Script => run_lines(alloc, input, out, err),
         BpfrtCommand::Version => written(err, write_version(out)),
-        BpfrtCommand::Pool { workers, count, .. } => {
+        BpfrtCommand::Pool {
+            workers,
+            count,
+            explain,
+            ..
+        } => {
             let size = PoolSize {
                 workers: *workers,
                 count: *count,
             };
-            run_pool(rt, alloc, size, input, out, err)
+            run_pool(rt, alloc, size, *explain, input, out, err)
         }
         BpfrtCommand::Run { single, .. } => run_single(alloc, single, input, out, err),
         BpfrtCommand::Filter { kind, .. } => run_filter(alloc, *kind, input, out, err),

@@ -6,7 +6,7 @@ ghost use Rattle.program_files.specs.Checks.{IsCheckedRefusal};
 ghost use Rattle.program_files.specs.Files.{HoldsBytes};
 ghost use Rattle.commands.specs.Pools.{entries_line, IsProgramOf, IsRefusedByPool, WritesPool};
 
-use crate::report::{plain_verdict, refused};
+use crate::report::{plain_verdict, refused, told};
 use crate::streams::{unread, written};
 use program_files::{FileBytes, Verdict, read_file, verify_for_maps};
 use std::alloc::Global;
@@ -50,11 +50,12 @@ fn write_entries<W: Write>(out: &mut W, entries: usize) -> io::Result<()>
 
 /// Runs the program that the input, a program file, says, writes the lines of its jobs on `out`, those
 /// of some jobs at a time as soon as they are done, and answers the exit status: 0, 1 where the file or
-/// the numbers are refused, 3 for a fault.
+/// the numbers are refused, 3 for a fault. Why the file is refused is told in words too where it is asked for.
 pub fn run_pool<H: Threads + Wait + Sync, R: Read, W: Write, E: Write>(
     rt: &H,
     alloc: Global,
     size: PoolSize,
+    in_words: bool,
     input: &mut R,
     out: &mut W,
     err: &mut E,
@@ -72,7 +73,7 @@ pub fn run_pool<H: Threads + Wait + Sync, R: Read, W: Write, E: Write>(
     };
     let program = match program_of(alloc, &file) {
         Ok(program) => program,
-        Err(verdict) => return refused(err, verdict),
+        Err(verdict) => return told(alloc, &file, verdict, in_words, err),
     };
     match run_program(rt, alloc, program, size.workers, size.count, out) {
         Ok(entries) => written(err, write_entries(out, entries)),

@@ -8,7 +8,8 @@ ghost use Rattle.commands.specs.Outputs.{IsPlainVerdict};
 
 use crate::request::WordsFault;
 use job_queue::PoolFault;
-use program_files::{MEMORY, Verdict};
+use program_files::{FileBytes, MEMORY, Verdict, explain};
+use std::alloc::Global;
 use std::io::Write;
 
 /// The number of an element that its map has no place for.
@@ -51,6 +52,25 @@ pub fn refused<W: Write>(err: &mut W, verdict: Verdict) -> u8
         (None, None) => writeln!(err, "refused {code}"),
     };
     1
+}
+
+/// Tells a verdict on a file, in words too where it is asked for, and answers the status.
+pub fn told<E: Write>(
+    alloc: Global,
+    file: &FileBytes,
+    verdict: Verdict,
+    in_words: bool,
+    err: &mut E,
+) -> u8
+    ensures status { (result ≡ 1) ⊎ (result ≡ 3) }
+    ensures memory { verdict.code ≡ memory_number → result ≡ 3 }
+    ensures lost { verdict.code ≡ pool_fault_number Lost → result ≡ 3 }
+{
+    let status = refused(err, verdict);
+    if in_words && status == 1 {
+        let _ = explain(alloc, file, &verdict, err);
+    }
+    status
 }
 
 /// Says on standard error why the words are no command, and answers the status.

@@ -15,13 +15,14 @@ pub struct MapElement {
     pub value: Vec<u8>,
 }
 
-/// What one run is made on: its context, and the elements that are put into its maps before; and whether
-/// the maps' elements are written behind it.
+/// What one run is made on: its context, and the elements that are put into its maps before; whether the maps' elements
+/// are written behind it, and whether a refusal is told in words too.
 #[derive(Debug, Drop)]
 pub struct SingleRun {
     pub context: Vec<u8>,
     pub elements: Vec<MapElement>,
     pub dump: bool,
+    pub explain: bool,
 }
 
 /// Where a classic program is read from.
@@ -52,11 +53,12 @@ pub enum BpfrtCommand {
     Script,
     /// Say which version of the program this is.
     Version,
-    /// Run the program in a file so many times by so many workers.
+    /// Run the program in a file so many times by so many workers; or say why it is refused, in words too.
     Pool {
         workers: u64,
         file: String,
         count: u64,
+        explain: bool,
     },
     /// Run the program in a file once by itself.
     Run {

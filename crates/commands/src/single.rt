@@ -5,7 +5,7 @@ ghost use Rattle.commands.specs.Runs.{ended_line, IsDumped, IsRunRefusal, IsRunT
 
 use crate::dump::write_maps;
 use crate::puts::puts_of;
-use crate::report::{NO_PLACE, plain_verdict, refused};
+use crate::report::{NO_PLACE, plain_verdict, told};
 use crate::request::SingleRun;
 use crate::streams::{unread, write_text, written};
 use bpf_model::{EventRefusal, array_of};
@@ -80,6 +80,6 @@ pub fn run_single<R: Read, W: Write, E: Write>(
     };
     match run_of(alloc, &file, single) {
         Ok(text) => written(err, write_text(out, &text)),
-        Err(verdict) => refused(err, verdict),
+        Err(verdict) => told(alloc, &file, verdict, single.explain, err),
     }
 }

@@ -28,6 +28,14 @@ fn number_argument<'a>(alloc: Global, id: &'a str, help: &'a str) -> Arg<'a> {
         .action(ArgAction::Set)
 }
 
+/// The option that tells a refusal of the file in words.
+fn explain_option<'a>(alloc: Global) -> Arg<'a> {
+    Arg::new(alloc, "explain")
+        .long("explain")
+        .help("say in words why a program is refused")
+        .action(ArgAction::SetTrue)
+}
+
 /// The grammar of the words of `pool`.
 fn pool_grammar<'a>(alloc: Global) -> Result<clap::Command<'a>, AllocError> {
     clap::Command::new(alloc, "pool")
@@ -35,7 +43,8 @@ fn pool_grammar<'a>(alloc: Global) -> Result<clap::Command<'a>, AllocError> {
         .after_help(POOL_HELP)
         .arg(number_argument(alloc, "WORKERS", "how many workers, 1 to 8"))?
         .arg(file_argument(alloc))?
-        .arg(number_argument(alloc, "COUNT", "how many jobs, 0 to 65536"))
+        .arg(number_argument(alloc, "COUNT", "how many jobs, 0 to 65536"))?
+        .arg(explain_option(alloc))
 }
 
 /// How `run` is used, and how its option `--map` is shown.
@@ -68,7 +77,8 @@ fn run_grammar<'a>(alloc: Global) -> Result<clap::Command<'a>, AllocError> {
                 .long("dump")
                 .help("print the elements of the file's maps behind the exit")
                 .action(ArgAction::SetTrue),
-        )
+        )?
+        .arg(explain_option(alloc))
 }
 
 /// The grammar of the words of `filter`.
@@ -98,12 +108,7 @@ fn grammar<'a>(alloc: Global) -> Result<clap::Command<'a>, AllocError> {
         .about("Verifies the program in FILE")
         .after_help(CHECK_HELP)
         .arg(file_argument(alloc))?
-        .arg(
-            Arg::new(alloc, "explain")
-                .long("explain")
-                .help("say in words why a program is refused")
-                .action(ArgAction::SetTrue),
-        )?;
+        .arg(explain_option(alloc))?;
     let disasm = clap::Command::new(alloc, "disasm")
         .about("Writes the text of the program in FILE, one instruction a line")
         .after_help(DISASM_HELP)
@@ -205,7 +210,7 @@ fn number_at(alloc: Global, matches: &ArgMatches<'_>, id: &str) -> Result<u64, W
                 "\
 error: invalid value '{word}' for '<{id}>': it is no decimal number below 2^64 without sign and leading zeros
 
-Usage: bpfrt pool <WORKERS> <FILE> <COUNT>
+Usage: bpfrt pool [OPTIONS] <WORKERS> <FILE> <COUNT>
 
 For more information, try 'bpfrt pool --help'."
             );
@@ -276,7 +281,8 @@ fn push_elements(
         match element_of(alloc, map, word)? {
             Some(element) => elements.push(element)?,
             None => {
-                let why = "it is no KEY=VALUE, each an even number of hexadecimal digits";
+                let why =
+                    "it is no KEY=VALUE, each an even number of hexadecimal digits; CTX stands before --map";
                 return Err(bad_value(alloc, word, MAP_OPTION, why));
             }
         }
@@ -301,6 +307,7 @@ fn pool_of(alloc: Global, matches: &ArgMatches<'_>) -> Result<BpfrtCommand, Word
         workers: number_at(alloc, matches, "WORKERS")?,
         file: file_of(alloc, matches)?,
         count: number_at(alloc, matches, "COUNT")?,
+        explain: matches.get_flag("explain"),
     })
 }
 
@@ -312,6 +319,7 @@ fn run_of(alloc: Global, matches: &ArgMatches<'_>) -> Result<BpfrtCommand, Words
             context: context_of(alloc, matches)?,
             elements: elements_of(alloc, matches)?,
             dump: matches.get_flag("dump"),
+            explain: matches.get_flag("explain"),
         },
     })
 }

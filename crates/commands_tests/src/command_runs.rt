@@ -44,6 +44,7 @@ pub fn pool_of(alloc: Global, workers: u64, count: u64) -> Result<BpfrtCommand, 
         workers,
         file,
         count,
+        explain: false,
     })
 }
 
@@ -66,6 +67,7 @@ pub fn run_of(
         context: Vec::from_slice(alloc, context)?,
         elements,
         dump,
+        explain: false,
     };
     let file = String::from_str(alloc, "program")?;
     Ok(BpfrtCommand::Run { file, single })
