@@ -2,12 +2,12 @@
 use Rattle.std.specs.Prelude.{ℕ, List, Option, ⊤, codes}
 use Rattle.std.specs.Io.KnownBytes.{Appends}
 use Rattle.commands.specs.declared.request.BpfrtCommand.{BpfrtCommand}
-use Rattle.commands.specs.declared.request.BpfrtCommand.TheVariants.{Check, Disasm, Asm, Script, Version, Pool, Run, Filter}
+use Rattle.commands.specs.declared.request.BpfrtCommand.TheVariants.{Check, Disasm, Asm, Script, Version, Pool, Run, Trace, Filter}
 use Rattle.commands.specs.Assembled.{IsRefusedByAsm, WritesCode}
 use Rattle.commands.specs.Filters.{IsRefusedByFilter, WritesFilter}
 use Rattle.commands.specs.Outputs.{IsRefusedByCheck, IsRefusedByDecode, WritesAccepted, WritesText}
 use Rattle.commands.specs.Pools.{IsRefusedByPool, WritesPool}
-use Rattle.commands.specs.Runs.{IsRefusedByRun, WritesRun}
+use Rattle.commands.specs.Runs.{IsRefusedByRun, WritesRun, WritesTrace}
 use Rattle.commands.specs.Scripts.{AnswersAll, AnswersBefore}
 
 -- What a command adds to the output where all is fine.
@@ -19,6 +19,7 @@ Writes Script old new bytes = AnswersAll old new bytes
 Writes Version old new bytes = Appends old new (codes "bpfrt 0.1.0\n")
 Writes (Pool workers file count explain) old new bytes = WritesPool count old new bytes
 Writes (Run file single) old new bytes = WritesRun single old new bytes
+Writes (Trace file single) old new bytes = WritesTrace single old new bytes
 Writes (Filter file kind) old new bytes = WritesFilter kind old new bytes
 
 -- What is so where a command refuses: its file, its numbers, its context or its elements are
@@ -32,6 +33,7 @@ Refuses Script old new bytes = AnswersBefore old new bytes
 Refuses Version old new bytes = ⊥
 Refuses (Pool workers file count explain) old new bytes = IsRefusedByPool workers count bytes
 Refuses (Run file single) old new bytes = IsRefusedByRun single bytes
+Refuses (Trace file single) old new bytes = IsRefusedByRun single bytes
 Refuses (Filter file kind) old new bytes = IsRefusedByFilter kind bytes
 
 -- the command's input is a file
@@ -43,4 +45,5 @@ ReadsFile Script = ⊥
 ReadsFile Version = ⊥
 ReadsFile (Pool workers file count explain) = ⊤
 ReadsFile (Run file single) = ⊤
+ReadsFile (Trace file single) = ⊤
 ReadsFile (Filter file kind) = ⊤

@@ -102,6 +102,17 @@ abbrev pub WritesRun : SingleRun → Option (List ℕ) → Option (List ℕ) →
 WritesRun single old new bytes =
     (text : List ℕ) × IsRunText single bytes text × Appends old new text
 
+-- The text that tells a run with its steps: some lines, and behind them what tells the run alone. Nothing is said of the
+-- lines.
+abbrev pub IsTraceText : SingleRun → List ℕ → List ℕ → Type 0
+IsTraceText single bytes text =
+    (steps end : List ℕ) × IsRunText single bytes end × (text ≡ steps ++ end)
+
+-- what `trace` adds to the output
+abbrev pub WritesTrace : SingleRun → Option (List ℕ) → Option (List ℕ) → List ℕ → Type 0
+WritesTrace single old new bytes =
+    (text : List ℕ) × IsTraceText single bytes text × Appends old new text
+
 -- the first element that fails a test fails this one
 abbrev pub HasBadElement : RegistryView → List MapElement → EventRefusal → Type 0
 HasBadElement maps elements r =

@@ -12,6 +12,7 @@ use crate::request::{BpfrtCommand, VERSION};
 use crate::script::run_lines;
 use crate::single::run_single;
 use crate::streams::{unread, write_text, written};
+use crate::trace::run_trace;
 use program_files::{Accepted, check, read_file, text_of};
 use std::alloc::Global;
 use std::io;
@@ -124,6 +125,7 @@ pub fn run<H: Threads + Wait + Sync, R: Read, W: Write, E: Write>(
             run_pool(rt, alloc, size, *explain, input, out, err)
         }
         BpfrtCommand::Run { single, .. } => run_single(alloc, single, input, out, err),
+        BpfrtCommand::Trace { single, .. } => run_trace(alloc, single, input, out, err),
         BpfrtCommand::Filter { kind, .. } => run_filter(alloc, *kind, input, out, err),
     }
 }

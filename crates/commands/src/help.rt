@@ -5,7 +5,7 @@ pub const HELP: &str = "\
 A program file is raw bytes, or a text with a context, maps and slots (docs/PROGRAM_FILES.md).
 `bpfrt COMMAND --help` says what a command reads, prints and answers. Help is written on standard error.
 
-Status: 0 fine, 1 refused or a wrong line, 2 usage, 3 memory, a lost result, reading or writing";
+Status: 0 fine, 1 refused or a wrong line, 2 usage, 3 memory, reading or writing";
 
 /// Behind the arguments of `bpfrt check --help`.
 pub const CHECK_HELP: &str = "\
@@ -137,6 +137,23 @@ Example:
   exit 42 steps 12
   00000000 2a00000000000000
   end";
+
+/// Behind the arguments of `bpfrt trace --help`.
+pub const TRACE_HELP: &str = "\
+Runs a program as `bpfrt run` does, with the same words, and tells each of its steps above what that prints.
+
+Prints of each step `SLOT: INSTRUCTION`, and below it, behind two spaces, what a store writes, and the registers,
+the bytes of the frame and the number of open locks that the step has changed. A number that would be an address
+has behind it what stands there: the context, the frame, a map, or a map slot, which is where an element lies.
+
+Status, and the line on standard error: those of `bpfrt run`.
+
+Example:
+  $ bpfrt trace examples/exit_one.bpf
+  0: mov64 r0, 1
+    r0 = 1
+  1: exit
+  exit 1 steps 2";
 
 /// Behind the arguments of `bpfrt filter --help`.
 pub const FILTER_HELP: &str = "\

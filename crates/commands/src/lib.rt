@@ -14,6 +14,7 @@ mod request;
 mod script;
 mod single;
 mod streams;
+mod trace;
 mod words;
 
 pub use dispatch::run;

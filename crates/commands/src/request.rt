@@ -65,6 +65,11 @@ pub enum BpfrtCommand {
         file: String,
         single: SingleRun,
     },
+    /// Run the program in a file once by itself, and tell each of its steps.
+    Trace {
+        file: String,
+        single: SingleRun,
+    },
     /// Write the program file of the classic program in a file, a filter of packets or a policy of system calls.
     Filter {
         file: FilterFile,
@@ -116,7 +121,8 @@ impl BpfrtCommand {
             | BpfrtCommand::Disasm { file }
             | BpfrtCommand::Asm { file, .. }
             | BpfrtCommand::Pool { file, .. }
-            | BpfrtCommand::Run { file, .. } => Some(file.as_str()),
+            | BpfrtCommand::Run { file, .. }
+            | BpfrtCommand::Trace { file, .. } => Some(file.as_str()),
             BpfrtCommand::Filter { file, .. } => match file {
                 FilterFile::Path(path) => Some(path.as_str()),
                 FilterFile::StandardInput => None,

@@ -32,7 +32,7 @@ fn text_of(alloc: Global, ended: Ended, world: &World, dump: bool) -> io::Result
 
 /// Decodes and verifies a file's program, puts elements into its maps, and runs it once on a context. What it gives is
 /// the text that tells the run.
-fn run_of(alloc: Global, file: &FileBytes, single: &SingleRun) -> Result<Vec<u8>, Verdict>
+pub fn run_of(alloc: Global, file: &FileBytes, single: &SingleRun) -> Result<Vec<u8>, Verdict>
     ensures ended { (bytes : List ℕ) → HoldsBytes file.now bytes →
         IfOk result (λ text. IsRunText single.now bytes text.items) }
     ensures refused { (bytes : List ℕ) → HoldsBytes file.now bytes →

@@ -2,6 +2,7 @@
 
 use crate::help::{
     ASM_HELP, CHECK_HELP, DISASM_HELP, FILTER_HELP, HELP, POOL_HELP, RUN_HELP, SCRIPT_HELP,
+    TRACE_HELP,
 };
 use crate::request::{BpfrtCommand, FilterFile, MapElement, SingleRun, VERSION, WordsFault};
 use clap::error::ErrorKind;
@@ -47,16 +48,31 @@ fn pool_grammar<'a>(alloc: Global) -> Result<clap::Command<'a>, AllocError> {
         .arg(explain_option(alloc))
 }
 
-/// How `run` is used, and how its option `--map` is shown.
-const RUN_USAGE: &str = "Usage: bpfrt run [OPTIONS] <FILE> [CTX]";
-
+/// How the option `--map` is shown.
 const MAP_OPTION: &str = "--map <NAME> <KEY=VALUE>...";
 
 /// The grammar of the words of `run`.
 fn run_grammar<'a>(alloc: Global) -> Result<clap::Command<'a>, AllocError> {
-    clap::Command::new(alloc, "run")
+    let run = clap::Command::new(alloc, "run")
         .about("Runs the program in FILE once")
-        .after_help(RUN_HELP)
+        .after_help(RUN_HELP);
+    with_run_arguments(alloc, run)
+}
+
+/// The grammar of the words of `trace`.
+fn trace_grammar<'a>(alloc: Global) -> Result<clap::Command<'a>, AllocError> {
+    let trace = clap::Command::new(alloc, "trace")
+        .about("Runs the program in FILE once, and tells each step")
+        .after_help(TRACE_HELP);
+    with_run_arguments(alloc, trace)
+}
+
+/// A command that has the words of one run behind it.
+fn with_run_arguments<'a>(
+    alloc: Global,
+    command: clap::Command<'a>,
+) -> Result<clap::Command<'a>, AllocError> {
+    command
         .arg(file_argument(alloc))?
         .arg(
             Arg::new(alloc, "CTX")
@@ -142,6 +158,7 @@ fn grammar<'a>(alloc: Global) -> Result<clap::Command<'a>, AllocError> {
         .subcommand(script)?
         .subcommand(pool_grammar(alloc)?)?
         .subcommand(run_grammar(alloc)?)?
+        .subcommand(trace_grammar(alloc)?)?
         .subcommand(filter_grammar(alloc)?)
 }
 
@@ -165,9 +182,11 @@ fn usage_fault(alloc: Global, text: Result<String, AllocError>) -> WordsFault {
 
 /// The command that the word names but for the case of its letters.
 fn command_in_other_case(word: &str) -> Option<&'static str> {
-    ["check", "disasm", "asm", "script", "pool", "run", "filter"]
-        .into_iter()
-        .find(|name| word.eq_ignore_ascii_case(name))
+    [
+        "check", "disasm", "asm", "script", "pool", "run", "trace", "filter",
+    ]
+    .into_iter()
+    .find(|name| word.eq_ignore_ascii_case(name))
 }
 
 /// Why the words are no command. `clap` finds no command near a word that differs from it in every
@@ -219,15 +238,15 @@ For more information, try 'bpfrt pool --help'."
     }
 }
 
-/// The fault of a word of `run` that is no value of an argument.
-fn bad_value(alloc: Global, word: &str, argument: &str, why: &str) -> WordsFault {
+/// The fault of a word of `run` or `trace` that is no value of an argument.
+fn bad_value(alloc: Global, command: &str, word: &str, argument: &str, why: &str) -> WordsFault {
     let text = format!(in alloc;
         "\
 error: invalid value '{word}' for '{argument}': {why}
 
-{RUN_USAGE}
+Usage: bpfrt {command} [OPTIONS] <FILE> [CTX]
 
-For more information, try 'bpfrt run --help'."
+For more information, try 'bpfrt {command} --help'."
     );
     usage_fault(alloc, text)
 }
@@ -241,14 +260,18 @@ fn bytes_of(alloc: Global, word: &str) -> Result<Option<Vec<u8>>, WordsFault> {
     }
 }
 
-/// The context that the words of `run` tell.
-fn context_of(alloc: Global, matches: &ArgMatches<'_>) -> Result<Vec<u8>, WordsFault> {
+/// The context that the words of `run` or `trace` tell.
+fn context_of(
+    alloc: Global,
+    command: &str,
+    matches: &ArgMatches<'_>,
+) -> Result<Vec<u8>, WordsFault> {
     let word = matches.get_str("CTX").unwrap_or("");
     match bytes_of(alloc, word)? {
         Some(bytes) => Ok(bytes),
         None => {
             let why = "it is no even number of hexadecimal digits";
-            Err(bad_value(alloc, word, "[CTX]", why))
+            Err(bad_value(alloc, command, word, "[CTX]", why))
         }
     }
 }
@@ -271,6 +294,7 @@ fn element_of(alloc: Global, map: &str, word: &str) -> Result<Option<MapElement>
 /// Adds the elements that the words of one `--map` are.
 fn push_elements(
     alloc: Global,
+    command: &str,
     elements: &mut Vec<MapElement>,
     words: &[&str],
 ) -> Result<(), WordsFault> {
@@ -283,19 +307,23 @@ fn push_elements(
             None => {
                 let why =
                     "it is no KEY=VALUE, each an even number of hexadecimal digits; CTX stands before --map";
-                return Err(bad_value(alloc, word, MAP_OPTION, why));
+                return Err(bad_value(alloc, command, word, MAP_OPTION, why));
             }
         }
     }
     Ok(())
 }
 
-/// The elements that the words of `run` tell.
-fn elements_of(alloc: Global, matches: &ArgMatches<'_>) -> Result<Vec<MapElement>, WordsFault> {
+/// The elements that the words of `run` or `trace` tell.
+fn elements_of(
+    alloc: Global,
+    command: &str,
+    matches: &ArgMatches<'_>,
+) -> Result<Vec<MapElement>, WordsFault> {
     let mut elements = Vec::new(alloc);
     if let Some(uses) = matches.get_raw_occurrences("map") {
         for words in uses {
-            push_elements(alloc, &mut elements, words)?;
+            push_elements(alloc, command, &mut elements, words)?;
         }
     }
     Ok(elements)
@@ -311,16 +339,17 @@ fn pool_of(alloc: Global, matches: &ArgMatches<'_>) -> Result<BpfrtCommand, Word
     })
 }
 
-/// The words of `run`. They are judged before the file is read.
-fn run_of(alloc: Global, matches: &ArgMatches<'_>) -> Result<BpfrtCommand, WordsFault> {
-    Ok(BpfrtCommand::Run {
-        file: file_of(alloc, matches)?,
-        single: SingleRun {
-            context: context_of(alloc, matches)?,
-            elements: elements_of(alloc, matches)?,
-            dump: matches.get_flag("dump"),
-            explain: matches.get_flag("explain"),
-        },
+/// What one run is made on, by the words of `run` or `trace`. They are judged before the file is read.
+fn single_of(
+    alloc: Global,
+    command: &str,
+    matches: &ArgMatches<'_>,
+) -> Result<SingleRun, WordsFault> {
+    Ok(SingleRun {
+        context: context_of(alloc, command, matches)?,
+        elements: elements_of(alloc, command, matches)?,
+        dump: matches.get_flag("dump"),
+        explain: matches.get_flag("explain"),
     })
 }
 
@@ -363,7 +392,14 @@ pub fn parse_words<'a>(alloc: Global, words: &'a [String]) -> Result<BpfrtComman
         }),
         Some(("script", _)) => Ok(BpfrtCommand::Script),
         Some(("pool", matches)) => pool_of(alloc, matches),
-        Some(("run", matches)) => run_of(alloc, matches),
+        Some(("run", matches)) => Ok(BpfrtCommand::Run {
+            file: file_of(alloc, matches)?,
+            single: single_of(alloc, "run", matches)?,
+        }),
+        Some(("trace", matches)) => Ok(BpfrtCommand::Trace {
+            file: file_of(alloc, matches)?,
+            single: single_of(alloc, "trace", matches)?,
+        }),
         Some(("filter", matches)) => filter_of(alloc, matches),
         _ => Err(WordsFault::Usage(String::from_str(alloc, "a command is missing")?)),
     }

@@ -1,16 +1,17 @@
 //! What is asked of a world outside of events.
-ghost use Rattle.std.specs.Prelude.{◌≡◌, ℕ, slice_get, option_map, option_copied, IfSome, IfNone};
+ghost use Rattle.std.specs.Prelude.{◌≡◌, ℕ, Some, slice_get, option_map, option_copied, IfSome, IfNone};
 ghost use Rattle.bpf_model.specs.Exit.{HasNoMaps};
 ghost use Rattle.world_laws.specs.Exits.{MayExitAs, ExitsAs};
 ghost use Rattle.world_laws.specs.Exited.{HasExited};
 ghost use Rattle.world.specs.Asking.{stat_of, IsFound, HasNone};
-ghost use Rattle.bpf_model.specs.View.{shapes_of};
+ghost use Rattle.bpf_model.specs.View.{RunView, shapes_of};
 ghost use Rattle.world.specs.BoundTo.{IsBound};
 ghost use Rattle.world.specs.Programs.{program_of};
 
 use crate::kept::Loaded;
 use crate::world::World;
 use bpf_model::{CtxBytes, KeyBytes, MapId, ProgId, RunId, Stat, ValueBytes};
+use machine::Run;
 use maps::Registry;
 use verifier::Verified;
 
@@ -29,6 +30,14 @@ impl World {
             ExitsAs program.now.program ctx.now.items n) }
     {
         self.parts.exit_of(run, program, ctx)
+    }
+
+    /// The run in a run slot, if there is one: its registers, its frame, and where it stands.
+    pub fn run(&self, run: RunId) -> Option<&Run>
+        ensures some { IfSome result (λ r. slice_get self.now.runs run ≡ Some (Some r.now.view)) }
+        ensures none { IfNone result ((v : RunView) → slice_get self.now.runs run ≡ Some (Some v) → ⊥) }
+    {
+        self.parts.run(run)
     }
 
     /// The maps, with their names.

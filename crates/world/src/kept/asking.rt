@@ -1,5 +1,6 @@
 //! What is asked of a world outside of events.
-ghost use Rattle.std.specs.Prelude.{◌≡◌, ℕ, Decides, slice_get, option_map, option_copied, IfSome, IfNone, count_by, is_some};
+ghost use Rattle.std.specs.Prelude.{◌≡◌, ℕ, Some, Decides, slice_get, option_map, option_copied, IfSome, IfNone, count_by, is_some};
+ghost use Rattle.bpf_model.specs.View.{RunView};
 ghost use Rattle.world.specs.Keeping.{is_run_inside as is_inside};
 ghost use Rattle.world_laws.specs.Exited.{HasExited};
 ghost use Rattle.world.specs.Asking.{stat_of, IsFound, IsSameProgram, HasNone};
@@ -87,6 +88,14 @@ fn inside(runs: &[Option<Run>]) -> usize
 }
 
 impl Parts {
+    /// The run in a run slot, if there is one.
+    pub fn run(&self, run: RunId) -> Option<&Run>
+        ensures some { IfSome result (λ r. slice_get self.now.runs run ≡ Some (Some r.now.view)) }
+        ensures none { IfNone result ((v : RunView) → slice_get self.now.runs run ≡ Some (Some v) → ⊥) }
+    {
+        run_at(&self.runs, run)
+    }
+
     /// The exit value of the run in a run slot, where it has ended and was started with this program on this
     /// context. A program verified for maps of other shapes, or for contexts of another length, is another one.
     pub fn exit_of(&self, run: RunId, program: &Verified, ctx: &CtxBytes) -> Option<u64>

@@ -1,0 +1,102 @@
+//! A file's program, run once by itself, with each of its steps told.
+ghost use Rattle.std.specs.Prelude.{◌≡◌, ◌⊎◌, List, ℕ, IfOk, IfErr, IfSome};
+ghost use Rattle.program_files.specs.Files.{HoldsBytes};
+ghost use Rattle.commands.specs.Runs.{IsRunRefusal, IsTraceText, IsRefusedByRun, WritesTrace};
+
+use crate::puts::puts_of;
+use crate::report::{plain_verdict, told};
+use crate::request::SingleRun;
+use crate::single::run_of;
+use crate::streams::{unread, write_text, written};
+use bpf_model::{Event, ProgId, array_of};
+use insn_codec::Program;
+use program_files::{FileBytes, MEMORY, Verdict, read_file, verify_for_maps};
+use std::alloc::{AllocError, Global};
+use std::io;
+use std::io::{Read, Write};
+use traces::write_steps;
+use world::{Loaded, World};
+
+/// A world with the maps and the elements of a run, in which the run has been started, and the run's program.
+fn started(
+    alloc: Global,
+    file: &FileBytes,
+    single: &SingleRun,
+) -> Result<(World, Program), AllocError> {
+    let Ok(source) = file.source(alloc) else {
+        return Err(AllocError);
+    };
+    let Ok(verified) = verify_for_maps(alloc, source.program, &source.registry, source.ctx_len)
+    else {
+        return Err(AllocError);
+    };
+    let Ok(puts) = puts_of(alloc, &source.registry, &single.elements) else {
+        return Err(AllocError);
+    };
+    if single.context.len() != verified.ctx_len() {
+        return Err(AllocError);
+    }
+    let program = verified.program().copy(alloc)?;
+    let _maps = source.registry.len();
+    let mut programs = Vec::new(alloc);
+    programs.push(Loaded::in_order(verified))?;
+    let Ok(mut world) = World::new(alloc, source.registry, programs) else {
+        return Err(AllocError);
+    };
+    let _ = world.run_all(alloc, &puts)?;
+    let _ = world.apply(&Event::Start {
+        prog: ProgId::new(0),
+        ctx: array_of(&single.context),
+    });
+    Ok((world, program))
+}
+
+/// What tells the steps of a run. No clause says that they are its own.
+fn steps_of(alloc: Global, file: &FileBytes, single: &SingleRun) -> io::Result<Vec<u8>> {
+    let (mut world, program) = started(alloc, file, single)?;
+    let mut text = Vec::new(alloc);
+    write_steps(alloc, &mut world, &program, &mut text)?;
+    Ok(text)
+}
+
+/// What tells the steps of a run, and behind it what `run` tells.
+fn text_of(alloc: Global, file: &FileBytes, single: &SingleRun) -> Result<Vec<u8>, Verdict>
+    ensures traced { (bytes : List ℕ) → HoldsBytes file.now bytes →
+        IfOk result (λ text. IsTraceText single.now bytes text.items) }
+    ensures refused { (bytes : List ℕ) → HoldsBytes file.now bytes →
+        IfErr result (IsRunRefusal single.now bytes) }
+{
+    let end = run_of(alloc, file, single)?;
+    let Ok(mut text) = steps_of(alloc, file, single) else {
+        return Err(plain_verdict(MEMORY));
+    };
+    match text.extend_from_slice(&end) {
+        Ok(()) => Ok(text),
+        Err(_) => Err(plain_verdict(MEMORY)),
+    }
+}
+
+/// Runs the program that the input, a program file, says once by itself, as `run_single` does, and writes its steps
+/// above what that writes.
+pub fn run_trace<R: Read, W: Write, E: Write>(
+    alloc: Global,
+    single: &SingleRun,
+    input: &mut R,
+    out: &mut W,
+    err: &mut E,
+) -> u8
+    ensures status { (result ≡ 0) ⊎ (result ≡ 1) ⊎ (result ≡ 3) }
+    ensures traced { result ≡ 0 → IfSome (R.remaining input.old)
+        (WritesTrace single.now (W.contents out.old) (W.contents out.new)) }
+    ensures refused { result ≡ 1 → IfSome (R.remaining input.old) (IsRefusedByRun single.now) }
+    ensures silent { result ≡ 1 → out.new ≡ out.old }
+{
+    let file = match read_file(alloc, input) {
+        Ok(file) => file,
+        Err(error) => return unread(err, &error),
+    };
+    match text_of(alloc, &file, single) {
+        Ok(text) => written(err, write_text(out, &text)),
+        Err(verdict) => told(alloc, &file, verdict, single.explain, err),
+    }
+}

@@ -1,0 +1,68 @@
+//! The words of registers, as numbers or as places in memory.
+
+use bpf_model::{MAX_ENTRIES, MAX_SPARE, MapId, NEAR_LIMIT};
+use machine::{SLOT_BASE, SPAN};
+use maps::Registry;
+use std::io;
+use std::io::Write;
+
+/// The numbers of the regions of the context, the frame, the first map and the first map slot.
+const CONTEXT: u64 = 1 << 9;
+
+const FRAME: u64 = 1 << 10;
+
+const MAPS: u64 = 1 << 11;
+
+const SLOTS: u64 = SLOT_BASE / SPAN;
+
+/// So many map slots are kept for each map, each a region of its own.
+const MAP_SLOTS: u64 = (MAX_ENTRIES + MAX_SPARE) as u64;
+
+/// The number of the region near whose first byte a word lies, and the word's offset from there.
+fn region_of(word: u64) -> (u64, i64) {
+    let region = word / SPAN + (word % SPAN + NEAR_LIMIT) / SPAN;
+    (
+        region,
+        word.wrapping_sub(region.wrapping_mul(SPAN)).cast_signed(),
+    )
+}
+
+/// Writes a map by its number in the world, and its name.
+fn write_map<W: Write>(out: &mut W, maps: &Registry, map: u64) -> io::Result<()> {
+    match maps.name(MapId::new(map as usize)) {
+        Some(name) => write!(out, "map {map} ({name})"),
+        None => write!(out, "map {map}"),
+    }
+}
+
+/// Writes an offset from the first byte of a region, with its sign; nothing where it is none.
+fn write_offset<W: Write>(out: &mut W, offset: i64) -> io::Result<()> {
+    if offset == 0 {
+        return Ok(());
+    }
+    let sign = if offset < 0 { '-' } else { '+' };
+    let distance = offset.unsigned_abs();
+    write!(out, "{sign}{distance}")
+}
+
+/// Writes which place in memory a word would be, if it is one: the context, the frame, a map, a map slot.
+pub fn write_place<W: Write>(out: &mut W, maps: &Registry, word: u64) -> io::Result<()> {
+    let (region, offset) = region_of(word);
+    if region == CONTEXT {
+        write!(out, " (the context")?;
+    } else if region == FRAME {
+        write!(out, " (the frame")?;
+    } else if region >= SLOTS && region < SLOTS + MAP_SLOTS * maps.len() as u64 {
+        let number = region - SLOTS;
+        let slot = number % MAP_SLOTS;
+        write!(out, " (slot {slot} of ")?;
+        write_map(out, maps, number / MAP_SLOTS)?;
+    } else if region >= MAPS && region < MAPS + maps.len() as u64 {
+        write!(out, " (")?;
+        write_map(out, maps, region - MAPS)?;
+    } else {
+        return Ok(());
+    }
+    write_offset(out, offset)?;
+    write!(out, ")")
+}
