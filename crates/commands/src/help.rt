@@ -144,7 +144,7 @@ Runs a program as `bpfrt run` does, with the same words, and tells each of its s
 
 Prints of each step `SLOT: INSTRUCTION`, and below it, behind two spaces, what a store writes, and the registers,
 the bytes of the frame and the number of open locks that the step has changed. A number that would be an address
-has behind it what stands there: the context, the frame, a map, or a map slot, which is where an element lies.
+has behind it what stands there: the context, the frame (from r10 on), a map, or a map slot, where an element lies.
 
 Status, and the line on standard error: those of `bpfrt run`.
 

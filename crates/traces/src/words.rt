@@ -1,6 +1,6 @@
 //! The words of registers, as numbers or as places in memory.
 
-use bpf_model::{MAX_ENTRIES, MAX_SPARE, MapId, NEAR_LIMIT};
+use bpf_model::{FRAME_BYTES, MAX_ENTRIES, MAX_SPARE, MapId, NEAR_LIMIT};
 use machine::{SLOT_BASE, SPAN};
 use maps::Registry;
 use std::io;
@@ -45,13 +45,24 @@ fn write_offset<W: Write>(out: &mut W, offset: i64) -> io::Result<()> {
     write!(out, "{sign}{distance}")
 }
 
-/// Writes which place in memory a word would be, if it is one: the context, the frame, a map, a map slot.
+/// Writes which negative number a word stands for, if it does.
+fn write_signed<W: Write>(out: &mut W, number: i64) -> io::Result<()> {
+    if number < 0 {
+        return write!(out, " ({number})");
+    }
+    Ok(())
+}
+
+/// Writes which place in memory a word would be, if it is one: the context, the frame, counted from r10, a map, a map slot; or which negative
+/// number it stands for.
 pub fn write_place<W: Write>(out: &mut W, maps: &Registry, word: u64) -> io::Result<()> {
     let (region, offset) = region_of(word);
     if region == CONTEXT {
         write!(out, " (the context")?;
     } else if region == FRAME {
-        write!(out, " (the frame")?;
+        write!(out, " (r10")?;
+        write_offset(out, offset.saturating_sub(FRAME_BYTES as i64))?;
+        return write!(out, ")");
     } else if region >= SLOTS && region < SLOTS + MAP_SLOTS * maps.len() as u64 {
         let number = region - SLOTS;
         let slot = number % MAP_SLOTS;
@@ -61,7 +72,7 @@ pub fn write_place<W: Write>(out: &mut W, maps: &Registry, word: u64) -> io::Res
         write!(out, " (")?;
         write_map(out, maps, region - MAPS)?;
     } else {
-        return Ok(());
+        return write_signed(out, word.cast_signed());
     }
     write_offset(out, offset)?;
     write!(out, ")")
