@@ -1,7 +1,7 @@
 //! What is known of a register, in words.
 
 use crate::Source;
-use bpf_model::{FRAME_BYTES, MapId, MapKind};
+use bpf_model::{FRAME_BYTES, MapId};
 use register_kinds::{ORIGIN, RegKind};
 use scalar_domain::Scalar;
 use std::io;
@@ -86,20 +86,14 @@ fn write_map<W: Write>(out: &mut W, source: &Source, map: u32) -> io::Result<()>
     }
 }
 
-/// Writes a map, and its shape.
-fn write_shape<W: Write>(out: &mut W, source: &Source, map: u32) -> io::Result<()> {
+/// Writes a map, and the lengths of its keys and values.
+fn write_lengths<W: Write>(out: &mut W, source: &Source, map: u32) -> io::Result<()> {
     write_map(out, source, map)?;
     let Some(shape) = source.registry.shape(MapId::new(map as usize)) else {
         return Ok(());
     };
     let (key_len, value_len) = (shape.key_len, shape.value_len);
-    match shape.kind {
-        MapKind::Hash => write!(
-            out,
-            ", a hash map, keys of {key_len} bytes, values of {value_len}"
-        ),
-        MapKind::Array => write!(out, ", an array, values of {value_len} bytes"),
-    }
+    write!(out, ", keys of {key_len} bytes, values of {value_len}")
 }
 
 /// Writes where in the value of an element of the program's map of this number a reference is.
@@ -130,7 +124,7 @@ pub fn write_kind<W: Write>(out: &mut W, source: &Source, kind: &RegKind) -> io:
         RegKind::Num(numbers) => write_numbers(out, numbers),
         RegKind::Ctx(offsets) => write_context(out, source, offsets),
         RegKind::Frame(offset) => write_place(out, *offset),
-        RegKind::Map(map) => write_shape(out, source, *map),
+        RegKind::Map(map) => write_lengths(out, source, *map),
         RegKind::Value { map, offset } => write_value(out, source, *map, offset),
         RegKind::MaybeNull { map, .. } => {
             write!(out, "what a lookup in ")?;
