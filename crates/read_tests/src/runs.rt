@@ -83,7 +83,8 @@ fn a_load_of_a_byte_is_refused(rt: HostRuntime) -> Result<(), Fail> {
 fn are_tied(words: &Shared<u8, View, TableShape, Law>, share: &Seat<u8, View>)
     requires { share.now.table_id ≡ words.now.table_id }
 {
-    let _ = (words, share);
+    let _ = words;
+    let _ = share;
 }
 
 /// The shares of a seat and of the writer are of the table whose words it hands out.
