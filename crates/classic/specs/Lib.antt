@@ -1,9 +1,3 @@
-pub mod Context
 pub mod Faults
 pub mod Layout
-pub mod Machine
-pub mod Opcode
-pub mod Paths
-pub mod ReadFaults
-pub mod Reading
-pub mod WellFormed
+pub mod Translation

@@ -8,8 +8,8 @@ ghost use Rattle.bpf_model.specs.declared.opcode.Size.TheVariants.{Word32, Word6
 ghost use Rattle.bpf_model.specs.declared.opcode.Width.TheVariants as widths;
 ghost use Rattle.classic.specs.Layout.{imm_of as imm_number, distance as distance_of, jump_to as jump_to_insn, jump_if as jump_if_insn, move as move_insn, put_number as put_number_insn, word_offset as word_offset_of, register_of, alu_of, condition_of, operand_of};
 
-use crate::insn::{ClassicOp, ClassicOperand, ClassicReg, ClassicTest};
 use bpf_model::{AluOp, Condition, Insn, Operand, Reg, Size, Width};
+use classic_program::{ClassicOp, ClassicOperand, ClassicReg, ClassicTest};
 
 /// The register of A.
 pub(crate) const A: u8 = 6;

@@ -1,11 +1,10 @@
 //! Where the block of each instruction begins.
 ghost use Rattle.std.specs.Prelude.{◌≡◌, ◌+◌, ◌*◌, ◌≤◌, length, IfOk};
-ghost use Rattle.classic.specs.Machine.{size_of};
+ghost use Rattle.classic_program.specs.Machine.{size_of};
 ghost use Rattle.classic.specs.Layout.{divides as divides_op, datum_slots as datum_slots_of, block_slots as block_slots_of, starts_from, end_from, prologue_slots, bytes_slots as bytes_slots_of, alu_slots as alu_slots_of};
-ghost use Rattle.classic.specs.WellFormed.{most_instructions};
+ghost use Rattle.classic_program.specs.WellFormed.{most_instructions};
 
-use crate::data::Data;
-use crate::insn::{ClassicInsn, ClassicOp, ClassicOperand, Datum, LoadSize};
+use classic_program::{ClassicInsn, ClassicOp, ClassicOperand, Data, Datum, LoadSize};
 use std::alloc::{AllocError, Global};
 
 /// The slots before the first block.

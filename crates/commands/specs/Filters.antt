@@ -5,20 +5,22 @@ use Rattle.std.specs.Io.KnownBytes.{Appends}
 use Rattle.bpf_model.specs.declared.insn.Insn.{Insn}
 use Rattle.bpf_model.specs.Spelling.{text}
 use Rattle.program_files.specs.ProgramFile.{FileContent, FileSays}
-use Rattle.classic.specs.declared.data.Data.{Data}
-use Rattle.classic.specs.declared.data.Data.TheVariants.{Packet, Seccomp}
-use Rattle.classic.specs.declared.insn.ClassicInsn.{ClassicInsn}
-use Rattle.classic.specs.declared.sock_filter.SockFilter.{SockFilter}
-use Rattle.classic.specs.declared.fault.ReadFault.TheVariants as read_faults
-use Rattle.classic.specs.declared.fault.ClassicFault.{ClassicFault}
+use Rattle.classic_program.specs.declared.data.Data.{Data}
+use Rattle.classic_program.specs.declared.data.Data.TheVariants.{Packet, Seccomp}
+use Rattle.classic_program.specs.declared.insn.ClassicInsn.{ClassicInsn}
+use Rattle.classic_program.specs.declared.sock_filter.SockFilter.{SockFilter}
+use Rattle.classic_program.specs.declared.fault.ReadFault.TheVariants as read_faults
+use Rattle.classic_program.specs.declared.fault.ClassicFault.{ClassicFault}
+use Rattle.classic_program.specs.declared.fault.ClassicFault.TheVariants as classic_faults
+use Rattle.classic_program.specs.Context.{context_bytes}
+use Rattle.classic_program.specs.Faults.{IsCheckFault}
+use Rattle.classic_program.specs.Opcode.{AreInsnsOf}
+use Rattle.classic_program.specs.Reading.{IsListing, filters_in}
+use Rattle.classic_program.specs.WellFormed.{IsWellFormed, checked}
 use Rattle.classic.specs.declared.fault.TranslateFault.{TranslateFault}
-use Rattle.classic.specs.declared.fault.ClassicFault.TheVariants as classic_faults
 use Rattle.classic.specs.declared.fault.TranslateFault.TheVariants as translate_faults
-use Rattle.classic.specs.Context.{IsTranslation, context_bytes}
-use Rattle.classic.specs.Faults.{IsCheckFault, IsTranslateFault}
-use Rattle.classic.specs.Opcode.{AreInsnsOf}
-use Rattle.classic.specs.Reading.{IsListing, filters_in}
-use Rattle.classic.specs.WellFormed.{IsWellFormed, checked}
+use Rattle.classic.specs.Faults.{IsTranslateFault}
+use Rattle.classic.specs.Translation.{IsTranslation}
 use Rattle.commands.specs.declared.filter.FilterFault.{FilterFault}
 use Rattle.commands.specs.declared.filter.FilterFault.TheVariants.{NotUtf8, Unread, Flawed, Untranslated, Memory}
 

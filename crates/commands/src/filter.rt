@@ -1,6 +1,6 @@
 //! The program file of a classic program.
 ghost use Rattle.std.specs.Prelude.{◌≡◌, ◌≢◌, ◌⊎◌, IfOk, IfErr, IfSome, IsTrue};
-ghost use Rattle.classic.specs.Context.{context_bytes};
+ghost use Rattle.classic_program.specs.Context.{context_bytes};
 ghost use Rattle.program_files.specs.ProgramFile.{IsLoadFault};
 ghost use Rattle.commands.specs.Filters.{
   IsFileOfCode,

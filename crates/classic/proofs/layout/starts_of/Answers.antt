@@ -2,10 +2,10 @@ use Rattle.std.proofs.Common.{◌≡◌, ℕ, ◌+◌, ◌<◌, ◌≤◌, List,
 use Rattle.std.specs.Prelude.{slice_get}
 use Rattle.std.proofs.lemmas.Option.{slice_get-get_or}
 use Rattle.bpf_model.proofs.Lists.{get-below}
-use Rattle.classic.specs.declared.data.Data.{Data}
-use Rattle.classic.specs.declared.insn.ClassicInsn.{ClassicInsn}
+use Rattle.classic_program.specs.declared.data.Data.{Data}
+use Rattle.classic_program.specs.declared.insn.ClassicInsn.{ClassicInsn}
 use Rattle.classic.specs.Layout.{block_slots}
-use Rattle.classic.proofs.Marking.{get-at}
+use Rattle.classic_program.proofs.Marking.{get-at}
 use Rattle.classic.proofs.Sequence.{IsLaying, laying-reached, laying-left}
 use Rattle.classic.proofs.layout.starts_of.Goals as goal
 use Rattle.classic.proofs.layout.starts_of.Goals.{then-reached-index, else-reached-index}

@@ -1,9 +1,0 @@
-use Rattle.std.proofs.Common.{◌≡◌, ℕ, ◌<◌, length, Some}
-use Rattle.std.specs.Prelude.{slice_get}
-use Rattle.classic.specs.declared.insn.ClassicInsn.{ClassicInsn}
-use Rattle.classic.specs.Faults.{IsSoundAt}
-use Rattle.classic.proofs.checking.first_flaw.Given as goal
-
-abbrev pub invariant-loop-index : goal.invariant-loop-index
-invariant-loop-index l =
-    (k : ℕ) (i : ClassicInsn) → k < l.index → slice_get l.program k ≡ Some i → IsSoundAt l.kind (length l.program) k i

@@ -1,6 +1,0 @@
-use Rattle.classic.proofs.Decodes.{IsDecoding}
-use Rattle.classic.proofs.decoding.decode.Given as goal
-
-abbrev pub invariant-loop-index : goal.invariant-loop-index
-invariant-loop-index l =
-    IsDecoding l.filter l.program.items l.index

@@ -1,6 +1,0 @@
-use Rattle.std.proofs.Common.{take}
-use Rattle.classic.specs.Reading.{Lacks}
-use Rattle.classic.proofs.reading.cut.Given as goal
-
-abbrev pub invariant-loop-index : goal.invariant-loop-index
-invariant-loop-index l = Lacks l.separator (take l.index l.bytes)

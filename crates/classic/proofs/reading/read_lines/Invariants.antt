@@ -1,6 +1,0 @@
-use Rattle.classic.specs.Reading.{parts_left}
-use Rattle.classic.proofs.Lines.{IsReadingLines}
-use Rattle.classic.proofs.reading.read_lines.Given as goal
-
-abbrev pub invariant-loop-index : goal.invariant-loop-index
-invariant-loop-index l = IsReadingLines (parts_left 10 l.fn.lines) (parts_left 10 l.rest) l.filters.items l.index

@@ -1,0 +1,6 @@
+use Rattle.std.proofs.Common.{take}
+use Rattle.classic_program.specs.Reading.{Lacks}
+use Rattle.classic_program.proofs.reading.cut.Given as goal
+
+abbrev pub invariant-loop-index : goal.invariant-loop-index
+invariant-loop-index l = Lacks l.separator (take l.index l.bytes)
