@@ -1,4 +1,7 @@
 //! The calls on maps and worlds.
+ghost use Rattle.std.specs.Prelude.{IfOk};
+ghost use Rattle.bpf_model.specs.View.{AreNewMaps};
+
 use crate::alike::are_alike;
 use crate::programs::SHAPE;
 use anyhow::{Result, bail, ensure};
@@ -42,10 +45,18 @@ pub fn created(alloc: Global) -> Result<bool> {
     Ok(again)
 }
 
+/// A registry of one new map.
+fn registry_of(alloc: Global, shape: MapShape) -> Result<Registry>
+    ensures new { IfOk result (λ r. AreNewMaps r.maps) }
+{
+    let mut registry = Registry::new(alloc);
+    registry.create("counts", shape)?;
+    Ok(registry)
+}
+
 /// A world of one map, and of the program, bound to it.
 fn world_of(alloc: Global, verified: &Verified) -> Result<Result<World, WorldFault>> {
-    let mut registry = Registry::new(alloc);
-    registry.create("counts", SHAPE)?;
+    let registry = registry_of(alloc, SHAPE)?;
     let mut maps = ArrayVec::new();
     maps.push(0);
     let mut programs = Vec::new(alloc);
