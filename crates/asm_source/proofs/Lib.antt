@@ -1,0 +1,4 @@
+pub mod LineLaws
+pub mod NameLaws
+pub mod TextLaws
+pub mod TokenLaws

@@ -1,0 +1,6 @@
+pub mod Tokens
+pub mod Numbers
+pub mod Names
+pub mod Faulty
+pub mod Plain
+pub mod Maps

@@ -1,0 +1,18 @@
+//! People's assembly, rewritten line for line to the fixed language that `asm::assemble` reads.
+//!
+//! [`plain_of`] resolves labels, names of numbers and of maps, and hexadecimal numbers, and leaves out comments and what
+//! blanks are too many. `specs/Plain.antt` says what the plain text of a source is; docs/ASSEMBLY.md describes the language.
+#![tactic(auto)]
+
+mod bindings;
+mod fault;
+mod lines;
+mod names;
+mod numbers;
+mod plain;
+mod site;
+mod tokens;
+mod words;
+
+pub use fault::SourceFault;
+pub use plain::plain_of;
