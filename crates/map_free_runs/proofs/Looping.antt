@@ -136,39 +136,30 @@ along c context from before start b moved index w (once_more so_far at mid new n
     subst (λ (n : ℕ). StandsBefore c context (index_after at next) n new) (omega arith)
     (loop_moves c context at (before + so_far) mid (along c context from before start b so_far at mid h) new next does m)
 
-module _ (c : Checked) (context : List ℕ) (from before most : ℕ) (start : Workspace) (b : StandsBefore c context from before start) where
-  pub loop_can_go_on : CanGoOn c context from most start
-  loop_can_go_on = λ moved index w below h. loop_can c context index (before + moved) w (along c context from before start b moved index w h)
+module _ (c : Checked) (context : List ℕ) (from before : ℕ) (start : Workspace) (b : StandsBefore c context from before start) where
+  pub loop_can_go_on : CanGoOn c context from start
+  loop_can_go_on = λ moved index w h. loop_can c context index (before + moved) w (along c context from before start b moved index w h)
 
-  module _ (halt : Halt) (new : Workspace) (h : HasGoneOn c.program context from most start halt new) where
-    abbrev last : StandsBefore c context halt.index (before + (most - halt.left)) h.mid
-    last = along c context from before start b (most - halt.left) halt.index h.mid h.moves
+  module _ (halt : Halt) (new : Workspace) (h : HasGoneOn c.program context from start halt new) where
+    abbrev last : StandsBefore c context halt.index (before + halt.moved) h.mid
+    last = along c context from before start b halt.moved halt.index h.mid h.moves
 
-    behind : (index : ℕ) → StandsBefore c context index (before + (most - halt.left) + 1) new →
-        StandsBefore c context index (before + ((most - halt.left) + 1)) new
+    behind : (index : ℕ) → StandsBefore c context index (before + halt.moved + 1) new →
+        StandsBefore c context index (before + (halt.moved + 1)) new
     behind index s = subst (λ (n : ℕ). StandsBefore c context index n new) (omega arith) s
 
-    pub halts_on : halt.next ≡ On → StandsBefore c context (halt.index + 1) (before + ((most - halt.left) + 1)) new
-    halts_on e = behind (halt.index + 1) (loop_moves c context halt.index (before + (most - halt.left)) h.mid last new
-        On (subst (λ (n : Next). (insn : Insn) → DoesAt c.program context insn halt.index h.mid n new) e h.last) tt)
+    pub halts_shared : (request : Request) → halt.next ≡ Shared request → StandsBefore c context (halt.index + 1) (before + (halt.moved + 1)) new
+    halts_shared request e = behind (halt.index + 1) (loop_passes c context halt.index (before + halt.moved) h.mid last new halt.next request h.last e)
 
-    pub halts_at : (target : ℕ) → halt.next ≡ At target → StandsBefore c context target (before + ((most - halt.left) + 1)) new
-    halts_at target e = behind target (loop_moves c context halt.index (before + (most - halt.left)) h.mid last new
-        (At target) (subst (λ (n : Next). (insn : Insn) → DoesAt c.program context insn halt.index h.mid n new) e
-        h.last) tt)
-
-    pub halts_shared : (request : Request) → halt.next ≡ Shared request → StandsBefore c context (halt.index + 1) (before + ((most - halt.left) + 1)) new
-    halts_shared request e = behind (halt.index + 1) (loop_passes c context halt.index (before + (most - halt.left)) h.mid last new halt.next request h.last e)
-
-    pub halts_exited : (n : ℕ) → halt.next ≡ Exit n → ExitsWith (loaded_alone c) context (before + (most - halt.left) + 1) n
-    halts_exited n e = loop_exits c context halt.index (before + (most - halt.left)) h.mid last new halt.next n h.last e
+    pub halts_exited : (n : ℕ) → halt.next ≡ Exit n → ExitsWith (loaded_alone c) context (before + halt.moved + 1) n
+    halts_exited n e = loop_exits c context halt.index (before + halt.moved) h.mid last new halt.next n h.last e
 
     -- so often it has moved, and so far it has come
-    pub halts_below : before + (most - halt.left) < length c.program
-    halts_below = loop_below c context halt.index (before + (most - halt.left)) h.mid last
+    pub halts_below : before + halt.moved < length c.program
+    halts_below = loop_below c context halt.index (before + halt.moved) h.mid last
 
-    pub halts_limit : IsJustified c → before + (most - halt.left) < MAX_SLOTS
-    halts_limit = loop_limit c context halt.index (before + (most - halt.left)) h.mid last
+    pub halts_limit : IsJustified c → before + halt.moved < MAX_SLOTS
+    halts_limit = loop_limit c context halt.index (before + halt.moved) h.mid last
 
     pub halts_room : IsJustified c → halt.index < MAX_SLOTS
-    halts_room = loop_room c context halt.index (before + (most - halt.left)) h.mid last
+    halts_room = loop_room c context halt.index (before + halt.moved) h.mid last

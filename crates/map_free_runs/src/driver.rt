@@ -6,7 +6,7 @@ ghost use Rattle.bpf_model.specs.Exit.{ExitsWith, HasNoMaps};
 ghost use Rattle.plan_laws.specs.MayExit.{MayExitWith};
 ghost use Rattle.map_free_runs.specs.Lone.{loaded_alone};
 
-use bpf_model::{CtxBytes, MAX_SLOTS, are_bytes};
+use bpf_model::{CtxBytes, are_bytes};
 use machine::{Next, Workspace};
 use verifier::Verified;
 
@@ -40,26 +40,18 @@ pub fn run_to_exit(verified: &Verified, ctx: &CtxBytes) -> Finished
     let mut index = 0;
     let mut moved = 0;
     'steps: loop {
-        let halt = workspace.go_on(verified, context, index, MAX_SLOTS);
-        let before_last = MAX_SLOTS - halt.left;
+        let halt = workspace.go_on(verified, context, index);
         match halt.next {
-            Next::On => {
-                index = halt.index + 1;
-                moved += before_last + 1;
-            }
-            Next::At(target) => {
-                index = target;
-                moved += before_last + 1;
-            }
+            Next::On | Next::At(_) => unreachable!(),
             // A lock or an unlock: a run alone asks nothing else.
             Next::Shared(_) => {
                 index = halt.index + 1;
-                moved += before_last + 1;
+                moved += halt.moved + 1;
             }
             Next::Exit(value) => {
                 return Finished {
                     value,
-                    steps: moved + before_last + 1,
+                    steps: moved + halt.moved + 1,
                 };
             }
         }

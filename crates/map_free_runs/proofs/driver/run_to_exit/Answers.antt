@@ -1,13 +1,13 @@
-use Rattle.std.proofs.Common.{◌<◌, ℕ, ◌+◌, ◌-◌, List, arith, length, sym, subst}
+use Rattle.std.proofs.Common.{◌<◌, ℕ, ◌+◌, ◌-◌, List, arith, inl, inr, length, sym, subst}
 use Rattle.bpf_model.specs.Real.{AreBytes}
 use Rattle.bpf_model.specs.Exit.{ExitsWith}
 use Rattle.plan_laws.proofs.Exits.{one_exit}
 use Rattle.view_laws.specs.Reactions.{fresh_view}
+use Rattle.machine.specs.Workspaces.{IsMove}
 use Rattle.map_free_runs.specs.Lone.{StandsAlone, loaded_alone}
-use Rattle.map_free_runs.proofs.Looping.{halts_at, halts_below, halts_exited, halts_limit, halts_on, halts_room, halts_shared, loop_can_go_on, stands_first}
+use Rattle.map_free_runs.proofs.Looping.{halts_below, halts_exited, halts_limit, halts_room, halts_shared, loop_can_go_on, stands_first}
 use Rattle.map_free_runs.proofs.Starting.{starts}
 use Rattle.map_free_runs.proofs.driver.run_to_exit.Goals as goal
-use Rattle.bpf_model.specs.declared.limits.TheConstants.{MAX_SLOTS}
 
 pub steps-init : goal.steps-init
 steps-init c =
@@ -19,127 +19,91 @@ steps-init c =
 
 pub go_on-halt-requires-clause-can : goal.go_on-halt-requires-clause-can
 go_on-halt-requires-clause-can c = loop_can_go_on c.args.verified.now c.as_slice-context.result.now c.steps.index
-    c.steps.moved MAX_SLOTS c.steps.workspace c.steps.invariant
+    c.steps.moved c.steps.workspace c.steps.invariant
 
-pub overflow_add-moved-in-On : goal.overflow_add-moved-in-On
-overflow_add-moved-in-On c =
-    let below = halts_limit c.args.verified.now c.as_slice-context.result.now c.steps.index c.steps.moved MAX_SLOTS
+pub unreachable-requires : goal.unreachable-requires
+unreachable-requires c = elim c.in-On.is [
+  | inl e ↦ c.go_on-halt.ensures.ended (subst IsMove (sym e) tt)
+  | inr x ↦ c.go_on-halt.ensures.ended (subst IsMove (sym x.1) tt)
+]
+
+pub overflow_add-moved : goal.overflow_add-moved
+overflow_add-moved c =
+    let below = halts_limit c.args.verified.now c.as_slice-context.result.now c.steps.index c.steps.moved
     c.steps.workspace c.steps.invariant c.go_on-halt.result c.go_on-halt.new.self c.go_on-halt.ensures
     c.program-program.ensures.justified in
     omega (arith, below)
 
-pub overflow_add-moved-in-At-2 : goal.overflow_add-moved-in-At-2
-overflow_add-moved-in-At-2 c =
-    let below = halts_limit c.args.verified.now c.as_slice-context.result.now c.steps.index c.steps.moved MAX_SLOTS
-    c.steps.workspace c.steps.invariant c.go_on-halt.result c.go_on-halt.new.self c.go_on-halt.ensures
-    c.program-program.ensures.justified in
-    omega (arith, below)
-
-pub overflow_add-moved-in-Shared-2 : goal.overflow_add-moved-in-Shared-2
-overflow_add-moved-in-Shared-2 c =
-    let below = halts_limit c.args.verified.now c.as_slice-context.result.now c.steps.index c.steps.moved MAX_SLOTS
+pub overflow_add-moved-2 : goal.overflow_add-moved-2
+overflow_add-moved-2 c =
+    let below = halts_limit c.args.verified.now c.as_slice-context.result.now c.steps.index c.steps.moved
     c.steps.workspace c.steps.invariant c.go_on-halt.result c.go_on-halt.new.self c.go_on-halt.ensures
     c.program-program.ensures.justified in
     omega (arith, below)
 
 pub overflow_add-result : goal.overflow_add-result
 overflow_add-result c =
-    let below = halts_limit c.args.verified.now c.as_slice-context.result.now c.steps.index c.steps.moved MAX_SLOTS
+    let below = halts_limit c.args.verified.now c.as_slice-context.result.now c.steps.index c.steps.moved
     c.steps.workspace c.steps.invariant c.go_on-halt.result c.go_on-halt.new.self c.go_on-halt.ensures
     c.program-program.ensures.justified in
     omega (arith, below)
 
 pub overflow_add-result-in-Exit : goal.overflow_add-result-in-Exit
 overflow_add-result-in-Exit c =
-    let below = halts_limit c.args.verified.now c.as_slice-context.result.now c.steps.index c.steps.moved MAX_SLOTS
+    let below = halts_limit c.args.verified.now c.as_slice-context.result.now c.steps.index c.steps.moved
     c.steps.workspace c.steps.invariant c.go_on-halt.result c.go_on-halt.new.self c.go_on-halt.ensures
     c.program-program.ensures.justified in
     omega (arith, below)
 
 pub returns-in-Exit-clause-limit : goal.returns-in-Exit-clause-limit
 returns-in-Exit-clause-limit c =
-    let below = halts_limit c.args.verified.now c.as_slice-context.result.now c.steps.index c.steps.moved MAX_SLOTS
+    let below = halts_limit c.args.verified.now c.as_slice-context.result.now c.steps.index c.steps.moved
     c.steps.workspace c.steps.invariant c.go_on-halt.result c.go_on-halt.new.self c.go_on-halt.ensures
     c.program-program.ensures.justified in
     omega (arith, below)
 
 pub overflow_add-index : goal.overflow_add-index
 overflow_add-index c =
-    let below = halts_room c.args.verified.now c.as_slice-context.result.now c.steps.index c.steps.moved MAX_SLOTS
+    let below = halts_room c.args.verified.now c.as_slice-context.result.now c.steps.index c.steps.moved
     c.steps.workspace c.steps.invariant c.go_on-halt.result c.go_on-halt.new.self c.go_on-halt.ensures
     c.program-program.ensures.justified in
     omega (arith, below)
-
-pub overflow_add-index-in-Shared : goal.overflow_add-index-in-Shared
-overflow_add-index-in-Shared c =
-    let below = halts_room c.args.verified.now c.as_slice-context.result.now c.steps.index c.steps.moved MAX_SLOTS
-    c.steps.workspace c.steps.invariant c.go_on-halt.result c.go_on-halt.new.self c.go_on-halt.ensures
-    c.program-program.ensures.justified in
-    omega (arith, below)
-
-pub steps-smaller-in-On : goal.steps-smaller-in-On
-steps-smaller-in-On c =
-    let below : c.steps.moved + (MAX_SLOTS - c.go_on-halt.result.left) < length c.args.verified.now.program =
-    halts_below c.args.verified.now c.as_slice-context.result.now c.steps.index c.steps.moved MAX_SLOTS
-    c.steps.workspace c.steps.invariant c.go_on-halt.result c.go_on-halt.new.self c.go_on-halt.ensures in
-    let less : length c.args.verified.now.program - (c.steps.moved + ((MAX_SLOTS - c.go_on-halt.result.left) + 1)) <
-    length c.args.verified.now.program - c.steps.moved = omega (arith, below) in
-    less
-
-pub steps-smaller-in-At : goal.steps-smaller-in-At
-steps-smaller-in-At c =
-    let below : c.steps.moved + (MAX_SLOTS - c.go_on-halt.result.left) < length c.args.verified.now.program =
-    halts_below c.args.verified.now c.as_slice-context.result.now c.steps.index c.steps.moved MAX_SLOTS
-    c.steps.workspace c.steps.invariant c.go_on-halt.result c.go_on-halt.new.self c.go_on-halt.ensures in
-    let less : length c.args.verified.now.program - (c.steps.moved + ((MAX_SLOTS - c.go_on-halt.result.left) + 1)) <
-    length c.args.verified.now.program - c.steps.moved = omega (arith, below) in
-    less
 
 pub steps-smaller : goal.steps-smaller
 steps-smaller c =
-    let below : c.steps.moved + (MAX_SLOTS - c.go_on-halt.result.left) < length c.args.verified.now.program =
-    halts_below c.args.verified.now c.as_slice-context.result.now c.steps.index c.steps.moved MAX_SLOTS
+    let below : c.steps.moved + c.go_on-halt.result.moved < length c.args.verified.now.program =
+    halts_below c.args.verified.now c.as_slice-context.result.now c.steps.index c.steps.moved
     c.steps.workspace c.steps.invariant c.go_on-halt.result c.go_on-halt.new.self c.go_on-halt.ensures in
-    let less : length c.args.verified.now.program - (c.steps.moved + ((MAX_SLOTS - c.go_on-halt.result.left) + 1)) <
+    let less : length c.args.verified.now.program - (c.steps.moved + (c.go_on-halt.result.moved + 1)) <
     length c.args.verified.now.program - c.steps.moved = omega (arith, below) in
     less
 
-pub steps-preserved-in-On : goal.steps-preserved-in-On
-steps-preserved-in-On c = halts_on c.args.verified.now c.as_slice-context.result.now c.steps.index c.steps.moved
-    MAX_SLOTS c.steps.workspace c.steps.invariant c.go_on-halt.result c.go_on-halt.new.self c.go_on-halt.ensures
-    c.in-On.is
-
-pub steps-preserved-in-At : goal.steps-preserved-in-At
-steps-preserved-in-At c = halts_at c.args.verified.now c.as_slice-context.result.now c.steps.index c.steps.moved
-    MAX_SLOTS c.steps.workspace c.steps.invariant c.go_on-halt.result c.go_on-halt.new.self c.go_on-halt.ensures
-    c.in-At.target c.in-At.is
-
 pub steps-preserved : goal.steps-preserved
 steps-preserved c = halts_shared c.args.verified.now c.as_slice-context.result.now c.steps.index c.steps.moved
-    MAX_SLOTS c.steps.workspace c.steps.invariant c.go_on-halt.result c.go_on-halt.new.self c.go_on-halt.ensures _
+    c.steps.workspace c.steps.invariant c.go_on-halt.result c.go_on-halt.new.self c.go_on-halt.ensures _
     c.in-Shared.is
 
 pub returns-in-Exit-clause-exits : goal.returns-in-Exit-clause-exits
 returns-in-Exit-clause-exits c =
     subst (λ (b : List ℕ). ExitsWith (loaded_alone c.args.verified.now) b
-    (c.steps.moved + (MAX_SLOTS - c.go_on-halt.result.left) + 1) c.in-Exit.value) c.as_slice-context.ensures.value
-    (halts_exited c.args.verified.now c.as_slice-context.result.now c.steps.index c.steps.moved MAX_SLOTS
+    (c.steps.moved + c.go_on-halt.result.moved + 1) c.in-Exit.value) c.as_slice-context.ensures.value
+    (halts_exited c.args.verified.now c.as_slice-context.result.now c.steps.index c.steps.moved
     c.steps.workspace c.steps.invariant c.go_on-halt.result c.go_on-halt.new.self c.go_on-halt.ensures
     c.in-Exit.value c.in-Exit.is)
 
 pub returns-in-Exit-clause-only : goal.returns-in-Exit-clause-only
 returns-in-Exit-clause-only c = λ shapes steps value may.
     let exits = subst (λ (b : List ℕ). ExitsWith (loaded_alone c.args.verified.now) b
-    (c.steps.moved + (MAX_SLOTS - c.go_on-halt.result.left) + 1) c.in-Exit.value) c.as_slice-context.ensures.value
-    (halts_exited c.args.verified.now c.as_slice-context.result.now c.steps.index c.steps.moved MAX_SLOTS
+    (c.steps.moved + c.go_on-halt.result.moved + 1) c.in-Exit.value) c.as_slice-context.ensures.value
+    (halts_exited c.args.verified.now c.as_slice-context.result.now c.steps.index c.steps.moved
     c.steps.workspace c.steps.invariant c.go_on-halt.result c.go_on-halt.new.self c.go_on-halt.ensures
     c.in-Exit.value c.in-Exit.is) in
     one_exit shapes (loaded_alone c.args.verified.now) c.args.ctx.now.items
-    (c.steps.moved + (MAX_SLOTS - c.go_on-halt.result.left) + 1) steps c.in-Exit.value value exits may
+    (c.steps.moved + c.go_on-halt.result.moved + 1) steps c.in-Exit.value value exits may
 
 pub returns-in-Exit-clause-bounded : goal.returns-in-Exit-clause-bounded
 returns-in-Exit-clause-bounded c =
-    let below : c.steps.moved + (MAX_SLOTS - c.go_on-halt.result.left) < length c.args.verified.now.program =
-    halts_below c.args.verified.now c.as_slice-context.result.now c.steps.index c.steps.moved MAX_SLOTS
+    let below : c.steps.moved + c.go_on-halt.result.moved < length c.args.verified.now.program =
+    halts_below c.args.verified.now c.as_slice-context.result.now c.steps.index c.steps.moved
     c.steps.workspace c.steps.invariant c.go_on-halt.result c.go_on-halt.new.self c.go_on-halt.ensures in
     omega (arith, below)
