@@ -16,101 +16,45 @@ use Rattle.bpf_model.specs.declared.opcode.Condition.TheVariants as condition
 use Rattle.bpf_model.specs.declared.insn.AluOp.TheVariants as alu
 use Rattle.bpf_model.specs.declared.insn.CallKind.TheVariants.{Helper, Kernel}
 use Rattle.disasm.specs.declared.mnemonic.Mnemonic.{Mnemonic}
-use Rattle.disasm.specs.declared.mnemonic.Mnemonic.TheVariants.{Alu, MoveSigned, Negate, ByteSwap, LoadNumber}
-use Rattle.disasm.specs.declared.mnemonic.Mnemonic.TheVariants.{LoadMap, Jump, JumpLong, JumpIf, Call, Exit, Load}
+use Rattle.disasm.specs.declared.mnemonic.Mnemonic.TheVariants.{Alu, MoveSigned, Negate, ByteSwap}
+use Rattle.disasm.specs.declared.mnemonic.Mnemonic.TheVariants.{JumpIf, Call, Load}
 use Rattle.disasm.specs.declared.mnemonic.Mnemonic.TheVariants.{LoadSigned, Store, StoreRegister}
+use Rattle.disasm.specs.declared.mnemonic.TheConstants.{MNEMONICS}
 use Rattle.disasm.specs.Text.{mnemonic_text}
-use Rattle.asm.specs.declared.names.TheConstants.{MNEMONICS}
 
 abbrev pub named : List ℕ → Option Mnemonic
 named name = find (λ m. bytes_eq (mnemonic_text m) name) MNEMONICS
 
 pub again : (m : Mnemonic) → named (mnemonic_text m) ≡ Some m
 again (Alu alu.Add Word64) = refl
+again (Alu op Word64) = refl
 again (Alu alu.Add Word32) = refl
-again (Alu alu.Sub Word64) = refl
-again (Alu alu.Sub Word32) = refl
-again (Alu alu.Mul Word64) = refl
-again (Alu alu.Mul Word32) = refl
-again (Alu alu.Div Word64) = refl
-again (Alu alu.Div Word32) = refl
-again (Alu alu.SignedDiv Word64) = refl
-again (Alu alu.SignedDiv Word32) = refl
-again (Alu alu.Or Word64) = refl
-again (Alu alu.Or Word32) = refl
-again (Alu alu.And Word64) = refl
-again (Alu alu.And Word32) = refl
-again (Alu alu.ShiftLeft Word64) = refl
-again (Alu alu.ShiftLeft Word32) = refl
-again (Alu alu.ShiftRight Word64) = refl
-again (Alu alu.ShiftRight Word32) = refl
-again (Alu alu.Mod Word64) = refl
-again (Alu alu.Mod Word32) = refl
-again (Alu alu.SignedMod Word64) = refl
-again (Alu alu.SignedMod Word32) = refl
-again (Alu alu.Xor Word64) = refl
-again (Alu alu.Xor Word32) = refl
-again (Alu alu.Move Word64) = refl
-again (Alu alu.Move Word32) = refl
-again (Alu alu.ShiftRightSigned Word64) = refl
-again (Alu alu.ShiftRightSigned Word32) = refl
+again (Alu op Word32) = refl
 again (MoveSigned Word64) = refl
 again (MoveSigned Word32) = refl
 again (Negate Word64) = refl
 again (Negate Word32) = refl
 again (ByteSwap ToLittle swap.Two) = refl
-again (ByteSwap ToLittle swap.Four) = refl
-again (ByteSwap ToLittle swap.Eight) = refl
 again (ByteSwap ToBig swap.Two) = refl
-again (ByteSwap ToBig swap.Four) = refl
-again (ByteSwap ToBig swap.Eight) = refl
 again (ByteSwap Swap swap.Two) = refl
+again (ByteSwap ToLittle swap.Four) = refl
+again (ByteSwap ToBig swap.Four) = refl
 again (ByteSwap Swap swap.Four) = refl
-again (ByteSwap Swap swap.Eight) = refl
-again LoadNumber = refl
-again LoadMap = refl
-again Jump = refl
-again JumpLong = refl
+again (ByteSwap order swap.Eight) = refl
 again (JumpIf condition.Equal Word64) = refl
+again (JumpIf test Word64) = refl
 again (JumpIf condition.Equal Word32) = refl
-again (JumpIf condition.Greater Word64) = refl
-again (JumpIf condition.Greater Word32) = refl
-again (JumpIf condition.GreaterOrEqual Word64) = refl
-again (JumpIf condition.GreaterOrEqual Word32) = refl
-again (JumpIf condition.SharesBits Word64) = refl
-again (JumpIf condition.SharesBits Word32) = refl
-again (JumpIf condition.NotEqual Word64) = refl
-again (JumpIf condition.NotEqual Word32) = refl
-again (JumpIf condition.SignedGreater Word64) = refl
-again (JumpIf condition.SignedGreater Word32) = refl
-again (JumpIf condition.SignedGreaterOrEqual Word64) = refl
-again (JumpIf condition.SignedGreaterOrEqual Word32) = refl
-again (JumpIf condition.Less Word64) = refl
-again (JumpIf condition.Less Word32) = refl
-again (JumpIf condition.LessOrEqual Word64) = refl
-again (JumpIf condition.LessOrEqual Word32) = refl
-again (JumpIf condition.SignedLess Word64) = refl
-again (JumpIf condition.SignedLess Word32) = refl
-again (JumpIf condition.SignedLessOrEqual Word64) = refl
-again (JumpIf condition.SignedLessOrEqual Word32) = refl
+again (JumpIf test Word32) = refl
 again (Call Helper) = refl
 again (Call Kernel) = refl
-again Exit = refl
 again (Load width.One) = refl
-again (Load width.Two) = refl
-again (Load width.Four) = refl
-again (Load width.Eight) = refl
+again (Load size) = refl
 again (LoadSigned signed_width.One) = refl
-again (LoadSigned signed_width.Two) = refl
-again (LoadSigned signed_width.Four) = refl
+again (LoadSigned size) = refl
 again (Store width.One) = refl
-again (Store width.Two) = refl
-again (Store width.Four) = refl
-again (Store width.Eight) = refl
+again (Store size) = refl
 again (StoreRegister width.One) = refl
-again (StoreRegister width.Two) = refl
-again (StoreRegister width.Four) = refl
-again (StoreRegister width.Eight) = refl
+again m = refl
 
 passes_or : {X : Type 0} (test : X → Bool) (x : X) (rest : Option X) (b : Bool) → test x ≡ b →
     IfSome rest (λ y. test y ≡ true) → IfSome (cond b (Some x) rest) (λ y. test y ≡ true)

@@ -44,32 +44,11 @@ plain_lacks c (b ∷ bs) small h =
 
 alu_plain : (x : AluOp) → is_plain (alu_stem x) ≡ true
 alu_plain alu.Add = refl
-alu_plain alu.Sub = refl
-alu_plain alu.Mul = refl
-alu_plain alu.Div = refl
-alu_plain alu.SignedDiv = refl
-alu_plain alu.Or = refl
-alu_plain alu.And = refl
-alu_plain alu.ShiftLeft = refl
-alu_plain alu.ShiftRight = refl
-alu_plain alu.Mod = refl
-alu_plain alu.SignedMod = refl
-alu_plain alu.Xor = refl
-alu_plain alu.Move = refl
-alu_plain alu.ShiftRightSigned = refl
+alu_plain x = refl
 
 condition_plain : (x : Condition) → is_plain (condition_stem x) ≡ true
 condition_plain condition.Equal = refl
-condition_plain condition.Greater = refl
-condition_plain condition.GreaterOrEqual = refl
-condition_plain condition.SharesBits = refl
-condition_plain condition.NotEqual = refl
-condition_plain condition.SignedGreater = refl
-condition_plain condition.SignedGreaterOrEqual = refl
-condition_plain condition.Less = refl
-condition_plain condition.LessOrEqual = refl
-condition_plain condition.SignedLess = refl
-condition_plain condition.SignedLessOrEqual = refl
+condition_plain x = refl
 
 order_plain : (x : ByteOrder) → is_plain (order_stem x) ≡ true
 order_plain ToLittle = refl
@@ -86,19 +65,15 @@ jump_plain Word64 = refl
 
 swap_plain : (x : SwapWidth) → is_plain (swap_suffix x) ≡ true
 swap_plain swap.Two = refl
-swap_plain swap.Four = refl
-swap_plain swap.Eight = refl
+swap_plain x = refl
 
 width_plain : (x : Width) → is_plain (width_suffix x) ≡ true
 width_plain width.One = refl
-width_plain width.Two = refl
-width_plain width.Four = refl
-width_plain width.Eight = refl
+width_plain x = refl
 
 signed_plain : (x : SignedWidth) → is_plain (signed_width_suffix x) ≡ true
 signed_plain signed_width.One = refl
-signed_plain signed_width.Two = refl
-signed_plain signed_width.Four = refl
+signed_plain x = refl
 
 call_plain : (x : CallKind) → is_plain (call_suffix x) ≡ true
 call_plain Helper = refl
@@ -149,32 +124,11 @@ name_lacks m = name_lacks_any 32 (omega arith) m
 -- no name begins as a comment
 alu_statement : (x : AluOp) (rest : List ℕ) → is_comment (alu_stem x ++ rest) ≡ false
 alu_statement alu.Add rest = refl
-alu_statement alu.Sub rest = refl
-alu_statement alu.Mul rest = refl
-alu_statement alu.Div rest = refl
-alu_statement alu.SignedDiv rest = refl
-alu_statement alu.Or rest = refl
-alu_statement alu.And rest = refl
-alu_statement alu.ShiftLeft rest = refl
-alu_statement alu.ShiftRight rest = refl
-alu_statement alu.Mod rest = refl
-alu_statement alu.SignedMod rest = refl
-alu_statement alu.Xor rest = refl
-alu_statement alu.Move rest = refl
-alu_statement alu.ShiftRightSigned rest = refl
+alu_statement x rest = refl
 
 condition_statement : (x : Condition) (rest : List ℕ) → is_comment (condition_stem x ++ rest) ≡ false
 condition_statement condition.Equal rest = refl
-condition_statement condition.Greater rest = refl
-condition_statement condition.GreaterOrEqual rest = refl
-condition_statement condition.SharesBits rest = refl
-condition_statement condition.NotEqual rest = refl
-condition_statement condition.SignedGreater rest = refl
-condition_statement condition.SignedGreaterOrEqual rest = refl
-condition_statement condition.Less rest = refl
-condition_statement condition.LessOrEqual rest = refl
-condition_statement condition.SignedLess rest = refl
-condition_statement condition.SignedLessOrEqual rest = refl
+condition_statement x rest = refl
 
 order_statement : (x : ByteOrder) (rest : List ℕ) → is_comment (order_stem x ++ rest) ≡ false
 order_statement ToLittle rest = refl

@@ -8,6 +8,6 @@ mod mnemonic;
 mod statement;
 mod writing;
 
-pub use mnemonic::Mnemonic;
+pub use mnemonic::{MNEMONICS, Mnemonic};
 pub use statement::{Argument, Arguments, Sign, Statement, statement_of};
 pub use writing::{disassemble, line_of};

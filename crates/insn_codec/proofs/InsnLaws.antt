@@ -1,6 +1,6 @@
 -- An instruction is read again from its slots.
 use Rattle.std.proofs.Common.{◌≡◌, ℕ, ◌+◌, ◌-◌, ◌*◌, ◌/◌, ◌%◌, ◌^◌, ◌<◌, Bool, false, cond, eqb, not, [], ◌∷◌, take}
-use Rattle.std.proofs.Common.{drop, Option, Some, None, refl, sym, ap, subst, ◌∙◌, arith, ℤ, pos, of_z, ◌⊎◌, inl, inr}
+use Rattle.std.proofs.Common.{drop, Option, Some, None, refl, sym, ap, ap₂, subst, ◌∙◌, arith, ℤ, pos, of_z, ◌⊎◌, inl, inr}
 use Rattle.std.specs.Ordering.{int_eq}
 use Rattle.std.specs.Int.{w32, cast_signed}
 use Rattle.std.specs.Prelude.{option_to_list}
@@ -9,6 +9,7 @@ use Rattle.std.proofs.lemmas.Bool.Decides.{nat_tests}
 use Rattle.bpf_model.specs.declared.slot.Slot.{Slot}
 use Rattle.bpf_model.specs.declared.opcode.Size.{Size}
 use Rattle.bpf_model.specs.declared.opcode.Size.TheVariants.{Word32, Word64}
+use Rattle.bpf_model.specs.declared.opcode.Source.{Source}
 use Rattle.bpf_model.specs.declared.opcode.Source.TheVariants as sources
 use Rattle.bpf_model.specs.declared.opcode.AluCode.{AluCode}
 use Rattle.bpf_model.specs.declared.opcode.AluCode.TheVariants as codes
@@ -16,6 +17,7 @@ use Rattle.bpf_model.specs.declared.opcode.Opcode.{Opcode}
 use Rattle.bpf_model.specs.declared.opcode.Opcode.TheVariants as opcodes
 use Rattle.bpf_model.specs.declared.opcode.SwapWidth.{SwapWidth}
 use Rattle.bpf_model.specs.declared.opcode.SwapWidth.TheVariants as swap
+use Rattle.bpf_model.specs.declared.insn.Operand.{Operand}
 use Rattle.bpf_model.specs.declared.insn.Operand.TheVariants as operand
 use Rattle.bpf_model.specs.declared.insn.AluOp.{AluOp}
 use Rattle.bpf_model.specs.declared.insn.AluOp.TheVariants as operations
@@ -107,40 +109,13 @@ no_flaw (Store width dst offset (operand.Immediate imm)) s next fits e = grind (
 
 -- The instruction back from its opcode and slots.
 
-operation_for : AluCode → ℤ → AluOp
-operation_for codes.Add _ = operations.Add
-operation_for codes.Sub _ = operations.Sub
-operation_for codes.Mul _ = operations.Mul
-operation_for codes.Div z = cond (int_eq z (pos 0)) operations.Div operations.SignedDiv
-operation_for codes.Or _ = operations.Or
-operation_for codes.And _ = operations.And
-operation_for codes.ShiftLeft _ = operations.ShiftLeft
-operation_for codes.ShiftRight _ = operations.ShiftRight
-operation_for codes.Mod z = cond (int_eq z (pos 0)) operations.Mod operations.SignedMod
-operation_for codes.Xor _ = operations.Xor
-operation_for codes.Move _ = operations.Move
-operation_for codes.ShiftRightSigned _ = operations.ShiftRightSigned
-
 abbrev is_signed_move : AluCode → ℤ → Bool
 is_signed_move codes.Move z = not (int_eq z (pos 0))
 is_signed_move _ z = false
 
-operation_again : (p : AluOp) → (operation_for (code_of p) (alu_offset p) ≡ p) × (is_signed_move (code_of p) (alu_offset p) ≡ false)
-unfolding operation_for
-operation_again operations.Add = (refl, refl)
-operation_again operations.Sub = (refl, refl)
-operation_again operations.Mul = (refl, refl)
-operation_again operations.Div = (refl, refl)
-operation_again operations.SignedDiv = (refl, refl)
-operation_again operations.Or = (refl, refl)
-operation_again operations.And = (refl, refl)
-operation_again operations.ShiftLeft = (refl, refl)
-operation_again operations.ShiftRight = (refl, refl)
-operation_again operations.Mod = (refl, refl)
-operation_again operations.SignedMod = (refl, refl)
-operation_again operations.Xor = (refl, refl)
-operation_again operations.Move = (refl, refl)
-operation_again operations.ShiftRightSigned = (refl, refl)
+no_signed_move : (p : AluOp) → is_signed_move (code_of p) (alu_offset p) ≡ false
+no_signed_move operations.Add = refl
+no_signed_move p = refl
 
 abbrev extension_for : Size → ℤ → SignExtension
 extension_for Word32 z = cond (int_eq z (pos 8)) ByteTo32 ShortTo32
@@ -172,33 +147,60 @@ abbrev half : Option Slot → ℕ
 half None = 0
 half (Some t) = of_z w32 t.imm
 
-abbrev made : Opcode → Slot → Option Slot → Insn
-made (opcodes.Alu code size sources.Register) s next =
-    cond (is_signed_move code s.offset) (Unary (MoveSigned (extension_for size s.offset) s.src) s.dst)
-    (Alu (operation_for code s.offset) size s.dst (operand.Register s.src))
-made (opcodes.Alu code size sources.Immediate) s next = Alu (operation_for code s.offset) size s.dst (operand.Immediate s.imm)
-made (opcodes.Negate size) s next = Unary (Negate size) s.dst
-made (opcodes.ByteSwap order) s next = Unary (ByteSwap order (width_for s.imm)) s.dst
-made opcodes.Wide s next = cond (eqb s.src 0) (LoadNumber s.dst (of_z w32 s.imm + half next * 2 ^ 32)) (LoadMap s.dst s.imm)
-made (opcodes.Jump Word64) s next = Jump s.offset
-made (opcodes.Jump Word32) s next = JumpLong s.imm
-made (opcodes.JumpIf condition size sources.Register) s next = JumpIf condition size s.dst (operand.Register s.src) s.offset
-made (opcodes.JumpIf condition size sources.Immediate) s next = JumpIf condition size s.dst (operand.Immediate s.imm) s.offset
-made opcodes.Call s next = Call (kind_for s.src) s.imm
-made opcodes.Exit s next = Exit
-made (opcodes.Load width) s next = Load width s.dst s.src s.offset
-made (opcodes.LoadSigned width) s next = LoadSigned width s.dst s.src s.offset
-made (opcodes.Store width sources.Register) s next = Store width s.dst s.offset (operand.Register s.src)
-made (opcodes.Store width sources.Immediate) s next = Store width s.dst s.offset (operand.Immediate s.imm)
-made (opcodes.Excluded excluded) s next = Exit
+-- where it is an operation of two operands, the operation is given
+abbrev made : AluOp → Opcode → Slot → Option Slot → Insn
+made p (opcodes.Alu code size sources.Register) s next =
+    cond (is_signed_move code s.offset) (Unary (MoveSigned (extension_for size s.offset) s.src) s.dst) (Alu p size s.dst (operand.Register s.src))
+made p (opcodes.Alu code size sources.Immediate) s next = Alu p size s.dst (operand.Immediate s.imm)
+made p (opcodes.Negate size) s next = Unary (Negate size) s.dst
+made p (opcodes.ByteSwap order) s next = Unary (ByteSwap order (width_for s.imm)) s.dst
+made p opcodes.Wide s next = cond (eqb s.src 0) (LoadNumber s.dst (of_z w32 s.imm + half next * 2 ^ 32)) (LoadMap s.dst s.imm)
+made p (opcodes.Jump Word64) s next = Jump s.offset
+made p (opcodes.Jump Word32) s next = JumpLong s.imm
+made p (opcodes.JumpIf condition size sources.Register) s next = JumpIf condition size s.dst (operand.Register s.src) s.offset
+made p (opcodes.JumpIf condition size sources.Immediate) s next = JumpIf condition size s.dst (operand.Immediate s.imm) s.offset
+made p opcodes.Call s next = Call (kind_for s.src) s.imm
+made p opcodes.Exit s next = Exit
+made p (opcodes.Load width) s next = Load width s.dst s.src s.offset
+made p (opcodes.LoadSigned width) s next = LoadSigned width s.dst s.src s.offset
+made p (opcodes.Store width sources.Register) s next = Store width s.dst s.offset (operand.Register s.src)
+made p (opcodes.Store width sources.Immediate) s next = Store width s.dst s.offset (operand.Immediate s.imm)
+made p (opcodes.Excluded excluded) s next = Exit
 
 number_again : (n low high : ℕ) → n < 2 ^ 64 → low ≡ n % 2 ^ 32 → high ≡ n / 2 ^ 32 → low + high * 2 ^ 32 ≡ n
 number_again n low high lt e f = omega arith
 
+-- the operation of two operands; of another instruction any will do
+abbrev operation_in : Insn → AluOp
+operation_in (Alu p size dst src) = p
+operation_in i = operations.Move
+
+operation_one : (p q : AluOp) → code_of p ≡ code_of q → alu_offset p ≡ alu_offset q → p ≡ q
+operation_one operations.Add q e f = grind arith
+operation_one p q e f = grind arith
+
+move_one : (p : AluOp) → code_of p ≡ codes.Move → p ≡ operations.Move
+move_one operations.Move e = refl
+move_one p e = absurd cc
+
+same_code : (c d : AluCode) (a b : Size) (x y : Source) → opcodes.Alu c a x ≡ opcodes.Alu d b y → c ≡ d
+same_code c d a b x y e = cc
+
+operation_of_slot : (p : AluOp) (size : Size) (dst : ℕ) (src : Operand) (j : Insn) →
+    opcode_of (Alu p size dst src) ≡ opcode_of j → alu_offset p ≡ (first_slot j).offset → p ≡ operation_in j
+operation_of_slot p size dst src (Alu q other to from) e f = operation_one p q (same_code _ _ _ _ _ _ e) f
+operation_of_slot p size dst src (Unary (MoveSigned extension from) to) e f = move_one p (same_code _ _ _ _ _ _ e)
+operation_of_slot p size dst src j e f = absurd cc
+
+operations_are : (i j : Insn) → opcode_of i ≡ opcode_of j → (first_slot i).offset ≡ (first_slot j).offset → operation_in i ≡ operation_in j
+operations_are (Alu p size dst src) j e f = operation_of_slot p size dst src j e f
+operations_are i (Alu q size dst src) e f = sym (operation_of_slot q size dst src i (sym e) (sym f))
+operations_are i j e f = refl
+
 made_first : (i : Insn) (next : Option Slot) → FitsInsn i →
-    drop 1 (slots_of i) ≡ take (slot_count i - 1) (option_to_list next) → made (opcode_of i) (first_slot i) next ≡ i
-made_first (Alu operation size dst (operand.Register src)) next fits e = let o = operation_again operation in rw (o.1, o.0) refl
-made_first (Alu operation size dst (operand.Immediate imm)) next fits e = let o = operation_again operation in rw o.0 refl
+    drop 1 (slots_of i) ≡ take (slot_count i - 1) (option_to_list next) → made (operation_in i) (opcode_of i) (first_slot i) next ≡ i
+made_first (Alu p size dst (operand.Register src)) next fits e = rw (no_signed_move p) refl
+made_first (Alu p size dst (operand.Immediate imm)) next fits e = refl
 made_first (Unary (MoveSigned extension src) dst) next fits e = let o = extension_again extension in rw (o.1, o.0) refl
 made_first (Unary (ByteSwap order width) dst) next fits e = rw (width_again width) refl
 made_first (LoadNumber dst number) None fits e = absurd cc
@@ -221,9 +223,14 @@ made_first (LoadSigned width dst src offset) next fits e = refl
 made_first (Store width dst offset (operand.Register src)) next fits e = refl
 made_first (Store width dst offset (operand.Immediate imm)) next fits e = refl
 
-made_again : (i : Insn) (s : Slot) (next : Option Slot) → FitsInsn i → BeginsWith s next i → made (opcode_of i) s next ≡ i
-made_again i s next fits e = let p = begins_parts i s next e in subst (λ (x : Slot). made (opcode_of i) x next ≡ i) p.0 (made_first i next fits p.1)
+made_again : (i : Insn) (s : Slot) (next : Option Slot) → FitsInsn i → BeginsWith s next i → made (operation_in i) (opcode_of i) s next ≡ i
+made_again i s next fits e =
+    let p = begins_parts i s next e in
+    subst (λ (x : Slot). made (operation_in i) (opcode_of i) x next ≡ i) p.0 (made_first i next fits p.1)
 
 pub same : (i j : Insn) (s : Slot) (next : Option Slot) → FitsInsn i → FitsInsn j → BeginsWith s next i →
     BeginsWith s next j → opcode_of i ≡ opcode_of j → i ≡ j
-same i j s next f g d e o = sym (made_again i s next f d) ∙ ap (λ (k : Opcode). made k s next) o ∙ made_again j s next g e
+same i j s next f g d e o =
+    let slots : first_slot i ≡ first_slot j = (begins_parts i s next d).0 ∙ sym (begins_parts j s next e).0 in
+    let offsets : (first_slot i).offset ≡ (first_slot j).offset = ap (λ (x : Slot). x.offset) slots in
+    sym (made_again i s next f d) ∙ ap₂ (λ (p : AluOp) (k : Opcode). made p k s next) (operations_are i j o offsets) o ∙ made_again j s next g e

@@ -1,10 +1,11 @@
 //! Bytes out of programs.
 ghost use Rattle.std.specs.Prelude.{pos, ◌%◌, ◌≡◌, ◌<◌, ◌≤◌, ◌/◌, ◌^◌, ◌++◌, OnOk, IfOk};
 ghost use Rattle.std.specs.Int.{w32, cast_signed};
-ghost use Rattle.bpf_model.specs.Spelling.{FitsInsn, FitsOperand, FitsSlot, slot_bytes, spelling, text, code_of, alu_offset, extension_size, extension_bits, swap_bits, source_of, operand_src, operand_imm, slot as slot_of};
+ghost use Rattle.bpf_model.specs.Spelling.{FitsInsn, FitsOperand, FitsSlot, slot_bytes, spelling, text, extension_size, extension_bits, swap_bits, source_of, operand_src, operand_imm, slot as slot_of};
 ghost use Rattle.bpf_model.specs.Spelling.{FitsUnary, IsProgram, first_slot as first_slot_of, unary_slot as unary_slot_of, tail_slot as tail_slot_of, call_source as call_source_of};
 
 use crate::opcode::byte_of;
+use crate::operation::{code_of, offset_of};
 use crate::program::Program;
 use crate::slots::slot_to;
 use bpf_model::{
@@ -12,34 +13,6 @@ use bpf_model::{
     Source, SwapWidth, UnaryOp, Width,
 };
 use std::alloc::{AllocError, Global};
-
-fn code_of(op: AluOp) -> AluCode
-    ensures { result ≡ code_of op }
-{
-    match op {
-        AluOp::Add => AluCode::Add,
-        AluOp::Sub => AluCode::Sub,
-        AluOp::Mul => AluCode::Mul,
-        AluOp::Div | AluOp::SignedDiv => AluCode::Div,
-        AluOp::Or => AluCode::Or,
-        AluOp::And => AluCode::And,
-        AluOp::ShiftLeft => AluCode::ShiftLeft,
-        AluOp::ShiftRight => AluCode::ShiftRight,
-        AluOp::Mod | AluOp::SignedMod => AluCode::Mod,
-        AluOp::Xor => AluCode::Xor,
-        AluOp::Move => AluCode::Move,
-        AluOp::ShiftRightSigned => AluCode::ShiftRightSigned,
-    }
-}
-
-fn offset_of(op: AluOp) -> i16
-    ensures { result ≡ alu_offset op }
-{
-    match op {
-        AluOp::SignedDiv | AluOp::SignedMod => 1,
-        _ => 0,
-    }
-}
 
 /// The class of a move that extends a sign, and the offset that says of how many bits.
 pub fn extension_parts(extension: SignExtension) -> (Size, i16)

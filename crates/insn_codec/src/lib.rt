@@ -12,6 +12,7 @@ mod fault;
 mod flaw;
 mod law;
 mod opcode;
+mod operation;
 mod program;
 mod reading;
 mod slots;

@@ -1,167 +1,88 @@
 //! Opcodes as bytes, and back (RFC 9669, sections 3 to 5).
-ghost use Rattle.std.specs.Prelude.{◌≡◌, ◌<◌, ◌%◌, ◌⊎◌, IfSome, Some};
-ghost use Rattle.bpf_model.specs.declared.opcode.Opcode.{Opcode};
-ghost use Rattle.bpf_model.specs.Opcode.{opcode_byte, alu_code, alu_class, jump_class, condition_code, source_bit, width_code, signed_width_code, store_class, swap_byte, excluded_byte};
+ghost use Rattle.std.specs.Prelude.{◌≡◌, ◌+◌, ◌*◌, ◌%◌, IfSome, Some};
+ghost use Rattle.bpf_model.specs.declared.opcode.AluCode.{AluCode as AluCodeOf};
+ghost use Rattle.bpf_model.specs.declared.opcode.Condition.{Condition as ConditionOf};
+ghost use Rattle.bpf_model.specs.declared.opcode.Opcode.{Opcode as OpcodeOf};
+ghost use Rattle.bpf_model.specs.declared.opcode.Size.{Size as SizeOf};
+ghost use Rattle.bpf_model.specs.declared.opcode.Source.{Source as SourceOf};
+ghost use Rattle.bpf_model.specs.Opcode.{opcode_byte, alu_class, jump_class, condition_code, source_bit, width_code, signed_width_code, store_class, swap_byte, excluded_byte};
 
-use bpf_model::{
-    AluCode, ByteOrder, Condition, Excluded, Opcode, SignedWidth, Size, Source, Width,
-};
+use crate::operation::{alu_code_bits, alu_code_of};
+use bpf_model::{ByteOrder, Condition, Excluded, Opcode, SignedWidth, Size, Source, Width};
 
-/// An operation on a register and a number, a change of sign, or a swap of bytes: the arithmetic classes with
-/// source bit 0.
-fn alu_by_number(byte: u8) -> Option<Opcode>
-    requires class { (byte % 16 ≡ 4) ⊎ (byte % 16 ≡ 7) }
-    ensures found { IfSome result (λ o. opcode_byte o ≡ byte) }
-    ensures only { (o : Opcode) → opcode_byte o ≡ byte → result ≡ Some o }
+/// The condition of a jump, by the high four bits of its byte.
+fn condition_of(high: u8) -> Option<Condition>
+    ensures found { IfSome result (λ c. condition_code c ≡ 16 * high) }
+    ensures only { (c : ConditionOf) → condition_code c ≡ 16 * high → result ≡ Some c }
 {
-    Some(match byte {
-        0x04 => Opcode::Alu(AluCode::Add, Size::Word32, Source::Immediate),
-        0x07 => Opcode::Alu(AluCode::Add, Size::Word64, Source::Immediate),
-        0x14 => Opcode::Alu(AluCode::Sub, Size::Word32, Source::Immediate),
-        0x17 => Opcode::Alu(AluCode::Sub, Size::Word64, Source::Immediate),
-        0x24 => Opcode::Alu(AluCode::Mul, Size::Word32, Source::Immediate),
-        0x27 => Opcode::Alu(AluCode::Mul, Size::Word64, Source::Immediate),
-        0x34 => Opcode::Alu(AluCode::Div, Size::Word32, Source::Immediate),
-        0x37 => Opcode::Alu(AluCode::Div, Size::Word64, Source::Immediate),
-        0x44 => Opcode::Alu(AluCode::Or, Size::Word32, Source::Immediate),
-        0x47 => Opcode::Alu(AluCode::Or, Size::Word64, Source::Immediate),
-        0x54 => Opcode::Alu(AluCode::And, Size::Word32, Source::Immediate),
-        0x57 => Opcode::Alu(AluCode::And, Size::Word64, Source::Immediate),
-        0x64 => Opcode::Alu(AluCode::ShiftLeft, Size::Word32, Source::Immediate),
-        0x67 => Opcode::Alu(AluCode::ShiftLeft, Size::Word64, Source::Immediate),
-        0x74 => Opcode::Alu(AluCode::ShiftRight, Size::Word32, Source::Immediate),
-        0x77 => Opcode::Alu(AluCode::ShiftRight, Size::Word64, Source::Immediate),
-        0x84 => Opcode::Negate(Size::Word32),
-        0x87 => Opcode::Negate(Size::Word64),
-        0x94 => Opcode::Alu(AluCode::Mod, Size::Word32, Source::Immediate),
-        0x97 => Opcode::Alu(AluCode::Mod, Size::Word64, Source::Immediate),
-        0xa4 => Opcode::Alu(AluCode::Xor, Size::Word32, Source::Immediate),
-        0xa7 => Opcode::Alu(AluCode::Xor, Size::Word64, Source::Immediate),
-        0xb4 => Opcode::Alu(AluCode::Move, Size::Word32, Source::Immediate),
-        0xb7 => Opcode::Alu(AluCode::Move, Size::Word64, Source::Immediate),
-        0xc4 => Opcode::Alu(AluCode::ShiftRightSigned, Size::Word32, Source::Immediate),
-        0xc7 => Opcode::Alu(AluCode::ShiftRightSigned, Size::Word64, Source::Immediate),
-        0xd4 => Opcode::ByteSwap(ByteOrder::ToLittle),
-        0xd7 => Opcode::ByteSwap(ByteOrder::Swap),
+    Some(match high {
+        0x1 => Condition::Equal,
+        0x2 => Condition::Greater,
+        0x3 => Condition::GreaterOrEqual,
+        0x4 => Condition::SharesBits,
+        0x5 => Condition::NotEqual,
+        0x6 => Condition::SignedGreater,
+        0x7 => Condition::SignedGreaterOrEqual,
+        0xa => Condition::Less,
+        0xb => Condition::LessOrEqual,
+        0xc => Condition::SignedLess,
+        0xd => Condition::SignedLessOrEqual,
         _ => return None,
     })
 }
 
-/// An operation on two registers, or a swap of bytes: the arithmetic classes with source bit 1.
-fn alu_by_register(byte: u8) -> Option<Opcode>
-    requires class { (byte % 16 ≡ 12) ⊎ (byte % 16 ≡ 15) }
+/// The operation on two operands of a byte with this source and this class.
+fn alu_by(byte: u8, size: Size, source: Source) -> Option<Opcode>
+    requires { byte % 16 ≡ source_bit source + alu_class size }
     ensures found { IfSome result (λ o. opcode_byte o ≡ byte) }
-    ensures only { (o : Opcode) → opcode_byte o ≡ byte → result ≡ Some o }
+    ensures only { (c : AluCodeOf) → opcode_byte (Opcode.Alu c size source) ≡ byte
+        → result ≡ Some (Opcode.Alu c size source) }
 {
-    Some(match byte {
-        0x0c => Opcode::Alu(AluCode::Add, Size::Word32, Source::Register),
-        0x0f => Opcode::Alu(AluCode::Add, Size::Word64, Source::Register),
-        0x1c => Opcode::Alu(AluCode::Sub, Size::Word32, Source::Register),
-        0x1f => Opcode::Alu(AluCode::Sub, Size::Word64, Source::Register),
-        0x2c => Opcode::Alu(AluCode::Mul, Size::Word32, Source::Register),
-        0x2f => Opcode::Alu(AluCode::Mul, Size::Word64, Source::Register),
-        0x3c => Opcode::Alu(AluCode::Div, Size::Word32, Source::Register),
-        0x3f => Opcode::Alu(AluCode::Div, Size::Word64, Source::Register),
-        0x4c => Opcode::Alu(AluCode::Or, Size::Word32, Source::Register),
-        0x4f => Opcode::Alu(AluCode::Or, Size::Word64, Source::Register),
-        0x5c => Opcode::Alu(AluCode::And, Size::Word32, Source::Register),
-        0x5f => Opcode::Alu(AluCode::And, Size::Word64, Source::Register),
-        0x6c => Opcode::Alu(AluCode::ShiftLeft, Size::Word32, Source::Register),
-        0x6f => Opcode::Alu(AluCode::ShiftLeft, Size::Word64, Source::Register),
-        0x7c => Opcode::Alu(AluCode::ShiftRight, Size::Word32, Source::Register),
-        0x7f => Opcode::Alu(AluCode::ShiftRight, Size::Word64, Source::Register),
-        0x9c => Opcode::Alu(AluCode::Mod, Size::Word32, Source::Register),
-        0x9f => Opcode::Alu(AluCode::Mod, Size::Word64, Source::Register),
-        0xac => Opcode::Alu(AluCode::Xor, Size::Word32, Source::Register),
-        0xaf => Opcode::Alu(AluCode::Xor, Size::Word64, Source::Register),
-        0xbc => Opcode::Alu(AluCode::Move, Size::Word32, Source::Register),
-        0xbf => Opcode::Alu(AluCode::Move, Size::Word64, Source::Register),
-        0xcc => Opcode::Alu(AluCode::ShiftRightSigned, Size::Word32, Source::Register),
-        0xcf => Opcode::Alu(AluCode::ShiftRightSigned, Size::Word64, Source::Register),
-        0xdc => Opcode::ByteSwap(ByteOrder::ToBig),
-        _ => return None,
-    })
+    let code = alu_code_of(byte / 16)?;
+    Some(Opcode::Alu(code, size, source))
 }
 
-/// A jump, one on a register and a number, a call or an exit: the classes of jumps with source bit 0.
-fn jump_by_number(byte: u8) -> Option<Opcode>
-    requires class { (byte % 16 ≡ 5) ⊎ (byte % 16 ≡ 6) }
+/// The jump on two operands of a byte with this source and this class.
+fn jump_by(byte: u8, size: Size, source: Source) -> Option<Opcode>
+    requires { byte % 16 ≡ source_bit source + jump_class size }
     ensures found { IfSome result (λ o. opcode_byte o ≡ byte) }
-    ensures only { (o : Opcode) → opcode_byte o ≡ byte → result ≡ Some o }
+    ensures only { (c : ConditionOf) → opcode_byte (Opcode.JumpIf c size source) ≡ byte
+        → result ≡ Some (Opcode.JumpIf c size source) }
 {
-    let source = Source::Immediate;
+    let condition = condition_of(byte / 16)?;
+    Some(Opcode::JumpIf(condition, size, source))
+}
+
+/// The operation or the jump on two operands of a byte: the low three bits are its class, the next one tells a
+/// register from a number, and the high four are its code.
+fn with_operands(byte: u8) -> Option<Opcode>
+    ensures found { IfSome result (λ o. opcode_byte o ≡ byte) }
+    ensures alu { (c : AluCodeOf) (size : SizeOf) (source : SourceOf)
+        → opcode_byte (Opcode.Alu c size source) ≡ byte → result ≡ Some (Opcode.Alu c size source) }
+    ensures jump { (c : ConditionOf) (size : SizeOf) (source : SourceOf)
+        → opcode_byte (Opcode.JumpIf c size source) ≡ byte → result ≡ Some (Opcode.JumpIf c size source) }
+{
+    match byte % 16 {
+        0x4 => alu_by(byte, Size::Word32, Source::Immediate),
+        0x7 => alu_by(byte, Size::Word64, Source::Immediate),
+        0xc => alu_by(byte, Size::Word32, Source::Register),
+        0xf => alu_by(byte, Size::Word64, Source::Register),
+        0x5 => jump_by(byte, Size::Word64, Source::Immediate),
+        0x6 => jump_by(byte, Size::Word32, Source::Immediate),
+        0xd => jump_by(byte, Size::Word64, Source::Register),
+        0xe => jump_by(byte, Size::Word32, Source::Register),
+        _ => None,
+    }
+}
+
+/// The opcode of a byte. The packet and atomic groups are excluded.
+pub fn opcode_from(byte: u8) -> Option<Opcode>
+    ensures found { IfSome result (λ o. opcode_byte o ≡ byte) }
+    ensures only { (o : OpcodeOf) → opcode_byte o ≡ byte → result ≡ Some o }
+{
     Some(match byte {
         0x05 => Opcode::Jump(Size::Word64),
         0x06 => Opcode::Jump(Size::Word32),
-        0x15 => Opcode::JumpIf(Condition::Equal, Size::Word64, source),
-        0x16 => Opcode::JumpIf(Condition::Equal, Size::Word32, source),
-        0x25 => Opcode::JumpIf(Condition::Greater, Size::Word64, source),
-        0x26 => Opcode::JumpIf(Condition::Greater, Size::Word32, source),
-        0x35 => Opcode::JumpIf(Condition::GreaterOrEqual, Size::Word64, source),
-        0x36 => Opcode::JumpIf(Condition::GreaterOrEqual, Size::Word32, source),
-        0x45 => Opcode::JumpIf(Condition::SharesBits, Size::Word64, source),
-        0x46 => Opcode::JumpIf(Condition::SharesBits, Size::Word32, source),
-        0x55 => Opcode::JumpIf(Condition::NotEqual, Size::Word64, source),
-        0x56 => Opcode::JumpIf(Condition::NotEqual, Size::Word32, source),
-        0x65 => Opcode::JumpIf(Condition::SignedGreater, Size::Word64, source),
-        0x66 => Opcode::JumpIf(Condition::SignedGreater, Size::Word32, source),
-        0x75 => Opcode::JumpIf(Condition::SignedGreaterOrEqual, Size::Word64, source),
-        0x76 => Opcode::JumpIf(Condition::SignedGreaterOrEqual, Size::Word32, source),
-        0x85 => Opcode::Call,
-        0x95 => Opcode::Exit,
-        0xa5 => Opcode::JumpIf(Condition::Less, Size::Word64, source),
-        0xa6 => Opcode::JumpIf(Condition::Less, Size::Word32, source),
-        0xb5 => Opcode::JumpIf(Condition::LessOrEqual, Size::Word64, source),
-        0xb6 => Opcode::JumpIf(Condition::LessOrEqual, Size::Word32, source),
-        0xc5 => Opcode::JumpIf(Condition::SignedLess, Size::Word64, source),
-        0xc6 => Opcode::JumpIf(Condition::SignedLess, Size::Word32, source),
-        0xd5 => Opcode::JumpIf(Condition::SignedLessOrEqual, Size::Word64, source),
-        0xd6 => Opcode::JumpIf(Condition::SignedLessOrEqual, Size::Word32, source),
-        _ => return None,
-    })
-}
-
-/// A jump on two registers: the classes of jumps with source bit 1.
-fn jump_by_register(byte: u8) -> Option<Opcode>
-    requires class { (byte % 16 ≡ 13) ⊎ (byte % 16 ≡ 14) }
-    ensures found { IfSome result (λ o. opcode_byte o ≡ byte) }
-    ensures only { (o : Opcode) → opcode_byte o ≡ byte → result ≡ Some o }
-{
-    let source = Source::Register;
-    Some(match byte {
-        0x1d => Opcode::JumpIf(Condition::Equal, Size::Word64, source),
-        0x1e => Opcode::JumpIf(Condition::Equal, Size::Word32, source),
-        0x2d => Opcode::JumpIf(Condition::Greater, Size::Word64, source),
-        0x2e => Opcode::JumpIf(Condition::Greater, Size::Word32, source),
-        0x3d => Opcode::JumpIf(Condition::GreaterOrEqual, Size::Word64, source),
-        0x3e => Opcode::JumpIf(Condition::GreaterOrEqual, Size::Word32, source),
-        0x4d => Opcode::JumpIf(Condition::SharesBits, Size::Word64, source),
-        0x4e => Opcode::JumpIf(Condition::SharesBits, Size::Word32, source),
-        0x5d => Opcode::JumpIf(Condition::NotEqual, Size::Word64, source),
-        0x5e => Opcode::JumpIf(Condition::NotEqual, Size::Word32, source),
-        0x6d => Opcode::JumpIf(Condition::SignedGreater, Size::Word64, source),
-        0x6e => Opcode::JumpIf(Condition::SignedGreater, Size::Word32, source),
-        0x7d => Opcode::JumpIf(Condition::SignedGreaterOrEqual, Size::Word64, source),
-        0x7e => Opcode::JumpIf(Condition::SignedGreaterOrEqual, Size::Word32, source),
-        0xad => Opcode::JumpIf(Condition::Less, Size::Word64, source),
-        0xae => Opcode::JumpIf(Condition::Less, Size::Word32, source),
-        0xbd => Opcode::JumpIf(Condition::LessOrEqual, Size::Word64, source),
-        0xbe => Opcode::JumpIf(Condition::LessOrEqual, Size::Word32, source),
-        0xcd => Opcode::JumpIf(Condition::SignedLess, Size::Word64, source),
-        0xce => Opcode::JumpIf(Condition::SignedLess, Size::Word32, source),
-        0xdd => Opcode::JumpIf(Condition::SignedLessOrEqual, Size::Word64, source),
-        0xde => Opcode::JumpIf(Condition::SignedLessOrEqual, Size::Word32, source),
-        _ => return None,
-    })
-}
-
-/// A load, a store, or a wide instruction: the four other classes. The packet and atomic groups are excluded.
-fn of_memory(byte: u8) -> Option<Opcode>
-    requires class { byte % 8 < 4 }
-    ensures found { IfSome result (λ o. opcode_byte o ≡ byte) }
-    ensures only { (o : Opcode) → opcode_byte o ≡ byte → result ≡ Some o }
-{
-    Some(match byte {
         0x18 => Opcode::Wide,
         0x20 => Opcode::Excluded(Excluded::AbsoluteWord),
         0x28 => Opcode::Excluded(Excluded::AbsoluteHalf),
@@ -182,46 +103,19 @@ fn of_memory(byte: u8) -> Option<Opcode>
         0x7a => Opcode::Store(Width::Eight, Source::Immediate),
         0x7b => Opcode::Store(Width::Eight, Source::Register),
         0x81 => Opcode::LoadSigned(SignedWidth::Four),
+        0x84 => Opcode::Negate(Size::Word32),
+        0x85 => Opcode::Call,
+        0x87 => Opcode::Negate(Size::Word64),
         0x89 => Opcode::LoadSigned(SignedWidth::Two),
         0x91 => Opcode::LoadSigned(SignedWidth::One),
+        0x95 => Opcode::Exit,
         0xc3 => Opcode::Excluded(Excluded::AtomicWord),
+        0xd4 => Opcode::ByteSwap(ByteOrder::ToLittle),
+        0xd7 => Opcode::ByteSwap(ByteOrder::Swap),
         0xdb => Opcode::Excluded(Excluded::AtomicDouble),
-        _ => return None,
+        0xdc => Opcode::ByteSwap(ByteOrder::ToBig),
+        _ => return with_operands(byte),
     })
-}
-
-/// The opcode of a byte: the low three bits are its class, and in arithmetic and jumps the next one tells a
-/// register from a number.
-pub fn opcode_from(byte: u8) -> Option<Opcode>
-    ensures found { IfSome result (λ o. opcode_byte o ≡ byte) }
-    ensures only { (o : Opcode) → opcode_byte o ≡ byte → result ≡ Some o }
-{
-    match byte % 16 {
-        0x04 | 0x07 => alu_by_number(byte),
-        0x0c | 0x0f => alu_by_register(byte),
-        0x05 | 0x06 => jump_by_number(byte),
-        0x0d | 0x0e => jump_by_register(byte),
-        _ => of_memory(byte),
-    }
-}
-
-fn alu_code_bits(code: AluCode) -> u8
-    ensures { result ≡ alu_code code }
-{
-    match code {
-        AluCode::Add => 0x00,
-        AluCode::Sub => 0x10,
-        AluCode::Mul => 0x20,
-        AluCode::Div => 0x30,
-        AluCode::Or => 0x40,
-        AluCode::And => 0x50,
-        AluCode::ShiftLeft => 0x60,
-        AluCode::ShiftRight => 0x70,
-        AluCode::Mod => 0x90,
-        AluCode::Xor => 0xa0,
-        AluCode::Move => 0xb0,
-        AluCode::ShiftRightSigned => 0xc0,
-    }
 }
 
 fn condition_bits(condition: Condition) -> u8

@@ -1,7 +1,7 @@
 //! Instructions out of slots.
 ghost use Rattle.std.specs.Prelude.{[], ◌≤◌, OnErr, ◌≢◌, ◌⊎◌, pos, IsNone, ◌≡◌, ◌%◌, ◌/◌, ◌^◌, ◌∷◌, IfOk, IfErr, IfSome, true, false};
 ghost use Rattle.std.specs.Int.{w32, cast_signed};
-ghost use Rattle.bpf_model.specs.Spelling.{alu_offset, extension_size, extension_bits, swap_bits, FitsSlot, FitsInsn, slots_of, call_source, source_of, first_slot, code_of, opcode_of};
+ghost use Rattle.bpf_model.specs.Spelling.{extension_size, extension_bits, swap_bits, FitsSlot, FitsInsn, slots_of, call_source, source_of, first_slot, opcode_of};
 ghost use Rattle.bpf_model.specs.declared.insn.Insn.{Insn};
 ghost use Rattle.bpf_model.specs.declared.insn.SignExtension.{SignExtension as SignExtensionOf};
 ghost use Rattle.bpf_model.specs.Opcode.{opcode_byte};
@@ -10,9 +10,10 @@ ghost use Rattle.insn_codec.specs.Faults.{IsInsnFlaw, flaw_with, has_bad_offset,
 
 use crate::flaw::InsnFlaw;
 use crate::opcode::opcode_from;
+use crate::operation::op_of;
 use bpf_model::{
-    AluCode, AluOp, ByteOrder, CallKind, Insn, Opcode, Operand, Reg, SignExtension, Size, Slot,
-    Source, SwapWidth, UnaryOp,
+    AluCode, ByteOrder, CallKind, Insn, Opcode, Operand, Reg, SignExtension, Size, Slot, Source,
+    SwapWidth, UnaryOp,
 };
 
 /// Whether the opcode is of the groups packet and atomic.
@@ -56,32 +57,6 @@ fn has_unused_field(opcode: Opcode, slot: Slot) -> bool
         Opcode::Store(_, Source::Immediate) => slot.src != 0,
         Opcode::Wide => slot.offset != 0,
     }
-}
-
-/// The operation of a code, which the offset tells where the code has two.
-fn op_of(code: AluCode, offset: i16) -> Option<AluOp>
-    ensures some { IfSome result (λ p. (code_of p ≡ code) × (alu_offset p ≡ offset)) }
-    ensures none { IsNone result →
-        (offset ≢ pos 0) × ((code ≡ AluCode.Div) ⊎ (code ≡ AluCode.Mod) → offset ≢ pos 1) }
-{
-    let op = match (code, offset) {
-        (AluCode::Add, 0) => AluOp::Add,
-        (AluCode::Sub, 0) => AluOp::Sub,
-        (AluCode::Mul, 0) => AluOp::Mul,
-        (AluCode::Div, 0) => AluOp::Div,
-        (AluCode::Div, 1) => AluOp::SignedDiv,
-        (AluCode::Or, 0) => AluOp::Or,
-        (AluCode::And, 0) => AluOp::And,
-        (AluCode::ShiftLeft, 0) => AluOp::ShiftLeft,
-        (AluCode::ShiftRight, 0) => AluOp::ShiftRight,
-        (AluCode::Mod, 0) => AluOp::Mod,
-        (AluCode::Mod, 1) => AluOp::SignedMod,
-        (AluCode::Xor, 0) => AluOp::Xor,
-        (AluCode::Move, 0) => AluOp::Move,
-        (AluCode::ShiftRightSigned, 0) => AluOp::ShiftRightSigned,
-        _ => return None,
-    };
-    Some(op)
 }
 
 /// The sign extension to a size from so many bits: 8 or 16, and to 64 bits also 32.
