@@ -2,8 +2,8 @@
 use Rattle.std.specs.Prelude.{◌≡◌, ℕ, ◌<◌, ◌≤◌, List, [], ◌∷◌, map, codes, String, string_bytes}
 use Rattle.std.specs.Str.Parse.{digits_value, without_leading_plus}
 use Rattle.bpf_model.specs.declared.limits.TheConstants.{CTX_BYTES}
-use Rattle.bench.specs.declared.command.Command.{Command}
-use Rattle.bench.specs.declared.command.Command.TheVariants.{Repeat, Run, Samples}
+use Rattle.bench.specs.declared.command.BenchCommand.{BenchCommand}
+use Rattle.bench.specs.declared.command.BenchCommand.TheVariants.{Repeat, Run, Samples}
 use Rattle.bench.specs.declared.command.Repeated.{Repeated}
 use Rattle.bench.specs.declared.command.Repeated.TheVariants.{Runs, Verifications}
 
@@ -15,7 +15,7 @@ word_of Verifications = codes "verify"
 -- No words, or `run`, a file and the decimal digits, perhaps behind a plus, of a length that a
 -- context may have; or the word of what is repeated, a file, a length, and how many times, at least
 -- once.
-abbrev pub IsAskedBy : {A : Type 0} → List (String A) → Command → Type 0
+abbrev pub IsAskedBy : {A : Type 0} → List (String A) → BenchCommand → Type 0
 IsAskedBy words Samples = words ≡ []
 IsAskedBy words (Run file ctx_len) =
     (length : List ℕ) × (map string_bytes words ≡ codes "run" ∷ file.now ∷ length ∷ [])

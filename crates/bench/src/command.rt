@@ -2,7 +2,7 @@
 ghost use Rattle.std.specs.Prelude.{◌≡◌, ◌<◌, ◌≤◌, ◌↔◌, [], IfOk, Ok};
 ghost use Rattle.std.specs.Str.Parse.{digits_value, without_leading_plus};
 ghost use Rattle.bpf_model.specs.declared.limits.TheConstants.{CTX_BYTES};
-ghost use Rattle.bench.specs.declared.command.Command.TheVariants.{Samples};
+ghost use Rattle.bench.specs.declared.command.BenchCommand.TheVariants.{Samples};
 ghost use Rattle.bench.specs.Words.{IsAskedBy, word_of};
 
 use bpf_model::CTX_BYTES;
@@ -10,7 +10,7 @@ use thiserror::Error;
 
 /// What the program is asked to do.
 #[derive(Clone, Copy)]
-pub enum Command<'a> {
+pub enum BenchCommand<'a> {
     /// Run the programs that are built in, and go through the activities of worlds, and print what they came to.
     Samples,
     /// Measure the program in a file on a context of this many bytes, at most `CTX_BYTES`.
@@ -39,7 +39,7 @@ pub enum Repeated {
 
 /// Why the words are no command.
 #[derive(Debug, Drop, Error)]
-pub enum UsageFault {
+pub enum BenchWordsFault {
     #[error("usage: bench [run FILE CTX_LEN | (repeat | verify) FILE CTX_LEN TIMES | world [[shared | pool | script] time | repeat ACTIVITY TIMES] | read (time | repeat NAME TIMES)]")]
     Words,
     #[error("CTX_LEN is not a number from 0 to 256")]
@@ -49,56 +49,56 @@ pub enum UsageFault {
 }
 
 /// The length of a context, in decimal digits.
-fn context_length(word: &str) -> Result<usize, UsageFault>
+fn context_length(word: &str) -> Result<usize, BenchWordsFault>
     ensures value { IfOk result (λ n. digits_value 10 (without_leading_plus word.now) ≡ n) }
     ensures limit { IfOk result (λ n. n ≤ CTX_BYTES) }
 {
     match word.parse::<usize>() {
         Ok(length) if length <= CTX_BYTES => Ok(length),
-        _ => Err(UsageFault::Length),
+        _ => Err(BenchWordsFault::Length),
     }
 }
 
 /// A number of times, in decimal digits.
-pub fn number_of_times(word: &str) -> Result<u32, UsageFault>
+pub fn number_of_times(word: &str) -> Result<u32, BenchWordsFault>
     ensures value { IfOk result (λ n. digits_value 10 (without_leading_plus word.now) ≡ n) }
     ensures some { IfOk result (λ n. 0 < n) }
 {
     match word.parse::<u32>() {
         Ok(times) if times > 0 => Ok(times),
-        _ => Err(UsageFault::Times),
+        _ => Err(BenchWordsFault::Times),
     }
 }
 
 /// What the first of four words asks to be done again and again.
-fn deed_of(verb: &str) -> Result<Repeated, UsageFault>
+fn deed_of(verb: &str) -> Result<Repeated, BenchWordsFault>
     ensures { IfOk result (λ deed. word_of deed ≡ verb.now) }
 {
     match verb {
         "repeat" => Ok(Repeated::Runs),
         "verify" => Ok(Repeated::Verifications),
-        _ => Err(UsageFault::Words),
+        _ => Err(BenchWordsFault::Words),
     }
 }
 
 /// The command that the words after the program's own ask for: none, `run FILE CTX_LEN`, or
 /// `repeat FILE CTX_LEN TIMES` or `verify FILE CTX_LEN TIMES`.
-pub fn parse_words<'a>(words: &'a [String]) -> Result<Command<'a>, UsageFault>
+pub fn parse_words<'a>(words: &'a [String]) -> Result<BenchCommand<'a>, BenchWordsFault>
     ensures samples { (words.now ≡ []) ↔ (result ≡ Ok Samples) }
     ensures asked { IfOk result (λ c. IsAskedBy words.now c) }
 {
     match words {
-        [] => Ok(Command::Samples),
-        [verb, file, length] if verb.as_str() == "run" => Ok(Command::Run {
+        [] => Ok(BenchCommand::Samples),
+        [verb, file, length] if verb.as_str() == "run" => Ok(BenchCommand::Run {
             file: file.as_str(),
             ctx_len: context_length(length.as_str())?,
         }),
-        [verb, file, length, times] => Ok(Command::Repeat {
+        [verb, file, length, times] => Ok(BenchCommand::Repeat {
             deed: deed_of(verb.as_str())?,
             file: file.as_str(),
             ctx_len: context_length(length.as_str())?,
             times: number_of_times(times.as_str())?,
         }),
-        _ => Err(UsageFault::Words),
+        _ => Err(BenchWordsFault::Words),
     }
 }

@@ -16,9 +16,9 @@ mod worlds;
 
 use crate::measurements::measurement_line;
 use anyhow::{Result, bail};
-use command::{Command, Repeated, parse_words};
+use command::{BenchCommand, Repeated, parse_words};
 use measure::{Timed, repeat_runs, repeat_verifications, time_per_call_part};
-use reads::command::parse_words as parse_read_words;
+use reads::command::parse_read_words;
 use reads::outputs::lines_of as read_lines_of;
 use report::sample_line;
 use samples::samples;
@@ -28,7 +28,7 @@ use std::sync::Wait;
 use std::thread::Threads;
 use std::{env, fs};
 use trial::{Trial, counted_run, trial_of};
-use worlds::command::{Command as WorldCommand, parse_words as parse_world_words};
+use worlds::command::{WorldCommand, parse_world_words};
 use worlds::outputs::lines_of;
 
 /// Runs each program that is built in, and prints what it came to.
@@ -149,13 +149,13 @@ fn perform_program<H: Threads + Wait + Clock + Sync>(
     words: &[String],
 ) -> Result<ExitCode> {
     match parse_words(words) {
-        Ok(Command::Samples) => {
+        Ok(BenchCommand::Samples) => {
             print_samples(rt)?;
             print_world(rt, handle, WorldCommand::Answers)?;
         }
-        Ok(Command::Run { file, ctx_len }) => measure_file(rt, file, ctx_len)?,
+        Ok(BenchCommand::Run { file, ctx_len }) => measure_file(rt, file, ctx_len)?,
         Ok(
-            Command::Repeat {
+            BenchCommand::Repeat {
                 deed,
                 file,
                 ctx_len,

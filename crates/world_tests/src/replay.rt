@@ -1,5 +1,5 @@
 //! Machines and worlds over lines of events.
-use crate::script::{Command, command_of, tell, tell_answer};
+use crate::script::{ReplayCommand, command_of, tell, tell_answer};
 use bpf_model::{Answer, Event, RunId, Stat};
 use reference_model::Machine;
 use reference_store::ModelFault;
@@ -53,9 +53,9 @@ fn steps<M: Answering>(machine: &mut M, run: RunId, count: usize) -> Result<Answ
 fn answer<M: Answering>(alloc: Global, machine: &mut M, line: &str) -> Result<String, Fail> {
     let mut text = String::new(alloc);
     match command_of(alloc, line)? {
-        Command::Apply(event) => tell(alloc, &mut text, &machine.answer(event))?,
-        Command::Step(run, count) => tell(alloc, &mut text, &steps(machine, run, count))?,
-        Command::Stat => {
+        ReplayCommand::Apply(event) => tell(alloc, &mut text, &machine.answer(event))?,
+        ReplayCommand::Step(run, count) => tell(alloc, &mut text, &steps(machine, run, count))?,
+        ReplayCommand::Stat => {
             let Stat {
                 linked,
                 unlinked,

@@ -9,7 +9,7 @@ use std::str::Split;
 use std::test::Fail;
 
 /// What a line asks for.
-pub enum Command {
+pub enum ReplayCommand {
     Apply(Event),
     /// At most so many steps of a run; the last answer is told.
     Step(RunId, usize),
@@ -62,7 +62,7 @@ fn start(alloc: Global, words: &mut Words) -> Result<Event, Fail> {
 }
 
 /// What the words of a line ask for.
-pub fn command_of(alloc: Global, line: &str) -> Result<Command, Fail> {
+pub fn command_of(alloc: Global, line: &str) -> Result<ReplayCommand, Fail> {
     let mut words = line.split(' ');
     let words = &mut words;
     let event = match word(words)? {
@@ -76,16 +76,16 @@ pub fn command_of(alloc: Global, line: &str) -> Result<Command, Fail> {
             key: bytes(alloc, words)?,
         },
         "start" => start(alloc, words)?,
-        "step" => return Ok(Command::Step(RunId::new(number(words)?), number(words)?)),
+        "step" => return Ok(ReplayCommand::Step(RunId::new(number(words)?), number(words)?)),
         "drop" => Event::Drop {
             run: RunId::new(number(words)?),
         },
         "advance" => Event::Advance,
         "reap" => Event::Reap,
-        "stat" => return Ok(Command::Stat),
+        "stat" => return Ok(ReplayCommand::Stat),
         _ => return Err(Fail::from("no event")),
     };
-    Ok(Command::Apply(event))
+    Ok(ReplayCommand::Apply(event))
 }
 
 fn fault_name(fault: &ModelFault) -> &'static str {

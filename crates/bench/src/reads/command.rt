@@ -4,7 +4,7 @@ use thiserror::Error;
 
 /// What is asked of a table without a lock.
 #[derive(Clone, Copy)]
-pub enum Command<'a> {
+pub enum ReadCommand<'a> {
     /// Print how long calls take, in threads and beside the writer.
     Times,
     /// Make so many rounds of the calls of this name in one thread, and no more, so that a tool which counts instructions
@@ -14,7 +14,7 @@ pub enum Command<'a> {
 
 /// Why the words are no command.
 #[derive(Debug, Drop, Error)]
-pub enum UsageFault {
+pub enum ReadWordsFault {
     #[error("usage: bench read (time | repeat NAME TIMES)")]
     Words,
     #[error("TIMES is not a number from 1 to 4294967295")]
@@ -22,16 +22,16 @@ pub enum UsageFault {
 }
 
 /// The command that the words after `bench read` ask for: `time`, or `repeat NAME TIMES`.
-pub fn parse_words<'a>(words: &'a [String]) -> Result<Command<'a>, UsageFault> {
+pub fn parse_read_words<'a>(words: &'a [String]) -> Result<ReadCommand<'a>, ReadWordsFault> {
     match words {
-        [word] if word.as_str() == "time" => Ok(Command::Times),
+        [word] if word.as_str() == "time" => Ok(ReadCommand::Times),
         [first, name, times] if first.as_str() == "repeat" => match number_of_times(times) {
-            Ok(times) => Ok(Command::Repeat {
+            Ok(times) => Ok(ReadCommand::Repeat {
                 name: name.as_str(),
                 times,
             }),
-            Err(_) => Err(UsageFault::Times),
+            Err(_) => Err(ReadWordsFault::Times),
         },
-        _ => Err(UsageFault::Words),
+        _ => Err(ReadWordsFault::Words),
     }
 }

@@ -3,7 +3,7 @@ ghost use Rattle.std.specs.Prelude.{◌<◌, ◌≤◌};
 ghost use Rattle.read_table.specs.declared.limits.TheConstants.{MAX_READERS};
 
 use crate::measurements::{measurement_line, quotient};
-use crate::reads::command::Command;
+use crate::reads::command::ReadCommand;
 use crate::reads::jobs::time_per_read_job;
 use crate::reads::measure::{quickest, repeat_calls};
 use crate::reads::task::{Task, tasks};
@@ -112,10 +112,10 @@ fn repeated_lines(alloc: Global, name: &str, times: u32) -> Result<Vec<String>> 
 pub fn lines_of<R: Threads + Wait + Clock + Sync>(
     rt: &R,
     alloc: Global,
-    command: Command<'_>,
+    command: ReadCommand<'_>,
 ) -> Result<Vec<String>> {
     match command {
-        Command::Times => times_lines(rt, alloc),
-        Command::Repeat { name, times } => repeated_lines(alloc, name, times),
+        ReadCommand::Times => times_lines(rt, alloc),
+        ReadCommand::Repeat { name, times } => repeated_lines(alloc, name, times),
     }
 }

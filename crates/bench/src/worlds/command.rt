@@ -1,13 +1,13 @@
 //! The words behind `bench world`.
 ghost use Rattle.std.specs.Prelude.{◌≡◌, ◌≢◌, ◌↔◌, [], Ok};
-ghost use Rattle.bench.specs.declared.worlds.command.Command.TheVariants.{Answers};
+ghost use Rattle.bench.specs.declared.worlds.command.WorldCommand.TheVariants.{Answers};
 
 use crate::command::number_of_times;
 use thiserror::Error;
 
 /// What is asked of worlds.
 #[derive(Clone, Copy)]
-pub enum Command<'a> {
+pub enum WorldCommand<'a> {
     /// Print what the events of each activity are answered.
     Answers,
     /// Print how long each activity takes.
@@ -25,7 +25,7 @@ pub enum Command<'a> {
 
 /// Why the words are no command.
 #[derive(Debug, Drop, Error)]
-pub enum UsageFault {
+pub enum WorldWordsFault {
     #[error("usage: bench world [[shared | pool | script] time | repeat ACTIVITY TIMES]")]
     Words,
     #[error("TIMES is not a number from 1 to 4294967295")]
@@ -34,32 +34,32 @@ pub enum UsageFault {
 
 /// The command that the words after `bench world` ask for: none, `time`, `time` after `shared`, `pool` or
 /// `script`, or `repeat ACTIVITY TIMES`.
-pub fn parse_words<'a>(words: &'a [String]) -> Result<Command<'a>, UsageFault>
+pub fn parse_world_words<'a>(words: &'a [String]) -> Result<WorldCommand<'a>, WorldWordsFault>
     ensures answers { (words.now ≡ []) ↔ (result ≡ Ok Answers) }
 {
     match words {
-        [] => Ok(Command::Answers),
-        [word] if word.as_str() == "time" => Ok(Command::Times),
+        [] => Ok(WorldCommand::Answers),
+        [word] if word.as_str() == "time" => Ok(WorldCommand::Times),
         [first, second] if second.as_str() == "time" => parse_subject(first),
         [first, activity, times] if first.as_str() == "repeat" => match number_of_times(times) {
-            Ok(times) => Ok(Command::Repeat {
+            Ok(times) => Ok(WorldCommand::Repeat {
                 activity: activity.as_str(),
                 times,
             }),
-            Err(_) => Err(UsageFault::Times),
+            Err(_) => Err(WorldWordsFault::Times),
         },
-        _ => Err(UsageFault::Words),
+        _ => Err(WorldWordsFault::Words),
     }
 }
 
 /// The command that the word before `time` asks for.
-fn parse_subject<'a>(word: &str) -> Result<Command<'a>, UsageFault>
+fn parse_subject<'a>(word: &str) -> Result<WorldCommand<'a>, WorldWordsFault>
     ensures { result ≢ Ok Answers }
 {
     match word {
-        "shared" => Ok(Command::SharedTimes),
-        "pool" => Ok(Command::PoolTimes),
-        "script" => Ok(Command::ScriptTimes),
-        _ => Err(UsageFault::Words),
+        "shared" => Ok(WorldCommand::SharedTimes),
+        "pool" => Ok(WorldCommand::PoolTimes),
+        "script" => Ok(WorldCommand::ScriptTimes),
+        _ => Err(WorldWordsFault::Words),
     }
 }

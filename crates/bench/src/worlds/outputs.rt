@@ -4,7 +4,7 @@ ghost use Rattle.shared.specs.declared.worker.TheConstants.{MAX_WORKERS};
 
 use crate::measurements::measurement_line;
 use crate::worlds::activity::{Activity, activities};
-use crate::worlds::command::Command;
+use crate::worlds::command::WorldCommand;
 use crate::worlds::crew::{Crew, crews, repeat_calls, time_per_call};
 use crate::worlds::measure::time_per_part;
 use crate::worlds::pool::time_per_job;
@@ -169,14 +169,14 @@ fn repeated_lines<R: Threads + Wait + Clock + Sync>(
 pub fn lines_of<R: Threads + Wait + Clock + Sync>(
     rt: &R,
     alloc: Global,
-    command: Command<'_>,
+    command: WorldCommand<'_>,
 ) -> Result<Vec<String>> {
     match command {
-        Command::Answers => answers_lines(alloc),
-        Command::Times => times_lines(rt, alloc),
-        Command::SharedTimes => shared_lines(rt, alloc),
-        Command::PoolTimes => pool_lines(rt, alloc),
-        Command::ScriptTimes => script_lines(rt, alloc),
-        Command::Repeat { activity, times } => repeated_lines(rt, alloc, activity, times),
+        WorldCommand::Answers => answers_lines(alloc),
+        WorldCommand::Times => times_lines(rt, alloc),
+        WorldCommand::SharedTimes => shared_lines(rt, alloc),
+        WorldCommand::PoolTimes => pool_lines(rt, alloc),
+        WorldCommand::ScriptTimes => script_lines(rt, alloc),
+        WorldCommand::Repeat { activity, times } => repeated_lines(rt, alloc, activity, times),
     }
 }
