@@ -6,8 +6,7 @@ use Rattle.std.proofs.lemmas.Option.{same_Some}
 use Rattle.bpf_model.specs.declared.insn.Insn.{Insn}
 use Rattle.bpf_model.specs.declared.insn.Insn.TheVariants.{Alu, Load, LoadSigned, Store}
 use Rattle.bpf_model.specs.declared.insn.AluOp.{AluOp}
-use Rattle.bpf_model.specs.declared.insn.AluOp.TheVariants.{Add, Sub, Mul, Div, SignedDiv, Or, And, ShiftLeft}
-use Rattle.bpf_model.specs.declared.insn.AluOp.TheVariants.{ShiftRight, Mod, SignedMod, Xor, Move, ShiftRightSigned}
+use Rattle.bpf_model.specs.declared.insn.AluOp.TheVariants.{Move}
 use Rattle.bpf_model.specs.declared.insn.Operand.{Operand}
 use Rattle.bpf_model.specs.declared.insn.Operand.TheVariants.{Register, Immediate}
 use Rattle.bpf_model.specs.declared.opcode.Size.{Size}
@@ -108,19 +107,7 @@ module _ (size : Size) (dst : ℕ) (src : Operand) (a : AbsState) where
 
   pub alu_reads : (op : AluOp) → ReadsNumbers (Alu op size dst src) a → ReadsNumber op a dst × IsNumberOperand a src
   alu_reads Move h = (inl refl, operand_number src a h)
-  alu_reads Add h = other Add h
-  alu_reads Sub h = other Sub h
-  alu_reads Mul h = other Mul h
-  alu_reads Div h = other Div h
-  alu_reads SignedDiv h = other SignedDiv h
-  alu_reads Or h = other Or h
-  alu_reads And h = other And h
-  alu_reads ShiftLeft h = other ShiftLeft h
-  alu_reads ShiftRight h = other ShiftRight h
-  alu_reads Mod h = other Mod h
-  alu_reads SignedMod h = other SignedMod h
-  alu_reads Xor h = other Xor h
-  alu_reads ShiftRightSigned h = other ShiftRightSigned h
+  alu_reads op h = other op h
 
 -- an access to the frame that is ready lies inside it, and what it takes is bytes of numbers
 reaches : (width : Width) (base : ℕ) (offset : ℤ) (a : AbsState) (f : IsFrameAccess width base offset) →

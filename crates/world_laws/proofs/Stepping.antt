@@ -121,13 +121,7 @@ module _ (w : WorldView) (s : Schedule) (m : Matches w s) (sound : IsSound w s) 
 
   left : (event : Event) → reaction w event ≡ None → Simulates s event (or_step None w event)
   left (events.Step r) e = running-step r (not-refused (step_refused (option_flatten (slice_get w.runs r))) w e)
-  left (events.Start prog ctx) e = absurd (none-some _ (sym e))
-  left (events.Update map key value flags) e = absurd (none-some _ (sym e))
-  left (events.Delete map key) e = absurd (none-some _ (sym e))
-  left (events.Read map key) e = absurd (none-some _ (sym e))
-  left events.Advance e = absurd (none-some _ (sym e))
-  left events.Reap e = absurd (none-some _ (sym e))
-  left (events.Drop r) e = absurd (none-some _ (sym e))
+  left event e = absurd (none-some _ (sym e))
 
   either : (event : Event) (o : Option (Answer × WorldView)) → reaction w event ≡ o → Simulates s event (or_step o w event)
   either event (Some x) e = reaction_simulates w s m event x e
