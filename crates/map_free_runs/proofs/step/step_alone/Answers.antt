@@ -46,5 +46,6 @@ pub returns-in-Enter : goal.returns-in-Enter
 returns-in-Enter c =
     let f = resumed c.args.verified.now c.args.run.now.view c.requires.stands c.in-Shared.request
     c.local_step.new.self.view c.resume.new.self.view 0
-    (step_there c.args.verified.now c.args.run.now.view (answers.Shared c.in-Shared.request) c.local_step.new.self.view c.in-Shared.ensures.step) c.resume.ensures.view in
+    (step_there c.args.verified.now c.args.run.now.view (answers.Shared c.in-Shared.request) c.local_step.new.self.view
+    c.in-Shared.ensures.step) c.resume.ensures.view in
     record { lone = record { at = c.resume.ensures.run; stands = f.stands }; context = f.context; moved = f.moved }
