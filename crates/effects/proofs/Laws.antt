@@ -2,8 +2,7 @@
 use Rattle.std.proofs.Common.{◌≡◌, ℕ, ◌^◌, ◌<◌, refl}
 use Rattle.std.specs.Prelude.{Some}
 use Rattle.bpf_model.specs.declared.insn.AluOp.{AluOp}
-use Rattle.bpf_model.specs.declared.insn.AluOp.TheVariants.{Add, Sub, Mul, Div, SignedDiv, Or, And, ShiftLeft}
-use Rattle.bpf_model.specs.declared.insn.AluOp.TheVariants.{ShiftRight, Mod, SignedMod, Xor, Move, ShiftRightSigned}
+use Rattle.bpf_model.specs.declared.insn.AluOp.TheVariants.{Add}
 use Rattle.bpf_model.specs.declared.insn.UnaryOp.{UnaryOp}
 use Rattle.bpf_model.specs.declared.insn.UnaryOp.TheVariants.{Negate, ByteSwap, MoveSigned}
 use Rattle.bpf_model.specs.declared.opcode.Size.{Size}
@@ -22,30 +21,5 @@ unary_lt (MoveSigned extension src) x = moved_signed_lt extension x
 -- an operation of two numbers
 pub computed_numbers : (size : Size) (op : AluOp) (a b : ℕ) → computed size op (Number a) (Number b) ≡ Some (Number (alu size op a b))
 computed_numbers Word64 Add a b = refl
-computed_numbers Word64 Sub a b = refl
-computed_numbers Word64 Mul a b = refl
-computed_numbers Word64 Div a b = refl
-computed_numbers Word64 SignedDiv a b = refl
-computed_numbers Word64 Or a b = refl
-computed_numbers Word64 And a b = refl
-computed_numbers Word64 ShiftLeft a b = refl
-computed_numbers Word64 ShiftRight a b = refl
-computed_numbers Word64 Mod a b = refl
-computed_numbers Word64 SignedMod a b = refl
-computed_numbers Word64 Xor a b = refl
-computed_numbers Word64 Move a b = refl
-computed_numbers Word64 ShiftRightSigned a b = refl
 computed_numbers Word32 Add a b = refl
-computed_numbers Word32 Sub a b = refl
-computed_numbers Word32 Mul a b = refl
-computed_numbers Word32 Div a b = refl
-computed_numbers Word32 SignedDiv a b = refl
-computed_numbers Word32 Or a b = refl
-computed_numbers Word32 And a b = refl
-computed_numbers Word32 ShiftLeft a b = refl
-computed_numbers Word32 ShiftRight a b = refl
-computed_numbers Word32 Mod a b = refl
-computed_numbers Word32 SignedMod a b = refl
-computed_numbers Word32 Xor a b = refl
-computed_numbers Word32 Move a b = refl
-computed_numbers Word32 ShiftRightSigned a b = refl
+computed_numbers size op a b = refl

@@ -9,8 +9,7 @@ use Rattle.std.proofs.Math.Nat.{mod-eq_of_lt, div-le_self, mod-le}
 use Rattle.scalar_domain.proofs.Multiples.{below_word}
 use Rattle.bpf_model.specs.Arithmetic.{operate, word, signed}
 use Rattle.bpf_model.specs.declared.insn.AluOp.{AluOp}
-use Rattle.bpf_model.specs.declared.insn.AluOp.TheVariants.{Add, Sub, Mul, Div, SignedDiv, Or, And, ShiftLeft}
-use Rattle.bpf_model.specs.declared.insn.AluOp.TheVariants.{ShiftRight, Mod, SignedMod, Xor, Move, ShiftRightSigned}
+use Rattle.bpf_model.specs.declared.insn.AluOp.TheVariants.{Add, Sub, Mul, SignedDiv, ShiftLeft, ShiftRight, SignedMod, ShiftRightSigned}
 use Rattle.scalar_domain.specs.Unsigned.{unsigned_form}
 use Rattle.scalar_domain.proofs.Words.{operate_lt}
 
@@ -45,17 +44,7 @@ unsigned_same w half SignedMod x y p q = same_else (y == 0) x (word w (int_rem (
     (ap₂ (λ a b. word w (int_rem a b)) (to_z_pos w x p) (to_z_pos w y q) ∙ whole w (x % y) x (mod-le x y) (half x p))
 unsigned_same w half ShiftRightSigned x y p q =
     ap (λ a. word w (int_shr a (y % bits w))) (to_z_pos w x p) ∙ whole w (x / 2 ^ (y % bits w)) x (shr_le x (y % bits w)) (half x p)
-unsigned_same w half Add x y p q = refl
-unsigned_same w half Sub x y p q = refl
-unsigned_same w half Mul x y p q = refl
-unsigned_same w half Div x y p q = refl
-unsigned_same w half Or x y p q = refl
-unsigned_same w half And x y p q = refl
-unsigned_same w half ShiftLeft x y p q = refl
-unsigned_same w half ShiftRight x y p q = refl
-unsigned_same w half Mod x y p q = refl
-unsigned_same w half Xor x y p q = refl
-unsigned_same w half Move x y p q = refl
+unsigned_same w half op x y p q = refl
 
 pub wide_same : (op : AluOp) (x y : ℕ) → x < 2 ^ 63 → y < 2 ^ 63 → operate w64 op x y ≡ operate w64 (unsigned_form op) x y
 wide_same op x y p q = unsigned_same w64 (λ n h. omega arith) op x y p q
@@ -71,14 +60,9 @@ low_same Add x y p q d m l r s = below_word (x + y) 32 (omega arith)
 low_same Sub x y p q d m l r s = ap (λ n. n % 2 ^ 32) (word_difference x y (omega arith)) ∙
     below_word (x + (2 ^ 64 - y)) 32 (omega arith) ∙ sym (narrow_difference x y q)
 low_same Mul x y p q d m l r s = below_word (x * y) 32 (omega arith)
-low_same Div x y p q d m l r s = mod-eq_of_lt (operate_lt w32 Div x y p q)
-low_same Or x y p q d m l r s = mod-eq_of_lt (operate_lt w32 Or x y p q)
-low_same And x y p q d m l r s = mod-eq_of_lt (operate_lt w32 And x y p q)
-low_same Mod x y p q d m l r s = mod-eq_of_lt (operate_lt w32 Mod x y p q)
-low_same Xor x y p q d m l r s = mod-eq_of_lt (operate_lt w32 Xor x y p q)
-low_same Move x y p q d m l r s = mod-eq_of_lt (operate_lt w32 Move x y p q)
 low_same SignedDiv x y p q d m l r s = absurd (d refl)
 low_same SignedMod x y p q d m l r s = absurd (m refl)
 low_same ShiftLeft x y p q d m l r s = absurd (l refl)
 low_same ShiftRight x y p q d m l r s = absurd (r refl)
 low_same ShiftRightSigned x y p q d m l r s = absurd (s refl)
+low_same op x y p q d m l r s = mod-eq_of_lt (operate_lt w32 op x y p q)

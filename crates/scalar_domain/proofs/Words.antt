@@ -1,14 +1,13 @@
 -- Results of arithmetic are words.
 use Rattle.std.proofs.Common.{ℕ, ◌*◌, ◌/◌, ◌%◌, ◌^◌, ◌<◌, ℤ, pos, negsuc, arith, Bool, true, false, cond}
-use Rattle.std.specs.Prelude.{◌==◌, ◌+ℤ◌, ◌-ℤ◌, ◌*ℤ◌, neg_ℤ, int_div, int_rem}
-use Rattle.std.specs.Int.{Width, w8, w16, w32, w64, int_shr}
+use Rattle.std.specs.Prelude.{◌==◌, ◌+ℤ◌, neg_ℤ, int_div, int_rem}
+use Rattle.std.specs.Int.{Width, w8, w16, w32, w64}
 use mir.Val.{bits}
 use Rattle.std.proofs.lemmas.Nat.{and_le_l, or_lt, xor_lt, mod_below, pow_pos, shr_le}
 use Rattle.std.proofs.Math.Nat.{div-le_self, mod-le}
 use Rattle.bpf_model.specs.Arithmetic.{operate, alu, word, signed, negated, moved_signed, loaded_signed}
 use Rattle.bpf_model.specs.declared.insn.AluOp.{AluOp}
-use Rattle.bpf_model.specs.declared.insn.AluOp.TheVariants.{Add, Sub, Mul, Div, SignedDiv, Or, And, ShiftLeft}
-use Rattle.bpf_model.specs.declared.insn.AluOp.TheVariants.{ShiftRight, Mod, SignedMod, Xor, Move, ShiftRightSigned}
+use Rattle.bpf_model.specs.declared.insn.AluOp.TheVariants.{Add, Div, SignedDiv, Or, And, ShiftLeft, ShiftRight, Mod, SignedMod, Xor, Move}
 use Rattle.bpf_model.specs.declared.insn.SignExtension.{SignExtension}
 use Rattle.bpf_model.specs.declared.insn.SignExtension.TheVariants.{ByteTo32, ShortTo32, ByteTo64, ShortTo64, WordTo64}
 use Rattle.bpf_model.specs.declared.opcode.SignedWidth.{SignedWidth}
@@ -26,8 +25,6 @@ word_lt w (negsuc n) = omega (arith, pow_pos (bits w))
 
 pub operate_lt : (w : Width) (op : AluOp) (x y : ℕ) → x < 2 ^ bits w → y < 2 ^ bits w → operate w op x y < 2 ^ bits w
 operate_lt w Add x y p q = word_lt w (pos x +ℤ pos y)
-operate_lt w Sub x y p q = word_lt w (pos x -ℤ pos y)
-operate_lt w Mul x y p q = word_lt w (pos x *ℤ pos y)
 operate_lt w Div x y p q = either_lt (y == 0) 0 (x / y) (2 ^ bits w) (pow_pos (bits w)) (omega (arith, div-le_self x y))
 operate_lt w SignedDiv x y p q = either_lt (y == 0) 0 (word w (int_div (signed w x) (signed w y))) (2 ^ bits w)
     (pow_pos (bits w)) (word_lt w (int_div (signed w x) (signed w y)))
@@ -40,7 +37,7 @@ operate_lt w SignedMod x y p q = either_lt (y == 0) x (word w (int_rem (signed w
     (word_lt w (int_rem (signed w x) (signed w y)))
 operate_lt w Xor x y p q = xor_lt (bits w) x y p q
 operate_lt w Move x y p q = q
-operate_lt w ShiftRightSigned x y p q = word_lt w (int_shr (signed w x) (y % bits w))
+operate_lt w op x y p q = search word_lt
 
 low_lt : (n : ℕ) → n % 2 ^ 32 < 2 ^ 32
 low_lt n = mod_below n (2 ^ 32) (pow_pos 32)
