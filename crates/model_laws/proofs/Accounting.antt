@@ -17,10 +17,7 @@ use Rattle.bpf_model.specs.declared.call.Helper.{Helper}
 use Rattle.bpf_model.specs.declared.call.Helper.TheVariants as helpers
 use Rattle.bpf_model.specs.declared.call.Errno.{Errno}
 use Rattle.bpf_model.specs.declared.event.Event.{Event}
-use Rattle.bpf_model.specs.declared.event.Event.TheVariants as events
 use Rattle.bpf_model.specs.declared.event.Answer.{Answer}
-use Rattle.bpf_model.specs.declared.event.Answer.TheVariants as answers
-use Rattle.bpf_model.specs.declared.event.EventRefusal.{EventRefusal}
 use Rattle.bpf_model.specs.declared.event.Given.{Given}
 use Rattle.bpf_model.specs.declared.event.Given.TheVariants.{Free, Worn}
 use Rattle.bpf_model.specs.declared.limits.MapShape.{MapShape}
@@ -35,8 +32,8 @@ use Rattle.bpf_model.specs.declared.limits.MapKind.{MapKind}
 use Rattle.bpf_model.specs.declared.limits.MapKind.TheVariants.{Hash, Array}
 use Rattle.bpf_model.specs.Reclaim.{Reclaims}
 use Rattle.bpf_model.specs.Machine.{Run, Machine, Loaded, environment, open_sections, start_machine}
+use Rattle.model_laws.proofs.Changing.{StoreChange, ByUpdate, ByDelete, ByReclaim, Change, Still, Begins, Steps, Stores, Leaves, change}
 use Rattle.model_laws.specs.ByKind.{StepsByKind, HelperStep}
-use Rattle.bpf_model.specs.Event.{PerformsEvent, Answers, refusal}
 use Rattle.bpf_model.specs.Schedule.{Schedule, IsScheduledHistory, start_schedule}
 use Rattle.bpf_model.specs.Refines.{times, IsReachedSchedule}
 use Rattle.model_laws.specs.Accounted.{kept_count, born_count, IsFull}
@@ -415,31 +412,20 @@ accounts-insn i s opened run answer new new_run h = accounts-elements opened s n
 accounts-with : (m new : Machine) (store : Store) → Accounts m.store store → new.store ≡ store → Accounts m.store new.store
 accounts-with m new store a e h = subst Accounted (sym e) (a h)
 
-accounts-performs : (m : Machine) (event : Event) (answer : Answer) (new : Machine) → PerformsEvent m event answer new → Accounts m.store new.store
-accounts-performs m (events.Start prog ctx) (answers.Started r) new h = accounts-same m.store new.store (ap (λ x. x.store) h.new_is)
-accounts-performs m (events.Step run) answer new h = accounts-with m new h.new_store
-    (accounts-insn h.step.0 m.store (open_sections m.runs) h.run answer h.new_store h.new_run
-    (run_by_kind m run answer new h)) (ap (λ x. x.store) h.new_is)
-accounts-performs m (events.Update map key value flags) (answers.Ret ret) new h =
-    accounts-with m new h.0 (accounts-updates m.store (open_sections m.runs) map key.items value.items flags ret h.0
-    h.1) (ap (λ x. x.store) h.2)
-accounts-performs m (events.Delete map key) (answers.Ret ret) new h =
-    accounts-with m new h.0 (accounts-deletes m.store (open_sections m.runs) map key.items ret h.0 h.1)
-    (ap (λ x. x.store) h.2)
-accounts-performs m (events.Read map key) (answers.Found (Some value)) new h = accounts-same m.store new.store (ap (λ x. x.store) h.1)
-accounts-performs m (events.Read map key) (answers.Found None) new h = accounts-same m.store new.store (ap (λ x. x.store) h.1)
-accounts-performs m events.Advance answers.Done new h = accounts-same m.store new.store (ap (λ x. x.store) h)
-accounts-performs m events.Reap (answers.Reaped None) new h = accounts-same m.store new.store (ap (λ x. x.store) h)
-accounts-performs m events.Reap (answers.Reaped (Some reaped)) new h =
-    accounts-with m new h.2 (accounts-reclaims m.store (open_sections m.runs) h.0 h.1 reaped.given h.2 h.3)
-    (ap (λ x. x.store) h.6)
-accounts-performs m (events.Drop run) answers.Done new h = accounts-same m.store new.store (ap (λ x. x.store) h)
-accounts-performs m event answer new h = absurd h
+accounts-store_change : (s : Store) (opened : List Section) (new : Store) (event : Event) → StoreChange s opened new event → Accounts s new
+accounts-store_change s opened new event (ByUpdate map key value flags ret u) = accounts-updates s opened map key.items value.items flags ret new u
+accounts-store_change s opened new event (ByDelete map key ret d) = accounts-deletes s opened map key.items ret new d
+accounts-store_change s opened new event (ByReclaim n e given r) = accounts-reclaims s opened n e given new r
 
-accounts-answers : (o : Option EventRefusal) (m : Machine) (event : Event) (answer : Answer) (new : Machine) →
-    Answers o m event answer new → Accounts m.store new.store
-accounts-answers None m event answer new h = accounts-performs m event answer new h
-accounts-answers (Some k) m event answer new h = accounts-same m.store new.store (ap (λ x. x.store) h.1)
+accounts-change : (m new : Machine) (event : Event) (answer : Answer) → Change m new event answer → Accounts m.store new.store
+accounts-change m new event answer (Still e counts) = accounts-same m.store new.store (ap (λ x. x.store) e)
+accounts-change m new event answer (Begins prog ctx r pass h) = accounts-same m.store new.store (ap (λ x. x.store) h.new_is)
+accounts-change m new event answer (Steps r h) = accounts-with m new h.new_store
+    (accounts-insn h.step.0 m.store (open_sections m.runs) h.run answer h.new_store h.new_run
+    (run_by_kind m r answer new h)) (ap (λ x. x.store) h.new_is)
+accounts-change m new event answer (Stores store pass c e) =
+    accounts-with m new store (accounts-store_change m.store (open_sections m.runs) store event c) (ap (λ x. x.store) e)
+accounts-change m new event answer (Leaves r e) = accounts-same m.store new.store (ap (λ x. x.store) e)
 
 -- a history
 accounted-along : (s : Schedule) (events : List Event) (answers : List Answer) (states : List Schedule) →
@@ -447,7 +433,7 @@ accounted-along : (s : Schedule) (events : List Event) (answers : List Answer) (
     Accounted (last_of s states).machine.store
 accounted-along s [] [] [] a h = a
 accounted-along s (event ∷ events) (answer ∷ answers) (next ∷ states) a h =
-    accounted-along next events answers states (accounts-answers (refusal s.machine event) s.machine event answer next.machine h.0.step a) h.1
+    accounted-along next events answers states (accounts-change s.machine next.machine event answer (change s.machine next.machine event answer h.0.step) a) h.1
 accounted-along s events answers states a h = absurd h
 
 reached-adds : (shapes : List MapShape) (programs : List Loaded) (s : Schedule) → IsReachedSchedule shapes programs s → Accounted s.machine.store

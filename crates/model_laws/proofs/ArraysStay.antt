@@ -9,10 +9,7 @@ use Rattle.bpf_model.specs.declared.call.Helper.{Helper}
 use Rattle.bpf_model.specs.declared.call.Helper.TheVariants as helpers
 use Rattle.bpf_model.specs.declared.call.Errno.{Errno}
 use Rattle.bpf_model.specs.declared.event.Event.{Event}
-use Rattle.bpf_model.specs.declared.event.Event.TheVariants as events
 use Rattle.bpf_model.specs.declared.event.Answer.{Answer}
-use Rattle.bpf_model.specs.declared.event.Answer.TheVariants as answers
-use Rattle.bpf_model.specs.declared.event.EventRefusal.{EventRefusal}
 use Rattle.bpf_model.specs.declared.event.Given.{Given}
 use Rattle.bpf_model.specs.declared.limits.MapKind.{MapKind}
 use Rattle.bpf_model.specs.declared.limits.MapKind.TheVariants.{Hash, Array}
@@ -30,11 +27,12 @@ use Rattle.bpf_model.specs.MapState.{MapState}
 use Rattle.bpf_model.specs.Helper.{LooksUp, Writes, Settles, Updates, RemovesFrom, Deletes}
 use Rattle.bpf_model.specs.Reclaim.{Reclaims}
 use Rattle.bpf_model.specs.Machine.{Run, Machine, environment, open_sections}
+use Rattle.model_laws.proofs.Changing.{StoreChange, ByUpdate, ByDelete, ByReclaim, Change, Still, Begins, Steps, Stores, Leaves, change}
 use Rattle.model_laws.specs.ByKind.{StepsByKind, AccessesElement, Acts, HelperStep, element_store}
 use Rattle.bpf_model.specs.Element.{stored_in}
 use Rattle.bpf_model.specs.Access.{with_bytes}
 use Rattle.model_laws.specs.Consistent.{StaysLinked}
-use Rattle.bpf_model.specs.Event.{PerformsEvent, Answers, DoesEvent, refusal}
+use Rattle.bpf_model.specs.Event.{DoesEvent}
 use Rattle.model_laws.proofs.Computations.{first-step}
 use Rattle.model_laws.proofs.Lives.{linked≢unlinked}
 use Rattle.model_laws.proofs.Stores.{touches-found}
@@ -195,33 +193,22 @@ fixes-insn i s opened run answer new new_run h = fixes-with s new h.1
 fixes-then : (s mid new : map_state.Store) → Fixes s mid → new ≡ mid → Fixes s new
 fixes-then s mid new h e = subst (Fixes s) (sym e) h
 
-fixes-performs : (m : Machine) (event : Event) (answer : Answer) (new : Machine) → PerformsEvent m event answer new → Fixes m.store new.store
-fixes-performs m (events.Start prog ctx) (answers.Started r) new h = fixes-at m.store new.store (ap (λ x. x.store) h.new_is)
-fixes-performs m (events.Step run) answer new h = fixes-then m.store h.new_store new.store
-    (fixes-insn h.step.0 m.store (open_sections m.runs) h.run answer h.new_store h.new_run
-    (run_by_kind m run answer new h)) (ap (λ x. x.store) h.new_is)
-fixes-performs m (events.Update map key value flags) (answers.Ret ret) new h =
-    fixes-then m.store h.0 new.store (fixes-updates m.store (open_sections m.runs) map key.items value.items flags ret
-    h.0 h.1) (ap (λ x. x.store) h.2)
-fixes-performs m (events.Delete map key) (answers.Ret ret) new h =
-    fixes-then m.store h.0 new.store (fixes-deletes m.store (open_sections m.runs) map key.items ret h.0 h.1)
-    (ap (λ x. x.store) h.2)
-fixes-performs m (events.Read map key) (answers.Found (Some value)) new h = fixes-at m.store new.store (ap (λ x. x.store) h.1)
-fixes-performs m (events.Read map key) (answers.Found None) new h = fixes-at m.store new.store (ap (λ x. x.store) h.1)
-fixes-performs m events.Advance answers.Done new h = fixes-at m.store new.store (ap (λ x. x.store) h)
-fixes-performs m events.Reap (answers.Reaped None) new h = fixes-at m.store new.store (ap (λ x. x.store) h)
-fixes-performs m events.Reap (answers.Reaped (Some reaped)) new h =
-    fixes-then m.store h.2 new.store (fixes-reclaims m.store (open_sections m.runs) h.0 h.1 reaped.given h.2 h.3)
-    (ap (λ x. x.store) h.6)
-fixes-performs m (events.Drop run) answers.Done new h = fixes-at m.store new.store (ap (λ x. x.store) h)
-fixes-performs m event answer new h = absurd h
+fixes-store_change : (s : map_state.Store) (opened : List Section) (new : map_state.Store) (event : Event) → StoreChange s opened new event → Fixes s new
+fixes-store_change s opened new event (ByUpdate map key value flags ret u) = fixes-updates s opened map key.items value.items flags ret new u
+fixes-store_change s opened new event (ByDelete map key ret d) = fixes-deletes s opened map key.items ret new d
+fixes-store_change s opened new event (ByReclaim n e given r) = fixes-reclaims s opened n e given new r
 
-fixes-answers : (o : Option EventRefusal) (m : Machine) (event : Event) (answer : Answer) (new : Machine) →
-    Answers o m event answer new → Fixes m.store new.store
-fixes-answers None m event answer new h = fixes-performs m event answer new h
-fixes-answers (Some k) m event answer new h = fixes-at m.store new.store (ap (λ x. x.store) h.1)
+fixes-change : (m new : Machine) (event : Event) (answer : Answer) → Change m new event answer → Fixes m.store new.store
+fixes-change m new event answer (Still e counts) = fixes-at m.store new.store (ap (λ x. x.store) e)
+fixes-change m new event answer (Begins prog ctx r pass h) = fixes-at m.store new.store (ap (λ x. x.store) h.new_is)
+fixes-change m new event answer (Steps r h) = fixes-then m.store h.new_store new.store
+    (fixes-insn h.step.0 m.store (open_sections m.runs) h.run answer h.new_store h.new_run
+    (run_by_kind m r answer new h)) (ap (λ x. x.store) h.new_is)
+fixes-change m new event answer (Stores store pass c e) =
+    fixes-then m.store store new.store (fixes-store_change m.store (open_sections m.runs) store event c) (ap (λ x. x.store) e)
+fixes-change m new event answer (Leaves r e) = fixes-at m.store new.store (ap (λ x. x.store) e)
 
 pub does-fix : (m new : Machine) (event : Event) (answer : Answer) → DoesEvent m event answer new →
     (n : ℕ) (e f : Element) → slice_get m.store.elements n ≡ Some e → slice_get new.store.elements n ≡ Some f →
     StaysLinked m.store.maps e → StaysLinked m.store.maps f
-does-fix m new event answer h = fixes-answers (refusal m event) m event answer new h
+does-fix m new event answer h = fixes-change m new event answer (change m new event answer h)

@@ -11,7 +11,8 @@ use Rattle.bpf_model.specs.Event.{DoesEvent}
 use Rattle.bpf_model.specs.History.{IsHistory}
 use Rattle.model_laws.specs.Consistent.{IsConsistent}
 use Rattle.bpf_model.specs.Headline.{IsUnlinkedBetween}
-use Rattle.model_laws.proofs.Stores.{LifeMoves, Stays, Unlinks, Ends, is_reap, does-moves}
+use Rattle.model_laws.proofs.Changing.{is_reap}
+use Rattle.model_laws.proofs.Stores.{LifeMoves, Stays, Unlinks, Ends, does-moves}
 use Rattle.model_laws.proofs.Keeping.{stays_consistent}
 use Rattle.model_laws.proofs.Lives.{linked≢unlinked, reclaimed≢linked, reclaimed≢unlinked}
 

@@ -26,7 +26,8 @@ use Rattle.bpf_model.specs.Drain.{IsQuietAdvance, Drains, machines}
 use Rattle.bpf_model.specs.Refines.{times}
 use Rattle.model_laws.specs.Scheduled.{IsScheduled, IsReapable}
 use Rattle.model_laws.proofs.Advancing.{no_flag}
-use Rattle.model_laws.proofs.Stores.{LifeMoves, Stays, Unlinks, Ends, StoreMoves, is_reap, does-moves}
+use Rattle.model_laws.proofs.Changing.{is_reap}
+use Rattle.model_laws.proofs.Stores.{LifeMoves, Stays, Unlinks, Ends, StoreMoves, does-moves}
 use Rattle.model_laws.proofs.Counting.{newly, times-append, times-first, between-is, retired-back, map-back, any-flag}
 use Rattle.model_laws.proofs.Counting.{flag-any, first-index, none-ready, without-back}
 use Rattle.model_laws.proofs.Queueing.{Queued, queued-here}
@@ -117,22 +118,12 @@ module _ (s : Schedule) (m : Machine) (n : ℕ) where
   waited-scheduled : (event : Event) → IsOut s.machine.store.elements n → HasWaited s n → HasWaited (scheduled s event m) n
   waited-scheduled events.Advance o h = waited-advanced (is_any s.awaited) h
   waited-scheduled events.Reap o h = waited-reaped h
-  waited-scheduled (events.Start prog ctx) o h = waited-plain o h
-  waited-scheduled (events.Step run) o h = waited-plain o h
-  waited-scheduled (events.Update map key value flags) o h = waited-plain o h
-  waited-scheduled (events.Delete map key) o h = waited-plain o h
-  waited-scheduled (events.Read map key) o h = waited-plain o h
-  waited-scheduled (events.Drop run) o h = waited-plain o h
+  waited-scheduled event o h = waited-plain o h
 
   readied-scheduled : (event : Event) → IsOut s.machine.store.elements n → HasReadied s n → HasReadied (scheduled s event m) n
   readied-scheduled events.Advance o h = readied-advanced (is_any s.awaited) h
   readied-scheduled events.Reap o h = readied-reaped h
-  readied-scheduled (events.Start prog ctx) o h = readied-plain o h
-  readied-scheduled (events.Step run) o h = readied-plain o h
-  readied-scheduled (events.Update map key value flags) o h = readied-plain o h
-  readied-scheduled (events.Delete map key) o h = readied-plain o h
-  readied-scheduled (events.Read map key) o h = readied-plain o h
-  readied-scheduled (events.Drop run) o h = readied-plain o h
+  readied-scheduled event o h = readied-plain o h
 
 -- what each event keeps of an element that is out of its map: it is in no next list, or in no waiting
 -- list either

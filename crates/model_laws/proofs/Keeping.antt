@@ -17,7 +17,8 @@ use Rattle.bpf_model.specs.Event.{DoesEvent}
 use Rattle.model_laws.specs.Consistent.{HasLengths, StaysLinked, IsConsistent, IsSingle, AllBegun}
 use Rattle.model_laws.proofs.Born.{IsBornState, more-value, more-cell, born-entry}
 use Rattle.model_laws.proofs.Moves.{RunsMove, run-before, started-grows, does-move}
-use Rattle.model_laws.proofs.Stores.{LifeMoves, Stays, Unlinks, Ends, Alters, Born, StoreMoves, is_reap, does-moves}
+use Rattle.model_laws.proofs.Changing.{is_reap}
+use Rattle.model_laws.proofs.Stores.{LifeMoves, Stays, Unlinks, Ends, Alters, Born, StoreMoves, does-moves}
 use Rattle.model_laws.proofs.Past.{all-begun-later, open-begun}
 use Rattle.model_laws.proofs.Lives.{linked≢unlinked, reclaimed≢linked, reclaimed≢unlinked}
 use Rattle.std.proofs.lemmas.List.{length-replicate}

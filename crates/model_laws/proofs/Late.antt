@@ -13,7 +13,8 @@ use Rattle.bpf_model.specs.History.{IsHistory}
 use Rattle.model_laws.specs.Consistent.{IsConsistent, AllBegun}
 use Rattle.bpf_model.specs.Headline.{ReclaimedLate}
 use Rattle.model_laws.proofs.Moves.{does-move}
-use Rattle.model_laws.proofs.Stores.{LifeMoves, Stays, Unlinks, Ends, is_reap, does-moves}
+use Rattle.model_laws.proofs.Changing.{is_reap}
+use Rattle.model_laws.proofs.Stores.{LifeMoves, Stays, Unlinks, Ends, does-moves}
 use Rattle.model_laws.proofs.Past.{all-begun-later, ended-later}
 use Rattle.model_laws.proofs.Keeping.{stays_consistent}
 use Rattle.model_laws.proofs.Between.{between-along}

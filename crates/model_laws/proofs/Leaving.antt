@@ -6,10 +6,9 @@ use Rattle.std.proofs.lemmas.Option.{none-some, same_Some}
 use Rattle.bpf_model.specs.declared.event.Event.{Event}
 use Rattle.bpf_model.specs.declared.event.Event.TheVariants as events
 use Rattle.bpf_model.specs.declared.event.Answer.{Answer}
-use Rattle.bpf_model.specs.declared.event.Answer.TheVariants as answers
-use Rattle.bpf_model.specs.declared.event.EventRefusal.{EventRefusal}
 use Rattle.bpf_model.specs.Machine.{Run, Machine, fresh_run, lowest_free, run_at}
-use Rattle.bpf_model.specs.Event.{PerformsEvent, Answers, DoesEvent, refusal}
+use Rattle.bpf_model.specs.Event.{DoesEvent}
+use Rattle.model_laws.proofs.Changing.{Change, Still, Begins, Steps, Stores, Leaves, change}
 use Rattle.bpf_model.proofs.Lists.{get-set_other}
 
 plus-one : (o : Option ℕ) (r : ℕ) → option_map (λ r. r + 1) o ≡ Some r → (q : ℕ) × (o ≡ Some q) × (r ≡ suc q)
@@ -28,32 +27,19 @@ not-free runs r q run free at same = none-some run (sym (ap option_flatten (free
 set-elsewhere : (runs : List (Option Run)) (r q : ℕ) (x : Option Run) → r ≢ q → run_at (slice_set runs q x) r ≡ run_at runs r
 set-elsewhere runs r q x ne = ap option_flatten (get-set_other runs q r x ne)
 
-performs-leaves : (m : Machine) (event : Event) (answer : Answer) (new : Machine) (r : ℕ) (run : Run) →
-    PerformsEvent m event answer new → run_at m.runs r ≡ Some run → event ≢ events.Step r → event ≢ events.Drop r →
-    run_at new.runs r ≡ Some run
-performs-leaves m (events.Start prog ctx) (answers.Started q) new r run h at s d =
+change-leaves : (m new : Machine) (event : Event) (answer : Answer) (r : ℕ) (run : Run) → Change m new event answer →
+    run_at m.runs r ≡ Some run → event ≢ events.Step r → event ≢ events.Drop r → run_at new.runs r ≡ Some run
+change-leaves m new event answer r run (Still e counts) at s d = ap (λ (x : Machine). run_at x.runs r) e ∙ at
+change-leaves m new event answer r run (Begins prog ctx q pass h) at s d =
     ap (λ (x : Machine). run_at x.runs r) h.new_is ∙ (set-elsewhere m.runs r q
     (Some (fresh_run m.started h.program ctx.items)) (not-free m.runs r q run h.lowest at) ∙ at)
-performs-leaves m (events.Step q) answer new r run h at s d = ap (λ (x : Machine). run_at x.runs r) h.new_is ∙
+change-leaves m new event answer r run (Steps q h) at s d = ap (λ (x : Machine). run_at x.runs r) h.new_is ∙
     (set-elsewhere m.runs r q (Some h.new_run) (λ same. s (ap events.Step (sym same))) ∙ at)
-performs-leaves m (events.Update map key value flags) (answers.Ret ret) new r run h at s d = ap (λ (x : Machine). run_at x.runs r) h.2 ∙ at
-performs-leaves m (events.Delete map key) (answers.Ret ret) new r run h at s d = ap (λ (x : Machine). run_at x.runs r) h.2 ∙ at
-performs-leaves m (events.Read map key) (answers.Found (Some value)) new r run h at s d = ap (λ (x : Machine). run_at x.runs r) h.1 ∙ at
-performs-leaves m (events.Read map key) (answers.Found None) new r run h at s d = ap (λ (x : Machine). run_at x.runs r) h.1 ∙ at
-performs-leaves m events.Advance answers.Done new r run h at s d = ap (λ (x : Machine). run_at x.runs r) h ∙ at
-performs-leaves m events.Reap (answers.Reaped None) new r run h at s d = ap (λ (x : Machine). run_at x.runs r) h ∙ at
-performs-leaves m events.Reap (answers.Reaped (Some reaped)) new r run h at s d = ap (λ (x : Machine). run_at x.runs r) h.6 ∙ at
-performs-leaves m (events.Drop q) answers.Done new r run h at s d = ap (λ (x : Machine). run_at x.runs r) h ∙
+change-leaves m new event answer r run (Stores store pass c e) at s d = ap (λ (x : Machine). run_at x.runs r) e ∙ at
+change-leaves m new event answer r run (Leaves q e) at s d = ap (λ (x : Machine). run_at x.runs r) e ∙
     (set-elsewhere m.runs r q None (λ same. d (ap events.Drop (sym same))) ∙ at)
-performs-leaves m event answer new r run h at s d = absurd h
-
-answers-leave : (o : Option EventRefusal) (m : Machine) (event : Event) (answer : Answer) (new : Machine) (r : ℕ)
-    (run : Run) → Answers o m event answer new → run_at m.runs r ≡ Some run → event ≢ events.Step r →
-    event ≢ events.Drop r → run_at new.runs r ≡ Some run
-answers-leave None m event answer new r run h at s d = performs-leaves m event answer new r run h at s d
-answers-leave (Some k) m event answer new r run h at s d = ap (λ (x : Machine). run_at x.runs r) h.1 ∙ at
 
 pub others_leave_runs : (m new : Machine) (event : Event) (answer : Answer) (r : ℕ) (run : Run) →
     DoesEvent m event answer new → run_at m.runs r ≡ Some run → event ≢ events.Step r → event ≢ events.Drop r →
     run_at new.runs r ≡ Some run
-others_leave_runs m new event answer r run h at s d = answers-leave (refusal m event) m event answer new r run h at s d
+others_leave_runs m new event answer r run h at s d = change-leaves m new event answer r run (change m new event answer h) at s d

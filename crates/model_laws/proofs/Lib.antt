@@ -1,5 +1,6 @@
 pub mod Computations
 pub mod Lives
+pub mod Changing
 pub mod Growing
 pub mod Stepping
 pub mod Cutting

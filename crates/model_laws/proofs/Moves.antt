@@ -12,11 +12,8 @@ use Rattle.bpf_model.specs.declared.call.Helper.TheVariants as helpers
 use Rattle.bpf_model.specs.declared.call.KernelFunction.{KernelFunction}
 use Rattle.bpf_model.specs.declared.call.KernelFunction.TheVariants.{ReadLock, ReadUnlock}
 use Rattle.bpf_model.specs.declared.event.Event.{Event}
-use Rattle.bpf_model.specs.declared.event.Event.TheVariants as events
 use Rattle.bpf_model.specs.declared.event.Answer.{Answer}
-use Rattle.bpf_model.specs.declared.event.Answer.TheVariants as answers
 use Rattle.bpf_model.specs.declared.event.Answer.TheVariants.{Moved, Exited}
-use Rattle.bpf_model.specs.declared.event.EventRefusal.{EventRefusal}
 use Rattle.bpf_model.specs.declared.value.Value.{Value}
 use Rattle.bpf_model.specs.declared.value.Value.TheVariants.{Nothing, Number}
 use Rattle.bpf_model.specs.Call.{helper_of, kernel_function_of, ret_word}
@@ -24,13 +21,14 @@ use Rattle.bpf_model.specs.Step.{State, Outcome, Moves, Exits}
 use Rattle.bpf_model.specs.Section.{Section}
 use Rattle.bpf_model.specs.MapState.{Store}
 use Rattle.bpf_model.specs.Helper.{LooksUp}
+use Rattle.model_laws.proofs.Changing.{Change, Still, Begins, Steps, Stores, Leaves, change}
 use Rattle.model_laws.specs.Consistent.{IsBornValue}
-use Rattle.bpf_model.specs.Machine.{Loaded, Run, Machine, environment, open_sections, moves, exits, locked, unlocked, fresh_run, with_store, run_at}
+use Rattle.bpf_model.specs.Machine.{Loaded, Run, Machine, environment, open_sections, moves, exits, locked, unlocked, fresh_run, run_at}
 use Rattle.bpf_model.specs.MachineStep.{OutcomeStep, InsnStep, StepsRun}
 use Rattle.model_laws.specs.ByKind.{StepsByKind, KernelStep, HelperStep}
 use Rattle.bpf_model.specs.Step.{returns}
 use Rattle.bpf_model.specs.Request.{found_value}
-use Rattle.bpf_model.specs.Event.{PerformsEvent, Answers, DoesEvent, refusal}
+use Rattle.bpf_model.specs.Event.{DoesEvent}
 use Rattle.model_laws.proofs.Born.{IsBornState, IsBornOutcome, born-acts, born-returns, born-returns_as}
 use Rattle.model_laws.proofs.Sections.{run-set_cases}
 use Rattle.model_laws.proofs.Requests.{by_kind, run_by_kind}
@@ -159,9 +157,6 @@ pub data RunsMove (m new : Machine) : Type 0 where
 stays : (m new : Machine) → new ≡ m → RunsMove m new
 stays m new e = Stay (ap (λ q. q.runs) e) (ap (λ q. q.started) e)
 
-stays-store : (m new : Machine) (store : Store) → new ≡ with_store m store → RunsMove m new
-stays-store m new store e = Stay (ap (λ q. q.runs) e) (ap (λ q. q.started) e)
-
 goes-run : (m : Machine) (r : ℕ) (answer : Answer) (new : Machine) → StepsRun m r answer new → RunsMove m new
 goes-run m r answer new h =
     Go r h.run h.new_run h.there
@@ -169,25 +164,15 @@ goes-run m r answer new h =
     (born-insn h.step.0 m.store (open_sections m.runs) h.run answer h.new_store h.new_run (run_by_kind m r answer new h))
     (ap (λ q. q.runs) h.new_is) (ap (λ q. q.started) h.new_is)
 
-performs-move : (m : Machine) (event : Event) (answer : Answer) (new : Machine) → PerformsEvent m event answer new → RunsMove m new
-performs-move m (events.Start prog ctx) (answers.Started r) new h = Begin r h.program ctx.items (ap (λ q. q.runs) h.new_is) (ap (λ q. q.started) h.new_is)
-performs-move m (events.Step run) answer new h = goes-run m run answer new h
-performs-move m (events.Update map key value flags) (answers.Ret ret) new h = stays-store m new h.0 h.2
-performs-move m (events.Delete map key) (answers.Ret ret) new h = stays-store m new h.0 h.2
-performs-move m (events.Read map key) (answers.Found (Some value)) new h = stays m new h.1
-performs-move m (events.Read map key) (answers.Found None) new h = stays m new h.1
-performs-move m events.Advance answers.Done new h = stays m new h
-performs-move m events.Reap (answers.Reaped None) new h = stays m new h
-performs-move m events.Reap (answers.Reaped (Some reaped)) new h = stays-store m new h.2 h.6
-performs-move m (events.Drop run) answers.Done new h = Leave run (ap (λ q. q.runs) h) (ap (λ q. q.started) h)
-performs-move m event answer new h = absurd h
-
-answers-move : (o : Option EventRefusal) (m : Machine) (event : Event) (answer : Answer) (new : Machine) → Answers o m event answer new → RunsMove m new
-answers-move None m event answer new h = performs-move m event answer new h
-answers-move (Some k) m event answer new h = stays m new h.1
+by-change : (m new : Machine) (event : Event) (answer : Answer) → Change m new event answer → RunsMove m new
+by-change m new event answer (Still e counts) = stays m new e
+by-change m new event answer (Begins prog ctx r pass h) = Begin r h.program ctx.items (ap (λ q. q.runs) h.new_is) (ap (λ q. q.started) h.new_is)
+by-change m new event answer (Steps r h) = goes-run m r answer new h
+by-change m new event answer (Stores store pass c e) = Stay (ap (λ q. q.runs) e) (ap (λ q. q.started) e)
+by-change m new event answer (Leaves r e) = Leave r (ap (λ q. q.runs) e) (ap (λ q. q.started) e)
 
 pub does-move : (m new : Machine) (event : Event) (answer : Answer) → DoesEvent m event answer new → RunsMove m new
-does-move m new event answer h = answers-move (refusal m event) m event answer new h
+does-move m new event answer h = by-change m new event answer (change m new event answer h)
 
 -- a run that is there was there before, or is fresh
 pub record Fresh (m new : Machine) (r : ℕ) (run : Run) : Type 0 where

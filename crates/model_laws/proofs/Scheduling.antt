@@ -1,5 +1,5 @@
 -- What is so of the runtime's choices at the start, and stays so.
-use Rattle.std.proofs.Common.{◌≡◌, ◌≢◌, ℕ, ◌+◌, ◌<◌, List, ◌++◌, map, replicate, Option, Some, None, inl, inr, refl}
+use Rattle.std.proofs.Common.{◌≡◌, ◌≢◌, ℕ, ◌+◌, ◌<◌, List, ◌++◌, replicate, Option, Some, None, inl, inr, refl}
 use Rattle.std.proofs.Common.{sym, ap, ◌∙◌, arith, subst, Bool, true, false}
 use Rattle.std.specs.Prelude.{slice_get, slice_set, ◌==◌, ◌&&◌, if◌then◌else◌}
 use Rattle.std.proofs.lemmas.Bool.{cases_eq, cases_lt, false≢true}
@@ -29,7 +29,8 @@ use Rattle.bpf_model.specs.Refines.{times}
 use Rattle.model_laws.specs.Scheduled.{queued_in, Waits, IsScheduled}
 use Rattle.model_laws.proofs.Sections.{OpenAt, open_at}
 use Rattle.model_laws.proofs.Moves.{RunsMove, does-move}
-use Rattle.model_laws.proofs.Stores.{StoreMoves, is_reap, does-moves}
+use Rattle.model_laws.proofs.Changing.{is_reap}
+use Rattle.model_laws.proofs.Stores.{StoreMoves, does-moves}
 use Rattle.model_laws.proofs.Keeping.{starts_consistent, stays_consistent}
 use Rattle.model_laws.proofs.Counting.{times-append, times-first, times-other, between-is, retired-back}
 use Rattle.model_laws.proofs.Counting.{length-retired, map-back, still-forth, still-back, flag-any, shortened}
@@ -255,12 +256,7 @@ keeps-performed s events.Reap (answers.Reaped None) m w c runs mv h first = keep
 keeps-performed s events.Reap (answers.Reaped (Some reaped)) m w c runs mv h first =
     keeps-taken s m first.0 h.0 h.1 reaped.given h.2 w c runs mv h.3 h.6 first.2 first.4
 keeps-performed s events.Reap answer m w c runs mv h first = absurd h
-keeps-performed s (events.Start prog ctx) answer m w c runs mv h first = keeps-plain s m w c runs mv
-keeps-performed s (events.Step run) answer m w c runs mv h first = keeps-plain s m w c runs mv
-keeps-performed s (events.Update map key value flags) answer m w c runs mv h first = keeps-plain s m w c runs mv
-keeps-performed s (events.Delete map key) answer m w c runs mv h first = keeps-plain s m w c runs mv
-keeps-performed s (events.Read map key) answer m w c runs mv h first = keeps-plain s m w c runs mv
-keeps-performed s (events.Drop run) answer m w c runs mv h first = keeps-plain s m w c runs mv
+keeps-performed s event answer m w c runs mv h first = keeps-plain s m w c runs mv
 
 pub stays_scheduled : (s t : Schedule) (event : Event) (answer : Answer) → IsScheduled s → DoesScheduled s event answer t → IsScheduled t
 stays_scheduled s t event answer w d =

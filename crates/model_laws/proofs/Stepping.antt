@@ -8,10 +8,7 @@ use Rattle.bpf_model.specs.declared.call.Helper.{Helper}
 use Rattle.bpf_model.specs.declared.call.Helper.TheVariants as helpers
 use Rattle.bpf_model.specs.declared.call.Errno.{Errno}
 use Rattle.bpf_model.specs.declared.event.Event.{Event}
-use Rattle.bpf_model.specs.declared.event.Event.TheVariants as events
 use Rattle.bpf_model.specs.declared.event.Answer.{Answer}
-use Rattle.bpf_model.specs.declared.event.Answer.TheVariants as answers
-use Rattle.bpf_model.specs.declared.event.EventRefusal.{EventRefusal}
 use Rattle.bpf_model.specs.declared.value.Value.{Value}
 use Rattle.bpf_model.specs.declared.value.Value.TheVariants.{Nothing, Number, Pointer}
 use Rattle.bpf_model.specs.declared.value.Reference.TheVariants.{Ctx, Frame, MapRef, Elem}
@@ -27,11 +24,12 @@ use Rattle.bpf_model.specs.declared.limits.MapKind.{MapKind}
 use Rattle.bpf_model.specs.declared.limits.MapKind.TheVariants.{Hash, Array}
 use Rattle.bpf_model.specs.Reclaim.{Reclaims}
 use Rattle.bpf_model.specs.Machine.{Run, Machine, environment, open_sections, with_store}
+use Rattle.model_laws.proofs.Changing.{StoreChange, ByUpdate, ByDelete, ByReclaim, Change, Still, Begins, Steps, Stores, Leaves, change}
 use Rattle.model_laws.specs.ByKind.{StepsByKind, AccessesElement, Acts, HelperStep, element_store}
 use Rattle.bpf_model.specs.MachineStep.{StepsRun}
 use Rattle.bpf_model.specs.Element.{stored_in}
 use Rattle.bpf_model.specs.Access.{with_bytes}
-use Rattle.bpf_model.specs.Event.{PerformsEvent, Answers, DoesEvent, refusal}
+use Rattle.bpf_model.specs.Event.{DoesEvent}
 use Rattle.bpf_model.specs.History.{IsHistory}
 use Rattle.bpf_model.specs.Element.{Reclaimed, HasLife}
 use Rattle.model_laws.specs.Growth.{ElementsGrow}
@@ -155,31 +153,21 @@ grows-store_in : (m new : Machine) (store : map_state.Store) → ElementsGrow m.
     new ≡ with_store m store → ElementsGrow m.store.elements new.store.elements
 grows-store_in m new store g h = subst (λ x. ElementsGrow m.store.elements x) (sym (ap (λ x. x.store.elements) h)) g
 
-grows-performs : (m : Machine) (event : Event) (answer : Answer) (new : Machine) → PerformsEvent m event answer new →
-    ElementsGrow m.store.elements new.store.elements
-grows-performs m (events.Start prog ctx) (answers.Started r) new h = grows-along m.store.elements new.store.elements (ap (λ x. x.store.elements) h.new_is)
-grows-performs m (events.Step run) answer new h = grows-run m run answer new h
-grows-performs m (events.Update map key value flags) (answers.Ret ret) new h =
-    grows-store_in m new h.0 (grows-updates m.store (open_sections m.runs) map key.items value.items flags ret h.0
-    h.1) h.2
-grows-performs m (events.Delete map key) (answers.Ret ret) new h =
-    grows-store_in m new h.0 (grows-deletes m.store (open_sections m.runs) map key.items ret h.0 h.1) h.2
-grows-performs m (events.Read map key) (answers.Found (Some value)) new h = grows-at m new h.1
-grows-performs m (events.Read map key) (answers.Found None) new h = grows-at m new h.1
-grows-performs m events.Advance answers.Done new h = grows-at m new h
-grows-performs m events.Reap (answers.Reaped None) new h = grows-at m new h
-grows-performs m events.Reap (answers.Reaped (Some reaped)) new h =
-    grows-store_in m new h.2 (grows-reclaims m.store (open_sections m.runs) h.0 h.1 reaped.given h.2 h.3) h.6
-grows-performs m (events.Drop run) answers.Done new h = grows-along m.store.elements new.store.elements (ap (λ x. x.store.elements) h)
-grows-performs m event answer new h = absurd h
+grows-store_change : (s : map_state.Store) (opened : List Section) (new : map_state.Store) (event : Event) → StoreChange s opened new event →
+    ElementsGrow s.elements new.elements
+grows-store_change s opened new event (ByUpdate map key value flags ret u) = grows-updates s opened map key.items value.items flags ret new u
+grows-store_change s opened new event (ByDelete map key ret d) = grows-deletes s opened map key.items ret new d
+grows-store_change s opened new event (ByReclaim n e given r) = grows-reclaims s opened n e given new r
 
-grows-answers : (o : Option EventRefusal) (m : Machine) (event : Event) (answer : Answer) (new : Machine) →
-    Answers o m event answer new → ElementsGrow m.store.elements new.store.elements
-grows-answers None m event answer new h = grows-performs m event answer new h
-grows-answers (Some k) m event answer new h = grows-at m new h.1
+grows-change : (m new : Machine) (event : Event) (answer : Answer) → Change m new event answer → ElementsGrow m.store.elements new.store.elements
+grows-change m new event answer (Still e counts) = grows-at m new e
+grows-change m new event answer (Begins prog ctx r pass h) = grows-along m.store.elements new.store.elements (ap (λ x. x.store.elements) h.new_is)
+grows-change m new event answer (Steps r h) = grows-run m r answer new h
+grows-change m new event answer (Stores store pass c e) = grows-store_in m new store (grows-store_change m.store (open_sections m.runs) store event c) e
+grows-change m new event answer (Leaves r e) = grows-along m.store.elements new.store.elements (ap (λ x. x.store.elements) e)
 
 pub elements_only_grow : (m new : Machine) (event : Event) (answer : Answer) → DoesEvent m event answer new → ElementsGrow m.store.elements new.store.elements
-elements_only_grow m new event answer h = grows-answers (refusal m event) m event answer new h
+elements_only_grow m new event answer h = grows-change m new event answer (change m new event answer h)
 
 pub reclaimed_for_ever : (m later : Machine) (events : List Event) (answers : List Answer) (states : List Machine)
     (j n : ℕ) → IsHistory m events answers states → slice_get states j ≡ Some later →

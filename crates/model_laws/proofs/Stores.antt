@@ -12,10 +12,7 @@ use Rattle.bpf_model.specs.declared.call.Helper.{Helper}
 use Rattle.bpf_model.specs.declared.call.Helper.TheVariants as helpers
 use Rattle.bpf_model.specs.declared.call.Errno.{Errno}
 use Rattle.bpf_model.specs.declared.event.Event.{Event}
-use Rattle.bpf_model.specs.declared.event.Event.TheVariants as events
 use Rattle.bpf_model.specs.declared.event.Answer.{Answer}
-use Rattle.bpf_model.specs.declared.event.Answer.TheVariants as answers
-use Rattle.bpf_model.specs.declared.event.EventRefusal.{EventRefusal}
 use Rattle.bpf_model.specs.declared.event.EventRefusal.TheVariants.{BadLength}
 use Rattle.bpf_model.specs.declared.event.Given.{Given}
 use Rattle.bpf_model.specs.declared.event.Given.TheVariants.{Free, Worn}
@@ -40,13 +37,14 @@ use Rattle.bpf_model.specs.Helper.{LooksUp, Replaces, Settles, Updates, Removes,
 use Rattle.bpf_model.specs.declared.limits.MapKind.{MapKind}
 use Rattle.bpf_model.specs.declared.limits.MapKind.TheVariants.{Hash, Array}
 use Rattle.bpf_model.specs.Reclaim.{Reclaims}
+use Rattle.model_laws.proofs.Changing.{is_reap, StoreChange, ByUpdate, ByDelete, ByReclaim, Change, Still, Begins, Steps, Stores, Leaves, change}
 use Rattle.model_laws.specs.Consistent.{HasLengths, IsSingle}
 use Rattle.bpf_model.specs.Machine.{Run, Machine, environment, open_sections}
 use Rattle.model_laws.specs.ByKind.{StepsByKind, AccessesElement, Acts, HelperStep, element_store, key_argument, value_argument}
 use Rattle.bpf_model.specs.Element.{stored_in}
 use Rattle.bpf_model.specs.Access.{with_bytes}
 use Rattle.bpf_model.specs.Frame.{bytes_at, bytes_from, frame_bytes}
-use Rattle.bpf_model.specs.Event.{PerformsEvent, Answers, DoesEvent, refusal, update_refusal}
+use Rattle.bpf_model.specs.Event.{DoesEvent, refusal, update_refusal}
 use Rattle.model_laws.proofs.Computations.{first-step}
 use Rattle.model_laws.proofs.Lives.{linked≢unlinked}
 use Rattle.bpf_model.proofs.Bytes.{length-with_bytes}
@@ -439,10 +437,6 @@ pub moves-insn : (i : Insn) (s : map_state.Store) (opened : List Section) (run :
 moves-insn i s opened run answer new new_run single lengths h =
     moves-kind i s opened run answer new new_run single lengths (by_kind i s opened run answer new new_run h)
 
-abbrev pub is_reap : Event → Bool
-is_reap events.Reap = true
-is_reap event = false
-
 -- what the machine's store does in a step
 abbrev pub MachineMoves : Bool → Machine → Machine → Type 0
 MachineMoves reap m new = StoreMoves reap (open_sections m.runs) m.store new.store
@@ -454,36 +448,30 @@ moves-with : (reap : Bool) (m new : Machine) (store : map_state.Store) →
     StoreMoves reap (open_sections m.runs) m.store store → new.store ≡ store → MachineMoves reap m new
 moves-with reap m new store h e = subst (StoreMoves reap (open_sections m.runs) m.store) (sym e) h
 
-performs-moves : (m : Machine) (event : Event) (answer : Answer) (new : Machine) → IsSingle m.store.elements →
-    AllLengths m.store → refusal m event ≡ None → PerformsEvent m event answer new →
-    MachineMoves (is_reap event) m new
-performs-moves m (events.Start prog ctx) (answers.Started r) new single lengths pass h =
+moves-store_change : (m : Machine) (event : Event) (store : map_state.Store) → IsSingle m.store.elements → AllLengths m.store →
+    refusal m event ≡ None → StoreChange m.store (open_sections m.runs) store event →
+    StoreMoves (is_reap event) (open_sections m.runs) m.store store
+moves-store_change m event store single lengths pass (ByUpdate map key value flags ret u) =
+    moves-updates m.store (open_sections m.runs) map key.items value.items flags ret store single lengths
+    (fits-event m.store map key.items value.items pass) u
+moves-store_change m event store single lengths pass (ByDelete map key ret d) =
+    moves-deletes m.store (open_sections m.runs) map key.items ret store d
+moves-store_change m event store single lengths pass (ByReclaim n e given r) =
+    moves-reclaims m.store (open_sections m.runs) n e given store r
+
+moves-change : (m new : Machine) (event : Event) (answer : Answer) → IsSingle m.store.elements → AllLengths m.store →
+    Change m new event answer → MachineMoves (is_reap event) m new
+moves-change m new event answer single lengths (Still e counts) = moves-at (is_reap event) m new e
+moves-change m new event answer single lengths (Begins prog ctx r pass h) =
     moves-same false (open_sections m.runs) m.store new.store (ap (λ x. x.store) h.new_is)
-performs-moves m (events.Step run) answer new single lengths pass h =
+moves-change m new event answer single lengths (Steps r h) =
     moves-with false m new h.new_store (moves-insn h.step.0 m.store (open_sections m.runs) h.run answer h.new_store
     h.new_run single lengths h.step.2) (ap (λ x. x.store) h.new_is)
-performs-moves m (events.Update map key value flags) (answers.Ret ret) new single lengths pass h =
-    moves-with false m new h.0 (moves-updates m.store (open_sections m.runs) map key.items value.items flags ret h.0
-    single lengths (fits-event m.store map key.items value.items pass) h.1) (ap (λ x. x.store) h.2)
-performs-moves m (events.Delete map key) (answers.Ret ret) new single lengths pass h =
-    moves-with false m new h.0 (moves-deletes m.store (open_sections m.runs) map key.items ret h.0 h.1)
-    (ap (λ x. x.store) h.2)
-performs-moves m (events.Read map key) (answers.Found (Some value)) new single lengths pass h = moves-at false m new h.1
-performs-moves m (events.Read map key) (answers.Found None) new single lengths pass h = moves-at false m new h.1
-performs-moves m events.Advance answers.Done new single lengths pass h = moves-at false m new h
-performs-moves m events.Reap (answers.Reaped None) new single lengths pass h = moves-at true m new h
-performs-moves m events.Reap (answers.Reaped (Some reaped)) new single lengths pass h =
-    moves-with true m new h.2 (moves-reclaims m.store (open_sections m.runs) h.0 h.1 reaped.given h.2 h.3)
-    (ap (λ x. x.store) h.6)
-performs-moves m (events.Drop run) answers.Done new single lengths pass h = moves-same false (open_sections m.runs) m.store new.store (ap (λ x. x.store) h)
-performs-moves m event answer new single lengths pass h = absurd h
-
-answers-moves : (o : Option EventRefusal) (m : Machine) (event : Event) (answer : Answer) (new : Machine) →
-    IsSingle m.store.elements → AllLengths m.store → refusal m event ≡ o → Answers o m event answer new →
-    MachineMoves (is_reap event) m new
-answers-moves None m event answer new single lengths pass h = performs-moves m event answer new single lengths pass h
-answers-moves (Some k) m event answer new single lengths pass h = moves-at (is_reap event) m new h.1
+moves-change m new event answer single lengths (Stores store pass c e) =
+    moves-with (is_reap event) m new store (moves-store_change m event store single lengths pass c) (ap (λ x. x.store) e)
+moves-change m new event answer single lengths (Leaves r e) =
+    moves-same false (open_sections m.runs) m.store new.store (ap (λ x. x.store) e)
 
 pub does-moves : (m new : Machine) (event : Event) (answer : Answer) → IsSingle m.store.elements → AllLengths m.store
     → DoesEvent m event answer new → MachineMoves (is_reap event) m new
-does-moves m new event answer single lengths h = answers-moves (refusal m event) m event answer new single lengths refl h
+does-moves m new event answer single lengths h = moves-change m new event answer single lengths (change m new event answer h)

@@ -4,15 +4,13 @@ use Rattle.std.specs.Prelude.{slice_get, slice_set, ◌==◌, if◌then◌else�
 use Rattle.std.proofs.lemmas.Bool.{eqb-true}
 use Rattle.std.proofs.lemmas.Option.{none-some, same_Some}
 use Rattle.bpf_model.specs.declared.event.Event.{Event}
-use Rattle.bpf_model.specs.declared.event.Event.TheVariants as events
 use Rattle.bpf_model.specs.declared.event.Answer.{Answer}
-use Rattle.bpf_model.specs.declared.event.Answer.TheVariants as answers
-use Rattle.bpf_model.specs.declared.event.EventRefusal.{EventRefusal}
 use Rattle.bpf_model.specs.declared.event.EventRefusal.TheVariants.{BadContext}
 use Rattle.bpf_model.specs.Machine.{Loaded, Run, Machine, open_sections, fresh_run, lowest_free, run_at}
 use Rattle.bpf_model.specs.MachineStep.{RunStep, StepsRun}
-use Rattle.bpf_model.specs.Event.{PerformsEvent, Answers, DoesEvent, Starts, refusal, start_refusal, if_full}
+use Rattle.bpf_model.specs.Event.{DoesEvent, Starts, start_refusal, if_full}
 use Rattle.bpf_model.specs.Real.{AreBytes, IsReal}
+use Rattle.model_laws.proofs.Changing.{Change, Still, Begins, Steps, Stores, Leaves, change}
 use Rattle.model_laws.proofs.Sections.{run-set_cases}
 
 pub record FreshRun (m new : Machine) (run : Run) : Type 0 where
@@ -89,27 +87,14 @@ comes-drop m new r e q run at = elim (run-set_cases m.runs r q None run (ap (λ 
   | inr x ↦ Stands x.1
 ]
 
-performs-comes : (m : Machine) (event : Event) (answer : Answer) (new : Machine) → IsReal event →
-    refusal m event ≡ None → PerformsEvent m event answer new → (q : ℕ) (run : Run) → run_at new.runs q ≡ Some run →
-    Comes m new q run
-performs-comes m (events.Start prog ctx) (answers.Started r) new real pass h q run at = comes-start m prog ctx.items r new real.1 pass h q run at
-performs-comes m (events.Step r) answer new real pass h q run at = comes-step m r answer new h q run at
-performs-comes m (events.Update map key value flags) (answers.Ret ret) new real pass h q run at = stands m new q run (ap (λ x. x.runs) h.2) at
-performs-comes m (events.Delete map key) (answers.Ret ret) new real pass h q run at = stands m new q run (ap (λ x. x.runs) h.2) at
-performs-comes m (events.Read map key) (answers.Found (Some value)) new real pass h q run at = stands m new q run (ap (λ x. x.runs) h.1) at
-performs-comes m (events.Read map key) (answers.Found None) new real pass h q run at = stands m new q run (ap (λ x. x.runs) h.1) at
-performs-comes m events.Advance answers.Done new real pass h q run at = stands m new q run (ap (λ x. x.runs) h) at
-performs-comes m events.Reap (answers.Reaped None) new real pass h q run at = stands m new q run (ap (λ x. x.runs) h) at
-performs-comes m events.Reap (answers.Reaped (Some reaped)) new real pass h q run at = stands m new q run (ap (λ x. x.runs) h.6) at
-performs-comes m (events.Drop r) answers.Done new real pass h q run at = comes-drop m new r (ap (λ x. x.runs) h) q run at
-performs-comes m event answer new real pass h q run at = absurd h
-
-answers-come : (o : Option EventRefusal) (m : Machine) (event : Event) (answer : Answer) (new : Machine) →
-    IsReal event → refusal m event ≡ o → Answers o m event answer new → (q : ℕ) (run : Run) →
+comes-change : (m new : Machine) (event : Event) (answer : Answer) → IsReal event → Change m new event answer → (q : ℕ) (run : Run) →
     run_at new.runs q ≡ Some run → Comes m new q run
-answers-come None m event answer new real pass h q run at = performs-comes m event answer new real pass h q run at
-answers-come (Some k) m event answer new real pass h q run at = stands m new q run (ap (λ x. x.runs) h.1) at
+comes-change m new event answer real (Still e counts) q run at = stands m new q run (ap (λ x. x.runs) e) at
+comes-change m new event answer real (Begins prog ctx r pass h) q run at = comes-start m prog ctx.items r new real.1 pass h q run at
+comes-change m new event answer real (Steps r h) q run at = comes-step m r answer new h q run at
+comes-change m new event answer real (Stores store pass c e) q run at = stands m new q run (ap (λ x. x.runs) e) at
+comes-change m new event answer real (Leaves r e) q run at = comes-drop m new r (ap (λ x. x.runs) e) q run at
 
 pub does-come : (m new : Machine) (event : Event) (answer : Answer) → IsReal event → DoesEvent m event answer new →
     (q : ℕ) (run : Run) → run_at new.runs q ≡ Some run → Comes m new q run
-does-come m new event answer real h q run at = answers-come (refusal m event) m event answer new real refl h q run at
+does-come m new event answer real h q run at = comes-change m new event answer real (change m new event answer h) q run at

@@ -16,7 +16,8 @@ use Rattle.bpf_model.specs.Event.{DoesEvent}
 use Rattle.model_laws.specs.Consistent.{IsConsistent}
 use Rattle.model_laws.proofs.Sections.{has_open}
 use Rattle.model_laws.specs.Consistent.{IsSingle}
-use Rattle.model_laws.proofs.Stores.{LifeMoves, Stays, Unlinks, Ends, Alters, Touches, KeepsShapes, AllLengths, StoreMoves, is_reap, does-moves, moves-insn}
+use Rattle.model_laws.proofs.Changing.{is_reap}
+use Rattle.model_laws.proofs.Stores.{LifeMoves, Stays, Unlinks, Ends, Alters, Touches, KeepsShapes, AllLengths, StoreMoves, does-moves, moves-insn}
 use Rattle.plan_laws.specs.Kinds.{Kind, Blank, Mixed, Ended, Num, CtxAt, FrameAt, MapAt, ValueAt, MaybeNull}
 use Rattle.plan_laws.specs.Kinds.{CellKind, BlankCell, MixedCell, EndedCell, ByteCell, PartCell, AbsState}
 use Rattle.plan_laws.specs.Describes.{Scene, scene_of, IsGuarded, IsHeld, Naming, IsNullOrHeld, IsOf, Stored, IsOfCell, Describes}

@@ -23,7 +23,8 @@ use Rattle.bpf_model.specs.View.{WorldView}
 use Rattle.bpf_model.specs.Refines.{IsReachedSchedule, Tracks}
 use Rattle.bpf_model.specs.View.{shapes_of}
 use Rattle.model_laws.proofs.Sections.{has_open}
-use Rattle.model_laws.proofs.Stores.{KeepsShapes, StoreMoves, is_reap, does-moves}
+use Rattle.model_laws.proofs.Changing.{is_reap}
+use Rattle.model_laws.proofs.Stores.{KeepsShapes, StoreMoves, does-moves}
 use Rattle.model_laws.proofs.Keeping.{no-run, starts_consistent, stays_consistent}
 use Rattle.model_laws.proofs.Moves.{Changes, Goes, Locks, Unlocks, Ends, changed-insn}
 use Rattle.plan_laws.specs.Describes.{Scene, scene_of}

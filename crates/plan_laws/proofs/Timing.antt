@@ -1,23 +1,23 @@
 -- Runs of verified programs exit in time: what a run has moved, by the answers, is less than its program is long.
-use Rattle.std.proofs.Common.{◌≡◌, ℕ, zero, suc, ◌+◌, ◌<◌, List, [], ◌∷◌, length, Option, Some, None, inl, inr, refl}
-use Rattle.std.proofs.Common.{sym, ap, subst, ◌∙◌, Bool, true, false, arith}
+use Rattle.std.proofs.Common.{◌≡◌, ℕ, zero, suc, ◌+◌, ◌<◌, List, [], ◌∷◌, length, Some, None, inl, inr, refl}
+use Rattle.std.proofs.Common.{sym, ap, subst, ◌∙◌, arith}
 use Rattle.std.specs.Prelude.{slice_get, slice_set, take, ◌==◌, if◌then◌else◌}
 use Rattle.std.proofs.lemmas.Bool.{eq-eqb, ne_eqb}
 use Rattle.std.proofs.lemmas.Option.{none-some, same_Some}
 use Rattle.bpf_model.specs.declared.event.Event.{Event}
-use Rattle.bpf_model.specs.declared.event.Event.TheVariants as events
 use Rattle.bpf_model.specs.declared.event.Answer.{Answer}
-use Rattle.bpf_model.specs.declared.event.Answer.TheVariants as answers
-use Rattle.bpf_model.specs.declared.event.EventRefusal.{EventRefusal}
+use Rattle.bpf_model.specs.Section.{Section}
+use Rattle.bpf_model.specs.MapState.{Store}
 use Rattle.bpf_model.specs.Machine.{Run, Machine, open_sections, fresh_run, run_at}
 use Rattle.bpf_model.specs.MachineStep.{StepsRun}
-use Rattle.bpf_model.specs.Event.{PerformsEvent, Answers, DoesEvent, Starts, refusal}
+use Rattle.bpf_model.specs.Event.{DoesEvent, Starts}
 use Rattle.bpf_model.specs.Real.{AreReal}
 use Rattle.bpf_model.specs.History.{IsHistory}
 use Rattle.bpf_model.specs.Headline.{moved_once, moves_after, moves_of, moved_by, ExitsInTime, AllExitInTime}
 use Rattle.bpf_model.specs.View.{WorldView}
 use Rattle.bpf_model.specs.Refines.{Tracks}
 use Rattle.bpf_model.specs.View.{shapes_of}
+use Rattle.model_laws.proofs.Changing.{StoreChange, ByUpdate, Change, Still, Begins, Steps, Stores, Leaves, change}
 use Rattle.model_laws.proofs.Sections.{run-set_cases}
 use Rattle.plan_laws.specs.Well.{AreVerified, IsWell}
 use Rattle.plan_laws.proofs.Reaching.{same-insn, keeps_well, reached_is_well, real-rest}
@@ -56,45 +56,27 @@ counts-drop r n m q new c e run at = elim (run-set_cases m.runs q r None run (ap
   | inr x ↦ c run x.1
 ]
 
-performs-counts : (r n : ℕ) (m : Machine) (event : Event) (answer : Answer) (new : Machine) → Counts r n m →
-    PerformsEvent m event answer new → Counts r (moves_after r n event answer) new
-performs-counts r n m (events.Start prog ctx) (answers.Started q) new c h = counts-start r n m prog ctx.items q new c h
-performs-counts r n m (events.Step q) answer new c h = counts-step r n m q answer new c h
-performs-counts r n m (events.Update map key value flags) (answers.Ret ret) new c h = counts-same r n m new (ap (λ x. x.runs) h.2) c
-performs-counts r n m (events.Delete map key) (answers.Ret ret) new c h = counts-same r n m new (ap (λ x. x.runs) h.2) c
-performs-counts r n m (events.Read map key) (answers.Found (Some value)) new c h = counts-same r n m new (ap (λ x. x.runs) h.1) c
-performs-counts r n m (events.Read map key) (answers.Found None) new c h = counts-same r n m new (ap (λ x. x.runs) h.1) c
-performs-counts r n m events.Advance answers.Done new c h = counts-same r n m new (ap (λ x. x.runs) h) c
-performs-counts r n m events.Reap (answers.Reaped None) new c h = counts-same r n m new (ap (λ x. x.runs) h) c
-performs-counts r n m events.Reap (answers.Reaped (Some reaped)) new c h = counts-same r n m new (ap (λ x. x.runs) h.6) c
-performs-counts r n m (events.Drop q) answers.Done new c h = counts-drop r n m q new c (ap (λ x. x.runs) h)
-performs-counts r n m event answer new c h = absurd h
+-- an event that changes the store beside the runs counts no move
+counts-none : (r n : ℕ) (s : Store) (opened : List Section) (new : Store) (event : Event) (answer : Answer) → StoreChange s opened new event →
+    moves_after r n event answer ≡ n
+counts-none r n s opened new event answer (ByUpdate map key value flags ret u) = refl
+counts-none r n s opened new event answer c = refl
 
-same-or : (b : Bool) (n k : ℕ) → k ≡ 0 → (if b then n + k else n) ≡ n
-same-or true n k e = omega (arith, e)
-same-or false n k e = refl
-
--- a refusal counts nothing
-refused-same : (r n : ℕ) (event : Event) (k : EventRefusal) → moves_after r n event (answers.Refused k) ≡ n
-refused-same r n (events.Start prog ctx) k = refl
-refused-same r n (events.Step q) k = same-or (q == r) n (moved_once (answers.Refused k)) refl
-refused-same r n (events.Update map key value flags) k = refl
-refused-same r n (events.Delete map key) k = refl
-refused-same r n (events.Read map key) k = refl
-refused-same r n events.Advance k = refl
-refused-same r n events.Reap k = refl
-refused-same r n (events.Drop q) k = refl
-
-answers-count : (o : Option EventRefusal) (r n : ℕ) (m : Machine) (event : Event) (answer : Answer) (new : Machine) →
-    Counts r n m → Answers o m event answer new → Counts r (moves_after r n event answer) new
-answers-count None r n m event answer new c h = performs-counts r n m event answer new c h
-answers-count (Some k) r n m event answer new c h =
-    subst (λ x. Counts r x new) (sym (ap (moves_after r n event) h.0 ∙ refused-same r n event k)) (counts-same r n m new (ap (λ x. x.runs) h.1) c)
+counts-change : (r n : ℕ) (m new : Machine) (event : Event) (answer : Answer) → Counts r n m → Change m new event answer →
+    Counts r (moves_after r n event answer) new
+counts-change r n m new event answer c (Still e counts) =
+    subst (λ x. Counts r x new) (sym (counts r n)) (counts-same r n m new (ap (λ x. x.runs) e) c)
+counts-change r n m new event answer c (Begins prog ctx q pass h) = counts-start r n m prog ctx.items q new c h
+counts-change r n m new event answer c (Steps q h) = counts-step r n m q answer new c h
+counts-change r n m new event answer c (Stores store pass stored e) =
+    subst (λ x. Counts r x new) (sym (counts-none r n m.store (open_sections m.runs) store event answer stored))
+    (counts-same r n m new (ap (λ x. x.runs) e) c)
+counts-change r n m new event answer c (Leaves q e) = counts-drop r n m q new c (ap (λ x. x.runs) e)
 
 -- what the answers count is what the run has moved
 pub does_count : (r n : ℕ) (m new : Machine) (event : Event) (answer : Answer) → Counts r n m →
     DoesEvent m event answer new → Counts r (moves_after r n event answer) new
-does_count r n m new event answer c h = answers-count (refusal m event) r n m event answer new c h
+does_count r n m new event answer c h = counts-change r n m new event answer c (change m new event answer h)
 
 below-well : (r n : ℕ) (m : Machine) (run : Run) → IsWell m → Counts r n m → run_at m.runs r ≡ Some run → n < length run.program.code
 below-well r n m run w c at = let e : n ≡ run.moved = c run at in let l : run.moved < length run.program.code = w.moved r run at in omega arith

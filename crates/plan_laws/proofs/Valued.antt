@@ -1,14 +1,11 @@
 -- The values of all elements stay bytes; the programs stay.
-use Rattle.std.proofs.Common.{◌≡◌, ℕ, zero, suc, List, [], ◌∷◌, ◌++◌, map, replicate, Option, Some, None, inl, inr, refl, sym, ap, subst, ◌∙◌, Result, arith}
+use Rattle.std.proofs.Common.{◌≡◌, ℕ, zero, suc, List, [], ◌∷◌, ◌++◌, map, replicate, Option, Some, None, inl, inr, refl, sym, ap, subst, Result, arith}
 use Rattle.std.specs.Prelude.{slice_get, slice_set}
 use Rattle.std.specs.List.{range_with_len}
 use Rattle.std.proofs.lemmas.Option.{none-some, same_Some}
 use Rattle.bpf_model.specs.declared.call.Errno.{Errno}
 use Rattle.bpf_model.specs.declared.event.Event.{Event}
-use Rattle.bpf_model.specs.declared.event.Event.TheVariants as events
 use Rattle.bpf_model.specs.declared.event.Answer.{Answer}
-use Rattle.bpf_model.specs.declared.event.Answer.TheVariants as answers
-use Rattle.bpf_model.specs.declared.event.EventRefusal.{EventRefusal}
 use Rattle.bpf_model.specs.Section.{Section}
 use Rattle.bpf_model.specs.Element.{Element, Unlinked, Reclaimed, with_life, with_value, newborn, set_to, changed, overwritten, unlinked}
 use Rattle.bpf_model.specs.declared.limits.MapKind.{MapKind}
@@ -18,8 +15,9 @@ use Rattle.bpf_model.specs.MapState.{MapState, Store, array_element, new_element
 use Rattle.bpf_model.specs.Helper.{Writes, Settles, Updates, Removes, RemovesFrom, Deletes}
 use Rattle.bpf_model.specs.Machine.{Machine, open_sections}
 use Rattle.bpf_model.specs.MachineStep.{StepsRun}
-use Rattle.bpf_model.specs.Event.{PerformsEvent, Answers, DoesEvent, refusal}
+use Rattle.bpf_model.specs.Event.{DoesEvent}
 use Rattle.bpf_model.specs.Real.{AreBytes, IsReal, AllBytes}
+use Rattle.model_laws.proofs.Changing.{StoreChange, ByUpdate, ByDelete, ByReclaim, Change, Still, Begins, Steps, Stores, Leaves, change}
 use Rattle.bpf_model.proofs.Lists.{get-append_cases, get-replicate, get-set_cases}
 
 bytes-along : (es new : List Element) → new ≡ es → AllBytes es → AllBytes new
@@ -115,55 +113,37 @@ bytes-start k (shape ∷ shapes) n e at = bytes-append (new_elements shape.kind 
     (all_new_elements (suc k) shapes) (bytes-new shape.kind k shape) (bytes-start (suc k) shapes) n e at
 
 -- of a step of a run it is known by its program's verification
-performs-bytes : (m : Machine) (event : Event) (answer : Answer) (new : Machine) → IsReal event →
-    ((r : ℕ) → StepsRun m r answer new → AllBytes new.store.elements) → AllBytes m.store.elements →
-    PerformsEvent m event answer new → AllBytes new.store.elements
-performs-bytes m (events.Start prog ctx) (answers.Started r) new real step h p = same-bytes m.store new.store (ap (λ x. x.store) p.new_is) h
-performs-bytes m (events.Step r) answer new real step h p = step r p
-performs-bytes m (events.Update map key value flags) (answers.Ret ret) new real step h p =
-    subst (λ (s : Store). AllBytes s.elements) (ap (λ x. x.store) (sym p.2))
-    (bytes-updates m.store (open_sections m.runs) map key.items value.items flags ret p.0 h real.2 p.1)
-performs-bytes m (events.Delete map key) (answers.Ret ret) new real step h p =
-    subst (λ (s : Store). AllBytes s.elements) (ap (λ x. x.store) (sym p.2)) (bytes-deletes m.store (open_sections m.runs) map key.items ret p.0 h p.1)
-performs-bytes m (events.Read map key) (answers.Found (Some value)) new real step h p = same-bytes m.store new.store (ap (λ x. x.store) p.1) h
-performs-bytes m (events.Read map key) (answers.Found None) new real step h p = same-bytes m.store new.store (ap (λ x. x.store) p.1) h
-performs-bytes m events.Advance answers.Done new real step h p = same-bytes m.store new.store (ap (λ x. x.store) p) h
-performs-bytes m events.Reap (answers.Reaped None) new real step h p = same-bytes m.store new.store (ap (λ x. x.store) p) h
-performs-bytes m events.Reap (answers.Reaped (Some reaped)) new real step h p =
-    subst (λ (s : Store). AllBytes s.elements) (sym p.3.new_is ∙ ap (λ x. x.store) (sym p.6))
-    (bytes-set m.store.elements p.0 (with_life Reclaimed p.1) h (h p.0 p.1 p.3.born))
-performs-bytes m (events.Drop r) answers.Done new real step h p = same-bytes m.store new.store (ap (λ x. x.store) p) h
-performs-bytes m event answer new real step h p = absurd p
+bytes-store_change : (s : Store) (opened : List Section) (new : Store) (event : Event) → IsReal event → AllBytes s.elements →
+    StoreChange s opened new event → AllBytes new.elements
+bytes-store_change s opened new event real h (ByUpdate map key value flags ret u) =
+    bytes-updates s opened map key.items value.items flags ret new h real.2 u
+bytes-store_change s opened new event real h (ByDelete map key ret d) = bytes-deletes s opened map key.items ret new h d
+bytes-store_change s opened new event real h (ByReclaim n e given r) =
+    subst (λ (x : Store). AllBytes x.elements) (sym r.new_is) (bytes-set s.elements n (with_life Reclaimed e) h (h n e r.born))
 
-answers-bytes : (o : Option EventRefusal) (m : Machine) (event : Event) (answer : Answer) (new : Machine) →
-    IsReal event → ((r : ℕ) → StepsRun m r answer new → AllBytes new.store.elements) → AllBytes m.store.elements →
-    Answers o m event answer new → AllBytes new.store.elements
-answers-bytes None m event answer new real step h p = performs-bytes m event answer new real step h p
-answers-bytes (Some k) m event answer new real step h p = same-bytes m.store new.store (ap (λ x. x.store) p.1) h
+bytes-change : (m new : Machine) (event : Event) (answer : Answer) → IsReal event →
+    ((r : ℕ) → StepsRun m r answer new → AllBytes new.store.elements) → AllBytes m.store.elements →
+    Change m new event answer → AllBytes new.store.elements
+bytes-change m new event answer real step h (Still e counts) = same-bytes m.store new.store (ap (λ x. x.store) e) h
+bytes-change m new event answer real step h (Begins prog ctx r pass p) = same-bytes m.store new.store (ap (λ x. x.store) p.new_is) h
+bytes-change m new event answer real step h (Steps r p) = step r p
+bytes-change m new event answer real step h (Stores store pass c e) =
+    subst (λ (s : Store). AllBytes s.elements) (ap (λ x. x.store) (sym e))
+    (bytes-store_change m.store (open_sections m.runs) store event real h c)
+bytes-change m new event answer real step h (Leaves r e) = same-bytes m.store new.store (ap (λ x. x.store) e) h
 
 pub does-bytes : (m new : Machine) (event : Event) (answer : Answer) → IsReal event →
     ((r : ℕ) → StepsRun m r answer new → AllBytes new.store.elements) → AllBytes m.store.elements →
     DoesEvent m event answer new → AllBytes new.store.elements
-does-bytes m new event answer real step h p = answers-bytes (refusal m event) m event answer new real step h p
+does-bytes m new event answer real step h p = bytes-change m new event answer real step h (change m new event answer p)
 
 -- the programs stay
-performs-programs : (m : Machine) (event : Event) (answer : Answer) (new : Machine) → PerformsEvent m event answer new → new.programs ≡ m.programs
-performs-programs m (events.Start prog ctx) (answers.Started r) new h = ap (λ x. x.programs) h.new_is
-performs-programs m (events.Step run) answer new h = ap (λ x. x.programs) h.new_is
-performs-programs m (events.Update map key value flags) (answers.Ret ret) new h = ap (λ x. x.programs) h.2
-performs-programs m (events.Delete map key) (answers.Ret ret) new h = ap (λ x. x.programs) h.2
-performs-programs m (events.Read map key) (answers.Found (Some value)) new h = ap (λ x. x.programs) h.1
-performs-programs m (events.Read map key) (answers.Found None) new h = ap (λ x. x.programs) h.1
-performs-programs m events.Advance answers.Done new h = ap (λ x. x.programs) h
-performs-programs m events.Reap (answers.Reaped None) new h = ap (λ x. x.programs) h
-performs-programs m events.Reap (answers.Reaped (Some reaped)) new h = ap (λ x. x.programs) h.6
-performs-programs m (events.Drop run) answers.Done new h = ap (λ x. x.programs) h
-performs-programs m event answer new h = absurd h
-
-answers-programs : (o : Option EventRefusal) (m : Machine) (event : Event) (answer : Answer) (new : Machine) →
-    Answers o m event answer new → new.programs ≡ m.programs
-answers-programs None m event answer new h = performs-programs m event answer new h
-answers-programs (Some k) m event answer new h = ap (λ x. x.programs) h.1
+change-programs : (m new : Machine) (event : Event) (answer : Answer) → Change m new event answer → new.programs ≡ m.programs
+change-programs m new event answer (Still e counts) = ap (λ x. x.programs) e
+change-programs m new event answer (Begins prog ctx r pass h) = ap (λ x. x.programs) h.new_is
+change-programs m new event answer (Steps r h) = ap (λ x. x.programs) h.new_is
+change-programs m new event answer (Stores store pass c e) = ap (λ x. x.programs) e
+change-programs m new event answer (Leaves r e) = ap (λ x. x.programs) e
 
 pub does-programs : (m new : Machine) (event : Event) (answer : Answer) → DoesEvent m event answer new → new.programs ≡ m.programs
-does-programs m new event answer h = answers-programs (refusal m event) m event answer new h
+does-programs m new event answer h = change-programs m new event answer (change m new event answer h)
