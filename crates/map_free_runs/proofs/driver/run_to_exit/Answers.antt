@@ -34,8 +34,8 @@ overflow_add-moved c =
     c.program-program.ensures.justified in
     omega (arith, below)
 
-pub overflow_add-moved-2 : goal.overflow_add-moved-2
-overflow_add-moved-2 c =
+pub overflow_add-moved-in-Shared : goal.overflow_add-moved-in-Shared
+overflow_add-moved-in-Shared c =
     let below = halts_limit c.args.verified.now c.as_slice-context.result.now c.steps.index c.steps.moved
     c.steps.workspace c.steps.invariant c.go_on-halt.result c.go_on-halt.new.self c.go_on-halt.ensures
     c.program-program.ensures.justified in
