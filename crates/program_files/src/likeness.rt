@@ -72,11 +72,16 @@ const SHOWN: usize = 120;
 
 /// Writes the line of this number of a text, counted from 1, where its characters can be printed.
 pub fn write_line<W: Write>(out: &mut W, text: &[u8], number: usize) -> io::Result<()> {
-    let rest = &text[start_of_line(text, number)..];
+    let Some(rest) = text.get(start_of_line(text, number)..text.len()) else {
+        return Ok(());
+    };
     let Some(length) = length_of_line(rest) else {
         return Ok(());
     };
+    let Some(line) = rest.get(0..length.min(SHOWN)) else {
+        return Ok(());
+    };
     write!(out, "at {number}: ")?;
-    out.write_all(&rest[..length.min(SHOWN)])?;
+    out.write_all(line)?;
     writeln!(out)
 }

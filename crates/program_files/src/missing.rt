@@ -6,11 +6,11 @@ use register_kinds::{AbsState, RegKind, check_bytes};
 use std::io;
 use std::io::Write;
 
-/// Bytes of the frame that an instruction reads: for what, from where on, counted from r10, and how many.
+/// Bytes of the frame that an instruction reads: for what, which one is the first, and how many.
 #[derive(Clone, Copy)]
 struct FramePart {
     what: &'static str,
-    start: i64,
+    first: usize,
     length: usize,
 }
 
@@ -22,14 +22,15 @@ fn part_at(
     what: &'static str,
     length: usize,
 ) -> Option<FramePart> {
-    match state.regs.get(base.index()) {
-        Some(RegKind::Frame(place)) => Some(FramePart {
-            what,
-            start: i64::from(*place) + i64::from(offset) - FRAME_BYTES as i64,
-            length,
-        }),
-        _ => None,
-    }
+    let Some(RegKind::Frame(place)) = state.regs.get(base.index()) else {
+        return None;
+    };
+    let first = usize::try_from(i64::from(*place) + i64::from(offset)).ok()?;
+    Some(FramePart {
+        what,
+        first,
+        length,
+    })
 }
 
 /// The shape of the map that the first argument of a call is.
@@ -55,34 +56,29 @@ fn part_of_argument(
     }
 }
 
-/// The first byte of these, counted from r10, that is not written on every path.
-fn missing_in(state: &AbsState, part: FramePart) -> Option<i64> {
-    for further in 0..part.length {
-        let place = part.start.saturating_add(further as i64);
-        let at = place.saturating_add(FRAME_BYTES as i64);
-        if 0 <= at
-            && at < FRAME_BYTES as i64
-            && check_bytes(&state.frame, at as usize, 1).is_err()
-        {
-            return Some(place);
+/// The first byte of these that is not written on every path.
+fn missing_in(state: &AbsState, part: FramePart) -> Option<usize> {
+    let end = part.first.saturating_add(part.length).min(FRAME_BYTES);
+    for at in part.first..end {
+        if check_bytes(&state.frame, at, 1).is_err() {
+            return Some(at);
         }
     }
     None
 }
 
-/// Writes the first of these bytes that is not written on every path, if one is not.
+/// Writes the first of these bytes that is not written on every path, counted from r10, if one is not.
 fn write_missing_in<W: Write>(out: &mut W, state: &AbsState, part: FramePart) -> io::Result<bool> {
-    let Some(place) = missing_in(state, part) else {
+    let Some(at) = missing_in(state, part) else {
         return Ok(false);
     };
-    let FramePart {
-        what,
-        start,
-        length,
-    } = part;
+    let missing = FRAME_BYTES.saturating_sub(at);
+    let start = FRAME_BYTES.saturating_sub(part.first);
+    let what = part.what;
+    let length = part.length;
     writeln!(
         out,
-        "  not written on every path: r10{place} ({what} at r10{start}, length {length})"
+        "  not written on every path: r10-{missing} ({what} at r10-{start}, length {length})"
     )?;
     Ok(true)
 }

@@ -22,6 +22,19 @@ shown (None ∷ runs) zero v e = absurd (none-some v (same_Some None (Some v) e)
 shown (Some run ∷ runs) zero v e = (run, refl)
 shown (o ∷ runs) (suc r) v e = shown runs r v e
 
+-- what is so where nothing is
+pub none-pass : {A P Q : Type 0} (o : Option A) → (P → Q) → IfNone o P → IfNone o Q
+none-pass None f h = f h
+none-pass (Some x) f h = h
+
+-- where a run slot has no run the world shows none
+pub shows-nothing : (names : List (List ℕ)) (maps : List MapView) (runs : Runs) (grace : GraceState) (programs : List Loaded)
+    (given : ℕ) (w : WorldView) → world_of names maps runs grace programs given ≡ w → (r : ℕ) → HasNoRun runs r →
+    (v : RunView) → slice_get w.runs r ≡ Some (Some v) → ⊥
+shows-nothing names maps runs grace programs given w is r none v e =
+    let s = shown runs r v (ap (λ (z : WorldView). slice_get z.runs r) is ∙ e) in
+    none s.0 s.1
+
 -- lists whose items are there are the same
 all-some : (xs ys : List MapShape) → map Some xs ≡ map Some ys → xs ≡ ys
 all-some [] [] e = refl
