@@ -4,3 +4,4 @@ pub mod Names
 pub mod Faulty
 pub mod Plain
 pub mod Maps
+pub mod Fixed

@@ -1,7 +1,7 @@
 -- The plain text of a source: that of the fixed assembly language, line for line.
 use Rattle.std.specs.Prelude.{ℕ, ◌==◌, ◌+◌, ◌-◌, Bool, true, false, not, ◌||◌, ◌&&◌, nat_lt, if◌then◌else◌}
 use Rattle.std.specs.Prelude.{List, [], ◌∷◌, ◌++◌, codes, bytes_eq, Option, Some, None, Result, Ok, Err}
-use Rattle.std.specs.Fmt.{decimal}
+use Rattle.disasm.specs.Text.{numeral}
 use Rattle.asm_source.specs.Tokens.{lines_of, tokens_of, begins_word}
 use Rattle.asm_source.specs.Numbers.{hex_in}
 use Rattle.asm_source.specs.Names.{Binding, is_register, is_name, instruction_in, slots_after, named, names_in}
@@ -20,19 +20,19 @@ pub record Meanings : Type 0 where
 
 -- the sign of a number and the number
 abbrev pub number_text : Bool → ℕ → List ℕ
-number_text true n = 45 ∷ decimal n
-number_text false n = decimal n
+number_text true n = 45 ∷ numeral n
+number_text false n = numeral n
 
 -- a jump behind so many slots, to a place: the slots in between, with a sign
 abbrev pub distance_text : ℕ → ℕ → List ℕ
-distance_text slot place = if nat_lt slot place then 43 ∷ decimal (place - (slot + 1)) else 45 ∷ decimal (slot + 1 - place)
+distance_text slot place = if nat_lt slot place then 43 ∷ numeral (place - (slot + 1)) else 45 ∷ numeral (slot + 1 - place)
 
 abbrev pub meaning_text : List ℕ → Option Meaning → List ℕ
 meaning_text word (Some (Number minus n)) = number_text minus n
 meaning_text word _ = word
 
 abbrev pub value_text : Option ℕ → List ℕ → List ℕ
-value_text (Some n) other = decimal n
+value_text (Some n) other = numeral n
 value_text None other = other
 
 -- a word is a number in hexadecimal, or the name of a constant, or stays as it is
@@ -52,7 +52,7 @@ label_text site (Some (Place place)) = Ok (distance_text site.slot place)
 label_text site _ = Err (fault.UnknownLabel site.line)
 
 abbrev pub map_text : Site → Option ℕ → Result (List ℕ) SourceFault
-map_text site (Some index) = Ok (decimal index)
+map_text site (Some index) = Ok (numeral index)
 map_text site None = Err (fault.UnknownMap site.line)
 
 -- what a name at an instruction's end stands for: a jump's may be a label, and that of `ldmap` a map

@@ -6,7 +6,9 @@
 
 mod bindings;
 mod fault;
+mod law;
 mod lines;
+mod maps;
 mod names;
 mod numbers;
 mod plain;
@@ -15,4 +17,6 @@ mod tokens;
 mod words;
 
 pub use fault::SourceFault;
+pub use law::{fixed_stays, lines_are_kept};
+pub use maps::maps_of;
 pub use plain::plain_of;

@@ -1,7 +1,7 @@
 //! Numbers in words.
 ghost use Rattle.std.specs.Prelude.{◌≡◌, ◌<◌, ◌≤◌, ◌++◌, ℕ, OnOk};
 ghost use Rattle.std.specs.Char.{digit_value as value_of_digit};
-ghost use Rattle.std.specs.Fmt.{decimal};
+ghost use Rattle.disasm.specs.Text.{numeral};
 ghost use Rattle.asm_source.specs.Numbers.{with_digit, digits_in, hex_in as hex_of, decimal_in as decimal_of, number_in as number_of};
 
 use itoa::Buffer;
@@ -74,8 +74,8 @@ pub(crate) fn number_in(word: &[u8]) -> Option<u64>
 }
 
 /// Adds a number in decimal.
-pub(crate) fn push_decimal(out: &mut Vec<u8>, number: u128) -> Result<(), AllocError>
-    ensures { OnOk result (out.new.items ≡ out.old.items ++ decimal number) }
+pub(crate) fn push_numeral(out: &mut Vec<u8>, number: u128) -> Result<(), AllocError>
+    ensures { OnOk result (out.new.items ≡ out.old.items ++ numeral number) }
 {
     let mut buffer = Buffer::new();
     out.extend_from_slice(buffer.format(number).as_bytes())

@@ -1,7 +1,7 @@
 //! The plain text of a source.
 ghost use Rattle.std.specs.Prelude.{◌≡◌, ◌<◌, ◌≤◌, ◌^◌, ℕ, List, Ok, OnOk, IfOk, IfErr};
 ghost use Rattle.asm_source.specs.Faulty.{IsFaultOf};
-ghost use Rattle.asm_source.specs.Maps.{index_in, meanings_of};
+ghost use Rattle.asm_source.specs.Maps.{index_in, texts, meanings_of};
 ghost use Rattle.asm_source.specs.Plain.{lines_text, line_text, plain, prepended, fed, text_with as text_of_lines};
 ghost use Rattle.asm_source.specs.Tokens.{lines_of};
 
@@ -59,9 +59,9 @@ fn text_with<'a>(
     source: &[u8],
 ) -> Result<Vec<u8>, SourceFault>
     ensures found { IfOk result (λ v.
-        text_of_lines (index_in maps.now) source.now (Ok names.now) ≡ Ok v.items) }
+        text_of_lines (index_in (texts maps.now)) source.now (Ok names.now) ≡ Ok v.items) }
     ensures fault { IfErr result
-        (IsFaultOf (text_of_lines (index_in maps.now) source.now (Ok names.now))) }
+        (IsFaultOf (text_of_lines (index_in (texts maps.now)) source.now (Ok names.now))) }
 {
     let given = Given { names, maps };
     text_of(alloc, &given, source)
@@ -77,12 +77,12 @@ fn text_with<'a>(
 /// out. An instruction is not judged here.
 pub fn plain_of(alloc: Global, source: &[u8], maps: &[&[u8]]) -> Result<Vec<u8>, SourceFault>
     // It is the source's plain text.
-    ensures found { IfOk result (λ v. plain (index_in maps.now) source.now ≡ Ok v.items) }
+    ensures found { IfOk result (λ v. plain (index_in (texts maps.now)) source.now ≡ Ok v.items) }
     // A source with a plain text has it, unless memory runs out.
-    ensures only { (text : List ℕ) → plain (index_in maps.now) source.now ≡ Ok text →
+    ensures only { (text : List ℕ) → plain (index_in (texts maps.now)) source.now ≡ Ok text →
         IfErr result (λ f. f ≡ SourceFault.Memory) }
     // Which fault it is.
-    ensures fault { IfErr result (IsFaultOf (plain (index_in maps.now) source.now)) }
+    ensures fault { IfErr result (IsFaultOf (plain (index_in (texts maps.now)) source.now)) }
 {
     let names = names_of(alloc, source)?;
     text_with(alloc, &names, maps, source)

@@ -1,13 +1,14 @@
 //! The text of tokens.
 ghost use Rattle.std.specs.Prelude.{◌≡◌, ◌++◌, ◌<◌, ◌≤◌, ◌+◌, ◌^◌, ◌∷◌, [], ℕ, List, Ok, OnOk, IfErr, IfOk, codes};
-ghost use Rattle.asm_source.specs.Maps.{index_in, meanings_of};
+ghost use Rattle.asm_source.specs.Maps.{meanings_of};
 ghost use Rattle.asm_source.specs.Names.{named};
 ghost use Rattle.asm_source.specs.Faulty.{IsFaultOf};
 ghost use Rattle.asm_source.specs.Plain.{role_of as role_of_name, word_text, distance_text, number_text, meaning_text, name_text, last_text, token_text, gap, closes as closes_offset, prepended, tokens_text, instruction_text};
 
 use crate::fault::SourceFault;
+use crate::maps::index_of;
 use crate::names::{Meaning, Named, is_name, is_register, meaning_in};
-use crate::numbers::{hex_in, push_decimal};
+use crate::numbers::{hex_in, push_numeral};
 use crate::site::{Role, Site};
 use crate::tokens::{Tokens, begins_word};
 use std::alloc::AllocError;
@@ -17,13 +18,6 @@ use std::alloc::AllocError;
 pub(crate) struct Given<'a> {
     pub(crate) names: &'a [Named<'a>],
     pub(crate) maps: &'a [&'a [u8]],
-}
-
-/// The index of the map of this name.
-fn index_of(maps: &[&[u8]], name: &[u8]) -> Option<usize>
-    ensures { result ≡ index_in maps.now name.now }
-{
-    maps.iter().position(|map| *map == name)
 }
 
 /// What the last word of an instruction with this mnemonic may name.
@@ -44,10 +38,10 @@ fn push_distance(out: &mut Vec<u8>, slot: u128, place: u128) -> Result<(), Alloc
 {
     if slot < place {
         out.extend_from_slice(b"+")?;
-        push_decimal(out, place - (slot + 1))
+        push_numeral(out, place - (slot + 1))
     } else {
         out.extend_from_slice(b"-")?;
-        push_decimal(out, slot + 1 - place)
+        push_numeral(out, slot + 1 - place)
     }
 }
 
@@ -57,14 +51,14 @@ fn push_word(out: &mut Vec<u8>, given: &Given<'_>, word: &[u8]) -> Result<(), Al
         (out.new.items ≡ out.old.items ++ word_text given.now.names.now word.now) }
 {
     if let Some(number) = hex_in(word) {
-        return push_decimal(out, u128::from(number));
+        return push_numeral(out, u128::from(number));
     }
     match meaning_in(given.names, word) {
         Some(Meaning::Number { minus, magnitude }) => {
             if minus {
                 out.extend_from_slice(b"-")?;
             }
-            push_decimal(out, u128::from(magnitude))
+            push_numeral(out, u128::from(magnitude))
         }
         _ => out.extend_from_slice(word),
     }
@@ -89,7 +83,7 @@ fn push_name(
             _ => Err(SourceFault::UnknownLabel(site.line)),
         },
         Role::LoadMap => match index_of(given.maps, word) {
-            Some(index) => Ok(push_decimal(out, index as u128)?),
+            Some(index) => Ok(push_numeral(out, index as u128)?),
             None => Err(SourceFault::UnknownMap(site.line)),
         },
         Role::Plain => Ok(push_word(out, given, word)?),

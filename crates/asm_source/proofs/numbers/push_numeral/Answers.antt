@@ -1,0 +1,6 @@
+use Rattle.std.proofs.Common.{rules, arith}
+use Rattle.disasm.proofs.Numerals.{decimal_is_numeral}
+use Rattle.asm_source.proofs.numbers.push_numeral.Goals as goal
+
+pub returns : goal.returns
+returns c = search (rules, decimal_is_numeral c.args.number (omega arith))
