@@ -142,19 +142,7 @@ begins_append (x ∷ xs) ys h = h
 
 alu_begins : (x : AluOp) → begins_low (alu_stem x) ≡ true
 alu_begins alu.Add = refl
-alu_begins alu.Sub = refl
-alu_begins alu.Mul = refl
-alu_begins alu.Div = refl
-alu_begins alu.SignedDiv = refl
-alu_begins alu.Or = refl
-alu_begins alu.And = refl
-alu_begins alu.ShiftLeft = refl
-alu_begins alu.ShiftRight = refl
-alu_begins alu.Mod = refl
-alu_begins alu.SignedMod = refl
-alu_begins alu.Xor = refl
-alu_begins alu.Move = refl
-alu_begins alu.ShiftRightSigned = refl
+alu_begins op = refl
 
 condition_begins : (x : Condition) → begins_low (condition_stem x) ≡ true
 condition_begins condition.Equal = refl
