@@ -69,7 +69,7 @@ fn changed_bytes(before: &[u8], now: &[u8]) -> Option<(usize, usize)> {
             found = Some((first, at));
         }
     }
-    found.map(|(first, last)| (first, (last - first).saturating_add(1)))
+    found.map(|(first, last)| (first, last.saturating_sub(first).saturating_add(1)))
 }
 
 /// Writes which bytes of the frame are others now.
