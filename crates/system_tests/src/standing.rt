@@ -1,10 +1,13 @@
 //! A run that no world serves: it is stepped by itself, and what it asks is answered by hand.
-ghost use Rattle.std.specs.Prelude.{◌≡◌, true, length};
-ghost use Rattle.machine.specs.Standing.{Awaits, IsValidRun};
+ghost use Rattle.std.specs.Prelude.{◌≡◌, length, IfOk, IfSome};
+ghost use Rattle.bpf_model.specs.View.{RunView};
+ghost use Rattle.machine.specs.Standing.{AreHashMaps, Awaits, MayGive};
+ghost use Rattle.verifier.specs.Checked.{Checked};
 
 use asm::assemble;
-use bpf_model::{CtxBytes, Helper, MapKind, MapShape};
-use machine::{Local, Request, Run, SLOT_BASE};
+use bpf_model::{CtxBytes, Errno, Helper, MapKind, MapShape, Reg, ret_word};
+use machine::{Local, Request, Run, SLOT_BASE, delete_may_find_nothing, update_may_succeed};
+use std::alloc::Global;
 use std::test::Fail;
 use verifier::{Verified, verify};
 
@@ -22,7 +25,25 @@ callbtf 2\n\
 mov64 r0, r6\n\
 exit\n";
 
-/// The map that the program looks up in.
+/// An update without flags, and a delete of the same key; r0 is the sum of what both answer.
+const WRITER: &str = "stw [r10-4], 5\n\
+stdw [r10-16], 7\n\
+mov64 r2, r10\n\
+add64 r2, -4\n\
+mov64 r3, r10\n\
+add64 r3, -16\n\
+mov64 r4, 0\n\
+ldmap r1, 0\n\
+call 2\n\
+mov64 r6, r0\n\
+mov64 r2, r10\n\
+add64 r2, -4\n\
+ldmap r1, 0\n\
+call 3\n\
+add64 r0, r6\n\
+exit\n";
+
+/// The map of both programs.
 pub const SHAPE: MapShape = MapShape {
     kind: MapKind::Hash,
     key_len: 4,
@@ -39,25 +60,59 @@ struct Replies {
     number: u8,
 }
 
-/// Answers what the run asks, unless it changes a map.
-fn answer(run: &mut Run, verified: &Verified, request: Request, replies: &Replies) -> bool
-    requires { Awaits verified.now request run.old }
-    ensures { result ≡ true → IsValidRun verified.now run.new }
+/// The word of a map slot, or null: either may be a lookup's answer.
+fn element_word(helper: Helper, found: bool) -> u64
+    requires { helper ≡ Helper.Lookup }
+    ensures { (c : Checked) (v : RunView) → MayGive c v (Request.Call helper) result }
+{
+    if found {
+        return SLOT_BASE;
+    }
+    0
+}
+
+/// What some maps answer to the call of a helper: to an update without flags 0, and to a delete the error that the key has
+/// no element. `None` of an update with flags.
+fn call_word(run: &Run, verified: &Verified, helper: Helper, found: bool) -> Option<u64>
+    requires hash { AreHashMaps verified.now.shapes }
+    requires waits { Awaits verified.now (Request.Call helper) run.now }
+    ensures { IfSome result (λ word.
+        MayGive verified.now run.now.view (Request.Call helper) word) }
+{
+    let _program = verified.program();
+    match helper {
+        Helper::Lookup => Some(element_word(helper, found)),
+        Helper::Update => {
+            update_may_succeed();
+            if run.register(Reg::R4) == 0 {
+                return Some(0);
+            }
+            None
+        }
+        Helper::Delete => {
+            delete_may_find_nothing();
+            Some(ret_word(Err(Errno::NoEntry)))
+        }
+    }
+}
+
+/// A word that may be the answer to what the run asks.
+fn reply_to(run: &Run, verified: &Verified, request: Request, replies: &Replies) -> Option<u64>
+    requires hash { AreHashMaps verified.now.shapes }
+    requires waits { Awaits verified.now request run.now }
+    ensures { IfSome result (λ word. MayGive verified.now run.now.view request word) }
 {
     match request {
-        Request::Load { .. } => run.resume(verified, u64::from(replies.number)),
-        Request::Call {
-            helper: Helper::Lookup,
-        } => run.resume(verified, if replies.found { SLOT_BASE } else { 0 }),
-        Request::Call { .. } => return false,
-        Request::Store { .. } | Request::Enter | Request::Leave => run.resume(verified, 0),
+        Request::Load { .. } => Some(u64::from(replies.number)),
+        Request::Call { helper } => call_word(run, verified, helper, replies.found),
+        Request::Store { .. } | Request::Enter | Request::Leave => Some(0),
     }
-    true
 }
 
 /// The exit value of a run that is answered so, after at most so many steps.
 fn value_of(verified: &Verified, ctx: &CtxBytes, replies: &Replies) -> Option<u64>
-    requires { length ctx.now.items ≡ verified.now.ctx_len }
+    requires hash { AreHashMaps verified.now.shapes }
+    requires context { length ctx.now.items ≡ verified.now.ctx_len }
 {
     let mut run = Run::start(verified, 0, ctx);
     for _ in 0..100 {
@@ -65,19 +120,27 @@ fn value_of(verified: &Verified, ctx: &CtxBytes, replies: &Replies) -> Option<u6
             Local::Moved => {}
             Local::Exit(value) => return Some(value),
             Local::Shared(request) => {
-                if !answer(&mut run, verified, request, replies) {
-                    return None;
-                }
+                let word = reply_to(&run, verified, request, replies)?;
+                run.resume(verified, word);
             }
         }
     }
     None
 }
 
+/// The program of this text, verified for a map of the shape and no context.
+fn verified_of(alloc: Global, text: &str) -> Result<Verified, Fail>
+    ensures hash { IfOk result (λ v. AreHashMaps v.shapes) }
+    ensures context { IfOk result (λ v. v.ctx_len ≡ 0) }
+{
+    let program = assemble(alloc, text)?;
+    let verified = verify(alloc, program, &[SHAPE], 0)?;
+    Ok(verified)
+}
+
 #[test]
 fn reads_without_a_world(rt: HostRuntime) -> Result<(), Fail> {
-    let program = assemble(rt.alloc(), READER)?;
-    let verified = verify(rt.alloc(), program, &[SHAPE], 0)?;
+    let verified = verified_of(rt.alloc(), READER)?;
     let ctx = CtxBytes::new();
     let hit = Replies {
         found: true,
@@ -89,5 +152,20 @@ fn reads_without_a_world(rt: HostRuntime) -> Result<(), Fail> {
     };
     assert_eq!(rt; value_of(&verified, &ctx, &hit), Some(7));
     assert_eq!(rt; value_of(&verified, &ctx, &miss), Some(0));
+    Ok(())
+}
+
+#[test]
+fn writes_without_a_world(rt: HostRuntime) -> Result<(), Fail> {
+    let verified = verified_of(rt.alloc(), WRITER)?;
+    let replies = Replies {
+        found: false,
+        number: 0,
+    };
+    // 0 of the update, and -2 of the delete
+    assert_eq!(rt;
+        value_of(&verified, &CtxBytes::new(), &replies),
+        Some(18446744073709551614)
+    );
     Ok(())
 }
