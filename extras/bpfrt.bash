@@ -8,7 +8,7 @@ _bpfrt() {
     elif [[ ${COMP_WORDS[1]} == @(check|pool) && $word == -* ]]; then
         mapfile -t COMPREPLY < <(compgen -W "--explain" -- "$word")
     elif [[ ${COMP_WORDS[1]} == asm && $word == -* ]]; then
-        mapfile -t COMPREPLY < <(compgen -W "--file" -- "$word")
+        mapfile -t COMPREPLY < <(compgen -W "--file --plain --explain" -- "$word")
     elif [[ ${COMP_WORDS[1]} == filter && $word == -?* ]]; then
         mapfile -t COMPREPLY < <(compgen -W "--seccomp" -- "$word")
     elif [[ ${COMP_WORDS[1]} == @(run|trace) && $word == -* ]]; then

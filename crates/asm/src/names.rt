@@ -36,10 +36,26 @@ fn first_named(mnemonics: &[Mnemonic], name: &str) -> Option<Mnemonic>
     None
 }
 
-/// The mnemonic of this name.
+/// The mnemonic of this name. It is looked for among those that begin with the same letter.
 pub fn mnemonic_named(name: &str) -> Option<Mnemonic>
     ensures found { IfSome result (λ m. name.now ≡ mnemonic_text m) }
     ensures only { (m : MnemonicOf) → name.now ≡ mnemonic_text m → result ≡ Some m }
 {
-    first_named(&MNEMONICS, name)
+    let (from, to) = match name.as_bytes() {
+        [b'a', ..] => (0, 6),
+        [b'b', ..] => (6, 9),
+        [b'c', ..] => (9, 11),
+        [b'd', ..] => (11, 13),
+        [b'e', ..] => (13, 14),
+        [b'j', ..] => (14, 38),
+        [b'l', ..] => (38, 52),
+        [b'm', ..] => (52, 60),
+        [b'n', ..] => (60, 62),
+        [b'o', ..] => (62, 64),
+        [b'r', ..] => (64, 66),
+        [b's', ..] => (66, 83),
+        [b'x', ..] => (83, 85),
+        _ => (0, MNEMONICS.len()),
+    };
+    first_named(&MNEMONICS[from..to], name)
 }

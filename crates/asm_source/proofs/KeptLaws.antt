@@ -1,5 +1,5 @@
 -- A plain text has as many lines as its source.
-use Rattle.std.proofs.Common.{ℕ, ◌≡◌, ◌+◌, ◌-◌, ◌<◌, ◌==◌, Bool, true, false, not, ◌&&◌, ◌||◌, cond, List, [], ◌∷◌, ◌++◌}
+use Rattle.std.proofs.Common.{ℕ, ◌≡◌, ◌+◌, ◌-◌, ◌==◌, Bool, true, false, not, ◌&&◌, ◌||◌, cond, List, [], ◌∷◌, ◌++◌}
 use Rattle.std.proofs.Common.{length, refl, sym, ap, subst, ◌∙◌, append_assoc, arith}
 use Rattle.std.specs.Prelude.{nat_lt, Option, Some, None, is_some, Result, Ok, Err, IfOk, codes, bytes_eq}
 use Rattle.std.specs.List.{onto_first}
@@ -25,18 +25,18 @@ abbrev Text : Type 0
 Text = Result (List ℕ) SourceFault
 
 -- no byte is a line feed
-abbrev clean : List ℕ → Bool
+abbrev pub clean : List ℕ → Bool
 clean [] = true
 clean (b ∷ xs) = not (b == 10) && clean xs
 
-abbrev all_clean : List (List ℕ) → Bool
+abbrev pub all_clean : List (List ℕ) → Bool
 all_clean [] = true
 all_clean (xs ∷ rest) = clean xs && all_clean rest
 
-abbrev IsClean : Text → Type 0
+abbrev pub IsClean : Text → Type 0
 IsClean text = IfOk text (λ t. clean t ≡ true)
 
-both : (a b : Bool) → a ≡ true → b ≡ true → (a && b) ≡ true
+pub both : (a b : Bool) → a ≡ true → b ≡ true → (a && b) ≡ true
 both a b e f = rw (e, f) refl
 
 clean_append : (xs ys : List ℕ) → clean xs ≡ true → clean ys ≡ true → clean (xs ++ ys) ≡ true
@@ -57,7 +57,7 @@ figures_clean (d ∷ ds) h =
 numeral_clean : (n : ℕ) → clean (numeral n) ≡ true
 numeral_clean n = figures_clean (numeral n) (numeral_figures n)
 
-not_true : (b : Bool) → not b ≡ true → b ≡ false
+pub not_true : (b : Bool) → not b ≡ true → b ≡ false
 not_true true h = cc h
 not_true false h = refl
 
@@ -75,7 +75,7 @@ lines_step b text false e h =
     let more = onto_clean b (lines_of text) other h in
     rw e more
 
-lines_clean : (text : List ℕ) → all_clean (lines_of text) ≡ true
+pub lines_clean : (text : List ℕ) → all_clean (lines_of text) ≡ true
 lines_clean [] = refl
 lines_clean (b ∷ text) = lines_step b text (b == 10) refl (lines_clean text)
 
@@ -180,7 +180,7 @@ whole_clean m n slot (name ∷ rest) h =
     joined_clean [] (Ok name) (tokens_text m (record { role = role_of name; line = n; slot = slot }) (codes ",") rest) refl parts.0
     (texts_clean m (record { role = role_of name; line = n; slot = slot }) (codes ",") rest parts.1)
 
-line_clean : (m : Meanings) (n slot : ℕ) (line : List ℕ) → clean line ≡ true → IsClean (line_text m n slot line)
+pub line_clean : (m : Meanings) (n slot : ℕ) (line : List ℕ) → clean line ≡ true → IsClean (line_text m n slot line)
 line_clean m n slot line h = whole_clean m n slot (instruction_in (tokens_of line)) (instruction_clean (tokens_of line) (tokens_clean line h))
 
 -- lines

@@ -1,5 +1,7 @@
 pub mod FixedLaws
+pub mod LabelLaws
 pub mod KeptLaws
+pub mod LineText
 pub mod LineLaws
 pub mod MapLaws
 pub mod MnemonicLaws

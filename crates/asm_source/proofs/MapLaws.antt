@@ -1,10 +1,10 @@
 -- Names in lists.
-use Rattle.std.proofs.Common.{ℕ, suc, ◌≡◌, ◌+◌, Bool, true, false, not, cond, List, [], ◌∷◌, ◌++◌, length, refl, sym, ap, ◌∙◌, Bor, append_assoc}
-use Rattle.std.specs.Prelude.{nat_lt, Option, Some, None, bytes_eq, option_copied}
+use Rattle.std.proofs.Common.{ℕ, suc, ◌≡◌, ◌+◌, not, cond, List, [], ◌∷◌, ◌++◌, length, refl, sym, ap, ◌∙◌, Bor, append_assoc}
+use Rattle.std.specs.Prelude.{nat_lt, Some, None, bytes_eq}
 use Rattle.std.specs.List.{position, prefix_len}
 use Rattle.std.proofs.lemmas.List.{map-append, append-nil}
 use Rattle.std.specs.Option.{option_to_list as names_by}
-use Rattle.asm_source.specs.Maps.{texts, index_in, map_name_in, map_names_in}
+use Rattle.asm_source.specs.Maps.{texts, map_name_in, map_names_in}
 
 before_in : (names : List (Bor (List ℕ))) (name : List ℕ) →
     prefix_len (λ n. not (bytes_eq n name)) (texts names) ≡ prefix_len (λ n. not (bytes_eq n.now name)) names

@@ -3,7 +3,6 @@ use Rattle.std.proofs.Common.{ℕ, suc, ◌≡◌, ◌≢◌, ◌+◌, ◌<◌, 
 use Rattle.std.proofs.Common.{length, get_or, take, drop, refl, sym, ap, ◌∙◌, arith}
 use Rattle.std.specs.List.{prefix_len, onto_first}
 use Rattle.std.proofs.lemmas.Bool.{ne_eqb}
-use Rattle.std.proofs.lemmas.Bool.Decides.{nat_tests}
 use Rattle.asm_source.specs.Tokens.{is_blank, is_mark, is_letter, begins_word, tokens_of}
 
 no_comment : (b : ℕ) → is_blank b ≡ true → (b == 59) ≡ false

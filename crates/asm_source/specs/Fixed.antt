@@ -1,14 +1,10 @@
 -- The texts of the fixed language, and what stays of them.
-use Rattle.std.specs.Prelude.{◌≡◌, ◌==◌, ℕ, Bool, true, false, if◌then◌else◌, List, [], ◌∷◌, ◌++◌}
+use Rattle.std.specs.Prelude.{◌≡◌, ℕ, false, if◌then◌else◌, List, [], ◌∷◌, ◌++◌}
 use Rattle.std.specs.List.{AllByRecursion, flat_map}
 use Rattle.disasm.specs.declared.statement.Statement.{Statement}
 use Rattle.disasm.specs.Text.{statement_text}
+use Rattle.asm.specs.Faults.{is_comment}
 use Rattle.asm_source.specs.Tokens.{lines_of}
-
--- an empty line, and one that begins with `;`, which is byte 59
-abbrev pub is_comment : List ℕ → Bool
-is_comment [] = true
-is_comment (b ∷ line) = b == 59
 
 -- the line is a mnemonic and arguments, whether or not an instruction has them
 pub record IsStatement (line : List ℕ) : Type 0 where

@@ -5,3 +5,4 @@ pub mod Faulty
 pub mod Plain
 pub mod Maps
 pub mod Fixed
+pub mod Labels

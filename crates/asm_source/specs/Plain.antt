@@ -1,5 +1,5 @@
 -- The plain text of a source: that of the fixed assembly language, line for line.
-use Rattle.std.specs.Prelude.{ℕ, ◌==◌, ◌+◌, ◌-◌, Bool, true, false, not, ◌||◌, ◌&&◌, nat_lt, if◌then◌else◌}
+use Rattle.std.specs.Prelude.{ℕ, ◌==◌, ◌+◌, ◌-◌, Bool, true, false, ◌||◌, ◌&&◌, nat_lt, if◌then◌else◌}
 use Rattle.std.specs.Prelude.{List, [], ◌∷◌, ◌++◌, codes, bytes_eq, Option, Some, None, Result, Ok, Err}
 use Rattle.disasm.specs.Text.{numeral}
 use Rattle.asm_source.specs.Tokens.{lines_of, tokens_of, begins_word}

@@ -1,5 +1,6 @@
 //! Why a source has no plain text.
 ghost use Rattle.std.specs.Prelude.{◌≡◌};
+ghost use Rattle.asm_source.specs.Faulty.{fault_line};
 ghost use Rattle.asm_source.specs.declared.fault.SourceFault.TheVariants.{Memory};
 
 use std::alloc::{AllocError, AllocFailed};
@@ -26,6 +27,22 @@ pub enum SourceFault {
     /// An allocation failed.
     #[error("out of memory")]
     Memory,
+}
+
+impl SourceFault {
+    /// The line that is at fault, counted from 1; `None` where memory ran out.
+    pub fn line(&self) -> Option<usize>
+        ensures { result ≡ fault_line self.now }
+    {
+        match self {
+            SourceFault::BadName(line)
+            | SourceFault::NameTwice(line)
+            | SourceFault::BadConstant(line)
+            | SourceFault::UnknownLabel(line)
+            | SourceFault::UnknownMap(line) => Some(*line),
+            SourceFault::Memory => None,
+        }
+    }
 }
 
 impl From<AllocError> for SourceFault {

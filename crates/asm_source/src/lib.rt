@@ -5,6 +5,7 @@
 #![tactic(auto)]
 
 mod bindings;
+mod explain;
 mod fault;
 mod law;
 mod lines;
@@ -16,7 +17,8 @@ mod site;
 mod tokens;
 mod words;
 
+pub use explain::explain_line;
 pub use fault::SourceFault;
-pub use law::{fixed_stays, lines_are_kept};
+pub use law::{fixed_stays, label_leads, line_has_place, lines_are_kept};
 pub use maps::maps_of;
 pub use plain::plain_of;

@@ -84,7 +84,8 @@ pub(crate) fn is_register(word: &[u8]) -> bool
     }
 }
 
-fn are_digits(digits: &[u8]) -> bool
+/// Whether all bytes are decimal digits.
+pub(crate) fn are_digits(digits: &[u8]) -> bool
     ensures { result ≡ all_ascii_digits digits.now }
 {
     for digit in digits {

@@ -54,7 +54,7 @@ pub(crate) fn hex_in(word: &[u8]) -> Option<u64>
 }
 
 /// The number that the word writes in decimal, without leading zeros and below 2^64.
-fn decimal_in(word: &[u8]) -> Option<u64>
+pub(crate) fn decimal_in(word: &[u8]) -> Option<u64>
     ensures { result ≡ decimal_of word.now }
 {
     match word {

@@ -1,6 +1,6 @@
 -- What `asm` writes, of which texts, and how it refuses the others.
-use Rattle.std.specs.Prelude.{◌≡◌, ◌≢◌, ℕ, ◌+◌, ◌≤◌, ◌==◌, List, ◌++◌, length, map, codes, Bool, Option}
-use Rattle.std.specs.Prelude.{Some, None, count_by, if◌then◌else◌}
+use Rattle.std.specs.Prelude.{◌≡◌, ◌≢◌, ℕ, ◌+◌, ◌≤◌, ◌==◌, List, ◌++◌, length, map, codes, Option}
+use Rattle.std.specs.Prelude.{Some, None, count_by, Result, Ok, Err}
 use Rattle.std.specs.Str.{IsUtf8}
 use Rattle.std.specs.Io.KnownBytes.{Appends}
 use Rattle.bpf_model.specs.declared.insn.Insn.{Insn}
@@ -9,10 +9,15 @@ use Rattle.disasm.specs.Text.{line_of}
 use Rattle.asm.specs.declared.fault.AsmFault.{AsmFault}
 use Rattle.asm.specs.declared.fault.AsmFault.TheVariants as asm_faults
 use Rattle.asm.specs.Faults.{statements_in, IsAsmFault}
+use Rattle.asm_source.specs.Maps.{index_in, maps_in}
+use Rattle.asm_source.specs.Plain.{plain}
+use Rattle.asm_source.specs.declared.fault.SourceFault.{SourceFault}
 use Rattle.program_files.specs.declared.loader.fault.LoadFault.TheVariants as load_faults
 use Rattle.program_files.specs.ProgramFile.{FileContent, FileSays, IsLoadFault, heading}
 use Rattle.commands.specs.declared.assembly.TextFault.{TextFault}
-use Rattle.commands.specs.declared.assembly.TextFault.TheVariants.{NotUtf8, Flawed, BadHead, Memory}
+use Rattle.commands.specs.declared.assembly.TextFault.TheVariants.{NotUtf8, Unnamed, Flawed, BadHead, Memory}
+use Rattle.commands.specs.declared.request.AsmForm.{AsmForm}
+use Rattle.commands.specs.declared.request.AsmForm.TheVariants as form
 
 -- the line that stands between a program file's head and its slots
 abbrev pub code_line : List ℕ
@@ -26,17 +31,21 @@ IsSplit bytes (Some head) body =
     (bytes ≡ head ++ (code_line ++ body))
     × ((xs ys : List ℕ) → bytes ≡ xs ++ (code_line ++ ys) → length head ≤ length xs)
 
--- the lines of the instructions are the texts of a program's, and these are its bytes
-pub record IsCodeOf (body code : List ℕ) : Type 0 where
-  pub program : List Insn
-  pub is : IsProgram program
-  pub lines : statements_in body ≡ map line_of program
-  pub code_is : code ≡ text program
-
 -- the head of a program file: the text's own, or no maps and an empty context
 abbrev pub head_or_none : Option (List ℕ) → List ℕ
 head_or_none None = codes "ctx 0"
 head_or_none (Some head) = head
+
+-- the plain text of the instructions below a head, or why they have none; maps have the names of the head
+abbrev pub plain_below : Option (List ℕ) → List ℕ → Result (List ℕ) SourceFault
+plain_below head body = plain (index_in (maps_in (head_or_none head))) body
+
+-- the lines of the plain text are the texts of a program's instructions, and these are its bytes
+pub record IsCodeOf (lines code : List ℕ) : Type 0 where
+  pub program : List Insn
+  pub is : IsProgram program
+  pub lines_are : statements_in lines ≡ map line_of program
+  pub code_is : code ≡ text program
 
 -- A program file with this head.
 abbrev pub HasHead : Option (List ℕ) → List ℕ → Type 0
@@ -50,26 +59,43 @@ pub record IsFileOf (head : Option (List ℕ)) (code file : List ℕ) : Type 0 w
   pub says : FileSays file content
   pub code_is : content.code ≡ code
 
--- The bytes of the program that the text has, and a program file with the text's head and them.
-pub record IsAssembled (bytes code file : List ℕ) : Type 0 where
+-- The plain text of the instructions, the bytes of the program that it has, and a program file with the
+-- text's head and these bytes.
+pub record IsAssembled (bytes lines code file : List ℕ) : Type 0 where
   pub head : Option (List ℕ)
   pub body : List ℕ
   pub split : IsSplit bytes head body
-  pub code_of : IsCodeOf body code
+  pub plain_is : plain_below head body ≡ Ok lines
+  pub code_of : IsCodeOf lines code
   pub file_of : IsFileOf head code file
 
--- what `asm` adds to the output: the bytes, or the whole file
-abbrev pub WritesCode : Bool → Option (List ℕ) → Option (List ℕ) → List ℕ → Type 0
-WritesCode whole old new bytes =
-    (code file : List ℕ) × IsAssembled bytes code file
-    × Appends old new (if whole then file else code)
+-- what is written of these three
+abbrev pub written_as : AsmForm → List ℕ → List ℕ → List ℕ → List ℕ
+written_as form.Bytes lines code file = code
+written_as form.File lines code file = file
+written_as form.Plain lines code file = lines
 
--- the instructions of the text have this fault
+-- what `asm` adds to the output
+abbrev pub WritesCode : AsmForm → Option (List ℕ) → Option (List ℕ) → List ℕ → Type 0
+WritesCode form old new bytes =
+    (lines code file : List ℕ) × IsAssembled bytes lines code file
+    × Appends old new (written_as form lines code file)
+
+-- the instructions of the text have no plain text, for this fault
+pub record HasNoPlain (bytes : List ℕ) (fault : SourceFault) : Type 0 where
+  pub head : Option (List ℕ)
+  pub body : List ℕ
+  pub split : IsSplit bytes head body
+  pub fault_is : plain_below head body ≡ Err fault
+
+-- the plain text of the instructions has this fault
 pub record IsFlawed (bytes : List ℕ) (fault : AsmFault) : Type 0 where
   pub head : Option (List ℕ)
   pub body : List ℕ
   pub split : IsSplit bytes head body
-  pub fault_is : IsAsmFault body fault
+  pub lines : List ℕ
+  pub plain_is : plain_below head body ≡ Ok lines
+  pub fault_is : IsAsmFault lines fault
 
 -- the number of a head's last line in a program file, whose first line is the heading
 abbrev pub last_line : Option (List ℕ) → ℕ
@@ -89,6 +115,7 @@ pub record HasBadHead (bytes : List ℕ) : Type 0 where
 -- why the bytes are no text of a program; that memory ran out may be said of any
 abbrev pub IsTextFault : List ℕ → TextFault → Type 0
 IsTextFault bytes (NotUtf8 line) = IsUtf8 bytes → ⊥
+IsTextFault bytes (Unnamed line fault) = HasNoPlain bytes fault
 IsTextFault bytes (Flawed line fault) = IsFlawed bytes fault × (fault ≢ asm_faults.Memory)
 IsTextFault bytes (BadHead line) = HasBadHead bytes
 IsTextFault bytes Memory = Unit {0}

@@ -14,7 +14,7 @@ use Rattle.commands.specs.Scripts.{AnswersAll, AnswersBefore}
 abbrev pub Writes : BpfrtCommand → Option (List ℕ) → Option (List ℕ) → List ℕ → Type 0
 Writes (Check file explain) old new bytes = WritesAccepted old new bytes
 Writes (Disasm file) old new bytes = WritesText old new bytes
-Writes (Asm file whole) old new bytes = WritesCode whole old new bytes
+Writes (Asm file form explain) old new bytes = WritesCode form old new bytes
 Writes Script old new bytes = AnswersAll old new bytes
 Writes Version old new bytes = Appends old new (codes "bpfrt 0.1.0\n")
 Writes (Pool workers file count explain) old new bytes = WritesPool count old new bytes
@@ -28,7 +28,7 @@ Writes (Filter file kind) old new bytes = WritesFilter kind old new bytes
 abbrev pub Refuses : BpfrtCommand → Option (List ℕ) → Option (List ℕ) → List ℕ → Type 0
 Refuses (Check file explain) old new bytes = IsRefusedByCheck bytes
 Refuses (Disasm file) old new bytes = IsRefusedByDecode bytes
-Refuses (Asm file whole) old new bytes = IsRefusedByAsm bytes
+Refuses (Asm file form explain) old new bytes = IsRefusedByAsm bytes
 Refuses Script old new bytes = AnswersBefore old new bytes
 Refuses Version old new bytes = ⊥
 Refuses (Pool workers file count explain) old new bytes = IsRefusedByPool workers count bytes
@@ -40,7 +40,7 @@ Refuses (Filter file kind) old new bytes = IsRefusedByFilter kind bytes
 abbrev pub ReadsFile : BpfrtCommand → Type 0
 ReadsFile (Check file explain) = ⊤
 ReadsFile (Disasm file) = ⊤
-ReadsFile (Asm file whole) = ⊤
+ReadsFile (Asm file form explain) = ⊤
 ReadsFile Script = ⊥
 ReadsFile Version = ⊥
 ReadsFile (Pool workers file count explain) = ⊤

@@ -1,12 +1,19 @@
 //! The text of a program, assembled.
-ghost use Rattle.std.specs.Prelude.{◌≡◌, ◌≢◌, ◌⊎◌, IfOk, IfErr, IfSome, if◌then◌else◌};
-ghost use Rattle.commands.specs.Assembled.{IsAssembled, IsTextFault, IsRefusedByAsm, WritesCode};
+ghost use Rattle.std.specs.Prelude.{◌≡◌, ◌≢◌, ◌⊎◌, Ok, IfOk, IfErr, IfSome, map, option_copied};
+ghost use Rattle.bpf_model.specs.Spelling.{IsProgram};
+ghost use Rattle.disasm.specs.Text.{line_of};
+ghost use Rattle.asm.specs.Faults.{statements_in, IsAsmFault};
+ghost use Rattle.asm_source.specs.Faulty.{IsFaultOf};
+ghost use Rattle.commands.specs.Assembled.{IsAssembled, IsTextFault, IsRefusedByAsm, WritesCode, plain_below, written_as};
 
-use crate::heads::{file_of, lines_in, parts_of};
+use crate::heads::{Split, file_of, has_head, lines_in, lines_of, parts_of};
 use crate::report::fault;
+use crate::request::AsmForm;
 use crate::streams::{unread, write_text, written};
+use crate::wrong_text::explain_text;
 use asm::{AsmFault, assemble};
-use insn_codec::encode;
+use asm_source::{SourceFault, maps_of, plain_of};
+use insn_codec::{Program, encode};
 use program_files::{LoadFault, MEMORY, read_text};
 use std::alloc::Global;
 use std::io::{Read, Write};
@@ -17,6 +24,8 @@ use std::str;
 pub enum TextFault {
     /// This line is the first that is not UTF-8.
     NotUtf8 { line: usize },
+    /// A name in the lines below this many has no meaning, or more than one.
+    Unnamed { lines: usize, fault: SourceFault },
     /// The instructions below this many lines have this fault.
     Flawed { lines: usize, flaw: AsmFault },
     /// This line is none that the head of a program file may have.
@@ -25,25 +34,58 @@ pub enum TextFault {
     Memory,
 }
 
-/// A program's bytes, and a program file of them.
+/// The plain text of the instructions, the bytes of their program, and a program file of these.
 #[derive(Drop)]
 struct Assembled {
+    lines: Vec<u8>,
     code: Vec<u8>,
     file: Vec<u8>,
 }
 
 impl Assembled {
-    /// The file, or the bytes alone.
-    fn text(&self, whole: bool) -> &[u8]
-        ensures { result.now ≡ (if whole then self.now.file.items else self.now.code.items) }
+    /// What is written in this form.
+    fn text(&self, form: AsmForm) -> &[u8]
+        ensures { result.now ≡ written_as form self.now.lines.items self.now.code.items self.now.file.items }
     {
-        if whole { &self.file } else { &self.code }
+        match form {
+            AsmForm::Bytes => &self.code,
+            AsmForm::File => &self.file,
+            AsmForm::Plain => &self.lines,
+        }
     }
 }
 
-/// Assembles a text: a program's bytes, and the program file that the text's head makes of them.
+/// The plain text of the instructions of a text.
+pub fn plain_text(alloc: Global, parts: &Split<'_>) -> Result<Vec<u8>, SourceFault>
+    ensures found { IfOk result (λ lines. plain_below (option_copied parts.now.head) parts.now.body.now ≡ Ok lines.items) }
+    ensures fault { IfErr result (IsFaultOf (plain_below (option_copied parts.now.head) parts.now.body.now)) }
+{
+    let maps = maps_of(alloc, lines_of(parts.head).as_bytes())?;
+    plain_of(alloc, parts.body.as_bytes(), &maps)
+}
+
+/// How many lines stand above the instructions of a text.
+fn lines_above(parts: &Split<'_>) -> usize {
+    parts
+        .head
+        .map_or(0, |head| lines_in(head.as_bytes()).saturating_add(2))
+}
+
+/// The program that a plain text has. A text that is not UTF-8 is told as want of memory: that of UTF-8 is.
+fn program_of(alloc: Global, lines: &[u8]) -> Result<Program, AsmFault>
+    ensures found { IfOk result (λ p. statements_in lines.now ≡ map line_of p) }
+    ensures program { IfOk result IsProgram }
+    ensures fault { IfErr result (IsAsmFault lines.now) }
+{
+    match str::from_utf8(lines) {
+        Ok(text) => assemble(alloc, text),
+        Err(_) => Err(AsmFault::Memory),
+    }
+}
+
+/// Assembles a text: its plain text, its program's bytes, and the program file that the text's head makes of them.
 fn make_code(alloc: Global, bytes: &[u8]) -> Result<Assembled, TextFault>
-    ensures made { IfOk result (λ a. IsAssembled bytes.now a.code.items a.file.items) }
+    ensures made { IfOk result (λ a. IsAssembled bytes.now a.lines.items a.code.items a.file.items) }
     ensures fault { IfErr result (IsTextFault bytes.now) }
 {
     let text = match str::from_utf8(bytes) {
@@ -54,26 +96,35 @@ fn make_code(alloc: Global, bytes: &[u8]) -> Result<Assembled, TextFault>
         }
     };
     let parts = parts_of(text);
-    let program = match assemble(alloc, parts.body) {
+    let above = lines_above(&parts);
+    let lines = match plain_text(alloc, &parts) {
+        Ok(lines) => lines,
+        Err(SourceFault::Memory) => return Err(TextFault::Memory),
+        Err(fault) => return Err(TextFault::Unnamed {
+            lines: above,
+            fault,
+        }),
+    };
+    let program = match program_of(alloc, &lines) {
         Ok(program) => program,
         Err(AsmFault::Memory) => return Err(TextFault::Memory),
-        Err(flaw) => {
-            let above = parts
-                .head
-                .map_or(0, |head| lines_in(head.as_bytes()).saturating_add(2));
-            return Err(TextFault::Flawed { lines: above, flaw });
-        }
+        Err(flaw) => return Err(TextFault::Flawed { lines: above, flaw }),
     };
     let Ok(code) = encode(alloc, &program) else {
         return Err(TextFault::Memory);
     };
     match file_of(alloc, parts.head, &code) {
-        Ok(file) => Ok(Assembled { code, file }),
+        Ok(file) => Ok(Assembled { lines, code, file }),
         Err(LoadFault::BadFile { line }) => Err(TextFault::BadHead {
             line: line.saturating_sub(1),
         }),
         Err(LoadFault::Memory) => Err(TextFault::Memory),
     }
+}
+
+/// The line of a fault of names, counted from 1 below a head of so many lines.
+fn named_line(lines: usize, fault: &SourceFault) -> usize {
+    fault.line().unwrap_or(0).saturating_add(lines)
 }
 
 /// Writes why bytes are no text of a program, `refused C at L` for an instruction's line, `refused C` or `fault C at L` for a
@@ -86,6 +137,11 @@ fn flawed<E: Write>(err: &mut E, why: &TextFault) -> u8
         TextFault::Memory => return fault(err, MEMORY),
         TextFault::NotUtf8 { line } => {
             let code = AsmFault::BadLine(*line).code();
+            writeln!(err, "refused {code} at {line}")
+        }
+        TextFault::Unnamed { lines, fault } => {
+            let line = named_line(*lines, fault);
+            let code = AsmFault::BadLine(line).code();
             writeln!(err, "refused {code} at {line}")
         }
         TextFault::BadHead { line } => {
@@ -106,17 +162,40 @@ fn flawed<E: Write>(err: &mut E, why: &TextFault) -> u8
     1
 }
 
-/// Writes the bytes of the program whose text the input is, or a whole program file.
+/// Tells why bytes are no text of a program, in words too where it is asked for, and answers the status.
+fn told<E: Write>(alloc: Global, bytes: &[u8], why: &TextFault, in_words: bool, err: &mut E) -> u8
+    ensures status { (result ≡ 1) ⊎ (result ≡ 3) }
+    ensures refused { result ≡ 1 → why.now ≢ TextFault.Memory }
+{
+    let status = flawed(err, why);
+    if in_words && status == 1 {
+        let _ = explain_text(alloc, bytes, why, err);
+    }
+    status
+}
+
+/// Warns that the head of a text is no part of what is written.
+fn warn_of_head<E: Write>(bytes: &[u8], form: AsmForm, err: &mut E) {
+    if form == AsmForm::Bytes && has_head(bytes) {
+        let _ = writeln!(
+            err,
+            "the bytes have neither the context nor the maps above `code`: --file writes a file with them"
+        );
+    }
+}
+
+/// Writes the bytes of the program whose text the input is, or what else is asked for.
 pub fn run_asm<R: Read, W: Write, E: Write>(
     alloc: Global,
-    whole: bool,
+    form: AsmForm,
+    in_words: bool,
     input: &mut R,
     out: &mut W,
     err: &mut E,
 ) -> u8
     ensures status { (result ≡ 0) ⊎ (result ≡ 1) ⊎ (result ≡ 3) }
     ensures code { result ≡ 0 → IfSome (R.remaining input.old)
-        (WritesCode whole (W.contents out.old) (W.contents out.new)) }
+        (WritesCode form (W.contents out.old) (W.contents out.new)) }
     ensures refused { result ≡ 1 → IfSome (R.remaining input.old) IsRefusedByAsm }
     ensures silent { result ≡ 1 → out.new ≡ out.old }
 {
@@ -126,9 +205,10 @@ pub fn run_asm<R: Read, W: Write, E: Write>(
     };
     match make_code(alloc, &bytes) {
         Ok(made) => {
-            let text = made.text(whole);
+            warn_of_head(&bytes, form, err);
+            let text = made.text(form);
             written(err, write_text(out, text))
         }
-        Err(why) => flawed(err, &why),
+        Err(why) => told(alloc, &bytes, &why, in_words, err),
     }
 }

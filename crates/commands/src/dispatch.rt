@@ -109,7 +109,7 @@ pub fn run<H: Threads + Wait + Sync, R: Read, W: Write, E: Write>(
     match command {
         BpfrtCommand::Check { explain, .. } => run_check(alloc, *explain, input, out, err),
         BpfrtCommand::Disasm { .. } => run_disasm(alloc, input, out, err),
-        BpfrtCommand::Asm { whole, .. } => run_asm(alloc, *whole, input, out, err),
+        BpfrtCommand::Asm { form, explain, .. } => run_asm(alloc, *form, *explain, input, out, err),
         BpfrtCommand::Script => run_lines(alloc, input, out, err),
         BpfrtCommand::Version => written(err, write_version(out)),
         BpfrtCommand::Pool {

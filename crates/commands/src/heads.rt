@@ -6,6 +6,7 @@ ghost use Rattle.commands.specs.Assembled.{IsSplit, IsFileOf, HasHead, code_line
 
 use program_files::{HEADING, LoadFault, load};
 use std::alloc::{AllocError, Global};
+use std::str;
 
 /// The line that stands between a head and what follows.
 const CODE_LINE: &str = "\ncode\n";
@@ -33,6 +34,14 @@ pub fn parts_of(text: &str) -> Split<'_>
             head: None,
             body: text,
         },
+    }
+}
+
+/// Whether bytes are a text that has a head.
+pub fn has_head(bytes: &[u8]) -> bool {
+    match str::from_utf8(bytes) {
+        Ok(text) => parts_of(text).head.is_some(),
+        Err(_) => false,
     }
 }
 
@@ -82,7 +91,7 @@ pub fn text_of(alloc: Global, head: &str, code: &[u8]) -> Result<Vec<u8>, AllocE
 }
 
 /// The lines of a head, or those of a program file without maps for an empty context.
-fn lines_of<'a>(head: Option<&'a str>) -> &'a str
+pub fn lines_of<'a>(head: Option<&'a str>) -> &'a str
     ensures { result.now ≡ head_or_none (option_copied head.entry) }
 {
     match head {

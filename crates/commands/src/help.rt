@@ -48,13 +48,14 @@ Example:
 
 /// Behind the arguments of `bpfrt asm --help`.
 pub const ASM_HELP: &str = "\
-Reads a text of instructions, one a line, as `bpfrt disasm` writes it (docs/ASSEMBLY.md). Above them may stand
-the lines of a program file, from `ctx N` to `code`.
+Reads a text of instructions, one a line, as `bpfrt disasm` writes it, or with labels, names, hexadecimal numbers
+and comments (docs/ASSEMBLY.md). Above them may stand the lines of a program file, from `ctx N` to `code`.
 
-Prints the bytes of the program; with --file a program file of these lines and its slots.
+Prints the bytes of the program; with --file a program file of these lines and its slots; with --plain the
+instructions without names. With --explain, a refusal is followed on standard error by what is wrong with the line.
 
 Status, and the line on standard error:
-  0  written
+  0  written (a line warns where the text has a context and maps, and bytes alone are printed)
   1  refused 14 at L, 15 at L    line L is no instruction, or has something out of its range
      refused 2, refused 3        there is no instruction, or there are too many
      fault 94 at L               line L is none that a program file has above its slots

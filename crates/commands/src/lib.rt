@@ -16,9 +16,10 @@ mod single;
 mod streams;
 mod trace;
 mod words;
+mod wrong_text;
 
 pub use dispatch::run;
 pub use report::no_command;
-pub use request::{BpfrtCommand, FilterFile, MapElement, SingleRun, WordsFault};
+pub use request::{AsmForm, BpfrtCommand, FilterFile, MapElement, SingleRun, WordsFault};
 pub use streams::unread;
 pub use words::parse_words;

@@ -32,6 +32,17 @@ pub enum FilterFile {
     Path(String),
 }
 
+/// What is written of a text of instructions.
+#[derive(Clone, Copy, Debug, PartialEq, Eq, Drop)]
+pub enum AsmForm {
+    /// The bytes of its program.
+    Bytes,
+    /// A program file of its head and these bytes.
+    File,
+    /// Its lines without names, as `disasm` writes instructions.
+    Plain,
+}
+
 /// What the program is asked to do.
 #[derive(Debug, Drop)]
 pub enum BpfrtCommand {
@@ -44,10 +55,12 @@ pub enum BpfrtCommand {
     Disasm {
         file: String,
     },
-    /// Write the bytes of the program whose text is in a file, or a whole program file.
+    /// Write the bytes of the program whose text is in a file, or what else is made of it; or say why it is refused, in
+    /// words too.
     Asm {
         file: String,
-        whole: bool,
+        form: AsmForm,
+        explain: bool,
     },
     /// Answer the script on standard input.
     Script,

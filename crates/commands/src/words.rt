@@ -4,7 +4,9 @@ use crate::help::{
     ASM_HELP, CHECK_HELP, DISASM_HELP, FILTER_HELP, HELP, POOL_HELP, RUN_HELP, SCRIPT_HELP,
     TRACE_HELP,
 };
-use crate::request::{BpfrtCommand, FilterFile, MapElement, SingleRun, VERSION, WordsFault};
+use crate::request::{
+    AsmForm, BpfrtCommand, FilterFile, MapElement, SingleRun, VERSION, WordsFault,
+};
 use clap::error::ErrorKind;
 use clap::{Arg, ArgAction, ArgMatches};
 use classic::Data;
@@ -29,12 +31,42 @@ fn number_argument<'a>(alloc: Global, id: &'a str, help: &'a str) -> Arg<'a> {
         .action(ArgAction::Set)
 }
 
+/// An option without a value.
+fn flag<'a>(alloc: Global, name: &'a str, help: &'a str) -> Arg<'a> {
+    Arg::new(alloc, name)
+        .long(name)
+        .help(help)
+        .action(ArgAction::SetTrue)
+}
+
 /// The option that tells a refusal of the file in words.
 fn explain_option<'a>(alloc: Global) -> Arg<'a> {
-    Arg::new(alloc, "explain")
-        .long("explain")
-        .help("say in words why a program is refused")
-        .action(ArgAction::SetTrue)
+    flag(alloc, "explain", "say in words why a program is refused")
+}
+
+/// The grammar of the words of `asm`.
+fn asm_grammar<'a>(alloc: Global) -> Result<clap::Command<'a>, AllocError> {
+    let file = flag(
+        alloc,
+        "file",
+        "write a program file, and not the program's bytes alone",
+    );
+    clap::Command::new(alloc, "asm")
+        .about("Writes the bytes of the program whose text is in FILE")
+        .after_help(ASM_HELP)
+        .arg(
+            Arg::new(alloc, "FILE")
+                .help("a text of instructions, one a line")
+                .required(true)
+                .action(ArgAction::Set),
+        )?
+        .arg(file.conflicts_with("plain")?)?
+        .arg(flag(
+            alloc,
+            "plain",
+            "write the instructions without names, as `bpfrt disasm` does",
+        ))?
+        .arg(explain_option(alloc))
 }
 
 /// The grammar of the words of `pool`.
@@ -129,21 +161,6 @@ fn grammar<'a>(alloc: Global) -> Result<clap::Command<'a>, AllocError> {
         .about("Writes the text of the program in FILE, one instruction a line")
         .after_help(DISASM_HELP)
         .arg(file_argument(alloc))?;
-    let asm = clap::Command::new(alloc, "asm")
-        .about("Writes the bytes of the program whose text is in FILE")
-        .after_help(ASM_HELP)
-        .arg(
-            Arg::new(alloc, "FILE")
-                .help("a text of instructions, one a line")
-                .required(true)
-                .action(ArgAction::Set),
-        )?
-        .arg(
-            Arg::new(alloc, "file")
-                .long("file")
-                .help("write a program file, and not the program's bytes alone")
-                .action(ArgAction::SetTrue),
-        )?;
     let script = clap::Command::new(alloc, "script")
         .about("Answers the script on standard input")
         .after_help(SCRIPT_HELP);
@@ -154,7 +171,7 @@ fn grammar<'a>(alloc: Global) -> Result<clap::Command<'a>, AllocError> {
         .subcommand_required(true)
         .subcommand(check)?
         .subcommand(disasm)?
-        .subcommand(asm)?
+        .subcommand(asm_grammar(alloc)?)?
         .subcommand(script)?
         .subcommand(pool_grammar(alloc)?)?
         .subcommand(run_grammar(alloc)?)?
@@ -164,7 +181,7 @@ fn grammar<'a>(alloc: Global) -> Result<clap::Command<'a>, AllocError> {
 
 /// The text without white space behind it, and with U+FFFD for each other control character, which could come
 /// from a word and change what a terminal shows.
-fn shown(alloc: Global, text: &str) -> Result<String, AllocError> {
+pub fn shown(alloc: Global, text: &str) -> Result<String, AllocError> {
     let mut shown = String::new(alloc);
     for character in text.trim_end().chars() {
         let is_plain = character == '\n' || !character.is_control();
@@ -353,6 +370,17 @@ fn single_of(
     })
 }
 
+/// What `asm` is to write.
+fn form_of(matches: &ArgMatches<'_>) -> AsmForm {
+    if matches.get_flag("file") {
+        AsmForm::File
+    } else if matches.get_flag("plain") {
+        AsmForm::Plain
+    } else {
+        AsmForm::Bytes
+    }
+}
+
 /// The words of `filter`.
 fn filter_of(alloc: Global, matches: &ArgMatches<'_>) -> Result<BpfrtCommand, WordsFault> {
     let path = file_of(alloc, matches)?;
@@ -388,7 +416,8 @@ pub fn parse_words<'a>(alloc: Global, words: &'a [String]) -> Result<BpfrtComman
         }),
         Some(("asm", matches)) => Ok(BpfrtCommand::Asm {
             file: file_of(alloc, matches)?,
-            whole: matches.get_flag("file"),
+            form: form_of(matches),
+            explain: matches.get_flag("explain"),
         }),
         Some(("script", _)) => Ok(BpfrtCommand::Script),
         Some(("pool", matches)) => pool_of(alloc, matches),

@@ -5,7 +5,7 @@ pub mod MapReplies
 pub mod GrownSetups
 pub mod BadNames
 pub mod LoadReplies
-pub mod Above
 pub mod Happenings
 pub mod Replied
 pub mod ManySteps
+pub mod Elements

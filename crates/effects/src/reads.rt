@@ -74,6 +74,7 @@ pub(crate) fn check_value(
 
 /// What a load reads. Errors, in this order: those of a register that is read; `NotAPointer` or
 /// `MaybeNull`, `NoSuchMap` of the base; `OutOfBounds`, `Misaligned`; those of bytes of the frame.
+#[inline(always)]
 pub(crate) fn read(
     state: &AbsState,
     width: Width,

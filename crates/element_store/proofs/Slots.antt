@@ -2,9 +2,9 @@
 use Rattle.std.proofs.Common.{◌≡◌, ◌≢◌, ◌∙◌, ℕ, zero, suc, ◌+◌, ◌*◌, ◌<◌, ◌≤◌, List, [], ◌∷◌, length, Option, Some}
 use Rattle.std.proofs.Common.{None, refl, sym, ap, arith, subst, take, drop, map}
 use Rattle.std.specs.Prelude.{slice_get, slice_set}
-use Rattle.std.proofs.lemmas.Option.{none-some, same_Some, slice_get_within}
+use Rattle.std.proofs.lemmas.Option.{none-some, same_Some, slice_get_within, slice_get_past}
 use Rattle.std.proofs.lemmas.List.{length-drop, length-take, length-take-le, length-map}
-use Rattle.bpf_model.specs.View.{SlotView, uses_at}
+use Rattle.bpf_model.specs.View.{SlotView, key_in, uses_at}
 use Rattle.element_store.specs.State.{ArenaState, IsTaken, key_at, value_at, generation_at, with_slot_value}
 use Rattle.element_store.specs.Blocks.{block, with_block}
 use Rattle.element_store.specs.Kept.{shown_bytes, slots_shown, state_with, arena_state_of, free_of, IsThreaded}
@@ -288,3 +288,9 @@ generation_past kl vl limit cells first ks vs i a g e h there =
 pub inside_to : (kl vl limit : ℕ) (cells : List SlotCell) (first : Option ℕ) (ks vs : List ℕ) (i : ℕ) (a : ArenaState)
     → arena_state_of cells first ks vs kl vl limit ≡ a → i < length cells → i < length a.slots
 inside_to kl vl limit cells first ks vs i a e h = subst (λ (b : ArenaState). i < length b.slots) e (subst (λ n. i < n) (sym (length-shown kl vl cells ks vs)) h)
+
+-- a slot past the last has the key of no bytes
+pub past_to : (kl vl limit : ℕ) (cells : List SlotCell) (first : Option ℕ) (ks vs : List ℕ) (i : ℕ) (a : ArenaState)
+    → arena_state_of cells first ks vs kl vl limit ≡ a → length cells ≤ i → key_at a.slots i ≡ []
+past_to kl vl limit cells first ks vs i a e h = subst (λ (b : ArenaState). key_at b.slots i ≡ []) e
+    (ap key_in (slice_get_past (slots_shown kl vl cells ks vs) i (subst (λ n. n ≤ i) (sym (length-shown kl vl cells ks vs)) h)))

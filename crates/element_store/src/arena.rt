@@ -2,6 +2,8 @@
 ghost use Rattle.std.specs.Prelude.{◌≡◌, ◌≢◌, ◌+◌, ◌<◌, ◌≤◌, ◌∷◌, [], length, slice_get};
 ghost use Rattle.std.specs.Prelude.{slice_index, None, Some, IfSome, IfNone, IfOk, IfErr};
 ghost use Rattle.std.specs.Prelude.{if◌then◌else◌};
+ghost use Rattle.std.specs.Ordering.{nat_cmp};
+ghost use Rattle.std.specs.Cmp.Lexicographic.{slice_cmp};
 ghost use Rattle.bpf_model.specs.Access.{byte_count, number_at};
 ghost use Rattle.bpf_model.specs.Access.{with_bytes};
 ghost use Rattle.bpf_model.specs.declared.event.Given.TheVariants as given;
@@ -14,6 +16,7 @@ use crate::cell::{SlotCell, Standing, append, given_cell, last_after};
 use crate::make::{below, fresh_cells};
 use bpf_model::{Given, KeyBytes, ValueBytes, Width, array_of, number_of};
 use std::alloc::{AllocError, Global};
+use std::cmp::Ordering;
 use std::marker::Model;
 
 /// A slot, and how often it had been given back when the tag was made.
@@ -143,6 +146,26 @@ impl Arena {
         } else {
             block(&self.keys, self.key_len, slot)
         }
+    }
+
+    /// The key in a slot; none where the arena has no such slot.
+    fn key_or_none(&self, slot: usize) -> &[u8]
+        ensures { result.now ≡ key_at self.now.slots slot }
+    {
+        if slot < self.cells.len() {
+            self.key(slot)
+        } else {
+            &self.keys[..0]
+        }
+    }
+
+    /// How the keys of two slots compare, in byte order. A slot that was never used has a key of no bytes, and so
+    /// has one that is not the arena's.
+    pub fn compare_keys(&self, slot: usize, other: usize) -> Ordering
+        ensures { result
+            ≡ slice_cmp nat_cmp (key_at self.now.slots slot) (key_at self.now.slots other) }
+    {
+        self.key_or_none(slot).cmp(&self.key_or_none(other))
     }
 
     /// The value in a slot, as many bytes as the arena's values have; none where the slot was never used.

@@ -31,6 +31,9 @@ pub fn block(bytes: &[u8], len: usize, index: usize) -> &[u8]
 /// How many bytes a word has.
 const WORD_BYTES: usize = 8;
 
+/// How many bytes half a word has.
+const HALF_BYTES: usize = 4;
+
 /// Puts another string of the same length in place of that of an index.
 #[inline(never)]
 fn write_bytes(bytes: &mut Vec<u8>, index: usize, new: &[u8])
@@ -41,7 +44,8 @@ fn write_bytes(bytes: &mut Vec<u8>, index: usize, new: &[u8])
     bytes[at..at + new.len()].copy_from_slice(new);
 }
 
-/// Puts another string of the same length in place of that of an index. One word is written without a call.
+/// Puts another string of the same length in place of that of an index. A word or half a word is written
+/// without a call.
 #[inline]
 pub fn write_block(bytes: &mut Vec<u8>, index: usize, new: &[u8])
     requires { index * length new.now + length new.now ≤ length bytes.old.items }
@@ -50,6 +54,9 @@ pub fn write_block(bytes: &mut Vec<u8>, index: usize, new: &[u8])
     if new.len() == WORD_BYTES {
         let at = index * WORD_BYTES;
         bytes[at..at + WORD_BYTES].copy_from_slice(&new[..WORD_BYTES]);
+    } else if new.len() == HALF_BYTES {
+        let at = index * HALF_BYTES;
+        bytes[at..at + HALF_BYTES].copy_from_slice(&new[..HALF_BYTES]);
     } else {
         write_bytes(bytes, index, new);
     }

@@ -7,3 +7,5 @@ pub mod Runs
 pub mod Firsts
 pub mod Links
 pub mod Powers
+pub mod Short
+pub mod Gathered

@@ -9,7 +9,8 @@ use Rattle.element_store.specs.State.{ArenaState, IsTaken, key_at, times_in, slo
 use Rattle.element_store.proofs.Counts.{one_cases, times-append, length_room}
 use Rattle.element_store.proofs.Indexing.{get-contents, slot_of-none, contents-insert, contents-remove, unique-insert, unique-remove, times-get}
 use Rattle.hash_index.specs.declared.sorted.Sorted.{Sorted}
-use Rattle.hash_index.specs.Sorted.{IsAscending, IsPosition, sorted_contents, SortedFits}
+use Rattle.hash_index.specs.Order.{IsAscending}
+use Rattle.hash_index.specs.Sorted.{IsPosition, sorted_contents, SortedFits}
 use Rattle.hash_index.proofs.Orders.{ascending-insert, ascending-remove, stands_at}
 
 times_split : (j p : ℕ) (xs : List ℕ) → times_in j (take p xs) + times_in j (drop p xs) ≡ times_in j xs

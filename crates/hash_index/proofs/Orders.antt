@@ -11,9 +11,9 @@ use Rattle.std.proofs.lemmas.Map.Lookups.{exact_bytes}
 use Rattle.std.proofs.lemmas.Option.{none-some, same_Some, slice_get_within}
 use Rattle.element_store.specs.State.{times_in, slot_of}
 use Rattle.element_store.proofs.Indexing.{AreUnique, slot_of-absent, slot_of-present, slot_of-none}
-use Rattle.hash_index.specs.Order.{IsLess, IsLeastOf}
+use Rattle.hash_index.specs.Order.{IsLess, IsAscending, IsLeastOf}
 use Rattle.hash_index.specs.Held.{held_at, index_held}
-use Rattle.hash_index.specs.Sorted.{IsAscending, IsPosition, IsPositionAbove}
+use Rattle.hash_index.specs.Sorted.{IsPosition, IsPositionAbove}
 use Rattle.bpf_model.proofs.Lists.{get-below}
 
 pub less_trans : (a b c : List ℕ) → IsLess a b → IsLess b c → IsLess a c

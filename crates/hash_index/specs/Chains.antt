@@ -1,19 +1,18 @@
 -- The hash of a key and its bucket, and chains of slots.
 use Rattle.std.specs.Int.{from_le_bytes, w64}
-use Rattle.std.specs.Prelude.{◌≡◌, ℕ, zero, suc, ◌+◌, ◌<◌, ◌-◌, ◌*◌, ◌/◌, ◌%◌, ◌^◌, bit_and}
+use Rattle.std.specs.Prelude.{◌≡◌, ◌⊎◌, ℕ, zero, suc, ◌+◌, ◌<◌, ◌-◌, ◌*◌, ◌/◌, ◌%◌, ◌^◌, bit_and}
 use Rattle.std.specs.Prelude.{bit_xor}
-use Rattle.std.specs.Prelude.{List, [], ◌∷◌, ◌++◌, Option, None, Some, cond, drop, eqb, length}
+use Rattle.std.specs.Prelude.{List, ◌∷◌, ◌++◌, Option, None, Some, cond, drop, eqb, length}
 use Rattle.element_store.specs.State.{ArenaState, IsTaken, link_at, times_in}
 use Rattle.element_store.specs.Threads.{IsThread, chain_of}
-use Rattle.hash_index.specs.declared.hash.TheConstants.{FNV_OFFSET, FNV_PRIME, WORD_BYTES}
+use Rattle.hash_index.specs.declared.hash.TheConstants.{HASH_START, WORD_BYTES, HALF_BYTES}
 use Rattle.hash_index.specs.declared.hash.TheConstants.{WORD_FACTOR}
 
--- FNV-1a of these bytes, in 64 bits, going on from h
-abbrev pub bytes_hash : ℕ → List ℕ → ℕ
-bytes_hash h [] = h
-bytes_hash h (byte ∷ bytes) = bytes_hash ((bit_xor h byte * FNV_PRIME) % 2 ^ 64) bytes
+-- a key of one word, or of half a word
+abbrev pub IsShort : List ℕ → Type 0
+IsShort key = (length key ≡ WORD_BYTES) ⊎ (length key ≡ HALF_BYTES)
 
--- the little-endian number of the first eight bytes
+-- the little-endian number of the first eight bytes; of fewer, with zeros behind them
 abbrev pub hashed_word : List ℕ → ℕ
 hashed_word bytes = from_le_bytes w64 bytes
 
@@ -25,15 +24,15 @@ folded_product product = bit_xor product (product / 2 ^ 32)
 abbrev pub mixed_hash : ℕ → ℕ → ℕ
 mixed_hash h word = folded_product ((bit_xor h word * WORD_FACTOR) % 2 ^ 64)
 
--- so many words, and the bytes that are left
+-- a hash that goes on with so many words
 abbrev pub words_hash : ℕ → ℕ → List ℕ → ℕ
-words_hash zero h bytes = bytes_hash h bytes
+words_hash zero h bytes = h
 words_hash (suc n) h bytes =
     words_hash n (mixed_hash h (hashed_word bytes)) (drop WORD_BYTES bytes)
 
--- the hash of a key: its whole words first, then the bytes that are left
+-- the hash of a key: that of its words, the last of which may have fewer bytes
 abbrev pub hash_of : List ℕ → ℕ
-hash_of key = words_hash (length key / WORD_BYTES) FNV_OFFSET key
+hash_of key = words_hash ((length key + (WORD_BYTES - 1)) / WORD_BYTES) HASH_START key
 
 -- the bucket of a key, of a power of two of them
 abbrev pub bucket_of : ℕ → List ℕ → ℕ

@@ -6,7 +6,7 @@ use Rattle.bpf_model.specs.View.{KeyMap}
 use Rattle.element_store.specs.State.{ArenaState, IsTaken, SameAt, indexed, key_at, times_in}
 use Rattle.element_store.specs.State.{contents_of}
 use Rattle.element_store.proofs.Indexing.{AreUnique, indexed-times}
-use Rattle.hash_index.specs.Order.{IsLess, IsAbove}
+use Rattle.hash_index.specs.Order.{IsLess, IsAbove, IsAscending}
 use Rattle.hash_index.specs.Held.{held_at}
 use Rattle.hash_index.specs.Frame.{entries-agree}
 use Rattle.hash_index.specs.declared.sorted.Sorted.{Sorted}
@@ -15,12 +15,6 @@ use Rattle.hash_index.specs.declared.place.Place.{Place}
 -- each slot is one of the first n
 abbrev pub AllWithin : List ℕ → ℕ → Type 0
 AllWithin slots n = (j : ℕ) → 0 < times_in j slots → j < n
-
--- the keys ascend
-abbrev pub IsAscending : (ℕ → List ℕ) → List ℕ → Type 0
-IsAscending key slots =
-    (i j s t : ℕ) → i < j → slice_get slots i ≡ Some s → slice_get slots j ≡ Some t →
-    IsLess (key s) (key t)
 
 -- where a key stands, or would: the keys before the position are less, and no other is
 pub record IsPosition (key : ℕ → List ℕ) (slots : List ℕ) (k : List ℕ) (position : ℕ) : Type 0 where

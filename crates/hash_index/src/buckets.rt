@@ -1,15 +1,17 @@
 //! An index by a hash of the key.
 ghost use Rattle.std.specs.Prelude.{◌≡◌, IfOk, None, Some, length, min, option_copied, replicate};
 ghost use Rattle.std.specs.FinMap as map;
+ghost use Rattle.std.specs.Ordering.{nat_cmp};
+ghost use Rattle.std.specs.Cmp.Lexicographic.{slice_cmp};
+ghost use Rattle.std.specs.List.Sorted.{IsPermutation, IsSortedByKey};
 ghost use Rattle.bpf_model.specs.declared.limits.TheConstants.{MAX_ENTRIES};
 ghost use Rattle.element_store.specs.State.{IsTaken, LinksOf, indexed, is_at, key_at};
 ghost use Rattle.hash_index.specs.Buckets.{BucketsFits, HeadsFit, IsLeastPowerOfTwo, IsPlaceIn, chained_slots, contents_in};
-ghost use Rattle.hash_index.specs.Chains.{bucket_of};
-ghost use Rattle.hash_index.specs.declared.hash.TheConstants.{WORD_BYTES};
+ghost use Rattle.hash_index.specs.Chains.{IsShort, bucket_of};
 ghost use Rattle.hash_index.specs.Order.{IsLeastOf};
 
-use crate::chain::{cut, least_with, search, search_word};
-use crate::hash::{WORD_BYTES, bucket};
+use crate::chain::{add_chain, cut, least_with, search, search_short};
+use crate::hash::{WORD_BYTES, bucket, is_short};
 use crate::index::Index;
 use crate::place::Place;
 use bpf_model::MAX_ENTRIES;
@@ -18,8 +20,8 @@ use std::alloc::{AllocError, Global};
 
 /// The heads of chains of slots, whose links stand in the slots themselves: the least power of two that is
 /// no less than the entries, at most `MAX_ENTRIES`. The chain of a key is told by a hash of its bytes:
-/// `find` and `unlink` hash a key and walk its chain once, `link` does neither, and `next_above` walks all
-/// chains. A slot joins at the head of its chain.
+/// `find` and `unlink` hash a key and walk its chain once, `link` does neither, `next_above` walks all
+/// chains, and `in_order` sorts their slots. A slot joins at the head of its chain.
 #[derive(Drop)]
 pub struct Buckets {
     heads: Vec<Option<usize>>,
@@ -53,6 +55,26 @@ fn least_in(heads: &[Option<usize>], arena: &Arena, bound: Option<&[u8]>) -> Opt
     least
 }
 
+/// The slots of all chains, one chain behind the other.
+fn slots_in(alloc: Global, heads: &[Option<usize>], arena: &Arena) -> Result<Vec<usize>, AllocError>
+    requires { HeadsFit heads.now arena.now }
+    ensures { IfOk result (λ v. v.items ≡ chained_slots heads.now arena.now) }
+{
+    let mut slots = Vec::new(alloc);
+    for head in heads {
+        add_chain(arena, *head, &mut slots)?;
+    }
+    Ok(slots)
+}
+
+/// Puts slots in the order of their keys.
+fn sort_slots(slots: &mut Vec<usize>, arena: &Arena)
+    ensures same { IsPermutation slots.old.items slots.new.items }
+    ensures order { IsSortedByKey (key_at arena.now.slots) (slice_cmp nat_cmp) slots.new.items }
+{
+    slots.sort_unstable_by(|a, b| arena.compare_keys(*a, *b));
+}
+
 impl Buckets {
     /// The place of a key, of any length.
     #[inline(never)]
@@ -65,16 +87,27 @@ impl Buckets {
         search(arena, home, self.heads[home], key)
     }
 
-    /// The place of a key of one word: the same without a call.
-    #[inline]
-    fn find_word(&self, arena: &Arena, key: &[u8]) -> Place
+    /// The place of a short key: the same without a call.
+    #[inline(always)]
+    fn find_short(&self, arena: &Arena, key: &[u8]) -> Place
         requires fits { BucketsFits self.now arena.now }
-        requires word { length key.now ≡ WORD_BYTES }
+        requires short { IsShort key.now }
         ensures slot { result.slot ≡ map.get (contents_in self.now arena.now) key.now }
         ensures place { IsPlaceIn self.now.heads.items arena.now key.now result }
     {
         let home = bucket(key, self.heads.len());
-        search_word(arena, home, self.heads[home], key)
+        search_short(arena, home, self.heads[home], key)
+    }
+
+    /// The same in a function of its own, so that the code for keys of one word is the smaller.
+    #[inline(never)]
+    fn find_half(&self, arena: &Arena, key: &[u8]) -> Place
+        requires fits { BucketsFits self.now arena.now }
+        requires short { IsShort key.now }
+        ensures slot { result.slot ≡ map.get (contents_in self.now arena.now) key.now }
+        ensures place { IsPlaceIn self.now.heads.items arena.now key.now result }
+    {
+        self.find_short(arena, key)
     }
 
     /// A taken slot joins the chain of its key, which no slot has.
@@ -134,8 +167,12 @@ impl Index for Buckets {
 
     #[inline]
     fn find(&self, arena: &Arena, key: &[u8]) -> Place {
-        if key.len() == WORD_BYTES {
-            self.find_word(arena, key)
+        if is_short(key) {
+            if key.len() == WORD_BYTES {
+                self.find_short(arena, key)
+            } else {
+                self.find_half(arena, key)
+            }
         } else {
             self.find_bytes(arena, key)
         }
@@ -166,6 +203,12 @@ impl Index for Buckets {
 
     fn next_above(&self, arena: &Arena, bound: Option<&[u8]>) -> Option<usize> {
         least_in(&self.heads, arena, bound)
+    }
+
+    fn in_order(&self, alloc: Global, arena: &Arena) -> Result<Vec<usize>, AllocError> {
+        let mut slots = slots_in(alloc, &self.heads, arena)?;
+        sort_slots(&mut slots, arena);
+        Ok(slots)
     }
 
     fn copy(&self, alloc: Global) -> Result<Self, AllocError> {

@@ -1,14 +1,14 @@
 //! Chains of slots, by the links that stand in them.
-ghost use Rattle.std.specs.Prelude.{◌≡◌, ◌≢◌, ◌<◌, ◌≤◌, Some, ◌++◌, ℕ, List, length, option_copied, IfSome, ◌∷◌, []};
+ghost use Rattle.std.specs.Prelude.{◌≡◌, ◌≢◌, ◌<◌, ◌≤◌, Some, OnOk, ◌++◌, ℕ, List, length, option_copied, IfSome, ◌∷◌, []};
 ghost use Rattle.element_store.specs.State.{key_at, times_in, slot_of};
 ghost use Rattle.hash_index.specs.Order.{IsLeastOf};
 ghost use Rattle.element_store.specs.Threads.{chain_of};
-ghost use Rattle.hash_index.specs.declared.hash.TheConstants.{WORD_BYTES};
-ghost use Rattle.hash_index.specs.Chains.{IsChain, IsCut, StandsBehind};
+ghost use Rattle.hash_index.specs.Chains.{IsChain, IsCut, IsShort, StandsBehind};
 
-use crate::keys::{has_key, has_word, is_above, is_less};
+use crate::keys::{has_key, has_short, is_above, is_less};
 use crate::place::Place;
 use element_store::Arena;
+use std::alloc::AllocError;
 
 /// The place of a key whose chain is this one: the first slot of the chain that has the key, and the
 /// slot before it.
@@ -38,11 +38,11 @@ pub(crate) fn search(arena: &Arena, home: usize, first: Option<usize>, key: &[u8
     }
 }
 
-/// The same for a key of one word.
-#[inline]
-pub(crate) fn search_word(arena: &Arena, home: usize, first: Option<usize>, key: &[u8]) -> Place
+/// The same for a short key.
+#[inline(always)]
+pub(crate) fn search_short(arena: &Arena, home: usize, first: Option<usize>, key: &[u8]) -> Place
     requires chain { IsChain arena.now first }
-    requires word { length key.now ≡ WORD_BYTES }
+    requires short { IsShort key.now }
     ensures home { result.home ≡ home }
     ensures slot { result.slot ≡ slot_of (key_at arena.now.slots) (chain_of arena.now first) key.now }
     ensures behind { IfSome result.slot (StandsBehind (chain_of arena.now first) result.last) }
@@ -50,7 +50,7 @@ pub(crate) fn search_word(arena: &Arena, home: usize, first: Option<usize>, key:
     let mut last = None;
     let mut at = first;
     while let Some(slot) = at {
-        if has_word(arena, slot, key) {
+        if has_short(arena, slot, key) {
             return Place {
                 slot: Some(slot),
                 home,
@@ -131,4 +131,21 @@ pub(crate) fn least_with(
         at = arena.next_of(slot);
     }
     least
+}
+
+/// Adds the slots of a chain to a list. The error is that there is no memory left.
+pub(crate) fn add_chain(
+    arena: &Arena,
+    first: Option<usize>,
+    slots: &mut Vec<usize>,
+) -> Result<(), AllocError>
+    requires { IsChain arena.now first }
+    ensures { OnOk result (slots.new.items ≡ slots.old.items ++ chain_of arena.now first) }
+{
+    let mut at = first;
+    while let Some(slot) = at {
+        slots.push(slot)?;
+        at = arena.next_of(slot);
+    }
+    Ok(())
 }

@@ -1,12 +1,9 @@
 //! The bucket of a key.
-ghost use Rattle.std.specs.Prelude.{◌≡◌, ◌<◌, ◌≤◌, length};
-ghost use Rattle.hash_index.specs.Chains.{bucket_of, bytes_hash, hash_of, mixed_hash, hashed_word};
+ghost use Rattle.std.specs.Prelude.{◌≡◌, ◌<◌, ◌≤◌, ◌↔◌, IsTrue, length, slice_index};
+ghost use Rattle.hash_index.specs.Chains.{IsShort, bucket_of, hash_of, mixed_hash, hashed_word};
 
-/// The hash of no bytes, in FNV-1a of 64 bits.
-const FNV_OFFSET: u64 = 14_695_981_039_346_656_037;
-
-/// What FNV-1a multiplies by after each byte.
-const FNV_PRIME: u64 = 1_099_511_628_211;
+/// The hash of no bytes.
+const HASH_START: u64 = 14_695_981_039_346_656_037;
 
 /// What a hash is multiplied by after each word: 2^64 over the golden ratio, which is odd.
 const WORD_FACTOR: u64 = 11_400_714_819_323_198_485;
@@ -14,14 +11,73 @@ const WORD_FACTOR: u64 = 11_400_714_819_323_198_485;
 /// How many bytes a word has.
 pub(crate) const WORD_BYTES: usize = 8;
 
+/// How many bytes half a word has.
+pub(crate) const HALF_BYTES: usize = 4;
+
+/// Whether a key is one word, or half a word.
+#[inline]
+pub(crate) fn is_short(key: &[u8]) -> bool
+    ensures { IsTrue result ↔ IsShort key.now }
+{
+    key.len() == WORD_BYTES || key.len() == HALF_BYTES
+}
+
 /// The little-endian number of the first eight bytes.
 #[inline]
-pub(crate) fn word_at_start(bytes: &[u8]) -> u64
+fn word_at_start(bytes: &[u8]) -> u64
     requires { WORD_BYTES ≤ length bytes.now }
     ensures { result ≡ hashed_word bytes.now }
 {
     u64::from_le_bytes([
         bytes[0], bytes[1], bytes[2], bytes[3], bytes[4], bytes[5], bytes[6], bytes[7],
+    ])
+}
+
+/// The little-endian number of four bytes.
+#[inline]
+fn half_word(bytes: &[u8]) -> u64
+    requires { length bytes.now ≡ HALF_BYTES }
+    ensures { result ≡ hashed_word bytes.now }
+{
+    u64::from(u32::from_le_bytes([bytes[0], bytes[1], bytes[2], bytes[3]]))
+}
+
+/// The little-endian number of a key of one word or half a word.
+#[inline(always)]
+pub(crate) fn short_word(key: &[u8]) -> u64
+    requires { IsShort key.now }
+    ensures { result ≡ hashed_word key.now }
+{
+    if key.len() == WORD_BYTES {
+        word_at_start(key)
+    } else {
+        half_word(key)
+    }
+}
+
+/// A byte; 0 behind the last.
+fn byte_or_zero(bytes: &[u8], at: usize) -> u8
+    ensures { result ≡ slice_index bytes.now at }
+{
+    match bytes.get(at) {
+        Some(byte) => *byte,
+        None => 0,
+    }
+}
+
+/// The little-endian number of at most eight bytes.
+fn filled_word(bytes: &[u8]) -> u64
+    ensures { result ≡ hashed_word bytes.now }
+{
+    u64::from_le_bytes([
+        byte_or_zero(bytes, 0),
+        byte_or_zero(bytes, 1),
+        byte_or_zero(bytes, 2),
+        byte_or_zero(bytes, 3),
+        byte_or_zero(bytes, 4),
+        byte_or_zero(bytes, 5),
+        byte_or_zero(bytes, 6),
+        byte_or_zero(bytes, 7),
     ])
 }
 
@@ -34,41 +90,33 @@ fn mix(hash: u64, word: u64) -> u64
     product ^ (product >> 32)
 }
 
-/// Goes on from a hash, byte by byte.
-#[inline]
-fn hash_bytes(start: u64, bytes: &[u8]) -> u64
-    ensures { result ≡ bytes_hash start bytes.now }
-{
-    let mut hash = start;
-    for byte in bytes {
-        hash = (hash ^ u64::from(*byte)).wrapping_mul(FNV_PRIME);
-    }
-    hash
-}
-
 /// A hash of a key's bytes.
 #[inline]
 fn hash(key: &[u8]) -> u64
     ensures { result ≡ hash_of key.now }
 {
-    if key.len() == WORD_BYTES {
-        return mix(FNV_OFFSET, word_at_start(key));
+    if is_short(key) {
+        return mix(HASH_START, short_word(key));
     }
     hash_words(key)
 }
 
-/// A hash of a key's bytes: eight at a time, and those that are left one by one.
+/// A hash of a key's bytes, word by word: to the last one as many zeros are added as it lacks bytes.
 #[inline(never)]
 fn hash_words(key: &[u8]) -> u64
     ensures { result ≡ hash_of key.now }
 {
-    let mut hash = FNV_OFFSET;
+    let mut hash = HASH_START;
     let mut rest = key;
     for _ in 0..key.len() / WORD_BYTES {
         hash = mix(hash, word_at_start(rest));
         rest = &rest[WORD_BYTES..];
     }
-    hash_bytes(hash, rest)
+    if rest.is_empty() {
+        hash
+    } else {
+        mix(hash, filled_word(rest))
+    }
 }
 
 /// The bucket of a key, of so many, which are a power of two. The hash is multiplied once more,

@@ -1,10 +1,10 @@
 //! What an index of slots is.
-ghost use Rattle.std.specs.Prelude.{◌≡◌, ◌≤◌, ◌+◌, ℕ, List, Some, length, IfOk, IfSome, IfNone, option_copied};
+ghost use Rattle.std.specs.Prelude.{◌≡◌, ◌≤◌, ◌+◌, ℕ, List, None, Some, length, IfOk, IfSome, IfNone, option_copied};
 ghost use Rattle.std.specs.FinMap as map;
 ghost use Rattle.bpf_model.specs.View.{KeyMap};
 ghost use Rattle.element_store.specs.State.{ArenaState, IsTaken, LinksOf, SameAt, indexed, is_at, key_at};
 ghost use Rattle.hash_index.specs.declared.place.Place.{Place};
-ghost use Rattle.hash_index.specs.Order.{IsAbove, NoneAbove, NoneBetween};
+ghost use Rattle.hash_index.specs.Order.{IsAbove, AreInOrder, NoneAbove, NoneBetween};
 
 use crate::place::Place;
 use element_store::Arena;
@@ -27,7 +27,7 @@ pub trait Index {
     ghost is_made_for: { Self → ℕ → Type 0 };
 
     /// An index that has nothing. It is made for any arena of at most so many slots, and for about so many
-    /// entries; it may come to have more. No other call but `copy` takes memory. The error is that there is
+    /// entries; it may come to have more. No other calls but `copy` and `in_order` take memory. The error is that there is
     /// none left.
     fn new(alloc: Global, entries: usize, slots: usize) -> Result<Self, AllocError>
         ensures fits { IfOk result (λ x. (a : ArenaState) → length a.slots ≤ slots → fits x a) }
@@ -81,6 +81,12 @@ pub trait Index {
             (key_at arena.now.slots i)) }
         ensures none { IfNone result
             (NoneAbove (contents self.now arena.now) (option_copied bound.entry)) };
+
+    /// All its slots, in byte order of their keys. The error is that there is no memory left.
+    fn in_order(&self, alloc: Global, arena: &Arena) -> Result<Vec<usize>, AllocError>
+        requires { fits self.now arena.now }
+        ensures { IfOk result (λ v.
+            AreInOrder (contents self.now arena.now) (key_at arena.now.slots) None v.items) };
 
     /// The same slots in an index of its own, which stands wherever this one does. The error is that there is
     /// no memory left.

@@ -4,9 +4,9 @@ ghost use Rattle.std.specs.Ordering.{nat_cmp, eq_by_cmp};
 ghost use Rattle.std.specs.Cmp.Lexicographic.{slice_cmp};
 ghost use Rattle.element_store.specs.State.{key_at};
 ghost use Rattle.hash_index.specs.Order.{IsLess, IsAbove};
-ghost use Rattle.hash_index.specs.declared.hash.TheConstants.{WORD_BYTES};
+ghost use Rattle.hash_index.specs.Chains.{IsShort};
 
-use crate::hash::{WORD_BYTES, word_at_start};
+use crate::hash::short_word;
 use element_store::Arena;
 
 /// Whether a slot has the key.
@@ -17,26 +17,26 @@ pub(crate) fn has_key(arena: &Arena, slot: usize, key: &[u8]) -> bool
     key == arena.key(slot)
 }
 
-/// Whether two words are the same, which are compared as numbers.
-#[inline]
-fn same_words(left: &[u8], right: &[u8]) -> bool
-    requires left { length left.now ≡ WORD_BYTES }
-    requires right { length right.now ≡ WORD_BYTES }
+/// Whether two short keys of one length are the same, which are compared as numbers.
+#[inline(always)]
+fn same_short(left: &[u8], right: &[u8]) -> bool
+    requires left { IsShort left.now }
+    requires right { length right.now ≡ length left.now }
     ensures { result ≡ bytes_eq left.now right.now }
 {
-    word_at_start(left) == word_at_start(right)
+    short_word(left) == short_word(right)
 }
 
-/// Whether a slot has the key, which is one word.
-#[inline]
-pub(crate) fn has_word(arena: &Arena, slot: usize, key: &[u8]) -> bool
+/// Whether a slot has the key, which is short.
+#[inline(always)]
+pub(crate) fn has_short(arena: &Arena, slot: usize, key: &[u8]) -> bool
     requires slot { slot < length arena.now.slots }
-    requires word { length key.now ≡ WORD_BYTES }
+    requires short { IsShort key.now }
     ensures { result ≡ eq_by_cmp (slice_cmp nat_cmp) key.now (key_at arena.now.slots slot) }
 {
     let held = arena.key(slot);
-    if held.len() == WORD_BYTES {
-        same_words(key, held)
+    if held.len() == key.len() {
+        same_short(key, held)
     } else {
         false
     }

@@ -1,8 +1,8 @@
 //! Positions in a vector of slots whose keys ascend.
 ghost use Rattle.std.specs.Prelude.{◌≡◌, ◌≢◌, ◌<◌, ℕ, Some, length, IfSome, IfNone, option_copied, slice_get};
 ghost use Rattle.element_store.specs.State.{key_at, slot_of};
-ghost use Rattle.hash_index.specs.Order.{IsLeastOf};
-ghost use Rattle.hash_index.specs.Sorted.{AllWithin, IsAscending, IsPosition, IsPositionAbove};
+ghost use Rattle.hash_index.specs.Order.{IsAscending, IsLeastOf};
+ghost use Rattle.hash_index.specs.Sorted.{AllWithin, IsPosition, IsPositionAbove};
 
 use crate::keys::{has_key, is_less};
 use crate::place::Place;

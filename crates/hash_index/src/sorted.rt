@@ -114,6 +114,10 @@ impl Index for Sorted {
         least_above(&self.slots, arena, bound)
     }
 
+    fn in_order(&self, alloc: Global, _arena: &Arena) -> Result<Vec<usize>, AllocError> {
+        copy_of(alloc, &self.slots)
+    }
+
     fn copy(&self, alloc: Global) -> Result<Self, AllocError> {
         Ok(Sorted {
             slots: copy_of(alloc, &self.slots)?,

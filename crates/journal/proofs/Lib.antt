@@ -1,1 +1,3 @@
 pub mod Storing
+pub mod Indexing
+pub mod Counting

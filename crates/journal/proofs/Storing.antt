@@ -1,14 +1,17 @@
 -- A row stands for its entry, and goes on to where more bytes come behind its own.
 use Rattle.std.proofs.Common.{◌≡◌, ◌∙◌, ℕ, inl, inr, suc, ◌+◌, ◌≤◌, List, [], ◌∷◌, ◌++◌, map, length, take, drop, Some, None, ◌-◌, refl, sym, ap, subst, arith}
 use Rattle.std.specs.Prelude.{slice_get}
-use Rattle.std.proofs.lemmas.List.{append_assoc, append-nil, drop_at, take_at, drop-append-le, take-append-le, length-append, length-drop, map_push}
+use Rattle.std.proofs.lemmas.List.{append_assoc, append-nil, drop_at, take_at, drop-append-le, take-append-le, length-append, length-drop}
 use Rattle.bpf_model.proofs.Lists.{get-append_cases}
 use Rattle.bpf_model.specs.declared.limits.TheConstants.{KEY_BYTES, VALUE_BYTES}
 use Rattle.arrayvec.specs.ArrayVec.{ArrayVec}
 use Rattle.bpf_model.specs.declared.event.Event.TheVariants as events
 use Rattle.bpf_model.specs.declared.event.Answer.{Answer}
 use Rattle.bpf_model.specs.declared.event.Answer.TheVariants as answers
-use Rattle.journal.specs.Rows.{answer_bytes, answer_of, entry_bytes, entry_from, entry_of, string_in, IsRowOf, IsStored, AreStored}
+use Rattle.std.proofs.lemmas.Grind.{flat_map-append}
+use Rattle.std.specs.Prelude.{replicate}
+use Rattle.journal.specs.Rows.{all_entries, answer_bytes, answer_of, entries_of, entry_bytes, entry_from, entry_of}
+use Rattle.journal.specs.Rows.{span_of, string_in, IsRowOf, IsStored, AreStored}
 use Rattle.bpf_model.specs.declared.entry.Entry.{Entry}
 use Rattle.journal.specs.declared.row.Outcome.{Outcome}
 use Rattle.journal.specs.declared.row.Row.{Row}
@@ -63,6 +66,7 @@ updated-row worker start map flags k l key value answer outcome same ks ls short
       ∙ (ap (λ (x : ArrayVec ℕ). entry_from worker (events.Update map key x flags) (answer_of outcome)) value-is
       ∙ ap (entry_from worker (events.Update map key value flags)) same);
   stored = let n = two-strings key.items value.items (answer_bytes answer) in (omega (arith, n, ks, ls), short_key, short_value);
+  one = refl;
 }
 
 pub found-row : (worker start map k l : ℕ) (key value : ArrayVec ℕ) → k ≡ length key.items → l ≡ length value.items → k ≤ KEY_BYTES → l ≤ VALUE_BYTES →
@@ -85,6 +89,7 @@ found-row worker start map k l key value ks ls short_key short_value = record {
       ∙ ap (λ (x : ArrayVec ℕ). entry_from worker (events.Read map key) (answers.Found (Some x))) value-is;
   stored = let n : length (key.items ++ value.items) ≡ length key.items + length value.items =
       length-append key.items value.items in (omega (arith, n, ks, ls), short_key, short_value);
+  one = refl;
 }
 
 -- more bytes behind
@@ -101,7 +106,7 @@ entry-kept bytes more (rows.Started worker len prog run start) h =
 entry-kept bytes more (rows.NotStarted worker refusal len prog start) h =
     ap (λ (x : ArrayVec ℕ). entry_from worker (events.Start prog x) (answers.Refused refusal))
     (string-kept bytes more start len h.0)
-entry-kept bytes more (rows.Moved worker run) h = refl
+entry-kept bytes more (rows.Moved worker run count) h = refl
 entry-kept bytes more (rows.Exited worker run value) h = refl
 entry-kept bytes more (rows.NotStepped worker refusal run) h = refl
 entry-kept bytes more (rows.Updated worker outcome k l map flags start) h =
@@ -137,7 +142,7 @@ entry-kept bytes more (rows.NotDropped worker refusal run) h = refl
 stored-later : (n m : ℕ) (row : Row) → n ≤ m → IsStored n row → IsStored m row
 stored-later n m (rows.Started worker len prog run start) l h = let a = h.0 in (omega (arith, a, l), h.1)
 stored-later n m (rows.NotStarted worker refusal len prog start) l h = let a = h.0 in (omega (arith, a, l), h.1)
-stored-later n m (rows.Moved worker run) l h = tt
+stored-later n m (rows.Moved worker run count) l h = h
 stored-later n m (rows.Exited worker run value) l h = tt
 stored-later n m (rows.NotStepped worker refusal run) l h = tt
 stored-later n m (rows.Updated worker outcome k v map flags start) l h = let a = h.0 in (omega (arith, a, l), h.1, h.2)
@@ -165,16 +170,33 @@ stored-push all bytes e row each is =
     (λ k r h. stored-later (length bytes) (length (bytes ++ entry_bytes e)) r (omega (arith, l)) (each k r h))
     (subst (λ (n : ℕ). IsStored n row) (sym l) is.stored)
 
-entries-kept : (all : List Row) (bytes more : List ℕ) → AreStored all bytes → map (entry_of (bytes ++ more)) all ≡ map (entry_of bytes) all
+entries-kept : (all : List Row) (bytes more : List ℕ) → AreStored all bytes → all_entries (bytes ++ more) all ≡ all_entries bytes all
 entries-kept [] bytes more each = refl
 entries-kept (row ∷ all) bytes more each =
-    ap (λ (e : Entry). e ∷ map (entry_of (bytes ++ more)) all) (entry-kept bytes more row (each 0 row refl))
-    ∙ ap (λ (es : List Entry). entry_of bytes row ∷ es) (entries-kept all bytes more (λ k r h. each (suc k) r h))
+    ap (λ (e : Entry). replicate (span_of row) e ++ all_entries (bytes ++ more) all) (entry-kept bytes more row (each 0 row refl))
+    ∙ ap (λ (es : List Entry). entries_of bytes row ++ es) (entries-kept all bytes more (λ k r h. each (suc k) r h))
 
 pub entries-push : (all : List Row) (bytes : List ℕ) (e : Entry) (row : Row) → AreStored all bytes →
-    IsRowOf (length bytes) e row → map (entry_of (bytes ++ entry_bytes e)) (all ++ row ∷ []) ≡ map (entry_of bytes)
-    all ++ e ∷ []
+    IsRowOf (length bytes) e row → all_entries (bytes ++ entry_bytes e) (all ++ row ∷ []) ≡ all_entries bytes all ++ e ∷ []
 entries-push all bytes e row each is =
-    map_push (entry_of (bytes ++ entry_bytes e)) all row
-    ∙ (ap (λ (es : List Entry). es ++ entry_of (bytes ++ entry_bytes e) row ∷ []) (entries-kept all bytes (entry_bytes e) each)
-    ∙ ap (λ (x : Entry). map (entry_of bytes) all ++ x ∷ []) (is.same bytes refl))
+    flat_map-append (entries_of (bytes ++ entry_bytes e)) all (row ∷ [])
+    ∙ (ap (λ (es : List Entry). es ++ (entries_of (bytes ++ entry_bytes e) row ++ [])) (entries-kept all bytes (entry_bytes e) each)
+    ∙ (ap (λ (n : ℕ). all_entries bytes all ++ (replicate n (entry_of (bytes ++ entry_bytes e) row) ++ [])) is.one
+    ∙ ap (λ (x : Entry). all_entries bytes all ++ x ∷ []) (is.same bytes refl)))
+
+-- so many moves more
+pub stored-moves : (all : List Row) (bytes : List ℕ) (worker run count : ℕ) → AreStored all bytes → 1 ≤ count →
+    AreStored (all ++ rows.Moved worker run count ∷ []) bytes
+stored-moves all bytes worker run count each some = stored-more (length bytes) all (rows.Moved worker run count) each some
+
+pub entries-moves : (all : List Row) (bytes : List ℕ) (worker run count : ℕ) →
+    all_entries bytes (all ++ rows.Moved worker run count ∷ []) ≡ all_entries bytes all ++ replicate count
+    (entry_from worker (events.Step run) answers.Moved)
+entries-moves all bytes worker run count =
+    flat_map-append (entries_of bytes) all (rows.Moved worker run count ∷ [])
+    ∙ ap (λ (es : List Entry). all_entries bytes all ++ es) (append-nil (replicate count (entry_from worker (events.Step run) answers.Moved)))
+
+-- a row has one entry at least, by its kind
+pub one-at-least : (n : ℕ) (row : Row) → IsStored n row → 1 ≤ span_of row
+one-at-least n (rows.Moved worker run count) h = h
+one-at-least n row h = omega arith

@@ -1,9 +1,11 @@
--- How a journal is kept: a row of fixed size for each entry, and the bytes of all of them in one
--- list.
+-- How a journal is kept: rows of fixed size, each for one entry or for several equal ones, and the
+-- bytes of all entries in one list.
 use Rattle.std.specs.Prelude.{◌≡◌, ℕ, ◌+◌, ◌≤◌, nat_lt, nat_le, Bool, ◌&&◌, List, [], ◌++◌}
-use Rattle.std.specs.Prelude.{Some, None, Ok, Err, map, length, slice_get, take, drop}
+use Rattle.std.specs.Prelude.{Some, None, Ok, Err, length, replicate, slice_get, take, drop}
+use Rattle.std.specs.List.{flat_map}
 use Rattle.arrayvec.specs.ArrayVec.{ArrayVec}
 use Rattle.bpf_model.specs.declared.limits.TheConstants.{CTX_BYTES, KEY_BYTES, VALUE_BYTES}
+use Rattle.bpf_model.specs.declared.limits.TheConstants.{MAX_JOURNAL}
 use Rattle.bpf_model.specs.declared.event.Event.{Event}
 use Rattle.bpf_model.specs.declared.event.Event.TheVariants as events
 use Rattle.bpf_model.specs.declared.event.Answer.{Answer}
@@ -48,7 +50,7 @@ IsOutcome (answers.Ret ret) = Unit {0}
 IsOutcome (answers.Refused refusal) = Unit {0}
 IsOutcome answer = ⊥
 
--- the entry that a row stands for, by these bytes
+-- the entry that a row stands for, once or several times, by these bytes
 abbrev pub entry_of : List ℕ → Row → Entry
 entry_of bytes (rows.Started worker len prog run start) =
     record {
@@ -62,7 +64,7 @@ entry_of bytes (rows.NotStarted worker refusal len prog start) =
       event = events.Start prog (string_in bytes start len);
       answer = answers.Refused refusal;
     }
-entry_of bytes (rows.Moved worker run) =
+entry_of bytes (rows.Moved worker run count) =
     record { worker = worker; event = events.Step run; answer = answers.Moved }
 entry_of bytes (rows.Exited worker run value) =
     record { worker = worker; event = events.Step run; answer = answers.Exited value }
@@ -116,6 +118,18 @@ entry_of bytes (rows.Dropped worker run) =
 entry_of bytes (rows.NotDropped worker refusal run) =
     record { worker = worker; event = events.Drop run; answer = answers.Refused refusal }
 
+-- how many entries a row stands for
+abbrev pub span_of : Row → ℕ
+span_of (rows.Moved worker run count) = count
+span_of row = 1
+
+-- the entries that a row stands for, and those of all rows
+abbrev pub entries_of : List ℕ → Row → List Entry
+entries_of bytes row = replicate (span_of row) (entry_of bytes row)
+
+abbrev pub all_entries : List ℕ → List Row → List Entry
+all_entries bytes all = flat_map (entries_of bytes) all
+
 -- the row is of a read
 abbrev pub IsReadRow : Row → Type 0
 IsReadRow (rows.Found worker key_len value_len map start) = Unit {0}
@@ -124,12 +138,12 @@ IsReadRow (rows.NotRead worker refusal key_len map start) = Unit {0}
 IsReadRow row = ⊥
 
 -- The strings of a row end before the end of so many bytes, and each is no longer than its kind may
--- be.
+-- be. A row of moves has one at least.
 abbrev pub IsStored : ℕ → Row → Type 0
 IsStored total (rows.Started worker len prog run start) = (start + len ≤ total) × (len ≤ CTX_BYTES)
 IsStored total (rows.NotStarted worker refusal len prog start) =
     (start + len ≤ total) × (len ≤ CTX_BYTES)
-IsStored total (rows.Moved worker run) = Unit {0}
+IsStored total (rows.Moved worker run count) = 1 ≤ count
 IsStored total (rows.Exited worker run value) = Unit {0}
 IsStored total (rows.NotStepped worker refusal run) = Unit {0}
 IsStored total (rows.Updated worker outcome key_len value_len map flags start) =
@@ -152,17 +166,26 @@ IsStored total (rows.NotDropped worker refusal run) = Unit {0}
 abbrev pub AreStored : List Row → List ℕ → Type 0
 AreStored all bytes = (k : ℕ) (row : Row) → slice_get all k ≡ Some row → IsStored (length bytes) row
 
--- The row stands for the entry where the strings of the entry begin at `start`, behind any others.
+-- The row stands for the entry alone where the strings of the entry begin at `start`, behind any
+-- others.
 pub record IsRowOf (start : ℕ) (e : Entry) (row : Row) : Type 0 where
   pub same : (before : List ℕ) → length before ≡ start → entry_of (before ++ entry_bytes e) row ≡ e
   pub stored : IsStored (start + length (entry_bytes e)) row
+  pub one : span_of row ≡ 1
 
 abbrev pub entry_from : ℕ → Event → Answer → Entry
 entry_from worker event answer = record { worker = worker; event = event; answer = answer }
 
+-- The rows are stored, the entries are so many, and no more than there may be.
+pub record AreCounted (all : List Row) (bytes : List ℕ) (total limit : ℕ) : Type 0 where
+  pub stored : AreStored all bytes
+  pub count : total ≡ length (all_entries bytes all)
+  pub short : total ≤ limit
+  pub few : limit ≤ MAX_JOURNAL
+
 -- Room for one more entry: the list is not full, and neither a row nor the most strings of an entry
 -- need memory.
-abbrev pub is_reserved : ℕ → ℕ → ℕ → ℕ → ℕ → Bool
-is_reserved count limit row_room total byte_room =
-    nat_lt count limit && (nat_lt count row_room
+abbrev pub is_reserved : ℕ → ℕ → ℕ → ℕ → ℕ → ℕ → Bool
+is_reserved count limit row_count row_room total byte_room =
+    nat_lt count limit && (nat_lt row_count row_room
     && nat_le (total + (KEY_BYTES + VALUE_BYTES)) byte_room)

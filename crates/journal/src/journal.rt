@@ -1,15 +1,18 @@
 //! The list of entries.
 ghost use Rattle.std.specs.Prelude.{◌≡◌, ◌≤◌, ◌↔◌, ◌==◌, ◌++◌, ◌∷◌, [], true, false};
-ghost use Rattle.std.specs.Prelude.{length, slice_get, Err, OnOk, OnErr};
+ghost use Rattle.std.specs.Prelude.{◌+◌, ◌<◌, length, replicate, slice_get, Err, OnOk, OnErr};
+ghost use Rattle.bpf_model.specs.declared.event.Event.TheVariants.{Step};
+ghost use Rattle.bpf_model.specs.declared.event.Answer.TheVariants.{Moved};
 ghost use Rattle.bpf_model.specs.declared.limits.TheConstants.{MAX_JOURNAL};
 ghost use Rattle.journal.specs.Entries.{IsAnswerTo, with_room};
 ghost use Rattle.journal.specs.Rows.{entry_from};
 
 use crate::bytes::append;
 use crate::fault::JournalFault;
+use crate::finding::entry_at;
 use crate::making::row_of;
 use crate::row::Row;
-use bpf_model::{Answer, Entry, Event, KEY_BYTES, MAX_JOURNAL, VALUE_BYTES};
+use bpf_model::{Answer, Entry, Event, KEY_BYTES, MAX_JOURNAL, RunId, VALUE_BYTES};
 use std::alloc::Global;
 use std::marker::Model;
 
@@ -19,31 +22,31 @@ const ENTRY_BYTES: usize = KEY_BYTES + VALUE_BYTES;
 /// What workers asked and were answered, in order: at most `limit` entries. Contracts see the
 /// entries, the limit, and whether one more can be added without memory.
 ///
-/// An entry takes 32 bytes, and further those of the keys, values and contexts that it has.
+/// An entry takes 32 bytes, and further those of the keys, values and contexts that it has. Moves
+/// that are added together take 32 bytes in all.
 #[derive(Drop)]
 pub struct Journal {
     rows: Vec<Row>,
     bytes: Vec<u8>,
+    total: usize,
     limit: usize,
 }
 
 impl Model for Journal {
-    ghost use Rattle.std.specs.Prelude.{◌≤◌, map, vec_len, vec_capacity};
-    ghost use Rattle.bpf_model.specs.declared.limits.TheConstants.{MAX_JOURNAL};
+    ghost use Rattle.std.specs.Prelude.{vec_len, vec_capacity};
     ghost use Rattle.journal.specs.Entries.{JournalView};
-    ghost use Rattle.journal.specs.Rows.{entry_of, is_reserved, AreStored};
+    ghost use Rattle.journal.specs.Rows.{all_entries, is_reserved, AreCounted};
 
     ghost Value = { JournalView };
 
     ghost view = { λ j. record {
-      entries = map (entry_of j.bytes.items) j.rows.items;
+      entries = all_entries j.bytes.items j.rows.items;
       limit = j.limit;
-      has_room = is_reserved (vec_len j.rows) j.limit (vec_capacity j.rows)
+      has_room = is_reserved j.total j.limit (vec_len j.rows) (vec_capacity j.rows)
           (vec_len j.bytes) (vec_capacity j.bytes);
     } };
 
-    ghost invariant = { λ j. AreStored j.rows.items j.bytes.items
-        × (vec_len j.rows ≤ j.limit) × (j.limit ≤ MAX_JOURNAL) };
+    ghost invariant = { λ j. AreCounted j.rows.items j.bytes.items j.total j.limit };
 }
 
 impl Journal {
@@ -62,6 +65,7 @@ impl Journal {
         Journal {
             rows: Vec::new(alloc),
             bytes: Vec::new(alloc),
+            total: 0,
             limit,
         }
     }
@@ -70,14 +74,14 @@ impl Journal {
     pub fn len(&self) -> usize
         ensures { result ≡ length self.now.entries }
     {
-        self.rows.len()
+        self.total
     }
 
     /// Whether it has no entry.
     pub fn is_empty(&self) -> bool
         ensures { result ≡ (length self.now.entries == 0) }
     {
-        self.rows.is_empty()
+        self.total == 0
     }
 
     /// How many entries it may have.
@@ -87,14 +91,12 @@ impl Journal {
         self.limit
     }
 
-    /// The entry of this index, counted from 0; `None` past the last.
+    /// The entry of this index, counted from 0; `None` past the last. Where moves were added together
+    /// it takes as many steps as there are rows before it.
     pub fn entry(&self, index: usize) -> Option<Entry>
         ensures { result ≡ slice_get self.now.entries index }
     {
-        match self.rows.get(index) {
-            Some(row) => Some(row.entry(&self.bytes)),
-            None => None,
-        }
+        entry_at(&self.rows, &self.bytes, self.total, index)
     }
 
     /// Sees to it that one more entry can be added without memory, whatever it is.
@@ -108,7 +110,7 @@ impl Journal {
             (length self.old.entries ≡ self.old.limit) }
         ensures memory { result ≡ Err JournalFault.Memory → self.old.has_room ≡ false }
     {
-        if self.rows.len() == self.limit {
+        if self.total == self.limit {
             return Err(JournalFault::Full);
         }
         self.rows.reserve(1)?;
@@ -140,6 +142,21 @@ impl Journal {
         let row = row_of(worker, event, answer, self.bytes.len());
         append(&mut self.bytes, event, answer);
         self.rows.push_reserved(row);
+        self.total += 1;
+    }
+
+    /// Adds so many equal entries of this worker, for which there is room: steps of this run that were
+    /// answered with a move. It takes no memory, and one row.
+    pub fn push_moves(&mut self, worker: u8, run: RunId, count: usize)
+        requires room { self.old.has_room ≡ true }
+        requires some { 0 < count }
+        requires fits { length self.old.entries + count ≤ self.old.limit }
+        ensures entries { self.new.entries
+            ≡ self.old.entries ++ replicate count (entry_from worker (Step run) Moved) }
+        ensures limit { self.new.limit ≡ self.old.limit }
+    {
+        self.rows.push_reserved(Row::Moved { worker, run, count });
+        self.total += count;
     }
 
     /// Takes all entries out, and keeps their memory for later ones.
@@ -149,6 +166,7 @@ impl Journal {
     {
         self.rows.clear();
         self.bytes.clear();
+        self.total = 0;
     }
 
     /// A law: it has no more entries than it may have.

@@ -6,6 +6,7 @@
 
 mod bytes;
 mod fault;
+mod finding;
 mod journal;
 mod making;
 mod row;

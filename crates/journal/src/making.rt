@@ -36,7 +36,11 @@ fn step_row(worker: u8, start: usize, run: RunId, answer: &Answer) -> Row
     ensures { IsRowOf start (entry_from worker (events.Step run) answer.now) result }
 {
     match answer {
-        Answer::Moved => Row::Moved { worker, run },
+        Answer::Moved => Row::Moved {
+            worker,
+            run,
+            count: 1,
+        },
         Answer::Exited(value) => Row::Exited {
             worker,
             run,

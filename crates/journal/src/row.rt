@@ -1,6 +1,6 @@
 //! The fixed part of an entry.
 ghost use Rattle.std.specs.Prelude.{◌≡◌, ℕ, List, length};
-ghost use Rattle.journal.specs.Rows.{IsReadRow, IsStored, answer_of, entry_of};
+ghost use Rattle.journal.specs.Rows.{IsReadRow, IsStored, answer_of, entry_of, span_of};
 
 use crate::bytes::string_at;
 use bpf_model::{
@@ -31,8 +31,8 @@ impl Outcome {
 }
 
 /// An entry without its bytes: those begin at `start`, first the key or the context, then the
-/// value, each of the event or of the answer. Shorter fields come before longer ones, so that a
-/// row takes 32 bytes.
+/// value, each of the event or of the answer. A row of moves stands for as many equal entries as
+/// it counts. Shorter fields come before longer ones, so that a row takes 32 bytes.
 #[derive(Clone, Copy, Debug)]
 pub(crate) enum Row {
     Started {
@@ -52,6 +52,7 @@ pub(crate) enum Row {
     Moved {
         worker: u8,
         run: RunId,
+        count: usize,
     },
     Exited {
         worker: u8,
@@ -124,6 +125,16 @@ pub(crate) enum Row {
 }
 
 impl Row {
+    /// How many entries it stands for, which are equal.
+    pub(crate) fn span(&self) -> usize
+        ensures { result ≡ span_of self.now }
+    {
+        match self {
+            Row::Moved { count, .. } => *count,
+            _ => 1,
+        }
+    }
+
     /// The entry that it stands for.
     pub(crate) fn entry(&self, bytes: &[u8]) -> Entry
         requires { IsStored (length bytes.now) self.now }

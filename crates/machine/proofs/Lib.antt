@@ -15,4 +15,5 @@ pub mod Answering
 pub mod StandingLaws
 pub mod RunningStands
 pub mod RunningOn
+pub mod Walking
 pub mod Possible

@@ -6,3 +6,4 @@ pub mod Requests
 pub mod RunWords
 pub mod Steps
 pub mod Standing
+pub mod Walks

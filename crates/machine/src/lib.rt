@@ -18,6 +18,7 @@ mod resume;
 mod run;
 mod step;
 mod transfer;
+mod walk;
 mod workspace;
 
 pub use law::{
@@ -28,4 +29,5 @@ pub use regions::{SLOT_BASE, SPAN};
 pub use request::{Local, Next, Request};
 pub use run::Run;
 pub use step::Halt;
+pub use walk::{Walk, WalkEnd};
 pub use workspace::Workspace;

@@ -21,7 +21,7 @@ use Rattle.element_store.proofs.BlockLaws.{room, block-written, block-other, blo
 use Rattle.view_laws.specs.Views.{updated, updated_by, written_by, overwritten_slot, written}
 use Rattle.maps.specs.Arrays.{index_slot, array_view, IsArrayMap}
 use Rattle.maps.specs.Shown.{IsOccupied}
-use Rattle.model_laws.proofs.Indices.{index-long}
+use Rattle.model_laws.proofs.Indices.{index-long, index-got}
 
 -- a list that has at each index what a function makes of it
 range-as : {A : Type 0} (f : ℕ → A) (n : ℕ) (xs : List A) → length xs ≡ n → ((j : ℕ) → j < n → slice_get xs j ≡ Some (f j)) → map f (range_with_len 0 n) ≡ xs
@@ -48,6 +48,13 @@ module _ (shape : MapShape) (values : List ℕ) where
 
   pub value-at : (i : ℕ) → i < shape.entries → value_at view.slots i ≡ block shape.value_len i values
   value-at i less = ap value_in (slot-at i less)
+
+  pub key-is : (i : ℕ) → i < shape.entries → key_at view.slots i ≡ index_key i
+  key-is i less = ap key_in (slot-at i less)
+
+  -- a map slot that a key has is that of an index
+  pub linked-in : (i : ℕ) → get view.index (key_at view.slots i) ≡ Some i → i < shape.entries
+  linked-in i h = (index-got shape.entries (key_at view.slots i) i h).0
 
   -- a map slot that is occupied is that of an index
   pub occupied-in : (i : ℕ) → IsOccupied view i → i < shape.entries

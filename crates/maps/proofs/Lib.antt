@@ -13,3 +13,5 @@ pub mod NewMaps
 pub mod IndexOrder
 pub mod Arrays
 pub mod Becoming
+pub mod Above
+pub mod InOrder

@@ -7,8 +7,7 @@ use Rattle.std.specs.Str.{IsAscii}
 use Rattle.std.proofs.lemmas.Bool.{and_parts}
 use Rattle.std.proofs.lemmas.Bool.Decides.{nat_tests}
 use Rattle.std.proofs.lemmas.List.{map-append, length-append, length-map}
-use Rattle.maps.specs.declared.name.TheConstants.{NAME_BYTES}
-use Rattle.maps.specs.Registry.{begins_with_letter, is_name, is_name_character}
+use Rattle.maps.specs.Registry.{begins_with_letter, is_name, is_name_character, longest_name}
 
 pub any_named : {A B : Type 0} (v : A → B) (test : B → Bool) (xs : List A) → list_any (λ x. test (v x)) xs ≡ list_any test (map v xs)
 any_named v test [] = refl
@@ -52,5 +51,5 @@ all_small (c ∷ name) e (suc i) = all_small name (and_parts (is_name_character 
 
 pub ascii_name : (name : List ℕ) → is_name name ≡ true → IsAscii name
 ascii_name name e =
-    let rest = (and_parts (begins_with_letter (slice_get name 0)) (nat_le (length name) NAME_BYTES && list_all is_name_character name) e).1 in
-    all_small name (and_parts (nat_le (length name) NAME_BYTES) (list_all is_name_character name) rest).1
+    let rest = (and_parts (begins_with_letter (slice_get name 0)) (nat_le (length name) longest_name && list_all is_name_character name) e).1 in
+    all_small name (and_parts (nat_le (length name) longest_name) (list_all is_name_character name) rest).1

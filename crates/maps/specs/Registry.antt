@@ -17,7 +17,6 @@ use Rattle.std.specs.Coded.{Coded, code_by, coded×, coded_list}
 use Rattle.maps.specs.declared.fault.MapFault.{MapFault}
 use Rattle.maps.specs.declared.fault.MapFault.TheVariants.{BadName, NameTaken, BadShape, TooMany}
 use Rattle.maps.specs.declared.fault.MapFault.TheVariants.{Memory}
-use Rattle.maps.specs.declared.name.TheConstants.{NAME_BYTES}
 
 pub record RegistryView : Type 0 where
   pub names : List (List ℕ)
@@ -41,10 +40,14 @@ abbrev pub begins_with_letter : Option ℕ → Bool
 begins_with_letter None = false
 begins_with_letter (Some c) = is_ascii_lowercase c
 
--- A name of a map: 1 to NAME_BYTES of these characters, the first a letter.
+-- the most bytes of a name
+abbrev pub longest_name : ℕ
+longest_name = 32
+
+-- A name of a map: 1 to `longest_name` of these characters, the first a letter.
 abbrev pub is_name : List ℕ → Bool
 is_name name = begins_with_letter (slice_get name 0)
-    && (nat_le (length name) NAME_BYTES && list_all is_name_character name)
+    && (nat_le (length name) longest_name && list_all is_name_character name)
 
 -- whether the numbers of a shape are those of this kind: an array has keys of INDEX_BYTES, no
 -- further map slots, and uses each once

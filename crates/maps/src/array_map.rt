@@ -6,7 +6,7 @@ ghost use Rattle.bpf_model.specs.View.{new_map_view};
 
 use crate::admission::slot_to_write;
 use crate::counts::Counts;
-use crate::index_key::{index_key, index_of, next_index};
+use crate::index_key::{index_key, index_of, indices_in_order, next_index};
 use crate::map_table::MapTable;
 use bpf_model::{Errno, Given, KeyBytes, MapShape, ValueBytes, Width, array_of, number_of};
 use element_store::{block, write_block, write_inside, zero_blocks};
@@ -137,11 +137,17 @@ impl MapTable for ArrayMap {
     fn next_above(&self, bound: Option<&[u8]>) -> Option<(KeyBytes, ValueBytes)> {
         match next_index(bound, self.shape.entries) {
             None => None,
-            Some(index) => {
-                let key = array_of(&index_key(index));
-                let value = array_of(block(&self.values, self.shape.value_len, index));
-                Some((key, value))
-            }
+            Some(index) => Some(self.element(index)),
         }
+    }
+
+    fn in_order(&self, alloc: Global) -> Result<Vec<usize>, AllocError> {
+        indices_in_order(alloc, self.shape.entries)
+    }
+
+    fn element(&self, slot: usize) -> (KeyBytes, ValueBytes) {
+        let value = array_of(block(&self.values, self.shape.value_len, slot));
+        let key = array_of(&index_key(slot));
+        (key, value)
     }
 }

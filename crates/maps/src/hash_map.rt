@@ -160,11 +160,18 @@ impl<I: Index> MapTable for HashMap<I> {
     fn next_above(&self, bound: Option<&[u8]>) -> Option<(KeyBytes, ValueBytes)> {
         match self.parts.next_above(bound) {
             None => None,
-            Some(slot) => {
-                let key = array_of(self.parts.key(slot));
-                let value = array_of(self.parts.value(slot));
-                Some((key, value))
-            }
+            Some(slot) => Some(self.element(slot)),
         }
+    }
+
+    fn in_order(&self, alloc: Global) -> Result<Vec<usize>, AllocError> {
+        self.parts.in_order(alloc)
+    }
+
+    fn element(&self, slot: usize) -> (KeyBytes, ValueBytes) {
+        self.parts.is_parted();
+        let key = array_of(self.parts.key(slot));
+        let value = array_of(self.parts.value(slot));
+        (key, value)
     }
 }

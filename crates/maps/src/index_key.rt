@@ -1,12 +1,13 @@
 //! The keys of an array: its indices, four bytes each, the lowest first.
-ghost use Rattle.std.specs.Prelude.{◌≡◌, ◌≤◌, ◌<◌, ◌^◌, ◌↔◌, IsTrue, Some, IfSome, IfNone, option_copied, slice_index};
+ghost use Rattle.std.specs.Prelude.{◌≡◌, ◌≤◌, ◌<◌, ◌^◌, ◌↔◌, IsTrue, None, Some, IfOk, IfSome, IfNone, option_copied, slice_index};
 ghost use Rattle.std.specs.FinMap as map;
 ghost use Rattle.bpf_model.specs.declared.limits.TheConstants.{MAX_ENTRIES};
 ghost use Rattle.bpf_model.specs.MapState as state;
 ghost use Rattle.bpf_model.specs.View.{index_below};
-ghost use Rattle.hash_index.specs.Order.{IsAbove, NoneAbove, NoneBetween};
+ghost use Rattle.hash_index.specs.Order.{AreInOrder, IsAbove, NoneAbove, NoneBetween};
 
 use bpf_model::INDEX_BYTES;
+use std::alloc::{AllocError, Global};
 
 /// How many values a byte has.
 const BYTE_VALUES: usize = 256;
@@ -90,4 +91,18 @@ pub(crate) fn next_index(bound: Option<&[u8]>, limit: usize) -> Option<usize>
         None => index_above(&[], limit),
         Some(bytes) => index_above(bytes, limit),
     }
+}
+
+/// The indices below a limit, in byte order of their keys. The error is that there is no memory left.
+pub(crate) fn indices_in_order(alloc: Global, limit: usize) -> Result<Vec<usize>, AllocError>
+    requires { limit ≤ MAX_ENTRIES }
+    ensures { IfOk result (λ v. AreInOrder (index_below limit) state.index_key None v.items) }
+{
+    let mut indices = Vec::with_capacity(alloc, limit)?;
+    let mut next = next_index(None, limit);
+    while let Some(index) = next {
+        indices.push(index)?;
+        next = next_index(Some(&index_key(index)), limit);
+    }
+    Ok(indices)
 }

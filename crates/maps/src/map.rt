@@ -1,13 +1,13 @@
 //! A map of either kind.
-ghost use Rattle.std.specs.Prelude.{◌≡◌, ◌<◌, ◌≤◌, ◌+◌, [], length, slice_get, Some, IfSome, IfNone, IfOk, OnErr, option_copied, option_map};
+ghost use Rattle.std.specs.Prelude.{◌≡◌, ◌<◌, ◌≤◌, ◌+◌, [], length, slice_get, Some, None, IfSome, IfNone, IfOk, OnErr, option_copied, option_map};
 ghost use Rattle.std.specs.FinMap as map;
 ghost use Rattle.bpf_model.specs.declared.limits.TheConstants.{VALUE_BYTES, MAX_ENTRIES, MAX_SPARE};
 ghost use Rattle.bpf_model.specs.Access.{byte_count, number_at};
 ghost use Rattle.bpf_model.specs.Access.{with_bytes};
 ghost use Rattle.bpf_model.specs.Shapes.{IsShape};
 ghost use Rattle.bpf_model.specs.View.{new_map_view};
-ghost use Rattle.element_store.specs.State.{value_at};
-ghost use Rattle.hash_index.specs.Order.{NoneAbove};
+ghost use Rattle.element_store.specs.State.{key_at, value_at};
+ghost use Rattle.hash_index.specs.Order.{AreInOrder, NoneAbove};
 ghost use Rattle.view_laws.specs.Views.{updated, deleted, written, turned_view, value_read};
 ghost use Rattle.maps.specs.Shown.{IsOccupied, IsReaped, IsNext};
 ghost use Rattle.maps.specs.Counting.{counts_of};
@@ -231,6 +231,30 @@ impl Map {
         match &self.elements {
             Elements::Hash(map) => map.next_above(bound),
             Elements::Array(map) => map.next_above(bound),
+        }
+    }
+
+    /// The map slots of all elements, in byte order of their keys. This alone and `copy` take memory; the error is
+    /// that there is none left.
+    pub fn in_order(&self, alloc: Global) -> Result<Vec<usize>, AllocError>
+        ensures { IfOk result (λ v.
+            AreInOrder self.now.index (key_at self.now.slots) None v.items) }
+    {
+        match &self.elements {
+            Elements::Hash(map) => map.in_order(alloc),
+            Elements::Array(map) => map.in_order(alloc),
+        }
+    }
+
+    /// The key and the value of a linked element, by its map slot.
+    pub fn element(&self, slot: usize) -> (KeyBytes, ValueBytes)
+        requires { map.get self.now.index (key_at self.now.slots slot) ≡ Some slot }
+        ensures key { result.0.items ≡ key_at self.now.slots slot }
+        ensures value { result.1.items ≡ value_at self.now.slots slot }
+    {
+        match &self.elements {
+            Elements::Hash(map) => map.element(slot),
+            Elements::Array(map) => map.element(slot),
         }
     }
 }

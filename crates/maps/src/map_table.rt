@@ -1,18 +1,19 @@
 //! What a map of either kind answers and does.
-ghost use Rattle.std.specs.Prelude.{◌≡◌, ◌<◌, ◌≤◌, ◌+◌, [], List, ℕ, length, slice_get, Some, IfSome, IfNone, OnErr, option_copied, option_map};
+ghost use Rattle.std.specs.Prelude.{◌≡◌, ◌<◌, ◌≤◌, ◌+◌, [], List, ℕ, length, slice_get, Some, None, IfSome, IfNone, IfOk, OnErr, option_copied, option_map};
 ghost use Rattle.std.specs.FinMap as map;
 ghost use Rattle.bpf_model.specs.declared.limits.TheConstants.{VALUE_BYTES, MAX_ENTRIES, MAX_SPARE};
 ghost use Rattle.bpf_model.specs.Access.{byte_count, number_at, with_bytes};
 ghost use Rattle.bpf_model.specs.Shapes.{IsShape};
 ghost use Rattle.bpf_model.specs.View.{MapView};
-ghost use Rattle.element_store.specs.State.{value_at};
-ghost use Rattle.hash_index.specs.Order.{NoneAbove};
+ghost use Rattle.element_store.specs.State.{key_at, value_at};
+ghost use Rattle.hash_index.specs.Order.{AreInOrder, NoneAbove};
 ghost use Rattle.view_laws.specs.Views.{updated, deleted, written, turned_view, value_read};
 ghost use Rattle.maps.specs.Shown.{IsOccupied, IsReaped, IsNext};
 ghost use Rattle.maps.specs.Counting.{counts_of};
 
 use crate::counts::Counts;
 use bpf_model::{Errno, Given, KeyBytes, MapShape, ValueBytes, Width};
+use std::alloc::{AllocError, Global};
 
 /// Elements by key, each in a map slot. A hash map and an array keep them each in its own way, and meet the
 /// same contracts over what is seen of them.
@@ -103,4 +104,15 @@ pub trait MapTable {
             IsNext (seen self.now) (option_copied bound.entry) r.0.items r.1.items) }
         ensures none { IfNone result
             (NoneAbove (seen self.now).index (option_copied bound.entry)) };
+
+    /// The map slots of all elements, in byte order of their keys. The error is that there is no memory left.
+    fn in_order(&self, alloc: Global) -> Result<Vec<usize>, AllocError>
+        ensures { IfOk result (λ v.
+            AreInOrder (seen self.now).index (key_at (seen self.now).slots) None v.items) };
+
+    /// The key and the value of a linked element, by its map slot.
+    fn element(&self, slot: usize) -> (KeyBytes, ValueBytes)
+        requires { map.get (seen self.now).index (key_at (seen self.now).slots slot) ≡ Some slot }
+        ensures key { result.0.items ≡ key_at (seen self.now).slots slot }
+        ensures value { result.1.items ≡ value_at (seen self.now).slots slot };
 }

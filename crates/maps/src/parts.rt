@@ -9,7 +9,7 @@ ghost use Rattle.bpf_model.specs.Helper.{hash_error};
 ghost use Rattle.bpf_model.specs.MapState.{MapState, slots_of_shape};
 ghost use Rattle.bpf_model.specs.Shapes.{IsShape};
 ghost use Rattle.element_store.specs.State.{key_at, value_at, is_last_use, given_back, with_slot_value, new_arena};
-ghost use Rattle.hash_index.specs.Order.{IsAbove, NoneAbove, NoneBetween};
+ghost use Rattle.hash_index.specs.Order.{AreInOrder, IsAbove, NoneAbove, NoneBetween};
 ghost use Rattle.element_store.specs.Queued.{reaped_lists};
 ghost use Rattle.maps.specs.Parted.{IsParted, IsInHand, IsInUse};
 ghost use Rattle.maps.specs.Updated.{IsPut, error_of, unlinked_of};
@@ -213,6 +213,14 @@ impl<I: Index> Parts<I> {
         ensures parted { IsParted self.now }
     {
         self.index.next_above(&self.arena, bound)
+    }
+
+    /// All linked slots, in byte order of their keys. Fails where memory runs out.
+    pub fn in_order(&self, alloc: Global) -> Result<Vec<usize>, AllocError>
+        ensures { IfOk result (λ v.
+            AreInOrder self.now.index (key_at self.now.arena.slots) None v.items) }
+    {
+        self.index.in_order(alloc, &self.arena)
     }
 }
 

@@ -1,9 +1,9 @@
 -- What the calls of a seat rest on.
-use Rattle.std.proofs.Common.{◌≡◌, ℕ, ◌+◌, ◌-◌, ◌*◌, ◌/◌, ◌%◌, ◌<◌, inl, inr, [], ◌∷◌, ◌++◌, refl, sym, ap, ◌∙◌, subst, arith}
+use Rattle.std.proofs.Common.{◌≡◌, ℕ, ◌+◌, ◌-◌, ◌*◌, ◌/◌, ◌%◌, ◌<◌, ◌≤◌, inl, inr, [], ◌∷◌, ◌++◌, refl, sym, ap, ◌∙◌, subst, arith}
 use mathlib.Core.Option.{none}
 use Rattle.atomic_table.specs.Table.{Me, step, Allows}
 use Rattle.atomic_table.specs.Seated.{TableId}
-use Rattle.read_table.specs.declared.rule.TheConstants.{SECTION_STRIDE}
+use Rattle.read_table.specs.Limits.{section_stride}
 use Rattle.read_table.specs.declared.view.Move.{Move}
 use Rattle.read_table.specs.declared.view.Move.TheVariants.{Load, Store}
 use Rattle.read_table.specs.declared.view.TableShape.{TableShape}
@@ -18,9 +18,9 @@ use Rattle.read_table.specs.Slots.{IsFree}
 use Rattle.read_table.proofs.Going.{went_one, goes_known, goes_fact, known_unchanged}
 
 pub stores_at : (k : TableShape) (slots id : ℕ) (me : Me ℕ View) (i slot place x : ℕ) → IsAt k i slot place →
-    slot < k.slots → place < width_of k → IsLearnt slot me.0.mine
+    slot < k.slots → k.key_words ≤ place → place < width_of k → IsLearnt slot me.0.mine
     → Allows (Kept k) slots id me i (λ _. x) (λ _. stores (step slots i x 0 none) me x)
-stores_at k slots id me i slot place x e low in_slot known = stores_ok k slots id me i slot place x e low in_slot (inr known)
+stores_at k slots id me i slot place x e low in_value in_slot known = stores_ok k slots id me i slot place x e low in_slot (inr (known, in_value))
 
 pub writes_at : (k : TableShape) (slots id : ℕ) (me : Me ℕ View) (i slot place x : ℕ) → me.0.shape ≡ k →
     IsAt k i slot place → place < width_of k → me.0.me ≡ 0 → IsFree me.0 slot
@@ -69,7 +69,7 @@ store_unchanged s t slot place x d known = known_unchanged t slot known.0 (goes_
 
 -- where a reader's section word lies, as an equation
 abbrev pub IsSection : ℕ → ℕ → Type 0
-IsSection i me = i + SECTION_STRIDE ≡ me * SECTION_STRIDE
+IsSection i me = i + section_stride ≡ me * section_stride
 
 pub section_within : (j k : TableShape) (i me n : ℕ) → j ≡ k → IsReader j me → IsSection i me → n ≡ count_of k → i < n
 section_within j k i me n same reader at e = let r : IsReader k me = subst (λ (z : TableShape). IsReader z me) same reader in omega arith
@@ -114,13 +114,13 @@ changes_at j k slots id me slot x same is l writer h may =
     (h ∙ ap (λ z. header_in z me.0.mine + 1) (sym back))
     (λ odd. subst (λ (z : ℕ × TableShape). MayLink z.1.readers z.0 me.0.mine) (λ i. (sym back i, is i)) (may odd))
 
-pub scan_within : (k : TableShape) (reader n : ℕ) → reader < k.readers → n ≡ count_of k → reader * SECTION_STRIDE < n
+pub scan_within : (k : TableShape) (reader n : ℕ) → reader < k.readers → n ≡ count_of k → reader * section_stride < n
 scan_within k reader n l e = omega arith
 
-pub scan_reader : (reader : ℕ) → reader * SECTION_STRIDE / SECTION_STRIDE ≡ reader
+pub scan_reader : (reader : ℕ) → reader * section_stride / section_stride ≡ reader
 scan_reader reader = omega arith
 
 pub scans_at : (j k : TableShape) (slots id : ℕ) (me : Me ℕ View) (reader : ℕ) → j ≡ k → reader < j.readers → me.0.me ≡ 0
-    → Allows (Kept k) slots id me (reader * SECTION_STRIDE) (λ n. n) (scans (step slots (reader * SECTION_STRIDE) 0 0 none) me)
-scans_at j k slots id me reader is l writer = scans_ok k slots id me (reader * SECTION_STRIDE) reader refl
+    → Allows (Kept k) slots id me (reader * section_stride) (λ n. n) (scans (step slots (reader * section_stride) 0 0 none) me)
+scans_at j k slots id me reader is l writer = scans_ok k slots id me (reader * section_stride) reader refl
     (subst (λ (z : TableShape). reader < z.readers) is l) writer

@@ -1,5 +1,5 @@
 -- What a reader touches it holds, by any lawful history.
-use Rattle.std.proofs.Common.{◌≡◌, ℕ, ◌<◌, inl, inr, subst, arith, List, [], ◌∷◌, ◌++◌}
+use Rattle.std.proofs.Common.{◌≡◌, ℕ, ◌<◌, inl, inr, ⊎_elim, subst, arith, List, [], ◌∷◌, ◌++◌}
 use Rattle.read_table.specs.declared.view.Move.{Move}
 use Rattle.read_table.specs.declared.view.Move.TheVariants.{Close, Header, Learn, Load, Open, Scan, Store}
 use Rattle.read_table.specs.declared.view.TableShape.{TableShape}
@@ -18,9 +18,11 @@ learnt-holds k es who s slot lawful same l = subst (λ (n : ℕ). HoldsSlot who 
 
 touched : (k : TableShape) (es : List (ℕ × Move)) (who slot : ℕ) (m : Move) → 0 < who → IsLawful k es →
     MayDo k es who m → Touches slot m → HoldsSlot who slot es
-touched k es who slot (Load s place x) some lawful may t = learnt-holds k es who s slot lawful t may.0
+touched k es who slot (Load s place x) some lawful may t = ⊎_elim
+    (λ (writer : who ≡ 0). absurd (omega (arith, some, writer)))
+    (λ l. learnt-holds k es who s slot lawful t l) may.0
 touched k es who slot (Store s place x) some lawful (inl writer) t = absurd (omega (arith, some, writer.0))
-touched k es who slot (Store s place x) some lawful (inr l) t = learnt-holds k es who s slot lawful t l
+touched k es who slot (Store s place x) some lawful (inr l) t = learnt-holds k es who s slot lawful t l.0
 touched k es who slot Open some lawful may t = absurd t
 touched k es who slot Close some lawful may t = absurd t
 touched k es who slot (Learn s h) some lawful may t = absurd t

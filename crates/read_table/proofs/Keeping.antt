@@ -13,7 +13,7 @@ use Rattle.read_table.specs.declared.view.TableShape.{TableShape}
 use Rattle.read_table.specs.declared.view.View.{View}
 use Rattle.read_table.specs.History.{header_in, Cleared, MayLink}
 use Rattle.read_table.specs.Held.{Holder, Went, Goes}
-use Rattle.read_table.specs.Slots.{Fills, Leaves, times_in, scans_outside, IsFree, IsLinked, IsUnlinked, AreSlots, IsWriter}
+use Rattle.read_table.specs.Slots.{Fills, Leaves, times_in, IsFree, IsLinked, IsUnlinked, AreSlots, IsWriter}
 use Rattle.read_table.proofs.Going.{went_known, went_mine}
 use Rattle.read_table.proofs.Calls.{holder}
 use Rattle.read_table.proofs.Slots.{one_same, at_leaves, all_leaves, times_leaves, times_push, length_leaves, length_pushed, all_else, all_to}
@@ -23,7 +23,7 @@ pub record IsQuiet (ns : List Move) : Type 0 where
   pub headers : (s : ℕ) (ms : List Move) → header_in s (ns ++ ms) ≡ header_in s ms
   pub cleared : (r s : ℕ) (ms : List Move) → Cleared r s ms → Cleared r s (ns ++ ms)
 
-quiet_none : IsQuiet []
+pub quiet_none : IsQuiet []
 quiet_none = record { headers = λ s ms. refl; cleared = λ r s ms c. c }
 
 quiet_store : (slot place x : ℕ) (ns : List Move) → IsQuiet ns → IsQuiet (Store slot place x ∷ ns)
@@ -42,21 +42,10 @@ pub fills_quiet : (slot from n : ℕ) (bytes : List ℕ) (ms : List Move) → Fi
 fills_quiet slot from zero bytes ms f = subst IsQuiet (sym f) quiet_none
 fills_quiet slot from (suc n) bytes ms f = subst IsQuiet (sym f.2) (quiet_store slot (from + n) f.0 f.1 (fills_quiet slot from n bytes f.1 f.4))
 
-pub scans_quiet : (n : ℕ) → IsQuiet (scans_outside n)
-scans_quiet zero = quiet_none
-scans_quiet (suc n) = quiet_scan (suc n) 0 (scans_outside n) (scans_quiet n)
-
-all_cleared : (r s n : ℕ) (ms : List Move) → 0 < r → r ≤ n → Cleared r s (scans_outside n ++ ms)
-all_cleared r s zero ms p q = absurd (omega arith)
-all_cleared r s (suc n) ms p q = dite (ℕ_discrete (suc n) r) (λ e. inl (e, refl)) (λ ne. inr (all_cleared r s n ms p (omega arith)))
-
-pub scans_free : (slot n : ℕ) (ms : List Move) → MayLink n slot (scans_outside n ++ ms)
-scans_free slot n ms = inr (λ r p q. all_cleared r slot n ms p q)
-
 pub went_shape : (v w : View) (ms : List Move) → Went v ms w → w.shape ≡ v.shape
 went_shape v w ms g = ap (λ (z : View). z.shape) g.1
 
-went_me : (v w : View) (ms : List Move) → Went v ms w → w.me ≡ v.me
+pub went_me : (v w : View) (ms : List Move) → Went v ms w → w.me ≡ v.me
 went_me v w ms g = ap (λ (z : View). z.me) g.1
 
 pub free_stays : (v w : View) (s : ℕ) → w.shape ≡ v.shape → header_in s w.mine ≡ header_in s v.mine →
@@ -95,6 +84,9 @@ module _ (v w : View) (ns : List Move) (q : IsQuiet ns) (g : Went v (ns ++ v.min
 
   pub quiet_free : (s : ℕ) → IsFree v s → IsFree w s
   quiet_free s f = free_stays v w s (went_shape v w (ns ++ v.mine) g) (quiet_header s) (quiet_cleared s) f
+
+  pub quiet_linked : (s : ℕ) → IsLinked v s → IsLinked w s
+  quiet_linked s f = linked_stays v w s (went_shape v w (ns ++ v.mine) g) (quiet_header s) f
 
   pub quiet_unlinked : (s : ℕ) → IsUnlinked v s → IsUnlinked w s
   quiet_unlinked s f = unlinked_stays v w s (went_shape v w (ns ++ v.mine) g) (quiet_header s) f

@@ -14,7 +14,7 @@ use Rattle.read_table.specs.declared.view.Move.TheVariants.{Open, Close, Learn, 
 use Rattle.read_table.specs.declared.view.TableShape.{TableShape}
 use Rattle.read_table.specs.declared.view.View.{View}
 use Rattle.read_table.specs.History.{moves_of, inside, header_in, IsLawful, IsLearnt, IsSpare, MayDo, MayLink, IsReader, word_at_place}
-use Rattle.read_table.specs.declared.rule.TheConstants.{SECTION_STRIDE}
+use Rattle.read_table.specs.Limits.{section_stride}
 use Rattle.read_table.specs.Law.{headers_from, width_of, count_of, Fits, Kept, writer_of, dealt, reader_of, did}
 use Rattle.read_table.specs.Law.{Gains, base_of, index_in, opens, closes, learns, loads, stores, changes, scans}
 use Rattle.read_table.proofs.Lists.{moves_self, moves_else, IsQuiet, IsStill, IsIdle, quiet, still, idle, stored_here, stored_in_another, stored_beside}
@@ -27,7 +27,7 @@ module _ (k : TableShape) where
   -- the words after a step are those of the history after it
   pub record Follows (s : St) (log : List (ℕ × Move)) (i x me : ℕ) (m : Move) : Type 0 where
     pub headers : (slot : ℕ) → slot < k.slots → get_or (set s.words i x) (headers_from k + slot) 0 ≡ header_in slot (moves_of 0 ((me, m) ∷ log))
-    pub sections : (q : ℕ) → q < k.readers → get_or (set s.words i x) (q * SECTION_STRIDE) 0 ≡ inside (moves_of (q + 1) ((me, m) ∷ log))
+    pub sections : (q : ℕ) → q < k.readers → get_or (set s.words i x) (q * section_stride) 0 ≡ inside (moves_of (q + 1) ((me, m) ∷ log))
     pub stored : (slot place : ℕ) → slot < k.slots → place < width_of k →
         get_or (set s.words i x) (index_in k slot place) 0 ≡ word_at_place slot place ((me, m) ∷ log)
 
@@ -91,7 +91,7 @@ module _ (k : TableShape) where
   follows_load : (s : St) (r : Kept k s) (i me : ℕ) (m : Move) → IsQuiet m → IsStill m → IsIdle m → Follows s r.log i (get_or s.words i 0) me m
   follows_load s r i me m q z d = let same : set s.words i (get_or s.words i 0) ≡ s.words = set-get_or s.words i 0 in record {
     headers = λ slot l. ap (λ ws. get_or ws (headers_from k + slot) 0) same ∙ (r.headers slot l ∙ sym (quiet me 0 slot m r.log q));
-    sections = λ j l. ap (λ ws. get_or ws (j * SECTION_STRIDE) 0) same ∙ (r.sections j l ∙ sym (still me (j + 1) m r.log z));
+    sections = λ j l. ap (λ ws. get_or ws (j * section_stride) 0) same ∙ (r.sections j l ∙ sym (still me (j + 1) m r.log z));
     stored = λ slot place l w. ap (λ ws. get_or ws (index_in k slot place) 0) same ∙ (r.stored slot place l w ∙ sym (idle me slot place m r.log d));
   }
 
@@ -106,7 +106,7 @@ module _ (k : TableShape) where
   follows_store s r i n p x me is low in_slot = let within = place_within k n p low in_slot in let wide = r.wide in record {
     headers = λ slot l. get_or-set_other s.words i (headers_from k + slot) x 0 (λ e. absurd (omega arith)) ∙
         (r.headers slot l ∙ sym (quiet me 0 slot (Store n p x) r.log tt));
-    sections = λ j l. get_or-set_other s.words i (j * SECTION_STRIDE) x 0 (λ e. absurd (omega arith)) ∙
+    sections = λ j l. get_or-set_other s.words i (j * section_stride) x 0 (λ e. absurd (omega arith)) ∙
         (r.sections j l ∙ sym (still me (j + 1) (Store n p x) r.log tt));
     stored = λ slot place l w.
         let other = λ (ne : index_in k slot place ≢ i). get_or-set_other s.words i (index_in k slot place) x 0 ne ∙ r.stored slot place l w in
@@ -132,7 +132,8 @@ module _ (k : TableShape) where
       (follows_load s r i me.0.me (Learn slot (get_or s.words i 0)) tt tt tt) in
       (t.0, keeps, tt, t.1, (t.2, refl))
 
-  pub loads_ok : (slots id : ℕ) (me : Me ℕ View) (i slot place : ℕ) → IsAt k i slot place → slot < k.slots → place < width_of k → IsLearnt slot me.0.mine
+  pub loads_ok : (slots id : ℕ) (me : Me ℕ View) (i slot place : ℕ) → IsAt k i slot place → slot < k.slots →
+      place < width_of k → (me.0.me ≡ 0) ⊎ IsLearnt slot me.0.mine
       → Allows (Kept k) slots id me i (λ n. n) (loads (step slots i 0 0 none) me)
   loads_ok slots id me i slot place is low in_slot known s r _ at _ =
       let f = r.each_seat id me.0 at in
@@ -141,18 +142,18 @@ module _ (k : TableShape) where
       let m : Move = Load (p / width_of me.0.shape) (p % width_of me.0.shape) x in
       let same : m ≡ Load slot place x = load_move me.0.shape k i slot place x f.shape is in_slot in
       let may : MayDo k r.log me.0.me (Load slot place x) = (
-        subst (IsLearnt slot) (sym f.mine) known,
+        ⊎_elim (λ w. inl w) (λ l. inr (subst (IsLearnt slot) (sym f.mine) l)) known,
         ap (λ z. get_or s.words z 0) is ∙
             r.stored slot place low in_slot,
       ) in
       let t = advance s r id i x me.0 me.1 m at (subst (MayDo k r.log me.0.me) (sym same) may) (follows_load s r i me.0.me m tt tt tt) in
       (t.0, keeps, tt, t.1, (subst (λ (z : TableShape). base_of z ≤ i) (sym f.shape) (omega arith), t.2, refl))
 
-  pub scans_ok : (slots id : ℕ) (me : Me ℕ View) (i r : ℕ) → i ≡ r * SECTION_STRIDE → r < k.readers → me.0.me ≡ 0 →
+  pub scans_ok : (slots id : ℕ) (me : Me ℕ View) (i r : ℕ) → i ≡ r * section_stride → r < k.readers → me.0.me ≡ 0 →
       Allows (Kept k) slots id me i (λ n. n) (scans (step slots i 0 0 none) me)
   scans_ok slots id me i q is low writer s r _ at _ =
-      let m : Move = Scan (i / SECTION_STRIDE + 1) (get_or s.words i 0) in
-      let own : i / SECTION_STRIDE ≡ q = omega arith in
+      let m : Move = Scan (i / section_stride + 1) (get_or s.words i 0) in
+      let own : i / section_stride ≡ q = omega arith in
       let t = advance s r id i (get_or s.words i 0) me.0 me.1 m at (
         writer,
         subst (λ (z : ℕ × ℕ). get_or s.words z.0 0 ≡ inside (moves_of (z.1 + 1) r.log))
@@ -161,7 +162,7 @@ module _ (k : TableShape) where
       (t.0, keeps, tt, t.1, (t.2, refl))
 
   pub stores_ok : (slots id : ℕ) (me : Me ℕ View) (i slot place x : ℕ) → IsAt k i slot place → slot < k.slots →
-      place < width_of k → ((me.0.me ≡ 0) × IsSpare k.readers slot me.0.mine) ⊎ IsLearnt slot me.0.mine
+      place < width_of k → ((me.0.me ≡ 0) × IsSpare k.readers slot me.0.mine) ⊎ (IsLearnt slot me.0.mine × (k.key_words ≤ place))
       → Allows (Kept k) slots id me i (λ _. x) (λ _. stores (step slots i x 0 none) me x)
   stores_ok slots id me i slot place x is low in_slot may s r _ at _ =
       let f = r.each_seat id me.0 at in
@@ -171,34 +172,34 @@ module _ (k : TableShape) where
       let does : MayDo k r.log me.0.me (Store slot place x) = ⊎_elim
       (λ (w : (me.0.me ≡ 0) × IsSpare k.readers slot me.0.mine).
       inl (w.0, subst (IsSpare k.readers slot) (sym (ap (λ z. moves_of z r.log) (sym w.0) ∙ f.mine)) w.1))
-      (λ l. inr (subst (IsLearnt slot) (sym f.mine) l)) may in
+      (λ l. inr (subst (IsLearnt slot) (sym f.mine) l.0, l.1)) may in
       let t = advance s r id i x me.0 me.1 m at (subst (MayDo k r.log me.0.me) (sym same) does)
       (subst (Follows s r.log i x me.0.me) (sym same)
       (follows_store s r i slot place x me.0.me is low in_slot)) in
       (t.0, keeps, tt, t.1, (subst (λ (z : TableShape). base_of z ≤ i) (sym f.shape) (omega arith), t.2, refl))
 
   -- a step that sets the section word of its own reader
-  follows_section : (s : St) (r : Kept k s) (i n x me : ℕ) (m : Move) → i ≡ n * SECTION_STRIDE → n < k.readers →
+  follows_section : (s : St) (r : Kept k s) (i n x me : ℕ) (m : Move) → i ≡ n * section_stride → n < k.readers →
       me ≡ n + 1 → IsQuiet m → IsIdle m → ((ms : List Move) → inside (m ∷ ms) ≡ x) → Follows s r.log i x me m
   follows_section s r i n x me m at low mine q d sets = let wide = r.wide in record {
     headers = λ slot l. get_or-set_other s.words i (headers_from k + slot) x 0 (λ e. absurd (omega arith)) ∙
         (r.headers slot l ∙ sym (quiet me 0 slot m r.log q));
     sections = λ j l. dite (ℕ_discrete j n)
-        (λ e. ap (λ z. get_or (set s.words i x) z 0) (ap (λ z. z * SECTION_STRIDE) e ∙ sym at) ∙ (get_or-set_same s.words i x 0 (omega arith)
+        (λ e. ap (λ z. get_or (set s.words i x) z 0) (ap (λ z. z * section_stride) e ∙ sym at) ∙ (get_or-set_same s.words i x 0 (omega arith)
         ∙ sym (subst (λ z. inside (moves_of z ((me, m) ∷ r.log)) ≡ x) (mine ∙ ap (λ z. z + 1) (sym e))
         (ap inside (moves_self me m r.log) ∙ sets (moves_of me r.log)))))
-        (λ ne. get_or-set_other s.words i (j * SECTION_STRIDE) x 0 (λ e. ne (omega arith)) ∙
+        (λ ne. get_or-set_other s.words i (j * section_stride) x 0 (λ e. ne (omega arith)) ∙
         (r.sections j l ∙ sym (ap inside (moves_else me (j + 1) m r.log (λ e. ne (omega arith))))));
     stored = stored_behind s r i x me m (omega arith) d;
   }
 
-  pub opens_ok : (slots id : ℕ) (me : Me ℕ View) (i n : ℕ) → i ≡ n * SECTION_STRIDE → n < k.readers → me.0.me ≡ n + 1
+  pub opens_ok : (slots id : ℕ) (me : Me ℕ View) (i n : ℕ) → i ≡ n * section_stride → n < k.readers → me.0.me ≡ n + 1
       → Allows (Kept k) slots id me i (λ _. 1) (λ _. opens (step slots i 1 0 none) me 1)
   opens_ok slots id me i n is low mine s r _ at _ =
       let t = advance s r id i 1 me.0 me.1 Open at (omega arith, omega arith) (follows_section s r i n 1 me.0.me Open is low mine tt tt (λ ms. refl)) in
       (t.0, keeps, tt, t.1, (t.2, refl))
 
-  pub closes_ok : (slots id : ℕ) (me : Me ℕ View) (i n : ℕ) → i ≡ n * SECTION_STRIDE → n < k.readers → me.0.me ≡ n + 1
+  pub closes_ok : (slots id : ℕ) (me : Me ℕ View) (i n : ℕ) → i ≡ n * section_stride → n < k.readers → me.0.me ≡ n + 1
       → Allows (Kept k) slots id me i (λ _. 0) (λ _. closes (step slots i 0 0 none) me 0)
   closes_ok slots id me i n is low mine s r _ at _ =
       let t = advance s r id i 0 me.0 me.1 Close at (omega arith, omega arith) (follows_section s r i n 0 me.0.me Close is low mine tt tt (λ ms. refl)) in
@@ -232,7 +233,7 @@ module _ (k : TableShape) where
             ∙ sym (subst (λ z. header_in other (moves_of z ((me.0.me, m) ∷ r.log)) ≡ header_in other
             (moves_of z r.log)) writer (ap (header_in other) (moves_self me.0.me m r.log) ∙
             header_else slot other x (moves_of me.0.me r.log) ne))));
-        sections = λ j l. get_or-set_other s.words i (j * SECTION_STRIDE) x 0 (λ z. absurd (omega arith)) ∙
+        sections = λ j l. get_or-set_other s.words i (j * section_stride) x 0 (λ z. absurd (omega arith)) ∙
             (r.sections j l ∙ sym (still me.0.me (j + 1) m r.log tt));
         stored = stored_behind s r i x me.0.me m high tt;
       } in
@@ -300,7 +301,7 @@ module _ (k : TableShape) where
     seat_of = λ _. 0;
     wide = wide;
     headers = λ slot _. zeros (headers_from k + slot);
-    sections = λ r _. zeros (r * SECTION_STRIDE);
+    sections = λ r _. zeros (r * section_stride);
     stored = λ slot place _ _. zeros (index_in k slot place);
     lawful = tt;
     fresh = λ _ _. refl;

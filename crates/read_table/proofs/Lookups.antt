@@ -109,7 +109,7 @@ abbrev number_in : Option ℕ → ℕ
 number_in None = 0
 number_in (Some x) = x
 
-same_number : (x y : ℕ) → Some x ≡ Some y → x ≡ y
+pub same_number : (x y : ℕ) → Some x ≡ Some y → x ≡ y
 same_number x y e = ap number_in e
 
 -- one more word of a key was found

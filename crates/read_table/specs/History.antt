@@ -72,18 +72,19 @@ abbrev pub IsReader : TableShape → ℕ → Type 0
 IsReader k who = (0 < who) × (who ≤ k.readers)
 
 -- What a holder may do after all this: a reader opens and closes its sections, learns the headers that there are while it
--- is inside one, and touches the words of a slot that it has learnt in it. A load finds the word that was stored last. The
--- writer, number 0, fills slots that are not linked and that nobody can hold, changes a header by one, and links a slot
--- again only where each reader was seen outside since.
+-- is inside one, loads the words of a slot that it has learnt in it, and stores those of its value. A load finds the word
+-- that was stored last. The writer, number 0, loads any word, fills slots that are not linked and that nobody can hold, changes a header by
+-- one, and links a slot again only where each reader was seen outside since.
 abbrev pub MayDo : TableShape → List (ℕ × Move) → ℕ → Move → Type 0
 MayDo k es who Open = IsReader k who
 MayDo k es who Close = IsReader k who
 MayDo k es who (Learn slot h) =
     IsReader k who × (inside (moves_of who es) ≡ 1) × (h ≡ header_in slot (moves_of 0 es))
 MayDo k es who (Load slot place x) =
-    IsLearnt slot (moves_of who es) × (x ≡ word_at_place slot place es)
+    ((who ≡ 0) ⊎ IsLearnt slot (moves_of who es)) × (x ≡ word_at_place slot place es)
 MayDo k es who (Store slot place x) =
-    ((who ≡ 0) × IsSpare k.readers slot (moves_of 0 es)) ⊎ IsLearnt slot (moves_of who es)
+    ((who ≡ 0) × IsSpare k.readers slot (moves_of 0 es))
+    ⊎ (IsLearnt slot (moves_of who es) × (k.key_words ≤ place))
 MayDo k es who (Header slot w) =
     (who ≡ 0) × (w ≡ header_in slot (moves_of 0 es) + 1)
     × (w % 2 ≡ 1 → MayLink k.readers slot (moves_of 0 es))

@@ -4,7 +4,7 @@ use Rattle.std.specs.Prelude.{◌≡◌, ℕ, ◌+◌, ◌-◌, ◌*◌, ◌/◌
 use mathlib.Core.Option.{some}
 use lib.ListN.{get_elem?}
 use Rattle.atomic_table.specs.Table.{State, Me, Step}
-use Rattle.read_table.specs.declared.rule.TheConstants.{SECTION_STRIDE}
+use Rattle.read_table.specs.Limits.{section_stride}
 use Rattle.read_table.specs.declared.view.Move.{Move}
 use Rattle.read_table.specs.declared.view.Move.TheVariants.{Open, Close, Learn, Load, Store, Header, Scan}
 use Rattle.read_table.specs.declared.view.TableShape.{TableShape}
@@ -18,7 +18,7 @@ width_of k = k.key_words + k.value_words
 -- The words of a table: a section word for each reader, in a stretch of its own, then a header for each slot, from
 -- here on,
 abbrev pub headers_from : TableShape → ℕ
-headers_from k = k.readers * SECTION_STRIDE
+headers_from k = k.readers * section_stride
 
 -- then the words of the slots, one slot after another, from here on,
 abbrev pub base_of : TableShape → ℕ
@@ -56,7 +56,7 @@ pub record Kept (k : TableShape) (s : State ℕ View) : Type 0 where
   pub headers : (slot : ℕ) → slot < k.slots →
       slice_index s.words (headers_from k + slot) ≡ header_in slot (moves_of 0 log)
   pub sections : (r : ℕ) → r < k.readers →
-      slice_index s.words (r * SECTION_STRIDE) ≡ inside (moves_of (r + 1) log)
+      slice_index s.words (r * section_stride) ≡ inside (moves_of (r + 1) log)
   pub stored : (slot place : ℕ) → slot < k.slots → place < width_of k →
       slice_index s.words (index_in k slot place) ≡ word_at_place slot place log
   pub lawful : IsLawful k log
@@ -127,4 +127,4 @@ changes st m n m' = Gains m.0 (Header (st.word - headers_from m.0.shape) st.firs
 
 -- the writer found the section word of a reader
 abbrev pub scans : Step ℕ → Sat → ℕ → Sat → Type 0
-scans st m n m' = Gains m.0 (Scan (st.word / SECTION_STRIDE + 1) n) m'.0 × (m'.1 ≡ m.1)
+scans st m n m' = Gains m.0 (Scan (st.word / section_stride + 1) n) m'.0 × (m'.1 ≡ m.1)

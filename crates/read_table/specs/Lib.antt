@@ -1,3 +1,4 @@
+pub mod Found
 pub mod Held
 pub mod History
 pub mod Law
@@ -9,5 +10,6 @@ pub mod Search
 pub mod Serving
 pub mod SharedRuns
 pub mod Sharing
+pub mod Sightings
 pub mod Slots
 pub mod Words

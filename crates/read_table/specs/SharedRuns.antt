@@ -32,6 +32,10 @@ opening depth = if depth == 0 then Open ∷ [] else []
 abbrev pub closing : ℕ → List Move
 closing depth = if depth == 1 then Close ∷ [] else []
 
+-- a lookup of a key through a map of the program's list
+abbrev pub lookup_of : ℕ → List ℕ → Request
+lookup_of map key = CallHelper Lookup (MapArgument map ∷ BytesArgument key ∷ [])
+
 -- What a table replies to a request of a run whose locks are so many deep, by what its seat does then, after all that it
 -- did for the run before. A number names a slot, and the map through which it was found: within a section a slot that was
 -- learnt is one element. A word of a value is loaded or stored in a slot that was learnt, linked, in the section that is

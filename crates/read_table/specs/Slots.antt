@@ -1,10 +1,11 @@
 -- What clauses see of the writer, and what it keeps of its slots.
-use Rattle.std.specs.Prelude.{◌≡◌, ◌≢◌, ℕ, zero, suc, ◌+◌, ◌^◌, ◌%◌, ◌<◌, ◌≤◌, ◌==◌, List, [], ◌∷◌, ◌++◌, All, Some, length, slice_index, if◌then◌else◌}
+use Rattle.std.specs.Prelude.{◌≡◌, ℕ, zero, suc, ◌+◌, ◌^◌, ◌%◌, ◌<◌, ◌≤◌, ◌==◌, List, [], ◌∷◌, ◌++◌, All, Some, length, slice_index, if◌then◌else◌}
 use Rattle.read_table.specs.declared.view.Move.{Move}
-use Rattle.read_table.specs.declared.view.Move.TheVariants.{Store, Header, Scan}
+use Rattle.read_table.specs.declared.view.Move.TheVariants.{Store, Header}
 use Rattle.read_table.specs.declared.view.View.{View}
 use Rattle.read_table.specs.History.{header_in, MayLink}
 use Rattle.read_table.specs.Lookups.{key_word}
+use Rattle.read_table.specs.Sightings.{IsHeldUp, OnlyScans}
 use Rattle.read_table.specs.Held.{TableView, Holder, IsKnown, Goes}
 
 -- at which table, what the writer did and saw there, and its slots: those that it may link, those that are linked, and
@@ -59,16 +60,15 @@ Unlinks slot v w =
     (header_in slot v.view.mine % 2 ≡ 1)
     × Works v (Header slot (header_in slot v.view.mine + 1) ∷ []) w
 
--- the first n readers were seen outside a section, one after another
-abbrev pub scans_outside : ℕ → List Move
-scans_outside zero = []
-scans_outside (suc n) = Scan (suc n) 0 ∷ scans_outside n
+-- The writer only looked at section words, at that of each of the readers once at most.
+abbrev pub Looks : ℕ → WriterView → List Move → WriterView → Type 0
+Looks readers v ms w = OnlyScans 0 readers ms × (length ms ≤ readers) × Works v ms w
 
--- some readers were seen outside a section, and then one inside
-abbrev pub SawInside : ℕ → WriterView → WriterView → Type 0
-SawInside readers v w =
-    (n found : ℕ) × (n < readers) × (found ≢ 0)
-    × Works v (Scan (n + 1) found ∷ scans_outside n) w
+-- It only looked at section words. A reader that was not seen outside a section since the slot was unlinked was found
+-- inside.
+abbrev pub Waits : ℕ → ℕ → WriterView → WriterView → Type 0
+Waits readers slot v w =
+    (ms : List Move) × Looks readers v ms w × IsHeldUp readers slot ms w.view.mine
 
 -- a slot that may be linked
 pub record IsFree (v : View) (slot : ℕ) : Type 0 where

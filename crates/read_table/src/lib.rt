@@ -5,6 +5,7 @@
 //! outside a section since.
 #![tactic(auto)]
 
+mod by_key;
 mod limits;
 mod lookup;
 mod rule;
@@ -12,6 +13,7 @@ mod run_laws;
 mod running;
 mod seats;
 mod setup;
+mod sightings;
 mod sub_words;
 mod table;
 mod view;
@@ -22,11 +24,12 @@ mod writing;
 pub use limits::{MAX_READERS, MAX_TABLE_BYTES, MAX_TABLE_SLOTS, WORD_BYTES};
 pub use rule::{
     Changes, Closes, Deals, Law, Learns, Loads, Opens, SECTION_STRIDE, Scans, Stores,
-    held_slots_stay, loads_find_what_was_stored, spare_slots_are_unlearnt,
+    held_slots_stay, linked_keys_are_found, linked_slots_keep_their_keys,
+    loads_find_what_was_stored, spare_slots_are_unlearnt,
 };
 pub use run_laws::{
-    moves_below_length, shared_run_asks, shared_run_exits, shared_run_goes_on, shared_run_moves,
-    shared_run_stands, shared_run_starts,
+    moves_below_length, shared_lookups_find_keys, shared_run_asks, shared_run_exits,
+    shared_run_goes_on, shared_run_moves, shared_run_stands, shared_run_starts,
 };
 pub use running::SubWord;
 pub use seats::Seats;

@@ -1,8 +1,9 @@
 //! Finds the slot of a key, with no lock.
-ghost use Rattle.std.specs.Prelude.{◌≡◌, ℕ, ◌+◌, ◌*◌, ◌<◌, ◌≤◌, ◌++◌, List, MatchBool, Some, IfSome, length};
+ghost use Rattle.std.specs.Prelude.{◌≡◌, ℕ, ◌+◌, ◌*◌, ◌<◌, ◌≤◌, ◌++◌, List, MatchBool, Some, IfSome, IsSome, length};
 ghost use Rattle.read_table.specs.declared.view.Move.{Move};
 ghost use Rattle.read_table.specs.History.{inside, Knows, IsLearnt};
 ghost use Rattle.read_table.specs.Lookups.{OnlySearches, IsBrief, Refuted, AnswersLookup};
+ghost use Rattle.read_table.specs.Found.{StaysLinked};
 ghost use Rattle.read_table.specs.Limits.{word_bytes};
 ghost use Rattle.read_table.specs.Held.{IsKnown, Goes};
 ghost use Rattle.read_table.specs.Search.{HadKey, Searched};
@@ -25,8 +26,15 @@ impl ReadTable {
         ensures slot { IfSome result (λ slot. slot < self.now.shape.slots) }
         ensures known { (slot h : ℕ) → Knows slot h seat.old.view.mine →
             Knows slot h seat.new.view.mine }
+
+        // A key under which some slot stays linked through these moves is found.
+        ensures found { (slot : ℕ) (ns : List Move) → seat.new.view.mine ≡ ns ++ seat.old.view.mine →
+            StaysLinked self.now.shape key.now slot seat.old.view.me seat.old.view.mine ns seat.new.view.seen →
+            IsSome result }
     {
-        self.search_all(seat, key)
+        let found = self.search_all(seat, key);
+        seat.is_readers();
+        found
     }
 
     /// The same: from the home of the key up, and then from the first slot up to it.

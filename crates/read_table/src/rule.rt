@@ -1,9 +1,11 @@
 //! The rule of the table, and what each kind of step tells.
-ghost use Rattle.std.specs.Prelude.{◌≡◌, ℕ, List, ◌∷◌, ◌++◌};
+ghost use Rattle.std.specs.Prelude.{◌≡◌, ℕ, List, ◌∷◌, ◌++◌, None};
 ghost use Rattle.read_table.specs.declared.view.Move.{Move};
 ghost use Rattle.read_table.specs.declared.view.Move.TheVariants.{Load};
 ghost use Rattle.read_table.specs.declared.view.TableShape.{TableShape};
 ghost use Rattle.read_table.specs.History.{moves_of, header_in, word_at_place, generation, Knows, IsLearnt, IsSpare, IsLawful};
+ghost use Rattle.read_table.specs.Lookups.{AnswersLookup};
+ghost use Rattle.read_table.specs.Found.{IsLinkedUnder, KeepsHeader, StaysLinked};
 
 use crate::view::{TableShape, View};
 use atomic_table::{Play, Split, TableRule};
@@ -31,6 +33,22 @@ pub fn loads_find_what_was_stored()
     ensures { (k : TableShape) (es : List (ℕ × Move)) → IsLawful k es →
         (after before : List (ℕ × Move)) (who slot place x : ℕ) →
         es ≡ after ++ (who, Load slot place x) ∷ before → x ≡ word_at_place slot place before }
+{}
+
+/// In every lawful history a slot that is linked under a key stays so until the writer changes its header: nobody stores
+/// a key word of it.
+pub fn linked_slots_keep_their_keys()
+    ensures { (k : TableShape) (key : List ℕ) (slot : ℕ) (late early : List (ℕ × Move)) →
+        IsLawful k (late ++ early) → IsLinkedUnder k key slot early →
+        KeepsHeader slot (moves_of 0 late) → IsLinkedUnder k key slot (late ++ early) }
+{}
+
+/// In every lawful history a lookup of a key under which some slot stays linked, from before its first move to after its
+/// last, does not answer null.
+pub fn linked_keys_are_found()
+    ensures { (k : TableShape) (es : List (ℕ × Move)) → IsLawful k es → (key : List ℕ)
+        (slot who : ℕ) (before ns : List Move) → AnswersLookup k key ns None →
+        StaysLinked k key slot who before ns es → ⊥ }
 {}
 
 /// The rule: the words are what one lawful history of all steps leaves.

@@ -1,8 +1,10 @@
 //! Laws of the words of a shared run.
 //!
 //! Each is a function with an empty body, whose contract is the law.
-ghost use Rattle.std.specs.Prelude.{◌≡◌, ℕ, ◌<◌, ◌≤◌, List, [], Some, length};
+ghost use Rattle.std.specs.Prelude.{◌≡◌, ◌≢◌, ℕ, ◌<◌, ◌≤◌, List, [], Some, length};
 ghost use Rattle.bpf_model.specs.declared.insn.Insn.{Insn};
+ghost use Rattle.bpf_model.specs.declared.value.Value.{Value};
+ghost use Rattle.bpf_model.specs.declared.value.Value.TheVariants.{Number};
 ghost use Rattle.bpf_model.specs.Real.{AreBytes};
 ghost use Rattle.bpf_model.specs.Step.{insn_at};
 ghost use Rattle.bpf_model.specs.View.{RunView};
@@ -17,7 +19,10 @@ ghost use Rattle.machine.specs.Standing.{IsRunOfChecked};
 ghost use Rattle.machine.specs.Steps.{MovesOn, TakesStep};
 ghost use Rattle.read_table.specs.declared.view.Move.{Move};
 ghost use Rattle.read_table.specs.declared.view.TableShape.{TableShape};
+ghost use Rattle.read_table.specs.Found.{StaysLinked};
+ghost use Rattle.read_table.specs.History.{IsLawful};
 ghost use Rattle.read_table.specs.Serving.{CanAnswer};
+ghost use Rattle.read_table.specs.SharedRuns.{Replies, lookup_of};
 ghost use Rattle.read_table.specs.Sharing.{ExitsShared, GoesFurther, IsSharing};
 ghost use Rattle.read_table.specs.Words.{FitsTable, UsesSubWords};
 
@@ -71,4 +76,13 @@ pub fn shared_run_asks()
         (v after : RunView) (request : Request) → IsSharing k c context ms v →
         TakesStep c v (Shared request) after →
         CanAnswer k c context ms v request × (after ≡ v) }
+{}
+
+/// A lookup of a shared run is not answered by null where some slot stays linked under its key, from before the moves that
+/// answer it to after them.
+pub fn shared_lookups_find_keys()
+    ensures { (k : TableShape) (es : List (ℕ × Move)) → IsLawful k es →
+        (depth map slot who : ℕ) (key : List ℕ) (done before ms : List Move) (reply : Value) →
+        Replies k depth done (lookup_of map key) ms reply →
+        StaysLinked k key slot who before ms es → reply ≢ Number 0 }
 {}

@@ -11,6 +11,7 @@ ghost use Rattle.read_table.specs.Lookups.{AnswersLookup, IsBrief, OnlySearches}
 ghost use Rattle.read_table.specs.SharedRuns.{closing, opening};
 ghost use Rattle.read_table.specs.Sharing.{flag_of};
 ghost use Rattle.read_table.specs.Words.{FitsTable, UsesSubWords};
+ghost use Rattle.read_table.specs.Found.{HasFound};
 ghost use Rattle.read_table.specs.Held.{Goes, IsKnown, IsReady};
 ghost use Rattle.read_table.specs.Running.{HasHeld, IsServable, RunsShared, Serves};
 
@@ -200,6 +201,11 @@ impl ReadTable {
         // Each word that it reached was of a slot that it had learnt, linked, in the section that was open, and whose
         // generation had not changed since.
         ensures held { HasHeld seat.new.view }
+
+        // No lookup of the run answered null to a key under which some slot stayed linked meanwhile, nor did any other
+        // stretch of what the seat has done.
+        ensures found { HasFound seat.new.view }
+        ensures shape { seat.new.view.shape ≡ self.now.shape }
         ensures ready { IsReady self.now seat.new }
     {
         if uses_sub_words(verified) {
@@ -207,18 +213,20 @@ impl ReadTable {
             return Err(SubWord);
         }
         let value = self.run_to_exit(seat, verified, ctx);
-        seat.is_readers();
         Ok(value)
     }
 
-    /// The same of a program that words serve.
-    fn run_to_exit(&self, seat: &mut ReadSeat, verified: &Verified, ctx: &CtxBytes) -> u64
+    /// The same of a program that words serve. `uses_sub_words` tells it, and need be asked but once of a program.
+    pub fn run_to_exit(&self, seat: &mut ReadSeat, verified: &Verified, ctx: &CtxBytes) -> u64
         requires ready { IsReady self.now seat.old }
         requires context { length ctx.now.items ≡ verified.now.ctx_len }
         requires maps { FitsTable self.now.shape verified.now.shapes }
         requires words { UsesSubWords verified.now → ⊥ }
         ensures runs { RunsShared self.now.shape verified.now ctx.now.items seat.old seat.new
             result }
+        ensures held { HasHeld seat.new.view }
+        ensures found { HasFound seat.new.view }
+        ensures shape { seat.new.view.shape ≡ self.now.shape }
         ensures ready { IsReady self.now seat.new }
     {
         let _program = verified.program();
@@ -232,7 +240,10 @@ impl ReadTable {
                     let word = self.serve(seat, &run, request);
                     run.resume(verified, word);
                 }
-                Local::Exit(value) => return value,
+                Local::Exit(value) => {
+                    seat.is_readers();
+                    return value;
+                }
             }
         }
     }

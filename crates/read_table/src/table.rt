@@ -52,7 +52,7 @@ pub struct ReadSeat {
 
 impl Model for ReadSeat {
     ghost use Rattle.std.specs.Prelude.{◌≡◌, ◌+◌, ◌*◌, []};
-    ghost use Rattle.read_table.specs.declared.rule.TheConstants.{SECTION_STRIDE};
+    ghost use Rattle.read_table.specs.Limits.{section_stride};
     ghost use Rattle.read_table.specs.History.{IsReader};
     ghost use Rattle.read_table.specs.Held.{Holder};
 
@@ -64,13 +64,15 @@ impl Model for ReadSeat {
     } };
 
     ghost invariant = { λ s. IsReader s.seat.me.0.shape s.seat.me.0.me
-        × (s.section + SECTION_STRIDE ≡ s.seat.me.0.me * SECTION_STRIDE) × (s.seat.me.1 ≡ []) };
+        × (s.section + section_stride ≡ s.seat.me.0.me * section_stride) × (s.seat.me.1 ≡ []) };
 }
 
 impl ReadSeat {
-    /// A law: the seat is a reader's.
+    /// A law: the seat is a reader's, at a table of the shape that its view has.
+    #[inline]
     pub fn is_readers(&self)
-        ensures { IsReader self.now.view.shape self.now.view.me }
+        ensures reader { IsReader self.now.view.shape self.now.view.me }
+        ensures shape { self.now.view.shape ≡ self.now.table.shape }
     {
         let _ = &self.seat;
     }
@@ -175,12 +177,13 @@ impl ReadTable {
     }
 
     /// Writes the word at a place of a slot that was learnt in the section that is open. Places count words, those of
-    /// the key first.
+    /// the key first, and these are the writer's alone.
     #[inline]
     pub fn store(&self, seat: &mut ReadSeat, slot: usize, place: usize, word: u64)
         requires table { seat.old.table ≡ self.now }
         requires learnt { IsLearnt slot seat.old.view.mine }
         requires slot { slot < self.now.shape.slots }
+        requires value { self.now.shape.key_words ≤ place }
         requires place { place < self.now.shape.key_words + self.now.shape.value_words }
         ensures step { Does seat.old (Store slot place word) seat.new }
         ensures stored { word_at_place slot place seat.new.view.seen ≡ word }
@@ -251,6 +254,22 @@ impl ReadTable {
     {
         let index = self.index_of(slot, place);
         self.table.shared.store::<Stores>(seat, index, word);
+    }
+
+    /// The word at a place of any slot.
+    #[inline]
+    pub(crate) fn peek(&self, seat: &mut Seat<u8, View>, slot: usize, place: usize) -> u64
+        requires table { (seat.old.table_id ≡ self.now.id) × (seat.old.me.0.shape ≡ self.now.shape) }
+        requires writer { seat.old.me.0.me ≡ 0 }
+        requires slot { slot < self.now.shape.slots }
+        requires place { place < width_of self.now.shape }
+        ensures table { seat.new.table_id ≡ seat.old.table_id }
+        ensures held { seat.new.me.1 ≡ seat.old.me.1 }
+        ensures step { Went seat.old.me.0 (Load slot place result ∷ seat.old.me.0.mine) seat.new.me.0 }
+        ensures found { result ≡ word_at_place slot place seat.new.me.0.seen }
+    {
+        let index = self.index_of(slot, place);
+        self.table.shared.load::<Loads>(seat, index)
     }
 
     /// Changes the header of a slot, by one. It becomes odd only where the slot may be linked.

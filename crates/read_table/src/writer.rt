@@ -1,17 +1,23 @@
 //! The writer of a table.
-ghost use Rattle.std.specs.Prelude.{◌≡◌, ℕ, ◌+◌, ◌*◌, ◌^◌, ◌%◌, ◌<◌, ◌≤◌, ◌↔◌, ◌⊎◌, [], ◌∷◌, ◌++◌, length, vec_capacity, true, false, All, IsNone, IfNone, IfSome, IfOk};
+ghost use Rattle.std.specs.Prelude.{◌≡◌, ℕ, List, ◌+◌, ◌*◌, ◌^◌, ◌%◌, ◌<◌, ◌≤◌, ◌↔◌, ◌⊎◌, [], ◌∷◌, ◌++◌, length, vec_capacity, true, false, All, IsNone, IfNone, IfSome, IfOk};
 ghost use Rattle.std.specs.List.{range_with_len, Contains};
-ghost use Rattle.read_table.specs.History.{header_in, MayLink};
+ghost use Rattle.read_table.specs.History.{header_in, Cleared, MayLink};
+ghost use Rattle.read_table.specs.Held.{IsSized};
 ghost use Rattle.read_table.specs.Limits.{word_bytes};
-ghost use Rattle.read_table.specs.Slots.{Links, Unlinks, Leaves, Works, SawInside, AreSlots, scans_outside};
+ghost use Rattle.read_table.specs.declared.view.Move.{Move};
+ghost use Rattle.read_table.specs.Found.{IsLinkedUnder};
+ghost use Rattle.read_table.specs.Lookups.{OnlySearches};
+ghost use Rattle.read_table.specs.Slots.{Links, Looks, Unlinks, Leaves, Waits, Works, AreSlots};
 ghost use Rattle.read_table.specs.declared.view.TableShape.{TableShape};
 ghost use Rattle.read_table.specs.Law.{writer_after};
 
 use crate::View;
+use crate::by_key::find_in;
 use crate::setup::zeros;
+use crate::sightings::{forget, no_sightings};
 use crate::table::ReadTable;
 use crate::words::home_of;
-use crate::writing::{all_outside, change, take_nearest, take_out, write_slot};
+use crate::writing::{change, each_was_outside, take_nearest, take_out, write_slot};
 use atomic_table::Seat;
 use std::alloc::{AllocError, Global};
 use std::marker::Model;
@@ -26,6 +32,8 @@ const LAST_HEADER: u64 = 1 << 63;
 pub struct Writer {
     seat: Seat<u8, View>,
     headers: Vec<u64>,
+    // For each slot, which readers were seen outside a section since its header changed.
+    seen: Vec<bool>,
     free: Vec<usize>,
     linked: Vec<usize>,
     unlinked: Vec<usize>,
@@ -33,6 +41,7 @@ pub struct Writer {
 
 impl Model for Writer {
     ghost use Rattle.std.specs.Prelude.{◌≡◌, ◌≤◌, [], vec_capacity};
+    ghost use Rattle.read_table.specs.Sightings.{AreSightings};
     ghost use Rattle.read_table.specs.Slots.{WriterView, IsWriter, AreSlots};
 
     ghost Value = { WriterView };
@@ -49,7 +58,8 @@ impl Model for Writer {
         × AreSlots w.seat.me.0 w.free.items w.linked.items w.unlinked.items × (w.seat.me.1 ≡ [])
         × (w.seat.me.0.shape.slots ≤ vec_capacity w.free)
         × (w.seat.me.0.shape.slots ≤ vec_capacity w.linked)
-        × (w.seat.me.0.shape.slots ≤ vec_capacity w.unlinked) };
+        × (w.seat.me.0.shape.slots ≤ vec_capacity w.unlinked)
+        × AreSightings w.seat.me.0 w.seen.items };
 }
 
 /// The numbers below `count`, in order.
@@ -81,6 +91,8 @@ impl Writer {
         ensures reuse { IfSome result (λ slot.
             MayLink table.now.shape.readers slot self.old.view.mine) }
         ensures steps { IfSome result (λ slot. Links slot key.now value.now self.old self.new) }
+        ensures under { IfSome result (λ slot.
+            IsLinkedUnder table.now.shape key.now slot self.new.view.seen) }
     {
         if self.free.is_empty() {
             return None;
@@ -90,8 +102,41 @@ impl Writer {
         let slot = take_nearest(&mut self.free, home, shape.slots);
         write_slot(table, &mut self.seat, slot, key, value);
         change(table, &mut self.seat, &mut self.headers, slot);
+        forget(&mut self.seen, slot);
         self.linked.push_reserved(slot);
         Some(slot)
+    }
+
+    /// The slots that are linked. The one that was linked last stands last.
+    pub fn linked(&self) -> &[usize]
+        ensures { result.now ≡ self.now.linked }
+    {
+        self.linked.as_slice()
+    }
+
+    /// The slots that were unlinked and are not free yet. The one that was unlinked last stands last.
+    pub fn unlinked(&self) -> &[usize]
+        ensures { result.now ≡ self.now.unlinked }
+    {
+        self.unlinked.as_slice()
+    }
+
+    /// A slot that is linked under the key, or `None`. It reads the key words of the slots that are linked.
+    pub fn find(&mut self, table: &ReadTable, key: &[u8]) -> Option<usize>
+        requires table { self.old.table ≡ table.now }
+        requires key { length key.now ≡ word_bytes * table.now.shape.key_words }
+        ensures table { self.new.table ≡ self.old.table }
+        ensures free { self.new.free ≡ self.old.free }
+        ensures linked { self.new.linked ≡ self.old.linked }
+        ensures unlinked { self.new.unlinked ≡ self.old.unlinked }
+        ensures steps { (ms : List Move) × OnlySearches table.now.shape ms
+            × Works self.old ms self.new }
+        ensures found { IfSome result (λ slot. Contains self.new.linked slot
+            × IsLinkedUnder table.now.shape key.now slot self.new.view.seen) }
+        ensures none { IsNone result → (slot : ℕ) →
+            IsLinkedUnder table.now.shape key.now slot self.new.view.seen → ⊥ }
+    {
+        find_in(table, &mut self.seat, self.linked.as_slice(), key)
     }
 
     /// Unlinks a slot. Readers that learnt it before may use it until they end their section.
@@ -106,26 +151,33 @@ impl Writer {
     {
         take_out(&mut self.linked, slot);
         change(table, &mut self.seat, &mut self.headers, slot);
+        forget(&mut self.seen, slot);
         self.unlinked.push_reserved(slot);
     }
 
-    /// Makes an unlinked slot free, if each reader is seen outside a section, and tells whether it did. A slot that was
-    /// linked 2^62 times stays unlinked.
+    /// Makes an unlinked slot free, if each reader was seen outside a section since it was unlinked, in this call or
+    /// before, and tells whether it did. It looks at those readers alone that were not. A slot that was linked 2^62 times
+    /// stays unlinked.
     pub fn try_reclaim(&mut self, table: &ReadTable, slot: usize) -> bool
         requires table { self.old.table ≡ table.now }
         requires unlinked { Contains self.old.unlinked slot }
         ensures table { self.new.table ≡ self.old.table }
         ensures free { result ≡ true → self.new.free ≡ self.old.free ++ slot ∷ [] }
         ensures unlinked { result ≡ true → Leaves slot self.old.unlinked self.new.unlinked }
+        ensures outside { result ≡ true → (r : ℕ) → 0 < r → r ≤ table.now.shape.readers →
+            Cleared r slot self.new.view.mine }
         ensures scanned { result ≡ true →
-            Works self.old (scans_outside table.now.shape.readers) self.new }
+            (ms : List Move) × Looks table.now.shape.readers self.old ms self.new }
         ensures linked { self.new.linked ≡ self.old.linked }
         ensures kept { result ≡ false →
             (self.new.free ≡ self.old.free) × (self.new.unlinked ≡ self.old.unlinked) }
-        ensures waits { result ≡ false → SawInside table.now.shape.readers self.old self.new
+        ensures waits { result ≡ false → Waits table.now.shape.readers slot self.old self.new
             ⊎ ((header_in slot self.old.view.mine ≡ 2 ^ 63) × (self.new ≡ self.old)) }
     {
-        if self.headers[slot] >= LAST_HEADER || !all_outside(table, &mut self.seat) {
+        if self.headers[slot] >= LAST_HEADER {
+            return false;
+        }
+        if !each_was_outside(table, &mut self.seat, &mut self.seen, slot) {
             return false;
         }
         take_out(&mut self.unlinked, slot);
@@ -157,6 +209,7 @@ impl Writer {
         slots: usize,
     ) -> Result<Writer, AllocError>
         requires writer { (n : ℕ) × (k : TableShape) × (seat.me ≡ (writer_after n k, [])) × (k.slots ≡ slots) }
+        requires sized { IsSized seat.me.0.shape }
         ensures table { IfOk result (λ w. w.table.id ≡ seat.table_id) }
         ensures view { IfOk result (λ w. w.view ≡ seat.me.0) }
         ensures shape { IfOk result (λ w. w.table.shape ≡ seat.me.0.shape) }
@@ -165,12 +218,14 @@ impl Writer {
         ensures unlinked { IfOk result (λ w. w.unlinked ≡ []) }
     {
         let headers = zeros(alloc, slots)?;
+        let seen = no_sightings(alloc)?;
         let free = numbers(alloc, slots)?;
         let linked = Vec::with_capacity(alloc, slots)?;
         let unlinked = Vec::with_capacity(alloc, slots)?;
         Ok(Writer {
             seat,
             headers,
+            seen,
             free,
             linked,
             unlinked,

@@ -1,15 +1,18 @@
 //! What the calls of the writer are made of.
-ghost use Rattle.std.specs.Prelude.{◌≡◌, ◌≢◌, ℕ, ◌+◌, ◌*◌, ◌<◌, ◌≤◌, ◌%◌, ◌^◌, List, ◌∷◌, ◌++◌, All, length, slice_index, slice_set, vec_len, vec_capacity, true, false};
+ghost use Rattle.std.specs.Prelude.{◌≡◌, ◌≢◌, ℕ, ◌+◌, ◌*◌, ◌<◌, ◌≤◌, ◌%◌, ◌^◌, List, ◌∷◌, ◌++◌, All, length, slice_index, slice_set, vec_len, vec_capacity, MatchBool};
 ghost use Rattle.std.specs.List.{Contains};
 ghost use Rattle.read_table.specs.declared.view.Move.{Move};
-ghost use Rattle.read_table.specs.declared.view.Move.TheVariants.{Header, Scan};
-ghost use Rattle.read_table.specs.History.{header_in, MayLink};
+ghost use Rattle.read_table.specs.declared.view.Move.TheVariants.{Header};
+ghost use Rattle.read_table.specs.History.{header_in, Cleared, MayLink};
 ghost use Rattle.read_table.specs.Law.{width_of};
 ghost use Rattle.read_table.specs.Limits.{word_bytes, most_table_slots};
 ghost use Rattle.read_table.specs.Held.{IsSized, IsKnown, Went};
-ghost use Rattle.read_table.specs.Slots.{Fills, IsFree, Leaves, scans_outside};
+ghost use Rattle.read_table.specs.Sightings.{AreSightings, FoundInside, OnlyScans, Tells};
+ghost use Rattle.read_table.specs.Slots.{Fills, IsFree, Leaves};
 
 use crate::View;
+use crate::limits::MAX_TABLE_SLOTS;
+use crate::sightings::note;
 use crate::table::ReadTable;
 use crate::words::word_of;
 use atomic_table::Seat;
@@ -94,25 +97,66 @@ pub(crate) fn change(
     headers[slot] = header;
 }
 
-/// Whether each reader is seen outside a section. It looks at one after another, up to the first that is inside.
-pub(crate) fn all_outside(table: &ReadTable, seat: &mut Seat<u8, View>) -> bool
+/// Whether a reader was seen outside a section since the slot's header changed last. If it wasn't, it is looked at now.
+fn was_outside(
+    table: &ReadTable,
+    seat: &mut Seat<u8, View>,
+    seen: &mut Vec<bool>,
+    slot: usize,
+    reader: usize,
+) -> bool
     requires table { (seat.old.table_id ≡ table.now.id) × (seat.old.me.0.shape ≡ table.now.shape) }
     requires writer { seat.old.me.0.me ≡ 0 }
     requires known { IsKnown seat.old.me.0 }
+    requires seen { AreSightings seat.old.me.0 seen.old.items }
+    requires slot { slot < table.now.shape.slots }
+    requires reader { reader < table.now.shape.readers }
     ensures table { seat.new.table_id ≡ seat.old.table_id }
     ensures held { seat.new.me.1 ≡ seat.old.me.1 }
-    ensures outside { result ≡ true → Went seat.old.me.0
-        (scans_outside table.now.shape.readers ++ seat.old.me.0.mine) seat.new.me.0 }
-    ensures inside { result ≡ false → (n found : ℕ) × (n < table.now.shape.readers) × (found ≢ 0)
-        × Went seat.old.me.0 ((Scan (n + 1) found ∷ scans_outside n) ++ seat.old.me.0.mine)
-        seat.new.me.0 }
+    ensures seen { AreSightings seat.new.me.0 seen.new.items }
+    ensures steps { (ms : List Move) × Went seat.old.me.0 (ms ++ seat.old.me.0.mine) seat.new.me.0
+        × OnlyScans reader (reader + 1) ms × (length ms ≤ 1)
+        × MatchBool result (Cleared (reader + 1) slot (ms ++ seat.old.me.0.mine))
+        (FoundInside (reader + 1) ms
+        × (Cleared (reader + 1) slot (ms ++ seat.old.me.0.mine) → ⊥)) }
 {
-    for reader in 0..table.shape().readers {
-        if table.scan(seat, reader) != 0 {
-            return false;
-        }
+    let shape = table.shape();
+    if seen[reader * MAX_TABLE_SLOTS + slot] {
+        return true;
     }
+    if table.scan(seat, reader) != 0 {
+        return false;
+    }
+    note(seen, shape.slots, reader);
     true
+}
+
+/// Whether each reader was seen outside a section since the slot's header changed last. Those that were not are looked at
+/// now.
+pub(crate) fn each_was_outside(
+    table: &ReadTable,
+    seat: &mut Seat<u8, View>,
+    seen: &mut Vec<bool>,
+    slot: usize,
+) -> bool
+    requires table { (seat.old.table_id ≡ table.now.id) × (seat.old.me.0.shape ≡ table.now.shape) }
+    requires writer { seat.old.me.0.me ≡ 0 }
+    requires known { IsKnown seat.old.me.0 }
+    requires seen { AreSightings seat.old.me.0 seen.old.items }
+    requires slot { slot < table.now.shape.slots }
+    ensures table { seat.new.table_id ≡ seat.old.table_id }
+    ensures held { seat.new.me.1 ≡ seat.old.me.1 }
+    ensures seen { AreSightings seat.new.me.0 seen.new.items }
+    ensures steps { (ms : List Move) × Went seat.old.me.0 (ms ++ seat.old.me.0.mine) seat.new.me.0
+        × OnlyScans 0 table.now.shape.readers ms × (length ms ≤ table.now.shape.readers)
+        × Tells table.now.shape.readers slot ms (ms ++ seat.old.me.0.mine) result }
+{
+    let mut each = true;
+    for reader in 0..table.shape().readers {
+        let outside = was_outside(table, seat, seen, slot, reader);
+        each = each && outside;
+    }
+    each
 }
 
 /// The place of a slot in a list.

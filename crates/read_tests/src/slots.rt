@@ -149,6 +149,61 @@ fn unlink_beside<R: Abort>(
     is_taken(rt, table, first, writer, slot);
 }
 
+/// A slot is taken again where each reader was seen outside once, though one or the other was inside at each look.
+fn reclaim_in_turn<R: Abort>(
+    rt: &R,
+    table: &ReadTable,
+    first: &mut ReadSeat,
+    second: &mut ReadSeat,
+    writer: &mut Writer,
+    slot: usize,
+)
+    requires table { writer.old.table ≡ table.now }
+    requires linked { Contains writer.old.linked slot }
+    requires first { IsReady table.now first.old }
+    requires second { IsReady table.now second.old }
+    ensures table { writer.new.table ≡ table.now }
+{
+    writer.unlink(table, slot);
+    table.open(second);
+    assert!(rt; !writer.try_reclaim(table, slot));
+    table.close(second);
+    table.open(first);
+    assert!(rt; writer.try_reclaim(table, slot));
+    table.close(first);
+}
+
+/// No reader has to be outside at the same time as another. The writer finds the slots of its keys, and no others.
+#[test]
+fn readers_are_seen_in_turn(rt: HostRuntime) -> Result<(), Fail> {
+    let (table, seats, mut writer) = ReadTable::new(rt.alloc(), 3, 16, 8, 2)?;
+    let mut list = seats.list;
+    let Some((first, second)) = two_seats(&table, list.as_mut_slice()) else {
+        return Err(Fail::from("not two seats"));
+    };
+    assert!(rt; writer.link(&table, &key(2), &value(2)).is_some());
+    let Some(slot) = writer.link(&table, &key(1), &value(1)) else {
+        return Err(Fail::from("no free slot"));
+    };
+    assert_eq!(rt;
+        (writer.find(&table, &key(1)), writer.linked().len()),
+        (Some(slot), 2)
+    );
+    reclaim_in_turn(&rt, &table, first, second, &mut writer, slot);
+    assert_eq!(rt;
+        (writer.find(&table, &key(1)), writer.linked().len()),
+        (None, 1)
+    );
+    assert_eq!(rt;
+        (
+            writer.find(&table, &key(2)).is_some(),
+            writer.unlinked().len()
+        ),
+        (true, 0)
+    );
+    Ok(())
+}
+
 /// A slot that was unlinked is found no more. It is taken again once no reader is inside a section, and not before.
 #[test]
 fn a_slot_is_taken_again(rt: HostRuntime) -> Result<(), Fail> {

@@ -3,4 +3,5 @@ pub mod Cells
 pub mod Changes
 pub mod KindLaws
 pub mod Results
+pub mod Same
 pub mod Setting

@@ -15,7 +15,10 @@ use Rattle.register_kinds.specs.declared.kind.RegKind.{RegKind}
 use Rattle.register_kinds.specs.declared.kind.RegKind.TheVariants as kinds
 use Rattle.register_kinds.specs.declared.kind.CellKind.TheVariants as cells
 use Rattle.register_kinds.specs.States.{kind_of, kind_at, kind_in, class_in}
-use Rattle.register_kinds.specs.Joined.{IsHull}
+use Rattle.std.specs.Int.Bits.{or_self, and_self}
+use Rattle.std.proofs.Math.Nat.{min-eq_left, max-eq_left}
+use Rattle.scalar_domain.specs.Constant.{le_self}
+use Rattle.register_kinds.specs.Joined.{IsHull, IsJoinedKind}
 use Rattle.register_kinds.specs.Pairs.{IsBelow, IsPairing}
 use Rattle.register_kinds.specs.JoinTable.{PairsGrow, pair_of, IsTable, JoinsKind}
 
@@ -96,6 +99,46 @@ module _ (top : ℕ) (pairs : List (ℕ × ℕ)) where
   pub joins_blank : (b : Kind) → JoinsKind top pairs Blank b Blank
   joins_blank b = record { left = tt; right = wide-blank (λ id. (pair_of top pairs id).1) b; below = tt; exact = refl }
 
+-- what is the same on both sides stays
+module _ (top : ℕ) (pairs : List (ℕ × ℕ)) where
+  same_wider : (f : ℕ → ℕ) → ((id : ℕ) → id < top → f id ≡ id) → (k : Kind) → IsBelow top k → IsWiderKind f k k
+  same_wider f e (MaybeNull map i) b = (refl, e i b)
+  same_wider f e (Num s) b = λ n h. h
+  same_wider f e (ValueAt map s) b = (refl, λ o h. h)
+  same_wider f e (CtxAt s) b = λ o h. h
+  same_wider f e (FrameAt o) b = refl
+  same_wider f e (MapAt m) b = refl
+  same_wider f e Blank b = tt
+  same_wider f e Mixed b = tt
+  same_wider f e Ended b = tt
+
+  hull_same : (s : Scalar) → IsHull s s s
+  hull_same s = record {
+    least = sym (min-eq_left (le_self s.least));
+    greatest = sym (max-eq_left (le_self s.greatest));
+    zeros = sym (or_self s.may);
+    ones = sym (and_self s.must);
+  }
+
+  joined_same : (k : Kind) → IsJoinedKind k k k
+  joined_same Blank = refl
+  joined_same Ended = refl
+  joined_same Mixed = refl
+  joined_same (Num s) = (s, refl, hull_same s)
+  joined_same (CtxAt s) = (s, refl, hull_same s)
+  joined_same (FrameAt o) = (λ _. refl, λ ne. absurd (ne refl))
+  joined_same (MapAt m) = (λ _. refl, λ ne. absurd (ne refl))
+  joined_same (ValueAt m s) = (λ _. (s, refl, hull_same s), λ ne. absurd (ne refl))
+  joined_same (MaybeNull m x) = (λ _. (x, refl), λ ne. absurd (ne refl))
+
+  pub joins_same : (k : Kind) → IsBelow top k → JoinsKind top pairs k k k
+  joins_same k b = record {
+    left = same_wider (λ id. (pair_of top pairs id).0) (λ id l. ap (λ (p : ℕ × ℕ). p.0) (pair_old top pairs id l)) k b;
+    right = same_wider (λ id. (pair_of top pairs id).1) (λ id l. ap (λ (p : ℕ × ℕ). p.1) (pair_old top pairs id l)) k b;
+    below = below_kind top (top + length pairs) k (omega arith) b;
+    exact = joined_same k;
+  }
+
 -- registers joined in turn: with one more, and all of the list
 pub kinds_more : (top i : ℕ) (pairs pairs' : List (ℕ × ℕ)) (xs old others : List RegKind) (k : RegKind) → i < length xs → PairsGrow pairs pairs'
     → ((r : ℕ) → r < i → JoinsKind top pairs (kind_at old r) (kind_at others r) (kind_at xs r)) →
@@ -107,14 +150,15 @@ kinds_more top i pairs pairs' xs old others k l x done here = below_more _ i
     (sym (get_or-set_other xs i r k kinds.Unwritten ne)) (kind_later top pairs pairs' x _ _ _ (done r h)))
     (subst (λ y. JoinsKind top pairs' (kind_at old i) (kind_at others i) (kind_of y)) (sym (get_or-set_same xs i k kinds.Unwritten l)) here)
 
--- with one more that is unwritten
-pub kinds_kept : (top i : ℕ) (pairs : List (ℕ × ℕ)) (xs old others : List RegKind) → kind_in xs i ≡ kinds.Unwritten → kind_in old i ≡ kinds.Unwritten
+-- with one more that is the same on both sides
+pub kinds_same : (top i : ℕ) (pairs : List (ℕ × ℕ)) (xs old others : List RegKind) → IsBelow top (kind_at old i) → kind_in xs i ≡ kind_in old i
+    → kind_in others i ≡ kind_in old i
     → ((r : ℕ) → r < i → JoinsKind top pairs (kind_at old r) (kind_at others r) (kind_at xs r)) → (r : ℕ) → r < i + 1
     → JoinsKind top pairs (kind_at old r) (kind_at others r) (kind_at xs r)
-kinds_kept top i pairs xs old others e f done = below_more _ i done
-    (subst (λ y. JoinsKind top pairs (kind_of y) (kind_at others i) (kind_at xs i)) (sym f)
-    (subst (λ y. JoinsKind top pairs Blank (kind_at others i) (kind_of y)) (sym e)
-    (joins_blank top pairs (kind_at others i))))
+kinds_same top i pairs xs old others b e f done = below_more _ i done
+    (subst (λ y. JoinsKind top pairs (kind_at old i) (kind_of y) (kind_at xs i)) (sym f)
+    (subst (λ y. JoinsKind top pairs (kind_at old i) (kind_at old i) (kind_of y)) (sym e)
+    (joins_same top pairs (kind_at old i) b)))
 
 pub kinds_all : (top : ℕ) (pairs : List (ℕ × ℕ)) (old others xs : List RegKind) → length xs ≡ length others → length old ≡ length others
     → ((r : ℕ) → r < length others → JoinsKind top pairs (kind_at old r) (kind_at others r) (kind_at xs r)) → (r : ℕ)

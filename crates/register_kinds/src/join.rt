@@ -69,9 +69,9 @@ pub(crate) fn join_kinds(
     ensures few { length pairs.new.items ≤ length pairs.old.items + length others.now }
 {
     for i in from..others.len() {
-        match kinds[i] {
-            RegKind::Unwritten => {}
-            kind => kinds[i] = join_kind(pairs, top, kind, others[i]),
+        let kind = kinds[i];
+        if kind != others[i] {
+            kinds[i] = join_kind(pairs, top, kind, others[i]);
         }
     }
 }

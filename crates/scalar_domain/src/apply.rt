@@ -12,6 +12,7 @@ use bpf_model::{AluOp, Size};
 impl Scalar {
     /// What an operation can give, on 64 bits or on the low 32: at least as narrow as
     /// `specs/Floor.antt` says, so of two constants the constant.
+    #[inline(always)]
     pub fn apply(size: Size, op: AluOp, a: Scalar, b: Scalar) -> Scalar
         ensures sound { (x y : ℕ) → x < 2 ^ 64 → y < 2 ^ 64 → Holds a x → Holds b y
             → Holds result (alu size op x y) }
@@ -19,11 +20,22 @@ impl Scalar {
     {
         match (a.as_constant(), b.as_constant()) {
             (Some(x), Some(y)) => Scalar::constant(alu::alu(size, op, x, y)),
-            _ => match size {
-                Size::Word64 => apply_wide(op, a, b),
-                Size::Word32 => apply_narrow(op, a.low_bits(32), b.low_bits(32)),
-            },
+            _ => apply_sets(size, op, a, b),
         }
+    }
+}
+
+/// What an operation can give, on 64 bits or on the low 32, where both operands are not constants.
+#[inline(never)]
+fn apply_sets(size: Size, op: AluOp, a: Scalar, b: Scalar) -> Scalar
+    ensures sound { (x y : ℕ) → x < 2 ^ 64 → y < 2 ^ 64 → Holds a x → Holds b y
+        → Holds result (alu size op x y) }
+    ensures narrow { size ≡ Size.Word32 → result.greatest < 2 ^ 32 }
+    ensures wide { size ≡ Size.Word64 → KeepsWideFloor op a b result }
+{
+    match size {
+        Size::Word64 => apply_wide(op, a, b),
+        Size::Word32 => apply_narrow(op, a.low_bits(32), b.low_bits(32)),
     }
 }
 

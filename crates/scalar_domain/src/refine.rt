@@ -19,6 +19,7 @@ impl Scalar {
     /// What remains of two sets on the edge of a conditional jump where it is taken, or where it is
     /// not. Where that would leave no number of one of them, by bounds and known bits together, both stay
     /// as they are.
+    #[inline(always)]
     pub fn refine(
         size: Size,
         condition: Condition,
@@ -33,15 +34,9 @@ impl Scalar {
         ensures kept { FitsSize size a → FitsSize size b
             → (LeavesNumbers size condition taken a b → ⊥) → result ≡ (a, b) }
     {
-        match refine_words(size, condition, a, b, taken) {
-            Some((left, right)) => {
-                if left.is_inhabited() && right.is_inhabited() {
-                    (left, right)
-                } else {
-                    (a, b)
-                }
-            }
-            None => (a, b),
+        match (a.as_constant(), b.as_constant()) {
+            (Some(_), Some(_)) => (a, b),
+            _ => refine_sets(size, condition, a, b, taken),
         }
     }
 
@@ -104,6 +99,34 @@ impl Scalar {
             return None;
         }
         Some(Scalar::new(self.least, self.greatest, may, must))
+    }
+}
+
+/// As `Scalar::refine`, where one of both may have several numbers: two constants stay as they are.
+#[inline(never)]
+fn refine_sets(
+    size: Size,
+    condition: Condition,
+    a: Scalar,
+    b: Scalar,
+    taken: bool,
+) -> (Scalar, Scalar)
+    ensures sound { (x y : ℕ) → x < 2 ^ 64 → y < 2 ^ 64 → Holds a x → Holds b y
+        → compares size condition x y ≡ taken → AreHeld x y result }
+    ensures floor { KeepsEdgeFloor size condition taken a b result.0 result.1 }
+    ensures remains { (result ≡ (a, b)) ⊎ (HoldsSome result.0 × HoldsSome result.1) }
+    ensures kept { FitsSize size a → FitsSize size b
+        → (LeavesNumbers size condition taken a b → ⊥) → result ≡ (a, b) }
+{
+    match refine_words(size, condition, a, b, taken) {
+        Some((left, right)) => {
+            if left.is_inhabited() && right.is_inhabited() {
+                (left, right)
+            } else {
+                (a, b)
+            }
+        }
+        None => (a, b),
     }
 }
 

@@ -6,3 +6,4 @@ pub mod Exits
 pub mod Kept
 pub mod Answered
 pub mod NewWorlds
+pub mod ManyMoves

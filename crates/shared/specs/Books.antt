@@ -44,6 +44,10 @@ pub record AreBalanced (b : BooksView) : Type 0 where
   pub limit : b.limit ≤ MAX_JOURNAL
   pub short : length b.journal ≤ b.limit
 
+-- the most workers of a shared world
+abbrev pub most_workers : ℕ
+most_workers = 8
+
 -- a worker: its number, how many entries it has made, and how many parts of the ledger it has
 pub record WorkerView : Type 0 where
   pub number : ℕ

@@ -5,3 +5,4 @@ pub mod Receipts
 pub mod Meter
 pub mod Noted
 pub mod Numbers
+pub mod Stretches

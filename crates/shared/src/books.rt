@@ -11,6 +11,8 @@ ghost use Rattle.shared.specs.Books.{HasNoRoom, TotalsRise, CutsTo};
 ghost use Rattle.shared.specs.declared.fault.SharedFault.TheVariants as fault;
 ghost use Rattle.shared.specs.declared.fault.CutFault.TheVariants as cut_fault;
 
+mod stretch;
+
 use crate::fault::{CutFault, SharedFault};
 use crate::tally::{Origin, Tally, Totals, unreclaimed};
 use crate::worker::Worker;

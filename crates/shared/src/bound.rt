@@ -2,8 +2,7 @@
 ghost use Rattle.std.specs.Prelude.{◌≡◌, ◌<◌, ◌≤◌, ◌∷◌, [], length, map, IfOk};
 ghost use Rattle.bpf_model.specs.View.{AreNewMaps, shapes_of_maps};
 ghost use Rattle.journal_laws.specs.Replay.{HasNoRuns};
-ghost use Rattle.shared.specs.declared.worker.TheConstants.{MAX_WORKERS};
-ghost use Rattle.shared.specs.Books.{AreNumbered};
+ghost use Rattle.shared.specs.Books.{AreNumbered, most_workers};
 
 use crate::lock::Shared;
 use crate::worker::Workers;
@@ -52,7 +51,7 @@ impl<L: Ledger> Shared<L> {
     ) -> Result<(Shared<L>, Workers<L>), AllocError>
         requires new_maps { AreNewMaps program.registry.maps }
         requires shapes { program.verified.shapes ≡ shapes_of_maps program.registry.maps }
-        requires workers { (0 < workers) × (workers ≤ MAX_WORKERS) }
+        requires workers { (0 < workers) × (workers ≤ most_workers) }
         requires name { blank.name ≡ L.name }
         requires parts { (blank.parts ≡ L.parts) × (blank.parts ≡ workers) }
         ensures count { IfOk result (λ t. length t.1 ≡ workers) }

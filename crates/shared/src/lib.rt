@@ -1,6 +1,7 @@
 //! A world that many workers act on, behind one lock.
 //!
-//! Each call of `act` is one event, with one entry in a journal that replays from a stored base. Each worker
+//! Each call of `act` is one event, with one entry in a journal that replays from a stored base; a call of
+//! `run_for` is as many steps of one run, each with its entry. Each worker
 //! has a share of a ledger that counts its entries, so the shares add up to all entries. Receipts say what a
 //! call answered, and counters are read without the lock.
 #![tactic(auto)]
@@ -11,6 +12,7 @@ mod fault;
 mod lock;
 mod meter;
 mod state;
+mod steps;
 mod tally;
 mod worker;
 
@@ -19,5 +21,6 @@ pub use bound::ProgramWithMaps;
 pub use fault::{CutFault, SharedFault};
 pub use lock::Shared;
 pub use state::{Counters, ExitNote, Receipt, State};
+pub use steps::{Steps, StepsEnd};
 pub use tally::Totals;
 pub use worker::{MAX_WORKERS, Worker, Workers};

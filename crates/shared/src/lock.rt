@@ -2,15 +2,19 @@
 ghost use Rattle.std.specs.Prelude.{◌≡◌, ◌+◌, ◌<◌, ◌≤◌, length, map, sum_by, All, IfOk, IfSome, OnErr, OnOk, Some, option_copied, slice_get};
 ghost use Rattle.bpf_model.specs.declared.limits.TheConstants.{MAX_JOURNAL};
 ghost use Rattle.bpf_model.specs.View.{shapes_of};
-ghost use Rattle.shared.specs.declared.worker.TheConstants.{MAX_WORKERS};
-ghost use Rattle.shared.specs.Books.{AreNumbered};
+ghost use Rattle.shared.specs.Books.{AreNumbered, most_workers};
 ghost use Rattle.shared.specs.Receipts.{HasExitedOnce, IsMachineAnswer, IsOwnExit, IsPossibleExit};
+ghost use Rattle.shared.specs.Stretches.{HasMade};
+ghost use Rattle.shared.specs.declared.steps.StepsEnd.{StepsEnd};
+ghost use Rattle.bpf_model.specs.declared.event.Event.{Event};
+ghost use Rattle.bpf_model.specs.declared.event.Answer.{Answer};
 ghost use Rattle.shared.specs.Tally.{origin_of, shown_totals};
 ghost use Rattle.journal_laws.specs.Replay.{Replays, HasNoRuns};
 
 use crate::books::{Books, Finished};
 use crate::fault::{CutFault, SharedFault};
 use crate::state::{Counters, ExitNote, Receipt, State};
+use crate::steps::Steps;
 use crate::worker::{Worker, Workers, merged, new_workers};
 use bpf_model::{Answer, CtxBytes, Event, MAX_JOURNAL, MAX_PROGRAMS, ProgId, RunId};
 use journal::Journal;
@@ -68,7 +72,7 @@ impl<L: Ledger> Shared<L> {
         blank: Blank,
     ) -> Result<(Shared<L>, Workers<L>, Counters), AllocError>
         requires quiet { HasNoRuns world }
-        requires workers { (0 < workers) × (workers ≤ MAX_WORKERS) }
+        requires workers { (0 < workers) × (workers ≤ most_workers) }
         requires name { blank.name ≡ L.name }
         requires parts { (blank.parts ≡ L.parts) × (blank.parts ≡ workers) }
         ensures count { IfOk result (λ t. length t.1 ≡ workers) }
@@ -97,7 +101,7 @@ impl<L: Ledger> Shared<L> {
         blank: Blank,
     ) -> Result<(Shared<L>, Workers<L>, Counters), AllocError>
         requires quiet { HasNoRuns world }
-        requires workers { (0 < workers) × (workers ≤ MAX_WORKERS) }
+        requires workers { (0 < workers) × (workers ≤ most_workers) }
         requires limit { (0 < limit) × (limit ≤ MAX_JOURNAL) }
         requires name { blank.name ≡ L.name }
         requires parts { (blank.parts ≡ L.parts) × (blank.parts ≡ workers) }
@@ -158,6 +162,20 @@ impl<L: Ledger> Shared<L> {
         ensures err { OnErr receipt.new.reply (worker.new ≡ worker.old) }
     {
         self.state.lock(rt).act_again(rt, worker, receipt);
+    }
+
+    /// Steps a run as long as its step is answered with a move, at most so many times, under one lock: what as many
+    /// calls of `act` come to, as `State::run_for` says. It stops where the journal has no room for another entry,
+    /// before a step that would be the run's exit, and before one that would be refused. Of these no clause says
+    /// more, since a contract does not see what is under the lock. It takes no memory but the journal's.
+    pub fn run_for<R: Wait>(&self, rt: &R, worker: &mut Worker<L>, run: RunId, most: usize) -> Steps
+        ensures made { HasMade worker.old result.moved worker.new }
+        ensures answered { 0 < result.moved → IsMachineAnswer (Event.Step run) Answer.Moved }
+        ensures most { result.moved ≤ most }
+        ensures exhausted { result.end ≡ StepsEnd.Exhausted → result.moved ≡ most }
+        ensures memory { result.end ≡ StepsEnd.Memory → result.moved ≡ 0 }
+    {
+        self.state.lock(rt).run_for(rt, worker, run, most)
     }
 
     /// Applies one event, and puts its answer in the place of another one. It waits for the lock, and takes no

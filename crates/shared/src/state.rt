@@ -1,9 +1,15 @@
 //! What the lock guards: the books, with the one pass that writes the counters.
-ghost use Rattle.std.specs.Prelude.{◌≡◌, ◌+◌, ◌≤◌, ◌↔◌, length, IfOk, OnErr, OnOk, Err};
+ghost use Rattle.std.specs.Prelude.{◌≡◌, ◌+◌, ◌<◌, ◌≤◌, ◌↔◌, length, IfOk, OnErr, OnOk, Err};
+ghost use Rattle.bpf_model.specs.declared.event.Event.{Event};
+ghost use Rattle.bpf_model.specs.declared.event.Answer.{Answer};
 ghost use Rattle.std.specs.Arc.{arc_value};
 ghost use Rattle.crossbeam_utils.specs.Seq.{cell_view};
 ghost use Rattle.shared.specs.Noted.{IsEntered, receipt_of};
-ghost use Rattle.shared.specs.Books.{TotalsRise, CutsTo};
+ghost use Rattle.shared.specs.Books.{IsJournalFull, TotalsRise, CutsTo};
+ghost use Rattle.shared.specs.Receipts.{IsMachineAnswer};
+ghost use Rattle.shared.specs.Stretches.{EntersMoves, HasMade};
+ghost use Rattle.shared.specs.declared.steps.StepsEnd.{StepsEnd};
+ghost use Rattle.world.specs.Stretches.{WouldBeRefused, WouldExit};
 ghost use Rattle.shared.specs.Meter.{writer_at};
 ghost use Rattle.shared.specs.Tally.{IsTallyOf, shown_totals};
 ghost use Rattle.bpf_model.specs.declared.limits.TheConstants.{MAX_JOURNAL};
@@ -19,9 +25,10 @@ use crate::books::{Books, Finished};
 use crate::fault::{CutFault, SharedFault};
 use crate::meter::{Meter, MeterPass, Writes};
 use crate::state::counters::begin;
+use crate::steps::Steps;
 use crate::tally::Totals;
 use crate::worker::Worker;
-use bpf_model::{Answer, Event};
+use bpf_model::{Answer, Event, RunId};
 pub use counters::Counters;
 pub use note::ExitNote;
 pub use receipt::Receipt;
@@ -59,6 +66,7 @@ impl<L: Ledger> Model for State<L> {
 }
 
 /// Writes the totals where they have changed.
+#[inline(always)]
 fn publish<R: Wait>(rt: &R, cell: &Meter, pass: &mut MeterPass, before: Totals, after: Totals)
     requires cell { pass.old.table_id ≡ cell.now.table.shared.table_id }
     requires view { cell_view pass.old ≡ writer_at before }
@@ -104,6 +112,36 @@ impl<L: Ledger> State<L> {
         let after = self.books.totals();
         publish(rt, &self.cell, &mut self.pass, before, after);
         outcome
+    }
+
+    /// Steps a run as long as its step is answered with a move, at most so many times, and enters the moves and
+    /// writes the counters: what as many acts of its step come to. It stops where the journal has no room for
+    /// another entry, before a step that would be the run's exit, and before one that would be refused.
+    pub fn run_for<R: Wait>(
+        &mut self,
+        rt: &R,
+        worker: &mut Worker<L>,
+        run: RunId,
+        most: usize,
+    ) -> Steps
+        ensures moves { EntersMoves worker.old.number run self.old.books result.moved
+            self.new.books }
+        ensures made { HasMade worker.old result.moved worker.new }
+        ensures answered { 0 < result.moved → IsMachineAnswer (Event.Step run) Answer.Moved }
+        ensures cell { self.new.meter ≡ self.old.meter }
+        ensures most { result.moved ≤ most }
+        ensures exhausted { result.end ≡ StepsEnd.Exhausted → result.moved ≡ most }
+        ensures exits { result.end ≡ StepsEnd.Exits → WouldExit self.new.books.world run }
+        ensures refused { result.end ≡ StepsEnd.Refused →
+            WouldBeRefused self.new.books.world run }
+        ensures full { result.end ≡ StepsEnd.Full → IsJournalFull self.new.books }
+        ensures memory { result.end ≡ StepsEnd.Memory → result.moved ≡ 0 }
+    {
+        let before = self.books.totals();
+        let steps = self.books.run_for(worker, run, most);
+        let after = self.books.totals();
+        publish(rt, &self.cell, &mut self.pass, before, after);
+        steps
     }
 
     /// Makes the world its own new base and empties the journal, whose entries are counted as those before the

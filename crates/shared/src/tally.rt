@@ -1,5 +1,5 @@
 //! What is counted of a shared world.
-ghost use Rattle.std.specs.Prelude.{◌≡◌, ◌+◌, ◌<◌, ◌^◌};
+ghost use Rattle.std.specs.Prelude.{◌≡◌, ◌+◌, ◌-◌, ◌<◌, ◌≤◌, ◌^◌};
 ghost use Rattle.journal_laws.specs.Totals.{unreclaimed_in};
 ghost use Rattle.shared.specs.Tally.{CountsOn, steps_by, reclaimed_by, origin_of, shown_totals, IsTallyOf};
 
@@ -124,6 +124,23 @@ impl Tally {
         self.totals.steps += steps(answer);
         self.totals.reclaimed += gone;
         self.totals.unlinked += unreclaimed - (self.unreclaimed - gone);
+        self.unreclaimed = unreclaimed;
+    }
+
+    /// Counts so many moves, after which so many elements are unlinked and not yet reclaimed.
+    pub(crate) fn count_moves(&mut self, moves: u64, unreclaimed: u64)
+        requires unreclaimed { self.old.unreclaimed ≤ unreclaimed }
+        requires steps { self.old.totals.steps + moves < 2 ^ 64 }
+        requires unlinked { self.old.totals.unlinked + (unreclaimed - self.old.unreclaimed) < 2 ^ 64 }
+        ensures origin { self.new.origin ≡ self.old.origin }
+        ensures unreclaimed { self.new.unreclaimed ≡ unreclaimed }
+        ensures steps { self.new.totals.steps ≡ self.old.totals.steps + moves }
+        ensures reclaimed { self.new.totals.reclaimed ≡ self.old.totals.reclaimed }
+        ensures unlinked { self.new.totals.unlinked + self.old.unreclaimed
+            ≡ self.old.totals.unlinked + unreclaimed }
+    {
+        self.totals.steps += moves;
+        self.totals.unlinked += unreclaimed - self.unreclaimed;
         self.unreclaimed = unreclaimed;
     }
 }

@@ -19,6 +19,8 @@ mod mixing;
 #[cfg(test)]
 mod stops;
 #[cfg(test)]
+mod stretches;
+#[cfg(test)]
 mod threads;
 #[cfg(test)]
 mod totals;

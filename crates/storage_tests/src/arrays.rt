@@ -65,3 +65,19 @@ fn copy_of_an_array(rt: HostRuntime) -> Result<(), Fail> {
     assert!(rt; copy.next_above(Some(LAST.as_slice())).is_none());
     Ok(())
 }
+
+#[test]
+fn slots_of_an_array_in_order(rt: HostRuntime) -> Result<(), Fail> {
+    let array = ArrayMap::new(
+        rt.alloc(),
+        MapShape {
+            entries: 258,
+            ..THREE
+        },
+    )?;
+    let slots = array.in_order(rt.alloc())?;
+    assert_eq!(rt; slots.len(), 258);
+    assert!(rt; slots.starts_with(&[0, 256, 1, 257, 2, 3]));
+    assert_eq!(rt; slots.last(), Some(&255));
+    Ok(())
+}

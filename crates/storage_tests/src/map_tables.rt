@@ -1,6 +1,6 @@
 //! Maps of both forms over lines of commands, with the answers that they must have, worked out by hand; and the registry.
 //! Bytes are hexadecimal digits. `slot` asks for the slot of a key, `above` for the element with the least key above
-//! another, or of all (`-`).
+//! another, or of all (`-`), `list` for the map slots of all elements in the order of their keys.
 use crate::vectors::Vectors;
 use bpf_model::{Errno, Given, MapId, MapKind, MapShape};
 use hash_index::{Buckets, Index, Sorted};
@@ -24,6 +24,7 @@ pub(crate) const SMALL: MapShape = MapShape {
 /// The tests of an update in their order; the slots that elements take; the order of reclamation; wear;
 /// order of keys.
 const SMALL_LINES: &str = "slot 07 = none\n\
+list = slots\n\
 put 07 0102 3 = -22\n\
 put 07 0102 2 = -2\n\
 put 07 0102 0 = 0\n\
@@ -37,6 +38,7 @@ above 07 = 08 0304\n\
 above 08 = none\n\
 put 07 0708 2 = 0\n\
 slot 07 = 2\n\
+list = slots 2 1\n\
 above - = 07 0708\n\
 put 07 0909 2 = -12\n\
 del 09 = -2\n\
@@ -173,6 +175,16 @@ fn above<I: Index>(
     Ok(())
 }
 
+/// Writes the map slots of all elements, in the order of their keys.
+fn list<I: Index>(alloc: Global, map: &HashMap<I>, text: &mut String) -> Result<(), Fail> {
+    text.push_str("slots")?;
+    let slots = map.in_order(alloc)?;
+    for slot in &slots {
+        write!(text, " {slot}")?;
+    }
+    Ok(())
+}
+
 /// Does the command of a line, also on the vectors, and writes its answer.
 fn answer<I: Index>(
     alloc: Global,
@@ -207,6 +219,7 @@ fn answer<I: Index>(
             tell_slot(text, map.lookup(&key))
         }
         "above" => above(alloc, map, word(words)?, text),
+        "list" => list(alloc, map, text),
         "reap" => reap(alloc, map, vectors, text),
         "advance" => {
             map.advance();

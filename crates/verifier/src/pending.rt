@@ -50,7 +50,48 @@ impl Pending {
     }
 
     /// Joins a state into what waits for the instruction of this index.
+    #[inline(always)]
     pub(crate) fn put(
+        &mut self,
+        index: usize,
+        state: Box<AbsState>,
+        boxes: &mut Boxes,
+        ids: &mut Identities,
+    )
+        requires index { index < size_of self.old }
+        requires room { ids.old.next + MAX_PAIRS < 2 ^ 32 }
+        requires state { AreBelow ids.old.next state.value }
+        requires below { AllBelow ids.old.next (awaited self.old) }
+        ensures merged { Merged index state.value (awaited self.old) (awaited self.new) }
+        ensures size { size_of self.new ≡ size_of self.old }
+        ensures below { AllBelow ids.new.next (awaited self.new) }
+        ensures few { TakesFew MAX_PAIRS ids.old.next ids.new.next }
+        ensures peak { self.new.peak ≡ max self.old.peak (states_in self.new.by_index) }
+    {
+        match self.by_index[index] {
+            Waiting::Nothing => self.put_first(index, state),
+            Waiting::Known(_) | Waiting::Differing => self.put_again(index, state, boxes, ids),
+        }
+    }
+
+    /// Puts the first state that waits for the instruction of this index.
+    fn put_first(&mut self, index: usize, state: Box<AbsState>)
+        requires index { index < size_of self.old }
+        requires first { awaited self.old index ≡ Nothing }
+        ensures merged { Merged index state.value (awaited self.old) (awaited self.new) }
+        ensures size { size_of self.new ≡ size_of self.old }
+        ensures below { (top : ℕ) → AreBelow top state.value → AllBelow top (awaited self.old)
+            → AllBelow top (awaited self.new) }
+        ensures peak { self.new.peak ≡ max self.old.peak (states_in self.new.by_index) }
+    {
+        self.by_index[index] = Waiting::Known(state);
+        self.len += 1;
+        self.peak = self.peak.max(self.len);
+    }
+
+    /// Joins a state into what waits already.
+    #[inline(never)]
+    fn put_again(
         &mut self,
         index: usize,
         state: Box<AbsState>,

@@ -30,6 +30,7 @@ impl Waiting {
 }
 
 /// Joins a state into what waits, and keeps its box where it is no longer of use.
+#[inline(always)]
 pub(crate) fn join_into(
     waiting: &mut Waiting,
     state: Box<AbsState>,

@@ -7,7 +7,7 @@ ghost use Rattle.worker_pool.specs.Trails.{IsLater, IsByWorker, WasStarted, IsOf
 
 use crate::job::{Job, JobReport, Outcome, StopCause, Trail};
 use crate::reply::{dropped, exited, has_moved, started};
-use bpf_model::{Event, RunId, array_of};
+use bpf_model::{Event, MAX_SLOTS, RunId, array_of};
 use job_queue::Serve;
 use shared::{Receipt, Shared, Worker};
 use std::sync::Wait;
@@ -19,10 +19,10 @@ pub struct Pooled<'a, L: Ledger> {
     pub shared: &'a Shared<L>,
 }
 
-/// Steps the run until a step is answered with something else than a move; the receipt is that step's. Each
-/// move is an entry of the worker, which counts its entries in 64 bits, so it ends. (A verified program moves
-/// fewer than `MAX_SLOTS` times, and a full journal ends every run; but others may start a run of theirs in a
-/// run slot that they dropped the job's run from.)
+/// Steps the run until a step is answered with something else than a move; the receipt is that step's. The moves
+/// are made under one lock; a verified program makes fewer than `MAX_SLOTS`. Where a step moves nevertheless, since
+/// others have started a run of theirs in a run slot that they dropped the job's run from, it goes on step by step.
+/// Each move is an entry of the worker, which counts its entries in 64 bits, so it ends.
 fn step_to_end<L: Ledger, R: Wait>(
     rt: &R,
     shared: &Shared<L>,
@@ -36,6 +36,7 @@ fn step_to_end<L: Ledger, R: Wait>(
     ensures later { IsLater worker.old worker.new }
     ensures by { IsByWorker worker.old worker.new result }
 {
+    shared.run_for(rt, worker, run, MAX_SLOTS);
     let mut step = shared.act_noted(rt, worker, Event::Step { run });
     while has_moved(step.reply()) {
         shared.act_again(rt, worker, &mut step);

@@ -16,3 +16,5 @@ pub mod ShapesKept
 pub mod Slots
 pub mod Starting
 pub mod Stepping
+pub mod NextSteps
+pub mod OwnMoves

@@ -73,7 +73,7 @@ module _ (r : ℕ) (v : RunView) (w : WorldView) where
   stored width number offset (AtMap map) h = absurd h
 
   -- a helper
-  helping : (helper : HelperId) (map : ℕ) (m : MapView) → let x : ℕ × List MapView =
+  pub helping : (helper : HelperId) (map : ℕ) (m : MapView) → let x : ℕ × List MapView =
       called_at helper map (Some m) v w.maps in serves helper map (Some m) r v w ≡ goes x.1 (returned_view x.0 v)
   helping Lookup map m = refl
   helping Update map m = refl

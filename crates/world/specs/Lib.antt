@@ -9,3 +9,4 @@ pub mod Numbers
 pub mod Programs
 pub mod Serving
 pub mod Stepping
+pub mod Stretches

@@ -13,6 +13,7 @@ mod parts;
 mod reclaim;
 mod starting;
 mod step;
+mod walk;
 
 pub use loaded::Loaded;
 pub use parts::Parts;

@@ -17,8 +17,10 @@ mod run_all;
 mod section;
 mod serving;
 pub mod serving_laws;
+mod stretch;
 mod world;
 
 pub use fault::WorldFault;
 pub use kept::Loaded;
+pub use stretch::{Stop, Stretch};
 pub use world::World;

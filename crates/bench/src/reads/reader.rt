@@ -6,7 +6,7 @@ ghost use Rattle.bench.specs.Reads.{HasWordLengths, IsProgramOf};
 
 use crate::reads::task::Deed;
 use bpf_model::CtxBytes;
-use read_table::{ReadSeat, ReadTable};
+use read_table::{ReadSeat, ReadTable, uses_sub_words};
 use verifier::Verified;
 
 /// How many keys each reader looks up in turn.
@@ -77,10 +77,11 @@ fn run_all(table: &ReadTable, seat: &mut ReadSeat, program: &Verified, calls: u3
 {
     let ctx = CtxBytes::new();
     let mut sum = 0u64;
+    if uses_sub_words(program) {
+        return sum;
+    }
     for _ in 0..calls {
-        if let Ok(value) = table.run_shared(seat, program, &ctx) {
-            sum = sum.wrapping_add(value);
-        }
+        sum = sum.wrapping_add(table.run_to_exit(seat, program, &ctx));
     }
     sum
 }

@@ -7,4 +7,4 @@ pub returns-clause-refused : goal.returns-clause-refused
 returns-clause-refused g c =
     let why = c.in-Err-make_code.why in
     λ is. IfSome_then (g.R.Read.remaining c.args.input.now) c.in-Ok.ensures
-    (λ bytes same. (why, c.flawed.ensures.refused is, subst (λ z. IsTextFault z why) (c.deref.ensures.value ∙ same) c.in-Err-make_code.ensures.fault))
+    (λ bytes same. (why, c.told.ensures.refused is, subst (λ z. IsTextFault z why) (c.deref.ensures.value ∙ same) c.in-Err-make_code.ensures.fault))

@@ -1,9 +1,7 @@
-use Rattle.std.proofs.Common.{◌≡◌, ◌++◌, ◌∷◌, [], List, ℕ, length, sym, ap, subst, ◌∙◌, rules}
-use Rattle.std.specs.Prelude.{map}
-use Rattle.journal.specs.Rows.{IsRowOf, AreStored, entry_bytes, entry_from, entry_of}
+use Rattle.std.proofs.Common.{◌≡◌, ◌++◌, ◌∷◌, [], List, length, ap, subst, ◌∙◌, rules, arith, ℕ}
+use Rattle.journal.specs.Rows.{IsRowOf, entry_from}
 use Rattle.bpf_model.specs.declared.entry.Entry.{Entry}
-use Rattle.journal.specs.declared.row.Row.{Row}
-use Rattle.journal.proofs.Storing.{stored-push, entries-push}
+use Rattle.journal.proofs.Counting.{counted-push, entries-pushed}
 use Rattle.journal.proofs.journal.Journal.push_answer.Goals as goal
 
 pub invariant_of-self : goal.invariant_of-self
@@ -14,11 +12,8 @@ invariant_of-self c =
     let row = c.row_of-row.result in
     let at : c.len.result ≡ length bytes = search rules in
     let is : IsRowOf (length bytes) e row = subst (λ (n : ℕ). IsRowOf n e row) at c.row_of-row.ensures in
-    let all : AreStored (rows ++ row ∷ []) (bytes ++ entry_bytes e) = stored-push rows bytes e row c.self.invariant.0 is in
-    let here : AreStored c.push_reserved.new.self.items c.append.new.bytes.items =
-    subst (λ (xs : List ℕ). AreStored c.push_reserved.new.self.items xs) (sym c.append.ensures)
-    (subst (λ (rs : List Row). AreStored rs (bytes ++ entry_bytes e)) (sym c.push_reserved.ensures.items) all) in
-    (here, search rules, c.self.invariant.2)
+    counted-push rows c.push_reserved.new.self.items bytes c.append.new.bytes.items e row c.self.inside.total
+    c.self.inside.limit c.self.invariant is c.push_reserved.ensures.items c.append.ensures (grind arith)
 
 pub returns-clause-entries : goal.returns-clause-entries
 returns-clause-entries c =
@@ -28,10 +23,6 @@ returns-clause-entries c =
     let row = c.row_of-row.result in
     let at : c.len.result ≡ length bytes = search rules in
     let is : IsRowOf (length bytes) e row = subst (λ (n : ℕ). IsRowOf n e row) at c.row_of-row.ensures in
-    let all : map (entry_of (bytes ++ entry_bytes e)) (rows ++ row ∷ []) ≡ map (entry_of bytes) rows ++ e ∷ [] =
-    entries-push rows bytes e row c.self.invariant.0 is in
-    let here : map (entry_of c.append.new.bytes.items) c.push_reserved.new.self.items ≡ map (entry_of bytes) rows ++ e ∷ [] =
-    (ap (λ (xs : List ℕ). map (entry_of xs) c.push_reserved.new.self.items) c.append.ensures
-    ∙ ap (map (entry_of (bytes ++ entry_bytes e))) c.push_reserved.ensures.items)
-    ∙ all in
-    here ∙ ap (λ (es : List Entry). es ++ e ∷ []) (search rules)
+    entries-pushed rows c.push_reserved.new.self.items bytes c.append.new.bytes.items e row c.self.invariant.stored is
+    c.push_reserved.ensures.items c.append.ensures
+    ∙ ap (λ (es : List Entry). es ++ e ∷ []) (search rules)

@@ -1,4 +1,4 @@
-use Rattle.std.proofs.Common.{◌<◌, sym, ap, ◌∙◌, subst}
+use Rattle.std.proofs.Common.{◌<◌, inr, sym, ap, ◌∙◌, subst}
 use Rattle.read_table.specs.declared.view.TableShape.{TableShape}
 use Rattle.read_table.specs.History.{IsLearnt}
 use Rattle.read_table.specs.Law.{width_of}
@@ -22,7 +22,7 @@ load-requires c =
       ap (λ (q : TableView). q.id) p,
       subst (λ (q : TableView). c.index_of-index.result < q.id.words)
           (sym c.self.view_is) c.index_of-index.ensures.within,
-      loads_ok _ _ _ _ _ c.args.slot c.args.place at low l known,
+      loads_ok _ _ _ _ _ c.args.slot c.args.place at low l (inr known),
     )
 
 pub returns-clause-step : goal.returns-clause-step

@@ -1,8 +1,10 @@
-use Rattle.std.proofs.Common.{◌-◌, ◌<◌, length, arith, subst}
+use Rattle.std.proofs.Common.{◌-◌, ◌<◌, ◌∙◌, ap, length, arith, subst}
 use Rattle.bpf_model.specs.Real.{AreBytes}
 use Rattle.read_table.specs.declared.view.TableShape.{TableShape}
-use Rattle.read_table.specs.Held.{IsSized}
+use Rattle.read_table.specs.Held.{IsSized, TableView}
 use Rattle.read_table.proofs.Coming.{answered, below, exited, has-started, moved-on, resumed-on, section, servable, stands}
+use Rattle.read_table.proofs.Finding.{has-found}
+use Rattle.read_table.proofs.Holding.{held-throughout}
 use Rattle.read_table.proofs.table.ReadTable.run_to_exit.Goals as goal
 
 pub steps-init : goal.steps-init
@@ -73,3 +75,12 @@ pub returns-in-Exit-clause-ready : goal.returns-in-Exit-clause-ready
 returns-in-Exit-clause-ready c = (exited c.args.self.now c.args.verified.now c.args.ctx.now.items c.args.seat.now
     c.steps.seat c.steps.run c.requires.ready c.steps.invariant c.go_on.new.self c.go_on.ensures.run c.in-Exit.value
     c.in-Exit.ensures.steps).1
+
+pub returns-in-Exit-clause-held : goal.returns-in-Exit-clause-held
+returns-in-Exit-clause-held c = held-throughout c.steps.seat.view (returns-in-Exit-clause-ready c).known.0 c.is_readers.ensures.reader.0
+
+pub returns-in-Exit-clause-found : goal.returns-in-Exit-clause-found
+returns-in-Exit-clause-found c = has-found c.steps.seat.view (returns-in-Exit-clause-ready c).known.0
+
+pub returns-in-Exit-clause-shape : goal.returns-in-Exit-clause-shape
+returns-in-Exit-clause-shape c = c.is_readers.ensures.shape ∙ ap (λ (t : TableView). t.shape) (returns-in-Exit-clause-ready c).table

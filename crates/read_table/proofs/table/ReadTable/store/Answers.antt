@@ -1,4 +1,4 @@
-use Rattle.std.proofs.Common.{◌<◌, sym, ap, ◌∙◌, subst}
+use Rattle.std.proofs.Common.{◌<◌, ◌≤◌, sym, ap, ◌∙◌, subst}
 use Rattle.read_table.specs.declared.view.TableShape.{TableShape}
 use Rattle.read_table.specs.History.{IsLearnt}
 use Rattle.read_table.specs.Law.{width_of}
@@ -17,11 +17,13 @@ store-requires c =
     let l = subst (λ (k : TableShape). c.args.place < width_of k) (sym t.0)
     (subst (λ (q : TableView). c.args.place < width_of q.shape) (sym c.self.view_is) c.requires.place) in
     let low = subst (λ (k : TableShape). c.args.slot < k.slots) (sym t.0)
-    (subst (λ (q : TableView). c.args.slot < q.shape.slots) (sym c.self.view_is) c.requires.slot) in (
+    (subst (λ (q : TableView). c.args.slot < q.shape.slots) (sym c.self.view_is) c.requires.slot) in
+    let in_value = subst (λ (k : TableShape). k.key_words ≤ c.args.place) (sym t.0)
+    (subst (λ (q : TableView). q.shape.key_words ≤ c.args.place) (sym c.self.view_is) c.requires.value) in (
       ap (λ (q : TableView). q.id) p,
       subst (λ (q : TableView). c.index_of-index.result < q.id.words)
           (sym c.self.view_is) c.index_of-index.ensures.within,
-      stores_at _ _ _ _ _ c.args.slot c.args.place _ at low l known,
+      stores_at _ _ _ _ _ c.args.slot c.args.place _ at low in_value l known,
     )
 
 pub returns-clause-step : goal.returns-clause-step

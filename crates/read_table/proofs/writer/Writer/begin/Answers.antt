@@ -1,8 +1,10 @@
-use Rattle.std.proofs.Common.{rules, ◌≡◌, ◌∙◌, ℕ, length, sym, ap, subst}
+use Rattle.std.proofs.Common.{rules, ◌≡◌, ◌∙◌, ◌*◌, ℕ, length, sym, ap, subst}
 use Rattle.std.specs.List.{range_with_len}
 use Rattle.atomic_table.specs.Table.{Me}
 use Rattle.read_table.specs.declared.view.View.{View}
 use Rattle.read_table.specs.Slots.{IsWriter}
+use Rattle.read_table.specs.Limits.{most_readers, most_table_slots}
+use Rattle.read_table.proofs.Seen.{sightings_first}
 use Rattle.read_table.proofs.Slots.{begins_writer, begins_slots, at_most}
 use Rattle.read_table.proofs.writer.Writer.begin.Goals as goal
 
@@ -12,6 +14,7 @@ invariant_of-result c =
     let view = ap (λ (m : Me ℕ View). m.0) w.2 in
     let slots : c.args.seat.me.0.shape.slots ≡ c.args.slots = ap (λ (v : View). v.shape.slots) view ∙ w.3 in
     let headers = c.in_ok-headers.ensures in
+    let room : length c.in_ok-seen.seen.items ≡ most_readers * most_table_slots = search rules in
     let len : length c.in_ok-headers.headers.items ≡ w.1.slots = search rules in (
       subst (λ v. IsWriter v c.in_ok-headers.headers.items) (sym view) (begins_writer w.0 w.1 _ len headers.zeros),
       begins_slots _ w.0 w.1 _ _ _ view (c.in_ok-free.ensures.numbers ∙ ap (range_with_len 0) (sym w.3))
@@ -20,4 +23,5 @@ invariant_of-result c =
       at_most _ _ _ slots c.in_ok-free.ensures.capacity,
       at_most _ _ _ slots c.in_ok-linked.ensures.capacity,
       at_most _ _ _ slots c.in_ok-unlinked.ensures.capacity,
+      sightings_first _ w.0 w.1 _ view c.requires.sized room c.in_ok-seen.ensures.none,
     )

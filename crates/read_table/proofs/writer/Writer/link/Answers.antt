@@ -1,4 +1,4 @@
-use Rattle.std.proofs.Common.{ℕ, ◌+◌, ◌%◌, ◌<◌, List, [], ◌∷◌, ◌++◌, refl, sym, ap, ◌∙◌, subst}
+use Rattle.std.proofs.Common.{ℕ, ◌+◌, ◌%◌, ◌<◌, arith, List, [], ◌∷◌, ◌++◌, refl, sym, ap, ◌∙◌, subst}
 use Rattle.read_table.specs.declared.view.TableShape.{TableShape}
 use Rattle.read_table.specs.declared.view.Move.{Move}
 use Rattle.read_table.specs.declared.view.Move.TheVariants.{Header}
@@ -6,6 +6,8 @@ use Rattle.read_table.specs.History.{header_in, MayLink}
 use Rattle.read_table.specs.Held.{TableView, Went}
 use Rattle.read_table.specs.Slots.{WriterView, as_holder, Fills, IsFree, IsWriter, AreSlots}
 use Rattle.read_table.proofs.Going.{went_then}
+use Rattle.read_table.proofs.Seen.{sightings_changed, sightings_filled}
+use Rattle.read_table.proofs.Linking.{linked-under}
 use Rattle.read_table.proofs.Slots.{at_leaves}
 use Rattle.read_table.proofs.Keeping.{filled, changed_writer, linked_slots, fits, works, went_shape}
 use Rattle.read_table.proofs.writer.Writer.link.Goals as goal
@@ -55,6 +57,14 @@ change-requires-clause-reuse c =
     c.args.key.now c.args.value.now i.0 i.1 c.take_nearest-slot.ensures.leaves s.0 s.1 s.2 s.3 s.4 in
     subst (λ (k : TableShape). MayLink k.readers c.take_nearest-slot.result c.write_slot.new.seat.me.0.mine) (f.shape ∙ shape) f.now.may
 
+pub forget-requires : goal.forget-requires
+forget-requires c =
+    let i = c.self.invariant in
+    let f = at_leaves (IsFree c.self.inside.seat.me.0) c.take_nearest-slot.result _ _ c.take_nearest-slot.ensures.leaves i.1.are_free in
+    let within = f.within in
+    let few = i.6.slots in
+    (omega (arith, within, few), i.6.room)
+
 pub invariant_of-self : goal.invariant_of-self
 invariant_of-self c =
     let i = c.self.invariant in
@@ -74,6 +84,10 @@ invariant_of-self c =
       fits c.self.inside.seat.me.0 c.change.new.seat.me.0 _ _ same c.take_nearest-slot.ensures.capacity i.3,
       fits c.self.inside.seat.me.0 c.change.new.seat.me.0 _ _ same c.push_reserved.ensures.capacity i.4,
       fits c.self.inside.seat.me.0 c.change.new.seat.me.0 _ _ same refl i.5,
+      sightings_changed c.write_slot.new.seat.me.0 c.change.new.seat.me.0 c.take_nearest-slot.result _ c.self.inside.seen.items c.forget.new.seen.items g
+          c.forget.ensures.room c.forget.ensures.forgotten c.forget.ensures.others
+          (sightings_filled c.self.inside.seat.me.0 c.write_slot.new.seat.me.0 c.take_nearest-slot.result 0 _ _ _ _ _ s.0 s.1
+          c.self.inside.seen.items s.2 s.3 s.4 i.6),
     )
 
 pub returns-clause-slot : goal.returns-clause-slot
@@ -111,3 +125,19 @@ returns-clause-steps c =
           (subst (λ z. Went c.self.inside.seat.me.0 ((Header c.take_nearest-slot.result (z + 1) ∷ (s.1 ++ s.0)) ++
           c.self.inside.seat.me.0.mine) c.change.new.seat.me.0) (f.same ∙ was) all),
     )
+
+pub returns-clause-under : goal.returns-clause-under
+returns-clause-under c =
+    let i = c.self.invariant in
+    let s = c.write_slot.ensures.steps in
+    let v = c.self.inside.seat.me.0 in
+    let k = c.args.table.now.shape in
+    let slot = c.take_nearest-slot.result in
+    let shape = ap (λ (z : WriterView). z.table.shape) c.self.view_is ∙ ap (λ (z : TableView). z.shape) c.requires.table in
+    let f = filled v c.write_slot.new.seat.me.0 _ _ _ _ _ slot k
+    c.args.key.now c.args.value.now i.0 i.1 c.take_nearest-slot.ensures.leaves s.0 s.1 s.2 s.3 s.4 in
+    let even = f.now.even in
+    let all = went_then v c.write_slot.new.seat.me.0 c.change.new.seat.me.0 (s.1 ++ s.0)
+    (Header slot (header_in slot c.write_slot.new.seat.me.0.mine + 1) ∷ []) s.4 c.change.ensures.step in
+    linked-under k v c.change.new.seat.me.0 slot (header_in slot c.write_slot.new.seat.me.0.mine + 1) c.args.key.now c.args.value.now s.0 s.1 shape i.0.me
+    (subst (λ (z : TableShape). slot < z.slots) shape f.before.within) (omega (arith, even)) s.2 s.3 all

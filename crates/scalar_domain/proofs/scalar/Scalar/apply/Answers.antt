@@ -51,11 +51,11 @@ returns-in-Some-Some-clause-floor c =
       };
     }
 
-pub returns-in-Word64-clause-floor : goal.returns-in-Word64-clause-floor
-returns-in-Word64-clause-floor c =
-    let r = c.apply_wide.ensures in
+pub returns-in_default-clause-floor : goal.returns-in_default-clause-floor
+returns-in_default-clause-floor c =
+    let r = c.apply_sets.ensures in
     record {
       constant = λ x y h k. grind (arith, common_steps);
-      narrow = λ s. grind (arith, common_steps);
-      wide = λ s. r.floor;
+      narrow = r.narrow;
+      wide = r.wide;
     }

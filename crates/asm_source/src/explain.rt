@@ -1,0 +1,286 @@
+//! What is wrong with a line, in words for people.
+
+use crate::names::{are_digits, is_register};
+use crate::numbers::decimal_in;
+use disasm::{MNEMONICS, Mnemonic};
+use std::alloc::{AllocError, Global};
+use strsim::jaro_winkler;
+
+/// How much of a word is shown.
+const SHOWN_CHARACTERS: usize = 40;
+
+/// How alike a word and a mnemonic are at least where one is taken for the other.
+const ALIKE: f64 = 0.8;
+
+/// The first characters of a word.
+fn shortened(word: &str) -> &str {
+    match word.char_indices().nth(SHOWN_CHARACTERS) {
+        Some((end, _)) => word.get(..end).unwrap_or(word),
+        None => word,
+    }
+}
+
+/// The name of a mnemonic.
+fn name_of(alloc: Global, mnemonic: Mnemonic) -> Result<String, AllocError> {
+    let stem = mnemonic.stem();
+    let suffix = mnemonic.suffix();
+    format!(in alloc; "{stem}{suffix}")
+}
+
+/// The name that is most like the word, where one is like it.
+fn nearest(alloc: Global, word: &str) -> Result<Option<String>, AllocError> {
+    let mut best = None;
+    let mut most = ALIKE;
+    for mnemonic in MNEMONICS {
+        let name = name_of(alloc, mnemonic)?;
+        let likeness = jaro_winkler(alloc, word, name.as_str())?;
+        if likeness > most {
+            most = likeness;
+            best = Some(name);
+        }
+    }
+    Ok(best)
+}
+
+/// What is said of a word that is no mnemonic.
+fn no_name(alloc: Global, word: &str) -> Result<String, AllocError> {
+    let word = shortened(word);
+    if word == "ctx" || word == "map" {
+        return format!(in alloc;
+            "no instruction is called `{word}`; a context and maps end with a line `code`"
+        );
+    }
+    match nearest(alloc, word)? {
+        Some(name) => format!(in alloc;
+            "no instruction is called `{word}`; did you mean `{name}`?"
+        ),
+        None => format!(in alloc; "no instruction is called `{word}`"),
+    }
+}
+
+/// What may stand in a place of an operand.
+#[derive(Clone, Copy, Debug, PartialEq, Eq)]
+enum Place {
+    Register,
+    /// A register, or a number of 32 bits.
+    Source,
+    /// A number of 32 bits.
+    Number,
+    /// A number of 64 bits without a sign.
+    Unsigned,
+    /// How many bits `movsx` takes.
+    Width,
+    /// An offset of so many bits.
+    Offset(u8),
+    /// A register and an offset of 16 bits, in brackets.
+    Memory,
+}
+
+/// What is said of a word that may not stand in the place.
+fn place_words(place: Place) -> &'static str {
+    match place {
+        Place::Register => "is no register, which are r0 to r10",
+        Place::Source => "is neither a register nor a number",
+        Place::Number => "is no number",
+        Place::Unsigned => "is no number without a sign",
+        Place::Width => "is no width, which are 8 and 16, and 32 of `movsx64`",
+        Place::Offset(_) => "is neither a label nor an offset, which begins with + or -",
+        Place::Memory => "is no place in memory, such as [r10-8]",
+    }
+}
+
+/// The places of an instruction's operands.
+fn places_of(alloc: Global, mnemonic: Mnemonic) -> Result<Vec<Place>, AllocError> {
+    let places = match mnemonic {
+        Mnemonic::Exit => Vec::new(alloc),
+        Mnemonic::Negate(_) | Mnemonic::ByteSwap(_, _) => vec![in alloc; Place::Register]?,
+        Mnemonic::Call(_) => vec![in alloc; Place::Number]?,
+        Mnemonic::Jump => vec![in alloc; Place::Offset(16)]?,
+        Mnemonic::JumpLong => vec![in alloc; Place::Offset(32)]?,
+        Mnemonic::Alu(_, _) => vec![in alloc; Place::Register, Place::Source]?,
+        Mnemonic::LoadNumber => vec![in alloc; Place::Register, Place::Unsigned]?,
+        Mnemonic::LoadMap => vec![in alloc; Place::Register, Place::Number]?,
+        Mnemonic::Load(_) | Mnemonic::LoadSigned(_) => {
+            vec![in alloc; Place::Register, Place::Memory]?
+        }
+        Mnemonic::Store(_) => vec![in alloc; Place::Memory, Place::Number]?,
+        Mnemonic::StoreRegister(_) => vec![in alloc; Place::Memory, Place::Register]?,
+        Mnemonic::MoveSigned(_) => vec![in alloc; Place::Register, Place::Register, Place::Width]?,
+        Mnemonic::JumpIf(_, _) => {
+            vec![in alloc; Place::Register, Place::Source, Place::Offset(16)]?
+        }
+    };
+    Ok(places)
+}
+
+/// How a word is wrong in its place.
+#[derive(Clone, Copy, Debug, PartialEq, Eq)]
+enum Wrong {
+    /// It is of another kind.
+    Kind,
+    /// Its number has more than so many bits.
+    Long(u8),
+}
+
+/// How digits behind a sign are wrong as a number of so many bits, one of which is for the sign unless they are 64.
+fn wrong_digits(digits: &[u8], minus: bool, bits: u8) -> Option<Wrong> {
+    if !are_digits(digits) || digits.is_empty() {
+        return Some(Wrong::Kind);
+    }
+    let Some(number) = decimal_in(digits) else {
+        return Some(if digits[0] == b'0' {
+            Wrong::Kind
+        } else {
+            Wrong::Long(bits)
+        });
+    };
+    let limit = match bits {
+        16 => 1 << 15,
+        32 => 1 << 31,
+        _ => u64::MAX,
+    };
+    if minus && number == 0 {
+        Some(Wrong::Kind)
+    } else if number > limit || (number == limit && !minus && bits != 64) {
+        Some(Wrong::Long(bits))
+    } else {
+        None
+    }
+}
+
+/// How a word is wrong as a number, which has a minus or no sign.
+fn wrong_number(word: &[u8], bits: u8) -> Option<Wrong> {
+    match word {
+        [b'-', digits @ ..] => wrong_digits(digits, true, bits),
+        digits => wrong_digits(digits, false, bits),
+    }
+}
+
+/// How a word is wrong as an offset, which has a sign.
+fn wrong_offset(word: &[u8], bits: u8) -> Option<Wrong> {
+    match word {
+        [b'-', digits @ ..] => wrong_digits(digits, true, bits),
+        [b'+', digits @ ..] => wrong_digits(digits, false, bits),
+        _ => Some(Wrong::Kind),
+    }
+}
+
+/// How a word is wrong as a register.
+fn wrong_register(word: &[u8]) -> Option<Wrong> {
+    match word {
+        [b'r', digits @ ..] if decimal_in(digits).is_some_and(|number| number <= 10) => None,
+        _ => Some(Wrong::Kind),
+    }
+}
+
+/// How a word is wrong as a register and an offset in brackets.
+fn wrong_memory(word: &[u8]) -> Option<Wrong> {
+    let [b'[', inside @ .., b']'] = word else {
+        return Some(Wrong::Kind);
+    };
+    let Some(sign) = inside
+        .iter()
+        .position(|byte| *byte == b'+' || *byte == b'-')
+    else {
+        return Some(Wrong::Kind);
+    };
+    let (base, offset) = inside.split_at(sign);
+    wrong_register(base).or_else(|| wrong_offset(offset, 16))
+}
+
+/// How a word is wrong in its place, if it is.
+fn wrong_word(place: Place, word: &[u8]) -> Option<Wrong> {
+    match place {
+        Place::Register => wrong_register(word),
+        Place::Source if is_register(word) => wrong_register(word),
+        Place::Source | Place::Number => wrong_number(word, 32),
+        Place::Unsigned => match word {
+            [b'-', ..] => Some(Wrong::Kind),
+            _ => wrong_number(word, 64),
+        },
+        Place::Width => Some(Wrong::Kind),
+        Place::Offset(bits) => wrong_offset(word, bits),
+        Place::Memory => wrong_memory(word),
+    }
+}
+
+/// What is wrong with a word in its place, if something is. Of a refused line that is right so far, a width is wrong.
+fn word_words(alloc: Global, place: Place, word: &str) -> Result<Option<String>, AllocError> {
+    let short = shortened(word);
+    let words = match wrong_word(place, word.as_bytes()) {
+        None => return Ok(None),
+        Some(Wrong::Long(bits)) => format!(in alloc; "`{short}` does not fit {bits} bits")?,
+        Some(Wrong::Kind) => {
+            let what = place_words(place);
+            format!(in alloc; "`{short}` {what}")?
+        }
+    };
+    Ok(Some(words))
+}
+
+/// The operands of a line, which stand behind the mnemonic and a space.
+fn operands_of<'a>(alloc: Global, text: &'a str) -> Result<Vec<&'a str>, AllocError> {
+    let mut operands = Vec::new(alloc);
+    if text.is_empty() {
+        return Ok(operands);
+    }
+    for operand in text.split(", ") {
+        operands.push(operand)?;
+    }
+    Ok(operands)
+}
+
+/// What is wrong with the operands of an instruction, each of which has its place.
+fn operands_words(
+    alloc: Global,
+    places: &[Place],
+    operands: &[&str],
+) -> Result<Option<String>, AllocError> {
+    for (place, operand) in places.iter().zip(operands.iter()) {
+        let words = word_words(alloc, *place, operand)?;
+        if words.is_some() {
+            return Ok(words);
+        }
+    }
+    Ok(None)
+}
+
+/// What is wrong with an instruction of this mnemonic, if something is.
+fn instruction_words(
+    alloc: Global,
+    mnemonic: Mnemonic,
+    text: &str,
+) -> Result<Option<String>, AllocError> {
+    let places = places_of(alloc, mnemonic)?;
+    let operands = operands_of(alloc, text)?;
+    let (wanted, given) = (places.len(), operands.len());
+    if wanted == given {
+        return operands_words(alloc, &places, &operands);
+    }
+    let name = name_of(alloc, mnemonic)?;
+    let plural = if wanted == 1 { "" } else { "s" };
+    let words = format!(in alloc;
+        "`{name}` has {wanted} operand{plural}, not {given}; commas part them"
+    )?;
+    Ok(Some(words))
+}
+
+/// The mnemonic of this name.
+fn mnemonic_named(name: &str) -> Option<Mnemonic> {
+    for mnemonic in MNEMONICS {
+        if name.strip_prefix(mnemonic.stem()) == Some(mnemonic.suffix()) {
+            return Some(mnemonic);
+        }
+    }
+    None
+}
+
+/// What is wrong with a line of a plain text that `asm::assemble` refuses, in words for people; none where nothing is found.
+/// What the words say is no part of a contract.
+pub fn explain_line(alloc: Global, line: &str) -> Result<Option<String>, AllocError> {
+    let (name, text) = line.split_once(' ').unwrap_or((line, ""));
+    match mnemonic_named(name) {
+        Some(mnemonic) => instruction_words(alloc, mnemonic, text),
+        None => Ok(Some(no_name(alloc, name)?)),
+    }
+}

@@ -1,0 +1,42 @@
+-- Keys of one word or of half a word.
+use Rattle.std.proofs.Common.{◌≡◌, ◌∙◌, ◌+◌, ◌-◌, ◌/◌, ◌<◌, ℕ, List, length, get_or, inl, inr, sym, ap, arith}
+use Rattle.std.specs.Int.{from_le_bytes, to_le_bytes, w32, w64}
+use Rattle.std.specs.Prelude.{bytes_eq, nat_eq}
+use Rattle.std.specs.Cmp.Lexicographic.{bytes_decides}
+use Rattle.std.proofs.lemmas.Bool.{cases_Bool, eq-eqb, eqb-true, false_from_ne_true, false≢true}
+use Rattle.std.proofs.lemmas.List.{get_or_past}
+use Rattle.std.proofs.lemmas.Nat.{le_bytes_4, le_bytes_8}
+use Rattle.hash_index.specs.Chains.{IsShort, hash_of, hashed_word, mixed_hash, words_hash}
+use Rattle.hash_index.specs.declared.hash.TheConstants.{HASH_START, WORD_BYTES}
+
+-- four bytes have the number of the word that zeros fill up
+pub half_is : (bytes : List ℕ) → length bytes ≡ 4 → hashed_word bytes ≡ from_le_bytes w32 bytes
+half_is bytes h =
+    let four : get_or bytes 4 0 ≡ 0 = get_or_past bytes 4 0 (omega arith) in
+    let five : get_or bytes 5 0 ≡ 0 = get_or_past bytes 5 0 (omega arith) in
+    let six : get_or bytes 6 0 ≡ 0 = get_or_past bytes 6 0 (omega arith) in
+    let seven : get_or bytes 7 0 ≡ 0 = get_or_past bytes 7 0 (omega arith) in
+    omega arith
+
+-- one word is hashed
+pub short_hash : (key : List ℕ) → IsShort key → hash_of key ≡ mixed_hash HASH_START (hashed_word key)
+short_hash key (inl h) = ap (λ (n : ℕ). words_hash ((n + (WORD_BYTES - 1)) / WORD_BYTES) HASH_START key) h
+short_hash key (inr h) = ap (λ (n : ℕ). words_hash ((n + (WORD_BYTES - 1)) / WORD_BYTES) HASH_START key) h
+
+-- bytes are told by a number that they can be read back from
+told_by : (back : ℕ → List ℕ) (from : List ℕ → ℕ) (a b : List ℕ) (m n : ℕ) → m ≡ from a → n ≡ from b → back m ≡ a →
+    back n ≡ b → nat_eq m n ≡ bytes_eq a b
+told_by back from a b m n ma nb ba bb = elim (cases_Bool (nat_eq m n)) [
+  | inl y ↦ y ∙ sym ((bytes_decides a b).1 (sym ba ∙ (ap back (eqb-true m n y) ∙ bb)))
+  | inr z ↦ z ∙ sym (false_from_ne_true (bytes_eq a b)
+      (λ h. false≢true (sym z ∙ eq-eqb m n (ma ∙ (ap from ((bytes_decides a b).0 h) ∙ sym nb)))))
+]
+
+pub short_told : (a b : List ℕ) (m n : ℕ) → IsShort a → length b ≡ length a → ((i : ℕ) → get_or a i 0 < 256) →
+    ((i : ℕ) → get_or b i 0 < 256) → m ≡ hashed_word a → n ≡ hashed_word b → nat_eq m n ≡ bytes_eq a b
+short_told a b m n (inl h) l ba bb ma nb =
+    told_by (to_le_bytes w64) (from_le_bytes w64) a b m n ma nb (le_bytes_8 a m h ba ma) (le_bytes_8 b n (l ∙ h) bb nb)
+short_told a b m n (inr h) l ba bb ma nb =
+    let ka : m ≡ from_le_bytes w32 a = ma ∙ half_is a h in
+    let kb : n ≡ from_le_bytes w32 b = nb ∙ half_is b (l ∙ h) in
+    told_by (to_le_bytes w32) (from_le_bytes w32) a b m n ka kb (le_bytes_4 a m h ba ka) (le_bytes_4 b n (l ∙ h) bb kb)

@@ -1,0 +1,35 @@
+use Rattle.std.proofs.Common.{◌∙◌, refl, sym}
+use Rattle.element_store.specs.State.{key_at}
+use Rattle.hash_index.proofs.Steps.{chain_step, chain_at, rest_at, searched, shorter, walked_found, walked_on}
+use Rattle.hash_index.proofs.chain.search_short.Goals as goal
+use Rattle.bpf_model.proofs.Keys.{same_key-false}
+
+pub has_short-requires-clause-slot : goal.has_short-requires-clause-slot
+has_short-requires-clause-slot c = (chain_step c.args.arena.now c.in-Some.slot
+    (chain_at c.args.arena.now c.loop-at.at c.in-Some.slot c.loop-at.invariant.chain c.in-Some.is)).2.inside
+
+pub next_of-at-requires : goal.next_of-at-requires
+next_of-at-requires c = (chain_step c.args.arena.now c.in-Some.slot
+    (chain_at c.args.arena.now c.loop-at.at c.in-Some.slot c.loop-at.invariant.chain c.in-Some.is)).2
+
+pub loop-at-smaller : goal.loop-at-smaller
+loop-at-smaller c = shorter c.args.arena.now c.loop-at.at c.next_of-at.result c.in-Some.slot c.loop-at.invariant.chain c.in-Some.is c.next_of-at.ensures
+
+pub loop-at-preserved : goal.loop-at-preserved
+loop-at-preserved c =
+    let s = searched c.args.arena.now c.args.first c.loop-at.at c.next_of-at.result c.in-Some.slot c.args.key.now
+    c.loop-at.invariant.chain c.in-Some.is c.next_of-at.ensures
+    (λ e. same_key-false c.args.key.now (key_at c.args.arena.now.slots c.in-Some.slot)
+    (sym c.has_short.ensures ∙ c.if-has_short.false) (sym e)) c.loop-at.invariant.same in
+    record {
+      chain = s.0;
+      same = s.1;
+      walked = walked_on _ c.loop-at.last c.in-Some.slot _ _
+          (rest_at c.args.arena.now c.loop-at.at c.next_of-at.result c.in-Some.slot c.loop-at.invariant.chain
+          c.in-Some.is c.next_of-at.ensures) c.loop-at.invariant.walked;
+    }
+
+pub returns-then-has_short-clause-behind : goal.returns-then-has_short-clause-behind
+returns-then-has_short-clause-behind c = walked_found _ c.loop-at.last c.in-Some.slot _ _
+    (rest_at c.args.arena.now c.loop-at.at _ c.in-Some.slot c.loop-at.invariant.chain c.in-Some.is refl)
+    c.loop-at.invariant.walked

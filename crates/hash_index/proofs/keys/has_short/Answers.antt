@@ -1,0 +1,15 @@
+use Rattle.std.proofs.Common.{◌∙◌, List, ℕ, length, sym, ap}
+use Rattle.std.specs.Prelude.{bytes_eq}
+use Rattle.std.specs.Cmp.Lexicographic.{texts_ties}
+use Rattle.bpf_model.proofs.Keys.{other-same_key}
+use Rattle.element_store.specs.State.{key_at}
+use Rattle.hash_index.proofs.keys.has_short.Goals as goal
+
+pub returns-then-held-key : goal.returns-then-held-key
+returns-then-held-key c = c.same_short.ensures ∙
+    (ap (bytes_eq c.args.key.now) c.key-held.ensures ∙
+    texts_ties c.args.key.now (key_at c.args.arena.now.slots c.args.slot))
+
+pub returns-else-held-key : goal.returns-else-held-key
+returns-else-held-key c = sym (other-same_key c.args.key.now (key_at c.args.arena.now.slots c.args.slot)
+    (λ e. c.if-held-key.false (ap (λ (l : List ℕ). length l) (c.key-held.ensures ∙ sym e))))

@@ -1,0 +1,19 @@
+use Rattle.std.proofs.Common.{◌≡◌, ℕ, ◌∙◌, sym, refl, subst, Option, Some, None}
+use Rattle.std.specs.Prelude.{option_map}
+use Rattle.bpf_model.specs.declared.value.Value.{Value}
+use Rattle.bpf_model.specs.declared.value.Value.TheVariants.{Number}
+use Rattle.bpf_model.specs.Request.{found_value}
+use Rattle.world_laws.specs.Around.{element_in_region}
+use Rattle.read_table.specs.Lookups.{AnswersLookup}
+use Rattle.read_table.proofs.Finding.{never-null}
+use Rattle.read_table.proofs.run_laws.shared_lookups_find_keys.Goals as goal
+
+-- zero stands for null alone
+null-only : (map : ℕ) (found : Option ℕ) (reply : Value) → reply ≡ found_value (option_map (element_in_region map) found) → reply ≡ Number 0 → found ≡ None
+null-only map None reply is zero = refl
+null-only map (Some slot) reply is zero =
+    let e : found_value (Some (element_in_region map slot)) ≡ Number 0 = sym is ∙ zero in absurd (cc)
+
+pub returns : goal.returns
+returns c = λ k es lawful depth map slot who key done before ms reply r stays zero.
+    never-null k es lawful key slot who before ms (subst (AnswersLookup k key ms) (null-only map r.0 reply r.4 zero) r.2) stays
