@@ -6,8 +6,8 @@ use Rattle.std.specs.Cmp.Lexicographic.{bytes_decides}
 use Rattle.std.proofs.lemmas.Bool.{cases_Bool, eq-eqb, eqb-true, false_from_ne_true, false≢true}
 use Rattle.std.proofs.lemmas.List.{get_or_past}
 use Rattle.std.proofs.lemmas.Nat.{le_bytes_4, le_bytes_8}
-use Rattle.hash_index.specs.Chains.{IsShort, hash_of, hashed_word, mixed_hash, words_hash}
-use Rattle.hash_index.specs.declared.hash.TheConstants.{HASH_START, WORD_BYTES}
+use Rattle.hash_index.specs.Chains.{hash_of, hashed_word, mixed_hash, words_hash}
+use Rattle.hash_index.specs.declared.hash.TheConstants.{HASH_START, WORD_BYTES, HALF_BYTES}
 
 -- four bytes have the number of the word that zeros fill up
 pub half_is : (bytes : List ℕ) → length bytes ≡ 4 → hashed_word bytes ≡ from_le_bytes w32 bytes
@@ -18,10 +18,12 @@ half_is bytes h =
     let seven : get_or bytes 7 0 ≡ 0 = get_or_past bytes 7 0 (omega arith) in
     omega arith
 
--- one word is hashed
-pub short_hash : (key : List ℕ) → IsShort key → hash_of key ≡ mixed_hash HASH_START (hashed_word key)
-short_hash key (inl h) = ap (λ (n : ℕ). words_hash ((n + (WORD_BYTES - 1)) / WORD_BYTES) HASH_START key) h
-short_hash key (inr h) = ap (λ (n : ℕ). words_hash ((n + (WORD_BYTES - 1)) / WORD_BYTES) HASH_START key) h
+-- a key of one word, or of half a word, is hashed as one
+pub word_hashed : (key : List ℕ) → length key ≡ WORD_BYTES → hash_of key ≡ mixed_hash HASH_START (hashed_word key)
+word_hashed key h = ap (λ (n : ℕ). words_hash ((n + (WORD_BYTES - 1)) / WORD_BYTES) HASH_START key) h
+
+pub half_hashed : (key : List ℕ) → length key ≡ HALF_BYTES → hash_of key ≡ mixed_hash HASH_START (hashed_word key)
+half_hashed key h = ap (λ (n : ℕ). words_hash ((n + (WORD_BYTES - 1)) / WORD_BYTES) HASH_START key) h
 
 -- bytes are told by a number that they can be read back from
 told_by : (back : ℕ → List ℕ) (from : List ℕ → ℕ) (a b : List ℕ) (m n : ℕ) → m ≡ from a → n ≡ from b → back m ≡ a →
@@ -32,11 +34,14 @@ told_by back from a b m n ma nb ba bb = elim (cases_Bool (nat_eq m n)) [
       (λ h. false≢true (sym z ∙ eq-eqb m n (ma ∙ (ap from ((bytes_decides a b).0 h) ∙ sym nb)))))
 ]
 
-pub short_told : (a b : List ℕ) (m n : ℕ) → IsShort a → length b ≡ length a → ((i : ℕ) → get_or a i 0 < 256) →
+pub word_told : (a b : List ℕ) (m n : ℕ) → length a ≡ WORD_BYTES → length b ≡ WORD_BYTES → ((i : ℕ) → get_or a i 0 < 256) →
     ((i : ℕ) → get_or b i 0 < 256) → m ≡ hashed_word a → n ≡ hashed_word b → nat_eq m n ≡ bytes_eq a b
-short_told a b m n (inl h) l ba bb ma nb =
-    told_by (to_le_bytes w64) (from_le_bytes w64) a b m n ma nb (le_bytes_8 a m h ba ma) (le_bytes_8 b n (l ∙ h) bb nb)
-short_told a b m n (inr h) l ba bb ma nb =
-    let ka : m ≡ from_le_bytes w32 a = ma ∙ half_is a h in
-    let kb : n ≡ from_le_bytes w32 b = nb ∙ half_is b (l ∙ h) in
-    told_by (to_le_bytes w32) (from_le_bytes w32) a b m n ka kb (le_bytes_4 a m h ba ka) (le_bytes_4 b n (l ∙ h) bb kb)
+word_told a b m n la lb ba bb ma nb =
+    told_by (to_le_bytes w64) (from_le_bytes w64) a b m n ma nb (le_bytes_8 a m la ba ma) (le_bytes_8 b n lb bb nb)
+
+pub half_told : (a b : List ℕ) (m n : ℕ) → length a ≡ HALF_BYTES → length b ≡ HALF_BYTES → ((i : ℕ) → get_or a i 0 < 256) →
+    ((i : ℕ) → get_or b i 0 < 256) → m ≡ hashed_word a → n ≡ hashed_word b → nat_eq m n ≡ bytes_eq a b
+half_told a b m n la lb ba bb ma nb =
+    let ka : m ≡ from_le_bytes w32 a = ma ∙ half_is a la in
+    let kb : n ≡ from_le_bytes w32 b = nb ∙ half_is b lb in
+    told_by (to_le_bytes w32) (from_le_bytes w32) a b m n ka kb (le_bytes_4 a m la ba ka) (le_bytes_4 b n lb bb kb)

@@ -1,16 +1,11 @@
 -- The hash of a key and its bucket, and chains of slots.
 use Rattle.std.specs.Int.{from_le_bytes, w64}
-use Rattle.std.specs.Prelude.{◌≡◌, ◌⊎◌, ℕ, zero, suc, ◌+◌, ◌<◌, ◌-◌, ◌*◌, ◌/◌, ◌%◌, ◌^◌, bit_and}
+use Rattle.std.specs.Prelude.{◌≡◌, ℕ, zero, suc, ◌+◌, ◌<◌, ◌-◌, ◌*◌, ◌/◌, ◌%◌, ◌^◌, bit_and}
 use Rattle.std.specs.Prelude.{bit_xor}
 use Rattle.std.specs.Prelude.{List, ◌∷◌, ◌++◌, Option, None, Some, cond, drop, eqb, length}
 use Rattle.element_store.specs.State.{ArenaState, IsTaken, link_at, times_in}
 use Rattle.element_store.specs.Threads.{IsThread, chain_of}
-use Rattle.hash_index.specs.declared.hash.TheConstants.{HASH_START, WORD_BYTES, HALF_BYTES}
-use Rattle.hash_index.specs.declared.hash.TheConstants.{WORD_FACTOR}
-
--- a key of one word, or of half a word
-abbrev pub IsShort : List ℕ → Type 0
-IsShort key = (length key ≡ WORD_BYTES) ⊎ (length key ≡ HALF_BYTES)
+use Rattle.hash_index.specs.declared.hash.TheConstants.{HASH_START, WORD_BYTES, WORD_FACTOR}
 
 -- the little-endian number of the first eight bytes; of fewer, with zeros behind them
 abbrev pub hashed_word : List ℕ → ℕ
@@ -34,9 +29,12 @@ words_hash (suc n) h bytes =
 abbrev pub hash_of : List ℕ → ℕ
 hash_of key = words_hash ((length key + (WORD_BYTES - 1)) / WORD_BYTES) HASH_START key
 
--- the bucket of a key, of a power of two of them
+-- the bucket of a hash and of a key, of a power of two of them
+abbrev pub hash_bucket : ℕ → ℕ → ℕ
+hash_bucket count hash = bit_and (((hash * WORD_FACTOR) % 2 ^ 64) / 2 ^ 32) (count - 1)
+
 abbrev pub bucket_of : ℕ → List ℕ → ℕ
-bucket_of count key = bit_and (((hash_of key * WORD_FACTOR) % 2 ^ 64) / 2 ^ 32) (count - 1)
+bucket_of count key = hash_bucket count (hash_of key)
 
 -- the chain from this slot ends, and its slots are taken
 pub record IsChain (a : ArenaState) (first : Option ℕ) : Type 0 where

@@ -7,12 +7,13 @@ ghost use Rattle.std.specs.List.Sorted.{IsPermutation, IsSortedByKey};
 ghost use Rattle.bpf_model.specs.declared.limits.TheConstants.{MAX_ENTRIES};
 ghost use Rattle.element_store.specs.State.{IsTaken, LinksOf, indexed, is_at, key_at};
 ghost use Rattle.hash_index.specs.Buckets.{BucketsFits, HeadsFit, IsLeastPowerOfTwo, IsPlaceIn, chained_slots, contents_in};
-ghost use Rattle.hash_index.specs.Chains.{IsShort, bucket_of};
+ghost use Rattle.hash_index.specs.Chains.{bucket_of};
 ghost use Rattle.hash_index.specs.Order.{IsLeastOf};
 
-use crate::chain::{add_chain, cut, least_with, search, search_short};
-use crate::hash::{WORD_BYTES, bucket, is_short};
+use crate::chain::{add_chain, cut, least_with, search};
+use crate::hash::{HALF_BYTES, WORD_BYTES};
 use crate::index::Index;
+use crate::key_form::{AnyLength, HalfWord, KeyForm, OneWord};
 use crate::place::Place;
 use bpf_model::MAX_ENTRIES;
 use element_store::Arena;
@@ -76,38 +77,30 @@ fn sort_slots(slots: &mut Vec<usize>, arena: &Arena)
 }
 
 impl Buckets {
-    /// The place of a key, of any length.
+    /// The place of a key of this form.
+    #[inline]
+    fn find_in<K: KeyForm>(&self, arena: &Arena, key: &[u8]) -> Place
+        requires fits { BucketsFits self.now arena.now }
+        requires serves { K.serves key.now }
+        ensures slot { result.slot ≡ map.get (contents_in self.now arena.now) key.now }
+        ensures place { IsPlaceIn self.now.heads.items arena.now key.now result }
+    {
+        let home = K::bucket(key, self.heads.len());
+        search::<K>(arena, home, self.heads[home], key)
+    }
+
+    /// The place of a key, of any length, by a call: so the code for keys of one word stays small.
     #[inline(never)]
-    fn find_bytes(&self, arena: &Arena, key: &[u8]) -> Place
+    fn find_any(&self, arena: &Arena, key: &[u8]) -> Place
         requires { BucketsFits self.now arena.now }
         ensures slot { result.slot ≡ map.get (contents_in self.now arena.now) key.now }
         ensures place { IsPlaceIn self.now.heads.items arena.now key.now result }
     {
-        let home = bucket(key, self.heads.len());
-        search(arena, home, self.heads[home], key)
-    }
-
-    /// The place of a short key: the same without a call.
-    #[inline(always)]
-    fn find_short(&self, arena: &Arena, key: &[u8]) -> Place
-        requires fits { BucketsFits self.now arena.now }
-        requires short { IsShort key.now }
-        ensures slot { result.slot ≡ map.get (contents_in self.now arena.now) key.now }
-        ensures place { IsPlaceIn self.now.heads.items arena.now key.now result }
-    {
-        let home = bucket(key, self.heads.len());
-        search_short(arena, home, self.heads[home], key)
-    }
-
-    /// The same in a function of its own, so that the code for keys of one word is the smaller.
-    #[inline(never)]
-    fn find_half(&self, arena: &Arena, key: &[u8]) -> Place
-        requires fits { BucketsFits self.now arena.now }
-        requires short { IsShort key.now }
-        ensures slot { result.slot ≡ map.get (contents_in self.now arena.now) key.now }
-        ensures place { IsPlaceIn self.now.heads.items arena.now key.now result }
-    {
-        self.find_short(arena, key)
+        if key.len() == HALF_BYTES {
+            self.find_in::<HalfWord>(arena, key)
+        } else {
+            self.find_in::<AnyLength>(arena, key)
+        }
     }
 
     /// A taken slot joins the chain of its key, which no slot has.
@@ -167,14 +160,10 @@ impl Index for Buckets {
 
     #[inline]
     fn find(&self, arena: &Arena, key: &[u8]) -> Place {
-        if is_short(key) {
-            if key.len() == WORD_BYTES {
-                self.find_short(arena, key)
-            } else {
-                self.find_half(arena, key)
-            }
+        if key.len() == WORD_BYTES {
+            self.find_in::<OneWord>(arena, key)
         } else {
-            self.find_bytes(arena, key)
+            self.find_any(arena, key)
         }
     }
 

@@ -3,46 +3,25 @@ ghost use Rattle.std.specs.Prelude.{◌≡◌, ◌≢◌, ◌<◌, ◌≤◌, So
 ghost use Rattle.element_store.specs.State.{key_at, times_in, slot_of};
 ghost use Rattle.hash_index.specs.Order.{IsLeastOf};
 ghost use Rattle.element_store.specs.Threads.{chain_of};
-ghost use Rattle.hash_index.specs.Chains.{IsChain, IsCut, IsShort, StandsBehind};
+ghost use Rattle.hash_index.specs.Chains.{IsChain, IsCut, StandsBehind};
 
-use crate::keys::{has_key, has_short, is_above, is_less};
+use crate::key_form::KeyForm;
+use crate::keys::{is_above, is_less};
 use crate::place::Place;
 use element_store::Arena;
 use std::alloc::AllocError;
 
 /// The place of a key whose chain is this one: the first slot of the chain that has the key, and the
 /// slot before it.
-pub(crate) fn search(arena: &Arena, home: usize, first: Option<usize>, key: &[u8]) -> Place
-    requires { IsChain arena.now first }
-    ensures home { result.home ≡ home }
-    ensures slot { result.slot ≡ slot_of (key_at arena.now.slots) (chain_of arena.now first) key.now }
-    ensures behind { IfSome result.slot (StandsBehind (chain_of arena.now first) result.last) }
-{
-    let mut last = None;
-    let mut at = first;
-    while let Some(slot) = at {
-        if has_key(arena, slot, key) {
-            return Place {
-                slot: Some(slot),
-                home,
-                last,
-            };
-        }
-        last = Some(slot);
-        at = arena.next_of(slot);
-    }
-    Place {
-        slot: None,
-        home,
-        last: None,
-    }
-}
-
-/// The same for a short key.
-#[inline(always)]
-pub(crate) fn search_short(arena: &Arena, home: usize, first: Option<usize>, key: &[u8]) -> Place
+#[inline]
+pub(crate) fn search<K: KeyForm>(
+    arena: &Arena,
+    home: usize,
+    first: Option<usize>,
+    key: &[u8],
+) -> Place
     requires chain { IsChain arena.now first }
-    requires short { IsShort key.now }
+    requires serves { K.serves key.now }
     ensures home { result.home ≡ home }
     ensures slot { result.slot ≡ slot_of (key_at arena.now.slots) (chain_of arena.now first) key.now }
     ensures behind { IfSome result.slot (StandsBehind (chain_of arena.now first) result.last) }
@@ -50,7 +29,7 @@ pub(crate) fn search_short(arena: &Arena, home: usize, first: Option<usize>, key
     let mut last = None;
     let mut at = first;
     while let Some(slot) = at {
-        if has_short(arena, slot, key) {
+        if K::is_at(arena, slot, key) {
             return Place {
                 slot: Some(slot),
                 home,

@@ -1,6 +1,6 @@
 //! The bucket of a key.
-ghost use Rattle.std.specs.Prelude.{◌≡◌, ◌<◌, ◌≤◌, ◌↔◌, IsTrue, length, slice_index};
-ghost use Rattle.hash_index.specs.Chains.{IsShort, bucket_of, hash_of, mixed_hash, hashed_word};
+ghost use Rattle.std.specs.Prelude.{◌≡◌, ◌<◌, ◌≤◌, length, slice_index};
+ghost use Rattle.hash_index.specs.Chains.{hash_bucket, hash_of, mixed_hash, hashed_word};
 
 /// The hash of no bytes.
 const HASH_START: u64 = 14_695_981_039_346_656_037;
@@ -14,17 +14,9 @@ pub(crate) const WORD_BYTES: usize = 8;
 /// How many bytes half a word has.
 pub(crate) const HALF_BYTES: usize = 4;
 
-/// Whether a key is one word, or half a word.
-#[inline]
-pub(crate) fn is_short(key: &[u8]) -> bool
-    ensures { IsTrue result ↔ IsShort key.now }
-{
-    key.len() == WORD_BYTES || key.len() == HALF_BYTES
-}
-
 /// The little-endian number of the first eight bytes.
 #[inline]
-fn word_at_start(bytes: &[u8]) -> u64
+pub(crate) fn word_at_start(bytes: &[u8]) -> u64
     requires { WORD_BYTES ≤ length bytes.now }
     ensures { result ≡ hashed_word bytes.now }
 {
@@ -35,24 +27,11 @@ fn word_at_start(bytes: &[u8]) -> u64
 
 /// The little-endian number of four bytes.
 #[inline]
-fn half_word(bytes: &[u8]) -> u64
+pub(crate) fn half_word(bytes: &[u8]) -> u64
     requires { length bytes.now ≡ HALF_BYTES }
     ensures { result ≡ hashed_word bytes.now }
 {
     u64::from(u32::from_le_bytes([bytes[0], bytes[1], bytes[2], bytes[3]]))
-}
-
-/// The little-endian number of a key of one word or half a word.
-#[inline(always)]
-pub(crate) fn short_word(key: &[u8]) -> u64
-    requires { IsShort key.now }
-    ensures { result ≡ hashed_word key.now }
-{
-    if key.len() == WORD_BYTES {
-        word_at_start(key)
-    } else {
-        half_word(key)
-    }
 }
 
 /// A byte; 0 behind the last.
@@ -90,20 +69,27 @@ fn mix(hash: u64, word: u64) -> u64
     product ^ (product >> 32)
 }
 
-/// A hash of a key's bytes.
+/// The hash of a key of one word.
 #[inline]
-fn hash(key: &[u8]) -> u64
+pub(crate) fn word_hash(key: &[u8]) -> u64
+    requires { length key.now ≡ WORD_BYTES }
     ensures { result ≡ hash_of key.now }
 {
-    if is_short(key) {
-        return mix(HASH_START, short_word(key));
-    }
-    hash_words(key)
+    mix(HASH_START, word_at_start(key))
+}
+
+/// The hash of a key of half a word.
+#[inline]
+pub(crate) fn half_hash(key: &[u8]) -> u64
+    requires { length key.now ≡ HALF_BYTES }
+    ensures { result ≡ hash_of key.now }
+{
+    mix(HASH_START, half_word(key))
 }
 
 /// A hash of a key's bytes, word by word: to the last one as many zeros are added as it lacks bytes.
 #[inline(never)]
-fn hash_words(key: &[u8]) -> u64
+pub(crate) fn hash_words(key: &[u8]) -> u64
     ensures { result ≡ hash_of key.now }
 {
     let mut hash = HASH_START;
@@ -119,15 +105,15 @@ fn hash_words(key: &[u8]) -> u64
     }
 }
 
-/// The bucket of a key, of so many, which are a power of two. The hash is multiplied once more,
+/// The bucket of a hash, of so many, which are a power of two. The hash is multiplied once more,
 /// and the bits taken from bit 32 on: else keys that differ in the last two of eight bytes alone
 /// would share a bucket. Nothing is promised of how keys spread.
 #[inline]
-pub(crate) fn bucket(key: &[u8], count: usize) -> usize
+pub(crate) fn bucket_in(hash: u64, count: usize) -> usize
     requires { 0 < count }
-    ensures bucket { result ≡ bucket_of count key.now }
+    ensures bucket { result ≡ hash_bucket count hash }
     ensures inside { result < count }
 {
-    let spread = hash(key).wrapping_mul(WORD_FACTOR) >> 32;
+    let spread = hash.wrapping_mul(WORD_FACTOR) >> 32;
     (spread & (count as u64 - 1)) as usize
 }

@@ -4,9 +4,9 @@ ghost use Rattle.std.specs.Ordering.{nat_cmp, eq_by_cmp};
 ghost use Rattle.std.specs.Cmp.Lexicographic.{slice_cmp};
 ghost use Rattle.element_store.specs.State.{key_at};
 ghost use Rattle.hash_index.specs.Order.{IsLess, IsAbove};
-ghost use Rattle.hash_index.specs.Chains.{IsShort};
+ghost use Rattle.hash_index.specs.declared.hash.TheConstants.{WORD_BYTES, HALF_BYTES};
 
-use crate::hash::short_word;
+use crate::hash::{HALF_BYTES, WORD_BYTES, half_word, word_at_start};
 use element_store::Arena;
 
 /// Whether a slot has the key.
@@ -17,26 +17,51 @@ pub(crate) fn has_key(arena: &Arena, slot: usize, key: &[u8]) -> bool
     key == arena.key(slot)
 }
 
-/// Whether two short keys of one length are the same, which are compared as numbers.
-#[inline(always)]
-fn same_short(left: &[u8], right: &[u8]) -> bool
-    requires left { IsShort left.now }
-    requires right { length right.now ≡ length left.now }
+/// Whether two words are the same, which are compared as numbers.
+#[inline]
+fn same_words(left: &[u8], right: &[u8]) -> bool
+    requires left { length left.now ≡ WORD_BYTES }
+    requires right { length right.now ≡ WORD_BYTES }
     ensures { result ≡ bytes_eq left.now right.now }
 {
-    short_word(left) == short_word(right)
+    word_at_start(left) == word_at_start(right)
 }
 
-/// Whether a slot has the key, which is short.
-#[inline(always)]
-pub(crate) fn has_short(arena: &Arena, slot: usize, key: &[u8]) -> bool
+/// Whether two halves of words are the same, which are compared as numbers.
+#[inline]
+fn same_halves(left: &[u8], right: &[u8]) -> bool
+    requires left { length left.now ≡ HALF_BYTES }
+    requires right { length right.now ≡ HALF_BYTES }
+    ensures { result ≡ bytes_eq left.now right.now }
+{
+    half_word(left) == half_word(right)
+}
+
+/// Whether a slot has the key, which is one word.
+#[inline]
+pub(crate) fn has_word(arena: &Arena, slot: usize, key: &[u8]) -> bool
     requires slot { slot < length arena.now.slots }
-    requires short { IsShort key.now }
+    requires word { length key.now ≡ WORD_BYTES }
     ensures { result ≡ eq_by_cmp (slice_cmp nat_cmp) key.now (key_at arena.now.slots slot) }
 {
     let held = arena.key(slot);
-    if held.len() == key.len() {
-        same_short(key, held)
+    if held.len() == WORD_BYTES {
+        same_words(key, held)
+    } else {
+        false
+    }
+}
+
+/// Whether a slot has the key, which is half a word.
+#[inline]
+pub(crate) fn has_half(arena: &Arena, slot: usize, key: &[u8]) -> bool
+    requires slot { slot < length arena.now.slots }
+    requires half { length key.now ≡ HALF_BYTES }
+    ensures { result ≡ eq_by_cmp (slice_cmp nat_cmp) key.now (key_at arena.now.slots slot) }
+{
+    let held = arena.key(slot);
+    if held.len() == HALF_BYTES {
+        same_halves(key, held)
     } else {
         false
     }

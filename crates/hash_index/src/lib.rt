@@ -10,6 +10,7 @@ mod chain;
 mod commands;
 mod hash;
 mod index;
+mod key_form;
 mod keys;
 mod place;
 mod position;

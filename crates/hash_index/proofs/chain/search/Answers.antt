@@ -4,23 +4,23 @@ use Rattle.hash_index.proofs.Steps.{chain_step, chain_at, rest_at, searched, sho
 use Rattle.hash_index.proofs.chain.search.Goals as goal
 use Rattle.bpf_model.proofs.Keys.{same_key-false}
 
-pub has_key-requires : goal.has_key-requires
-has_key-requires c = (chain_step c.args.arena.now c.in-Some.slot
+pub is_at-requires-clause-slot : goal.is_at-requires-clause-slot
+is_at-requires-clause-slot g c = (chain_step c.args.arena.now c.in-Some.slot
     (chain_at c.args.arena.now c.loop-at.at c.in-Some.slot c.loop-at.invariant.chain c.in-Some.is)).2.inside
 
 pub next_of-at-requires : goal.next_of-at-requires
-next_of-at-requires c = (chain_step c.args.arena.now c.in-Some.slot
+next_of-at-requires g c = (chain_step c.args.arena.now c.in-Some.slot
     (chain_at c.args.arena.now c.loop-at.at c.in-Some.slot c.loop-at.invariant.chain c.in-Some.is)).2
 
 pub loop-at-smaller : goal.loop-at-smaller
-loop-at-smaller c = shorter c.args.arena.now c.loop-at.at c.next_of-at.result c.in-Some.slot c.loop-at.invariant.chain c.in-Some.is c.next_of-at.ensures
+loop-at-smaller g c = shorter c.args.arena.now c.loop-at.at c.next_of-at.result c.in-Some.slot c.loop-at.invariant.chain c.in-Some.is c.next_of-at.ensures
 
 pub loop-at-preserved : goal.loop-at-preserved
-loop-at-preserved c =
+loop-at-preserved g c =
     let s = searched c.args.arena.now c.args.first c.loop-at.at c.next_of-at.result c.in-Some.slot c.args.key.now
     c.loop-at.invariant.chain c.in-Some.is c.next_of-at.ensures
     (λ e. same_key-false c.args.key.now (key_at c.args.arena.now.slots c.in-Some.slot)
-    (sym c.has_key.ensures ∙ c.if-has_key.false) (sym e)) c.loop-at.invariant.same in
+    (sym c.is_at.ensures ∙ c.if-is_at.false) (sym e)) c.loop-at.invariant.same in
     record {
       chain = s.0;
       same = s.1;
@@ -29,7 +29,7 @@ loop-at-preserved c =
           c.in-Some.is c.next_of-at.ensures) c.loop-at.invariant.walked;
     }
 
-pub returns-then-has_key-clause-behind : goal.returns-then-has_key-clause-behind
-returns-then-has_key-clause-behind c = walked_found _ c.loop-at.last c.in-Some.slot _ _
+pub returns-then-is_at-clause-behind : goal.returns-then-is_at-clause-behind
+returns-then-is_at-clause-behind g c = walked_found _ c.loop-at.last c.in-Some.slot _ _
     (rest_at c.args.arena.now c.loop-at.at _ c.in-Some.slot c.loop-at.invariant.chain c.in-Some.is refl)
     c.loop-at.invariant.walked

@@ -6,11 +6,11 @@ use Rattle.hash_index.proofs.Steps.{IsWalked}
 use Rattle.hash_index.proofs.chain.search.Given as goal
 
 abbrev pub invariant-loop-at : goal.invariant-loop-at
-invariant-loop-at l = record {
+invariant-loop-at g l = record {
   chain : IsChain l.arena l.at;
   same : slot_of (key_at l.arena.slots) (chain_of l.arena l.fn.first) l.key ≡ slot_of (key_at l.arena.slots) (chain_of l.arena l.at) l.key;
   walked : IsWalked (chain_of l.arena l.fn.first) l.last (chain_of l.arena l.at);
 }
 
 abbrev pub decreases-loop-at : goal.decreases-loop-at
-decreases-loop-at l = length (chain_of l.arena l.at)
+decreases-loop-at g l = length (chain_of l.arena l.at)

@@ -1,8 +1,0 @@
-use Rattle.std.proofs.Common.{arith}
-use Rattle.hash_index.proofs.Short.{short_told}
-use Rattle.hash_index.proofs.keys.same_short.Goals as goal
-
-pub returns : goal.returns
-returns c = short_told c.args.left.now c.args.right.now _ _ c.requires.left c.requires.right
-    (λ i. omega (arith, c.type_inv.left i)) (λ i. omega (arith, c.type_inv.right i)) c.short_word.ensures
-    c.short_word-2.ensures
