@@ -1,13 +1,17 @@
 -- Steps of a run, one after another.
-use Rattle.std.proofs.Common.{◌≡◌, ◌≢◌, ◌∙◌, ◌⊎◌, ℕ, ◌+◌, ◌<◌, List, [], ◌∷◌, ◌++◌, replicate, sym, ap, refl}
+use Rattle.std.proofs.Common.{◌≡◌, ◌≢◌, ◌∙◌, ◌⊎◌, ℕ, ◌+◌, ◌<◌, List, [], ◌∷◌, ◌++◌, replicate, sym, ap, refl, inl, inr, absurd, cc}
 use Rattle.std.specs.Prelude.{max}
 use Rattle.std.proofs.lemmas.List.{replicate_more}
 use Rattle.bpf_model.specs.declared.event.Event.{Event}
 use Rattle.bpf_model.specs.declared.event.Event.TheVariants.{Step}
 use Rattle.bpf_model.specs.declared.event.Answer.{Answer}
+use Rattle.bpf_model.specs.declared.event.Answer.TheVariants as answers
 use Rattle.bpf_model.specs.declared.event.Answer.TheVariants.{Moved}
 use Rattle.bpf_model.specs.View.{WorldView}
 use Rattle.world_laws.specs.Reacting.{full_reaction, full_reactions}
+use Rattle.world.specs.Stretches.{MakesMoves, WouldBeRefused, WouldExit, not_yet, once_more}
+use Rattle.world.specs.declared.stretch.Stop.{Stop}
+use Rattle.world.specs.declared.stretch.Stop.TheVariants as stops
 use Rattle.world_laws.proofs.Appending.{answers_grow, view_grows}
 use Rattle.control.specs.Replies.{MakesSteps}
 
@@ -47,3 +51,19 @@ last_step w v new run count moves answer h a n few stops = record {
   few = few;
   stops = stops;
 }
+
+-- a stretch of moves is so many steps
+pub made_moves : (w : WorldView) (run : ℕ) (v : WorldView) (moves : ℕ) → MakesMoves run w moves v → HasMoved w run moves v
+made_moves w run v moves not_yet = no_moves w run
+made_moves w run v moves (once_more count mid h would) =
+    one_move w mid v run count _ (made_moves w run mid count h) refl refl would
+
+-- behind a stretch the next step is the last, or is not answered Moved
+pub no_move_ahead : (v : WorldView) (run : ℕ) (stop : Stop) (answer : Answer) (P : Type 0) → answer ≡ (full_reaction v (Step run)).0 →
+    (stop ≡ stops.Enough → P) → (stop ≡ stops.Exits → WouldExit v run) → (stop ≡ stops.Refused → WouldBeRefused v run) →
+    P ⊎ (answer ≢ Moved)
+no_move_ahead v run stops.Enough answer P a enough exits refused = inl (enough refl)
+no_move_ahead v run stops.Exits answer P a enough exits refused =
+    let e = exits refl in inr (λ m. let q : Moved ≡ answers.Exited e.0 = sym m ∙ (a ∙ e.1) in absurd (cc))
+no_move_ahead v run stops.Refused answer P a enough exits refused =
+    let e = refused refl in inr (λ m. let q : Moved ≡ answers.Refused e.0 = sym m ∙ (a ∙ e.1) in absurd (cc))

@@ -7,18 +7,13 @@ use bpf_model::{Answer, Event, RunId};
 use world::World;
 
 /// Steps of a run: at most `count`, and at least one, up to the first that is not answered Moved. The answer
-/// of the last is put in the place of another one.
+/// of the last is put in the place of another one. All but the last are made as one stretch.
 pub(crate) fn make_steps(world: &mut World, run: RunId, count: u64, answer: &mut Answer)
     ensures { (events : List Event)
         × MakesSteps world.old run count events answer.new world.new }
 {
+    let before_last = count.max(1) - 1;
+    world.run_for(run, before_last as usize);
     let event = Event::Step { run };
-    for _taken in 1..count {
-        world.apply_into(&event, answer);
-        match answer {
-            Answer::Moved => {}
-            _ => return,
-        }
-    }
     world.apply_into(&event, answer);
 }

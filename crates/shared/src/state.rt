@@ -65,6 +65,19 @@ impl<L: Ledger> Model for State<L> {
         × (cell_view s.pass ≡ writer_at s.books.tally.totals) };
 }
 
+/// Writes totals. It is a function of its own, so that what writes them stands in one place of the program.
+#[inline(never)]
+fn write_totals<R: Wait>(rt: &R, cell: &Meter, pass: &mut MeterPass, before: Totals, after: Totals)
+    requires cell { pass.old.table_id ≡ cell.now.table.shared.table_id }
+    requires view { cell_view pass.old ≡ writer_at before }
+    requires rise { TotalsRise before after }
+    ensures cell { pass.new.table_id ≡ pass.old.table_id }
+    ensures view { cell_view pass.new ≡ writer_at after }
+{
+    let words = [after.steps, after.unlinked, after.reclaimed];
+    cell.swap_as::<Writes, R>(rt, pass, words);
+}
+
 /// Writes the totals where they have changed.
 #[inline(always)]
 fn publish<R: Wait>(rt: &R, cell: &Meter, pass: &mut MeterPass, before: Totals, after: Totals)
@@ -75,8 +88,7 @@ fn publish<R: Wait>(rt: &R, cell: &Meter, pass: &mut MeterPass, before: Totals, 
     ensures view { cell_view pass.new ≡ writer_at after }
 {
     if before != after {
-        let words = [after.steps, after.unlinked, after.reclaimed];
-        cell.swap_as::<Writes, R>(rt, pass, words);
+        write_totals(rt, cell, pass, before, after);
     }
 }
 

@@ -1,6 +1,6 @@
 use Rattle.std.proofs.Common.{rules}
 use Rattle.shared.proofs.Meters.{writes_totals}
-use Rattle.shared.proofs.state.publish.Goals as goal
+use Rattle.shared.proofs.state.write_totals.Goals as goal
 
 pub swap_as-requires : goal.swap_as-requires
 swap_as-requires g c = (search rules, (search rules, (c.requires.cell, writes_totals _ _ c.args.before c.args.after c.requires.view c.requires.rise)))
