@@ -3,6 +3,7 @@
 mod activity;
 pub mod command;
 mod crew;
+mod dumps;
 mod measure;
 pub mod outputs;
 mod pool;

@@ -29,7 +29,7 @@ pub struct Activity {
 }
 
 /// A shape for so many elements, of which half are stored, and as many map slots more; lengths in bytes.
-const fn shape(key_len: usize, value_len: usize, entries: usize) -> MapShape {
+pub const fn shape(key_len: usize, value_len: usize, entries: usize) -> MapShape {
     MapShape {
         kind: MapKind::Hash,
         key_len,
@@ -46,6 +46,11 @@ pub const SMALL_ENTRIES: usize = 1024;
 /// The shape of a map of `SMALL_ENTRIES` elements with keys and values of 8 bytes.
 pub const fn small() -> MapShape {
     shape(8, 8, SMALL_ENTRIES)
+}
+
+/// The shape of a map of `SMALL_ENTRIES` elements with keys of 4 bytes and values of 8.
+const fn short_keys() -> MapShape {
+    shape(4, 8, SMALL_ENTRIES)
 }
 
 /// The shape of a map of `MAX_ENTRIES` elements with keys of `KEY_BYTES` and values of `VALUE_BYTES`.
@@ -90,6 +95,22 @@ pub fn activities() -> [Activity; 7] {
             name: "step_lookup_key64_value256_of_4096",
             deed: Deed::Steps(Stepped::Lookup),
             shape: large(),
+        },
+    ]
+}
+
+/// Activities that are repeated and not printed.
+pub fn further_activities() -> [Activity; 2] {
+    [
+        Activity {
+            name: "read_key4_value8_of_1024",
+            deed: Deed::Reads,
+            shape: short_keys(),
+        },
+        Activity {
+            name: "cycle_key4_value8_of_1024",
+            deed: Deed::Cycles,
+            shape: short_keys(),
         },
     ]
 }

@@ -22,6 +22,8 @@ use std::time::{Duration, Instant};
 pub enum Task {
     /// Steps of a run of its own, which is dropped and started again when it has exited.
     Steps,
+    /// The same, up to `STRETCH` steps in a call.
+    Stretches,
     /// Reads of keys, of which about half are there.
     Reads,
     /// Ends of grace periods.
@@ -35,6 +37,9 @@ pub struct Crew {
     pub task: Task,
     pub workers: u8,
 }
+
+/// How many steps a call makes at most, where it makes many.
+const STRETCH: usize = 64;
 
 /// How many calls each worker makes in a batch.
 const CALLS: u32 = 50_000;
@@ -63,6 +68,11 @@ pub fn crews() -> [Crew; 12] {
         make_crew("shared_advance_by_4", Task::Advances, 4),
         make_crew("shared_advance_by_8", Task::Advances, 8),
     ]
+}
+
+/// Crews of one worker that are repeated and not timed.
+pub fn further_crews() -> [Crew; 1] {
+    [make_crew("shared_stretch_by_1", Task::Stretches, 1)]
 }
 
 /// The activity whose map and program the workers share.
@@ -133,7 +143,7 @@ impl Caller {
             sequence: Sequence::new(),
             progress,
             event: match task {
-                Task::Steps => progress.step(),
+                Task::Steps | Task::Stretches => progress.step(),
                 Task::Reads => read(key_of(0, 8)),
                 Task::Advances => Event::Advance,
             },
@@ -144,7 +154,7 @@ impl Caller {
     /// Goes on to the next event. A run that has moved makes another step, which is the same event.
     fn go_on(&mut self) {
         match self.task {
-            Task::Steps => {
+            Task::Steps | Task::Stretches => {
                 if !matches!(self.answer, Answer::Moved) {
                     self.progress = self.progress.after(&self.answer);
                     self.event = self.progress.step();
@@ -178,6 +188,37 @@ fn call<L: Ledger, R: Wait>(
     }
 }
 
+/// One call of a worker that makes many steps of a run, where it can go on.
+fn stretch<L: Ledger, R: Wait>(
+    rt: &R,
+    shared: &Shared<L>,
+    worker: &mut Worker<L>,
+    caller: &mut Caller,
+) {
+    match caller.progress {
+        Progress::Going(run) => {
+            let steps = shared.run_for(rt, worker, run, STRETCH);
+            if steps.moved == 0 {
+                call(rt, shared, worker, caller);
+            }
+        }
+        _ => call(rt, shared, worker, caller),
+    }
+}
+
+/// So many calls of a worker, each of many steps where a run can go on.
+fn stretches<L: Ledger, R: Wait>(
+    rt: &R,
+    shared: &Shared<L>,
+    worker: &mut Worker<L>,
+    caller: &mut Caller,
+    calls: u32,
+) {
+    for _ in 0..calls {
+        stretch(rt, shared, worker, caller);
+    }
+}
+
 /// Drops a worker's run.
 fn drop_run<L: Ledger, R: Wait>(
     rt: &R,
@@ -202,8 +243,13 @@ fn work<L: Ledger, R: Wait>(
     calls: u32,
 ) {
     let mut caller = Caller::new(task);
-    for _ in 0..calls {
-        call(rt, shared, worker, &mut caller);
+    match task {
+        Task::Stretches => stretches(rt, shared, worker, &mut caller, calls),
+        _ => {
+            for _ in 0..calls {
+                call(rt, shared, worker, &mut caller);
+            }
+        }
     }
     drop_run(rt, shared, worker, caller.progress);
 }

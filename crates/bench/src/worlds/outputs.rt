@@ -3,9 +3,10 @@ ghost use Rattle.std.specs.Prelude.{◌<◌, ◌≤◌};
 ghost use Rattle.shared.specs.declared.worker.TheConstants.{MAX_WORKERS};
 
 use crate::measurements::measurement_line;
-use crate::worlds::activity::{Activity, activities};
+use crate::worlds::activity::{Activity, activities, further_activities};
 use crate::worlds::command::WorldCommand;
-use crate::worlds::crew::{Crew, crews, repeat_calls, time_per_call};
+use crate::worlds::crew::{Crew, crews, further_crews, repeat_calls, time_per_call};
+use crate::worlds::dumps::{dumps, repeat_dump};
 use crate::worlds::measure::time_per_part;
 use crate::worlds::pool::time_per_job;
 use crate::worlds::report::answers_line;
@@ -132,16 +133,36 @@ fn repeated_crew<R: Threads + Wait + Clock + Sync>(
     Ok(format!(in alloc; "{} calls {calls}", crew.name)?)
 }
 
-/// The line of so many rounds of the activity of a name, or of the calls of the crew of one worker of that name.
-fn repeated_line<R: Threads + Wait + Clock + Sync>(
+/// The activity of a name.
+fn activity_named(name: &str) -> Option<Activity> {
+    for activity in activities() {
+        if activity.name == name {
+            return Some(activity);
+        }
+    }
+    for activity in further_activities() {
+        if activity.name == name {
+            return Some(activity);
+        }
+    }
+    None
+}
+
+/// The line of so many dumps of the map of a name, or of the calls of the crew of one worker of that name.
+fn further_line<R: Threads + Wait + Clock + Sync>(
     rt: &R,
     alloc: Global,
     name: &str,
     times: u32,
 ) -> Result<String> {
-    for activity in activities() {
-        if activity.name == name {
-            return repeated_activity(alloc, &activity, times);
+    for dump in dumps() {
+        if dump.name == name {
+            return repeat_dump(alloc, &dump, times);
+        }
+    }
+    for crew in further_crews() {
+        if crew.name == name {
+            return repeated_crew(rt, alloc, &crew, times);
         }
     }
     for crew in crews() {
@@ -149,7 +170,20 @@ fn repeated_line<R: Threads + Wait + Clock + Sync>(
             return repeated_crew(rt, alloc, &crew, times);
         }
     }
-    bail!("no activity {name}, and no crew of one worker")
+    bail!("no activity {name}, no dump, and no crew of one worker")
+}
+
+/// The line of so many rounds of the activity of a name, or of what else has this name.
+fn repeated_line<R: Threads + Wait + Clock + Sync>(
+    rt: &R,
+    alloc: Global,
+    name: &str,
+    times: u32,
+) -> Result<String> {
+    match activity_named(name) {
+        Some(activity) => repeated_activity(alloc, &activity, times),
+        None => further_line(rt, alloc, name, times),
+    }
 }
 
 /// The lines of so many rounds of an activity.

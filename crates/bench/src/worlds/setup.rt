@@ -40,10 +40,11 @@ fn map() -> MapId {
     MapId::new(0)
 }
 
-/// The key of a number: its eight bytes, little-endian, and zeros.
+/// The key of a number: its eight bytes, little-endian, cut to the length, and zeros behind them.
 pub fn key_of(number: u64, len: usize) -> KeyBytes {
     let mut key = KeyBytes::new();
     let _ = key.try_extend_from_slice(&number.to_le_bytes());
+    key.truncate(len);
     for _ in 8..len {
         let _ = key.try_push(0);
     }
@@ -51,7 +52,7 @@ pub fn key_of(number: u64, len: usize) -> KeyBytes {
 }
 
 /// An update by a value of ones.
-fn update(number: u64, shape: &MapShape) -> Event {
+pub fn update(number: u64, shape: &MapShape) -> Event {
     let mut value = ValueBytes::new();
     for _ in 0..shape.value_len {
         let _ = value.try_push(1);
@@ -106,7 +107,7 @@ fn text_of(alloc: Global, activity: &Activity) -> Result<(String, usize)> {
 }
 
 /// A world with one map of the shape, and a program that is bound to it.
-fn world_of(alloc: Global, shape: MapShape, text: &str) -> Result<World> {
+pub fn world_of(alloc: Global, shape: MapShape, text: &str) -> Result<World> {
     let program = match assemble(alloc, text) {
         Ok(program) => program,
         Err(fault) => bail!("{fault}"),
