@@ -14,6 +14,7 @@ pub mod ServedSteps
 pub mod Shapes
 pub mod ShapesKept
 pub mod Slots
+pub mod SlotFlags
 pub mod Starting
 pub mod Stepping
 pub mod NextSteps

@@ -111,7 +111,7 @@ started names maps runs grace programs given prog context program o w e there lo
     long
     (ap (λ (z : WorldView). lowest_free z.runs) (sym e) ∙ sym free)
 
-map-replicate : {A B : Type 0} (f : A → B) (n : ℕ) (x : A) → map f (replicate n x) ≡ replicate n (f x)
+pub map-replicate : {A B : Type 0} (f : A → B) (n : ℕ) (x : A) → map f (replicate n x) ≡ replicate n (f x)
 map-replicate f zero x = refl
 map-replicate f (suc n) x = ap (λ l. f x ∷ l) (map-replicate f n x)
 

@@ -27,18 +27,3 @@ pub free-none : (runs : Runs) → AreTaken runs (length runs) → lowest_free (m
 free-none [] h = refl
 free-none (None ∷ runs) h = absurd (h 0 (omega arith) refl)
 free-none (Some r ∷ runs) h = ap (option_map (λ k. k + 1)) (free-none runs (λ k l g. h (suc k) (omega arith) g))
-
-none-of : {A : Type 0} (o : Option A) → is_some o ≡ false → o ≡ None
-none-of None e = refl
-none-of (Some x) e = absurd (false≢true (sym e))
-
-not-none : {A : Type 0} (o : Option A) → is_some o ≡ true → o ≡ None → ⊥
-not-none None e z = false≢true e
-not-none (Some x) e z = none-some x (sym z)
-
-pub free-at : (runs : Runs) (n : ℕ) (d : Option RunWords) → n < length runs → is_some (get_or runs n d) ≡ false → slice_get runs n ≡ Some None
-free-at runs n d h e = slice_get-get_or runs n d h ∙ ap (λ o. Some o) (none-of (get_or runs n d) e)
-
-pub taken-more : (runs : Runs) (n : ℕ) (d : Option RunWords) → n < length runs → is_some (get_or runs n d) ≡ true → AreTaken runs n → AreTaken runs (n + 1)
-taken-more runs n d h e taken = below_more (λ k. slice_get runs k ≡ Some None → ⊥) n taken
-    (λ z. not-none (get_or runs n d) e (same_Some (get_or runs n d) None (sym (slice_get-get_or runs n d h) ∙ z)))

@@ -44,6 +44,17 @@ pub record IsKept (maps : List MapView) (runs : List (Option RunWords)) (grace :
   pub of_runs : AreRunsKept runs grace programs
   pub bound : AreProgramsBound (shapes_of_maps maps) programs
 
+-- whether a run slot is occupied, as a byte
+abbrev pub flag_of : Option RunWords → ℕ
+flag_of None = 0
+flag_of (Some run) = 1
+
+-- The parts of a world are kept, and for each run slot a byte that says whether it is occupied.
+pub record ArePartsKept (maps : List MapView) (runs : List (Option RunWords)) (flags : List ℕ) (grace : GraceState)
+    (programs : List Loaded) : Type 0 where
+  pub kept : IsKept maps runs grace programs
+  pub flagged : flags ≡ map flag_of runs
+
 abbrev pub world_of : List (List ℕ) → List MapView → List (Option RunWords) → GraceState →
     List Loaded → ℕ → WorldView
 world_of names maps runs grace programs given = record {

@@ -8,6 +8,7 @@ mod brief;
 mod by_number;
 mod control;
 mod copying;
+mod flags;
 mod loaded;
 mod parts;
 mod reclaim;

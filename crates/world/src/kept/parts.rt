@@ -7,6 +7,7 @@ ghost use Rattle.world.specs.Programs.{program_of, programs_in};
 
 use crate::kept::by_number::program_at;
 use crate::kept::copying::{copy_of_programs, copy_of_runs};
+use crate::kept::flags::free_flags;
 use crate::kept::loaded::Loaded;
 use bpf_model::{MAX_RUNS, ProgId};
 use element_store::Grace;
@@ -23,6 +24,8 @@ pub struct Parts {
     pub(crate) grace: Grace,
     /// `MAX_RUNS` run slots, made at the start.
     pub(crate) runs: Vec<Option<Run>>,
+    /// For each run slot whether it is occupied.
+    pub(crate) flags: Vec<u8>,
     pub(crate) programs: Vec<Loaded>,
     pub(crate) given: usize,
 }
@@ -35,11 +38,11 @@ impl Model for Parts {
 
     ghost coded = { world_code };
 
-    ghost use Rattle.world.specs.Keeping.{world_of, IsKept};
+    ghost use Rattle.world.specs.Keeping.{world_of, ArePartsKept};
 
     ghost view = { λ p. world_of p.registry.names p.registry.maps p.runs.items p.grace p.programs.items p.given };
 
-    ghost invariant = { λ p. IsKept p.registry.maps p.runs.items p.grace p.programs.items };
+    ghost invariant = { λ p. ArePartsKept p.registry.maps p.runs.items p.flags.items p.grace p.programs.items };
 }
 
 /// `MAX_RUNS` free run slots.
@@ -66,10 +69,12 @@ impl Parts {
             w ≡ unused_world registry.names registry.maps (programs_in programs.items)) }
     {
         let runs = free_slots(alloc)?;
+        let flags = free_flags(alloc)?;
         Ok(Parts {
             registry,
             grace: Grace::new(),
             runs,
+            flags,
             programs,
             given: 0,
         })
@@ -82,11 +87,13 @@ impl Parts {
     {
         let registry = self.registry.copy()?;
         let runs = copy_of_runs(alloc, &self.runs)?;
+        let flags = Vec::from_slice(alloc, &self.flags)?;
         let programs = copy_of_programs(alloc, &self.programs)?;
         Ok(Parts {
             registry,
             grace: self.grace.copy(),
             runs,
+            flags,
             programs,
             given: self.given,
         })

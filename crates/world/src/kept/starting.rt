@@ -1,28 +1,15 @@
 //! Where runs begin and end.
-ghost use Rattle.std.specs.Prelude.{◌≡◌, None, Some, map, slice_get, IfSome};
+ghost use Rattle.std.specs.Prelude.{◌≡◌};
 ghost use Rattle.view_laws.specs.Reactions.{start_reaction, drop_reaction, drop_refused};
 ghost use Rattle.world.specs.Brief.{brief_answer};
-ghost use Rattle.world.specs.Keeping.{view_of};
-ghost use Rattle.bpf_model.specs.Machine.{lowest_free as lowest_free_of, run_at};
+ghost use Rattle.bpf_model.specs.Machine.{run_at};
 
 use crate::kept::brief::Brief;
 use crate::kept::by_number::program_at;
+use crate::kept::flags::{FREE, OCCUPIED, lowest_free};
 use crate::kept::parts::Parts;
 use bpf_model::{Answer, CtxBytes, EventRefusal, ProgId, RunId};
 use machine::Run;
-
-/// The lowest free run slot.
-fn lowest_free(runs: &[Option<Run>]) -> Option<usize>
-    ensures slot { result ≡ lowest_free_of (map view_of runs.now) }
-    ensures free { IfSome result (λ r. slice_get runs.now r ≡ Some None) }
-{
-    for (slot, run) in runs.iter().enumerate() {
-        if run.is_none() {
-            return Some(slot);
-        }
-    }
-    None
-}
 
 impl Parts {
     /// Does a start as `start_into` says, and answers it in few bytes.
@@ -37,11 +24,12 @@ impl Parts {
         if ctx.len() != verified.ctx_len() {
             return Brief::Refused(EventRefusal::BadContext);
         }
-        match lowest_free(&self.runs) {
+        match lowest_free(&self.flags) {
             None => Brief::Refused(EventRefusal::RunsFull),
             Some(slot) => {
                 self.grace.keeps_awaited_open();
                 self.runs[slot] = Some(Run::start(verified, prog.index(), ctx));
+                self.flags[slot] = OCCUPIED;
                 Brief::Started(RunId::new(slot))
             }
         }
@@ -78,6 +66,7 @@ impl Parts {
             Some(refusal) => Brief::Refused(refusal),
             None => {
                 self.runs[run.index()] = None;
+                self.flags[run.index()] = FREE;
                 self.grace.keeps_awaited_open();
                 self.grace.close_all(run);
                 Brief::Done

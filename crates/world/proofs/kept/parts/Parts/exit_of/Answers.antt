@@ -47,7 +47,7 @@ returns-then-is_asked-clause-some c =
     c.self.inside.programs.items c.self.inside.given c.args.self.now c.self.view_is c.args.run
     c.args.program.now.program c.args.program.now.shapes c.args.program.now.ctx_len c.args.ctx.now.items
     c.in_ok-found.found.now there c.in_ok-loaded.loaded.now loaded
-    (c.self.invariant.bound c.in_ok-found.found.now.view.program c.in_ok-loaded.loaded.now loaded)
+    (c.self.invariant.kept.bound c.in_ok-found.found.now.view.program c.in_ok-loaded.loaded.now loaded)
     (c.is_asked.ensures.0 c.if-is_asked.true) c.exit.result c.exit.ensures
 
 pub returns-then-is_asked-clause-none : goal.returns-then-is_asked-clause-none
@@ -62,7 +62,7 @@ returns-then-is_asked-clause-none c =
     c.self.inside.programs.items c.self.inside.given c.args.self.now c.self.view_is c.args.run
     c.args.program.now.program c.args.program.now.shapes c.args.program.now.ctx_len c.args.ctx.now.items
     c.in_ok-found.found.now there c.in_ok-loaded.loaded.now loaded
-    (c.self.invariant.bound c.in_ok-found.found.now.view.program c.in_ok-loaded.loaded.now loaded)
+    (c.self.invariant.kept.bound c.in_ok-found.found.now.view.program c.in_ok-loaded.loaded.now loaded)
     c.exit.result c.exit.ensures
 
 pub returns-else-is_asked-clause-none : goal.returns-else-is_asked-clause-none
@@ -77,5 +77,5 @@ returns-else-is_asked-clause-none c =
     c.self.inside.programs.items c.self.inside.given c.args.self.now c.self.view_is c.args.run
     c.args.program.now.program c.args.program.now.shapes c.args.program.now.ctx_len c.args.ctx.now.items
     c.in_ok-found.found.now there c.in_ok-loaded.loaded.now loaded
-    (c.self.invariant.bound c.in_ok-found.found.now.view.program c.in_ok-loaded.loaded.now loaded)
+    (c.self.invariant.kept.bound c.in_ok-found.found.now.view.program c.in_ok-loaded.loaded.now loaded)
     (λ same. false≢true (sym c.if-is_asked.false ∙ c.is_asked.ensures.1 same))

@@ -6,6 +6,7 @@ use Rattle.view_laws.specs.Reactions.{with_run, fresh_view}
 use Rattle.world.specs.declared.kept.loaded.Loaded.{Loaded}
 use Rattle.world.specs.Keeping.{view_of}
 use Rattle.world.proofs.Runs.{started-kept, started-view, started}
+use Rattle.world.proofs.SlotFlags.{flags-set}
 use Rattle.world.proofs.Slots.{Runs}
 use Rattle.world.proofs.kept.parts.Parts.started.Goals as goal
 
@@ -16,14 +17,16 @@ invariant_of-self c =
     let fresh : c.start.result.view ≡ fresh_view c.args.prog c.args.ctx.now.items = c.start.ensures.view ∙
     ap (λ p. fresh_view p c.args.ctx.now.items) c.index.ensures in
     let free : slice_get c.self.inside.runs.items c.in-Some-lowest_free.slot ≡ Some None =
-    ap (λ (rs : Runs). slice_get rs c.in-Some-lowest_free.slot) (sym c.deref-2.ensures.value) ∙
-    c.in-Some-lowest_free.ensures.free in
+    c.in-Some-lowest_free.ensures.free c.self.inside.runs.items (c.deref-2.ensures.value ∙ c.self.invariant.flagged) in
     record {
-      of_runs = started-kept c.self.inside.registry.names c.self.inside.registry.maps c.self.inside.runs.items
-          c.self.inside.grace c.self.inside.programs.items c.self.inside.given c.in-Some-lowest_free.slot c.args.prog
-          c.args.ctx.now.items c.in-Some.program.now c.start.result free c.self.invariant.of_runs there fresh
-          (c.start.ensures.run c.in-Some.program.now.verified.program);
-      bound = c.self.invariant.bound;
+      kept = record {
+        of_runs = started-kept c.self.inside.registry.names c.self.inside.registry.maps c.self.inside.runs.items
+            c.self.inside.grace c.self.inside.programs.items c.self.inside.given c.in-Some-lowest_free.slot c.args.prog
+            c.args.ctx.now.items c.in-Some.program.now c.start.result free c.self.invariant.kept.of_runs there fresh
+            (c.start.ensures.run c.in-Some.program.now.verified.program);
+        bound = c.self.invariant.kept.bound;
+      };
+      flagged = flags-set c.self.inside.runs.items c.self.inside.flags.items c.in-Some-lowest_free.slot (Some c.start.result) c.self.invariant.flagged;
     }
 
 pub returns-in-None-lowest_free-clause-answer : goal.returns-in-None-lowest_free-clause-answer
@@ -33,7 +36,7 @@ returns-in-None-lowest_free-clause-answer c =
     let long : length c.args.ctx.now.items ≡ c.in-Some.program.now.verified.ctx_len = sym c.len.ensures.value ∙
     (c.if-len-ctx_len.false ∙ c.ctx_len.ensures.value) in
     let free : None ≡ lowest_free (map view_of c.self.inside.runs.items) = sym c.in-None-lowest_free.is ∙
-    (c.lowest_free.ensures.slot ∙ ap (λ (rs : Runs). lowest_free (map view_of rs)) c.deref-2.ensures.value) in
+    c.lowest_free.ensures.slot c.self.inside.runs.items (c.deref-2.ensures.value ∙ c.self.invariant.flagged) in
     let e = started c.self.inside.registry.names c.self.inside.registry.maps c.self.inside.runs.items
     c.self.inside.grace c.self.inside.programs.items c.self.inside.given c.args.prog c.args.ctx.now.items
     c.in-Some.program.now None c.args.self.now c.self.view_is there long free in
@@ -46,8 +49,7 @@ returns-in-Some-lowest_free-clause-answer c =
     let long : length c.args.ctx.now.items ≡ c.in-Some.program.now.verified.ctx_len = sym c.len.ensures.value ∙
     (c.if-len-ctx_len.false ∙ c.ctx_len.ensures.value) in
     let free : Some c.in-Some-lowest_free.slot ≡ lowest_free (map view_of c.self.inside.runs.items) =
-    c.in-Some-lowest_free.ensures.slot ∙ ap (λ (rs : Runs). lowest_free (map view_of rs))
-    c.deref-2.ensures.value in
+    c.in-Some-lowest_free.ensures.slot c.self.inside.runs.items (c.deref-2.ensures.value ∙ c.self.invariant.flagged) in
     let e = started c.self.inside.registry.names c.self.inside.registry.maps c.self.inside.runs.items
     c.self.inside.grace c.self.inside.programs.items c.self.inside.given c.args.prog c.args.ctx.now.items
     c.in-Some.program.now (Some c.in-Some-lowest_free.slot) c.args.self.now c.self.view_is there long free in
@@ -60,19 +62,17 @@ returns-in-Some-lowest_free-clause-new c =
     let long : length c.args.ctx.now.items ≡ c.in-Some.program.now.verified.ctx_len = sym c.len.ensures.value ∙
     (c.if-len-ctx_len.false ∙ c.ctx_len.ensures.value) in
     let free : Some c.in-Some-lowest_free.slot ≡ lowest_free (map view_of c.self.inside.runs.items) =
-    c.in-Some-lowest_free.ensures.slot ∙ ap (λ (rs : Runs). lowest_free (map view_of rs))
-    c.deref-2.ensures.value in
+    c.in-Some-lowest_free.ensures.slot c.self.inside.runs.items (c.deref-2.ensures.value ∙ c.self.invariant.flagged) in
     let e = started c.self.inside.registry.names c.self.inside.registry.maps c.self.inside.runs.items
     c.self.inside.grace c.self.inside.programs.items c.self.inside.given c.args.prog c.args.ctx.now.items
     c.in-Some.program.now (Some c.in-Some-lowest_free.slot) c.args.self.now c.self.view_is there long free in
     let fresh : c.start.result.view ≡ fresh_view c.args.prog c.args.ctx.now.items = c.start.ensures.view ∙
     ap (λ p. fresh_view p c.args.ctx.now.items) c.index.ensures in
     let empty : slice_get c.self.inside.runs.items c.in-Some-lowest_free.slot ≡ Some None =
-    ap (λ (rs : Runs). slice_get rs c.in-Some-lowest_free.slot) (sym c.deref-2.ensures.value) ∙
-    c.in-Some-lowest_free.ensures.free in
+    c.in-Some-lowest_free.ensures.free c.self.inside.runs.items (c.deref-2.ensures.value ∙ c.self.invariant.flagged) in
     started-view c.self.inside.registry.names c.self.inside.registry.maps c.self.inside.runs.items c.self.inside.grace
     c.self.inside.programs.items c.self.inside.given c.in-Some-lowest_free.slot c.args.prog c.args.ctx.now.items
-    c.in-Some.program.now c.start.result empty c.self.invariant.of_runs there fresh
+    c.in-Some.program.now c.start.result empty c.self.invariant.kept.of_runs there fresh
     (c.start.ensures.run c.in-Some.program.now.verified.program) c.keeps_awaited_open.ensures
     ∙ (ap (with_run c.in-Some-lowest_free.slot (Some (fresh_view c.args.prog c.args.ctx.now.items))) c.self.view_is
     ∙ sym (ap (λ r. r.1) e))

@@ -1,12 +1,14 @@
 use Rattle.std.proofs.Common.{◌≡◌, ◌∙◌, ℕ, ◌<◌, ◌^◌, List, Option, Some, None, true, false, refl, sym, ap, subst, rules}
-use Rattle.std.specs.Prelude.{is_some, slice_get}
+use Rattle.std.specs.Prelude.{is_some, map, slice_get}
 use Rattle.std.proofs.lemmas.Option.{same_Some}
 use Rattle.bpf_model.specs.View.{WorldView}
 use Rattle.world_laws.specs.Invariant.{IsWorld}
 use Rattle.machine.specs.RunWords.{RunWords}
+use Rattle.world.specs.Keeping.{flag_of}
 use Rattle.world.specs.Serving.{IsFlagged}
 use Rattle.world.specs.Stretches.{MakesMoves, WouldBeRefused}
 use Rattle.world.proofs.NextSteps.{ended, flagged-run, no-run, standing, whole}
+use Rattle.world.proofs.SlotFlags.{flags-stay}
 use Rattle.world.proofs.OwnMoves.{new-world, walk-ahead, walk-kept, walk-moves}
 use Rattle.world.proofs.kept.parts.Parts.walk.Goals as goal
 
@@ -25,7 +27,7 @@ pub returns-in_default-clause-refused : goal.returns-in_default-clause-refused
 returns-in_default-clause-refused c =
     subst (λ (w : WorldView). WouldBeRefused w c.args.run) c.self.view_is
     (no-run c.self.inside.registry.names c.self.inside.registry.maps c.self.inside.runs.items c.self.inside.grace
-    c.self.inside.programs.items c.self.inside.given c.args.run c.self.invariant
+    c.self.inside.programs.items c.self.inside.given c.args.run c.self.invariant.kept
     (λ run e. c.in_default.ensures.none run (subst (λ (l : List (Option RunWords)). slice_get l c.args.run ≡ Some (Some run)) (sym c.deref.ensures.value) e)))
 
 pub returns-then-is_some-clause-refused : goal.returns-then-is_some-clause-refused
@@ -36,7 +38,7 @@ returns-then-is_some-clause-refused c =
     let x = some-of found.view.exit (ap is_some (sym c.exit.ensures) ∙ (sym c.is_some.ensures ∙ c.if-is_some.true)) in
     subst (λ (w : WorldView). WouldBeRefused w c.args.run) c.self.view_is
     (ended c.self.inside.registry.names c.self.inside.registry.maps c.self.inside.runs.items c.self.inside.grace
-    c.self.inside.programs.items c.self.inside.given c.args.run c.self.invariant found there x.0 x.1)
+    c.self.inside.programs.items c.self.inside.given c.args.run c.self.invariant.kept found there x.0 x.1)
 
 pub walk_slot-requires : goal.walk_slot-requires
 walk_slot-requires c =
@@ -45,9 +47,9 @@ walk_slot-requires c =
     subst (λ (l : List (Option RunWords)). slice_get l c.args.run ≡ Some (Some found)) c.deref.ensures.value c.in-Some.ensures.some in
     let running : found.view.exit ≡ None = none-of found.view.exit (ap is_some (sym c.exit.ensures) ∙ (sym c.is_some.ensures ∙ c.if-is_some.false)) in
     let is : IsWorld (whole c.self.inside.registry.names c.self.inside.registry.maps c.self.inside.runs.items c.self.inside.grace
-    c.self.inside.programs.items c.self.inside.given c.args.run c.self.invariant) = subst IsWorld (sym c.self.view_is) c.requires in
+    c.self.inside.programs.items c.self.inside.given c.args.run c.self.invariant.kept) = subst IsWorld (sym c.self.view_is) c.requires in
     standing c.self.inside.registry.names c.self.inside.registry.maps c.self.inside.runs.items c.self.inside.grace
-    c.self.inside.programs.items c.self.inside.given c.args.run c.self.invariant found there is running
+    c.self.inside.programs.items c.self.inside.given c.args.run c.self.invariant.kept found there is running
 
 pub invariant_of-self : goal.invariant_of-self
 invariant_of-self c =
@@ -56,18 +58,22 @@ invariant_of-self c =
     subst (λ (l : List (Option RunWords)). slice_get l c.args.run ≡ Some (Some found)) c.deref.ensures.value c.in-Some.ensures.some in
     let running : found.view.exit ≡ None = none-of found.view.exit (ap is_some (sym c.exit.ensures) ∙ (sym c.is_some.ensures ∙ c.if-is_some.false)) in
     let is : IsWorld (whole c.self.inside.registry.names c.self.inside.registry.maps c.self.inside.runs.items c.self.inside.grace
-    c.self.inside.programs.items c.self.inside.given c.args.run c.self.invariant) = subst IsWorld (sym c.self.view_is) c.requires in
+    c.self.inside.programs.items c.self.inside.given c.args.run c.self.invariant.kept) = subst IsWorld (sym c.self.view_is) c.requires in
     let walked = c.walk_slot.ensures.walked in
     let same : walked.run ≡ found = same-there c.self.inside.runs.items c.args.run walked.run found walked.there there in
     let going : walked.run.view.exit ≡ None = ap (λ (x : RunWords). x.view.exit) same ∙ running in
     let flagged : IsFlagged (whole c.self.inside.registry.names c.self.inside.registry.maps c.self.inside.runs.items c.self.inside.grace
-    c.self.inside.programs.items c.self.inside.given c.args.run c.self.invariant) c.args.run walked.run.view =
+    c.self.inside.programs.items c.self.inside.given c.args.run c.self.invariant.kept) c.args.run walked.run.view =
     flagged-run c.self.inside.registry.names c.self.inside.registry.maps c.self.inside.runs.items c.self.inside.grace
-    c.self.inside.programs.items c.self.inside.given c.args.run c.self.invariant walked.run walked.there
+    c.self.inside.programs.items c.self.inside.given c.args.run c.self.invariant.kept walked.run walked.there
     is going in
-    walk-kept c.self.inside.registry.names c.self.inside.registry.maps c.self.inside.runs.items c.walk_slot.new.runs.items
-    c.self.inside.grace c.self.inside.programs.items c.self.inside.given c.args.run c.walk_slot.result
-    c.self.invariant walked going flagged
+    record {
+      kept = walk-kept c.self.inside.registry.names c.self.inside.registry.maps c.self.inside.runs.items c.walk_slot.new.runs.items
+          c.self.inside.grace c.self.inside.programs.items c.self.inside.given c.args.run c.walk_slot.result
+          c.self.invariant.kept walked going flagged;
+      flagged = flags-stay c.self.inside.runs.items c.self.inside.flags.items c.args.run walked.run walked.new c.self.invariant.flagged walked.there
+          ∙ ap (map flag_of) (sym walked.runs_are);
+    }
 
 pub returns-clause-moves : goal.returns-clause-moves
 returns-clause-moves c =
@@ -76,22 +82,22 @@ returns-clause-moves c =
     subst (λ (l : List (Option RunWords)). slice_get l c.args.run ≡ Some (Some found)) c.deref.ensures.value c.in-Some.ensures.some in
     let running : found.view.exit ≡ None = none-of found.view.exit (ap is_some (sym c.exit.ensures) ∙ (sym c.is_some.ensures ∙ c.if-is_some.false)) in
     let is : IsWorld (whole c.self.inside.registry.names c.self.inside.registry.maps c.self.inside.runs.items c.self.inside.grace
-    c.self.inside.programs.items c.self.inside.given c.args.run c.self.invariant) = subst IsWorld (sym c.self.view_is) c.requires in
+    c.self.inside.programs.items c.self.inside.given c.args.run c.self.invariant.kept) = subst IsWorld (sym c.self.view_is) c.requires in
     let walked = c.walk_slot.ensures.walked in
     let same : walked.run ≡ found = same-there c.self.inside.runs.items c.args.run walked.run found walked.there there in
     let going : walked.run.view.exit ≡ None = ap (λ (x : RunWords). x.view.exit) same ∙ running in
     let flagged : IsFlagged (whole c.self.inside.registry.names c.self.inside.registry.maps c.self.inside.runs.items c.self.inside.grace
-    c.self.inside.programs.items c.self.inside.given c.args.run c.self.invariant) c.args.run walked.run.view =
+    c.self.inside.programs.items c.self.inside.given c.args.run c.self.invariant.kept) c.args.run walked.run.view =
     flagged-run c.self.inside.registry.names c.self.inside.registry.maps c.self.inside.runs.items c.self.inside.grace
-    c.self.inside.programs.items c.self.inside.given c.args.run c.self.invariant walked.run walked.there
+    c.self.inside.programs.items c.self.inside.given c.args.run c.self.invariant.kept walked.run walked.there
     is going in
     subst (λ (w : WorldView). MakesMoves c.args.run w c.walk_slot.result.moved
     (new-world c.self.inside.registry.names c.self.inside.registry.maps c.self.inside.runs.items c.walk_slot.new.runs.items
     c.self.inside.grace c.self.inside.programs.items c.self.inside.given c.args.run c.walk_slot.result
-    c.self.invariant walked going flagged)) c.self.view_is
+    c.self.invariant.kept walked going flagged)) c.self.view_is
     (walk-moves c.self.inside.registry.names c.self.inside.registry.maps c.self.inside.runs.items c.walk_slot.new.runs.items
     c.self.inside.grace c.self.inside.programs.items c.self.inside.given c.args.run c.walk_slot.result
-    c.self.invariant walked going flagged)
+    c.self.invariant.kept walked going flagged)
 
 pub returns-clause-ahead : goal.returns-clause-ahead
 returns-clause-ahead c =
@@ -100,16 +106,16 @@ returns-clause-ahead c =
     subst (λ (l : List (Option RunWords)). slice_get l c.args.run ≡ Some (Some found)) c.deref.ensures.value c.in-Some.ensures.some in
     let running : found.view.exit ≡ None = none-of found.view.exit (ap is_some (sym c.exit.ensures) ∙ (sym c.is_some.ensures ∙ c.if-is_some.false)) in
     let is : IsWorld (whole c.self.inside.registry.names c.self.inside.registry.maps c.self.inside.runs.items c.self.inside.grace
-    c.self.inside.programs.items c.self.inside.given c.args.run c.self.invariant) = subst IsWorld (sym c.self.view_is) c.requires in
+    c.self.inside.programs.items c.self.inside.given c.args.run c.self.invariant.kept) = subst IsWorld (sym c.self.view_is) c.requires in
     let walked = c.walk_slot.ensures.walked in
     let same : walked.run ≡ found = same-there c.self.inside.runs.items c.args.run walked.run found walked.there there in
     let going : walked.run.view.exit ≡ None = ap (λ (x : RunWords). x.view.exit) same ∙ running in
     let flagged : IsFlagged (whole c.self.inside.registry.names c.self.inside.registry.maps c.self.inside.runs.items c.self.inside.grace
-    c.self.inside.programs.items c.self.inside.given c.args.run c.self.invariant) c.args.run walked.run.view =
+    c.self.inside.programs.items c.self.inside.given c.args.run c.self.invariant.kept) c.args.run walked.run.view =
     flagged-run c.self.inside.registry.names c.self.inside.registry.maps c.self.inside.runs.items c.self.inside.grace
-    c.self.inside.programs.items c.self.inside.given c.args.run c.self.invariant walked.run walked.there
+    c.self.inside.programs.items c.self.inside.given c.args.run c.self.invariant.kept walked.run walked.there
     is going in
     let real : c.args.run < 2 ^ 64 = search rules in
     walk-ahead c.self.inside.registry.names c.self.inside.registry.maps c.self.inside.runs.items c.walk_slot.new.runs.items
     c.self.inside.grace c.self.inside.programs.items c.self.inside.given c.args.run c.walk_slot.result
-    c.self.invariant walked going flagged is real
+    c.self.invariant.kept walked going flagged is real
