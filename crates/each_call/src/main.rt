@@ -13,7 +13,7 @@ mod worlds;
 use crate::pooled::share;
 use crate::programs::{arena, assembled, decoded, disassembled, encoded, verified};
 use crate::stopped::stop;
-use crate::worlds::{created, make_world, run_events};
+use crate::worlds::{created, make_world, ordered, run_events};
 use anyhow::Result;
 use std::marker::Brand;
 use std::sync::ledger::Blank;
@@ -59,6 +59,7 @@ fn make_worlds(rt: &HostRuntime, verified: &Verified) -> Result<World> {
     tell(rt, "create", created(alloc)?)?;
     let mut world = told(rt, "world", make_world(alloc, verified))?;
     tell(rt, "run_all", run_events(alloc, &mut world)?)?;
+    tell(rt, "in_order", ordered(alloc, &world)?)?;
     Ok(world)
 }
 
@@ -73,6 +74,7 @@ fn main(rt: HostRuntime) -> Result<()> {
     let world = make_all(&rt)?;
     let refused = stop::<Brand, _>(&rt, rt.alloc(), &world, Blank::new(2))?;
     let calls = share::<Brand, _>(&rt, rt.alloc(), world, Blank::new(2))?;
+    tell(&rt, "run_for", calls.run_for)?;
     tell(&rt, "act", refused.act || calls.act)?;
     tell(&rt, "cut", refused.cut || calls.cut)?;
     tell(&rt, "run_jobs", calls.jobs)

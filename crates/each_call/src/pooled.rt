@@ -3,8 +3,8 @@ ghost use Rattle.std.specs.Prelude.{◌≡◌};
 
 use crate::worlds::update;
 use anyhow::{Result, bail, ensure};
-use bpf_model::{CtxBytes, ProgId};
-use shared::{CutFault, Shared, SharedFault, Worker, Workers, is_quiet};
+use bpf_model::{Answer, CtxBytes, Event, ProgId, RunId};
+use shared::{CutFault, Shared, SharedFault, StepsEnd, Worker, Workers, is_quiet};
 use std::alloc::Global;
 use std::sync::Wait;
 use std::sync::ledger::{Blank, Ledger};
@@ -15,6 +15,7 @@ use world::World;
 /// Which calls were made again for want of memory.
 #[derive(Drop)]
 pub struct Told {
+    pub run_for: bool,
     pub act: bool,
     pub cut: bool,
     pub jobs: bool,
@@ -22,6 +23,50 @@ pub struct Told {
 
 /// How many updates there are, and how many jobs.
 pub const TIMES: usize = 100;
+
+/// How many entries a run makes that is started, makes eleven moves and its exit, and is dropped.
+const RUN_ENTRIES: usize = 14;
+
+/// Makes one event, once more where memory was refused.
+fn act_once<L: Ledger + Send + Sync, R: Wait>(
+    rt: &R,
+    shared: &Shared<L>,
+    worker: &mut Worker<L>,
+    event: Event,
+) -> Result<bool> {
+    let mut answer = Answer::Moved;
+    match shared.act_into(rt, worker, &event, &mut answer) {
+        Err(SharedFault::Memory) => {
+            shared.act_into(rt, worker, &event, &mut answer)?;
+            Ok(true)
+        }
+        answer => {
+            answer?;
+            Ok(false)
+        }
+    }
+}
+
+/// The moves of a run, one a call. A call that was refused memory has made none.
+fn run_for<L: Ledger + Send + Sync, R: Wait>(
+    rt: &R,
+    shared: &Shared<L>,
+    worker: &mut Worker<L>,
+    run: RunId,
+) -> Result<bool> {
+    let mut again = false;
+    for _ in 3..RUN_ENTRIES {
+        let made = worker.made();
+        let mut steps = shared.run_for(rt, worker, run, 1);
+        if steps.end == StepsEnd::Memory {
+            ensure!(worker.made() == made, "an entry was made");
+            steps = shared.run_for(rt, worker, run, 1);
+            again = true;
+        }
+        ensure!(steps.moved == 1, "the run has not moved");
+    }
+    Ok(again)
+}
 
 /// Makes updates. One that was refused memory has made no entry.
 fn act<L: Ledger + Send + Sync, R: Wait>(
@@ -117,10 +162,28 @@ pub fn made_by<L: Ledger>(workers: &Workers<L>) -> u64 {
 
 /// Whether these are the entries that were made since the cut.
 fn are_those_made(entries: usize, made: u64) -> bool {
-    (entries as u64).saturating_add(TIMES as u64) == made
+    let before = TIMES.saturating_add(RUN_ENTRIES);
+    (entries as u64).saturating_add(before as u64) == made
 }
 
-/// Shares a world: updates, a cut and jobs. In the end each entry since the cut is in the journal.
+/// A run of the program, and then updates: which calls were made again, of `run_for` and of `act`.
+fn make_calls<L: Ledger + Send + Sync, R: Wait>(
+    rt: &R,
+    shared: &Shared<L>,
+    worker: &mut Worker<L>,
+) -> Result<(bool, bool)> {
+    let run = RunId::new(0);
+    let prog = ProgId::new(0);
+    let ctx = CtxBytes::new();
+    let started = act_once(rt, shared, worker, Event::Start { prog, ctx })?;
+    let moved = run_for(rt, shared, worker, run)?;
+    let ended = act_once(rt, shared, worker, Event::Step { run })?;
+    let dropped = act_once(rt, shared, worker, Event::Drop { run })?;
+    let updated = act(rt, shared, worker)?;
+    Ok((moved, started || ended || dropped || updated))
+}
+
+/// Shares a world: a run, updates, a cut and jobs. In the end each entry since the cut is in the journal.
 pub fn share<L: Ledger + Send + Sync, R: Threads + Wait + Sync>(
     rt: &R,
     alloc: Global,
@@ -137,7 +200,7 @@ pub fn share<L: Ledger + Send + Sync, R: Threads + Wait + Sync>(
     let Some(first) = workers.as_mut_slice().first_mut() else {
         bail!("there is no worker");
     };
-    let act = act(rt, &shared, first)?;
+    let (run_for, act) = make_calls(rt, &shared, first)?;
     let cut = cut(rt, alloc, &shared)?;
     let jobs = serve(rt, alloc, &shared, &mut workers)?;
     let made = made_by(&workers);
@@ -146,5 +209,10 @@ pub fn share<L: Ledger + Send + Sync, R: Threads + Wait + Sync>(
         are_those_made(entries, made),
         "the entries are not those that were made"
     );
-    Ok(Told { act, cut, jobs })
+    Ok(Told {
+        run_for,
+        act,
+        cut,
+        jobs,
+    })
 }

@@ -130,3 +130,16 @@ pub fn run_events(alloc: Global, world: &mut World) -> Result<bool> {
     }
     Ok(again)
 }
+
+/// Lists the map slots of the one element that is there.
+pub fn ordered(alloc: Global, world: &World) -> Result<bool> {
+    let Some(map) = world.registry().map(MapId::new(0)) else {
+        bail!("there is no map");
+    };
+    let (slots, again) = match map.in_order(alloc) {
+        Err(_) => (map.in_order(alloc)?, true),
+        Ok(slots) => (slots, false),
+    };
+    ensure!(slots.len() == 1, "there is another number of elements");
+    Ok(again)
+}

@@ -14,7 +14,7 @@ invariant_of-self c = record {
         c.close_all.ensures.awaited;
     bound = c.self.invariant.kept.bound;
   };
-  flagged = ap (λ n. slice_set c.self.inside.flags.items n 0) (c.index-2.ensures ∙ sym c.index.ensures)
+  flagged = ap (λ n. slice_set c.self.inside.flags.items n 0) (c.index-in-None.ensures ∙ sym c.index.ensures)
       ∙ flags-set c.self.inside.runs.items c.self.inside.flags.items c.index.result None c.self.invariant.flagged;
 }
 
