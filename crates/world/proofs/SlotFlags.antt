@@ -1,9 +1,9 @@
 -- A byte for each run slot.
-use Rattle.std.proofs.Common.{◌≡◌, ◌∙◌, ℕ, zero, suc, ◌<◌, ◌≤◌, List, [], ◌∷◌, length, Option, Some, None, refl, sym, ap, subst, arith, true, false, rules}
-use Rattle.std.specs.Prelude.{◌==◌, slice_get, slice_set, slice_index, map, replicate, IfSome}
+use Rattle.std.proofs.Common.{◌≡◌, ◌∙◌, ℕ, zero, suc, ◌<◌, List, [], ◌∷◌, length, Option, Some, None, refl, sym, ap, subst, arith, rules}
+use Rattle.std.specs.Prelude.{slice_get, slice_set, map, IfSome}
 use Rattle.std.proofs.lemmas.List.{map-set}
 use Rattle.std.proofs.lemmas.Option.{none-some, same_Some}
-use Rattle.memchr.specs.Find.{IsFirstByte, NoneBefore, Nowhere, Passes, is_byte}
+use Rattle.memchr.specs.Find.{IsFirstByte, Nowhere, Passes, is_byte}
 use Rattle.bpf_model.specs.Machine.{lowest_free}
 use Rattle.element_store.proofs.Views.{map-set_same}
 use Rattle.machine.specs.RunWords.{RunWords}

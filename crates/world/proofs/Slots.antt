@@ -1,9 +1,8 @@
 -- Run slots: the lowest free one.
 use Rattle.std.proofs.Common.{◌≡◌, ◌∙◌, ℕ, zero, suc, ◌+◌, ◌<◌, List, [], ◌∷◌, length, Option, Some, None, refl, sym}
-use Rattle.std.proofs.Common.{ap, arith, add-one, below_more, get_or, true, false}
-use Rattle.std.specs.Prelude.{slice_get, map, option_map, is_some}
-use Rattle.std.proofs.lemmas.Bool.{false≢true}
-use Rattle.std.proofs.lemmas.Option.{none-some, same_Some, slice_get-get_or}
+use Rattle.std.proofs.Common.{ap, arith, add-one}
+use Rattle.std.specs.Prelude.{slice_get, map, option_map}
+use Rattle.std.proofs.lemmas.Option.{none-some, same_Some}
 use Rattle.machine.specs.RunWords.{RunWords}
 use Rattle.world.specs.Keeping.{view_of}
 use Rattle.bpf_model.specs.Machine.{lowest_free}

@@ -1,4 +1,4 @@
-use Rattle.std.proofs.Common.{◌≡◌, ◌≢◌, ◌+◌, ◌-◌, ◌<◌, ◌≤◌, ◌⊎◌, replicate, inl, inr, arith, rules}
+use Rattle.std.proofs.Common.{◌≡◌, ◌≢◌, ◌+◌, ◌<◌, ◌≤◌, ◌⊎◌, replicate, arith, rules}
 use Rattle.std.specs.Prelude.{max}
 use Rattle.bpf_model.specs.declared.event.Event.TheVariants.{Step}
 use Rattle.bpf_model.specs.declared.event.Answer.TheVariants.{Moved}
@@ -8,11 +8,12 @@ use Rattle.control.proofs.steps.make_steps.Goals as goal
 pub returns : goal.returns
 returns c =
     let moved = c.run_for.result.moved in
-    let most : c.before_last ≡ max c.args.count 1 - 1 = search rules in
-    let few : moved < max c.args.count 1 = let m : moved ≤ c.before_last = c.run_for.ensures.most in omega arith in
+    let top : c.max-before_last.result ≡ max c.args.count 1 = search rules in
+    let some : 1 ≤ max c.args.count 1 = omega arith in
+    let few : moved < max c.args.count 1 = omega (arith, top, some, c.run_for.ensures.most) in
     let ahead : (moved + 1 ≡ max c.args.count 1) ⊎ (c.apply_into.new.answer ≢ Moved) =
         no_move_ahead c.run_for.new.self c.args.run c.run_for.result.stop c.apply_into.new.answer _ c.apply_into.ensures.answer
-        (λ e. let all : moved ≡ c.before_last = c.run_for.ensures.enough e in omega arith) c.run_for.ensures.exits c.run_for.ensures.refused in (
+        (λ e. omega (arith, top, some, c.run_for.ensures.enough e)) c.run_for.ensures.exits c.run_for.ensures.refused in (
       replicate (moved + 1) (Step c.args.run),
       last_step c.args.world.now c.run_for.new.self c.apply_into.new.self
           c.args.run c.args.count moved c.apply_into.new.answer

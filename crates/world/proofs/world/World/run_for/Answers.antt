@@ -1,4 +1,4 @@
-use Rattle.std.proofs.Common.{◌≡◌, ◌+◌, ◌-◌, ◌≤◌, ◌<◌, arith, rules}
+use Rattle.std.proofs.Common.{◌+◌, ◌-◌, ◌<◌, arith, rules}
 use Rattle.world.specs.Stretches.{WouldMove, not_yet}
 use Rattle.world.proofs.OwnMoves.{moves-behind, one-behind}
 use Rattle.world.proofs.world.World.run_for.Goals as goal

@@ -7,7 +7,6 @@ use Rattle.world.specs.declared.kept.loaded.Loaded.{Loaded}
 use Rattle.world.specs.Keeping.{view_of}
 use Rattle.world.proofs.Runs.{started-kept, started-view, started}
 use Rattle.world.proofs.SlotFlags.{flags-set}
-use Rattle.world.proofs.Slots.{Runs}
 use Rattle.world.proofs.kept.parts.Parts.started.Goals as goal
 
 pub invariant_of-self : goal.invariant_of-self
