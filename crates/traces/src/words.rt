@@ -6,7 +6,7 @@ use maps::Registry;
 use std::io;
 use std::io::Write;
 
-/// The numbers of the regions of the context, the frame, the first map and the first map slot.
+/// The numbers of the regions of the context, the frame, all maps and the first map slot.
 const CONTEXT: u64 = 1 << 9;
 
 const FRAME: u64 = 1 << 10;
@@ -53,8 +53,26 @@ fn write_signed<W: Write>(out: &mut W, number: i64) -> io::Result<()> {
     Ok(())
 }
 
-/// Writes which place in memory a word would be, if it is one: the context, the frame, counted from r10, a map, a map slot; or which negative
-/// number it stands for.
+/// Writes which map a word is, if it is one: words of maps lie as far behind that of map 0 as their numbers say. Else it
+/// writes which negative number the word stands for.
+fn write_map_word<W: Write>(
+    out: &mut W,
+    maps: &Registry,
+    region: u64,
+    offset: i64,
+    word: u64,
+) -> io::Result<()> {
+    let number = offset.unsigned_abs();
+    if region == MAPS && offset >= 0 && number < maps.len() as u64 {
+        write!(out, " (")?;
+        write_map(out, maps, number)?;
+        return write!(out, ")");
+    }
+    write_signed(out, word.cast_signed())
+}
+
+/// Writes which place in memory a word would be, if it is one: the context, the frame, counted from r10, a map slot, a map;
+/// or which negative number it stands for.
 pub fn write_place<W: Write>(out: &mut W, maps: &Registry, word: u64) -> io::Result<()> {
     let (region, offset) = region_of(word);
     if region == CONTEXT {
@@ -68,11 +86,8 @@ pub fn write_place<W: Write>(out: &mut W, maps: &Registry, word: u64) -> io::Res
         let slot = number % MAP_SLOTS;
         write!(out, " (slot {slot} of ")?;
         write_map(out, maps, number / MAP_SLOTS)?;
-    } else if region >= MAPS && region < MAPS + maps.len() as u64 {
-        write!(out, " (")?;
-        write_map(out, maps, region - MAPS)?;
     } else {
-        return write_signed(out, word.cast_signed());
+        return write_map_word(out, maps, region, offset, word);
     }
     write_offset(out, offset)?;
     write!(out, ")")
