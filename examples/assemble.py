@@ -1,5 +1,5 @@
 #!/usr/bin/env python3
-"""Makes a program file out of a program in assembly text, whose lines docs/ASSEMBLY.md explains.
+"""Makes a program file out of a program in assembly text: the fixed language of docs/ASSEMBLY.md, without labels, names and `.equ`.
 
     assemble.py FILE           the program file, as docs/PROGRAM_FILES.md has it
     assemble.py --script FILE  the first lines of a script: its maps, and the program, bound to them

@@ -9,7 +9,7 @@ import sys
 
 sys.dont_write_bytecode = True
 sys.path.insert(0, str(pathlib.Path(__file__).resolve().parent.parent / "host"))
-from bpfrt import Refused, Runtime
+from bpfrt import Broken, Refused, Runtime
 
 # Linux's AUDIT_ARCH_ numbers.
 ARCHES = {"x86_64": 0xC000003E, "x86": 0x40000003, "aarch64": 0xC00000B7, "riscv64": 0xC00000F3}
@@ -41,9 +41,9 @@ def name_of(answer):
 
 
 def main(bpfrt, program, calls="/dev/stdin"):
-    lines = [line.partition("#")[0].strip() for line in pathlib.Path(calls).read_text().splitlines()]
-    lines = [line for line in lines if line]
     try:
+        lines = [line.partition("#")[0].strip() for line in pathlib.Path(calls).read_text().splitlines()]
+        lines = [line for line in lines if line]
         contexts = [call_of(line) for line in lines]
     except (ValueError, struct.error) as error:
         sys.exit(f"judge_calls: {calls}: {error}")
@@ -58,4 +58,9 @@ def main(bpfrt, program, calls="/dev/stdin"):
 
 
 if __name__ == "__main__":
-    main(*sys.argv[1:]) if len(sys.argv) in (3, 4) else sys.exit(__doc__)
+    if len(sys.argv) not in (3, 4):
+        sys.exit(__doc__)
+    try:
+        main(*sys.argv[1:])
+    except (Broken, OSError) as error:
+        sys.exit(f"judge_calls: {error}")

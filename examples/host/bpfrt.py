@@ -6,7 +6,7 @@
 
 A call that cannot be written raises TypeError or ValueError, and one that is refused Refused. An update or a delete that gives an
 error of Linux's raises OSError. The next call is answered all the same. Behind these it is not:
-- Ended: the process has ended.
+- Ended: the process has ended, as it does after a line that is no command.
 - Broken: a call was cut off between its command and its answers, as by a deadline or Ctrl-C, or what was written is no answer.
 Each later call raises the same, since it might take another command's answer for its own. Make another Runtime: its maps are new.
 
@@ -23,7 +23,7 @@ import subprocess
 import tempfile
 import threading
 
-HEX = "(?:[0-9a-f]{2})+"
+HEX, NUMBER = "(?:[0-9a-f]{2})+", "(?:0|[1-9][0-9]{0,18})"
 IS_ELEMENT = re.compile(f"{HEX} {HEX}").fullmatch
 # For each command the answers that are no refusals; a dump's elements stand before its `end`.
 ANSWERS = {
@@ -52,15 +52,17 @@ class Broken(Exception):
 
 
 class Ended(Broken):
-    """The process has ended: its status, which is below zero where a signal ended it, and what it said on standard error."""
+    """The process has ended: its status, which is below zero where a signal ended it, what it said on standard error, and the
+    command of the call that saw its end, where that was a single one."""
 
-    def __init__(self, status, said):
-        super().__init__(status, said)
-        self.status, self.said = status, said
+    def __init__(self, status, said, command=""):
+        super().__init__(status, said, command)
+        self.status, self.said, self.command = status, said, command
 
     def __str__(self):
         by = f" ({signal.strsignal(-self.status)})" if (self.status or 0) < 0 else ""
-        return f"bpfrt script has ended with status {self.status}{by}, and said: {self.said or 'nothing'}"
+        of = f"; the command was `{self.command[:60]}`" if self.command else ""
+        return f"bpfrt script has ended with status {self.status}{by}, and said: {self.said or 'nothing'}{of}"
 
 
 def name_word(name):
@@ -97,6 +99,7 @@ class Runtime:
         self._turn = threading.RLock()
         self._why = None  # Why no call is answered any more: an exception's class and arguments.
         self._unwritten, self._lines, self._rest = b"", collections.deque(), ""  # Of the present call.
+        self._command = ""  # That of the present call, once it is written, where it is a single one.
         self._runs = set()  # The run slots that are taken.
 
     def __enter__(self):
@@ -125,7 +128,8 @@ class Runtime:
     def _ended(self):
         """A pipe of the process is closed: how it has ended."""
         self.child.stdin.close()
-        return Ended(self._status(), os.pread(self._errors.fileno(), self.PIECE, 0).decode("utf-8", "replace").strip())
+        status, said = self._status(), os.pread(self._errors.fileno(), self.PIECE, 0)
+        return Ended(status, said.decode("utf-8", "replace").strip(), self._command)
 
     def _write(self):
         """Writes as much of what is left as the process takes."""
@@ -185,17 +189,18 @@ class Runtime:
             self._more()
         return [self._lines.popleft() for _ in range(count)]
 
-    def _call(self, text, answers):
-        """Writes commands, and takes their answers: what `answers` gives. A call that is cut off is the last."""
+    def _call(self, text, answers, command=""):
+        """Writes commands, or a single one, and takes their answers: what `answers` gives. A call that is cut off is the last."""
         with self._turn:
             if self._why:
                 raise self._why[0](*self._why[1])
             self._why = Broken, ("a call is under way, or was cut off",)
+            self._command = ""
             try:
                 if self._reading.poll(0):  # before a command: the process has ended, or wrote what is no answer
                     self._read()
                 else:
-                    self._unwritten = memoryview(text)
+                    self._unwritten, self._command = memoryview(text), command
                     self._write()
                     taken = answers()
                 if self._rest or self._lines or self._unwritten:
@@ -208,7 +213,8 @@ class Runtime:
         return taken
 
     def batch(self, commands):
-        """The answers to commands, by one write and one read: a line each, refusals among them, and a dump's of several lines."""
+        """The answers to commands, by one write and one read: a line each, refusals among them, and a dump's of several lines.
+        Of a command the first word is checked, and the length. Where its other words are none, the process ends."""
         commands = list(commands)
         words = [command.split(" ", 1)[0] for command in commands]
         text = "".join([command + "\n" for command in commands]).encode()
@@ -216,10 +222,11 @@ class Runtime:
             raise ValueError("a command is one line, and its first word one of " + ", ".join(ANSWERS))
         if len(text) > LONGEST_LINE and max(map(len, text.split(b"\n"))) > LONGEST_LINE:
             raise ValueError(f"a command has at most {LONGEST_LINE} bytes")
-        return self._call(text, lambda: [self._answer(*it) for it in zip(commands, words)])
+        single = commands[0] if len(commands) == 1 else ""
+        return self._call(text, lambda: [self._answer(*it) for it in zip(commands, words)], single)
 
     def ask(self, command):
-        """The answer to a command that is not refused."""
+        """The answer to a command that is not refused; `batch` says what is checked of it."""
         answer, = self.batch([command])
         if answer.startswith("refused"):
             raise Refused(command, answer)
@@ -247,7 +254,8 @@ class Runtime:
     def load(self, text, make_maps=True):
         """Makes the maps of a program file's text, or takes those of the same names, and loads its program: its number.
         Maps stay where the program is refused: load the next text for them with make_maps=False."""
-        parts = re.fullmatch(r"bpfrt 1\nctx (\d+)\n((?:map \S+ (?:array|\d+ \d+ \d+) \d+ \d+\n)*)code\n([0-9a-fA-F \n]*)", text)
+        maps = rf"(?:map \S+ (?:array|{NUMBER} {NUMBER} {NUMBER}) {NUMBER} {NUMBER}\n)*"
+        parts = re.fullmatch(rf"bpfrt 1\nctx ({NUMBER})\n({maps})code\n([0-9a-fA-F \n]*)", text)
         if not parts:
             raise ValueError("no program file as text: `bpfrt asm --file` or examples/c/build makes one")
         for line in parts[2].splitlines() if make_maps else []:
