@@ -105,6 +105,14 @@ impl Progress {
         }
     }
 
+    /// The run, where it goes on.
+    fn going(self) -> Option<RunId> {
+        match self {
+            Progress::Going(run) => Some(run),
+            _ => None,
+        }
+    }
+
     /// Where the run is after an answer.
     fn after(self, answer: &Answer) -> Progress {
         match (self, answer) {
@@ -188,35 +196,36 @@ fn call<L: Ledger, R: Wait>(
     }
 }
 
-/// One call of a worker that makes many steps of a run, where it can go on.
+/// One call of a worker that makes many steps of a run, where it goes on, or another event.
 fn stretch<L: Ledger, R: Wait>(
     rt: &R,
     shared: &Shared<L>,
     worker: &mut Worker<L>,
     caller: &mut Caller,
 ) {
-    match caller.progress {
-        Progress::Going(run) => {
-            let steps = shared.run_for(rt, worker, run, STRETCH);
-            if steps.moved == 0 {
-                call(rt, shared, worker, caller);
-            }
+    let moved = match caller.progress.going() {
+        Some(run) => shared.run_for(rt, worker, run, STRETCH).moved,
+        None => 0,
+    };
+    if moved == 0 {
+        if let Ok(answer) = shared.act(rt, worker, caller.progress.step()) {
+            caller.progress = caller.progress.after(&answer);
         }
-        _ => call(rt, shared, worker, caller),
     }
 }
 
-/// So many calls of a worker, each of many steps where a run can go on.
+/// So many calls of a worker, each of many steps where its run goes on; where the run is then.
 fn stretches<L: Ledger, R: Wait>(
     rt: &R,
     shared: &Shared<L>,
     worker: &mut Worker<L>,
-    caller: &mut Caller,
     calls: u32,
-) {
+) -> Progress {
+    let mut caller = Caller::new(Task::Stretches);
     for _ in 0..calls {
-        stretch(rt, shared, worker, caller);
+        stretch(rt, shared, worker, &mut caller);
     }
+    caller.progress
 }
 
 /// Drops a worker's run.
@@ -234,6 +243,21 @@ fn drop_run<L: Ledger, R: Wait>(
     }
 }
 
+/// So many calls of a worker, each of one event; where its run is then.
+fn calls_of<L: Ledger, R: Wait>(
+    rt: &R,
+    shared: &Shared<L>,
+    worker: &mut Worker<L>,
+    task: Task,
+    calls: u32,
+) -> Progress {
+    let mut caller = Caller::new(task);
+    for _ in 0..calls {
+        call(rt, shared, worker, &mut caller);
+    }
+    caller.progress
+}
+
 /// So many calls of a worker.
 fn work<L: Ledger, R: Wait>(
     rt: &R,
@@ -242,16 +266,11 @@ fn work<L: Ledger, R: Wait>(
     task: Task,
     calls: u32,
 ) {
-    let mut caller = Caller::new(task);
-    match task {
-        Task::Stretches => stretches(rt, shared, worker, &mut caller, calls),
-        _ => {
-            for _ in 0..calls {
-                call(rt, shared, worker, &mut caller);
-            }
-        }
-    }
-    drop_run(rt, shared, worker, caller.progress);
+    let progress = match task {
+        Task::Stretches => stretches(rt, shared, worker, calls),
+        _ => calls_of(rt, shared, worker, task, calls),
+    };
+    drop_run(rt, shared, worker, progress);
 }
 
 /// The time of so many calls by each worker.
