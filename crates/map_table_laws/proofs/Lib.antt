@@ -1,0 +1,7 @@
+mod Hits
+mod Holding
+mod Moments
+mod Small
+mod Standing
+mod Steps
+mod Writing
