@@ -1,7 +1,7 @@
-mod Hits
-mod Holding
-mod Moments
+pub mod Hits
+pub mod Holding
+pub mod Moments
 mod Small
-mod Standing
-mod Steps
-mod Writing
+pub mod Standing
+pub mod Steps
+pub mod Writing

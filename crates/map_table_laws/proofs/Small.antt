@@ -43,7 +43,17 @@ zero_again ms is = (λ l. zero_later (subst (IsLinked 0) is (l.0, l.1)), λ r so
 
 linked_lawful : IsLawful small linked
 linked_lawful = (
-  (refl, inr record { element = 0; names = refl; spare = at_first; bucket = inr refl; tag = refl }),
+  (
+    refl,
+    inr record {
+      element = 0;
+      names = refl;
+      within = omega arith;
+      spare = at_first;
+      bucket = inr refl;
+      tag = refl;
+    },
+  ),
   (inl (refl, at_first), (inl (refl, at_first), tt)),
 )
 
@@ -52,7 +62,17 @@ found_lawful = ((inr (inl refl), refl), ((reader, refl, refl), (reader, linked_l
 
 pub replaced_lawful : IsLawful small replaced
 replaced_lawful = (
-  (refl, inr record { element = 1; names = refl; spare = one_first; bucket = inr refl; tag = refl }),
+  (
+    refl,
+    inr record {
+      element = 1;
+      names = refl;
+      within = omega arith;
+      spare = one_first;
+      bucket = inr refl;
+      tag = refl;
+    },
+  ),
   (inl (refl, one_first), (inl (refl, one_first), found_lawful)),
 )
 
@@ -61,7 +81,17 @@ left_lawful = (reader, (inr (inl refl, omega arith), ((inr (inl refl), refl), re
 
 pub reused_lawful : IsLawful small reused
 reused_lawful = (
-  (refl, inr record { element = 0; names = refl; spare = zero_again (moves_of 0 replaced) refl; bucket = inl refl; tag = refl }),
+  (
+    refl,
+    inr record {
+      element = 0;
+      names = refl;
+      within = omega arith;
+      spare = zero_again (moves_of 0 replaced) refl;
+      bucket = inl refl;
+      tag = refl;
+    },
+  ),
   (inl (refl, zero_again (moves_of 0 replaced) refl), ((refl, refl), left_lawful)),
 )
 

@@ -1,5 +1,5 @@
 -- What stands in ways.
-use Rattle.std.proofs.Common.{◌≡◌, ◌≢◌, ◌⊎◌, ℕ, List, [], ◌∷◌, refl, sym, ap, ◌∙◌, subst, ⊎_elim, inl, inr}
+use Rattle.std.proofs.Common.{◌≡◌, ◌≢◌, ◌⊎◌, ℕ, ◌<◌, List, [], ◌∷◌, refl, sym, ap, ◌∙◌, subst, ⊎_elim, inl, inr}
 use mathlib.Core.Logic.{dite}
 use native.Mathlib.Decide.{ℕ_discrete}
 use Rattle.map_table_laws.specs.declared.moves.Move.{Move}
@@ -59,12 +59,14 @@ changes_no_key k e es element c = subst (λ (m : Move). key_of k element ((e.0, 
 
 -- the way may bear the element
 pub record Fits (k : Layout) (es : List (ℕ × Move)) (way word element : ℕ) : Type 0 where
+  pub within : element < k.elements
   pub bucket : IsCandidate k (k.table_of element) (key_of k element es) way
   pub tag : tag_in word ≡ k.tag (k.table_of element) (key_of k element es)
 
 fits_still : (k : Layout) (es fs : List (ℕ × Move)) (way word element : ℕ) → key_of k element fs ≡ key_of k element es →
     Fits k es way word element → Fits k fs way word element
 fits_still k es fs way word element same f = record {
+  within = f.within;
   bucket = subst (λ key. IsCandidate k (k.table_of element) key way) (sym same) f.bucket;
   tag = f.tag ∙ ap (k.tag (k.table_of element)) (sym same);
 }
@@ -74,7 +76,7 @@ put_fits : (k : Layout) (es : List (ℕ × Move)) (way word element : ℕ) → (
 put_fits k es way word element (inl zero_word) names = absurd (nothing_named element (subst (λ z. Names z element) zero_word names))
 put_fits k es way word element (inr m) names =
     let same = one_name word m.element element m.names names in
-    subst (Fits k es way word) same record { bucket = m.bucket; tag = m.tag }
+    subst (Fits k es way word) same record { within = m.within; bucket = m.bucket; tag = m.tag }
 
 -- a way names only an element whose key has its bucket and its tag
 pub fits : (k : Layout) (es : List (ℕ × Move)) → IsLawful k es → (way element : ℕ) → Names (word_in way (moves_of 0 es)) element →

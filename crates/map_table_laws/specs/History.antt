@@ -82,6 +82,7 @@ IsReader k who = (0 < who) × (who ≤ k.readers)
 pub record MayLink (k : Layout) (es : List (ℕ × Move)) (way word : ℕ) : Type 0 where
   pub element : ℕ
   pub names : Names word element
+  pub within : element < k.elements
   pub spare : IsSpare k.readers element (moves_of 0 es)
   pub bucket : IsCandidate k (k.table_of element) (key_of k element es) way
   pub tag : tag_in word ≡ k.tag (k.table_of element) (key_of k element es)

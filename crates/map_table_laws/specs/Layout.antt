@@ -5,6 +5,8 @@ use Rattle.std.specs.Prelude.{◌≡◌, ◌⊎◌, ℕ, suc, ◌*◌, ◌/◌, 
 pub record Layout : Type 0 where
   -- how many readers there are; they are numbered from 1
   pub readers : ℕ
+  -- how many elements there are; they are numbered from 0
+  pub elements : ℕ
   -- the table of an element
   pub table_of : ℕ → ℕ
   -- how many words a key of a table has

@@ -9,6 +9,7 @@ use Rattle.map_table_laws.specs.Layout.{Layout}
 abbrev pub small : Layout
 small = record {
   readers = 1;
+  elements = 2;
   table_of = λ element. 0;
   key_words = λ table. 1;
   first = λ table key. 0;

@@ -8,11 +8,11 @@ ghost use Rattle.map_table_laws.specs.Lookups.{OnlySearches, AnswersLookup};
 ghost use Rattle.map_table_laws.specs.Found.{IsLinkedUnder, IsLinkedAs, Sometime, Throughout, StaysFound, StaysInside, OnlyReplaces};
 ghost use Rattle.map_table_laws.specs.Scanned.{OnlyScans, AllOutside};
 
-/// In every lawful history a way names only an element whose key may be linked in that way's bucket, with the key's tag.
+/// In every lawful history a way names only an element that there is and whose key may be linked in that way's bucket, with the key's tag.
 pub fn ways_name_keys_of_their_bucket()
     ensures { (k : Layout) (es : List (ℕ × Move)) → IsLawful k es → (way element : ℕ) →
         Names (word_in way (moves_of 0 es)) element →
-        IsCandidate k (k.table_of element) (key_of k element es) way
+        (element < k.elements) × IsCandidate k (k.table_of element) (key_of k element es) way
         × (tag_in (word_in way (moves_of 0 es)) ≡ k.tag (k.table_of element) (key_of k element es)) }
 {}
 
