@@ -6,7 +6,7 @@ use native.Mathlib.Decide.{ℕ_discrete}
 use Rattle.map_table_laws.specs.declared.moves.Move.{Move}
 use Rattle.map_table_laws.specs.declared.moves.Move.TheVariants.{Open, Close, Learn, Load, Store, Put, Scan}
 use Rattle.map_table_laws.specs.Layout.{Layout, Names}
-use Rattle.map_table_laws.specs.History.{moves_of, word_in, word_at, words_from, key_of, Holds, IsSpare}
+use Rattle.map_table_laws.specs.History.{moves_of, word_in, word_after, word_at, words_from, key_of, Holds, IsSpare}
 use Rattle.map_table_laws.specs.History.{MayDo}
 
 -- the moves of one holder, after one more step
@@ -78,6 +78,20 @@ key_learn k es who element way x = key_same k element ((who, Learn way x) ∷ es
 pub key_load : (k : Layout) (es : List (ℕ × Move)) (who element e p x : ℕ) →
     key_of k element ((who, Load e p x) ∷ es) ≡ key_of k element es
 key_load k es who element e p x = key_same k element ((who, Load e p x) ∷ es) es (λ q l. refl)
+
+-- nor does any step that stores nothing
+pub key_other : (k : Layout) (es : List (ℕ × Move)) (who element : ℕ) (m : Move) →
+    ((p old : ℕ) → word_after element p m old ≡ old) → key_of k element ((who, m) ∷ es) ≡ key_of k element es
+key_other k es who element m same = key_same k element ((who, m) ∷ es) es (λ p l. same p (word_at element p es))
+
+-- nor a store behind the key
+pub key_stored : (k : Layout) (es : List (ℕ × Move)) (who element s p x : ℕ) → k.key_words (k.table_of s) ≤ p →
+    key_of k element ((who, Store s p x) ∷ es) ≡ key_of k element es
+key_stored k es who element s p x high = dite (ℕ_discrete s element)
+    (λ same. let above : k.key_words (k.table_of element) ≤ p = subst (λ z. k.key_words (k.table_of z) ≤ p) same high in
+    key_same k element ((who, Store s p x) ∷ es) es
+    (λ place l. stored_beside s p x element place es who same (λ e. absurd (omega (arith, above, l, e)))))
+    (λ ne. key_same k element ((who, Store s p x) ∷ es) es (λ place l. stored_elsewhere s p x element place 0 es who ne))
 
 -- the word of a way after a word was put in it, or in another
 pub put_here : (w way x : ℕ) (ms : List Move) → w ≡ way → word_in way (Put w x ∷ ms) ≡ x

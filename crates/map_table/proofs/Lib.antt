@@ -1,0 +1,6 @@
+pub mod Calls
+pub mod Going
+pub mod Keeps
+pub mod Lists
+pub mod Own
+pub mod Places

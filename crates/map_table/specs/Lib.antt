@@ -1,0 +1,4 @@
+pub mod Hashes
+pub mod Held
+pub mod Law
+pub mod Limits
