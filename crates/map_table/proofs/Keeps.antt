@@ -238,7 +238,7 @@ module _ (k : TableShape) where
         stored = stored_behind s r i x me.0.me m high tt;
       } in
       let later : (x ≡ 0) ⊎ MayLink (layout_of k) r.log way x = may_later (layout_of k) r.log f.later.0 me.0.seen way x f.later.1 r.lawful
-          (writers_own r.log me.0 writer f.mine ∙ sym (writers_own me.0.seen me.0 writer knows.1)) may in
+      (writers_own r.log me.0 writer f.mine ∙ sym (writers_own me.0.seen me.0 writer knows.1)) may in
       let t = advance s r id i x me.0 me.1 m at (writer, later) go in
       (t.0, keeps, tt, t.1, (t.2, refl))
 

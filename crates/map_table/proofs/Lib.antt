@@ -2,5 +2,6 @@ pub mod Calls
 pub mod Going
 pub mod Keeps
 pub mod Lists
+pub mod Lookups
 pub mod Own
 pub mod Places

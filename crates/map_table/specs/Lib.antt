@@ -2,3 +2,4 @@ pub mod Hashes
 pub mod Held
 pub mod Law
 pub mod Limits
+pub mod Search

@@ -5,7 +5,9 @@
 //! seen each reader outside a section since.
 #![tactic(auto)]
 
+mod hash;
 mod limits;
+mod lookup;
 mod rule;
 mod seats;
 mod table;

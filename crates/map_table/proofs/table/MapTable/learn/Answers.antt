@@ -14,8 +14,7 @@ load-requires c =
     let t = c.self.invariant in
     let same = ap (λ (q : TableView). q.shape) p in
     let way = subst (λ (q : TableView). c.args.way < ways_of q.shape) (sym c.self.view_is) c.requires.way in
-    let one = subst (λ (h : Holder). inside h.view.mine ≡ 1) (sym c.seat.view_is) c.requires.inside in
-    (
+    let one = subst (λ (h : Holder). inside h.view.mine ≡ 1) (sym c.seat.view_is) c.requires.inside in (
       ap (λ (q : TableView). q.id) p,
       way_within c.self.inside.shape c.self.inside.ways c.args.way _ t.5 way t.1,
       learns_at c.self.inside.shape c.self.inside.table.shared.key _ _ _ c.self.inside.ways c.args.way t.5 same (sym t.0) way i.0 one,
