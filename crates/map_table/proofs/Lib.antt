@@ -1,4 +1,5 @@
 pub mod Calls
+pub mod Filling
 pub mod Going
 pub mod Keeps
 pub mod Lists

@@ -21,7 +21,7 @@ readers_leave k es who element (Store s p x) ne may = ⊎_elim
     (λ (w : (who ≡ 0) × IsSpare k.readers s (moves_of 0 es)). absurd (ne w.0))
     (λ (r : Holds s (moves_of who es) × (k.key_words (k.table_of s) ≤ p)). key_stored k es who element s p x r.1) may
 
-longer : (between es : List (ℕ × Move)) → length (moves_of 0 es) ≤ length (moves_of 0 (between ++ es))
+pub longer : (between es : List (ℕ × Move)) → length (moves_of 0 es) ≤ length (moves_of 0 (between ++ es))
 longer [] es = omega arith
 longer (e ∷ between) es =
     let ih = longer between es in

@@ -3,3 +3,4 @@ pub mod Held
 pub mod Law
 pub mod Limits
 pub mod Search
+pub mod Writing

@@ -12,6 +12,7 @@ mod rule;
 mod seats;
 mod table;
 mod view;
+mod writing;
 
 pub use limits::{BUCKET_WAYS, MAX_BUCKETS, MAX_ELEMENTS, MAX_READERS, MAX_WORDS};
 pub use rule::{Closes, Deals, Law, Learns, Loads, Opens, Puts, SECTION_STRIDE, Scans, Stores};

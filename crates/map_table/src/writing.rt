@@ -1,0 +1,88 @@
+//! What the calls of the writer are made of.
+ghost use Rattle.std.specs.Prelude.{◌≡◌, ◌≢◌, ℕ, ◌+◌, ◌<◌, ◌≤◌, List, ◌++◌, length, slice_index, IsNone, IfSome};
+ghost use Rattle.map_table_laws.specs.declared.moves.Move.{Move};
+ghost use Rattle.map_table_laws.specs.Layout.{bucket_ways};
+ghost use Rattle.map_table_laws.specs.History.{word_at, key_of, IsSpare};
+ghost use Rattle.map_table.specs.Hashes.{layout_of};
+ghost use Rattle.map_table.specs.Law.{width_of};
+ghost use Rattle.map_table.specs.Held.{IsKnown, Went, IsSized};
+ghost use Rattle.map_table.specs.Writing.{Fills};
+
+use crate::limits::BUCKET_WAYS;
+use crate::table::MapTable;
+use crate::view::View;
+use atomic_table::Seat;
+
+/// Writes words into a spare element, from a place on.
+pub(crate) fn fill(
+    table: &MapTable,
+    seat: &mut Seat<u8, View>,
+    element: usize,
+    from: usize,
+    words: &[u64],
+)
+    requires table { (seat.old.table_id ≡ table.now.id) × (seat.old.me.0.shape ≡ table.now.shape) }
+    requires writer { seat.old.me.0.me ≡ 0 }
+    requires known { IsKnown seat.old.me.0 }
+    requires element { element < table.now.shape.elements }
+    requires spare { IsSpare table.now.shape.readers element seat.old.me.0.mine }
+    requires places { from + length words.now ≤ width_of table.now.shape }
+    requires sized { IsSized table.now.shape }
+    ensures table { seat.new.table_id ≡ seat.old.table_id }
+    ensures held { seat.new.me.1 ≡ seat.old.me.1 }
+    ensures steps { (ms : List Move) × Fills element from words.now (length words.now) ms
+        × Went seat.old.me.0 (ms ++ seat.old.me.0.mine) seat.new.me.0 }
+    ensures spare { IsSpare table.now.shape.readers element seat.new.me.0.mine }
+    ensures words { (p : ℕ) → p < length words.now →
+        word_at element (from + p) seat.new.me.0.seen ≡ slice_index words.now p }
+    ensures others { (p : ℕ) → p < from →
+        word_at element p seat.new.me.0.seen ≡ word_at element p seat.old.me.0.seen }
+{
+    for place in 0..words.len() {
+        table.write(seat, element, from + place, words[place]);
+    }
+}
+
+/// Writes a key and a value into a spare element.
+pub(crate) fn fill_element(
+    table: &MapTable,
+    seat: &mut Seat<u8, View>,
+    element: usize,
+    key: &[u64],
+    value: &[u64],
+)
+    requires table { (seat.old.table_id ≡ table.now.id) × (seat.old.me.0.shape ≡ table.now.shape) }
+    requires writer { seat.old.me.0.me ≡ 0 }
+    requires known { IsKnown seat.old.me.0 }
+    requires element { element < table.now.shape.elements }
+    requires spare { IsSpare table.now.shape.readers element seat.old.me.0.mine }
+    requires key { length key.now ≡ table.now.shape.key_words }
+    requires value { length value.now ≡ table.now.shape.value_words }
+    ensures table { seat.new.table_id ≡ seat.old.table_id }
+    ensures held { seat.new.me.1 ≡ seat.old.me.1 }
+    ensures steps { (ks vs : List Move) × Fills element 0 key.now table.now.shape.key_words ks
+        × Fills element table.now.shape.key_words value.now table.now.shape.value_words vs
+        × Went seat.old.me.0 ((vs ++ ks) ++ seat.old.me.0.mine) seat.new.me.0 }
+    ensures spare { IsSpare table.now.shape.readers element seat.new.me.0.mine }
+    ensures key { key_of (layout_of table.now.shape) element seat.new.me.0.seen ≡ key.now }
+{
+    let shape = table.shape();
+    fill(table, seat, element, 0, key);
+    fill(table, seat, element, shape.key_words, value);
+}
+
+/// The first way of a bucket that is empty, by the words of all ways.
+pub(crate) fn empty_way(ways: &[u64], first: usize) -> Option<usize>
+    requires { first + bucket_ways ≤ length ways.now }
+    ensures some { IfSome result (λ way. (first ≤ way) × (way < first + bucket_ways)
+        × (slice_index ways.now way ≡ 0)) }
+    ensures none { IsNone result → (way : ℕ) → first ≤ way → way < first + bucket_ways →
+        slice_index ways.now way ≢ 0 }
+{
+    for at in 0..BUCKET_WAYS {
+        if ways[first + at] == 0 {
+            return Some(first + at);
+        }
+    }
+    None
+}
