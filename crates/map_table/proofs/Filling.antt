@@ -45,11 +45,11 @@ spare_words k (e ∷ between) es element place lawful same spare = dite (ℕ_dis
     leaves_spare k (between ++ es) e.0 element place e.1 ne lawful.0 lawful.1 (subst (IsSpare k.readers element) (sym rest) spare) ∙
     spare_words k between es element place lawful.1 rest spare)
 
-abbrev tail_of : List Move → List Move
+abbrev pub tail_of : List Move → List Move
 tail_of [] = []
 tail_of (m ∷ ms) = ms
 
-abbrev head_of : Move → List Move → Move
+abbrev pub head_of : Move → List Move → Move
 head_of d [] = d
 head_of d (m ∷ ms) = m
 

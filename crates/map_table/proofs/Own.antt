@@ -9,7 +9,7 @@ use Rattle.map_table_laws.specs.History.{moves_of, word_at, key_of, Holds, IsSpa
 use Rattle.map_table_laws.proofs.Steps.{own, others, key_stored, key_learn, key_load, key_put, key_other}
 
 -- a reader's step leaves each key
-readers_leave : (k : Layout) (es : List (ℕ × Move)) (who element : ℕ) (m : Move) → who ≢ 0 → MayDo k es who m →
+pub readers_leave : (k : Layout) (es : List (ℕ × Move)) (who element : ℕ) (m : Move) → who ≢ 0 → MayDo k es who m →
     key_of k element ((who, m) ∷ es) ≡ key_of k element es
 readers_leave k es who element Open ne may = key_other k es who element Open (λ p old. refl)
 readers_leave k es who element Close ne may = key_other k es who element Close (λ p old. refl)

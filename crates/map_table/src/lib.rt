@@ -12,6 +12,7 @@ mod rule;
 mod seats;
 mod table;
 mod view;
+mod writer;
 mod writing;
 
 pub use limits::{BUCKET_WAYS, MAX_BUCKETS, MAX_ELEMENTS, MAX_READERS, MAX_WORDS};
@@ -19,3 +20,4 @@ pub use rule::{Closes, Deals, Law, Learns, Loads, Opens, Puts, SECTION_STRIDE, S
 pub use seats::Seats;
 pub use table::{MapTable, ReadSeat};
 pub use view::{TableShape, View};
+pub use writer::Writer;

@@ -1,13 +1,16 @@
 //! What the calls of the writer are made of.
-ghost use Rattle.std.specs.Prelude.{◌≡◌, ◌≢◌, ℕ, ◌+◌, ◌<◌, ◌≤◌, List, ◌++◌, length, slice_index, IsNone, IfSome};
+ghost use Rattle.std.specs.Prelude.{◌≡◌, ◌≢◌, ◌⊎◌, ℕ, ◌+◌, ◌^◌, ◌<◌, ◌≤◌, List, ◌∷◌, ◌++◌, length, slice_index, slice_set, IsNone, IfSome};
 ghost use Rattle.map_table_laws.specs.declared.moves.Move.{Move};
-ghost use Rattle.map_table_laws.specs.Layout.{bucket_ways};
-ghost use Rattle.map_table_laws.specs.History.{word_at, key_of, IsSpare};
+ghost use Rattle.map_table_laws.specs.declared.moves.Move.TheVariants.{Put};
+ghost use Rattle.map_table_laws.specs.Layout.{bucket_ways, Names, tag_in};
+ghost use Rattle.map_table_laws.specs.History.{word_at, key_of, IsSpare, MayLink};
 ghost use Rattle.map_table.specs.Hashes.{layout_of};
-ghost use Rattle.map_table.specs.Law.{width_of};
+ghost use Rattle.map_table.specs.Limits.{most_elements};
+ghost use Rattle.map_table.specs.Law.{width_of, ways_of};
 ghost use Rattle.map_table.specs.Held.{IsKnown, Went, IsSized};
-ghost use Rattle.map_table.specs.Writing.{Fills};
+ghost use Rattle.map_table.specs.Writing.{Fills, IsOfBoth};
 
+use crate::hash::Candidates;
 use crate::limits::BUCKET_WAYS;
 use crate::table::MapTable;
 use crate::view::View;
@@ -85,4 +88,53 @@ pub(crate) fn empty_way(ways: &[u64], first: usize) -> Option<usize>
         }
     }
     None
+}
+
+/// The first empty way of a key's first bucket, else of its second.
+pub(crate) fn empty_of_both(ways: &[u64], candidates: Candidates) -> Option<usize>
+    requires first { candidates.first + bucket_ways ≤ length ways.now }
+    requires second { candidates.second + bucket_ways ≤ length ways.now }
+    ensures some { IfSome result (λ way. IsOfBoth candidates.first candidates.second way
+        × (slice_index ways.now way ≡ 0)) }
+    ensures none { IsNone result → (way : ℕ) → IsOfBoth candidates.first candidates.second way →
+        slice_index ways.now way ≢ 0 }
+{
+    if let Some(way) = empty_way(ways, candidates.first) {
+        return Some(way);
+    }
+    empty_way(ways, candidates.second)
+}
+
+/// The word of a way that names an element, with the tag of its key.
+#[inline]
+pub(crate) fn way_word(tag: u64, element: usize) -> u64
+    requires tag { tag < 2 ^ 32 }
+    requires element { element < most_elements }
+    ensures names { Names result element }
+    ensures tag { tag_in result ≡ tag }
+{
+    (tag << 32) + (element as u64 + 1)
+}
+
+/// Puts a word in a way, and notes it.
+pub(crate) fn put_word(
+    table: &MapTable,
+    seat: &mut Seat<u8, View>,
+    ways: &mut Vec<u64>,
+    way: usize,
+    word: u64,
+)
+    requires table { (seat.old.table_id ≡ table.now.id) × (seat.old.me.0.shape ≡ table.now.shape) }
+    requires writer { seat.old.me.0.me ≡ 0 }
+    requires known { IsKnown seat.old.me.0 }
+    requires way { way < ways_of table.now.shape }
+    requires ways { length ways.old.items ≡ ways_of table.now.shape }
+    requires may { (word ≡ 0) ⊎ MayLink (layout_of table.now.shape) seat.old.me.0.seen way word }
+    ensures table { seat.new.table_id ≡ seat.old.table_id }
+    ensures held { seat.new.me.1 ≡ seat.old.me.1 }
+    ensures ways { ways.new.items ≡ slice_set ways.old.items way word }
+    ensures step { Went seat.old.me.0 (Put way word ∷ seat.old.me.0.mine) seat.new.me.0 }
+{
+    table.put(seat, way, word);
+    ways[way] = word;
 }
