@@ -9,3 +9,4 @@ pub mod Lookups
 pub mod Members
 pub mod Own
 pub mod Places
+pub mod Unlinking

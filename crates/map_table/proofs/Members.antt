@@ -4,6 +4,9 @@ use Rattle.std.specs.Prelude.{All, ◌==◌, if◌then◌else◌}
 use Rattle.std.proofs.Common.{length-append}
 use mathlib.Core.Logic.{dite}
 use native.Mathlib.Decide.{ℕ_discrete}
+use Rattle.std.specs.List.{range_with_len}
+use Rattle.std.proofs.Common.{add-one}
+use Rattle.std.proofs.lemmas.List.FromFn.{length-range_with_len, get_or-range_with_len}
 use Rattle.map_table.specs.Writing.{times_in}
 
 abbrev pub one_for : ℕ → ℕ → ℕ
@@ -14,6 +17,12 @@ one_same element e is = rw (eq-eqb e element is) refl
 
 pub one_other : (element e : ℕ) → e ≢ element → one_for element e ≡ 0
 one_other element e ne = rw (ne_eqb e element ne) refl
+
+pub at_most_one : (e x : ℕ) → one_for e x ≤ 1
+at_most_one e x = dite (ℕ_discrete x e) (λ same. let o = one_same e x same in omega (arith, o)) (λ ne. let o = one_other e x ne in omega (arith, o))
+
+pub none_for : (e x : ℕ) → x ≢ e → one_for e x ≡ 0
+none_for e x ne = one_other e x ne
 
 pub times_append : (e : ℕ) (xs ys : List ℕ) → times_in e (xs ++ ys) ≡ times_in e xs + times_in e ys
 times_append e [] ys = let z : 0 + times_in e ys ≡ times_in e ys = omega arith in sym z
@@ -118,3 +127,34 @@ room n e xs ys within p q once one two =
     (λ same. let t = one_same x e same in let u = ap (λ z. times_in z xs + times_in z ys) (sym same) in omega (arith, a, t, u, one, two))
     (λ ne. let t = one_other x e ne in omega (arith, a, t, o))) in
     omega (arith, long, f)
+
+-- the numbers below one
+range_more' : (a n : ℕ) → range_with_len a (suc n) ≡ range_with_len a n ++ (a + n) ∷ []
+range_more' a zero = ap (λ z. z ∷ []) (omega arith)
+range_more' a (suc n) = ap (λ zs. a ∷ zs) (range_more' (a + 1) n ∙ ap (λ z. range_with_len (a + 1) n ++ z ∷ []) (omega arith))
+
+pub range_more : (n : ℕ) → range_with_len 0 (n + 1) ≡ range_with_len 0 n ++ n ∷ []
+range_more n =
+    let same : 0 + n ≡ n = omega arith in
+    ap (range_with_len 0) (add-one n) ∙ (range_more' 0 n ∙ ap (λ z. range_with_len 0 n ++ z ∷ []) same)
+
+times_below : (e a n : ℕ) → e < a → times_in e (range_with_len a n) ≡ 0
+times_below e a zero l = refl
+times_below e a (suc n) l =
+    let one : one_for e a ≡ 0 = one_other e a (λ z. absurd (omega (arith, z, l))) in
+    let rest : times_in e (range_with_len (a + 1) n) ≡ 0 = times_below e (a + 1) n (omega (arith, l)) in
+    omega (arith, one, rest)
+
+pub times_range : (e a n : ℕ) → times_in e (range_with_len a n) ≤ 1
+times_range e a zero = omega arith
+times_range e a (suc n) = dite (ℕ_discrete a e)
+    (λ z. let one = one_same e a z in
+    let rest = times_below e (a + 1) n (omega (arith, z)) in omega (arith, one, rest))
+    (λ ne. let one = one_other e a ne in let rest = times_range e (a + 1) n in omega (arith, one, rest))
+
+pub all_range : (P : ℕ → Type 0) (n : ℕ) → ((e : ℕ) → e < n → P e) → All P (range_with_len 0 n)
+all_range P n each j d l =
+    let len = length-range_with_len 0 n in
+    let zero_more : 0 + j ≡ j = omega arith in
+    let low : j < n = omega (arith, len, l) in
+    subst P (sym (get_or-range_with_len 0 n j d low ∙ zero_more)) (each j low)

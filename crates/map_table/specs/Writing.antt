@@ -1,7 +1,7 @@
 -- What clauses see of the writer, and what it keeps of its ways and elements.
 use Rattle.std.specs.Prelude.{◌≡◌, ◌≢◌, ◌⊎◌, ℕ, zero, suc, ◌+◌, ◌<◌, ◌≤◌, ◌==◌, List, [], ◌∷◌, ◌++◌, All, length, slice_index, if◌then◌else◌}
 use Rattle.map_table_laws.specs.declared.moves.Move.{Move}
-use Rattle.map_table_laws.specs.declared.moves.Move.TheVariants.{Store, Put}
+use Rattle.map_table_laws.specs.declared.moves.Move.TheVariants.{Store, Put, Scan}
 use Rattle.map_table_laws.specs.Layout.{IsCandidate, bucket_ways}
 use Rattle.map_table_laws.specs.History.{word_in, IsLinked, IsSpare}
 use Rattle.map_table_laws.specs.Scanned.{OnlyScans}
@@ -61,6 +61,10 @@ IsOfBoth first second way =
 -- each way of both buckets names an element
 abbrev pub AreFull : View → List ℕ → Type 0
 AreFull v key = (way : ℕ) → IsCandidate (layout_of v.shape) 0 key way → word_in way v.mine ≢ 0
+
+-- the last of the moves found a reader inside a section
+abbrev pub FoundInside : List Move → Type 0
+FoundInside ms = (r x : ℕ) × (rest : List Move) × (ms ≡ Scan r x ∷ rest) × (x ≢ 0)
 
 -- What the writer keeps: it is number 0, what it saw is lawful, it has each way's word, and its lists have each element
 -- once at most.

@@ -10,6 +10,7 @@ mod limits;
 mod lookup;
 mod rule;
 mod seats;
+mod setup;
 mod table;
 mod view;
 mod writer;

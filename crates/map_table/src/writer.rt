@@ -1,21 +1,25 @@
 //! The writer of a table.
-ghost use Rattle.std.specs.Prelude.{◌≡◌, ◌≢◌, ◌⊎◌, ◌↔◌, ℕ, List, ◌+◌, ◌<◌, ◌≤◌, [], ◌∷◌, ◌++◌, length, vec_capacity, IsNone, IfNone, IfSome, IfOk, true, false};
+ghost use Rattle.std.specs.Prelude.{◌≡◌, ◌≢◌, ◌⊎◌, ◌↔◌, ℕ, List, ◌+◌, ◌<◌, ◌≤◌, [], ◌∷◌, ◌++◌, length, vec_capacity, IsNone, IfNone, IfSome, IfOk, MatchBool, true, false};
 ghost use Rattle.std.specs.List.{range_with_len};
 ghost use Rattle.map_table_laws.specs.declared.moves.Move.{Move};
 ghost use Rattle.map_table_laws.specs.declared.moves.Move.TheVariants.{Put};
 ghost use Rattle.map_table_laws.specs.Layout.{IsCandidate, Names};
 ghost use Rattle.map_table_laws.specs.History.{word_in, IsSpare};
+ghost use Rattle.map_table_laws.specs.Scanned.{OnlyScans, AllOutside};
 ghost use Rattle.map_table_laws.specs.Found.{IsLinkedUnder};
-ghost use Rattle.map_table.specs.declared.view.TableShape.{TableShape};
 ghost use Rattle.map_table.specs.Hashes.{layout_of};
 ghost use Rattle.map_table.specs.Law.{ways_of, writer_after};
 ghost use Rattle.map_table.specs.Held.{IsSized};
-ghost use Rattle.map_table.specs.Writing.{Puts, Works, AreFull, IsUnlinked};
+ghost use Rattle.map_table.specs.Writing.{Puts, Works, AreFull, FoundInside};
 
 use crate::hash::candidates_of;
+use crate::limits::BUCKET_WAYS;
+use crate::setup::{numbers, zeros};
 use crate::table::MapTable;
-use crate::view::View;
-use crate::writing::{empty_of_both, fill_element, put_word, way_word};
+use crate::view::{TableShape, View};
+use crate::writing::{
+    all_outside, element_in, empty_of_both, fill_element, move_all, put_word, way_word,
+};
 use atomic_table::Seat;
 use std::alloc::{AllocError, Global};
 use std::marker::Model;
@@ -80,5 +84,81 @@ impl Writer {
         let word = way_word(candidates.tag, element);
         put_word(table, &mut self.seat, &mut self.ways, way, word);
         Some(way)
+    }
+
+    /// Empties a way that names an element. Readers that found the element before may use it until they end their section.
+    pub fn unlink(&mut self, table: &MapTable, way: usize)
+        requires table { self.old.table ≡ table.now }
+        requires way { way < ways_of table.now.shape }
+        requires linked { word_in way self.old.view.mine ≢ 0 }
+        ensures table { self.new.table ≡ self.old.table }
+        ensures free { self.new.free ≡ self.old.free }
+        ensures unlinked { (element : ℕ) × Names (word_in way self.old.view.mine) element
+            × (self.new.unlinked ≡ self.old.unlinked ++ element ∷ []) }
+        ensures step { Works self.old (Put way 0 ∷ []) self.new }
+    {
+        let element = element_in(self.ways[way]);
+        put_word(table, &mut self.seat, &mut self.ways, way, 0);
+        self.unlinked.push_reserved(element);
+    }
+
+    /// Looks at the section words, up to the first reader that is inside. If none is, all unlinked elements are free from now
+    /// on. It tells whether that is so.
+    pub fn reclaim(&mut self, table: &MapTable) -> bool
+        requires table { self.old.table ≡ table.now }
+        ensures table { self.new.table ≡ self.old.table }
+        ensures free { result ≡ true → self.new.free ≡ self.old.free ++ self.old.unlinked }
+        ensures unlinked { result ≡ true → self.new.unlinked ≡ [] }
+        ensures kept { result ≡ false →
+            (self.new.free ≡ self.old.free) × (self.new.unlinked ≡ self.old.unlinked) }
+        ensures scanned { (ms : List Move) × OnlyScans 0 table.now.shape.readers ms × Works self.old ms self.new
+            × MatchBool result (AllOutside table.now.shape.readers ms) (FoundInside ms) }
+    {
+        if !all_outside(table, &mut self.seat) {
+            return false;
+        }
+        move_all(&mut self.unlinked, &mut self.free);
+        true
+    }
+
+    /// The elements that were unlinked and are not free yet. The one that was unlinked last stands last.
+    pub fn unlinked(&self) -> &[usize]
+        ensures { result.now ≡ self.now.unlinked }
+    {
+        self.unlinked.as_slice()
+    }
+
+    /// The writer's share of the table: the view stands among those of whom the rule of the table speaks
+    /// (`MapTable::ruled`).
+    pub fn share(&self) -> &Seat<u8, View>
+        ensures table { result.now.table_id ≡ self.now.table.id }
+        ensures view { result.now.me ≡ (self.now.view, []) }
+    {
+        &self.seat
+    }
+
+    /// The writer of a table on which nothing was done.
+    pub(crate) fn begin(
+        alloc: Global,
+        seat: Seat<u8, View>,
+        shape: TableShape,
+    ) -> Result<Writer, AllocError>
+        requires writer { (n : ℕ) × (seat.me ≡ (writer_after n shape, [])) }
+        requires sized { IsSized shape }
+        ensures table { IfOk result (λ w. w.table.id ≡ seat.table_id) }
+        ensures view { IfOk result (λ w. w.view ≡ seat.me.0) }
+        ensures shape { IfOk result (λ w. w.table.shape ≡ seat.me.0.shape) }
+        ensures free { IfOk result (λ w. w.free ≡ range_with_len 0 shape.elements) }
+        ensures unlinked { IfOk result (λ w. w.unlinked ≡ []) }
+    {
+        let ways = zeros(alloc, shape.buckets * BUCKET_WAYS)?;
+        let free = numbers(alloc, shape.elements)?;
+        let unlinked = Vec::with_capacity(alloc, shape.elements)?;
+        Ok(Writer {
+            seat,
+            ways,
+            free,
+            unlinked,
+        })
     }
 }
