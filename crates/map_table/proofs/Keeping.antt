@@ -56,7 +56,7 @@ scans_quiet low high (Scan r x ∷ ns) n = quiet_scan r x ns (scans_quiet low hi
 
 -- after a quiet stretch
 module _ (v w : View) (ns : List Move) (q : IsQuiet ns) (g : Went v (ns ++ v.mine) w) where
-  same_word : (way : ℕ) → word_in way w.mine ≡ word_in way v.mine
+  pub same_word : (way : ℕ) → word_in way w.mine ≡ word_in way v.mine
   same_word way = ap (word_in way) (went_mine v w (ns ++ v.mine) g) ∙ q.words way v.mine
 
   same_shape : w.shape ≡ v.shape

@@ -21,7 +21,7 @@ use Rattle.map_table.proofs.Calls.{holder}
 use Rattle.map_table.proofs.Own.{readers_leave, longer, keys_stay}
 use Rattle.map_table.proofs.Filling.{own_list, went_shape, went_me, head_of, tail_of}
 use Rattle.map_table.proofs.Members.{one_same, times_push, all_front, all_last}
-use Rattle.map_table.proofs.Keeping.{quiet_append, fills_quiet, quiet_writer, put_writer, here, names_none}
+use Rattle.map_table.proofs.Keeping.{quiet_append, fills_quiet, quiet_writer, same_word, put_writer, here, names_none}
 
 -- the writer's put leaves each key
 key_one_put : (k : Layout) (before es : List (ℕ × Move)) (element way word : ℕ) → IsLawful k (before ++ es) →
@@ -91,6 +91,15 @@ taken v ways old free unlinked element b is =
       omega (arith, one, t, o),
       omega (arith, one, t, o),
     )
+
+-- after its words were stored
+pub filled_writer : (v u : View) (ways old free unlinked : List ℕ) (element n from m : ℕ) (key value : List ℕ) (ks vs : List Move) →
+    IsWriter v ways old unlinked → old ≡ free ++ element ∷ [] → Fills element 0 key n ks → Fills element from value m vs →
+    Went v ((vs ++ ks) ++ v.mine) u → IsWriter u ways free unlinked × ((way : ℕ) → word_in way u.mine ≡ word_in way v.mine)
+filled_writer v u ways old free unlinked element n from m key value ks vs b is fk fv g =
+    let t = taken v ways old free unlinked element b is in
+    let q = quiet_append vs ks (fills_quiet element from m value vs fv) (fills_quiet element 0 n key ks fk) in
+    (quiet_writer v u (vs ++ ks) q g ways free unlinked t.1, same_word v u (vs ++ ks) q g)
 
 pub linked_writer : (v u w : View) (ways old free unlinked : List ℕ) (element way word n from m : ℕ) (key value : List ℕ) (ks vs : List Move) →
     IsWriter v ways old unlinked → old ≡ free ++ element ∷ [] → Fills element 0 key n ks → Fills element from value m vs →

@@ -8,8 +8,9 @@ use mathlib.Core.Logic.{dite}
 use native.Mathlib.Decide.{ℕ_discrete}
 use Rattle.map_table_laws.specs.declared.moves.Move.{Move}
 use Rattle.map_table_laws.specs.declared.moves.Move.TheVariants.{Put, Scan}
-use Rattle.map_table_laws.specs.Layout.{Layout, Names}
+use Rattle.map_table_laws.specs.Layout.{Layout, IsCandidate, Names}
 use Rattle.map_table_laws.specs.History.{moves_of, word_in, IsLinked, IsSpare, MayLink, IsLawful}
+use Rattle.map_table_laws.specs.Found.{IsLinkedUnder}
 use Rattle.map_table_laws.specs.Scanned.{OnlyScans, AllOutside}
 use Rattle.map_table_laws.proofs.Steps.{one_name, nothing_named}
 use Rattle.map_table_laws.proofs.Standing.{Quiet, Changed, step, fits, one_way}
@@ -19,10 +20,11 @@ use Rattle.map_table.specs.declared.view.View.{View}
 use Rattle.map_table.specs.Hashes.{layout_of}
 use Rattle.map_table.specs.Law.{ways_of, writer_after}
 use Rattle.map_table.specs.Held.{Went, IsSized}
-use Rattle.map_table.specs.Writing.{times_in, IsFree, IsUnlinked, IsWriter}
+use Rattle.map_table.specs.Writing.{Fills, times_in, IsFree, IsUnlinked, IsWriter}
 use Rattle.map_table.proofs.Going.{went_mine}
 use Rattle.map_table.proofs.Filling.{own_list, went_shape}
 use Rattle.map_table.proofs.Members.{one_for, times_append, times_push, times_range, all_nil, all_append, all_push, all_to, all_range, nowhere, room, few, at_most_one, none_for}
+use Rattle.map_table.proofs.Linking.{taken, filled_writer, linked_writer}
 use Rattle.map_table.proofs.Keeping.{scans_quiet, quiet_writer, put_writer, put_unlinked, empty_names_none}
 
 -- each way is empty, or names an element
@@ -60,7 +62,7 @@ module _ (v : View) (ways free unlinked : List ℕ) (way element : ℕ) (b : IsW
   pub within : element < v.shape.elements
   within = (fits (layout_of v.shape) v.seen b.known.0 way element seen_names).within
 
-  not_free : times_in element free ≡ 0
+  pub not_free : times_in element free ≡ 0
   not_free = nowhere (IsFree v) element free b.are_free (λ f. f.1.0 (way, names))
 
   not_unlinked : times_in element unlinked ≡ 0
@@ -168,3 +170,31 @@ read_way v ways free unlinked way x b low is =
 
 pub less_most : (a b n m : ℕ) → a + b < n → n ≤ m → b < m
 less_most a b n m l e = omega (arith, l, e)
+
+-- a way in which a key is linked may bear another element with it
+pub linked_way : (v : View) (ways free unlinked key : List ℕ) (way : ℕ) → IsWriter v ways free unlinked →
+    IsLinkedUnder (layout_of v.shape) 0 key way v.seen → IsCandidate (layout_of v.shape) 0 key way × (word_in way v.mine ≢ 0)
+linked_way v ways free unlinked key way b l =
+    let mine = own_list v b.me b.known in
+    let f = fits (layout_of v.shape) v.seen b.known.0 way l.0 l.1.names in (
+      subst (λ z. IsCandidate (layout_of v.shape) 0 z way) l.1.key_is f.bucket,
+      λ none. nothing_named l.0 (subst (λ z. Names z l.0) (ap (word_in way) mine ∙ none) l.1.names),
+    )
+
+-- after one element was put in the place of another
+pub replaced_writer : (v u w : View) (ways old free unlinked : List ℕ) (element gone way word n from m : ℕ) (key value : List ℕ) (ks vs : List Move) →
+    IsWriter v ways old unlinked → old ≡ free ++ element ∷ [] → Fills element 0 key n ks → Fills element from value m vs →
+    Went v ((vs ++ ks) ++ v.mine) u → Went u (Put way word ∷ u.mine) w → way < ways_of v.shape → Names word element →
+    Names (word_in way v.mine) gone →
+    IsWriter w (set ways way word) free (unlinked ++ gone ∷ []) × (length free + length unlinked < v.shape.elements)
+replaced_writer v u w ways old free unlinked element gone way word n from m key value ks vs b is fk fv g h low names there =
+    let f = filled_writer v u ways old free unlinked element n from m key value ks vs b is fk fv g in
+    let now : Names (word_in way u.mine) gone = subst (λ z. Names z gone) (sym (f.1 way)) there in
+    let spare = (taken v ways old free unlinked element b is).0 in
+    let not : Names word gone → ⊥ = λ same. spare.1.0
+    (way, subst (λ z. Names (word_in way v.mine) z) (one_name word gone element same names) there) in
+    let linked = linked_writer v u w ways old free unlinked element way word n from m key value ks vs b is fk fv g h low names in (
+      unlinked_writer u ways free unlinked way gone f.0 now w word (set ways way word) h not (not_free u ways free unlinked way gone f.0 now) linked,
+      subst (λ (k : TableShape). length free + length unlinked < k.elements) (went_shape v u ((vs ++ ks) ++ v.mine) g)
+          (space u ways free unlinked way gone f.0 now),
+    )

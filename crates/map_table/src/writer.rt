@@ -86,6 +86,36 @@ impl Writer {
         Some(way)
     }
 
+    /// Fills a free element with the key of a way and with a new value, and puts it in that way by one store: the key stays
+    /// linked there all the time, with the old value or with the new one. False where no element is free.
+    pub fn replace(&mut self, table: &MapTable, way: usize, key: &[u64], value: &[u64]) -> bool
+        requires table { self.old.table ≡ table.now }
+        requires key { length key.now ≡ table.now.shape.key_words }
+        requires value { length value.now ≡ table.now.shape.value_words }
+        requires way { way < ways_of table.now.shape }
+        requires linked { IsLinkedUnder (layout_of table.now.shape) 0 key.now way self.old.view.seen }
+        ensures table { self.new.table ≡ self.old.table }
+        ensures none { result ≡ false → (self.old.free ≡ []) × (self.new ≡ self.old) }
+        ensures steps { result ≡ true → (element word : ℕ) × (self.old.free ≡ self.new.free ++ element ∷ [])
+            × Names word element × Puts way word element key.now value.now self.old self.new }
+        ensures unlinked { result ≡ true → (gone : ℕ) × Names (word_in way self.old.view.mine) gone
+            × (self.new.unlinked ≡ self.old.unlinked ++ gone ∷ []) }
+        ensures under { result ≡ true →
+            IsLinkedUnder (layout_of table.now.shape) 0 key.now way self.new.view.seen }
+    {
+        let shape = table.shape();
+        let candidates = candidates_of(shape, key);
+        let gone = element_in(self.ways[way]);
+        let Some(element) = self.free.pop() else {
+            return false;
+        };
+        fill_element(table, &mut self.seat, element, key, value);
+        let word = way_word(candidates.tag, element);
+        put_word(table, &mut self.seat, &mut self.ways, way, word);
+        self.unlinked.push_reserved(gone);
+        true
+    }
+
     /// Empties a way that names an element. Readers that found the element before may use it until they end their section.
     pub fn unlink(&mut self, table: &MapTable, way: usize)
         requires table { self.old.table ≡ table.now }
