@@ -1,18 +1,18 @@
 -- What the calls of a seat rest on.
-use Rattle.std.proofs.Common.{◌≡◌, ◌⊎◌, ℕ, ◌+◌, ◌-◌, ◌*◌, ◌/◌, ◌%◌, ◌<◌, ◌≤◌, inl, inr, List, [], ◌∷◌, ◌++◌, refl, sym, ap, ◌∙◌, subst, arith}
+use Rattle.std.proofs.Common.{◌≡◌, ◌⊎◌, ℕ, ◌+◌, ◌-◌, ◌*◌, ◌/◌, ◌<◌, ◌≤◌, inl, inr, ◌∷◌, ◌++◌, refl, sym, ap, ◌∙◌, subst, arith}
 use mathlib.Core.Option.{none}
 use Rattle.atomic_table.specs.Table.{Me, step, Allows}
 use Rattle.atomic_table.specs.Seated.{TableId}
 use Rattle.map_table_laws.specs.declared.moves.Move.{Move}
 use Rattle.map_table_laws.specs.declared.moves.Move.TheVariants.{Learn, Load, Store}
 use Rattle.map_table_laws.specs.Layout.{Names}
-use Rattle.map_table_laws.specs.History.{moves_of, inside, word_in, word_at, Holds, IsSpare, IsLawful, IsReader, MayLink}
+use Rattle.map_table_laws.specs.History.{inside, word_at, Holds, IsSpare, IsLawful, IsReader, MayLink}
 use Rattle.map_table_laws.proofs.Standing.{fits}
 use Rattle.map_table.specs.Limits.{section_stride}
 use Rattle.map_table.specs.Hashes.{layout_of}
 use Rattle.map_table.specs.declared.view.TableShape.{TableShape}
 use Rattle.map_table.specs.declared.view.View.{View}
-use Rattle.map_table.specs.Law.{ways_from, ways_of, base_of, count_of, width_of, Kept, Gains, opens, closes, learns, stores, puts, scans}
+use Rattle.map_table.specs.Law.{ways_from, ways_of, count_of, width_of, Kept, Gains, opens, closes, learns, stores, puts, scans}
 use Rattle.map_table.specs.Held.{Holder, Does, IsKnown}
 use Rattle.map_table.proofs.Places.{IsAt}
 use Rattle.map_table.proofs.Lists.{stored_here}

@@ -1,5 +1,5 @@
 -- What the writer keeps through its steps.
-use Rattle.std.proofs.Common.{◌≡◌, ◌≢◌, ◌⊎◌, ℕ, zero, suc, ◌+◌, ◌<◌, ◌≤◌, List, [], ◌∷◌, ◌++◌, get_or, length, refl, sym, ap, ◌∙◌, subst, ⊎_elim, inl, inr, arith, append_assoc}
+use Rattle.std.proofs.Common.{◌≡◌, ◌≢◌, ℕ, zero, suc, ◌+◌, ◌<◌, List, [], ◌∷◌, ◌++◌, get_or, refl, sym, ap, ◌∙◌, subst, inr, arith, append_assoc}
 use Rattle.std.proofs.Common.{set, length-set, get_or-set_other, get_or-set_same}
 use Rattle.std.specs.Prelude.{All, slice_index}
 use mathlib.Core.Logic.{dite}
@@ -17,7 +17,7 @@ use Rattle.map_table.specs.Held.{Went, IsSized}
 use Rattle.map_table.specs.Writing.{Fills, times_in, IsFree, IsUnlinked, IsWriter}
 use Rattle.map_table.proofs.Going.{went_known, went_mine}
 use Rattle.map_table.proofs.Filling.{went_shape, went_me}
-use Rattle.map_table.proofs.Members.{all_to, all_both, all_else, all_push, all_front}
+use Rattle.map_table.proofs.Members.{all_to, all_both, all_else}
 
 -- a stretch that puts nothing, and takes back nothing that was seen
 pub record IsQuiet (ns : List Move) : Type 0 where

@@ -1,5 +1,6 @@
 -- What linking an element leaves.
-use Rattle.std.proofs.Common.{◌≡◌, ◌≢◌, ◌⊎◌, ℕ, suc, ◌+◌, ◌*◌, ◌<◌, ◌≤◌, List, [], ◌∷◌, ◌++◌, length, set, refl, sym, ap, ◌∙◌, subst, ⊎_elim, inl, inr, arith}
+use Rattle.std.proofs.Common.{◌≡◌, ℕ, ◌+◌, ◌*◌, ◌<◌, ◌≤◌, List, [], ◌∷◌, ◌++◌, length, set, refl, sym, ap, ◌∙◌, subst, ⊎_elim, inl, inr, arith}
+use Rattle.std.proofs.Common.{length-append}
 use Rattle.std.specs.Prelude.{All}
 use mathlib.Core.Logic.{dite}
 use native.Mathlib.Decide.{ℕ_discrete}
@@ -14,11 +15,11 @@ use Rattle.map_table.specs.declared.view.View.{View}
 use Rattle.map_table.specs.Hashes.{layout_of, tag_of, first_bucket, second_bucket}
 use Rattle.map_table.specs.Law.{ways_of}
 use Rattle.map_table.specs.Held.{Holder, Goes, Went, IsKnown}
-use Rattle.map_table.specs.Writing.{Fills, times_in, IsFree, IsUnlinked, IsWriter, IsOfBoth}
+use Rattle.map_table.specs.Writing.{Fills, times_in, IsFree, IsWriter, IsOfBoth}
 use Rattle.map_table.proofs.Going.{went_known}
 use Rattle.atomic_table.specs.Seated.{TableId}
 use Rattle.map_table.proofs.Calls.{holder}
-use Rattle.map_table.proofs.Own.{readers_leave, longer, keys_stay}
+use Rattle.map_table.proofs.Own.{readers_leave, keys_stay}
 use Rattle.map_table.proofs.Filling.{own_list, went_shape, went_me, head_of, tail_of}
 use Rattle.map_table.proofs.Members.{one_same, times_push, all_front, all_last}
 use Rattle.map_table.proofs.Keeping.{quiet_append, fills_quiet, quiet_writer, same_word, put_writer, here, names_none}
@@ -132,3 +133,9 @@ fits_still v w old new same e l = let n : w.shape.elements ≡ v.shape.elements 
 
 pub works : (t t' : TableId) (v w : View) (s : Holder) (ns : List Move) → holder t v ≡ s → t' ≡ t → Went v (ns ++ v.mine) w → Goes s ns (holder t' w)
 works t t' v w s ns is same g = subst (λ z. Goes z ns (holder t' w)) is record { table = λ i. record { id = same i; shape = (g.1 i).shape }; went = g }
+
+-- a list with an element is not empty
+pub some_free : (old free : List ℕ) (element : ℕ) → old ≡ free ++ element ∷ [] → old ≡ [] → ⊥
+some_free old free element is none =
+    let a = ap (λ (xs : List ℕ). length xs) (sym is ∙ none) in
+    let b = length-append free (element ∷ []) in absurd (omega (arith, a, b))

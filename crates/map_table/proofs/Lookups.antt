@@ -1,16 +1,16 @@
 -- Stretches that only search.
-use Rattle.std.proofs.Common.{◌≡◌, ◌≢◌, ◌⊎◌, ℕ, suc, ◌+◌, ◌*◌, ◌/◌, ◌%◌, ◌^◌, ◌<◌, ◌≤◌, List, [], ◌∷◌, ◌++◌, Bool, true, false, refl, sym, ap}
+use Rattle.std.proofs.Common.{◌≡◌, ◌≢◌, ◌⊎◌, ℕ, ◌+◌, ◌*◌, ◌%◌, ◌^◌, ◌<◌, ◌≤◌, List, [], ◌∷◌, ◌++◌, refl, sym, ap}
 use Rattle.std.proofs.Common.{◌∙◌, subst, ⊎_elim, inl, inr, arith, length, Option, Some, None}
 use Rattle.std.proofs.lemmas.List.{length-append, append_cancel_right}
 use Rattle.std.proofs.lemmas.Nat.{mul-le}
-use Rattle.std.specs.Prelude.{MatchBool, IfSome, IsSome, slice_index}
+use Rattle.std.specs.Prelude.{IfSome, IsSome, slice_index}
 use mathlib.Core.Logic.{dite}
 use native.Mathlib.Decide.{ℕ_discrete}
 use Rattle.map_table_laws.specs.declared.moves.Move.{Move}
 use Rattle.map_table_laws.specs.declared.moves.Move.TheVariants.{Open, Close, Learn, Load, Store, Put, Scan}
-use Rattle.map_table_laws.specs.Layout.{Layout, IsCandidate, Names, tag_in, bucket_of, bucket_ways}
+use Rattle.map_table_laws.specs.Layout.{Names, tag_in, bucket_of, bucket_ways}
 use Rattle.map_table_laws.specs.History.{inside, Holds, IsLawful}
-use Rattle.map_table_laws.specs.Lookups.{OnlySearches, IsBrief, FoundIn, HadWord, IsElse, Refuted, AnswersLookup, LooksUp}
+use Rattle.map_table_laws.specs.Lookups.{OnlySearches, FoundIn, HadWord, IsElse, Refuted, AnswersLookup, LooksUp}
 use Rattle.map_table_laws.proofs.Moments.{lawful_early, stays_found}
 use Rattle.map_table.specs.declared.view.TableShape.{TableShape}
 use Rattle.map_table.specs.Hashes.{layout_of, first_bucket, second_bucket, tag_of}

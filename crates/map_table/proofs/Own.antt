@@ -1,11 +1,11 @@
 -- What nobody but the writer changes.
-use Rattle.std.proofs.Common.{◌≡◌, ◌≢◌, ◌⊎◌, ℕ, suc, ◌+◌, ◌<◌, ◌≤◌, List, [], ◌∷◌, ◌++◌, length, refl, sym, ap, ◌∙◌, subst, ⊎_elim, inl, inr, arith}
+use Rattle.std.proofs.Common.{◌≡◌, ◌≢◌, ◌⊎◌, ℕ, ◌≤◌, List, [], ◌∷◌, ◌++◌, length, refl, sym, ap, ◌∙◌, subst, ⊎_elim, inl, inr, arith}
 use mathlib.Core.Logic.{dite}
 use native.Mathlib.Decide.{ℕ_discrete}
 use Rattle.map_table_laws.specs.declared.moves.Move.{Move}
 use Rattle.map_table_laws.specs.declared.moves.Move.TheVariants.{Open, Close, Learn, Load, Store, Put, Scan}
 use Rattle.map_table_laws.specs.Layout.{Layout, IsCandidate}
-use Rattle.map_table_laws.specs.History.{moves_of, word_at, key_of, Holds, IsSpare, MayDo, MayLink, IsLawful}
+use Rattle.map_table_laws.specs.History.{moves_of, key_of, Holds, IsSpare, MayDo, MayLink, IsLawful}
 use Rattle.map_table_laws.proofs.Steps.{own, others, key_stored, key_learn, key_load, key_put, key_other}
 
 -- a reader's step leaves each key

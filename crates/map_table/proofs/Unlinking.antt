@@ -1,7 +1,7 @@
 -- What unlinking and reclaiming leave.
 use Rattle.std.proofs.Common.{◌≡◌, ◌≢◌, ◌⊎◌, ℕ, suc, ◌+◌, ◌%◌, ◌^◌, ◌<◌, ◌≤◌, List, [], ◌∷◌, ◌++◌, length, get_or, set, refl, sym, ap, ◌∙◌, subst, ⊎_elim, inl, inr, arith}
-use Rattle.std.proofs.Common.{append-nil, length-append}
-use Rattle.std.specs.Prelude.{All, slice_index}
+use Rattle.std.proofs.Common.{length-append}
+use Rattle.std.specs.Prelude.{slice_index}
 use Rattle.std.specs.List.{range_with_len}
 use Rattle.std.proofs.lemmas.List.{get_or_default}
 use mathlib.Core.Logic.{dite}
@@ -9,7 +9,7 @@ use native.Mathlib.Decide.{ℕ_discrete}
 use Rattle.map_table_laws.specs.declared.moves.Move.{Move}
 use Rattle.map_table_laws.specs.declared.moves.Move.TheVariants.{Put, Scan}
 use Rattle.map_table_laws.specs.Layout.{Layout, IsCandidate, Names}
-use Rattle.map_table_laws.specs.History.{moves_of, word_in, IsLinked, IsSpare, MayLink, IsLawful}
+use Rattle.map_table_laws.specs.History.{moves_of, word_in, IsSpare, MayLink, IsLawful}
 use Rattle.map_table_laws.specs.Found.{IsLinkedUnder}
 use Rattle.map_table_laws.specs.Scanned.{OnlyScans, AllOutside}
 use Rattle.map_table_laws.proofs.Steps.{one_name, nothing_named}

@@ -1,5 +1,5 @@
 -- What clauses see of a table and of those who hold a seat at it.
-use Rattle.std.specs.Prelude.{◌≡◌, ℕ, ◌*◌, ◌<◌, ◌≤◌, ◌%◌, List, [], ◌∷◌, ◌++◌}
+use Rattle.std.specs.Prelude.{◌≡◌, ℕ, ◌<◌, ◌≤◌, List, [], ◌∷◌, ◌++◌}
 use Rattle.atomic_table.specs.Seated.{TableId}
 use Rattle.map_table_laws.specs.declared.moves.Move.{Move}
 use Rattle.map_table.specs.declared.view.TableShape.{TableShape}

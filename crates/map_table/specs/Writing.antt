@@ -4,7 +4,6 @@ use Rattle.map_table_laws.specs.declared.moves.Move.{Move}
 use Rattle.map_table_laws.specs.declared.moves.Move.TheVariants.{Store, Put, Scan}
 use Rattle.map_table_laws.specs.Layout.{IsCandidate, bucket_ways}
 use Rattle.map_table_laws.specs.History.{word_in, IsLinked, IsSpare}
-use Rattle.map_table_laws.specs.Scanned.{OnlyScans}
 use Rattle.map_table.specs.declared.view.View.{View}
 use Rattle.map_table.specs.Hashes.{layout_of}
 use Rattle.map_table.specs.Law.{ways_of}

@@ -62,7 +62,7 @@ impl Writer {
         requires key { length key.now ≡ table.now.shape.key_words }
         requires value { length value.now ≡ table.now.shape.value_words }
         ensures table { self.new.table ≡ self.old.table }
-        ensures none { IsNone result → (self.old.free ≡ []) ⊎ AreFull self.old.view key.now }
+        ensures none { IsNone result ↔ ((self.old.free ≡ []) ⊎ AreFull self.old.view key.now) }
         ensures unchanged { IfNone result (self.new ≡ self.old) }
         ensures way { IfSome result (λ way. IsCandidate (layout_of table.now.shape) 0 key.now way) }
         ensures empty { IfSome result (λ way. word_in way self.old.view.mine ≡ 0) }
@@ -95,7 +95,8 @@ impl Writer {
         requires way { way < ways_of table.now.shape }
         requires linked { IsLinkedUnder (layout_of table.now.shape) 0 key.now way self.old.view.seen }
         ensures table { self.new.table ≡ self.old.table }
-        ensures none { result ≡ false → (self.old.free ≡ []) × (self.new ≡ self.old) }
+        ensures none { (result ≡ false) ↔ (self.old.free ≡ []) }
+        ensures unchanged { result ≡ false → self.new ≡ self.old }
         ensures steps { result ≡ true → (element word : ℕ) × (self.old.free ≡ self.new.free ++ element ∷ [])
             × Names word element × Puts way word element key.now value.now self.old self.new }
         ensures unlinked { result ≡ true → (gone : ℕ) × Names (word_in way self.old.view.mine) gone

@@ -1,4 +1,4 @@
-use Rattle.std.proofs.Common.{rules, ◌≡◌, ◌≢◌, ◌+◌, ◌<◌, ◌≤◌, [], ◌∷◌, ◌++◌, ◌∙◌, inl, inr, refl, sym, ap, subst, arith}
+use Rattle.std.proofs.Common.{◌+◌, ◌<◌, [], ◌∷◌, ◌∙◌, refl, subst, arith}
 use Rattle.map_table_laws.specs.declared.moves.Move.TheVariants.{Scan}
 use Rattle.map_table.specs.declared.view.TableShape.{TableShape}
 use Rattle.map_table.proofs.Going.{went_then}

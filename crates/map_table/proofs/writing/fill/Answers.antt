@@ -1,4 +1,4 @@
-use Rattle.std.proofs.Common.{◌≡◌, ◌+◌, ◌∷◌, [], sym, ◌∙◌, subst, refl, add-one}
+use Rattle.std.proofs.Common.{◌+◌, ◌∷◌, [], sym, ◌∙◌, subst, refl, add-one}
 use Rattle.std.specs.Prelude.{slice_index}
 use Rattle.map_table_laws.specs.declared.moves.Move.TheVariants.{Store}
 use Rattle.map_table.specs.Writing.{Fills}

@@ -1,6 +1,5 @@
-use Rattle.std.proofs.Common.{◌≡◌, ◌<◌, sym, ◌∙◌, subst}
+use Rattle.std.proofs.Common.{◌<◌, sym, subst}
 use Rattle.map_table.specs.declared.view.TableShape.{TableShape}
-use Rattle.map_table_laws.specs.History.{word_at}
 use Rattle.map_table.specs.Writing.{Fills}
 use Rattle.map_table.proofs.Going.{went_then}
 use Rattle.map_table.proofs.Filling.{filled_key}

@@ -1,4 +1,4 @@
-use Rattle.std.proofs.Common.{rules, ◌≡◌, ◌≢◌, ◌<◌, ◌≤◌, [], ◌∷◌, arith, ap, ◌∙◌, refl, inl, sym}
+use Rattle.std.proofs.Common.{rules, ◌≡◌, ◌≢◌, ◌<◌, ◌≤◌, [], ◌∷◌, arith, refl, inl}
 use Rattle.std.specs.Prelude.{slice_index}
 use Rattle.map_table_laws.specs.declared.moves.Move.TheVariants.{Load}
 use Rattle.map_table.proofs.Going.{goes_none, goes_more}

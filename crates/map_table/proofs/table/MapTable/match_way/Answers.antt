@@ -1,10 +1,8 @@
-use Rattle.std.proofs.Common.{rules, ◌≡◌, ◌<◌, [], ◌∷◌, ◌++◌, ◌∙◌, arith, subst, ⊎_elim, inl, inr, sym}
+use Rattle.std.proofs.Common.{[], ◌∷◌, ◌++◌, arith}
 use Rattle.std.proofs.lemmas.List.{length-append}
-use Rattle.std.specs.Prelude.{MatchBool}
 use Rattle.map_table_laws.specs.declared.moves.Move.TheVariants.{Learn}
-use Rattle.map_table.specs.Search.{HadKey, HadOther}
 use Rattle.map_table.proofs.Going.{goes_then}
-use Rattle.map_table.proofs.Lookups.{only_append, else_refutes, is_else, way_found, way_refuted}
+use Rattle.map_table.proofs.Lookups.{only_append, way_found, way_refuted}
 use Rattle.map_table.proofs.table.MapTable.match_way.Goals as goal
 
 pub has_key-requires-clause-element : goal.has_key-requires-clause-element

@@ -1,9 +1,9 @@
-use Rattle.std.proofs.Common.{◌+◌, ◌*◌, ◌≤◌, ◌++◌, subst, length, None}
+use Rattle.std.proofs.Common.{◌+◌, ◌*◌, ◌++◌}
 use Rattle.std.proofs.Common.{ap, ◌∙◌}
 use Rattle.map_table.specs.declared.view.TableShape.{TableShape}
 use Rattle.map_table.specs.Hashes.{first_bucket, second_bucket}
 use Rattle.map_table.proofs.Going.{goes_then}
-use Rattle.map_table.proofs.Lookups.{searched_inside, only_append, first_found, both_searched, brief_both, brief_one, found_element}
+use Rattle.map_table.proofs.Lookups.{searched_inside, only_append, first_found, both_searched, brief_both, brief_one}
 use Rattle.map_table.proofs.table.MapTable.search_both.Goals as goal
 
 pub search-requires-2-clause-inside : goal.search-requires-2-clause-inside

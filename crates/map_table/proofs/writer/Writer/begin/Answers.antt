@@ -1,4 +1,4 @@
-use Rattle.std.proofs.Common.{rules, ◌≡◌, ◌≤◌, ◌∙◌, ◌*◌, length, sym, ap, subst, arith}
+use Rattle.std.proofs.Common.{rules, ◌≡◌, ◌*◌, length, ap}
 use Rattle.atomic_table.specs.Table.{Me}
 use Rattle.map_table.specs.declared.view.View.{View}
 use Rattle.std.proofs.Common.{ℕ}

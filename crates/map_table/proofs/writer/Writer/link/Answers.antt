@@ -1,14 +1,17 @@
-use Rattle.std.proofs.Common.{rules, ◌≡◌, ◌⊎◌, ℕ, ◌+◌, ◌*◌, ◌<◌, ◌≤◌, [], ◌∷◌, ◌++◌, inl, inr, sym, ap, ◌∙◌, subst, refl, arith}
+use Rattle.std.proofs.Common.{◌≡◌, ℕ, ◌+◌, ◌*◌, ◌<◌, ◌≤◌, [], ◌∷◌, ◌++◌, ⊎_elim, inr, sym, ap, ◌∙◌, subst, refl, arith}
+use Rattle.std.proofs.Common.{List}
+use Rattle.std.specs.Prelude.{slice_index}
 use Rattle.map_table_laws.specs.declared.moves.Move.TheVariants.{Put}
 use Rattle.map_table_laws.specs.History.{IsSpare}
+use Rattle.map_table_laws.specs.Layout.{IsCandidate}
 use Rattle.map_table.specs.declared.view.TableShape.{TableShape}
-use Rattle.map_table.specs.Hashes.{first_bucket, second_bucket, tag_of}
+use Rattle.map_table.specs.Hashes.{layout_of, first_bucket, second_bucket, tag_of}
 use Rattle.map_table.specs.Law.{ways_of}
 use Rattle.map_table.specs.Held.{TableView}
-use Rattle.map_table.specs.Writing.{WriterView, as_holder, IsWriter, Fills}
+use Rattle.map_table.specs.Writing.{WriterView, as_holder, IsWriter, Fills, AreFull}
 use Rattle.map_table.proofs.Going.{went_known, went_then}
 use Rattle.map_table.proofs.Filling.{went_shape, went_me}
-use Rattle.map_table.proofs.Linking.{may_link, linked_under, taken, linked_writer, works, of_both, way_low, fits_still}
+use Rattle.map_table.proofs.Linking.{may_link, linked_under, taken, linked_writer, works, of_both, way_low, fits_still, some_free}
 use Rattle.map_table.proofs.writer.Writer.link.Goals as goal
 
 pub fill_element-requires-clause-element : goal.fill_element-requires-clause-element
@@ -100,3 +103,25 @@ returns-clause-under c =
     linked_under c.args.table.now.shape c.fill_element.new.seat.me.0 c.put_word.new.seat.me.0 c.in-Some-pop.element c.in-Some.way
     c.way_word-word.result c.args.key.now (went_shape c.self.inside.seat.me.0 c.fill_element.new.seat.me.0 ((f.steps.1 ++ f.steps.0) ++ c.self.inside.seat.me.0.mine) f.steps.4 ∙ shape) (went_me c.self.inside.seat.me.0 c.fill_element.new.seat.me.0 ((f.steps.1 ++ f.steps.0) ++ c.self.inside.seat.me.0.mine) f.steps.4 ∙ i.0.me) (went_known c.self.inside.seat.me.0 c.fill_element.new.seat.me.0 ((f.steps.1 ++ f.steps.0) ++ c.self.inside.seat.me.0.mine) f.steps.4)
     f.key c.way_word-word.ensures.names c.put_word.ensures.step
+
+pub returns-clause-none : goal.returns-clause-none
+returns-clause-none c =
+    let i = c.self.invariant in
+    let e = c.candidates_of-candidates.ensures in
+    let same = c.shape-shape.ensures.shape in
+    let shape = ap (λ (w : WriterView). w.table.shape) c.self.view_is ∙ ap (λ (t : TableView). t.shape) c.requires.table in
+    let low : c.in-Some.way < ways_of c.args.table.now.shape =
+    way_low _ _ c.in-Some.way _ (subst (λ (k : TableShape). c.candidates_of-candidates.result.first + 8 ≤ ways_of k) same e.first_within)
+    (subst (λ (k : TableShape). c.candidates_of-candidates.result.second + 8 ≤ ways_of k) same e.second_within) c.in-Some.ensures.some.0 in
+    let candidate = of_both c.args.table.now.shape c.args.key.now _ _ c.in-Some.way
+    (e.first ∙ ap (λ (k : TableShape). first_bucket k c.args.key.now * 8) same)
+    (e.second ∙ ap (λ (k : TableShape). second_bucket k c.args.key.now * 8) same) c.in-Some.ensures.some.0 in
+    let empty = sym (i.0.are_ways c.in-Some.way (subst (λ (k : TableShape). c.in-Some.way < ways_of k) (sym shape) low)) ∙
+    (ap (λ (xs : List ℕ). slice_index xs c.in-Some.way) (sym c.as_slice.ensures.value) ∙ c.in-Some.ensures.some.1) in (
+      (λ no. absurd (cc)),
+      (λ full. absurd (⊎_elim
+          (λ (none : c.args.self.now.free ≡ []). some_free _ _ c.in-Some-pop.element (sym (ap (λ (w : WriterView). w.free) c.self.view_is) ∙ c.in-Some-pop.ensures.items) none)
+          (λ (all : AreFull c.args.self.now.view c.args.key.now).
+          subst (λ (w : WriterView). AreFull w.view c.args.key.now) (sym c.self.view_is) all c.in-Some.way
+          (subst (λ (k : TableShape). IsCandidate (layout_of k) 0 c.args.key.now c.in-Some.way) (sym shape) candidate) empty) full)),
+    )

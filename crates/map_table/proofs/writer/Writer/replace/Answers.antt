@@ -1,4 +1,4 @@
-use Rattle.std.proofs.Common.{rules, ◌≡◌, ◌⊎◌, ℕ, ◌+◌, ◌*◌, ◌<◌, ◌≤◌, [], ◌∷◌, ◌++◌, inl, inr, sym, ap, ◌∙◌, subst, refl, arith, List, length, vec_capacity}
+use Rattle.std.proofs.Common.{rules, ℕ, ◌<◌, [], ◌∷◌, ◌++◌, inr, sym, ap, ◌∙◌, subst, arith, List, length, vec_capacity}
 use Rattle.map_table_laws.specs.declared.moves.Move.TheVariants.{Put}
 use Rattle.map_table_laws.specs.History.{IsSpare, word_in}
 use Rattle.map_table_laws.specs.Layout.{Names, IsCandidate}

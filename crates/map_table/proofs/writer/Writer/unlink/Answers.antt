@@ -1,4 +1,4 @@
-use Rattle.std.proofs.Common.{rules, ◌≡◌, ◌≢◌, ◌+◌, ◌<◌, ◌≤◌, [], ◌∷◌, ◌++◌, ◌∙◌, refl, sym, ap, subst, arith, ℕ, List, length, vec_capacity}
+use Rattle.std.proofs.Common.{rules, ◌≢◌, ◌<◌, [], ◌∷◌, ◌++◌, ◌∙◌, refl, sym, ap, subst, ℕ, List, length, vec_capacity}
 use Rattle.map_table_laws.specs.declared.moves.Move.TheVariants.{Put}
 use Rattle.map_table_laws.specs.Layout.{Names}
 use Rattle.map_table_laws.specs.History.{word_in}
