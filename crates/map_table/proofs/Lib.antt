@@ -9,4 +9,5 @@ pub mod Lookups
 pub mod Members
 pub mod Own
 pub mod Places
+pub mod Replacing
 pub mod Unlinking

@@ -1,5 +1,6 @@
 -- What unlinking and reclaiming leave.
-use Rattle.std.proofs.Common.{◌≡◌, ◌≢◌, ◌⊎◌, ℕ, suc, ◌+◌, ◌%◌, ◌^◌, ◌<◌, ◌≤◌, List, [], ◌∷◌, ◌++◌, length, get_or, set, refl, sym, ap, ◌∙◌, subst, ⊎_elim, inl, inr, arith}
+use Rattle.std.proofs.Common.{◌≡◌, ◌≢◌, ◌⊎◌, ℕ, suc, ◌+◌, ◌%◌, ◌^◌, ◌<◌, ◌≤◌, List, [], ◌∷◌}
+use Rattle.std.proofs.Common.{◌++◌, length, get_or, set, refl, sym, ap, ◌∙◌, subst, ⊎_elim, inl, inr, arith}
 use Rattle.std.proofs.Common.{length-append}
 use Rattle.std.specs.Prelude.{slice_index}
 use Rattle.std.specs.List.{range_with_len}
@@ -23,7 +24,8 @@ use Rattle.map_table.specs.Held.{Went, IsSized}
 use Rattle.map_table.specs.Writing.{Fills, times_in, IsFree, IsUnlinked, IsWriter}
 use Rattle.map_table.proofs.Going.{went_mine}
 use Rattle.map_table.proofs.Filling.{own_list, went_shape}
-use Rattle.map_table.proofs.Members.{one_for, times_append, times_push, times_range, all_nil, all_append, all_push, all_to, all_range, nowhere, room, few, at_most_one, none_for}
+use Rattle.map_table.proofs.Members.{one_for, times_append, times_push, times_range, all_nil, all_append, all_push}
+use Rattle.map_table.proofs.Members.{all_to, all_range, nowhere, room, few, at_most_one, none_for}
 use Rattle.map_table.proofs.Linking.{taken, filled_writer, linked_writer}
 use Rattle.map_table.proofs.Keeping.{scans_quiet, quiet_writer, put_writer, put_unlinked, empty_names_none}
 

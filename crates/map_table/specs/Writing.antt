@@ -4,6 +4,8 @@ use Rattle.map_table_laws.specs.declared.moves.Move.{Move}
 use Rattle.map_table_laws.specs.declared.moves.Move.TheVariants.{Store, Put, Scan}
 use Rattle.map_table_laws.specs.Layout.{IsCandidate, bucket_ways}
 use Rattle.map_table_laws.specs.History.{word_in, IsLinked, IsSpare}
+use Rattle.map_table_laws.specs.Found.{StaysFound}
+use Rattle.map_table.specs.declared.view.TableShape.{TableShape}
 use Rattle.map_table.specs.declared.view.View.{View}
 use Rattle.map_table.specs.Hashes.{layout_of}
 use Rattle.map_table.specs.Law.{ways_of}
@@ -60,6 +62,11 @@ IsOfBoth first second way =
 -- each way of both buckets names an element
 abbrev pub AreFull : View → List ℕ → Type 0
 AreFull v key = (way : ℕ) → IsCandidate (layout_of v.shape) 0 key way → word_in way v.mine ≢ 0
+
+-- The second history goes on from the first, and after each of its steps the key is linked in the way.
+abbrev pub StaysIn : TableShape → List ℕ → ℕ → List (ℕ × Move) → List (ℕ × Move) → Type 0
+StaysIn k key way old new =
+    (late : List (ℕ × Move)) × (new ≡ late ++ old) × StaysFound (layout_of k) 0 key way late old
 
 -- the last of the moves found a reader inside a section
 abbrev pub FoundInside : List Move → Type 0

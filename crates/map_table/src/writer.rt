@@ -10,7 +10,7 @@ ghost use Rattle.map_table_laws.specs.Found.{IsLinkedUnder};
 ghost use Rattle.map_table.specs.Hashes.{layout_of};
 ghost use Rattle.map_table.specs.Law.{ways_of, writer_after};
 ghost use Rattle.map_table.specs.Held.{IsSized};
-ghost use Rattle.map_table.specs.Writing.{Puts, Works, AreFull, FoundInside};
+ghost use Rattle.map_table.specs.Writing.{Puts, Works, AreFull, FoundInside, StaysIn};
 
 use crate::hash::candidates_of;
 use crate::limits::BUCKET_WAYS;
@@ -103,6 +103,10 @@ impl Writer {
             × (self.new.unlinked ≡ self.old.unlinked ++ gone ∷ []) }
         ensures under { result ≡ true →
             IsLinkedUnder (layout_of table.now.shape) 0 key.now way self.new.view.seen }
+
+        // It's so after each step of whomever, from this call's beginning to its end.
+        ensures stays { result ≡ true →
+            StaysIn table.now.shape key.now way self.old.view.seen self.new.view.seen }
     {
         let shape = table.shape();
         let candidates = candidates_of(shape, key);

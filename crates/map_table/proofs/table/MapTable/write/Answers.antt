@@ -34,4 +34,5 @@ returns-clause-step c =
     let shape = c.requires.table.1 ∙ sym (ap (λ (q : TableView). q.shape) c.self.view_is) in
     let own = subst (λ (q : TableView). IsAt q.shape c.index_of-index.result c.args.element c.args.place) (sym c.self.view_is) c.index_of-index.ensures.index in
     let l = subst (λ (q : TableView). c.args.place < width_of q.shape) (sym c.self.view_is) c.requires.place in
-    went_as _ _ _ (Store c.args.element c.args.place c.args.word) (store_move c.args.seat.now.me.0.shape c.self.inside.shape _ _ _ _ shape own l) c.store.ensures.2.1
+    went_as _ _ _ (Store c.args.element c.args.place c.args.word) (store_move c.args.seat.now.me.0.shape c.self.inside.shape _ _ _ _ shape own l)
+    c.store.ensures.2.1

@@ -46,7 +46,8 @@ put_word-requires-clause-may c =
     let t = taken c.self.inside.seat.me.0 _ _ _ _ c.in-Some-pop.element i.0 c.in-Some-pop.ensures.items in
     inr (may_link c.args.table.now.shape c.fill_element.new.seat.me.0 c.in-Some-pop.element c.in-Some.way c.way_word-word.result
     c.candidates_of-candidates.result.tag c.args.key.now
-    (went_me c.self.inside.seat.me.0 c.fill_element.new.seat.me.0 ((f.steps.1 ++ f.steps.0) ++ c.self.inside.seat.me.0.mine) f.steps.4 ∙ i.0.me) (went_known c.self.inside.seat.me.0 c.fill_element.new.seat.me.0 ((f.steps.1 ++ f.steps.0) ++ c.self.inside.seat.me.0.mine) f.steps.4)
+    (went_me c.self.inside.seat.me.0 c.fill_element.new.seat.me.0 ((f.steps.1 ++ f.steps.0) ++ c.self.inside.seat.me.0.mine) f.steps.4 ∙ i.0.me)
+    (went_known c.self.inside.seat.me.0 c.fill_element.new.seat.me.0 ((f.steps.1 ++ f.steps.0) ++ c.self.inside.seat.me.0.mine) f.steps.4)
     (subst (λ (k : TableShape). c.in-Some-pop.element < k.elements) shape t.0.0) f.spare f.key c.way_word-word.ensures.names c.way_word-word.ensures.tag
     (e.tag ∙ ap (λ (k : TableShape). tag_of k c.args.key.now) same)
     (of_both c.args.table.now.shape c.args.key.now _ _ c.in-Some.way (e.first ∙ ap (λ (k : TableShape). first_bucket k c.args.key.now * 8) same)
@@ -61,7 +62,9 @@ invariant_of-self-2 c =
     let shape = ap (λ (w : WriterView). w.table.shape) c.self.view_is ∙ ap (λ (t : TableView). t.shape) c.requires.table in
     let e = c.candidates_of-candidates.ensures in
     let same = c.shape-shape.ensures.shape in
-    let still = went_shape c.fill_element.new.seat.me.0 c.put_word.new.seat.me.0 (Put c.in-Some.way c.way_word-word.result ∷ c.fill_element.new.seat.me.0.mine) p.step ∙ went_shape c.self.inside.seat.me.0 c.fill_element.new.seat.me.0 ((f.steps.1 ++ f.steps.0) ++ c.self.inside.seat.me.0.mine) f.steps.4 in
+    let still = went_shape c.fill_element.new.seat.me.0 c.put_word.new.seat.me.0
+    (Put c.in-Some.way c.way_word-word.result ∷ c.fill_element.new.seat.me.0.mine) p.step ∙ went_shape c.self.inside.seat.me.0
+    c.fill_element.new.seat.me.0 ((f.steps.1 ++ f.steps.0) ++ c.self.inside.seat.me.0.mine) f.steps.4 in
     let low : c.in-Some.way < ways_of c.args.table.now.shape =
     way_low _ _ c.in-Some.way _ (subst (λ (k : TableShape). c.candidates_of-candidates.result.first + 8 ≤ ways_of k) same e.first_within)
     (subst (λ (k : TableShape). c.candidates_of-candidates.result.second + 8 ≤ ways_of k) same e.second_within) c.in-Some.ensures.some.0 in (
@@ -91,7 +94,8 @@ returns-clause-steps c =
         subst (λ n. Fills c.in-Some-pop.element 0 c.args.key.now n f.steps.0) (λ a. (sym k a).key_words) f.steps.2,
         subst (λ (z : ℕ × ℕ). Fills c.in-Some-pop.element z.0 c.args.value.now z.1 f.steps.1) (λ a. ((sym k a).key_words, (sym k a).value_words)) f.steps.3,
         works _ _ c.self.inside.seat.me.0 c.put_word.new.seat.me.0 _ _ (ap as_holder c.self.view_is) (p.table ∙ f.table)
-            (went_then c.self.inside.seat.me.0 c.fill_element.new.seat.me.0 c.put_word.new.seat.me.0 (f.steps.1 ++ f.steps.0) (Put c.in-Some.way c.way_word-word.result ∷ []) f.steps.4 p.step),
+            (went_then c.self.inside.seat.me.0 c.fill_element.new.seat.me.0 c.put_word.new.seat.me.0 (f.steps.1 ++ f.steps.0)
+            (Put c.in-Some.way c.way_word-word.result ∷ []) f.steps.4 p.step),
       ),
     )
 
@@ -101,7 +105,10 @@ returns-clause-under c =
     let f = c.fill_element.ensures in
     let shape = ap (λ (w : WriterView). w.table.shape) c.self.view_is ∙ ap (λ (t : TableView). t.shape) c.requires.table in
     linked_under c.args.table.now.shape c.fill_element.new.seat.me.0 c.put_word.new.seat.me.0 c.in-Some-pop.element c.in-Some.way
-    c.way_word-word.result c.args.key.now (went_shape c.self.inside.seat.me.0 c.fill_element.new.seat.me.0 ((f.steps.1 ++ f.steps.0) ++ c.self.inside.seat.me.0.mine) f.steps.4 ∙ shape) (went_me c.self.inside.seat.me.0 c.fill_element.new.seat.me.0 ((f.steps.1 ++ f.steps.0) ++ c.self.inside.seat.me.0.mine) f.steps.4 ∙ i.0.me) (went_known c.self.inside.seat.me.0 c.fill_element.new.seat.me.0 ((f.steps.1 ++ f.steps.0) ++ c.self.inside.seat.me.0.mine) f.steps.4)
+    c.way_word-word.result c.args.key.now (went_shape c.self.inside.seat.me.0 c.fill_element.new.seat.me.0
+    ((f.steps.1 ++ f.steps.0) ++ c.self.inside.seat.me.0.mine) f.steps.4 ∙ shape)
+    (went_me c.self.inside.seat.me.0 c.fill_element.new.seat.me.0 ((f.steps.1 ++ f.steps.0) ++ c.self.inside.seat.me.0.mine) f.steps.4 ∙ i.0.me)
+    (went_known c.self.inside.seat.me.0 c.fill_element.new.seat.me.0 ((f.steps.1 ++ f.steps.0) ++ c.self.inside.seat.me.0.mine) f.steps.4)
     f.key c.way_word-word.ensures.names c.put_word.ensures.step
 
 pub returns-clause-none : goal.returns-clause-none
@@ -120,7 +127,8 @@ returns-clause-none c =
     (ap (λ (xs : List ℕ). slice_index xs c.in-Some.way) (sym c.as_slice.ensures.value) ∙ c.in-Some.ensures.some.1) in (
       (λ no. absurd (cc)),
       (λ full. absurd (⊎_elim
-          (λ (none : c.args.self.now.free ≡ []). some_free _ _ c.in-Some-pop.element (sym (ap (λ (w : WriterView). w.free) c.self.view_is) ∙ c.in-Some-pop.ensures.items) none)
+          (λ (none : c.args.self.now.free ≡ []). some_free _ _ c.in-Some-pop.element
+          (sym (ap (λ (w : WriterView). w.free) c.self.view_is) ∙ c.in-Some-pop.ensures.items) none)
           (λ (all : AreFull c.args.self.now.view c.args.key.now).
           subst (λ (w : WriterView). AreFull w.view c.args.key.now) (sym c.self.view_is) all c.in-Some.way
           (subst (λ (k : TableShape). IsCandidate (layout_of k) 0 c.args.key.now c.in-Some.way) (sym shape) candidate) empty) full)),
