@@ -65,6 +65,7 @@ impl Writer {
         ensures none { IsNone result ↔ ((self.old.free ≡ []) ⊎ AreFull self.old.view key.now) }
         ensures unchanged { IfNone result (self.new ≡ self.old) }
         ensures way { IfSome result (λ way. IsCandidate (layout_of table.now.shape) 0 key.now way) }
+        ensures within { IfSome result (λ way. way < ways_of table.now.shape) }
         ensures empty { IfSome result (λ way. word_in way self.old.view.mine ≡ 0) }
         ensures unlinked { self.new.unlinked ≡ self.old.unlinked }
         ensures steps { IfSome result (λ way. (element word : ℕ) × (self.old.free ≡ self.new.free ++ element ∷ [])

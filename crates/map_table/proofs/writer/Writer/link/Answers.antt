@@ -133,3 +133,12 @@ returns-clause-none c =
           subst (λ (w : WriterView). AreFull w.view c.args.key.now) (sym c.self.view_is) all c.in-Some.way
           (subst (λ (k : TableShape). IsCandidate (layout_of k) 0 c.args.key.now c.in-Some.way) (sym shape) candidate) empty) full)),
     )
+
+pub returns-clause-within : goal.returns-clause-within
+returns-clause-within c =
+    let e = c.candidates_of-candidates.ensures in
+    let same = c.shape-shape.ensures.shape in
+    way_low _ _ c.in-Some.way _
+    (subst (λ (k : TableShape). c.candidates_of-candidates.result.first + 8 ≤ ways_of k) same e.first_within)
+    (subst (λ (k : TableShape). c.candidates_of-candidates.result.second + 8 ≤ ways_of k) same e.second_within)
+    c.in-Some.ensures.some.0
