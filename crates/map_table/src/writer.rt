@@ -54,7 +54,7 @@ impl Model for Writer {
 }
 
 impl Writer {
-    /// Fills a free element with a key and a value, and links it in a way of the key's two buckets: the first that is empty.
+    /// Fills a free element with a key and a value, and links it in an empty way of the key's two buckets.
     /// `None` where no element is free, or each way of both buckets names one. Keys are not compared: a key that is linked
     /// twice is found at either way.
     pub fn link(&mut self, table: &MapTable, key: &[u64], value: &[u64]) -> Option<usize>

@@ -91,7 +91,35 @@ pub(crate) fn empty_way(ways: &[u64], first: usize) -> Option<usize>
     None
 }
 
-/// The first empty way of a key's first bucket, else of its second.
+/// How many ways of a bucket are empty.
+fn count_empty(ways: &[u64], first: usize) -> usize
+    requires { first + bucket_ways ≤ length ways.now }
+    ensures { result ≤ bucket_ways }
+{
+    let mut count = 0;
+    for at in 0..BUCKET_WAYS {
+        if ways[first + at] == 0 {
+            count += 1;
+        }
+    }
+    count
+}
+
+/// An empty way of the one bucket, else of the other.
+fn empty_of(ways: &[u64], one: usize, other: usize) -> Option<usize>
+    requires one { one + bucket_ways ≤ length ways.now }
+    requires other { other + bucket_ways ≤ length ways.now }
+    ensures some { IfSome result (λ way. IsOfBoth one other way × (slice_index ways.now way ≡ 0)) }
+    ensures none { IsNone result → (way : ℕ) → IsOfBoth one other way →
+        slice_index ways.now way ≢ 0 }
+{
+    if let Some(way) = empty_way(ways, one) {
+        return Some(way);
+    }
+    empty_way(ways, other)
+}
+
+/// An empty way of a key's two buckets: of that with more of them, so that buckets fill evenly.
 pub(crate) fn empty_of_both(ways: &[u64], candidates: Candidates) -> Option<usize>
     requires first { candidates.first + bucket_ways ≤ length ways.now }
     requires second { candidates.second + bucket_ways ≤ length ways.now }
@@ -100,10 +128,11 @@ pub(crate) fn empty_of_both(ways: &[u64], candidates: Candidates) -> Option<usiz
     ensures none { IsNone result → (way : ℕ) → IsOfBoth candidates.first candidates.second way →
         slice_index ways.now way ≢ 0 }
 {
-    if let Some(way) = empty_way(ways, candidates.first) {
-        return Some(way);
+    if count_empty(ways, candidates.first) >= count_empty(ways, candidates.second) {
+        empty_of(ways, candidates.first, candidates.second)
+    } else {
+        empty_of(ways, candidates.second, candidates.first)
     }
-    empty_way(ways, candidates.second)
 }
 
 /// The word of a way that names an element, with the tag of its key.
