@@ -6,7 +6,7 @@ use Rattle.std.proofs.Common.{Some}
 use Rattle.std.specs.Prelude.{length, slice_index}
 use Rattle.map_table_laws.specs.declared.moves.Move.{Move}
 use Rattle.map_table_laws.specs.declared.moves.Move.TheVariants.{Open, Close, Learn, Load, Store, Put, Scan}
-use Rattle.map_table_laws.specs.Layout.{Layout, AreApart}
+use Rattle.map_table_laws.specs.Layout.{Layout, IsApart}
 use Rattle.map_table_laws.specs.History.{moves_of, word_at, key_of, Holds, MayDo, IsLawful}
 use Rattle.map_table_laws.specs.Lookups.{OnlySearches, HadWord, AnswersLookup}
 use Rattle.map_table_laws.specs.Found.{IsLinkedAs, Sometime, StaysInside}
@@ -75,17 +75,17 @@ sometime_some p q [] early f h = f early h
 sometime_some p q (e ∷ late) early f h = ⊎_elim (λ z. f (e ∷ (late ++ early)) z) (λ z. sometime_some p q late early f z) h
 
 -- a hit was linked under the key at some moment
-pub hit_linked : (k : Layout) → AreApart k → (table : ℕ) (key : List ℕ) → length key ≡ k.key_words table → (who element : ℕ) (late early : History) →
+pub hit_linked : (k : Layout) (table : ℕ) → IsApart k table → (key : List ℕ) → length key ≡ k.key_words table → (who element : ℕ) (late early : History) →
     0 < who → IsLawful k (late ++ early) → OnlySearches k table (moves_of who late) →
     AnswersLookup k table key (moves_of who late) (Some element) →
     Sometime (IsLinkedAs k table key element) late early
-hit_linked k apart table key count who element late early some lawful s a =
+hit_linked k table apart key count who element late early some lawful s a =
     let inside = searches_inside k table (moves_of who late) s in
     let way = a.0.0 in
     let theirs = key_of k element (late ++ early) in
     let moment = found_stood k who way element theirs late early lawful inside a.0.2 refl in
     let table_is : k.table_of element ≡ table = sometime_some (Stood k way element theirs) (k.table_of element ≡ table) late early
-    (λ es z. apart (k.table_of element) table (key_of k element es) key way (fits k es z.lawful way element z.names).bucket a.0.1) moment in
+    (λ es z. apart element way key (key_of k element es) a.0.1 (fits k es z.lawful way element z.names).bucket) moment in
     let words : (p : ℕ) → p < k.key_words (k.table_of element) → slice_index key p ≡ word_at element p (late ++ early) = λ p low.
     had_word k who element p (slice_index key p) late early some lawful inside (a.1 p (subst (λ n. p < k.key_words n) table_is low)) low
     ∙ key_word k element p (late ++ early) low in

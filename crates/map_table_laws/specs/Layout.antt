@@ -33,10 +33,10 @@ bucket_of way = way / bucket_ways
 abbrev pub IsCandidate : Layout → ℕ → List ℕ → ℕ → Type 0
 IsCandidate k table key way = (bucket_of way ≡ k.first table key) ⊎ (bucket_of way ≡ k.second table key)
 
--- No bucket serves two tables.
-abbrev pub AreApart : Layout → Type 0
-AreApart k = (one other : ℕ) (key another : List ℕ) (way : ℕ) →
-    IsCandidate k one key way → IsCandidate k other another way → one ≡ other
+-- No element of another table may be linked where a key of this one may.
+abbrev pub IsApart : Layout → ℕ → Type 0
+IsApart k table = (element way : ℕ) (key other : List ℕ) →
+    IsCandidate k table key way → IsCandidate k (k.table_of element) other way → k.table_of element ≡ table
 
 -- The low half of a way's word is one more than the number of an element, or 0 where the way is empty.
 abbrev pub Names : ℕ → ℕ → Type 0

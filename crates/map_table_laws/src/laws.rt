@@ -2,7 +2,7 @@
 ghost use Rattle.std.specs.Prelude.{◌≡◌, ℕ, ◌<◌, List, ◌∷◌, ◌++◌, length, Some, None};
 ghost use Rattle.map_table_laws.specs.declared.moves.Move.{Move};
 ghost use Rattle.map_table_laws.specs.declared.moves.Move.TheVariants.{Load};
-ghost use Rattle.map_table_laws.specs.Layout.{Layout, IsCandidate, AreApart, Names, tag_in};
+ghost use Rattle.map_table_laws.specs.Layout.{Layout, IsCandidate, IsApart, Names, tag_in};
 ghost use Rattle.map_table_laws.specs.History.{moves_of, word_in, word_at, key_of, generation, IsLinked, Holds, IsSpare, IsLawful};
 ghost use Rattle.map_table_laws.specs.Lookups.{OnlySearches, AnswersLookup};
 ghost use Rattle.map_table_laws.specs.Found.{IsLinkedUnder, IsLinkedAs, Sometime, Throughout, StaysFound, StaysInside, OnlyReplaces};
@@ -83,8 +83,8 @@ pub fn replaced_keys_stay()
 
 /// In every lawful history an element that a lookup answers was linked under the key at some moment of it.
 pub fn hits_were_linked()
-    ensures { (k : Layout) → AreApart k → (late early : List (ℕ × Move)) → IsLawful k (late ++ early) →
-        (table : ℕ) (key : List ℕ) → length key ≡ k.key_words table →
+    ensures { (k : Layout) (table : ℕ) → IsApart k table →
+        (late early : List (ℕ × Move)) → IsLawful k (late ++ early) → (key : List ℕ) → length key ≡ k.key_words table →
         (who element : ℕ) → 0 < who → OnlySearches k table (moves_of who late) →
         AnswersLookup k table key (moves_of who late) (Some element) →
         Sometime (IsLinkedAs k table key element) late early }
