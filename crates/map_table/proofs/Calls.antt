@@ -1,0 +1,129 @@
+-- What the calls of a seat rest on.
+use Rattle.std.proofs.Common.{◌≡◌, ◌⊎◌, ℕ, ◌+◌, ◌-◌, ◌*◌, ◌/◌, ◌<◌, ◌≤◌, inl, inr, ◌∷◌, ◌++◌, refl, sym, ap, ◌∙◌, subst, arith}
+use mathlib.Core.Option.{none}
+use Rattle.atomic_table.specs.Table.{Me, step, Allows}
+use Rattle.atomic_table.specs.Seated.{TableId}
+use Rattle.map_table_laws.specs.declared.moves.Move.{Move}
+use Rattle.map_table_laws.specs.declared.moves.Move.TheVariants.{Learn, Load, Store}
+use Rattle.map_table_laws.specs.Layout.{Names}
+use Rattle.map_table_laws.specs.History.{inside, word_at, Holds, IsSpare, IsLawful, IsReader, MayLink}
+use Rattle.map_table_laws.proofs.Standing.{fits}
+use Rattle.map_table.specs.Limits.{section_stride}
+use Rattle.map_table.specs.Hashes.{layout_of}
+use Rattle.map_table.specs.declared.view.TableShape.{TableShape}
+use Rattle.map_table.specs.declared.view.View.{View}
+use Rattle.map_table.specs.Law.{ways_from, ways_of, count_of, width_of, Kept, Gains, opens, closes, learns, stores, puts, scans}
+use Rattle.map_table.specs.Held.{Holder, Does, IsKnown}
+use Rattle.map_table.proofs.Places.{IsAt}
+use Rattle.map_table.proofs.Lists.{stored_here}
+use Rattle.map_table.proofs.Keeps.{opens_ok, closes_ok, learns_ok, stores_ok, puts_ok, scans_ok}
+use Rattle.map_table.proofs.Going.{went_one}
+
+pub stores_at : (k : TableShape) (slots id : ℕ) (me : Me ℕ View) (i element place x : ℕ) → IsAt k i element place →
+    element < k.elements → k.key_words ≤ place → place < width_of k → Holds element me.0.mine
+    → Allows (Kept k) slots id me i (λ _. x) (λ _. stores (step slots i x 0 none) me x)
+stores_at k slots id me i element place x e low in_value in_element known =
+    stores_ok k slots id me i element place x e low in_element (inr (known, in_value))
+
+pub writes_at : (k : TableShape) (slots id : ℕ) (me : Me ℕ View) (i element place x : ℕ) →
+    IsAt k i element place → element < k.elements → place < width_of k → me.0.me ≡ 0 → IsSpare k.readers element me.0.mine
+    → Allows (Kept k) slots id me i (λ _. x) (λ _. stores (step slots i x 0 none) me x)
+writes_at k slots id me i element place x e low in_element writer spare =
+    stores_ok k slots id me i element place x e low in_element (inl (writer, spare))
+
+-- a word by what the holder saw after a step
+word_seen : (v w : View) (m m' : Move) (element place : ℕ) → m ≡ m' → (g : Gains v m w) →
+    word_at element place w.seen ≡ word_at element place ((v.me, m') ∷ (g.0 ++ v.seen))
+word_seen v w m m' element place is g = ap (λ (z : View). word_at element place z.seen) g.1 ∙
+    ap (λ z. word_at element place ((v.me, z) ∷ (g.0 ++ v.seen))) is
+
+lawful_now : (v w : View) (m m' : Move) → m ≡ m' → (g : Gains v m w) → IsLawful (layout_of v.shape) ((v.me, m') ∷ (g.0 ++ v.seen))
+lawful_now v w m m' is g = subst (λ z. IsLawful (layout_of v.shape) ((v.me, z) ∷ (g.0 ++ v.seen))) is
+    (subst (λ (z : View). IsLawful (layout_of v.shape) z.seen) g.1 g.2)
+
+-- what a load found, as a clause says it
+pub load_found : (v w : View) (m : Move) (element place x : ℕ) → m ≡ Load element place x → Gains v m w → x ≡ word_at element place w.seen
+load_found v w m element place x is g =
+    (lawful_now v w m (Load element place x) is g).0.1 ∙ sym (word_seen v w m (Load element place x) element place is g)
+
+-- what a store left, as a clause says it
+pub store_left : (v w : View) (m : Move) (element place x : ℕ) → m ≡ Store element place x → Gains v m w → word_at element place w.seen ≡ x
+store_left v w m element place x is g = word_seen v w m (Store element place x) element place is g ∙
+    stored_here v.me element place element place x (g.0 ++ v.seen) refl refl
+
+-- a way that was learnt names only an element that there is
+pub learn_within : (v w : View) (m : Move) (way x element : ℕ) → m ≡ Learn way x → Gains v m w → Names x element → element < v.shape.elements
+learn_within v w m way x element is g names =
+    let now = lawful_now v w m (Learn way x) is g in
+    (fits (layout_of v.shape) (g.0 ++ v.seen) now.1 way element (subst (λ z. Names z element) now.0.2 names)).within
+
+abbrev pub holder : TableId → View → Holder
+holder t v = record { table = record { id = t; shape = v.shape }; view = v }
+
+-- what a step told, as a clause says it
+pub does : (t t' : TableId) (v w : View) (s : Holder) (m m' : Move) → holder t v ≡ s → t' ≡ t → m ≡ m' → Gains v m w → Does s m' (holder t' w)
+does t t' v w s m m' is same move g =
+    subst (λ z. Does z m' (holder t' w)) is record {
+      table = λ i. record { id = same i; shape = (g.1 i).shape };
+      went = went_one v w m' (subst (λ z. Gains v z w) move g);
+    }
+
+-- where a reader's section word lies, as an equation
+abbrev pub IsSection : ℕ → ℕ → Type 0
+IsSection i me = i + section_stride ≡ me * section_stride
+
+pub section_within : (j k : TableShape) (i me n : ℕ) → j ≡ k → IsReader (layout_of j) me → IsSection i me → n ≡ count_of k → i < n
+section_within j k i me n same reader at e =
+    let r : IsReader (layout_of k) me = subst (λ (z : TableShape). IsReader (layout_of z) me) same reader in omega arith
+
+pub opens_at : (j k : TableShape) (slots id : ℕ) (me : Me ℕ View) (i : ℕ) → j ≡ k → IsReader (layout_of j) me.0.me →
+    IsSection i me.0.me → Allows (Kept k) slots id me i (λ _. 1) (λ _. opens (step slots i 1 0 none) me 1)
+opens_at j k slots id me i same reader at =
+    let r : IsReader (layout_of k) me.0.me = subst (λ (z : TableShape). IsReader (layout_of z) me.0.me) same reader in
+    opens_ok k slots id me i (me.0.me - 1) (omega arith) (omega arith) (omega arith)
+
+pub closes_at : (j k : TableShape) (slots id : ℕ) (me : Me ℕ View) (i : ℕ) → j ≡ k → IsReader (layout_of j) me.0.me →
+    IsSection i me.0.me → Allows (Kept k) slots id me i (λ _. 0) (λ _. closes (step slots i 0 0 none) me 0)
+closes_at j k slots id me i same reader at =
+    let r : IsReader (layout_of k) me.0.me = subst (λ (z : TableShape). IsReader (layout_of z) me.0.me) same reader in
+    closes_ok k slots id me i (me.0.me - 1) (omega arith) (omega arith) (omega arith)
+
+-- Where a way's word lies: the ways begin at w.
+pub learns_at : (j k : TableShape) (slots id : ℕ) (me : Me ℕ View) (w way : ℕ) → w ≡ ways_from j → me.0.shape ≡ j → j ≡ k →
+    way < ways_of j → IsReader (layout_of me.0.shape) me.0.me → inside me.0.mine ≡ 1
+    → Allows (Kept k) slots id me (w + way) (λ n. n) (learns (step slots (w + way) 0 0 none) me)
+learns_at j k slots id me w way at same is l reader one =
+    let e : ways_from j ≡ ways_from k = ap ways_from is in
+    let m : way < ways_of k = subst (λ (z : TableShape). way < ways_of z) is l in
+    learns_ok k slots id me (w + way) (omega (arith, at, e)) (omega (arith, at, e, m))
+    (subst (λ (z : TableShape). IsReader (layout_of z) me.0.me) (same ∙ is) reader) one
+
+way_is : (r s i : ℕ) → i ≡ r → (i + s) - r ≡ s
+way_is r s i e = omega arith
+
+pub way_back : (j k : TableShape) (w way : ℕ) → w ≡ ways_from k → j ≡ k → (w + way) - ways_from j ≡ way
+way_back j k w way at same = way_is (ways_from j) way w (at ∙ ap ways_from (sym same))
+
+pub way_within : (k : TableShape) (w way n : ℕ) → w ≡ ways_from k → way < ways_of k → n ≡ count_of k → w + way < n
+way_within k w way n at l e = omega (arith, at, l, e)
+
+pub puts_at : (j k : TableShape) (slots id : ℕ) (me : Me ℕ View) (w way x : ℕ) → w ≡ ways_from j → me.0.shape ≡ j → j ≡ k →
+    way < ways_of j → me.0.me ≡ 0 → IsKnown me.0 → (x ≡ 0) ⊎ MayLink (layout_of j) me.0.seen way x
+    → Allows (Kept k) slots id me (w + way) (λ _. x) (λ _. puts (step slots (w + way) x 0 none) me x)
+puts_at j k slots id me w way x at same is l writer known may =
+    let e : ways_from j ≡ ways_from k = ap ways_from is in
+    let m : way < ways_of k = subst (λ (z : TableShape). way < ways_of z) is l in
+    let back : (w + way) - ways_from me.0.shape ≡ way = way_back me.0.shape j w way at same in
+    puts_ok k slots id me (w + way) x (omega (arith, at, e)) (omega (arith, at, e, m)) writer known
+    (subst (λ (z : ℕ × TableShape). (x ≡ 0) ⊎ MayLink (layout_of z.1) me.0.seen z.0 x) (λ i. (sym back i, is i)) may)
+
+pub scan_within : (k : TableShape) (reader n : ℕ) → reader < k.readers → n ≡ count_of k → reader * section_stride < n
+scan_within k reader n l e = omega arith
+
+pub scan_reader : (reader : ℕ) → reader * section_stride / section_stride ≡ reader
+scan_reader reader = omega arith
+
+pub scans_at : (j k : TableShape) (slots id : ℕ) (me : Me ℕ View) (reader : ℕ) → j ≡ k → reader < j.readers → me.0.me ≡ 0
+    → Allows (Kept k) slots id me (reader * section_stride) (λ n. n) (scans (step slots (reader * section_stride) 0 0 none) me)
+scans_at j k slots id me reader is l writer = scans_ok k slots id me (reader * section_stride) reader refl
+    (subst (λ (z : TableShape). reader < z.readers) is l) writer

@@ -1,0 +1,13 @@
+pub mod Calls
+pub mod Filling
+pub mod Going
+pub mod Keeping
+pub mod Keeps
+pub mod Linking
+pub mod Lists
+pub mod Lookups
+pub mod Members
+pub mod Own
+pub mod Places
+pub mod Replacing
+pub mod Unlinking

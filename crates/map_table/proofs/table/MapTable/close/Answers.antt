@@ -1,0 +1,16 @@
+use Rattle.std.proofs.Common.{refl, sym, ap, ◌∙◌}
+use Rattle.map_table_laws.specs.declared.moves.Move.TheVariants.{Close}
+use Rattle.map_table.specs.Held.{TableView, Holder}
+use Rattle.map_table.proofs.Calls.{does, section_within, closes_at}
+use Rattle.map_table.proofs.table.MapTable.close.Goals as goal
+
+pub store-requires : goal.store-requires
+store-requires c =
+    let p = ap (λ (h : Holder). h.table) c.seat.view_is ∙ (c.requires.table ∙ sym c.self.view_is) in
+    let i = c.seat.invariant in
+    let t = c.self.invariant in
+    let same = ap (λ (q : TableView). q.shape) p in
+    (ap (λ (q : TableView). q.id) p, section_within _ _ _ _ _ same i.0 i.1 t.1, closes_at _ _ _ _ _ _ (same ∙ sym t.0) i.0 i.1)
+
+pub returns : goal.returns
+returns c = does _ _ _ _ _ Close Close c.seat.view_is c.store.ensures.0 refl c.store.ensures.2.0

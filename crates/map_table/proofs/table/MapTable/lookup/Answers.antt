@@ -1,0 +1,25 @@
+use Rattle.std.proofs.Common.{◌∙◌, ap}
+use Rattle.map_table.specs.Held.{TableView}
+use Rattle.map_table.proofs.Lookups.{searched_inside, searched_holds, answers_held, lookup_finds}
+use Rattle.map_table.proofs.table.MapTable.lookup.Goals as goal
+
+pub returns-clause-inside : goal.returns-clause-inside
+returns-clause-inside c =
+    let h = c.search_both-found.ensures.searched in
+    searched_inside c.args.self.now.shape c.args.seat.now c.search_both-found.new.seat h.0 h.1 h.2.only c.requires.inside
+
+pub returns-clause-held : goal.returns-clause-held
+returns-clause-held c =
+    let h = c.search_both-found.ensures.searched in
+    answers_held c.args.self.now.shape c.args.key.now c.args.seat.now c.search_both-found.new.seat h.0 c.search_both-found.result h.1 h.2
+
+pub returns-clause-known : goal.returns-clause-known
+returns-clause-known c =
+    let h = c.search_both-found.ensures.searched in
+    searched_holds c.args.self.now.shape c.args.seat.now c.search_both-found.new.seat h.0 h.1 h.2.only
+
+pub returns-clause-found : goal.returns-clause-found
+returns-clause-found c =
+    let h = c.search_both-found.ensures.searched in
+    lookup_finds c.args.self.now.shape c.args.key.now c.args.seat.now c.search_both-found.new.seat h.0 c.search_both-found.result
+    (c.is_readers.ensures.shape ∙ ap (λ (t : TableView). t.shape) (h.1.table ∙ c.requires.table)) h.1 h.2

@@ -1,0 +1,11 @@
+use Rattle.std.proofs.Common.{ℕ, ◌+◌, ◌*◌, ◌<◌, ◌≤◌, List, length}
+use Rattle.map_table_laws.specs.declared.moves.Move.{Move}
+use Rattle.map_table_laws.specs.Lookups.{OnlySearches, Refuted}
+use Rattle.map_table.specs.Hashes.{layout_of}
+use Rattle.map_table.specs.Held.{Goes}
+use Rattle.map_table.proofs.table.MapTable.search.Given as goal
+
+abbrev pub invariant-loop-at : goal.invariant-loop-at
+invariant-loop-at l = (ms : List Move) × Goes l.fn.seat ms l.seat × OnlySearches (layout_of l.self.shape) 0 ms ×
+    ((way : ℕ) → l.first ≤ way → way < l.first + l.at → Refuted (layout_of l.self.shape) 0 l.key way ms) ×
+    (length ms ≤ l.at * (1 + l.self.shape.key_words))

@@ -1,0 +1,6 @@
+pub mod Hashes
+pub mod Held
+pub mod Law
+pub mod Limits
+pub mod Search
+pub mod Writing

@@ -1,0 +1,41 @@
+-- What a search of some ways for a key found, as a stretch of its seat's list.
+use Rattle.std.specs.Prelude.{◌≡◌, ◌≢◌, ◌⊎◌, ℕ, ◌<◌, ◌≤◌, List, [], ◌∷◌, ◌++◌, Option, Some, None, slice_index}
+use Rattle.map_table_laws.specs.declared.moves.Move.{Move}
+use Rattle.map_table_laws.specs.declared.moves.Move.TheVariants.{Load}
+use Rattle.map_table_laws.specs.History.{moves_of}
+use Rattle.map_table_laws.specs.Lookups.{FoundIn, HadWord, Refuted}
+use Rattle.map_table_laws.specs.Found.{StaysFound}
+use Rattle.map_table.specs.declared.view.TableShape.{TableShape}
+use Rattle.map_table.specs.Hashes.{layout_of}
+
+-- each word of the key was found in the element
+abbrev pub HadKey : TableShape → List ℕ → ℕ → List Move → Type 0
+HadKey k key element ms = (place : ℕ) → place < k.key_words → HadWord element place (slice_index key place) ms
+
+-- another word of a key was found in the element
+abbrev pub HadOther : TableShape → List ℕ → ℕ → List Move → Type 0
+HadOther k key element [] = ⊥
+HadOther k key element (Load e p x ∷ ms) =
+    ((e ≡ element) × (p < k.key_words) × (x ≢ slice_index key p)) ⊎ HadOther k key element ms
+HadOther k key element (_ ∷ ms) = HadOther k key element ms
+
+-- The ways from one on and below another were searched: each was found without the key, or one with it.
+abbrev pub Searched : TableShape → List ℕ → ℕ → ℕ → List Move → Option ℕ → Type 0
+Searched k key low high ms None =
+    (way : ℕ) → low ≤ way → way < high → Refuted (layout_of k) 0 key way ms
+Searched k key low high ms (Some element) =
+    ((way : ℕ) × (low ≤ way) × (way < high) × FoundIn way element ms) × HadKey k key element ms
+    × (element < k.elements)
+
+-- Through all these moves of a holder, which he made after those before, the key stayed linked in one way, also where its
+-- element was replaced.
+pub record StaysThere (k : TableShape) (key : List ℕ) (who : ℕ) (before ns : List Move)
+    (es : List (ℕ × Move)) : Type 0 where
+  pub way : ℕ
+  pub newer : List (ℕ × Move)
+  pub late : List (ℕ × Move)
+  pub early : List (ℕ × Move)
+  pub history : es ≡ newer ++ (late ++ early)
+  pub before_are : moves_of who early ≡ before
+  pub moves_are : moves_of who late ≡ ns
+  pub stays : StaysFound (layout_of k) 0 key way late early

@@ -1,0 +1,85 @@
+//! Where a key may be linked.
+ghost use Rattle.std.specs.Prelude.{◌≡◌, ◌≢◌, ◌⊎◌, ◌+◌, ◌*◌, ◌%◌, ◌<◌, ◌≤◌, ◌^◌, IfSome, IsNone};
+ghost use Rattle.map_table.specs.Limits.{most_buckets};
+ghost use Rattle.map_table.specs.Hashes.{mixed, hash_from, bucket_by, first_bucket, second_bucket, tag_of};
+ghost use Rattle.map_table_laws.specs.Layout.{bucket_ways, Names, tag_in};
+ghost use Rattle.map_table.specs.Law.{ways_of};
+ghost use Rattle.map_table.specs.Held.{IsSized};
+
+use crate::limits::BUCKET_WAYS;
+use crate::view::TableShape;
+
+/// What a hash is multiplied by after each word: 2^64 over the golden ratio, which is odd.
+const WORD_FACTOR: u64 = 11_400_714_819_323_198_485;
+
+/// The first way of each of the two buckets where a key may be linked, and the tag that its way has. Nothing is promised of
+/// how keys spread.
+#[derive(Clone, Copy)]
+pub(crate) struct Candidates {
+    pub first: usize,
+    pub second: usize,
+    pub tag: u64,
+}
+
+/// A hash after one more word.
+#[inline]
+fn mix(hash: u64, word: u64) -> u64
+    ensures { result ≡ mixed hash word }
+{
+    let product = (hash ^ word).wrapping_mul(WORD_FACTOR);
+    product ^ (product >> 32)
+}
+
+/// A hash of some words.
+#[inline]
+fn hash_of(seed: u64, key: &[u64]) -> u64
+    ensures { result ≡ hash_from seed key.now }
+{
+    let mut hash = seed;
+    for at in 0..key.len() {
+        hash = mix(hash, key[at]);
+    }
+    hash
+}
+
+/// The bucket that the high half of a hash chooses.
+#[inline]
+fn bucket(hash: u64, buckets: usize) -> usize
+    requires { (0 < buckets) × (buckets ≤ most_buckets) }
+    ensures bucket { result ≡ bucket_by buckets hash }
+    ensures within { result < buckets }
+{
+    (((hash >> 32) * buckets as u64) >> 32) as usize
+}
+
+/// The candidates of a key.
+#[inline]
+pub(crate) fn candidates_of(shape: TableShape, key: &[u64]) -> Candidates
+    requires { IsSized shape }
+    ensures first { result.first ≡ first_bucket shape key.now * bucket_ways }
+    ensures second { result.second ≡ second_bucket shape key.now * bucket_ways }
+    ensures tag { result.tag ≡ tag_of shape key.now }
+    ensures first_within { result.first + bucket_ways ≤ ways_of shape }
+    ensures second_within { result.second + bucket_ways ≤ ways_of shape }
+    ensures tag_within { result.tag < 2 ^ 32 }
+{
+    let hash = hash_of(shape.seed, key);
+    Candidates {
+        first: bucket(hash, shape.buckets) * BUCKET_WAYS,
+        second: bucket(mix(hash, 1), shape.buckets) * BUCKET_WAYS,
+        tag: hash & 0xffff_ffff,
+    }
+}
+
+/// The number of the element that a way's word names, if the word has the tag.
+#[inline]
+pub(crate) fn named(word: u64, tag: u64) -> Option<usize>
+    ensures some { IfSome result (λ element. Names word element × (tag_in word ≡ tag)) }
+    ensures none { IsNone result → (word % 2 ^ 32 ≡ 0) ⊎ (tag_in word ≢ tag) }
+{
+    let low = word & 0xffff_ffff;
+    if low == 0 || word >> 32 != tag {
+        return None;
+    }
+    Some((low - 1) as usize)
+}

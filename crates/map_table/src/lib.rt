@@ -1,0 +1,24 @@
+//! A table of words, as large as people need, that readers look keys up in with no lock, beside one writer.
+//!
+//! Each reader has a seat. In a section of its own it learns which elements the ways of a key's two buckets name, and reads
+//! and writes the words of those. The writer links elements, replaces and unlinks them, and fills one anew only once it has
+//! seen each reader outside a section since.
+#![tactic(auto)]
+
+mod hash;
+mod limits;
+mod lookup;
+mod rule;
+mod seats;
+mod setup;
+mod table;
+mod view;
+mod writer;
+mod writing;
+
+pub use limits::{BUCKET_WAYS, MAX_BUCKETS, MAX_ELEMENTS, MAX_READERS, MAX_WORDS};
+pub use rule::{Closes, Deals, Law, Learns, Loads, Opens, Puts, SECTION_STRIDE, Scans, Stores};
+pub use seats::Seats;
+pub use table::{MapTable, ReadSeat};
+pub use view::{TableShape, View};
+pub use writer::Writer;

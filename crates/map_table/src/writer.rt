@@ -1,0 +1,200 @@
+//! The writer of a table.
+ghost use Rattle.std.specs.Prelude.{◌≡◌, ◌≢◌, ◌⊎◌, ◌↔◌, ℕ, List, ◌+◌, ◌<◌, ◌≤◌, [], ◌∷◌, ◌++◌, length, vec_capacity, IsNone, IfNone, IfSome, IfOk, MatchBool, true, false};
+ghost use Rattle.std.specs.List.{range_with_len};
+ghost use Rattle.map_table_laws.specs.declared.moves.Move.{Move};
+ghost use Rattle.map_table_laws.specs.declared.moves.Move.TheVariants.{Put};
+ghost use Rattle.map_table_laws.specs.Layout.{IsCandidate, Names};
+ghost use Rattle.map_table_laws.specs.History.{word_in, IsSpare};
+ghost use Rattle.map_table_laws.specs.Scanned.{OnlyScans, AllOutside};
+ghost use Rattle.map_table_laws.specs.Found.{IsLinkedUnder};
+ghost use Rattle.map_table.specs.Hashes.{layout_of};
+ghost use Rattle.map_table.specs.Law.{ways_of, writer_after};
+ghost use Rattle.map_table.specs.Held.{IsSized};
+ghost use Rattle.map_table.specs.Writing.{Puts, Works, AreFull, FoundInside, StaysIn};
+
+use crate::hash::candidates_of;
+use crate::limits::BUCKET_WAYS;
+use crate::setup::{numbers, zeros};
+use crate::table::MapTable;
+use crate::view::{TableShape, View};
+use crate::writing::{
+    all_outside, element_in, empty_of_both, fill_element, move_all, put_word, way_word,
+};
+use atomic_table::Seat;
+use std::alloc::{AllocError, Global};
+use std::marker::Model;
+
+/// Links elements under keys, replaces and unlinks them, and reclaims them. Contracts see at which table, what it did and
+/// saw there, the elements that it may fill, and those that it has unlinked and not yet reclaimed.
+#[derive(Drop)]
+pub struct Writer {
+    seat: Seat<u8, View>,
+    // The word of each way.
+    ways: Vec<u64>,
+    free: Vec<usize>,
+    unlinked: Vec<usize>,
+}
+
+impl Model for Writer {
+    ghost use Rattle.std.specs.Prelude.{◌≡◌, ◌≤◌, [], vec_capacity};
+    ghost use Rattle.map_table.specs.Writing.{WriterView, IsWriter};
+
+    ghost Value = { WriterView };
+
+    ghost view = { λ w. record {
+      table = record { id = w.seat.table_id; shape = w.seat.me.0.shape };
+      view = w.seat.me.0;
+      free = w.free.items;
+      unlinked = w.unlinked.items;
+    } };
+
+    ghost invariant = { λ w. IsWriter w.seat.me.0 w.ways.items w.free.items w.unlinked.items
+        × (w.seat.me.1 ≡ []) × (w.seat.me.0.shape.elements ≤ vec_capacity w.free)
+        × (w.seat.me.0.shape.elements ≤ vec_capacity w.unlinked) };
+}
+
+impl Writer {
+    /// Fills a free element with a key and a value, and links it in an empty way of the key's two buckets.
+    /// `None` where no element is free, or each way of both buckets names one. Keys are not compared: a key that is linked
+    /// twice is found at either way.
+    pub fn link(&mut self, table: &MapTable, key: &[u64], value: &[u64]) -> Option<usize>
+        requires table { self.old.table ≡ table.now }
+        requires key { length key.now ≡ table.now.shape.key_words }
+        requires value { length value.now ≡ table.now.shape.value_words }
+        ensures table { self.new.table ≡ self.old.table }
+        ensures none { IsNone result ↔ ((self.old.free ≡ []) ⊎ AreFull self.old.view key.now) }
+        ensures unchanged { IfNone result (self.new ≡ self.old) }
+        ensures way { IfSome result (λ way. IsCandidate (layout_of table.now.shape) 0 key.now way) }
+        ensures within { IfSome result (λ way. way < ways_of table.now.shape) }
+        ensures empty { IfSome result (λ way. word_in way self.old.view.mine ≡ 0) }
+        ensures unlinked { self.new.unlinked ≡ self.old.unlinked }
+        ensures steps { IfSome result (λ way. (element word : ℕ) × (self.old.free ≡ self.new.free ++ element ∷ [])
+            × Names word element × Puts way word element key.now value.now self.old self.new) }
+        ensures under { IfSome result (λ way.
+            IsLinkedUnder (layout_of table.now.shape) 0 key.now way self.new.view.seen) }
+    {
+        let shape = table.shape();
+        let candidates = candidates_of(shape, key);
+        let Some(way) = empty_of_both(self.ways.as_slice(), candidates) else {
+            return None;
+        };
+        let Some(element) = self.free.pop() else {
+            return None;
+        };
+        fill_element(table, &mut self.seat, element, key, value);
+        let word = way_word(candidates.tag, element);
+        put_word(table, &mut self.seat, &mut self.ways, way, word);
+        Some(way)
+    }
+
+    /// Fills a free element with the key of a way and with a new value, and puts it in that way by one store: the key stays
+    /// linked there all the time, with the old value or with the new one. False where no element is free.
+    pub fn replace(&mut self, table: &MapTable, way: usize, key: &[u64], value: &[u64]) -> bool
+        requires table { self.old.table ≡ table.now }
+        requires key { length key.now ≡ table.now.shape.key_words }
+        requires value { length value.now ≡ table.now.shape.value_words }
+        requires way { way < ways_of table.now.shape }
+        requires linked { IsLinkedUnder (layout_of table.now.shape) 0 key.now way self.old.view.seen }
+        ensures table { self.new.table ≡ self.old.table }
+        ensures none { (result ≡ false) ↔ (self.old.free ≡ []) }
+        ensures unchanged { result ≡ false → self.new ≡ self.old }
+        ensures steps { result ≡ true → (element word : ℕ) × (self.old.free ≡ self.new.free ++ element ∷ [])
+            × Names word element × Puts way word element key.now value.now self.old self.new }
+        ensures unlinked { result ≡ true → (gone : ℕ) × Names (word_in way self.old.view.mine) gone
+            × (self.new.unlinked ≡ self.old.unlinked ++ gone ∷ []) }
+        ensures under { result ≡ true →
+            IsLinkedUnder (layout_of table.now.shape) 0 key.now way self.new.view.seen }
+
+        // It's so after each step of whomever, from this call's beginning to its end.
+        ensures stays { result ≡ true →
+            StaysIn table.now.shape key.now way self.old.view.seen self.new.view.seen }
+    {
+        let shape = table.shape();
+        let candidates = candidates_of(shape, key);
+        let gone = element_in(self.ways[way]);
+        let Some(element) = self.free.pop() else {
+            return false;
+        };
+        fill_element(table, &mut self.seat, element, key, value);
+        let word = way_word(candidates.tag, element);
+        put_word(table, &mut self.seat, &mut self.ways, way, word);
+        self.unlinked.push_reserved(gone);
+        true
+    }
+
+    /// Empties a way that names an element. Readers that found the element before may use it until they end their section.
+    pub fn unlink(&mut self, table: &MapTable, way: usize)
+        requires table { self.old.table ≡ table.now }
+        requires way { way < ways_of table.now.shape }
+        requires linked { word_in way self.old.view.mine ≢ 0 }
+        ensures table { self.new.table ≡ self.old.table }
+        ensures free { self.new.free ≡ self.old.free }
+        ensures unlinked { (element : ℕ) × Names (word_in way self.old.view.mine) element
+            × (self.new.unlinked ≡ self.old.unlinked ++ element ∷ []) }
+        ensures step { Works self.old (Put way 0 ∷ []) self.new }
+    {
+        let element = element_in(self.ways[way]);
+        put_word(table, &mut self.seat, &mut self.ways, way, 0);
+        self.unlinked.push_reserved(element);
+    }
+
+    /// Looks at the section words, up to the first reader that is inside. If none is, all unlinked elements are free from now
+    /// on. It tells whether that is so.
+    pub fn reclaim(&mut self, table: &MapTable) -> bool
+        requires table { self.old.table ≡ table.now }
+        ensures table { self.new.table ≡ self.old.table }
+        ensures free { result ≡ true → self.new.free ≡ self.old.free ++ self.old.unlinked }
+        ensures unlinked { result ≡ true → self.new.unlinked ≡ [] }
+        ensures kept { result ≡ false →
+            (self.new.free ≡ self.old.free) × (self.new.unlinked ≡ self.old.unlinked) }
+        ensures scanned { (ms : List Move) × OnlyScans 0 table.now.shape.readers ms × Works self.old ms self.new
+            × MatchBool result (AllOutside table.now.shape.readers ms) (FoundInside ms) }
+    {
+        if !all_outside(table, &mut self.seat) {
+            return false;
+        }
+        move_all(&mut self.unlinked, &mut self.free);
+        true
+    }
+
+    /// The elements that were unlinked and are not free yet. The one that was unlinked last stands last.
+    pub fn unlinked(&self) -> &[usize]
+        ensures { result.now ≡ self.now.unlinked }
+    {
+        self.unlinked.as_slice()
+    }
+
+    /// The writer's share of the table: the view stands among those of whom the rule of the table speaks
+    /// (`MapTable::ruled`).
+    pub fn share(&self) -> &Seat<u8, View>
+        ensures table { result.now.table_id ≡ self.now.table.id }
+        ensures view { result.now.me ≡ (self.now.view, []) }
+    {
+        &self.seat
+    }
+
+    /// The writer of a table on which nothing was done.
+    pub(crate) fn begin(
+        alloc: Global,
+        seat: Seat<u8, View>,
+        shape: TableShape,
+    ) -> Result<Writer, AllocError>
+        requires writer { (n : ℕ) × (seat.me ≡ (writer_after n shape, [])) }
+        requires sized { IsSized shape }
+        ensures table { IfOk result (λ w. w.table.id ≡ seat.table_id) }
+        ensures view { IfOk result (λ w. w.view ≡ seat.me.0) }
+        ensures shape { IfOk result (λ w. w.table.shape ≡ seat.me.0.shape) }
+        ensures free { IfOk result (λ w. w.free ≡ range_with_len 0 shape.elements) }
+        ensures unlinked { IfOk result (λ w. w.unlinked ≡ []) }
+    {
+        let ways = zeros(alloc, shape.buckets * BUCKET_WAYS)?;
+        let free = numbers(alloc, shape.elements)?;
+        let unlinked = Vec::with_capacity(alloc, shape.elements)?;
+        Ok(Writer {
+            seat,
+            ways,
+            free,
+            unlinked,
+        })
+    }
+}

@@ -1,0 +1,96 @@
+-- An element that a reader holds is linked, or the reader was not seen outside since it was unlinked.
+use Rattle.std.proofs.Common.{◌≡◌, ℕ, List, [], ◌∷◌, ◌++◌, sym, ap, ◌∙◌, subst, ⊎_elim, arith}
+use mathlib.Core.Logic.{dite}
+use native.Mathlib.Decide.{ℕ_discrete}
+use Rattle.map_table_laws.specs.declared.moves.Move.{Move}
+use Rattle.map_table_laws.specs.declared.moves.Move.TheVariants.{Open, Close, Learn, Load, Store, Put, Scan}
+use Rattle.map_table_laws.specs.Layout.{Layout, Names}
+use Rattle.map_table_laws.specs.History.{moves_of, inside, word_in, word_at, IsLinked, Holds, Cleared, IsSpare}
+use Rattle.map_table_laws.specs.History.{IsReader, MayDo, IsLawful}
+use Rattle.map_table_laws.proofs.Steps.{own, others, put_there}
+
+-- of what the reader did, ms, and what the writer did, ws
+pub record Held (k : Layout) (who element : ℕ) (ms ws : List Move) : Type 0 where
+  pub reader : IsReader k who
+  pub open_now : inside ms ≡ 1
+  pub kept : (IsLinked element ws → ⊥) → Cleared who element ws → ⊥
+
+-- what is linked stays so, if the way that is written named something else
+still_linked : (element w x : ℕ) (ws : List Move) → (Names (word_in w ws) element → ⊥) → IsLinked element ws → IsLinked element (Put w x ∷ ws)
+still_linked element w x ws not l = dite (ℕ_discrete w l.0)
+    (λ same. absurd (not (subst (λ z. Names (word_in z ws) element) (sym same) l.1)))
+    (λ ne. (l.0, subst (λ z. Names z element) (sym (put_there w l.0 x ws ne)) l.1))
+
+-- the writer's next move
+writes : (k : Layout) (who element : ℕ) (es : List (ℕ × Move)) (m : Move) → MayDo k es 0 m →
+    Held k who element (moves_of who es) (moves_of 0 es) → Held k who element (moves_of who es) (m ∷ moves_of 0 es)
+writes k who element es Open may h = absurd (omega arith)
+writes k who element es Close may h = absurd (omega arith)
+writes k who element es (Learn w x) may h = absurd (omega arith)
+writes k who element es (Load e p x) may h = record { reader = h.reader; open_now = h.open_now; kept = h.kept }
+writes k who element es (Store e p x) may h = record { reader = h.reader; open_now = h.open_now; kept = h.kept }
+writes k who element es (Put w x) may h = record {
+  reader = h.reader;
+  open_now = h.open_now;
+  kept = λ not c. h.kept (λ l. not (still_linked element w x (moves_of 0 es) c.0 l)) c.1;
+}
+writes k who element es (Scan r x) may h = record {
+  reader = h.reader;
+  open_now = h.open_now;
+  kept = λ not c. ⊎_elim
+      (λ (z : (r ≡ who) × (x ≡ 0)). let o = h.open_now in let e : inside (moves_of who es) ≡ 0 =
+      ap (λ w. inside (moves_of w es)) (sym z.0) ∙ (sym may.1 ∙ z.1) in absurd (omega arith))
+      (λ z. h.kept not z) c;
+}
+
+-- the reader's own next move
+reads : (k : Layout) (who element : ℕ) (es : List (ℕ × Move)) (m : Move) → MayDo k es who m →
+    (Holds element (moves_of who es) → Held k who element (moves_of who es) (moves_of 0 es)) →
+    Holds element (m ∷ moves_of who es) → Held k who element (m ∷ moves_of who es) (moves_of 0 es)
+reads k who element es Open may ih known = absurd known
+reads k who element es Close may ih known = absurd known
+reads k who element es (Learn w x) may ih known = ⊎_elim
+    (λ (t : Names x element). record {
+      reader = may.0;
+      open_now = may.1;
+      kept = λ not c. not (w, subst (λ z. Names z element) may.2 t);
+    })
+    (λ t. let h = ih t in record { reader = h.reader; open_now = h.open_now; kept = h.kept }) known
+reads k who element es (Load e p x) may ih known = let h = ih known in record { reader = h.reader; open_now = h.open_now; kept = h.kept }
+reads k who element es (Store e p x) may ih known = let h = ih known in record { reader = h.reader; open_now = h.open_now; kept = h.kept }
+reads k who element es (Put w x) may ih known = let h = ih known in record { reader = h.reader; open_now = h.open_now; kept = h.kept }
+reads k who element es (Scan r x) may ih known = let h = ih known in record { reader = h.reader; open_now = h.open_now; kept = h.kept }
+
+pub held : (k : Layout) (es : List (ℕ × Move)) → IsLawful k es → (who element : ℕ) → Holds element (moves_of who es) →
+    Held k who element (moves_of who es) (moves_of 0 es)
+held k [] lawful who element known = absurd known
+held k (e ∷ es) lawful who element known = dite (ℕ_discrete e.0 who)
+    (λ mine. let h = reads k who element es e.1 (subst (λ z. MayDo k es z e.1) mine lawful.0) (held k es lawful.1 who element)
+    (subst (Holds element) (own who e es mine) known) in
+    let r = h.reader in
+    let other = others 0 e es (λ z. absurd (omega arith)) in
+    subst (λ (y : List Move × List Move). Held k who element y.0 y.1) (λ a. (sym (own who e es mine) a, sym other a)) h)
+    (λ ne. let same = others who e es ne in
+    let h = held k es lawful.1 who element (subst (Holds element) same known) in
+    dite (ℕ_discrete e.0 0)
+    (λ writer. subst (λ (y : List Move × List Move). Held k who element y.0 y.1) (λ a. (sym same a, sym (own 0 e es writer) a))
+    (writes k who element es e.1 (subst (λ z. MayDo k es z e.1) writer lawful.0) h))
+    (λ reader. subst (λ (y : List Move × List Move). Held k who element y.0 y.1) (λ a. (sym same a, sym (others 0 e es reader) a)) h))
+
+-- nobody holds a spare element
+pub spare_unheld : (k : Layout) (es : List (ℕ × Move)) → IsLawful k es → (who element : ℕ) →
+    IsSpare k.readers element (moves_of 0 es) → Holds element (moves_of who es) → ⊥
+spare_unheld k es lawful who element spare known =
+    let h = held k es lawful who element known in
+    h.kept spare.0 (spare.1 who h.reader.0 h.reader.1)
+
+pub before : (k : Layout) (after es : List (ℕ × Move)) (e : ℕ × Move) → IsLawful k (after ++ e ∷ es) → MayDo k es e.0 e.1 × IsLawful k es
+before k [] es e h = h
+before k (x ∷ after) es e h = before k after es e h.1
+
+-- a load finds what was stored last
+pub finds_stored : (k : Layout) (es : List (ℕ × Move)) → IsLawful k es →
+    (after early : List (ℕ × Move)) (who element place x : ℕ) → es ≡ after ++ (who, Load element place x) ∷ early →
+    x ≡ word_at element place early
+finds_stored k es lawful after early who element place x e =
+    (before k after early (who, Load element place x) (subst (IsLawful k) e lawful)).0.1

@@ -1,0 +1,99 @@
+-- The small history is lawful, and without its scan it isn't.
+use Rattle.std.proofs.Common.{◌≡◌, ℕ, ◌<◌, ◌≤◌, List, [], ◌∷◌, refl, subst, inl, inr, arith, Bool, true, false}
+use Rattle.std.specs.Prelude.{◌==◌, if◌then◌else◌}
+use Rattle.map_table_laws.specs.declared.moves.Move.{Move}
+use Rattle.map_table_laws.specs.declared.moves.Move.TheVariants.{Scan}
+use Rattle.map_table_laws.specs.Layout.{Names}
+use Rattle.map_table_laws.specs.History.{moves_of, IsLinked, IsSpare, IsReader, IsLawful}
+use Rattle.map_table_laws.specs.Small.{small, naming, linked, found, replaced, left, reused, reused_too_early}
+use Rattle.map_table_laws.proofs.Steps.{nothing_named}
+use Rattle.map_table_laws.proofs.Writing.{filled_unheld}
+
+neither : (b : Bool) (v w element : ℕ) → (Names v element → ⊥) → (Names w element → ⊥) → Names (if b then v else w) element → ⊥
+neither true v w element p q h = p h
+neither false v w element p q h = q h
+
+one_not_zero : Names (naming 1) 0 → ⊥
+one_not_zero h = absurd (omega (arith, h))
+
+zero_not_one : Names (naming 0) 1 → ⊥
+zero_not_one h = absurd (omega (arith, h))
+
+reader : IsReader small 1
+reader = (omega arith, omega arith)
+
+at_first : IsSpare 1 0 []
+at_first = (λ l. nothing_named 0 l.1, λ r some within. tt)
+
+one_first : IsSpare 1 1 (moves_of 0 found)
+one_first = (λ l. neither (9 == l.0) (naming 0) 0 1 zero_not_one (nothing_named 1) l.1, λ r some within. (nothing_named 1, tt))
+
+shadowed : (b : Bool) (v w z element : ℕ) → (Names v element → ⊥) → (Names z element → ⊥) → Names (if b then v else (if b then w else z)) element → ⊥
+shadowed true v w z element p q h = p h
+shadowed false v w z element p q h = q h
+
+zero_later : IsLinked 0 (moves_of 0 replaced) → ⊥
+zero_later l = shadowed (9 == l.0) (naming 1) (naming 0) 0 0 one_not_zero (nothing_named 0) l.1
+
+only_one : (r : ℕ) → 0 < r → r ≤ 1 → 1 ≡ r
+only_one r some within = omega (arith, some, within)
+
+zero_again : (ms : List Move) → ms ≡ moves_of 0 replaced → IsSpare 1 0 (Scan 1 0 ∷ ms)
+zero_again ms is = (λ l. zero_later (subst (IsLinked 0) is (l.0, l.1)), λ r some within. inl (only_one r some within, refl))
+
+linked_lawful : IsLawful small linked
+linked_lawful = (
+  (
+    refl,
+    inr record {
+      element = 0;
+      names = refl;
+      within = omega arith;
+      spare = at_first;
+      bucket = inr refl;
+      tag = refl;
+    },
+  ),
+  (inl (refl, at_first), (inl (refl, at_first), tt)),
+)
+
+found_lawful : IsLawful small found
+found_lawful = ((inr (inl refl), refl), ((reader, refl, refl), (reader, linked_lawful)))
+
+pub replaced_lawful : IsLawful small replaced
+replaced_lawful = (
+  (
+    refl,
+    inr record {
+      element = 1;
+      names = refl;
+      within = omega arith;
+      spare = one_first;
+      bucket = inr refl;
+      tag = refl;
+    },
+  ),
+  (inl (refl, one_first), (inl (refl, one_first), found_lawful)),
+)
+
+left_lawful : IsLawful small left
+left_lawful = (reader, (inr (inl refl, omega arith), ((inr (inl refl), refl), replaced_lawful)))
+
+pub reused_lawful : IsLawful small reused
+reused_lawful = (
+  (
+    refl,
+    inr record {
+      element = 0;
+      names = refl;
+      within = omega arith;
+      spare = zero_again (moves_of 0 replaced) refl;
+      bucket = inl refl;
+      tag = refl;
+    },
+  ),
+  (inl (refl, zero_again (moves_of 0 replaced) refl), ((refl, refl), left_lawful)),
+)
+
+pub too_early : IsLawful small reused_too_early → ⊥
+too_early h = filled_unheld small replaced replaced_lawful 1 0 0 6 h.0 (inl refl)

@@ -1,0 +1,110 @@
+-- What holders did to the tables, the newest first, and which of it is lawful (Linux RCU requirements, "Grace-Period
+-- Guarantee": an element is filled anew only when each reader that might hold it was seen outside a section).
+use Rattle.std.specs.Prelude.{◌≡◌, ◌⊎◌, ℕ, zero, suc, ◌%◌, ◌^◌, ◌<◌, ◌≤◌, ◌==◌, List, [], ◌∷◌, if◌then◌else◌}
+use Rattle.map_table_laws.specs.declared.moves.Move.{Move}
+use Rattle.map_table_laws.specs.declared.moves.Move.TheVariants.{Open, Close, Learn, Load, Store, Put, Scan}
+use Rattle.map_table_laws.specs.Layout.{Layout, IsCandidate, Names, tag_in}
+
+-- what one holder did; the writer is number 0
+abbrev pub moves_of : ℕ → List (ℕ × Move) → List Move
+moves_of who [] = []
+moves_of who (e ∷ es) = if e.0 == who then (e.1 ∷ moves_of who es) else moves_of who es
+
+-- 1 inside a section, and 0 outside
+abbrev pub inside : List Move → ℕ
+inside [] = 0
+inside (Open ∷ ms) = 1
+inside (Close ∷ ms) = 0
+inside (_ ∷ ms) = inside ms
+
+-- the word of a way after the writer's moves: what he put there last, and 0 where he put none
+abbrev pub word_in : ℕ → List Move → ℕ
+word_in way [] = 0
+word_in way (Put w x ∷ ms) = if w == way then x else word_in way ms
+word_in way (_ ∷ ms) = word_in way ms
+
+-- the word at a place of an element after a move, where it was the old one before
+abbrev pub word_after : ℕ → ℕ → Move → ℕ → ℕ
+word_after element place (Store e p x) old =
+    if e == element then (if p == place then x else old) else old
+word_after element place _ old = old
+
+-- the word at a place of an element after all this: what was stored there last, by whomever, and 0 where nothing was
+abbrev pub word_at : ℕ → ℕ → List (ℕ × Move) → ℕ
+word_at element place [] = 0
+word_at element place (e ∷ es) = word_after element place e.1 (word_at element place es)
+
+-- so many words of an element, from a place on
+abbrev pub words_from : ℕ → ℕ → ℕ → List (ℕ × Move) → List ℕ
+words_from element place zero es = []
+words_from element place (suc n) es = word_at element place es ∷ words_from element (suc place) n es
+
+-- the key that an element has
+abbrev pub key_of : Layout → ℕ → List (ℕ × Move) → List ℕ
+key_of k element es = words_from element 0 (k.key_words (k.table_of element)) es
+
+-- some way names the element, after the writer's moves
+abbrev pub IsLinked : ℕ → List Move → Type 0
+IsLinked element ms = (way : ℕ) × Names (word_in way ms) element
+
+-- the element was found in a way, in the section that is open
+abbrev pub Holds : ℕ → List Move → Type 0
+Holds element [] = ⊥
+Holds element (Open ∷ ms) = ⊥
+Holds element (Close ∷ ms) = ⊥
+Holds element (Learn way x ∷ ms) = Names x element ⊎ Holds element ms
+Holds element (_ ∷ ms) = Holds element ms
+
+-- the writer saw the reader outside a section since the element was unlinked last, or it never was
+abbrev pub Cleared : ℕ → ℕ → List Move → Type 0
+Cleared reader element [] = Unit {0}
+Cleared reader element (Put way x ∷ ms) =
+    (Names (word_in way ms) element → ⊥) × Cleared reader element ms
+Cleared reader element (Scan r found ∷ ms) =
+    ((r ≡ reader) × (found ≡ 0)) ⊎ Cleared reader element ms
+Cleared reader element (_ ∷ ms) = Cleared reader element ms
+
+-- no way names the element, and no reader can still hold it, by what the writer did
+abbrev pub IsSpare : ℕ → ℕ → List Move → Type 0
+IsSpare readers element ms =
+    (IsLinked element ms → ⊥) × ((r : ℕ) → 0 < r → r ≤ readers → Cleared r element ms)
+
+-- how often the element was linked
+abbrev pub generation : ℕ → List Move → ℕ
+generation element [] = 0
+generation element (Put way x ∷ ms) = if x % 2 ^ 32 == suc element then suc (generation element ms) else generation element ms
+generation element (_ ∷ ms) = generation element ms
+
+abbrev pub IsReader : Layout → ℕ → Type 0
+IsReader k who = (0 < who) × (who ≤ k.readers)
+
+-- The word names a spare element, which has a key that may be linked in this way, with the tag of that key.
+pub record MayLink (k : Layout) (es : List (ℕ × Move)) (way word : ℕ) : Type 0 where
+  pub element : ℕ
+  pub names : Names word element
+  pub within : element < k.elements
+  pub spare : IsSpare k.readers element (moves_of 0 es)
+  pub bucket : IsCandidate k (k.table_of element) (key_of k element es) way
+  pub tag : tag_in word ≡ k.tag (k.table_of element) (key_of k element es)
+
+-- What a holder may do after all this. A reader opens and closes its sections. Inside one it learns the words that ways
+-- have. It loads the words of elements that it holds, and stores those behind their keys. A load finds the word that was
+-- stored last. The writer loads any word, and stores those of spare elements. He empties a way, or puts a spare element
+-- there, also in place of another.
+abbrev pub MayDo : Layout → List (ℕ × Move) → ℕ → Move → Type 0
+MayDo k es who Open = IsReader k who
+MayDo k es who Close = IsReader k who
+MayDo k es who (Learn way x) =
+    IsReader k who × (inside (moves_of who es) ≡ 1) × (x ≡ word_in way (moves_of 0 es))
+MayDo k es who (Load element place x) =
+    ((who ≡ 0) ⊎ Holds element (moves_of who es)) × (x ≡ word_at element place es)
+MayDo k es who (Store element place x) =
+    ((who ≡ 0) × IsSpare k.readers element (moves_of 0 es))
+    ⊎ (Holds element (moves_of who es) × (k.key_words (k.table_of element) ≤ place))
+MayDo k es who (Put way x) = (who ≡ 0) × ((x ≡ 0) ⊎ MayLink k es way x)
+MayDo k es who (Scan r x) = (who ≡ 0) × (x ≡ inside (moves_of r es))
+
+-- each step was one that its holder might do then
+abbrev pub IsLawful : Layout → List (ℕ × Move) → Type 0
+IsLawful k [] = Unit {0}
+IsLawful k (e ∷ es) = MayDo k es e.0 e.1 × IsLawful k es

@@ -1,0 +1,6 @@
+pub mod Found
+pub mod History
+pub mod Layout
+pub mod Lookups
+pub mod Scanned
+pub mod Small

@@ -1,0 +1,26 @@
+-- What a scan of the section words tells.
+use Rattle.std.specs.Prelude.{◌≡◌, ◌⊎◌, ℕ, ◌<◌, ◌≤◌, List, [], ◌∷◌}
+use Rattle.map_table_laws.specs.declared.moves.Move.{Move}
+use Rattle.map_table_laws.specs.declared.moves.Move.TheVariants.{Learn, Scan}
+
+-- each move is a scan of a reader behind the first number and up to the second
+abbrev pub OnlyScans : ℕ → ℕ → List Move → Type 0
+OnlyScans low high [] = Unit {0}
+OnlyScans low high (Scan r x ∷ ms) = (low < r) × (r ≤ high) × OnlyScans low high ms
+OnlyScans low high (_ ∷ ms) = ⊥
+
+-- the reader was found outside a section
+abbrev pub FoundOutside : ℕ → List Move → Type 0
+FoundOutside reader [] = ⊥
+FoundOutside reader (Scan r x ∷ ms) = ((r ≡ reader) × (x ≡ 0)) ⊎ FoundOutside reader ms
+FoundOutside reader (_ ∷ ms) = FoundOutside reader ms
+
+-- each reader was
+abbrev pub AllOutside : ℕ → List Move → Type 0
+AllOutside readers ms = (r : ℕ) → 0 < r → r ≤ readers → FoundOutside r ms
+
+-- the way was learnt
+abbrev pub LookedAt : ℕ → List Move → Type 0
+LookedAt way [] = ⊥
+LookedAt way (Learn w x ∷ ms) = (w ≡ way) ⊎ LookedAt way ms
+LookedAt way (_ ∷ ms) = LookedAt way ms

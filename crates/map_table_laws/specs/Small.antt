@@ -1,0 +1,46 @@
+-- A small history, worked by hand: one reader, one table, keys of one word, values of one. A key is linked, found and
+-- held while its value is replaced; its first element is filled anew after the reader was seen outside.
+use Rattle.std.specs.Prelude.{ℕ, ◌+◌, ◌*◌, ◌^◌, List, [], ◌∷◌}
+use Rattle.map_table_laws.specs.declared.moves.Move.{Move}
+use Rattle.map_table_laws.specs.declared.moves.Move.TheVariants.{Open, Close, Learn, Load, Store, Put, Scan}
+use Rattle.map_table_laws.specs.Layout.{Layout}
+
+-- each key may be linked in the buckets 0 and 1, with the tag 7
+abbrev pub small : Layout
+small = record {
+  readers = 1;
+  elements = 2;
+  table_of = λ element. 0;
+  key_words = λ table. 1;
+  first = λ table key. 0;
+  second = λ table key. 1;
+  tag = λ table key. 7;
+}
+
+-- the word that names an element
+abbrev pub naming : ℕ → ℕ
+naming element = 7 * 2 ^ 32 + (element + 1)
+
+-- the writer fills the element 0 with the key 5 and the value 50, and links it in the way 9
+abbrev pub linked : List (ℕ × Move)
+linked = (0, Put 9 (naming 0)) ∷ (0, Store 0 1 50) ∷ (0, Store 0 0 5) ∷ []
+
+-- the reader finds it
+abbrev pub found : List (ℕ × Move)
+found = (1, Load 0 0 5) ∷ (1, Learn 9 (naming 0)) ∷ (1, Open) ∷ linked
+
+-- the writer replaces the value: the element 1 has the same key, and the value 51
+abbrev pub replaced : List (ℕ × Move)
+replaced = (0, Put 9 (naming 1)) ∷ (0, Store 1 1 51) ∷ (0, Store 1 0 5) ∷ found
+
+-- the reader, which holds the element 0, loads its value, stores another there, and ends its section
+abbrev pub left : List (ℕ × Move)
+left = (1, Close) ∷ (1, Store 0 1 60) ∷ (1, Load 0 1 50) ∷ replaced
+
+-- the writer sees it outside, and fills the element 0 anew
+abbrev pub reused : List (ℕ × Move)
+reused = (0, Put 1 (naming 0)) ∷ (0, Store 0 0 6) ∷ (0, Scan 1 0) ∷ left
+
+-- as it would be without the scan, while the reader is inside
+abbrev pub reused_too_early : List (ℕ × Move)
+reused_too_early = (0, Store 0 0 6) ∷ replaced

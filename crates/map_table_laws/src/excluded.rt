@@ -1,0 +1,54 @@
+//! What the definitions exclude, and a history that they don't.
+ghost use Rattle.std.specs.Prelude.{◌≡◌, ℕ, ◌<◌, ◌≤◌, List, ◌∷◌, ◌++◌, None};
+ghost use Rattle.map_table_laws.specs.declared.moves.Move.{Move};
+ghost use Rattle.map_table_laws.specs.declared.moves.Move.TheVariants.{Store, Put};
+ghost use Rattle.map_table_laws.specs.Layout.{Layout, IsCandidate, Names};
+ghost use Rattle.map_table_laws.specs.History.{moves_of, word_in, Holds, IsSpare, MayDo, IsLawful};
+ghost use Rattle.map_table_laws.specs.Lookups.{AnswersLookup};
+ghost use Rattle.map_table_laws.specs.Found.{StaysFound};
+ghost use Rattle.map_table_laws.specs.Scanned.{FoundOutside, LookedAt};
+ghost use Rattle.map_table_laws.specs.Small.{small, reused, reused_too_early};
+
+/// A small history that was worked by hand is lawful: a key is linked, found, replaced while a reader holds its element,
+/// and the element filled anew after the reader was seen outside.
+pub fn small_history_is_lawful()
+    ensures { IsLawful small reused }
+{}
+
+/// Excluded: the same element filled anew while the reader is still inside.
+pub fn small_history_without_its_scan_is_not()
+    ensures { IsLawful small reused_too_early → ⊥ }
+{}
+
+/// Excluded: null where some way of one of the two buckets was not looked at.
+pub fn null_after_one_bucket_is_excluded()
+    ensures { (k : Layout) (table : ℕ) (key : List ℕ) (ms : List Move) (way : ℕ) →
+        IsCandidate k table key way → (LookedAt way ms → ⊥) → AnswersLookup k table key ms None → ⊥ }
+{}
+
+/// Excluded: an element that is filled while a reader holds it.
+pub fn filling_a_held_element_is_excluded()
+    ensures { (k : Layout) (es : List (ℕ × Move)) → IsLawful k es → (who element place word : ℕ) →
+        Holds element (moves_of who es) → MayDo k es 0 (Store element place word) → ⊥ }
+{}
+
+/// Excluded: an element that is put in a way while a reader holds it.
+pub fn linking_a_held_element_is_excluded()
+    ensures { (k : Layout) (es : List (ℕ × Move)) → IsLawful k es → (who element way word : ℕ) →
+        Holds element (moves_of who es) → Names word element → MayDo k es 0 (Put way word) → ⊥ }
+{}
+
+/// Excluded: a replacement that empties the way first.
+pub fn unlinking_first_is_excluded()
+    ensures { (k : Layout) (table : ℕ) (key : List ℕ) (way : ℕ) (after before early : List (ℕ × Move)) →
+        StaysFound k table key way (after ++ (0, Put way 0) ∷ before) early → ⊥ }
+{}
+
+/// Excluded: a scan that skips a seat. An element whose way was given another word is not spare before each reader was
+/// found outside since.
+pub fn skipping_a_reader_is_excluded()
+    ensures { (readers reader element way word : ℕ) (since before : List Move) →
+        0 < reader → reader ≤ readers → Names (word_in way before) element →
+        (FoundOutside reader since → ⊥) →
+        IsSpare readers element (since ++ Put way word ∷ before) → ⊥ }
+{}

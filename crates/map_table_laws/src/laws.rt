@@ -1,0 +1,106 @@
+//! What every lawful history keeps, and what lookups over it answer.
+ghost use Rattle.std.specs.Prelude.{◌≡◌, ℕ, ◌<◌, List, ◌∷◌, ◌++◌, length, Some, None};
+ghost use Rattle.map_table_laws.specs.declared.moves.Move.{Move};
+ghost use Rattle.map_table_laws.specs.declared.moves.Move.TheVariants.{Load};
+ghost use Rattle.map_table_laws.specs.Layout.{Layout, IsCandidate, IsApart, Names, tag_in};
+ghost use Rattle.map_table_laws.specs.History.{moves_of, word_in, word_at, key_of, generation, IsLinked, Holds, IsSpare, IsLawful};
+ghost use Rattle.map_table_laws.specs.Lookups.{OnlySearches, AnswersLookup};
+ghost use Rattle.map_table_laws.specs.Found.{IsLinkedUnder, IsLinkedAs, Sometime, Throughout, StaysFound, StaysInside, OnlyReplaces};
+ghost use Rattle.map_table_laws.specs.Scanned.{OnlyScans, AllOutside};
+
+/// In every lawful history a way names only an element that there is and whose key may be linked in that way's bucket, with the key's tag.
+pub fn ways_name_keys_of_their_bucket()
+    ensures { (k : Layout) (es : List (ℕ × Move)) → IsLawful k es → (way element : ℕ) →
+        Names (word_in way (moves_of 0 es)) element →
+        (element < k.elements) × IsCandidate k (k.table_of element) (key_of k element es) way
+        × (tag_in (word_in way (moves_of 0 es)) ≡ k.tag (k.table_of element) (key_of k element es)) }
+{}
+
+/// In every lawful history one way at most names an element.
+pub fn elements_stand_in_one_way()
+    ensures { (k : Layout) (es : List (ℕ × Move)) → IsLawful k es → (one other element : ℕ) →
+        Names (word_in one (moves_of 0 es)) element → Names (word_in other (moves_of 0 es)) element →
+        one ≡ other }
+{}
+
+/// In every lawful history nobody holds a spare element, so that what the writer stores in it no reader can reach or
+/// change.
+pub fn spare_elements_are_unheld()
+    ensures { (k : Layout) (es : List (ℕ × Move)) → IsLawful k es → (who element : ℕ) →
+        IsSpare k.readers element (moves_of 0 es) → Holds element (moves_of who es) → ⊥ }
+{}
+
+/// In every lawful history an element that a reader holds keeps its generation and its key while the section is open,
+/// whatever the writer does meanwhile.
+pub fn held_elements_stay()
+    ensures { (k : Layout) (late early : List (ℕ × Move)) → IsLawful k (late ++ early) →
+        (who element : ℕ) → StaysInside (moves_of who late) → Holds element (moves_of who early) →
+        (generation element (moves_of 0 (late ++ early)) ≡ generation element (moves_of 0 early))
+        × (key_of k element (late ++ early) ≡ key_of k element early) }
+{}
+
+/// In every lawful history a load finds the word that was stored at the place last, by whomever, and 0 where none was.
+pub fn loads_find_what_was_stored()
+    ensures { (k : Layout) (es : List (ℕ × Move)) → IsLawful k es →
+        (after before : List (ℕ × Move)) (who element place x : ℕ) →
+        es ≡ after ++ (who, Load element place x) ∷ before → x ≡ word_at element place before }
+{}
+
+/// Null refutes every element of the table: in every lawful history, where a stretch of a holder's list answers null,
+/// each way of all buckets, at some moment of the stretch, named no element with the key. Only the ways of the key's two
+/// buckets were looked at.
+pub fn null_refutes_every_way()
+    ensures { (k : Layout) (late early : List (ℕ × Move)) → IsLawful k (late ++ early) →
+        (table : ℕ) (key : List ℕ) (who : ℕ) → OnlySearches k table (moves_of who late) →
+        AnswersLookup k table key (moves_of who late) None →
+        (way : ℕ) → Sometime (λ es. IsLinkedUnder k table key way es → ⊥) late early }
+{}
+
+/// So in every lawful history no element of the table stays linked under the key through a lookup that answers null.
+pub fn null_refutes_every_element()
+    ensures { (k : Layout) (late early : List (ℕ × Move)) → IsLawful k (late ++ early) →
+        (table : ℕ) (key : List ℕ) (who element : ℕ) → OnlySearches k table (moves_of who late) →
+        AnswersLookup k table key (moves_of who late) None →
+        Throughout (IsLinkedAs k table key element) late early → ⊥ }
+{}
+
+/// In every lawful history a key that stays linked in one way, from before a lookup's first move until after its last,
+/// also while its value is replaced, is not answered by null.
+pub fn keys_that_stay_are_found()
+    ensures { (k : Layout) (late early : List (ℕ × Move)) → IsLawful k (late ++ early) →
+        (table : ℕ) (key : List ℕ) (who way : ℕ) → OnlySearches k table (moves_of who late) →
+        AnswersLookup k table key (moves_of who late) None →
+        StaysFound k table key way late early → ⊥ }
+{}
+
+/// In every lawful history a key stays linked in its way while the writer leaves the way, or puts another element with
+/// the key there.
+pub fn replaced_keys_stay()
+    ensures { (k : Layout) (late early : List (ℕ × Move)) → IsLawful k (late ++ early) →
+        (table : ℕ) (key : List ℕ) (way : ℕ) → IsLinkedUnder k table key way early →
+        OnlyReplaces k table key way late early → StaysFound k table key way late early }
+{}
+
+/// In every lawful history an element that a lookup answers was linked under the key at some moment of it.
+pub fn hits_were_linked()
+    ensures { (k : Layout) (table : ℕ) → IsApart k table →
+        (late early : List (ℕ × Move)) → IsLawful k (late ++ early) → (key : List ℕ) → length key ≡ k.key_words table →
+        (who element : ℕ) → 0 < who → OnlySearches k table (moves_of who late) →
+        AnswersLookup k table key (moves_of who late) (Some element) →
+        Sometime (IsLinkedAs k table key element) late early }
+{}
+
+/// The reader that was answered holds the element.
+pub fn hits_are_held()
+    ensures { (k : Layout) (late early : List (ℕ × Move)) (table : ℕ) (key : List ℕ) (who element : ℕ) →
+        OnlySearches k table (moves_of who late) →
+        AnswersLookup k table key (moves_of who late) (Some element) →
+        Holds element (moves_of who (late ++ early)) }
+{}
+
+/// One scan that finds each reader outside a section frees all elements that were unlinked before it.
+pub fn one_scan_frees_all()
+    ensures { (readers : ℕ) (scan before : List Move) → OnlyScans 0 readers scan →
+        AllOutside readers scan → (element : ℕ) →
+        (IsLinked element before → ⊥) → IsSpare readers element (scan ++ before) }
+{}

@@ -1,0 +1,5 @@
+//! Tests of a table of any size that readers and one writer share with no lock.
+#![tactic(auto)]
+
+#[cfg(test)]
+mod keys;
