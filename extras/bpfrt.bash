@@ -5,16 +5,18 @@ _bpfrt() {
         mapfile -t COMPREPLY < <(compgen -W "check disasm asm script pool run trace filter help --help --version -h -V" -- "$word")
     elif [[ ${COMP_WORDS[1]} == help ]]; then
         mapfile -t COMPREPLY < <(compgen -W "check disasm asm script pool run trace filter" -- "$word")
-    elif [[ ${COMP_WORDS[1]} == @(check|pool) && $word == -* ]]; then
+    elif [[ ${COMP_WORDS[1]} == check && $word == -* ]]; then
+        mapfile -t COMPREPLY < <(compgen -W "--asm --log --explain --json" -- "$word")
+    elif [[ ${COMP_WORDS[1]} == pool && $word == -* ]]; then
         mapfile -t COMPREPLY < <(compgen -W "--explain" -- "$word")
     elif [[ ${COMP_WORDS[1]} == asm && $word == -* ]]; then
         mapfile -t COMPREPLY < <(compgen -W "--file --plain --explain" -- "$word")
     elif [[ ${COMP_WORDS[1]} == filter && $word == -?* ]]; then
         mapfile -t COMPREPLY < <(compgen -W "--seccomp" -- "$word")
     elif [[ ${COMP_WORDS[1]} == @(run|trace) && $word == -* ]]; then
-        mapfile -t COMPREPLY < <(compgen -W "--map --dump --explain" -- "$word")
+        mapfile -t COMPREPLY < <(compgen -W "--map --dump --explain --json" -- "$word")
     elif [[ ${COMP_WORDS[1]} == @(check|disasm|asm|filter) || ${COMP_WORDS[1]} == pool && COMP_CWORD -ge 3 ||
-        ${COMP_WORDS[1]} == @(run|trace) && ($COMP_CWORD -eq 2 || ${COMP_WORDS[COMP_CWORD - 1]} == @(--dump|--explain)) ]]; then
+        ${COMP_WORDS[1]} == @(run|trace) && ($COMP_CWORD -eq 2 || ${COMP_WORDS[COMP_CWORD - 1]} == @(--dump|--explain|--json)) ]]; then
         mapfile -t COMPREPLY < <(compgen -f -- "$word")
     fi
 }

@@ -8,3 +8,4 @@ pub mod MnemonicLaws
 pub mod NameLaws
 pub mod TextLaws
 pub mod TokenLaws
+pub mod PlaceLaws

@@ -1,12 +1,12 @@
 -- Where labels lead, in a program whose lines a plain text has. Lines are counted from 0.
-use Rattle.std.specs.Prelude.{◌≡◌, ℕ, not, Bool, List, [], ◌∷◌, ◌++◌, codes, take, count_by, Some, slice_get}
+use Rattle.std.specs.Prelude.{◌≡◌, ℕ, not, Bool, true, List, [], ◌∷◌, ◌++◌, codes, take, count_by, sum_by, Some, slice_get}
 use Rattle.bpf_model.specs.declared.insn.Insn.{Insn}
 use Rattle.bpf_model.specs.Step.{insn_at}
 use Rattle.bpf_model.specs.Places.{slot_total}
 use Rattle.bpf_model.specs.Graph.{JumpsTo}
 use Rattle.disasm.specs.Text.{line_of}
 use Rattle.asm_source.specs.Tokens.{lines_of, tokens_of}
-use Rattle.asm_source.specs.Names.{instruction_in}
+use Rattle.asm_source.specs.Names.{instruction_in, slots_of}
 use Rattle.asm_source.specs.Plain.{role_of, is_end}
 use Rattle.asm_source.specs.declared.site.Role.TheVariants as role
 
@@ -50,3 +50,14 @@ pub record StandsAtLine (source text : List ℕ) (program : List Insn) (n : ℕ)
   pub instruction : Insn
   pub line_is : slice_get (lines_of text) n ≡ Some (line_of instruction)
   pub is_at : insn_at program (place_of source program n) ≡ Some instruction
+
+-- how many slots the instructions in the lines above line n take
+abbrev pub slots_above : List ℕ → ℕ → ℕ
+slots_above source n = sum_by (λ line. slots_of (instruction_in (tokens_of line))) (take n (lines_of source))
+
+-- the instruction of line n begins at this slot
+pub record BeginsAt (source : List ℕ) (n : ℕ) (slot : ℕ) : Type 0 where
+  pub line : List ℕ
+  pub line_is : slice_get (lines_of source) n ≡ Some line
+  pub instruction : has_instruction line ≡ true
+  pub slot_is : slots_above source n ≡ slot

@@ -6,3 +6,4 @@ pub mod Plain
 pub mod Maps
 pub mod Fixed
 pub mod Labels
+pub mod LineEnds

@@ -9,6 +9,7 @@ use Rattle.disasm.specs.Text.{line_of}
 use Rattle.asm.specs.declared.fault.AsmFault.{AsmFault}
 use Rattle.asm.specs.declared.fault.AsmFault.TheVariants as asm_faults
 use Rattle.asm.specs.Faults.{statements_in, IsAsmFault}
+use Rattle.asm_source.specs.LineEnds.{with_feeds}
 use Rattle.asm_source.specs.Maps.{index_in, maps_in}
 use Rattle.asm_source.specs.Plain.{plain}
 use Rattle.asm_source.specs.declared.fault.SourceFault.{SourceFault}
@@ -75,10 +76,10 @@ written_as form.Bytes lines code file = code
 written_as form.File lines code file = file
 written_as form.Plain lines code file = lines
 
--- what `asm` adds to the output
+-- What `asm` adds to the output. Lines may end by a carriage return and a line feed.
 abbrev pub WritesCode : AsmForm → Option (List ℕ) → Option (List ℕ) → List ℕ → Type 0
 WritesCode form old new bytes =
-    (lines code file : List ℕ) × IsAssembled bytes lines code file
+    (lines code file : List ℕ) × IsAssembled (with_feeds bytes) lines code file
     × Appends old new (written_as form lines code file)
 
 -- the instructions of the text have no plain text, for this fault
@@ -122,4 +123,4 @@ IsTextFault bytes Memory = Unit {0}
 
 -- the bytes are refused, and not for want of memory
 abbrev pub IsRefusedByAsm : List ℕ → Type 0
-IsRefusedByAsm bytes = (fault : TextFault) × (fault ≢ Memory) × IsTextFault bytes fault
+IsRefusedByAsm bytes = (fault : TextFault) × (fault ≢ Memory) × IsTextFault (with_feeds bytes) fault

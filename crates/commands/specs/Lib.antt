@@ -1,6 +1,8 @@
 pub mod Assembled
+pub mod Checking
 pub mod Commands
 pub mod Filters
+pub mod Json
 pub mod Outputs
 pub mod Pools
 pub mod Runs

@@ -29,7 +29,8 @@ use Rattle.run_once.specs.declared.once.RunEnd.TheVariants.{Exited, NotDone}
 use Rattle.run_once.specs.Once.{ComesTo}
 use Rattle.commands.specs.declared.request.MapElement.{MapElement}
 use Rattle.commands.specs.declared.request.SingleRun.{SingleRun}
-use Rattle.commands.specs.Outputs.{IsPlainVerdict}
+use Rattle.commands.specs.Json.{ended_json, traced_json}
+use Rattle.commands.specs.Outputs.{IsPlainVerdict, TellsVerdict}
 
 -- the number of the map that has the name
 abbrev pub map_named : RegistryView → List ℕ → Option ℕ
@@ -91,22 +92,31 @@ abbrev pub IsDumped : Bool → List MapView → List ℕ → Type 0
 IsDumped true maps text = AreDumps maps text
 IsDumped false maps text = text ≡ []
 
+-- the same with what is written of the maps, as lines or as a JSON object
+abbrev pub ended_text : Bool → ℕ → ℕ → List ℕ → List ℕ
+ended_text false value n dumped = ended_line value n ++ dumped
+ended_text true value n dumped = ended_json value n dumped
+
 -- the text that tells the run: how it has exited, and what is in its maps
 abbrev pub IsRunText : SingleRun → List ℕ → List ℕ → Type 0
 IsRunText single bytes text =
     (e : Ended) × (last : WorldView) × (dumped : List ℕ) × HasEnded bytes single e last
-    × IsDumped single.dump last.maps dumped × (text ≡ ended_line e.value e.steps ++ dumped)
+    × IsDumped single.dump last.maps dumped × (text ≡ ended_text single.json e.value e.steps dumped)
 
 -- what `run` adds to the output
 abbrev pub WritesRun : SingleRun → Option (List ℕ) → Option (List ℕ) → List ℕ → Type 0
 WritesRun single old new bytes =
     (text : List ℕ) × IsRunText single bytes text × Appends old new text
 
--- The text that tells a run with its steps: some lines, and behind them what tells the run alone. Nothing is said of the
--- lines.
+-- lines, and what tells a run behind them, or as a JSON object
+abbrev pub traced_text : Bool → List ℕ → List ℕ → List ℕ
+traced_text false steps end = steps ++ end
+traced_text true steps end = traced_json steps end
+
+-- The text that tells a run with its steps: some lines, and what tells the run alone. Nothing is said of the lines.
 abbrev pub IsTraceText : SingleRun → List ℕ → List ℕ → Type 0
 IsTraceText single bytes text =
-    (steps end : List ℕ) × IsRunText single bytes end × (text ≡ steps ++ end)
+    (steps end : List ℕ) × IsRunText single bytes end × (text ≡ traced_text single.json steps end)
 
 -- what `trace` adds to the output
 abbrev pub WritesTrace : SingleRun → Option (List ℕ) → Option (List ℕ) → List ℕ → Type 0
@@ -148,6 +158,7 @@ pub record IsRunVerdict (single : SingleRun) (bytes : List ℕ) (v : Verdict) : 
 abbrev pub IsRunRefusal : SingleRun → List ℕ → Verdict → Type 0
 IsRunRefusal single bytes v = IsCheckedRefusal bytes v ⊎ IsRunVerdict single bytes v
 
--- `run` refuses the file, the context or an element, by a verdict that is not want of memory.
-abbrev pub IsRefusedByRun : SingleRun → List ℕ → Type 0
-IsRefusedByRun single bytes = (v : Verdict) × (v.code ≢ memory_number) × IsRunRefusal single bytes v
+-- `run` refuses the file, the context or an element, by a verdict that is not want of memory, and the output has it.
+abbrev pub RefusesRun : SingleRun → Option (List ℕ) → Option (List ℕ) → List ℕ → Type 0
+RefusesRun single old new bytes =
+    (v : Verdict) × (v.code ≢ memory_number) × IsRunRefusal single bytes v × TellsVerdict single.json v old new

@@ -12,7 +12,7 @@ use crate::request::AsmForm;
 use crate::streams::{unread, write_text, written};
 use crate::wrong_text::explain_text;
 use asm::{AsmFault, assemble};
-use asm_source::{SourceFault, maps_of, plain_of};
+use asm_source::{SourceFault, fed_text, maps_of, plain_of};
 use insn_codec::{Program, encode};
 use program_files::{LoadFault, MEMORY, read_text};
 use std::alloc::Global;
@@ -36,10 +36,10 @@ pub enum TextFault {
 
 /// The plain text of the instructions, the bytes of their program, and a program file of these.
 #[derive(Drop)]
-struct Assembled {
-    lines: Vec<u8>,
-    code: Vec<u8>,
-    file: Vec<u8>,
+pub struct Assembled {
+    pub lines: Vec<u8>,
+    pub code: Vec<u8>,
+    pub file: Vec<u8>,
 }
 
 impl Assembled {
@@ -65,7 +65,7 @@ pub fn plain_text(alloc: Global, parts: &Split<'_>) -> Result<Vec<u8>, SourceFau
 }
 
 /// How many lines stand above the instructions of a text.
-fn lines_above(parts: &Split<'_>) -> usize {
+pub fn lines_above(parts: &Split<'_>) -> usize {
     parts
         .head
         .map_or(0, |head| lines_in(head.as_bytes()).saturating_add(2))
@@ -84,7 +84,7 @@ fn program_of(alloc: Global, lines: &[u8]) -> Result<Program, AsmFault>
 }
 
 /// Assembles a text: its plain text, its program's bytes, and the program file that the text's head makes of them.
-fn make_code(alloc: Global, bytes: &[u8]) -> Result<Assembled, TextFault>
+pub fn make_code(alloc: Global, bytes: &[u8]) -> Result<Assembled, TextFault>
     ensures made { IfOk result (λ a. IsAssembled bytes.now a.lines.items a.code.items a.file.items) }
     ensures fault { IfErr result (IsTextFault bytes.now) }
 {
@@ -163,7 +163,13 @@ fn flawed<E: Write>(err: &mut E, why: &TextFault) -> u8
 }
 
 /// Tells why bytes are no text of a program, in words too where it is asked for, and answers the status.
-fn told<E: Write>(alloc: Global, bytes: &[u8], why: &TextFault, in_words: bool, err: &mut E) -> u8
+pub fn told<E: Write>(
+    alloc: Global,
+    bytes: &[u8],
+    why: &TextFault,
+    in_words: bool,
+    err: &mut E,
+) -> u8
     ensures status { (result ≡ 1) ⊎ (result ≡ 3) }
     ensures refused { result ≡ 1 → why.now ≢ TextFault.Memory }
 {
@@ -203,12 +209,14 @@ pub fn run_asm<R: Read, W: Write, E: Write>(
         Ok(bytes) => bytes,
         Err(error) => return unread(err, &error),
     };
-    match make_code(alloc, &bytes) {
+    let Ok(text) = fed_text(alloc, &bytes) else {
+        return fault(err, MEMORY);
+    };
+    match make_code(alloc, &text) {
         Ok(made) => {
-            warn_of_head(&bytes, form, err);
-            let text = made.text(form);
-            written(err, write_text(out, text))
+            warn_of_head(&text, form, err);
+            written(err, write_text(out, made.text(form)))
         }
-        Err(why) => told(alloc, &bytes, &why, in_words, err),
+        Err(why) => told(alloc, &text, &why, in_words, err),
     }
 }

@@ -1,19 +1,20 @@
 //! Running a command.
 ghost use Rattle.std.specs.Prelude.{◌≡◌, ◌⊎◌, IfSome, OnOk, codes};
 ghost use Rattle.std.specs.Io.KnownBytes.{Appends};
-ghost use Rattle.commands.specs.Outputs.{IsRefusedByDecode, IsRefusedByCheck, accepted_line, WritesAccepted, WritesText};
-ghost use Rattle.commands.specs.Commands.{ReadsFile, Refuses, Writes};
+ghost use Rattle.commands.specs.Outputs.{IsRefusedByDecode, WritesText};
+ghost use Rattle.commands.specs.Commands.{ReadsFileForText, Refuses, Writes};
 
 use crate::assembly::run_asm;
+use crate::check::run_check;
 use crate::filter::run_filter;
 use crate::pool::{PoolSize, run_pool};
-use crate::report::{refused, told};
+use crate::report::refused;
 use crate::request::{BpfrtCommand, VERSION};
 use crate::script::run_lines;
 use crate::single::run_single;
 use crate::streams::{unread, write_text, written};
 use crate::trace::run_trace;
-use program_files::{Accepted, check, read_file, text_of};
+use program_files::{read_file, text_of};
 use std::alloc::Global;
 use std::io;
 use std::io::{Read, Write};
@@ -25,42 +26,6 @@ fn write_version<W: Write>(out: &mut W) -> io::Result<()>
 {
     writeln!(out, "bpfrt {VERSION}")?;
     out.flush()
-}
-
-fn write_accepted<W: Write>(out: &mut W, accepted: &Accepted) -> io::Result<()>
-    ensures { OnOk result (Appends (W.contents out.old) (W.contents out.new)
-        (accepted_line accepted.now.instructions accepted.now.slots)) }
-{
-    writeln!(
-        out,
-        "accepted {} instructions {} slots",
-        accepted.instructions, accepted.slots
-    )?;
-    out.flush()
-}
-
-/// Checks the program that the input, a program file, says.
-fn run_check<R: Read, W: Write, E: Write>(
-    alloc: Global,
-    in_words: bool,
-    input: &mut R,
-    out: &mut W,
-    err: &mut E,
-) -> u8
-    ensures status { (result ≡ 0) ⊎ (result ≡ 1) ⊎ (result ≡ 3) }
-    ensures accepted { result ≡ 0 → IfSome (R.remaining input.old)
-        (WritesAccepted (W.contents out.old) (W.contents out.new)) }
-    ensures refused { result ≡ 1 → IfSome (R.remaining input.old) IsRefusedByCheck }
-    ensures silent { result ≡ 1 → out.new ≡ out.old }
-{
-    let file = match read_file(alloc, input) {
-        Ok(file) => file,
-        Err(error) => return unread(err, &error),
-    };
-    match check(alloc, &file) {
-        Ok(accepted) => written(err, write_accepted(out, &accepted)),
-        Err(verdict) => told(alloc, &file, verdict, in_words, err),
-    }
 }
 
 /// Writes the text of the program that the input, a program file, says.
@@ -88,7 +53,7 @@ fn run_disasm<R: Read, W: Write, E: Write>(
 
 /// Runs a command on its input, its file's bytes or a script, and answers the exit status: 0 fine, 1 refused or a line that is
 /// wrong, 3 a fault of memory (13), of reading (96) or of writing (97). A refusal or a fault is one line on `err`. After a refusal
-/// of a file nothing was written on `out`, and after line L of a script is wrong (95) the answers of the lines before; after a
+/// of a file nothing was written on `out`, or a JSON object where that was asked for, and after line L of a script is wrong (95) the answers of the lines before; after a
 /// fault of writing, of a script or of a pool a part may have been. Which fault it was, and that there was one, no clause says:
 /// status 3 tells nothing. That a pool returns is not claimed: it waits for a lock.
 pub fn run<H: Threads + Wait + Sync, R: Read, W: Write, E: Write>(
@@ -104,10 +69,10 @@ pub fn run<H: Threads + Wait + Sync, R: Read, W: Write, E: Write>(
         (Writes command.now (W.contents out.old) (W.contents out.new)) }
     ensures refused { result ≡ 1 → IfSome (R.remaining input.old)
         (Refuses command.now (W.contents out.old) (W.contents out.new)) }
-    ensures silent { result ≡ 1 → ReadsFile command.now → out.new ≡ out.old }
+    ensures silent { result ≡ 1 → ReadsFileForText command.now → out.new ≡ out.old }
 {
     match command {
-        BpfrtCommand::Check { explain, .. } => run_check(alloc, *explain, input, out, err),
+        BpfrtCommand::Check { how, .. } => run_check(alloc, how, input, out, err),
         BpfrtCommand::Disasm { .. } => run_disasm(alloc, input, out, err),
         BpfrtCommand::Asm { form, explain, .. } => run_asm(alloc, *form, *explain, input, out, err),
         BpfrtCommand::Script => run_lines(alloc, input, out, err),

@@ -16,6 +16,15 @@ Prints `accepted I instructions S slots`. With --explain, a refusal is followed 
 and meaning; where it is of an instruction, by that one's text, what is known of each register that it reads,
 and how many locks are open.
 
+With --asm, FILE is a text of instructions as `bpfrt asm --file` reads it. A refusal is followed by `line L: TEXT`,
+the line in which the instruction stands; a text that is none is refused as `bpfrt asm` does.
+
+With --log, standard error has before the verdict for each instruction, up to the one that is refused, its slot
+and text, and what is known before it: r0 to r9, the frame (from r10 on) and open locks, as far as they may be read.
+
+With --json, prints one object in place of the line: {\"accepted\":true,\"instructions\":I,\"slots\":S}, or of a refusal,
+which stands on standard error too, {\"accepted\":false,\"code\":C,\"slot\":S,\"line\":L}, null where there is none.
+
 Status, and the line on standard error:
   0  accepted
   1  refused C, refused C at S   decoding or the verifier refuses, at slot S (docs/REFUSALS.md)
@@ -49,7 +58,8 @@ Example:
 /// Behind the arguments of `bpfrt asm --help`.
 pub const ASM_HELP: &str = "\
 Reads a text of instructions, one a line, as `bpfrt disasm` writes it, or with labels, names, hexadecimal numbers
-and comments (docs/ASSEMBLY.md). Above them may stand the lines of a program file, from `ctx N` to `code`.
+and comments (docs/ASSEMBLY.md). Above them may stand the lines of a program file, from `ctx N` to `code`. Lines may
+end by CR LF.
 
 Prints the bytes of the program; with --file a program file of these lines and its slots; with --plain the
 instructions without names. With --explain, a refusal is followed on standard error by what is wrong with the line.
@@ -124,6 +134,9 @@ behind `--`.
 Prints `exit V steps N`: the exit value, and how many steps the run has made, the exit among them; with --dump
 then for each map of the file `KEY VALUE` for each element, in the order of the keys' bytes, and `end`.
 
+With --json, prints one object in their place: {\"accepted\":true,\"exit\":V,\"steps\":N,\"dump\":[LINE,..]}, where the
+lines of --dump are strings; of a refusal what `bpfrt check --json` does.
+
 Status, and the line on standard error:
   0  the run has exited
   1  what `bpfrt check` says of FILE; then the first of
@@ -146,6 +159,7 @@ Runs a program as `bpfrt run` does, with the same words, and tells each of its s
 Prints of each step `SLOT: INSTRUCTION`, and below it, behind two spaces, what a store writes, and the registers,
 the bytes of the frame and the number of open locks that the step has changed. A number that would be an address
 has behind it what stands there: the context, the frame (from r10 on), a map, or a map slot, where an element lies.
+With --json, the object of `bpfrt run` has these lines as strings: {\"trace\":[LINE,..],\"accepted\":true,..}.
 
 Status, and the line on standard error: those of `bpfrt run`.
 

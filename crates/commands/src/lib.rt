@@ -2,17 +2,20 @@
 #![tactic(auto)]
 
 mod assembly;
+mod check;
 mod dispatch;
 mod dump;
 mod filter;
 mod heads;
 mod help;
+mod json;
 mod pool;
 mod puts;
 mod report;
 mod request;
 mod script;
 mod single;
+mod source_line;
 mod streams;
 mod trace;
 mod words;
@@ -20,6 +23,6 @@ mod wrong_text;
 
 pub use dispatch::run;
 pub use report::no_command;
-pub use request::{AsmForm, BpfrtCommand, FilterFile, MapElement, SingleRun, WordsFault};
+pub use request::{AsmForm, BpfrtCommand, Checking, FilterFile, MapElement, SingleRun, WordsFault};
 pub use streams::unread;
 pub use words::parse_words;

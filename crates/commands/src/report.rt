@@ -1,12 +1,15 @@
 //! The lines that refusals and faults make, and the statuses that go with them.
-ghost use Rattle.std.specs.Prelude.{◌≡◌, ◌≢◌, ◌⊎◌};
+ghost use Rattle.std.specs.Prelude.{◌≡◌, ◌≢◌, ◌⊎◌, false};
 ghost use Rattle.commands.specs.declared.request.WordsFault.TheVariants.{Memory};
 ghost use Rattle.program_files.specs.Verdicts.{memory_number};
 ghost use Rattle.job_queue.specs.declared.fault.PoolFault.TheVariants.{Lost};
 ghost use Rattle.job_queue.specs.Faults.{pool_fault_number};
-ghost use Rattle.commands.specs.Outputs.{IsPlainVerdict};
+ghost use Rattle.commands.specs.Outputs.{IsPlainVerdict, TellsVerdict};
 
+use crate::json::write_refusal;
 use crate::request::WordsFault;
+use crate::source_line::write_source_line;
+use crate::streams::unwritten;
 use job_queue::PoolFault;
 use program_files::{FileBytes, MEMORY, Verdict, explain};
 use std::alloc::Global;
@@ -14,6 +17,13 @@ use std::io::Write;
 
 /// The number of an element that its map has no place for.
 pub const NO_PLACE: u8 = 98;
+
+/// How a verdict is told: in words too, and as a JSON object.
+#[derive(Clone, Copy)]
+pub struct Telling {
+    pub explain: bool,
+    pub json: bool,
+}
 
 /// The verdict of this number, of neither a slot nor a line.
 pub fn plain_verdict(code: u8) -> Verdict
@@ -66,11 +76,55 @@ pub fn told<E: Write>(
     ensures memory { verdict.code ≡ memory_number → result ≡ 3 }
     ensures lost { verdict.code ≡ pool_fault_number Lost → result ≡ 3 }
 {
+    told_at(alloc, file, None, verdict, in_words, err)
+}
+
+/// Tells a verdict on a file, and the line of the text that it was made of, if it was made of one.
+pub fn told_at<E: Write>(
+    alloc: Global,
+    file: &FileBytes,
+    text: Option<&[u8]>,
+    verdict: Verdict,
+    in_words: bool,
+    err: &mut E,
+) -> u8
+    ensures status { (result ≡ 1) ⊎ (result ≡ 3) }
+    ensures memory { verdict.code ≡ memory_number → result ≡ 3 }
+    ensures lost { verdict.code ≡ pool_fault_number Lost → result ≡ 3 }
+{
     let status = refused(err, verdict);
+    if let (Some(text), Some(slot)) = (text, verdict.slot) {
+        let _ = write_source_line(alloc, text, slot, err);
+    }
     if in_words && status == 1 {
         let _ = explain(alloc, file, &verdict, err);
     }
     status
+}
+
+/// Tells a verdict as `told_at` does, and on the output as a JSON object where that is asked for.
+pub fn told_twice<W: Write, E: Write>(
+    alloc: Global,
+    file: &FileBytes,
+    text: Option<&[u8]>,
+    verdict: Verdict,
+    form: Telling,
+    out: &mut W,
+    err: &mut E,
+) -> u8
+    ensures status { (result ≡ 1) ⊎ (result ≡ 3) }
+    ensures memory { verdict.code ≡ memory_number → result ≡ 3 }
+    ensures told { result ≡ 1 → TellsVerdict form.json verdict (W.contents out.old) (W.contents out.new) }
+    ensures silent { result ≡ 1 → form.json ≡ false → out.new ≡ out.old }
+{
+    let status = told_at(alloc, file, text, verdict, form.explain, err);
+    if status != 1 || !form.json {
+        return status;
+    }
+    match write_refusal(alloc, out, &verdict) {
+        Ok(()) => 1,
+        Err(error) => unwritten(err, &error),
+    }
 }
 
 /// Says on standard error why the words are no command, and answers the status.

@@ -16,13 +16,24 @@ pub struct MapElement {
 }
 
 /// What one run is made on: its context, and the elements that are put into its maps before; whether the maps' elements
-/// are written behind it, and whether a refusal is told in words too.
+/// are written behind it, whether a refusal is told in words too, and whether the answer is a JSON object.
 #[derive(Debug, Drop)]
 pub struct SingleRun {
     pub context: Vec<u8>,
     pub elements: Vec<MapElement>,
     pub dump: bool,
     pub explain: bool,
+    pub json: bool,
+}
+
+/// How a program is checked: whether the file is a text of instructions, as `asm` reads one; whether what is known before each
+/// instruction is told, whether a refusal is told in words too, and whether the answer is a JSON object.
+#[derive(Clone, Copy, Debug, PartialEq, Eq, Drop)]
+pub struct Checking {
+    pub asm: bool,
+    pub log: bool,
+    pub explain: bool,
+    pub json: bool,
 }
 
 /// Where a classic program is read from.
@@ -46,10 +57,10 @@ pub enum AsmForm {
 /// What the program is asked to do.
 #[derive(Debug, Drop)]
 pub enum BpfrtCommand {
-    /// Verify the program in a file and say how long it is; or why it is refused, in words too.
+    /// Verify the program in a file and say how long it is; or why it is refused.
     Check {
         file: String,
-        explain: bool,
+        how: Checking,
     },
     /// Write the text of the program in a file.
     Disasm {

@@ -1,33 +1,57 @@
 //! A file's program, run once by itself.
-ghost use Rattle.std.specs.Prelude.{◌≡◌, ◌⊎◌, ◌++◌, List, ℕ, IfOk, IfErr, IfSome};
+ghost use Rattle.std.specs.Prelude.{◌≡◌, ◌⊎◌, ◌++◌, List, ℕ, false, IfOk, IfErr, IfSome};
 ghost use Rattle.program_files.specs.Files.{HoldsBytes};
-ghost use Rattle.commands.specs.Runs.{ended_line, IsDumped, IsRunRefusal, IsRunText, IsRefusedByRun, WritesRun};
+ghost use Rattle.program_files.specs.Verdicts.{memory_number};
+ghost use Rattle.commands.specs.Outputs.{TellsVerdict};
+ghost use Rattle.commands.specs.Runs.{ended_line, ended_text, IsDumped, IsRunRefusal, IsRunText, RefusesRun, WritesRun};
 
 use crate::dump::write_maps;
+use crate::json::ended_of;
 use crate::puts::puts_of;
-use crate::report::{NO_PLACE, plain_verdict, told};
+use crate::report::{NO_PLACE, Telling, plain_verdict, told_twice};
 use crate::request::SingleRun;
 use crate::streams::{unread, write_text, written};
 use bpf_model::{EventRefusal, array_of};
 use program_files::{FileBytes, MEMORY, Verdict, read_file, verify_for_maps};
 use run_once::{Ended, RunEnd, run_once};
-use std::alloc::Global;
+use std::alloc::{AllocError, Global};
 use std::io;
 use std::io::{Read, Write};
 use world::World;
 
-/// The line of a run that has exited, and the elements of its maps where they are asked for.
-fn text_of(alloc: Global, ended: Ended, world: &World, dump: bool) -> io::Result<Vec<u8>>
-    ensures { IfOk result (λ text. (dumped : List ℕ) × IsDumped dump world.now.maps dumped
-        × (text.items ≡ ended_line ended.value ended.steps ++ dumped)) }
+/// The elements of a world's maps where they are asked for.
+fn dumped_of(alloc: Global, world: &World, dump: bool) -> Result<Vec<u8>, AllocError>
+    ensures { IfOk result (λ text. IsDumped dump world.now.maps text.items) }
 {
-    let Ended { value, steps } = ended;
     let mut text = Vec::new(alloc);
-    writeln!(text, "exit {value} steps {steps}")?;
     if dump {
         write_maps(world, &mut text)?;
     }
     Ok(text)
+}
+
+/// The line of a run that has exited, with what is behind it.
+fn lines_of(alloc: Global, ended: Ended, dumped: &[u8]) -> io::Result<Vec<u8>>
+    ensures { IfOk result (λ text. text.items ≡ ended_line ended.value ended.steps ++ dumped.now) }
+{
+    let Ended { value, steps } = ended;
+    let mut text = Vec::new(alloc);
+    writeln!(text, "exit {value} steps {steps}")?;
+    text.extend_from_slice(dumped)?;
+    Ok(text)
+}
+
+/// A run that has exited, and the elements of its maps where they are asked for, as lines or as a JSON object.
+fn text_of(alloc: Global, ended: Ended, world: &World, single: &SingleRun) -> io::Result<Vec<u8>>
+    ensures { IfOk result (λ text. (dumped : List ℕ) × IsDumped single.now.dump world.now.maps dumped
+        × (text.items ≡ ended_text single.now.json ended.value ended.steps dumped)) }
+{
+    let dumped = dumped_of(alloc, world, single.dump)?;
+    if single.json {
+        ended_of(alloc, ended, &dumped)
+    } else {
+        lines_of(alloc, ended, &dumped)
+    }
 }
 
 /// Decodes and verifies a file's program, puts elements into its maps, and runs it once on a context. What it gives is
@@ -52,10 +76,31 @@ pub fn run_of(alloc: Global, file: &FileBytes, single: &SingleRun) -> Result<Vec
         RunEnd::Exited(ended) => ended,
         RunEnd::NotDone(_) => return Err(plain_verdict(NO_PLACE)),
     };
-    match text_of(alloc, ended, &ran.world, single.dump) {
+    match text_of(alloc, ended, &ran.world, single) {
         Ok(text) => Ok(text),
         Err(_) => Err(plain_verdict(MEMORY)),
     }
+}
+
+/// Tells a verdict on a file or its run.
+pub fn told_of_run<W: Write, E: Write>(
+    alloc: Global,
+    file: &FileBytes,
+    verdict: Verdict,
+    single: &SingleRun,
+    out: &mut W,
+    err: &mut E,
+) -> u8
+    ensures status { (result ≡ 1) ⊎ (result ≡ 3) }
+    ensures memory { verdict.code ≡ memory_number → result ≡ 3 }
+    ensures told { result ≡ 1 → TellsVerdict single.now.json verdict (W.contents out.old) (W.contents out.new) }
+    ensures silent { result ≡ 1 → single.now.json ≡ false → out.new ≡ out.old }
+{
+    let form = Telling {
+        explain: single.explain,
+        json: single.json,
+    };
+    told_twice(alloc, file, None, verdict, form, out, err)
 }
 
 /// Runs the program that the input, a program file, says once by itself, writes how it has ended on
@@ -71,8 +116,9 @@ pub fn run_single<R: Read, W: Write, E: Write>(
     ensures status { (result ≡ 0) ⊎ (result ≡ 1) ⊎ (result ≡ 3) }
     ensures ended { result ≡ 0 → IfSome (R.remaining input.old)
         (WritesRun single.now (W.contents out.old) (W.contents out.new)) }
-    ensures refused { result ≡ 1 → IfSome (R.remaining input.old) (IsRefusedByRun single.now) }
-    ensures silent { result ≡ 1 → out.new ≡ out.old }
+    ensures refused { result ≡ 1 → IfSome (R.remaining input.old)
+        (RefusesRun single.now (W.contents out.old) (W.contents out.new)) }
+    ensures silent { result ≡ 1 → single.now.json ≡ false → out.new ≡ out.old }
 {
     let file = match read_file(alloc, input) {
         Ok(file) => file,
@@ -80,6 +126,6 @@ pub fn run_single<R: Read, W: Write, E: Write>(
     };
     match run_of(alloc, &file, single) {
         Ok(text) => written(err, write_text(out, &text)),
-        Err(verdict) => told(alloc, &file, verdict, single.explain, err),
+        Err(verdict) => told_of_run(alloc, &file, verdict, single, out, err),
     }
 }

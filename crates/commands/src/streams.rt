@@ -23,12 +23,19 @@ pub fn write_text<W: Write>(out: &mut W, text: &[u8]) -> io::Result<()>
     out.flush()
 }
 
+/// The status where an output's writing failed, which is told on `err`.
+pub fn unwritten<E: Write>(err: &mut E, error: &io::Error) -> u8
+    ensures { result ≡ 3 }
+{
+    fault(err, stream_fault(error, ScriptFault::Write).code())
+}
+
 /// The status of an output that was written, or whose writing failed, which is told on `err`.
 pub fn written<E: Write>(err: &mut E, outcome: io::Result<()>) -> u8
     ensures { MatchResult outcome (λ _. result ≡ 0) (λ _. result ≡ 3) }
 {
     match outcome {
         Ok(()) => 0,
-        Err(error) => fault(err, stream_fault(&error, ScriptFault::Write).code()),
+        Err(error) => unwritten(err, &error),
     }
 }

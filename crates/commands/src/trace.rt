@@ -1,12 +1,13 @@
 //! A file's program, run once by itself, with each of its steps told.
-ghost use Rattle.std.specs.Prelude.{◌≡◌, ◌⊎◌, List, ℕ, IfOk, IfErr, IfSome};
+ghost use Rattle.std.specs.Prelude.{◌≡◌, ◌⊎◌, List, ℕ, false, IfOk, IfErr, IfSome};
 ghost use Rattle.program_files.specs.Files.{HoldsBytes};
-ghost use Rattle.commands.specs.Runs.{IsRunRefusal, IsTraceText, IsRefusedByRun, WritesTrace};
+ghost use Rattle.commands.specs.Runs.{IsRunRefusal, IsTraceText, traced_text, RefusesRun, WritesTrace};
 
+use crate::json::traced_of;
 use crate::puts::puts_of;
-use crate::report::{plain_verdict, told};
+use crate::report::plain_verdict;
 use crate::request::SingleRun;
-use crate::single::run_of;
+use crate::single::{run_of, told_of_run};
 use crate::streams::{unread, write_text, written};
 use bpf_model::{Event, ProgId, array_of};
 use insn_codec::Program;
@@ -59,6 +60,22 @@ fn steps_of(alloc: Global, file: &FileBytes, single: &SingleRun) -> io::Result<V
     Ok(text)
 }
 
+/// What tells the steps of a run, and what `run` tells, as lines or as a JSON object.
+fn together(
+    alloc: Global,
+    json: bool,
+    mut steps: Vec<u8>,
+    end: &[u8],
+) -> Result<Vec<u8>, AllocError>
+    ensures { IfOk result (λ text. text.items ≡ traced_text json steps.items end.now) }
+{
+    if json {
+        return traced_of(alloc, &steps, end);
+    }
+    steps.extend_from_slice(end)?;
+    Ok(steps)
+}
+
 /// What tells the steps of a run, and behind it what `run` tells.
 fn text_of(alloc: Global, file: &FileBytes, single: &SingleRun) -> Result<Vec<u8>, Verdict>
     ensures traced { (bytes : List ℕ) → HoldsBytes file.now bytes →
@@ -67,11 +84,11 @@ fn text_of(alloc: Global, file: &FileBytes, single: &SingleRun) -> Result<Vec<u8
         IfErr result (IsRunRefusal single.now bytes) }
 {
     let end = run_of(alloc, file, single)?;
-    let Ok(mut text) = steps_of(alloc, file, single) else {
+    let Ok(steps) = steps_of(alloc, file, single) else {
         return Err(plain_verdict(MEMORY));
     };
-    match text.extend_from_slice(&end) {
-        Ok(()) => Ok(text),
+    match together(alloc, single.json, steps, &end) {
+        Ok(text) => Ok(text),
         Err(_) => Err(plain_verdict(MEMORY)),
     }
 }
@@ -88,8 +105,9 @@ pub fn run_trace<R: Read, W: Write, E: Write>(
     ensures status { (result ≡ 0) ⊎ (result ≡ 1) ⊎ (result ≡ 3) }
     ensures traced { result ≡ 0 → IfSome (R.remaining input.old)
         (WritesTrace single.now (W.contents out.old) (W.contents out.new)) }
-    ensures refused { result ≡ 1 → IfSome (R.remaining input.old) (IsRefusedByRun single.now) }
-    ensures silent { result ≡ 1 → out.new ≡ out.old }
+    ensures refused { result ≡ 1 → IfSome (R.remaining input.old)
+        (RefusesRun single.now (W.contents out.old) (W.contents out.new)) }
+    ensures silent { result ≡ 1 → single.now.json ≡ false → out.new ≡ out.old }
 {
     let file = match read_file(alloc, input) {
         Ok(file) => file,
@@ -97,6 +115,6 @@ pub fn run_trace<R: Read, W: Write, E: Write>(
     };
     match text_of(alloc, &file, single) {
         Ok(text) => written(err, write_text(out, &text)),
-        Err(verdict) => told(alloc, &file, verdict, single.explain, err),
+        Err(verdict) => told_of_run(alloc, &file, verdict, single, out, err),
     }
 }

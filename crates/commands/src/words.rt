@@ -5,7 +5,7 @@ use crate::help::{
     TRACE_HELP,
 };
 use crate::request::{
-    AsmForm, BpfrtCommand, FilterFile, MapElement, SingleRun, VERSION, WordsFault,
+    AsmForm, BpfrtCommand, Checking, FilterFile, MapElement, SingleRun, VERSION, WordsFault,
 };
 use clap::error::ErrorKind;
 use clap::{Arg, ArgAction, ArgMatches};
@@ -42,6 +42,11 @@ fn flag<'a>(alloc: Global, name: &'a str, help: &'a str) -> Arg<'a> {
 /// The option that tells a refusal of the file in words.
 fn explain_option<'a>(alloc: Global) -> Arg<'a> {
     flag(alloc, "explain", "say in words why a program is refused")
+}
+
+/// The option that asks for a JSON object.
+fn json_option<'a>(alloc: Global) -> Arg<'a> {
+    flag(alloc, "json", "print one JSON object, of a refusal too")
 }
 
 /// The grammar of the words of `asm`.
@@ -126,7 +131,8 @@ fn with_run_arguments<'a>(
                 .help("print the elements of the file's maps behind the exit")
                 .action(ArgAction::SetTrue),
         )?
-        .arg(explain_option(alloc))
+        .arg(explain_option(alloc))?
+        .arg(json_option(alloc))
 }
 
 /// The grammar of the words of `filter`.
@@ -156,7 +162,18 @@ fn grammar<'a>(alloc: Global) -> Result<clap::Command<'a>, AllocError> {
         .about("Verifies the program in FILE")
         .after_help(CHECK_HELP)
         .arg(file_argument(alloc))?
-        .arg(explain_option(alloc))?;
+        .arg(flag(
+            alloc,
+            "asm",
+            "take FILE for a text of instructions, as `bpfrt asm` reads it",
+        ))?
+        .arg(flag(
+            alloc,
+            "log",
+            "tell on standard error what is known before each instruction",
+        ))?
+        .arg(explain_option(alloc))?
+        .arg(json_option(alloc).conflicts_with("asm")?)?;
     let disasm = clap::Command::new(alloc, "disasm")
         .about("Writes the text of the program in FILE, one instruction a line")
         .after_help(DISASM_HELP)
@@ -367,7 +384,18 @@ fn single_of(
         elements: elements_of(alloc, command, matches)?,
         dump: matches.get_flag("dump"),
         explain: matches.get_flag("explain"),
+        json: matches.get_flag("json"),
     })
+}
+
+/// How `check` is to check.
+fn checking_of(matches: &ArgMatches<'_>) -> Checking {
+    Checking {
+        asm: matches.get_flag("asm"),
+        log: matches.get_flag("log"),
+        explain: matches.get_flag("explain"),
+        json: matches.get_flag("json"),
+    }
 }
 
 /// What `asm` is to write.
@@ -409,7 +437,7 @@ pub fn parse_words<'a>(alloc: Global, words: &'a [String]) -> Result<BpfrtComman
     match matches.subcommand() {
         Some(("check", matches)) => Ok(BpfrtCommand::Check {
             file: file_of(alloc, matches)?,
-            explain: matches.get_flag("explain"),
+            how: checking_of(matches),
         }),
         Some(("disasm", matches)) => Ok(BpfrtCommand::Disasm {
             file: file_of(alloc, matches)?,

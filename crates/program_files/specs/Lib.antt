@@ -5,3 +5,4 @@ pub mod Lines
 pub mod Loaded
 pub mod ProgramFile
 pub mod Stages
+pub mod Numbered

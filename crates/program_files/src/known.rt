@@ -133,3 +133,20 @@ pub fn write_kind<W: Write>(out: &mut W, source: &Source, kind: &RegKind) -> io:
         }
     }
 }
+
+/// Whether some bit of the numbers is known.
+fn is_bit_known(numbers: &Scalar) -> bool {
+    numbers.must != 0 || numbers.may != u64::MAX
+}
+
+/// Writes the known bits of a number that may be one of several: first those that are 1, then those that may be either.
+pub fn write_bits<W: Write>(out: &mut W, kind: &RegKind) -> io::Result<()> {
+    match kind {
+        RegKind::Num(numbers) if numbers.least != numbers.greatest && is_bit_known(numbers) => {
+            let ones = numbers.must;
+            let either = numbers.may & !numbers.must;
+            write!(out, ", var_off=(0x{ones:x}; 0x{either:x})")
+        }
+        _ => Ok(()),
+    }
+}

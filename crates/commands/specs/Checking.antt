@@ -1,0 +1,26 @@
+-- What `check` writes of a program file, or of a text of instructions, and how it refuses them.
+use Rattle.std.specs.Prelude.{◌⊎◌, ℕ, Bool, true, false, List, Option}
+use Rattle.asm_source.specs.LineEnds.{with_feeds}
+use Rattle.commands.specs.Assembled.{IsAssembled, IsRefusedByAsm}
+use Rattle.commands.specs.Outputs.{RefusesFile, WritesAccepted}
+
+-- The program file that the text makes is accepted.
+abbrev pub WritesAcceptedText : Bool → Option (List ℕ) → Option (List ℕ) → List ℕ → Type 0
+WritesAcceptedText json old new bytes =
+    (lines code file : List ℕ) × IsAssembled (with_feeds bytes) lines code file × WritesAccepted json old new file
+
+-- The text is refused, or the program file that it makes.
+abbrev pub RefusesText : Bool → Option (List ℕ) → Option (List ℕ) → List ℕ → Type 0
+RefusesText json old new bytes =
+    IsRefusedByAsm bytes
+    ⊎ ((lines code file : List ℕ) × IsAssembled (with_feeds bytes) lines code file × RefusesFile json old new file)
+
+-- what `check` adds to the output for a text of instructions, or else a program file, that it accepts
+abbrev pub WritesChecked : Bool → Bool → Option (List ℕ) → Option (List ℕ) → List ℕ → Type 0
+WritesChecked true json old new bytes = WritesAcceptedText json old new bytes
+WritesChecked false json old new bytes = WritesAccepted json old new bytes
+
+-- how `check` refuses either
+abbrev pub RefusesChecked : Bool → Bool → Option (List ℕ) → Option (List ℕ) → List ℕ → Type 0
+RefusesChecked true json old new bytes = RefusesText json old new bytes
+RefusesChecked false json old new bytes = RefusesFile json old new bytes

@@ -1,0 +1,150 @@
+//! A file's program, checked.
+ghost use Rattle.std.specs.Prelude.{◌≡◌, ◌⊎◌, List, ℕ, false, IfSome, OnOk};
+ghost use Rattle.std.specs.Io.KnownBytes.{Appends};
+ghost use Rattle.program_files.specs.Files.{HoldsBytes};
+ghost use Rattle.commands.specs.Outputs.{RefusesFile, accepted_line, accepted_text, WritesAccepted};
+ghost use Rattle.commands.specs.Checking.{RefusesText, WritesAcceptedText, RefusesChecked, WritesChecked};
+
+use crate::assembly::{make_code, told as told_of_text};
+use crate::json::write_accepted as write_json;
+use crate::report::{Telling, fault, told_twice};
+use crate::request::Checking;
+use crate::streams::{unread, written};
+use asm_source::fed_text;
+use program_files::{Accepted, FileBytes, MEMORY, check, read_file, read_text, write_log};
+use std::alloc::Global;
+use std::io;
+use std::io::{Read, Write};
+
+fn write_line<W: Write>(out: &mut W, accepted: &Accepted) -> io::Result<()>
+    ensures { OnOk result (Appends (W.contents out.old) (W.contents out.new)
+        (accepted_line accepted.now.instructions accepted.now.slots)) }
+{
+    writeln!(
+        out,
+        "accepted {} instructions {} slots",
+        accepted.instructions, accepted.slots
+    )?;
+    out.flush()
+}
+
+/// Says how long an accepted program is.
+fn write_accepted<W: Write>(json: bool, out: &mut W, accepted: &Accepted) -> io::Result<()>
+    ensures { OnOk result (Appends (W.contents out.old) (W.contents out.new)
+        (accepted_text json accepted.now.instructions accepted.now.slots)) }
+{
+    if json {
+        write_json(out, accepted)
+    } else {
+        write_line(out, accepted)
+    }
+}
+
+/// Checks the program that a file says, which may have been made of a text of instructions.
+fn check_file<W: Write, E: Write>(
+    alloc: Global,
+    how: &Checking,
+    file: &FileBytes,
+    text: Option<&[u8]>,
+    out: &mut W,
+    err: &mut E,
+) -> u8
+    ensures status { (result ≡ 0) ⊎ (result ≡ 1) ⊎ (result ≡ 3) }
+    ensures accepted { (bytes : List ℕ) → HoldsBytes file.now bytes → result ≡ 0 →
+        WritesAccepted how.now.json (W.contents out.old) (W.contents out.new) bytes }
+    ensures refused { (bytes : List ℕ) → HoldsBytes file.now bytes → result ≡ 1 →
+        RefusesFile how.now.json (W.contents out.old) (W.contents out.new) bytes }
+    ensures silent { result ≡ 1 → how.now.json ≡ false → out.new ≡ out.old }
+{
+    if how.log {
+        let _ = write_log(alloc, file, err);
+    }
+    match check(alloc, file) {
+        Ok(accepted) => written(err, write_accepted(how.json, out, &accepted)),
+        Err(verdict) => {
+            let form = Telling {
+                explain: how.explain,
+                json: how.json,
+            };
+            told_twice(alloc, file, text, verdict, form, out, err)
+        }
+    }
+}
+
+/// Checks the program that the input, a program file, says.
+fn check_program_file<R: Read, W: Write, E: Write>(
+    alloc: Global,
+    how: &Checking,
+    input: &mut R,
+    out: &mut W,
+    err: &mut E,
+) -> u8
+    ensures status { (result ≡ 0) ⊎ (result ≡ 1) ⊎ (result ≡ 3) }
+    ensures accepted { result ≡ 0 → IfSome (R.remaining input.old)
+        (WritesAccepted how.now.json (W.contents out.old) (W.contents out.new)) }
+    ensures refused { result ≡ 1 → IfSome (R.remaining input.old)
+        (RefusesFile how.now.json (W.contents out.old) (W.contents out.new)) }
+    ensures silent { result ≡ 1 → how.now.json ≡ false → out.new ≡ out.old }
+{
+    match read_file(alloc, input) {
+        Ok(file) => check_file(alloc, how, &file, None, out, err),
+        Err(error) => unread(err, &error),
+    }
+}
+
+/// Checks the program whose text the input is.
+fn check_text<R: Read, W: Write, E: Write>(
+    alloc: Global,
+    how: &Checking,
+    input: &mut R,
+    out: &mut W,
+    err: &mut E,
+) -> u8
+    ensures status { (result ≡ 0) ⊎ (result ≡ 1) ⊎ (result ≡ 3) }
+    ensures accepted { result ≡ 0 → IfSome (R.remaining input.old)
+        (WritesAcceptedText how.now.json (W.contents out.old) (W.contents out.new)) }
+    ensures refused { result ≡ 1 → IfSome (R.remaining input.old)
+        (RefusesText how.now.json (W.contents out.old) (W.contents out.new)) }
+    ensures silent { result ≡ 1 → how.now.json ≡ false → out.new ≡ out.old }
+{
+    let bytes = match read_text(alloc, input) {
+        Ok(bytes) => bytes,
+        Err(error) => return unread(err, &error),
+    };
+    let Ok(text) = fed_text(alloc, &bytes) else {
+        return fault(err, MEMORY);
+    };
+    match make_code(alloc, &text) {
+        Ok(made) => check_file(
+            alloc,
+            how,
+            &FileBytes::Whole(made.file),
+            Some(&text),
+            out,
+            err,
+        ),
+        Err(why) => told_of_text(alloc, &text, &why, how.explain, err),
+    }
+}
+
+/// Checks the program that the input, a program file or a text of instructions, says.
+pub fn run_check<R: Read, W: Write, E: Write>(
+    alloc: Global,
+    how: &Checking,
+    input: &mut R,
+    out: &mut W,
+    err: &mut E,
+) -> u8
+    ensures status { (result ≡ 0) ⊎ (result ≡ 1) ⊎ (result ≡ 3) }
+    ensures accepted { result ≡ 0 → IfSome (R.remaining input.old)
+        (WritesChecked how.now.asm how.now.json (W.contents out.old) (W.contents out.new)) }
+    ensures refused { result ≡ 1 → IfSome (R.remaining input.old)
+        (RefusesChecked how.now.asm how.now.json (W.contents out.old) (W.contents out.new)) }
+    ensures silent { result ≡ 1 → how.now.json ≡ false → out.new ≡ out.old }
+{
+    if how.asm {
+        check_text(alloc, how, input, out, err)
+    } else {
+        check_program_file(alloc, how, input, out, err)
+    }
+}
