@@ -1,6 +1,6 @@
 //! Commands, and what they are to answer and to write.
 
-use commands::{BpfrtCommand, MapElement, SingleRun, run as run_command};
+use commands::{BpfrtCommand, Checking, MapElement, SingleRun, run as run_command};
 use std::alloc::Global;
 use std::io::Read;
 use std::process::Abort;
@@ -25,16 +25,21 @@ b706000000000000 8520000001000000\n620AFCFF00000000 bfa2000000000000 07020000fcf
 1851000000000000 0000000000000000 8500000001000000 1500010000000000\n\
 7906000000000000 8520000002000000\nbf60000000000000 9500000000000000";
 
+/// How `check` checks without options.
+pub const PLAIN: Checking = Checking {
+    asm: false,
+    log: false,
+    explain: false,
+    json: false,
+};
+
 /// `check` of a file, or `disasm` of it.
 pub fn command_of(alloc: Global, disasm: bool) -> Result<BpfrtCommand, Fail> {
     let file = String::from_str(alloc, "program")?;
     if disasm {
         return Ok(BpfrtCommand::Disasm { file });
     }
-    Ok(BpfrtCommand::Check {
-        file,
-        explain: false,
-    })
+    Ok(BpfrtCommand::Check { file, how: PLAIN })
 }
 
 /// `pool` of a file.
@@ -68,6 +73,7 @@ pub fn run_of(
         elements,
         dump,
         explain: false,
+        json: false,
     };
     let file = String::from_str(alloc, "program")?;
     Ok(BpfrtCommand::Run { file, single })

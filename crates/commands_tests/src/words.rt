@@ -1,5 +1,6 @@
 //! The words of the command line.
 
+use crate::command_runs::PLAIN;
 use classic::Data;
 use commands::{BpfrtCommand, FilterFile, MapElement, WordsFault, no_command, parse_words};
 use std::alloc::Global;
@@ -73,10 +74,16 @@ fn words_of_commands(rt: HostRuntime) -> Result<(), Fail> {
     }
     let check = asked(&rt, alloc, &["bpfrt", "check", "a.bpf"])?;
     assert!(rt;
-        matches!(&check, Ok(BpfrtCommand::Check { file, explain: false }) if file.as_str() == "a.bpf")
+        matches!(&check, Ok(BpfrtCommand::Check { file, how }) if file.as_str() == "a.bpf" && *how == PLAIN)
     );
     let explained = asked(&rt, alloc, &["bpfrt", "check", "--explain", "a.bpf"])?;
-    assert!(rt; matches!(&explained, Ok(BpfrtCommand::Check { explain: true, .. })));
+    assert!(rt;
+        matches!(&explained, Ok(BpfrtCommand::Check { how, .. }) if how.explain && !how.asm && !how.log)
+    );
+    let logged = asked(&rt, alloc, &["bpfrt", "check", "a.bpf", "--asm", "--log"])?;
+    assert!(rt;
+        matches!(&logged, Ok(BpfrtCommand::Check { how, .. }) if how.asm && how.log && !how.explain)
+    );
     let disasm = asked(&rt, alloc, &["bpfrt", "disasm", "b.bpf"])?;
     assert!(rt; matches!(&disasm, Ok(BpfrtCommand::Disasm { file }) if file.as_str() == "b.bpf"));
     assert!(rt;
