@@ -5,3 +5,4 @@ pub mod Lines
 pub mod Marking
 pub mod Records
 pub mod Splits
+pub mod Wrong

@@ -18,7 +18,7 @@ pub record IsReadingLines (all left : List (List ℕ)) (filters : List SockFilte
 pub lines-start : (all : List (List ℕ)) → IsReadingLines all all [] 0
 lines-start all = record { front = []; parts = refl; each = refl; size = refl }
 
-length-map : {A B : Type 0} (f : A → B) (xs : List A) → length (map f xs) ≡ length xs
+pub length-map : {A B : Type 0} (f : A → B) (xs : List A) → length (map f xs) ≡ length xs
 length-map f [] = refl
 length-map f (x ∷ xs) = ap suc (length-map f xs)
 

@@ -2,6 +2,7 @@
 ghost use Rattle.std.specs.Prelude.{◌≡◌, ℕ, ◌≢◌, ◌%◌, ◌<◌, ◌≤◌, ◌^◌, ◌∷◌, ◌⊎◌, List, Some, length, IfOk, IfErr};
 ghost use Rattle.classic_program.specs.declared.fault.ReadFault.TheVariants.{Memory, CutRecord};
 ghost use Rattle.classic_program.specs.declared.sock_filter.SockFilter.{SockFilter as FilterOf};
+ghost use Rattle.classic_program.specs.ReadFaults.{IsLinesFault, IsListingFault};
 ghost use Rattle.classic_program.specs.Reading.{filter_at, filters_in, filter_in, number_below as number_below_of, parts_at, parts_left, HasLines, IsListing};
 
 use crate::fault::ReadFault;
@@ -89,16 +90,17 @@ fn read_lines(alloc: Global, count: u64, lines: Option<&[u8]>) -> Result<Vec<Soc
     ensures found { IfOk result (λ v. HasLines count (parts_left 10 lines.entry) v.items) }
     ensures only { (filters : List FilterOf) → HasLines count (parts_left 10 lines.entry) filters →
         IfErr result (λ e. e ≡ Memory) }
+    ensures fault { IfErr result (IsLinesFault count (parts_left 10 lines.entry)) }
 {
     let mut filters = Vec::new(alloc);
     let mut rest = lines;
-    for index in 0..count {
+    for _ in 0..count {
         let Some(bytes) = rest else {
             return Err(ReadFault::BadCount);
         };
         let (line, more) = cut(bytes, b'\n');
         let Some(filter) = filter_of(line) else {
-            return Err(ReadFault::BadLine((index as usize).saturating_add(2)));
+            return Err(ReadFault::BadLine(filters.len() + 2));
         };
         filters.extend_from_slice(&[filter])?;
         rest = more;
@@ -125,6 +127,7 @@ pub fn read_listing(alloc: Global, text: &str) -> Result<Vec<SockFilter>, ReadFa
     ensures found { IfOk result (λ v. IsListing text.now v.items) }
     ensures only { (filters : List FilterOf) → IsListing text.now filters →
         IfErr result (λ e. e ≡ Memory) }
+    ensures fault { IfErr result (IsListingFault text.now) }
 {
     let (head, lines) = cut(text.as_bytes(), b'\n');
     let Some(count) = number_of(head) else {

@@ -100,7 +100,9 @@ impl<L: Ledger> Workers<L> {
     }
 
     /// Lends the workers, all at once.
-    pub fn as_mut_slice(&mut self) -> &mut [Worker<L>] {
+    pub fn as_mut_slice(&mut self) -> &mut [Worker<L>]
+        ensures lent { result.now ≡ self.old }
+    {
         self.list.as_mut_slice()
     }
 }

@@ -2,5 +2,5 @@ use Rattle.classic_program.specs.Reading.{parts_left}
 use Rattle.classic_program.proofs.Lines.{IsReadingLines}
 use Rattle.classic_program.proofs.reading.read_lines.Given as goal
 
-abbrev pub invariant-loop-index : goal.invariant-loop-index
-invariant-loop-index l = IsReadingLines (parts_left 10 l.fn.lines) (parts_left 10 l.rest) l.filters.items l.index
+abbrev pub invariant-loop : goal.invariant-loop
+invariant-loop l = IsReadingLines (parts_left 10 l.fn.lines) (parts_left 10 l.rest) l.filters.items l.counter
