@@ -1,6 +1,7 @@
 //! Those who make entries.
 ghost use Rattle.std.specs.Prelude.{◌≡◌, ◌<◌, length, vec_len, sum_by, All, IfOk};
 ghost use Rattle.shared.specs.Books.{WorkerView, AreNumbered};
+ghost use Rattle.std.specs.Slice.Iter.{iter_mut_rest};
 
 use std::alloc::{AllocError, Global};
 use std::marker::Model;
@@ -95,7 +96,9 @@ impl<L: Ledger> Workers<L> {
     }
 
     /// Lends the workers, one after another.
-    pub fn iter_mut(&mut self) -> IterMut<'_, Worker<L>> {
+    pub fn iter_mut(&mut self) -> IterMut<'_, Worker<L>>
+        ensures lent { iter_mut_rest result ≡ self.old }
+    {
         self.list.iter_mut()
     }
 
