@@ -14,7 +14,8 @@ pub returns-in_default-filter_of-clause-fault : goal.returns-in_default-filter_o
 returns-in_default-filter_of-clause-fault c =
     first-wrong c.args.count c.loop.counter (parts_left 10 c.args.lines) (parts_left 10 c.loop.rest)
     (parts_left 10 c.cut.result.1) c.cut.result.0.now c.loop.filters.items (c.len.result + 2)
-    c.loop.invariant (ap (parts_left 10) c.in-Some.is ∙ c.cut.ensures) c.in_default-filter_of.ensures c.loop-test.true (ap (λ (n : ℕ). n + 2) (c.len.ensures ∙ c.loop.filters.ok.0))
+    c.loop.invariant (ap (parts_left 10) c.in-Some.is ∙ c.cut.ensures)
+    c.in_default-filter_of.ensures c.loop-test.true (ap (λ (n : ℕ). n + 2) (c.len.ensures ∙ c.loop.filters.ok.0))
 
 pub returns-in_default-clause-fault : goal.returns-in_default-clause-fault
 returns-in_default-clause-fault c =
