@@ -78,7 +78,7 @@ fn sort_slots(slots: &mut Vec<usize>, arena: &Arena)
 
 impl Buckets {
     /// The place of a key of this form.
-    #[inline]
+    #[inline(always)]
     fn find_in<K: KeyForm>(&self, arena: &Arena, key: &[u8]) -> Place
         requires fits { BucketsFits self.now arena.now }
         requires serves { K.serves key.now }
@@ -89,18 +89,14 @@ impl Buckets {
         search::<K>(arena, home, self.heads[home], key)
     }
 
-    /// The place of a key, of any length, by a call: so the code for keys of one word stays small.
+    /// The place of a key, of any length, by a call: so the code for keys of one word and of half a word stays small.
     #[inline(never)]
     fn find_any(&self, arena: &Arena, key: &[u8]) -> Place
         requires { BucketsFits self.now arena.now }
         ensures slot { result.slot ≡ map.get (contents_in self.now arena.now) key.now }
         ensures place { IsPlaceIn self.now.heads.items arena.now key.now result }
     {
-        if key.len() == HALF_BYTES {
-            self.find_in::<HalfWord>(arena, key)
-        } else {
-            self.find_in::<AnyLength>(arena, key)
-        }
+        self.find_in::<AnyLength>(arena, key)
     }
 
     /// A taken slot joins the chain of its key, which no slot has.
@@ -158,10 +154,12 @@ impl Index for Buckets {
         })
     }
 
-    #[inline]
+    #[inline(always)]
     fn find(&self, arena: &Arena, key: &[u8]) -> Place {
         if key.len() == WORD_BYTES {
             self.find_in::<OneWord>(arena, key)
+        } else if key.len() == HALF_BYTES {
+            self.find_in::<HalfWord>(arena, key)
         } else {
             self.find_any(arena, key)
         }

@@ -6,6 +6,7 @@ use lib.ListN.{get_elem?}
 use Rattle.atomic_table.specs.Seated.{TableId}
 use Rattle.shared.specs.declared.meter.MeterView.{MeterView}
 use Rattle.shared.specs.declared.tally.Totals.{Totals}
+use Rattle.shared.specs.Books.{TotalsRise}
 
 -- what is known is no more than the words
 pub record IsKnownOf (v : MeterView) (words : List ℕ) : Type 0 where
@@ -31,6 +32,12 @@ meter_writer steps unlinked reclaimed =
 
 abbrev pub writer_at : Totals → MeterView
 writer_at t = meter_writer t.steps t.unlinked t.reclaimed
+
+-- a pass that writes, whose words are totals, may write these: none of them is less
+pub record MayWrite (v : MeterView) (after : Totals) : Type 0 where
+  pub before : Totals
+  pub knows : v ≡ writer_at before
+  pub rise : TotalsRise before after
 
 abbrev pub meter_reader : MeterView → MeterView
 meter_reader v = record v { writes = false }

@@ -10,7 +10,7 @@ ghost use Rattle.shared.specs.Receipts.{IsMachineAnswer};
 ghost use Rattle.shared.specs.Stretches.{EntersMoves, HasMade};
 ghost use Rattle.shared.specs.declared.steps.StepsEnd.{StepsEnd};
 ghost use Rattle.world.specs.Stretches.{WouldBeRefused, WouldExit};
-ghost use Rattle.shared.specs.Meter.{writer_at};
+ghost use Rattle.shared.specs.Meter.{MayWrite, writer_at};
 ghost use Rattle.shared.specs.Tally.{IsTallyOf, shown_totals};
 ghost use Rattle.bpf_model.specs.declared.limits.TheConstants.{MAX_JOURNAL};
 ghost use Rattle.journal_laws.specs.Replay.{Replays, HasNoRuns};
@@ -65,16 +65,16 @@ impl<L: Ledger> Model for State<L> {
         × (cell_view s.pass ≡ writer_at s.books.tally.totals) };
 }
 
-/// Writes totals. It is a function of its own, so that what writes them stands in one place of the program.
+/// Writes totals that are no less than those of the cell. It is a function of its own, so that what writes them stands
+/// in one place of the program.
 #[inline(never)]
-fn write_totals<R: Wait>(rt: &R, cell: &Meter, pass: &mut MeterPass, before: Totals, after: Totals)
+fn write_totals<R: Wait>(rt: &R, cell: &Meter, pass: &mut MeterPass, totals: Totals)
     requires cell { pass.old.table_id ≡ cell.now.table.shared.table_id }
-    requires view { cell_view pass.old ≡ writer_at before }
-    requires rise { TotalsRise before after }
+    requires rise { MayWrite (cell_view pass.old) totals }
     ensures cell { pass.new.table_id ≡ pass.old.table_id }
-    ensures view { cell_view pass.new ≡ writer_at after }
+    ensures view { cell_view pass.new ≡ writer_at totals }
 {
-    let words = [after.steps, after.unlinked, after.reclaimed];
+    let words = [totals.steps, totals.unlinked, totals.reclaimed];
     cell.swap_as::<Writes, R>(rt, pass, words);
 }
 
@@ -88,7 +88,7 @@ fn publish<R: Wait>(rt: &R, cell: &Meter, pass: &mut MeterPass, before: Totals, 
     ensures view { cell_view pass.new ≡ writer_at after }
 {
     if before != after {
-        write_totals(rt, cell, pass, before, after);
+        write_totals(rt, cell, pass, after);
     }
 }
 

@@ -3,4 +3,4 @@ use Rattle.shared.proofs.Meters.{writes_totals}
 use Rattle.shared.proofs.state.write_totals.Goals as goal
 
 pub swap_as-requires : goal.swap_as-requires
-swap_as-requires g c = (search rules, (search rules, (c.requires.cell, writes_totals _ _ c.args.before c.args.after c.requires.view c.requires.rise)))
+swap_as-requires g c = (search rules, (search rules, (c.requires.cell, writes_totals _ _ c.requires.rise.before c.args.totals c.requires.rise.knows c.requires.rise.rise)))
