@@ -3,4 +3,6 @@ use Rattle.shared.proofs.Meters.{writes_totals}
 use Rattle.shared.proofs.state.write_totals.Goals as goal
 
 pub swap_as-requires : goal.swap_as-requires
-swap_as-requires g c = (search rules, (search rules, (c.requires.cell, writes_totals _ _ c.requires.rise.before c.args.totals c.requires.rise.knows c.requires.rise.rise)))
+swap_as-requires g c =
+    let r = c.requires.rise in
+    (search rules, (search rules, (c.requires.cell, writes_totals _ _ r.before c.args.totals r.knows r.rise)))
