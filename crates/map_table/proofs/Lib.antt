@@ -8,6 +8,7 @@ pub mod Lists
 pub mod Lookups
 pub mod Members
 pub mod Own
+pub mod Peeking
 pub mod Places
 pub mod Replacing
 pub mod Unlinking

@@ -5,6 +5,7 @@
 //! seen each reader outside a section since.
 #![tactic(auto)]
 
+mod by_key;
 mod hash;
 mod limits;
 mod lookup;

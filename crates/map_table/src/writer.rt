@@ -5,6 +5,7 @@ ghost use Rattle.map_table_laws.specs.declared.moves.Move.{Move};
 ghost use Rattle.map_table_laws.specs.declared.moves.Move.TheVariants.{Put};
 ghost use Rattle.map_table_laws.specs.Layout.{IsCandidate, Names};
 ghost use Rattle.map_table_laws.specs.History.{word_in, IsSpare};
+ghost use Rattle.map_table_laws.specs.Lookups.{OnlySearches};
 ghost use Rattle.map_table_laws.specs.Scanned.{OnlyScans, AllOutside};
 ghost use Rattle.map_table_laws.specs.Found.{IsLinkedUnder};
 ghost use Rattle.map_table.specs.Hashes.{layout_of};
@@ -12,6 +13,7 @@ ghost use Rattle.map_table.specs.Law.{ways_of, writer_after};
 ghost use Rattle.map_table.specs.Held.{IsSized};
 ghost use Rattle.map_table.specs.Writing.{Puts, Works, AreFull, FoundInside, StaysIn};
 
+use crate::by_key::find_way;
 use crate::hash::candidates_of;
 use crate::limits::BUCKET_WAYS;
 use crate::setup::{numbers, zeros};
@@ -120,6 +122,25 @@ impl Writer {
         put_word(table, &mut self.seat, &mut self.ways, way, word);
         self.unlinked.push_reserved(gone);
         true
+    }
+
+    /// The way in which the key is linked, or `None`. It reads the key words of the elements that ways with the key's tag name.
+    pub fn find(&mut self, table: &MapTable, key: &[u64]) -> Option<usize>
+        requires table { self.old.table ≡ table.now }
+        requires key { length key.now ≡ table.now.shape.key_words }
+        ensures table { self.new.table ≡ self.old.table }
+        ensures free { self.new.free ≡ self.old.free }
+        ensures unlinked { self.new.unlinked ≡ self.old.unlinked }
+        ensures steps { (ms : List Move) × OnlySearches (layout_of table.now.shape) 0 ms
+            × Works self.old ms self.new }
+        ensures within { IfSome result (λ way. way < ways_of table.now.shape) }
+        ensures found { IfSome result (λ way.
+            IsLinkedUnder (layout_of table.now.shape) 0 key.now way self.new.view.seen) }
+        ensures bears { IfSome result (λ way. word_in way self.new.view.mine ≢ 0) }
+        ensures none { IsNone result → (way : ℕ) →
+            IsLinkedUnder (layout_of table.now.shape) 0 key.now way self.new.view.seen → ⊥ }
+    {
+        find_way(table, &mut self.seat, self.ways.as_slice(), key)
     }
 
     /// Empties a way that names an element. Readers that found the element before may use it until they end their section.
