@@ -114,7 +114,7 @@ module _ (v w : View) (way word : ℕ) (g : Went v (Put way word ∷ v.mine) w) 
   pub here : word_in way w.mine ≡ word
   here = ap (word_in way) (went_mine v w (Put way word ∷ v.mine) g) ∙ put_here way way word v.mine refl
 
-  there : (other : ℕ) → way ≢ other → word_in other w.mine ≡ word_in other v.mine
+  pub there : (other : ℕ) → way ≢ other → word_in other w.mine ≡ word_in other v.mine
   there other ne = ap (word_in other) (went_mine v w (Put way word ∷ v.mine) g) ∙ put_there way other word v.mine ne
 
   pub put_unlinked : (e : ℕ) → (Names word e → ⊥) → ((other : ℕ) → way ≢ other → Names (word_in other v.mine) e → ⊥) → IsLinked e w.mine → ⊥

@@ -107,27 +107,6 @@ module _ (v : View) (ways free unlinked : List ℕ) (way element : ℕ) (b : IsW
   emptied_writer w g low = unlinked_writer w 0 (set ways way 0) g (nothing_named element) not_free
       (put_writer v w way 0 g ways free unlinked b low (empty_names_none free) (empty_names_none unlinked))
 
--- after a scan that found each reader outside
-pub freed_writer : (v w : View) (ways free unlinked : List ℕ) (ms : List Move) → IsWriter v ways free unlinked → Went v (ms ++ v.mine) w →
-    OnlyScans 0 v.shape.readers ms → AllOutside v.shape.readers ms → IsWriter w ways (free ++ unlinked) []
-freed_writer v w ways free unlinked ms b g only all =
-    let a = quiet_writer v w ms (scans_quiet 0 v.shape.readers ms only) g ways free unlinked b in
-    let mine = went_mine v w (ms ++ v.mine) g in
-    let same = went_shape v w (ms ++ v.mine) g in
-    let freed : (e : ℕ) → IsUnlinked v e → IsFree w e = λ e u.
-    subst (λ (k : TableShape). (e < k.elements) × IsSpare k.readers e w.mine) (sym same)
-    (u.0, subst (IsSpare v.shape.readers e) (sym mine) (scan_frees v.shape.readers e ms v.mine only all u.1)) in
-    record {
-      me = a.me;
-      known = a.known;
-      sized = a.sized;
-      count = a.count;
-      are_ways = a.are_ways;
-      are_free = all_append (IsFree w) free unlinked a.are_free (all_to (IsUnlinked v) (IsFree w) unlinked freed b.are_unlinked);
-      are_unlinked = all_nil (IsUnlinked w);
-      once = λ e. let t = times_append e free unlinked in let o = b.once e in omega (arith, t, o);
-    }
-
 pub all_fit : (v : View) (ways free unlinked : List ℕ) → IsWriter v ways free unlinked → length free + length unlinked ≤ v.shape.elements
 all_fit v ways free unlinked b =
     let long = length-append free unlinked in
@@ -150,12 +129,6 @@ begins v n k ways free unlinked is sized count zeros all none =
       are_unlinked = all_nil (IsUnlinked (writer_after n k));
       once = λ e. let t = times_range e 0 k.elements in omega (arith, t);
     }
-
--- one reader more was found outside
-pub one_outside : (reader x : ℕ) (ms : List Move) → x ≡ 0 → AllOutside reader ms → AllOutside (reader + 1) (Scan (reader + 1) x ∷ ms)
-one_outside reader x ms none all r some low = dite (ℕ_discrete (reader + 1) r)
-    (λ same. inl (same, none))
-    (λ ne. inr (all r some (omega (arith, low, ne))))
 
 pub at_most : (a b c : ℕ) → a ≡ b → b ≤ c → a ≤ c
 at_most a b c e l = omega (arith, e, l)

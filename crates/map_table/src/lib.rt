@@ -12,6 +12,7 @@ mod lookup;
 mod rule;
 mod seats;
 mod setup;
+mod sightings;
 mod table;
 mod view;
 mod writer;

@@ -7,7 +7,7 @@ ghost use Rattle.map_table_laws.specs.Lookups.{OnlySearches, LooksUp};
 ghost use Rattle.map_table.specs.Hashes.{layout_of, tag_of};
 ghost use Rattle.map_table.specs.Law.{ways_of};
 ghost use Rattle.map_table.specs.Held.{IsKnown, Goes};
-ghost use Rattle.map_table.specs.Search.{HadKey, HadOther, Searched, StaysThere};
+ghost use Rattle.map_table.specs.Search.{HadKey, HadOther, Searched, StaysThere, WasThere};
 
 use crate::hash::{candidates_of, named};
 use crate::limits::BUCKET_WAYS;
@@ -33,6 +33,11 @@ impl MapTable {
         ensures found { (ns : List Move) → seat.new.view.mine ≡ ns ++ seat.old.view.mine →
             StaysThere self.now.shape key.now seat.old.view.me seat.old.view.mine ns seat.new.view.seen →
             IsSome result }
+
+        // An element that is answered was linked under the key at some moment of these moves.
+        ensures linked { (ns : List Move) → seat.new.view.mine ≡ ns ++ seat.old.view.mine →
+            IfSome result (λ element. WasThere self.now.shape key.now element seat.old.view.me
+            seat.old.view.mine ns seat.new.view.seen) }
     {
         let found = self.search_both(seat, key);
         seat.is_readers();
