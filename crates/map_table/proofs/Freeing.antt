@@ -1,10 +1,9 @@
 -- What reclaiming leaves.
-use Rattle.std.proofs.Common.{◌≡◌, ◌⊎◌, ℕ, zero, suc, ◌+◌, ◌<◌, ◌≤◌, List, [], ◌∷◌, ◌++◌, length, get_or, refl, sym, ap, ◌∙◌, subst, ⊎_elim, arith, take, drop}
+use Rattle.std.proofs.Common.{◌≡◌, ℕ, zero, suc, ◌+◌, ◌<◌, ◌≤◌, List, ◌++◌, length, get_or, sym, ap, ◌∙◌, subst, ⊎_elim, arith, take, drop}
 use Rattle.std.specs.Prelude.{slice_index, All}
 use Rattle.std.proofs.lemmas.List.{length-drop, length-take-le, get_or-drop, get_or-take, get_or_default, take-append-drop}
 use Rattle.map_table_laws.specs.declared.moves.Move.{Move}
 use Rattle.map_table_laws.specs.History.{Cleared}
-use Rattle.map_table_laws.specs.Scanned.{FoundInside}
 use Rattle.map_table.specs.declared.view.View.{View}
 use Rattle.map_table.specs.Sightings.{AreSightings, Least, AreCleared, IsHeldUp}
 use Rattle.map_table.specs.Writing.{times_in, IsFree, IsUnlinked, IsWriter}

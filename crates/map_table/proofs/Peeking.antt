@@ -1,5 +1,5 @@
 -- What the writer reads of elements stays so.
-use Rattle.std.proofs.Common.{◌≡◌, ◌≢◌, ◌⊎◌, ℕ, ◌+◌, ◌*◌, ◌%◌, ◌^◌, ◌<◌, ◌≤◌, List, [], ◌∷◌, ◌++◌, refl, sym, ap, ◌∙◌, subst, ⊎_elim, inl, inr, arith}
+use Rattle.std.proofs.Common.{◌≡◌, ◌≢◌, ◌⊎◌, ℕ, ◌+◌, ◌*◌, ◌%◌, ◌^◌, ◌<◌, ◌≤◌, List, [], ◌∷◌, ◌++◌, refl, sym, ap, ◌∙◌, subst, ⊎_elim, arith}
 use Rattle.std.specs.Prelude.{slice_index, true, false}
 use mathlib.Core.Logic.{dite}
 use native.Mathlib.Decide.{ℕ_discrete}
@@ -9,14 +9,14 @@ use Rattle.map_table_laws.specs.Layout.{Layout, IsCandidate, Names, tag_in, buck
 use Rattle.map_table_laws.specs.History.{moves_of, word_in, word_at, key_of, IsLawful}
 use Rattle.map_table_laws.specs.Lookups.{OnlySearches}
 use Rattle.map_table_laws.specs.Found.{IsLinkedUnder}
-use Rattle.map_table_laws.proofs.Steps.{own, others, key_learn, key_load, key_word, one_name, nothing_named}
+use Rattle.map_table_laws.proofs.Steps.{own, others, key_learn, key_load, key_word, one_name}
 use Rattle.map_table_laws.proofs.Standing.{fits}
 use Rattle.map_table.specs.declared.view.TableShape.{TableShape}
 use Rattle.map_table.specs.declared.view.View.{View}
 use Rattle.map_table.specs.Hashes.{layout_of, tag_of, first_bucket, second_bucket}
 use Rattle.map_table.specs.Held.{Went, IsKnown}
 use Rattle.map_table.proofs.Going.{went_known}
-use Rattle.map_table.proofs.Filling.{own_list, went_shape, went_me}
+use Rattle.map_table.proofs.Filling.{own_list, went_me}
 use Rattle.map_table.proofs.Own.{readers_leave}
 use Rattle.map_table.proofs.Keeping.{searches_quiet, same_word}
 use Rattle.map_table.proofs.Replacing.{stretch}

@@ -8,26 +8,23 @@ use Rattle.std.proofs.lemmas.List.{get_or_default}
 use mathlib.Core.Logic.{dite}
 use native.Mathlib.Decide.{ℕ_discrete}
 use Rattle.map_table_laws.specs.declared.moves.Move.{Move}
-use Rattle.map_table_laws.specs.declared.moves.Move.TheVariants.{Put, Scan}
+use Rattle.map_table_laws.specs.declared.moves.Move.TheVariants.{Put}
 use Rattle.map_table_laws.specs.Layout.{Layout, IsCandidate, Names}
-use Rattle.map_table_laws.specs.History.{moves_of, word_in, IsSpare, MayLink, IsLawful}
+use Rattle.map_table_laws.specs.History.{moves_of, word_in, MayLink, IsLawful}
 use Rattle.map_table_laws.specs.Found.{IsLinkedUnder}
-use Rattle.map_table_laws.specs.Scanned.{OnlyScans, AllOutside}
 use Rattle.map_table_laws.proofs.Steps.{one_name, nothing_named}
 use Rattle.map_table_laws.proofs.Standing.{Quiet, Changed, step, fits, one_way}
-use Rattle.map_table_laws.proofs.Writing.{scan_frees}
 use Rattle.map_table.specs.declared.view.TableShape.{TableShape}
 use Rattle.map_table.specs.declared.view.View.{View}
 use Rattle.map_table.specs.Hashes.{layout_of}
 use Rattle.map_table.specs.Law.{ways_of, writer_after}
 use Rattle.map_table.specs.Held.{Went, IsSized}
 use Rattle.map_table.specs.Writing.{Fills, times_in, IsFree, IsUnlinked, IsWriter}
-use Rattle.map_table.proofs.Going.{went_mine}
 use Rattle.map_table.proofs.Filling.{own_list, went_shape}
 use Rattle.map_table.proofs.Members.{one_for, times_append, times_push, times_range, all_nil, all_append, all_push}
 use Rattle.map_table.proofs.Members.{all_to, all_range, nowhere, room, few, at_most_one, none_for}
 use Rattle.map_table.proofs.Linking.{taken, filled_writer, linked_writer}
-use Rattle.map_table.proofs.Keeping.{scans_quiet, quiet_writer, put_writer, put_unlinked, empty_names_none}
+use Rattle.map_table.proofs.Keeping.{put_writer, put_unlinked, empty_names_none}
 
 -- each way is empty, or names an element
 named : (k : Layout) (es : List (ℕ × Move)) → IsLawful k es → (way : ℕ) →

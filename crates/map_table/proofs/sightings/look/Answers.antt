@@ -1,4 +1,4 @@
-use Rattle.std.proofs.Common.{rules, ◌≡◌, ◌≢◌, ◌+◌, ◌<◌, ◌∷◌, [], refl, sym, ap, ◌∙◌, subst, inl, inr, arith, length, get_or-set_same}
+use Rattle.std.proofs.Common.{rules, ◌≡◌, ◌≢◌, ◌+◌, ◌<◌, ◌∷◌, [], refl, sym, subst, inl, inr, arith, length, get_or-set_same}
 use Rattle.map_table_laws.specs.declared.moves.Move.TheVariants.{Scan}
 use Rattle.map_table.specs.declared.view.TableShape.{TableShape}
 use Rattle.map_table.proofs.Seen.{sightings_inside, sightings_outside}

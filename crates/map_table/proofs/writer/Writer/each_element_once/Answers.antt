@@ -1,6 +1,6 @@
-use Rattle.std.proofs.Common.{ap, subst}
+use Rattle.std.proofs.Common.{subst}
 use Rattle.std.specs.Prelude.{All}
-use Rattle.map_table.specs.Writing.{WriterView, IsFree, IsUnlinked, IsNoneLost, times_in}
+use Rattle.map_table.specs.Writing.{WriterView, IsFree, IsUnlinked, IsNoneLost}
 use Rattle.map_table.proofs.writer.Writer.each_element_once.Goals as goal
 
 pub returns-clause-free : goal.returns-clause-free

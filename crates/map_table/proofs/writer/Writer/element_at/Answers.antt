@@ -1,5 +1,4 @@
-use Rattle.std.proofs.Common.{rules, ◌≡◌, ◌≢◌, ◌<◌, ◌∙◌, sym, ap, subst}
-use Rattle.map_table_laws.specs.History.{word_in}
+use Rattle.std.proofs.Common.{rules, ◌≢◌, ◌<◌, ◌∙◌, sym, subst}
 use Rattle.map_table.specs.Law.{ways_of}
 use Rattle.map_table.specs.Writing.{WriterView}
 use Rattle.map_table.proofs.Unlinking.{low_half, read_way}

@@ -1,9 +1,8 @@
-use Rattle.std.proofs.Common.{◌++◌, ◌∙◌, refl, ap}
+use Rattle.std.proofs.Common.{◌∙◌, refl}
 use Rattle.map_table.specs.Hashes.{layout_of}
-use Rattle.map_table.specs.Writing.{WriterView, as_holder}
 use Rattle.map_table.proofs.Filling.{went_shape}
 use Rattle.map_table.proofs.Keeping.{searches_quiet, quiet_writer}
-use Rattle.map_table.proofs.Linking.{fits_still, works}
+use Rattle.map_table.proofs.Linking.{fits_still}
 use Rattle.map_table.proofs.Lost.{quiet_none_lost}
 use Rattle.map_table.proofs.Seen.{sightings_searched}
 use Rattle.map_table.proofs.writer.Writer.find.Goals as goal
