@@ -6,8 +6,9 @@ use mathlib.Core.Logic.{dite}
 use native.Mathlib.Decide.{ℕ_discrete}
 use Rattle.map_table_laws.specs.declared.moves.Move.{Move}
 use Rattle.map_table_laws.specs.declared.moves.Move.TheVariants.{Open, Close, Learn, Load, Store, Put, Scan}
-use Rattle.map_table_laws.specs.Layout.{Names}
+use Rattle.map_table_laws.specs.Layout.{Layout, Names}
 use Rattle.map_table_laws.specs.History.{word_in, IsLinked, Cleared, IsSpare}
+use Rattle.map_table_laws.specs.Lookups.{OnlySearches}
 use Rattle.map_table_laws.specs.Scanned.{OnlyScans}
 use Rattle.map_table_laws.proofs.Steps.{put_here, put_there, one_name, nothing_named}
 use Rattle.map_table.specs.declared.view.TableShape.{TableShape}
@@ -54,6 +55,22 @@ scans_quiet low high (Store s p x ∷ ns) n = absurd n
 scans_quiet low high (Put s w ∷ ns) n = absurd n
 scans_quiet low high (Scan r x ∷ ns) n = quiet_scan r x ns (scans_quiet low high ns n.2)
 
+quiet_learn : (way x : ℕ) (ns : List Move) → IsQuiet ns → IsQuiet (Learn way x ∷ ns)
+quiet_learn way x ns q = record { words = λ w ms. q.words w ms; cleared = λ r e ms c. q.cleared r e ms c }
+
+quiet_load : (element place x : ℕ) (ns : List Move) → IsQuiet ns → IsQuiet (Load element place x ∷ ns)
+quiet_load element place x ns q = record { words = λ w ms. q.words w ms; cleared = λ r e ms c. q.cleared r e ms c }
+
+pub searches_quiet : (k : Layout) (table : ℕ) (ns : List Move) → OnlySearches k table ns → IsQuiet ns
+searches_quiet k table [] n = quiet_none
+searches_quiet k table (Open ∷ ns) n = absurd n
+searches_quiet k table (Close ∷ ns) n = absurd n
+searches_quiet k table (Learn w x ∷ ns) n = quiet_learn w x ns (searches_quiet k table ns n)
+searches_quiet k table (Load e p x ∷ ns) n = quiet_load e p x ns (searches_quiet k table ns n.1)
+searches_quiet k table (Store e p x ∷ ns) n = absurd n
+searches_quiet k table (Put w x ∷ ns) n = absurd n
+searches_quiet k table (Scan r x ∷ ns) n = absurd n
+
 -- after a quiet stretch
 module _ (v w : View) (ns : List Move) (q : IsQuiet ns) (g : Went v (ns ++ v.mine) w) where
   pub same_word : (way : ℕ) → word_in way w.mine ≡ word_in way v.mine
@@ -97,7 +114,7 @@ module _ (v w : View) (way word : ℕ) (g : Went v (Put way word ∷ v.mine) w) 
   pub here : word_in way w.mine ≡ word
   here = ap (word_in way) (went_mine v w (Put way word ∷ v.mine) g) ∙ put_here way way word v.mine refl
 
-  there : (other : ℕ) → way ≢ other → word_in other w.mine ≡ word_in other v.mine
+  pub there : (other : ℕ) → way ≢ other → word_in other w.mine ≡ word_in other v.mine
   there other ne = ap (word_in other) (went_mine v w (Put way word ∷ v.mine) g) ∙ put_there way other word v.mine ne
 
   pub put_unlinked : (e : ℕ) → (Names word e → ⊥) → ((other : ℕ) → way ≢ other → Names (word_in other v.mine) e → ⊥) → IsLinked e w.mine → ⊥

@@ -1,13 +1,17 @@
 pub mod Calls
 pub mod Filling
+pub mod Freeing
 pub mod Going
 pub mod Keeping
 pub mod Keeps
 pub mod Linking
 pub mod Lists
 pub mod Lookups
+pub mod Lost
 pub mod Members
 pub mod Own
+pub mod Peeking
 pub mod Places
 pub mod Replacing
+pub mod Seen
 pub mod Unlinking

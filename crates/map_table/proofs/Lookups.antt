@@ -12,10 +12,11 @@ use Rattle.map_table_laws.specs.Layout.{Names, tag_in, bucket_of, bucket_ways}
 use Rattle.map_table_laws.specs.History.{inside, Holds, IsLawful}
 use Rattle.map_table_laws.specs.Lookups.{OnlySearches, FoundIn, HadWord, IsElse, Refuted, AnswersLookup, LooksUp}
 use Rattle.map_table_laws.proofs.Moments.{lawful_early, stays_found}
+use Rattle.map_table_laws.proofs.Hits.{hit_linked}
 use Rattle.map_table.specs.declared.view.TableShape.{TableShape}
 use Rattle.map_table.specs.Hashes.{layout_of, first_bucket, second_bucket, tag_of}
 use Rattle.map_table.specs.Held.{Holder, Goes}
-use Rattle.map_table.specs.Search.{HadKey, HadOther, Searched, StaysThere}
+use Rattle.map_table.specs.Search.{HadKey, HadOther, Searched, StaysThere, WasThere}
 use Rattle.map_table.proofs.Going.{goes_fact, goes_known, went_mine}
 
 -- a stretch of steps that only search
@@ -235,6 +236,19 @@ module _ (k : TableShape) (key : List ℕ) where
       absurd (stays_found (layout_of k) 0 key s.view.me there.way there.late there.early
       (lawful_early (layout_of k) there.newer (there.late ++ there.early) (subst (IsLawful (layout_of k)) there.history lawful))
       (subst (OnlySearches (layout_of k) 0) moves l.only) (subst (λ z. AnswersLookup (layout_of k) 0 key z None) moves l.answers) there.stays)
+
+  -- an element that was answered was linked
+  pub hit_was_there : (s t : Holder) (ms : List Move) (found : Option ℕ) → length key ≡ k.key_words → 0 < s.view.me → t.view.shape ≡ k → Goes s ms t →
+      LooksUp (layout_of k) 0 key ms found → (ns : List Move) → t.view.mine ≡ ns ++ s.view.mine →
+      IfSome found (λ element. WasThere k key element s.view.me s.view.mine ns t.view.seen)
+  hit_was_there s t ms None count some shape g l ns list = tt
+  hit_was_there s t ms (Some element) count some shape g l ns list = λ newer late early history before_are moves_are.
+      let same : ms ≡ ns = append_cancel_right ms ns s.view.mine (sym (went_mine s.view t.view (ms ++ s.view.mine) g.went) ∙ list) in
+      let moves = same ∙ sym moves_are in
+      let lawful : IsLawful (layout_of k) t.view.seen = subst (λ (z : TableShape). IsLawful (layout_of z) t.view.seen) shape (goes_known s t ms g).0 in
+      hit_linked (layout_of k) 0 (λ e w a b p q. refl) key count s.view.me element late early some
+      (lawful_early (layout_of k) newer (late ++ early) (subst (IsLawful (layout_of k)) history lawful))
+      (subst (OnlySearches (layout_of k) 0) moves l.only) (subst (λ z. AnswersLookup (layout_of k) 0 key z (Some element)) moves l.answers)
 
 -- how many moves a search takes
 pub more_steps : (at w : ℕ) (ns ms : List Move) → length ms ≤ at * w → length ns ≤ w → length (ns ++ ms) ≤ (at + 1) * w

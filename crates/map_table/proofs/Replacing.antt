@@ -117,7 +117,7 @@ module _ (k : Layout) (table : ℕ) (key : List ℕ) (way : ℕ) where
   )
 
 -- the writer's part of a stretch
-stretch : (v w : View) (ms : List Move) → v.me ≡ 0 → IsKnown v → (g : Went v (ms ++ v.mine) w) → moves_of 0 g.0 ≡ ms
+pub stretch : (v w : View) (ms : List Move) → v.me ≡ 0 → IsKnown v → (g : Went v (ms ++ v.mine) w) → moves_of 0 g.0 ≡ ms
 stretch v w ms writer known g =
     let seen : w.seen ≡ g.0 ++ v.seen = ap (λ (z : View). z.seen) g.1 in
     let list : moves_of 0 (g.0 ++ v.seen) ≡ ms ++ v.mine =

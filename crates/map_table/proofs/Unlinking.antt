@@ -8,26 +8,23 @@ use Rattle.std.proofs.lemmas.List.{get_or_default}
 use mathlib.Core.Logic.{dite}
 use native.Mathlib.Decide.{ℕ_discrete}
 use Rattle.map_table_laws.specs.declared.moves.Move.{Move}
-use Rattle.map_table_laws.specs.declared.moves.Move.TheVariants.{Put, Scan}
+use Rattle.map_table_laws.specs.declared.moves.Move.TheVariants.{Put}
 use Rattle.map_table_laws.specs.Layout.{Layout, IsCandidate, Names}
-use Rattle.map_table_laws.specs.History.{moves_of, word_in, IsSpare, MayLink, IsLawful}
+use Rattle.map_table_laws.specs.History.{moves_of, word_in, MayLink, IsLawful}
 use Rattle.map_table_laws.specs.Found.{IsLinkedUnder}
-use Rattle.map_table_laws.specs.Scanned.{OnlyScans, AllOutside}
 use Rattle.map_table_laws.proofs.Steps.{one_name, nothing_named}
 use Rattle.map_table_laws.proofs.Standing.{Quiet, Changed, step, fits, one_way}
-use Rattle.map_table_laws.proofs.Writing.{scan_frees}
 use Rattle.map_table.specs.declared.view.TableShape.{TableShape}
 use Rattle.map_table.specs.declared.view.View.{View}
 use Rattle.map_table.specs.Hashes.{layout_of}
 use Rattle.map_table.specs.Law.{ways_of, writer_after}
 use Rattle.map_table.specs.Held.{Went, IsSized}
 use Rattle.map_table.specs.Writing.{Fills, times_in, IsFree, IsUnlinked, IsWriter}
-use Rattle.map_table.proofs.Going.{went_mine}
 use Rattle.map_table.proofs.Filling.{own_list, went_shape}
 use Rattle.map_table.proofs.Members.{one_for, times_append, times_push, times_range, all_nil, all_append, all_push}
 use Rattle.map_table.proofs.Members.{all_to, all_range, nowhere, room, few, at_most_one, none_for}
 use Rattle.map_table.proofs.Linking.{taken, filled_writer, linked_writer}
-use Rattle.map_table.proofs.Keeping.{scans_quiet, quiet_writer, put_writer, put_unlinked, empty_names_none}
+use Rattle.map_table.proofs.Keeping.{put_writer, put_unlinked, empty_names_none}
 
 -- each way is empty, or names an element
 named : (k : Layout) (es : List (ℕ × Move)) → IsLawful k es → (way : ℕ) →
@@ -107,27 +104,6 @@ module _ (v : View) (ways free unlinked : List ℕ) (way element : ℕ) (b : IsW
   emptied_writer w g low = unlinked_writer w 0 (set ways way 0) g (nothing_named element) not_free
       (put_writer v w way 0 g ways free unlinked b low (empty_names_none free) (empty_names_none unlinked))
 
--- after a scan that found each reader outside
-pub freed_writer : (v w : View) (ways free unlinked : List ℕ) (ms : List Move) → IsWriter v ways free unlinked → Went v (ms ++ v.mine) w →
-    OnlyScans 0 v.shape.readers ms → AllOutside v.shape.readers ms → IsWriter w ways (free ++ unlinked) []
-freed_writer v w ways free unlinked ms b g only all =
-    let a = quiet_writer v w ms (scans_quiet 0 v.shape.readers ms only) g ways free unlinked b in
-    let mine = went_mine v w (ms ++ v.mine) g in
-    let same = went_shape v w (ms ++ v.mine) g in
-    let freed : (e : ℕ) → IsUnlinked v e → IsFree w e = λ e u.
-    subst (λ (k : TableShape). (e < k.elements) × IsSpare k.readers e w.mine) (sym same)
-    (u.0, subst (IsSpare v.shape.readers e) (sym mine) (scan_frees v.shape.readers e ms v.mine only all u.1)) in
-    record {
-      me = a.me;
-      known = a.known;
-      sized = a.sized;
-      count = a.count;
-      are_ways = a.are_ways;
-      are_free = all_append (IsFree w) free unlinked a.are_free (all_to (IsUnlinked v) (IsFree w) unlinked freed b.are_unlinked);
-      are_unlinked = all_nil (IsUnlinked w);
-      once = λ e. let t = times_append e free unlinked in let o = b.once e in omega (arith, t, o);
-    }
-
 pub all_fit : (v : View) (ways free unlinked : List ℕ) → IsWriter v ways free unlinked → length free + length unlinked ≤ v.shape.elements
 all_fit v ways free unlinked b =
     let long = length-append free unlinked in
@@ -150,12 +126,6 @@ begins v n k ways free unlinked is sized count zeros all none =
       are_unlinked = all_nil (IsUnlinked (writer_after n k));
       once = λ e. let t = times_range e 0 k.elements in omega (arith, t);
     }
-
--- one reader more was found outside
-pub one_outside : (reader x : ℕ) (ms : List Move) → x ≡ 0 → AllOutside reader ms → AllOutside (reader + 1) (Scan (reader + 1) x ∷ ms)
-one_outside reader x ms none all r some low = dite (ℕ_discrete (reader + 1) r)
-    (λ same. inl (same, none))
-    (λ ne. inr (all r some (omega (arith, low, ne))))
 
 pub at_most : (a b c : ℕ) → a ≡ b → b ≤ c → a ≤ c
 at_most a b c e l = omega (arith, e, l)

@@ -3,4 +3,5 @@ pub mod Held
 pub mod Law
 pub mod Limits
 pub mod Search
+pub mod Sightings
 pub mod Writing

@@ -4,7 +4,7 @@ use Rattle.map_table_laws.specs.declared.moves.Move.{Move}
 use Rattle.map_table_laws.specs.declared.moves.Move.TheVariants.{Load}
 use Rattle.map_table_laws.specs.History.{moves_of}
 use Rattle.map_table_laws.specs.Lookups.{FoundIn, HadWord, Refuted}
-use Rattle.map_table_laws.specs.Found.{StaysFound}
+use Rattle.map_table_laws.specs.Found.{IsLinkedAs, Sometime, StaysFound}
 use Rattle.map_table.specs.declared.view.TableShape.{TableShape}
 use Rattle.map_table.specs.Hashes.{layout_of}
 
@@ -39,3 +39,10 @@ pub record StaysThere (k : TableShape) (key : List ℕ) (who : ℕ) (before ns :
   pub before_are : moves_of who early ≡ before
   pub moves_are : moves_of who late ≡ ns
   pub stays : StaysFound (layout_of k) 0 key way late early
+
+-- Of all stretches of a history in which a holder made just these moves, after those before, each has a moment at which the
+-- element was linked under the key.
+abbrev pub WasThere : TableShape → List ℕ → ℕ → ℕ → List Move → List Move → List (ℕ × Move) → Type 0
+WasThere k key element who before ns es =
+    (newer late early : List (ℕ × Move)) → es ≡ newer ++ (late ++ early) → moves_of who early ≡ before →
+    moves_of who late ≡ ns → Sometime (IsLinkedAs (layout_of k) 0 key element) late early

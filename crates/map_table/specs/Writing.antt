@@ -1,14 +1,16 @@
 -- What clauses see of the writer, and what it keeps of its ways and elements.
 use Rattle.std.specs.Prelude.{◌≡◌, ◌≢◌, ◌⊎◌, ℕ, zero, suc, ◌+◌, ◌<◌, ◌≤◌, ◌==◌, List, [], ◌∷◌, ◌++◌, All, length, slice_index, if◌then◌else◌}
 use Rattle.map_table_laws.specs.declared.moves.Move.{Move}
-use Rattle.map_table_laws.specs.declared.moves.Move.TheVariants.{Store, Put, Scan}
+use Rattle.map_table_laws.specs.declared.moves.Move.TheVariants.{Store, Put}
 use Rattle.map_table_laws.specs.Layout.{IsCandidate, bucket_ways}
 use Rattle.map_table_laws.specs.History.{word_in, IsLinked, IsSpare}
 use Rattle.map_table_laws.specs.Found.{StaysFound}
+use Rattle.map_table_laws.specs.Scanned.{OnlyScans}
 use Rattle.map_table.specs.declared.view.TableShape.{TableShape}
 use Rattle.map_table.specs.declared.view.View.{View}
 use Rattle.map_table.specs.Hashes.{layout_of}
 use Rattle.map_table.specs.Law.{ways_of}
+use Rattle.map_table.specs.Sightings.{AreCleared}
 use Rattle.map_table.specs.Held.{TableView, Holder, IsKnown, IsSized, Goes}
 
 -- at which table, what the writer did and saw there, the elements that it may fill, and those that it has unlinked and not
@@ -68,9 +70,20 @@ abbrev pub StaysIn : TableShape → List ℕ → ℕ → List (ℕ × Move) → 
 StaysIn k key way old new =
     (late : List (ℕ × Move)) × (new ≡ late ++ old) × StaysFound (layout_of k) 0 key way late old
 
--- the last of the moves found a reader inside a section
-abbrev pub FoundInside : List Move → Type 0
-FoundInside ms = (r x : ℕ) × (rest : List Move) × (ms ≡ Scan r x ∷ rest) × (x ≢ 0)
+-- The writer only looked at section words, at that of each of the readers once at most.
+abbrev pub Looks : WriterView → List Move → WriterView → Type 0
+Looks v ms w = OnlyScans 0 v.table.shape.readers ms × (length ms ≤ v.table.shape.readers) × Works v ms w
+
+-- These elements, which were unlinked first, became free: each reader was seen outside a section since.
+pub record Frees (gone : List ℕ) (v w : WriterView) : Type 0 where
+  pub unlinked : v.unlinked ≡ gone ++ w.unlinked
+  pub free : w.free ≡ v.free ++ gone
+  pub outside : All (λ element. AreCleared v.table.shape.readers element w.view.mine) gone
+
+-- an element that is neither free nor unlinked is linked
+abbrev pub IsNoneLost : View → List ℕ → List ℕ → Type 0
+IsNoneLost v free unlinked = (element : ℕ) → element < v.shape.elements →
+    times_in element free + times_in element unlinked ≡ 0 → IsLinked element v.mine
 
 -- What the writer keeps: it is number 0, what it saw is lawful, it has each way's word, and its lists have each element
 -- once at most.

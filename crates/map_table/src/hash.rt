@@ -71,15 +71,17 @@ pub(crate) fn candidates_of(shape: TableShape, key: &[u64]) -> Candidates
     }
 }
 
-/// The number of the element that a way's word names, if the word has the tag.
+/// The number of the element that a way's word names, if the word has the tag. One comparison tells: the word of the element
+/// 0 with this tag is taken from it, and what is left is the number, unless it is too large for one.
 #[inline]
 pub(crate) fn named(word: u64, tag: u64) -> Option<usize>
+    requires { tag < 2 ^ 32 }
     ensures some { IfSome result (λ element. Names word element × (tag_in word ≡ tag)) }
     ensures none { IsNone result → (word % 2 ^ 32 ≡ 0) ⊎ (tag_in word ≢ tag) }
 {
-    let low = word & 0xffff_ffff;
-    if low == 0 || word >> 32 != tag {
+    let number = word.wrapping_sub((tag << 32) + 1);
+    if number >= 0xffff_ffff {
         return None;
     }
-    Some((low - 1) as usize)
+    Some(number as usize)
 }

@@ -5,12 +5,14 @@
 //! seen each reader outside a section since.
 #![tactic(auto)]
 
+mod by_key;
 mod hash;
 mod limits;
 mod lookup;
 mod rule;
 mod seats;
 mod setup;
+mod sightings;
 mod table;
 mod view;
 mod writer;

@@ -5,9 +5,9 @@ ghost use Rattle.map_table_laws.specs.Layout.{bucket_ways};
 ghost use Rattle.map_table_laws.specs.History.{inside, Holds};
 ghost use Rattle.map_table_laws.specs.Lookups.{OnlySearches, LooksUp};
 ghost use Rattle.map_table.specs.Hashes.{layout_of, tag_of};
-ghost use Rattle.map_table.specs.Law.{ways_of};
+ghost use Rattle.map_table.specs.Law.{ways_from, ways_of};
 ghost use Rattle.map_table.specs.Held.{IsKnown, Goes};
-ghost use Rattle.map_table.specs.Search.{HadKey, HadOther, Searched, StaysThere};
+ghost use Rattle.map_table.specs.Search.{HadKey, HadOther, Searched, StaysThere, WasThere};
 
 use crate::hash::{candidates_of, named};
 use crate::limits::BUCKET_WAYS;
@@ -33,6 +33,11 @@ impl MapTable {
         ensures found { (ns : List Move) → seat.new.view.mine ≡ ns ++ seat.old.view.mine →
             StaysThere self.now.shape key.now seat.old.view.me seat.old.view.mine ns seat.new.view.seen →
             IsSome result }
+
+        // An element that is answered was linked under the key at some moment of these moves.
+        ensures linked { (ns : List Move) → seat.new.view.mine ≡ ns ++ seat.old.view.mine →
+            IfSome result (λ element. WasThere self.now.shape key.now element seat.old.view.me
+            seat.old.view.mine ns seat.new.view.seen) }
     {
         let found = self.search_both(seat, key);
         seat.is_readers();
@@ -72,8 +77,9 @@ impl MapTable {
             × Searched self.now.shape key.now first (first + bucket_ways) ms result
             × (length ms ≤ bucket_ways * (1 + self.now.shape.key_words)) }
     {
+        let ways = self.first_way();
         for at in 0..BUCKET_WAYS {
-            if let Some(element) = self.match_way(seat, key, first + at, tag) {
+            if let Some(element) = self.match_way(seat, key, ways, first + at, tag) {
                 return Some(element);
             }
         }
@@ -82,10 +88,18 @@ impl MapTable {
 
     /// The element that the way names, if it has the key.
     #[inline]
-    fn match_way(&self, seat: &mut ReadSeat, key: &[u64], way: usize, tag: u64) -> Option<usize>
+    fn match_way(
+        &self,
+        seat: &mut ReadSeat,
+        key: &[u64],
+        ways: usize,
+        way: usize,
+        tag: u64,
+    ) -> Option<usize>
         requires table { seat.old.table ≡ self.now }
         requires inside { inside seat.old.view.mine ≡ 1 }
         requires key { length key.now ≡ self.now.shape.key_words }
+        requires ways { ways ≡ ways_from self.now.shape }
         requires way { way < ways_of self.now.shape }
         requires tag { tag ≡ tag_of self.now.shape key.now }
         ensures { (ms : List Move) × Goes seat.old ms seat.new
@@ -93,7 +107,7 @@ impl MapTable {
             × Searched self.now.shape key.now way (way + 1) ms result
             × (length ms ≤ 1 + self.now.shape.key_words) }
     {
-        let word = self.learn(seat, way);
+        let word = self.learn_behind(seat, ways, way);
         let Some(element) = named(word, tag) else {
             return None;
         };

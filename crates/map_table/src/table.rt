@@ -6,7 +6,7 @@ ghost use Rattle.map_table_laws.specs.Layout.{Names};
 ghost use Rattle.map_table_laws.specs.History.{inside, word_at, Holds, IsSpare, IsReader, MayLink};
 ghost use Rattle.map_table.specs.declared.view.View.{View};
 ghost use Rattle.map_table.specs.Hashes.{layout_of};
-ghost use Rattle.map_table.specs.Law.{Kept, ways_of, count_of, base_of, width_of, writer_after};
+ghost use Rattle.map_table.specs.Law.{Kept, ways_from, ways_of, count_of, base_of, width_of, writer_after};
 ghost use Rattle.map_table.specs.Held.{IsSized, IsKnown, IsReady, IsNew, Does, Went};
 
 use crate::limits::BUCKET_WAYS;
@@ -155,8 +155,29 @@ impl MapTable {
         ensures within { (element : ℕ) → Names result element → element < self.now.shape.elements }
         ensures held { (element : ℕ) → Names result element → Holds element seat.new.view.mine }
     {
-        let index = self.ways + way;
-        self.table.shared.load::<Learns>(&mut seat.seat, index)
+        self.learn_behind(seat, self.ways, way)
+    }
+
+    /// Where the ways begin.
+    #[inline]
+    pub(crate) fn first_way(&self) -> usize
+        ensures { result ≡ ways_from self.now.shape }
+    {
+        self.ways
+    }
+
+    /// The word of a way, where it is known where the ways begin, so that a search does not read that for each way.
+    #[inline]
+    pub(crate) fn learn_behind(&self, seat: &mut ReadSeat, ways: usize, way: usize) -> u64
+        requires table { seat.old.table ≡ self.now }
+        requires inside { inside seat.old.view.mine ≡ 1 }
+        requires ways { ways ≡ ways_from self.now.shape }
+        requires way { way < ways_of self.now.shape }
+        ensures step { Does seat.old (Learn way result) seat.new }
+        ensures within { (element : ℕ) → Names result element → element < self.now.shape.elements }
+        ensures held { (element : ℕ) → Names result element → Holds element seat.new.view.mine }
+    {
+        self.table.shared.load::<Learns>(&mut seat.seat, ways + way)
     }
 
     /// The word at a place of an element that was found in the section that is open. Places count words, those of the key

@@ -1,25 +1,26 @@
 //! The writer of a table.
-ghost use Rattle.std.specs.Prelude.{◌≡◌, ◌≢◌, ◌⊎◌, ◌↔◌, ℕ, List, ◌+◌, ◌<◌, ◌≤◌, [], ◌∷◌, ◌++◌, length, vec_capacity, IsNone, IfNone, IfSome, IfOk, MatchBool, true, false};
+ghost use Rattle.std.specs.Prelude.{◌≡◌, ◌≢◌, ◌⊎◌, ◌↔◌, ℕ, List, ◌+◌, ◌<◌, ◌≤◌, [], ◌∷◌, ◌++◌, length, vec_capacity, IsNone, IfNone, IfSome, IfOk, All, true, false};
 ghost use Rattle.std.specs.List.{range_with_len};
 ghost use Rattle.map_table_laws.specs.declared.moves.Move.{Move};
 ghost use Rattle.map_table_laws.specs.declared.moves.Move.TheVariants.{Put};
 ghost use Rattle.map_table_laws.specs.Layout.{IsCandidate, Names};
 ghost use Rattle.map_table_laws.specs.History.{word_in, IsSpare};
-ghost use Rattle.map_table_laws.specs.Scanned.{OnlyScans, AllOutside};
+ghost use Rattle.map_table_laws.specs.Lookups.{OnlySearches};
 ghost use Rattle.map_table_laws.specs.Found.{IsLinkedUnder};
 ghost use Rattle.map_table.specs.Hashes.{layout_of};
 ghost use Rattle.map_table.specs.Law.{ways_of, writer_after};
 ghost use Rattle.map_table.specs.Held.{IsSized};
-ghost use Rattle.map_table.specs.Writing.{Puts, Works, AreFull, FoundInside, StaysIn};
+ghost use Rattle.map_table.specs.Sightings.{IsHeldUp};
+ghost use Rattle.map_table.specs.Writing.{Puts, Works, Looks, Frees, AreFull, StaysIn, IsFree, IsUnlinked, IsNoneLost, times_in};
 
+use crate::by_key::find_way;
 use crate::hash::candidates_of;
 use crate::limits::BUCKET_WAYS;
 use crate::setup::{numbers, zeros};
+use crate::sightings::{least_of, look_round, lower_each, move_first, no_sightings};
 use crate::table::MapTable;
 use crate::view::{TableShape, View};
-use crate::writing::{
-    all_outside, element_in, empty_of_both, fill_element, move_all, put_word, way_word,
-};
+use crate::writing::{element_in, empty_of_both, fill_element, put_word, way_word};
 use atomic_table::Seat;
 use std::alloc::{AllocError, Global};
 use std::marker::Model;
@@ -33,11 +34,15 @@ pub struct Writer {
     ways: Vec<u64>,
     free: Vec<usize>,
     unlinked: Vec<usize>,
+    // Of each reader, how many of the unlinked elements it was seen outside a section since the unlinking of: of the first
+    // ones, since they are in the order of their unlinking.
+    seen: Vec<usize>,
 }
 
 impl Model for Writer {
     ghost use Rattle.std.specs.Prelude.{◌≡◌, ◌≤◌, [], vec_capacity};
-    ghost use Rattle.map_table.specs.Writing.{WriterView, IsWriter};
+    ghost use Rattle.map_table.specs.Sightings.{AreSightings};
+    ghost use Rattle.map_table.specs.Writing.{WriterView, IsWriter, IsNoneLost};
 
     ghost Value = { WriterView };
 
@@ -50,7 +55,9 @@ impl Model for Writer {
 
     ghost invariant = { λ w. IsWriter w.seat.me.0 w.ways.items w.free.items w.unlinked.items
         × (w.seat.me.1 ≡ []) × (w.seat.me.0.shape.elements ≤ vec_capacity w.free)
-        × (w.seat.me.0.shape.elements ≤ vec_capacity w.unlinked) };
+        × (w.seat.me.0.shape.elements ≤ vec_capacity w.unlinked)
+        × AreSightings w.seat.me.0 w.unlinked.items w.seen.items
+        × IsNoneLost w.seat.me.0 w.free.items w.unlinked.items };
 }
 
 impl Writer {
@@ -122,6 +129,25 @@ impl Writer {
         true
     }
 
+    /// The way in which the key is linked, or `None`. It reads the key words of the elements that ways with the key's tag name.
+    pub fn find(&mut self, table: &MapTable, key: &[u64]) -> Option<usize>
+        requires table { self.old.table ≡ table.now }
+        requires key { length key.now ≡ table.now.shape.key_words }
+        ensures table { self.new.table ≡ self.old.table }
+        ensures free { self.new.free ≡ self.old.free }
+        ensures unlinked { self.new.unlinked ≡ self.old.unlinked }
+        ensures steps { (ms : List Move) × OnlySearches (layout_of table.now.shape) 0 ms
+            × Works self.old ms self.new }
+        ensures within { IfSome result (λ way. way < ways_of table.now.shape) }
+        ensures found { IfSome result (λ way.
+            IsLinkedUnder (layout_of table.now.shape) 0 key.now way self.new.view.seen) }
+        ensures bears { IfSome result (λ way. word_in way self.new.view.mine ≢ 0) }
+        ensures none { IsNone result → (way : ℕ) →
+            IsLinkedUnder (layout_of table.now.shape) 0 key.now way self.new.view.seen → ⊥ }
+    {
+        find_way(table, &mut self.seat, self.ways.as_slice(), key)
+    }
+
     /// Empties a way that names an element. Readers that found the element before may use it until they end their section.
     pub fn unlink(&mut self, table: &MapTable, way: usize)
         requires table { self.old.table ≡ table.now }
@@ -138,23 +164,56 @@ impl Writer {
         self.unlinked.push_reserved(element);
     }
 
-    /// Looks at the section words, up to the first reader that is inside. If none is, all unlinked elements are free from now
-    /// on. It tells whether that is so.
-    pub fn reclaim(&mut self, table: &MapTable) -> bool
+    /// Looks at the section words of the readers that were not seen outside since the last unlinking, at each once. An
+    /// unlinked element is free once each reader was seen outside since, in one call or over several. It tells how many
+    /// became so. Those that were unlinked first come first.
+    pub fn reclaim(&mut self, table: &MapTable) -> usize
         requires table { self.old.table ≡ table.now }
         ensures table { self.new.table ≡ self.old.table }
-        ensures free { result ≡ true → self.new.free ≡ self.old.free ++ self.old.unlinked }
-        ensures unlinked { result ≡ true → self.new.unlinked ≡ [] }
-        ensures kept { result ≡ false →
-            (self.new.free ≡ self.old.free) × (self.new.unlinked ≡ self.old.unlinked) }
-        ensures scanned { (ms : List Move) × OnlyScans 0 table.now.shape.readers ms × Works self.old ms self.new
-            × MatchBool result (AllOutside table.now.shape.readers ms) (FoundInside ms) }
+        ensures freed { (gone : List ℕ) × (length gone ≡ result) × Frees gone self.old self.new }
+
+        // Each element that stays unlinked waits for a reader that was found inside now, and never outside since.
+        ensures waits { (ms : List Move) × Looks self.old ms self.new
+            × All (λ e. IsHeldUp table.now.shape.readers e ms self.new.view.mine) self.new.unlinked }
     {
-        if !all_outside(table, &mut self.seat) {
-            return false;
+        look_round(
+            table,
+            &mut self.seat,
+            &mut self.seen,
+            self.unlinked.as_slice(),
+        );
+        let count = least_of(self.seen.as_slice(), self.unlinked.len());
+        lower_each(&mut self.seen, count);
+        move_first(&mut self.unlinked, &mut self.free, count);
+        count
+    }
+
+    /// The elements that may be filled. The one that is filled next stands last.
+    pub fn free(&self) -> &[usize]
+        ensures { result.now ≡ self.now.free }
+    {
+        self.free.as_slice()
+    }
+
+    /// How many elements are linked: those that are neither free nor unlinked.
+    pub fn count_linked(&self, table: &MapTable) -> usize
+        requires { self.now.table ≡ table.now }
+        ensures { result + length self.now.free + length self.now.unlinked ≡ table.now.shape.elements }
+    {
+        table.shape().elements - self.free.len() - self.unlinked.len()
+    }
+
+    /// The element that a way names.
+    pub fn element_at(&self, way: usize) -> Option<usize>
+        requires { way < ways_of self.now.table.shape }
+        ensures some { IfSome result (λ element. Names (word_in way self.now.view.mine) element) }
+        ensures none { IsNone result → word_in way self.now.view.mine ≡ 0 }
+    {
+        let word = self.ways[way];
+        if word == 0 {
+            return None;
         }
-        move_all(&mut self.unlinked, &mut self.free);
-        true
+        Some(element_in(word))
     }
 
     /// The elements that were unlinked and are not free yet. The one that was unlinked last stands last.
@@ -162,6 +221,16 @@ impl Writer {
         ensures { result.now ≡ self.now.unlinked }
     {
         self.unlinked.as_slice()
+    }
+
+    /// A law: each element is free, unlinked or linked, and but one of these.
+    pub fn each_element_once(&self)
+        ensures free { All (IsFree self.now.view) self.now.free }
+        ensures unlinked { All (IsUnlinked self.now.view) self.now.unlinked }
+        ensures once { (element : ℕ) → times_in element self.now.free + times_in element self.now.unlinked ≤ 1 }
+        ensures linked { IsNoneLost self.now.view self.now.free self.now.unlinked }
+    {
+        let _ = &self.free;
     }
 
     /// The writer's share of the table: the view stands among those of whom the rule of the table speaks
@@ -190,11 +259,13 @@ impl Writer {
         let ways = zeros(alloc, shape.buckets * BUCKET_WAYS)?;
         let free = numbers(alloc, shape.elements)?;
         let unlinked = Vec::with_capacity(alloc, shape.elements)?;
+        let seen = no_sightings(alloc, shape.readers)?;
         Ok(Writer {
             seat,
             ways,
             free,
             unlinked,
+            seen,
         })
     }
 }

@@ -1,15 +1,14 @@
 //! What the calls of the writer are made of.
-ghost use Rattle.std.specs.Prelude.{◌≡◌, ◌≢◌, ◌⊎◌, ℕ, ◌+◌, ◌^◌, ◌<◌, ◌≤◌, List, ◌∷◌, ◌++◌, length, slice_index, slice_set, vec_capacity, [], ◌%◌, MatchBool, IsNone, IfSome};
+ghost use Rattle.std.specs.Prelude.{◌≡◌, ◌≢◌, ◌⊎◌, ℕ, ◌+◌, ◌^◌, ◌<◌, ◌≤◌, List, ◌∷◌, ◌++◌, length, slice_index, slice_set, ◌%◌, IsNone, IfSome};
 ghost use Rattle.map_table_laws.specs.declared.moves.Move.{Move};
 ghost use Rattle.map_table_laws.specs.declared.moves.Move.TheVariants.{Put};
 ghost use Rattle.map_table_laws.specs.Layout.{bucket_ways, Names, tag_in};
 ghost use Rattle.map_table_laws.specs.History.{word_at, key_of, IsSpare, MayLink};
-ghost use Rattle.map_table_laws.specs.Scanned.{OnlyScans, AllOutside};
 ghost use Rattle.map_table.specs.Hashes.{layout_of};
 ghost use Rattle.map_table.specs.Limits.{most_elements};
 ghost use Rattle.map_table.specs.Law.{width_of, ways_of};
 ghost use Rattle.map_table.specs.Held.{IsKnown, Went, IsSized};
-ghost use Rattle.map_table.specs.Writing.{Fills, IsOfBoth, FoundInside};
+ghost use Rattle.map_table.specs.Writing.{Fills, IsOfBoth};
 
 use crate::hash::Candidates;
 use crate::limits::BUCKET_WAYS;
@@ -176,37 +175,4 @@ pub(crate) fn element_in(word: u64) -> usize
     ensures { Names word result }
 {
     ((word & 0xffff_ffff) - 1) as usize
-}
-
-/// Whether each reader is outside a section. It looks at no more readers once one is found inside.
-pub(crate) fn all_outside(table: &MapTable, seat: &mut Seat<u8, View>) -> bool
-    requires table { (seat.old.table_id ≡ table.now.id) × (seat.old.me.0.shape ≡ table.now.shape) }
-    requires writer { seat.old.me.0.me ≡ 0 }
-    requires known { IsKnown seat.old.me.0 }
-    ensures table { seat.new.table_id ≡ seat.old.table_id }
-    ensures held { seat.new.me.1 ≡ seat.old.me.1 }
-    ensures steps { (ms : List Move) × Went seat.old.me.0 (ms ++ seat.old.me.0.mine) seat.new.me.0
-        × OnlyScans 0 table.now.shape.readers ms
-        × MatchBool result (AllOutside table.now.shape.readers ms) (FoundInside ms) }
-{
-    for reader in 0..table.shape().readers {
-        if table.scan(seat, reader) != 0 {
-            return false;
-        }
-    }
-    true
-}
-
-/// Moves all elements of one list behind those of another.
-pub(crate) fn move_all(from: &mut Vec<usize>, to: &mut Vec<usize>)
-    requires { length to.old.items + length from.old.items ≤ vec_capacity to.old }
-    ensures to { to.new.items ≡ to.old.items ++ from.old.items }
-    ensures from { from.new.items ≡ [] }
-    ensures to_capacity { vec_capacity to.new ≡ vec_capacity to.old }
-    ensures from_capacity { vec_capacity from.new ≡ vec_capacity from.old }
-{
-    for at in 0..from.len() {
-        to.push_reserved(from[at]);
-    }
-    from.clear();
 }

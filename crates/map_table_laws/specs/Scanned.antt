@@ -1,5 +1,5 @@
 -- What a scan of the section words tells.
-use Rattle.std.specs.Prelude.{◌≡◌, ◌⊎◌, ℕ, ◌<◌, ◌≤◌, List, [], ◌∷◌}
+use Rattle.std.specs.Prelude.{◌≡◌, ◌≢◌, ◌⊎◌, ℕ, ◌<◌, ◌≤◌, List, [], ◌∷◌}
 use Rattle.map_table_laws.specs.declared.moves.Move.{Move}
 use Rattle.map_table_laws.specs.declared.moves.Move.TheVariants.{Learn, Scan}
 
@@ -15,7 +15,13 @@ FoundOutside reader [] = ⊥
 FoundOutside reader (Scan r x ∷ ms) = ((r ≡ reader) × (x ≡ 0)) ⊎ FoundOutside reader ms
 FoundOutside reader (_ ∷ ms) = FoundOutside reader ms
 
--- each reader was
+-- the reader was found inside a section
+abbrev pub FoundInside : ℕ → List Move → Type 0
+FoundInside reader [] = ⊥
+FoundInside reader (Scan r x ∷ ms) = ((r ≡ reader) × (x ≢ 0)) ⊎ FoundInside reader ms
+FoundInside reader (_ ∷ ms) = FoundInside reader ms
+
+-- each reader was found outside
 abbrev pub AllOutside : ℕ → List Move → Type 0
 AllOutside readers ms = (r : ℕ) → 0 < r → r ≤ readers → FoundOutside r ms
 

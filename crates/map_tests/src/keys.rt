@@ -92,7 +92,7 @@ fn each_key_is_found(rt: HostRuntime) -> Result<(), Fail> {
 }
 
 /// Replaces the value of a key that was just linked, once while a reader is inside a section, and has its first element
-/// back when the reader is outside.
+/// back after each reader was seen outside, though they take turns inside.
 fn replace_beside<R: Abort>(
     rt: &R,
     table: &MapTable,
@@ -113,11 +113,34 @@ fn replace_beside<R: Abort>(
     assert!(rt; writer.replace(table, way, &[5, 7], &[51]));
     assert_eq!(rt; look_up(table, first, 5), Some(51));
     assert_eq!(rt; writer.unlinked().len(), 1);
-    assert!(rt; !writer.reclaim(table));
+    assert_eq!(rt; writer.reclaim(table), 0);
     table.close(second);
-    assert!(rt; writer.reclaim(table));
+    table.open(first);
+    assert_eq!(rt; writer.reclaim(table), 1);
+    table.close(first);
     assert_eq!(rt; writer.unlinked().len(), 0);
     assert_eq!(rt; look_up(table, first, 5), Some(51));
+}
+
+/// Finds the way of a key by the key alone, unlinks it, and finds it no more.
+fn unlink_found<R: Abort>(rt: &R, table: &MapTable, writer: &mut Writer)
+    requires table { writer.old.table ≡ table.now }
+    requires shape { table.now.shape ≡ SHAPE }
+{
+    assert_eq!(rt; writer.find(table, &[5, 7]), None);
+    let way = writer.link(table, &[5, 7], &[50]);
+    assert_eq!(rt; writer.find(table, &[5, 7]), way);
+    assert_eq!(rt; writer.find(table, &[6, 7]), None);
+    assert_eq!(rt; writer.count_linked(table), 1);
+    let Some(way) = writer.find(table, &[5, 7]) else {
+        return;
+    };
+    assert_eq!(rt; writer.element_at(way), Some(1023));
+    writer.unlink(table, way);
+    assert_eq!(rt; writer.find(table, &[5, 7]), None);
+    assert_eq!(rt; writer.count_linked(table), 0);
+    assert_eq!(rt; writer.free().len(), 1023);
+    assert_eq!(rt; writer.unlinked(), &[1023][..]);
 }
 
 /// The first two seats.
@@ -143,5 +166,13 @@ fn replaced_value_is_found(rt: HostRuntime) -> Result<(), Fail> {
         return Err(Fail::from("not two seats"));
     };
     replace_beside(&rt, &table, first, second, &mut writer);
+    Ok(())
+}
+
+/// The writer finds a key that is linked, and no other.
+#[test]
+fn key_is_found_and_unlinked(rt: HostRuntime) -> Result<(), Fail> {
+    let (table, _, mut writer) = MapTable::new(rt.alloc(), SHAPE)?;
+    unlink_found(&rt, &table, &mut writer);
     Ok(())
 }

@@ -2,6 +2,7 @@
 ghost use Rattle.std.specs.Prelude.{◌<◌, ◌≤◌};
 ghost use Rattle.read_table.specs.declared.limits.TheConstants.{MAX_READERS};
 
+use crate::maps::repeat_map_calls;
 use crate::measurements::{measurement_line, quotient};
 use crate::reads::command::ReadCommand;
 use crate::reads::jobs::time_per_read_job;
@@ -104,6 +105,10 @@ fn repeated_lines(alloc: Global, name: &str, times: u32) -> Result<Vec<String>> 
             lines.push(format!(in alloc; "{name} sum {sum}")?)?;
             return Ok(lines);
         }
+    }
+    if let Some(sum) = repeat_map_calls(alloc, name, times)? {
+        lines.push(format!(in alloc; "{name} sum {sum}")?)?;
+        return Ok(lines);
     }
     bail!("no calls {name}")
 }

@@ -1,6 +1,7 @@
-use Rattle.std.proofs.Common.{◌∙◌, ap}
+use Rattle.std.proofs.Common.{◌<◌, ◌++◌, ◌∙◌, ap, subst}
 use Rattle.map_table.specs.Held.{TableView}
-use Rattle.map_table.proofs.Lookups.{searched_inside, searched_holds, answers_held, lookup_finds}
+use Rattle.map_table.proofs.Filling.{went_me}
+use Rattle.map_table.proofs.Lookups.{searched_inside, searched_holds, answers_held, lookup_finds, hit_was_there}
 use Rattle.map_table.proofs.table.MapTable.lookup.Goals as goal
 
 pub returns-clause-inside : goal.returns-clause-inside
@@ -23,3 +24,11 @@ returns-clause-found c =
     let h = c.search_both-found.ensures.searched in
     lookup_finds c.args.self.now.shape c.args.key.now c.args.seat.now c.search_both-found.new.seat h.0 c.search_both-found.result
     (c.is_readers.ensures.shape ∙ ap (λ (t : TableView). t.shape) (h.1.table ∙ c.requires.table)) h.1 h.2
+
+pub returns-clause-linked : goal.returns-clause-linked
+returns-clause-linked c =
+    let h = c.search_both-found.ensures.searched in
+    let some = c.is_readers.ensures.reader.0 in
+    let me = went_me c.args.seat.now.view c.search_both-found.new.seat.view (h.0 ++ c.args.seat.now.view.mine) h.1.went in
+    hit_was_there c.args.self.now.shape c.args.key.now c.args.seat.now c.search_both-found.new.seat h.0 c.search_both-found.result c.requires.key
+    (subst (λ z. 0 < z) me some) (c.is_readers.ensures.shape ∙ ap (λ (t : TableView). t.shape) (h.1.table ∙ c.requires.table)) h.1 h.2

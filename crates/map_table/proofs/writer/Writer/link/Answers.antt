@@ -11,7 +11,10 @@ use Rattle.map_table.specs.Held.{TableView}
 use Rattle.map_table.specs.Writing.{WriterView, as_holder, IsWriter, Fills, AreFull}
 use Rattle.map_table.proofs.Going.{went_known, went_then}
 use Rattle.map_table.proofs.Filling.{went_shape, went_me}
-use Rattle.map_table.proofs.Linking.{may_link, linked_under, taken, linked_writer, works, of_both, way_low, fits_still, some_free}
+use Rattle.map_table.proofs.Keeping.{quiet_append, fills_quiet}
+use Rattle.map_table.proofs.Lost.{quiet_none_lost, linked_none_lost}
+use Rattle.map_table.proofs.Seen.{sightings_filled, sightings_put}
+use Rattle.map_table.proofs.Linking.{may_link, linked_under, taken, filled_writer, linked_writer, works, of_both, way_low, fits_still, some_free}
 use Rattle.map_table.proofs.writer.Writer.link.Goals as goal
 
 pub fill_element-requires-clause-element : goal.fill_element-requires-clause-element
@@ -67,7 +70,16 @@ invariant_of-self-2 c =
     c.fill_element.new.seat.me.0 ((f.steps.1 ++ f.steps.0) ++ c.self.inside.seat.me.0.mine) f.steps.4 in
     let low : c.in-Some.way < ways_of c.args.table.now.shape =
     way_low _ _ c.in-Some.way _ (subst (λ (k : TableShape). c.candidates_of-candidates.result.first + 8 ≤ ways_of k) same e.first_within)
-    (subst (λ (k : TableShape). c.candidates_of-candidates.result.second + 8 ≤ ways_of k) same e.second_within) c.in-Some.ensures.some.0 in (
+    (subst (λ (k : TableShape). c.candidates_of-candidates.result.second + 8 ≤ ways_of k) same e.second_within) c.in-Some.ensures.some.0 in
+    let v = c.self.inside.seat.me.0 in
+    let u = c.fill_element.new.seat.me.0 in
+    let w = c.put_word.new.seat.me.0 in
+    let unlinked = c.self.inside.unlinked.items in
+    let quiet = quiet_append f.steps.1 f.steps.0 (fills_quiet _ _ _ _ f.steps.1 f.steps.3) (fills_quiet _ _ _ _ f.steps.0 f.steps.2) in
+    let filled = filled_writer v u c.self.inside.ways.items _ c.pop.new.self.items unlinked c.in-Some-pop.element _ _ _ c.args.key.now
+    c.args.value.now f.steps.0 f.steps.1 i.0 h.items f.steps.2 f.steps.3 f.steps.4 in
+    let empty = filled.1 c.in-Some.way ∙ (sym (i.0.are_ways c.in-Some.way (subst (λ (k : TableShape). c.in-Some.way < ways_of k) (sym shape) low)) ∙
+    (ap (λ (xs : List ℕ). slice_index xs c.in-Some.way) (sym c.as_slice.ensures.value) ∙ c.in-Some.ensures.some.1)) in (
       subst (λ ways. IsWriter c.put_word.new.seat.me.0 ways c.pop.new.self.items c.self.inside.unlinked.items) (sym p.ways)
           (linked_writer c.self.inside.seat.me.0 c.fill_element.new.seat.me.0 c.put_word.new.seat.me.0 c.self.inside.ways.items _
           c.pop.new.self.items c.self.inside.unlinked.items c.in-Some-pop.element c.in-Some.way c.way_word-word.result _ _ _ c.args.key.now
@@ -76,6 +88,11 @@ invariant_of-self-2 c =
       p.held ∙ (f.held ∙ i.1),
       fits_still c.self.inside.seat.me.0 c.put_word.new.seat.me.0 _ _ still h.capacity i.2,
       fits_still c.self.inside.seat.me.0 c.put_word.new.seat.me.0 _ _ still refl i.3,
+      sightings_put u w c.in-Some.way c.way_word-word.result unlinked c.self.inside.seen.items p.step filled.0.are_unlinked
+          (sightings_filled v u c.in-Some-pop.element _ _ _ c.args.key.now c.args.value.now f.steps.0 f.steps.1 unlinked c.self.inside.seen.items
+          f.steps.2 f.steps.3 f.steps.4 i.4),
+      linked_none_lost u w c.in-Some.way c.way_word-word.result p.step c.in-Some-pop.element _ c.pop.new.self.items unlinked empty h.items
+          c.way_word-word.ensures.names (quiet_none_lost v u (f.steps.1 ++ f.steps.0) quiet f.steps.4 _ unlinked i.5),
     )
 
 pub returns-clause-steps : goal.returns-clause-steps

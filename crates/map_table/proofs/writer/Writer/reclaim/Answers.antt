@@ -1,56 +1,101 @@
-use Rattle.std.proofs.Common.{◌++◌, ◌∙◌, refl, sym, ap, subst, ℕ, List}
-use Rattle.map_table_laws.specs.Scanned.{OnlyScans, AllOutside}
+use Rattle.std.proofs.Common.{rules, ◌≡◌, ◌≤◌, ◌++◌, ◌∙◌, sym, ap, subst, ℕ, List, take, drop, length}
+use Rattle.std.specs.Prelude.{All}
+use Rattle.std.proofs.lemmas.List.{length-take-le, take-append-drop}
+use Rattle.map_table_laws.specs.Scanned.{OnlyScans}
 use Rattle.map_table.specs.declared.view.TableShape.{TableShape}
 use Rattle.map_table.specs.Held.{TableView}
-use Rattle.map_table.specs.Writing.{WriterView, as_holder, IsWriter}
+use Rattle.map_table.specs.Sightings.{AreSightings, AreCleared, IsHeldUp, Least}
+use Rattle.map_table.specs.Writing.{WriterView, as_holder, IsWriter, IsNoneLost}
 use Rattle.map_table.proofs.Filling.{went_shape}
+use Rattle.map_table.proofs.Freeing.{all_cleared, all_held, freed_writer}
 use Rattle.map_table.proofs.Keeping.{scans_quiet, quiet_writer}
 use Rattle.map_table.proofs.Linking.{fits_still, works}
-use Rattle.map_table.proofs.Unlinking.{freed_writer, all_fit, at_least}
+use Rattle.map_table.proofs.Lost.{quiet_none_lost, freed_none_lost}
+use Rattle.map_table.proofs.Seen.{Looked, sightings_freed}
+use Rattle.map_table.proofs.Unlinking.{all_fit, at_least}
 use Rattle.map_table.proofs.writer.Writer.reclaim.Goals as goal
+
+pub move_first-requires-clause-room : goal.move_first-requires-clause-room
+move_first-requires-clause-room c =
+    let i = c.self.invariant in
+    at_least _ _ _ (all_fit c.self.inside.seat.me.0 c.self.inside.ways.items c.self.inside.free.items c.self.inside.unlinked.items i.0) i.2
 
 pub invariant_of-self : goal.invariant_of-self
 invariant_of-self c =
     let i = c.self.invariant in
-    let a = c.all_outside.ensures in
-    let h = c.if-not-all_outside.ensures.steps in
-    let still = went_shape c.self.inside.seat.me.0 c.all_outside.new.seat.me.0 (h.0 ++ c.self.inside.seat.me.0.mine) h.1 in (
-      quiet_writer c.self.inside.seat.me.0 c.all_outside.new.seat.me.0 h.0 (scans_quiet 0 c.args.table.now.shape.readers h.0 h.2) h.1
-          c.self.inside.ways.items c.self.inside.free.items c.self.inside.unlinked.items i.0,
-      a.held ∙ i.1,
-      fits_still c.self.inside.seat.me.0 c.all_outside.new.seat.me.0 _ _ still refl i.2,
-      fits_still c.self.inside.seat.me.0 c.all_outside.new.seat.me.0 _ _ still refl i.3,
+    let v = c.self.inside.seat.me.0 in
+    let w = c.look_round.new.seat.me.0 in
+    let s = c.look_round.ensures.steps in
+    let a = subst (λ (z : List ℕ). AreSightings w z c.look_round.new.seen.items) c.as_slice.ensures.value c.look_round.ensures.seen in
+    let m = c.move_first.ensures in
+    let free = c.self.inside.free.items in
+    let unlinked = c.self.inside.unlinked.items in
+    let count = c.least_of-count.result in
+    let still = went_shape v w (s.0 ++ v.mine) s.1 in
+    let quiet = scans_quiet 0 c.args.table.now.shape.readers s.0 s.2 in
+    let b = quiet_writer v w s.0 quiet s.1 c.self.inside.ways.items free unlinked i.0 in
+    let least : Least count c.look_round.new.seen.items (length unlinked) = search rules in (
+      subst (λ (z : List ℕ × List ℕ). IsWriter w c.self.inside.ways.items z.0 z.1) (λ j. (sym m.to j, sym m.from j))
+          (freed_writer w c.self.inside.ways.items free unlinked c.look_round.new.seen.items count b a least),
+      c.look_round.ensures.held ∙ i.1,
+      fits_still v w _ _ still m.to_capacity i.2,
+      fits_still v w _ _ still m.from_capacity i.3,
+      subst (λ (z : List ℕ). AreSightings w z c.lower_each.new.numbers.items) (sym m.from)
+          (sightings_freed w count unlinked c.look_round.new.seen.items c.lower_each.new.numbers.items c.lower_each.ensures.room
+          c.lower_each.ensures.lower least.most_is a),
+      subst (λ (z : List ℕ × List ℕ). IsNoneLost w z.0 z.1) (λ j. (sym m.to j, sym m.from j))
+          (freed_none_lost w count free unlinked (quiet_none_lost v w s.0 quiet s.1 free unlinked i.5)),
     )
 
-pub move_all-requires : goal.move_all-requires
-move_all-requires c =
+pub returns-clause-freed : goal.returns-clause-freed
+returns-clause-freed c =
     let i = c.self.invariant in
-    at_least _ _ _ (all_fit c.self.inside.seat.me.0 c.self.inside.ways.items c.self.inside.free.items c.self.inside.unlinked.items i.0) i.2
-
-pub invariant_of-self-2 : goal.invariant_of-self-2
-invariant_of-self-2 c =
-    let i = c.self.invariant in
-    let a = c.all_outside.ensures in
-    let m = c.move_all.ensures in
-    let h = c.if-not-all_outside.ensures.steps in
-    let shape = ap (λ (w : WriterView). w.table.shape) c.self.view_is ∙ ap (λ (t : TableView). t.shape) c.requires.table in
-    let still = went_shape c.self.inside.seat.me.0 c.all_outside.new.seat.me.0 (h.0 ++ c.self.inside.seat.me.0.mine) h.1 in
-    let only = subst (λ (k : TableShape). OnlyScans 0 k.readers h.0) (sym shape) h.2 in
-    let all = subst (λ (k : TableShape). AllOutside k.readers h.0) (sym shape) h.3 in
-    let freed = freed_writer c.self.inside.seat.me.0 c.all_outside.new.seat.me.0 c.self.inside.ways.items c.self.inside.free.items
-    c.self.inside.unlinked.items h.0 i.0 h.1 only all in (
-      subst (λ (z : List ℕ × List ℕ). IsWriter c.all_outside.new.seat.me.0 c.self.inside.ways.items z.0 z.1)
-          (λ b. (sym m.to b, sym m.from b)) freed,
-      a.held ∙ i.1,
-      fits_still c.self.inside.seat.me.0 c.all_outside.new.seat.me.0 _ _ still m.to_capacity i.2,
-      fits_still c.self.inside.seat.me.0 c.all_outside.new.seat.me.0 _ _ still m.from_capacity i.3,
+    let v = c.self.inside.seat.me.0 in
+    let w = c.look_round.new.seat.me.0 in
+    let s = c.look_round.ensures.steps in
+    let a = subst (λ (z : List ℕ). AreSightings w z c.look_round.new.seen.items) c.as_slice.ensures.value c.look_round.ensures.seen in
+    let m = c.move_first.ensures in
+    let unlinked = c.self.inside.unlinked.items in
+    let count = c.least_of-count.result in
+    let still = went_shape v w (s.0 ++ v.mine) s.1 in
+    let readers : w.shape.readers ≡ c.args.self.now.table.shape.readers =
+    ap (λ (k : TableShape). k.readers) still ∙ ap (λ (z : WriterView). z.table.shape.readers) c.self.view_is in
+    let b = quiet_writer v w s.0 (scans_quiet 0 c.args.table.now.shape.readers s.0 s.2) s.1 c.self.inside.ways.items c.self.inside.free.items unlinked i.0 in
+    let least : Least count c.look_round.new.seen.items (length unlinked) = search rules in (
+      take count unlinked,
+      length-take-le count unlinked least.most_is,
+      record {
+        unlinked = sym (ap (λ (z : WriterView). z.unlinked) c.self.view_is) ∙
+            (sym (take-append-drop count unlinked) ∙ ap (λ z. take count unlinked ++ z) (sym m.from));
+        free = m.to ∙ ap (λ (z : WriterView). z.free ++ take count unlinked) c.self.view_is;
+        outside = subst (λ n. All (λ e. AreCleared n e w.mine) (take count unlinked)) readers
+            (all_cleared w c.self.inside.ways.items c.self.inside.free.items unlinked c.look_round.new.seen.items count b a least);
+      },
     )
 
-pub returns-clause-scanned : goal.returns-clause-scanned
-returns-clause-scanned c =
-    let h = c.if-not-all_outside.ensures.steps in (
-      h.0,
-      h.2,
-      works _ _ c.self.inside.seat.me.0 c.all_outside.new.seat.me.0 _ h.0 (ap as_holder c.self.view_is) c.all_outside.ensures.table h.1,
-      h.3,
+pub returns-clause-waits : goal.returns-clause-waits
+returns-clause-waits c =
+    let i = c.self.invariant in
+    let v = c.self.inside.seat.me.0 in
+    let w = c.look_round.new.seat.me.0 in
+    let s = c.look_round.ensures.steps in
+    let a = subst (λ (z : List ℕ). AreSightings w z c.look_round.new.seen.items) c.as_slice.ensures.value c.look_round.ensures.seen in
+    let unlinked = c.self.inside.unlinked.items in
+    let count = c.least_of-count.result in
+    let shape = ap (λ (z : WriterView). z.table.shape) c.self.view_is ∙ ap (λ (t : TableView). t.shape) c.requires.table in
+    let readers : c.args.table.now.shape.readers ≡ w.shape.readers = ap (λ (k : TableShape). k.readers) (sym (went_shape v w (s.0 ++ v.mine) s.1 ∙ shape)) in
+    let here : c.args.table.now.shape.readers ≡ c.args.self.now.table.shape.readers = ap (λ (t : TableView). t.shape.readers) (sym c.requires.table) in
+    let b = quiet_writer v w s.0 (scans_quiet 0 c.args.table.now.shape.readers s.0 s.2) s.1 c.self.inside.ways.items c.self.inside.free.items unlinked i.0 in
+    let least : Least count c.look_round.new.seen.items (length unlinked) = search rules in (
+      s.0,
+      (
+        subst (λ n. OnlyScans 0 n s.0) here s.2,
+        subst (λ n. length s.0 ≤ n) here s.3,
+        works _ _ v w _ s.0 (ap as_holder c.self.view_is) c.look_round.ensures.table s.1,
+      ),
+      subst (λ (z : List ℕ). All (λ e. IsHeldUp c.args.table.now.shape.readers e s.0 w.mine) z) (sym c.move_first.ensures.from)
+          (subst (λ n. All (λ e. IsHeldUp n e s.0 w.mine) (drop count unlinked)) (sym readers)
+          (all_held w c.self.inside.ways.items c.self.inside.free.items unlinked c.look_round.new.seen.items count b a least s.0
+          (subst (λ (z : List ℕ). Looked w.shape.readers (length z) c.look_round.new.seen.items s.0) c.as_slice.ensures.value
+          (subst (λ n. Looked n (length c.as_slice.result.now) c.look_round.new.seen.items s.0) readers s.4)))),
     )

@@ -7,10 +7,14 @@ use Rattle.map_table.specs.declared.view.TableShape.{TableShape}
 use Rattle.map_table.specs.Hashes.{layout_of, tag_of}
 use Rattle.map_table.specs.Law.{ways_of}
 use Rattle.map_table.specs.Held.{TableView}
-use Rattle.map_table.specs.Writing.{StaysIn, WriterView, as_holder, IsWriter, Fills}
+use Rattle.map_table.specs.Writing.{StaysIn, WriterView, as_holder, IsWriter, IsNoneLost, Fills}
 use Rattle.map_table.proofs.Going.{went_known, went_then}
 use Rattle.map_table.proofs.Filling.{went_shape, went_me}
-use Rattle.map_table.proofs.Linking.{may_link, linked_under, taken, works, fits_still}
+use Rattle.map_table.proofs.Keeping.{quiet_append, fills_quiet}
+use Rattle.map_table.specs.Sightings.{AreSightings}
+use Rattle.map_table.proofs.Lost.{quiet_none_lost, replaced_none_lost}
+use Rattle.map_table.proofs.Seen.{sightings_filled, sightings_unlinked}
+use Rattle.map_table.proofs.Linking.{may_link, linked_under, taken, filled_writer, works, fits_still}
 use Rattle.map_table.proofs.Replacing.{replaced_stays}
 use Rattle.map_table.proofs.Unlinking.{low_half, read_way, less_most, linked_way, replaced_writer}
 use Rattle.map_table.proofs.writer.Writer.replace.Goals as goal
@@ -124,11 +128,27 @@ invariant_of-self-2 c =
     f.steps.2 f.steps.3 f.steps.4 p.step low c.way_word-word.ensures.names there in
     let still = went_shape c.fill_element.new.seat.me.0 c.put_word.new.seat.me.0
     (Put c.args.way c.way_word-word.result ∷ c.fill_element.new.seat.me.0.mine) p.step ∙ went_shape c.self.inside.seat.me.0 c.fill_element.new.seat.me.0
-    ((f.steps.1 ++ f.steps.0) ++ c.self.inside.seat.me.0.mine) f.steps.4 in (
+    ((f.steps.1 ++ f.steps.0) ++ c.self.inside.seat.me.0.mine) f.steps.4 in
+    let v = c.self.inside.seat.me.0 in
+    let u = c.fill_element.new.seat.me.0 in
+    let w = c.put_word.new.seat.me.0 in
+    let unlinked = c.self.inside.unlinked.items in
+    let gone = c.element_in-gone.result in
+    let quiet = quiet_append f.steps.1 f.steps.0 (fills_quiet _ _ _ _ f.steps.1 f.steps.3) (fills_quiet _ _ _ _ f.steps.0 f.steps.2) in
+    let filled = filled_writer v u c.self.inside.ways.items _ c.pop.new.self.items unlinked c.in-Some.element _ _ _ c.args.key.now
+    c.args.value.now f.steps.0 f.steps.1 i.0 h.items f.steps.2 f.steps.3 f.steps.4 in
+    let now : Names (word_in c.args.way u.mine) gone = subst (λ z. Names z gone) (sym (filled.1 c.args.way)) there in (
       subst (λ (z : List ℕ × List ℕ). IsWriter c.put_word.new.seat.me.0 z.0 c.pop.new.self.items z.1) (λ a. (sym p.ways a, sym q.items a)) r.0,
       p.held ∙ (f.held ∙ i.1),
       fits_still c.self.inside.seat.me.0 c.put_word.new.seat.me.0 _ _ still h.capacity i.2,
       fits_still c.self.inside.seat.me.0 c.put_word.new.seat.me.0 _ _ still q.capacity i.3,
+      subst (λ (z : List ℕ). AreSightings w z c.self.inside.seen.items) (sym q.items)
+          (sightings_unlinked u w c.args.way c.way_word-word.result gone unlinked c.self.inside.seen.items p.step filled.0.are_unlinked now
+          (sightings_filled v u c.in-Some.element _ _ _ c.args.key.now c.args.value.now f.steps.0 f.steps.1 unlinked c.self.inside.seen.items
+          f.steps.2 f.steps.3 f.steps.4 i.4)),
+      subst (λ (z : List ℕ). IsNoneLost w c.pop.new.self.items z) (sym q.items)
+          (replaced_none_lost u w c.args.way c.way_word-word.result p.step c.in-Some.element gone _ c.pop.new.self.items unlinked now h.items
+          c.way_word-word.ensures.names (quiet_none_lost v u (f.steps.1 ++ f.steps.0) quiet f.steps.4 _ unlinked i.5)),
     )
 
 pub returns-clause-unlinked : goal.returns-clause-unlinked

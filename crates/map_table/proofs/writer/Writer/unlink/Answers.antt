@@ -5,7 +5,10 @@ use Rattle.map_table_laws.specs.History.{word_in}
 use Rattle.map_table.specs.declared.view.TableShape.{TableShape}
 use Rattle.map_table.specs.Law.{ways_of}
 use Rattle.map_table.specs.Held.{TableView}
-use Rattle.map_table.specs.Writing.{WriterView, as_holder, IsWriter}
+use Rattle.map_table.specs.Writing.{WriterView, as_holder, IsWriter, IsNoneLost}
+use Rattle.map_table.specs.Sightings.{AreSightings}
+use Rattle.map_table.proofs.Lost.{emptied_none_lost}
+use Rattle.map_table.proofs.Seen.{sightings_unlinked}
 use Rattle.map_table.proofs.Filling.{went_shape}
 use Rattle.map_table.proofs.Linking.{fits_still, works}
 use Rattle.map_table.proofs.Unlinking.{low_half, read_way, less_most, space, emptied_writer}
@@ -51,6 +54,12 @@ invariant_of-self c =
       p.held ∙ i.1,
       fits_still c.self.inside.seat.me.0 c.put_word.new.seat.me.0 _ _ still refl i.2,
       fits_still c.self.inside.seat.me.0 c.put_word.new.seat.me.0 _ _ still q.capacity i.3,
+      subst (λ (z : List ℕ). AreSightings c.put_word.new.seat.me.0 z c.self.inside.seen.items) (sym q.items)
+          (sightings_unlinked c.self.inside.seat.me.0 c.put_word.new.seat.me.0 c.args.way 0 c.element_in-element.result c.self.inside.unlinked.items
+          c.self.inside.seen.items p.step i.0.are_unlinked names i.4),
+      subst (λ (z : List ℕ). IsNoneLost c.put_word.new.seat.me.0 c.self.inside.free.items z) (sym q.items)
+          (emptied_none_lost c.self.inside.seat.me.0 c.put_word.new.seat.me.0 c.args.way 0 p.step c.element_in-element.result
+          c.self.inside.free.items c.self.inside.unlinked.items names i.5),
     )
 
 pub returns-clause-unlinked : goal.returns-clause-unlinked

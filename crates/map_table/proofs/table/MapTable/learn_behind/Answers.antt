@@ -1,36 +1,39 @@
 use Rattle.std.proofs.Common.{◌≡◌, ◌<◌, sym, ap, ◌∙◌, subst}
 use Rattle.map_table_laws.specs.declared.moves.Move.TheVariants.{Learn}
 use Rattle.map_table_laws.specs.History.{inside}
-use Rattle.map_table.specs.Law.{ways_of}
+use Rattle.map_table.specs.Law.{ways_from, ways_of}
 use Rattle.map_table.specs.Held.{TableView, Holder}
 use Rattle.map_table.proofs.Calls.{does, learns_at, learn_within, way_back, way_within}
-use Rattle.map_table.proofs.table.MapTable.learn.Goals as goal
+use Rattle.map_table.proofs.table.MapTable.learn_behind.Goals as goal
 
 pub load-requires : goal.load-requires
 load-requires c =
     let p = ap (λ (h : Holder). h.table) c.seat.view_is ∙ (c.requires.table ∙ sym c.self.view_is) in
     let i = c.seat.invariant in
     let t = c.self.invariant in
+    let ways = subst (λ (q : TableView). c.args.ways ≡ ways_from q.shape) (sym c.self.view_is) c.requires.ways in
     let same = ap (λ (q : TableView). q.shape) p in
     let way = subst (λ (q : TableView). c.args.way < ways_of q.shape) (sym c.self.view_is) c.requires.way in
     let one = subst (λ (h : Holder). inside h.view.mine ≡ 1) (sym c.seat.view_is) c.requires.inside in (
       ap (λ (q : TableView). q.id) p,
-      way_within c.self.inside.shape c.self.inside.ways c.args.way _ t.5 way t.1,
-      learns_at c.self.inside.shape c.self.inside.table.shared.key _ _ _ c.self.inside.ways c.args.way t.5 same (sym t.0) way i.0 one,
+      way_within c.self.inside.shape c.args.ways c.args.way _ ways way t.1,
+      learns_at c.self.inside.shape c.self.inside.table.shared.key _ _ _ c.args.ways c.args.way ways same (sym t.0) way i.0 one,
     )
 
 pub returns-clause-step : goal.returns-clause-step
 returns-clause-step c =
     let p = ap (λ (h : Holder). h.table) c.seat.view_is ∙ (c.requires.table ∙ sym c.self.view_is) in
     let t = c.self.invariant in
-    let move = ap (λ z. Learn z c.load.result) (way_back _ c.self.inside.shape c.self.inside.ways c.args.way t.5 (ap (λ (q : TableView). q.shape) p)) in
+    let ways = subst (λ (q : TableView). c.args.ways ≡ ways_from q.shape) (sym c.self.view_is) c.requires.ways in
+    let move = ap (λ z. Learn z c.load.result) (way_back _ c.self.inside.shape c.args.ways c.args.way ways (ap (λ (q : TableView). q.shape) p)) in
     does _ _ _ _ _ _ _ c.seat.view_is c.load.ensures.0 move c.load.ensures.2.0
 
 pub returns-clause-within : goal.returns-clause-within
 returns-clause-within c = λ element names.
     let p = ap (λ (h : Holder). h.table) c.seat.view_is ∙ (c.requires.table ∙ sym c.self.view_is) in
     let t = c.self.invariant in
+    let ways = subst (λ (q : TableView). c.args.ways ≡ ways_from q.shape) (sym c.self.view_is) c.requires.ways in
     let same = ap (λ (q : TableView). q.shape) p in
-    let move = ap (λ z. Learn z c.load.result) (way_back _ c.self.inside.shape c.self.inside.ways c.args.way t.5 same) in
+    let move = ap (λ z. Learn z c.load.result) (way_back _ c.self.inside.shape c.args.ways c.args.way ways same) in
     subst (λ (q : TableView). element < q.shape.elements) (p ∙ c.self.view_is)
     (learn_within _ _ _ c.args.way c.load.result element move c.load.ensures.2.0 names)
