@@ -4,6 +4,8 @@
     program.py OBJECT           the program file, as text: context, maps, code
     program.py --script FILE    the first lines of a script: its maps, and the program, bound to them. FILE is an
                                 object, or a program file, as text
+    program.py --lines OBJECT   for each slot its number, and the line of the source where it comes from; of an object that
+                                `clang -g` wrote
 
 A line of a map is `map NAME KEY VALUE ENTRIES SPARE REUSE`, and of an array `map NAME array VALUE ENTRIES`.
 
@@ -150,6 +152,42 @@ def program_lines(obj):
     return ["bpfrt 1", f"ctx {context_of(obj)}", *map_lines(obj), "code", *code]
 
 
+def text_at(strings, at):
+    """The text that begins there."""
+    return strings[at:strings.index(b"\0", at)].decode(errors="replace")
+
+
+def lines_of(obj):
+    """Where lines begin in the program: a slot, and the file, the number and the text of the line. What clang's option -g writes
+    about types (.BTF) has the texts, and its extension (.BTF.ext) the lines."""
+    types, more = obj.section(".BTF"), obj.section(".BTF.ext")
+    if not types or not more:
+        sys.exit("the object has no lines of its source: clang writes them with -g")
+    size, _, _, start, length = struct.unpack_from("<5I", types, 4)
+    strings = types[size + start:size + start + length]
+    size, _, _, start, length = struct.unpack_from("<5I", more, 4)
+    record, = struct.unpack_from("<I", more, size + start)
+    at, end = size + start + 4, size + start + length
+    while at < end:
+        section, count = struct.unpack_from("<2I", more, at)
+        for number in range(count if text_at(strings, section) == ".text" else 0):
+            place, file, text, line = struct.unpack_from("<4I", more, at + 8 + number * record)
+            if line >> 10:  # clang's own code has the line 0
+                name = pathlib.PurePath(text_at(strings, file)).name
+                yield place // 8, f"{name}:{line >> 10}: {text_at(strings, text).strip()}"
+        at += 8 + count * record
+
+
+def source_lines(obj):
+    """For each slot that has one its number and its line."""
+    begins = dict(lines_of(obj))
+    line = None
+    for slot in range(len(code_of(obj))):
+        line = begins.get(slot, line)
+        if line:
+            yield f"{slot} {line}"
+
+
 def script(lines):
     """The first lines of a script, of the lines of a program file that bpfrt takes."""
     maps = [line for line in lines if line.startswith("map ")]
@@ -165,17 +203,22 @@ def read(path):
         sys.exit(f"{path}: {error.strerror}")
 
 
+def lines_by(make, path, data):
+    """What is made of an object with these bytes."""
+    if data[:6] != b"\x7fELF\2\1" or struct.unpack_from("<HH", data.ljust(64), 16) != (RELOCATABLE, FOR_BPF):
+        sys.exit(f"{path} is no object that clang wrote for the target bpf")
+    try:
+        return [*make(Object(data))]
+    except (struct.error, IndexError, KeyError, ValueError):
+        sys.exit("the object is cut off or damaged: clang is to write it anew")
+
+
 def lines_in(path):
     """The lines of the program file of an object, or of a program file itself."""
     data = read(path)
     if data.startswith(b"bpfrt 1\n"):
         return data.decode(errors="replace").splitlines()
-    if data[:6] != b"\x7fELF\2\1" or struct.unpack_from("<HH", data.ljust(64), 16) != (RELOCATABLE, FOR_BPF):
-        sys.exit(f"{path} is no object that clang wrote for the target bpf")
-    try:
-        return program_lines(Object(data))
-    except (struct.error, IndexError, KeyError, ValueError):
-        sys.exit("the object is cut off or damaged: clang is to write it anew")
+    return lines_by(program_lines, path, data)
 
 
 def main(words):
@@ -184,6 +227,8 @@ def main(words):
             lines = script(lines_in(words[1]))
         except (IndexError, StopIteration, ValueError):
             sys.exit(f"{words[1]} is no whole program file: bpfrt check says which line is wrong")
+    elif words[:1] == ["--lines"] and len(words) == 2:
+        lines = lines_by(source_lines, words[1], read(words[1]))
     elif len(words) == 1 and not words[0].startswith("-"):
         lines = lines_in(words[0])
     else:

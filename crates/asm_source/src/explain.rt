@@ -1,24 +1,17 @@
 //! What is wrong with a line, in words for people.
 
+use crate::hints::{
+    comment_words, has_leading_zero, has_two_signs, in_lower_case, is_hexadecimal, is_too_long,
+    name_hint, number_hint, shortened, sign_hint, unsigned_hint,
+};
 use crate::names::{are_digits, is_register};
 use crate::numbers::decimal_in;
 use disasm::{MNEMONICS, Mnemonic};
 use std::alloc::{AllocError, Global};
 use strsim::jaro_winkler;
 
-/// How much of a word is shown.
-const SHOWN_CHARACTERS: usize = 40;
-
 /// How alike a word and a mnemonic are at least where one is taken for the other.
 const ALIKE: f64 = 0.8;
-
-/// The first characters of a word.
-fn shortened(word: &str) -> &str {
-    match word.char_indices().nth(SHOWN_CHARACTERS) {
-        Some((end, _)) => word.get(..end).unwrap_or(word),
-        None => word,
-    }
-}
 
 /// The name of a mnemonic.
 fn name_of(alloc: Global, mnemonic: Mnemonic) -> Result<String, AllocError> {
@@ -42,19 +35,31 @@ fn nearest(alloc: Global, word: &str) -> Result<Option<String>, AllocError> {
     Ok(best)
 }
 
-/// What is said of a word that is no mnemonic.
-fn no_name(alloc: Global, word: &str) -> Result<String, AllocError> {
-    let word = shortened(word);
-    if word == "ctx" || word == "map" {
+/// The mnemonic that a word is in lower case, if it has a letter in upper case.
+fn in_other_case(alloc: Global, word: &str) -> Result<Option<String>, AllocError> {
+    let lower = in_lower_case(alloc, word)?;
+    match &lower {
+        Some(name) if mnemonic_named(name.as_str()).is_some() => Ok(lower),
+        _ => Ok(None),
+    }
+}
+
+/// What is said of a word that is no mnemonic, and behind which this text stands.
+fn no_name(alloc: Global, word: &str, text: &str) -> Result<String, AllocError> {
+    let short = shortened(word);
+    if let Some(hint) = name_hint(word, text) {
+        return format!(in alloc; "no instruction is called `{short}`; {hint}");
+    }
+    if let Some(name) = in_other_case(alloc, word)? {
         return format!(in alloc;
-            "no instruction is called `{word}`; a context and maps end with a line `code`"
+            "no instruction is called `{short}`; write `{name}`: names and registers are in lower case"
         );
     }
-    match nearest(alloc, word)? {
+    match nearest(alloc, short)? {
         Some(name) => format!(in alloc;
-            "no instruction is called `{word}`; did you mean `{name}`?"
+            "no instruction is called `{short}`; did you mean `{name}`?"
         ),
-        None => format!(in alloc; "no instruction is called `{word}`"),
+        None => format!(in alloc; "no instruction is called `{short}`"),
     }
 }
 
@@ -62,12 +67,18 @@ fn no_name(alloc: Global, word: &str) -> Result<String, AllocError> {
 #[derive(Clone, Copy, Debug, PartialEq, Eq)]
 enum Place {
     Register,
+    /// A register that is stored.
+    Stored,
     /// A register, or a number of 32 bits.
     Source,
     /// A number of 32 bits.
     Number,
     /// A number of 64 bits without a sign.
     Unsigned,
+    /// The number of a map.
+    Map,
+    /// The number of a function.
+    Function,
     /// How many bits `movsx` takes.
     Width,
     /// An offset of so many bits.
@@ -80,9 +91,16 @@ enum Place {
 fn place_words(place: Place) -> &'static str {
     match place {
         Place::Register => "is no register, which are r0 to r10",
+        Place::Stored => {
+            "is no register, which are r0 to r10; `stb`, `sth`, `stw` and `stdw` store a number"
+        }
         Place::Source => "is neither a register nor a number",
         Place::Number => "is no number",
         Place::Unsigned => "is no number without a sign",
+        Place::Map => "is neither the name nor the number of a map",
+        Place::Function => {
+            "is no number; `call 1` looks up, `call 2` updates, `call 3` deletes, `callbtf 1` locks, `callbtf 2` unlocks"
+        }
         Place::Width => "is no width, which are 8 and 16, and 32 of `movsx64`",
         Place::Offset(_) => "is neither a label nor an offset, which begins with + or -",
         Place::Memory => "is no place in memory, such as [r10-8]",
@@ -94,17 +112,17 @@ fn places_of(alloc: Global, mnemonic: Mnemonic) -> Result<Vec<Place>, AllocError
     let places = match mnemonic {
         Mnemonic::Exit => Vec::new(alloc),
         Mnemonic::Negate(_) | Mnemonic::ByteSwap(_, _) => vec![in alloc; Place::Register]?,
-        Mnemonic::Call(_) => vec![in alloc; Place::Number]?,
+        Mnemonic::Call(_) => vec![in alloc; Place::Function]?,
         Mnemonic::Jump => vec![in alloc; Place::Offset(16)]?,
         Mnemonic::JumpLong => vec![in alloc; Place::Offset(32)]?,
         Mnemonic::Alu(_, _) => vec![in alloc; Place::Register, Place::Source]?,
         Mnemonic::LoadNumber => vec![in alloc; Place::Register, Place::Unsigned]?,
-        Mnemonic::LoadMap => vec![in alloc; Place::Register, Place::Number]?,
+        Mnemonic::LoadMap => vec![in alloc; Place::Register, Place::Map]?,
         Mnemonic::Load(_) | Mnemonic::LoadSigned(_) => {
             vec![in alloc; Place::Register, Place::Memory]?
         }
         Mnemonic::Store(_) => vec![in alloc; Place::Memory, Place::Number]?,
-        Mnemonic::StoreRegister(_) => vec![in alloc; Place::Memory, Place::Register]?,
+        Mnemonic::StoreRegister(_) => vec![in alloc; Place::Memory, Place::Stored]?,
         Mnemonic::MoveSigned(_) => vec![in alloc; Place::Register, Place::Register, Place::Width]?,
         Mnemonic::JumpIf(_, _) => {
             vec![in alloc; Place::Register, Place::Source, Place::Offset(16)]?
@@ -191,9 +209,9 @@ fn wrong_memory(word: &[u8]) -> Option<Wrong> {
 /// How a word is wrong in its place, if it is.
 fn wrong_word(place: Place, word: &[u8]) -> Option<Wrong> {
     match place {
-        Place::Register => wrong_register(word),
+        Place::Register | Place::Stored => wrong_register(word),
         Place::Source if is_register(word) => wrong_register(word),
-        Place::Source | Place::Number => wrong_number(word, 32),
+        Place::Source | Place::Number | Place::Map | Place::Function => wrong_number(word, 32),
         Place::Unsigned => match word {
             [b'-', ..] => Some(Wrong::Kind),
             _ => wrong_number(word, 64),
@@ -204,16 +222,73 @@ fn wrong_word(place: Place, word: &[u8]) -> Option<Wrong> {
     }
 }
 
+/// What is said of a word in its place that has letters in upper case, where it is right, or a number, in lower case.
+fn case_words(
+    alloc: Global,
+    place: Place,
+    word: &str,
+    short: &str,
+) -> Result<Option<String>, AllocError> {
+    let Some(lower) = in_lower_case(alloc, word)? else {
+        return Ok(None);
+    };
+    if wrong_word(place, lower.as_bytes()).is_some() && !is_hexadecimal(lower.as_str()) {
+        return Ok(None);
+    }
+    let what = place_words(place);
+    let lower = shortened(lower.as_str());
+    let words = format!(in alloc; "`{short}` {what}; write `{lower}`")?;
+    Ok(Some(words))
+}
+
+/// What is said of a word that is of another kind than its place asks for.
+fn kind_words(alloc: Global, place: Place, word: &str, short: &str) -> Result<String, AllocError> {
+    if let Some(words) = case_words(alloc, place, word, short)? {
+        return Ok(words);
+    }
+    if is_too_long(word) {
+        return format!(in alloc; "`{short}` does not fit 64 bits");
+    }
+    if has_leading_zero(word) {
+        return format!(in alloc; "`{short}` has a leading zero, and a number has none");
+    }
+    let what = place_words(place);
+    match place {
+        Place::Memory if has_two_signs(word) => format!(in alloc;
+            "`{short}` has two signs: a negative constant stands behind none; name 8, and write [r10-NAME]"
+        ),
+        Place::Offset(_) if has_two_signs(word) => format!(in alloc;
+            "`{short}` has two signs: a negative constant stands behind none"
+        ),
+        Place::Unsigned => {
+            let hint = unsigned_hint(word);
+            format!(in alloc; "`{short}` {what}{hint}")
+        }
+        Place::Source | Place::Number => {
+            let hint = number_hint(word);
+            format!(in alloc; "`{short}` {what}{hint}")
+        }
+        _ => format!(in alloc; "`{short}` {what}"),
+    }
+}
+
+/// What is said of a number that has more than so many bits.
+fn long_words(alloc: Global, word: &str, short: &str, bits: u8) -> Result<String, AllocError> {
+    if bits == 32 {
+        if let Some(hint) = sign_hint(alloc, word)? {
+            return format!(in alloc; "`{short}` does not fit 32 bits; {hint}");
+        }
+    }
+    format!(in alloc; "`{short}` does not fit {bits} bits")
+}
+
 /// What is wrong with a word in its place, if something is. Of a refused line that is right so far, a width is wrong.
 fn word_words(alloc: Global, place: Place, word: &str) -> Result<Option<String>, AllocError> {
     let short = shortened(word);
     let words = match wrong_word(place, word.as_bytes()) {
         None => return Ok(None),
-        Some(Wrong::Long(bits)) => format!(in alloc; "`{short}` does not fit {bits} bits")?,
-        Some(Wrong::Kind) => {
-            let what = place_words(place);
-            format!(in alloc; "`{short}` {what}")?
-        }
+        Some(Wrong::Long(bits)) => long_words(alloc, word, short, bits)?,
+        Some(Wrong::Kind) => kind_words(alloc, place, word, short)?,
     };
     Ok(Some(words))
 }
@@ -278,9 +353,12 @@ fn mnemonic_named(name: &str) -> Option<Mnemonic> {
 /// What is wrong with a line of a plain text that `asm::assemble` refuses, in words for people; none where nothing is found.
 /// What the words say is no part of a contract.
 pub fn explain_line(alloc: Global, line: &str) -> Result<Option<String>, AllocError> {
+    if let Some(words) = comment_words(line) {
+        return Ok(Some(String::from_str(alloc, words)?));
+    }
     let (name, text) = line.split_once(' ').unwrap_or((line, ""));
     match mnemonic_named(name) {
         Some(mnemonic) => instruction_words(alloc, mnemonic, text),
-        None => Ok(Some(no_name(alloc, name)?)),
+        None => Ok(Some(no_name(alloc, name, text)?)),
     }
 }

@@ -2,16 +2,18 @@
 #![tactic(auto)]
 
 mod progress;
+mod recent;
 
 use crate::progress::Progress;
-use commands::{BpfrtCommand, WordsFault, no_command, parse_words, run, unread};
+use crate::recent::Recent;
+use commands::{BpfrtCommand, WordsFault, explain_script, no_command, parse_words, run, unread};
 use std::alloc::Global;
-use std::env;
 use std::fs::File;
 use std::io::{Error, ErrorKind, IsTerminal, Write};
 use std::process::ExitCode;
 use std::sync::Wait;
 use std::thread::Threads;
+use std::{env, io};
 
 /// Why a file cannot be opened, unless memory ran out.
 fn reason(path: &str, kind: ErrorKind) -> Option<&'static str> {
@@ -22,6 +24,8 @@ fn reason(path: &str, kind: ErrorKind) -> Option<&'static str> {
         ),
         ErrorKind::NotFound => Some("there is no such file"),
         ErrorKind::PermissionDenied => Some("it may not be read"),
+        ErrorKind::IsADirectory => Some("it is a folder"),
+        ErrorKind::NotADirectory => Some("a part of its path is no folder"),
         _ => Some("it cannot be opened"),
     }
 }
@@ -31,6 +35,33 @@ fn unopened<E: Write>(err: &mut E, path: &str, error: &Error) -> u8 {
     let status = unread(err, error);
     if let Some(reason) = reason(path, error.kind()) {
         let _ = writeln!(err, "{path:?}: {reason}");
+    }
+    status
+}
+
+/// Opens a file that can be read: a folder can be opened, but not read.
+fn opened(rt: &HostRuntime, path: &str) -> io::Result<File> {
+    let file = File::open(rt, path)?;
+    if file.metadata()?.is_dir() {
+        return Err(Error::from(ErrorKind::IsADirectory));
+    }
+    Ok(file)
+}
+
+/// Answers the script on standard input, and says in words why a line of it is no command. The handle for threads and for
+/// waiting is the runtime again.
+fn run_explained<H: Threads + Wait + Sync, W: Write>(
+    rt: &HostRuntime,
+    threads: &H,
+    command: &BpfrtCommand,
+    out: &mut W,
+) -> u8 {
+    let alloc = rt.alloc();
+    let mut err = rt.stderr();
+    let mut input = Recent::new(alloc, rt.stdin());
+    let status = run(threads, alloc, command, &mut input, out, &mut err);
+    if let (1, Some((text, above))) = (status, input.text()) {
+        let _ = explain_script(alloc, text, above, &mut err);
     }
     status
 }
@@ -45,9 +76,12 @@ fn run_into<H: Threads + Wait + Sync, W: Write>(
 ) -> u8 {
     let alloc = rt.alloc();
     let mut err = rt.stderr();
+    if let BpfrtCommand::Script { explain: true } = command {
+        return run_explained(rt, threads, command, out);
+    }
     match command.file() {
         None => run(threads, alloc, command, &mut rt.stdin(), out, &mut err),
-        Some(path) => match File::open(rt, path) {
+        Some(path) => match opened(rt, path) {
             Ok(mut file) => run(threads, alloc, command, &mut file, out, &mut err),
             Err(error) => unopened(&mut err, path, &error),
         },

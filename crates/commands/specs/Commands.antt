@@ -1,5 +1,5 @@
 -- What each command writes, of which input, and how it refuses the others.
-use Rattle.std.specs.Prelude.{◌≡◌, ℕ, List, Option, ⊤, false, codes}
+use Rattle.std.specs.Prelude.{◌≡◌, ℕ, List, Option, ⊤, false, true, codes}
 use Rattle.std.specs.Io.KnownBytes.{Appends}
 use Rattle.commands.specs.declared.request.BpfrtCommand.{BpfrtCommand}
 use Rattle.commands.specs.declared.request.BpfrtCommand.TheVariants.{Check, Disasm, Asm, Script, Version, Pool, Run, Trace, Filter}
@@ -8,7 +8,7 @@ use Rattle.commands.specs.Filters.{IsRefusedByFilter, WritesFilter}
 use Rattle.commands.specs.Checking.{RefusesChecked, WritesChecked}
 use Rattle.commands.specs.Outputs.{IsRefusedByDecode, WritesText}
 use Rattle.commands.specs.Pools.{IsRefusedByPool, WritesPool}
-use Rattle.commands.specs.Runs.{RefusesRun, WritesRun, WritesTrace}
+use Rattle.commands.specs.Runs.{RefusesRun, WritesRun}
 use Rattle.commands.specs.Scripts.{AnswersAll, AnswersBefore}
 
 -- What a command adds to the output where all is fine.
@@ -16,12 +16,12 @@ abbrev pub Writes : BpfrtCommand → Option (List ℕ) → Option (List ℕ) →
 Writes (Check file how) old new bytes = WritesChecked how.asm how.json old new bytes
 Writes (Disasm file) old new bytes = WritesText old new bytes
 Writes (Asm file form explain) old new bytes = WritesCode form old new bytes
-Writes Script old new bytes = AnswersAll old new bytes
+Writes (Script explain) old new bytes = AnswersAll old new bytes
 Writes Version old new bytes = Appends old new (codes "bpfrt 0.1.0\n")
 Writes (Pool workers file count explain) old new bytes = WritesPool count old new bytes
-Writes (Run file single) old new bytes = WritesRun single old new bytes
-Writes (Trace file single) old new bytes = WritesTrace single old new bytes
-Writes (Filter file kind) old new bytes = WritesFilter kind old new bytes
+Writes (Run file single) old new bytes = WritesRun false single old new bytes
+Writes (Trace file single) old new bytes = WritesRun true single old new bytes
+Writes (Filter file kind explain) old new bytes = WritesFilter kind old new bytes
 
 -- What is so where a command refuses: its file, its numbers, its context or its elements are
 -- refused; or a line of the script is bad, and the answers to the lines before are written. The
@@ -30,21 +30,21 @@ abbrev pub Refuses : BpfrtCommand → Option (List ℕ) → Option (List ℕ) �
 Refuses (Check file how) old new bytes = RefusesChecked how.asm how.json old new bytes
 Refuses (Disasm file) old new bytes = IsRefusedByDecode bytes
 Refuses (Asm file form explain) old new bytes = IsRefusedByAsm bytes
-Refuses Script old new bytes = AnswersBefore old new bytes
+Refuses (Script explain) old new bytes = AnswersBefore old new bytes
 Refuses Version old new bytes = ⊥
 Refuses (Pool workers file count explain) old new bytes = IsRefusedByPool workers count bytes
 Refuses (Run file single) old new bytes = RefusesRun single old new bytes
 Refuses (Trace file single) old new bytes = RefusesRun single old new bytes
-Refuses (Filter file kind) old new bytes = IsRefusedByFilter kind bytes
+Refuses (Filter file kind explain) old new bytes = IsRefusedByFilter kind bytes
 
 -- the command's input is a file, and its answer no JSON object
 abbrev pub ReadsFileForText : BpfrtCommand → Type 0
 ReadsFileForText (Check file how) = how.json ≡ false
 ReadsFileForText (Disasm file) = ⊤
 ReadsFileForText (Asm file form explain) = ⊤
-ReadsFileForText Script = ⊥
+ReadsFileForText (Script explain) = ⊥
 ReadsFileForText Version = ⊥
 ReadsFileForText (Pool workers file count explain) = ⊤
 ReadsFileForText (Run file single) = single.json ≡ false
 ReadsFileForText (Trace file single) = single.json ≡ false
-ReadsFileForText (Filter file kind) = ⊤
+ReadsFileForText (Filter file kind explain) = ⊤

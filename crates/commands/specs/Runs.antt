@@ -103,11 +103,6 @@ IsRunText single bytes text =
     (e : Ended) × (last : WorldView) × (dumped : List ℕ) × HasEnded bytes single e last
     × IsDumped single.dump last.maps dumped × (text ≡ ended_text single.json e.value e.steps dumped)
 
--- what `run` adds to the output
-abbrev pub WritesRun : SingleRun → Option (List ℕ) → Option (List ℕ) → List ℕ → Type 0
-WritesRun single old new bytes =
-    (text : List ℕ) × IsRunText single bytes text × Appends old new text
-
 -- lines, and what tells a run behind them, or as a JSON object
 abbrev pub traced_text : Bool → List ℕ → List ℕ → List ℕ
 traced_text false steps end = steps ++ end
@@ -118,10 +113,15 @@ abbrev pub IsTraceText : SingleRun → List ℕ → List ℕ → Type 0
 IsTraceText single bytes text =
     (steps end : List ℕ) × IsRunText single bytes end × (text ≡ traced_text single.json steps end)
 
--- what `trace` adds to the output
-abbrev pub WritesTrace : SingleRun → Option (List ℕ) → Option (List ℕ) → List ℕ → Type 0
-WritesTrace single old new bytes =
-    (text : List ℕ) × IsTraceText single bytes text × Appends old new text
+-- the text that tells a run alone, or with its steps
+abbrev pub IsToldText : Bool → SingleRun → List ℕ → List ℕ → Type 0
+IsToldText false single bytes text = IsRunText single bytes text
+IsToldText true single bytes text = IsTraceText single bytes text
+
+-- what `run` adds to the output, and with its steps `trace`
+abbrev pub WritesRun : Bool → SingleRun → Option (List ℕ) → Option (List ℕ) → List ℕ → Type 0
+WritesRun steps single old new bytes =
+    (text : List ℕ) × IsToldText steps single bytes text × Appends old new text
 
 -- the first element that fails a test fails this one
 abbrev pub HasBadElement : RegistryView → List MapElement → EventRefusal → Type 0

@@ -11,9 +11,8 @@ use crate::pool::{PoolSize, run_pool};
 use crate::report::refused;
 use crate::request::{BpfrtCommand, VERSION};
 use crate::script::run_lines;
-use crate::single::run_single;
 use crate::streams::{unread, write_text, written};
-use crate::trace::run_trace;
+use crate::trace::run_single;
 use program_files::{read_file, text_of};
 use std::alloc::Global;
 use std::io;
@@ -75,7 +74,7 @@ pub fn run<H: Threads + Wait + Sync, R: Read, W: Write, E: Write>(
         BpfrtCommand::Check { how, .. } => run_check(alloc, how, input, out, err),
         BpfrtCommand::Disasm { .. } => run_disasm(alloc, input, out, err),
         BpfrtCommand::Asm { form, explain, .. } => run_asm(alloc, *form, *explain, input, out, err),
-        BpfrtCommand::Script => run_lines(alloc, input, out, err),
+        BpfrtCommand::Script { .. } => run_lines(alloc, input, out, err),
         BpfrtCommand::Version => written(err, write_version(out)),
         BpfrtCommand::Pool {
             workers,
@@ -89,8 +88,10 @@ pub fn run<H: Threads + Wait + Sync, R: Read, W: Write, E: Write>(
             };
             run_pool(rt, alloc, size, *explain, input, out, err)
         }
-        BpfrtCommand::Run { single, .. } => run_single(alloc, single, input, out, err),
-        BpfrtCommand::Trace { single, .. } => run_trace(alloc, single, input, out, err),
-        BpfrtCommand::Filter { kind, .. } => run_filter(alloc, *kind, input, out, err),
+        BpfrtCommand::Run { single, .. } => run_single(alloc, false, single, input, out, err),
+        BpfrtCommand::Trace { single, .. } => run_single(alloc, true, single, input, out, err),
+        BpfrtCommand::Filter { kind, explain, .. } => {
+            run_filter(alloc, *kind, *explain, input, out, err)
+        }
     }
 }

@@ -86,7 +86,7 @@ Reads a script from standard input to its end, one command a line (docs/SCRIPTS.
 then what happens to them.
 
 Prints the answer to each command, `refused C` among them. Each answer is out before the next line is
-waited for.
+waited for. With --explain, a line that is no command is followed on standard error by that line, and why it is none.
 
 Status, and the line on standard error:
   0  the input has ended; also where answers were refusals
@@ -108,6 +108,7 @@ and drops the run.
 
 Prints a line for each job in order, `job I exit V`, or `job I stopped C` where an event of the job was refused
 or not applied, those of 1,024 jobs as soon as these are done; then `entries N`, how many events the journal has.
+With --explain, a refusal is followed on standard error by what `bpfrt check` says, or by the limits of pools.
 
 Status, and the line on standard error:
   0  all jobs are done; also where jobs stopped
@@ -133,6 +134,7 @@ behind `--`.
 
 Prints `exit V steps N`: the exit value, and how many steps the run has made, the exit among them; with --dump
 then for each map of the file `KEY VALUE` for each element, in the order of the keys' bytes, and `end`.
+With --explain, a refusal is followed on standard error by what `bpfrt check` says, or by what was given and is due.
 
 With --json, prints one object in their place: {\"accepted\":true,\"exit\":V,\"steps\":N,\"dump\":[LINE,..]}, where the
 lines of --dump are strings; of a refusal what `bpfrt check --json` does.
@@ -178,6 +180,7 @@ it. `-` is standard input.
 Prints a program file, whose program exits with what the classic program returns. The context of a filter is how
 many bytes were captured and how many the packet had on the wire, 4 bytes each with the lowest first, and 248 bytes
 of packet, zeros behind what was captured; that of a policy is struct seccomp_data (examples/filters).
+With --explain, a refusal is followed on standard error by what is wrong, and the line where it is.
 
 Status, and the line on standard error:
   0  written

@@ -4,17 +4,20 @@ ghost use Rattle.std.specs.Io.KnownBytes.{Appends};
 ghost use Rattle.bpf_model.specs.View.{AreNewMaps, shapes_of_maps};
 ghost use Rattle.program_files.specs.Checks.{IsCheckedRefusal};
 ghost use Rattle.program_files.specs.Files.{HoldsBytes};
+ghost use Rattle.program_files.specs.Verdicts.{memory_number};
+ghost use Rattle.job_queue.specs.declared.fault.PoolFault.TheVariants.{Lost};
+ghost use Rattle.job_queue.specs.Faults.{pool_fault_number};
 ghost use Rattle.commands.specs.Pools.{entries_line, IsProgramOf, IsRefusedByPool, WritesPool};
 
 use crate::report::{plain_verdict, refused, told};
 use crate::streams::{unread, written};
-use program_files::{FileBytes, Verdict, read_file, verify_for_maps};
+use program_files::{FileBytes, Verdict, meaning_of, read_file, verify_for_maps};
 use std::alloc::Global;
 use std::io;
 use std::io::{Read, Write};
 use std::sync::Wait;
 use std::thread::Threads;
-use worker_pool::{ProgramWithMaps, RunFault, run_program};
+use worker_pool::{MAX_JOBS, MAX_WORKERS, ProgramWithMaps, RunFault, run_program};
 
 /// How many times a program is run, and by how many workers.
 #[derive(Clone, Copy)]
@@ -48,6 +51,37 @@ fn write_entries<W: Write>(out: &mut W, entries: usize) -> io::Result<()>
     out.flush()
 }
 
+/// Writes how many workers and jobs are asked for, and how many a pool may have.
+fn write_limits<W: Write>(out: &mut W, code: u8, size: PoolSize) -> io::Result<()> {
+    if let Some(meaning) = meaning_of(code) {
+        let name = meaning.name;
+        let text = meaning.text;
+        writeln!(out, "{name}: {text}")?;
+    }
+    let PoolSize { workers, count } = size;
+    writeln!(
+        out,
+        "  WORKERS is {workers}, and may be 1 to {MAX_WORKERS}; COUNT is {count}, and may be 0 to {MAX_JOBS}"
+    )?;
+    writeln!(
+        out,
+        "  the journal has room for 16777216 entries: one for each start, step and drop of a job"
+    )
+}
+
+/// Tells that a pool of this size is refused, in words too where it is asked for, and answers the status.
+fn told_of_size<E: Write>(err: &mut E, verdict: Verdict, size: PoolSize, in_words: bool) -> u8
+    ensures status { (result ≡ 1) ⊎ (result ≡ 3) }
+    ensures memory { verdict.code ≡ memory_number → result ≡ 3 }
+    ensures lost { verdict.code ≡ pool_fault_number Lost → result ≡ 3 }
+{
+    let status = refused(err, verdict);
+    if in_words && status == 1 {
+        let _ = write_limits(err, verdict.code, size);
+    }
+    status
+}
+
 /// Runs the program that the input, a program file, says, writes the lines of its jobs on `out`, those
 /// of some jobs at a time as soon as they are done, and answers the exit status: 0, 1 where the file or
 /// the numbers are refused, 3 for a fault. Why the file is refused is told in words too where it is asked for.
@@ -77,7 +111,9 @@ pub fn run_pool<H: Threads + Wait + Sync, R: Read, W: Write, E: Write>(
     };
     match run_program(rt, alloc, program, size.workers, size.count, out) {
         Ok(entries) => written(err, write_entries(out, entries)),
-        Err(RunFault::Pool(fault)) => refused(err, plain_verdict(fault.code())),
+        Err(RunFault::Pool(fault)) => {
+            told_of_size(err, plain_verdict(fault.code()), size, in_words)
+        }
         Err(RunFault::Write(error)) => written(err, Err(error)),
     }
 }

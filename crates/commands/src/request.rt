@@ -73,8 +73,10 @@ pub enum BpfrtCommand {
         form: AsmForm,
         explain: bool,
     },
-    /// Answer the script on standard input.
-    Script,
+    /// Answer the script on standard input; or say why a line is no command, in words too.
+    Script {
+        explain: bool,
+    },
     /// Say which version of the program this is.
     Version,
     /// Run the program in a file so many times by so many workers; or say why it is refused, in words too.
@@ -94,10 +96,12 @@ pub enum BpfrtCommand {
         file: String,
         single: SingleRun,
     },
-    /// Write the program file of the classic program in a file, a filter of packets or a policy of system calls.
+    /// Write the program file of the classic program in a file, a filter of packets or a policy of system calls; or say why
+    /// there is none, in words too.
     Filter {
         file: FilterFile,
         kind: Data,
+        explain: bool,
     },
 }
 
@@ -151,7 +155,7 @@ impl BpfrtCommand {
                 FilterFile::Path(path) => Some(path.as_str()),
                 FilterFile::StandardInput => None,
             },
-            BpfrtCommand::Script | BpfrtCommand::Version => None,
+            BpfrtCommand::Script { .. } | BpfrtCommand::Version => None,
         }
     }
 }

@@ -1,22 +1,22 @@
 //! A file's program, run once by itself.
-ghost use Rattle.std.specs.Prelude.{◌≡◌, ◌⊎◌, ◌++◌, List, ℕ, false, IfOk, IfErr, IfSome};
+ghost use Rattle.std.specs.Prelude.{◌≡◌, ◌⊎◌, ◌++◌, List, ℕ, false, IfOk, IfErr};
 ghost use Rattle.program_files.specs.Files.{HoldsBytes};
 ghost use Rattle.program_files.specs.Verdicts.{memory_number};
 ghost use Rattle.commands.specs.Outputs.{TellsVerdict};
-ghost use Rattle.commands.specs.Runs.{ended_line, ended_text, IsDumped, IsRunRefusal, IsRunText, RefusesRun, WritesRun};
+ghost use Rattle.commands.specs.Runs.{ended_line, ended_text, IsDumped, IsRunRefusal, IsRunText};
 
 use crate::dump::write_maps;
 use crate::json::ended_of;
 use crate::puts::puts_of;
 use crate::report::{NO_PLACE, Telling, plain_verdict, told_twice};
 use crate::request::SingleRun;
-use crate::streams::{unread, write_text, written};
+use crate::run_words::explain_run;
 use bpf_model::{EventRefusal, array_of};
-use program_files::{FileBytes, MEMORY, Verdict, read_file, verify_for_maps};
+use program_files::{FileBytes, MEMORY, Verdict, verify_for_maps};
 use run_once::{Ended, RunEnd, run_once};
 use std::alloc::{AllocError, Global};
 use std::io;
-use std::io::{Read, Write};
+use std::io::Write;
 use world::World;
 
 /// The elements of a world's maps where they are asked for.
@@ -100,32 +100,9 @@ pub fn told_of_run<W: Write, E: Write>(
         explain: single.explain,
         json: single.json,
     };
-    told_twice(alloc, file, None, verdict, form, out, err)
-}
-
-/// Runs the program that the input, a program file, says once by itself, writes how it has ended on
-/// `out`, and answers the exit status: 0, 1 where the file, the context or an element is refused, 3 for a
-/// fault.
-pub fn run_single<R: Read, W: Write, E: Write>(
-    alloc: Global,
-    single: &SingleRun,
-    input: &mut R,
-    out: &mut W,
-    err: &mut E,
-) -> u8
-    ensures status { (result ≡ 0) ⊎ (result ≡ 1) ⊎ (result ≡ 3) }
-    ensures ended { result ≡ 0 → IfSome (R.remaining input.old)
-        (WritesRun single.now (W.contents out.old) (W.contents out.new)) }
-    ensures refused { result ≡ 1 → IfSome (R.remaining input.old)
-        (RefusesRun single.now (W.contents out.old) (W.contents out.new)) }
-    ensures silent { result ≡ 1 → single.now.json ≡ false → out.new ≡ out.old }
-{
-    let file = match read_file(alloc, input) {
-        Ok(file) => file,
-        Err(error) => return unread(err, &error),
-    };
-    match run_of(alloc, &file, single) {
-        Ok(text) => written(err, write_text(out, &text)),
-        Err(verdict) => told_of_run(alloc, &file, verdict, single, out, err),
+    let status = told_twice(alloc, file, None, verdict, form, out, err);
+    if single.explain && status == 1 {
+        let _ = explain_run(alloc, file, verdict.code, single, err);
     }
+    status
 }

@@ -1,7 +1,7 @@
-//! A file's program, run once by itself, with each of its steps told.
+//! A file's program, run once by itself, with each of its steps told where they are asked for.
 ghost use Rattle.std.specs.Prelude.{◌≡◌, ◌⊎◌, List, ℕ, false, IfOk, IfErr, IfSome};
 ghost use Rattle.program_files.specs.Files.{HoldsBytes};
-ghost use Rattle.commands.specs.Runs.{IsRunRefusal, IsTraceText, traced_text, RefusesRun, WritesTrace};
+ghost use Rattle.commands.specs.Runs.{IsRunRefusal, IsToldText, traced_text, RefusesRun, WritesRun};
 
 use crate::json::traced_of;
 use crate::puts::puts_of;
@@ -76,14 +76,22 @@ fn together(
     Ok(steps)
 }
 
-/// What tells the steps of a run, and behind it what `run` tells.
-fn text_of(alloc: Global, file: &FileBytes, single: &SingleRun) -> Result<Vec<u8>, Verdict>
-    ensures traced { (bytes : List ℕ) → HoldsBytes file.now bytes →
-        IfOk result (λ text. IsTraceText single.now bytes text.items) }
+/// What tells a run, with its steps above where they are asked for.
+fn text_of(
+    alloc: Global,
+    file: &FileBytes,
+    steps: bool,
+    single: &SingleRun,
+) -> Result<Vec<u8>, Verdict>
+    ensures told { (bytes : List ℕ) → HoldsBytes file.now bytes →
+        IfOk result (λ text. IsToldText steps single.now bytes text.items) }
     ensures refused { (bytes : List ℕ) → HoldsBytes file.now bytes →
         IfErr result (IsRunRefusal single.now bytes) }
 {
     let end = run_of(alloc, file, single)?;
+    if !steps {
+        return Ok(end);
+    }
     let Ok(steps) = steps_of(alloc, file, single) else {
         return Err(plain_verdict(MEMORY));
     };
@@ -93,18 +101,20 @@ fn text_of(alloc: Global, file: &FileBytes, single: &SingleRun) -> Result<Vec<u8
     }
 }
 
-/// Runs the program that the input, a program file, says once by itself, as `run_single` does, and writes its steps
-/// above what that writes.
-pub fn run_trace<R: Read, W: Write, E: Write>(
+/// Runs the program that the input, a program file, says once by itself, writes how it has ended on `out`, and above it its
+/// steps where they are asked for, and answers the exit status: 0, 1 where the file, the context or an element is refused, 3
+/// for a fault.
+pub fn run_single<R: Read, W: Write, E: Write>(
     alloc: Global,
+    steps: bool,
     single: &SingleRun,
     input: &mut R,
     out: &mut W,
     err: &mut E,
 ) -> u8
     ensures status { (result ≡ 0) ⊎ (result ≡ 1) ⊎ (result ≡ 3) }
-    ensures traced { result ≡ 0 → IfSome (R.remaining input.old)
-        (WritesTrace single.now (W.contents out.old) (W.contents out.new)) }
+    ensures ended { result ≡ 0 → IfSome (R.remaining input.old)
+        (WritesRun steps single.now (W.contents out.old) (W.contents out.new)) }
     ensures refused { result ≡ 1 → IfSome (R.remaining input.old)
         (RefusesRun single.now (W.contents out.old) (W.contents out.new)) }
     ensures silent { result ≡ 1 → single.now.json ≡ false → out.new ≡ out.old }
@@ -113,7 +123,7 @@ pub fn run_trace<R: Read, W: Write, E: Write>(
         Ok(file) => file,
         Err(error) => return unread(err, &error),
     };
-    match text_of(alloc, &file, single) {
+    match text_of(alloc, &file, steps, single) {
         Ok(text) => written(err, write_text(out, &text)),
         Err(verdict) => told_of_run(alloc, &file, verdict, single, out, err),
     }

@@ -88,10 +88,17 @@ fn pool_grammar<'a>(alloc: Global) -> Result<clap::Command<'a>, AllocError> {
 /// How the option `--map` is shown.
 const MAP_OPTION: &str = "--map <NAME> <KEY=VALUE>...";
 
+/// The words of `run`, in their order.
+const RUN_USAGE: &str = "bpfrt run <FILE> [CTX] [--map <NAME> <KEY=VALUE>...]... [OPTIONS]";
+
+/// The words of `trace`, in their order.
+const TRACE_USAGE: &str = "bpfrt trace <FILE> [CTX] [--map <NAME> <KEY=VALUE>...]... [OPTIONS]";
+
 /// The grammar of the words of `run`.
 fn run_grammar<'a>(alloc: Global) -> Result<clap::Command<'a>, AllocError> {
     let run = clap::Command::new(alloc, "run")
         .about("Runs the program in FILE once")
+        .override_usage(RUN_USAGE)
         .after_help(RUN_HELP);
     with_run_arguments(alloc, run)
 }
@@ -100,6 +107,7 @@ fn run_grammar<'a>(alloc: Global) -> Result<clap::Command<'a>, AllocError> {
 fn trace_grammar<'a>(alloc: Global) -> Result<clap::Command<'a>, AllocError> {
     let trace = clap::Command::new(alloc, "trace")
         .about("Runs the program in FILE once, and tells each step")
+        .override_usage(TRACE_USAGE)
         .after_help(TRACE_HELP);
     with_run_arguments(alloc, trace)
 }
@@ -153,7 +161,8 @@ fn filter_grammar<'a>(alloc: Global) -> Result<clap::Command<'a>, AllocError> {
                 .long("seccomp")
                 .help("take a policy of system calls, as libseccomp exports it")
                 .action(ArgAction::SetTrue),
-        )
+        )?
+        .arg(explain_option(alloc))
 }
 
 /// The grammar of the words.
@@ -180,7 +189,8 @@ fn grammar<'a>(alloc: Global) -> Result<clap::Command<'a>, AllocError> {
         .arg(file_argument(alloc))?;
     let script = clap::Command::new(alloc, "script")
         .about("Answers the script on standard input")
-        .after_help(SCRIPT_HELP);
+        .after_help(SCRIPT_HELP)
+        .arg(flag(alloc, "explain", "say in words why a line is no command"))?;
     clap::Command::new(alloc, "bpfrt")
         .about("An eBPF runtime with proved contracts")
         .version(VERSION)
@@ -223,6 +233,18 @@ fn command_in_other_case(word: &str) -> Option<&'static str> {
     .find(|name| word.eq_ignore_ascii_case(name))
 }
 
+/// What `clap` says of words of this command, with the usage of `run` and `trace`, which it leaves out of some faults.
+fn with_usage(alloc: Global, command: &str, text: String) -> Result<String, AllocError> {
+    if text.contains("Usage:") || (command != "run" && command != "trace") {
+        return Ok(text);
+    }
+    let usage = usage_of(command);
+    match text.split_once("\n\nFor more") {
+        Some((why, more)) => format!(in alloc; "{why}\n\nUsage: {usage}\n\nFor more{more}"),
+        None => Ok(text),
+    }
+}
+
 /// Why the words are no command. `clap` finds no command near a word that differs from it in every
 /// letter's case.
 fn usage(alloc: Global, error: &clap::Error, words: &[String]) -> WordsFault {
@@ -242,7 +264,10 @@ For more information, try '--help'."
             );
             usage_fault(alloc, text)
         }
-        _ => usage_fault(alloc, format!(in alloc; "{error}")),
+        _ => {
+            let text = format!(in alloc; "{error}");
+            usage_fault(alloc, text.and_then(|text| with_usage(alloc, first, text)))
+        }
     }
 }
 
@@ -272,13 +297,23 @@ For more information, try 'bpfrt pool --help'."
     }
 }
 
+/// The words of `run` or `trace`, in their order.
+fn usage_of(command: &str) -> &'static str {
+    if command == "run" {
+        RUN_USAGE
+    } else {
+        TRACE_USAGE
+    }
+}
+
 /// The fault of a word of `run` or `trace` that is no value of an argument.
 fn bad_value(alloc: Global, command: &str, word: &str, argument: &str, why: &str) -> WordsFault {
+    let usage = usage_of(command);
     let text = format!(in alloc;
         "\
 error: invalid value '{word}' for '{argument}': {why}
 
-Usage: bpfrt {command} [OPTIONS] <FILE> [CTX]
+Usage: {usage}
 
 For more information, try 'bpfrt {command} --help'."
     );
@@ -422,7 +457,11 @@ fn filter_of(alloc: Global, matches: &ArgMatches<'_>) -> Result<BpfrtCommand, Wo
     } else {
         Data::Packet
     };
-    Ok(BpfrtCommand::Filter { file, kind })
+    Ok(BpfrtCommand::Filter {
+        file,
+        kind,
+        explain: matches.get_flag("explain"),
+    })
 }
 
 /// The command that the words ask for. The first word is the program's own name.
@@ -447,7 +486,9 @@ pub fn parse_words<'a>(alloc: Global, words: &'a [String]) -> Result<BpfrtComman
             form: form_of(matches),
             explain: matches.get_flag("explain"),
         }),
-        Some(("script", _)) => Ok(BpfrtCommand::Script),
+        Some(("script", matches)) => Ok(BpfrtCommand::Script {
+            explain: matches.get_flag("explain"),
+        }),
         Some(("pool", matches)) => pool_of(alloc, matches),
         Some(("run", matches)) => Ok(BpfrtCommand::Run {
             file: file_of(alloc, matches)?,

@@ -4,21 +4,28 @@ use crate::assembly::{TextFault, plain_text};
 use crate::heads::parts_of;
 use crate::words::shown;
 use asm::AsmFault;
-use asm_source::{SourceFault, explain_line};
+use asm_source::{SourceFault, explain_line, explain_name};
+use program_files::write_wrong_line;
 use std::alloc::Global;
 use std::io::Write;
 use std::{io, str};
 
-/// What is wrong with a name.
-fn name_words(fault: &SourceFault) -> &'static str {
-    match fault {
-        SourceFault::BadName(_) => { "a name begins with a letter, `_` or `.`, and is no register" }
-        SourceFault::NameTwice(_) => "the name has a meaning by a line above",
-        SourceFault::BadConstant(_) => "behind .equ stand a name and a number below 2^64",
-        SourceFault::UnknownLabel(_) => "no line begins with this label",
-        SourceFault::UnknownMap(_) => "no map above `code` has this name",
-        SourceFault::Memory => "out of memory",
-    }
+/// Writes what is wrong with the names of this line of a text's instructions.
+fn write_name<E: Write>(
+    alloc: Global,
+    bytes: &[u8],
+    fault: &SourceFault,
+    err: &mut E,
+) -> io::Result<()> {
+    let body = match str::from_utf8(bytes) {
+        Ok(text) => parts_of(text).body,
+        Err(_) => "",
+    };
+    let number = fault.line().unwrap_or(1);
+    let line = body.split('\n').nth(number.saturating_sub(1)).unwrap_or("");
+    let words = explain_name(alloc, fault, line)?;
+    let words = shown(alloc, words.as_str())?;
+    writeln!(err, "{words}")
 }
 
 /// Writes what is wrong with the plain text of this line of a text's instructions.
@@ -56,20 +63,20 @@ pub fn explain_text<E: Write>(
 ) -> io::Result<()> {
     match why {
         TextFault::NotUtf8 { .. } => writeln!(err, "the line is not UTF-8 text"),
-        TextFault::Unnamed { fault, .. } => {
-            let words = name_words(fault);
-            writeln!(err, "{words}")
-        }
+        TextFault::Unnamed { fault, .. } => write_name(alloc, bytes, fault, err),
         TextFault::Flawed { flaw, .. } => match flaw {
             AsmFault::BadLine(line) | AsmFault::BadOperand(line) => {
                 explain_instruction(alloc, bytes, *line, err)
             }
             AsmFault::TooLong | AsmFault::Empty | AsmFault::Memory => writeln!(err, "{flaw}"),
         },
-        TextFault::BadHead { .. } => writeln!(
-            err,
-            "above `code` stand `ctx N`, at most 256, and a line for each map (docs/PROGRAM_FILES.md)"
-        ),
+        TextFault::BadHead { line } => {
+            writeln!(
+                err,
+                "above `code` stand `ctx N` and a line for each map, and nothing else"
+            )?;
+            write_wrong_line(err, bytes, *line, 0)
+        }
         TextFault::Memory => Ok(()),
     }
 }

@@ -29,7 +29,13 @@ fn scripts(rt: HostRuntime) -> Result<(), Fail> {
             out,
             err,
         };
-        runs(&rt, rt.alloc(), &BpfrtCommand::Script, &mut input, &wanted)?;
+        runs(
+            &rt,
+            rt.alloc(),
+            &BpfrtCommand::Script { explain: false },
+            &mut input,
+            &wanted,
+        )?;
     }
     Ok(())
 }

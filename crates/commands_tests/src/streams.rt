@@ -91,7 +91,10 @@ const HEAD: &[u8] = b"bpfrt 1\nctx 0\ncode\n";
 fn readers(rt: HostRuntime) -> Result<(), Fail> {
     let alloc = rt.alloc();
     let (check, disasm) = (command_of(alloc, false)?, command_of(alloc, true)?);
-    let (script, pool) = (BpfrtCommand::Script, pool_of(alloc, 1, 1)?);
+    let (script, pool) = (
+        BpfrtCommand::Script { explain: false },
+        pool_of(alloc, 1, 1)?,
+    );
     let single = run_of(alloc, b"", &[], true)?;
     let answered = Wanted {
         status: 3,
@@ -134,7 +137,10 @@ fn readers(rt: HostRuntime) -> Result<(), Fail> {
 fn writers(rt: HostRuntime) -> Result<(), Fail> {
     let alloc = rt.alloc();
     let check = command_of(alloc, false)?;
-    let (script, pool) = (BpfrtCommand::Script, pool_of(alloc, 1, 1)?);
+    let (script, pool) = (
+        BpfrtCommand::Script { explain: false },
+        pool_of(alloc, 1, 1)?,
+    );
     let single = run_of(alloc, b"", &[], true)?;
     let rows: [(&BpfrtCommand, &[u8], Taking, u64, u8); 9] = [
         (&check, &EXIT_ONE, Taking::Failing, 1, 3),

@@ -89,7 +89,7 @@ fn words_of_commands(rt: HostRuntime) -> Result<(), Fail> {
     assert!(rt;
         matches!(
             asked(&rt, alloc, &["bpfrt", "script"])?,
-            Ok(BpfrtCommand::Script)
+            Ok(BpfrtCommand::Script { explain: false })
         )
     );
     assert!(rt;
@@ -126,11 +126,12 @@ fn words_of_commands(rt: HostRuntime) -> Result<(), Fail> {
             Ok(BpfrtCommand::Filter {
                 file: FilterFile::StandardInput,
                 kind: Data::Packet,
+                explain: false,
             })
         )
     );
     let policy = asked(&rt, alloc, &["bpfrt", "filter", "--seccomp", "e.bpf"])?;
-    let Ok(BpfrtCommand::Filter { file, kind }) = policy else {
+    let Ok(BpfrtCommand::Filter { file, kind, .. }) = policy else {
         return Err(Fail::from("no filter"));
     };
     assert!(rt; matches!(&file, FilterFile::Path(path) if path.as_str() == "e.bpf"));

@@ -3,10 +3,11 @@ ghost use Rattle.std.specs.Prelude.{◌≤◌};
 ghost use Rattle.bpf_model.specs.declared.limits.TheConstants.{CTX_BYTES};
 
 use crate::known::write_kind;
-use crate::likeness::{write_likeness, write_line};
+use crate::likeness::write_likeness;
 use crate::meaning::meaning_of;
 use crate::missing::write_missing;
 use crate::reads::registers_read;
+use crate::wrong_line::write_wrong_line;
 use crate::{FileBytes, HEADING, MEMORY, Source, Verdict, known_where_refused};
 use bpf_model::Insn;
 use disasm::line_of;
@@ -72,13 +73,16 @@ fn write_instruction<W: Write>(
     Ok(())
 }
 
+/// How many lines stand above that of the context.
+const HEADING_LINES: usize = 1;
+
 /// Writes what bytes look like that are refused for a slot's form, and the line of a text that is wrong.
 fn write_source<W: Write>(file: &FileBytes, verdict: &Verdict, out: &mut W) -> io::Result<()> {
     let FileBytes::Whole(bytes) = file else {
         return Ok(());
     };
     if let Some(line) = verdict.line {
-        return write_line(out, bytes, line);
+        return write_wrong_line(out, bytes, line, HEADING_LINES);
     }
     if verdict.code < MEMORY && !bytes.starts_with(HEADING) {
         return write_likeness(out, bytes);
@@ -89,8 +93,8 @@ fn write_source<W: Write>(file: &FileBytes, verdict: &Verdict, out: &mut W) -> i
 /// Writes what a verdict on a program file means: a line with its name and its meaning; and where it is of an
 /// instruction, that one's text, what each register that it reads may hold, how many locks are open, and which byte of
 /// the frame is missing. The frame is told from r10 on, maps by their place in the program's list and their names. Where
-/// a line of the file is wrong, it is shown; bytes that are read as slots and are none may look like something else, and
-/// then that is said.
+/// a line of the file is wrong, it is shown, with what it may be; bytes that are read as slots and are none may look like
+/// something else, and then that is said.
 ///
 /// An error says that nothing more could be written, or that memory ran out.
 pub fn explain<W: Write>(

@@ -15,6 +15,7 @@ mod program_file;
 mod reads;
 mod verdict;
 mod verified_file;
+mod wrong_line;
 
 pub use crate::loader::{HEADING, LoadFault, ProgramFile, load};
 pub use explanation::explain;
@@ -24,3 +25,4 @@ pub use meaning::{Meaning, meaning_of};
 pub use program_file::{FileBytes, Source, read_file, read_text};
 pub use verdict::{MEMORY, Verdict};
 pub use verified_file::{known_where_refused, verify_for_maps};
+pub use wrong_line::{write_line, write_wrong_line};

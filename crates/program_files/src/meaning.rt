@@ -117,13 +117,36 @@ fn of_use(code: u8) -> Option<Meaning> {
     }
 }
 
-/// The meaning of the number by which a program file is refused; `None` where it has no other meaning than that memory
-/// ran out, or none.
+/// Of what a run or a pool of a program is refused for.
+fn of_runs(code: u8) -> Option<Meaning> {
+    match code {
+        63 => means(
+            "BadContext",
+            "a context of another length than the program's, or above 256",
+        ),
+        65 => means("NoMap", "no map has the number, or the name"),
+        66 => means(
+            "BadLength",
+            "a key or a value of another length than the map's",
+        ),
+        90 => means("BadWorkers", "the number of workers is not 1 to 8"),
+        91 => means("TooManyJobs", "more than 65,536 jobs"),
+        98 => means(
+            "NoPlace",
+            "an element is not put, since its map has as many as it may have, no map slot is free, or the index is past the array's end",
+        ),
+        _ => None,
+    }
+}
+
+/// The meaning of the number by which a program file, a run or a pool of it is refused; `None` where it has no other meaning
+/// than that memory ran out, or none.
 pub fn meaning_of(code: u8) -> Option<Meaning> {
     match code {
         1..=12 => of_bytes(code),
         20..=22 | 38 => of_graph(code),
         23..=30 => of_access(code),
+        63..=66 | 90 | 91 | 98 => of_runs(code),
         94 => means("BadFile", "a line of a program file is wrong"),
         _ => of_use(code),
     }

@@ -33,13 +33,13 @@ pub returns-in-Err-Pool-clause-refused : goal.returns-in-Err-Pool-clause-refused
 returns-in-Err-Pool-clause-refused g c one =
     let p = c.in-Ok-program_of.program.verified in
     let v = c.plain_verdict.result in
-    let told = c.refused.ensures in
+    let told = c.told_of_size.ensures in
     let fault = rw c.in-Err-Pool.field-0-is at c.in-Err-Pool.ensures.fault in
     IfSome_then (g.R.Read.remaining c.args.input.now) c.in-Ok.ensures
     (λ bytes holds. (
       v,
-      not_so (v.code ≡ memory_number) c.refused.result told.memory one,
-      not_so (v.code ≡ pool_fault_number Lost) c.refused.result told.lost one,
+      not_so (v.code ≡ memory_number) c.told_of_size.result told.memory one,
+      not_so (v.code ≡ pool_fault_number Lost) c.told_of_size.result told.lost one,
       pool_told c.args.size.workers c.args.size.count bytes p.program p.ctx_len c.in-Err-Pool.fault v
           (c.in-Ok-program_of.ensures.found bytes holds) fault
           (subst (λ (n : ℕ). IsPlainVerdict n v) c.code.ensures c.plain_verdict.ensures),

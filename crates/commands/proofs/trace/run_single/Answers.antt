@@ -2,15 +2,15 @@ use Rattle.std.proofs.Common.{ℕ, List, subst}
 use Rattle.std.proofs.lemmas.Option.{IfSome_then}
 use Rattle.std.specs.Io.KnownBytes.{Appends}
 use Rattle.commands.proofs.Pooled.{so_written}
-use Rattle.commands.proofs.trace.run_trace.Goals as goal
+use Rattle.commands.proofs.trace.run_single.Goals as goal
 
-pub returns-in-Ok-text_of-clause-traced : goal.returns-in-Ok-text_of-clause-traced
-returns-in-Ok-text_of-clause-traced g c zero =
+pub returns-in-Ok-text_of-clause-ended : goal.returns-in-Ok-text_of-clause-ended
+returns-in-Ok-text_of-clause-ended g c zero =
     let contents = g.W.Write.contents in
     let last = so_written c.write_text.result c.written.result c.written.ensures zero c.write_text.ensures in
     IfSome_then (g.R.Read.remaining c.args.input.now) c.in-Ok.ensures
     (λ bytes holds. (
       c.in-Ok-text_of.text.items,
-      c.in-Ok-text_of.ensures.traced bytes holds,
+      c.in-Ok-text_of.ensures.told bytes holds,
       subst (λ (t : List ℕ). Appends (contents c.args.out.now) (contents c.write_text.new.out) t) c.deref.ensures.value last,
     ))

@@ -1,0 +1,170 @@
+//! What helps where a line is wrong, in words for people.
+
+use crate::names::{are_digits, is_name, is_register};
+use crate::numbers::{hex_in, number_in};
+use std::alloc::{AllocError, Global};
+
+/// How much of a word is shown.
+const SHOWN_CHARACTERS: usize = 40;
+
+/// How many hexadecimal digits a slot of a program file has.
+const SLOT_DIGITS: usize = 16;
+
+/// The first characters of a word.
+pub(crate) fn shortened(word: &str) -> &str {
+    match word.char_indices().nth(SHOWN_CHARACTERS) {
+        Some((end, _)) => word.get(..end).unwrap_or(word),
+        None => word,
+    }
+}
+
+/// What is said of a word with which other languages begin a comment, or mark a number.
+pub(crate) fn mark_words(word: &str) -> Option<&'static str> {
+    if let Some(rest) = word.strip_prefix("#") {
+        if number_in(rest.as_bytes()).is_some() {
+            return Some("a number has no `#` before it");
+        }
+        return Some("`#` begins no comment: a comment begins with `;`");
+    }
+    if word.contains("//") || word.starts_with("/*") {
+        return Some("`/` begins no comment: a comment begins with `;`");
+    }
+    None
+}
+
+/// What is said of a line that has a comment of another language.
+pub(crate) fn comment_words(line: &str) -> Option<&'static str> {
+    for word in line.split(' ') {
+        let words = mark_words(word);
+        if words.is_some() {
+            return words;
+        }
+    }
+    None
+}
+
+/// Whether a word is a slot of a program file.
+fn is_slot(word: &str) -> bool {
+    let mut count: usize = 0;
+    for byte in word.as_bytes() {
+        if !byte.is_ascii_hexdigit() {
+            return false;
+        }
+        count = count.saturating_add(1);
+    }
+    count == SLOT_DIGITS
+}
+
+/// What helps where a line begins with a word that is no mnemonic, and goes on with this text.
+pub(crate) fn name_hint(word: &str, text: &str) -> Option<&'static str> {
+    if word == "ctx" || word == "map" {
+        return Some("a context and maps end with a line `code`");
+    }
+    if text.starts_with(':') {
+        return Some("no blank stands before a label's `:`");
+    }
+    if word.contains(':') {
+        return Some("a blank stands behind a label's `:`");
+    }
+    if word == "code" {
+        return Some("above a line `code` stands `ctx N`");
+    }
+    if word.starts_with('.') {
+        return Some("only the line of a constant begins so, `.equ NAME NUMBER`");
+    }
+    if is_register(word.as_bytes()) {
+        return Some("a line begins with an instruction's name, as in `mov64 r0, 1`");
+    }
+    if word == "bpfrt" || is_slot(word) {
+        return Some("of a program file `bpfrt disasm` writes the instructions");
+    }
+    None
+}
+
+/// A word in lower case, if that is another word.
+pub(crate) fn in_lower_case(alloc: Global, word: &str) -> Result<Option<String>, AllocError> {
+    let lower = word.to_ascii_lowercase(alloc)?;
+    if lower.as_str() == word {
+        Ok(None)
+    } else {
+        Ok(Some(lower))
+    }
+}
+
+/// Whether a word is a hexadecimal number, of which a plain text has none.
+pub(crate) fn is_hexadecimal(word: &str) -> bool {
+    hex_in(word.as_bytes()).is_some()
+}
+
+/// Whether brackets or an offset have two signs.
+pub(crate) fn has_two_signs(word: &str) -> bool {
+    word.contains("--") || word.contains("+-") || word.contains("-+") || word.contains("++")
+}
+
+/// Whether a word is `0x` and hexadecimal digits, of a number that is no number of 64 bits: a plain text has no others.
+pub(crate) fn is_too_long(word: &str) -> bool {
+    let Some(digits) = word.strip_prefix("0x") else {
+        return false;
+    };
+    for digit in digits.as_bytes() {
+        if !digit.is_ascii_hexdigit() {
+            return false;
+        }
+    }
+    !digits.is_empty()
+}
+
+/// Whether a word is a number with a leading zero, with or without a sign.
+pub(crate) fn has_leading_zero(word: &str) -> bool {
+    match word.as_bytes() {
+        [b'-' | b'+', b'0', digits @ ..] | [b'0', digits @ ..] => {
+            !digits.is_empty() && are_digits(digits)
+        }
+        _ => false,
+    }
+}
+
+/// What helps where a word is no number that `lddw` loads.
+pub(crate) fn unsigned_hint(word: &str) -> &'static str {
+    if is_name(word.as_bytes()) {
+        "; a map is loaded by `ldmap`"
+    } else {
+        ""
+    }
+}
+
+/// What helps where a word is no number, or neither a number nor a register.
+pub(crate) fn number_hint(word: &str) -> &'static str {
+    if word.starts_with('[') {
+        "; `ldxb`, `ldxh`, `ldxw` and `ldxdw` load from memory"
+    } else if is_register(word.as_bytes()) {
+        "; `stxb`, `stxh`, `stxw` and `stxdw` store a register"
+    } else {
+        ""
+    }
+}
+
+/// The number of 32 bits with a sign that has the same bits as a number without one.
+fn with_sign(number: u64) -> Option<i64> {
+    let number = i64::try_from(number).ok()?;
+    let below = number.checked_sub(1 << 32)?;
+    if -(1 << 31) <= below && below < 0 {
+        Some(below)
+    } else {
+        None
+    }
+}
+
+/// What helps where a number has 32 bits, of which the highest is to be its sign.
+pub(crate) fn sign_hint(alloc: Global, word: &str) -> Result<Option<String>, AllocError> {
+    let Some(number) = number_in(word.as_bytes()) else {
+        return Ok(None);
+    };
+    let Some(signed) = with_sign(number) else {
+        return Ok(None);
+    };
+    let words = format!(in alloc;
+        "{number:#x} is {signed} in 32 bits: write {signed} where only these count, else load it with `lddw`"
+    )?;
+    Ok(Some(words))
+}

@@ -1,0 +1,152 @@
+//! Why one run is refused though its file is sound, in words for people.
+ghost use Rattle.bpf_model.specs.View.{AreNewMaps};
+
+use crate::puts::puts_of;
+use crate::report::NO_PLACE;
+use crate::request::{MapElement, SingleRun};
+use bpf_model::{Answer, Errno, EventRefusal, MapId, MapKind, MapShape};
+use hex::encode;
+use maps::Registry;
+use program_files::{FileBytes, Source};
+use std::alloc::Global;
+use std::io;
+use std::io::Write;
+use world::World;
+
+/// Writes the names of a file's maps.
+fn write_names<W: Write>(out: &mut W, maps: &Registry) -> io::Result<()> {
+    if maps.len() == 0 {
+        return writeln!(out, "the file has no maps");
+    }
+    write!(out, "the file's maps are")?;
+    for number in 0..maps.len() {
+        if let Some(name) = maps.name(MapId::new(number)) {
+            write!(out, " `{name}`")?;
+        }
+    }
+    writeln!(out)
+}
+
+/// Writes that bytes of an element have another length than those of its map, where they have.
+fn write_length<W: Write>(
+    out: &mut W,
+    map: &str,
+    what: &str,
+    given: usize,
+    due: usize,
+) -> io::Result<()> {
+    if given == due {
+        return Ok(());
+    }
+    writeln!(
+        out,
+        "  {what} has length {given}, and is to have length {due} in the map `{map}`"
+    )
+}
+
+/// Writes what is wrong with the first element that names no map of the file, or has another length than its map's.
+fn write_misfit<W: Write>(out: &mut W, maps: &Registry, elements: &[MapElement]) -> io::Result<()> {
+    for element in elements {
+        let map = element.map.as_str();
+        let Some(shape) = shape_named(maps, map) else {
+            write!(out, "  --map names {map:?}; ")?;
+            return write_names(out, maps);
+        };
+        let (key, value) = (element.key.len(), element.value.len());
+        if key != shape.key_len || value != shape.value_len {
+            write_length(out, map, "KEY", key, shape.key_len)?;
+            return write_length(out, map, "VALUE", value, shape.value_len);
+        }
+    }
+    Ok(())
+}
+
+/// The shape of the map of a name.
+fn shape_named(maps: &Registry, name: &str) -> Option<MapShape> {
+    maps.shape(maps.id(name)?)
+}
+
+/// The first of these elements for which the new maps of a file have no place, and why.
+fn without_place(alloc: Global, source: Source, elements: &[MapElement]) -> Option<(usize, Errno)>
+    requires { AreNewMaps source.registry.maps }
+{
+    let puts = puts_of(alloc, &source.registry, elements).ok()?;
+    let mut world = World::new(alloc, source.registry, Vec::new(alloc)).ok()?;
+    let answers = world.run_all(alloc, &puts).ok()?;
+    for (number, answer) in answers.iter().enumerate() {
+        if let Answer::Ret(Err(why)) = answer {
+            return Some((number, *why));
+        }
+    }
+    None
+}
+
+/// Writes why a map of this shape has no place for an element.
+fn write_why<W: Write>(out: &mut W, shape: &MapShape, why: Errno) -> io::Result<()> {
+    let (entries, spare) = (shape.entries, shape.spare);
+    match (shape.kind, why) {
+        (MapKind::Hash, Errno::TooBig) => {
+            writeln!(
+                out,
+                "it has as many elements as it may have, ENTRIES {entries}"
+            )
+        }
+        (MapKind::Hash, _) => writeln!(
+            out,
+            "no map slot is free, of ENTRIES {entries} and SPARE {spare}; a key that is put again takes another one"
+        ),
+        _ => writeln!(out, "an array has the indices below its ENTRIES, {entries}"),
+    }
+}
+
+/// Writes for which element there is no place, and why.
+fn write_unplaced<W: Write>(
+    alloc: Global,
+    file: &FileBytes,
+    elements: &[MapElement],
+    out: &mut W,
+) -> io::Result<()> {
+    let Ok(source) = file.source(alloc) else {
+        return Ok(());
+    };
+    let Some((number, why)) = without_place(alloc, source, elements) else {
+        return Ok(());
+    };
+    let (Some(element), Ok(source)) = (elements.get(number), file.source(alloc)) else {
+        return Ok(());
+    };
+    let map = element.map.as_str();
+    let Some(shape) = shape_named(&source.registry, map) else {
+        return Ok(());
+    };
+    let key = encode(alloc, &element.key)?;
+    write!(out, "  the map `{map}` has no place for the key {key}: ")?;
+    write_why(out, &shape, why)
+}
+
+/// Writes what is wrong with the context or the elements of one run, whose file is sound.
+pub fn explain_run<W: Write>(
+    alloc: Global,
+    file: &FileBytes,
+    code: u8,
+    single: &SingleRun,
+    out: &mut W,
+) -> io::Result<()> {
+    if code == NO_PLACE {
+        return write_unplaced(alloc, file, &single.elements, out);
+    }
+    let Ok(source) = file.source(alloc) else {
+        return Ok(());
+    };
+    if code == EventRefusal::BadContext.code() {
+        let (given, due) = (single.context.len(), source.ctx_len);
+        return writeln!(
+            out,
+            "  CTX has length {given}, and is to have length {due}, as the file tells"
+        );
+    }
+    if code == EventRefusal::NoMap.code() || code == EventRefusal::BadLength.code() {
+        return write_misfit(out, &source.registry, &single.elements);
+    }
+    Ok(())
+}

@@ -1,0 +1,219 @@
+//! Why a line of a script is no command, in words for people.
+
+use program_files::write_line;
+use script_lines::{MAX_COUNT, number_of, parse_line};
+use script_stream::LINE_BYTES;
+use std::alloc::{AllocError, Global};
+use std::io::Write;
+use std::{io, str};
+
+/// What a word behind a command is to be.
+#[derive(Clone, Copy, Debug, PartialEq, Eq)]
+enum Due {
+    /// Any word.
+    Name,
+    Number,
+    Bytes,
+    /// How many steps are made.
+    Count,
+}
+
+/// How a command is written; none where no command has this name.
+fn form_of(name: &str) -> Option<&'static str> {
+    let form = match name {
+        "map" => "`map NAME KEY VALUE ENTRIES SPARE REUSE` or `map NAME array VALUE ENTRIES`",
+        "load" => "`load CTXLEN BYTES [NAME ..]`, with at most 16 names",
+        "put" => "`put NAME KEY VALUE FLAGS`",
+        "get" => "`get NAME KEY`",
+        "del" => "`del NAME KEY`",
+        "start" => "`start PROG CTX`",
+        "step" => "`step RUN [COUNT]`",
+        "drop" => "`drop RUN`",
+        "advance" => "`advance`",
+        "reap" => "`reap`",
+        "stat" => "`stat`",
+        "dump" => "`dump NAME`",
+        _ => return None,
+    };
+    Some(form)
+}
+
+/// What the words behind `map` are to be.
+fn due_of_map(alloc: Global, words: &[&str]) -> Result<Vec<Due>, AllocError> {
+    let due = match words.get(2) {
+        Some(word) if *word == "array" => {
+            vec![in alloc; Due::Name, Due::Name, Due::Number, Due::Number]?
+        }
+        _ => {
+            vec![in alloc;
+                Due::Name,
+                Due::Number,
+                Due::Number,
+                Due::Number,
+                Due::Number,
+                Due::Number,
+            ]?
+        }
+    };
+    Ok(due)
+}
+
+/// What the words behind `load` are to be.
+fn due_of_load(alloc: Global, words: &[&str]) -> Result<Vec<Due>, AllocError> {
+    let mut due = vec![in alloc; Due::Number, Due::Bytes]?;
+    for _ in 3..words.len().min(MOST_WORDS) {
+        due.push(Due::Name)?;
+    }
+    Ok(due)
+}
+
+/// The most words of a line: those of `load` with the names of 16 maps.
+const MOST_WORDS: usize = 19;
+
+/// What the words behind the first of a command are to be.
+fn due_of(alloc: Global, name: &str, words: &[&str]) -> Result<Vec<Due>, AllocError> {
+    let due = match name {
+        "map" => due_of_map(alloc, words)?,
+        "load" => due_of_load(alloc, words)?,
+        "put" => vec![in alloc; Due::Name, Due::Bytes, Due::Bytes, Due::Number]?,
+        "get" | "del" => vec![in alloc; Due::Name, Due::Bytes]?,
+        "start" => vec![in alloc; Due::Number, Due::Bytes]?,
+        "step" if words.len() > 2 => vec![in alloc; Due::Number, Due::Count]?,
+        "step" | "drop" => vec![in alloc; Due::Number]?,
+        "dump" => vec![in alloc; Due::Name]?,
+        _ => Vec::new(alloc),
+    };
+    Ok(due)
+}
+
+/// Whether a word writes bytes.
+fn are_bytes(word: &str) -> bool {
+    if word == "-" {
+        return true;
+    }
+    for digit in word.as_bytes() {
+        if !digit.is_ascii_hexdigit() {
+            return false;
+        }
+    }
+    word.len() % 2 == 0
+}
+
+/// Whether a word writes how many steps are made.
+fn is_count(word: &str) -> bool {
+    match number_of(word.as_bytes()) {
+        Some(count) => 1 <= count && count <= MAX_COUNT,
+        None => false,
+    }
+}
+
+/// What a word is to be and is not, if it is not.
+fn lack_of(due: Due, word: &str) -> Option<&'static str> {
+    match due {
+        Due::Number if number_of(word.as_bytes()).is_none() => Some(
+            "no number: these are decimal, below 2^64, without a sign or leading zeros",
+        ),
+        Due::Bytes if !are_bytes(word) => Some(
+            "no bytes: these are an even number of hexadecimal digits, or `-` for none",
+        ),
+        Due::Count if !is_count(word) => Some("no COUNT, which is 1 to 4096"),
+        _ => None,
+    }
+}
+
+/// The first characters of a word.
+fn shortened(word: &str) -> &str {
+    match word.char_indices().nth(40) {
+        Some((end, _)) => word.get(0..end).unwrap_or(word),
+        None => word,
+    }
+}
+
+/// The words of a line.
+fn words_of<'a>(alloc: Global, line: &'a str) -> Result<Vec<&'a str>, AllocError> {
+    let mut words = Vec::new(alloc);
+    for word in line.split(' ') {
+        if !word.is_empty() {
+            words.push(word)?;
+        }
+    }
+    Ok(words)
+}
+
+/// Writes what is wrong with the words of a command of this form.
+fn write_lack<W: Write>(
+    alloc: Global,
+    out: &mut W,
+    name: &str,
+    words: &[&str],
+    form: &str,
+) -> io::Result<()> {
+    let due = due_of(alloc, name, words)?;
+    let given = words.len().saturating_sub(1);
+    if due.len() != given {
+        let which = if given < due.len() { "few" } else { "many" };
+        return writeln!(
+            out,
+            "  too {which} words stand behind `{name}`: its form is {form}"
+        );
+    }
+    for (due, word) in due.iter().zip(words.iter().skip(1)) {
+        if let Some(lack) = lack_of(*due, word) {
+            let word = shortened(word);
+            return writeln!(out, "  {word:?} is {lack}; the form is {form}");
+        }
+    }
+    Ok(())
+}
+
+/// Writes why a line of text is no command.
+fn write_why<W: Write>(alloc: Global, out: &mut W, line: &str) -> io::Result<()> {
+    if line.len() > LINE_BYTES {
+        return writeln!(out, "  a line has at most {LINE_BYTES} bytes");
+    }
+    if line.ends_with('\r') {
+        return writeln!(
+            out,
+            "  a line ends by a line feed alone, without a carriage return"
+        );
+    }
+    if line.starts_with(' ') || line.ends_with(' ') {
+        return writeln!(out, "  no space begins or ends a line");
+    }
+    let words = words_of(alloc, line)?;
+    let Some(name) = words.first() else {
+        return Ok(());
+    };
+    match form_of(name) {
+        Some(form) => write_lack(alloc, out, name, &words, form),
+        None => {
+            let name = shortened(name);
+            writeln!(
+                out,
+                "  no command begins with {name:?}: map, load, put, get, del, start, step, drop, advance, reap, stat, dump"
+            )
+        }
+    }
+}
+
+/// Writes which of the lines of a script that were read last is the first that is no command, and why. So many lines stand
+/// above them.
+pub fn explain_script<W: Write>(
+    alloc: Global,
+    text: &[u8],
+    above: usize,
+    out: &mut W,
+) -> io::Result<()> {
+    let mut number: usize = 0;
+    for line in text.split(|byte| *byte == b'\n') {
+        number = number.saturating_add(1);
+        if parse_line(line).is_err() {
+            write_line(out, text, number, above)?;
+            return match str::from_utf8(line) {
+                Ok(line) => write_why(alloc, out, line),
+                Err(_) => writeln!(out, "  the line is not UTF-8 text"),
+            };
+        }
+    }
+    Ok(())
+}
