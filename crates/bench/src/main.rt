@@ -6,7 +6,7 @@ ghost use Rattle.bpf_model.specs.declared.limits.TheConstants.{CTX_BYTES};
 ghost use Rattle.bench.specs.Trials.{IsReadyTrial};
 
 mod command;
-mod maps;
+mod key_tables;
 mod measure;
 mod measurements;
 mod reads;

@@ -2,7 +2,7 @@
 ghost use Rattle.std.specs.Prelude.{◌<◌, ◌≤◌};
 ghost use Rattle.read_table.specs.declared.limits.TheConstants.{MAX_READERS};
 
-use crate::maps::repeat_map_calls;
+use crate::key_tables::repeat_map_calls;
 use crate::measurements::{measurement_line, quotient};
 use crate::reads::command::ReadCommand;
 use crate::reads::jobs::time_per_read_job;

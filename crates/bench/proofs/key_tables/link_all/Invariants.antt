@@ -1,5 +1,5 @@
 use Rattle.std.proofs.Common.{◌≡◌}
-use Rattle.bench.proofs.maps.link_all.Given as goal
+use Rattle.bench.proofs.key_tables.link_all.Given as goal
 
 abbrev pub invariant-loop-key : goal.invariant-loop-key
 invariant-loop-key l = l.writer.table ≡ l.table
