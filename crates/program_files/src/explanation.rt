@@ -2,6 +2,7 @@
 ghost use Rattle.std.specs.Prelude.{◌≤◌};
 ghost use Rattle.bpf_model.specs.declared.limits.TheConstants.{CTX_BYTES};
 
+use crate::depths::write_depths;
 use crate::known::write_kind;
 use crate::likeness::write_likeness;
 use crate::meaning::meaning_of;
@@ -16,12 +17,11 @@ use std::io;
 use std::io::Write;
 use verifier::AbsState;
 
-/// The instruction that begins at a slot, if one does.
-fn insn_at<'a>(source: &'a Source, slot: usize) -> Option<&'a Insn> {
-    let instructions = source.program.instructions();
+/// The index of the instruction that begins at a slot, if one does.
+fn index_at(source: &Source, slot: usize) -> Option<usize> {
     for (index, start) in source.program.starts().iter().enumerate() {
         if *start == slot {
-            return instructions.get(index);
+            return Some(index);
         }
     }
     None
@@ -49,6 +49,9 @@ fn write_known<W: Write>(
 /// The number of a refusal for bytes of the frame that are not written on every path.
 const UNWRITTEN_FRAME: u8 = 29;
 
+/// The number of a refusal for locks, also where paths that have other numbers of them open meet.
+const UNPAIRED_SECTION: u8 = 34;
+
 /// Writes the text of the instruction at which a program is refused by this number, and what was known there.
 fn write_instruction<W: Write>(
     alloc: Global,
@@ -59,11 +62,17 @@ fn write_instruction<W: Write>(
 ) -> io::Result<()>
     requires { source.now.ctx_len ≤ CTX_BYTES }
 {
-    let Some(insn) = insn_at(source, slot) else {
+    let Some(index) = index_at(source, slot) else {
+        return Ok(());
+    };
+    let Some(insn) = source.program.instructions().get(index) else {
         return Ok(());
     };
     let text = line_of(alloc, insn)?;
     writeln!(out, "at {slot}: {text}")?;
+    if code == UNPAIRED_SECTION {
+        write_depths(alloc, source, index, out)?;
+    }
     if let Some(state) = known_where_refused(alloc, source)? {
         write_known(out, source, insn, &state)?;
         if code == UNWRITTEN_FRAME {
@@ -91,8 +100,8 @@ fn write_source<W: Write>(file: &FileBytes, verdict: &Verdict, out: &mut W) -> i
 }
 
 /// Writes what a verdict on a program file means: a line with its name and its meaning; and where it is of an
-/// instruction, that one's text, what each register that it reads may hold, how many locks are open, and which byte of
-/// the frame is missing. The frame is told from r10 on, maps by their place in the program's list and their names. Where
+/// instruction, that one's text, what each register that it reads may hold, how many locks are open, by the path where that
+/// differs, and which byte of the frame is missing. The frame is told from r10 on, maps by their place in the program's list and their names. Where
 /// a line of the file is wrong, it is shown, with what it may be; bytes that are read as slots and are none may look like
 /// something else, and then that is said.
 ///
