@@ -63,7 +63,7 @@ def filter_packets(bpf, program, start, source, target):
 def loaded(bpf, program):
     """The number of the program."""
     try:
-        text = pathlib.Path(program).read_text()
+        text = pathlib.Path(program).read_text(errors="backslashreplace")
         if not text.startswith(f"bpfrt 1\nctx {CONTEXT.size}\n"):
             raise ValueError(f"it is no filter that `bpfrt filter` wrote: those have contexts of {CONTEXT.size} bytes")
         return bpf.load(text)

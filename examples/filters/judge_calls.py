@@ -22,14 +22,48 @@ ACTIONS = {
 DATA = struct.Struct("<IIQ6Q")
 
 
+def number_of(word, bits, names=""):
+    """A number of so many bits; one below 0 stands for what its bits are without a sign."""
+    try:
+        number = int(word, 0)
+    except ValueError:
+        raise ValueError(f'"{word}" is no number{names}') from None
+    if not -1 << bits - 1 <= number < 1 << bits:
+        raise ValueError(f'"{word}" does not fit {bits} bits')
+    return number % (1 << bits)
+
+
 def call_of(line):
     """The data of a call."""
-    arch, number, *arguments = line.split()
-    values = [int(it, 0) % (1 << 64) for it in arguments]
-    if len(values) > 6:
-        raise ValueError("more than six arguments")
-    arch = ARCHES[arch] if arch in ARCHES else int(arch, 0)
-    return DATA.pack(int(number, 0) % (1 << 32), arch, 0, *values, *[0] * (6 - len(values)))
+    words = line.split()
+    if not 2 <= len(words) <= 8:
+        raise ValueError(f'"{line}" is no `arch number argument ..` with at most six arguments')
+    arch = ARCHES[words[0]] if words[0] in ARCHES else number_of(words[0], 32, f", and none of {', '.join(ARCHES)}")
+    number, *values = number_of(words[1], 32), *(number_of(it, 64) for it in words[2:])
+    return DATA.pack(number, arch, 0, *values, *[0] * (6 - len(values)))
+
+
+def calls_of(path):
+    """The lines of a list that are calls, and the data of each."""
+    calls = []
+    for place, text in enumerate(pathlib.Path(path).read_text(errors="backslashreplace").splitlines(), 1):
+        line = text.partition("#")[0].strip()
+        try:
+            calls += [(line, call_of(line))] if line else []
+        except ValueError as error:
+            sys.exit(f"judge_calls: {path}:{place}: {error}")
+    return calls
+
+
+def answers_of(bpf, program, contexts):
+    """What the policy answers to each call."""
+    try:
+        text = pathlib.Path(program).read_text(errors="backslashreplace")
+        if not text.startswith(f"bpfrt 1\nctx {DATA.size}\n"):
+            raise ValueError(f"it is no policy that `bpfrt filter --seccomp` wrote: those have contexts of {DATA.size} bytes")
+        return bpf.run_many(bpf.load(text), contexts)
+    except (Refused, ValueError, OSError) as error:
+        sys.exit(f"judge_calls: {program}: {error}")
 
 
 def name_of(answer):
@@ -41,19 +75,10 @@ def name_of(answer):
 
 
 def main(bpfrt, program, calls="/dev/stdin"):
-    try:
-        lines = [line.partition("#")[0].strip() for line in pathlib.Path(calls).read_text().splitlines()]
-        lines = [line for line in lines if line]
-        contexts = [call_of(line) for line in lines]
-    except (ValueError, struct.error) as error:
-        sys.exit(f"judge_calls: {calls}: {error}")
+    listed = calls_of(calls)
     with Runtime(bpfrt) as bpf:
-        try:
-            policy = bpf.load(pathlib.Path(program).read_text())
-            answers = bpf.run_many(policy, contexts)
-        except (Refused, ValueError, OSError) as error:
-            sys.exit(f"judge_calls: {program}: {error}")
-    for line, answer in zip(lines, answers):
+        answers = answers_of(bpf, program, [context for _, context in listed])
+    for (line, _), answer in zip(listed, answers):
         print(f"{name_of(answer)}: {line}")
 
 

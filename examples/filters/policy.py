@@ -4,7 +4,10 @@
 It needs libseccomp's module of Python (in Debian python3-seccomp)."""
 import sys
 
-import seccomp
+try:
+    import seccomp
+except ImportError:
+    sys.exit("policy: Python has no module seccomp: in Debian the package python3-seccomp has it")
 
 policy = seccomp.SyscallFilter(seccomp.ERRNO(1))
 for name in ["read", "write", "close", "fstat", "mmap", "munmap", "brk", "rt_sigreturn", "futex", "exit_group"]:

@@ -5,7 +5,7 @@ import struct
 import sys
 
 sys.dont_write_bytecode = True
-from bpfrt import Refused, Runtime
+from bpfrt import Broken, Refused, Runtime
 
 POLICY = pathlib.Path(__file__).parent.parent / "c" / "policy.bpfrt"
 VERDICTS = ["denied", "allowed", "audited"]
@@ -21,9 +21,8 @@ def flow(size):
     return KEY + struct.pack("<Q", size)
 
 
-if len(sys.argv) != 2:
-    sys.exit(__doc__)
-with Runtime(sys.argv[1]) as bpf:
+def talk(bpf):
+    """Asks for verdicts, and prints them."""
     policy = bpf.load(POLICY.read_text())
     bpf.put("rules", KEY, rule(1))
     print("a flow of 400 bytes is", VERDICTS[bpf.run(policy, flow(400))])
@@ -52,3 +51,13 @@ with Runtime(sys.argv[1]) as bpf:
     print("four flows in one write are", ", ".join(VERDICTS[value] for value in values))
     print("lines in one write are answered", bpf.batch(["advance", "dump rules", "reap"]))
     print(bpf.stat())
+
+
+if __name__ == "__main__":
+    if len(sys.argv) != 2:
+        sys.exit(__doc__)
+    try:
+        with Runtime(sys.argv[1]) as runtime:
+            talk(runtime)
+    except (Refused, Broken, OSError) as error:
+        sys.exit(f"host: {error}")
