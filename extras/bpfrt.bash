@@ -7,12 +7,12 @@ _bpfrt() {
         mapfile -t COMPREPLY < <(compgen -W "check disasm asm script pool run trace filter" -- "$word")
     elif [[ ${COMP_WORDS[1]} == check && $word == -* ]]; then
         mapfile -t COMPREPLY < <(compgen -W "--asm --log --explain --json" -- "$word")
-    elif [[ ${COMP_WORDS[1]} == pool && $word == -* ]]; then
+    elif [[ ${COMP_WORDS[1]} == @(script|pool) && $word == -* ]]; then
         mapfile -t COMPREPLY < <(compgen -W "--explain" -- "$word")
     elif [[ ${COMP_WORDS[1]} == asm && $word == -* ]]; then
         mapfile -t COMPREPLY < <(compgen -W "--file --plain --explain" -- "$word")
     elif [[ ${COMP_WORDS[1]} == filter && $word == -?* ]]; then
-        mapfile -t COMPREPLY < <(compgen -W "--seccomp" -- "$word")
+        mapfile -t COMPREPLY < <(compgen -W "--seccomp --explain" -- "$word")
     elif [[ ${COMP_WORDS[1]} == @(run|trace) && $word == -* ]]; then
         mapfile -t COMPREPLY < <(compgen -W "--map --dump --explain --json" -- "$word")
     elif [[ ${COMP_WORDS[1]} == @(check|disasm|asm|filter) || ${COMP_WORDS[1]} == pool && COMP_CWORD -ge 3 ||
