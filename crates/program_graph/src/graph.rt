@@ -126,7 +126,7 @@ fn targets_of(
     let mut targets = Vec::with_capacity(alloc, instructions.len())?;
     for index in 0..instructions.len() {
         match target_of(&instructions[index], indexes, starts[index]) {
-            Ok(target) => targets.push(target)?,
+            Ok(target) => targets.push_reserved(target),
             Err(flaw) => {
                 return Err(GraphRefusal::Flaw {
                     flaw,

@@ -122,7 +122,12 @@ impl FrameCells {
         ensures spills { self.new.spills ≡ self.old.spills }
     {
         self.first = self.first.min(at / 8);
-        fill(&mut self.cells, at, width, CellKind::Byte);
+        // Eight bytes are one store, where their number is known.
+        if width == 8 {
+            fill(&mut self.cells, at, 8, CellKind::Byte);
+        } else {
+            fill(&mut self.cells, at, width, CellKind::Byte);
+        }
     }
 
     /// The eight bytes of an aligned group become the parts of a reference.

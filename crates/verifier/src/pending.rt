@@ -40,7 +40,7 @@ impl Pending {
         let mut by_index = Vec::with_capacity(alloc, len)?;
         by_index.push(Waiting::Known(AbsState::entry(alloc)?))?;
         for _ in 1..len {
-            by_index.push(Waiting::Nothing)?;
+            by_index.push_reserved(Waiting::Nothing);
         }
         Ok(Pending {
             by_index,

@@ -10,7 +10,7 @@ use Rattle.program_graph.proofs.Edges.{start_read, start_below, flaw_found, bad_
 use Rattle.program_graph.proofs.Flaws.{good_has_none}
 use Rattle.program_graph.specs.GraphFlaws.{HasGraphFlaw}
 use Rattle.program_graph.proofs.graph.targets_of.Goals as goal
-use Rattle.program_graph.proofs.graph.targets_of.Goals.{After-drop-targets-in-Err}
+use Rattle.program_graph.proofs.graph.targets_of.Goals.{After-drop-targets}
 
 pub bounds-starts-index : goal.bounds-starts-index
 bounds-starts-index c = omega (arith, ap length c.requires.starts, length-starts_from 0 c.args.instructions.now)
@@ -26,7 +26,7 @@ target_of-requires c =
     omega (arith, start_below c.args.instructions.now c.loop-index.index (slice_index_or c.args.starts.now c.loop-index.index 0) at, c.requires.small)
 
 -- the jump at hand is the first bad one
-bad_here : (c : After-drop-targets-in-Err) → HasGraphFlaw c.args.instructions.now c.in-Err.flaw (slice_index_or c.args.starts.now c.loop-index.index 0)
+bad_here : (c : After-drop-targets) → HasGraphFlaw c.args.instructions.now c.in-Err.flaw (slice_index_or c.args.starts.now c.loop-index.index 0)
 bad_here c =
     let at : StartsAt c.args.instructions.now c.loop-index.index
     (slice_index_or c.args.starts.now c.loop-index.index 0) =
@@ -45,7 +45,7 @@ bad_here c =
     })
 
 pub returns-in-Err-clause-told : goal.returns-in-Err-clause-told
-returns-in-Err-clause-told c = bad_here (goal.at.returns-in-Err-clause-told c).After-drop-targets-in-Err
+returns-in-Err-clause-told c = bad_here (goal.at.returns-in-Err-clause-told c).After-drop-targets
 
 pub loop-index-preserved : goal.loop-index-preserved
 loop-index-preserved c =
@@ -58,8 +58,9 @@ loop-index-preserved c =
     let found : target_of c.args.indexes.now (slice_index_or c.args.starts.now c.loop-index.index 0)
     (distance c.index-instructions-index.result) ≡ Ok c.in-Ok.target = sym c.in-Ok.ensures in
     record {
-      long = omega (arith, c.in_ok-push-in-Ok.ensures.len, c.loop-index.invariant.long);
-      targets = subst (HasTargets c.args.instructions.now) (sym c.in_ok-push-in-Ok.ensures.items)
+      long = omega (arith, c.push_reserved.ensures.len, c.loop-index.invariant.long);
+      room = omega (arith, c.push_reserved.ensures.capacity, c.loop-index.invariant.room);
+      targets = subst (HasTargets c.args.instructions.now) (sym c.push_reserved.ensures.items)
           (targets_more c.args.instructions.now c.loop-index.targets.items c.loop-index.index
           c.index-instructions-index.result c.in-Ok.target c.loop-index.invariant.long here
           c.loop-index.invariant.targets
@@ -78,4 +79,4 @@ pub returns-in-Err-clause-accepts : goal.returns-in-Err-clause-accepts
 returns-in-Err-clause-accepts c = λ good.
     absurd (good_has_none c.args.instructions.now c.in-Err.flaw
     (slice_index_or c.args.starts.now c.loop-index.index 0) good
-    (bad_here (goal.at.returns-in-Err-clause-accepts c).After-drop-targets-in-Err))
+    (bad_here (goal.at.returns-in-Err-clause-accepts c).After-drop-targets))
