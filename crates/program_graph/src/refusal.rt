@@ -1,7 +1,7 @@
 //! Why a program's jump graph is refused.
 ghost use Rattle.std.specs.Prelude.{◌≡◌};
 
-use std::alloc::{AllocError, AllocFailed};
+use std::alloc::AllocError;
 use thiserror::Error;
 
 /// What is wrong with a program's jump graph.
@@ -62,16 +62,6 @@ impl From<AllocError> for GraphRefusal {
     ghost from_gives = { λ _ e. e ≡ Memory };
 
     fn from(_: AllocError) -> GraphRefusal {
-        GraphRefusal::Memory
-    }
-}
-
-impl<T: Drop> From<AllocFailed<T>> for GraphRefusal {
-    ghost use Rattle.program_graph.specs.declared.refusal.GraphRefusal.TheVariants.{Memory};
-
-    ghost from_gives = { λ _ e. e ≡ Memory };
-
-    fn from(_: AllocFailed<T>) -> GraphRefusal {
         GraphRefusal::Memory
     }
 }

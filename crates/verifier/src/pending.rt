@@ -124,9 +124,13 @@ impl Pending {
         ensures peak { self.new.peak ≡ self.old.peak }
         ensures covered { states_in self.new.by_index ≤ self.new.peak }
     {
-        let taken = std::mem::replace(&mut self.by_index[index], Waiting::Nothing);
-        self.len -= taken.count();
-        taken
+        match std::mem::replace(&mut self.by_index[index], Waiting::Nothing) {
+            Waiting::Known(state) => {
+                self.len -= 1;
+                Waiting::Known(state)
+            }
+            other => other,
+        }
     }
 
     /// Takes out the state that waits for the instruction of this index, if one does.

@@ -3,7 +3,7 @@ ghost use Rattle.std.specs.Prelude.{◌≡◌};
 
 use program_graph::GraphFlaw;
 use register_kinds::InsnFault;
-use std::alloc::{AllocError, AllocFailed};
+use std::alloc::AllocError;
 use thiserror::Error;
 
 /// Why a program is refused, and the slot of the instruction at which it is.
@@ -52,16 +52,6 @@ impl From<AllocError> for ProgramRefusal {
     ghost from_gives = { λ _ e. e ≡ Memory };
 
     fn from(_: AllocError) -> ProgramRefusal {
-        ProgramRefusal::Memory
-    }
-}
-
-impl<T: Drop> From<AllocFailed<T>> for ProgramRefusal {
-    ghost use Rattle.verifier.specs.declared.refusal.ProgramRefusal.TheVariants.{Memory};
-
-    ghost from_gives = { λ _ e. e ≡ Memory };
-
-    fn from(_: AllocFailed<T>) -> ProgramRefusal {
         ProgramRefusal::Memory
     }
 }
