@@ -109,6 +109,9 @@ impl FrameCells {
         ensures few { length pairs.new.items ≤ length pairs.old.items + GROUPS }
     {
         let first = self.first.min(other.first);
+        if first == GROUPS {
+            return;
+        }
         join_kinds(pairs, top, &mut self.spills, &other.spills, first);
         join_cells(&mut self.cells, &other.cells, &self.spills, first);
         self.first = first;
