@@ -116,9 +116,19 @@ fn check_store(
     Ok(())
 }
 
-/// A store to the frame: the bytes of a number, or by a width of 8 the parts of a reference.
-fn store_frame(state: &mut AbsState, fields: Fields, start: i32) -> Result<(), InsnFault>
+/// A store of this to the frame: the bytes of a number, or by a width of 8 the parts of a reference.
+fn store_frame(
+    state: &mut AbsState,
+    fields: Fields,
+    start: i32,
+    value: Stored,
+) -> Result<(), InsnFault>
     requires base { kind_in state.old.regs fields.to.base ≡ RegKind.Frame start }
+    requires number { value ≡ Stored.Number → IsNumberOperand (state_of state.old) fields.src }
+    requires pointer { (r : ℕ) (kind : RegKind) → value ≡ Stored.Pointer r kind
+        → (fields.src ≡ Operand.Register r) × (kind_in state.old.regs r ≡ kind)
+        × IsWritten (kind_of kind) }
+    requires accepts { IsNumberOperand (state_of state.old) fields.src → value ≡ Stored.Number }
     ensures sound { OnOk result (PerformsAnywhere
         (Insn.Store fields.width fields.to.base fields.to.offset fields.src)
         state.old state.new) }
@@ -131,26 +141,28 @@ fn store_frame(state: &mut AbsState, fields: Fields, start: i32) -> Result<(), I
     ensures below { (top : ℕ) → AreBelow top state.old → AreBelow top state.new }
     ensures unchanged { OnErr result (state.new ≡ state.old) }
 {
-    match stored_value(state, &fields.src)? {
+    match value {
         Stored::Number => store_number(state, fields, start),
         Stored::Pointer(_, kind) => store_pointer(state, fields, start, kind),
     }
 }
 
-/// A store to the value of an element, of a number alone.
+/// A store of this to the value of an element, of a number alone.
 fn store_value(
     state: &AbsState,
     fields: Fields,
     map: u32,
     offset: Scalar,
+    value: Stored,
     shapes: &[MapShape],
 ) -> Result<(), InsnFault>
     requires base { kind_in state.now.regs fields.to.base ≡ RegKind.Value map offset }
+    requires number { value ≡ Stored.Number → IsNumberOperand (state_of state.now) fields.src }
     ensures sound { OnOk result ((ctx_len : ℕ)
         → Performs (Insn.Store fields.width fields.to.base fields.to.offset fields.src)
         ctx_len shapes.now state.now state.now) }
 {
-    match stored_value(state, &fields.src)? {
+    match value {
         Stored::Number => check_store(state, fields, map, offset, shapes),
         Stored::Pointer(_, _) => Err(InsnFault::PointerLeak),
     }
@@ -187,7 +199,7 @@ pub fn store(
     ensures unchanged { OnErr result (state.new ≡ state.old) }
 {
     let base = held(state, to.base)?;
-    let _value = stored_value(state, src)?;
+    let value = stored_value(state, src)?;
     let fields = Fields {
         width,
         to,
@@ -195,11 +207,11 @@ pub fn store(
     };
     match base {
         RegKind::Frame(start) => {
-            store_frame(state, fields, start)?;
+            store_frame(state, fields, start, value)?;
             Ok(Region::Frame)
         }
         RegKind::Value { map, offset } => {
-            store_value(state, fields, map, offset, shapes)?;
+            store_value(state, fields, map, offset, value, shapes)?;
             Ok(Region::Value(map))
         }
         RegKind::Ctx(_) => Err(InsnFault::ContextWrite),
