@@ -34,7 +34,7 @@ only_append k (Put s w ∷ ns) ms n m = absurd n
 only_append k (Scan r x ∷ ns) ms n m = absurd n
 
 -- what was held stays held
-only_holds : (k : TableShape) (element : ℕ) (ns ms : List Move) → Only k ns → Holds element ms → Holds element (ns ++ ms)
+pub only_holds : (k : TableShape) (element : ℕ) (ns ms : List Move) → Only k ns → Holds element ms → Holds element (ns ++ ms)
 only_holds k element [] ms n h = h
 only_holds k element (Open ∷ ns) ms n h = absurd n
 only_holds k element (Close ∷ ns) ms n h = absurd n
@@ -45,7 +45,7 @@ only_holds k element (Put s w ∷ ns) ms n h = absurd n
 only_holds k element (Scan r x ∷ ns) ms n h = absurd n
 
 -- the section stays as it is
-only_inside : (k : TableShape) (ns ms : List Move) → Only k ns → inside (ns ++ ms) ≡ inside ms
+pub only_inside : (k : TableShape) (ns ms : List Move) → Only k ns → inside (ns ++ ms) ≡ inside ms
 only_inside k [] ms n = refl
 only_inside k (Open ∷ ns) ms n = absurd n
 only_inside k (Close ∷ ns) ms n = absurd n
@@ -207,7 +207,7 @@ module _ (k : TableShape) (key : List ℕ) where
   found_element low high ms (Some element) f = f.2
 
   -- what was found is held
-  found_holds : (way element : ℕ) (ns ms : List Move) → Only k ns → FoundIn way element ns → Holds element (ns ++ ms)
+  pub found_holds : (way element : ℕ) (ns ms : List Move) → Only k ns → FoundIn way element ns → Holds element (ns ++ ms)
   found_holds way element [] ms n f = absurd f
   found_holds way element (Open ∷ ns) ms n f = absurd n
   found_holds way element (Close ∷ ns) ms n f = absurd n

@@ -1,0 +1,55 @@
+-- A map table keeps what every table of shared runs keeps.
+use Rattle.std.proofs.Common.{◌≡◌, ℕ, ◌≤◌, arith, List, [], ◌∷◌, ◌++◌, inl, inr, refl}
+use Rattle.map_table_laws.specs.declared.moves.Move.{Move}
+use Rattle.map_table_laws.specs.declared.moves.Move.TheVariants.{Open, Close, Learn, Load, Store, Put, Scan}
+use Rattle.map_table_laws.specs.History.{inside, Holds}
+use Rattle.map_table.specs.declared.view.TableShape.{TableShape}
+use Rattle.map_table.specs.Held.{IsSized}
+use Rattle.map_table.proofs.Lookups.{only_holds, only_inside, found_holds}
+use Rattle.world_laws.specs.Around.{regions}
+use Rattle.shared_runs.specs.Tables.{IsTable}
+use Rattle.shared_runs.proofs.Serving.{IsSmall}
+use Rattle.map_runs.specs.Table.{table_of}
+
+-- what is held by some moves is held by those and others before them
+holds_over : (element : ℕ) (ms before : List Move) → Holds element ms → Holds element (ms ++ before)
+holds_over element [] before h = absurd h
+holds_over element (Open ∷ ms) before h = absurd h
+holds_over element (Close ∷ ms) before h = absurd h
+holds_over element (Learn way x ∷ ms) before (inl h) = inl h
+holds_over element (Learn way x ∷ ms) before (inr h) = inr (holds_over element ms before h)
+holds_over element (Load e p x ∷ ms) before h = holds_over element ms before h
+holds_over element (Store e p x ∷ ms) before h = holds_over element ms before h
+holds_over element (Put way x ∷ ms) before h = holds_over element ms before h
+holds_over element (Scan r x ∷ ms) before h = holds_over element ms before h
+
+-- a run's list begins outside every section
+inside_over : (ms before : List Move) → inside before ≡ 0 → inside (ms ++ before) ≡ inside ms
+inside_over [] before h = h
+inside_over (Open ∷ ms) before h = refl
+inside_over (Close ∷ ms) before h = refl
+inside_over (Learn way x ∷ ms) before h = inside_over ms before h
+inside_over (Load e p x ∷ ms) before h = inside_over ms before h
+inside_over (Store e p x ∷ ms) before h = inside_over ms before h
+inside_over (Put way x ∷ ms) before h = inside_over ms before h
+inside_over (Scan r x ∷ ms) before h = inside_over ms before h
+
+pub is_table : (k : TableShape) → IsTable (table_of k)
+is_table k = record {
+  outside = refl;
+  begun = λ ms. refl;
+  ended = λ ms. refl;
+  find_inside = λ element place word ms. refl;
+  find_holds = λ element place word other ms h. h;
+  write_inside = λ element place word ms. refl;
+  write_holds = λ element place word other ms h. h;
+  lookup_inside = λ bytes ns ms found l. only_inside k ns ms l.looked.only;
+  lookup_holds = λ bytes ns ms found l other h. only_holds k other ns ms l.looked.only h;
+  hit_within = λ bytes ns element l. l.within;
+  hit_holds = λ bytes ns ms element l. found_holds k l.key l.looked.answers.0.0 element ns ms l.looked.only l.looked.answers.0.2;
+  holds_over = holds_over;
+  inside_over = inside_over;
+}
+
+pub small : (k : TableShape) → IsSized k → k.elements ≤ regions → IsSmall (table_of k)
+small k sized few = let value = sized.value in record { few = few; short = omega (arith, value) }

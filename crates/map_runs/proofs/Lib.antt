@@ -1,0 +1,4 @@
+pub mod Coming
+pub mod Keeping
+pub mod Known
+pub mod Words

@@ -1,0 +1,41 @@
+-- A map table as runs see it: a key is given by its bytes.
+use Rattle.std.specs.Prelude.{◌≡◌, ℕ, ◌+◌, ◌*◌, ◌<◌, List, Option, Some, IfSome, length, slice_get, slice_index}
+use Rattle.bpf_model.specs.Access.{number_at}
+use Rattle.map_table_laws.specs.declared.moves.Move.{Move}
+use Rattle.map_table_laws.specs.declared.moves.Move.TheVariants.{Open, Close, Load, Store}
+use Rattle.map_table_laws.specs.History.{inside, Holds}
+use Rattle.map_table_laws.specs.Lookups.{LooksUp}
+use Rattle.map_table.specs.declared.view.TableShape.{TableShape}
+use Rattle.map_table.specs.Hashes.{layout_of}
+use Rattle.shared_runs.specs.Tables.{Table}
+
+-- the bytes are those of the words, in order, each with its lowest byte first
+pub record AreBytesOf (words bytes : List ℕ) : Type 0 where
+  pub long : length bytes ≡ 8 * length words
+  pub each : (place : ℕ) → place < length words →
+      number_at (slice_get bytes) (8 * place) 8 ≡ Some (slice_index words place)
+
+-- The moves are a lookup of the key of these bytes, which finds this.
+pub record LooksUpBytes (k : TableShape) (bytes : List ℕ) (ms : List Move) (found : Option ℕ)
+    : Type 0 where
+  pub key : List ℕ
+  pub count : length key ≡ k.key_words
+  pub bytes_are : AreBytesOf key bytes
+  pub looked : LooksUp (layout_of k) 0 key ms found
+  pub within : IfSome found (λ element. element < k.elements)
+
+-- the words of a value stand behind those of the key
+abbrev pub table_of : TableShape → Table
+table_of k = record {
+  Move = Move;
+  elements = k.elements;
+  key_words = k.key_words;
+  value_words = k.value_words;
+  begins = Open;
+  ends = Close;
+  finds = λ element place word. Load element (k.key_words + place) word;
+  writes = λ element place word. Store element (k.key_words + place) word;
+  inside = inside;
+  Holds = Holds;
+  LooksUp = LooksUpBytes k;
+}

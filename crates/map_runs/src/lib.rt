@@ -1,0 +1,11 @@
+//! Runs of verified programs over a `MapTable`, with no lock, beside its writer.
+//!
+//! Each map of the program is the table. The outermost lock of a run opens the section of its seat. A lookup looks at the
+//! ways of two buckets. A load or a store of a word of a value is one step on one word of an element that was found.
+#![tactic(auto)]
+
+mod key_words;
+mod running;
+
+pub use running::{MAX_RUN_ELEMENTS, fits, run_shared, run_to_exit};
+pub use shared_runs::{SubWord, uses_sub_words};

@@ -1,0 +1,106 @@
+-- How far a shared run has come: each step of its words takes it further.
+use Rattle.std.proofs.Common.{◌≡◌, ℕ, ◌+◌, ◌<◌, ◌≤◌, sym, ap, subst, ◌∙◌, arith, List, [], ◌++◌, Some, length}
+use Rattle.std.proofs.lemmas.Option.{slice_get_within}
+use Rattle.bpf_model.specs.declared.insn.Insn.{Insn}
+use Rattle.bpf_model.specs.Real.{AreBytes}
+use Rattle.bpf_model.specs.Step.{insn_at}
+use Rattle.bpf_model.specs.View.{RunView}
+use Rattle.view_laws.specs.Reactions.{fresh_view}
+use Rattle.world_laws.specs.Around.{regions}
+use Rattle.verifier.specs.Checked.{Checked}
+use Rattle.verifier.specs.Verdict.{IsJustified}
+use Rattle.machine.specs.declared.request.Request.{Request}
+use Rattle.machine.specs.declared.request.Local.TheVariants.{Exit, Moved, Shared}
+use Rattle.machine.specs.Requests.{resumed_view}
+use Rattle.machine.specs.RunWords.{IsAt, RunWords}
+use Rattle.machine.specs.Standing.{Awaits, IsAnswered, IsValidRun}
+use Rattle.machine.specs.Steps.{GoesOnTo}
+use Rattle.machine.proofs.Places.{insn_there}
+use Rattle.shared_runs.specs.Tables.{Table, IsTable}
+use Rattle.shared_runs.specs.Serving.{CanAnswer, IsServable, Serves}
+use Rattle.shared_runs.specs.Sharing.{HasCome, IsSharing, flag_of}
+use Rattle.shared_runs.specs.SharedRuns.{IsSharedRun}
+use Rattle.shared_runs.specs.Words.{FitsTable, UsesSubWords, loaded_of}
+use Rattle.shared_runs.proofs.Asked.{can-serve}
+use Rattle.shared_runs.proofs.Starting.{starts}
+use Rattle.shared_runs.proofs.Steps.{exits, goes-on, moves, standing, steps}
+
+pub has-started : (k : Table) → IsTable k → (c : Checked) (context : List ℕ) (r : RunWords) → k.elements ≤ regions →
+    IsJustified c → FitsTable k c.shapes → (UsesSubWords c → ⊥) → length context ≡ c.ctx_len → AreBytes context
+    → IsAt c.program r → r.view ≡ fresh_view 0 context → HasCome k c context [] r
+has-started k keeps c context r few j fits words long bytes at view = record {
+  at = at;
+  sharing = subst (λ (v : RunView). IsSharing k c context [] v) (sym view)
+      (starts k keeps c j fits few words context long bytes);
+}
+
+module _ (k : Table) (keeps : IsTable k) (c : Checked) (context : List ℕ) (ms : List k.Move) (r : RunWords)
+    (h : HasCome k c context ms r) where
+  pub stands : IsValidRun c r
+  stands = record { at = h.at; stands = standing k c context ms r.view h.sharing }
+
+  -- it has moved less often than its program has instructions
+  pub below : r.view.moved < length c.program
+  below =
+      let s = steps k c context ms r.view h.sharing in
+      let within = slice_get_within c.program r.index s.insn (insn_there c.program r.index r.view.place s.insn s.here h.at.place) in
+      let paced = h.at.paced in
+      omega (arith, within, paced)
+
+  module _ (new : RunWords) (at : IsAt c.program new) where
+    -- it has moved on by itself
+    pub moved-on : GoesOnTo c r.view Moved new.view → HasCome k c context ms new × (r.view.moved < new.view.moved)
+    moved-on g =
+        let b = goes-on k c context ms r.view g.before h.sharing g.moved in
+        let f = moves k c context ms g.before b.0 new.view g.last in
+        (record { at = at; sharing = f.sharing }, omega (arith, b.1, f.counts))
+
+    -- it has exited
+    pub exited : (n : ℕ) → GoesOnTo c r.view (Exit n) new.view →
+        IsSharedRun k c.shapes (loaded_of c) context ms (new.view.moved + 1) n
+        × (new.view.moved + 1 ≤ length c.program) × (k.inside ms ≡ 0)
+    exited n g =
+        let b = goes-on k c context ms r.view g.before h.sharing g.moved in
+        let e = exits k c context ms g.before b.0 n new.view g.last in
+        let within = slice_get_within c.program new.index e.insn (insn_there c.program new.index new.view.place e.insn e.here at.place) in
+        let paced = at.paced in
+        (e.exit, omega (arith, within, paced), e.outside)
+
+    -- it asks
+    module _ (request : Request) (g : GoesOnTo c r.view (Shared request) new.view) where
+      before : IsSharing k c context ms g.before × (r.view.moved ≤ g.before.moved)
+      before = goes-on k c context ms r.view g.before h.sharing g.moved
+
+      asks : CanAnswer k c context ms g.before request × (new.view ≡ g.before)
+      asks = can-serve k keeps c context ms g.before before.0 request new.view g.last
+
+      sharing-now : IsSharing k c context ms new.view
+      sharing-now = subst (λ (v : RunView). IsSharing k c context ms v) (sym asks.1) before.0
+
+      can-now : CanAnswer k c context ms new.view request
+      can-now = subst (λ (v : RunView). CanAnswer k c context ms v request) (sym asks.1) asks.0
+
+      pub servable : (mine start : List k.Move) → mine ≡ ms ++ start → IsServable k mine new.view request
+      servable mine start list = record { checked = c; context = context; moves = ms; before = start; list = list; can = can-now }
+
+      pub section : (mine start : List k.Move) → mine ≡ ms ++ start → k.inside start ≡ 0 → k.inside mine ≡ flag_of new.view.depth
+      section mine start list outside = ap (λ (l : List k.Move). k.inside l) list ∙ (keeps.inside_over ms start outside ∙ sharing-now.section)
+
+      module _ (ns : List k.Move) (word : ℕ) (served : Serves k new.view request ns word) where
+        pub answered : Awaits c request new → IsAnswered c new word
+        answered a = record { request = request; awaits = a; given = (served c context ms can-now).1 }
+
+        pub resumed-on : (last : RunWords) → IsAt c.program last →
+            ((insn : Insn) → insn_at c.program new.view.place ≡ Some insn →
+            last.view ≡ resumed_view insn word new.view)
+            → HasCome k c context (ns ++ ms) last × (r.view.moved < last.view.moved)
+        resumed-on last there view =
+            let on = (served c context ms can-now).0 in
+            let f = on.2 in
+            let e = view on.0 on.1 in
+            let more : last.view.moved ≡ new.view.moved + 1 = ap (λ (v : RunView). v.moved) e ∙ f.counts in
+            let same : new.view.moved ≡ g.before.moved = ap (λ (v : RunView). v.moved) asks.1 in
+            let far = before.1 in (
+              record { at = there; sharing = subst (λ (v : RunView). IsSharing k c context (ns ++ ms) v) (sym e) f.sharing },
+              omega (arith, more, same, far),
+            )

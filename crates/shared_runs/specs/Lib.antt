@@ -1,0 +1,6 @@
+pub mod Learnt
+pub mod Serving
+pub mod SharedRuns
+pub mod Sharing
+pub mod Tables
+pub mod Words

@@ -1,0 +1,51 @@
+-- What a table is to the runs that it serves.
+use Rattle.std.specs.Prelude.{◌≡◌, ℕ, ◌<◌, List, [], ◌∷◌, ◌++◌, Option, Some}
+
+-- Which moves a reader makes, and what it holds by those that it made. Lists of moves have the newest first.
+pub record Table : Type 1 where
+  pub Move : Type 0
+  -- how many elements there are; they are numbered from 0
+  pub elements : ℕ
+  -- how many words a key has, and how many a value
+  pub key_words : ℕ
+  pub value_words : ℕ
+  -- a reader begins a section, and ends it
+  pub begins : Move
+  pub ends : Move
+  -- a word of a value is found, or written: the element, the place in its value, and the word
+  pub finds : ℕ → ℕ → ℕ → Move
+  pub writes : ℕ → ℕ → ℕ → Move
+  -- 1 after these moves of a reader inside a section, and 0 outside
+  pub inside : List Move → ℕ
+  -- by these moves of a reader it may use the element in the section that is open
+  pub Holds : ℕ → List Move → Type 0
+  -- The moves are a lookup of the key, which has these bytes: null, or an element, is answered.
+  pub LooksUp : List ℕ → List Move → Option ℕ → Type 0
+
+-- What every table keeps. A section is the reader's own. A word that is found or written, and a lookup, leave the section
+-- and what is held. A lookup that answers an element leaves it held. What is held by some moves is held by those and others
+-- before them.
+pub record IsTable (k : Table) : Type 0 where
+  pub outside : k.inside [] ≡ 0
+  pub begun : (ms : List k.Move) → k.inside (k.begins ∷ ms) ≡ 1
+  pub ended : (ms : List k.Move) → k.inside (k.ends ∷ ms) ≡ 0
+  pub find_inside : (element place word : ℕ) (ms : List k.Move) →
+      k.inside (k.finds element place word ∷ ms) ≡ k.inside ms
+  pub find_holds : (element place word other : ℕ) (ms : List k.Move) → k.Holds other ms →
+      k.Holds other (k.finds element place word ∷ ms)
+  pub write_inside : (element place word : ℕ) (ms : List k.Move) →
+      k.inside (k.writes element place word ∷ ms) ≡ k.inside ms
+  pub write_holds : (element place word other : ℕ) (ms : List k.Move) → k.Holds other ms →
+      k.Holds other (k.writes element place word ∷ ms)
+  pub lookup_inside : (key : List ℕ) (ns ms : List k.Move) (found : Option ℕ) →
+      k.LooksUp key ns found → k.inside (ns ++ ms) ≡ k.inside ms
+  pub lookup_holds : (key : List ℕ) (ns ms : List k.Move) (found : Option ℕ) →
+      k.LooksUp key ns found → (other : ℕ) → k.Holds other ms → k.Holds other (ns ++ ms)
+  pub hit_within : (key : List ℕ) (ns : List k.Move) (element : ℕ) →
+      k.LooksUp key ns (Some element) → element < k.elements
+  pub hit_holds : (key : List ℕ) (ns ms : List k.Move) (element : ℕ) →
+      k.LooksUp key ns (Some element) → k.Holds element (ns ++ ms)
+  pub holds_over : (element : ℕ) (ms before : List k.Move) → k.Holds element ms →
+      k.Holds element (ms ++ before)
+  pub inside_over : (ms before : List k.Move) → k.inside before ≡ 0 →
+      k.inside (ms ++ before) ≡ k.inside ms
