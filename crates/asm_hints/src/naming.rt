@@ -1,9 +1,7 @@
 //! What is wrong with the names of a line, in words for people.
 
-use crate::fault::SourceFault;
 use crate::hints::{mark_words, shortened};
-use crate::names::{is_constant, label_in};
-use crate::tokens::{Tokens, begins_word};
+use asm_source::{SourceFault, Tokens, begins_word, is_constant, label_in};
 use std::alloc::{AllocError, Global};
 use std::str;
 

@@ -1,7 +1,6 @@
 //! What helps where a line is wrong, in words for people.
 
-use crate::names::{are_digits, is_name, is_register};
-use crate::numbers::{hex_in, number_in};
+use asm_source::{are_digits, hex_in, is_name, is_register, number_in};
 use std::alloc::{AllocError, Global};
 
 /// How much of a word is shown.

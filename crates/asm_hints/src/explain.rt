@@ -5,9 +5,8 @@ use crate::hints::{
     is_hexadecimal, is_minus_zero, is_too_long, name_hint, shortened, sign_hint, source_hint,
     stored_hint, unsigned_hint,
 };
-use crate::names::{are_digits, is_name, is_register};
 use crate::naming::text_of;
-use crate::numbers::decimal_in;
+use asm_source::{are_digits, decimal_in, is_name, is_register};
 use disasm::{MNEMONICS, Mnemonic};
 use std::alloc::{AllocError, Global};
 use strsim::jaro_winkler;
