@@ -5,15 +5,12 @@
 #![tactic(auto)]
 
 mod bindings;
-mod explain;
 mod fault;
-mod hints;
 mod law;
 mod line_ends;
 mod lines;
 mod maps;
 mod names;
-mod naming;
 mod numbers;
 mod places;
 mod plain;
@@ -21,11 +18,12 @@ mod site;
 mod tokens;
 mod words;
 
-pub use explain::explain_line;
 pub use fault::SourceFault;
 pub use law::{fixed_stays, label_leads, line_has_place, lines_are_kept};
 pub use line_ends::fed_text;
 pub use maps::maps_of;
-pub use naming::explain_name;
+pub use names::{are_digits, is_constant, is_name, is_register, label_in};
+pub use numbers::{decimal_in, hex_in, number_in};
 pub use places::line_at;
 pub use plain::plain_of;
+pub use tokens::{Tokens, begins_word};

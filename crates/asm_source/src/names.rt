@@ -75,7 +75,7 @@ pub(crate) fn meaning_in(names: &[Named<'_>], name: &[u8]) -> Option<Meaning>
 }
 
 /// Whether the word is `r` and digits.
-pub(crate) fn is_register(word: &[u8]) -> bool
+pub fn is_register(word: &[u8]) -> bool
     ensures { result ≡ is_register_word word.now }
 {
     match word {
@@ -85,7 +85,7 @@ pub(crate) fn is_register(word: &[u8]) -> bool
 }
 
 /// Whether all bytes are decimal digits.
-pub(crate) fn are_digits(digits: &[u8]) -> bool
+pub fn are_digits(digits: &[u8]) -> bool
     ensures { result ≡ all_ascii_digits digits.now }
 {
     for digit in digits {
@@ -103,7 +103,7 @@ fn begins_name(byte: u8) -> bool
 }
 
 /// Whether the word may be given a meaning.
-pub(crate) fn is_name(word: &[u8]) -> bool
+pub fn is_name(word: &[u8]) -> bool
     ensures { result ≡ is_name_word word.now }
 {
     match word {
@@ -113,7 +113,7 @@ pub(crate) fn is_name(word: &[u8]) -> bool
 }
 
 /// The label that a line begins with by this word: what stands before a `:` at its end.
-pub(crate) fn label_in(word: &[u8]) -> Option<&[u8]>
+pub fn label_in(word: &[u8]) -> Option<&[u8]>
     ensures { option_copied result ≡ label_of word.now }
 {
     let count = word.len();
@@ -125,7 +125,7 @@ pub(crate) fn label_in(word: &[u8]) -> Option<&[u8]>
 }
 
 /// Whether the word begins the line of a constant.
-pub(crate) fn is_constant(word: &[u8]) -> bool
+pub fn is_constant(word: &[u8]) -> bool
     ensures { result ≡ bytes_eq word.now (codes ".equ") }
 {
     word == b".equ".as_slice()

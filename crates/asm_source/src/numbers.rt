@@ -44,7 +44,7 @@ fn read_digits(base: u64, digits: &[u8]) -> Option<u64>
 }
 
 /// The number that the word writes in hexadecimal behind `0x`, below 2^64.
-pub(crate) fn hex_in(word: &[u8]) -> Option<u64>
+pub fn hex_in(word: &[u8]) -> Option<u64>
     ensures { result ≡ hex_of word.now }
 {
     match word {
@@ -54,7 +54,7 @@ pub(crate) fn hex_in(word: &[u8]) -> Option<u64>
 }
 
 /// The number that the word writes in decimal, without leading zeros and below 2^64.
-pub(crate) fn decimal_in(word: &[u8]) -> Option<u64>
+pub fn decimal_in(word: &[u8]) -> Option<u64>
     ensures { result ≡ decimal_of word.now }
 {
     match word {
@@ -64,7 +64,7 @@ pub(crate) fn decimal_in(word: &[u8]) -> Option<u64>
 }
 
 /// The number that the word writes, in decimal or hexadecimal.
-pub(crate) fn number_in(word: &[u8]) -> Option<u64>
+pub fn number_in(word: &[u8]) -> Option<u64>
     ensures { result ≡ number_of word.now }
 {
     match hex_in(word) {

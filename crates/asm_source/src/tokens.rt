@@ -25,7 +25,7 @@ fn is_letter(byte: u8) -> bool
 }
 
 /// Whether the token is a word and no mark.
-pub(crate) fn begins_word(token: &[u8]) -> bool
+pub fn begins_word(token: &[u8]) -> bool
     ensures { result ≡ begins_with_letter token.now }
 {
     match token {
@@ -80,7 +80,7 @@ fn split_token(line: &[u8]) -> (&[u8], &[u8])
 
 /// The tokens of a line that are not yet read. Contracts see the list of them.
 #[derive(Drop)]
-pub(crate) struct Tokens<'a> {
+pub struct Tokens<'a> {
     rest: &'a [u8],
 }
 
@@ -92,14 +92,14 @@ impl<'a> Model for Tokens<'a> {
 
 impl<'a> Tokens<'a> {
     /// The tokens of a line.
-    pub(crate) fn new(line: &'a [u8]) -> Tokens<'a>
+    pub fn new(line: &'a [u8]) -> Tokens<'a>
         ensures { result ≡ tokens_of line.now }
     {
         Tokens { rest: line }
     }
 
     /// The next token, if there is one.
-    pub(crate) fn next(&mut self) -> Option<&'a [u8]>
+    pub fn next(&mut self) -> Option<&'a [u8]>
         ensures some { IfSome result (λ token. self.old ≡ token.now ∷ self.new) }
         ensures none { IfNone result (self.old ≡ []) }
         ensures done { IfNone result (self.new ≡ []) }
@@ -119,7 +119,7 @@ impl<'a> Tokens<'a> {
     }
 
     /// Whether no token is left.
-    pub(crate) fn is_done(&self) -> bool
+    pub fn is_done(&self) -> bool
         ensures { result ≡ is_end self.now }
     {
         let mut tokens = Tokens { rest: self.rest };

@@ -9,7 +9,7 @@ ghost use Rattle.commands.specs.Assembled.{IsAssembled, IsTextFault, IsRefusedBy
 use crate::heads::{Split, file_of, has_head, lines_in, lines_of, parts_of};
 use crate::report::fault;
 use crate::request::AsmForm;
-use crate::streams::{unread, write_text, written};
+use crate::streams::{unread_in_words, write_text, written};
 use crate::wrong_text::explain_text;
 use asm::{AsmFault, assemble};
 use asm_source::{SourceFault, fed_text, maps_of, plain_of};
@@ -207,7 +207,7 @@ pub fn run_asm<R: Read, W: Write, E: Write>(
 {
     let bytes = match read_text(alloc, input) {
         Ok(bytes) => bytes,
-        Err(error) => return unread(err, &error),
+        Err(error) => return unread_in_words(err, &error, in_words),
     };
     let Ok(text) = fed_text(alloc, &bytes) else {
         return fault(err, MEMORY);

@@ -9,7 +9,7 @@ use crate::assembly::{make_code, told as told_of_text};
 use crate::json::write_accepted as write_json;
 use crate::report::{Telling, fault, told_twice};
 use crate::request::Checking;
-use crate::streams::{unread, written};
+use crate::streams::{unread_in_words, written};
 use asm_source::fed_text;
 use program_files::{Accepted, FileBytes, MEMORY, check, read_file, read_text, write_log};
 use std::alloc::Global;
@@ -88,7 +88,7 @@ fn check_program_file<R: Read, W: Write, E: Write>(
 {
     match read_file(alloc, input) {
         Ok(file) => check_file(alloc, how, &file, None, out, err),
-        Err(error) => unread(err, &error),
+        Err(error) => unread_in_words(err, &error, how.explain),
     }
 }
 
@@ -109,7 +109,7 @@ fn check_text<R: Read, W: Write, E: Write>(
 {
     let bytes = match read_text(alloc, input) {
         Ok(bytes) => bytes,
-        Err(error) => return unread(err, &error),
+        Err(error) => return unread_in_words(err, &error, how.explain),
     };
     let Ok(text) = fed_text(alloc, &bytes) else {
         return fault(err, MEMORY);

@@ -11,18 +11,19 @@ ghost use Rattle.commands.specs.Filters.{
   IsListed,
 };
 
+use crate::filter_words::explain_filter;
 use crate::heads::{lines_in, text_of};
 use crate::report::fault;
-use crate::streams::{unread, write_text, written};
+use crate::streams::{unread_in_words, write_text, written};
 use classic::{
     ClassicFault, Data, ReadFault, SockFilter, TranslateFault, check, read_filter_array,
     read_listing, translate,
 };
 use insn_codec::encode;
-use program_files::{LoadFault, MEMORY, load, read_text, write_line};
+use program_files::{LoadFault, MEMORY, load, read_text};
 use std::alloc::Global;
 use std::io::{Read, Write};
-use std::{io, str};
+use std::str;
 
 /// Why bytes are no classic program, or have no program file.
 #[derive(Clone, Copy, Debug, PartialEq, Eq)]
@@ -164,74 +165,22 @@ fn told<E: Write>(err: &mut E, why: &FilterFault) -> u8
     1
 }
 
-/// What a line of a listing is, but the first.
-const LISTED: &str =
-    "  a line here is `CODE JT JF K` in decimal: CODE up to 65535, JT and JF up to 255, K up to 4294967295";
-
-/// How many instructions stand above the line of a number, in a listing.
-const FIRST_LINES: usize = 2;
-
-/// Writes how many lines a listing has, and is to have.
-fn explain_count<E: Write>(bytes: &[u8], err: &mut E) -> io::Result<()> {
-    write_line(err, bytes, 1, 0)?;
-    let lines = bytes.strip_suffix(b"\n").unwrap_or(bytes);
-    let below = lines_in(lines);
-    writeln!(
-        err,
-        "  the first line is how many lines stand below it, in decimal without leading zeros; below it stand {below}"
-    )
-}
-
-/// Writes in words why bytes are no classic program, or have no program file.
-fn explain_filter<E: Write>(
+/// Tells why bytes are no classic program, or have no program file, in words too where it is asked for, and answers the
+/// status.
+fn told_of<E: Write>(
+    alloc: Global,
     bytes: &[u8],
     kind: Data,
     why: &FilterFault,
+    in_words: bool,
     err: &mut E,
-) -> io::Result<()> {
-    let instruction = match why {
-        FilterFault::Memory => return Ok(()),
-        FilterFault::NotUtf8 { line } => return write_listed(bytes, *line, err),
-        FilterFault::Unread(fault) => {
-            writeln!(err, "{fault}")?;
-            return match fault {
-                ReadFault::BadCount => explain_count(bytes, err),
-                ReadFault::BadLine(line) => write_listed(bytes, *line, err),
-                _ => Ok(()),
-            };
-        }
-        FilterFault::Flawed(fault) => {
-            writeln!(err, "{fault}")?;
-            fault.instruction()
-        }
-        FilterFault::Untranslated(fault) => {
-            writeln!(err, "{fault}")?;
-            fault.instruction()
-        }
-    };
-    match (kind, instruction) {
-        (Data::Packet, Some(number)) => {
-            write_line(err, bytes, number.saturating_add(FIRST_LINES), 0)
-        }
-        _ => Ok(()),
-    }
-}
-
-/// Writes a line of a listing, and what it may be.
-fn write_listed<E: Write>(bytes: &[u8], line: usize, err: &mut E) -> io::Result<()> {
-    write_line(err, bytes, line, 0)?;
-    writeln!(err, "{LISTED}")
-}
-
-/// Tells why bytes are no classic program, or have no program file, in words too where it is asked for, and answers the
-/// status.
-fn told_of<E: Write>(bytes: &[u8], kind: Data, why: &FilterFault, in_words: bool, err: &mut E) -> u8
+) -> u8
     ensures status { (result ≡ 1) ⊎ (result ≡ 3) }
     ensures refused { result ≡ 1 → why.now ≢ FilterFault.Memory }
 {
     let status = told(err, why);
     if in_words && status == 1 {
-        let _ = explain_filter(bytes, kind, why, err);
+        let _ = explain_filter(alloc, bytes, kind, why, err);
     }
     status
 }
@@ -253,10 +202,10 @@ pub fn run_filter<R: Read, W: Write, E: Write>(
 {
     let bytes = match read_text(alloc, input) {
         Ok(bytes) => bytes,
-        Err(error) => return unread(err, &error),
+        Err(error) => return unread_in_words(err, &error, in_words),
     };
     match make_file(alloc, kind, &bytes) {
         Ok(file) => written(err, write_text(out, &file)),
-        Err(why) => told_of(&bytes, kind, &why, in_words, err),
+        Err(why) => told_of(alloc, &bytes, kind, &why, in_words, err),
     }
 }

@@ -6,6 +6,7 @@ mod check;
 mod dispatch;
 mod dump;
 mod filter;
+mod filter_words;
 mod heads;
 mod help;
 mod json;

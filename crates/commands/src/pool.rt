@@ -10,7 +10,7 @@ ghost use Rattle.job_queue.specs.Faults.{pool_fault_number};
 ghost use Rattle.commands.specs.Pools.{entries_line, IsProgramOf, IsRefusedByPool, WritesPool};
 
 use crate::report::{plain_verdict, refused, told};
-use crate::streams::{unread, written};
+use crate::streams::{unread_in_words, written};
 use program_files::{FileBytes, Verdict, meaning_of, read_file, verify_for_maps};
 use std::alloc::Global;
 use std::io;
@@ -103,7 +103,7 @@ pub fn run_pool<H: Threads + Wait + Sync, R: Read, W: Write, E: Write>(
 {
     let file = match read_file(alloc, input) {
         Ok(file) => file,
-        Err(error) => return unread(err, &error),
+        Err(error) => return unread_in_words(err, &error, in_words),
     };
     let program = match program_of(alloc, &file) {
         Ok(program) => program,

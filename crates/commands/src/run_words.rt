@@ -7,7 +7,7 @@ use crate::request::{MapElement, SingleRun};
 use bpf_model::{Answer, Errno, EventRefusal, MapId, MapKind, MapShape};
 use hex::encode;
 use maps::Registry;
-use program_files::{FileBytes, Source};
+use program_files::{FileBytes, HEADING, Source};
 use std::alloc::Global;
 use std::io;
 use std::io::Write;
@@ -124,6 +124,14 @@ fn write_unplaced<W: Write>(
     write_why(out, &shape, why)
 }
 
+/// What tells how long a file's context is.
+fn context_words(file: &FileBytes) -> &'static str {
+    match file {
+        FileBytes::Whole(bytes) if bytes.starts_with(HEADING) => "as the file tells",
+        _ => "since a raw file tells of no context",
+    }
+}
+
 /// Writes what is wrong with the context or the elements of one run, whose file is sound.
 pub fn explain_run<W: Write>(
     alloc: Global,
@@ -140,9 +148,10 @@ pub fn explain_run<W: Write>(
     };
     if code == EventRefusal::BadContext.code() {
         let (given, due) = (single.context.len(), source.ctx_len);
+        let why = context_words(file);
         return writeln!(
             out,
-            "  CTX has length {given}, and is to have length {due}, as the file tells"
+            "  CTX has length {given}, and is to have length {due}, {why}"
         );
     }
     if code == EventRefusal::NoMap.code() || code == EventRefusal::BadLength.code() {

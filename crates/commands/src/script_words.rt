@@ -1,6 +1,6 @@
 //! Why a line of a script is no command, in words for people.
 
-use program_files::write_line;
+use program_files::{write_line, write_quoted};
 use script_lines::{MAX_COUNT, number_of, parse_line};
 use script_stream::LINE_BYTES;
 use std::alloc::{AllocError, Global};
@@ -121,13 +121,8 @@ fn lack_of(due: Due, word: &str) -> Option<&'static str> {
     }
 }
 
-/// The first characters of a word.
-fn shortened(word: &str) -> &str {
-    match word.char_indices().nth(40) {
-        Some((end, _)) => word.get(0..end).unwrap_or(word),
-        None => word,
-    }
-}
+/// The most columns of a word that are shown.
+const SHOWN: usize = 40;
 
 /// The words of a line.
 fn words_of<'a>(alloc: Global, line: &'a str) -> Result<Vec<&'a str>, AllocError> {
@@ -159,8 +154,9 @@ fn write_lack<W: Write>(
     }
     for (due, word) in due.iter().zip(words.iter().skip(1)) {
         if let Some(lack) = lack_of(*due, word) {
-            let word = shortened(word);
-            return writeln!(out, "  {word:?} is {lack}; the form is {form}");
+            write!(out, "  ")?;
+            write_quoted(out, word.as_bytes(), SHOWN)?;
+            return writeln!(out, " is {lack}; the form is {form}");
         }
     }
     Ok(())
@@ -187,10 +183,11 @@ fn write_why<W: Write>(alloc: Global, out: &mut W, line: &str) -> io::Result<()>
     match form_of(name) {
         Some(form) => write_lack(alloc, out, name, &words, form),
         None => {
-            let name = shortened(name);
+            write!(out, "  no command begins with ")?;
+            write_quoted(out, name.as_bytes(), SHOWN)?;
             writeln!(
                 out,
-                "  no command begins with {name:?}: map, load, put, get, del, start, step, drop, advance, reap, stat, dump"
+                ": map, load, put, get, del, start, step, drop, advance, reap, stat, dump"
             )
         }
     }

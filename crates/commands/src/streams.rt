@@ -5,7 +5,7 @@ ghost use Rattle.std.specs.Io.KnownBytes.{Appends};
 use crate::report::fault;
 use script_stream::{ScriptFault, stream_fault};
 use std::io;
-use std::io::Write;
+use std::io::{ErrorKind, Write};
 
 /// The status where an input cannot be opened or read, which is told on `err`: out of memory, `fault 13`,
 /// or else `fault 96`.
@@ -13,6 +13,17 @@ pub fn unread<E: Write>(err: &mut E, error: &io::Error) -> u8
     ensures { result ≡ 3 }
 {
     fault(err, stream_fault(error, ScriptFault::Read).code())
+}
+
+/// The status where an input cannot be read, which is told as `unread` does, and in words where that is asked for.
+pub fn unread_in_words<E: Write>(err: &mut E, error: &io::Error, in_words: bool) -> u8
+    ensures { result ≡ 3 }
+{
+    let status = unread(err, error);
+    if in_words && error.kind() == ErrorKind::OutOfMemory {
+        let _ = writeln!(err, "the file has more than 16 MiB, or memory ran out");
+    }
+    status
 }
 
 /// Writes all of a text, and flushes the stream.

@@ -8,7 +8,7 @@ use crate::puts::puts_of;
 use crate::report::plain_verdict;
 use crate::request::SingleRun;
 use crate::single::{run_of, told_of_run};
-use crate::streams::{unread, write_text, written};
+use crate::streams::{unread_in_words, write_text, written};
 use bpf_model::{Event, ProgId, array_of};
 use insn_codec::Program;
 use program_files::{FileBytes, MEMORY, Verdict, read_file, verify_for_maps};
@@ -121,7 +121,7 @@ pub fn run_single<R: Read, W: Write, E: Write>(
 {
     let file = match read_file(alloc, input) {
         Ok(file) => file,
-        Err(error) => return unread(err, &error),
+        Err(error) => return unread_in_words(err, &error, single.explain),
     };
     match text_of(alloc, &file, steps, single) {
         Ok(text) => written(err, write_text(out, &text)),

@@ -245,6 +245,21 @@ fn with_usage(alloc: Global, command: &str, text: String) -> Result<String, Allo
     }
 }
 
+/// What `clap` says of a word behind `script` that is no option of it, and how a file is given.
+fn with_redirection(alloc: Global, words: &[String], text: String) -> Result<String, AllocError> {
+    for word in words.iter().skip(2) {
+        if !word.as_str().starts_with('-') {
+            return match text.split_once("\n\nUsage") {
+                Some((why, more)) => format!(in alloc;
+                    "{why}\n\n  tip: a script comes on standard input: `bpfrt script < {word}`\n\nUsage{more}"
+                ),
+                None => Ok(text),
+            };
+        }
+    }
+    Ok(text)
+}
+
 /// Why the words are no command. `clap` finds no command near a word that differs from it in every
 /// letter's case.
 fn usage(alloc: Global, error: &clap::Error, words: &[String]) -> WordsFault {
@@ -263,6 +278,13 @@ Usage: bpfrt <COMMAND>
 For more information, try '--help'."
             );
             usage_fault(alloc, text)
+        }
+        (ErrorKind::UnknownArgument, _) if first == "script" => {
+            let text = format!(in alloc; "{error}");
+            usage_fault(
+                alloc,
+                text.and_then(|text| with_redirection(alloc, words, text)),
+            )
         }
         _ => {
             let text = format!(in alloc; "{error}");

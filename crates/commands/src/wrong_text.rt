@@ -4,9 +4,10 @@ use crate::assembly::{TextFault, plain_text};
 use crate::heads::parts_of;
 use crate::words::shown;
 use asm::AsmFault;
-use asm_source::{SourceFault, explain_line, explain_name};
-use program_files::write_wrong_line;
-use std::alloc::Global;
+use asm_hints::{explain_line, explain_name};
+use asm_source::SourceFault;
+use program_files::{Likeness, has_slots, likeness_of, write_wrong_line};
+use std::alloc::{AllocError, Global};
 use std::io::Write;
 use std::{io, str};
 
@@ -28,6 +29,52 @@ fn write_name<E: Write>(
     writeln!(err, "{words}")
 }
 
+/// How a line is nearly `code`, if it is; one that is ends the text.
+fn nearly_code(line: &str) -> Option<&'static str> {
+    let word = line.trim();
+    if line == "code" {
+        return Some("has no line feed behind `code`");
+    }
+    if word == "code" {
+        return Some("has a blank beside `code`, and is to have none");
+    }
+    if word.eq_ignore_ascii_case("code")
+        || word.starts_with("code:")
+        || word.starts_with("code ;")
+    {
+        return Some("is to be `code` alone");
+    }
+    None
+}
+
+/// What is wrong with a line that belongs above a line `code`, in a text that has none but one that is nearly that.
+fn headless_words(alloc: Global, text: &str, line: &str) -> Result<Option<String>, AllocError> {
+    let (name, _) = line.split_once(' ').unwrap_or((line, ""));
+    if name != "ctx" && name != "map" {
+        return Ok(None);
+    }
+    let mut number: usize = 0;
+    for below in text.split('\n') {
+        number = number.saturating_add(1);
+        if let Some(how) = nearly_code(below) {
+            let words = format!(in alloc;
+                "no instruction is called `{name}`; line {number} {how}"
+            )?;
+            return Ok(Some(words));
+        }
+    }
+    Ok(None)
+}
+
+/// What is wrong with the plain text of a line of this text's instructions.
+fn instruction_words(alloc: Global, text: &str, line: &str) -> Result<Option<String>, AllocError> {
+    let words = headless_words(alloc, text, line)?;
+    if words.is_some() {
+        return Ok(words);
+    }
+    explain_line(alloc, line)
+}
+
 /// Writes what is wrong with the plain text of this line of a text's instructions.
 fn explain_instruction<E: Write>(
     alloc: Global,
@@ -47,15 +94,58 @@ fn explain_instruction<E: Write>(
     let Some(line) = lines.split('\n').nth(line.saturating_sub(1)) else {
         return Ok(());
     };
-    if let Some(words) = explain_line(alloc, line)? {
+    if let Some(words) = instruction_words(alloc, text, line)? {
         let words = shown(alloc, words.as_str())?;
         writeln!(err, "{words}")?;
     }
     Ok(())
 }
 
-/// Writes in words why bytes are no text of a program.
+/// Whether bytes are a text with slots behind a line `code`.
+fn says_slots(bytes: &[u8]) -> bool {
+    match str::from_utf8(bytes) {
+        Ok(text) => has_slots(text),
+        Err(_) => false,
+    }
+}
+
+/// What bytes look like that are no text of instructions.
+fn other_words(bytes: &[u8], why: &TextFault) -> Option<&'static str> {
+    match likeness_of(bytes) {
+        Some(Likeness::ProgramFile) if says_slots(bytes) => Some(PROGRAM_FILE),
+        Some(Likeness::Assembly | Likeness::Text | Likeness::ProgramFile) => None,
+        Some(likeness) => Some(likeness.words()),
+        None => match why {
+            TextFault::NotUtf8 { .. } if bytes.contains(&0) => Some(PROGRAM_BYTES),
+            _ => None,
+        },
+    }
+}
+
+/// What reads a program file.
+const PROGRAM_FILE: &str =
+    "a program file: `bpfrt check` checks it without `--asm`, and `bpfrt disasm` writes its instructions";
+
+/// What reads a program's bytes.
+const PROGRAM_BYTES: &str =
+    "a program's bytes: `bpfrt check` checks them without `--asm`, and `bpfrt disasm` writes their instructions";
+
+/// Writes in words why bytes are no text of a program, and what they look like instead.
 pub fn explain_text<E: Write>(
+    alloc: Global,
+    bytes: &[u8],
+    why: &TextFault,
+    err: &mut E,
+) -> io::Result<()> {
+    explain_fault(alloc, bytes, why, err)?;
+    match other_words(bytes, why) {
+        Some(words) => writeln!(err, "  it looks like {words}"),
+        None => Ok(()),
+    }
+}
+
+/// Writes in words why bytes are no text of a program.
+fn explain_fault<E: Write>(
     alloc: Global,
     bytes: &[u8],
     why: &TextFault,

@@ -3,6 +3,7 @@ use Rattle.std.proofs.Common.{◌≡◌, ℕ, ◌+◌, ◌*◌, ◌%◌, ◌<◌
 use Rattle.std.proofs.Common.{refl, sym, ap, subst, ◌∙◌, take-append-drop, arith, inr}
 use Rattle.std.proofs.lemmas.List.{length-append}
 use Rattle.std.specs.Prelude.{Some, nat_lt}
+use Rattle.std.specs.Global.{Vec}
 use Rattle.std.proofs.lemmas.Bool.Decides.{nat_tests}
 use Rattle.std.proofs.lemmas.List.{take-append-le}
 use Rattle.bpf_model.specs.declared.limits.TheConstants.{MAX_SLOTS}
@@ -30,18 +31,18 @@ remainders r a b n e f = omega arith
 
 -- what is told of a file of which only the length is kept
 
-pub more_long : (file : FileBytes) (r : ℕ) (bytes more : List ℕ) → file ≡ TooLong r → HoldsBytes file bytes →
-    HoldsBytes (TooLong ((r % 8 + length more % 8) % 8)) (bytes ++ more)
-more_long file r bytes more e h =
+pub more_long : (file : FileBytes) (r : ℕ) (b : Vec ℕ) (bytes more : List ℕ) → file ≡ TooLong r b → HoldsBytes file bytes →
+    HoldsBytes (TooLong ((r % 8 + length more % 8) % 8) b) (bytes ++ more)
+more_long file r b bytes more e h =
     let k = subst (λ (f : FileBytes). HoldsBytes f bytes) e h in
     let long : 8 * MAX_SLOTS < length bytes = k.0 in
     let same : r ≡ length bytes % 8 = k.1 in
     let l : length (bytes ++ more) ≡ length bytes + length more = length-append bytes more in
     (omega arith, remainders r (length bytes) (length more) (length (bytes ++ more)) same l, raw_more bytes more (omega arith) k.2)
 
-long_told : (file : FileBytes) (r : ℕ) (bytes : List ℕ) (f : DecodeFault) (v : Verdict) → file ≡ TooLong r →
+long_told : (file : FileBytes) (r : ℕ) (b : Vec ℕ) (bytes : List ℕ) (f : DecodeFault) (v : Verdict) → file ≡ TooLong r b →
     HoldsBytes file bytes → IsDecodeFault bytes f → IsDecodeVerdict f v → IsDecodeRefusal bytes v
-long_told file r bytes f v e h fault told =
+long_told file r b bytes f v e h fault told =
     let k = subst (λ (g : FileBytes). HoldsBytes g bytes) e h in
     inr (inr (record { content = raw_content bytes; says = inr (k.2, refl); fault = f; is = fault; told = told }))
 
@@ -57,14 +58,14 @@ length_odd bytes e =
     let a : (length bytes % 8 == 0) ≡ false = grind (arith, nat_tests) in
     rw a refl
 
-pub even_told : (file : FileBytes) (r : ℕ) (bytes : List ℕ) (v : Verdict) → file ≡ TooLong r → r ≡ 0 →
+pub even_told : (file : FileBytes) (r : ℕ) (b : Vec ℕ) (bytes : List ℕ) (v : Verdict) → file ≡ TooLong r b → r ≡ 0 →
     HoldsBytes file bytes → IsDecodeVerdict faults.TooLong v → IsDecodeRefusal bytes v
-even_told file r bytes v e z h told =
+even_told file r b bytes v e z h told =
     let k = subst (λ (g : FileBytes). HoldsBytes g bytes) e h in
-    long_told file r bytes faults.TooLong v e h (length_long bytes (sym k.1 ∙ z) k.0) told
+    long_told file r b bytes faults.TooLong v e h (length_long bytes (sym k.1 ∙ z) k.0) told
 
-pub odd_told : (file : FileBytes) (r : ℕ) (bytes : List ℕ) (v : Verdict) → file ≡ TooLong r → r ≢ 0 →
+pub odd_told : (file : FileBytes) (r : ℕ) (b : Vec ℕ) (bytes : List ℕ) (v : Verdict) → file ≡ TooLong r b → r ≢ 0 →
     HoldsBytes file bytes → IsDecodeVerdict faults.Length v → IsDecodeRefusal bytes v
-odd_told file r bytes v e z h told =
+odd_told file r b bytes v e z h told =
     let k = subst (λ (g : FileBytes). HoldsBytes g bytes) e h in
-    long_told file r bytes faults.Length v e h (length_odd bytes (λ m. z (k.1 ∙ m))) told
+    long_told file r b bytes faults.Length v e h (length_odd bytes (λ m. z (k.1 ∙ m))) told

@@ -9,5 +9,5 @@ use Rattle.program_files.specs.declared.program_file.FileBytes.TheVariants.{Whol
 -- any program has, and the remainder of their number by 8 is.
 abbrev pub HoldsBytes : FileBytes → List ℕ → Type 0
 HoldsBytes (Whole kept) bytes = kept.items ≡ bytes
-HoldsBytes (TooLong remainder) bytes =
+HoldsBytes (TooLong remainder beginning) bytes =
     (8 * MAX_SLOTS < length bytes) × (remainder ≡ length bytes % 8) × IsRawFile bytes

@@ -6,7 +6,7 @@ use crate::depths::write_depths;
 use crate::known::write_kind;
 use crate::likeness::write_likeness;
 use crate::meaning::meaning_of;
-use crate::missing::write_missing;
+use crate::missing::{write_loaded, write_missing};
 use crate::reads::registers_read;
 use crate::wrong_line::write_wrong_line;
 use crate::{FileBytes, HEADING, MEMORY, Source, Verdict, known_where_refused};
@@ -49,6 +49,11 @@ fn write_known<W: Write>(
 /// The number of a refusal for bytes of the frame that are not written on every path.
 const UNWRITTEN_FRAME: u8 = 29;
 
+/// The numbers of refusals for a reference that is read in part, and for what is of different kinds on different paths.
+const POINTER_LEAK: u8 = 30;
+
+const MIXED_REGIONS: u8 = 31;
+
 /// The number of a refusal for locks, also where paths that have other numbers of them open meet.
 const UNPAIRED_SECTION: u8 = 34;
 
@@ -78,6 +83,9 @@ fn write_instruction<W: Write>(
         if code == UNWRITTEN_FRAME {
             write_missing(out, source, insn, &state)?;
         }
+        if code == POINTER_LEAK || code == MIXED_REGIONS {
+            write_loaded(out, source, insn, &state)?;
+        }
     }
     Ok(())
 }
@@ -87,8 +95,9 @@ const HEADING_LINES: usize = 1;
 
 /// Writes what bytes look like that are refused for a slot's form, and the line of a text that is wrong.
 fn write_source<W: Write>(file: &FileBytes, verdict: &Verdict, out: &mut W) -> io::Result<()> {
-    let FileBytes::Whole(bytes) = file else {
-        return Ok(());
+    let bytes = match file {
+        FileBytes::Whole(bytes) => bytes,
+        FileBytes::TooLong { beginning, .. } => beginning,
     };
     if let Some(line) = verdict.line {
         return write_wrong_line(out, bytes, line, HEADING_LINES);

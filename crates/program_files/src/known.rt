@@ -71,10 +71,16 @@ fn write_place<W: Write>(out: &mut W, offset: i32) -> io::Result<()> {
     }
 }
 
+/// The name of so many bytes.
+fn unit(count: usize) -> &'static str {
+    if count == 1 { "byte" } else { "bytes" }
+}
+
 /// Writes where in the context of the program a reference is.
 fn write_context<W: Write>(out: &mut W, source: &Source, offsets: &Scalar) -> io::Result<()> {
     let length = source.ctx_len;
-    write!(out, "the context, of {length} bytes")?;
+    let unit = unit(length);
+    write!(out, "the context, of {length} {unit}")?;
     write_offsets(out, offsets)
 }
 
@@ -93,7 +99,8 @@ fn write_lengths<W: Write>(out: &mut W, source: &Source, map: u32) -> io::Result
         return Ok(());
     };
     let (key_len, value_len) = (shape.key_len, shape.value_len);
-    write!(out, ", keys of {key_len} bytes, values of {value_len}")
+    let unit = unit(key_len);
+    write!(out, ", keys of {key_len} {unit}, values of {value_len}")
 }
 
 /// Writes where in the value of an element of the program's map of this number a reference is.
@@ -107,7 +114,8 @@ fn write_value<W: Write>(
     write_map(out, source, map)?;
     if let Some(shape) = source.registry.shape(MapId::new(map as usize)) {
         let length = shape.value_len;
-        write!(out, ", of {length} bytes")?;
+        let unit = unit(length);
+        write!(out, ", of {length} {unit}")?;
     }
     write_offsets(out, offsets)
 }

@@ -102,7 +102,8 @@ fn write_registers<W: Write>(out: &mut W, source: &Source, state: &AbsState) -> 
 }
 
 /// Writes for each of eight bytes of the frame, the lowest first, whether it is a byte of a number; nothing where none is.
-fn write_bytes<W: Write>(out: &mut W, frame: &FrameCells, group: usize) -> io::Result<()>
+/// Whether one is.
+fn write_bytes<W: Write>(out: &mut W, frame: &FrameCells, group: usize) -> io::Result<bool>
     requires { group < 64 }
 {
     let mut marks = [b'.'; 8];
@@ -114,26 +115,41 @@ fn write_bytes<W: Write>(out: &mut W, frame: &FrameCells, group: usize) -> io::R
         }
     }
     if !are_some {
-        return Ok(());
+        return Ok(false);
     }
     let below = FRAME_BYTES - 8 * group;
     write!(out, "  r10-{below}: ")?;
     out.write_all(&marks)?;
-    writeln!(out)
+    writeln!(out)?;
+    Ok(true)
 }
 
-/// Writes of each eight bytes of the frame the reference that they are, or which of them are bytes of numbers.
+/// Writes of eight bytes of the frame the reference that they are, or which of them are bytes of numbers. Whether they are
+/// one, or one of them is one.
+pub fn write_group<W: Write>(
+    out: &mut W,
+    source: &Source,
+    frame: &FrameCells,
+    group: usize,
+) -> io::Result<bool>
+    requires { group < 64 }
+{
+    match read_frame(frame, 8 * group, 8) {
+        Ok(Content::Pointer(kind)) => {
+            let below = FRAME_BYTES - 8 * group;
+            write!(out, "  r10-{below}: ")?;
+            write_kind(out, source, &kind)?;
+            writeln!(out)?;
+            Ok(true)
+        }
+        _ => write_bytes(out, frame, group),
+    }
+}
+
+/// Writes what is known of the bytes of the frame, eight a line.
 fn write_frame<W: Write>(out: &mut W, source: &Source, frame: &FrameCells) -> io::Result<()> {
     for group in 0..64 {
-        match read_frame(frame, 8 * group, 8) {
-            Ok(Content::Pointer(kind)) => {
-                let below = FRAME_BYTES - 8 * group;
-                write!(out, "  r10-{below}: ")?;
-                write_kind(out, source, &kind)?;
-                writeln!(out)?;
-            }
-            _ => write_bytes(out, frame, group)?,
-        }
+        write_group(out, source, frame, group)?;
     }
     Ok(())
 }

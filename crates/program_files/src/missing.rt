@@ -1,6 +1,7 @@
-//! Which byte of the frame an instruction reads that is not written on every path.
+//! Which bytes of the frame an instruction reads, and what is known of them.
 
 use crate::Source;
+use crate::log::write_group;
 use bpf_model::{ArgumentKind, CallKind, FRAME_BYTES, Helper, Insn, MapId, MapShape, Reg};
 use register_kinds::{AbsState, RegKind, check_bytes};
 use std::io;
@@ -103,6 +104,26 @@ fn write_missing_of_call<W: Write>(
     Ok(())
 }
 
+/// The bytes of the frame that a load reads.
+fn part_of_load(insn: &Insn, state: &AbsState) -> Option<FramePart> {
+    let (base, offset, length) = match insn {
+        Insn::Load {
+            width,
+            src,
+            offset,
+            ..
+        } => (*src, *offset, width.bytes()),
+        Insn::LoadSigned {
+            width,
+            src,
+            offset,
+            ..
+        } => (*src, *offset, width.width().bytes()),
+        _ => return None,
+    };
+    part_at(state, base, offset, "read", length)
+}
+
 /// Writes a line for the first byte of the frame that the instruction reads and that is not written on every path.
 pub fn write_missing<W: Write>(
     out: &mut W,
@@ -110,29 +131,11 @@ pub fn write_missing<W: Write>(
     insn: &Insn,
     state: &AbsState,
 ) -> io::Result<()> {
+    if let Some(part) = part_of_load(insn, state) {
+        write_missing_in(out, state, part)?;
+        return Ok(());
+    }
     match insn {
-        Insn::Load {
-            width,
-            src,
-            offset,
-            ..
-        } => {
-            if let Some(part) = part_at(state, *src, *offset, "read", width.bytes()) {
-                write_missing_in(out, state, part)?;
-            }
-            Ok(())
-        }
-        Insn::LoadSigned {
-            width,
-            src,
-            offset,
-            ..
-        } => {
-            if let Some(part) = part_at(state, *src, *offset, "read", width.width().bytes()) {
-                write_missing_in(out, state, part)?;
-            }
-            Ok(())
-        }
         Insn::Call {
             kind: CallKind::Helper,
             imm,
@@ -142,4 +145,22 @@ pub fn write_missing<W: Write>(
         },
         _ => Ok(()),
     }
+}
+
+/// Writes a line for the eight bytes of the frame of which a load reads some, as a log has it.
+pub fn write_loaded<W: Write>(
+    out: &mut W,
+    source: &Source,
+    insn: &Insn,
+    state: &AbsState,
+) -> io::Result<()> {
+    let Some(part) = part_of_load(insn, state) else {
+        return Ok(());
+    };
+    let group = part.first / 8;
+    if group >= 64 || write_group(out, source, &state.frame, group)? {
+        return Ok(());
+    }
+    let below = FRAME_BYTES.saturating_sub(group.saturating_mul(8));
+    writeln!(out, "  r10-{below}: of different kinds on different paths")
 }

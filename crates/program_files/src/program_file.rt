@@ -5,6 +5,7 @@ ghost use Rattle.program_files.specs.Files.{HoldsBytes};
 ghost use Rattle.bpf_model.specs.View.{AreNewMaps};
 ghost use Rattle.program_files.specs.Checks.{IsSourceOf, IsDecodeRefusal};
 
+use crate::likeness::SEEN;
 use crate::loader::{HEADING, load};
 use crate::verdict::Verdict;
 use bpf_model::MAX_SLOTS;
@@ -35,9 +36,12 @@ pub struct Source {
 pub enum FileBytes {
     /// All bytes.
     Whole(Vec<u8>),
-    /// The bytes are no text, and more than 8 for each of `MAX_SLOTS` slots; the remainder of their
-    /// number by 8.
-    TooLong(usize),
+    /// The bytes are no text, and more than 8 for each of `MAX_SLOTS` slots: the remainder of their
+    /// number by 8, and the first of them, for people.
+    TooLong {
+        remainder: usize,
+        beginning: Vec<u8>,
+    },
 }
 
 /// What a file of these bytes says.
@@ -66,7 +70,7 @@ impl FileBytes {
 
     /// Adds the bytes that follow. A text of `TEXT_BYTES` or more grows no further: that is want of
     /// memory.
-    fn append(&mut self, chunk: &[u8]) -> Result<(), AllocError>
+    fn append(&mut self, alloc: Global, chunk: &[u8]) -> Result<(), AllocError>
         requires { length chunk.now ≤ CHUNK }
         ensures { (bytes : List ℕ) → HoldsBytes self.old bytes →
             OnOk result (HoldsBytes self.new (bytes ++ chunk.now)) }
@@ -81,9 +85,16 @@ impl FileBytes {
                 bytes.extend_from_slice(chunk)?;
             }
             FileBytes::Whole(bytes) => {
-                *self = FileBytes::TooLong((bytes.len() % 8 + chunk.len() % 8) % 8);
+                let remainder = (bytes.len() % 8 + chunk.len() % 8) % 8;
+                let beginning = Vec::from_slice(alloc, &bytes[..bytes.len().min(SEEN)])?;
+                *self = FileBytes::TooLong {
+                    remainder,
+                    beginning,
+                };
             }
-            FileBytes::TooLong(remainder) => *remainder = (*remainder % 8 + chunk.len() % 8) % 8,
+            FileBytes::TooLong { remainder, .. } => {
+                *remainder = (*remainder % 8 + chunk.len() % 8) % 8;
+            }
         }
         Ok(())
     }
@@ -100,8 +111,8 @@ impl FileBytes {
     {
         match self {
             FileBytes::Whole(bytes) => source_of(alloc, bytes),
-            FileBytes::TooLong(0) => Err(Verdict::from(DecodeFault::TooLong)),
-            FileBytes::TooLong(_) => Err(Verdict::from(DecodeFault::Length)),
+            FileBytes::TooLong { remainder: 0, .. } => Err(Verdict::from(DecodeFault::TooLong)),
+            FileBytes::TooLong { .. } => Err(Verdict::from(DecodeFault::Length)),
         }
     }
 }
@@ -119,7 +130,7 @@ pub fn read_file<R: Read>(alloc: Global, input: &mut R) -> io::Result<FileBytes>
         if count == 0 {
             return Ok(file);
         }
-        file.append(&chunk[..count])?;
+        file.append(alloc, &chunk[..count])?;
     }
     Err(io::Error::from(ErrorKind::FileTooLarge))
 }

@@ -27,8 +27,17 @@ fn length_of_line(text: &[u8]) -> usize {
     text.len()
 }
 
-/// The most bytes of a line that are shown.
+/// The most columns of a line that are shown.
 const SHOWN: usize = 120;
+
+/// How many columns a byte takes in quotes.
+fn columns_of(byte: u8) -> usize {
+    match byte {
+        b'\t' | b'\r' | b'"' | b'\\' => 2,
+        b' '..=b'~' => 1,
+        _ => 4,
+    }
+}
 
 /// Writes a byte of a line that stands in quotes.
 fn write_byte<W: Write>(out: &mut W, byte: u8) -> io::Result<()> {
@@ -42,16 +51,21 @@ fn write_byte<W: Write>(out: &mut W, byte: u8) -> io::Result<()> {
     }
 }
 
-/// Writes a line in quotes.
-fn write_quoted<W: Write>(out: &mut W, line: &[u8]) -> io::Result<()> {
+/// Writes a text in quotes, where bytes that are no printable ASCII are escaped: as much of it as these columns have room for,
+/// and then `..` where that is not all.
+///
+/// An error says that nothing more could be written.
+pub fn write_quoted<W: Write>(out: &mut W, text: &[u8], most: usize) -> io::Result<()> {
     write!(out, "\"")?;
-    for byte in line.iter().take(SHOWN) {
+    let mut columns: usize = 0;
+    for byte in text {
+        columns = columns.saturating_add(columns_of(*byte));
+        if columns > most {
+            return write!(out, "..\"");
+        }
         write_byte(out, *byte)?;
     }
-    if line.len() > SHOWN {
-        write!(out, "..")?;
-    }
-    writeln!(out, "\"")
+    write!(out, "\"")
 }
 
 /// Whether a line `code`, which is not the first, ends in this text.
@@ -99,7 +113,8 @@ pub fn write_line<W: Write>(
     }
     write!(out, "at {shown}: ")?;
     let line = rest.get(0..length_of_line(rest)).unwrap_or(&[]);
-    write_quoted(out, line)
+    write_quoted(out, line, SHOWN)?;
+    writeln!(out)
 }
 
 /// Writes the line of this number of a text, counted from 1, which no program file has there, and what it may be. The

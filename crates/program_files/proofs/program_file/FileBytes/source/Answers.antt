@@ -2,10 +2,10 @@ use Rattle.std.proofs.Common.{rules}
 use Rattle.program_files.proofs.Raw.{even_told, odd_told}
 use Rattle.program_files.proofs.program_file.FileBytes.source.Goals as goal
 
-pub returns-in-TooLong-eq0-clause-fault : goal.returns-in-TooLong-eq0-clause-fault
-returns-in-TooLong-eq0-clause-fault c bytes h = even_told c.args.self.now c.in-TooLong-eq0.field-0 bytes c.from.result
-    c.in-TooLong-eq0.is (search rules) h c.from.ensures
+pub returns-in-TooLong-eq0-default-clause-fault : goal.returns-in-TooLong-eq0-default-clause-fault
+returns-in-TooLong-eq0-default-clause-fault c bytes h = even_told c.args.self.now c.in-TooLong-eq0-default.remainder
+    c.in-TooLong-eq0-default.beginning bytes c.from.result c.in-TooLong-eq0-default.is (search rules) h c.from.ensures
 
 pub returns-in-TooLong-clause-fault : goal.returns-in-TooLong-clause-fault
-returns-in-TooLong-clause-fault c bytes h = odd_told c.args.self.now c.in-TooLong.field-0 bytes
+returns-in-TooLong-clause-fault c bytes h = odd_told c.args.self.now c.in-TooLong.remainder c.in-TooLong.beginning bytes
     c.from-in-TooLong.result c.in-TooLong.is (search rules) h c.from-in-TooLong.ensures

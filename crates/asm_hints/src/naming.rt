@@ -1,14 +1,12 @@
 //! What is wrong with the names of a line, in words for people.
 
-use crate::fault::SourceFault;
 use crate::hints::{mark_words, shortened};
-use crate::names::{is_constant, label_in};
-use crate::tokens::{Tokens, begins_word};
+use asm_source::{SourceFault, Tokens, begins_word, is_constant, label_in};
 use std::alloc::{AllocError, Global};
 use std::str;
 
 /// A token as text.
-fn text_of(token: &[u8]) -> &str {
+pub(crate) fn text_of(token: &[u8]) -> &str {
     str::from_utf8(token).unwrap_or("")
 }
 
@@ -53,7 +51,7 @@ fn unnamed_words(alloc: Global, fault: &SourceFault, line: &str) -> Result<Strin
     if let Some(words) = comment_in(line) {
         return String::from_str(alloc, words);
     }
-    let word = shortened(last_in(line));
+    let word = shortened(alloc, last_in(line))?;
     match fault {
         SourceFault::UnknownLabel(_) => format!(in alloc; "no line begins with the label `{word}`"),
         SourceFault::UnknownMap(_) => format!(in alloc;
@@ -70,13 +68,13 @@ fn unnamed_words(alloc: Global, fault: &SourceFault, line: &str) -> Result<Strin
 pub fn explain_name(alloc: Global, fault: &SourceFault, line: &str) -> Result<String, AllocError> {
     match fault {
         SourceFault::BadName(_) => {
-            let word = shortened(given_in(line));
+            let word = shortened(alloc, given_in(line))?;
             format!(in alloc;
                 "`{word}` is no name, which begins with a letter, `_` or `.` and is no register"
             )
         }
         SourceFault::NameTwice(_) => {
-            let word = shortened(given_in(line));
+            let word = shortened(alloc, given_in(line))?;
             format!(in alloc; "the name `{word}` has a meaning by a line above")
         }
         SourceFault::Memory => String::from_str(alloc, "out of memory"),

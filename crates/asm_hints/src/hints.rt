@@ -1,7 +1,6 @@
 //! What helps where a line is wrong, in words for people.
 
-use crate::names::{are_digits, is_name, is_register};
-use crate::numbers::{hex_in, number_in};
+use asm_source::{are_digits, hex_in, is_name, is_register, number_in};
 use std::alloc::{AllocError, Global};
 
 /// How much of a word is shown.
@@ -10,11 +9,24 @@ const SHOWN_CHARACTERS: usize = 40;
 /// How many hexadecimal digits a slot of a program file has.
 const SLOT_DIGITS: usize = 16;
 
+/// What is said of a word that may be a number's name, and is none.
+pub(crate) const UNNAMED: &str = ", and no `.equ` names a number so";
+
 /// The first characters of a word.
-pub(crate) fn shortened(word: &str) -> &str {
+pub(crate) fn beginning(word: &str) -> &str {
     match word.char_indices().nth(SHOWN_CHARACTERS) {
         Some((end, _)) => word.get(..end).unwrap_or(word),
         None => word,
+    }
+}
+
+/// A word as it is shown: a long one ends in `..`.
+pub(crate) fn shortened(alloc: Global, word: &str) -> Result<String, AllocError> {
+    let first = beginning(word);
+    if first.len() == word.len() {
+        String::from_str(alloc, word)
+    } else {
+        format!(in alloc; "{first}..")
     }
 }
 
@@ -62,6 +74,9 @@ pub(crate) fn name_hint(word: &str, text: &str) -> Option<&'static str> {
     }
     if text.starts_with(':') {
         return Some("no blank stands before a label's `:`");
+    }
+    if word.ends_with(':') {
+        return Some("a line has one label: give this one a line of its own");
     }
     if word.contains(':') {
         return Some("a blank stands behind a label's `:`");
@@ -124,23 +139,37 @@ pub(crate) fn has_leading_zero(word: &str) -> bool {
     }
 }
 
+/// Whether a word is 0 behind a minus.
+pub(crate) fn is_minus_zero(word: &str) -> bool {
+    word == "-0"
+}
+
 /// What helps where a word is no number that `lddw` loads.
 pub(crate) fn unsigned_hint(word: &str) -> &'static str {
     if is_name(word.as_bytes()) {
-        "; a map is loaded by `ldmap`"
+        "; `.equ` names a number, and `ldmap` loads a map"
     } else {
         ""
     }
 }
 
-/// What helps where a word is no number, or neither a number nor a register.
-pub(crate) fn number_hint(word: &str) -> &'static str {
+/// What helps where a word is neither a number nor a register.
+pub(crate) fn source_hint(word: &str) -> &'static str {
     if word.starts_with('[') {
         "; `ldxb`, `ldxh`, `ldxw` and `ldxdw` load from memory"
-    } else if is_register(word.as_bytes()) {
-        "; `stxb`, `stxh`, `stxw` and `stxdw` store a register"
+    } else if is_name(word.as_bytes()) {
+        UNNAMED
     } else {
         ""
+    }
+}
+
+/// What helps where a word is no number that is stored.
+pub(crate) fn stored_hint(word: &str) -> &'static str {
+    if is_register(word.as_bytes()) {
+        "; `stxb`, `stxh`, `stxw` and `stxdw` store a register"
+    } else {
+        source_hint(word)
     }
 }
 

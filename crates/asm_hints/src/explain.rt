@@ -1,11 +1,12 @@
 //! What is wrong with a line, in words for people.
 
 use crate::hints::{
-    comment_words, has_leading_zero, has_two_signs, in_lower_case, is_hexadecimal, is_too_long,
-    name_hint, number_hint, shortened, sign_hint, unsigned_hint,
+    UNNAMED, beginning, comment_words, has_leading_zero, has_two_signs, in_lower_case,
+    is_hexadecimal, is_minus_zero, is_too_long, name_hint, shortened, sign_hint, source_hint,
+    stored_hint, unsigned_hint,
 };
-use crate::names::{are_digits, is_register};
-use crate::numbers::decimal_in;
+use crate::naming::text_of;
+use asm_source::{are_digits, decimal_in, is_name, is_register};
 use disasm::{MNEMONICS, Mnemonic};
 use std::alloc::{AllocError, Global};
 use strsim::jaro_winkler;
@@ -46,7 +47,7 @@ fn in_other_case(alloc: Global, word: &str) -> Result<Option<String>, AllocError
 
 /// What is said of a word that is no mnemonic, and behind which this text stands.
 fn no_name(alloc: Global, word: &str, text: &str) -> Result<String, AllocError> {
-    let short = shortened(word);
+    let short = shortened(alloc, word)?;
     if let Some(hint) = name_hint(word, text) {
         return format!(in alloc; "no instruction is called `{short}`; {hint}");
     }
@@ -55,7 +56,7 @@ fn no_name(alloc: Global, word: &str, text: &str) -> Result<String, AllocError> 
             "no instruction is called `{short}`; write `{name}`: names and registers are in lower case"
         );
     }
-    match nearest(alloc, short)? {
+    match nearest(alloc, beginning(word))? {
         Some(name) => format!(in alloc;
             "no instruction is called `{short}`; did you mean `{name}`?"
         ),
@@ -87,6 +88,10 @@ enum Place {
     Memory,
 }
 
+/// Which functions there are.
+const FUNCTIONS: &str =
+    "`call 1` looks up, `call 2` updates, `call 3` deletes, `callbtf 1` locks, `callbtf 2` unlocks";
+
 /// What is said of a word that may not stand in the place.
 fn place_words(place: Place) -> &'static str {
     match place {
@@ -98,9 +103,7 @@ fn place_words(place: Place) -> &'static str {
         Place::Number => "is no number",
         Place::Unsigned => "is no number without a sign",
         Place::Map => "is neither the name nor the number of a map",
-        Place::Function => {
-            "is no number; `call 1` looks up, `call 2` updates, `call 3` deletes, `callbtf 1` locks, `callbtf 2` unlocks"
-        }
+        Place::Function => "is no number",
         Place::Width => "is no width, which are 8 and 16, and 32 of `movsx64`",
         Place::Offset(_) => "is neither a label nor an offset, which begins with + or -",
         Place::Memory => "is no place in memory, such as [r10-8]",
@@ -191,18 +194,22 @@ fn wrong_register(word: &[u8]) -> Option<Wrong> {
     }
 }
 
+/// What a word in brackets has before its first sign, and from there on.
+fn in_brackets(word: &[u8]) -> Option<(&[u8], &[u8])> {
+    let [b'[', inside @ .., b']'] = word else {
+        return None;
+    };
+    let sign = inside
+        .iter()
+        .position(|byte| *byte == b'+' || *byte == b'-')?;
+    Some(inside.split_at(sign))
+}
+
 /// How a word is wrong as a register and an offset in brackets.
 fn wrong_memory(word: &[u8]) -> Option<Wrong> {
-    let [b'[', inside @ .., b']'] = word else {
+    let Some((base, offset)) = in_brackets(word) else {
         return Some(Wrong::Kind);
     };
-    let Some(sign) = inside
-        .iter()
-        .position(|byte| *byte == b'+' || *byte == b'-')
-    else {
-        return Some(Wrong::Kind);
-    };
-    let (base, offset) = inside.split_at(sign);
     wrong_register(base).or_else(|| wrong_offset(offset, 16))
 }
 
@@ -223,12 +230,7 @@ fn wrong_word(place: Place, word: &[u8]) -> Option<Wrong> {
 }
 
 /// What is said of a word in its place that has letters in upper case, where it is right, or a number, in lower case.
-fn case_words(
-    alloc: Global,
-    place: Place,
-    word: &str,
-    short: &str,
-) -> Result<Option<String>, AllocError> {
+fn case_words(alloc: Global, place: Place, word: &str) -> Result<Option<String>, AllocError> {
     let Some(lower) = in_lower_case(alloc, word)? else {
         return Ok(None);
     };
@@ -236,59 +238,122 @@ fn case_words(
         return Ok(None);
     }
     let what = place_words(place);
-    let lower = shortened(lower.as_str());
+    let short = shortened(alloc, word)?;
+    let lower = shortened(alloc, lower.as_str())?;
     let words = format!(in alloc; "`{short}` {what}; write `{lower}`")?;
     Ok(Some(words))
 }
 
-/// What is said of a word that is of another kind than its place asks for.
-fn kind_words(alloc: Global, place: Place, word: &str, short: &str) -> Result<String, AllocError> {
-    if let Some(words) = case_words(alloc, place, word, short)? {
-        return Ok(words);
+/// What is said of 0 behind a minus, in a place of a number or an offset.
+fn zero_words(place: Place) -> Option<&'static str> {
+    match place {
+        Place::Offset(_) | Place::Memory => Some("has a minus, and 0 has none: write `+0`"),
+        Place::Register | Place::Stored | Place::Width => None,
+        _ => Some("has a minus, and 0 has none: write `0`"),
     }
+}
+
+/// What is said of a word that is no place in memory.
+fn memory_words(alloc: Global, word: &str) -> Result<String, AllocError> {
+    let what = place_words(Place::Memory);
+    if let Some((base, offset)) = in_brackets(word.as_bytes()) {
+        let (base, offset) = (text_of(base), text_of(offset));
+        if !base.is_empty() && wrong_register(base.as_bytes()).is_some() {
+            return simple_words(alloc, base, place_words(Place::Register));
+        }
+        let name = offset.get(1..).unwrap_or("");
+        if is_name(name.as_bytes()) {
+            let name = shortened(alloc, name)?;
+            return format!(in alloc; "`{name}` is no number{UNNAMED}");
+        }
+        if is_minus_zero(offset) {
+            let zero = zero_words(Place::Memory).unwrap_or(what);
+            return simple_words(alloc, offset, zero);
+        }
+    }
+    simple_words(alloc, word, what)
+}
+
+/// What is said of a word, behind it.
+fn simple_words(alloc: Global, word: &str, what: &str) -> Result<String, AllocError> {
+    let short = shortened(alloc, word)?;
+    format!(in alloc; "`{short}` {what}")
+}
+
+/// What is said of the form of a word, if that alone is wrong.
+fn form_words(place: Place, word: &str) -> Option<&'static str> {
     if is_too_long(word) {
-        return format!(in alloc; "`{short}` does not fit 64 bits");
+        return Some("does not fit 64 bits");
     }
     if has_leading_zero(word) {
-        return format!(in alloc; "`{short}` has a leading zero, and a number has none");
+        return Some("has a leading zero, and a number has none");
     }
-    let what = place_words(place);
+    if is_minus_zero(word) {
+        return zero_words(place);
+    }
     match place {
-        Place::Memory if has_two_signs(word) => format!(in alloc;
-            "`{short}` has two signs: a negative constant stands behind none; name 8, and write [r10-NAME]"
+        Place::Memory if has_two_signs(word) => Some(
+            "has two signs: a negative constant stands behind none; name 8, and write [r10-NAME]",
         ),
-        Place::Offset(_) if has_two_signs(word) => format!(in alloc;
-            "`{short}` has two signs: a negative constant stands behind none"
+        Place::Offset(_) if has_two_signs(word) => Some(
+            "has two signs: a negative constant stands behind none",
         ),
-        Place::Unsigned => {
-            let hint = unsigned_hint(word);
-            format!(in alloc; "`{short}` {what}{hint}")
-        }
-        Place::Source | Place::Number => {
-            let hint = number_hint(word);
-            format!(in alloc; "`{short}` {what}{hint}")
-        }
-        _ => format!(in alloc; "`{short}` {what}"),
+        Place::Source if is_register(word.as_bytes()) => Some(place_words(Place::Register)),
+        _ => None,
+    }
+}
+
+/// What is said of a word that is of another kind than its place asks for.
+fn kind_words(alloc: Global, place: Place, word: &str) -> Result<String, AllocError> {
+    if let Some(words) = case_words(alloc, place, word)? {
+        return Ok(words);
+    }
+    if let Some(what) = form_words(place, word) {
+        return simple_words(alloc, word, what);
+    }
+    let short = shortened(alloc, word)?;
+    let what = place_words(place);
+    let hint = match place {
+        Place::Memory => return memory_words(alloc, word),
+        Place::Function => return format!(in alloc; "`{short}` {what}; {FUNCTIONS}"),
+        Place::Unsigned => unsigned_hint(word),
+        Place::Source => source_hint(word),
+        Place::Number => stored_hint(word),
+        _ => "",
+    };
+    format!(in alloc; "`{short}` {what}{hint}")
+}
+
+/// The part of a word that is a number: of a place in memory the offset.
+fn number_part(place: Place, word: &str) -> &str {
+    match in_brackets(word.as_bytes()) {
+        Some((_, offset)) if place == Place::Memory => text_of(offset),
+        _ => word,
     }
 }
 
 /// What is said of a number that has more than so many bits.
-fn long_words(alloc: Global, word: &str, short: &str, bits: u8) -> Result<String, AllocError> {
-    if bits == 32 {
-        if let Some(hint) = sign_hint(alloc, word)? {
-            return format!(in alloc; "`{short}` does not fit 32 bits; {hint}");
-        }
+fn long_words(alloc: Global, place: Place, word: &str, bits: u8) -> Result<String, AllocError> {
+    let short = shortened(alloc, number_part(place, word))?;
+    match place {
+        Place::Source | Place::Number => match sign_hint(alloc, word)? {
+            Some(hint) => format!(in alloc; "`{short}` does not fit {bits} bits; {hint}"),
+            None => format!(in alloc; "`{short}` does not fit {bits} bits"),
+        },
+        Place::Function => format!(in alloc; "`{short}` does not fit {bits} bits; {FUNCTIONS}"),
+        Place::Map => format!(in alloc;
+            "`{short}` does not fit {bits} bits; the maps of a program have the numbers 0 to 15"
+        ),
+        _ => format!(in alloc; "`{short}` does not fit {bits} bits"),
     }
-    format!(in alloc; "`{short}` does not fit {bits} bits")
 }
 
 /// What is wrong with a word in its place, if something is. Of a refused line that is right so far, a width is wrong.
 fn word_words(alloc: Global, place: Place, word: &str) -> Result<Option<String>, AllocError> {
-    let short = shortened(word);
     let words = match wrong_word(place, word.as_bytes()) {
         None => return Ok(None),
-        Some(Wrong::Long(bits)) => long_words(alloc, word, short, bits)?,
-        Some(Wrong::Kind) => kind_words(alloc, place, word, short)?,
+        Some(Wrong::Long(bits)) => long_words(alloc, place, word, bits)?,
+        Some(Wrong::Kind) => kind_words(alloc, place, word)?,
     };
     Ok(Some(words))
 }
@@ -333,10 +398,11 @@ fn instruction_words(
         return operands_words(alloc, &places, &operands);
     }
     let name = name_of(alloc, mnemonic)?;
-    let plural = if wanted == 1 { "" } else { "s" };
-    let words = format!(in alloc;
-        "`{name}` has {wanted} operand{plural}, not {given}; commas part them"
-    )?;
+    let words = match wanted {
+        0 => format!(in alloc; "`{name}` has no operands: the result is what r0 holds")?,
+        1 => format!(in alloc; "`{name}` has 1 operand, not {given}; commas part them")?,
+        _ => format!(in alloc; "`{name}` has {wanted} operands, not {given}; commas part them")?,
+    };
     Ok(Some(words))
 }
 

@@ -1,0 +1,9 @@
+//! What is wrong with a line of people's assembly, in words for people. No clause says that it is right.
+#![tactic(auto)]
+
+mod explain;
+mod hints;
+mod naming;
+
+pub use explain::explain_line;
+pub use naming::explain_name;
