@@ -9,7 +9,10 @@ import re
 import sys
 import time
 
-import redis
+try:
+    import redis
+except ImportError:
+    sys.exit("replica: Python has no module redis: in Debian the package python3-redis has it")
 
 sys.path.append(str(pathlib.Path(__file__).resolve().parent.parent / "host"))
 from bpfrt import Runtime

@@ -6,13 +6,15 @@ use crate::hints::{
     stored_hint, unsigned_hint,
 };
 use crate::naming::text_of;
+use crate::other_names::{family_hint, is_near, meant_by, mnemonic_named, without_width};
+use crate::written::{character_words, written_operands};
 use asm_source::{are_digits, decimal_in, is_name, is_register};
 use disasm::{MNEMONICS, Mnemonic};
 use std::alloc::{AllocError, Global};
 use strsim::jaro_winkler;
 
-/// How alike a word and a mnemonic are at least where one is taken for the other.
-const ALIKE: f64 = 0.8;
+/// How alike a word and a mnemonic are at least, without their widths, where one is taken for the other.
+const ALIKE: f64 = 0.85;
 
 /// The name of a mnemonic.
 fn name_of(alloc: Global, mnemonic: Mnemonic) -> Result<String, AllocError> {
@@ -21,14 +23,15 @@ fn name_of(alloc: Global, mnemonic: Mnemonic) -> Result<String, AllocError> {
     format!(in alloc; "{stem}{suffix}")
 }
 
-/// The name that is most like the word, where one is like it.
+/// The name near the word that is most like it, where one is.
 fn nearest(alloc: Global, word: &str) -> Result<Option<String>, AllocError> {
     let mut best = None;
     let mut most = ALIKE;
+    let stem = without_width(word);
     for mnemonic in MNEMONICS {
         let name = name_of(alloc, mnemonic)?;
-        let likeness = jaro_winkler(alloc, word, name.as_str())?;
-        if likeness > most {
+        let likeness = jaro_winkler(alloc, stem, without_width(name.as_str()))?;
+        if likeness > most && is_near(word, name.as_str()) {
             most = likeness;
             best = Some(name);
         }
@@ -56,7 +59,14 @@ fn no_name(alloc: Global, word: &str, text: &str) -> Result<String, AllocError> 
             "no instruction is called `{short}`; write `{name}`: names and registers are in lower case"
         );
     }
-    match nearest(alloc, beginning(word))? {
+    let mut meant = meant_by(alloc, word)?;
+    if let (None, Some(hint)) = (&meant, family_hint(word)) {
+        return format!(in alloc; "no instruction is called `{short}`; {hint}");
+    }
+    if meant.is_none() {
+        meant = nearest(alloc, beginning(word))?;
+    }
+    match meant {
         Some(name) => format!(in alloc;
             "no instruction is called `{short}`; did you mean `{name}`?"
         ),
@@ -253,15 +263,19 @@ fn zero_words(place: Place) -> Option<&'static str> {
     }
 }
 
-/// What is said of a word that is no place in memory.
-fn memory_words(alloc: Global, word: &str) -> Result<String, AllocError> {
+/// What is said of a word that is no place in memory, and of how it was written.
+fn memory_words(alloc: Global, word: &str, written: &str) -> Result<String, AllocError> {
     let what = place_words(Place::Memory);
-    if let Some((base, offset)) = in_brackets(word.as_bytes()) {
-        let (base, offset) = (text_of(base), text_of(offset));
+    let parts = in_brackets(written.as_bytes()).or_else(|| in_brackets(word.as_bytes()));
+    if let Some((base, offset)) = parts {
+        let (base, offset) = (text_of(base).trim(), text_of(offset).trim());
         if !base.is_empty() && wrong_register(base.as_bytes()).is_some() {
             return simple_words(alloc, base, place_words(Place::Register));
         }
-        let name = offset.get(1..).unwrap_or("");
+        let name = offset.get(1..).unwrap_or("").trim();
+        if is_register(name.as_bytes()) {
+            return simple_words(alloc, name, "is a register, and an offset is a number");
+        }
         if is_name(name.as_bytes()) {
             let name = shortened(alloc, name)?;
             return format!(in alloc; "`{name}` is no number{UNNAMED}");
@@ -271,7 +285,7 @@ fn memory_words(alloc: Global, word: &str) -> Result<String, AllocError> {
             return simple_words(alloc, offset, zero);
         }
     }
-    simple_words(alloc, word, what)
+    simple_words(alloc, written, what)
 }
 
 /// What is said of a word, behind it.
@@ -296,25 +310,33 @@ fn form_words(place: Place, word: &str) -> Option<&'static str> {
             "has two signs: a negative constant stands behind none; name 8, and write [r10-NAME]",
         ),
         Place::Offset(_) if has_two_signs(word) => Some(
-            "has two signs: a negative constant stands behind none",
+            "has a sign too many: a label has none before it, and a distance one",
         ),
         Place::Source if is_register(word.as_bytes()) => Some(place_words(Place::Register)),
         _ => None,
     }
 }
 
-/// What is said of a word that is of another kind than its place asks for.
-fn kind_words(alloc: Global, place: Place, word: &str) -> Result<String, AllocError> {
+/// What is said of a word that is of another kind than its place asks for, and of how it was written.
+fn kind_words(
+    alloc: Global,
+    place: Place,
+    word: &str,
+    written: &str,
+) -> Result<String, AllocError> {
     if let Some(words) = case_words(alloc, place, word)? {
         return Ok(words);
     }
     if let Some(what) = form_words(place, word) {
-        return simple_words(alloc, word, what);
+        return match place {
+            Place::Memory => simple_words(alloc, word, what),
+            _ => simple_words(alloc, written, what),
+        };
     }
-    let short = shortened(alloc, word)?;
+    let short = shortened(alloc, written)?;
     let what = place_words(place);
     let hint = match place {
-        Place::Memory => return memory_words(alloc, word),
+        Place::Memory => return memory_words(alloc, word, written),
         Place::Function => return format!(in alloc; "`{short}` {what}; {FUNCTIONS}"),
         Place::Unsigned => unsigned_hint(word),
         Place::Source => source_hint(word),
@@ -327,33 +349,62 @@ fn kind_words(alloc: Global, place: Place, word: &str) -> Result<String, AllocEr
 /// The part of a word that is a number: of a place in memory the offset.
 fn number_part(place: Place, word: &str) -> &str {
     match in_brackets(word.as_bytes()) {
-        Some((_, offset)) if place == Place::Memory => text_of(offset),
+        Some((_, offset)) if place == Place::Memory => text_of(offset).trim(),
         _ => word,
     }
 }
 
-/// What is said of a number that has more than so many bits.
-fn long_words(alloc: Global, place: Place, word: &str, bits: u8) -> Result<String, AllocError> {
-    let short = shortened(alloc, number_part(place, word))?;
-    match place {
-        Place::Source | Place::Number => match sign_hint(alloc, word)? {
-            Some(hint) => format!(in alloc; "`{short}` does not fit {bits} bits; {hint}"),
-            None => format!(in alloc; "`{short}` does not fit {bits} bits"),
-        },
-        Place::Function => format!(in alloc; "`{short}` does not fit {bits} bits; {FUNCTIONS}"),
-        Place::Map => format!(in alloc;
-            "`{short}` does not fit {bits} bits; the maps of a program have the numbers 0 to 15"
-        ),
-        _ => format!(in alloc; "`{short}` does not fit {bits} bits"),
+/// A number in quotes as it was written, and behind a name of it what it is.
+fn quoted_number(
+    alloc: Global,
+    place: Place,
+    word: &str,
+    written: &str,
+) -> Result<String, AllocError> {
+    let number = number_part(place, word);
+    let written = number_part(place, written);
+    let short = shortened(alloc, written)?;
+    if written == number || written.contains("0x") {
+        format!(in alloc; "`{short}`")
+    } else {
+        format!(in alloc; "`{short}` ({number})")
     }
 }
 
-/// What is wrong with a word in its place, if something is. Of a refused line that is right so far, a width is wrong.
-fn word_words(alloc: Global, place: Place, word: &str) -> Result<Option<String>, AllocError> {
+/// What is said of a number that has more than so many bits, and of how it was written.
+fn long_words(
+    alloc: Global,
+    place: Place,
+    word: &str,
+    written: &str,
+    bits: u8,
+) -> Result<String, AllocError> {
+    let quoted = quoted_number(alloc, place, word, written)?;
+    match place {
+        Place::Source | Place::Number => match sign_hint(alloc, word)? {
+            Some(hint) => format!(in alloc; "{quoted} does not fit {bits} bits; {hint}"),
+            None => format!(in alloc; "{quoted} does not fit {bits} bits"),
+        },
+        Place::Function => format!(in alloc; "{quoted} does not fit {bits} bits; {FUNCTIONS}"),
+        Place::Map => format!(in alloc;
+            "{quoted} does not fit {bits} bits; the maps of a program have the numbers 0 to 15"
+        ),
+        _ => format!(in alloc; "{quoted} does not fit {bits} bits"),
+    }
+}
+
+/// What is wrong with a word in its place, if something is, and how it was written. Of a refused line that is right so far,
+/// a width is wrong.
+fn word_words(
+    alloc: Global,
+    place: Place,
+    word: &str,
+    written: &str,
+) -> Result<Option<String>, AllocError> {
     let words = match wrong_word(place, word.as_bytes()) {
         None => return Ok(None),
-        Some(Wrong::Long(bits)) => long_words(alloc, place, word, bits)?,
-        Some(Wrong::Kind) => kind_words(alloc, place, word)?,
+        Some(Wrong::Long(bits)) => long_words(alloc, place, word, written, bits)?,
+        Some(Wrong::Kind) => kind_words(alloc, place, word, written)?,
     };
     Ok(Some(words))
 }
@@ -370,14 +421,19 @@ fn operands_of<'a>(alloc: Global, text: &'a str) -> Result<Vec<&'a str>, AllocEr
     Ok(operands)
 }
 
-/// What is wrong with the operands of an instruction, each of which has its place.
+/// What is wrong with the operands of an instruction, each of which has its place, and how they were written.
 fn operands_words(
     alloc: Global,
     places: &[Place],
     operands: &[&str],
+    written: &[&str],
 ) -> Result<Option<String>, AllocError> {
-    for (place, operand) in places.iter().zip(operands.iter()) {
-        let words = word_words(alloc, *place, operand)?;
+    for (index, place) in places.iter().enumerate() {
+        let Some(operand) = operands.get(index) else {
+            return Ok(None);
+        };
+        let written = written.get(index).unwrap_or(operand);
+        let words = word_words(alloc, *place, operand, written)?;
         if words.is_some() {
             return Ok(words);
         }
@@ -390,12 +446,14 @@ fn instruction_words(
     alloc: Global,
     mnemonic: Mnemonic,
     text: &str,
+    source: &str,
 ) -> Result<Option<String>, AllocError> {
     let places = places_of(alloc, mnemonic)?;
     let operands = operands_of(alloc, text)?;
     let (wanted, given) = (places.len(), operands.len());
     if wanted == given {
-        return operands_words(alloc, &places, &operands);
+        let written = written_operands(alloc, source, wanted)?;
+        return operands_words(alloc, &places, &operands, &written);
     }
     let name = name_of(alloc, mnemonic)?;
     let words = match wanted {
@@ -406,25 +464,19 @@ fn instruction_words(
     Ok(Some(words))
 }
 
-/// The mnemonic of this name.
-fn mnemonic_named(name: &str) -> Option<Mnemonic> {
-    for mnemonic in MNEMONICS {
-        if name.strip_prefix(mnemonic.stem()) == Some(mnemonic.suffix()) {
-            return Some(mnemonic);
-        }
-    }
-    None
-}
-
-/// What is wrong with a line of a plain text that `asm::assemble` refuses, in words for people; none where nothing is found.
-/// What the words say is no part of a contract.
-pub fn explain_line(alloc: Global, line: &str) -> Result<Option<String>, AllocError> {
+/// What is wrong with a line of a plain text that `asm::assemble` refuses, in words for people, which quote the line of the
+/// source; none where nothing is found. What the words say is no part of a contract.
+pub fn explain_line(alloc: Global, line: &str, source: &str) -> Result<Option<String>, AllocError> {
     if let Some(words) = comment_words(line) {
         return Ok(Some(String::from_str(alloc, words)?));
     }
+    let words = character_words(alloc, line)?;
+    if words.is_some() {
+        return Ok(words);
+    }
     let (name, text) = line.split_once(' ').unwrap_or((line, ""));
     match mnemonic_named(name) {
-        Some(mnemonic) => instruction_words(alloc, mnemonic, text),
+        Some(mnemonic) => instruction_words(alloc, mnemonic, text, source),
         None => Ok(Some(no_name(alloc, name, text)?)),
     }
 }

@@ -12,6 +12,9 @@ const SLOT_DIGITS: usize = 16;
 /// What is said of a word that may be a number's name, and is none.
 pub(crate) const UNNAMED: &str = ", and no `.equ` names a number so";
 
+/// What is said of the first line of a program file.
+pub const NO_HEADING: &str = "a text of instructions has no line `bpfrt 1`";
+
 /// The first characters of a word.
 pub(crate) fn beginning(word: &str) -> &str {
     match word.char_indices().nth(SHOWN_CHARACTERS) {
@@ -90,8 +93,11 @@ pub(crate) fn name_hint(word: &str, text: &str) -> Option<&'static str> {
     if is_register(word.as_bytes()) {
         return Some("a line begins with an instruction's name, as in `mov64 r0, 1`");
     }
-    if word == "bpfrt" || is_slot(word) {
-        return Some("of a program file `bpfrt disasm` writes the instructions");
+    if word == "bpfrt" {
+        return Some(NO_HEADING);
+    }
+    if is_slot(word) {
+        return Some("this is a slot of a program file");
     }
     None
 }
@@ -184,11 +190,24 @@ fn with_sign(number: u64) -> Option<i64> {
     }
 }
 
-/// What helps where a number has 32 bits, of which the highest is to be its sign.
+/// The number of 32 bits with a sign that has the same 64 bits as a number without one.
+fn with_long_sign(number: u64) -> Option<i64> {
+    let below = i64::try_from(u64::MAX.checked_sub(number)?).ok()?;
+    if below < 1 << 31 {
+        (-1i64).checked_sub(below)
+    } else {
+        None
+    }
+}
+
+/// What helps where a number has 32 bits, or 64, of which the highest is to be its sign.
 pub(crate) fn sign_hint(alloc: Global, word: &str) -> Result<Option<String>, AllocError> {
     let Some(number) = number_in(word.as_bytes()) else {
         return Ok(None);
     };
+    if let Some(signed) = with_long_sign(number) {
+        return Ok(Some(format!(in alloc; "write {signed}, which has the same 64 bits")?));
+    }
     let Some(signed) = with_sign(number) else {
         return Ok(None);
     };

@@ -4,6 +4,9 @@
 mod explain;
 mod hints;
 mod naming;
+mod other_names;
+mod written;
 
 pub use explain::explain_line;
+pub use hints::NO_HEADING;
 pub use naming::explain_name;

@@ -16,13 +16,18 @@ use std::thread::Threads;
 use std::{env, io};
 
 /// Why a file cannot be opened, unless memory ran out.
-fn reason(path: &str, kind: ErrorKind) -> Option<&'static str> {
+fn reason(command: &BpfrtCommand, path: &str, kind: ErrorKind) -> Option<&'static str> {
     match kind {
         ErrorKind::OutOfMemory => None,
         ErrorKind::NotFound if path == "-" => Some(
             "there is no such file; standard input is /dev/stdin",
         ),
-        ErrorKind::NotFound => Some("there is no such file"),
+        ErrorKind::NotFound => Some(match command {
+            BpfrtCommand::Filter { .. } => {
+                "there is no such file; FILE is what `tcpdump -ddd EXPRESSION` writes"
+            }
+            _ => "there is no such file",
+        }),
         ErrorKind::PermissionDenied => Some("it may not be read"),
         ErrorKind::IsADirectory => Some("it is a folder"),
         ErrorKind::NotADirectory => Some("a part of its path is no folder"),
@@ -31,9 +36,9 @@ fn reason(path: &str, kind: ErrorKind) -> Option<&'static str> {
 }
 
 /// Writes the fault of a file that cannot be opened, and behind it a line with its name and the reason. Answers the status.
-fn unopened<E: Write>(err: &mut E, path: &str, error: &Error) -> u8 {
+fn unopened<E: Write>(err: &mut E, command: &BpfrtCommand, path: &str, error: &Error) -> u8 {
     let status = unread(err, error);
-    if let Some(reason) = reason(path, error.kind()) {
+    if let Some(reason) = reason(command, path, error.kind()) {
         let _ = writeln!(err, "{path:?}: {reason}");
     }
     status
@@ -83,7 +88,7 @@ fn run_into<H: Threads + Wait + Sync, W: Write>(
         None => run(threads, alloc, command, &mut rt.stdin(), out, &mut err),
         Some(path) => match opened(rt, path) {
             Ok(mut file) => run(threads, alloc, command, &mut file, out, &mut err),
-            Err(error) => unopened(&mut err, path, &error),
+            Err(error) => unopened(&mut err, command, path, &error),
         },
     }
 }

@@ -217,6 +217,6 @@ pub fn run_asm<R: Read, W: Write, E: Write>(
             warn_of_head(&text, form, err);
             written(err, write_text(out, made.text(form)))
         }
-        Err(why) => told(alloc, &text, &why, in_words, err),
+        Err(why) => told(alloc, &bytes, &why, in_words, err),
     }
 }

@@ -123,7 +123,7 @@ fn check_text<R: Read, W: Write, E: Write>(
             out,
             err,
         ),
-        Err(why) => told_of_text(alloc, &text, &why, how.explain, err),
+        Err(why) => told_of_text(alloc, &bytes, &why, how.explain, err),
     }
 }
 

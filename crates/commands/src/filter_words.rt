@@ -15,15 +15,50 @@ const LISTED: &str =
 /// How many instructions stand above the line of a number, in a listing.
 const FIRST_LINES: usize = 2;
 
+/// How a line of a listing ends or begins that is to have neither a blank nor a carriage return there, if it does.
+fn end_words(line: &[u8]) -> Option<&'static str> {
+    match line {
+        [.., b'\r'] => Some("the line ends in a carriage return: take it out of every line"),
+        [.., b' ' | b'\t'] => Some("the line ends in a blank: take it out"),
+        [b' ' | b'\t', ..] => Some("the line begins with a blank: take it out"),
+        _ => None,
+    }
+}
+
+/// The line of this number of a listing, counted from 1.
+fn line_of(bytes: &[u8], number: usize) -> &[u8] {
+    let mut lines = bytes.split(|byte| *byte == b'\n');
+    lines.nth(number.saturating_sub(1)).unwrap_or(&[])
+}
+
+/// The number of the first empty line below the first of a listing.
+fn empty_line(lines: &[u8]) -> Option<usize> {
+    let mut number: usize = 0;
+    for line in lines.split(|byte| *byte == b'\n') {
+        number = number.saturating_add(1);
+        if line.is_empty() && number > 1 {
+            return Some(number);
+        }
+    }
+    None
+}
+
 /// Writes how many lines a listing has, and is to have.
 fn explain_count<E: Write>(bytes: &[u8], err: &mut E) -> io::Result<()> {
     write_line(err, bytes, 1, 0)?;
+    if let Some(words) = end_words(line_of(bytes, 1)) {
+        return writeln!(err, "  {words}");
+    }
     let lines = bytes.strip_suffix(b"\n").unwrap_or(bytes);
     let below = lines_in(lines);
-    writeln!(
+    write!(
         err,
         "  the first line is how many lines stand below it, in decimal without leading zeros; below it stand {below}"
-    )
+    )?;
+    match empty_line(lines) {
+        Some(number) => writeln!(err, ", and line {number} is empty"),
+        None => writeln!(err),
+    }
 }
 
 /// Writes the line of a listing that is no text.
@@ -50,7 +85,10 @@ fn explain_listing<E: Write>(bytes: &[u8], fault: &ReadFault, err: &mut E) -> io
         ReadFault::BadCount => explain_count(bytes, err),
         ReadFault::BadLine(line) => {
             write_line(err, bytes, *line, 0)?;
-            writeln!(err, "{LISTED}")
+            match end_words(line_of(bytes, *line)) {
+                Some(words) => writeln!(err, "  {words}"),
+                None => writeln!(err, "{LISTED}"),
+            }
         }
         _ => Ok(()),
     }
@@ -135,6 +173,40 @@ fn explain_jump<E: Write>(
     }
 }
 
+/// The numbers of refusals for a load of a policy, and for one of a packet.
+const BAD_POLICY_LOAD: u8 = 110;
+
+const OUTSIDE_WINDOW: u8 = 112;
+
+/// Writes what helps where the instruction of this number is refused for what it loads.
+fn explain_load<E: Write>(
+    alloc: Global,
+    bytes: &[u8],
+    code: u8,
+    number: usize,
+    err: &mut E,
+) -> io::Result<()> {
+    if code == BAD_POLICY_LOAD {
+        return writeln!(
+            err,
+            "  a policy loads aligned words below 64, and nothing else"
+        );
+    }
+    let Some(filter) = listed(alloc, bytes, Data::Packet) else {
+        return Ok(());
+    };
+    match filter.get(number) {
+        Some(insn) if code == OUTSIDE_WINDOW && insn.k >= 1 << 31 => {
+            let at = insn.k;
+            writeln!(
+                err,
+                "  at {at} stands a value that only the kernel knows, such as a packet's type"
+            )
+        }
+        _ => Ok(()),
+    }
+}
+
 /// What bytes look like that are not of this kind.
 fn other_words(bytes: &[u8], kind: Data) -> Option<&'static str> {
     match (kind, likeness_of(bytes)?) {
@@ -150,9 +222,44 @@ fn other_words(bytes: &[u8], kind: Data) -> Option<&'static str> {
         (_, Likeness::Printed) => Some(
             "what `tcpdump -d` or `-dd` writes; what `tcpdump -ddd` writes is read",
         ),
-        (_, Likeness::ProgramFile) => Some("a program file, which `bpfrt check` reads"),
         (_, likeness) => Some(likeness.words()),
     }
+}
+
+/// Writes in words why bytes are no classic program, or have no program file, but for the line, and answers for which
+/// instruction.
+fn explain_why<E: Write>(
+    alloc: Global,
+    bytes: &[u8],
+    kind: Data,
+    why: &FilterFault,
+    err: &mut E,
+) -> io::Result<Option<usize>> {
+    let (code, instruction) = match why {
+        FilterFault::Memory => return Ok(None),
+        FilterFault::NotUtf8 { line } => {
+            explain_bytes(bytes, *line, err)?;
+            return Ok(None);
+        }
+        FilterFault::Unread(fault) => {
+            explain_listing(bytes, fault, err)?;
+            return Ok(None);
+        }
+        FilterFault::Flawed(ClassicFault::BadJump(number)) => {
+            explain_jump(alloc, bytes, kind, *number, err)?;
+            return Ok(Some(*number));
+        }
+        FilterFault::Flawed(fault) => {
+            writeln!(err, "{fault}")?;
+            (fault.code(), fault.instruction())
+        }
+        FilterFault::Untranslated(fault) => {
+            writeln!(err, "{fault}")?;
+            (fault.code(), fault.instruction())
+        }
+    };
+    explain_load(alloc, bytes, code, instruction.unwrap_or(0), err)?;
+    Ok(instruction)
 }
 
 /// Writes in words why bytes are no classic program, or have no program file.
@@ -163,29 +270,7 @@ pub fn explain_filter<E: Write>(
     why: &FilterFault,
     err: &mut E,
 ) -> io::Result<()> {
-    let instruction = match why {
-        FilterFault::Memory => return Ok(()),
-        FilterFault::NotUtf8 { line } => {
-            explain_bytes(bytes, *line, err)?;
-            None
-        }
-        FilterFault::Unread(fault) => {
-            explain_listing(bytes, fault, err)?;
-            None
-        }
-        FilterFault::Flawed(ClassicFault::BadJump(number)) => {
-            explain_jump(alloc, bytes, kind, *number, err)?;
-            Some(*number)
-        }
-        FilterFault::Flawed(fault) => {
-            writeln!(err, "{fault}")?;
-            fault.instruction()
-        }
-        FilterFault::Untranslated(fault) => {
-            writeln!(err, "{fault}")?;
-            fault.instruction()
-        }
-    };
+    let instruction = explain_why(alloc, bytes, kind, why, err)?;
     if let (Data::Packet, Some(number)) = (kind, instruction) {
         write_line(err, bytes, number.saturating_add(FIRST_LINES), 0)?;
     }

@@ -14,7 +14,7 @@ whose maps and context the program is verified against, or raw bytes, with neith
 
 Prints `accepted I instructions S slots`. With --explain, a refusal is followed on standard error by its name
 and meaning; where it is of an instruction, by that one's text, what is known of each register that it reads,
-and how many locks are open.
+and how many locks are open; where it is of jumps or paths (20, 21, 22, 38), by the text alone.
 
 With --asm, FILE is a text of instructions as `bpfrt asm --file` reads it. A refusal is followed by `line L: TEXT`,
 the line in which the instruction stands; a text that is none is refused as `bpfrt asm` does.

@@ -1,6 +1,6 @@
 //! Why a line of a script is no command, in words for people.
 
-use program_files::{write_line, write_quoted};
+use program_files::{Likeness, likeness_of, write_line, write_quoted};
 use script_lines::{MAX_COUNT, number_of, parse_line};
 use script_stream::LINE_BYTES;
 use std::alloc::{AllocError, Global};
@@ -193,6 +193,17 @@ fn write_why<W: Write>(alloc: Global, out: &mut W, line: &str) -> io::Result<()>
     }
 }
 
+/// Writes what a text looks like that is no script.
+fn write_likeness<W: Write>(out: &mut W, text: &[u8]) -> io::Result<()> {
+    match likeness_of(text) {
+        None | Some(Likeness::Script | Likeness::Text) => Ok(()),
+        Some(likeness) => {
+            let words = likeness.words();
+            writeln!(out, "  it looks like {words}")
+        }
+    }
+}
+
 /// Writes which of the lines of a script that were read last is the first that is no command, and why. So many lines stand
 /// above them.
 pub fn explain_script<W: Write>(
@@ -206,9 +217,14 @@ pub fn explain_script<W: Write>(
         number = number.saturating_add(1);
         if parse_line(line).is_err() {
             write_line(out, text, number, above)?;
-            return match str::from_utf8(line) {
-                Ok(line) => write_why(alloc, out, line),
-                Err(_) => writeln!(out, "  the line is not UTF-8 text"),
+            match str::from_utf8(line) {
+                Ok(line) => write_why(alloc, out, line)?,
+                Err(_) => writeln!(out, "  the line is not UTF-8 text")?,
+            }
+            return if above == 0 {
+                write_likeness(out, text)
+            } else {
+                Ok(())
             };
         }
     }

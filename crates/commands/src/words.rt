@@ -245,19 +245,115 @@ fn with_usage(alloc: Global, command: &str, text: String) -> Result<String, Allo
     }
 }
 
-/// What `clap` says of a word behind `script` that is no option of it, and how a file is given.
-fn with_redirection(alloc: Global, words: &[String], text: String) -> Result<String, AllocError> {
-    for word in words.iter().skip(2) {
-        if !word.as_str().starts_with('-') {
-            return match text.split_once("\n\nUsage") {
-                Some((why, more)) => format!(in alloc;
-                    "{why}\n\n  tip: a script comes on standard input: `bpfrt script < {word}`\n\nUsage{more}"
-                ),
-                None => Ok(text),
-            };
+/// How the tip begins with which `clap` explains words that begin with `-`.
+const VALUE_TIP: &str = "\n\n  tip: to pass '";
+
+/// What `clap` says, with a tip of ours in place of its tip on values.
+fn with_tip(alloc: Global, text: String, tip: Option<&str>) -> Result<String, AllocError> {
+    let Some((why, more)) = text.split_once("\n\nUsage") else {
+        return Ok(text);
+    };
+    let why = match why.split_once(VALUE_TIP) {
+        Some((why, _)) => why,
+        None => why,
+    };
+    match tip {
+        Some(tip) => format!(in alloc; "{why}\n\n  tip: {tip}\n\nUsage{more}"),
+        None => format!(in alloc; "{why}\n\nUsage{more}"),
+    }
+}
+
+/// Options that the command has not, and what is used instead.
+const OTHER_OPTIONS: [(&str, &str); 5] = [
+    (
+        "--explain",
+        "`bpfrt check --explain` says why a program is refused",
+    ),
+    (
+        "--asm",
+        "`bpfrt asm --file` makes a program file of assembly",
+    ),
+    ("-o", "the result goes to standard output: `> FILE`"),
+    ("--out", "the result goes to standard output: `> FILE`"),
+    ("--output", "the result goes to standard output: `> FILE`"),
+];
+
+/// What is used instead of an option that a command has not.
+fn tip_of_option(word: &str) -> Option<&'static str> {
+    for (option, tip) in OTHER_OPTIONS {
+        if word == option {
+            return Some(tip);
         }
     }
-    Ok(text)
+    None
+}
+
+/// The first word behind a command and its options.
+fn plain_word(words: &[String]) -> Option<&str> {
+    for word in words.iter().skip(2) {
+        if !word.as_str().starts_with('-') {
+            return Some(word.as_str());
+        }
+    }
+    None
+}
+
+/// The tip for a word that no argument of the command takes: `clap` has it in quotes.
+fn tip_of_word(alloc: Global, words: &[String], text: &str) -> Result<Option<String>, AllocError> {
+    let command = words.get(1).map_or("", String::as_str);
+    let word = text.split('\'').nth(1).unwrap_or("");
+    if let (true, Some(file)) = (command == "script", plain_word(words)) {
+        return Ok(Some(format!(in alloc;
+            "a script comes on standard input: `bpfrt script < {file}`"
+        )?));
+    }
+    let tip = if command == "filter" && !word.starts_with('-') {
+        Some(FILTER_TIP)
+    } else {
+        tip_of_option(word)
+    };
+    match tip {
+        Some(tip) => Ok(Some(String::from_str(alloc, tip)?)),
+        None => Ok(None),
+    }
+}
+
+/// What FILE of `filter` is.
+const FILTER_TIP: &str = "FILE is what `tcpdump -ddd EXPRESSION` writes";
+
+/// Where FILE stands among words that have `--map`.
+const MAP_TIP: &str =
+    "what follows --map NAME is taken for its elements: FILE stands before --map, or behind `--`";
+
+/// Whether an option for elements stands among the words.
+fn has_map_option(words: &[String]) -> bool {
+    for word in words {
+        if word.as_str() == "--map" {
+            return true;
+        }
+    }
+    false
+}
+
+/// What `clap` says of words with a fault of this kind, with the usage and the tips that it leaves out.
+fn told_by_clap(
+    alloc: Global,
+    words: &[String],
+    kind: ErrorKind,
+    text: String,
+) -> Result<String, AllocError> {
+    let command = words.get(1).map_or("", String::as_str);
+    let text = with_usage(alloc, command, text)?;
+    match kind {
+        ErrorKind::UnknownArgument => match tip_of_word(alloc, words, text.as_str())? {
+            Some(tip) => with_tip(alloc, text, Some(tip.as_str())),
+            None => with_tip(alloc, text, None),
+        },
+        ErrorKind::MissingRequiredArgument if has_map_option(words) => {
+            with_tip(alloc, text, Some(MAP_TIP))
+        }
+        _ => Ok(text),
+    }
 }
 
 /// Why the words are no command. `clap` finds no command near a word that differs from it in every
@@ -279,16 +375,12 @@ For more information, try '--help'."
             );
             usage_fault(alloc, text)
         }
-        (ErrorKind::UnknownArgument, _) if first == "script" => {
+        (kind, _) => {
             let text = format!(in alloc; "{error}");
             usage_fault(
                 alloc,
-                text.and_then(|text| with_redirection(alloc, words, text)),
+                text.and_then(|text| told_by_clap(alloc, words, kind, text)),
             )
-        }
-        _ => {
-            let text = format!(in alloc; "{error}");
-            usage_fault(alloc, text.and_then(|text| with_usage(alloc, first, text)))
         }
     }
 }
@@ -361,7 +453,11 @@ fn context_of(
     match bytes_of(alloc, word)? {
         Some(bytes) => Ok(bytes),
         None => {
-            let why = "it is no even number of hexadecimal digits";
+            let why = if word.contains(' ') {
+                "it is no even number of hexadecimal digits, which stand without blanks"
+            } else {
+                "it is no even number of hexadecimal digits"
+            };
             Err(bad_value(alloc, command, word, "[CTX]", why))
         }
     }

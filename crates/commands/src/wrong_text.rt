@@ -4,8 +4,8 @@ use crate::assembly::{TextFault, plain_text};
 use crate::heads::parts_of;
 use crate::words::shown;
 use asm::AsmFault;
-use asm_hints::{explain_line, explain_name};
-use asm_source::SourceFault;
+use asm_hints::{NO_HEADING, explain_line, explain_name};
+use asm_source::{SourceFault, fed_text};
 use program_files::{Likeness, has_slots, likeness_of, write_wrong_line};
 use std::alloc::{AllocError, Global};
 use std::io::Write;
@@ -66,20 +66,27 @@ fn headless_words(alloc: Global, text: &str, line: &str) -> Result<Option<String
     Ok(None)
 }
 
-/// What is wrong with the plain text of a line of this text's instructions.
-fn instruction_words(alloc: Global, text: &str, line: &str) -> Result<Option<String>, AllocError> {
+/// What is wrong with the plain text of the line of this number, of this text's instructions.
+fn instruction_words(
+    alloc: Global,
+    text: &str,
+    line: &str,
+    number: usize,
+) -> Result<Option<String>, AllocError> {
     let words = headless_words(alloc, text, line)?;
     if words.is_some() {
         return Ok(words);
     }
-    explain_line(alloc, line)
+    let mut sources = parts_of(text).body.split('\n');
+    let source = sources.nth(number.saturating_sub(1)).unwrap_or("");
+    explain_line(alloc, line, source)
 }
 
 /// Writes what is wrong with the plain text of this line of a text's instructions.
 fn explain_instruction<E: Write>(
     alloc: Global,
     bytes: &[u8],
-    line: usize,
+    number: usize,
     err: &mut E,
 ) -> io::Result<()> {
     let Ok(text) = str::from_utf8(bytes) else {
@@ -91,10 +98,10 @@ fn explain_instruction<E: Write>(
     let Ok(lines) = str::from_utf8(&lines) else {
         return Ok(());
     };
-    let Some(line) = lines.split('\n').nth(line.saturating_sub(1)) else {
+    let Some(line) = lines.split('\n').nth(number.saturating_sub(1)) else {
         return Ok(());
     };
-    if let Some(words) = instruction_words(alloc, text, line)? {
+    if let Some(words) = instruction_words(alloc, text, line, number)? {
         let words = shown(alloc, words.as_str())?;
         writeln!(err, "{words}")?;
     }
@@ -109,10 +116,11 @@ fn says_slots(bytes: &[u8]) -> bool {
     }
 }
 
-/// What bytes look like that are no text of instructions.
-fn other_words(bytes: &[u8], why: &TextFault) -> Option<&'static str> {
+/// What bytes look like that are no text of instructions, by whether they have slots.
+fn other_words(bytes: &[u8], has_slots: bool, why: &TextFault) -> Option<&'static str> {
     match likeness_of(bytes) {
-        Some(Likeness::ProgramFile) if says_slots(bytes) => Some(PROGRAM_FILE),
+        Some(Likeness::ProgramFile) if has_slots => Some(PROGRAM_FILE),
+        Some(Likeness::CarriageReturns | Likeness::OtherHeading) if !has_slots => None,
         Some(Likeness::Assembly | Likeness::Text | Likeness::ProgramFile) => None,
         Some(likeness) => Some(likeness.words()),
         None => match why {
@@ -130,18 +138,32 @@ const PROGRAM_FILE: &str =
 const PROGRAM_BYTES: &str =
     "a program's bytes: `bpfrt check` checks them without `--asm`, and `bpfrt disasm` writes their instructions";
 
-/// Writes in words why bytes are no text of a program, and what they look like instead.
+/// Writes in words why bytes are no text of a program, and what they look like instead. They may end lines by a carriage
+/// return too.
 pub fn explain_text<E: Write>(
     alloc: Global,
     bytes: &[u8],
     why: &TextFault,
     err: &mut E,
 ) -> io::Result<()> {
-    explain_fault(alloc, bytes, why, err)?;
-    match other_words(bytes, why) {
+    let text = fed_text(alloc, bytes)?;
+    explain_fault(alloc, &text, why, err)?;
+    match other_words(bytes, says_slots(&text), why) {
         Some(words) => writeln!(err, "  it looks like {words}"),
         None => Ok(()),
     }
+}
+
+/// Writes what is wrong with a line of a text's head.
+fn explain_head<E: Write>(bytes: &[u8], line: usize, err: &mut E) -> io::Result<()> {
+    if line == 1 && bytes.starts_with(b"bpfrt") {
+        return writeln!(err, "{NO_HEADING}");
+    }
+    writeln!(
+        err,
+        "above `code` stand `ctx N` and a line for each map, and nothing else"
+    )?;
+    write_wrong_line(err, bytes, line, 0)
 }
 
 /// Writes in words why bytes are no text of a program.
@@ -160,13 +182,7 @@ fn explain_fault<E: Write>(
             }
             AsmFault::TooLong | AsmFault::Empty | AsmFault::Memory => writeln!(err, "{flaw}"),
         },
-        TextFault::BadHead { line } => {
-            writeln!(
-                err,
-                "above `code` stand `ctx N` and a line for each map, and nothing else"
-            )?;
-            write_wrong_line(err, bytes, *line, 0)
-        }
+        TextFault::BadHead { line } => explain_head(bytes, *line, err),
         TextFault::Memory => Ok(()),
     }
 }

@@ -2,9 +2,11 @@
 ghost use Rattle.std.specs.Prelude.{◌≤◌};
 ghost use Rattle.bpf_model.specs.declared.limits.TheConstants.{CTX_BYTES};
 
+use crate::causes::{write_cause, write_known_cause};
 use crate::depths::write_depths;
 use crate::known::write_kind;
-use crate::likeness::write_likeness;
+use crate::likeness::{likeness_of, write_likeness};
+use crate::loader::load;
 use crate::meaning::meaning_of;
 use crate::missing::{write_loaded, write_missing};
 use crate::reads::registers_read;
@@ -75,11 +77,13 @@ fn write_instruction<W: Write>(
     };
     let text = line_of(alloc, insn)?;
     writeln!(out, "at {slot}: {text}")?;
+    write_cause(out, source, insn, code, slot)?;
     if code == UNPAIRED_SECTION {
         write_depths(alloc, source, index, out)?;
     }
     if let Some(state) = known_where_refused(alloc, source)? {
         write_known(out, source, insn, &state)?;
+        write_known_cause(out, source, insn, code, &state)?;
         if code == UNWRITTEN_FRAME {
             write_missing(out, source, insn, &state)?;
         }
@@ -88,6 +92,28 @@ fn write_instruction<W: Write>(
         }
     }
     Ok(())
+}
+
+/// Writes the digits of a slot that is no instruction, of a file that looks like nothing else.
+fn write_slot<W: Write>(
+    alloc: Global,
+    file: &FileBytes,
+    slot: usize,
+    out: &mut W,
+) -> io::Result<()> {
+    let FileBytes::Whole(bytes) = file else {
+        return Ok(());
+    };
+    if !bytes.starts_with(HEADING) && likeness_of(bytes).is_some() {
+        return Ok(());
+    }
+    let Ok(said) = load(alloc, bytes) else {
+        return Ok(());
+    };
+    let first = slot.saturating_mul(8);
+    let code = said.code.get(first..first.saturating_add(8)).unwrap_or(&[]);
+    let digits = hex::encode(alloc, code)?;
+    writeln!(out, "at {slot}: {digits}")
 }
 
 /// How many lines stand above that of the context.
@@ -129,6 +155,8 @@ pub fn explain<W: Write>(
     write_source(file, verdict, out)?;
     if let (Some(slot), Ok(source)) = (verdict.slot, file.source(alloc)) {
         write_instruction(alloc, &source, verdict.code, slot, out)?;
+    } else if let Some(slot) = verdict.slot {
+        write_slot(alloc, file, slot, out)?;
     }
     Ok(())
 }

@@ -2,6 +2,7 @@
 //! and the verdict on each that is refused.
 #![tactic(auto)]
 
+mod causes;
 mod depths;
 mod explanation;
 mod file_check;

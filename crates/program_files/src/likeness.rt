@@ -13,16 +13,28 @@ pub enum Likeness {
     Marked,
     /// A text of UTF-16.
     Utf16,
+    /// What programs that record packets write.
+    Capture,
     /// A text that begins as a program file does.
     ProgramFile,
+    /// A program file with carriage returns.
+    CarriageReturns,
+    /// A program file whose first line is nearly that of one.
+    OtherHeading,
     /// A program file but for its first line.
     Headless,
+    /// The slots of a program file alone.
+    Slots,
     /// A policy of system calls, in bytes.
     Policy,
     /// What `tcpdump -ddd` writes.
     Listing,
     /// What `tcpdump -d` or `tcpdump -dd` writes.
     Printed,
+    /// What `tcpdump` writes for people.
+    Message,
+    /// Assembly as clang writes it.
+    ClangAssembly,
     /// A program in C.
     CSource,
     Script,
@@ -31,36 +43,62 @@ pub enum Likeness {
     Text,
 }
 
+const OBJECT: &str = "an object: examples/c/build makes a program file of what clang wrote";
+
+const CAPTURE: &str =
+    "a capture of packets: `bpfrt filter` reads what `tcpdump -ddd EXPRESSION` writes, and \
+    examples/filters/filter_packets.py judges captures";
+
+const CARRIAGE_RETURNS: &str =
+    "a program file whose lines end in CR LF: take out the carriage returns";
+
+const OTHER_HEADING: &str =
+    "a program file whose first line is not `bpfrt 1` and a line feed alone";
+
+const SLOTS: &str = "slots of a program file: put `bpfrt 1`, `ctx N` and `code` above them";
+
+const POLICY: &str =
+    "a policy of system calls: `bpfrt filter --seccomp` makes a program file of it";
+
+const LISTING: &str = "what `tcpdump -ddd` writes: `bpfrt filter` makes a program file of it";
+
+const PRINTED: &str =
+    "what `tcpdump -d` or `-dd` writes: `bpfrt filter` takes what `tcpdump -ddd` writes";
+
+const MESSAGE: &str =
+    "a message of `tcpdump`: of what it writes, `bpfrt filter` reads the listing alone";
+
+const CLANG_ASSEMBLY: &str =
+    "assembly of clang, which is not read: give examples/c/build its source";
+
+const ASSEMBLY: &str =
+    "assembly: `bpfrt check --asm` checks it, `bpfrt asm --file` makes a program file of it";
+
+const TEXT: &str =
+    "text: `bpfrt asm --file` makes a program file of assembly, examples/c/build of C";
+
 impl Likeness {
     /// What it is, and what makes a program file of it.
     pub fn words(self) -> &'static str {
         match self {
-            Likeness::Object => {
-                "an object: examples/c/build makes a program file of what clang wrote"
-            }
+            Likeness::Object => OBJECT,
             Likeness::Marked => "a text behind a byte-order mark, which is to go",
             Likeness::Utf16 => "a text in UTF-16, which is to be in UTF-8",
-            Likeness::ProgramFile => {
-                "a program file whose first line is not `bpfrt 1` and a line feed alone"
-            }
+            Likeness::Capture => CAPTURE,
+            Likeness::ProgramFile => "a program file, which `bpfrt check` reads",
+            Likeness::CarriageReturns => CARRIAGE_RETURNS,
+            Likeness::OtherHeading => OTHER_HEADING,
             Likeness::Headless => "a program file without its first line, which is `bpfrt 1`",
-            Likeness::Policy => {
-                "a policy of system calls: `bpfrt filter --seccomp` makes a program file of it"
-            }
-            Likeness::Listing => {
-                "what `tcpdump -ddd` writes: `bpfrt filter` makes a program file of it"
-            }
-            Likeness::Printed => {
-                "what `tcpdump -d` or `-dd` writes: `bpfrt filter` takes what `tcpdump -ddd` writes"
-            }
+            Likeness::Slots => SLOTS,
+            Likeness::Policy => POLICY,
+            Likeness::Listing => LISTING,
+            Likeness::Printed => PRINTED,
+            Likeness::Message => MESSAGE,
+            Likeness::ClangAssembly => CLANG_ASSEMBLY,
             Likeness::CSource => "a program in C: examples/c/build makes a program file of it",
             Likeness::Script => "a script: `bpfrt script < FILE` answers it",
-            Likeness::Assembly => {
-                "assembly: `bpfrt check --asm` checks it, `bpfrt asm --file` makes a program file of it"
-            }
-            Likeness::Text => {
-                "text: `bpfrt asm --file` makes a program file of assembly, examples/c/build of C"
-            }
+            Likeness::Assembly => ASSEMBLY,
+            Likeness::Text => TEXT,
         }
     }
 }
@@ -87,6 +125,33 @@ fn is_policy(bytes: &[u8]) -> bool {
         [0x20, 0, 0, 0, at, 0, 0, 0, ..] => *at < 64 && at % 4 == 0 && bytes.len() % 8 == 0,
         _ => false,
     }
+}
+
+/// Whether bytes begin as captures of packets do, of either byte order and either form.
+fn is_capture(bytes: &[u8]) -> bool {
+    match bytes {
+        [0xa1, 0xb2, 0xc3, 0xd4, ..]
+        | [0xd4, 0xc3, 0xb2, 0xa1, ..]
+        | [0xa1, 0xb2, 0x3c, 0x4d, ..]
+        | [0x4d, 0x3c, 0xb2, 0xa1, ..]
+        | [0x0a, 0x0d, 0x0d, 0x0a, ..] => true,
+        _ => false,
+    }
+}
+
+/// Whether bytes are ASCII characters of 16 bits, in either byte order.
+fn is_wide_text(bytes: &[u8]) -> bool {
+    for pair in bytes.chunks(2) {
+        let letter = match pair {
+            [0, letter] => *letter,
+            [letter, 0] => *letter,
+            _ => return false,
+        };
+        if !letter.is_ascii_graphic() && !letter.is_ascii_whitespace() {
+            return false;
+        }
+    }
+    bytes.len() > 2
 }
 
 /// Whether a word is a decimal number.
@@ -149,6 +214,23 @@ fn is_c_line(line: &str) -> bool {
     false
 }
 
+/// How lines of clang's assembly begin that are none here.
+const CLANG_BEGINNINGS: [&str; 7] = [
+    ".text", ".file", ".globl", ".section", ".type", ".p2align", ".ident",
+];
+
+/// Whether a line of this first word is one of clang's assembly.
+fn is_clang_line(line: &str, word: &str) -> bool {
+    for beginning in CLANG_BEGINNINGS {
+        if word == beginning {
+            return true;
+        }
+    }
+    let mut words = line.split_ascii_whitespace();
+    let _ = words.next();
+    (word.starts_with('r') || word.starts_with('w')) && words.next() == Some("=")
+}
+
 /// The words with which commands of a script begin.
 const COMMANDS: [&str; 12] = [
     "map", "load", "put", "get", "del", "start", "step", "drop", "advance", "reap", "stat", "dump",
@@ -165,7 +247,7 @@ fn is_command(word: &str) -> bool {
 }
 
 /// Whether a word begins a line of assembly.
-fn is_instruction(word: &str) -> bool {
+pub(crate) fn is_instruction(word: &str) -> bool {
     if word == "ctx" || word == ".equ" || word.ends_with(':') {
         return true;
     }
@@ -194,7 +276,11 @@ fn likeness_of_line(line: &str) -> Option<Likeness> {
     } else if is_comment(word) {
         None
     } else if word.starts_with("bpfrt") {
-        Some(Likeness::ProgramFile)
+        Some(Likeness::OtherHeading)
+    } else if is_slot(word) {
+        Some(Likeness::Slots)
+    } else if is_clang_line(line, word) {
+        Some(Likeness::ClangAssembly)
     } else if is_command(word) {
         Some(Likeness::Script)
     } else if is_instruction(word) {
@@ -238,13 +324,27 @@ pub fn has_slots(text: &str) -> bool {
     }
 }
 
+/// What a text looks like by how it begins, if that tells.
+fn likeness_of_beginning(text: &str) -> Option<Likeness> {
+    if is_listing(text) {
+        Some(Likeness::Listing)
+    } else if is_printed(text) {
+        Some(Likeness::Printed)
+    } else if text.starts_with("tcpdump: ") {
+        Some(Likeness::Message)
+    } else if text.starts_with("bpfrt 1\n") {
+        Some(Likeness::ProgramFile)
+    } else if text.starts_with("bpfrt 1\r\n") {
+        Some(Likeness::CarriageReturns)
+    } else {
+        None
+    }
+}
+
 /// What a text looks like, by its first lines.
 fn likeness_of_text(text: &str) -> Likeness {
-    if is_listing(text) {
-        return Likeness::Listing;
-    }
-    if is_printed(text) {
-        return Likeness::Printed;
+    if let Some(likeness) = likeness_of_beginning(text) {
+        return likeness;
     }
     match likeness_of_lines(text) {
         Likeness::Script | Likeness::Assembly if has_slots(text) => Likeness::Headless,
@@ -261,6 +361,8 @@ fn likeness_of_marks(bytes: &[u8]) -> Option<Likeness> {
         Some(Likeness::Marked)
     } else if bytes.starts_with(b"\xff\xfe") || bytes.starts_with(b"\xfe\xff") {
         Some(Likeness::Utf16)
+    } else if is_capture(bytes) {
+        Some(Likeness::Capture)
     } else if is_policy(bytes) {
         Some(Likeness::Policy)
     } else {
@@ -275,6 +377,9 @@ pub fn likeness_of(bytes: &[u8]) -> Option<Likeness> {
         return marked;
     }
     let first = bytes.get(0..bytes.len().min(SEEN)).unwrap_or(&[]);
+    if is_wide_text(first) {
+        return Some(Likeness::Utf16);
+    }
     if !is_text(first) {
         return None;
     }

@@ -1,7 +1,8 @@
 //! A line of a text that is wrong, and what a line of a program file may be.
 
-use std::io;
+use crate::likeness::is_instruction;
 use std::io::Write;
+use std::{io, str};
 
 /// Where the line of this number begins, counted from 1.
 fn start_of_line(text: &[u8], number: usize) -> usize {
@@ -78,15 +79,30 @@ fn has_code_line(text: &[u8]) -> bool {
     false
 }
 
+/// Whether the line at the beginning of a text has an instruction in words.
+fn has_instruction(rest: &[u8]) -> bool {
+    let line = rest.get(0..length_of_line(rest)).unwrap_or(&[]);
+    match str::from_utf8(line)
+        .unwrap_or("")
+        .split_ascii_whitespace()
+        .next()
+    {
+        Some(word) => is_instruction(word),
+        None => false,
+    }
+}
+
 /// What a line of a program file may be, by where it stands.
 fn forms_of(text: &[u8], start: usize, is_context: bool) -> &'static str {
     if is_context {
         return "  a line here is `ctx N`: the length of the context in bytes, 0 to 256";
     }
-    match text.get(0..start) {
-        Some(above) if has_code_line(above) => {
-            "  a line here has slots, each of 16 hexadecimal digits"
+    let is_below = has_code_line(text.get(0..start).unwrap_or(&[]));
+    match text.get(start..text.len()) {
+        Some(rest) if is_below && has_instruction(rest) => {
+            "  instructions stand here: leave the line `bpfrt 1` out, and use `bpfrt check --asm`"
         }
+        _ if is_below => { "  a line here has slots, each of 16 hexadecimal digits" }
         _ => {
             "  a line here is `map NAME KEY VALUE ENTRIES SPARE REUSE`, `map NAME array VALUE ENTRIES` or `code`\n  \
              NAME: 1 to 32 of a to z, 0 to 9 and _, the first a letter, and no other map's; at most 16 maps\n  \
