@@ -144,7 +144,7 @@ fn unlink_found<R: Abort>(rt: &R, table: &MapTable, writer: &mut Writer)
 }
 
 /// The first two seats.
-fn two_seats<'a>(
+pub fn two_seats<'a>(
     table: &MapTable,
     list: &'a mut [ReadSeat],
 ) -> Option<(&'a mut ReadSeat, &'a mut ReadSeat)>

@@ -3,3 +3,5 @@
 
 #[cfg(test)]
 mod keys;
+#[cfg(test)]
+mod runs;

@@ -1,0 +1,151 @@
+//! Runs of a program over the table, beside the writer.
+ghost use Rattle.std.specs.Prelude.{◌≡◌, ◌<◌};
+ghost use Rattle.map_table.specs.Held.{IsReady};
+
+use crate::keys::two_seats;
+use bpf_model::{CtxBytes, MapKind, MapShape};
+use insn_codec::decode;
+use map_runs::{SubWord, fits, run_shared};
+use map_table::{MapTable, ReadSeat, TableShape, Writer};
+use std::alloc::Global;
+use std::process::Abort;
+use std::test::Fail;
+use verifier::{Verified, verify};
+
+/// A lookup of the key that the context has. It adds 1 to the value, and exits with what it was before, or with 0 where
+/// there is none.
+const COUNT: &str = "7916000000000000 7b6af8ff00000000 b709000000000000 8520000001000000
+bfa2000000000000 07020000f8ffffff 1851000000000000 0000000000000000 8500000001000000
+1500040000000000 7909000000000000 bf97000000000000 0707000001000000 7b70000000000000
+8520000002000000 bf90000000000000 9500000000000000";
+
+/// A load of the first byte of the value of such a key.
+const LOAD_BYTE: &str = "7916000000000000 7b6af8ff00000000 b709000000000000 8520000001000000
+bfa2000000000000 07020000f8ffffff 1851000000000000 0000000000000000 8500000001000000
+1500010000000000 7109000000000000 8520000002000000 bf90000000000000 9500000000000000";
+
+/// Keys and values of 8 bytes.
+const WORDS: MapShape = MapShape {
+    kind: MapKind::Hash,
+    key_len: 8,
+    value_len: 8,
+    entries: 4,
+    spare: 4,
+    reuse_limit: 100,
+};
+
+/// A table for 1,024 such keys, with twice as many ways.
+const TABLE: TableShape = TableShape {
+    readers: 2,
+    buckets: 256,
+    elements: 1024,
+    key_words: 1,
+    value_words: 1,
+    seed: 0x1234_5678_9abc_def0,
+};
+
+/// The program of these hexadecimal digits, verified against one map and a context of a word.
+fn verified(alloc: Global, text: &str) -> Result<Verified, Fail> {
+    let digits = text.replace(alloc, "\n", "")?;
+    let digits = digits.as_str().replace(alloc, " ", "")?;
+    let bytes = hex::decode(alloc, digits.as_str())?;
+    Ok(verify(alloc, decode(alloc, &bytes)?, &[WORDS], 8)?)
+}
+
+/// What a run of the program comes to on this key, if it is of the table's lengths.
+fn run(
+    table: &MapTable,
+    seat: &mut ReadSeat,
+    verified: &Verified,
+    key: u64,
+) -> Option<Result<u64, SubWord>>
+    requires ready { IsReady table.now seat.old }
+    ensures ready { IsReady table.now seat.new }
+{
+    let mut ctx = CtxBytes::new();
+    for byte in key.to_le_bytes() {
+        let _ = ctx.try_push(byte);
+    }
+    if !fits(table, verified) || ctx.len() != verified.ctx_len() {
+        return None;
+    }
+    Some(run_shared(table, seat, verified, &ctx))
+}
+
+/// Links the keys from 0 up to 999, each with ten times its number and 3 more, and tells how many.
+fn link_all(table: &MapTable, writer: &mut Writer) -> u64
+    requires table { writer.old.table ≡ table.now }
+    requires shape { table.now.shape ≡ TABLE }
+    ensures table { writer.new.table ≡ table.now }
+{
+    for key in 0..1000 {
+        if writer.link(table, &[key], &[10 * key + 3]).is_none() {
+            return key;
+        }
+    }
+    1000
+}
+
+/// How many keys below 1,000 runs found with ten times their number and so much more.
+fn count_runs(table: &MapTable, seat: &mut ReadSeat, program: &Verified, more: u64) -> u32
+    requires ready { IsReady table.now seat.old }
+    requires more { more < 10 }
+    ensures ready { IsReady table.now seat.new }
+{
+    let mut found = 0u32;
+    for key in 0..1000 {
+        if run(table, seat, program, key) == Some(Ok(10 * key + more)) {
+            found = found.saturating_add(1);
+        }
+    }
+    found
+}
+
+/// Replaces the value of a key that is linked: a run finds the new one and adds to it.
+fn replace_between<R: Abort>(
+    rt: &R,
+    table: &MapTable,
+    seat: &mut ReadSeat,
+    writer: &mut Writer,
+    count: &Verified,
+)
+    requires ready { IsReady table.now seat.old }
+    requires table { writer.old.table ≡ table.now }
+    requires shape { table.now.shape ≡ TABLE }
+{
+    let Some(way) = writer.find(table, &[5]) else {
+        return;
+    };
+    assert!(rt; writer.replace(table, way, &[5], &[7000]));
+    assert_eq!(rt; run(table, seat, count, 5), Some(Ok(7000)));
+    assert_eq!(rt; run(table, seat, count, 5), Some(Ok(7001)));
+    assert_eq!(rt; writer.reclaim(table), 1);
+    let Some(way) = writer.find(table, &[5]) else {
+        return;
+    };
+    writer.unlink(table, way);
+    assert_eq!(rt; run(table, seat, count, 5), Some(Ok(0)));
+}
+
+/// Runs find each key's own value, and store one that the next run finds, whichever seat it has. They find none where
+/// no key is linked, and a replaced value at once.
+#[test]
+fn runs_load_and_store_values(rt: HostRuntime) -> Result<(), Fail> {
+    let alloc = rt.alloc();
+    let (table, seats, mut writer) = MapTable::new(alloc, TABLE)?;
+    let mut list = seats.list;
+    let Some((first, second)) = two_seats(&table, list.as_mut_slice()) else {
+        return Err(Fail::from("not two seats"));
+    };
+    let count = verified(alloc, COUNT)?;
+    assert_eq!(rt; run(&table, first, &count, 5), Some(Ok(0)));
+    assert_eq!(rt; link_all(&table, &mut writer), 1000);
+    assert_eq!(rt; count_runs(&table, first, &count, 3), 1000);
+    assert_eq!(rt; count_runs(&table, second, &count, 4), 1000);
+    assert_eq!(rt; run(&table, first, &count, 1000), Some(Ok(0)));
+    replace_between(&rt, &table, second, &mut writer, &count);
+    let byte = verified(alloc, LOAD_BYTE)?;
+    assert_eq!(rt; run(&table, first, &byte, 7), Some(Err(SubWord)));
+    assert_eq!(rt; run(&table, first, &count, 7), Some(Ok(75)));
+    Ok(())
+}
