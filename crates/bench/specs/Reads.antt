@@ -2,8 +2,9 @@
 use Rattle.std.specs.Prelude.{◌≡◌, All}
 use Rattle.read_table.specs.declared.view.TableShape.{TableShape}
 use Rattle.verifier.specs.Checked.{Checked}
-use Rattle.read_table.specs.Words.{FitsTable}
 use Rattle.read_table.specs.Held.{IsReady, TableView}
+use Rattle.read_table.specs.Table.{table_of}
+use Rattle.shared_runs.specs.Words.{FitsTable}
 use Rattle.bench.specs.declared.reads.reader.Reader.{Reader}
 use Rattle.bench.specs.declared.reads.stage.Stage.{Stage}
 
@@ -13,7 +14,7 @@ HasWordLengths k = (k.key_words ≡ 1) × (k.value_words ≡ 1)
 
 -- The program's maps have the table's lengths, and its context is empty.
 abbrev pub IsProgramOf : TableShape → Checked → Type 0
-IsProgramOf k c = FitsTable k c.shapes × (c.ctx_len ≡ 0)
+IsProgramOf k c = FitsTable (table_of k) c.shapes × (c.ctx_len ≡ 0)
 
 -- the reader's seat is this table's, and outside a section
 abbrev pub IsReadyReader : TableView → Reader → Type 0

@@ -1,4 +1,3 @@
-pub mod Asked
 pub mod Calls
 mod Coming
 pub mod Finding
@@ -6,7 +5,6 @@ pub mod Going
 mod Holding
 mod Keeping
 pub mod Keeps
-pub mod Learning
 mod Linking
 pub mod Lists
 pub mod Lookups
@@ -14,8 +12,5 @@ mod Peeking
 pub mod Places
 pub mod Safe
 mod Seen
-mod Serving
 mod Slots
-pub mod Starting
-pub mod Steps
 pub mod Stretches

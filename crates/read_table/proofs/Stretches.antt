@@ -1,13 +1,15 @@
--- What a stretch of a seat's list leaves of what was known before it.
-use Rattle.std.proofs.Common.{◌≡◌, ℕ, ◌⊎◌, inl, inr, refl, List, [], ◌∷◌, ◌++◌, Bool, true, false}
-use Rattle.std.specs.Prelude.{◌==◌, if◌then◌else◌}
-use Rattle.std.proofs.lemmas.Bool.{eqb-true}
+-- What a stretch of a seat's list leaves of what was known before it: what every table of shared runs keeps.
+use Rattle.std.proofs.Common.{◌≡◌, ℕ, ◌≤◌, arith, inl, inr, refl, List, [], ◌∷◌, ◌++◌}
 use Rattle.read_table.specs.declared.view.Move.{Move}
 use Rattle.read_table.specs.declared.view.Move.TheVariants.{Close, Header, Learn, Load, Open, Scan, Store}
 use Rattle.read_table.specs.declared.view.TableShape.{TableShape}
 use Rattle.read_table.specs.History.{IsLearnt, Knows, inside}
+use Rattle.read_table.specs.Held.{IsSized}
 use Rattle.read_table.specs.Lookups.{OnlySearches}
-use Rattle.read_table.proofs.Learning.{also}
+use Rattle.read_table.specs.Table.{table_of}
+use Rattle.world_laws.specs.Around.{regions}
+use Rattle.shared_runs.specs.Tables.{IsTable}
+use Rattle.shared_runs.proofs.Serving.{IsSmall}
 
 -- a lookup forgets nothing
 knows-before : (k : TableShape) (slot header : ℕ) (ns ms : List Move) → OnlySearches k ns → Knows slot header ms → Knows slot header (ns ++ ms)
@@ -20,7 +22,7 @@ knows-before k slot header (Store t p w ∷ ns) ms s h = absurd s
 knows-before k slot header (Header t w ∷ ns) ms s h = absurd s
 knows-before k slot header (Scan r w ∷ ns) ms s h = absurd s
 
-pub learnt-before : (k : TableShape) (slot : ℕ) (ns ms : List Move) → OnlySearches k ns → IsLearnt slot ms → IsLearnt slot (ns ++ ms)
+learnt-before : (k : TableShape) (slot : ℕ) (ns ms : List Move) → OnlySearches k ns → IsLearnt slot ms → IsLearnt slot (ns ++ ms)
 learnt-before k slot ns ms s h = (h.0, knows-before k slot h.0 ns ms s h.1)
 
 -- what is known by a stretch is known by the whole
@@ -35,11 +37,11 @@ knows-in slot header (Store t p w ∷ ns) ms h = knows-in slot header ns ms h
 knows-in slot header (Header t w ∷ ns) ms h = knows-in slot header ns ms h
 knows-in slot header (Scan r w ∷ ns) ms h = knows-in slot header ns ms h
 
-pub learnt-in : (slot : ℕ) (ns ms : List Move) → IsLearnt slot ns → IsLearnt slot (ns ++ ms)
+learnt-in : (slot : ℕ) (ns ms : List Move) → IsLearnt slot ns → IsLearnt slot (ns ++ ms)
 learnt-in slot ns ms h = (h.0, knows-in slot h.0 ns ms h.1)
 
 -- a lookup stays in its section
-pub inside-same : (k : TableShape) (ns ms : List Move) → OnlySearches k ns → inside (ns ++ ms) ≡ inside ms
+inside-same : (k : TableShape) (ns ms : List Move) → OnlySearches k ns → inside (ns ++ ms) ≡ inside ms
 inside-same k [] ms s = refl
 inside-same k (Open ∷ ns) ms s = absurd s
 inside-same k (Close ∷ ns) ms s = absurd s
@@ -50,7 +52,7 @@ inside-same k (Header t w ∷ ns) ms s = absurd s
 inside-same k (Scan r w ∷ ns) ms s = absurd s
 
 -- a run's list begins outside every section
-pub inside-over : (ms before : List Move) → inside before ≡ 0 → inside (ms ++ before) ≡ inside ms
+inside-over : (ms before : List Move) → inside before ≡ 0 → inside (ms ++ before) ≡ inside ms
 inside-over [] before h = h
 inside-over (Open ∷ ms) before h = refl
 inside-over (Close ∷ ms) before h = refl
@@ -60,10 +62,25 @@ inside-over (Store t p w ∷ ms) before h = inside-over ms before h
 inside-over (Header t w ∷ ms) before h = inside-over ms before h
 inside-over (Scan r w ∷ ms) before h = inside-over ms before h
 
-also-split : (slot : ℕ) (learnt : ℕ → Bool) (r : ℕ) (b : Bool) → (r == slot) ≡ b → (if b then true else learnt r) ≡ true → (r ≡ slot) ⊎ (learnt r ≡ true)
-also-split slot learnt r true is h = inl (eqb-true r slot is)
-also-split slot learnt r false is h = inr h
+pub is_table : (k : TableShape) → IsTable (table_of k)
+is_table k = record {
+  outside = refl;
+  begun = λ ms. refl;
+  ended = λ ms. refl;
+  find_inside = λ slot place word ms. refl;
+  find_holds = λ slot place word other ms h. h;
+  write_inside = λ slot place word ms. refl;
+  write_holds = λ slot place word other ms h. h;
+  lookup_inside = λ key ns ms found l. inside-same k ns ms l.0;
+  lookup_holds = λ key ns ms found l other h. learnt-before k other ns ms l.0 h;
+  hit_within = λ key ns slot l. l.1.0;
+  hit_holds = λ key ns ms slot l. learnt-in slot ns ms l.1.1;
+  holds_over = λ slot ms before h. learnt-in slot ms before h;
+  inside_over = inside-over;
+}
 
--- what is learnt with one slot more is that slot, or was learnt before
-pub also-cases : (slot : ℕ) (learnt : ℕ → Bool) (r : ℕ) → also slot learnt r ≡ true → (r ≡ slot) ⊎ (learnt r ≡ true)
-also-cases slot learnt r h = also-split slot learnt r (r == slot) refl h
+few : (k : TableShape) → IsSized k → k.slots ≤ regions
+few k sized = let slots = sized.slots in omega (arith, slots)
+
+pub small : (k : TableShape) → IsSized k → IsSmall (table_of k)
+small k sized = let value = sized.value in record { few = few k sized; short = omega (arith, value) }

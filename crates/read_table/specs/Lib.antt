@@ -2,14 +2,10 @@ pub mod Found
 pub mod Held
 pub mod History
 pub mod Law
-pub mod Learnt
 pub mod Limits
 pub mod Lookups
 pub mod Running
 pub mod Search
-pub mod Serving
-pub mod SharedRuns
-pub mod Sharing
 pub mod Sightings
 pub mod Slots
-pub mod Words
+pub mod Table

@@ -1,20 +1,17 @@
 -- What a run over the table leaves, and what is so between its steps.
 use Rattle.std.specs.Prelude.{◌≡◌, ℕ, ◌≤◌, List, ◌∷◌, ◌++◌, length}
-use Rattle.bpf_model.specs.View.{RunView}
 use Rattle.verifier.specs.Checked.{Checked}
-use Rattle.machine.specs.declared.request.Request.{Request}
-use Rattle.machine.specs.RunWords.{IsAt, RunWords}
-use Rattle.machine.specs.Standing.{MayGive}
+use Rattle.machine.specs.RunWords.{RunWords}
+use Rattle.shared_runs.specs.SharedRuns.{IsSharedRun}
+use Rattle.shared_runs.specs.Sharing.{HasCome}
+use Rattle.shared_runs.specs.Words.{loaded_of}
 use Rattle.read_table.specs.declared.view.Move.{Move}
 use Rattle.read_table.specs.declared.view.Move.TheVariants.{Load, Store}
 use Rattle.read_table.specs.declared.view.TableShape.{TableShape}
 use Rattle.read_table.specs.declared.view.View.{View}
 use Rattle.read_table.specs.History.{Knows, generation, header_in, moves_of}
-use Rattle.read_table.specs.Serving.{CanAnswer, GoesOnWith}
-use Rattle.read_table.specs.Sharing.{IsSharing}
-use Rattle.read_table.specs.SharedRuns.{IsSharedRun}
-use Rattle.read_table.specs.Words.{loaded_of}
 use Rattle.read_table.specs.Held.{Goes, Holder}
+use Rattle.read_table.specs.Table.{table_of}
 
 -- The seat's list gained the moves of a shared run of the program on the context, which exits with the value, within as
 -- many steps as the program has instructions.
@@ -23,7 +20,7 @@ pub record RunsShared (k : TableShape) (c : Checked) (context : List ℕ) (old n
   pub moves : List Move
   pub steps : ℕ
   pub list : Goes old moves new
-  pub exit : IsSharedRun k c.shapes (loaded_of c) context moves steps value
+  pub exit : IsSharedRun (table_of k) c.shapes (loaded_of c) context moves steps value
   pub bounded : steps ≤ length c.program
 
 -- By this history the holder knows the slot, which still has the generation with which it was learnt.
@@ -43,26 +40,9 @@ abbrev pub HasHeld : View → Type 0
 HasHeld v = (after before : List (ℕ × Move)) (m : Move) (slot : ℕ) →
     v.seen ≡ after ++ (v.me, m) ∷ before → Touches slot m → HoldsSlot v.me slot before
 
--- The seat's list ends with the moves of a shared run that can be served what it asks.
-pub record IsServable (k : TableShape) (mine : List Move) (v : RunView) (request : Request) : Type 0
-  where
-    pub checked : Checked
-    pub context : List ℕ
-    pub moves : List Move
-    pub before : List Move
-    pub list : mine ≡ moves ++ before
-    pub can : CanAnswer k checked context moves v request
-
--- What was done serves it: with this word each such run goes on.
-abbrev pub Serves : TableShape → RunView → Request → List Move → ℕ → Type 0
-Serves k v request ns word = (c : Checked) (context : List ℕ) (ms : List Move) →
-    CanAnswer k c context ms v request →
-    GoesOnWith k c context (ns ++ ms) v word × MayGive c v request word
-
 -- Since this start the seat has done what a shared run of these words asked, and no more.
 pub record HasComeTo (k : TableShape) (c : Checked) (context : List ℕ) (start now : Holder)
     (r : RunWords) : Type 0 where
   pub moves : List Move
   pub goes : Goes start moves now
-  pub at : IsAt c.program r
-  pub sharing : IsSharing k c context moves r.view
+  pub come : HasCome (table_of k) c context moves r

@@ -14,7 +14,6 @@ mod running;
 mod seats;
 mod setup;
 mod sightings;
-mod sub_words;
 mod table;
 mod view;
 mod words;
@@ -31,9 +30,8 @@ pub use run_laws::{
     moves_below_length, shared_lookups_find_keys, shared_run_asks, shared_run_exits,
     shared_run_goes_on, shared_run_moves, shared_run_stands, shared_run_starts,
 };
-pub use running::SubWord;
 pub use seats::Seats;
-pub use sub_words::uses_sub_words;
+pub use shared_runs::{SubWord, uses_sub_words};
 pub use table::{ReadSeat, ReadTable};
 pub use view::{Move, TableShape, View};
 pub use writer::Writer;

@@ -1,88 +1,35 @@
 //! Runs of verified programs over the table.
-ghost use Rattle.std.specs.Prelude.{◌≡◌, ℕ, ◌*◌, ◌^◌, ◌<◌, ◌↔◌, ◌++◌, pos, ◌+ℤ◌, ◌+◌, List, Option, Decides, IfOk, IfSome, IsErr, OnErr, length};
+ghost use Rattle.std.specs.Prelude.{◌≡◌, ℕ, ◌*◌, ◌<◌, ◌↔◌, List, Option, Decides, IfOk, IsErr, OnErr, length};
 ghost use Rattle.bpf_model.specs.declared.limits.TheConstants.{FRAME_BYTES};
-ghost use Rattle.bpf_model.specs.Word.{most_map_slots, slot_base};
 ghost use Rattle.world_laws.specs.Calling.{bytes_in, found_word};
 ghost use Rattle.world_laws.specs.Moving.{word_in};
 ghost use Rattle.world_laws.specs.Reaching.{IsInFrame};
 ghost use Rattle.read_table.specs.declared.view.Move.{Move};
 ghost use Rattle.read_table.specs.History.{inside};
 ghost use Rattle.read_table.specs.Lookups.{AnswersLookup, IsBrief, OnlySearches};
-ghost use Rattle.read_table.specs.SharedRuns.{closing, opening};
-ghost use Rattle.read_table.specs.Sharing.{flag_of};
-ghost use Rattle.read_table.specs.Words.{FitsTable, UsesSubWords};
 ghost use Rattle.read_table.specs.Found.{HasFound};
 ghost use Rattle.read_table.specs.Held.{Goes, IsKnown, IsReady};
-ghost use Rattle.read_table.specs.Running.{HasHeld, IsServable, RunsShared, Serves};
+ghost use Rattle.read_table.specs.Running.{HasHeld, RunsShared};
+ghost use Rattle.read_table.specs.Table.{table_of};
+ghost use Rattle.shared_runs.specs.Serving.{IsServable, Serves};
+ghost use Rattle.shared_runs.specs.SharedRuns.{closing, opening};
+ghost use Rattle.shared_runs.specs.Sharing.{flag_of};
+ghost use Rattle.shared_runs.specs.Words.{FitsTable, UsesSubWords};
 
 use crate::limits::WORD_BYTES;
 use crate::table::{ReadSeat, ReadTable};
-use crate::uses_sub_words;
-use bpf_model::{CtxBytes, Helper, MapKind, Reg, are_bytes};
-use machine::{Local, Request, Run, SLOT_BASE, SPAN};
-use thiserror::Error;
+use bpf_model::{CtxBytes, Helper, Reg, are_bytes};
+use machine::{Local, Request, Run};
+use shared_runs::{SubWord, has_lengths, uses_sub_words, value_word, word_of_element};
 use verifier::Verified;
-
-/// Why a table runs no step of a program: it accesses an element by another width than 8 bytes, or calls a helper that
-/// changes a map.
-#[derive(Clone, Copy, Debug, PartialEq, Eq, Error)]
-#[error("the program accesses elements by less than a word, or changes a map")]
-pub struct SubWord;
-
-impl SubWord {
-    /// The number by which it is known: 80.
-    pub fn code(self) -> u8
-        ensures { result ≡ 80 }
-    {
-        80
-    }
-}
-
-/// A word of a value: its slot, and its place in the value.
-#[derive(Clone, Copy)]
-struct ValueWord {
-    slot: usize,
-    place: usize,
-}
-
-/// The word of a value to which an offset from an address leads.
-#[inline]
-fn value_word(address: u64, offset: i16) -> ValueWord
-    ensures { (slot place : ℕ) → slot < most_map_slots → place < 2 ^ 20 →
-        pos address +ℤ offset ≡ pos (slot_base 0 slot + 8 * place) →
-        (result.slot ≡ slot) × (result.place ≡ place) }
-{
-    let reached = address.wrapping_add(i64::from(offset).cast_unsigned());
-    let from_slots = reached.wrapping_sub(SLOT_BASE);
-    ValueWord {
-        slot: (from_slots / SPAN) as usize,
-        place: (from_slots % SPAN / WORD_BYTES as u64) as usize,
-    }
-}
-
-/// The word for a slot that a lookup found, or 0.
-#[inline]
-fn word_of_slot(found: Option<usize>) -> u64
-    requires { IfSome found (λ slot. slot < most_map_slots) }
-    ensures { result ≡ found_word 0 found }
-{
-    match found {
-        None => 0,
-        Some(slot) => SLOT_BASE + slot as u64 * SPAN,
-    }
-}
 
 impl ReadTable {
     /// Whether each map that the program was verified for is a hash map with the table's lengths.
     pub fn fits(&self, verified: &Verified) -> bool
-        ensures { Decides result (FitsTable self.now.shape verified.now.shapes) }
+        ensures { Decides result (FitsTable (table_of self.now.shape) verified.now.shapes) }
     {
         let shape = self.shape();
-        verified.shapes().iter().all(|map| {
-            map.key_len == WORD_BYTES * shape.key_words
-                && map.value_len == WORD_BYTES * shape.value_words
-                && map.kind == MapKind::Hash
-        })
+        has_lengths(verified, shape.key_words, shape.value_words)
     }
 
     /// A lookup of the key in the frame, which is compared where it lies.
@@ -99,7 +46,7 @@ impl ReadTable {
             ns found × IsBrief self.now.shape ns × (result ≡ found_word 0 found) }
     {
         let key = run.bytes_argument(Reg::R2, WORD_BYTES * self.shape().key_words);
-        word_of_slot(self.lookup(seat, key))
+        word_of_element(self.lookup(seat, key))
     }
 
     /// A lock of a run: the outermost opens the seat's section.
@@ -108,7 +55,7 @@ impl ReadTable {
         requires table { seat.old.table ≡ self.now }
         requires known { IsKnown seat.old.view }
         requires section { inside seat.old.view.mine ≡ flag_of run.now.view.depth }
-        ensures { Goes seat.old (opening run.now.view.depth) seat.new }
+        ensures { Goes seat.old (opening (table_of self.now.shape) run.now.view.depth) seat.new }
     {
         if run.depth() == 0 {
             self.open(seat);
@@ -122,7 +69,7 @@ impl ReadTable {
         requires known { IsKnown seat.old.view }
         requires section { inside seat.old.view.mine ≡ flag_of run.now.view.depth }
         requires inside { 0 < run.now.view.depth }
-        ensures { Goes seat.old (closing run.now.view.depth) seat.new }
+        ensures { Goes seat.old (closing (table_of self.now.shape) run.now.view.depth) seat.new }
     {
         if run.depth() == 1 {
             self.close(seat);
@@ -135,9 +82,9 @@ impl ReadTable {
         requires table { seat.old.table ≡ self.now }
         requires known { IsKnown seat.old.view }
         requires section { inside seat.old.view.mine ≡ flag_of run.now.view.depth }
-        requires can { IsServable self.now.shape seat.old.view.mine run.now.view request }
+        requires can { IsServable (table_of self.now.shape) seat.old.view.mine run.now.view request }
         ensures { (ns : List Move) × Goes seat.old ns seat.new
-            × Serves self.now.shape run.now.view request ns result }
+            × Serves (table_of self.now.shape) run.now.view request ns result }
     {
         let shape = self.shape();
         match request {
@@ -147,7 +94,7 @@ impl ReadTable {
                 ..
             } => {
                 let word = value_word(address, offset);
-                self.load(seat, word.slot, shape.key_words + word.place)
+                self.load(seat, word.element, shape.key_words + word.place)
             }
             Request::Store {
                 address,
@@ -156,7 +103,7 @@ impl ReadTable {
                 ..
             } => {
                 let word = value_word(address, offset);
-                self.store(seat, word.slot, shape.key_words + word.place, number);
+                self.store(seat, word.element, shape.key_words + word.place, number);
                 0
             }
             Request::Call {
@@ -187,7 +134,7 @@ impl ReadTable {
     ) -> Result<u64, SubWord>
         requires ready { IsReady self.now seat.old }
         requires context { length ctx.now.items ≡ verified.now.ctx_len }
-        requires maps { FitsTable self.now.shape verified.now.shapes }
+        requires maps { FitsTable (table_of self.now.shape) verified.now.shapes }
 
         // No step is made of a program that words don't serve, and only of such.
         ensures refused { IsErr result ↔ UsesSubWords verified.now }
@@ -220,7 +167,7 @@ impl ReadTable {
     pub fn run_to_exit(&self, seat: &mut ReadSeat, verified: &Verified, ctx: &CtxBytes) -> u64
         requires ready { IsReady self.now seat.old }
         requires context { length ctx.now.items ≡ verified.now.ctx_len }
-        requires maps { FitsTable self.now.shape verified.now.shapes }
+        requires maps { FitsTable (table_of self.now.shape) verified.now.shapes }
         requires words { UsesSubWords verified.now → ⊥ }
         ensures runs { RunsShared self.now.shape verified.now ctx.now.items seat.old seat.new
             result }

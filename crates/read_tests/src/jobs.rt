@@ -1,6 +1,7 @@
 //! Jobs that the seats of a table serve.
 ghost use Rattle.std.specs.Prelude.{◌≤◌, IfOk};
-ghost use Rattle.read_table.specs.Words.{FitsTable};
+ghost use Rattle.read_table.specs.Table.{table_of};
+ghost use Rattle.shared_runs.specs.Words.{FitsTable};
 ghost use Rattle.worker_pool.specs.Readings.{AllFit};
 
 use crate::making::{LOAD_BYTE, LOOKUP_AND_LOAD, verified};
@@ -16,7 +17,7 @@ use worker_pool::{Job, JobReport, MAX_JOBS, Outcome, PoolFault, Report, StopCaus
 /// A program of the table's lengths, verified for a context of so many bytes.
 fn fitting(alloc: Global, table: &ReadTable, text: &str, ctx_len: usize) -> Result<Verified, Fail>
     requires { ctx_len ≤ 1 }
-    ensures { IfOk result (λ v. FitsTable table.now.shape v.shapes) }
+    ensures { IfOk result (λ v. FitsTable (table_of table.now.shape) v.shapes) }
 {
     let program = verified(alloc, text, ctx_len)?;
     if !table.fits(&program) {

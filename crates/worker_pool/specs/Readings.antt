@@ -5,9 +5,10 @@ use Rattle.bpf_model.specs.declared.event.EventRefusal.TheVariants.{BadContext, 
 use Rattle.verifier.specs.Checked.{Checked}
 use Rattle.read_table.specs.declared.view.Move.{Move}
 use Rattle.read_table.specs.declared.view.TableShape.{TableShape}
-use Rattle.read_table.specs.SharedRuns.{IsSharedRun}
-use Rattle.read_table.specs.Words.{FitsTable, UsesSubWords, loaded_of}
 use Rattle.read_table.specs.Held.{Holder}
+use Rattle.read_table.specs.Table.{table_of}
+use Rattle.shared_runs.specs.SharedRuns.{IsSharedRun}
+use Rattle.shared_runs.specs.Words.{FitsTable, UsesSubWords, loaded_of}
 use Rattle.worker_pool.specs.declared.job.Job.{Job}
 use Rattle.worker_pool.specs.declared.job.JobReport.{JobReport}
 use Rattle.worker_pool.specs.declared.job.Outcome.{Outcome}
@@ -16,7 +17,7 @@ use Rattle.worker_pool.specs.declared.job.StopCause.TheVariants.{Refused, SubWor
 
 -- each program fits the table
 abbrev pub AllFit : TableShape → List Checked → Type 0
-AllFit k programs = All (λ c. FitsTable k c.shapes) programs
+AllFit k programs = All (λ c. FitsTable (table_of k) c.shapes) programs
 
 -- The second is the same seat, whose list has only grown.
 pub record HasGained (first last : Holder) : Type 0 where
@@ -34,7 +35,7 @@ pub record RanWithin (k : TableShape) (c : Checked) (context : List ℕ) (first 
   pub after : List Move
   pub steps : ℕ
   pub stretch : last.view.mine ≡ after ++ (moves ++ (before ++ first.view.mine))
-  pub exit : IsSharedRun k c.shapes (loaded_of c) context moves steps value
+  pub exit : IsSharedRun (table_of k) c.shapes (loaded_of c) context moves steps value
   pub bounded : steps ≤ length c.program
 
 -- What came of a job of this program, if there is one: without a program, with a context of another length and of a

@@ -16,4 +16,4 @@ null-only map (Some slot) reply is zero =
 
 pub returns : goal.returns
 returns c = λ k es lawful depth map slot who key done before ms reply r stays zero.
-    never-null k es lawful key slot who before ms (subst (AnswersLookup k key ms) (null-only map r.0 reply r.4 zero) r.2) stays
+    never-null k es lawful key slot who before ms (subst (AnswersLookup k key ms) (null-only map r.0 reply r.2 zero) r.1.1) stays

@@ -3,8 +3,8 @@ use Rattle.std.specs.Prelude.{Option, slice_get}
 use Rattle.std.proofs.lemmas.Bool.{false≢true}
 use Rattle.std.proofs.lemmas.Option.{slice_get_read}
 use Rattle.verifier.specs.Checked.{Checked}
-use Rattle.read_table.specs.Words.{UsesSubWords}
 use Rattle.read_table.proofs.Going.{went_mine}
+use Rattle.shared_runs.specs.Words.{UsesSubWords}
 use Rattle.worker_pool.specs.declared.job.Outcome.TheVariants.{Exit}
 use Rattle.worker_pool.specs.Readings.{IsReadOutcome}
 use Rattle.worker_pool.proofs.reading.ReadingServe.serve.Goals as goal

@@ -1,8 +1,0 @@
-use Rattle.std.proofs.Common.{ℕ, ◌≡◌, ◌<◌, ◌⊎◌, Some}
-use Rattle.std.specs.Prelude.{slice_get}
-use Rattle.bpf_model.specs.declared.insn.Insn.{Insn}
-use Rattle.read_table.specs.Words.{ChangesMap, IsSubWordAccess}
-use Rattle.read_table.proofs.sub_words.uses_sub_words.Given as goal
-
-abbrev pub invariant-loop-index : goal.invariant-loop-index
-invariant-loop-index l = (k : ℕ) (i : Insn) → k < l.index → slice_get l.verified.program k ≡ Some i → IsSubWordAccess l.verified k i ⊎ ChangesMap i → ⊥
