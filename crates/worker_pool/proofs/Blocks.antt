@@ -3,22 +3,20 @@ use Rattle.std.proofs.Common.{◌≡◌, ℕ, ◌+◌, ◌≤◌, List, ◌∷�
 use Rattle.std.specs.Prelude.{Option}
 use Rattle.std.specs.Io.KnownBytes.{Appends}
 use Rattle.std.proofs.KnownBytes.{Appends-trans}
-use Rattle.std.proofs.lemmas.List.{length-map, length-take-le}
-use Rattle.std.proofs.lemmas.List.Elements.{All-append, All-map, All-take}
+use Rattle.std.proofs.lemmas.List.{length-take-le}
+use Rattle.std.proofs.lemmas.List.Elements.{All-append, All-take}
 use Rattle.bpf_model.specs.declared.insn.Insn.{Insn}
 use Rattle.job_queue.specs.Serving.{AreServed}
 use Rattle.shared.specs.Books.{WorkerView}
 use Rattle.verifier.specs.Checked.{Checked}
 use Rattle.worker_pool.specs.declared.job.Job.{Job}
-use Rattle.worker_pool.specs.declared.job.JobReport.{JobReport}
 use Rattle.worker_pool.specs.declared.job.Outcome.{Outcome}
-use Rattle.worker_pool.specs.declared.job.Trail.{Trail}
-use Rattle.worker_pool.specs.Lines.{job_lines, outcome_of}
+use Rattle.worker_pool.specs.Lines.{job_lines}
 use Rattle.worker_pool.specs.Outcomes.{AreRunsOf, IsOutcomeOf, IsZeroJob}
 use Rattle.worker_pool.specs.Runs.{WritesJobs}
-use Rattle.worker_pool.specs.Trails.{IsServedJob}
+use Rattle.worker_pool.specs.Trails.{IsToldJob}
 use Rattle.worker_pool.proofs.JobLines.{job_lines-append}
-use Rattle.worker_pool.proofs.Outcomes.{reports_of}
+use Rattle.worker_pool.proofs.Outcomes.{outcomes_of}
 
 pub runs_of : (program : List Insn) (n len : ℕ) (programs : List Checked) (jobs lent : List Job) →
     map (λ p. p.program) programs ≡ program ∷ [] → n ≡ len → lent ≡ jobs → All (IsZeroJob n) jobs →
@@ -41,15 +39,14 @@ more_written program len first old mid new outcomes w each wrote =
       written = subst (Appends old new) (sym lines) (Appends-trans old mid new (job_lines 0 w.outcomes) (job_lines first outcomes) w.written wrote);
     }
 
--- some of the jobs are served, and the lines of their reports are written
+-- some of the jobs are served, and the lines of their outcomes are written
 pub block_written : (programs : List Checked) (program : List Insn) (len first some : ℕ) (jobs : List Job)
-    (before after : List WorkerView) (reports : List (JobReport Trail)) (old mid new : Option (List ℕ)) →
-    AreRunsOf program len programs jobs → some ≤ length jobs → length reports ≡ length (take some jobs) →
-    AreServed (IsServedJob programs) (take some jobs) before after reports → WritesJobs program len first old mid →
-    Appends mid new (job_lines first (map outcome_of reports)) → WritesJobs program len (first + some) old new
-block_written programs program len first some jobs before after reports old mid new runs inside count served w wrote =
+    (before after : List WorkerView) (outcomes : List Outcome) (old mid new : Option (List ℕ)) →
+    AreRunsOf program len programs jobs → some ≤ length jobs → length outcomes ≡ length (take some jobs) →
+    AreServed (IsToldJob programs) (take some jobs) before after outcomes → WritesJobs program len first old mid →
+    Appends mid new (job_lines first outcomes) → WritesJobs program len (first + some) old new
+block_written programs program len first some jobs before after outcomes old mid new runs inside count served w wrote =
     let zeros : All (IsZeroJob len) (take some jobs) = All-take (IsZeroJob len) some jobs runs.zeros in
-    let each = All-map (IsOutcomeOf program len) outcome_of reports
-    (reports_of programs program runs.only len (take some jobs) before after reports count zeros served) in
-    let total : first + length (map outcome_of reports) ≡ first + some = omega (arith, length-map reports outcome_of, count, length-take-le some jobs inside) in
-    subst (λ (n : ℕ). WritesJobs program len n old new) total (more_written program len first old mid new (map outcome_of reports) w each wrote)
+    let each = outcomes_of programs program runs.only len (take some jobs) before after outcomes count zeros served in
+    let total : first + length outcomes ≡ first + some = omega (arith, count, length-take-le some jobs inside) in
+    subst (λ (n : ℕ). WritesJobs program len n old new) total (more_written program len first old mid new outcomes w each wrote)

@@ -13,15 +13,14 @@ use Rattle.shared.specs.Books.{WorkerView}
 use Rattle.shared.specs.Receipts.{IsPossibleExit, IsOwnExit}
 use Rattle.verifier.specs.Checked.{Checked}
 use Rattle.worker_pool.specs.declared.job.Job.{Job}
-use Rattle.worker_pool.specs.declared.job.JobReport.{JobReport}
 use Rattle.worker_pool.specs.declared.job.StopCause.{StopCause}
 use Rattle.worker_pool.specs.declared.job.StopCause.TheVariants.{OtherRun}
 use Rattle.worker_pool.specs.declared.job.Outcome.{Outcome}
 use Rattle.worker_pool.specs.declared.job.Outcome.TheVariants.{Exit, Stopped}
 use Rattle.worker_pool.specs.declared.job.Trail.{Trail}
 use Rattle.worker_pool.specs.declared.job.Trail.TheVariants as trails
-use Rattle.worker_pool.specs.Trails.{FitsJob, TellsExit, IsServedJob}
-use Rattle.worker_pool.specs.Outcomes.{IsZeroJob, IsZeroExit, IsOutcomeOf, IsReportOf}
+use Rattle.worker_pool.specs.Trails.{FitsJob, TellsExit, IsToldJob}
+use Rattle.worker_pool.specs.Outcomes.{IsZeroJob, IsZeroExit, IsOutcomeOf}
 
 abbrev pub code_of : Checked → List Insn
 code_of p = p.program
@@ -83,19 +82,19 @@ module _ (programs : List Checked) (code : List Insn) (only : map code_of progra
     fits = h;
   }
 
-  report_of : (len : ℕ) (jobs : List Job) (before after : List WorkerView) (reports : List (JobReport Trail)) (k : ℕ)
-      (report : JobReport Trail) → All (IsZeroJob len) jobs →
-      AreServed (IsServedJob programs) jobs before after reports → slice_get reports k ≡ Some report →
+  outcome_at : (len : ℕ) (jobs : List Job) (before after : List WorkerView) (outcomes : List Outcome) (k : ℕ)
+      (outcome : Outcome) → All (IsZeroJob len) jobs →
+      AreServed (IsToldJob programs) jobs before after outcomes → slice_get outcomes k ≡ Some outcome →
       ((job : Job) × (k < length jobs) × (slice_get jobs k ≡ Some job) × (get_or jobs k job ≡ job))
-      ⊎ ((length jobs ≤ k) × (slice_get jobs k ≡ None)) → k < length jobs → IsReportOf code len report
-  report_of len jobs before after reports k report zeros served at (inl (job, inside, found, read)) below =
-      let one = served k job report found at in
-      fits_outcome len job report.outcome report.trail (subst (IsZeroJob len) read (zeros k job inside)) one.right.fits
-  report_of len jobs before after reports k report zeros served at (inr (past, none)) below = absurd (omega arith)
+      ⊎ ((length jobs ≤ k) × (slice_get jobs k ≡ None)) → k < length jobs → IsOutcomeOf code len outcome
+  outcome_at len jobs before after outcomes k outcome zeros served at (inl (job, inside, found, read)) below =
+      let told = (served k job outcome found at).right in
+      fits_outcome len job outcome told.trail (subst (IsZeroJob len) read (zeros k job inside)) told.right.fits
+  outcome_at len jobs before after outcomes k outcome zeros served at (inr (past, none)) below = absurd (omega arith)
 
-  pub reports_of : (len : ℕ) (jobs : List Job) (before after : List WorkerView) (reports : List (JobReport Trail)) →
-      length reports ≡ length jobs → All (IsZeroJob len) jobs →
-      AreServed (IsServedJob programs) jobs before after reports → All (IsReportOf code len) reports
-  reports_of len jobs before after reports count zeros served k d inside =
-      report_of len jobs before after reports k (get_or reports k d) zeros served
-      (slice_get-get_or reports k d inside) (slice_get_cases jobs k).1 (omega (arith, count, inside))
+  pub outcomes_of : (len : ℕ) (jobs : List Job) (before after : List WorkerView) (outcomes : List Outcome) →
+      length outcomes ≡ length jobs → All (IsZeroJob len) jobs →
+      AreServed (IsToldJob programs) jobs before after outcomes → All (IsOutcomeOf code len) outcomes
+  outcomes_of len jobs before after outcomes count zeros served k d inside =
+      outcome_at len jobs before after outcomes k (get_or outcomes k d) zeros served
+      (slice_get-get_or outcomes k d inside) (slice_get_cases jobs k).1 (omega (arith, count, inside))

@@ -1,14 +1,9 @@
 -- What is written of jobs.
 use Rattle.std.specs.Prelude.{ℕ, ◌+◌, List, [], ◌∷◌, ◌++◌, codes}
 use Rattle.std.specs.Fmt.{decimal}
-use Rattle.worker_pool.specs.declared.job.JobReport.{JobReport}
 use Rattle.worker_pool.specs.declared.job.Outcome.{Outcome}
 use Rattle.worker_pool.specs.declared.job.Outcome.TheVariants.{Exit, Stopped}
-use Rattle.worker_pool.specs.declared.job.Trail.{Trail}
 use Rattle.worker_pool.specs.Numbers.{stop_cause_number}
-
-abbrev pub outcome_of : JobReport Trail → Outcome
-outcome_of report = report.outcome
 
 -- what is written of one job
 abbrev pub job_line : ℕ → Outcome → List ℕ

@@ -9,7 +9,6 @@ use Rattle.job_queue.specs.declared.fault.PoolFault.TheVariants.{Lost}
 use Rattle.job_queue.specs.Serving.{most_jobs, most_workers}
 use Rattle.verifier.specs.Checked.{Checked}
 use Rattle.worker_pool.specs.declared.job.Job.{Job}
-use Rattle.worker_pool.specs.declared.job.JobReport.{JobReport}
 use Rattle.worker_pool.specs.declared.job.Outcome.{Outcome}
 use Rattle.worker_pool.specs.declared.job.Outcome.TheVariants.{Exit, Stopped}
 use Rattle.worker_pool.specs.declared.job.Trail.{Trail}
@@ -53,6 +52,3 @@ abbrev pub IsOutcomeOf : List Insn → ℕ → Outcome → Type 0
 IsOutcomeOf program context_len (Exit n) = IsZeroExit program context_len n
 IsOutcomeOf program context_len (Stopped run cause) =
     HasTrail program context_len (Stopped run cause)
-
-abbrev pub IsReportOf : List Insn → ℕ → JobReport Trail → Type 0
-IsReportOf program context_len report = IsOutcomeOf program context_len report.outcome

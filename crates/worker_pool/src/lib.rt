@@ -13,6 +13,7 @@ mod pooled;
 mod reading;
 mod repeated;
 mod reply;
+mod told;
 mod zero_jobs;
 
 pub use fault::RunFault;

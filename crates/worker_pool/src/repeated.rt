@@ -10,7 +10,7 @@ ghost use Rattle.worker_pool.specs.Runs.{IsLate, IsRunFaultOf, WritesJobs, Write
 use crate::fault::RunFault;
 use crate::job::Job;
 use crate::lines::make_lines;
-use crate::pool::run_jobs;
+use crate::pool::run_for_outcomes;
 use crate::zero_jobs::jobs_of;
 use job_queue::{MAX_JOBS, MAX_WORKERS, PoolFault};
 use shared::{ProgramWithMaps, Shared, Workers};
@@ -51,8 +51,8 @@ fn serve_blocks<L: Ledger + Send + Sync, R: Threads + Wait + Sync, W: Write>(
     let mut first = 0;
     while first < count {
         let some = jobs.len().min(count - first);
-        let report = run_jobs(rt, alloc, &jobs[..some], threads, shared, workers)?;
-        make_lines(&mut text, first, &report.jobs)?;
+        let outcomes = run_for_outcomes(rt, alloc, &jobs[..some], threads, shared, workers)?;
+        make_lines(&mut text, first, &outcomes)?;
         out.write_all(&text)?;
         out.flush()?;
         first += some;

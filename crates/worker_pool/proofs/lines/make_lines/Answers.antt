@@ -5,11 +5,11 @@ use Rattle.worker_pool.proofs.lines.make_lines.Goals as goal
 
 pub loop-index-preserved : goal.loop-index-preserved
 loop-index-preserved c =
-    let reports = c.args.jobs.now in
+    let outcomes = c.args.outcomes.now in
     let n = c.loop-index.index in
-    let report = c.index-jobs-index.result in
+    let outcome = c.index-outcomes-index.result in
     let number = c.args.first + n in
-    let inside : n < length reports = omega arith in
-    let at : get_or reports n report ≡ report = sym c.index-jobs-index.is in
-    let wrote : c.write_job.new.out.items ≡ c.loop-index.text.items ++ job_line number report.outcome = c.in-Ok.ensures in
-    wrote ∙ (ap (λ (l : List ℕ). l ++ job_line number report.outcome) c.loop-index.invariant ∙ next_line c.args.first reports n report inside at)
+    let inside : n < length outcomes = omega arith in
+    let at : get_or outcomes n outcome ≡ outcome = sym c.index-outcomes-index.is in
+    let wrote : c.write_job.new.out.items ≡ c.loop-index.text.items ++ job_line number outcome = c.in-Ok.ensures in
+    wrote ∙ (ap (λ (l : List ℕ). l ++ job_line number outcome) c.loop-index.invariant ∙ next_line c.args.first outcomes n outcome inside at)
