@@ -1,7 +1,7 @@
 -- What was right of a job stays so, from an earlier beginning to a later end. These are lemmas: they stand
 -- here since ghost members of an `impl` may name only what stands in `specs/`; no reader of a clause needs
 -- them.
-use Rattle.std.specs.Prelude.{◌≡◌, ◌≤◌, ℕ, List, [], ◌++◌, Option, Some, None, slice_get}
+use Rattle.std.specs.Prelude.{ℕ, List, [], ◌++◌, Option, Some, None, slice_get}
 use Rattle.std.proofs.Common.{refl, sym, ap, ◌∙◌, append_assoc, inl, inr}
 use Rattle.verifier.specs.Checked.{Checked}
 use Rattle.read_table.specs.declared.view.TableShape.{TableShape}

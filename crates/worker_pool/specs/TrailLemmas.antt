@@ -1,7 +1,7 @@
 -- What was right of a job stays so, from an earlier beginning to a later end. These are lemmas: they stand
 -- here since ghost members of an `impl` may name only what stands in `specs/`; no reader of a clause needs
 -- them.
-use Rattle.std.specs.Prelude.{◌≡◌, ◌≤◌, ℕ, List}
+use Rattle.std.specs.Prelude.{List}
 use Rattle.std.proofs.Common.{refl, ◌∙◌, le_trans}
 use Rattle.std.proofs.Math.Nat.{le_refl}
 use Rattle.shared.specs.Books.{WorkerView}

@@ -2,6 +2,7 @@ use Rattle.std.proofs.Common.{rules, ◌≡◌, ◌≤◌, List, length, take, a
 use Rattle.std.specs.Io.KnownBytes.{Appends}
 use Rattle.std.proofs.KnownBytes.{Appends-kept}
 use Rattle.std.proofs.lemmas.List.Elements.{length_all_zip}
+use Rattle.std.proofs.lemmas.Result.{err_from_is_err_and}
 use Rattle.worker_pool.specs.declared.job.Outcome.{Outcome}
 use Rattle.worker_pool.specs.Lines.{job_lines}
 use Rattle.worker_pool.specs.Trails.{IsLater}
@@ -28,3 +29,9 @@ loop-first-preserved g c =
           c.loop-first.workers c.run_for_outcomes.new.workers outcomes _ _ _ runs
           inside count c.in_ok-outcomes.ensures.each (at.written program ctx_len runs) wrote;
     }
+
+pub returns-in_err-make_lines-clause-part : goal.returns-in_err-make_lines-clause-part
+returns-in_err-make_lines-clause-part g c = λ program ctx_len runs.
+    let at = c.loop-first.invariant in
+    let p = err_from_is_err_and c.from_residual-in_err-make_lines.result c.from_residual-in_err-make_lines.ensures.1 in
+    rw (p.1, p.2) (c.loop-first.first, at.within, at.written program ctx_len runs)
