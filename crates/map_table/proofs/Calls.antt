@@ -16,14 +16,17 @@ use Rattle.map_table.specs.Law.{ways_from, ways_of, count_of, width_of, Kept, Ga
 use Rattle.map_table.specs.Held.{Holder, Does, IsKnown}
 use Rattle.map_table.proofs.Places.{IsAt}
 use Rattle.map_table.proofs.Lists.{stored_here}
+use Rattle.map_table.specs.Values.{first_of}
+use Rattle.map_table.proofs.Valued.{behind_key, in_element, is_open}
 use Rattle.map_table.proofs.Keeps.{opens_ok, closes_ok, learns_ok, stores_ok, puts_ok, scans_ok}
 use Rattle.map_table.proofs.Going.{went_one}
 
 pub stores_at : (k : TableShape) (slots id : ℕ) (me : Me ℕ View) (i element place x : ℕ) → IsAt k i element place →
-    element < k.elements → k.key_words ≤ place → place < width_of k → Holds element me.0.mine
-    → Allows (Kept k) slots id me i (λ _. x) (λ _. stores (step slots i x 0 none) me x)
-stores_at k slots id me i element place x e low in_value in_element known =
-    stores_ok k slots id me i element place x e low in_element (inr (known, in_value))
+    element < k.elements → IsReader (layout_of k) me.0.me → first_of k me.0.me ≤ place → place < first_of k me.0.me + k.value_words
+    → Holds element me.0.mine → Allows (Kept k) slots id me i (λ _. x) (λ _. stores (step slots i x 0 none) me x)
+stores_at k slots id me i element place x e low reader from below known =
+    stores_ok k slots id me i element place x e low (in_element k me.0.me place reader from below)
+    (inr (known, behind_key k me.0.me place from, is_open k me.0.me element place reader from below))
 
 pub writes_at : (k : TableShape) (slots id : ℕ) (me : Me ℕ View) (i element place x : ℕ) →
     IsAt k i element place → element < k.elements → place < width_of k → me.0.me ≡ 0 → IsSpare k.readers element me.0.mine

@@ -6,7 +6,7 @@ use native.Mathlib.Decide.{ℕ_discrete}
 use Rattle.map_table_laws.specs.declared.moves.Move.{Move}
 use Rattle.map_table_laws.specs.declared.moves.Move.TheVariants.{Open, Close, Learn, Load, Store, Put, Scan}
 use Rattle.map_table_laws.specs.Layout.{Layout}
-use Rattle.map_table_laws.specs.History.{moves_of, word_at, word_after, key_of, Holds, IsSpare, MayDo, IsLawful}
+use Rattle.map_table_laws.specs.History.{moves_of, word_at, word_after, key_of, Holds, IsSpare, IsOpenTo, MayDo, IsLawful}
 use Rattle.map_table_laws.proofs.Steps.{own, others, key_is}
 use Rattle.map_table_laws.proofs.Holding.{spare_unheld}
 use Rattle.map_table.specs.declared.view.TableShape.{TableShape}
@@ -28,7 +28,7 @@ leaves_spare k es who element place (Scan r x) ne may lawful spare = refl
 leaves_spare k es who element place (Store s p x) ne may lawful spare = dite (ℕ_discrete s element)
     (λ same. ⊎_elim
     (λ (w : (who ≡ 0) × IsSpare k.readers s (moves_of 0 es)). absurd (ne w.0))
-    (λ (r : Holds s (moves_of who es) × (k.key_words (k.table_of s) ≤ p)).
+    (λ (r : Holds s (moves_of who es) × (k.key_words (k.table_of s) ≤ p) × IsOpenTo k who s p).
     absurd (spare_unheld k es lawful who element spare (subst (λ z. Holds z (moves_of who es)) same r.0))) may)
     (λ other. rw (ne_eqb s element other) refl)
 

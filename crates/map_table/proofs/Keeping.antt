@@ -1,5 +1,5 @@
 -- What the writer keeps through its steps.
-use Rattle.std.proofs.Common.{◌≡◌, ◌≢◌, ℕ, zero, suc, ◌+◌, ◌<◌, List, [], ◌∷◌, ◌++◌, get_or, refl, sym, ap, ◌∙◌, subst, inr, arith, append_assoc}
+use Rattle.std.proofs.Common.{◌≡◌, ◌≢◌, ℕ, zero, suc, ◌+◌, ◌<◌, ◌*◌, List, [], ◌∷◌, ◌++◌, get_or, refl, sym, ap, ◌∙◌, subst, inr, arith, append_assoc}
 use Rattle.std.proofs.Common.{set, length-set, get_or-set_other, get_or-set_same}
 use Rattle.std.specs.Prelude.{All, slice_index}
 use mathlib.Core.Logic.{dite}
@@ -14,6 +14,7 @@ use Rattle.map_table_laws.proofs.Steps.{put_here, put_there, one_name, nothing_n
 use Rattle.map_table.specs.declared.view.TableShape.{TableShape}
 use Rattle.map_table.specs.declared.view.View.{View}
 use Rattle.map_table.specs.Law.{ways_of}
+use Rattle.map_table.specs.Counting.{AddsUp}
 use Rattle.map_table.specs.Held.{Went, IsSized}
 use Rattle.map_table.specs.Writing.{Fills, times_in, IsFree, IsUnlinked, IsWriter}
 use Rattle.map_table.proofs.Going.{went_known, went_mine}
@@ -70,6 +71,11 @@ searches_quiet k table (Load e p x ∷ ns) n = quiet_load e p x ns (searches_qui
 searches_quiet k table (Store e p x ∷ ns) n = absurd n
 searches_quiet k table (Put w x ∷ ns) n = absurd n
 searches_quiet k table (Scan r x ∷ ns) n = absurd n
+
+pub adds_quiet : (element place apart n : ℕ) (ms : List Move) (total : ℕ) → AddsUp element place apart n ms total → IsQuiet ms
+adds_quiet element place apart zero ms total a = subst IsQuiet (sym a.0) quiet_none
+adds_quiet element place apart (suc n) ms total a = subst IsQuiet (sym a.3)
+    (quiet_load element (place + n * apart) a.2 a.0 (adds_quiet element place apart n a.0 a.1 a.4))
 
 -- after a quiet stretch
 module _ (v w : View) (ns : List Move) (q : IsQuiet ns) (g : Went v (ns ++ v.mine) w) where

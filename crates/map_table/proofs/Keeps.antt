@@ -13,7 +13,7 @@ use Rattle.map_table_laws.specs.declared.moves.Move.{Move}
 use Rattle.map_table_laws.specs.declared.moves.Move.TheVariants.{Open, Close, Learn, Load, Store, Put, Scan}
 use Rattle.map_table.specs.declared.view.TableShape.{TableShape}
 use Rattle.map_table.specs.declared.view.View.{View}
-use Rattle.map_table_laws.specs.History.{moves_of, inside, word_in, IsLawful, Holds, IsSpare, MayDo, MayLink, IsReader, word_at}
+use Rattle.map_table_laws.specs.History.{moves_of, inside, word_in, IsLawful, Holds, IsSpare, IsOpenTo, MayDo, MayLink, IsReader, word_at}
 use Rattle.map_table.specs.Hashes.{layout_of}
 use Rattle.map_table.specs.Limits.{section_stride}
 use Rattle.map_table.specs.Law.{ways_from, ways_of, width_of, count_of, Fits, Kept, writer_of, dealt, reader_of, did}
@@ -170,7 +170,8 @@ module _ (k : TableShape) where
       (t.0, keeps, tt, t.1, (t.2, refl))
 
   pub stores_ok : (slots id : ℕ) (me : Me ℕ View) (i slot place x : ℕ) → IsAt k i slot place → slot < k.elements →
-      place < width_of k → ((me.0.me ≡ 0) × IsSpare k.readers slot me.0.mine) ⊎ (Holds slot me.0.mine × (k.key_words ≤ place))
+      place < width_of k → ((me.0.me ≡ 0) × IsSpare k.readers slot me.0.mine)
+      ⊎ (Holds slot me.0.mine × (k.key_words ≤ place) × IsOpenTo (layout_of k) me.0.me slot place)
       → Allows (Kept k) slots id me i (λ _. x) (λ _. stores (step slots i x 0 none) me x)
   stores_ok slots id me i slot place x is low in_slot may s r _ at _ =
       let f = r.each_seat id me.0 at in
@@ -180,7 +181,7 @@ module _ (k : TableShape) where
       let does : MayDo (layout_of k) r.log me.0.me (Store slot place x) = ⊎_elim
       (λ (w : (me.0.me ≡ 0) × IsSpare k.readers slot me.0.mine).
       inl (w.0, subst (IsSpare k.readers slot) (sym (ap (λ z. moves_of z r.log) (sym w.0) ∙ f.mine)) w.1))
-      (λ l. inr (subst (Holds slot) (sym f.mine) l.0, l.1)) may in
+      (λ l. inr (subst (Holds slot) (sym f.mine) l.0, l.1, l.2)) may in
       let t = advance s r id i x me.0 me.1 m at (subst (MayDo (layout_of k) r.log me.0.me) (sym same) does)
       (subst (Follows s r.log i x me.0.me) (sym same)
       (follows_store s r i slot place x me.0.me is low in_slot)) in

@@ -15,3 +15,4 @@ pub mod Places
 pub mod Replacing
 pub mod Seen
 pub mod Unlinking
+pub mod Valued

@@ -5,7 +5,7 @@ use native.Mathlib.Decide.{ℕ_discrete}
 use Rattle.map_table_laws.specs.declared.moves.Move.{Move}
 use Rattle.map_table_laws.specs.declared.moves.Move.TheVariants.{Open, Close, Learn, Load, Store, Put, Scan}
 use Rattle.map_table_laws.specs.Layout.{Layout, IsCandidate}
-use Rattle.map_table_laws.specs.History.{moves_of, key_of, Holds, IsSpare, MayDo, MayLink, IsLawful}
+use Rattle.map_table_laws.specs.History.{moves_of, key_of, Holds, IsSpare, IsOpenTo, MayDo, MayLink, IsLawful}
 use Rattle.map_table_laws.proofs.Steps.{own, others, key_stored, key_learn, key_load, key_put, key_other}
 
 -- a reader's step leaves each key
@@ -19,7 +19,7 @@ readers_leave k es who element (Put w x) ne may = key_put k es who element w x
 readers_leave k es who element (Scan r x) ne may = key_other k es who element (Scan r x) (λ p old. refl)
 readers_leave k es who element (Store s p x) ne may = ⊎_elim
     (λ (w : (who ≡ 0) × IsSpare k.readers s (moves_of 0 es)). absurd (ne w.0))
-    (λ (r : Holds s (moves_of who es) × (k.key_words (k.table_of s) ≤ p)). key_stored k es who element s p x r.1) may
+    (λ (r : Holds s (moves_of who es) × (k.key_words (k.table_of s) ≤ p) × IsOpenTo k who s p). key_stored k es who element s p x r.1) may
 
 pub longer : (between es : List (ℕ × Move)) → length (moves_of 0 es) ≤ length (moves_of 0 (between ++ es))
 longer [] es = omega arith

@@ -15,13 +15,14 @@ use Rattle.map_table_laws.specs.Lookups.{OnlySearches}
 use Rattle.map_table_laws.specs.Scanned.{OnlyScans, FoundInside}
 use Rattle.map_table.specs.declared.view.TableShape.{TableShape}
 use Rattle.map_table.specs.declared.view.View.{View}
+use Rattle.map_table.specs.Counting.{AddsUp}
 use Rattle.map_table.specs.Held.{Went}
 use Rattle.map_table.specs.Law.{writer_after}
 use Rattle.map_table.specs.Sightings.{AreSightings}
 use Rattle.map_table.specs.Writing.{Fills, IsUnlinked}
 use Rattle.map_table.proofs.Going.{went_mine}
 use Rattle.map_table.proofs.Filling.{went_shape}
-use Rattle.map_table.proofs.Keeping.{IsQuiet, fills_quiet, quiet_append, searches_quiet}
+use Rattle.map_table.proofs.Keeping.{IsQuiet, adds_quiet, fills_quiet, quiet_append, searches_quiet}
 
 -- the notes stay right where what is so stays
 same_sightings : (v w : View) (unlinked seen : List ℕ) → w.shape ≡ v.shape → AreSightings v unlinked seen →
@@ -78,6 +79,18 @@ pub sightings_searched : (k : Layout) (table : ℕ) (v w : View) (ns : List Move
     Went v (ns ++ v.mine) w → AreSightings v unlinked seen → AreSightings w unlinked seen
 sightings_searched k table v w ns unlinked seen only g a = sightings_stay v w ns unlinked seen (searches_quiet k table ns only)
     (λ r e qs c. searches_miss k table r e ns qs only c) g a
+
+adds_miss : (element place apart n : ℕ) (ms : List Move) (total : ℕ) → AddsUp element place apart n ms total →
+    (r e : ℕ) (qs : List Move) → Cleared r e (ms ++ qs) → Cleared r e qs
+adds_miss element place apart zero ms total a r e qs c = subst (λ z. Cleared r e (z ++ qs)) a.0 c
+adds_miss element place apart (suc n) ms total a r e qs c =
+    adds_miss element place apart n a.0 a.1 a.4 r e qs (subst (λ z. Cleared r e (z ++ qs)) a.3 c)
+
+-- after words were added up
+pub sightings_added : (element place apart n : ℕ) (v w : View) (ms : List Move) (total : ℕ) (unlinked seen : List ℕ) →
+    AddsUp element place apart n ms total → Went v (ms ++ v.mine) w → AreSightings v unlinked seen → AreSightings w unlinked seen
+sightings_added element place apart n v w ms total unlinked seen sum g a =
+    sightings_stay v w ms unlinked seen (adds_quiet element place apart n ms total sum) (adds_miss element place apart n ms total sum) g a
 
 -- after a word was put in a way
 pub sightings_put : (v w : View) (way word : ℕ) (unlinked seen : List ℕ) → Went v (Put way word ∷ v.mine) w → All (IsUnlinked v) unlinked →

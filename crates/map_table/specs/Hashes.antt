@@ -2,6 +2,7 @@
 use Rattle.std.specs.Prelude.{ℕ, ◌*◌, ◌/◌, ◌%◌, ◌^◌, List, [], ◌∷◌, bit_xor}
 use Rattle.map_table_laws.specs.Layout.{Layout}
 use Rattle.map_table.specs.declared.view.TableShape.{TableShape}
+use Rattle.map_table.specs.Values.{owner_of}
 
 -- 2^64 over the golden ratio, which is odd
 abbrev pub word_factor : ℕ
@@ -41,6 +42,7 @@ layout_of k = record {
   elements = k.elements;
   table_of = λ element. 0;
   key_words = λ table. k.key_words;
+  owner = λ table place. owner_of k place;
   first = λ table key. first_bucket k key;
   second = λ table key. second_bucket k key;
   tag = λ table key. tag_of k key;

@@ -7,15 +7,16 @@ use Rattle.atomic_table.specs.Table.{State, Me, Step}
 use Rattle.map_table_laws.specs.Layout.{bucket_ways}
 use Rattle.map_table.specs.Hashes.{layout_of}
 use Rattle.map_table.specs.Limits.{section_stride}
+use Rattle.map_table.specs.Values.{stored_of}
 use Rattle.map_table_laws.specs.declared.moves.Move.{Move}
 use Rattle.map_table_laws.specs.declared.moves.Move.TheVariants.{Open, Close, Learn, Load, Store, Put, Scan}
 use Rattle.map_table.specs.declared.view.TableShape.{TableShape}
 use Rattle.map_table.specs.declared.view.View.{View}
 use Rattle.map_table_laws.specs.History.{moves_of, inside, word_in, word_at, IsLawful}
 
--- how many words an element has
+-- how many words an element has: those of its key, and those of its values behind them
 abbrev pub width_of : TableShape → ℕ
-width_of k = k.key_words + k.value_words
+width_of k = k.key_words + stored_of k
 
 -- how many ways a table has
 abbrev pub ways_of : TableShape → ℕ

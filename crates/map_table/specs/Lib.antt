@@ -1,7 +1,9 @@
+pub mod Counting
 pub mod Hashes
 pub mod Held
 pub mod Law
 pub mod Limits
 pub mod Search
 pub mod Sightings
+pub mod Values
 pub mod Writing

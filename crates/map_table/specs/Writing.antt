@@ -10,6 +10,7 @@ use Rattle.map_table.specs.declared.view.TableShape.{TableShape}
 use Rattle.map_table.specs.declared.view.View.{View}
 use Rattle.map_table.specs.Hashes.{layout_of}
 use Rattle.map_table.specs.Law.{ways_of}
+use Rattle.map_table.specs.Values.{stored_of}
 use Rattle.map_table.specs.Sightings.{AreCleared}
 use Rattle.map_table.specs.Held.{TableView, Holder, IsKnown, IsSized, Goes}
 
@@ -41,11 +42,11 @@ Fills element from words (suc n) ms =
     (rest : List Move) × (ms ≡ Store element (from + n) (slice_index words n) ∷ rest)
     × Fills element from words n rest
 
--- The writer stored the key and the value in the element, and then put the word in the way.
+-- The writer stored the key and the words of the values in the element, and then put the word in the way.
 abbrev pub Puts : ℕ → ℕ → ℕ → List ℕ → List ℕ → WriterView → WriterView → Type 0
 Puts way word element key value v w =
     (ks vs : List Move) × Fills element 0 key v.table.shape.key_words ks
-    × Fills element v.table.shape.key_words value v.table.shape.value_words vs
+    × Fills element v.table.shape.key_words value (stored_of v.table.shape) vs
     × Works v (Put way word ∷ (vs ++ ks)) w
 
 -- an element that may be filled

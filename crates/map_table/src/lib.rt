@@ -6,6 +6,7 @@
 #![tactic(auto)]
 
 mod by_key;
+mod counting;
 mod hash;
 mod limits;
 mod lookup;
@@ -22,5 +23,5 @@ pub use limits::{BUCKET_WAYS, MAX_BUCKETS, MAX_ELEMENTS, MAX_READERS, MAX_WORDS}
 pub use rule::{Closes, Deals, Law, Learns, Loads, Opens, Puts, SECTION_STRIDE, Scans, Stores};
 pub use seats::Seats;
 pub use table::{MapTable, ReadSeat};
-pub use view::{TableShape, View};
+pub use view::{TableShape, Values, View};
 pub use writer::Writer;

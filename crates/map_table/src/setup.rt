@@ -87,7 +87,7 @@ impl MapTable {
         ensures table { IfOk result (λ t. t.1.table_id ≡ t.0.id) }
         ensures writer { IfOk result (λ t. t.1.me ≡ (writer_after 0 shape, [])) }
     {
-        let width = shape.key_words + shape.value_words;
+        let width = shape.width();
         let count = shape.readers * SECTION_STRIDE
             + shape.buckets * BUCKET_WAYS
             + shape.elements * width;

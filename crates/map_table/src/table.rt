@@ -7,6 +7,7 @@ ghost use Rattle.map_table_laws.specs.History.{inside, word_at, Holds, IsSpare, 
 ghost use Rattle.map_table.specs.declared.view.View.{View};
 ghost use Rattle.map_table.specs.Hashes.{layout_of};
 ghost use Rattle.map_table.specs.Law.{Kept, ways_from, ways_of, count_of, base_of, width_of, writer_after};
+ghost use Rattle.map_table.specs.Values.{first_of};
 ghost use Rattle.map_table.specs.Held.{IsSized, IsKnown, IsReady, IsNew, Does, Went};
 
 use crate::limits::BUCKET_WAYS;
@@ -47,8 +48,9 @@ impl Model for MapTable {
 #[derive(Drop)]
 pub struct ReadSeat {
     seat: Seat<u8, View>,
-    // Where the reader's section word lies.
+    // Where the reader's section word lies, and the place of the first word of its value in an element.
     section: usize,
+    first: usize,
 }
 
 impl Model for ReadSeat {
@@ -57,6 +59,7 @@ impl Model for ReadSeat {
     ghost use Rattle.map_table.specs.Hashes.{layout_of};
     ghost use Rattle.map_table_laws.specs.History.{IsReader};
     ghost use Rattle.map_table.specs.Held.{Holder};
+    ghost use Rattle.map_table.specs.Values.{first_of};
 
     ghost Value = { Holder };
 
@@ -66,7 +69,8 @@ impl Model for ReadSeat {
     } };
 
     ghost invariant = { λ s. IsReader (layout_of s.seat.me.0.shape) s.seat.me.0.me
-        × (s.section + section_stride ≡ s.seat.me.0.me * section_stride) × (s.seat.me.1 ≡ []) };
+        × (s.section + section_stride ≡ s.seat.me.0.me * section_stride) × (s.seat.me.1 ≡ [])
+        × (s.first ≡ first_of s.seat.me.0.shape s.seat.me.0.me) };
 }
 
 impl ReadSeat {
@@ -77,6 +81,15 @@ impl ReadSeat {
         ensures shape { self.now.view.shape ≡ self.now.table.shape }
     {
         let _ = &self.seat;
+    }
+
+    /// The place of the first word of the reader's value in an element: that behind the key, where all readers share
+    /// the value.
+    #[inline]
+    pub fn first_place(&self) -> usize
+        ensures { result ≡ first_of self.now.view.shape self.now.view.me }
+    {
+        self.first
     }
 
     /// The seat's share of the table: the view stands among those of whom the rule of the table speaks
@@ -198,17 +211,18 @@ impl MapTable {
     }
 
     /// Writes the word at a place of an element that was found in the section that is open. Places count words, those of
-    /// the key first, and these are the writer's alone.
+    /// the key first, and these are the writer's alone. The place is one of the reader's value.
     #[inline]
     pub fn store(&self, seat: &mut ReadSeat, element: usize, place: usize, word: u64)
         requires table { seat.old.table ≡ self.now }
         requires held { Holds element seat.old.view.mine }
         requires element { element < self.now.shape.elements }
-        requires value { self.now.shape.key_words ≤ place }
-        requires place { place < width_of self.now.shape }
+        requires value { first_of self.now.shape seat.old.view.me ≤ place }
+        requires place { place < first_of self.now.shape seat.old.view.me + self.now.shape.value_words }
         ensures step { Does seat.old (Store element place word) seat.new }
         ensures stored { word_at element place seat.new.view.seen ≡ word }
     {
+        let _first = seat.first;
         let index = self.index_of(element, place);
         self.table
             .shared
@@ -231,7 +245,7 @@ impl MapTable {
         let (table, seat) = Table::of_words(alloc, words, &shape)?;
         let ways = shape.readers * SECTION_STRIDE;
         let base = ways + shape.buckets * BUCKET_WAYS;
-        let width = shape.key_words + shape.value_words;
+        let width = shape.width();
         let table = MapTable {
             table,
             shape,
@@ -253,9 +267,11 @@ impl MapTable {
         ensures new { IsNew result }
     {
         let seat = self.table.shared.split_seat::<Deals>(writer);
+        let first = self.shape.first_place(reader);
         ReadSeat {
             seat,
             section: reader * SECTION_STRIDE,
+            first,
         }
     }
 }

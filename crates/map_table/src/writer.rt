@@ -9,11 +9,14 @@ ghost use Rattle.map_table_laws.specs.Lookups.{OnlySearches};
 ghost use Rattle.map_table_laws.specs.Found.{IsLinkedUnder};
 ghost use Rattle.map_table.specs.Hashes.{layout_of};
 ghost use Rattle.map_table.specs.Law.{ways_of, writer_after};
+ghost use Rattle.map_table.specs.Counting.{AddsUp};
+ghost use Rattle.map_table.specs.Values.{copies_of, stored_of};
 ghost use Rattle.map_table.specs.Held.{IsSized};
 ghost use Rattle.map_table.specs.Sightings.{IsHeldUp};
 ghost use Rattle.map_table.specs.Writing.{Puts, Works, Looks, Frees, AreFull, StaysIn, IsFree, IsUnlinked, IsNoneLost, times_in};
 
 use crate::by_key::find_way;
+use crate::counting::add_up;
 use crate::hash::candidates_of;
 use crate::limits::BUCKET_WAYS;
 use crate::setup::{numbers, zeros};
@@ -61,13 +64,13 @@ impl Model for Writer {
 }
 
 impl Writer {
-    /// Fills a free element with a key and a value, and links it in an empty way of the key's two buckets.
+    /// Fills a free element with a key and a value, or with one value for each reader, one behind another, and links it in an empty way of the key's two buckets.
     /// `None` where no element is free, or each way of both buckets names one. Keys are not compared: a key that is linked
     /// twice is found at either way.
     pub fn link(&mut self, table: &MapTable, key: &[u64], value: &[u64]) -> Option<usize>
         requires table { self.old.table ≡ table.now }
         requires key { length key.now ≡ table.now.shape.key_words }
-        requires value { length value.now ≡ table.now.shape.value_words }
+        requires value { length value.now ≡ stored_of table.now.shape }
         ensures table { self.new.table ≡ self.old.table }
         ensures none { IsNone result ↔ ((self.old.free ≡ []) ⊎ AreFull self.old.view key.now) }
         ensures unchanged { IfNone result (self.new ≡ self.old) }
@@ -99,7 +102,7 @@ impl Writer {
     pub fn replace(&mut self, table: &MapTable, way: usize, key: &[u64], value: &[u64]) -> bool
         requires table { self.old.table ≡ table.now }
         requires key { length key.now ≡ table.now.shape.key_words }
-        requires value { length value.now ≡ table.now.shape.value_words }
+        requires value { length value.now ≡ stored_of table.now.shape }
         requires way { way < ways_of table.now.shape }
         requires linked { IsLinkedUnder (layout_of table.now.shape) 0 key.now way self.old.view.seen }
         ensures table { self.new.table ≡ self.old.table }
@@ -146,6 +149,24 @@ impl Writer {
             IsLinkedUnder (layout_of table.now.shape) 0 key.now way self.new.view.seen → ⊥ }
     {
         find_way(table, &mut self.seat, self.ways.as_slice(), key)
+    }
+
+    /// The sum, modulo 2^64, of the words at this place of all values of an element; of counters it is what all readers
+    /// have added. Each word is loaded once: it is what its reader stored there last (law `own_words_stay`). What readers
+    /// store meanwhile is in the sum or not.
+    pub fn sum(&mut self, table: &MapTable, element: usize, place: usize) -> u64
+        requires table { self.old.table ≡ table.now }
+        requires element { element < table.now.shape.elements }
+        requires place { place < table.now.shape.value_words }
+        ensures table { self.new.table ≡ self.old.table }
+        ensures free { self.new.free ≡ self.old.free }
+        ensures unlinked { self.new.unlinked ≡ self.old.unlinked }
+        ensures total { (ms : List Move) × Works self.old ms self.new
+            × AddsUp element (table.now.shape.key_words + place) table.now.shape.value_words
+            (copies_of table.now.shape) ms result }
+    {
+        let _shape = table.shape();
+        add_up(table, &mut self.seat, element, place)
     }
 
     /// Empties a way that names an element. Readers that found the element before may use it until they end their section.

@@ -7,6 +7,7 @@ ghost use Rattle.map_table_laws.specs.History.{word_at, key_of, IsSpare, MayLink
 ghost use Rattle.map_table.specs.Hashes.{layout_of};
 ghost use Rattle.map_table.specs.Limits.{most_elements};
 ghost use Rattle.map_table.specs.Law.{width_of, ways_of};
+ghost use Rattle.map_table.specs.Values.{stored_of};
 ghost use Rattle.map_table.specs.Held.{IsKnown, Went, IsSized};
 ghost use Rattle.map_table.specs.Writing.{Fills, IsOfBoth};
 
@@ -60,11 +61,11 @@ pub(crate) fn fill_element(
     requires element { element < table.now.shape.elements }
     requires spare { IsSpare table.now.shape.readers element seat.old.me.0.mine }
     requires key { length key.now ≡ table.now.shape.key_words }
-    requires value { length value.now ≡ table.now.shape.value_words }
+    requires value { length value.now ≡ stored_of table.now.shape }
     ensures table { seat.new.table_id ≡ seat.old.table_id }
     ensures held { seat.new.me.1 ≡ seat.old.me.1 }
     ensures steps { (ks vs : List Move) × Fills element 0 key.now table.now.shape.key_words ks
-        × Fills element table.now.shape.key_words value.now table.now.shape.value_words vs
+        × Fills element table.now.shape.key_words value.now (stored_of table.now.shape) vs
         × Went seat.old.me.0 ((vs ++ ks) ++ seat.old.me.0.mine) seat.new.me.0 }
     ensures spare { IsSpare table.now.shape.readers element seat.new.me.0.mine }
     ensures key { key_of (layout_of table.now.shape) element seat.new.me.0.seen ≡ key.now }

@@ -77,7 +77,7 @@ replaced_lawful = (
 )
 
 left_lawful : IsLawful small left
-left_lawful = (reader, (inr (inl refl, omega arith), ((inr (inl refl), refl), replaced_lawful)))
+left_lawful = (reader, (inr (inl refl, omega arith, inl refl), ((inr (inl refl), refl), replaced_lawful)))
 
 pub reused_lawful : IsLawful small reused
 reused_lawful = (

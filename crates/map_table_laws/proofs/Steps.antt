@@ -7,7 +7,7 @@ use Rattle.map_table_laws.specs.declared.moves.Move.{Move}
 use Rattle.map_table_laws.specs.declared.moves.Move.TheVariants.{Open, Close, Learn, Load, Store, Put, Scan}
 use Rattle.map_table_laws.specs.Layout.{Layout, Names}
 use Rattle.map_table_laws.specs.History.{moves_of, word_in, word_after, word_at, words_from, key_of, Holds, IsSpare}
-use Rattle.map_table_laws.specs.History.{MayDo}
+use Rattle.map_table_laws.specs.History.{IsOpenTo, MayDo}
 
 -- the moves of one holder, after one more step
 pub own : (who : ℕ) (e : ℕ × Move) (es : List (ℕ × Move)) → e.0 ≡ who → moves_of who (e ∷ es) ≡ e.1 ∷ moves_of who es
@@ -44,7 +44,7 @@ stored_key k es who element s p x may kept = dite (ℕ_discrete s element)
     (λ same. ⊎_elim
     (λ (w : (who ≡ 0) × IsSpare k.readers s (moves_of 0 es)).
     absurd (kept (subst (λ z. IsSpare k.readers z (moves_of 0 es)) same w.1)))
-    (λ (r : Holds s (moves_of who es) × (k.key_words (k.table_of s) ≤ p)).
+    (λ (r : Holds s (moves_of who es) × (k.key_words (k.table_of s) ≤ p) × IsOpenTo k who s p).
     let high : k.key_words (k.table_of element) ≤ p = subst (λ z. k.key_words (k.table_of z) ≤ p) same r.1 in
     key_same k element ((who, Store s p x) ∷ es) es
     (λ place l. stored_beside s p x element place es who same (λ e. absurd (omega (arith, high, l, e))))) may)

@@ -6,7 +6,7 @@ use Rattle.std.proofs.Common.{None}
 use Rattle.map_table_laws.specs.declared.moves.Move.{Move}
 use Rattle.map_table_laws.specs.declared.moves.Move.TheVariants.{Open, Close, Learn, Load, Store, Put, Scan}
 use Rattle.map_table_laws.specs.Layout.{Layout, Names}
-use Rattle.map_table_laws.specs.History.{moves_of, word_in, IsLinked, Holds, Cleared, IsSpare, MayDo, MayLink, IsLawful}
+use Rattle.map_table_laws.specs.History.{moves_of, word_in, IsLinked, Holds, Cleared, IsSpare, IsOpenTo, MayDo, MayLink, IsLawful}
 use Rattle.map_table_laws.specs.Lookups.{OnlySearches, Refuted, FoundIn, AnswersLookup}
 use Rattle.map_table_laws.specs.Found.{IsLinkedUnder, IsLinkedAs, Throughout, StaysFound, BearsKey, KeepsKey, OnlyReplaces}
 use Rattle.map_table_laws.specs.Scanned.{OnlyScans, FoundOutside, AllOutside, LookedAt}
@@ -116,7 +116,7 @@ pub filled_unheld : (k : Layout) (es : History) → IsLawful k es → (who eleme
     Holds element (moves_of who es) → ⊥
 filled_unheld k es lawful who element place word may h = ⊎_elim
     (λ (w : (0 ≡ 0) × IsSpare k.readers element (moves_of 0 es)). spare_unheld k es lawful who element w.1 h)
-    (λ (r : Holds element (moves_of 0 es) × (k.key_words (k.table_of element) ≤ place)).
+    (λ (r : Holds element (moves_of 0 es) × (k.key_words (k.table_of element) ≤ place) × IsOpenTo k 0 element place).
     let reader = (held k es lawful 0 element r.0).reader in absurd (omega (arith, reader.0))) may
 
 -- null has looked at each way of both buckets

@@ -10,6 +10,12 @@ abbrev pub moves_of : ℕ → List (ℕ × Move) → List Move
 moves_of who [] = []
 moves_of who (e ∷ es) = if e.0 == who then (e.1 ∷ moves_of who es) else moves_of who es
 
+-- what the writer and one reader did
+abbrev pub with_writer : ℕ → List (ℕ × Move) → List (ℕ × Move)
+with_writer who [] = []
+with_writer who (e ∷ es) =
+    if e.0 == 0 then (e ∷ with_writer who es) else (if e.0 == who then (e ∷ with_writer who es) else with_writer who es)
+
 -- 1 inside a section, and 0 outside
 abbrev pub inside : List Move → ℕ
 inside [] = 0
@@ -75,6 +81,11 @@ generation element [] = 0
 generation element (Put way x ∷ ms) = if x % 2 ^ 32 == suc element then suc (generation element ms) else generation element ms
 generation element (_ ∷ ms) = generation element ms
 
+-- the place is no other reader's
+abbrev pub IsOpenTo : Layout → ℕ → ℕ → ℕ → Type 0
+IsOpenTo k who element place =
+    (k.owner (k.table_of element) place ≡ 0) ⊎ (k.owner (k.table_of element) place ≡ who)
+
 abbrev pub IsReader : Layout → ℕ → Type 0
 IsReader k who = (0 < who) × (who ≤ k.readers)
 
@@ -88,8 +99,8 @@ pub record MayLink (k : Layout) (es : List (ℕ × Move)) (way word : ℕ) : Typ
   pub tag : tag_in word ≡ k.tag (k.table_of element) (key_of k element es)
 
 -- What a holder may do after all this. A reader opens and closes its sections. Inside one it learns the words that ways
--- have. It loads the words of elements that it holds, and stores those behind their keys. A load finds the word that was
--- stored last. The writer loads any word, and stores those of spare elements. He empties a way, or puts a spare element
+-- have. It loads the words of elements that it holds, and stores those behind their keys which are no other reader's. A
+-- load finds the word that was stored last. The writer loads any word, and stores those of spare elements. He empties a way, or puts a spare element
 -- there, also in place of another.
 abbrev pub MayDo : Layout → List (ℕ × Move) → ℕ → Move → Type 0
 MayDo k es who Open = IsReader k who
@@ -100,7 +111,7 @@ MayDo k es who (Load element place x) =
     ((who ≡ 0) ⊎ Holds element (moves_of who es)) × (x ≡ word_at element place es)
 MayDo k es who (Store element place x) =
     ((who ≡ 0) × IsSpare k.readers element (moves_of 0 es))
-    ⊎ (Holds element (moves_of who es) × (k.key_words (k.table_of element) ≤ place))
+    ⊎ (Holds element (moves_of who es) × (k.key_words (k.table_of element) ≤ place) × IsOpenTo k who element place)
 MayDo k es who (Put way x) = (who ≡ 0) × ((x ≡ 0) ⊎ MayLink k es way x)
 MayDo k es who (Scan r x) = (who ≡ 0) × (x ≡ inside (moves_of r es))
 

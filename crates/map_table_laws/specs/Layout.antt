@@ -11,6 +11,8 @@ pub record Layout : Type 0 where
   pub table_of : ℕ → ℕ
   -- how many words a key of a table has
   pub key_words : ℕ → ℕ
+  -- the one reader who may store at a place of a table's elements, or 0 where each reader may
+  pub owner : ℕ → ℕ → ℕ
   -- the two buckets where a key of a table may be linked
   pub first : ℕ → List ℕ → ℕ
   pub second : ℕ → List ℕ → ℕ

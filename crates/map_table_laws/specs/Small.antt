@@ -12,6 +12,7 @@ small = record {
   elements = 2;
   table_of = λ element. 0;
   key_words = λ table. 1;
+  owner = λ table place. 0;
   first = λ table key. 0;
   second = λ table key. 1;
   tag = λ table key. 7;

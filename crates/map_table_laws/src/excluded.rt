@@ -1,5 +1,5 @@
 //! What the definitions exclude, and a history that they don't.
-ghost use Rattle.std.specs.Prelude.{◌≡◌, ℕ, ◌<◌, ◌≤◌, List, ◌∷◌, ◌++◌, None};
+ghost use Rattle.std.specs.Prelude.{◌≡◌, ◌≢◌, ℕ, ◌<◌, ◌≤◌, List, ◌∷◌, ◌++◌, None};
 ghost use Rattle.map_table_laws.specs.declared.moves.Move.{Move};
 ghost use Rattle.map_table_laws.specs.declared.moves.Move.TheVariants.{Store, Put};
 ghost use Rattle.map_table_laws.specs.Layout.{Layout, IsCandidate, Names};
@@ -36,6 +36,13 @@ pub fn filling_a_held_element_is_excluded()
 pub fn linking_a_held_element_is_excluded()
     ensures { (k : Layout) (es : List (ℕ × Move)) → IsLawful k es → (who element way word : ℕ) →
         Holds element (moves_of who es) → Names word element → MayDo k es 0 (Put way word) → ⊥ }
+{}
+
+/// Excluded: a reader that stores at a place of another one's.
+pub fn storing_at_anothers_place_is_excluded()
+    ensures { (k : Layout) (es : List (ℕ × Move)) (who element place word : ℕ) → 0 < who →
+        k.owner (k.table_of element) place ≢ 0 → k.owner (k.table_of element) place ≢ who →
+        MayDo k es who (Store element place word) → ⊥ }
 {}
 
 /// Excluded: a replacement that empties the way first.

@@ -3,7 +3,7 @@ ghost use Rattle.std.specs.Prelude.{◌≡◌, ℕ, ◌<◌, List, ◌∷◌, �
 ghost use Rattle.map_table_laws.specs.declared.moves.Move.{Move};
 ghost use Rattle.map_table_laws.specs.declared.moves.Move.TheVariants.{Load};
 ghost use Rattle.map_table_laws.specs.Layout.{Layout, IsCandidate, IsApart, Names, tag_in};
-ghost use Rattle.map_table_laws.specs.History.{moves_of, word_in, word_at, key_of, generation, IsLinked, Holds, IsSpare, IsLawful};
+ghost use Rattle.map_table_laws.specs.History.{moves_of, with_writer, word_in, word_at, key_of, generation, IsLinked, Holds, IsSpare, IsLawful};
 ghost use Rattle.map_table_laws.specs.Lookups.{OnlySearches, AnswersLookup};
 ghost use Rattle.map_table_laws.specs.Found.{IsLinkedUnder, IsLinkedAs, Sometime, Throughout, StaysFound, StaysInside, OnlyReplaces};
 ghost use Rattle.map_table_laws.specs.Scanned.{OnlyScans, AllOutside};
@@ -44,6 +44,14 @@ pub fn loads_find_what_was_stored()
     ensures { (k : Layout) (es : List (ℕ × Move)) → IsLawful k es →
         (after before : List (ℕ × Move)) (who element place x : ℕ) →
         es ≡ after ++ (who, Load element place x) ∷ before → x ≡ word_at element place before }
+{}
+
+/// In every lawful history the word at a place that is one reader's own is what that reader stored there last, or the
+/// writer where it filled the element since: no other reader's store is lost in it or lies over it.
+pub fn own_words_stay()
+    ensures { (k : Layout) (es : List (ℕ × Move)) → IsLawful k es → (who element place : ℕ) → 0 < who →
+        k.owner (k.table_of element) place ≡ who →
+        word_at element place es ≡ word_at element place (with_writer who es) }
 {}
 
 /// Null refutes every element of the table: in every lawful history, where a stretch of a holder's list answers null,

@@ -1,5 +1,6 @@
 use Rattle.std.proofs.Common.{◌<◌, sym, subst}
 use Rattle.map_table.specs.declared.view.TableShape.{TableShape}
+use Rattle.map_table.specs.Values.{stored_of}
 use Rattle.map_table.specs.Writing.{Fills}
 use Rattle.map_table.proofs.Going.{went_then}
 use Rattle.map_table.proofs.Filling.{filled_key}
@@ -13,7 +14,7 @@ returns-clause-steps c =
       ks.0,
       vs.0,
       subst (λ n. Fills c.args.element 0 c.args.key.now n ks.0) c.requires.key ks.1,
-      subst (λ n. Fills c.args.element n c.args.value.now c.args.table.now.shape.value_words vs.0)
+      subst (λ n. Fills c.args.element n c.args.value.now (stored_of c.args.table.now.shape) vs.0)
           (λ i. (is i).key_words) (subst (λ n. Fills c.args.element c.shape-shape.result.key_words c.args.value.now n vs.0) c.requires.value vs.1),
       went_then c.args.seat.now.me.0 c.fill.new.seat.me.0 c.fill-2.new.seat.me.0 ks.0 vs.0 ks.2 vs.2,
     )

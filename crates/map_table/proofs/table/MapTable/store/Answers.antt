@@ -1,11 +1,23 @@
-use Rattle.std.proofs.Common.{◌<◌, ◌≤◌, sym, ap, ◌∙◌, subst}
+use Rattle.std.proofs.Common.{ℕ, ◌+◌, ◌<◌, ◌≤◌, sym, ap, ◌∙◌, subst}
 use Rattle.map_table.specs.declared.view.TableShape.{TableShape}
-use Rattle.map_table_laws.specs.History.{Holds}
+use Rattle.map_table_laws.specs.History.{Holds, IsReader}
+use Rattle.map_table.specs.Hashes.{layout_of}
 use Rattle.map_table.specs.Law.{width_of}
+use Rattle.map_table.specs.Values.{first_of}
 use Rattle.map_table.specs.Held.{TableView, Holder}
 use Rattle.map_table.proofs.Places.{IsAt, store_move}
 use Rattle.map_table.proofs.Calls.{does, stores_at, store_left}
+use Rattle.map_table.proofs.Valued.{in_element}
 use Rattle.map_table.proofs.table.MapTable.store.Goals as goal
+
+pub index_of-index-requires : goal.index_of-index-requires
+index_of-index-requires c =
+    let reader = subst (λ (q : TableView). IsReader (layout_of q.shape) c.args.seat.now.view.me) c.requires.table
+    (subst (λ (h : Holder). IsReader (layout_of h.table.shape) h.view.me) c.seat.view_is c.seat.invariant.0) in
+    record {
+      element = c.requires.element;
+      place = in_element c.args.self.now.shape c.args.seat.now.view.me c.args.place reader c.requires.value c.requires.place;
+    }
 
 pub store-requires : goal.store-requires
 store-requires c =
@@ -14,28 +26,35 @@ store-requires c =
     let known = subst (λ (h : Holder). Holds c.args.element h.view.mine) (sym c.seat.view_is) c.requires.held in
     let own = subst (λ (q : TableView). IsAt q.shape c.index_of-index.result c.args.element c.args.place) (sym c.self.view_is) c.index_of-index.ensures.index in
     let at = subst (λ (k : TableShape). IsAt k c.index_of-index.result c.args.element c.args.place) (sym t.0) own in
-    let l = subst (λ (k : TableShape). c.args.place < width_of k) (sym t.0)
-    (subst (λ (q : TableView). c.args.place < width_of q.shape) (sym c.self.view_is) c.requires.place) in
     let low = subst (λ (k : TableShape). c.args.element < k.elements) (sym t.0)
     (subst (λ (q : TableView). c.args.element < q.shape.elements) (sym c.self.view_is) c.requires.element) in
-    let in_value = subst (λ (k : TableShape). k.key_words ≤ c.args.place) (sym t.0)
-    (subst (λ (q : TableView). q.shape.key_words ≤ c.args.place) (sym c.self.view_is) c.requires.value) in (
+    let key = ap (λ (q : TableView). q.shape) (sym c.self.view_is) ∙ sym t.0 in
+    let me = ap (λ (h : Holder). h.view.me) (sym c.seat.view_is) in
+    let reader = subst (λ (k : TableShape). IsReader (layout_of k) c.seat.inside.seat.me.0.me) (ap (λ (q : TableView). q.shape) p ∙ sym t.0) c.seat.invariant.0 in
+    let from = subst (λ (z : TableShape × ℕ). first_of z.0 z.1 ≤ c.args.place) (λ i. (key i, me i)) c.requires.value in
+    let below = subst (λ (z : TableShape × ℕ). c.args.place < first_of z.0 z.1 + z.0.value_words) (λ i. (key i, me i)) c.requires.place in (
       ap (λ (q : TableView). q.id) p,
       subst (λ (q : TableView). c.index_of-index.result < q.id.words)
           (sym c.self.view_is) c.index_of-index.ensures.within,
-      stores_at c.self.inside.table.shared.key _ _ _ _ c.args.element c.args.place _ at low in_value l known,
+      stores_at c.self.inside.table.shared.key _ _ _ _ c.args.element c.args.place _ at low reader from below known,
     )
 
 pub returns-clause-step : goal.returns-clause-step
 returns-clause-step c =
     let p = ap (λ (h : Holder). h.table) c.seat.view_is ∙ (c.requires.table ∙ sym c.self.view_is) in
     let own = subst (λ (q : TableView). IsAt q.shape c.index_of-index.result c.args.element c.args.place) (sym c.self.view_is) c.index_of-index.ensures.index in
-    let l = subst (λ (q : TableView). c.args.place < width_of q.shape) (sym c.self.view_is) c.requires.place in
+    let reader = subst (λ (q : TableView). IsReader (layout_of q.shape) c.args.seat.now.view.me) c.requires.table
+    (subst (λ (h : Holder). IsReader (layout_of h.table.shape) h.view.me) c.seat.view_is c.seat.invariant.0) in
+    let l = subst (λ (q : TableView). c.args.place < width_of q.shape) (sym c.self.view_is)
+    (in_element c.args.self.now.shape c.args.seat.now.view.me c.args.place reader c.requires.value c.requires.place) in
     does _ _ _ _ _ _ _ c.seat.view_is c.store.ensures.0 (store_move _ c.self.inside.shape _ _ _ _ (ap (λ (q : TableView). q.shape) p) own l) c.store.ensures.2.1
 
 pub returns-clause-stored : goal.returns-clause-stored
 returns-clause-stored c =
     let p = ap (λ (h : Holder). h.table) c.seat.view_is ∙ (c.requires.table ∙ sym c.self.view_is) in
     let own = subst (λ (q : TableView). IsAt q.shape c.index_of-index.result c.args.element c.args.place) (sym c.self.view_is) c.index_of-index.ensures.index in
-    let l = subst (λ (q : TableView). c.args.place < width_of q.shape) (sym c.self.view_is) c.requires.place in
+    let reader = subst (λ (q : TableView). IsReader (layout_of q.shape) c.args.seat.now.view.me) c.requires.table
+    (subst (λ (h : Holder). IsReader (layout_of h.table.shape) h.view.me) c.seat.view_is c.seat.invariant.0) in
+    let l = subst (λ (q : TableView). c.args.place < width_of q.shape) (sym c.self.view_is)
+    (in_element c.args.self.now.shape c.args.seat.now.view.me c.args.place reader c.requires.value c.requires.place) in
     store_left _ _ _ c.args.element c.args.place _ (store_move _ c.self.inside.shape _ _ _ _ (ap (λ (q : TableView). q.shape) p) own l) c.store.ensures.2.1

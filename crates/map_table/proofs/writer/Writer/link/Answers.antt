@@ -4,6 +4,7 @@ use Rattle.std.specs.Prelude.{slice_index}
 use Rattle.map_table_laws.specs.declared.moves.Move.TheVariants.{Put}
 use Rattle.map_table_laws.specs.History.{IsSpare}
 use Rattle.map_table_laws.specs.Layout.{IsCandidate}
+use Rattle.map_table.specs.Values.{stored_of}
 use Rattle.map_table.specs.declared.view.TableShape.{TableShape}
 use Rattle.map_table.specs.Hashes.{layout_of, first_bucket, second_bucket, tag_of}
 use Rattle.map_table.specs.Law.{ways_of}
@@ -109,7 +110,7 @@ returns-clause-steps c =
         f.steps.0,
         f.steps.1,
         subst (λ n. Fills c.in-Some-pop.element 0 c.args.key.now n f.steps.0) (λ a. (sym k a).key_words) f.steps.2,
-        subst (λ (z : ℕ × ℕ). Fills c.in-Some-pop.element z.0 c.args.value.now z.1 f.steps.1) (λ a. ((sym k a).key_words, (sym k a).value_words)) f.steps.3,
+        subst (λ (z : ℕ × ℕ). Fills c.in-Some-pop.element z.0 c.args.value.now z.1 f.steps.1) (λ a. ((sym k a).key_words, stored_of (sym k a))) f.steps.3,
         works _ _ c.self.inside.seat.me.0 c.put_word.new.seat.me.0 _ _ (ap as_holder c.self.view_is) (p.table ∙ f.table)
             (went_then c.self.inside.seat.me.0 c.fill_element.new.seat.me.0 c.put_word.new.seat.me.0 (f.steps.1 ++ f.steps.0)
             (Put c.in-Some.way c.way_word-word.result ∷ []) f.steps.4 p.step),

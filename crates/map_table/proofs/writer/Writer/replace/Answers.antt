@@ -3,6 +3,7 @@ use Rattle.map_table_laws.specs.declared.moves.Move.TheVariants.{Put}
 use Rattle.map_table_laws.specs.History.{IsSpare, word_in}
 use Rattle.map_table_laws.specs.Layout.{Names, IsCandidate}
 use Rattle.map_table_laws.specs.Found.{IsLinkedUnder}
+use Rattle.map_table.specs.Values.{stored_of}
 use Rattle.map_table.specs.declared.view.TableShape.{TableShape}
 use Rattle.map_table.specs.Hashes.{layout_of, tag_of}
 use Rattle.map_table.specs.Law.{ways_of}
@@ -184,7 +185,7 @@ returns-clause-steps c = λ yes.
         f.steps.0,
         f.steps.1,
         subst (λ n. Fills c.in-Some.element 0 c.args.key.now n f.steps.0) (λ a. (sym k a).key_words) f.steps.2,
-        subst (λ (z : ℕ × ℕ). Fills c.in-Some.element z.0 c.args.value.now z.1 f.steps.1) (λ a. ((sym k a).key_words, (sym k a).value_words)) f.steps.3,
+        subst (λ (z : ℕ × ℕ). Fills c.in-Some.element z.0 c.args.value.now z.1 f.steps.1) (λ a. ((sym k a).key_words, stored_of (sym k a))) f.steps.3,
         works _ _ c.self.inside.seat.me.0 c.put_word.new.seat.me.0 _ _ (ap as_holder c.self.view_is) (p.table ∙ f.table)
             (went_then c.self.inside.seat.me.0 c.fill_element.new.seat.me.0 c.put_word.new.seat.me.0 (f.steps.1 ++ f.steps.0)
             (Put c.args.way c.way_word-word.result ∷ []) f.steps.4 p.step),
