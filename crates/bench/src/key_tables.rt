@@ -2,9 +2,10 @@
 ghost use Rattle.std.specs.Prelude.{◌≡◌, IfSome, All};
 ghost use Rattle.map_table_laws.specs.History.{inside};
 ghost use Rattle.map_table.specs.Held.{IsKnown, IsReady};
+ghost use Rattle.map_table.specs.Values.{stored_of};
 
 use anyhow::{Result, bail};
-use map_table::{MapTable, ReadSeat, TableShape, Writer};
+use map_table::{MapTable, ReadSeat, TableShape, Values, Writer};
 use std::alloc::Global;
 
 /// How many keys are linked.
@@ -20,6 +21,7 @@ const SHAPE: TableShape = TableShape {
     elements: (1 << 16) + (1 << 10),
     key_words: 1,
     value_words: 1,
+    values: Values::Shared,
     seed: 0x1234_5678_9abc_def0,
 };
 
@@ -48,7 +50,7 @@ fn deed_of(name: &str) -> Option<Deed> {
 fn link_all(table: &MapTable, writer: &mut Writer) -> Result<()>
     requires table { writer.old.table ≡ table.now }
     requires key { table.now.shape.key_words ≡ 1 }
-    requires value { table.now.shape.value_words ≡ 1 }
+    requires value { stored_of table.now.shape ≡ 1 }
     ensures table { writer.new.table ≡ table.now }
 {
     for key in 0..KEYS {
@@ -66,7 +68,7 @@ fn find(table: &MapTable, seat: &mut ReadSeat, key: u64) -> u64
     requires inside { inside seat.old.view.mine ≡ 1 }
     requires known { IsKnown seat.old.view }
     requires key { table.now.shape.key_words ≡ 1 }
-    requires value { table.now.shape.value_words ≡ 1 }
+    requires value { stored_of table.now.shape ≡ 1 }
     ensures table { seat.new.table ≡ table.now }
     ensures inside { inside seat.new.view.mine ≡ 1 }
 {
@@ -81,7 +83,7 @@ fn find(table: &MapTable, seat: &mut ReadSeat, key: u64) -> u64
 fn look_up(table: &MapTable, seat: &mut ReadSeat, key: u64) -> u64
     requires ready { IsReady table.now seat.old }
     requires key { table.now.shape.key_words ≡ 1 }
-    requires value { table.now.shape.value_words ≡ 1 }
+    requires value { stored_of table.now.shape ≡ 1 }
     ensures ready { IsReady table.now seat.new }
 {
     table.open(seat);
@@ -94,7 +96,7 @@ fn look_up(table: &MapTable, seat: &mut ReadSeat, key: u64) -> u64
 fn look_up_all(table: &MapTable, seat: &mut ReadSeat, first: u64) -> u64
     requires ready { IsReady table.now seat.old }
     requires key { table.now.shape.key_words ≡ 1 }
-    requires value { table.now.shape.value_words ≡ 1 }
+    requires value { stored_of table.now.shape ≡ 1 }
     ensures ready { IsReady table.now seat.new }
 {
     let mut sum = 0u64;
@@ -110,7 +112,7 @@ fn look_up_all(table: &MapTable, seat: &mut ReadSeat, first: u64) -> u64
 fn replace(table: &MapTable, writer: &mut Writer, key: u64) -> u64
     requires table { writer.old.table ≡ table.now }
     requires key { table.now.shape.key_words ≡ 1 }
-    requires value { table.now.shape.value_words ≡ 1 }
+    requires value { stored_of table.now.shape ≡ 1 }
     ensures table { writer.new.table ≡ table.now }
 {
     let Some(way) = writer.find(table, &[key]) else {
@@ -123,7 +125,7 @@ fn replace(table: &MapTable, writer: &mut Writer, key: u64) -> u64
 fn replace_all(table: &MapTable, writer: &mut Writer) -> u64
     requires table { writer.old.table ≡ table.now }
     requires key { table.now.shape.key_words ≡ 1 }
-    requires value { table.now.shape.value_words ≡ 1 }
+    requires value { stored_of table.now.shape ≡ 1 }
     ensures table { writer.new.table ≡ table.now }
 {
     let mut sum = 0u64;
@@ -139,7 +141,7 @@ fn rounds(table: &MapTable, seat: &mut ReadSeat, writer: &mut Writer, deed: Deed
     requires ready { IsReady table.now seat.old }
     requires table { writer.old.table ≡ table.now }
     requires key { table.now.shape.key_words ≡ 1 }
-    requires value { table.now.shape.value_words ≡ 1 }
+    requires value { stored_of table.now.shape ≡ 1 }
 {
     let mut sum = 0u64;
     for _ in 0..times {

@@ -2,8 +2,9 @@
 ghost use Rattle.std.specs.Prelude.{◌≡◌, All, IfSome};
 ghost use Rattle.map_table_laws.specs.History.{inside};
 ghost use Rattle.map_table.specs.Held.{IsKnown, IsReady};
+ghost use Rattle.map_table.specs.Values.{stored_of};
 
-use map_table::{MapTable, ReadSeat, TableShape, Writer};
+use map_table::{MapTable, ReadSeat, TableShape, Values, Writer};
 use std::process::Abort;
 use std::test::Fail;
 
@@ -14,6 +15,7 @@ const SHAPE: TableShape = TableShape {
     elements: 1024,
     key_words: 2,
     value_words: 1,
+    values: Values::Shared,
     seed: 0x1234_5678_9abc_def0,
 };
 
@@ -23,7 +25,7 @@ fn find(table: &MapTable, seat: &mut ReadSeat, number: u64) -> Option<u64>
     requires inside { inside seat.old.view.mine ≡ 1 }
     requires known { IsKnown seat.old.view }
     requires key { table.now.shape.key_words ≡ 2 }
-    requires value { table.now.shape.value_words ≡ 1 }
+    requires value { stored_of table.now.shape ≡ 1 }
     ensures table { seat.new.table ≡ table.now }
     ensures inside { inside seat.new.view.mine ≡ 1 }
 {
@@ -35,7 +37,7 @@ fn find(table: &MapTable, seat: &mut ReadSeat, number: u64) -> Option<u64>
 fn look_up(table: &MapTable, seat: &mut ReadSeat, number: u64) -> Option<u64>
     requires ready { IsReady table.now seat.old }
     requires key { table.now.shape.key_words ≡ 2 }
-    requires value { table.now.shape.value_words ≡ 1 }
+    requires value { stored_of table.now.shape ≡ 1 }
     ensures ready { IsReady table.now seat.new }
 {
     table.open(seat);
@@ -49,7 +51,7 @@ fn look_up(table: &MapTable, seat: &mut ReadSeat, number: u64) -> Option<u64>
 fn link_all(table: &MapTable, writer: &mut Writer) -> u64
     requires table { writer.old.table ≡ table.now }
     requires key { table.now.shape.key_words ≡ 2 }
-    requires value { table.now.shape.value_words ≡ 1 }
+    requires value { stored_of table.now.shape ≡ 1 }
     ensures table { writer.new.table ≡ table.now }
 {
     for number in 0..2000 {
@@ -64,7 +66,7 @@ fn link_all(table: &MapTable, writer: &mut Writer) -> u64
 fn count_found(table: &MapTable, seat: &mut ReadSeat) -> u32
     requires ready { IsReady table.now seat.old }
     requires key { table.now.shape.key_words ≡ 2 }
-    requires value { table.now.shape.value_words ≡ 1 }
+    requires value { stored_of table.now.shape ≡ 1 }
     ensures ready { IsReady table.now seat.new }
 {
     let mut found = 0u32;

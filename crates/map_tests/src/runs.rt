@@ -6,7 +6,7 @@ use crate::keys::two_seats;
 use bpf_model::{CtxBytes, MapKind, MapShape};
 use insn_codec::decode;
 use map_runs::{SubWord, fits, run_shared};
-use map_table::{MapTable, ReadSeat, TableShape, Writer};
+use map_table::{MapTable, ReadSeat, TableShape, Values, Writer};
 use std::alloc::Global;
 use std::process::Abort;
 use std::test::Fail;
@@ -41,6 +41,7 @@ const TABLE: TableShape = TableShape {
     elements: 1024,
     key_words: 1,
     value_words: 1,
+    values: Values::Shared,
     seed: 0x1234_5678_9abc_def0,
 };
 
