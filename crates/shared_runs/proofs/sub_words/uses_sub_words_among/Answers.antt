@@ -18,7 +18,8 @@ loop-index-preserved c = λ k i below at bad.
       | inl same ↦
           let is : i ≡ c.index-instructions-index.result = same_Some i c.index-instructions-index.result (sym at ∙ (ap (slice_get v.program) same ∙ here)) in
           let bad_here : IsSubWordAccess c.args.among v c.loop-index.index c.index-instructions-index.result ⊎ ChangesMap c.index-instructions-index.result =
-          subst (λ (j : Insn). IsSubWordAccess c.args.among v c.loop-index.index j ⊎ ChangesMap j) is (subst (λ (n : ℕ). IsSubWordAccess c.args.among v n i ⊎ ChangesMap i) same bad) in
+          subst (λ (j : Insn). IsSubWordAccess c.args.among v c.loop-index.index j ⊎ ChangesMap j)
+          is (subst (λ (n : ℕ). IsSubWordAccess c.args.among v n i ⊎ ChangesMap i) same bad) in
           absurd (false≢true (sym c.if-is_beyond_words.false ∙ c.is_beyond_words.ensures.1 bad_here))
       | inr other ↦ c.loop-index.invariant k i (omega (arith, below, other)) at bad
     ]
