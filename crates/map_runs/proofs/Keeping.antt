@@ -7,8 +7,7 @@ use Rattle.map_table.specs.declared.view.TableShape.{TableShape}
 use Rattle.map_table.specs.Held.{IsSized}
 use Rattle.map_table.proofs.Lookups.{only_holds, only_inside, found_holds}
 use Rattle.world_laws.specs.Around.{regions}
-use Rattle.shared_runs.specs.Tables.{IsTable}
-use Rattle.shared_runs.proofs.Serving.{IsSmall}
+use Rattle.shared_runs.specs.Tables.{IsSmall, IsTable}
 use Rattle.map_runs.specs.Table.{table_of}
 
 -- what is held by some moves is held by those and others before them

@@ -1,4 +1,4 @@
-pub mod Coming
 pub mod Keeping
 pub mod Known
+pub mod Serving
 pub mod Words

@@ -2,7 +2,6 @@
 use Rattle.std.specs.Prelude.{◌≡◌, ℕ, ◌≤◌, List, ◌∷◌, ◌++◌, length, Some, None}
 use Rattle.bpf_model.specs.declared.limits.MapShape.{MapShape}
 use Rattle.verifier.specs.Checked.{Checked}
-use Rattle.machine.specs.RunWords.{RunWords}
 use Rattle.world_laws.specs.Around.{regions}
 use Rattle.map_table_laws.specs.declared.moves.Move.{Move}
 use Rattle.map_table_laws.specs.declared.moves.Move.TheVariants.{Load, Store}
@@ -13,9 +12,8 @@ use Rattle.map_table.specs.declared.view.View.{View}
 use Rattle.map_table.specs.Hashes.{layout_of}
 use Rattle.map_table.specs.Held.{Goes, Holder}
 use Rattle.map_table.specs.Search.{StaysThere, WasThere}
-use Rattle.shared_runs.specs.SharedRuns.{IsSharedRun}
-use Rattle.shared_runs.specs.Sharing.{HasCome}
-use Rattle.shared_runs.specs.Words.{FitsTable, loaded_of}
+use Rattle.shared_runs.specs.Running.{RunsOver}
+use Rattle.shared_runs.specs.Words.{FitsTable}
 use Rattle.map_runs.specs.Table.{table_of}
 
 -- The maps have the table's lengths, and each element of the table has a word of its own.
@@ -25,13 +23,8 @@ pub record ServesMaps (k : TableShape) (shapes : List MapShape) : Type 0 where
 
 -- The seat's list gained the moves of a shared run of the program on the context, which exits with the value, within as
 -- many steps as the program has instructions.
-pub record RunsShared (k : TableShape) (c : Checked) (context : List ℕ) (old new : Holder)
-    (value : ℕ) : Type 0 where
-  pub moves : List Move
-  pub steps : ℕ
-  pub list : Goes old moves new
-  pub exit : IsSharedRun (table_of k) c.shapes (loaded_of c) context moves steps value
-  pub bounded : steps ≤ length c.program
+abbrev pub RunsShared : TableShape → Checked → List ℕ → Holder → Holder → ℕ → Type 0
+RunsShared k c context old new value = RunsOver (table_of k) Goes c context old new value
 
 -- a reader's move loads or stores a word of the element
 abbrev pub Touches : ℕ → Move → Type 0
@@ -54,10 +47,3 @@ abbrev pub HasMet : View → Type 0
 HasMet v = (key : List ℕ) (element : ℕ) (before ns : List Move) → length key ≡ v.shape.key_words →
     LooksUp (layout_of v.shape) 0 key ns (Some element) →
     WasThere v.shape key element v.me before ns v.seen
-
--- Since this start the seat has done what a shared run of these words asked, and no more.
-pub record HasComeTo (k : TableShape) (c : Checked) (context : List ℕ) (start now : Holder)
-    (r : RunWords) : Type 0 where
-  pub moves : List Move
-  pub goes : Goes start moves now
-  pub come : HasCome (table_of k) c context moves r

@@ -19,10 +19,13 @@ bfa2000000000000 07020000f8ffffff 1851000000000000 0000000000000000 850000000100
 1500040000000000 7909000000000000 bf97000000000000 0707000001000000 7b70000000000000
 8520000002000000 bf90000000000000 9500000000000000";
 
-/// A load of the first byte of the value of such a key.
+/// A load of the first byte of the value of such a key, into the register that the program exits with.
 const LOAD_BYTE: &str = "7916000000000000 7b6af8ff00000000 b709000000000000 8520000001000000
 bfa2000000000000 07020000f8ffffff 1851000000000000 0000000000000000 8500000001000000
 1500010000000000 7109000000000000 8520000002000000 bf90000000000000 9500000000000000";
+
+/// The load.
+const LOAD: &str = "7109000000000000";
 
 /// Keys and values of 8 bytes.
 const WORDS: MapShape = MapShape {
@@ -51,6 +54,21 @@ fn verified(alloc: Global, text: &str) -> Result<Verified, Fail> {
     let digits = digits.as_str().replace(alloc, " ", "")?;
     let bytes = hex::decode(alloc, digits.as_str())?;
     Ok(verify(alloc, decode(alloc, &bytes)?, &[WORDS], 8)?)
+}
+
+/// What a run comes to that loads of the value of the key 7 what this instruction loads, or that makes this access of it.
+fn loaded(
+    alloc: Global,
+    table: &MapTable,
+    seat: &mut ReadSeat,
+    load: &str,
+) -> Result<Option<Result<u64, SubWord>>, Fail>
+    requires ready { IsReady table.now seat.old }
+    ensures ready { IsReady table.now seat.new }
+{
+    let text = LOAD_BYTE.replace(alloc, LOAD, load)?;
+    let program = verified(alloc, text.as_str())?;
+    Ok(run(table, seat, &program, 7))
 }
 
 /// What a run of the program comes to on this key, if it is of the table's lengths.
@@ -145,8 +163,38 @@ fn runs_load_and_store_values(rt: HostRuntime) -> Result<(), Fail> {
     assert_eq!(rt; count_runs(&table, second, &count, 4), 1000);
     assert_eq!(rt; run(&table, first, &count, 1000), Some(Ok(0)));
     replace_between(&rt, &table, second, &mut writer, &count);
-    let byte = verified(alloc, LOAD_BYTE)?;
-    assert_eq!(rt; run(&table, first, &byte, 7), Some(Err(SubWord)));
     assert_eq!(rt; run(&table, first, &count, 7), Some(Ok(75)));
+    Ok(())
+}
+
+/// A load by 1, 2, 4 or 8 bytes finds those bytes of the value's word, the lowest first, and a signed one its sign too.
+/// A store by fewer than 8 bytes is refused.
+#[test]
+fn runs_load_bytes_of_words(rt: HostRuntime) -> Result<(), Fail> {
+    let alloc = rt.alloc();
+    let (table, seats, mut writer) = MapTable::new(alloc, TABLE)?;
+    let mut list = seats.list;
+    let Some((seat, _)) = two_seats(&table, list.as_mut_slice()) else {
+        return Err(Fail::from("not two seats"));
+    };
+    assert!(rt;
+        writer
+            .link(&table, &[7], &[0x8877_6655_4433_2211])
+            .is_some()
+    );
+    let first = loaded(alloc, &table, seat, LOAD)?;
+    assert_eq!(rt; first, Some(Ok(0x11)));
+    let last = loaded(alloc, &table, seat, "7109070000000000")?;
+    assert_eq!(rt; last, Some(Ok(0x88)));
+    let half = loaded(alloc, &table, seat, "6909020000000000")?;
+    assert_eq!(rt; half, Some(Ok(0x4433)));
+    let word = loaded(alloc, &table, seat, "6109040000000000")?;
+    assert_eq!(rt; word, Some(Ok(0x8877_6655)));
+    let all = loaded(alloc, &table, seat, "7909000000000000")?;
+    assert_eq!(rt; all, Some(Ok(0x8877_6655_4433_2211)));
+    let signed = loaded(alloc, &table, seat, "8909060000000000")?;
+    assert_eq!(rt; signed, Some(Ok(0xffff_ffff_ffff_8877)));
+    let store = loaded(alloc, &table, seat, "7200000009000000")?;
+    assert_eq!(rt; store, Some(Err(SubWord)));
     Ok(())
 }

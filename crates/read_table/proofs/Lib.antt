@@ -1,5 +1,4 @@
 pub mod Calls
-mod Coming
 pub mod Finding
 pub mod Going
 mod Holding
@@ -12,5 +11,6 @@ mod Peeking
 pub mod Places
 pub mod Safe
 mod Seen
+pub mod Serving
 mod Slots
 pub mod Stretches

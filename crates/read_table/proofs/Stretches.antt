@@ -8,8 +8,7 @@ use Rattle.read_table.specs.Held.{IsSized}
 use Rattle.read_table.specs.Lookups.{OnlySearches}
 use Rattle.read_table.specs.Table.{table_of}
 use Rattle.world_laws.specs.Around.{regions}
-use Rattle.shared_runs.specs.Tables.{IsTable}
-use Rattle.shared_runs.proofs.Serving.{IsSmall}
+use Rattle.shared_runs.specs.Tables.{IsSmall, IsTable}
 
 -- a lookup forgets nothing
 knows-before : (k : TableShape) (slot header : ℕ) (ns ms : List Move) → OnlySearches k ns → Knows slot header ms → Knows slot header (ns ++ ms)

@@ -1,10 +1,7 @@
 -- What a run over the table leaves, and what is so between its steps.
-use Rattle.std.specs.Prelude.{◌≡◌, ℕ, ◌≤◌, List, ◌∷◌, ◌++◌, length}
+use Rattle.std.specs.Prelude.{◌≡◌, ℕ, List, ◌∷◌, ◌++◌}
 use Rattle.verifier.specs.Checked.{Checked}
-use Rattle.machine.specs.RunWords.{RunWords}
-use Rattle.shared_runs.specs.SharedRuns.{IsSharedRun}
-use Rattle.shared_runs.specs.Sharing.{HasCome}
-use Rattle.shared_runs.specs.Words.{loaded_of}
+use Rattle.shared_runs.specs.Running.{RunsOver}
 use Rattle.read_table.specs.declared.view.Move.{Move}
 use Rattle.read_table.specs.declared.view.Move.TheVariants.{Load, Store}
 use Rattle.read_table.specs.declared.view.TableShape.{TableShape}
@@ -15,13 +12,8 @@ use Rattle.read_table.specs.Table.{table_of}
 
 -- The seat's list gained the moves of a shared run of the program on the context, which exits with the value, within as
 -- many steps as the program has instructions.
-pub record RunsShared (k : TableShape) (c : Checked) (context : List ℕ) (old new : Holder)
-    (value : ℕ) : Type 0 where
-  pub moves : List Move
-  pub steps : ℕ
-  pub list : Goes old moves new
-  pub exit : IsSharedRun (table_of k) c.shapes (loaded_of c) context moves steps value
-  pub bounded : steps ≤ length c.program
+abbrev pub RunsShared : TableShape → Checked → List ℕ → Holder → Holder → ℕ → Type 0
+RunsShared k c context old new value = RunsOver (table_of k) Goes c context old new value
 
 -- By this history the holder knows the slot, which still has the generation with which it was learnt.
 abbrev pub HoldsSlot : ℕ → ℕ → List (ℕ × Move) → Type 0
@@ -39,10 +31,3 @@ Touches slot m = ⊥
 abbrev pub HasHeld : View → Type 0
 HasHeld v = (after before : List (ℕ × Move)) (m : Move) (slot : ℕ) →
     v.seen ≡ after ++ (v.me, m) ∷ before → Touches slot m → HoldsSlot v.me slot before
-
--- Since this start the seat has done what a shared run of these words asked, and no more.
-pub record HasComeTo (k : TableShape) (c : Checked) (context : List ℕ) (start now : Holder)
-    (r : RunWords) : Type 0 where
-  pub moves : List Move
-  pub goes : Goes start moves now
-  pub come : HasCome (table_of k) c context moves r

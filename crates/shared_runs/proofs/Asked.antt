@@ -67,25 +67,26 @@ use Rattle.shared_runs.specs.Learnt.{learnt_element, learnt_elements}
 use Rattle.shared_runs.specs.Serving.{CanAnswer, GoesOnWith, LeadsToWord}
 use Rattle.shared_runs.specs.SharedRuns.{closing, opening}
 use Rattle.shared_runs.specs.Sharing.{GoesFurther, IsSharing, flag_of}
-use Rattle.shared_runs.specs.Words.{ChangesMap, IsElementRegion, IsOtherWidth, access_width}
+use Rattle.shared_runs.specs.Words.{ChangesMap, IsElementRegion, IsOtherWidth, part_of, stored_width}
 use Rattle.shared_runs.proofs.Learning.{Reached, also, enter-learnt, hit-learnt, learnt-guarded, leave-learnt}
 use Rattle.shared_runs.proofs.Learning.{load-learnt, miss-learnt, nest-learnt, no-array, none, not-array, store-learnt}
 use Rattle.shared_runs.proofs.Learning.{also-cases, unnest-learnt}
+use Rattle.shared_runs.proofs.Bytes.{in-word, part-below, some-bytes}
 use Rattle.shared_runs.proofs.Steps.{Known, aligned, are-hash, asking, known, listed, listed-shapes, onward, ready, served-step, shown, so, some, waited}
 
--- the width of the access that an element's base is reached by
-record Accesses (i : Insn) (n : ℕ) (o : ℤ) (width : ℕ) (m : State) : Type 0 where
+-- the register by which an element is accessed
+record Accesses (i : Insn) (n : ℕ) (m : State) : Type 0 where
   pub base : ℕ
   pub offset : ℤ
   pub base_is : base_of i ≡ Some base
   pub refers : m.regs base ≡ Pointer (references.Elem n offset)
-  pub width_is : access_width i ≡ Some width
 
--- an access to an element of a table: to a word of the value of one that is held
+-- an access to an element of a table: to bytes of one word of the value of one that is held
 record WordOf (k : Table) (ms : List k.Move) (learnt : ℕ → Bool) (n : ℕ) (o : ℤ) (width : ℕ) : Type 0 where
   pub place : ℕ
-  pub wide : width ≡ 8
-  pub offset : o ≡ pos (8 * place)
+  pub low : ℕ
+  pub offset : o ≡ pos (8 * place + low)
+  pub whole : low + width ≤ 8
   pub within : place < k.value_words
   pub slot : region_of n < k.elements
   pub is_learnt : learnt (region_of n) ≡ true
@@ -165,14 +166,21 @@ module _ (k : Table) (keeps : IsTable k) (c : Checked) (context : List ℕ) (ms 
         let same : q.0 ≡ n = cc in
         (tt, held-learnt n map (subst (IsHeld (scene_of (store_of c.shapes (learnt_elements c.shapes (section_of run) x.learnt)) run) map) same q.3))
 
-    word-of : (n : ℕ) (o : ℤ) (width : ℕ) → Reached c.shapes n o width → Accesses i n o width run.state → WordOf k ms x.learnt n o width
-    word-of n o width r a =
+    -- an element is accessed by the region that is noted
+    element-noted : (n : ℕ) (a : Accesses i n run.state) → IsElementRegion region-noted.0 × (x.learnt (region_of n) ≡ true)
+    element-noted n a =
         let region = region-noted in
         let inside_region = x.justified.justified.regions x.index i a.base region.0
         (scene_of (store_of c.shapes (learnt_elements c.shapes (section_of run) x.learnt)) run) run.state
         index-there a.base_is region.1 x.planned in
-        let q = by-region n a.offset (run.state.regs a.base) region.0 a.refers inside_region in
-        let wide : width ≡ 8 = elim (cases_eq width 8) [
+        by-region n a.offset (run.state.regs a.base) region.0 a.refers inside_region
+
+    -- a store is of a whole word
+    store-wide : (n width : ℕ) → Accesses i n run.state → stored_width i ≡ Some width → width ≡ 8
+    store-wide n width a width_is =
+        let region = region-noted in
+        let q = element-noted n a in
+        elim (cases_eq width 8) [
           | inl e ↦ e
           | inr e ↦ absurd (x.words (record {
             index = x.index;
@@ -180,52 +188,64 @@ module _ (k : Table) (keeps : IsTable k) (c : Checked) (context : List ℕ) (ms 
             there = index-there;
             uses =
                 inl (record {
-                  other = subst IsOtherWidth (sym a.width_is) e;
+                  other = subst IsOtherWidth (sym width_is) e;
                   region = region.0;
                   noted = region.1;
                   element = q.0;
                 });
           }))
-        ] in
+        ]
+
+    word-of : (n : ℕ) (o : ℤ) (width : Width) → Reached c.shapes n o (byte_count width) → Accesses i n run.state →
+        WordOf k ms x.learnt n o (byte_count width)
+    word-of n o width r a =
+        let q = element-noted n a in
         let shape = get-below c.shapes (map_of n) (map-below c.shapes n r.below) in
         let long : value_length (slice_get c.shapes (map_of n)) ≡ 8 * k.value_words = ap value_length shape.1 ∙ (x.fits (map_of n) shape.0 shape.1).1 in
-        let s = offset_some (value_length (slice_get c.shapes (map_of n))) width o r.at r.region in
-        let even : r.at % 8 ≡ 0 = subst (λ w. r.at % w ≡ 0) wide (aligned (value_length (slice_get c.shapes (map_of n))) width o r.at r.region) in
-        let at : r.at ≡ 8 * (r.at / 8) = omega (arith, even) in
+        let s = offset_some (value_length (slice_get c.shapes (map_of n))) (byte_count width) o r.at r.region in
+        let fits = s.1 in
+        let some = some-bytes width in
+        let at : r.at ≡ 8 * (r.at / 8) + r.at % 8 = omega arith in
         let l = x.known (region_of n) q.1 in
         record {
           place = r.at / 8;
-          wide = wide;
+          low = r.at % 8;
           offset = s.0 ∙ ap pos at;
-          within = omega (arith, s.1, long, wide, even);
+          whole = in-word width r.at (aligned (value_length (slice_get c.shapes (map_of n))) (byte_count width) o r.at r.region);
+          within = omega (arith, fits, long, some);
           slot = l.0;
           is_learnt = q.1;
           learnt_here = l.1;
         }
 
     -- The run goes on from a load.
-    load-goes : (n : ℕ) (o : ℤ) (width y : ℕ) → y < 2 ^ 64 → Asks (LoadElement n o width) → Reached c.shapes n o width
-        → (w : WordOf k ms x.learnt n o width) → GoesFurther k c context
-        (k.finds (region_of n) w.place y ∷ ms) v (resumed_view i y v)
-    load-goes n o width y small e r w =
-        let next = moves_run run (resumed i (Number y) run.state) in
-        let low : y < 256 ^ width = subst (λ z. y < 256 ^ z) (sym w.wide) small in
-        onward k c context ms v x (k.finds (region_of n) w.place y ∷ ms) next (resumed_view i y v) x.learnt
-        (λ plan closed. (so k c context ms v x plan closed i (LoadElement n o width) here e).goes_on (Number y) y next (y, low, refl) refl refl) refl refl
+    load-goes : (n : ℕ) (o : ℤ) (wide : Width) (y : ℕ) → y < 2 ^ 64 → Asks (LoadElement n o (byte_count wide)) →
+        Reached c.shapes n o (byte_count wide) → (w : WordOf k ms x.learnt n o (byte_count wide)) → GoesFurther k c context
+        (k.finds (region_of n) w.place y ∷ ms) v (resumed_view i (part_of y w.low (byte_count wide)) v)
+    load-goes n o wide y small e r w =
+        let width = byte_count wide in
+        let part = part_of y w.low width in
+        let next = moves_run run (resumed i (Number part) run.state) in
+        let below = part-below y w.low wide in
+        onward k c context ms v x (k.finds (region_of n) w.place y ∷ ms) next (resumed_view i part v) x.learnt
+        (λ plan closed. (so k c context ms v x plan closed i (LoadElement n o width) here e).goes_on (Number part) part next
+        (part, below, refl) refl refl) refl refl
         (load-learnt c.program c.shapes c.ctx_len (are-hash k c context ms v x) (some k c context ms v x).plan
         (some k c context ms v x).closed run (shown k c context ms v x).described x.learnt x.index x.planned i
-        here n o width y low e r w.is_learnt next refl (shown k c context ms v x).described.going)
+        here n o width part below e r w.is_learnt next refl (shown k c context ms v x).described.going)
         (served-step k c context ms v x i (LoadElement n o width) here e
-        (k.finds (region_of n) w.place y ∷ []) (Number y) next
-        (w.place, y, w.wide, w.offset, w.within, w.slot, w.learnt_here, small, refl, refl) refl)
+        (k.finds (region_of n) w.place y ∷ []) (Number part) next
+        (w.place, w.low, y, w.offset, w.whole, w.within, w.slot, w.learnt_here, small, refl, refl) refl)
         (λ slot e. ((x.known slot e).0, keeps.find_holds (region_of n) w.place y slot ms (x.known slot e).1))
         (keeps.find_inside (region_of n) w.place y ms ∙ (x.section ∙ ap flag_of (shown k c context ms v x).words.depth))
 
-    store-goes : (n : ℕ) (o : ℤ) (width y word : ℕ) → Asks (StoreElement n o width y) → Reached c.shapes n o width →
+    store-goes : (n : ℕ) (o : ℤ) (width y word : ℕ) → width ≡ 8 → Asks (StoreElement n o width y) → Reached c.shapes n o width →
         (w : WordOf k ms x.learnt n o width) → GoesFurther k c context
         (k.writes (region_of n) w.place y ∷ ms) v (resumed_view i word v)
-    store-goes n o width y word e r w =
+    store-goes n o width y word wide e r w =
         let next = moves_run run (resumed i Nothing run.state) in
+        let whole = w.whole in
+        let first : 8 * w.place + w.low ≡ 8 * w.place = omega (arith, whole, wide) in
         onward k c context ms v x (k.writes (region_of n) w.place y ∷ ms) next (resumed_view i word v) x.learnt
         (λ plan closed. (so k c context ms v x plan closed i (StoreElement n o width y) here e).goes_on Nothing word next refl tt refl) refl refl
         (store-learnt c.program c.shapes c.ctx_len (are-hash k c context ms v x) (some k c context ms v x).plan
@@ -233,7 +253,7 @@ module _ (k : Table) (keeps : IsTable k) (c : Checked) (context : List ℕ) (ms 
         here n o width y e r w.is_learnt next refl (shown k c context ms v x).described.going)
         (served-step k c context ms v x i (StoreElement n o width y) here e
         (k.writes (region_of n) w.place y ∷ []) Nothing next
-        (w.place, w.wide, w.offset, w.within, w.slot, w.learnt_here, refl, refl) refl)
+        (w.place, wide, w.offset ∙ ap pos first, w.within, w.slot, w.learnt_here, refl, refl) refl)
         (λ slot e. ((x.known slot e).0, keeps.write_holds (region_of n) w.place y slot ms (x.known slot e).1))
         (keeps.write_inside (region_of n) w.place y ms ∙ (x.section ∙ ap flag_of (shown k c context ms v x).words.depth))
 
@@ -250,7 +270,8 @@ module _ (k : Table) (keeps : IsTable k) (c : Checked) (context : List ℕ) (ms 
         record {
           element = region_of n;
           place = w.place;
-          wide = w.wide;
+          low = w.low;
+          whole = w.whole;
           at = omega (arith, ints, word, off);
           in_table = w.slot;
           in_value = w.within;
@@ -502,40 +523,42 @@ module _ (k : Table) (keeps : IsTable k) (c : Checked) (context : List ℕ) (ms 
   Goal request = CanAnswer k c context ms v request
 
   loads-by : (i : Insn) (here : Known k c context ms v x i) (width : Width) (src : ℕ) (offset : ℤ) (b : Bool)
-      (asked : Asked) → src ≤ 10 → base_of i ≡ Some src → access_width i ≡ Some (byte_count width)
-      → asks_of i (listed k c context ms v x) run.state ≡ Some asked →
+      (asked : Asked) → src ≤ 10 → base_of i ≡ Some src → asks_of i (listed k c context ms v x) run.state ≡ Some asked →
       LoadAsked (byte_count width) offset (run.state.regs src) b asked →
       Goal (requests.Load (word_in v src) offset width)
   unfolding leads word-of
-  loads-by i here width src offset b asked l base wide e a =
+  loads-by i here width src offset b asked l base e a =
       let width_bytes = byte_count width in
       let asks : asks_of i (listed k c context ms v x) run.state ≡ Some (LoadElement a.n (a.o +ℤ offset) width_bytes) = e ∙ ap Some (sym a.request_is) in
       let r = load-reached i here a.n (a.o +ℤ offset) width_bytes asks in
-      let w = word-of i here a.n (a.o +ℤ offset) width_bytes r (record { base = src; offset = a.o; base_is = base; refers = a.base_is; width_is = wide }) in
+      let w = word-of i here a.n (a.o +ℤ offset) width r (record { base = src; offset = a.o; base_is = base; refers = a.base_is }) in
       record {
         leads = leads i here a.n a.o offset width (word_in v src) (subst (λ u. WordIs region_bases u (word_in v src)) a.base_is (register i here src l)) w;
-        goes_on = λ y small. goes-at i here (k.finds (region_of a.n) w.place y ∷ ms) y
-            (load-goes i here a.n (a.o +ℤ offset) width_bytes y small asks r w);
+        goes_on = λ y small. goes-at i here (k.finds (region_of a.n) w.place y ∷ ms) (part_of y w.low width_bytes)
+            (load-goes i here a.n (a.o +ℤ offset) width y small asks r w);
       }
 
   stores-by : (i : Insn) (here : Known k c context ms v x i) (width : Width) (dst : ℕ) (offset : ℤ) (value : Value)
-      (number : ℕ) (asked : Asked) → dst ≤ 10 → base_of i ≡ Some dst → access_width i ≡ Some (byte_count width)
+      (number : ℕ) (asked : Asked) → dst ≤ 10 → base_of i ≡ Some dst → stored_width i ≡ Some (byte_count width)
       → asks_of i (listed k c context ms v x) run.state ≡ Some asked → WordIs region_bases value number →
       StoreAsked (byte_count width) offset value (run.state.regs dst) asked →
       Goal (requests.Store (word_in v dst) offset width number)
   unfolding leads word-of
-  stores-by i here width dst offset value number asked l base wide e word a =
+  stores-by i here width dst offset value number asked l base width_is e word a =
       let width_bytes = byte_count width in
       let same : number ≡ a.x = subst (λ u. WordIs region_bases u number) a.value_is word in
       let asks : asks_of i (listed k c context ms v x) run.state ≡ Some
       (StoreElement a.n (a.o +ℤ offset) width_bytes number) = e ∙ ap Some (sym a.request_is) ∙
       ap (λ n. Some (StoreElement a.n (a.o +ℤ offset) width_bytes n)) (sym same) in
       let r = store-reached i here a.n (a.o +ℤ offset) width_bytes number asks in
-      let w = word-of i here a.n (a.o +ℤ offset) width_bytes r (record { base = dst; offset = a.o; base_is = base; refers = a.base_is; width_is = wide }) in
+      let accesses : Accesses i a.n run.state = record { base = dst; offset = a.o; base_is = base; refers = a.base_is } in
+      let w = word-of i here a.n (a.o +ℤ offset) width r accesses in
+      let wide = store-wide i here a.n width_bytes accesses width_is in
       record {
+        wide = wide;
         leads = leads i here a.n a.o offset width (word_in v dst) (subst (λ u. WordIs region_bases u (word_in v dst)) a.base_is (register i here dst l)) w;
         goes_on = λ reply. goes-at i here (k.writes (region_of a.n) w.place number ∷ ms) reply
-            (store-goes i here a.n (a.o +ℤ offset) width_bytes number reply asks r w);
+            (store-goes i here a.n (a.o +ℤ offset) width_bytes number reply wide asks r w);
       }
 
   by-function : (i : Insn) (here : Known k c context ms v x i) (f : KernelFunction) →
@@ -556,11 +579,11 @@ module _ (k : Table) (keeps : IsTable k) (c : Checked) (context : List ℕ) (ms 
   by-insn (Load width dst src offset) here request asked of e =
       let real = insn-real-at (Load width dst src offset) here in
       subst Goal (same_Some _ request of) (loads-by (Load width dst src offset) here width src offset (dst == 10)
-      asked real.1 refl refl e (load-asked (byte_count width) offset (run.state.regs src) (dst == 10) asked e))
+      asked real.1 refl e (load-asked (byte_count width) offset (run.state.regs src) (dst == 10) asked e))
   by-insn (LoadSigned width dst src offset) here request asked of e =
       let real = insn-real-at (LoadSigned width dst src offset) here in
       subst Goal (same_Some _ request of) (loads-by (LoadSigned width dst src offset) here (unsigned_width width) src
-      offset (dst == 10) asked real.1 refl refl e (load-asked (byte_count (unsigned_width width)) offset
+      offset (dst == 10) asked real.1 refl e (load-asked (byte_count (unsigned_width width)) offset
       (run.state.regs src) (dst == 10) asked e))
   by-insn (Store width dst offset src) here request asked of e =
       let real = insn-real-at (Store width dst offset src) here in

@@ -20,13 +20,13 @@ use Rattle.shared_runs.specs.Tables.{Table, IsTable}
 use Rattle.shared_runs.specs.Serving.{CanAnswer, IsServable, Serves}
 use Rattle.shared_runs.specs.Sharing.{HasCome, IsSharing, flag_of}
 use Rattle.shared_runs.specs.SharedRuns.{IsSharedRun}
-use Rattle.shared_runs.specs.Words.{FitsTable, UsesSubWords, loaded_of}
+use Rattle.shared_runs.specs.Words.{FitsTable, StoresSubWords, loaded_of}
 use Rattle.shared_runs.proofs.Asked.{can-serve}
 use Rattle.shared_runs.proofs.Starting.{starts}
 use Rattle.shared_runs.proofs.Steps.{exits, goes-on, moves, standing, steps}
 
 pub has-started : (k : Table) → IsTable k → (c : Checked) (context : List ℕ) (r : RunWords) → k.elements ≤ regions →
-    IsJustified c → FitsTable k c.shapes → (UsesSubWords c → ⊥) → length context ≡ c.ctx_len → AreBytes context
+    IsJustified c → FitsTable k c.shapes → (StoresSubWords c → ⊥) → length context ≡ c.ctx_len → AreBytes context
     → IsAt c.program r → r.view ≡ fresh_view 0 context → HasCome k c context [] r
 has-started k keeps c context r few j fits words long bytes at view = record {
   at = at;

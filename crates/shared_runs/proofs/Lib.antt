@@ -1,6 +1,9 @@
 pub mod Asked
+pub mod Bytes
 pub mod Coming
 pub mod Learning
+pub mod Seated
 pub mod Serving
 pub mod Starting
 pub mod Steps
+pub mod Stores

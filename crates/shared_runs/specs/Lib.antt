@@ -1,4 +1,5 @@
 pub mod Learnt
+pub mod Running
 pub mod Serving
 pub mod SharedRuns
 pub mod Sharing

@@ -1,5 +1,5 @@
 -- What whoever serves a shared run may take for granted of each request, and what he leaves.
-use Rattle.std.specs.Prelude.{◌≡◌, ℕ, ◌+◌, ◌*◌, ◌^◌, ◌<◌, List, ◌∷◌, ◌++◌, Option, Some, length, ℤ, pos, ◌+ℤ◌}
+use Rattle.std.specs.Prelude.{◌≡◌, ℕ, ◌+◌, ◌*◌, ◌^◌, ◌<◌, ◌≤◌, List, ◌∷◌, ◌++◌, Option, Some, length, ℤ, pos, ◌+ℤ◌}
 use Rattle.bpf_model.specs.declared.call.Helper.TheVariants.{Delete, Lookup, Update}
 use Rattle.bpf_model.specs.declared.insn.Insn.{Insn}
 use Rattle.bpf_model.specs.declared.limits.TheConstants.{FRAME_BYTES}
@@ -19,6 +19,7 @@ use Rattle.machine.specs.Standing.{MayGive}
 use Rattle.shared_runs.specs.Tables.{Table}
 use Rattle.shared_runs.specs.SharedRuns.{closing, opening}
 use Rattle.shared_runs.specs.Sharing.{GoesFurther}
+use Rattle.shared_runs.specs.Words.{part_of}
 
 -- Some instruction stands at the run's place, and resumed with this word, after these moves of its seat, the run has
 -- come one step further over the table.
@@ -27,13 +28,14 @@ GoesOnWith k c context ms v word =
     (insn : Insn) × (insn_at c.program v.place ≡ Some insn)
     × GoesFurther k c context ms v (resumed_view insn word v)
 
--- The address leads to a word of the value of an element that is held.
+-- The address leads into one word of the value of an element that is held: to so many bytes, from its byte `low` on.
 pub record LeadsToWord (k : Table) (ms : List k.Move) (address : ℕ) (offset : ℤ) (width : Width)
     : Type 0 where
   pub element : ℕ
   pub place : ℕ
-  pub wide : byte_count width ≡ 8
-  pub at : pos address +ℤ offset ≡ pos (slot_base 0 element + 8 * place)
+  pub low : ℕ
+  pub whole : low + byte_count width ≤ 8
+  pub at : pos address +ℤ offset ≡ pos (slot_base 0 element + (8 * place + low))
   pub in_table : element < k.elements
   pub in_value : place < k.value_words
   pub held : k.Holds element ms
@@ -42,10 +44,12 @@ pub record LoadsWord (k : Table) (c : Checked) (context : List ℕ) (ms : List k
     (v : RunView) (address : ℕ) (offset : ℤ) (width : Width) : Type 0 where
   pub leads : LeadsToWord k ms address offset width
   pub goes_on : (x : ℕ) → x < 2 ^ 64 →
-      GoesOnWith k c context (k.finds leads.element leads.place x ∷ ms) v x
+      GoesOnWith k c context (k.finds leads.element leads.place x ∷ ms) v
+      (part_of x leads.low (byte_count width))
 
 pub record StoresWord (k : Table) (c : Checked) (context : List ℕ) (ms : List k.Move)
     (v : RunView) (address : ℕ) (offset : ℤ) (width : Width) (number : ℕ) : Type 0 where
+  pub wide : byte_count width ≡ 8
   pub leads : LeadsToWord k ms address offset width
   pub goes_on : (word : ℕ) →
       GoesOnWith k c context (k.writes leads.element leads.place number ∷ ms) v word

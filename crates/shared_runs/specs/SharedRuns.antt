@@ -1,6 +1,6 @@
 -- A run that is served from a table which many share, with no lock: each of its steps is one that the machine's run makes
 -- by itself, or it asks, and is answered by what its seat does to the table. Lists of moves have the newest first.
-use Rattle.std.specs.Prelude.{◌≡◌, ℕ, suc, ◌*◌, ◌^◌, ◌<◌, ◌==◌, List, [], ◌∷◌, ◌++◌, Option, Some}
+use Rattle.std.specs.Prelude.{◌≡◌, ℕ, suc, ◌+◌, ◌*◌, ◌^◌, ◌<◌, ◌≤◌, ◌==◌, List, [], ◌∷◌, ◌++◌, Option, Some}
 use Rattle.std.specs.Prelude.{option_map, slice_get, pos, if◌then◌else◌}
 use Rattle.bpf_model.specs.declared.call.Helper.TheVariants.{Lookup}
 use Rattle.bpf_model.specs.declared.event.Answer.{Answer}
@@ -18,7 +18,7 @@ use Rattle.bpf_model.specs.MachineStep.{Resumes}
 use Rattle.bpf_model.specs.Step.{Outcome, after, insn_at}
 use Rattle.world_laws.specs.Around.{element_in_region, region_of}
 use Rattle.shared_runs.specs.Tables.{Table}
-use Rattle.shared_runs.specs.Words.{FitsTable}
+use Rattle.shared_runs.specs.Words.{FitsTable, part_of}
 
 -- The outermost lock of a run opens its seat's section, and the outermost unlock closes it; those between are no moves of
 -- the seat.
@@ -34,13 +34,14 @@ lookup_of map key = CallHelper Lookup (MapArgument map ∷ BytesArgument key ∷
 
 -- What a table replies to a request of a run whose locks are so many deep, by what its seat does then, after all that it
 -- did for the run before. A number names an element, and the map through which it was found: within a section what is held
--- is one element. A word of a value is loaded or stored in an element that is held. A lookup answers null, or an element.
--- Nothing else is served.
+-- is one element. A load answers bytes of one word of a value, which is found whole, and a store writes a whole word, in an
+-- element that is held. A lookup answers null, or an element. Nothing else is served.
 abbrev pub Replies : (k : Table) → ℕ → List k.Move → Request → List k.Move → Value → Type 0
 Replies k depth done (LoadElement n offset width) ms reply =
-    (place x : ℕ) × (width ≡ 8) × (offset ≡ pos (8 * place)) × (place < k.value_words)
-    × (region_of n < k.elements) × k.Holds (region_of n) done × (x < 2 ^ 64)
-    × (ms ≡ k.finds (region_of n) place x ∷ []) × (reply ≡ Number x)
+    (place low x : ℕ) × (offset ≡ pos (8 * place + low)) × (low + width ≤ 8)
+    × (place < k.value_words) × (region_of n < k.elements) × k.Holds (region_of n) done
+    × (x < 2 ^ 64) × (ms ≡ k.finds (region_of n) place x ∷ [])
+    × (reply ≡ Number (part_of x low width))
 Replies k depth done (StoreElement n offset width x) ms reply =
     (place : ℕ) × (width ≡ 8) × (offset ≡ pos (8 * place)) × (place < k.value_words)
     × (region_of n < k.elements) × k.Holds (region_of n) done

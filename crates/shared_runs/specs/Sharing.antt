@@ -14,7 +14,7 @@ use Rattle.machine.specs.RunWords.{IsAt, RunWords}
 use Rattle.shared_runs.specs.Tables.{Table}
 use Rattle.shared_runs.specs.Learnt.{learnt_elements}
 use Rattle.shared_runs.specs.SharedRuns.{Comes, IsSharedRun}
-use Rattle.shared_runs.specs.Words.{FitsTable, UsesSubWords, loaded_of}
+use Rattle.shared_runs.specs.Words.{FitsTable, StoresSubWords, loaded_of}
 
 -- 1 inside a section, and 0 outside
 abbrev pub flag_of : ℕ → ℕ
@@ -27,7 +27,7 @@ pub record IsSharing (k : Table) (c : Checked) (context : List ℕ) (ms : List k
   pub justified : IsJustified c
   pub fits : FitsTable k c.shapes
   pub few : k.elements ≤ regions
-  pub words : UsesSubWords c → ⊥
+  pub words : StoresSubWords c → ⊥
   pub run : Run
   pub program : run.program ≡ loaded_of c
   pub shown : (plan : Plan) → IsClosed c.program c.shapes c.ctx_len plan →

@@ -1,5 +1,6 @@
 -- What a table is to the runs that it serves.
-use Rattle.std.specs.Prelude.{◌≡◌, ℕ, ◌<◌, List, [], ◌∷◌, ◌++◌, Option, Some}
+use Rattle.std.specs.Prelude.{◌≡◌, ℕ, ◌^◌, ◌<◌, ◌≤◌, List, [], ◌∷◌, ◌++◌, Option, Some}
+use Rattle.world_laws.specs.Around.{regions}
 
 -- Which moves a reader makes, and what it holds by those that it made. Lists of moves have the newest first.
 pub record Table : Type 1 where
@@ -49,3 +50,16 @@ pub record IsTable (k : Table) : Type 0 where
       k.Holds element (ms ++ before)
   pub inside_over : (ms before : List k.Move) → k.inside before ≡ 0 →
       k.inside (ms ++ before) ≡ k.inside ms
+
+-- The table's elements have words, and its values are short.
+pub record IsSmall (k : Table) : Type 0 where
+  pub few : k.elements ≤ regions
+  pub short : k.value_words ≤ 2 ^ 20
+
+-- What a seat's lists are: that it is at the table, what it has done, and that it did just these moves more.
+pub record AreSteps {Seat : Type 0} (k : Table) (IsAt : Seat → Type 0) (mine : Seat → List k.Move)
+    (Goes : Seat → List k.Move → Seat → Type 0) : Type 0 where
+  pub none : (s : Seat) → IsAt s → Goes s [] s
+  pub then : (s t u : Seat) (ms ns : List k.Move) → Goes s ms t → Goes t ns u → Goes s (ns ++ ms) u
+  pub listed : (s t : Seat) (ms : List k.Move) → Goes s ms t → mine t ≡ ms ++ mine s
+  pub stays : (s t : Seat) (ms : List k.Move) → IsAt s → Goes s ms t → IsAt t

@@ -6,7 +6,7 @@ use bpf_model::MapKind;
 use verifier::Verified;
 
 /// How many bytes a word has.
-const WORD_BYTES: usize = 8;
+pub(crate) const WORD_BYTES: usize = 8;
 
 /// Whether each map that the program was verified for is a hash map, with keys and values of so many words.
 pub fn has_lengths(verified: &Verified, key_words: usize, value_words: usize) -> bool

@@ -1,13 +1,18 @@
 //! Runs that are served from a table which many share, with no lock.
 //!
 //! What such a run is, and how far it comes by what its seat does, is said and proved here of any table (`specs/Tables`):
-//! of one where readers look keys up in sections of their own, and use the elements that they hold there.
+//! of one where readers look keys up in sections of their own, and use the elements that they hold there. `run_over` makes
+//! such a run over whatever serves runs.
 #![tactic(auto)]
 
 mod lengths;
 mod naming;
+mod parts;
+mod running;
+mod serves_runs;
 mod sub_words;
 
 pub use lengths::has_lengths;
-pub use naming::{ValueWord, value_word, word_of_element};
-pub use sub_words::{SubWord, uses_sub_words};
+pub use running::run_over;
+pub use serves_runs::ServesRuns;
+pub use sub_words::{SubWord, stores_sub_words, uses_sub_words};

@@ -7,33 +7,35 @@ ghost use Rattle.world_laws.specs.Calling.{found_word};
 use machine::{SLOT_BASE, SPAN};
 
 /// How many bytes a word has.
-const WORD_BYTES: u64 = 8;
+pub(crate) const WORD_BYTES: u64 = 8;
 
-/// A word of a value: its element, and its place in the value.
+/// Bytes of a word of a value: its element, its place in the value, and the first of the bytes.
 #[derive(Clone, Copy)]
-pub struct ValueWord {
+pub(crate) struct ValueWord {
     pub element: usize,
     pub place: usize,
+    pub low: usize,
 }
 
-/// The word of a value to which an offset from an address leads.
+/// The word of a value into which an offset from an address leads.
 #[inline]
-pub fn value_word(address: u64, offset: i16) -> ValueWord
-    ensures { (element place : ℕ) → element < regions → place < 2 ^ 20 →
-        pos address +ℤ offset ≡ pos (slot_base 0 element + 8 * place) →
-        (result.element ≡ element) × (result.place ≡ place) }
+pub(crate) fn value_word(address: u64, offset: i16) -> ValueWord
+    ensures { (element place low : ℕ) → element < regions → place < 2 ^ 20 → low < 8 →
+        pos address +ℤ offset ≡ pos (slot_base 0 element + (8 * place + low)) →
+        (result.element ≡ element) × (result.place ≡ place) × (result.low ≡ low) }
 {
     let reached = address.wrapping_add(i64::from(offset).cast_unsigned());
     let from_slots = reached.wrapping_sub(SLOT_BASE);
     ValueWord {
         element: (from_slots / SPAN) as usize,
         place: (from_slots % SPAN / WORD_BYTES) as usize,
+        low: (from_slots % SPAN % WORD_BYTES) as usize,
     }
 }
 
 /// The word for an element that a lookup found, or 0.
 #[inline]
-pub fn word_of_element(found: Option<usize>) -> u64
+pub(crate) fn word_of_element(found: Option<usize>) -> u64
     requires { IfSome found (λ element. element < regions) }
     ensures { result ≡ found_word 0 found }
 {

@@ -6,8 +6,10 @@ ghost use Rattle.shared_runs.specs.Words.{
   IsElementRegion,
   IsOtherWidth,
   IsSubWordAccess,
+  StoresSubWords,
   UsesSubWords,
-  access_width,
+  UsesSubWordsAmong,
+  width_among,
 };
 
 use bpf_model::{CallKind, Helper, Insn, Width};
@@ -15,8 +17,8 @@ use effects::Region;
 use thiserror::Error;
 use verifier::Verified;
 
-/// Why a table runs no step of a program: it accesses an element by another width than 8 bytes, or calls a helper that
-/// changes a map.
+/// Why a table runs no step of a program: it accesses an element by another width than 8 bytes, of which a table may serve
+/// loads, or calls a helper that changes a map.
 #[derive(Clone, Copy, Debug, PartialEq, Eq, Error)]
 #[error("the program accesses elements by less than a word, or changes a map")]
 pub struct SubWord;
@@ -30,13 +32,21 @@ impl SubWord {
     }
 }
 
-/// Whether the instruction loads or stores another number of bytes than a word has.
-fn has_other_width(insn: &Insn) -> bool
-    ensures { Decides result (IsOtherWidth (access_width insn.now)) }
+/// Which accesses of elements a table serves by 8 bytes alone.
+#[derive(Clone, Copy)]
+pub enum Accesses {
+    All,
+    Stores,
+}
+
+/// Whether the instruction makes one of these accesses, of another number of bytes than a word has.
+fn has_other_width(insn: &Insn, among: Accesses) -> bool
+    ensures { Decides result (IsOtherWidth (width_among among insn.now)) }
 {
     match insn {
-        Insn::Load { width, .. } | Insn::Store { width, .. } => *width != Width::Eight,
-        Insn::LoadSigned { .. } => true,
+        Insn::Store { width, .. } => *width != Width::Eight,
+        Insn::Load { width, .. } => matches!(among, Accesses::All) && *width != Width::Eight,
+        Insn::LoadSigned { .. } => matches!(among, Accesses::All),
         _ => false,
     }
 }
@@ -64,13 +74,13 @@ fn changes_map(insn: &Insn) -> bool
     }
 }
 
-/// Whether the instruction of an index accesses an element by another width than 8 bytes, or calls a helper that changes a
-/// map.
-fn is_beyond_words(verified: &Verified, index: usize, insn: &Insn) -> bool
+/// Whether the instruction of an index makes one of these accesses of an element by another width than 8 bytes, or calls a
+/// helper that changes a map.
+fn is_beyond_words(verified: &Verified, index: usize, insn: &Insn, among: Accesses) -> bool
     requires { index < length verified.now.regions }
-    ensures { Decides result (IsSubWordAccess verified.now index insn.now ⊎ ChangesMap insn.now) }
+    ensures { Decides result (IsSubWordAccess among verified.now index insn.now ⊎ ChangesMap insn.now) }
 {
-    if has_other_width(insn) && is_element(verified.region(index)) {
+    if has_other_width(insn, among) && is_element(verified.region(index)) {
         return true;
     }
     changes_map(insn)
@@ -81,9 +91,25 @@ fn is_beyond_words(verified: &Verified, index: usize, insn: &Insn) -> bool
 pub fn uses_sub_words(verified: &Verified) -> bool
     ensures { Decides result (UsesSubWords verified.now) }
 {
+    uses_sub_words_among(verified, Accesses::All)
+}
+
+/// Whether the program stores to an element by another width than 8 bytes, or calls a helper that changes a map. No table of
+/// words serves such a program, not even one that serves loads of bytes.
+pub fn stores_sub_words(verified: &Verified) -> bool
+    ensures { Decides result (StoresSubWords verified.now) }
+{
+    uses_sub_words_among(verified, Accesses::Stores)
+}
+
+/// Whether the program makes one of these accesses of an element by another width than 8 bytes, or calls a helper that
+/// changes a map.
+fn uses_sub_words_among(verified: &Verified, among: Accesses) -> bool
+    ensures { Decides result (UsesSubWordsAmong among verified.now) }
+{
     let instructions = verified.program().instructions();
     for index in 0..instructions.len() {
-        if is_beyond_words(verified, index, &instructions[index]) {
+        if is_beyond_words(verified, index, &instructions[index], among) {
             return true;
         }
     }

@@ -3,14 +3,14 @@ use Rattle.map_table.specs.Held.{TableView}
 use Rattle.map_runs.proofs.Known.{has-found, has-held, has-met}
 use Rattle.map_runs.proofs.running.run_shared.Goals as goal
 
-pub returns-then-uses_sub_words-clause-held : goal.returns-then-uses_sub_words-clause-held
-returns-then-uses_sub_words-clause-held c = has-held c.args.seat.now.view c.requires.ready.known.0 c.is_readers.ensures.reader.0
+pub returns-then-stores_sub_words-clause-held : goal.returns-then-stores_sub_words-clause-held
+returns-then-stores_sub_words-clause-held c = has-held c.args.seat.now.view c.requires.ready.known.0 c.is_readers.ensures.reader.0
 
-pub returns-then-uses_sub_words-clause-found : goal.returns-then-uses_sub_words-clause-found
-returns-then-uses_sub_words-clause-found c = has-found c.args.seat.now.view c.requires.ready.known.0
+pub returns-then-stores_sub_words-clause-found : goal.returns-then-stores_sub_words-clause-found
+returns-then-stores_sub_words-clause-found c = has-found c.args.seat.now.view c.requires.ready.known.0
 
-pub returns-then-uses_sub_words-clause-shape : goal.returns-then-uses_sub_words-clause-shape
-returns-then-uses_sub_words-clause-shape c = c.is_readers.ensures.shape ∙ ap (λ (t : TableView). t.shape) c.requires.ready.table
+pub returns-then-stores_sub_words-clause-shape : goal.returns-then-stores_sub_words-clause-shape
+returns-then-stores_sub_words-clause-shape c = c.is_readers.ensures.shape ∙ ap (λ (t : TableView). t.shape) c.requires.ready.table
 
-pub returns-then-uses_sub_words-clause-met : goal.returns-then-uses_sub_words-clause-met
-returns-then-uses_sub_words-clause-met c = has-met c.args.seat.now.view c.requires.ready.known.0 c.is_readers.ensures.reader.0
+pub returns-then-stores_sub_words-clause-met : goal.returns-then-stores_sub_words-clause-met
+returns-then-stores_sub_words-clause-met c = has-met c.args.seat.now.view c.requires.ready.known.0 c.is_readers.ensures.reader.0

@@ -1,86 +1,38 @@
-use Rattle.std.proofs.Common.{◌-◌, ◌<◌, ◌∙◌, ap, length, arith, subst}
-use Rattle.bpf_model.specs.Real.{AreBytes}
+use Rattle.std.proofs.Common.{◌∙◌, ap, subst}
 use Rattle.read_table.specs.declared.view.TableShape.{TableShape}
 use Rattle.read_table.specs.Held.{IsSized, TableView}
-use Rattle.read_table.proofs.Coming.{answered, below, exited, has-started, moved-on, resumed-on, section, servable, stands}
 use Rattle.read_table.proofs.Finding.{has-found}
 use Rattle.read_table.proofs.Holding.{held-throughout}
+use Rattle.read_table.proofs.Serving.{ready-after}
+use Rattle.read_table.proofs.Stretches.{small}
+use Rattle.shared_runs.proofs.Stores.{stores-uses}
 use Rattle.read_table.proofs.table.ReadTable.run_to_exit.Goals as goal
 
-pub steps-init : goal.steps-init
-steps-init c = has-started c.args.self.now c.args.verified.now c.args.ctx.now.items c.args.seat.now c.start-run.result
-    (subst (λ (k : TableShape). IsSized k) c.shape-shape.ensures.shape c.shape-shape.ensures.sized) c.requires.ready
-    c.program-program.ensures.justified c.requires.maps c.requires.words c.requires.context
-    (subst AreBytes c.as_slice.ensures.value c.are_bytes.ensures)
-    (c.start-run.ensures.run c.args.verified.now.program) c.start-run.ensures.view
+pub run_over-value-requires-clause-small : goal.run_over-value-requires-clause-small
+run_over-value-requires-clause-small c = small c.args.self.now.shape
+    (subst (λ (k : TableShape). IsSized k) c.shape-shape.ensures.shape c.shape-shape.ensures.sized)
 
-pub go_on-requires : goal.go_on-requires
-go_on-requires c = stands c.args.self.now c.args.verified.now c.args.ctx.now.items c.args.seat.now c.steps.seat c.steps.run c.requires.ready c.steps.invariant
+pub run_over-value-requires-clause-at : goal.run_over-value-requires-clause-at
+run_over-value-requires-clause-at c = (c.requires.ready.table, c.requires.ready.known)
 
-pub steps-smaller-in-Moved : goal.steps-smaller-in-Moved
-steps-smaller-in-Moved c =
-    let m = moved-on c.args.self.now c.args.verified.now c.args.ctx.now.items c.args.seat.now c.steps.seat c.steps.run
-    c.requires.ready c.steps.invariant c.go_on.new.self c.go_on.ensures.run c.in-Moved.ensures.steps in
-    let b = below c.args.self.now c.args.verified.now c.args.ctx.now.items c.args.seat.now c.steps.seat c.steps.run c.requires.ready c.steps.invariant in
-    let further = m.1 in
-    let less : length c.args.verified.now.program - c.go_on.new.self.view.moved < length c.args.verified.now.program -
-    c.steps.run.view.moved = omega (arith, further, b) in
-    less
+pub run_over-value-requires-clause-outside : goal.run_over-value-requires-clause-outside
+run_over-value-requires-clause-outside c = c.requires.ready.outside
 
-pub steps-preserved-in-Moved : goal.steps-preserved-in-Moved
-steps-preserved-in-Moved c = (moved-on c.args.self.now c.args.verified.now c.args.ctx.now.items c.args.seat.now
-    c.steps.seat c.steps.run c.requires.ready c.steps.invariant c.go_on.new.self c.go_on.ensures.run
-    c.in-Moved.ensures.steps).0
+pub run_over-value-requires-clause-whole : goal.run_over-value-requires-clause-whole
+run_over-value-requires-clause-whole c = λ s. c.requires.words (stores-uses c.args.verified.now s)
 
-pub serve-word-requires-clause-section : goal.serve-word-requires-clause-section
-serve-word-requires-clause-section c = section c.args.self.now c.args.verified.now c.args.ctx.now.items
-    c.args.seat.now c.steps.seat c.steps.run c.requires.ready c.steps.invariant c.go_on.new.self c.go_on.ensures.run
-    c.in-Shared.request c.in-Shared.ensures.steps
+pub returns-clause-runs : goal.returns-clause-runs
+returns-clause-runs c = c.run_over-value.ensures.runs
 
-pub serve-word-requires-clause-can : goal.serve-word-requires-clause-can
-serve-word-requires-clause-can c = servable c.args.self.now c.args.verified.now c.args.ctx.now.items c.args.seat.now
-    c.steps.seat c.steps.run c.requires.ready c.steps.invariant c.go_on.new.self c.go_on.ensures.run
-    c.in-Shared.request c.in-Shared.ensures.steps
+pub returns-clause-ready : goal.returns-clause-ready
+returns-clause-ready c = ready-after c.args.self.now c.args.verified.now c.args.ctx.now.items c.args.seat.now c.run_over-value.new.seat
+    c.run_over-value.result c.requires.ready c.run_over-value.ensures.runs c.run_over-value.ensures.outside
 
-pub resume-requires : goal.resume-requires
-resume-requires c = answered c.args.self.now c.args.verified.now c.args.ctx.now.items c.args.seat.now c.steps.seat
-    c.steps.run c.requires.ready c.steps.invariant c.go_on.new.self c.go_on.ensures.run c.in-Shared.request
-    c.in-Shared.ensures.steps c.serve-word.ensures.0 c.serve-word.result c.serve-word.ensures.2
-    c.in-Shared.ensures.stands
+pub returns-clause-held : goal.returns-clause-held
+returns-clause-held c = held-throughout c.run_over-value.new.seat.view (returns-clause-ready c).known.0 c.is_readers.ensures.reader.0
 
-pub steps-smaller : goal.steps-smaller
-steps-smaller c =
-    let m = resumed-on c.args.self.now c.args.verified.now c.args.ctx.now.items c.args.seat.now c.steps.seat
-    c.steps.run c.requires.ready c.steps.invariant c.go_on.new.self c.go_on.ensures.run c.in-Shared.request
-    c.in-Shared.ensures.steps c.serve-word.ensures.0 c.serve-word.result c.serve-word.ensures.2
-    c.serve-word.new.seat c.resume.new.self c.serve-word.ensures.1 c.resume.ensures.run c.resume.ensures.view in
-    let b = below c.args.self.now c.args.verified.now c.args.ctx.now.items c.args.seat.now c.steps.seat c.steps.run c.requires.ready c.steps.invariant in
-    let further = m.1 in
-    let less : length c.args.verified.now.program - c.resume.new.self.view.moved < length c.args.verified.now.program
-    - c.steps.run.view.moved = omega (arith, further, b) in
-    less
+pub returns-clause-found : goal.returns-clause-found
+returns-clause-found c = has-found c.run_over-value.new.seat.view (returns-clause-ready c).known.0
 
-pub steps-preserved : goal.steps-preserved
-steps-preserved c = (resumed-on c.args.self.now c.args.verified.now c.args.ctx.now.items c.args.seat.now c.steps.seat
-    c.steps.run c.requires.ready c.steps.invariant c.go_on.new.self c.go_on.ensures.run c.in-Shared.request
-    c.in-Shared.ensures.steps c.serve-word.ensures.0 c.serve-word.result c.serve-word.ensures.2 c.serve-word.new.seat
-    c.resume.new.self c.serve-word.ensures.1 c.resume.ensures.run c.resume.ensures.view).0
-
-pub returns-in-Exit-clause-runs : goal.returns-in-Exit-clause-runs
-returns-in-Exit-clause-runs c = (exited c.args.self.now c.args.verified.now c.args.ctx.now.items c.args.seat.now
-    c.steps.seat c.steps.run c.requires.ready c.steps.invariant c.go_on.new.self c.go_on.ensures.run c.in-Exit.value
-    c.in-Exit.ensures.steps).0
-
-pub returns-in-Exit-clause-ready : goal.returns-in-Exit-clause-ready
-returns-in-Exit-clause-ready c = (exited c.args.self.now c.args.verified.now c.args.ctx.now.items c.args.seat.now
-    c.steps.seat c.steps.run c.requires.ready c.steps.invariant c.go_on.new.self c.go_on.ensures.run c.in-Exit.value
-    c.in-Exit.ensures.steps).1
-
-pub returns-in-Exit-clause-held : goal.returns-in-Exit-clause-held
-returns-in-Exit-clause-held c = held-throughout c.steps.seat.view (returns-in-Exit-clause-ready c).known.0 c.is_readers.ensures.reader.0
-
-pub returns-in-Exit-clause-found : goal.returns-in-Exit-clause-found
-returns-in-Exit-clause-found c = has-found c.steps.seat.view (returns-in-Exit-clause-ready c).known.0
-
-pub returns-in-Exit-clause-shape : goal.returns-in-Exit-clause-shape
-returns-in-Exit-clause-shape c = c.is_readers.ensures.shape ∙ ap (λ (t : TableView). t.shape) (returns-in-Exit-clause-ready c).table
+pub returns-clause-shape : goal.returns-clause-shape
+returns-clause-shape c = c.is_readers.ensures.shape ∙ ap (λ (t : TableView). t.shape) (returns-clause-ready c).table

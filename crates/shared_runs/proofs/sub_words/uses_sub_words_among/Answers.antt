@@ -4,7 +4,7 @@ use Rattle.std.proofs.lemmas.Bool.{cases_eq, false≢true}
 use Rattle.std.proofs.lemmas.Option.{same_Some, slice_get_read, slice_get_within}
 use Rattle.bpf_model.specs.declared.insn.Insn.{Insn}
 use Rattle.shared_runs.specs.Words.{ChangesMap, IsSubWordAccess}
-use Rattle.shared_runs.proofs.sub_words.uses_sub_words.Goals as goal
+use Rattle.shared_runs.proofs.sub_words.uses_sub_words_among.Goals as goal
 
 pub loop-index-preserved : goal.loop-index-preserved
 loop-index-preserved c = λ k i below at bad.
@@ -17,8 +17,9 @@ loop-index-preserved c = λ k i below at bad.
     elim (cases_eq k c.loop-index.index) [
       | inl same ↦
           let is : i ≡ c.index-instructions-index.result = same_Some i c.index-instructions-index.result (sym at ∙ (ap (slice_get v.program) same ∙ here)) in
-          let bad_here : IsSubWordAccess v c.loop-index.index c.index-instructions-index.result ⊎ ChangesMap c.index-instructions-index.result =
-          subst (λ (j : Insn). IsSubWordAccess v c.loop-index.index j ⊎ ChangesMap j) is (subst (λ (n : ℕ). IsSubWordAccess v n i ⊎ ChangesMap i) same bad) in
+          let bad_here : IsSubWordAccess c.args.among v c.loop-index.index c.index-instructions-index.result ⊎ ChangesMap c.index-instructions-index.result =
+          subst (λ (j : Insn). IsSubWordAccess c.args.among v c.loop-index.index j ⊎ ChangesMap j)
+          is (subst (λ (n : ℕ). IsSubWordAccess c.args.among v n i ⊎ ChangesMap i) same bad) in
           absurd (false≢true (sym c.if-is_beyond_words.false ∙ c.is_beyond_words.ensures.1 bad_here))
       | inr other ↦ c.loop-index.invariant k i (omega (arith, below, other)) at bad
     ]

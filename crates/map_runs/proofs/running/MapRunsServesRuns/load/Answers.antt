@@ -1,0 +1,15 @@
+use Rattle.std.proofs.Common.{◌+◌, [], ◌∷◌, ap, arith, subst}
+use Rattle.map_table_laws.specs.declared.moves.Move.TheVariants.{Load}
+use Rattle.map_table.specs.declared.view.TableShape.{TableShape}
+use Rattle.map_table.specs.Held.{Goes}
+use Rattle.map_runs.proofs.running.MapRunsServesRuns.load.Goals as goal
+
+pub load-requires-clause-place : goal.load-requires-clause-place
+load-requires-clause-place c =
+    let same = ap (λ (k : TableShape). k.key_words) c.shape-shape.ensures.shape in
+    let place = c.requires.place in
+    omega (arith, same, place)
+
+pub returns : goal.returns
+returns c = subst (λ (k : TableShape). Goes c.args.seat.now (Load c.args.element (k.key_words + c.args.place) c.load.result ∷ []) c.load.new.seat)
+    c.shape-shape.ensures.shape c.load.ensures.step

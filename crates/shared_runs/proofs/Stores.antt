@@ -1,0 +1,21 @@
+-- What stores other widths than words accesses such.
+use Rattle.std.proofs.Common.{⊎_elim, inl, inr}
+use Rattle.bpf_model.specs.declared.insn.Insn.{Insn}
+use Rattle.bpf_model.specs.declared.insn.Insn.TheVariants.{Store}
+use Rattle.verifier.specs.Checked.{Checked}
+use Rattle.shared_runs.specs.Words.{IsOtherWidth, StoresSubWords, UsesSubWords, access_width, stored_width}
+
+stores-accesses : (i : Insn) → IsOtherWidth (stored_width i) → IsOtherWidth (access_width i)
+stores-accesses (Store width dst offset src) h = h
+stores-accesses i h = absurd h
+
+pub stores-uses : (c : Checked) → StoresSubWords c → UsesSubWords c
+stores-uses c s = record {
+  index = s.index;
+  insn = s.insn;
+  there = s.there;
+  uses =
+      ⊎_elim
+      (λ a. inl (record { other = stores-accesses s.insn a.other; region = a.region; noted = a.noted; element = a.element }))
+      (λ m. inr m) s.uses;
+}

@@ -1,0 +1,145 @@
+//! A run over any table.
+ghost use Rattle.std.specs.Prelude.{◌≡◌, ℕ, ◌*◌, ◌<◌, List, Option, length};
+ghost use Rattle.bpf_model.specs.declared.limits.TheConstants.{FRAME_BYTES};
+ghost use Rattle.world_laws.specs.Calling.{bytes_in, found_word};
+ghost use Rattle.world_laws.specs.Moving.{word_in};
+ghost use Rattle.world_laws.specs.Reaching.{IsInFrame};
+ghost use Rattle.shared_runs.specs.Running.{RunsOver};
+ghost use Rattle.shared_runs.specs.Serving.{IsServable, Serves};
+ghost use Rattle.shared_runs.specs.SharedRuns.{closing, opening};
+ghost use Rattle.shared_runs.specs.Sharing.{flag_of};
+ghost use Rattle.shared_runs.specs.Tables.{IsSmall};
+ghost use Rattle.shared_runs.specs.Words.{FitsTable, StoresSubWords};
+
+use crate::lengths::WORD_BYTES;
+use crate::naming::{value_word, word_of_element};
+use crate::parts::part_of_word;
+use crate::serves_runs::ServesRuns;
+use bpf_model::{CtxBytes, Helper, Reg, are_bytes};
+use machine::{Local, Request, Run};
+use verifier::Verified;
+
+/// A lookup of the key in the frame.
+#[inline]
+fn look_up<T: ServesRuns>(words: &T::Words, seat: &mut T::Seat, run: &Run) -> u64
+    requires small { IsSmall (T.table words.now) }
+    requires at { T.IsAt words.now seat.old }
+    requires inside { (T.table words.now).inside (T.mine words.now seat.old) ≡ 1 }
+    requires key { IsInFrame (word_in run.now.view 2) (8 * (T.table words.now).key_words) }
+    requires frame { length run.now.view.frame ≡ FRAME_BYTES }
+    ensures { (ns : List (T.table words.now).Move) × (found : Option ℕ) × T.Goes words.now seat.old ns seat.new
+        × (T.table words.now).LooksUp (bytes_in run.now.view 2 (8 * (T.table words.now).key_words)) ns found
+        × (result ≡ found_word 0 found) }
+{
+    T::is_table(words);
+    let key = run.bytes_argument(Reg::R2, WORD_BYTES * T::key_words(words));
+    word_of_element(T::look_up(words, seat, key))
+}
+
+/// A lock of a run: the outermost opens the seat's section.
+#[inline]
+fn enter<T: ServesRuns>(words: &T::Words, seat: &mut T::Seat, run: &Run)
+    requires at { T.IsAt words.now seat.old }
+    requires section { (T.table words.now).inside (T.mine words.now seat.old) ≡ flag_of run.now.view.depth }
+    ensures { T.Goes words.now seat.old (opening (T.table words.now) run.now.view.depth) seat.new }
+{
+    T::is_table(words);
+    if run.depth() == 0 {
+        T::open(words, seat);
+    }
+}
+
+/// An unlock of a run inside a section: the outermost closes the seat's.
+#[inline]
+fn leave<T: ServesRuns>(words: &T::Words, seat: &mut T::Seat, run: &Run)
+    requires at { T.IsAt words.now seat.old }
+    requires section { (T.table words.now).inside (T.mine words.now seat.old) ≡ flag_of run.now.view.depth }
+    requires inside { 0 < run.now.view.depth }
+    ensures { T.Goes words.now seat.old (closing (T.table words.now) run.now.view.depth) seat.new }
+{
+    T::is_table(words);
+    if run.depth() == 1 {
+        T::close(words, seat);
+    }
+}
+
+/// Serves what a run asks, and answers the word with which it goes on.
+#[inline]
+fn serve<T: ServesRuns>(words: &T::Words, seat: &mut T::Seat, run: &Run, request: Request) -> u64
+    requires small { IsSmall (T.table words.now) }
+    requires at { T.IsAt words.now seat.old }
+    requires section { (T.table words.now).inside (T.mine words.now seat.old) ≡ flag_of run.now.view.depth }
+    requires can { IsServable (T.table words.now) (T.mine words.now seat.old) run.now.view request }
+    ensures { (ns : List (T.table words.now).Move) × T.Goes words.now seat.old ns seat.new
+        × Serves (T.table words.now) run.now.view request ns result }
+{
+    T::is_table(words);
+    match request {
+        Request::Load {
+            address,
+            offset,
+            width,
+        } => {
+            let at = value_word(address, offset);
+            let word = T::load(words, seat, at.element, at.place);
+            part_of_word(word, at.low, width)
+        }
+        Request::Store {
+            address,
+            offset,
+            number,
+            ..
+        } => {
+            let at = value_word(address, offset);
+            T::store(words, seat, at.element, at.place, number);
+            0
+        }
+        Request::Call {
+            helper: Helper::Lookup,
+        } => look_up::<T>(words, seat, run),
+        Request::Call { .. } => unreachable!(),
+        Request::Enter => {
+            enter::<T>(words, seat, run);
+            0
+        }
+        Request::Leave => {
+            leave::<T>(words, seat, run);
+            0
+        }
+    }
+}
+
+/// Runs the program on the context over the table, each of whose maps is the table, to its exit. It takes no memory and
+/// waits for nobody.
+#[inline]
+pub fn run_over<T: ServesRuns>(
+    words: &T::Words,
+    seat: &mut T::Seat,
+    verified: &Verified,
+    ctx: &CtxBytes,
+) -> u64
+    requires small { IsSmall (T.table words.now) }
+    requires at { T.IsAt words.now seat.old }
+    requires outside { (T.table words.now).inside (T.mine words.now seat.old) ≡ 0 }
+    requires context { length ctx.now.items ≡ verified.now.ctx_len }
+    requires maps { FitsTable (T.table words.now) verified.now.shapes }
+    requires whole { StoresSubWords verified.now → ⊥ }
+    ensures runs { RunsOver (T.table words.now) (T.Goes words.now) verified.now ctx.now.items
+        seat.old seat.new result }
+    ensures outside { (T.table words.now).inside (T.mine words.now seat.new) ≡ 0 }
+{
+    T::is_table(words);
+    let _program = verified.program();
+    are_bytes(ctx.as_slice());
+    let mut run = Run::start(verified, 0, ctx);
+    'steps: loop {
+        match run.go_on(verified) {
+            Local::Moved => {}
+            Local::Shared(request) => {
+                let word = serve::<T>(words, seat, &run, request);
+                run.resume(verified, word);
+            }
+            Local::Exit(value) => return value,
+        }
+    }
+}
