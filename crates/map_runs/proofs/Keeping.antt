@@ -33,8 +33,8 @@ inside_over (Store e p x ∷ ms) before h = inside_over ms before h
 inside_over (Put way x ∷ ms) before h = inside_over ms before h
 inside_over (Scan r x ∷ ms) before h = inside_over ms before h
 
-pub is_table : (k : TableShape) → IsTable (table_of k)
-is_table k = record {
+pub is_table : (k : TableShape) (first : ℕ) → IsTable (table_of k first)
+is_table k first = record {
   outside = refl;
   begun = λ ms. refl;
   ended = λ ms. refl;
@@ -50,5 +50,5 @@ is_table k = record {
   inside_over = inside_over;
 }
 
-pub small : (k : TableShape) → IsSized k → k.elements ≤ regions → IsSmall (table_of k)
-small k sized few = let value = sized.value in record { few = few; short = omega (arith, value) }
+pub small : (k : TableShape) (first : ℕ) → IsSized k → k.elements ≤ regions → IsSmall (table_of k first)
+small k first sized few = let value = sized.value in record { few = few; short = omega (arith, value) }

@@ -1,5 +1,5 @@
 -- What every lawful history says of its readers.
-use Rattle.std.proofs.Common.{◌≡◌, ℕ, ◌<◌, refl, sym, subst, arith, List, ◌∷◌, ◌++◌, inl, inr, ⊎_elim, Some, None}
+use Rattle.std.proofs.Common.{◌≡◌, ℕ, ◌<◌, refl, sym, ◌∙◌, subst, arith, List, ◌∷◌, ◌++◌, inl, inr, ⊎_elim, Some, None}
 use Rattle.map_table_laws.specs.declared.moves.Move.{Move}
 use Rattle.map_table_laws.specs.declared.moves.Move.TheVariants.{Open, Close, Learn, Load, Store, Put, Scan}
 use Rattle.map_table_laws.specs.Layout.{Layout}
@@ -7,9 +7,10 @@ use Rattle.map_table_laws.specs.History.{moves_of, Holds, IsLawful, MayDo}
 use Rattle.map_table_laws.specs.Lookups.{AnswersLookup, OnlySearches}
 use Rattle.map_table_laws.proofs.Moments.{lawful_early, stays_found}
 use Rattle.map_table_laws.proofs.Hits.{hit_linked}
+use Rattle.map_table_laws.proofs.Owning.{own_word}
 use Rattle.map_table.specs.declared.view.View.{View}
 use Rattle.map_table.specs.Hashes.{layout_of}
-use Rattle.map_runs.specs.Running.{HasFound, HasHeld, HasMet, Touches}
+use Rattle.map_runs.specs.Running.{HasFound, HasHeld, HasMet, HasOwn, Touches}
 
 touched : (k : Layout) (es : List (ℕ × Move)) (who element : ℕ) (m : Move) → 0 < who → MayDo k es who m →
     Touches element m → Holds element (moves_of who es)
@@ -47,3 +48,10 @@ has-met v lawful some key element before ns count l = λ newer late early histor
     hit_linked k 0 (λ e w a b p q. refl) key count v.me element late early some
     (lawful_early k newer (late ++ early) (subst (IsLawful k) history lawful))
     (subst (OnlySearches k 0) moves l.only) (subst (λ z. AnswersLookup k 0 key z (Some element)) moves l.answers)
+
+-- what was found at an own place is its own
+pub has-own : (v : View) → IsLawful (layout_of v.shape) v.seen → 0 < v.me → HasOwn v
+has-own v lawful some = λ after before element place word own e.
+    let k = layout_of v.shape in
+    let p = lawful_early k after ((v.me, Load element place word) ∷ before) (subst (IsLawful k) e lawful) in
+    p.0.1 ∙ own_word k before p.1 v.me element place some own

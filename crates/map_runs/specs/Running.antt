@@ -5,26 +5,27 @@ use Rattle.verifier.specs.Checked.{Checked}
 use Rattle.world_laws.specs.Around.{regions}
 use Rattle.map_table_laws.specs.declared.moves.Move.{Move}
 use Rattle.map_table_laws.specs.declared.moves.Move.TheVariants.{Load, Store}
-use Rattle.map_table_laws.specs.History.{moves_of, Holds}
+use Rattle.map_table_laws.specs.History.{moves_of, with_writer, word_at, Holds}
 use Rattle.map_table_laws.specs.Lookups.{LooksUp}
 use Rattle.map_table.specs.declared.view.TableShape.{TableShape}
 use Rattle.map_table.specs.declared.view.View.{View}
+use Rattle.map_table.specs.Values.{first_of, owner_of}
 use Rattle.map_table.specs.Hashes.{layout_of}
 use Rattle.map_table.specs.Held.{Goes, Holder}
 use Rattle.map_table.specs.Search.{StaysThere, WasThere}
 use Rattle.shared_runs.specs.Running.{RunsOver}
-use Rattle.shared_runs.specs.Words.{FitsTable}
+use Rattle.shared_runs.specs.Words.{HaveLengths}
 use Rattle.map_runs.specs.Table.{table_of}
 
 -- The maps have the table's lengths, and each element of the table has a word of its own.
 pub record ServesMaps (k : TableShape) (shapes : List MapShape) : Type 0 where
-  pub fits : FitsTable (table_of k) shapes
+  pub fits : HaveLengths k.key_words k.value_words shapes
   pub few : k.elements ≤ regions
 
--- The seat's list gained the moves of a shared run of the program on the context, which exits with the value, within as
+-- The seat's list gained the moves of a shared run of the program on the context, in the seat's own values, which exits with the value, within as
 -- many steps as the program has instructions.
 abbrev pub RunsShared : TableShape → Checked → List ℕ → Holder → Holder → ℕ → Type 0
-RunsShared k c context old new value = RunsOver (table_of k) Goes c context old new value
+RunsShared k c context old new value = RunsOver (table_of k (first_of k old.view.me)) Goes c context old new value
 
 -- a reader's move loads or stores a word of the element
 abbrev pub Touches : ℕ → Move → Type 0
@@ -47,3 +48,10 @@ abbrev pub HasMet : View → Type 0
 HasMet v = (key : List ℕ) (element : ℕ) (before ns : List Move) → length key ≡ v.shape.key_words →
     LooksUp (layout_of v.shape) 0 key ns (Some element) →
     WasThere v.shape key element v.me before ns v.seen
+
+-- Where a place is the holder's own, each load of it found what the holder or the writer stored there last: nothing that
+-- the holder had stored was lost, and no other reader's word lay over it.
+abbrev pub HasOwn : View → Type 0
+HasOwn v = (after before : List (ℕ × Move)) (element place word : ℕ) → owner_of v.shape place ≡ v.me →
+    v.seen ≡ after ++ (v.me, Load element place word) ∷ before →
+    word ≡ word_at element place (with_writer v.me before)

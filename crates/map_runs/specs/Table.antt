@@ -24,17 +24,18 @@ pub record LooksUpBytes (k : TableShape) (bytes : List ℕ) (ms : List Move) (fo
   pub looked : LooksUp (layout_of k) 0 key ms found
   pub within : IfSome found (λ element. element < k.elements)
 
--- the words of a value stand behind those of the key
-abbrev pub table_of : TableShape → Table
-table_of k = record {
+-- The table as a reader's runs see it, whose value begins at this place of an element: behind the key, or, where each
+-- reader has a value of its own, behind those of others.
+abbrev pub table_of : TableShape → ℕ → Table
+table_of k first = record {
   Move = Move;
   elements = k.elements;
   key_words = k.key_words;
   value_words = k.value_words;
   begins = Open;
   ends = Close;
-  finds = λ element place word. Load element (k.key_words + place) word;
-  writes = λ element place word. Store element (k.key_words + place) word;
+  finds = λ element place word. Load element (first + place) word;
+  writes = λ element place word. Store element (first + place) word;
   inside = inside;
   Holds = Holds;
   LooksUp = LooksUpBytes k;

@@ -2,7 +2,7 @@
 ghost use Rattle.std.specs.Prelude.{◌≡◌, ◌↔◌, Decides, IfOk, IsErr, OnErr, length};
 ghost use Rattle.map_table.specs.Held.{Goes, IsKnown, IsReady};
 ghost use Rattle.shared_runs.specs.Words.{StoresSubWords};
-ghost use Rattle.map_runs.specs.Running.{HasFound, HasHeld, HasMet, RunsShared, ServesMaps};
+ghost use Rattle.map_runs.specs.Running.{HasFound, HasHeld, HasMet, HasOwn, RunsShared, ServesMaps};
 ghost use Rattle.map_runs.specs.Table.{table_of};
 
 use crate::key_words::words_of;
@@ -14,58 +14,67 @@ use verifier::Verified;
 /// The most elements of a table that programs may run over: each has a word of its own among those of map slots.
 pub const MAX_RUN_ELEMENTS: usize = 1 << 17;
 
-/// Runs over a `MapTable`.
-pub struct MapRuns;
+/// A `MapTable`, and the place in an element where the value of the seat begins that runs over it.
+#[derive(Drop)]
+pub struct Placed<'a> {
+    table: &'a MapTable,
+    first: usize,
+}
 
-impl ServesRuns for MapRuns {
-    type Words = MapTable;
+impl<'a> ServesRuns for Placed<'a> {
+    ghost use Rattle.map_table.specs.Values.{first_of};
+
+    type Words = Placed<'a>;
 
     type Seat = ReadSeat;
 
-    ghost table = { λ t. table_of t.shape };
+    ghost table = { λ t. table_of t.table.now.shape t.first };
 
     ghost mine = { λ t s. s.view.mine };
 
-    ghost IsAt = { λ t s. (s.table ≡ t) × IsKnown s.view };
+    ghost IsAt = { λ t s. (s.table ≡ t.table.now) × IsKnown s.view
+        × (first_of t.table.now.shape s.view.me ≡ t.first) };
 
     ghost Goes = { λ t s ms u. Goes s ms u };
 
-    fn is_table(words: &MapTable) {
+    fn is_table(words: &Placed<'a>) {
         let _ = words;
     }
 
     #[inline]
-    fn key_words(words: &MapTable) -> usize {
-        words.shape().key_words
+    fn key_words(words: &Placed<'a>) -> usize {
+        words.table.shape().key_words
     }
 
     #[inline]
-    fn open(words: &MapTable, seat: &mut ReadSeat) {
-        words.open(seat);
+    fn open(words: &Placed<'a>, seat: &mut ReadSeat) {
+        words.table.open(seat);
     }
 
     #[inline]
-    fn close(words: &MapTable, seat: &mut ReadSeat) {
-        words.close(seat);
+    fn close(words: &Placed<'a>, seat: &mut ReadSeat) {
+        words.table.close(seat);
     }
 
     #[inline]
-    fn load(words: &MapTable, seat: &mut ReadSeat, element: usize, place: usize) -> u64 {
-        let shape = words.shape();
-        words.load(seat, element, shape.key_words + place)
+    fn load(words: &Placed<'a>, seat: &mut ReadSeat, element: usize, place: usize) -> u64 {
+        seat.is_readers();
+        let _shape = words.table.shape();
+        words.table.load(seat, element, words.first + place)
     }
 
     #[inline]
-    fn store(words: &MapTable, seat: &mut ReadSeat, element: usize, place: usize, word: u64) {
-        let shape = words.shape();
-        words.store(seat, element, shape.key_words + place, word);
+    fn store(words: &Placed<'a>, seat: &mut ReadSeat, element: usize, place: usize, word: u64) {
+        seat.is_readers();
+        let _shape = words.table.shape();
+        words.table.store(seat, element, words.first + place, word);
     }
 
     #[inline]
-    fn look_up(words: &MapTable, seat: &mut ReadSeat, key: &[u8]) -> Option<usize> {
-        let count = words.shape().key_words;
+    fn look_up(words: &Placed<'a>, seat: &mut ReadSeat, key: &[u8]) -> Option<usize> {
+        let count = words.table.shape().key_words;
         let key = words_of(key, count);
-        words.lookup(seat, &key[..count])
+        words.table.lookup(seat, &key[..count])
     }
 }
 
@@ -109,6 +118,9 @@ pub fn run_shared(
     // what the seat has done. What a lookup answered was linked under the key meanwhile.
     ensures found { HasFound seat.new.view }
     ensures met { HasMet seat.new.view }
+
+    // What it loads at places that are its own is what it stored there last, or the writer.
+    ensures own { HasOwn seat.new.view }
     ensures shape { seat.new.view.shape ≡ table.now.shape }
     ensures ready { IsReady table.now seat.new }
 {
@@ -135,11 +147,17 @@ pub fn run_to_exit(
     ensures held { HasHeld seat.new.view }
     ensures found { HasFound seat.new.view }
     ensures met { HasMet seat.new.view }
+    ensures own { HasOwn seat.new.view }
     ensures shape { seat.new.view.shape ≡ table.now.shape }
     ensures ready { IsReady table.now seat.new }
 {
     let _shape = table.shape();
-    let value = run_over::<MapRuns>(table, seat, verified, ctx);
+    seat.is_readers();
+    let placed = Placed {
+        table,
+        first: seat.first_place(),
+    };
+    let value = run_over::<Placed>(&placed, seat, verified, ctx);
     seat.is_readers();
     value
 }

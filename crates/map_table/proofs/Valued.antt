@@ -1,14 +1,15 @@
 -- Where a reader's own value lies.
 use Rattle.std.proofs.Common.{◌≡◌, ◌⊎◌, ℕ, suc, ◌+◌, ◌-◌, ◌*◌, ◌/◌, ◌<◌, ◌≤◌, refl, sym, ap, ◌∙◌, inl, inr, arith}
-use Rattle.std.proofs.lemmas.Nat.{div-mul-add, mul-add-lt}
+use Rattle.std.proofs.lemmas.Nat.{div-mul-add, mul-add-lt, mul-le}
 use Rattle.map_table_laws.specs.History.{IsOpenTo, IsReader}
 use Rattle.map_table.specs.declared.view.Values.{Values}
 use Rattle.map_table.specs.declared.view.Values.TheVariants.{Shared, PerReader}
 use Rattle.map_table.specs.declared.view.TableShape.{TableShape}
-use Rattle.map_table.specs.Limits.{most_readers}
+use Rattle.map_table.specs.Limits.{most_readers, most_words}
 use Rattle.map_table.specs.Values.{copies_by, copies_of, first_by, first_of, owner_by, owner_of, stored_of}
 use Rattle.map_table.specs.Hashes.{layout_of}
 use Rattle.map_table.specs.Law.{width_of}
+use Rattle.map_table.specs.Held.{IsSized}
 
 behind_by : (v : Values) (k : TableShape) (who place : ℕ) → first_by v k who ≤ place → k.key_words ≤ place
 behind_by Shared k who place from = from
@@ -60,3 +61,9 @@ copies_few PerReader k few = few
 -- there are few values
 pub few_copies : (k : TableShape) → k.readers ≤ most_readers → copies_of k ≤ most_readers
 few_copies k few = copies_few k.values k few
+
+-- an element has few words
+pub few_words : (k : TableShape) → IsSized k → width_of k ≤ most_words + most_words * most_readers
+few_words k sized =
+    let key = sized.key in
+    omega (arith, key, mul-le k.value_words (copies_of k) most_words most_readers sized.value (few_copies k sized.readers))
