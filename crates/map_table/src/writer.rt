@@ -228,6 +228,7 @@ impl Writer {
     pub fn element_at(&self, way: usize) -> Option<usize>
         requires { way < ways_of self.now.table.shape }
         ensures some { IfSome result (λ element. Names (word_in way self.now.view.mine) element) }
+        ensures within { IfSome result (λ element. element < self.now.table.shape.elements) }
         ensures none { IsNone result → word_in way self.now.view.mine ≡ 0 }
     {
         let word = self.ways[way];

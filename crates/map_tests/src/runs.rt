@@ -14,7 +14,7 @@ use verifier::{Verified, verify};
 
 /// A lookup of the key that the context has. It adds 1 to the value, and exits with what it was before, or with 0 where
 /// there is none.
-const COUNT: &str = "7916000000000000 7b6af8ff00000000 b709000000000000 8520000001000000
+pub const COUNT: &str = "7916000000000000 7b6af8ff00000000 b709000000000000 8520000001000000
 bfa2000000000000 07020000f8ffffff 1851000000000000 0000000000000000 8500000001000000
 1500040000000000 7909000000000000 bf97000000000000 0707000001000000 7b70000000000000
 8520000002000000 bf90000000000000 9500000000000000";
@@ -49,7 +49,7 @@ const TABLE: TableShape = TableShape {
 };
 
 /// The program of these hexadecimal digits, verified against one map and a context of a word.
-fn verified(alloc: Global, text: &str) -> Result<Verified, Fail> {
+pub fn verified(alloc: Global, text: &str) -> Result<Verified, Fail> {
     let digits = text.replace(alloc, "\n", "")?;
     let digits = digits.as_str().replace(alloc, " ", "")?;
     let bytes = hex::decode(alloc, digits.as_str())?;
@@ -72,7 +72,7 @@ fn loaded(
 }
 
 /// What a run of the program comes to on this key, if it is of the table's lengths.
-fn run(
+pub fn run(
     table: &MapTable,
     seat: &mut ReadSeat,
     verified: &Verified,
