@@ -10,6 +10,7 @@ use crate::other_names::{family_hint, is_near, meant_by, mnemonic_named, without
 use crate::written::{character_words, written_operands};
 use asm_source::{are_digits, decimal_in, is_name, is_register};
 use disasm::{MNEMONICS, Mnemonic};
+use program_files::FUNCTIONS;
 use std::alloc::{AllocError, Global};
 use strsim::jaro_winkler;
 
@@ -97,10 +98,6 @@ enum Place {
     /// A register and an offset of 16 bits, in brackets.
     Memory,
 }
-
-/// Which functions there are.
-const FUNCTIONS: &str =
-    "`call 1` looks up, `call 2` updates, `call 3` deletes, `callbtf 1` locks, `callbtf 2` unlocks";
 
 /// What is said of a word that may not stand in the place.
 fn place_words(place: Place) -> &'static str {

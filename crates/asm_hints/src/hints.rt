@@ -1,13 +1,11 @@
 //! What helps where a line is wrong, in words for people.
 
 use asm_source::{are_digits, hex_in, is_name, is_register, number_in};
+use program_files::is_slot;
 use std::alloc::{AllocError, Global};
 
 /// How much of a word is shown.
 const SHOWN_CHARACTERS: usize = 40;
-
-/// How many hexadecimal digits a slot of a program file has.
-const SLOT_DIGITS: usize = 16;
 
 /// What is said of a word that may be a number's name, and is none.
 pub(crate) const UNNAMED: &str = ", and no `.equ` names a number so";
@@ -56,18 +54,6 @@ pub(crate) fn comment_words(line: &str) -> Option<&'static str> {
         }
     }
     None
-}
-
-/// Whether a word is a slot of a program file.
-fn is_slot(word: &str) -> bool {
-    let mut count: usize = 0;
-    for byte in word.as_bytes() {
-        if !byte.is_ascii_hexdigit() {
-            return false;
-        }
-        count = count.saturating_add(1);
-    }
-    count == SLOT_DIGITS
 }
 
 /// What helps where a line begins with a word that is no mnemonic, and goes on with this text.

@@ -1,13 +1,16 @@
 //! `bpfrt`: the command line over the runtime.
 #![tactic(auto)]
 
+mod answers;
 mod progress;
 mod recent;
 
+use crate::answers::{Answers, Heard};
 use crate::progress::Progress;
 use crate::recent::Recent;
 use commands::{BpfrtCommand, WordsFault, explain_script, no_command, parse_words, run, unread};
 use std::alloc::Global;
+use std::cell::RefCell;
 use std::fs::File;
 use std::io::{Error, ErrorKind, IsTerminal, Write};
 use std::process::ExitCode;
@@ -53,18 +56,20 @@ fn opened(rt: &HostRuntime, path: &str) -> io::Result<File> {
     Ok(file)
 }
 
-/// Answers the script on standard input, and says in words why a line of it is no command. The handle for threads and for
-/// waiting is the runtime again.
-fn run_explained<H: Threads + Wait + Sync, W: Write>(
+/// Answers the script on standard input, and says in words why a line of it is refused, or no command. The handle for threads
+/// and for waiting is the runtime again.
+fn run_explained<H: Threads + Wait + Sync>(
     rt: &HostRuntime,
     threads: &H,
     command: &BpfrtCommand,
-    out: &mut W,
 ) -> u8 {
     let alloc = rt.alloc();
     let mut err = rt.stderr();
-    let mut input = Recent::new(alloc, rt.stdin());
-    let status = run(threads, alloc, command, &mut input, out, &mut err);
+    let heard = RefCell::new(Heard::new(alloc));
+    let mut input = Recent::new(alloc, rt.stdin(), rt.stderr(), &heard);
+    let mut out = Answers::new(rt.stdout(), &heard);
+    let status = run(threads, alloc, command, &mut input, &mut out, &mut err);
+    input.explain();
     if let (1, Some((text, above))) = (status, input.text()) {
         let _ = explain_script(alloc, text, above, &mut err);
     }
@@ -82,7 +87,7 @@ fn run_into<H: Threads + Wait + Sync, W: Write>(
     let alloc = rt.alloc();
     let mut err = rt.stderr();
     if let BpfrtCommand::Script { explain: true } = command {
-        return run_explained(rt, threads, command, out);
+        return run_explained(rt, threads, command);
     }
     match command.file() {
         None => run(threads, alloc, command, &mut rt.stdin(), out, &mut err),

@@ -47,7 +47,8 @@ impl Write for Progress {
         self.out.flush()?;
         let jobs = self.jobs;
         let done = self.lines.min(jobs);
-        let _ = write!(self.err, "\r{done} of {jobs} jobs ");
+        let unit = if jobs == 1 { "job" } else { "jobs" };
+        let _ = write!(self.err, "\r{done} of {jobs} {unit} ");
         Ok(())
     }
 }

@@ -1,14 +1,20 @@
 //! What was read last of a script.
 
-use std::alloc::{AllocError, Global};
+use crate::answers::Heard;
+use commands::{Made, explain_answers};
+use std::alloc::Global;
+use std::cell::RefCell;
 use std::io;
-use std::io::Read;
+use std::io::{Read, Stderr};
 
 /// A script that is read, which keeps the lines that ended in the last read, and what stands behind them: a line of a script is
-/// answered before more is read.
+/// answered before more is read. Before that it says on standard error why lines were refused.
 #[derive(Drop)]
-pub struct Recent<R: Drop> {
+pub struct Recent<'a, R: Drop> {
     input: R,
+    err: Stderr,
+    heard: &'a RefCell<Heard>,
+    made: Made,
     alloc: Global,
     text: Vec<u8>,
     above: usize,
@@ -28,18 +34,14 @@ fn ended_in(text: &[u8]) -> (usize, &[u8]) {
     (lines, text.get(end..text.len()).unwrap_or(&[]))
 }
 
-/// A text of two parts.
-fn joined(alloc: Global, front: &[u8], back: &[u8]) -> Result<Vec<u8>, AllocError> {
-    let mut text = Vec::from_slice(alloc, front)?;
-    text.extend_from_slice(back)?;
-    Ok(text)
-}
-
-impl<R: Read + Drop> Recent<R> {
-    /// A script of which nothing is read.
-    pub fn new(alloc: Global, input: R) -> Recent<R> {
+impl<'a, R: Read + Drop> Recent<'a, R> {
+    /// A script of which nothing is read, and whose answers are heard here.
+    pub fn new(alloc: Global, input: R, err: Stderr, heard: &'a RefCell<Heard>) -> Recent<'a, R> {
         Recent {
             input,
+            err,
+            heard,
+            made: Made::new(alloc),
             alloc,
             text: Vec::new(alloc),
             above: 0,
@@ -56,21 +58,47 @@ impl<R: Read + Drop> Recent<R> {
         }
     }
 
-    /// Keeps these bytes behind the beginning of their first line.
-    fn keep(&mut self, bytes: &[u8]) {
+    /// Says why lines were refused whose answers have been heard.
+    pub fn explain(&mut self) {
+        let Ok(mut heard) = self.heard.try_borrow_mut() else {
+            return;
+        };
+        if let (true, Some(outcomes)) = (self.is_kept, heard.outcomes()) {
+            let _ = explain_answers(
+                self.alloc,
+                &mut self.made,
+                &self.text,
+                self.above,
+                outcomes,
+                &mut self.err,
+            );
+        }
+        heard.forget();
+    }
+
+    /// Forgets the lines that have ended, which are answered.
+    fn forget_lines(&mut self) {
         let (lines, rest) = ended_in(&self.text);
-        match joined(self.alloc, rest, bytes) {
-            Ok(text) => {
+        match Vec::from_slice(self.alloc, rest) {
+            Ok(rest) => {
                 self.above = self.above.saturating_add(lines);
-                self.text = text;
+                self.text = rest;
             }
             Err(_) => self.is_kept = false,
         }
     }
+
+    /// Keeps these bytes behind the beginning of their first line.
+    fn keep(&mut self, bytes: &[u8]) {
+        let kept = self.text.extend_from_slice(bytes).is_ok();
+        self.is_kept = self.is_kept && kept;
+    }
 }
 
-impl<R: Read + Drop> Read for Recent<R> {
+impl<'a, R: Read + Drop> Read for Recent<'a, R> {
     fn read(&mut self, bytes: &mut [u8]) -> io::Result<usize> {
+        self.explain();
+        self.forget_lines();
         let count = self.input.read(bytes)?;
         if count > 0 {
             self.keep(&bytes[..count]);

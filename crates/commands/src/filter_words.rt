@@ -2,7 +2,9 @@
 
 use crate::filter::FilterFault;
 use crate::heads::lines_in;
-use classic::{ClassicFault, Data, ReadFault, SockFilter, read_filter_array, read_listing};
+use classic::{
+    ClassicFault, Data, ReadFault, SockFilter, TranslateFault, read_filter_array, read_listing,
+};
 use program_files::{Likeness, likeness_of, write_line};
 use std::alloc::Global;
 use std::io::Write;
@@ -173,30 +175,18 @@ fn explain_jump<E: Write>(
     }
 }
 
-/// The numbers of refusals for a load of a policy, and for one of a packet.
-const BAD_POLICY_LOAD: u8 = 110;
-
-const OUTSIDE_WINDOW: u8 = 112;
-
-/// Writes what helps where the instruction of this number is refused for what it loads.
-fn explain_load<E: Write>(
+/// Writes what stands at the constant offset of a load of a packet, where only the kernel knows it.
+fn explain_window<E: Write>(
     alloc: Global,
     bytes: &[u8],
-    code: u8,
     number: usize,
     err: &mut E,
 ) -> io::Result<()> {
-    if code == BAD_POLICY_LOAD {
-        return writeln!(
-            err,
-            "  a policy loads aligned words below 64, and nothing else"
-        );
-    }
     let Some(filter) = listed(alloc, bytes, Data::Packet) else {
         return Ok(());
     };
     match filter.get(number) {
-        Some(insn) if code == OUTSIDE_WINDOW && insn.k >= 1 << 31 => {
+        Some(insn) if insn.k >= 1 << 31 => {
             let at = insn.k;
             writeln!(
                 err,
@@ -205,6 +195,28 @@ fn explain_load<E: Write>(
         }
         _ => Ok(()),
     }
+}
+
+/// Writes what is wrong with the instructions of a program, and answers with which.
+fn explain_flaw<E: Write>(
+    alloc: Global,
+    bytes: &[u8],
+    kind: Data,
+    fault: &ClassicFault,
+    err: &mut E,
+) -> io::Result<Option<usize>> {
+    if let ClassicFault::BadJump(number) = fault {
+        explain_jump(alloc, bytes, kind, *number, err)?;
+        return Ok(Some(*number));
+    }
+    writeln!(err, "{fault}")?;
+    if let ClassicFault::NotOfSeccomp(_) = fault {
+        writeln!(
+            err,
+            "  a policy loads aligned words below 64, and nothing else"
+        )?;
+    }
+    Ok(fault.instruction())
 }
 
 /// What bytes look like that are not of this kind.
@@ -235,31 +247,25 @@ fn explain_why<E: Write>(
     why: &FilterFault,
     err: &mut E,
 ) -> io::Result<Option<usize>> {
-    let (code, instruction) = match why {
-        FilterFault::Memory => return Ok(None),
+    match why {
+        FilterFault::Memory => Ok(None),
         FilterFault::NotUtf8 { line } => {
             explain_bytes(bytes, *line, err)?;
-            return Ok(None);
+            Ok(None)
         }
         FilterFault::Unread(fault) => {
             explain_listing(bytes, fault, err)?;
-            return Ok(None);
+            Ok(None)
         }
-        FilterFault::Flawed(ClassicFault::BadJump(number)) => {
-            explain_jump(alloc, bytes, kind, *number, err)?;
-            return Ok(Some(*number));
-        }
-        FilterFault::Flawed(fault) => {
-            writeln!(err, "{fault}")?;
-            (fault.code(), fault.instruction())
-        }
+        FilterFault::Flawed(fault) => explain_flaw(alloc, bytes, kind, fault, err),
         FilterFault::Untranslated(fault) => {
             writeln!(err, "{fault}")?;
-            (fault.code(), fault.instruction())
+            if let TranslateFault::OutsideWindow(number) = fault {
+                explain_window(alloc, bytes, *number, err)?;
+            }
+            Ok(fault.instruction())
         }
-    };
-    explain_load(alloc, bytes, code, instruction.unwrap_or(0), err)?;
-    Ok(instruction)
+    }
 }
 
 /// Writes in words why bytes are no classic program, or have no program file.

@@ -86,7 +86,7 @@ Reads a script from standard input to its end, one command a line (docs/SCRIPTS.
 then what happens to them.
 
 Prints the answer to each command, `refused C` among them. Each answer is out before the next line is
-waited for. With --explain, a line that is no command is followed on standard error by that line, and why it is none.
+waited for. With --explain, standard error has each line that is refused or no command, and why it is.
 
 Status, and the line on standard error:
   0  the input has ended; also where answers were refusals

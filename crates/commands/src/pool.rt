@@ -11,6 +11,7 @@ ghost use Rattle.commands.specs.Pools.{entries_line, IsProgramOf, IsRefusedByPoo
 
 use crate::report::{plain_verdict, refused, told};
 use crate::streams::{unread_in_words, written};
+use bpf_model::MAX_JOURNAL;
 use program_files::{FileBytes, Verdict, meaning_of, read_file, verify_for_maps};
 use std::alloc::Global;
 use std::io;
@@ -65,7 +66,7 @@ fn write_limits<W: Write>(out: &mut W, code: u8, size: PoolSize) -> io::Result<(
     )?;
     writeln!(
         out,
-        "  the journal has room for 16777216 entries: one for each start, step and drop of a job"
+        "  the journal has room for {MAX_JOURNAL} entries: one for each start, step and drop of a job"
     )
 }
 

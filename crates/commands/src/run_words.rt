@@ -28,7 +28,7 @@ fn write_names<W: Write>(out: &mut W, maps: &Registry) -> io::Result<()> {
 }
 
 /// Writes that bytes of an element have another length than those of its map, where they have.
-fn write_length<W: Write>(
+pub fn write_length<W: Write>(
     out: &mut W,
     map: &str,
     what: &str,

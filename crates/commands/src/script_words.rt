@@ -122,10 +122,10 @@ fn lack_of(due: Due, word: &str) -> Option<&'static str> {
 }
 
 /// The most columns of a word that are shown.
-const SHOWN: usize = 40;
+pub const SHOWN: usize = 40;
 
 /// The words of a line.
-fn words_of<'a>(alloc: Global, line: &'a str) -> Result<Vec<&'a str>, AllocError> {
+pub fn words_of<'a>(alloc: Global, line: &'a str) -> Result<Vec<&'a str>, AllocError> {
     let mut words = Vec::new(alloc);
     for word in line.split(' ') {
         if !word.is_empty() {

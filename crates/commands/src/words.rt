@@ -165,6 +165,18 @@ fn filter_grammar<'a>(alloc: Global) -> Result<clap::Command<'a>, AllocError> {
         .arg(explain_option(alloc))
 }
 
+/// The grammar of the words of `script`.
+fn script_grammar<'a>(alloc: Global) -> Result<clap::Command<'a>, AllocError> {
+    clap::Command::new(alloc, "script")
+        .about("Answers the script on standard input")
+        .after_help(SCRIPT_HELP)
+        .arg(flag(
+            alloc,
+            "explain",
+            "say in words why a line is refused or no command",
+        ))
+}
+
 /// The grammar of the words.
 fn grammar<'a>(alloc: Global) -> Result<clap::Command<'a>, AllocError> {
     let check = clap::Command::new(alloc, "check")
@@ -187,10 +199,6 @@ fn grammar<'a>(alloc: Global) -> Result<clap::Command<'a>, AllocError> {
         .about("Writes the text of the program in FILE, one instruction a line")
         .after_help(DISASM_HELP)
         .arg(file_argument(alloc))?;
-    let script = clap::Command::new(alloc, "script")
-        .about("Answers the script on standard input")
-        .after_help(SCRIPT_HELP)
-        .arg(flag(alloc, "explain", "say in words why a line is no command"))?;
     clap::Command::new(alloc, "bpfrt")
         .about("An eBPF runtime with proved contracts")
         .version(VERSION)
@@ -199,7 +207,7 @@ fn grammar<'a>(alloc: Global) -> Result<clap::Command<'a>, AllocError> {
         .subcommand(check)?
         .subcommand(disasm)?
         .subcommand(asm_grammar(alloc)?)?
-        .subcommand(script)?
+        .subcommand(script_grammar(alloc)?)?
         .subcommand(pool_grammar(alloc)?)?
         .subcommand(run_grammar(alloc)?)?
         .subcommand(trace_grammar(alloc)?)?

@@ -1,9 +1,9 @@
 //! What of an instruction or of its program is the cause of a refusal, in words.
 
 use crate::Source;
-use bpf_model::{
-    AluOp, ArgumentKind, CallKind, FRAME_BYTES, Helper, Insn, MapId, MapShape, Operand,
-};
+use crate::arithmetic::write_arithmetic;
+use crate::bounds::write_bounds;
+use bpf_model::{ArgumentKind, CallKind, FRAME_BYTES, Helper, Insn, MapId, MapShape, Operand};
 use register_kinds::{AbsState, RegKind};
 use std::io;
 use std::io::Write;
@@ -24,6 +24,10 @@ const UNKNOWN_CALL: u8 = 35;
 const WRONG_ARGUMENT: u8 = 36;
 
 const NO_SUCH_MAP: u8 = 37;
+
+/// Which functions there are.
+pub const FUNCTIONS: &str =
+    "`call 1` looks up, `call 2` updates, `call 3` deletes, `callbtf 1` locks, `callbtf 2` unlocks";
 
 /// How far a jump leads.
 fn distance_of(insn: &Insn) -> Option<i64> {
@@ -104,10 +108,7 @@ pub fn write_cause<W: Write>(
 ) -> io::Result<()> {
     match code {
         JUMP_TARGET => write_target(out, source, insn, slot),
-        UNKNOWN_CALL => writeln!(
-            out,
-            "  `call` 1 looks up, 2 updates, 3 deletes; `callbtf` 1 locks, 2 unlocks"
-        ),
+        UNKNOWN_CALL => writeln!(out, "  {FUNCTIONS}"),
         NO_SUCH_MAP => write_maps(out, source),
         _ => Ok(()),
     }
@@ -174,42 +175,12 @@ fn write_outside<W: Write>(
                 let sign = if first < 0 { "" } else { "+" };
                 return writeln!(
                     out,
-                    "  {what} at r10{sign}{first}, length {length}: the frame is r10-512 to r10-1"
+                    "  {what} at r10{sign}{first}, length {length}: the frame is r10-{FRAME_BYTES} to r10-1"
                 );
             }
         }
     }
     Ok(())
-}
-
-/// Writes why arithmetic makes no pointer.
-fn write_arithmetic<W: Write>(out: &mut W, insn: &Insn, state: &AbsState) -> io::Result<()> {
-    let Insn::Alu { op, dst, src, .. } = insn else {
-        return Ok(());
-    };
-    let is_pointer = state
-        .regs
-        .get(dst.index())
-        .is_some_and(|kind| kind.is_pointer());
-    match (op, src) {
-        (AluOp::Add | AluOp::Sub, Operand::Register(by))
-            if state
-                .regs
-                .get(by.index())
-                .is_some_and(|kind| kind.is_pointer()) => {
-            let by = by.index();
-            writeln!(
-                out,
-                "  r{by} is no number, and only a number moves a pointer"
-            )
-        }
-        (AluOp::Add | AluOp::Sub | AluOp::Move, _) => Ok(()),
-        _ if is_pointer => writeln!(
-            out,
-            "  a pointer is moved by add64 and sub64 of a number, and by nothing else"
-        ),
-        _ => Ok(()),
-    }
 }
 
 /// Writes what is stored or returned that is no number.
@@ -269,6 +240,7 @@ pub fn write_known_cause<W: Write>(
     match (code, helper_of(insn)) {
         (WRONG_ARGUMENT, Some(helper)) => write_argument(out, state, helper),
         (OUT_OF_BOUNDS, Some(helper)) => write_outside(out, source, state, helper),
+        (OUT_OF_BOUNDS, None) => write_bounds(out, source, insn, state),
         (POINTER_ARITHMETIC, _) => write_arithmetic(out, insn, state),
         (POINTER_LEAK, _) => write_leak(out, insn, state),
         (UNPAIRED_SECTION, _) => write_section(out, insn, state.depth),

@@ -10,6 +10,7 @@ use crate::loader::load;
 use crate::meaning::meaning_of;
 use crate::missing::{write_loaded, write_missing};
 use crate::reads::registers_read;
+use crate::slot_lines::{SlotPlace, place_of_slot};
 use crate::wrong_line::write_wrong_line;
 use crate::{FileBytes, HEADING, MEMORY, Source, Verdict, known_where_refused};
 use bpf_model::Insn;
@@ -94,7 +95,23 @@ fn write_instruction<W: Write>(
     Ok(())
 }
 
-/// Writes the digits of a slot that is no instruction, of a file that looks like nothing else.
+/// Writes in which line of a program file's text a slot stands, and where among that line's slots.
+fn write_slot_line<W: Write>(bytes: &[u8], slot: usize, out: &mut W) -> io::Result<()> {
+    let Some(place) = place_of_slot(bytes, slot) else {
+        return Ok(());
+    };
+    let SlotPlace { line, above, among } = place;
+    if among == 1 {
+        return writeln!(out, "  line {line} of the file");
+    }
+    let number = slot.saturating_sub(above).saturating_add(1);
+    writeln!(
+        out,
+        "  line {line} of the file, slot {number} of {among} there"
+    )
+}
+
+/// Writes the digits of a slot that is no instruction, of a file that looks like nothing else, and the line of a text.
 fn write_slot<W: Write>(
     alloc: Global,
     file: &FileBytes,
@@ -113,7 +130,8 @@ fn write_slot<W: Write>(
     let first = slot.saturating_mul(8);
     let code = said.code.get(first..first.saturating_add(8)).unwrap_or(&[]);
     let digits = hex::encode(alloc, code)?;
-    writeln!(out, "at {slot}: {digits}")
+    writeln!(out, "at {slot}: {digits}")?;
+    write_slot_line(bytes, slot, out)
 }
 
 /// How many lines stand above that of the context.

@@ -25,6 +25,8 @@ pub enum Likeness {
     Headless,
     /// The slots of a program file alone.
     Slots,
+    /// Bytes in hexadecimal with blanks between them, as programs that show files write them.
+    Digits,
     /// A policy of system calls, in bytes.
     Policy,
     /// What `tcpdump -ddd` writes.
@@ -56,6 +58,9 @@ const OTHER_HEADING: &str =
     "a program file whose first line is not `bpfrt 1` and a line feed alone";
 
 const SLOTS: &str = "slots of a program file: put `bpfrt 1`, `ctx N` and `code` above them";
+
+const DIGITS: &str =
+    "bytes in hexadecimal: write each slot as 16 digits without blanks, below lines `bpfrt 1`, `ctx N` and `code`";
 
 const POLICY: &str =
     "a policy of system calls: `bpfrt filter --seccomp` makes a program file of it";
@@ -90,6 +95,7 @@ impl Likeness {
             Likeness::OtherHeading => OTHER_HEADING,
             Likeness::Headless => "a program file without its first line, which is `bpfrt 1`",
             Likeness::Slots => SLOTS,
+            Likeness::Digits => DIGITS,
             Likeness::Policy => POLICY,
             Likeness::Listing => LISTING,
             Likeness::Printed => PRINTED,
@@ -105,6 +111,23 @@ impl Likeness {
 
 /// How many bytes of a text are looked at.
 pub const SEEN: usize = 4096;
+
+/// The bytes that are looked at.
+fn first_of(bytes: &[u8]) -> &[u8] {
+    bytes.get(0..bytes.len().min(SEEN)).unwrap_or(&[])
+}
+
+/// The text with which bytes begin, so far as they are looked at.
+pub(crate) fn text_in(bytes: &[u8]) -> &str {
+    let first = first_of(bytes);
+    match str::from_utf8(first) {
+        Ok(text) => text,
+        Err(error) => {
+            let sound = first.get(0..error.valid_up_to()).unwrap_or(&[]);
+            str::from_utf8(sound).unwrap_or("")
+        }
+    }
+}
 
 /// Whether bytes are the characters and line ends of a text.
 fn is_text(bytes: &[u8]) -> bool {
@@ -268,6 +291,58 @@ fn is_comment(word: &str) -> bool {
         || word.starts_with('*')
 }
 
+/// How many hexadecimal digits a word has, as `b7` and `0xb7` have two; 0 where it has something else.
+fn digits_in(word: &[u8]) -> usize {
+    let digits = match word {
+        [b'0', b'x', digits @ ..] => digits,
+        [b'x', digits @ ..] => digits,
+        _ => word,
+    };
+    for digit in digits {
+        if !digit.is_ascii_hexdigit() {
+            return 0;
+        }
+    }
+    digits.len()
+}
+
+/// Whether a byte parts bytes in hexadecimal, as programs write them.
+fn parts_bytes(byte: u8) -> bool {
+    match byte {
+        b' ' | b'\t' | b',' | b':' | b'\\' | b'"' => true,
+        _ => false,
+    }
+}
+
+/// How many digits each of the first four words of a line has.
+fn first_digits(line: &str) -> [usize; 4] {
+    let mut digits = [0; 4];
+    let mut count: usize = 0;
+    for word in line.as_bytes().split(|byte| parts_bytes(*byte)) {
+        if !word.is_empty() {
+            if let Some(place) = digits.get_mut(count) {
+                *place = digits_in(word);
+            }
+            count = count.saturating_add(1);
+        }
+    }
+    digits
+}
+
+/// Whether a line begins with bytes in hexadecimal that something parts: three words with as many digits, maybe behind an
+/// address, or two halves of a slot.
+pub(crate) fn are_digits(line: &str) -> bool {
+    match first_digits(line) {
+        [8, 8, _, _] => true,
+        [first, second, third, _] if first == second && second == third => first % 2 == 0
+            && first > 0,
+        [address, second, third, fourth] if second == third && third == fourth => {
+            address > 0 && second % 2 == 0 && second > 0
+        }
+        _ => false,
+    }
+}
+
 /// What a line looks like, if it is not empty and no comment.
 fn likeness_of_line(line: &str) -> Option<Likeness> {
     let word = line.split_ascii_whitespace().next()?;
@@ -279,6 +354,8 @@ fn likeness_of_line(line: &str) -> Option<Likeness> {
         Some(Likeness::OtherHeading)
     } else if is_slot(word) {
         Some(Likeness::Slots)
+    } else if are_digits(line) {
+        Some(Likeness::Digits)
     } else if is_clang_line(line, word) {
         Some(Likeness::ClangAssembly)
     } else if is_command(word) {
@@ -290,21 +367,32 @@ fn likeness_of_line(line: &str) -> Option<Likeness> {
     }
 }
 
-/// What the first line of a text looks like that is not empty and no comment.
-fn likeness_of_lines(text: &str) -> Likeness {
+/// What the first line of a text looks like that is not empty and no comment; where that tells nothing, whether half of the
+/// lines or more are assembly.
+pub(crate) fn likeness_of_lines(text: &str) -> Likeness {
+    let (mut named, mut instructions): (usize, usize) = (0, 0);
     for line in text.lines() {
-        if let Some(likeness) = likeness_of_line(line) {
+        let Some(likeness) = likeness_of_line(line) else {
+            continue;
+        };
+        if named == 0 && likeness != Likeness::Text {
             return likeness;
         }
+        named = named.saturating_add(1);
+        instructions = instructions.saturating_add(usize::from(likeness == Likeness::Assembly));
     }
-    Likeness::Text
+    if instructions > 0 && instructions.saturating_mul(2) >= named {
+        Likeness::Assembly
+    } else {
+        Likeness::Text
+    }
 }
 
 /// The line between a head and what stands below it.
 const CODE_LINE: &str = "\ncode\n";
 
 /// Whether a word is a slot of a program file.
-fn is_slot(word: &str) -> bool {
+pub fn is_slot(word: &str) -> bool {
     for digit in word.as_bytes() {
         if !digit.is_ascii_hexdigit() {
             return false;
@@ -313,13 +401,26 @@ fn is_slot(word: &str) -> bool {
     word.len() == 16
 }
 
+/// What stands behind a line `code` of a text.
+fn below_code(text: &str) -> &str {
+    match text.split_once(CODE_LINE) {
+        Some((_, below)) => below,
+        None => "",
+    }
+}
+
 /// Whether a text has slots behind a line `code`, as a program file has.
 pub fn has_slots(text: &str) -> bool {
-    match text.split_once(CODE_LINE) {
-        Some((_, below)) => match below.split_ascii_whitespace().next() {
-            Some(word) => is_slot(word),
-            None => false,
-        },
+    match below_code(text).split_ascii_whitespace().next() {
+        Some(word) => is_slot(word),
+        None => false,
+    }
+}
+
+/// Whether a text has bytes in hexadecimal, with blanks between them, behind a line `code`.
+fn has_digits(text: &str) -> bool {
+    match below_code(text).lines().next() {
+        Some(line) => are_digits(line),
         None => false,
     }
 }
@@ -348,6 +449,7 @@ fn likeness_of_text(text: &str) -> Likeness {
     }
     match likeness_of_lines(text) {
         Likeness::Script | Likeness::Assembly if has_slots(text) => Likeness::Headless,
+        Likeness::Script | Likeness::Assembly if has_digits(text) => Likeness::Digits,
         Likeness::Script if text.contains(CODE_LINE) => Likeness::Assembly,
         likeness => likeness,
     }
@@ -376,17 +478,14 @@ pub fn likeness_of(bytes: &[u8]) -> Option<Likeness> {
     if marked.is_some() {
         return marked;
     }
-    let first = bytes.get(0..bytes.len().min(SEEN)).unwrap_or(&[]);
+    let first = first_of(bytes);
     if is_wide_text(first) {
         return Some(Likeness::Utf16);
     }
     if !is_text(first) {
         return None;
     }
-    match str::from_utf8(first) {
-        Ok(text) => Some(likeness_of_text(text)),
-        Err(_) => Some(Likeness::Text),
-    }
+    Some(likeness_of_text(text_in(first)))
 }
 
 /// Writes what bytes look like that were read as the slots of a program.

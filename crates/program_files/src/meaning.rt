@@ -117,18 +117,42 @@ fn of_use(code: u8) -> Option<Meaning> {
     }
 }
 
+/// Of what a script's maps and programs are refused for.
+fn of_making(code: u8) -> Option<Meaning> {
+    match code {
+        50 => means(
+            "BadName",
+            "a map's name is not 1 to 32 of a to z, 0 to 9 and _, the first a letter",
+        ),
+        51 => means("NameTaken", "a map has that name"),
+        52 => means("BadShape", "no map may have that shape"),
+        53 => means("TooMany", "a seventeenth map"),
+        54 => means("TooManyPrograms", "a sixty-fifth program"),
+        56 => means(
+            "TooLate",
+            "a script: a map or a program after the world was made",
+        ),
+        _ => None,
+    }
+}
+
 /// Of what a run or a pool of a program is refused for.
 fn of_runs(code: u8) -> Option<Meaning> {
     match code {
+        60 => means("NoRun", "no run has the run slot"),
+        61 => means("Ended", "the run has ended"),
+        62 => means("NoProgram", "no program has the number"),
         63 => means(
             "BadContext",
             "a context of another length than the program's, or above 256",
         ),
+        64 => means("RunsFull", "no run slot is free"),
         65 => means("NoMap", "no map has the number, or the name"),
         66 => means(
             "BadLength",
             "a key or a value of another length than the map's",
         ),
+        67 => means("StillRunning", "the run has not ended"),
         90 => means("BadWorkers", "the number of workers is not 1 to 8"),
         91 => means("TooManyJobs", "more than 65,536 jobs"),
         98 => means(
@@ -139,14 +163,15 @@ fn of_runs(code: u8) -> Option<Meaning> {
     }
 }
 
-/// The meaning of the number by which a program file, a run or a pool of it is refused; `None` where it has no other meaning
+/// The meaning of the number by which a program file, a run or a pool of it, or a line of a script is refused; `None` where it has no other meaning
 /// than that memory ran out, or none.
 pub fn meaning_of(code: u8) -> Option<Meaning> {
     match code {
         1..=12 => of_bytes(code),
         20..=22 | 38 => of_graph(code),
         23..=30 => of_access(code),
-        63..=66 | 90 | 91 | 98 => of_runs(code),
+        50..=56 => of_making(code),
+        60..=67 | 90 | 91 | 98 => of_runs(code),
         94 => means("BadFile", "a line of a program file is wrong"),
         _ => of_use(code),
     }

@@ -1,6 +1,7 @@
 //! Which bytes of the frame an instruction reads, and what is known of them.
 
 use crate::Source;
+use crate::access::loaded;
 use crate::log::write_group;
 use bpf_model::{ArgumentKind, CallKind, FRAME_BYTES, Helper, Insn, MapId, MapShape, Reg};
 use register_kinds::{AbsState, RegKind, check_bytes};
@@ -106,22 +107,8 @@ fn write_missing_of_call<W: Write>(
 
 /// The bytes of the frame that a load reads.
 fn part_of_load(insn: &Insn, state: &AbsState) -> Option<FramePart> {
-    let (base, offset, length) = match insn {
-        Insn::Load {
-            width,
-            src,
-            offset,
-            ..
-        } => (*src, *offset, width.bytes()),
-        Insn::LoadSigned {
-            width,
-            src,
-            offset,
-            ..
-        } => (*src, *offset, width.width().bytes()),
-        _ => return None,
-    };
-    part_at(state, base, offset, "read", length)
+    let access = loaded(insn)?;
+    part_at(state, access.base, access.offset, "read", access.length)
 }
 
 /// Writes a line for the first byte of the frame that the instruction reads and that is not written on every path.

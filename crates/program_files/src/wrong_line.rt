@@ -1,8 +1,10 @@
 //! A line of a text that is wrong, and what a line of a program file may be.
 
-use crate::likeness::is_instruction;
+use crate::likeness::{Likeness, are_digits, is_instruction, likeness_of_lines, text_in};
+use bpf_model::{CTX_BYTES, KEY_BYTES, MAX_ENTRIES, MAX_MAPS, MAX_REUSE, MAX_SPARE, VALUE_BYTES};
+use maps::NAME_BYTES;
+use std::io;
 use std::io::Write;
-use std::{io, str};
 
 /// Where the line of this number begins, counted from 1.
 fn start_of_line(text: &[u8], number: usize) -> usize {
@@ -79,35 +81,73 @@ fn has_code_line(text: &[u8]) -> bool {
     false
 }
 
-/// Whether the line at the beginning of a text has an instruction in words.
-fn has_instruction(rest: &[u8]) -> bool {
-    let line = rest.get(0..length_of_line(rest)).unwrap_or(&[]);
-    match str::from_utf8(line)
-        .unwrap_or("")
-        .split_ascii_whitespace()
+/// Where the wrong line of a program file stands.
+#[derive(Clone, Copy, Debug, PartialEq, Eq)]
+enum Part {
+    Context,
+    Maps,
+    Code,
+}
+
+/// Whether assembly stands from a wrong line of this part on.
+fn is_assembly(part: Part, rest: &str) -> bool {
+    let word = rest
+        .lines()
         .next()
-    {
-        Some(word) => is_instruction(word),
-        None => false,
+        .and_then(|line| line.split_ascii_whitespace().next())
+        .unwrap_or("");
+    match part {
+        Part::Code => likeness_of_lines(rest) == Likeness::Assembly,
+        Part::Context | Part::Maps => word != "ctx" && is_instruction(word),
     }
 }
 
-/// What a line of a program file may be, by where it stands.
-fn forms_of(text: &[u8], start: usize, is_context: bool) -> &'static str {
-    if is_context {
-        return "  a line here is `ctx N`: the length of the context in bytes, 0 to 256";
-    }
-    let is_below = has_code_line(text.get(0..start).unwrap_or(&[]));
-    match text.get(start..text.len()) {
-        Some(rest) if is_below && has_instruction(rest) => {
-            "  instructions stand here: leave the line `bpfrt 1` out, and use `bpfrt check --asm`"
-        }
-        _ if is_below => { "  a line here has slots, each of 16 hexadecimal digits" }
-        _ => {
-            "  a line here is `map NAME KEY VALUE ENTRIES SPARE REUSE`, `map NAME array VALUE ENTRIES` or `code`\n  \
-             NAME: 1 to 32 of a to z, 0 to 9 and _, the first a letter, and no other map's; at most 16 maps\n  \
-             KEY 1 to 64, VALUE 1 to 256, ENTRIES 1 to 4096, SPARE 0 to 4096, REUSE 1 to 4294967295"
-        }
+/// Writes which names a map may have.
+///
+/// An error says that nothing more could be written.
+pub fn write_name_rule<W: Write>(out: &mut W) -> io::Result<()> {
+    write!(
+        out,
+        "1 to {NAME_BYTES} of a to z, 0 to 9 and _, the first a letter"
+    )
+}
+
+/// Writes how a line of a map is written.
+fn write_map_forms<W: Write>(out: &mut W) -> io::Result<()> {
+    writeln!(
+        out,
+        "  a line here is `map NAME KEY VALUE ENTRIES SPARE REUSE`, `map NAME array VALUE ENTRIES` or `code`"
+    )?;
+    write!(out, "  NAME: ")?;
+    write_name_rule(out)?;
+    writeln!(out, ", and no other map's; at most {MAX_MAPS} maps")?;
+    writeln!(
+        out,
+        "  KEY 1 to {KEY_BYTES}, VALUE 1 to {VALUE_BYTES}, ENTRIES 1 to {MAX_ENTRIES}, SPARE 0 to {MAX_SPARE}, REUSE 1 to {MAX_REUSE}"
+    )
+}
+
+/// What is said of assembly in a program file.
+const ASSEMBLY: &str =
+    "  assembly stands here: leave the line `bpfrt 1` out, then `bpfrt check --asm` checks it, and `bpfrt asm --file` makes a \
+    program file of it";
+
+/// Writes what a line of this part of a program file may be, instead of the first line of a text.
+fn write_forms<W: Write>(out: &mut W, part: Part, rest: &str) -> io::Result<()> {
+    match part {
+        Part::Context => writeln!(
+            out,
+            "  a line here is `ctx N`: the length of the context in bytes, 0 to {CTX_BYTES}"
+        ),
+        Part::Maps => write_map_forms(out),
+        Part::Code if are_digits(rest.lines().next().unwrap_or("")) => writeln!(
+            out,
+            "  a line here has slots, each of 16 hexadecimal digits, and no blank stands between these"
+        ),
+        Part::Code => writeln!(
+            out,
+            "  a line here has slots, each of 16 hexadecimal digits"
+        ),
     }
 }
 
@@ -145,8 +185,19 @@ pub fn write_wrong_line<W: Write>(
 ) -> io::Result<()> {
     write_line(out, text, number, 0)?;
     let start = start_of_line(text, number);
-    let forms = forms_of(text, start, number == heading.saturating_add(1));
-    writeln!(out, "{forms}")?;
+    let part = if number == heading.saturating_add(1) {
+        Part::Context
+    } else if has_code_line(text.get(0..start).unwrap_or(&[])) {
+        Part::Code
+    } else {
+        Part::Maps
+    };
+    let rest = text_in(text.get(start..text.len()).unwrap_or(&[]));
+    if heading > 0 && is_assembly(part, rest) {
+        writeln!(out, "{ASSEMBLY}")?;
+    } else {
+        write_forms(out, part, rest)?;
+    }
     writeln!(
         out,
         "  one space parts words, and none begins or ends a line; no line is empty or a comment"

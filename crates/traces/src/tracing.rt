@@ -53,7 +53,8 @@ fn write_store<W: Write>(out: &mut W, maps: &Registry, run: &Run, insn: &Insn) -
         .wrapping_add(i64::from(*offset).cast_unsigned());
     let stored = kept(number, *width);
     let count = width.bytes();
-    write!(out, "  stores {stored}, {count} bytes, at {place}")?;
+    let unit = if count == 1 { "byte" } else { "bytes" };
+    write!(out, "  stores {stored}, {count} {unit}, at {place}")?;
     write_place(out, maps, place)?;
     writeln!(out)
 }

@@ -1,0 +1,172 @@
+//! Why arithmetic, a copy or a comparison is refused that has a reference in it, in words.
+
+use bpf_model::{AluOp, Insn, NEAR_LIMIT, Operand, Reg, Size};
+use register_kinds::{AbsState, RegKind};
+use scalar_domain::Scalar;
+use std::io;
+use std::io::Write;
+
+/// Whether a register holds a reference or a map.
+fn is_reference(state: &AbsState, register: Reg) -> bool {
+    state
+        .regs
+        .get(register.index())
+        .is_some_and(|kind| kind.is_pointer())
+}
+
+/// The register that an operand is, where that holds a reference or a map.
+fn reference_in(state: &AbsState, src: &Operand) -> Option<Reg> {
+    match src {
+        Operand::Register(register) if is_reference(state, *register) => Some(*register),
+        _ => None,
+    }
+}
+
+/// The numbers that an operand may be.
+fn numbers_of(state: &AbsState, src: &Operand) -> Option<Scalar> {
+    match src {
+        Operand::Immediate(number) => { Some(Scalar::constant(i64::from(*number).cast_unsigned())) }
+        Operand::Register(register) => match state.regs.get(register.index()) {
+            Some(RegKind::Num(numbers)) => Some(*numbers),
+            _ => None,
+        },
+    }
+}
+
+/// Why a reference is not moved by a number.
+#[derive(Clone, Copy, Debug, PartialEq, Eq)]
+enum Unmoved {
+    /// A reference to the frame is moved by one number alone.
+    ManyInFrame,
+    /// The number may be too great, either way.
+    FarNumber,
+    /// Where the reference leads then may be too far from the start of its region.
+    FarOffset,
+}
+
+/// Why a reference of this kind is not moved by one of these numbers.
+fn why_unmoved(kind: &RegKind, by: &Scalar) -> Unmoved {
+    let is_one = by.least == by.greatest;
+    if !is_one && matches!(kind, RegKind::Frame(_)) {
+        return Unmoved::ManyInFrame;
+    }
+    if by.greatest <= NEAR_LIMIT || by.least > u64::MAX - NEAR_LIMIT {
+        Unmoved::FarOffset
+    } else {
+        Unmoved::FarNumber
+    }
+}
+
+/// Writes an operand.
+fn write_operand<W: Write>(out: &mut W, src: &Operand) -> io::Result<()> {
+    match src {
+        Operand::Register(register) => {
+            let number = register.index();
+            write!(out, "  r{number}")
+        }
+        Operand::Immediate(number) => write!(out, "  {number}"),
+    }
+}
+
+/// Writes why a reference of this kind is not moved by an operand.
+fn write_unmoved<W: Write>(
+    out: &mut W,
+    kind: &RegKind,
+    src: &Operand,
+    by: &Scalar,
+) -> io::Result<()> {
+    match why_unmoved(kind, by) {
+        Unmoved::ManyInFrame => {
+            write_operand(out, src)?;
+            writeln!(
+                out,
+                " is not known as one number, and a pointer to the frame is moved by one alone"
+            )
+        }
+        Unmoved::FarNumber if by.least == by.greatest => {
+            write_operand(out, src)?;
+            writeln!(out, " is farther than {NEAR_LIMIT}, forward or back")
+        }
+        Unmoved::FarNumber => {
+            write_operand(out, src)?;
+            writeln!(
+                out,
+                " may be farther than {NEAR_LIMIT}, forward or back: bound it first, by `and64` or a jump"
+            )
+        }
+        Unmoved::FarOffset => writeln!(
+            out,
+            "  the offset may then be farther than {NEAR_LIMIT} from where the region begins"
+        ),
+    }
+}
+
+/// What is said of an operand that is to be a number.
+const COMPUTED: &str = "this computes with numbers";
+
+/// Writes that a register is no number.
+fn write_no_number<W: Write>(out: &mut W, register: Reg, why: &str) -> io::Result<()> {
+    let number = register.index();
+    writeln!(out, "  r{number} is no number, and {why}")
+}
+
+/// Writes why an operation with a reference is refused.
+fn write_operation<W: Write>(
+    out: &mut W,
+    state: &AbsState,
+    op: AluOp,
+    size: Size,
+    dst: Reg,
+    src: &Operand,
+) -> io::Result<()> {
+    let is_move = matches!(op, AluOp::Add | AluOp::Sub);
+    if let Some(by) = reference_in(state, src) {
+        if is_move {
+            return write_no_number(out, by, "only a number moves a pointer");
+        }
+        if !is_reference(state, dst) {
+            return write_no_number(out, by, COMPUTED);
+        }
+    }
+    match (state.regs.get(dst.index()), numbers_of(state, src)) {
+        (Some(RegKind::Map(_)), _) => write_no_number(out, dst, "nothing moves a map"),
+        (Some(kind), Some(by)) if is_move && size == Size::Word64 => {
+            write_unmoved(out, kind, src, &by)
+        }
+        _ => writeln!(
+            out,
+            "  a pointer is moved by add64 and sub64 of a number, and by nothing else"
+        ),
+    }
+}
+
+/// Writes why a comparison of these is refused.
+fn write_comparison<W: Write>(
+    out: &mut W,
+    state: &AbsState,
+    dst: Reg,
+    src: &Operand,
+) -> io::Result<()> {
+    let why = "of pointers only what `call 1` gave is compared, and that with 0";
+    if is_reference(state, dst) {
+        return write_no_number(out, dst, why);
+    }
+    match reference_in(state, src) {
+        Some(register) => write_no_number(out, register, why),
+        None => Ok(()),
+    }
+}
+
+/// Writes why an instruction that computes with a reference, copies it or compares it is refused.
+pub fn write_arithmetic<W: Write>(out: &mut W, insn: &Insn, state: &AbsState) -> io::Result<()> {
+    match insn {
+        Insn::Alu {
+            op: AluOp::Move,
+            ..
+        } => writeln!(out, "  a pointer is copied whole, by `mov64`"),
+        Insn::Alu { op, size, dst, src } => write_operation(out, state, *op, *size, *dst, src),
+        Insn::Unary { op, dst } => { write_no_number(out, op.source(*dst), COMPUTED) }
+        Insn::JumpIf { dst, src, .. } => write_comparison(out, state, *dst, src),
+        _ => Ok(()),
+    }
+}
