@@ -22,7 +22,8 @@ loop-copy-preserved c =
     let is = c.shape-shape.ensures.shape in
     let word = c.peek-word.result in
     let m = Load c.args.element (k.key_words + c.args.place + at * k.value_words) word in
-    let step = subst (λ (q : TableShape). Went v (Load c.args.element (q.key_words + c.args.place + at * q.value_words) word ∷ v.mine) w) is c.peek-word.ensures.step in (
+    let found = c.peek-word.ensures.step in
+    let step = subst (λ (q : TableShape). Went v (Load c.args.element (q.key_words + c.args.place + at * q.value_words) word ∷ v.mine) w) is found in (
       c.peek-word.ensures.table ∙ i.0,
       c.peek-word.ensures.held ∙ i.1,
       (

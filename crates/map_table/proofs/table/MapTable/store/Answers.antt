@@ -30,7 +30,8 @@ store-requires c =
     (subst (λ (q : TableView). c.args.element < q.shape.elements) (sym c.self.view_is) c.requires.element) in
     let key = ap (λ (q : TableView). q.shape) (sym c.self.view_is) ∙ sym t.0 in
     let me = ap (λ (h : Holder). h.view.me) (sym c.seat.view_is) in
-    let reader = subst (λ (k : TableShape). IsReader (layout_of k) c.seat.inside.seat.me.0.me) (ap (λ (q : TableView). q.shape) p ∙ sym t.0) c.seat.invariant.0 in
+    let shape = ap (λ (q : TableView). q.shape) p ∙ sym t.0 in
+    let reader = subst (λ (k : TableShape). IsReader (layout_of k) c.seat.inside.seat.me.0.me) shape c.seat.invariant.0 in
     let from = subst (λ (z : TableShape × ℕ). first_of z.0 z.1 ≤ c.args.place) (λ i. (key i, me i)) c.requires.value in
     let below = subst (λ (z : TableShape × ℕ). c.args.place < first_of z.0 z.1 + z.0.value_words) (λ i. (key i, me i)) c.requires.place in (
       ap (λ (q : TableView). q.id) p,
