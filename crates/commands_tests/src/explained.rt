@@ -26,7 +26,8 @@ fn an_access_is_explained(rt: HostRuntime) -> Result<(), Fail> {
     let expected = "OutOfBounds: some possible offset of an access lies outside its region\n\
 at 3: ldxb r0, [r1+0]\n  \
 r1: the frame, at r10-600\n  \
-locks that are not given up: 1\n";
+locks that are not given up: 1\n  \
+it reaches r10-600, and begins before the frame, which is r10-512 to r10-1\n";
     let text = "callbtf 1\nmov64 r1, r10\nadd64 r1, -600\nldxb r0, [r1+0]\ncallbtf 2\nexit\n";
     let found = written(rt.alloc(), text)?;
     assert_eq!(rt; found.as_slice(), expected.as_bytes());
