@@ -2,7 +2,9 @@
 ghost use Rattle.std.specs.Prelude.{◌≡◌, All};
 ghost use Rattle.map_table.specs.Held.{IsReady};
 
+use crate::keys::two_seats;
 use crate::runs::{COUNT, run, verified};
+use map_runs::SubWord;
 use map_table::{MAX_READERS, MapTable, ReadSeat, TableShape, Values, Writer};
 use std::test::Fail;
 use std::thread::{Threads, for_each_mut};
@@ -63,6 +65,20 @@ fn sum_at(table: &MapTable, writer: &mut Writer, way: usize) -> Option<u64>
     Some(writer.sum(table, element, 0))
 }
 
+/// All readers count at once, and then the first once more: what its run finds.
+fn count_and_look<R: Threads + Sync>(
+    rt: &R,
+    table: &MapTable,
+    seats: &mut [ReadSeat],
+    program: &Verified,
+) -> Option<Result<u64, SubWord>>
+    requires ready { All (IsReady table.now) seats.old }
+{
+    count_all(rt, table, seats, program);
+    let (first, _) = two_seats(table, seats)?;
+    run(table, first, program, 7)
+}
+
 /// Eight readers count at once, a million times each, and none of it is lost. A reader's runs find its own count alone.
 #[test]
 fn no_count_is_lost(rt: HostRuntime) -> Result<(), Fail> {
@@ -73,13 +89,7 @@ fn no_count_is_lost(rt: HostRuntime) -> Result<(), Fail> {
     let Some(way) = writer.link(&table, &[7], &[0; 8]) else {
         return Err(Fail::from("no room"));
     };
-    count_all(&rt, &table, list.as_mut_slice(), &program);
-    let sum = sum_at(&table, &mut writer, way);
-    assert_eq!(rt; sum, Some(8 * u64::from(RUNS)));
-    let Some(first) = list.first_mut() else {
-        return Err(Fail::from("no seat"));
-    };
-    let own = run(&table, first, &program, 7);
+    let own = count_and_look(&rt, &table, list.as_mut_slice(), &program);
     assert_eq!(rt; own, Some(Ok(u64::from(RUNS))));
     let sum = sum_at(&table, &mut writer, way);
     assert_eq!(rt; sum, Some(8 * u64::from(RUNS) + 1));
