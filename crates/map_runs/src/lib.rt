@@ -7,5 +7,5 @@
 mod key_words;
 mod running;
 
-pub use running::{MAX_RUN_ELEMENTS, fits, run_shared, run_to_exit};
+pub use running::{MAX_RUN_ELEMENTS, MapRuns, fits, run_shared, run_to_exit};
 pub use shared_runs::{SubWord, stores_sub_words};

@@ -8,7 +8,7 @@ ghost use Rattle.map_runs.specs.Table.{table_of};
 use crate::key_words::words_of;
 use bpf_model::CtxBytes;
 use map_table::{MapTable, ReadSeat};
-use shared_runs::{ServesRuns, SubWord, has_lengths, run_over, stores_sub_words};
+use shared_runs::{RunsPrograms, ServesRuns, SubWord, has_lengths, run_over, stores_sub_words};
 use verifier::Verified;
 
 /// The most elements of a table that programs may run over: each has a word of its own among those of map slots.
@@ -160,4 +160,49 @@ pub fn run_to_exit(
     let value = run_over::<Placed>(&placed, seat, verified, ctx);
     seat.is_readers();
     value
+}
+
+/// A `MapTable`, as jobs are served from it: each map of a program is the table.
+#[derive(Clone, Copy)]
+pub struct MapRuns<'a> {
+    pub table: &'a MapTable,
+}
+
+impl RunsPrograms for MapRuns<'_> {
+    ghost use Rattle.std.specs.Prelude.{ℕ};
+    ghost use Rattle.map_table_laws.specs.declared.moves.Move.{Move};
+    ghost use Rattle.map_table.specs.Held.{IsReady, TableView};
+    ghost use Rattle.map_table.specs.Values.{first_of};
+    ghost use Rattle.map_runs.specs.Running.{ServesMaps};
+    ghost use Rattle.map_runs.specs.Table.{table_of};
+    ghost use Rattle.shared_runs.specs.SharedRuns.{IsSharedRun};
+    ghost use Rattle.shared_runs.specs.Words.{StoresSubWords, loaded_of};
+
+    type Seat = ReadSeat;
+
+    ghost Move = { Move };
+
+    ghost mine = { λ s. s.view.mine };
+
+    ghost Name = { TableView × ℕ };
+
+    ghost name = { λ s. (s.table, s.view.me) };
+
+    ghost IsReady = { λ t. IsReady t.table.now };
+
+    ghost Fits = { λ t. ServesMaps t.table.now.shape };
+
+    ghost Refuses = { StoresSubWords };
+
+    ghost IsRun = { λ t name c. IsSharedRun (table_of t.table.now.shape (first_of t.table.now.shape name.1)) c.shapes
+        (loaded_of c) };
+
+    fn run(
+        &self,
+        seat: &mut ReadSeat,
+        verified: &Verified,
+        ctx: &CtxBytes,
+    ) -> Result<u64, SubWord> {
+        run_shared(self.table, seat, verified, ctx)
+    }
 }

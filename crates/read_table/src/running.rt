@@ -8,7 +8,7 @@ ghost use Rattle.shared_runs.specs.Words.{FitsTable, UsesSubWords};
 
 use crate::table::{ReadSeat, ReadTable};
 use bpf_model::CtxBytes;
-use shared_runs::{ServesRuns, SubWord, has_lengths, run_over, uses_sub_words};
+use shared_runs::{RunsPrograms, ServesRuns, SubWord, has_lengths, run_over, uses_sub_words};
 use verifier::Verified;
 
 /// Runs over a `ReadTable`: a lookup compares the key where it lies.
@@ -132,5 +132,41 @@ impl ReadTable {
         let value = run_over::<ReadRuns>(self, seat, verified, ctx);
         seat.is_readers();
         value
+    }
+}
+
+impl RunsPrograms for ReadTable {
+    ghost use Rattle.std.specs.Prelude.{ℕ};
+    ghost use Rattle.read_table.specs.declared.view.Move.{Move};
+    ghost use Rattle.read_table.specs.Held.{IsReady, TableView};
+    ghost use Rattle.read_table.specs.Table.{table_of};
+    ghost use Rattle.shared_runs.specs.SharedRuns.{IsSharedRun};
+    ghost use Rattle.shared_runs.specs.Words.{FitsTable, UsesSubWords, loaded_of};
+
+    type Seat = ReadSeat;
+
+    ghost Move = { Move };
+
+    ghost mine = { λ s. s.view.mine };
+
+    ghost Name = { TableView × ℕ };
+
+    ghost name = { λ s. (s.table, s.view.me) };
+
+    ghost IsReady = { IsReady };
+
+    ghost Fits = { λ t. FitsTable (table_of t.shape) };
+
+    ghost Refuses = { UsesSubWords };
+
+    ghost IsRun = { λ t name c. IsSharedRun (table_of t.shape) c.shapes (loaded_of c) };
+
+    fn run(
+        &self,
+        seat: &mut ReadSeat,
+        verified: &Verified,
+        ctx: &CtxBytes,
+    ) -> Result<u64, SubWord> {
+        self.run_shared(seat, verified, ctx)
     }
 }

@@ -1,5 +1,5 @@
 -- What a run over a table leaves at its seat, and what is so between its steps.
-use Rattle.std.specs.Prelude.{ℕ, ◌≤◌, List, length}
+use Rattle.std.specs.Prelude.{◌≡◌, ℕ, ◌≤◌, List, ◌++◌, length}
 use Rattle.verifier.specs.Checked.{Checked}
 use Rattle.machine.specs.RunWords.{RunWords}
 use Rattle.shared_runs.specs.SharedRuns.{IsSharedRun}
@@ -23,3 +23,12 @@ pub record HasComeTo {Seat : Type 0} (k : Table) (Goes : Seat → List k.Move �
   pub moves : List k.Move
   pub goes : Goes start moves now
   pub come : HasCome k c context moves r
+
+-- The seat's list gained the moves of such a run, which has exited with the value within so many steps.
+pub record HasRun {Seat Move : Type 0} (mine : Seat → List Move) (IsRun : List Move → ℕ → ℕ → Type 0)
+    (most : ℕ) (old new : Seat) (value : ℕ) : Type 0 where
+  pub moves : List Move
+  pub steps : ℕ
+  pub list : mine new ≡ moves ++ mine old
+  pub run : IsRun moves steps value
+  pub bounded : steps ≤ most
