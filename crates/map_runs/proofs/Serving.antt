@@ -13,6 +13,9 @@ use Rattle.verifier.specs.Checked.{Checked}
 use Rattle.shared_runs.specs.Tables.{AreSteps}
 use Rattle.map_runs.specs.Running.{RunsShared}
 use Rattle.map_runs.specs.Table.{table_of}
+use Rattle.map_runs.specs.declared.named_map.NamedMap.{NamedMap}
+use Rattle.map_runs.specs.Named.{named_table_of}
+use Rattle.map_table_laws.specs.declared.moves.Move.{Move}
 
 -- a seat at a table whose value begins at this place
 abbrev pub Stands : TableView → ℕ → Holder → Type 0
@@ -39,10 +42,23 @@ in_own_value here first s place at sized below reader shape =
     let few = few_words here.shape sized in
     (within, omega (arith, within, few))
 
+pub are_named_steps : (here : TableView) (maps : List NamedMap) (first : ℕ) →
+    AreSteps (named_table_of here.shape maps first) (Stands here first) (λ (s : Holder). s.view.mine) Goes
+are_named_steps here maps first = record {
+  none = λ s at. goes_none s at.1;
+  then = λ s t u ms ns g h. goes_then s t u ms ns g h;
+  listed = λ s t ms g. goes_mine s t ms g;
+  stays = λ s t ms at g. (g.table ∙ at.0, goes_known s t ms g, ap (λ (v : View). first_of here.shape v.me) g.went.1 ∙ at.2);
+}
+
+-- a seat that is outside every section is ready
+pub ready-outside : (here : TableView) (old new : Holder) (ms : List Move) → IsReady here old → Goes old ms new → inside new.view.mine ≡ 0 → IsReady here new
+ready-outside here old new ms ready goes outside = record {
+  table = goes.table ∙ ready.table;
+  outside = outside;
+  known = goes_known old new ms goes;
+}
+
 pub ready-after : (here : TableView) (c : Checked) (context : List ℕ) (old new : Holder) (value : ℕ) → IsReady here old →
     RunsShared here.shape c context old new value → inside new.view.mine ≡ 0 → IsReady here new
-ready-after here c context old new value ready r outside = record {
-  table = r.list.table ∙ ready.table;
-  outside = outside;
-  known = goes_known old new r.moves r.list;
-}
+ready-after here c context old new value ready r outside = ready-outside here old new r.moves ready r.list outside

@@ -8,6 +8,7 @@ use Rattle.map_table_laws.specs.Lookups.{LooksUp}
 use Rattle.map_table.specs.declared.view.TableShape.{TableShape}
 use Rattle.map_table.specs.Hashes.{layout_of}
 use Rattle.shared_runs.specs.Tables.{Table}
+use Rattle.shared_runs.specs.Words.{HasLengths}
 
 -- the bytes are those of the words, in order, each with its lowest byte first
 pub record AreBytesOf (words bytes : List ℕ) : Type 0 where
@@ -25,12 +26,13 @@ pub record LooksUpBytes (k : TableShape) (bytes : List ℕ) (ms : List Move) (fo
   pub within : IfSome found (λ element. element < k.elements)
 
 -- The table as a reader's runs see it, whose value begins at this place of an element: behind the key, or, where each
--- reader has a value of its own, behind those of others.
+-- reader has a value of its own, behind those of others. Each map of a program is the whole table, if it has its lengths.
 abbrev pub table_of : TableShape → ℕ → Table
 table_of k first = record {
   Move = Move;
   elements = k.elements;
-  key_words = k.key_words;
+  Keeps = λ map shape. HasLengths k.key_words k.value_words shape;
+  key_words = λ map. k.key_words;
   value_words = k.value_words;
   begins = Open;
   ends = Close;
@@ -38,5 +40,5 @@ table_of k first = record {
   writes = λ element place word. Store element (first + place) word;
   inside = inside;
   Holds = Holds;
-  LooksUp = LooksUpBytes k;
+  LooksUp = λ map. LooksUpBytes k;
 }

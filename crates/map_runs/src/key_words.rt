@@ -7,7 +7,7 @@ use bpf_model::{Width, number_of};
 use map_table::MAX_WORDS;
 
 /// How many bytes a word has.
-const WORD_BYTES: usize = 8;
+pub(crate) const WORD_BYTES: usize = 8;
 
 /// The words of a key of so many, and zeros behind them.
 #[inline]

@@ -17,8 +17,8 @@ pub const MAX_RUN_ELEMENTS: usize = 1 << 17;
 /// A `MapTable`, and the place in an element where the value of the seat begins that runs over it.
 #[derive(Drop)]
 pub struct Placed<'a> {
-    table: &'a MapTable,
-    first: usize,
+    pub(crate) table: &'a MapTable,
+    pub(crate) first: usize,
 }
 
 impl<'a> ServesRuns for Placed<'a> {
@@ -42,7 +42,8 @@ impl<'a> ServesRuns for Placed<'a> {
     }
 
     #[inline]
-    fn key_words(words: &Placed<'a>) -> usize {
+    fn key_words(words: &Placed<'a>, map: usize) -> usize {
+        let _ = map;
         words.table.shape().key_words
     }
 
@@ -71,7 +72,8 @@ impl<'a> ServesRuns for Placed<'a> {
     }
 
     #[inline]
-    fn look_up(words: &Placed<'a>, seat: &mut ReadSeat, key: &[u8]) -> Option<usize> {
+    fn look_up(words: &Placed<'a>, seat: &mut ReadSeat, map: usize, key: &[u8]) -> Option<usize> {
+        let _ = map;
         let count = words.table.shape().key_words;
         let key = words_of(key, count);
         words.table.lookup(seat, &key[..count])

@@ -63,6 +63,8 @@ inside-over (Scan r w ∷ ms) before h = inside-over ms before h
 
 pub is_table : (k : TableShape) → IsTable (table_of k)
 is_table k = record {
+  kept_key = λ map shape kept. kept.0;
+  kept_value = λ map shape kept. let long = kept.1 in omega (arith, long);
   outside = refl;
   begun = λ ms. refl;
   ended = λ ms. refl;
@@ -70,10 +72,10 @@ is_table k = record {
   find_holds = λ slot place word other ms h. h;
   write_inside = λ slot place word ms. refl;
   write_holds = λ slot place word other ms h. h;
-  lookup_inside = λ key ns ms found l. inside-same k ns ms l.0;
-  lookup_holds = λ key ns ms found l other h. learnt-before k other ns ms l.0 h;
-  hit_within = λ key ns slot l. l.1.0;
-  hit_holds = λ key ns ms slot l. learnt-in slot ns ms l.1.1;
+  lookup_inside = λ map key ns ms found l. inside-same k ns ms l.0;
+  lookup_holds = λ map key ns ms found l other h. learnt-before k other ns ms l.0 h;
+  hit_within = λ map key ns slot l. l.1.0;
+  hit_holds = λ map key ns ms slot l. learnt-in slot ns ms l.1.1;
   holds_over = λ slot ms before h. learnt-in slot ms before h;
   inside_over = inside-over;
 }

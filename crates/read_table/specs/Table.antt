@@ -6,14 +6,17 @@ use Rattle.read_table.specs.declared.view.TableShape.{TableShape}
 use Rattle.read_table.specs.History.{IsLearnt, inside}
 use Rattle.read_table.specs.Lookups.{AnswersLookup, IsBrief, OnlySearches}
 use Rattle.shared_runs.specs.Tables.{Table}
+use Rattle.shared_runs.specs.Words.{HasLengths}
 
--- A slot that was learnt, linked, in the section that is open is held. The words of a value stand behind those of the key. A
--- lookup is a stretch of learns and loads of key words, of at most so many, that answers null, or a slot that was learnt in it.
+-- Each map of a program is the whole table, if it has its lengths. A slot that was learnt, linked, in the section that is
+-- open is held. The words of a value stand behind those of the key. A lookup is a stretch of learns and loads of key words,
+-- of at most so many, that answers null, or a slot that was learnt in it.
 abbrev pub table_of : TableShape → Table
 table_of k = record {
   Move = Move;
   elements = k.slots;
-  key_words = k.key_words;
+  Keeps = λ map shape. HasLengths k.key_words k.value_words shape;
+  key_words = λ map. k.key_words;
   value_words = k.value_words;
   begins = Open;
   ends = Close;
@@ -21,5 +24,5 @@ table_of k = record {
   writes = λ slot place word. Store slot (k.key_words + place) word;
   inside = inside;
   Holds = IsLearnt;
-  LooksUp = λ key ms found. OnlySearches k ms × AnswersLookup k key ms found × IsBrief k ms;
+  LooksUp = λ map key ms found. OnlySearches k ms × AnswersLookup k key ms found × IsBrief k ms;
 }

@@ -32,7 +32,8 @@ impl ServesRuns for ReadRuns {
     }
 
     #[inline]
-    fn key_words(words: &ReadTable) -> usize {
+    fn key_words(words: &ReadTable, map: usize) -> usize {
+        let _ = map;
         words.shape().key_words
     }
 
@@ -59,7 +60,8 @@ impl ServesRuns for ReadRuns {
     }
 
     #[inline]
-    fn look_up(words: &ReadTable, seat: &mut ReadSeat, key: &[u8]) -> Option<usize> {
+    fn look_up(words: &ReadTable, seat: &mut ReadSeat, map: usize, key: &[u8]) -> Option<usize> {
+        let _ = map;
         words.lookup(seat, key)
     }
 }

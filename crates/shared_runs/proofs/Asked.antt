@@ -64,7 +64,7 @@ use Rattle.machine.specs.Steps.{TakesStep}
 use Rattle.machine.proofs.AskingSo.{load-asked, store-asked}
 use Rattle.shared_runs.specs.Tables.{Table, IsTable}
 use Rattle.shared_runs.specs.Learnt.{learnt_element, learnt_elements}
-use Rattle.shared_runs.specs.Serving.{CanAnswer, GoesOnWith, LeadsToWord}
+use Rattle.shared_runs.specs.Serving.{CanAnswer, GoesOnWith, LeadsToWord, map_named}
 use Rattle.shared_runs.specs.SharedRuns.{closing, opening}
 use Rattle.shared_runs.specs.Sharing.{GoesFurther, IsSharing, flag_of}
 use Rattle.shared_runs.specs.Words.{ChangesMap, IsElementRegion, IsOtherWidth, part_of, stored_width}
@@ -201,7 +201,8 @@ module _ (k : Table) (keeps : IsTable k) (c : Checked) (context : List ℕ) (ms 
     word-of n o width r a =
         let q = element-noted n a in
         let shape = get-below c.shapes (map_of n) (map-below c.shapes n r.below) in
-        let long : value_length (slice_get c.shapes (map_of n)) ≡ 8 * k.value_words = ap value_length shape.1 ∙ (x.fits (map_of n) shape.0 shape.1).1 in
+        let long : value_length (slice_get c.shapes (map_of n)) ≡ shape.0.value_len = ap value_length shape.1 in
+        let most : shape.0.value_len ≤ 8 * k.value_words = keeps.kept_value (map_of n) shape.0 (x.fits (map_of n) shape.0 shape.1).0 in
         let s = offset_some (value_length (slice_get c.shapes (map_of n))) (byte_count width) o r.at r.region in
         let fits = s.1 in
         let some = some-bytes width in
@@ -212,7 +213,7 @@ module _ (k : Table) (keeps : IsTable k) (c : Checked) (context : List ℕ) (ms 
           low = r.at % 8;
           offset = s.0 ∙ ap pos at;
           whole = in-word width r.at (aligned (value_length (slice_get c.shapes (map_of n))) (byte_count width) o r.at r.region);
-          within = omega (arith, fits, long, some);
+          within = omega (arith, fits, long, most, some);
           slot = l.0;
           is_learnt = q.1;
           learnt_here = l.1;
@@ -325,7 +326,7 @@ module _ (k : Table) (keeps : IsTable k) (c : Checked) (context : List ℕ) (ms 
       pub bound : slice_get run.program.maps map ≡ Some map
       pub long : length key ≡ key_length (slice_get c.shapes map)
 
-    missed : (map : ℕ) (key : List ℕ) → Finds map key → (ns : List k.Move) → k.LooksUp key ns None →
+    missed : (map : ℕ) (key : List ℕ) → Finds map key → (ns : List k.Move) → k.LooksUp map key ns None →
         GoesFurther k c context (ns ++ ms) v (resumed_view i 0 v)
     missed map key f ns looked =
         let next = moves_run run (resumed i (Number 0) run.state) in
@@ -335,15 +336,15 @@ module _ (k : Table) (keeps : IsTable k) (c : Checked) (context : List ℕ) (ms 
         (some k c context ms v x).closed run (shown k c context ms v x).described x.learnt x.index x.planned i
         here map map key f.bound f.asked next refl (shown k c context ms v x).described.going)
         (served-step k c context ms v x i (Finding map key) here f.asked ns (Number 0) next (None, looked, refl) refl)
-        (λ slot e. ((x.known slot e).0, keeps.lookup_holds key ns ms None looked slot (x.known slot e).1))
-        (keeps.lookup_inside key ns ms None looked ∙ (x.section ∙ ap flag_of (shown k c context ms v x).words.depth))
+        (λ slot e. ((x.known slot e).0, keeps.lookup_holds map key ns ms None looked slot (x.known slot e).1))
+        (keeps.lookup_inside map key ns ms None looked ∙ (x.section ∙ ap flag_of (shown k c context ms v x).words.depth))
 
-    hit : (map slot : ℕ) (key : List ℕ) → Finds map key → (ns : List k.Move) → k.LooksUp key ns (Some slot) →
+    hit : (map slot : ℕ) (key : List ℕ) → Finds map key → (ns : List k.Move) → k.LooksUp map key ns (Some slot) →
         GoesFurther k c context (ns ++ ms) v (resumed_view i (slot_base 0 slot) v)
     hit map slot key f ns looked =
         let reply : Value = Pointer (references.Elem (element_in_region map slot) (pos 0)) in
         let next = moves_run run (resumed i reply run.state) in
-        let in_table : slot < k.elements = keeps.hit_within key ns slot looked in
+        let in_table : slot < k.elements = keeps.hit_within map key ns slot looked in
         let few = x.few in
         let small : slot < regions = omega (arith, in_table, few) in
         let word : ℕ = slot_base 0 slot in
@@ -358,12 +359,12 @@ module _ (k : Table) (keeps : IsTable k) (c : Checked) (context : List ℕ) (ms 
         (shown k c context ms v x).described.going)
         (served-step k c context ms v x i (Finding map key) here f.asked ns reply next (Some slot, looked, refl) refl)
         (λ r e. elim (also-cases slot x.learnt r e) [
-          | inl is ↦ (subst (λ j. j < k.elements) (sym is) in_table, subst (λ j. k.Holds j (ns ++ ms)) (sym is) (keeps.hit_holds key ns ms slot looked))
-          | inr before ↦ ((x.known r before).0, keeps.lookup_holds key ns ms (Some slot) looked r (x.known r before).1)
+          | inl is ↦ (subst (λ j. j < k.elements) (sym is) in_table, subst (λ j. k.Holds j (ns ++ ms)) (sym is) (keeps.hit_holds map key ns ms slot looked))
+          | inr before ↦ ((x.known r before).0, keeps.lookup_holds map key ns ms (Some slot) looked r (x.known r before).1)
         ])
-        (keeps.lookup_inside key ns ms (Some slot) looked ∙ (x.section ∙ ap flag_of (shown k c context ms v x).words.depth))
+        (keeps.lookup_inside map key ns ms (Some slot) looked ∙ (x.section ∙ ap flag_of (shown k c context ms v x).words.depth))
 
-    found : (map : ℕ) (key : List ℕ) → Finds map key → (ns : List k.Move) (o : Option ℕ) → k.LooksUp key ns o →
+    found : (map : ℕ) (key : List ℕ) → Finds map key → (ns : List k.Move) (o : Option ℕ) → k.LooksUp map key ns o →
         GoesFurther k c context (ns ++ ms) v (resumed_view i (found_word 0 o) v)
     found map key f ns None looked = missed map key f ns looked
     found map key f ns (Some slot) looked = hit map slot key f ns looked
@@ -376,6 +377,11 @@ module _ (k : Table) (keeps : IsTable k) (c : Checked) (context : List ℕ) (ms 
         let shape : slice_get c.shapes l.map ≡ Some l.shape = ap (λ (f : ℕ → Option MapShape). f l.map) (listed-shapes k c context ms v x) ∙ l.shape_is in
         let below : l.map < length c.shapes = slice_get_within c.shapes l.map l.shape shape in
         let fits = x.fits l.map l.shape shape in
+        let len : l.shape.key_len ≡ 8 * k.key_words l.map = keeps.kept_key l.map l.shape fits.0 in
+        let word : WordIs region_bases (Pointer (references.MapRef l.map)) (word_in v 1) =
+        subst (λ u. WordIs region_bases u (word_in v 1)) l.map_is (register 1 (omega arith)) in
+        let named : l.map ≡ map_named v = omega (arith, ints, word) in
+        let len_named : l.shape.key_len ≡ 8 * k.key_words (map_named v) = len ∙ ap (λ map. 8 * k.key_words map) named in
         let at = key-from (run.state.regs 2) (word_in v 2) l.shape.key_len l.key (register 2 (omega arith)) l.key_is in
         let f : Finds l.map l.key = record {
           asked = asked ∙ ap (λ a. Some (CallHelper Lookup a)) l.arguments_are;
@@ -393,9 +399,12 @@ module _ (k : Table) (keeps : IsTable k) (c : Checked) (context : List ℕ) (ms 
         record {
           inside = omega (arith, deep, depth);
           frame = (shown k c context ms v x).words.cells;
-          key = subst (IsInFrame (word_in v 2)) fits.0 at.inside;
+          shape = l.shape;
+          kept = subst (λ map. k.Keeps map l.shape) named fits.0;
+          key = subst (IsInFrame (word_in v 2)) len_named at.inside;
           goes_on = λ ns o looked. goes-at (ns ++ ms) (found_word 0 o)
-              (found l.map l.key f ns o (subst (λ key. k.LooksUp key ns o) (ap (bytes_in v 2) (sym fits.0) ∙ at.is) looked));
+              (found l.map l.key f ns o (subst (λ key. k.LooksUp l.map key ns o) (ap (bytes_in v 2) (sym len_named) ∙ at.is)
+              (subst (λ map. k.LooksUp map (bytes_in v 2 (8 * k.key_words (map_named v))) ns o) (sym named) looked)));
         }
 
     -- sections

@@ -14,7 +14,7 @@ use Rattle.machine.specs.declared.request.Request.TheVariants as requests
 use Rattle.machine.specs.Standing.{MayGive}
 use Rattle.world_laws.specs.Around.{regions}
 use Rattle.shared_runs.specs.Tables.{Table, IsTable, IsSmall}
-use Rattle.shared_runs.specs.Serving.{CanAnswer, GoesOnWith, IsServable, LeadsToWord, Serves}
+use Rattle.shared_runs.specs.Serving.{CanAnswer, GoesOnWith, IsServable, LeadsToWord, Serves, map_named}
 use Rattle.shared_runs.specs.SharedRuns.{closing, opening}
 use Rattle.shared_runs.specs.Words.{part_of}
 use Rattle.shared_runs.proofs.Bytes.{part-below, some-bytes}
@@ -76,11 +76,11 @@ module _ (k : Table) (keeps : IsTable k) (v : RunView) (request : Request) where
         subst (λ (q : Request). MayGive c v q 0) (sym is) tt,
       )
 
-  given : (found : Option ℕ) (ns : List k.Move) (key : List ℕ) → IsSmall k → k.LooksUp key ns found →
+  given : (map : ℕ) (found : Option ℕ) (ns : List k.Move) (key : List ℕ) → IsSmall k → k.LooksUp map key ns found →
       (found_word 0 found ≡ 0) ⊎ IsSlotWord (found_word 0 found)
-  given None ns key small a = inl refl
-  given (Some element) ns key small a =
-      let in_table = keeps.hit_within key ns element a in
+  given map None ns key small a = inl refl
+  given map (Some element) ns key small a =
+      let in_table = keeps.hit_within map key ns element a in
       let few = small.few in
       let below : element < regions = omega (arith, in_table, few) in
       inr (record {
@@ -92,13 +92,13 @@ module _ (k : Table) (keeps : IsTable k) (v : RunView) (request : Request) where
       })
 
   pub serves-lookup : (ns : List k.Move) (found : Option ℕ) (word : ℕ) → request ≡ requests.Call Lookup → IsSmall k →
-      k.LooksUp (bytes_in v 2 (8 * k.key_words)) ns found → word ≡ found_word 0 found → Serves k v request ns word
+      k.LooksUp (map_named v) (bytes_in v 2 (8 * k.key_words (map_named v))) ns found → word ≡ found_word 0 found → Serves k v request ns word
   serves-lookup ns found word is small looked e = λ c context ms can.
       let l = subst (λ (q : Request). CanAnswer k c context ms v q) is can in (
         subst (λ (w : ℕ). GoesOnWith k c context (ns ++ ms) v w) (sym e) (l.goes_on ns found looked),
         subst (λ (q : Request). MayGive c v q word) (sym is)
             (subst (λ (w : ℕ). (w ≡ 0) ⊎ IsSlotWord w) (sym e)
-            (given found ns (bytes_in v 2 (8 * k.key_words)) small looked)),
+            (given (map_named v) found ns (bytes_in v 2 (8 * k.key_words (map_named v))) small looked)),
       )
 
   pub serves-enter : request ≡ requests.Enter → Serves k v request (opening k v.depth) 0

@@ -101,7 +101,7 @@ module _ (k : Table) (c : Checked) (context : List ℕ) (ms : List k.Move) (v : 
   run = x.run
 
   pub are-hash : AreHash c.shapes
-  are-hash i shape at = (x.fits i shape at).2
+  are-hash i shape at = (x.fits i shape at).1
 
   abbrev pub sec : Section
   sec = section_of run

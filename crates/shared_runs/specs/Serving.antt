@@ -1,13 +1,15 @@
 -- What whoever serves a shared run may take for granted of each request, and what he leaves.
 use Rattle.std.specs.Prelude.{◌≡◌, ℕ, ◌+◌, ◌*◌, ◌^◌, ◌<◌, ◌≤◌, List, ◌∷◌, ◌++◌, Option, Some, length, ℤ, pos, ◌+ℤ◌}
+use Rattle.std.specs.Prelude.{◌-◌}
 use Rattle.bpf_model.specs.declared.call.Helper.TheVariants.{Delete, Lookup, Update}
 use Rattle.bpf_model.specs.declared.insn.Insn.{Insn}
+use Rattle.bpf_model.specs.declared.limits.MapShape.{MapShape}
 use Rattle.bpf_model.specs.declared.limits.TheConstants.{FRAME_BYTES}
 use Rattle.bpf_model.specs.Access.{byte_count}
 use Rattle.bpf_model.specs.declared.opcode.Width.{Width}
 use Rattle.bpf_model.specs.Step.{insn_at}
 use Rattle.bpf_model.specs.View.{RunView}
-use Rattle.bpf_model.specs.Word.{slot_base}
+use Rattle.bpf_model.specs.Word.{map_base, slot_base}
 use Rattle.world_laws.specs.Calling.{bytes_in, found_word}
 use Rattle.world_laws.specs.Moving.{word_in}
 use Rattle.world_laws.specs.Reaching.{IsInFrame}
@@ -54,13 +56,19 @@ pub record StoresWord (k : Table) (c : Checked) (context : List ℕ) (ms : List 
   pub goes_on : (word : ℕ) →
       GoesOnWith k c context (k.writes leads.element leads.place number ∷ ms) v word
 
+-- the map that r1 names
+abbrev pub map_named : RunView → ℕ
+map_named v = word_in v 1 - map_base
+
 pub record LooksUpKey (k : Table) (c : Checked) (context : List ℕ) (ms : List k.Move)
     (v : RunView) : Type 0 where
   pub inside : 0 < v.depth
   pub frame : length v.frame ≡ FRAME_BYTES
-  pub key : IsInFrame (word_in v 2) (8 * k.key_words)
+  pub shape : MapShape
+  pub kept : k.Keeps (map_named v) shape
+  pub key : IsInFrame (word_in v 2) (8 * k.key_words (map_named v))
   pub goes_on : (ns : List k.Move) (found : Option ℕ) →
-      k.LooksUp (bytes_in v 2 (8 * k.key_words)) ns found →
+      k.LooksUp (map_named v) (bytes_in v 2 (8 * k.key_words (map_named v))) ns found →
       GoesOnWith k c context (ns ++ ms) v (found_word 0 found)
 
 pub record EntersSection (k : Table) (c : Checked) (context : List ℕ) (ms : List k.Move)

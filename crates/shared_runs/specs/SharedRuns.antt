@@ -47,7 +47,7 @@ Replies k depth done (StoreElement n offset width x) ms reply =
     × (region_of n < k.elements) × k.Holds (region_of n) done
     × (ms ≡ k.writes (region_of n) place x ∷ []) × (reply ≡ Nothing)
 Replies k depth done (CallHelper Lookup (MapArgument map ∷ BytesArgument key ∷ [])) ms reply =
-    (found : Option ℕ) × k.LooksUp key ms found
+    (found : Option ℕ) × k.LooksUp map key ms found
     × (reply ≡ found_value (option_map (element_in_region map) found))
 Replies k depth done (CallHelper helper arguments) ms reply = ⊥
 Replies k depth done Enter ms reply = (ms ≡ opening k depth) × (reply ≡ Nothing)
@@ -81,7 +81,7 @@ pub data Comes (k : Table) (shapes : List MapShape) (start : Run) : List k.Move 
   shared : (ms ns : List k.Move) (steps : ℕ) (run next : Run) → Comes k shapes start ms steps run →
       StepsShared k shapes ms run ns next → Comes k shapes start (ns ++ ms) (suc steps) next
 
--- A shared run of the program on the context: each map of its list is the table, it begins at the entry, outside every
+-- A shared run of the program on the context: the table keeps each map of its list, it begins at the entry, outside every
 -- section, what its seat did is the list, and it exits with the value; so many steps it makes, the exit among them.
 pub record IsSharedRun (k : Table) (shapes : List MapShape) (program : Loaded)
     (context : List ℕ) (ms : List k.Move) (steps value : ℕ) : Type 0 where

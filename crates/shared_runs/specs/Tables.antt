@@ -1,14 +1,18 @@
 -- What a table is to the runs that it serves.
-use Rattle.std.specs.Prelude.{◌≡◌, ℕ, ◌^◌, ◌<◌, ◌≤◌, List, [], ◌∷◌, ◌++◌, Option, Some}
+use Rattle.std.specs.Prelude.{◌≡◌, ℕ, ◌*◌, ◌^◌, ◌<◌, ◌≤◌, List, [], ◌∷◌, ◌++◌, Option, Some}
+use Rattle.bpf_model.specs.declared.limits.MapShape.{MapShape}
 use Rattle.world_laws.specs.Around.{regions}
 
--- Which moves a reader makes, and what it holds by those that it made. Lists of moves have the newest first.
+-- Which maps of a program it keeps, which moves a reader makes, and what it holds by those that it made. A map is named by
+-- its index in the program's list. Lists of moves have the newest first.
 pub record Table : Type 1 where
   pub Move : Type 0
   -- how many elements there are; they are numbered from 0
   pub elements : ℕ
-  -- how many words a key has, and how many a value
-  pub key_words : ℕ
+  -- it keeps a map of this index, of this shape
+  pub Keeps : ℕ → MapShape → Type 0
+  -- how many words a key of each map has, and how many a value of any has at most
+  pub key_words : ℕ → ℕ
   pub value_words : ℕ
   -- a reader begins a section, and ends it
   pub begins : Move
@@ -20,13 +24,18 @@ pub record Table : Type 1 where
   pub inside : List Move → ℕ
   -- by these moves of a reader it may use the element in the section that is open
   pub Holds : ℕ → List Move → Type 0
-  -- The moves are a lookup of the key, which has these bytes: null, or an element, is answered.
-  pub LooksUp : List ℕ → List Move → Option ℕ → Type 0
+  -- The moves are a lookup in a map of the key of these bytes: null, or an element, is answered.
+  pub LooksUp : ℕ → List ℕ → List Move → Option ℕ → Type 0
 
--- What every table keeps. A section is the reader's own. A word that is found or written, and a lookup, leave the section
+-- What every table keeps. A map that it keeps has keys of just so many words, and no longer values than its elements. A
+-- section is the reader's own. A word that is found or written, and a lookup, leave the section
 -- and what is held. A lookup that answers an element leaves it held. What is held by some moves is held by those and others
 -- before them.
 pub record IsTable (k : Table) : Type 0 where
+  pub kept_key : (map : ℕ) (shape : MapShape) → k.Keeps map shape →
+      shape.key_len ≡ 8 * k.key_words map
+  pub kept_value : (map : ℕ) (shape : MapShape) → k.Keeps map shape →
+      shape.value_len ≤ 8 * k.value_words
   pub outside : k.inside [] ≡ 0
   pub begun : (ms : List k.Move) → k.inside (k.begins ∷ ms) ≡ 1
   pub ended : (ms : List k.Move) → k.inside (k.ends ∷ ms) ≡ 0
@@ -38,14 +47,14 @@ pub record IsTable (k : Table) : Type 0 where
       k.inside (k.writes element place word ∷ ms) ≡ k.inside ms
   pub write_holds : (element place word other : ℕ) (ms : List k.Move) → k.Holds other ms →
       k.Holds other (k.writes element place word ∷ ms)
-  pub lookup_inside : (key : List ℕ) (ns ms : List k.Move) (found : Option ℕ) →
-      k.LooksUp key ns found → k.inside (ns ++ ms) ≡ k.inside ms
-  pub lookup_holds : (key : List ℕ) (ns ms : List k.Move) (found : Option ℕ) →
-      k.LooksUp key ns found → (other : ℕ) → k.Holds other ms → k.Holds other (ns ++ ms)
-  pub hit_within : (key : List ℕ) (ns : List k.Move) (element : ℕ) →
-      k.LooksUp key ns (Some element) → element < k.elements
-  pub hit_holds : (key : List ℕ) (ns ms : List k.Move) (element : ℕ) →
-      k.LooksUp key ns (Some element) → k.Holds element (ns ++ ms)
+  pub lookup_inside : (map : ℕ) (key : List ℕ) (ns ms : List k.Move) (found : Option ℕ) →
+      k.LooksUp map key ns found → k.inside (ns ++ ms) ≡ k.inside ms
+  pub lookup_holds : (map : ℕ) (key : List ℕ) (ns ms : List k.Move) (found : Option ℕ) →
+      k.LooksUp map key ns found → (other : ℕ) → k.Holds other ms → k.Holds other (ns ++ ms)
+  pub hit_within : (map : ℕ) (key : List ℕ) (ns : List k.Move) (element : ℕ) →
+      k.LooksUp map key ns (Some element) → element < k.elements
+  pub hit_holds : (map : ℕ) (key : List ℕ) (ns ms : List k.Move) (element : ℕ) →
+      k.LooksUp map key ns (Some element) → k.Holds element (ns ++ ms)
   pub holds_over : (element : ℕ) (ms before : List k.Move) → k.Holds element ms →
       k.Holds element (ms ++ before)
   pub inside_over : (ms before : List k.Move) → k.inside before ≡ 0 →

@@ -83,12 +83,17 @@ UsesSubWords c = UsesSubWordsAmong All c
 abbrev pub StoresSubWords : Checked → Type 0
 StoresSubWords c = UsesSubWordsAmong Stores c
 
+-- a map of this shape has keys and values of so many words
+abbrev pub HasLengths : ℕ → ℕ → MapShape → Type 0
+HasLengths key_words value_words shape =
+    (shape.key_len ≡ 8 * key_words) × (shape.value_len ≡ 8 * value_words)
+
 -- each of the maps is a hash map, with keys and values of so many words
 abbrev pub HaveLengths : ℕ → ℕ → List MapShape → Type 0
 HaveLengths key_words value_words shapes = (i : ℕ) (shape : MapShape) →
-    slice_get shapes i ≡ Some shape → (shape.key_len ≡ 8 * key_words)
-    × (shape.value_len ≡ 8 * value_words) × (shape.kind ≡ Hash)
+    slice_get shapes i ≡ Some shape → HasLengths key_words value_words shape × (shape.kind ≡ Hash)
 
--- each map of the program is a hash map of the table's lengths
+-- each map of the program is a hash map that the table keeps
 abbrev pub FitsTable : Table → List MapShape → Type 0
-FitsTable k shapes = HaveLengths k.key_words k.value_words shapes
+FitsTable k shapes = (i : ℕ) (shape : MapShape) →
+    slice_get shapes i ≡ Some shape → k.Keeps i shape × (shape.kind ≡ Hash)

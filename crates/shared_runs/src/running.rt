@@ -1,11 +1,12 @@
 //! A run over any table.
 ghost use Rattle.std.specs.Prelude.{◌≡◌, ℕ, ◌*◌, ◌<◌, List, Option, length};
+ghost use Rattle.bpf_model.specs.declared.limits.MapShape.{MapShape};
 ghost use Rattle.bpf_model.specs.declared.limits.TheConstants.{FRAME_BYTES};
 ghost use Rattle.world_laws.specs.Calling.{bytes_in, found_word};
 ghost use Rattle.world_laws.specs.Moving.{word_in};
 ghost use Rattle.world_laws.specs.Reaching.{IsInFrame};
 ghost use Rattle.shared_runs.specs.Running.{RunsOver};
-ghost use Rattle.shared_runs.specs.Serving.{IsServable, Serves};
+ghost use Rattle.shared_runs.specs.Serving.{IsServable, Serves, map_named};
 ghost use Rattle.shared_runs.specs.SharedRuns.{closing, opening};
 ghost use Rattle.shared_runs.specs.Sharing.{flag_of};
 ghost use Rattle.shared_runs.specs.Tables.{IsSmall};
@@ -19,21 +20,25 @@ use bpf_model::{CtxBytes, Helper, Reg, are_bytes};
 use machine::{Local, Request, Run};
 use verifier::Verified;
 
-/// A lookup of the key in the frame.
+/// A lookup of the key in the frame, in the map that r1 names.
 #[inline]
 fn look_up<T: ServesRuns>(words: &T::Words, seat: &mut T::Seat, run: &Run) -> u64
     requires small { IsSmall (T.table words.now) }
     requires at { T.IsAt words.now seat.old }
     requires inside { (T.table words.now).inside (T.mine words.now seat.old) ≡ 1 }
-    requires key { IsInFrame (word_in run.now.view 2) (8 * (T.table words.now).key_words) }
+    requires kept { (shape : MapShape) × (T.table words.now).Keeps (map_named run.now.view) shape }
+    requires key { IsInFrame (word_in run.now.view 2)
+        (8 * (T.table words.now).key_words (map_named run.now.view)) }
     requires frame { length run.now.view.frame ≡ FRAME_BYTES }
     ensures { (ns : List (T.table words.now).Move) × (found : Option ℕ) × T.Goes words.now seat.old ns seat.new
-        × (T.table words.now).LooksUp (bytes_in run.now.view 2 (8 * (T.table words.now).key_words)) ns found
+        × (T.table words.now).LooksUp (map_named run.now.view)
+        (bytes_in run.now.view 2 (8 * (T.table words.now).key_words (map_named run.now.view))) ns found
         × (result ≡ found_word 0 found) }
 {
     T::is_table(words);
-    let key = run.bytes_argument(Reg::R2, WORD_BYTES * T::key_words(words));
-    word_of_element(T::look_up(words, seat, key))
+    let map = run.map_argument();
+    let key = run.bytes_argument(Reg::R2, WORD_BYTES * T::key_words(words, map));
+    word_of_element(T::look_up(words, seat, map, key))
 }
 
 /// A lock of a run: the outermost opens the seat's section.
@@ -109,8 +114,8 @@ fn serve<T: ServesRuns>(words: &T::Words, seat: &mut T::Seat, run: &Run, request
     }
 }
 
-/// Runs the program on the context over the table, each of whose maps is the table, to its exit. It takes no memory and
-/// waits for nobody.
+/// Runs the program on the context over the table, which keeps each of its maps, to its exit. It takes no memory and waits
+/// for nobody.
 #[inline]
 pub fn run_over<T: ServesRuns>(
     words: &T::Words,

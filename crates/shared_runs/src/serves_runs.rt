@@ -1,5 +1,6 @@
 //! What a table's calls are to the runs that it serves.
 ghost use Rattle.std.specs.Prelude.{◌≡◌, ℕ, ◌*◌, ◌^◌, ◌<◌, ◌≤◌, List, [], ◌∷◌, IfSome, length};
+ghost use Rattle.bpf_model.specs.declared.limits.MapShape.{MapShape};
 ghost use Rattle.shared_runs.specs.Tables.{AreSteps, IsTable, Table};
 
 /// A table that serves runs: each call is its move of the seat.
@@ -26,9 +27,10 @@ pub trait ServesRuns {
         ensures table { IsTable (table words.now) }
         ensures steps { AreSteps (table words.now) (IsAt words.now) (mine words.now) (Goes words.now) };
 
-    /// How many words a key has.
-    fn key_words(words: &Self::Words) -> usize
-        ensures count { result ≡ (table words.now).key_words }
+    /// How many words a key has, of the map of this index in the program's list.
+    fn key_words(words: &Self::Words, map: usize) -> usize
+        requires kept { (shape : MapShape) × (table words.now).Keeps map shape }
+        ensures count { result ≡ (table words.now).key_words map }
         ensures short { result ≤ 2 ^ 20 };
 
     /// Begins a section.
@@ -59,11 +61,12 @@ pub trait ServesRuns {
         requires place { place < (table words.now).value_words }
         ensures { Goes words.now seat.old ((table words.now).writes element place word ∷ []) seat.new };
 
-    /// A lookup of the key.
-    fn look_up(words: &Self::Words, seat: &mut Self::Seat, key: &[u8]) -> Option<usize>
+    /// A lookup of the key in the map of this index in the program's list.
+    fn look_up(words: &Self::Words, seat: &mut Self::Seat, map: usize, key: &[u8]) -> Option<usize>
         requires at { IsAt words.now seat.old }
         requires inside { (table words.now).inside (mine words.now seat.old) ≡ 1 }
-        requires key { length key.now ≡ 8 * (table words.now).key_words }
+        requires kept { (shape : MapShape) × (table words.now).Keeps map shape }
+        requires key { length key.now ≡ 8 * (table words.now).key_words map }
         ensures looked { (ns : List (table words.now).Move) × Goes words.now seat.old ns seat.new
-            × (table words.now).LooksUp key.now ns result };
+            × (table words.now).LooksUp map key.now ns result };
 }

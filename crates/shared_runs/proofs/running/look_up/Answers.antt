@@ -1,16 +1,39 @@
-use Rattle.std.proofs.Common.{◌≡◌, ℕ, ◌+◌, ◌-◌, ◌*◌, ◌≤◌, List, arith, ap, length, min, ◌∙◌}
+use Rattle.std.proofs.Common.{◌≡◌, ℕ, ◌+◌, ◌-◌, ◌*◌, ◌≤◌, List, arith, ap, length, min, ◌∙◌, sym, subst}
 use Rattle.std.specs.Prelude.{drop, take}
 use Rattle.std.proofs.lemmas.List.{length-drop, length-take}
+use Rattle.bpf_model.specs.declared.limits.MapShape.{MapShape}
 use Rattle.bpf_model.specs.declared.limits.TheConstants.{FRAME_BYTES}
 use Rattle.bpf_model.specs.Word.{frame_base}
 use Rattle.world_laws.specs.Calling.{bytes_in}
 use Rattle.world_laws.specs.Moving.{word_in}
+use Rattle.world_laws.specs.Reaching.{IsInFrame}
+use Rattle.shared_runs.specs.Serving.{map_named}
 use Rattle.shared_runs.proofs.running.look_up.Goals as goal
+
+-- so many words the code takes for a key of the map that r1 names
+pub key_words-requires : goal.key_words-requires
+key_words-requires g c =
+    let k = g.T.ServesRuns.table c.args.words.now in
+    record { kept = subst (λ (map : ℕ). (shape : MapShape) × k.Keeps map shape) (sym c.map_argument-map.ensures) c.requires.kept }
+
+pub look_up-requires-clause-kept : goal.look_up-requires-clause-kept
+look_up-requires-clause-kept g c =
+    let k = g.T.ServesRuns.table c.args.words.now in
+    subst (λ (map : ℕ). (shape : MapShape) × k.Keeps map shape) (sym c.map_argument-map.ensures) c.requires.kept
+
+pub bytes_argument-key-requires : goal.bytes_argument-key-requires
+bytes_argument-key-requires g c =
+    let k = g.T.ServesRuns.table c.args.words.now in
+    let count = c.key_words.ensures.count ∙ ap (λ (map : ℕ). k.key_words map) c.map_argument-map.ensures in
+    subst (λ (n : ℕ). IsInFrame (word_in c.args.run.now.view 2) (8 * n)) (sym count) c.requires.key
 
 pub look_up-requires-clause-key : goal.look_up-requires-clause-key
 look_up-requires-clause-key g c =
+    let k = g.T.ServesRuns.table c.args.words.now in
     let v = c.args.run.now.view in
-    let words : ℕ = (g.T.ServesRuns.table c.args.words.now).key_words in
+    let words : ℕ = k.key_words (map_named v) in
+    let named = ap (λ (map : ℕ). k.key_words map) c.map_argument-map.ensures in
+    let count : c.key_words.result ≡ words = c.key_words.ensures.count ∙ named in
     let at : ℕ = word_in v 2 - frame_base in
     let len : ℕ = 8 * words in
     let inside : at + len ≤ FRAME_BYTES = c.requires.key.inside in
@@ -18,5 +41,21 @@ look_up-requires-clause-key g c =
     let rest : length (drop at v.frame) ≡ length v.frame - at = length-drop at v.frame in
     let long : length (take len (drop at v.frame)) ≡ min len (length (drop at v.frame)) = length-take len (drop at v.frame) in
     let same : length (take len (drop at v.frame)) ≡ len = omega (arith, inside, frame, rest, long) in
-    ap (λ (xs : List ℕ). length xs) c.bytes_argument-key.ensures ∙
-    (ap (λ (n : ℕ). length (bytes_in v 2 (8 * n))) c.key_words.ensures.count ∙ same)
+    ap (λ (xs : List ℕ). length xs) c.bytes_argument-key.ensures
+    ∙ (ap (λ (n : ℕ). length (bytes_in v 2 (8 * n))) count ∙ (same ∙ ap (λ (n : ℕ). 8 * n) (sym named)))
+
+pub returns : goal.returns
+returns g c =
+    let k = g.T.ServesRuns.table c.args.words.now in
+    let v = c.args.run.now.view in
+    let map = c.map_argument-map.ensures in
+    let count = c.key_words.ensures.count ∙ ap (λ (m : ℕ). k.key_words m) map in
+    let l = c.look_up.ensures.looked in
+    let bytes = c.bytes_argument-key.ensures ∙ ap (λ (n : ℕ). bytes_in v 2 (8 * n)) count in (
+      l.0,
+      c.look_up.result,
+      l.1,
+      subst (λ (m : ℕ). k.LooksUp m (bytes_in v 2 (8 * k.key_words (map_named v))) l.0 c.look_up.result) map
+          (subst (λ (key : List ℕ). k.LooksUp c.map_argument-map.result key l.0 c.look_up.result) bytes l.2),
+      c.word_of_element.ensures,
+    )

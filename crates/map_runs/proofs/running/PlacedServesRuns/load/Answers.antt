@@ -1,8 +1,6 @@
-use Rattle.std.proofs.Common.{◌≡◌, ◌+◌, ap, subst, ◌∙◌, arith}
-use Rattle.map_table_laws.specs.History.{IsReader}
+use Rattle.std.proofs.Common.{subst, arith}
 use Rattle.map_table.specs.declared.view.TableShape.{TableShape}
-use Rattle.map_table.specs.Hashes.{layout_of}
-use Rattle.map_table.specs.Held.{IsSized, TableView}
+use Rattle.map_table.specs.Held.{IsSized}
 use Rattle.map_runs.proofs.Serving.{in_own_value}
 use Rattle.map_runs.proofs.running.PlacedServesRuns.load.Goals as goal
 
