@@ -4,5 +4,6 @@ pub mod Outcomes
 pub mod ReadingLemmas
 pub mod Readings
 pub mod Runs
+pub mod TableJobs
 pub mod TrailLemmas
 pub mod Trails

@@ -21,7 +21,7 @@ pub use job::{Job, JobReport, Outcome, Report, StopCause, Trail};
 pub use job_queue::{MAX_JOBS, MAX_WORKERS, PoolFault, Serve};
 pub use pool::run_jobs;
 pub use pooled::Pooled;
-pub use reading::{Reading, run_read_jobs};
+pub use reading::{Reading, run_read_jobs, run_table_jobs};
 pub use repeated::run_program;
 pub use shared::ProgramWithMaps;
 

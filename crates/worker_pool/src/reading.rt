@@ -6,11 +6,13 @@ ghost use Rattle.job_queue.specs.declared.fault.PoolFault.TheVariants as faults;
 ghost use Rattle.job_queue.specs.Serving.{AreServed, most_jobs, most_workers};
 ghost use Rattle.read_table.specs.Held.{IsReady};
 ghost use Rattle.worker_pool.specs.Readings.{AllFit, HasGained, IsReadJob};
+ghost use Rattle.worker_pool.specs.TableJobs.{HasGrown, IsTableJob};
 
 use crate::job::{Job, JobReport, Outcome, Report, StopCause};
 use bpf_model::EventRefusal;
 use job_queue::{PoolFault, Serve, serve_all};
-use read_table::{ReadSeat, ReadTable, Seats, SubWord};
+use read_table::{ReadTable, Seats};
+use shared_runs::{RunsPrograms, SubWord};
 use std::alloc::Global;
 use std::sync::Wait;
 use std::thread::Threads;
@@ -18,8 +20,8 @@ use verifier::Verified;
 
 /// Serves jobs by runs over a table, of these programs. Each seat serves in a thread of its own.
 #[derive(Drop)]
-pub struct Reading<'a> {
-    pub table: &'a ReadTable,
+pub struct Reading<'a, T> {
+    pub table: &'a T,
     pub programs: &'a [Verified],
 }
 
@@ -33,32 +35,32 @@ fn unbegun(cause: StopCause) -> JobReport<()>
     }
 }
 
-impl Serve for Reading<'_> {
-    ghost use Rattle.read_table.specs.Held.{IsReady};
-    ghost use Rattle.worker_pool.specs.Readings.{AllFit, HasGained, IsReadJob};
-    ghost use Rattle.worker_pool.specs.ReadingLemmas.{gained_same, gained_again, read_wider};
+impl<T: RunsPrograms> Serve for Reading<'_, T> {
+    ghost use Rattle.std.specs.Prelude.{All};
+    ghost use Rattle.worker_pool.specs.TableJobs.{HasGrown, IsTableJob};
+    ghost use Rattle.worker_pool.specs.ReadingLemmas.{grown_same, grown_again, job_wider};
 
     type Job = Job;
 
-    type Worker = ReadSeat;
+    type Worker = T::Seat;
 
     type Served = JobReport<()>;
 
-    ghost ready = { λ s w. IsReady s.table.now w × AllFit s.table.now.shape s.programs.now };
+    ghost ready = { λ s w. T.IsReady s.table.now w × All (λ c. T.Fits s.table.now c.shapes) s.programs.now };
 
-    ghost later = { HasGained };
+    ghost later = { HasGrown T.mine T.name };
 
-    ghost fits = { λ s. IsReadJob s.table.now.shape s.programs.now };
+    ghost fits = { λ s. IsTableJob T.mine T.name (T.IsRun s.table.now) T.Refuses s.programs.now };
 
     /// Runs the job's program on its context over the table.
-    fn serve<R: Wait>(&self, _rt: &R, seat: &mut ReadSeat, job: &Job) -> JobReport<()> {
+    fn serve<R: Wait>(&self, _rt: &R, seat: &mut T::Seat, job: &Job) -> JobReport<()> {
         let Some(verified) = self.programs.get(job.prog.index()) else {
             return unbegun(StopCause::Refused(EventRefusal::NoProgram));
         };
         if job.ctx.len() != verified.ctx_len() {
             return unbegun(StopCause::Refused(EventRefusal::BadContext));
         }
-        match self.table.run_shared(seat, verified, &job.ctx) {
+        match self.table.run(seat, verified, &job.ctx) {
             Ok(value) => JobReport {
                 outcome: Outcome::Exit(value),
                 trail: (),
@@ -67,24 +69,57 @@ impl Serve for Reading<'_> {
         }
     }
 
-    ghost later_same = { gained_same };
+    ghost later_same = { grown_same T.mine T.name };
 
-    ghost later_again = { gained_again };
+    ghost later_again = { grown_again T.mine T.name };
 
-    ghost fits_wider = { λ s. read_wider s.table.now.shape s.programs.now };
+    ghost fits_wider = { λ s. job_wider T.mine T.name (T.IsRun s.table.now) T.Refuses s.programs.now };
 }
 
 /// Serves all jobs by runs of these programs over a table, a thread for each seat: one outcome a job, in job order. The
 /// seats come back whatever the answer, in their order.
 ///
 /// A job is stopped where there is no program of its number (`NoProgram`), where its context has another length
-/// (`BadContext`), or where a table of words does not serve its program (`SubWord`), in this order; else it has exited.
+/// (`BadContext`), or where words don't serve its program (`SubWord`), in this order; else it has exited.
 ///
 /// Errors: the first of these that holds.
 /// - `TooManyJobs`: there are more than `MAX_JOBS`. Nothing was done.
 /// - `Memory`: there is none for the results.
 ///
 /// That it returns is not claimed: its threads wait for one another's numbers.
+pub fn run_table_jobs<T: RunsPrograms + Sync, R: Threads + Wait + Sync>(
+    rt: &R,
+    alloc: Global,
+    programs: &[Verified],
+    jobs: &[Job],
+    table: &T,
+    seats: &mut Vec<T::Seat>,
+) -> Result<Report<()>, PoolFault>
+    requires some { 0 < vec_len seats.old }
+    requires few { vec_len seats.old ≤ most_workers }
+    requires ready { All (T.IsReady table.now) seats.old.items }
+    requires fit { All (λ c. T.Fits table.now c.shapes) programs.now }
+    ensures too_many_jobs { most_jobs < length jobs.now → result ≡ Err faults.TooManyJobs }
+    ensures served { length jobs.now ≤ most_jobs →
+        IsOk result ⊎ (result ≡ Err faults.Memory) }
+    ensures refused { most_jobs < length jobs.now → seats.new ≡ seats.old }
+    ensures ready { All (T.IsReady table.now) seats.new.items }
+    ensures later { AllZip (HasGrown T.mine T.name) seats.old.items seats.new.items }
+    ensures count { IfOk result (λ report. vec_len report.jobs ≡ length jobs.now) }
+    ensures each { IfOk result (λ report. AreServed (IsTableJob T.mine T.name (T.IsRun table.now) T.Refuses programs.now)
+        jobs.now seats.old.items seats.new.items report.jobs.items) }
+{
+    let reading = Reading { table, programs };
+    let threads = seats.len();
+    match serve_all(rt, alloc, &reading, jobs, threads, seats) {
+        Ok(jobs) => Ok(Report { jobs }),
+        Err(fault) => Err(fault),
+    }
+}
+
+/// `run_table_jobs` over a `ReadTable`.
+///
+/// Errors: the same.
 pub fn run_read_jobs<R: Threads + Wait + Sync>(
     rt: &R,
     alloc: Global,
@@ -107,10 +142,5 @@ pub fn run_read_jobs<R: Threads + Wait + Sync>(
     ensures each { IfOk result (λ report. AreServed (IsReadJob table.now.shape programs.now) jobs.now
         seats.old seats.new report.jobs.items) }
 {
-    let reading = Reading { table, programs };
-    let threads = seats.list.len();
-    match serve_all(rt, alloc, &reading, jobs, threads, &mut seats.list) {
-        Ok(jobs) => Ok(Report { jobs }),
-        Err(fault) => Err(fault),
-    }
+    run_table_jobs(rt, alloc, programs, jobs, table, &mut seats.list)
 }

@@ -1,16 +1,15 @@
-use Rattle.std.proofs.Common.{rules, ◌≡◌, ℕ, inl, inr, refl, sym, ap, subst, ◌∙◌, [], ◌++◌, length, Some}
+use Rattle.std.proofs.Common.{rules, ◌≡◌, ℕ, inl, inr, refl, sym, ap, subst, ◌∙◌, [], length, Some}
 use Rattle.std.specs.Prelude.{Option, slice_get}
 use Rattle.std.proofs.lemmas.Bool.{false≢true}
 use Rattle.std.proofs.lemmas.Option.{slice_get_read}
 use Rattle.verifier.specs.Checked.{Checked}
-use Rattle.read_table.proofs.Going.{went_mine}
-use Rattle.shared_runs.specs.Words.{UsesSubWords}
 use Rattle.worker_pool.specs.declared.job.Outcome.TheVariants.{Exit}
-use Rattle.worker_pool.specs.Readings.{IsReadOutcome}
+use Rattle.worker_pool.specs.TableJobs.{IsTableOutcome}
 use Rattle.worker_pool.proofs.reading.ReadingServe.serve.Goals as goal
 
 pub returns-in-Ok-clause-fits : goal.returns-in-Ok-clause-fits
 returns-in-Ok-clause-fits g c =
+    let t = g.T.RunsPrograms in
     let v = c.in-Some.verified.now in
     let here : slice_get c.args.self.now.programs.now c.args.job.now.prog ≡ Some v =
     (let q = c.in-Some.ensures.lookup in ap (λ (n : ℕ). slice_get c.args.self.now.programs.now n)
@@ -18,9 +17,9 @@ returns-in-Ok-clause-fits g c =
     c.index.result v refl q.3.0 q.1) in
     let long : length c.args.job.now.ctx.items ≡ v.ctx_len = search rules in
     let r = c.in-Ok.ensures.runs in
-    let whole : UsesSubWords v → ⊥ = λ u. absurd (false≢true (c.in-Ok.ensures.refused.1 u)) in
-    subst (λ (o : Option Checked). IsReadOutcome c.args.self.now.table.now.shape c.args.seat.now c.run_shared.new.seat
-    c.args.job.now o (Exit c.in-Ok.value)) (sym here)
+    let whole : t.Refuses v → ⊥ = λ u. absurd (false≢true (c.in-Ok.ensures.refused.1 u)) in
+    subst (λ (o : Option Checked). IsTableOutcome t.mine t.name (t.IsRun c.args.self.now.table.now) t.Refuses c.args.seat.now
+    c.run.new.seat c.args.job.now o (Exit c.in-Ok.value)) (sym here)
     (inr (inr (
       long,
       whole,
@@ -31,21 +30,22 @@ returns-in-Ok-clause-fits g c =
         moves = r.moves;
         after = [];
         steps = r.steps;
-        stretch = went_mine c.args.seat.now.view c.run_shared.new.seat.view (r.moves ++ c.args.seat.now.view.mine) r.list.went;
-        exit = r.exit;
+        stretch = r.list;
+        exit = r.run;
         bounded = r.bounded;
       },
     )))
 
 pub returns-in-Err-clause-fits : goal.returns-in-Err-clause-fits
 returns-in-Err-clause-fits g c =
+    let t = g.T.RunsPrograms in
     let v = c.in-Some.verified.now in
     let here : slice_get c.args.self.now.programs.now c.args.job.now.prog ≡ Some v =
     (let q = c.in-Some.ensures.lookup in ap (λ (n : ℕ). slice_get c.args.self.now.programs.now n)
     (sym c.index.ensures) ∙ slice_get_read c.args.self.now.programs.now (length c.args.self.now.programs.now)
     c.index.result v refl q.3.0 q.1) in
     let long : length c.args.job.now.ctx.items ≡ v.ctx_len = search rules in
-    let uses : UsesSubWords v = c.in-Err.ensures.refused.0 refl in
-    subst (λ (o : Option Checked). IsReadOutcome c.args.self.now.table.now.shape c.args.seat.now c.run_shared.new.seat
-    c.args.job.now o c.unbegun-in-Err.result.outcome) (sym here)
+    let uses : t.Refuses v = c.in-Err.ensures.refused.0 refl in
+    subst (λ (o : Option Checked). IsTableOutcome t.mine t.name (t.IsRun c.args.self.now.table.now) t.Refuses c.args.seat.now
+    c.run.new.seat c.args.job.now o c.unbegun-in-Err.result.outcome) (sym here)
     (inr (inl (long, uses, c.unbegun-in-Err.ensures)))

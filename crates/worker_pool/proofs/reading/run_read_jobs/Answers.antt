@@ -1,0 +1,4 @@
+use Rattle.worker_pool.proofs.reading.run_read_jobs.Goals as goal
+
+pub returns-clause-each : goal.returns-clause-each
+returns-clause-each g c = rw (← c.seats.view_is) c.run_table_jobs.ensures.each
