@@ -2,15 +2,20 @@
 //! other round the journal is cut whenever it may be. After each round it is replayed from its base, and its answers, the counts
 //! and all elements are compared with what the workers left. `soak ROUNDS CALLS`: how many rounds, and how many events a worker
 //! brings in each.
+//!
+//! Then eight readers make as many runs over a table without a lock, beside a writer that links, unlinks, replaces and reclaims:
+//! a key that stays is always found, with one of its values, and never with an earlier one than before.
 #![tactic(auto)]
 
 mod making;
 mod mixing;
 mod replaying;
 mod round;
+mod tables;
 
 use crate::making::world_of;
 use crate::round::{Tally, go_round};
+use crate::tables::{TableTally, go_table};
 use anyhow::{Result, bail};
 use std::alloc::Global;
 use std::env;
@@ -55,15 +60,35 @@ fn go<R: Threads + Wait + Sync>(rt: &R, alloc: Global, rounds: u32, calls: u32) 
     Ok(tally)
 }
 
+/// Goes so many rounds over tables.
+fn go_tables<R: Threads + Sync>(
+    rt: &R,
+    alloc: Global,
+    rounds: u32,
+    calls: u32,
+) -> Result<TableTally> {
+    let mut all = TableTally {
+        runs: 0,
+        changes: 0,
+    };
+    for _ in 0..rounds {
+        let one = go_table(rt, alloc, calls)?;
+        all.runs = all.runs.saturating_add(one.runs);
+        all.changes = all.changes.saturating_add(one.changes);
+    }
+    Ok(all)
+}
+
 /// What the words ask for, and a line for each of standard output and standard error.
 fn perform<H: Threads + Wait + Sync>(rt: &HostRuntime, handle: &H) -> Result<()> {
     let mut words = env::args(rt)?.skip(1);
     let rounds = number(words.next())?;
     let calls = number(words.next())?;
     let tally = go(handle, rt.alloc(), rounds, calls)?;
+    let tables = go_tables(handle, rt.alloc(), rounds, calls)?;
     eprintln!(rt;
-        "entries {} cuts {} worn {}",
-        tally.entries, tally.cuts, tally.worn
+        "entries {} cuts {} worn {} runs {} changes {}",
+        tally.entries, tally.cuts, tally.worn, tables.runs, tables.changes
     )?;
     println!(rt; "rounds {rounds}, no difference")?;
     Ok(())

@@ -23,7 +23,7 @@ impl Mixer {
     }
 
     /// A number below this one.
-    fn below(&mut self, limit: u32) -> u32
+    pub fn below(&mut self, limit: u32) -> u32
         requires { 0 < limit }
         ensures { result < limit }
     {

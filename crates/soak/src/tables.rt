@@ -1,0 +1,318 @@
+//! Eight readers run a program over a table without a lock, beside a writer that links, unlinks, replaces and reclaims.
+ghost use Rattle.std.specs.Prelude.{◌≡◌, ◌<◌, All, IfOk};
+ghost use Rattle.std.specs.Thread.{IsSync};
+ghost use Rattle.map_table.specs.Held.{IsReady};
+ghost use Rattle.map_table.specs.Values.{stored_of};
+ghost use Rattle.soak.specs.Tables.{HasOneWord, IsProgramOf, IsReadyWatcher};
+
+use crate::mixing::Mixer;
+use anyhow::{Result, bail, ensure};
+use asm::assemble;
+use bpf_model::{CtxBytes, MapKind, MapShape};
+use map_runs::{fits, run_to_exit, stores_sub_words};
+use map_table::{MapTable, ReadSeat, Seats, TableShape, Values, Writer};
+use std::alloc::{AllocError, Global};
+use std::sync::atomic::{AtomicBool, Ordering};
+use std::thread::{Threads, for_each_mut, join};
+use verifier::{Verified, verify};
+
+/// How many readers there are.
+const READERS: usize = 8;
+
+/// How many keys stay linked, from 0 on. Their values are replaced again and again.
+const KEPT: u32 = 1024;
+
+/// How many keys behind them are linked and unlinked in turn.
+const PASSING: u32 = 256;
+
+/// How many keys the writer changes before it reclaims.
+const STRIDE: u32 = 64;
+
+/// A table for all keys, and for twice as many elements.
+const SHAPE: TableShape = TableShape {
+    readers: READERS,
+    buckets: 512,
+    elements: 2560,
+    key_words: 1,
+    value_words: 1,
+    values: Values::Shared,
+    seed: 0x1234_5678_9abc_def0,
+};
+
+/// Keys and values of 8 bytes.
+const WORDS: MapShape = MapShape {
+    kind: MapKind::Hash,
+    key_len: 8,
+    value_len: 8,
+    entries: 4,
+    spare: 0,
+    reuse_limit: 1,
+};
+
+/// Exits with the value under the key that the context says; with 0 where there is none.
+const LOOKUP: &str = "\
+ldxdw r6, [r1+0]
+stxdw [r10-8], r6
+mov64 r6, 0
+callbtf 1
+mov64 r2, r10
+add64 r2, -8
+ldmap r1, 0
+call 1
+jeq r0, 0, +1
+ldxdw r6, [r0+0]
+callbtf 2
+mov64 r0, r6
+exit
+";
+
+/// A reader: its seat, the keys that it takes, the value that it found last under each of the kept keys, and how many runs
+/// exited with what they must not.
+#[derive(Drop)]
+pub struct Watcher {
+    seat: ReadSeat,
+    mixer: Mixer,
+    last: Vec<u64>,
+    wrong: u64,
+}
+
+/// What rounds came to.
+#[derive(Clone, Copy)]
+pub struct TableTally {
+    pub runs: u64,
+    pub changes: u64,
+}
+
+/// The value that a key has at a turn of the writer: one above the key, and the turn in the upper half.
+fn value_at(turn: u32, key: u32) -> u64 {
+    (u64::from(turn) << 32) | (u64::from(key) + 1)
+}
+
+/// The program, verified for the table.
+fn program_for(alloc: Global, table: &MapTable) -> Result<Verified>
+    ensures { IfOk result (IsProgramOf table.now.shape) }
+{
+    let program = assemble(alloc, LOOKUP)?;
+    let verified = verify(alloc, program, &[WORDS], 8)?;
+    if !fits(table, &verified) || stores_sub_words(&verified) || verified.ctx_len() != 8 {
+        bail!("the program is for other lengths");
+    }
+    Ok(verified)
+}
+
+/// A reader for each seat, which has seen nothing yet.
+fn watchers_of(alloc: Global, seats: Seats, here: &MapTable) -> Result<Vec<Watcher>, AllocError>
+    requires { All (IsReady here.now) seats }
+    ensures { IfOk result (λ v. All (IsReadyWatcher here.now) v.items) }
+{
+    let _ = here;
+    let mut watchers = Vec::new(alloc);
+    let mut number = 0u8;
+    for seat in seats.list {
+        watchers.push(Watcher {
+            seat,
+            mixer: Mixer::new(number, 0),
+            last: vec![in alloc; 0; KEPT as usize]?,
+            wrong: 0,
+        })?;
+        number = number.wrapping_add(1);
+    }
+    Ok(watchers)
+}
+
+/// What a run of the program exits with on a key.
+fn run(table: &MapTable, seat: &mut ReadSeat, program: &Verified, key: u32) -> u64
+    requires ready { IsReady table.now seat.old }
+    requires program { IsProgramOf table.now.shape program.now }
+    ensures ready { IsReady table.now seat.new }
+{
+    let mut ctx = CtxBytes::new();
+    for byte in u64::from(key).to_le_bytes() {
+        let _ = ctx.try_push(byte);
+    }
+    if ctx.len() != 8 {
+        return u64::MAX;
+    }
+    run_to_exit(table, seat, program, &ctx)
+}
+
+/// Whether a value may be what a run finds under a key: a value of the key. A kept key has one always, and never an earlier one
+/// than before; another key may have none.
+fn is_right(last: &mut [u64], key: u32, found: u64) -> bool {
+    let is_of_key = found & 0xffff_ffff == u64::from(key) + 1;
+    match last.get_mut(key as usize) {
+        Some(before) => {
+            let is_later = found >= *before;
+            *before = found;
+            is_of_key && is_later
+        }
+        None => is_of_key || found == 0,
+    }
+}
+
+/// Makes so many runs.
+fn watch(table: &MapTable, watcher: &mut Watcher, program: &Verified, calls: u32)
+    requires ready { IsReadyWatcher table.now watcher.old }
+    requires program { IsProgramOf table.now.shape program.now }
+    ensures { IsReadyWatcher table.now watcher.new }
+{
+    for _ in 0..calls {
+        let key = watcher.mixer.below(KEPT + PASSING);
+        let found = run(table, &mut watcher.seat, program, key);
+        if !is_right(watcher.last.as_mut_slice(), key, found) {
+            watcher.wrong = watcher.wrong.saturating_add(1);
+        }
+    }
+}
+
+/// Each reader makes so many runs in a thread of its own, and says so at the end.
+fn watch_all<R: Threads + Sync>(
+    rt: &R,
+    table: &MapTable,
+    watchers: &mut [Watcher],
+    program: &Verified,
+    calls: u32,
+    done: &AtomicBool,
+)
+    requires ready { All (IsReadyWatcher table.now) watchers.old }
+    requires program { IsProgramOf table.now.shape program.now }
+    ensures { All (IsReadyWatcher table.now) watchers.new }
+{
+    for_each_mut(
+        rt,
+        watchers,
+        READERS,
+        &|_, watcher: &mut Watcher| watch(table, watcher, program, calls),
+    );
+    done.store(true, Ordering::SeqCst);
+}
+
+/// Gives a key the value of a turn: replaces the one that it has, or links it.
+fn give(table: &MapTable, writer: &mut Writer, key: u32, turn: u32) -> bool
+    requires table { writer.old.table ≡ table.now }
+    requires lengths { HasOneWord table.now.shape }
+    ensures table { writer.new.table ≡ table.now }
+{
+    let words = [u64::from(key)];
+    let value = [value_at(turn, key)];
+    match writer.find(table, &words) {
+        Some(way) => writer.replace(table, way, &words, &value),
+        None => writer.link(table, &words, &value).is_some(),
+    }
+}
+
+/// Links a key where it is not linked, and else unlinks it.
+fn pass(table: &MapTable, writer: &mut Writer, key: u32, turn: u32) -> bool
+    requires table { writer.old.table ≡ table.now }
+    requires lengths { HasOneWord table.now.shape }
+    ensures table { writer.new.table ≡ table.now }
+{
+    let words = [u64::from(key)];
+    match writer.find(table, &words) {
+        Some(way) => {
+            writer.unlink(table, way);
+            true
+        }
+        None => writer.link(table, &words, &[value_at(turn, key)]).is_some(),
+    }
+}
+
+/// Changes a key: a kept one gets the value of the turn, another one is linked or unlinked. Whether there was room.
+fn change(table: &MapTable, writer: &mut Writer, key: u32, turn: u32) -> bool
+    requires table { writer.old.table ≡ table.now }
+    requires lengths { HasOneWord table.now.shape }
+    ensures table { writer.new.table ≡ table.now }
+{
+    if key < KEPT {
+        return give(table, writer, key, turn);
+    }
+    pass(table, writer, key, turn)
+}
+
+/// Changes each key once, and reclaims again and again. How many keys were changed.
+fn change_all(table: &MapTable, writer: &mut Writer, turn: u32) -> u64
+    requires table { writer.old.table ≡ table.now }
+    requires lengths { HasOneWord table.now.shape }
+    ensures table { writer.new.table ≡ table.now }
+{
+    let mut changed = 0u64;
+    for key in 0..KEPT + PASSING {
+        if change(table, writer, key, turn) {
+            changed = changed.saturating_add(1);
+        }
+        if key % STRIDE == 0 {
+            writer.reclaim(table);
+        }
+    }
+    changed
+}
+
+/// Changes all keys, again and again, until the readers are done. How many changes there were.
+fn change_until(table: &MapTable, writer: &mut Writer, done: &AtomicBool, first: u32) -> u64
+    requires table { writer.old.table ≡ table.now }
+    requires lengths { HasOneWord table.now.shape }
+    ensures table { writer.new.table ≡ table.now }
+{
+    let mut changes = 0u64;
+    for turn in first..u32::MAX {
+        changes = changes.saturating_add(change_all(table, writer, turn));
+        if done.load(Ordering::SeqCst) {
+            return changes;
+        }
+    }
+    changes
+}
+
+/// The readers make so many runs each, beside the writer. How many changes there were.
+fn go_beside<R: Threads + Sync>(
+    rt: &R,
+    table: &MapTable,
+    watchers: &mut [Watcher],
+    writer: &mut Writer,
+    program: &Verified,
+    calls: u32,
+) -> u64
+    requires ready { All (IsReadyWatcher table.now) watchers.old }
+    requires program { IsProgramOf table.now.shape program.now }
+    requires table { writer.old.table ≡ table.now }
+    requires lengths { HasOneWord table.now.shape }
+{
+    let done = AtomicBool::new(false);
+    let (_, changes) = join(
+        rt,
+        || -> ()
+            requires { IsSync R.row × IsProgramOf table.now.shape program.now × All (IsReadyWatcher table.now) watchers.now }
+        { watch_all(rt, table, watchers, program, calls, &done) },
+        || -> u64
+            requires { HasOneWord table.now.shape × (writer.now.table ≡ table.now) }
+        { change_until(table, writer, &done, 2) },
+    );
+    changes
+}
+
+/// So many runs of each reader beside the writer, over a table of its own. An error where a run did not find what it must.
+pub fn go_table<R: Threads + Sync>(rt: &R, alloc: Global, calls: u32) -> Result<TableTally> {
+    let (table, seats, mut writer) = MapTable::new(alloc, SHAPE)?;
+    let linked = change_all(&table, &mut writer, 1);
+    ensure!(linked == u64::from(KEPT + PASSING), "the table is full");
+    let program = program_for(alloc, &table)?;
+    let mut watchers = watchers_of(alloc, seats, &table)?;
+    let changes = go_beside(
+        rt,
+        &table,
+        watchers.as_mut_slice(),
+        &mut writer,
+        &program,
+        calls,
+    );
+    let mut wrong = 0u64;
+    for watcher in &watchers {
+        wrong = wrong.saturating_add(watcher.wrong);
+    }
+    ensure!(
+        wrong == 0,
+        "{wrong} runs over a table found what they must not"
+    );
+    let runs = (READERS as u64).saturating_mul(u64::from(calls));
+    Ok(TableTally { runs, changes })
+}
