@@ -28,10 +28,11 @@ run_over-value-requires-clause-maps c = c.requires.maps.kept
 pub returns-clause-runs : goal.returns-clause-runs
 returns-clause-runs c =
     let k = c.args.table.now.shape in
+    let seat = c.run_over-value.new.seat in
     let shape = c.is_readers.ensures.shape ∙ ap (λ (t : TableView). t.shape) c.requires.ready.table in
     let first = subst (λ (z : TableShape). c.first_place.result ≡ first_of z c.args.seat.now.view.me) shape c.first_place.ensures in
-    subst (λ n. RunsOver (named_table_of k c.args.maps.now n) Goes c.args.verified.now c.args.ctx.now.items c.args.seat.now c.run_over-value.new.seat c.run_over-value.result)
-    first c.run_over-value.ensures.runs
+    subst (λ n. RunsOver (named_table_of k c.args.maps.now n) Goes c.args.verified.now c.args.ctx.now.items
+    c.args.seat.now seat c.run_over-value.result) first c.run_over-value.ensures.runs
 
 pub returns-clause-ready : goal.returns-clause-ready
 returns-clause-ready c = let r = returns-clause-runs c in
