@@ -36,7 +36,7 @@ fn two_programs(alloc: Global, table: &ReadTable) -> Result<[Verified; 2], Fail>
 }
 
 /// A job of the program of this number on a context of so many zeros.
-fn job(prog: usize, ctx_len: usize) -> Job {
+pub fn job(prog: usize, ctx_len: usize) -> Job {
     let mut ctx = CtxBytes::new();
     for _ in 0..ctx_len {
         let _ = ctx.try_push(0);

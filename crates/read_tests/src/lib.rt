@@ -9,6 +9,8 @@ mod jobs;
 #[cfg(test)]
 mod making;
 #[cfg(test)]
+mod map_jobs;
+#[cfg(test)]
 mod runs;
 #[cfg(test)]
 mod slots;
