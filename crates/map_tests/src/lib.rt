@@ -6,4 +6,6 @@ mod counters;
 #[cfg(test)]
 mod keys;
 #[cfg(test)]
+mod names;
+#[cfg(test)]
 mod runs;

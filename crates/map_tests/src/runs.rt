@@ -1,5 +1,6 @@
 //! Runs of a program over the table, beside the writer.
-ghost use Rattle.std.specs.Prelude.{◌≡◌, ◌<◌};
+ghost use Rattle.std.specs.Prelude.{◌≡◌, ◌<◌, ◌≤◌, length};
+ghost use Rattle.bpf_model.specs.declared.limits.TheConstants.{MAX_MAPS};
 ghost use Rattle.map_table.specs.Held.{IsReady};
 
 use crate::keys::two_seats;
@@ -28,7 +29,7 @@ bfa2000000000000 07020000f8ffffff 1851000000000000 0000000000000000 850000000100
 const LOAD: &str = "7109000000000000";
 
 /// Keys and values of 8 bytes.
-const WORDS: MapShape = MapShape {
+pub const WORDS: MapShape = MapShape {
     kind: MapKind::Hash,
     key_len: 8,
     value_len: 8,
@@ -50,10 +51,17 @@ const TABLE: TableShape = TableShape {
 
 /// The program of these hexadecimal digits, verified against one map and a context of a word.
 pub fn verified(alloc: Global, text: &str) -> Result<Verified, Fail> {
+    verified_with(alloc, text, &[WORDS])
+}
+
+/// The same against these maps.
+pub fn verified_with(alloc: Global, text: &str, maps: &[MapShape]) -> Result<Verified, Fail>
+    requires few { length maps.now ≤ MAX_MAPS }
+{
     let digits = text.replace(alloc, "\n", "")?;
     let digits = digits.as_str().replace(alloc, " ", "")?;
     let bytes = hex::decode(alloc, digits.as_str())?;
-    Ok(verify(alloc, decode(alloc, &bytes)?, &[WORDS], 8)?)
+    Ok(verify(alloc, decode(alloc, &bytes)?, maps, 8)?)
 }
 
 /// What a run comes to that loads of the value of the key 7 what this instruction loads, or that makes this access of it.
@@ -71,6 +79,15 @@ fn loaded(
     Ok(run(table, seat, &program, 7))
 }
 
+/// A context of this word.
+pub fn context_of(word: u64) -> CtxBytes {
+    let mut ctx = CtxBytes::new();
+    for byte in word.to_le_bytes() {
+        let _ = ctx.try_push(byte);
+    }
+    ctx
+}
+
 /// What a run of the program comes to on this key, if it is of the table's lengths.
 pub fn run(
     table: &MapTable,
@@ -81,10 +98,7 @@ pub fn run(
     requires ready { IsReady table.now seat.old }
     ensures ready { IsReady table.now seat.new }
 {
-    let mut ctx = CtxBytes::new();
-    for byte in key.to_le_bytes() {
-        let _ = ctx.try_push(byte);
-    }
+    let ctx = context_of(key);
     if !fits(table, verified) || ctx.len() != verified.ctx_len() {
         return None;
     }
