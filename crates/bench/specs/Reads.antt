@@ -4,9 +4,13 @@ use Rattle.read_table.specs.declared.view.TableShape.{TableShape}
 use Rattle.verifier.specs.Checked.{Checked}
 use Rattle.read_table.specs.Held.{IsReady, TableView}
 use Rattle.read_table.specs.Table.{table_of}
-use Rattle.shared_runs.specs.Words.{FitsTable}
+use Rattle.map_table.specs.declared.view.TableShape.{TableShape as MapTableShape}
+use Rattle.map_table.specs.Values.{stored_of}
+use Rattle.map_table.specs.Held.{IsReady as IsMapReady, TableView as MapTableView}
+use Rattle.map_runs.specs.Running.{ServesMaps}
+use Rattle.shared_runs.specs.Words.{FitsTable, StoresSubWords}
 use Rattle.bench.specs.declared.reads.reader.Reader.{Reader}
-use Rattle.bench.specs.declared.reads.stage.Stage.{Stage}
+use Rattle.bench.specs.declared.reads.map_stage.MapReader.{MapReader}
 
 -- keys and values are of one word
 abbrev pub HasWordLengths : TableShape → Type 0
@@ -20,9 +24,16 @@ IsProgramOf k c = FitsTable (table_of k) c.shapes × (c.ctx_len ≡ 0)
 abbrev pub IsReadyReader : TableView → Reader → Type 0
 IsReadyReader here r = IsReady here r.seat
 
--- All that readers and the writer need.
-pub record IsReadyStage (s : Stage) : Type 0 where
-  pub lengths : HasWordLengths s.table.shape
-  pub program : IsProgramOf s.table.shape s.program
-  pub readers : All (IsReadyReader s.table) s.readers.items
-  pub writer : s.writer.table ≡ s.table
+-- keys of a map table are of one word, and so is what an element stores beside its key
+abbrev pub HasOneWord : MapTableShape → Type 0
+HasOneWord k = (k.key_words ≡ 1) × (stored_of k ≡ 1)
+
+-- The program's maps have the map table's lengths, words serve it, and its context is empty.
+pub record IsMapProgramOf (k : MapTableShape) (c : Checked) : Type 0 where
+  pub maps : ServesMaps k c.shapes
+  pub words : StoresSubWords c → ⊥
+  pub context : c.ctx_len ≡ 0
+
+-- the reader's seat is this map table's, and outside a section
+abbrev pub IsReadyMapReader : MapTableView → MapReader → Type 0
+IsReadyMapReader here r = IsMapReady here r.seat

@@ -9,13 +9,13 @@ use map_table::{MapTable, ReadSeat, TableShape, Values, Writer};
 use std::alloc::Global;
 
 /// How many keys are linked.
-const KEYS: u64 = 1 << 16;
+pub const KEYS: u64 = 1 << 16;
 
 /// How many calls a round has.
-const ROUND: u64 = 1024;
+pub const ROUND: u64 = 1024;
 
-/// A table for these keys and for the values of a round beside them, with twice as many ways as keys.
-const SHAPE: TableShape = TableShape {
+/// A table for these keys and for the values of a round beside them, with twice as many ways as keys, for one reader.
+pub const SHAPE: TableShape = TableShape {
     readers: 1,
     buckets: 1 << 14,
     elements: (1 << 16) + (1 << 10),
@@ -47,7 +47,7 @@ fn deed_of(name: &str) -> Option<Deed> {
 }
 
 /// Links the keys from 0 on, each with a value one above it.
-fn link_all(table: &MapTable, writer: &mut Writer) -> Result<()>
+pub fn link_all(table: &MapTable, writer: &mut Writer) -> Result<()>
     requires table { writer.old.table ≡ table.now }
     requires key { table.now.shape.key_words ≡ 1 }
     requires value { stored_of table.now.shape ≡ 1 }
@@ -93,7 +93,7 @@ fn look_up(table: &MapTable, seat: &mut ReadSeat, key: u64) -> u64
 }
 
 /// Looks up the keys of a round, from the first one on. The sum of the words that are found.
-fn look_up_all(table: &MapTable, seat: &mut ReadSeat, first: u64) -> u64
+pub fn look_up_all(table: &MapTable, seat: &mut ReadSeat, first: u64) -> u64
     requires ready { IsReady table.now seat.old }
     requires key { table.now.shape.key_words ≡ 1 }
     requires value { stored_of table.now.shape ≡ 1 }
@@ -122,7 +122,7 @@ fn replace(table: &MapTable, writer: &mut Writer, key: u64) -> u64
 }
 
 /// Replaces the values of a round, and reclaims. How many were replaced.
-fn replace_all(table: &MapTable, writer: &mut Writer) -> u64
+pub fn replace_all(table: &MapTable, writer: &mut Writer) -> u64
     requires table { writer.old.table ≡ table.now }
     requires key { table.now.shape.key_words ≡ 1 }
     requires value { stored_of table.now.shape ≡ 1 }

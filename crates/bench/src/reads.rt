@@ -3,7 +3,9 @@
 pub mod command;
 mod crew;
 mod jobs;
+mod map_stage;
 mod measure;
+mod measured;
 pub mod outputs;
 mod reader;
 mod stage;

@@ -1,18 +1,23 @@
 //! Jobs that the seats of a table serve.
-ghost use Rattle.std.specs.Prelude.{◌<◌, ◌≤◌};
+ghost use Rattle.std.specs.Prelude.{◌<◌, ◌≤◌, All, vec_len};
+ghost use Rattle.job_queue.specs.Serving.{most_workers};
 ghost use Rattle.read_table.specs.declared.limits.TheConstants.{MAX_READERS};
 
 use crate::measurements::{Decimal, quotient};
+use crate::reads::map_stage::{full_table, map_program};
 use crate::reads::stage::{SLOTS, fill, lookup_program};
 use crate::worlds::{LONG_TASK_BATCHES, make_jobs};
 use anyhow::{Result, bail, ensure};
+use map_runs::MapRuns;
 use read_table::ReadTable;
+use shared_runs::RunsPrograms;
 use std::alloc::Global;
 use std::rt::Clock;
 use std::sync::Wait;
 use std::thread::Threads;
 use std::time::{Duration, Instant};
-use worker_pool::{Job, JobReport, Outcome, run_read_jobs};
+use verifier::Verified;
+use worker_pool::{Job, JobReport, Outcome, run_table_jobs};
 
 /// How many jobs a batch has. Each is a run that looks a key up and loads the value, once or again and again.
 const READ_JOBS: u32 = 65_536;
@@ -30,21 +35,22 @@ fn have_all_exited(reports: &[JobReport<()>]) -> bool {
     true
 }
 
-/// The time in which so many seats serve the jobs, of so many lookups each.
-fn time_of_jobs<R: Threads + Wait + Clock + Sync>(
+/// The time in which these seats of a table serve the jobs.
+fn time_of_jobs<T: RunsPrograms + Sync, R: Threads + Wait + Clock + Sync>(
     rt: &R,
     alloc: Global,
+    programs: &[Verified],
     jobs: &[Job],
-    seats: usize,
-    lookups: u32,
+    table: &T,
+    seats: &mut Vec<T::Seat>,
 ) -> Result<Duration>
-    requires { (0 < seats) × (seats ≤ MAX_READERS) }
+    requires some { 0 < vec_len seats.old }
+    requires few { vec_len seats.old ≤ most_workers }
+    requires ready { All (T.IsReady table.now) seats.old.items }
+    requires fit { All (λ c. T.Fits table.now c.shapes) programs.now }
 {
-    let (table, mut seats, mut writer) = ReadTable::new(alloc, SLOTS, 8, 8, seats)?;
-    fill(&table, &mut writer)?;
-    let programs = [lookup_program(alloc, &table, lookups)?];
     let start = Instant::now(rt)?;
-    match run_read_jobs(rt, alloc, &programs, jobs, &table, &mut seats) {
+    match run_table_jobs(rt, alloc, programs, jobs, table, seats) {
         Ok(report) => {
             let time = start.elapsed(rt)?;
             ensure!(
@@ -57,10 +63,52 @@ fn time_of_jobs<R: Threads + Wait + Clock + Sync>(
     }
 }
 
-/// The time of one job of so many lookups in nanoseconds: all jobs of the quickest batch after one another.
-pub fn time_per_read_job<R: Threads + Wait + Clock + Sync>(
+/// The time in which so many seats of a `ReadTable` serve the jobs, of so many lookups each.
+fn time_of_read_jobs<R: Threads + Wait + Clock + Sync>(
     rt: &R,
     alloc: Global,
+    jobs: &[Job],
+    seats: usize,
+    lookups: u32,
+) -> Result<Duration>
+    requires { (0 < seats) × (seats ≤ MAX_READERS) }
+{
+    let (table, mut seats, mut writer) = ReadTable::new(alloc, SLOTS, 8, 8, seats)?;
+    fill(&table, &mut writer)?;
+    let programs = [lookup_program(alloc, &table, lookups)?];
+    time_of_jobs(rt, alloc, &programs, jobs, &table, &mut seats.list)
+}
+
+/// The same of a `MapTable`.
+fn time_of_map_jobs<R: Threads + Wait + Clock + Sync>(
+    rt: &R,
+    alloc: Global,
+    jobs: &[Job],
+    seats: usize,
+    lookups: u32,
+) -> Result<Duration>
+    requires { (0 < seats) × (seats ≤ MAX_READERS) }
+{
+    let (table, mut seats, _writer) = full_table(alloc, seats)?;
+    let programs = [map_program(alloc, &table, lookups)?];
+    let runs = MapRuns { table: &table };
+    time_of_jobs(rt, alloc, &programs, jobs, &runs, &mut seats.list)
+}
+
+/// Over which table jobs run.
+#[derive(Clone, Copy, Debug, PartialEq, Eq)]
+pub enum Kind {
+    /// A `ReadTable`.
+    Read,
+    /// A `MapTable`.
+    Map,
+}
+
+/// The time of one job of so many lookups in nanoseconds: all jobs of the quickest batch after one another.
+pub fn time_per_job<R: Threads + Wait + Clock + Sync>(
+    rt: &R,
+    alloc: Global,
+    kind: Kind,
     seats: usize,
     lookups: u32,
 ) -> Result<Decimal>
@@ -69,7 +117,11 @@ pub fn time_per_read_job<R: Threads + Wait + Clock + Sync>(
     let jobs = make_jobs(alloc, READ_JOBS)?;
     let mut best = Duration::MAX;
     for _ in 0..LONG_TASK_BATCHES {
-        best = best.min(time_of_jobs(rt, alloc, &jobs, seats, lookups)?);
+        let time = match kind {
+            Kind::Read => time_of_read_jobs(rt, alloc, &jobs, seats, lookups)?,
+            Kind::Map => time_of_map_jobs(rt, alloc, &jobs, seats, lookups)?,
+        };
+        best = best.min(time);
     }
     Ok(quotient(best.as_nanos(), u128::from(READ_JOBS)))
 }

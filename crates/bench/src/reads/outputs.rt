@@ -5,9 +5,12 @@ ghost use Rattle.read_table.specs.declared.limits.TheConstants.{MAX_READERS};
 use crate::key_tables::repeat_map_calls;
 use crate::measurements::{measurement_line, quotient};
 use crate::reads::command::ReadCommand;
-use crate::reads::jobs::time_per_read_job;
+use crate::reads::jobs::{Kind, time_per_job};
+use crate::reads::map_stage::MapStage;
 use crate::reads::measure::{quickest, repeat_calls};
-use crate::reads::task::{Task, tasks};
+use crate::reads::measured::Measured;
+use crate::reads::stage::Stage;
+use crate::reads::task::{Deed, Task, map_tasks, tasks};
 use anyhow::{Result, bail};
 use read_table::MAX_READERS;
 use std::alloc::{AllocError, Global};
@@ -44,7 +47,7 @@ fn time_line(
 }
 
 /// Times a task with each number of readers, alone or beside the writer.
-fn task_lines<R: Threads + Clock + Sync>(
+fn task_lines<S: Measured, R: Threads + Clock + Sync>(
     rt: &R,
     alloc: Global,
     task: &Task,
@@ -55,7 +58,7 @@ fn task_lines<R: Threads + Clock + Sync>(
     let mut alone = 0;
     for readers in READERS {
         if readers >= 1 && readers <= MAX_READERS {
-            let time = quickest(rt, alloc, task, readers, is_written)?;
+            let time = quickest::<S, R>(rt, alloc, task, readers, is_written)?;
             if readers == 1 {
                 alone = time;
             }
@@ -71,12 +74,13 @@ fn job_lines<R: Threads + Wait + Clock + Sync>(
     rt: &R,
     alloc: Global,
     name: &str,
+    kind: Kind,
     lookups: u32,
     lines: &mut Vec<String>,
 ) -> Result<()> {
     for seats in READERS {
         if seats >= 1 && seats <= MAX_READERS {
-            let time = time_per_read_job(rt, alloc, seats, lookups)?;
+            let time = time_per_job(rt, alloc, kind, seats, lookups)?;
             let name = format!(in alloc; "{name}_by_{seats}")?;
             lines.push(measurement_line(alloc, name.as_str(), time)?)?;
         }
@@ -88,29 +92,45 @@ fn job_lines<R: Threads + Wait + Clock + Sync>(
 fn times_lines<R: Threads + Wait + Clock + Sync>(rt: &R, alloc: Global) -> Result<Vec<String>> {
     let mut lines = Vec::new(alloc);
     for task in tasks() {
-        task_lines(rt, alloc, &task, false, &mut lines)?;
-        task_lines(rt, alloc, &task, true, &mut lines)?;
+        task_lines::<Stage, R>(rt, alloc, &task, false, &mut lines)?;
+        task_lines::<Stage, R>(rt, alloc, &task, true, &mut lines)?;
     }
-    job_lines(rt, alloc, "read_job", 1, &mut lines)?;
-    job_lines(rt, alloc, "long_read_job", LOOKUPS_OF_LONG_JOB, &mut lines)?;
+    for task in map_tasks() {
+        task_lines::<MapStage, R>(rt, alloc, &task, false, &mut lines)?;
+        task_lines::<MapStage, R>(rt, alloc, &task, true, &mut lines)?;
+    }
+    let long = LOOKUPS_OF_LONG_JOB;
+    job_lines(rt, alloc, "read_job", Kind::Read, 1, &mut lines)?;
+    job_lines(rt, alloc, "long_read_job", Kind::Read, long, &mut lines)?;
+    job_lines(rt, alloc, "map_job", Kind::Map, 1, &mut lines)?;
+    job_lines(rt, alloc, "long_map_job", Kind::Map, long, &mut lines)?;
     Ok(lines)
+}
+
+/// The sum of what so many rounds of the calls of a name come to.
+fn sum_of(alloc: Global, name: &str, times: u32) -> Result<u64> {
+    for task in tasks() {
+        if task.name == name {
+            return repeat_calls::<Stage>(alloc, &task, times);
+        }
+    }
+    for task in map_tasks() {
+        if task.name == name && task.deed == Deed::Runs {
+            return repeat_calls::<MapStage>(alloc, &task, times);
+        }
+    }
+    match repeat_map_calls(alloc, name, times)? {
+        Some(sum) => Ok(sum),
+        None => bail!("no calls {name}"),
+    }
 }
 
 /// The line of so many rounds of the calls of a name.
 fn repeated_lines(alloc: Global, name: &str, times: u32) -> Result<Vec<String>> {
     let mut lines = Vec::new(alloc);
-    for task in tasks() {
-        if task.name == name {
-            let sum = repeat_calls(alloc, &task, times)?;
-            lines.push(format!(in alloc; "{name} sum {sum}")?)?;
-            return Ok(lines);
-        }
-    }
-    if let Some(sum) = repeat_map_calls(alloc, name, times)? {
-        lines.push(format!(in alloc; "{name} sum {sum}")?)?;
-        return Ok(lines);
-    }
-    bail!("no calls {name}")
+    let sum = sum_of(alloc, name, times)?;
+    lines.push(format!(in alloc; "{name} sum {sum}")?)?;
+    Ok(lines)
 }
 
 /// The lines that a command prints.

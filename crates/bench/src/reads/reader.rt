@@ -12,9 +12,6 @@ use verifier::Verified;
 /// How many keys each reader looks up in turn.
 pub const KEYS: u64 = 32;
 
-/// How many calls a round has.
-const ROUND: u32 = 1024;
-
 /// How far the keys that are not there lie from those that are.
 const ABSENT: u64 = 1000;
 
@@ -86,32 +83,23 @@ fn run_all(table: &ReadTable, seat: &mut ReadSeat, program: &Verified, calls: u3
     sum
 }
 
-impl Reader {
-    /// Makes so many calls.
-    pub fn work(&mut self, table: &ReadTable, program: &Verified, deed: Deed, calls: u32)
-        requires ready { IsReady table.now self.old.seat }
-        requires lengths { HasWordLengths table.now.shape }
-        requires program { IsProgramOf table.now.shape program.now }
-        ensures ready { IsReady table.now self.new.seat }
-    {
-        let seat = &mut self.seat;
-        let sum = match deed {
-            Deed::Runs => run_all(table, seat, program, calls),
-            Deed::Hits => look_up_all(table, seat, self.first, calls),
-            Deed::Misses => look_up_all(table, seat, self.first.wrapping_add(ABSENT), calls),
-        };
-        self.sum = self.sum.wrapping_add(sum);
-    }
-
-    /// Makes so many rounds of calls.
-    pub fn repeat(&mut self, table: &ReadTable, program: &Verified, deed: Deed, times: u32)
-        requires ready { IsReady table.now self.old.seat }
-        requires lengths { HasWordLengths table.now.shape }
-        requires program { IsProgramOf table.now.shape program.now }
-        ensures ready { IsReady table.now self.new.seat }
-    {
-        for _ in 0..times {
-            self.work(table, program, deed, ROUND);
-        }
+/// Makes so many calls. The sum of what they find.
+pub fn calls_of(
+    table: &ReadTable,
+    reader: &mut Reader,
+    program: &Verified,
+    deed: Deed,
+    calls: u32,
+) -> u64
+    requires ready { IsReady table.now reader.old.seat }
+    requires lengths { HasWordLengths table.now.shape }
+    requires program { IsProgramOf table.now.shape program.now }
+    ensures ready { IsReady table.now reader.new.seat }
+{
+    let seat = &mut reader.seat;
+    match deed {
+        Deed::Runs => run_all(table, seat, program, calls),
+        Deed::Hits => look_up_all(table, seat, reader.first, calls),
+        Deed::Misses => look_up_all(table, seat, reader.first.wrapping_add(ABSENT), calls),
     }
 }

@@ -1,15 +1,18 @@
-//! A table with its readers, its writer, and a program that is run over it.
-ghost use Rattle.std.specs.Prelude.{◌≡◌, ◌<◌, ◌≤◌, All, IfOk};
-ghost use Rattle.read_table.specs.declared.limits.TheConstants.{MAX_READERS};
-ghost use Rattle.read_table.specs.Held.{IsReady, TableView};
-ghost use Rattle.bench.specs.Reads.{HasWordLengths, IsProgramOf, IsReadyReader, IsReadyStage};
+//! A `ReadTable` with its readers, its writer, and a program that is run over it.
+ghost use Rattle.std.specs.Prelude.{◌≡◌, All, IfOk};
+ghost use Rattle.std.specs.List.{Contains};
+ghost use Rattle.read_table.specs.Held.{IsReady};
+ghost use Rattle.bench.specs.Reads.{HasWordLengths, IsProgramOf, IsReadyReader};
 
-use crate::reads::reader::{KEYS, Reader};
+use crate::reads::measured::Measured;
+use crate::reads::reader::{KEYS, Reader, calls_of};
+use crate::reads::task::Deed;
 use anyhow::{Result, bail};
 use bpf_model::{MapKind, MapShape};
 use insn_codec::decode;
 use read_table::{ReadTable, Seats, Writer};
 use std::alloc::{AllocError, Global};
+use std::sync::atomic::{AtomicBool, Ordering};
 use verifier::{Verified, verify};
 
 /// How many slots the table has.
@@ -17,6 +20,9 @@ pub const SLOTS: usize = 256;
 
 /// How many of them are linked.
 const LINKED: u64 = 128;
+
+/// The key that the writer links. No reader looks it up.
+const WRITTEN: u64 = 1 << 40;
 
 /// Begins a section, with the key of 8 zeros in the frame.
 const BEGIN: &str = "b70600000000000085200000010000007a0af8ff00000000";
@@ -38,12 +44,10 @@ const SHAPE: MapShape = MapShape {
     reuse_limit: 1,
 };
 
-/// A table, its readers and its writer, and a program for its lengths.
+/// A table, and a program for its lengths.
 #[derive(Drop)]
 pub struct Stage {
     pub table: ReadTable,
-    pub readers: Vec<Reader>,
-    pub writer: Writer,
     pub program: Verified,
 }
 
@@ -57,14 +61,21 @@ fn digits_of(alloc: Global, lookups: u32) -> Result<String, AllocError> {
     Ok(digits)
 }
 
-/// A program that makes so many lookups, verified for the table and an empty context.
-pub fn lookup_program(alloc: Global, table: &ReadTable, lookups: u32) -> Result<Verified>
-    ensures { IfOk result (IsProgramOf table.now.shape) }
+/// A program that makes so many lookups, verified for keys and values of 8 bytes and an empty context.
+pub fn program_of(alloc: Global, lookups: u32) -> Result<Verified>
+    ensures { IfOk result (λ v. v.ctx_len ≡ 0) }
 {
     let digits = digits_of(alloc, lookups)?;
     let bytes = hex::decode(alloc, digits.as_str())?;
     let program = decode(alloc, &bytes)?;
-    let verified = verify(alloc, program, &[SHAPE], 0)?;
+    Ok(verify(alloc, program, &[SHAPE], 0)?)
+}
+
+/// The same, which fits the table.
+pub fn lookup_program(alloc: Global, table: &ReadTable, lookups: u32) -> Result<Verified>
+    ensures { IfOk result (IsProgramOf table.now.shape) }
+{
+    let verified = program_of(alloc, lookups)?;
     if !table.fits(&verified) {
         bail!("the program is for other lengths");
     }
@@ -108,19 +119,60 @@ pub fn fill(table: &ReadTable, writer: &mut Writer) -> Result<()>
     Ok(())
 }
 
-/// A table for so many readers.
-pub fn make_stage(alloc: Global, readers: usize) -> Result<Stage>
-    requires { (0 < readers) × (readers ≤ MAX_READERS) }
-    ensures { IfOk result IsReadyStage }
+/// Tries to have an unlinked slot again, until it is got or the readers are done. Whether it was got.
+fn reclaim(table: &ReadTable, writer: &mut Writer, slot: usize, done: &AtomicBool) -> bool
+    requires table { writer.old.table ≡ table.now }
+    requires unlinked { Contains writer.old.unlinked slot }
+    ensures table { writer.new.table ≡ table.now }
 {
-    let (table, seats, mut writer) = ReadTable::new(alloc, SLOTS, 8, 8, readers)?;
-    fill(&table, &mut writer)?;
-    let program = lookup_program(alloc, &table, 1)?;
-    let readers = readers_of(alloc, seats, &table)?;
-    Ok(Stage {
-        table,
-        readers,
-        writer,
-        program,
-    })
+    for _ in 0..u64::MAX {
+        if writer.try_reclaim(table, slot) {
+            return true;
+        }
+        if done.load(Ordering::SeqCst) {
+            return false;
+        }
+    }
+    false
+}
+
+impl Measured for Stage {
+    ghost use Rattle.std.specs.Prelude.{◌≡◌};
+    ghost use Rattle.bench.specs.Reads.{HasWordLengths, IsProgramOf, IsReadyReader};
+
+    type Reader = Reader;
+
+    type Writer = Writer;
+
+    ghost IsSet = { λ s. HasWordLengths s.table.shape × IsProgramOf s.table.shape s.program };
+
+    ghost IsReader = { λ s. IsReadyReader s.table };
+
+    ghost IsWriter = { λ s w. w.table ≡ s.table };
+
+    fn make(alloc: Global, readers: usize) -> Result<(Stage, Vec<Reader>, Writer)> {
+        let (table, seats, mut writer) = ReadTable::new(alloc, SLOTS, 8, 8, readers)?;
+        fill(&table, &mut writer)?;
+        let program = lookup_program(alloc, &table, 1)?;
+        let readers = readers_of(alloc, seats, &table)?;
+        Ok((Stage { table, program }, readers, writer))
+    }
+
+    fn work(&self, reader: &mut Reader, deed: Deed, calls: u32) {
+        let found = calls_of(&self.table, reader, &self.program, deed, calls);
+        reader.sum = reader.sum.wrapping_add(found);
+    }
+
+    /// Links a key, unlinks it and has the slot again.
+    fn write(&self, writer: &mut Writer, done: &AtomicBool) -> bool {
+        let Some(slot) = writer.link(&self.table, &WRITTEN.to_le_bytes(), &[1; 8]) else {
+            return false;
+        };
+        writer.unlink(&self.table, slot);
+        reclaim(&self.table, writer, slot, done)
+    }
+
+    fn sum(reader: &Reader) -> u64 {
+        reader.sum
+    }
 }

@@ -19,7 +19,7 @@ pub struct Task {
     pub calls: u32,
 }
 
-/// The tasks, in the order in which they are printed.
+/// The tasks of a `ReadTable`, in the order in which they are printed.
 pub fn tasks() -> [Task; 3] {
     [
         Task {
@@ -36,6 +36,27 @@ pub fn tasks() -> [Task; 3] {
             name: "read_absent",
             deed: Deed::Misses,
             calls: 500_000,
+        },
+    ]
+}
+
+/// Those of a `MapTable`.
+pub fn map_tasks() -> [Task; 3] {
+    [
+        Task {
+            name: "map_run",
+            deed: Deed::Runs,
+            calls: 2_000_000,
+        },
+        Task {
+            name: "map_hit",
+            deed: Deed::Hits,
+            calls: 8_000_000,
+        },
+        Task {
+            name: "map_absent",
+            deed: Deed::Misses,
+            calls: 8_000_000,
         },
     ]
 }
