@@ -16,6 +16,9 @@ use crate::table::{MapTable, ReadSeat};
 impl MapTable {
     /// An element that is linked under the key, or `None` where each way of the key's two buckets was found without it.
     /// Its words may be loaded, and those of its value stored, until the section ends.
+    ///
+    /// It is inlined whatever calls it, since a caller most often knows how many words a key has.
+    #[inline(always)]
     pub fn lookup(&self, seat: &mut ReadSeat, key: &[u64]) -> Option<usize>
         requires table { seat.old.table ≡ self.now }
         requires inside { inside seat.old.view.mine ≡ 1 }
@@ -45,7 +48,7 @@ impl MapTable {
     }
 
     /// The same: the first bucket, and then the second.
-    #[inline]
+    #[inline(always)]
     fn search_both(&self, seat: &mut ReadSeat, key: &[u64]) -> Option<usize>
         requires table { seat.old.table ≡ self.now }
         requires inside { inside seat.old.view.mine ≡ 1 }
@@ -64,6 +67,7 @@ impl MapTable {
     }
 
     /// An element that is linked under the key in one of the eight ways from this one on.
+    #[inline(always)]
     fn search(&self, seat: &mut ReadSeat, key: &[u64], first: usize, tag: u64) -> Option<usize>
         requires table { seat.old.table ≡ self.now }
         requires inside { inside seat.old.view.mine ≡ 1 }
@@ -87,7 +91,7 @@ impl MapTable {
     }
 
     /// The element that the way names, if it has the key.
-    #[inline]
+    #[inline(always)]
     fn match_way(
         &self,
         seat: &mut ReadSeat,
@@ -118,7 +122,7 @@ impl MapTable {
     }
 
     /// Whether an element that was found has this key.
-    #[inline]
+    #[inline(always)]
     fn has_key(&self, seat: &mut ReadSeat, element: usize, key: &[u64]) -> bool
         requires table { seat.old.table ≡ self.now }
         requires held { Holds element seat.old.view.mine }
