@@ -17,3 +17,4 @@ pub mod RunningStands
 pub mod RunningOn
 pub mod Walking
 pub mod Possible
+pub mod Coursing

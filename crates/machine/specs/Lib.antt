@@ -7,3 +7,4 @@ pub mod RunWords
 pub mod Steps
 pub mod Standing
 pub mod Walks
+pub mod Courses

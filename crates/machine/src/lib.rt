@@ -9,6 +9,7 @@ mod act;
 mod argument;
 mod compute;
 mod control;
+mod course;
 mod law;
 mod memory;
 mod regions;
@@ -21,6 +22,7 @@ mod transfer;
 mod walk;
 mod workspace;
 
+pub use course::Course;
 pub use law::{
     delete_may_find_nothing, own_step_is_the_worlds, reacts_by_insn, running_can_step,
     running_stands, served_as_asked, update_may_succeed,

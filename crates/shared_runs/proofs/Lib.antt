@@ -3,6 +3,7 @@ pub mod Bytes
 pub mod Coming
 pub mod Learning
 pub mod Seated
+pub mod Looping
 pub mod Serving
 pub mod Starting
 pub mod Steps

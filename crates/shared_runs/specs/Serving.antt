@@ -16,12 +16,17 @@ use Rattle.world_laws.specs.Reaching.{IsInFrame}
 use Rattle.verifier.specs.Checked.{Checked}
 use Rattle.machine.specs.declared.request.Request.{Request}
 use Rattle.machine.specs.declared.request.Request.TheVariants as requests
+use Rattle.machine.specs.declared.workspace.Workspace.{Workspace}
 use Rattle.machine.specs.Requests.{resumed_view}
 use Rattle.machine.specs.Standing.{MayGive}
 use Rattle.shared_runs.specs.Tables.{Table}
 use Rattle.shared_runs.specs.SharedRuns.{closing, opening}
 use Rattle.shared_runs.specs.Sharing.{GoesFurther}
 use Rattle.shared_runs.specs.Words.{part_of}
+
+-- a run that has these registers, this frame, and so many open locks; the rest is as in another view
+abbrev pub asking : Workspace → ℕ → RunView → RunView
+asking w depth v = record v { registers = w.registers; frame = w.frame; depth = depth }
 
 -- Some instruction stands at the run's place, and resumed with this word, after these moves of its seat, the run has
 -- come one step further over the table.

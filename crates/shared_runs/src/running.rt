@@ -1,12 +1,14 @@
 //! A run over any table.
-ghost use Rattle.std.specs.Prelude.{◌≡◌, ℕ, ◌*◌, ◌<◌, List, Option, length};
+ghost use Rattle.std.specs.Prelude.{◌≡◌, ℕ, ◌*◌, ◌<◌, List, [], Option, length};
 ghost use Rattle.bpf_model.specs.declared.limits.MapShape.{MapShape};
 ghost use Rattle.bpf_model.specs.declared.limits.TheConstants.{FRAME_BYTES};
+ghost use Rattle.bpf_model.specs.View.{RunView};
 ghost use Rattle.world_laws.specs.Calling.{bytes_in, found_word};
 ghost use Rattle.world_laws.specs.Moving.{word_in};
 ghost use Rattle.world_laws.specs.Reaching.{IsInFrame};
 ghost use Rattle.shared_runs.specs.Running.{RunsOver};
-ghost use Rattle.shared_runs.specs.Serving.{IsServable, Serves, map_named};
+ghost use Rattle.machine.specs.Workspaces.{own_view};
+ghost use Rattle.shared_runs.specs.Serving.{IsServable, Serves, asking, map_named};
 ghost use Rattle.shared_runs.specs.SharedRuns.{closing, opening};
 ghost use Rattle.shared_runs.specs.Sharing.{flag_of};
 ghost use Rattle.shared_runs.specs.Tables.{IsSmall};
@@ -17,66 +19,76 @@ use crate::naming::{value_word, word_of_element};
 use crate::parts::part_of_word;
 use crate::serves_runs::ServesRuns;
 use bpf_model::{CtxBytes, Helper, Reg, are_bytes};
-use machine::{Local, Request, Run};
+use machine::{Course, Local, Request, Workspace};
 use verifier::Verified;
 
 /// A lookup of the key in the frame, in the map that r1 names.
 #[inline]
-fn look_up<T: ServesRuns>(words: &T::Words, seat: &mut T::Seat, run: &Run) -> u64
+fn look_up<T: ServesRuns>(words: &T::Words, seat: &mut T::Seat, workspace: &Workspace) -> u64
     requires small { IsSmall (T.table words.now) }
     requires at { T.IsAt words.now seat.old }
     requires inside { (T.table words.now).inside (T.mine words.now seat.old) ≡ 1 }
-    requires kept { (shape : MapShape) × (T.table words.now).Keeps (map_named run.now.view) shape }
-    requires key { IsInFrame (word_in run.now.view 2)
-        (8 * (T.table words.now).key_words (map_named run.now.view)) }
-    requires frame { length run.now.view.frame ≡ FRAME_BYTES }
+    requires kept { (shape : MapShape)
+        × (T.table words.now).Keeps (map_named (own_view [] workspace.now)) shape }
+    requires key { IsInFrame (word_in (own_view [] workspace.now) 2)
+        (8 * (T.table words.now).key_words (map_named (own_view [] workspace.now))) }
+    requires frame { length workspace.now.frame ≡ FRAME_BYTES }
     ensures { (ns : List (T.table words.now).Move) × (found : Option ℕ) × T.Goes words.now seat.old ns seat.new
-        × (T.table words.now).LooksUp (map_named run.now.view)
-        (bytes_in run.now.view 2 (8 * (T.table words.now).key_words (map_named run.now.view))) ns found
+        × (T.table words.now).LooksUp (map_named (own_view [] workspace.now))
+        (bytes_in (own_view [] workspace.now) 2
+        (8 * (T.table words.now).key_words (map_named (own_view [] workspace.now)))) ns found
         × (result ≡ found_word 0 found) }
 {
     T::is_table(words);
-    let map = run.map_argument();
-    let key = run.bytes_argument(Reg::R2, WORD_BYTES * T::key_words(words, map));
+    let map = workspace.map_argument();
+    let key = workspace.bytes_argument(Reg::R2, WORD_BYTES * T::key_words(words, map));
     word_of_element(T::look_up(words, seat, map, key))
 }
 
 /// A lock of a run: the outermost opens the seat's section.
 #[inline]
-fn enter<T: ServesRuns>(words: &T::Words, seat: &mut T::Seat, run: &Run)
+fn enter<T: ServesRuns>(words: &T::Words, seat: &mut T::Seat, depth: usize)
     requires at { T.IsAt words.now seat.old }
-    requires section { (T.table words.now).inside (T.mine words.now seat.old) ≡ flag_of run.now.view.depth }
-    ensures { T.Goes words.now seat.old (opening (T.table words.now) run.now.view.depth) seat.new }
+    requires section { (T.table words.now).inside (T.mine words.now seat.old) ≡ flag_of depth }
+    ensures { T.Goes words.now seat.old (opening (T.table words.now) depth) seat.new }
 {
     T::is_table(words);
-    if run.depth() == 0 {
+    if depth == 0 {
         T::open(words, seat);
     }
 }
 
 /// An unlock of a run inside a section: the outermost closes the seat's.
 #[inline]
-fn leave<T: ServesRuns>(words: &T::Words, seat: &mut T::Seat, run: &Run)
+fn leave<T: ServesRuns>(words: &T::Words, seat: &mut T::Seat, depth: usize)
     requires at { T.IsAt words.now seat.old }
-    requires section { (T.table words.now).inside (T.mine words.now seat.old) ≡ flag_of run.now.view.depth }
-    requires inside { 0 < run.now.view.depth }
-    ensures { T.Goes words.now seat.old (closing (T.table words.now) run.now.view.depth) seat.new }
+    requires section { (T.table words.now).inside (T.mine words.now seat.old) ≡ flag_of depth }
+    requires inside { 0 < depth }
+    ensures { T.Goes words.now seat.old (closing (T.table words.now) depth) seat.new }
 {
     T::is_table(words);
-    if run.depth() == 1 {
+    if depth == 1 {
         T::close(words, seat);
     }
 }
 
-/// Serves what a run asks, and answers the word with which it goes on.
-#[inline]
-fn serve<T: ServesRuns>(words: &T::Words, seat: &mut T::Seat, run: &Run, request: Request) -> u64
+/// Serves what a run asks that has these registers and this frame, and so many open locks. Answers the word with which it goes
+/// on.
+#[inline(always)]
+fn serve<T: ServesRuns>(
+    words: &T::Words,
+    seat: &mut T::Seat,
+    workspace: &Workspace,
+    depth: usize,
+    request: Request,
+) -> u64
     requires small { IsSmall (T.table words.now) }
     requires at { T.IsAt words.now seat.old }
-    requires section { (T.table words.now).inside (T.mine words.now seat.old) ≡ flag_of run.now.view.depth }
-    requires can { IsServable (T.table words.now) (T.mine words.now seat.old) run.now.view request }
+    requires section { (T.table words.now).inside (T.mine words.now seat.old) ≡ flag_of depth }
+    requires can { (v : RunView) × IsServable (T.table words.now) (T.mine words.now seat.old)
+        (asking workspace.now depth v) request }
     ensures { (ns : List (T.table words.now).Move) × T.Goes words.now seat.old ns seat.new
-        × Serves (T.table words.now) run.now.view request ns result }
+        × ((v : RunView) → Serves (T.table words.now) (asking workspace.now depth v) request ns result) }
 {
     T::is_table(words);
     match request {
@@ -101,21 +113,21 @@ fn serve<T: ServesRuns>(words: &T::Words, seat: &mut T::Seat, run: &Run, request
         }
         Request::Call {
             helper: Helper::Lookup,
-        } => look_up::<T>(words, seat, run),
+        } => look_up::<T>(words, seat, workspace),
         Request::Call { .. } => unreachable!(),
         Request::Enter => {
-            enter::<T>(words, seat, run);
+            enter::<T>(words, seat, depth);
             0
         }
         Request::Leave => {
-            leave::<T>(words, seat, run);
+            leave::<T>(words, seat, depth);
             0
         }
     }
 }
 
 /// Runs the program on the context over the table, which keeps each of its maps, to its exit. It takes no memory and waits
-/// for nobody.
+/// for nobody. What the run asks is served within the loop.
 #[inline]
 pub fn run_over<T: ServesRuns>(
     words: &T::Words,
@@ -135,14 +147,16 @@ pub fn run_over<T: ServesRuns>(
 {
     T::is_table(words);
     let _program = verified.program();
-    are_bytes(ctx.as_slice());
-    let mut run = Run::start(verified, 0, ctx);
+    let context = ctx.as_slice();
+    are_bytes(context);
+    let mut workspace = Workspace::start();
+    let mut course = Course::start(verified);
     'steps: loop {
-        match run.go_on(verified) {
+        match course.step::<T>(&mut workspace, verified, context) {
             Local::Moved => {}
             Local::Shared(request) => {
-                let word = serve::<T>(words, seat, &run, request);
-                run.resume(verified, word);
+                let word = serve::<T>(words, seat, &workspace, course.depth(), request);
+                course.resume(&mut workspace, verified, word);
             }
             Local::Exit(value) => return value,
         }

@@ -1,4 +1,4 @@
-use Rattle.std.proofs.Common.{◌≡◌, ℕ, ◌+◌, ◌-◌, ◌*◌, ◌≤◌, List, arith, ap, length, min, ◌∙◌, sym, subst}
+use Rattle.std.proofs.Common.{◌≡◌, ℕ, ◌+◌, ◌-◌, ◌*◌, ◌≤◌, List, [], arith, ap, length, min, ◌∙◌, sym, subst}
 use Rattle.std.specs.Prelude.{drop, take}
 use Rattle.std.proofs.lemmas.List.{length-drop, length-take}
 use Rattle.bpf_model.specs.declared.limits.MapShape.{MapShape}
@@ -7,6 +7,7 @@ use Rattle.bpf_model.specs.Word.{frame_base}
 use Rattle.world_laws.specs.Calling.{bytes_in}
 use Rattle.world_laws.specs.Moving.{word_in}
 use Rattle.world_laws.specs.Reaching.{IsInFrame}
+use Rattle.machine.specs.Workspaces.{own_view}
 use Rattle.shared_runs.specs.Serving.{map_named}
 use Rattle.shared_runs.proofs.running.look_up.Goals as goal
 
@@ -25,12 +26,12 @@ pub bytes_argument-key-requires : goal.bytes_argument-key-requires
 bytes_argument-key-requires g c =
     let k = g.T.ServesRuns.table c.args.words.now in
     let count = c.key_words.ensures.count ∙ ap (λ (map : ℕ). k.key_words map) c.map_argument-map.ensures in
-    subst (λ (n : ℕ). IsInFrame (word_in c.args.run.now.view 2) (8 * n)) (sym count) c.requires.key
+    subst (λ (n : ℕ). IsInFrame (word_in (own_view [] c.args.workspace.now) 2) (8 * n)) (sym count) c.requires.key
 
 pub look_up-requires-clause-key : goal.look_up-requires-clause-key
 look_up-requires-clause-key g c =
     let k = g.T.ServesRuns.table c.args.words.now in
-    let v = c.args.run.now.view in
+    let v = own_view [] c.args.workspace.now in
     let words : ℕ = k.key_words (map_named v) in
     let named = ap (λ (map : ℕ). k.key_words map) c.map_argument-map.ensures in
     let count : c.key_words.result ≡ words = c.key_words.ensures.count ∙ named in
@@ -47,7 +48,7 @@ look_up-requires-clause-key g c =
 pub returns : goal.returns
 returns g c =
     let k = g.T.ServesRuns.table c.args.words.now in
-    let v = c.args.run.now.view in
+    let v = own_view [] c.args.workspace.now in
     let map = c.map_argument-map.ensures in
     let count = c.key_words.ensures.count ∙ ap (λ (m : ℕ). k.key_words m) map in
     let l = c.look_up.ensures.looked in
