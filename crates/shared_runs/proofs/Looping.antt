@@ -1,5 +1,5 @@
 -- A shared run in its loop: each step of its course, and each reply, takes its seat further.
-use Rattle.std.proofs.Common.{◌≡◌, ℕ, ◌<◌, ◌-◌, sym, subst, arith, List, [], Some, length}
+use Rattle.std.proofs.Common.{◌≡◌, ℕ, ◌<◌, ◌-◌, sym, subst, arith, List, Some, length}
 use Rattle.bpf_model.specs.declared.insn.Insn.{Insn}
 use Rattle.bpf_model.specs.Real.{AreBytes}
 use Rattle.bpf_model.specs.Step.{insn_at}
@@ -92,7 +92,8 @@ module _ {Seat : Type 0} (k : Table) (IsAt : Seat → Type 0) (mine : Seat → L
 
         module _ (ns : List k.Move) (word : ℕ) (serves : (v : RunView) → Serves k (asking new depth v) request ns word) where
           served : Serves k (view_of c context after new) request ns word
-          served = subst (λ (d : ℕ). Serves k (asking new d (view_of c context after new)) request ns word) opened (serves (view_of c context after new))
+          served = subst (λ (d : ℕ). Serves k (asking new d (view_of c context after new)) request ns word) opened (serves (view_of c context after
+              new))
 
           pub answered : Awaits c request (words_of c context after new) → (bytes : List ℕ) × IsAnswered c (words_of c bytes after new) word
           answered a = (

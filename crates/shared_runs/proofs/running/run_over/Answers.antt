@@ -1,5 +1,4 @@
 use Rattle.std.proofs.Common.{ℕ, List, ◌∙◌, ap, length, subst}
-use Rattle.bpf_model.specs.Real.{AreBytes}
 use Rattle.shared_runs.specs.Running.{RunsOver}
 use Rattle.shared_runs.proofs.Looping.{answered, at-now, exited, has-started, moved-on, resumed-on, section, servable, stands}
 use Rattle.shared_runs.proofs.running.run_over.Goals as goal
@@ -34,7 +33,8 @@ steps-smaller-in-Moved g c =
     let w = c.args.words.now in
     (moved-on (t.table w) (t.IsAt w) (t.mine w) (t.Goes w) c.is_table.ensures.table c.is_table.ensures.steps
     c.args.verified.now c.as_slice-context.result.now c.args.seat.now c.requires.at
-    c.steps.seat c.steps.course c.steps.workspace c.requires.outside c.steps.invariant c.step.new.self c.step.new.workspace c.step.ensures.on c.in-Moved.ensures.step).1
+    c.steps.seat c.steps.course c.steps.workspace c.requires.outside c.steps.invariant c.step.new.self c.step.new.workspace c.step.ensures.on
+    c.in-Moved.ensures.step).1
 
 pub steps-preserved-in-Moved : goal.steps-preserved-in-Moved
 steps-preserved-in-Moved g c =
@@ -42,7 +42,8 @@ steps-preserved-in-Moved g c =
     let w = c.args.words.now in
     (moved-on (t.table w) (t.IsAt w) (t.mine w) (t.Goes w) c.is_table.ensures.table c.is_table.ensures.steps
     c.args.verified.now c.as_slice-context.result.now c.args.seat.now c.requires.at
-    c.steps.seat c.steps.course c.steps.workspace c.requires.outside c.steps.invariant c.step.new.self c.step.new.workspace c.step.ensures.on c.in-Moved.ensures.step).0
+    c.steps.seat c.steps.course c.steps.workspace c.requires.outside c.steps.invariant c.step.new.self c.step.new.workspace c.step.ensures.on
+    c.in-Moved.ensures.step).0
 
 pub serve-word-requires-clause-at : goal.serve-word-requires-clause-at
 serve-word-requires-clause-at g c =
@@ -115,7 +116,8 @@ returns-in-Exit-clause-runs g c =
     subst (λ (bytes : List ℕ). RunsOver (t.table w) (t.Goes w) c.args.verified.now bytes c.args.seat.now c.steps.seat c.in-Exit.value)
     c.as_slice-context.ensures.value (exited (t.table w) (t.IsAt w) (t.mine w) (t.Goes w) c.is_table.ensures.table c.is_table.ensures.steps
     c.args.verified.now c.as_slice-context.result.now c.args.seat.now c.requires.at
-    c.steps.seat c.steps.course c.steps.workspace c.requires.outside c.steps.invariant c.step.new.self c.step.new.workspace c.step.ensures.on c.in-Exit.value c.in-Exit.ensures.step c.in-Exit.ensures.stands).0
+    c.steps.seat c.steps.course c.steps.workspace c.requires.outside c.steps.invariant c.step.new.self c.step.new.workspace c.step.ensures.on
+    c.in-Exit.value c.in-Exit.ensures.step c.in-Exit.ensures.stands).0
 
 pub returns-in-Exit-clause-outside : goal.returns-in-Exit-clause-outside
 returns-in-Exit-clause-outside g c =
@@ -123,4 +125,5 @@ returns-in-Exit-clause-outside g c =
     let w = c.args.words.now in
     (exited (t.table w) (t.IsAt w) (t.mine w) (t.Goes w) c.is_table.ensures.table c.is_table.ensures.steps
     c.args.verified.now c.as_slice-context.result.now c.args.seat.now c.requires.at
-    c.steps.seat c.steps.course c.steps.workspace c.requires.outside c.steps.invariant c.step.new.self c.step.new.workspace c.step.ensures.on c.in-Exit.value c.in-Exit.ensures.step c.in-Exit.ensures.stands).1
+    c.steps.seat c.steps.course c.steps.workspace c.requires.outside c.steps.invariant c.step.new.self c.step.new.workspace c.step.ensures.on
+    c.in-Exit.value c.in-Exit.ensures.step c.in-Exit.ensures.stands).1

@@ -18,7 +18,8 @@ load-word-requires-clause-held g c =
     let t = g.T.ServesRuns in
     let w = c.args.words.now in
     let at = c.value_word-at.result in
-    let h = load-there (t.table w) c.is_table.ensures.table c.requires.small (t.mine w c.args.seat.now) (asking c.args.workspace.now c.args.depth c.requires.can.0) c.args.request
+    let h = load-there (t.table w) c.is_table.ensures.table c.requires.small (t.mine w c.args.seat.now) (asking c.args.workspace.now c.args.depth
+    c.requires.can.0) c.args.request
     c.in-Load.address c.in-Load.offset c.in-Load.width at.element at.place at.low c.requires.can.1 where_it c.in-Load.is in
     h.0
 
@@ -29,7 +30,8 @@ load-word-requires-clause-element g c =
     let t = g.T.ServesRuns in
     let w = c.args.words.now in
     let at = c.value_word-at.result in
-    let h = load-there (t.table w) c.is_table.ensures.table c.requires.small (t.mine w c.args.seat.now) (asking c.args.workspace.now c.args.depth c.requires.can.0) c.args.request
+    let h = load-there (t.table w) c.is_table.ensures.table c.requires.small (t.mine w c.args.seat.now) (asking c.args.workspace.now c.args.depth
+    c.requires.can.0) c.args.request
     c.in-Load.address c.in-Load.offset c.in-Load.width at.element at.place at.low c.requires.can.1 where_it c.in-Load.is in
     h.1
 
@@ -40,7 +42,8 @@ load-word-requires-clause-place g c =
     let t = g.T.ServesRuns in
     let w = c.args.words.now in
     let at = c.value_word-at.result in
-    let h = load-there (t.table w) c.is_table.ensures.table c.requires.small (t.mine w c.args.seat.now) (asking c.args.workspace.now c.args.depth c.requires.can.0) c.args.request
+    let h = load-there (t.table w) c.is_table.ensures.table c.requires.small (t.mine w c.args.seat.now) (asking c.args.workspace.now c.args.depth
+    c.requires.can.0) c.args.request
     c.in-Load.address c.in-Load.offset c.in-Load.width at.element at.place at.low c.requires.can.1 where_it c.in-Load.is in
     h.2
 
@@ -51,7 +54,8 @@ part_of_word-requires g c =
     let t = g.T.ServesRuns in
     let w = c.args.words.now in
     let at = c.value_word-at.result in
-    let h = load-there (t.table w) c.is_table.ensures.table c.requires.small (t.mine w c.args.seat.now) (asking c.args.workspace.now c.args.depth c.requires.can.0) c.args.request
+    let h = load-there (t.table w) c.is_table.ensures.table c.requires.small (t.mine w c.args.seat.now) (asking c.args.workspace.now c.args.depth
+    c.requires.can.0) c.args.request
     c.in-Load.address c.in-Load.offset c.in-Load.width at.element at.place at.low c.requires.can.1 where_it c.in-Load.is in
     record { whole = h.3 }
 
@@ -62,7 +66,8 @@ store-requires-clause-held g c =
     let t = g.T.ServesRuns in
     let w = c.args.words.now in
     let at = c.value_word-at-in-Store.result in
-    let h = store-there (t.table w) c.is_table.ensures.table c.requires.small (t.mine w c.args.seat.now) (asking c.args.workspace.now c.args.depth c.requires.can.0) c.args.request
+    let h = store-there (t.table w) c.is_table.ensures.table c.requires.small (t.mine w c.args.seat.now) (asking c.args.workspace.now c.args.depth
+    c.requires.can.0) c.args.request
     c.in-Store.address c.in-Store.offset c.in-Store.width at.element at.place at.low c.requires.can.1 where_it c.in-Store.number c.in-Store.is in
     h.0
 
@@ -73,7 +78,8 @@ store-requires-clause-element g c =
     let t = g.T.ServesRuns in
     let w = c.args.words.now in
     let at = c.value_word-at-in-Store.result in
-    let h = store-there (t.table w) c.is_table.ensures.table c.requires.small (t.mine w c.args.seat.now) (asking c.args.workspace.now c.args.depth c.requires.can.0) c.args.request
+    let h = store-there (t.table w) c.is_table.ensures.table c.requires.small (t.mine w c.args.seat.now) (asking c.args.workspace.now c.args.depth
+    c.requires.can.0) c.args.request
     c.in-Store.address c.in-Store.offset c.in-Store.width at.element at.place at.low c.requires.can.1 where_it c.in-Store.number c.in-Store.is in
     h.1
 
@@ -84,7 +90,8 @@ store-requires-clause-place g c =
     let t = g.T.ServesRuns in
     let w = c.args.words.now in
     let at = c.value_word-at-in-Store.result in
-    let h = store-there (t.table w) c.is_table.ensures.table c.requires.small (t.mine w c.args.seat.now) (asking c.args.workspace.now c.args.depth c.requires.can.0) c.args.request
+    let h = store-there (t.table w) c.is_table.ensures.table c.requires.small (t.mine w c.args.seat.now) (asking c.args.workspace.now c.args.depth
+    c.requires.can.0) c.args.request
     c.in-Store.address c.in-Store.offset c.in-Store.width at.element at.place at.low c.requires.can.1 where_it c.in-Store.number c.in-Store.is in
     h.2
 
@@ -96,8 +103,10 @@ returns-in-Load g c =
     let w = c.args.words.now in
     let at = c.value_word-at.result in
     let ns = (t.table w).finds at.element at.place c.load-word.result ∷ [] in
-    let served : (v : RunView) → Serves (t.table w) (asking c.args.workspace.now c.args.depth v) c.args.request ns (part_of c.load-word.result at.low (byte_count c.in-Load.width)) =
-    λ v. serves-load (t.table w) c.is_table.ensures.table (asking c.args.workspace.now c.args.depth v) c.args.request c.in-Load.address c.in-Load.offset
+    let served : (v : RunView) → Serves (t.table w) (asking c.args.workspace.now c.args.depth v) c.args.request ns (part_of c.load-word.result at.low
+    (byte_count c.in-Load.width)) =
+    λ v. serves-load (t.table w) c.is_table.ensures.table (asking c.args.workspace.now c.args.depth v) c.args.request c.in-Load.address
+    c.in-Load.offset
     c.in-Load.width at.element at.place at.low c.load-word.result c.in-Load.is c.requires.small where_it c.load-word.type_inv in (
       ns,
       c.load-word.ensures,
@@ -112,23 +121,38 @@ returns-in-Store g c =
     let t = g.T.ServesRuns in
     let w = c.args.words.now in
     let at = c.value_word-at-in-Store.result in
-    let ns = (t.table w).writes at.element at.place c.in-Store.number ∷ [] in
-    (ns, c.store.ensures, λ v. serves-store (t.table w) c.is_table.ensures.table (asking c.args.workspace.now c.args.depth v) c.args.request
-    c.in-Store.address c.in-Store.offset c.in-Store.width c.in-Store.number at.element at.place at.low c.in-Store.is c.requires.small where_it)
+    let ns = (t.table w).writes at.element at.place c.in-Store.number ∷ [] in (
+      ns,
+      c.store.ensures,
+      λ v. serves-store (t.table w) c.is_table.ensures.table (asking c.args.workspace.now c.args.depth v) c.args.request
+          c.in-Store.address c.in-Store.offset c.in-Store.width c.in-Store.number at.element at.place at.low c.in-Store.is c.requires.small where_it,
+    )
 
 pub returns-in-Call-Lookup : goal.returns-in-Call-Lookup
 returns-in-Call-Lookup g c =
     let k = g.T.ServesRuns.table c.args.words.now in
     let l = c.look_up.ensures in
-    let asked : c.args.request ≡ Call Lookup = search (rules, c.in-Call-Lookup.is, c.in-Call-Lookup.helper-is) in
-    (l.0, l.2, λ v. serves-lookup k c.is_table.ensures.table (asking c.args.workspace.now c.args.depth v) c.args.request l.0 l.1 c.look_up.result asked c.requires.small l.3 l.4)
+    let asked : c.args.request ≡ Call Lookup = search (rules, c.in-Call-Lookup.is, c.in-Call-Lookup.helper-is) in (
+      l.0,
+      l.2,
+      λ v. serves-lookup k c.is_table.ensures.table (asking c.args.workspace.now c.args.depth v) c.args.request l.0 l.1 c.look_up.result
+          asked c.requires.small l.3 l.4,
+    )
 
 pub returns-in-Enter : goal.returns-in-Enter
 returns-in-Enter g c =
-    let k = g.T.ServesRuns.table c.args.words.now in
-    (opening k c.args.depth, c.enter.ensures, λ v. serves-enter k c.is_table.ensures.table (asking c.args.workspace.now c.args.depth v) c.args.request c.in-Enter.is)
+    let k = g.T.ServesRuns.table c.args.words.now in (
+      opening k c.args.depth,
+      c.enter.ensures,
+      λ v. serves-enter k c.is_table.ensures.table (asking c.args.workspace.now c.args.depth v)
+          c.args.request c.in-Enter.is,
+    )
 
 pub returns-in-Leave : goal.returns-in-Leave
 returns-in-Leave g c =
-    let k = g.T.ServesRuns.table c.args.words.now in
-    (closing k c.args.depth, c.leave.ensures, λ v. serves-leave k c.is_table.ensures.table (asking c.args.workspace.now c.args.depth v) c.args.request c.in-Leave.is)
+    let k = g.T.ServesRuns.table c.args.words.now in (
+      closing k c.args.depth,
+      c.leave.ensures,
+      λ v. serves-leave k c.is_table.ensures.table (asking c.args.workspace.now c.args.depth v)
+          c.args.request c.in-Leave.is,
+    )
