@@ -12,7 +12,7 @@ use crate::workspace::Workspace;
 use bpf_model::Reg;
 
 impl Workspace {
-    /// The map that r1 names, by its index in the program's list.
+    /// The map that r1 names, by its index in the program's list. Where r1 names no map, the number means nothing.
     #[inline(always)]
     pub fn map_argument(&self) -> usize
         ensures { result ≡ word_in (own_view [] self.now) 1 - map_base }
@@ -20,7 +20,7 @@ impl Workspace {
         self.word(Reg::R1).saturating_sub(MAP_BASE) as usize
     }
 
-    /// So many bytes of the frame from the address in a register on: a key or a value.
+    /// `len` bytes of the frame from the address in a register on, all of which lie in it: a key or a value.
     #[inline(always)]
     pub fn bytes_argument(&self, r: Reg, len: usize) -> &[u8]
         requires { IsInFrame (word_in (own_view [] self.now) r) len }
@@ -32,14 +32,14 @@ impl Workspace {
 }
 
 impl Run {
-    /// The map that r1 names, by its index in the program's list.
+    /// The map that r1 names, by its index in the program's list. Where r1 names no map, the number means nothing.
     pub fn map_argument(&self) -> usize
         ensures { result ≡ word_in self.now.view 1 - map_base }
     {
         self.workspace.map_argument()
     }
 
-    /// So many bytes of the frame from the address in a register on: a key or a value.
+    /// `len` bytes of the frame from the address in a register on, all of which lie in it: a key or a value.
     pub fn bytes_argument(&self, r: Reg, len: usize) -> &[u8]
         requires { IsInFrame (word_in self.now.view r) len }
         ensures { result.now ≡ bytes_in self.now.view r len }

@@ -2,7 +2,8 @@
 //!
 //! A `Run` keeps words and bytes, and no kinds. Each step takes constant time and no memory, and cannot
 //! fail. What a step does to the run is an equation on the world's view of it. Where an instruction needs
-//! more than the run itself, the step answers with a request, and `resume` goes on with the reply.
+//! more than the run itself, the step answers with a request, and `resume` goes on with the reply. A `Course` is
+//! the same for a caller that steps a run in a loop of its own, with a `Workspace` beside it.
 #![tactic(auto)]
 
 mod act;

@@ -3,12 +3,13 @@
 //! Each call of `act` is one event, with one entry in a journal that replays from a stored base; a call of
 //! `run_for` is as many steps of one run, each with its entry. Each worker
 //! has a share of a ledger that counts its entries, so the shares add up to all entries. Receipts say what a
-//! call answered, and counters are read without the lock.
+//! call answered, and counters are read without the lock. Who holds the lock may do several things under it (`Held`).
 #![tactic(auto)]
 
 mod books;
 mod bound;
 mod fault;
+mod held;
 mod lock;
 mod meter;
 mod state;
@@ -19,6 +20,7 @@ mod worker;
 pub use books::{Books, Finished, is_quiet};
 pub use bound::ProgramWithMaps;
 pub use fault::{CutFault, SharedFault};
+pub use held::Held;
 pub use lock::Shared;
 pub use state::{Counters, ExitNote, Receipt, State};
 pub use steps::{Steps, StepsEnd};

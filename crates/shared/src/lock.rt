@@ -13,6 +13,7 @@ ghost use Rattle.journal_laws.specs.Replay.{Replays, HasNoRuns};
 
 use crate::books::{Books, Finished};
 use crate::fault::{CutFault, SharedFault};
+use crate::held::Held;
 use crate::state::{Counters, ExitNote, Receipt, State};
 use crate::steps::Steps;
 use crate::worker::{Worker, Workers, merged, new_workers};
@@ -128,6 +129,17 @@ impl<L: Ledger> Shared<L> {
             programs,
         };
         Ok((shared, workers, counters))
+    }
+
+    /// Waits for the lock, and holds it: what is asked of `Held` comes one after another, with nothing of others between.
+    /// It takes no memory.
+    pub fn hold<R: Wait>(&self, rt: &R) -> Held<'_, L>
+        ensures { result ≡ self.now }
+    {
+        Held {
+            state: self.state.lock(rt),
+            programs: self.programs.as_slice(),
+        }
     }
 
     /// Applies one event. The receipt bears the worker, the event, the answer and how many entries the worker
@@ -256,9 +268,7 @@ impl<L: Ledger> Shared<L> {
         ensures alone { IfSome result.exit (λ n.
             IsOwnExit (slice_get self.now prog) ctx.now.items n) }
     {
-        let program = self.program(prog);
-        let state = self.state.lock(rt);
-        state.exit_noted(worker, run, prog, program, ctx)
+        self.hold(rt).exit_noted(worker, run, prog, ctx)
     }
 
     /// The exit value of a run, where it has ended and was started with this program on this

@@ -14,7 +14,7 @@ use Rattle.machine.specs.declared.request.Local.TheVariants.{Exit, Moved, Shared
 use Rattle.machine.specs.Requests.{resumed_view}
 use Rattle.machine.specs.RunWords.{IsAt, RunWords}
 use Rattle.machine.specs.Standing.{Awaits, IsAnswered, IsValidRun}
-use Rattle.machine.specs.Steps.{GoesOnTo}
+use Rattle.machine.specs.Steps.{TakesStep}
 use Rattle.machine.proofs.Places.{insn_there}
 use Rattle.shared_runs.specs.Tables.{Table, IsTable}
 use Rattle.shared_runs.specs.Serving.{CanAnswer, IsServable, Serves}
@@ -23,7 +23,7 @@ use Rattle.shared_runs.specs.SharedRuns.{IsSharedRun}
 use Rattle.shared_runs.specs.Words.{FitsTable, StoresSubWords, loaded_of}
 use Rattle.shared_runs.proofs.Asked.{can-serve}
 use Rattle.shared_runs.proofs.Starting.{starts}
-use Rattle.shared_runs.proofs.Steps.{exits, goes-on, moves, standing, steps}
+use Rattle.shared_runs.proofs.Steps.{exits, moves, standing, steps}
 
 pub has-started : (k : Table) → IsTable k → (c : Checked) (context : List ℕ) (r : RunWords) → k.elements ≤ regions →
     IsJustified c → FitsTable k c.shapes → (StoresSubWords c → ⊥) → length context ≡ c.ctx_len → AreBytes context
@@ -49,33 +49,28 @@ module _ (k : Table) (keeps : IsTable k) (c : Checked) (context : List ℕ) (ms 
 
   module _ (new : RunWords) (at : IsAt c.program new) where
     -- it has moved on by itself
-    pub moved-on : GoesOnTo c r.view Moved new.view → HasCome k c context ms new × (r.view.moved < new.view.moved)
-    moved-on g =
-        let b = goes-on k c context ms r.view g.before h.sharing g.moved in
-        let f = moves k c context ms g.before b.0 new.view g.last in
-        (record { at = at; sharing = f.sharing }, omega (arith, b.1, f.counts))
+    pub moved-on : TakesStep c r.view Moved new.view → HasCome k c context ms new × (r.view.moved < new.view.moved)
+    moved-on t =
+        let f = moves k c context ms r.view h.sharing new.view t in
+        (record { at = at; sharing = f.sharing }, omega (arith, f.counts))
 
     -- it has exited
-    pub exited : (n : ℕ) → GoesOnTo c r.view (Exit n) new.view →
+    pub exited : (n : ℕ) → TakesStep c r.view (Exit n) new.view →
         IsSharedRun k c.shapes (loaded_of c) context ms (new.view.moved + 1) n
         × (new.view.moved + 1 ≤ length c.program) × (k.inside ms ≡ 0)
-    exited n g =
-        let b = goes-on k c context ms r.view g.before h.sharing g.moved in
-        let e = exits k c context ms g.before b.0 n new.view g.last in
+    exited n t =
+        let e = exits k c context ms r.view h.sharing n new.view t in
         let within = slice_get_within c.program new.index e.insn (insn_there c.program new.index new.view.place e.insn e.here at.place) in
         let paced = at.paced in
         (e.exit, omega (arith, within, paced), e.outside)
 
     -- it asks
-    module _ (request : Request) (g : GoesOnTo c r.view (Shared request) new.view) where
-      before : IsSharing k c context ms g.before × (r.view.moved ≤ g.before.moved)
-      before = goes-on k c context ms r.view g.before h.sharing g.moved
-
-      asks : CanAnswer k c context ms g.before request × (new.view ≡ g.before)
-      asks = can-serve k keeps c context ms g.before before.0 request new.view g.last
+    module _ (request : Request) (t : TakesStep c r.view (Shared request) new.view) where
+      asks : CanAnswer k c context ms r.view request × (new.view ≡ r.view)
+      asks = can-serve k keeps c context ms r.view h.sharing request new.view t
 
       sharing-now : IsSharing k c context ms new.view
-      sharing-now = subst (λ (v : RunView). IsSharing k c context ms v) (sym asks.1) before.0
+      sharing-now = subst (λ (v : RunView). IsSharing k c context ms v) (sym asks.1) h.sharing
 
       can-now : CanAnswer k c context ms new.view request
       can-now = subst (λ (v : RunView). CanAnswer k c context ms v request) (sym asks.1) asks.0
@@ -99,8 +94,7 @@ module _ (k : Table) (keeps : IsTable k) (c : Checked) (context : List ℕ) (ms 
             let f = on.2 in
             let e = view on.0 on.1 in
             let more : last.view.moved ≡ new.view.moved + 1 = ap (λ (v : RunView). v.moved) e ∙ f.counts in
-            let same : new.view.moved ≡ g.before.moved = ap (λ (v : RunView). v.moved) asks.1 in
-            let far = before.1 in (
+            let same : new.view.moved ≡ r.view.moved = ap (λ (v : RunView). v.moved) asks.1 in (
               record { at = there; sharing = subst (λ (v : RunView). IsSharing k c context (ns ++ ms) v) (sym e) f.sharing },
-              omega (arith, more, same, far),
+              omega (arith, more, same),
             )

@@ -1,4 +1,4 @@
--- A shared run in its loop: each step of its course, and each reply, takes its seat further.
+-- A shared run that is stepped in a loop: each step of its course, and each reply, takes its seat further.
 use Rattle.std.proofs.Common.{◌≡◌, ℕ, ◌<◌, ◌-◌, sym, subst, arith, List, Some, length}
 use Rattle.bpf_model.specs.declared.insn.Insn.{Insn}
 use Rattle.bpf_model.specs.Real.{AreBytes}
@@ -8,7 +8,6 @@ use Rattle.view_laws.specs.Reactions.{fresh_view}
 use Rattle.verifier.specs.Checked.{Checked}
 use Rattle.verifier.specs.Verdict.{IsJustified}
 use Rattle.machine.specs.declared.course.Course.{Course}
-use Rattle.machine.specs.declared.request.Local.{Local}
 use Rattle.machine.specs.declared.request.Local.TheVariants.{Exit, Moved, Shared}
 use Rattle.machine.specs.declared.request.Request.{Request}
 use Rattle.machine.specs.declared.workspace.Workspace.{Workspace}
@@ -16,7 +15,7 @@ use Rattle.machine.specs.Courses.{IsOn, view_of, words_after, words_of}
 use Rattle.machine.specs.Requests.{resumed_view}
 use Rattle.machine.specs.RunWords.{IsAt as StandsAt}
 use Rattle.machine.specs.Standing.{Awaits, IsAnswered, IsRunOfChecked}
-use Rattle.machine.specs.Steps.{GoesOnTo, TakesStep, stays}
+use Rattle.machine.specs.Steps.{TakesStep}
 use Rattle.machine.proofs.Coursing.{is_at}
 use Rattle.shared_runs.specs.Running.{HasComeTo, RunsOver}
 use Rattle.shared_runs.specs.Serving.{IsServable, Serves, asking}
@@ -24,9 +23,6 @@ use Rattle.shared_runs.specs.Sharing.{flag_of}
 use Rattle.shared_runs.specs.Tables.{AreSteps, IsSmall, IsTable, Table}
 use Rattle.shared_runs.specs.Words.{FitsTable, StoresSubWords}
 use Rattle.shared_runs.proofs.Seated as seated
-
-one : (c : Checked) (v u : RunView) (answer : Local) → TakesStep c v answer u → GoesOnTo c v answer u
-one c v u answer t = record { before = v; moved = stays; last = t }
 
 module _ {Seat : Type 0} (k : Table) (IsAt : Seat → Type 0) (mine : Seat → List k.Move) (Goes : Seat → List k.Move → Seat → Type 0)
     (keeps : IsTable k) (steps : AreSteps k IsAt mine Goes) (c : Checked) (context : List ℕ) (start : Seat) (at_start : IsAt start) where
@@ -58,7 +54,7 @@ module _ {Seat : Type 0} (k : Table) (IsAt : Seat → Type 0) (mine : Seat → L
           Kept now after new × (length c.program - after.moved < length c.program - course.moved)
       moved-on t =
           let m = seated.moved-on k IsAt mine Goes keeps steps c context start at_start now (words_of c context course w) outside h.1
-          (words_of c context after new) (is_at c context after new on) (one c (view_of c context course w) (view_of c context after new) Moved t) in
+          (words_of c context after new) (is_at c context after new on) t in
           let b = below in
           let f = m.1 in
           ((on, m.0), omega (arith, b, f))
@@ -69,26 +65,23 @@ module _ {Seat : Type 0} (k : Table) (IsAt : Seat → Type 0) (mine : Seat → L
       exited n t at =
           seated.exited k IsAt mine Goes keeps steps c context start at_start now (words_of c context course w) outside h.1
           (words_after c context (Exit n) after new) at n
-          (one c (view_of c context course w) (words_after c context (Exit n) after new).view (Exit n) t)
+          t
 
       -- it asks, with so many open locks
       module _ (request : Request) (t : TakesStep c (view_of c context course w) (Shared request) (view_of c context after new))
           (depth : ℕ) (opened : depth ≡ after.depth) where
-        asks : GoesOnTo c (view_of c context course w) (Shared request) (view_of c context after new)
-        asks = one c (view_of c context course w) (view_of c context after new) (Shared request) t
-
         pub servable : (v : RunView) × IsServable k (mine now) (asking new depth v) request
         servable = (
           view_of c context after new,
           subst (λ (d : ℕ). IsServable k (mine now) (asking new d (view_of c context after new)) request) (sym opened)
               (seated.servable k IsAt mine Goes keeps steps c context start at_start now (words_of c context course w) outside h.1
-              (words_of c context after new) (is_at c context after new on) request asks),
+              (words_of c context after new) (is_at c context after new on) request t),
         )
 
         pub section : k.inside (mine now) ≡ flag_of depth
         section = subst (λ (d : ℕ). k.inside (mine now) ≡ flag_of d) (sym opened)
             (seated.section k IsAt mine Goes keeps steps c context start at_start now (words_of c context course w) outside h.1
-            (words_of c context after new) (is_at c context after new on) request asks)
+            (words_of c context after new) (is_at c context after new on) request t)
 
         module _ (ns : List k.Move) (word : ℕ) (serves : (v : RunView) → Serves k (asking new depth v) request ns word) where
           served : Serves k (view_of c context after new) request ns word
@@ -99,7 +92,7 @@ module _ {Seat : Type 0} (k : Table) (IsAt : Seat → Type 0) (mine : Seat → L
           answered a = (
             context,
             seated.answered k IsAt mine Goes keeps steps c context start at_start now (words_of c context course w) outside h.1
-                (words_of c context after new) (is_at c context after new on) request asks ns word served a,
+                (words_of c context after new) (is_at c context after new on) request t ns word served a,
           )
 
           pub resumed-on : (later : Seat) (behind : Course) (last : Workspace) → Goes now ns later → IsOn c behind →
@@ -108,7 +101,7 @@ module _ {Seat : Type 0} (k : Table) (IsAt : Seat → Type 0) (mine : Seat → L
               Kept later behind last × (length c.program - behind.moved < length c.program - course.moved)
           resumed-on later behind last goes there view =
               let m = seated.resumed-on k IsAt mine Goes keeps steps c context start at_start now (words_of c context course w) outside h.1
-              (words_of c context after new) (is_at c context after new on) request asks ns word served later
+              (words_of c context after new) (is_at c context after new on) request t ns word served later
               (words_of c context behind last) goes (is_at c context behind last there) (view context) in
               let b = below in
               let f = m.1 in

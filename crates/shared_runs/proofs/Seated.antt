@@ -11,7 +11,7 @@ use Rattle.machine.specs.declared.request.Local.TheVariants.{Exit, Moved, Shared
 use Rattle.machine.specs.Requests.{resumed_view}
 use Rattle.machine.specs.RunWords.{IsAt as StandsAt, RunWords}
 use Rattle.machine.specs.Standing.{Awaits, IsAnswered, IsValidRun}
-use Rattle.machine.specs.Steps.{GoesOnTo}
+use Rattle.machine.specs.Steps.{TakesStep}
 use Rattle.shared_runs.specs.Running.{HasComeTo, RunsOver}
 use Rattle.shared_runs.specs.Serving.{IsServable, Serves}
 use Rattle.shared_runs.specs.Sharing.{flag_of}
@@ -46,35 +46,35 @@ module _ {Seat : Type 0} (k : Table) (IsAt : Seat → Type 0) (mine : Seat → L
 
     module _ (new : RunWords) (at : StandsAt c.program new) where
       -- it has moved on by itself
-      pub moved-on : GoesOnTo c r.view Moved new.view → HasComeTo k Goes c context start now new × (r.view.moved < new.view.moved)
-      moved-on g =
-          let m = coming.moved-on k keeps c context h.moves r h.come new at g in
+      pub moved-on : TakesStep c r.view Moved new.view → HasComeTo k Goes c context start now new × (r.view.moved < new.view.moved)
+      moved-on t =
+          let m = coming.moved-on k keeps c context h.moves r h.come new at t in
           (record { moves = h.moves; goes = h.goes; come = m.0 }, m.1)
 
       -- it has exited
-      pub exited : (n : ℕ) → GoesOnTo c r.view (Exit n) new.view → RunsOver k Goes c context start now n × (k.inside (mine now) ≡ 0)
-      exited n g =
-          let e = coming.exited k keeps c context h.moves r h.come new at n g in (
+      pub exited : (n : ℕ) → TakesStep c r.view (Exit n) new.view → RunsOver k Goes c context start now n × (k.inside (mine now) ≡ 0)
+      exited n t =
+          let e = coming.exited k keeps c context h.moves r h.come new at n t in (
             record { moves = h.moves; steps = new.view.moved + 1; list = h.goes; exit = e.0; bounded = e.1 },
             ap (λ (l : List k.Move). k.inside l) list ∙ (keeps.inside_over h.moves (mine start) outside ∙ e.2),
           )
 
       -- it asks
-      module _ (request : Request) (g : GoesOnTo c r.view (Shared request) new.view) where
+      module _ (request : Request) (t : TakesStep c r.view (Shared request) new.view) where
         pub servable : IsServable k (mine now) new.view request
-        servable = coming.servable k keeps c context h.moves r h.come new at request g (mine now) (mine start) list
+        servable = coming.servable k keeps c context h.moves r h.come new at request t (mine now) (mine start) list
 
         pub section : k.inside (mine now) ≡ flag_of new.view.depth
-        section = coming.section k keeps c context h.moves r h.come new at request g (mine now) (mine start) list outside
+        section = coming.section k keeps c context h.moves r h.come new at request t (mine now) (mine start) list outside
 
         module _ (ns : List k.Move) (word : ℕ) (served : Serves k new.view request ns word) where
           pub answered : Awaits c request new → IsAnswered c new word
-          answered a = coming.answered k keeps c context h.moves r h.come new at request g ns word served a
+          answered a = coming.answered k keeps c context h.moves r h.come new at request t ns word served a
 
           pub resumed-on : (later : Seat) (last : RunWords) → Goes now ns later → StandsAt c.program last →
               ((insn : Insn) → insn_at c.program new.view.place ≡ Some insn →
               last.view ≡ resumed_view insn word new.view)
               → HasComeTo k Goes c context start later last × (r.view.moved < last.view.moved)
           resumed-on later last goes there view =
-              let f = coming.resumed-on k keeps c context h.moves r h.come new at request g ns word served last there view in
+              let f = coming.resumed-on k keeps c context h.moves r h.come new at request t ns word served last there view in
               (record { moves = ns ++ h.moves; goes = steps.then start now later h.moves ns h.goes goes; come = f.0 }, f.1)

@@ -72,8 +72,8 @@ fn leave<T: ServesRuns>(words: &T::Words, seat: &mut T::Seat, depth: usize)
     }
 }
 
-/// Serves what a run asks that has these registers and this frame, and so many open locks. Answers the word with which it goes
-/// on.
+/// Serves the request of a run with these registers, this frame and so many open locks, and answers the word with which it
+/// goes on.
 #[inline(always)]
 fn serve<T: ServesRuns>(
     words: &T::Words,

@@ -25,7 +25,7 @@ use std::thread::Threads;
 /// - `Memory`: there is none for the results. The entries that workers made stay in the journal then, and a run
 ///   of a job may stay in the world.
 ///
-/// That it returns is not claimed: each event waits for the lock.
+/// All of a job is done under the lock, which is taken once. That it returns is not claimed: each job waits for the lock.
 pub fn run_jobs<L: Ledger + Send + Sync, R: Threads + Wait + Sync>(
     rt: &R,
     alloc: Global,

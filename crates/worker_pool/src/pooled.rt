@@ -9,7 +9,7 @@ use crate::job::{Job, JobReport, Outcome, StopCause, Trail};
 use crate::reply::{dropped, exited, has_moved, started};
 use bpf_model::{Event, MAX_SLOTS, RunId, array_of};
 use job_queue::Serve;
-use shared::{Receipt, Shared, Worker};
+use shared::{Held, Receipt, Shared, Worker};
 use std::sync::Wait;
 use std::sync::ledger::Ledger;
 
@@ -19,16 +19,17 @@ pub struct Pooled<'a, L: Ledger> {
     pub shared: &'a Shared<L>,
 }
 
-/// Steps the run until a step is answered with something else than a move; the receipt is that step's. The moves
-/// are made under one lock; a verified program makes fewer than `MAX_SLOTS`. Where a step moves nevertheless, since
-/// others have started a run of theirs in a run slot that they dropped the job's run from, it goes on step by step.
-/// Each move is an entry of the worker, which counts its entries in 64 bits, so it ends.
+/// Steps the run until a step is answered with something else than a move; the receipt is that step's. A verified
+/// program makes fewer moves than `MAX_SLOTS`, so that the step behind them is none. No clause of what is under the lock
+/// says so: where it moves nevertheless, it goes on step by step. Each move is an entry of the worker, which counts its
+/// entries in 64 bits, so it ends.
 fn step_to_end<L: Ledger, R: Wait>(
     rt: &R,
-    shared: &Shared<L>,
+    held: &mut Held<'_, L>,
     worker: &mut Worker<L>,
     run: RunId,
 ) -> Receipt
+    ensures programs { held.new ≡ held.old }
     ensures event { result.event ≡ Step run }
     ensures answered { IfOk result.reply (IsMachineAnswer (Step run)) }
     ensures count { result.made ≡ worker.new.made }
@@ -36,10 +37,10 @@ fn step_to_end<L: Ledger, R: Wait>(
     ensures later { IsLater worker.old worker.new }
     ensures by { IsByWorker worker.old worker.new result }
 {
-    shared.run_for(rt, worker, run, MAX_SLOTS);
-    let mut step = shared.act_noted(rt, worker, Event::Step { run });
+    held.run_for(rt, worker, run, MAX_SLOTS);
+    let mut step = held.act_noted(rt, worker, Event::Step { run });
     while has_moved(step.reply()) {
-        shared.act_again(rt, worker, &mut step);
+        held.act_again(rt, worker, &mut step);
         let _made = worker.made();
     }
     step
@@ -48,7 +49,7 @@ fn step_to_end<L: Ledger, R: Wait>(
 /// The job whose start was answered with this run, to its end.
 fn finish_job<L: Ledger, R: Wait>(
     rt: &R,
-    shared: &Shared<L>,
+    held: &mut Held<'_, L>,
     worker: &mut Worker<L>,
     job: &Job,
     start: Receipt,
@@ -58,9 +59,9 @@ fn finish_job<L: Ledger, R: Wait>(
     requires by { IsByWorker worker.old worker.old start }
     ensures later { IsLater worker.old worker.new }
     ensures by { IsOfWorker worker.old worker.new result.trail }
-    ensures fits { FitsJob shared.now job.now result.outcome result.trail }
+    ensures fits { FitsJob held.old job.now result.outcome result.trail }
 {
-    let step = step_to_end(rt, shared, worker, run);
+    let step = step_to_end(rt, held, worker, run);
     if let Err(cause) = exited(step.reply(), run) {
         let run = Some(run);
         return JobReport {
@@ -68,7 +69,7 @@ fn finish_job<L: Ledger, R: Wait>(
             trail: Trail::Halted { start, step },
         };
     }
-    let note = shared.exit_noted(rt, worker, run, job.prog, &job.ctx);
+    let note = held.exit_noted(worker, run, job.prog, &job.ctx);
     let Some(value) = note.exit() else {
         let run = Some(run);
         let cause = StopCause::OtherRun;
@@ -77,7 +78,7 @@ fn finish_job<L: Ledger, R: Wait>(
             trail: Trail::OtherRun { start, step, note },
         };
     };
-    let end = shared.act_noted(rt, worker, Event::Drop { run });
+    let end = held.act_noted(rt, worker, Event::Drop { run });
     let outcome = match dropped(end.reply(), run) {
         Ok(()) => Outcome::Exit(value),
         Err(cause) => Outcome::Stopped {
@@ -113,16 +114,17 @@ impl<L: Ledger + Send + Sync> Serve for Pooled<'_, L> {
     ghost fits = { λ s. IsServedJob s.shared.now };
 
     /// Starts the job's program on its context, steps the run to its exit, asks for the exit value of a run of
-    /// this program and context, and drops the run.
+    /// this program and context, and drops the run. All of a job is done under the lock, which is taken once.
     fn serve<R: Wait>(&self, rt: &R, worker: &mut Worker<L>, job: &Job) -> JobReport<Trail> {
         let ctx = array_of(job.ctx.as_slice());
         let event = Event::Start {
             prog: job.prog,
             ctx,
         };
-        let start = self.shared.act_noted(rt, worker, event);
+        let mut held = self.shared.hold(rt);
+        let start = held.act_noted(rt, worker, event);
         match started(start.reply(), job) {
-            Ok(run) => finish_job(rt, self.shared, worker, job, start, run),
+            Ok(run) => finish_job(rt, &mut held, worker, job, start, run),
             Err(cause) => JobReport {
                 outcome: Outcome::Stopped { run: None, cause },
                 trail: Trail::Unstarted { start },

@@ -107,7 +107,7 @@ fn run_shared<L: Ledger + Send + Sync, R: Threads + Wait + Sync, W: Write>(
 ///
 /// The lines of some first jobs are written where memory runs out.
 ///
-/// That it returns is not claimed: each event waits for the lock.
+/// All of a job is done under the lock, which is taken once. That it returns is not claimed: each job waits for the lock.
 pub fn run_program<R: Threads + Wait + Sync, W: Write>(
     rt: &R,
     alloc: Global,

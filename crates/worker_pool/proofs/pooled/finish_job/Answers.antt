@@ -1,4 +1,5 @@
-use Rattle.std.proofs.Common.{rules, sym, ◌∙◌, subst, refl, inl, inr}
+use Rattle.std.proofs.Common.{rules, sym, ◌∙◌, subst, refl, inl, inr, List}
+use Rattle.verifier.specs.Checked.{Checked}
 use Rattle.std.specs.Prelude.{IfSome, slice_get}
 use Rattle.shared.specs.Receipts.{HasExitedOnce, IsPossibleExit, IsOwnExit}
 use Rattle.worker_pool.specs.Trails.{HasExitReply}
@@ -28,9 +29,12 @@ returns-clause-fits g c =
       record {
         value = c.in-Some.value;
         noted = noted;
-        exited = subst (λ o. IfSome o (HasExitedOnce c.args.shared.now c.args.run c.args.job.now.prog c.args.job.now.ctx.items)) noted n.exit;
-        may = subst (λ o. IfSome o (IsPossibleExit (slice_get c.args.shared.now c.args.job.now.prog) c.args.job.now.ctx.items)) noted n.may;
-        alone = subst (λ o. IfSome o (IsOwnExit (slice_get c.args.shared.now c.args.job.now.prog) c.args.job.now.ctx.items)) noted n.alone;
+        exited = subst (λ o. IfSome o (HasExitedOnce c.args.held.now c.args.run c.args.job.now.prog c.args.job.now.ctx.items)) noted
+            (subst (λ (p : List Checked). IfSome c.exit_noted-note.result.exit (HasExitedOnce p c.args.run c.args.job.now.prog c.args.job.now.ctx.items)) s.programs n.exit);
+        may = subst (λ o. IfSome o (IsPossibleExit (slice_get c.args.held.now c.args.job.now.prog) c.args.job.now.ctx.items)) noted
+            (subst (λ (p : List Checked). IfSome c.exit_noted-note.result.exit (IsPossibleExit (slice_get p c.args.job.now.prog) c.args.job.now.ctx.items)) s.programs n.may);
+        alone = subst (λ o. IfSome o (IsOwnExit (slice_get c.args.held.now c.args.job.now.prog) c.args.job.now.ctx.items)) noted
+            (subst (λ (p : List Checked). IfSome c.exit_noted-note.result.exit (IsOwnExit (slice_get p c.args.job.now.prog) c.args.job.now.ctx.items)) s.programs n.alone);
         event = c.act_noted-end.ensures.event;
         told = elim c.match-dropped.branch [
           | in-Ok w ↦ inl (search rules, search rules)

@@ -1,6 +1,6 @@
 use Rattle.std.proofs.lemmas.Option.{IfSome_then}
 use Rattle.shared.proofs.Exits.{exits-once, possible-once, own-once}
-use Rattle.shared.proofs.lock.Shared.exit_noted.Goals as goal
+use Rattle.shared.proofs.held.Held.exit_noted.Goals as goal
 
 pub returns-clause-exit : goal.returns-clause-exit
 returns-clause-exit g c =
