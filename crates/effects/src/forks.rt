@@ -97,9 +97,10 @@ pub fn fork(
 {
     let (x, y) = sides(state, dst, src)?;
     let mut taken = state.copy(boxes)?;
-    let (p, q) = Scalar::refine(size, condition, x, y, true);
+    let edges = Scalar::refine(size, condition, x, y);
+    let (p, q) = edges.taken;
     narrow(&mut taken, dst, src, p, q);
-    let (p, q) = Scalar::refine(size, condition, x, y, false);
+    let (p, q) = edges.not_taken;
     narrow(state, dst, src, p, q);
     Ok(taken)
 }

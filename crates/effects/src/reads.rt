@@ -27,6 +27,7 @@ pub(crate) enum Reads {
 }
 
 /// What a load from the frame reads: bytes of numbers, or all parts of one reference.
+#[inline(always)]
 fn read_from_frame(
     state: &AbsState,
     width: Width,

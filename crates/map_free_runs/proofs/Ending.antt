@@ -4,7 +4,7 @@ use Rattle.bpf_model.specs.declared.limits.TheConstants.{MAX_SLOTS}
 use Rattle.bpf_model.specs.View.{RunView}
 use Rattle.verifier.specs.Checked.{Checked}
 use Rattle.verifier.specs.Verdict.{IsJustified}
-use Rattle.verifier.proofs.Plans.{length_slots}
+use Rattle.program_graph.proofs.Edges.{length_slots}
 use Rattle.map_free_runs.specs.Lone.{StandsAlone}
 use Rattle.map_free_runs.proofs.Going.{moves-below}
 

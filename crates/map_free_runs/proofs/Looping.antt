@@ -15,7 +15,7 @@ use Rattle.view_laws.specs.Reactions.{fresh_view}
 use Rattle.world_laws.specs.Local as laws
 use Rattle.verifier.specs.Checked.{Checked}
 use Rattle.verifier.specs.Verdict.{IsJustified}
-use Rattle.verifier.proofs.Plans.{length_slots}
+use Rattle.program_graph.proofs.Edges.{length_slots}
 use Rattle.machine.specs.declared.request.Request.{Request}
 use Rattle.machine.specs.declared.request.Next.{Next}
 use Rattle.machine.specs.declared.request.Next.TheVariants.{At, Exit, On, Shared}

@@ -46,7 +46,7 @@ impl States {
         Ok(States {
             by_index,
             boxes: Boxes::new(alloc),
-            ids: Identities { next: 0 },
+            ids: Identities::none(),
         })
     }
 

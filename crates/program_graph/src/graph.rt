@@ -51,20 +51,20 @@ fn slot_ahead(slot: usize, distance: i32) -> Option<usize>
 }
 
 /// The index of the instruction that begins at a slot.
-fn index_at(indexes: &[Option<usize>], slot: usize) -> Result<usize, GraphFlaw>
+fn index_at(indexes: &[Option<u16>], slot: usize) -> Result<usize, GraphFlaw>
     ensures { result ≡ landed (slice_get indexes.now slot) }
 {
     if slot >= indexes.len() {
         return Err(GraphFlaw::JumpTarget);
     }
     match indexes[slot] {
-        Some(index) => Ok(index),
+        Some(index) => Ok(usize::from(index)),
         None => Err(GraphFlaw::JumpTarget),
     }
 }
 
 /// The index of the instruction to which a jump from a slot leads.
-fn landing_from(indexes: &[Option<usize>], slot: usize, distance: i32) -> Result<usize, GraphFlaw>
+fn landing_from(indexes: &[Option<u16>], slot: usize, distance: i32) -> Result<usize, GraphFlaw>
     requires { slot < 2 ^ 32 }
     ensures { result ≡ landing indexes.now slot (pos (slot + 1) +ℤ distance) }
 {
@@ -75,11 +75,7 @@ fn landing_from(indexes: &[Option<usize>], slot: usize, distance: i32) -> Result
 }
 
 /// The index to which an instruction at a slot jumps, if it is a jump.
-fn target_of(
-    insn: &Insn,
-    indexes: &[Option<usize>],
-    slot: usize,
-) -> Result<Option<usize>, GraphFlaw>
+fn target_of(insn: &Insn, indexes: &[Option<u16>], slot: usize) -> Result<Option<usize>, GraphFlaw>
     requires { slot < 2 ^ 32 }
     ensures { result ≡ target_spec indexes.now slot (distance_of insn.now) }
 {
@@ -89,20 +85,21 @@ fn target_of(
     }
 }
 
-/// For each slot the index of the instruction that begins there.
+/// For each slot the index of the instruction that begins there; a program has at most `MAX_SLOTS`.
 fn indexes_of(
     alloc: Global,
     instructions: &[Insn],
     starts: &[usize],
     slot_count: usize,
-) -> Result<Vec<Option<usize>>, AllocError>
+) -> Result<Vec<Option<u16>>, AllocError>
+    requires small { slot_total instructions.now ≤ MAX_SLOTS }
     requires starts { starts.now ≡ starts_from 0 instructions.now }
     requires slots { slot_count ≡ slot_total instructions.now }
     ensures { IfOk result (λ v. IsIndexBySlot instructions.now v.items) }
 {
-    let mut indexes: Vec<Option<usize>> = vec![in alloc; None; slot_count]?;
+    let mut indexes: Vec<Option<u16>> = vec![in alloc; None; slot_count]?;
     for index in 0..starts.len() {
-        indexes[starts[index]] = Some(index);
+        indexes[starts[index]] = Some(index as u16);
     }
     Ok(indexes)
 }
@@ -112,7 +109,7 @@ fn targets_of(
     alloc: Global,
     instructions: &[Insn],
     starts: &[usize],
-    indexes: &[Option<usize>],
+    indexes: &[Option<u16>],
 ) -> Result<Vec<Option<usize>>, GraphRefusal>
     requires starts { starts.now ≡ starts_from 0 instructions.now }
     requires small { slot_total instructions.now ≤ MAX_SLOTS }

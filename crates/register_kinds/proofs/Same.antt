@@ -1,5 +1,5 @@
 -- What `==` of two kinds says.
-use Rattle.std.proofs.Common.{◌≡◌, ℕ, ◌≤◌, Bool, true, false, not, ap, ap₂, refl, sym, ◌∙◌, subst}
+use Rattle.std.proofs.Common.{◌≡◌, ℕ, ◌≤◌, Bool, true, false, ap, ap₂, refl, sym, ◌∙◌, subst}
 use Rattle.std.specs.Prelude.{Decides, ◌&&◌}
 use Rattle.std.proofs.Math.Bridge.{le_prop}
 use Rattle.std.proofs.Math.Nat.{ℕ_set}
@@ -43,14 +43,14 @@ scalar_same : (s t : Scalar) → s.least ≡ t.least → s.greatest ≡ t.greate
 unfolding made
 scalar_same s t p q r u = made_same s.least s.greatest s.may s.must t.least t.greatest t.may t.must p q r u s.ordered s.consistent t.ordered t.consistent
 
-scalars-decides : (s t : Scalar) → Decides (scalar.eq-value.it s t) (s ≡ t)
+pub scalars-decides : (s t : Scalar) → Decides (scalar.eq-value.it s t) (s ≡ t)
 scalars-decides s t =
     through _ (both _ _ (Decides-eqb s.least t.least) (both _ _ (Decides-eqb s.greatest t.greatest)
     (both _ _ (Decides-eqb s.may t.may) (Decides-eqb s.must t.must))))
     (λ h. scalar_same s t h.0 h.1.0 h.1.1.0 h.1.1.1)
     (λ h. (ap (λ (x : Scalar). x.least) h, (ap (λ (x : Scalar). x.greatest) h, (ap (λ (x : Scalar). x.may) h, ap (λ (x : Scalar). x.must) h))))
 
-kind_same : (a b : RegKind) → kind.eq-value.it a b ≡ true → a ≡ b
+pub kind_same : (a b : RegKind) → kind.eq-value.it a b ≡ true → a ≡ b
 kind_same kinds.Unwritten kinds.Unwritten e = refl
 kind_same kinds.Ended kinds.Ended e = refl
 kind_same kinds.Mixed kinds.Mixed e = refl
@@ -65,11 +65,3 @@ kind_same (kinds.MaybeNull m x) (kinds.MaybeNull n y) e =
     let h = (both _ _ (Decides-eqb m n) (Decides-eqb x y)).0 e in
     ap₂ kinds.MaybeNull h.0 h.1
 kind_same a b e = absurd (false≢true e)
-
-not_false : (b : Bool) → not b ≡ false → b ≡ true
-not_false true e = refl
-not_false false e = sym e
-
--- kinds that do not differ by `!=` are the same
-pub kinds_alike : (a b : RegKind) (r : Bool) → r ≡ not (kind.eq-value.it a b) → r ≡ false → a ≡ b
-kinds_alike a b r e f = kind_same a b (not_false (kind.eq-value.it a b) (sym e ∙ f))

@@ -11,14 +11,28 @@ use bpf_model::REGISTERS;
 /// and one for each eight bytes of the frame.
 pub const MAX_PAIRS: usize = REGISTERS + GROUPS;
 
-/// The identities that are taken: those below this number.
+/// The pairs of different identities that met in a joining.
+pub(crate) type Pairs = ArrayVec<(u32, u32), MAX_PAIRS>;
+
+/// The identities that are taken: those below a number.
 #[derive(Drop)]
 pub struct Identities {
     pub next: u32,
+    /// The pairs of the last joining, whose place the next one uses again.
+    pub(crate) pairs: Pairs,
 }
 
-/// The pairs of different identities that met in this joining.
-pub(crate) type Pairs = ArrayVec<(u32, u32), MAX_PAIRS>;
+impl Identities {
+    /// None is taken.
+    pub fn none() -> Identities
+        ensures { result.next ≡ 0 }
+    {
+        Identities {
+            next: 0,
+            pairs: ArrayVec::new(),
+        }
+    }
+}
 
 /// The index of a pair, which is added where it is not there.
 fn pair_index(pairs: &mut Pairs, x: u32, y: u32) -> usize

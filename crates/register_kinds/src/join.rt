@@ -69,9 +69,8 @@ pub(crate) fn join_kinds(
     ensures few { length pairs.new.items ≤ length pairs.old.items + length others.now }
 {
     for i in from..others.len() {
-        let kind = kinds[i];
-        if kind != others[i] {
-            kinds[i] = join_kind(pairs, top, kind, others[i]);
+        if !kinds[i].is_same(&others[i]) {
+            kinds[i] = join_kind(pairs, top, kinds[i], others[i]);
         }
     }
 }

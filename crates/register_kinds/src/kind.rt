@@ -1,5 +1,5 @@
 //! The kinds of registers and of frame bytes.
-ghost use Rattle.std.specs.Prelude.{◌≡◌};
+ghost use Rattle.std.specs.Prelude.{◌≡◌, IsTrue};
 ghost use Rattle.register_kinds.specs.States.{is_pointer};
 
 use scalar_domain::Scalar;
@@ -46,6 +46,20 @@ pub enum CellKind {
 }
 
 impl RegKind {
+    /// Whether the other is the same. Two sets of numbers are compared first, since most registers hold numbers.
+    #[inline(always)]
+    pub(crate) fn is_same(&self, other: &RegKind) -> bool
+        ensures same { IsTrue result → self.now ≡ other.now }
+    {
+        match self {
+            RegKind::Num(numbers) => match other {
+                RegKind::Num(others) => numbers == others,
+                _ => false,
+            },
+            _ => self == other,
+        }
+    }
+
     /// Whether it is a reference, or null.
     pub fn is_pointer(&self) -> bool
         ensures { result ≡ is_pointer self.now }

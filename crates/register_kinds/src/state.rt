@@ -8,10 +8,9 @@ ghost use Rattle.register_kinds.specs.Pairs.{AreBelow, IsPairing, TakesFew};
 
 use crate::boxes::Boxes;
 use crate::frame::FrameCells;
-use crate::identities::{Identities, Pairs};
+use crate::identities::Identities;
 use crate::join::join_kinds;
 use crate::kind::RegKind;
-use arrayvec::ArrayVec;
 use bpf_model::{FRAME_BYTES, NEAR_LIMIT, REGISTERS};
 use scalar_domain::Scalar;
 use std::alloc::{AllocError, Global};
@@ -91,9 +90,10 @@ impl AbsState {
         ensures below { AreBelow ids.new.next self.new }
         ensures few { TakesFew MAX_PAIRS ids.old.next ids.new.next }
     {
-        let mut pairs: Pairs = ArrayVec::new();
-        join_kinds(&mut pairs, ids.next, &mut self.regs, &other.regs, 0);
-        self.frame.join(&mut pairs, ids.next, &other.frame);
-        ids.next += pairs.len() as u32;
+        let Identities { next, pairs } = ids;
+        pairs.clear();
+        join_kinds(pairs, *next, &mut self.regs, &other.regs, 0);
+        self.frame.join(pairs, *next, &other.frame);
+        *next += pairs.len() as u32;
     }
 }

@@ -20,7 +20,7 @@ impl Scalar {
     {
         match (a.as_constant(), b.as_constant()) {
             (Some(x), Some(y)) => Scalar::constant(alu::alu(size, op, x, y)),
-            _ => apply_sets(size, op, a, b),
+            _ => apply_sets(size, op, a.copied(), b.copied()),
         }
     }
 }

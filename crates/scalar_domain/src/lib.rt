@@ -15,4 +15,5 @@ mod relation;
 mod scalar;
 mod sums;
 
+pub use refine::JumpEdges;
 pub use scalar::Scalar;

@@ -1,5 +1,5 @@
 //! What a conditional jump tells.
-ghost use Rattle.std.specs.Prelude.{◌≡◌, ◌≢◌, ℕ, ◌%◌, ◌<◌, ◌≤◌, ◌⊎◌, ◌^◌, IfSome, IsSome, IsSomeAnd};
+ghost use Rattle.std.specs.Prelude.{◌≡◌, ◌≢◌, ℕ, ◌%◌, ◌<◌, ◌≤◌, ◌⊎◌, ◌^◌, IfSome, IsSome, IsSomeAnd, true, false};
 ghost use Rattle.std.specs.Int.{w32, w64};
 ghost use Rattle.bpf_model.specs.Arithmetic.{compares, holds};
 ghost use Rattle.bpf_model.specs.declared.opcode.Size.TheVariants.{Word64};
@@ -15,28 +15,45 @@ use bpf_model::{Condition, Size};
 /// The bits of the high half of a word.
 const HIGH_HALF: u64 = 0xffff_ffff_0000_0000;
 
+/// What remains of two sets on either edge of a conditional jump, of the left side and the right.
+#[derive(Clone, Copy, Debug, PartialEq, Eq)]
+pub struct JumpEdges {
+    /// Where the jump is taken.
+    pub taken: (Scalar, Scalar),
+    /// Where it is not.
+    pub not_taken: (Scalar, Scalar),
+}
+
 impl Scalar {
-    /// What remains of two sets on the edge of a conditional jump where it is taken, or where it is
-    /// not. Where that would leave no number of one of them, by bounds and known bits together, both stay
-    /// as they are.
+    /// What remains of two sets on the edges of a conditional jump. Where that would leave no number of one of
+    /// them on an edge, by bounds and known bits together, both stay as they are there.
     #[inline(always)]
-    pub fn refine(
-        size: Size,
-        condition: Condition,
-        a: Scalar,
-        b: Scalar,
-        taken: bool,
-    ) -> (Scalar, Scalar)
+    pub fn refine(size: Size, condition: Condition, a: Scalar, b: Scalar) -> JumpEdges
         ensures sound { (x y : ℕ) → x < 2 ^ 64 → y < 2 ^ 64 → Holds a x → Holds b y
-            → compares size condition x y ≡ taken → AreHeld x y result }
-        ensures floor { KeepsEdgeFloor size condition taken a b result.0 result.1 }
-        ensures remains { (result ≡ (a, b)) ⊎ (HoldsSome result.0 × HoldsSome result.1) }
+            → compares size condition x y ≡ true → AreHeld x y result.taken }
+        ensures floor { KeepsEdgeFloor size condition true a b result.taken.0 result.taken.1 }
+        ensures remains { (result.taken ≡ (a, b))
+            ⊎ (HoldsSome result.taken.0 × HoldsSome result.taken.1) }
         ensures kept { FitsSize size a → FitsSize size b
-            → (LeavesNumbers size condition taken a b → ⊥) → result ≡ (a, b) }
+            → (LeavesNumbers size condition true a b → ⊥) → result.taken ≡ (a, b) }
+        ensures sound_not_taken { (x y : ℕ) → x < 2 ^ 64 → y < 2 ^ 64 → Holds a x → Holds b y
+            → compares size condition x y ≡ false → AreHeld x y result.not_taken }
+        ensures floor_not_taken { KeepsEdgeFloor size condition false a b
+            result.not_taken.0 result.not_taken.1 }
+        ensures remains_not_taken { (result.not_taken ≡ (a, b))
+            ⊎ (HoldsSome result.not_taken.0 × HoldsSome result.not_taken.1) }
+        ensures kept_not_taken { FitsSize size a → FitsSize size b
+            → (LeavesNumbers size condition false a b → ⊥) → result.not_taken ≡ (a, b) }
     {
         match (a.as_constant(), b.as_constant()) {
-            (Some(_), Some(_)) => (a, b),
-            _ => refine_sets(size, condition, a, b, taken),
+            (Some(_), Some(_)) => JumpEdges {
+                taken: (a, b),
+                not_taken: (a, b),
+            },
+            _ => JumpEdges {
+                taken: refine_sets(size, condition, a.copied(), b.copied(), true),
+                not_taken: refine_sets(size, condition, a.copied(), b.copied(), false),
+            },
         }
     }
 

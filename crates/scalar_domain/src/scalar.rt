@@ -98,6 +98,20 @@ impl Scalar {
         )
     }
 
+    /// The same set, in a place of its own: where a call in a branch takes it from there, what is done without the
+    /// call can keep the set in registers.
+    #[inline(always)]
+    pub(crate) fn copied(self) -> Scalar
+        ensures { result ≡ self }
+    {
+        Scalar {
+            least: self.least,
+            greatest: self.greatest,
+            may: self.may,
+            must: self.must,
+        }
+    }
+
     /// The number that the scalar stands for alone; `None` where it does not stand for one number alone.
     pub fn as_constant(self) -> Option<u64>
         ensures { MatchOption result ((n : ℕ) → IsConstant self n → ⊥) (λ n. IsConstant self n) }

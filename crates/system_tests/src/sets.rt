@@ -95,7 +95,8 @@ fn edges(rt: HostRuntime) {
         (Size::Word64, Condition::Equal, 256, true, 0, 255),
     ];
     for (size, condition, k, taken, least, greatest) in rows {
-        let (left, _) = Scalar::refine(size, condition, byte, Scalar::constant(k), taken);
+        let edges = Scalar::refine(size, condition, byte, Scalar::constant(k));
+        let (left, _) = if taken { edges.taken } else { edges.not_taken };
         assert_eq!(rt;
             (left.least, left.greatest),
             (least, greatest),
@@ -106,14 +107,8 @@ fn edges(rt: HostRuntime) {
 
 /// What is left of any number where a comparison with a constant holds.
 fn left_of_any(size: Size, condition: Condition, k: u64) -> Scalar {
-    Scalar::refine(
-        size,
-        condition,
-        Scalar::unknown(),
-        Scalar::constant(k),
-        true,
-    )
-    .0
+    let edges = Scalar::refine(size, condition, Scalar::unknown(), Scalar::constant(k));
+    edges.taken.0
 }
 
 #[test]
@@ -128,13 +123,13 @@ fn edges_of_signs_and_bits(rt: HostRuntime) {
     );
     let either = left_of_any(Size::Word64, Condition::SignedLess, 10);
     assert_eq!(rt; either, Scalar::unknown());
-    let (even, _) = Scalar::refine(
+    let edges = Scalar::refine(
         Size::Word64,
         Condition::SharesBits,
         Scalar::loaded(Width::One),
         Scalar::constant(1),
-        false,
     );
+    let (even, _) = edges.not_taken;
     assert!(rt; !even.contains(7) && even.contains(6));
 }
 

@@ -3,15 +3,12 @@ use Rattle.std.proofs.Common.{◌≡◌, ◌≢◌, ℕ, zero, suc, ◌+◌, ◌
 use Rattle.std.specs.Prelude.{slice_get, Option, Some, None, ltb, unwrap_or, option_map, IsSome, ℤ, ◌⊎◌}
 use Rattle.std.proofs.lemmas.Bool.{cases_lt, cases_eq, le-ltb, lt-ltb}
 use Rattle.std.proofs.lemmas.List.{get_or_past}
-use Rattle.std.proofs.lemmas.List.Sums.{sum_by-cons}
 use Rattle.std.proofs.lemmas.Option.{slice_get_within, same_Some}
 use Rattle.bpf_model.specs.declared.insn.Insn.{Insn}
 use Rattle.bpf_model.specs.declared.insn.Insn.TheVariants.{Exit}
 use Rattle.bpf_model.specs.declared.limits.MapShape.{MapShape}
 use Rattle.bpf_model.specs.Graph.{falls, distance, EndsWithExit}
-use Rattle.bpf_model.specs.Step.{slot_count}
-use Rattle.bpf_model.specs.Places.{slot_total}
-use Rattle.bpf_model.proofs.Places.{slot_count_some, starts_apart, start_of-insn, start-insn, start-entry}
+use Rattle.bpf_model.proofs.Places.{starts_apart, start_of-insn, start-insn, start-entry}
 use Rattle.bpf_model.specs.Graph.{LeadsTo}
 use Rattle.bpf_model.specs.Places.{StartsAt}
 use Rattle.program_graph.specs.GraphFlaws.{HasGoodGraph}
@@ -34,11 +31,6 @@ use Rattle.verifier.specs.SecondPass.{Awaited, Table, size_of, awaited, state_in
 use Rattle.verifier.specs.SecondPass.{Advances, Notes, Passed, IsPassed, DiffersAhead, HasWaiting, StartsFrom}
 use Rattle.verifier.proofs.Merging.{Later, same_later, Stays, AllStay, same_stay, merged_there, merged_later, merged_or}
 use Rattle.bpf_model.proofs.Lists.{get-append_cases, get-below}
-
--- a program has no more instructions than slots
-pub length_slots : (is : List Insn) → length is ≤ slot_total is
-length_slots [] = omega arith
-length_slots (i ∷ is) = omega (arith, length_slots is, slot_count_some i, sum_by-cons slot_count i is)
 
 -- an instruction that falls through isn't the last
 exit_last : (program front : List Insn) (k : ℕ) (i : Insn) → program ≡ front ++ Exit ∷ [] →

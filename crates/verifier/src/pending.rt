@@ -3,7 +3,7 @@ ghost use Rattle.std.specs.Prelude.{◌≡◌, ◌≢◌, ℕ, ◌+◌, ◌^◌,
 ghost use Rattle.register_kinds.specs.declared.identities.TheConstants.{MAX_PAIRS};
 ghost use Rattle.register_kinds.specs.Pairs.{AreBelow, TakesFew};
 ghost use Rattle.verifier.specs.declared.waiting.Waiting.TheVariants.{Nothing};
-ghost use Rattle.verifier.specs.SecondPass.{size_of, awaited, states_in, AllBelow, Merged, StartsFrom};
+ghost use Rattle.verifier.specs.SecondPass.{size_of, awaited, occupied, states_in, AllBelow, Merged, StartsFrom};
 
 use crate::waiting::{Waiting, join_into};
 use register_kinds::{AbsState, Boxes, Identities};
@@ -89,6 +89,50 @@ impl Pending {
         self.peak = self.peak.max(self.len);
     }
 
+    /// Joins a state into what waits for the instruction of this index, where more states waited at once before than
+    /// do now.
+    #[inline(always)]
+    pub(crate) fn put_next(
+        &mut self,
+        index: usize,
+        state: Box<AbsState>,
+        boxes: &mut Boxes,
+        ids: &mut Identities,
+    )
+        requires index { index < size_of self.old }
+        requires fewer { states_in self.old.by_index < self.old.peak }
+        requires room { ids.old.next + MAX_PAIRS < 2 ^ 32 }
+        requires state { AreBelow ids.old.next state.value }
+        requires below { AllBelow ids.old.next (awaited self.old) }
+        ensures merged { Merged index state.value (awaited self.old) (awaited self.new) }
+        ensures size { size_of self.new ≡ size_of self.old }
+        ensures below { AllBelow ids.new.next (awaited self.new) }
+        ensures few { TakesFew MAX_PAIRS ids.old.next ids.new.next }
+        ensures peak { self.new.peak ≡ max self.old.peak (states_in self.new.by_index) }
+    {
+        match self.by_index[index] {
+            Waiting::Nothing => self.put_back(index, state),
+            Waiting::Known(_) | Waiting::Differing => self.put_again(index, state, boxes, ids),
+        }
+    }
+
+    /// Puts the first state that waits for the instruction of this index, where more waited at once before: the peak
+    /// stays.
+    #[inline(always)]
+    fn put_back(&mut self, index: usize, state: Box<AbsState>)
+        requires index { index < size_of self.old }
+        requires fewer { states_in self.old.by_index < self.old.peak }
+        requires first { awaited self.old index ≡ Nothing }
+        ensures merged { Merged index state.value (awaited self.old) (awaited self.new) }
+        ensures size { size_of self.new ≡ size_of self.old }
+        ensures below { (top : ℕ) → AreBelow top state.value → AllBelow top (awaited self.old)
+            → AllBelow top (awaited self.new) }
+        ensures peak { self.new.peak ≡ max self.old.peak (states_in self.new.by_index) }
+    {
+        self.by_index[index] = Waiting::Known(state);
+        self.len += 1;
+    }
+
     /// Joins a state into what waits already.
     #[inline(never)]
     fn put_again(
@@ -123,6 +167,7 @@ impl Pending {
         ensures size { size_of self.new ≡ size_of self.old }
         ensures peak { self.new.peak ≡ self.old.peak }
         ensures covered { states_in self.new.by_index ≤ self.new.peak }
+        ensures room { occupied result + states_in self.new.by_index ≤ self.new.peak }
     {
         match std::mem::replace(&mut self.by_index[index], Waiting::Nothing) {
             Waiting::Known(state) => {

@@ -9,10 +9,10 @@ use register_kinds::{AbsState, Boxes, Identities};
 /// What waits for an instruction.
 #[derive(Drop)]
 pub(crate) enum Waiting {
-    /// No edge has led to the instruction yet.
-    Nothing,
     /// What is known on all edges that have led to the instruction.
     Known(Box<AbsState>),
+    /// No edge has led to the instruction yet.
+    Nothing,
     /// Edges have led to the instruction at different depths of locks.
     Differing,
 }

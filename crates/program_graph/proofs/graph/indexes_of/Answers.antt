@@ -2,7 +2,7 @@ use Rattle.std.proofs.Common.{ℕ, ◌<◌, length, arith, ap}
 use Rattle.std.specs.Prelude.{slice_index_or}
 use Rattle.bpf_model.proofs.Places.{length-starts_from, start-inside}
 use Rattle.bpf_model.specs.Places.{StartsAt}
-use Rattle.program_graph.proofs.Edges.{start_read, start_below, index_found, index_only}
+use Rattle.program_graph.proofs.Edges.{start_read, start_below, index_found, index_only, length_slots}
 use Rattle.std.proofs.lemmas.List.{length-set}
 use Rattle.std.specs.Prelude.{Option}
 use Rattle.program_graph.proofs.graph.indexes_of.Goals as goal
@@ -20,6 +20,16 @@ index_mut-requires c =
       c.requires.slots,
       c.loop-index.invariant.long,
     )
+
+pub overflow_cast-index : goal.overflow_cast-index
+overflow_cast-index c = omega (
+  arith,
+  ap length c.requires.starts,
+  length-starts_from 0 c.args.instructions.now,
+  length_slots c.args.instructions.now,
+  c.requires.small,
+  c.loop-index-test.true,
+)
 
 pub loop-index-preserved : goal.loop-index-preserved
 loop-index-preserved c =

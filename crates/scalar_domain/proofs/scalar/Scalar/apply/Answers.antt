@@ -57,5 +57,5 @@ returns-in_default-clause-floor c =
     record {
       constant = λ x y h k. grind (arith, common_steps);
       narrow = r.narrow;
-      wide = r.wide;
+      wide = rw (c.copied.ensures, c.copied-in_default.ensures) at r.wide;
     }
