@@ -13,7 +13,7 @@ use Rattle.machine.specs.declared.request.Request.{Request}
 use Rattle.machine.specs.declared.request.Local.TheVariants.{Exit, Moved, Shared}
 use Rattle.machine.specs.Requests.{resumed_view}
 use Rattle.machine.specs.RunWords.{IsAt, RunWords}
-use Rattle.machine.specs.Standing.{Awaits, IsAnswered, IsValidRun}
+use Rattle.machine.specs.Standing.{Awaits, IsReplyTo, IsValidRun}
 use Rattle.machine.specs.Steps.{TakesStep}
 use Rattle.machine.proofs.Places.{insn_there}
 use Rattle.shared_runs.specs.Tables.{Table, IsTable}
@@ -82,8 +82,8 @@ module _ (k : Table) (keeps : IsTable k) (c : Checked) (context : List ℕ) (ms 
       section mine start list outside = ap (λ (l : List k.Move). k.inside l) list ∙ (keeps.inside_over ms start outside ∙ sharing-now.section)
 
       module _ (ns : List k.Move) (word : ℕ) (served : Serves k new.view request ns word) where
-        pub answered : Awaits c request new → IsAnswered c new word
-        answered a = record { request = request; awaits = a; given = (served c context ms can-now).1 }
+        pub answered : Awaits c request new → IsReplyTo c request new word
+        answered a = (a, (served c context ms can-now).1)
 
         pub resumed-on : (last : RunWords) → IsAt c.program last →
             ((insn : Insn) → insn_at c.program new.view.place ≡ Some insn →

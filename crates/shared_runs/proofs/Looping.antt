@@ -14,7 +14,7 @@ use Rattle.machine.specs.declared.workspace.Workspace.{Workspace}
 use Rattle.machine.specs.Courses.{IsOn, view_of, words_after, words_of}
 use Rattle.machine.specs.Requests.{resumed_view}
 use Rattle.machine.specs.RunWords.{IsAt as StandsAt}
-use Rattle.machine.specs.Standing.{Awaits, IsAnswered, IsRunOfChecked}
+use Rattle.machine.specs.Standing.{Awaits, IsReplyTo, IsRunOfChecked}
 use Rattle.machine.specs.Steps.{TakesStep}
 use Rattle.machine.proofs.Coursing.{is_at}
 use Rattle.shared_runs.specs.Running.{HasComeTo, RunsOver}
@@ -88,7 +88,7 @@ module _ {Seat : Type 0} (k : Table) (IsAt : Seat → Type 0) (mine : Seat → L
           served = subst (λ (d : ℕ). Serves k (asking new d (view_of c context after new)) request ns word) opened (serves (view_of c context after
               new))
 
-          pub answered : Awaits c request (words_of c context after new) → (bytes : List ℕ) × IsAnswered c (words_of c bytes after new) word
+          pub answered : Awaits c request (words_of c context after new) → (bytes : List ℕ) × IsReplyTo c request (words_of c bytes after new) word
           answered a = (
             context,
             seated.answered k IsAt mine Goes keeps steps c context start at_start now (words_of c context course w) outside h.1

@@ -10,7 +10,7 @@ use Rattle.machine.specs.declared.request.Request.{Request}
 use Rattle.machine.specs.declared.request.Local.TheVariants.{Exit, Moved, Shared}
 use Rattle.machine.specs.Requests.{resumed_view}
 use Rattle.machine.specs.RunWords.{IsAt as StandsAt, RunWords}
-use Rattle.machine.specs.Standing.{Awaits, IsAnswered, IsValidRun}
+use Rattle.machine.specs.Standing.{Awaits, IsReplyTo, IsValidRun}
 use Rattle.machine.specs.Steps.{TakesStep}
 use Rattle.shared_runs.specs.Running.{HasComeTo, RunsOver}
 use Rattle.shared_runs.specs.Serving.{IsServable, Serves}
@@ -68,7 +68,7 @@ module _ {Seat : Type 0} (k : Table) (IsAt : Seat → Type 0) (mine : Seat → L
         section = coming.section k keeps c context h.moves r h.come new at request t (mine now) (mine start) list outside
 
         module _ (ns : List k.Move) (word : ℕ) (served : Serves k new.view request ns word) where
-          pub answered : Awaits c request new → IsAnswered c new word
+          pub answered : Awaits c request new → IsReplyTo c request new word
           answered a = coming.answered k keeps c context h.moves r h.come new at request t ns word served a
 
           pub resumed-on : (later : Seat) (last : RunWords) → Goes now ns later → StandsAt c.program last →

@@ -156,7 +156,7 @@ pub fn run_over<T: ServesRuns>(
             Local::Moved => {}
             Local::Shared(request) => {
                 let word = serve::<T>(words, seat, &workspace, course.depth(), request);
-                course.resume(&mut workspace, verified, word);
+                course.resume(&mut workspace, verified, request, word);
             }
             Local::Exit(value) => return value,
         }
