@@ -18,8 +18,8 @@ pub enum StopCause {
     Refused(EventRefusal),
     /// An event of the job was not applied.
     Fault(SharedFault),
-    /// The run slot has no ended run of the job's program and context: others dropped the job's
-    /// run, and may have started theirs there.
+    /// The run slot has no ended run of the job's program and context. A job keeps the lock from its start to its
+    /// drop, so that nobody drops its run; no clause says so.
     OtherRun,
     /// The job's program accesses an element by another width than 8 bytes, or changes a map: a table of words
     /// serves no such program.
@@ -31,8 +31,7 @@ pub enum StopCause {
 pub enum Outcome {
     /// The run has exited with this value, and was dropped.
     Exit(u64),
-    /// No exit value. The job's run, where it has one, stays in the world, unless others have
-    /// dropped it.
+    /// No exit value. The job's run, where it has one, stays in the world.
     Stopped {
         run: Option<RunId>,
         cause: StopCause,

@@ -30,11 +30,14 @@ returns-clause-fits g c =
         value = c.in-Some.value;
         noted = noted;
         exited = subst (λ o. IfSome o (HasExitedOnce c.args.held.now c.args.run c.args.job.now.prog c.args.job.now.ctx.items)) noted
-            (subst (λ (p : List Checked). IfSome c.exit_noted-note.result.exit (HasExitedOnce p c.args.run c.args.job.now.prog c.args.job.now.ctx.items)) s.programs n.exit);
+            (subst (λ (p : List Checked). IfSome c.exit_noted-note.result.exit
+            (HasExitedOnce p c.args.run c.args.job.now.prog c.args.job.now.ctx.items)) s.programs n.exit);
         may = subst (λ o. IfSome o (IsPossibleExit (slice_get c.args.held.now c.args.job.now.prog) c.args.job.now.ctx.items)) noted
-            (subst (λ (p : List Checked). IfSome c.exit_noted-note.result.exit (IsPossibleExit (slice_get p c.args.job.now.prog) c.args.job.now.ctx.items)) s.programs n.may);
+            (subst (λ (p : List Checked). IfSome c.exit_noted-note.result.exit
+            (IsPossibleExit (slice_get p c.args.job.now.prog) c.args.job.now.ctx.items)) s.programs n.may);
         alone = subst (λ o. IfSome o (IsOwnExit (slice_get c.args.held.now c.args.job.now.prog) c.args.job.now.ctx.items)) noted
-            (subst (λ (p : List Checked). IfSome c.exit_noted-note.result.exit (IsOwnExit (slice_get p c.args.job.now.prog) c.args.job.now.ctx.items)) s.programs n.alone);
+            (subst (λ (p : List Checked). IfSome c.exit_noted-note.result.exit
+            (IsOwnExit (slice_get p c.args.job.now.prog) c.args.job.now.ctx.items)) s.programs n.alone);
         event = c.act_noted-end.ensures.event;
         told = elim c.match-dropped.branch [
           | in-Ok w ↦ inl (search rules, search rules)
