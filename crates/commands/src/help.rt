@@ -107,7 +107,7 @@ share one world of the file's maps. Each job starts the program on a context of 
 and drops the run.
 
 Prints a line for each job in order, `job I exit V`, or `job I stopped C` where an event of the job was refused
-or not applied, those of 1,024 jobs as soon as these are done; then `entries N`, how many events the journal has.
+or not applied, those of 4,096 jobs as soon as these are done; then `entries N`, how many events the journal has.
 With --explain, a refusal is followed on standard error by what `bpfrt check` says, or by the limits of pools.
 
 Status, and the line on standard error:

@@ -1,4 +1,4 @@
-pub mod Blocks
+pub mod Batches
 pub mod JobLines
 pub mod Outcomes
 pub mod Moving

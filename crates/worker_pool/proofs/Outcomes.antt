@@ -1,15 +1,12 @@
 -- What the outcomes of jobs say, where each is borne out by its trail.
-use Rattle.std.proofs.Common.{◌≡◌, ◌⊎◌, ℕ, ◌<◌, ◌≤◌, List, [], ◌∷◌, length, map, get_or, replicate, All, refl, ap, sym, subst, inl, inr, arith}
+use Rattle.std.proofs.Common.{◌≡◌, ℕ, List, [], ◌∷◌, map, get_or, replicate, refl, ap, sym, subst, inl, inr}
 use Rattle.std.specs.Prelude.{Option, Some, None, Result, slice_get}
 use Rattle.std.proofs.lemmas.List.Elements.{All-cons, All-nil}
-use Rattle.std.proofs.lemmas.Option.{slice_get_cases, slice_get-get_or}
 use Rattle.bpf_model.specs.declared.insn.Insn.{Insn}
 use Rattle.bpf_model.specs.declared.event.Answer.{Answer}
 use Rattle.bpf_model.specs.Exit.{HasNoMaps}
 use Rattle.world_laws.specs.Exits.{MayExitAs, ExitsAs}
-use Rattle.job_queue.specs.Serving.{AreServed}
 use Rattle.shared.specs.declared.fault.SharedFault.{SharedFault}
-use Rattle.shared.specs.Books.{WorkerView}
 use Rattle.shared.specs.Receipts.{IsPossibleExit, IsOwnExit}
 use Rattle.verifier.specs.Checked.{Checked}
 use Rattle.worker_pool.specs.declared.job.Job.{Job}
@@ -19,7 +16,7 @@ use Rattle.worker_pool.specs.declared.job.Outcome.{Outcome}
 use Rattle.worker_pool.specs.declared.job.Outcome.TheVariants.{Exit, Stopped}
 use Rattle.worker_pool.specs.declared.job.Trail.{Trail}
 use Rattle.worker_pool.specs.declared.job.Trail.TheVariants as trails
-use Rattle.worker_pool.specs.Trails.{FitsJob, TellsExit, IsToldJob}
+use Rattle.worker_pool.specs.Trails.{FitsJob, TellsExit}
 use Rattle.worker_pool.specs.Outcomes.{IsZeroJob, IsZeroExit, IsOutcomeOf}
 
 abbrev pub code_of : Checked → List Insn
@@ -71,7 +68,7 @@ module _ (programs : List Checked) (code : List Insn) (only : map code_of progra
   exit_outcome len job n (trails.Ended start step note dropped) z (run, started, exits, asks, x) =
       told_exit len n run x.value dropped.reply (zero_exit len job x.value z x.may x.alone) x.told
 
-  fits_outcome : (len : ℕ) (job : Job) (outcome : Outcome) (trail : Trail) → IsZeroJob len job →
+  pub fits_outcome : (len : ℕ) (job : Job) (outcome : Outcome) (trail : Trail) → IsZeroJob len job →
       FitsJob programs job outcome trail → IsOutcomeOf code len outcome
   fits_outcome len job (Exit n) trail z h = exit_outcome len job n trail z h
   fits_outcome len job (Stopped run cause) trail z h = record {
@@ -81,20 +78,3 @@ module _ (programs : List Checked) (code : List Insn) (only : map code_of progra
     is = record { only = only; zeros = All-cons (IsZeroJob len) job [] z (All-nil (IsZeroJob len)) };
     fits = h;
   }
-
-  outcome_at : (len : ℕ) (jobs : List Job) (before after : List WorkerView) (outcomes : List Outcome) (k : ℕ)
-      (outcome : Outcome) → All (IsZeroJob len) jobs →
-      AreServed (IsToldJob programs) jobs before after outcomes → slice_get outcomes k ≡ Some outcome →
-      ((job : Job) × (k < length jobs) × (slice_get jobs k ≡ Some job) × (get_or jobs k job ≡ job))
-      ⊎ ((length jobs ≤ k) × (slice_get jobs k ≡ None)) → k < length jobs → IsOutcomeOf code len outcome
-  outcome_at len jobs before after outcomes k outcome zeros served at (inl (job, inside, found, read)) below =
-      let told = (served k job outcome found at).right in
-      fits_outcome len job outcome told.trail (subst (IsZeroJob len) read (zeros k job inside)) told.right.fits
-  outcome_at len jobs before after outcomes k outcome zeros served at (inr (past, none)) below = absurd (omega arith)
-
-  pub outcomes_of : (len : ℕ) (jobs : List Job) (before after : List WorkerView) (outcomes : List Outcome) →
-      length outcomes ≡ length jobs → All (IsZeroJob len) jobs →
-      AreServed (IsToldJob programs) jobs before after outcomes → All (IsOutcomeOf code len) outcomes
-  outcomes_of len jobs before after outcomes count zeros served k d inside =
-      outcome_at len jobs before after outcomes k (get_or outcomes k d) zeros served
-      (slice_get-get_or outcomes k d inside) (slice_get_cases jobs k).1 (omega (arith, count, inside))

@@ -1,3 +1,4 @@
+pub mod Batches
 pub mod Lines
 pub mod Numbers
 pub mod Outcomes

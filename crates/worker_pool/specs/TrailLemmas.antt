@@ -11,8 +11,7 @@ use Rattle.worker_pool.specs.declared.job.Job.{Job}
 use Rattle.worker_pool.specs.declared.job.Trail.{Trail}
 use Rattle.worker_pool.specs.declared.job.Trail.TheVariants as trails
 use Rattle.worker_pool.specs.declared.job.JobReport.{JobReport}
-use Rattle.worker_pool.specs.declared.job.Outcome.{Outcome}
-use Rattle.worker_pool.specs.Trails.{IsLater, IsByWorker, IsOfWorker, IsServedJob, IsToldJob}
+use Rattle.worker_pool.specs.Trails.{IsLater, IsByWorker, IsOfWorker, IsServedJob}
 
 pub later_same : (w : WorkerView) → IsLater w w
 later_same w = record { number = refl; made = le_refl w.made }
@@ -48,12 +47,3 @@ pub served_wider : (programs : List Checked) (t u v w : WorkerView) (job : Job)
     IsServedJob programs t w job report
 served_wider programs t u v w job report a b s =
     record { by = of_wider t u v w report.trail a b s.by; fits = s.fits }
-
-pub told_wider : (programs : List Checked) (t u v w : WorkerView) (job : Job) (outcome : Outcome) →
-    IsLater t u → IsLater v w → IsToldJob programs u v job outcome →
-    IsToldJob programs t w job outcome
-told_wider programs t u v w job outcome a b told = record {
-  trail = told.trail;
-  right = served_wider programs t u v w job (record { outcome = outcome; trail = told.trail }) a b
-      told.right;
-}

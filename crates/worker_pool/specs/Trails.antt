@@ -129,9 +129,3 @@ pub record IsServedJob (programs : List Checked) (first last : WorkerView) (job 
     (report : JobReport Trail) : Type 0 where
   pub by : IsOfWorker first last report.trail
   pub fits : FitsJob programs job report.outcome report.trail
-
--- The outcome of a report that is right for the job.
-pub record IsToldJob (programs : List Checked) (first last : WorkerView) (job : Job)
-    (outcome : Outcome) : Type 0 where
-  pub trail : Trail
-  pub right : IsServedJob programs first last job (record { outcome = outcome; trail = trail })

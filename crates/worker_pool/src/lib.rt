@@ -5,15 +5,16 @@
 //! Contracts say what is so of outcome and trail for the job's own program and context.
 #![tactic(auto)]
 
+mod batch;
 mod fault;
 mod job;
 mod lines;
 mod pool;
 mod pooled;
+mod printing;
 mod reading;
 mod repeated;
 mod reply;
-mod told;
 mod zero_jobs;
 
 pub use fault::RunFault;

@@ -1,14 +1,13 @@
 //! All jobs, by as many workers as the caller says.
-ghost use Rattle.std.specs.Prelude.{◌≡◌, ◌⊎◌, ◌<◌, ◌≤◌, length, vec_len, Err, IsOk, IfErr, IfOk};
+ghost use Rattle.std.specs.Prelude.{◌≡◌, ◌⊎◌, ◌<◌, ◌≤◌, length, vec_len, Err, IsOk, IfOk};
 ghost use Rattle.std.specs.List.{AllZip};
 ghost use Rattle.job_queue.specs.declared.fault.PoolFault.{PoolFault};
 ghost use Rattle.job_queue.specs.declared.fault.PoolFault.TheVariants as faults;
 ghost use Rattle.job_queue.specs.Serving.{AreServed, IsBadCount, most_jobs};
-ghost use Rattle.worker_pool.specs.Trails.{IsLater, IsServedJob, IsToldJob};
+ghost use Rattle.worker_pool.specs.Trails.{IsLater, IsServedJob};
 
-use crate::job::{Job, Outcome, Report, Trail};
+use crate::job::{Job, Report, Trail};
 use crate::pooled::Pooled;
-use crate::told::Told;
 use job_queue::{PoolFault, serve_all};
 use shared::{Shared, Workers};
 use std::alloc::Global;
@@ -53,27 +52,4 @@ pub fn run_jobs<L: Ledger + Send + Sync, R: Threads + Wait + Sync>(
         Ok(jobs) => Ok(Report { jobs }),
         Err(fault) => Err(fault),
     }
-}
-
-/// Serves all jobs as `run_jobs` does, and keeps of each its outcome alone.
-pub(crate) fn run_for_outcomes<L: Ledger + Send + Sync, R: Threads + Wait + Sync>(
-    rt: &R,
-    alloc: Global,
-    jobs: &[Job],
-    threads: usize,
-    shared: &Shared<L>,
-    workers: &mut Workers<L>,
-) -> Result<Vec<Outcome>, PoolFault>
-    requires threads { IsBadCount threads (length workers.old) → ⊥ }
-    requires few { length jobs.now ≤ most_jobs }
-    ensures later { AllZip IsLater workers.old workers.new }
-    ensures count { IfOk result (λ outcomes. vec_len outcomes ≡ length jobs.now) }
-    ensures each { IfOk result (λ outcomes. AreServed (IsToldJob shared.now) jobs.now
-        workers.old workers.new outcomes.items) }
-    ensures err { IfErr result (λ fault. fault ≡ faults.Memory) }
-{
-    let told = Told {
-        pooled: Pooled { shared },
-    };
-    serve_all(rt, alloc, &told, jobs, threads, &mut workers.list)
 }

@@ -3,7 +3,7 @@ ghost use Rattle.std.specs.Prelude.{◌≡◌, ◌≢◌, Ok, Some, IfOk};
 ghost use Rattle.bpf_model.specs.declared.event.Event.TheVariants.{Start, Step};
 ghost use Rattle.bpf_model.specs.declared.event.Answer.TheVariants.{Moved};
 ghost use Rattle.shared.specs.Receipts.{IsMachineAnswer};
-ghost use Rattle.worker_pool.specs.Trails.{IsLater, IsByWorker, WasStarted, IsOfWorker, FitsJob};
+ghost use Rattle.worker_pool.specs.Trails.{IsLater, IsByWorker, WasStarted, IsOfWorker, FitsJob, IsServedJob};
 
 use crate::job::{Job, JobReport, Outcome, StopCause, Trail};
 use crate::reply::{dropped, exited, has_moved, started};
@@ -57,6 +57,7 @@ fn finish_job<L: Ledger, R: Wait>(
 ) -> JobReport<Trail>
     requires started { WasStarted job.now run start }
     requires by { IsByWorker worker.old worker.old start }
+    ensures programs { held.new ≡ held.old }
     ensures later { IsLater worker.old worker.new }
     ensures by { IsOfWorker worker.old worker.new result.trail }
     ensures fits { FitsJob held.old job.now result.outcome result.trail }
@@ -97,6 +98,33 @@ fn finish_job<L: Ledger, R: Wait>(
     }
 }
 
+/// Starts the job's program on its context, steps the run to its exit, asks for the exit value of a run of this program
+/// and context, and drops the run, all under the lock that is held.
+pub(crate) fn serve_held<L: Ledger, R: Wait>(
+    rt: &R,
+    held: &mut Held<'_, L>,
+    worker: &mut Worker<L>,
+    job: &Job,
+) -> JobReport<Trail>
+    ensures programs { held.new ≡ held.old }
+    ensures later { IsLater worker.old worker.new }
+    ensures fits { IsServedJob held.old worker.old worker.new job.now result }
+{
+    let ctx = array_of(job.ctx.as_slice());
+    let event = Event::Start {
+        prog: job.prog,
+        ctx,
+    };
+    let start = held.act_noted(rt, worker, event);
+    match started(start.reply(), job) {
+        Ok(run) => finish_job(rt, held, worker, job, start, run),
+        Err(cause) => JobReport {
+            outcome: Outcome::Stopped { run: None, cause },
+            trail: Trail::Unstarted { start },
+        },
+    }
+}
+
 impl<L: Ledger + Send + Sync> Serve for Pooled<'_, L> {
     ghost use Rattle.worker_pool.specs.Trails.{IsLater, IsServedJob};
     ghost use Rattle.worker_pool.specs.TrailLemmas.{later_same, later_again, served_wider};
@@ -113,23 +141,10 @@ impl<L: Ledger + Send + Sync> Serve for Pooled<'_, L> {
 
     ghost fits = { λ s. IsServedJob s.shared.now };
 
-    /// Starts the job's program on its context, steps the run to its exit, asks for the exit value of a run of
-    /// this program and context, and drops the run. All of a job is done under the lock, which is taken once.
+    /// Serves one job. All of it is done under the lock, which is taken once.
     fn serve<R: Wait>(&self, rt: &R, worker: &mut Worker<L>, job: &Job) -> JobReport<Trail> {
-        let ctx = array_of(job.ctx.as_slice());
-        let event = Event::Start {
-            prog: job.prog,
-            ctx,
-        };
         let mut held = self.shared.hold(rt);
-        let start = held.act_noted(rt, worker, event);
-        match started(start.reply(), job) {
-            Ok(run) => finish_job(rt, &mut held, worker, job, start, run),
-            Err(cause) => JobReport {
-                outcome: Outcome::Stopped { run: None, cause },
-                trail: Trail::Unstarted { start },
-            },
-        }
+        serve_held(rt, &mut held, worker, job)
     }
 
     ghost later_same = { later_same };

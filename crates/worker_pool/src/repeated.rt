@@ -1,17 +1,16 @@
 //! One program, run many times over maps of its own.
-ghost use Rattle.std.specs.Prelude.{◌≡◌, ◌⊎◌, ◌≤◌, ◌<◌, ℕ, List, All, Err, length, IfErr, OnOk};
-ghost use Rattle.bpf_model.specs.declared.insn.Insn.{Insn};
+ghost use Rattle.std.specs.Prelude.{◌≡◌, ◌⊎◌, ◌≤◌, ◌<◌, Err, length, IfErr, OnOk};
 ghost use Rattle.bpf_model.specs.View.{AreNewMaps, shapes_of_maps};
 ghost use Rattle.job_queue.specs.declared.fault.PoolFault.TheVariants as faults;
 ghost use Rattle.job_queue.specs.Serving.{most_jobs, most_workers};
-ghost use Rattle.worker_pool.specs.Outcomes.{IsZeroJob, AreRunsOf};
+ghost use Rattle.worker_pool.specs.Batches.{HasWritten, HasWrittenPart};
 ghost use Rattle.worker_pool.specs.Runs.{IsLate, IsRunFaultOf, WritesJobs, WritesPart};
 
+use crate::batch::Batch;
 use crate::fault::RunFault;
 use crate::job::Job;
-use crate::lines::make_lines;
-use crate::pool::run_for_outcomes;
-use crate::zero_jobs::jobs_of;
+use crate::printing::Printing;
+use crate::zero_jobs::zero_job;
 use job_queue::{MAX_JOBS, MAX_WORKERS, PoolFault};
 use shared::{ProgramWithMaps, Shared, Workers};
 use std::alloc::Global;
@@ -22,38 +21,37 @@ use std::sync::ledger::{Blank, Ledger};
 use std::thread::Threads;
 
 /// How many jobs are served before their lines are written.
-const BLOCK: usize = 1_024;
+const BLOCK: usize = 4_096;
 
-/// Serves so many jobs by all workers, each in a thread of its own: these jobs again and again, as one block after
-/// another. The lines of a block are written as soon as it is served.
+/// Serves a job so many times by all workers, each in a thread of its own: one block of jobs after another. The lines of
+/// a block are written as soon as it is served.
 fn serve_blocks<L: Ledger + Send + Sync, R: Threads + Wait + Sync, W: Write>(
     rt: &R,
     alloc: Global,
-    jobs: &[Job],
+    job: &Job,
     count: usize,
     shared: &Shared<L>,
     workers: &mut Workers<L>,
     out: &mut W,
 ) -> Result<(), RunFault>
     requires workers { (0 < length workers.old) × (length workers.old ≤ most_workers) }
-    requires some { 0 < count → 0 < length jobs.now }
-    requires limit { (length jobs.now ≤ most_jobs) × (count ≤ most_jobs) }
+    requires limit { count ≤ most_jobs }
     ensures fault { IfErr result IsLate }
-    ensures written { (program : List Insn) (ctx_len : ℕ) →
-        AreRunsOf program ctx_len shared.now jobs.now
-        → OnOk result (WritesJobs program ctx_len count (W.contents out.old) (W.contents out.new)) }
-    ensures part { (program : List Insn) (ctx_len : ℕ) →
-        AreRunsOf program ctx_len shared.now jobs.now
-        → IfErr result (WritesPart program ctx_len count (W.contents out.old) (W.contents out.new)) }
+    ensures written { OnOk result (HasWritten shared.now job.now count
+        (W.contents out.old) (W.contents out.new)) }
+    ensures part { IfErr result (HasWrittenPart shared.now job.now count
+        (W.contents out.old) (W.contents out.new)) }
 {
+    let printing = Printing { alloc, shared, job };
     let threads = workers.list.len();
-    let mut text = Vec::new(alloc);
     let mut first = 0;
     while first < count {
-        let some = jobs.len().min(count - first);
-        let outcomes = run_for_outcomes(rt, alloc, &jobs[..some], threads, shared, workers)?;
-        make_lines(&mut text, first, &outcomes)?;
-        out.write_all(&text)?;
+        let some = BLOCK.min(count - first);
+        let Ok(batches) = Batch::all_of(alloc, first, some) else {
+            return Err(RunFault::Pool(PoolFault::Memory));
+        };
+        let texts = printing.serve_batches(rt, &batches, threads, workers)?;
+        printing.write_texts(&batches, &texts, out)?;
         out.flush()?;
         first += some;
     }
@@ -82,14 +80,12 @@ fn run_shared<L: Ledger + Send + Sync, R: Threads + Wait + Sync, W: Write>(
     ensures part { IfErr result (WritesPart program.verified.program program.verified.ctx_len count
         (W.contents out.old) (W.contents out.new)) }
 {
-    let Ok(jobs) = jobs_of(alloc, count.min(BLOCK), program.verified.ctx_len()) else {
-        return Err(RunFault::Pool(PoolFault::Memory));
-    };
+    let job = zero_job(program.verified.ctx_len());
     let shared = Shared::<L>::of_program(alloc, program, workers, blank);
     let Ok((shared, mut all_workers)) = shared else {
         return Err(RunFault::Pool(PoolFault::Memory));
     };
-    serve_blocks(rt, alloc, &jobs, count, &shared, &mut all_workers, out)?;
+    serve_blocks(rt, alloc, &job, count, &shared, &mut all_workers, out)?;
     let finished = shared.finish(all_workers);
     Ok(finished.journal.len())
 }
@@ -107,7 +103,8 @@ fn run_shared<L: Ledger + Send + Sync, R: Threads + Wait + Sync, W: Write>(
 ///
 /// The lines of some first jobs are written where memory runs out.
 ///
-/// All of a job is done under the lock, which is taken once. That it returns is not claimed: each job waits for the lock.
+/// A worker serves up to 64 jobs each time that it has the lock, and makes their lines without it. That it returns is
+/// not claimed: workers wait for the lock.
 pub fn run_program<R: Threads + Wait + Sync, W: Write>(
     rt: &R,
     alloc: Global,

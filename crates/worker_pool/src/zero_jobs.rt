@@ -1,11 +1,10 @@
-//! Jobs that are all alike.
-ghost use Rattle.std.specs.Prelude.{◌≡◌, ◌≤◌, length, IfOk, All, replicate};
+//! The job that a pool serves again and again.
+ghost use Rattle.std.specs.Prelude.{◌≡◌, ◌≤◌, replicate};
 ghost use Rattle.bpf_model.specs.declared.limits.TheConstants.{CTX_BYTES};
 ghost use Rattle.worker_pool.specs.Outcomes.{IsZeroJob};
 
 use crate::job::Job;
 use bpf_model::{CtxBytes, ProgId};
-use std::alloc::{AllocError, Global};
 
 /// A context of so many bytes, all zero.
 fn zeros(count: usize) -> CtxBytes
@@ -19,18 +18,13 @@ fn zeros(count: usize) -> CtxBytes
     bytes
 }
 
-/// So many jobs of program 0, each on a context of so many bytes, all zero. Fails where memory runs out.
-pub fn jobs_of(alloc: Global, count: usize, ctx_len: usize) -> Result<Vec<Job>, AllocError>
+/// A job of program 0 on a context of so many bytes, all zero.
+pub(crate) fn zero_job(ctx_len: usize) -> Job
     requires { ctx_len ≤ CTX_BYTES }
-    ensures count { IfOk result (λ jobs. length jobs.items ≡ count) }
-    ensures each { IfOk result (λ jobs. All (IsZeroJob ctx_len) jobs.items) }
+    ensures { IsZeroJob ctx_len result }
 {
-    let mut jobs = Vec::new(alloc);
-    for _ in 0..count {
-        jobs.push(Job {
-            prog: ProgId::new(0),
-            ctx: zeros(ctx_len),
-        })?;
+    Job {
+        prog: ProgId::new(0),
+        ctx: zeros(ctx_len),
     }
-    Ok(jobs)
 }

@@ -1,0 +1,43 @@
+-- Many jobs that are all alike, some of them at a time.
+use Rattle.std.specs.Prelude.{◌≡◌, ℕ, ◌+◌, List, [], ◌∷◌, length, All, Option}
+use Rattle.bpf_model.specs.declared.insn.Insn.{Insn}
+use Rattle.verifier.specs.Checked.{Checked}
+use Rattle.worker_pool.specs.declared.batch.Batch.{Batch}
+use Rattle.worker_pool.specs.declared.job.Job.{Job}
+use Rattle.worker_pool.specs.declared.job.Outcome.{Outcome}
+use Rattle.worker_pool.specs.Lines.{job_lines}
+use Rattle.worker_pool.specs.Outcomes.{AreRunsOf, IsOutcomeOf}
+use Rattle.worker_pool.specs.Runs.{WritesJobs, WritesPart}
+use Rattle.worker_pool.specs.declared.fault.RunFault.{RunFault}
+
+-- the jobs from one number up to another, one batch behind another
+abbrev pub AreBatches : ℕ → List Batch → ℕ → Type 0
+AreBatches first [] end = first ≡ end
+AreBatches first (batch ∷ batches) end =
+    (batch.first ≡ first) × AreBatches (first + batch.count) batches end
+
+-- The outcomes are those of so many runs of a program, where the job is one of it.
+abbrev pub AreOutcomes : List Checked → Job → ℕ → List Outcome → Type 0
+AreOutcomes programs job count outcomes =
+    (length outcomes ≡ count)
+    × ((program : List Insn) (context_len : ℕ) → AreRunsOf program context_len programs (job ∷ []) →
+    All (IsOutcomeOf program context_len) outcomes)
+
+-- The text is the lines of the outcomes of a batch.
+pub record IsPrinted (programs : List Checked) (job : Job) (batch : Batch) (text : List ℕ) : Type 0 where
+  pub outcomes : List Outcome
+  pub are : AreOutcomes programs job batch.count outcomes
+  pub lines : text ≡ job_lines batch.first outcomes
+
+-- The output has gained the lines of so many runs of a program, where the job is one of it.
+abbrev pub HasWritten : List Checked → Job → ℕ → Option (List ℕ) → Option (List ℕ) → Type 0
+HasWritten programs job count old new =
+    (program : List Insn) (context_len : ℕ) → AreRunsOf program context_len programs (job ∷ []) →
+    WritesJobs program context_len count old new
+
+-- Where the pool fails, it has gained the lines of some first ones of so many.
+abbrev pub HasWrittenPart : List Checked → Job → ℕ → Option (List ℕ) → Option (List ℕ) → RunFault →
+    Type 0
+HasWrittenPart programs job count old new fault =
+    (program : List Insn) (context_len : ℕ) → AreRunsOf program context_len programs (job ∷ []) →
+    WritesPart program context_len count old new fault
