@@ -11,6 +11,7 @@ use Rattle.bpf_model.specs.declared.opcode.Condition.TheVariants.{Equal, NotEqua
 use Rattle.bpf_model.specs.declared.opcode.Size.{Size}
 use Rattle.bpf_model.specs.declared.opcode.Size.TheVariants.{Word64}
 use Rattle.bpf_model.specs.declared.value.Value.TheVariants.{Number}
+use Rattle.model_laws.specs.Plain.{Names}
 use Rattle.bpf_model.specs.Arithmetic.{compares, immediate}
 use Rattle.bpf_model.specs.Value.{◌>>=◌, number}
 use Rattle.bpf_model.specs.Operand.{operand_value, decided}
@@ -19,7 +20,7 @@ use Rattle.scalar_domain.specs.declared.scalar.Scalar.{Scalar}
 use Rattle.scalar_domain.specs.Scalar.{Holds}
 use Rattle.plan_laws.specs.Kinds.{Num, ValueAt, AbsState}
 use Rattle.plan_laws.specs.Describes.{Scene, Describes}
-use Rattle.plan_laws.specs.Effects.{with_kind}
+use Rattle.plan_laws.specs.Effects.{with_kind, HasNumber}
 use Rattle.plan_laws.specs.Verified.{JumpsToSlot, ActsAlone, Transfers}
 use Rattle.plan_laws.specs.Planned.{AreAlike}
 use Rattle.plan_laws.proofs.Sets.{placed-described}
@@ -201,3 +202,22 @@ edge_known size condition taken dst src p q left right a b e f floor sides x y g
       sides = sides;
       floor = subst (λ x. KeepsEdgeFloor size condition taken x y left right) u (subst (λ y. KeepsEdgeFloor size condition taken p y left right) v floor);
     }
+
+-- the sides of a comparison that stay as they are
+pub sides_stay : (dst : ℕ) (src : Operand) (x y : Scalar) (a : AbsState) → a.regs dst ≡ Num x → operand_kind src a ≡ Num y →
+    SetsSides dst src x y a
+sides_stay dst (Register s) x y a e f = record { first = e; second = λ r names n. ap a.regs names ∙ f }
+sides_stay dst (Immediate imm) x y a e f = record { first = e; second = λ r names n. absurd names }
+
+pub narrowed_none : (dst : ℕ) (src : Operand) (x y : Scalar) (a : AbsState) → a.regs dst ≡ Num x → operand_kind src a ≡ Num y →
+    AreNarrowed dst src a a
+narrowed_none dst src x y a e f = record {
+  sides = λ r p. elim p [ inl q ↦ (x, ap a.regs q ∙ e) | inr q ↦ named src f r q ];
+  others = λ r n. refl;
+  cells = λ k. refl;
+  depth = refl;
+}
+  where
+    named : (o : Operand) → operand_kind o a ≡ Num y → (r : ℕ) → Names o r → HasNumber a r
+    named (Register s) g r q = (y, ap a.regs q ∙ g)
+    named (Immediate imm) g r q = absurd q

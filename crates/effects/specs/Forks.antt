@@ -11,6 +11,13 @@ use Rattle.bpf_model.specs.declared.opcode.Size.TheVariants.{Word64}
 use Rattle.plan_laws.specs.Verified.{Transfers}
 use Rattle.register_kinds.specs.declared.state.AbsState.{AbsState}
 use Rattle.register_kinds.specs.States.{state_of}
+use Rattle.effects.specs.declared.forks.Taken.{Taken}
+use Rattle.effects.specs.declared.forks.Taken.TheVariants.{Same, Apart}
+
+-- the state where a conditional jump is taken, by that where control falls through
+abbrev pub taken_from : AbsState → Taken → AbsState
+taken_from next Same = next
+taken_from next (Apart b) = b.value
 
 -- From each run that the old state describes the conditional jump has a step where it has its
 -- target, and each leads to one that the new state describes, or the other where it jumps.

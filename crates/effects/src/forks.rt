@@ -3,10 +3,11 @@ ghost use Rattle.std.specs.Prelude.{◌≡◌, ℕ, ◌<◌, IfOk, IsOk, OnOk, O
 ghost use Rattle.std.specs.Prelude.{IsOkUnless};
 ghost use Rattle.plan_laws.specs.Kinds as model;
 ghost use Rattle.plan_laws.specs.Effects.{IsNumberOperand, HasNumber};
+ghost use Rattle.register_kinds.specs.declared.state.AbsState.{AbsState as StateHere};
 ghost use Rattle.register_kinds.specs.States.{kind_in, state_of};
 ghost use Rattle.register_kinds.specs.Pairs.{AreBelow};
 ghost use Rattle.effects.specs.Computes.{HasValue};
-ghost use Rattle.effects.specs.Forks.{Forks, ForksOnNull};
+ghost use Rattle.effects.specs.Forks.{Forks, ForksOnNull, taken_from};
 ghost use Rattle.effects.specs.Narrowing.{ComparesNumbers, Narrows, AreNarrowed, SetsSides, NarrowsKnown};
 ghost use Rattle.effects.specs.Floor.{operand_kind};
 
@@ -14,7 +15,15 @@ use crate::kinds::operand;
 use bpf_model::{Condition, Operand, Reg, Size};
 use register_kinds::{AbsState, Boxes, InsnFault, RegKind, held};
 use scalar_domain::Scalar;
-use std::alloc::AllocError;
+
+/// What is known where a conditional jump is taken.
+#[derive(Drop)]
+pub enum Taken {
+    /// What is known where control falls through: the comparison tells nothing.
+    Same,
+    /// This state.
+    Apart(Box<AbsState>),
+}
 
 /// The numbers of two kinds that are compared. Errors: `MaybeNull`, then `PointerArithmetic`, where one is of
 /// no numbers.
@@ -59,7 +68,7 @@ fn narrow(state: &mut AbsState, dst: Reg, src: &Operand, x: Scalar, y: Scalar)
 }
 
 /// Both edges of a comparison of numbers: the state itself becomes that where control falls
-/// through, the answer is that where it jumps.
+/// through, the answer says what is known where it jumps.
 ///
 /// Errors, in this order; the state is then as it was.
 /// - `UnwrittenRegister`, `OutsideSection`, `MixedRegions`: a register that it reads is so, the
@@ -73,45 +82,45 @@ pub fn fork(
     size: Size,
     dst: Reg,
     src: &Operand,
-) -> Result<Box<AbsState>, InsnFault>
+) -> Result<Taken, InsnFault>
     ensures sound { IfOk result (λ taken.
-        Forks condition size dst src.now state.old state.new taken.value) }
+        Forks condition size dst src.now state.old state.new (taken_from state.new taken)) }
     ensures compares { OnOk result (ComparesNumbers (state_of state.old) dst src.now) }
 
     // On either edge both sides are as narrow as the scalar domain promises.
     ensures floor { OnOk result (NarrowsKnown size condition false dst src.now
         (state_of state.old) (state_of state.new)) }
     ensures taken_floor { IfOk result (λ taken. NarrowsKnown size condition true dst src.now
-        (state_of state.old) (state_of taken.value)) }
+        (state_of state.old) (state_of (taken_from state.new taken))) }
 
     ensures narrowed { OnOk result
         (AreNarrowed dst src.now (state_of state.old) (state_of state.new)) }
     ensures taken_narrowed { IfOk result (λ taken.
-        AreNarrowed dst src.now (state_of state.old) (state_of taken.value)) }
+        AreNarrowed dst src.now (state_of state.old) (state_of (taken_from state.new taken))) }
     ensures accepts { HasNumber (state_of state.old) dst
         → IsNumberOperand (state_of state.old) src.now → IsOkUnless result InsnFault.Memory }
     ensures below { (top : ℕ) → AreBelow top state.old → AreBelow top state.new }
     ensures taken_below { IfOk result (λ taken. (top : ℕ)
-        → AreBelow top state.old → AreBelow top taken.value) }
+        → AreBelow top state.old → AreBelow top (taken_from state.new taken)) }
     ensures unchanged { OnErr result (state.new ≡ state.old) }
 {
     let (x, y) = sides(state, dst, src)?;
-    let mut taken = state.copy(boxes)?;
+    if let (Some(_), Some(_)) = (x.as_constant(), y.as_constant()) {
+        Scalar::constants_stay();
+        return Ok(Taken::Same);
+    }
     let edges = Scalar::refine(size, condition, x, y);
+    let mut taken = state.copy(boxes)?;
     let (p, q) = edges.taken;
     narrow(&mut taken, dst, src, p, q);
     let (p, q) = edges.not_taken;
     narrow(state, dst, src, p, q);
-    Ok(taken)
+    Ok(Taken::Apart(taken))
 }
 
-/// Both edges of a comparison with the number 0 of a reference to an element's value, which is never
-/// null: nothing is learnt. Fails where memory runs out.
-pub fn fork_value(state: &AbsState, boxes: &mut Boxes) -> Result<Box<AbsState>, AllocError>
-    ensures sound { IfOk result (λ taken. (equal : Bool) (dst map : ℕ) (s : Scalar)
-        → kind_in state.now.regs dst ≡ RegKind.Value map s
-        → ForksOnNull equal dst state.now state.now taken.value) }
-    ensures same { IfOk result (λ taken. taken.value ≡ state.now) }
-{
-    state.copy(boxes)
-}
+/// A test for null of a reference to an element's value, which is never null, leaves all that is known as
+/// it is on both edges.
+pub fn value_forks()
+    ensures { (equal : Bool) (dst map : ℕ) (s : Scalar) (a : StateHere)
+        → kind_in a.regs dst ≡ RegKind.Value map s → ForksOnNull equal dst a a a }
+{}

@@ -29,7 +29,7 @@ pub use arithmetic::{alu, load_map, load_number, unary};
 pub use calls::call;
 pub use environment::EnvironmentShape;
 pub use exits::{exit, jump_long_transfers, jump_transfers};
-pub use forks::{fork, fork_value};
+pub use forks::{Taken, fork, value_forks};
 pub use loads::{load, load_signed};
 pub use nulls::fork_null;
 pub use region::{Address, Region};

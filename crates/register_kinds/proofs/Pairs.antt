@@ -150,16 +150,6 @@ kinds_more top i pairs pairs' xs old others k l x done here = below_more _ i
     (sym (get_or-set_other xs i r k kinds.Unwritten ne)) (kind_later top pairs pairs' x _ _ _ (done r h)))
     (subst (λ y. JoinsKind top pairs' (kind_at old i) (kind_at others i) (kind_of y)) (sym (get_or-set_same xs i k kinds.Unwritten l)) here)
 
--- with one more that is the same on both sides
-pub kinds_same : (top i : ℕ) (pairs : List (ℕ × ℕ)) (xs old others : List RegKind) → IsBelow top (kind_at old i) → kind_in xs i ≡ kind_in old i
-    → kind_in others i ≡ kind_in old i
-    → ((r : ℕ) → r < i → JoinsKind top pairs (kind_at old r) (kind_at others r) (kind_at xs r)) → (r : ℕ) → r < i + 1
-    → JoinsKind top pairs (kind_at old r) (kind_at others r) (kind_at xs r)
-kinds_same top i pairs xs old others b e f done = below_more _ i done
-    (subst (λ y. JoinsKind top pairs (kind_at old i) (kind_of y) (kind_at xs i)) (sym f)
-    (subst (λ y. JoinsKind top pairs (kind_at old i) (kind_at old i) (kind_of y)) (sym e)
-    (joins_same top pairs (kind_at old i) b)))
-
 pub kinds_all : (top : ℕ) (pairs : List (ℕ × ℕ)) (old others xs : List RegKind) → length xs ≡ length others → length old ≡ length others
     → ((r : ℕ) → r < length others → JoinsKind top pairs (kind_at old r) (kind_at others r) (kind_at xs r)) → (r : ℕ)
     → JoinsKind top pairs (kind_at old r) (kind_at others r) (kind_at xs r)

@@ -9,8 +9,24 @@ ghost use Rattle.register_kinds.specs.JoinTable.{PairsGrow, IsTable, JoinsKind};
 use crate::identities::{Pairs, join_identities};
 use crate::kind::{CellKind, RegKind};
 
+/// A kind becomes that of what is of either kind.
+#[inline(never)]
+fn join_kind(pairs: &mut Pairs, top: u32, kind: &mut RegKind, other: &RegKind)
+    requires room { top + MAX_PAIRS < 2 ^ 32 }
+    requires few { length pairs.old.items < MAX_PAIRS }
+    requires table { IsTable pairs.old.items }
+    requires below { IsBelow top (kind_of kind.old) × IsBelow top (kind_of other.now) }
+    ensures joins { JoinsKind top pairs.new.items (kind_of kind.old) (kind_of other.now)
+        (kind_of kind.new) }
+    ensures table { IsTable pairs.new.items }
+    ensures grows { PairsGrow pairs.old.items pairs.new.items }
+    ensures few { length pairs.new.items ≤ length pairs.old.items + 1 }
+{
+    *kind = joined_kind(pairs, top, *kind, *other);
+}
+
 /// The kind of what is of either kind.
-fn join_kind(pairs: &mut Pairs, top: u32, a: RegKind, b: RegKind) -> RegKind
+fn joined_kind(pairs: &mut Pairs, top: u32, a: RegKind, b: RegKind) -> RegKind
     requires room { top + MAX_PAIRS < 2 ^ 32 }
     requires few { length pairs.old.items < MAX_PAIRS }
     requires table { IsTable pairs.old.items }
@@ -45,7 +61,30 @@ fn join_kind(pairs: &mut Pairs, top: u32, a: RegKind, b: RegKind) -> RegKind
     }
 }
 
+/// A kind becomes that of what is of either kind, with no call where both are the same, or numbers.
+#[inline(always)]
+fn join_into(pairs: &mut Pairs, top: u32, kind: &mut RegKind, other: &RegKind)
+    requires room { top + MAX_PAIRS < 2 ^ 32 }
+    requires few { length pairs.old.items < MAX_PAIRS }
+    requires table { IsTable pairs.old.items }
+    requires below { IsBelow top (kind_of kind.old) × IsBelow top (kind_of other.now) }
+    ensures joins { JoinsKind top pairs.new.items (kind_of kind.old) (kind_of other.now)
+        (kind_of kind.new) }
+    ensures table { IsTable pairs.new.items }
+    ensures grows { PairsGrow pairs.old.items pairs.new.items }
+    ensures few { length pairs.new.items ≤ length pairs.old.items + 1 }
+{
+    if kind.is_same(other) {
+        return;
+    }
+    match (&*kind, other) {
+        (RegKind::Num(s), RegKind::Num(t)) => *kind = RegKind::Num(s.join(*t)),
+        _ => join_kind(pairs, top, kind, other),
+    }
+}
+
 /// Each kind becomes that of what is of either kind; those before index `from` are unwritten.
+#[inline(always)]
 pub(crate) fn join_kinds(
     pairs: &mut Pairs,
     top: u32,
@@ -69,9 +108,7 @@ pub(crate) fn join_kinds(
     ensures few { length pairs.new.items ≤ length pairs.old.items + length others.now }
 {
     for i in from..others.len() {
-        if !kinds[i].is_same(&others[i]) {
-            kinds[i] = join_kind(pairs, top, kinds[i], others[i]);
-        }
+        join_into(pairs, top, &mut kinds[i], &others[i]);
     }
 }
 

@@ -33,17 +33,32 @@ fn has(cells: &[CellKind], at: usize, width: usize, class: CellKind) -> bool
 }
 
 /// Whether all bytes of an access are of this class.
+#[inline(always)]
 fn are_all(cells: &[CellKind], at: usize, width: usize, class: CellKind) -> bool
     requires { at + width ≤ length cells.now }
     ensures all { IsTrue result → AreAll cells.now at width class }
     ensures other { IsFalse result → AreAll cells.now at width class → ⊥ }
 {
+    let mut all = true;
     for i in at..at + width {
-        if cells[i] != class {
-            return false;
-        }
+        all &= cells[i] == class;
     }
-    true
+    all
+}
+
+/// Whether all bytes of an access are bytes of a number.
+#[inline(always)]
+fn are_numbers(cells: &[CellKind], at: usize, width: usize) -> bool
+    requires { at + width ≤ length cells.now }
+    ensures all { IsTrue result → AreAll cells.now at width CellKind.Byte }
+    ensures other { IsFalse result → AreAll cells.now at width CellKind.Byte → ⊥ }
+{
+    // Eight bytes are one comparison, where their number is known.
+    if width == 8 {
+        are_all(cells, at, 8, CellKind::Byte)
+    } else {
+        are_all(cells, at, width, CellKind::Byte)
+    }
 }
 
 /// Each byte of an access is a byte of a number or part of a reference.
@@ -93,7 +108,7 @@ pub fn read_frame(frame: &FrameCells, at: usize, width: usize) -> Result<Content
         × AreAll frame.now.cells at width CellKind.Part) }
     ensures accepts { AreAll frame.now.cells at width CellKind.Byte → result ≡ Ok Content.Number }
 {
-    if are_all(&frame.cells, at, width, CellKind::Byte) {
+    if are_numbers(&frame.cells, at, width) {
         return Ok(Content::Number);
     }
     check_written(&frame.cells, at, width)?;

@@ -1,5 +1,5 @@
 //! What a conditional jump tells.
-ghost use Rattle.std.specs.Prelude.{◌≡◌, ◌≢◌, ℕ, ◌%◌, ◌<◌, ◌≤◌, ◌⊎◌, ◌^◌, IfSome, IsSome, IsSomeAnd, true, false};
+ghost use Rattle.std.specs.Prelude.{◌≡◌, ◌≢◌, ℕ, ◌%◌, ◌<◌, ◌≤◌, ◌⊎◌, ◌^◌, IfSome, IsSome, IsSomeAnd, Bool, true, false};
 ghost use Rattle.std.specs.Int.{w32, w64};
 ghost use Rattle.bpf_model.specs.Arithmetic.{compares, holds};
 ghost use Rattle.bpf_model.specs.declared.opcode.Size.TheVariants.{Word64};
@@ -56,6 +56,13 @@ impl Scalar {
             },
         }
     }
+
+    /// Two constants stay as they are on the edges of a conditional jump, and are then as narrow as `refine`
+    /// promises.
+    pub fn constants_stay()
+        ensures { (size : Size) (condition : Condition) (taken : Bool) (a b : Scalar) (k l : ℕ)
+            → IsConstant a k → IsConstant b l → KeepsEdgeFloor size condition taken a b a b }
+    {}
 
     /// The numbers between two bounds, where any are left.
     fn clip(self, least: u64, greatest: u64) -> Option<Scalar>

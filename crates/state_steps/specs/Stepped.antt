@@ -69,8 +69,8 @@ pub record IsTransfer (i : Insn) (shapes : List MapShape) (ctx_len : ℕ) (old n
 -- an instruction that is not refused
 pub record IsDone (i : Insn) (shapes : List MapShape) (ctx_len top : ℕ) (old new : AbsState)
     (flow : Flow) : Type 0 where
-  pub transfer : IsTransfer i shapes ctx_len old new (taken_state flow) flow.region
-  pub taken_below : IfSome (taken_state flow) (AreBelow top)
+  pub transfer : IsTransfer i shapes ctx_len old new (taken_state new flow) flow.region
+  pub taken_below : IfSome (taken_state new flow) (AreBelow top)
 
 -- The instruction is done, or refused.
 pub record Stepped (i : Insn) (shapes : List MapShape) (ctx_len top : ℕ) (old new : AbsState)

@@ -1,5 +1,5 @@
 -- What the pass over a program asks of the step of an instruction.
-use Rattle.std.specs.Prelude.{◌≡◌, ◌≢◌, ℕ, Option, Some, None, Result, true, ◌⊎◌, ℤ, pos, Box}
+use Rattle.std.specs.Prelude.{◌≡◌, ◌≢◌, ℕ, Option, Some, None, Result, true, ◌⊎◌, ℤ, pos}
 use Rattle.std.specs.Prelude.{IsOkUnless}
 use Rattle.std.specs.Prelude.{option_map}
 use Rattle.bpf_model.specs.declared.value.Value.{Value}
@@ -20,6 +20,7 @@ use Rattle.plan_laws.specs.Describes.{Scene, IsHeld}
 use Rattle.register_kinds.specs.declared.state.AbsState.{AbsState}
 use Rattle.register_kinds.specs.declared.fault.InsnFault.{InsnFault}
 use Rattle.register_kinds.specs.declared.fault.InsnFault.TheVariants.{Memory}
+use Rattle.effects.specs.Forks.{taken_from}
 use Rattle.effects.specs.declared.region.Region.{Region}
 use Rattle.effects.specs.declared.region.Region.TheVariants as regions
 use Rattle.state_steps.specs.declared.flow.Flow.{Flow}
@@ -28,13 +29,9 @@ use Rattle.state_steps.specs.declared.flow.Flow.{Flow}
 abbrev pub IsBranch : Insn → Type 0
 IsBranch i = (falls i ≡ true) × (distance i ≢ None)
 
--- the state in a box
-abbrev pub unboxed : {Z : Type 0} → Option (Box AbsState Z) → Option AbsState
-unboxed o = option_map (λ b. b.value) o
-
--- the state where a conditional jump is taken
-abbrev pub taken_state : Flow → Option AbsState
-taken_state f = unboxed f.taken
+-- the state where a conditional jump is taken, by that where control falls through
+abbrev pub taken_state : AbsState → Flow → Option AbsState
+taken_state next f = option_map (taken_from next) f.taken
 
 -- the register through which a memory instruction reaches memory
 abbrev pub base_of : Insn → Option ℕ

@@ -7,7 +7,7 @@ ghost use Rattle.register_kinds.specs.declared.state.AbsState.{AbsState as State
 ghost use Rattle.register_kinds.specs.Pairs.{AreBelow, TakesFew};
 ghost use Rattle.register_kinds.specs.States.{state_of};
 ghost use Rattle.effects.specs.Calls.{Splits};
-ghost use Rattle.effects.specs.Forks.{Forks};
+ghost use Rattle.effects.specs.Forks.{Forks, taken_from};
 ghost use Rattle.effects.specs.Narrowing.{AreNarrowed, NarrowsKnown};
 ghost use Rattle.state_steps.specs.Floor.{KeepsNumbers};
 ghost use Rattle.state_steps.specs.Stepped.{Stepped, ComparesWell, IsEqualToNull};
@@ -15,8 +15,8 @@ ghost use Rattle.state_steps.specs.Stepped.{Stepped, ComparesWell, IsEqualToNull
 use crate::flow::{Flow, single};
 use bpf_model::{CallKind, Condition, Insn, Operand, Reg, Size};
 use effects::{
-    EnvironmentShape, Region, call, exit, fork, fork_null, fork_value, jump_long_transfers,
-    jump_transfers,
+    EnvironmentShape, Region, Taken, call, exit, fork, fork_null, jump_long_transfers,
+    jump_transfers, value_forks,
 };
 use register_kinds::{AbsState, Boxes, Identities, InsnFault, RegKind};
 
@@ -38,19 +38,19 @@ pub(crate) fn jump_long_step() -> Flow
     single(Region::None)
 }
 
-/// Whether a comparison of what may be null is a test for null, and then whether it jumps where
-/// that is null.
-fn null_test(condition: Condition, size: Size, src: &Operand) -> Option<bool>
+/// Whether a comparison of what is no number is a test for null, and then whether it jumps where that is null.
+fn null_test(kind: &RegKind, condition: Condition, size: Size, src: &Operand) -> Option<bool>
     ensures condition { IfSome result (λ equal. condition
         ≡ (if equal then Condition.Equal else Condition.NotEqual)) }
     ensures size { IfSome result (λ equal. size ≡ Size.Word64) }
     ensures number { IfSome result (λ equal. src.now ≡ Operand.Immediate (pos 0)) }
-    ensures equal { condition ≡ Condition.Equal → size ≡ Size.Word64
-        → src.now ≡ Operand.Immediate (pos 0) → result ≡ Some true }
+    ensures equal { (map id : ℕ) → kind.now ≡ RegKind.MaybeNull map id → condition ≡ Condition.Equal
+        → size ≡ Size.Word64 → src.now ≡ Operand.Immediate (pos 0) → result ≡ Some true }
 {
-    match (condition, size, src) {
-        (Condition::Equal, Size::Word64, Operand::Immediate(imm)) if *imm == 0 => Some(true),
-        (Condition::NotEqual, Size::Word64, Operand::Immediate(imm)) if *imm == 0 => Some(false),
+    match (kind, condition, size, src) {
+        (RegKind::Num(_), _, _, _) => None,
+        (_, Condition::Equal, Size::Word64, Operand::Immediate(imm)) if *imm == 0 => Some(true),
+        (_, Condition::NotEqual, Size::Word64, Operand::Immediate(imm)) if *imm == 0 => Some(false),
         _ => None,
     }
 }
@@ -64,40 +64,46 @@ fn branch(
     size: Size,
     dst: Reg,
     src: &Operand,
-) -> Result<Box<AbsState>, InsnFault>
+) -> Result<Taken, InsnFault>
     ensures sound { IfOk result (λ taken.
-        Forks condition size dst src.now state.old state.new taken.value) }
+        Forks condition size dst src.now state.old state.new (taken_from state.new taken)) }
     ensures compares { OnOk result (ComparesWell condition size dst src.now (state_of state.old)) }
     ensures floor { OnOk result (NarrowsKnown size condition false dst src.now
         (state_of state.old) (state_of state.new)) }
     ensures taken_floor { IfOk result (λ taken. NarrowsKnown size condition true dst src.now
-        (state_of state.old) (state_of taken.value)) }
+        (state_of state.old) (state_of (taken_from state.new taken))) }
     ensures others { OnOk result ((offset : ℤ)
         → KeepsNumbers (Insn.JumpIf condition size dst src.now offset)
         (state_of state.old) (state_of state.new)) }
     ensures others_taken { IfOk result (λ taken. (offset : ℤ)
         → KeepsNumbers (Insn.JumpIf condition size dst src.now offset)
-        (state_of state.old) (state_of taken.value)) }
+        (state_of state.old) (state_of (taken_from state.new taken))) }
     ensures below { (top : ℕ) → AreBelow top state.old → AreBelow top state.new }
     ensures taken_below { IfOk result (λ taken. (top : ℕ)
-        → AreBelow top state.old → AreBelow top taken.value) }
+        → AreBelow top state.old → AreBelow top (taken_from state.new taken)) }
     ensures narrowed { OnOk result (HasNumber (state_of state.old) dst
         → AreNarrowed dst src.now (state_of state.old) (state_of state.new)) }
     ensures taken_narrowed { IfOk result (λ taken. HasNumber (state_of state.old) dst
-        → AreNarrowed dst src.now (state_of state.old) (state_of taken.value)) }
+        → AreNarrowed dst src.now (state_of state.old) (state_of (taken_from state.new taken))) }
     ensures accepts { HasNumber (state_of state.old) dst
         → IsNumberOperand (state_of state.old) src.now → IsOkUnless result InsnFault.Memory }
     ensures splits { IfOk result (λ taken. (map id : ℕ)
         → IsEqualToNull condition size dst src.now map id state.old
-        → Splits id state.old taken.value state.new) }
+        → Splits id state.old (taken_from state.new taken) state.new) }
     ensures accepts_null { (map id : ℕ)
         → IsEqualToNull condition size dst src.now map id state.old
         → IsOkUnless result InsnFault.Memory }
     ensures unchanged { OnErr result (state.new ≡ state.old) }
 {
-    match (null_test(condition, size, src), state.kind(dst)) {
-        (Some(equal), RegKind::MaybeNull { id, .. }) => Ok(fork_null(state, boxes, equal, id)?),
-        (Some(_), RegKind::Value { .. }) => Ok(fork_value(state, boxes)?),
+    let kind = state.kind(dst);
+    match (null_test(&kind, condition, size, src), kind) {
+        (Some(equal), RegKind::MaybeNull { id, .. }) => {
+            Ok(Taken::Apart(fork_null(state, boxes, equal, id)?))
+        }
+        (Some(_), RegKind::Value { .. }) => {
+            value_forks();
+            Ok(Taken::Same)
+        }
         _ => fork(state, boxes, condition, size, dst, src),
     }
 }

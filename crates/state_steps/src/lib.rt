@@ -7,6 +7,6 @@ mod control;
 mod flow;
 mod step;
 
-pub use effects::{EnvironmentShape, Region};
+pub use effects::{EnvironmentShape, Region, Taken};
 pub use flow::Flow;
 pub use step::transfer;

@@ -51,7 +51,7 @@ pub fn transfer(
     // From each described run where a jump has its target the instruction has a step, and each
     // leads to one that is described.
     ensures sound { IfOk result (λ f. Transfers insn.now shape.now.shapes.now shape.now.ctx_len
-        (state_of state.old) (state_of state.new) (option_map state_of (taken_state f))) }
+        (state_of state.old) (state_of state.new) (option_map state_of (taken_state state.new f))) }
     ensures branches { IfOk result (λ f. IsBranch insn.now → IsSome f.taken) }
 
     // What the register holds by which it reaches memory, and those that it compares.
@@ -66,19 +66,19 @@ pub fn transfer(
 
     // The identities that are taken.
     ensures below { AreBelow ids.new.next state.new }
-    ensures taken_below { IfOk result (λ f. IfSome (taken_state f) (AreBelow ids.new.next)) }
+    ensures taken_below { IfOk result (λ f. IfSome (taken_state state.new f) (AreBelow ids.new.next)) }
     ensures few { TakesFew 1 ids.old.next ids.new.next }
     ensures unchanged { OnErr result (state.new ≡ state.old) }
 
     // Of the number that is written, and of both sides of a comparison, as much is known as the
     // scalar domain promises.
     ensures floor { IfOk result (λ f. KeepsInsnFloor insn.now (state_of state.old)
-        (state_of state.new) (option_map state_of (taken_state f))) }
+        (state_of state.new) (option_map state_of (taken_state state.new f))) }
 
     // Numbers in registers that the instruction leaves alone stay as they are.
     ensures others { OnOk result (KeepsNumbers insn.now (state_of state.old)
         (state_of state.new)) }
-    ensures others_taken { IfOk result (λ f. IfSome (taken_state f)
+    ensures others_taken { IfOk result (λ f. IfSome (taken_state state.new f)
         (λ t. KeepsNumbers insn.now (state_of state.old) (state_of t))) }
 
     // An instruction that is ready is not refused but for want of memory, and what is known stays
@@ -87,14 +87,14 @@ pub fn transfer(
     ensures keeps { OnOk result (IsReadyInsn insn.now (state_of state.old)
         → KeepsFacts insn.now (state_of state.old) (state_of state.new)) }
     ensures keeps_taken { IfOk result (λ f. IsReadyInsn insn.now (state_of state.old)
-        → IfSome (taken_state f) (λ t. KeepsFacts insn.now (state_of state.old) (state_of t))) }
+        → IfSome (taken_state state.new f) (λ t. KeepsFacts insn.now (state_of state.old) (state_of t))) }
 
     // A part of a guarded lookup that is ready, and a call that begins or ends a section, is not
     // refused but for want of memory; and what the next part needs is known.
     ensures accepts_maps { IsReadyWithMaps shape.now.shapes.now insn.now (state_of state.old)
         → IsFine result }
     ensures serves { IfOk result (λ f. Serves shape.now.shapes.now insn.now (state_of state.old)
-        (state_of state.new) (option_map state_of (taken_state f))) }
+        (state_of state.new) (option_map state_of (taken_state state.new f))) }
 {
     perform(state, boxes, insn, shape, ids)
 }

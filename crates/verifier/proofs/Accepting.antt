@@ -39,7 +39,7 @@ use Rattle.verifier.specs.declared.refusal.ProgramRefusal.TheVariants.{Memory}
 use Rattle.verifier.specs.declared.waiting.Waiting.{Waiting}
 use Rattle.verifier.specs.declared.waiting.Waiting.TheVariants.{Nothing, Known, Differing}
 use Rattle.verifier.specs.FactsKnown.{IsInner, Knows, WithoutFact, IsExpected, IsKnown, AreKnown, CanAccept}
-use Rattle.verifier.specs.SecondPass.{Awaited, state_in, IsConflict, JoinsTo, Merged, Fell, Jumped, Advances, StartsFrom, refusal_of}
+use Rattle.verifier.specs.SecondPass.{Awaited, state_in, IsConflict, AreSame, JoinsTo, Merged, Leads, Fell, Jumped, Advances, StartsFrom, refusal_of}
 use Rattle.verifier.specs.Verdict.{IsAccepted}
 use Rattle.verifier.proofs.Lookups.{part_or_not, part_of_slot, part_no_byte, part_keeps, behind, falls_from}
 use Rattle.verifier.proofs.Lookups.{slot_inside, slot_behind, pass_on, part_low, part_at}
@@ -452,9 +452,12 @@ merged_known program shapes plain k at state old new merged ahead inside known b
       | inr n ↦ before.knows m a h (ap state_in (sym (merged.others m n)) ∙ e)
     ]
 
-same_known : (program : List Insn) (shapes : List MapShape) (k : ℕ) (old new : Awaited) → new ≡ old →
+same_known : (program : List Insn) (shapes : List MapShape) (k : ℕ) (old new : Awaited) → AreSame old new →
     AreKnown program shapes k old → AreKnown program shapes k new
-same_known program shapes k old new e known = subst (AreKnown program shapes k) (sym e) known
+same_known program shapes k old new e known = record {
+  paired = λ m h d. known.paired m h (sym (e m) ∙ d);
+  knows = λ m a h f. known.knows m a h (ap state_in (sym (e m)) ∙ f);
+}
 
 -- what holds of an optional state
 some_of : (P : model.AbsState → Type 0) (o : Option AbsState) (s : AbsState) → o ≡ Some s → IfSome (option_map state_of o) P → P (state_of s)
@@ -484,15 +487,15 @@ module _ (program : List Insn) (targets : List (Option ℕ)) (long : length targ
   -- what holds of both states behind the instruction holds of the one that jumps
   jumping_is : (P : AbsState → Type 0) → P done.spreads.next → ((t : AbsState) → done.spreads.taken ≡ Some t → P t) →
       (b : AbsState) → done.spreads.jumping ≡ Some b → P b
-  jumping_is P next taken b f = by done.spreads.fell
+  jumping_is P next taken b f = by done.spreads.leads
     where
       of_unwrapped : (o : Option AbsState) → done.spreads.taken ≡ o → unwrap_or o done.spreads.next ≡ b → P b
       of_unwrapped None g h = subst P h next
       of_unwrapped (Some t) g h = taken b (g ∙ ap Some h)
 
-      by : Fell done.insn k done.spreads.next done.spreads.taken done.spreads.jumping done.rest done.spreads.mid → P b
-      by (inl g) = taken b (sym g.2 ∙ f)
-      by (inr g) = of_unwrapped done.spreads.taken refl (same_Some _ _ (sym g.2 ∙ f))
+      by : Leads done.insn done.spreads.next done.spreads.taken done.spreads.jumping → P b
+      by (inl g) = taken b (sym g.1 ∙ f)
+      by (inr g) = of_unwrapped done.spreads.taken refl (same_Some _ _ (sym g.1 ∙ f))
 
   module _ (m : ℕ) (follows : Follows done.insn done.target k m) where
     ordinary_to : (b : AbsState) → (IsLookupPart program shapes s.0 → ⊥) → IsSimple done.insn →
@@ -589,23 +592,22 @@ module _ (program : List Insn) (targets : List (Option ℕ)) (long : length targ
     knows = λ m a h e. known.knows m a (omega arith) (ap state_in (sym (done.others m (let n : m ≢ k = omega arith in n))) ∙ e);
   }
 
-  fell_known : Fell done.insn k done.spreads.next done.spreads.taken done.spreads.jumping done.rest done.spreads.mid →
-      AreKnown program shapes (k + 1) done.spreads.mid
-  fell_known (inl f) = merged_known program shapes plain (k + 1) (suc k) done.spreads.next done.rest done.spreads.mid
-      f.1 (omega arith) (falls_inside program k done.insn plain.graph.last done.insn_is f.0)
-      (next_known (inl (f.0, refl))) before
-  fell_known (inr f) = same_known program shapes (k + 1) done.rest done.spreads.mid f.1 before
-
-  jumped_known : Jumped done.target done.spreads.jumping done.spreads.mid new → AreKnown program shapes (k + 1) new
+  jumped_known : Jumped done.target done.spreads.jumping done.rest done.spreads.mid → AreKnown program shapes (k + 1) done.spreads.mid
   jumped_known (inl f) =
       let l = leads f.0 f.2 f.1 f.3 in
       let further = l.further in
-      merged_known program shapes plain (k + 1) f.0 f.1 done.spreads.mid new f.4 (omega (arith, further))
-      (target_within program k done.insn f.0 l) (jump_known f.0 f.2 f.1 f.3) (fell_known done.spreads.fell)
-  jumped_known (inr f) = same_known program shapes (k + 1) done.spreads.mid new f.1 (fell_known done.spreads.fell)
+      merged_known program shapes plain (k + 1) f.0 f.1 done.rest done.spreads.mid f.4 (omega (arith, further))
+      (target_within program k done.insn f.0 l) (jump_known f.0 f.2 f.1 f.3) before
+  jumped_known (inr f) = same_known program shapes (k + 1) done.rest done.spreads.mid f.1 before
+
+  fell_known : Fell done.insn k done.spreads.next done.spreads.mid new → AreKnown program shapes (k + 1) new
+  fell_known (inl f) = merged_known program shapes plain (k + 1) (suc k) done.spreads.next done.spreads.mid new
+      f.1 (omega arith) (falls_inside program k done.insn plain.graph.last done.insn_is f.0)
+      (next_known (inl (f.0, refl))) (jumped_known done.spreads.jumped)
+  fell_known (inr f) = same_known program shapes (k + 1) done.spreads.mid new f.1 (jumped_known done.spreads.jumped)
 
   pub known_more : AreKnown program shapes (k + 1) new
-  known_more = jumped_known done.spreads.jumped
+  known_more = fell_known done.spreads.fell
 
 -- a refusal for want of memory
 pub memory_refused : (f : InsnFault) (e : ProgramRefusal) (slot : ℕ) → f ≡ faults.Memory → e ≡ refusal_of f slot → e ≡ Memory

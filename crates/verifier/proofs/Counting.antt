@@ -17,6 +17,14 @@ pub no_more_than_length : (ws : List Waiting) → states_in ws ≤ length ws
 no_more_than_length [] = omega arith
 no_more_than_length (w ∷ ws) = omega (arith, sum_by-cons occupied w ws, no_more_than_length ws, at_most_one w)
 
+-- where nothing waits for one instruction
+pub room_for_one : (ws : List Waiting) (i : ℕ) → i < length ws → slice_index_or ws i Nothing ≡ Nothing → states_in ws + 1 ≤ length ws
+room_for_one [] i h e = absurd (omega arith)
+room_for_one (w ∷ ws) zero h e =
+    let none : occupied w ≡ 0 = ap occupied e in
+    omega (arith, sum_by-cons occupied w ws, no_more_than_length ws, none)
+room_for_one (w ∷ ws) (suc i) h e = omega (arith, sum_by-cons occupied w ws, at_most_one w, room_for_one ws i (omega arith) e)
+
 pub index_counted : (ws : List Waiting) (i : ℕ) → i < length ws → occupied (slice_index_or ws i Nothing) ≤ states_in ws
 index_counted [] i h = absurd (omega arith)
 index_counted (w ∷ ws) zero h = omega (arith, sum_by-cons occupied w ws)

@@ -4,6 +4,7 @@ pub mod Counting
 pub mod Justifying
 pub mod Lookups
 pub mod Merging
+pub mod Holding
 pub mod Peaks
 pub mod Plans
 pub mod Telling

@@ -1,6 +1,8 @@
 -- What a join keeps in the states that wait.
 use Rattle.std.proofs.Common.{◌≡◌, ◌≢◌, ℕ, refl, sym, ◌∙◌, ap, subst, inl, inr}
-use Rattle.std.specs.Prelude.{◌⊎◌, Option, Some, None, IsSome, IfSome, Box}
+use Rattle.std.specs.Prelude.{◌⊎◌, Option, Some, None, IsSome, IfSome, option_map}
+use Rattle.effects.specs.Forks.{taken_from}
+use Rattle.effects.specs.declared.forks.Taken.{Taken}
 use Rattle.std.proofs.lemmas.Bool.{cases_eq}
 use Rattle.std.proofs.lemmas.Option.{same_Some}
 use Rattle.model_laws.specs.PlainMaps.{GuardedLookup, LookupPart}
@@ -10,10 +12,9 @@ use Rattle.register_kinds.specs.States.{state_of}
 use Rattle.register_kinds.specs.Pairs.{AreBelow}
 use Rattle.state_steps.specs.Facts.{Fact, FactHolds}
 use Rattle.state_steps.specs.Lookups.{Expects}
-use Rattle.state_steps.specs.Steps.{unboxed}
 use Rattle.verifier.specs.declared.waiting.Waiting.{Waiting}
 use Rattle.verifier.specs.declared.waiting.Waiting.TheVariants.{Nothing, Differing}
-use Rattle.verifier.specs.SecondPass.{Awaited, state_in, AllBelow, JoinsTo, Joined, Merged}
+use Rattle.verifier.specs.SecondPass.{Awaited, state_in, AllBelow, AreSame, JoinsTo, Joined, Merged}
 
 -- the state that waits and the one that comes are both joined into the new one
 pub joined_from : (w new : Waiting) (a b c : AbsState) → w ≢ Differing → state_in w ≡ Some a → state_in new ≡ Some c →
@@ -52,18 +53,18 @@ one_below top at k b = go (state_in (at k)) refl
     go None e = tt
     go (Some a) e = b k a e
 
--- a box has its state
-pub some_state : {Z : Type 0} (o : Option (Box AbsState Z)) → IsSome o → IsSome (unboxed o)
-some_state None h = h
-some_state (Some b) h = refl
+-- where a jump is taken there is a state
+pub some_state : (next : AbsState) (o : Option Taken) → IsSome o → IsSome (option_map (taken_from next) o)
+some_state next None h = h
+some_state next (Some b) h = refl
 
 -- What is kept of what waits: that something does, and that sections differ.
 pub record Later (old new : Awaited) : Type 0 where
   pub waits : (k : ℕ) → old k ≢ Nothing → new k ≢ Nothing
   pub differs : (k : ℕ) → old k ≡ Differing → new k ≡ Differing
 
-pub same_later : (old new : Awaited) → new ≡ old → Later old new
-same_later old new e = record { waits = λ k n f. n (ap (λ p. p k) (sym e) ∙ f); differs = λ k f. ap (λ p. p k) e ∙ f }
+pub same_later : (old new : Awaited) → AreSame old new → Later old new
+same_later old new e = record { waits = λ k n f. n (sym (e k) ∙ f); differs = λ k f. e k ∙ f }
 
 -- the state waits at the index, or a wider one does
 abbrev pub Stays : Awaited → ℕ → AbsState → Type 0
@@ -73,8 +74,8 @@ Stays at k a = (b : AbsState) × (state_in (at k) ≡ Some b) × Wider (state_of
 abbrev pub AllStay : Awaited → Awaited → Type 0
 AllStay old new = (k : ℕ) (a : AbsState) → state_in (old k) ≡ Some a → Stays new k a
 
-pub same_stay : (old new : Awaited) → new ≡ old → AllStay old new
-same_stay old new e k a f = (a, ap (λ p. state_in (p k)) e ∙ f, λ c m d. d)
+pub same_stay : (old new : Awaited) → AreSame old new → AllStay old new
+same_stay old new e k a f = (a, ap state_in (e k) ∙ f, λ c m d. d)
 
 some_waits : (w : Waiting) (a : AbsState) → state_in w ≡ Some a → w ≢ Nothing
 some_waits w a e f = (let g : None ≡ Some a = sym (ap state_in f) ∙ e in cc)

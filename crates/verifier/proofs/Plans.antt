@@ -27,7 +27,7 @@ use Rattle.effects.specs.Calls.{MayLookUp}
 use Rattle.effects.specs.declared.region.Region.{Region}
 use Rattle.verifier.specs.declared.waiting.Waiting.{Waiting}
 use Rattle.verifier.specs.declared.waiting.Waiting.TheVariants.{Nothing, Differing}
-use Rattle.verifier.specs.SecondPass.{Awaited, Table, size_of, awaited, state_in, planned, Fell, Jumped, Spreads}
+use Rattle.verifier.specs.SecondPass.{Awaited, Table, size_of, awaited, state_in, planned, Leads, Fell, Jumped, Spreads}
 use Rattle.verifier.specs.SecondPass.{Advances, Notes, Passed, IsPassed, DiffersAhead, HasWaiting, StartsFrom}
 use Rattle.verifier.proofs.Merging.{Later, same_later, Stays, AllStay, same_stay, merged_there, merged_later, merged_or}
 use Rattle.bpf_model.proofs.Lists.{get-append_cases, get-below}
@@ -76,41 +76,42 @@ planned_state w b e = go (state_in w) refl
     go (Some a) f = (a, f, same_Some _ _ (sym (ap (option_map state_of) f) ∙ e))
 
 -- What falls through: something waits behind, and all waits on.
-module _ (next : AbsState) (i : Insn) (k : ℕ) (taken jumping : Option AbsState) (old mid : Awaited) where
-  fell_later : Fell i k next taken jumping old mid → Later old mid
-  fell_later (inl f) = merged_later (suc k) next old mid f.1
-  fell_later (inr f) = same_later old mid f.1
+module _ (next : AbsState) (i : Insn) (k : ℕ) (mid new : Awaited) where
+  fell_later : Fell i k next mid new → Later mid new
+  fell_later (inl f) = merged_later (suc k) next mid new f.1
+  fell_later (inr f) = same_later mid new f.1
 
-  fell_there : Fell i k next taken jumping old mid → falls i ≡ true → mid (suc k) ≢ Nothing
-  fell_there (inl f) t = merged_there (suc k) next old mid f.1
+  fell_there : Fell i k next mid new → falls i ≡ true → new (suc k) ≢ Nothing
+  fell_there (inl f) t = merged_there (suc k) next mid new f.1
   fell_there (inr f) t = absurd (let e : false ≡ true = sym f.0 ∙ t in cc)
 
-  fell_or : Fell i k next taken jumping old mid → ((falls i ≡ true) × (mid (suc k) ≡ Differing)) ⊎ (AllStay old mid × (falls i ≡ true → Stays mid (suc k) next))
-  fell_or (inl f) = elim (merged_or (suc k) next old mid f.1) [ inl h ↦ inl (f.0, h) | inr h ↦ inr (h.0, λ t. h.1) ]
-  fell_or (inr f) = inr (same_stay old mid f.1, λ t. absurd (let e : false ≡ true = sym f.0 ∙ t in cc))
+  fell_or : Fell i k next mid new → ((falls i ≡ true) × (new (suc k) ≡ Differing)) ⊎ (AllStay mid new × (falls i ≡ true → Stays new (suc k) next))
+  fell_or (inl f) = elim (merged_or (suc k) next mid new f.1) [ inl h ↦ inl (f.0, h) | inr h ↦ inr (h.0, λ t. h.1) ]
+  fell_or (inr f) = inr (same_stay mid new f.1, λ t. absurd (let e : false ≡ true = sym f.0 ∙ t in cc))
 
-  jumping_is : Fell i k next taken jumping old mid → (falls i ≡ true → IsSome taken) → jumping ≡ Some (unwrap_or taken next)
-  jumping_is (inl f) both = f.2 ∙ some_unwrapped taken next (both f.0)
-  jumping_is (inr f) both = f.2
+jumping_is : (i : Insn) (next : AbsState) (taken jumping : Option AbsState) → Leads i next taken jumping → (falls i ≡ true → IsSome taken)
+    → jumping ≡ Some (unwrap_or taken next)
+jumping_is i next taken jumping (inl f) both = f.1 ∙ some_unwrapped taken next (both f.0)
+jumping_is i next taken jumping (inr f) both = f.1
 
-module _ (target : Option ℕ) (jumping : Option AbsState) (mid new : Awaited) where
-  jumped_later : Jumped target jumping mid new → Later mid new
-  jumped_later (inl f) = merged_later f.0 f.1 mid new f.4
-  jumped_later (inr f) = same_later mid new f.1
+module _ (target : Option ℕ) (jumping : Option AbsState) (old mid : Awaited) where
+  jumped_later : Jumped target jumping old mid → Later old mid
+  jumped_later (inl f) = merged_later f.0 f.1 old mid f.4
+  jumped_later (inr f) = same_later old mid f.1
 
-  jumped_there : Jumped target jumping mid new → (t : ℕ) (s : AbsState) → target ≡ Some t → jumping ≡ Some s → new t ≢ Nothing
-  jumped_there (inl f) t s e g = λ h. merged_there f.0 f.1 mid new f.4 (ap new (same_Some _ _ (sym f.2 ∙ e)) ∙ h)
+  jumped_there : Jumped target jumping old mid → (t : ℕ) (s : AbsState) → target ≡ Some t → jumping ≡ Some s → mid t ≢ Nothing
+  jumped_there (inl f) t s e g = λ h. merged_there f.0 f.1 old mid f.4 (ap mid (same_Some _ _ (sym f.2 ∙ e)) ∙ h)
   jumped_there (inr (inl f, h)) t s e g = absurd (let x : None ≡ Some t = sym f ∙ e in cc)
   jumped_there (inr (inr f, h)) t s e g = absurd (let x : None ≡ Some s = sym f ∙ g in cc)
 
-  jumped_or : Jumped target jumping mid new → ((t : ℕ) × (target ≡ Some t) × (new t ≡ Differing))
-      ⊎ (AllStay mid new × ((t : ℕ) (s : AbsState) → target ≡ Some t → jumping ≡ Some s → Stays new t s))
-  jumped_or (inl f) = elim (merged_or f.0 f.1 mid new f.4) [
+  jumped_or : Jumped target jumping old mid → ((t : ℕ) × (target ≡ Some t) × (mid t ≡ Differing))
+      ⊎ (AllStay old mid × ((t : ℕ) (s : AbsState) → target ≡ Some t → jumping ≡ Some s → Stays mid t s))
+  jumped_or (inl f) = elim (merged_or f.0 f.1 old mid f.4) [
     | inl h ↦ inl (f.0, f.2, h)
-    | inr h ↦ inr (h.0, λ t s e g. subst (λ t. Stays new t s) (same_Some _ _ (sym f.2 ∙ e)) (subst (Stays new f.0) (same_Some _ _ (sym f.3 ∙ g)) h.1))
+    | inr h ↦ inr (h.0, λ t s e g. subst (λ t. Stays mid t s) (same_Some _ _ (sym f.2 ∙ e)) (subst (Stays mid f.0) (same_Some _ _ (sym f.3 ∙ g)) h.1))
   ]
-  jumped_or (inr (inl f, h)) = inr (same_stay mid new h, λ t s e g. absurd (let x : None ≡ Some t = sym f ∙ e in cc))
-  jumped_or (inr (inr f, h)) = inr (same_stay mid new h, λ t s e g. absurd (let x : None ≡ Some s = sym f ∙ g in cc))
+  jumped_or (inr (inl f, h)) = inr (same_stay old mid h, λ t s e g. absurd (let x : None ≡ Some t = sym f ∙ e in cc))
+  jumped_or (inr (inr f, h)) = inr (same_stay old mid h, λ t s e g. absurd (let x : None ≡ Some s = sym f ∙ g in cc))
 
 module _ (program : List Insn) (targets : List (Option ℕ)) (all : HasTargets program targets) (last : EndsWithExit program)
     (k : ℕ) (shapes : List MapShape) (ctx_len : ℕ) (region : Region) (old new : Awaited) (done : Advances program targets k shapes ctx_len region old new) where
@@ -138,13 +139,13 @@ module _ (program : List Insn) (targets : List (Option ℕ)) (all : HasTargets p
       go (Some t) f = (t, f)
 
   jumping_state : (t : ℕ) → done.target ≡ Some t → spread.jumping ≡ Some (unwrap_or spread.taken spread.next)
-  jumping_state t e = jumping_is spread.next done.insn k spread.taken spread.jumping done.rest spread.mid spread.fell
+  jumping_state t e = jumping_is done.insn spread.next spread.taken spread.jumping spread.leads
       (λ f. spread.transfer.branches (f, has_distance t e))
 
   later : Later done.rest new
   later =
-      let a = fell_later spread.next done.insn k spread.taken spread.jumping done.rest spread.mid spread.fell in
-      let b = jumped_later done.target spread.jumping spread.mid new spread.jumped in
+      let a = jumped_later done.target spread.jumping done.rest spread.mid spread.jumped in
+      let b = fell_later spread.next done.insn k spread.mid new spread.fell in
       record { waits = λ m n. b.waits m (a.waits m n); differs = λ m e. b.differs m (a.differs m e) }
 
   -- All states wait on, also the two that come.
@@ -158,24 +159,24 @@ module _ (program : List Insn) (targets : List (Option ℕ)) (all : HasTargets p
 
   -- the sections of two states differ, or all is well
   pub steps_or : DiffersAhead (length program) (k + 1) new ⊎ Steps
-  steps_or = elim (fell_or spread.next done.insn k spread.taken spread.jumping done.rest spread.mid spread.fell) [
-    | inl f ↦ inl (record {
-      index = suc k;
-      ahead = omega arith;
-      inside = falls_inside program k done.insn last done.insn_is f.0;
-      differs = (jumped_later done.target spread.jumping spread.mid new spread.jumped).differs (suc k) f.1;
+  steps_or = elim (jumped_or done.target spread.jumping done.rest spread.mid spread.jumped) [
+    | inl j ↦ inl (record {
+      index = j.0;
+      ahead = (let h : k < j.0 = (leads_to j.0 j.1).further in omega (arith, h));
+      inside = target_within program k done.insn j.0 (leads_to j.0 j.1);
+      differs = (fell_later spread.next done.insn k spread.mid new spread.fell).differs j.0 j.2;
     })
-    | inr f ↦ elim (jumped_or done.target spread.jumping spread.mid new spread.jumped) [
-      | inl j ↦ inl (record {
-        index = j.0;
-        ahead = (let h : k < j.0 = (leads_to j.0 j.1).further in omega (arith, h));
-        inside = target_within program k done.insn j.0 (leads_to j.0 j.1);
-        differs = j.2;
+    | inr j ↦ elim (fell_or spread.next done.insn k spread.mid new spread.fell) [
+      | inl f ↦ inl (record {
+        index = suc k;
+        ahead = omega arith;
+        inside = falls_inside program k done.insn last done.insn_is f.0;
+        differs = f.1;
       })
-      | inr j ↦ inr (record {
-        stays = λ m a h e. (let r = f.0 m a (ap state_in (done.others m (let n : m ≢ k = omega arith in n)) ∙ e) in along m a r j.0);
-        falls_on = λ t. along (suc k) spread.next (f.1 t) j.0;
-        jumps_on = λ t e. j.1 t (unwrap_or spread.taken spread.next) e (jumping_state t e);
+      | inr f ↦ inr (record {
+        stays = λ m a h e. (let r = j.0 m a (ap state_in (done.others m (let n : m ≢ k = omega arith in n)) ∙ e) in along m a r f.0);
+        falls_on = f.1;
+        jumps_on = λ t e. along t (unwrap_or spread.taken spread.next) (j.1 t (unwrap_or spread.taken spread.next) e (jumping_state t e)) f.0;
       })
     ]
   ]
@@ -308,11 +309,9 @@ module _ (program : List Insn) (targets : List (Option ℕ)) (all : HasTargets p
   }
     where
       here : (m : ℕ) → Follows done.insn done.target k m → new m ≢ Nothing
-      here m (inl g) x =
-          (jumped_later done.target spread.jumping spread.mid new spread.jumped).waits (suc k)
-          (fell_there spread.next done.insn k spread.taken spread.jumping done.rest spread.mid spread.fell g.0)
-          (ap new (sym g.1) ∙ x)
-      here m (inr g) x = jumped_there done.target spread.jumping spread.mid new spread.jumped m (unwrap_or spread.taken spread.next) g (jumping_state m g) x
+      here m (inl g) x = fell_there spread.next done.insn k spread.mid new spread.fell g.0 (ap new (sym g.1) ∙ x)
+      here m (inr g) x = (fell_later spread.next done.insn k spread.mid new spread.fell).waits m
+          (jumped_there done.target spread.jumping done.rest spread.mid spread.jumped m (unwrap_or spread.taken spread.next) g (jumping_state m g)) x
 
 -- before the first instruction
 pub passed_none : (program : List Insn) (shapes : List MapShape) (ctx_len : ℕ) (at : Awaited) → StartsFrom at →

@@ -1,10 +1,11 @@
 //! What waits for an instruction.
-ghost use Rattle.std.specs.Prelude.{◌≡◌, ◌+◌, ◌^◌, ◌<◌, IfSome};
+ghost use Rattle.std.specs.Prelude.{◌≡◌, ◌≢◌, ◌+◌, ◌≤◌, ◌^◌, ◌<◌, IfSome};
 ghost use Rattle.register_kinds.specs.declared.identities.TheConstants.{MAX_PAIRS};
 ghost use Rattle.register_kinds.specs.Pairs.{AreBelow, TakesFew};
+ghost use Rattle.verifier.specs.declared.waiting.Waiting.TheVariants.{Nothing};
 ghost use Rattle.verifier.specs.SecondPass.{occupied, state_in, Joined};
 
-use register_kinds::{AbsState, Boxes, Identities};
+use register_kinds::{AbsState, Identities};
 
 /// What waits for an instruction.
 #[derive(Drop)]
@@ -17,43 +18,29 @@ pub(crate) enum Waiting {
     Differing,
 }
 
-impl Waiting {
-    /// How many states wait here: one, or none.
-    pub(crate) fn count(&self) -> usize
-        ensures { result ≡ occupied self.now }
-    {
-        match self {
-            Waiting::Known(_) => 1,
-            Waiting::Nothing | Waiting::Differing => 0,
-        }
-    }
-}
-
-/// Joins a state into what waits, and keeps its box where it is no longer of use.
+/// Joins a state into what waits already. Answers how many states wait there no longer: one where two meet that differ
+/// in their depths of locks, else none.
 #[inline(always)]
-pub(crate) fn join_into(
-    waiting: &mut Waiting,
-    state: Box<AbsState>,
-    boxes: &mut Boxes,
-    ids: &mut Identities,
-)
+pub(crate) fn join_into(waiting: &mut Waiting, state: &AbsState, ids: &mut Identities) -> usize
+    requires waits { waiting.old ≢ Nothing }
     requires room { ids.old.next + MAX_PAIRS < 2 ^ 32 }
-    requires state { AreBelow ids.old.next state.value }
+    requires state { AreBelow ids.old.next state.now }
     requires waiting { IfSome (state_in waiting.old) (AreBelow ids.old.next) }
-    ensures joined { Joined waiting.old state.value waiting.new }
+    ensures joined { Joined waiting.old state.now waiting.new }
     ensures below { IfSome (state_in waiting.new) (AreBelow ids.new.next) }
     ensures few { TakesFew MAX_PAIRS ids.old.next ids.new.next }
+    ensures gone { result + occupied waiting.new ≡ occupied waiting.old }
 {
     match waiting {
-        Waiting::Nothing => *waiting = Waiting::Known(state),
         Waiting::Known(before) => {
             if before.depth == state.depth {
-                before.join(&state, ids);
-                boxes.keep(state);
-            } else {
-                *waiting = Waiting::Differing;
+                before.join(state, ids);
+                return 0;
             }
+            *waiting = Waiting::Differing;
+            1
         }
-        Waiting::Differing => {}
+        Waiting::Differing => 0,
+        Waiting::Nothing => unreachable!(),
     }
 }

@@ -1,6 +1,10 @@
 use Rattle.std.proofs.Common.{◌≡◌, ℕ, ◌<◌, ◌≤◌}
+use Rattle.std.specs.Prelude.{IsTrue, IsFalse}
 use Rattle.register_kinds.specs.States.{class_in}
 use Rattle.register_kinds.proofs.reads.are_all.Given as goal
 
 abbrev pub invariant-loop-i : goal.invariant-loop-i
-invariant-loop-i l = (k : ℕ) → l.at ≤ k → k < l.i → class_in l.cells k ≡ l.class
+invariant-loop-i l = record {
+  all : IsTrue l.all → (k : ℕ) → l.at ≤ k → k < l.i → class_in l.cells k ≡ l.class;
+  other : IsFalse l.all → ((k : ℕ) → l.at ≤ k → k < l.i → class_in l.cells k ≡ l.class) → ⊥;
+}

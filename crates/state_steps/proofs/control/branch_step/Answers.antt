@@ -5,6 +5,7 @@ use Rattle.state_steps.proofs.Keeping.{narrow_keeps, operand_number}
 use Rattle.std.proofs.lemmas.Option.{none-some}
 use Rattle.bpf_model.specs.declared.insn.Insn.TheVariants.{JumpIf}
 use Rattle.register_kinds.specs.States.{state_of}
+use Rattle.effects.specs.Forks.{taken_from}
 use Rattle.state_steps.proofs.control.branch_step.Goals as goal
 
 pub returns : goal.returns
@@ -23,13 +24,13 @@ returns c = λ offset shapes ctx_len top below.
           keeps = λ ready. narrow_keeps i c.args.dst c.args.src.now (pos FRAME_BYTES) a b (λ r x. x) (λ k x. x)
               ready.registers ready.frame (t.narrowed (ready.registers c.args.dst (inl refl)));
           keeps_taken = λ ready. narrow_keeps i c.args.dst c.args.src.now (pos FRAME_BYTES) a
-              (state_of c.in_ok-taken.taken.value) (λ r x. x) (λ k x. x) ready.registers ready.frame
+              (state_of (taken_from c.branch-state.new.state c.in_ok-taken.taken)) (λ r x. x) (λ k x. x) ready.registers ready.frame
               (t.taken_narrowed (ready.registers c.args.dst (inl refl)));
           floor = (t.floor, t.taken_floor);
           others = t.others offset;
           others_taken = t.others_taken offset;
           serves = branch_serves c.args.condition c.args.size c.args.dst c.args.src.now offset shapes c.args.state.now
-              c.branch-state.new.state c.in_ok-taken.taken.value t.splits;
+              c.branch-state.new.state (taken_from c.branch-state.new.state c.in_ok-taken.taken) t.splits;
         };
         taken_below = t.taken_below top below;
       };

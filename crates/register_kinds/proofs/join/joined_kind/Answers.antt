@@ -1,6 +1,6 @@
 use Rattle.register_kinds.specs.Joined.{IsHull}
 use Rattle.register_kinds.proofs.Pairs.{maybe_joined, numbers_joined, contexts_joined, values_joined}
-use Rattle.register_kinds.proofs.join.join_kind.Goals as goal
+use Rattle.register_kinds.proofs.join.joined_kind.Goals as goal
 
 pub returns-in-Num-Num-clause-joins : goal.returns-in-Num-Num-clause-joins
 returns-in-Num-Num-clause-joins c =
