@@ -4,7 +4,7 @@ ghost use Rattle.register_kinds.specs.declared.identities.TheConstants.{MAX_PAIR
 
 use bpf_model::Insn;
 use register_kinds::{AbsState, Boxes, Identities, InsnFault};
-use state_steps::{EnvironmentShape, transfer};
+use state_steps::{EnvironmentShape, Taken, transfer};
 use std::alloc::{AllocError, Global};
 use std::marker::Model;
 
@@ -115,7 +115,11 @@ pub(crate) fn next_of(
     };
     let top = ids.next;
     let taken = match flow.taken {
-        Some(state) => Some(Numbered { state, top }),
+        Some(Taken::Same) => Some(Numbered {
+            state: state.copy(boxes)?,
+            top,
+        }),
+        Some(Taken::Apart(state)) => Some(Numbered { state, top }),
         None => None,
     };
     Ok(Some(Next {
