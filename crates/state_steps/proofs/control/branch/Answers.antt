@@ -47,7 +47,8 @@ pub returns-in_ok-fork_null-in-Some-MaybeNull-clause-floor : goal.returns-in_ok-
 returns-in_ok-fork_null-in-Some-MaybeNull-clause-floor c = λ x y e f. absurd (null_no_number _ _ _ x (sym c.kind-kind.ensures ∙ c.in-Some-MaybeNull.is-1) e)
 
 pub returns-in_ok-fork_null-in-Some-MaybeNull-clause-taken_floor : goal.returns-in_ok-fork_null-in-Some-MaybeNull-clause-taken_floor
-returns-in_ok-fork_null-in-Some-MaybeNull-clause-taken_floor c = λ x y e f. absurd (null_no_number _ _ _ x (sym c.kind-kind.ensures ∙ c.in-Some-MaybeNull.is-1) e)
+returns-in_ok-fork_null-in-Some-MaybeNull-clause-taken_floor c = λ x y e f.
+    absurd (null_no_number _ _ _ x (sym c.kind-kind.ensures ∙ c.in-Some-MaybeNull.is-1) e)
 
 pub returns-in-Some-Value-clause-floor : goal.returns-in-Some-Value-clause-floor
 returns-in-Some-Value-clause-floor c = λ x y e f. absurd (value_no_number _ _ _ x (sym c.kind-kind.ensures ∙ c.in-Some-Value.is-1) e)
