@@ -13,7 +13,7 @@ use Rattle.bpf_model.specs.declared.limits.TheConstants.{KEY_BYTES, VALUE_BYTES}
 use Rattle.bpf_model.specs.Shapes.{AreShapes}
 use Rattle.bpf_model.specs.View.{MapView}
 use Rattle.maps.specs.Registry.{RegistryView}
-use Rattle.commands.specs.declared.request.MapElement.{MapElement}
+use Rattle.command_words.specs.declared.request.MapElement.{MapElement}
 use Rattle.commands.specs.Runs.{element_refusal, put_event, AllFit, HasBadElement}
 
 -- the elements below the next index are those below this one, and the one that stands there

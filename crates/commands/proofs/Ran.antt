@@ -18,8 +18,8 @@ use Rattle.run_once.specs.declared.once.Ended.{Ended}
 use Rattle.run_once.specs.declared.once.RunEnd.{RunEnd}
 use Rattle.run_once.specs.declared.once.RunEnd.TheVariants.{Exited, NotDone}
 use Rattle.run_once.specs.Once.{ComesTo, IsUpdate}
-use Rattle.commands.specs.declared.request.MapElement.{MapElement}
-use Rattle.commands.specs.declared.request.SingleRun.{SingleRun}
+use Rattle.command_words.specs.declared.request.MapElement.{MapElement}
+use Rattle.command_words.specs.declared.request.SingleRun.{SingleRun}
 use Rattle.commands.specs.Outputs.{IsPlainVerdict}
 use Rattle.commands.specs.Runs.{no_place_number, put_event, AllFit, HasBadElement, HasEnded, IsRunFault, IsRunRefusal, RunComesTo}
 use Rattle.commands.proofs.Pooled.{file_of}

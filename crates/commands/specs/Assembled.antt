@@ -17,8 +17,8 @@ use Rattle.program_files.specs.declared.loader.fault.LoadFault.TheVariants as lo
 use Rattle.program_files.specs.ProgramFile.{FileContent, FileSays, IsLoadFault, heading}
 use Rattle.commands.specs.declared.assembly.TextFault.{TextFault}
 use Rattle.commands.specs.declared.assembly.TextFault.TheVariants.{NotUtf8, Unnamed, Flawed, BadHead, Memory}
-use Rattle.commands.specs.declared.request.AsmForm.{AsmForm}
-use Rattle.commands.specs.declared.request.AsmForm.TheVariants as form
+use Rattle.command_words.specs.declared.request.AsmForm.{AsmForm}
+use Rattle.command_words.specs.declared.request.AsmForm.TheVariants as form
 
 -- the line that stands between a program file's head and its slots
 abbrev pub code_line : List ℕ

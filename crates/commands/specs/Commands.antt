@@ -1,8 +1,8 @@
 -- What each command writes, of which input, and how it refuses the others.
 use Rattle.std.specs.Prelude.{◌≡◌, ℕ, List, Option, ⊤, false, true, codes}
 use Rattle.std.specs.Io.KnownBytes.{Appends}
-use Rattle.commands.specs.declared.request.BpfrtCommand.{BpfrtCommand}
-use Rattle.commands.specs.declared.request.BpfrtCommand.TheVariants.{Check, Disasm, Asm, Script, Version, Pool, Run, Trace, Filter}
+use Rattle.command_words.specs.declared.request.BpfrtCommand.{BpfrtCommand}
+use Rattle.command_words.specs.declared.request.BpfrtCommand.TheVariants.{Check, Disasm, Asm, Script, Version, Pool, Run, Trace, Filter}
 use Rattle.commands.specs.Assembled.{IsRefusedByAsm, WritesCode}
 use Rattle.commands.specs.Filters.{IsRefusedByFilter, WritesFilter}
 use Rattle.commands.specs.Checking.{RefusesChecked, WritesChecked}

@@ -27,8 +27,8 @@ use Rattle.run_once.specs.declared.once.Ended.{Ended}
 use Rattle.run_once.specs.declared.once.RunEnd.{RunEnd}
 use Rattle.run_once.specs.declared.once.RunEnd.TheVariants.{Exited, NotDone}
 use Rattle.run_once.specs.Once.{ComesTo}
-use Rattle.commands.specs.declared.request.MapElement.{MapElement}
-use Rattle.commands.specs.declared.request.SingleRun.{SingleRun}
+use Rattle.command_words.specs.declared.request.MapElement.{MapElement}
+use Rattle.command_words.specs.declared.request.SingleRun.{SingleRun}
 use Rattle.commands.specs.Json.{ended_json, traced_json}
 use Rattle.commands.specs.Outputs.{IsPlainVerdict, TellsVerdict}
 

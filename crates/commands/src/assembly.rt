@@ -8,11 +8,11 @@ ghost use Rattle.commands.specs.Assembled.{IsAssembled, IsTextFault, IsRefusedBy
 
 use crate::heads::{Split, file_of, has_head, lines_in, lines_of, parts_of};
 use crate::report::fault;
-use crate::request::AsmForm;
 use crate::streams::{unread_in_words, write_text, written};
 use crate::wrong_text::explain_text;
 use asm::{AsmFault, assemble};
 use asm_source::{SourceFault, fed_text, maps_of, plain_of};
+use command_words::AsmForm;
 use insn_codec::{Program, encode};
 use program_files::{LoadFault, MEMORY, read_text};
 use std::alloc::Global;

@@ -8,9 +8,9 @@ ghost use Rattle.commands.specs.Checking.{RefusesText, WritesAcceptedText, Refus
 use crate::assembly::{make_code, told as told_of_text};
 use crate::json::write_accepted as write_json;
 use crate::report::{Telling, fault, told_twice};
-use crate::request::Checking;
 use crate::streams::{unread_in_words, written};
 use asm_source::fed_text;
+use command_words::Checking;
 use program_files::{Accepted, FileBytes, MEMORY, check, read_file, read_text, write_log};
 use std::alloc::Global;
 use std::io;

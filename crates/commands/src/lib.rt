@@ -8,27 +8,22 @@ mod dump;
 mod filter;
 mod filter_words;
 mod heads;
-mod help;
 mod json;
 mod pool;
 mod puts;
 mod report;
-mod request;
 mod run_words;
 mod script;
-mod script_answers;
-mod script_words;
 mod single;
 mod source_line;
 mod streams;
 mod trace;
-mod words;
 mod wrong_text;
 
+pub use command_words::{
+    AsmForm, BpfrtCommand, Checking, FilterFile, MapElement, SingleRun, WordsFault, parse_words,
+};
 pub use dispatch::run;
 pub use report::no_command;
-pub use request::{AsmForm, BpfrtCommand, Checking, FilterFile, MapElement, SingleRun, WordsFault};
-pub use script_answers::{Made, Outcome, Refusal, explain_answers, outcome_of};
-pub use script_words::explain_script;
+pub use script_hints::{Made, Outcome, Refusal, explain_answers, explain_script, outcome_of};
 pub use streams::unread;
-pub use words::parse_words;

@@ -7,8 +7,8 @@ ghost use Rattle.commands.specs.Outputs.{IsPlainVerdict};
 ghost use Rattle.commands.specs.Runs.{element_refusal, put_event, AllFit, HasBadElement};
 
 use crate::report::plain_verdict;
-use crate::request::MapElement;
 use bpf_model::{Event, EventRefusal, array_of};
+use command_words::MapElement;
 use maps::Registry;
 use program_files::{MEMORY, Verdict};
 use std::alloc::Global;

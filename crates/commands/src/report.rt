@@ -1,15 +1,15 @@
 //! The lines that refusals and faults make, and the statuses that go with them.
 ghost use Rattle.std.specs.Prelude.{◌≡◌, ◌≢◌, ◌⊎◌, false};
-ghost use Rattle.commands.specs.declared.request.WordsFault.TheVariants.{Memory};
+ghost use Rattle.command_words.specs.declared.request.WordsFault.TheVariants.{Memory};
 ghost use Rattle.program_files.specs.Verdicts.{memory_number};
 ghost use Rattle.job_queue.specs.declared.fault.PoolFault.TheVariants.{Lost};
 ghost use Rattle.job_queue.specs.Faults.{pool_fault_number};
 ghost use Rattle.commands.specs.Outputs.{IsPlainVerdict, TellsVerdict};
 
 use crate::json::write_refusal;
-use crate::request::WordsFault;
 use crate::source_line::write_source_line;
 use crate::streams::unwritten;
+use command_words::WordsFault;
 use job_queue::PoolFault;
 use program_files::{FileBytes, MEMORY, Verdict, explain};
 use std::alloc::Global;

@@ -3,11 +3,12 @@ ghost use Rattle.bpf_model.specs.View.{AreNewMaps};
 
 use crate::puts::puts_of;
 use crate::report::NO_PLACE;
-use crate::request::{MapElement, SingleRun};
 use bpf_model::{Answer, Errno, EventRefusal, MapId, MapKind, MapShape};
+use command_words::{MapElement, SingleRun};
 use hex::encode;
 use maps::Registry;
 use program_files::{FileBytes, HEADING, Source};
+use script_hints::write_length;
 use std::alloc::Global;
 use std::io;
 use std::io::Write;
@@ -25,23 +26,6 @@ fn write_names<W: Write>(out: &mut W, maps: &Registry) -> io::Result<()> {
         }
     }
     writeln!(out)
-}
-
-/// Writes that bytes of an element have another length than those of its map, where they have.
-pub fn write_length<W: Write>(
-    out: &mut W,
-    map: &str,
-    what: &str,
-    given: usize,
-    due: usize,
-) -> io::Result<()> {
-    if given == due {
-        return Ok(());
-    }
-    writeln!(
-        out,
-        "  {what} has length {given}, and is to have length {due} in the map `{map}`"
-    )
 }
 
 /// Writes what is wrong with the first element that names no map of the file, or has another length than its map's.

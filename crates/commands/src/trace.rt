@@ -6,10 +6,10 @@ ghost use Rattle.commands.specs.Runs.{IsRunRefusal, IsToldText, traced_text, Ref
 use crate::json::traced_of;
 use crate::puts::puts_of;
 use crate::report::plain_verdict;
-use crate::request::SingleRun;
 use crate::single::{run_of, told_of_run};
 use crate::streams::{unread_in_words, write_text, written};
 use bpf_model::{Event, ProgId, array_of};
+use command_words::SingleRun;
 use insn_codec::Program;
 use program_files::{FileBytes, MEMORY, Verdict, read_file, verify_for_maps};
 use std::alloc::{AllocError, Global};

@@ -2,10 +2,10 @@
 
 use crate::assembly::{TextFault, plain_text};
 use crate::heads::parts_of;
-use crate::words::shown;
 use asm::AsmFault;
 use asm_hints::{NO_HEADING, explain_line, explain_name};
 use asm_source::{SourceFault, fed_text};
+use command_words::shown;
 use program_files::{Likeness, has_slots, likeness_of, write_wrong_line};
 use std::alloc::{AllocError, Global};
 use std::io::Write;

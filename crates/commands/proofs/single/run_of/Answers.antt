@@ -4,7 +4,7 @@ use Rattle.bpf_model.specs.declared.event.EventRefusal.{EventRefusal}
 use Rattle.bpf_model.specs.EventNumbers.{event_refusal_number}
 use Rattle.bpf_model.specs.View.{shapes_of_maps}
 use Rattle.program_files.specs.Verdicts.{memory_number}
-use Rattle.commands.specs.declared.request.MapElement.{MapElement}
+use Rattle.command_words.specs.declared.request.MapElement.{MapElement}
 use Rattle.commands.specs.Outputs.{IsPlainVerdict}
 use Rattle.commands.specs.Runs.{HasBadElement}
 use Rattle.program_files.proofs.Shapes.{verifier_told}

@@ -1,7 +1,6 @@
 //! Why lines of a script are refused, in words for people.
 
-use crate::run_words::write_length;
-use crate::script_words::{SHOWN, words_of};
+use crate::words::{SHOWN, words_of};
 use bpf_model::{
     CTX_BYTES, EventRefusal, KEY_BYTES, MAX_ENTRIES, MAX_REUSE, MAX_SPARE, VALUE_BYTES,
 };
@@ -141,6 +140,23 @@ fn length_of(number: u64) -> usize {
 /// The number that a word is.
 fn number_in(word: &str) -> u64 {
     number_of(word.as_bytes()).unwrap_or(0)
+}
+
+/// Writes that bytes of an element have another length than those of its map, where they have.
+pub fn write_length<W: Write>(
+    out: &mut W,
+    map: &str,
+    what: &str,
+    given: usize,
+    due: usize,
+) -> io::Result<()> {
+    if given == due {
+        return Ok(());
+    }
+    writeln!(
+        out,
+        "  {what} has length {given}, and is to have length {due} in the map `{map}`"
+    )
 }
 
 /// Writes which of a line's bytes have another length than its map's.

@@ -121,7 +121,7 @@ pub enum WordsFault {
 
 impl From<AllocError> for WordsFault {
     ghost use Rattle.std.specs.Prelude.{◌≡◌};
-    ghost use Rattle.commands.specs.declared.request.WordsFault.TheVariants.{Memory};
+    ghost use Rattle.command_words.specs.declared.request.WordsFault.TheVariants.{Memory};
 
     ghost from_gives = { λ _ e. e ≡ Memory };
 
@@ -132,7 +132,7 @@ impl From<AllocError> for WordsFault {
 
 impl<T: Drop> From<AllocFailed<T>> for WordsFault {
     ghost use Rattle.std.specs.Prelude.{◌≡◌};
-    ghost use Rattle.commands.specs.declared.request.WordsFault.TheVariants.{Memory};
+    ghost use Rattle.command_words.specs.declared.request.WordsFault.TheVariants.{Memory};
 
     ghost from_gives = { λ _ e. e ≡ Memory };
 
