@@ -10,7 +10,7 @@ use crate::other_names::{family_hint, is_near, meant_by, mnemonic_named, without
 use crate::written::{character_words, written_operands};
 use asm_source::{are_digits, decimal_in, is_name, is_register};
 use disasm::{MNEMONICS, Mnemonic};
-use program_files::FUNCTIONS;
+use explanations::FUNCTIONS;
 use std::alloc::{AllocError, Global};
 use strsim::jaro_winkler;
 

@@ -1,8 +1,8 @@
 //! What helps where a line is wrong, in words for people.
 
 use asm_source::{are_digits, hex_in, is_name, is_register, number_in};
-use program_files::is_slot;
 use std::alloc::{AllocError, Global};
+use text_likeness::is_slot;
 
 /// How much of a word is shown.
 const SHOWN_CHARACTERS: usize = 40;

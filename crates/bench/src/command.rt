@@ -6,6 +6,7 @@ ghost use Rattle.bench.specs.declared.command.BenchCommand.TheVariants.{Samples}
 ghost use Rattle.bench.specs.Words.{IsAskedBy, word_of};
 
 use bpf_model::CTX_BYTES;
+use measurements::number_of_times;
 use thiserror::Error;
 
 /// What the program is asked to do.
@@ -60,13 +61,13 @@ fn context_length(word: &str) -> Result<usize, BenchWordsFault>
 }
 
 /// A number of times, in decimal digits.
-pub fn number_of_times(word: &str) -> Result<u32, BenchWordsFault>
+fn times_of(word: &str) -> Result<u32, BenchWordsFault>
     ensures value { IfOk result (λ n. digits_value 10 (without_leading_plus word.now) ≡ n) }
     ensures some { IfOk result (λ n. 0 < n) }
 {
-    match word.parse::<u32>() {
-        Ok(times) if times > 0 => Ok(times),
-        _ => Err(BenchWordsFault::Times),
+    match number_of_times(word) {
+        Some(times) => Ok(times),
+        None => Err(BenchWordsFault::Times),
     }
 }
 
@@ -97,7 +98,7 @@ pub fn parse_words<'a>(words: &'a [String]) -> Result<BenchCommand<'a>, BenchWor
             deed: deed_of(verb.as_str())?,
             file: file.as_str(),
             ctx_len: context_length(length.as_str())?,
-            times: number_of_times(times.as_str())?,
+            times: times_of(times.as_str())?,
         }),
         _ => Err(BenchWordsFault::Words),
     }

@@ -6,21 +6,15 @@ ghost use Rattle.bpf_model.specs.declared.limits.TheConstants.{CTX_BYTES};
 ghost use Rattle.bench.specs.Trials.{IsReadyTrial};
 
 mod command;
-mod key_tables;
 mod measure;
-mod measurements;
-mod reads;
 mod report;
 mod samples;
 mod trial;
-mod worlds;
 
-use crate::measurements::measurement_line;
 use anyhow::{Result, bail};
 use command::{BenchCommand, Repeated, parse_words};
 use measure::{Timed, repeat_runs, repeat_verifications, time_per_call_part};
-use reads::command::parse_read_words;
-use reads::outputs::lines_of as read_lines_of;
+use measurements::measurement_line;
 use report::sample_line;
 use samples::samples;
 use std::process::ExitCode;
@@ -28,9 +22,9 @@ use std::rt::Clock;
 use std::sync::Wait;
 use std::thread::Threads;
 use std::{env, fs};
+use table_bench::{lines_of as read_lines_of, parse_read_words};
 use trial::{Trial, counted_run, trial_of};
-use worlds::command::{WorldCommand, parse_world_words};
-use worlds::outputs::lines_of;
+use world_bench::{WorldCommand, lines_of, parse_world_words};
 
 /// Runs each program that is built in, and prints what it came to.
 fn print_samples(rt: &HostRuntime) -> Result<()> {

@@ -2,11 +2,11 @@
 ghost use Rattle.std.specs.Prelude.{◌≡◌, ◌<◌, ◌^◌, ◌%◌, length, IfOk};
 ghost use Rattle.bench.specs.Trials.{IsReadyTrial};
 
-use crate::measurements::{BATCHES, Decimal, LEAST_MILLIS, quotient};
 use crate::trial::{Trial, counted_run, counting_bytes};
 use anyhow::{Result, ensure};
 use bpf_model::CtxBytes;
 use map_free_runs::run_to_exit;
+use measurements::{BATCHES, Decimal, LEAST_MILLIS, quotient};
 use std::alloc::Global;
 use std::rt::Clock;
 use std::time::{Duration, Instant};

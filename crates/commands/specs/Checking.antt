@@ -1,7 +1,7 @@
 -- What `check` writes of a program file, or of a text of instructions, and how it refuses them.
 use Rattle.std.specs.Prelude.{◌⊎◌, ℕ, Bool, true, false, List, Option}
 use Rattle.asm_source.specs.LineEnds.{with_feeds}
-use Rattle.commands.specs.Assembled.{IsAssembled, IsRefusedByAsm}
+use Rattle.assembled_texts.specs.Assembled.{IsAssembled, IsRefusedByAsm}
 use Rattle.commands.specs.Outputs.{RefusesFile, WritesAccepted}
 
 -- The program file that the text makes is accepted.

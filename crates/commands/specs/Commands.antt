@@ -3,7 +3,8 @@ use Rattle.std.specs.Prelude.{◌≡◌, ℕ, List, Option, ⊤, false, true, co
 use Rattle.std.specs.Io.KnownBytes.{Appends}
 use Rattle.command_words.specs.declared.request.BpfrtCommand.{BpfrtCommand}
 use Rattle.command_words.specs.declared.request.BpfrtCommand.TheVariants.{Check, Disasm, Asm, Script, Version, Pool, Run, Trace, Filter}
-use Rattle.commands.specs.Assembled.{IsRefusedByAsm, WritesCode}
+use Rattle.assembled_texts.specs.Assembled.{IsRefusedByAsm}
+use Rattle.commands.specs.Asm.{WritesCode}
 use Rattle.commands.specs.Filters.{IsRefusedByFilter, WritesFilter}
 use Rattle.commands.specs.Checking.{RefusesChecked, WritesChecked}
 use Rattle.commands.specs.Outputs.{IsRefusedByDecode, WritesText}

@@ -1,4 +1,4 @@
-pub mod Assembled
+pub mod Asm
 pub mod Checking
 pub mod Commands
 pub mod Filters

@@ -5,16 +5,18 @@ ghost use Rattle.program_files.specs.Files.{HoldsBytes};
 ghost use Rattle.commands.specs.Outputs.{RefusesFile, accepted_line, accepted_text, WritesAccepted};
 ghost use Rattle.commands.specs.Checking.{RefusesText, WritesAcceptedText, RefusesChecked, WritesChecked};
 
-use crate::assembly::{make_code, told as told_of_text};
+use crate::asm_text::told as told_of_text;
 use crate::json::write_accepted as write_json;
 use crate::report::{Telling, fault, told_twice};
 use crate::streams::{unread_in_words, written};
 use asm_source::fed_text;
+use assembled_texts::make_code;
 use command_words::Checking;
-use program_files::{Accepted, FileBytes, MEMORY, check, read_file, read_text, write_log};
+use program_files::{Accepted, FileBytes, MEMORY, check, read_file, read_text};
 use std::alloc::Global;
 use std::io;
 use std::io::{Read, Write};
+use verifier_log::write_log;
 
 fn write_line<W: Write>(out: &mut W, accepted: &Accepted) -> io::Result<()>
     ensures { OnOk result (Appends (W.contents out.old) (W.contents out.new)

@@ -4,7 +4,7 @@ ghost use Rattle.std.specs.Io.KnownBytes.{Appends};
 ghost use Rattle.commands.specs.Outputs.{IsRefusedByDecode, WritesText};
 ghost use Rattle.commands.specs.Commands.{ReadsFileForText, Refuses, Writes};
 
-use crate::assembly::run_asm;
+use crate::asm_text::run_asm;
 use crate::check::run_check;
 use crate::filter::run_filter;
 use crate::pool::{PoolSize, run_pool};

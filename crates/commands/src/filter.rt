@@ -12,9 +12,9 @@ ghost use Rattle.commands.specs.Filters.{
 };
 
 use crate::filter_words::explain_filter;
-use crate::heads::{lines_in, text_of};
 use crate::report::fault;
 use crate::streams::{unread_in_words, write_text, written};
+use assembled_texts::{lines_in, text_of};
 use classic::{
     ClassicFault, Data, ReadFault, SockFilter, TranslateFault, check, read_filter_array,
     read_listing, translate,

@@ -1,14 +1,14 @@
 //! Why bytes are no classic program, or have no program file, in words for people.
 
 use crate::filter::FilterFault;
-use crate::heads::lines_in;
+use assembled_texts::lines_in;
 use classic::{
     ClassicFault, Data, ReadFault, SockFilter, TranslateFault, read_filter_array, read_listing,
 };
-use program_files::{Likeness, likeness_of, write_line};
 use std::alloc::Global;
 use std::io::Write;
 use std::{io, str};
+use text_likeness::{Likeness, likeness_of, write_line};
 
 /// What a line of a listing is, but the first.
 const LISTED: &str =

@@ -1,13 +1,12 @@
 //! The commands of the program `bpfrt`: which one words ask for, and what each reads, writes and answers.
 #![tactic(auto)]
 
-mod assembly;
+mod asm_text;
 mod check;
 mod dispatch;
 mod dump;
 mod filter;
 mod filter_words;
-mod heads;
 mod json;
 mod pool;
 mod puts;
@@ -15,10 +14,8 @@ mod report;
 mod run_words;
 mod script;
 mod single;
-mod source_line;
 mod streams;
 mod trace;
-mod wrong_text;
 
 pub use command_words::{
     AsmForm, BpfrtCommand, Checking, FilterFile, MapElement, SingleRun, WordsFault, parse_words,

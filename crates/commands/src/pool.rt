@@ -12,7 +12,8 @@ ghost use Rattle.commands.specs.Pools.{entries_line, IsProgramOf, IsRefusedByPoo
 use crate::report::{plain_verdict, refused, told};
 use crate::streams::{unread_in_words, written};
 use bpf_model::MAX_JOURNAL;
-use program_files::{FileBytes, Verdict, meaning_of, read_file, verify_for_maps};
+use explanations::meaning_of;
+use program_files::{FileBytes, Verdict, read_file, verify_for_maps};
 use std::alloc::Global;
 use std::io;
 use std::io::{Read, Write};

@@ -7,11 +7,12 @@ ghost use Rattle.job_queue.specs.Faults.{pool_fault_number};
 ghost use Rattle.commands.specs.Outputs.{IsPlainVerdict, TellsVerdict};
 
 use crate::json::write_refusal;
-use crate::source_line::write_source_line;
 use crate::streams::unwritten;
+use assembled_texts::write_source_line;
 use command_words::WordsFault;
+use explanations::explain;
 use job_queue::PoolFault;
-use program_files::{FileBytes, MEMORY, Verdict, explain};
+use program_files::{FileBytes, MEMORY, Verdict};
 use std::alloc::Global;
 use std::io::Write;
 

@@ -1,7 +1,8 @@
 //! What is written of refusals of programs, as one reads it off the rules.
 use asm::assemble;
+use explanations::{explain, meaning_of};
 use insn_codec::encode;
-use program_files::{FileBytes, check, explain, meaning_of};
+use program_files::{FileBytes, check};
 use std::alloc::Global;
 use std::test::Fail;
 

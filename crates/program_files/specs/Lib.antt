@@ -5,4 +5,3 @@ pub mod Lines
 pub mod Loaded
 pub mod ProgramFile
 pub mod Stages
-pub mod Numbered

@@ -15,7 +15,7 @@ use std::alloc::{AllocError, Global};
 use verifier::{AbsState, ProgramRefusal, Verified, verify};
 
 /// The shapes of a registry's maps, by their numbers.
-pub(crate) fn shapes_of(alloc: Global, registry: &Registry) -> Result<Vec<MapShape>, AllocError>
+pub fn shapes_of(alloc: Global, registry: &Registry) -> Result<Vec<MapShape>, AllocError>
     ensures shapes { IfOk result (λ v. v.items ≡ shapes_of_maps registry.now.maps) }
     ensures limit { IfOk result (λ v. length v.items ≤ MAX_MAPS) }
 {

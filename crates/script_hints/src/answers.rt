@@ -4,12 +4,14 @@ use crate::words::{SHOWN, words_of};
 use bpf_model::{
     CTX_BYTES, EventRefusal, KEY_BYTES, MAX_ENTRIES, MAX_REUSE, MAX_SPARE, VALUE_BYTES,
 };
+use explanations::{explain, meaning_of};
 use maps::MapFault;
-use program_files::{FileBytes, Verdict, explain, meaning_of, write_name_rule, write_quoted};
+use program_files::{FileBytes, Verdict};
 use script_lines::{ScriptCommand, ShapeNumbers, number_of, parse_line};
 use std::alloc::{AllocError, Global};
 use std::io::Write;
 use std::{io, str};
+use text_likeness::{write_name_rule, write_quoted};
 
 /// By which number a line is refused, and at which slot of its program.
 #[derive(Clone, Copy, Debug, PartialEq, Eq)]

@@ -1,11 +1,11 @@
 //! Why a line of a script is no command, in words for people.
 
-use program_files::{Likeness, likeness_of, write_line, write_quoted};
 use script_lines::{MAX_COUNT, number_of, parse_line};
 use script_stream::LINE_BYTES;
 use std::alloc::{AllocError, Global};
 use std::io::Write;
 use std::{io, str};
+use text_likeness::{Likeness, likeness_of, write_line, write_quoted};
 
 /// What a word behind a command is to be.
 #[derive(Clone, Copy, Debug, PartialEq, Eq)]

@@ -1,7 +1,7 @@
 use Rattle.std.proofs.Common.{◌∙◌, ap, subst, inl}
 use Rattle.std.proofs.lemmas.Option.{IfSome_then}
 use Rattle.asm_source.specs.LineEnds.{with_feeds}
-use Rattle.commands.specs.Assembled.{IsTextFault}
+use Rattle.assembled_texts.specs.Assembled.{IsTextFault}
 use Rattle.commands.proofs.check.check_text.Goals as goal
 
 pub returns-clause-refused : goal.returns-clause-refused

@@ -1,5 +1,0 @@
-use Rattle.map_table.specs.Held.{IsReady}
-use Rattle.bench.proofs.key_tables.look_up_all.Given as goal
-
-abbrev pub invariant-loop-turn : goal.invariant-loop-turn
-invariant-loop-turn l = IsReady l.table l.seat

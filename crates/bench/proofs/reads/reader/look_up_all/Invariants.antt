@@ -1,5 +1,0 @@
-use Rattle.read_table.specs.Held.{IsReady}
-use Rattle.bench.proofs.reads.reader.look_up_all.Given as goal
-
-abbrev pub invariant-loop-turn : goal.invariant-loop-turn
-invariant-loop-turn l = IsReady l.table l.seat

@@ -1,0 +1,249 @@
+//! What of an instruction or of its program is the cause of a refusal, in words.
+
+use crate::arithmetic::write_arithmetic;
+use crate::bounds::write_bounds;
+use bpf_model::{ArgumentKind, CallKind, FRAME_BYTES, Helper, Insn, MapId, MapShape, Operand};
+use program_files::Source;
+use register_kinds::{AbsState, RegKind};
+use std::io;
+use std::io::Write;
+
+/// The numbers of the refusals that have a cause here.
+const JUMP_TARGET: u8 = 20;
+
+const POINTER_ARITHMETIC: u8 = 25;
+
+const OUT_OF_BOUNDS: u8 = 27;
+
+const POINTER_LEAK: u8 = 30;
+
+const UNPAIRED_SECTION: u8 = 34;
+
+const UNKNOWN_CALL: u8 = 35;
+
+const WRONG_ARGUMENT: u8 = 36;
+
+const NO_SUCH_MAP: u8 = 37;
+
+/// Which functions there are.
+pub const FUNCTIONS: &str =
+    "`call 1` looks up, `call 2` updates, `call 3` deletes, `callbtf 1` locks, `callbtf 2` unlocks";
+
+/// How far a jump leads.
+fn distance_of(insn: &Insn) -> Option<i64> {
+    match insn {
+        Insn::Jump { offset } | Insn::JumpIf { offset, .. } => Some(i64::from(*offset)),
+        Insn::JumpLong { imm } => Some(i64::from(*imm)),
+        _ => None,
+    }
+}
+
+/// Whether an instruction begins at a slot.
+fn begins_at(source: &Source, slot: usize) -> bool {
+    for start in source.program.starts() {
+        if *start == slot {
+            return true;
+        }
+    }
+    false
+}
+
+/// Writes where a jump leads that stands at a slot, and what is there.
+fn write_target<W: Write>(
+    out: &mut W,
+    source: &Source,
+    insn: &Insn,
+    slot: usize,
+) -> io::Result<()> {
+    let Some(distance) = distance_of(insn) else {
+        return Ok(());
+    };
+    let behind = i64::try_from(slot).unwrap_or(0).saturating_add(1);
+    let target = behind.saturating_add(distance);
+    let count = source.program.slot_count();
+    let Ok(place) = usize::try_from(target) else {
+        return writeln!(out, "  it leads to slot {target}, before the first one");
+    };
+    if place >= count {
+        let last = count.saturating_sub(1);
+        return writeln!(
+            out,
+            "  it leads to slot {place}, and the last one is {last}"
+        );
+    }
+    let first = place.saturating_sub(1);
+    if begins_at(source, first) && !begins_at(source, place) {
+        return writeln!(
+            out,
+            "  it leads to slot {place}, the second half of the instruction at {first}"
+        );
+    }
+    Ok(())
+}
+
+/// Writes the maps of a program by their numbers.
+fn write_maps<W: Write>(out: &mut W, source: &Source) -> io::Result<()> {
+    if source.registry.len() == 0 {
+        return writeln!(
+            out,
+            "  the program has no maps: a file without `bpfrt 1` never has"
+        );
+    }
+    write!(out, "  the program's maps are")?;
+    for number in 0..source.registry.len() {
+        if let Some(name) = source.registry.name(MapId::new(number)) {
+            write!(out, " {number} ({name})")?;
+        }
+    }
+    writeln!(out)
+}
+
+/// Writes what of a program is the cause of a refusal at this instruction, which stands at a slot.
+pub fn write_cause<W: Write>(
+    out: &mut W,
+    source: &Source,
+    insn: &Insn,
+    code: u8,
+    slot: usize,
+) -> io::Result<()> {
+    match code {
+        JUMP_TARGET => write_target(out, source, insn, slot),
+        UNKNOWN_CALL => writeln!(out, "  {FUNCTIONS}"),
+        NO_SUCH_MAP => write_maps(out, source),
+        _ => Ok(()),
+    }
+}
+
+/// What an argument of this kind is to be, where a register holds another.
+fn due_of(kind: ArgumentKind, given: &RegKind) -> Option<&'static str> {
+    match (kind, given) {
+        (ArgumentKind::MapOfProgram, RegKind::Map(_))
+        | (ArgumentKind::KeyOfMap, RegKind::Frame(_))
+        | (ArgumentKind::ValueOfMap, RegKind::Frame(_))
+        | (ArgumentKind::AnyNumber, RegKind::Num(_)) => None,
+        (ArgumentKind::MapOfProgram, _) => Some("a map, which `ldmap` loads"),
+        (ArgumentKind::KeyOfMap, _) => Some("a pointer into the frame, to a key"),
+        (ArgumentKind::ValueOfMap, _) => Some("a pointer into the frame, to a value"),
+        (ArgumentKind::AnyNumber, _) => Some("a number"),
+    }
+}
+
+/// Writes which argument of a helper is of another kind.
+fn write_argument<W: Write>(out: &mut W, state: &AbsState, helper: Helper) -> io::Result<()> {
+    for (index, kind) in helper.arguments().iter().enumerate() {
+        let number = index.saturating_add(1);
+        let due = match state.regs.get(number) {
+            Some(given) => due_of(*kind, given),
+            None => None,
+        };
+        if let Some(due) = due {
+            return writeln!(out, "  r{number} is to be {due}");
+        }
+    }
+    Ok(())
+}
+
+/// The name and the length of what an argument of this kind leads to.
+fn led_to(kind: ArgumentKind, shape: MapShape) -> Option<(&'static str, usize)> {
+    match kind {
+        ArgumentKind::KeyOfMap => Some(("key", shape.key_len)),
+        ArgumentKind::ValueOfMap => Some(("value", shape.value_len)),
+        _ => None,
+    }
+}
+
+/// Writes which bytes that an argument leads to lie outside the frame.
+fn write_outside<W: Write>(
+    out: &mut W,
+    source: &Source,
+    state: &AbsState,
+    helper: Helper,
+) -> io::Result<()> {
+    let shape = match state.regs.get(1) {
+        Some(RegKind::Map(map)) => source.registry.shape(MapId::new(*map as usize)),
+        _ => None,
+    };
+    let Some(shape) = shape else {
+        return Ok(());
+    };
+    for (index, kind) in helper.arguments().iter().enumerate() {
+        let given = state.regs.get(index.saturating_add(1));
+        if let (Some(RegKind::Frame(at)), Some((what, length))) = (given, led_to(*kind, shape)) {
+            let first = i64::from(*at) - FRAME_BYTES as i64;
+            let end = first.saturating_add(i64::try_from(length).unwrap_or(0));
+            if *at < 0 || end > 0 {
+                let sign = if first < 0 { "" } else { "+" };
+                return writeln!(
+                    out,
+                    "  {what} at r10{sign}{first}, length {length}: the frame is r10-{FRAME_BYTES} to r10-1"
+                );
+            }
+        }
+    }
+    Ok(())
+}
+
+/// Writes what is stored or returned that is no number.
+fn write_leak<W: Write>(out: &mut W, insn: &Insn, state: &AbsState) -> io::Result<()> {
+    match insn {
+        Insn::Exit => writeln!(out, "  r0 is no number, and a program returns one"),
+        Insn::Store {
+            dst,
+            src: Operand::Register(src),
+            ..
+        } => {
+            let number = src.index();
+            match state.regs.get(dst.index()) {
+                Some(RegKind::Frame(_)) => writeln!(
+                    out,
+                    "  r{number} is no number, and stands in the frame whole: store it by `stxdw`"
+                ),
+                _ => writeln!(
+                    out,
+                    "  r{number} is no number, and an element holds numbers alone"
+                ),
+            }
+        }
+        _ => Ok(()),
+    }
+}
+
+/// Writes what is wrong where so many locks are open.
+fn write_section<W: Write>(out: &mut W, insn: &Insn, depth: usize) -> io::Result<()> {
+    match insn {
+        Insn::Exit => writeln!(out, "  `callbtf 2` gives up each lock before the exit"),
+        Insn::Call { .. } if depth == 0 => writeln!(out, "  no lock is open that it could give up"),
+        Insn::Call { .. } => writeln!(out, "  as many locks are open as may be"),
+        _ => Ok(()),
+    }
+}
+
+/// The helper that an instruction calls.
+fn helper_of(insn: &Insn) -> Option<Helper> {
+    match insn {
+        Insn::Call {
+            kind: CallKind::Helper,
+            imm,
+        } => Helper::from_number(*imm),
+        _ => None,
+    }
+}
+
+/// Writes what of the registers before an instruction is the cause of a refusal.
+pub fn write_known_cause<W: Write>(
+    out: &mut W,
+    source: &Source,
+    insn: &Insn,
+    code: u8,
+    state: &AbsState,
+) -> io::Result<()> {
+    match (code, helper_of(insn)) {
+        (WRONG_ARGUMENT, Some(helper)) => write_argument(out, state, helper),
+        (OUT_OF_BOUNDS, Some(helper)) => write_outside(out, source, state, helper),
+        (OUT_OF_BOUNDS, None) => write_bounds(out, source, insn, state),
+        (POINTER_ARITHMETIC, _) => write_arithmetic(out, insn, state),
+        (POINTER_LEAK, _) => write_leak(out, insn, state),
+        (UNPAIRED_SECTION, _) => write_section(out, insn, state.depth),
+        _ => Ok(()),
+    }
+}

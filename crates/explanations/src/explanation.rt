@@ -1,0 +1,178 @@
+//! Lines that explain why a program file is refused.
+ghost use Rattle.std.specs.Prelude.{◌≤◌};
+ghost use Rattle.bpf_model.specs.declared.limits.TheConstants.{CTX_BYTES};
+
+use crate::causes::{write_cause, write_known_cause};
+use crate::depths::write_depths;
+use crate::meaning::meaning_of;
+use crate::missing::{write_loaded, write_missing};
+use crate::reads::registers_read;
+use crate::slot_lines::{SlotPlace, place_of_slot};
+use bpf_model::Insn;
+use disasm::line_of;
+use program_files::{FileBytes, HEADING, MEMORY, Source, Verdict, known_where_refused, load};
+use std::alloc::Global;
+use std::io;
+use std::io::Write;
+use text_likeness::{likeness_of, write_likeness, write_wrong_line};
+use verifier::AbsState;
+use verifier_log::write_kind;
+
+/// The index of the instruction that begins at a slot, if one does.
+fn index_at(source: &Source, slot: usize) -> Option<usize> {
+    for (index, start) in source.program.starts().iter().enumerate() {
+        if *start == slot {
+            return Some(index);
+        }
+    }
+    None
+}
+
+/// Writes a line for each register that the instruction reads, and how many locks are open.
+fn write_known<W: Write>(
+    out: &mut W,
+    source: &Source,
+    insn: &Insn,
+    state: &AbsState,
+) -> io::Result<()> {
+    let read = registers_read(insn);
+    for (number, kind) in state.regs.iter().enumerate() {
+        if read.get(number).is_some_and(|is_read| *is_read) {
+            write!(out, "  r{number}: ")?;
+            write_kind(out, source, kind)?;
+            writeln!(out)?;
+        }
+    }
+    let depth = state.depth;
+    writeln!(out, "  locks that are not given up: {depth}")
+}
+
+/// The number of a refusal for bytes of the frame that are not written on every path.
+const UNWRITTEN_FRAME: u8 = 29;
+
+/// The numbers of refusals for a reference that is read in part, and for what is of different kinds on different paths.
+const POINTER_LEAK: u8 = 30;
+
+const MIXED_REGIONS: u8 = 31;
+
+/// The number of a refusal for locks, also where paths that have other numbers of them open meet.
+const UNPAIRED_SECTION: u8 = 34;
+
+/// Writes the text of the instruction at which a program is refused by this number, and what was known there.
+fn write_instruction<W: Write>(
+    alloc: Global,
+    source: &Source,
+    code: u8,
+    slot: usize,
+    out: &mut W,
+) -> io::Result<()>
+    requires { source.now.ctx_len ≤ CTX_BYTES }
+{
+    let Some(index) = index_at(source, slot) else {
+        return Ok(());
+    };
+    let Some(insn) = source.program.instructions().get(index) else {
+        return Ok(());
+    };
+    let text = line_of(alloc, insn)?;
+    writeln!(out, "at {slot}: {text}")?;
+    write_cause(out, source, insn, code, slot)?;
+    if code == UNPAIRED_SECTION {
+        write_depths(alloc, source, index, out)?;
+    }
+    if let Some(state) = known_where_refused(alloc, source)? {
+        write_known(out, source, insn, &state)?;
+        write_known_cause(out, source, insn, code, &state)?;
+        if code == UNWRITTEN_FRAME {
+            write_missing(out, source, insn, &state)?;
+        }
+        if code == POINTER_LEAK || code == MIXED_REGIONS {
+            write_loaded(out, source, insn, &state)?;
+        }
+    }
+    Ok(())
+}
+
+/// Writes in which line of a program file's text a slot stands, and where among that line's slots.
+fn write_slot_line<W: Write>(bytes: &[u8], slot: usize, out: &mut W) -> io::Result<()> {
+    let Some(place) = place_of_slot(bytes, slot) else {
+        return Ok(());
+    };
+    let SlotPlace { line, above, among } = place;
+    if among == 1 {
+        return writeln!(out, "  line {line} of the file");
+    }
+    let number = slot.saturating_sub(above).saturating_add(1);
+    writeln!(
+        out,
+        "  line {line} of the file, slot {number} of {among} there"
+    )
+}
+
+/// Writes the digits of a slot that is no instruction, of a file that looks like nothing else, and the line of a text.
+fn write_slot<W: Write>(
+    alloc: Global,
+    file: &FileBytes,
+    slot: usize,
+    out: &mut W,
+) -> io::Result<()> {
+    let FileBytes::Whole(bytes) = file else {
+        return Ok(());
+    };
+    if !bytes.starts_with(HEADING) && likeness_of(bytes).is_some() {
+        return Ok(());
+    }
+    let Ok(said) = load(alloc, bytes) else {
+        return Ok(());
+    };
+    let first = slot.saturating_mul(8);
+    let code = said.code.get(first..first.saturating_add(8)).unwrap_or(&[]);
+    let digits = hex::encode(alloc, code)?;
+    writeln!(out, "at {slot}: {digits}")?;
+    write_slot_line(bytes, slot, out)
+}
+
+/// How many lines stand above that of the context.
+const HEADING_LINES: usize = 1;
+
+/// Writes what bytes look like that are refused for a slot's form, and the line of a text that is wrong.
+fn write_source<W: Write>(file: &FileBytes, verdict: &Verdict, out: &mut W) -> io::Result<()> {
+    let bytes = match file {
+        FileBytes::Whole(bytes) => bytes,
+        FileBytes::TooLong { beginning, .. } => beginning,
+    };
+    if let Some(line) = verdict.line {
+        return write_wrong_line(out, bytes, line, HEADING_LINES);
+    }
+    if verdict.code < MEMORY && !bytes.starts_with(HEADING) {
+        return write_likeness(out, bytes);
+    }
+    Ok(())
+}
+
+/// Writes what a verdict on a program file means: a line with its name and its meaning; and where it is of an
+/// instruction, that one's text, what each register that it reads may hold, how many locks are open, by the path where that
+/// differs, and which byte of the frame is missing. The frame is told from r10 on, maps by their place in the program's list and their names. Where
+/// a line of the file is wrong, it is shown, with what it may be; bytes that are read as slots and are none may look like
+/// something else, and then that is said.
+///
+/// An error says that nothing more could be written, or that memory ran out.
+pub fn explain<W: Write>(
+    alloc: Global,
+    file: &FileBytes,
+    verdict: &Verdict,
+    out: &mut W,
+) -> io::Result<()> {
+    if let Some(meaning) = meaning_of(verdict.code) {
+        let name = meaning.name;
+        let text = meaning.text;
+        writeln!(out, "{name}: {text}")?;
+    }
+    write_source(file, verdict, out)?;
+    if let (Some(slot), Ok(source)) = (verdict.slot, file.source(alloc)) {
+        write_instruction(alloc, &source, verdict.code, slot, out)?;
+    } else if let Some(slot) = verdict.slot {
+        write_slot(alloc, file, slot, out)?;
+    }
+    Ok(())
+}

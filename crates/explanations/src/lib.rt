@@ -1,0 +1,17 @@
+//! Why a program file is refused, and what each refusal means, in words. No clause says that they are right.
+#![tactic(auto)]
+
+mod access;
+mod arithmetic;
+mod bounds;
+mod causes;
+mod depths;
+mod explanation;
+mod meaning;
+mod missing;
+mod reads;
+mod slot_lines;
+
+pub use causes::FUNCTIONS;
+pub use explanation::explain;
+pub use meaning::{Meaning, meaning_of};

@@ -1,0 +1,6 @@
+use Rattle.std.proofs.Common.{◌≡◌}
+use Rattle.map_table.specs.Held.{IsReady}
+use Rattle.table_bench.proofs.key_tables.rounds.Given as goal
+
+abbrev pub invariant-loop : goal.invariant-loop
+invariant-loop l = IsReady l.table l.seat × (l.writer.table ≡ l.table)

@@ -1,0 +1,127 @@
+//! Jobs that the seats of a table serve.
+ghost use Rattle.std.specs.Prelude.{◌<◌, ◌≤◌, All, vec_len};
+ghost use Rattle.job_queue.specs.Serving.{most_workers};
+ghost use Rattle.read_table.specs.declared.limits.TheConstants.{MAX_READERS};
+
+use crate::map_stage::{full_table, map_program};
+use crate::stage::{SLOTS, fill, lookup_program};
+use anyhow::{Result, bail, ensure};
+use map_runs::MapRuns;
+use measurements::{Decimal, LONG_TASK_BATCHES, quotient};
+use read_table::ReadTable;
+use shared_runs::RunsPrograms;
+use std::alloc::Global;
+use std::rt::Clock;
+use std::sync::Wait;
+use std::thread::Threads;
+use std::time::{Duration, Instant};
+use verifier::Verified;
+use worker_pool::{Job, JobReport, Outcome, run_table_jobs};
+use world_bench::make_jobs;
+
+/// How many jobs a batch has. Each is a run that looks a key up and loads the value, once or again and again.
+const READ_JOBS: u32 = 65_536;
+
+/// The value of the key.
+const VALUE: u64 = 1;
+
+/// Whether each job has exited with the value.
+fn have_all_exited(reports: &[JobReport<()>]) -> bool {
+    for report in reports {
+        if report.outcome != Outcome::Exit(VALUE) {
+            return false;
+        }
+    }
+    true
+}
+
+/// The time in which these seats of a table serve the jobs.
+fn time_of_jobs<T: RunsPrograms + Sync, R: Threads + Wait + Clock + Sync>(
+    rt: &R,
+    alloc: Global,
+    programs: &[Verified],
+    jobs: &[Job],
+    table: &T,
+    seats: &mut Vec<T::Seat>,
+) -> Result<Duration>
+    requires some { 0 < vec_len seats.old }
+    requires few { vec_len seats.old ≤ most_workers }
+    requires ready { All (T.IsReady table.now) seats.old.items }
+    requires fit { All (λ c. T.Fits table.now c.shapes) programs.now }
+{
+    let start = Instant::now(rt)?;
+    match run_table_jobs(rt, alloc, programs, jobs, table, seats) {
+        Ok(report) => {
+            let time = start.elapsed(rt)?;
+            ensure!(
+                have_all_exited(&report.jobs),
+                "a job has not exited as it should"
+            );
+            Ok(time)
+        }
+        Err(fault) => bail!("{fault}"),
+    }
+}
+
+/// The time in which so many seats of a `ReadTable` serve the jobs, of so many lookups each.
+fn time_of_read_jobs<R: Threads + Wait + Clock + Sync>(
+    rt: &R,
+    alloc: Global,
+    jobs: &[Job],
+    seats: usize,
+    lookups: u32,
+) -> Result<Duration>
+    requires { (0 < seats) × (seats ≤ MAX_READERS) }
+{
+    let (table, mut seats, mut writer) = ReadTable::new(alloc, SLOTS, 8, 8, seats)?;
+    fill(&table, &mut writer)?;
+    let programs = [lookup_program(alloc, &table, lookups)?];
+    time_of_jobs(rt, alloc, &programs, jobs, &table, &mut seats.list)
+}
+
+/// The same of a `MapTable`.
+fn time_of_map_jobs<R: Threads + Wait + Clock + Sync>(
+    rt: &R,
+    alloc: Global,
+    jobs: &[Job],
+    seats: usize,
+    lookups: u32,
+) -> Result<Duration>
+    requires { (0 < seats) × (seats ≤ MAX_READERS) }
+{
+    let (table, mut seats, _writer) = full_table(alloc, seats)?;
+    let programs = [map_program(alloc, &table, lookups)?];
+    let runs = MapRuns { table: &table };
+    time_of_jobs(rt, alloc, &programs, jobs, &runs, &mut seats.list)
+}
+
+/// Over which table jobs run.
+#[derive(Clone, Copy, Debug, PartialEq, Eq)]
+pub enum Kind {
+    /// A `ReadTable`.
+    Read,
+    /// A `MapTable`.
+    Map,
+}
+
+/// The time of one job of so many lookups in nanoseconds: all jobs of the quickest batch after one another.
+pub fn time_per_job<R: Threads + Wait + Clock + Sync>(
+    rt: &R,
+    alloc: Global,
+    kind: Kind,
+    seats: usize,
+    lookups: u32,
+) -> Result<Decimal>
+    requires { (0 < seats) × (seats ≤ MAX_READERS) }
+{
+    let jobs = make_jobs(alloc, READ_JOBS)?;
+    let mut best = Duration::MAX;
+    for _ in 0..LONG_TASK_BATCHES {
+        let time = match kind {
+            Kind::Read => time_of_read_jobs(rt, alloc, &jobs, seats, lookups)?,
+            Kind::Map => time_of_map_jobs(rt, alloc, &jobs, seats, lookups)?,
+        };
+        best = best.min(time);
+    }
+    Ok(quotient(best.as_nanos(), u128::from(READ_JOBS)))
+}

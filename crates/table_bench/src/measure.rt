@@ -1,0 +1,116 @@
+//! How long calls take.
+ghost use Rattle.std.specs.Prelude.{◌<◌, ◌≤◌};
+ghost use Rattle.read_table.specs.declared.limits.TheConstants.{MAX_READERS};
+
+use crate::crew::go;
+use crate::measured::Measured;
+use crate::runner::{runners_of, sum_of_times};
+use crate::task::Task;
+use anyhow::{Result, bail, ensure};
+use read_table::MAX_READERS;
+use std::alloc::Global;
+use std::rt::Clock;
+use std::thread::Threads;
+
+/// How often each crew makes its calls.
+pub const ROUNDS: u32 = 10;
+
+/// How many calls a round of `repeat` has.
+const CALLS_OF_ROUND: u32 = 1024;
+
+/// With whom readers share their table.
+#[derive(Clone, Copy, Debug, PartialEq, Eq)]
+pub enum Company {
+    /// With each other.
+    Readers,
+    /// With each other, and with the writer, which changes it all the time.
+    Writer,
+}
+
+/// So many readers, and the nanoseconds that their calls took so far, each reader's in its own thread, added up.
+#[derive(Clone, Copy, Debug)]
+pub struct Crew {
+    pub readers: usize,
+    pub company: Company,
+    pub nanos: u64,
+}
+
+/// The nanoseconds in which so many readers of one table make the calls of a task, added up.
+fn time_together<S: Measured, R: Threads + Clock + Sync>(
+    rt: &R,
+    alloc: Global,
+    task: &Task,
+    readers: usize,
+    is_written: bool,
+) -> Result<u64>
+    requires { (0 < readers) × (readers ≤ MAX_READERS) }
+{
+    let (table, readers, mut writer) = S::make(alloc, readers)?;
+    let mut runners = runners_of(alloc, &table, readers)?;
+    let rounds = go(
+        rt,
+        &table,
+        runners.as_mut_slice(),
+        &mut writer,
+        task.deed,
+        task.calls,
+        is_written,
+    );
+    ensure!(rounds < u64::MAX, "the writer did not end");
+    sum_of_times(&runners)
+}
+
+/// The nanoseconds in which the readers of a crew make the calls of a task, added up.
+fn time_once<S: Measured, R: Threads + Clock + Sync>(
+    rt: &R,
+    alloc: Global,
+    task: &Task,
+    crew: Crew,
+) -> Result<u64> {
+    let readers = crew.readers;
+    ensure!(readers >= 1 && readers <= MAX_READERS, "no such crew");
+    match crew.company {
+        Company::Readers => time_together::<S, R>(rt, alloc, task, readers, false),
+        Company::Writer => time_together::<S, R>(rt, alloc, task, readers, true),
+    }
+}
+
+/// Lets each crew make the calls of a task once.
+fn time_round<S: Measured, R: Threads + Clock + Sync>(
+    rt: &R,
+    alloc: Global,
+    task: &Task,
+    crews: &mut [Crew],
+) -> Result<()> {
+    for index in 0..crews.len() {
+        let time = time_once::<S, R>(rt, alloc, task, crews[index])?;
+        crews[index].nanos = crews[index].nanos.saturating_add(time);
+    }
+    Ok(())
+}
+
+/// Lets each crew make the calls of a task `ROUNDS` times, one crew after the other in each round: so all of them have the
+/// machine as it is then, whatever else it does.
+pub fn time_crews<S: Measured, R: Threads + Clock + Sync>(
+    rt: &R,
+    alloc: Global,
+    task: &Task,
+    crews: &mut [Crew],
+) -> Result<()> {
+    for _ in 0..ROUNDS {
+        time_round::<S, R>(rt, alloc, task, crews)?;
+    }
+    Ok(())
+}
+
+/// The sum of what so many rounds of calls of one reader find, all in this thread.
+pub fn repeat_calls<S: Measured>(alloc: Global, task: &Task, times: u32) -> Result<u64> {
+    let (table, mut readers, _writer) = S::make(alloc, 1)?;
+    let Some(reader) = readers.first_mut() else {
+        bail!("no reader");
+    };
+    for _ in 0..times {
+        table.work(reader, task.deed, CALLS_OF_ROUND);
+    }
+    Ok(S::sum(reader))
+}

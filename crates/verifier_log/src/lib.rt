@@ -1,0 +1,11 @@
+//! What the verifier knows before each instruction, in words.
+#![tactic(auto)]
+
+mod frame;
+mod known;
+mod log;
+mod numbered;
+
+pub use frame::write_group;
+pub use known::write_kind;
+pub use log::write_log;
