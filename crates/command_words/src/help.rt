@@ -104,10 +104,11 @@ Example:
 pub const POOL_HELP: &str = "\
 Reads a program file as `bpfrt check` does, verifies it, and then runs it COUNT times by WORKERS threads that
 share one world of the file's maps. Each job starts the program on a context of zeros, steps it to its exit,
-and drops the run.
+and drops the run. Where no job changes a map and the maps are small, each 512 jobs have a world of their own,
+so that no worker waits for another.
 
 Prints a line for each job in order, `job I exit V`, or `job I stopped C` where an event of the job was refused
-or not applied, those of 4,096 jobs as soon as these are done; then `entries N`, how many events the journal has.
+or not applied, those of 16,384 jobs as soon as these are done; then `entries N`, how many events the journals have.
 With --explain, a refusal is followed on standard error by what `bpfrt check` says, or by the limits of pools.
 
 Status, and the line on standard error:

@@ -79,12 +79,12 @@ impl Write for Flushed {
     }
 }
 
-/// The lines of 4,096 jobs at a time are written and flushed before any further one is.
+/// The lines of 16,384 jobs at a time are written and flushed before any further one is.
 #[test]
 fn lines_come_in_blocks(rt: HostRuntime) -> Result<(), Fail> {
     let alloc = rt.alloc();
-    let pool = pool_of(alloc, 2, 10_000)?;
-    for (flushes_left, count) in [(0, 0), (1, 4096), (2, 8192), (3, 10_000)] {
+    let pool = pool_of(alloc, 2, 40_000)?;
+    for (flushes_left, count) in [(0, 0), (1, 16_384), (2, 32_768), (3, 40_000)] {
         let mut input = EXIT_ONE.as_slice();
         let mut out = Flushed {
             text: Vec::new(alloc),

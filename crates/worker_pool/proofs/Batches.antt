@@ -30,6 +30,20 @@ runs_of program n len programs job only same zero = record {
   zeros = All-cons (IsZeroJob len) job [] (subst (λ (m : ℕ). IsZeroJob m job) same zero) (All-nil (IsZeroJob len));
 }
 
+-- the lines of a batch in another world of the same program are those of one in this world
+pub printed_elsewhere : (own programs : List Checked) (code : List Insn) (job : Job) (batch : Batch) (text : List ℕ) →
+    map (λ p. p.program) own ≡ code ∷ [] → map (λ p. p.program) programs ≡ code ∷ [] → IsPrinted own job batch text →
+    IsPrinted programs job batch text
+printed_elsewhere own programs code job batch text own_only only printed = record {
+  outcomes = printed.outcomes;
+  are = (
+    printed.are.0,
+    λ program len runs.
+        printed.are.1 program len record { only = own_only ∙ (sym only ∙ runs.only); zeros = runs.zeros },
+  );
+  lines = printed.lines;
+}
+
 -- one batch more
 pub more_batches : (first mid : ℕ) (batches : List Batch) (batch : Batch) → AreBatches first batches mid → batch.first ≡ mid →
     AreBatches first (batches ++ batch ∷ []) (mid + batch.count)

@@ -1,6 +1,8 @@
 -- Many jobs that are all alike, some of them at a time.
-use Rattle.std.specs.Prelude.{◌≡◌, ℕ, ◌+◌, List, [], ◌∷◌, length, All, Option}
+use Rattle.std.specs.Prelude.{◌≡◌, ℕ, ◌+◌, List, [], ◌∷◌, length, map, All, Option}
 use Rattle.bpf_model.specs.declared.insn.Insn.{Insn}
+use Rattle.bpf_model.specs.View.{AreNewMaps, shapes_of_maps}
+use Rattle.shared.specs.declared.bound.ProgramWithMaps.{ProgramWithMaps}
 use Rattle.verifier.specs.Checked.{Checked}
 use Rattle.worker_pool.specs.declared.batch.Batch.{Batch}
 use Rattle.worker_pool.specs.declared.job.Job.{Job}
@@ -22,6 +24,13 @@ AreOutcomes programs job count outcomes =
     (length outcomes ≡ count)
     × ((program : List Insn) (context_len : ℕ) → AreRunsOf program context_len programs (job ∷ []) →
     All (IsOutcomeOf program context_len) outcomes)
+
+-- A world of these programs has this one alone; and its maps are new ones, of the shapes that it was verified with.
+abbrev pub IsAlike : List Checked → ProgramWithMaps → Type 0
+IsAlike programs program =
+    (map (λ p. p.program) programs ≡ program.verified.program ∷ [])
+    × AreNewMaps program.registry.maps
+    × (program.verified.shapes ≡ shapes_of_maps program.registry.maps)
 
 -- The text is the lines of the outcomes of a batch.
 pub record IsPrinted (programs : List Checked) (job : Job) (batch : Batch) (text : List ℕ) : Type 0 where

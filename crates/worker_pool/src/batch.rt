@@ -3,9 +3,6 @@ ghost use Rattle.std.specs.Prelude.{◌≡◌, ◌+◌, ◌<◌, ◌≤◌, ◌^
 
 use std::alloc::{AllocError, Global};
 
-/// How many jobs a worker serves under one lock.
-const BATCH: usize = 64;
-
 /// So many jobs, which are numbered from `first` on.
 #[derive(Clone, Copy, Debug)]
 pub struct Batch {
@@ -17,9 +14,16 @@ pub struct Batch {
 impl Batch {
     ghost use Rattle.worker_pool.specs.Batches.{AreBatches};
 
-    /// So many jobs, numbered from `first` on, in batches of which the last may be smaller. Fails where memory runs out.
-    pub fn all_of(alloc: Global, first: usize, count: usize) -> Result<Vec<Batch>, AllocError>
-        requires { first + count < 2 ^ 64 }
+    /// So many jobs, numbered from `first` on, in batches of `size` of which the last may be smaller. Fails where memory
+    /// runs out.
+    pub fn all_of(
+        alloc: Global,
+        size: usize,
+        first: usize,
+        count: usize,
+    ) -> Result<Vec<Batch>, AllocError>
+        requires some { 0 < size }
+        requires small { first + count < 2 ^ 64 }
         ensures are { IfOk result (λ v. AreBatches first v.items (first + count)) }
         ensures few { IfOk result (λ v. length v.items ≤ count) }
     {
@@ -27,7 +31,7 @@ impl Batch {
         let mut batches = Vec::new(alloc);
         let mut next = first;
         while next < end {
-            let count = BATCH.min(end - next);
+            let count = size.min(end - next);
             batches.push(Batch { first: next, count })?;
             next += count;
         }

@@ -5,6 +5,7 @@
 //! Contracts say what is so of outcome and trail for the job's own program and context.
 #![tactic(auto)]
 
+mod apart;
 mod batch;
 mod fault;
 mod job;

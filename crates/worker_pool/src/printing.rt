@@ -1,33 +1,41 @@
-//! One worker serves a batch of jobs under one lock, and makes their lines behind it.
+//! One worker serves a batch of jobs, in the world that all share or in one of its own, and makes their lines.
 ghost use Rattle.std.specs.Prelude.{◌≡◌, ◌≤◌, ℕ, List, Option, Some, length, slice_get, IfErr, IfOk, IfSome, OnOk};
 ghost use Rattle.std.specs.Global.{Vec};
+ghost use Rattle.std.specs.Option.{ForSome};
 ghost use Rattle.std.specs.List.{AllZip};
 ghost use Rattle.job_queue.specs.declared.fault.PoolFault.TheVariants as faults;
 ghost use Rattle.job_queue.specs.Serving.{IsBadCount, most_jobs};
 ghost use Rattle.worker_pool.specs.declared.batch.Batch.{Batch};
-ghost use Rattle.worker_pool.specs.Batches.{AreBatches, AreOutcomes, HasWritten, HasWrittenPart, IsPrinted};
+ghost use Rattle.worker_pool.specs.Batches.{AreBatches, AreOutcomes, HasWritten, HasWrittenPart, IsAlike, IsPrinted};
 ghost use Rattle.worker_pool.specs.Runs.{IsLate};
 ghost use Rattle.worker_pool.specs.Trails.{IsLater};
 
+use crate::apart::print_apart;
 use crate::batch::Batch;
 use crate::fault::RunFault;
 use crate::job::{Job, JobReport, Outcome};
 use crate::lines::make_lines;
 use crate::pooled::serve_held;
 use job_queue::{PoolFault, Serve, serve_all};
-use shared::{Shared, Worker, Workers};
+use shared::{ProgramWithMaps, Shared, Worker, Workers};
 use std::alloc::{AllocError, Global};
 use std::io::Write;
+use std::marker::Brand;
 use std::sync::Wait;
-use std::sync::ledger::Ledger;
+use std::sync::atomic::{AtomicU64, Ordering};
+use std::sync::ledger::{Blank, Ledger};
 use std::thread::Threads;
 
-/// Serves batches of one job again and again from a shared world, and makes their lines.
+/// Serves batches of one job again and again, and makes their lines.
 #[derive(Drop)]
 pub(crate) struct Printing<'a, L: Ledger> {
     pub alloc: Global,
     pub shared: &'a Shared<L>,
     pub job: &'a Job,
+    /// The program and its maps, where each batch has a world of its own.
+    pub apart: &'a Option<ProgramWithMaps>,
+    /// How many entries the journals of such worlds had.
+    pub entries: AtomicU64,
 }
 
 /// Serves the job so many times under one lock, and keeps of each time its outcome alone. Fails, before it takes the
@@ -52,8 +60,8 @@ fn serve_again<L: Ledger, R: Wait>(
     Ok(outcomes)
 }
 
-/// Serves a batch, and makes its lines. Nothing where memory runs out.
-fn print_batch<L: Ledger, R: Wait>(
+/// Serves a batch under one lock of the shared world, and makes its lines behind it. Nothing where memory runs out.
+pub(crate) fn print_together<L: Ledger, R: Wait>(
     rt: &R,
     alloc: Global,
     shared: &Shared<L>,
@@ -75,6 +83,23 @@ fn print_batch<L: Ledger, R: Wait>(
 }
 
 impl<L: Ledger> Printing<'_, L> {
+    /// Serves a batch, and makes its lines. Nothing where memory runs out.
+    fn print_batch<R: Wait>(&self, rt: &R, worker: &mut Worker<L>, batch: &Batch) -> Option<Vec<u8>>
+        requires alike { ForSome self.now.apart.now (IsAlike self.now.shared.now) }
+        ensures later { IsLater worker.old worker.new }
+        ensures printed { IfSome result (λ v.
+            IsPrinted self.now.shared.now self.now.job.now batch.now v.items) }
+    {
+        let Some(program) = self.apart else {
+            return print_together(rt, self.alloc, self.shared, worker, self.job, batch);
+        };
+        let blank = Blank::new(1);
+        let apart = print_apart::<Brand, R>(rt, self.alloc, blank, program, self.job, batch)?;
+        self.entries
+            .fetch_add(apart.entries as u64, Ordering::SeqCst);
+        Some(apart.text)
+    }
+
     /// Writes the lines of batches that it has served, where all are there.
     pub(crate) fn write_texts<W: Write>(
         &self,
@@ -117,6 +142,7 @@ impl<L: Ledger + Send + Sync> Printing<'_, L> {
     ) -> Result<Vec<Option<Vec<u8>>>, PoolFault>
         requires threads { IsBadCount threads (length workers.old) → ⊥ }
         requires few { length batches.now ≤ most_jobs }
+        requires alike { ForSome self.now.apart.now (IsAlike self.now.shared.now) }
         ensures later { AllZip IsLater workers.old workers.new }
         ensures long { IfOk result (λ v. length v.items ≡ length batches.now) }
         ensures right { IfOk result (λ v. (k : ℕ) (batch : Batch) (text : Option (Vec ℕ)) →
@@ -130,7 +156,8 @@ impl<L: Ledger + Send + Sync> Printing<'_, L> {
 
 impl<L: Ledger + Send + Sync> Serve for Printing<'_, L> {
     ghost use Rattle.std.specs.Prelude.{IfSome};
-    ghost use Rattle.worker_pool.specs.Batches.{IsPrinted};
+    ghost use Rattle.std.specs.Option.{ForSome};
+    ghost use Rattle.worker_pool.specs.Batches.{IsAlike, IsPrinted};
     ghost use Rattle.worker_pool.specs.Trails.{IsLater};
     ghost use Rattle.worker_pool.specs.TrailLemmas.{later_same, later_again};
 
@@ -140,7 +167,7 @@ impl<L: Ledger + Send + Sync> Serve for Printing<'_, L> {
 
     type Served = Option<Vec<u8>>;
 
-    ghost ready = { λ s w. Unit {0} };
+    ghost ready = { λ s w. ForSome s.apart.now (IsAlike s.shared.now) };
 
     ghost later = { IsLater };
 
@@ -148,7 +175,7 @@ impl<L: Ledger + Send + Sync> Serve for Printing<'_, L> {
 
     /// Serves a batch, and makes its lines.
     fn serve<R: Wait>(&self, rt: &R, worker: &mut Worker<L>, batch: &Batch) -> Option<Vec<u8>> {
-        print_batch(rt, self.alloc, self.shared, worker, self.job, batch)
+        self.print_batch(rt, worker, batch)
     }
 
     ghost later_same = { later_same };

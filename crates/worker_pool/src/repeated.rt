@@ -1,11 +1,13 @@
 //! One program, run many times over maps of its own.
 ghost use Rattle.std.specs.Prelude.{◌≡◌, ◌⊎◌, ◌≤◌, ◌<◌, Err, length, IfErr, OnOk};
+ghost use Rattle.std.specs.Option.{ForSome};
 ghost use Rattle.bpf_model.specs.View.{AreNewMaps, shapes_of_maps};
 ghost use Rattle.job_queue.specs.declared.fault.PoolFault.TheVariants as faults;
 ghost use Rattle.job_queue.specs.Serving.{most_jobs, most_workers};
-ghost use Rattle.worker_pool.specs.Batches.{HasWritten, HasWrittenPart};
+ghost use Rattle.worker_pool.specs.Batches.{HasWritten, HasWrittenPart, IsAlike};
 ghost use Rattle.worker_pool.specs.Runs.{IsLate, IsRunFaultOf, WritesJobs, WritesPart};
 
+use crate::apart::copy_to_part;
 use crate::batch::Batch;
 use crate::fault::RunFault;
 use crate::job::Job;
@@ -17,37 +19,54 @@ use std::alloc::Global;
 use std::io::Write;
 use std::marker::Brand;
 use std::sync::Wait;
+use std::sync::atomic::{AtomicU64, Ordering};
 use std::sync::ledger::{Blank, Ledger};
 use std::thread::Threads;
 
 /// How many jobs are served before their lines are written.
-const BLOCK: usize = 4_096;
+const BLOCK: usize = 16_384;
+
+/// How many jobs a worker serves under one lock of a world that all share.
+const TOGETHER: usize = 64;
+
+/// How many jobs a world has that one worker alone uses.
+const APART: usize = 512;
 
 /// Serves a job so many times by all workers, each in a thread of its own: one block of jobs after another. The lines of
-/// a block are written as soon as it is served.
+/// a block are written as soon as it is served. How many entries worlds apart have had.
 fn serve_blocks<L: Ledger + Send + Sync, R: Threads + Wait + Sync, W: Write>(
     rt: &R,
     alloc: Global,
     job: &Job,
     count: usize,
     shared: &Shared<L>,
+    apart: &Option<ProgramWithMaps>,
     workers: &mut Workers<L>,
     out: &mut W,
-) -> Result<(), RunFault>
+) -> Result<usize, RunFault>
     requires workers { (0 < length workers.old) × (length workers.old ≤ most_workers) }
     requires limit { count ≤ most_jobs }
+    requires alike { ForSome apart.now (IsAlike shared.now) }
     ensures fault { IfErr result IsLate }
     ensures written { OnOk result (HasWritten shared.now job.now count
         (W.contents out.old) (W.contents out.new)) }
     ensures part { IfErr result (HasWrittenPart shared.now job.now count
         (W.contents out.old) (W.contents out.new)) }
 {
-    let printing = Printing { alloc, shared, job };
+    let size = if apart.is_some() { APART } else { TOGETHER };
+    let entries = AtomicU64::new(0);
+    let printing = Printing {
+        alloc,
+        shared,
+        job,
+        apart,
+        entries,
+    };
     let threads = workers.list.len();
     let mut first = 0;
     while first < count {
         let some = BLOCK.min(count - first);
-        let Ok(batches) = Batch::all_of(alloc, first, some) else {
+        let Ok(batches) = Batch::all_of(alloc, size, first, some) else {
             return Err(RunFault::Pool(PoolFault::Memory));
         };
         let texts = printing.serve_batches(rt, &batches, threads, workers)?;
@@ -55,7 +74,7 @@ fn serve_blocks<L: Ledger + Send + Sync, R: Threads + Wait + Sync, W: Write>(
         out.flush()?;
         first += some;
     }
-    Ok(())
+    Ok(printing.entries.load(Ordering::SeqCst) as usize)
 }
 
 /// So many jobs by so many workers. Answers how many entries the journal has.
@@ -81,13 +100,25 @@ fn run_shared<L: Ledger + Send + Sync, R: Threads + Wait + Sync, W: Write>(
         (W.contents out.old) (W.contents out.new)) }
 {
     let job = zero_job(program.verified.ctx_len());
+    let Ok(apart) = copy_to_part(alloc, &program, count) else {
+        return Err(RunFault::Pool(PoolFault::Memory));
+    };
     let shared = Shared::<L>::of_program(alloc, program, workers, blank);
     let Ok((shared, mut all_workers)) = shared else {
         return Err(RunFault::Pool(PoolFault::Memory));
     };
-    serve_blocks(rt, alloc, &job, count, &shared, &mut all_workers, out)?;
+    let entries = serve_blocks(
+        rt,
+        alloc,
+        &job,
+        count,
+        &shared,
+        &apart,
+        &mut all_workers,
+        out,
+    )?;
     let finished = shared.finish(all_workers);
-    Ok(finished.journal.len())
+    Ok(finished.journal.len().saturating_add(entries))
 }
 
 /// Runs a program so many times by so many workers, on contexts of its length that are all zero,
@@ -103,8 +134,11 @@ fn run_shared<L: Ledger + Send + Sync, R: Threads + Wait + Sync, W: Write>(
 ///
 /// The lines of some first jobs are written where memory runs out.
 ///
-/// A worker serves up to 64 jobs each time that it has the lock, and makes their lines without it. That it returns is
-/// not claimed: workers wait for the lock.
+/// Where no run changes a map, each 512 jobs have a world of their own, with maps as new and a journal, so that no worker waits
+/// for another; the answer is the sum of these journals' entries. It is so only where the keys and values have at most 65,536
+/// bytes, and one journal would have room for all entries, so that nobody can tell. Else a worker serves up to 64 jobs each
+/// time that it has the lock of the one world, and makes their lines without it. That it returns is not claimed: workers wait
+/// for the lock.
 pub fn run_program<R: Threads + Wait + Sync, W: Write>(
     rt: &R,
     alloc: Global,

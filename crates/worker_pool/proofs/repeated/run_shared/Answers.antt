@@ -2,17 +2,17 @@ use Rattle.std.proofs.lemmas.Result.{err_from_is_err_and}
 use Rattle.worker_pool.proofs.Batches.{runs_of}
 use Rattle.worker_pool.proofs.repeated.run_shared.Goals as goal
 
-pub returns-in_err-serve_blocks-clause-part : goal.returns-in_err-serve_blocks-clause-part
-returns-in_err-serve_blocks-clause-part g c =
+pub returns-in_err-entries-clause-part : goal.returns-in_err-entries-clause-part
+returns-in_err-entries-clause-part g c =
     let v = c.args.program.verified in
     let p = err_from_is_err_and c.from_residual.result c.from_residual.ensures.1 in
-    rw (p.1, p.2) (c.in_err-serve_blocks.ensures.part v.program v.ctx_len
-    (runs_of v.program c.ctx_len.result v.ctx_len c.in-Ok.shared c.zero_job-job.result c.in-Ok.ensures.codes c.ctx_len.ensures.value
+    rw (p.1, p.2) (c.in_err-entries.ensures.part v.program v.ctx_len
+    (runs_of v.program c.ctx_len.result v.ctx_len c.in-Ok-shared.shared c.zero_job-job.result c.in-Ok-shared.ensures.codes c.ctx_len.ensures.value
     c.zero_job-job.ensures))
 
 pub returns-clause-written : goal.returns-clause-written
 returns-clause-written g c =
     let v = c.args.program.verified in
-    c.in_ok-serve_blocks.ensures.written v.program v.ctx_len
-    (runs_of v.program c.ctx_len.result v.ctx_len c.in-Ok.shared c.zero_job-job.result c.in-Ok.ensures.codes c.ctx_len.ensures.value
+    c.in_ok-entries.ensures.written v.program v.ctx_len
+    (runs_of v.program c.ctx_len.result v.ctx_len c.in-Ok-shared.shared c.zero_job-job.result c.in-Ok-shared.ensures.codes c.ctx_len.ensures.value
     c.zero_job-job.ensures)

@@ -1,7 +1,7 @@
 use Rattle.std.proofs.Common.{ap, ◌∙◌, List}
 use Rattle.worker_pool.specs.declared.job.Outcome.{Outcome}
 use Rattle.worker_pool.specs.Lines.{job_lines}
-use Rattle.worker_pool.proofs.printing.print_batch.Goals as goal
+use Rattle.worker_pool.proofs.printing.print_together.Goals as goal
 
 pub returns-in-Ok-make_lines-clause-printed : goal.returns-in-Ok-make_lines-clause-printed
 returns-in-Ok-make_lines-clause-printed g c = record {

@@ -1,0 +1,123 @@
+//! A batch in a world of its own.
+ghost use Rattle.std.specs.Prelude.{◌≡◌, ◌<◌, ◌∷◌, [], List, length, map, IfOk, IfSome};
+ghost use Rattle.bpf_model.specs.View.{AreNewMaps, shapes_of_maps};
+ghost use Rattle.verifier.specs.Checked.{Checked};
+ghost use Rattle.worker_pool.specs.Batches.{IsPrinted};
+
+use crate::batch::Batch;
+use crate::job::Job;
+use crate::printing::print_together;
+use bpf_model::{CallKind, Helper, Insn, MAX_JOURNAL, MapShape};
+use effects::Region;
+use shared::{ProgramWithMaps, Shared};
+use std::alloc::{AllocError, Global};
+use std::sync::Wait;
+use std::sync::ledger::{Blank, Ledger};
+use verifier::Verified;
+
+/// How many bytes the keys and values of maps may have that each world copies.
+const MOST_BYTES: usize = 1 << 16;
+
+/// Whether the instruction stores to an element, where it reaches this region, or calls a helper that changes a map.
+fn changes_map(insn: &Insn, region: Region) -> bool {
+    match insn {
+        Insn::Store { .. } => matches!(region, Region::Value(_)),
+        Insn::Call {
+            kind: CallKind::Helper,
+            imm,
+        } => matches!(
+            Helper::from_number(*imm),
+            Some(Helper::Update | Helper::Delete)
+        ),
+        _ => false,
+    }
+}
+
+/// Whether an instruction of the program changes a map.
+fn changes_maps(verified: &Verified) -> bool {
+    let instructions = verified.program().instructions();
+    for index in 0..instructions.len() {
+        if changes_map(&instructions[index], verified.region(index)) {
+            return true;
+        }
+    }
+    false
+}
+
+/// How many bytes the keys and the values of maps of these shapes have, in all slots.
+fn bytes_of(shapes: &[MapShape]) -> usize {
+    let mut bytes = 0usize;
+    for shape in shapes {
+        let slots = shape.entries.saturating_add(shape.spare);
+        let each = shape.key_len.saturating_add(shape.value_len);
+        bytes = bytes.saturating_add(slots.saturating_mul(each));
+    }
+    bytes
+}
+
+/// Whether so many jobs may be served in worlds apart, and nobody can tell: no run changes the maps, which are small, and one
+/// journal would have room for all entries, since a job makes no more than its program has instructions, and two.
+fn may_be_apart(verified: &Verified, count: usize) -> bool {
+    let each = verified.program().len().saturating_add(2);
+    if each.saturating_mul(count) > MAX_JOURNAL || bytes_of(verified.shapes()) > MOST_BYTES {
+        return false;
+    }
+    !changes_maps(verified)
+}
+
+/// A copy of the program and its maps, where so many jobs of it may be served in worlds apart.
+pub(crate) fn copy_to_part(
+    alloc: Global,
+    program: &ProgramWithMaps,
+    count: usize,
+) -> Result<Option<ProgramWithMaps>, AllocError>
+    ensures { IfOk result (λ o. IfSome o (λ p. p ≡ program.now)) }
+{
+    if !may_be_apart(&program.verified, count) {
+        return Ok(None);
+    }
+    let verified = program.verified.copy(alloc)?;
+    let registry = program.registry.copy()?;
+    Ok(Some(ProgramWithMaps { verified, registry }))
+}
+
+/// What a world of its own came to: the lines of a batch, and how many entries the world's journal has.
+#[derive(Drop)]
+pub(crate) struct Apart {
+    pub text: Vec<u8>,
+    pub entries: usize,
+}
+
+/// Serves a batch in a world of its own, of copies of the program and its maps, and makes its lines. Nothing where memory
+/// runs out.
+pub(crate) fn print_apart<L: Ledger, R: Wait>(
+    rt: &R,
+    alloc: Global,
+    blank: Blank,
+    program: &ProgramWithMaps,
+    job: &Job,
+    batch: &Batch,
+) -> Option<Apart>
+    requires new_maps { AreNewMaps program.now.registry.maps }
+    requires shapes { program.now.verified.shapes ≡ shapes_of_maps program.now.registry.maps }
+    requires name { blank.name ≡ L.name }
+    requires parts { (blank.parts ≡ L.parts) × (blank.parts ≡ 1) }
+    ensures printed { (programs : List Checked) →
+        map (λ p. p.program) programs ≡ program.now.verified.program ∷ [] →
+        IfSome result (λ a. IsPrinted programs job.now batch.now a.text.items) }
+{
+    let (Ok(verified), Ok(registry)) = (program.verified.copy(alloc), program.registry.copy())
+    else {
+        return None;
+    };
+    let copied = ProgramWithMaps { verified, registry };
+    let Ok((own, mut workers)) = Shared::<L>::of_program(alloc, copied, 1, blank) else {
+        return None;
+    };
+    let Some(worker) = workers.list.first_mut() else {
+        return None;
+    };
+    let text = print_together(rt, alloc, &own, worker, job, batch)?;
+    let entries = own.finish(workers).journal.len();
+    Some(Apart { text, entries })
+}
