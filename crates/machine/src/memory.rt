@@ -1,17 +1,18 @@
 //! The bytes that words name.
-ghost use Rattle.std.specs.Prelude.{◌≡◌, ℕ, ◌+◌, ◌^◌, ◌<◌, length, pos, ◌+ℤ◌};
+ghost use Rattle.std.specs.Prelude.{◌≡◌, ℕ, ◌+◌, ◌^◌, ◌<◌, length, pos, ◌+ℤ◌, []};
 ghost use Rattle.bpf_model.specs.declared.limits.TheConstants.{FRAME_BYTES};
 ghost use Rattle.bpf_model.specs.Access.{byte_count};
 ghost use Rattle.bpf_model.specs.Word.{frame_base};
 ghost use Rattle.world_laws.specs.Locating.{number_from};
 ghost use Rattle.bpf_model.specs.Access.{with_bytes};
 ghost use Rattle.world_laws.specs.Reaching.{IsInside};
-ghost use Rattle.machine.specs.Workspaces.{with_frame};
+ghost use Rattle.world_laws.specs.Moving.{operand_word};
+ghost use Rattle.machine.specs.Workspaces.{own_view, with_frame};
 ghost use Rattle.machine.specs.Moves.{offset_from};
 
 use crate::regions::FRAME_BASE;
 use crate::workspace::Workspace;
-use bpf_model::{Width, number_of, write_number};
+use bpf_model::{Operand, Width, number_of, write_number};
 
 /// A word, moved by an offset.
 #[inline(always)]
@@ -47,20 +48,18 @@ pub(crate) fn number_in(bytes: &[u8], base: u64, address: u64, offset: i16, widt
 }
 
 impl Workspace {
-    /// Writes the low bytes of a number to the frame.
+    /// Writes the low bytes of an operand to the frame. The operand is read last: read first, what follows is the same for
+    /// a register and an immediate, and the compiler puts it behind one more jump.
     #[inline(always)]
-    pub(crate) fn write(&mut self, width: Width, address: u64, offset: i16, number: u64)
+    pub(crate) fn write(&mut self, width: Width, address: u64, offset: i16, src: &Operand)
         requires { IsInside FRAME_BYTES (byte_count width)
             (offset_from frame_base address offset) }
         ensures { (at : ℕ) → offset_from frame_base address offset ≡ pos at →
-            self.new ≡ with_frame (with_bytes at (byte_count width) number self.old.frame)
-            self.old }
+            self.new ≡ with_frame (with_bytes at (byte_count width)
+            (operand_word (own_view [] self.old) src.now) self.old.frame) self.old }
     {
-        write_number(
-            &mut self.frame,
-            offset_in(FRAME_BASE, address, offset),
-            width,
-            number,
-        );
+        let at = offset_in(FRAME_BASE, address, offset);
+        let number = self.operand(src);
+        write_number(&mut self.frame, at, width, number);
     }
 }
