@@ -19,4 +19,4 @@ most_words = 8
 
 -- how many words lie from the section word of a reader to that of the next
 abbrev pub section_stride : ℕ
-section_stride = 16
+section_stride = 520

@@ -2,9 +2,10 @@
 use crate::view::{TableShape, View};
 use atomic_table::{Play, Split, TableRule};
 
-/// How many words lie from the section word of a reader to that of the next. The words between them are never used, so
-/// that no two readers write to one cache line; processors fetch lines in pairs, of 128 bytes.
-pub const SECTION_STRIDE: usize = 16;
+/// How many words lie from the section word of a reader to that of the next: a page of 4,096 bytes and a line of 64. The
+/// words between them are never used. A processor reads ahead within a page, and what it reads ahead it takes from the
+/// core that writes it; with a line more than a page, two section words have no place of a cache in common.
+pub const SECTION_STRIDE: usize = 520;
 
 /// The rule: the words are what one lawful history of all steps leaves.
 pub struct Law;
