@@ -4,7 +4,7 @@ ghost use Rattle.read_table.specs.declared.limits.TheConstants.{MAX_READERS};
 
 use crate::crew::go;
 use crate::measured::Measured;
-use crate::runner::{runners_of, sum_of_times};
+use crate::runner::{Runner, runners_of, time_of};
 use crate::task::Task;
 use anyhow::{Result, bail, ensure};
 use read_table::MAX_READERS;
@@ -27,22 +27,53 @@ pub enum Company {
     Writer,
 }
 
-/// So many readers, and the nanoseconds that their calls took so far, each reader's in its own thread, added up.
+/// So many readers, and the nanoseconds that the quickest part of each one's calls took so far, in its own thread.
 #[derive(Clone, Copy, Debug)]
 pub struct Crew {
     pub readers: usize,
     pub company: Company,
-    pub nanos: u64,
+    pub quickest: [u64; MAX_READERS],
 }
 
-/// The nanoseconds in which so many readers of one table make the calls of a task, added up.
+impl Crew {
+    /// A crew that has made no calls.
+    pub fn new(readers: usize, company: Company) -> Crew {
+        Crew {
+            readers,
+            company,
+            quickest: [u64::MAX; MAX_READERS],
+        }
+    }
+
+    /// The nanoseconds of its readers' quickest parts, added up.
+    pub fn nanos(&self) -> u64 {
+        let mut sum = 0u64;
+        for nanos in self.quickest.iter().take(self.readers) {
+            sum = sum.saturating_add(*nanos);
+        }
+        sum
+    }
+}
+
+/// Keeps the lesser of what each reader took before and what it took now.
+fn keep_quickest<T>(quickest: &mut [u64], runners: &[Runner<T>]) -> Result<()> {
+    for (index, runner) in runners.iter().enumerate() {
+        if let Some(least) = quickest.get_mut(index) {
+            *least = (*least).min(time_of(runner)?);
+        }
+    }
+    Ok(())
+}
+
+/// Lets so many readers of one table make the calls of a task.
 fn time_together<S: Measured, R: Threads + Clock + Sync>(
     rt: &R,
     alloc: Global,
     task: &Task,
     readers: usize,
     is_written: bool,
-) -> Result<u64>
+    quickest: &mut [u64],
+) -> Result<()>
     requires { (0 < readers) × (readers ≤ MAX_READERS) }
 {
     let (table, readers, mut writer) = S::make(alloc, readers)?;
@@ -57,22 +88,20 @@ fn time_together<S: Measured, R: Threads + Clock + Sync>(
         is_written,
     );
     ensure!(rounds < u64::MAX, "the writer did not end");
-    sum_of_times(&runners)
+    keep_quickest(quickest, &runners)
 }
 
-/// The nanoseconds in which the readers of a crew make the calls of a task, added up.
+/// Lets a crew make the calls of a task once.
 fn time_once<S: Measured, R: Threads + Clock + Sync>(
     rt: &R,
     alloc: Global,
     task: &Task,
-    crew: Crew,
-) -> Result<u64> {
+    crew: &mut Crew,
+) -> Result<()> {
     let readers = crew.readers;
     ensure!(readers >= 1 && readers <= MAX_READERS, "no such crew");
-    match crew.company {
-        Company::Readers => time_together::<S, R>(rt, alloc, task, readers, false),
-        Company::Writer => time_together::<S, R>(rt, alloc, task, readers, true),
-    }
+    let is_written = crew.company == Company::Writer;
+    time_together::<S, R>(rt, alloc, task, readers, is_written, &mut crew.quickest)
 }
 
 /// Lets each crew make the calls of a task once.
@@ -82,15 +111,14 @@ fn time_round<S: Measured, R: Threads + Clock + Sync>(
     task: &Task,
     crews: &mut [Crew],
 ) -> Result<()> {
-    for index in 0..crews.len() {
-        let time = time_once::<S, R>(rt, alloc, task, crews[index])?;
-        crews[index].nanos = crews[index].nanos.saturating_add(time);
+    for crew in crews {
+        time_once::<S, R>(rt, alloc, task, crew)?;
     }
     Ok(())
 }
 
 /// Lets each crew make the calls of a task `ROUNDS` times, one crew after the other in each round: so all of them have the
-/// machine as it is then, whatever else it does.
+/// machine as it is then. The quickest part of each reader counts, since whatever else the machine does only adds time.
 pub fn time_crews<S: Measured, R: Threads + Clock + Sync>(
     rt: &R,
     alloc: Global,

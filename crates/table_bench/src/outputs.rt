@@ -6,8 +6,9 @@ use crate::command::ReadCommand;
 use crate::jobs::{Kind, time_per_job};
 use crate::key_tables::repeat_map_calls;
 use crate::map_stage::MapStage;
-use crate::measure::{Company, Crew, ROUNDS, repeat_calls, time_crews};
+use crate::measure::{Company, Crew, repeat_calls, time_crews};
 use crate::measured::Measured;
+use crate::runner::PARTS;
 use crate::stage::Stage;
 use crate::task::{Deed, Task, map_tasks, tasks};
 use anyhow::{Result, bail};
@@ -26,18 +27,13 @@ const READERS: [usize; 3] = [1, 2, 4];
 
 /// The crews whose calls of a task are timed.
 fn crews() -> [Crew; 6] {
-    let crew = |readers: usize, company: Company| Crew {
-        readers,
-        company,
-        nanos: 0,
-    };
     [
-        crew(1, Company::Readers),
-        crew(2, Company::Readers),
-        crew(4, Company::Readers),
-        crew(1, Company::Writer),
-        crew(2, Company::Writer),
-        crew(4, Company::Writer),
+        Crew::new(1, Company::Readers),
+        Crew::new(2, Company::Readers),
+        Crew::new(4, Company::Readers),
+        Crew::new(1, Company::Writer),
+        Crew::new(2, Company::Writer),
+        Crew::new(4, Company::Writer),
     ]
 }
 
@@ -50,8 +46,8 @@ fn ending_of(company: Company) -> &'static str {
 }
 
 /// The line of a crew: its name, the nanoseconds of a call in its thread, how many calls all its threads make in a second, and how
-/// many times as many that is as the threads of the first crew make, which has one.
-fn crew_line(alloc: Global, task: &Task, crew: Crew, alone: Crew) -> Result<String, AllocError> {
+/// many times as many that is as one reader alone makes, whose quickest part took so many nanoseconds.
+fn crew_line(alloc: Global, task: &Task, crew: &Crew, alone: u64) -> Result<String, AllocError> {
     let name = format!(in alloc;
         "{}_by_{}{}",
         task.name,
@@ -59,20 +55,16 @@ fn crew_line(alloc: Global, task: &Task, crew: Crew, alone: Crew) -> Result<Stri
         ending_of(crew.company)
     )?;
     let readers = crew.readers as u64;
-    let calls = u64::from(task.calls).saturating_mul(readers.saturating_mul(u64::from(ROUNDS)));
-    let nanos = u128::from(crew.nanos.max(1));
+    let calls = u64::from(task.calls / PARTS).saturating_mul(readers);
+    let nanos = u128::from(crew.nanos().max(1));
     let per_call = quotient(nanos, u128::from(calls.max(1)));
     let all = u128::from(calls).saturating_mul(u128::from(readers));
     let per_second = all.saturating_mul(1_000_000_000) / nanos;
     let front = measurement_line(alloc, name.as_str(), per_call)?;
     let front = format!(in alloc; "{front} ns, {per_second} a second, ratio")?;
     let square = readers.saturating_mul(readers);
-    let gained = u128::from(alone.nanos).saturating_mul(u128::from(square));
-    measurement_line(
-        alloc,
-        front.as_str(),
-        quotient(gained, u128::from(crew.nanos.max(1))),
-    )
+    let gained = u128::from(alone).saturating_mul(u128::from(square));
+    measurement_line(alloc, front.as_str(), quotient(gained, nanos))
 }
 
 /// Times a task with each crew.
@@ -84,9 +76,9 @@ fn task_lines<S: Measured, R: Threads + Clock + Sync>(
 ) -> Result<()> {
     let mut crews = crews();
     time_crews::<S, R>(rt, alloc, task, &mut crews)?;
-    for crew in crews {
-        let line = crew_line(alloc, task, crew, crews[0])?;
-        lines.push(line)?;
+    let alone = crews[0].nanos();
+    for crew in &crews {
+        lines.push(crew_line(alloc, task, crew, alone)?)?;
     }
     Ok(())
 }
