@@ -86,31 +86,32 @@ closes_at j k slots id me i same reader at =
     let r : IsReader k me.0.me = subst (λ (z : TableShape). IsReader z me.0.me) same reader in
     closes_ok k slots id me i (me.0.me - 1) (omega arith) (omega arith) (omega arith)
 
-pub learns_at : (j k : TableShape) (slots id : ℕ) (me : Me ℕ View) (slot : ℕ) → me.0.shape ≡ j → j ≡ k →
-    slot < j.slots → IsReader me.0.shape me.0.me → inside me.0.mine ≡ 1
-    → Allows (Kept k) slots id me (headers_from j + slot) (λ n. n) (learns (step slots (headers_from j + slot) 0 0 none) me)
-learns_at j k slots id me slot same is l reader one =
+pub learns_at : (j k : TableShape) (slots id : ℕ) (me : Me ℕ View) (slot from : ℕ) → from ≡ headers_from j →
+    me.0.shape ≡ j → j ≡ k → slot < j.slots → IsReader me.0.shape me.0.me → inside me.0.mine ≡ 1
+    → Allows (Kept k) slots id me (from + slot) (λ n. n) (learns (step slots (from + slot) 0 0 none) me)
+learns_at j k slots id me slot from starts same is l reader one =
     let e : headers_from j ≡ headers_from k = ap headers_from is in
     let m : slot < k.slots = subst (λ (z : TableShape). slot < z.slots) is l in
-    learns_ok k slots id me (headers_from j + slot) (omega arith) (omega arith) (subst (λ (z : TableShape). IsReader z me.0.me) (same ∙ is) reader) one
+    learns_ok k slots id me (from + slot) (omega arith) (omega arith) (subst (λ (z : TableShape). IsReader z me.0.me) (same ∙ is) reader) one
 
 slot_is : (r s i : ℕ) → i ≡ r → (i + s) - r ≡ s
 slot_is r s i e = omega arith
 
-pub header_slot : (j k : TableShape) (slot : ℕ) → j ≡ k → (headers_from k + slot) - headers_from j ≡ slot
-header_slot j k slot same = slot_is (headers_from j) slot (headers_from k) (ap headers_from (sym same))
+pub header_slot : (j k : TableShape) (slot from : ℕ) → from ≡ headers_from k → j ≡ k → (from + slot) - headers_from j ≡ slot
+header_slot j k slot from starts same = slot_is (headers_from j) slot from (starts ∙ ap headers_from (sym same))
 
-pub header_within : (j k : TableShape) (slot n : ℕ) → j ≡ k → slot < j.slots → n ≡ count_of k → headers_from k + slot < n
-header_within j k slot n same l e = let m : slot < k.slots = subst (λ (z : TableShape). slot < z.slots) same l in omega arith
+pub header_within : (j k : TableShape) (slot from n : ℕ) → from ≡ headers_from k → j ≡ k → slot < j.slots →
+    n ≡ count_of k → from + slot < n
+header_within j k slot from n starts same l e = let m : slot < k.slots = subst (λ (z : TableShape). slot < z.slots) same l in omega arith
 
-pub changes_at : (j k : TableShape) (slots id : ℕ) (me : Me ℕ View) (slot x : ℕ) → me.0.shape ≡ j → j ≡ k →
-    slot < j.slots → me.0.me ≡ 0 → x ≡ header_in slot me.0.mine + 1 → (x % 2 ≡ 1 → MayLink j.readers slot me.0.mine)
-    → Allows (Kept k) slots id me (headers_from j + slot) (λ _. x) (λ _. changes (step slots (headers_from j + slot) x 0 none) me x)
-changes_at j k slots id me slot x same is l writer h may =
+pub changes_at : (j k : TableShape) (slots id : ℕ) (me : Me ℕ View) (slot from x : ℕ) → from ≡ headers_from j →
+    me.0.shape ≡ j → j ≡ k → slot < j.slots → me.0.me ≡ 0 → x ≡ header_in slot me.0.mine + 1 → (x % 2 ≡ 1 → MayLink j.readers slot me.0.mine)
+    → Allows (Kept k) slots id me (from + slot) (λ _. x) (λ _. changes (step slots (from + slot) x 0 none) me x)
+changes_at j k slots id me slot from x starts same is l writer h may =
     let e : headers_from j ≡ headers_from k = ap headers_from is in
     let m : slot < k.slots = subst (λ (z : TableShape). slot < z.slots) is l in
-    let back : (headers_from j + slot) - headers_from me.0.shape ≡ slot = header_slot me.0.shape j slot same in
-    changes_ok k slots id me (headers_from j + slot) x (omega arith) (omega arith) writer
+    let back : (from + slot) - headers_from me.0.shape ≡ slot = header_slot me.0.shape j slot from starts same in
+    changes_ok k slots id me (from + slot) x (omega arith) (omega arith) writer
     (h ∙ ap (λ z. header_in z me.0.mine + 1) (sym back))
     (λ odd. subst (λ (z : ℕ × TableShape). MayLink z.1.readers z.0 me.0.mine) (λ i. (sym back i, is i)) (may odd))
 

@@ -22,14 +22,15 @@ use std::marker::Model;
 pub struct ReadTable {
     table: Table<u8, View, TableShape, Law, Global>,
     shape: TableShape,
-    // Where the words of the slots begin, and how many a slot has: kept so that each load and store is short.
+    // Where the headers of the slots begin, and where their words, and how many a slot has: kept so that each step is short.
+    headers: usize,
     base: usize,
     width: usize,
 }
 
 impl Model for ReadTable {
     ghost use Rattle.std.specs.Prelude.{◌≡◌};
-    ghost use Rattle.read_table.specs.Law.{count_of, base_of, width_of};
+    ghost use Rattle.read_table.specs.Law.{count_of, base_of, headers_from, width_of};
     ghost use Rattle.read_table.specs.Held.{TableView, IsSized};
 
     ghost Value = { TableView };
@@ -38,7 +39,7 @@ impl Model for ReadTable {
 
     ghost invariant = { λ t. (t.table.shared.key ≡ t.shape)
         × (t.table.shared.table_id.words ≡ count_of t.shape) × IsSized t.shape
-        × (t.base ≡ base_of t.shape) × (t.width ≡ width_of t.shape) };
+        × (t.base ≡ base_of t.shape) × (t.width ≡ width_of t.shape) × (t.headers ≡ headers_from t.shape) };
 }
 
 /// A reader's seat at a table. Contracts see at which, and what the reader did and saw there. A seat that is dropped
@@ -153,7 +154,7 @@ impl ReadTable {
             × (IsTrue result ↔ (h % 2 ≡ 1)) }
         ensures learnt { result ≡ true → IsLearnt slot seat.new.view.mine }
     {
-        let index = self.shape.readers * SECTION_STRIDE + slot;
+        let index = self.headers + slot;
         let header = self.table.shared.load::<Learns>(&mut seat.seat, index);
         header % 2 == 1
     }
@@ -209,11 +210,13 @@ impl ReadTable {
         ensures writer { IfOk result (λ t. t.1.me ≡ (writer_after 0 shape, [])) }
     {
         let (table, seat) = Table::of_words(alloc, words, &shape)?;
-        let base = shape.readers * SECTION_STRIDE + shape.slots;
+        let headers = shape.readers * SECTION_STRIDE;
+        let base = headers + shape.slots;
         let width = shape.key_words + shape.value_words;
         let table = ReadTable {
             table,
             shape,
+            headers,
             base,
             width,
         };
@@ -284,7 +287,7 @@ impl ReadTable {
         ensures held { seat.new.me.1 ≡ seat.old.me.1 }
         ensures step { Went seat.old.me.0 (Header slot header ∷ seat.old.me.0.mine) seat.new.me.0 }
     {
-        let index = self.shape.readers * SECTION_STRIDE + slot;
+        let index = self.headers + slot;
         self.table.shared.store::<Changes>(seat, index, header);
     }
 

@@ -1,6 +1,7 @@
 use Rattle.std.proofs.Common.{rules, ◌≡◌, ◌<◌, refl, sym, ap, ◌∙◌, subst}
 use Rattle.read_table.specs.declared.view.Move.TheVariants.{Learn}
 use Rattle.read_table.specs.History.{inside}
+use Rattle.read_table.specs.Law.{headers_from}
 use Rattle.read_table.specs.Held.{TableView, Holder}
 use Rattle.read_table.proofs.Calls.{does, learns_at, header_slot, header_within}
 use Rattle.read_table.proofs.Going.{learn_knows}
@@ -11,15 +12,17 @@ load-header-requires c =
     let p = ap (λ (h : Holder). h.table) c.seat.view_is ∙ (c.requires.table ∙ sym c.self.view_is) in
     let i = c.seat.invariant in
     let t = c.self.invariant in
+    let starts : c.self.inside.headers ≡ headers_from c.self.inside.shape = t.5 in
     let same = ap (λ (q : TableView). q.shape) p in
     let slot = subst (λ (q : TableView). c.args.slot < q.shape.slots) (sym c.self.view_is) c.requires.slot in
     let one = subst (λ (h : Holder). inside h.view.mine ≡ 1) (sym c.seat.view_is) c.requires.inside in
-    (ap (λ (q : TableView). q.id) p, header_within _ _ _ _ refl slot t.1, learns_at _ _ _ _ _ c.args.slot same (sym t.0) slot i.0 one)
+    (ap (λ (q : TableView). q.id) p, header_within _ _ _ _ _ starts refl slot t.1, learns_at _ _ _ _ _ c.args.slot _ starts same (sym t.0) slot i.0 one)
 
 pub returns-clause-step : goal.returns-clause-step
 returns-clause-step c =
     let p = ap (λ (h : Holder). h.table) c.seat.view_is ∙ (c.requires.table ∙ sym c.self.view_is) in
-    let move = ap (λ z. Learn z c.load-header.result) (header_slot _ _ c.args.slot (ap (λ (q : TableView). q.shape) p)) in
+    let starts : c.self.inside.headers ≡ headers_from c.self.inside.shape = c.self.invariant.5 in
+    let move = ap (λ z. Learn z c.load-header.result) (header_slot _ _ c.args.slot _ starts (ap (λ (q : TableView). q.shape) p)) in
     (c.load-header.result, does _ _ _ _ _ _ _ c.seat.view_is c.load-header.ensures.0 move c.load-header.ensures.2.0, search rules)
 
 pub returns-clause-learnt : goal.returns-clause-learnt
