@@ -9,6 +9,7 @@ use Rattle.map_table.specs.Values.{stored_of}
 use Rattle.map_table.specs.Held.{IsReady as IsMapReady, TableView as MapTableView}
 use Rattle.map_runs.specs.Running.{ServesMaps}
 use Rattle.shared_runs.specs.Words.{FitsTable, StoresSubWords}
+use Rattle.table_bench.specs.declared.apart.AtHome.{AtHome}
 use Rattle.table_bench.specs.declared.reader.Reader.{Reader}
 use Rattle.table_bench.specs.declared.map_stage.MapReader.{MapReader}
 
@@ -37,3 +38,7 @@ pub record IsMapProgramOf (k : MapTableShape) (c : Checked) : Type 0 where
 -- the reader's seat is this map table's, and outside a section
 abbrev pub IsReadyMapReader : MapTableView → MapReader → Type 0
 IsReadyMapReader here r = IsMapReady here r.seat
+
+-- the reader's table is as large as is asked for, and the reader is at it
+abbrev pub IsAtHome : {S T : Type 0} → (S → Type 0) → (S → T → Type 0) → AtHome S T → Type 0
+IsAtHome set reader one = set one.table × reader one.table one.runner.reader

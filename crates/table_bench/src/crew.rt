@@ -3,20 +3,21 @@ ghost use Rattle.std.specs.Prelude.{All};
 ghost use Rattle.std.specs.Thread.{IsSync};
 
 use crate::measured::Measured;
-use crate::runner::{Runner, work_timed};
+use crate::runner::{Runner, work_counted};
 use crate::task::Deed;
 use read_table::MAX_READERS;
 use std::rt::Clock;
 use std::sync::atomic::{AtomicBool, Ordering};
 use std::thread::{Threads, for_each_mut, join};
+use std::time::Instant;
 
-/// Each reader makes so many calls three times over, in a thread of its own, and times the second.
+/// Each reader makes calls in a thread of its own until the round's time is over.
 fn read_all<S: Measured, R: Threads + Clock + Sync>(
     rt: &R,
+    start: Instant,
     table: &S,
     readers: &mut [Runner<S::Reader>],
     deed: Deed,
-    calls: u32,
 )
     requires set { S.IsSet table.now }
     requires readers { All (λ r. S.IsReader table.now r.reader) readers.old }
@@ -29,7 +30,7 @@ fn read_all<S: Measured, R: Threads + Clock + Sync>(
         &|_, runner: &mut Runner<S::Reader>| -> ()
             requires { S.IsSet table.now × S.IsReader table.now runner.old.reader }
             ensures { S.IsReader table.entry.now runner.new.reader }
-        { work_timed(rt, table, runner, deed, calls) },
+        { work_counted(rt, start, table, runner, deed) },
     );
 }
 
@@ -50,28 +51,28 @@ fn write_until<S: Measured>(table: &S, writer: &mut S::Writer, done: &AtomicBool
 /// The readers make their calls, and say so when they are done.
 fn read_and_say<S: Measured, R: Threads + Clock + Sync>(
     rt: &R,
+    start: Instant,
     table: &S,
     readers: &mut [Runner<S::Reader>],
     deed: Deed,
-    calls: u32,
     done: &AtomicBool,
 )
     requires set { S.IsSet table.now }
     requires readers { All (λ r. S.IsReader table.now r.reader) readers.old }
     ensures { All (λ r. S.IsReader table.now r.reader) readers.new }
 {
-    read_all(rt, table, readers, deed, calls);
+    read_all(rt, start, table, readers, deed);
     done.store(true, Ordering::SeqCst);
 }
 
 /// The readers make their calls beside the writer. How often the writer changed the table.
 fn read_beside<S: Measured, R: Threads + Clock + Sync>(
     rt: &R,
+    start: Instant,
     table: &S,
     readers: &mut [Runner<S::Reader>],
     writer: &mut S::Writer,
     deed: Deed,
-    calls: u32,
 ) -> u64
     requires set { S.IsSet table.now }
     requires readers { All (λ r. S.IsReader table.now r.reader) readers.old }
@@ -82,7 +83,7 @@ fn read_beside<S: Measured, R: Threads + Clock + Sync>(
         rt,
         || -> ()
             requires { IsSync R.row × IsSync S.row × S.IsSet table.now × All (λ r. S.IsReader table.now r.reader) readers.now }
-        { read_and_say(rt, table, readers, deed, calls, &done) },
+        { read_and_say(rt, start, table, readers, deed, &done) },
         || -> u64
             requires { IsSync S.row × S.IsSet table.now × S.IsWriter table.now writer.now }
         { write_until(table, writer, &done) },
@@ -90,15 +91,15 @@ fn read_beside<S: Measured, R: Threads + Clock + Sync>(
     rounds
 }
 
-/// Each reader makes so many calls three times over in a thread of its own, and times the second, alone or beside the writer. How
-/// often the writer changed the table.
+/// Each reader makes calls in a thread of its own until the time of the round is over, which began at `start`, alone or beside the
+/// writer. How often the writer changed the table.
 pub fn go<S: Measured, R: Threads + Clock + Sync>(
     rt: &R,
+    start: Instant,
     table: &S,
     readers: &mut [Runner<S::Reader>],
     writer: &mut S::Writer,
     deed: Deed,
-    calls: u32,
     is_written: bool,
 ) -> u64
     requires set { S.IsSet table.now }
@@ -106,8 +107,8 @@ pub fn go<S: Measured, R: Threads + Clock + Sync>(
     requires writer { S.IsWriter table.now writer.old }
 {
     if is_written {
-        return read_beside(rt, table, readers, writer, deed, calls);
+        return read_beside(rt, start, table, readers, writer, deed);
     }
-    read_all(rt, table, readers, deed, calls);
+    read_all(rt, start, table, readers, deed);
     0
 }

@@ -1,6 +1,7 @@
 //! How long calls on a table without a lock take, in threads and beside its writer.
 #![tactic(auto)]
 
+mod apart;
 mod command;
 mod crew;
 mod jobs;

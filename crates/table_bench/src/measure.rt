@@ -1,22 +1,21 @@
-//! How long calls take.
+//! How many calls readers make in a time.
 ghost use Rattle.std.specs.Prelude.{◌<◌, ◌≤◌};
 ghost use Rattle.read_table.specs.declared.limits.TheConstants.{MAX_READERS};
 
+use crate::apart::count_apart;
 use crate::crew::go;
 use crate::measured::Measured;
-use crate::runner::{Runner, runners_of, time_of};
+use crate::runner::{BATCH, calls_of_all, runners_of};
 use crate::task::Task;
 use anyhow::{Result, bail, ensure};
 use read_table::MAX_READERS;
 use std::alloc::Global;
 use std::rt::Clock;
 use std::thread::Threads;
+use std::time::Instant;
 
-/// How often each crew makes its calls.
-pub const ROUNDS: u32 = 10;
-
-/// How many calls a round of `repeat` has.
-const CALLS_OF_ROUND: u32 = 1024;
+/// In how many rounds each crew makes its calls.
+pub const ROUNDS: u32 = 50;
 
 /// With whom readers share their table.
 #[derive(Clone, Copy, Debug, PartialEq, Eq)]
@@ -25,14 +24,17 @@ pub enum Company {
     Readers,
     /// With each other, and with the writer, which changes it all the time.
     Writer,
+    /// With nobody: each has a table of its own.
+    Nobody,
 }
 
-/// So many readers, and the nanoseconds that the quickest part of each one's calls took so far, in its own thread.
+/// So many readers, and how many calls they made together: in all rounds, and in the quickest.
 #[derive(Clone, Copy, Debug)]
 pub struct Crew {
     pub readers: usize,
     pub company: Company,
-    pub quickest: [u64; MAX_READERS],
+    pub calls: u64,
+    pub most: u64,
 }
 
 impl Crew {
@@ -41,58 +43,46 @@ impl Crew {
         Crew {
             readers,
             company,
-            quickest: [u64::MAX; MAX_READERS],
+            calls: 0,
+            most: 0,
         }
     }
 
-    /// The nanoseconds of its readers' quickest parts, added up.
-    pub fn nanos(&self) -> u64 {
-        let mut sum = 0u64;
-        for nanos in self.quickest.iter().take(self.readers) {
-            sum = sum.saturating_add(*nanos);
-        }
-        sum
+    /// Counts the calls of a round.
+    fn count(&mut self, calls: u64) {
+        self.calls = self.calls.saturating_add(calls);
+        self.most = self.most.max(calls);
     }
 }
 
-/// Keeps the lesser of what each reader took before and what it took now.
-fn keep_quickest<T>(quickest: &mut [u64], runners: &[Runner<T>]) -> Result<()> {
-    for (index, runner) in runners.iter().enumerate() {
-        if let Some(least) = quickest.get_mut(index) {
-            *least = (*least).min(time_of(runner)?);
-        }
-    }
-    Ok(())
-}
-
-/// Lets so many readers of one table make the calls of a task.
-fn time_together<S: Measured, R: Threads + Clock + Sync>(
+/// Lets so many readers make the calls of a task for a round. How many calls they made.
+fn count_together<S: Measured, R: Threads + Clock + Sync>(
     rt: &R,
     alloc: Global,
     task: &Task,
     readers: usize,
     is_written: bool,
-    quickest: &mut [u64],
-) -> Result<()>
+) -> Result<u64>
     requires { (0 < readers) × (readers ≤ MAX_READERS) }
 {
     let (table, readers, mut writer) = S::make(alloc, readers)?;
     let mut runners = runners_of(alloc, &table, readers)?;
+    let start = Instant::now(rt)?;
     let rounds = go(
         rt,
+        start,
         &table,
         runners.as_mut_slice(),
         &mut writer,
         task.deed,
-        task.calls,
         is_written,
     );
     ensure!(rounds < u64::MAX, "the writer did not end");
-    keep_quickest(quickest, &runners)
+    calls_of_all(&runners)
 }
 
-/// Lets a crew make the calls of a task once.
-fn time_once<S: Measured, R: Threads + Clock + Sync>(
+/// Lets a crew make the calls of a task for a round.
+fn count_once<S: Measured, R: Threads + Clock + Sync>(
     rt: &R,
     alloc: Global,
     task: &Task,
@@ -100,33 +90,38 @@ fn time_once<S: Measured, R: Threads + Clock + Sync>(
 ) -> Result<()> {
     let readers = crew.readers;
     ensure!(readers >= 1 && readers <= MAX_READERS, "no such crew");
-    let is_written = crew.company == Company::Writer;
-    time_together::<S, R>(rt, alloc, task, readers, is_written, &mut crew.quickest)
+    let calls = match crew.company {
+        Company::Readers => count_together::<S, R>(rt, alloc, task, readers, false)?,
+        Company::Writer => count_together::<S, R>(rt, alloc, task, readers, true)?,
+        Company::Nobody => count_apart::<S, R>(rt, alloc, task.deed, readers)?,
+    };
+    crew.count(calls);
+    Ok(())
 }
 
-/// Lets each crew make the calls of a task once.
-fn time_round<S: Measured, R: Threads + Clock + Sync>(
+/// Lets each crew make the calls of a task for a round.
+fn count_round<S: Measured, R: Threads + Clock + Sync>(
     rt: &R,
     alloc: Global,
     task: &Task,
     crews: &mut [Crew],
 ) -> Result<()> {
     for crew in crews {
-        time_once::<S, R>(rt, alloc, task, crew)?;
+        count_once::<S, R>(rt, alloc, task, crew)?;
     }
     Ok(())
 }
 
-/// Lets each crew make the calls of a task `ROUNDS` times, one crew after the other in each round: so all of them have the
-/// machine as it is then. The quickest part of each reader counts, since whatever else the machine does only adds time.
-pub fn time_crews<S: Measured, R: Threads + Clock + Sync>(
+/// Lets each crew make the calls of a task for `ROUNDS` rounds, one crew after the other in each: so all of them have the machine
+/// as it is then.
+pub fn count_crews<S: Measured, R: Threads + Clock + Sync>(
     rt: &R,
     alloc: Global,
     task: &Task,
     crews: &mut [Crew],
 ) -> Result<()> {
     for _ in 0..ROUNDS {
-        time_round::<S, R>(rt, alloc, task, crews)?;
+        count_round::<S, R>(rt, alloc, task, crews)?;
     }
     Ok(())
 }
@@ -138,7 +133,7 @@ pub fn repeat_calls<S: Measured>(alloc: Global, task: &Task, times: u32) -> Resu
         bail!("no reader");
     };
     for _ in 0..times {
-        table.work(reader, task.deed, CALLS_OF_ROUND);
+        table.work(reader, task.deed, BATCH);
     }
     Ok(S::sum(reader))
 }

@@ -8,7 +8,7 @@ use std::alloc::Global;
 use std::sync::atomic::AtomicBool;
 
 /// A table, with a program that is run over it.
-pub trait Measured: Sync + Sized + Drop {
+pub trait Measured: Send + Sync + Sized + Drop {
     /// A reader, with a sum of what its calls found.
     type Reader: Send + Drop;
 

@@ -6,9 +6,9 @@ use crate::command::ReadCommand;
 use crate::jobs::{Kind, time_per_job};
 use crate::key_tables::repeat_map_calls;
 use crate::map_stage::MapStage;
-use crate::measure::{Company, Crew, repeat_calls, time_crews};
+use crate::measure::{Company, Crew, ROUNDS, count_crews, repeat_calls};
 use crate::measured::Measured;
-use crate::runner::PARTS;
+use crate::runner::SPAN;
 use crate::stage::Stage;
 use crate::task::{Deed, Task, map_tasks, tasks};
 use anyhow::{Result, bail};
@@ -25,12 +25,20 @@ const LOOKUPS_OF_LONG_JOB: u32 = 32;
 /// How many readers there are.
 const READERS: [usize; 3] = [1, 2, 4];
 
-/// The crews whose calls of a task are timed.
-fn crews() -> [Crew; 6] {
+/// At which places of `crews` stand one reader alone, four of one table, and four that have a table each.
+const ALONE: usize = 0;
+
+const FOUR: usize = 2;
+
+const FOUR_APART: usize = 3;
+
+/// The crews whose calls of a task are counted.
+fn crews() -> [Crew; 7] {
     [
         Crew::new(1, Company::Readers),
         Crew::new(2, Company::Readers),
         Crew::new(4, Company::Readers),
+        Crew::new(4, Company::Nobody),
         Crew::new(1, Company::Writer),
         Crew::new(2, Company::Writer),
         Crew::new(4, Company::Writer),
@@ -42,32 +50,60 @@ fn ending_of(company: Company) -> &'static str {
     match company {
         Company::Readers => "",
         Company::Writer => "_beside_writer",
+        Company::Nobody => "_apart",
     }
 }
 
-/// The line of a crew: its name, the nanoseconds of a call in its thread, how many calls all its threads make in a second, and how
-/// many times as many that is as one reader alone makes, whose quickest part took so many nanoseconds.
-fn crew_line(alloc: Global, task: &Task, crew: &Crew, alone: u64) -> Result<String, AllocError> {
+/// How many times as many calls as one reader made so many readers made, in so many rounds.
+fn ratio_line(
+    alloc: Global,
+    front: &str,
+    calls: u64,
+    alone: u64,
+    rounds: u32,
+) -> Result<String, AllocError> {
+    let nanos = u128::from(SPAN).saturating_mul(u128::from(rounds.max(1)));
+    let per_second = u128::from(calls).saturating_mul(1_000_000_000) / nanos;
+    let front = format!(in alloc; "{front} {per_second} a second, ratio")?;
+    measurement_line(
+        alloc,
+        front.as_str(),
+        quotient(u128::from(calls), u128::from(alone.max(1))),
+    )
+}
+
+/// The line of a crew: its name; how many calls all its threads made in a second of all rounds, and how many times as many that is
+/// as one reader alone made; and the same of the quickest round of each.
+fn crew_line(alloc: Global, task: &Task, crew: &Crew, alone: &Crew) -> Result<String, AllocError> {
     let name = format!(in alloc;
         "{}_by_{}{}",
         task.name,
         crew.readers,
         ending_of(crew.company)
     )?;
-    let readers = crew.readers as u64;
-    let calls = u64::from(task.calls / PARTS).saturating_mul(readers);
-    let nanos = u128::from(crew.nanos().max(1));
-    let per_call = quotient(nanos, u128::from(calls.max(1)));
-    let all = u128::from(calls).saturating_mul(u128::from(readers));
-    let per_second = all.saturating_mul(1_000_000_000) / nanos;
-    let front = measurement_line(alloc, name.as_str(), per_call)?;
-    let front = format!(in alloc; "{front} ns, {per_second} a second, ratio")?;
-    let square = readers.saturating_mul(readers);
-    let gained = u128::from(alone).saturating_mul(u128::from(square));
-    measurement_line(alloc, front.as_str(), quotient(gained, nanos))
+    let mean = ratio_line(alloc, name.as_str(), crew.calls, alone.calls, ROUNDS)?;
+    let front = format!(in alloc; "{mean}; quickest round")?;
+    ratio_line(alloc, front.as_str(), crew.most, alone.most, 1)
 }
 
-/// Times a task with each crew.
+/// The line that tells how many times as many calls readers of one table made as those that share nothing: what they lose by
+/// sharing, whatever else the machine does.
+fn sharing_line(
+    alloc: Global,
+    task: &Task,
+    together: &Crew,
+    apart: &Crew,
+) -> Result<String, AllocError> {
+    let name = format!(in alloc; "{}_by_{}_to_apart", task.name, together.readers)?;
+    let calls = u128::from(together.calls);
+    measurement_line(
+        alloc,
+        name.as_str(),
+        quotient(calls, u128::from(apart.calls.max(1))),
+    )
+}
+
+/// Counts the calls of a task that each crew makes.
 fn task_lines<S: Measured, R: Threads + Clock + Sync>(
     rt: &R,
     alloc: Global,
@@ -75,11 +111,11 @@ fn task_lines<S: Measured, R: Threads + Clock + Sync>(
     lines: &mut Vec<String>,
 ) -> Result<()> {
     let mut crews = crews();
-    time_crews::<S, R>(rt, alloc, task, &mut crews)?;
-    let alone = crews[0].nanos();
+    count_crews::<S, R>(rt, alloc, task, &mut crews)?;
     for crew in &crews {
-        lines.push(crew_line(alloc, task, crew, alone)?)?;
+        lines.push(crew_line(alloc, task, crew, &crews[ALONE])?)?;
     }
+    lines.push(sharing_line(alloc, task, &crews[FOUR], &crews[FOUR_APART])?)?;
     Ok(())
 }
 

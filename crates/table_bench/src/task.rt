@@ -11,12 +11,11 @@ pub enum Deed {
     Misses,
 }
 
-/// A deed, its name, and how many calls of it take some 150 ms.
+/// A deed, and its name.
 #[derive(Clone, Copy)]
 pub struct Task {
     pub name: &'static str,
     pub deed: Deed,
-    pub calls: u32,
 }
 
 /// The tasks of a `ReadTable`, in the order in which they are printed.
@@ -25,17 +24,14 @@ pub fn tasks() -> [Task; 3] {
         Task {
             name: "read_run",
             deed: Deed::Runs,
-            calls: 2_000_000,
         },
         Task {
             name: "read_hit",
             deed: Deed::Hits,
-            calls: 8_000_000,
         },
         Task {
             name: "read_absent",
             deed: Deed::Misses,
-            calls: 500_000,
         },
     ]
 }
@@ -46,17 +42,14 @@ pub fn map_tasks() -> [Task; 3] {
         Task {
             name: "map_run",
             deed: Deed::Runs,
-            calls: 2_000_000,
         },
         Task {
             name: "map_hit",
             deed: Deed::Hits,
-            calls: 8_000_000,
         },
         Task {
             name: "map_absent",
             deed: Deed::Misses,
-            calls: 8_000_000,
         },
     ]
 }

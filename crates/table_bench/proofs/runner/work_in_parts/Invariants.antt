@@ -1,4 +1,0 @@
-use Rattle.table_bench.proofs.runner.work_in_parts.Given as goal
-
-abbrev pub invariant-loop : goal.invariant-loop
-invariant-loop g l = g.S.Measured.IsReader l.table l.runner.reader
