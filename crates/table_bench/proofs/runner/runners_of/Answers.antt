@@ -1,12 +1,9 @@
-use Rattle.std.proofs.Common.{[], List, Bool, true, false, sym, subst}
-use Rattle.std.specs.Prelude.{All, if◌then◌else◌}
+use Rattle.std.proofs.Common.{[], sym, subst}
+use Rattle.std.specs.Prelude.{All}
 use Rattle.std.proofs.lemmas.List.Elements.{All-append, All-cons, All-head, All-nil, All-tail}
 use Rattle.table_bench.specs.declared.runner.Runner.{Runner}
+use Rattle.table_bench.proofs.Lists.{all-either}
 use Rattle.table_bench.proofs.runner.runners_of.Goals as goal
-
-all-either : {A : Type 0} → (P : A → Type 0) → (b : Bool) → (xs ys : List A) → All P xs → All P ys → All P (if b then xs else ys)
-all-either P true xs ys p q = p
-all-either P false xs ys p q = q
 
 pub loop-reader-preserved : goal.loop-reader-preserved
 loop-reader-preserved g c =
