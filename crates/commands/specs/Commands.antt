@@ -4,8 +4,9 @@ use Rattle.std.specs.Io.KnownBytes.{Appends}
 use Rattle.command_words.specs.declared.request.BpfrtCommand.{BpfrtCommand}
 use Rattle.command_words.specs.declared.request.BpfrtCommand.TheVariants.{Check, Disasm, Asm, Script, Version, Pool, Run, Trace, Filter}
 use Rattle.assembled_texts.specs.Assembled.{IsRefusedByAsm}
+use Rattle.translated_filters.specs.Filters.{IsRefusedByFilter}
 use Rattle.commands.specs.Asm.{WritesCode}
-use Rattle.commands.specs.Filters.{IsRefusedByFilter, WritesFilter}
+use Rattle.commands.specs.Filters.{WritesFilter}
 use Rattle.commands.specs.Checking.{RefusesChecked, WritesChecked}
 use Rattle.commands.specs.Outputs.{IsRefusedByDecode, WritesText}
 use Rattle.commands.specs.Pools.{IsRefusedByPool, WritesPool}

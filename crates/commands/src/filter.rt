@@ -1,143 +1,15 @@
-//! The program file of a classic program.
-ghost use Rattle.std.specs.Prelude.{◌≡◌, ◌≢◌, ◌⊎◌, IfOk, IfErr, IfSome, IsTrue};
-ghost use Rattle.classic_program.specs.Context.{context_bytes};
-ghost use Rattle.program_files.specs.ProgramFile.{IsLoadFault};
-ghost use Rattle.commands.specs.Filters.{
-  IsFileOfCode,
-  IsFilterFault,
-  IsFilterFile,
-  IsRefusedByFilter,
-  WritesFilter,
-  IsListed,
-};
+//! Writes the program file of a classic program.
+ghost use Rattle.std.specs.Prelude.{◌≡◌, ◌≢◌, ◌⊎◌, IfSome};
+ghost use Rattle.translated_filters.specs.Filters.{IsRefusedByFilter};
+ghost use Rattle.commands.specs.Filters.{WritesFilter};
 
-use crate::filter_words::explain_filter;
 use crate::report::fault;
 use crate::streams::{unread_in_words, write_text, written};
-use assembled_texts::{lines_in, text_of};
-use classic::{
-    ClassicFault, Data, ReadFault, SockFilter, TranslateFault, check, read_filter_array,
-    read_listing, translate,
-};
-use insn_codec::encode;
-use program_files::{LoadFault, MEMORY, load, read_text};
+use classic::{Data, ReadFault};
+use program_files::{MEMORY, read_text};
 use std::alloc::Global;
 use std::io::{Read, Write};
-use std::str;
-
-/// Why bytes are no classic program, or have no program file.
-#[derive(Clone, Copy, Debug, PartialEq, Eq)]
-pub enum FilterFault {
-    /// This line is the first that is not UTF-8.
-    NotUtf8 { line: usize },
-    /// The bytes are no listing, or no array of instructions.
-    Unread(ReadFault),
-    /// The instructions are no program.
-    Flawed(ClassicFault),
-    /// The program has no translation.
-    Untranslated(TranslateFault),
-    /// An allocation failed.
-    Memory,
-}
-
-/// The head of a program file for contexts of these data.
-fn head_for(kind: Data) -> &'static str {
-    match kind {
-        Data::Packet => "ctx 256",
-        Data::Seccomp => "ctx 64",
-    }
-}
-
-/// Whether a program file says a program of these bytes, without maps, on a context of these data.
-fn says(alloc: Global, file: &[u8], kind: Data, code: &[u8]) -> Result<bool, LoadFault>
-    ensures { IfOk result (λ yes. IsTrue yes → IsFileOfCode kind code.now file.now) }
-{
-    let said = load(alloc, file)?;
-    Ok(
-        said.code.as_slice() == code
-            && said.ctx_len == kind.context_len()
-            && said.registry.len() == 0,
-    )
-}
-
-/// A program file that says a program of these bytes. What is made is read again, so that nothing is written that says
-/// otherwise.
-fn file_for(alloc: Global, kind: Data, code: &[u8]) -> Result<Vec<u8>, FilterFault>
-    ensures file { IfOk result (λ file. IsFileOfCode kind code.now file.items) }
-    ensures fault { IfErr result (λ e. e ≡ FilterFault.Memory) }
-{
-    let Ok(file) = text_of(alloc, head_for(kind), code) else {
-        return Err(FilterFault::Memory);
-    };
-    match says(alloc, &file, kind, code) {
-        Ok(true) => Ok(file),
-        _ => Err(FilterFault::Memory),
-    }
-}
-
-/// The instructions that a text lists.
-fn listed_in_text(alloc: Global, bytes: &[u8]) -> Result<Vec<SockFilter>, FilterFault>
-    ensures listed { IfOk result (λ filter. IsListed Data.Packet bytes.now filter.items) }
-    ensures fault { IfErr result (IsFilterFault Data.Packet bytes.now) }
-{
-    let text = match str::from_utf8(bytes) {
-        Ok(text) => text,
-        Err(error) => {
-            let line = lines_in(&bytes[..error.valid_up_to()]).saturating_add(1);
-            return Err(FilterFault::NotUtf8 { line });
-        }
-    };
-    match read_listing(alloc, text) {
-        Ok(filter) => Ok(filter),
-        Err(ReadFault::Memory) => Err(FilterFault::Memory),
-        Err(fault) => Err(FilterFault::Unread(fault)),
-    }
-}
-
-/// The instructions that an array lists.
-fn listed_in_array(alloc: Global, bytes: &[u8]) -> Result<Vec<SockFilter>, FilterFault>
-    ensures listed { IfOk result (λ filter. IsListed Data.Seccomp bytes.now filter.items) }
-    ensures fault { IfErr result (IsFilterFault Data.Seccomp bytes.now) }
-{
-    match read_filter_array(alloc, bytes) {
-        Ok(filter) => Ok(filter),
-        Err(ReadFault::Memory) => Err(FilterFault::Memory),
-        Err(fault) => Err(FilterFault::Unread(fault)),
-    }
-}
-
-/// The instructions that a text or an array lists.
-fn listed(alloc: Global, kind: Data, bytes: &[u8]) -> Result<Vec<SockFilter>, FilterFault>
-    ensures listed { IfOk result (λ filter. IsListed kind bytes.now filter.items) }
-    ensures fault { IfErr result (IsFilterFault kind bytes.now) }
-{
-    match kind {
-        Data::Packet => listed_in_text(alloc, bytes),
-        Data::Seccomp => listed_in_array(alloc, bytes),
-    }
-}
-
-/// The program file of a classic program.
-fn make_file(alloc: Global, kind: Data, bytes: &[u8]) -> Result<Vec<u8>, FilterFault>
-    ensures file { IfOk result (λ file. IsFilterFile kind bytes.now file.items) }
-    ensures fault { IfErr result (IsFilterFault kind bytes.now) }
-{
-    let filter = listed(alloc, kind, bytes)?;
-    let program = match check(alloc, &filter, kind) {
-        Ok(program) => program,
-        Err(ClassicFault::Memory) => return Err(FilterFault::Memory),
-        Err(fault) => return Err(FilterFault::Flawed(fault)),
-    };
-    let translation = match translate(alloc, &program) {
-        Ok(translation) => translation,
-        Err(TranslateFault::Memory) => return Err(FilterFault::Memory),
-        Err(fault) => return Err(FilterFault::Untranslated(fault)),
-    };
-    let Ok(code) = encode(alloc, &translation) else {
-        return Err(FilterFault::Memory);
-    };
-    file_for(alloc, kind, &code)
-}
+use translated_filters::{FilterFault, explain_filter, make_file};
 
 /// Writes `refused C`, or `refused C at N` for a line or an instruction.
 fn tell_refusal<E: Write>(err: &mut E, code: u8, place: Option<usize>) {

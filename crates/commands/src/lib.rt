@@ -6,7 +6,6 @@ mod check;
 mod dispatch;
 mod dump;
 mod filter;
-mod filter_words;
 mod json;
 mod pool;
 mod puts;

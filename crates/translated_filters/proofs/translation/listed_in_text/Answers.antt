@@ -1,7 +1,7 @@
 use Rattle.std.proofs.Common.{rules, ◌≢◌, sym, subst}
 use Rattle.classic_program.specs.declared.fault.ReadFault.TheVariants as read_faults
 use Rattle.classic_program.specs.Reading.{IsListing}
-use Rattle.commands.proofs.filter.listed_in_text.Goals as goal
+use Rattle.translated_filters.proofs.translation.listed_in_text.Goals as goal
 
 pub returns-in-Err-read_listing : goal.returns-in-Err-read_listing
 returns-in-Err-read_listing c =

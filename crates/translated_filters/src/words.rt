@@ -1,6 +1,6 @@
 //! Why bytes are no classic program, or have no program file, in words for people.
 
-use crate::filter::FilterFault;
+use crate::translation::FilterFault;
 use assembled_texts::lines_in;
 use classic::{
     ClassicFault, Data, ReadFault, SockFilter, TranslateFault, read_filter_array, read_listing,

@@ -1,0 +1,8 @@
+//! The program file of a classic program, or why there is none, also in words.
+#![tactic(auto)]
+
+mod translation;
+mod words;
+
+pub use translation::{FilterFault, make_file};
+pub use words::explain_filter;
