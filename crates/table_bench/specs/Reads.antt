@@ -1,5 +1,5 @@
 -- What the measurements ask of a table, its readers, its writer and the program that they run.
-use Rattle.std.specs.Prelude.{◌≡◌, All}
+use Rattle.std.specs.Prelude.{◌≡◌}
 use Rattle.read_table.specs.declared.view.TableShape.{TableShape}
 use Rattle.verifier.specs.Checked.{Checked}
 use Rattle.read_table.specs.Held.{IsReady, TableView}
