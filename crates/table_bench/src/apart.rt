@@ -1,4 +1,4 @@
-//! Readers that share nothing, to compare with: what they lose beside each other is the machine's.
+//! Readers that share no table, to compare with: what they lose beside each other is not the table's.
 ghost use Rattle.std.specs.Prelude.{All, IfOk};
 ghost use Rattle.table_bench.specs.Reads.{IsAtHome};
 

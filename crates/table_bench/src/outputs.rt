@@ -86,8 +86,8 @@ fn crew_line(alloc: Global, task: &Task, crew: &Crew, alone: &Crew) -> Result<St
     ratio_line(alloc, front.as_str(), crew.most, alone.most, 1)
 }
 
-/// The line that tells how many times as many calls readers of one table made as those that share nothing: what they lose by
-/// sharing, whatever else the machine does.
+/// The line that tells how many times as many calls readers of one table made as those with a table each: what they lose by
+/// sharing the table.
 fn sharing_line(
     alloc: Global,
     task: &Task,

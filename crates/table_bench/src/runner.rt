@@ -11,8 +11,8 @@ use std::time::Instant;
 /// How many calls a reader makes between two readings of the clock.
 pub const BATCH: u32 = 1024;
 
-/// When counting begins and ends, in nanoseconds since the round did. Readers begin before and end after, so that all of them are
-/// at work in all of this time.
+/// When counting begins and ends, in nanoseconds since the round did. Readers begin before and end after; one that has no processor
+/// in this time counts the less.
 const FROM: u64 = 10_000_000;
 
 const TO: u64 = 35_000_000;
