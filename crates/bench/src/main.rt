@@ -21,6 +21,7 @@ use std::process::ExitCode;
 use std::rt::Clock;
 use std::sync::Wait;
 use std::thread::Threads;
+use std::time::CpuClock;
 use std::{env, fs};
 use table_bench::{lines_of as read_lines_of, parse_read_words};
 use trial::{Trial, counted_run, trial_of};
@@ -119,7 +120,7 @@ fn perform_world<H: Threads + Wait + Clock + Sync>(
 }
 
 /// Does what the words after `read` ask for.
-fn perform_read<H: Threads + Wait + Clock + Sync>(
+fn perform_read<H: Threads + Wait + Clock + CpuClock + Sync>(
     rt: &HostRuntime,
     handle: &H,
     words: &[String],
@@ -165,7 +166,10 @@ fn perform_program<H: Threads + Wait + Clock + Sync>(
     Ok(ExitCode::SUCCESS)
 }
 
-fn perform<H: Threads + Wait + Clock + Sync>(rt: &HostRuntime, handle: &H) -> Result<ExitCode> {
+fn perform<H: Threads + Wait + Clock + CpuClock + Sync>(
+    rt: &HostRuntime,
+    handle: &H,
+) -> Result<ExitCode> {
     let mut words = Vec::new(rt.alloc());
     for word in env::args(rt)?.skip(1) {
         words.push(word)?;

@@ -3,14 +3,15 @@ ghost use Rattle.std.specs.Prelude.{All, IfOk};
 ghost use Rattle.table_bench.specs.Reads.{IsAtHome};
 
 use crate::measured::Measured;
-use crate::runner::{Runner, calls_of, work_counted};
+use crate::runner::{Runner, work_counted, work_of};
 use crate::task::Deed;
+use crate::work::Work;
 use anyhow::{Result, bail};
 use read_table::MAX_READERS;
 use std::alloc::Global;
 use std::rt::Clock;
 use std::thread::{Threads, for_each_mut};
-use std::time::Instant;
+use std::time::{CpuClock, Instant};
 
 /// A reader with the table that it alone reads.
 #[derive(Drop)]
@@ -27,8 +28,8 @@ fn at_home<S: Measured>(alloc: Global) -> Result<AtHome<S, S::Reader>>
     let Some(reader) = readers.pop() else {
         bail!("no reader");
     };
-    let batches = None;
-    let runner = Runner { reader, batches };
+    let work = None;
+    let runner = Runner { reader, work };
     Ok(AtHome { table, runner })
 }
 
@@ -44,7 +45,7 @@ fn all_at_home<S: Measured>(alloc: Global, readers: usize) -> Result<Vec<AtHome<
 }
 
 /// Each reader makes calls in a thread of its own, at its own table, until the time of the round is over, which began at `start`.
-fn read_all_apart<S: Measured, R: Threads + Clock + Sync>(
+fn read_all_apart<S: Measured, R: Threads + Clock + CpuClock + Sync>(
     rt: &R,
     start: Instant,
     readers: &mut [AtHome<S, S::Reader>],
@@ -62,18 +63,18 @@ fn read_all_apart<S: Measured, R: Threads + Clock + Sync>(
     );
 }
 
-/// Lets so many readers, each with a table of its own, do this for a round. How many calls they made.
-pub fn count_apart<S: Measured, R: Threads + Clock + Sync>(
+/// Lets so many readers, each with a table of its own, do this for a round. What they did while calls were counted.
+pub fn count_apart<S: Measured, R: Threads + Clock + CpuClock + Sync>(
     rt: &R,
     alloc: Global,
     deed: Deed,
     readers: usize,
-) -> Result<u64> {
+) -> Result<Work> {
     let mut all = all_at_home::<S>(alloc, readers)?;
     read_all_apart(rt, Instant::now(rt)?, all.as_mut_slice(), deed);
-    let mut calls = 0u64;
+    let mut work = Work::NONE;
     for one in &all {
-        calls = calls.saturating_add(calls_of(&one.runner)?);
+        work.add(work_of(&one.runner)?);
     }
-    Ok(calls)
+    Ok(work)
 }

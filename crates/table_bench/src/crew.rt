@@ -9,10 +9,10 @@ use read_table::MAX_READERS;
 use std::rt::Clock;
 use std::sync::atomic::{AtomicBool, Ordering};
 use std::thread::{Threads, for_each_mut, join};
-use std::time::Instant;
+use std::time::{CpuClock, Instant};
 
 /// Each reader makes calls in a thread of its own until the round's time is over.
-fn read_all<S: Measured, R: Threads + Clock + Sync>(
+fn read_all<S: Measured, R: Threads + Clock + CpuClock + Sync>(
     rt: &R,
     start: Instant,
     table: &S,
@@ -49,7 +49,7 @@ fn write_until<S: Measured>(table: &S, writer: &mut S::Writer, done: &AtomicBool
 }
 
 /// The readers make their calls, and say so when they are done.
-fn read_and_say<S: Measured, R: Threads + Clock + Sync>(
+fn read_and_say<S: Measured, R: Threads + Clock + CpuClock + Sync>(
     rt: &R,
     start: Instant,
     table: &S,
@@ -66,7 +66,7 @@ fn read_and_say<S: Measured, R: Threads + Clock + Sync>(
 }
 
 /// The readers make their calls beside the writer. How often the writer changed the table.
-fn read_beside<S: Measured, R: Threads + Clock + Sync>(
+fn read_beside<S: Measured, R: Threads + Clock + CpuClock + Sync>(
     rt: &R,
     start: Instant,
     table: &S,
@@ -93,7 +93,7 @@ fn read_beside<S: Measured, R: Threads + Clock + Sync>(
 
 /// Each reader makes calls in a thread of its own until the time of the round is over, which began at `start`, alone or beside the
 /// writer. How often the writer changed the table.
-pub fn go<S: Measured, R: Threads + Clock + Sync>(
+pub fn go<S: Measured, R: Threads + Clock + CpuClock + Sync>(
     rt: &R,
     start: Instant,
     table: &S,

@@ -14,6 +14,7 @@ mod reader;
 mod runner;
 mod stage;
 mod task;
+mod work;
 
 pub use command::{ReadCommand, ReadWordsFault, parse_read_words};
 pub use outputs::lines_of;

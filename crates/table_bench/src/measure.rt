@@ -5,17 +5,22 @@ ghost use Rattle.read_table.specs.declared.limits.TheConstants.{MAX_READERS};
 use crate::apart::count_apart;
 use crate::crew::go;
 use crate::measured::Measured;
-use crate::runner::{BATCH, calls_of_all, runners_of};
+use crate::runner::{BATCH, SPAN, runners_of, work_of_all};
 use crate::task::Task;
+use crate::work::{Work, per_second};
 use anyhow::{Result, bail, ensure};
+use measurements::{Decimal, quotient};
 use read_table::MAX_READERS;
 use std::alloc::Global;
 use std::rt::Clock;
 use std::thread::Threads;
-use std::time::Instant;
+use std::time::{CpuClock, Duration, Instant};
 
 /// In how many rounds each crew makes its calls.
-pub const ROUNDS: u32 = 50;
+const ROUNDS: u64 = 15;
+
+/// For how many milliseconds the calls of a crew are counted, in all rounds.
+const COUNTED: u64 = SPAN * ROUNDS;
 
 /// With whom readers share their table.
 #[derive(Clone, Copy, Debug, PartialEq, Eq)]
@@ -28,13 +33,12 @@ pub enum Company {
     Nobody,
 }
 
-/// So many readers, and how many calls they made together: in all rounds, and in the quickest.
+/// So many readers, and what they did together in all rounds.
 #[derive(Clone, Copy, Debug)]
 pub struct Crew {
     pub readers: usize,
     pub company: Company,
-    pub calls: u64,
-    pub most: u64,
+    pub work: Work,
 }
 
 impl Crew {
@@ -43,26 +47,37 @@ impl Crew {
         Crew {
             readers,
             company,
-            calls: 0,
-            most: 0,
+            work: Work::NONE,
         }
     }
 
-    /// Counts the calls of a round.
-    fn count(&mut self, calls: u64) {
-        self.calls = self.calls.saturating_add(calls);
-        self.most = self.most.max(calls);
+    /// How many calls all its readers made together in a second.
+    pub fn per_second(&self) -> u64 {
+        per_second(self.work.calls, Duration::from_millis(COUNTED))
+    }
+
+    /// How many calls all its readers would make together in a second in which each had a processor throughout.
+    pub fn per_given_second(&self) -> u64 {
+        let of_one = per_second(self.work.calls, self.work.given);
+        of_one.saturating_mul(u64::try_from(self.readers).unwrap_or(u64::MAX))
+    }
+
+    /// For which part of the time in which calls were counted its readers had a processor.
+    pub fn share_given(&self) -> Decimal {
+        let readers = u64::try_from(self.readers).unwrap_or(u64::MAX);
+        let wanted = readers.saturating_mul(COUNTED).max(1);
+        quotient(self.work.given.as_millis(), u128::from(wanted))
     }
 }
 
-/// Lets so many readers make the calls of a task for a round. How many calls they made.
-fn count_together<S: Measured, R: Threads + Clock + Sync>(
+/// Lets so many readers make the calls of a task for a round. What they did while calls were counted.
+fn count_together<S: Measured, R: Threads + Clock + CpuClock + Sync>(
     rt: &R,
     alloc: Global,
     task: &Task,
     readers: usize,
     is_written: bool,
-) -> Result<u64>
+) -> Result<Work>
     requires { (0 < readers) × (readers ≤ MAX_READERS) }
 {
     let (table, readers, mut writer) = S::make(alloc, readers)?;
@@ -78,11 +93,11 @@ fn count_together<S: Measured, R: Threads + Clock + Sync>(
         is_written,
     );
     ensure!(rounds < u64::MAX, "the writer did not end");
-    calls_of_all(&runners)
+    work_of_all(&runners)
 }
 
 /// Lets a crew make the calls of a task for a round.
-fn count_once<S: Measured, R: Threads + Clock + Sync>(
+fn count_once<S: Measured, R: Threads + Clock + CpuClock + Sync>(
     rt: &R,
     alloc: Global,
     task: &Task,
@@ -90,17 +105,17 @@ fn count_once<S: Measured, R: Threads + Clock + Sync>(
 ) -> Result<()> {
     let readers = crew.readers;
     ensure!(readers >= 1 && readers <= MAX_READERS, "no such crew");
-    let calls = match crew.company {
+    let work = match crew.company {
         Company::Readers => count_together::<S, R>(rt, alloc, task, readers, false)?,
         Company::Writer => count_together::<S, R>(rt, alloc, task, readers, true)?,
         Company::Nobody => count_apart::<S, R>(rt, alloc, task.deed, readers)?,
     };
-    crew.count(calls);
+    crew.work.add(work);
     Ok(())
 }
 
 /// Lets each crew make the calls of a task for a round.
-fn count_round<S: Measured, R: Threads + Clock + Sync>(
+fn count_round<S: Measured, R: Threads + Clock + CpuClock + Sync>(
     rt: &R,
     alloc: Global,
     task: &Task,
@@ -114,7 +129,7 @@ fn count_round<S: Measured, R: Threads + Clock + Sync>(
 
 /// Lets each crew make the calls of a task for `ROUNDS` rounds, one crew after the other in each: so all of them have the machine
 /// as it is then.
-pub fn count_crews<S: Measured, R: Threads + Clock + Sync>(
+pub fn count_crews<S: Measured, R: Threads + Clock + CpuClock + Sync>(
     rt: &R,
     alloc: Global,
     task: &Task,

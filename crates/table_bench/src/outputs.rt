@@ -6,9 +6,8 @@ use crate::command::ReadCommand;
 use crate::jobs::{Kind, time_per_job};
 use crate::key_tables::repeat_map_calls;
 use crate::map_stage::MapStage;
-use crate::measure::{Company, Crew, ROUNDS, count_crews, repeat_calls};
+use crate::measure::{Company, Crew, count_crews, repeat_calls};
 use crate::measured::Measured;
-use crate::runner::SPAN;
 use crate::stage::Stage;
 use crate::task::{Deed, Task, map_tasks, tasks};
 use anyhow::{Result, bail};
@@ -18,6 +17,7 @@ use std::alloc::{AllocError, Global};
 use std::rt::Clock;
 use std::sync::Wait;
 use std::thread::Threads;
+use std::time::CpuClock;
 
 /// How many lookups a long job makes, in one section.
 const LOOKUPS_OF_LONG_JOB: u32 = 32;
@@ -54,26 +54,18 @@ fn ending_of(company: Company) -> &'static str {
     }
 }
 
-/// How many times as many calls as one reader made so many readers made, in so many rounds.
-fn ratio_line(
-    alloc: Global,
-    front: &str,
-    calls: u64,
-    alone: u64,
-    rounds: u32,
-) -> Result<String, AllocError> {
-    let nanos = u128::from(SPAN).saturating_mul(u128::from(rounds.max(1)));
-    let per_second = u128::from(calls).saturating_mul(1_000_000_000) / nanos;
-    let front = format!(in alloc; "{front} {per_second} a second, ratio")?;
+/// So many calls a second, and how many times as many that is as one reader alone makes.
+fn ratio_line(alloc: Global, front: &str, rate: u64, alone: u64) -> Result<String, AllocError> {
+    let front = format!(in alloc; "{front} {rate} a second, ratio")?;
     measurement_line(
         alloc,
         front.as_str(),
-        quotient(u128::from(calls), u128::from(alone.max(1))),
+        quotient(u128::from(rate), u128::from(alone.max(1))),
     )
 }
 
-/// The line of a crew: its name; how many calls all its threads made in a second of all rounds, and how many times as many that is
-/// as one reader alone made; and the same of the quickest round of each.
+/// The line of a crew: its name; how many calls all its readers made in a second; how many in a second in which each has a
+/// processor throughout; each also as a multiple of what one reader alone makes; and the part of the time in which they had one.
 fn crew_line(alloc: Global, task: &Task, crew: &Crew, alone: &Crew) -> Result<String, AllocError> {
     let name = format!(in alloc;
         "{}_by_{}{}",
@@ -81,13 +73,16 @@ fn crew_line(alloc: Global, task: &Task, crew: &Crew, alone: &Crew) -> Result<St
         crew.readers,
         ending_of(crew.company)
     )?;
-    let mean = ratio_line(alloc, name.as_str(), crew.calls, alone.calls, ROUNDS)?;
-    let front = format!(in alloc; "{mean}; quickest round")?;
-    ratio_line(alloc, front.as_str(), crew.most, alone.most, 1)
+    let line = ratio_line(alloc, name.as_str(), crew.per_second(), alone.per_second())?;
+    let front = format!(in alloc; "{line}; by processor time")?;
+    let (given, alone_given) = (crew.per_given_second(), alone.per_given_second());
+    let line = ratio_line(alloc, front.as_str(), given, alone_given)?;
+    let front = format!(in alloc; "{line}; given")?;
+    measurement_line(alloc, front.as_str(), crew.share_given())
 }
 
-/// The line that tells how many times as many calls readers of one table made as those with a table each: what they lose by
-/// sharing the table.
+/// The line that tells how many times as many calls readers of one table made as those with a table each, by processor time:
+/// what they lose by sharing the table.
 fn sharing_line(
     alloc: Global,
     task: &Task,
@@ -95,16 +90,13 @@ fn sharing_line(
     apart: &Crew,
 ) -> Result<String, AllocError> {
     let name = format!(in alloc; "{}_by_{}_to_apart", task.name, together.readers)?;
-    let calls = u128::from(together.calls);
-    measurement_line(
-        alloc,
-        name.as_str(),
-        quotient(calls, u128::from(apart.calls.max(1))),
-    )
+    let rate = u128::from(together.per_given_second());
+    let apart = u128::from(apart.per_given_second().max(1));
+    measurement_line(alloc, name.as_str(), quotient(rate, apart))
 }
 
 /// Counts the calls of a task that each crew makes.
-fn task_lines<S: Measured, R: Threads + Clock + Sync>(
+fn task_lines<S: Measured, R: Threads + Clock + CpuClock + Sync>(
     rt: &R,
     alloc: Global,
     task: &Task,
@@ -139,7 +131,10 @@ fn job_lines<R: Threads + Wait + Clock + Sync>(
 }
 
 /// Times each task with each crew, and jobs.
-fn times_lines<R: Threads + Wait + Clock + Sync>(rt: &R, alloc: Global) -> Result<Vec<String>> {
+fn times_lines<R: Threads + Wait + Clock + CpuClock + Sync>(
+    rt: &R,
+    alloc: Global,
+) -> Result<Vec<String>> {
     let mut lines = Vec::new(alloc);
     for task in tasks() {
         task_lines::<Stage, R>(rt, alloc, &task, &mut lines)?;
@@ -182,7 +177,7 @@ fn repeated_lines(alloc: Global, name: &str, times: u32) -> Result<Vec<String>> 
 }
 
 /// The lines that a command prints.
-pub fn lines_of<R: Threads + Wait + Clock + Sync>(
+pub fn lines_of<R: Threads + Wait + Clock + CpuClock + Sync>(
     rt: &R,
     alloc: Global,
     command: ReadCommand<'_>,

@@ -3,72 +3,99 @@ ghost use Rattle.std.specs.Prelude.{All, IfOk};
 
 use crate::measured::Measured;
 use crate::task::Deed;
+use crate::work::Work;
 use anyhow::{Result, bail};
 use std::alloc::{AllocError, Global};
 use std::rt::Clock;
-use std::time::Instant;
+use std::time::{CpuClock, Duration, Instant};
 
 /// How many calls a reader makes between two readings of the clock.
 pub const BATCH: u32 = 1024;
 
-/// When counting begins and ends, in nanoseconds since the round did. Readers begin before and end after; one that has no processor
-/// in this time counts the less.
-const FROM: u64 = 10_000_000;
+/// How many milliseconds readers make calls before these are counted: a processor that was idle is slower at first.
+const FROM: u64 = 50;
 
-const TO: u64 = 35_000_000;
+/// For how many milliseconds calls are counted in a round. A reader that has no processor in this time counts the less.
+pub const SPAN: u64 = 100;
 
-/// How long calls are counted in a round, in nanoseconds.
-pub const SPAN: u64 = TO - FROM;
+/// The most batches that are made until then; fewer fit in the time.
+const MOST_BATCHES: u64 = 1 << 24;
 
-/// The most batches of a round; fewer fit in its time.
-const MOST_BATCHES: u32 = 1 << 24;
-
-/// A reader, and how many whole batches it made while they were counted: nothing before, or where the clock failed.
+/// A reader, and what it did while calls were counted: nothing before, or where a clock failed.
 #[derive(Drop)]
 pub struct Runner<T> {
     pub reader: T,
-    pub batches: Option<u64>,
+    pub work: Option<Work>,
 }
 
-/// The nanoseconds since then. Nothing where the clock fails.
-fn nanos_since<C: Clock>(clock: &C, start: Instant) -> Option<u64> {
+/// The time since then. Nothing where the clock fails.
+fn time_since<C: Clock>(clock: &C, start: Instant) -> Option<Duration> {
     match start.elapsed(clock) {
-        Ok(time) => Some(u64::try_from(time.as_nanos()).unwrap_or(u64::MAX)),
+        Ok(time) => Some(time),
         Err(_) => None,
     }
 }
 
-/// Makes calls until the round's time is over. How many batches began and ended while they were counted; nothing where the clock
-/// fails.
-fn count_batches<S: Measured, C: Clock>(
+/// The processor time that this thread has had. Nothing where the clock fails.
+fn given_so_far<C: CpuClock>(clock: &C) -> Option<Duration> {
+    match clock.thread_cpu_time() {
+        Ok(time) => Some(time),
+        Err(_) => None,
+    }
+}
+
+/// Makes calls until so much time has gone since the round began. How many batches; nothing where the clock fails.
+fn work_until<S: Measured, C: Clock>(
     clock: &C,
     start: Instant,
     table: &S,
     reader: &mut S::Reader,
     deed: Deed,
+    end: Duration,
 ) -> Option<u64>
     requires set { S.IsSet table.now }
     requires reader { S.IsReader table.now reader.old }
     ensures { S.IsReader table.now reader.new }
 {
-    let mut batches = 0u64;
-    let mut before = nanos_since(clock, start)?;
-    for _ in 0..MOST_BATCHES {
-        table.work(reader, deed, BATCH);
-        let now = nanos_since(clock, start)?;
-        if now > TO {
+    for batches in 0..MOST_BATCHES {
+        if time_since(clock, start)? >= end {
             return Some(batches);
         }
-        if before >= FROM {
-            batches = batches.saturating_add(1);
-        }
-        before = now;
+        table.work(reader, deed, BATCH);
     }
     None
 }
 
-/// Makes calls until the round's time is over, and keeps how many.
-pub fn work_counted<S: Measured, C: Clock>(
+/// Makes calls until the round's time is over. What was done while they were counted; nothing where a clock fails.
+fn work_in_span<S: Measured, C: Clock + CpuClock>(
+    clock: &C,
+    start: Instant,
+    table: &S,
+    reader: &mut S::Reader,
+    deed: Deed,
+) -> Option<Work>
+    requires set { S.IsSet table.now }
+    requires reader { S.IsReader table.now reader.old }
+    ensures { S.IsReader table.now reader.new }
+{
+    work_until(
+        clock,
+        start,
+        table,
+        reader,
+        deed,
+        Duration::from_millis(FROM),
+    )?;
+    let given_before = given_so_far(clock)?;
+    let end = Duration::from_millis(FROM + SPAN);
+    let batches = work_until(clock, start, table, reader, deed, end)?;
+    let given = given_so_far(clock)?.saturating_sub(given_before);
+    let calls = batches.saturating_mul(u64::from(BATCH));
+    Some(Work { calls, given })
+}
+
+/// Makes calls until the round's time is over, and keeps what was done while they were counted.
+pub fn work_counted<S: Measured, C: Clock + CpuClock>(
     clock: &C,
     start: Instant,
     table: &S,
@@ -79,7 +106,7 @@ pub fn work_counted<S: Measured, C: Clock>(
     requires reader { S.IsReader table.now runner.old.reader }
     ensures { S.IsReader table.now runner.new.reader }
 {
-    runner.batches = count_batches(clock, start, table, &mut runner.reader, deed);
+    runner.work = work_in_span(clock, start, table, &mut runner.reader, deed);
 }
 
 /// The readers, none of which has made a call.
@@ -94,27 +121,24 @@ pub fn runners_of<S: Measured>(
     let _ = table;
     let mut runners = Vec::new(alloc);
     for reader in readers {
-        runners.push(Runner {
-            reader,
-            batches: None,
-        })?;
+        runners.push(Runner { reader, work: None })?;
     }
     Ok(runners)
 }
 
-/// How many calls a reader made while they were counted. Fails where the clock has failed.
-pub fn calls_of<T>(runner: &Runner<T>) -> Result<u64> {
-    match runner.batches {
-        Some(batches) => Ok(batches.saturating_mul(u64::from(BATCH))),
-        None => bail!("the clock failed"),
+/// What a reader did while calls were counted. Fails where a clock has failed.
+pub fn work_of<T>(runner: &Runner<T>) -> Result<Work> {
+    match runner.work {
+        Some(work) => Ok(work),
+        None => bail!("a clock failed"),
     }
 }
 
 /// The same of all readers together.
-pub fn calls_of_all<T>(runners: &[Runner<T>]) -> Result<u64> {
-    let mut calls = 0u64;
+pub fn work_of_all<T>(runners: &[Runner<T>]) -> Result<Work> {
+    let mut all = Work::NONE;
     for runner in runners {
-        calls = calls.saturating_add(calls_of(runner)?);
+        all.add(work_of(runner)?);
     }
-    Ok(calls)
+    Ok(all)
 }
