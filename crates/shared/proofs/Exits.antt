@@ -6,7 +6,7 @@ use Rattle.bpf_model.specs.View.{WorldView}
 use Rattle.verifier.specs.Checked.{Checked}
 use Rattle.world_laws.specs.Invariant.{IsWorld}
 use Rattle.world_laws.proofs.Lived.{may_exit_as, exits_as}
-use Rattle.shared.specs.Receipts.{IsExitOf, HasExitedOnce, IsPossibleExit, IsOwnExit}
+use Rattle.shared_books.specs.Receipts.{IsExitOf, HasExitedOnce, IsPossibleExit, IsOwnExit}
 
 pub exits-once : (programs : List Checked) (p : Option Checked) (w : WorldView) (run prog : ℕ) (context : List ℕ)
     (exit : Option ℕ) → IsWorld w → p ≡ slice_get programs prog

@@ -6,8 +6,8 @@ use lib.ListN.{get_elem?}
 use Rattle.crossbeam_utils.specs.Register.{Turns, Forks}
 use Rattle.atomic_table.proofs.Lists.{at_set, at_snoc, set_again}
 use Rattle.shared.specs.declared.meter.MeterView.{MeterView}
-use Rattle.shared.specs.declared.tally.Totals.{Totals}
-use Rattle.shared.specs.Books.{TotalsRise}
+use Rattle.shared_books.specs.declared.tally.Totals.{Totals}
+use Rattle.shared_books.specs.Books.{TotalsRise}
 use Rattle.shared.specs.Meter.{IsKnownOf, FitsMeter, IsMetered, meter_writer, writer_at, meter_reader, HasWrittenMeter, HasReadMeter}
 
 pub begins : IsMetered (0 ∷ 0 ∷ 0 ∷ []) (meter_writer 0 0 0 ∷ [])

@@ -1,8 +1,3 @@
-pub mod Tally
-pub mod Books
-pub mod Codes
-pub mod Receipts
 pub mod Meter
-pub mod Noted
-pub mod Numbers
-pub mod Stretches
+pub mod State
+pub mod Codes

@@ -5,8 +5,8 @@ use mathlib.Core.Option.{some}
 use lib.ListN.{get_elem?}
 use Rattle.atomic_table.specs.Seated.{TableId}
 use Rattle.shared.specs.declared.meter.MeterView.{MeterView}
-use Rattle.shared.specs.declared.tally.Totals.{Totals}
-use Rattle.shared.specs.Books.{TotalsRise}
+use Rattle.shared_books.specs.declared.tally.Totals.{Totals}
+use Rattle.shared_books.specs.Books.{TotalsRise}
 
 -- what is known is no more than the words
 pub record IsKnownOf (v : MeterView) (words : List ℕ) : Type 0 where

@@ -2,11 +2,11 @@
 ghost use Rattle.std.specs.Prelude.{◌≡◌, ◌<◌, ◌≤◌, ◌∷◌, [], length, map, IfOk};
 ghost use Rattle.bpf_model.specs.View.{AreNewMaps, shapes_of_maps};
 ghost use Rattle.journal_laws.specs.Replay.{HasNoRuns};
-ghost use Rattle.shared.specs.Books.{AreNumbered, most_workers};
+ghost use Rattle.shared_books.specs.Books.{AreNumbered, most_workers};
 
 use crate::lock::Shared;
-use crate::worker::Workers;
 use maps::Registry;
+use shared_books::Workers;
 use std::alloc::{AllocError, Global};
 use std::sync::ledger::{Blank, Ledger};
 use verifier::Verified;

@@ -2,14 +2,13 @@
 ghost use Rattle.std.specs.Prelude.{◌≡◌, ◌+◌, ◌<◌, ◌≤◌, IfOk, IfSome, OnErr, OnOk, option_copied, slice_get};
 ghost use Rattle.bpf_model.specs.declared.event.Event.{Event};
 ghost use Rattle.bpf_model.specs.declared.event.Answer.{Answer};
-ghost use Rattle.shared.specs.Receipts.{HasExitedOnce, IsMachineAnswer, IsOwnExit, IsPossibleExit};
-ghost use Rattle.shared.specs.Stretches.{HasMade};
-ghost use Rattle.shared.specs.declared.steps.StepsEnd.{StepsEnd};
+ghost use Rattle.shared_books.specs.Receipts.{HasExitedOnce, IsMachineAnswer, IsOwnExit, IsPossibleExit};
+ghost use Rattle.shared_books.specs.Stretches.{HasMade};
+ghost use Rattle.shared_books.specs.declared.steps.StepsEnd.{StepsEnd};
 
 use crate::state::{ExitNote, Receipt, State};
-use crate::steps::Steps;
-use crate::worker::Worker;
 use bpf_model::{CtxBytes, Event, ProgId, RunId};
+use shared_books::{Steps, Worker};
 use std::marker::Model;
 use std::sync::ledger::Ledger;
 use std::sync::{MutexGuard, Wait};

@@ -6,23 +6,17 @@
 //! call answered, and counters are read without the lock. Who holds the lock may do several things under it (`Held`).
 #![tactic(auto)]
 
-mod books;
 mod bound;
-mod fault;
 mod held;
 mod lock;
 mod meter;
 mod state;
-mod steps;
-mod tally;
-mod worker;
 
-pub use books::{Books, Finished, is_quiet};
 pub use bound::ProgramWithMaps;
-pub use fault::{CutFault, SharedFault};
 pub use held::Held;
 pub use lock::Shared;
+pub use shared_books::{
+    Books, CutFault, Finished, MAX_WORKERS, SharedFault, Steps, StepsEnd, Totals, Worker, Workers,
+    is_quiet,
+};
 pub use state::{Counters, ExitNote, Receipt, State};
-pub use steps::{Steps, StepsEnd};
-pub use tally::Totals;
-pub use worker::{MAX_WORKERS, Worker, Workers};

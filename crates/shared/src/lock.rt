@@ -2,23 +2,22 @@
 ghost use Rattle.std.specs.Prelude.{◌≡◌, ◌+◌, ◌<◌, ◌≤◌, length, map, sum_by, All, IfOk, IfSome, OnErr, OnOk, Some, option_copied, slice_get};
 ghost use Rattle.bpf_model.specs.declared.limits.TheConstants.{MAX_JOURNAL};
 ghost use Rattle.bpf_model.specs.View.{shapes_of};
-ghost use Rattle.shared.specs.Books.{AreNumbered, most_workers};
-ghost use Rattle.shared.specs.Receipts.{HasExitedOnce, IsMachineAnswer, IsOwnExit, IsPossibleExit};
-ghost use Rattle.shared.specs.Stretches.{HasMade};
-ghost use Rattle.shared.specs.declared.steps.StepsEnd.{StepsEnd};
+ghost use Rattle.shared_books.specs.Books.{AreNumbered, most_workers};
+ghost use Rattle.shared_books.specs.Receipts.{HasExitedOnce, IsMachineAnswer, IsOwnExit, IsPossibleExit};
+ghost use Rattle.shared_books.specs.Stretches.{HasMade};
+ghost use Rattle.shared_books.specs.declared.steps.StepsEnd.{StepsEnd};
 ghost use Rattle.bpf_model.specs.declared.event.Event.{Event};
 ghost use Rattle.bpf_model.specs.declared.event.Answer.{Answer};
-ghost use Rattle.shared.specs.Tally.{origin_of, shown_totals};
+ghost use Rattle.shared_books.specs.Tally.{origin_of, shown_totals};
 ghost use Rattle.journal_laws.specs.Replay.{Replays, HasNoRuns};
 
-use crate::books::{Books, Finished};
-use crate::fault::{CutFault, SharedFault};
 use crate::held::Held;
 use crate::state::{Counters, ExitNote, Receipt, State};
-use crate::steps::Steps;
-use crate::worker::{Worker, Workers, merged, new_workers};
 use bpf_model::{Answer, CtxBytes, Event, MAX_JOURNAL, MAX_PROGRAMS, ProgId, RunId};
 use journal::Journal;
+use shared_books::{
+    Books, CutFault, Finished, SharedFault, Steps, Worker, Workers, merged, new_workers,
+};
 use std::alloc::{AllocError, Global};
 use std::marker::Model;
 use std::sync::ledger::{Blank, Ledger};

@@ -4,34 +4,30 @@ ghost use Rattle.bpf_model.specs.declared.event.Event.{Event};
 ghost use Rattle.bpf_model.specs.declared.event.Answer.{Answer};
 ghost use Rattle.std.specs.Arc.{arc_value};
 ghost use Rattle.crossbeam_utils.specs.Seq.{cell_view};
-ghost use Rattle.shared.specs.Noted.{IsEntered, receipt_of};
-ghost use Rattle.shared.specs.Books.{IsJournalFull, TotalsRise, CutsTo};
-ghost use Rattle.shared.specs.Receipts.{IsMachineAnswer};
-ghost use Rattle.shared.specs.Stretches.{EntersMoves, HasMade};
-ghost use Rattle.shared.specs.declared.steps.StepsEnd.{StepsEnd};
+ghost use Rattle.shared_books.specs.Noted.{IsEntered, receipt_of};
+ghost use Rattle.shared_books.specs.Books.{IsJournalFull, TotalsRise, CutsTo};
+ghost use Rattle.shared_books.specs.Receipts.{IsMachineAnswer};
+ghost use Rattle.shared_books.specs.Stretches.{EntersMoves, HasMade};
+ghost use Rattle.shared_books.specs.declared.steps.StepsEnd.{StepsEnd};
 ghost use Rattle.world.specs.Stretches.{WouldBeRefused, WouldExit};
 ghost use Rattle.shared.specs.Meter.{MayWrite, writer_at};
-ghost use Rattle.shared.specs.Tally.{IsTallyOf, shown_totals};
+ghost use Rattle.shared_books.specs.Tally.{IsTallyOf, shown_totals};
 ghost use Rattle.bpf_model.specs.declared.limits.TheConstants.{MAX_JOURNAL};
 ghost use Rattle.journal_laws.specs.Replay.{Replays, HasNoRuns};
 ghost use Rattle.journal_laws.specs.Totals.{steps_of};
-ghost use Rattle.shared.specs.declared.fault.CutFault.TheVariants as cut_fault;
+ghost use Rattle.shared_books.specs.declared.fault.CutFault.TheVariants as cut_fault;
 
 mod counters;
 mod note;
 mod receipt;
 
-use crate::books::{Books, Finished};
-use crate::fault::{CutFault, SharedFault};
 use crate::meter::{Meter, MeterPass, Writes};
 use crate::state::counters::begin;
-use crate::steps::Steps;
-use crate::tally::Totals;
-use crate::worker::Worker;
 use bpf_model::{Answer, Event, RunId};
 pub use counters::Counters;
 pub use note::ExitNote;
 pub use receipt::Receipt;
+use shared_books::{Books, CutFault, Finished, SharedFault, Steps, Totals, Worker};
 use std::alloc::{AllocError, Global};
 use std::marker::Model;
 use std::sync::ledger::{Ledger, Share};
@@ -47,7 +43,7 @@ pub struct State<L: Ledger> {
 }
 
 impl<L: Ledger> Model for State<L> {
-    ghost use Rattle.shared.specs.Books.{StateView};
+    ghost use Rattle.shared.specs.State.{StateView};
     ghost use Rattle.shared.specs.Codes.{state_code};
 
     ghost Value = { StateView };

@@ -1,6 +1,6 @@
 //! Outcomes and entries of many jobs.
 ghost use Rattle.std.specs.Prelude.{◌≡◌, ◌<◌, ◌≤◌};
-ghost use Rattle.shared.specs.declared.worker.TheConstants.{MAX_WORKERS};
+ghost use Rattle.shared_books.specs.declared.worker.TheConstants.{MAX_WORKERS};
 
 use crate::making::{jobs_of, made_by, update, world_of, wrong};
 use shared::{Shared, is_quiet};

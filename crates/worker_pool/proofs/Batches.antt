@@ -5,7 +5,7 @@ use Rattle.std.specs.Io.KnownBytes.{Appends, Keeps}
 use Rattle.std.proofs.KnownBytes.{Appends-kept, Appends-trans}
 use Rattle.std.proofs.lemmas.List.Elements.{All-append, All-cons, All-nil}
 use Rattle.bpf_model.specs.declared.insn.Insn.{Insn}
-use Rattle.shared.specs.Books.{WorkerView}
+use Rattle.shared_books.specs.Books.{WorkerView}
 use Rattle.verifier.specs.Checked.{Checked}
 use Rattle.worker_pool.specs.declared.batch.Batch.{Batch}
 use Rattle.worker_pool.specs.declared.job.Job.{Job}

@@ -3,8 +3,8 @@ use Rattle.std.proofs.Common.{◌≡◌, ◌≤◌, ◌<◌, ◌+◌, ◌-◌, �
 use Rattle.std.specs.Prelude.{Result, Ok, Err, OnOk, OnErr}
 use Rattle.bpf_model.specs.declared.event.Answer.{Answer}
 use Rattle.bpf_model.specs.declared.event.Answer.TheVariants as answers
-use Rattle.shared.specs.Books.{WorkerView}
-use Rattle.shared.specs.declared.fault.SharedFault.{SharedFault}
+use Rattle.shared_books.specs.Books.{WorkerView}
+use Rattle.shared_books.specs.declared.fault.SharedFault.{SharedFault}
 
 -- one where the reply is a move
 abbrev pub moves : Result Answer SharedFault → ℕ

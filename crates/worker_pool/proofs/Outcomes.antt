@@ -6,8 +6,8 @@ use Rattle.bpf_model.specs.declared.insn.Insn.{Insn}
 use Rattle.bpf_model.specs.declared.event.Answer.{Answer}
 use Rattle.bpf_model.specs.Exit.{HasNoMaps}
 use Rattle.world_laws.specs.Exits.{MayExitAs, ExitsAs}
-use Rattle.shared.specs.declared.fault.SharedFault.{SharedFault}
-use Rattle.shared.specs.Receipts.{IsPossibleExit, IsOwnExit}
+use Rattle.shared_books.specs.declared.fault.SharedFault.{SharedFault}
+use Rattle.shared_books.specs.Receipts.{IsPossibleExit, IsOwnExit}
 use Rattle.verifier.specs.Checked.{Checked}
 use Rattle.worker_pool.specs.declared.job.Job.{Job}
 use Rattle.worker_pool.specs.declared.job.StopCause.{StopCause}

@@ -1,7 +1,7 @@
 -- The numbers of the causes for which a job stops.
 use Rattle.std.specs.Prelude.{ℕ}
 use Rattle.bpf_model.specs.EventNumbers.{event_refusal_number}
-use Rattle.shared.specs.Numbers.{shared_fault_number}
+use Rattle.shared_books.specs.Numbers.{shared_fault_number}
 use Rattle.worker_pool.specs.declared.job.StopCause.{StopCause}
 use Rattle.worker_pool.specs.declared.job.StopCause.TheVariants.{Refused, Fault, OtherRun, SubWord}
 

@@ -4,8 +4,8 @@
 use Rattle.std.specs.Prelude.{List}
 use Rattle.std.proofs.Common.{refl, ◌∙◌, le_trans}
 use Rattle.std.proofs.Math.Nat.{le_refl}
-use Rattle.shared.specs.Books.{WorkerView}
-use Rattle.shared.specs.Receipts.{ReceiptView}
+use Rattle.shared_books.specs.Books.{WorkerView}
+use Rattle.shared_books.specs.Receipts.{ReceiptView}
 use Rattle.verifier.specs.Checked.{Checked}
 use Rattle.worker_pool.specs.declared.job.Job.{Job}
 use Rattle.worker_pool.specs.declared.job.Trail.{Trail}

@@ -4,10 +4,10 @@ use Rattle.std.specs.Prelude.{slice_get}
 use Rattle.bpf_model.specs.declared.event.Event.TheVariants as events
 use Rattle.bpf_model.specs.declared.event.Answer.{Answer}
 use Rattle.bpf_model.specs.declared.event.Answer.TheVariants as answers
-use Rattle.shared.specs.declared.fault.SharedFault.{SharedFault}
-use Rattle.shared.specs.Books.{WorkerView}
+use Rattle.shared_books.specs.declared.fault.SharedFault.{SharedFault}
+use Rattle.shared_books.specs.Books.{WorkerView}
 use Rattle.verifier.specs.Checked.{Checked}
-use Rattle.shared.specs.Receipts.{ReceiptView, NoteView, HasExitedOnce, IsPossibleExit, IsOwnExit}
+use Rattle.shared_books.specs.Receipts.{ReceiptView, NoteView, HasExitedOnce, IsPossibleExit, IsOwnExit}
 use Rattle.worker_pool.specs.declared.job.Job.{Job}
 use Rattle.worker_pool.specs.declared.job.StopCause.{StopCause}
 use Rattle.worker_pool.specs.declared.job.StopCause.TheVariants.{Refused, Fault, OtherRun}

@@ -2,7 +2,7 @@
 ghost use Rattle.std.specs.Prelude.{◌≡◌, ◌≢◌, Ok, Some, IfOk};
 ghost use Rattle.bpf_model.specs.declared.event.Event.TheVariants.{Start, Step};
 ghost use Rattle.bpf_model.specs.declared.event.Answer.TheVariants.{Moved};
-ghost use Rattle.shared.specs.Receipts.{IsMachineAnswer};
+ghost use Rattle.shared_books.specs.Receipts.{IsMachineAnswer};
 ghost use Rattle.worker_pool.specs.Trails.{IsLater, IsByWorker, WasStarted, IsOfWorker, FitsJob, IsServedJob};
 
 use crate::job::{Job, JobReport, Outcome, StopCause, Trail};

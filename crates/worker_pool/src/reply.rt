@@ -2,7 +2,7 @@
 ghost use Rattle.std.specs.Prelude.{◌≡◌, ◌≢◌, ◌↔◌, IsTrue, Ok, Some, IfOk, IfErr, OnOk};
 ghost use Rattle.bpf_model.specs.declared.event.Event.TheVariants.{Start, Step, Drop};
 ghost use Rattle.bpf_model.specs.declared.event.Answer.TheVariants.{Started, Moved, Done};
-ghost use Rattle.shared.specs.Receipts.{IsMachineAnswer};
+ghost use Rattle.shared_books.specs.Receipts.{IsMachineAnswer};
 ghost use Rattle.worker_pool.specs.Trails.{stop_of, HasExitReply};
 
 use crate::job::{Job, StopCause};

@@ -1,6 +1,6 @@
 //! The lines that a command prints.
 ghost use Rattle.std.specs.Prelude.{◌<◌, ◌≤◌};
-ghost use Rattle.shared.specs.declared.worker.TheConstants.{MAX_WORKERS};
+ghost use Rattle.shared_books.specs.declared.worker.TheConstants.{MAX_WORKERS};
 
 use crate::activity::{Activity, activities, further_activities};
 use crate::command::WorldCommand;

@@ -1,6 +1,6 @@
 //! Jobs that the workers of a shared world serve.
 ghost use Rattle.std.specs.Prelude.{◌≡◌, ◌<◌, ◌≤◌};
-ghost use Rattle.shared.specs.declared.worker.TheConstants.{MAX_WORKERS};
+ghost use Rattle.shared_books.specs.declared.worker.TheConstants.{MAX_WORKERS};
 
 use crate::activity::{Activity, Deed, Stepped, small};
 use crate::setup::make_world;

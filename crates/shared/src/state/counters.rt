@@ -4,10 +4,10 @@ ghost use Rattle.std.specs.Prelude.{◌≡◌, ◌≤◌, IfOk};
 ghost use Rattle.std.specs.Arc.{arc_value};
 ghost use Rattle.crossbeam_utils.specs.Seq.{cell_view};
 ghost use Rattle.shared.specs.Meter.{meter_writer};
-ghost use Rattle.shared.specs.Tally.{shown_totals};
+ghost use Rattle.shared_books.specs.Tally.{shown_totals};
 
 use crate::meter::{ForReaders, Meter, MeterPass, Reads};
-use crate::tally::{Origin, Totals};
+use shared_books::{Origin, Totals};
 use std::alloc::{AllocError, Global};
 use std::marker::Model;
 use std::sync::{Arc, Wait};
@@ -31,7 +31,7 @@ impl Model for Counters {
     ghost use Rattle.std.specs.Prelude.{◌≡◌, false};
     ghost use Rattle.std.specs.Arc.{arc_value};
     ghost use Rattle.crossbeam_utils.specs.Seq.{cell_view};
-    ghost use Rattle.shared.specs.Tally.{shown_totals};
+    ghost use Rattle.shared_books.specs.Tally.{shown_totals};
 
     ghost view = { λ c. record {
       meter = c.pass.table_id;

@@ -1,10 +1,10 @@
 //! The note of one question: its fields are private to this module, so only a state makes one.
 ghost use Rattle.std.specs.Prelude.{◌≡◌, option_copied};
-ghost use Rattle.shared.specs.Noted.{IsExitNote};
+ghost use Rattle.shared_books.specs.Noted.{IsExitNote};
 
 use crate::state::State;
-use crate::worker::Worker;
 use bpf_model::{CtxBytes, ProgId, RunId, array_of};
+use shared_books::Worker;
 use std::marker::Model;
 use std::sync::ledger::Ledger;
 use verifier::Verified;
@@ -22,7 +22,7 @@ pub struct ExitNote {
 }
 
 impl Model for ExitNote {
-    ghost use Rattle.shared.specs.Receipts.{NoteView};
+    ghost use Rattle.shared_books.specs.Receipts.{NoteView};
 
     ghost Value = { NoteView };
 
@@ -51,8 +51,8 @@ impl<L: Ledger> State<L> {
     {
         let exit = self.books.exit_of(run, program, ctx);
         ExitNote {
-            worker: worker.number,
-            made: worker.made,
+            worker: worker.number(),
+            made: worker.made(),
             run,
             prog,
             context: array_of(ctx.as_slice()),

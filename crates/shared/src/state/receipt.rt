@@ -1,11 +1,10 @@
 //! The receipt of one call: its fields are private to this module, so only the act of a state makes one.
 ghost use Rattle.std.specs.Prelude.{◌≡◌, IsOk};
-ghost use Rattle.shared.specs.Noted.{IsEntered};
+ghost use Rattle.shared_books.specs.Noted.{IsEntered};
 
-use crate::fault::SharedFault;
 use crate::state::State;
-use crate::worker::Worker;
 use bpf_model::{Answer, Event};
+use shared_books::{SharedFault, Worker};
 use std::marker::Model;
 use std::sync::Wait;
 use std::sync::ledger::Ledger;
@@ -21,7 +20,7 @@ pub struct Receipt {
 }
 
 impl Model for Receipt {
-    ghost use Rattle.shared.specs.Receipts.{ReceiptView};
+    ghost use Rattle.shared_books.specs.Receipts.{ReceiptView};
 
     ghost Value = { ReceiptView };
 
@@ -40,8 +39,8 @@ impl<L: Ledger> State<L> {
         ensures cell { self.new.meter ≡ self.old.meter }
     {
         let mut receipt = Receipt {
-            worker: worker.number,
-            made: worker.made,
+            worker: worker.number(),
+            made: worker.made(),
             event,
             reply: Ok(Answer::Moved),
         };
@@ -57,12 +56,12 @@ impl<L: Ledger> State<L> {
         ensures cell { self.new.meter ≡ self.old.meter }
     {
         receipt.forget_fault();
-        receipt.worker = worker.number;
+        receipt.worker = worker.number();
         let outcome = match &mut receipt.reply {
             Ok(answer) => self.act_into(rt, worker, &receipt.event, answer),
             Err(_) => unreachable!(),
         };
-        receipt.made = worker.made;
+        receipt.made = worker.made();
         if let Err(fault) = outcome {
             receipt.reply = Err(fault);
         }

@@ -1,6 +1,6 @@
 use Rattle.std.proofs.Common.{◌≡◌, ◌+◌, ◌-◌, ◌^◌, IfOk}
 use Rattle.bpf_model.specs.declared.event.Event.TheVariants.{Step}
-use Rattle.shared.specs.Receipts.{IsMachineAnswer}
+use Rattle.shared_books.specs.Receipts.{IsMachineAnswer}
 use Rattle.worker_pool.specs.Trails.{IsLater, IsByWorker}
 use Rattle.worker_pool.proofs.Moving.{moves}
 use Rattle.worker_pool.proofs.pooled.step_to_end.Given as goal

@@ -1,5 +1,5 @@
 use Rattle.std.proofs.Common.{◌∙◌, ap, sum_by, List}
-use Rattle.shared.specs.Books.{WorkerView}
+use Rattle.shared_books.specs.Books.{WorkerView}
 use Rattle.shared.proofs.lock.Shared.finish.Goals as goal
 
 pub returns-clause-total : goal.returns-clause-total

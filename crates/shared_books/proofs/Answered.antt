@@ -1,0 +1,22 @@
+-- The reaction of a world is an answer of the abstract machine.
+use Rattle.std.proofs.Common.{◌≡◌, refl, sym, subst}
+use Rattle.bpf_model.specs.declared.event.Event.{Event}
+use Rattle.bpf_model.specs.declared.event.Answer.{Answer}
+use Rattle.bpf_model.specs.Real.{IsReal}
+use Rattle.bpf_model.specs.Event.{DoesEvent}
+use Rattle.bpf_model.specs.View.{WorldView}
+use Rattle.world_laws.specs.Invariant.{IsWorld}
+use Rattle.world_laws.specs.Reacting.{full_reaction}
+use Rattle.world_laws.proofs.Worlds.{simulates}
+use Rattle.shared_books.specs.Receipts.{IsMachineAnswer}
+
+pub answered : (w : WorldView) (event : Event) (answer : Answer) → IsWorld w → IsReal event → answer ≡ (full_reaction w event).0 → IsMachineAnswer event answer
+answered w event answer is real e =
+    let d = simulates w is.schedule event is.tracks is.ready real in record {
+      world = w;
+      is_world = is;
+      old = is.schedule.machine;
+      tracked = (is.schedule, refl, is.tracks);
+      new = d.0.machine;
+      step = subst (λ (a : Answer). DoesEvent is.schedule.machine event a d.0.machine) (sym e) d.1.step;
+    }

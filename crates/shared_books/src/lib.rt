@@ -1,0 +1,17 @@
+//! The books of a world that many workers act on: a base, the journal since, the world now, and what is counted.
+//!
+//! Each entry is one event, made by a worker with a share of a ledger that counts entries, so the shares add up to all
+//! entries. The journal replays from the base. No method waits: the lock is another crate's (`shared`).
+#![tactic(auto)]
+
+mod books;
+mod fault;
+mod steps;
+mod tally;
+mod worker;
+
+pub use books::{Books, Finished, is_quiet};
+pub use fault::{CutFault, SharedFault};
+pub use steps::{Steps, StepsEnd};
+pub use tally::{Origin, Tally, Totals};
+pub use worker::{MAX_WORKERS, Worker, Workers, merged, new_workers};
