@@ -9,7 +9,7 @@ use Rattle.hash_index.specs.Order.{AreInOrder}
 use Rattle.script_lines.specs.declared.reply.Reply.{Reply}
 use Rattle.script_lines.specs.declared.reply.Reply.TheVariants.{Element}
 use Rattle.script_lines.specs.ReplyText.{reply_text}
-use Rattle.maps.specs.Shown.{IsNext}
+use Rattle.map_kinds.specs.Shown.{IsNext}
 use Rattle.control.specs.Replies.{AreElements}
 
 -- the text of the replies so far, and of one more

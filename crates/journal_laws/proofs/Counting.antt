@@ -14,7 +14,7 @@ use Rattle.bpf_model.specs.Machine.{Machine}
 use Rattle.bpf_model.specs.Refines.{Tracks, TracksSchedule, RefinesSchedule, lists_of, named, times}
 use Rattle.bpf_model.specs.Schedule.{Queues, Schedule}
 use Rattle.bpf_model.specs.View.{MapView, WorldView}
-use Rattle.maps.specs.Counting.{unlinked_in}
+use Rattle.map_kinds.specs.Counting.{unlinked_in}
 use Rattle.model_laws.specs.Scheduled.{IsScheduled, queued_in}
 use Rattle.model_laws.proofs.Counting.{times-append, times-first, times-other}
 use Rattle.model_laws.proofs.Queueing.{queued-elsewhere}

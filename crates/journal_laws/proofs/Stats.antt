@@ -13,7 +13,7 @@ use Rattle.bpf_model.specs.Schedule.{Schedule, is_open}
 use Rattle.bpf_model.specs.Section.{Section}
 use Rattle.bpf_model.specs.View.{MapView, RunView, WorldView}
 use Rattle.bpf_model.proofs.Lists.{get-below}
-use Rattle.maps.specs.Counting.{linked_in, worn_in}
+use Rattle.map_kinds.specs.Counting.{linked_in, worn_in}
 use Rattle.model_laws.proofs.Reached.{tracked_is_scheduled}
 use Rattle.model_laws.proofs.Tallies.{count-cons, of-other, one_of}
 use Rattle.journal_laws.specs.Totals.{machine_stat}

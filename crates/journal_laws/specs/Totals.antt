@@ -9,7 +9,7 @@ use Rattle.bpf_model.specs.Element.{is_linked, is_reclaimed}
 use Rattle.bpf_model.specs.Schedule.{is_unlinked}
 use Rattle.bpf_model.specs.Machine.{Machine, open_sections}
 use Rattle.bpf_model.specs.View.{WorldView}
-use Rattle.maps.specs.Counting.{unlinked_in}
+use Rattle.map_kinds.specs.Counting.{unlinked_in}
 use Rattle.bpf_model.specs.declared.entry.Entry.{Entry}
 
 -- the answer is that of a step which a run has taken

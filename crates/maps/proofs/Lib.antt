@@ -1,17 +1,4 @@
 pub mod Options
-pub mod Parting
-pub mod Moves
-pub mod Fresh
-pub mod Replacing
-pub mod Lengths
-pub mod Updating
-pub mod Leaving
 pub mod Names
 pub mod Picking
-pub mod Counting
 pub mod NewMaps
-pub mod IndexOrder
-pub mod Arrays
-pub mod Becoming
-pub mod Above
-pub mod InOrder

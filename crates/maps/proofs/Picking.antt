@@ -8,7 +8,7 @@ use Rattle.bpf_model.specs.declared.event.ReapedElement.{ReapedElement}
 use Rattle.bpf_model.specs.View.{MapView, key_in}
 use Rattle.view_laws.specs.Reactions.{Pick, or_pick, first_pick}
 use Rattle.maps.specs.Picking.{IsPicked}
-use Rattle.maps.specs.Shown.{IsReaped}
+use Rattle.map_kinds.specs.Shown.{IsReaped}
 use Rattle.bpf_model.proofs.Lists.{drop-next}
 
 -- the maps before map i have nothing that is ready

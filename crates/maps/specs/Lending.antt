@@ -3,7 +3,7 @@ use Rattle.std.specs.Prelude.{ℕ, slice_set}
 use Rattle.std.specs.Borrow.{Lends, MutBor, Fml}
 use Rattle.bpf_model.specs.View.{MapView}
 use Rattle.maps.specs.Registry.{RegistryView}
-use Rattle.maps.specs.contracts.map.Map as map
+use Rattle.map_kinds.specs.contracts.map.Map as map
 use Rattle.maps.specs.contracts.registry.Registry as registry
 
 -- what is last written through the loan becomes the map of this number; names and other maps stay

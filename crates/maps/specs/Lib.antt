@@ -1,9 +1,3 @@
-pub mod Parted
-pub mod Shown
-pub mod Arrays
-pub mod Kinds
-pub mod Updated
 pub mod Lending
 pub mod Registry
 pub mod Picking
-pub mod Counting

@@ -1,8 +1,8 @@
 //! Copies of the parts of a registry.
 ghost use Rattle.std.specs.Prelude.{◌≡◌, length, map, string_bytes, IfOk};
 
-use crate::map::Map;
 use indexmap::IndexSet;
+use map_kinds::Map;
 use std::alloc::{AllocError, Global};
 
 /// Copies of maps, each in the state of its original, in their order. Fails where memory runs out.

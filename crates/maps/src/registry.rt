@@ -8,19 +8,18 @@ ghost use Rattle.bpf_model.specs.declared.limits.TheConstants.{MAX_MAPS};
 ghost use Rattle.maps.specs.Registry.{RegistryView, creation_fault, has_name};
 ghost use Rattle.maps.specs.Lending.{LendsMap};
 ghost use Rattle.maps.specs.Picking.{IsPicked};
-ghost use Rattle.maps.specs.Counting.{counts_of_all};
+ghost use Rattle.map_kinds.specs.Counting.{counts_of_all};
 ghost use Rattle.view_laws.specs.Views.{turned_view};
 ghost use Rattle.view_laws.specs.Reactions.{first_pick};
 ghost use Rattle.maps.specs.declared.fault.MapFault.TheVariants.{Memory};
 
 use crate::copying::{copy_of_maps, copy_of_names};
-use crate::counts::Counts;
 use crate::fault::MapFault;
-use crate::map::Map;
 use crate::name::is_name;
 use crate::shape::is_shape;
 use bpf_model::{MAX_MAPS, MapId, MapShape, ReapedElement};
 use indexmap::IndexSet;
+use map_kinds::{Counts, Map};
 use std::alloc::{AllocError, Global};
 use std::marker::Model;
 

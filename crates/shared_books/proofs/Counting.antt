@@ -33,7 +33,7 @@ use Rattle.bpf_model.specs.Schedule.{is_any}
 use Rattle.bpf_model.specs.Step.{insn_at}
 use Rattle.bpf_model.specs.View.{MapView, RunView, WorldView}
 use Rattle.model_laws.specs.Locations.{Location, InContext, InFrame, AtMap, InSlot}
-use Rattle.maps.specs.Counting.{unlinked_in}
+use Rattle.map_kinds.specs.Counting.{unlinked_in}
 use Rattle.view_laws.specs.Views.{retired_slot, retired_key, deleted, deleted_from, filled_from, overwritten_slot}
 use Rattle.view_laws.specs.Views.{written_by, updated_by, shown_error, turned_view, slot_given_back, given_at}
 use Rattle.view_laws.specs.Views.{reaped_view}

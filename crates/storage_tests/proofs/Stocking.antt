@@ -4,7 +4,7 @@ use Rattle.std.specs.Prelude.{IfSome, IfNone}
 use Rattle.std.specs.List.{range_with_len}
 use Rattle.element_store.specs.State.{ArenaState, times_in, worn_at, taken, new_arena}
 use Rattle.std.proofs.lemmas.List.{length-replicate, length-set}
-use Rattle.maps.proofs.Fresh.{none-worn}
+use Rattle.map_kinds.proofs.Fresh.{none-worn}
 use Rattle.element_store.proofs.Fresh.{times-before}
 use Rattle.hash_index.specs.declared.commands.Command.{Command}
 use Rattle.hash_index.specs.declared.commands.Command.TheVariants.{Link, Find, Unlink, Above}

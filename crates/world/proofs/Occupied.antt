@@ -10,7 +10,7 @@ use Rattle.bpf_model.specs.Refines as refines
 use Rattle.element_store.specs.State as state
 use Rattle.element_store.proofs.Counts.{one_same}
 use Rattle.model_laws.specs.Locations.{Location, InSlot}
-use Rattle.maps.specs.Shown as shown
+use Rattle.map_kinds.specs.Shown as shown
 use Rattle.world_laws.specs.Reaching as reaching
 use Rattle.world_laws.specs.Reaching.{IsElementReached}
 use Rattle.world.specs.Elements.{ReachesElement}

@@ -3,8 +3,8 @@ use Rattle.std.specs.Prelude.{◌≡◌, ℕ, List, Option, Some, None, is_some,
 use Rattle.std.specs.List.{sum_by}
 use Rattle.hash_index.specs.Order.{NoneAbove}
 use Rattle.bpf_model.specs.View.{MapView, WorldView}
-use Rattle.maps.specs.Counting.{linked_in, unlinked_in, worn_in}
-use Rattle.maps.specs.Shown.{IsNext}
+use Rattle.map_kinds.specs.Counting.{linked_in, unlinked_in, worn_in}
+use Rattle.map_kinds.specs.Shown.{IsNext}
 use Rattle.bpf_model.specs.declared.stat.Stat.{Stat}
 use Rattle.verifier.specs.Checked.{Checked}
 

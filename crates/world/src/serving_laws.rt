@@ -5,7 +5,7 @@ ghost use Rattle.bpf_model.specs.Machine.{Loaded, Run};
 ghost use Rattle.bpf_model.specs.Schedule.{Schedule};
 ghost use Rattle.bpf_model.specs.Step.{insn_at};
 ghost use Rattle.bpf_model.specs.View.{MapView, RunView, WorldView, shapes_of};
-ghost use Rattle.maps.specs.Shown as shown;
+ghost use Rattle.map_kinds.specs.Shown as shown;
 ghost use Rattle.verifier.specs.Checked.{Checked};
 ghost use Rattle.view_laws.specs.Matching.{Matches};
 ghost use Rattle.world_laws.specs.Local.{Asks, local_of};

@@ -1,6 +1,6 @@
 use Rattle.std.proofs.Common.{◌≡◌, ◌*◌, ◌≤◌, take, ◌+◌}
 use Rattle.bpf_model.specs.declared.limits.TheConstants.{MAX_ENTRIES, MAX_SPARE}
-use Rattle.maps.specs.Counting.{counts_of_all}
+use Rattle.map_kinds.specs.Counting.{counts_of_all}
 use Rattle.maps.proofs.registry.sum_counts.Given as goal
 
 abbrev pub invariant-loop-chosen : goal.invariant-loop-chosen

@@ -1,0 +1,13 @@
+pub mod Parting
+pub mod Moves
+pub mod Fresh
+pub mod Replacing
+pub mod Lengths
+pub mod Updating
+pub mod Leaving
+pub mod Counting
+pub mod IndexOrder
+pub mod Arrays
+pub mod Becoming
+pub mod Above
+pub mod InOrder

@@ -1,8 +1,0 @@
--- What is seen of a map, whichever kind it is.
-use Rattle.bpf_model.specs.View.{MapView}
-use Rattle.maps.specs.declared.map.Elements.{Elements}
-use Rattle.maps.specs.declared.map.Elements.TheVariants.{Hash, Array}
-
-abbrev pub view_of : Elements → MapView
-view_of (Hash v) = v
-view_of (Array v) = v
