@@ -20,11 +20,12 @@ pub struct NamedMap {
     pub value_words: usize,
 }
 
-/// The table's key for a key of the map, in as many words as the table's keys have: the name, the key's words in order, and
-/// zeros. The table's `key_words` first words are what `MapTable` links and finds.
+/// The table's key for a key of the map, in `MAX_WORDS` words: the name, the key's words in order, and zeros. As many of them as
+/// the table's keys have, from the first on, are what `MapTable` links and finds.
 #[inline]
 pub fn key_in(map: &NamedMap, key: &[u64]) -> [u64; MAX_WORDS]
-    requires key { length key.now < most_words }
+    requires few { map.now.key_words < most_words }
+    requires key { length key.now ≡ map.now.key_words }
     ensures long { length result ≡ most_words }
     ensures under { IsKeyUnder map.now.name key.now result }
 {

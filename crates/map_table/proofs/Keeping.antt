@@ -1,5 +1,5 @@
 -- What the writer keeps through its steps.
-use Rattle.std.proofs.Common.{◌≡◌, ◌≢◌, ℕ, zero, suc, ◌+◌, ◌<◌, ◌*◌, List, [], ◌∷◌, ◌++◌, get_or, refl, sym, ap, ◌∙◌, subst, inr, arith, append_assoc}
+use Rattle.std.proofs.Common.{◌≡◌, ◌≢◌, ℕ, zero, suc, ◌+◌, ◌-◌, ◌<◌, ◌*◌, List, [], ◌∷◌, ◌++◌, get_or, refl, sym, ap, ◌∙◌, subst, inr, arith, append_assoc}
 use Rattle.std.proofs.Common.{set, length-set, get_or-set_other, get_or-set_same}
 use Rattle.std.specs.Prelude.{All, slice_index}
 use mathlib.Core.Logic.{dite}
@@ -9,7 +9,7 @@ use Rattle.map_table_laws.specs.declared.moves.Move.TheVariants.{Open, Close, Le
 use Rattle.map_table_laws.specs.Layout.{Layout, Names}
 use Rattle.map_table_laws.specs.History.{word_in, IsLinked, Cleared, IsSpare}
 use Rattle.map_table_laws.specs.Lookups.{OnlySearches}
-use Rattle.map_table_laws.specs.Scanned.{OnlyScans}
+use Rattle.map_table_laws.specs.Scanned.{ScansInTurn}
 use Rattle.map_table_laws.proofs.Steps.{put_here, put_there, one_name, nothing_named}
 use Rattle.map_table.specs.declared.view.TableShape.{TableShape}
 use Rattle.map_table.specs.declared.view.View.{View}
@@ -46,7 +46,7 @@ fills_quiet element from zero words ms f = subst IsQuiet (sym f) quiet_none
 fills_quiet element from (suc n) words ms f =
     subst IsQuiet (sym f.1) (quiet_store element (from + n) (slice_index words n) f.0 (fills_quiet element from n words f.0 f.2))
 
-pub scans_quiet : (low high : ℕ) (ns : List Move) → OnlyScans low high ns → IsQuiet ns
+pub scans_quiet : (low high : ℕ) (ns : List Move) → ScansInTurn low high ns → IsQuiet ns
 scans_quiet low high [] n = quiet_none
 scans_quiet low high (Open ∷ ns) n = absurd n
 scans_quiet low high (Close ∷ ns) n = absurd n
@@ -54,7 +54,7 @@ scans_quiet low high (Learn s h ∷ ns) n = absurd n
 scans_quiet low high (Load s p x ∷ ns) n = absurd n
 scans_quiet low high (Store s p x ∷ ns) n = absurd n
 scans_quiet low high (Put s w ∷ ns) n = absurd n
-scans_quiet low high (Scan r x ∷ ns) n = quiet_scan r x ns (scans_quiet low high ns n.2)
+scans_quiet low high (Scan r x ∷ ns) n = quiet_scan r x ns (scans_quiet low (r - 1) ns n.2)
 
 quiet_learn : (way x : ℕ) (ns : List Move) → IsQuiet ns → IsQuiet (Learn way x ∷ ns)
 quiet_learn way x ns q = record { words = λ w ms. q.words w ms; cleared = λ r e ms c. q.cleared r e ms c }

@@ -1,5 +1,5 @@
 -- What the writer notes of its readers stays right.
-use Rattle.std.proofs.Common.{◌≡◌, ◌≢◌, ◌⊎◌, ◌↔◌, ℕ, zero, suc, ◌+◌, ◌<◌, ◌≤◌, List, [], ◌∷◌, ◌++◌, length, get_or, sym, ap, ◌∙◌, subst, ⊎_elim}
+use Rattle.std.proofs.Common.{◌≡◌, ◌≢◌, ◌⊎◌, ◌↔◌, ℕ, zero, suc, ◌+◌, ◌-◌, ◌<◌, ◌≤◌, List, [], ◌∷◌, ◌++◌, length, get_or, sym, ap, ◌∙◌, subst, ⊎_elim}
 use Rattle.std.proofs.Common.{inl, inr, arith, append_assoc, drop, set, length-set, get_or-set_same, get_or-set_other}
 use Rattle.std.specs.Prelude.{slice_index, All}
 use Rattle.std.proofs.Common.{length-append}
@@ -12,7 +12,7 @@ use Rattle.map_table_laws.specs.declared.moves.Move.TheVariants.{Open, Close, Le
 use Rattle.map_table_laws.specs.Layout.{Layout, Names}
 use Rattle.map_table_laws.specs.History.{word_in, Cleared}
 use Rattle.map_table_laws.specs.Lookups.{OnlySearches}
-use Rattle.map_table_laws.specs.Scanned.{OnlyScans, FoundInside}
+use Rattle.map_table_laws.specs.Scanned.{ScansInTurn, FoundInside}
 use Rattle.map_table.specs.declared.view.TableShape.{TableShape}
 use Rattle.map_table.specs.declared.view.View.{View}
 use Rattle.map_table.specs.Counting.{AddsUp}
@@ -199,17 +199,7 @@ sightings_first v n k unlinked seen is room zeros none =
 
 -- scans alone
 
-pub scans_append : (low high : ℕ) (ns ms : List Move) → OnlyScans low high ns → OnlyScans low high ms → OnlyScans low high (ns ++ ms)
-scans_append low high [] ms n m = m
-scans_append low high (Open ∷ ns) ms n m = absurd n
-scans_append low high (Close ∷ ns) ms n m = absurd n
-scans_append low high (Learn w x ∷ ns) ms n m = absurd n
-scans_append low high (Load e p x ∷ ns) ms n m = absurd n
-scans_append low high (Store e p x ∷ ns) ms n m = absurd n
-scans_append low high (Put w x ∷ ns) ms n m = absurd n
-scans_append low high (Scan r x ∷ ns) ms n m = (n.0, n.1, scans_append low high ns ms n.2 m)
-
-pub scans_wider : (low high lower higher : ℕ) (ns : List Move) → lower ≤ low → high ≤ higher → OnlyScans low high ns → OnlyScans lower higher ns
+pub scans_wider : (low high lower higher : ℕ) (ns : List Move) → lower ≤ low → high ≤ higher → ScansInTurn low high ns → ScansInTurn lower higher ns
 scans_wider low high lower higher [] l h n = tt
 scans_wider low high lower higher (Open ∷ ns) l h n = absurd n
 scans_wider low high lower higher (Close ∷ ns) l h n = absurd n
@@ -220,7 +210,21 @@ scans_wider low high lower higher (Put w x ∷ ns) l h n = absurd n
 scans_wider low high lower higher (Scan r x ∷ ns) l h n =
     let a = n.0 in
     let b = n.1 in
-    (omega (arith, a, l), omega (arith, b, h), scans_wider low high lower higher ns l h n.2)
+    (omega (arith, a, l), omega (arith, b, h), scans_wider low (r - 1) lower (r - 1) ns l (omega arith) n.2)
+
+-- scans of later readers, behind those of earlier ones
+pub scans_append : (low mid high : ℕ) (ns ms : List Move) → low ≤ mid → mid ≤ high → ScansInTurn mid high ns → ScansInTurn low mid ms →
+    ScansInTurn low high (ns ++ ms)
+scans_append low mid high [] ms l h n m = scans_wider low mid low high ms (omega arith) h m
+scans_append low mid high (Open ∷ ns) ms l h n m = absurd n
+scans_append low mid high (Close ∷ ns) ms l h n m = absurd n
+scans_append low mid high (Learn w x ∷ ns) ms l h n m = absurd n
+scans_append low mid high (Load e p x ∷ ns) ms l h n m = absurd n
+scans_append low mid high (Store e p x ∷ ns) ms l h n m = absurd n
+scans_append low mid high (Put w x ∷ ns) ms l h n m = absurd n
+scans_append low mid high (Scan r x ∷ ns) ms l h n m =
+    let a = n.0 in
+    (omega (arith, a, l), n.1, scans_append low mid (r - 1) ns ms l (omega (arith, a)) n.2 m)
 
 inside_front : (reader : ℕ) (ns ms : List Move) → FoundInside reader ns → FoundInside reader (ns ++ ms)
 inside_front reader [] ms f = absurd f

@@ -1,12 +1,12 @@
 -- Where a reader's own value lies.
-use Rattle.std.proofs.Common.{◌≡◌, ◌⊎◌, ℕ, suc, ◌+◌, ◌-◌, ◌*◌, ◌/◌, ◌<◌, ◌≤◌, refl, sym, ap, ◌∙◌, inl, inr, arith}
+use Rattle.std.proofs.Common.{◌≡◌, ◌⊎◌, ℕ, ◌+◌, ◌-◌, ◌*◌, ◌/◌, ◌<◌, ◌≤◌, refl, ap, ◌∙◌, inl, inr, arith}
 use Rattle.std.proofs.lemmas.Nat.{div-mul-add, mul-add-lt, mul-le}
 use Rattle.map_table_laws.specs.History.{IsOpenTo, IsReader}
 use Rattle.map_table.specs.declared.view.Values.{Values}
 use Rattle.map_table.specs.declared.view.Values.TheVariants.{Shared, PerReader}
 use Rattle.map_table.specs.declared.view.TableShape.{TableShape}
 use Rattle.map_table.specs.Limits.{most_readers, most_words}
-use Rattle.map_table.specs.Values.{copies_by, copies_of, first_by, first_of, owner_by, owner_of, stored_of}
+use Rattle.map_table.specs.Values.{copies_by, copies_of, first_by, first_of, owner_by}
 use Rattle.map_table.specs.Hashes.{layout_of}
 use Rattle.map_table.specs.Law.{width_of}
 use Rattle.map_table.specs.Held.{IsSized}

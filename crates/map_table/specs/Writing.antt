@@ -5,7 +5,7 @@ use Rattle.map_table_laws.specs.declared.moves.Move.TheVariants.{Store, Put}
 use Rattle.map_table_laws.specs.Layout.{IsCandidate, bucket_ways}
 use Rattle.map_table_laws.specs.History.{word_in, IsLinked, IsSpare}
 use Rattle.map_table_laws.specs.Found.{StaysFound}
-use Rattle.map_table_laws.specs.Scanned.{OnlyScans}
+use Rattle.map_table_laws.specs.Scanned.{ScansInTurn}
 use Rattle.map_table.specs.declared.view.TableShape.{TableShape}
 use Rattle.map_table.specs.declared.view.View.{View}
 use Rattle.map_table.specs.Hashes.{layout_of}
@@ -73,7 +73,7 @@ StaysIn k key way old new =
 
 -- The writer only looked at section words, at that of each of the readers once at most.
 abbrev pub Looks : WriterView → List Move → WriterView → Type 0
-Looks v ms w = OnlyScans 0 v.table.shape.readers ms × (length ms ≤ v.table.shape.readers) × Works v ms w
+Looks v ms w = ScansInTurn 0 v.table.shape.readers ms × Works v ms w
 
 -- These elements, which were unlinked first, became free: each reader was seen outside a section since.
 pub record Frees (gone : List ℕ) (v w : WriterView) : Type 0 where

@@ -2,7 +2,7 @@
 ghost use Rattle.std.specs.Prelude.{◌≡◌, ◌<◌, ◌≤◌, [], length, slice_index, vec_len, vec_capacity, IfOk, OnOk, All, ℕ};
 ghost use Rattle.std.specs.List.{range_with_len};
 ghost use Rattle.map_table.specs.Law.{writer_after};
-ghost use Rattle.map_table.specs.Held.{IsReady, IsNew, IsSized};
+ghost use Rattle.map_table.specs.Held.{AreInOrder, IsReady, IsNew, IsSized};
 
 use crate::limits::BUCKET_WAYS;
 use crate::rule::SECTION_STRIDE;
@@ -52,6 +52,7 @@ fn deal_all(
     ensures count { IfOk result (λ s. length s ≡ readers) }
     ensures ready { IfOk result (λ s. All (IsReady table.now) s) }
     ensures new { IfOk result (λ s. All IsNew s) }
+    ensures order { IfOk result AreInOrder }
 {
     let mut list = Vec::with_capacity(alloc, readers)?;
     for reader in 0..readers {
@@ -69,6 +70,7 @@ impl MapTable {
         ensures count { IfOk result (λ t. length t.1 ≡ shape.readers) }
         ensures ready { IfOk result (λ t. All (IsReady t.0) t.1) }
         ensures new { IfOk result (λ t. All IsNew t.1) }
+        ensures order { IfOk result (λ t. AreInOrder t.1) }
         ensures writer { IfOk result (λ t. t.2.table ≡ t.0) }
         ensures new_writer { IfOk result (λ t. t.2.view.mine ≡ []) }
         ensures free { IfOk result (λ t. t.2.free ≡ range_with_len 0 shape.elements) }

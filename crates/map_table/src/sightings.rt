@@ -1,7 +1,7 @@
 //! Which readers the writer has seen outside a section since it unlinked elements.
 ghost use Rattle.std.specs.Prelude.{◌≡◌, ◌≢◌, ◌⊎◌, ℕ, ◌+◌, ◌<◌, ◌≤◌, List, ◌++◌, length, slice_index, vec_capacity, take, drop, vec_len, IfOk};
 ghost use Rattle.map_table_laws.specs.declared.moves.Move.{Move};
-ghost use Rattle.map_table_laws.specs.Scanned.{OnlyScans, FoundInside};
+ghost use Rattle.map_table_laws.specs.Scanned.{ScansInTurn, FoundInside};
 ghost use Rattle.map_table.specs.Held.{IsKnown, Went};
 ghost use Rattle.map_table.specs.Sightings.{AreSightings, Least};
 
@@ -41,7 +41,7 @@ fn look(
     ensures seen { AreSightings seat.new.me.0 unlinked.now seen.new.items }
     ensures others { (r : ℕ) → r ≢ reader → slice_index seen.new.items r ≡ slice_index seen.old.items r }
     ensures steps { (ms : List Move) × Went seat.old.me.0 (ms ++ seat.old.me.0.mine) seat.new.me.0
-        × OnlyScans reader (reader + 1) ms × (length ms ≤ 1)
+        × ScansInTurn reader (reader + 1) ms
         × ((slice_index seen.new.items reader ≡ length unlinked.now) ⊎ FoundInside (reader + 1) ms) }
 {
     let count = unlinked.len();
@@ -69,7 +69,7 @@ pub(crate) fn look_round(
     ensures held { seat.new.me.1 ≡ seat.old.me.1 }
     ensures seen { AreSightings seat.new.me.0 unlinked.now seen.new.items }
     ensures steps { (ms : List Move) × Went seat.old.me.0 (ms ++ seat.old.me.0.mine) seat.new.me.0
-        × OnlyScans 0 table.now.shape.readers ms × (length ms ≤ table.now.shape.readers)
+        × ScansInTurn 0 table.now.shape.readers ms
         × ((r : ℕ) → r < table.now.shape.readers →
         (slice_index seen.new.items r ≡ length unlinked.now) ⊎ FoundInside (r + 1) ms) }
 {

@@ -11,7 +11,7 @@ ghost use Rattle.map_table.specs.Hashes.{layout_of};
 ghost use Rattle.map_table.specs.Law.{ways_of, writer_after};
 ghost use Rattle.map_table.specs.Counting.{AddsUp};
 ghost use Rattle.map_table.specs.Values.{copies_of, stored_of};
-ghost use Rattle.map_table.specs.Held.{IsSized};
+ghost use Rattle.map_table.specs.Held.{IsKnown, IsSized};
 ghost use Rattle.map_table.specs.Sightings.{IsHeldUp};
 ghost use Rattle.map_table.specs.Writing.{Puts, Works, Looks, Frees, AreFull, StaysIn, IsFree, IsUnlinked, IsNoneLost, times_in};
 
@@ -64,7 +64,8 @@ impl Model for Writer {
 }
 
 impl Writer {
-    /// Fills a free element with a key and a value, or with one value for each reader, one behind another, and links it in an empty way of the key's two buckets.
+    /// Fills a free element with a key and a value, or with one value for each reader, one behind another, that of the first
+    /// reader first, and links it in an empty way of the key's two buckets.
     /// `None` where no element is free, or each way of both buckets names one. Keys are not compared: a key that is linked
     /// twice is found at either way.
     pub fn link(&mut self, table: &MapTable, key: &[u64], value: &[u64]) -> Option<usize>
@@ -132,7 +133,7 @@ impl Writer {
         true
     }
 
-    /// The way in which the key is linked, or `None`. It reads the key words of the elements that ways with the key's tag name.
+    /// A way in which the key is linked, or `None`. It only looks at words.
     pub fn find(&mut self, table: &MapTable, key: &[u64]) -> Option<usize>
         requires table { self.old.table ≡ table.now }
         requires key { length key.now ≡ table.now.shape.key_words }
@@ -152,7 +153,7 @@ impl Writer {
     }
 
     /// The sum, modulo 2^64, of the words at this place of all values of an element; of counters it is what all readers
-    /// have added. Each word is loaded once: it is what its reader stored there last (law `own_words_stay`). What readers
+    /// have added to what `link` or `replace` filled in. Each word is loaded once: it is what its reader stored there last (law `own_words_stay`). What readers
     /// store meanwhile is in the sum or not.
     pub fn sum(&mut self, table: &MapTable, element: usize, place: usize) -> u64
         requires table { self.old.table ≡ table.now }
@@ -251,6 +252,16 @@ impl Writer {
         ensures unlinked { All (IsUnlinked self.now.view) self.now.unlinked }
         ensures once { (element : ℕ) → times_in element self.now.free + times_in element self.now.unlinked ≤ 1 }
         ensures linked { IsNoneLost self.now.view self.now.free self.now.unlinked }
+    {
+        let _ = &self.free;
+    }
+
+    /// A law: the writer is number 0 at its table, and what it saw there is lawful. So what is said of its view is said of the
+    /// table.
+    pub fn is_writers(&self)
+        ensures me { self.now.view.me ≡ 0 }
+        ensures shape { self.now.view.shape ≡ self.now.table.shape }
+        ensures known { IsKnown self.now.view }
     {
         let _ = &self.free;
     }

@@ -1,5 +1,5 @@
 -- What a scan of the section words tells.
-use Rattle.std.specs.Prelude.{◌≡◌, ◌≢◌, ◌⊎◌, ℕ, ◌<◌, ◌≤◌, List, [], ◌∷◌}
+use Rattle.std.specs.Prelude.{◌≡◌, ◌≢◌, ◌⊎◌, ℕ, ◌-◌, ◌<◌, ◌≤◌, List, [], ◌∷◌}
 use Rattle.map_table_laws.specs.declared.moves.Move.{Move}
 use Rattle.map_table_laws.specs.declared.moves.Move.TheVariants.{Learn, Scan}
 
@@ -8,6 +8,13 @@ abbrev pub OnlyScans : ℕ → ℕ → List Move → Type 0
 OnlyScans low high [] = Unit {0}
 OnlyScans low high (Scan r x ∷ ms) = (low < r) × (r ≤ high) × OnlyScans low high ms
 OnlyScans low high (_ ∷ ms) = ⊥
+
+-- Each move is a scan of a reader behind the first number and up to the second, and none is looked at twice: the newest, which
+-- stands first, is of the highest.
+abbrev pub ScansInTurn : ℕ → ℕ → List Move → Type 0
+ScansInTurn low high [] = Unit {0}
+ScansInTurn low high (Scan r x ∷ ms) = (low < r) × (r ≤ high) × ScansInTurn low (r - 1) ms
+ScansInTurn low high (_ ∷ ms) = ⊥
 
 -- the reader was found outside a section
 abbrev pub FoundOutside : ℕ → List Move → Type 0

@@ -57,7 +57,7 @@ const SUM: &str = "7916000000000000 7b6af0ff00000000 b709000000000000 7b9af8ff00
 fn link(table: &MapTable, writer: &mut Writer, map: &NamedMap, key: &[u64], value: [u64; 2]) -> bool
     requires table { writer.old.table ≡ table.now }
     requires shape { table.now.shape ≡ TABLE }
-    requires key { length key.now < 8 }
+    requires key { (length key.now ≡ map.now.key_words) × (map.now.key_words < 8) }
     ensures table { writer.new.table ≡ table.now }
 {
     let key = key_in(map, key);

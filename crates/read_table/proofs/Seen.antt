@@ -1,5 +1,5 @@
 -- What the writer notes of its readers stays right.
-use Rattle.std.proofs.Common.{◌≡◌, ◌≢◌, ⊎_elim, ℕ, zero, suc, ◌+◌, ◌*◌, ◌<◌, ◌≤◌, List, [], ◌∷◌, ◌++◌, length, get_or, refl, sym, ap, ◌∙◌, subst}
+use Rattle.std.proofs.Common.{◌≡◌, ◌≢◌, ⊎_elim, ℕ, zero, suc, ◌+◌, ◌-◌, ◌*◌, ◌<◌, ◌≤◌, List, [], ◌∷◌, ◌++◌, length, get_or, refl, sym, ap, ◌∙◌, subst}
 use Rattle.std.proofs.Common.{inl, inr, arith, append_assoc}
 use Rattle.std.specs.Prelude.{Bool, true, false, MatchBool, ◌&&◌}
 use Rattle.std.proofs.lemmas.List.{get_or_default}
@@ -12,7 +12,7 @@ use Rattle.read_table.specs.declared.view.View.{View}
 use Rattle.read_table.specs.History.{Cleared}
 use Rattle.read_table.specs.Held.{IsSized, Went}
 use Rattle.read_table.specs.Limits.{most_readers, most_table_slots}
-use Rattle.read_table.specs.Sightings.{AreSightings, noted, OnlyScans, FoundInside, IsHeldUp, Tells}
+use Rattle.read_table.specs.Sightings.{AreSightings, noted, ScansInTurn, FoundInside, IsHeldUp, Tells}
 use Rattle.read_table.specs.Law.{writer_after}
 use Rattle.read_table.specs.Slots.{Fills}
 use Rattle.read_table.proofs.Going.{went_mine}
@@ -146,30 +146,34 @@ sightings_outside v w reader old new g long now others a =
 
 -- scans alone
 
-pub scans_append : (low high : ℕ) (ns ms : List Move) → OnlyScans low high ns → OnlyScans low high ms → OnlyScans low high (ns ++ ms)
-scans_append low high [] ms n m = m
-scans_append low high (Open ∷ ns) ms n m = absurd n
-scans_append low high (Close ∷ ns) ms n m = absurd n
-scans_append low high (Learn s h ∷ ns) ms n m = absurd n
-scans_append low high (Load s p x ∷ ns) ms n m = absurd n
-scans_append low high (Store s p x ∷ ns) ms n m = absurd n
-scans_append low high (Header s w ∷ ns) ms n m = absurd n
-scans_append low high (Scan r x ∷ ns) ms n m = (n.0, n.1, scans_append low high ns ms n.2 m)
-
-pub scans_wider : (low high lower higher : ℕ) (ns : List Move) → lower ≤ low → high ≤ higher → OnlyScans low high ns → OnlyScans lower higher ns
+pub scans_wider : (low high lower higher : ℕ) (ns : List Move) → lower ≤ low → high ≤ higher → ScansInTurn low high ns → ScansInTurn lower higher ns
 scans_wider low high lower higher [] l h n = tt
 scans_wider low high lower higher (Open ∷ ns) l h n = absurd n
 scans_wider low high lower higher (Close ∷ ns) l h n = absurd n
-scans_wider low high lower higher (Learn s x ∷ ns) l h n = absurd n
-scans_wider low high lower higher (Load s p x ∷ ns) l h n = absurd n
-scans_wider low high lower higher (Store s p x ∷ ns) l h n = absurd n
+scans_wider low high lower higher (Learn w x ∷ ns) l h n = absurd n
+scans_wider low high lower higher (Load e p x ∷ ns) l h n = absurd n
+scans_wider low high lower higher (Store e p x ∷ ns) l h n = absurd n
 scans_wider low high lower higher (Header s w ∷ ns) l h n = absurd n
 scans_wider low high lower higher (Scan r x ∷ ns) l h n =
     let a = n.0 in
     let b = n.1 in
-    (omega (arith, a, l), omega (arith, b, h), scans_wider low high lower higher ns l h n.2)
+    (omega (arith, a, l), omega (arith, b, h), scans_wider low (r - 1) lower (r - 1) ns l (omega arith) n.2)
 
-pub only_scans_quiet : (low high : ℕ) (ns : List Move) → OnlyScans low high ns → IsQuiet ns
+-- scans of later readers, behind those of earlier ones
+pub scans_append : (low mid high : ℕ) (ns ms : List Move) → low ≤ mid → mid ≤ high → ScansInTurn mid high ns → ScansInTurn low mid ms →
+    ScansInTurn low high (ns ++ ms)
+scans_append low mid high [] ms l h n m = scans_wider low mid low high ms (omega arith) h m
+scans_append low mid high (Open ∷ ns) ms l h n m = absurd n
+scans_append low mid high (Close ∷ ns) ms l h n m = absurd n
+scans_append low mid high (Learn w x ∷ ns) ms l h n m = absurd n
+scans_append low mid high (Load e p x ∷ ns) ms l h n m = absurd n
+scans_append low mid high (Store e p x ∷ ns) ms l h n m = absurd n
+scans_append low mid high (Header s w ∷ ns) ms l h n m = absurd n
+scans_append low mid high (Scan r x ∷ ns) ms l h n m =
+    let a = n.0 in
+    (omega (arith, a, l), n.1, scans_append low mid (r - 1) ns ms l (omega (arith, a)) n.2 m)
+
+pub only_scans_quiet : (low high : ℕ) (ns : List Move) → ScansInTurn low high ns → IsQuiet ns
 only_scans_quiet low high [] n = quiet_none
 only_scans_quiet low high (Open ∷ ns) n = absurd n
 only_scans_quiet low high (Close ∷ ns) n = absurd n
@@ -177,10 +181,10 @@ only_scans_quiet low high (Learn s h ∷ ns) n = absurd n
 only_scans_quiet low high (Load s p x ∷ ns) n = absurd n
 only_scans_quiet low high (Store s p x ∷ ns) n = absurd n
 only_scans_quiet low high (Header s w ∷ ns) n = absurd n
-only_scans_quiet low high (Scan r x ∷ ns) n = quiet_scan r x ns (only_scans_quiet low high ns n.2)
+only_scans_quiet low high (Scan r x ∷ ns) n = quiet_scan r x ns (only_scans_quiet low (r - 1) ns n.2)
 
 -- a scan of later readers tells nothing of an earlier one
-scans_miss : (low high r slot : ℕ) (ns ms : List Move) → r ≤ low → OnlyScans low high ns → Cleared r slot (ns ++ ms) → Cleared r slot ms
+scans_miss : (low high r slot : ℕ) (ns ms : List Move) → r ≤ low → ScansInTurn low high ns → Cleared r slot (ns ++ ms) → Cleared r slot ms
 scans_miss low high r slot [] ms l n c = c
 scans_miss low high r slot (Open ∷ ns) ms l n c = absurd n
 scans_miss low high r slot (Close ∷ ns) ms l n c = absurd n
@@ -190,7 +194,7 @@ scans_miss low high r slot (Store s p x ∷ ns) ms l n c = absurd n
 scans_miss low high r slot (Header s w ∷ ns) ms l n c = absurd n
 scans_miss low high r slot (Scan q x ∷ ns) ms l n c = ⊎_elim
     (λ (z : (q ≡ r) × (x ≡ 0)). let a = n.0 in let same = z.0 in absurd (omega (arith, a, l, same)))
-    (λ z. scans_miss low high r slot ns ms l n.2 z) c
+    (λ z. scans_miss low (q - 1) r slot ns ms l n.2 z) c
 
 inside_front : (reader : ℕ) (ns ms : List Move) → FoundInside reader ns → FoundInside reader (ns ++ ms)
 inside_front reader [] ms f = absurd f
@@ -202,7 +206,7 @@ inside_front reader (Store s p x ∷ ns) ms f = inside_front reader ns ms f
 inside_front reader (Header s w ∷ ns) ms f = inside_front reader ns ms f
 inside_front reader (Scan r x ∷ ns) ms f = ⊎_elim (λ z. inl z) (λ z. inr (inside_front reader ns ms z)) f
 
-inside_back : (low high reader : ℕ) (ns ms : List Move) → OnlyScans low high ns → FoundInside reader ms → FoundInside reader (ns ++ ms)
+inside_back : (low high reader : ℕ) (ns ms : List Move) → ScansInTurn low high ns → FoundInside reader ms → FoundInside reader (ns ++ ms)
 inside_back low high reader [] ms n f = f
 inside_back low high reader (Open ∷ ns) ms n f = absurd n
 inside_back low high reader (Close ∷ ns) ms n f = absurd n
@@ -210,9 +214,9 @@ inside_back low high reader (Learn s h ∷ ns) ms n f = absurd n
 inside_back low high reader (Load s p x ∷ ns) ms n f = absurd n
 inside_back low high reader (Store s p x ∷ ns) ms n f = absurd n
 inside_back low high reader (Header s w ∷ ns) ms n f = absurd n
-inside_back low high reader (Scan r x ∷ ns) ms n f = inr (inside_back low high reader ns ms n.2 f)
+inside_back low high reader (Scan r x ∷ ns) ms n f = inr (inside_back low (r - 1) reader ns ms n.2 f)
 
-held_longer : (at slot : ℕ) (ns ms before : List Move) → OnlyScans at (at + 1) ns → IsHeldUp at slot ms (ms ++ before) →
+held_longer : (at slot : ℕ) (ns ms before : List Move) → ScansInTurn at (at + 1) ns → IsHeldUp at slot ms (ms ++ before) →
     IsHeldUp (at + 1) slot (ns ++ ms) (ns ++ (ms ++ before))
 held_longer at slot ns ms before n e =
     let within = e.within in
@@ -229,7 +233,7 @@ pub tells_none : (slot : ℕ) (mine : List Move) → Tells 0 slot [] mine true
 tells_none slot mine r some few = absurd (omega (arith, some, few))
 
 -- a round with one reader more, whose scan is ns
-pub tells_more : (at slot : ℕ) (ns ms before : List Move) (each outside : Bool) → OnlyScans at (at + 1) ns →
+pub tells_more : (at slot : ℕ) (ns ms before : List Move) (each outside : Bool) → ScansInTurn at (at + 1) ns →
     Tells at slot ms (ms ++ before) each →
     MatchBool outside (Cleared (at + 1) slot (ns ++ (ms ++ before)))
     (FoundInside (at + 1) ns × (Cleared (at + 1) slot (ns ++ (ms ++ before)) → ⊥)) →

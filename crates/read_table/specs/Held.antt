@@ -1,5 +1,5 @@
 -- What clauses see of a table and of those who hold a seat at it.
-use Rattle.std.specs.Prelude.{◌≡◌, ℕ, ◌*◌, ◌<◌, ◌≤◌, ◌%◌, List, [], ◌∷◌, ◌++◌}
+use Rattle.std.specs.Prelude.{◌≡◌, ℕ, ◌+◌, ◌*◌, ◌<◌, ◌≤◌, ◌%◌, List, [], ◌∷◌, ◌++◌, Some, slice_get}
 use Rattle.atomic_table.specs.Seated.{TableId}
 use Rattle.read_table.specs.declared.view.Move.{Move}
 use Rattle.read_table.specs.declared.view.TableShape.{TableShape}
@@ -57,6 +57,10 @@ pub record IsReady (here : TableView) (s : Holder) : Type 0 where
   pub table : s.table ≡ here
   pub outside : inside s.view.mine ≡ 0
   pub known : IsKnown s.view
+
+-- each seat is that of the reader of its index, and readers count from 1
+abbrev pub AreInOrder : List Holder → Type 0
+AreInOrder seats = (i : ℕ) (s : Holder) → slice_get seats i ≡ Some s → s.view.me ≡ i + 1
 
 -- the holder has done nothing yet
 abbrev pub IsNew : Holder → Type 0

@@ -1,5 +1,5 @@
 -- Which readers the writer has seen outside a section, and what its scans tell.
-use Rattle.std.specs.Prelude.{◌≡◌, ◌≢◌, ◌⊎◌, ◌↔◌, ℕ, ◌+◌, ◌*◌, ◌<◌, ◌≤◌, List, [], ◌∷◌, length, get_or, Bool, true, false, MatchBool}
+use Rattle.std.specs.Prelude.{◌≡◌, ◌≢◌, ◌⊎◌, ◌↔◌, ℕ, ◌+◌, ◌-◌, ◌*◌, ◌<◌, ◌≤◌, List, [], ◌∷◌, length, get_or, Bool, true, false, MatchBool}
 use Rattle.read_table.specs.declared.view.Move.{Move}
 use Rattle.read_table.specs.declared.view.Move.TheVariants.{Scan}
 use Rattle.read_table.specs.declared.view.View.{View}
@@ -18,11 +18,12 @@ pub record AreSightings (v : View) (seen : List Bool) : Type 0 where
   pub right : (slot reader : ℕ) → slot < v.shape.slots → reader < v.shape.readers →
       (noted seen slot reader ≡ true) ↔ Cleared (reader + 1) slot v.mine
 
--- each move is a scan of a reader behind the first number and up to the second
-abbrev pub OnlyScans : ℕ → ℕ → List Move → Type 0
-OnlyScans low high [] = Unit {0}
-OnlyScans low high (Scan r x ∷ ms) = (low < r) × (r ≤ high) × OnlyScans low high ms
-OnlyScans low high (_ ∷ ms) = ⊥
+-- Each move is a scan of a reader behind the first number and up to the second, and none is looked at twice: the newest, which
+-- stands first, is of the highest.
+abbrev pub ScansInTurn : ℕ → ℕ → List Move → Type 0
+ScansInTurn low high [] = Unit {0}
+ScansInTurn low high (Scan r x ∷ ms) = (low < r) × (r ≤ high) × ScansInTurn low (r - 1) ms
+ScansInTurn low high (_ ∷ ms) = ⊥
 
 -- the reader was found inside a section
 abbrev pub FoundInside : ℕ → List Move → Type 0

@@ -5,7 +5,7 @@ use Rattle.read_table.specs.declared.view.Move.TheVariants.{Store, Header}
 use Rattle.read_table.specs.declared.view.View.{View}
 use Rattle.read_table.specs.History.{header_in, MayLink}
 use Rattle.read_table.specs.Lookups.{key_word}
-use Rattle.read_table.specs.Sightings.{IsHeldUp, OnlyScans}
+use Rattle.read_table.specs.Sightings.{IsHeldUp, ScansInTurn}
 use Rattle.read_table.specs.Held.{TableView, Holder, IsKnown, Goes}
 
 -- at which table, what the writer did and saw there, and its slots: those that it may link, those that are linked, and
@@ -62,7 +62,7 @@ Unlinks slot v w =
 
 -- The writer only looked at section words, at that of each of the readers once at most.
 abbrev pub Looks : ℕ → WriterView → List Move → WriterView → Type 0
-Looks readers v ms w = OnlyScans 0 readers ms × (length ms ≤ readers) × Works v ms w
+Looks readers v ms w = ScansInTurn 0 readers ms × Works v ms w
 
 -- It only looked at section words. A reader that was not seen outside a section since the slot was unlinked was found
 -- inside.

@@ -3,7 +3,7 @@ ghost use Rattle.std.specs.Prelude.{◌≡◌, ◌+◌, ◌*◌, ◌/◌, ◌<�
 ghost use Rattle.std.specs.List.{range_with_len};
 ghost use Rattle.read_table.specs.Law.{writer_after, count_of};
 ghost use Rattle.read_table.specs.Limits.{most_table_slots, most_readers, word_bytes};
-ghost use Rattle.read_table.specs.Held.{IsTableLength, IsReady, IsNew, IsSized};
+ghost use Rattle.read_table.specs.Held.{AreInOrder, IsTableLength, IsReady, IsNew, IsSized};
 
 use crate::limits::WORD_BYTES;
 use crate::seats::Seats;
@@ -40,6 +40,7 @@ fn deal_all(
     ensures count { IfOk result (λ s. length s ≡ readers) }
     ensures ready { IfOk result (λ s. All (IsReady table.now) s) }
     ensures new { IfOk result (λ s. All IsNew s) }
+    ensures order { IfOk result AreInOrder }
 {
     let mut list = Vec::with_capacity(alloc, readers)?;
     for reader in 0..readers {
@@ -72,6 +73,7 @@ impl ReadTable {
         ensures count { IfOk result (λ t. length t.1 ≡ readers) }
         ensures ready { IfOk result (λ t. All (IsReady t.0) t.1) }
         ensures new { IfOk result (λ t. All IsNew t.1) }
+        ensures order { IfOk result (λ t. AreInOrder t.1) }
         ensures writer { IfOk result (λ t. t.2.table ≡ t.0) }
         ensures new_writer { IfOk result (λ t. t.2.view.mine ≡ []) }
         ensures free { IfOk result (λ t. t.2.free ≡ range_with_len 0 slots) }

@@ -43,7 +43,8 @@ impl Model for ReadTable {
 }
 
 /// A reader's seat at a table. Contracts see at which, and what the reader did and saw there. A seat that is dropped
-/// inside a section keeps the slots that are unlinked later from being reclaimed, for ever.
+/// inside a section keeps from being reclaimed, for ever, the slots that are unlinked later, and those unlinked before since when
+/// its reader was not seen outside.
 #[derive(Drop)]
 pub struct ReadSeat {
     seat: Seat<u8, View>,
@@ -232,6 +233,7 @@ impl ReadTable {
         ensures writer { writer.new.me ≡ (writer_after (reader + 1) self.now.shape, []) }
         ensures ready { IsReady self.now result }
         ensures new { IsNew result }
+        ensures me { result.view.me ≡ reader + 1 }
     {
         let seat = self.table.shared.split_seat::<Deals>(writer);
         ReadSeat {

@@ -2,7 +2,7 @@
 ghost use Rattle.std.specs.Prelude.{◌≡◌, ℕ, List, ◌+◌, ◌*◌, ◌^◌, ◌%◌, ◌<◌, ◌≤◌, ◌↔◌, ◌⊎◌, [], ◌∷◌, ◌++◌, length, vec_capacity, true, false, All, IsNone, IfNone, IfSome, IfOk};
 ghost use Rattle.std.specs.List.{range_with_len, Contains};
 ghost use Rattle.read_table.specs.History.{header_in, Cleared, MayLink};
-ghost use Rattle.read_table.specs.Held.{IsSized};
+ghost use Rattle.read_table.specs.Held.{IsKnown, IsSized};
 ghost use Rattle.read_table.specs.Limits.{word_bytes};
 ghost use Rattle.read_table.specs.declared.view.Move.{Move};
 ghost use Rattle.read_table.specs.Found.{IsLinkedUnder};
@@ -121,7 +121,7 @@ impl Writer {
         self.unlinked.as_slice()
     }
 
-    /// A slot that is linked under the key, or `None`. It reads the key words of the slots that are linked.
+    /// A slot that is linked under the key, or `None`. It only looks at words.
     pub fn find(&mut self, table: &ReadTable, key: &[u8]) -> Option<usize>
         requires table { self.old.table ≡ table.now }
         requires key { length key.now ≡ word_bytes * table.now.shape.key_words }
@@ -156,7 +156,7 @@ impl Writer {
     }
 
     /// Makes an unlinked slot free, if each reader was seen outside a section since it was unlinked, in this call or
-    /// before, and tells whether it did. It looks at those readers alone that were not. A slot that was linked 2^62 times
+    /// before, and tells whether it did. It looks at each reader once at most. A slot that was linked 2^62 times
     /// stays unlinked.
     pub fn try_reclaim(&mut self, table: &ReadTable, slot: usize) -> bool
         requires table { self.old.table ≡ table.now }
@@ -183,6 +183,16 @@ impl Writer {
         take_out(&mut self.unlinked, slot);
         self.free.push_reserved(slot);
         true
+    }
+
+    /// A law: the writer is number 0 at its table, and what it saw there is lawful. So what is said of its view is said of the
+    /// table.
+    pub fn is_writers(&self)
+        ensures me { self.now.view.me ≡ 0 }
+        ensures shape { self.now.view.shape ≡ self.now.table.shape }
+        ensures known { IsKnown self.now.view }
+    {
+        let _ = &self.free;
     }
 
     /// The writer's share of the table: the view stands among those of whom the rule of the table speaks

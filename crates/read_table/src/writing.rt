@@ -7,7 +7,7 @@ ghost use Rattle.read_table.specs.History.{header_in, Cleared, MayLink};
 ghost use Rattle.read_table.specs.Law.{width_of};
 ghost use Rattle.read_table.specs.Limits.{word_bytes, most_table_slots};
 ghost use Rattle.read_table.specs.Held.{IsSized, IsKnown, Went};
-ghost use Rattle.read_table.specs.Sightings.{AreSightings, FoundInside, OnlyScans, Tells};
+ghost use Rattle.read_table.specs.Sightings.{AreSightings, FoundInside, ScansInTurn, Tells};
 ghost use Rattle.read_table.specs.Slots.{Fills, IsFree, Leaves};
 
 use crate::View;
@@ -115,7 +115,7 @@ fn was_outside(
     ensures held { seat.new.me.1 ≡ seat.old.me.1 }
     ensures seen { AreSightings seat.new.me.0 seen.new.items }
     ensures steps { (ms : List Move) × Went seat.old.me.0 (ms ++ seat.old.me.0.mine) seat.new.me.0
-        × OnlyScans reader (reader + 1) ms × (length ms ≤ 1)
+        × ScansInTurn reader (reader + 1) ms
         × MatchBool result (Cleared (reader + 1) slot (ms ++ seat.old.me.0.mine))
         (FoundInside (reader + 1) ms
         × (Cleared (reader + 1) slot (ms ++ seat.old.me.0.mine) → ⊥)) }
@@ -148,7 +148,7 @@ pub(crate) fn each_was_outside(
     ensures held { seat.new.me.1 ≡ seat.old.me.1 }
     ensures seen { AreSightings seat.new.me.0 seen.new.items }
     ensures steps { (ms : List Move) × Went seat.old.me.0 (ms ++ seat.old.me.0.mine) seat.new.me.0
-        × OnlyScans 0 table.now.shape.readers ms × (length ms ≤ table.now.shape.readers)
+        × ScansInTurn 0 table.now.shape.readers ms
         × Tells table.now.shape.readers slot ms (ms ++ seat.old.me.0.mine) result }
 {
     let mut each = true;

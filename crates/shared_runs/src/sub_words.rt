@@ -20,7 +20,7 @@ use verifier::Verified;
 /// Why a table runs no step of a program: it accesses an element by another width than 8 bytes, of which a table may serve
 /// loads, or calls a helper that changes a map.
 #[derive(Clone, Copy, Debug, PartialEq, Eq, Error)]
-#[error("the program accesses elements by less than a word, or changes a map")]
+#[error("the program accesses elements by a width that the table does not serve, or changes a map")]
 pub struct SubWord;
 
 impl SubWord {

@@ -1,9 +1,8 @@
-use Rattle.std.proofs.Common.{rules, ◌≡◌, ℕ, ◌+◌, ◌*◌, ◌%◌, ◌^◌, ◌<◌, ◌∷◌, [], refl, sym, ◌∙◌, subst, add-one}
+use Rattle.std.proofs.Common.{◌+◌, ◌*◌, ◌%◌, ◌^◌, ◌∷◌, [], refl, sym, ◌∙◌, subst, add-one}
 use Rattle.map_table_laws.specs.declared.moves.Move.TheVariants.{Load}
 use Rattle.map_table.specs.declared.view.TableShape.{TableShape}
 use Rattle.map_table.specs.Counting.{AddsUp}
 use Rattle.map_table.specs.Held.{Went}
-use Rattle.map_table.specs.Values.{copies_of}
 use Rattle.map_table.proofs.Going.{went_none, went_then}
 use Rattle.map_table.proofs.counting.add_up.Goals as goal
 

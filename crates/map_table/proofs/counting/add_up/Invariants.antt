@@ -1,7 +1,6 @@
-use Rattle.std.proofs.Common.{◌≡◌, ◌+◌, ◌++◌, ◌≤◌, List}
+use Rattle.std.proofs.Common.{◌≡◌, ◌+◌, ◌++◌, List}
 use Rattle.map_table_laws.specs.declared.moves.Move.{Move}
 use Rattle.map_table.specs.Counting.{AddsUp}
-use Rattle.map_table.specs.Values.{copies_of}
 use Rattle.map_table.specs.Held.{Went}
 use Rattle.map_table.proofs.counting.add_up.Given as goal
 

@@ -13,7 +13,7 @@ returns-then-scan-ne0-clause-seen c =
 pub returns-then-scan-ne0-clause-steps : goal.returns-then-scan-ne0-clause-steps
 returns-then-scan-ne0-clause-steps c =
     let ne : c.scan.result ≢ 0 = search rules in
-    (Scan (c.args.reader + 1) c.scan.result ∷ [], c.scan.ensures.step, (omega arith, omega arith, tt), omega arith, inr (inl (refl, ne)))
+    (Scan (c.args.reader + 1) c.scan.result ∷ [], c.scan.ensures.step, (omega arith, omega arith, tt), inr (inl (refl, ne)))
 
 pub returns-clause-seen : goal.returns-clause-seen
 returns-clause-seen c =
@@ -31,6 +31,5 @@ returns-clause-steps c =
       Scan (c.args.reader + 1) c.scan.result ∷ [],
       c.scan.ensures.step,
       (omega arith, omega arith, tt),
-      omega arith,
       inl (get_or-set_same c.args.seen.now.items c.args.reader (length c.args.unlinked.now) 0 (omega (arith, room, within))),
     )

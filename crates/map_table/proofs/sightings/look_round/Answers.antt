@@ -1,7 +1,7 @@
-use Rattle.std.proofs.Common.{rules, ◌≡◌, ◌+◌, ◌≤◌, ◌++◌, ◌∙◌, subst, arith, length, length-append}
-use Rattle.map_table_laws.specs.Scanned.{OnlyScans}
+use Rattle.std.proofs.Common.{rules, ◌≡◌, ◌+◌, ◌≤◌, ◌++◌, ◌∙◌, subst, arith, length}
+use Rattle.map_table_laws.specs.Scanned.{ScansInTurn}
 use Rattle.map_table.proofs.Going.{went_then}
-use Rattle.map_table.proofs.Seen.{Looked, looked_more, scans_append, scans_wider}
+use Rattle.map_table.proofs.Seen.{Looked, looked_more, scans_append}
 use Rattle.map_table.proofs.sightings.look_round.Goals as goal
 
 pub loop-reader-preserved : goal.loop-reader-preserved
@@ -10,19 +10,15 @@ loop-reader-preserved c =
     let s = i.3 in
     let l = c.look.ensures in
     let o = l.steps in
-    let at = c.loop-reader.reader in
-    let few = s.3 in
-    let one = o.3 in (
+    let at = c.loop-reader.reader in (
       l.table ∙ i.0,
       l.held ∙ i.1,
       l.seen,
       (
         o.0 ++ s.0,
         went_then c.args.seat.now.me.0 c.loop-reader.seat.me.0 c.look.new.seat.me.0 s.0 o.0 s.1 o.1,
-        scans_append 0 (at + 1) o.0 s.0 (scans_wider at (at + 1) 0 (at + 1) o.0 (omega arith) (omega arith) o.2)
-            (scans_wider 0 at 0 (at + 1) s.0 (omega arith) (omega arith) s.2),
-        omega (arith, few, one, length-append o.0 s.0),
-        looked_more at (length c.args.unlinked.now) c.loop-reader.seen.items c.look.new.seen.items o.0 s.0 s.4 l.others o.4,
+        scans_append 0 at (at + 1) o.0 s.0 (omega arith) (omega arith) o.2 s.2,
+        looked_more at (length c.args.unlinked.now) c.loop-reader.seen.items c.look.new.seen.items o.0 s.0 s.3 l.others o.3,
       ),
     )
 
@@ -34,7 +30,6 @@ returns-clause-steps c =
     let same : c.loop-reader.reader ≡ c.args.table.now.shape.readers = omega (arith, all, no_more) in (
       s.0,
       s.1,
-      subst (λ z. OnlyScans 0 z s.0) same s.2,
-      subst (λ z. length s.0 ≤ z) same s.3,
-      subst (λ z. Looked z (length c.args.unlinked.now) c.loop-reader.seen.items s.0) same s.4,
+      subst (λ z. ScansInTurn 0 z s.0) same s.2,
+      subst (λ z. Looked z (length c.args.unlinked.now) c.loop-reader.seen.items s.0) same s.3,
     )

@@ -1,6 +1,6 @@
-use Rattle.std.proofs.Common.{◌≡◌, ◌++◌, ◌≤◌, List, length}
+use Rattle.std.proofs.Common.{◌≡◌, ◌++◌, List, length}
 use Rattle.map_table_laws.specs.declared.moves.Move.{Move}
-use Rattle.map_table_laws.specs.Scanned.{OnlyScans}
+use Rattle.map_table_laws.specs.Scanned.{ScansInTurn}
 use Rattle.map_table.specs.Held.{Went}
 use Rattle.map_table.specs.Sightings.{AreSightings}
 use Rattle.map_table.proofs.Seen.{Looked}
@@ -10,4 +10,4 @@ abbrev pub invariant-loop-reader : goal.invariant-loop-reader
 invariant-loop-reader l = (l.seat.table_id ≡ l.fn.seat.table_id) × (l.seat.me.1 ≡ l.fn.seat.me.1) ×
     AreSightings l.seat.me.0 l.unlinked l.seen.items ×
     ((ms : List Move) × Went l.fn.seat.me.0 (ms ++ l.fn.seat.me.0.mine) l.seat.me.0 ×
-    OnlyScans 0 l.reader ms × (length ms ≤ l.reader) × Looked l.reader (length l.unlinked) l.seen.items ms)
+    ScansInTurn 0 l.reader ms × Looked l.reader (length l.unlinked) l.seen.items ms)

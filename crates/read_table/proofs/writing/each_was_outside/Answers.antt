@@ -1,9 +1,9 @@
-use Rattle.std.proofs.Common.{rules, ◌≡◌, ◌+◌, ◌≤◌, ◌++◌, sym, ap, ◌∙◌, subst, arith, append_assoc, length, length-append, Bool}
+use Rattle.std.proofs.Common.{rules, ◌≡◌, ◌+◌, ◌≤◌, ◌++◌, sym, ap, ◌∙◌, subst, arith, append_assoc, Bool}
 use Rattle.std.specs.Prelude.{MatchBool, ◌&&◌}
 use Rattle.read_table.specs.History.{Cleared}
-use Rattle.read_table.specs.Sightings.{FoundInside, OnlyScans, Tells}
+use Rattle.read_table.specs.Sightings.{FoundInside, ScansInTurn, Tells}
 use Rattle.read_table.proofs.Going.{went_mine, went_then}
-use Rattle.read_table.proofs.Seen.{scans_append, scans_wider, tells_more}
+use Rattle.read_table.proofs.Seen.{scans_append, tells_more}
 use Rattle.read_table.proofs.writing.each_was_outside.Goals as goal
 use Rattle.read_table.proofs.writing.each_was_outside.Goals.{then-each, else-each}
 
@@ -17,10 +17,8 @@ loop-reader-preserved c =
     let before = c.args.seat.now.me.0.mine in
     let outside = c.was_outside-outside.result in
     let old = c.loop-reader.each in
-    let few = s.3 in
-    let one = o.3 in
     let told = subst (λ z. MatchBool outside (Cleared (at + 1) slot (o.0 ++ z)) (FoundInside (at + 1) o.0 × (Cleared (at + 1) slot (o.0 ++ z) → ⊥)))
-    (went_mine c.args.seat.now.me.0 c.loop-reader.seat.me.0 (s.0 ++ before) s.1) o.4 in
+    (went_mine c.args.seat.now.me.0 c.loop-reader.seat.me.0 (s.0 ++ before) s.1) o.3 in
     let is : (old && outside) ≡ c.if-each.each = elim c.if-each.branch [
       | then-each w ↦ ap (λ b. b && outside) w.if-each.true ∙ sym w.each-is
       | else-each w ↦ ap (λ b. b && outside) w.if-each.false ∙ (sym w.if-each.false ∙ sym w.each-is)
@@ -31,12 +29,10 @@ loop-reader-preserved c =
       (
         o.0 ++ s.0,
         went_then c.args.seat.now.me.0 c.loop-reader.seat.me.0 c.was_outside-outside.new.seat.me.0 s.0 o.0 s.1 o.1,
-        scans_append 0 (at + 1) o.0 s.0 (scans_wider at (at + 1) 0 (at + 1) o.0 (omega arith) (omega arith) o.2)
-            (scans_wider 0 at 0 (at + 1) s.0 (omega arith) (omega arith) s.2),
-        omega (arith, few, one, length-append o.0 s.0),
+        scans_append 0 at (at + 1) o.0 s.0 (omega arith) (omega arith) o.2 s.2,
         subst (λ (b : Bool). Tells (at + 1) slot (o.0 ++ s.0) ((o.0 ++ s.0) ++ before) b) is
             (subst (λ z. Tells (at + 1) slot (o.0 ++ s.0) z (old && outside)) (sym (append_assoc o.0 s.0 before))
-            (tells_more at slot o.0 s.0 before old outside o.2 s.4 told)),
+            (tells_more at slot o.0 s.0 before old outside o.2 s.3 told)),
       ),
     )
 
@@ -49,7 +45,6 @@ returns-clause-steps c =
     let before = c.args.seat.now.me.0.mine in (
       s.0,
       s.1,
-      subst (λ z. OnlyScans 0 z s.0) same s.2,
-      subst (λ z. length s.0 ≤ z) same s.3,
-      subst (λ z. Tells z c.args.slot s.0 (s.0 ++ before) c.loop-reader.each) same s.4,
+      subst (λ z. ScansInTurn 0 z s.0) same s.2,
+      subst (λ z. Tells z c.args.slot s.0 (s.0 ++ before) c.loop-reader.each) same s.3,
     )

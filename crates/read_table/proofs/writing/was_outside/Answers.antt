@@ -17,7 +17,7 @@ returns-then-index-clause-steps c =
     let few-slots = r.slots in
     let is = note_read c.args.seen.now.items c.args.slot c.args.reader c.index.result.now c.index.ensures
     (omega (arith, low, few-slots)) (omega (arith, in_readers, few)) r.room in
-    ([], went_none c.args.seat.now.me.0 c.requires.known, tt, omega arith, (r.right c.args.slot c.args.reader low in_readers).0 (sym is ∙ c.if-index.true))
+    ([], went_none c.args.seat.now.me.0 c.requires.known, tt, (r.right c.args.slot c.args.reader low in_readers).0 (sym is ∙ c.if-index.true))
 
 pub returns-then-scan-ne0-clause-steps : goal.returns-then-scan-ne0-clause-steps
 returns-then-scan-ne0-clause-steps c =
@@ -34,7 +34,6 @@ returns-then-scan-ne0-clause-steps c =
       Scan (c.args.reader + 1) c.scan.result ∷ [],
       c.scan.ensures.step,
       (omega arith, omega arith, tt),
-      omega arith,
       (
         inl (refl, ne),
         λ cleared. ⊎_elim (λ (z : (c.args.reader + 1 ≡ c.args.reader + 1) × (c.scan.result ≡ 0)). absurd (ne z.1))
@@ -48,6 +47,5 @@ returns-clause-steps c =
       Scan (c.args.reader + 1) 0 ∷ [],
       subst (λ z. Went c.args.seat.now.me.0 (Scan (c.args.reader + 1) z ∷ c.args.seat.now.me.0.mine) c.scan.new.seat.me.0) none c.scan.ensures.step,
       (omega arith, omega arith, tt),
-      omega arith,
       inl (refl, refl),
     )

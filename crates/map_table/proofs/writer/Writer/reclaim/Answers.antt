@@ -1,7 +1,7 @@
-use Rattle.std.proofs.Common.{rules, ◌≡◌, ◌≤◌, ◌++◌, ◌∙◌, sym, ap, subst, ℕ, List, take, drop, length}
+use Rattle.std.proofs.Common.{rules, ◌≡◌, ◌++◌, ◌∙◌, sym, ap, subst, ℕ, List, take, drop, length}
 use Rattle.std.specs.Prelude.{All}
 use Rattle.std.proofs.lemmas.List.{length-take-le, take-append-drop}
-use Rattle.map_table_laws.specs.Scanned.{OnlyScans}
+use Rattle.map_table_laws.specs.Scanned.{ScansInTurn}
 use Rattle.map_table.specs.declared.view.TableShape.{TableShape}
 use Rattle.map_table.specs.Held.{TableView}
 use Rattle.map_table.specs.Sightings.{AreSightings, AreCleared, IsHeldUp, Least}
@@ -89,13 +89,12 @@ returns-clause-waits c =
     let least : Least count c.look_round.new.seen.items (length unlinked) = search rules in (
       s.0,
       (
-        subst (λ n. OnlyScans 0 n s.0) here s.2,
-        subst (λ n. length s.0 ≤ n) here s.3,
+        subst (λ n. ScansInTurn 0 n s.0) here s.2,
         works _ _ v w _ s.0 (ap as_holder c.self.view_is) c.look_round.ensures.table s.1,
       ),
       subst (λ (z : List ℕ). All (λ e. IsHeldUp c.args.table.now.shape.readers e s.0 w.mine) z) (sym c.move_first.ensures.from)
           (subst (λ n. All (λ e. IsHeldUp n e s.0 w.mine) (drop count unlinked)) (sym readers)
           (all_held w c.self.inside.ways.items c.self.inside.free.items unlinked c.look_round.new.seen.items count b a least s.0
           (subst (λ (z : List ℕ). Looked w.shape.readers (length z) c.look_round.new.seen.items s.0) c.as_slice.ensures.value
-          (subst (λ n. Looked n (length c.as_slice.result.now) c.look_round.new.seen.items s.0) readers s.4)))),
+          (subst (λ n. Looked n (length c.as_slice.result.now) c.look_round.new.seen.items s.0) readers s.3)))),
     )
