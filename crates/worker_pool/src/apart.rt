@@ -1,7 +1,8 @@
 //! A batch in a world of its own.
-ghost use Rattle.std.specs.Prelude.{◌≡◌, ◌<◌, ◌∷◌, [], List, length, map, IfOk, IfSome};
+ghost use Rattle.std.specs.Prelude.{◌≡◌, ◌<◌, ◌∷◌, [], List, length, map, true, Decides, IfOk, IfSome};
 ghost use Rattle.bpf_model.specs.View.{AreNewMaps, shapes_of_maps};
 ghost use Rattle.verifier.specs.Checked.{Checked};
+ghost use Rattle.worker_pool.specs.Apart.{ChangesMapAt, ChangesMaps, FitsOneJournal};
 ghost use Rattle.worker_pool.specs.Batches.{IsPrinted};
 
 use crate::batch::Batch;
@@ -19,7 +20,9 @@ use verifier::Verified;
 const MOST_BYTES: usize = 1 << 16;
 
 /// Whether the instruction stores to an element, where it reaches this region, or calls a helper that changes a map.
-fn changes_map(insn: &Insn, region: Region) -> bool {
+fn changes_map(insn: &Insn, region: Region) -> bool
+    ensures { Decides result (ChangesMapAt region insn.now) }
+{
     match insn {
         Insn::Store { .. } => matches!(region, Region::Value(_)),
         Insn::Call {
@@ -34,7 +37,9 @@ fn changes_map(insn: &Insn, region: Region) -> bool {
 }
 
 /// Whether an instruction of the program changes a map.
-fn changes_maps(verified: &Verified) -> bool {
+fn changes_maps(verified: &Verified) -> bool
+    ensures { Decides result (ChangesMaps verified.now) }
+{
     let instructions = verified.program().instructions();
     for index in 0..instructions.len() {
         if changes_map(&instructions[index], verified.region(index)) {
@@ -57,7 +62,10 @@ fn bytes_of(shapes: &[MapShape]) -> usize {
 
 /// Whether so many jobs may be served in worlds apart, and nobody can tell: no run changes the maps, which are small, and one
 /// journal would have room for all entries, since a job makes no more than its program has instructions, and two.
-fn may_be_apart(verified: &Verified, count: usize) -> bool {
+fn may_be_apart(verified: &Verified, count: usize) -> bool
+    ensures alike { result ≡ true → ChangesMaps verified.now → ⊥ }
+    ensures room { result ≡ true → FitsOneJournal verified.now count }
+{
     let each = verified.program().len().saturating_add(2);
     if each.saturating_mul(count) > MAX_JOURNAL || bytes_of(verified.shapes()) > MOST_BYTES {
         return false;
@@ -71,7 +79,9 @@ pub(crate) fn copy_to_part(
     program: &ProgramWithMaps,
     count: usize,
 ) -> Result<Option<ProgramWithMaps>, AllocError>
-    ensures { IfOk result (λ o. IfSome o (λ p. p ≡ program.now)) }
+    ensures copied { IfOk result (λ o. IfSome o (λ p. p ≡ program.now)) }
+    ensures alike { IfOk result (λ o. IfSome o (λ p. ChangesMaps p.verified → ⊥)) }
+    ensures room { IfOk result (λ o. IfSome o (λ p. FitsOneJournal p.verified count)) }
 {
     if !may_be_apart(&program.verified, count) {
         return Ok(None);
