@@ -66,6 +66,12 @@ fn program_of(alloc: Global, lines: &[u8]) -> Result<Program, AsmFault>
 }
 
 /// Assembles a text: its plain text, its program's bytes, and the program file that the text's head makes of them.
+///
+/// Errors: the first of these, or `Memory` where memory runs out.
+/// - `NotUtf8`, with the first line that is not UTF-8.
+/// - `Unnamed`: a name of a line has no meaning, more than one, or is none.
+/// - `Flawed`: a line is no instruction, or they are too many, or there is none.
+/// - `BadHead`, with the line above `code` that is wrong.
 pub fn make_code(alloc: Global, bytes: &[u8]) -> Result<Assembled, TextFault>
     ensures made { IfOk result (λ a. IsAssembled bytes.now a.lines.items a.code.items a.file.items) }
     ensures fault { IfErr result (IsTextFault bytes.now) }

@@ -592,7 +592,8 @@ fn filter_of(alloc: Global, matches: &ArgMatches<'_>) -> Result<BpfrtCommand, Wo
 
 /// The command that the words ask for. The first word is the program's own name.
 ///
-/// Help, too, is a `WordsFault`, since it is no command to run. The version is one.
+/// Errors: `Usage` where the words are no command, with why, or with the help that they ask for, which is no command to
+/// run. The version is one. `Memory` where memory runs out.
 pub fn parse_words<'a>(alloc: Global, words: &'a [String]) -> Result<BpfrtCommand, WordsFault> {
     let matches = match grammar(alloc)?.try_get_matches_from(words) {
         Ok(matches) => matches,

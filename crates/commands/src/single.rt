@@ -56,6 +56,12 @@ fn text_of(alloc: Global, ended: Ended, world: &World, single: &SingleRun) -> io
 
 /// Decodes and verifies a file's program, puts elements into its maps, and runs it once on a context. What it gives is
 /// the text that tells the run.
+///
+/// Errors: the first of these, or 13 where memory runs out.
+/// - What `check` says of the file.
+/// - 63: the context has another length than the program's.
+/// - 65 or 66, of the first element that fails a test: no map has its name, or its key or value has another length.
+/// - 98: a map has no place for an element.
 pub fn run_of(alloc: Global, file: &FileBytes, single: &SingleRun) -> Result<Vec<u8>, Verdict>
     ensures ended { (bytes : List ℕ) → HoldsBytes file.now bytes →
         IfOk result (λ text. IsRunText single.now bytes text.items) }

@@ -17,6 +17,11 @@ pub struct Accepted {
 }
 
 /// Decodes and verifies a file's program.
+///
+/// Errors: the first of these, or 13 where memory runs out.
+/// - 94, with the line of the file that is wrong.
+/// - What decoding refuses: 1 to 3 of the length, 4 to 12 with the slot.
+/// - What the verifier refuses: 20 to 39, with the slot.
 pub fn check(alloc: Global, file: &FileBytes) -> Result<Accepted, Verdict>
     ensures accepted { (bytes : List ℕ) → HoldsBytes file.now bytes →
         IfOk result (IsAcceptedFile bytes) }
@@ -32,7 +37,9 @@ pub fn check(alloc: Global, file: &FileBytes) -> Result<Accepted, Verdict>
     })
 }
 
-/// The text of a file's program.
+/// The text of a file's program, which is not verified.
+///
+/// Errors: those of `check`, but for the verifier's.
 pub fn text_of(alloc: Global, file: &FileBytes) -> Result<String, Verdict>
     ensures text { (bytes : List ℕ) → HoldsBytes file.now bytes →
         IfOk result (λ lines. IsTextOf bytes (string_bytes lines)) }

@@ -42,6 +42,8 @@ pub fn known_where_refused(
 }
 
 /// Verifies a program for contexts of this length and for maps of the shapes of these, in their order.
+///
+/// Errors: those of `verify`. `Memory` also where there is none for the shapes.
 pub fn verify_for_maps(
     alloc: Global,
     program: Program,

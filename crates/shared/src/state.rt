@@ -103,6 +103,9 @@ impl<L: Ledger> State<L> {
 
     /// Applies the event, enters it and writes the counters, and puts the answer in the place of another one; or
     /// changes nothing. The clauses are those of the books, which do not wait.
+    ///
+    /// Errors: `JournalFull` exactly when the journal has as many entries as it may have, or when as many as 64 bits
+    /// count were made since the world was shared; `Memory` when the journal could not grow.
     pub fn act_into<R: Wait>(
         &mut self,
         rt: &R,

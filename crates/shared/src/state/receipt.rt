@@ -1,4 +1,4 @@
-//! The receipt of one call: its fields are private to this module, so only the act of a state makes one.
+//! The receipt of one call: its fields are private to this module, so only the acts of a state write one.
 ghost use Rattle.std.specs.Prelude.{◌≡◌, IsOk};
 ghost use Rattle.shared_books.specs.Noted.{IsEntered};
 
@@ -9,8 +9,8 @@ use std::marker::Model;
 use std::sync::Wait;
 use std::sync::ledger::Ledger;
 
-/// What one call of `act_noted` did: who called, the event, the answer, and how many entries the worker has
-/// made. None is ever copied.
+/// What one call of `act_noted` did, or the last of `act_again` that was given it: who called, the event, the
+/// answer, and how many entries the worker has made. None is ever copied.
 #[derive(Debug, Drop)]
 pub struct Receipt {
     worker: u8,
