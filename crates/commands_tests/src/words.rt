@@ -63,43 +63,52 @@ fn has_all(rt: &impl Abort, text: &str, parts: &[&str]) {
     }
 }
 
-#[test]
-fn words_of_commands(rt: HostRuntime) -> Result<(), Fail> {
-    let alloc = rt.alloc();
+/// Words that are no command, and what is said of them.
+fn no_commands(rt: &HostRuntime, alloc: Global) -> Result<(), Fail> {
     for (words, said) in NO_COMMANDS {
-        match asked(&rt, alloc, words)? {
+        match asked(rt, alloc, words)? {
             Ok(_) => assert!(rt; false, "no command"),
-            Err(text) => has_all(&rt, text.as_str(), said),
+            Err(text) => has_all(rt, text.as_str(), said),
         }
     }
-    let check = asked(&rt, alloc, &["bpfrt", "check", "a.bpf"])?;
+    Ok(())
+}
+
+/// What `check` is asked for.
+fn words_of_check(rt: &HostRuntime, alloc: Global) -> Result<(), Fail> {
+    let check = asked(rt, alloc, &["bpfrt", "check", "a.bpf"])?;
     assert!(rt;
         matches!(&check, Ok(BpfrtCommand::Check { file, how }) if file.as_str() == "a.bpf" && *how == PLAIN)
     );
-    let explained = asked(&rt, alloc, &["bpfrt", "check", "--explain", "a.bpf"])?;
+    let explained = asked(rt, alloc, &["bpfrt", "check", "--explain", "a.bpf"])?;
     assert!(rt;
         matches!(&explained, Ok(BpfrtCommand::Check { how, .. }) if how.explain && !how.asm && !how.log)
     );
-    let logged = asked(&rt, alloc, &["bpfrt", "check", "a.bpf", "--asm", "--log"])?;
+    let logged = asked(rt, alloc, &["bpfrt", "check", "a.bpf", "--asm", "--log"])?;
     assert!(rt;
         matches!(&logged, Ok(BpfrtCommand::Check { how, .. }) if how.asm && how.log && !how.explain)
     );
-    let disasm = asked(&rt, alloc, &["bpfrt", "disasm", "b.bpf"])?;
+    Ok(())
+}
+
+/// Commands with little to say.
+fn words_of_others(rt: &HostRuntime, alloc: Global) -> Result<(), Fail> {
+    let disasm = asked(rt, alloc, &["bpfrt", "disasm", "b.bpf"])?;
     assert!(rt; matches!(&disasm, Ok(BpfrtCommand::Disasm { file }) if file.as_str() == "b.bpf"));
     assert!(rt;
         matches!(
-            asked(&rt, alloc, &["bpfrt", "script"])?,
+            asked(rt, alloc, &["bpfrt", "script"])?,
             Ok(BpfrtCommand::Script { explain: false })
         )
     );
     assert!(rt;
         matches!(
-            asked(&rt, alloc, &["bpfrt", "--version"])?,
+            asked(rt, alloc, &["bpfrt", "--version"])?,
             Ok(BpfrtCommand::Version)
         )
     );
     let pool = asked(
-        &rt,
+        rt,
         alloc,
         &["bpfrt", "pool", "0", "c.bpf", "18446744073709551615"],
     )?;
@@ -108,18 +117,34 @@ fn words_of_commands(rt: HostRuntime) -> Result<(), Fail> {
     };
     assert_eq!(rt; workers, 0);
     assert_eq!(rt; count, u64::MAX);
-    let run = asked(&rt, alloc, &["bpfrt", "run", "d.bpf", "00aBfF"])?;
+    Ok(())
+}
+
+/// What `run` is asked for: a context, elements, a dump.
+fn words_of_run(rt: &HostRuntime, alloc: Global) -> Result<(), Fail> {
+    let run = asked(rt, alloc, &["bpfrt", "run", "d.bpf", "00aBfF"])?;
     let Ok(BpfrtCommand::Run { single, .. }) = run else {
         return Err(Fail::from("no run"));
     };
     assert_eq!(rt; single.context.as_slice(), [0x00, 0xab, 0xff].as_slice());
     assert!(rt; single.elements.is_empty() && !single.dump);
-    let run = asked(&rt, alloc, &ELEMENTS)?;
+    let run = asked(rt, alloc, &ELEMENTS)?;
     let Ok(BpfrtCommand::Run { single, .. }) = run else {
         return Err(Fail::from("no run with elements"));
     };
     assert!(rt; single.context.is_empty() && single.dump);
-    let filter = asked(&rt, alloc, &["bpfrt", "filter", "-"])?;
+    let mut said = String::new(alloc);
+    for element in &single.elements {
+        let MapElement { map, key, value } = element;
+        write!(said, "{map} {key:?} {value:?}, ")?;
+    }
+    assert_eq!(rt; said.as_str(), "m [0, 171] [1], m [] [2], n [3] [], ");
+    Ok(())
+}
+
+/// What `filter` is asked for.
+fn words_of_filter(rt: &HostRuntime, alloc: Global) -> Result<(), Fail> {
+    let filter = asked(rt, alloc, &["bpfrt", "filter", "-"])?;
     assert!(rt;
         matches!(
             &filter,
@@ -130,18 +155,17 @@ fn words_of_commands(rt: HostRuntime) -> Result<(), Fail> {
             })
         )
     );
-    let policy = asked(&rt, alloc, &["bpfrt", "filter", "--seccomp", "e.bpf"])?;
+    let policy = asked(rt, alloc, &["bpfrt", "filter", "--seccomp", "e.bpf"])?;
     let Ok(BpfrtCommand::Filter { file, kind, .. }) = policy else {
         return Err(Fail::from("no filter"));
     };
     assert!(rt; matches!(&file, FilterFile::Path(path) if path.as_str() == "e.bpf"));
     assert_eq!(rt; kind, Data::Seccomp);
-    let mut said = String::new(alloc);
-    for element in &single.elements {
-        let MapElement { map, key, value } = element;
-        write!(said, "{map} {key:?} {value:?}, ")?;
-    }
-    assert_eq!(rt; said.as_str(), "m [0, 171] [1], m [] [2], n [3] [], ");
+    Ok(())
+}
+
+/// What is said of words that are no text, and of want of memory.
+fn words_that_are_none(rt: &HostRuntime, alloc: Global) -> Result<(), Fail> {
     let mut err: Vec<u8> = Vec::new(alloc);
     assert_eq!(rt; no_command(&mut err, &WordsFault::NotText), 2);
     assert_eq!(rt; no_command(&mut err, &WordsFault::Memory), 3);
@@ -150,4 +174,15 @@ fn words_of_commands(rt: HostRuntime) -> Result<(), Fail> {
         b"a word is not UTF-8 text\nfault 13\n".as_slice()
     );
     Ok(())
+}
+
+#[test]
+fn words_of_commands(rt: HostRuntime) -> Result<(), Fail> {
+    let alloc = rt.alloc();
+    no_commands(&rt, alloc)?;
+    words_of_check(&rt, alloc)?;
+    words_of_others(&rt, alloc)?;
+    words_of_run(&rt, alloc)?;
+    words_of_filter(&rt, alloc)?;
+    words_that_are_none(&rt, alloc)
 }

@@ -83,13 +83,25 @@ call 3
 exit
 ";
 
+/// What a program does with its key.
+#[derive(Clone, Copy)]
+enum Kind {
+    Lookup,
+    Count,
+    Update,
+    Delete,
+}
+
+/// A program of each kind, for each map.
+const ALL_KINDS: [Kind; KINDS] = [Kind::Lookup, Kind::Count, Kind::Update, Kind::Delete];
+
 /// The text of a program.
-fn text_of(kind: usize) -> &'static str {
+fn text_of(kind: Kind) -> &'static str {
     match kind {
-        0 => LOOKUP,
-        1 => COUNT,
-        2 => UPDATE,
-        _ => DELETE,
+        Kind::Lookup => LOOKUP,
+        Kind::Count => COUNT,
+        Kind::Update => UPDATE,
+        Kind::Delete => DELETE,
     }
 }
 
@@ -116,7 +128,7 @@ fn shape_of(map: usize) -> MapShape {
 }
 
 /// The program of a kind, bound to one map.
-fn loaded(alloc: Global, kind: usize, map: usize) -> Result<Loaded> {
+fn loaded(alloc: Global, kind: Kind, map: usize) -> Result<Loaded> {
     let verified = verify(alloc, assemble(alloc, text_of(kind))?, &[shape_of(map)], 1)?;
     let mut maps = ArrayVec::new();
     maps.push(map);
@@ -144,13 +156,19 @@ fn registry_of(alloc: Global) -> Result<Registry>
     Ok(registry)
 }
 
+/// Adds a program of each kind, bound to one map.
+fn add_programs(alloc: Global, programs: &mut Vec<Loaded>, map: usize) -> Result<()> {
+    for kind in ALL_KINDS {
+        programs.push(loaded(alloc, kind, map)?)?;
+    }
+    Ok(())
+}
+
 /// A world of all maps, and of a program of each kind for each.
 pub fn world_of(alloc: Global) -> Result<World> {
     let mut programs = Vec::new(alloc);
     for map in 0..MAPS {
-        for kind in 0..KINDS {
-            programs.push(loaded(alloc, kind, map)?)?;
-        }
+        add_programs(alloc, &mut programs, map)?;
     }
     match World::new(alloc, registry_of(alloc)?, programs) {
         Ok(world) => Ok(world),
