@@ -9,3 +9,4 @@ pub mod NameLaws
 pub mod TextLaws
 pub mod TokenLaws
 pub mod PlaceLaws
+pub mod IndexLaws

@@ -4,6 +4,7 @@ pub mod Names
 pub mod Faulty
 pub mod Plain
 pub mod Maps
+pub mod Index
 pub mod Fixed
 pub mod Labels
 pub mod LineEnds

@@ -6,8 +6,9 @@ ghost use Rattle.asm_source.specs.Faulty.{IsFaultOf};
 
 use crate::fault::SourceFault;
 use crate::lines::Lines;
-use crate::names::{Meaning, Named, is_constant, is_name, label_in, meaning_in};
+use crate::names::{Meaning, Named, is_constant, is_name, label_in};
 use crate::numbers::number_in;
+use crate::source_names::SourceNames;
 use crate::tokens::Tokens;
 use std::alloc::Global;
 
@@ -65,17 +66,17 @@ fn constant_of<'a>(tokens: &mut Tokens<'a>) -> Option<Named<'a>>
 
 /// Adds a name that the line of this number gives a meaning.
 fn add_binding<'a>(
-    names: &mut Vec<Named<'a>>,
+    names: &mut SourceNames<'a>,
     line: usize,
     named: Named<'a>,
 ) -> Result<(), SourceFault>
-    ensures added { OnOk result (with_binding names.old.items line named.entry ≡ Ok names.new.items) }
-    ensures fault { IfErr result (IsFaultOf (with_binding names.old.items line named.entry)) }
+    ensures added { OnOk result (with_binding names.old line named.entry ≡ Ok names.new) }
+    ensures fault { IfErr result (IsFaultOf (with_binding names.old line named.entry)) }
 {
     if !is_name(named.name()) {
         return Err(SourceFault::BadName(line));
     }
-    if meaning_in(names, named.name()).is_some() {
+    if names.meaning_of(named.name()).is_some() {
         return Err(SourceFault::NameTwice(line));
     }
     names.push(named)?;
@@ -84,15 +85,15 @@ fn add_binding<'a>(
 
 /// Adds the name of a line, which has this number, and before which so many slots stand.
 fn add_line<'a>(
-    names: &mut Vec<Named<'a>>,
+    names: &mut SourceNames<'a>,
     number: usize,
     slot: u128,
     line: &'a [u8],
 ) -> Result<(), SourceFault>
     ensures added { OnOk result
-        (with_line names.old.items number slot (tokens_of line.now) ≡ Ok names.new.items) }
+        (with_line names.old number slot (tokens_of line.now) ≡ Ok names.new) }
     ensures fault { IfErr result
-        (IsFaultOf (with_line names.old.items number slot (tokens_of line.now))) }
+        (IsFaultOf (with_line names.old number slot (tokens_of line.now))) }
 {
     let mut tokens = Tokens::new(line);
     let Some(first) = tokens.next() else {
@@ -111,11 +112,11 @@ fn add_line<'a>(
 }
 
 /// The names of a source.
-pub(crate) fn names_of<'a>(alloc: Global, source: &'a [u8]) -> Result<Vec<Named<'a>>, SourceFault>
-    ensures found { IfOk result (λ v. names_in source.now ≡ Ok v.items) }
+pub(crate) fn names_of<'a>(alloc: Global, source: &'a [u8]) -> Result<SourceNames<'a>, SourceFault>
+    ensures found { IfOk result (λ v. names_in source.now ≡ Ok v) }
     ensures fault { IfErr result (IsFaultOf (names_in source.now)) }
 {
-    let mut names = Vec::new(alloc);
+    let mut names = SourceNames::new(alloc);
     let mut lines = Lines::new(source);
     let mut number = 0;
     let mut slot = 0;

@@ -15,6 +15,7 @@ mod numbers;
 mod places;
 mod plain;
 mod site;
+mod source_names;
 mod tokens;
 mod words;
 

@@ -1,8 +1,7 @@
 //! Names, and what they stand for.
 ghost use Rattle.std.specs.Prelude.{◌≡◌, List, ℕ, option_copied, bytes_eq, codes};
-ghost use Rattle.std.specs.List.{find};
 ghost use Rattle.std.specs.Str.{all_ascii_digits};
-ghost use Rattle.asm_source.specs.Names.{Binding, is_register as is_register_word, begins_name as begins_name_byte, is_name as is_name_word, label_in as label_of, named as meaning_of};
+ghost use Rattle.asm_source.specs.Names.{Binding, is_register as is_register_word, begins_name as begins_name_byte, is_name as is_name_word, label_in as label_of};
 
 use std::marker::Model;
 
@@ -42,36 +41,11 @@ impl<'a> Named<'a> {
         self.name
     }
 
-    fn is_named(&self, name: &[u8]) -> bool
-        ensures { result ≡ bytes_eq self.now.name name.now }
-    {
-        self.name == name
-    }
-
-    fn meaning(&self) -> Meaning
+    pub(crate) fn meaning(&self) -> Meaning
         ensures { result ≡ self.now.meaning }
     {
         self.meaning
     }
-}
-
-/// The first of these with this name.
-fn first_named<'a, 'n>(names: &'n [Named<'a>], name: &[u8]) -> Option<&'n Named<'a>>
-    ensures { option_copied result ≡ find (λ b. bytes_eq b.name name.now) names.now }
-{
-    for named in names {
-        if named.is_named(name) {
-            return Some(named);
-        }
-    }
-    None
-}
-
-/// What a name stands for, if it stands for something.
-pub(crate) fn meaning_in(names: &[Named<'_>], name: &[u8]) -> Option<Meaning>
-    ensures { result ≡ meaning_of names.now name.now }
-{
-    Some(first_named(names, name)?.meaning())
 }
 
 /// Whether the word is `r` and digits.

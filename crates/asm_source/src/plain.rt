@@ -8,7 +8,7 @@ ghost use Rattle.asm_source.specs.Tokens.{lines_of};
 use crate::bindings::{instruction_of, names_of, slots_after};
 use crate::fault::SourceFault;
 use crate::lines::Lines;
-use crate::names::Named;
+use crate::source_names::SourceNames;
 use crate::words::{Given, push_instruction};
 use std::alloc::Global;
 
@@ -16,7 +16,7 @@ use std::alloc::Global;
 #[tactic(auto, using(crate::proofs::TextLaws::fed_text))]
 fn push_line(
     out: &mut Vec<u8>,
-    given: &Given<'_>,
+    given: &Given<'_, '_>,
     number: usize,
     slot: u128,
     line: &[u8],
@@ -33,7 +33,7 @@ fn push_line(
 }
 
 /// The text of all lines.
-fn text_of(alloc: Global, given: &Given<'_>, source: &[u8]) -> Result<Vec<u8>, SourceFault>
+fn text_of(alloc: Global, given: &Given<'_, '_>, source: &[u8]) -> Result<Vec<u8>, SourceFault>
     ensures found { IfOk result (λ v.
         lines_text (meanings_of given.now) 0 0 (lines_of source.now) ≡ Ok v.items) }
     ensures fault { IfErr result
@@ -54,7 +54,7 @@ fn text_of(alloc: Global, given: &Given<'_>, source: &[u8]) -> Result<Vec<u8>, S
 /// The text of all lines, with these names.
 fn text_with<'a>(
     alloc: Global,
-    names: &'a [Named<'a>],
+    names: &'a SourceNames<'_>,
     maps: &'a [&'a [u8]],
     source: &[u8],
 ) -> Result<Vec<u8>, SourceFault>

@@ -7,16 +7,17 @@ ghost use Rattle.asm_source.specs.Plain.{role_of as role_of_name, word_text, dis
 
 use crate::fault::SourceFault;
 use crate::maps::index_of;
-use crate::names::{Meaning, Named, is_name, is_register, meaning_in};
+use crate::names::{Meaning, is_name, is_register};
 use crate::numbers::{hex_in, push_numeral};
 use crate::site::{Role, Site};
+use crate::source_names::SourceNames;
 use crate::tokens::{Tokens, begins_word};
 use std::alloc::AllocError;
 
 /// The names of a source, and those of the maps.
 #[derive(Drop)]
-pub(crate) struct Given<'a> {
-    pub(crate) names: &'a [Named<'a>],
+pub(crate) struct Given<'a, 's> {
+    pub(crate) names: &'a SourceNames<'s>,
     pub(crate) maps: &'a [&'a [u8]],
 }
 
@@ -46,14 +47,14 @@ fn push_distance(out: &mut Vec<u8>, slot: u128, place: u128) -> Result<(), Alloc
 }
 
 /// Adds a word: in decimal a number in hexadecimal, the number of a constant, or as it is.
-fn push_word(out: &mut Vec<u8>, given: &Given<'_>, word: &[u8]) -> Result<(), AllocError>
+fn push_word(out: &mut Vec<u8>, given: &Given<'_, '_>, word: &[u8]) -> Result<(), AllocError>
     ensures { OnOk result
         (out.new.items ≡ out.old.items ++ word_text given.now.names.now word.now) }
 {
     if let Some(number) = hex_in(word) {
         return push_numeral(out, u128::from(number));
     }
-    match meaning_in(given.names, word) {
+    match given.names.meaning_of(word) {
         Some(Meaning::Number { minus, magnitude }) => {
             if minus {
                 out.extend_from_slice(b"-")?;
@@ -67,7 +68,7 @@ fn push_word(out: &mut Vec<u8>, given: &Given<'_>, word: &[u8]) -> Result<(), Al
 /// Adds what a name at the end of an instruction stands for.
 fn push_name(
     out: &mut Vec<u8>,
-    given: &Given<'_>,
+    given: &Given<'_, '_>,
     site: &Site,
     word: &[u8],
 ) -> Result<(), SourceFault>
@@ -78,7 +79,7 @@ fn push_name(
         (IsFaultOf (name_text (meanings_of given.now) site.now site.now.role word.now)) }
 {
     match site.role {
-        Role::Jump => match meaning_in(given.names, word) {
+        Role::Jump => match given.names.meaning_of(word) {
             Some(Meaning::Place(place)) => Ok(push_distance(out, site.slot, place)?),
             _ => Err(SourceFault::UnknownLabel(site.line)),
         },
@@ -93,7 +94,7 @@ fn push_name(
 /// Adds the last word of an instruction.
 fn push_last(
     out: &mut Vec<u8>,
-    given: &Given<'_>,
+    given: &Given<'_, '_>,
     site: &Site,
     word: &[u8],
 ) -> Result<(), SourceFault>
@@ -119,7 +120,7 @@ fn closes(before: &[u8], token: &[u8]) -> bool
 /// Adds a token, which stands behind another, and may be the last one.
 fn push_token(
     out: &mut Vec<u8>,
-    given: &Given<'_>,
+    given: &Given<'_, '_>,
     site: &Site,
     before: &[u8],
     token: &[u8],
@@ -155,7 +156,7 @@ fn push_gap(out: &mut Vec<u8>, before: &[u8], token: &[u8]) -> Result<(), AllocE
 /// Adds the tokens behind a mnemonic.
 fn push_tokens<'a>(
     out: &mut Vec<u8>,
-    given: &Given<'_>,
+    given: &Given<'_, '_>,
     site: &Site,
     tokens: &mut Tokens<'a>,
 ) -> Result<(), SourceFault>
@@ -178,7 +179,7 @@ fn push_tokens<'a>(
 #[tactic(auto, using(crate::proofs::TextLaws::joined_first, crate::proofs::TextLaws::nothing_behind, crate::proofs::TextLaws::first_fault))]
 pub(crate) fn push_instruction<'a>(
     out: &mut Vec<u8>,
-    given: &Given<'_>,
+    given: &Given<'_, '_>,
     line: usize,
     slot: u128,
     tokens: &mut Tokens<'a>,

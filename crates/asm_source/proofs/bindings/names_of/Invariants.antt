@@ -4,7 +4,7 @@ use Rattle.asm_source.proofs.bindings.names_of.Given as goal
 
 abbrev pub invariant-loop-line : goal.invariant-loop-line
 invariant-loop-line l = record {
-  names : with_lines (Ok l.names.items) l.number l.slot l.lines ≡ names_in l.source;
+  names : with_lines (Ok l.names) l.number l.slot l.lines ≡ names_in l.source;
   lines : l.number + length l.lines ≤ length l.source;
   slots : l.slot ≤ 2 * l.number;
 }
