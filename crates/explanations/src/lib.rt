@@ -9,6 +9,7 @@ mod depths;
 mod explanation;
 mod meaning;
 mod missing;
+mod numbers;
 mod reads;
 mod slot_lines;
 
