@@ -94,6 +94,15 @@ fn write_slot_line<W: Write>(bytes: &[u8], slot: usize, out: &mut W) -> io::Resu
     )
 }
 
+/// The slot that is shown of an instruction that begins at this slot and is refused by this number: the wrong one.
+pub fn slot_shown(code: u8, slot: usize) -> usize {
+    if code == WIDE_TAIL {
+        slot.saturating_add(1)
+    } else {
+        slot
+    }
+}
+
 /// Writes the digits of a slot that is no instruction, of a file that looks like nothing else, and the line of a text.
 fn write_slot<W: Write>(
     alloc: Global,
@@ -157,7 +166,7 @@ pub fn explain<W: Write>(
     if let (Some(slot), Ok(source)) = (verdict.slot, file.source(alloc)) {
         write_instruction(alloc, &source, verdict.code, slot, out)?;
     } else if let Some(slot) = verdict.slot {
-        write_slot(alloc, file, slot, out)?;
+        write_slot(alloc, file, slot_shown(verdict.code, slot), out)?;
     }
     Ok(())
 }

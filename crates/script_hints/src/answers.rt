@@ -4,7 +4,7 @@ use crate::words::{SHOWN, words_of};
 use bpf_model::{
     CTX_BYTES, EventRefusal, KEY_BYTES, MAX_ENTRIES, MAX_REUSE, MAX_SPARE, VALUE_BYTES,
 };
-use explanations::{explain, meaning_of};
+use explanations::{explain, meaning_of, slot_shown};
 use maps::MapFault;
 use program_files::{FileBytes, Verdict};
 use script_lines::{ScriptCommand, ShapeNumbers, number_of, parse_line};
@@ -360,7 +360,7 @@ fn write_why<W: Write>(
     }
     write_meaning(out, code)?;
     match slot {
-        Some(slot) => write_slot(out, words, slot),
+        Some(slot) => write_slot(out, words, slot_shown(code, slot)),
         None => write_cause(out, made, command, words, code),
     }
 }
