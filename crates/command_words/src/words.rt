@@ -6,6 +6,7 @@ use crate::help::{
 };
 use crate::request::{
     AsmForm, BpfrtCommand, Checking, FilterFile, MapElement, SingleRun, VERSION, WordsFault,
+    classic_file,
 };
 use clap::error::ErrorKind;
 use clap::{Arg, ArgAction, ArgMatches};
@@ -316,7 +317,7 @@ fn tip_of_word(alloc: Global, words: &[String], text: &str) -> Result<Option<Str
         )?));
     }
     let tip = if command == "filter" && !word.starts_with('-') {
-        Some(FILTER_TIP)
+        Some(classic_file(kind_of(words)))
     } else {
         tip_of_option(word)
     };
@@ -326,8 +327,15 @@ fn tip_of_word(alloc: Global, words: &[String], text: &str) -> Result<Option<Str
     }
 }
 
-/// What FILE of `filter` is.
-const FILTER_TIP: &str = "FILE is what `tcpdump -ddd EXPRESSION` writes";
+/// Which data the words of `filter` tell of.
+fn kind_of(words: &[String]) -> Data {
+    for word in words {
+        if word.as_str() == "--seccomp" {
+            return Data::Seccomp;
+        }
+    }
+    Data::Packet
+}
 
 /// Where FILE stands among words that have `--map`.
 const MAP_TIP: &str =
