@@ -43,7 +43,7 @@ pub struct Made {
 }
 
 /// The number of a map's or a program's making after that of the world.
-const TOO_LATE: u8 = 56;
+const SEALED: u8 = 56;
 
 /// The least number that is none of a program's own.
 const FIRST_OF_SCRIPTS: u8 = 50;
@@ -303,7 +303,7 @@ fn write_cause<W: Write>(
         ScriptCommand::Map { shape, .. } if code == MapFault::BadShape.code() => {
             write_shape(out, shape)
         }
-        _ if code == TOO_LATE => writeln!(
+        _ if code == SEALED => writeln!(
             out,
             "  `map` and `load` stand above the first line that is another command"
         ),
