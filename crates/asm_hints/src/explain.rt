@@ -269,6 +269,10 @@ fn memory_words(alloc: Global, word: &str, written: &str) -> Result<String, Allo
         if !base.is_empty() && wrong_register(base.as_bytes()).is_some() {
             return simple_words(alloc, base, place_words(Place::Register));
         }
+        if is_minus_zero(number_part(Place::Memory, word)) {
+            let zero = zero_words(Place::Memory).unwrap_or(what);
+            return simple_words(alloc, offset, zero);
+        }
         let name = offset.get(1..).unwrap_or("").trim();
         if is_register(name.as_bytes()) {
             return simple_words(alloc, name, "is a register, and an offset is a number");
@@ -276,10 +280,6 @@ fn memory_words(alloc: Global, word: &str, written: &str) -> Result<String, Allo
         if is_name(name.as_bytes()) {
             let name = shortened(alloc, name)?;
             return format!(in alloc; "`{name}` is no number{UNNAMED}");
-        }
-        if is_minus_zero(offset) {
-            let zero = zero_words(Place::Memory).unwrap_or(what);
-            return simple_words(alloc, offset, zero);
         }
     }
     simple_words(alloc, written, what)
@@ -310,6 +310,9 @@ fn form_words(place: Place, word: &str) -> Option<&'static str> {
             "has a sign too many: a label has none before it, and a distance one",
         ),
         Place::Source if is_register(word.as_bytes()) => Some(place_words(Place::Register)),
+        Place::Map if is_register(word.as_bytes()) => Some(
+            "reads as a register: a map of that name is given by its number",
+        ),
         _ => None,
     }
 }

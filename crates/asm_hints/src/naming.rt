@@ -70,7 +70,7 @@ pub fn explain_name(alloc: Global, fault: &SourceFault, line: &str) -> Result<St
         SourceFault::BadName(_) => {
             let word = shortened(alloc, given_in(line))?;
             format!(in alloc;
-                "`{word}` is no name, which begins with a letter, `_` or `.` and is no register"
+                "`{word}` is no name, which begins with an ASCII letter, `_` or `.` and is no register"
             )
         }
         SourceFault::NameTwice(_) => {

@@ -1,5 +1,7 @@
 //! A line as it was written, before its plain text.
 
+use crate::naming::text_of;
+use asm_source::{Tokens, is_name};
 use std::alloc::{AllocError, Global};
 
 /// What stands behind the first word of a line.
@@ -49,22 +51,51 @@ fn is_other_blank(number: u32) -> bool {
     }
 }
 
-/// What is said of the first character of a line that is no ASCII.
-pub(crate) fn character_words(alloc: Global, line: &str) -> Result<Option<String>, AllocError> {
-    for character in line.chars() {
+/// Whether a word begins as a register does.
+fn begins_register(word: &[u8]) -> bool {
+    match word {
+        [b'r', second, ..] => second.is_ascii_digit(),
+        _ => false,
+    }
+}
+
+/// The number of the first character of a word that is no ASCII, and of a name the first that is a blank there.
+fn other_character(word: &str, is_name: bool) -> Option<u32> {
+    for character in word.chars() {
         let number = character as u32;
-        if is_other_blank(number) {
-            let words = format!(in alloc;
-                "U+{number:04X} stands here, which is a blank of another kind: write a space"
-            )?;
-            return Ok(Some(words));
+        if number > 127 && (!is_name || is_other_blank(number)) {
+            return Some(number);
         }
-        if number > 127 {
-            let words = format!(in alloc;
-                "U+{number:04X} stands here, and only comments have characters that are no ASCII"
-            )?;
-            return Ok(Some(words));
+    }
+    None
+}
+
+/// What is said of a character that is no ASCII.
+fn words_of_character(alloc: Global, number: u32) -> Result<String, AllocError> {
+    if is_other_blank(number) {
+        format!(in alloc;
+            "U+{number:04X} stands here, which is a blank of another kind: write a space"
+        )
+    } else {
+        format!(in alloc;
+            "U+{number:04X} stands here, and only names and comments have characters that are no ASCII"
+        )
+    }
+}
+
+/// What is said of the first character of a line that is no ASCII, and that no name among the operands has.
+pub(crate) fn character_words(alloc: Global, line: &str) -> Result<Option<String>, AllocError> {
+    let mut tokens = Tokens::new(line.as_bytes());
+    let mut is_operand = false;
+    for _ in 0..line.len() {
+        let Some(token) = tokens.next() else {
+            return Ok(None);
+        };
+        let is_name = is_operand && is_name(token) && !begins_register(token);
+        if let Some(number) = other_character(text_of(token), is_name) {
+            return Ok(Some(words_of_character(alloc, number)?));
         }
+        is_operand = true;
     }
     Ok(None)
 }

@@ -2,10 +2,12 @@
 #![tactic(auto)]
 
 mod answers;
+mod input;
 mod progress;
 mod recent;
 
 use crate::answers::{Answers, Heard};
+use crate::input::Input;
 use crate::progress::Progress;
 use crate::recent::Recent;
 use commands::{BpfrtCommand, WordsFault, explain_script, no_command, parse_words, run, unread};
@@ -19,18 +21,13 @@ use std::thread::Threads;
 use std::{env, io};
 
 /// Why a file cannot be opened, unless memory ran out.
-fn reason(command: &BpfrtCommand, path: &str, kind: ErrorKind) -> Option<&'static str> {
+fn reason(path: &str, kind: ErrorKind) -> Option<&'static str> {
     match kind {
         ErrorKind::OutOfMemory => None,
         ErrorKind::NotFound if path == "-" => Some(
             "there is no such file; standard input is /dev/stdin",
         ),
-        ErrorKind::NotFound => Some(match command {
-            BpfrtCommand::Filter { .. } => {
-                "there is no such file; FILE is what `tcpdump -ddd EXPRESSION` writes"
-            }
-            _ => "there is no such file",
-        }),
+        ErrorKind::NotFound => Some("there is no such file"),
         ErrorKind::PermissionDenied => Some("it may not be read"),
         ErrorKind::IsADirectory => Some("it is a folder"),
         ErrorKind::NotADirectory => Some("a part of its path is no folder"),
@@ -41,9 +38,15 @@ fn reason(command: &BpfrtCommand, path: &str, kind: ErrorKind) -> Option<&'stati
 /// Writes the fault of a file that cannot be opened, and behind it a line with its name and the reason. Answers the status.
 fn unopened<E: Write>(err: &mut E, command: &BpfrtCommand, path: &str, error: &Error) -> u8 {
     let status = unread(err, error);
-    if let Some(reason) = reason(command, path, error.kind()) {
-        let _ = writeln!(err, "{path:?}: {reason}");
-    }
+    let Some(reason) = reason(path, error.kind()) else {
+        return status;
+    };
+    let _ = match command.other_file() {
+        Some(file) if error.kind() == ErrorKind::NotFound => {
+            writeln!(err, "{path:?}: {reason}; {file}")
+        }
+        _ => writeln!(err, "{path:?}: {reason}"),
+    };
     status
 }
 
@@ -92,7 +95,14 @@ fn run_into<H: Threads + Wait + Sync, W: Write>(
     match command.file() {
         None => run(threads, alloc, command, &mut rt.stdin(), out, &mut err),
         Some(path) => match opened(rt, path) {
-            Ok(mut file) => run(threads, alloc, command, &mut file, out, &mut err),
+            Ok(file) => {
+                let mut input = Input::new(file);
+                let status = run(threads, alloc, command, &mut input, out, &mut err);
+                if input.is_unread() {
+                    let _ = writeln!(err, "{path:?}: it cannot be read");
+                }
+                status
+            }
             Err(error) => unopened(&mut err, command, path, &error),
         },
     }

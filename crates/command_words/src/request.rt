@@ -141,7 +141,23 @@ impl<T: Drop> From<AllocFailed<T>> for WordsFault {
     }
 }
 
+/// What FILE of `filter` is, of a classic program that judges such data.
+pub(crate) fn classic_file(kind: Data) -> &'static str {
+    match kind {
+        Data::Packet => "FILE is what `tcpdump -ddd EXPRESSION` writes",
+        Data::Seccomp => "FILE is a policy of system calls, as libseccomp exports it",
+    }
+}
+
 impl BpfrtCommand {
+    /// What the file is that the command reads, in words, where it is no program file and no text.
+    pub fn other_file(&self) -> Option<&'static str> {
+        match self {
+            BpfrtCommand::Filter { kind, .. } => Some(classic_file(*kind)),
+            _ => None,
+        }
+    }
+
     /// The path of the file that the command reads; none where it reads standard input, or nothing.
     pub fn file(&self) -> Option<&str> {
         match self {

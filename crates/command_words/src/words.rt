@@ -6,6 +6,7 @@ use crate::help::{
 };
 use crate::request::{
     AsmForm, BpfrtCommand, Checking, FilterFile, MapElement, SingleRun, VERSION, WordsFault,
+    classic_file,
 };
 use clap::error::ErrorKind;
 use clap::{Arg, ArgAction, ArgMatches};
@@ -316,7 +317,7 @@ fn tip_of_word(alloc: Global, words: &[String], text: &str) -> Result<Option<Str
         )?));
     }
     let tip = if command == "filter" && !word.starts_with('-') {
-        Some(FILTER_TIP)
+        Some(classic_file(kind_of(words)))
     } else {
         tip_of_option(word)
     };
@@ -326,8 +327,15 @@ fn tip_of_word(alloc: Global, words: &[String], text: &str) -> Result<Option<Str
     }
 }
 
-/// What FILE of `filter` is.
-const FILTER_TIP: &str = "FILE is what `tcpdump -ddd EXPRESSION` writes";
+/// Which data the words of `filter` tell of.
+fn kind_of(words: &[String]) -> Data {
+    for word in words {
+        if word.as_str() == "--seccomp" {
+            return Data::Seccomp;
+        }
+    }
+    Data::Packet
+}
 
 /// Where FILE stands among words that have `--map`.
 const MAP_TIP: &str =
@@ -364,12 +372,30 @@ fn told_by_clap(
     }
 }
 
+/// What `clap` says of `help help`, for words that it takes for a command of that name.
+const HELP_OF_HELP: &str = "\
+Print this message or the help of the given subcommand(s)
+
+Usage: bpfrt help [COMMAND]...
+
+Arguments:
+  [COMMAND]...  Print help for the subcommand(s)";
+
+/// Whether the words ask for the help of `help` by an option.
+fn asks_for_help_of_help(words: &[String]) -> bool {
+    let option = words.get(2).map_or("", String::as_str);
+    words.get(1).map_or("", String::as_str) == "help" && (option == "--help" || option == "-h")
+}
+
 /// Why the words are no command. `clap` finds no command near a word that differs from it in every
 /// letter's case.
 fn usage(alloc: Global, error: &clap::Error, words: &[String]) -> WordsFault {
     let first = words.get(1).map_or("", String::as_str);
     match (error.kind(), command_in_other_case(first)) {
         (ErrorKind::OutOfMemory, _) => WordsFault::Memory,
+        (ErrorKind::InvalidSubcommand, _) if asks_for_help_of_help(words) => {
+            usage_fault(alloc, String::from_str(alloc, HELP_OF_HELP))
+        }
         (ErrorKind::InvalidSubcommand, Some(name)) => {
             let text = format!(in alloc;
                 "\

@@ -38,11 +38,16 @@ fn numbers_of(state: &AbsState, src: &Operand) -> Option<Scalar> {
 enum Unmoved {
     /// A reference to the frame is moved by one number alone.
     ManyInFrame,
+    /// The number may be negative or not, so that it has no bounds.
+    EitherSign,
     /// The number may be too great, either way.
     FarNumber,
     /// Where the reference leads then may be too far from the start of its region.
     FarOffset,
 }
+
+/// The least number that is negative where it is read with a sign.
+const SIGN: u64 = 1 << 63;
 
 /// Why a reference of this kind is not moved by one of these numbers.
 fn why_unmoved(kind: &RegKind, by: &Scalar) -> Unmoved {
@@ -52,6 +57,8 @@ fn why_unmoved(kind: &RegKind, by: &Scalar) -> Unmoved {
     }
     if by.greatest <= NEAR_LIMIT || by.least > u64::MAX - NEAR_LIMIT {
         Unmoved::FarOffset
+    } else if by.least < SIGN && by.greatest >= SIGN {
+        Unmoved::EitherSign
     } else {
         Unmoved::FarNumber
     }
@@ -81,6 +88,13 @@ fn write_unmoved<W: Write>(
             writeln!(
                 out,
                 " is not known as one number, and a pointer to the frame is moved by one alone"
+            )
+        }
+        Unmoved::EitherSign => {
+            write_operand(out, src)?;
+            writeln!(
+                out,
+                " may be negative or not, so it has no bounds: test its sign first, by `jslt`, or bound it by `and64` or `jgt`"
             )
         }
         Unmoved::FarNumber if by.least == by.greatest => {

@@ -2,28 +2,17 @@
 
 use crate::arithmetic::write_arithmetic;
 use crate::bounds::write_bounds;
-use bpf_model::{ArgumentKind, CallKind, FRAME_BYTES, Helper, Insn, MapId, MapShape, Operand};
+use crate::numbers::{
+    JUMP_TARGET, NO_SUCH_MAP, OUT_OF_BOUNDS, OUTSIDE_SECTION, POINTER_ARITHMETIC, POINTER_LEAK,
+    UNKNOWN_CALL, UNPAIRED_SECTION, WRONG_ARGUMENT,
+};
+use bpf_model::{
+    ArgumentKind, CallKind, FRAME_BYTES, Helper, Insn, MapId, MapShape, Operand, ResultKind,
+};
 use program_files::Source;
-use register_kinds::{AbsState, RegKind};
+use register_kinds::{AbsState, RegKind, is_array};
 use std::io;
 use std::io::Write;
-
-/// The numbers of the refusals that have a cause here.
-const JUMP_TARGET: u8 = 20;
-
-const POINTER_ARITHMETIC: u8 = 25;
-
-const OUT_OF_BOUNDS: u8 = 27;
-
-const POINTER_LEAK: u8 = 30;
-
-const UNPAIRED_SECTION: u8 = 34;
-
-const UNKNOWN_CALL: u8 = 35;
-
-const WRONG_ARGUMENT: u8 = 36;
-
-const NO_SUCH_MAP: u8 = 37;
 
 /// Which functions there are.
 pub const FUNCTIONS: &str =
@@ -152,6 +141,40 @@ fn led_to(kind: ArgumentKind, shape: MapShape) -> Option<(&'static str, usize)> 
     }
 }
 
+/// The shape of the map that the first argument of a call is.
+pub fn shape_of_call(source: &Source, state: &AbsState) -> Option<MapShape> {
+    match state.regs.get(1) {
+        Some(RegKind::Map(map)) => source.registry.shape(MapId::new(*map as usize)),
+        _ => None,
+    }
+}
+
+/// Whether a call of a helper gives an element, and is made outside every section with what is no array.
+pub fn is_outside(source: &Source, state: &AbsState, helper: Helper) -> bool {
+    let by_array = match shape_of_call(source, state) {
+        Some(shape) => is_array(&[shape], 0),
+        None => false,
+    };
+    helper.result() == ResultKind::ElementOrNull && state.depth == 0 && !by_array
+}
+
+/// Writes that a lookup is made outside a section, where it is.
+fn write_lookup<W: Write>(
+    out: &mut W,
+    source: &Source,
+    state: &AbsState,
+    helper: Helper,
+) -> io::Result<()> {
+    if is_outside(source, state, helper) {
+        writeln!(
+            out,
+            "  the lookup is made outside a section, and r1 is no array"
+        )
+    } else {
+        Ok(())
+    }
+}
+
 /// Writes which bytes that an argument leads to lie outside the frame.
 fn write_outside<W: Write>(
     out: &mut W,
@@ -159,11 +182,7 @@ fn write_outside<W: Write>(
     state: &AbsState,
     helper: Helper,
 ) -> io::Result<()> {
-    let shape = match state.regs.get(1) {
-        Some(RegKind::Map(map)) => source.registry.shape(MapId::new(*map as usize)),
-        _ => None,
-    };
-    let Some(shape) = shape else {
+    let Some(shape) = shape_of_call(source, state) else {
         return Ok(());
     };
     for (index, kind) in helper.arguments().iter().enumerate() {
@@ -219,7 +238,7 @@ fn write_section<W: Write>(out: &mut W, insn: &Insn, depth: usize) -> io::Result
 }
 
 /// The helper that an instruction calls.
-fn helper_of(insn: &Insn) -> Option<Helper> {
+pub fn helper_of(insn: &Insn) -> Option<Helper> {
     match insn {
         Insn::Call {
             kind: CallKind::Helper,
@@ -241,6 +260,7 @@ pub fn write_known_cause<W: Write>(
         (WRONG_ARGUMENT, Some(helper)) => write_argument(out, state, helper),
         (OUT_OF_BOUNDS, Some(helper)) => write_outside(out, source, state, helper),
         (OUT_OF_BOUNDS, None) => write_bounds(out, source, insn, state),
+        (OUTSIDE_SECTION, Some(helper)) => write_lookup(out, source, state, helper),
         (POINTER_ARITHMETIC, _) => write_arithmetic(out, insn, state),
         (POINTER_LEAK, _) => write_leak(out, insn, state),
         (UNPAIRED_SECTION, _) => write_section(out, insn, state.depth),

@@ -5,7 +5,8 @@ ghost use Rattle.bpf_model.specs.declared.limits.TheConstants.{CTX_BYTES};
 use crate::causes::{write_cause, write_known_cause};
 use crate::depths::write_depths;
 use crate::meaning::meaning_of;
-use crate::missing::{write_loaded, write_missing};
+use crate::missing::write_bytes_read;
+use crate::numbers::{UNPAIRED_SECTION, WIDE_TAIL};
 use crate::reads::registers_read;
 use crate::slot_lines::{SlotPlace, place_of_slot};
 use bpf_model::Insn;
@@ -47,17 +48,6 @@ fn write_known<W: Write>(
     writeln!(out, "  locks that are not given up: {depth}")
 }
 
-/// The number of a refusal for bytes of the frame that are not written on every path.
-const UNWRITTEN_FRAME: u8 = 29;
-
-/// The numbers of refusals for a reference that is read in part, and for what is of different kinds on different paths.
-const POINTER_LEAK: u8 = 30;
-
-const MIXED_REGIONS: u8 = 31;
-
-/// The number of a refusal for locks, also where paths that have other numbers of them open meet.
-const UNPAIRED_SECTION: u8 = 34;
-
 /// Writes the text of the instruction at which a program is refused by this number, and what was known there.
 fn write_instruction<W: Write>(
     alloc: Global,
@@ -83,12 +73,7 @@ fn write_instruction<W: Write>(
     if let Some(state) = known_where_refused(alloc, source)? {
         write_known(out, source, insn, &state)?;
         write_known_cause(out, source, insn, code, &state)?;
-        if code == UNWRITTEN_FRAME {
-            write_missing(out, source, insn, &state)?;
-        }
-        if code == POINTER_LEAK || code == MIXED_REGIONS {
-            write_loaded(out, source, insn, &state)?;
-        }
+        write_bytes_read(out, source, insn, code, &state)?;
     }
     Ok(())
 }
@@ -107,6 +92,15 @@ fn write_slot_line<W: Write>(bytes: &[u8], slot: usize, out: &mut W) -> io::Resu
         out,
         "  line {line} of the file, slot {number} of {among} there"
     )
+}
+
+/// The slot that is shown of an instruction that begins at this slot and is refused by this number: the wrong one.
+pub fn slot_shown(code: u8, slot: usize) -> usize {
+    if code == WIDE_TAIL {
+        slot.saturating_add(1)
+    } else {
+        slot
+    }
 }
 
 /// Writes the digits of a slot that is no instruction, of a file that looks like nothing else, and the line of a text.
@@ -152,7 +146,7 @@ fn write_source<W: Write>(file: &FileBytes, verdict: &Verdict, out: &mut W) -> i
 
 /// Writes what a verdict on a program file means: a line with its name and its meaning; and where it is of an
 /// instruction, that one's text, what each register that it reads may hold, how many locks are open, by the path where that
-/// differs, and which byte of the frame is missing. The frame is told from r10 on, maps by their place in the program's list and their names. Where
+/// differs, and which byte of the frame is the cause. The frame is told from r10 on, maps by their place in the program's list and their names. Where
 /// a line of the file is wrong, it is shown, with what it may be; bytes that are read as slots and are none may look like
 /// something else, and then that is said.
 ///
@@ -172,7 +166,7 @@ pub fn explain<W: Write>(
     if let (Some(slot), Ok(source)) = (verdict.slot, file.source(alloc)) {
         write_instruction(alloc, &source, verdict.code, slot, out)?;
     } else if let Some(slot) = verdict.slot {
-        write_slot(alloc, file, slot, out)?;
+        write_slot(alloc, file, slot_shown(verdict.code, slot), out)?;
     }
     Ok(())
 }

@@ -9,9 +9,10 @@ mod depths;
 mod explanation;
 mod meaning;
 mod missing;
+mod numbers;
 mod reads;
 mod slot_lines;
 
 pub use causes::FUNCTIONS;
-pub use explanation::explain;
+pub use explanation::{explain, slot_shown};
 pub use meaning::{Meaning, meaning_of};

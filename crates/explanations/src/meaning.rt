@@ -84,7 +84,7 @@ fn of_access(code: u8) -> Option<Meaning> {
         ),
         30 => means(
             "PointerLeak",
-            "a pointer or map is stored to an element, stored or read in part, or returned by EXIT",
+            "a pointer or map is stored to an element, stored or read in part, part of a call's key or value, or returned by EXIT",
         ),
         _ => None,
     }

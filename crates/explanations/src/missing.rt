@@ -1,7 +1,9 @@
 //! Which bytes of the frame an instruction reads, and what is known of them.
 
 use crate::access::loaded;
-use bpf_model::{ArgumentKind, CallKind, FRAME_BYTES, Helper, Insn, MapId, MapShape, Reg};
+use crate::causes::{helper_of, is_outside, shape_of_call};
+use crate::numbers::{MIXED_REGIONS, OUTSIDE_SECTION, POINTER_LEAK, UNWRITTEN_FRAME};
+use bpf_model::{ArgumentKind, FRAME_BYTES, Helper, Insn, Reg};
 use program_files::Source;
 use register_kinds::{AbsState, RegKind, check_bytes};
 use std::io;
@@ -35,14 +37,6 @@ fn part_at(
     })
 }
 
-/// The shape of the map that the first argument of a call is.
-fn shape_of_call(source: &Source, state: &AbsState) -> Option<MapShape> {
-    match state.regs.get(1) {
-        Some(RegKind::Map(map)) => source.registry.shape(MapId::new(*map as usize)),
-        _ => None,
-    }
-}
-
 /// The bytes that an argument of a helper leads to, by the kind of the argument.
 fn part_of_argument(
     source: &Source,
@@ -58,48 +52,97 @@ fn part_of_argument(
     }
 }
 
-/// The first byte of these that is not written on every path.
-fn missing_in(state: &AbsState, part: FramePart) -> Option<usize> {
+/// What is said of a byte of the frame for which a program is refused by this number.
+fn byte_words(code: u8) -> Option<&'static str> {
+    match code {
+        UNWRITTEN_FRAME => Some("not written on every path"),
+        POINTER_LEAK => Some("part of a pointer or map"),
+        MIXED_REGIONS => Some("of different kinds on different paths"),
+        OUTSIDE_SECTION => Some(
+            "on some path part of a reference to an element, whose section has ended",
+        ),
+        _ => None,
+    }
+}
+
+/// The first of these bytes for which a program is refused by this number.
+fn first_refused(state: &AbsState, part: FramePart, code: u8) -> Option<usize> {
     let end = part.first.saturating_add(part.length).min(FRAME_BYTES);
     for at in part.first..end {
-        if check_bytes(&state.frame, at, 1).is_err() {
-            return Some(at);
+        if let Err(fault) = check_bytes(&state.frame, at, 1) {
+            if fault.code() == code {
+                return Some(at);
+            }
         }
     }
     None
 }
 
-/// Writes the first of these bytes that is not written on every path, counted from r10, if one is not.
-fn write_missing_in<W: Write>(out: &mut W, state: &AbsState, part: FramePart) -> io::Result<bool> {
-    let Some(at) = missing_in(state, part) else {
-        return Ok(false);
+/// Writes the first of these bytes for which a program is refused by this number, counted from r10, if there is one, and
+/// answers it.
+fn write_first_in<W: Write>(
+    out: &mut W,
+    state: &AbsState,
+    part: FramePart,
+    code: u8,
+) -> io::Result<Option<usize>> {
+    let (Some(words), Some(at)) = (byte_words(code), first_refused(state, part, code)) else {
+        return Ok(None);
     };
-    let missing = FRAME_BYTES.saturating_sub(at);
+    let byte = FRAME_BYTES.saturating_sub(at);
     let start = FRAME_BYTES.saturating_sub(part.first);
     let what = part.what;
     let length = part.length;
     writeln!(
         out,
-        "  not written on every path: r10-{missing} ({what} at r10-{start}, length {length})"
+        "  {words}: r10-{byte} ({what} at r10-{start}, length {length})"
     )?;
+    Ok(Some(at))
+}
+
+/// Writes as `write_first_in` does, and below it the pointer or map of which the byte is part. Whether there is such a byte.
+fn write_first_of_part<W: Write>(
+    out: &mut W,
+    source: &Source,
+    state: &AbsState,
+    part: FramePart,
+    code: u8,
+) -> io::Result<bool> {
+    let Some(at) = write_first_in(out, state, part, code)? else {
+        return Ok(false);
+    };
+    let group = at / 8;
+    if code == POINTER_LEAK && group < 64 {
+        write_group(out, source, &state.frame, group)?;
+    }
     Ok(true)
 }
 
-/// Writes the first byte that the arguments of a helper lead to and that is not written on every path.
-fn write_missing_of_call<W: Write>(
+/// Whether an argument of this kind leads to bytes.
+fn leads_to_bytes(kind: ArgumentKind) -> bool {
+    matches!(kind, ArgumentKind::KeyOfMap | ArgumentKind::ValueOfMap)
+}
+
+/// Writes the first byte to which the arguments of a helper lead and for which it is refused by this number.
+fn write_first_of_call<W: Write>(
     out: &mut W,
     source: &Source,
     state: &AbsState,
     helper: Helper,
+    code: u8,
 ) -> io::Result<()> {
     for (index, kind) in helper.arguments().iter().enumerate() {
         let Some(register) = Reg::new(index as u8 + 1) else {
             return Ok(());
         };
-        if let Some(part) = part_of_argument(source, state, register, *kind) {
-            if write_missing_in(out, state, part)? {
-                return Ok(());
+        match part_of_argument(source, state, register, *kind) {
+            Some(part) => {
+                if write_first_of_part(out, source, state, part, code)? {
+                    return Ok(());
+                }
             }
+            None if leads_to_bytes(*kind) => return Ok(()),
+            None => {}
         }
     }
     Ok(())
@@ -111,43 +154,40 @@ fn part_of_load(insn: &Insn, state: &AbsState) -> Option<FramePart> {
     part_at(state, access.base, access.offset, "read", access.length)
 }
 
-/// Writes a line for the first byte of the frame that the instruction reads and that is not written on every path.
-pub fn write_missing<W: Write>(
-    out: &mut W,
-    source: &Source,
-    insn: &Insn,
-    state: &AbsState,
-) -> io::Result<()> {
-    if let Some(part) = part_of_load(insn, state) {
-        write_missing_in(out, state, part)?;
-        return Ok(());
-    }
-    match insn {
-        Insn::Call {
-            kind: CallKind::Helper,
-            imm,
-        } => match Helper::from_number(*imm) {
-            Some(helper) => write_missing_of_call(out, source, state, helper),
-            None => Ok(()),
-        },
-        _ => Ok(()),
-    }
-}
-
 /// Writes a line for the eight bytes of the frame of which a load reads some, as a log has it.
-pub fn write_loaded<W: Write>(
+fn write_loaded<W: Write>(
     out: &mut W,
     source: &Source,
-    insn: &Insn,
     state: &AbsState,
+    part: FramePart,
 ) -> io::Result<()> {
-    let Some(part) = part_of_load(insn, state) else {
-        return Ok(());
-    };
     let group = part.first / 8;
     if group >= 64 || write_group(out, source, &state.frame, group)? {
         return Ok(());
     }
     let below = FRAME_BYTES.saturating_sub(group.saturating_mul(8));
     writeln!(out, "  r10-{below}: of different kinds on different paths")
+}
+
+/// Writes which bytes of the frame that an instruction reads are the cause of its refusal by this number, if some are.
+pub fn write_bytes_read<W: Write>(
+    out: &mut W,
+    source: &Source,
+    insn: &Insn,
+    code: u8,
+    state: &AbsState,
+) -> io::Result<()> {
+    if let Some(part) = part_of_load(insn, state) {
+        if code == POINTER_LEAK || code == MIXED_REGIONS {
+            return write_loaded(out, source, state, part);
+        }
+        write_first_in(out, state, part, code)?;
+        return Ok(());
+    }
+    match helper_of(insn) {
+        Some(helper) if !is_outside(source, state, helper) => {
+            write_first_of_call(out, source, state, helper, code)
+        }
+        _ => Ok(()),
+    }
 }

@@ -4,7 +4,7 @@ use crate::words::{SHOWN, words_of};
 use bpf_model::{
     CTX_BYTES, EventRefusal, KEY_BYTES, MAX_ENTRIES, MAX_REUSE, MAX_SPARE, VALUE_BYTES,
 };
-use explanations::{explain, meaning_of};
+use explanations::{explain, meaning_of, slot_shown};
 use maps::MapFault;
 use program_files::{FileBytes, Verdict};
 use script_lines::{ScriptCommand, ShapeNumbers, number_of, parse_line};
@@ -43,7 +43,7 @@ pub struct Made {
 }
 
 /// The number of a map's or a program's making after that of the world.
-const TOO_LATE: u8 = 56;
+const SEALED: u8 = 56;
 
 /// The least number that is none of a program's own.
 const FIRST_OF_SCRIPTS: u8 = 50;
@@ -70,14 +70,19 @@ pub fn outcome_of(answer: &[u8]) -> Option<Outcome> {
     }))
 }
 
+/// A word as text, if it is one.
+fn text_of(word: &[u8]) -> &str {
+    str::from_utf8(word).unwrap_or("")
+}
+
 /// Words with one space between them.
-fn joined(alloc: Global, words: &[&str]) -> Result<String, AllocError> {
+fn joined(alloc: Global, words: &[&[u8]]) -> Result<String, AllocError> {
     let mut text = String::new(alloc);
     for word in words {
         if !text.is_empty() {
             text.push(' ')?;
         }
-        text.push_str(word)?;
+        text.push_str(text_of(word))?;
     }
     Ok(text)
 }
@@ -96,11 +101,11 @@ impl Made {
         &mut self,
         alloc: Global,
         command: &ScriptCommand<'_>,
-        words: &[&str],
+        words: &[&[u8]],
     ) -> Result<(), AllocError> {
         match command {
             ScriptCommand::Map { shape, .. } => self.maps.push(MadeMap {
-                name: String::from_str(alloc, word_at(words, 1))?,
+                name: String::from_str(alloc, text_of(word_at(words, 1)))?,
                 shape: *shape,
                 line: joined(alloc, words)?,
             })?,
@@ -111,9 +116,9 @@ impl Made {
     }
 
     /// The map of a name.
-    fn map_named(&self, name: &str) -> Option<&MadeMap> {
+    fn map_named(&self, name: &[u8]) -> Option<&MadeMap> {
         for map in &self.maps {
-            if map.name.as_str() == name {
+            if map.name.as_bytes() == name {
                 return Some(map);
             }
         }
@@ -122,16 +127,25 @@ impl Made {
 }
 
 /// The word in this place.
-fn word_at<'a>(words: &[&'a str], place: usize) -> &'a str {
+fn word_at<'a>(words: &[&'a [u8]], place: usize) -> &'a [u8] {
     match words.get(place) {
         Some(word) => word,
-        None => "",
+        None => &[],
     }
 }
 
+/// Whether a line begins with this word.
+fn begins_with(words: &[&[u8]], word: &[u8]) -> bool {
+    word_at(words, 0) == word
+}
+
 /// How many bytes a word writes.
-fn bytes_in(word: &str) -> usize {
-    if word == "-" { 0 } else { word.len() / 2 }
+fn bytes_in(word: &[u8]) -> usize {
+    if word == b"-".as_slice() {
+        0
+    } else {
+        word.len() / 2
+    }
 }
 
 /// A number of a shape as a length.
@@ -140,8 +154,8 @@ fn length_of(number: u64) -> usize {
 }
 
 /// The number that a word is.
-fn number_in(word: &str) -> u64 {
-    number_of(word.as_bytes()).unwrap_or(0)
+fn number_in(word: &[u8]) -> u64 {
+    number_of(word).unwrap_or(0)
 }
 
 /// Writes that bytes of an element have another length than those of its map, where they have.
@@ -162,14 +176,14 @@ pub fn write_length<W: Write>(
 }
 
 /// Writes which of a line's bytes have another length than its map's.
-fn write_misfit<W: Write>(out: &mut W, made: &Made, words: &[&str]) -> io::Result<()> {
+fn write_misfit<W: Write>(out: &mut W, made: &Made, words: &[&[u8]]) -> io::Result<()> {
     let Some(map) = made.map_named(word_at(words, 1)) else {
         return Ok(());
     };
     let (name, shape) = (map.name.as_str(), map.shape);
     let key = bytes_in(word_at(words, 2));
     write_length(out, name, "KEY", key, length_of(shape.key_len))?;
-    if word_at(words, 0) != "put" {
+    if !begins_with(words, b"put") {
         return Ok(());
     }
     let value = bytes_in(word_at(words, 3));
@@ -190,12 +204,12 @@ fn write_names<W: Write>(out: &mut W, made: &Made) -> io::Result<()> {
 }
 
 /// Writes which of a line's names is no map's: of `load` the first of several, of others the one.
-fn write_no_map<W: Write>(out: &mut W, made: &Made, words: &[&str]) -> io::Result<()> {
-    let first = if word_at(words, 0) == "load" { 3 } else { 1 };
+fn write_no_map<W: Write>(out: &mut W, made: &Made, words: &[&[u8]]) -> io::Result<()> {
+    let first = if begins_with(words, b"load") { 3 } else { 1 };
     for name in words.iter().skip(first) {
         if made.map_named(name).is_none() {
             write!(out, "  no map is called ")?;
-            write_quoted(out, name.as_bytes(), SHOWN)?;
+            write_quoted(out, name, SHOWN)?;
             write!(out, "; ")?;
             return write_names(out, made);
         }
@@ -228,9 +242,9 @@ fn write_shape<W: Write>(out: &mut W, shape: &ShapeNumbers) -> io::Result<()> {
 }
 
 /// Writes what is wrong with a context.
-fn write_context<W: Write>(out: &mut W, made: &Made, words: &[&str]) -> io::Result<()> {
+fn write_context<W: Write>(out: &mut W, made: &Made, words: &[&[u8]]) -> io::Result<()> {
     let number = number_in(word_at(words, 1));
-    if word_at(words, 0) == "load" {
+    if begins_with(words, b"load") {
         return writeln!(out, "  CTXLEN is {number}, and may be 0 to {CTX_BYTES}");
     }
     let place = usize::try_from(number).unwrap_or(usize::MAX);
@@ -254,9 +268,9 @@ fn write_programs<W: Write>(out: &mut W, made: &Made) -> io::Result<()> {
 }
 
 /// Writes that a name is none of a map's.
-fn write_bad_name<W: Write>(out: &mut W, name: &str) -> io::Result<()> {
+fn write_bad_name<W: Write>(out: &mut W, name: &[u8]) -> io::Result<()> {
     write!(out, "  ")?;
-    write_quoted(out, name.as_bytes(), SHOWN)?;
+    write_quoted(out, name, SHOWN)?;
     write!(out, " is to be ")?;
     write_name_rule(out)?;
     writeln!(out)
@@ -267,7 +281,7 @@ fn write_cause<W: Write>(
     out: &mut W,
     made: &Made,
     command: &ScriptCommand<'_>,
-    words: &[&str],
+    words: &[&[u8]],
     code: u8,
 ) -> io::Result<()> {
     if code == EventRefusal::NoMap.code() {
@@ -289,7 +303,7 @@ fn write_cause<W: Write>(
         ScriptCommand::Map { shape, .. } if code == MapFault::BadShape.code() => {
             write_shape(out, shape)
         }
-        _ if code == TOO_LATE => writeln!(
+        _ if code == SEALED => writeln!(
             out,
             "  `map` and `load` stand above the first line that is another command"
         ),
@@ -298,8 +312,8 @@ fn write_cause<W: Write>(
 }
 
 /// The lines of a program file above the slots, for a `load` of these words.
-fn head_of(alloc: Global, made: &Made, words: &[&str]) -> Result<String, AllocError> {
-    let context = word_at(words, 1);
+fn head_of(alloc: Global, made: &Made, words: &[&[u8]]) -> Result<String, AllocError> {
+    let context = text_of(word_at(words, 1));
     let mut text = format!(in alloc; "bpfrt 1\nctx {context}\n")?;
     for name in words.iter().skip(3) {
         if let Some(map) = made.map_named(name) {
@@ -312,9 +326,9 @@ fn head_of(alloc: Global, made: &Made, words: &[&str]) -> Result<String, AllocEr
 }
 
 /// The program file that a `load` of these words says.
-fn file_of(alloc: Global, made: &Made, words: &[&str]) -> Result<Vec<u8>, AllocError> {
+fn file_of(alloc: Global, made: &Made, words: &[&[u8]]) -> Result<Vec<u8>, AllocError> {
     let mut text = head_of(alloc, made, words)?.into_bytes();
-    for slot in word_at(words, 2).as_bytes().chunks(16) {
+    for slot in word_at(words, 2).chunks(16) {
         text.extend_from_slice(slot)?;
         text.push(b'\n')?;
     }
@@ -322,10 +336,13 @@ fn file_of(alloc: Global, made: &Made, words: &[&str]) -> Result<Vec<u8>, AllocE
 }
 
 /// Writes the digits of the slot that is no instruction.
-fn write_slot<W: Write>(out: &mut W, words: &[&str], slot: usize) -> io::Result<()> {
+fn write_slot<W: Write>(out: &mut W, words: &[&[u8]], slot: usize) -> io::Result<()> {
     let first = slot.saturating_mul(16);
     match word_at(words, 2).get(first..first.saturating_add(16)) {
-        Some(digits) => writeln!(out, "at {slot}: {digits}"),
+        Some(digits) => {
+            let digits = text_of(digits);
+            writeln!(out, "at {slot}: {digits}")
+        }
         None => Ok(()),
     }
 }
@@ -345,7 +362,7 @@ fn write_why<W: Write>(
     out: &mut W,
     made: &Made,
     command: &ScriptCommand<'_>,
-    words: &[&str],
+    words: &[&[u8]],
     refusal: Refusal,
 ) -> io::Result<()> {
     let Refusal { code, slot } = refusal;
@@ -360,7 +377,7 @@ fn write_why<W: Write>(
     }
     write_meaning(out, code)?;
     match slot {
-        Some(slot) => write_slot(out, words, slot),
+        Some(slot) => write_slot(out, words, slot_shown(code, slot)),
         None => write_cause(out, made, command, words, code),
     }
 }
@@ -377,7 +394,7 @@ fn take<W: Write>(
     let Ok(Some(command)) = parse_line(line) else {
         return Ok(());
     };
-    let words = words_of(alloc, str::from_utf8(line).unwrap_or(""))?;
+    let words = words_of(alloc, line)?;
     match outcome {
         Outcome::Done => {
             made.add(alloc, &command, &words)?;

@@ -39,9 +39,9 @@ fn form_of(name: &str) -> Option<&'static str> {
 }
 
 /// What the words behind `map` are to be.
-fn due_of_map(alloc: Global, words: &[&str]) -> Result<Vec<Due>, AllocError> {
+fn due_of_map(alloc: Global, words: &[&[u8]]) -> Result<Vec<Due>, AllocError> {
     let due = match words.get(2) {
-        Some(word) if *word == "array" => {
+        Some(word) if *word == b"array".as_slice() => {
             vec![in alloc; Due::Name, Due::Name, Due::Number, Due::Number]?
         }
         _ => {
@@ -59,7 +59,7 @@ fn due_of_map(alloc: Global, words: &[&str]) -> Result<Vec<Due>, AllocError> {
 }
 
 /// What the words behind `load` are to be.
-fn due_of_load(alloc: Global, words: &[&str]) -> Result<Vec<Due>, AllocError> {
+fn due_of_load(alloc: Global, words: &[&[u8]]) -> Result<Vec<Due>, AllocError> {
     let mut due = vec![in alloc; Due::Number, Due::Bytes]?;
     for _ in 3..words.len().min(MOST_WORDS) {
         due.push(Due::Name)?;
@@ -71,7 +71,7 @@ fn due_of_load(alloc: Global, words: &[&str]) -> Result<Vec<Due>, AllocError> {
 const MOST_WORDS: usize = 19;
 
 /// What the words behind the first of a command are to be.
-fn due_of(alloc: Global, name: &str, words: &[&str]) -> Result<Vec<Due>, AllocError> {
+fn due_of(alloc: Global, name: &str, words: &[&[u8]]) -> Result<Vec<Due>, AllocError> {
     let due = match name {
         "map" => due_of_map(alloc, words)?,
         "load" => due_of_load(alloc, words)?,
@@ -87,11 +87,11 @@ fn due_of(alloc: Global, name: &str, words: &[&str]) -> Result<Vec<Due>, AllocEr
 }
 
 /// Whether a word writes bytes.
-fn are_bytes(word: &str) -> bool {
-    if word == "-" {
+fn are_bytes(word: &[u8]) -> bool {
+    if word == b"-".as_slice() {
         return true;
     }
-    for digit in word.as_bytes() {
+    for digit in word {
         if !digit.is_ascii_hexdigit() {
             return false;
         }
@@ -100,17 +100,17 @@ fn are_bytes(word: &str) -> bool {
 }
 
 /// Whether a word writes how many steps are made.
-fn is_count(word: &str) -> bool {
-    match number_of(word.as_bytes()) {
+fn is_count(word: &[u8]) -> bool {
+    match number_of(word) {
         Some(count) => 1 <= count && count <= MAX_COUNT,
         None => false,
     }
 }
 
 /// What a word is to be and is not, if it is not.
-fn lack_of(due: Due, word: &str) -> Option<&'static str> {
+fn lack_of(due: Due, word: &[u8]) -> Option<&'static str> {
     match due {
-        Due::Number if number_of(word.as_bytes()).is_none() => Some(
+        Due::Number if number_of(word).is_none() => Some(
             "no number: these are decimal, below 2^64, without a sign or leading zeros",
         ),
         Due::Bytes if !are_bytes(word) => Some(
@@ -125,9 +125,9 @@ fn lack_of(due: Due, word: &str) -> Option<&'static str> {
 pub const SHOWN: usize = 40;
 
 /// The words of a line.
-pub fn words_of<'a>(alloc: Global, line: &'a str) -> Result<Vec<&'a str>, AllocError> {
+pub fn words_of<'a>(alloc: Global, line: &'a [u8]) -> Result<Vec<&'a [u8]>, AllocError> {
     let mut words = Vec::new(alloc);
-    for word in line.split(' ') {
+    for word in line.split(|byte| *byte == b' ') {
         if !word.is_empty() {
             words.push(word)?;
         }
@@ -140,7 +140,7 @@ fn write_lack<W: Write>(
     alloc: Global,
     out: &mut W,
     name: &str,
-    words: &[&str],
+    words: &[&[u8]],
     form: &str,
 ) -> io::Result<()> {
     let due = due_of(alloc, name, words)?;
@@ -155,41 +155,48 @@ fn write_lack<W: Write>(
     for (due, word) in due.iter().zip(words.iter().skip(1)) {
         if let Some(lack) = lack_of(*due, word) {
             write!(out, "  ")?;
-            write_quoted(out, word.as_bytes(), SHOWN)?;
+            write_quoted(out, word, SHOWN)?;
             return writeln!(out, " is {lack}; the form is {form}");
         }
     }
     Ok(())
 }
 
-/// Writes why a line of text is no command.
-fn write_why<W: Write>(alloc: Global, out: &mut W, line: &str) -> io::Result<()> {
+/// Writes that no command begins with this word.
+fn write_no_command<W: Write>(out: &mut W, word: &[u8]) -> io::Result<()> {
+    if str::from_utf8(word).is_err() {
+        return writeln!(out, "  the line is not UTF-8 text");
+    }
+    write!(out, "  no command begins with ")?;
+    write_quoted(out, word, SHOWN)?;
+    writeln!(
+        out,
+        ": map, load, put, get, del, start, step, drop, advance, reap, stat, dump"
+    )
+}
+
+/// Writes why a line is no command.
+fn write_why<W: Write>(alloc: Global, out: &mut W, line: &[u8]) -> io::Result<()> {
     if line.len() > LINE_BYTES {
         return writeln!(out, "  a line has at most {LINE_BYTES} bytes");
     }
-    if line.ends_with('\r') {
+    if line.ends_with(b"\r") {
         return writeln!(
             out,
             "  a line ends by a line feed alone, without a carriage return"
         );
     }
-    if line.starts_with(' ') || line.ends_with(' ') {
+    if line.starts_with(b" ") || line.ends_with(b" ") {
         return writeln!(out, "  no space begins or ends a line");
     }
     let words = words_of(alloc, line)?;
-    let Some(name) = words.first() else {
+    let Some(word) = words.first() else {
         return Ok(());
     };
+    let name = str::from_utf8(word).unwrap_or("");
     match form_of(name) {
         Some(form) => write_lack(alloc, out, name, &words, form),
-        None => {
-            write!(out, "  no command begins with ")?;
-            write_quoted(out, name.as_bytes(), SHOWN)?;
-            writeln!(
-                out,
-                ": map, load, put, get, del, start, step, drop, advance, reap, stat, dump"
-            )
-        }
+        None => write_no_command(out, word),
     }
 }
 
@@ -217,10 +224,7 @@ pub fn explain_script<W: Write>(
         number = number.saturating_add(1);
         if parse_line(line).is_err() {
             write_line(out, text, number, above)?;
-            match str::from_utf8(line) {
-                Ok(line) => write_why(alloc, out, line)?,
-                Err(_) => writeln!(out, "  the line is not UTF-8 text")?,
-            }
+            write_why(alloc, out, line)?;
             return if above == 0 {
                 write_likeness(out, text)
             } else {

@@ -52,7 +52,7 @@ const CAPTURE: &str =
     examples/filters/filter_packets.py judges captures";
 
 const CARRIAGE_RETURNS: &str =
-    "a program file whose lines end in CR LF: take out the carriage returns";
+    "a program file whose lines end in CR LF: `bpfrt check` reads it once the carriage returns are taken out";
 
 const OTHER_HEADING: &str =
     "a program file whose first line is not `bpfrt 1` and a line feed alone";

@@ -48,7 +48,8 @@ fn empty_line(lines: &[u8]) -> Option<usize> {
 /// Writes how many lines a listing has, and is to have.
 fn explain_count<E: Write>(bytes: &[u8], err: &mut E) -> io::Result<()> {
     write_line(err, bytes, 1, 0)?;
-    if let Some(words) = end_words(line_of(bytes, 1)) {
+    let is_program_file = likeness_of(bytes) == Some(Likeness::CarriageReturns);
+    if let (false, Some(words)) = (is_program_file, end_words(line_of(bytes, 1))) {
         return writeln!(err, "  {words}");
     }
     let lines = bytes.strip_suffix(b"\n").unwrap_or(bytes);
