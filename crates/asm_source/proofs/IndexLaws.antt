@@ -57,7 +57,8 @@ new_place : (names : List Binding) (b : Binding) (name : List ℕ) → named nam
 new_place names b name new same =
     let e : b.name ≡ name = (bytes_eq-Decides b.name name).0 same in
     has_place (λ c. bytes_eq c.name name) names ∙
-    ap (λ (n : List ℕ). is_some (find (λ c. bytes_eq c.name n) names)) (sym e) ∙ none_mapped (λ (c : Binding). c.meaning) (find (λ c. bytes_eq c.name b.name) names) new
+    ap (λ (n : List ℕ). is_some (find (λ c. bytes_eq c.name n) names)) (sym e) ∙
+    none_mapped (λ (c : Binding). c.meaning) (find (λ c. bytes_eq c.name b.name) names) new
 
 place_after : (names : List Binding) (b : Binding) (name : List ℕ) → named names b.name ≡ None →
     position (λ c. bytes_eq c.name name) (names ++ b ∷ []) ≡
