@@ -1,6 +1,6 @@
 -- Names in a list, and their places.
-use Rattle.std.proofs.Common.{ℕ, suc, ◌≡◌, ◌+◌, ◌≤◌, Bool, true, false, cond, not, List, [], ◌∷◌, ◌++◌, length, refl, sym, ap, ◌∙◌, arith}
-use Rattle.std.proofs.Common.{Bor}
+use Rattle.std.proofs.Common.{ℕ, suc, ◌≡◌, ◌+◌, ◌≤◌, Bool, true, false, cond, not, List, [], ◌∷◌, ◌++◌, length, Bor}
+use Rattle.std.proofs.Common.{refl, sym, ap, ◌∙◌, arith}
 use Rattle.std.specs.Prelude.{nat_lt, nat_eq, Option, Some, None, is_some, option_map, slice_get, bytes_eq}
 use Rattle.std.specs.BTreeMap.{BTreeMap, Updates, get_by}
 use Rattle.std.specs.Cmp.Lexicographic.{slice_cmp}
@@ -42,7 +42,8 @@ found_nowhere p xs h = no_place (nat_lt (position_or_len p xs) (length xs)) (pos
 
 -- where an element that is new stands, once it is added
 added_place : (place count : ℕ) (b : Bool) → place ≤ count → (b ≡ true → nat_lt place count ≡ false) →
-    cond (nat_lt (cond (nat_eq place count) (count + cond b 0 1) place) (count + 1)) (Some (cond (nat_eq place count) (count + cond b 0 1) place)) None ≡
+    cond (nat_lt (cond (nat_eq place count) (count + cond b 0 1) place) (count + 1))
+    (Some (cond (nat_eq place count) (count + cond b 0 1) place)) None ≡
     cond b (Some count) (cond (nat_lt place count) (Some place) None)
 added_place place count true h new = let e = new refl in grind arith
 added_place place count false h new = grind arith
