@@ -64,7 +64,7 @@ fn has_all(rt: &impl Abort, text: &str, parts: &[&str]) {
 }
 
 /// Words that are no command, and what is said of them.
-fn no_commands(rt: &HostRuntime, alloc: Global) -> Result<(), Fail> {
+fn no_commands(rt: &impl Abort, alloc: Global) -> Result<(), Fail> {
     for (words, said) in NO_COMMANDS {
         match asked(rt, alloc, words)? {
             Ok(_) => assert!(rt; false, "no command"),
@@ -75,7 +75,7 @@ fn no_commands(rt: &HostRuntime, alloc: Global) -> Result<(), Fail> {
 }
 
 /// What `check` is asked for.
-fn words_of_check(rt: &HostRuntime, alloc: Global) -> Result<(), Fail> {
+fn words_of_check(rt: &impl Abort, alloc: Global) -> Result<(), Fail> {
     let check = asked(rt, alloc, &["bpfrt", "check", "a.bpf"])?;
     assert!(rt;
         matches!(&check, Ok(BpfrtCommand::Check { file, how }) if file.as_str() == "a.bpf" && *how == PLAIN)
@@ -92,7 +92,7 @@ fn words_of_check(rt: &HostRuntime, alloc: Global) -> Result<(), Fail> {
 }
 
 /// Commands with little to say.
-fn words_of_others(rt: &HostRuntime, alloc: Global) -> Result<(), Fail> {
+fn words_of_others(rt: &impl Abort, alloc: Global) -> Result<(), Fail> {
     let disasm = asked(rt, alloc, &["bpfrt", "disasm", "b.bpf"])?;
     assert!(rt; matches!(&disasm, Ok(BpfrtCommand::Disasm { file }) if file.as_str() == "b.bpf"));
     assert!(rt;
@@ -121,7 +121,7 @@ fn words_of_others(rt: &HostRuntime, alloc: Global) -> Result<(), Fail> {
 }
 
 /// What `run` is asked for: a context, elements, a dump.
-fn words_of_run(rt: &HostRuntime, alloc: Global) -> Result<(), Fail> {
+fn words_of_run(rt: &impl Abort, alloc: Global) -> Result<(), Fail> {
     let run = asked(rt, alloc, &["bpfrt", "run", "d.bpf", "00aBfF"])?;
     let Ok(BpfrtCommand::Run { single, .. }) = run else {
         return Err(Fail::from("no run"));
@@ -143,7 +143,7 @@ fn words_of_run(rt: &HostRuntime, alloc: Global) -> Result<(), Fail> {
 }
 
 /// What `filter` is asked for.
-fn words_of_filter(rt: &HostRuntime, alloc: Global) -> Result<(), Fail> {
+fn words_of_filter(rt: &impl Abort, alloc: Global) -> Result<(), Fail> {
     let filter = asked(rt, alloc, &["bpfrt", "filter", "-"])?;
     assert!(rt;
         matches!(
@@ -165,7 +165,7 @@ fn words_of_filter(rt: &HostRuntime, alloc: Global) -> Result<(), Fail> {
 }
 
 /// What is said of words that are no text, and of want of memory.
-fn words_that_are_none(rt: &HostRuntime, alloc: Global) -> Result<(), Fail> {
+fn words_that_are_none(rt: &impl Abort, alloc: Global) -> Result<(), Fail> {
     let mut err: Vec<u8> = Vec::new(alloc);
     assert_eq!(rt; no_command(&mut err, &WordsFault::NotText), 2);
     assert_eq!(rt; no_command(&mut err, &WordsFault::Memory), 3);
