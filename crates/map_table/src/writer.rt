@@ -133,7 +133,7 @@ impl Writer {
         true
     }
 
-    /// A way in which the key is linked, or `None`. It only looks at words.
+    /// A way in which the key is linked, or `None`. It stores nothing.
     pub fn find(&mut self, table: &MapTable, key: &[u64]) -> Option<usize>
         requires table { self.old.table ≡ table.now }
         requires key { length key.now ≡ table.now.shape.key_words }
@@ -153,8 +153,8 @@ impl Writer {
     }
 
     /// The sum, modulo 2^64, of the words at this place of all values of an element; of counters it is what all readers
-    /// have added to what `link` or `replace` filled in. Each word is loaded once: it is what its reader stored there last (law `own_words_stay`). What readers
-    /// store meanwhile is in the sum or not.
+    /// have added to what `link` or `replace` filled in. Each word is loaded once: it is what its reader stored there last
+    /// (law `own_words_stay`). What readers store meanwhile is in the sum or not.
     pub fn sum(&mut self, table: &MapTable, element: usize, place: usize) -> u64
         requires table { self.old.table ≡ table.now }
         requires element { element < table.now.shape.elements }

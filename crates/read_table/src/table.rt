@@ -43,8 +43,8 @@ impl Model for ReadTable {
 }
 
 /// A reader's seat at a table. Contracts see at which, and what the reader did and saw there. A seat that is dropped
-/// inside a section keeps from being reclaimed, for ever, the slots that are unlinked later, and those unlinked before since when
-/// its reader was not seen outside.
+/// inside a section keeps slots from being reclaimed, for ever: those that are unlinked later, and those that were unlinked
+/// before, unless its reader was seen outside since.
 #[derive(Drop)]
 pub struct ReadSeat {
     seat: Seat<u8, View>,

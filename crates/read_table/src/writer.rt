@@ -121,7 +121,7 @@ impl Writer {
         self.unlinked.as_slice()
     }
 
-    /// A slot that is linked under the key, or `None`. It only looks at words.
+    /// A slot that is linked under the key, or `None`. It stores nothing.
     pub fn find(&mut self, table: &ReadTable, key: &[u8]) -> Option<usize>
         requires table { self.old.table ≡ table.now }
         requires key { length key.now ≡ word_bytes * table.now.shape.key_words }
