@@ -87,31 +87,3 @@ pub fn plain_of(alloc: Global, source: &[u8], maps: &[&[u8]]) -> Result<Vec<u8>,
     let names = names_of(alloc, source)?;
     text_with(alloc, &names, maps, source)
 }
-
-#[cfg(test)]
-mod tests {
-    use super::*;
-    use std::test::Fail;
-
-    #[test]
-    fn rewrites_line_for_line(rt: HostRuntime) -> Result<(), Fail> {
-        let source =
-            b".equ KEY 4\n\tldmap  r1,quotas ; the map\nstart: jeq r0,0x10 , done\nstw [r10 - KEY],-0x1\r\n ja start\ndone:\nldxb r0,[r1]\nexit";
-        let maps: [&[u8]; 2] = [b"users", b"quotas"];
-        let plain = plain_of(rt.alloc(), source, &maps)?;
-        let expected =
-            b"\nldmap r1, 1\njeq r0, 16, +2\nstw [r10-4], -1\nja -3\n\nldxb r0, [r1+0]\nexit\n";
-        assert_eq!(rt; plain.as_slice(), expected.as_slice());
-        Ok(())
-    }
-
-    #[test]
-    fn tells_the_line(rt: HostRuntime) -> Result<(), Fail> {
-        let source = b"a:\nja b\na: exit\n";
-        match plain_of(rt.alloc(), source, &[]) {
-            Ok(_) => assert!(rt; false),
-            Err(fault) => assert_eq!(rt; fault, SourceFault::NameTwice(3)),
-        }
-        Ok(())
-    }
-}

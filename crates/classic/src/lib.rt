@@ -6,8 +6,6 @@ mod blocks;
 mod emitting;
 mod fault;
 mod layout;
-#[cfg(test)]
-mod tests;
 mod translating;
 
 pub use classic_program::{

@@ -1,30 +1,8 @@
-//! Tests of the commands of `bpfrt`, through `run` and `parse_words`; of scripts, through `run_script`; and of the
-//! lines of scripts and the texts of answers.
+//! Tests of the commands of `bpfrt`, through `parse_words` and `run`: of what streams do that no program is given, and of
+//! texts that none writes. What else the commands do is compared by `checks`.
 #![tactic(auto)]
 
 #[cfg(test)]
-mod answers;
-#[cfg(test)]
-mod command_runs;
-#[cfg(test)]
-mod dialogue;
-#[cfg(test)]
-mod dialogues;
-#[cfg(test)]
-mod explained;
-#[cfg(test)]
-mod files;
-#[cfg(test)]
-mod lines;
-#[cfg(test)]
-mod pools;
-#[cfg(test)]
-mod scripts;
-#[cfg(test)]
-mod shown;
-#[cfg(test)]
-mod single;
-#[cfg(test)]
 mod streams;
 #[cfg(test)]
-mod words;
+mod told;

@@ -5,7 +5,6 @@ ghost use Rattle.map_table.specs.Held.{IsKnown, IsReady};
 ghost use Rattle.map_table.specs.Values.{stored_of};
 
 use map_table::{MapTable, ReadSeat, TableShape, Values, Writer};
-use std::process::Abort;
 use std::test::Fail;
 
 /// A table for 1,024 keys of two words and values of one, with twice as many ways.
@@ -63,13 +62,13 @@ fn link_all(table: &MapTable, writer: &mut Writer) -> u64
 }
 
 /// How many keys below 2,000 are found with their numbers.
-fn count_found(table: &MapTable, seat: &mut ReadSeat) -> u32
+fn count_found(table: &MapTable, seat: &mut ReadSeat) -> u64
     requires ready { IsReady table.now seat.old }
     requires key { table.now.shape.key_words ≡ 2 }
     requires value { stored_of table.now.shape ≡ 1 }
     ensures ready { IsReady table.now seat.new }
 {
-    let mut found = 0u32;
+    let mut found = 0u64;
     for number in 0..2000 {
         if look_up(table, seat, number) == Some(number) {
             found = found.saturating_add(1);
@@ -82,67 +81,70 @@ fn count_found(table: &MapTable, seat: &mut ReadSeat) -> u32
 #[test]
 fn each_key_is_found(rt: HostRuntime) -> Result<(), Fail> {
     let (table, seats, mut writer) = MapTable::new(rt.alloc(), SHAPE)?;
-    assert_eq!(rt; seats.count(), 2);
+    let count = seats.count() as u64;
     let mut list = seats.list;
     let Some(seat) = list.first_mut() else {
         return Err(Fail::from("no seat"));
     };
-    assert_eq!(rt; count_found(&table, seat), 0);
-    assert_eq!(rt; link_all(&table, &mut writer), 1024);
-    assert_eq!(rt; count_found(&table, seat), 1024);
+    let before = count_found(&table, seat);
+    let linked = link_all(&table, &mut writer);
+    let after = count_found(&table, seat);
+    assert_eq!(rt; [count, before, linked, after], [2, 0, 1024, 1024]);
     Ok(())
 }
 
 /// Replaces the value of a key that was just linked, once while a reader is inside a section, and has its first element
-/// back after each reader was seen outside, though they take turns inside.
-fn replace_beside<R: Abort>(
-    rt: &R,
+/// back after each reader was seen outside, though they take turns inside. What the lookups find: after the link, after
+/// the replacement, and at the end; and how many elements are unlinked and reclaimed: first, then, and at the end.
+fn replace_beside(
     table: &MapTable,
     first: &mut ReadSeat,
     second: &mut ReadSeat,
     writer: &mut Writer,
-)
+) -> Option<([Option<u64>; 3], [usize; 4])>
     requires table { writer.old.table ≡ table.now }
     requires shape { table.now.shape ≡ SHAPE }
     requires first { IsReady table.now first.old }
     requires second { IsReady table.now second.old }
 {
     table.open(second);
-    let Some(way) = writer.link(table, &[5, 7], &[50]) else {
-        return;
-    };
-    assert_eq!(rt; look_up(table, first, 5), Some(50));
-    assert!(rt; writer.replace(table, way, &[5, 7], &[51]));
-    assert_eq!(rt; look_up(table, first, 5), Some(51));
-    assert_eq!(rt; writer.unlinked().len(), 1);
-    assert_eq!(rt; writer.reclaim(table), 0);
+    let way = writer.link(table, &[5, 7], &[50])?;
+    let linked = look_up(table, first, 5);
+    if !writer.replace(table, way, &[5, 7], &[51]) {
+        return None;
+    }
+    let replaced = look_up(table, first, 5);
+    let (waiting, early) = (writer.unlinked().len(), writer.reclaim(table));
     table.close(second);
     table.open(first);
-    assert_eq!(rt; writer.reclaim(table), 1);
+    let late = writer.reclaim(table);
     table.close(first);
-    assert_eq!(rt; writer.unlinked().len(), 0);
-    assert_eq!(rt; look_up(table, first, 5), Some(51));
+    let left = writer.unlinked().len();
+    let last = look_up(table, first, 5);
+    Some(([linked, replaced, last], [waiting, early, late, left]))
 }
 
-/// Finds the way of a key by the key alone, unlinks it, and finds it no more.
-fn unlink_found<R: Abort>(rt: &R, table: &MapTable, writer: &mut Writer)
+/// Finds the way of a key by the key alone, unlinks it, and finds it no more. Whether it was so.
+fn unlink_found(table: &MapTable, writer: &mut Writer) -> bool
     requires table { writer.old.table ≡ table.now }
     requires shape { table.now.shape ≡ SHAPE }
 {
-    assert_eq!(rt; writer.find(table, &[5, 7]), None);
-    let way = writer.link(table, &[5, 7], &[50]);
-    assert_eq!(rt; writer.find(table, &[5, 7]), way);
-    assert_eq!(rt; writer.find(table, &[6, 7]), None);
-    assert_eq!(rt; writer.count_linked(table), 1);
-    let Some(way) = writer.find(table, &[5, 7]) else {
-        return;
+    let before = writer.find(table, &[5, 7]);
+    let linked = writer.link(table, &[5, 7], &[50]);
+    let other = writer.find(table, &[6, 7]);
+    let count = writer.count_linked(table);
+    let found = writer.find(table, &[5, 7]);
+    let Some(way) = found else {
+        return false;
     };
-    assert_eq!(rt; writer.element_at(way), Some(1023));
+    let element = writer.element_at(way);
     writer.unlink(table, way);
-    assert_eq!(rt; writer.find(table, &[5, 7]), None);
-    assert_eq!(rt; writer.count_linked(table), 0);
-    assert_eq!(rt; writer.free().len(), 1023);
-    assert_eq!(rt; writer.unlinked(), &[1023][..]);
+    let after = writer.find(table, &[5, 7]);
+    let counts = [count, writer.count_linked(table), writer.free().len()];
+    [before, other, after] == [None; 3]
+        && [found, element] == [linked, Some(1023)]
+        && counts == [1, 0, 1023]
+        && writer.unlinked() == &[1023][..]
 }
 
 /// The first two seats.
@@ -167,7 +169,9 @@ fn replaced_value_is_found(rt: HostRuntime) -> Result<(), Fail> {
     let Some((first, second)) = two_seats(&table, list.as_mut_slice()) else {
         return Err(Fail::from("not two seats"));
     };
-    replace_beside(&rt, &table, first, second, &mut writer);
+    let (found, elements) = replace_beside(&table, first, second, &mut writer).expect(&rt, "room");
+    assert_eq!(rt; found, [Some(50), Some(51), Some(51)]);
+    assert_eq!(rt; elements, [1, 0, 1, 0]);
     Ok(())
 }
 
@@ -175,6 +179,6 @@ fn replaced_value_is_found(rt: HostRuntime) -> Result<(), Fail> {
 #[test]
 fn key_is_found_and_unlinked(rt: HostRuntime) -> Result<(), Fail> {
     let (table, _, mut writer) = MapTable::new(rt.alloc(), SHAPE)?;
-    unlink_found(&rt, &table, &mut writer);
+    assert!(rt; unlink_found(&table, &mut writer));
     Ok(())
 }

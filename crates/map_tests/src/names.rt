@@ -106,11 +106,22 @@ fn each_map_has_its_own_keys(rt: HostRuntime) -> Result<(), Fail> {
     let program = verified_with(alloc, SUM, &[WORDS, PAIRS])?;
     assert!(rt; link_all(&table, &mut writer));
     let maps = [SINGLE, PAIR];
-    assert_eq!(rt; run(&table, seat, &maps, &program, 5), Some(Ok(2100)));
-    assert_eq!(rt; run(&table, seat, &maps, &program, 6), Some(Ok(300)));
-    assert_eq!(rt; run(&table, seat, &maps, &program, 7), Some(Ok(4000)));
-    assert_eq!(rt; run(&table, seat, &maps, &program, 8), Some(Ok(0)));
-    assert_eq!(rt; run(&table, seat, &[PAIR, SINGLE], &program, 5), None);
-    assert_eq!(rt; run(&table, seat, &[SINGLE], &program, 5), None);
+    let found = [
+        run(&table, seat, &maps, &program, 5),
+        run(&table, seat, &maps, &program, 6),
+        run(&table, seat, &maps, &program, 7),
+        run(&table, seat, &maps, &program, 8),
+        run(&table, seat, &[PAIR, SINGLE], &program, 5),
+        run(&table, seat, &[SINGLE], &program, 5),
+    ];
+    let exits = [
+        Some(Ok(2100)),
+        Some(Ok(300)),
+        Some(Ok(4000)),
+        Some(Ok(0)),
+        None,
+        None,
+    ];
+    assert_eq!(rt; found, exits);
     Ok(())
 }

@@ -120,12 +120,12 @@ fn link_all(table: &MapTable, writer: &mut Writer) -> u64
 }
 
 /// How many keys below 1,000 runs found with ten times their number and so much more.
-fn count_runs(table: &MapTable, seat: &mut ReadSeat, program: &Verified, more: u64) -> u32
+fn count_runs(table: &MapTable, seat: &mut ReadSeat, program: &Verified, more: u64) -> u64
     requires ready { IsReady table.now seat.old }
     requires more { more < 10 }
     ensures ready { IsReady table.now seat.new }
 {
-    let mut found = 0u32;
+    let mut found = 0u64;
     for key in 0..1000 {
         if run(table, seat, program, key) == Some(Ok(10 * key + more)) {
             found = found.saturating_add(1);
@@ -134,30 +134,28 @@ fn count_runs(table: &MapTable, seat: &mut ReadSeat, program: &Verified, more: u
     found
 }
 
-/// Replaces the value of a key that is linked: a run finds the new one and adds to it.
-fn replace_between<R: Abort>(
-    rt: &R,
+/// Replaces the value of a key that is linked, and unlinks it. What runs find: after the one, once more, and after the
+/// other; and how many elements are reclaimed between.
+fn replace_between(
     table: &MapTable,
     seat: &mut ReadSeat,
     writer: &mut Writer,
     count: &Verified,
-)
+) -> Option<([Option<Result<u64, SubWord>>; 3], usize)>
     requires ready { IsReady table.now seat.old }
     requires table { writer.old.table ≡ table.now }
     requires shape { table.now.shape ≡ TABLE }
 {
-    let Some(way) = writer.find(table, &[5]) else {
-        return;
-    };
-    assert!(rt; writer.replace(table, way, &[5], &[7000]));
-    assert_eq!(rt; run(table, seat, count, 5), Some(Ok(7000)));
-    assert_eq!(rt; run(table, seat, count, 5), Some(Ok(7001)));
-    assert_eq!(rt; writer.reclaim(table), 1);
-    let Some(way) = writer.find(table, &[5]) else {
-        return;
-    };
+    let way = writer.find(table, &[5])?;
+    if !writer.replace(table, way, &[5], &[7000]) {
+        return None;
+    }
+    let replaced = run(table, seat, count, 5);
+    let again = run(table, seat, count, 5);
+    let reclaimed = writer.reclaim(table);
+    let way = writer.find(table, &[5])?;
     writer.unlink(table, way);
-    assert_eq!(rt; run(table, seat, count, 5), Some(Ok(0)));
+    Some(([replaced, again, run(table, seat, count, 5)], reclaimed))
 }
 
 /// Runs find each key's own value, and store one that the next run finds, whichever seat it has. They find none where
@@ -171,13 +169,46 @@ fn runs_load_and_store_values(rt: HostRuntime) -> Result<(), Fail> {
         return Err(Fail::from("not two seats"));
     };
     let count = verified(alloc, COUNT)?;
-    assert_eq!(rt; run(&table, first, &count, 5), Some(Ok(0)));
-    assert_eq!(rt; link_all(&table, &mut writer), 1000);
-    assert_eq!(rt; count_runs(&table, first, &count, 3), 1000);
-    assert_eq!(rt; count_runs(&table, second, &count, 4), 1000);
-    assert_eq!(rt; run(&table, first, &count, 1000), Some(Ok(0)));
-    replace_between(&rt, &table, second, &mut writer, &count);
-    assert_eq!(rt; run(&table, first, &count, 7), Some(Ok(75)));
+    let before = run(&table, first, &count, 5);
+    let linked = link_all(&table, &mut writer);
+    let loaded = count_runs(&table, first, &count, 3);
+    let stored = count_runs(&table, second, &count, 4);
+    let missing = run(&table, first, &count, 1000);
+    let between = replace_between(&table, second, &mut writer, &count).expect(&rt, "room");
+    let last = run(&table, first, &count, 7);
+    assert_eq!(rt; [linked, loaded, stored], [1000; 3]);
+    assert_eq!(rt;
+        [before, missing, last],
+        [Some(Ok(0)), Some(Ok(0)), Some(Ok(75))]
+    );
+    assert_eq!(rt; between, ([Some(Ok(7000)), Some(Ok(7001)), Some(Ok(0))], 1));
+    Ok(())
+}
+
+/// Instructions in place of the load, and what the runs come to.
+const LOADS: &[(&str, Result<u64, SubWord>)] = &[
+    (LOAD, Ok(0x11)),
+    ("7109070000000000", Ok(0x88)),
+    ("6909020000000000", Ok(0x4433)),
+    ("6109040000000000", Ok(0x8877_6655)),
+    ("7909000000000000", Ok(0x8877_6655_4433_2211)),
+    ("8909060000000000", Ok(0xffff_ffff_ffff_8877)),
+    ("7200000009000000", Err(SubWord)),
+];
+
+/// Runs with each of these instructions on the key 7.
+fn load_each<R: Abort>(
+    rt: &R,
+    alloc: Global,
+    table: &MapTable,
+    seat: &mut ReadSeat,
+) -> Result<(), Fail>
+    requires ready { IsReady table.now seat.old }
+{
+    for row in LOADS {
+        let (load, wanted) = row;
+        assert_eq!(rt; loaded(alloc, table, seat, load)?, Some(*wanted), "{load}");
+    }
     Ok(())
 }
 
@@ -196,19 +227,5 @@ fn runs_load_bytes_of_words(rt: HostRuntime) -> Result<(), Fail> {
             .link(&table, &[7], &[0x8877_6655_4433_2211])
             .is_some()
     );
-    let first = loaded(alloc, &table, seat, LOAD)?;
-    assert_eq!(rt; first, Some(Ok(0x11)));
-    let last = loaded(alloc, &table, seat, "7109070000000000")?;
-    assert_eq!(rt; last, Some(Ok(0x88)));
-    let half = loaded(alloc, &table, seat, "6909020000000000")?;
-    assert_eq!(rt; half, Some(Ok(0x4433)));
-    let word = loaded(alloc, &table, seat, "6109040000000000")?;
-    assert_eq!(rt; word, Some(Ok(0x8877_6655)));
-    let all = loaded(alloc, &table, seat, "7909000000000000")?;
-    assert_eq!(rt; all, Some(Ok(0x8877_6655_4433_2211)));
-    let signed = loaded(alloc, &table, seat, "8909060000000000")?;
-    assert_eq!(rt; signed, Some(Ok(0xffff_ffff_ffff_8877)));
-    let store = loaded(alloc, &table, seat, "7200000009000000")?;
-    assert_eq!(rt; store, Some(Err(SubWord)));
-    Ok(())
+    load_each(&rt, alloc, &table, seat)
 }

@@ -55,6 +55,8 @@ impl Serve for Meeting {
 
     ghost fits = { λ s v w job served. Unit {0} };
 
+    ghost gains = { λ s v w job served. Unit {0} };
+
     /// Sets the job's own flag, and exits once it sees the other's.
     fn serve<R: Wait>(&self, _rt: &R, _worker: &mut (), job: &Side) -> Outcome {
         let (own, other) = match job {

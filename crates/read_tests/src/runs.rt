@@ -18,24 +18,19 @@ fn a_lookup_exits_with_the_value(rt: HostRuntime) -> Result<(), Fail> {
         verified(alloc, LOOKUP_AND_LOAD, 0)?,
         verified(alloc, LOOKUP_AND_STORE, 0)?,
     );
-    assert_eq!(rt;
-        (load.program().len(), load.program().slot_count()),
-        (12, 13)
-    );
+    let lengths = (load.program().len(), load.program().slot_count());
     let (table, seats, mut writer) = ReadTable::new(alloc, 4, 8, 8, 2)?;
     let mut list = seats.list;
     let Some((first, second)) = two_seats(&table, list.as_mut_slice()) else {
         return Err(Fail::from("not two seats"));
     };
-    assert_eq!(rt; run(&table, first, &load), Some(Ok(0)));
-    assert!(rt;
-        writer
-            .link(&table, &[0; 8], &[5, 0, 0, 0, 0, 0, 0, 0])
-            .is_some()
-    );
-    assert_eq!(rt; run(&table, first, &load), Some(Ok(5)));
-    assert_eq!(rt; run(&table, first, &store), Some(Ok(0)));
-    assert_eq!(rt; run(&table, second, &load), Some(Ok(9)));
+    let missing = run(&table, first, &load);
+    let linked = writer.link(&table, &[0; 8], &[5, 0, 0, 0, 0, 0, 0, 0]);
+    let loaded = run(&table, first, &load);
+    let stored = run(&table, first, &store);
+    let found = [missing, loaded, stored, run(&table, second, &load)];
+    assert_eq!(rt; found, [Some(Ok(0)), Some(Ok(5)), Some(Ok(0)), Some(Ok(9))]);
+    assert!(rt; linked.is_some() && lengths == (12, 13));
     Ok(())
 }
 
@@ -49,13 +44,11 @@ fn sections_nest(rt: HostRuntime) -> Result<(), Fail> {
     let Some(seat) = list.first_mut() else {
         return Err(Fail::from("no seat"));
     };
-    assert_eq!(rt; run(&table, seat, &nested), Some(Ok(0)));
-    assert!(rt;
-        writer
-            .link(&table, &[0; 8], &[5, 0, 0, 0, 0, 0, 0, 0])
-            .is_some()
-    );
-    assert_eq!(rt; run(&table, seat, &nested), Some(Ok(5)));
+    let missing = run(&table, seat, &nested);
+    let linked = writer.link(&table, &[0; 8], &[5, 0, 0, 0, 0, 0, 0, 0]);
+    let found = [missing, run(&table, seat, &nested)];
+    assert_eq!(rt; found, [Some(Ok(0)), Some(Ok(5))]);
+    assert!(rt; linked.is_some());
     Ok(())
 }
 
@@ -68,14 +61,18 @@ fn a_load_of_a_byte_is_refused(rt: HostRuntime) -> Result<(), Fail> {
         verified(alloc, LOAD_BYTE, 1)?,
     );
     let (table, seats, mut writer) = ReadTable::new(alloc, 1, 8, 8, 1)?;
-    assert!(rt; writer.link(&table, &[0; 8], &[7; 8]).is_some());
+    let linked = writer.link(&table, &[0; 8], &[7; 8]);
     let mut list = seats.list;
     let Some(seat) = list.first_mut() else {
         return Err(Fail::from("no seat"));
     };
-    assert_eq!(rt; run(&table, seat, &byte), Some(Err(SubWord)));
-    assert_eq!(rt; SubWord.code(), 80);
-    assert_eq!(rt; run(&table, seat, &load), Some(Ok(0x0707_0707_0707_0707)));
+    let refused = run(&table, seat, &byte);
+    let found = [refused, run(&table, seat, &load)];
+    assert_eq!(rt;
+        found,
+        [Some(Err(SubWord)), Some(Ok(0x0707_0707_0707_0707))]
+    );
+    assert!(rt; linked.is_some() && SubWord.code() == 80);
     Ok(())
 }
 
@@ -122,11 +119,8 @@ fn shares_are_of_one_table(rt: HostRuntime) -> Result<(), Fail> {
     let Some(seat) = list.first_mut() else {
         return Err(Fail::from("no seat"));
     };
-    assert!(rt;
-        writer
-            .link(&table, &[0; 8], &[5, 0, 0, 0, 0, 0, 0, 0])
-            .is_some()
-    );
-    assert_eq!(rt; run_tied(&table, seat, &writer, &load), Some(Ok(5)));
+    let linked = writer.link(&table, &[0; 8], &[5, 0, 0, 0, 0, 0, 0, 0]);
+    let found = run_tied(&table, seat, &writer, &load);
+    assert!(rt; linked.is_some() && found == Some(Ok(5)));
     Ok(())
 }

@@ -6,7 +6,6 @@ ghost use Rattle.read_table.specs.Held.{IsKnown, IsReady};
 
 use crate::making::two_seats;
 use read_table::{MAX_READERS, MAX_TABLE_SLOTS, ReadSeat, ReadTable, Writer};
-use std::process::Abort;
 use std::test::Fail;
 
 /// A key of two words, of which the first is the same in all keys.
@@ -81,58 +80,29 @@ fn count_found(table: &ReadTable, seat: &mut ReadSeat) -> u32
 #[test]
 fn each_key_is_found(rt: HostRuntime) -> Result<(), Fail> {
     let (table, seats, mut writer) = ReadTable::new(rt.alloc(), 250, 16, 8, 8)?;
-    assert_eq!(rt; (MAX_TABLE_SLOTS, MAX_READERS, seats.count()), (256, 8, 8));
+    let limits = [MAX_TABLE_SLOTS, MAX_READERS, seats.count()];
     let mut list = seats.list;
     let Some(seat) = list.first_mut() else {
         return Err(Fail::from("no seat"));
     };
-    assert_eq!(rt; count_found(&table, seat), 0);
-    assert_eq!(rt; link_all(&table, &mut writer), 250);
-    assert_eq!(rt; count_found(&table, seat), 250);
+    let before = count_found(&table, seat);
+    let linked = link_all(&table, &mut writer);
+    let after = count_found(&table, seat);
+    assert_eq!(rt; [before, u32::from(linked), after], [0, 250, 250]);
+    assert_eq!(rt; limits, [256, 8, 8]);
     Ok(())
 }
 
-/// The slot is not taken again, and no other is free.
-fn stays<R: Abort>(rt: &R, table: &ReadTable, writer: &mut Writer, slot: usize)
-    requires table { writer.old.table ≡ table.now }
-    requires key { table.now.shape.key_words ≡ 2 }
-    requires value { table.now.shape.value_words ≡ 1 }
-    requires unlinked { Contains writer.old.unlinked slot }
-    ensures table { writer.new.table ≡ table.now }
-    ensures unlinked { Contains writer.new.unlinked slot }
-{
-    assert!(rt; !writer.try_reclaim(table, slot));
-    assert_eq!(rt; writer.link(table, &key(3), &value(3)), None);
-}
-
-/// The slot is taken again, for another key.
-fn is_taken<R: Abort>(
-    rt: &R,
-    table: &ReadTable,
-    seat: &mut ReadSeat,
-    writer: &mut Writer,
-    slot: usize,
-)
-    requires table { writer.old.table ≡ table.now }
-    requires key { table.now.shape.key_words ≡ 2 }
-    requires value { table.now.shape.value_words ≡ 1 }
-    requires unlinked { Contains writer.old.unlinked slot }
-    requires ready { IsReady table.now seat.old }
-{
-    assert!(rt; writer.try_reclaim(table, slot));
-    assert_eq!(rt; writer.link(table, &key(3), &value(3)), Some(slot));
-    assert_eq!(rt; look_up(table, seat, 3), Some(3));
-}
-
-/// Unlinks one of two keys while the second reader is inside a section, and links a third when it is outside.
-fn unlink_beside<R: Abort>(
-    rt: &R,
+/// Unlinks one of two keys while the second reader is inside a section, and links a third when it is outside. What
+/// lookups find: of the one and the other key then, and of the third at the end; and where the third key was linked, while
+/// no slot was free and then. None where the slot is reclaimed while the reader is inside, or not when it is outside.
+fn unlink_beside(
     table: &ReadTable,
     first: &mut ReadSeat,
     second: &mut ReadSeat,
     writer: &mut Writer,
     slot: usize,
-)
+) -> Option<([Option<u64>; 3], [Option<usize>; 2])>
     requires table { writer.old.table ≡ table.now }
     requires key { table.now.shape.key_words ≡ 2 }
     requires value { table.now.shape.value_words ≡ 1 }
@@ -142,22 +112,29 @@ fn unlink_beside<R: Abort>(
 {
     table.open(second);
     writer.unlink(table, slot);
-    assert_eq!(rt; look_up(table, first, 1), None);
-    assert_eq!(rt; look_up(table, first, 2), Some(2));
-    stays(rt, table, writer, slot);
+    let gone = look_up(table, first, 1);
+    let other = look_up(table, first, 2);
+    if writer.try_reclaim(table, slot) {
+        return None;
+    }
+    let full = writer.link(table, &key(3), &value(3));
     table.close(second);
-    is_taken(rt, table, first, writer, slot);
+    if !writer.try_reclaim(table, slot) {
+        return None;
+    }
+    let linked = writer.link(table, &key(3), &value(3));
+    Some(([gone, other, look_up(table, first, 3)], [full, linked]))
 }
 
-/// A slot is taken again where each reader was seen outside once, though one or the other was inside at each look.
-fn reclaim_in_turn<R: Abort>(
-    rt: &R,
+/// A slot is taken again where each reader was seen outside once, though one or the other was inside at each look. Whether
+/// it was so.
+fn reclaim_in_turn(
     table: &ReadTable,
     first: &mut ReadSeat,
     second: &mut ReadSeat,
     writer: &mut Writer,
     slot: usize,
-)
+) -> bool
     requires table { writer.old.table ≡ table.now }
     requires linked { Contains writer.old.linked slot }
     requires first { IsReady table.now first.old }
@@ -166,11 +143,14 @@ fn reclaim_in_turn<R: Abort>(
 {
     writer.unlink(table, slot);
     table.open(second);
-    assert!(rt; !writer.try_reclaim(table, slot));
+    if writer.try_reclaim(table, slot) {
+        return false;
+    }
     table.close(second);
     table.open(first);
-    assert!(rt; writer.try_reclaim(table, slot));
+    let reclaimed = writer.try_reclaim(table, slot);
     table.close(first);
+    reclaimed
 }
 
 /// No reader has to be outside at the same time as another. The writer finds the slots of its keys, and no others.
@@ -181,25 +161,18 @@ fn readers_are_seen_in_turn(rt: HostRuntime) -> Result<(), Fail> {
     let Some((first, second)) = two_seats(&table, list.as_mut_slice()) else {
         return Err(Fail::from("not two seats"));
     };
-    assert!(rt; writer.link(&table, &key(2), &value(2)).is_some());
+    let other = writer.link(&table, &key(2), &value(2));
     let Some(slot) = writer.link(&table, &key(1), &value(1)) else {
         return Err(Fail::from("no free slot"));
     };
+    let before = (writer.find(&table, &key(1)), writer.linked().len());
+    let in_turn = reclaim_in_turn(&table, first, second, &mut writer, slot);
+    let after = (writer.find(&table, &key(1)), writer.linked().len());
+    let stays = (writer.find(&table, &key(2)), writer.unlinked().len());
+    assert!(rt; other.is_some() && in_turn);
     assert_eq!(rt;
-        (writer.find(&table, &key(1)), writer.linked().len()),
-        (Some(slot), 2)
-    );
-    reclaim_in_turn(&rt, &table, first, second, &mut writer, slot);
-    assert_eq!(rt;
-        (writer.find(&table, &key(1)), writer.linked().len()),
-        (None, 1)
-    );
-    assert_eq!(rt;
-        (
-            writer.find(&table, &key(2)).is_some(),
-            writer.unlinked().len()
-        ),
-        (true, 0)
+        [before, after, stays],
+        [(Some(slot), 2), (None, 1), (other, 0)]
     );
     Ok(())
 }
@@ -212,10 +185,12 @@ fn a_slot_is_taken_again(rt: HostRuntime) -> Result<(), Fail> {
     let Some((first, second)) = two_seats(&table, list.as_mut_slice()) else {
         return Err(Fail::from("not two seats"));
     };
-    assert!(rt; writer.link(&table, &key(2), &value(2)).is_some());
+    let other = writer.link(&table, &key(2), &value(2));
     let Some(slot) = writer.link(&table, &key(1), &value(1)) else {
         return Err(Fail::from("no free slot"));
     };
-    unlink_beside(&rt, &table, first, second, &mut writer, slot);
+    let end = unlink_beside(&table, first, second, &mut writer, slot);
+    assert_eq!(rt; end, Some(([None, Some(2), Some(3)], [None, Some(slot)])));
+    assert!(rt; other.is_some());
     Ok(())
 }

@@ -2,7 +2,5 @@
 #![tactic(auto)]
 
 mod once;
-#[cfg(test)]
-mod tests;
 
 pub use once::{Ended, Ran, RunEnd, run_once};

@@ -7,9 +7,23 @@ use std::alloc::{AllocError, Global};
 use std::process::Abort;
 use std::test::Fail;
 
-/// The text of an entry, with all that it has.
-fn shown(alloc: Global, entry: &Entry) -> Result<String, AllocError> {
-    format!(in alloc; "{entry:?}")
+/// The text of the entry of this index, with all that it has.
+fn entry_at(alloc: Global, journal: &Journal, index: usize) -> Result<String, AllocError> {
+    format!(in alloc; "{:?}", journal.entry(index))
+}
+
+/// The first entries of a journal have these texts.
+pub fn are_entries<R: Abort>(
+    rt: &R,
+    alloc: Global,
+    journal: &Journal,
+    texts: &[&str],
+) -> Result<(), AllocError> {
+    for (index, wanted) in texts.iter().enumerate() {
+        let found = entry_at(alloc, journal, index)?;
+        assert_eq!(rt; found.as_str(), *wanted);
+    }
+    Ok(())
 }
 
 /// Adds an entry. Where memory was refused once, nothing has changed, and the same call succeeds later.
@@ -36,13 +50,10 @@ fn add_each_sample<R: Abort>(rt: &R, journal: &mut Journal) -> Result<(), Journa
 }
 
 /// Reads the entries of three rounds of samples, behind which there is none.
-fn read_three_rounds<R: Abort>(rt: &R, alloc: Global, journal: &Journal) -> Result<(), Fail> {
+fn read_three_rounds<R: Abort>(rt: &R, alloc: Global, journal: &Journal) -> Result<(), AllocError> {
     for index in 0..3 * SAMPLES {
-        let Some(entry) = journal.entry(index) else {
-            return Err(Fail::new("an entry is missing"));
-        };
-        let found = shown(alloc, &entry)?;
-        let wanted = shown(alloc, &sample(index % SAMPLES))?;
+        let found = entry_at(alloc, journal, index)?;
+        let wanted = format!(in alloc; "{:?}", Some(sample(index % SAMPLES)))?;
         assert_eq!(rt; found.as_str(), wanted.as_str());
     }
     assert!(rt; journal.entry(3 * SAMPLES).is_none());
@@ -58,7 +69,8 @@ fn every_sample_is_read_back(rt: HostRuntime) -> Result<(), Fail> {
         add_each_sample(&rt, &mut journal)?;
         assert_eq!(rt; journal.len(), (round + 1) * SAMPLES);
     }
-    read_three_rounds(&rt, rt.alloc(), &journal)
+    read_three_rounds(&rt, rt.alloc(), &journal)?;
+    Ok(())
 }
 
 #[test]

@@ -3,24 +3,16 @@
 #![tactic(auto)]
 
 #[cfg(test)]
-mod counts;
-#[cfg(test)]
-mod cuts;
-#[cfg(test)]
 mod entries;
 #[cfg(test)]
 mod journals;
-#[cfg(test)]
-mod limits;
 #[cfg(test)]
 mod making;
 #[cfg(test)]
 mod mixing;
 #[cfg(test)]
-mod stops;
+mod pools;
 #[cfg(test)]
-mod stretches;
+mod scenes;
 #[cfg(test)]
 mod threads;
-#[cfg(test)]
-mod totals;

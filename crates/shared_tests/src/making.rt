@@ -1,16 +1,17 @@
-//! Worlds and jobs for the tests.
+//! Worlds for the tests.
+ghost use Rattle.std.specs.Prelude.{◌≡◌};
 
 use arrayvec::ArrayVec;
-use bpf_model::{CtxBytes, Event, KeyBytes, MapId, MapKind, MapShape, ProgId, RunId, array_of};
+use bpf_model::{
+    CtxBytes, Event, KeyBytes, MAX_JOURNAL, MapId, MapKind, MapShape, ProgId, RunId, array_of,
+};
 use insn_codec::decode;
 use maps::Registry;
-use shared::Workers;
+use shared::{Counters, MAX_WORKERS, Shared, Workers, is_quiet};
 use std::alloc::{AllocError, Global};
 use std::process::Abort;
-use std::sync::ledger::Ledger;
-use std::test::Fail;
-use verifier::{Verified, verify};
-use worker_pool::{Job, Outcome, Report, Trail};
+use std::sync::ledger::{Blank, Ledger};
+use verifier::verify;
 use world::{Loaded, World};
 
 /// Exits with 1 at the second step.
@@ -27,7 +28,7 @@ const FIRST_BYTE: [u8; 16] = [
 
 /// One lookup of a key in a section: exits with the value at the 12th step, or with 0 at the 11th where there
 /// is none.
-const fn lookup(key: u8) -> [u8; 104] {
+fn lookup(key: u8) -> [u8; 104] {
     [
         0xb7, 0x06, 0, 0, 0, 0, 0, 0, // r6 = 0
         0x85, 0x20, 0, 0, 1, 0, 0, 0, // lock
@@ -65,141 +66,114 @@ const WIDE_SHAPE: MapShape = MapShape {
     reuse_limit: 100,
 };
 
+/// What is asked of the world, by numbers: of a key, of a value's first byte, of a program or of a run slot.
+#[derive(Clone, Copy)]
+pub enum Deed {
+    Update(u8, u8),
+    Delete(u8),
+    Read(u8),
+    Advance,
+    Reap,
+    Start(usize),
+    Step(usize),
+    Leave(usize),
+}
+
 /// A key of 4 bytes.
 fn key_of(number: u8) -> KeyBytes {
     array_of(&[number, 0, 0, 0])
 }
 
-/// Stores a value under a key, whether or not the key has one.
-pub fn update(key: u8, byte: u8) -> Event {
-    Event::Update {
-        map: MapId::new(0),
-        key: key_of(key),
-        value: array_of(&[byte, 0, 0, 0, 0, 0, 0, 0]),
-        flags: 0,
+/// The event of a deed: on the first map, and on an empty context. An update stores whether or not the key has a value.
+pub fn event(deed: &Deed) -> Event {
+    let map = MapId::new(0);
+    match *deed {
+        Deed::Update(key, byte) => Event::Update {
+            map,
+            key: key_of(key),
+            value: array_of(&[byte, 0, 0, 0, 0, 0, 0, 0]),
+            flags: 0,
+        },
+        Deed::Delete(key) => Event::Delete {
+            map,
+            key: key_of(key),
+        },
+        Deed::Read(key) => Event::Read {
+            map,
+            key: key_of(key),
+        },
+        Deed::Advance => Event::Advance,
+        Deed::Reap => Event::Reap,
+        Deed::Start(prog) => Event::Start {
+            prog: ProgId::new(prog),
+            ctx: CtxBytes::new(),
+        },
+        Deed::Step(run) => Event::Step {
+            run: RunId::new(run),
+        },
+        Deed::Leave(run) => Event::Drop {
+            run: RunId::new(run),
+        },
     }
 }
 
-/// Removes a key.
-pub fn delete(key: u8) -> Event {
-    Event::Delete {
-        map: MapId::new(0),
-        key: key_of(key),
-    }
-}
-
-/// Reads a key.
-pub fn read(key: u8) -> Event {
-    Event::Read {
-        map: MapId::new(0),
-        key: key_of(key),
-    }
-}
-
-/// Starts a program on an empty context.
-pub fn start(prog: usize) -> Event {
-    Event::Start {
-        prog: ProgId::new(prog),
-        ctx: CtxBytes::new(),
-    }
-}
-
-/// A step of the run in this run slot.
-pub fn step(run: usize) -> Event {
-    Event::Step {
-        run: RunId::new(run),
-    }
-}
-
-/// A program for contexts of a length of at most 1, over maps of these shapes, of which there is at most one.
-fn verified<R: Abort>(
+/// A program for contexts of a length of at most 1 that is verified for maps of these shapes, of which there is at most
+/// one, and bound to the map of this number.
+fn loaded<R: Abort>(
     rt: &R,
     alloc: Global,
     code: &[u8],
-    shapes: &[MapShape],
     ctx_len: usize,
-) -> Verified {
+    shapes: &[MapShape],
+    map: usize,
+) -> Loaded {
     assert!(rt; ctx_len <= 1 && shapes.len() <= 1);
     let program = decode(alloc, code).expect(rt, "a program");
-    verify(alloc, program, shapes, ctx_len).expect(rt, "a verified program")
-}
-
-/// A program without maps.
-fn plain<R: Abort>(rt: &R, alloc: Global, code: &[u8], ctx_len: usize) -> Loaded {
-    Loaded {
-        verified: verified(rt, alloc, code, &[], ctx_len),
-        maps: ArrayVec::new(),
-    }
-}
-
-/// A program on one map, bound to the map of this number and shape.
-fn on_map<R: Abort>(rt: &R, alloc: Global, code: &[u8], map: usize, shape: MapShape) -> Loaded {
+    let verified = verify(alloc, program, shapes, ctx_len).expect(rt, "a verified program");
     let mut maps = ArrayVec::new();
-    maps.push(map);
-    Loaded {
-        verified: verified(rt, alloc, code, &[shape], 0),
-        maps,
+    if !shapes.is_empty() {
+        maps.push(map);
     }
+    Loaded { verified, maps }
 }
 
 /// A world with two maps and five programs: 0 is `ONE`, 1 and 2 are lookups of the keys 0 and 1, 3 is
 /// `FIRST_BYTE`, and 4 is 1 once more, on the map of longer values.
-pub fn world_of<R: Abort>(rt: &R, alloc: Global) -> Result<World, Fail> {
+pub fn world_of<R: Abort>(rt: &R, alloc: Global) -> Result<World, AllocError> {
     let mut registry = Registry::new(alloc);
     registry.create("m", SHAPE).expect(rt, "a map");
     registry.create("wide", WIDE_SHAPE).expect(rt, "a map");
+    let (first, second) = (lookup(0), lookup(1));
+    let sources: [(&[u8], usize, &[MapShape], usize); 5] = [
+        (&ONE, 0, &[], 0),
+        (&first, 0, &[SHAPE], 0),
+        (&second, 0, &[SHAPE], 0),
+        (&FIRST_BYTE, 1, &[], 0),
+        (&first, 0, &[WIDE_SHAPE], 1),
+    ];
     let mut programs = Vec::new(alloc);
-    programs.push(plain(rt, alloc, &ONE, 0))?;
-    programs.push(on_map(rt, alloc, &lookup(0), 0, SHAPE))?;
-    programs.push(on_map(rt, alloc, &lookup(1), 0, SHAPE))?;
-    programs.push(plain(rt, alloc, &FIRST_BYTE, 1))?;
-    programs.push(on_map(rt, alloc, &lookup(0), 1, WIDE_SHAPE))?;
+    for (code, ctx_len, shapes, map) in sources {
+        programs.push(loaded(rt, alloc, code, ctx_len, shapes, map))?;
+    }
     Ok(World::new(alloc, registry, programs).expect(rt, "a world"))
 }
 
-/// A job of this program on a context of these bytes.
-pub fn job(prog: usize, bytes: &[u8]) -> Job {
-    let mut ctx = CtxBytes::new();
-    let _ = ctx.try_extend_from_slice(bytes);
-    Job {
-        prog: ProgId::new(prog),
-        ctx,
-    }
-}
-
-/// So many jobs, of the programs of the list in turn.
-pub fn jobs_of(alloc: Global, programs: &[usize], count: usize) -> Result<Vec<Job>, AllocError> {
-    let mut jobs = Vec::new(alloc);
-    for number in 0..count {
-        let prog = match programs.get(number % programs.len().max(1)) {
-            Some(prog) => *prog,
-            None => 0,
-        };
-        jobs.push(job(prog, &[]))?;
-    }
-    Ok(jobs)
-}
-
-/// How many outcomes are other than those of the list, in turn, by job order.
-pub fn wrong(report: &Report<Trail>, values: &[u64]) -> u64 {
-    let mut wrong = 0u64;
-    for (number, one) in report.jobs.iter().enumerate() {
-        let right = match values.get(number % values.len().max(1)) {
-            Some(value) => one.outcome == Outcome::Exit(*value),
-            None => false,
-        };
-        if !right {
-            wrong = wrong.saturating_add(1);
-        }
-    }
-    wrong
-}
-
-/// How many entries the workers have made.
-pub fn made_by<L: Ledger>(workers: &Workers<L>) -> u64 {
-    let mut sum = 0u64;
-    for worker in &workers.list {
-        sum = sum.saturating_add(worker.made());
-    }
-    sum
+/// Shares a world among so many workers, 1 to 8, with a journal of so many entries, if it is said how many.
+pub fn shared_of<L: Ledger + Send + Sync, R: Abort>(
+    rt: &R,
+    alloc: Global,
+    world: World,
+    blank: Blank,
+    workers: u8,
+    limit: Option<usize>,
+) -> Result<(Shared<L>, Workers<L>, Counters), AllocError>
+    requires name { blank.name ≡ L.name }
+    requires parts { (blank.parts ≡ L.parts) × (blank.parts ≡ workers) }
+{
+    assert!(rt; is_quiet(&world) && 0 < workers && workers <= MAX_WORKERS);
+    let Some(limit) = limit else {
+        return Shared::<L>::new(alloc, world, workers, blank);
+    };
+    assert!(rt; 0 < limit && limit <= MAX_JOURNAL);
+    Shared::<L>::with_limit(alloc, world, workers, limit, blank)
 }

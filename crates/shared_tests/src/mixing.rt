@@ -1,22 +1,19 @@
 //! Events of every kind, one for each worker and turn.
 
-use crate::making::{delete, read, start, step, update};
-use bpf_model::{Event, RunId};
+use crate::making::Deed;
 
-/// The event that a worker brings at this turn: over all turns, each kind of event, over four keys.
-pub fn event_of(worker: u8, turn: u16) -> Event {
+/// What a worker asks at this turn: over all turns, each kind of event, over four keys.
+pub fn deed_of(worker: u8, turn: u16) -> Deed {
     let mixed = (u32::from(turn) * 7 + u32::from(worker) * 13) % 64;
     let key = (mixed / 4 % 4) as u8;
     match mixed % 11 {
-        0 | 1 | 2 => update(key, worker),
-        3 => delete(key),
-        4 | 5 => read(key),
-        6 => Event::Advance,
-        7 => Event::Reap,
-        8 => start(1),
-        9 => step(usize::from(key)),
-        _ => Event::Drop {
-            run: RunId::new(usize::from(key)),
-        },
+        0 | 1 | 2 => Deed::Update(key, worker),
+        3 => Deed::Delete(key),
+        4 | 5 => Deed::Read(key),
+        6 => Deed::Advance,
+        7 => Deed::Reap,
+        8 => Deed::Start(1),
+        9 => Deed::Step(usize::from(key)),
+        _ => Deed::Leave(usize::from(key)),
     }
 }

@@ -1,11 +1,12 @@
 //! Eight workers in threads.
 ghost use Rattle.std.specs.Prelude.{◌≡◌};
 
-use crate::making::{made_by, update, world_of};
-use crate::mixing::event_of;
+use crate::making::{Deed, event, shared_of, world_of};
+use crate::mixing::deed_of;
+use crate::pools::made_by;
 use bpf_model::{Answer, Event};
 use journal::Journal;
-use shared::{Counters, Finished, Shared, Worker, is_quiet};
+use shared::{Counters, Finished, Shared, Worker};
 use std::alloc::{AllocError, Global};
 use std::marker::Brand;
 use std::process::Abort;
@@ -35,7 +36,7 @@ fn work<L: Ledger, R: Wait>(
     let number = worker.number();
     let mut answers = Vec::new(alloc);
     for turn in 0..CALLS {
-        if let Ok(answer) = shared.act(rt, worker, event_of(number, turn)) {
+        if let Ok(answer) = shared.act(rt, worker, event(&deed_of(number, turn))) {
             answers.push(answer)?;
         }
     }
@@ -136,10 +137,9 @@ fn eight<L: Ledger + Send + Sync, R: Threads + Wait + Abort + Sync>(
     requires parts { (blank.parts ≡ L.parts) × (blank.parts ≡ 8) }
 {
     let mut world = world_of(rt, alloc)?;
-    world.apply(&update(3, 9));
+    world.apply(&event(&Deed::Update(3, 9)));
     let first = world.stat();
-    assert!(rt; is_quiet(&world));
-    let (shared, mut workers, mut counters) = Shared::<L>::new(alloc, world, 8, blank)?;
+    let (shared, mut workers, mut counters) = shared_of::<L, R>(rt, alloc, world, blank, 8, None)?;
     let logs = Mutex::new(Vec::new(alloc));
     let (lock, out) = (&shared, &logs);
     let lent = &mut workers;

@@ -1,5 +1,5 @@
-//! The calls of an array.
-use bpf_model::{Errno, MapKind, MapShape};
+//! A copy of an array.
+use bpf_model::{MapKind, MapShape};
 use maps::{ArrayMap, MapTable};
 use std::test::Fail;
 
@@ -15,44 +15,14 @@ const THREE: MapShape = MapShape {
 
 const LAST: [u8; 4] = [2, 0, 0, 0];
 
-const PAST_THE_END: [u8; 4] = [3, 0, 0, 0];
-
 const VALUE: [u8; 8] = [1, 2, 3, 4, 5, 6, 7, 8];
-
-/// Whether this is the value of a key.
-fn holds(array: &ArrayMap, key: &[u8], value: &[u8]) -> bool {
-    match array.bytes_of(key) {
-        Some(found) => found == value,
-        None => false,
-    }
-}
-
-#[test]
-fn values_of_an_array(rt: HostRuntime) -> Result<(), Fail> {
-    let mut array = ArrayMap::new(rt.alloc(), THREE)?;
-    assert_eq!(rt; array.lookup(&LAST), Some(2));
-    assert_eq!(rt; array.lookup(&PAST_THE_END), None);
-    assert!(rt; holds(&array, &LAST, &[0; 8]));
-    assert_eq!(rt;
-        array.update(&PAST_THE_END, &VALUE, 3),
-        Err(Errno::InvalidArgument)
-    );
-    assert_eq!(rt; array.update(&PAST_THE_END, &VALUE, 1), Err(Errno::TooBig));
-    assert_eq!(rt; array.update(&LAST, &VALUE, 1), Err(Errno::Exists));
-    assert_eq!(rt; array.update(&LAST, &VALUE, 2), Ok(()));
-    assert_eq!(rt; array.delete(&LAST), Err(Errno::InvalidArgument));
-    assert!(rt; holds(&array, &LAST, &VALUE));
-    array.advance();
-    assert!(rt; array.reap().is_none());
-    assert_eq!(rt; array.counts().linked, 3);
-    Ok(())
-}
 
 #[test]
 fn copy_of_an_array(rt: HostRuntime) -> Result<(), Fail> {
     let mut array = ArrayMap::new(rt.alloc(), THREE)?;
+    assert_eq!(rt; array.lookup(&LAST), Some(2));
     assert_eq!(rt; array.update(&LAST, &VALUE, 0), Ok(()));
-    let mut copy = array.copy()?;
+    let copy = array.copy()?;
     assert_eq!(rt; array.update(&LAST, &[0; 8], 0), Ok(()));
     drop(array);
     match copy.next_above(Some([1, 0, 0, 0].as_slice())) {
@@ -63,21 +33,5 @@ fn copy_of_an_array(rt: HostRuntime) -> Result<(), Fail> {
         None => assert!(rt; false, "no element above"),
     }
     assert!(rt; copy.next_above(Some(LAST.as_slice())).is_none());
-    Ok(())
-}
-
-#[test]
-fn slots_of_an_array_in_order(rt: HostRuntime) -> Result<(), Fail> {
-    let array = ArrayMap::new(
-        rt.alloc(),
-        MapShape {
-            entries: 258,
-            ..THREE
-        },
-    )?;
-    let slots = array.in_order(rt.alloc())?;
-    assert_eq!(rt; slots.len(), 258);
-    assert!(rt; slots.starts_with(&[0, 256, 1, 257, 2, 3]));
-    assert_eq!(rt; slots.last(), Some(&255));
     Ok(())
 }

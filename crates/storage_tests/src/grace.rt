@@ -2,160 +2,126 @@
 
 use bpf_model::{MAX_DEPTH, MAX_RUNS, RunId};
 use element_store::Grace;
-use std::process::Abort;
-use std::test::Fail;
+use std::alloc::{AllocError, Global};
 
-/// The first and the last run slot, and two that stand side by side in different words.
-const SLOTS: [usize; 4] = [0, 63, 64, 255];
+/// What happens from the start on, one history a line. `+7` is a lock of run 7, `-7` an unlock, each with a question mark behind it
+/// where it may not be; `x7` drops that run. `turns` is an advance that turns, `stays` one that does not. `5*2` says that
+/// run 5 is inside two locks, and no other run in any; `none` that no run is.
+const HISTORIES: &str = "\
++7 turns +8 -7 +7 turns stays -7 stays -8 turns
++5 turns +5 5*2 stays -5 5*1 stays -5 none turns
++200 200*1 +200 200*2 +200 200*3 +200 200*4 +200 200*5 +200 200*6 +200 200*7 +200 200*8 +200? turns \
+stays -200 200*7 stays -200 200*6 stays -200 200*5 stays -200 200*4 \
+stays -200 200*3 stays -200 200*2 stays -200 200*1 stays -200 none -200? turns
++0 0*1 turns stays -0 none turns
++63 63*1 turns stays -63 none turns
++64 64*1 turns stays -64 none turns
++255 255*1 turns stays -255 none turns
++256? none turns
++0 +63 +64 +255 turns stays -0 stays -63 stays -64 stays -255 turns
++64 +64 +64 turns stays x64 none turns
+";
 
-/// A lock of a run, where there is room for one.
-fn lock(grace: &mut Grace, slot: usize) -> Result<(), &'static str> {
+/// A lock or an unlock of a run, where it may be.
+fn step(grace: &mut Grace, slot: usize, is_lock: bool) -> bool {
     let run = RunId::new(slot);
-    if slot >= MAX_RUNS || grace.depth(run) >= MAX_DEPTH {
-        return Err("no room for a lock");
+    if slot >= MAX_RUNS {
+        return false;
     }
-    grace.open(run);
-    Ok(())
+    let depth = grace.depth(run);
+    if is_lock && depth < MAX_DEPTH {
+        grace.open(run);
+        return true;
+    }
+    if !is_lock && depth > 0 {
+        grace.close(run);
+        return true;
+    }
+    false
 }
 
-/// An unlock of a run, where a lock of it is open.
-fn unlock(grace: &mut Grace, slot: usize) -> Result<(), &'static str> {
-    let run = RunId::new(slot);
-    if slot >= MAX_RUNS || grace.depth(run) == 0 {
-        return Err("no lock is open");
+/// The runs that are inside a section, each with its depth.
+fn open_runs(alloc: Global, grace: &Grace) -> Result<String, AllocError> {
+    let mut text = String::new(alloc);
+    for slot in 0..MAX_RUNS {
+        let run = RunId::new(slot);
+        let depth = grace.depth(run);
+        if grace.is_open(run) {
+            text.push_str(&format!(in alloc; "{slot}*{depth}")?)?;
+        } else if depth > 0 {
+            text.push('?')?;
+        }
     }
-    grace.close(run);
-    Ok(())
+    if text.is_empty() {
+        text.push_str("none")?;
+    }
+    Ok(text)
 }
 
-/// The run in this run slot is so deep, and no other is inside a section.
-fn is_alone(rt: &impl Abort, grace: &Grace, slot: usize, depth: usize) {
-    for other in 0..MAX_RUNS {
-        let run = RunId::new(other);
-        assert_eq!(rt; grace.depth(run), if other == slot { depth } else { 0 });
-        assert_eq!(rt; grace.is_open(run), other == slot && depth > 0);
+/// The number in a word.
+fn number_in(word: &str) -> usize {
+    let mut number: usize = 0;
+    for byte in word.bytes() {
+        if byte.is_ascii_digit() {
+            number = number
+                .saturating_mul(10)
+                .saturating_add(usize::from(byte - b'0'));
+        }
     }
+    number
 }
 
-/// A section that begins after the grace period did is not awaited, also of a run that was.
+/// Does what a word says, and tells the word that is right of it.
+fn told(alloc: Global, grace: &mut Grace, word: &str) -> Result<String, AllocError> {
+    let slot = number_in(word);
+    let (sign, done) = match word.as_bytes().first() {
+        Some(b'+') => ("+", step(grace, slot, true)),
+        Some(b'-') => ("-", step(grace, slot, false)),
+        Some(b'x') if slot < MAX_RUNS => {
+            grace.close_all(RunId::new(slot));
+            ("x", true)
+        }
+        Some(b't' | b's') if grace.advance() => return String::from_str(alloc, "turns"),
+        Some(b't' | b's') => return String::from_str(alloc, "stays"),
+        _ => return open_runs(alloc, grace),
+    };
+    let mark = if done { "" } else { "?" };
+    format!(in alloc; "{sign}{slot}{mark}")
+}
+
+/// The words of a history as they are right.
+fn replayed(alloc: Global, grace: &mut Grace, history: &str) -> Result<String, AllocError> {
+    let mut text = String::new(alloc);
+    for word in history.split(' ') {
+        if !text.is_empty() {
+            text.push(' ')?;
+        }
+        text.push_str(&told(alloc, grace, word)?)?;
+    }
+    Ok(text)
+}
+
 #[test]
-fn a_later_section_is_not_awaited(rt: HostRuntime) -> Result<(), Fail> {
-    let mut grace = Grace::new();
-    lock(&mut grace, 7)?;
-    assert!(rt; grace.advance());
-    lock(&mut grace, 8)?;
-    unlock(&mut grace, 7)?;
-    lock(&mut grace, 7)?;
-    assert!(rt; grace.advance());
-    // Now both are awaited.
-    assert!(rt; !grace.advance());
-    unlock(&mut grace, 7)?;
-    assert!(rt; !grace.advance());
-    unlock(&mut grace, 8)?;
-    assert!(rt; grace.advance());
-    Ok(())
-}
-
-/// A section is open, and awaited, until the unlock of its outermost lock: the locks between only nest.
-#[test]
-fn inner_locks_only_nest(rt: HostRuntime) -> Result<(), Fail> {
-    let mut grace = Grace::new();
-    lock(&mut grace, 5)?;
-    assert!(rt; grace.advance());
-    lock(&mut grace, 5)?;
-    is_alone(&rt, &grace, 5, 2);
-    assert!(rt; !grace.advance());
-    unlock(&mut grace, 5)?;
-    is_alone(&rt, &grace, 5, 1);
-    assert!(rt; !grace.advance());
-    unlock(&mut grace, 5)?;
-    is_alone(&rt, &grace, 5, 0);
-    assert!(rt; grace.advance());
-    Ok(())
-}
-
-/// A run's locks nest to depth 8, and so many unlocks end its section.
-#[test]
-fn locks_nest_to_depth_eight(rt: HostRuntime) -> Result<(), Fail> {
-    let mut grace = Grace::new();
-    for deep in 1..9 {
-        lock(&mut grace, 200)?;
-        is_alone(&rt, &grace, 200, deep);
-    }
-    assert_eq!(rt; lock(&mut grace, 200), Err("no room for a lock"));
-    assert!(rt; grace.advance());
-    for left in 0..8 {
-        assert!(rt; !grace.advance());
-        unlock(&mut grace, 200)?;
-        is_alone(&rt, &grace, 200, 7 - left);
-    }
-    assert_eq!(rt; unlock(&mut grace, 200), Err("no lock is open"));
-    assert!(rt; grace.advance());
-    Ok(())
-}
-
-/// There are 256 run slots, and each has a depth and flags of its own.
-#[test]
-fn slots_are_apart(rt: HostRuntime) -> Result<(), Fail> {
+fn histories(rt: HostRuntime) -> Result<(), AllocError> {
     assert_eq!(rt; MAX_RUNS, 256);
-    for slot in SLOTS {
-        let mut grace = Grace::new();
-        lock(&mut grace, slot)?;
-        is_alone(&rt, &grace, slot, 1);
-        assert!(rt; grace.advance());
-        assert!(rt; !grace.advance());
-        unlock(&mut grace, slot)?;
-        is_alone(&rt, &grace, slot, 0);
-        assert!(rt; grace.advance());
+    for history in HISTORIES.lines() {
+        let text = replayed(rt.alloc(), &mut Grace::new(), history)?;
+        assert_eq!(rt; text.as_str(), history);
     }
-    Ok(())
-}
-
-/// Each awaited run is awaited until its own section ends.
-#[test]
-fn each_awaited_run_is_waited_for(rt: HostRuntime) -> Result<(), Fail> {
-    let mut grace = Grace::new();
-    for slot in SLOTS {
-        lock(&mut grace, slot)?;
-    }
-    assert!(rt; grace.advance());
-    for slot in SLOTS {
-        assert!(rt; !grace.advance());
-        unlock(&mut grace, slot)?;
-    }
-    assert!(rt; grace.advance());
-    Ok(())
-}
-
-/// A run that is dropped gives up all of its locks, and is awaited no more.
-#[test]
-fn a_dropped_run_gives_up_its_locks(rt: HostRuntime) -> Result<(), Fail> {
-    let mut grace = Grace::new();
-    for _ in 0..3 {
-        lock(&mut grace, 64)?;
-    }
-    assert!(rt; grace.advance());
-    assert!(rt; !grace.advance());
-    grace.close_all(RunId::new(64));
-    is_alone(&rt, &grace, 64, 0);
-    assert!(rt; grace.advance());
     Ok(())
 }
 
 /// A copy goes its own way.
 #[test]
-fn copies_go_their_own_way(rt: HostRuntime) -> Result<(), Fail> {
+fn copies_go_their_own_way(rt: HostRuntime) -> Result<(), AllocError> {
+    let alloc = rt.alloc();
     let mut grace = Grace::new();
-    lock(&mut grace, 255)?;
-    lock(&mut grace, 255)?;
-    assert!(rt; grace.advance());
+    let before = replayed(alloc, &mut grace, "+255 +255 turns")?;
     let mut other = grace.copy();
-    grace.close_all(RunId::new(255));
-    assert!(rt; grace.advance());
-    is_alone(&rt, &other, 255, 2);
-    assert!(rt; !other.advance());
-    unlock(&mut other, 255)?;
-    unlock(&mut other, 255)?;
-    assert!(rt; other.advance());
+    let one = replayed(alloc, &mut grace, "x255 turns")?;
+    let two = replayed(alloc, &mut other, "255*2 stays -255 -255 turns")?;
+    assert_eq!(rt; before.as_str(), "+255 +255 turns");
+    assert_eq!(rt; one.as_str(), "x255 turns");
+    assert_eq!(rt; two.as_str(), "255*2 stays -255 -255 turns");
     Ok(())
 }

@@ -6,12 +6,12 @@ mod arena;
 #[cfg(test)]
 mod arrays;
 #[cfg(test)]
-mod copies;
-#[cfg(test)]
 mod grace;
 #[cfg(test)]
 mod indexes;
 #[cfg(test)]
 mod map_tables;
+#[cfg(test)]
+mod registries;
 #[cfg(test)]
 mod vectors;

@@ -1,14 +1,10 @@
-//! Maps of both forms over lines of commands, with the answers that they must have, worked out by hand; and the registry.
-//! Bytes are hexadecimal digits. `slot` asks for the slot of a key, `above` for the element with the least key above
-//! another, or of all (`-`), `list` for the map slots of all elements in the order of their keys.
-use crate::vectors::Vectors;
-use bpf_model::{Errno, Given, MapId, MapKind, MapShape};
+//! Maps of both forms over lines of commands, with the answers that they must have, worked out by hand. Bytes are hexadecimal
+//! digits. `slot` asks for the slot of a key, `above` for the element with the least key above another, or of all, `list` for
+//! the map slots of all elements in the order of their keys.
+use bpf_model::{Errno, MapKind, MapShape};
 use hash_index::{Buckets, Index, Sorted};
-use maps::{HashMap, MapTable, Registry};
+use maps::{HashMap, MapTable};
 use std::alloc::Global;
-use std::fmt::Write;
-use std::process::Abort;
-use std::str::Split;
 use std::test::Fail;
 
 /// One-byte keys, two-byte values, at most two elements, and one further map slot.
@@ -23,85 +19,108 @@ pub(crate) const SMALL: MapShape = MapShape {
 
 /// The tests of an update in their order; the slots that elements take; the order of reclamation; wear;
 /// order of keys.
-const SMALL_LINES: &str = "slot 07 = none\n\
-list = slots\n\
-put 07 0102 3 = -22\n\
-put 07 0102 2 = -2\n\
-put 07 0102 0 = 0\n\
-slot 07 = 0\n\
-put 07 0102 1 = -17\n\
-put 08 0304 1 = 0\n\
-slot 08 = 1\n\
-put 09 0506 0 = -7\n\
-above - = 07 0102\n\
-above 07 = 08 0304\n\
-above 08 = none\n\
-put 07 0708 2 = 0\n\
-slot 07 = 2\n\
-list = slots 2 1\n\
-above - = 07 0708\n\
-put 07 0909 2 = -12\n\
-del 09 = -2\n\
-del 08 = 0\n\
-slot 08 = none\n\
-put 09 0506 0 = -12\n\
-reap = none\n\
-advance = ok\n\
-reap = none\n\
-advance = ok\n\
-reap = 07 free\n\
-reap = 08 free\n\
-reap = none\n\
-put 09 0506 0 = 0\n\
-slot 09 = 0\n\
-del 07 = 0\n\
-put 0a 0101 0 = 0\n\
-slot 0a = 1\n\
-advance = ok\n\
-del 0a = 0\n\
-advance = ok\n\
-reap = 07 free\n\
-reap = none\n\
-advance = ok\n\
-reap = 0a worn\n\
-put 07 0102 0 = 0\n\
-slot 07 = 2\n\
-del 09 = 0\n\
-del 07 = 0\n\
-advance = ok\n\
-advance = ok\n\
-reap = 09 worn\n\
-reap = 07 worn\n\
-put 07 0102 0 = -12\n";
+const SMALL_LINES: &str = "\
+slot 07 = None
+list = []
+put 07 0102 3 = -22
+put 07 0102 2 = -2
+put 07 0102 0 = 0
+slot 07 = Some(0)
+put 07 0102 1 = -17
+put 08 0304 1 = 0
+slot 08 = Some(1)
+put 09 0506 0 = -7
+above = 07 0102
+above 07 = 08 0304
+above 08 = none
+put 07 0708 2 = 0
+slot 07 = Some(2)
+list = [2, 1]
+above = 07 0708
+put 07 0909 2 = -12
+del 09 = -2
+del 08 = 0
+slot 08 = None
+put 09 0506 0 = -12
+reap = none
+advance = ok
+reap = none
+advance = ok
+reap = 07 Free
+reap = 08 Free
+reap = none
+put 09 0506 0 = 0
+slot 09 = Some(0)
+del 07 = 0
+put 0a 0101 0 = 0
+slot 0a = Some(1)
+advance = ok
+del 0a = 0
+advance = ok
+reap = 07 Free
+reap = none
+advance = ok
+reap = 0a Worn
+put 07 0102 0 = 0
+slot 07 = Some(2)
+del 09 = 0
+del 07 = 0
+advance = ok
+advance = ok
+reap = 09 Worn
+reap = 07 Worn
+put 07 0102 0 = -12
+";
 
-type Words<'a> = Split<'a, char>;
+/// One element is linked, one waits for the end of the grace period, one was unlinked since it began.
+const BEFORE: &str = "\
+put 07 0102 0 = 0
+put 08 0304 0 = 0
+put 07 0506 2 = 0
+advance = ok
+del 08 = 0
+";
 
-fn word<'a>(words: &mut Words<'a>) -> Result<&'a str, Fail> {
-    match words.next() {
-        Some(word) => Ok(word),
-        None => Err(Fail::from("a word is missing")),
-    }
-}
+/// The slots are given back in the order of unlinking; the second use of the first wears it.
+const AFTER: &str = "\
+put 09 0708 0 = -12
+slot 07 = Some(2)
+above = 07 0506
+advance = ok
+reap = 07 Free
+advance = ok
+reap = 08 Free
+put 09 0708 0 = 0
+slot 09 = Some(0)
+above 07 = 09 0708
+del 09 = 0
+advance = ok
+advance = ok
+reap = 09 Worn
+reap = none
+";
 
-fn bytes(alloc: Global, words: &mut Words) -> Result<Vec<u8>, Fail> {
-    Ok(hex::decode(alloc, word(words)?)?)
-}
+/// Slots are taken again in the order in which they were given back, behind those that were never used.
+const GIVEN_BACK: &str = "\
+put 07 0102 0 = 0
+put 08 0304 0 = 0
+slot 08 = Some(1)
+del 08 = 0
+del 07 = 0
+advance = ok
+advance = ok
+reap = 08 Free
+reap = 07 Free
+put 09 0506 0 = 0
+slot 09 = Some(2)
+put 0a 0708 0 = 0
+slot 0a = Some(1)
+del 0a = 0
+put 0b 090a 0 = 0
+slot 0b = Some(0)
+";
 
-fn flags(words: &mut Words) -> Result<u64, Fail> {
-    match word(words)?.parse::<u64>() {
-        Ok(flags) => Ok(flags),
-        Err(_) => Err(Fail::from("no number")),
-    }
-}
-
-fn tell_result(text: &mut String, told: Result<(), Errno>) -> Result<(), Fail> {
-    match told {
-        Ok(()) => text.push('0')?,
-        Err(errno) => write!(text, "-{}", errno.number())?,
-    }
-    Ok(())
-}
-
+/// Puts a value under a key, where both have the lengths of the map.
 pub(crate) fn put<I: Index>(
     map: &mut HashMap<I>,
     key: &[u8],
@@ -115,192 +134,96 @@ pub(crate) fn put<I: Index>(
     Ok(map.update(key, value, flags))
 }
 
-fn tell_slot(text: &mut String, slot: Option<usize>) -> Result<(), Fail> {
-    match slot {
-        Some(slot) => write!(text, "{slot}")?,
-        None => text.push_str("none")?,
+fn tell_result(alloc: Global, told: Result<(), Errno>) -> Result<String, Fail> {
+    match told {
+        Ok(()) => Ok(String::from_str(alloc, "0")?),
+        Err(errno) => Ok(format!(in alloc; "-{}", errno.number())?),
     }
-    Ok(())
 }
 
-fn reap<I: Index>(
-    alloc: Global,
-    map: &mut HashMap<I>,
-    vectors: &mut Vectors,
-    text: &mut String,
-) -> Result<(), Fail> {
-    let reaped = map.reap();
-    let first = match &reaped {
-        Some((key, _)) => key.as_slice().first().copied(),
-        None => None,
-    };
-    if first != vectors.reap() {
-        return Err(Fail::from("another element than in the vectors"));
-    }
-    match reaped {
+/// Reclaims an element, and tells its key and what becomes of its slot.
+fn reap<I: Index>(alloc: Global, map: &mut HashMap<I>) -> Result<String, Fail> {
+    match map.reap() {
         Some((key, given)) => {
             let key = hex::encode(alloc, key.as_slice())?;
-            let how = match given {
-                Given::Free => "free",
-                Given::Worn => "worn",
-            };
-            write!(text, "{key} {how}")?;
+            Ok(format!(in alloc; "{key} {given:?}")?)
         }
-        None => text.push_str("none")?,
+        None => Ok(String::from_str(alloc, "none")?),
     }
-    Ok(())
 }
 
-fn above<I: Index>(
-    alloc: Global,
-    map: &HashMap<I>,
-    bound: &str,
-    text: &mut String,
-) -> Result<(), Fail> {
-    let digits = if bound == "-" { "" } else { bound };
-    let bytes = hex::decode(alloc, digits)?;
-    let bound = if digits.is_empty() {
-        None
-    } else {
-        Some(bytes.as_slice())
-    };
+/// The element with the least key above this one, or above none where it is empty.
+fn above<I: Index>(alloc: Global, map: &HashMap<I>, key: &[u8]) -> Result<String, Fail> {
+    let bound = if key.is_empty() { None } else { Some(key) };
     match map.next_above(bound) {
         Some((key, value)) => {
             let key = hex::encode(alloc, key.as_slice())?;
             let value = hex::encode(alloc, value.as_slice())?;
-            write!(text, "{key} {value}")?;
+            Ok(format!(in alloc; "{key} {value}")?)
         }
-        None => text.push_str("none")?,
+        None => Ok(String::from_str(alloc, "none")?),
     }
-    Ok(())
 }
 
-/// Writes the map slots of all elements, in the order of their keys.
-fn list<I: Index>(alloc: Global, map: &HashMap<I>, text: &mut String) -> Result<(), Fail> {
-    text.push_str("slots")?;
-    let slots = map.in_order(alloc)?;
-    for slot in &slots {
-        write!(text, " {slot}")?;
-    }
-    Ok(())
-}
-
-/// Does the command of a line, also on the vectors, and writes its answer.
-fn answer<I: Index>(
-    alloc: Global,
-    map: &mut HashMap<I>,
-    vectors: &mut Vectors,
-    line: &str,
-    text: &mut String,
-) -> Result<(), Fail> {
+/// Does the command of a line, and tells its answer.
+fn answer<I: Index>(alloc: Global, map: &mut HashMap<I>, line: &str) -> Result<String, Fail> {
     let mut words = line.split(' ');
-    let words = &mut words;
-    match word(words)? {
+    let verb = words.next().unwrap_or("");
+    let key = hex::decode(alloc, words.next().unwrap_or(""))?;
+    match verb {
         "put" => {
-            let key = bytes(alloc, words)?;
-            let value = bytes(alloc, words)?;
-            let was_linked = map.lookup(&key).is_some();
-            let told = put(map, &key, &value, flags(words)?)?;
-            if was_linked && told.is_ok() {
-                vectors.retire(&key)?;
-            }
-            tell_result(text, told)
+            let value = hex::decode(alloc, words.next().unwrap_or(""))?;
+            let flags = words.next().unwrap_or("").parse::<u64>().unwrap_or(0);
+            tell_result(alloc, put(map, &key, &value, flags)?)
         }
-        "del" => {
-            let key = bytes(alloc, words)?;
-            let told = map.delete(&key);
-            if told.is_ok() {
-                vectors.retire(&key)?;
-            }
-            tell_result(text, told)
-        }
-        "slot" => {
-            let key = bytes(alloc, words)?;
-            tell_slot(text, map.lookup(&key))
-        }
-        "above" => above(alloc, map, word(words)?, text),
-        "list" => list(alloc, map, text),
-        "reap" => reap(alloc, map, vectors, text),
-        "advance" => {
+        "del" => tell_result(alloc, map.delete(&key)),
+        "slot" => Ok(format!(in alloc; "{:?}", map.lookup(&key))?),
+        "list" => Ok(format!(in alloc; "{:?}", map.in_order(alloc)?.as_slice())?),
+        "above" => above(alloc, map, &key),
+        "reap" => reap(alloc, map),
+        _ => {
             map.advance();
-            vectors.advance()?;
-            text.push_str("ok")?;
-            Ok(())
+            Ok(String::from_str(alloc, "ok")?)
         }
-        _ => Err(Fail::from("no command")),
     }
 }
 
-/// The lines with the answers that a map gives. What it reaps is what the vectors have.
-pub(crate) fn replay<I: Index>(
-    alloc: Global,
-    map: &mut HashMap<I>,
-    vectors: &mut Vectors,
-    lines: &str,
-) -> Result<String, Fail> {
+/// The lines with the answers that a map gives.
+fn replay<I: Index>(alloc: Global, map: &mut HashMap<I>, lines: &str) -> Result<String, Fail> {
     let mut text = String::new(alloc);
     for line in lines.lines() {
-        let Some((command, _)) = line.split_once(" = ") else {
-            return Err(Fail::from("no answer is wanted"));
-        };
-        write!(text, "{command} = ")?;
-        answer(alloc, map, vectors, command, &mut text)?;
-        text.push('\n')?;
+        let (command, _) = line.split_once(" = ").unwrap_or((line, ""));
+        write!(&mut text, "{command} = {}\n", answer(alloc, map, command)?)?;
     }
     Ok(text)
 }
 
-/// Maps of this index answer the table.
-fn answers_table<I: Index + Drop, R: Abort>(rt: &R, alloc: Global) -> Result<(), Fail> {
-    let mut small: HashMap<I> = HashMap::new(alloc, SMALL)?;
-    let mut vectors = Vectors::new(alloc);
-    assert_eq!(rt;
-        replay(alloc, &mut small, &mut vectors, SMALL_LINES)?.as_str(),
-        SMALL_LINES
-    );
-    Ok(())
+/// The answers of a copy of a map, which is made between these lines, where they are those of the original, which goes on first.
+fn copy_answers<I: Index + Drop>(alloc: Global, before: &str, after: &str) -> Result<String, Fail> {
+    let mut map: HashMap<I> = HashMap::new(alloc, SMALL)?;
+    let _before = replay(alloc, &mut map, before)?;
+    let mut copy = map.copy(alloc)?;
+    let original = replay(alloc, &mut map, after)?;
+    drop(map);
+    let copied = replay(alloc, &mut copy, after)?;
+    if copied.as_str() != original.as_str() {
+        return Err(Fail::from("the copy answers otherwise"));
+    }
+    Ok(copied)
 }
 
 #[test]
 fn maps_of_both_forms(rt: HostRuntime) -> Result<(), Fail> {
-    answers_table::<Buckets, _>(&rt, rt.alloc())?;
-    answers_table::<Sorted, _>(&rt, rt.alloc())
-}
-
-/// A shape of no map: it has no entries.
-const EMPTY: MapShape = MapShape {
-    entries: 0,
-    ..SMALL
-};
-
-/// Names and what becomes of a map of each, the faults in their order.
-static NAMES: [(&str, bool, Option<u8>); 9] = [
-    ("", true, Some(50)),
-    ("9a", true, Some(50)),
-    ("Flows", true, Some(50)),
-    ("flow-s", false, Some(50)),
-    ("flows_9", true, None),
-    ("flows_9", false, Some(51)),
-    ("other", false, Some(52)),
-    ("abcdefghijklmnopqrstuvwxyz_01234", true, None),
-    ("abcdefghijklmnopqrstuvwxyz_012345", true, Some(50)),
-];
-
-#[test]
-fn registry_of_maps(rt: HostRuntime) -> Result<(), Fail> {
-    let mut registry = Registry::new(rt.alloc());
-    for (name, fine, code) in &NAMES {
-        let shape = if *fine { SMALL } else { EMPTY };
-        let made = registry.create(name, shape);
-        assert_eq!(rt; made.err().map(|fault| fault.code()), *code);
+    let alloc = rt.alloc();
+    for (before, after) in [("", SMALL_LINES), (BEFORE, AFTER), ("", GIVEN_BACK)] {
+        assert_eq!(rt;
+            copy_answers::<Buckets>(alloc, before, after)?.as_str(),
+            after
+        );
+        assert_eq!(rt;
+            copy_answers::<Sorted>(alloc, before, after)?.as_str(),
+            after
+        );
     }
-    assert_eq!(rt; registry.len(), 2);
-    let second = registry.id("abcdefghijklmnopqrstuvwxyz_01234");
-    assert_eq!(rt; second.map(|id| id.index()), Some(1));
-    assert!(rt; registry.id("other").is_none());
-    let id = MapId::new(1);
-    assert_eq!(rt; registry.shape(id), Some(SMALL));
-    assert!(rt; registry.name(id).is_some_and(|name| name.len() == 32));
-    assert!(rt; registry.map(id).is_some());
     Ok(())
 }

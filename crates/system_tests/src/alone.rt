@@ -1,41 +1,36 @@
-//! Runs of programs by themselves that were verified for maps.
-use crate::standing::SHAPE;
-use asm::assemble;
-use bpf_model::CtxBytes;
+//! Runs of programs by themselves, also of such as were verified for maps.
+use crate::programs::{MAPS, longest, verified};
+use bpf_model::{CtxBytes, MapShape};
 use map_free_runs::{has_no_maps, run_to_exit};
+use std::alloc::Global;
 use std::test::Fail;
-use verifier::verify;
 
 /// A sum in a section.
-const SUM: &str = "callbtf 1\n\
-mov64 r6, 20\n\
-add64 r6, 22\n\
-callbtf 2\n\
-mov64 r0, r6\n\
-exit\n";
+const SUM: &str = "callbtf 1; mov64 r6, 20; add64 r6, 22; callbtf 2; mov64 r0, r6; exit";
 
 /// A program that loads a map's reference, and makes nothing of it.
-const NAMING: &str = "ldmap r1, 0\n\
-mov64 r0, 0\n\
-exit\n";
+const NAMING: &str = "ldmap r1, 0; mov64 r0, 0; exit";
 
-#[test]
-fn unnamed_maps_change_nothing(rt: HostRuntime) -> Result<(), Fail> {
-    let program = assemble(rt.alloc(), SUM)?;
-    let verified = verify(rt.alloc(), program, &[SHAPE, SHAPE], 0)?;
+/// The exit value and the number of steps, where the program names no map.
+fn exit_of(alloc: Global, lines: &str, maps: &[MapShape]) -> Result<Option<(u64, usize)>, Fail> {
+    let verified = verified(alloc, lines, maps, 0)?;
     if !has_no_maps(&verified) {
-        return Err(Fail::from("a map that the program does not name"));
+        return Ok(None);
     }
     let finished = run_to_exit(&verified, &CtxBytes::new());
-    assert_eq!(rt; finished.value, 42);
-    assert_eq!(rt; finished.steps, 6);
-    Ok(())
+    Ok(Some((finished.value, finished.steps)))
 }
 
 #[test]
-fn named_map_is_told(rt: HostRuntime) -> Result<(), Fail> {
-    let program = assemble(rt.alloc(), NAMING)?;
-    let verified = verify(rt.alloc(), program, &[SHAPE], 0)?;
-    assert_eq!(rt; has_no_maps(&verified), false);
+fn runs_to_the_exit(rt: HostRuntime) -> Result<(), Fail> {
+    let alloc = rt.alloc();
+    // Maps that the program does not name change nothing.
+    assert_eq!(rt; exit_of(alloc, SUM, &MAPS)?, Some((42, 6)));
+    assert_eq!(rt; exit_of(alloc, NAMING, &MAPS)?, None);
+    let straight = longest(alloc, "mov64 r0, 0; mov64 r0, 0; ")?;
+    assert_eq!(rt; exit_of(alloc, &straight, &[])?, Some((0, 4096)));
+    // Each jump skips the move behind it.
+    let branches = longest(alloc, "jeq r0, 0, +1; mov64 r0, 0; ")?;
+    assert_eq!(rt; exit_of(alloc, &branches, &[])?, Some((0, 2049)));
     Ok(())
 }

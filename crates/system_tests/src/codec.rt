@@ -1,334 +1,119 @@
-//! Programs and faults whose bytes were spelled by hand from RFC 9669. A slot is written as its eight bytes
+//! Programs whose bytes were spelled by hand from RFC 9669. A slot is written as its eight bytes
 //! in order: opcode, registers (source, then destination), offset, imm.
 use insn_codec::{
-    AluOp, ByteOrder, CallKind, Condition, DecodeFault, Insn, InsnFlaw, Operand, Program, Reg,
-    SignExtension, SignedWidth, Size, SwapWidth, UnaryOp, Width, decode, decode_undoes_encode,
-    encode, encode_undoes_decode,
+    AluOp, CallKind, Insn, Operand, Program, Reg, Size, decode, decode_undoes_encode, encode,
+    encode_undoes_decode,
 };
-use std::alloc::{AllocError, Global};
 use std::test::Fail;
 
-const EXIT: u64 = 0x9500_0000_0000_0000;
-
-fn spelled(alloc: Global, slots: &[u64]) -> Result<Vec<u8>, AllocError> {
-    let mut bytes = Vec::new(alloc);
-    for slot in slots {
-        bytes.extend_from_slice(&slot.to_be_bytes())?;
-    }
-    Ok(bytes)
-}
-
 /// The slots of a program with an instruction of each form.
-const SLOTS: [u64; 26] = [
-    0x0701_0000_0500_0000,
-    0x0c21_0000_0000_0000,
-    0x3703_0100_feff_ffff,
-    0x9c43_0100_0000_0000,
-    0xbf21_0800_0000_0000,
-    0xbf21_2000_0000_0000,
-    0xbc21_1000_0000_0000,
-    0x8403_0000_0000_0000,
-    0xd404_0000_1000_0000,
-    0xdc04_0000_2000_0000,
-    0xd704_0000_4000_0000,
-    0x1803_0000_0100_0000,
-    0x0000_0000_0200_0000,
-    0x0500_feff_0000_0000,
-    0x0600_0000_0000_0100,
-    0xa501_fcff_0700_0000,
-    0xde21_0300_0000_0000,
-    0x7921_f8ff_0000_0000,
-    0x8921_0200_0000_0000,
-    0x720a_f8ff_0500_0000,
-    0x632a_fcff_0000_0000,
-    0x185a_0000_0300_0000,
-    0x0000_0000_0000_0000,
-    0x8500_0000_0200_0000,
-    0x8520_0000_ffff_ffff,
-    EXIT,
-];
+const SLOTS: &str = "\
+0701000005000000\
+0c21000000000000\
+37030100feffffff\
+9c43010000000000\
+bf21080000000000\
+bf21200000000000\
+bc21100000000000\
+8403000000000000\
+d404000010000000\
+dc04000020000000\
+d704000040000000\
+1803000001000000\
+0000000002000000\
+0500feff00000000\
+0600000000000100\
+a501fcff07000000\
+de21030000000000\
+7921f8ff00000000\
+8921020000000000\
+720af8ff05000000\
+632afcff00000000\
+185a000003000000\
+0000000000000000\
+8500000002000000\
+85200000ffffffff\
+9500000000000000";
 
-/// The instructions of `SLOTS`.
-const INSTRUCTIONS: [Insn; 24] = [
-    Insn::Alu {
-        op: AluOp::Add,
-        size: Size::Word64,
-        dst: Reg::R1,
-        src: Operand::Immediate(5),
-    },
-    Insn::Alu {
-        op: AluOp::Add,
-        size: Size::Word32,
-        dst: Reg::R1,
-        src: Operand::Register(Reg::R2),
-    },
-    Insn::Alu {
-        op: AluOp::SignedDiv,
-        size: Size::Word64,
-        dst: Reg::R3,
-        src: Operand::Immediate(-2),
-    },
-    Insn::Alu {
-        op: AluOp::SignedMod,
-        size: Size::Word32,
-        dst: Reg::R3,
-        src: Operand::Register(Reg::R4),
-    },
-    Insn::Unary {
-        op: UnaryOp::MoveSigned {
-            extension: SignExtension::ByteTo64,
-            src: Reg::R2,
-        },
-        dst: Reg::R1,
-    },
-    Insn::Unary {
-        op: UnaryOp::MoveSigned {
-            extension: SignExtension::WordTo64,
-            src: Reg::R2,
-        },
-        dst: Reg::R1,
-    },
-    Insn::Unary {
-        op: UnaryOp::MoveSigned {
-            extension: SignExtension::ShortTo32,
-            src: Reg::R2,
-        },
-        dst: Reg::R1,
-    },
-    Insn::Unary {
-        op: UnaryOp::Negate(Size::Word32),
-        dst: Reg::R3,
-    },
-    Insn::Unary {
-        op: UnaryOp::ByteSwap {
-            order: ByteOrder::ToLittle,
-            width: SwapWidth::Two,
-        },
-        dst: Reg::R4,
-    },
-    Insn::Unary {
-        op: UnaryOp::ByteSwap {
-            order: ByteOrder::ToBig,
-            width: SwapWidth::Four,
-        },
-        dst: Reg::R4,
-    },
-    Insn::Unary {
-        op: UnaryOp::ByteSwap {
-            order: ByteOrder::Swap,
-            width: SwapWidth::Eight,
-        },
-        dst: Reg::R4,
-    },
-    Insn::LoadNumber {
-        dst: Reg::R3,
-        number: 8_589_934_593,
-    },
-    Insn::Jump { offset: -2 },
-    Insn::JumpLong { imm: 65_536 },
-    Insn::JumpIf {
-        condition: Condition::Less,
-        size: Size::Word64,
-        dst: Reg::R1,
-        src: Operand::Immediate(7),
-        offset: -4,
-    },
-    Insn::JumpIf {
-        condition: Condition::SignedLessOrEqual,
-        size: Size::Word32,
-        dst: Reg::R1,
-        src: Operand::Register(Reg::R2),
-        offset: 3,
-    },
-    Insn::Load {
-        width: Width::Eight,
-        dst: Reg::R1,
-        src: Reg::R2,
-        offset: -8,
-    },
-    Insn::LoadSigned {
-        width: SignedWidth::Two,
-        dst: Reg::R1,
-        src: Reg::R2,
-        offset: 2,
-    },
-    Insn::Store {
-        width: Width::One,
-        dst: Reg::R10,
-        offset: -8,
-        src: Operand::Immediate(5),
-    },
-    Insn::Store {
-        width: Width::Four,
-        dst: Reg::R10,
-        offset: -4,
-        src: Operand::Register(Reg::R2),
-    },
-    Insn::LoadMap {
-        dst: Reg::R10,
-        map: 3,
-    },
-    Insn::Call {
-        kind: CallKind::Helper,
-        imm: 2,
-    },
-    Insn::Call {
-        kind: CallKind::Kernel,
-        imm: -1,
-    },
-    Insn::Exit,
-];
+/// The instructions of `SLOTS`, each behind the slot where it begins.
+const INSTRUCTIONS: &str = "\
+0 Alu { op: Add, size: Word64, dst: Reg { number: 1 }, src: Immediate(5) }
+1 Alu { op: Add, size: Word32, dst: Reg { number: 1 }, src: Register(Reg { number: 2 }) }
+2 Alu { op: SignedDiv, size: Word64, dst: Reg { number: 3 }, src: Immediate(-2) }
+3 Alu { op: SignedMod, size: Word32, dst: Reg { number: 3 }, src: Register(Reg { number: 4 }) }
+4 Unary { op: MoveSigned { extension: ByteTo64, src: Reg { number: 2 } }, dst: Reg { number: 1 } }
+5 Unary { op: MoveSigned { extension: WordTo64, src: Reg { number: 2 } }, dst: Reg { number: 1 } }
+6 Unary { op: MoveSigned { extension: ShortTo32, src: Reg { number: 2 } }, dst: Reg { number: 1 } }
+7 Unary { op: Negate(Word32), dst: Reg { number: 3 } }
+8 Unary { op: ByteSwap { order: ToLittle, width: Two }, dst: Reg { number: 4 } }
+9 Unary { op: ByteSwap { order: ToBig, width: Four }, dst: Reg { number: 4 } }
+10 Unary { op: ByteSwap { order: Swap, width: Eight }, dst: Reg { number: 4 } }
+11 LoadNumber { dst: Reg { number: 3 }, number: 8589934593 }
+13 Jump { offset: -2 }
+14 JumpLong { imm: 65536 }
+15 JumpIf { condition: Less, size: Word64, dst: Reg { number: 1 }, src: Immediate(7), offset: -4 }
+16 JumpIf { condition: SignedLessOrEqual, size: Word32, dst: Reg { number: 1 }, src: Register(Reg { number: 2 }), offset: 3 }
+17 Load { width: Eight, dst: Reg { number: 1 }, src: Reg { number: 2 }, offset: -8 }
+18 LoadSigned { width: Two, dst: Reg { number: 1 }, src: Reg { number: 2 }, offset: 2 }
+19 Store { width: One, dst: Reg { number: 10 }, offset: -8, src: Immediate(5) }
+20 Store { width: Four, dst: Reg { number: 10 }, offset: -4, src: Register(Reg { number: 2 }) }
+21 LoadMap { dst: Reg { number: 10 }, map: 3 }
+23 Call { kind: Helper, imm: 2 }
+24 Call { kind: Kernel, imm: -1 }
+25 Exit
+";
 
 #[test]
 fn every_form_and_back(rt: HostRuntime) -> Result<(), Fail> {
-    let bytes = spelled(rt.alloc(), &SLOTS)?;
-    let program = decode(rt.alloc(), &bytes)?;
-    assert_eq!(rt; program.instructions(), INSTRUCTIONS.as_slice());
-    assert_eq!(rt; program.len(), 24);
-    assert!(rt; !program.is_empty());
-    assert_eq!(rt; program.slot_count(), 26);
-    let starts = [
-        0, 1, 2, 3, 4, 5, 6, 7, 8, 9, 10, 11, 13, 14, 15, 16, 17, 18, 19, 20, 21, 23, 24, 25,
-    ];
-    assert_eq!(rt; program.starts(), starts.as_slice());
-    let copy = program.copy(rt.alloc())?;
-    let encoded = encode(rt.alloc(), &copy)?;
+    let alloc = rt.alloc();
+    let bytes = hex::decode(alloc, SLOTS)?;
+    let program = decode(alloc, &bytes)?;
+    let mut told = String::new(alloc);
+    for (insn, start) in program.instructions().iter().zip(program.starts()) {
+        write!(&mut told, "{start} {insn:?}\n")?;
+    }
+    assert_eq!(rt; told.as_str(), INSTRUCTIONS);
+    let sizes = (program.len(), program.is_empty(), program.slot_count());
+    assert_eq!(rt; sizes, (24, false, 26));
+    let encoded = encode(alloc, &program.copy(alloc)?)?;
     assert_eq!(rt; encoded.as_slice(), bytes.as_slice());
-    let again = encode_undoes_decode(rt.alloc(), &bytes)?;
+    let again = encode_undoes_decode(alloc, &bytes)?;
     assert_eq!(rt; again.as_slice(), bytes.as_slice());
-    let same = decode_undoes_encode(rt.alloc(), &program)?;
-    assert_eq!(rt; same.instructions(), INSTRUCTIONS.as_slice());
+    let same = decode_undoes_encode(alloc, &program)?;
+    assert_eq!(rt; same.instructions(), program.instructions());
     Ok(())
 }
+
+/// A load of a map, a move, and a call of a kernel function.
+const THREE: [Insn; 3] = [
+    Insn::LoadMap {
+        dst: Reg::R1,
+        map: 3,
+    },
+    Insn::Alu {
+        op: AluOp::Move,
+        size: Size::Word64,
+        dst: Reg::R2,
+        src: Operand::Register(Reg::R10),
+    },
+    Insn::Call {
+        kind: CallKind::Kernel,
+        imm: 1,
+    },
+];
 
 #[test]
 fn made_from_instructions(rt: HostRuntime) -> Result<(), Fail> {
-    let instructions = [
-        Insn::LoadMap {
-            dst: Reg::R1,
-            map: 3,
-        },
-        Insn::Alu {
-            op: AluOp::Move,
-            size: Size::Word64,
-            dst: Reg::R2,
-            src: Operand::Register(Reg::R10),
-        },
-        Insn::Call {
-            kind: CallKind::Kernel,
-            imm: 1,
-        },
-    ];
-    let instructions = Vec::from_slice(rt.alloc(), &instructions)?;
+    let instructions = Vec::from_slice(rt.alloc(), &THREE)?;
     let program = Program::from_instructions(rt.alloc(), instructions)?;
     assert_eq!(rt; program.start(1), 2);
     let bytes = encode(rt.alloc(), &program)?;
-    let wanted = spelled(
-        rt.alloc(),
-        &[
-            0x1851_0000_0300_0000,
-            0x0000_0000_0000_0000,
-            0xbfa2_0000_0000_0000,
-            0x8520_0000_0100_0000,
-        ],
-    )?;
-    assert_eq!(rt; bytes.as_slice(), wanted.as_slice());
-    Ok(())
-}
-
-/// What is wrong with these slots: the number of the fault and the slot.
-fn fault_of(alloc: Global, slots: &[u64]) -> Result<Option<(u8, Option<usize>)>, AllocError> {
-    let bytes = spelled(alloc, slots)?;
-    Ok(match decode(alloc, &bytes) {
-        Ok(_) => None,
-        Err(fault) => Some((fault.code(), fault.slot())),
-    })
-}
-
-#[test]
-fn each_flaw(rt: HostRuntime) -> Result<(), Fail> {
-    for (slot, number) in [
-        (0xff00_0000_0000_0000, 4),
-        (0x8c00_0000_0000_0000, 4),
-        // a call by register, and one of class JMP32
-        (0x8d00_0000_0000_0000, 4),
-        (0x8600_0000_0100_0000, 4),
-        (0x2000_0000_0000_0000, 5),
-        (0x2800_0000_0000_0000, 5),
-        (0x3000_0000_0000_0000, 5),
-        (0x4000_0000_0000_0000, 5),
-        (0x4800_0000_0000_0000, 5),
-        (0x50bb_0000_0000_0000, 5),
-        (0xc300_0000_0000_0000, 5),
-        (0xdb10_0000_0000_0000, 5),
-        (0xb70b_0000_0000_0000, 6),
-        (0x0fb1_0000_0000_0000, 6),
-        (0x851b_0000_0100_0000, 6),
-        (0x85b0_0000_0100_0000, 6),
-        // a call within the program, one of no kind, and wide instructions of other sources
-        (0x8510_0000_0100_0000, 7),
-        (0x8531_0100_0100_0000, 7),
-        (0x1810_0000_0000_0000, 7),
-        (0x1820_0000_0000_0000, 7),
-        (0x1830_0000_0000_0000, 7),
-        (0x1840_0000_0000_0000, 7),
-        (0x1860_0100_0000_0000, 7),
-        (0x8501_0000_0100_0000, 8),
-        (0x8520_0100_0100_0000, 8),
-        (0x1850_0100_0000_0000, 8),
-        (0xb700_0001_0700_0000, 8),
-        (0x0f10_0000_0100_0000, 8),
-        (0x3700_0200_0100_0000, 9),
-        (0xbc10_2000_0000_0000, 9),
-        (0xd400_0000_0800_0000, 10),
-        // a wide instruction before an exit, which is no second slot
-        (0x1800_0000_0000_0000, 12),
-        (0x1850_0000_0000_0000, 12),
-    ] {
-        let first = fault_of(rt.alloc(), &[slot, EXIT])?;
-        assert_eq!(rt; first, Some((number, Some(0))), "at {slot}");
-        let third = fault_of(rt.alloc(), &[0x1800_0000_0100_0000, 0, slot, EXIT])?;
-        assert_eq!(rt; third, Some((number, Some(2))), "behind, at {slot}");
-    }
-    Ok(())
-}
-
-/// The second slot of a wide instruction is missing, or has a number where it may have none.
-#[test]
-fn flawed_second_slots(rt: HostRuntime) -> Result<(), Fail> {
-    for wide in [0x1800_0000_0000_0000, 0x1850_0000_0000_0000] {
-        let cut = fault_of(rt.alloc(), &[EXIT, wide])?;
-        assert_eq!(rt; cut, Some((11, Some(1))), "at {wide}");
-    }
-    // a map, and a number in the second slot
-    let numbered = [0x1850_0000_0000_0000, 0x0000_0000_0100_0000, EXIT];
-    assert_eq!(rt; fault_of(rt.alloc(), &numbered)?, Some((12, Some(0))));
-    Ok(())
-}
-
-#[test]
-fn lengths(rt: HostRuntime) -> Result<(), Fail> {
-    for (length, number) in [(0, 2), (7, 1), (32_769, 1), (32_776, 3)] {
-        let bytes: Vec<u8> = vec![in rt.alloc(); 0; length]?;
-        match decode(rt.alloc(), &bytes) {
-            Ok(_) => assert!(rt; false, "at {length}"),
-            Err(fault) => {
-                assert_eq!(rt; (fault.code(), fault.slot()), (number, None), "at {length}");
-            }
-        }
-    }
-    Ok(())
-}
-
-#[test]
-fn printed_faults(rt: HostRuntime) -> Result<(), Fail> {
-    let fault = DecodeFault::Insn {
-        flaw: InsnFlaw::BadRegister,
-        slot: 3,
-    };
-    let flawed = format!(in rt.alloc(); "{fault}")?;
-    assert_eq!(rt; flawed.as_str(), "register above r10 at slot 3");
-    let long = format!(in rt.alloc(); "{}", DecodeFault::TooLong)?;
-    assert_eq!(rt; long.as_str(), "there are more than 4096 slots");
+    assert_eq!(rt;
+        hex::encode(rt.alloc(), &bytes)?.as_str(),
+        "1851000003000000\
+         0000000000000000\
+         bfa2000000000000\
+         8520000001000000"
+    );
     Ok(())
 }

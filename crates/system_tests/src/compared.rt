@@ -1,126 +1,93 @@
 //! Runs on words beside the reference interpreter, step by step, and beside exit values that another interpreter,
 //! written apart from this repository, computed.
-ghost use Rattle.std.specs.Prelude.{◌≡◌, IfOk, length};
+ghost use Rattle.std.specs.Prelude.{◌≡◌, length};
 ghost use Rattle.bpf_model.specs.Exit.{HasNoMaps};
 
-use crate::judged::{bytes_of, context_of};
-use bpf_model::{CTX_BYTES, Cell, CtxBytes, FRAME_BYTES, REGISTERS, Reg, Value};
-use insn_codec::decode;
+use crate::programs::verified;
+use bpf_model::{Cell, CtxBytes, FRAME_BYTES, REGISTERS, Reg, Value, array_of};
 use machine::Run;
 use map_free_runs::{Step, has_no_maps, start_alone, step_alone};
 use reference_interpreter::{PlainRun, Progress};
-use std::alloc::Global;
 use std::test::Fail;
-use verifier::{Verified, verify};
-
-/// A program, and the sum of its exit values, modulo 2^64, over all contexts of its length made of these
-/// bytes.
-struct Compared {
-    name: &'static str,
-    ctx_len: usize,
-    code: &'static str,
-    sum: u64,
-}
+use verifier::Verified;
 
 static BYTES: [u8; 5] = [0, 1, 7, 0x80, 0xff];
 
-static PROGRAMS: [Compared; 16] = [
-    Compared {
-        name: "constant",
-        ctx_len: 0,
-        code: "b700000001000000 9500000000000000",
-        sum: 1,
-    },
-    Compared {
-        name: "wide_then_jump",
-        ctx_len: 0,
-        code: "18020000f0debc9a 0000000078563412 2502010005000000 b702000000000000 bf20000000000000 9500000000000000",
-        sum: 1311768467463790320,
-    },
-    Compared {
-        name: "frame_pieces",
-        ctx_len: 0,
-        code: "7a0af8fffeffffff 720af8ff41000000 6a0afaff34120000 61a2f8ff00000000 79a0f8ff00000000 af20000000000000 9500000000000000",
-        sum: 18446744069414584320,
-    },
-    Compared {
-        name: "moved_frame_pointer",
-        ctx_len: 0,
-        code: "bfa6000000000000 07060000c0ffffff 62060800f9ffffff bf67000000000000 17070000f8ffffff 8170000000000000 9500000000000000",
-        sum: 18446744073709551609,
-    },
-    Compared {
-        name: "byte_of_context",
-        ctx_len: 1,
-        code: "7110000000000000 9500000000000000",
-        sum: 391,
-    },
-    Compared {
-        name: "signed_byte",
-        ctx_len: 1,
-        code: "9110000000000000 c700000001000000 9500000000000000",
-        sum: 18446744073709551554,
-    },
-    Compared {
-        name: "classify",
-        ctx_len: 1,
-        code: "7112000000000000 b700000000000000 a502060001000000 b700000001000000 a502040080000000 b700000002000000 15020100ff000000 0500010000000000 b700000003000000 9500000000000000",
-        sum: 7,
-    },
-    Compared {
-        name: "signed_classify",
-        ctx_len: 1,
-        code: "9112000000000000 b70000000a000000 c502030000000000 0700000001000000 6502010005000000 0700000002000000 9500000000000000",
-        sum: 57,
-    },
-    Compared {
-        name: "low_half_tests",
-        ctx_len: 1,
-        code: "7112000000000000 1803000000000000 0000000001000000 0f23000000000000 b700000000000000 1603010000000000 4700000001000000 4603010080000000 4700000002000000 3503010007000000 4700000004000000 d6030100ffffffff 4700000008000000 9500000000000000",
-        sum: 50,
-    },
-    Compared {
-        name: "mask_and_store",
-        ctx_len: 1,
-        code: "7112000000000000 5702000007000000 7b2af8ff00000000 71a0f8ff00000000 6700000003000000 9500000000000000",
-        sum: 120,
-    },
-    Compared {
-        name: "two_bytes",
-        ctx_len: 2,
-        code: "7112000000000000 7113010000000000 bf20000000000000 2d32020000000000 1f30000000000000 0500010000000000 0f30000000000000 9500000000000000",
-        sum: 290,
-    },
-    Compared {
-        name: "divisions",
-        ctx_len: 2,
-        code: "7112000000000000 7113010000000000 1702000064000000 bf20000000000000 3f30010000000000 bf24000000000000 9c34010000000000 0f40000000000000 bf25000000000000 3c35000000000000 af50000000000000 9f32000000000000 0f20000000000000 9500000000000000",
-        sum: 36662813935,
-    },
-    Compared {
-        name: "halfword",
-        ctx_len: 2,
-        code: "6910000000000000 dc00000010000000 d700000040000000 9500000000000000",
-        sum: 12295671407651586048,
-    },
-    Compared {
-        name: "short_signed",
-        ctx_len: 2,
-        code: "8912000000000000 bc20080000000000 bf23100000000000 2f30000000000000 8700000000000000 7700000003000000 9500000000000000",
-        sum: 9223404268973261395,
-    },
-    Compared {
-        name: "nested_branches",
-        ctx_len: 2,
-        code: "7112000000000000 7113010000000000 b700000000000000 1502050000000000 bd32020000000000 b700000005000000 0500040000000000 b700000006000000 0500020000000000 5503010000000000 b700000007000000 a700000055000000 4d32010000000000 8400000000000000 9500000000000000",
-        sum: 55834574764,
-    },
-    Compared {
-        name: "spread_over_frame",
-        ctx_len: 2,
-        code: "7112000000000000 7113010000000000 632af0ff00000000 633af4ff00000000 79a4f0ff00000000 bf40000000000000 c400000004000000 0f40000000000000 9500000000000000",
-        sum: 8396661065750,
-    },
+/// The length of a program's context, the sum of its exit values, modulo 2^64, over all contexts of that length made of
+/// `BYTES`, and the program.
+static PROGRAMS: [(usize, u64, &str); 16] = [
+    (0, 1, "mov64 r0, 1; exit"),
+    (
+        0,
+        1311768467463790320,
+        "lddw r2, 1311768467463790320; jgt r2, 5, +1; mov64 r2, 0; mov64 r0, r2; exit",
+    ),
+    (
+        0,
+        18446744069414584320,
+        "stdw [r10-8], -2; stb [r10-8], 65; sth [r10-6], 4660; ldxw r2, [r10-8]; ldxdw r0, [r10-8]; xor64 r0, r2; exit",
+    ),
+    (
+        0,
+        18446744073709551609,
+        "mov64 r6, r10; add64 r6, -64; stw [r6+8], -7; mov64 r7, r6; sub64 r7, -8; ldxsw r0, [r7+0]; exit",
+    ),
+    (1, 391, "ldxb r0, [r1+0]; exit"),
+    (
+        1,
+        18446744073709551554,
+        "ldxsb r0, [r1+0]; arsh64 r0, 1; exit",
+    ),
+    (
+        1,
+        7,
+        "ldxb r2, [r1+0]; mov64 r0, 0; jlt r2, 1, +6; mov64 r0, 1; jlt r2, 128, +4; mov64 r0, 2; jeq r2, 255, +1; ja +1; mov64 r0, 3; exit",
+    ),
+    (
+        1,
+        57,
+        "ldxsb r2, [r1+0]; mov64 r0, 10; jslt r2, 0, +3; add64 r0, 1; jsgt r2, 5, +1; add64 r0, 2; exit",
+    ),
+    (
+        1,
+        50,
+        "ldxb r2, [r1+0]; lddw r3, 4294967296; add64 r3, r2; mov64 r0, 0; jeq32 r3, 0, +1; or64 r0, 1; jset32 r3, 128, +1; or64 r0, 2; jge r3, 7, +1; or64 r0, 4; jsle32 r3, -1, +1; or64 r0, 8; exit",
+    ),
+    (
+        1,
+        120,
+        "ldxb r2, [r1+0]; and64 r2, 7; stxdw [r10-8], r2; ldxb r0, [r10-8]; lsh64 r0, 3; exit",
+    ),
+    (
+        2,
+        290,
+        "ldxb r2, [r1+0]; ldxb r3, [r1+1]; mov64 r0, r2; jgt r2, r3, +2; sub64 r0, r3; ja +1; add64 r0, r3; exit",
+    ),
+    (
+        2,
+        36662813935,
+        "ldxb r2, [r1+0]; ldxb r3, [r1+1]; sub64 r2, 100; mov64 r0, r2; sdiv64 r0, r3; mov64 r4, r2; smod32 r4, r3; add64 r0, r4; mov64 r5, r2; div32 r5, r3; xor64 r0, r5; mod64 r2, r3; add64 r0, r2; exit",
+    ),
+    (
+        2,
+        12295671407651586048,
+        "ldxh r0, [r1+0]; be16 r0; swap64 r0; exit",
+    ),
+    (
+        2,
+        9223404268973261395,
+        "ldxsh r2, [r1+0]; movsx32 r0, r2, 8; movsx64 r3, r2, 16; mul64 r0, r3; neg64 r0; rsh64 r0, 3; exit",
+    ),
+    (
+        2,
+        55834574764,
+        "ldxb r2, [r1+0]; ldxb r3, [r1+1]; mov64 r0, 0; jeq r2, 0, +5; jle r2, r3, +2; mov64 r0, 5; ja +4; mov64 r0, 6; ja +2; jne r3, 0, +1; mov64 r0, 7; xor64 r0, 85; jset r2, r3, +1; neg32 r0; exit",
+    ),
+    (
+        2,
+        8396661065750,
+        "ldxb r2, [r1+0]; ldxb r3, [r1+1]; stxw [r10-16], r2; stxw [r10-12], r3; ldxdw r4, [r10-16]; mov64 r0, r4; arsh32 r0, 4; add64 r0, r4; exit",
+    ),
 ];
 
 /// Whether each register that is a number holds it.
@@ -186,61 +153,37 @@ fn stepped(verified: &Verified, ctx: &CtxBytes) -> Option<u64>
     None
 }
 
-/// The exit value of a program on a context, where both agree.
-fn agreed(verified: &Verified, bytes: &[u8]) -> Result<u64, Fail>
-    requires { HasNoMaps verified.now.program }
-{
-    let ctx = context_of(bytes)?;
-    if ctx.len() != verified.ctx_len() {
-        return Err(Fail::from("a context of another length"));
-    }
-    match stepped(verified, &ctx) {
-        Some(value) => Ok(value),
-        None => Err(Fail::from("the runs differ")),
-    }
-}
-
-/// The sum of the exit values over all contexts of a length up to 2.
-fn sum_of(verified: &Verified, ctx_len: usize) -> Result<u64, Fail>
+/// The sum of the exit values over all contexts made of `BYTES`, of a length up to 2.
+fn sum_of(verified: &Verified) -> Result<u64, Fail>
     requires { HasNoMaps verified.now.program }
 {
     let mut sum: u64 = 0;
-    if ctx_len == 0 {
-        return agreed(verified, &[]);
-    }
-    for first in &BYTES {
-        if ctx_len == 1 {
-            sum = sum.wrapping_add(agreed(verified, &[*first])?);
-        } else {
-            for second in &BYTES {
-                sum = sum.wrapping_add(agreed(verified, &[*first, *second])?);
-            }
+    let ctx_len = verified.ctx_len();
+    let contexts = match ctx_len {
+        0 => 1,
+        1 => 5,
+        2 => 25,
+        _ => return Err(Fail::from("the context is too long")),
+    };
+    for number in 0..contexts {
+        let bytes = [BYTES[number % 5], BYTES[number / 5 % 5]];
+        let ctx: CtxBytes = array_of(&bytes[..ctx_len]);
+        match stepped(verified, &ctx) {
+            Some(value) => sum = sum.wrapping_add(value),
+            None => return Err(Fail::from("the runs differ")),
         }
     }
     Ok(sum)
 }
 
-fn verified_of(alloc: Global, case: &Compared) -> Result<Verified, Fail>
-    ensures { IfOk result (λ v. HasNoMaps v.program) }
-{
-    if case.ctx_len > CTX_BYTES {
-        return Err(Fail::from("the context is too long"));
-    }
-    let code = bytes_of(alloc, case.code)?;
-    let program = decode(alloc, &code)?;
-    let verified = verify(alloc, program, &[], case.ctx_len)?;
-    if !has_no_maps(&verified) {
-        return Err(Fail::from("the program names a map"));
-    }
-    Ok(verified)
-}
-
 #[test]
 fn runs_agree(rt: HostRuntime) -> Result<(), Fail> {
-    for case in &PROGRAMS {
-        let verified = verified_of(rt.alloc(), case)?;
-        let sum = sum_of(&verified, case.ctx_len)?;
-        assert_eq!(rt; sum, case.sum, "{}", case.name);
+    for (ctx_len, sum, lines) in &PROGRAMS {
+        let verified = verified(rt.alloc(), lines, &[], *ctx_len)?;
+        if !has_no_maps(&verified) {
+            return Err(Fail::from("the program names a map"));
+        }
+        assert_eq!(rt; sum_of(&verified)?, *sum, "{lines}");
     }
     Ok(())
 }

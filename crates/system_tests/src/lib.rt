@@ -11,16 +11,12 @@ mod compared;
 #[cfg(test)]
 mod joins;
 #[cfg(test)]
-mod judged;
-#[cfg(test)]
-mod long;
-#[cfg(test)]
 mod numbers;
+#[cfg(test)]
+mod programs;
 #[cfg(test)]
 mod sets;
 #[cfg(test)]
 mod standing;
 #[cfg(test)]
 mod text;
-#[cfg(test)]
-mod verdicts;

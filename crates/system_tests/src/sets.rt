@@ -1,139 +1,183 @@
 //! Sets of numbers: how narrow results are, worked out by hand.
-use bpf_model::{
-    AluOp, ByteOrder, Condition, Reg, SignExtension, SignedWidth, Size, SwapWidth, UnaryOp, Width,
-};
+use asm::assemble;
+use bpf_model::{AluOp, Condition, SignedWidth, Size, Width};
+use insn_codec::Insn;
 use scalar_domain::Scalar;
-use std::process::Abort;
+use std::alloc::Global;
+use std::test::Fail;
+
+/// What instructions with a constant in r2, which stands before them, make of a byte in r1, or leave of it where their condition
+/// holds: the least number and the greatest.
+const OF_A_BYTE: &str = "\
+8: add64 r1, r2 = 8 263
+18446744073709551615: add64 r1, r2 = 0 18446744073709551615
+8: mul64 r1, r2 = 0 2040
+10: div64 r1, r2 = 0 25
+1: xor64 r1, r2 = 0 255
+3: lsh64 r1, r2 = 0 2040
+67: lsh64 r1, r2 = 0 2040
+4: arsh64 r1, r2 = 0 15
+5: add32 r1, r2 = 5 260
+4294967295: add32 r1, r2 = 0 4294967295
+4294967299: mov32 r1, r2 = 3 3
+35: lsh32 r1, r2 = 0 2040
+10: sdiv32 r1, r2 = 0 25
+10: jlt r1, r2, +0 = 0 9
+10: jle r1, r2, +0 = 0 10
+10: jgt r1, r2, +0 = 11 255
+10: jge r1, r2, +0 = 10 255
+10: jeq r1, r2, +0 = 10 10
+10: jne r1, r2, +0 = 0 255
+0: jne r1, r2, +0 = 1 255
+10: jslt r1, r2, +0 = 0 9
+10: jlt32 r1, r2, +0 = 0 9
+0: swap16 r1 = 0 65535
+0: le16 r1 = 0 255
+0: movsx64 r1, r1, 16 = 0 255
+0: movsx32 r1, r1, 8 = 0 4294967295
+";
+
+/// The same, where no number is left.
+const NO_BYTE: &str = "\
+0: jlt r1, r2, +0 = 0 255
+18446744073709551615: jgt r1, r2, +0 = 0 255
+256: jeq r1, r2, +0 = 0 255
+";
+
+/// What conditions leave of a byte where they do not hold.
+const OF_A_BYTE_ELSE: &str = "\
+10: jlt r1, r2, +0 = 10 255
+10: jle r1, r2, +0 = 11 255
+10: jgt r1, r2, +0 = 0 10
+10: jge r1, r2, +0 = 0 9
+10: jne r1, r2, +0 = 10 10
+255: jeq r1, r2, +0 = 0 254
+";
+
+/// What becomes of any number.
+const OF_ANY: &str = "\
+7: and64 r1, r2 = 0 7
+10: mod64 r1, r2 = 0 9
+60: rsh64 r1, r2 = 0 15
+10: jlt32 r1, r2, +0 = 0 18446744073709551615
+0: jsgt r1, r2, +0 = 1 9223372036854775807
+10: jslt r1, r2, +0 = 0 18446744073709551615
+";
+
+/// What becomes of 1.
+const OF_ONE: &str = "\
+18446744073709551615: add64 r1, r2 = 0 0
+0: neg64 r1 = 18446744073709551615 18446744073709551615
+0: neg32 r1 = 4294967295 4294967295
+";
+
+/// What an instruction makes of a set and a number, or leaves of the set where its condition holds, or does not.
+fn left_by(insn: &Insn, set: Scalar, number: Scalar, holds: bool) -> Option<Scalar> {
+    match insn {
+        Insn::Alu { op, size, .. } => Some(Scalar::apply(*size, *op, set, number)),
+        Insn::Unary { op, .. } => Some(Scalar::unary(*op, set)),
+        Insn::JumpIf {
+            condition,
+            size,
+            ..
+        } => {
+            let edges = Scalar::refine(*size, *condition, set, number);
+            let (left, _) = if holds { edges.taken } else { edges.not_taken };
+            Some(left)
+        }
+        _ => None,
+    }
+}
+
+/// The bounds that a line asks for.
+fn bounds(alloc: Global, line: &str, set: Scalar, holds: bool) -> Result<String, Fail> {
+    let (number, text) = line.split_once(": ").unwrap_or(("", line));
+    let program = assemble(alloc, text)?;
+    let insn = program.instructions().first();
+    let (Some(insn), Ok(number)) = (insn, number.parse::<u64>()) else {
+        return Err(Fail::from("no instruction or no number"));
+    };
+    match left_by(insn, set, Scalar::constant(number), holds) {
+        Some(left) => Ok(format!(in alloc; "{} {}", left.least, left.greatest)?),
+        None => Err(Fail::from("an instruction of another kind")),
+    }
+}
+
+/// The bytes to which a constant is added.
+fn bytes_and(number: u64) -> Scalar {
+    let byte = Scalar::loaded(Width::One);
+    Scalar::apply(Size::Word64, AluOp::Add, byte, Scalar::constant(number))
+}
+
+#[test]
+fn bounds_of_results(rt: HostRuntime) -> Result<(), Fail> {
+    let byte = Scalar::loaded(Width::One);
+    let any = Scalar::unknown();
+    let two_bits = Scalar::apply(Size::Word64, AluOp::And, any, Scalar::constant(3));
+    let tables = [
+        (OF_A_BYTE, byte, true),
+        (NO_BYTE, byte, true),
+        (OF_A_BYTE_ELSE, byte, false),
+        (OF_ANY, any, true),
+        (OF_ONE, Scalar::constant(1), true),
+        (
+            "18446744073709551615: add64 r1, r2 = 0 255",
+            bytes_and(1),
+            true,
+        ),
+        ("4: sub64 r1, r2 = 5 260", bytes_and(9), true),
+        ("8: or64 r1, r2 = 8 11", two_bits, true),
+        ("0: swap16 r1 = 13330 13330", Scalar::constant(0x1234), true),
+        (
+            "0: movsx64 r1, r1, 16 = 18446744073709518848 18446744073709518848",
+            Scalar::constant(0x8000),
+            true,
+        ),
+    ];
+    for (lines, set, holds) in tables {
+        for line in lines.lines() {
+            let (question, wanted) = line.split_once(" = ").unwrap_or((line, ""));
+            assert_eq!(rt;
+                bounds(rt.alloc(), question, set, holds)?.as_str(),
+                wanted,
+                "{line}"
+            );
+        }
+    }
+    Ok(())
+}
 
 #[test]
 fn sets_of_numbers(rt: HostRuntime) {
     let byte = Scalar::loaded(Width::One);
-    assert!(rt; byte.contains(255) && !byte.contains(256));
-    assert!(rt; Scalar::unknown().contains(u64::MAX));
-    assert_eq!(rt; Scalar::constant(7).as_constant(), Some(7));
-    assert_eq!(rt; byte.as_constant(), None);
     let both = Scalar::constant(12).join(Scalar::constant(300));
-    assert_eq!(rt; (both.least, both.greatest), (12, 300));
-    assert!(rt; both.contains(12) && both.contains(300) && !both.contains(13));
-    assert!(rt; Scalar::load_signed(SignedWidth::One).contains(u64::MAX));
-}
-
-/// The bounds of what operations of this size with a constant make of these numbers.
-fn check_bounds<R: Abort>(rt: &R, size: Size, rows: &[(AluOp, Scalar, u64, u64, u64)]) {
-    for (op, a, k, least, greatest) in rows {
-        let result = Scalar::apply(size, *op, *a, Scalar::constant(*k));
-        assert_eq!(rt;
-            (result.least, result.greatest),
-            (*least, *greatest),
-            "{op:?} {k:x}"
-        );
-    }
-}
-
-/// The bounds of results of a byte, or of what was made of one.
-#[test]
-fn bounds_of_results(rt: HostRuntime) {
-    let byte = Scalar::loaded(Width::One);
-    let wide = Scalar::unknown();
-    let after = Scalar::apply(Size::Word64, AluOp::Add, byte, Scalar::constant(1));
-    let far = Scalar::apply(Size::Word64, AluOp::Add, byte, Scalar::constant(9));
-    let two_bits = Scalar::apply(Size::Word64, AluOp::And, wide, Scalar::constant(3));
-    let rows = [
-        (AluOp::And, wide, 7, 0, 7),
-        (AluOp::Add, byte, 8, 8, 263),
-        (AluOp::Add, after, u64::MAX, 0, 255),
-        (AluOp::Add, byte, u64::MAX, 0, u64::MAX),
-        (AluOp::Sub, far, 4, 5, 260),
-        (AluOp::Mul, byte, 8, 0, 2040),
-        (AluOp::Div, byte, 10, 0, 25),
-        (AluOp::Mod, wide, 10, 0, 9),
-        (AluOp::Or, two_bits, 8, 8, 11),
-        (AluOp::Xor, byte, 1, 0, 255),
-        (AluOp::ShiftLeft, byte, 3, 0, 2040),
-        (AluOp::ShiftLeft, byte, 67, 0, 2040),
-        (AluOp::ShiftRight, wide, 60, 0, 15),
-        (AluOp::ShiftRightSigned, byte, 4, 0, 15),
-    ];
-    check_bounds(&rt, Size::Word64, &rows);
-    let narrow = [
-        (AluOp::Add, byte, 5, 5, 260),
-        (AluOp::Add, byte, 0xffff_ffff, 0, 0xffff_ffff),
-        (AluOp::Move, byte, 0x1_0000_0003, 3, 3),
-        (AluOp::ShiftLeft, byte, 35, 0, 2040),
-        (AluOp::SignedDiv, byte, 10, 0, 25),
-    ];
-    check_bounds(&rt, Size::Word32, &narrow);
-    let eights = Scalar::apply(Size::Word64, AluOp::ShiftLeft, wide, Scalar::constant(3));
-    assert_eq!(rt; eights.may % 8, 0);
-    let one = Scalar::constant(1);
-    let zero = Scalar::apply(Size::Word64, AluOp::Add, one, Scalar::constant(u64::MAX));
-    assert_eq!(rt; zero.as_constant(), Some(0));
-}
-
-#[test]
-fn edges(rt: HostRuntime) {
-    let byte = Scalar::loaded(Width::One);
-    let rows = [
-        (Size::Word64, Condition::Less, 10, true, 0, 9),
-        (Size::Word64, Condition::Less, 10, false, 10, 255),
-        (Size::Word64, Condition::LessOrEqual, 10, true, 0, 10),
-        (Size::Word64, Condition::LessOrEqual, 10, false, 11, 255),
-        (Size::Word64, Condition::Greater, 10, true, 11, 255),
-        (Size::Word64, Condition::Greater, 10, false, 0, 10),
-        (Size::Word64, Condition::GreaterOrEqual, 10, true, 10, 255),
-        (Size::Word64, Condition::GreaterOrEqual, 10, false, 0, 9),
-        (Size::Word64, Condition::Equal, 10, true, 10, 10),
-        (Size::Word64, Condition::NotEqual, 10, false, 10, 10),
-        (Size::Word64, Condition::NotEqual, 10, true, 0, 255),
-        (Size::Word64, Condition::NotEqual, 0, true, 1, 255),
-        (Size::Word64, Condition::Equal, 255, false, 0, 254),
-        (Size::Word64, Condition::SignedLess, 10, true, 0, 9),
-        (Size::Word32, Condition::Less, 10, true, 0, 9),
-        // no number is left
-        (Size::Word64, Condition::Less, 0, true, 0, 255),
-        (Size::Word64, Condition::Greater, u64::MAX, true, 0, 255),
-        (Size::Word64, Condition::Equal, 256, true, 0, 255),
-    ];
-    for (size, condition, k, taken, least, greatest) in rows {
-        let edges = Scalar::refine(size, condition, byte, Scalar::constant(k));
-        let (left, _) = if taken { edges.taken } else { edges.not_taken };
-        assert_eq!(rt;
-            (left.least, left.greatest),
-            (least, greatest),
-            "{condition:?} {k} {taken}"
-        );
-    }
-}
-
-/// What is left of any number where a comparison with a constant holds.
-fn left_of_any(size: Size, condition: Condition, k: u64) -> Scalar {
-    let edges = Scalar::refine(size, condition, Scalar::unknown(), Scalar::constant(k));
-    edges.taken.0
-}
-
-#[test]
-fn edges_of_signs_and_bits(rt: HostRuntime) {
-    let wide = left_of_any(Size::Word32, Condition::Less, 10);
-    assert_eq!(rt; (wide.least, wide.greatest), (0, u64::MAX));
-    assert_eq!(rt; (wide.may, wide.must), (0xffff_ffff_0000_000f, 0));
-    let positive = left_of_any(Size::Word64, Condition::SignedGreater, 0);
-    assert_eq!(rt;
-        (positive.least, positive.greatest),
-        (1, 0x7fff_ffff_ffff_ffff)
-    );
-    let either = left_of_any(Size::Word64, Condition::SignedLess, 10);
-    assert_eq!(rt; either, Scalar::unknown());
-    let edges = Scalar::refine(
+    let bit = Scalar::refine(
         Size::Word64,
         Condition::SharesBits,
-        Scalar::loaded(Width::One),
+        byte,
         Scalar::constant(1),
     );
-    let (even, _) = edges.not_taken;
-    assert!(rt; !even.contains(7) && even.contains(6));
+    let (even, _) = bit.not_taken;
+    let members = [
+        (byte, 255, true),
+        (byte, 256, false),
+        (Scalar::unknown(), u64::MAX, true),
+        (Scalar::load_signed(SignedWidth::One), u64::MAX, true),
+        (both, 12, true),
+        (both, 300, true),
+        (both, 13, false),
+        (even, 6, true),
+        (even, 7, false),
+    ];
+    for (set, number, is_member) in members {
+        assert_eq!(rt; set.contains(number), is_member, "{number}");
+    }
+    assert_eq!(rt; (both.least, both.greatest), (12, 300));
+    assert_eq!(rt; Scalar::constant(7).as_constant(), Some(7));
+    assert_eq!(rt; byte.as_constant(), None);
 }
 
-/// Which bits are known of sums and differences: of 4 and 20, and of what they make with 0 or 8.
+/// Which bits are known: of sums and differences of 4 and 20, and of what they make with 0 or 8; and of any number.
 #[test]
 fn known_bits(rt: HostRuntime) {
     let bases = Scalar::constant(4).join(Scalar::constant(20));
@@ -153,46 +197,17 @@ fn known_bits(rt: HostRuntime) {
             "{op:?} {a:?} {b:?}"
         );
     }
-}
-
-fn extended(extension: SignExtension) -> UnaryOp {
-    UnaryOp::MoveSigned {
-        extension,
-        src: Reg::R3,
-    }
-}
-
-fn ordered(order: ByteOrder) -> UnaryOp {
-    UnaryOp::ByteSwap {
-        order,
-        width: SwapWidth::Two,
-    }
-}
-
-/// Negation, sign extension and byte order, of a constant and of a byte.
-#[test]
-fn operations_of_one_operand(rt: HostRuntime) {
-    let byte = Scalar::loaded(Width::One);
-    let one = Scalar::constant(1);
-    let wide = Scalar::unary(UnaryOp::Negate(Size::Word64), one);
-    assert_eq!(rt; wide.as_constant(), Some(u64::MAX));
-    let narrow = Scalar::unary(UnaryOp::Negate(Size::Word32), one);
-    assert_eq!(rt; narrow.as_constant(), Some(0xffff_ffff));
-    let swapped = Scalar::unary(ordered(ByteOrder::Swap), Scalar::constant(0x1234));
-    assert_eq!(rt; swapped.as_constant(), Some(0x3412));
-    let short = Scalar::constant(0x8000);
-    let signed = Scalar::unary(extended(SignExtension::ShortTo64), short);
-    assert_eq!(rt; signed.as_constant(), Some(0xffff_ffff_ffff_8000));
-    assert_eq!(rt;
-        Scalar::unary(ordered(ByteOrder::Swap), byte).greatest,
-        0xffff
+    let any = Scalar::unknown();
+    let eights = Scalar::apply(Size::Word64, AluOp::ShiftLeft, any, Scalar::constant(3));
+    assert_eq!(rt; eights.may % 8, 0);
+    let small = Scalar::refine(Size::Word32, Condition::Less, any, Scalar::constant(10));
+    let (wide, _) = small.taken;
+    assert_eq!(rt; (wide.may, wide.must), (0xffff_ffff_0000_000f, 0));
+    let signed = Scalar::refine(
+        Size::Word64,
+        Condition::SignedLess,
+        any,
+        Scalar::constant(10),
     );
-    assert_eq!(rt;
-        Scalar::unary(ordered(ByteOrder::ToLittle), byte).greatest,
-        255
-    );
-    let kept = Scalar::unary(extended(SignExtension::ShortTo64), byte);
-    assert_eq!(rt; (kept.least, kept.greatest), (0, 255));
-    let low = Scalar::unary(extended(SignExtension::ByteTo32), byte);
-    assert_eq!(rt; low.greatest, 0xffff_ffff);
+    assert_eq!(rt; signed.taken.0, any);
 }

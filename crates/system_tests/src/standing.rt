@@ -44,7 +44,7 @@ add64 r0, r6\n\
 exit\n";
 
 /// The map of both programs.
-pub const SHAPE: MapShape = MapShape {
+const SHAPE: MapShape = MapShape {
     kind: MapKind::Hash,
     key_len: 4,
     value_len: 8,
@@ -53,12 +53,8 @@ pub const SHAPE: MapShape = MapShape {
     reuse_limit: 100,
 };
 
-/// What a lookup is answered: the word of a map slot, or null; and what a load is.
-#[derive(Drop)]
-struct Replies {
-    found: bool,
-    number: u8,
-}
+/// What each load is answered.
+const LOADED: u64 = 7;
 
 /// The word of a map slot, or null: either may be a lookup's answer.
 fn element_word(helper: Helper, found: bool) -> u64
@@ -96,21 +92,21 @@ fn call_word(run: &Run, verified: &Verified, helper: Helper, found: bool) -> Opt
     }
 }
 
-/// A word that may be the answer to what the run asks.
-fn reply_to(run: &Run, verified: &Verified, request: Request, replies: &Replies) -> Option<u64>
+/// A word that may be the answer to what the run asks, where a lookup finds an element or none.
+fn reply_to(run: &Run, verified: &Verified, request: Request, found: bool) -> Option<u64>
     requires hash { AreHashMaps verified.now.shapes }
     requires waits { Awaits verified.now request run.now }
     ensures { IfSome result (λ word. MayGive verified.now run.now.view request word) }
 {
     match request {
-        Request::Load { .. } => Some(u64::from(replies.number)),
-        Request::Call { helper } => call_word(run, verified, helper, replies.found),
+        Request::Load { .. } => Some(LOADED),
+        Request::Call { helper } => call_word(run, verified, helper, found),
         Request::Store { .. } | Request::Enter | Request::Leave => Some(0),
     }
 }
 
 /// The exit value of a run that is answered so, after at most so many steps.
-fn value_of(verified: &Verified, ctx: &CtxBytes, replies: &Replies) -> Option<u64>
+fn value_of(verified: &Verified, ctx: &CtxBytes, found: bool) -> Option<u64>
     requires hash { AreHashMaps verified.now.shapes }
     requires context { length ctx.now.items ≡ verified.now.ctx_len }
 {
@@ -120,7 +116,7 @@ fn value_of(verified: &Verified, ctx: &CtxBytes, replies: &Replies) -> Option<u6
             Local::Moved => {}
             Local::Exit(value) => return Some(value),
             Local::Shared(request) => {
-                let word = reply_to(&run, verified, request, replies)?;
+                let word = reply_to(&run, verified, request, found)?;
                 run.resume(verified, word);
             }
         }
@@ -139,33 +135,16 @@ fn verified_of(alloc: Global, text: &str) -> Result<Verified, Fail>
 }
 
 #[test]
-fn reads_without_a_world(rt: HostRuntime) -> Result<(), Fail> {
-    let verified = verified_of(rt.alloc(), READER)?;
-    let ctx = CtxBytes::new();
-    let hit = Replies {
-        found: true,
-        number: 7,
-    };
-    let miss = Replies {
-        found: false,
-        number: 7,
-    };
-    assert_eq!(rt; value_of(&verified, &ctx, &hit), Some(7));
-    assert_eq!(rt; value_of(&verified, &ctx, &miss), Some(0));
-    Ok(())
-}
-
-#[test]
-fn writes_without_a_world(rt: HostRuntime) -> Result<(), Fail> {
-    let verified = verified_of(rt.alloc(), WRITER)?;
-    let replies = Replies {
-        found: false,
-        number: 0,
-    };
-    // 0 of the update, and -2 of the delete
-    assert_eq!(rt;
-        value_of(&verified, &CtxBytes::new(), &replies),
-        Some(18446744073709551614)
-    );
+fn runs_without_a_world(rt: HostRuntime) -> Result<(), Fail> {
+    // The last is 0 of the update, and -2 of the delete.
+    let rows = [
+        (READER, true, 7),
+        (READER, false, 0),
+        (WRITER, false, 18446744073709551614),
+    ];
+    for (text, found, value) in rows {
+        let verified = verified_of(rt.alloc(), text)?;
+        assert_eq!(rt; value_of(&verified, &CtxBytes::new(), found), Some(value));
+    }
     Ok(())
 }

@@ -1,86 +1,37 @@
 //! The world beside the reference model on events of a fixed sequence of numbers, event for event: three hash maps and an
 //! array, at most eight runs at once, thirteen programs.
-use crate::making::{Source, bytes_of, machine_of, world_of};
-use crate::programs::{
-    ADD_IN_ARRAY, ADD_ONE, BYTE_OF_16, HELD_IN_ARRAY, LOAD, NESTED_LOAD, PUT, REMOVE, REPLACE,
-    SPILL_REMOVE, STORE_BYTE, TWO_MAPS,
-};
+use crate::making::Setup;
 use crate::random::Random;
-use crate::replay::apply_both;
-use bpf_model::{
-    Event, INDEX_BYTES, KeyBytes, MAX_REUSE, MapId, MapKind, MapShape, ProgId, RunId, ValueBytes,
-};
+use crate::text::array;
+use bpf_model::{Event, KeyBytes, MapId, ProgId, RunId, ValueBytes};
 use std::process::Abort;
 use std::test::Fail;
 
-/// The first map wears out, the second is mostly full, the third has longer keys and values, and the fourth is an array.
-const SHAPES: [MapShape; 4] = [
-    MapShape {
-        kind: MapKind::Hash,
-        key_len: 4,
-        value_len: 8,
-        entries: 4,
-        spare: 3,
-        reuse_limit: 12,
-    },
-    MapShape {
-        kind: MapKind::Hash,
-        key_len: 4,
-        value_len: 8,
-        entries: 2,
-        spare: 2,
-        reuse_limit: MAX_REUSE,
-    },
-    MapShape {
-        kind: MapKind::Hash,
-        key_len: 8,
-        value_len: 16,
-        entries: 4,
-        spare: 2,
-        reuse_limit: 50,
-    },
-    MapShape {
-        kind: MapKind::Array,
-        key_len: INDEX_BYTES,
-        value_len: 8,
-        entries: 3,
-        spare: 0,
-        reuse_limit: 1,
-    },
-];
-
-/// A program whose context is a key's byte, an offset or a value's byte, and flags or a byte to store.
-const fn source(lines: &'static str, maps: &'static [usize]) -> Source {
-    Source {
-        lines,
-        maps,
-        context_len: 3,
-    }
-}
-
-/// The programs, in the order of their numbers.
-fn sources() -> [Source; 13] {
-    [
-        source(LOAD, &[0]),
-        source(ADD_ONE, &[1]),
-        source(PUT, &[2]),
-        source(REMOVE, &[2, 0]),
-        source(SPILL_REMOVE, &[0]),
-        source(BYTE_OF_16, &[2]),
-        source(STORE_BYTE, &[2]),
-        source(TWO_MAPS, &[1, 0]),
-        source(REPLACE, &[1]),
-        source(NESTED_LOAD, &[0]),
-        source(ADD_IN_ARRAY, &[3]),
-        source(HELD_IN_ARRAY, &[3]),
-        source(LOAD, &[3]),
-    ]
-}
+/// The first map wears out, the second is mostly full, the third has longer keys and values, and the fourth is an array. A
+/// program's context is a key's byte, an offset or a value's byte, and flags or a byte to store.
+const SETUP: &str = "\
+map 4 8 4 3 12
+map 4 8 2 2 4294967295
+map 8 16 4 2 50
+map array 8 3
+prog 3 0: LOAD
+prog 3 1: ADD_ONE
+prog 3 2: PUT
+prog 3 2 0: REMOVE
+prog 3 0: SPILL_REMOVE
+prog 3 2: BYTE_OF_16
+prog 3 2: STORE_BYTE
+prog 3 1 0: TWO_MAPS
+prog 3 1: REPLACE
+prog 3 0: NESTED_LOAD
+prog 3 3: ADD_IN_ARRAY
+prog 3 3: HELD_IN_ARRAY
+prog 3 3: LOAD";
 
 /// So many bytes: one of a few, and then zeros.
 fn key(random: &mut Random, len: usize) -> KeyBytes {
     let first = random.below(6) as u8;
-    let mut key = bytes_of(&[first]);
+    let mut key = array(&[first]);
     for _ in 1..len {
         let _ = key.try_push(0);
     }
@@ -148,8 +99,8 @@ fn start(random: &mut Random) -> Event {
         random.below(256) as u8,
     ];
     let ctx = match random.below(32) {
-        0 => bytes_of(&[1, 2]),
-        _ => bytes_of(&bytes),
+        0 => array(&[1, 2]),
+        _ => array(&bytes),
     };
     Event::Start { prog, ctx }
 }
@@ -210,18 +161,17 @@ const EVENTS: usize = 8000;
 #[test]
 fn generated_events(rt: HostRuntime) -> Result<(), Fail> {
     let alloc = rt.alloc();
-    let mut world = world_of(alloc, &SHAPES, &sources())?;
-    let mut model = machine_of(alloc, &SHAPES, &sources())?;
+    let mut pair = Setup::read(alloc, SETUP)?.pair()?;
     let mut random = Random::new(0x9e37_79b9_7f4a_7c15);
     let mut seen = String::new(alloc);
     for count in 0..EVENTS {
-        let event = event(&mut random, world.stat().runs);
-        let (_, told, wanted) = apply_both(alloc, &mut world, &mut model, event)?;
-        assert_eq!(rt; told.as_str(), wanted.as_str(), "at event {count}");
-        seen.push_str(&told)?;
+        let event = event(&mut random, pair.model.stat().runs);
+        let text = pair.answer(event)?;
+        assert!(rt; !text.contains("world"), "at event {count}: {text}");
+        seen.push_str(&text)?;
         seen.push('\n')?;
         if count % 50 == 0 {
-            assert_eq!(rt; world.stat(), model.stat(), "at event {count}");
+            assert!(rt; pair.counts_agree(), "at event {count}");
         }
     }
     has_all(&rt, &seen);

@@ -8,13 +8,11 @@ mod altered;
 #[cfg(test)]
 mod cases;
 #[cfg(test)]
-mod compiled;
-#[cfg(test)]
-mod copies;
-#[cfg(test)]
 mod generated;
 #[cfg(test)]
 mod making;
+#[cfg(test)]
+mod pair;
 #[cfg(test)]
 mod programs;
 #[cfg(test)]
@@ -24,8 +22,6 @@ mod random;
 #[cfg(test)]
 mod refusals;
 #[cfg(test)]
-mod replay;
-#[cfg(test)]
 mod runs;
 #[cfg(test)]
-mod script;
+mod text;

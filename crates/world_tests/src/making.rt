@@ -1,120 +1,75 @@
-//! Machines of the reference model, and worlds, of the same maps and programs.
+//! Maps and programs out of lines of text.
 ghost use Rattle.std.specs.Prelude.{IfOk};
 ghost use Rattle.bpf_model.specs.View.{AreNewMaps};
 
-use arrayvec::ArrayVec;
+use crate::pair::Pair;
+use crate::programs::PROGRAMS;
+use crate::text::{Words, array, number, word};
 use asm::assemble;
-use bpf_model::{CTX_BYTES, MAX_MAPS, MapKind, MapShape};
-use insn_codec::Program;
+use bpf_model::{CTX_BYTES, INDEX_BYTES, MAX_MAPS, MapKind, MapShape};
+use insn_codec::{Program, decode};
 use maps::Registry;
 use reference_model::{Loaded as PlainLoaded, Machine};
 use std::alloc::Global;
 use std::test::Fail;
-use verifier::{ProgramRefusal, Verified, verify};
-use world::{Loaded, World};
+use verifier::{ProgramRefusal, verify};
+use world::{Loaded, World, WorldFault};
 
-/// Keys of 4 bytes, values of 8, 4 elements and 4 further map slots, each used a hundred times at most.
-pub const SHAPE: MapShape = MapShape {
-    kind: MapKind::Hash,
-    key_len: 4,
-    value_len: 8,
-    entries: 4,
-    spare: 4,
-    reuse_limit: 100,
-};
-
-/// A program: lines of the assembly language, parted by a semicolon and a space; the numbers of its
-/// maps, and the length of its context.
-#[derive(Clone, Copy)]
-pub struct Source {
-    pub lines: &'static str,
-    pub maps: &'static [usize],
-    pub context_len: usize,
-}
-
-/// The program of a text.
-pub fn assembled(alloc: Global, text: &str) -> Result<Program, Fail> {
-    let lines = text.replace(alloc, "; ", "\n")?;
-    match assemble(alloc, &lines) {
-        Ok(program) => Ok(program),
-        Err(_) => Err(Fail::from("no program")),
-    }
-}
-
-/// The program as the reference model takes it, which asks for no verdict.
-pub fn plain_program(
+/// The maps of a world, and its programs, as the reference model takes them and, of those that are accepted, as the world
+/// does.
+#[derive(Drop)]
+pub struct Setup {
     alloc: Global,
-    program: &Program,
-    maps: &[usize],
-    context_len: usize,
-) -> Result<PlainLoaded, Fail> {
-    Ok(PlainLoaded {
-        code: Vec::from_slice(alloc, program.instructions())?,
-        maps: Vec::from_slice(alloc, maps)?,
-        context_len,
+    pub shapes: Vec<MapShape>,
+    plain: Vec<PlainLoaded>,
+    pub loaded: Vec<Loaded>,
+}
+
+/// The shape of a line's words: `array VALUE ENTRIES`, or `KEY VALUE ENTRIES SPARE REUSE` of a hash map.
+fn shape_of(words: &mut Words) -> Result<MapShape, Fail> {
+    let first = word(words)?;
+    let Ok(key_len) = first.parse::<usize>() else {
+        return Ok(MapShape {
+            kind: MapKind::Array,
+            key_len: INDEX_BYTES,
+            value_len: number(words)?,
+            entries: number(words)?,
+            spare: 0,
+            reuse_limit: 1,
+        });
+    };
+    Ok(MapShape {
+        kind: MapKind::Hash,
+        key_len,
+        value_len: number(words)?,
+        entries: number(words)?,
+        spare: number(words)?,
+        reuse_limit: word(words)?.parse::<u32>()?,
     })
 }
 
-/// A machine of the reference model with maps of these shapes.
-pub fn machine_of(alloc: Global, shapes: &[MapShape], sources: &[Source]) -> Result<Machine, Fail> {
-    let mut programs = Vec::new(alloc);
-    for source in sources {
-        let program = assembled(alloc, source.lines)?;
-        programs.push(plain_program(alloc, &program, source.maps, source.context_len)?)?;
-    }
-    Ok(Machine::new(alloc, shapes, programs)?)
-}
-
-/// The shapes of the maps of these numbers.
-fn shapes_of(alloc: Global, shapes: &[MapShape], maps: &[usize]) -> Result<Vec<MapShape>, Fail> {
-    let mut chosen = Vec::new(alloc);
-    for number in maps {
-        match shapes.get(*number) {
-            Some(shape) => chosen.push(*shape)?,
-            None => return Err(Fail::from("no such map")),
+/// The lines of the program of this name, or these lines.
+fn named(name: &str) -> &str {
+    for line in PROGRAMS.lines() {
+        if let Some((first, lines)) = line.split_once(": ") {
+            if first == name {
+                return lines;
+            }
         }
     }
-    Ok(chosen)
+    name
 }
 
-/// What the verifier says of the program.
-pub fn judged(
-    alloc: Global,
-    program: Program,
-    shapes: &[MapShape],
-    maps: &[usize],
-    context_len: usize,
-) -> Result<Result<Verified, ProgramRefusal>, Fail> {
-    let chosen = shapes_of(alloc, shapes, maps)?;
-    if context_len > CTX_BYTES || chosen.len() > MAX_MAPS {
-        return Err(Fail::from("beyond the limits"));
+/// The program of lines, which a semicolon and a space part, or of its bytes.
+fn program_of(alloc: Global, kind: &str, text: &str) -> Result<Program, Fail> {
+    if kind == "code" {
+        let digits = text.replace(alloc, " ", "")?;
+        return Ok(decode(alloc, &hex::decode(alloc, digits.as_str())?)?);
     }
-    Ok(verify(alloc, program, &chosen, context_len))
-}
-
-/// Bytes as an array of at most so many; those that have no room are left out.
-pub fn bytes_of<const N: usize>(bytes: &[u8]) -> ArrayVec<u8, N> {
-    let mut kept = ArrayVec::new();
-    let _ = kept.try_extend_from_slice(bytes);
-    kept
-}
-
-/// Numbers of maps as a loaded program has them; those beyond the limit are left out.
-pub fn numbers_of(maps: &[usize]) -> ArrayVec<usize, MAX_MAPS> {
-    let mut numbers = ArrayVec::new();
-    let _ = numbers.try_extend_from_slice(maps);
-    numbers
-}
-
-/// A program that must be accepted, bound to its maps.
-pub fn loaded(alloc: Global, shapes: &[MapShape], source: &Source) -> Result<Loaded, Fail> {
-    let program = assembled(alloc, source.lines)?;
-    match judged(alloc, program, shapes, source.maps, source.context_len)? {
-        Ok(verified) => Ok(Loaded {
-            verified,
-            maps: numbers_of(source.maps),
-        }),
-        Err(_) => Err(Fail::from("a program is refused")),
+    let lines = named(text).replace(alloc, "; ", "\n")?;
+    match assemble(alloc, &lines) {
+        Ok(program) => Ok(program),
+        Err(_) => Err(Fail::from("no program")),
     }
 }
 
@@ -134,7 +89,7 @@ fn add_map(
 }
 
 /// New maps m0, m1 and so on of these shapes.
-pub fn registry_of(alloc: Global, shapes: &[MapShape]) -> Result<Registry, Fail>
+fn registry_of(alloc: Global, shapes: &[MapShape]) -> Result<Registry, Fail>
     ensures new { IfOk result (λ r. AreNewMaps r.maps) }
 {
     let mut registry = Registry::new(alloc);
@@ -144,12 +99,129 @@ pub fn registry_of(alloc: Global, shapes: &[MapShape]) -> Result<Registry, Fail>
     Ok(registry)
 }
 
-/// A world of new maps of these shapes and programs that must be accepted.
-pub fn world_of(alloc: Global, shapes: &[MapShape], sources: &[Source]) -> Result<World, Fail> {
-    let mut programs = Vec::new(alloc);
-    for source in sources {
-        programs.push(loaded(alloc, shapes, source)?)?;
-    }
+/// A world of new maps and programs.
+pub fn world_of(
+    alloc: Global,
+    shapes: &[MapShape],
+    loaded: Vec<Loaded>,
+) -> Result<Result<World, WorldFault>, Fail> {
     let registry = registry_of(alloc, shapes)?;
-    Ok(World::new(alloc, registry, programs)?)
+    Ok(World::new(alloc, registry, loaded))
+}
+
+impl Setup {
+    pub fn new(alloc: Global) -> Setup {
+        Setup {
+            alloc,
+            shapes: Vec::new(alloc),
+            plain: Vec::new(alloc),
+            loaded: Vec::new(alloc),
+        }
+    }
+
+    /// What the lines say: `map` and a shape; `prog CONTEXT MAP ..: LINES` or `code CONTEXT MAP ..: BYTES`, and behind ` = ` the
+    /// verdict, where that is no acceptance; and comments.
+    pub fn read(alloc: Global, lines: &str) -> Result<Setup, Fail> {
+        let mut setup = Setup::new(alloc);
+        for line in lines.lines() {
+            match line.split_once(' ') {
+                Some(("#", _)) => {}
+                Some(("map", shape)) => setup.shapes.push(shape_of(&mut shape.split(' '))?)?,
+                Some((kind, program)) => setup.take(kind, program)?,
+                None => return Err(Fail::from("no map and no program")),
+            }
+        }
+        Ok(setup)
+    }
+
+    /// The shapes of the maps of these numbers.
+    fn chosen(&self, maps: &[usize]) -> Result<Vec<MapShape>, Fail> {
+        let mut chosen = Vec::new(self.alloc);
+        for number in maps {
+            match self.shapes.get(*number) {
+                Some(shape) => chosen.push(*shape)?,
+                None => return Err(Fail::from("no such map")),
+            }
+        }
+        Ok(chosen)
+    }
+
+    /// Adds a program, and answers why it is refused, if it is.
+    pub fn add(
+        &mut self,
+        program: Program,
+        maps: &[usize],
+        context_len: usize,
+    ) -> Result<Option<ProgramRefusal>, Fail> {
+        let alloc = self.alloc;
+        let shapes = self.chosen(maps)?;
+        if context_len > CTX_BYTES || shapes.len() > MAX_MAPS {
+            return Err(Fail::from("beyond the limits"));
+        }
+        self.plain.push(PlainLoaded {
+            code: Vec::from_slice(alloc, program.instructions())?,
+            maps: Vec::from_slice(alloc, maps)?,
+            context_len,
+        })?;
+        match verify(alloc, program, &shapes, context_len) {
+            Ok(verified) => {
+                self.loaded.push(Loaded {
+                    verified,
+                    maps: array(maps),
+                })?;
+                Ok(None)
+            }
+            Err(refusal) => Ok(Some(refusal)),
+        }
+    }
+
+    /// Adds the program of a line, whose verdict is to be the line's.
+    pub fn take(&mut self, kind: &str, line: &str) -> Result<(), Fail> {
+        let alloc = self.alloc;
+        let (line, wanted) = line.split_once(" = ").unwrap_or((line, "accepted"));
+        let Some((head, text)) = line.split_once(": ") else {
+            return Err(Fail::from("no program"));
+        };
+        let mut words = head.split(' ');
+        let context_len = number(&mut words)?;
+        let mut maps = Vec::new(alloc);
+        for word in words {
+            maps.push(word.parse::<usize>()?)?;
+        }
+        let program = program_of(alloc, kind, text)?;
+        let found = match self.add(program, &maps, context_len)? {
+            None => String::from_str(alloc, "accepted")?,
+            Some(refusal) => format!(in alloc;
+                "refused {} at {:?}",
+                refusal.code(),
+                refusal.slot()
+            )?,
+        };
+        if found.as_str() == wanted {
+            Ok(())
+        } else {
+            Err(Fail::from(found))
+        }
+    }
+
+    /// The reference model with these maps and programs, and where all are accepted the world beside it.
+    pub fn pair(self) -> Result<Pair, Fail> {
+        let Setup {
+            alloc,
+            shapes,
+            plain,
+            loaded,
+        } = self;
+        let world = if loaded.len() == plain.len() {
+            Some(world_of(alloc, &shapes, loaded)??)
+        } else {
+            None
+        };
+        let model = Machine::new(alloc, &shapes, plain)?;
+        Ok(Pair {
+            alloc,
+            world,
+            model,
+        })
+    }
 }

@@ -1,4 +1,0 @@
-use Rattle.shared_tests.proofs.counts.three_workers.Given as goal
-
-abbrev pub ghosts-all_exit : goal.ghosts-all_exit
-ghosts-all_exit g a = record { name = a.blank.name; parts = a.blank.parts }
