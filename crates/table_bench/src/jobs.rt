@@ -6,24 +6,36 @@ ghost use Rattle.read_table.specs.declared.limits.TheConstants.{MAX_READERS};
 use crate::map_stage::{full_table, map_program};
 use crate::stage::{SLOTS, fill, lookup_program};
 use anyhow::{Result, bail, ensure};
+use bpf_model::{CtxBytes, ProgId};
 use map_runs::MapRuns;
 use measurements::{Decimal, LONG_TASK_BATCHES, quotient};
 use read_table::ReadTable;
 use shared_runs::RunsPrograms;
-use std::alloc::Global;
+use std::alloc::{AllocError, Global};
 use std::rt::Clock;
 use std::sync::Wait;
 use std::thread::Threads;
 use std::time::{Duration, Instant};
 use verifier::Verified;
 use worker_pool::{Job, JobReport, Outcome, run_table_jobs};
-use world_bench::make_jobs;
 
 /// How many jobs a batch has. Each is a run that looks a key up and loads the value, once or again and again.
 const READ_JOBS: u32 = 65_536;
 
 /// The value of the key.
 const VALUE: u64 = 1;
+
+/// A batch of jobs, each of program 0 on an empty context.
+fn read_jobs(alloc: Global) -> Result<Vec<Job>, AllocError> {
+    let mut jobs = Vec::new(alloc);
+    for _ in 0..READ_JOBS {
+        jobs.push(Job {
+            prog: ProgId::new(0),
+            ctx: CtxBytes::new(),
+        })?;
+    }
+    Ok(jobs)
+}
 
 /// Whether each job has exited with the value.
 fn have_all_exited(reports: &[JobReport<()>]) -> bool {
@@ -114,7 +126,7 @@ pub fn time_per_job<R: Threads + Wait + Clock + Sync>(
 ) -> Result<Decimal>
     requires { (0 < seats) × (seats ≤ MAX_READERS) }
 {
-    let jobs = make_jobs(alloc, READ_JOBS)?;
+    let jobs = read_jobs(alloc)?;
     let mut best = Duration::MAX;
     for _ in 0..LONG_TASK_BATCHES {
         let time = match kind {

@@ -17,4 +17,3 @@ mod tally;
 
 pub use command::{WorldCommand, WorldWordsFault, parse_world_words};
 pub use outputs::lines_of;
-pub use pool::make_jobs;

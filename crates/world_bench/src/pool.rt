@@ -19,10 +19,10 @@ use worker_pool::{Job, run_jobs};
 /// How many jobs a batch has. Each is a lookup: a start, 12 steps, its exit value and its drop.
 const JOBS: u32 = 2000;
 
-/// So many jobs of program 0 on an empty context.
-pub fn make_jobs(alloc: Global, count: u32) -> Result<Vec<Job>, AllocError> {
+/// A batch of jobs, each of program 0 on an empty context.
+fn world_jobs(alloc: Global) -> Result<Vec<Job>, AllocError> {
     let mut jobs = Vec::new(alloc);
-    for _ in 0..count {
+    for _ in 0..JOBS {
         jobs.push(Job {
             prog: ProgId::new(0),
             ctx: CtxBytes::new(),
@@ -67,7 +67,7 @@ pub fn time_per_job<L: Ledger + Send + Sync, R: Threads + Wait + Clock + Sync>(
     if !is_quiet(&world) {
         bail!("a run was left");
     }
-    let jobs = make_jobs(alloc, JOBS)?;
+    let jobs = world_jobs(alloc)?;
     let (shared, mut all_workers, _) = Shared::<L>::new(alloc, world, workers, blank)?;
     let mut best = Duration::MAX;
     for _ in 0..LONG_TASK_BATCHES {
