@@ -1,27 +1,28 @@
 //! What is wrong with a line, in words for people.
 
+use crate::filled::filled;
 use crate::hints::{
-    UNNAMED, beginning, comment_words, has_leading_zero, has_two_signs, in_lower_case,
-    is_hexadecimal, is_minus_zero, is_too_long, name_hint, shortened, sign_hint, source_hint,
-    stored_hint, unsigned_hint,
+    UNNAMED, beginning, comment_words, has_leading_zero, has_two_signs, is_hexadecimal,
+    is_minus_zero, is_too_long, name_hint, shortened, sign_hint, source_hint, stored_hint,
+    unsigned_hint,
 };
 use crate::naming::text_of;
-use crate::other_names::{family_hint, is_near, meant_by, mnemonic_named, without_width};
-use crate::written::{character_words, written_operands};
+use crate::other_names::{family_hint, is_near, meant_by, without_width};
+use crate::written::{character_words, written_operand};
 use asm_source::{are_digits, decimal_in, is_name, is_register};
 use disasm::{MNEMONICS, Mnemonic};
 use explanations::FUNCTIONS;
 use std::alloc::{AllocError, Global};
 use strsim::jaro_winkler;
+use text_likeness::{Filling, mnemonic_named};
 
 /// How alike a word and a mnemonic are at least, without their widths, where one is taken for the other.
 const ALIKE: f64 = 0.85;
 
 /// The name of a mnemonic.
 fn name_of(alloc: Global, mnemonic: Mnemonic) -> Result<String, AllocError> {
-    let stem = mnemonic.stem();
-    let suffix = mnemonic.suffix();
-    format!(in alloc; "{stem}{suffix}")
+    let (stem, suffix) = (mnemonic.stem(), mnemonic.suffix());
+    filled(alloc, "{}{}", &[Filling::Text(stem), Filling::Text(suffix)])
 }
 
 /// The name near the word that is most like it, where one is.
@@ -29,8 +30,8 @@ fn nearest(alloc: Global, word: &str) -> Result<Option<String>, AllocError> {
     let mut best = None;
     let mut most = ALIKE;
     let stem = without_width(word);
-    for mnemonic in MNEMONICS {
-        let name = name_of(alloc, mnemonic)?;
+    for mnemonic in &MNEMONICS {
+        let name = name_of(alloc, *mnemonic)?;
         let likeness = jaro_winkler(alloc, stem, without_width(name.as_str()))?;
         if likeness > most && is_near(word, name.as_str()) {
             most = likeness;
@@ -40,43 +41,64 @@ fn nearest(alloc: Global, word: &str) -> Result<Option<String>, AllocError> {
     Ok(best)
 }
 
-/// The mnemonic that a word is in lower case, if it has a letter in upper case.
-fn in_other_case(alloc: Global, word: &str) -> Result<Option<String>, AllocError> {
-    let lower = in_lower_case(alloc, word)?;
-    match &lower {
-        Some(name) if mnemonic_named(name.as_str()).is_some() => Ok(lower),
-        _ => Ok(None),
+/// What helps where a word is a mnemonic in lower case, and has a letter in upper case; else nothing.
+fn case_hint(alloc: Global, word: &str) -> Result<Option<String>, AllocError> {
+    let lower = word.to_ascii_lowercase(alloc)?;
+    let name = lower.as_str();
+    if name == word || mnemonic_named(name).is_none() {
+        return Ok(None);
+    }
+    let hint = filled(
+        alloc,
+        "; write `{}`: names and registers are in lower case",
+        &[Filling::Text(name)],
+    )?;
+    Ok(Some(hint))
+}
+
+/// What helps where a word may be meant as another; else nothing.
+fn meant_hint(alloc: Global, word: &str) -> Result<String, AllocError> {
+    let mut meant = meant_by(alloc, word)?;
+    if meant.is_none() {
+        if let Some(hint) = family_hint(word) {
+            return filled(alloc, "; {}", &[Filling::Text(hint)]);
+        }
+        meant = nearest(alloc, beginning(word))?;
+    }
+    match meant {
+        Some(name) => filled(
+            alloc,
+            "; did you mean `{}`?",
+            &[Filling::Text(name.as_str())],
+        ),
+        None => Ok(String::new(alloc)),
+    }
+}
+
+/// What helps where a word is no mnemonic, and this text stands behind it; else nothing.
+fn hint_of(alloc: Global, word: &str, text: &str) -> Result<String, AllocError> {
+    if let Some(hint) = name_hint(word, text) {
+        return filled(alloc, "; {}", &[Filling::Text(hint)]);
+    }
+    match case_hint(alloc, word)? {
+        Some(hint) => Ok(hint),
+        None => meant_hint(alloc, word),
     }
 }
 
 /// What is said of a word that is no mnemonic, and behind which this text stands.
 fn no_name(alloc: Global, word: &str, text: &str) -> Result<String, AllocError> {
     let short = shortened(alloc, word)?;
-    if let Some(hint) = name_hint(word, text) {
-        return format!(in alloc; "no instruction is called `{short}`; {hint}");
-    }
-    if let Some(name) = in_other_case(alloc, word)? {
-        return format!(in alloc;
-            "no instruction is called `{short}`; write `{name}`: names and registers are in lower case"
-        );
-    }
-    let mut meant = meant_by(alloc, word)?;
-    if let (None, Some(hint)) = (&meant, family_hint(word)) {
-        return format!(in alloc; "no instruction is called `{short}`; {hint}");
-    }
-    if meant.is_none() {
-        meant = nearest(alloc, beginning(word))?;
-    }
-    match meant {
-        Some(name) => format!(in alloc;
-            "no instruction is called `{short}`; did you mean `{name}`?"
-        ),
-        None => format!(in alloc; "no instruction is called `{short}`"),
-    }
+    let hint = hint_of(alloc, word, text)?;
+    filled(
+        alloc,
+        "no instruction is called `{}`{}",
+        &[Filling::Text(short.as_str()), Filling::Text(hint.as_str())],
+    )
 }
 
 /// What may stand in a place of an operand.
-#[derive(Clone, Copy, Debug, PartialEq, Eq)]
+#[derive(Clone, Copy)]
 enum Place {
     Register,
     /// A register that is stored.
@@ -118,31 +140,26 @@ fn place_words(place: Place) -> &'static str {
 }
 
 /// The places of an instruction's operands.
-fn places_of(alloc: Global, mnemonic: Mnemonic) -> Result<Vec<Place>, AllocError> {
-    let places = match mnemonic {
-        Mnemonic::Exit => Vec::new(alloc),
-        Mnemonic::Negate(_) | Mnemonic::ByteSwap(_, _) => vec![in alloc; Place::Register]?,
-        Mnemonic::Call(_) => vec![in alloc; Place::Function]?,
-        Mnemonic::Jump => vec![in alloc; Place::Offset(16)]?,
-        Mnemonic::JumpLong => vec![in alloc; Place::Offset(32)]?,
-        Mnemonic::Alu(_, _) => vec![in alloc; Place::Register, Place::Source]?,
-        Mnemonic::LoadNumber => vec![in alloc; Place::Register, Place::Unsigned]?,
-        Mnemonic::LoadMap => vec![in alloc; Place::Register, Place::Map]?,
-        Mnemonic::Load(_) | Mnemonic::LoadSigned(_) => {
-            vec![in alloc; Place::Register, Place::Memory]?
-        }
-        Mnemonic::Store(_) => vec![in alloc; Place::Memory, Place::Number]?,
-        Mnemonic::StoreRegister(_) => vec![in alloc; Place::Memory, Place::Stored]?,
-        Mnemonic::MoveSigned(_) => vec![in alloc; Place::Register, Place::Register, Place::Width]?,
-        Mnemonic::JumpIf(_, _) => {
-            vec![in alloc; Place::Register, Place::Source, Place::Offset(16)]?
-        }
-    };
-    Ok(places)
+fn places_of(mnemonic: Mnemonic) -> &'static [Place] {
+    match mnemonic {
+        Mnemonic::Exit => &[],
+        Mnemonic::Negate(_) | Mnemonic::ByteSwap(_, _) => &[Place::Register],
+        Mnemonic::Call(_) => &[Place::Function],
+        Mnemonic::Jump => &[Place::Offset(16)],
+        Mnemonic::JumpLong => &[Place::Offset(32)],
+        Mnemonic::Alu(_, _) => &[Place::Register, Place::Source],
+        Mnemonic::LoadNumber => &[Place::Register, Place::Unsigned],
+        Mnemonic::LoadMap => &[Place::Register, Place::Map],
+        Mnemonic::Load(_) | Mnemonic::LoadSigned(_) => &[Place::Register, Place::Memory],
+        Mnemonic::Store(_) => &[Place::Memory, Place::Number],
+        Mnemonic::StoreRegister(_) => &[Place::Memory, Place::Stored],
+        Mnemonic::MoveSigned(_) => &[Place::Register, Place::Register, Place::Width],
+        Mnemonic::JumpIf(_, _) => &[Place::Register, Place::Source, Place::Offset(16)],
+    }
 }
 
 /// How a word is wrong in its place.
-#[derive(Clone, Copy, Debug, PartialEq, Eq)]
+#[derive(Clone, Copy)]
 enum Wrong {
     /// It is of another kind.
     Kind,
@@ -236,18 +253,30 @@ fn wrong_word(place: Place, word: &[u8]) -> Option<Wrong> {
     }
 }
 
+/// What is said of a word: the word in quotes, what is wrong with it, and what helps.
+fn words_of(alloc: Global, word: &str, what: &str, hint: &str) -> Result<String, AllocError> {
+    let short = shortened(alloc, word)?;
+    filled(
+        alloc,
+        "`{}` {}{}",
+        &[
+            Filling::Text(short.as_str()),
+            Filling::Text(what),
+            Filling::Text(hint),
+        ],
+    )
+}
+
 /// What is said of a word in its place that has letters in upper case, where it is right, or a number, in lower case.
 fn case_words(alloc: Global, place: Place, word: &str) -> Result<Option<String>, AllocError> {
-    let Some(lower) = in_lower_case(alloc, word)? else {
-        return Ok(None);
-    };
-    if wrong_word(place, lower.as_bytes()).is_some() && !is_hexadecimal(lower.as_str()) {
+    let lower = word.to_ascii_lowercase(alloc)?;
+    let name = lower.as_str();
+    if name == word || (wrong_word(place, name.as_bytes()).is_some() && !is_hexadecimal(name)) {
         return Ok(None);
     }
-    let what = place_words(place);
-    let short = shortened(alloc, word)?;
-    let lower = shortened(alloc, lower.as_str())?;
-    let words = format!(in alloc; "`{short}` {what}; write `{lower}`")?;
+    let short = shortened(alloc, name)?;
+    let hint = filled(alloc, "; write `{}`", &[Filling::Text(short.as_str())])?;
+    let words = words_of(alloc, word, place_words(place), hint.as_str())?;
     Ok(Some(words))
 }
 
@@ -264,31 +293,24 @@ fn zero_words(place: Place) -> Option<&'static str> {
 fn memory_words(alloc: Global, word: &str, written: &str) -> Result<String, AllocError> {
     let what = place_words(Place::Memory);
     let parts = in_brackets(written.as_bytes()).or_else(|| in_brackets(word.as_bytes()));
-    if let Some((base, offset)) = parts {
-        let (base, offset) = (text_of(base).trim(), text_of(offset).trim());
-        if !base.is_empty() && wrong_register(base.as_bytes()).is_some() {
-            return simple_words(alloc, base, place_words(Place::Register));
-        }
-        if is_minus_zero(number_part(Place::Memory, word)) {
-            let zero = zero_words(Place::Memory).unwrap_or(what);
-            return simple_words(alloc, offset, zero);
-        }
-        let name = offset.get(1..).unwrap_or("").trim();
-        if is_register(name.as_bytes()) {
-            return simple_words(alloc, name, "is a register, and an offset is a number");
-        }
-        if is_name(name.as_bytes()) {
-            let name = shortened(alloc, name)?;
-            return format!(in alloc; "`{name}` is no number{UNNAMED}");
-        }
+    let Some((base, offset)) = parts else {
+        return words_of(alloc, written, what, "");
+    };
+    let (base, offset) = (text_of(base).trim(), text_of(offset).trim());
+    if !base.is_empty() && wrong_register(base.as_bytes()).is_some() {
+        return words_of(alloc, base, place_words(Place::Register), "");
     }
-    simple_words(alloc, written, what)
-}
-
-/// What is said of a word, behind it.
-fn simple_words(alloc: Global, word: &str, what: &str) -> Result<String, AllocError> {
-    let short = shortened(alloc, word)?;
-    format!(in alloc; "`{short}` {what}")
+    if is_minus_zero(number_part(Place::Memory, word)) {
+        return words_of(alloc, offset, zero_words(Place::Memory).unwrap_or(what), "");
+    }
+    let name = offset.get(1..).unwrap_or("").trim();
+    if is_register(name.as_bytes()) {
+        return words_of(alloc, name, "is a register, and an offset is a number", "");
+    }
+    if is_name(name.as_bytes()) {
+        return words_of(alloc, name, "is no number", UNNAMED);
+    }
+    words_of(alloc, written, what, "")
 }
 
 /// What is said of the form of a word, if that alone is wrong.
@@ -317,6 +339,19 @@ fn form_words(place: Place, word: &str) -> Option<&'static str> {
     }
 }
 
+/// What helps behind a word that is of another kind than its place asks for.
+fn kind_hint(place: Place, word: &str) -> &'static str {
+    match place {
+        Place::Unsigned => unsigned_hint(word),
+        Place::Source => source_hint(word),
+        Place::Number => stored_hint(word),
+        _ => "",
+    }
+}
+
+/// What is said of a word that is no number of a function, before which there are.
+const NO_FUNCTION: &str = "is no number; ";
+
 /// What is said of a word that is of another kind than its place asks for, and of how it was written.
 fn kind_words(
     alloc: Global,
@@ -328,50 +363,43 @@ fn kind_words(
         return Ok(words);
     }
     if let Some(what) = form_words(place, word) {
-        return match place {
-            Place::Memory => simple_words(alloc, word, what),
-            _ => simple_words(alloc, written, what),
+        let quoted = if matches!(place, Place::Memory) {
+            word
+        } else {
+            written
         };
+        return words_of(alloc, quoted, what, "");
     }
-    let short = shortened(alloc, written)?;
-    let what = place_words(place);
-    let hint = match place {
-        Place::Memory => return memory_words(alloc, word, written),
-        Place::Function => return format!(in alloc; "`{short}` {what}; {FUNCTIONS}"),
-        Place::Unsigned => unsigned_hint(word),
-        Place::Source => source_hint(word),
-        Place::Number => stored_hint(word),
-        _ => "",
-    };
-    format!(in alloc; "`{short}` {what}{hint}")
+    match place {
+        Place::Memory => memory_words(alloc, word, written),
+        Place::Function => words_of(alloc, written, NO_FUNCTION, FUNCTIONS),
+        _ => words_of(alloc, written, place_words(place), kind_hint(place, word)),
+    }
 }
 
 /// The part of a word that is a number: of a place in memory the offset.
 fn number_part(place: Place, word: &str) -> &str {
     match in_brackets(word.as_bytes()) {
-        Some((_, offset)) if place == Place::Memory => text_of(offset).trim(),
+        Some((_, offset)) if matches!(place, Place::Memory) => text_of(offset).trim(),
         _ => word,
     }
 }
 
-/// A number in quotes as it was written, and behind a name of it what it is.
-fn quoted_number(
-    alloc: Global,
-    place: Place,
-    word: &str,
-    written: &str,
-) -> Result<String, AllocError> {
-    let number = number_part(place, word);
-    let written = number_part(place, written);
-    let short = shortened(alloc, written)?;
-    if written == number || written.contains("0x") {
-        format!(in alloc; "`{short}`")
-    } else {
-        format!(in alloc; "`{short}` ({number})")
+/// What helps where a number has too many bits for its place; else nothing.
+fn long_hint(alloc: Global, place: Place, word: &str) -> Result<String, AllocError> {
+    match place {
+        Place::Source | Place::Number => sign_hint(alloc, word),
+        Place::Function => filled(alloc, "; {}", &[Filling::Text(FUNCTIONS)]),
+        Place::Map => filled(
+            alloc,
+            "; the maps of a program have the numbers 0 to 15",
+            &[],
+        ),
+        _ => Ok(String::new(alloc)),
     }
 }
 
-/// What is said of a number that has more than so many bits, and of how it was written.
+/// What is said of a number that has more than so many bits, as it was written, and behind a name of it what it is.
 fn long_words(
     alloc: Global,
     place: Place,
@@ -379,18 +407,22 @@ fn long_words(
     written: &str,
     bits: u8,
 ) -> Result<String, AllocError> {
-    let quoted = quoted_number(alloc, place, word, written)?;
-    match place {
-        Place::Source | Place::Number => match sign_hint(alloc, word)? {
-            Some(hint) => format!(in alloc; "{quoted} does not fit {bits} bits; {hint}"),
-            None => format!(in alloc; "{quoted} does not fit {bits} bits"),
-        },
-        Place::Function => format!(in alloc; "{quoted} does not fit {bits} bits; {FUNCTIONS}"),
-        Place::Map => format!(in alloc;
-            "{quoted} does not fit {bits} bits; the maps of a program have the numbers 0 to 15"
-        ),
-        _ => format!(in alloc; "{quoted} does not fit {bits} bits"),
+    let number = number_part(place, word);
+    let written = number_part(place, written);
+    let short = shortened(alloc, written)?;
+    let hint = long_hint(alloc, place, word)?;
+    let short = Filling::Text(short.as_str());
+    let bits = Filling::Number(u64::from(bits));
+    let hint = Filling::Text(hint.as_str());
+    if written == number || written.contains("0x") {
+        return filled(alloc, "`{}` does not fit {} bits{}", &[short, bits, hint]);
     }
+    let number = Filling::Text(number);
+    filled(
+        alloc,
+        "`{}` ({}) does not fit {} bits{}",
+        &[short, number, bits, hint],
+    )
 }
 
 /// What is wrong with a word in its place, if something is, and how it was written. Of a refused line that is right so far,
@@ -409,36 +441,54 @@ fn word_words(
     Ok(Some(words))
 }
 
-/// The operands of a line, which stand behind the mnemonic and a space.
-fn operands_of<'a>(alloc: Global, text: &'a str) -> Result<Vec<&'a str>, AllocError> {
-    let mut operands = Vec::new(alloc);
+/// How many operands stand behind a mnemonic and a space.
+fn operands_in(text: &str) -> usize {
     if text.is_empty() {
-        return Ok(operands);
+        0
+    } else {
+        text.split(", ").count()
     }
-    for operand in text.split(", ") {
-        operands.push(operand)?;
-    }
-    Ok(operands)
 }
 
 /// What is wrong with the operands of an instruction, each of which has its place, and how they were written.
 fn operands_words(
     alloc: Global,
     places: &[Place],
-    operands: &[&str],
-    written: &[&str],
+    text: &str,
+    source: &str,
 ) -> Result<Option<String>, AllocError> {
-    for (index, place) in places.iter().enumerate() {
-        let Some(operand) = operands.get(index) else {
-            return Ok(None);
-        };
-        let written = written.get(index).unwrap_or(operand);
+    for (index, (place, operand)) in places.iter().zip(text.split(", ")).enumerate() {
+        let written = written_operand(source, index, places.len()).unwrap_or(operand);
         let words = word_words(alloc, *place, operand, written)?;
         if words.is_some() {
             return Ok(words);
         }
     }
     Ok(None)
+}
+
+/// What is said of an instruction that has another number of operands.
+fn count_words(
+    alloc: Global,
+    mnemonic: Mnemonic,
+    wanted: usize,
+    given: usize,
+) -> Result<String, AllocError> {
+    let pattern = match wanted {
+        0 => "`{}{}` has no operands: the result is what r0 holds",
+        1 => "`{}{}` has {} operand, not {}; commas part them",
+        _ => "`{}{}` has {} operands, not {}; commas part them",
+    };
+    filled(
+        alloc,
+        pattern,
+        &[
+            Filling::Text(mnemonic.stem()),
+            Filling::Text(mnemonic.suffix()),
+            Filling::Count(wanted),
+            Filling::Count(given),
+        ],
+    )
 }
 
 /// What is wrong with an instruction of this mnemonic, if something is.
@@ -448,20 +498,12 @@ fn instruction_words(
     text: &str,
     source: &str,
 ) -> Result<Option<String>, AllocError> {
-    let places = places_of(alloc, mnemonic)?;
-    let operands = operands_of(alloc, text)?;
-    let (wanted, given) = (places.len(), operands.len());
-    if wanted == given {
-        let written = written_operands(alloc, source, wanted)?;
-        return operands_words(alloc, &places, &operands, &written);
+    let places = places_of(mnemonic);
+    let given = operands_in(text);
+    if places.len() == given {
+        return operands_words(alloc, places, text, source);
     }
-    let name = name_of(alloc, mnemonic)?;
-    let words = match wanted {
-        0 => format!(in alloc; "`{name}` has no operands: the result is what r0 holds")?,
-        1 => format!(in alloc; "`{name}` has 1 operand, not {given}; commas part them")?,
-        _ => format!(in alloc; "`{name}` has {wanted} operands, not {given}; commas part them")?,
-    };
-    Ok(Some(words))
+    Ok(Some(count_words(alloc, mnemonic, places.len(), given)?))
 }
 
 /// What is wrong with a line of a plain text that `asm::assemble` refuses, in words for people, which quote the line of the

@@ -1,8 +1,9 @@
 //! What helps where a line is wrong, in words for people.
 
+use crate::filled::filled;
 use asm_source::{are_digits, hex_in, is_name, is_register, number_in};
 use std::alloc::{AllocError, Global};
-use text_likeness::is_slot;
+use text_likeness::{Filling, are_hexadecimal, is_slot};
 
 /// How much of a word is shown.
 const SHOWN_CHARACTERS: usize = 40;
@@ -27,7 +28,7 @@ pub(crate) fn shortened(alloc: Global, word: &str) -> Result<String, AllocError>
     if first.len() == word.len() {
         String::from_str(alloc, word)
     } else {
-        format!(in alloc; "{first}..")
+        filled(alloc, "{}..", &[Filling::Text(first)])
     }
 }
 
@@ -88,16 +89,6 @@ pub(crate) fn name_hint(word: &str, text: &str) -> Option<&'static str> {
     None
 }
 
-/// A word in lower case, if that is another word.
-pub(crate) fn in_lower_case(alloc: Global, word: &str) -> Result<Option<String>, AllocError> {
-    let lower = word.to_ascii_lowercase(alloc)?;
-    if lower.as_str() == word {
-        Ok(None)
-    } else {
-        Ok(Some(lower))
-    }
-}
-
 /// Whether a word is a hexadecimal number, of which a plain text has none.
 pub(crate) fn is_hexadecimal(word: &str) -> bool {
     hex_in(word.as_bytes()).is_some()
@@ -110,15 +101,10 @@ pub(crate) fn has_two_signs(word: &str) -> bool {
 
 /// Whether a word is `0x` and hexadecimal digits, of a number that is no number of 64 bits: a plain text has no others.
 pub(crate) fn is_too_long(word: &str) -> bool {
-    let Some(digits) = word.strip_prefix("0x") else {
-        return false;
-    };
-    for digit in digits.as_bytes() {
-        if !digit.is_ascii_hexdigit() {
-            return false;
-        }
+    match word.strip_prefix("0x") {
+        Some(digits) => !digits.is_empty() && are_hexadecimal(digits.as_bytes()),
+        None => false,
     }
-    !digits.is_empty()
 }
 
 /// Whether a word is a number with a leading zero, with or without a sign.
@@ -186,19 +172,21 @@ fn with_long_sign(number: u64) -> Option<i64> {
     }
 }
 
-/// What helps where a number has 32 bits, or 64, of which the highest is to be its sign.
-pub(crate) fn sign_hint(alloc: Global, word: &str) -> Result<Option<String>, AllocError> {
+/// What helps where a number has 32 bits, or 64, of which the highest is to be its sign; else nothing.
+pub(crate) fn sign_hint(alloc: Global, word: &str) -> Result<String, AllocError> {
     let Some(number) = number_in(word.as_bytes()) else {
-        return Ok(None);
+        return Ok(String::new(alloc));
     };
     if let Some(signed) = with_long_sign(number) {
-        return Ok(Some(format!(in alloc; "write {signed}, which has the same 64 bits")?));
+        return filled(alloc, SAME_BITS, &[Filling::Signed(signed)]);
     }
-    let Some(signed) = with_sign(number) else {
-        return Ok(None);
-    };
-    let words = format!(in alloc;
-        "{number:#x} is {signed} in 32 bits: write {signed} where only these count, else load it with `lddw`"
-    )?;
-    Ok(Some(words))
+    match with_sign(number) {
+        Some(signed) => format!(in alloc;
+            "; {number:#x} is {signed} in 32 bits: write {signed} where only these count, else load it with `lddw`"
+        ),
+        None => Ok(String::new(alloc)),
+    }
 }
+
+/// What is said of a number of 64 bits that is another one with a sign.
+const SAME_BITS: &str = "; write {}, which has the same 64 bits";

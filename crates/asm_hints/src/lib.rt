@@ -2,6 +2,7 @@
 #![tactic(auto)]
 
 mod explain;
+mod filled;
 mod hints;
 mod naming;
 mod other_names;

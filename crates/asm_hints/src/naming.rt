@@ -1,9 +1,11 @@
 //! What is wrong with the names of a line, in words for people.
 
+use crate::filled::filled;
 use crate::hints::{mark_words, shortened};
 use asm_source::{SourceFault, Tokens, begins_word, is_constant, label_in};
 use std::alloc::{AllocError, Global};
 use std::str;
+use text_likeness::Filling;
 
 /// A token as text.
 pub(crate) fn text_of(token: &[u8]) -> &str {
@@ -52,32 +54,24 @@ fn unnamed_words(alloc: Global, fault: &SourceFault, line: &str) -> Result<Strin
         return String::from_str(alloc, words);
     }
     let word = shortened(alloc, last_in(line))?;
-    match fault {
-        SourceFault::UnknownLabel(_) => format!(in alloc; "no line begins with the label `{word}`"),
-        SourceFault::UnknownMap(_) => format!(in alloc;
-            "no map above `code` has the name `{word}`"
-        ),
-        _ => String::from_str(
-            alloc,
-            "behind .equ stand a name and a number below 2^64, as in `.equ SIZE 16`",
-        ),
-    }
+    let pattern = match fault {
+        SourceFault::UnknownLabel(_) => "no line begins with the label `{}`",
+        SourceFault::UnknownMap(_) => "no map above `code` has the name `{}`",
+        _ => "behind .equ stand a name and a number below 2^64, as in `.equ SIZE 16`",
+    };
+    filled(alloc, pattern, &[Filling::Text(word.as_str())])
 }
 
 /// What is wrong with the names of a line, which has this fault, in words for people. What they say is no part of a contract.
 pub fn explain_name(alloc: Global, fault: &SourceFault, line: &str) -> Result<String, AllocError> {
-    match fault {
+    let pattern = match fault {
         SourceFault::BadName(_) => {
-            let word = shortened(alloc, given_in(line))?;
-            format!(in alloc;
-                "`{word}` is no name, which begins with an ASCII letter, `_` or `.` and is no register"
-            )
+            "`{}` is no name, which begins with an ASCII letter, `_` or `.` and is no register"
         }
-        SourceFault::NameTwice(_) => {
-            let word = shortened(alloc, given_in(line))?;
-            format!(in alloc; "the name `{word}` has a meaning by a line above")
-        }
-        SourceFault::Memory => String::from_str(alloc, "out of memory"),
-        _ => unnamed_words(alloc, fault, line),
-    }
+        SourceFault::NameTwice(_) => "the name `{}` has a meaning by a line above",
+        SourceFault::Memory => "out of memory",
+        _ => return unnamed_words(alloc, fault, line),
+    };
+    let word = shortened(alloc, given_in(line))?;
+    filled(alloc, pattern, &[Filling::Text(word.as_str())])
 }

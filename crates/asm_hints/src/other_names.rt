@@ -1,66 +1,68 @@
 //! The instruction that is meant by a word of other assemblers.
 
-use disasm::{MNEMONICS, Mnemonic};
+use crate::filled::filled;
+use disasm::Mnemonic;
 use std::alloc::{AllocError, Global};
+use text_likeness::{Filling, mnemonic_named};
 
-/// Names of other assemblers, and the mnemonic of each.
-const OTHER_NAMES: [(&str, &str); 55] = [
-    ("jmp", "ja"),
-    ("goto", "ja"),
-    ("b", "ja"),
-    ("br", "ja"),
-    ("ret", "exit"),
-    ("return", "exit"),
-    ("jz", "jeq"),
-    ("je", "jeq"),
-    ("beq", "jeq"),
-    ("jnz", "jne"),
-    ("bne", "jne"),
-    ("jae", "jge"),
-    ("jnb", "jge"),
-    ("bgeu", "jge"),
-    ("jna", "jle"),
-    ("jbe", "jle"),
-    ("bleu", "jle"),
-    ("jb", "jlt"),
-    ("jnae", "jlt"),
-    ("bltu", "jlt"),
-    ("jnbe", "jgt"),
-    ("bgtu", "jgt"),
-    ("shl", "lsh64"),
-    ("lsl", "lsh64"),
-    ("sll", "lsh64"),
-    ("shl64", "lsh64"),
-    ("shl32", "lsh32"),
-    ("shr", "rsh64"),
-    ("lsr", "rsh64"),
-    ("srl", "rsh64"),
-    ("shr64", "rsh64"),
-    ("shr32", "rsh32"),
-    ("sar", "arsh64"),
-    ("asr", "arsh64"),
-    ("sra", "arsh64"),
-    ("sar64", "arsh64"),
-    ("sar32", "arsh32"),
-    ("ldb", "ldxb"),
-    ("ldh", "ldxh"),
-    ("ldw", "ldxw"),
-    ("ldd", "ldxdw"),
-    ("ldq", "ldxdw"),
-    ("ldxd", "ldxdw"),
-    ("ldxq", "ldxdw"),
-    ("ldx64", "ldxdw"),
-    ("ldxu64", "ldxdw"),
-    ("std", "stdw"),
-    ("stq", "stdw"),
-    ("st64", "stdw"),
-    ("stxd", "stxdw"),
-    ("stxq", "stxdw"),
-    ("stx64", "stxdw"),
-    ("stxu64", "stxdw"),
-    ("sd", "stxdw"),
-    ("movabs", "lddw"),
-];
+/// In each line a name of another assembler, and the mnemonic.
+const OTHER_NAMES: &str = "\
+    jmp ja\n\
+    goto ja\n\
+    b ja\n\
+    br ja\n\
+    ret exit\n\
+    return exit\n\
+    jz jeq\n\
+    je jeq\n\
+    beq jeq\n\
+    jnz jne\n\
+    bne jne\n\
+    jae jge\n\
+    jnb jge\n\
+    bgeu jge\n\
+    jna jle\n\
+    jbe jle\n\
+    bleu jle\n\
+    jb jlt\n\
+    jnae jlt\n\
+    bltu jlt\n\
+    jnbe jgt\n\
+    bgtu jgt\n\
+    shl lsh64\n\
+    lsl lsh64\n\
+    sll lsh64\n\
+    shl64 lsh64\n\
+    shl32 lsh32\n\
+    shr rsh64\n\
+    lsr rsh64\n\
+    srl rsh64\n\
+    shr64 rsh64\n\
+    shr32 rsh32\n\
+    sar arsh64\n\
+    asr arsh64\n\
+    sra arsh64\n\
+    sar64 arsh64\n\
+    sar32 arsh32\n\
+    ldb ldxb\n\
+    ldh ldxh\n\
+    ldw ldxw\n\
+    ldd ldxdw\n\
+    ldq ldxdw\n\
+    ldxd ldxdw\n\
+    ldxq ldxdw\n\
+    ldx64 ldxdw\n\
+    ldxu64 ldxdw\n\
+    std stdw\n\
+    stq stdw\n\
+    st64 stdw\n\
+    stxd stxdw\n\
+    stxq stxdw\n\
+    stx64 stxdw\n\
+    stxu64 stxdw\n\
+    sd stxdw\n\
+    movabs lddw\n\
+    ";
 
 /// How words of other assemblers begin that no one mnemonic stands for, and what helps.
 const BEGINNINGS: [(&str, &str); 13] = [
@@ -92,21 +94,13 @@ const SIGNED_LESS: &str =
 const SIGNED_GREATER: &str =
     "`jgt` and `jge` compare numbers without a sign, `jsgt` and `jsge` with one";
 
-/// The mnemonic of this name.
-pub(crate) fn mnemonic_named(name: &str) -> Option<Mnemonic> {
-    for mnemonic in MNEMONICS {
-        if name.strip_prefix(mnemonic.stem()) == Some(mnemonic.suffix()) {
-            return Some(mnemonic);
-        }
-    }
-    None
-}
-
 /// The mnemonic of a name of another assembler.
 fn other_name(word: &str) -> Option<&'static str> {
-    for (other, name) in OTHER_NAMES {
-        if other == word {
-            return Some(name);
+    for line in OTHER_NAMES.lines() {
+        if let Some((other, name)) = line.split_once(' ') {
+            if other == word {
+                return Some(name);
+            }
         }
     }
     None
@@ -117,9 +111,9 @@ const WIDTHS: [(&str, &str); 3] = [("w", "32"), ("l", "32"), ("q", "64")];
 
 /// The mnemonic of arithmetic that a word is with a letter in place of its width, as `addw` is.
 fn by_letter(alloc: Global, word: &str) -> Result<Option<String>, AllocError> {
-    for (letter, width) in WIDTHS {
-        if let Some(stem) = word.strip_suffix(letter) {
-            let name = format!(in alloc; "{stem}{width}")?;
+    for row in &WIDTHS {
+        if let Some(stem) = word.strip_suffix(row.0) {
+            let name = filled(alloc, "{}{}", &[Filling::Text(stem), Filling::Text(row.1)])?;
             if let Some(Mnemonic::Alu(_, _) | Mnemonic::Negate(_)) = mnemonic_named(name.as_str()) {
                 return Ok(Some(name));
             }
@@ -130,14 +124,14 @@ fn by_letter(alloc: Global, word: &str) -> Result<Option<String>, AllocError> {
 
 /// The mnemonic that a word of another assembler stands for, if that is sure.
 pub(crate) fn meant_by(alloc: Global, word: &str) -> Result<Option<String>, AllocError> {
-    let plain = word.strip_suffix("64").unwrap_or("");
     if let Some(name) = other_name(word) {
-        Ok(Some(String::from_str(alloc, name)?))
-    } else if mnemonic_named(plain).is_some() {
-        Ok(Some(String::from_str(alloc, plain)?))
-    } else {
-        by_letter(alloc, word)
+        return Ok(Some(String::from_str(alloc, name)?));
     }
+    let plain = word.strip_suffix("64").unwrap_or("");
+    if mnemonic_named(plain).is_some() {
+        return Ok(Some(String::from_str(alloc, plain)?));
+    }
+    by_letter(alloc, word)
 }
 
 /// What helps where a word of another assembler stands for no one mnemonic.
@@ -148,9 +142,9 @@ pub(crate) fn family_hint(word: &str) -> Option<&'static str> {
     if word == "st" {
         return Some(STORES);
     }
-    for (beginning, hint) in BEGINNINGS {
-        if word.starts_with(beginning) {
-            return Some(hint);
+    for row in &BEGINNINGS {
+        if word.starts_with(row.0) {
+            return Some(row.1);
         }
     }
     None
@@ -161,8 +155,8 @@ const ENDS: [&str; 3] = ["16", "32", "64"];
 
 /// A word without the width at its end.
 pub(crate) fn without_width(word: &str) -> &str {
-    for width in ENDS {
-        if let Some(stem) = word.strip_suffix(width) {
+    for width in &ENDS {
+        if let Some(stem) = word.strip_suffix(*width) {
             return stem;
         }
     }
@@ -171,8 +165,8 @@ pub(crate) fn without_width(word: &str) -> &str {
 
 /// Whether a word may be a wrong spelling of a mnemonic: both begin with one letter, and have no other width.
 pub(crate) fn is_near(word: &str, name: &str) -> bool {
-    for width in ENDS {
-        if word.ends_with(width) && !name.ends_with(width) {
+    for width in &ENDS {
+        if word.ends_with(*width) && !name.ends_with(*width) {
             return false;
         }
     }

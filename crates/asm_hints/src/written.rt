@@ -1,8 +1,10 @@
 //! A line as it was written, before its plain text.
 
+use crate::filled::filled;
 use crate::naming::text_of;
 use asm_source::{Tokens, is_name};
 use std::alloc::{AllocError, Global};
+use text_likeness::Filling;
 
 /// What stands behind the first word of a line.
 fn behind_first(line: &str) -> &str {
@@ -27,20 +29,16 @@ fn behind_mnemonic(source: &str) -> &str {
     }
 }
 
-/// The operands of a line of the source, where there are so many; none where there are others.
-pub(crate) fn written_operands<'a>(
-    alloc: Global,
-    source: &'a str,
-    wanted: usize,
-) -> Result<Vec<&'a str>, AllocError> {
-    let mut operands = Vec::new(alloc);
-    for operand in behind_mnemonic(source).split(',') {
-        operands.push(operand.trim())?;
+/// The operand of a line of the source in this place, where there are so many; none where there are others.
+pub(crate) fn written_operand(source: &str, place: usize, wanted: usize) -> Option<&str> {
+    let operands = behind_mnemonic(source);
+    if operands.split(',').count() != wanted {
+        return None;
     }
-    if operands.len() != wanted {
-        operands.clear();
+    match operands.split(',').nth(place) {
+        Some(operand) => Some(operand.trim()),
+        None => None,
     }
-    Ok(operands)
 }
 
 /// Whether a character is a blank that is no ASCII.
@@ -72,15 +70,13 @@ fn other_character(word: &str, is_name: bool) -> Option<u32> {
 
 /// What is said of a character that is no ASCII.
 fn words_of_character(alloc: Global, number: u32) -> Result<String, AllocError> {
-    if is_other_blank(number) {
-        format!(in alloc;
-            "U+{number:04X} stands here, which is a blank of another kind: write a space"
-        )
+    let pattern = if is_other_blank(number) {
+        "U+{} stands here, which is a blank of another kind: write a space"
     } else {
-        format!(in alloc;
-            "U+{number:04X} stands here, and only names and comments have characters that are no ASCII"
-        )
-    }
+        "U+{} stands here, and only names and comments have characters that are no ASCII"
+    };
+    let digits = format!(in alloc; "{number:04X}")?;
+    filled(alloc, pattern, &[Filling::Text(digits.as_str())])
 }
 
 /// What is said of the first character of a line that is no ASCII, and that no name among the operands has.

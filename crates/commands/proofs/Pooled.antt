@@ -4,6 +4,7 @@ use Rattle.std.specs.Prelude.{Option, Result, Ok, Err, MatchResult, OnOk}
 use Rattle.std.specs.Io.KnownBytes.{Appends}
 use Rattle.std.proofs.KnownBytes.{Appends-trans}
 use Rattle.bpf_model.specs.declared.insn.Insn.{Insn}
+use Rattle.bpf_model.specs.declared.limits.MapShape.{MapShape}
 use Rattle.bpf_model.specs.View.{shapes_of_maps}
 use Rattle.program_graph.specs.GraphFlaws.{HasGoodGraph}
 use Rattle.plan_laws.specs.Verified.{IsVerified}
@@ -22,34 +23,36 @@ abbrev pub file_of : (bytes : List ℕ) (s : Source) → IsSourceOf bytes s → 
     IsVerified s.program (shapes_of_maps s.registry.maps) s.ctx_len → IsVerifiedFile bytes s.program
 file_of bytes s is graph verified = record { content = content_with s; says = is.says; is = is.is; text_is = refl; graph = graph; verified = verified }
 
-pub program_found : (bytes : List ℕ) (s : Source) (program : List Insn) (context_len : ℕ) → IsSourceOf bytes s →
+pub program_found : (bytes : List ℕ) (s : Source) (program : List Insn) (shapes : List MapShape) (context_len : ℕ) → IsSourceOf bytes s →
     HasGoodGraph s.program → IsVerified s.program (shapes_of_maps s.registry.maps) s.ctx_len → program ≡ s.program →
-    context_len ≡ s.ctx_len → IsProgramOf bytes program context_len
-program_found bytes s program context_len is graph verified same_program same_len =
-    let here : IsProgramOf bytes s.program context_len = record { file = file_of bytes s is graph verified; context = same_len } in
-    subst (λ (p : List Insn). IsProgramOf bytes p context_len) (sym same_program) here
+    shapes ≡ shapes_of_maps s.registry.maps → context_len ≡ s.ctx_len → IsProgramOf bytes program shapes context_len
+program_found bytes s program shapes context_len is graph verified same_program same_maps same_len =
+    let here : IsProgramOf bytes s.program shapes context_len =
+    record { file = file_of bytes s is graph verified; maps = same_maps; context = same_len } in
+    subst (λ (p : List Insn). IsProgramOf bytes p shapes context_len) (sym same_program) here
 
 -- the lines of the jobs, and that of the entries
-pub pool_written : (bytes : List ℕ) (program : List Insn) (context_len count entries : ℕ)
-    (old mid new : Option (List ℕ)) → IsProgramOf bytes program context_len →
-    WritesJobs program context_len count old mid → Appends mid new (entries_line entries) →
+pub pool_written : (bytes : List ℕ) (program : List Insn) (shapes : List MapShape) (context_len count entries : ℕ)
+    (old mid new : Option (List ℕ)) → IsProgramOf bytes program shapes context_len →
+    WritesJobs program shapes context_len count old mid → Appends mid new (entries_line entries) →
     WritesPool count old new bytes
-pool_written bytes program context_len count entries old mid new found wrote last = (
+pool_written bytes program shapes context_len count entries old mid new found wrote last = (
   wrote.outcomes,
   entries,
   record {
     program = program;
     file = found.file;
     number = wrote.number;
-    each = subst (λ (n : ℕ). All (IsOutcomeOf program n) wrote.outcomes) found.context wrote.each;
+    each = subst (λ (s : List MapShape). All (IsOutcomeOf program s found.file.content.ctx_len) wrote.outcomes) found.maps
+        (subst (λ (n : ℕ). All (IsOutcomeOf program shapes n) wrote.outcomes) found.context wrote.each);
   },
   Appends-trans old mid new (job_lines 0 wrote.outcomes) (entries_line entries) wrote.written last,
 )
 
-pub pool_told : (workers count : ℕ) (bytes : List ℕ) (program : List Insn) (context_len : ℕ) (f : PoolFault)
-    (v : Verdict) → IsProgramOf bytes program context_len → IsFaultOf workers count f →
+pub pool_told : (workers count : ℕ) (bytes : List ℕ) (program : List Insn) (shapes : List MapShape) (context_len : ℕ) (f : PoolFault)
+    (v : Verdict) → IsProgramOf bytes program shapes context_len → IsFaultOf workers count f →
     IsPlainVerdict (pool_fault_number f) v → IsPoolRefusal workers count bytes v
-pool_told workers count bytes program context_len f v found fault told =
+pool_told workers count bytes program shapes context_len f v found fault told =
     inr (record { program = program; file = found.file; fault = f; is = fault; told = told })
 
 -- what has the status 3 is not so where the status is 1

@@ -4,6 +4,8 @@ use Rattle.std.specs.Prelude.{Option}
 use Rattle.std.specs.Fmt.{decimal}
 use Rattle.std.specs.Io.KnownBytes.{Appends}
 use Rattle.bpf_model.specs.declared.insn.Insn.{Insn}
+use Rattle.bpf_model.specs.declared.limits.MapShape.{MapShape}
+use Rattle.bpf_model.specs.View.{shapes_of_maps}
 use Rattle.job_queue.specs.declared.fault.PoolFault.{PoolFault}
 use Rattle.job_queue.specs.declared.fault.PoolFault.TheVariants.{Lost}
 use Rattle.job_queue.specs.Faults.{pool_fault_number}
@@ -23,18 +25,23 @@ entries_line entries = codes "entries " ++ (decimal entries ++ codes "\n")
 abbrev pub pool_text : List Outcome → ℕ → List ℕ
 pool_text outcomes entries = job_lines 0 outcomes ++ entries_line entries
 
--- The file says this program, which is verified with its maps and its context, of this length.
-pub record IsProgramOf (bytes : List ℕ) (program : List Insn) (context_len : ℕ) : Type 0 where
+-- The file says this program, which is verified with its maps, of these shapes, and its context, of
+-- this length.
+pub record IsProgramOf (bytes : List ℕ) (program : List Insn) (shapes : List MapShape)
+    (context_len : ℕ) : Type 0 where
   pub file : IsVerifiedFile bytes program
+  pub maps : shapes ≡ shapes_of_maps file.content.registry.maps
   pub context : context_len ≡ file.content.ctx_len
 
 -- The file says a program that is verified with its maps and context. There is one outcome for each
--- of so many jobs, and those that have exited have exited as the program may on zeros.
+-- of so many jobs, and those that have exited have exited as the program may on zeros, over the
+-- file's maps; of the others nothing is known.
 pub record ArePooled (bytes : List ℕ) (count : ℕ) (outcomes : List Outcome) : Type 0 where
   pub program : List Insn
   pub file : IsVerifiedFile bytes program
   pub number : length outcomes ≡ count
-  pub each : All (IsOutcomeOf program file.content.ctx_len) outcomes
+  pub each : All (IsOutcomeOf program (shapes_of_maps file.content.registry.maps)
+      file.content.ctx_len) outcomes
 
 -- what `pool` adds to the output
 abbrev pub WritesPool : ℕ → Option (List ℕ) → Option (List ℕ) → List ℕ → Type 0

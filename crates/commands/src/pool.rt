@@ -33,7 +33,7 @@ fn program_of(alloc: Global, file: &FileBytes) -> Result<ProgramWithMaps, Verdic
     ensures new_maps { IfOk result (λ p. AreNewMaps p.registry.maps) }
     ensures shapes { IfOk result (λ p. p.verified.shapes ≡ shapes_of_maps p.registry.maps) }
     ensures found { (bytes : List ℕ) → HoldsBytes file.now bytes →
-        IfOk result (λ p. IsProgramOf bytes p.verified.program p.verified.ctx_len) }
+        IfOk result (λ p. IsProgramOf bytes p.verified.program p.verified.shapes p.verified.ctx_len) }
     ensures refused { (bytes : List ℕ) → HoldsBytes file.now bytes →
         IfErr result (IsCheckedRefusal bytes) }
 {

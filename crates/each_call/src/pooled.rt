@@ -9,7 +9,7 @@ use std::alloc::Global;
 use std::sync::Wait;
 use std::sync::ledger::{Blank, Ledger};
 use std::thread::Threads;
-use worker_pool::{Job, Outcome, PoolFault, Report, Trail, run_jobs};
+use worker_pool::{Job, Outcome, PoolFault, Report, run_jobs};
 use world::World;
 
 /// Which calls were made again for want of memory.
@@ -122,7 +122,7 @@ fn jobs(alloc: Global) -> Result<Vec<Job>> {
 }
 
 /// Whether each job has exited with the number under the key.
-fn have_exited(report: &Report<Trail>) -> bool {
+fn have_exited<T>(report: &Report<T>) -> bool {
     for served in &report.jobs {
         if served.outcome != Outcome::Exit(42) {
             return false;

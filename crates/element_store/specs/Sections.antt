@@ -5,7 +5,6 @@ use Rattle.std.specs.Prelude.{slice_get, slice_index, map, length}
 use Rattle.std.specs.List.{range_with_len}
 use Rattle.std.specs.Int.{bit_at}
 use Rattle.bpf_model.specs.declared.limits.TheConstants.{MAX_DEPTH, MAX_RUNS}
-use Rattle.element_store.specs.declared.run_set.TheConstants.{WORD_BITS}
 
 -- for each run slot how many locks of its run are open, and whether its section is awaited
 pub record GraceState : Type 0 where
@@ -35,8 +34,12 @@ pub record IsGrace (g : GraceState) : Type 0 where
 abbrev pub grace_state_of : List ℕ → List Bool → GraceState
 grace_state_of depths awaited = record { depths = depths; awaited = awaited }
 
+-- how many flags a word holds
+abbrev pub flags_of_word : ℕ
+flags_of_word = 64
+
 -- the flag of run slot r is bit r % 64 of word r / 64
 unfoldable pub flags_of : List ℕ → List Bool
 flags_of words =
-    map (λ r. bit_at (slice_index words (r / WORD_BITS)) (r % WORD_BITS) == 1)
+    map (λ r. bit_at (slice_index words (r / flags_of_word)) (r % flags_of_word) == 1)
     (range_with_len 0 MAX_RUNS)

@@ -5,6 +5,7 @@ use register_kinds::{AbsState, RegKind};
 use scalar_domain::Scalar;
 use std::io;
 use std::io::Write;
+use text_likeness::{Filling, write_filled, write_text};
 
 /// Whether a register holds a reference or a map.
 fn is_reference(state: &AbsState, register: Reg) -> bool {
@@ -34,7 +35,7 @@ fn numbers_of(state: &AbsState, src: &Operand) -> Option<Scalar> {
 }
 
 /// Why a reference is not moved by a number.
-#[derive(Clone, Copy, Debug, PartialEq, Eq)]
+#[derive(Clone, Copy)]
 enum Unmoved {
     /// A reference to the frame is moved by one number alone.
     ManyInFrame,
@@ -64,16 +65,33 @@ fn why_unmoved(kind: &RegKind, by: &Scalar) -> Unmoved {
     }
 }
 
-/// Writes an operand.
-fn write_operand<W: Write>(out: &mut W, src: &Operand) -> io::Result<()> {
+/// A register by its number, or a number.
+fn shown(src: &Operand) -> (&'static str, Filling<'static>) {
     match src {
-        Operand::Register(register) => {
-            let number = register.index();
-            write!(out, "  r{number}")
-        }
-        Operand::Immediate(number) => write!(out, "  {number}"),
+        Operand::Register(register) => ("r", Filling::Count(register.index())),
+        Operand::Immediate(number) => ("", Filling::Signed(i64::from(*number))),
     }
 }
+
+/// What is said behind an operand of why a reference is not moved by it.
+fn unmoved_words(why: Unmoved, is_one: bool) -> &'static str {
+    match why {
+        Unmoved::ManyInFrame => {
+            "is not known as one number, and a pointer to the frame is moved by one alone"
+        }
+        Unmoved::EitherSign => {
+            "may be negative or not, so it has no bounds: test its sign first, by `jslt`, or bound it by `and64` or `jgt`"
+        }
+        Unmoved::FarNumber if is_one => "is farther than {}, forward or back",
+        Unmoved::FarNumber => {
+            "may be farther than {}, forward or back: bound it first, by `and64` or a jump"
+        }
+        Unmoved::FarOffset => "",
+    }
+}
+
+/// What is said where an offset may be too far.
+const FAR_OFFSET: &str = "  the offset may then be farther than {} from where the region begins\n";
 
 /// Writes why a reference of this kind is not moved by an operand.
 fn write_unmoved<W: Write>(
@@ -82,37 +100,14 @@ fn write_unmoved<W: Write>(
     src: &Operand,
     by: &Scalar,
 ) -> io::Result<()> {
-    match why_unmoved(kind, by) {
-        Unmoved::ManyInFrame => {
-            write_operand(out, src)?;
-            writeln!(
-                out,
-                " is not known as one number, and a pointer to the frame is moved by one alone"
-            )
-        }
-        Unmoved::EitherSign => {
-            write_operand(out, src)?;
-            writeln!(
-                out,
-                " may be negative or not, so it has no bounds: test its sign first, by `jslt`, or bound it by `and64` or `jgt`"
-            )
-        }
-        Unmoved::FarNumber if by.least == by.greatest => {
-            write_operand(out, src)?;
-            writeln!(out, " is farther than {NEAR_LIMIT}, forward or back")
-        }
-        Unmoved::FarNumber => {
-            write_operand(out, src)?;
-            writeln!(
-                out,
-                " may be farther than {NEAR_LIMIT}, forward or back: bound it first, by `and64` or a jump"
-            )
-        }
-        Unmoved::FarOffset => writeln!(
-            out,
-            "  the offset may then be farther than {NEAR_LIMIT} from where the region begins"
-        ),
+    let words = unmoved_words(why_unmoved(kind, by), by.least == by.greatest);
+    if words.is_empty() {
+        return write_filled(out, FAR_OFFSET, &[Filling::Number(NEAR_LIMIT)]);
     }
+    let (letter, number) = shown(src);
+    write_filled(out, "  {}{} ", &[Filling::Text(letter), number])?;
+    write_filled(out, words, &[Filling::Number(NEAR_LIMIT)])?;
+    write_text(out, "\n")
 }
 
 /// What is said of an operand that is to be a number.
@@ -120,9 +115,15 @@ const COMPUTED: &str = "this computes with numbers";
 
 /// Writes that a register is no number.
 fn write_no_number<W: Write>(out: &mut W, register: Reg, why: &str) -> io::Result<()> {
-    let number = register.index();
-    writeln!(out, "  r{number} is no number, and {why}")
+    write_filled(
+        out,
+        "  r{} is no number, and {}\n",
+        &[Filling::Count(register.index()), Filling::Text(why)],
+    )
 }
+
+/// What moves a pointer.
+const MOVED: &str = "  a pointer is moved by add64 and sub64 of a number, and by nothing else\n";
 
 /// Writes why an operation with a reference is refused.
 fn write_operation<W: Write>(
@@ -147,10 +148,7 @@ fn write_operation<W: Write>(
         (Some(kind), Some(by)) if is_move && size == Size::Word64 => {
             write_unmoved(out, kind, src, &by)
         }
-        _ => writeln!(
-            out,
-            "  a pointer is moved by add64 and sub64 of a number, and by nothing else"
-        ),
+        _ => write_text(out, MOVED),
     }
 }
 
@@ -177,7 +175,7 @@ pub fn write_arithmetic<W: Write>(out: &mut W, insn: &Insn, state: &AbsState) ->
         Insn::Alu {
             op: AluOp::Move,
             ..
-        } => writeln!(out, "  a pointer is copied whole, by `mov64`"),
+        } => write_text(out, "  a pointer is copied whole, by `mov64`\n"),
         Insn::Alu { op, size, dst, src } => write_operation(out, state, *op, *size, *dst, src),
         Insn::Unary { op, dst } => { write_no_number(out, op.source(*dst), COMPUTED) }
         Insn::JumpIf { dst, src, .. } => write_comparison(out, state, *dst, src),

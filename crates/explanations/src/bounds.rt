@@ -7,6 +7,7 @@ use register_kinds::{AbsState, ORIGIN, RegKind};
 use scalar_domain::Scalar;
 use std::io;
 use std::io::Write;
+use text_likeness::{Filling, write_filled};
 
 /// The first and the last byte that an access may reach, and whether there is but one offset. Bytes are counted from the
 /// start of the region, those of the frame from r10.
@@ -30,10 +31,9 @@ fn way_of(reach: Reach, begin: i64, end: i64) -> &'static str {
     }
 }
 
-/// Writes a byte of the frame by its place below or above r10.
-fn write_place<W: Write>(out: &mut W, place: i64) -> io::Result<()> {
-    let sign = if place < 0 { "" } else { "+" };
-    write!(out, "r10{sign}{place}")
+/// The sign of a place, where that does not show it.
+pub fn sign_of(place: i64) -> &'static str {
+    if place < 0 { "" } else { "+" }
 }
 
 /// Writes which bytes of the frame or beside it an access reaches.
@@ -46,16 +46,29 @@ fn write_frame<W: Write>(out: &mut W, access: Access, at: i32) -> io::Result<()>
         last: first.saturating_add(more),
         is_known: true,
     };
-    write!(out, "  it reaches ")?;
-    write_place(out, reach.first)?;
+    write_filled(
+        out,
+        "  it reaches r10{}{}",
+        &[
+            Filling::Text(sign_of(reach.first)),
+            Filling::Signed(reach.first),
+        ],
+    )?;
     if reach.last != reach.first {
-        write!(out, " to ")?;
-        write_place(out, reach.last)?;
+        write_filled(
+            out,
+            " to r10{}{}",
+            &[
+                Filling::Text(sign_of(reach.last)),
+                Filling::Signed(reach.last),
+            ],
+        )?;
     }
     let way = way_of(reach, -bytes, 0);
-    writeln!(
+    write_filled(
         out,
-        ", and {way} the frame, which is r10-{FRAME_BYTES} to r10-1"
+        ", and {} the frame, which is r10-{} to r10-1\n",
+        &[Filling::Text(way), Filling::Count(FRAME_BYTES)],
     )
 }
 
@@ -79,6 +92,25 @@ fn reach_of(access: Access, offsets: &Scalar) -> Reach {
     }
 }
 
+/// What is said of the bytes that an access reaches.
+fn reached(reach: Reach) -> &'static str {
+    match (reach.is_known, reach.first == reach.last) {
+        (true, true) => "  it reaches byte {}",
+        (true, false) => "  it reaches bytes {} to {}",
+        (false, true) => "  it may reach byte {}",
+        (false, false) => "  it may reach bytes {} to {}",
+    }
+}
+
+/// Writes which bytes of a region an access reaches.
+fn write_reach<W: Write>(out: &mut W, reach: Reach) -> io::Result<()> {
+    write_filled(
+        out,
+        reached(reach),
+        &[Filling::Signed(reach.first), Filling::Signed(reach.last)],
+    )
+}
+
 /// Writes which bytes of a region of this length or beside it an access reaches.
 fn write_region<W: Write>(
     out: &mut W,
@@ -88,25 +120,23 @@ fn write_region<W: Write>(
     length: usize,
 ) -> io::Result<()> {
     let reach = reach_of(access, offsets);
-    let (first, last) = (reach.first, reach.last);
-    let verb = if reach.is_known {
-        "reaches"
-    } else {
-        "may reach"
-    };
-    if first == last {
-        write!(out, "  it {verb} byte {first}")?;
-    } else {
-        write!(out, "  it {verb} bytes {first} to {last}")?;
-    }
+    write_reach(out, reach)?;
     let end = i64::try_from(length).unwrap_or(i64::MAX);
     let way = way_of(reach, 0, end);
-    write!(out, ", and {way} the {region}, which ")?;
-    match length.checked_sub(1) {
-        None => writeln!(out, "has no bytes"),
-        Some(0) => writeln!(out, "is byte 0"),
-        Some(last) => writeln!(out, "is bytes 0 to {last}"),
-    }
+    let bytes = match length {
+        0 => ", and {} the {}, which has no bytes\n",
+        1 => ", and {} the {}, which is byte 0\n",
+        _ => ", and {} the {}, which is bytes 0 to {}\n",
+    };
+    write_filled(
+        out,
+        bytes,
+        &[
+            Filling::Text(way),
+            Filling::Text(region),
+            Filling::Count(length.saturating_sub(1)),
+        ],
+    )
 }
 
 /// Writes how a load or a store leaves the region to which its register leads.

@@ -1,18 +1,19 @@
 //! What of an instruction or of its program is the cause of a refusal, in words.
 
 use crate::arithmetic::write_arithmetic;
-use crate::bounds::write_bounds;
+use crate::bounds::{sign_of, write_bounds};
 use crate::numbers::{
     JUMP_TARGET, NO_SUCH_MAP, OUT_OF_BOUNDS, OUTSIDE_SECTION, POINTER_ARITHMETIC, POINTER_LEAK,
     UNKNOWN_CALL, UNPAIRED_SECTION, WRONG_ARGUMENT,
 };
 use bpf_model::{
-    ArgumentKind, CallKind, FRAME_BYTES, Helper, Insn, MapId, MapShape, Operand, ResultKind,
+    ArgumentKind, CallKind, FRAME_BYTES, Helper, Insn, MapId, MapShape, Operand, Reg, ResultKind,
 };
 use program_files::Source;
 use register_kinds::{AbsState, RegKind, is_array};
 use std::io;
 use std::io::Write;
+use text_likeness::{Filling, write_filled, write_text};
 
 /// Which functions there are.
 pub const FUNCTIONS: &str =
@@ -37,6 +38,25 @@ fn begins_at(source: &Source, slot: usize) -> bool {
     false
 }
 
+/// What is said of a jump to a slot and that one's neighbour, if the slot is no instruction of the program.
+fn target_words(source: &Source, place: usize) -> Option<(&'static str, usize)> {
+    let count = source.program.slot_count();
+    let first = place.saturating_sub(1);
+    if place >= count {
+        Some((BEHIND_LAST, count.saturating_sub(1)))
+    } else if begins_at(source, first) && !begins_at(source, place) {
+        Some((SECOND_HALF, first))
+    } else {
+        None
+    }
+}
+
+/// What is said of a jump to this slot or behind it, where the last one is that.
+const BEHIND_LAST: &str = "  it leads to slot {}, and the last one is {}\n";
+
+/// What is said of a jump into the instruction that begins at that slot.
+const SECOND_HALF: &str = "  it leads to slot {}, the second half of the instruction at {}\n";
+
 /// Writes where a jump leads that stands at a slot, and what is there.
 fn write_target<W: Write>(
     out: &mut W,
@@ -49,42 +69,40 @@ fn write_target<W: Write>(
     };
     let behind = i64::try_from(slot).unwrap_or(0).saturating_add(1);
     let target = behind.saturating_add(distance);
-    let count = source.program.slot_count();
     let Ok(place) = usize::try_from(target) else {
-        return writeln!(out, "  it leads to slot {target}, before the first one");
+        return write_filled(
+            out,
+            "  it leads to slot {}, before the first one\n",
+            &[Filling::Signed(target)],
+        );
     };
-    if place >= count {
-        let last = count.saturating_sub(1);
-        return writeln!(
-            out,
-            "  it leads to slot {place}, and the last one is {last}"
-        );
+    match target_words(source, place) {
+        Some((words, other)) => {
+            write_filled(out, words, &[Filling::Count(place), Filling::Count(other)])
+        }
+        None => Ok(()),
     }
-    let first = place.saturating_sub(1);
-    if begins_at(source, first) && !begins_at(source, place) {
-        return writeln!(
-            out,
-            "  it leads to slot {place}, the second half of the instruction at {first}"
-        );
-    }
-    Ok(())
 }
+
+/// What is said of a program without maps.
+const NO_MAPS: &str = "  the program has no maps: a file without `bpfrt 1` never has\n";
 
 /// Writes the maps of a program by their numbers.
 fn write_maps<W: Write>(out: &mut W, source: &Source) -> io::Result<()> {
     if source.registry.len() == 0 {
-        return writeln!(
-            out,
-            "  the program has no maps: a file without `bpfrt 1` never has"
-        );
+        return write_text(out, NO_MAPS);
     }
-    write!(out, "  the program's maps are")?;
+    write_text(out, "  the program's maps are")?;
     for number in 0..source.registry.len() {
         if let Some(name) = source.registry.name(MapId::new(number)) {
-            write!(out, " {number} ({name})")?;
+            write_filled(
+                out,
+                " {} ({})",
+                &[Filling::Count(number), Filling::Text(name)],
+            )?;
         }
     }
-    writeln!(out)
+    write_text(out, "\n")
 }
 
 /// Writes what of a program is the cause of a refusal at this instruction, which stands at a slot.
@@ -97,7 +115,7 @@ pub fn write_cause<W: Write>(
 ) -> io::Result<()> {
     match code {
         JUMP_TARGET => write_target(out, source, insn, slot),
-        UNKNOWN_CALL => writeln!(out, "  {FUNCTIONS}"),
+        UNKNOWN_CALL => write_filled(out, "  {}\n", &[Filling::Text(FUNCTIONS)]),
         NO_SUCH_MAP => write_maps(out, source),
         _ => Ok(()),
     }
@@ -126,7 +144,11 @@ fn write_argument<W: Write>(out: &mut W, state: &AbsState, helper: Helper) -> io
             None => None,
         };
         if let Some(due) = due {
-            return writeln!(out, "  r{number} is to be {due}");
+            return write_filled(
+                out,
+                "  r{} is to be {}\n",
+                &[Filling::Count(number), Filling::Text(due)],
+            );
         }
     }
     Ok(())
@@ -166,9 +188,9 @@ fn write_lookup<W: Write>(
     helper: Helper,
 ) -> io::Result<()> {
     if is_outside(source, state, helper) {
-        writeln!(
+        write_text(
             out,
-            "  the lookup is made outside a section, and r1 is no array"
+            "  the lookup is made outside a section, and r1 is no array\n",
         )
     } else {
         Ok(())
@@ -191,10 +213,16 @@ fn write_outside<W: Write>(
             let first = i64::from(*at) - FRAME_BYTES as i64;
             let end = first.saturating_add(i64::try_from(length).unwrap_or(0));
             if *at < 0 || end > 0 {
-                let sign = if first < 0 { "" } else { "+" };
-                return writeln!(
+                return write_filled(
                     out,
-                    "  {what} at r10{sign}{first}, length {length}: the frame is r10-{FRAME_BYTES} to r10-1"
+                    "  {} at r10{}{}, length {}: the frame is r10-{} to r10-1\n",
+                    &[
+                        Filling::Text(what),
+                        Filling::Text(sign_of(first)),
+                        Filling::Signed(first),
+                        Filling::Count(length),
+                        Filling::Count(FRAME_BYTES),
+                    ],
                 );
             }
         }
@@ -202,39 +230,39 @@ fn write_outside<W: Write>(
     Ok(())
 }
 
+/// What is said of what is stored through this register that is no number.
+fn stored_words(state: &AbsState, dst: Reg) -> &'static str {
+    match state.regs.get(dst.index()) {
+        Some(RegKind::Frame(_)) => {
+            "  r{} is no number, and stands in the frame whole: store it by `stxdw`\n"
+        }
+        _ => "  r{} is no number, and an element holds numbers alone\n",
+    }
+}
+
 /// Writes what is stored or returned that is no number.
 fn write_leak<W: Write>(out: &mut W, insn: &Insn, state: &AbsState) -> io::Result<()> {
-    match insn {
-        Insn::Exit => writeln!(out, "  r0 is no number, and a program returns one"),
+    let (words, register) = match insn {
+        Insn::Exit => ("  r{} is no number, and a program returns one\n", Reg::R0),
         Insn::Store {
             dst,
             src: Operand::Register(src),
             ..
-        } => {
-            let number = src.index();
-            match state.regs.get(dst.index()) {
-                Some(RegKind::Frame(_)) => writeln!(
-                    out,
-                    "  r{number} is no number, and stands in the frame whole: store it by `stxdw`"
-                ),
-                _ => writeln!(
-                    out,
-                    "  r{number} is no number, and an element holds numbers alone"
-                ),
-            }
-        }
-        _ => Ok(()),
-    }
+        } => (stored_words(state, *dst), *src),
+        _ => return Ok(()),
+    };
+    write_filled(out, words, &[Filling::Count(register.index())])
 }
 
 /// Writes what is wrong where so many locks are open.
 fn write_section<W: Write>(out: &mut W, insn: &Insn, depth: usize) -> io::Result<()> {
-    match insn {
-        Insn::Exit => writeln!(out, "  `callbtf 2` gives up each lock before the exit"),
-        Insn::Call { .. } if depth == 0 => writeln!(out, "  no lock is open that it could give up"),
-        Insn::Call { .. } => writeln!(out, "  as many locks are open as may be"),
-        _ => Ok(()),
-    }
+    let words = match insn {
+        Insn::Exit => "  `callbtf 2` gives up each lock before the exit\n",
+        Insn::Call { .. } if depth == 0 => "  no lock is open that it could give up\n",
+        Insn::Call { .. } => "  as many locks are open as may be\n",
+        _ => return Ok(()),
+    };
+    write_text(out, words)
 }
 
 /// The helper that an instruction calls.

@@ -6,6 +6,7 @@ use program_graph::{falls, judge};
 use std::alloc::{AllocError, Global};
 use std::io;
 use std::io::Write;
+use text_likeness::{Filling, write_filled, write_text};
 
 /// For each number of locks, 0 to `MAX_DEPTH`, whether so many are open on some path.
 type Depths = [bool; 9];
@@ -83,15 +84,15 @@ fn write_numbers<W: Write>(out: &mut W, depths: &Depths) -> io::Result<()> {
     if depths.iter().filter(|is_open| **is_open).count() < 2 {
         return Ok(());
     }
-    write!(out, "  locks that are not given up, by the path: ")?;
+    write_text(out, "  locks that are not given up, by the path: ")?;
     let mut before = "";
     for (depth, is_open) in depths.iter().enumerate() {
         if *is_open {
-            write!(out, "{before}{depth}")?;
+            write_filled(out, "{}{}", &[Filling::Text(before), Filling::Count(depth)])?;
             before = " or ";
         }
     }
-    writeln!(out)
+    write_text(out, "\n")
 }
 
 /// Writes how many locks are open before the instruction of this index, where paths with other numbers of them meet there.

@@ -4,7 +4,7 @@ ghost use Rattle.bpf_model.specs.declared.limits.TheConstants.{CTX_BYTES};
 
 use crate::causes::{write_cause, write_known_cause};
 use crate::depths::write_depths;
-use crate::meaning::meaning_of;
+use crate::meaning::{Meaning, meaning_of};
 use crate::missing::write_bytes_read;
 use crate::numbers::{UNPAIRED_SECTION, WIDE_TAIL};
 use crate::reads::registers_read;
@@ -15,7 +15,9 @@ use program_files::{FileBytes, HEADING, MEMORY, Source, Verdict, known_where_ref
 use std::alloc::Global;
 use std::io;
 use std::io::Write;
-use text_likeness::{likeness_of, write_likeness, write_wrong_line};
+use text_likeness::{
+    Filling, likeness_of, write_filled, write_likeness, write_text, write_wrong_line,
+};
 use verifier::AbsState;
 use verifier_log::write_kind;
 
@@ -39,13 +41,25 @@ fn write_known<W: Write>(
     let read = registers_read(insn);
     for (number, kind) in state.regs.iter().enumerate() {
         if read.get(number).is_some_and(|is_read| *is_read) {
-            write!(out, "  r{number}: ")?;
+            write_filled(out, "  r{}: ", &[Filling::Count(number)])?;
             write_kind(out, source, kind)?;
-            writeln!(out)?;
+            write_text(out, "\n")?;
         }
     }
-    let depth = state.depth;
-    writeln!(out, "  locks that are not given up: {depth}")
+    write_filled(
+        out,
+        "  locks that are not given up: {}\n",
+        &[Filling::Count(state.depth)],
+    )
+}
+
+/// Writes what stands at a slot.
+fn write_at<W: Write>(out: &mut W, slot: usize, text: &str) -> io::Result<()> {
+    write_filled(
+        out,
+        "at {}: {}\n",
+        &[Filling::Count(slot), Filling::Text(text)],
+    )
 }
 
 /// Writes the text of the instruction at which a program is refused by this number, and what was known there.
@@ -65,7 +79,7 @@ fn write_instruction<W: Write>(
         return Ok(());
     };
     let text = line_of(alloc, insn)?;
-    writeln!(out, "at {slot}: {text}")?;
+    write_at(out, slot, text.as_str())?;
     write_cause(out, source, insn, code, slot)?;
     if code == UNPAIRED_SECTION {
         write_depths(alloc, source, index, out)?;
@@ -84,13 +98,20 @@ fn write_slot_line<W: Write>(bytes: &[u8], slot: usize, out: &mut W) -> io::Resu
         return Ok(());
     };
     let SlotPlace { line, above, among } = place;
-    if among == 1 {
-        return writeln!(out, "  line {line} of the file");
-    }
+    let pattern = if among == 1 {
+        "  line {} of the file\n"
+    } else {
+        "  line {} of the file, slot {} of {} there\n"
+    };
     let number = slot.saturating_sub(above).saturating_add(1);
-    writeln!(
+    write_filled(
         out,
-        "  line {line} of the file, slot {number} of {among} there"
+        pattern,
+        &[
+            Filling::Count(line),
+            Filling::Count(number),
+            Filling::Count(among),
+        ],
     )
 }
 
@@ -122,7 +143,7 @@ fn write_slot<W: Write>(
     let first = slot.saturating_mul(8);
     let code = said.code.get(first..first.saturating_add(8)).unwrap_or(&[]);
     let digits = hex::encode(alloc, code)?;
-    writeln!(out, "at {slot}: {digits}")?;
+    write_at(out, slot, digits.as_str())?;
     write_slot_line(bytes, slot, out)
 }
 
@@ -144,6 +165,15 @@ fn write_source<W: Write>(file: &FileBytes, verdict: &Verdict, out: &mut W) -> i
     Ok(())
 }
 
+/// Writes the name of a refusal, and what it means.
+pub fn write_meaning<W: Write>(out: &mut W, meaning: Meaning) -> io::Result<()> {
+    write_filled(
+        out,
+        "{}: {}\n",
+        &[Filling::Text(meaning.name), Filling::Text(meaning.text)],
+    )
+}
+
 /// Writes what a verdict on a program file means: a line with its name and its meaning; and where it is of an
 /// instruction, that one's text, what each register that it reads may hold, how many locks are open, by the path where that
 /// differs, and which byte of the frame is the cause. The frame is told from r10 on, maps by their place in the program's list and their names. Where
@@ -158,9 +188,7 @@ pub fn explain<W: Write>(
     out: &mut W,
 ) -> io::Result<()> {
     if let Some(meaning) = meaning_of(verdict.code) {
-        let name = meaning.name;
-        let text = meaning.text;
-        writeln!(out, "{name}: {text}")?;
+        write_meaning(out, meaning)?;
     }
     write_source(file, verdict, out)?;
     if let (Some(slot), Ok(source)) = (verdict.slot, file.source(alloc)) {

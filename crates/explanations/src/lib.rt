@@ -14,5 +14,5 @@ mod reads;
 mod slot_lines;
 
 pub use causes::FUNCTIONS;
-pub use explanation::{explain, slot_shown};
+pub use explanation::{explain, slot_shown, write_meaning};
 pub use meaning::{Meaning, meaning_of};

@@ -8,6 +8,7 @@ use program_files::Source;
 use register_kinds::{AbsState, RegKind, check_bytes};
 use std::io;
 use std::io::Write;
+use text_likeness::{Filling, write_filled};
 use verifier_log::write_group;
 
 /// Bytes of the frame that an instruction reads: for what, which one is the first, and how many.
@@ -89,13 +90,16 @@ fn write_first_in<W: Write>(
     let (Some(words), Some(at)) = (byte_words(code), first_refused(state, part, code)) else {
         return Ok(None);
     };
-    let byte = FRAME_BYTES.saturating_sub(at);
-    let start = FRAME_BYTES.saturating_sub(part.first);
-    let what = part.what;
-    let length = part.length;
-    writeln!(
+    write_filled(
         out,
-        "  {words}: r10-{byte} ({what} at r10-{start}, length {length})"
+        "  {}: r10-{} ({} at r10-{}, length {})\n",
+        &[
+            Filling::Text(words),
+            Filling::Count(FRAME_BYTES.saturating_sub(at)),
+            Filling::Text(part.what),
+            Filling::Count(FRAME_BYTES.saturating_sub(part.first)),
+            Filling::Count(part.length),
+        ],
     )?;
     Ok(Some(at))
 }
@@ -166,7 +170,11 @@ fn write_loaded<W: Write>(
         return Ok(());
     }
     let below = FRAME_BYTES.saturating_sub(group.saturating_mul(8));
-    writeln!(out, "  r10-{below}: of different kinds on different paths")
+    write_filled(
+        out,
+        "  r10-{}: of different kinds on different paths\n",
+        &[Filling::Count(below)],
+    )
 }
 
 /// Writes which bytes of the frame that an instruction reads are the cause of its refusal by this number, if some are.

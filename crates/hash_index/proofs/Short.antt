@@ -6,8 +6,8 @@ use Rattle.std.specs.Cmp.Lexicographic.{bytes_decides}
 use Rattle.std.proofs.lemmas.Bool.{cases_Bool, eq-eqb, eqb-true, false_from_ne_true, false≢true}
 use Rattle.std.proofs.lemmas.List.{get_or_past}
 use Rattle.std.proofs.lemmas.Nat.{le_bytes_4, le_bytes_8}
-use Rattle.hash_index.specs.Chains.{hash_of, hashed_word, mixed_hash, words_hash}
-use Rattle.hash_index.specs.declared.hash.TheConstants.{HASH_START, WORD_BYTES, HALF_BYTES}
+use Rattle.hash_index.specs.Chains.{hash_of, hashed_word, mixed_hash, words_hash, hash_start, word_bytes}
+use Rattle.hash_index.specs.declared.hash.TheConstants.{HALF_BYTES}
 
 -- four bytes have the number of the word that zeros fill up
 pub half_is : (bytes : List ℕ) → length bytes ≡ 4 → hashed_word bytes ≡ from_le_bytes w32 bytes
@@ -19,11 +19,11 @@ half_is bytes h =
     omega arith
 
 -- a key of one word, or of half a word, is hashed as one
-pub word_hashed : (key : List ℕ) → length key ≡ WORD_BYTES → hash_of key ≡ mixed_hash HASH_START (hashed_word key)
-word_hashed key h = ap (λ (n : ℕ). words_hash ((n + (WORD_BYTES - 1)) / WORD_BYTES) HASH_START key) h
+pub word_hashed : (key : List ℕ) → length key ≡ word_bytes → hash_of key ≡ mixed_hash hash_start (hashed_word key)
+word_hashed key h = ap (λ (n : ℕ). words_hash ((n + (word_bytes - 1)) / word_bytes) hash_start key) h
 
-pub half_hashed : (key : List ℕ) → length key ≡ HALF_BYTES → hash_of key ≡ mixed_hash HASH_START (hashed_word key)
-half_hashed key h = ap (λ (n : ℕ). words_hash ((n + (WORD_BYTES - 1)) / WORD_BYTES) HASH_START key) h
+pub half_hashed : (key : List ℕ) → length key ≡ HALF_BYTES → hash_of key ≡ mixed_hash hash_start (hashed_word key)
+half_hashed key h = ap (λ (n : ℕ). words_hash ((n + (word_bytes - 1)) / word_bytes) hash_start key) h
 
 -- bytes are told by a number that they can be read back from
 told_by : (back : ℕ → List ℕ) (from : List ℕ → ℕ) (a b : List ℕ) (m n : ℕ) → m ≡ from a → n ≡ from b → back m ≡ a →
@@ -34,7 +34,7 @@ told_by back from a b m n ma nb ba bb = elim (cases_Bool (nat_eq m n)) [
       (λ h. false≢true (sym z ∙ eq-eqb m n (ma ∙ (ap from ((bytes_decides a b).0 h) ∙ sym nb)))))
 ]
 
-pub word_told : (a b : List ℕ) (m n : ℕ) → length a ≡ WORD_BYTES → length b ≡ WORD_BYTES → ((i : ℕ) → get_or a i 0 < 256) →
+pub word_told : (a b : List ℕ) (m n : ℕ) → length a ≡ word_bytes → length b ≡ word_bytes → ((i : ℕ) → get_or a i 0 < 256) →
     ((i : ℕ) → get_or b i 0 < 256) → m ≡ hashed_word a → n ≡ hashed_word b → nat_eq m n ≡ bytes_eq a b
 word_told a b m n la lb ba bb ma nb =
     told_by (to_le_bytes w64) (from_le_bytes w64) a b m n ma nb (le_bytes_8 a m la ba ma) (le_bytes_8 b n lb bb nb)

@@ -5,7 +5,18 @@ use Rattle.std.specs.Prelude.{bit_xor}
 use Rattle.std.specs.Prelude.{List, ◌∷◌, ◌++◌, Option, None, Some, cond, drop, eqb, length}
 use Rattle.element_store.specs.State.{ArenaState, IsTaken, link_at, times_in}
 use Rattle.element_store.specs.Threads.{IsThread, chain_of}
-use Rattle.hash_index.specs.declared.hash.TheConstants.{HASH_START, WORD_BYTES, WORD_FACTOR}
+
+-- the hash of no bytes
+abbrev pub hash_start : ℕ
+hash_start = 14695981039346656037
+
+-- 2^64 over the golden ratio, which is odd
+abbrev pub word_factor : ℕ
+word_factor = 11400714819323198485
+
+-- how many bytes a word has
+abbrev pub word_bytes : ℕ
+word_bytes = 8
 
 -- the little-endian number of the first eight bytes; of fewer, with zeros behind them
 abbrev pub hashed_word : List ℕ → ℕ
@@ -17,21 +28,21 @@ folded_product product = bit_xor product (product / 2 ^ 32)
 
 -- a hash that goes on with a word
 abbrev pub mixed_hash : ℕ → ℕ → ℕ
-mixed_hash h word = folded_product ((bit_xor h word * WORD_FACTOR) % 2 ^ 64)
+mixed_hash h word = folded_product ((bit_xor h word * word_factor) % 2 ^ 64)
 
 -- a hash that goes on with so many words
 abbrev pub words_hash : ℕ → ℕ → List ℕ → ℕ
 words_hash zero h bytes = h
 words_hash (suc n) h bytes =
-    words_hash n (mixed_hash h (hashed_word bytes)) (drop WORD_BYTES bytes)
+    words_hash n (mixed_hash h (hashed_word bytes)) (drop word_bytes bytes)
 
 -- the hash of a key: that of its words, the last of which may have fewer bytes
 abbrev pub hash_of : List ℕ → ℕ
-hash_of key = words_hash ((length key + (WORD_BYTES - 1)) / WORD_BYTES) HASH_START key
+hash_of key = words_hash ((length key + (word_bytes - 1)) / word_bytes) hash_start key
 
 -- the bucket of a hash and of a key, of a power of two of them
 abbrev pub hash_bucket : ℕ → ℕ → ℕ
-hash_bucket count hash = bit_and (((hash * WORD_FACTOR) % 2 ^ 64) / 2 ^ 32) (count - 1)
+hash_bucket count hash = bit_and (((hash * word_factor) % 2 ^ 64) / 2 ^ 32) (count - 1)
 
 abbrev pub bucket_of : ℕ → List ℕ → ℕ
 bucket_of count key = hash_bucket count (hash_of key)

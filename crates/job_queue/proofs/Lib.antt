@@ -1,3 +1,4 @@
 pub mod BlockResults
 pub mod QueueRule
 pub mod Serving
+pub mod Turns

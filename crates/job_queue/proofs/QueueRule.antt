@@ -14,11 +14,11 @@ use Rattle.job_queue.specs.Numbers.{putter, taker, spent, with_number, without_n
 use Rattle.job_queue.specs.Numbers.{CountsFrom, WasTaken, times, taken_by_all, passes_out, Puts, HandsOutOnce, HasTakenAll}
 
 -- one where it is so
-abbrev one_if : Bool → ℕ
+abbrev pub one_if : Bool → ℕ
 one_if b = cond b 1 0
 
 -- whether two numbers are the same, and what that counts
-is_one : (x y : ℕ) (b : Bool) → eqb x y ≡ b →
+pub is_one : (x y : ℕ) (b : Bool) → eqb x y ≡ b →
     ((x ≡ y) × (one_if (eqb x y) ≡ 1)) ⊎ ((x ≢ y) × (one_if (eqb x y) ≡ 0))
 is_one x y true e = inl (eqb-true x y e, ap (λ (t : Bool). one_if t) e)
 is_one x y false e = inr (eqb-false x y e, ap (λ (t : Bool). one_if t) e)
@@ -253,9 +253,12 @@ learns_all by v items views h at may home x low =
     let one = h.once x (omega (arith, e, low)) in
     omega (arith, n, zero_left, one)
 
--- where the queue was found empty and all others came back, each number that was put in was taken by this pass
+-- where the queue was found empty and all others came back, each number that was put in was taken once, by this pass
+pub left_once : (o : Option ℕ) (w v : PassView) (Q : ℕ → Type 0) → is_some o ≡ false → MatchOption o ((w ≡ v) × Held 0 (HasTakenAll v)) Q
+    → v.puts ≡ true → v.out ≡ 0 → (k : ℕ) → k < v.next → times k v.taken ≡ 1
+left_once None w v Q e (same, (items, none, all)) may home k low = all may home k (omega (arith, none, low))
+left_once (Some x) w v Q e h may home k low = absurd (true≢false e)
+
 pub left_none : (o : Option ℕ) (w v : PassView) (Q : ℕ → Type 0) → is_some o ≡ false → MatchOption o ((w ≡ v) × Held 0 (HasTakenAll v)) Q
     → v.puts ≡ true → v.out ≡ 0 → (k : ℕ) → k < v.next → WasTaken k v.taken
-left_none None w v Q e (same, (items, none, all)) may home k low =
-    was_taken k v.taken (let one = all may home k (omega (arith, none, low)) in omega (arith, one))
-left_none (Some x) w v Q e h may home k low = absurd (true≢false e)
+left_none o w v Q e h may home k low = was_taken k v.taken (let one = left_once o w v Q e h may home k low in omega (arith, one))

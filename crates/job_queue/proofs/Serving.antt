@@ -14,9 +14,11 @@ use Rattle.job_queue.specs.declared.station.Numbered.{Numbered}
 use Rattle.std.proofs.lemmas.Option.{slice_get_within, slice_get-get_or, slice_get-map, get_or_from_slice_get}
 use Rattle.std.proofs.lemmas.List.{take_all, drop_all}
 use Rattle.job_queue.specs.declared.station.Station.{Station}
-use Rattle.job_queue.specs.Serving.{IsRight, IsRightNumbered, IsKept, HasServed, IsServedByOne, IsServedFor, AreRightLines, AreServed}
+use Rattle.job_queue.specs.Serving.{IsRight, IsRightNumbered, IsServedByOne, IsServedFor, AreRightLines, AreServed}
+use Rattle.job_queue.specs.Stations.{IsKept, HasServed, numbers_of}
 use Rattle.job_queue.specs.Sheet.{HasLine, IsAmong, HasResult, StandsIn, worker_of}
-use Rattle.job_queue.specs.Numbers.{WasTaken}
+use Rattle.job_queue.specs.Numbers.{times, WasTaken}
+use Rattle.job_queue.specs.Turns.{ServesNumbered}
 
 -- one more result, after which the worker has served more
 pub one_more : {J W T : Type 0} (fits : W → W → J → T → Type 0) (jobs : List J) (first was is : W) →
@@ -110,19 +112,23 @@ pub taken_before : (x k : ℕ) (taken : List ℕ) (n : ℕ) → (x < n → ⊥) 
 taken_before x k taken n past low is = ⊎_elim (λ (e : k ≡ x). absurd (past (subst (λ z. z < n) e low))) (λ t. t) is
 
 -- a station with the same worker and results, which took no further number of a job
-pub still_served : {J W T : Type 0} (fits : W → W → J → T → Type 0) (later : W → W → Type 0) (jobs : List J)
+pub still_served : {J W T : Type 0} (fits gains : W → W → J → T → Type 0) (later : W → W → Type 0) (jobs : List J)
     (of_queue : Pass ℕ PassView → Type 0) (ready : W → Type 0) (first : W) (s t : Station W T)
-    → HasServed fits later jobs of_queue ready first s → of_queue t.pass → (view t.pass).takes ≡ true → t.worker ≡ s.worker → t.results.items ≡ s.results.items
-    → ((k : ℕ) → WasTaken k (view t.pass).taken → k < length jobs → WasTaken k (view s.pass).taken) → HasServed fits later jobs of_queue ready first t
-still_served {J} {W} {T} fits later jobs of_queue ready first s t h pass takes worker results taken = record {
+    → HasServed fits gains later jobs of_queue ready first s → of_queue t.pass → (view t.pass).takes ≡ true
+    → t.worker ≡ s.worker → t.results.items ≡ s.results.items
+    → ((k : ℕ) → WasTaken k (view t.pass).taken → k < length jobs → WasTaken k (view s.pass).taken)
+    → ((k : ℕ) → k < length jobs → times k (view t.pass).taken ≡ times k (view s.pass).taken) → HasServed fits gains later jobs of_queue ready first t
+still_served {J} {W} {T} fits gains later jobs of_queue ready first s t h pass takes worker results taken counted = record {
   kept = record {
     pass = pass;
     takes = takes;
     results = λ k is low. subst (λ (z : List (Numbered T)). HasResult z k) (sym results) (h.kept.results k (taken k is low) low);
+    counted = λ k low. ap (λ (z : List (Numbered T)). times k (numbers_of z)) results ∙ (h.kept.counted k low ∙ sym (counted k low));
   };
   ready_now = subst ready (sym worker) h.ready_now;
   later_now = subst (later first) (sym worker) h.later_now;
   results = subst (λ (z : W × List (Numbered T)). All (IsRightNumbered fits jobs first z.0) z.1) (λ i. (sym worker i, sym results i)) h.results;
+  turn = subst (λ (z : W × List (Numbered T)). ServesNumbered gains jobs first z.1 z.0) (λ i. (sym worker i, sym results i)) h.turn;
 }
 
 pub stands_before : {W T : Type 0} (xs : List (Station W T)) (s : Station W T) (k : ℕ) (served : T) → StandsIn xs k served → StandsIn (xs ++ s ∷ []) k served
@@ -152,9 +158,11 @@ all_zip_stations R [] (y ∷ ys) e each = let no : ⊥ = omega arith in absurd n
 all_zip_stations R (x ∷ xs) [] e each = let no : ⊥ = omega arith in absurd no
 all_zip_stations R (x ∷ xs) (y ∷ ys) e each = (each 0 x (omega arith), all_zip_stations R xs ys (omega arith) (λ k d l. each (suc k) d (omega arith)))
 
-module _ {J W T : Type 0} (fits : W → W → J → T → Type 0) (later : W → W → Type 0) (jobs : List J) (of_queue : Pass ℕ PassView → Type 0) (ready : W → Type 0)
+module _ {J W T : Type 0} (fits gains : W → W → J → T → Type 0) (later : W → W → Type 0) (jobs : List J)
+    (of_queue : Pass ℕ PassView → Type 0) (ready : W → Type 0)
     (front after : List W) (xs ys : List (Station W T)) (is : after ≡ front ++ map worker_of ys) (same : length ys ≡ length xs)
-    (each : (k : ℕ) (d : Station W T) → k < length xs → HasServed fits later jobs of_queue ready (slice_index_or xs k d).worker (slice_index_or ys k d)) where
+    (each : (k : ℕ) (d : Station W T) → k < length xs
+    → HasServed fits gains later jobs of_queue ready (slice_index_or xs k d).worker (slice_index_or ys k d)) where
   -- what stands in the stations' results is right for its job, by one of the workers
   pub stands_right : (k : ℕ) (served : T) → StandsIn ys k served → IsServedFor fits jobs (front ++ map worker_of xs) after k served
   stands_right k served s =
@@ -162,8 +170,8 @@ module _ {J W T : Type 0} (fits : W → W → J → T → Type 0) (later : W →
       let at_x : slice_get xs s.index ≡ Some (get_or xs s.index s.station) = slice_get-get_or xs s.index s.station (omega arith) in
       let at_y : get_or ys s.index s.station ≡ s.station = get_or_from_slice_get ys s.index s.station s.station s.at in
       let first = (get_or xs s.index s.station).worker in
-      let work : HasServed fits later jobs of_queue ready first s.station =
-      subst (HasServed fits later jobs of_queue ready first) at_y (each s.index s.station (omega arith)) in
+      let work : HasServed fits gains later jobs of_queue ready first s.station =
+      subst (HasServed fits gains later jobs of_queue ready first) at_y (each s.index s.station (omega arith)) in
       let a = s.among in
       let one : Numbered T = record { number = k; served = served } in
       let r : IsRight fits jobs first s.station.worker k served =

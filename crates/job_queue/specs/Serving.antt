@@ -1,12 +1,6 @@
 -- What a pool's results say.
-use Rattle.std.specs.Prelude.{◌≡◌, ◌⊎◌, ℕ, ◌<◌, true, List, [], length, slice_get, Option, Some}
-use Rattle.std.specs.Prelude.{All}
-use Rattle.crossbeam_queue.specs.Passes.{Pass, view}
-use Rattle.job_queue.specs.Numbers.{taker, WasTaken}
-use Rattle.job_queue.specs.Sheet.{HasResult}
-use Rattle.job_queue.specs.declared.numbers.PassView.{PassView}
+use Rattle.std.specs.Prelude.{◌≡◌, ◌⊎◌, ℕ, ◌<◌, List, slice_get, Option, Some}
 use Rattle.job_queue.specs.declared.station.Numbered.{Numbered}
-use Rattle.job_queue.specs.declared.station.Station.{Station}
 
 -- the most jobs of a pool
 abbrev pub most_jobs : ℕ
@@ -57,29 +51,3 @@ module _ {J W T : Type 0} (fits : W → W → J → T → Type 0) where
 
   abbrev pub IsRightNumbered : List J → W → W → Numbered T → Type 0
   IsRightNumbered jobs first last one = IsRight jobs first last one.number one.served
-
--- a station that has served nothing yet: its pass is the queue's, and its worker may serve
-pub record IsNewStation {W T : Type 0} (of_queue : Pass ℕ PassView → Type 0) (ready : W → Type 0)
-    (s : Station W T) : Type 0 where
-  pub pass : of_queue s.pass
-  pub fresh : view s.pass ≡ taker []
-  pub ready_now : ready s.worker
-  pub nothing : s.results.items ≡ []
-
--- the station's pass has not come back yet, and each number of so many that it took has a result
-pub record IsKept {W T : Type 0} (of_queue : Pass ℕ PassView → Type 0) (count : ℕ) (s : Station W T)
-    : Type 0 where
-  pub pass : of_queue s.pass
-  pub takes : (view s.pass).takes ≡ true
-  pub results : (k : ℕ) → WasTaken k (view s.pass).taken → k < count → HasResult s.results.items k
-
--- a station that has served some jobs since its worker was `first`, each result right for the job
--- of its number
-pub record HasServed {J W T : Type 0} (fits : W → W → J → T → Type 0) (later : W → W →
-    Type 0) (jobs : List J)
-    (of_queue : Pass ℕ PassView → Type 0) (ready : W →
-    Type 0) (first : W) (s : Station W T) : Type 0 where
-  pub kept : IsKept of_queue (length jobs) s
-  pub ready_now : ready s.worker
-  pub later_now : later first s.worker
-  pub results : All (IsRightNumbered fits jobs first s.worker) s.results.items

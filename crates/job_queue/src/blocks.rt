@@ -1,7 +1,7 @@
 //! Jobs that are served block by block, so that what a thread pays for its next number is paid by many jobs.
 ghost use Rattle.std.specs.Prelude.{◌≡◌, ◌<◌, ◌≤◌, [], length, IfOk, IfErr, IfSome, OnOk, IsSome, All, vec_len};
 ghost use Rattle.std.specs.List.{flat_map};
-ghost use Rattle.job_queue.specs.Blocks.{jobs_of, results_of, AreRightIn};
+ghost use Rattle.job_queue.specs.Blocks.{jobs_of, results_of, AreRightIn, ServesIn};
 ghost use Rattle.job_queue.specs.Serving.{most_workers};
 
 use crate::fault::PoolFault;
@@ -52,6 +52,7 @@ pub fn serve_block<S: Serve, R: Wait>(
     ensures ready { S.ready serve.now worker.new }
     ensures later { S.later worker.old worker.new }
     ensures fits { AreRightIn (S.fits serve.now) worker.old worker.new jobs.now result }
+    ensures gains { ServesIn (S.gains serve.now) worker.old worker.new jobs.now result }
 {
     let Ok(mut results) = Vec::with_capacity(alloc, jobs.len()) else {
         return None;

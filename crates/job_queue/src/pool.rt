@@ -1,11 +1,13 @@
 //! All jobs, served by as many threads as the caller says.
-ghost use Rattle.std.specs.Prelude.{◌≡◌, true, [], ◌⊎◌, ◌+◌, ◌<◌, ◌≤◌, ◌++◌, length, map, take, drop, Err, All, IsOk, IfErr, IfOk, OnOk, OnErr, vec_len, vec_capacity, IsSome, IsTrue};
+ghost use Rattle.std.specs.Prelude.{◌≡◌, true, [], ℕ, ◌⊎◌, ◌+◌, ◌<◌, ◌≤◌, ◌++◌, length, map, take, drop, slice_get, Some, Err, All, IsOk, IfErr, IfOk, OnOk, OnErr, vec_len, vec_capacity, IsSome, IsTrue};
 ghost use Rattle.std.specs.List.{AllZip};
 ghost use Rattle.crossbeam_queue.specs.Passes.{view, IsPassOf};
-ghost use Rattle.job_queue.specs.Blocks.{InBlocks};
+ghost use Rattle.job_queue.specs.Blocks.{InBlocks, ServesBlock};
 ghost use Rattle.job_queue.specs.Numbers.{putter};
-ghost use Rattle.job_queue.specs.Serving.{IsNewStation, AreRightLines, AreServed, IsBadCount, most_jobs, most_workers};
+ghost use Rattle.job_queue.specs.Serving.{AreRightLines, AreServed, IsBadCount, most_jobs, most_workers};
 ghost use Rattle.job_queue.specs.Sheet.{worker_of, IsBlank};
+ghost use Rattle.job_queue.specs.Stations.{IsNewStation};
+ghost use Rattle.job_queue.specs.Turns.{AreSharedOut, AreTurns};
 
 use crate::blocks::{block_size, blocks_of, join};
 use crate::fault::PoolFault;
@@ -101,6 +103,9 @@ fn serve_at<S: Serve + Sync, R: Threads + Wait + Sync>(
         (workers.old.items ++ map worker_of stations.items) workers.new.items
         sheet.new.lines.items }
     ensures each { IsTrue result → All IsSome sheet.new.lines.items }
+    ensures turns { IsTrue result → AreTurns (ServesBlock (S.gains serve.now)) blocks.now
+        (workers.old.items ++ map worker_of stations.items) workers.new.items
+        (λ k served. slice_get sheet.new.lines.items k ≡ Some (Some served)) }
 {
     unchanged::<S>(workers.as_slice());
     work_all(rt, alloc, queue, serve, blocks, stations.as_mut_slice());
@@ -156,6 +161,8 @@ fn serve_each<S: Serve + Sync, R: Threads + Wait + Sync>(
     ensures count { IfOk result (λ v. vec_len v ≡ length blocks.now) }
     ensures each { IfOk result (λ v.
         AreServed (InBlocks (S.fits serve.now)) blocks.now workers.old.items workers.new.items v.items) }
+    ensures turns { IfOk result (λ v. AreTurns (ServesBlock (S.gains serve.now)) blocks.now
+        workers.old.items workers.new.items (λ k served. slice_get v.items k ≡ Some served)) }
     ensures err { IfErr result (λ e. e ≡ PoolFault.Memory) }
 {
     unchanged::<S>(workers.as_slice());
@@ -193,6 +200,8 @@ fn serve_in_blocks<S: Serve + Sync, R: Threads + Wait + Sync>(
     ensures count { IfOk result (λ v. vec_len v ≡ length jobs.now) }
     ensures each { IfOk result (λ v.
         AreServed (S.fits serve.now) jobs.now workers.old.items workers.new.items v.items) }
+    ensures shared_out { IfOk result (λ v.
+        AreSharedOut (S.gains serve.now) jobs.now workers.old.items workers.new.items v.items) }
     ensures err { IfErr result (λ e. e ≡ PoolFault.Memory) }
 {
     unchanged::<S>(workers.as_slice());
@@ -241,6 +250,10 @@ pub fn serve_all<S: Serve + Sync, R: Threads + Wait + Sync>(
     ensures count { IfOk result (λ v. vec_len v ≡ length jobs.now) }
     ensures each { IfOk result (λ v.
         AreServed (S.fits serve.now) jobs.now workers.old.items workers.new.items v.items) }
+
+    // No job is served twice, and none by two workers: what each worker gained is what its jobs gave it, one behind another.
+    ensures shared_out { IfOk result (λ v.
+        AreSharedOut (S.gains serve.now) jobs.now workers.old.items workers.new.items v.items) }
 {
     unchanged::<S>(workers.as_slice());
     if threads == 0 || threads > MAX_WORKERS || threads > workers.len() {

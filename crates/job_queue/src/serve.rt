@@ -21,12 +21,16 @@ pub trait Serve {
     /// What was served is right for the job, by a worker between what it was and what it is.
     ghost fits: { Self → Self.Worker → Self.Worker → Self.Job → Self.Served → Type 0 };
 
+    /// The worker served the job once, between what it was and what it is, and did nothing else.
+    ghost gains: { Self → Self.Worker → Self.Worker → Self.Job → Self.Served → Type 0 };
+
     /// Serves one job by a worker that may serve it, and leaves a worker that may serve the next.
     fn serve<R: Wait>(&self, rt: &R, worker: &mut Self::Worker, job: &Self::Job) -> Self::Served
         requires { ready self.now worker.old }
         ensures ready { ready self.now worker.new }
         ensures later { later worker.old worker.new }
-        ensures fits { fits self.now worker.old worker.new job.now result };
+        ensures fits { fits self.now worker.old worker.new job.now result }
+        ensures gains { gains self.now worker.old worker.new job.now result };
 
     /// A worker that has served nothing is later than itself.
     ghost later_same: { (w : Self.Worker) → later w w };

@@ -1,8 +1,8 @@
 //! The results of all threads, brought into job order.
 ghost use Rattle.std.specs.Prelude.{◌≡◌, ◌⊎◌, ℕ, ◌+◌, ◌<◌, ◌≤◌, ◌++◌, [], slice_get, Some, IfOk, true, vec_len, vec_capacity, map, All, IsSome};
 ghost use Rattle.crossbeam_queue.specs.Passes.{view, IsPassOf};
-ghost use Rattle.job_queue.specs.Numbers.{putter, WasTaken};
-ghost use Rattle.job_queue.specs.Serving.{IsKept};
+ghost use Rattle.job_queue.specs.Numbers.{putter, times, WasTaken};
+ghost use Rattle.job_queue.specs.Stations.{IsKept, times_taken};
 ghost use Rattle.job_queue.specs.Sheet.{HasLine, HasResult, IsAmong, IsBlank, StandsIn, worker_of};
 
 use crate::numbers::{ComesBack, NumberPass, NumberQueue};
@@ -103,6 +103,7 @@ pub fn gather<W: Drop, T: Drop>(
         ⊎ StandsIn stations.items k served }
     ensures taken { (k : ℕ) → k < vec_len sheet.old.lines → WasTaken k (view pass.new).taken →
         HasLine sheet.new.lines.items k }
+    ensures counted { (k : ℕ) → times k (view pass.new).taken ≡ times_taken k stations.items }
 {
     for station in stations {
         let Station {

@@ -3,8 +3,8 @@ ghost use Rattle.std.specs.Prelude.{◌≡◌, ℕ, ◌<◌, length, slice_index
 ghost use Rattle.std.specs.Global.{Vec};
 ghost use Rattle.crossbeam_queue.specs.Passes.{IsPassOf};
 ghost use Rattle.job_queue.specs.declared.station.Station.{Station};
-ghost use Rattle.job_queue.specs.Serving.{IsNewStation, HasServed};
-ghost use Rattle.job_queue.specs.Blocks.{InBlocks};
+ghost use Rattle.job_queue.specs.Stations.{IsNewStation, HasServed};
+ghost use Rattle.job_queue.specs.Blocks.{InBlocks, ServesBlock};
 
 use crate::blocks::serve_block;
 use crate::numbers::{NumberPass, NumberQueue, Takes};
@@ -43,7 +43,7 @@ fn work<S: Serve, R: Wait>(
     station: &mut Station<S::Worker, BlockResults<S::Served>>,
 )
     requires fresh { IsNewStation (IsPassOf queue.now) (S.ready serve.now) station.old }
-    ensures served { HasServed (InBlocks (S.fits serve.now)) S.later blocks.now (IsPassOf queue.now)
+    ensures served { HasServed (InBlocks (S.fits serve.now)) (ServesBlock (S.gains serve.now)) S.later blocks.now (IsPassOf queue.now)
         (S.ready serve.now) station.old.worker station.new }
 {
     for _ in 0..blocks.len() {
@@ -73,7 +73,7 @@ pub fn work_all<S: Serve + Sync, R: Threads + Wait + Sync>(
     requires fresh { All (IsNewStation (IsPassOf queue.now) (S.ready serve.now)) stations.old }
     ensures count { length stations.new ≡ length stations.old }
     ensures each { (k : ℕ) (d : Station S.Worker (Option (Vec S.Served))) → k < length stations.old
-        → HasServed (InBlocks (S.fits serve.now)) S.later blocks.now (IsPassOf queue.now) (S.ready serve.now)
+        → HasServed (InBlocks (S.fits serve.now)) (ServesBlock (S.gains serve.now)) S.later blocks.now (IsPassOf queue.now) (S.ready serve.now)
         (slice_index_or stations.old k d).worker (slice_index_or stations.new k d) }
 {
     thread::for_each_mut(
@@ -82,7 +82,7 @@ pub fn work_all<S: Serve + Sync, R: Threads + Wait + Sync>(
         MAX_WORKERS,
         &|_, station: &mut Station<S::Worker, BlockResults<S::Served>>|
             requires { IsNewStation (IsPassOf queue.now) (S.ready serve.now) station.old }
-            ensures { HasServed (InBlocks (S.fits serve.entry.now)) S.later blocks.entry.now
+            ensures { HasServed (InBlocks (S.fits serve.entry.now)) (ServesBlock (S.gains serve.entry.now)) S.later blocks.entry.now
                 (IsPassOf queue.entry.now) (S.ready serve.entry.now)
                 station.old.worker station.new }
         { work(rt, alloc, queue, serve, blocks, station) },

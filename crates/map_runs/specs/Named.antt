@@ -1,5 +1,5 @@
 -- Several maps in one table: a map is a name, which is the first word of its keys there.
-use Rattle.std.specs.Prelude.{◌≡◌, ℕ, ◌+◌, ◌<◌, ◌≤◌, List, Option, Some, None, IfSome, length, slice_get, slice_index}
+use Rattle.std.specs.Prelude.{◌≡◌, ℕ, ◌+◌, ◌<◌, ◌≤◌, List, Option, Some, None, IfSome, All, length, slice_get, slice_index}
 use Rattle.bpf_model.specs.declared.limits.MapKind.TheVariants.{Hash}
 use Rattle.bpf_model.specs.declared.limits.MapShape.{MapShape}
 use Rattle.map_table_laws.specs.declared.moves.Move.{Move}
@@ -78,10 +78,20 @@ abbrev pub AreKept : TableShape → List NamedMap → List MapShape → Type 0
 AreKept k maps shapes = (i : ℕ) (shape : MapShape) → slice_get shapes i ≡ Some shape →
     KeepsNamed k maps i shape × (shape.kind ≡ Hash)
 
--- The table keeps the program's maps, and each of its elements has a word of its own.
+-- where another has this one's name, it is of the same lengths
+abbrev pub AgreesWith : NamedMap → NamedMap → Type 0
+AgreesWith named other = other.name ≡ named.name →
+    (other.key_words ≡ named.key_words) × (other.value_words ≡ named.value_words)
+
+-- maps of one name in the list are of the same lengths
+abbrev pub AgreeByName : List NamedMap → Type 0
+AgreeByName maps = All (λ named. All (AgreesWith named) maps) maps
+
+-- The table keeps the program's maps, those of one name are of the same lengths, and each of its elements has a word of its own.
 pub record ServesNamed (k : TableShape) (maps : List NamedMap) (shapes : List MapShape) : Type 0
   where
     pub kept : AreKept k maps shapes
+    pub agree : AgreeByName maps
     pub few : k.elements ≤ regions
 
 -- The seat's list gained the moves of a shared run of the program, with these maps, on the context, in the seat's own values.

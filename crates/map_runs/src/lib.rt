@@ -6,10 +6,12 @@
 #![tactic(auto)]
 
 mod key_words;
+mod law;
 mod named_map;
 mod named_running;
 mod running;
 
+pub use law::names_keep_keys_apart;
 pub use named_map::{NamedMap, key_in};
 pub use named_running::{NamedRuns, fits_named, run_named, run_named_to_exit};
 pub use running::{MAX_RUN_ELEMENTS, MapRuns, fits, run_shared, run_to_exit};

@@ -1,9 +1,9 @@
 //! Maps of programs in one table: a map is a name.
-ghost use Rattle.std.specs.Prelude.{◌≡◌, ℕ, ◌*◌, ◌<◌, Decides, List, length};
+ghost use Rattle.std.specs.Prelude.{◌≡◌, ℕ, ◌*◌, ◌<◌, All, Decides, List, length};
 ghost use Rattle.bpf_model.specs.declared.limits.MapKind.TheVariants.{Hash};
 ghost use Rattle.map_table.specs.Held.{IsSized};
 ghost use Rattle.map_table.specs.Limits.{most_words};
-ghost use Rattle.map_runs.specs.Named.{AreKept, IsKeyUnder, IsRoomFor, KeepsNamed};
+ghost use Rattle.map_runs.specs.Named.{AgreeByName, AgreesWith, AreKept, IsKeyUnder, IsRoomFor, KeepsNamed};
 ghost use Rattle.map_runs.specs.Table.{AreBytesOf};
 
 use crate::key_words::{WORD_BYTES, words_of};
@@ -12,7 +12,8 @@ use map_table::{MAX_WORDS, TableShape};
 
 /// How a map of a program is kept in a table: under a name, with keys and values of so many words.
 ///
-/// Maps of different names have no key in common. Programs share a map by its name, and give it the same lengths.
+/// Maps of different names have no key in common. Programs share a map by its name, and give it the same lengths: in one list
+/// `fits_named` asks for it.
 #[derive(Clone, Copy, Debug, PartialEq, Eq)]
 pub struct NamedMap {
     pub name: u64,
@@ -79,6 +80,38 @@ pub(crate) fn have_room(table: &TableShape, maps: &[NamedMap], shapes: &[MapShap
 {
     for index in 0..shapes.len() {
         if !is_kept(table, maps, index, &shapes[index]) {
+            return false;
+        }
+    }
+    true
+}
+
+/// Whether another map has another name, or the same lengths.
+fn agrees_with(map: &NamedMap, other: &NamedMap) -> bool
+    ensures { Decides result (AgreesWith map.now other.now) }
+{
+    other.name != map.name
+        || (other.key_words == map.key_words && other.value_words == map.value_words)
+}
+
+/// Whether those of the list that have the map's name have its lengths.
+fn agree_with(map: &NamedMap, maps: &[NamedMap]) -> bool
+    ensures { Decides result (All (AgreesWith map.now) maps.now) }
+{
+    for index in 0..maps.len() {
+        if !agrees_with(map, &maps[index]) {
+            return false;
+        }
+    }
+    true
+}
+
+/// Whether maps of one name have the same lengths.
+pub(crate) fn agree_by_name(maps: &[NamedMap]) -> bool
+    ensures { Decides result (AgreeByName maps.now) }
+{
+    for index in 0..maps.len() {
+        if !agree_with(&maps[index], maps) {
             return false;
         }
     }

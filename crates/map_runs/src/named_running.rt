@@ -5,7 +5,7 @@ ghost use Rattle.map_runs.specs.Named.{RunsNamed, ServesNamed, named_table_of};
 ghost use Rattle.map_runs.specs.Running.{HasFound, HasHeld, HasMet, HasOwn};
 ghost use Rattle.shared_runs.specs.Words.{StoresSubWords};
 
-use crate::named_map::{NamedMap, have_room, key_of_bytes};
+use crate::named_map::{NamedMap, agree_by_name, have_room, key_of_bytes};
 use crate::running::{MAX_RUN_ELEMENTS, Placed};
 use bpf_model::CtxBytes;
 use map_table::{MapTable, ReadSeat};
@@ -74,12 +74,15 @@ impl<'a> ServesRuns for Named<'a> {
 }
 
 /// Whether the list names, at the index of each map that the program was verified for, a map of just its lengths for which
-/// the table has room, each is a hash map, and the table has no more than `MAX_RUN_ELEMENTS` elements.
+/// the table has room, each is a hash map, and the table has no more than `MAX_RUN_ELEMENTS` elements. Nor may the list have
+/// one name twice with different lengths: a key of the one would be a key of the other too, with zeros behind it.
 pub fn fits_named(table: &MapTable, maps: &[NamedMap], verified: &Verified) -> bool
     ensures { Decides result (ServesNamed table.now.shape maps.now verified.now.shapes) }
 {
     let shape = table.shape();
-    shape.elements <= MAX_RUN_ELEMENTS && have_room(&shape, maps, verified.shapes())
+    shape.elements <= MAX_RUN_ELEMENTS
+        && have_room(&shape, maps, verified.shapes())
+        && agree_by_name(maps)
 }
 
 /// Runs the program on the context over the table, which keeps each of its maps under its name: to its exit, or not at all.

@@ -17,11 +17,11 @@ exits-once programs p w run prog context exit is same h =
 -- such a value is one of the program's definition
 possible : (o : Option Checked) (w : WorldView) (run : ℕ) (context : List ℕ) (n : ℕ) → IsWorld w → IsExitOf w run o context n → IsPossibleExit o context n
 possible None w run context n is h = h
-possible (Some p) w run context n is h = (may_exit_as w run p.program p.shapes p.ctx_len context n is h).0
+possible (Some p) w run context n is h = may_exit_as w run p.program p.shapes p.ctx_len context n is h
 
 own : (o : Option Checked) (context : List ℕ) (n : ℕ) → IsPossibleExit o context n → IsOwnExit o context n
 own None context n h = h
-own (Some p) context n h = λ none. exits_as p.program context n none h
+own (Some p) context n h = λ none. exits_as p.program p.shapes context n none h
 
 pub possible-once : (programs : List Checked) (run prog : ℕ) (context : List ℕ) (n : ℕ) →
     HasExitedOnce programs run prog context n → IsPossibleExit (slice_get programs prog) context n

@@ -2,3 +2,4 @@ pub mod Meters
 pub mod Exits
 pub mod Kept
 pub mod NewWorlds
+pub mod OnlyProgram

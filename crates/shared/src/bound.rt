@@ -1,6 +1,6 @@
 //! A shared world of one program, which is bound to all maps.
-ghost use Rattle.std.specs.Prelude.{◌≡◌, ◌<◌, ◌≤◌, ◌∷◌, [], length, map, IfOk};
-ghost use Rattle.bpf_model.specs.View.{AreNewMaps, shapes_of_maps};
+ghost use Rattle.std.specs.Prelude.{◌≡◌, ◌<◌, ◌≤◌, ◌∷◌, [], length, map, slice_get, IfOk, Some};
+ghost use Rattle.bpf_model.specs.View.{AreNewMaps, shapes_of, shapes_of_maps};
 ghost use Rattle.journal_laws.specs.Replay.{HasNoRuns};
 ghost use Rattle.shared_books.specs.Books.{AreNumbered, most_workers};
 
@@ -26,6 +26,8 @@ fn world_of(alloc: Global, program: ProgramWithMaps) -> Result<World, AllocError
     requires shapes { program.verified.shapes ≡ shapes_of_maps program.registry.maps }
     ensures codes { IfOk result (λ w.
         map (λ l. l.code) w.programs ≡ program.verified.program ∷ []) }
+    ensures bound { IfOk result (λ w. map (λ l. map (slice_get (shapes_of w)) l.maps) w.programs
+        ≡ map Some program.verified.shapes ∷ []) }
     ensures quiet { IfOk result HasNoRuns }
 {
     let ProgramWithMaps { verified, registry } = program;
@@ -58,6 +60,8 @@ impl<L: Ledger> Shared<L> {
         ensures numbers { IfOk result (λ t. AreNumbered t.1) }
         ensures codes { IfOk result (λ t.
             map (λ p. p.program) t.0 ≡ program.verified.program ∷ []) }
+        ensures shapes { IfOk result (λ t.
+            map (λ p. p.shapes) t.0 ≡ program.verified.shapes ∷ []) }
     {
         let world = world_of(alloc, program)?;
         let (shared, workers, _) = Shared::<L>::new(alloc, world, workers, blank)?;

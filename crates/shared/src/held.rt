@@ -43,7 +43,7 @@ impl<'a, L: Ledger> Held<'a, L> {
     }
 
     /// Applies one event, as `Shared::act_noted` does.
-    pub fn act_noted<R: Wait>(&mut self, rt: &R, worker: &mut Worker<L>, event: Event) -> Receipt
+    pub fn act_noted<R: Wait>(&mut self, rt: &R, worker: &mut Worker<L>, event: Event) -> Receipt<L>
         ensures programs { self.new ≡ self.old }
         ensures worker { result.worker ≡ worker.old.number }
         ensures event { result.event ≡ event }
@@ -58,7 +58,7 @@ impl<'a, L: Ledger> Held<'a, L> {
     }
 
     /// Applies the event of a receipt once more, as `Shared::act_again` does.
-    pub fn act_again<R: Wait>(&mut self, rt: &R, worker: &mut Worker<L>, receipt: &mut Receipt)
+    pub fn act_again<R: Wait>(&mut self, rt: &R, worker: &mut Worker<L>, receipt: &mut Receipt<L>)
         ensures programs { self.new ≡ self.old }
         ensures worker { receipt.new.worker ≡ worker.old.number }
         ensures event { receipt.new.event ≡ receipt.old.event }
@@ -97,7 +97,7 @@ impl<'a, L: Ledger> Held<'a, L> {
         run: RunId,
         prog: ProgId,
         ctx: &CtxBytes,
-    ) -> ExitNote
+    ) -> ExitNote<L>
         ensures worker { result.worker ≡ worker.now.number }
         ensures count { result.made ≡ worker.now.made }
         ensures run { result.run ≡ run }

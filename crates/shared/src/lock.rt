@@ -147,7 +147,7 @@ impl<L: Ledger> Shared<L> {
     /// The reply is an error, and then nothing has changed, where the journal has no room (`JournalFull`) or
     /// memory was refused (`Memory`). The contract says what an answer is, and not when there is none: it does
     /// not see the journal under the lock.
-    pub fn act_noted<R: Wait>(&self, rt: &R, worker: &mut Worker<L>, event: Event) -> Receipt
+    pub fn act_noted<R: Wait>(&self, rt: &R, worker: &mut Worker<L>, event: Event) -> Receipt<L>
         ensures worker { result.worker ≡ worker.old.number }
         ensures event { result.event ≡ event }
         ensures count { result.made ≡ worker.new.made }
@@ -162,7 +162,7 @@ impl<L: Ledger> Shared<L> {
 
     /// Applies the event of a receipt once more. The receipt is then that of this call; the clauses are those of
     /// `act_noted`.
-    pub fn act_again<R: Wait>(&self, rt: &R, worker: &mut Worker<L>, receipt: &mut Receipt)
+    pub fn act_again<R: Wait>(&self, rt: &R, worker: &mut Worker<L>, receipt: &mut Receipt<L>)
         ensures worker { receipt.new.worker ≡ worker.old.number }
         ensures event { receipt.new.event ≡ receipt.old.event }
         ensures count { receipt.new.made ≡ worker.new.made }
@@ -252,7 +252,7 @@ impl<L: Ledger> Shared<L> {
         run: RunId,
         prog: ProgId,
         ctx: &CtxBytes,
-    ) -> ExitNote
+    ) -> ExitNote<L>
         ensures worker { result.worker ≡ worker.now.number }
         ensures count { result.made ≡ worker.now.made }
         ensures run { result.run ≡ run }

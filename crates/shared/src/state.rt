@@ -146,6 +146,7 @@ impl<L: Ledger> State<L> {
         ensures refused { result.end ≡ StepsEnd.Refused →
             WouldBeRefused self.new.books.world run }
         ensures full { result.end ≡ StepsEnd.Full → IsJournalFull self.new.books }
+        ensures no_room { IsJournalFull self.old.books → result.end ≡ StepsEnd.Full }
         ensures memory { result.end ≡ StepsEnd.Memory → result.moved ≡ 0 }
     {
         let before = self.books.totals();

@@ -59,10 +59,11 @@ pub record HasExitedOnce (programs : List Checked) (run prog : ℕ) (context : L
   pub is_world : IsWorld world
   pub exited : IsExitOf world run (slice_get programs prog) context n
 
--- The program that was asked for may exit with this value on the context.
+-- The program that was asked for may exit with this value on the context, over maps of its shapes.
 abbrev pub IsPossibleExit : Option Checked → List ℕ → ℕ → Type 0
 IsPossibleExit None context n = ⊥
-IsPossibleExit (Some program) context n = MayExitAs program.program context n
+IsPossibleExit (Some program) context n =
+    MayExitAs program.program program.shapes context n
 
 -- Without map references the program that was asked for exits on the context with this value,
 -- whatever other actors do.

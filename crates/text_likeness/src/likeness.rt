@@ -1,6 +1,7 @@
 //! What bytes look like that are not what was asked for.
 
-use disasm::MNEMONICS;
+use crate::filled::{Filling, write_filled};
+use disasm::{MNEMONICS, Mnemonic};
 use std::io::Write;
 use std::{io, str};
 
@@ -150,18 +151,6 @@ fn is_policy(bytes: &[u8]) -> bool {
     }
 }
 
-/// Whether bytes begin as captures of packets do, of either byte order and either form.
-fn is_capture(bytes: &[u8]) -> bool {
-    match bytes {
-        [0xa1, 0xb2, 0xc3, 0xd4, ..]
-        | [0xd4, 0xc3, 0xb2, 0xa1, ..]
-        | [0xa1, 0xb2, 0x3c, 0x4d, ..]
-        | [0x4d, 0x3c, 0xb2, 0xa1, ..]
-        | [0x0a, 0x0d, 0x0d, 0x0a, ..] => true,
-        _ => false,
-    }
-}
-
 /// Whether bytes are ASCII characters of 16 bits, in either byte order.
 fn is_wide_text(bytes: &[u8]) -> bool {
     for pair in bytes.chunks(2) {
@@ -207,11 +196,6 @@ fn is_listing(text: &str) -> bool {
     first == Some(1) && second == Some(4)
 }
 
-/// Whether a line is one that `tcpdump -d` or `tcpdump -dd` begins with.
-fn is_printed(line: &str) -> bool {
-    line.starts_with("(000) ") || line.starts_with("{ 0x")
-}
-
 /// How lines of C begin that are none of another language here.
 const C_BEGINNINGS: [&str; 11] = [
     "#include",
@@ -227,14 +211,27 @@ const C_BEGINNINGS: [&str; 11] = [
     "char ",
 ];
 
-/// Whether a line begins as one of C does.
-fn is_c_line(line: &str) -> bool {
-    for beginning in C_BEGINNINGS {
-        if line.starts_with(beginning) {
+/// How comments of any language here begin.
+const COMMENTS: [&str; 5] = ["#", ";", "//", "/*", "*"];
+
+/// Whether a text begins in one of these ways.
+fn begins_with_one(text: &str, beginnings: &[&str]) -> bool {
+    for beginning in beginnings {
+        if text.starts_with(*beginning) {
             return true;
         }
     }
     false
+}
+
+/// The word of a line in this place, counted from 0; an empty one where there is none.
+pub(crate) fn word_at(line: &str, place: usize) -> &str {
+    line.split_ascii_whitespace().nth(place).unwrap_or("")
+}
+
+/// The first line of a text.
+pub(crate) fn first_line(text: &str) -> &str {
+    text.lines().next().unwrap_or("")
 }
 
 /// How lines of clang's assembly begin that are none here.
@@ -244,14 +241,10 @@ const CLANG_BEGINNINGS: [&str; 7] = [
 
 /// Whether a line of this first word is one of clang's assembly.
 fn is_clang_line(line: &str, word: &str) -> bool {
-    for beginning in CLANG_BEGINNINGS {
-        if word == beginning {
-            return true;
-        }
+    if CLANG_BEGINNINGS.contains(&word) {
+        return true;
     }
-    let mut words = line.split_ascii_whitespace();
-    let _ = words.next();
-    (word.starts_with('r') || word.starts_with('w')) && words.next() == Some("=")
+    (word.starts_with('r') || word.starts_with('w')) && word_at(line, 1) == "="
 }
 
 /// The words with which commands of a script begin.
@@ -259,51 +252,40 @@ const COMMANDS: [&str; 12] = [
     "map", "load", "put", "get", "del", "start", "step", "drop", "advance", "reap", "stat", "dump",
 ];
 
-/// Whether a word begins a command of a script.
-fn is_command(word: &str) -> bool {
-    for name in COMMANDS {
-        if name == word {
-            return true;
+/// The mnemonic of this name.
+pub fn mnemonic_named(name: &str) -> Option<Mnemonic> {
+    for mnemonic in &MNEMONICS {
+        if name.strip_prefix(mnemonic.stem()) == Some(mnemonic.suffix()) {
+            return Some(*mnemonic);
         }
     }
-    false
+    None
 }
 
 /// Whether a word begins a line of assembly.
 pub(crate) fn is_instruction(word: &str) -> bool {
-    if word == "ctx" || word == ".equ" || word.ends_with(':') {
-        return true;
-    }
-    for mnemonic in MNEMONICS {
-        if word.strip_prefix(mnemonic.stem()) == Some(mnemonic.suffix()) {
-            return true;
-        }
-    }
-    false
+    word == "ctx" || word == ".equ" || word.ends_with(':') || mnemonic_named(word).is_some()
 }
 
-/// Whether a word begins a comment of any language here.
-fn is_comment(word: &str) -> bool {
-    word.starts_with('#')
-        || word.starts_with(';')
-        || word.starts_with("//")
-        || word.starts_with("/*")
-        || word.starts_with('*')
+/// Whether bytes are hexadecimal digits, or none.
+pub fn are_hexadecimal(bytes: &[u8]) -> bool {
+    for byte in bytes {
+        if !byte.is_ascii_hexdigit() {
+            return false;
+        }
+    }
+    true
 }
 
 /// How many hexadecimal digits a word has, as `b7` and `0xb7` have two; 0 where it has something else.
 fn digits_in(word: &[u8]) -> usize {
-    let digits = match word {
-        [b'0', b'x', digits @ ..] => digits,
-        [b'x', digits @ ..] => digits,
-        _ => word,
-    };
-    for digit in digits {
-        if !digit.is_ascii_hexdigit() {
-            return 0;
-        }
+    let behind_sign = word.strip_prefix(b"x").unwrap_or(word);
+    let digits = word.strip_prefix(b"0x").unwrap_or(behind_sign);
+    if are_hexadecimal(digits) {
+        digits.len()
+    } else {
+        0
     }
-    digits.len()
 }
 
 /// Whether a byte parts bytes in hexadecimal, as programs write them.
@@ -343,28 +325,35 @@ pub(crate) fn are_digits(line: &str) -> bool {
     }
 }
 
+/// What a line of this first word looks like, which is no comment and none of C.
+fn likeness_of_words(line: &str, word: &str) -> Likeness {
+    if word.starts_with("bpfrt") {
+        Likeness::OtherHeading
+    } else if is_slot(word) {
+        Likeness::Slots
+    } else if are_digits(line) {
+        Likeness::Digits
+    } else if is_clang_line(line, word) {
+        Likeness::ClangAssembly
+    } else if COMMANDS.contains(&word) {
+        Likeness::Script
+    } else if is_instruction(word) {
+        Likeness::Assembly
+    } else {
+        Likeness::Text
+    }
+}
+
 /// What a line looks like, if it is not empty and no comment.
 fn likeness_of_line(line: &str) -> Option<Likeness> {
-    let word = line.split_ascii_whitespace().next()?;
-    if is_c_line(line) {
-        Some(Likeness::CSource)
-    } else if is_comment(word) {
-        None
-    } else if word.starts_with("bpfrt") {
-        Some(Likeness::OtherHeading)
-    } else if is_slot(word) {
-        Some(Likeness::Slots)
-    } else if are_digits(line) {
-        Some(Likeness::Digits)
-    } else if is_clang_line(line, word) {
-        Some(Likeness::ClangAssembly)
-    } else if is_command(word) {
-        Some(Likeness::Script)
-    } else if is_instruction(word) {
-        Some(Likeness::Assembly)
-    } else {
-        Some(Likeness::Text)
+    let word = word_at(line, 0);
+    if begins_with_one(line, &C_BEGINNINGS) {
+        return Some(Likeness::CSource);
     }
+    if begins_with_one(word, &COMMENTS) || word.is_empty() {
+        return None;
+    }
+    Some(likeness_of_words(line, word))
 }
 
 /// What the first line of a text looks like that is not empty and no comment; where that tells nothing, whether half of the
@@ -393,12 +382,7 @@ const CODE_LINE: &str = "\ncode\n";
 
 /// Whether a word is a slot of a program file.
 pub fn is_slot(word: &str) -> bool {
-    for digit in word.as_bytes() {
-        if !digit.is_ascii_hexdigit() {
-            return false;
-        }
-    }
-    word.len() == 16
+    word.len() == 16 && are_hexadecimal(word.as_bytes())
 }
 
 /// What stands behind a line `code` of a text.
@@ -411,40 +395,53 @@ fn below_code(text: &str) -> &str {
 
 /// Whether a text has slots behind a line `code`, as a program file has.
 pub fn has_slots(text: &str) -> bool {
-    match below_code(text).split_ascii_whitespace().next() {
-        Some(word) => is_slot(word),
-        None => false,
-    }
+    is_slot(word_at(below_code(text), 0))
 }
 
 /// Whether a text has bytes in hexadecimal, with blanks between them, behind a line `code`.
 fn has_digits(text: &str) -> bool {
-    match below_code(text).lines().next() {
-        Some(line) => are_digits(line),
-        None => false,
-    }
+    are_digits(first_line(below_code(text)))
 }
 
-/// What a text looks like by how it begins, if that tells.
-fn likeness_of_beginning(text: &str) -> Option<Likeness> {
-    if is_listing(text) {
-        Some(Likeness::Listing)
-    } else if is_printed(text) {
-        Some(Likeness::Printed)
-    } else if text.starts_with("tcpdump: ") {
-        Some(Likeness::Message)
-    } else if text.starts_with("bpfrt 1\n") {
-        Some(Likeness::ProgramFile)
-    } else if text.starts_with("bpfrt 1\r\n") {
-        Some(Likeness::CarriageReturns)
-    } else {
-        None
+/// How texts begin that this alone tells, and what they look like.
+const BEGINNINGS: [(&[u8], Likeness); 5] = [
+    (b"(000) ", Likeness::Printed),
+    (b"{ 0x", Likeness::Printed),
+    (b"tcpdump: ", Likeness::Message),
+    (b"bpfrt 1\n", Likeness::ProgramFile),
+    (b"bpfrt 1\r\n", Likeness::CarriageReturns),
+];
+
+/// How bytes begin that are no text, or a text that is to be another. Captures of packets are of either byte order and
+/// either form.
+const MARKS: [(&[u8], Likeness); 9] = [
+    (b"\x7fELF", Likeness::Object),
+    (b"\xef\xbb\xbf", Likeness::Marked),
+    (b"\xff\xfe", Likeness::Utf16),
+    (b"\xfe\xff", Likeness::Utf16),
+    (b"\xa1\xb2\xc3\xd4", Likeness::Capture),
+    (b"\xd4\xc3\xb2\xa1", Likeness::Capture),
+    (b"\xa1\xb2\x3c\x4d", Likeness::Capture),
+    (b"\x4d\x3c\xb2\xa1", Likeness::Capture),
+    (b"\x0a\x0d\x0d\x0a", Likeness::Capture),
+];
+
+/// What bytes look like by how they begin, if one of these rows tells.
+fn begun(rows: &[(&[u8], Likeness)], bytes: &[u8]) -> Option<Likeness> {
+    for row in rows {
+        if bytes.starts_with(row.0) {
+            return Some(row.1);
+        }
     }
+    None
 }
 
 /// What a text looks like, by its first lines.
 fn likeness_of_text(text: &str) -> Likeness {
-    if let Some(likeness) = likeness_of_beginning(text) {
+    if is_listing(text) {
+        return Likeness::Listing;
+    }
+    if let Some(likeness) = begun(&BEGINNINGS, text.as_bytes()) {
         return likeness;
     }
     match likeness_of_lines(text) {
@@ -455,28 +452,14 @@ fn likeness_of_text(text: &str) -> Likeness {
     }
 }
 
-/// What bytes begin with that are no text, or a text that is to be another.
-fn likeness_of_marks(bytes: &[u8]) -> Option<Likeness> {
-    if bytes.starts_with(b"\x7fELF") {
-        Some(Likeness::Object)
-    } else if bytes.starts_with(b"\xef\xbb\xbf") {
-        Some(Likeness::Marked)
-    } else if bytes.starts_with(b"\xff\xfe") || bytes.starts_with(b"\xfe\xff") {
-        Some(Likeness::Utf16)
-    } else if is_capture(bytes) {
-        Some(Likeness::Capture)
-    } else if is_policy(bytes) {
-        Some(Likeness::Policy)
-    } else {
-        None
-    }
-}
-
 /// What bytes look like, so far as one sees from the first of them.
 pub fn likeness_of(bytes: &[u8]) -> Option<Likeness> {
-    let marked = likeness_of_marks(bytes);
+    let marked = begun(&MARKS, bytes);
     if marked.is_some() {
         return marked;
+    }
+    if is_policy(bytes) {
+        return Some(Likeness::Policy);
     }
     let first = first_of(bytes);
     if is_wide_text(first) {
@@ -488,13 +471,20 @@ pub fn likeness_of(bytes: &[u8]) -> Option<Likeness> {
     Some(likeness_of_text(text_in(first)))
 }
 
+/// Writes what something looks like, where these words say it.
+///
+/// An error says that nothing more could be written.
+pub fn write_looks<W: Write>(out: &mut W, words: Option<&str>) -> io::Result<()> {
+    match words {
+        Some(words) => write_filled(out, "  it looks like {}\n", &[Filling::Text(words)]),
+        None => Ok(()),
+    }
+}
+
 /// Writes what bytes look like that were read as the slots of a program.
 pub fn write_likeness<W: Write>(out: &mut W, bytes: &[u8]) -> io::Result<()> {
     match likeness_of(bytes) {
-        Some(likeness) => {
-            let words = likeness.words();
-            writeln!(out, "  it looks like {words}")
-        }
+        Some(likeness) => write_looks(out, Some(likeness.words())),
         None => Ok(()),
     }
 }

@@ -1,6 +1,9 @@
 //! A line of a text that is wrong, and what a line of a program file may be.
 
-use crate::likeness::{Likeness, are_digits, is_instruction, likeness_of_lines, text_in};
+use crate::filled::{Filling, write_filled, write_text};
+use crate::likeness::{
+    Likeness, are_digits, first_line, is_instruction, likeness_of_lines, text_in, word_at,
+};
 use bpf_model::{CTX_BYTES, KEY_BYTES, MAX_ENTRIES, MAX_MAPS, MAX_REUSE, MAX_SPARE, VALUE_BYTES};
 use maps::NAME_BYTES;
 use std::io;
@@ -33,24 +36,39 @@ fn length_of_line(text: &[u8]) -> usize {
 /// The most columns of a line that are shown.
 const SHOWN: usize = 120;
 
+/// How a byte of a line stands in quotes that is written in two columns.
+fn escaped(byte: u8) -> Option<&'static str> {
+    match byte {
+        b'\t' => Some("\\t"),
+        b'\r' => Some("\\r"),
+        b'"' => Some("\\\""),
+        b'\\' => Some("\\\\"),
+        _ => None,
+    }
+}
+
+/// Whether a byte stands in quotes as it is, if it is not escaped.
+fn is_printable(byte: u8) -> bool {
+    b' ' <= byte && byte <= b'~'
+}
+
 /// How many columns a byte takes in quotes.
 fn columns_of(byte: u8) -> usize {
-    match byte {
-        b'\t' | b'\r' | b'"' | b'\\' => 2,
-        b' '..=b'~' => 1,
-        _ => 4,
+    if escaped(byte).is_some() {
+        2
+    } else if is_printable(byte) {
+        1
+    } else {
+        4
     }
 }
 
 /// Writes a byte of a line that stands in quotes.
 fn write_byte<W: Write>(out: &mut W, byte: u8) -> io::Result<()> {
-    match byte {
-        b'\t' => write!(out, "\\t"),
-        b'\r' => write!(out, "\\r"),
-        b'"' => write!(out, "\\\""),
-        b'\\' => write!(out, "\\\\"),
-        b' '..=b'~' => out.write_all(&[byte]),
-        _ => write!(out, "\\x{byte:02x}"),
+    match escaped(byte) {
+        Some(text) => write_text(out, text),
+        None if is_printable(byte) => out.write_all(&[byte]),
+        None => write!(out, "\\x{byte:02x}"),
     }
 }
 
@@ -59,16 +77,16 @@ fn write_byte<W: Write>(out: &mut W, byte: u8) -> io::Result<()> {
 ///
 /// An error says that nothing more could be written.
 pub fn write_quoted<W: Write>(out: &mut W, text: &[u8], most: usize) -> io::Result<()> {
-    write!(out, "\"")?;
+    write_text(out, "\"")?;
     let mut columns: usize = 0;
     for byte in text {
         columns = columns.saturating_add(columns_of(*byte));
         if columns > most {
-            return write!(out, "..\"");
+            return write_text(out, "..\"");
         }
         write_byte(out, *byte)?;
     }
-    write!(out, "\"")
+    write_text(out, "\"")
 }
 
 /// Whether a line `code`, which is not the first, ends in this text.
@@ -82,7 +100,7 @@ fn has_code_line(text: &[u8]) -> bool {
 }
 
 /// Where the wrong line of a program file stands.
-#[derive(Clone, Copy, Debug, PartialEq, Eq)]
+#[derive(Clone, Copy)]
 enum Part {
     Context,
     Maps,
@@ -91,11 +109,7 @@ enum Part {
 
 /// Whether assembly stands from a wrong line of this part on.
 fn is_assembly(part: Part, rest: &str) -> bool {
-    let word = rest
-        .lines()
-        .next()
-        .and_then(|line| line.split_ascii_whitespace().next())
-        .unwrap_or("");
+    let word = word_at(first_line(rest), 0);
     match part {
         Part::Code => likeness_of_lines(rest) == Likeness::Assembly,
         Part::Context | Part::Maps => word != "ctx" && is_instruction(word),
@@ -106,48 +120,62 @@ fn is_assembly(part: Part, rest: &str) -> bool {
 ///
 /// An error says that nothing more could be written.
 pub fn write_name_rule<W: Write>(out: &mut W) -> io::Result<()> {
-    write!(
+    write_filled(
         out,
-        "1 to {NAME_BYTES} of a to z, 0 to 9 and _, the first a letter"
+        "1 to {} of a to z, 0 to 9 and _, the first a letter",
+        &[Filling::Count(NAME_BYTES)],
     )
 }
 
+/// How a line of a map is written, but for its name.
+const MAP_FORMS: &str =
+    "  a line here is `map NAME KEY VALUE ENTRIES SPARE REUSE`, `map NAME array VALUE ENTRIES` or `code`\n  NAME: ";
+
+/// Its name and its numbers.
+const MAP_RANGES: &str =
+    ", and no other map's; at most {} maps\n  KEY 1 to {}, VALUE 1 to {}, ENTRIES 1 to {}, SPARE 0 to {}, REUSE 1 to {}\n";
+
 /// Writes how a line of a map is written.
 fn write_map_forms<W: Write>(out: &mut W) -> io::Result<()> {
-    writeln!(
-        out,
-        "  a line here is `map NAME KEY VALUE ENTRIES SPARE REUSE`, `map NAME array VALUE ENTRIES` or `code`"
-    )?;
-    write!(out, "  NAME: ")?;
+    write_text(out, MAP_FORMS)?;
     write_name_rule(out)?;
-    writeln!(out, ", and no other map's; at most {MAX_MAPS} maps")?;
-    writeln!(
+    write_filled(
         out,
-        "  KEY 1 to {KEY_BYTES}, VALUE 1 to {VALUE_BYTES}, ENTRIES 1 to {MAX_ENTRIES}, SPARE 0 to {MAX_SPARE}, REUSE 1 to {MAX_REUSE}"
+        MAP_RANGES,
+        &[
+            Filling::Count(MAX_MAPS),
+            Filling::Count(KEY_BYTES),
+            Filling::Count(VALUE_BYTES),
+            Filling::Count(MAX_ENTRIES),
+            Filling::Count(MAX_SPARE),
+            Filling::Number(u64::from(MAX_REUSE)),
+        ],
     )
 }
 
 /// What is said of assembly in a program file.
 const ASSEMBLY: &str =
     "  assembly stands here: leave the line `bpfrt 1` out, then `bpfrt check --asm` checks it, and `bpfrt asm --file` makes a \
-    program file of it";
+    program file of it\n";
+
+/// How a line of the context is written.
+const CONTEXT_FORM: &str =
+    "  a line here is `ctx N`: the length of the context in bytes, 0 to {}\n";
+
+/// How a line of slots is written.
+const SLOTS_FORM: &str = "  a line here has slots, each of 16 hexadecimal digits\n";
+
+/// How it is written, where bytes stand there with blanks between them.
+const WHOLE_SLOTS_FORM: &str =
+    "  a line here has slots, each of 16 hexadecimal digits, and no blank stands between these\n";
 
 /// Writes what a line of this part of a program file may be, instead of the first line of a text.
 fn write_forms<W: Write>(out: &mut W, part: Part, rest: &str) -> io::Result<()> {
     match part {
-        Part::Context => writeln!(
-            out,
-            "  a line here is `ctx N`: the length of the context in bytes, 0 to {CTX_BYTES}"
-        ),
+        Part::Context => write_filled(out, CONTEXT_FORM, &[Filling::Count(CTX_BYTES)]),
         Part::Maps => write_map_forms(out),
-        Part::Code if are_digits(rest.lines().next().unwrap_or("")) => writeln!(
-            out,
-            "  a line here has slots, each of 16 hexadecimal digits, and no blank stands between these"
-        ),
-        Part::Code => writeln!(
-            out,
-            "  a line here has slots, each of 16 hexadecimal digits"
-        ),
+        Part::Code if are_digits(first_line(rest)) => write_text(out, WHOLE_SLOTS_FORM),
+        Part::Code => write_text(out, SLOTS_FORM),
     }
 }
 
@@ -163,14 +191,14 @@ pub fn write_line<W: Write>(
 ) -> io::Result<()> {
     let start = start_of_line(text, number);
     let rest = text.get(start..text.len()).unwrap_or(&[]);
-    let shown = above.saturating_add(number);
+    let shown = Filling::Count(above.saturating_add(number));
     if rest.is_empty() {
-        return writeln!(out, "at {shown}: the text ends here");
+        return write_filled(out, "at {}: the text ends here\n", &[shown]);
     }
-    write!(out, "at {shown}: ")?;
+    write_filled(out, "at {}: ", &[shown])?;
     let line = rest.get(0..length_of_line(rest)).unwrap_or(&[]);
     write_quoted(out, line, SHOWN)?;
-    writeln!(out)
+    write_text(out, "\n")
 }
 
 /// Writes the line of this number of a text, counted from 1, which no program file has there, and what it may be. The
@@ -194,12 +222,12 @@ pub fn write_wrong_line<W: Write>(
     };
     let rest = text_in(text.get(start..text.len()).unwrap_or(&[]));
     if heading > 0 && is_assembly(part, rest) {
-        writeln!(out, "{ASSEMBLY}")?;
+        write_text(out, ASSEMBLY)?;
     } else {
         write_forms(out, part, rest)?;
     }
-    writeln!(
+    write_text(
         out,
-        "  one space parts words, and none begins or ends a line; no line is empty or a comment"
+        "  one space parts words, and none begins or ends a line; no line is empty or a comment\n",
     )
 }

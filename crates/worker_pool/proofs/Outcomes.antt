@@ -1,9 +1,11 @@
 -- What the outcomes of jobs say, where each is borne out by its trail.
-use Rattle.std.proofs.Common.{◌≡◌, ℕ, List, [], ◌∷◌, map, get_or, replicate, refl, ap, sym, subst, inl, inr}
-use Rattle.std.specs.Prelude.{Option, Some, None, Result, slice_get}
-use Rattle.std.proofs.lemmas.List.Elements.{All-cons, All-nil}
+use Rattle.std.proofs.Common.{◌≡◌, ◌≢◌, ℕ, List, [], ◌∷◌, get_or, replicate, refl, ap, sym, subst, inl, inr}
+use Rattle.std.specs.Prelude.{Option, Some, None, Result, Ok, Err, slice_get}
+use Rattle.std.proofs.lemmas.Option.{none-some}
 use Rattle.bpf_model.specs.declared.insn.Insn.{Insn}
+use Rattle.bpf_model.specs.declared.limits.MapShape.{MapShape}
 use Rattle.bpf_model.specs.declared.event.Answer.{Answer}
+use Rattle.bpf_model.specs.declared.event.Answer.TheVariants as answers
 use Rattle.bpf_model.specs.Exit.{HasNoMaps}
 use Rattle.world_laws.specs.Exits.{MayExitAs, ExitsAs}
 use Rattle.shared_books.specs.declared.fault.SharedFault.{SharedFault}
@@ -11,40 +13,80 @@ use Rattle.shared_books.specs.Receipts.{IsPossibleExit, IsOwnExit}
 use Rattle.verifier.specs.Checked.{Checked}
 use Rattle.worker_pool.specs.declared.job.Job.{Job}
 use Rattle.worker_pool.specs.declared.job.StopCause.{StopCause}
-use Rattle.worker_pool.specs.declared.job.StopCause.TheVariants.{OtherRun}
+use Rattle.worker_pool.specs.declared.job.StopCause.TheVariants.{Fault, OtherRun, Refused, SubWord}
 use Rattle.worker_pool.specs.declared.job.Outcome.{Outcome}
 use Rattle.worker_pool.specs.declared.job.Outcome.TheVariants.{Exit, Stopped}
 use Rattle.worker_pool.specs.declared.job.Trail.{Trail}
 use Rattle.worker_pool.specs.declared.job.Trail.TheVariants as trails
-use Rattle.worker_pool.specs.Trails.{FitsJob, TellsExit}
-use Rattle.worker_pool.specs.Outcomes.{IsZeroJob, IsZeroExit, IsOutcomeOf}
-
-abbrev pub code_of : Checked → List Insn
-code_of p = p.program
+use Rattle.worker_pool.specs.Trails.{FitsJob, StopsBy, TellsExit, stop_of}
+use Rattle.worker_pool.specs.Outcomes.{IsOnly, IsOutcomeOf, IsPoolStop, IsZeroExit, IsZeroJob}
 
 no_stop : (n : ℕ) (run : Option ℕ) (cause : StopCause) → Exit n ≡ Stopped run cause → ⊥
 no_stop n run cause e = cc
 
 -- the only program is the first
-first_program : (programs : List Checked) (code : List Insn) → map code_of programs ≡ code ∷ [] → (p : Checked) ×
-    (slice_get programs 0 ≡ Some p) × (p.program ≡ code)
-first_program [] code e = absurd (let h : [] ≡ code ∷ [] = e in cc)
-first_program (p ∷ programs) code e = (p, refl, ap (λ (xs : List (List Insn)). get_or xs 0 code) e)
+first_program : (programs : List Checked) (code : List Insn) (shapes : List MapShape) → IsOnly code shapes programs → (p : Checked) ×
+    (slice_get programs 0 ≡ Some p) × (p.program ≡ code) × (p.shapes ≡ shapes)
+first_program [] code shapes e = absurd (let h : [] ≡ code ∷ [] = e.code in cc)
+first_program (p ∷ programs) code shapes e =
+    (p, refl, ap (λ (xs : List (List Insn)). get_or xs 0 code) e.code, ap (λ (xs : List (List MapShape)). get_or xs 0 shapes) e.maps)
 
-module _ (programs : List Checked) (code : List Insn) (only : map code_of programs ≡ code ∷ []) where
-  may_exit : (context : List ℕ) (n : ℕ) → IsPossibleExit (slice_get programs 0) context n → MayExitAs code context n
+-- why a reply is no answer has nothing to do with words
+stop_by : (reply : Result Answer SharedFault) (cause : StopCause) → stop_of reply ≡ Some cause → cause ≢ SubWord
+stop_by (Err fault) cause e same = absurd (let h : Some (Fault fault) ≡ Some cause = e in cc)
+stop_by (Ok (answers.Refused refusal)) cause e same = absurd (let h : Some (Refused refusal) ≡ Some cause = e in cc)
+stop_by (Ok (answers.Started run)) cause e same = absurd (none-some cause e)
+stop_by (Ok answers.Moved) cause e same = absurd (none-some cause e)
+stop_by (Ok (answers.Exited value)) cause e same = absurd (none-some cause e)
+stop_by (Ok (answers.Ret ret)) cause e same = absurd (none-some cause e)
+stop_by (Ok (answers.Found value)) cause e same = absurd (none-some cause e)
+stop_by (Ok answers.Done) cause e same = absurd (none-some cause e)
+stop_by (Ok (answers.Reaped element)) cause e same = absurd (none-some cause e)
+
+told_cause : (run other : Option ℕ) (cause told : StopCause) → Stopped run cause ≡ Stopped other told → cause ≡ told
+told_cause run other cause told e = cc
+
+stopped_by : (reply : Result Answer SharedFault) (run other : Option ℕ) (cause : StopCause) →
+    StopsBy reply other (Stopped run cause) → IsPoolStop cause
+stopped_by reply run other cause h = subst IsPoolStop (sym (told_cause run other cause h.cause h.told)) (stop_by reply h.cause h.why)
+
+other_run : (run other : Option ℕ) (cause : StopCause) → Stopped run cause ≡ Stopped other OtherRun → IsPoolStop cause
+other_run run other cause told same = cc
+
+exit_no_stop : (n : ℕ) (run : Option ℕ) (cause : StopCause) → Stopped run cause ≡ Exit n → ⊥
+exit_no_stop n run cause e = cc
+
+told_stop : (r value : ℕ) (run : Option ℕ) (cause : StopCause) (reply : Result Answer SharedFault) →
+    TellsExit r value reply (Stopped run cause) → IsPoolStop cause
+told_stop r value run cause reply (inl (done, is)) = absurd (exit_no_stop value run cause is)
+told_stop r value run cause reply (inr stops) = stopped_by reply run (Some r) cause stops
+
+-- so a job that was stopped was stopped by another cause
+stop_outcome : {L : Type 0} (programs : List Checked) (job : Job) (run : Option ℕ) (cause : StopCause) (trail : Trail L) →
+    FitsJob programs job (Stopped run cause) trail → IsPoolStop cause
+stop_outcome programs job run cause (trails.Unstarted start) h = stopped_by start.reply run None cause h.stops
+stop_outcome programs job run cause (trails.Halted start step) (r, started, halts) = stopped_by step.reply run (Some r) cause halts.stops
+stop_outcome programs job run cause (trails.OtherRun start step note) (r, started, exits, asks, strange) =
+    other_run run (Some r) cause strange.told
+stop_outcome programs job run cause (trails.Ended start step note dropped) (r, started, exits, asks, x) =
+    told_stop r x.value run cause dropped.reply x.told
+
+module _ (programs : List Checked) (code : List Insn) (shapes : List MapShape) (only : IsOnly code shapes programs) where
+  may_exit : (context : List ℕ) (n : ℕ) → IsPossibleExit (slice_get programs 0) context n →
+      MayExitAs code shapes context n
   may_exit context n h =
-      let f = first_program programs code only in
-      subst (λ (c : List Insn). MayExitAs c context n) f.2 (subst (λ (o : Option Checked). IsPossibleExit o context n) f.1 h)
+      let f = first_program programs code shapes only in
+      let here : MayExitAs f.0.program f.0.shapes context n = subst (λ (o : Option Checked). IsPossibleExit o context n) f.1 h in
+      subst (λ (s : List MapShape). MayExitAs code s context n) f.3 (subst (λ (c : List Insn). MayExitAs c f.0.shapes context n) f.2 here)
 
   own_exit : (context : List ℕ) (n : ℕ) → IsOwnExit (slice_get programs 0) context n → HasNoMaps code → ExitsAs code context n
   own_exit context n h =
-      let f = first_program programs code only in
+      let f = first_program programs code shapes only in
       subst (λ (c : List Insn). HasNoMaps c → ExitsAs c context n) f.2 (subst (λ (o : Option Checked). IsOwnExit o context n) f.1 h)
 
   zero_exit : (len : ℕ) (job : Job) (n : ℕ) → IsZeroJob len job →
       IsPossibleExit (slice_get programs job.prog) job.ctx.items n →
-      IsOwnExit (slice_get programs job.prog) job.ctx.items n → IsZeroExit code len n
+      IsOwnExit (slice_get programs job.prog) job.ctx.items n → IsZeroExit code shapes len n
   zero_exit len job n z may own =
       let at : slice_get programs job.prog ≡ slice_get programs 0 = ap (slice_get programs) z.prog in
       record {
@@ -54,13 +96,13 @@ module _ (programs : List Checked) (code : List Insn) (only : map code_of progra
             (subst (λ (o : Option Checked). IsOwnExit o job.ctx.items n) at own));
       }
 
-  told_exit : (len n run value : ℕ) (reply : Result Answer SharedFault) → IsZeroExit code len value
-      → TellsExit run value reply (Exit n) → IsZeroExit code len n
-  told_exit len n run value reply v (inl (done, is)) = subst (IsOutcomeOf code len) (sym is) v
+  told_exit : (len n run value : ℕ) (reply : Result Answer SharedFault) → IsZeroExit code shapes len value
+      → TellsExit run value reply (Exit n) → IsZeroExit code shapes len n
+  told_exit len n run value reply v (inl (done, is)) = subst (IsOutcomeOf code shapes len) (sym is) v
   told_exit len n run value reply v (inr stops) = absurd (no_stop n (Some run) stops.cause stops.told)
 
-  exit_outcome : (len : ℕ) (job : Job) (n : ℕ) (trail : Trail) → IsZeroJob len job →
-      FitsJob programs job (Exit n) trail → IsZeroExit code len n
+  exit_outcome : {L : Type 0} (len : ℕ) (job : Job) (n : ℕ) (trail : Trail L) → IsZeroJob len job →
+      FitsJob programs job (Exit n) trail → IsZeroExit code shapes len n
   exit_outcome len job n (trails.Unstarted start) z h = absurd (no_stop n None h.stops.cause h.stops.told)
   exit_outcome len job n (trails.Halted start step) z (run, started, halts) = absurd (no_stop n (Some run) halts.stops.cause halts.stops.told)
   exit_outcome len job n (trails.OtherRun start step note) z (run, started, exits, asks, strange) =
@@ -68,13 +110,7 @@ module _ (programs : List Checked) (code : List Insn) (only : map code_of progra
   exit_outcome len job n (trails.Ended start step note dropped) z (run, started, exits, asks, x) =
       told_exit len n run x.value dropped.reply (zero_exit len job x.value z x.may x.alone) x.told
 
-  pub fits_outcome : (len : ℕ) (job : Job) (outcome : Outcome) (trail : Trail) → IsZeroJob len job →
-      FitsJob programs job outcome trail → IsOutcomeOf code len outcome
+  pub fits_outcome : {L : Type 0} (len : ℕ) (job : Job) (outcome : Outcome) (trail : Trail L) → IsZeroJob len job →
+      FitsJob programs job outcome trail → IsOutcomeOf code shapes len outcome
   fits_outcome len job (Exit n) trail z h = exit_outcome len job n trail z h
-  fits_outcome len job (Stopped run cause) trail z h = record {
-    programs = programs;
-    job = job;
-    trail = trail;
-    is = record { only = only; zeros = All-cons (IsZeroJob len) job [] z (All-nil (IsZeroJob len)) };
-    fits = h;
-  }
+  fits_outcome len job (Stopped run cause) trail z h = stop_outcome programs job run cause trail h

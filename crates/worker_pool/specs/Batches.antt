@@ -1,6 +1,7 @@
 -- Many jobs that are all alike, some of them at a time.
-use Rattle.std.specs.Prelude.{◌≡◌, ℕ, ◌+◌, List, [], ◌∷◌, length, map, All, Option}
+use Rattle.std.specs.Prelude.{◌≡◌, ℕ, ◌+◌, List, [], ◌∷◌, length, All, Option}
 use Rattle.bpf_model.specs.declared.insn.Insn.{Insn}
+use Rattle.bpf_model.specs.declared.limits.MapShape.{MapShape}
 use Rattle.bpf_model.specs.View.{AreNewMaps, shapes_of_maps}
 use Rattle.shared.specs.declared.bound.ProgramWithMaps.{ProgramWithMaps}
 use Rattle.verifier.specs.Checked.{Checked}
@@ -8,7 +9,7 @@ use Rattle.worker_pool.specs.declared.batch.Batch.{Batch}
 use Rattle.worker_pool.specs.declared.job.Job.{Job}
 use Rattle.worker_pool.specs.declared.job.Outcome.{Outcome}
 use Rattle.worker_pool.specs.Lines.{job_lines}
-use Rattle.worker_pool.specs.Outcomes.{AreRunsOf, IsOutcomeOf}
+use Rattle.worker_pool.specs.Outcomes.{AreRunsOf, IsOnly, IsOutcomeOf}
 use Rattle.worker_pool.specs.Runs.{WritesJobs, WritesPart}
 use Rattle.worker_pool.specs.declared.fault.RunFault.{RunFault}
 
@@ -22,13 +23,14 @@ AreBatches first (batch ∷ batches) end =
 abbrev pub AreOutcomes : List Checked → Job → ℕ → List Outcome → Type 0
 AreOutcomes programs job count outcomes =
     (length outcomes ≡ count)
-    × ((program : List Insn) (context_len : ℕ) → AreRunsOf program context_len programs (job ∷ []) →
-    All (IsOutcomeOf program context_len) outcomes)
+    × ((program : List Insn) (shapes : List MapShape) (context_len : ℕ) →
+    AreRunsOf program shapes context_len programs (job ∷ []) →
+    All (IsOutcomeOf program shapes context_len) outcomes)
 
 -- A world of these programs has this one alone; and its maps are new ones, of the shapes that it was verified with.
 abbrev pub IsAlike : List Checked → ProgramWithMaps → Type 0
 IsAlike programs program =
-    (map (λ p. p.program) programs ≡ program.verified.program ∷ [])
+    IsOnly program.verified.program program.verified.shapes programs
     × AreNewMaps program.registry.maps
     × (program.verified.shapes ≡ shapes_of_maps program.registry.maps)
 
@@ -41,12 +43,14 @@ pub record IsPrinted (programs : List Checked) (job : Job) (batch : Batch) (text
 -- The output has gained the lines of so many runs of a program, where the job is one of it.
 abbrev pub HasWritten : List Checked → Job → ℕ → Option (List ℕ) → Option (List ℕ) → Type 0
 HasWritten programs job count old new =
-    (program : List Insn) (context_len : ℕ) → AreRunsOf program context_len programs (job ∷ []) →
-    WritesJobs program context_len count old new
+    (program : List Insn) (shapes : List MapShape) (context_len : ℕ) →
+    AreRunsOf program shapes context_len programs (job ∷ []) →
+    WritesJobs program shapes context_len count old new
 
 -- Where the pool fails, it has gained the lines of some first ones of so many.
 abbrev pub HasWrittenPart : List Checked → Job → ℕ → Option (List ℕ) → Option (List ℕ) → RunFault →
     Type 0
 HasWrittenPart programs job count old new fault =
-    (program : List Insn) (context_len : ℕ) → AreRunsOf program context_len programs (job ∷ []) →
-    WritesPart program context_len count old new fault
+    (program : List Insn) (shapes : List MapShape) (context_len : ℕ) →
+    AreRunsOf program shapes context_len programs (job ∷ []) →
+    WritesPart program shapes context_len count old new fault

@@ -1,6 +1,7 @@
 -- The jobs that a pool is given, and what their outcomes say of the program.
-use Rattle.std.specs.Prelude.{◌≡◌, ◌⊎◌, ◌<◌, ℕ, List, [], ◌∷◌, map, replicate, All, ⊤}
+use Rattle.std.specs.Prelude.{◌≡◌, ◌≢◌, ◌⊎◌, ◌<◌, ℕ, List, [], ◌∷◌, map, replicate, All, ⊤}
 use Rattle.bpf_model.specs.declared.insn.Insn.{Insn}
+use Rattle.bpf_model.specs.declared.limits.MapShape.{MapShape}
 use Rattle.bpf_model.specs.Exit.{HasNoMaps}
 use Rattle.world_laws.specs.Exits.{MayExitAs, ExitsAs}
 use Rattle.job_queue.specs.declared.fault.PoolFault.{PoolFault}
@@ -11,8 +12,8 @@ use Rattle.verifier.specs.Checked.{Checked}
 use Rattle.worker_pool.specs.declared.job.Job.{Job}
 use Rattle.worker_pool.specs.declared.job.Outcome.{Outcome}
 use Rattle.worker_pool.specs.declared.job.Outcome.TheVariants.{Exit, Stopped}
-use Rattle.worker_pool.specs.declared.job.Trail.{Trail}
-use Rattle.worker_pool.specs.Trails.{FitsJob}
+use Rattle.worker_pool.specs.declared.job.StopCause.{StopCause}
+use Rattle.worker_pool.specs.declared.job.StopCause.TheVariants.{SubWord}
 
 -- The fault is one of so many workers and jobs, or of memory. No result is lost.
 abbrev pub IsFaultOf : ℕ → ℕ → PoolFault → Type 0
@@ -26,29 +27,30 @@ pub record IsZeroJob (context_len : ℕ) (job : Job) : Type 0 where
   pub prog : job.prog ≡ 0
   pub context : job.ctx.items ≡ replicate context_len 0
 
+-- There is this program alone, which was verified for maps of these shapes.
+pub record IsOnly (program : List Insn) (shapes : List MapShape) (programs : List Checked)
+    : Type 0 where
+  pub code : map (λ p. p.program) programs ≡ program ∷ []
+  pub maps : map (λ p. p.shapes) programs ≡ shapes ∷ []
+
 -- There is this program alone, and each job is of it, on so many zeros.
-pub record AreRunsOf (program : List Insn) (context_len : ℕ) (programs : List Checked)
-    (jobs : List Job) : Type 0 where
-  pub only : map (λ p. p.program) programs ≡ program ∷ []
+pub record AreRunsOf (program : List Insn) (shapes : List MapShape) (context_len : ℕ)
+    (programs : List Checked) (jobs : List Job) : Type 0 where
+  pub only : IsOnly program shapes programs
   pub zeros : All (IsZeroJob context_len) jobs
 
--- The program may exit with this value on a context of so many zeros; without map references it
--- does, and with no other, whatever other runs do.
-pub record IsZeroExit (program : List Insn) (context_len n : ℕ) : Type 0 where
-  pub may : MayExitAs program (replicate context_len 0) n
+-- The program may exit with this value on a context of so many zeros, over maps of these shapes;
+-- without map references it does, and with no other, whatever other runs do.
+pub record IsZeroExit (program : List Insn) (shapes : List MapShape) (context_len n : ℕ)
+    : Type 0 where
+  pub may : MayExitAs program shapes (replicate context_len 0) n
   pub alone : HasNoMaps program → ExitsAs program (replicate context_len 0) n
 
--- A job of this program alone, on so many zeros, has this outcome, and its trail bears it out.
-pub record HasTrail (program : List Insn) (context_len : ℕ) (outcome : Outcome) : Type 0 where
-  pub programs : List Checked
-  pub job : Job
-  pub trail : Trail
-  pub is : AreRunsOf program context_len programs (job ∷ [])
-  pub fits : FitsJob programs job outcome trail
+-- Why a pool may stop a job: never since words don't serve its program. No more is known of a stop.
+abbrev pub IsPoolStop : StopCause → Type 0
+IsPoolStop cause = cause ≢ SubWord
 
--- a job that has exited has exited with such a value, and one that was stopped has its cause in a
--- trail
-abbrev pub IsOutcomeOf : List Insn → ℕ → Outcome → Type 0
-IsOutcomeOf program context_len (Exit n) = IsZeroExit program context_len n
-IsOutcomeOf program context_len (Stopped run cause) =
-    HasTrail program context_len (Stopped run cause)
+-- a job that has exited has exited with such a value
+abbrev pub IsOutcomeOf : List Insn → List MapShape → ℕ → Outcome → Type 0
+IsOutcomeOf program shapes context_len (Exit n) = IsZeroExit program shapes context_len n
+IsOutcomeOf program shapes context_len (Stopped run cause) = IsPoolStop cause

@@ -9,7 +9,7 @@ use Rattle.shared_runs.specs.SharedRuns.{IsSharedRun}
 use Rattle.shared_runs.specs.Words.{FitsTable, UsesSubWords, loaded_of}
 use Rattle.worker_pool.specs.declared.job.Job.{Job}
 use Rattle.worker_pool.specs.declared.job.JobReport.{JobReport}
-use Rattle.worker_pool.specs.TableJobs.{HasGrown, IsTableJob}
+use Rattle.worker_pool.specs.TableJobs.{GainsJob, HasGrown, IsTableJob}
 
 -- each program fits the table
 abbrev pub AllFit : TableShape → List Checked → Type 0
@@ -31,3 +31,8 @@ HasGained = HasGrown moves_of_seat name_of_seat
 abbrev pub IsReadJob : TableShape → List Checked → Holder → Holder → Job →
     JobReport (Unit {0}) → Type 0
 IsReadJob k = IsTableJob moves_of_seat name_of_seat (λ name c. IsSharedRun (table_of k) c.shapes (loaded_of c)) UsesSubWords
+
+-- The seat's list gained the moves that a job of these programs gives, and no others.
+abbrev pub GainsReadJob : TableShape → List Checked → Holder → Holder → Job →
+    JobReport (Unit {0}) → Type 0
+GainsReadJob k = GainsJob moves_of_seat name_of_seat (λ name c. IsSharedRun (table_of k) c.shapes (loaded_of c))

@@ -1,5 +1,5 @@
 -- When the report of a job that was served from a table is right: of any table over which programs run.
-use Rattle.std.specs.Prelude.{◌≡◌, ◌≢◌, ◌⊎◌, ℕ, ◌≤◌, List, ◌++◌, length, Option, Some, None}
+use Rattle.std.specs.Prelude.{◌≡◌, ◌≢◌, ◌⊎◌, ℕ, ◌≤◌, List, [], ◌++◌, length, Option, Some, None}
 use Rattle.std.specs.Prelude.{slice_get}
 use Rattle.bpf_model.specs.declared.event.EventRefusal.TheVariants.{BadContext, NoProgram}
 use Rattle.verifier.specs.Checked.{Checked}
@@ -47,3 +47,19 @@ module _ {Seat Move Name : Type 0} (mine : Seat → List Move) (name : Seat → 
   abbrev pub IsTableJob : Runs Name Move → (Checked → Type 0) → List Checked → Seat → Seat → Job → JobReport (Unit {0}) → Type 0
   IsTableJob IsRun Refuses programs first last job report =
       IsTableOutcome IsRun Refuses first last job (slice_get programs job.prog) report.outcome
+
+  -- Which moves a job of these programs gives: where it exits with the value, those of one run of its own program and context,
+  -- by the seat of this name; where it was stopped, none.
+  abbrev pub AreJobsMoves : Runs Name Move → List Checked → Name → Job → Outcome → List Move → Type 0
+  AreJobsMoves IsRun programs seat job (Exit value) moves =
+      (c : Checked) × (slice_get programs job.prog ≡ Some c) × (steps : ℕ)
+      × IsRun seat c job.ctx.items moves steps value
+  AreJobsMoves IsRun programs seat job (Stopped run cause) moves = moves ≡ []
+
+  -- It is the same seat, and its list gained the moves that the job gives, and no others.
+  pub record GainsJob (IsRun : Runs Name Move) (programs : List Checked) (first last : Seat) (job : Job)
+      (report : JobReport (Unit {0})) : Type 0 where
+    pub same : name last ≡ name first
+    pub moves : List Move
+    pub list : mine last ≡ moves ++ mine first
+    pub of_job : AreJobsMoves IsRun programs (name first) job report.outcome moves

@@ -28,7 +28,7 @@ by_wider t u v w r a b by =
       until = le_trans by.until b.made;
     }
 
-of_wider : (t u v w : WorkerView) (trail : Trail) → IsLater t u → IsLater v w →
+of_wider : {L : Type 0} (t u v w : WorkerView) (trail : Trail L) → IsLater t u → IsLater v w →
     IsOfWorker u v trail → IsOfWorker t w trail
 of_wider t u v w (trails.Unstarted start) a b by = by_wider t u v w start a b by
 of_wider t u v w (trails.Halted start step) a b by =
@@ -42,8 +42,8 @@ of_wider t u v w (trails.Ended start step note dropped) a b by = (
 )
 
 -- what is right stays so, from an earlier beginning to a later end
-pub served_wider : (programs : List Checked) (t u v w : WorkerView) (job : Job)
-    (report : JobReport Trail) → IsLater t u → IsLater v w → IsServedJob programs u v job report →
+pub served_wider : {L : Type 0} (programs : List Checked) (t u v w : WorkerView) (job : Job)
+    (report : JobReport (Trail L)) → IsLater t u → IsLater v w → IsServedJob programs u v job report →
     IsServedJob programs t w job report
 served_wider programs t u v w job report a b s =
     record { by = of_wider t u v w report.trail a b s.by; fits = s.fits }

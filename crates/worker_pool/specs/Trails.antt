@@ -35,7 +35,7 @@ pub record IsByWorker (first last : WorkerView) (receipt : ReceiptView) : Type 0
   pub until : receipt.made ≤ last.made
 
 -- all receipts of a trail are of one worker (a note says itself of which it is)
-abbrev pub IsOfWorker : WorkerView → WorkerView → Trail → Type 0
+abbrev pub IsOfWorker : {L : Type 0} → WorkerView → WorkerView → Trail L → Type 0
 IsOfWorker first last (trails.Unstarted start) = IsByWorker first last start
 IsOfWorker first last (trails.Halted start step) =
     IsByWorker first last start × IsByWorker first last step
@@ -112,7 +112,7 @@ pub record ExitsWithValue (programs : List Checked) (job : Job) (run : ℕ) (not
 
 -- The trail begins with the start of the job's program on its context, goes on with the run that
 -- this gave, and bears out the outcome.
-abbrev pub FitsJob : List Checked → Job → Outcome → Trail → Type 0
+abbrev pub FitsJob : {L : Type 0} → List Checked → Job → Outcome → Trail L → Type 0
 FitsJob programs job outcome (trails.Unstarted start) = StopsAtStart job start outcome
 FitsJob programs job outcome (trails.Halted start step) =
     (run : ℕ) × WasStarted job run start × StopsAtStep run step outcome
@@ -125,7 +125,7 @@ FitsJob programs job outcome (trails.Ended start step note dropped) =
 
 -- The report is right for the job, by receipts of one worker between its count of entries before
 -- and after.
-pub record IsServedJob (programs : List Checked) (first last : WorkerView) (job : Job)
-    (report : JobReport Trail) : Type 0 where
+pub record IsServedJob {L : Type 0} (programs : List Checked) (first last : WorkerView) (job : Job)
+    (report : JobReport (Trail L)) : Type 0 where
   pub by : IsOfWorker first last report.trail
   pub fits : FitsJob programs job report.outcome report.trail

@@ -1,9 +1,10 @@
 //! A batch in a world of its own.
-ghost use Rattle.std.specs.Prelude.{◌≡◌, ◌<◌, ◌∷◌, [], List, length, map, true, Decides, IfOk, IfSome};
+ghost use Rattle.std.specs.Prelude.{◌≡◌, ◌<◌, List, length, true, Decides, IfOk, IfSome};
 ghost use Rattle.bpf_model.specs.View.{AreNewMaps, shapes_of_maps};
 ghost use Rattle.verifier.specs.Checked.{Checked};
 ghost use Rattle.worker_pool.specs.Apart.{ChangesMapAt, ChangesMaps, FitsOneJournal};
 ghost use Rattle.worker_pool.specs.Batches.{IsPrinted};
+ghost use Rattle.worker_pool.specs.Outcomes.{IsOnly};
 
 use crate::batch::Batch;
 use crate::job::Job;
@@ -113,7 +114,7 @@ pub(crate) fn print_apart<L: Ledger, R: Wait>(
     requires name { blank.name ≡ L.name }
     requires parts { (blank.parts ≡ L.parts) × (blank.parts ≡ 1) }
     ensures printed { (programs : List Checked) →
-        map (λ p. p.program) programs ≡ program.now.verified.program ∷ [] →
+        IsOnly program.now.verified.program program.now.verified.shapes programs →
         IfSome result (λ a. IsPrinted programs job.now batch.now a.text.items) }
 {
     let (Ok(verified), Ok(registry)) = (program.verified.copy(alloc), program.registry.copy())

@@ -3,6 +3,7 @@ ghost use Rattle.std.specs.Prelude.{◌≡◌};
 
 use bpf_model::{CtxBytes, EventRefusal, ProgId, RunId};
 use shared::{ExitNote, Receipt, SharedFault};
+use std::sync::ledger::Ledger;
 
 /// A program that is to run on a context.
 #[derive(Debug, Drop)]
@@ -40,29 +41,29 @@ pub enum Outcome {
 
 /// The receipts and the note of one worker on which an outcome rests: those of the start, of the last step,
 /// of the exit value and of the drop, as far as the job came.
-#[derive(Debug, Drop)]
-pub enum Trail {
+#[derive(Drop)]
+pub enum Trail<L: Ledger> {
     /// The start was refused, or not applied.
     Unstarted {
-        start: Receipt,
+        start: Receipt<L>,
     },
     /// A step was refused, or not applied.
     Halted {
-        start: Receipt,
-        step: Receipt,
+        start: Receipt<L>,
+        step: Receipt<L>,
     },
     /// A step was answered with an exit, but the note has no exit value.
     OtherRun {
-        start: Receipt,
-        step: Receipt,
-        note: ExitNote,
+        start: Receipt<L>,
+        step: Receipt<L>,
+        note: ExitNote<L>,
     },
     /// The run has exited, and its drop was answered.
     Ended {
-        start: Receipt,
-        step: Receipt,
-        note: ExitNote,
-        dropped: Receipt,
+        start: Receipt<L>,
+        step: Receipt<L>,
+        note: ExitNote<L>,
+        dropped: Receipt<L>,
     },
 }
 

@@ -32,7 +32,7 @@ pub fn run_jobs<L: Ledger + Send + Sync, R: Threads + Wait + Sync>(
     threads: usize,
     shared: &Shared<L>,
     workers: &mut Workers<L>,
-) -> Result<Report<Trail>, PoolFault>
+) -> Result<Report<Trail<L>>, PoolFault>
     ensures bad_workers { IsBadCount threads (length workers.old) →
         result ≡ Err faults.BadWorkers }
     ensures too_many_jobs { (IsBadCount threads (length workers.old) → ⊥)

@@ -28,7 +28,7 @@ fn step_to_end<L: Ledger, R: Wait>(
     held: &mut Held<'_, L>,
     worker: &mut Worker<L>,
     run: RunId,
-) -> Receipt
+) -> Receipt<L>
     ensures programs { held.new ≡ held.old }
     ensures event { result.event ≡ Step run }
     ensures answered { IfOk result.reply (IsMachineAnswer (Step run)) }
@@ -52,9 +52,9 @@ fn finish_job<L: Ledger, R: Wait>(
     held: &mut Held<'_, L>,
     worker: &mut Worker<L>,
     job: &Job,
-    start: Receipt,
+    start: Receipt<L>,
     run: RunId,
-) -> JobReport<Trail>
+) -> JobReport<Trail<L>>
     requires started { WasStarted job.now run start }
     requires by { IsByWorker worker.old worker.old start }
     ensures programs { held.new ≡ held.old }
@@ -105,7 +105,7 @@ pub(crate) fn serve_held<L: Ledger, R: Wait>(
     held: &mut Held<'_, L>,
     worker: &mut Worker<L>,
     job: &Job,
-) -> JobReport<Trail>
+) -> JobReport<Trail<L>>
     ensures programs { held.new ≡ held.old }
     ensures later { IsLater worker.old worker.new }
     ensures fits { IsServedJob held.old worker.old worker.new job.now result }
@@ -133,7 +133,7 @@ impl<L: Ledger + Send + Sync> Serve for Pooled<'_, L> {
 
     type Worker = Worker<L>;
 
-    type Served = JobReport<Trail>;
+    type Served = JobReport<Trail<L>>;
 
     ghost ready = { λ s w. Unit {0} };
 
@@ -141,8 +141,10 @@ impl<L: Ledger + Send + Sync> Serve for Pooled<'_, L> {
 
     ghost fits = { λ s. IsServedJob s.shared.now };
 
+    ghost gains = { λ s. IsServedJob s.shared.now };
+
     /// Serves one job. All of it is done under the lock, which is taken once.
-    fn serve<R: Wait>(&self, rt: &R, worker: &mut Worker<L>, job: &Job) -> JobReport<Trail> {
+    fn serve<R: Wait>(&self, rt: &R, worker: &mut Worker<L>, job: &Job) -> JobReport<Trail<L>> {
         let mut held = self.shared.hold(rt);
         serve_held(rt, &mut held, worker, job)
     }

@@ -173,6 +173,8 @@ impl<L: Ledger + Send + Sync> Serve for Printing<'_, L> {
 
     ghost fits = { λ s u v batch text. IfSome text (λ t. IsPrinted s.shared.now s.job.now batch t.items) };
 
+    ghost gains = { λ s u v batch text. IfSome text (λ t. IsPrinted s.shared.now s.job.now batch t.items) };
+
     /// Serves a batch, and makes its lines.
     fn serve<R: Wait>(&self, rt: &R, worker: &mut Worker<L>, batch: &Batch) -> Option<Vec<u8>> {
         self.print_batch(rt, worker, batch)

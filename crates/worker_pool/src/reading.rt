@@ -4,9 +4,10 @@ ghost use Rattle.std.specs.List.{AllZip};
 ghost use Rattle.job_queue.specs.declared.fault.PoolFault.{PoolFault};
 ghost use Rattle.job_queue.specs.declared.fault.PoolFault.TheVariants as faults;
 ghost use Rattle.job_queue.specs.Serving.{AreServed, most_jobs, most_workers};
+ghost use Rattle.job_queue.specs.Turns.{AreSharedOut};
 ghost use Rattle.read_table.specs.Held.{IsReady};
-ghost use Rattle.worker_pool.specs.Readings.{AllFit, HasGained, IsReadJob};
-ghost use Rattle.worker_pool.specs.TableJobs.{HasGrown, IsTableJob};
+ghost use Rattle.worker_pool.specs.Readings.{AllFit, GainsReadJob, HasGained, IsReadJob};
+ghost use Rattle.worker_pool.specs.TableJobs.{GainsJob, HasGrown, IsTableJob};
 
 use crate::job::{Job, JobReport, Outcome, Report, StopCause};
 use bpf_model::EventRefusal;
@@ -37,7 +38,7 @@ fn unbegun(cause: StopCause) -> JobReport<()>
 
 impl<T: RunsPrograms> Serve for Reading<'_, T> {
     ghost use Rattle.std.specs.Prelude.{All};
-    ghost use Rattle.worker_pool.specs.TableJobs.{HasGrown, IsTableJob};
+    ghost use Rattle.worker_pool.specs.TableJobs.{GainsJob, HasGrown, IsTableJob};
     ghost use Rattle.worker_pool.specs.ReadingLemmas.{grown_same, grown_again, job_wider};
 
     type Job = Job;
@@ -51,6 +52,8 @@ impl<T: RunsPrograms> Serve for Reading<'_, T> {
     ghost later = { HasGrown T.mine T.name };
 
     ghost fits = { λ s. IsTableJob T.mine T.name (T.IsRun s.table.now) T.Refuses s.programs.now };
+
+    ghost gains = { λ s. GainsJob T.mine T.name (T.IsRun s.table.now) s.programs.now };
 
     /// Runs the job's program on its context over the table.
     fn serve<R: Wait>(&self, _rt: &R, seat: &mut T::Seat, job: &Job) -> JobReport<()> {
@@ -108,6 +111,10 @@ pub fn run_table_jobs<T: RunsPrograms + Sync, R: Threads + Wait + Sync>(
     ensures count { IfOk result (λ report. vec_len report.jobs ≡ length jobs.now) }
     ensures each { IfOk result (λ report. AreServed (IsTableJob T.mine T.name (T.IsRun table.now) T.Refuses programs.now)
         jobs.now seats.old.items seats.new.items report.jobs.items) }
+
+    // No job is counted twice, and none is left out: what each seat's list gained is the moves of its jobs, one behind another.
+    ensures shared_out { IfOk result (λ report. AreSharedOut (GainsJob T.mine T.name (T.IsRun table.now) programs.now)
+        jobs.now seats.old.items seats.new.items report.jobs.items) }
 {
     let reading = Reading { table, programs };
     let threads = seats.len();
@@ -140,6 +147,8 @@ pub fn run_read_jobs<R: Threads + Wait + Sync>(
     ensures later { AllZip HasGained seats.old seats.new }
     ensures count { IfOk result (λ report. vec_len report.jobs ≡ length jobs.now) }
     ensures each { IfOk result (λ report. AreServed (IsReadJob table.now.shape programs.now) jobs.now
+        seats.old seats.new report.jobs.items) }
+    ensures shared_out { IfOk result (λ report. AreSharedOut (GainsReadJob table.now.shape programs.now) jobs.now
         seats.old seats.new report.jobs.items) }
 {
     run_table_jobs(rt, alloc, programs, jobs, table, &mut seats.list)

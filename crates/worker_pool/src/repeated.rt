@@ -94,10 +94,10 @@ fn run_shared<L: Ledger + Send + Sync, R: Threads + Wait + Sync, W: Write>(
     requires name { blank.name ≡ L.name }
     requires parts { (blank.parts ≡ L.parts) × (blank.parts ≡ workers) }
     ensures fault { IfErr result IsLate }
-    ensures written { OnOk result (WritesJobs program.verified.program program.verified.ctx_len count
-        (W.contents out.old) (W.contents out.new)) }
-    ensures part { IfErr result (WritesPart program.verified.program program.verified.ctx_len count
-        (W.contents out.old) (W.contents out.new)) }
+    ensures written { OnOk result (WritesJobs program.verified.program program.verified.shapes
+        program.verified.ctx_len count (W.contents out.old) (W.contents out.new)) }
+    ensures part { IfErr result (WritesPart program.verified.program program.verified.shapes
+        program.verified.ctx_len count (W.contents out.old) (W.contents out.new)) }
 {
     let job = zero_job(program.verified.ctx_len());
     let Ok(apart) = copy_to_part(alloc, &program, count) else {
@@ -156,11 +156,11 @@ pub fn run_program<R: Threads + Wait + Sync, W: Write>(
     ensures refused { (workers ≡ 0) ⊎ (most_workers < workers) ⊎ (most_jobs < count) →
         out.new ≡ out.old }
     ensures fault { IfErr result (IsRunFaultOf workers count) }
-    // A job that has exited has exited with a value of the program's definition; one that was stopped has its cause.
-    ensures written { OnOk result (WritesJobs program.verified.program program.verified.ctx_len count
-        (W.contents out.old) (W.contents out.new)) }
-    ensures part { IfErr result (WritesPart program.verified.program program.verified.ctx_len count
-        (W.contents out.old) (W.contents out.new)) }
+    // A job that has exited has exited with a value of the program's definition; of one that was stopped nothing is known.
+    ensures written { OnOk result (WritesJobs program.verified.program program.verified.shapes
+        program.verified.ctx_len count (W.contents out.old) (W.contents out.new)) }
+    ensures part { IfErr result (WritesPart program.verified.program program.verified.shapes
+        program.verified.ctx_len count (W.contents out.old) (W.contents out.new)) }
 {
     if workers == 0 || workers > MAX_WORKERS as u64 {
         return Err(RunFault::Pool(PoolFault::BadWorkers));

@@ -25,7 +25,8 @@ impl World {
             program.now.shapes program.now.ctx_len ctx.now.items n → ⊥) }
 
         // The value is one of the program's definition, and without map references the only one.
-        ensures may { IfSome result (λ n. MayExitAs program.now.program ctx.now.items n) }
+        ensures may { IfSome result (λ n. MayExitAs program.now.program
+            program.now.shapes ctx.now.items n) }
         ensures alone { IfSome result (λ n. HasNoMaps program.now.program →
             ExitsAs program.now.program ctx.now.items n) }
     {

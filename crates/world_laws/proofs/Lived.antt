@@ -167,30 +167,28 @@ module _ (w : WorldView) (r : ℕ) (code : List Insn) (shapes : List MapShape) (
   same-program = same_Some stands.0.program h.program (sym stands.2.program ∙
       (ap (λ (ps : List Loaded). slice_get ps h.run.program) (sym is.tracks.refines.programs) ∙ h.loaded))
 
-  pub may_exit_as : (x : MayExitAs code context n) × (x.shapes ≡ shapes)
+  pub may_exit_as : MayExitAs code shapes context n
   may_exit_as =
       let x = (reached_has_lived (shapes_of w) w.programs is.schedule is.ready.verified
       is.tracks.reached r stands.0 (ap option_flatten stands.1)).ended n (sym stands.2.words.exit ∙ h.ended) in
       let asked : AreMapsBound shapes stands.0.program.maps is.schedule.machine.store.maps =
       subst (λ (l : Loaded). AreMapsBound shapes l.maps is.schedule.machine.store.maps) (sym same-program)
       (bound-behind w is.schedule is.tracks.refines shapes h.program.maps h.bound) in
-      let same : x.0 ≡ shapes = bound-alike x.0 shapes stands.0.program.maps is.schedule.machine.store.maps x.1 asked in (
-        record {
-          program = stands.0.program;
-          code_is = ap (λ (l : Loaded). l.code) same-program ∙ h.code_is;
-          shapes = shapes;
-          steps = x.2.0;
-          exits = subst (λ (l : List MapShape). MayExitWith l stands.0.program context x.2.0 n) same
-              (subst (λ (c : List ℕ). MayExitWith x.0 stands.0.program c x.2.0 n) (sym stands.2.words.context ∙ h.context_is) x.2.1);
-        },
-        refl,
-      )
+      let same : x.0 ≡ shapes = bound-alike x.0 shapes stands.0.program.maps is.schedule.machine.store.maps x.1 asked in
+      record {
+        program = stands.0.program;
+        code_is = ap (λ (l : Loaded). l.code) same-program ∙ h.code_is;
+        steps = x.2.0;
+        exits = subst (λ (l : List MapShape). MayExitWith l stands.0.program context x.2.0 n) same
+            (subst (λ (c : List ℕ). MayExitWith x.0 stands.0.program c x.2.0 n) (sym stands.2.words.context ∙ h.context_is) x.2.1);
+      }
 
 -- without map references it is the one exit
-pub exits_as : (code : List Insn) (context : List ℕ) (n : ℕ) → HasNoMaps code → MayExitAs code context n → ExitsAs code context n
-exits_as code context n none x = record {
+pub exits_as : (code : List Insn) (shapes : List MapShape) (context : List ℕ) (n : ℕ) → HasNoMaps code →
+    MayExitAs code shapes context n → ExitsAs code context n
+exits_as code shapes context n none x = record {
   program = x.program;
   code_is = x.code_is;
   steps = x.steps;
-  exits = exits_alone x.shapes x.program context x.steps n (subst HasNoMaps (sym x.code_is) none) x.exits;
+  exits = exits_alone shapes x.program context x.steps n (subst HasNoMaps (sym x.code_is) none) x.exits;
 }

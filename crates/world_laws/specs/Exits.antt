@@ -6,12 +6,12 @@ use Rattle.bpf_model.specs.Exit.{ExitsWith}
 use Rattle.bpf_model.specs.Machine.{Loaded}
 use Rattle.plan_laws.specs.MayExit.{MayExitWith}
 
--- A program of these instructions that runs on this context may exit with this value, among maps for
--- which it was verified, of these shapes.
-pub record MayExitAs (code : List Insn) (context : List ℕ) (n : ℕ) : Type 0 where
+-- A program of these instructions that runs on this context may exit with this value, among maps of
+-- these shapes, for which it was verified.
+pub record MayExitAs (code : List Insn) (shapes : List MapShape) (context : List ℕ) (n : ℕ)
+    : Type 0 where
   pub program : Loaded
   pub code_is : program.code ≡ code
-  pub shapes : List MapShape
   pub steps : ℕ
   pub exits : MayExitWith shapes program context steps n
 

@@ -19,7 +19,7 @@ pub fn exited_as_defined()
     ensures may { (w : WorldView) (r : ℕ) (code : List Insn) (shapes : List MapShape)
         (context_len : ℕ) (context : List ℕ) (n : ℕ) → IsWorld w →
         HasExited w r code shapes context_len context n →
-        (x : MayExitAs code context n) × (x.shapes ≡ shapes) }
+        MayExitAs code shapes context n }
     ensures alone { (w : WorldView) (r : ℕ) (code : List Insn) (shapes : List MapShape)
         (context_len : ℕ) (context : List ℕ) (n : ℕ) → IsWorld w → HasNoMaps code →
         HasExited w r code shapes context_len context n → ExitsAs code context n }

@@ -5,23 +5,25 @@ ghost use Rattle.shared_books.specs.Noted.{IsExitNote};
 use crate::state::State;
 use bpf_model::{CtxBytes, ProgId, RunId, array_of};
 use shared_books::Worker;
-use std::marker::Model;
+use std::marker::{Model, PhantomData};
 use std::sync::ledger::Ledger;
 use verifier::Verified;
 
 /// What one call of `exit_noted` answered: who asked, how many entries this worker has made, the run, the
-/// program and the context that were asked for, and the exit value. None is ever copied.
-#[derive(Debug, Drop)]
-pub struct ExitNote {
+/// program and the context that were asked for, and the exit value. None is ever copied. It is of the shared world of
+/// its ledger, which is the only one of this ledger.
+#[derive(Drop)]
+pub struct ExitNote<L: Ledger> {
     worker: u8,
     made: u64,
     run: RunId,
     prog: ProgId,
     context: CtxBytes,
     exit: Option<u64>,
+    ledger: PhantomData<L>,
 }
 
-impl Model for ExitNote {
+impl<L: Ledger> Model for ExitNote<L> {
     ghost use Rattle.shared_books.specs.Receipts.{NoteView};
 
     ghost Value = { NoteView };
@@ -45,7 +47,7 @@ impl<L: Ledger> State<L> {
         prog: ProgId,
         program: Option<&Verified>,
         ctx: &CtxBytes,
-    ) -> ExitNote
+    ) -> ExitNote<L>
         ensures noted { IsExitNote self.now.books.world worker.now run prog
             (option_copied program.entry) ctx.now.items result }
     {
@@ -57,11 +59,12 @@ impl<L: Ledger> State<L> {
             prog,
             context: array_of(ctx.as_slice()),
             exit,
+            ledger: PhantomData,
         }
     }
 }
 
-impl ExitNote {
+impl<L: Ledger> ExitNote<L> {
     /// The number of the worker that asked.
     pub fn worker(&self) -> u8
         ensures { result ≡ self.now.worker }

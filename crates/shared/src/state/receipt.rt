@@ -5,21 +5,23 @@ ghost use Rattle.shared_books.specs.Noted.{IsEntered};
 use crate::state::State;
 use bpf_model::{Answer, Event};
 use shared_books::{SharedFault, Worker};
-use std::marker::Model;
+use std::marker::{Model, PhantomData};
 use std::sync::Wait;
 use std::sync::ledger::Ledger;
 
 /// What one call of `act_noted` did, or the last of `act_again` that was given it: who called, the event, the
-/// answer, and how many entries the worker has made. None is ever copied.
-#[derive(Debug, Drop)]
-pub struct Receipt {
+/// answer, and how many entries the worker has made. None is ever copied. It is of the shared world of its ledger, which
+/// is the only one of this ledger.
+#[derive(Drop)]
+pub struct Receipt<L: Ledger> {
     worker: u8,
     made: u64,
     event: Event,
     reply: Result<Answer, SharedFault>,
+    ledger: PhantomData<L>,
 }
 
-impl Model for Receipt {
+impl<L: Ledger> Model for Receipt<L> {
     ghost use Rattle.shared_books.specs.Receipts.{ReceiptView};
 
     ghost Value = { ReceiptView };
@@ -34,7 +36,7 @@ impl Model for Receipt {
 
 impl<L: Ledger> State<L> {
     /// Applies the event, enters it and writes the counters, or changes nothing. The receipt says which.
-    pub fn act_noted<R: Wait>(&mut self, rt: &R, worker: &mut Worker<L>, event: Event) -> Receipt
+    pub fn act_noted<R: Wait>(&mut self, rt: &R, worker: &mut Worker<L>, event: Event) -> Receipt<L>
         ensures noted { IsEntered self.old.books worker.old event result self.new.books worker.new }
         ensures cell { self.new.meter ≡ self.old.meter }
     {
@@ -43,6 +45,7 @@ impl<L: Ledger> State<L> {
             made: worker.made(),
             event,
             reply: Ok(Answer::Moved),
+            ledger: PhantomData,
         };
         self.act_again(rt, worker, &mut receipt);
         receipt
@@ -50,7 +53,7 @@ impl<L: Ledger> State<L> {
 
     /// Applies the event of a receipt, enters it and writes the counters, or changes nothing. The receipt is then
     /// that of this call.
-    pub fn act_again<R: Wait>(&mut self, rt: &R, worker: &mut Worker<L>, receipt: &mut Receipt)
+    pub fn act_again<R: Wait>(&mut self, rt: &R, worker: &mut Worker<L>, receipt: &mut Receipt<L>)
         ensures noted { IsEntered self.old.books worker.old receipt.old.event receipt.new
             self.new.books worker.new }
         ensures cell { self.new.meter ≡ self.old.meter }
@@ -68,7 +71,7 @@ impl<L: Ledger> State<L> {
     }
 }
 
-impl Receipt {
+impl<L: Ledger> Receipt<L> {
     /// Has an answer for a reply, whatever it is, where the reply was a fault.
     fn forget_fault(&mut self)
         ensures answer { IsOk self.new.reply }

@@ -1,5 +1,5 @@
 //! Many steps of one run at once.
-ghost use Rattle.std.specs.Prelude.{◌≡◌, ◌≢◌, ◌⊎◌, ◌+◌, ◌^◌, ◌<◌, ◌≤◌, ◌++◌, length, replicate, true};
+ghost use Rattle.std.specs.Prelude.{◌≡◌, ◌≢◌, ◌⊎◌, ◌↔◌, ◌+◌, ◌^◌, ◌<◌, ◌≤◌, ◌++◌, length, replicate, true};
 ghost use Rattle.bpf_model.specs.declared.event.Event.{Event};
 ghost use Rattle.bpf_model.specs.declared.event.Answer.{Answer};
 ghost use Rattle.journal.specs.Rows.{entry_from};
@@ -53,7 +53,7 @@ fn enter_moves(journal: &mut Journal, worker: u8, run: RunId, count: usize)
 
 /// Why there is no room.
 fn end_of(fault: SharedFault) -> StepsEnd
-    ensures full { result ≡ StepsEnd.Full → fault ≡ SharedFault.JournalFull }
+    ensures full { (result ≡ StepsEnd.Full) ↔ (fault ≡ SharedFault.JournalFull) }
     ensures room { (result ≡ StepsEnd.Full) ⊎ (result ≡ StepsEnd.Memory) }
 {
     match fault {
@@ -98,6 +98,7 @@ impl<L: Ledger> Books<L> {
         ensures exits { result.end ≡ StepsEnd.Exits → WouldExit self.new.world run }
         ensures refused { result.end ≡ StepsEnd.Refused → WouldBeRefused self.new.world run }
         ensures full { result.end ≡ StepsEnd.Full → IsJournalFull self.new }
+        ensures no_room { IsJournalFull self.old → result.end ≡ StepsEnd.Full }
         ensures memory { result.end ≡ StepsEnd.Memory → result.moved ≡ 0 }
     {
         if let Err(fault) = make_room(&mut self.journal, self.before) {

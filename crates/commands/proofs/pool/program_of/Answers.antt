@@ -6,8 +6,9 @@ use Rattle.commands.proofs.pool.program_of.Goals as goal
 pub returns-clause-found : goal.returns-clause-found
 returns-clause-found c bytes h =
     program_found bytes c.in_ok-source.source c.in_ok-verified.verified.program
-    c.in_ok-verified.verified.ctx_len (c.in_ok-source.ensures.found bytes h) c.in_ok-verified.ensures.graph
-    c.in_ok-verified.ensures.verified c.in_ok-verified.ensures.program c.in_ok-verified.ensures.context
+    c.in_ok-verified.verified.shapes c.in_ok-verified.verified.ctx_len (c.in_ok-source.ensures.found bytes h) c.in_ok-verified.ensures.graph
+    c.in_ok-verified.ensures.verified c.in_ok-verified.ensures.program c.in_ok-verified.ensures.shapes
+    c.in_ok-verified.ensures.context
 
 pub returns-in_err-verified-clause-refused : goal.returns-in_err-verified-clause-refused
 returns-in_err-verified-clause-refused c bytes h =

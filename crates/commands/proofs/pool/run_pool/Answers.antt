@@ -25,7 +25,7 @@ returns-in-Ok-run_program-clause-pooled g c zero =
     let contents = g.W.Write.contents in
     let last = so_written c.write_entries.result c.written.result c.written.ensures zero c.write_entries.ensures in
     IfSome_then (g.R.Read.remaining c.args.input.now) c.in-Ok.ensures
-    (λ bytes holds. pool_written bytes p.program p.ctx_len c.args.size.count c.in-Ok-run_program.entries
+    (λ bytes holds. pool_written bytes p.program p.shapes p.ctx_len c.args.size.count c.in-Ok-run_program.entries
     (contents c.args.out.now) (contents c.run_program.new.out) (contents c.write_entries.new.out)
     (c.in-Ok-program_of.ensures.found bytes holds) c.in-Ok-run_program.ensures.written last)
 
@@ -40,7 +40,7 @@ returns-in-Err-Pool-clause-refused g c one =
       v,
       not_so (v.code ≡ memory_number) c.told_of_size.result told.memory one,
       not_so (v.code ≡ pool_fault_number Lost) c.told_of_size.result told.lost one,
-      pool_told c.args.size.workers c.args.size.count bytes p.program p.ctx_len c.in-Err-Pool.fault v
+      pool_told c.args.size.workers c.args.size.count bytes p.program p.shapes p.ctx_len c.in-Err-Pool.fault v
           (c.in-Ok-program_of.ensures.found bytes holds) fault
           (subst (λ (n : ℕ). IsPlainVerdict n v) c.code.ensures c.plain_verdict.ensures),
     ))

@@ -1,8 +1,7 @@
 use Rattle.std.proofs.Common.{◌∙◌, ap, sym}
-use Rattle.hash_index.specs.Chains.{mixed_hash}
-use Rattle.hash_index.specs.declared.hash.TheConstants.{HASH_START}
+use Rattle.hash_index.specs.Chains.{mixed_hash, hash_start}
 use Rattle.hash_index.proofs.Short.{half_hashed}
 use Rattle.hash_index.proofs.hash.half_hash.Goals as goal
 
 pub returns : goal.returns
-returns c = c.mix.ensures ∙ (ap (mixed_hash HASH_START) c.half_word.ensures ∙ sym (half_hashed c.args.key.now c.requires))
+returns c = c.mix.ensures ∙ (ap (mixed_hash hash_start) c.half_word.ensures ∙ sym (half_hashed c.args.key.now c.requires))

@@ -1,8 +1,7 @@
 use Rattle.std.proofs.Common.{◌∙◌, ap, sym}
-use Rattle.hash_index.specs.Chains.{mixed_hash}
-use Rattle.hash_index.specs.declared.hash.TheConstants.{HASH_START}
+use Rattle.hash_index.specs.Chains.{mixed_hash, hash_start}
 use Rattle.hash_index.proofs.Short.{word_hashed}
 use Rattle.hash_index.proofs.hash.word_hash.Goals as goal
 
 pub returns : goal.returns
-returns c = c.mix.ensures ∙ (ap (mixed_hash HASH_START) c.word_at_start.ensures ∙ sym (word_hashed c.args.key.now c.requires))
+returns c = c.mix.ensures ∙ (ap (mixed_hash hash_start) c.word_at_start.ensures ∙ sym (word_hashed c.args.key.now c.requires))

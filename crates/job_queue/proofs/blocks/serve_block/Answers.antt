@@ -1,6 +1,8 @@
 use Rattle.std.proofs.Common.{rules, ◌≡◌, ◌++◌, ◌∷◌, [], subst, take, ◌+◌}
 use Rattle.std.specs.List.{AllZip}
+use Rattle.job_queue.specs.Turns.{ServesEach}
 use Rattle.job_queue.proofs.BlockResults.{one_more_result}
+use Rattle.job_queue.proofs.Turns.{one_more_served}
 use Rattle.job_queue.proofs.blocks.serve_block.Goals as goal
 
 -- src/blocks.rt:61:5
@@ -13,6 +15,7 @@ loop-job-preserved g c =
     let was = c.loop-job.worker in
     let is = c.serve-served.new.worker in
     let fits = g.S.Serve.fits c.args.serve.now in
+    let gains = g.S.Serve.gains c.args.serve.now in
     let one = c.serve-served.result in
     let back : c.loop-job.results.items ++ one ∷ [] ≡ c.push_reserved.new.self.items = search rules in
     record {
@@ -27,4 +30,7 @@ loop-job-preserved g c =
           (subst (λ z. fits first is z one) c.job-item.is
           (laws.fits_wider c.args.serve.now first was is is c.job-item.result one i.later_now (laws.later_same is)
           e.fits)));
+      gained = subst (λ z. ServesEach gains first (take (c.loop-job.job-index + 1) c.args.jobs.now) z is) back
+          (one_more_served gains first was is c.args.jobs.now c.loop-job.job-index c.job-item.result c.loop-job.results.items one
+          c.loop-job-test.true i.gained (subst (λ z. gains was is z one) c.job-item.is e.gains));
     }

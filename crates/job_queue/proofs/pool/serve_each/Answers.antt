@@ -2,10 +2,11 @@ use Rattle.std.proofs.Common.{◌≡◌, ◌++◌, ◌-◌, length, map, take, s
 use Rattle.std.specs.Prelude.{All}
 use Rattle.std.proofs.lemmas.List.{take-append-drop, length-map, length-drop, length-take-le}
 use Rattle.std.proofs.lemmas.List.Elements.{All-take}
-use Rattle.job_queue.specs.Blocks.{InBlocks}
+use Rattle.job_queue.specs.Blocks.{InBlocks, ServesBlock}
 use Rattle.job_queue.specs.Serving.{AreRightLines}
 use Rattle.job_queue.specs.Sheet.{worker_of}
 use Rattle.job_queue.proofs.Serving.{results_right}
+use Rattle.job_queue.proofs.Turns.{turns_read}
 use Rattle.job_queue.proofs.pool.serve_each.Goals as goal
 
 pub serve_at-requires-clause-ready : goal.serve_at-requires-clause-ready
@@ -38,3 +39,11 @@ returns-then-serve_at-clause-each g c =
     let lines = c.serve_at.new.sheet.lines.items in
     results_right fits c.args.blocks.now c.args.workers.now.items after lines c.read_out.result.items
     (subst (λ z. AreRightLines fits c.args.blocks.now z after lines) whole c.serve_at.ensures.lines) c.read_out.ensures.lines
+
+pub returns-then-serve_at-clause-turns : goal.returns-then-serve_at-clause-turns
+returns-then-serve_at-clause-turns g c =
+    let whole = ap (λ z. z ++ map worker_of c.in-Ok.stations.items) c.in-Ok.ensures.workers ∙
+    (ap (λ z. take c.args.first c.args.workers.now.items ++ z) c.in-Ok.ensures.stations ∙
+    take-append-drop c.args.first c.args.workers.now.items) in
+    turns_read (ServesBlock (g.S.Serve.gains c.args.serve.now)) c.args.blocks.now _ c.args.workers.now.items c.serve_at.new.workers.items
+    c.serve_at.new.sheet.lines.items c.read_out.result.items whole c.read_out.ensures.lines (c.serve_at.ensures.turns c.if-serve_at.true)

@@ -4,7 +4,7 @@ use Rattle.std.proofs.lemmas.List.Elements.{All-append, All-cons, All-drop, All-
 use Rattle.std.proofs.lemmas.List.{map-append}
 use Rattle.crossbeam_queue.specs.Passes.{IsPassOf}
 use Rattle.job_queue.specs.declared.numbers.PassView.{PassView}
-use Rattle.job_queue.specs.Serving.{IsNewStation}
+use Rattle.job_queue.specs.Stations.{IsNewStation}
 use Rattle.job_queue.specs.Sheet.{worker_of}
 use Rattle.job_queue.proofs.QueueRule.{forks}
 use Rattle.job_queue.proofs.pool.stations_of.Goals as goal

@@ -2,7 +2,7 @@ use Rattle.std.proofs.Common.{◌≡◌, ◌+◌, ◌≤◌, [], vec_len, vec_ca
 use Rattle.std.specs.Prelude.{All}
 use Rattle.crossbeam_queue.specs.Passes.{view, IsPassOf}
 use Rattle.job_queue.specs.Numbers.{putter}
-use Rattle.job_queue.specs.Serving.{IsNewStation}
+use Rattle.job_queue.specs.Stations.{IsNewStation}
 use Rattle.job_queue.specs.Sheet.{worker_of}
 use Rattle.job_queue.proofs.pool.stations_of.Given as goal
 

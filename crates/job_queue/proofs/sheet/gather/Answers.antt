@@ -4,11 +4,12 @@ use Rattle.std.proofs.lemmas.List.{map-append, append_assoc}
 use Rattle.std.proofs.lemmas.List.Elements.{All-head, All-tail}
 use Rattle.crossbeam_queue.specs.Passes.{view, IsPassOf}
 use Rattle.job_queue.specs.declared.numbers.PassView.{PassView}
-use Rattle.job_queue.specs.Numbers.{WasTaken, with_taken_of}
-use Rattle.job_queue.specs.Serving.{IsKept}
+use Rattle.job_queue.specs.Numbers.{times, WasTaken, with_taken_of}
+use Rattle.job_queue.specs.Stations.{IsKept}
 use Rattle.job_queue.specs.Sheet.{worker_of}
 use Rattle.job_queue.proofs.QueueRule.{merges, taken_of_either}
 use Rattle.job_queue.proofs.Serving.{stands_before, stands_last}
+use Rattle.job_queue.proofs.Turns.{took_more}
 use Rattle.job_queue.proofs.sheet.gather.Goals as goal
 
 pub absorb-requires-clause-rule : goal.absorb-requires-clause-rule
@@ -52,6 +53,7 @@ loop-station-preserved g c =
           (λ theirs. e.entered k (let n = i.count in omega (arith, low, n)) (mine.results k theirs low))
           (λ old. e.stays k (i.taken k low old))
           (taken_of_either k (view s.pass).taken (view c.loop-station.pass).taken (subst (λ (z : PassView). WasTaken k z.taken) is was));
+      counted = λ k. ap (λ (z : PassView). times k z.taken) is ∙ took_more k (view c.loop-station.pass) xs s (i.counted k);
     }
 
 pub loop-station-init : goal.loop-station-init
@@ -70,4 +72,5 @@ loop-station-init g c =
       count = search rules;
       lines = λ k served at. inl at;
       taken = λ k low was. absurd (subst (λ (z : PassView). WasTaken k z.taken) knows was);
+      counted = λ k. ap (λ (z : PassView). times k z.taken) knows;
     }

@@ -1,8 +1,8 @@
 use Rattle.std.proofs.Common.{◌≡◌, ◌⊎◌, ◌++◌, ◌<◌, ℕ, true, map, vec_len, vec_capacity, Some, length}
 use Rattle.std.specs.Prelude.{slice_get, All}
 use Rattle.crossbeam_queue.specs.Passes.{view, IsPassOf}
-use Rattle.job_queue.specs.Numbers.{WasTaken}
-use Rattle.job_queue.specs.Serving.{IsKept}
+use Rattle.job_queue.specs.Numbers.{times, WasTaken}
+use Rattle.job_queue.specs.Stations.{IsKept, times_taken}
 use Rattle.job_queue.specs.Sheet.{HasLine, StandsIn, worker_of}
 use Rattle.job_queue.proofs.sheet.gather.Given as goal
 
@@ -20,4 +20,5 @@ invariant-loop-station g l = record {
   lines : (k : ℕ) (served : g.row.T.Denot) → slice_get l.sheet.lines.items k ≡ Some (Some served) →
       (slice_get l.fn.sheet.lines.items k ≡ Some (Some served)) ⊎ StandsIn l.yielded k served;
   taken : (k : ℕ) → k < vec_len l.fn.sheet.lines → WasTaken k (view l.pass).taken → HasLine l.sheet.lines.items k;
+  counted : (k : ℕ) → times k (view l.pass).taken ≡ times_taken k l.yielded;
 }

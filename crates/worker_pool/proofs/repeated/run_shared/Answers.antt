@@ -6,13 +6,15 @@ pub returns-in_err-entries-clause-part : goal.returns-in_err-entries-clause-part
 returns-in_err-entries-clause-part g c =
     let v = c.args.program.verified in
     let p = err_from_is_err_and c.from_residual.result c.from_residual.ensures.1 in
-    rw (p.1, p.2) (c.in_err-entries.ensures.part v.program v.ctx_len
-    (runs_of v.program c.ctx_len.result v.ctx_len c.in-Ok-shared.shared c.zero_job-job.result c.in-Ok-shared.ensures.codes c.ctx_len.ensures.value
+    rw (p.1, p.2) (c.in_err-entries.ensures.part v.program v.shapes v.ctx_len
+    (runs_of v.program v.shapes c.ctx_len.result v.ctx_len c.in-Ok-shared.shared c.zero_job-job.result
+    (record { code = c.in-Ok-shared.ensures.codes; maps = c.in-Ok-shared.ensures.shapes }) c.ctx_len.ensures.value
     c.zero_job-job.ensures))
 
 pub returns-clause-written : goal.returns-clause-written
 returns-clause-written g c =
     let v = c.args.program.verified in
-    c.in_ok-entries.ensures.written v.program v.ctx_len
-    (runs_of v.program c.ctx_len.result v.ctx_len c.in-Ok-shared.shared c.zero_job-job.result c.in-Ok-shared.ensures.codes c.ctx_len.ensures.value
+    c.in_ok-entries.ensures.written v.program v.shapes v.ctx_len
+    (runs_of v.program v.shapes c.ctx_len.result v.ctx_len c.in-Ok-shared.shared c.zero_job-job.result
+    (record { code = c.in-Ok-shared.ensures.codes; maps = c.in-Ok-shared.ensures.shapes }) c.ctx_len.ensures.value
     c.zero_job-job.ensures)

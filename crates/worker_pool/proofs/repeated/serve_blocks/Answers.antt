@@ -42,5 +42,5 @@ returns-in_err-write_texts-clause-part g c =
     let part = c.in_err-write_texts.ensures.part first end (contents c.args.out.now) are at.written in
     let up : end ≤ c.args.count = omega arith in
     let p = err_from_is_err_and c.from_residual-in_err-write_texts.result c.from_residual-in_err-write_texts.ensures.1 in
-    rw (p.1, p.2) (λ program len runs. part_of_more program len end c.args.count (contents c.args.out.now) (contents c.write_texts.new.out)
-    _ up (part program len runs))
+    rw (p.1, p.2) (λ program shapes len runs. part_of_more program shapes len end c.args.count (contents c.args.out.now) (contents c.write_texts.new.out)
+    _ up (part program shapes len runs))

@@ -6,4 +6,4 @@ returns-clause-may c = may_exit_as
 
 pub returns-clause-alone : goal.returns-clause-alone
 returns-clause-alone c = λ w r code shapes context_len context n is none h.
-    exits_as code context n none (may_exit_as w r code shapes context_len context n is h).0
+    exits_as code shapes context n none (may_exit_as w r code shapes context_len context n is h)

@@ -36,11 +36,11 @@ loop-index-preserved g c =
     }
 
 pub returns-in-None-clause-part : goal.returns-in-None-clause-part
-returns-in-None-clause-part g c = λ first end old are was program len runs.
+returns-in-None-clause-part g c = λ first end old are was program shapes len runs.
     let at = c.loop-index.invariant.kept first end old are was in (
       at.0,
       batches_up at.0 end (drop c.loop-index.index c.args.batches.now) at.1,
-      at.2 program len runs,
+      at.2 program shapes len runs,
     )
 
 pub returns-clause-written : goal.returns-clause-written

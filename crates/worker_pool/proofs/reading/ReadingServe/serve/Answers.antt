@@ -5,6 +5,7 @@ use Rattle.std.proofs.lemmas.Option.{slice_get_read}
 use Rattle.verifier.specs.Checked.{Checked}
 use Rattle.worker_pool.specs.declared.job.Outcome.TheVariants.{Exit}
 use Rattle.worker_pool.specs.TableJobs.{IsTableOutcome}
+use Rattle.worker_pool.proofs.TableJobs.{gains_nothing}
 use Rattle.worker_pool.proofs.reading.ReadingServe.serve.Goals as goal
 
 pub returns-in-Ok-clause-fits : goal.returns-in-Ok-clause-fits
@@ -49,3 +50,19 @@ returns-in-Err-clause-fits g c =
     subst (λ (o : Option Checked). IsTableOutcome t.mine t.name (t.IsRun c.args.self.now.table.now) t.Refuses c.args.seat.now
     c.run.new.seat c.args.job.now o c.unbegun-in-Err.result.outcome) (sym here)
     (inr (inl (long, uses, c.unbegun-in-Err.ensures)))
+
+pub returns-in-Ok-clause-gains : goal.returns-in-Ok-clause-gains
+returns-in-Ok-clause-gains g c =
+    let v = c.in-Some.verified.now in
+    let here : slice_get c.args.self.now.programs.now c.args.job.now.prog ≡ Some v =
+    (let q = c.in-Some.ensures.lookup in ap (λ (n : ℕ). slice_get c.args.self.now.programs.now n)
+    (sym c.index.ensures) ∙ slice_get_read c.args.self.now.programs.now (length c.args.self.now.programs.now)
+    c.index.result v refl q.3.0 q.1) in
+    let r = c.in-Ok.ensures.runs in
+    record { same = c.in-Ok.ensures.name; moves = r.moves; list = r.list; of_job = (v, here, r.steps, r.run) }
+
+pub returns-in-Err-clause-gains : goal.returns-in-Err-clause-gains
+returns-in-Err-clause-gains g c =
+    let t = g.T.RunsPrograms in
+    gains_nothing t.mine t.name (t.IsRun c.args.self.now.table.now) c.args.self.now.programs.now c.args.seat.now c.run.new.seat
+    c.args.job.now c.unbegun-in-Err.result _ c.in-Err.ensures.unchanged c.unbegun-in-Err.ensures
