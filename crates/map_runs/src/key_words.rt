@@ -9,6 +9,15 @@ use map_table::MAX_WORDS;
 /// How many bytes a word has.
 pub(crate) const WORD_BYTES: usize = 8;
 
+/// The word of a key of one.
+#[inline]
+pub(crate) fn word_of(key: &[u8]) -> u64
+    requires { length key.now ≡ 8 }
+    ensures { number_at (slice_get key.now) 0 8 ≡ Some result }
+{
+    number_of(key, 0, Width::Eight)
+}
+
 /// The words of a key of so many, and zeros behind them.
 #[inline]
 pub(crate) fn words_of(key: &[u8], count: usize) -> [u64; MAX_WORDS]

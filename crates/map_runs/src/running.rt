@@ -5,7 +5,7 @@ ghost use Rattle.shared_runs.specs.Words.{StoresSubWords};
 ghost use Rattle.map_runs.specs.Running.{HasFound, HasHeld, HasMet, HasOwn, RunsShared, ServesMaps};
 ghost use Rattle.map_runs.specs.Table.{table_of};
 
-use crate::key_words::words_of;
+use crate::key_words::{word_of, words_of};
 use bpf_model::CtxBytes;
 use map_table::{MapTable, ReadSeat};
 use shared_runs::{RunsPrograms, ServesRuns, SubWord, has_lengths, run_over, stores_sub_words};
@@ -75,6 +75,10 @@ impl<'a> ServesRuns for Placed<'a> {
     fn look_up(words: &Placed<'a>, seat: &mut ReadSeat, map: usize, key: &[u8]) -> Option<usize> {
         let _ = map;
         let count = words.table.shape().key_words;
+        if count == 1 {
+            // A key of one word takes no loop.
+            return words.table.lookup(seat, &[word_of(key)]);
+        }
         let key = words_of(key, count);
         words.table.lookup(seat, &key[..count])
     }

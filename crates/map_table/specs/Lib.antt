@@ -5,5 +5,6 @@ pub mod Law
 pub mod Limits
 pub mod Search
 pub mod Sightings
+pub mod Sip
 pub mod Values
 pub mod Writing

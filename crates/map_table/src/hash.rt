@@ -1,18 +1,19 @@
 //! Where a key may be linked.
 ghost use Rattle.std.specs.Prelude.{◌≡◌, ◌≢◌, ◌⊎◌, ◌+◌, ◌*◌, ◌%◌, ◌<◌, ◌≤◌, ◌^◌, IfSome, IsNone};
 ghost use Rattle.map_table.specs.Limits.{most_buckets};
-ghost use Rattle.map_table.specs.Hashes.{mixed, hash_from, bucket_by, first_bucket, second_bucket, tag_of};
+ghost use Rattle.map_table.specs.Hashes.{bucket_by, first_bucket, second_bucket, tag_of};
 ghost use Rattle.map_table_laws.specs.Layout.{bucket_ways, Names, tag_in};
 ghost use Rattle.map_table.specs.Law.{ways_of};
 ghost use Rattle.map_table.specs.Held.{IsSized};
 
 use crate::limits::BUCKET_WAYS;
+use crate::sip::hash_words;
 use crate::view::TableShape;
 
-/// What a hash is multiplied by after each word: 2^64 over the golden ratio, which is odd.
-const WORD_FACTOR: u64 = 11_400_714_819_323_198_485;
+/// What a hash is multiplied by for the second bucket: 2^64 over the golden ratio, which is odd.
+const SECOND_FACTOR: u64 = 11_400_714_819_323_198_485;
 
-/// The first way of each of the two buckets where a key may be linked, and the tag that its way has. Nothing is promised of
+/// The first way of each of the two buckets where a key may be linked, and the tag that its way has. No contract promises
 /// how keys spread.
 #[derive(Clone, Copy)]
 pub(crate) struct Candidates {
@@ -21,29 +22,8 @@ pub(crate) struct Candidates {
     pub tag: u64,
 }
 
-/// A hash after one more word.
-#[inline]
-fn mix(hash: u64, word: u64) -> u64
-    ensures { result ≡ mixed hash word }
-{
-    let product = (hash ^ word).wrapping_mul(WORD_FACTOR);
-    product ^ (product >> 32)
-}
-
-/// A hash of some words.
-#[inline]
-fn hash_of(seed: u64, key: &[u64]) -> u64
-    ensures { result ≡ hash_from seed key.now }
-{
-    let mut hash = seed;
-    for at in 0..key.len() {
-        hash = mix(hash, key[at]);
-    }
-    hash
-}
-
 /// The bucket that the high half of a hash chooses.
-#[inline]
+#[inline(always)]
 fn bucket(hash: u64, buckets: usize) -> usize
     requires { (0 < buckets) × (buckets ≤ most_buckets) }
     ensures bucket { result ≡ bucket_by buckets hash }
@@ -53,7 +33,7 @@ fn bucket(hash: u64, buckets: usize) -> usize
 }
 
 /// The candidates of a key.
-#[inline]
+#[inline(always)]
 pub(crate) fn candidates_of(shape: TableShape, key: &[u64]) -> Candidates
     requires { IsSized shape }
     ensures first { result.first ≡ first_bucket shape key.now * bucket_ways }
@@ -63,17 +43,17 @@ pub(crate) fn candidates_of(shape: TableShape, key: &[u64]) -> Candidates
     ensures second_within { result.second + bucket_ways ≤ ways_of shape }
     ensures tag_within { result.tag < 2 ^ 32 }
 {
-    let hash = hash_of(shape.seed, key);
+    let hash = hash_words(shape.secret, key);
     Candidates {
         first: bucket(hash, shape.buckets) * BUCKET_WAYS,
-        second: bucket(mix(hash, 1), shape.buckets) * BUCKET_WAYS,
+        second: bucket(hash.wrapping_mul(SECOND_FACTOR), shape.buckets) * BUCKET_WAYS,
         tag: hash & 0xffff_ffff,
     }
 }
 
 /// The number of the element that a way's word names, if the word has the tag. One comparison tells: the word of the element
 /// 0 with this tag is taken from it, and what is left is the number, unless it is too large for one.
-#[inline]
+#[inline(always)]
 pub(crate) fn named(word: u64, tag: u64) -> Option<usize>
     requires { tag < 2 ^ 32 }
     ensures some { IfSome result (λ element. Names word element × (tag_in word ≡ tag)) }

@@ -5,6 +5,7 @@ ghost use Rattle.map_table.specs.Law.{width_of};
 ghost use Rattle.map_table.specs.Values.{copies_of, first_of, stored_of};
 ghost use Rattle.map_table.specs.Held.{IsSized};
 
+use crate::sip::Secret;
 use map_table_laws::Move;
 use std::collections::LinkedList;
 
@@ -17,7 +18,7 @@ pub enum Values {
     PerReader,
 }
 
-/// How many of each a table has, and what its hashes begin with. A bucket has eight ways; an element has the words of a
+/// How many of each a table has, and what its keys are spread by. A bucket has eight ways; an element has the words of a
 /// key, and those of its values behind them, `value_words` for each value.
 #[derive(Clone, Copy, Debug, PartialEq, Eq)]
 pub struct TableShape {
@@ -27,7 +28,7 @@ pub struct TableShape {
     pub key_words: usize,
     pub value_words: usize,
     pub values: Values,
-    pub seed: u64,
+    pub secret: Secret,
 }
 
 impl TableShape {

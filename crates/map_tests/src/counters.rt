@@ -5,7 +5,7 @@ ghost use Rattle.map_table.specs.Held.{IsReady};
 use crate::keys::two_seats;
 use crate::runs::{COUNT, run, verified};
 use map_runs::SubWord;
-use map_table::{MAX_READERS, MapTable, ReadSeat, TableShape, Values, Writer};
+use map_table::{MAX_READERS, MapTable, ReadSeat, Secret, TableShape, Values, Writer};
 use std::test::Fail;
 use std::thread::{Threads, for_each_mut};
 use verifier::Verified;
@@ -18,7 +18,10 @@ const COUNTERS: TableShape = TableShape {
     key_words: 1,
     value_words: 1,
     values: Values::PerReader,
-    seed: 0x1234_5678_9abc_def0,
+    secret: Secret {
+        first: 0x1234_5678_9abc_def0,
+        second: 0x0fed_cba9_8765_4321,
+    },
 };
 
 /// How often each reader counts.

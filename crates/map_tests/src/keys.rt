@@ -4,7 +4,7 @@ ghost use Rattle.map_table_laws.specs.History.{inside};
 ghost use Rattle.map_table.specs.Held.{IsKnown, IsReady};
 ghost use Rattle.map_table.specs.Values.{stored_of};
 
-use map_table::{MapTable, ReadSeat, TableShape, Values, Writer};
+use map_table::{MapTable, ReadSeat, Secret, TableShape, Values, Writer};
 use std::test::Fail;
 
 /// A table for 1,024 keys of two words and values of one, with twice as many ways.
@@ -15,7 +15,10 @@ const SHAPE: TableShape = TableShape {
     key_words: 2,
     value_words: 1,
     values: Values::Shared,
-    seed: 0x1234_5678_9abc_def0,
+    secret: Secret {
+        first: 0x1234_5678_9abc_def0,
+        second: 0x0fed_cba9_8765_4321,
+    },
 };
 
 /// The word of the value that a lookup finds, in the section that is open.

@@ -7,7 +7,7 @@ use crate::keys::two_seats;
 use bpf_model::{CtxBytes, MapKind, MapShape};
 use insn_codec::decode;
 use map_runs::{SubWord, fits, run_shared};
-use map_table::{MapTable, ReadSeat, TableShape, Values, Writer};
+use map_table::{MapTable, ReadSeat, Secret, TableShape, Values, Writer};
 use std::alloc::Global;
 use std::process::Abort;
 use std::test::Fail;
@@ -46,7 +46,10 @@ const TABLE: TableShape = TableShape {
     key_words: 1,
     value_words: 1,
     values: Values::Shared,
-    seed: 0x1234_5678_9abc_def0,
+    secret: Secret {
+        first: 0x1234_5678_9abc_def0,
+        second: 0x0fed_cba9_8765_4321,
+    },
 };
 
 /// The program of these hexadecimal digits, verified against one map and a context of a word.

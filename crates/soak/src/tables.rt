@@ -10,7 +10,7 @@ use anyhow::{Result, bail, ensure};
 use asm::assemble;
 use bpf_model::{CtxBytes, MapKind, MapShape};
 use map_runs::{fits, run_to_exit, stores_sub_words};
-use map_table::{MapTable, ReadSeat, Seats, TableShape, Values, Writer};
+use map_table::{MapTable, ReadSeat, Seats, Secret, TableShape, Values, Writer};
 use std::alloc::{AllocError, Global};
 use std::sync::atomic::{AtomicBool, Ordering};
 use std::thread::{Threads, for_each_mut, join};
@@ -36,7 +36,10 @@ const SHAPE: TableShape = TableShape {
     key_words: 1,
     value_words: 1,
     values: Values::Shared,
-    seed: 0x1234_5678_9abc_def0,
+    secret: Secret {
+        first: 0x1234_5678_9abc_def0,
+        second: 0x0fed_cba9_8765_4321,
+    },
 };
 
 /// Keys and values of 8 bytes.

@@ -5,7 +5,7 @@ ghost use Rattle.map_table.specs.Held.{IsKnown, IsReady};
 ghost use Rattle.map_table.specs.Values.{stored_of};
 
 use anyhow::{Result, bail};
-use map_table::{MapTable, ReadSeat, TableShape, Values, Writer};
+use map_table::{MapTable, ReadSeat, Secret, TableShape, Values, Writer};
 use std::alloc::Global;
 
 /// How many keys are linked.
@@ -22,7 +22,10 @@ pub const SHAPE: TableShape = TableShape {
     key_words: 1,
     value_words: 1,
     values: Values::Shared,
-    seed: 0x1234_5678_9abc_def0,
+    secret: Secret {
+        first: 0x1234_5678_9abc_def0,
+        second: 0x0fed_cba9_8765_4321,
+    },
 };
 
 /// What is done again and again.
