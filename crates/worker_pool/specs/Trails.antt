@@ -1,5 +1,5 @@
 -- When a job's trail fits its outcome.
-use Rattle.std.specs.Prelude.{◌≡◌, ◌⊎◌, ◌≤◌, ℕ, List, Option, Some, None, Result, Ok, Err}
+use Rattle.std.specs.Prelude.{◌≡◌, ◌⊎◌, ◌≤◌, ◌+◌, ℕ, List, Option, Some, None, Result, Ok, Err}
 use Rattle.std.specs.Prelude.{slice_get}
 use Rattle.bpf_model.specs.declared.event.Event.TheVariants as events
 use Rattle.bpf_model.specs.declared.event.Answer.{Answer}
@@ -43,6 +43,24 @@ IsOfWorker first last (trails.OtherRun start step note) =
     IsByWorker first last start × IsByWorker first last step
 IsOfWorker first last (trails.Ended start step note dropped) =
     IsByWorker first last start × IsByWorker first last step × IsByWorker first last dropped
+
+-- how many entries a call makes that has this reply
+abbrev pub entries_of : Result Answer SharedFault → ℕ
+entries_of (Ok answer) = 1
+entries_of (Err fault) = 0
+
+-- The receipt's call came next, after so many entries of its worker.
+abbrev pub IsNext : ℕ → ReceiptView → Type 0
+IsNext made receipt = receipt.made ≡ made + entries_of receipt.reply
+
+-- All that the worker entered from `first` to `last` are this trail's calls: the start came first, then its steps up to the one
+-- that the trail has, and last the drop, where there is one.
+abbrev pub HasOnly : {L : Type 0} → WorkerView → WorkerView → Trail L → Type 0
+HasOnly first last (trails.Unstarted start) = IsNext first.made start × (last.made ≡ start.made)
+HasOnly first last (trails.Halted start step) = IsNext first.made start × (last.made ≡ step.made)
+HasOnly first last (trails.OtherRun start step note) = IsNext first.made start × (last.made ≡ step.made)
+HasOnly first last (trails.Ended start step note dropped) =
+    IsNext first.made start × IsNext step.made dropped × (last.made ≡ dropped.made)
 
 -- The reply is no answer to the job's event, and the outcome tells why, with the run, if there is
 -- one.
@@ -129,3 +147,9 @@ pub record IsServedJob {L : Type 0} (programs : List Checked) (first last : Work
     (report : JobReport (Trail L)) : Type 0 where
   pub by : IsOfWorker first last report.trail
   pub fits : FitsJob programs job report.outcome report.trail
+
+-- The worker served the job once from `first` to `last`, and entered nothing else.
+pub record IsServedOnce {L : Type 0} (programs : List Checked) (first last : WorkerView) (job : Job)
+    (report : JobReport (Trail L)) : Type 0 where
+  pub served : IsServedJob programs first last job report
+  pub only : HasOnly first last report.trail

@@ -4,7 +4,8 @@ ghost use Rattle.std.specs.List.{AllZip};
 ghost use Rattle.job_queue.specs.declared.fault.PoolFault.{PoolFault};
 ghost use Rattle.job_queue.specs.declared.fault.PoolFault.TheVariants as faults;
 ghost use Rattle.job_queue.specs.Serving.{AreServed, IsBadCount, most_jobs};
-ghost use Rattle.worker_pool.specs.Trails.{IsLater, IsServedJob};
+ghost use Rattle.job_queue.specs.Turns.{AreSharedOut};
+ghost use Rattle.worker_pool.specs.Trails.{IsLater, IsServedJob, IsServedOnce};
 
 use crate::job::{Job, Report, Trail};
 use crate::pooled::Pooled;
@@ -45,6 +46,11 @@ pub fn run_jobs<L: Ledger + Send + Sync, R: Threads + Wait + Sync>(
     ensures later { AllZip IsLater workers.old workers.new }
     ensures count { IfOk result (λ report. vec_len report.jobs ≡ length jobs.now) }
     ensures each { IfOk result (λ report. AreServed (IsServedJob shared.now) jobs.now
+        workers.old workers.new report.jobs.items) }
+
+    // Each job is served once, and no worker entered anything else: what each entered is the calls of its jobs, one job behind
+    // another.
+    ensures shared_out { IfOk result (λ report. AreSharedOut (IsServedOnce shared.now) jobs.now
         workers.old workers.new report.jobs.items) }
 {
     let pooled = Pooled { shared };

@@ -1,9 +1,10 @@
 //! One worker serves one job.
 ghost use Rattle.std.specs.Prelude.{◌≡◌, ◌≢◌, Ok, Some, IfOk};
+ghost use Rattle.shared_books.specs.Books.{WorkerView};
 ghost use Rattle.bpf_model.specs.declared.event.Event.TheVariants.{Start, Step};
 ghost use Rattle.bpf_model.specs.declared.event.Answer.TheVariants.{Moved};
 ghost use Rattle.shared_books.specs.Receipts.{IsMachineAnswer};
-ghost use Rattle.worker_pool.specs.Trails.{IsLater, IsByWorker, WasStarted, IsOfWorker, FitsJob, IsServedJob};
+ghost use Rattle.worker_pool.specs.Trails.{IsLater, IsByWorker, WasStarted, IsOfWorker, FitsJob, HasOnly, IsNext, IsServedJob};
 
 use crate::job::{Job, JobReport, Outcome, StopCause, Trail};
 use crate::reply::{dropped, exited, has_moved, started};
@@ -61,6 +62,8 @@ fn finish_job<L: Ledger, R: Wait>(
     ensures later { IsLater worker.old worker.new }
     ensures by { IsOfWorker worker.old worker.new result.trail }
     ensures fits { FitsJob held.old job.now result.outcome result.trail }
+    ensures only { (first : WorkerView) → IsNext first.made start →
+        HasOnly first worker.new result.trail }
 {
     let step = step_to_end(rt, held, worker, run);
     if let Err(cause) = exited(step.reply(), run) {
@@ -109,6 +112,7 @@ pub(crate) fn serve_held<L: Ledger, R: Wait>(
     ensures programs { held.new ≡ held.old }
     ensures later { IsLater worker.old worker.new }
     ensures fits { IsServedJob held.old worker.old worker.new job.now result }
+    ensures only { HasOnly worker.old worker.new result.trail }
 {
     let ctx = array_of(job.ctx.as_slice());
     let event = Event::Start {
@@ -126,7 +130,7 @@ pub(crate) fn serve_held<L: Ledger, R: Wait>(
 }
 
 impl<L: Ledger + Send + Sync> Serve for Pooled<'_, L> {
-    ghost use Rattle.worker_pool.specs.Trails.{IsLater, IsServedJob};
+    ghost use Rattle.worker_pool.specs.Trails.{IsLater, IsServedJob, IsServedOnce};
     ghost use Rattle.worker_pool.specs.TrailLemmas.{later_same, later_again, served_wider};
 
     type Job = Job;
@@ -141,7 +145,7 @@ impl<L: Ledger + Send + Sync> Serve for Pooled<'_, L> {
 
     ghost fits = { λ s. IsServedJob s.shared.now };
 
-    ghost gains = { λ s. IsServedJob s.shared.now };
+    ghost gains = { λ s. IsServedOnce s.shared.now };
 
     /// Serves one job. All of it is done under the lock, which is taken once.
     fn serve<R: Wait>(&self, rt: &R, worker: &mut Worker<L>, job: &Job) -> JobReport<Trail<L>> {
