@@ -3,10 +3,10 @@ ghost use Rattle.std.specs.Prelude.{◌≡◌, ◌<◌, ◌≤◌, length};
 ghost use Rattle.map_table.specs.Held.{IsReady};
 
 use crate::keys::two_seats;
-use crate::runs::{WORDS, context_of, verified_with};
+use crate::runs::{COUNT, WORDS, context_of, verified_with};
 use bpf_model::{MapKind, MapShape};
 use map_runs::{NamedMap, SubWord, fits_named, key_in, run_named};
-use map_table::{MapTable, ReadSeat, TableShape, Values, Writer};
+use map_table::{MapTable, ReadSeat, Secret, TableShape, Values, Writer};
 use std::test::Fail;
 use verifier::Verified;
 
@@ -18,7 +18,10 @@ const TABLE: TableShape = TableShape {
     key_words: 3,
     value_words: 2,
     values: Values::Shared,
-    seed: 0x1234_5678_9abc_def0,
+    secret: Secret {
+        first: 0x1234_5678_9abc_def0,
+        second: 0x0fed_cba9_8765_4321,
+    },
 };
 
 /// Keys and values of 16 bytes.
@@ -41,6 +44,13 @@ const SINGLE: NamedMap = NamedMap {
 /// The map of pairs of words.
 const PAIR: NamedMap = NamedMap {
     name: 22,
+    key_words: 2,
+    value_words: 2,
+};
+
+/// The name of the first map with the lengths of the second.
+const SINGLE_OF_TWO: NamedMap = NamedMap {
+    name: 11,
     key_words: 2,
     value_words: 2,
 };
@@ -94,7 +104,8 @@ fn run(
 }
 
 /// Two maps of different lengths lie in one table, with the same words of a key in both. A program finds each map's own
-/// value, and none where only the other map has the key. It is not run with its maps the other way round, or with one.
+/// value, and none where only the other map has the key. It is not run with its maps the other way round, with one, or with
+/// two of one name and other lengths. Two of one name and the same lengths are one map.
 #[test]
 fn each_map_has_its_own_keys(rt: HostRuntime) -> Result<(), Fail> {
     let alloc = rt.alloc();
@@ -113,6 +124,7 @@ fn each_map_has_its_own_keys(rt: HostRuntime) -> Result<(), Fail> {
         run(&table, seat, &maps, &program, 8),
         run(&table, seat, &[PAIR, SINGLE], &program, 5),
         run(&table, seat, &[SINGLE], &program, 5),
+        run(&table, seat, &[SINGLE, SINGLE_OF_TWO], &program, 5),
     ];
     let exits = [
         Some(Ok(2100)),
@@ -121,7 +133,10 @@ fn each_map_has_its_own_keys(rt: HostRuntime) -> Result<(), Fail> {
         Some(Ok(0)),
         None,
         None,
+        None,
     ];
     assert_eq!(rt; found, exits);
+    let same = verified_with(alloc, COUNT, &[WORDS, WORDS])?;
+    assert!(rt; fits_named(&table, &[SINGLE, SINGLE], &same));
     Ok(())
 }

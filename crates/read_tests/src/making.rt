@@ -1,6 +1,6 @@
 //! Programs for the tests, and their runs.
-ghost use Rattle.std.specs.Prelude.{◌≤◌, All, IfSome};
-ghost use Rattle.bpf_model.specs.declared.limits.TheConstants.{CTX_BYTES};
+ghost use Rattle.std.specs.Prelude.{◌≤◌, All, IfSome, length};
+ghost use Rattle.bpf_model.specs.declared.limits.TheConstants.{CTX_BYTES, MAX_MAPS};
 ghost use Rattle.read_table.specs.Held.{IsReady};
 
 use bpf_model::{CtxBytes, MapKind, MapShape};
@@ -42,14 +42,32 @@ const SHAPE: MapShape = MapShape {
     reuse_limit: 100,
 };
 
-/// The program of these hexadecimal digits, verified against one map and a context of so many bytes.
+/// The program of these hexadecimal digits, verified against two such maps and an empty context.
+pub fn verified_with_two(alloc: Global, text: &str) -> Result<Verified, Fail> {
+    verified_with(alloc, text, &[SHAPE, SHAPE], 0)
+}
+
+/// The same against one map and a context of so many bytes.
 pub fn verified(alloc: Global, text: &str, ctx_len: usize) -> Result<Verified, Fail>
     requires { ctx_len ≤ CTX_BYTES }
+{
+    verified_with(alloc, text, &[SHAPE], ctx_len)
+}
+
+/// The same against these maps.
+fn verified_with(
+    alloc: Global,
+    text: &str,
+    maps: &[MapShape],
+    ctx_len: usize,
+) -> Result<Verified, Fail>
+    requires few { length maps.now ≤ MAX_MAPS }
+    requires context { ctx_len ≤ CTX_BYTES }
 {
     let digits = text.replace(alloc, "\n", "")?;
     let digits = digits.as_str().replace(alloc, " ", "")?;
     let bytes = hex::decode(alloc, digits.as_str())?;
-    Ok(verify(alloc, decode(alloc, &bytes)?, &[SHAPE], ctx_len)?)
+    Ok(verify(alloc, decode(alloc, &bytes)?, maps, ctx_len)?)
 }
 
 /// What a run of the program comes to on a context of zeros, if it is of the table's lengths.

@@ -6,7 +6,7 @@ use crate::jobs::job;
 use crate::making::{LOAD_BYTE, LOOKUP_AND_LOAD, LOOKUP_AND_STORE, verified};
 use bpf_model::EventRefusal;
 use map_runs::{MapRuns, fits};
-use map_table::{MapTable, TableShape, Values};
+use map_table::{MapTable, Secret, TableShape, Values};
 use std::alloc::Global;
 use std::sync::Wait;
 use std::test::Fail;
@@ -22,11 +22,19 @@ const SHAPE: TableShape = TableShape {
     key_words: 1,
     value_words: 1,
     values: Values::Shared,
-    seed: 0x1234_5678_9abc_def0,
+    secret: Secret {
+        first: 0x1234_5678_9abc_def0,
+        second: 0x0fed_cba9_8765_4321,
+    },
 };
 
 /// A program of the table's lengths, verified for a context of so many bytes.
-fn fitting(alloc: Global, table: &MapTable, text: &str, ctx_len: usize) -> Result<Verified, Fail>
+pub fn fitting(
+    alloc: Global,
+    table: &MapTable,
+    text: &str,
+    ctx_len: usize,
+) -> Result<Verified, Fail>
     requires { ctx_len ≤ 1 }
     ensures { IfOk result (λ v. ServesMaps table.now.shape v.shapes) }
 {
