@@ -12,8 +12,8 @@ use Rattle.classic_program.specs.declared.insn.Datum.TheVariants as data_
 use Rattle.classic_program.specs.declared.sock_filter.SockFilter.{SockFilter}
 use Rattle.classic_program.specs.Faults.{IsDecodeFault, IsCheckFault, IsFlawAt, IsSoundAt, IsUnstored}
 use Rattle.classic_program.specs.Opcode.{IsInsnOf, AreInsnsOf}
-use Rattle.classic_program.specs.WellFormed.{FitsClassic, divides_by_zero, shifts_too_far, is_of, reads_from, stores_to, Reaches, LeadsInside, IsWellFormed}
-use Rattle.classic_program.specs.WellFormed.{most_instructions}
+use Rattle.classic_program.specs.WellFormed.{FitsClassic, divides_by_zero, shifts_too_far, is_of, is_policy_remainder, reads_from}
+use Rattle.classic_program.specs.WellFormed.{most_instructions, stores_to, Reaches, LeadsInside, IsWellFormed}
 use Rattle.classic_program.proofs.Every.{all-at, all-from}
 
 same-list : (xs ys : List ClassicInsn) → length xs ≡ length ys → ((k : ℕ) (x y : ClassicInsn) → slice_get xs k ≡ Some x → slice_get ys k ≡ Some y → x ≡ y)
@@ -46,6 +46,7 @@ decode-fault d filter (fault.BadShift k) h = absurd h
 decode-fault d filter (fault.BadJump k) h = absurd h
 decode-fault d filter (fault.NotOfSeccomp k) h = absurd h
 decode-fault d filter (fault.UnwrittenWord k) h = absurd h
+decode-fault d filter (fault.PolicyRemainder k) h = absurd h
 decode-fault d filter fault.Memory h = tt
 
 pub decode-only : (filter : List SockFilter) (program : List ClassicInsn) (e : ClassicFault) → AreInsnsOf filter program → IsDecodeFault filter e
@@ -68,6 +69,7 @@ decode-only filter program (fault.BadShift k) are h = absurd h
 decode-only filter program (fault.BadJump k) are h = absurd h
 decode-only filter program (fault.NotOfSeccomp k) are h = absurd h
 decode-only filter program (fault.UnwrittenWord k) are h = absurd h
+decode-only filter program (fault.PolicyRemainder k) are h = absurd h
 decode-only filter program fault.Memory are h = refl
 
 flaw-none : (d : Data) (program : List ClassicInsn) (e : ClassicFault) (k : ℕ) (i : ClassicInsn) → IsWellFormed d program → slice_get program k ≡ Some i
@@ -83,6 +85,8 @@ flaw-none d program (fault.BadShift j) k i wf here h =
 flaw-none d program (fault.BadJump j) k i wf here h = let l = wf.inside k h.1 i here h.2 in let m = h.3 in absurd (omega arith)
 flaw-none d program (fault.NotOfSeccomp j) k i wf here h = let yes = all-at (λ i. is_of d i ≡ true) program k i wf.loads here in let no = h.1 in absurd (cc)
 flaw-none d program (fault.UnwrittenWord j) k i wf here h = h
+flaw-none d program (fault.PolicyRemainder j) k i wf here h =
+    let no = all-at (λ i. is_policy_remainder d i ≡ false) program k i wf.remainders here in let yes = h.1 in absurd (cc)
 flaw-none d program fault.Memory k i wf here h = h
 
 pub none-flawed : (d : Data) (filter : List SockFilter) (found program code : List ClassicInsn) (e : ClassicFault) → AreInsnsOf filter found
@@ -155,6 +159,7 @@ well-formed d filter found code again are e f some limit sound stored =
       divisors = all-from (λ i. divides_by_zero i ≡ false) found (λ k i here. (sound2 k i here).divisor);
       shifts = all-from (λ i. shifts_too_far i ≡ false) found (λ k i here. (sound2 k i here).shift);
       loads = all-from (λ i. is_of d i ≡ true) found (λ k i here. (sound2 k i here).known);
+      remainders = all-from (λ i. is_policy_remainder d i ≡ false) found (λ k i here. (sound2 k i here).remainder);
       inside = λ k s i here m. (sound2 k i here).inside s m;
       stored = λ w k i here r p. stored2 w k i (small-word w i (fits-of filter found are k i here) r) here r p;
     }

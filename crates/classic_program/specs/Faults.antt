@@ -10,7 +10,7 @@ use Rattle.classic_program.specs.declared.opcode.ClassicOpcode.{ClassicOpcode}
 use Rattle.classic_program.specs.declared.sock_filter.SockFilter.{SockFilter}
 use Rattle.classic_program.specs.Opcode.{opcode_number, IsInsnOf, AreInsnsOf}
 use Rattle.classic_program.specs.WellFormed.{MaySkip, Reaches, divides_by_zero, shifts_too_far}
-use Rattle.classic_program.specs.WellFormed.{is_of, reads_from, stores_to, most_instructions}
+use Rattle.classic_program.specs.WellFormed.{is_of, is_policy_remainder, reads_from, stores_to, most_instructions}
 
 -- the code stands for nothing; or there is no such word of memory
 abbrev pub IsInsnFlaw : SockFilter → DecodeFlaw → Type 0
@@ -31,6 +31,7 @@ abbrev pub IsFlawAt : Data → ℕ → ℕ → ClassicInsn → ClassicFault → 
 IsFlawAt d count index i (check.DivisionByZero k) = (k ≡ index) × (divides_by_zero i ≡ true)
 IsFlawAt d count index i (check.BadShift k) = (k ≡ index) × (shifts_too_far i ≡ true)
 IsFlawAt d count index i (check.NotOfSeccomp k) = (k ≡ index) × (is_of d i ≡ false)
+IsFlawAt d count index i (check.PolicyRemainder k) = (k ≡ index) × (is_policy_remainder d i ≡ true)
 IsFlawAt d count index i (check.BadJump k) =
     (k ≡ index) × (s : ℕ) × MaySkip i s × (count ≤ index + 1 + s)
 IsFlawAt d count index i fault = ⊥
@@ -39,6 +40,7 @@ pub record IsSoundAt (d : Data) (count index : ℕ) (i : ClassicInsn) : Type 0 w
   pub divisor : divides_by_zero i ≡ false
   pub shift : shifts_too_far i ≡ false
   pub known : is_of d i ≡ true
+  pub remainder : is_policy_remainder d i ≡ false
   pub inside : (s : ℕ) → MaySkip i s → index + 1 + s < count
 
 -- a word that may be read before it is stored
@@ -75,6 +77,7 @@ classic_fault_number (check.BadShift k) = 108
 classic_fault_number (check.BadJump k) = 109
 classic_fault_number (check.NotOfSeccomp k) = 110
 classic_fault_number (check.UnwrittenWord k) = 111
+classic_fault_number (check.PolicyRemainder k) = 114
 classic_fault_number check.Memory = 13
 
 abbrev pub classic_fault_instruction : ClassicFault → Option ℕ
@@ -85,4 +88,5 @@ classic_fault_instruction (check.BadShift k) = Some k
 classic_fault_instruction (check.BadJump k) = Some k
 classic_fault_instruction (check.NotOfSeccomp k) = Some k
 classic_fault_instruction (check.UnwrittenWord k) = Some k
+classic_fault_instruction (check.PolicyRemainder k) = Some k
 classic_fault_instruction fault = None

@@ -66,6 +66,11 @@ abbrev pub is_of : Data → ClassicInsn → Bool
 is_of d (Load into datum) = is_datum_of d datum
 is_of d i = true
 
+-- A policy has no remainders: seccomp_check_filter has all other operations alone.
+abbrev pub is_policy_remainder : Data → ClassicInsn → Bool
+is_policy_remainder Seccomp (Alu Mod operand) = true
+is_policy_remainder d i = false
+
 -- how many of the instructions behind it an instruction may skip; a return leads nowhere
 abbrev pub MaySkip : ClassicInsn → ℕ → Type 0
 MaySkip (Jump skip) s = s ≡ skip
@@ -106,6 +111,7 @@ pub record IsWellFormed (d : Data) (program : List ClassicInsn) : Type 0 where
   pub divisors : AllByRecursion (λ i. divides_by_zero i ≡ false) program
   pub shifts : AllByRecursion (λ i. shifts_too_far i ≡ false) program
   pub loads : AllByRecursion (λ i. is_of d i ≡ true) program
+  pub remainders : AllByRecursion (λ i. is_policy_remainder d i ≡ false) program
   pub inside : LeadsInside program
   pub stored : ReadsStored program
 

@@ -5,7 +5,7 @@ ghost use Rattle.classic_program.specs.declared.fault.ClassicFault.TheVariants.{
 ghost use Rattle.classic_program.specs.Faults.{IsFlawAt, IsSoundAt, IsUnstored, IsProgramFlaw, IsCheckFault};
 ghost use Rattle.classic_program.specs.Opcode.{AreInsnsOf};
 ghost use Rattle.classic_program.specs.Paths.{AreMarks, IsSkip, stops_at};
-ghost use Rattle.classic_program.specs.WellFormed.{divides_by_zero as divides_by_0, shifts_too_far as shifts_far, is_datum_of as is_datum, is_of as is_insn_of, reads_from, stores_to, Reaches, LeadsInside, IsWellFormed, most_instructions};
+ghost use Rattle.classic_program.specs.WellFormed.{divides_by_zero as divides_by_0, shifts_too_far as shifts_far, is_datum_of as is_datum, is_of as is_insn_of, is_policy_remainder as is_remainder_of_policy, reads_from, stores_to, Reaches, LeadsInside, IsWellFormed, most_instructions};
 
 use crate::data::Data;
 use crate::decoding::decode;
@@ -76,6 +76,19 @@ fn is_of(kind: Data, instruction: &ClassicInsn) -> bool
     }
 }
 
+/// Whether the instruction is a remainder, and the program a policy.
+fn is_policy_remainder(kind: Data, instruction: &ClassicInsn) -> bool
+    ensures { result ≡ is_remainder_of_policy kind instruction.now }
+{
+    match kind {
+        Data::Packet => false,
+        Data::Seccomp => match instruction {
+            ClassicInsn::Alu { op, .. } => matches!(op, ClassicOp::Mod),
+            _ => false,
+        },
+    }
+}
+
 /// A skip past so many instructions.
 fn outside(skips: Skips, left: usize) -> Option<usize>
     ensures some { IfSome result (λ s. IsSkip skips s × (left ≤ s)) }
@@ -117,6 +130,9 @@ fn flaw_at(
     }
     if !is_of(kind, instruction) {
         return Some(ClassicFault::NotOfSeccomp(index));
+    }
+    if is_policy_remainder(kind, instruction) {
+        return Some(ClassicFault::PolicyRemainder(index));
     }
     let left = count - (index + 1);
     match outside(targets(instruction), left) {

@@ -39,13 +39,16 @@ pub enum ClassicFault {
     /// A word of memory may be read before it is written.
     #[error("instruction {0} may read a word of memory before it is written")]
     UnwrittenWord(usize),
+    /// A policy has a remainder, which Linux refuses in one.
+    #[error("instruction {0} is `mod`, which Linux refuses in a policy")]
+    PolicyRemainder(usize),
     /// An allocation failed.
     #[error("out of memory")]
     Memory,
 }
 
 impl ClassicFault {
-    /// The number by which the fault is known: 13, or 103 to 111.
+    /// The number by which the fault is known: 13, 103 to 111, or 114.
     pub fn code(&self) -> u8
         ensures { result ≡ classic_fault_number self.now }
     {
@@ -59,6 +62,7 @@ impl ClassicFault {
             ClassicFault::BadJump(_) => 109,
             ClassicFault::NotOfSeccomp(_) => 110,
             ClassicFault::UnwrittenWord(_) => 111,
+            ClassicFault::PolicyRemainder(_) => 114,
             ClassicFault::Memory => 13,
         }
     }
@@ -74,7 +78,8 @@ impl ClassicFault {
             | ClassicFault::BadShift(index)
             | ClassicFault::BadJump(index)
             | ClassicFault::NotOfSeccomp(index)
-            | ClassicFault::UnwrittenWord(index) => Some(*index),
+            | ClassicFault::UnwrittenWord(index)
+            | ClassicFault::PolicyRemainder(index) => Some(*index),
             _ => None,
         }
     }

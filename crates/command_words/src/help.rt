@@ -187,7 +187,7 @@ Status, and the line on standard error:
   0  written
   1  refused 100 at 1, 101 at L  no such text, by its line
      refused 102                 no such array
-     refused C, refused C at I   it is no program, or has no translation, by instruction I from 0: 103 to 113
+     refused C, refused C at I   it is no program, or has no translation, by instruction I from 0: 103 to 114
                                  (docs/REFUSALS.md)
   2  usage
   3  fault 13, 96, 97            out of memory; FILE or the output failed

@@ -57,6 +57,16 @@ fn told_of<E: Write>(
     status
 }
 
+/// Where a file was written, writes of which packets it tells something else than of all their bytes, if there are such.
+fn note_beyond<E: Write>(err: &mut E, status: u8, beyond: Option<usize>) {
+    if let (0, Some(number)) = (status, beyond) {
+        let _ = writeln!(
+            err,
+            "note: instruction {number} loads at a place that varies: of longer packets the file tells what `tcpdump -s 248` does"
+        );
+    }
+}
+
 /// Writes the program file of the classic program that the input is.
 pub fn run_filter<R: Read, W: Write, E: Write>(
     alloc: Global,
@@ -77,7 +87,11 @@ pub fn run_filter<R: Read, W: Write, E: Write>(
         Err(error) => return unread_in_words(err, &error, in_words),
     };
     match make_file(alloc, kind, &bytes) {
-        Ok(file) => written(err, write_text(out, &file)),
+        Ok(file) => {
+            let status = written(err, write_text(out, &file.text));
+            note_beyond(err, status, file.beyond);
+            status
+        }
         Err(why) => told_of(alloc, &bytes, kind, &why, in_words, err),
     }
 }

@@ -2,7 +2,8 @@
 #![tactic(auto)]
 
 mod translation;
+mod window;
 mod words;
 
-pub use translation::{FilterFault, make_file};
+pub use translation::{FilterFault, FilterFile, make_file};
 pub use words::explain_filter;

@@ -2,6 +2,7 @@
 ghost use Rattle.std.specs.Prelude.{◌≡◌, IfOk, IfErr, IsTrue};
 ghost use Rattle.translated_filters.specs.Filters.{IsFileOfCode, IsFilterFault, IsFilterFile, IsListed};
 
+use crate::window::load_beyond;
 use assembled_texts::{lines_in, text_of};
 use classic::{
     ClassicFault, Data, ReadFault, SockFilter, TranslateFault, check, read_filter_array,
@@ -25,6 +26,15 @@ pub enum FilterFault {
     Untranslated(TranslateFault),
     /// An allocation failed.
     Memory,
+}
+
+/// The program file of a classic program.
+#[derive(Debug, Drop)]
+pub struct FilterFile {
+    pub text: Vec<u8>,
+    /// Of a packets' filter, the first instruction that loads at a place which varies, and may lie past the bytes of a packet that
+    /// a context has. It is counted from 0. Such a load ends the filter with 0, as if those bytes alone were captured.
+    pub beyond: Option<usize>,
 }
 
 /// The head of a program file for contexts of these data.
@@ -107,8 +117,8 @@ fn listed(alloc: Global, kind: Data, bytes: &[u8]) -> Result<Vec<SockFilter>, Fi
 /// The program file of a classic program, which is read from a text as `tcpdump -ddd` writes it, or from an array of instructions.
 ///
 /// Errors: what of it is wrong, or that memory ran out.
-pub fn make_file(alloc: Global, kind: Data, bytes: &[u8]) -> Result<Vec<u8>, FilterFault>
-    ensures file { IfOk result (λ file. IsFilterFile kind bytes.now file.items) }
+pub fn make_file(alloc: Global, kind: Data, bytes: &[u8]) -> Result<FilterFile, FilterFault>
+    ensures file { IfOk result (λ f. IsFilterFile kind bytes.now f.text.items) }
     ensures fault { IfErr result (IsFilterFault kind bytes.now) }
 {
     let filter = listed(alloc, kind, bytes)?;
@@ -125,5 +135,7 @@ pub fn make_file(alloc: Global, kind: Data, bytes: &[u8]) -> Result<Vec<u8>, Fil
     let Ok(code) = encode(alloc, &translation) else {
         return Err(FilterFault::Memory);
     };
-    file_for(alloc, kind, &code)
+    let text = file_for(alloc, kind, &code)?;
+    let beyond = load_beyond(kind, &filter);
+    Ok(FilterFile { text, beyond })
 }
