@@ -1,4 +1,4 @@
-use Rattle.std.proofs.Common.{rules, ◌≡◌, sym, ap, subst, ◌∙◌}
+use Rattle.std.proofs.Common.{rules}
 use Rattle.translated_filters.proofs.translation.make_file.Goals as goal
 
 pub returns-clause-file : goal.returns-clause-file
