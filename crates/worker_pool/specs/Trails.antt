@@ -53,8 +53,9 @@ entries_of (Err fault) = 0
 abbrev pub IsNext : ℕ → ReceiptView → Type 0
 IsNext made receipt = receipt.made ≡ made + entries_of receipt.reply
 
--- All that the worker entered from `first` to `last` are this trail's calls: the start came first, then its steps up to the one
--- that the trail has, and last the drop, where there is one.
+-- What the worker entered from `first` to `last` begins with the trail's start, and ends with its last step, or with the drop
+-- right behind that. Of what stands between the start and the step a trail has no receipts: that these are steps says
+-- `run_for` under the lock alone.
 abbrev pub HasOnly : {L : Type 0} → WorkerView → WorkerView → Trail L → Type 0
 HasOnly first last (trails.Unstarted start) = IsNext first.made start × (last.made ≡ start.made)
 HasOnly first last (trails.Halted start step) = IsNext first.made start × (last.made ≡ step.made)
@@ -148,7 +149,7 @@ pub record IsServedJob {L : Type 0} (programs : List Checked) (first last : Work
   pub by : IsOfWorker first last report.trail
   pub fits : FitsJob programs job report.outcome report.trail
 
--- The worker served the job once from `first` to `last`, and entered nothing else.
+-- The worker served the job once from `first` to `last`, and entered nothing before its start or behind its end.
 pub record IsServedOnce {L : Type 0} (programs : List Checked) (first last : WorkerView) (job : Job)
     (report : JobReport (Trail L)) : Type 0 where
   pub served : IsServedJob programs first last job report
