@@ -136,6 +136,6 @@ pub fn make_file(alloc: Global, kind: Data, bytes: &[u8]) -> Result<FilterFile, 
         return Err(FilterFault::Memory);
     };
     let text = file_for(alloc, kind, &code)?;
-    let beyond = load_beyond(kind, &filter);
+    let beyond = load_beyond(kind, program.instructions());
     Ok(FilterFile { text, beyond })
 }
