@@ -33,8 +33,22 @@ pub fn run_to_exit(verified: &Verified, ctx: &CtxBytes) -> Finished
     ensures some { 0 < result.steps }
     ensures limit { result.steps ≤ MAX_SLOTS }
 {
+    run_over(verified, ctx.as_slice())
+}
+
+/// Runs such a program over a context that the caller lends, of which no copy is made. The clauses are those of `run_to_exit`.
+pub fn run_over(verified: &Verified, context: &[u8]) -> Finished
+    requires maps { HasNoMaps verified.now.program }
+    requires context { length context.now ≡ verified.now.ctx_len }
+    ensures exits { ExitsWith (loaded_alone verified.now) context.now result.steps result.value }
+    ensures only { (shapes : List MapShape) (steps value : ℕ) →
+        MayExitWith shapes (loaded_alone verified.now) context.now steps value →
+        (result.steps ≡ steps) × (result.value ≡ value) }
+    ensures bounded { result.steps ≤ length verified.now.program }
+    ensures some { 0 < result.steps }
+    ensures limit { result.steps ≤ MAX_SLOTS }
+{
     let _program = verified.program();
-    let context = ctx.as_slice();
     are_bytes(context);
     let mut workspace = Workspace::start();
     let mut index = 0;

@@ -7,5 +7,5 @@
 mod driver;
 mod step;
 
-pub use driver::{Finished, run_to_exit};
+pub use driver::{Finished, run_over, run_to_exit};
 pub use step::{Step, has_no_maps, start_alone, step_alone};
