@@ -13,7 +13,7 @@ mod worlds;
 use crate::pooled::share;
 use crate::programs::{arena, assembled, decoded, disassembled, encoded, verified};
 use crate::stopped::stop;
-use crate::worlds::{created, make_world, ordered, run_events};
+use crate::worlds::{add_programs, created, make_world, ordered, run_events};
 use anyhow::Result;
 use std::marker::Brand;
 use std::sync::ledger::Blank;
@@ -58,6 +58,7 @@ fn make_worlds(rt: &HostRuntime, verified: &Verified) -> Result<World> {
     tell(rt, "arena", arena(alloc)?)?;
     tell(rt, "create", created(alloc)?)?;
     let mut world = told(rt, "world", make_world(alloc, verified))?;
+    tell(rt, "load", add_programs(alloc, &mut world, verified)?)?;
     tell(rt, "run_all", run_events(alloc, &mut world)?)?;
     tell(rt, "in_order", ordered(alloc, &world)?)?;
     Ok(world)

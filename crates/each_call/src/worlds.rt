@@ -54,14 +54,19 @@ fn registry_of(alloc: Global, shape: MapShape) -> Result<Registry>
     Ok(registry)
 }
 
+/// The program, bound to map 0.
+fn bound(alloc: Global, verified: &Verified) -> Result<Loaded> {
+    let mut maps = ArrayVec::new();
+    maps.push(0);
+    let verified = verified.copy(alloc)?;
+    Ok(Loaded { verified, maps })
+}
+
 /// A world of one map, and of the program, bound to it.
 fn world_of(alloc: Global, verified: &Verified) -> Result<Result<World, WorldFault>> {
     let registry = registry_of(alloc, SHAPE)?;
-    let mut maps = ArrayVec::new();
-    maps.push(0);
     let mut programs = Vec::new(alloc);
-    let verified = verified.copy(alloc)?;
-    programs.push(Loaded { verified, maps })?;
+    programs.push(bound(alloc, verified)?)?;
     Ok(World::new(alloc, registry, programs))
 }
 
@@ -141,5 +146,29 @@ pub fn ordered(alloc: Global, world: &World) -> Result<bool> {
         Ok(slots) => (slots, false),
     };
     ensure!(slots.len() == 1, "there is another number of elements");
+    Ok(again)
+}
+
+/// Adds the program again and again, so that the list of programs has to grow. A world that had no memory for one more is
+/// as it was.
+pub fn add_programs(alloc: Global, world: &mut World, verified: &Verified) -> Result<bool> {
+    let mut again = false;
+    for count in 1..8 {
+        let before = world.copy(alloc)?;
+        match world.load(bound(alloc, verified)?) {
+            Err(WorldFault::Memory) => {
+                ensure!(are_alike(world, &before), "something has changed");
+                ensure!(
+                    world.program(ProgId::new(count)).is_none(),
+                    "a program was left"
+                );
+                world.load(bound(alloc, verified)?)?;
+                again = true;
+            }
+            made => {
+                ensure!(made?.index() == count, "another number");
+            }
+        }
+    }
     Ok(again)
 }

@@ -7,7 +7,7 @@ ghost use Rattle.plan_laws.specs.Verified.{IsVerified};
 ghost use Rattle.world_laws.specs.Typed.{IsRealProgram};
 ghost use Rattle.world_laws.specs.Binding.{IsBoundTo};
 ghost use Rattle.world.specs.declared.kept.loaded.Loaded.{Loaded};
-ghost use Rattle.world.specs.BoundTo.{AreProgramsBound};
+ghost use Rattle.world.specs.BoundTo.{AreProgramsBound, IsBound};
 ghost use Rattle.world.specs.Programs.{program_of};
 ghost use Rattle.world.specs.Bound.{IsFirstUnbound};
 
@@ -41,6 +41,13 @@ fn have_shapes(registry: &Registry, numbers: &[usize], asked: &[MapShape]) -> bo
     true
 }
 
+/// Whether a program is bound.
+pub(crate) fn is_bound(registry: &Registry, program: &Loaded) -> bool
+    ensures { IsTrue result ↔ IsBound (shapes_of_maps registry.now.maps) program.now }
+{
+    have_shapes(registry, program.maps.as_slice(), program.verified.shapes())
+}
+
 /// The first program that is not bound.
 pub(crate) fn first_unbound(registry: &Registry, loaded: &[Loaded]) -> Option<ProgId>
     ensures some { IfSome result (λ p.
@@ -48,8 +55,7 @@ pub(crate) fn first_unbound(registry: &Registry, loaded: &[Loaded]) -> Option<Pr
     ensures none { IfNone result (AreProgramsBound (shapes_of_maps registry.now.maps) loaded.now) }
 {
     for (index, program) in loaded.iter().enumerate() {
-        let numbers = program.maps.as_slice();
-        if !have_shapes(registry, numbers, program.verified.shapes()) {
+        if !is_bound(registry, program) {
             return Some(ProgId::new(index));
         }
     }
@@ -66,7 +72,7 @@ pub(crate) fn certify_maps(registry: &Registry)
 }
 
 /// A law: a loaded program is verified, and a value of its type.
-fn certify(program: &Loaded)
+pub(crate) fn certify(program: &Loaded)
     ensures verified { IsVerified program.now.verified.program program.now.verified.shapes
         program.now.verified.ctx_len }
     ensures real { IsRealProgram (program_of program.now) }

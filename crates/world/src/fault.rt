@@ -1,13 +1,13 @@
-//! Why a world is not made.
+//! Why a world is not made, or a program not added to one.
 ghost use Rattle.std.specs.Prelude.{◌≡◌};
 
 use bpf_model::ProgId;
 use thiserror::Error;
 
-/// Why a world is not made.
+/// Why a world is not made, or a program not added to one.
 #[derive(Clone, Copy, Debug, PartialEq, Eq, Error)]
 pub enum WorldFault {
-    /// There are more than `MAX_PROGRAMS` programs.
+    /// There are more than `MAX_PROGRAMS` programs, or one more would be.
     #[error("more programs than a world may have")]
     TooManyPrograms,
     /// The first program whose maps are missing, have other shapes than it was verified for, or differ

@@ -10,6 +10,7 @@ mod control;
 mod copying;
 mod flags;
 mod loaded;
+mod loading;
 mod parts;
 mod reclaim;
 mod starting;

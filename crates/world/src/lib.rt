@@ -13,6 +13,7 @@ mod calling;
 mod element;
 mod fault;
 mod kept;
+mod loading;
 mod run_all;
 mod section;
 mod serving;

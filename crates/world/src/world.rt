@@ -41,8 +41,8 @@ impl Model for World {
 
 impl World {
     /// A world of these programs and of these maps, which are new, in which nothing has happened.
-    /// All the memory that it ever takes is taken here. What it takes by value is dropped when it
-    /// refuses.
+    /// All the memory that it ever takes is taken here, but for programs that `load` adds. What it takes by
+    /// value is dropped when it refuses.
     ///
     /// Errors: the first of these that holds.
     /// - `TooManyPrograms`: there are more than `MAX_PROGRAMS`.
@@ -83,7 +83,7 @@ impl World {
 
     /// An equal world: the same names, elements, runs, programs and counts, so that it answers every list of events
     /// as this one would. This one is unchanged. The error is that there is no memory left; the copy takes none
-    /// later.
+    /// later, but in `load`.
     pub fn copy(&self, alloc: Global) -> Result<World, AllocError>
         ensures same { IfOk result (λ w. w ≡ self.now) }
     {

@@ -10,6 +10,8 @@ mod cases;
 #[cfg(test)]
 mod generated;
 #[cfg(test)]
+mod loading;
+#[cfg(test)]
 mod making;
 #[cfg(test)]
 mod pair;

@@ -58,7 +58,7 @@ fn free_slots(alloc: Global) -> Result<Vec<Option<Run>>, AllocError>
 
 impl Parts {
     /// These maps and the programs that are bound to them, without runs. All the memory that it ever takes is
-    /// taken here.
+    /// taken here, but for programs that `load` adds.
     pub fn new(
         alloc: Global,
         registry: Registry,
@@ -81,7 +81,8 @@ impl Parts {
     }
 
     /// Equal parts: the same maps of the same names, the same runs in the same run slots, the same flags
-    /// and programs. The error is that there is no memory left. Like the original it takes none later.
+    /// and programs. The error is that there is no memory left. Like the original it takes none later,
+    /// but in `load`.
     pub fn copy(&self, alloc: Global) -> Result<Parts, AllocError>
         ensures same { IfOk result (λ w. w ≡ self.now) }
     {

@@ -1,0 +1,42 @@
+use Rattle.std.proofs.Common.{ℕ, refl, sym, subst, Result}
+use Rattle.std.specs.Prelude.{OnOk}
+use Rattle.bpf_model.specs.Machine.{Machine}
+use Rattle.bpf_model.specs.Refines.{TracksSchedule, Tracks}
+use Rattle.bpf_model.specs.Schedule.{Schedule}
+use Rattle.load_laws.specs.Loads.{loads, schedule_loads}
+use Rattle.world_laws.specs.Invariant.{IsWorld}
+use Rattle.world.specs.declared.fault.WorldFault.{WorldFault}
+use Rattle.world.specs.Programs.{program_of}
+use Rattle.world.proofs.Adding.{added, added-is-world, added-schedule, added-machine}
+use Rattle.world.proofs.world.World.load.Goals as goal
+use Rattle.world.proofs.world.World.load.Goals.{in-Ok, in-Err}
+
+pub invariant_of-self : goal.invariant_of-self
+invariant_of-self c = elim c.match-load.branch [
+  | in-Ok w ↦ added-is-world (added {l = c.args.loaded} c.program_count-count.result refl c.self.invariant c.program_count-count.ensures
+      c.if-count-ge-MAX_PROGRAMS.false c.registry.ensures.maps (c.if-not-is_bound.ensures.0 refl)
+      c.certify.ensures.verified c.certify.ensures.real w.in-Ok.ensures.ok)
+  | in-Err w ↦ subst IsWorld (sym w.in-Err.ensures.err) c.self.invariant
+]
+
+pub returns-clause-schedule : goal.returns-clause-schedule
+returns-clause-schedule c =
+    let told : Result ℕ WorldFault → Type 0 = λ r. OnOk r ((s : Schedule) → TracksSchedule c.args.self.now s →
+    TracksSchedule c.load.new.self (schedule_loads (program_of c.args.loaded) s)) in
+    elim c.match-load.branch [
+      | in-Ok w ↦ subst told (sym w.result-is) (added-schedule (added {l = c.args.loaded} c.program_count-count.result c.self.view_is
+          c.self.invariant c.program_count-count.ensures c.if-count-ge-MAX_PROGRAMS.false c.registry.ensures.maps
+          (c.if-not-is_bound.ensures.0 refl) c.certify.ensures.verified c.certify.ensures.real w.in-Ok.ensures.ok))
+      | in-Err w ↦ subst told (sym w.result-is) tt
+    ]
+
+pub returns-clause-machine : goal.returns-clause-machine
+returns-clause-machine c =
+    let told : Result ℕ WorldFault → Type 0 = λ r. OnOk r ((m : Machine) → Tracks c.args.self.now m →
+    Tracks c.load.new.self (loads (program_of c.args.loaded) m)) in
+    elim c.match-load.branch [
+      | in-Ok w ↦ subst told (sym w.result-is) (added-machine (added {l = c.args.loaded} c.program_count-count.result c.self.view_is
+          c.self.invariant c.program_count-count.ensures c.if-count-ge-MAX_PROGRAMS.false c.registry.ensures.maps
+          (c.if-not-is_bound.ensures.0 refl) c.certify.ensures.verified c.certify.ensures.real w.in-Ok.ensures.ok))
+      | in-Err w ↦ subst told (sym w.result-is) tt
+    ]
