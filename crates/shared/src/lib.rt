@@ -19,4 +19,4 @@ pub use shared_books::{
     Books, CutFault, Finished, MAX_WORKERS, SharedFault, Steps, StepsEnd, Totals, Worker, Workers,
     is_quiet,
 };
-pub use state::{Counters, ExitNote, Receipt, State};
+pub use state::{Counters, ExitNote, Receipt, State, Stretch};
