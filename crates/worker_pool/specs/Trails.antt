@@ -66,8 +66,8 @@ pub record AreNext (made : ℕ) (moves : StretchView) (step : ReceiptView) : Typ
   pub since : moves.since ≡ made
   pub behind : IsNext (moves.since + moves.moved) step
 
--- What the worker entered from `first` to `last` is the trail: its start, its moves, its last step and its drop, as far as it
--- has them, each right behind the one before, and nothing else. A call that is not answered makes no entry.
+-- What the worker entered from `first` to `last` is the trail, and nothing else. Its start, its moves, its last step and its
+-- drop stand right behind one another, as far as there are such. A call that is not answered makes no entry.
 abbrev pub HasOnly : {L : Type 0} → WorkerView → WorkerView → Trail L → Type 0
 HasOnly first last (trails.Unstarted start) = IsNext first.made start × (last.made ≡ start.made)
 HasOnly first last (trails.Halted start moves step) =
@@ -145,7 +145,7 @@ pub record ExitsWithValue (programs : List Checked) (job : Job) (run : ℕ) (not
   pub told : TellsExit run value dropped.reply outcome
 
 -- The trail begins with the start of the job's program on its context, goes on with the run that
--- this gave, whose steps its moves are, and bears out the outcome.
+-- this gave, and bears out the outcome. Its moves are of that run.
 abbrev pub FitsJob : {L : Type 0} → List Checked → Job → Outcome → Trail L → Type 0
 FitsJob programs job outcome (trails.Unstarted start) = StopsAtStart job start outcome
 FitsJob programs job outcome (trails.Halted start moves step) =

@@ -39,8 +39,8 @@ pub enum Outcome {
     },
 }
 
-/// What one worker did for a job, entry by entry: the receipt of the start, the moves behind it as a stretch, the receipt of
-/// the last step, the note of the exit value, and the receipt of the drop, as far as the job came. The outcome rests on it.
+/// What one worker entered for a job: its start, its moves, its last step and its drop, as far as the job came. The moves
+/// are one stretch, and each other call has a receipt. The outcome rests on these and on the note of the exit value.
 #[derive(Drop)]
 pub enum Trail<L: Ledger> {
     /// The start was refused, or not applied.

@@ -1,4 +1,4 @@
-//! Moves of one run: the fields of a stretch are private to this module, so only a state makes one.
+//! Moves of one run. The fields of a stretch are private to this module, so only a state makes one.
 ghost use Rattle.std.specs.Prelude.{◌≡◌, ◌+◌, ◌<◌, ◌≤◌, Ok};
 ghost use Rattle.bpf_model.specs.declared.event.Event.{Event};
 ghost use Rattle.bpf_model.specs.declared.event.Answer.{Answer};
@@ -15,9 +15,10 @@ use std::marker::{Model, PhantomData};
 use std::sync::Wait;
 use std::sync::ledger::Ledger;
 
-/// Entries of one worker, one behind another, each a step of one run that was answered with a move: which worker, which
-/// run, how many entries the worker had made before, and how many moves they are. None is ever copied. It is of the shared
-/// world of its ledger, which is the only one of this ledger.
+/// Entries of one worker, one behind another, each a step of one run that was answered with a move. It says which worker,
+/// which run, how many entries were made before, and how many moves these are. `run_noted` makes it, and receipts of steps
+/// right behind make it longer. None is ever copied. It is of the shared world of its ledger, which is the only one of this
+/// ledger.
 #[derive(Drop)]
 pub struct Stretch<L: Ledger> {
     worker: u8,
@@ -82,7 +83,7 @@ impl<L: Ledger> State<L> {
 }
 
 impl<L: Ledger> Stretch<L> {
-    /// Takes in the step that the worker made right behind these, which was a move too.
+    /// Takes in the step that the worker made right behind these, and which was a move too.
     pub fn add_step(&mut self, step: &Receipt<L>)
         requires asked { step.now.event ≡ Event.Step self.old.run }
         requires moved { step.now.reply ≡ Ok Answer.Moved }
