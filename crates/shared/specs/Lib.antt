@@ -1,3 +1,4 @@
 pub mod Meter
 pub mod State
+pub mod Stretches
 pub mod Codes

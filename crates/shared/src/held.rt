@@ -6,9 +6,9 @@ ghost use Rattle.shared_books.specs.Receipts.{HasExitedOnce, IsMachineAnswer, Is
 ghost use Rattle.shared_books.specs.Stretches.{HasMade};
 ghost use Rattle.shared_books.specs.declared.steps.StepsEnd.{StepsEnd};
 
-use crate::state::{ExitNote, Receipt, State};
+use crate::state::{ExitNote, Receipt, State, Stretch};
 use bpf_model::{CtxBytes, Event, ProgId, RunId};
-use shared_books::{Steps, Worker};
+use shared_books::{Steps, StepsEnd, Worker};
 use std::marker::Model;
 use std::sync::ledger::Ledger;
 use std::sync::{MutexGuard, Wait};
@@ -17,8 +17,8 @@ use verifier::Verified;
 /// A shared world whose lock is held until this is dropped: nothing of others comes between what is asked of it. Contracts
 /// see its programs.
 ///
-/// Each call answers as that of `Shared` of the same name, and says no more. Who holds it and asks the same `Shared` for
-/// anything but a program, waits for ever.
+/// Each call answers as that of `Shared` of the same name, `run_noted` as `run_for`, and says no more. Who holds it and asks
+/// the same `Shared` for anything but a program, waits for ever.
 #[derive(Drop)]
 pub struct Held<'a, L: Ledger> {
     pub(crate) state: MutexGuard<'a, State<L>>,
@@ -88,6 +88,27 @@ impl<'a, L: Ledger> Held<'a, L> {
         ensures memory { result.end ≡ StepsEnd.Memory → result.moved ≡ 0 }
     {
         self.state.run_for(rt, worker, run, most)
+    }
+
+    /// Steps a run as `run_for` does. The stretch has the moves, as `State::run_noted` says.
+    pub fn run_noted<R: Wait>(
+        &mut self,
+        rt: &R,
+        worker: &mut Worker<L>,
+        run: RunId,
+        most: usize,
+    ) -> (Stretch<L>, StepsEnd)
+        ensures programs { self.new ≡ self.old }
+        ensures made { HasMade worker.old result.0.moved worker.new }
+        ensures worker { result.0.worker ≡ worker.old.number }
+        ensures run { result.0.run ≡ run }
+        ensures since { result.0.since ≡ worker.old.made }
+        ensures answered { 0 < result.0.moved → IsMachineAnswer (Event.Step run) Answer.Moved }
+        ensures most { result.0.moved ≤ most }
+        ensures exhausted { result.1 ≡ StepsEnd.Exhausted → result.0.moved ≡ most }
+        ensures memory { result.1 ≡ StepsEnd.Memory → result.0.moved ≡ 0 }
+    {
+        self.state.run_noted(rt, worker, run, most)
     }
 
     /// Asks for the exit value of a run, as `Shared::exit_noted` does.

@@ -3,7 +3,8 @@
 //! Each call of `act` is one event, with one entry in a journal that replays from a stored base; a call of
 //! `run_for` is as many steps of one run, each with its entry. Each worker
 //! has a share of a ledger that counts its entries, so the shares add up to all entries. Receipts say what a
-//! call answered, and counters are read without the lock. Who holds the lock may do several things under it (`Held`).
+//! call answered, stretches which moves were made, and counters are read without the lock. Who holds the lock may do several
+//! things under it (`Held`).
 #![tactic(auto)]
 
 mod bound;
@@ -19,4 +20,4 @@ pub use shared_books::{
     Books, CutFault, Finished, MAX_WORKERS, SharedFault, Steps, StepsEnd, Totals, Worker, Workers,
     is_quiet,
 };
-pub use state::{Counters, ExitNote, Receipt, State};
+pub use state::{Counters, ExitNote, Receipt, State, Stretch};

@@ -20,6 +20,7 @@ ghost use Rattle.shared_books.specs.declared.fault.CutFault.TheVariants as cut_f
 mod counters;
 mod note;
 mod receipt;
+mod stretch;
 
 use crate::meter::{Meter, MeterPass, Writes};
 use crate::state::counters::begin;
@@ -32,6 +33,7 @@ use std::alloc::{AllocError, Global};
 use std::marker::Model;
 use std::sync::ledger::{Ledger, Share};
 use std::sync::{Arc, Wait};
+pub use stretch::Stretch;
 
 /// The books, and the pass that writes the counters' cell. Whenever the lock is free the books balance, and
 /// the pass knows the words of the cell: they are the totals of the books.

@@ -5,7 +5,7 @@ use crate::journals::are_entries;
 use crate::making::{Deed, event, shared_of, world_of};
 use crate::scenes::{DROPPED, EXITED, MOVED, STARTED};
 use bpf_model::{CtxBytes, EventRefusal, ProgId};
-use shared::{Shared, SharedFault, Workers};
+use shared::{Receipt, Shared, SharedFault, Workers};
 use std::alloc::{AllocError, Global};
 use std::marker::Brand;
 use std::process::Abort;
@@ -13,7 +13,7 @@ use std::sync::Wait;
 use std::sync::ledger::{Blank, Ledger};
 use std::test::Fail;
 use std::thread::Threads;
-use worker_pool::{Job, MAX_JOBS, Report, StopCause, run_jobs};
+use worker_pool::{Job, MAX_JOBS, Report, StopCause, Trail, run_jobs};
 
 /// A call of a pool: so many jobs, of these programs and contexts in turn, by so many threads; and their outcomes in turn,
 /// or the code of the fault with which it ends.
@@ -175,7 +175,49 @@ fn come_out<T, R: Abort>(
     Ok(())
 }
 
-/// A call ends as it says.
+/// Whether a call was answered, and so entered, as a number.
+fn entry_of<L: Ledger>(receipt: &Receipt<L>) -> u64 {
+    u64::from(receipt.reply().is_ok())
+}
+
+/// How many entries a trail has.
+fn entries_of<L: Ledger>(trail: &Trail<L>) -> u64 {
+    match trail {
+        Trail::Unstarted { start } => entry_of(start),
+        Trail::Halted { start, moves, step } => entry_of(start)
+            .saturating_add(moves.moved())
+            .saturating_add(entry_of(step)),
+        Trail::OtherRun {
+            start,
+            moves,
+            step,
+            note: _,
+        } => entry_of(start)
+            .saturating_add(moves.moved())
+            .saturating_add(entry_of(step)),
+        Trail::Ended {
+            start,
+            moves,
+            step,
+            note: _,
+            dropped,
+        } => entry_of(start)
+            .saturating_add(moves.moved())
+            .saturating_add(entry_of(step))
+            .saturating_add(entry_of(dropped)),
+    }
+}
+
+/// How many entries the trails of a report have.
+fn entries_in<L: Ledger>(report: &Report<Trail<L>>) -> u64 {
+    let mut sum = 0u64;
+    for job in &report.jobs {
+        sum = sum.saturating_add(entries_of(&job.trail));
+    }
+    sum
+}
+
+/// A call ends as it says, and workers have entered what stands in the trails.
 fn serve<L: Ledger + Send + Sync, R: Threads + Wait + Abort + Sync>(
     rt: &R,
     alloc: Global,
@@ -185,9 +227,12 @@ fn serve<L: Ledger + Send + Sync, R: Threads + Wait + Abort + Sync>(
 ) -> Result<(), AllocError> {
     let jobs = jobs_of(alloc, call)?;
     assert_eq!(rt; jobs.len(), call.count);
+    let before = made_by(workers);
     match run_jobs(rt, alloc, &jobs, call.threads, shared, workers) {
         Ok(report) => {
             assert_eq!(rt; report.jobs.len(), call.count);
+            let entered = made_by(workers).saturating_sub(before);
+            assert_eq!(rt; entries_in(&report), entered);
             come_out(rt, alloc, &report, call.end.expect(rt, "outcomes"))
         }
         Err(fault) => {

@@ -65,10 +65,10 @@ told_stop r value run cause reply (inr stops) = stopped_by reply run (Some r) ca
 stop_outcome : {L : Type 0} (programs : List Checked) (job : Job) (run : Option ℕ) (cause : StopCause) (trail : Trail L) →
     FitsJob programs job (Stopped run cause) trail → IsPoolStop cause
 stop_outcome programs job run cause (trails.Unstarted start) h = stopped_by start.reply run None cause h.stops
-stop_outcome programs job run cause (trails.Halted start step) (r, started, halts) = stopped_by step.reply run (Some r) cause halts.stops
-stop_outcome programs job run cause (trails.OtherRun start step note) (r, started, exits, asks, strange) =
+stop_outcome programs job run cause (trails.Halted start moves step) (r, started, same, halts) = stopped_by step.reply run (Some r) cause halts.stops
+stop_outcome programs job run cause (trails.OtherRun start moves step note) (r, started, same, exits, asks, strange) =
     other_run run (Some r) cause strange.told
-stop_outcome programs job run cause (trails.Ended start step note dropped) (r, started, exits, asks, x) =
+stop_outcome programs job run cause (trails.Ended start moves step note dropped) (r, started, same, exits, asks, x) =
     told_stop r x.value run cause dropped.reply x.told
 
 module _ (programs : List Checked) (code : List Insn) (shapes : List MapShape) (only : IsOnly code shapes programs) where
@@ -104,10 +104,10 @@ module _ (programs : List Checked) (code : List Insn) (shapes : List MapShape) (
   exit_outcome : {L : Type 0} (len : ℕ) (job : Job) (n : ℕ) (trail : Trail L) → IsZeroJob len job →
       FitsJob programs job (Exit n) trail → IsZeroExit code shapes len n
   exit_outcome len job n (trails.Unstarted start) z h = absurd (no_stop n None h.stops.cause h.stops.told)
-  exit_outcome len job n (trails.Halted start step) z (run, started, halts) = absurd (no_stop n (Some run) halts.stops.cause halts.stops.told)
-  exit_outcome len job n (trails.OtherRun start step note) z (run, started, exits, asks, strange) =
+  exit_outcome len job n (trails.Halted start moves step) z (run, started, same, halts) = absurd (no_stop n (Some run) halts.stops.cause halts.stops.told)
+  exit_outcome len job n (trails.OtherRun start moves step note) z (run, started, same, exits, asks, strange) =
       absurd (no_stop n (Some run) OtherRun strange.told)
-  exit_outcome len job n (trails.Ended start step note dropped) z (run, started, exits, asks, x) =
+  exit_outcome len job n (trails.Ended start moves step note dropped) z (run, started, same, exits, asks, x) =
       told_exit len n run x.value dropped.reply (zero_exit len job x.value z x.may x.alone) x.told
 
   pub fits_outcome : {L : Type 0} (len : ℕ) (job : Job) (outcome : Outcome) (trail : Trail L) → IsZeroJob len job →

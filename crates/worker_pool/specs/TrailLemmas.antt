@@ -6,12 +6,13 @@ use Rattle.std.proofs.Common.{refl, ◌∙◌, le_trans}
 use Rattle.std.proofs.Math.Nat.{le_refl}
 use Rattle.shared_books.specs.Books.{WorkerView}
 use Rattle.shared_books.specs.Receipts.{ReceiptView}
+use Rattle.shared.specs.Stretches.{StretchView}
 use Rattle.verifier.specs.Checked.{Checked}
 use Rattle.worker_pool.specs.declared.job.Job.{Job}
 use Rattle.worker_pool.specs.declared.job.Trail.{Trail}
 use Rattle.worker_pool.specs.declared.job.Trail.TheVariants as trails
 use Rattle.worker_pool.specs.declared.job.JobReport.{JobReport}
-use Rattle.worker_pool.specs.Trails.{IsLater, IsByWorker, IsOfWorker, IsServedJob}
+use Rattle.worker_pool.specs.Trails.{IsLater, IsByWorker, IsStretchBy, IsOfWorker, IsServedJob}
 
 pub later_same : (w : WorkerView) → IsLater w w
 later_same w = record { number = refl; made = le_refl w.made }
@@ -28,17 +29,33 @@ by_wider t u v w r a b by =
       until = le_trans by.until b.made;
     }
 
+stretch_wider : (t u v w : WorkerView) (m : StretchView) → IsLater t u → IsLater v w → IsStretchBy u v m →
+    IsStretchBy t w m
+stretch_wider t u v w m a b by =
+    record {
+      worker = by.worker ∙ a.number;
+      since = le_trans a.made by.since;
+      until = le_trans by.until b.made;
+    }
+
 of_wider : {L : Type 0} (t u v w : WorkerView) (trail : Trail L) → IsLater t u → IsLater v w →
     IsOfWorker u v trail → IsOfWorker t w trail
 of_wider t u v w (trails.Unstarted start) a b by = by_wider t u v w start a b by
-of_wider t u v w (trails.Halted start step) a b by =
-    (by_wider t u v w start a b by.0, by_wider t u v w step a b by.1)
-of_wider t u v w (trails.OtherRun start step note) a b by =
-    (by_wider t u v w start a b by.0, by_wider t u v w step a b by.1)
-of_wider t u v w (trails.Ended start step note dropped) a b by = (
+of_wider t u v w (trails.Halted start moves step) a b by = (
   by_wider t u v w start a b by.0,
-  by_wider t u v w step a b by.1,
-  by_wider t u v w dropped a b by.2,
+  stretch_wider t u v w moves a b by.1,
+  by_wider t u v w step a b by.2,
+)
+of_wider t u v w (trails.OtherRun start moves step note) a b by = (
+  by_wider t u v w start a b by.0,
+  stretch_wider t u v w moves a b by.1,
+  by_wider t u v w step a b by.2,
+)
+of_wider t u v w (trails.Ended start moves step note dropped) a b by = (
+  by_wider t u v w start a b by.0,
+  stretch_wider t u v w moves a b by.1,
+  by_wider t u v w step a b by.2,
+  by_wider t u v w dropped a b by.3,
 )
 
 -- what is right stays so, from an earlier beginning to a later end

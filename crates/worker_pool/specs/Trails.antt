@@ -8,6 +8,7 @@ use Rattle.shared_books.specs.declared.fault.SharedFault.{SharedFault}
 use Rattle.shared_books.specs.Books.{WorkerView}
 use Rattle.verifier.specs.Checked.{Checked}
 use Rattle.shared_books.specs.Receipts.{ReceiptView, NoteView, HasExitedOnce, IsPossibleExit, IsOwnExit}
+use Rattle.shared.specs.Stretches.{StretchView}
 use Rattle.worker_pool.specs.declared.job.Job.{Job}
 use Rattle.worker_pool.specs.declared.job.StopCause.{StopCause}
 use Rattle.worker_pool.specs.declared.job.StopCause.TheVariants.{Refused, Fault, OtherRun}
@@ -34,15 +35,22 @@ pub record IsByWorker (first last : WorkerView) (receipt : ReceiptView) : Type 0
   pub since : first.made ≤ receipt.made
   pub until : receipt.made ≤ last.made
 
--- all receipts of a trail are of one worker (a note says itself of which it is)
+-- A stretch of this worker, from between its count of entries before and after.
+pub record IsStretchBy (first last : WorkerView) (moves : StretchView) : Type 0 where
+  pub worker : moves.worker ≡ first.number
+  pub since : first.made ≤ moves.since
+  pub until : moves.since + moves.moved ≤ last.made
+
+-- all receipts of a trail and its moves are of one worker (a note says itself of which it is)
 abbrev pub IsOfWorker : {L : Type 0} → WorkerView → WorkerView → Trail L → Type 0
 IsOfWorker first last (trails.Unstarted start) = IsByWorker first last start
-IsOfWorker first last (trails.Halted start step) =
-    IsByWorker first last start × IsByWorker first last step
-IsOfWorker first last (trails.OtherRun start step note) =
-    IsByWorker first last start × IsByWorker first last step
-IsOfWorker first last (trails.Ended start step note dropped) =
-    IsByWorker first last start × IsByWorker first last step × IsByWorker first last dropped
+IsOfWorker first last (trails.Halted start moves step) =
+    IsByWorker first last start × IsStretchBy first last moves × IsByWorker first last step
+IsOfWorker first last (trails.OtherRun start moves step note) =
+    IsByWorker first last start × IsStretchBy first last moves × IsByWorker first last step
+IsOfWorker first last (trails.Ended start moves step note dropped) =
+    IsByWorker first last start × IsStretchBy first last moves × IsByWorker first last step
+    × IsByWorker first last dropped
 
 -- how many entries a call makes that has this reply
 abbrev pub entries_of : Result Answer SharedFault → ℕ
@@ -53,15 +61,22 @@ entries_of (Err fault) = 0
 abbrev pub IsNext : ℕ → ReceiptView → Type 0
 IsNext made receipt = receipt.made ≡ made + entries_of receipt.reply
 
--- What the worker entered from `first` to `last` begins with the trail's start, and ends with its last step, or with the drop
--- right behind that. Of what stands between the start and the step a trail has no receipts: that these are steps says
--- `run_for` under the lock alone.
+-- The moves come next, after so many entries of their worker, and the receipt's call right behind them.
+pub record AreNext (made : ℕ) (moves : StretchView) (step : ReceiptView) : Type 0 where
+  pub since : moves.since ≡ made
+  pub behind : IsNext (moves.since + moves.moved) step
+
+-- What the worker entered from `first` to `last` is the trail, and nothing else. Its start, its moves, its last step and its
+-- drop stand right behind one another, as far as there are such. A call that is not answered makes no entry.
 abbrev pub HasOnly : {L : Type 0} → WorkerView → WorkerView → Trail L → Type 0
 HasOnly first last (trails.Unstarted start) = IsNext first.made start × (last.made ≡ start.made)
-HasOnly first last (trails.Halted start step) = IsNext first.made start × (last.made ≡ step.made)
-HasOnly first last (trails.OtherRun start step note) = IsNext first.made start × (last.made ≡ step.made)
-HasOnly first last (trails.Ended start step note dropped) =
-    IsNext first.made start × IsNext step.made dropped × (last.made ≡ dropped.made)
+HasOnly first last (trails.Halted start moves step) =
+    IsNext first.made start × AreNext start.made moves step × (last.made ≡ step.made)
+HasOnly first last (trails.OtherRun start moves step note) =
+    IsNext first.made start × AreNext start.made moves step × (last.made ≡ step.made)
+HasOnly first last (trails.Ended start moves step note dropped) =
+    IsNext first.made start × AreNext start.made moves step × IsNext step.made dropped
+    × (last.made ≡ dropped.made)
 
 -- The reply is no answer to the job's event, and the outcome tells why, with the run, if there is
 -- one.
@@ -130,17 +145,17 @@ pub record ExitsWithValue (programs : List Checked) (job : Job) (run : ℕ) (not
   pub told : TellsExit run value dropped.reply outcome
 
 -- The trail begins with the start of the job's program on its context, goes on with the run that
--- this gave, and bears out the outcome.
+-- this gave, and bears out the outcome. Its moves are of that run.
 abbrev pub FitsJob : {L : Type 0} → List Checked → Job → Outcome → Trail L → Type 0
 FitsJob programs job outcome (trails.Unstarted start) = StopsAtStart job start outcome
-FitsJob programs job outcome (trails.Halted start step) =
-    (run : ℕ) × WasStarted job run start × StopsAtStep run step outcome
-FitsJob programs job outcome (trails.OtherRun start step note) =
-    (run : ℕ) × WasStarted job run start × ExitsAtStep run step × AsksForExit job run step note
-    × IsOtherRun run note outcome
-FitsJob programs job outcome (trails.Ended start step note dropped) =
-    (run : ℕ) × WasStarted job run start × ExitsAtStep run step × AsksForExit job run step note
-    × ExitsWithValue programs job run note dropped outcome
+FitsJob programs job outcome (trails.Halted start moves step) =
+    (run : ℕ) × WasStarted job run start × (moves.run ≡ run) × StopsAtStep run step outcome
+FitsJob programs job outcome (trails.OtherRun start moves step note) =
+    (run : ℕ) × WasStarted job run start × (moves.run ≡ run) × ExitsAtStep run step
+    × AsksForExit job run step note × IsOtherRun run note outcome
+FitsJob programs job outcome (trails.Ended start moves step note dropped) =
+    (run : ℕ) × WasStarted job run start × (moves.run ≡ run) × ExitsAtStep run step
+    × AsksForExit job run step note × ExitsWithValue programs job run note dropped outcome
 
 -- The report is right for the job, by receipts of one worker between its count of entries before
 -- and after.
@@ -149,7 +164,7 @@ pub record IsServedJob {L : Type 0} (programs : List Checked) (first last : Work
   pub by : IsOfWorker first last report.trail
   pub fits : FitsJob programs job report.outcome report.trail
 
--- The worker served the job once from `first` to `last`, and entered nothing before its start or behind its end.
+-- The worker served the job once from `first` to `last`: all that it entered is the job's trail.
 pub record IsServedOnce {L : Type 0} (programs : List Checked) (first last : WorkerView) (job : Job)
     (report : JobReport (Trail L)) : Type 0 where
   pub served : IsServedJob programs first last job report

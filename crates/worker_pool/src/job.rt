@@ -2,7 +2,7 @@
 ghost use Rattle.std.specs.Prelude.{◌≡◌};
 
 use bpf_model::{CtxBytes, EventRefusal, ProgId, RunId};
-use shared::{ExitNote, Receipt, SharedFault};
+use shared::{ExitNote, Receipt, SharedFault, Stretch};
 use std::sync::ledger::Ledger;
 
 /// A program that is to run on a context.
@@ -39,28 +39,31 @@ pub enum Outcome {
     },
 }
 
-/// The receipts and the note of one worker on which an outcome rests: those of the start, of the last step,
-/// of the exit value and of the drop, as far as the job came.
+/// What one worker entered for a job: its start, its moves, its last step and its drop, as far as the job came. The moves
+/// are one stretch, and each other call has a receipt. The outcome rests on these and on the note of the exit value.
 #[derive(Drop)]
 pub enum Trail<L: Ledger> {
     /// The start was refused, or not applied.
     Unstarted {
         start: Receipt<L>,
     },
-    /// A step was refused, or not applied.
+    /// The last step was refused, or not applied.
     Halted {
         start: Receipt<L>,
+        moves: Stretch<L>,
         step: Receipt<L>,
     },
-    /// A step was answered with an exit, but the note has no exit value.
+    /// The last step was answered with an exit, but the note has no exit value.
     OtherRun {
         start: Receipt<L>,
+        moves: Stretch<L>,
         step: Receipt<L>,
         note: ExitNote<L>,
     },
     /// The run has exited, and its drop was answered.
     Ended {
         start: Receipt<L>,
+        moves: Stretch<L>,
         step: Receipt<L>,
         note: ExitNote<L>,
         dropped: Receipt<L>,

@@ -48,8 +48,8 @@ pub fn run_jobs<L: Ledger + Send + Sync, R: Threads + Wait + Sync>(
     ensures each { IfOk result (λ report. AreServed (IsServedJob shared.now) jobs.now
         workers.old workers.new report.jobs.items) }
 
-    // Each job is served once, and no worker entered anything before a job, between two, or behind one: its jobs stand one behind
-    // another, each from its start to its last receipt.
+    // Each job is served once, and workers entered nothing else. What each entered is the trails of its jobs, one behind
+    // another: each entry is in the trail of its job.
     ensures shared_out { IfOk result (λ report. AreSharedOut (IsServedOnce shared.now) jobs.now
         workers.old workers.new report.jobs.items) }
 {

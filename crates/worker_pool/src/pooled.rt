@@ -4,13 +4,13 @@ ghost use Rattle.shared_books.specs.Books.{WorkerView};
 ghost use Rattle.bpf_model.specs.declared.event.Event.TheVariants.{Start, Step};
 ghost use Rattle.bpf_model.specs.declared.event.Answer.TheVariants.{Moved};
 ghost use Rattle.shared_books.specs.Receipts.{IsMachineAnswer};
-ghost use Rattle.worker_pool.specs.Trails.{IsLater, IsByWorker, WasStarted, IsOfWorker, FitsJob, HasOnly, IsNext, IsServedJob};
+ghost use Rattle.worker_pool.specs.Trails.{IsLater, IsByWorker, IsStretchBy, WasStarted, IsOfWorker, FitsJob, HasOnly, IsNext, AreNext, IsServedJob};
 
 use crate::job::{Job, JobReport, Outcome, StopCause, Trail};
 use crate::reply::{dropped, exited, has_moved, started};
 use bpf_model::{Event, MAX_SLOTS, RunId, array_of};
 use job_queue::Serve;
-use shared::{Held, Receipt, Shared, Worker};
+use shared::{Held, Receipt, Shared, Stretch, Worker};
 use std::sync::Wait;
 use std::sync::ledger::Ledger;
 
@@ -20,31 +20,35 @@ pub struct Pooled<'a, L: Ledger> {
     pub shared: &'a Shared<L>,
 }
 
-/// Steps the run until a step is answered with something else than a move; the receipt is that step's. A verified
-/// program makes fewer moves than `MAX_SLOTS`, so that the step behind them is none. No clause of what is under the lock
-/// says so: where it moves nevertheless, it goes on step by step. Each move is an entry of the worker, which counts its
+/// Steps the run until a step is answered with something else than a move: the moves, and the receipt of that step. A
+/// verified program makes fewer moves than `MAX_SLOTS`, so that the step behind them is none. No clause of what is under the
+/// lock says so: where it moves nevertheless, it goes on step by step. Each move is an entry of the worker, which counts its
 /// entries in 64 bits, so it ends.
 fn step_to_end<L: Ledger, R: Wait>(
     rt: &R,
     held: &mut Held<'_, L>,
     worker: &mut Worker<L>,
     run: RunId,
-) -> Receipt<L>
+) -> (Stretch<L>, Receipt<L>)
     ensures programs { held.new ≡ held.old }
-    ensures event { result.event ≡ Step run }
-    ensures answered { IfOk result.reply (IsMachineAnswer (Step run)) }
-    ensures count { result.made ≡ worker.new.made }
-    ensures last { result.reply ≢ Ok Moved }
+    ensures event { result.1.event ≡ Step run }
+    ensures answered { IfOk result.1.reply (IsMachineAnswer (Step run)) }
+    ensures count { result.1.made ≡ worker.new.made }
+    ensures last { result.1.reply ≢ Ok Moved }
     ensures later { IsLater worker.old worker.new }
-    ensures by { IsByWorker worker.old worker.new result }
+    ensures by { IsByWorker worker.old worker.new result.1 }
+    ensures moves { IsStretchBy worker.old worker.new result.0 }
+    ensures run { result.0.run ≡ run }
+    ensures next { AreNext worker.old.made result.0 result.1 }
 {
-    held.run_for(rt, worker, run, MAX_SLOTS);
+    let (mut moves, _) = held.run_noted(rt, worker, run, MAX_SLOTS);
     let mut step = held.act_noted(rt, worker, Event::Step { run });
     while has_moved(step.reply()) {
+        moves.add_step(&step);
         held.act_again(rt, worker, &mut step);
         let _made = worker.made();
     }
-    step
+    (moves, step)
 }
 
 /// The job whose start was answered with this run, to its end.
@@ -58,6 +62,7 @@ fn finish_job<L: Ledger, R: Wait>(
 ) -> JobReport<Trail<L>>
     requires started { WasStarted job.now run start }
     requires by { IsByWorker worker.old worker.old start }
+    requires count { start.made ≡ worker.old.made }
     ensures programs { held.new ≡ held.old }
     ensures later { IsLater worker.old worker.new }
     ensures by { IsOfWorker worker.old worker.new result.trail }
@@ -65,12 +70,12 @@ fn finish_job<L: Ledger, R: Wait>(
     ensures only { (first : WorkerView) → IsNext first.made start →
         HasOnly first worker.new result.trail }
 {
-    let step = step_to_end(rt, held, worker, run);
+    let (moves, step) = step_to_end(rt, held, worker, run);
     if let Err(cause) = exited(step.reply(), run) {
         let run = Some(run);
         return JobReport {
             outcome: Outcome::Stopped { run, cause },
-            trail: Trail::Halted { start, step },
+            trail: Trail::Halted { start, moves, step },
         };
     }
     let note = held.exit_noted(worker, run, job.prog, &job.ctx);
@@ -79,7 +84,12 @@ fn finish_job<L: Ledger, R: Wait>(
         let cause = StopCause::OtherRun;
         return JobReport {
             outcome: Outcome::Stopped { run, cause },
-            trail: Trail::OtherRun { start, step, note },
+            trail: Trail::OtherRun {
+                start,
+                moves,
+                step,
+                note,
+            },
         };
     };
     let end = held.act_noted(rt, worker, Event::Drop { run });
@@ -94,6 +104,7 @@ fn finish_job<L: Ledger, R: Wait>(
         outcome,
         trail: Trail::Ended {
             start,
+            moves,
             step,
             note,
             dropped: end,
