@@ -1,0 +1,69 @@
+-- How the bytes of a packet's context lie.
+use Rattle.std.proofs.Common.{◌≡◌, ℕ, zero, suc, ◌+◌, ◌-◌, ◌*◌, ◌/◌, ◌%◌, ◌^◌, ◌<◌, ◌≤◌, List, [], ◌∷◌, ◌++◌, length, take, min, refl, sym, ap, ◌∙◌, subst, arith}
+use Rattle.std.specs.Prelude.{Some, slice_get}
+use Rattle.std.specs.Int.{w32, byte_at, to_le_bytes, from_le_bytes}
+use Rattle.std.proofs.lemmas.List.{take_min, length-take, length-append, append_assoc}
+use Rattle.std.proofs.lemmas.Nat.{from_le_bytes-to_le_bytes_4}
+use Rattle.std.proofs.lemmas.Option.{none-some}
+use Rattle.bpf_model.proofs.Lists.{get-append, get-below}
+use Rattle.bpf_model.specs.Access.{number_at}
+use Rattle.bpf_model.specs.Real.{AreBytes}
+use Rattle.classic_program.specs.Context.{IsPacketContext, packet_bytes}
+use Rattle.host_programs.specs.Packets.{seen}
+
+regroup : (a b c d : ℕ) → a + 256 * (b + 256 * (c + 256 * (d + 256 * 0))) ≡ a + b * 256 ^ 1 + c * 256 ^ 2 + d * 256 ^ 3
+regroup a b c d = omega arith
+
+number_first : (n : ℕ) (rest : List ℕ) → n < 2 ^ 32 → number_at (slice_get (to_le_bytes w32 n ++ rest)) 0 4 ≡ Some n
+number_first n rest h = ap Some (regroup (byte_at 0 n) (byte_at 1 n) (byte_at 2 n) (byte_at 3 n) ∙ from_le_bytes-to_le_bytes_4 n h)
+
+number_next : (m n : ℕ) (rest : List ℕ) → n < 2 ^ 32 →
+    number_at (slice_get (to_le_bytes w32 m ++ (to_le_bytes w32 n ++ rest))) 4 4 ≡ Some n
+number_next m n rest h = ap Some (regroup (byte_at 0 n) (byte_at 1 n) (byte_at 2 n) (byte_at 3 n) ∙ from_le_bytes-to_le_bytes_4 n h)
+
+behind : (m n k : ℕ) (rest : List ℕ) → slice_get (to_le_bytes w32 m ++ (to_le_bytes w32 n ++ rest)) (8 + k) ≡ slice_get rest k
+behind m n k rest =
+    let e : 8 + k ≡ suc (suc (suc (suc (suc (suc (suc (suc k))))))) = omega arith in
+    ap (slice_get (to_le_bytes w32 m ++ (to_le_bytes w32 n ++ rest))) e
+
+get-take : (n k b : ℕ) (xs : List ℕ) → slice_get (take n xs) k ≡ Some b → slice_get xs k ≡ Some b
+get-take zero k b xs h = absurd (none-some b h)
+get-take (suc n) k b [] h = h
+get-take (suc n) zero b (x ∷ xs) h = h
+get-take (suc n) (suc k) b (x ∷ xs) h = get-take n k b xs h
+
+suc_eight : (k : ℕ) → suc (suc (suc (suc (suc (suc (suc (suc k))))))) ≡ 8 + k
+suc_eight k = omega arith
+
+get-front : (xs ys : List ℕ) (k : ℕ) → k < length xs → slice_get (xs ++ ys) k ≡ slice_get xs k
+get-front xs ys k h = let x = get-below xs k h in get-append xs ys k x.0 x.1 ∙ sym x.1
+
+pub context_of : (packet : List ℕ) (wire n : ℕ) (a b s zeros items : List ℕ) → AreBytes packet → wire < 2 ^ 32
+    → n ≡ min packet_bytes (length packet) → a ≡ to_le_bytes w32 n → b ≡ to_le_bytes w32 wire → s ≡ take n packet
+    → length zeros ≡ packet_bytes - n → items ≡ a ++ (b ++ (s ++ zeros)) → IsPacketContext (seen packet wire) items
+context_of packet wire n a b s zeros items bytes w least ea eb es z e =
+    let same : s ≡ take packet_bytes packet = es ∙ ap (λ (k : ℕ). take k packet) least ∙ take_min packet_bytes packet in
+    let long : length (take packet_bytes packet) ≡ n = length-take packet_bytes packet ∙ sym least in
+    let size : length s ≡ n = ap length same ∙ long in
+    let few : n ≤ packet_bytes = omega (arith, least) in
+    let rest = s ++ zeros in
+    let total : length rest ≡ packet_bytes = length-append s zeros ∙ omega (arith, size, z, few) in
+    let f : items ≡ to_le_bytes w32 n ++ (to_le_bytes w32 wire ++ rest) =
+    e ∙ ap (λ (l : List ℕ). l ++ (b ++ rest)) ea ∙ ap (λ (l : List ℕ). to_le_bytes w32 n ++ (l ++ rest)) eb in
+    record {
+      size = ap length f ∙ suc_eight (length rest) ∙ ap (λ (k : ℕ). 8 + k) total;
+      bytes = λ k b h. bytes k b (get-take packet_bytes k b packet h);
+      captured = omega (arith, long, few);
+      captured_is = subst (λ (xs : List ℕ). number_at (slice_get xs) 0 4 ≡ Some (length (take packet_bytes packet))) (sym f)
+          (number_first n (to_le_bytes w32 wire ++ rest) (omega (arith, few)) ∙ ap Some (sym long));
+      wire = w;
+      wire_is = subst (λ (xs : List ℕ). number_at (slice_get xs) 4 4 ≡ Some wire) (sym f) (number_next n wire rest w);
+      packet = λ k h. ap (λ (xs : List ℕ). slice_get xs (8 + k)) f ∙ behind n wire k rest
+          ∙ ap (λ (xs : List ℕ). slice_get (xs ++ zeros) k) same ∙ get-front (take packet_bytes packet) zeros k h;
+    }
+
+-- Bytes that were added one after another to none.
+pub added : (a b c d w x y z : List ℕ) → w ≡ [] ++ a → x ≡ w ++ b → y ≡ x ++ c → z ≡ y ++ d → z ≡ a ++ (b ++ (c ++ d))
+added a b c d w x y z e f g h =
+    h ∙ ap (λ (l : List ℕ). l ++ d) (g ∙ ap (λ (l : List ℕ). l ++ c) (f ∙ ap (λ (l : List ℕ). l ++ b) e))
+    ∙ append_assoc (a ++ b) c d ∙ append_assoc a b (c ++ d)

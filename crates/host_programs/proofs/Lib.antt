@@ -1,0 +1,6 @@
+mod Each
+mod Laid
+mod OneExit
+mod Refused
+mod Returning
+mod Shapes

@@ -1,0 +1,35 @@
+-- What a run of a translation gives is what the classic program returns.
+use Rattle.std.proofs.Common.{◌≡◌, ℕ, List, [], length, Option, Some, None, refl, sym, ap, ◌∙◌, subst}
+use Rattle.bpf_model.specs.Exit.{ExitsWith}
+use Rattle.bpf_model.specs.Machine.{Loaded}
+use Rattle.bpf_model.specs.Real.{AreBytes}
+use Rattle.classic.specs.Translation.{loaded_program}
+use Rattle.classic_program.specs.declared.data.Data.{Data}
+use Rattle.classic_program.specs.declared.data.Data.TheVariants.{Packet}
+use Rattle.classic_program.specs.Context.{IsContext, IsPacketContext}
+use Rattle.classic_program.specs.Machine.{Input, Filters}
+use Rattle.classic_program.specs.WellFormed.{Checked as Classic}
+use Rattle.map_free_runs.specs.Lone.{loaded_alone}
+use Rattle.verifier.specs.Checked.{Checked}
+use Rattle.host_programs.specs.Opened.{IsTranslationOf}
+use Rattle.host_programs.specs.Runs.{ReturnsOn, Returns}
+use Rattle.host_programs.proofs.OneExit.{one_value}
+
+abbrev with_length : Checked → ℕ → Loaded
+with_length v n = record { code = v.program; maps = []; context_len = n }
+
+pub returns_on : (v : Checked) (c : Option Classic) (context : List ℕ) (steps n : ℕ) → IsTranslationOf v c
+    → length context ≡ v.ctx_len → AreBytes context → ExitsWith (loaded_alone v) context steps n → ReturnsOn c context n
+returns_on v None context steps n t long bytes x = tt
+returns_on v (Some c) context steps n t long bytes x = λ p is.
+    let r = t.translation p context is in
+    let y : ExitsWith (loaded_alone v) context r.2 r.0 =
+    subst (λ (k : ℕ). ExitsWith (with_length v k) context r.2 r.0) (sym t.context) r.3 in
+    let same : r.0 ≡ n = one_value (loaded_alone v) context r.2 steps r.0 n refl long bytes y x in
+    subst (Filters c.kind c.instructions p) same r.1
+
+pub returns : (c : Option Classic) (p : Input) (context : List ℕ) (n : ℕ) → IsPacketContext p context → ReturnsOn c context n → Returns c p n
+returns None p context n is r = tt
+returns (Some c) p context n is r = λ packets.
+    let filters = r p (subst (λ (d : Data). IsContext d p context) (sym packets) is) in
+    subst (λ (d : Data). Filters d c.instructions p n) packets filters

@@ -1,0 +1,5 @@
+pub mod Numbers
+pub mod Opened
+pub mod Packets
+pub mod Refusals
+pub mod Runs

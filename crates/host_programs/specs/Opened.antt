@@ -1,0 +1,60 @@
+-- What a host has opened.
+use Rattle.std.specs.Prelude.{◌≡◌, ◌≤◌, ℕ, List, Option, Some, None, length}
+use Rattle.bpf_model.specs.declared.limits.MapShape.{MapShape}
+use Rattle.bpf_model.specs.declared.limits.TheConstants.{CTX_BYTES, MAX_MAPS}
+use Rattle.bpf_model.specs.Exit.{HasNoMaps}
+use Rattle.bpf_model.specs.Shapes.{AreShapes}
+use Rattle.bpf_model.specs.Spelling.{IsProgram, text}
+use Rattle.bpf_model.specs.View.{shapes_of_maps}
+use Rattle.classic.specs.Translation.{IsTranslation}
+use Rattle.classic_program.specs.declared.data.Data.{Data}
+use Rattle.classic_program.specs.declared.insn.ClassicInsn.{ClassicInsn}
+use Rattle.classic_program.specs.declared.sock_filter.SockFilter.{SockFilter}
+use Rattle.classic_program.specs.Context.{context_bytes}
+use Rattle.classic_program.specs.Opcode.{AreInsnsOf}
+use Rattle.classic_program.specs.WellFormed.{Checked as Classic, checked, IsWellFormed}
+use Rattle.program_files.specs.ProgramFile.{FileContent, FileSays}
+use Rattle.verifier.specs.Checked.{Checked}
+
+-- a verified program, and the classic program that it translates, where it does
+pub record OpenProgram : Type 0 where
+  pub checked : Checked
+  pub classic : Option Classic
+
+-- Each run of the program exits with what the classic program returns, on a context of that program's data.
+pub record Translates (v : Checked) (c : Classic) : Type 0 where
+  pub context : v.ctx_len ≡ context_bytes c.kind
+  pub translation : IsTranslation c.kind c.instructions v.program
+
+abbrev pub IsTranslationOf : Checked → Option Classic → Type 0
+IsTranslationOf v None = Unit {0}
+IsTranslationOf v (Some c) = Translates v c
+
+-- the verified program of these bytes, for contexts of this length and maps of these shapes
+pub record IsOfBytes (bytes : List ℕ) (ctx_len : ℕ) (shapes : List MapShape) (p : OpenProgram)
+    : Type 0 where
+  pub is : IsProgram p.checked.program
+  pub program : bytes ≡ text p.checked.program
+  pub context : p.checked.ctx_len ≡ ctx_len
+  pub shapes_are : p.checked.shapes ≡ shapes
+  pub within : ctx_len ≤ CTX_BYTES
+  pub few : length shapes ≤ MAX_MAPS
+  pub valid : AreShapes shapes
+  pub classic : p.classic ≡ None
+
+-- the verified program of a program file, for its context and its maps
+pub record IsOfFile (bytes : List ℕ) (p : OpenProgram) : Type 0 where
+  pub content : FileContent
+  pub says : FileSays bytes content
+  pub is : IsProgram p.checked.program
+  pub code : content.code ≡ text p.checked.program
+  pub context : p.checked.ctx_len ≡ content.ctx_len
+  pub shapes : p.checked.shapes ≡ shapes_of_maps content.registry.maps
+  pub classic : p.classic ≡ None
+
+-- a translation of the classic program of these instructions
+pub record IsOfClassic (kind : Data) (filter : List SockFilter) (p : OpenProgram) : Type 0 where
+  pub instructions : List ClassicInsn
+  pub insns_of : AreInsnsOf filter instructions
+  pub well_formed : IsWellFormed kind instructions
+  pub classic : p.classic ≡ Some (checked kind instructions)

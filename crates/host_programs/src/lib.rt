@@ -1,0 +1,16 @@
+//! Programs as a host opens them: verified once, and then run over bytes that the host lends.
+//!
+//! An open program is never changed, so threads may share it. A run of one that names no map takes no memory, copies no context,
+//! and cannot fail but for a context of another length.
+#![tactic(auto)]
+
+mod fault;
+mod opening;
+mod packet;
+mod program;
+mod running;
+
+pub use classic::{Data, PACKET_BYTES, PACKET_CONTEXT};
+pub use fault::{OpenFault, Place, RunFault};
+pub use packet::packet_context;
+pub use program::HostProgram;

@@ -1,0 +1,102 @@
+//! An open program.
+
+use bpf_model::MapShape;
+use classic::ClassicProgram;
+use map_free_runs::has_no_maps;
+use std::marker::Model;
+use verifier::Verified;
+
+/// A verified program, and the classic program that it translates, where it was opened from one.
+#[derive(Drop)]
+pub struct HostProgram {
+    verified: Verified,
+    classic: Option<ClassicProgram>,
+    /// Whether it names no map.
+    alone: bool,
+}
+
+impl Model for HostProgram {
+    ghost use Rattle.std.specs.Prelude.{Decides};
+    ghost use Rattle.bpf_model.specs.Exit.{HasNoMaps};
+    ghost use Rattle.host_programs.specs.Opened.{OpenProgram, IsTranslationOf};
+
+    ghost Value = { OpenProgram };
+
+    ghost view = { λ p. record { checked = p.verified; classic = p.classic } };
+
+    ghost invariant = { λ p. Decides p.alone (HasNoMaps p.verified.program)
+        × IsTranslationOf p.verified p.classic };
+}
+
+impl HostProgram {
+    ghost use Rattle.std.specs.Prelude.{◌≡◌, ◌≤◌, Decides, Some, None, option_copied};
+    ghost use Rattle.bpf_model.specs.declared.limits.TheConstants.{CTX_BYTES};
+    ghost use Rattle.bpf_model.specs.Exit.{HasNoMaps};
+    ghost use Rattle.plan_laws.specs.Verified.{IsVerified};
+    ghost use Rattle.host_programs.specs.Opened.{IsTranslationOf, Translates};
+
+    /// A program that was verified.
+    pub fn of_verified(verified: Verified) -> HostProgram
+        ensures checked { result.checked ≡ verified }
+        ensures classic { result.classic ≡ None }
+    {
+        let alone = has_no_maps(&verified);
+        HostProgram {
+            verified,
+            classic: None,
+            alone,
+        }
+    }
+
+    /// A verified translation of a classic program.
+    pub(crate) fn of_translation(verified: Verified, classic: ClassicProgram) -> HostProgram
+        requires { Translates verified classic }
+        ensures checked { result.checked ≡ verified }
+        ensures classic { result.classic ≡ Some classic }
+    {
+        let alone = has_no_maps(&verified);
+        HostProgram {
+            verified,
+            classic: Some(classic),
+            alone,
+        }
+    }
+
+    /// The verified program.
+    pub fn verified(&self) -> &Verified
+        ensures { result.now ≡ self.now.checked }
+    {
+        &self.verified
+    }
+
+    /// How long in bytes a context of the program is.
+    pub fn ctx_len(&self) -> usize
+        ensures value { result ≡ self.now.checked.ctx_len }
+        ensures bound { result ≤ CTX_BYTES }
+    {
+        self.verified.ctx_len()
+    }
+
+    /// The shapes of the maps for which it was verified.
+    pub fn shapes(&self) -> &[MapShape]
+        ensures { result.now ≡ self.now.checked.shapes }
+    {
+        self.verified.shapes()
+    }
+
+    /// Whether the program names no map, so that it runs by itself.
+    pub fn names_no_map(&self) -> bool
+        ensures { Decides result (HasNoMaps self.now.checked.program) }
+    {
+        self.alone
+    }
+
+    /// A law: an open program is verified, and is the translation of its classic program, where it has one.
+    pub fn is_open(&self)
+        ensures verified { IsVerified self.now.checked.program self.now.checked.shapes
+            self.now.checked.ctx_len }
+        ensures translation { IsTranslationOf self.now.checked self.now.classic }
+    {
+        let _program = self.verified.program();
+    }
+}

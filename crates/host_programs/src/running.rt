@@ -1,0 +1,106 @@
+//! Runs of an open program by itself.
+ghost use Rattle.std.specs.Prelude.{◌≡◌, ◌≢◌, ◌*◌, ◌⊎◌, ◌↔◌, Err, IsOk, IfOk, OnOk, OnErr, length};
+ghost use Rattle.bpf_model.specs.Exit.{HasNoMaps};
+ghost use Rattle.classic_program.specs.Context.{context_bytes};
+ghost use Rattle.classic_program.specs.declared.data.Data.TheVariants.{Packet};
+ghost use Rattle.host_programs.specs.declared.fault.RunFault.TheVariants.{NamesMaps, Length};
+ghost use Rattle.host_programs.specs.Packets.{seen};
+ghost use Rattle.host_programs.specs.Runs.{ExitsAs, ExitsOnPacket, GivesEach, ReturnsOn, Returns};
+
+use crate::fault::RunFault;
+use crate::packet::packet_context;
+use crate::program::HostProgram;
+use bpf_model::are_bytes;
+use classic::PACKET_CONTEXT;
+use map_free_runs::run_over;
+
+impl HostProgram {
+    /// The exit value of a program that names no map, on a context of its length.
+    #[inline]
+    pub(crate) fn value_on(&self, context: &[u8]) -> u64
+        requires maps { HasNoMaps self.now.checked.program }
+        requires context { length context.now ≡ self.now.checked.ctx_len }
+        ensures exits { ExitsAs self.now.checked context.now result }
+        ensures returns { ReturnsOn self.now.classic context.now result }
+    {
+        self.is_open();
+        are_bytes(context);
+        run_over(self.verified(), context).value
+    }
+
+    /// Runs a program that names no map on a context, to its exit. The value is the program's own, whatever other threads do;
+    /// of a translated program it is what the classic program returns.
+    ///
+    /// Errors: `NamesMaps` where it names one; else `Length` where the context has another length than the program's.
+    pub fn run(&self, context: &[u8]) -> Result<u64, RunFault>
+        ensures exits { IfOk result (ExitsAs self.now.checked context.now) }
+        ensures returns { IfOk result (ReturnsOn self.now.classic context.now) }
+        ensures maps { (result ≡ Err NamesMaps) ↔ (HasNoMaps self.now.checked.program → ⊥) }
+        ensures length { HasNoMaps self.now.checked.program →
+            ((result ≡ Err Length) ↔ (length context.now ≢ self.now.checked.ctx_len)) }
+        ensures ran { HasNoMaps self.now.checked.program → length context.now ≡ self.now.checked.ctx_len →
+            IsOk result }
+    {
+        if !self.names_no_map() {
+            return Err(RunFault::NamesMaps);
+        }
+        if context.len() != self.ctx_len() {
+            return Err(RunFault::Length);
+        }
+        Ok(self.value_on(context))
+    }
+
+    /// Runs such a program on contexts that stand one behind another, as many as there are results.
+    ///
+    /// Errors, and then no result is written: `NamesMaps` where it names a map; else `Length` where the contexts are not as many
+    /// bytes.
+    pub fn run_each(&self, contexts: &[u8], results: &mut [u64]) -> Result<(), RunFault>
+        ensures each { OnOk result (GivesEach self.now contexts.now results.new) }
+        ensures count { length results.new ≡ length results.old }
+        ensures maps { (result ≡ Err NamesMaps) ↔ (HasNoMaps self.now.checked.program → ⊥) }
+        ensures length { HasNoMaps self.now.checked.program → ((result ≡ Err Length)
+            ↔ (length contexts.now ≢ length results.old * self.now.checked.ctx_len)) }
+        ensures ran { HasNoMaps self.now.checked.program →
+            length contexts.now ≡ length results.old * self.now.checked.ctx_len → IsOk result }
+        ensures unwritten { OnErr result (results.new ≡ results.old) }
+    {
+        if !self.names_no_map() {
+            return Err(RunFault::NamesMaps);
+        }
+        let long = self.ctx_len();
+        let count = results.len();
+        if count.checked_mul(long) != Some(contexts.len()) {
+            return Err(RunFault::Length);
+        }
+        let mut rest = contexts;
+        for at in 0..count {
+            let (context, more) = rest.split_at(long);
+            results[at] = self.value_on(context);
+            rest = more;
+        }
+        Ok(())
+    }
+
+    /// Runs such a program on a packet, of which it sees the first `PACKET_BYTES`, as if no more had been captured. The context
+    /// is that of a packets' filter: the captured length, the length on the wire, and the bytes.
+    ///
+    /// Errors: `NamesMaps` where it names one; else `Length` where it was not verified for contexts of packets.
+    pub fn run_on_packet(&self, packet: &[u8], wire: u32) -> Result<u64, RunFault>
+        ensures exits { IfOk result (ExitsOnPacket self.now.checked (seen packet.now wire)) }
+        ensures returns { IfOk result (Returns self.now.classic (seen packet.now wire)) }
+        ensures maps { (result ≡ Err NamesMaps) ↔ (HasNoMaps self.now.checked.program → ⊥) }
+        ensures length { HasNoMaps self.now.checked.program →
+            ((result ≡ Err Length) ↔ (self.now.checked.ctx_len ≢ context_bytes Packet)) }
+        ensures ran { HasNoMaps self.now.checked.program → self.now.checked.ctx_len ≡ context_bytes Packet →
+            IsOk result }
+    {
+        if !self.names_no_map() {
+            return Err(RunFault::NamesMaps);
+        }
+        if self.ctx_len() != PACKET_CONTEXT {
+            return Err(RunFault::Length);
+        }
+        let context = packet_context(packet, wire);
+        Ok(self.value_on(context.as_slice()))
+    }
+}
