@@ -1,5 +1,5 @@
 -- Runs on contexts that stand one behind another.
-use Rattle.std.proofs.Common.{inl, inr, ◌≡◌, ℕ, zero, suc, ◌+◌, ◌*◌, ◌<◌, List, [], ◌∷◌, length, drop, take, Some, refl, sym, ap, ◌∙◌, subst, arith, slice_get, slice_set}
+use Rattle.std.proofs.Common.{inl, inr, ◌≡◌, ℕ, zero, suc, ◌+◌, ◌<◌, List, [], ◌∷◌, drop, Some, refl, sym, ap, ◌∙◌, subst, arith, slice_get, slice_set}
 use Rattle.bpf_model.proofs.Lists.{get-set_cases}
 use Rattle.host_programs.specs.Opened.{OpenProgram}
 use Rattle.host_programs.specs.Runs.{Gives, context_at}

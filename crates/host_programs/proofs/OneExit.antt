@@ -1,20 +1,17 @@
 -- A program without maps has one exit value on a context.
-use Rattle.std.proofs.Common.{◌≡◌, ℕ, suc, ◌+◌, ◌<◌, ◌⊎◌, inl, inr, List, [], ◌∷◌, length, Some, None, refl, sym, ap, ◌∙◌, subst, arith}
+use Rattle.std.proofs.Common.{◌≡◌, ℕ, ◌+◌, ◌⊎◌, inl, inr, List, [], ◌∷◌, length, Some, None, refl, sym, ap, ◌∙◌, subst, arith}
 use Rattle.std.specs.Prelude.{slice_get, Option}
 use Rattle.std.proofs.lemmas.Option.{none-some}
-use Rattle.bpf_model.specs.declared.limits.MapShape.{MapShape}
-use Rattle.bpf_model.specs.declared.event.Answer.TheVariants.{Moved, Exited}
-use Rattle.bpf_model.specs.Element.{Element, IsLinkedAt}
+use Rattle.bpf_model.specs.declared.event.Answer.TheVariants.{Moved}
+use Rattle.bpf_model.specs.Element.{Element}
 use Rattle.bpf_model.specs.Exit.{ExitsFrom, exits_now, exits_later, ExitsWith}
 use Rattle.bpf_model.specs.Machine.{Loaded, Run, fresh_run, section_of}
-use Rattle.bpf_model.specs.MapState.{Store}
 use Rattle.bpf_model.specs.Real.{AreBytes}
-use Rattle.bpf_model.specs.Section.{Section}
 use Rattle.model_laws.proofs.Exits.{no_maps}
 use Rattle.plan_laws.proofs.Exits.{one_exit}
 use Rattle.plan_laws.proofs.Reaching.{same-insn}
-use Rattle.plan_laws.specs.MayExit.{MayExitFrom, MayExitWith, may_exit_now, may_exit_later}
-use Rattle.plan_laws.specs.Verified.{Surrounds, AreMapsBound}
+use Rattle.plan_laws.specs.MayExit.{MayExitFrom, may_exit_now, may_exit_later}
+use Rattle.plan_laws.specs.Verified.{Surrounds}
 
 -- a run of a program without maps, on a context of its length
 record IsAlone (run : Run) : Type 0 where

@@ -1,11 +1,9 @@
 -- What a run of a translation gives is what the classic program returns.
-use Rattle.std.proofs.Common.{◌≡◌, ℕ, List, [], length, Option, Some, None, refl, sym, ap, ◌∙◌, subst}
+use Rattle.std.proofs.Common.{◌≡◌, ℕ, List, [], length, Option, Some, None, refl, sym, subst}
 use Rattle.bpf_model.specs.Exit.{ExitsWith}
 use Rattle.bpf_model.specs.Machine.{Loaded}
 use Rattle.bpf_model.specs.Real.{AreBytes}
-use Rattle.classic.specs.Translation.{loaded_program}
 use Rattle.classic_program.specs.declared.data.Data.{Data}
-use Rattle.classic_program.specs.declared.data.Data.TheVariants.{Packet}
 use Rattle.classic_program.specs.Context.{IsContext, IsPacketContext}
 use Rattle.classic_program.specs.Machine.{Input, Filters}
 use Rattle.classic_program.specs.WellFormed.{Checked as Classic}

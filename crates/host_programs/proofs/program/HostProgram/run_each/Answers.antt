@@ -1,7 +1,7 @@
-use Rattle.std.proofs.Common.{◌≡◌, ℕ, ◌+◌, ◌*◌, ◌<◌, List, length, drop, take, refl, sym, ap, ◌∙◌, subst, arith}
+use Rattle.std.proofs.Common.{◌≡◌, ℕ, ◌+◌, ◌*◌, List, drop, take, ap, ◌∙◌, subst, arith}
 use Rattle.std.proofs.lemmas.List.{length-set}
 use Rattle.std.proofs.lemmas.Option.{slice_get_within}
-use Rattle.host_programs.specs.Runs.{Gives, ExitsAs, ReturnsOn, context_at}
+use Rattle.host_programs.specs.Runs.{Gives, context_at}
 use Rattle.host_programs.proofs.Each.{drop-more, next-each}
 use Rattle.host_programs.proofs.program.HostProgram.run_each.Goals as goal
 

@@ -1,0 +1,12 @@
+//! The runtime for a host in C, or in what calls C, in the host's own process: `bpfrt.h` declares each function here.
+//!
+//! A handle is a struct of two words which the host owns, all zeros where it is closed. Each call tests what it is given, and
+//! answers with 0 or more, or with a negative number of errno's; none has a `requires`. What the host owes, and nothing checks,
+//! stands in `bpfrt.h` and in SECURITY.md.
+#![tactic(auto)]
+
+mod number;
+mod opening;
+mod refusal;
+mod running;
+mod shape;

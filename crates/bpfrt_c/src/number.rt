@@ -1,0 +1,34 @@
+//! What a call answers: 0 or more, or a negative number of errno's (POSIX, errno.h; Linux, errno-base.h and errno.h).
+
+/// There is no such element.
+pub const ENOENT: i32 = -2;
+
+/// No program or map has the number.
+pub const ENXIO: i32 = -6;
+
+/// The handle holds nothing, or something else.
+pub const EBADF: i32 = -9;
+
+/// Memory ran out.
+pub const ENOMEM: i32 = -12;
+
+/// The verifier refuses the program.
+pub const EACCES: i32 = -13;
+
+/// The handle holds something already.
+pub const EBUSY: i32 = -16;
+
+/// An argument is none that the call takes.
+pub const EINVAL: i32 = -22;
+
+/// The program names a map, so it runs over a world or a table alone.
+pub const EOPNOTSUPP: i32 = -95;
+
+/// No run has the number, or it has ended.
+pub const ESRCH: i32 = -3;
+
+/// The world has as many programs as it may have.
+pub const E2BIG: i32 = -7;
+
+/// Every run slot of the world is occupied.
+pub const EAGAIN: i32 = -11;

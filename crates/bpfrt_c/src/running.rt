@@ -1,0 +1,176 @@
+//! Runs of programs that name no map.
+ghost use Rattle.std.specs.Prelude.{◌≡◌, ◌≢◌, pos, neg_ℤ, Some, None, Err, IfSome, IsOk, IfOk, IfErr, OnOk, OnErr, length};
+ghost use Rattle.host_programs.specs.Runs.{Gives, GivesEach};
+ghost use Rattle.host_values.specs.Values.{program_in};
+ghost use Rattle.bpfrt_c.specs.Programs.{CanRunOn, CanRunOnEach, CanRunOnPackets, GivesOnPacket};
+
+use crate::number::{EBADF, EINVAL, EOPNOTSUPP};
+use host_handle::Host;
+use host_programs::RunFault;
+use host_values::Held;
+use std::alloc::Global;
+
+/// The number of why a program is not run.
+fn number_of(fault: RunFault) -> i32
+    ensures { result ≢ pos 0 }
+{
+    match fault {
+        RunFault::NamesMaps => EOPNOTSUPP,
+        RunFault::Length => EINVAL,
+    }
+}
+
+/// Runs the program that is held, if one is.
+fn run_held(held: &Held, context: &[u8]) -> Result<u64, i32>
+    ensures gives { IfOk result (λ n. IfSome (program_in (Some held.now)) (λ p. Gives p context.now n)) }
+    ensures ran { IfSome (program_in (Some held.now)) (λ p. CanRunOn p context.now → IsOk result) }
+    ensures none { program_in (Some held.now) ≡ None → result ≡ Err (neg_ℤ (pos 9)) }
+    ensures fault { IfErr result (λ number. number ≢ pos 0) }
+{
+    let Held::Program(program) = held;
+    match program.run(context) {
+        Ok(value) => Ok(value),
+        Err(fault) => Err(number_of(fault)),
+    }
+}
+
+/// Runs the program that is held, if one is, on each context.
+fn run_held_on_each(held: &Held, contexts: &[u8], values: &mut [u64]) -> Result<(), i32>
+    ensures gives { OnOk result (IfSome (program_in (Some held.now)) (λ p. GivesEach p contexts.now values.new)) }
+    ensures ran { IfSome (program_in (Some held.now)) (λ p.
+        CanRunOnEach p contexts.now (length values.old) → IsOk result) }
+    ensures none { program_in (Some held.now) ≡ None → result ≡ Err (neg_ℤ (pos 9)) }
+    ensures unwritten { OnErr result (values.new ≡ values.old) }
+    ensures fault { IfErr result (λ number. number ≢ pos 0) }
+{
+    let Held::Program(program) = held;
+    match program.run_each(contexts, values) {
+        Ok(()) => Ok(()),
+        Err(fault) => Err(number_of(fault)),
+    }
+}
+
+/// Runs the program that is held, if one is, on a packet.
+fn run_held_on_packet(held: &Held, packet: &[u8], wire: u32) -> Result<u64, i32>
+    ensures gives { IfOk result (λ n. IfSome (program_in (Some held.now)) (λ p.
+        GivesOnPacket p packet.now wire n)) }
+    ensures ran { IfSome (program_in (Some held.now)) (λ p. CanRunOnPackets p → IsOk result) }
+    ensures none { program_in (Some held.now) ≡ None → result ≡ Err (neg_ℤ (pos 9)) }
+    ensures fault { IfErr result (λ number. number ≢ pos 0) }
+{
+    let Held::Program(program) = held;
+    match program.run_on_packet(packet, wire) {
+        Ok(value) => Ok(value),
+        Err(fault) => Err(number_of(fault)),
+    }
+}
+
+/// Runs a program that names no map on a context, to its exit, and writes its value.
+///
+/// 0, or -EBADF where no program is held; -EOPNOTSUPP where it names a map; -EINVAL where the context has another length than the
+/// program's. Then nothing is written.
+#[unsafe(no_mangle)]
+pub extern "C" fn bpfrt0_prog_run(
+    alloc: Global,
+    host: &mut Host,
+    context: &[u8],
+    value: &mut u64,
+) -> i32
+    ensures gives { result ≡ pos 0 → IfSome (program_in host.old.handle.held) (λ p.
+        Gives p context.now value.new) }
+    ensures ran { IfSome (program_in host.old.handle.held) (λ p. CanRunOn p context.now → result ≡ pos 0) }
+    ensures none { program_in host.old.handle.held ≡ None → result ≡ neg_ℤ (pos 9) }
+    ensures unwritten { result ≢ pos 0 → value.new ≡ value.old }
+    ensures kept { host.new.handle.held ≡ host.old.handle.held }
+{
+    let Some(held) = host.take(alloc) else {
+        return EBADF;
+    };
+    let ran = run_held(&held, context);
+    host.put(held);
+    match ran {
+        Ok(number) => {
+            *value = number;
+            0
+        }
+        Err(number) => number,
+    }
+}
+
+/// Runs such a program on contexts that stand one behind another, as many as there are values.
+///
+/// It answers as `bpfrt0_prog_run`; -EINVAL where the contexts are not as many bytes.
+#[unsafe(no_mangle)]
+pub extern "C" fn bpfrt0_prog_run_many(
+    alloc: Global,
+    host: &mut Host,
+    contexts: &[u8],
+    values: &mut [u64],
+) -> i32
+    ensures gives { result ≡ pos 0 → IfSome (program_in host.old.handle.held) (λ p.
+        GivesEach p contexts.now values.new) }
+    ensures ran { IfSome (program_in host.old.handle.held) (λ p.
+        CanRunOnEach p contexts.now (length values.old) → result ≡ pos 0) }
+    ensures none { program_in host.old.handle.held ≡ None → result ≡ neg_ℤ (pos 9) }
+    ensures unwritten { result ≢ pos 0 → values.new ≡ values.old }
+    ensures kept { host.new.handle.held ≡ host.old.handle.held }
+{
+    let Some(held) = host.take(alloc) else {
+        return EBADF;
+    };
+    let ran = run_held_on_each(&held, contexts, values);
+    host.put(held);
+    match ran {
+        Ok(()) => 0,
+        Err(number) => number,
+    }
+}
+
+/// Runs such a program on a packet, of which it sees the first 248 bytes, as if no more had been captured.
+///
+/// It answers as `bpfrt0_prog_run`; -EINVAL where the program has no context of packets, which has 256 bytes.
+#[unsafe(no_mangle)]
+pub extern "C" fn bpfrt0_prog_run_packet(
+    alloc: Global,
+    host: &mut Host,
+    packet: &[u8],
+    wire: u32,
+    value: &mut u64,
+) -> i32
+    ensures gives { result ≡ pos 0 → IfSome (program_in host.old.handle.held) (λ p.
+        GivesOnPacket p packet.now wire value.new) }
+    ensures ran { IfSome (program_in host.old.handle.held) (λ p. CanRunOnPackets p → result ≡ pos 0) }
+    ensures none { program_in host.old.handle.held ≡ None → result ≡ neg_ℤ (pos 9) }
+    ensures unwritten { result ≢ pos 0 → value.new ≡ value.old }
+    ensures kept { host.new.handle.held ≡ host.old.handle.held }
+{
+    let Some(held) = host.take(alloc) else {
+        return EBADF;
+    };
+    let ran = run_held_on_packet(&held, packet, wire);
+    host.put(held);
+    match ran {
+        Ok(number) => {
+            *value = number;
+            0
+        }
+        Err(number) => number,
+    }
+}
+
+/// How long a context of the program that is held is, or -EBADF.
+#[unsafe(no_mangle)]
+pub extern "C" fn bpfrt0_prog_ctx_len(alloc: Global, host: &mut Host) -> i32
+    ensures value { IfSome (program_in host.old.handle.held) (λ p. result ≡ pos p.checked.ctx_len) }
+    ensures none { program_in host.old.handle.held ≡ None → result ≡ neg_ℤ (pos 9) }
+    ensures kept { host.new.handle.held ≡ host.old.handle.held }
+{
+    let Some(held) = host.take(alloc) else {
+        return EBADF;
+    };
+    let number = match held.as_ref() {
+        Held::Program(program) => program.ctx_len() as i32,
+    };
+    host.put(held);
+    number
+}

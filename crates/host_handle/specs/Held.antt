@@ -1,0 +1,12 @@
+-- What a handle owns.
+use Rattle.std.specs.Prelude.{Option, Some, None}
+use base.Fml.{Fml, ftrue}
+use denote.RawPtr.{Ptr}
+use Rattle.std.specs.Box.Ownership.{box_owns}
+use Rattle.std.specs.contracts.impls.GlobalAllocator.TheImpl.{ghosts}
+use Rattle.host_values.specs.declared.Held.{Held}
+use Rattle.host_values.specs.contracts.Held.{the_row}
+
+unfoldable pub holds : Ptr → Option Held → Fml
+holds p None = ftrue
+holds p (Some v) = box_owns (ghosts.dealloc_token (record { memory = record { seal = tt } })) the_row p v

@@ -1,0 +1,12 @@
+//! What a host in C holds behind a handle.
+#![tactic(auto)]
+
+use host_programs::HostProgram;
+use std::sync::Arc;
+
+/// One of the values that the library hands to C. A handle can be asked which it has.
+#[derive(Drop)]
+pub enum Held {
+    /// A program, which other handles may share.
+    Program(Arc<HostProgram>),
+}
