@@ -42,7 +42,8 @@ stat = stat linked 0 unlinked 0 given 1 worn 0 runs 4 open 0
 /// The world of the first program.
 fn first_world(alloc: Global) -> Result<World, Fail> {
     let setup = Setup::read(alloc, FIRST)?;
-    Ok(world_of(alloc, &setup.shapes, setup.loaded)??)
+    let loaded = setup.loaded;
+    Ok(world_of(alloc, &setup.shapes, loaded)??)
 }
 
 /// The world answers as the reference model that has had both programs from the start.
