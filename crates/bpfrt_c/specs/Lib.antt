@@ -1,3 +1,4 @@
 pub mod Programs
 pub mod Refused
 pub mod Shapes
+pub mod Worlds

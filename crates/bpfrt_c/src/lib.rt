@@ -5,8 +5,11 @@
 //! stands in `bpfrt.h` and in SECURITY.md.
 #![tactic(auto)]
 
+mod making;
 mod number;
 mod opening;
 mod refusal;
 mod running;
 mod shape;
+mod through;
+mod worlds;

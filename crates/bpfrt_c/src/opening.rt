@@ -171,7 +171,9 @@ fn another(alloc: Global, held: &Held) -> Result<Box<Held>, i32>
     ensures some { IfOk result (λ b. IsSome (program_in (Some b.value))) }
     ensures fault { IfErr result (λ number. number ≢ pos 0) }
 {
-    let Held::Program(program) = held;
+    let Held::Program(program) = held else {
+        return Err(EBADF);
+    };
     let Ok(shared) = Arc::try_clone(program) else {
         return Err(ENOMEM);
     };

@@ -27,7 +27,9 @@ fn run_held(held: &Held, context: &[u8]) -> Result<u64, i32>
     ensures none { program_in (Some held.now) ≡ None → result ≡ Err (neg_ℤ (pos 9)) }
     ensures fault { IfErr result (λ number. number ≢ pos 0) }
 {
-    let Held::Program(program) = held;
+    let Held::Program(program) = held else {
+        return Err(EBADF);
+    };
     match program.run(context) {
         Ok(value) => Ok(value),
         Err(fault) => Err(number_of(fault)),
@@ -43,7 +45,9 @@ fn run_held_on_each(held: &Held, contexts: &[u8], values: &mut [u64]) -> Result<
     ensures unwritten { OnErr result (values.new ≡ values.old) }
     ensures fault { IfErr result (λ number. number ≢ pos 0) }
 {
-    let Held::Program(program) = held;
+    let Held::Program(program) = held else {
+        return Err(EBADF);
+    };
     match program.run_each(contexts, values) {
         Ok(()) => Ok(()),
         Err(fault) => Err(number_of(fault)),
@@ -58,7 +62,9 @@ fn run_held_on_packet(held: &Held, packet: &[u8], wire: u32) -> Result<u64, i32>
     ensures none { program_in (Some held.now) ≡ None → result ≡ Err (neg_ℤ (pos 9)) }
     ensures fault { IfErr result (λ number. number ≢ pos 0) }
 {
-    let Held::Program(program) = held;
+    let Held::Program(program) = held else {
+        return Err(EBADF);
+    };
     match program.run_on_packet(packet, wire) {
         Ok(value) => Ok(value),
         Err(fault) => Err(number_of(fault)),
@@ -170,6 +176,7 @@ pub extern "C" fn bpfrt0_prog_ctx_len(alloc: Global, host: &mut Host) -> i32
     };
     let number = match held.as_ref() {
         Held::Program(program) => program.ctx_len() as i32,
+        Held::World(_) => EBADF,
     };
     host.put(held);
     number

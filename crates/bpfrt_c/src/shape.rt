@@ -1,5 +1,6 @@
 //! Shapes of maps, as C writes them.
-ghost use Rattle.std.specs.Prelude.{◌≡◌, IfOk, IfErr};
+ghost use Rattle.std.specs.Prelude.{◌≡◌, ◌≤◌, length, IfOk, IfErr};
+ghost use Rattle.bpf_model.specs.declared.limits.TheConstants.{MAX_MAPS};
 ghost use Rattle.bpfrt_c.specs.Shapes.{shape_in_c, AreShapesInC, IsShapesFault};
 
 use bpf_model::{MAX_MAPS, MapKind, MapShape};
@@ -67,6 +68,7 @@ impl<T: Drop> From<AllocFailed<T>> for ShapesFault {
 /// The shapes that C wrote.
 pub fn shapes_of(alloc: Global, shapes: &[Shape]) -> Result<Vec<MapShape>, ShapesFault>
     ensures shapes { IfOk result (λ v. AreShapesInC shapes.now v.items) }
+    ensures few { IfOk result (λ v. length v.items ≤ MAX_MAPS) }
     ensures fault { IfErr result (IsShapesFault shapes.now) }
 {
     if shapes.len() > MAX_MAPS {

@@ -1,4 +1,5 @@
 -- What a handle owns.
+use Rattle.std.specs.Coded.{Coded}
 use Rattle.std.specs.Prelude.{Option, Some, None}
 use base.Fml.{Fml, ftrue}
 use denote.RawPtr.{Ptr}
@@ -10,3 +11,7 @@ use Rattle.host_values.specs.contracts.Held.{the_row}
 unfoldable pub holds : Ptr → Option Held → Fml
 holds p None = ftrue
 holds p (Some v) = box_owns (ghosts.dealloc_token (record { memory = record { seal = tt } })) the_row p v
+
+-- how a proof tells what is held apart
+abbrev pub held_code : Coded Held
+held_code = the_row.coded

@@ -4,7 +4,9 @@
 #![tactic(auto)]
 
 ghost use Rattle.std.specs.Prelude.{◌≡◌, Option, Some, None, IsSome};
+ghost use Rattle.std.specs.Coded.{coded_option};
 ghost use Rattle.host_values.specs.declared.Held.{Held as HeldOf};
+ghost use Rattle.host_handle.specs.Held.{held_code};
 
 mod host;
 
@@ -19,7 +21,7 @@ use std::marker::Model;
 #[derive(Drop)]
 pub struct Handle {
     at: *mut u8,
-    ghost held: { Option HeldOf },
+    ghost held: { Option HeldOf } by { coded_option held_code },
 }
 
 impl Model for Handle {

@@ -1,11 +1,17 @@
 -- What a handle holds.
 use Rattle.std.specs.Prelude.{Option, Some, None}
 use Rattle.std.specs.Arc.{arc_value}
+use Rattle.bpf_model.specs.View.{WorldView}
 use Rattle.host_programs.specs.Opened.{OpenProgram}
 use Rattle.host_values.specs.declared.Held.{Held}
-use Rattle.host_values.specs.declared.Held.TheVariants.{Program}
+use Rattle.host_values.specs.declared.Held.TheVariants.{Program, World}
 
 -- the program, where one is held
 abbrev pub program_in : Option Held → Option OpenProgram
 program_in (Some (Program p)) = Some (arc_value p)
 program_in held = None
+
+-- the world, where one is held
+abbrev pub world_in : Option Held → Option WorldView
+world_in (Some (World w)) = Some w
+world_in held = None

@@ -3,10 +3,13 @@
 
 use host_programs::HostProgram;
 use std::sync::Arc;
+use world::World;
 
 /// One of the values that the library hands to C. A handle can be asked which it has.
 #[derive(Drop)]
 pub enum Held {
     /// A program, which other handles may share.
     Program(Arc<HostProgram>),
+    /// A world of maps and programs.
+    World(World),
 }
