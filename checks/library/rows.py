@@ -180,7 +180,7 @@ class Pcap:
 
     def compiled(self, expression):
         program = Compiled()
-        if self.library.pcap_compile(self.link, program, expression.encode(), 1, 0xFFFFFFFF):
+        if self.library.pcap_compile(self.link, program, expression.encode(), 1, 0):
             raise SystemExit(f"library: libpcap does not compile `{expression}`: {self.library.pcap_geterr(self.link).decode()}")
         return program
 
