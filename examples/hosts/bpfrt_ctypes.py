@@ -120,14 +120,21 @@ class Held:
     __del__ = close
 
 
+class Program:
+    """A program, the numbers of its maps, whether it names none, and its number in the world, where it has one."""
+
+    def __init__(self, held, maps, is_alone):
+        self.held, self.maps, self.is_alone, self.number = held, maps, is_alone, None
+
+
 class Runtime:
     def __init__(self, library="libbpfrt.so.0"):
         self._library = library_at(library)
         self._turn = threading.RLock()
         self._is_closed = False
         self._maps = {}  # The number and the shape of each map, by its name.
-        self._programs = []  # Of each program its handle, the numbers of its maps, and whether it names none.
-        self._world, self._loaded = None, 0  # The world, where there is one, and how many programs it has.
+        self._programs = []
+        self._world = None  # A handle, where maps and programs are made.
         self._runs = {}  # Whether a run has exited, by its run slot.
 
     def __enter__(self):
@@ -140,7 +147,7 @@ class Runtime:
         """Frees the programs and the maps."""
         with self._turn:
             self._is_closed = True
-            for held in [*(held for held, *_ in self._programs), *([self._world] if self._world else [])]:
+            for held in [*(program.held for program in self._programs), *([self._world] if self._world else [])]:
                 held.close()
 
     def _call(self, name, held, *given):
@@ -198,13 +205,18 @@ class Runtime:
         """The number of a program that a call opens, for maps of these names."""
         with self._turn:
             self._find_room()
-            numbers = [self._map(name)[0] for name in maps]
-            held = self._opened(name, *given)
+            numbers, held = [self._map(it)[0] for it in maps], self._opened(name, *given)
             is_alone = self._library.bpfrt0_prog_run_many(held.handle, b"", 0, b"", 0) == 0
+            program = Program(held, numbers, is_alone)
             if self._world:
-                self._load(held, numbers)
-            self._programs.append((held, numbers, is_alone))
+                self._bind(program)
+            self._programs.append(program)
             return len(self._programs) - 1
+
+    def _program(self, number):
+        if checked_number(number) >= len(self._programs):
+            raise Refused(62, f"no program {number}")
+        return self._programs[number]
 
     def _find_room(self):
         if len(self._programs) == MOST_PROGRAMS:
@@ -213,11 +225,13 @@ class Runtime:
     def load_code(self, code, context=0, maps=()):
         """Loads a program's bytes, for contexts of so many bytes and maps of these names: its number."""
         maps, context, code = list(maps), checked_number(context), bytes_of(code)
-        self._find_room()
-        if context > LONGEST_CONTEXT:
-            raise Refused(63, f"a context of {context} bytes")
-        shapes = [self._map(name)[1] for name in maps]
-        return self._add_program(maps, "prog_open", code, len(code), context, (Shape * max(1, len(shapes)))(*shapes), len(shapes))
+        with self._turn:
+            self._find_room()
+            if context > LONGEST_CONTEXT:
+                raise Refused(63, f"a context of {context} bytes")
+            shapes = [self._map(name)[1] for name in maps]
+            room = (Shape * max(1, len(shapes)))(*shapes)
+            return self._add_program(maps, "prog_open", code, len(code), context, room, len(shapes))
 
     def load(self, text, make_maps=True):
         """Makes the maps of a program file's text, or takes those of the same names, and loads its program: its number.
@@ -249,21 +263,22 @@ class Runtime:
         given = bytes_of(insns)
         return self._add_program([], "prog_open_policy", given, len(given))
 
-    def _load(self, held, numbers):
-        """Binds a program to its maps, in the world."""
+    def _bind(self, program):
+        """Adds a program to the world, over its maps."""
+        count = len(program.maps)
         try:
-            self._call("world_load", self._world, held.handle, (U32 * max(1, len(numbers)))(*numbers), len(numbers))
+            program.number = self._call("world_load", self._world, program.held.handle, (U32 * max(1, count))(*program.maps), count)
         except OSError as error:
             raise MemoryError("world_load") if error.errno == errno.ENOMEM else error
-        self._loaded += 1
 
     def _made_world(self):
         """The world, with all programs."""
         if not self._world:
             shapes = [shape for _, shape in self._maps.values()]
             self._world = self._opened("world_open", (Shape * max(1, len(shapes)))(*shapes), len(shapes))
-        for held, numbers, _ in self._programs[self._loaded:]:
-            self._load(held, numbers)
+        for program in self._programs:
+            if program.number is None:
+                self._bind(program)
         return self._world
 
     def _in_map(self, name, call, key, *given, value=None):
@@ -297,18 +312,16 @@ class Runtime:
     def _of_runs(self, call, *given, refusals):
         """What a call on runs answers; some of errno's numbers are refusals."""
         try:
-            return self._call(call, self._made_world(), *given)
+            return self._call(call, self._world, *given)
         except OSError as error:
             if error.errno not in refusals:
                 raise
             raise Refused(refusals[error.errno], call) from None
 
     def _started(self, call, program, context, *given):
-        program, context = checked_number(program), bytes_of(context)
-        if program >= len(self._programs):
-            raise Refused(62, f"no program {program}")
-        refusals = {errno.ENXIO: 62, errno.EINVAL: 63, errno.EAGAIN: 64}
-        return self._of_runs(call, program, context, len(context), *given, refusals=refusals)
+        context, program = bytes_of(context), self._program(program)
+        self._made_world()
+        return self._of_runs(call, program.number, context, len(context), *given, refusals={errno.EINVAL: 63, errno.EAGAIN: 64})
 
     def start(self, program, context=b""):
         """Starts a run: its run slot."""
@@ -354,7 +367,7 @@ class Runtime:
         when the others have run."""
         contexts = [*map(bytes_of, contexts)]
         with self._turn:
-            if contexts and self._is_alone(program) and len({*map(len, contexts)}) == 1:
+            if contexts and self._program(program).is_alone and len({*map(len, contexts)}) == 1:
                 return self.run_buffer(program, b"".join(contexts), len(contexts)).tolist()
             values, refused = [], None
             for context in contexts:
@@ -366,13 +379,9 @@ class Runtime:
             raise refused
         return values
 
-    def _is_alone(self, program):
-        """Whether there is such a program, and it names no map."""
-        return checked_number(program) < len(self._programs) and self._programs[program][2]
-
     def _value(self, program, context):
-        """What a run in the world exits with; one of a program that names no map has no need of it."""
-        if self._is_alone(program):
+        """What a run exits with; one of a program that names no map has no need of the world."""
+        if self._program(program).is_alone:
             return self.run_buffer(program, context, 1)[0]
         value = U64()
         self._started("world_run", program, context, value)
@@ -381,9 +390,7 @@ class Runtime:
     def run_buffer(self, program, contexts, count=None):
         """Runs a program that names no map on contexts that stand one behind another in a buffer: an array of the exit values."""
         with self._turn:
-            if checked_number(program) >= len(self._programs):
-                raise Refused(62, f"no program {program}")
-            held, (room, size) = self._programs[program][0], lent(contexts)
+            held, (room, size) = self._program(program).held, lent(contexts)
             length = self._call("prog_ctx_len", held)
             count = size // max(1, length) if count is None else checked_number(count)
             if size != count * length:
@@ -395,14 +402,12 @@ class Runtime:
     def run_packet(self, program, packet, length=None):
         """Runs a filter on a packet, of which so many bytes were on the wire: what the classic program returns."""
         with self._turn:
-            if checked_number(program) >= len(self._programs):
-                raise Refused(62, f"no program {program}")
-            room, size = lent(packet)
+            held, (room, size) = self._program(program).held, lent(packet)
             value, length = U64(), size if length is None else checked_number(length)
             if length > LARGEST:
                 raise ValueError(f"{length} is no length of a packet")
             try:
-                self._call("prog_run_packet", self._programs[program][0], room, size, length, value)
+                self._call("prog_run_packet", held, room, size, length, value)
             except OSError as error:
                 raise Refused(63, "the program is no filter") if error.errno == errno.EINVAL else error
             return value.value
