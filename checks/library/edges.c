@@ -9,6 +9,9 @@
 #define IS(call, wanted) judge(#call, (long)(call), (long)(wanted))
 #define REFUSED(call, number, what, where) refused(#call, (call), number, what, where)
 
+_Static_assert(sizeof(struct bpfrt_prog) == 2 * sizeof(void *) && sizeof(struct bpfrt_world) == 2 * sizeof(void *), "two words");
+_Static_assert(sizeof(struct bpfrt_refusal) == 128 && sizeof(struct bpfrt_map_shape) == 24, "as the library lays them out");
+
 enum { MANY = 70 };
 
 static const unsigned char exit_one[] = {0xb7, 0, 0, 0, 1, 0, 0, 0, 0x95, 0, 0, 0, 0, 0, 0, 0};
