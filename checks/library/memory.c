@@ -1,6 +1,7 @@
 /* Makes each call of bpfrt.h that takes memory, with the first growth of memory refused, then with the second, and so on until one
-   call is not refused any. Each answers -ENOMEM and leaves all as it was, or does as with ample memory; none loses a block.
-   checks/library_agree builds it with refuser.c, and runs it; with -DWORLDS also the calls on worlds. */
+   call is not refused any; and the same with all growths behind it refused, too. Each answers -ENOMEM and leaves all as it was, or
+   does as with ample memory; none loses a block. checks/library_agree builds it with refuser.c, and runs it; with -DWORLDS also the
+   calls on worlds. */
 #include <bpfrt.h>
 #include <errno.h>
 #include <stdbool.h>
@@ -9,7 +10,7 @@
 
 enum { MOST = 100000 };
 
-extern long refuser_left, refuser_blocks, refuser_growths;
+extern long refuser_left, refuser_goes_on, refuser_blocks, refuser_growths;
 
 static const unsigned char exit_one[] = {0xb7, 0, 0, 0, 1, 0, 0, 0, 0x95, 0, 0, 0, 0, 0, 0, 0};
 static const unsigned char names_map[] = {
@@ -75,23 +76,29 @@ static void complain(const char *name, long growth, const char *what, long numbe
 	printf("%s, growth %ld refused: %s %ld\n", name, growth, what, number);
 }
 
-/* A call with one growth refused: whether one was. Memory is given as often as it is taken, and what the call writes is whole. */
+/* What a call says that has no memory: 13, with words or without. */
+static bool says_memory(void)
+{
+	return why.code == 13 && why.place == BPFRT_NOWHERE && why.at == 0 && memchr(why.words, 0, sizeof why.words);
+}
+
+/* A call with this growth refused, and those behind it: whether one was. */
 static bool made(const char *name, int32_t (*call)(void), int32_t (*undo)(void), int32_t wanted, long growth)
 {
 	long blocks = refuser_blocks;
 	memset(&why, 0xee, sizeof why);
 	refuser_left = growth;
 	int32_t status = call();
-	bool is_refused = refuser_left <= 0 && growth > 0;
-	refuser_left = 0;
+	bool is_refused = refuser_left <= 0;
+	refuser_left = refuser_goes_on ? MOST : 0;
 	if (status != wanted && !(is_refused && status == -ENOMEM))
 		complain(name, growth, "it answers", status);
 	if (status == -ENOMEM && refuser_blocks != blocks)
 		complain(name, growth, "more blocks than before:", refuser_blocks - blocks);
-	if (status == -ENOMEM && call != share && why.code != 0xeeeeeeee && (why.code != 13 || why.words[0]))
-		complain(name, growth, "the refusal is", why.code);
-	if (status == -ENOMEM && call != share && why.code == 0xeeeeeeee)
-		complain(name, growth, "no refusal is told, for", status);
+	if (status == -ENOMEM && call != share && !says_memory())
+		complain(name, growth, "it answers -ENOMEM, and the refusal's number is", (int32_t)why.code);
+	if (status < 0 && prog.state != 0)
+		complain(name, growth, "it fails, and the handle is open", status);
 	if (undo())
 		complain(name, growth, "it is not undone, and answers", status);
 	if (refuser_blocks != blocks)
@@ -101,12 +108,16 @@ static bool made(const char *name, int32_t (*call)(void), int32_t (*undo)(void),
 
 static void each_growth(const char *name, int32_t (*call)(void), int32_t (*undo)(void), int32_t wanted)
 {
-	long growth = 1;
-	while (growth < MOST && made(name, call, undo, wanted, growth))
-		growth++;
-	printf("%s: %ld growths\n", name, growth - 1);
-	if (growth == 1 && wanted == 0)
-		complain(name, growth, "it takes no memory, and answers", wanted);
+	for (refuser_goes_on = 0; refuser_goes_on < 2; refuser_goes_on++) {
+		long growth = 1;
+		while (growth < MOST && made(name, call, undo, wanted, growth))
+			growth++;
+		printf("%s: %ld growths\n", name, growth - 1);
+		if (growth == 1 || growth == MOST)
+			complain(name, growth, "the growths have no end, or there are none:", growth);
+	}
+	refuser_goes_on = 0;
+	refuser_left = 0;
 }
 
 /* Runs take no memory. */
@@ -192,20 +203,25 @@ static int32_t advance(void)
 }
 
 /* Each call on a new world, which is freed behind it; made again after want of memory it does as before. */
+static bool made_in_world(const char *name, int32_t (*call)(void), long growth)
+{
+	make_world();
+	refuser_left = growth;
+	int32_t status = call();
+	bool is_refused = refuser_left <= 0;
+	refuser_left = 0;
+	if (status != 0 && !(is_refused && status == -ENOMEM))
+		complain(name, growth, "it answers", status);
+	if (status == -ENOMEM && (status = call()))
+		complain(name, growth, "made again it answers", status);
+	return is_refused;
+}
+
 static void each_growth_in_world(const char *name, int32_t (*call)(void))
 {
-	long growth = 0, left = 1;
-	for (; growth < MOST && left > 0; growth++) {
-		make_world();
-		refuser_left = growth + 1;
-		int32_t status = call();
-		left = refuser_left <= 0;
-		refuser_left = 0;
-		if (status != 0 && !(left && status == -ENOMEM))
-			complain(name, growth + 1, "it answers", status);
-		if (status == -ENOMEM && (status = call()))
-			complain(name, growth + 1, "made again it answers", status);
-	}
+	long growth = 1;
+	while (growth < MOST && made_in_world(name, call, growth))
+		growth++;
 	close_world();
 	close_prog();
 	printf("%s: %ld growths\n", name, growth - 1);

@@ -5,13 +5,15 @@
 void *__libc_malloc(size_t), *__libc_realloc(void *, size_t);
 void __libc_free(void *);
 
-/* Which growth from now on is refused, none below 1; how many blocks there are, and how many growths there were. */
-long refuser_left, refuser_blocks, refuser_growths;
+/* Which growth from now on is refused, none below 1; whether all behind it are, too; how many blocks there are, and how many growths
+   there were. */
+long refuser_left, refuser_goes_on, refuser_blocks, refuser_growths;
 
 static int is_refused(void)
 {
 	__atomic_add_fetch(&refuser_growths, 1, __ATOMIC_SEQ_CST);
-	if (__atomic_sub_fetch(&refuser_left, 1, __ATOMIC_SEQ_CST) != 0)
+	long left = __atomic_sub_fetch(&refuser_left, 1, __ATOMIC_SEQ_CST);
+	if (left > 0 || (left < 0 && !refuser_goes_on))
 		return 0;
 	errno = ENOMEM;
 	return 1;
