@@ -26,19 +26,19 @@ import bpfrt_ctypes as host
 import classic
 import packets
 
-SECONDS, SEED, FRAMES, ANY = 60, 1, 2000, 2000
+SECONDS, SEED, FRAMES, ANY, ROUNDS, CONTEXTS = 60, 1, 2000, 2000, 300, 20
 PLACES = {0: "", 1: " at {}", 2: " at {}", 3: " at {}", 4: " at map {}"}
 
 
-def answers_agree():
-    """The check of that name, whose tables are read here."""
-    loader = importlib.machinery.SourceFileLoader("answers_agree", str(CHECKS / "answers_agree"))
+def check(name):
+    """Another check, as a module."""
+    loader = importlib.machinery.SourceFileLoader(name, str(CHECKS / name))
     module = importlib.util.module_from_spec(importlib.util.spec_from_loader(loader.name, loader))
     loader.exec_module(module)
     return module
 
 
-TABLES = answers_agree()
+TABLES = check("answers_agree")
 
 
 class Program:
@@ -259,6 +259,25 @@ def policies(library, _):
         yield f"the policy on {given.hex()}", program.run(given), f"exit {classic.judged(right, given)}"
 
 
+def classics(library, _):
+    """Classic programs at random, as checks/filters_agree makes them, beside the interpreter of checks/classic.py."""
+    r, makers = random.Random(SEED), check("filters_agree")
+    for number in range(ROUNDS):
+        is_policy = number % 5 == 0
+        right, call = (classic.judged, "prog_open_policy") if is_policy else (classic.returned, "prog_open_filter")
+        insns = makers.random_program(r, is_policy)
+        code = classic.bytes_of(insns)
+        program = Program(library, call, code, len(code))
+        flaws = {f"refused {number}" + ("" if at is None else f" at {at}") for number, at in classic.faults(insns, is_policy)}
+        wanted = flaws or {"accepted", "refused 113"}
+        yield f"{call} of {insns[:20]}", program.said if program.said not in wanted else "as wanted", "as wanted"
+        for _ in range(CONTEXTS if program.said == "accepted" else 0):
+            context, given = makers.random_data(r, is_policy)
+            yield f"{insns[:20]} on {context.hex()}", program.run(context), f"exit {right(insns, *given)}"
+            if not is_policy:
+                yield f"{insns[:20]} on packet {given}", str(program.packet(*given)), str(right(insns, *given))
+
+
 def outcome(call, *given):
     """What a method gives, or raises: the exception's name, with its number."""
     try:
@@ -378,7 +397,7 @@ def dialogues(library, _):
                     is_made = is_made or line.split()[0] not in ("map", "load")
 
 
-PARTS = {it.__name__: it for it in (verdicts, runs, files, filters, policies, python, dialogues)}
+PARTS = {it.__name__: it for it in (verdicts, runs, files, filters, policies, classics, python, dialogues)}
 
 
 def main(part, path, bpfrt=""):

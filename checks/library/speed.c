@@ -15,11 +15,11 @@
 #include <rte_bpf.h>
 #endif
 
-enum { PACKETS = 1024, SIZE = 2048, CONTEXT = 256, SEEN = 248, ROUNDS = 12, LONGEST = 1 << 18 };
+enum { PACKETS = 1024, MANY = 4096, SIZE = 2048, CONTEXT = 256, SEEN = 248, ROUNDS = 12, LONGEST = 1 << 18 };
 
-static unsigned char packets[PACKETS][SIZE], contexts[PACKETS][CONTEXT];
+static unsigned char packets[PACKETS][SIZE], contexts[MANY][CONTEXT];
 static uint32_t captured[PACKETS], lengths[PACKETS];
-static uint64_t values[PACKETS];
+static uint64_t values[MANY];
 static unsigned char listing[LONGEST], program[LONGEST];
 static size_t listing_size, program_size;
 static struct bpfrt_prog one, sum, filter;
@@ -89,6 +89,8 @@ static void read_packets(const char *path)
 		memcpy(contexts[number] + 4, &lengths[number], 4);
 		memcpy(contexts[number] + 8, packets[number], seen);
 	}
+	for (int number = PACKETS; number < MANY; number++)
+		memcpy(contexts[number], contexts[number - PACKETS], CONTEXT);
 }
 
 static void run_one(void)
@@ -102,7 +104,7 @@ static void run_one(void)
 
 static void run_one_many(void)
 {
-	bpfrt_prog_run_many(&one, NULL, 0, values, PACKETS);
+	bpfrt_prog_run_many(&one, NULL, 0, values, MANY);
 }
 
 static void run_sum(void)
@@ -125,7 +127,7 @@ static void run_filter(void)
 
 static void run_filter_many(void)
 {
-	bpfrt_prog_run_many(&filter, contexts, sizeof contexts, values, PACKETS);
+	bpfrt_prog_run_many(&filter, contexts, sizeof contexts, values, MANY);
 }
 
 static void run_filter_packet(void)
@@ -280,7 +282,7 @@ int main(int argc, char **argv)
 	compare();
 #endif
 	measure("exit_one, bpfrt_prog_run", run_one, PACKETS);
-	measure("exit_one, bpfrt_prog_run_many of 1024", run_one_many, PACKETS);
+	measure("exit_one, bpfrt_prog_run_many of 4096", run_one_many, MANY);
 #ifdef DPDK
 	dpdk_one = load_dpdk(exit_one, sizeof exit_one);
 	dpdk_sum = load_dpdk(program, program_size);
@@ -291,7 +293,7 @@ int main(int argc, char **argv)
 	measure("frame_sum, rte_bpf_exec", run_dpdk_sum, PACKETS);
 #endif
 	measure("the filter, bpfrt_prog_run", run_filter, PACKETS);
-	measure("the filter, bpfrt_prog_run_many of 1024", run_filter_many, PACKETS);
+	measure("the filter, bpfrt_prog_run_many of 4096", run_filter_many, MANY);
 	measure("the filter, bpfrt_prog_run_packet", run_filter_packet, PACKETS);
 #ifdef PCAP
 	measure("the filter, libpcap's bpf_filter", run_libpcap, PACKETS);
