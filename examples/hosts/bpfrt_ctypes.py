@@ -101,9 +101,11 @@ def bytes_of(data):
 
 def lent(data):
     """What the library can read an object's bytes from, without a copy where that can be; and how many there are."""
+    if isinstance(data, bytes):
+        return data, len(data)
     view = memoryview(data)
     if view.readonly or not view.nbytes:
-        return bytes_of(data), view.nbytes
+        return bytes(view), view.nbytes
     return (ctypes.c_char * view.nbytes).from_buffer(view.cast("B")), view.nbytes
 
 
