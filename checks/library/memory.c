@@ -96,7 +96,7 @@ static bool made(const char *name, int32_t (*call)(void), int32_t (*undo)(void),
 	if (status == -ENOMEM && refuser_blocks != blocks)
 		complain(name, growth, "more blocks than before:", refuser_blocks - blocks);
 	if (status == -ENOMEM && call != share && !says_memory())
-		complain(name, growth, "it answers -ENOMEM, and the refusal's number is", (int32_t)why.code);
+		complain(name, growth, "why is not told, or is not 13, of", status);
 	if (status < 0 && prog.state != 0)
 		complain(name, growth, "it fails, and the handle is open", status);
 	if (undo())
