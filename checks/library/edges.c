@@ -20,6 +20,7 @@ static const unsigned char names_map[] = {
 	0x18, 0x51, 0, 0, 0, 0, 0, 0, 0, 0, 0, 0, 0, 0, 0, 0, 0xb7, 0, 0, 0, 7, 0, 0, 0, 0x95, 0, 0, 0, 0, 0, 0, 0};
 static const struct bpfrt_map_shape hash = {BPFRT_MAP_TYPE_HASH, 4, 8, 2, 1, 3};
 static const struct bpfrt_map_shape array = {BPFRT_MAP_TYPE_ARRAY, 4, 8, 2, 0, 1};
+static const unsigned char many[300];
 static struct bpfrt_refusal why;
 static long right, wrong;
 
@@ -153,6 +154,7 @@ static void runs(void)
 	IS(bpfrt_prog_ctx_len(&prog), 1);
 	IS(bpfrt_prog_run(&prog, NULL, 0, &value), -EINVAL);
 	IS(bpfrt_prog_run(&prog, "ab", 2, &value), -EINVAL);
+	IS(bpfrt_prog_run(&prog, many, sizeof many, &value), -EINVAL);
 	IS(bpfrt_prog_run_many(&prog, "ab", 2, values, 3), -EINVAL);
 	IS(bpfrt_prog_run_many(&prog, "abcd", 4, values, 3), -EINVAL);
 	IS(bpfrt_prog_run_many(&prog, "a", 1, NULL, 0), -EINVAL);
@@ -275,7 +277,7 @@ static void no_worlds(void)
 static void loads(void)
 {
 	const struct bpfrt_map_shape shapes[] = {array, hash};
-	const uint32_t second[] = {1}, first[] = {0}, none[] = {2}, both[] = {1, 0};
+	const uint32_t second[] = {1}, first[] = {0}, none[] = {2}, both[] = {1, 0}, too_many[17] = {1};
 	struct bpfrt_world world = {0};
 	struct bpfrt_prog prog = {0};
 	uint64_t value = 9;
@@ -286,6 +288,7 @@ static void loads(void)
 	IS(bpfrt_world_load(&world, &prog, first, 1), -EINVAL);
 	IS(bpfrt_world_load(&world, &prog, none, 1), -EINVAL);
 	IS(bpfrt_world_load(&world, &prog, both, 2), -EINVAL);
+	IS(bpfrt_world_load(&world, &prog, too_many, 17), -EINVAL);
 	for (int number = 0; number < MANY; number++)
 		IS(bpfrt_world_load(&world, &prog, second, 1), number < 64 ? number : -E2BIG);
 	IS(bpfrt_prog_close(&prog), 0);
@@ -310,16 +313,21 @@ static void elements_of_hash(void)
 	IS(bpfrt_map_update_elem(&world, 0, NULL, 0, NULL, 0, 0), -EINVAL);
 	IS(bpfrt_map_update_elem(&world, 0, "abcd", 4, value, 8, 3), -EINVAL);
 	IS(bpfrt_map_update_elem(&world, 0, "abcd", 4, value, 8, UINT64_MAX), -EINVAL);
-	IS(bpfrt_map_lookup_elem(&world, 0, "abcd", 4, room, 7), -EINVAL);
-	IS(bpfrt_map_lookup_elem(&world, 0, "abcd", 4, NULL, 0), -EINVAL);
 	IS(bpfrt_map_lookup_elem(&world, 0, NULL, 0, room, 8), -EINVAL);
 	IS(bpfrt_map_lookup_elem(&world, 0, "abcd", 4, room, 8), -ENOENT);
 	IS(bpfrt_map_delete_elem(&world, 0, NULL, 0), -EINVAL);
+	IS(bpfrt_map_update_elem(&world, 0, many, sizeof many, value, 8, 0), -EINVAL);
+	IS(bpfrt_map_update_elem(&world, 0, "abcd", 4, many, sizeof many, 0), -EINVAL);
+	IS(bpfrt_map_lookup_elem(&world, 0, many, sizeof many, room, 8), -EINVAL);
+	IS(bpfrt_map_delete_elem(&world, 0, many, sizeof many), -EINVAL);
 	IS(bpfrt_map_delete_elem(&world, 0, "abcd", 4), -ENOENT);
 	IS(memcmp(room, "before.", 8), 0);
 	IS(bpfrt_map_update_elem(&world, 0, "abcd", 4, value, 8, 2), -ENOENT);
 	IS(bpfrt_map_update_elem(&world, 0, "abcd", 4, value, 8, 1), 0);
 	IS(bpfrt_map_update_elem(&world, 0, "abcd", 4, value, 8, 1), -EEXIST);
+	IS(bpfrt_map_lookup_elem(&world, 0, "abcd", 4, room, 7), -EINVAL);
+	IS(bpfrt_map_lookup_elem(&world, 0, "abcd", 4, NULL, 0), -EINVAL);
+	IS(memcmp(room, "before.", 8), 0);
 	IS(bpfrt_map_lookup_elem(&world, 0, "abcd", 4, room, 8), 0);
 	IS(memcmp(room, value, 8), 0);
 	IS(bpfrt_map_update_elem(&world, 0, "efgh", 4, value, 8, 0), 0);
@@ -364,6 +372,8 @@ static void stepped_runs(void)
 	IS(bpfrt_world_load(&world, &prog, NULL, 0), 0);
 	IS(bpfrt_world_start(&world, 1, "a", 1), -ENXIO);
 	IS(bpfrt_world_start(&world, 0, NULL, 0), -EINVAL);
+	IS(bpfrt_world_start(&world, 0, many, sizeof many), -EINVAL);
+	IS(bpfrt_world_run(&world, 0, many, sizeof many, &value), -EINVAL);
 	IS(bpfrt_world_step(&world, 0, &value), -ESRCH);
 	IS(bpfrt_world_drop(&world, 0), -ESRCH);
 	IS(bpfrt_world_start(&world, 0, "a", 1), 0);
