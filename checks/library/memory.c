@@ -77,9 +77,9 @@ static void complain(const char *name, long growth, const char *what, long numbe
 }
 
 /* What a call that opens a program says where it has no memory: 13, with words or without. */
-static bool says_memory(int32_t (*call)(void))
+static bool says_memory(void)
 {
-	return call == share || why.code == 13 && why.place == BPFRT_NOWHERE && why.at == 0 && memchr(why.words, 0, sizeof why.words);
+	return why.code == 13 && why.place == BPFRT_NOWHERE && why.at == 0 && memchr(why.words, 0, sizeof why.words);
 }
 
 /* A call with this growth refused, and those behind it: whether one was. */
@@ -95,7 +95,7 @@ static bool made(const char *name, int32_t (*call)(void), int32_t (*undo)(void),
 		complain(name, growth, "it answers", status);
 	if (status == -ENOMEM && refuser_blocks != blocks)
 		complain(name, growth, "more blocks than before:", refuser_blocks - blocks);
-	if (status == -ENOMEM && undo == close_prog && !says_memory(call))
+	if (status == -ENOMEM && undo == close_prog && call != share && !says_memory())
 		complain(name, growth, "why is not told, or is not 13, of", status);
 	if (status < 0 && prog.state != 0)
 		complain(name, growth, "it fails, and the handle is open", status);
