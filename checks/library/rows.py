@@ -292,24 +292,26 @@ BYTE = bytes.fromhex("7110000000000000 9500000000000000")  # exits with the cont
 FILE = "bpfrt 1\nctx 1\nmap a array 1 2\nmap h 4 8 4 4 9\ncode\n7110000000000000 9500000000000000\n"
 # Methods of both classes with their arguments; those behind the dots call a world.
 METHODS = [
-    ("load_code", BYTE, 1), ("load_code", BYTE[:8],), ("load_code", BYTE), ("load_code", b""), ("load_code", BYTE, 257), ("load_code", BYTE, -1),
-    ("load_code", BYTE, 1, ["none"]), ("load_code", "95"), ("load", "exit\n"),
-    ("map", "m", 4, 4, 3, 3, 2), ("map", "m", 4, 4, 3, 3, 2), ("map", "M", 4, 4, 3, 3, 2), ("map", "é", 4, 4, 3, 3, 2), ("map", "n", 0, 4, 3, 3, 2),
+    ("load_code", BYTE, 1), ("load_code", BYTE[:8],), ("load_code", BYTE), ("load_code", b""), ("load_code", BYTE, 257),
+    ("load_code", BYTE, -1), ("load_code", BYTE, 1, ["none"]), ("load_code", "95"), ("load", "exit\n"), ("map", "m", 4, 4, 3, 3, 2),
+    ("map", "m", 4, 4, 3, 3, 2), ("map", "M", 4, 4, 3, 3, 2), ("map", "é", 4, 4, 3, 3, 2), ("map", "n", 0, 4, 3, 3, 2),
     ("map", "n", 4, 4, 3, 3, 1 << 32), ("map", "n", 4, 4, 3, 3, 1 << 64), ("map", "n", 4, 4, 3, 3, -1), ("map", "a b", 4, 4, 3, 3, 2),
     ("array", "counts", 2, 3), ("array", "more", 2, 4097), ("map", "a" * 33, 4, 4, 3, 3, 2), ("load_code", BYTE, 1, ["m", "counts"]),
     ("load", FILE), ("load", FILE, False), ("load", FILE), ("load", FILE.replace("map h 4", "map h 04")),
     *[("array", f"a{number}", 1, 1) for number in range(14)], *[("load_code", BYTE, 1)] * 62, ("load_code", BYTE, 257, ["none"]),
-    ("run", 0, b"\5"), ("run", 0, bytearray(b"\6")), ("run", 0, b""), ("run", 64, b""), ("run", -1, b""), ("run", 0, "01"), ("run", 0.5, b""),
-    ("run_many", 0, [b"\7", b"", b"\1"]), ("run_many", 0, []), ("run_many", 0, [b"\1", b"\2", b"\377"]), ("run_many", 0, [b"\1", "01"]),
-    ("run_many", 64, [b"\1"]), ("run_many", 0, [memoryview(b"\1")] * 3), "..",
-    ("put", "m", b"abcd", b"1234"), ("put", "m", b"abcd", b"1234", 1), ("put", "m", b"efgh", b"1234", 2), ("put", "m", b"efgh", b"1234", 3),
-    ("put", "m", b"efgh", b"1234", 1 << 64), ("put", "m", b"efg", b"1234"), ("put", "m", b"efgh", b""), ("put", "none", b"", b""),
-    ("get", "m", b"abcd"), ("get", "m", b"efgh"), ("get", "m", b""), ("get", "none", b""), ("get", "a b", b""), ("get", "m", 4), ("get", "m", "00"),
-    ("get", "counts", bytes(4)), ("put", "counts", b"\2\0\0\0", b"xy"), ("get", "counts", b"\2\0\0\0"), ("get", "counts", b"\3\0\0\0"),
-    ("put", "counts", b"\3\0\0\0", b"xy"), ("put", "counts", b"\2\0\0\0", b"xy", 1), ("delete", "counts", bytes(4)), ("delete", "m", b"efgh"),
-    ("delete", "m", b""), ("delete", "m", b"abcd"), ("get", "m", b"abcd"), ("advance",), ("start", 0, b"\5"), ("step", 0), ("drop", 0),
-    ("step", 0, 9), ("step", 0), ("step", 0, 0), ("step", -1), ("step", 77), ("drop", 77), ("start", 64, b""), ("start", 0, b""), ("start", 0.5, b""),
-    ("drop", 0), ("drop", 0), ("run", 0, b"\7"), ("run_many", 0, [b"\1", b"\2"]), ("map", "late", 4, 4, 3, 3, 2), ("array", "later", 4, 4),
+    ("run", 0, b"\5"), ("run", 0, bytearray(b"\6")), ("run", 0, b""), ("run", 64, b""), ("run", -1, b""), ("run", 0, "01"),
+    ("run", 0.5, b""), ("run_many", 0, [b"\7", b"", b"\1"]), ("run_many", 0, []), ("run_many", 0, [b"\1", b"\2", b"\377"]),
+    ("run_many", 0, [b"\1", "01"]), ("run_many", 64, [b"\1"]), ("run_many", 0, [memoryview(b"\1")] * 3), "..",
+    ("put", "m", b"abcd", b"1234"), ("put", "m", b"abcd", b"1234", 1), ("put", "m", b"efgh", b"1234", 2),
+    ("put", "m", b"efgh", b"1234", 3), ("put", "m", b"efgh", b"1234", 1 << 64), ("put", "m", b"efg", b"1234"),
+    ("put", "m", b"efgh", b""), ("put", "none", b"", b""), ("get", "m", b"abcd"), ("get", "m", b"efgh"), ("get", "m", b""),
+    ("get", "none", b""), ("get", "a b", b""), ("get", "m", 4), ("get", "m", "00"), ("get", "counts", bytes(4)),
+    ("put", "counts", b"\2\0\0\0", b"xy"), ("get", "counts", b"\2\0\0\0"), ("get", "counts", b"\3\0\0\0"),
+    ("put", "counts", b"\3\0\0\0", b"xy"), ("put", "counts", b"\2\0\0\0", b"xy", 1), ("delete", "counts", bytes(4)),
+    ("delete", "m", b"efgh"), ("delete", "m", b""), ("delete", "m", b"abcd"), ("get", "m", b"abcd"), ("advance",),
+    ("start", 0, b"\5"), ("step", 0), ("drop", 0), ("step", 0, 9), ("step", 0), ("step", 0, 0), ("step", -1), ("step", 77),
+    ("drop", 77), ("start", 64, b""), ("start", 0, b""), ("start", 0.5, b""), ("drop", 0), ("drop", 0), ("run", 0, b"\7"),
+    ("run_many", 0, [b"\1", b"\2"]), ("map", "late", 4, 4, 3, 3, 2), ("array", "later", 4, 4),
 ]
 
 
@@ -329,12 +331,12 @@ def python(library, bpfrt):
         yield "packets that pass", str(sum(map(bool, values))), "2"
         for name, *given, wanted in [
                 ("run_buffer", byte, b"abc", "[97, 98, 99]"), ("run_buffer", byte, bytearray(b"abc"), "[97, 98, 99]"),
-                ("run_buffer", byte, memoryview(b"xabc")[1:], "[97, 98, 99]"), ("run_buffer", byte, host.array.array("H", [0x6261]), "[97, 98]"),
-                ("run_buffer", byte, b"", "[]"), ("run_buffer", byte, b"abc", 2, "Refused [63, None, None]"), ("run_buffer", 9, b"", "Refused [62, None, None]"),
-                ("run_buffer", byte, "abc", "TypeError [None, None, None]"), ("run_packet", byte, b"", "Refused [63, None, None]"),
-                ("run_packet", number, b"", 1 << 32, "ValueError [None, None, None]"), ("load_filter", b"\xff", "Refused [101, None, None]"),
-                ("load_array", b"\6\0\0\0\5\0\0\0", "2"), ("run_packet", 2, b"", "5"), ("load_policy", bytes.fromhex("0600000007000000"), "3"),
-                ("run", 3, bytes(64), "7")]:
+                ("run_buffer", byte, memoryview(b"xabc")[1:], "[97, 98, 99]"), ("run_buffer", byte, b"", "[]"),
+                ("run_buffer", byte, host.array.array("H", [0x6261]), "[97, 98]"), ("run_buffer", byte, b"abc", 2, "Refused [63, None, None]"),
+                ("run_buffer", 9, b"", "Refused [62, None, None]"), ("run_buffer", byte, "abc", "TypeError [None, None, None]"),
+                ("run_packet", byte, b"", "Refused [63, None, None]"), ("run_packet", number, b"", 1 << 32, "ValueError [None, None, None]"),
+                ("load_filter", b"\xff", "Refused [101, None, None]"), ("load_array", b"\6\0\0\0\5\0\0\0", "2"), ("run_packet", 2, b"", "5"),
+                ("load_policy", bytes.fromhex("0600000007000000"), "3"), ("run", 3, bytes(64), "7")]:
             yield f"{name}{tuple(given)}", outcome(getattr(one, name), *given), wanted
     yield "a closed one", outcome(one.run, byte, b"a"), "Broken [None, None, None]"
     yield "closed again", outcome(one.close), "None"
