@@ -1,0 +1,299 @@
+/*
+ * bpfrt.h: the eBPF runtime in a host's own process.
+ *
+ * Programs in the BPF instruction set are verified when they are opened, and run over what the host lends. docs/EMBEDDING.md shows
+ * hosts in several languages, docs/REFUSALS.md has the numbers of refusals.
+ *
+ * A handle is a struct of two words. The host owns it, and sets all of it to zero before its first use: closed. What a handle
+ * holds, the library owns, until it is closed.
+ *
+ * Each call answers 0 or more, or a negative number of errno.h:
+ *
+ *   -EBADF   the handle holds nothing, or something else         -EBUSY   the handle that is to be opened is open
+ *   -EINVAL  an argument is none that the call takes              -ENOMEM  memory ran out, and nothing has changed
+ *   -EACCES  the verifier refuses the program                     -EOPNOTSUPP  the program names a map, so it runs in a world alone
+ *
+ * and those that stand at a call. Where a call fails, what it would have written is as before.
+ *
+ * What the host owes, and nothing checks:
+ *
+ *   - A handle is all zeros, or was written last by these calls. It is not copied: each copy would free the same memory.
+ *   - No two calls at once take the same handle. A thread takes a handle of its own (bpfrt_prog_share); it may be another thread's
+ *     before, if a lock, a start or a join stands between.
+ *   - A pointer leads to as many bytes, or items, as its length says. It may be null where that is 0.
+ *   - No call comes from a signal handler, or from the child of a fork of a process with threads.
+ *   - malloc, realloc and free are those of one allocator, and align a block to each power of two up to 16 that divides its size.
+ */
+#ifndef BPFRT_H
+#define BPFRT_H
+
+#include <stddef.h>
+#include <stdint.h>
+
+#ifdef __cplusplus
+extern "C" {
+#endif
+
+/* A program that was verified. Handles may share it; it never changes. */
+struct bpfrt_prog {
+	void *at;
+	uint32_t state;
+};
+
+/* A world: maps, programs that are bound to them, and their runs. */
+struct bpfrt_world {
+	void *at;
+	uint32_t state;
+};
+
+/* Why no program was opened: its number in docs/REFUSALS.md, where the fault is, and in words what it is. */
+enum bpfrt_place {
+	BPFRT_NOWHERE = 0,
+	BPFRT_SLOT = 1,        /* of the program, from 0 */
+	BPFRT_LINE = 2,        /* of the text, from 1 */
+	BPFRT_INSTRUCTION = 3, /* of the classic program, from 0 */
+	BPFRT_MAP = 4          /* of the list, from 0 */
+};
+
+struct bpfrt_refusal {
+	uint32_t code;
+	uint32_t place; /* enum bpfrt_place: what `at` counts */
+	uint64_t at;
+	char words[112]; /* ends with a zero byte; empty where memory ran out */
+};
+
+/* The types of maps, by their numbers in Linux. */
+enum bpfrt_map_type { BPFRT_MAP_TYPE_HASH = 1, BPFRT_MAP_TYPE_ARRAY = 2 };
+
+/* A map. A hash map has keys of 1 to 64 bytes, values of 1 to 256, 1 to 4096 entries, and 0 to 4096 spare slots for elements that
+   wait for their grace period; a slot is used 1 to 4294967295 times. An array has keys of 4, no spare slot, and uses each once. */
+struct bpfrt_map_shape {
+	uint32_t type; /* enum bpfrt_map_type */
+	uint32_t key_size;
+	uint32_t value_size;
+	uint32_t max_entries;
+	uint32_t spare;
+	uint32_t reuse_limit;
+};
+
+/* The calls as the library exports them. A pointer that is given to them is never null, not even with the length 0. */
+int32_t bpfrt0_prog_open(struct bpfrt_prog *prog, const void *insns, size_t size, size_t ctx_len, const struct
+	bpfrt_map_shape *maps, size_t nr_maps, struct bpfrt_refusal *why);
+int32_t bpfrt0_prog_open_file(struct bpfrt_prog *prog, const void *text, size_t size, struct bpfrt_refusal *why);
+int32_t bpfrt0_prog_open_tcpdump(struct bpfrt_prog *prog, const void *text, size_t size, struct bpfrt_refusal *why);
+int32_t bpfrt0_prog_open_filter(struct bpfrt_prog *prog, const void *insns, size_t size, struct bpfrt_refusal *why);
+int32_t bpfrt0_prog_open_policy(struct bpfrt_prog *prog, const void *insns, size_t size, struct bpfrt_refusal *why);
+int32_t bpfrt0_prog_share(struct bpfrt_prog *prog, struct bpfrt_prog *other);
+int32_t bpfrt0_prog_ctx_len(struct bpfrt_prog *prog);
+int32_t bpfrt0_prog_run(struct bpfrt_prog *prog, const void *ctx, size_t len, uint64_t *value);
+int32_t bpfrt0_prog_run_many(struct bpfrt_prog *prog, const void *ctxs, size_t size, uint64_t *values, size_t count);
+int32_t bpfrt0_prog_run_packet(struct bpfrt_prog *prog, const void *packet, size_t caplen, uint32_t len, uint64_t
+	*value);
+int32_t bpfrt0_close(void *handle);
+int32_t bpfrt0_world_open(struct bpfrt_world *world, const struct bpfrt_map_shape *maps, size_t nr_maps, struct
+	bpfrt_refusal *why);
+int32_t bpfrt0_world_load(struct bpfrt_world *world, struct bpfrt_prog *prog, const uint32_t *maps, size_t nr_maps);
+int32_t bpfrt0_map_update_elem(struct bpfrt_world *world, uint32_t map, const void *key, size_t key_size, const void
+	*value, size_t value_size, uint64_t flags);
+int32_t bpfrt0_map_lookup_elem(struct bpfrt_world *world, uint32_t map, const void *key, size_t key_size, void *value,
+	size_t value_size);
+int32_t bpfrt0_map_delete_elem(struct bpfrt_world *world, uint32_t map, const void *key, size_t key_size);
+int32_t bpfrt0_world_run(struct bpfrt_world *world, uint32_t prog, const void *ctx, size_t len, uint64_t *value);
+int32_t bpfrt0_world_start(struct bpfrt_world *world, uint32_t prog, const void *ctx, size_t len);
+int32_t bpfrt0_world_step(struct bpfrt_world *world, uint32_t run, uint64_t *value);
+int32_t bpfrt0_world_drop(struct bpfrt_world *world, uint32_t run);
+int32_t bpfrt0_world_advance(struct bpfrt_world *world);
+int32_t bpfrt0_world_reap(struct bpfrt_world *world);
+
+/* Something to point at where there is nothing. */
+static inline const void *bpfrt_some(const void *at)
+{
+	return at ? at : "";
+}
+
+static inline void *bpfrt_room(void *at)
+{
+	static unsigned char none[8];
+	return at ? at : none;
+}
+
+static inline const struct bpfrt_map_shape *bpfrt_no_shapes(void)
+{
+	static const struct bpfrt_map_shape none = {0, 0, 0, 0, 0, 0};
+	return &none;
+}
+
+static inline const uint32_t *bpfrt_no_u32s(void)
+{
+	static const uint32_t none = 0;
+	return &none;
+}
+
+static inline uint64_t *bpfrt_no_values(void)
+{
+	static uint64_t none;
+	return &none;
+}
+
+/* Programs */
+
+/* Opens the program of these bytes (RFC 9669: 8 a slot, little-endian), for contexts of ctx_len bytes, at most 256, and for maps of
+   these shapes, at most 16, which it names by their places in the list. -EBUSY, -EINVAL, -EACCES, -ENOMEM; of all but the first
+   *why says more. */
+static inline int32_t bpfrt_prog_open(struct bpfrt_prog *prog, const void *insns, size_t size, size_t ctx_len, const struct
+	bpfrt_map_shape *maps, size_t nr_maps, struct bpfrt_refusal *why)
+{
+	return bpfrt0_prog_open(prog, bpfrt_some(insns), size, ctx_len, (maps ? maps : bpfrt_no_shapes()), nr_maps, why);
+}
+
+/* Opens the program of a program file (docs/PROGRAM_FILES.md), for its context and its maps; other bytes are a program's, without
+   context and maps. */
+static inline int32_t bpfrt_prog_open_file(struct bpfrt_prog *prog, const void *text, size_t size, struct bpfrt_refusal *why)
+{
+	return bpfrt0_prog_open_file(prog, bpfrt_some(text), size, why);
+}
+
+/* Opens the filter that `tcpdump -ddd` wrote. Its runs return what the classic program returns, of a packet of at most 248 captured
+   bytes; of a longer one what it returns of the first 248, as if no more had been captured. */
+static inline int32_t bpfrt_prog_open_tcpdump(struct bpfrt_prog *prog, const void *text, size_t size, struct bpfrt_refusal *why)
+{
+	return bpfrt0_prog_open_tcpdump(prog, bpfrt_some(text), size, why);
+}
+
+/* The same of an array of instructions of 8 bytes: struct bpf_insn of libpcap, struct sock_filter of Linux. `size` is in bytes. */
+static inline int32_t bpfrt_prog_open_filter(struct bpfrt_prog *prog, const void *insns, size_t size, struct bpfrt_refusal *why)
+{
+	return bpfrt0_prog_open_filter(prog, bpfrt_some(insns), size, why);
+}
+
+/* Opens a policy that seccomp takes, from such an array. Its context is struct seccomp_data. */
+static inline int32_t bpfrt_prog_open_policy(struct bpfrt_prog *prog, const void *insns, size_t size, struct bpfrt_refusal *why)
+{
+	return bpfrt0_prog_open_policy(prog, bpfrt_some(insns), size, why);
+}
+
+/* Opens `prog` as one more handle of the program that `other` holds, for another thread. -EBUSY; -EBADF of `other`; -ENOMEM. */
+static inline int32_t bpfrt_prog_share(struct bpfrt_prog *prog, struct bpfrt_prog *other)
+{
+	return bpfrt0_prog_share(prog, other);
+}
+
+/* How many bytes a context of the program has. */
+static inline int32_t bpfrt_prog_ctx_len(struct bpfrt_prog *prog)
+{
+	return bpfrt0_prog_ctx_len(prog);
+}
+
+/* Runs a program that names no map on a context, to its exit. It takes no memory. -EBADF; -EOPNOTSUPP; -EINVAL where the context
+   has another length. */
+static inline int32_t bpfrt_prog_run(struct bpfrt_prog *prog, const void *ctx, size_t len, uint64_t *value)
+{
+	return bpfrt0_prog_run(prog, bpfrt_some(ctx), len, value);
+}
+
+/* The same on `count` contexts, one behind another. */
+static inline int32_t bpfrt_prog_run_many(struct bpfrt_prog *prog, const void *ctxs, size_t size, uint64_t *values, size_t count)
+{
+	return bpfrt0_prog_run_many(prog, bpfrt_some(ctxs), size, (values ? values : bpfrt_no_values()), count);
+}
+
+/* Runs a filter on a packet of `caplen` captured bytes and `len` on the wire, of which it sees the first 248. Any program with
+   contexts of 256 bytes may be run so: it finds the captured length, the length on the wire (4 bytes each) and the bytes. */
+static inline int32_t bpfrt_prog_run_packet(struct bpfrt_prog *prog, const void *packet, size_t caplen, uint32_t len, uint64_t
+	*value)
+{
+	return bpfrt0_prog_run_packet(prog, bpfrt_some(packet), caplen, len, value);
+}
+
+/* Closes the handle. The program is freed with its last handle. -EBADF where it is closed. */
+static inline int32_t bpfrt_prog_close(struct bpfrt_prog *prog)
+{
+	return bpfrt0_close(prog);
+}
+
+/* Worlds */
+
+/* Opens a world of new maps of these shapes, at most 16, which have the numbers 0, 1, 2, .. in this order. */
+static inline int32_t bpfrt_world_open(struct bpfrt_world *world, const struct bpfrt_map_shape *maps, size_t nr_maps, struct
+	bpfrt_refusal *why)
+{
+	return bpfrt0_world_open(world, (maps ? maps : bpfrt_no_shapes()), nr_maps, why);
+}
+
+/* Adds a program, whose map 0 is the world's map maps[0], and so on: its number, from 0, at most 63. Runs, maps and the other
+   programs stay as they are. -EBADF of either; -E2BIG with 64 programs; -EINVAL where a map is missing or has another shape. */
+static inline int32_t bpfrt_world_load(struct bpfrt_world *world, struct bpfrt_prog *prog, const uint32_t *maps, size_t nr_maps)
+{
+	return bpfrt0_world_load(world, prog, (maps ? maps : bpfrt_no_u32s()), nr_maps);
+}
+
+/* Stores a value under a key. Flags: 0, or 1 for a new key alone (-EEXIST), or 2 for one that is there (-ENOENT). -E2BIG where the
+   map is full; -ENOMEM where no slot is free before a grace period has ended (bpfrt_world_advance); -ENXIO where no map has the
+   number; -EINVAL for a wrong length or flag. */
+static inline int32_t bpfrt_map_update_elem(struct bpfrt_world *world, uint32_t map, const void *key, size_t key_size, const void
+	*value, size_t value_size, uint64_t flags)
+{
+	return bpfrt0_map_update_elem(world, map, bpfrt_some(key), key_size, bpfrt_some(value), value_size, flags);
+}
+
+/* Copies the value of a key. -ENOENT, -ENXIO, -EINVAL. */
+static inline int32_t bpfrt_map_lookup_elem(struct bpfrt_world *world, uint32_t map, const void *key, size_t key_size, void *value,
+	size_t value_size)
+{
+	return bpfrt0_map_lookup_elem(world, map, bpfrt_some(key), key_size, bpfrt_room(value), value_size);
+}
+
+/* Removes a key of a hash map. -ENOENT, -ENXIO, -EINVAL. */
+static inline int32_t bpfrt_map_delete_elem(struct bpfrt_world *world, uint32_t map, const void *key, size_t key_size)
+{
+	return bpfrt0_map_delete_elem(world, map, bpfrt_some(key), key_size);
+}
+
+/* Runs a program of the world on a context, from its start to its exit, with nothing between its steps. -ENXIO where no program has
+   the number; -EINVAL where the context has another length; -EAGAIN where 256 runs stand in the world. */
+static inline int32_t bpfrt_world_run(struct bpfrt_world *world, uint32_t prog, const void *ctx, size_t len, uint64_t *value)
+{
+	return bpfrt0_world_run(world, prog, bpfrt_some(ctx), len, value);
+}
+
+/* Starts a run that is stepped by hand: its number. It answers as bpfrt_world_run. */
+static inline int32_t bpfrt_world_start(struct bpfrt_world *world, uint32_t prog, const void *ctx, size_t len)
+{
+	return bpfrt0_world_start(world, prog, bpfrt_some(ctx), len);
+}
+
+/* One step of a run: 0 where it goes on, 1 where it has exited, with its value. -ESRCH where there is no such run, or it has ended. */
+static inline int32_t bpfrt_world_step(struct bpfrt_world *world, uint32_t run, uint64_t *value)
+{
+	return bpfrt0_world_step(world, run, value);
+}
+
+/* Takes a run out that has exited. -ESRCH; -EBUSY where it has not exited. */
+static inline int32_t bpfrt_world_drop(struct bpfrt_world *world, uint32_t run)
+{
+	return bpfrt0_world_drop(world, run);
+}
+
+/* A grace period may end, and the next begin. */
+static inline int32_t bpfrt_world_advance(struct bpfrt_world *world)
+{
+	return bpfrt0_world_advance(world);
+}
+
+/* Reclaims one element whose grace period has ended: 1, or 0 where there is none. */
+static inline int32_t bpfrt_world_reap(struct bpfrt_world *world)
+{
+	return bpfrt0_world_reap(world);
+}
+
+/* Closes the handle, and frees the world. -EBADF where it is closed. */
+static inline int32_t bpfrt_world_close(struct bpfrt_world *world)
+{
+	return bpfrt0_close(world);
+}
+
+#ifdef __cplusplus
+}
+#endif
+
+#endif
