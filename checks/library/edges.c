@@ -10,7 +10,7 @@
 #define REFUSED(call, number, what, where) refused(#call, (call), number, what, where)
 
 _Static_assert(sizeof(struct bpfrt_prog) == 2 * sizeof(void *) && sizeof(struct bpfrt_world) == 2 * sizeof(void *), "two words");
-_Static_assert(sizeof(struct bpfrt_refusal) == 128 && sizeof(struct bpfrt_map_shape) == 24, "as the library lays them out");
+_Static_assert(sizeof(struct bpfrt_refusal) == 160 && sizeof(struct bpfrt_map_shape) == 24, "as the library lays them out");
 
 enum { MANY = 70 };
 

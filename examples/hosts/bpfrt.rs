@@ -14,7 +14,7 @@ struct Refusal {
     code: u32,
     place: u32,
     at: u64,
-    words: [c_char; 112],
+    words: [c_char; 144],
 }
 
 #[link(name = "bpfrt")]
@@ -58,7 +58,7 @@ unsafe impl Send for Program {} // What the handle leads to is no thread's own.
 impl Program {
     fn opened(open: impl FnOnce(*mut Handle, *mut Refusal) -> i32) -> Result<Program, Error> {
         let mut made = Program(Box::new(Handle { at: std::ptr::null_mut(), state: 0 }));
-        let mut why = Refusal { code: 0, place: 0, at: 0, words: [0; 112] };
+        let mut why = Refusal { code: 0, place: 0, at: 0, words: [0; 144] };
         match open(&mut *made.0, &mut why) {
             0 => Ok(made),
             status if why.code == 0 => Err(Error::Errno(status)),

@@ -35,7 +35,7 @@ class Handle(ctypes.Structure):
 
 
 class Refusal(ctypes.Structure):
-    _fields_ = [("code", ctypes.c_uint32), ("place", ctypes.c_uint32), ("at", ctypes.c_uint64), ("words", ctypes.c_char * 112)]
+    _fields_ = [("code", ctypes.c_uint32), ("place", ctypes.c_uint32), ("at", ctypes.c_uint64), ("words", ctypes.c_char * 144)]
 
 
 class Shape(ctypes.Structure):

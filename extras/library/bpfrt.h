@@ -17,10 +17,12 @@
  *
  * What the host owes, and nothing checks:
  *
- *   - A handle is all zeros, or was written last by these calls. It is not copied: each copy would free the same memory.
+ *   - A handle is all zeros, or was written last by these calls. It is not copied: each copy would free the same memory. It may be
+ *     moved: copied, if its old place is then set to zero.
  *   - No two calls at once take the same handle. A thread takes a handle of its own (bpfrt_prog_share); it may be another thread's
  *     before, if a lock, a start or a join stands between.
- *   - A pointer leads to as many bytes, or items, as its length says. It may be null where that is 0.
+ *   - A pointer leads to as many bytes, or items, as its length says. It may be null where that is 0,
+ *     and is answered -EINVAL where it is not. `why` and `value` may be null.
  *   - No call comes from a signal handler, or from the child of a fork of a process with threads.
  *   - malloc, realloc and free are those of one allocator, and align a block to each power of two up to 16 that divides its size.
  */
@@ -59,7 +61,7 @@ struct bpfrt_refusal {
 	uint32_t code;
 	uint32_t place; /* enum bpfrt_place: what `at` counts */
 	uint64_t at;
-	char words[112]; /* ends with a zero byte; empty where memory ran out */
+	char words[144]; /* ends with a zero byte, and may be empty */
 };
 
 /* The types of maps, by their numbers in Linux. */
@@ -143,33 +145,48 @@ static inline uint64_t *bpfrt_no_values(void)
 static inline int32_t bpfrt_prog_open(struct bpfrt_prog *prog, const void *insns, size_t size, size_t ctx_len, const struct
 	bpfrt_map_shape *maps, size_t nr_maps, struct bpfrt_refusal *why)
 {
-	return bpfrt0_prog_open(prog, bpfrt_some(insns), size, ctx_len, (maps ? maps : bpfrt_no_shapes()), nr_maps, why);
+	struct bpfrt_refusal none;
+	if ((!insns && size) || (!maps && nr_maps))
+		return -22; /* -EINVAL */
+	return bpfrt0_prog_open(prog, bpfrt_some(insns), size, ctx_len, (maps ? maps : bpfrt_no_shapes()), nr_maps, why ? why : &none);
 }
 
 /* Opens the program of a program file (docs/PROGRAM_FILES.md), for its context and its maps; other bytes are a program's, without
    context and maps. */
 static inline int32_t bpfrt_prog_open_file(struct bpfrt_prog *prog, const void *text, size_t size, struct bpfrt_refusal *why)
 {
-	return bpfrt0_prog_open_file(prog, bpfrt_some(text), size, why);
+	struct bpfrt_refusal none;
+	if (!text && size)
+		return -22; /* -EINVAL */
+	return bpfrt0_prog_open_file(prog, bpfrt_some(text), size, why ? why : &none);
 }
 
 /* Opens the filter that `tcpdump -ddd` wrote. Its runs return what the classic program returns, of a packet of at most 248 captured
    bytes; of a longer one what it returns of the first 248, as if no more had been captured. */
 static inline int32_t bpfrt_prog_open_tcpdump(struct bpfrt_prog *prog, const void *text, size_t size, struct bpfrt_refusal *why)
 {
-	return bpfrt0_prog_open_tcpdump(prog, bpfrt_some(text), size, why);
+	struct bpfrt_refusal none;
+	if (!text && size)
+		return -22; /* -EINVAL */
+	return bpfrt0_prog_open_tcpdump(prog, bpfrt_some(text), size, why ? why : &none);
 }
 
 /* The same of an array of instructions of 8 bytes: struct bpf_insn of libpcap, struct sock_filter of Linux. `size` is in bytes. */
 static inline int32_t bpfrt_prog_open_filter(struct bpfrt_prog *prog, const void *insns, size_t size, struct bpfrt_refusal *why)
 {
-	return bpfrt0_prog_open_filter(prog, bpfrt_some(insns), size, why);
+	struct bpfrt_refusal none;
+	if (!insns && size)
+		return -22; /* -EINVAL */
+	return bpfrt0_prog_open_filter(prog, bpfrt_some(insns), size, why ? why : &none);
 }
 
 /* Opens a policy that seccomp takes, from such an array. Its context is struct seccomp_data. */
 static inline int32_t bpfrt_prog_open_policy(struct bpfrt_prog *prog, const void *insns, size_t size, struct bpfrt_refusal *why)
 {
-	return bpfrt0_prog_open_policy(prog, bpfrt_some(insns), size, why);
+	struct bpfrt_refusal none;
+	if (!insns && size)
+		return -22; /* -EINVAL */
+	return bpfrt0_prog_open_policy(prog, bpfrt_some(insns), size, why ? why : &none);
 }
 
 /* Opens `prog` as one more handle of the program that `other` holds, for another thread. -EBUSY; -EBADF of `other`; -ENOMEM. */
@@ -188,21 +205,30 @@ static inline int32_t bpfrt_prog_ctx_len(struct bpfrt_prog *prog)
    has another length. */
 static inline int32_t bpfrt_prog_run(struct bpfrt_prog *prog, const void *ctx, size_t len, uint64_t *value)
 {
-	return bpfrt0_prog_run(prog, bpfrt_some(ctx), len, value);
+	uint64_t none;
+	if (!ctx && len)
+		return -22; /* -EINVAL */
+	return bpfrt0_prog_run(prog, bpfrt_some(ctx), len, value ? value : &none);
 }
 
 /* The same on `count` contexts, one behind another. */
 static inline int32_t bpfrt_prog_run_many(struct bpfrt_prog *prog, const void *ctxs, size_t size, uint64_t *values, size_t count)
 {
+	if ((!ctxs && size) || (!values && count))
+		return -22; /* -EINVAL */
 	return bpfrt0_prog_run_many(prog, bpfrt_some(ctxs), size, (values ? values : bpfrt_no_values()), count);
 }
 
 /* Runs a filter on a packet of `caplen` captured bytes and `len` on the wire, of which it sees the first 248. Any program with
-   contexts of 256 bytes may be run so: it finds the captured length, the length on the wire (4 bytes each) and the bytes. */
+   contexts of 256 bytes may be run so: it finds the captured length, the length on the wire (4 bytes each) and the bytes. -EINVAL where its contexts have another
+   length. */
 static inline int32_t bpfrt_prog_run_packet(struct bpfrt_prog *prog, const void *packet, size_t caplen, uint32_t len, uint64_t
 	*value)
 {
-	return bpfrt0_prog_run_packet(prog, bpfrt_some(packet), caplen, len, value);
+	uint64_t none;
+	if (!packet && caplen)
+		return -22; /* -EINVAL */
+	return bpfrt0_prog_run_packet(prog, bpfrt_some(packet), caplen, len, value ? value : &none);
 }
 
 /* Closes the handle. The program is freed with its last handle. -EBADF where it is closed. */
@@ -217,6 +243,8 @@ static inline int32_t bpfrt_prog_close(struct bpfrt_prog *prog)
 static inline int32_t bpfrt_world_open(struct bpfrt_world *world, const struct bpfrt_map_shape *maps, size_t nr_maps, struct
 	bpfrt_refusal *why)
 {
+	if (!maps && nr_maps)
+		return -22; /* -EINVAL */
 	return bpfrt0_world_open(world, (maps ? maps : bpfrt_no_shapes()), nr_maps, why);
 }
 
@@ -224,6 +252,8 @@ static inline int32_t bpfrt_world_open(struct bpfrt_world *world, const struct b
    programs stay as they are. -EBADF of either; -E2BIG with 64 programs; -EINVAL where a map is missing or has another shape. */
 static inline int32_t bpfrt_world_load(struct bpfrt_world *world, struct bpfrt_prog *prog, const uint32_t *maps, size_t nr_maps)
 {
+	if (!maps && nr_maps)
+		return -22; /* -EINVAL */
 	return bpfrt0_world_load(world, prog, (maps ? maps : bpfrt_no_u32s()), nr_maps);
 }
 
@@ -233,6 +263,8 @@ static inline int32_t bpfrt_world_load(struct bpfrt_world *world, struct bpfrt_p
 static inline int32_t bpfrt_map_update_elem(struct bpfrt_world *world, uint32_t map, const void *key, size_t key_size, const void
 	*value, size_t value_size, uint64_t flags)
 {
+	if ((!key && key_size) || (!value && value_size))
+		return -22; /* -EINVAL */
 	return bpfrt0_map_update_elem(world, map, bpfrt_some(key), key_size, bpfrt_some(value), value_size, flags);
 }
 
@@ -240,12 +272,16 @@ static inline int32_t bpfrt_map_update_elem(struct bpfrt_world *world, uint32_t 
 static inline int32_t bpfrt_map_lookup_elem(struct bpfrt_world *world, uint32_t map, const void *key, size_t key_size, void *value,
 	size_t value_size)
 {
+	if ((!key && key_size) || (!value && value_size))
+		return -22; /* -EINVAL */
 	return bpfrt0_map_lookup_elem(world, map, bpfrt_some(key), key_size, bpfrt_room(value), value_size);
 }
 
 /* Removes a key of a hash map. -ENOENT, -ENXIO, -EINVAL. */
 static inline int32_t bpfrt_map_delete_elem(struct bpfrt_world *world, uint32_t map, const void *key, size_t key_size)
 {
+	if (!key && key_size)
+		return -22; /* -EINVAL */
 	return bpfrt0_map_delete_elem(world, map, bpfrt_some(key), key_size);
 }
 
@@ -253,19 +289,25 @@ static inline int32_t bpfrt_map_delete_elem(struct bpfrt_world *world, uint32_t 
    the number; -EINVAL where the context has another length; -EAGAIN where 256 runs stand in the world. */
 static inline int32_t bpfrt_world_run(struct bpfrt_world *world, uint32_t prog, const void *ctx, size_t len, uint64_t *value)
 {
-	return bpfrt0_world_run(world, prog, bpfrt_some(ctx), len, value);
+	uint64_t none;
+	if (!ctx && len)
+		return -22; /* -EINVAL */
+	return bpfrt0_world_run(world, prog, bpfrt_some(ctx), len, value ? value : &none);
 }
 
 /* Starts a run that is stepped by hand: its number. It answers as bpfrt_world_run. */
 static inline int32_t bpfrt_world_start(struct bpfrt_world *world, uint32_t prog, const void *ctx, size_t len)
 {
+	if (!ctx && len)
+		return -22; /* -EINVAL */
 	return bpfrt0_world_start(world, prog, bpfrt_some(ctx), len);
 }
 
 /* One step of a run: 0 where it goes on, 1 where it has exited, with its value. -ESRCH where there is no such run, or it has ended. */
 static inline int32_t bpfrt_world_step(struct bpfrt_world *world, uint32_t run, uint64_t *value)
 {
-	return bpfrt0_world_step(world, run, value);
+	uint64_t none;
+	return bpfrt0_world_step(world, run, value ? value : &none);
 }
 
 /* Takes a run out that has exited. -ESRCH; -EBUSY where it has not exited. */

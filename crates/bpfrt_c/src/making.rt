@@ -9,7 +9,7 @@ ghost use Rattle.world.specs.Programs.{program_of};
 ghost use Rattle.bpfrt_c.specs.Worlds.{IsNegative, IsNewWorld, LoadsInto, LoadsProgram};
 
 use crate::number::{E2BIG, EBADF, EBUSY, EINVAL, ENOMEM};
-use crate::refusal::{Refusal, tell};
+use crate::refusal::{Refusal, tell, tell_memory};
 use crate::shape::{Shape, ShapesFault, shapes_of};
 use arrayvec::ArrayVec;
 use bpf_model::{MAX_MAPS, MapShape};
@@ -76,11 +76,11 @@ pub extern "C" fn bpfrt0_world_open(
     }
     let world = match world_of(alloc, shapes) {
         Ok(world) => world,
-        Err(ShapesFault::Memory) => return ENOMEM,
+        Err(ShapesFault::Memory) => return tell_memory(why),
         Err(ShapesFault::Fault(fault)) => return tell(alloc, &fault, why),
     };
     let Ok(held) = Box::new(alloc, Held::World(world)) else {
-        return ENOMEM;
+        return tell_memory(why);
     };
     host.put(held);
     0

@@ -8,8 +8,8 @@ ghost use Rattle.host_programs.specs.Opened.{OpenProgram, IsOfBytes, IsOfFile, I
 ghost use Rattle.host_values.specs.Values.{program_in};
 ghost use Rattle.bpfrt_c.specs.Shapes.{AreShapesInC};
 
-use crate::number::{EBADF, EBUSY, EINVAL, ENOMEM};
-use crate::refusal::{Refusal, tell};
+use crate::number::{EBADF, EBUSY, ENOMEM};
+use crate::refusal::{Refusal, tell, tell_memory};
 use crate::shape::{Shape, ShapesFault, shapes_of};
 use host_handle::Host;
 use host_programs::{Data, HostProgram, OpenFault};
@@ -34,10 +34,10 @@ fn put_program(
         Err(fault) => return tell(alloc, &fault, why),
     };
     let Ok(shared) = Arc::new(alloc, program) else {
-        return ENOMEM;
+        return tell_memory(why);
     };
     let Ok(held) = Box::new(alloc, Held::Program(shared)) else {
-        return ENOMEM;
+        return tell_memory(why);
     };
     host.put(held);
     0
@@ -67,7 +67,7 @@ pub extern "C" fn bpfrt0_prog_open(
     }
     let shapes = match shapes_of(alloc, shapes) {
         Ok(shapes) => shapes,
-        Err(ShapesFault::Memory) => return ENOMEM,
+        Err(ShapesFault::Memory) => return tell_memory(why),
         Err(ShapesFault::Fault(fault)) => return tell(alloc, &fault, why),
     };
     let opened = HostProgram::from_bytes(alloc, insns, ctx_len, shapes.as_slice());

@@ -1,5 +1,5 @@
 //! Why no program is opened, as C reads it.
-ghost use Rattle.std.specs.Prelude.{◌≡◌};
+ghost use Rattle.std.specs.Prelude.{◌≡◌, pos, neg_ℤ};
 ghost use Rattle.host_programs.specs.Numbers.{open_fault_number, open_fault_place};
 ghost use Rattle.bpfrt_c.specs.Refused.{place_kind, place_number, error_of};
 
@@ -8,7 +8,7 @@ use host_programs::{OpenFault, Place};
 use std::alloc::Global;
 
 /// How many bytes the words of a refusal have, the zero at their end among them.
-pub const WORDS: usize = 112;
+pub const WORDS: usize = 144;
 
 /// In C `struct bpfrt_refusal`: the number of docs/REFUSALS.md, where the fault is, and in words what it is, cut where they are
 /// longer. `kind` is 0 where it is in no one place; else `at` is a slot (1), a line (2), an instruction of a classic program (3) or
@@ -50,6 +50,20 @@ fn put_words(words: &mut [u8; WORDS], text: &[u8]) {
     *words = [0; WORDS];
     let count = text.len().min(WORDS - 1);
     words[..count].copy_from_slice(&text[..count]);
+}
+
+/// Tells that memory ran out, and answers -ENOMEM.
+pub fn tell_memory(why: &mut Refusal) -> i32
+    ensures code { why.new.code ≡ 13 }
+    ensures kind { why.new.kind ≡ 0 }
+    ensures at { why.new.at ≡ 0 }
+    ensures number { result ≡ neg_ℤ (pos 12) }
+{
+    why.code = 13;
+    why.kind = 0;
+    why.at = 0;
+    put_words(&mut why.words, b"out of memory");
+    ENOMEM
 }
 
 /// Tells a fault, and answers with its number of errno's: -ENOMEM where memory ran out, -EACCES where the verifier refuses the

@@ -12,7 +12,7 @@ returns-in-Ok c =
     let names = c.in_ok-registry.registry.names in
     let e = c.in_ok-registry.ensures.maps ∙ ap (λ (xs : List MapShape). map new_map_view xs) c.as_slice.ensures.value in
     let f = c.in-Ok.ensures.view
-        ∙ ap (λ (l : List Loaded). start_view names (shapes_of_maps maps) (programs_in l)) c.new.ensures.items in
+    ∙ ap (λ (l : List Loaded). start_view names (shapes_of_maps maps) (programs_in l)) c.new.ensures.items in
     record {
       new = (
         c.in_ok-shapes.shapes.items,
