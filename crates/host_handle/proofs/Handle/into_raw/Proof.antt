@@ -49,19 +49,24 @@ into_raw_spec 𝓤 𝓛 𝓜 𝓡 wired =
     proved_at 𝓛 f.ended stayed c 𝓜 𝓡 (Goes-blank 𝓛 0 (plain (λ _. Row)) yes (λ κs x w. tt), (Goes-blank 𝓛 0 (plain (λ _. Z)) yes (λ κs x w. tt), tt))
     f.Key.name code.function (code.unfolded 𝓤 𝓛.H 𝓜 𝓡 wired) (λ z are.
     let d = z.0.3.0 in let a = z.0.3.1.0 in let Post : Val → SProp 𝓤 = (walk_of 𝓛 f.ended stayed c).post z
-        in let Run : List Val → SProp 𝓤 = λ ws. WpFn 𝓤 𝓛.H 𝓣.C 𝓣.Λ code.function ws Post in
+    in let Run : List Val → SProp 𝓤 = λ ws. WpFn 𝓤 𝓛.H 𝓣.C 𝓣.Λ code.function ws Post in
     qed 𝓛 ((‵ ftrue ⊛ ‵ (owns (types_at f.ended.signature.params z.0.0) z.0.3 z.0.4)) ∷ raw (fact 𝓤 (IsSome d.held)) ∷ []) ∵
     move ! (1 ∷ []) $ heard ! (IsSome d.held) (λ is. split ! $ move ! (1 ∷ []) $ fsplit ! $
     handle_out ! d z.0.4.0 (λ ws. held_out ! a d.at d.held is (λ v ev.
     in_a_block ! d.at (λ p. box_owns (ghosts.dealloc_token a) R p v) (fst∗ 𝓤 (never 𝓤) (sem 𝓛 (ghosts.dealloc_token a (bare (lone R.mir)) null_ptr)))
-        (λ b o e.
-    move ! (1 ∷ []) $ fsplit ! $ handle_tells (record { row = Z; laws = heap_laws.the_row_laws; g = ghosts; d = impl [] tnil dnil; drops = impl [] tnil dnil
-        }) ! a z.0.4.1.0 (λ h eh fits.
+    (λ b o e.
+    move ! (1 ∷ []) $ fsplit ! $ handle_tells (record {
+      row = Z;
+      laws = heap_laws.the_row_laws;
+      g = ghosts;
+      d = impl [] tnil dnil;
+      drops = impl [] tnil dnil;
+    }) ! a z.0.4.1.0 (λ h eh fits.
     move ! (2 ∷ 0 ∷ []) $
     -- [the value's block; the allocator]
     let w : Val = word (block_ptr b o) in let made = parts_good R Z heap_laws.the_row_laws ghosts b o h fits in
     suffices ! (Run (w ∷ h ∷ [])) (subst (λ (us : List Val). ent 𝓤 (Run (w ∷ h ∷ [])) (Run us)) (sym (λ i. (ws ∙ ap
-        (λ (p : Ptr). word p ∷ []) e) i ++ (eh i ++ []))) (id⊢ 𝓤 (Run (w ∷ h ∷ [])))) $
+    (λ (p : Ptr). word p ∷ []) e) i ++ (eh i ++ []))) (id⊢ 𝓤 (Run (w ∷ h ∷ [])))) $
     enter ! 𝓣.C 𝓣.Λ code.function (w ∷ h ∷ []) Post $ alloc_all ! (λ l. pass_all ! refl ((tt, (tt, tt)), (fits, tt)) $
     sets ! (of_opd ! (get_in ! (fld ! refl (stop !)) (sub ! 0 refl (whole !)))) refl (tt, tt) $
     sets ! (of_opd ! (get ! refl)) refl (tt, tt) $
@@ -69,5 +74,5 @@ into_raw_spec 𝓤 𝓛 𝓜 𝓡 wired =
     returns ! (look_at ! 0 refl) $ free_all ! refl $ keep ! (0 ∷ 1 ∷ []) $
     parts_in R Z heap_laws.the_row_laws ghosts ! b o h a v $
     suffices ! _ (ends_at 𝓛 f.ended stayed c z (both (vptr b o) h) (record { at = block_ptr b o; alloc = a; value = v }) (tt, (tt, tt)) (tt, (tt, tt))) $
-        says ! ev $
+    says ! ev $
     nothing ! $ nothing ! $ join ! $ nothing ! $ join ! $ nothing ! $ group ! 3 $ done !)))))))
