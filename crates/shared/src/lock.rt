@@ -1,5 +1,5 @@
 //! A world behind a lock: how its sharing begins and ends, and what workers ask of it.
-ghost use Rattle.std.specs.Prelude.{◌≡◌, ◌+◌, ◌<◌, ◌≤◌, length, map, sum_by, All, IfOk, IfSome, OnErr, OnOk, Some, option_copied, slice_get};
+ghost use Rattle.std.specs.Prelude.{◌≡◌, ◌+◌, ◌<◌, ◌≤◌, ◌++◌, ◌∷◌, [], length, map, sum_by, All, IfOk, IfSome, OnErr, OnOk, Some, option_copied, slice_get};
 ghost use Rattle.bpf_model.specs.declared.limits.TheConstants.{MAX_JOURNAL};
 ghost use Rattle.bpf_model.specs.View.{shapes_of};
 ghost use Rattle.shared_books.specs.Books.{AreNumbered, most_workers};
@@ -16,14 +16,14 @@ use crate::state::{Counters, ExitNote, Receipt, State};
 use bpf_model::{Answer, CtxBytes, Event, MAX_JOURNAL, MAX_PROGRAMS, ProgId, RunId};
 use journal::Journal;
 use shared_books::{
-    Books, CutFault, Finished, SharedFault, Steps, Worker, Workers, merged, new_workers,
+    Books, CutFault, Finished, LoadFault, SharedFault, Steps, Worker, Workers, merged, new_workers,
 };
 use std::alloc::{AllocError, Global};
 use std::marker::Model;
 use std::sync::ledger::{Blank, Ledger};
 use std::sync::{Mutex, Wait};
 use verifier::Verified;
-use world::World;
+use world::{Loaded, World, WorldFault};
 
 /// A world that workers share. Contracts see its programs.
 #[derive(Drop)]
@@ -297,6 +297,35 @@ impl<L: Ledger> Shared<L> {
     pub fn cut<R: Wait>(&self, rt: &R, alloc: Global) -> Result<(), CutFault> {
         let mut state = self.state.lock(rt);
         state.cut(alloc)
+    }
+
+    /// Adds a program to the world, as `State::load` says, and keeps it behind the others. No worker can act meanwhile, since the
+    /// sharing is borrowed.
+    ///
+    /// Errors, and then nothing has changed: `NotQuiet` where a run slot is occupied; else `World`.
+    pub fn load<R: Wait>(
+        &mut self,
+        rt: &R,
+        alloc: Global,
+        loaded: Loaded,
+    ) -> Result<ProgId, LoadFault>
+        ensures programs { OnOk result (self.new ≡ self.old ++ loaded.verified ∷ []) }
+        ensures kept { OnErr result (self.new ≡ self.old) }
+    {
+        let Ok(verified) = loaded.verified.copy(alloc) else {
+            return Err(LoadFault::World(WorldFault::Memory));
+        };
+        let Ok(()) = self.programs.push(verified) else {
+            return Err(LoadFault::World(WorldFault::Memory));
+        };
+        let made = {
+            let mut state = self.state.lock(rt);
+            state.load(alloc, loaded)
+        };
+        if made.is_err() {
+            let _ = self.programs.pop();
+        }
+        made
     }
 
     /// Ends the sharing, for which all workers come back, and hands out the base, the world, the journal and the

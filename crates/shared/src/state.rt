@@ -1,18 +1,23 @@
 //! What the lock guards: the books, with the one pass that writes the counters.
-ghost use Rattle.std.specs.Prelude.{◌≡◌, ◌+◌, ◌<◌, ◌≤◌, ◌↔◌, length, IfOk, OnErr, OnOk, Err};
+ghost use Rattle.std.specs.Prelude.{◌≡◌, ◌+◌, ◌<◌, ◌≤◌, ◌↔◌, ◌⊎◌, length, IfOk, IsOk, OnErr, OnOk, Err};
 ghost use Rattle.bpf_model.specs.declared.event.Event.{Event};
 ghost use Rattle.bpf_model.specs.declared.event.Answer.{Answer};
 ghost use Rattle.std.specs.Arc.{arc_value};
 ghost use Rattle.crossbeam_utils.specs.Seq.{cell_view};
 ghost use Rattle.shared_books.specs.Noted.{IsEntered, receipt_of};
-ghost use Rattle.shared_books.specs.Books.{IsJournalFull, TotalsRise, CutsTo};
+ghost use Rattle.bpf_model.specs.View.{shapes_of};
+ghost use Rattle.shared_books.specs.Books.{IsJournalFull, TotalsRise, CutsTo, LoadsTo};
+ghost use Rattle.world.specs.BoundTo.{IsBound};
+ghost use Rattle.world.specs.Programs.{program_of};
+ghost use Rattle.world.specs.declared.fault.WorldFault.TheVariants.{TooManyPrograms, Memory};
+ghost use Rattle.shared_books.specs.declared.fault.LoadFault.TheVariants as load_fault;
 ghost use Rattle.shared_books.specs.Receipts.{IsMachineAnswer};
 ghost use Rattle.shared_books.specs.Stretches.{EntersMoves, HasMade};
 ghost use Rattle.shared_books.specs.declared.steps.StepsEnd.{StepsEnd};
 ghost use Rattle.world.specs.Stretches.{WouldBeRefused, WouldExit};
 ghost use Rattle.shared.specs.Meter.{MayWrite, writer_at};
 ghost use Rattle.shared_books.specs.Tally.{IsTallyOf, shown_totals};
-ghost use Rattle.bpf_model.specs.declared.limits.TheConstants.{MAX_JOURNAL};
+ghost use Rattle.bpf_model.specs.declared.limits.TheConstants.{MAX_JOURNAL, MAX_PROGRAMS};
 ghost use Rattle.journal_laws.specs.Replay.{Replays, HasNoRuns};
 ghost use Rattle.journal_laws.specs.Totals.{steps_of};
 ghost use Rattle.shared_books.specs.declared.fault.CutFault.TheVariants as cut_fault;
@@ -24,16 +29,17 @@ mod stretch;
 
 use crate::meter::{Meter, MeterPass, Writes};
 use crate::state::counters::begin;
-use bpf_model::{Answer, Event, RunId};
+use bpf_model::{Answer, Event, ProgId, RunId};
 pub use counters::Counters;
 pub use note::ExitNote;
 pub use receipt::Receipt;
-use shared_books::{Books, CutFault, Finished, SharedFault, Steps, Totals, Worker};
+use shared_books::{Books, CutFault, Finished, LoadFault, SharedFault, Steps, Totals, Worker};
 use std::alloc::{AllocError, Global};
 use std::marker::Model;
 use std::sync::ledger::{Ledger, Share};
 use std::sync::{Arc, Wait};
 pub use stretch::Stretch;
+use world::Loaded;
 
 /// The books, and the pass that writes the counters' cell. Whenever the lock is free the books balance, and
 /// the pass knows the words of the cell: they are the totals of the books.
@@ -171,6 +177,26 @@ impl<L: Ledger> State<L> {
         ensures err { OnErr result (self.new ≡ self.old) }
     {
         self.books.cut(alloc)
+    }
+
+    /// Adds a program to the world, as `World::load`, and makes that its own new base, as `cut`. The program gets the next
+    /// number; maps, counts and totals stay as they were.
+    ///
+    /// Errors, and then nothing has changed: `NotQuiet` where a run slot is occupied; else `World`, as `World::load` says, or where
+    /// there is no memory for copies of the world.
+    pub fn load(&mut self, alloc: Global, loaded: Loaded) -> Result<ProgId, LoadFault>
+        ensures quiet { (result ≡ Err load_fault.NotQuiet)
+            ↔ (HasNoRuns self.old.books.world → ⊥) }
+        ensures too_many { HasNoRuns self.old.books.world → MAX_PROGRAMS ≤ length self.old.books.world.programs →
+            (result ≡ Err (load_fault.World TooManyPrograms)) ⊎ (result ≡ Err (load_fault.World Memory)) }
+        ensures made { HasNoRuns self.old.books.world → length self.old.books.world.programs < MAX_PROGRAMS →
+            IsBound (shapes_of self.old.books.world) loaded → IsOk result ⊎ (result ≡ Err (load_fault.World Memory)) }
+        ensures number { IfOk result (λ p. p ≡ length self.old.books.world.programs) }
+        ensures ok { OnOk result (LoadsTo (program_of loaded) self.old.books self.new.books) }
+        ensures cell { self.new.meter ≡ self.old.meter }
+        ensures err { OnErr result (self.new ≡ self.old) }
+    {
+        self.books.load(alloc, loaded)
     }
 
     /// A law: the journal replays from the base to the world; the ledger counts its entries and those before the

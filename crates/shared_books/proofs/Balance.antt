@@ -1,19 +1,24 @@
 -- The books stay balanced: with one entry more, and when the journal is cut.
-use Rattle.std.proofs.Common.{◌≡◌, ◌∙◌, ℕ, ◌+◌, ◌^◌, ◌<◌, ◌≤◌, List, [], ◌∷◌, ◌++◌, length, sym, ap, subst, arith, length-append}
+use Rattle.std.proofs.lemmas.Option.{none-some}
+use Rattle.std.proofs.Common.{◌≡◌, ◌∙◌, ℕ, ◌+◌, ◌^◌, ◌<◌, ◌≤◌, List, [], ◌∷◌, ◌++◌, length, refl, sym, ap, subst, arith, length-append}
 use Rattle.bpf_model.specs.declared.event.Event.{Event}
 use Rattle.bpf_model.specs.declared.event.Answer.{Answer}
 use Rattle.bpf_model.specs.Real.{IsReal}
+use Rattle.bpf_model.specs.Machine.{Loaded}
 use Rattle.bpf_model.specs.View.{WorldView}
 use Rattle.bpf_model.specs.declared.entry.Entry.{Entry}
-use Rattle.journal_laws.specs.Replay.{Replays}
+use Rattle.journal.specs.Entries.{JournalView}
+use Rattle.journal_laws.specs.Replay.{HasNoRuns, Replays}
 use Rattle.journal_laws.specs.Totals.{is_step, steps_of, unreclaimed_in}
 use Rattle.journal_laws.proofs.Replaying.{replays_push}
 use Rattle.journal_laws.proofs.Sharing.{steps_push}
 use Rattle.model_laws.proofs.Tallies.{one-most}
+use Rattle.load_laws.specs.Loads.{with_program}
+use Rattle.world_laws.specs.Invariant.{IsWorld}
 use Rattle.world_laws.specs.Reacting.{full_reaction}
 use Rattle.shared_books.specs.declared.tally.Origin.{Origin}
 use Rattle.shared_books.specs.declared.tally.Tally.{Tally}
-use Rattle.shared_books.specs.Books.{BooksView, AreBalanced, Enters}
+use Rattle.shared_books.specs.Books.{BooksView, AreBalanced, Enters, books_view}
 use Rattle.shared_books.specs.Tally.{CountsOn, IsTallyOf, steps_by, reclaimed_by}
 use Rattle.shared_books.proofs.Counting.{IsCountedOn, full-counts}
 
@@ -89,4 +94,38 @@ balanced-push old new worker event answer b fits real e room unr rec unl =
       few_reclaimed = omega (arith, few_reclaimed, t3, total);
       limit = omega (arith, limit, same_limit);
       short = omega (arith, n, room, same_limit);
+    }
+
+-- A world with one more program is its own new base: its runs and maps are those that it had.
+pub balanced-loaded : (b : BooksView) (program : Loaded) (base world : WorldView) (j : JournalView) (entries : ℕ)
+    → entries ≡ length b.journal → AreBalanced b → HasNoRuns b.world → IsWorld base → base ≡ with_program program b.world
+    → world ≡ base → j.entries ≡ [] → j.limit ≡ b.limit
+    → AreBalanced (books_view base world j (b.before + entries) b.tally.totals.steps b.total b.tally)
+balanced-loaded b program base world j entries long balanced quiet is e same empty limit =
+    let count = balanced.count in
+    let none : length j.entries ≡ 0 = ap length empty in
+    let no_steps : steps_of j.entries ≡ 0 = ap steps_of empty in
+    let most = balanced.limit in
+    let r : Replays base base [] = record {
+      quiet = subst HasNoRuns (sym e) quiet;
+      base_is = is;
+      real = λ k event h. absurd (none-some event h);
+      answers = refl;
+      world_is = refl;
+    } in
+    record {
+      replays = subst (λ (z : WorldView × List Entry). Replays base z.0 z.1) (λ i. (sym same i, sym empty i)) r;
+      count = omega (arith, none, count, long);
+      fits = balanced.fits;
+      tally = subst (IsTallyOf b.tally) (sym (same ∙ e)) (record {
+        unreclaimed = balanced.tally.unreclaimed;
+        unlinked = balanced.tally.unlinked;
+        reclaimed = balanced.tally.reclaimed;
+      });
+      steps = omega (arith, no_steps);
+      few_steps = balanced.few_steps;
+      few_unlinked = balanced.few_unlinked;
+      few_reclaimed = balanced.few_reclaimed;
+      limit = omega (arith, most, limit);
+      short = omega (arith, none);
     }

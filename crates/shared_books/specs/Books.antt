@@ -4,7 +4,9 @@ use Rattle.std.specs.Prelude.{slice_get}
 use Rattle.bpf_model.specs.declared.event.Event.{Event}
 use Rattle.bpf_model.specs.declared.event.Answer.{Answer}
 use Rattle.bpf_model.specs.declared.limits.TheConstants.{MAX_JOURNAL}
+use Rattle.bpf_model.specs.Machine.{Loaded}
 use Rattle.bpf_model.specs.View.{WorldView}
+use Rattle.load_laws.specs.Loads.{with_program}
 use Rattle.bpf_model.specs.declared.entry.Entry.{Entry}
 use Rattle.journal.specs.Entries.{JournalView}
 use Rattle.journal_laws.specs.Replay.{Replays}
@@ -101,6 +103,17 @@ pub record TotalsRise (old new : Totals) : Type 0 where
   pub steps : old.steps ≤ new.steps
   pub unlinked : old.unlinked ≤ new.unlinked
   pub reclaimed : old.reclaimed ≤ new.reclaimed
+
+-- The world has one more program, and is the base, and the journal is empty; its entries are counted as those before the base.
+pub record LoadsTo (program : Loaded) (old new : BooksView) : Type 0 where
+  pub base : new.base ≡ with_program program old.world
+  pub world : new.world ≡ with_program program old.world
+  pub journal : new.journal ≡ []
+  pub limit : new.limit ≡ old.limit
+  pub before : new.before ≡ old.before + length old.journal
+  pub steps_before : new.steps_before ≡ old.steps_before + steps_of old.journal
+  pub total : new.total ≡ old.total
+  pub tally : new.tally ≡ old.tally
 
 -- The world now is the base, and the journal is empty; its entries are counted as those before the
 -- base.

@@ -1,28 +1,33 @@
 //! The world with its journal, and the ledger that counts its entries. No method waits.
-ghost use Rattle.std.specs.Prelude.{◌≡◌, ℕ, ◌+◌, ◌-◌, ◌^◌, ◌<◌, ◌≤◌, ◌↔◌, [], length, IsTrue, true, IfNone, IfSome, OnErr, OnOk, Err, Ok, option_copied};
-ghost use Rattle.bpf_model.specs.declared.limits.TheConstants.{MAX_JOURNAL};
+ghost use Rattle.std.specs.Prelude.{◌≡◌, ℕ, ◌+◌, ◌-◌, ◌^◌, ◌<◌, ◌≤◌, ◌↔◌, [], length, ◌⊎◌, IsTrue, true, IfNone, IfOk, IfSome, IsOk, OnErr, OnOk, Err, Ok, option_copied};
+ghost use Rattle.bpf_model.specs.declared.limits.TheConstants.{MAX_JOURNAL, MAX_PROGRAMS};
+ghost use Rattle.bpf_model.specs.View.{shapes_of};
 ghost use Rattle.journal_laws.specs.Replay.{Replays, HasNoRuns};
 ghost use Rattle.journal_laws.specs.Totals.{steps_of};
 ghost use Rattle.shared_books.specs.Noted.{IsEntered, receipt_of};
 ghost use Rattle.shared_books.specs.Receipts.{IsExitOf};
 ghost use Rattle.world_laws.specs.Invariant.{IsWorld};
 ghost use Rattle.shared_books.specs.Tally.{IsTallyOf, origin_of};
-ghost use Rattle.shared_books.specs.Books.{HasNoRoom, TotalsRise, CutsTo};
+ghost use Rattle.shared_books.specs.Books.{HasNoRoom, TotalsRise, CutsTo, LoadsTo};
+ghost use Rattle.world.specs.BoundTo.{IsBound};
+ghost use Rattle.world.specs.Programs.{program_of};
+ghost use Rattle.world.specs.declared.fault.WorldFault.TheVariants.{TooManyPrograms, Memory};
+ghost use Rattle.shared_books.specs.declared.fault.LoadFault.TheVariants as load_fault;
 ghost use Rattle.shared_books.specs.declared.fault.SharedFault.TheVariants as fault;
 ghost use Rattle.shared_books.specs.declared.fault.CutFault.TheVariants as cut_fault;
 
 mod stretch;
 
-use crate::fault::{CutFault, SharedFault};
+use crate::fault::{CutFault, LoadFault, SharedFault};
 use crate::tally::{Origin, Tally, Totals, unreclaimed};
 use crate::worker::Worker;
-use bpf_model::{Answer, CtxBytes, Event, RunId};
+use bpf_model::{Answer, CtxBytes, Event, ProgId, RunId};
 use journal::{Journal, JournalFault};
 use std::alloc::Global;
 use std::marker::Model;
 use std::sync::ledger::{Book, Ledger, Share};
 use verifier::Verified;
-use world::World;
+use world::{Loaded, World, WorldFault};
 
 /// A base, what happened since, and the world now.
 #[derive(Drop)]
@@ -186,6 +191,43 @@ impl<L: Ledger> Books<L> {
                 Ok(())
             }
         }
+    }
+
+    /// Adds a program to the world, as `World::load`, and makes that its own new base, as `cut`. The program gets the next
+    /// number; maps, counts and totals stay as they were.
+    ///
+    /// Errors, and then nothing has changed: `NotQuiet` where a run slot is occupied; else `World`, as `World::load` says, or where
+    /// there is no memory for copies of the world.
+    pub fn load(&mut self, alloc: Global, loaded: Loaded) -> Result<ProgId, LoadFault>
+        ensures quiet { (result ≡ Err load_fault.NotQuiet) ↔ (HasNoRuns self.old.world → ⊥) }
+        ensures too_many { HasNoRuns self.old.world → MAX_PROGRAMS ≤ length self.old.world.programs →
+            (result ≡ Err (load_fault.World TooManyPrograms)) ⊎ (result ≡ Err (load_fault.World Memory)) }
+        ensures made { HasNoRuns self.old.world → length self.old.world.programs < MAX_PROGRAMS →
+            IsBound (shapes_of self.old.world) loaded → IsOk result ⊎ (result ≡ Err (load_fault.World Memory)) }
+        ensures number { IfOk result (λ p. p ≡ length self.old.world.programs) }
+        ensures ok { OnOk result (LoadsTo (program_of loaded) self.old self.new) }
+        ensures err { OnErr result (self.new ≡ self.old) }
+    {
+        if !is_quiet(&self.world) {
+            return Err(LoadFault::NotQuiet);
+        }
+        let Ok(mut world) = self.world.copy(alloc) else {
+            return Err(LoadFault::World(WorldFault::Memory));
+        };
+        let program = match world.load(loaded) {
+            Ok(program) => program,
+            Err(fault) => return Err(LoadFault::World(fault)),
+        };
+        let Ok(base) = world.copy(alloc) else {
+            return Err(LoadFault::World(WorldFault::Memory));
+        };
+        base.is_world();
+        self.base = base;
+        self.world = world;
+        self.before += self.journal.len() as u64;
+        self.steps_before = self.tally.totals.steps;
+        self.journal.cut();
+        Ok(program)
     }
 
     /// A law: the journal replays from the base to the world; the ledger counts its entries and those before the

@@ -2,6 +2,7 @@
 ghost use Rattle.std.specs.Prelude.{◌≡◌};
 
 use thiserror::Error;
+use world::WorldFault;
 
 /// Why an event was not applied.
 #[derive(Clone, Copy, Debug, PartialEq, Eq, Error)]
@@ -19,6 +20,15 @@ pub enum CutFault {
     NotQuiet,
     #[error("out of memory")]
     Memory,
+}
+
+/// Why no program was added to a shared world.
+#[derive(Clone, Copy, Debug, PartialEq, Eq, Error)]
+pub enum LoadFault {
+    #[error("a run slot is occupied")]
+    NotQuiet,
+    #[error("{0}")]
+    World(WorldFault),
 }
 
 impl SharedFault {
@@ -45,6 +55,20 @@ impl CutFault {
         match self {
             CutFault::NotQuiet => 71,
             CutFault::Memory => 13,
+        }
+    }
+}
+
+impl LoadFault {
+    ghost use Rattle.shared_books.specs.Numbers.{load_fault_number};
+
+    /// The number by which the fault is known: 71, or that of the world's.
+    pub fn code(self) -> u8
+        ensures { result ≡ load_fault_number self }
+    {
+        match self {
+            LoadFault::NotQuiet => 71,
+            LoadFault::World(fault) => fault.code(),
         }
     }
 }

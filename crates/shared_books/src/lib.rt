@@ -11,7 +11,7 @@ mod tally;
 mod worker;
 
 pub use books::{Books, Finished, is_quiet};
-pub use fault::{CutFault, SharedFault};
+pub use fault::{CutFault, LoadFault, SharedFault};
 pub use steps::{Steps, StepsEnd};
 pub use tally::{Origin, Tally, Totals};
 pub use worker::{MAX_WORKERS, Worker, Workers, merged, new_workers};

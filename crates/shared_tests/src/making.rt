@@ -137,6 +137,11 @@ fn loaded<R: Abort>(
     Loaded { verified, maps }
 }
 
+/// The program `ONE`, without context and maps.
+pub fn one_more<R: Abort>(rt: &R, alloc: Global) -> Loaded {
+    loaded(rt, alloc, &ONE, 0, &[], 0)
+}
+
 /// A world with two maps and five programs: 0 is `ONE`, 1 and 2 are lookups of the keys 0 and 1, 3 is
 /// `FIRST_BYTE`, and 4 is 1 once more, on the map of longer values.
 pub fn world_of<R: Abort>(rt: &R, alloc: Global) -> Result<World, AllocError> {

@@ -3,9 +3,9 @@
 ghost use Rattle.std.specs.Prelude.{◌≡◌};
 
 use crate::journals::are_entries;
-use crate::making::{Deed, event, shared_of, world_of};
+use crate::making::{Deed, event, one_more, shared_of, world_of};
 use bpf_model::{CtxBytes, ProgId, RunId};
-use shared::{Counters, CutFault, Finished, Shared, SharedFault, Worker};
+use shared::{Counters, CutFault, Finished, LoadFault, Shared, SharedFault, Worker};
 use std::alloc::{AllocError, Global};
 use std::marker::Brand;
 use std::process::Abort;
@@ -14,7 +14,8 @@ use std::sync::ledger::{Blank, Ledger};
 use std::test::Fail;
 
 /// A question to the shared world: an event, without and with its receipt; the exit value of a run and a program, without
-/// and with its note; so many steps of a run; whether there is a program; a cut; and what the counters and the worker count.
+/// and with its note; so many steps of a run; whether there is a program; a cut, a program more; and what the counters and the
+/// worker count.
 enum Ask {
     Act(Deed),
     Note(Deed),
@@ -23,6 +24,7 @@ enum Ask {
     Run(usize, usize),
     Program(usize),
     Cut,
+    Load,
     Totals,
     Made,
 }
@@ -267,11 +269,46 @@ const COUNTED: Scene = Scene {
     ],
 };
 
+/// A program is added where no run slot is occupied. The journal begins anew at the world that has it.
+const LOADED: Scene = Scene {
+    limit: None,
+    rows: &[
+        (1, Ask::Act(Deed::Start(5)), "Ok(Refused(NoProgram))"),
+        (
+            1,
+            Ask::Act(Deed::Start(0)),
+            "Ok(Started(RunId { number: 0 }))",
+        ),
+        (1, Ask::Load, "Err(NotQuiet)"),
+        (1, Ask::Act(Deed::Step(0)), "Ok(Moved)"),
+        (1, Ask::Act(Deed::Step(0)), "Ok(Exited(1))"),
+        (1, Ask::Act(Deed::Leave(0)), "Ok(Done)"),
+        (1, Ask::Program(5), "false"),
+        (1, Ask::Load, "Ok(ProgId { number: 5 })"),
+        (1, Ask::Program(5), "true"),
+        (
+            1,
+            Ask::Act(Deed::Start(5)),
+            "Ok(Started(RunId { number: 0 }))",
+        ),
+        (1, Ask::Act(Deed::Step(0)), "Ok(Moved)"),
+        (1, Ask::Act(Deed::Step(0)), "Ok(Exited(1))"),
+        (1, Ask::ExitNote(0, 5), "Some(1), made 8, worker 0"),
+    ],
+    left: "5 before, 3 of 16777216, Stat { linked: 0, unlinked: 0, given: 0, worn: 0, runs: 0, open: 0 }, Stat { linked: 0, unlinked: 0, given: 0, worn: 0, runs: 1, open: 0 }",
+    entries: &[
+        "Some(Entry { worker: 0, event: Start { prog: ProgId { number: 5 }, ctx: [] }, answer: Started(RunId { number: 0 }) })",
+        MOVED,
+        EXITED,
+        "None",
+    ],
+};
+
 /// What a worker is told.
-fn told<L: Ledger, R: Wait>(
+fn told<L: Ledger, R: Wait + Abort>(
     rt: &R,
     alloc: Global,
-    shared: &Shared<L>,
+    shared: &mut Shared<L>,
     worker: &mut Worker<L>,
     counters: &mut Counters,
     ask: &Ask,
@@ -308,6 +345,10 @@ fn told<L: Ledger, R: Wait>(
             format!(in alloc; "{}", shared.program(ProgId::new(prog)).is_some())
         }
         Ask::Cut => format!(in alloc; "{:?}", shared.cut(rt, alloc)),
+        Ask::Load => {
+            let loaded = one_more(rt, alloc);
+            format!(in alloc; "{:?}", shared.load(rt, alloc, loaded))
+        }
         Ask::Totals => format!(in alloc; "{:?}", counters.read(rt)),
         Ask::Made => format!(in alloc; "{}", worker.made()),
     }
@@ -317,7 +358,7 @@ fn told<L: Ledger, R: Wait>(
 fn ask_often<L: Ledger, R: Wait + Abort>(
     rt: &R,
     alloc: Global,
-    shared: &Shared<L>,
+    shared: &mut Shared<L>,
     worker: &mut Worker<L>,
     counters: &mut Counters,
     row: &Row,
@@ -341,7 +382,7 @@ fn play<L: Ledger + Send + Sync, R: Wait + Abort>(
     requires parts { (blank.parts ≡ L.parts) × (blank.parts ≡ 1) }
 {
     let world = world_of(rt, alloc)?;
-    let (shared, mut workers, mut counters) = shared_of::<L, R>(
+    let (mut shared, mut workers, mut counters) = shared_of::<L, R>(
         rt,
         alloc,
         world,
@@ -351,7 +392,7 @@ fn play<L: Ledger + Send + Sync, R: Wait + Abort>(
     )?;
     for row in scene.rows {
         if let [worker] = workers.as_mut_slice() {
-            ask_often(rt, alloc, &shared, worker, &mut counters, row)?;
+            ask_often(rt, alloc, &mut shared, worker, &mut counters, row)?;
         }
     }
     assert_eq!(rt; workers.count(), 1);
@@ -378,13 +419,17 @@ fn ends_so<R: Abort>(
 
 #[test]
 fn scenes_are_told(rt: HostRuntime) -> Result<(), Fail> {
-    for scene in [CUT, ALIKE, FULL, EMPTIED, STRETCHED, COUNTED] {
+    for scene in [CUT, ALIKE, FULL, EMPTIED, STRETCHED, COUNTED, LOADED] {
         let finished = play::<Brand, _>(&rt, rt.alloc(), Blank::new(1), &scene)?;
         ends_so(&rt, rt.alloc(), &scene, &finished)?;
     }
     assert_eq!(rt;
-        (SharedFault::JournalFull.code(), CutFault::NotQuiet.code()),
-        (70, 71)
+        (
+            SharedFault::JournalFull.code(),
+            CutFault::NotQuiet.code(),
+            LoadFault::NotQuiet.code()
+        ),
+        (70, 71, 71)
     );
     Ok(())
 }
