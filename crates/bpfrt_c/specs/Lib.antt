@@ -1,4 +1,6 @@
+pub mod Asked
 pub mod Programs
 pub mod Refused
 pub mod Shapes
+pub mod Tables
 pub mod Worlds

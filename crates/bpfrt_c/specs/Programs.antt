@@ -4,13 +4,8 @@ use Rattle.bpf_model.specs.Exit.{HasNoMaps}
 use Rattle.classic_program.specs.Context.{context_bytes}
 use Rattle.classic_program.specs.declared.data.Data.TheVariants.{Packet}
 use Rattle.host_programs.specs.Opened.{OpenProgram}
-use Rattle.host_programs.specs.Packets.{seen}
-use Rattle.host_programs.specs.Runs.{ExitsOnPacket, Returns}
-
--- The program exits on the packet with the number, which its classic program returns, where that is one of packets.
-pub record GivesOnPacket (p : OpenProgram) (packet : List ℕ) (wire n : ℕ) : Type 0 where
-  pub exits : ExitsOnPacket p.checked (seen packet wire) n
-  pub returns : Returns p.classic (seen packet wire) n
+use Rattle.host_programs.specs.Packets.{AreInside}
+use Rattle.host_programs.specs.declared.packet.PacketAt.{PacketAt}
 
 -- The program names no map, and the context has its length.
 pub record CanRunOn (p : OpenProgram) (context : List ℕ) : Type 0 where
@@ -26,3 +21,9 @@ pub record CanRunOnEach (p : OpenProgram) (contexts : List ℕ) (count : ℕ) : 
 pub record CanRunOnPackets (p : OpenProgram) : Type 0 where
   pub alone : HasNoMaps p.checked.program
   pub packets : p.checked.ctx_len ≡ context_bytes Packet
+
+-- The same, with as many values as packets, each of which lies among the bytes.
+pub record CanRunOnAll (p : OpenProgram) (bytes : List ℕ) (packets : List PacketAt) (count : ℕ) : Type 0 where
+  pub runs : CanRunOnPackets p
+  pub count_is : length packets ≡ count
+  pub inside : AreInside (length bytes) packets

@@ -5,11 +5,14 @@
 //! stands in `bpfrt.h` and in SECURITY.md.
 #![tactic(auto)]
 
+mod asked;
 mod making;
 mod number;
 mod opening;
+mod reading;
 mod refusal;
 mod running;
 mod shape;
+mod tables;
 mod through;
 mod worlds;

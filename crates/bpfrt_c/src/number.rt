@@ -18,16 +18,22 @@ pub const EACCES: i32 = -13;
 /// The handle holds something already.
 pub const EBUSY: i32 = -16;
 
+/// There is such an element.
+pub const EEXIST: i32 = -17;
+
+/// No element of the table is free, or none of its seats.
+pub const ENOSPC: i32 = -28;
+
 /// An argument is none that the call takes.
 pub const EINVAL: i32 = -22;
 
-/// The program names a map, so it runs over a world or a table alone.
+/// The program names a map, so it runs over a world or a table alone; or it stores less than a word, so it runs in a world alone.
 pub const EOPNOTSUPP: i32 = -95;
 
 /// No run has the number, or it has ended.
 pub const ESRCH: i32 = -3;
 
-/// The world has as many programs as it may have.
+/// The world has as many programs as it may have; or both buckets of a table's key are full.
 pub const E2BIG: i32 = -7;
 
 /// Every run slot of the world is occupied.

@@ -1,11 +1,13 @@
 //! How programs are opened, shared and closed.
-ghost use Rattle.std.specs.Prelude.{◌≡◌, ◌≢◌, List, pos, neg_ℤ, Ok, Some, None, IsSome, IfSome, IfOk, IfErr};
+ghost use Rattle.std.specs.Prelude.{◌≡◌, ◌≢◌, List, pos, neg_ℤ, Ok, Err, Some, None, IsSome, IfSome, IfOk, IfErr};
 ghost use Rattle.bpf_model.specs.declared.limits.MapShape.{MapShape as ShapeOf};
 ghost use Rattle.classic_program.specs.Reading.{IsListing, filters_in};
 ghost use Rattle.classic_program.specs.declared.data.Data.TheVariants.{Packet, Seccomp};
 ghost use Rattle.classic_program.specs.declared.sock_filter.SockFilter.{SockFilter};
 ghost use Rattle.host_programs.specs.Opened.{OpenProgram, IsOfBytes, IsOfFile, IsOfClassic};
+ghost use Rattle.host_programs.specs.Refusals.{IsArrayFault, IsFileFault, IsListingFault};
 ghost use Rattle.host_values.specs.Values.{program_in};
+ghost use Rattle.bpfrt_c.specs.Refused.{IsBytesFaultInC, Tells};
 ghost use Rattle.bpfrt_c.specs.Shapes.{AreShapesInC};
 
 use crate::number::{EBADF, EBUSY, ENOMEM};
@@ -28,6 +30,8 @@ fn put_program(
     ensures opened { result ≡ pos 0 → (p : OpenProgram) × (opened ≡ Ok p)
         × (program_in host.new.handle.held ≡ Some p) }
     ensures kept { result ≢ pos 0 → host.new.handle.held ≡ None }
+    ensures fault { result ≢ pos 0 → why.new.code ≢ 13 → Tells (λ fault. opened ≡ Err fault) why.new result }
+    ensures memory { result ≢ pos 0 → why.new.code ≡ 13 → result ≡ neg_ℤ (pos 12) }
 {
     let program = match opened {
         Ok(program) => program,
@@ -61,6 +65,9 @@ pub extern "C" fn bpfrt0_prog_open(
         (list : List ShapeOf) × AreShapesInC shapes.now list × IsOfBytes insns.now ctx_len list p) }
     ensures open { result ≡ pos 0 → IsSome (program_in host.new.handle.held) }
     ensures kept { result ≢ pos 0 → host.new.handle.held ≡ host.old.handle.held }
+    ensures fault { host.old.handle.held ≡ None → result ≢ pos 0 → why.new.code ≢ 13 →
+        Tells (IsBytesFaultInC insns.now ctx_len shapes.now) why.new result }
+    ensures memory { host.old.handle.held ≡ None → result ≢ pos 0 → why.new.code ≡ 13 → result ≡ neg_ℤ (pos 12) }
 {
     if host.is_open() {
         return EBUSY;
@@ -87,6 +94,9 @@ pub extern "C" fn bpfrt0_prog_open_file(
     ensures opened { result ≡ pos 0 → IfSome (program_in host.new.handle.held) (IsOfFile text.now) }
     ensures open { result ≡ pos 0 → IsSome (program_in host.new.handle.held) }
     ensures kept { result ≢ pos 0 → host.new.handle.held ≡ host.old.handle.held }
+    ensures fault { host.old.handle.held ≡ None → result ≢ pos 0 → why.new.code ≢ 13 →
+        Tells (IsFileFault text.now) why.new result }
+    ensures memory { host.old.handle.held ≡ None → result ≢ pos 0 → why.new.code ≡ 13 → result ≡ neg_ℤ (pos 12) }
 {
     if host.is_open() {
         return EBUSY;
@@ -107,6 +117,9 @@ pub extern "C" fn bpfrt0_prog_open_tcpdump(
         (filter : List SockFilter) × IsListing text.now filter × IsOfClassic Packet filter p) }
     ensures open { result ≡ pos 0 → IsSome (program_in host.new.handle.held) }
     ensures kept { result ≢ pos 0 → host.new.handle.held ≡ host.old.handle.held }
+    ensures fault { host.old.handle.held ≡ None → result ≢ pos 0 → why.new.code ≢ 13 →
+        Tells (IsListingFault text.now) why.new result }
+    ensures memory { host.old.handle.held ≡ None → result ≢ pos 0 → why.new.code ≡ 13 → result ≡ neg_ℤ (pos 12) }
 {
     if host.is_open() {
         return EBUSY;
@@ -128,6 +141,9 @@ pub extern "C" fn bpfrt0_prog_open_filter(
         (IsOfClassic Packet (filters_in insns.now)) }
     ensures open { result ≡ pos 0 → IsSome (program_in host.new.handle.held) }
     ensures kept { result ≢ pos 0 → host.new.handle.held ≡ host.old.handle.held }
+    ensures fault { host.old.handle.held ≡ None → result ≢ pos 0 → why.new.code ≢ 13 →
+        Tells (IsArrayFault Packet insns.now) why.new result }
+    ensures memory { host.old.handle.held ≡ None → result ≢ pos 0 → why.new.code ≡ 13 → result ≡ neg_ℤ (pos 12) }
 {
     if host.is_open() {
         return EBUSY;
@@ -153,6 +169,9 @@ pub extern "C" fn bpfrt0_prog_open_policy(
         (IsOfClassic Seccomp (filters_in insns.now)) }
     ensures open { result ≡ pos 0 → IsSome (program_in host.new.handle.held) }
     ensures kept { result ≢ pos 0 → host.new.handle.held ≡ host.old.handle.held }
+    ensures fault { host.old.handle.held ≡ None → result ≢ pos 0 → why.new.code ≢ 13 →
+        Tells (IsArrayFault Seccomp insns.now) why.new result }
+    ensures memory { host.old.handle.held ≡ None → result ≢ pos 0 → why.new.code ≡ 13 → result ≡ neg_ℤ (pos 12) }
 {
     if host.is_open() {
         return EBUSY;

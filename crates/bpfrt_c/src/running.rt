@@ -1,12 +1,13 @@
 //! Runs of programs that name no map.
 ghost use Rattle.std.specs.Prelude.{◌≡◌, ◌≢◌, pos, neg_ℤ, Some, None, Err, IfSome, IsOk, IfOk, IfErr, OnOk, OnErr, length};
-ghost use Rattle.host_programs.specs.Runs.{Gives, GivesEach};
+ghost use Rattle.host_programs.specs.Packets.{seen};
+ghost use Rattle.host_programs.specs.Runs.{Gives, GivesEach, GivesEachPacket, GivesOnPacket};
 ghost use Rattle.host_values.specs.Values.{program_in};
-ghost use Rattle.bpfrt_c.specs.Programs.{CanRunOn, CanRunOnEach, CanRunOnPackets, GivesOnPacket};
+ghost use Rattle.bpfrt_c.specs.Programs.{CanRunOn, CanRunOnAll, CanRunOnEach, CanRunOnPackets};
 
 use crate::number::{EBADF, EINVAL, EOPNOTSUPP};
 use host_handle::Host;
-use host_programs::RunFault;
+use host_programs::{PacketAt, RunFault};
 use host_values::Held;
 use std::alloc::Global;
 
@@ -57,7 +58,7 @@ fn run_held_on_each(held: &Held, contexts: &[u8], values: &mut [u64]) -> Result<
 /// Runs the program that is held, if one is, on a packet.
 fn run_held_on_packet(held: &Held, packet: &[u8], wire: u32) -> Result<u64, i32>
     ensures gives { IfOk result (λ n. IfSome (program_in (Some held.now)) (λ p.
-        GivesOnPacket p packet.now wire n)) }
+        GivesOnPacket p (seen packet.now wire) n)) }
     ensures ran { IfSome (program_in (Some held.now)) (λ p. CanRunOnPackets p → IsOk result) }
     ensures none { program_in (Some held.now) ≡ None → result ≡ Err (neg_ℤ (pos 9)) }
     ensures fault { IfErr result (λ number. number ≢ pos 0) }
@@ -144,7 +145,7 @@ pub extern "C" fn bpfrt0_prog_run_packet(
     value: &mut u64,
 ) -> i32
     ensures gives { result ≡ pos 0 → IfSome (program_in host.old.handle.held) (λ p.
-        GivesOnPacket p packet.now wire value.new) }
+        GivesOnPacket p (seen packet.now wire) value.new) }
     ensures ran { IfSome (program_in host.old.handle.held) (λ p. CanRunOnPackets p → result ≡ pos 0) }
     ensures none { program_in host.old.handle.held ≡ None → result ≡ neg_ℤ (pos 9) }
     ensures unwritten { result ≢ pos 0 → value.new ≡ value.old }
@@ -164,6 +165,60 @@ pub extern "C" fn bpfrt0_prog_run_packet(
     }
 }
 
+/// Runs the program that is held, if one is, on each packet.
+fn run_held_on_all(
+    held: &Held,
+    bytes: &[u8],
+    packets: &[PacketAt],
+    values: &mut [u64],
+) -> Result<(), i32>
+    ensures gives { OnOk result (IfSome (program_in (Some held.now)) (λ p.
+        GivesEachPacket p bytes.now packets.now values.new)) }
+    ensures ran { IfSome (program_in (Some held.now)) (λ p.
+        CanRunOnAll p bytes.now packets.now (length values.old) → IsOk result) }
+    ensures none { program_in (Some held.now) ≡ None → result ≡ Err (neg_ℤ (pos 9)) }
+    ensures unwritten { OnErr result (values.new ≡ values.old) }
+    ensures fault { IfErr result (λ number. number ≢ pos 0) }
+{
+    let Held::Program(program) = held else {
+        return Err(EBADF);
+    };
+    match program.run_on_packets(bytes, packets, values) {
+        Ok(()) => Ok(()),
+        Err(fault) => Err(number_of(fault)),
+    }
+}
+
+/// Runs such a program on many packets that lie among bytes, each as `bpfrt0_prog_run_packet`, as many as there are values.
+///
+/// It answers so too; -EINVAL where a packet lies outside the bytes, and then no value is written.
+#[unsafe(no_mangle)]
+pub extern "C" fn bpfrt0_prog_run_packets(
+    alloc: Global,
+    host: &mut Host,
+    bytes: &[u8],
+    packets: &[PacketAt],
+    values: &mut [u64],
+) -> i32
+    ensures gives { result ≡ pos 0 → IfSome (program_in host.old.handle.held) (λ p.
+        GivesEachPacket p bytes.now packets.now values.new) }
+    ensures ran { IfSome (program_in host.old.handle.held) (λ p.
+        CanRunOnAll p bytes.now packets.now (length values.old) → result ≡ pos 0) }
+    ensures none { program_in host.old.handle.held ≡ None → result ≡ neg_ℤ (pos 9) }
+    ensures unwritten { result ≢ pos 0 → values.new ≡ values.old }
+    ensures kept { host.new.handle.held ≡ host.old.handle.held }
+{
+    let Some(held) = host.take(alloc) else {
+        return EBADF;
+    };
+    let ran = run_held_on_all(&held, bytes, packets, values);
+    host.put(held);
+    match ran {
+        Ok(()) => 0,
+        Err(number) => number,
+    }
+}
+
 /// How long a context of the program that is held is, or -EBADF.
 #[unsafe(no_mangle)]
 pub extern "C" fn bpfrt0_prog_ctx_len(alloc: Global, host: &mut Host) -> i32
@@ -176,7 +231,7 @@ pub extern "C" fn bpfrt0_prog_ctx_len(alloc: Global, host: &mut Host) -> i32
     };
     let number = match held.as_ref() {
         Held::Program(program) => program.ctx_len() as i32,
-        Held::World(_) => EBADF,
+        _ => EBADF,
     };
     host.put(held);
     number

@@ -58,7 +58,7 @@ pub extern "C" fn bpfrt0_world_run(
     };
     let ran = match held.as_mut() {
         Held::World(world) => run_through(world, ProgId::new(prog as usize), array_of(context)),
-        Held::Program(_) => Err(EBADF),
+        _ => Err(EBADF),
     };
     host.put(held);
     match ran {

@@ -60,7 +60,7 @@ fn apply(alloc: Global, host: &mut Host, event: &Event) -> Option<Answer>
     };
     let answer = match held.as_mut() {
         Held::World(world) => Some(world.apply(event)),
-        Held::Program(_) => None,
+        _ => None,
     };
     host.put(held);
     answer

@@ -2,7 +2,9 @@
 use Rattle.std.proofs.Common.{inl, inr, ◌≡◌, ℕ, zero, suc, ◌+◌, ◌<◌, List, [], ◌∷◌, drop, Some, refl, sym, ap, ◌∙◌, subst, arith, slice_get, slice_set}
 use Rattle.bpf_model.proofs.Lists.{get-set_cases}
 use Rattle.host_programs.specs.Opened.{OpenProgram}
-use Rattle.host_programs.specs.Runs.{Gives, context_at}
+use Rattle.host_programs.specs.Packets.{seen_of}
+use Rattle.host_programs.specs.Runs.{Gives, GivesOnPacket, context_at}
+use Rattle.host_programs.specs.declared.packet.PacketAt.{PacketAt}
 
 nothing : (n : ℕ) → drop {A = ℕ} n [] ≡ []
 nothing zero = refl
@@ -24,4 +26,18 @@ next-each p long at v contexts results before now k n h g =
       | inl x ↦ subst (λ (m : ℕ). Gives p (context_at long k contexts) m) x.1
           (subst (λ (i : ℕ). Gives p (context_at long i contexts) v) (sym x.0) now)
       | inr x ↦ before k n (omega (arith, h, x.0)) x.1
+    ]
+
+pub next-packet : (p : OpenProgram) (bytes : List ℕ) (packets : List PacketAt) (at v : ℕ) (results : List ℕ) (here : PacketAt)
+    → ((packet : PacketAt) → slice_get packets at ≡ Some packet → here ≡ packet)
+    → ((k n : ℕ) (packet : PacketAt) → k < at → slice_get packets k ≡ Some packet → slice_get results k ≡ Some n →
+    GivesOnPacket p (seen_of bytes packet) n)
+    → GivesOnPacket p (seen_of bytes here) v → (k n : ℕ) (packet : PacketAt) → k < at + 1 → slice_get packets k ≡ Some packet
+    → slice_get (slice_set results at v) k ≡ Some n → GivesOnPacket p (seen_of bytes packet) n
+next-packet p bytes packets at v results here only before now k n packet h is g =
+    elim (get-set_cases results at k v n g) [
+      | inl x ↦ subst (λ (m : ℕ). GivesOnPacket p (seen_of bytes packet) m) x.1
+          (subst (λ (q : PacketAt). GivesOnPacket p (seen_of bytes q) v)
+          (only packet (subst (λ (i : ℕ). slice_get packets i ≡ Some packet) x.0 is)) now)
+      | inr x ↦ before k n packet (omega (arith, h, x.0)) is x.1
     ]

@@ -12,10 +12,11 @@ use Rattle.classic_program.specs.declared.sock_filter.SockFilter.{SockFilter}
 use Rattle.classic_program.specs.Context.{context_bytes}
 use Rattle.classic_program.specs.Opcode.{AreInsnsOf}
 use Rattle.classic_program.specs.WellFormed.{Checked as Classic, checked, IsWellFormed}
+use Rattle.plan_laws.specs.Verified.{IsVerified}
 use Rattle.program_files.specs.ProgramFile.{FileContent, FileSays}
 use Rattle.verifier.specs.Checked.{Checked}
 
--- a verified program, and the classic program that it translates, where it does
+-- a program with its verification, and the classic program that it translates, where it does
 pub record OpenProgram : Type 0 where
   pub checked : Checked
   pub classic : Option Classic
@@ -24,6 +25,10 @@ pub record OpenProgram : Type 0 where
 pub record Translates (v : Checked) (c : Classic) : Type 0 where
   pub context : v.ctx_len ≡ context_bytes c.kind
   pub translation : IsTranslation c.kind c.instructions v.program
+
+-- No run of the program is ever stuck, and each exits in time.
+abbrev pub IsSafe : Checked → Type 0
+IsSafe v = IsVerified v.program v.shapes v.ctx_len
 
 abbrev pub IsTranslationOf : Checked → Option Classic → Type 0
 IsTranslationOf v None = Unit {0}
@@ -39,6 +44,7 @@ pub record IsOfBytes (bytes : List ℕ) (ctx_len : ℕ) (shapes : List MapShape)
   pub within : ctx_len ≤ CTX_BYTES
   pub few : length shapes ≤ MAX_MAPS
   pub valid : AreShapes shapes
+  pub verified : IsSafe p.checked
   pub classic : p.classic ≡ None
 
 -- the verified program of a program file, for its context and its maps
@@ -49,6 +55,7 @@ pub record IsOfFile (bytes : List ℕ) (p : OpenProgram) : Type 0 where
   pub code : content.code ≡ text p.checked.program
   pub context : p.checked.ctx_len ≡ content.ctx_len
   pub shapes : p.checked.shapes ≡ shapes_of_maps content.registry.maps
+  pub verified : IsSafe p.checked
   pub classic : p.classic ≡ None
 
 -- a translation of the classic program of these instructions
@@ -57,3 +64,5 @@ pub record IsOfClassic (kind : Data) (filter : List SockFilter) (p : OpenProgram
   pub insns_of : AreInsnsOf filter instructions
   pub well_formed : IsWellFormed kind instructions
   pub classic : p.classic ≡ Some (checked kind instructions)
+  pub translates : Translates p.checked (checked kind instructions)
+  pub verified : IsSafe p.checked

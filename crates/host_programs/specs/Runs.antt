@@ -8,6 +8,8 @@ use Rattle.classic_program.specs.WellFormed.{Checked as Classic}
 use Rattle.map_free_runs.specs.Lone.{loaded_alone}
 use Rattle.verifier.specs.Checked.{Checked}
 use Rattle.host_programs.specs.Opened.{OpenProgram}
+use Rattle.host_programs.specs.Packets.{seen_of}
+use Rattle.host_programs.specs.declared.packet.PacketAt.{PacketAt}
 
 -- Each run of the program on the context exits with this number, after at most as many steps as it has instructions.
 pub record ExitsAs (v : Checked) (context : List ℕ) (n : ℕ) : Type 0 where
@@ -44,3 +46,13 @@ context_at long k contexts = take long (drop (k * long) contexts)
 abbrev pub GivesEach : OpenProgram → List ℕ → List ℕ → Type 0
 GivesEach p contexts results = (k n : ℕ) → slice_get results k ≡ Some n →
     Gives p (context_at p.checked.ctx_len k contexts) n
+
+-- The program exits on the packet with the number, which its classic program returns, where that is one of packets.
+pub record GivesOnPacket (p : OpenProgram) (packet : Input) (n : ℕ) : Type 0 where
+  pub exits : ExitsOnPacket p.checked packet n
+  pub returns : Returns p.classic packet n
+
+-- Result k is that of packet k.
+abbrev pub GivesEachPacket : OpenProgram → List ℕ → List PacketAt → List ℕ → Type 0
+GivesEachPacket p bytes packets results = (k n : ℕ) (packet : PacketAt) → slice_get packets k ≡ Some packet →
+    slice_get results k ≡ Some n → GivesOnPacket p (seen_of bytes packet) n

@@ -64,7 +64,7 @@ pub enum RunFault {
     /// The program names a map, so it runs over a world or a table alone.
     #[error("the program names a map")]
     NamesMaps,
-    /// The context has another length than the program's, or many have.
+    /// The context has another length than the program's, or many have; or a packet lies outside the bytes.
     #[error("the context has another length than the program's")]
     Length,
 }

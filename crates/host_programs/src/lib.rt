@@ -12,5 +12,5 @@ mod running;
 
 pub use classic::{Data, PACKET_BYTES, PACKET_CONTEXT};
 pub use fault::{OpenFault, Place, RunFault};
-pub use packet::packet_context;
+pub use packet::{PacketAt, are_inside, packet_context};
 pub use program::HostProgram;

@@ -1,8 +1,8 @@
-//! The context of a packet.
-ghost use Rattle.std.specs.Prelude.{◌≡◌, ◌≤◌, ◌+◌, ◌++◌, length};
+//! The context of a packet, and packets among bytes.
+ghost use Rattle.std.specs.Prelude.{◌≡◌, ◌≤◌, ◌+◌, ◌++◌, Decides, length};
 ghost use Rattle.bpf_model.specs.declared.limits.TheConstants.{CTX_BYTES};
 ghost use Rattle.classic_program.specs.Context.{IsPacketContext, packet_bytes};
-ghost use Rattle.host_programs.specs.Packets.{seen};
+ghost use Rattle.host_programs.specs.Packets.{AreInside, IsInside, bytes_of, seen};
 
 use bpf_model::{CtxBytes, are_bytes};
 use classic::PACKET_BYTES;
@@ -42,4 +42,39 @@ pub fn packet_context(packet: &[u8], wire: u32) -> CtxBytes
     add(&mut context, &packet[..seen]);
     add(&mut context, zeros(PACKET_BYTES - seen));
     context
+}
+
+/// Where a packet lies among bytes, how many of it were captured, and how long it was on the wire. In C `struct bpfrt_packet`.
+#[repr(C)]
+#[derive(Clone, Copy, Debug, PartialEq, Eq)]
+pub struct PacketAt {
+    pub at: u64,
+    pub captured: u32,
+    pub wire: u32,
+}
+
+/// Whether a packet lies among so many bytes.
+fn is_inside(packet: &PacketAt, count: usize) -> bool
+    ensures { Decides result (IsInside count packet.now) }
+{
+    let count = count as u64;
+    packet.at <= count && u64::from(packet.captured) <= count - packet.at
+}
+
+/// Whether each packet lies among the bytes.
+pub fn are_inside(bytes: &[u8], packets: &[PacketAt]) -> bool
+    ensures { Decides result (AreInside (length bytes.now) packets.now) }
+{
+    packets.iter().all(|packet| is_inside(packet, bytes.len()))
+}
+
+/// The bytes of a packet.
+pub(crate) fn packet_in<'a>(bytes: &'a [u8], packet: &PacketAt) -> &'a [u8]
+    requires { IsInside (length bytes.now) packet.now }
+    ensures { result.now ≡ bytes_of bytes.now packet.now }
+{
+    let at = packet.at as usize;
+    let (_, rest) = bytes.split_at(at);
+    let (packet, _) = rest.split_at(packet.captured as usize);
+    packet
 }

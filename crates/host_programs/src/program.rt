@@ -3,6 +3,7 @@
 use bpf_model::MapShape;
 use classic::ClassicProgram;
 use map_free_runs::has_no_maps;
+use shared_runs::stores_sub_words;
 use std::marker::Model;
 use verifier::Verified;
 
@@ -13,11 +14,14 @@ pub struct HostProgram {
     classic: Option<ClassicProgram>,
     /// Whether it names no map.
     alone: bool,
+    /// Whether it stores less than a word to an element, or changes a map.
+    sub_words: bool,
 }
 
 impl Model for HostProgram {
     ghost use Rattle.std.specs.Prelude.{Decides};
     ghost use Rattle.bpf_model.specs.Exit.{HasNoMaps};
+    ghost use Rattle.shared_runs.specs.Words.{StoresSubWords};
     ghost use Rattle.host_programs.specs.Opened.{OpenProgram, IsTranslationOf};
 
     ghost Value = { OpenProgram };
@@ -25,15 +29,15 @@ impl Model for HostProgram {
     ghost view = { λ p. record { checked = p.verified; classic = p.classic } };
 
     ghost invariant = { λ p. Decides p.alone (HasNoMaps p.verified.program)
-        × IsTranslationOf p.verified p.classic };
+        × Decides p.sub_words (StoresSubWords p.verified) × IsTranslationOf p.verified p.classic };
 }
 
 impl HostProgram {
     ghost use Rattle.std.specs.Prelude.{◌≡◌, ◌≤◌, Decides, Some, None, option_copied};
     ghost use Rattle.bpf_model.specs.declared.limits.TheConstants.{CTX_BYTES};
     ghost use Rattle.bpf_model.specs.Exit.{HasNoMaps};
-    ghost use Rattle.plan_laws.specs.Verified.{IsVerified};
-    ghost use Rattle.host_programs.specs.Opened.{IsTranslationOf, Translates};
+    ghost use Rattle.shared_runs.specs.Words.{StoresSubWords};
+    ghost use Rattle.host_programs.specs.Opened.{IsSafe, IsTranslationOf, Translates};
 
     /// A program that was verified.
     pub fn of_verified(verified: Verified) -> HostProgram
@@ -41,10 +45,12 @@ impl HostProgram {
         ensures classic { result.classic ≡ None }
     {
         let alone = has_no_maps(&verified);
+        let sub_words = stores_sub_words(&verified);
         HostProgram {
             verified,
             classic: None,
             alone,
+            sub_words,
         }
     }
 
@@ -55,10 +61,12 @@ impl HostProgram {
         ensures classic { result.classic ≡ Some classic }
     {
         let alone = has_no_maps(&verified);
+        let sub_words = stores_sub_words(&verified);
         HostProgram {
             verified,
             classic: Some(classic),
             alone,
+            sub_words,
         }
     }
 
@@ -91,10 +99,17 @@ impl HostProgram {
         self.alone
     }
 
+    /// Whether the program stores less than a word to an element, or calls a helper that changes a map. A table without a lock
+    /// serves no such program (`shared_runs`).
+    pub fn stores_sub_words(&self) -> bool
+        ensures { Decides result (StoresSubWords self.now.checked) }
+    {
+        self.sub_words
+    }
+
     /// A law: an open program is verified, and is the translation of its classic program, where it has one.
     pub fn is_open(&self)
-        ensures verified { IsVerified self.now.checked.program self.now.checked.shapes
-            self.now.checked.ctx_len }
+        ensures verified { IsSafe self.now.checked }
         ensures translation { IsTranslationOf self.now.checked self.now.classic }
     {
         let _program = self.verified.program();

@@ -4,11 +4,11 @@ ghost use Rattle.bpf_model.specs.Exit.{HasNoMaps};
 ghost use Rattle.classic_program.specs.Context.{context_bytes};
 ghost use Rattle.classic_program.specs.declared.data.Data.TheVariants.{Packet};
 ghost use Rattle.host_programs.specs.declared.fault.RunFault.TheVariants.{NamesMaps, Length};
-ghost use Rattle.host_programs.specs.Packets.{seen};
-ghost use Rattle.host_programs.specs.Runs.{ExitsAs, ExitsOnPacket, GivesEach, ReturnsOn, Returns};
+ghost use Rattle.host_programs.specs.Packets.{AreInside, IsInside, seen, seen_of};
+ghost use Rattle.host_programs.specs.Runs.{ExitsAs, ExitsOnPacket, GivesEach, GivesEachPacket, GivesOnPacket, ReturnsOn, Returns};
 
 use crate::fault::RunFault;
-use crate::packet::packet_context;
+use crate::packet::{PacketAt, are_inside, packet_context, packet_in};
 use crate::program::HostProgram;
 use bpf_model::are_bytes;
 use classic::PACKET_CONTEXT;
@@ -102,5 +102,48 @@ impl HostProgram {
         }
         let context = packet_context(packet, wire);
         Ok(self.value_on(context.as_slice()))
+    }
+
+    /// The exit value of a program that names no map and has contexts of packets, on one of these.
+    fn value_of(&self, bytes: &[u8], packet: &PacketAt) -> u64
+        requires maps { HasNoMaps self.now.checked.program }
+        requires context { self.now.checked.ctx_len ≡ context_bytes Packet }
+        requires inside { IsInside (length bytes.now) packet.now }
+        ensures { GivesOnPacket self.now (seen_of bytes.now packet.now) result }
+    {
+        let context = packet_context(packet_in(bytes, packet), packet.wire);
+        self.value_on(context.as_slice())
+    }
+
+    /// Runs such a program on many packets that lie among bytes, each as `run_on_packet`. Packets may overlap.
+    ///
+    /// Errors, and then no result is written: `NamesMaps` where it names a map; else `Length` where it was not verified for
+    /// contexts of packets, the results are not as many as the packets, or a packet lies outside the bytes.
+    pub fn run_on_packets(
+        &self,
+        bytes: &[u8],
+        packets: &[PacketAt],
+        results: &mut [u64],
+    ) -> Result<(), RunFault>
+        ensures each { OnOk result (GivesEachPacket self.now bytes.now packets.now results.new) }
+        ensures count { length results.new ≡ length results.old }
+        ensures maps { (result ≡ Err NamesMaps) ↔ (HasNoMaps self.now.checked.program → ⊥) }
+        ensures ran { HasNoMaps self.now.checked.program → self.now.checked.ctx_len ≡ context_bytes Packet →
+            length packets.now ≡ length results.old → AreInside (length bytes.now) packets.now → IsOk result }
+        ensures unwritten { OnErr result (results.new ≡ results.old) }
+    {
+        if !self.names_no_map() {
+            return Err(RunFault::NamesMaps);
+        }
+        if self.ctx_len() != PACKET_CONTEXT || packets.len() != results.len() {
+            return Err(RunFault::Length);
+        }
+        if !are_inside(bytes, packets) {
+            return Err(RunFault::Length);
+        }
+        for at in 0..packets.len() {
+            results[at] = self.value_of(bytes, &packets[at]);
+        }
+        Ok(())
     }
 }

@@ -2,6 +2,7 @@
 #![tactic(auto)]
 
 use host_programs::HostProgram;
+use host_tables::{HostReader, HostTable};
 use std::sync::Arc;
 use world::World;
 
@@ -12,4 +13,10 @@ pub enum Held {
     Program(Arc<HostProgram>),
     /// A world of maps and programs.
     World(World),
+    /// A table with its writer.
+    Table(HostTable),
+    /// A reader of a table.
+    Reader(HostReader),
+    /// Nothing: a box that was made before what it is to hold, so that want of memory loses nothing.
+    Room,
 }

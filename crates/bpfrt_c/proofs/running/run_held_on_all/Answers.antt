@@ -1,0 +1,11 @@
+use Rattle.std.proofs.Common.{Some, IfSome, sym, subst}
+use Rattle.host_programs.specs.Opened.{OpenProgram}
+use Rattle.host_programs.specs.Runs.{GivesEachPacket}
+use Rattle.host_values.specs.Values.{program_in}
+use Rattle.host_values.specs.declared.Held.{Held}
+use Rattle.bpfrt_c.proofs.running.run_held_on_all.Goals as goal
+
+pub returns-in-Ok-clause-gives : goal.returns-in-Ok-clause-gives
+returns-in-Ok-clause-gives c =
+    let P : OpenProgram → Type 0 = λ p. GivesEachPacket p c.args.bytes.now c.args.packets.now c.run_on_packets.new.results in
+    subst (λ (h : Held). IfSome (program_in (Some h)) P) (sym c.in-Program.is) (subst P c.deref.ensures c.in-Ok.ensures.each)

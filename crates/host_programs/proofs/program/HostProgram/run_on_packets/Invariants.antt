@@ -1,0 +1,9 @@
+use Rattle.std.proofs.Common.{◌≡◌, ◌<◌, ℕ, Some, length, slice_get}
+use Rattle.host_programs.specs.Packets.{seen_of}
+use Rattle.host_programs.specs.Runs.{GivesOnPacket}
+use Rattle.host_programs.specs.declared.packet.PacketAt.{PacketAt}
+use Rattle.host_programs.proofs.program.HostProgram.run_on_packets.Given as goal
+
+abbrev pub invariant-loop-at : goal.invariant-loop-at
+invariant-loop-at l = (length l.results ≡ length l.packets) × ((k n : ℕ) (packet : PacketAt) → k < l.at →
+    slice_get l.packets k ≡ Some packet → slice_get l.results k ≡ Some n → GivesOnPacket l.self (seen_of l.bytes packet) n)

@@ -1,0 +1,2 @@
+mod Seeking
+mod Summing

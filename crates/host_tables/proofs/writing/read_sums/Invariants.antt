@@ -1,0 +1,10 @@
+use Rattle.std.proofs.Common.{◌≡◌, List, length}
+use Rattle.map_table.specs.Writing.{Works}
+use Rattle.map_table_laws.specs.declared.moves.Move.{Move}
+use Rattle.host_tables.specs.Tables.{SumsUp}
+use Rattle.host_tables.proofs.writing.read_sums.Given as goal
+
+abbrev pub invariant-loop-place : goal.invariant-loop-place
+invariant-loop-place l = (l.writer.table ≡ l.fn.writer.table) × (l.writer.free ≡ l.fn.writer.free)
+    × (l.writer.unlinked ≡ l.fn.writer.unlinked) × (length l.sums ≡ length l.fn.sums)
+    × ((ms : List Move) × Works l.fn.writer ms l.writer × SumsUp l.table.shape l.element l.place l.sums ms)

@@ -1,0 +1,164 @@
+-- What a host's table holds, and what its writer does in one call.
+use Rattle.std.specs.Prelude.{◌≡◌, ◌⊎◌, ℕ, zero, suc, ◌+◌, List, [], ◌∷◌, ◌++◌, All, Option, Some, None, IsSome, length, slice_index}
+use Rattle.std.specs.List.{range_with_len}
+use Rattle.map_table.specs.Counting.{AddsUp}
+use Rattle.map_table.specs.Hashes.{layout_of}
+use Rattle.map_table.specs.Held.{AreInOrder, Holder, IsNew, TableView}
+use Rattle.map_table.specs.Sightings.{IsHeldUp}
+use Rattle.map_table.specs.Values.{copies_of}
+use Rattle.map_table.specs.Writing.{AreFull, Frees, Looks, Puts, StaysIn, Works, WriterView}
+use Rattle.map_table.specs.declared.view.TableShape.{TableShape}
+use Rattle.map_table_laws.specs.declared.moves.Move.{Move}
+use Rattle.map_table_laws.specs.declared.moves.Move.TheVariants.{Put}
+use Rattle.map_table_laws.specs.Found.{IsLinkedUnder}
+use Rattle.map_table_laws.specs.History.{word_in}
+use Rattle.map_table_laws.specs.Layout.{Names}
+use Rattle.map_table_laws.specs.Lookups.{OnlySearches}
+use Rattle.host_tables.specs.declared.fault.How.{How}
+use Rattle.host_tables.specs.declared.fault.How.TheVariants.{Any, New, Present}
+use Rattle.host_tables.specs.declared.fault.SetFault.{SetFault}
+use Rattle.host_tables.specs.declared.fault.SetFault.TheVariants.{Exists, Missing, NoElement, NoWay}
+
+-- which table, what its writer did and saw there, and the seats that no reader has yet
+pub record OpenTable : Type 0 where
+  pub table : TableView
+  pub writer : WriterView
+  pub seats : List Holder
+
+-- a table of this shape on which nothing was done
+pub record IsNewTable (shape : TableShape) (t : OpenTable) : Type 0 where
+  pub has_shape : t.table.shape ≡ shape
+  pub undone : t.writer.view.mine ≡ []
+  pub free : t.writer.free ≡ range_with_len 0 shape.elements
+  pub unlinked : t.writer.unlinked ≡ []
+  pub readers : length t.seats ≡ shape.readers
+  pub new : All IsNew t.seats
+  pub order : AreInOrder t.seats
+
+-- The key is linked in this way, or in none.
+abbrev pub Finds : TableShape → List ℕ → Option ℕ → WriterView → Type 0
+Finds k key (Some way) w = IsLinkedUnder (layout_of k) 0 key way w.view.seen
+Finds k key None w = (way : ℕ) → IsLinkedUnder (layout_of k) 0 key way w.view.seen → ⊥
+
+-- The writer searched for the key and did nothing else.
+pub record Seeks (key : List ℕ) (found : Option ℕ) (v w : WriterView) : Type 0 where
+  pub moves : List Move
+  pub only : OnlySearches (layout_of v.table.shape) 0 moves
+  pub works : Works v moves w
+  pub free : w.free ≡ v.free
+  pub unlinked : w.unlinked ≡ v.unlinked
+  pub finds : Finds v.table.shape key found w
+
+-- A free element was filled, and linked under the key.
+pub record Links (key value : List ℕ) (v w : WriterView) : Type 0 where
+  pub way : ℕ
+  pub element : ℕ
+  pub word : ℕ
+  pub taken : v.free ≡ w.free ++ element ∷ []
+  pub names : Names word element
+  pub puts : Puts way word element key value v w
+  pub unlinked : w.unlinked ≡ v.unlinked
+  pub under : IsLinkedUnder (layout_of v.table.shape) 0 key way w.view.seen
+
+-- A free element was filled, and put in the place of that in the way, in which the key stays linked all the time.
+pub record Replaces (way : ℕ) (key value : List ℕ) (v w : WriterView) : Type 0 where
+  pub element : ℕ
+  pub word : ℕ
+  pub gone : ℕ
+  pub taken : v.free ≡ w.free ++ element ∷ []
+  pub names : Names word element
+  pub puts : Puts way word element key value v w
+  pub was : Names (word_in way v.view.mine) gone
+  pub unlinked : w.unlinked ≡ v.unlinked ++ gone ∷ []
+  pub stays : StaysIn v.table.shape key way v.view.seen w.view.seen
+
+-- The way was emptied, and its element waits for those who may have found it.
+pub record Unlinks (way : ℕ) (v w : WriterView) : Type 0 where
+  pub gone : ℕ
+  pub was : Names (word_in way v.view.mine) gone
+  pub unlinked : w.unlinked ≡ v.unlinked ++ gone ∷ []
+  pub free : w.free ≡ v.free
+  pub step : Works v (Put way 0 ∷ []) w
+
+-- These elements became free, since each reader was seen outside a section since their unlinking. Each of the others waits for a
+-- reader that was seen inside, and never outside since.
+pub record Reclaims (gone : List ℕ) (v w : WriterView) : Type 0 where
+  pub frees : Frees gone v w
+  pub moves : List Move
+  pub looks : Looks v moves w
+  pub waits : All (λ e. IsHeldUp v.table.shape.readers e moves w.view.mine) w.unlinked
+
+-- Where no element was free, the writer reclaimed some first.
+abbrev pub MakesRoom : WriterView → WriterView → Type 0
+MakesRoom v w = (w ≡ v) ⊎ ((v.free ≡ []) × (gone : List ℕ) × Reclaims gone v w)
+
+-- The key that was found so, or was not, is one of those that are asked for.
+abbrev pub IsAsked : How → Option ℕ → Type 0
+IsAsked Any found = Unit {0}
+IsAsked New None = Unit {0}
+IsAsked New (Some way) = ⊥
+IsAsked Present None = ⊥
+IsAsked Present (Some way) = Unit {0}
+
+-- The value was put under the key: in its own way, or in an empty one.
+abbrev pub PutsUnder : Option ℕ → List ℕ → List ℕ → WriterView → WriterView → Type 0
+PutsUnder (Some way) key value v w = Replaces way key value v w
+PutsUnder None key value v w = Links key value v w
+
+-- The writer made room, sought the key, and put the value under it.
+pub record Sets (key value : List ℕ) (how : How) (v w : WriterView) : Type 0 where
+  pub ready : WriterView
+  pub sought : WriterView
+  pub found : Option ℕ
+  pub room : MakesRoom v ready
+  pub seeks : Seeks key found ready sought
+  pub asked : IsAsked how found
+  pub puts : PutsUnder found key value sought w
+
+-- Why there is no room for a value under a key that was found so, or was not.
+abbrev pub IsNoRoom : List ℕ → Option ℕ → WriterView → SetFault → Type 0
+IsNoRoom key found w NoElement = w.free ≡ []
+IsNoRoom key found w NoWay = (found ≡ None) × AreFull w.view key
+IsNoRoom key found w fault = ⊥
+
+-- Why a key that was found so, or was not, is not set.
+abbrev pub IsWhy : List ℕ → How → Option ℕ → WriterView → SetFault → Type 0
+IsWhy key how found w Exists = (how ≡ New) × IsSome found
+IsWhy key how found w Missing = (how ≡ Present) × (found ≡ None)
+IsWhy key how found w fault = IsNoRoom key found w fault
+
+-- The writer made room and sought the key, and for this reason did no more.
+pub record IsNotSet (key : List ℕ) (how : How) (v w : WriterView) (fault : SetFault) : Type 0 where
+  pub ready : WriterView
+  pub found : Option ℕ
+  pub room : MakesRoom v ready
+  pub seeks : Seeks key found ready w
+  pub why : IsWhy key how found w fault
+
+-- The writer sought the key and found it, and emptied its way.
+pub record Removes (key : List ℕ) (v w : WriterView) : Type 0 where
+  pub sought : WriterView
+  pub way : ℕ
+  pub seeks : Seeks key (Some way) v sought
+  pub unlinks : Unlinks way sought w
+
+-- The writer loaded the words of all values of the element, place by place; each of these numbers is the sum at its place.
+abbrev pub SumsUp : TableShape → ℕ → ℕ → List ℕ → List Move → Type 0
+SumsUp k element zero sums ms = ms ≡ []
+SumsUp k element (suc n) sums ms =
+    (late early : List Move) × (ms ≡ late ++ early)
+    × AddsUp element (k.key_words + n) k.value_words (copies_of k) late (slice_index sums n)
+    × SumsUp k element n sums early
+
+-- The writer sought the key and found it, and summed up the values of its element.
+pub record Reads (key sums : List ℕ) (v w : WriterView) : Type 0 where
+  pub sought : WriterView
+  pub way : ℕ
+  pub element : ℕ
+  pub seeks : Seeks key (Some way) v sought
+  pub names : Names (word_in way sought.view.mine) element
+  pub moves : List Move
+  pub works : Works sought moves w
+  pub free : w.free ≡ sought.free
+  pub unlinked : w.unlinked ≡ sought.unlinked
+  pub total : SumsUp v.table.shape element v.table.shape.value_words sums moves

@@ -1,0 +1,68 @@
+//! What is asked of a key that is set, and why a call does nothing.
+ghost use Rattle.std.specs.Prelude.{◌≡◌};
+
+use std::alloc::AllocError;
+use thiserror::Error;
+
+/// Which keys `HostTable::set` takes.
+#[derive(Clone, Copy, Debug, PartialEq, Eq)]
+pub enum How {
+    /// Any key.
+    Any,
+    /// One that is not linked.
+    New,
+    /// One that is linked.
+    Present,
+}
+
+/// Why no table is opened.
+#[derive(Clone, Copy, Debug, PartialEq, Eq, Error)]
+pub enum TableFault {
+    /// The shape is beyond the limits of a table.
+    #[error("no table may have this shape")]
+    Shape,
+    /// Memory ran out.
+    #[error("out of memory")]
+    Memory,
+}
+
+/// Why a key is not set.
+#[derive(Clone, Copy, Debug, PartialEq, Eq, Error)]
+pub enum SetFault {
+    /// A new key was asked for, and it is linked.
+    #[error("the key is linked")]
+    Exists,
+    /// A key that is linked was asked for, and it is not.
+    #[error("the key is not linked")]
+    Missing,
+    /// No element is free: each is linked, or waits for a reader.
+    #[error("no element is free")]
+    NoElement,
+    /// Each way of the key's two buckets names an element.
+    #[error("both buckets of the key are full")]
+    NoWay,
+}
+
+/// Why a program is not run over a table.
+#[derive(Clone, Copy, Debug, PartialEq, Eq, Error)]
+pub enum TableRunFault {
+    /// The context has another length than the program's.
+    #[error("the context has another length than the program's")]
+    Length,
+    /// The program was verified for a map that is no hash map of the table's lengths.
+    #[error("the program is for maps of other lengths")]
+    Maps,
+    /// The program stores to an element by another width than 8 bytes, or calls a helper that changes a map.
+    #[error("the program stores less than a word, or changes a map")]
+    SubWord,
+}
+
+impl From<AllocError> for TableFault {
+    ghost use Rattle.host_tables.specs.declared.fault.TableFault.TheVariants.{Memory};
+
+    ghost from_gives = { λ _ e. e ≡ Memory };
+
+    fn from(_: AllocError) -> TableFault {
+        TableFault::Memory
+    }
+}

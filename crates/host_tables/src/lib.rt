@@ -1,0 +1,17 @@
+//! Tables as a host opens them: one writer, and a reader for each thread, which runs open programs with no lock beside it.
+//!
+//! A program is lent for one run, so a host replaces it by lending another from the next run on. What the table holds stays.
+//! Opening a table takes all memory that it ever has; no other call takes any.
+#![tactic(auto)]
+
+mod fault;
+mod reader;
+mod table;
+mod writing;
+
+pub use fault::{How, SetFault, TableFault, TableRunFault};
+pub use map_table::{
+    MAX_BUCKETS, MAX_ELEMENTS, MAX_READERS, MAX_WORDS, Secret, TableShape, Values,
+};
+pub use reader::HostReader;
+pub use table::{HostTable, is_sized};

@@ -1,0 +1,198 @@
+//! A table with its writer.
+ghost use Rattle.std.specs.Prelude.{◌≡◌, ◌↔◌, ◌∷◌, ℕ, List, Decides, Err, None, IfSome, IfNone, IfOk, IfErr, OnOk, length, true, false};
+ghost use Rattle.map_table.specs.Held.{IsReady, IsSized};
+ghost use Rattle.map_table.specs.Values.{stored_of};
+ghost use Rattle.host_tables.specs.Tables.{IsNewTable, IsNotSet, Reads, Reclaims, Removes, Seeks, Sets};
+ghost use Rattle.host_tables.specs.declared.fault.TableFault.TheVariants.{Shape};
+
+use crate::fault::{How, SetFault, TableFault};
+use crate::reader::HostReader;
+use crate::writing::{make_room, put_under, read_sums, seek};
+use map_table::{
+    MAX_BUCKETS, MAX_ELEMENTS, MAX_READERS, MAX_WORDS, MapTable, ReadSeat, TableShape, Writer,
+};
+use std::alloc::Global;
+use std::marker::Model;
+use std::sync::Arc;
+
+/// A table, its writer, and the seats that no reader has yet.
+#[derive(Drop)]
+pub struct HostTable {
+    table: Arc<MapTable>,
+    writer: Writer,
+    seats: Vec<ReadSeat>,
+}
+
+impl Model for HostTable {
+    ghost use Rattle.std.specs.Prelude.{◌≡◌, All};
+    ghost use Rattle.std.specs.Arc.{arc_value};
+    ghost use Rattle.map_table.specs.Held.{IsReady};
+    ghost use Rattle.host_tables.specs.Tables.{OpenTable};
+
+    ghost Value = { OpenTable };
+
+    ghost view = { λ t. record {
+      table = arc_value t.table;
+      writer = t.writer;
+      seats = t.seats.items;
+    } };
+
+    ghost invariant = { λ t. (t.writer.table ≡ arc_value t.table) × All (IsReady (arc_value t.table)) t.seats.items };
+}
+
+/// Whether a table may have this shape.
+pub fn is_sized(shape: &TableShape) -> bool
+    ensures { Decides result (IsSized shape.now) }
+{
+    shape.readers <= MAX_READERS
+        && 0 < shape.buckets
+        && shape.buckets <= MAX_BUCKETS
+        && shape.elements <= MAX_ELEMENTS
+        && shape.key_words <= MAX_WORDS
+        && shape.value_words <= MAX_WORDS
+}
+
+impl HostTable {
+    /// A table of this shape, in which nothing is linked. All memory is taken here.
+    ///
+    /// Errors: `Shape` where no table may have it (`is_sized`); else `Memory`.
+    pub fn new(alloc: Global, shape: TableShape) -> Result<HostTable, TableFault>
+        ensures opened { IfOk result (IsNewTable shape) }
+        ensures sized { IfOk result (λ t. IsSized shape) }
+        ensures fault { (result ≡ Err Shape) ↔ (IsSized shape → ⊥) }
+    {
+        if !is_sized(&shape) {
+            return Err(TableFault::Shape);
+        }
+        let (table, seats, writer) = MapTable::new(alloc, shape)?;
+        let Ok(table) = Arc::new(alloc, table) else {
+            return Err(TableFault::Memory);
+        };
+        Ok(HostTable {
+            table,
+            writer,
+            seats: seats.list,
+        })
+    }
+
+    /// How many of each the table has.
+    pub fn shape(&self) -> TableShape
+        ensures shape { result ≡ self.now.table.shape }
+        ensures sized { IsSized result }
+    {
+        self.table.shape()
+    }
+
+    /// A reader, of which each thread needs its own: that of the next seat, the first one's first. `None` where each seat has been
+    /// given. A seat is not given back: it goes with its reader.
+    pub fn reader(&mut self) -> Option<HostReader>
+        ensures table { self.new.table ≡ self.old.table }
+        ensures writer { self.new.writer ≡ self.old.writer }
+        ensures seat { IfSome result (λ r. self.old.seats ≡ r ∷ self.new.seats) }
+        ensures ready { IfSome result (IsReady self.old.table) }
+        ensures kept { IfNone result (self.new ≡ self.old) }
+    {
+        let Ok(table) = Arc::try_clone(&self.table) else {
+            return None;
+        };
+        if self.seats.is_empty() {
+            return None;
+        }
+        let seat = self.seats.remove(0);
+        Some(HostReader::of(table, seat))
+    }
+
+    /// Links a value under a key, or puts it in the place of the one that is there, in one store: at no moment does a
+    /// reader miss a key that is linked before. Of a table with a value for each reader it is those of all, that of the first
+    /// reader first. Where no element is free, those are reclaimed first that no reader holds.
+    ///
+    /// Errors: `Exists` and `Missing` where `how` asks otherwise; else `NoElement`, `NoWay`. Then what is linked stays.
+    pub fn set(&mut self, key: &[u64], value: &[u64], how: How) -> Result<(), SetFault>
+        requires key { length key.now ≡ self.old.table.shape.key_words }
+        requires value { length value.now ≡ stored_of self.old.table.shape }
+        ensures table { self.new.table ≡ self.old.table }
+        ensures seats { self.new.seats ≡ self.old.seats }
+        ensures set { OnOk result (Sets key.now value.now how self.old.writer self.new.writer) }
+        ensures fault { IfErr result (IsNotSet key.now how self.old.writer self.new.writer) }
+    {
+        let _shape = self.table.shape();
+        make_room(&self.table, &mut self.writer);
+        let found = seek(&self.table, &mut self.writer, key);
+        match (found, how) {
+            (Some(_), How::New) => Err(SetFault::Exists),
+            (None, How::Present) => Err(SetFault::Missing),
+            _ => put_under(&self.table, &mut self.writer, found, key, value),
+        }
+    }
+
+    /// Removes a key. Readers that found its element before may use it until they end their section. False where the key is
+    /// not linked.
+    pub fn remove(&mut self, key: &[u64]) -> bool
+        requires key { length key.now ≡ self.old.table.shape.key_words }
+        ensures table { self.new.table ≡ self.old.table }
+        ensures seats { self.new.seats ≡ self.old.seats }
+        ensures removed { result ≡ true → Removes key.now self.old.writer self.new.writer }
+        ensures missing { result ≡ false → Seeks key.now None self.old.writer self.new.writer }
+    {
+        let _shape = self.table.shape();
+        let Some(way) = seek(&self.table, &mut self.writer, key) else {
+            return false;
+        };
+        self.writer.unlink(&self.table, way);
+        true
+    }
+
+    /// Reads the value of a key; of a table with a value for each reader it is the sum of all, place by place, modulo 2^64.
+    /// Each word is loaded by itself, so what readers store meanwhile is in it or not. False where the key is not linked, and
+    /// then nothing is written.
+    pub fn read(&mut self, key: &[u64], value: &mut [u64]) -> bool
+        requires key { length key.now ≡ self.old.table.shape.key_words }
+        requires value { length value.old ≡ self.old.table.shape.value_words }
+        ensures table { self.new.table ≡ self.old.table }
+        ensures seats { self.new.seats ≡ self.old.seats }
+        ensures read { result ≡ true → Reads key.now value.new self.old.writer self.new.writer }
+        ensures missing { result ≡ false → Seeks key.now None self.old.writer self.new.writer }
+        ensures unwritten { result ≡ false → value.new ≡ value.old }
+    {
+        let _shape = self.table.shape();
+        let Some(way) = seek(&self.table, &mut self.writer, key) else {
+            return false;
+        };
+        let Some(element) = self.writer.element_at(way) else {
+            return false;
+        };
+        read_sums(&self.table, &mut self.writer, element, value);
+        true
+    }
+
+    /// Frees the elements that were unlinked and that no reader can hold any more: how many. It looks at each reader once
+    /// and waits for none, so an element may be freed by a later call only.
+    pub fn reclaim(&mut self) -> usize
+        ensures table { self.new.table ≡ self.old.table }
+        ensures seats { self.new.seats ≡ self.old.seats }
+        ensures reclaimed { (gone : List ℕ) × (length gone ≡ result) × Reclaims gone self.old.writer self.new.writer }
+    {
+        self.writer.reclaim(&self.table)
+    }
+
+    /// How many elements may be filled.
+    pub fn count_free(&self) -> usize
+        ensures { result ≡ length self.now.writer.free }
+    {
+        self.writer.free().len()
+    }
+
+    /// How many elements were unlinked, and wait for readers.
+    pub fn count_waiting(&self) -> usize
+        ensures { result ≡ length self.now.writer.unlinked }
+    {
+        self.writer.unlinked().len()
+    }
+
+    /// How many seats no reader has yet.
+    pub fn count_seats(&self) -> usize
+        ensures { result ≡ length self.now.seats }
+    {
+        self.seats.len()
+    }
+}
