@@ -10,7 +10,10 @@
 #define REFUSED(call, number, what, where) refused(#call, (call), number, what, where)
 
 _Static_assert(sizeof(struct bpfrt_prog) == 2 * sizeof(void *) && sizeof(struct bpfrt_world) == 2 * sizeof(void *), "two words");
+_Static_assert(sizeof(struct bpfrt_table) == 2 * sizeof(void *) && sizeof(struct bpfrt_reader) == 2 * sizeof(void *), "two words");
 _Static_assert(sizeof(struct bpfrt_refusal) == 160 && sizeof(struct bpfrt_map_shape) == 24, "as the library lays them out");
+_Static_assert(sizeof(struct bpfrt_packet) == 16 && sizeof(struct bpfrt_world_stat) == 48, "as the library lays them out");
+_Static_assert(sizeof(struct bpfrt_table_shape) == 40 && sizeof(struct bpfrt_table_stat) == 24, "as the library lays them out");
 
 enum { MANY = 70 };
 
@@ -18,6 +21,20 @@ static const unsigned char exit_one[] = {0xb7, 0, 0, 0, 1, 0, 0, 0, 0x95, 0, 0, 
 static const unsigned char exit_byte[] = {0x71, 0x10, 0, 0, 0, 0, 0, 0, 0x95, 0, 0, 0, 0, 0, 0, 0};
 static const unsigned char names_map[] = {
 	0x18, 0x51, 0, 0, 0, 0, 0, 0, 0, 0, 0, 0, 0, 0, 0, 0, 0xb7, 0, 0, 0, 7, 0, 0, 0, 0x95, 0, 0, 0, 0, 0, 0, 0};
+/* Adds 1 to the number under the key that the context's first 8 bytes are, and exits with it; with 0 where there is none. */
+#define COUNTS(store)                                                                                                        \
+	{                                                                                                                    \
+		0xb7, 6, 0, 0, 0, 0, 0, 0, 0x79, 0x13, 0, 0, 0, 0, 0, 0, 0x7b, 0x3a, 0xf8, 0xff, 0, 0, 0, 0, 0x85, 0x20, 0, 0, 1, 0, 0, 0, \
+		0xbf, 0xa2, 0, 0, 0, 0, 0, 0, 7, 2, 0, 0, 0xf8, 0xff, 0xff, 0xff, 0x18, 0x51, 0, 0, 0, 0, 0, 0, 0, 0, 0, 0, 0, 0, 0, 0, \
+		0x85, 0, 0, 0, 1, 0, 0, 0, 0x15, 0, 3, 0, 0, 0, 0, 0, 0x79, 6, 0, 0, 0, 0, 0, 0, 7, 6, 0, 0, 1, 0, 0, 0, \
+		store, 0x60, 0, 0, 0, 0, 0, 0, 0x85, 0x20, 0, 0, 2, 0, 0, 0, 0xbf, 0x60, 0, 0, 0, 0, 0, 0, 0x95, 0, 0, 0, 0, 0, 0, 0 \
+	}
+static const unsigned char counts[] = COUNTS(0x7b), counts_in_byte[] = COUNTS(0x73);
+/* Deletes the key that the context is, and exits with what the call answers. */
+static const unsigned char deletes[] = {
+	0x79, 0x13, 0, 0, 0, 0, 0, 0, 0x7b, 0x3a, 0xf8, 0xff, 0, 0, 0, 0, 0xbf, 0xa2, 0, 0, 0, 0, 0, 0, 7, 2, 0, 0, 0xf8, 0xff, 0xff, 0xff,
+	0x18, 0x51, 0, 0, 0, 0, 0, 0, 0, 0, 0, 0, 0, 0, 0, 0, 0x85, 0, 0, 0, 3, 0, 0, 0, 0x95, 0, 0, 0, 0, 0, 0, 0};
+static const struct bpfrt_map_shape words = {BPFRT_MAP_TYPE_HASH, 8, 8, 1, 0, 1};
 static const struct bpfrt_map_shape hash = {BPFRT_MAP_TYPE_HASH, 4, 8, 2, 1, 3};
 static const struct bpfrt_map_shape array = {BPFRT_MAP_TYPE_ARRAY, 4, 8, 2, 0, 1};
 static const unsigned char many[300];
@@ -62,6 +79,7 @@ static void closed_handle(void)
 	IS(bpfrt_prog_run_many(&prog, "", 0, values, 2), -EBADF);
 	IS(bpfrt_prog_run_many(&prog, NULL, 0, NULL, 0), -EBADF);
 	IS(bpfrt_prog_run_packet(&prog, "", 0, 0, &value), -EBADF);
+	IS(bpfrt_prog_run_packets(&prog, NULL, 0, NULL, NULL, 0), -EBADF);
 	IS(bpfrt_prog_share(&other, &prog), -EBADF);
 	IS(is_closed(&prog) && is_closed(&other), true);
 	IS(value == 5 && values[0] == 6 && values[1] == 7, true);
@@ -202,6 +220,42 @@ static void packets(void)
 	IS(byte_of(0, 0, NULL, 0, 0), 0);
 }
 
+/* Packets that lie among bytes, of each of which the program gives the first. */
+static void packets_in_bytes(void)
+{
+	static const unsigned char load[] = {0x71, 0x10, 8, 0, 0, 0, 0, 0, 0x95, 0, 0, 0, 0, 0, 0, 0};
+	static const struct bpfrt_packet inside[] = {{0, 3, 3}, {3, 5, 9}, {8, 0, 0}, {0, 8, 8}, {7, 1, UINT32_MAX}, {2, 6, 0}};
+	static const struct bpfrt_packet outside[] = {
+		{9, 0, 0}, {8, 1, 1}, {0, 9, 9}, {1, 8, 8}, {1, UINT32_MAX, 1}, {UINT64_MAX, 0, 0}, {UINT64_MAX, 1, 1}, {UINT64_MAX - 3, 4, 4},
+		{UINT64_MAX - 3, 8, 8}, {UINT64_MAX, UINT32_MAX, 1}, {(uint64_t)1 << 32, 0, 0}, {(uint64_t)1 << 63, 8, 8}};
+	static const struct bpfrt_packet none = {0, 0, 7};
+	struct bpfrt_prog prog = {0};
+	uint64_t values[6] = {0};
+	IS(bpfrt_prog_open(&prog, load, sizeof load, 256, NULL, 0, &why), 0);
+	IS(bpfrt_prog_run_packets(&prog, "abcdefgh", 8, inside, values, 6), 0);
+	IS(values[0] == 'a' && values[1] == 'd' && values[2] == 0 && values[3] == 'a' && values[4] == 'h' && values[5] == 'c', true);
+	for (size_t number = 0; number < sizeof outside / sizeof *outside; number++) {
+		const struct bpfrt_packet both[] = {inside[1], outside[number]};
+		IS(bpfrt_prog_run_packets(&prog, "abcdefgh", 8, both, values, 2), -EINVAL);
+	}
+	IS(bpfrt_prog_run_packets(&prog, NULL, 8, inside, values, 6), -EINVAL);
+	IS(bpfrt_prog_run_packets(&prog, "abcdefgh", 8, NULL, values, 6), -EINVAL);
+	IS(bpfrt_prog_run_packets(&prog, "abcdefgh", 8, inside, NULL, 6), -EINVAL);
+	IS(bpfrt_prog_run_packets(&prog, NULL, 0, inside, values, 1), -EINVAL);
+	IS(bpfrt0_prog_run_packets(&prog, "abcdefgh", 8, inside, 6, values, 5), -EINVAL);
+	IS(bpfrt0_prog_run_packets(&prog, "abcdefgh", 8, inside, 5, values, 6), -EINVAL);
+	IS(values[0] == 'a' && values[1] == 'd' && values[5] == 'c', true);
+	IS(bpfrt_prog_run_packets(&prog, "abcdefgh", 8, NULL, NULL, 0), 0);
+	IS(bpfrt_prog_run_packets(&prog, NULL, 0, NULL, NULL, 0), 0);
+	IS(bpfrt_prog_run_packets(&prog, NULL, 0, &none, values, 1), 0);
+	IS(values[0] == 0 && values[1] == 'd', true);
+	IS(bpfrt_prog_close(&prog), 0);
+	IS(bpfrt_prog_open(&prog, exit_byte, sizeof exit_byte, 255, NULL, 0, &why), 0);
+	IS(bpfrt_prog_run_packets(&prog, "abcdefgh", 8, inside, values, 6), -EINVAL);
+	IS(bpfrt_prog_run_packets(&prog, NULL, 0, NULL, NULL, 0), -EINVAL);
+	IS(bpfrt_prog_close(&prog), 0);
+}
+
 static void program_with_map(void)
 {
 	struct bpfrt_prog prog = {0}, other = {0};
@@ -210,6 +264,7 @@ static void program_with_map(void)
 	IS(bpfrt_prog_run(&prog, NULL, 0, &value), -EOPNOTSUPP);
 	IS(bpfrt_prog_run_many(&prog, NULL, 0, NULL, 0), -EOPNOTSUPP);
 	IS(bpfrt_prog_run_packet(&prog, "a", 1, 1, &value), -EOPNOTSUPP);
+	IS(bpfrt_prog_run_packets(&prog, NULL, 0, NULL, NULL, 0), -EOPNOTSUPP);
 	IS(bpfrt_prog_share(&other, &prog), 0);
 	IS(bpfrt_prog_run(&other, NULL, 0, &value), -EOPNOTSUPP);
 	IS(value, 9);
@@ -221,11 +276,414 @@ static void program_with_map(void)
 	IS(bpfrt_prog_close(&prog), 0);
 }
 
+/* What a table is opened with: keys and values of a word, the values those of all readers. */
+static struct bpfrt_table_shape table_shape(uint32_t readers, uint32_t buckets, uint32_t elements)
+{
+	return (struct bpfrt_table_shape){readers, buckets, elements, 1, 1, BPFRT_TABLE_SHARED, 0x123456789abcdef0, 0xfedcba9876543210};
+}
+
+static void open_table(struct bpfrt_table *table, struct bpfrt_table_shape shape)
+{
+	IS(bpfrt_table_open(table, &shape), 0);
+}
+
+static void open_prog(struct bpfrt_prog *prog, const unsigned char *insns, size_t size, size_t ctx_len, const struct bpfrt_map_shape
+	*shapes, size_t nr_shapes)
+{
+	IS(bpfrt_prog_open(prog, insns, size, ctx_len, shapes, nr_shapes, &why), 0);
+}
+
+static void has(struct bpfrt_table *table, uint64_t free, uint64_t waiting, uint64_t seats)
+{
+	struct bpfrt_table_stat stat = {9, 9, 9};
+	IS(bpfrt_table_stat(table, &stat), 0);
+	IS(stat.free, free);
+	IS(stat.waiting, waiting);
+	IS(stat.seats, seats);
+}
+
+static void closed_table(void)
+{
+	struct bpfrt_table table = {0};
+	struct bpfrt_reader reader = {0};
+	struct bpfrt_prog prog = {0};
+	struct bpfrt_table_stat stat = {7, 7, 7};
+	uint64_t key = 5, value = 6;
+	IS(bpfrt_table_close(&table), -EBADF);
+	IS(bpfrt_reader_close(&reader), -EBADF);
+	IS(bpfrt_table_reader(&reader, &table), -EBADF);
+	IS(bpfrt_table_update_elem(&table, &key, 1, &value, 1, 0), -EBADF);
+	IS(bpfrt_table_update_elem(&table, NULL, 0, NULL, 0, 9), -EBADF);
+	IS(bpfrt_table_lookup_elem(&table, &key, 1, &value, 1), -EBADF);
+	IS(bpfrt_table_delete_elem(&table, &key, 1), -EBADF);
+	IS(bpfrt_table_reclaim(&table), -EBADF);
+	IS(bpfrt_table_stat(&table, &stat), -EBADF);
+	IS(bpfrt_reader_run(&reader, &prog, NULL, 0, &value), -EBADF);
+	IS(bpfrt_reader_run_packet(&reader, &prog, NULL, 0, 0, &value), -EBADF);
+	open_prog(&prog, exit_one, sizeof exit_one, 0, NULL, 0);
+	IS(bpfrt_reader_run(&reader, &prog, NULL, 0, &value), -EBADF);
+	IS(bpfrt_reader_run_packet(&reader, &prog, NULL, 0, 0, &value), -EBADF);
+	IS(value == 6 && stat.free == 7 && stat.seats == 7, true);
+	IS(bpfrt_prog_run(&prog, NULL, 0, &value), 0);
+	IS(bpfrt_prog_close(&prog), 0);
+	open_table(&table, table_shape(1, 1, 1));
+	IS(bpfrt_table_reader(&reader, &table), 0);
+	IS(bpfrt_reader_run(&reader, &prog, NULL, 0, &value), -EBADF);
+	IS(bpfrt_reader_run_packet(&reader, &prog, NULL, 0, 0, &value), -EBADF);
+	IS(is_closed(&prog), true);
+	IS(bpfrt_reader_close(&reader), 0);
+	IS(bpfrt_table_close(&table), 0);
+}
+
+/* Handles of one kind in the place of another's, and open ones that are to be opened. */
+static void kinds_of_tables(void)
+{
+	const struct bpfrt_table_shape shape = table_shape(2, 1, 1);
+	struct bpfrt_table table = {0}, before;
+	struct bpfrt_reader reader = {0}, other = {0};
+	struct bpfrt_prog prog = {0}, none = {0};
+	struct bpfrt_table_stat stat = {7, 7, 7};
+	uint64_t key = 5, value = 6;
+	open_prog(&prog, exit_one, sizeof exit_one, 0, NULL, 0);
+	open_table(&table, shape);
+	IS(bpfrt_table_reader(&reader, &table), 0);
+	before = table;
+	IS(bpfrt_table_open(&table, &shape), -EBUSY);
+	IS(bpfrt0_table_open((struct bpfrt_table *)&reader, &shape), -EBUSY);
+	IS(bpfrt0_table_open((struct bpfrt_table *)&prog, &shape), -EBUSY);
+	IS(bpfrt0_prog_open((struct bpfrt_prog *)&table, exit_one, sizeof exit_one, 0, &hash, 0, &why), -EBUSY);
+	IS(bpfrt_table_reader(&reader, &table), -EBUSY);
+	IS(bpfrt0_table_reader((struct bpfrt_reader *)&prog, &table), -EBUSY);
+	IS(bpfrt0_table_reader((struct bpfrt_reader *)&table, &table), -EBUSY);
+	IS(bpfrt0_table_reader(&other, (struct bpfrt_table *)&prog), -EBADF);
+	IS(bpfrt0_table_reader(&other, (struct bpfrt_table *)&reader), -EBADF);
+	IS(bpfrt0_table_reader(&other, (struct bpfrt_table *)&other), -EBADF);
+	IS(bpfrt0_table_update_elem((struct bpfrt_table *)&reader, &key, 1, &value, 1, 0), -EBADF);
+	IS(bpfrt0_table_lookup_elem((struct bpfrt_table *)&prog, &key, 1, &value, 1), -EBADF);
+	IS(bpfrt0_table_delete_elem((struct bpfrt_table *)&prog, &key, 1), -EBADF);
+	IS(bpfrt0_table_reclaim((struct bpfrt_table *)&reader), -EBADF);
+	IS(bpfrt0_table_stat((struct bpfrt_table *)&prog, &stat), -EBADF);
+	IS(bpfrt0_reader_run((struct bpfrt_reader *)&table, &prog, "", 0, &value), -EBADF);
+	IS(bpfrt0_reader_run((struct bpfrt_reader *)&prog, &prog, "", 0, &value), -EBADF);
+	IS(bpfrt0_reader_run(&reader, (struct bpfrt_prog *)&table, "", 0, &value), -EBADF);
+	IS(bpfrt0_reader_run(&reader, (struct bpfrt_prog *)&reader, "", 0, &value), -EBADF);
+	IS(bpfrt0_reader_run_packet((struct bpfrt_reader *)&prog, (struct bpfrt_prog *)&reader, "", 0, 0, &value), -EBADF);
+	IS(bpfrt0_prog_run((struct bpfrt_prog *)&table, "", 0, &value), -EBADF);
+	IS(bpfrt0_prog_run_packet((struct bpfrt_prog *)&reader, "", 0, 0, &value), -EBADF);
+	IS(bpfrt0_prog_ctx_len((struct bpfrt_prog *)&reader), -EBADF);
+	IS(bpfrt0_prog_share(&none, (struct bpfrt_prog *)&table), -EBADF);
+	IS(memcmp(&before, &table, sizeof table), 0);
+	IS(value == 6 && stat.free == 7 && is_closed(&none) && other.state == 0, true);
+	has(&table, 1, 0, 1);
+	IS(bpfrt_reader_run(&reader, &prog, NULL, 0, &value), 0);
+	IS(value, 1);
+	IS(bpfrt_prog_close(&prog), 0);
+	IS(bpfrt_reader_close(&reader), 0);
+	IS(bpfrt_reader_close(&reader), -EBADF);
+	IS(bpfrt_table_close(&table), 0);
+	IS(bpfrt_table_close(&table), -EBADF);
+}
+
+static void table_shapes(void)
+{
+	static const struct bpfrt_table_shape none[] = {
+		{9, 1, 1, 1, 1, 0, 1, 2}, {1, 0, 1, 1, 1, 0, 1, 2}, {1, 16777217, 1, 1, 1, 0, 1, 2}, {1, 1, 16777217, 1, 1, 0, 1, 2},
+		{1, 1, 1, 9, 1, 0, 1, 2}, {1, 1, 1, 1, 9, 0, 1, 2}, {1, 1, 1, 1, 1, 2, 1, 2}, {UINT32_MAX, 1, 1, 1, 1, 1, 1, 2},
+		{1, UINT32_MAX, 1, 1, 1, 1, 1, 2}, {1, 1, UINT32_MAX, 1, 1, 1, 1, 2}, {1, 1, 1, UINT32_MAX, 1, 1, 1, 2},
+		{1, 1, 1, 1, UINT32_MAX, 1, 1, 2}, {1, 1, 1, 1, 1, UINT32_MAX, 1, 2}};
+	static const struct bpfrt_table_shape some[] = {
+		{0, 1, 0, 0, 0, 0, 0, 0}, {0, 1, 0, 0, 0, 1, 0, 0}, {8, 1, 1, 8, 8, 1, UINT64_MAX, UINT64_MAX}, {8, 3, 5, 8, 0, 0, 1, 2},
+		{1, 1, 1, 0, 8, 1, 1, 2}};
+	struct bpfrt_table table = {0};
+	struct bpfrt_reader reader = {0};
+	for (size_t number = 0; number < sizeof none / sizeof *none; number++)
+		IS(bpfrt_table_open(&table, &none[number]), -EINVAL);
+	IS(table.at == NULL && table.state == 0, true);
+	for (size_t number = 0; number < sizeof some / sizeof *some; number++) {
+		open_table(&table, some[number]);
+		has(&table, some[number].elements, 0, some[number].readers);
+		IS(bpfrt_table_reclaim(&table), 0);
+		IS(bpfrt_table_reader(&reader, &table), some[number].readers ? 0 : -ENOSPC);
+		IS(bpfrt_reader_close(&reader), some[number].readers ? 0 : -EBADF);
+		IS(bpfrt_table_close(&table), 0);
+	}
+	IS(bpfrt_table_buckets(0) >= 1 && bpfrt_table_buckets(1) >= 1 && bpfrt_table_buckets(16777216) <= 16777216, true);
+	IS(bpfrt_table_buckets(48000) * 8 >= 48000 && bpfrt_table_buckets(48000) * 8 <= 2 * 48000 + 8, true);
+}
+
+static void elements_of_table(void)
+{
+	struct bpfrt_table table = {0};
+	uint64_t keys[] = {1, 2, 3, 4}, value = 7, other = 8, both[2] = {9, 9};
+	open_table(&table, table_shape(2, 4, 3));
+	IS(bpfrt_table_update_elem(&table, keys, 0, &value, 1, 0), -EINVAL);
+	IS(bpfrt_table_update_elem(&table, keys, 2, &value, 1, 0), -EINVAL);
+	IS(bpfrt_table_update_elem(&table, keys, 1, both, 0, 0), -EINVAL);
+	IS(bpfrt_table_update_elem(&table, keys, 1, both, 2, 0), -EINVAL);
+	IS(bpfrt_table_update_elem(&table, keys, 1, &value, 1, 3), -EINVAL);
+	IS(bpfrt_table_update_elem(&table, keys, 1, &value, 1, UINT64_MAX), -EINVAL);
+	IS(bpfrt_table_update_elem(&table, NULL, 1, &value, 1, 0), -EINVAL);
+	IS(bpfrt_table_update_elem(&table, keys, 1, NULL, 1, 0), -EINVAL);
+	IS(bpfrt_table_update_elem(&table, NULL, 0, NULL, 0, 0), -EINVAL);
+	IS(bpfrt_table_lookup_elem(&table, keys, 1, &value, 1), -ENOENT);
+	IS(bpfrt_table_delete_elem(&table, keys, 1), -ENOENT);
+	IS(bpfrt_table_update_elem(&table, keys, 1, &value, 1, 2), -ENOENT);
+	has(&table, 3, 0, 2);
+	IS(bpfrt_table_update_elem(&table, keys, 1, &value, 1, 1), 0);
+	IS(bpfrt_table_update_elem(&table, keys, 1, &other, 1, 1), -EEXIST);
+	IS(bpfrt_table_lookup_elem(&table, keys, 0, both, 1), -EINVAL);
+	IS(bpfrt_table_lookup_elem(&table, keys, 2, both, 1), -EINVAL);
+	IS(bpfrt_table_lookup_elem(&table, keys, 1, both, 0), -EINVAL);
+	IS(bpfrt_table_lookup_elem(&table, keys, 1, both, 2), -EINVAL);
+	IS(bpfrt_table_lookup_elem(&table, NULL, 1, both, 1), -EINVAL);
+	IS(bpfrt_table_lookup_elem(&table, keys, 1, NULL, 1), -EINVAL);
+	IS(bpfrt_table_lookup_elem(&table, keys + 1, 1, both, 1), -ENOENT);
+	IS(bpfrt_table_delete_elem(&table, keys, 0), -EINVAL);
+	IS(bpfrt_table_delete_elem(&table, keys, 2), -EINVAL);
+	IS(bpfrt_table_delete_elem(&table, NULL, 1), -EINVAL);
+	IS(both[0] == 9 && both[1] == 9, true);
+	IS(bpfrt_table_lookup_elem(&table, keys, 1, both, 1), 0);
+	IS(both[0] == 7 && both[1] == 9, true);
+	has(&table, 2, 0, 2);
+	IS(bpfrt_table_update_elem(&table, keys, 1, &other, 1, 2), 0);
+	IS(bpfrt_table_lookup_elem(&table, keys, 1, both, 1), 0);
+	IS(both[0], 8);
+	has(&table, 1, 1, 2);
+	IS(bpfrt_table_reclaim(&table), 1);
+	IS(bpfrt_table_reclaim(&table), 0);
+	has(&table, 2, 0, 2);
+	IS(bpfrt_table_update_elem(&table, keys + 1, 1, &value, 1, 0), 0);
+	IS(bpfrt_table_update_elem(&table, keys + 2, 1, &value, 1, 0), 0);
+	has(&table, 0, 0, 2);
+	IS(bpfrt_table_update_elem(&table, keys + 3, 1, &value, 1, 0), -ENOSPC);
+	IS(bpfrt_table_update_elem(&table, keys, 1, &value, 1, 0), -ENOSPC);
+	IS(bpfrt_table_update_elem(&table, keys + 3, 1, &value, 1, 2), -ENOENT);
+	IS(bpfrt_table_update_elem(&table, keys, 1, &value, 1, 1), -EEXIST);
+	IS(bpfrt_table_delete_elem(&table, keys + 1, 1), 0);
+	IS(bpfrt_table_delete_elem(&table, keys + 1, 1), -ENOENT);
+	IS(bpfrt_table_lookup_elem(&table, keys + 1, 1, both, 1), -ENOENT);
+	has(&table, 0, 1, 2);
+	IS(bpfrt_table_update_elem(&table, keys + 3, 1, &value, 1, 0), 0);
+	has(&table, 0, 0, 2);
+	IS(bpfrt_table_close(&table), 0);
+}
+
+/* A bucket has eight places, and here each key is of the same two. */
+static void full_bucket(void)
+{
+	struct bpfrt_table table = {0};
+	uint64_t key, value = 7;
+	open_table(&table, table_shape(0, 1, 10));
+	for (key = 0; key < 8; key++)
+		IS(bpfrt_table_update_elem(&table, &key, 1, &value, 1, 0), 0);
+	IS(bpfrt_table_update_elem(&table, &key, 1, &value, 1, 0), -E2BIG);
+	IS(bpfrt_table_update_elem(&table, &key, 1, &value, 1, 2), -ENOENT);
+	has(&table, 2, 0, 0);
+	key = 3;
+	IS(bpfrt_table_update_elem(&table, &key, 1, &value, 1, 0), 0);
+	IS(bpfrt_table_update_elem(&table, &key, 1, &value, 1, 1), -EEXIST);
+	IS(bpfrt_table_delete_elem(&table, &key, 1), 0);
+	key = 8;
+	IS(bpfrt_table_update_elem(&table, &key, 1, &value, 1, 1), 0);
+	IS(bpfrt_table_close(&table), 0);
+}
+
+static void words_of_tables(void)
+{
+	struct bpfrt_table table = {0};
+	uint64_t key[8] = {1, 2, 3, 4, 5, 6, 7, 8}, values[] = {UINT64_MAX, 10, 2, 20, 5, 30}, sums[2] = {9, 9};
+	open_table(&table, (struct bpfrt_table_shape){3, 2, 4, 8, 2, BPFRT_TABLE_PER_READER, 1, 2});
+	IS(bpfrt_table_update_elem(&table, key, 8, values, 2, 0), -EINVAL);
+	IS(bpfrt_table_update_elem(&table, key, 7, values, 6, 0), -EINVAL);
+	IS(bpfrt_table_update_elem(&table, key, 8, values, 6, 0), 0);
+	IS(bpfrt_table_lookup_elem(&table, key, 8, values, 6), -EINVAL);
+	IS(bpfrt_table_lookup_elem(&table, key, 8, sums, 2), 0);
+	IS(sums[0] == 6 && sums[1] == 60, true);
+	key[7] = 9;
+	IS(bpfrt_table_lookup_elem(&table, key, 8, sums, 2), -ENOENT);
+	IS(bpfrt_table_update_elem(&table, key, 8, values, 6, 1), 0);
+	IS(bpfrt_table_delete_elem(&table, key, 8), 0);
+	IS(bpfrt_table_close(&table), 0);
+	open_table(&table, (struct bpfrt_table_shape){1, 1, 2, 0, 0, BPFRT_TABLE_SHARED, 1, 2});
+	IS(bpfrt_table_lookup_elem(&table, NULL, 0, NULL, 0), -ENOENT);
+	IS(bpfrt_table_update_elem(&table, NULL, 0, NULL, 0, 1), 0);
+	IS(bpfrt_table_update_elem(&table, NULL, 0, NULL, 0, 1), -EEXIST);
+	IS(bpfrt_table_lookup_elem(&table, NULL, 0, NULL, 0), 0);
+	IS(bpfrt_table_delete_elem(&table, NULL, 0), 0);
+	IS(bpfrt_table_close(&table), 0);
+}
+
+/* A seat is not given back. The table goes with the last handle of it, whichever that is. */
+static void seats(void)
+{
+	struct bpfrt_table table = {0};
+	struct bpfrt_reader readers[3] = {{0}, {0}, {0}}, moved;
+	struct bpfrt_prog prog = {0};
+	uint64_t key = 5, value = 40;
+	open_prog(&prog, counts, sizeof counts, 8, &words, 1);
+	open_table(&table, table_shape(2, 1, 2));
+	IS(bpfrt_table_update_elem(&table, &key, 1, &value, 1, 0), 0);
+	IS(bpfrt_table_reader(&readers[0], &table), 0);
+	has(&table, 1, 0, 1);
+	IS(bpfrt_table_reader(&readers[1], &table), 0);
+	IS(bpfrt_table_reader(&readers[2], &table), -ENOSPC);
+	IS(bpfrt_reader_close(&readers[1]), 0);
+	IS(bpfrt_table_reader(&readers[2], &table), -ENOSPC);
+	IS(bpfrt_table_reader(&readers[1], &table), -ENOSPC);
+	IS(readers[1].state == 0 && readers[2].state == 0, true);
+	has(&table, 1, 0, 0);
+	moved = readers[0];
+	memset(&readers[0], 0, sizeof readers[0]);
+	IS(bpfrt_reader_run(&moved, &prog, &key, 8, &value), 0);
+	IS(value, 41);
+	IS(bpfrt_table_close(&table), 0);
+	IS(bpfrt_reader_run(&moved, &prog, &key, 8, &value), 0);
+	IS(value, 42);
+	IS(bpfrt_table_reader(&readers[2], &table), -EBADF);
+	IS(bpfrt_reader_close(&moved), 0);
+	IS(bpfrt_prog_close(&prog), 0);
+}
+
+static void runs_over_table(void)
+{
+	struct bpfrt_table table = {0};
+	struct bpfrt_reader reader = {0}, other = {0};
+	struct bpfrt_prog prog = {0}, next = {0};
+	uint64_t key[2] = {5, 0}, value = 40;
+	open_table(&table, table_shape(2, 1, 2));
+	IS(bpfrt_table_update_elem(&table, key, 1, &value, 1, 0), 0);
+	IS(bpfrt_table_reader(&reader, &table), 0);
+	IS(bpfrt_table_reader(&other, &table), 0);
+	open_prog(&prog, counts, sizeof counts, 8, &words, 1);
+	IS(bpfrt_reader_run(&reader, &prog, key, 7, &value), -EINVAL);
+	IS(bpfrt_reader_run(&reader, &prog, key, 9, &value), -EINVAL);
+	IS(bpfrt_reader_run(&reader, &prog, NULL, 0, &value), -EINVAL);
+	IS(bpfrt_reader_run(&reader, &prog, NULL, 8, &value), -EINVAL);
+	IS(bpfrt_reader_run(&reader, &prog, many, sizeof many, &value), -EINVAL);
+	IS(bpfrt_reader_run_packet(&reader, &prog, "a", 1, 1, &value), -EINVAL);
+	IS(bpfrt_prog_run(&prog, key, 8, &value), -EOPNOTSUPP);
+	IS(value, 40);
+	IS(bpfrt_reader_run(&reader, &prog, key, 8, &value), 0);
+	IS(value, 41);
+	IS(bpfrt_reader_run(&other, &prog, key, 8, NULL), 0);
+	IS(bpfrt_table_lookup_elem(&table, key, 1, &value, 1), 0);
+	IS(value, 42);
+	key[0] = 6;
+	IS(bpfrt_reader_run(&reader, &prog, key, 8, &value), 0);
+	IS(value, 0);
+	/* Another program is run from the next call on, on packets; its key is how many bytes were captured, and how many were on the wire. */
+	open_prog(&next, counts, sizeof counts, 256, &words, 1);
+	IS(bpfrt_prog_close(&prog), 0);
+	key[0] = 5 + ((uint64_t)9 << 32);
+	IS(bpfrt_reader_run_packet(&reader, &next, "abcde", 5, 9, &value), 0);
+	IS(value, 0);
+	IS(bpfrt_table_update_elem(&table, key, 1, &value, 1, 1), 0);
+	IS(bpfrt_reader_run_packet(&reader, &next, "abcde", 5, 9, &value), 0);
+	IS(bpfrt_reader_run_packet(&other, &next, "abcde", 5, 9, &value), 0);
+	IS(value, 2);
+	IS(bpfrt_reader_run_packet(&reader, &next, NULL, 5, 9, &value), -EINVAL);
+	IS(bpfrt_reader_run_packet(&reader, &next, NULL, 0, 0, NULL), 0);
+	IS(bpfrt_reader_run(&reader, &next, key, 8, &value), -EINVAL);
+	key[0] = 5;
+	IS(bpfrt_table_lookup_elem(&table, key, 1, &value, 1), 0);
+	IS(value, 42);
+	IS(bpfrt_prog_close(&next), 0);
+	IS(bpfrt_reader_close(&reader), 0);
+	IS(bpfrt_reader_close(&other), 0);
+	IS(bpfrt_table_close(&table), 0);
+}
+
+/* What one run of a program answers over a table. */
+static int32_t ran(struct bpfrt_reader *reader, const unsigned char *insns, size_t size, size_t ctx_len, const struct bpfrt_map_shape
+	*shapes, size_t nr_shapes, uint64_t *value)
+{
+	struct bpfrt_prog prog = {0};
+	open_prog(&prog, insns, size, ctx_len, shapes, nr_shapes);
+	int32_t status = bpfrt_reader_run(reader, &prog, many, ctx_len, value);
+	IS(bpfrt_prog_close(&prog), 0);
+	return status;
+}
+
+/* Programs that a table serves, and that it does not. */
+static void served(void)
+{
+	static const struct bpfrt_map_shape others[] = {
+		{1, 4, 8, 1, 0, 1}, {1, 16, 8, 1, 0, 1}, {1, 7, 8, 1, 0, 1}, {1, 8, 7, 1, 0, 1}, {1, 8, 16, 1, 0, 1}, {2, 4, 8, 1, 0, 1}};
+	static const struct bpfrt_map_shape same[] = {{1, 8, 8, 4096, 4096, UINT32_MAX}, {1, 8, 8, 1, 0, 1}};
+	const uint64_t key = 0, first = 300;
+	struct bpfrt_table table = {0};
+	struct bpfrt_reader reader = {0};
+	uint64_t value = 9;
+	open_table(&table, table_shape(1, 1, 2));
+	IS(bpfrt_table_reader(&reader, &table), 0);
+	IS(bpfrt_table_update_elem(&table, &key, 1, &first, 1, 0), 0);
+	for (size_t number = 0; number < sizeof others / sizeof *others; number++) {
+		const struct bpfrt_map_shape both[] = {words, others[number]};
+		IS(ran(&reader, names_map, sizeof names_map, 0, &others[number], 1, &value), -EINVAL);
+		IS(ran(&reader, names_map, sizeof names_map, 0, both, 2, &value), -EINVAL);
+	}
+	IS(ran(&reader, counts_in_byte, sizeof counts_in_byte, 8, &words, 1, &value), -EOPNOTSUPP);
+	IS(ran(&reader, deletes, sizeof deletes, 8, &words, 1, &value), -EOPNOTSUPP);
+	IS(value, 9);
+	IS(ran(&reader, names_map, sizeof names_map, 0, same, 2, &value), 0);
+	IS(value, 7);
+	IS(ran(&reader, exit_one, sizeof exit_one, 0, NULL, 0, &value), 0);
+	IS(value, 1);
+	IS(ran(&reader, exit_byte, sizeof exit_byte, 256, same, 2, &value), 0);
+	IS(value, 0);
+	IS(ran(&reader, counts, sizeof counts, 8, same, 2, &value), 0);
+	IS(value, 301);
+	IS(bpfrt_reader_close(&reader), 0);
+	IS(bpfrt_table_close(&table), 0);
+}
+
+/* How many elements a table has that programs run over. */
+static void many_elements(void)
+{
+	struct bpfrt_table table = {0};
+	struct bpfrt_reader reader = {0};
+	uint64_t value = 9;
+	for (uint32_t more = 0; more < 2; more++) {
+		open_table(&table, table_shape(1, 1, 131072 + more));
+		IS(bpfrt_table_reader(&reader, &table), 0);
+		IS(ran(&reader, names_map, sizeof names_map, 0, &words, 1, &value), more ? -EINVAL : 0);
+		IS(ran(&reader, exit_one, sizeof exit_one, 0, NULL, 0, &value), more ? -EINVAL : 0);
+		IS(bpfrt_reader_close(&reader), 0);
+		IS(bpfrt_table_close(&table), 0);
+	}
+}
+
+/* Each reader counts in a value of its own. */
+static void counters_of_readers(void)
+{
+	struct bpfrt_table table = {0};
+	struct bpfrt_reader readers[3] = {{0}, {0}, {0}};
+	struct bpfrt_prog prog = {0};
+	uint64_t key = 5, values[] = {100, 200, 300}, value;
+	open_table(&table, (struct bpfrt_table_shape){3, 1, 2, 1, 1, BPFRT_TABLE_PER_READER, 1, 2});
+	IS(bpfrt_table_update_elem(&table, &key, 1, values, 3, 0), 0);
+	open_prog(&prog, counts, sizeof counts, 8, &words, 1);
+	for (uint64_t number = 0, all = 0; number < 3; number++) {
+		IS(bpfrt_table_reader(&readers[number], &table), 0);
+		IS(bpfrt_reader_run(&readers[number], &prog, &key, 8, &value), 0);
+		all |= value == 101 ? 1 : value == 201 ? 2 : value == 301 ? 4 : 8;
+		IS(bpfrt_reader_run(&readers[number], &prog, &key, 8, &value), 0);
+		IS(number < 2 || all == 7, true);
+	}
+	IS(bpfrt_table_lookup_elem(&table, &key, 1, &value, 1), 0);
+	IS(value, 606);
+	for (int number = 0; number < 3; number++)
+		IS(bpfrt_reader_close(&readers[number]), 0);
+	IS(bpfrt_table_close(&table), 0);
+	IS(bpfrt_prog_close(&prog), 0);
+}
+
 #ifdef WORLDS
 static void closed_world(void)
 {
 	struct bpfrt_world world = {0};
 	struct bpfrt_prog prog = {0};
+	struct bpfrt_world_stat stat = {7, 7, 7, 7, 7, 7};
 	uint64_t value = 5;
 	unsigned char room[8] = {6};
 	IS(bpfrt_world_close(&world), -EBADF);
@@ -239,7 +697,9 @@ static void closed_world(void)
 	IS(bpfrt_world_drop(&world, 0), -EBADF);
 	IS(bpfrt_world_advance(&world), -EBADF);
 	IS(bpfrt_world_reap(&world), -EBADF);
-	IS(value == 5 && room[0] == 6, true);
+	IS(bpfrt_world_stat(&world, &stat), -EBADF);
+	IS(bpfrt_map_get_next_key(&world, 0, NULL, 0, room, 4), -EBADF);
+	IS(value == 5 && room[0] == 6 && stat.linked == 7 && stat.sections == 7, true);
 }
 
 /* A handle of one kind in the place of another's. */
@@ -247,7 +707,13 @@ static void other_kind(void)
 {
 	struct bpfrt_world world = {0};
 	struct bpfrt_prog prog = {0}, other = {0};
+	struct bpfrt_table table = {0};
+	struct bpfrt_reader reader = {0};
+	struct bpfrt_world_stat stat = {7, 7, 7, 7, 7, 7};
+	struct bpfrt_table_stat told = {7, 7, 7};
+	const uint32_t no_maps = 0;
 	uint64_t value = 5;
+	open_table(&table, table_shape(1, 1, 1));
 	IS(bpfrt_world_open(&world, NULL, 0, &why), 0);
 	IS(bpfrt_world_open(&world, NULL, 0, &why), -EBUSY);
 	IS(bpfrt_prog_open(&prog, exit_one, sizeof exit_one, 0, NULL, 0, &why), 0);
@@ -257,9 +723,20 @@ static void other_kind(void)
 	IS(bpfrt0_world_reap((struct bpfrt_world *)&prog), -EBADF);
 	IS(bpfrt0_world_open((struct bpfrt_world *)&prog, &hash, 0, &why), -EBUSY);
 	IS(bpfrt_world_load(&world, &other, NULL, 0), -EBADF);
-	IS(value, 5);
+	IS(bpfrt0_world_stat((struct bpfrt_world *)&prog, &stat), -EBADF);
+	IS(bpfrt0_world_stat((struct bpfrt_world *)&table, &stat), -EBADF);
+	IS(bpfrt0_map_get_next_key((struct bpfrt_world *)&table, 0, "", 0, &value, 8), -EBADF);
+	IS(bpfrt0_map_lookup_elem((struct bpfrt_world *)&table, 0, "abcd", 4, &value, 8), -EBADF);
+	IS(bpfrt0_world_run((struct bpfrt_world *)&table, 0, "", 0, &value), -EBADF);
+	IS(bpfrt0_world_open((struct bpfrt_world *)&table, &hash, 0, &why), -EBUSY);
+	IS(bpfrt0_world_load(&world, (struct bpfrt_prog *)&table, &no_maps, 0), -EBADF);
+	IS(bpfrt0_table_stat((struct bpfrt_table *)&world, &told), -EBADF);
+	IS(bpfrt0_table_reader(&reader, (struct bpfrt_table *)&world), -EBADF);
+	IS(bpfrt0_reader_run((struct bpfrt_reader *)&world, &prog, "", 0, &value), -EBADF);
+	IS(value == 5 && stat.runs == 7 && told.free == 7 && reader.state == 0, true);
 	IS(bpfrt_prog_close(&prog), 0);
 	IS(bpfrt_world_close(&world), 0);
+	IS(bpfrt_table_close(&table), 0);
 }
 
 static void no_worlds(void)
@@ -271,6 +748,7 @@ static void no_worlds(void)
 	REFUSED(bpfrt_world_open(&world, shapes, 17, &why), 53, BPFRT_NOWHERE, 0);
 	shapes[3].type = 9;
 	REFUSED(bpfrt_world_open(&world, shapes, 16, &why), 52, BPFRT_MAP, 3);
+	IS(bpfrt_world_open(&world, shapes, 16, NULL), -EINVAL);
 	IS(world.at == NULL && world.state == 0, true);
 }
 
@@ -362,6 +840,105 @@ static void elements_of_array(void)
 	IS(bpfrt_world_close(&world), 0);
 }
 
+/* What the world has, and keys in the order of their bytes. */
+static void has_world(struct bpfrt_world *world, uint64_t linked, uint64_t unlinked, uint64_t reclaimed, uint64_t worn, uint64_t runs,
+	uint64_t sections)
+{
+	struct bpfrt_world_stat stat = {99, 99, 99, 99, 99, 99};
+	IS(bpfrt_world_stat(world, &stat), 0);
+	IS(stat.linked, linked);
+	IS(stat.unlinked, unlinked);
+	IS(stat.reclaimed, reclaimed);
+	IS(stat.worn, worn);
+	IS(stat.runs, runs);
+	IS(stat.sections, sections);
+}
+
+static void counts_of_world(void)
+{
+	/* callbtf 1; callbtf 2; mov64 r0, 1; exit */
+	static const unsigned char section[] = {
+		0x85, 0x20, 0, 0, 1, 0, 0, 0, 0x85, 0x20, 0, 0, 2, 0, 0, 0, 0xb7, 0, 0, 0, 1, 0, 0, 0, 0x95, 0, 0, 0, 0, 0, 0, 0};
+	const struct bpfrt_map_shape shapes[] = {hash, array, {BPFRT_MAP_TYPE_HASH, 4, 8, 1, 0, 1}};
+	struct bpfrt_world world = {0};
+	struct bpfrt_prog prog = {0};
+	IS(bpfrt_world_open(&world, shapes, 3, NULL), 0);
+	has_world(&world, 2, 0, 0, 0, 0, 0);
+	IS(bpfrt_map_update_elem(&world, 0, "abcd", 4, "abcdefgh", 8, 0), 0);
+	IS(bpfrt_map_update_elem(&world, 2, "abcd", 4, "abcdefgh", 8, 0), 0);
+	has_world(&world, 4, 0, 0, 0, 0, 0);
+	IS(bpfrt_map_update_elem(&world, 0, "abcd", 4, "abcdefgh", 8, 0), 0);
+	IS(bpfrt_map_delete_elem(&world, 2, "abcd", 4), 0);
+	has_world(&world, 3, 2, 0, 0, 0, 0);
+	IS(bpfrt_world_advance(&world), 0);
+	IS(bpfrt_world_advance(&world), 0);
+	IS(bpfrt_world_reap(&world), 1);
+	IS(bpfrt_world_reap(&world), 1);
+	has_world(&world, 3, 0, 2, 1, 0, 0);
+	open_prog(&prog, section, sizeof section, 0, NULL, 0);
+	IS(bpfrt_world_load(&world, &prog, NULL, 0), 0);
+	IS(bpfrt_world_start(&world, 0, NULL, 0), 0);
+	IS(bpfrt_world_start(&world, 0, NULL, 0), 1);
+	has_world(&world, 3, 0, 2, 1, 2, 0);
+	IS(bpfrt_world_step(&world, 1, NULL), 0);
+	has_world(&world, 3, 0, 2, 1, 2, 1);
+	IS(bpfrt_world_step(&world, 1, NULL), 0);
+	has_world(&world, 3, 0, 2, 1, 2, 0);
+	IS(bpfrt_world_run(&world, 0, NULL, 0, NULL), 0);
+	has_world(&world, 3, 0, 2, 1, 2, 0);
+	IS(bpfrt_prog_close(&prog), 0);
+	IS(bpfrt_world_close(&world), 0);
+}
+
+static void next_is(struct bpfrt_world *world, uint32_t map, const char *key, size_t size, const char *wanted)
+{
+	char next[4] = "????";
+	IS(bpfrt_map_get_next_key(world, map, key, size, next, 4), 0);
+	IS(memcmp(next, wanted, 4), 0);
+}
+
+static void keys_in_order(void)
+{
+	const struct bpfrt_map_shape shapes[] = {{BPFRT_MAP_TYPE_HASH, 4, 8, 4, 4, 9}, array, hash};
+	struct bpfrt_world world = {0};
+	char next[8] = "before.";
+	IS(bpfrt_world_open(&world, shapes, 3, NULL), 0);
+	for (int number = 0; number < 4; number++)
+		IS(bpfrt_map_update_elem(&world, 0, &"\377bcdbbbbaaaaabcd"[4 * number], 4, "abcdefgh", 8, 0), 0);
+	next_is(&world, 0, NULL, 0, "aaaa");
+	next_is(&world, 0, "", 0, "aaaa");
+	next_is(&world, 0, "aaaa", 4, "abcd");
+	next_is(&world, 0, "abcd", 4, "bbbb");
+	next_is(&world, 0, "bbbb", 4, "\377bcd");
+	next_is(&world, 0, "aaa~", 4, "abcd");
+	next_is(&world, 0, "\0\0\0\0", 4, "aaaa");
+	next_is(&world, 0, "a", 1, "aaaa");
+	next_is(&world, 0, "aaaaa", 5, "abcd");
+	next_is(&world, 0, (const char *)many, 64, "aaaa");
+	IS(bpfrt_map_get_next_key(&world, 0, "\377bcd", 4, next, 4), -ENOENT);
+	IS(bpfrt_map_get_next_key(&world, 0, "\377\377\377\377", 4, next, 4), -ENOENT);
+	IS(bpfrt_map_get_next_key(&world, 0, many, 65, next, 4), -EINVAL);
+	IS(bpfrt_map_get_next_key(&world, 0, many, sizeof many, next, 4), -EINVAL);
+	IS(bpfrt_map_get_next_key(&world, 0, NULL, 0, next, 3), -EINVAL);
+	IS(bpfrt_map_get_next_key(&world, 0, NULL, 0, next, 8), -EINVAL);
+	IS(bpfrt_map_get_next_key(&world, 0, NULL, 0, NULL, 0), -EINVAL);
+	IS(bpfrt_map_get_next_key(&world, 0, NULL, 4, next, 4), -EINVAL);
+	IS(bpfrt_map_get_next_key(&world, 0, "aaaa", 4, NULL, 4), -EINVAL);
+	IS(bpfrt_map_get_next_key(&world, 2, NULL, 0, next, 4), -ENOENT);
+	IS(bpfrt_map_get_next_key(&world, 3, NULL, 0, next, 4), -ENXIO);
+	IS(bpfrt_map_get_next_key(&world, UINT32_MAX, NULL, 0, next, 4), -ENXIO);
+	IS(memcmp(next, "before.", 8), 0);
+	next_is(&world, 1, NULL, 0, "\0\0\0\0");
+	next_is(&world, 1, "\0\0\0\0", 4, "\1\0\0\0");
+	next_is(&world, 1, "\0", 1, "\0\0\0\0");
+	next_is(&world, 1, "\0\0\0\0\0", 5, "\1\0\0\0");
+	next_is(&world, 1, "\0\377\377\377", 4, "\1\0\0\0");
+	IS(bpfrt_map_get_next_key(&world, 1, "\1\0\0\0", 4, next, 4), -ENOENT);
+	IS(bpfrt_map_delete_elem(&world, 0, "abcd", 4), 0);
+	next_is(&world, 0, "aaaa", 4, "bbbb");
+	IS(bpfrt_world_close(&world), 0);
+}
+
 static void stepped_runs(void)
 {
 	struct bpfrt_world world = {0};
@@ -404,7 +981,19 @@ int main(void)
 	no_shapes();
 	runs();
 	packets();
+	packets_in_bytes();
 	program_with_map();
+	closed_table();
+	kinds_of_tables();
+	table_shapes();
+	elements_of_table();
+	full_bucket();
+	words_of_tables();
+	seats();
+	runs_over_table();
+	served();
+	many_elements();
+	counters_of_readers();
 #ifdef WORLDS
 	closed_world();
 	other_kind();
@@ -412,6 +1001,8 @@ int main(void)
 	loads();
 	elements_of_hash();
 	elements_of_array();
+	counts_of_world();
+	keys_in_order();
 	stepped_runs();
 #else
 	(void)array;

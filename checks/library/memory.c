@@ -22,6 +22,8 @@ static const char file[] = "bpfrt 1\nctx 4\nmap m 4 8 4 4 9\ncode\nb700000001000
 static const struct bpfrt_map_shape shapes[] = {{BPFRT_MAP_TYPE_HASH, 4, 8, 4, 4, 9}, {BPFRT_MAP_TYPE_ARRAY, 4, 8, 4, 0, 1}};
 static const uint32_t maps[] = {0, 1};
 static struct bpfrt_prog prog, other;
+static struct bpfrt_table table;
+static struct bpfrt_reader reader;
 static struct bpfrt_refusal why;
 static long wrong;
 
@@ -70,6 +72,11 @@ static int32_t close_prog(void)
 	return prog.state ? bpfrt_prog_close(&prog) : 0;
 }
 
+static int32_t close_table(void)
+{
+	return table.state ? bpfrt_table_close(&table) : 0;
+}
+
 static void complain(const char *name, long growth, const char *what, long number)
 {
 	wrong++;
@@ -97,7 +104,7 @@ static bool made(const char *name, int32_t (*call)(void), int32_t (*undo)(void),
 		complain(name, growth, "more blocks than before:", refuser_blocks - blocks);
 	if (status == -ENOMEM && undo == close_prog && call != share && !says_memory())
 		complain(name, growth, "why is not told, or is not 13, of", status);
-	if (status < 0 && prog.state != 0)
+	if (status < 0 && (prog.state != 0 || reader.state != 0 || (table.state != 0 && undo == close_table)))
 		complain(name, growth, "it fails, and the handle is open", status);
 	if (undo())
 		complain(name, growth, "it is not undone, and answers", status);
@@ -124,15 +131,75 @@ static void each_growth(const char *name, int32_t (*call)(void), int32_t (*undo)
 static void runs(void)
 {
 	static unsigned char context[256 * 4], packet[300];
+	static const struct bpfrt_packet packets[] = {{0, 300, 300}, {7, 9, 11}};
 	uint64_t value, values[4];
 	open_filter();
 	long growths = refuser_growths;
 	int32_t status = bpfrt_prog_run(&prog, context, 256, &value) | bpfrt_prog_run_many(&prog, context, sizeof context, values, 4)
-			 | bpfrt_prog_run_packet(&prog, packet, sizeof packet, sizeof packet, &value) | bpfrt_prog_ctx_len(&prog);
+			 | bpfrt_prog_run_packet(&prog, packet, sizeof packet, sizeof packet, &value)
+			 | bpfrt_prog_run_packets(&prog, packet, sizeof packet, packets, values, 2) | bpfrt_prog_ctx_len(&prog);
 	growths = refuser_growths - growths;
 	if (status != 256 || growths)
 		complain("runs", 0, "growths:", growths);
 	close_prog();
+}
+
+static int32_t open_table(void)
+{
+	static const struct bpfrt_table_shape shape = {2, 2, 9, 1, 2, BPFRT_TABLE_PER_READER, 1, 2};
+	return bpfrt_table_open(&table, &shape);
+}
+
+static int64_t seats(void)
+{
+	struct bpfrt_table_stat stat = {0, 0, 99};
+	bpfrt_table_stat(&table, &stat);
+	return (int64_t)stat.seats;
+}
+
+static int32_t open_reader(void)
+{
+	int64_t before = seats();
+	int32_t status = bpfrt_table_reader(&reader, &table);
+	if (seats() != before - (status == 0) || (status == 0) != (reader.state != 0))
+		complain("table_reader", 0, "seats behind it:", (long)seats());
+	return status;
+}
+
+/* A seat is not given back, so there is a new table for the next call. */
+static int32_t close_reader(void)
+{
+	return (reader.state ? bpfrt_reader_close(&reader) : 0) | close_table() | open_table();
+}
+
+/* All else on tables takes none. */
+static void runs_over_table(void)
+{
+	static const uint64_t key[1], values[4];
+	struct bpfrt_table_stat stat;
+	uint64_t value, sums[2];
+	open_filter();
+	open_reader();
+	long growths = refuser_growths;
+	int32_t status = bpfrt_table_update_elem(&table, key, 1, values, 4, 1);
+	status |= bpfrt_table_update_elem(&table, key, 1, values, 4, 2);
+	status |= bpfrt_table_lookup_elem(&table, key, 1, sums, 2) | bpfrt_reader_run_packet(&reader, &prog, NULL, 0, 0, &value);
+	status |= bpfrt_table_delete_elem(&table, key, 1);
+	status |= bpfrt_table_stat(&table, &stat) | (bpfrt_table_reclaim(&table) - 2);
+	growths = refuser_growths - growths;
+	if (status || growths)
+		complain("tables", 0, "growths:", growths);
+	close_prog();
+}
+
+static void tables(void)
+{
+	each_growth("table_open", open_table, close_table, 0);
+	open_table();
+	each_growth("table_reader", open_reader, close_reader, 0);
+	runs_over_table();
+	bpfrt_reader_close(&reader);
+	close_table();
 }
 
 #ifdef WORLDS
@@ -202,6 +269,17 @@ static int32_t advance(void)
 	return bpfrt_world_advance(&world);
 }
 
+static int32_t next_key(void)
+{
+	return bpfrt_map_get_next_key(&world, 0, NULL, 0, room, 4);
+}
+
+static int32_t stat_world(void)
+{
+	struct bpfrt_world_stat stat;
+	return bpfrt_world_stat(&world, &stat);
+}
+
 /* Each call on a new world, which is freed behind it; made again after want of memory it does as before. */
 static bool made_in_world(const char *name, int32_t (*call)(void), long growth)
 {
@@ -238,6 +316,8 @@ static void worlds(void)
 	each_growth_in_world("world_run", run);
 	each_growth_in_world("world_start", start);
 	each_growth_in_world("world_advance", advance);
+	each_growth_in_world("map_get_next_key", next_key);
+	each_growth_in_world("world_stat", stat_world);
 }
 #endif
 
@@ -256,6 +336,7 @@ int main(void)
 	each_growth("prog_open_policy", open_policy, close_prog, 0);
 	each_growth("prog_share", share, close_prog, 0);
 	runs();
+	tables();
 #ifdef WORLDS
 	worlds();
 #else

@@ -8,6 +8,7 @@ import ctypes.util
 import errno
 import importlib.machinery
 import importlib.util
+import itertools
 import json
 import pathlib
 import random
@@ -223,6 +224,9 @@ def filters(library, _):
     seen = [(packet, len(packet[:classic.PACKET_BYTES]), length) for packet, length in all_packets]
     contexts = b"".join(size.to_bytes(4, "little") + length.to_bytes(4, "little") + packet[:size].ljust(classic.PACKET_BYTES, b"\0")
                         for packet, size, length in seen)
+    joined, at = b"".join(packet for packet, _ in all_packets), itertools.accumulate((len(packet) for packet, _ in all_packets), initial=0)
+    places = (ctypes.c_uint64 * (2 * len(seen)))(*(number for start, (packet, length) in zip(at, all_packets)
+                                                   for number in (start, len(packet) | length << 32)))
     for text, refused in expressions():
         compiled = pcap.compiled(text)
         insns = ctypes.string_at(compiled.insns, 8 * compiled.count)
@@ -237,6 +241,8 @@ def filters(library, _):
             values = (ctypes.c_uint64 * len(seen))()
             library.bpfrt0_prog_run_many(other.held.handle, contexts, len(contexts), values, len(seen))
             yield from compared(f"{text}, many", all_packets, [*values], rights)
+            library.bpfrt0_prog_run_packets(program.held.handle, joined, len(joined), places, len(seen), ctypes.byref(values), len(seen))
+            yield from compared(f"{text}, in one call", all_packets, [*values], rights)
 
 
 def compared(name, all_packets, got, rights):
@@ -327,19 +333,77 @@ def python(library, bpfrt):
     with host.Runtime(library._name) as one:
         byte, dns = one.load_code(BYTE, 1), (EXAMPLES / "filters" / "dns.txt").read_text()
         number = one.load_filter(dns)
-        values = [one.run_packet(number, packet, length) for packet, length in captured(EXAMPLES / "filters" / "sample.pcap")]
+        sample = [*captured(EXAMPLES / "filters" / "sample.pcap")]
+        values = [one.run_packet(number, packet, length) for packet, length in sample]
         yield "packets that pass", str(sum(map(bool, values))), "2"
+        yield "packets in one call", outcome(one.run_packets, number, sample), str(values)
         for name, *given, wanted in [
                 ("run_buffer", byte, b"abc", "[97, 98, 99]"), ("run_buffer", byte, bytearray(b"abc"), "[97, 98, 99]"),
                 ("run_buffer", byte, memoryview(b"xabc")[1:], "[97, 98, 99]"), ("run_buffer", byte, b"", "[]"),
                 ("run_buffer", byte, host.array.array("H", [0x6261]), "[97, 98]"), ("run_buffer", byte, b"abc", 2, "Refused [63, None, None]"),
                 ("run_buffer", 9, b"", "Refused [62, None, None]"), ("run_buffer", byte, "abc", "TypeError [None, None, None]"),
                 ("run_packet", byte, b"", "Refused [63, None, None]"), ("run_packet", number, b"", 1 << 32, "ValueError [None, None, None]"),
+                ("run_packets", byte, [b"a"], "Refused [63, None, None]"), ("run_packets", 9, [], "Refused [62, None, None]"),
+                ("run_packets", number, [(b"", 1 << 32)], "ValueError [None, None, None]"), ("run_packets", number, [], "[]"),
+                ("run_packets", number, [(b"", -1)], "ValueError [None, None, None]"), ("run_packets", number, ["a"], "TypeError [None, None, None]"),
                 ("load_filter", b"\xff", "Refused [101, None, None]"), ("load_array", b"\6\0\0\0\5\0\0\0", "2"), ("run_packet", 2, b"", "5"),
+                ("run_packets", 2, [b"", bytearray(b"a"), (memoryview(b"ab"), 7), (b"", (1 << 32) - 1)], "[5, 5, 5, 5]"),
                 ("load_policy", bytes.fromhex("0600000007000000"), "3"), ("run", 3, bytes(64), "7")]:
             yield f"{name}{tuple(given)}", outcome(getattr(one, name), *given), wanted
     yield "a closed one", outcome(one.run, byte, b"a"), "Broken [None, None, None]"
     yield "closed again", outcome(one.close), "None"
+
+
+# Adds 1 to the number under the key that the context is, and exits with it; the second deletes the key.
+COUNT = bytes.fromhex("b706000000000000 7913000000000000 7b3af8ff00000000 8520000001000000 bfa2000000000000 07020000f8ffffff 1851000000000000"
+                      "0000000000000000 8500000001000000 1500030000000000 7906000000000000 0706000001000000 7b60000000000000 8520000002000000"
+                      "bf60000000000000 9500000000000000")
+DELETE = bytes.fromhex("7913000000000000 7b3af8ff00000000 bfa2000000000000 07020000f8ffffff 1851000000000000 0000000000000000"
+                       "8500000003000000 9500000000000000")
+
+
+def counted(table, program, key, times):
+    """What a reader of the table counts in a thread."""
+    reader = table.reader()
+    for number in range(times):
+        reader.run(program, key)
+    return reader.run(program, key)
+
+
+def tables(library, _):
+    """The class for tables: what each method gives or raises, one after another, and four threads that count."""
+    key, one, error = (5).to_bytes(8, "little"), host.Runtime(library._name), "OSError [None, None, {}]".format
+    one.map("words", 8, 8, 1, 0, 1), one.map("others", 8, 4, 1, 0, 1)
+    count, packets_count = one.load_code(COUNT, 8, ["words"]), one.load_code(COUNT, 256, ["words"])
+    delete, other, byte = one.load_code(DELETE, 8, ["words"]), one.load_code(BYTE, 1, ["others"]), one.load_code(BYTE, 1)
+    table = host.Table(one, 3, 2, 1, 1)
+    reader = table.reader()
+    for method, *given, wanted in [
+            (table.stat, "(2, 0, 2)"), (table.get, [5], "None"), (table.set, [5], [40], "None"), (table.get, [5], "[40]"),
+            (table.set, [5], [41], 1, "FileExistsError [None, None, 17]"), (table.set, [6], [41], 2, "FileNotFoundError [None, None, 2]"),
+            (table.set, [5, 6], [1], error(22)), (table.set, [5], [], error(22)), (table.set, [5], [1], 3, error(22)),
+            (table.set, [1 << 64], [1], "ValueError [None, None, None]"), (table.set, [5], [-1], "ValueError [None, None, None]"),
+            (table.get, [], error(22)), (reader.run, count, key, "41"), (reader.run, count, bytes(8), "0"), (reader.run, count, b"", error(22)),
+            (reader.run, other, b"a", error(22)), (reader.run, delete, key, error(95)), (reader.run, byte, b"a", "97"),
+            (reader.run, 99, b"", "Refused [62, None, None]"), (reader.run_packet, count, b"a", error(22)),
+            (reader.run_packet, packets_count, b"abcde", 0, "42"), (reader.run_packet, packets_count, bytes(5), 0, "43"),
+            (reader.run_packet, packets_count, b"abcde", "0"), (reader.run_packet, packets_count, b"", 1 << 32, "ValueError [None, None, None]"),
+            (table.set, [5], [50], 2, "None"), (table.stat, "(0, 1, 2)"), (table.reclaim, "1"), (table.set, [6], [1], "None"),
+            (table.set, [7], [1], error(28)), (table.remove, [6], "None"), (table.remove, [6], "FileNotFoundError [None, None, 2]"),
+            (reader.run, count, key, "51"), (host.Table, one, 9, 2, 1, 1, error(22)),
+            (host.Table, one, 1 << 32, 2, 1, 1, "ValueError [None, None, None]")]:
+        yield f"{method.__name__}{tuple(given)}", outcome(method, *given), wanted
+    for is_last in (False, False, True):
+        got = outcome(table.reader)
+        yield "a further reader", got if is_last else got.split(".")[0], error(28) if is_last else "<bpfrt_ctypes"
+    counters = host.Table(one, 4, 2, 1, 1, per_reader=True)
+    counters.set([5], [1000])
+    with ThreadPoolExecutor(4) as pool:
+        lasts = [it.result() for it in [pool.submit(counted, counters, count, key, 999) for _ in range(4)]]
+    yield "what each counted", str(sorted(lasts)), "[1000, 1000, 1000, 2000]"
+    yield "the sum", outcome(counters.get, [5]), "[5000]"
+    one.close()
+    yield "a closed one", outcome(reader.run, count, key), "Broken [None, None, None]"
 
 
 WORDS = {"map", "load", "put", "get", "del", "start", "step", "drop", "advance", "reap"}
@@ -399,7 +463,7 @@ def dialogues(library, _):
                     is_made = is_made or line.split()[0] not in ("map", "load")
 
 
-PARTS = {it.__name__: it for it in (verdicts, runs, files, filters, policies, classics, python, dialogues)}
+PARTS = {it.__name__: it for it in (verdicts, runs, files, filters, policies, classics, python, tables, dialogues)}
 
 
 def main(part, path, bpfrt=""):

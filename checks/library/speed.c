@@ -15,9 +15,10 @@
 #include <rte_bpf.h>
 #endif
 
-enum { PACKETS = 1024, MANY = 4096, SIZE = 2048, CONTEXT = 256, SEEN = 248, ROUNDS = 12, LONGEST = 1 << 18 };
+enum { PACKETS = 1024, MANY = 4096, KEYS = 1024, SIZE = 2048, CONTEXT = 256, SEEN = 248, ROUNDS = 12, LONGEST = 1 << 18 };
 
-static unsigned char packets[PACKETS][SIZE], contexts[MANY][CONTEXT];
+static unsigned char packets[PACKETS][SIZE], contexts[MANY][CONTEXT], ring[MANY * SIZE];
+static struct bpfrt_packet places[MANY];
 static uint32_t captured[PACKETS], lengths[PACKETS];
 static uint64_t values[MANY];
 static unsigned char listing[LONGEST], program[LONGEST];
@@ -139,6 +140,29 @@ static void run_filter_packet(void)
 	}
 }
 
+/* MANY packets that lie one behind another, as in a ring; and the same by a call for each. */
+static void lay_packets(void)
+{
+	for (int number = 0; number < MANY; number++) {
+		int from = number % PACKETS;
+		places[number] = (struct bpfrt_packet){number ? places[number - 1].at + places[number - 1].caplen : 0, captured[from], lengths[from]};
+		if (places[number].at + captured[from] > sizeof ring)
+			fail("the packets are too long");
+		memcpy(ring + places[number].at, packets[from], captured[from]);
+	}
+}
+
+static void run_packets(void)
+{
+	bpfrt_prog_run_packets(&filter, ring, sizeof ring, places, values, MANY);
+}
+
+static void run_each_packet(void)
+{
+	for (int number = 0; number < MANY; number++)
+		bpfrt_prog_run_packet(&filter, ring + places[number].at, places[number].caplen, places[number].len, &values[number]);
+}
+
 static void run_closed(void)
 {
 	struct bpfrt_prog none = {0};
@@ -219,16 +243,102 @@ static void run_dpdk_sum(void)
 }
 #endif
 
+/* A table of half as many keys as it has elements, and a program that looks one up and adds 1 to its number. */
+static const unsigned char count[] = {
+	0xb7, 6, 0, 0, 0, 0, 0, 0, 0x79, 0x13, 0, 0, 0, 0, 0, 0, 0x7b, 0x3a, 0xf8, 0xff, 0, 0, 0, 0, 0x85, 0x20, 0, 0, 1, 0, 0, 0,
+	0xbf, 0xa2, 0, 0, 0, 0, 0, 0, 7, 2, 0, 0, 0xf8, 0xff, 0xff, 0xff, 0x18, 0x51, 0, 0, 0, 0, 0, 0, 0, 0, 0, 0, 0, 0, 0, 0,
+	0x85, 0, 0, 0, 1, 0, 0, 0, 0x15, 0, 3, 0, 0, 0, 0, 0, 0x79, 6, 0, 0, 0, 0, 0, 0, 7, 6, 0, 0, 1, 0, 0, 0,
+	0x7b, 0x60, 0, 0, 0, 0, 0, 0, 0x85, 0x20, 0, 0, 2, 0, 0, 0, 0xbf, 0x60, 0, 0, 0, 0, 0, 0, 0x95, 0, 0, 0, 0, 0, 0, 0};
+static const struct bpfrt_map_shape words = {BPFRT_MAP_TYPE_HASH, 8, 8, KEYS, KEYS, UINT32_MAX};
+static struct bpfrt_table table;
+static struct bpfrt_reader reader;
+static struct bpfrt_prog counter;
+
+static void open_table(void)
+{
+	const struct bpfrt_table_shape shape = {1, bpfrt_table_buckets(2 * KEYS), 2 * KEYS, 1, 1, BPFRT_TABLE_SHARED, 12345, 67890};
+	const uint64_t zero = 0;
+	if (bpfrt_table_open(&table, &shape) || bpfrt_table_reader(&reader, &table)
+	    || bpfrt_prog_open(&counter, count, sizeof count, 8, &words, 1, &why))
+		fail("no table is opened");
+	for (uint64_t key = 0; key < KEYS; key++)
+		if (bpfrt_table_update_elem(&table, &key, 1, &zero, 1, 1))
+			fail("a key is not put");
+}
+
+static void run_over_table(void)
+{
+	uint64_t value = 0;
+	for (uint64_t key = 0; key < KEYS; key++) {
+		bpfrt_reader_run(&reader, &counter, &key, 8, &value);
+		if (value == 0)
+			fail("a key is not found");
+	}
+}
+
+static void miss_in_table(void)
+{
+	uint64_t value = 0;
+	for (uint64_t key = KEYS; key < 2 * KEYS; key++) {
+		bpfrt_reader_run(&reader, &counter, &key, 8, &value);
+		sink += value;
+	}
+}
+
+static void update_table(void)
+{
+	const uint64_t value = 7;
+	for (uint64_t key = 0; key < KEYS; key++)
+		if (bpfrt_table_update_elem(&table, &key, 1, &value, 1, 2))
+			fail("a key is not replaced");
+}
+
+static void look_up_in_table(void)
+{
+	uint64_t value = 0;
+	for (uint64_t key = 0; key < KEYS; key++)
+		sink += (uint64_t)bpfrt_table_lookup_elem(&table, &key, 1, &value, 1) + value;
+}
+
+static void change_table(void)
+{
+	const uint64_t key = 2 * KEYS, value = 7;
+	if (bpfrt_table_update_elem(&table, &key, 1, &value, 1, 1) || bpfrt_table_delete_elem(&table, &key, 1)
+	    || bpfrt_table_reclaim(&table) < 1)
+		fail("a key does not come and go");
+}
+
 #ifdef WORLDS
 static const struct bpfrt_map_shape shape = {BPFRT_MAP_TYPE_HASH, 4, 8, 16, 16, UINT32_MAX};
 static struct bpfrt_world world;
 
 static void open_world(void)
 {
-	if (bpfrt_world_open(&world, &shape, 1, &why) || bpfrt_world_load(&world, &one, NULL, 0))
+	const struct bpfrt_map_shape shapes[] = {shape, words};
+	const uint32_t second = 1;
+	if (bpfrt_world_open(&world, shapes, 2, &why) || bpfrt_world_load(&world, &one, NULL, 0)
+	    || bpfrt_world_load(&world, &counter, &second, 1) != 1)
 		fail("no world is opened");
 	if (bpfrt_map_update_elem(&world, 0, "abcd", 4, "abcdefgh", 8, 0))
 		fail("no element is put");
+	for (uint64_t key = 0; key < KEYS; key++)
+		if (bpfrt_map_update_elem(&world, 1, &key, 8, "abcdefgh", 8, 0))
+			fail("no key is put");
+}
+
+/* The same keys of 8 bytes as the table's. */
+static void look_up_words(void)
+{
+	uint64_t value = 0;
+	for (uint64_t key = 0; key < KEYS; key++)
+		sink += (uint64_t)bpfrt_map_lookup_elem(&world, 1, &key, 8, &value, 8) + value;
+}
+
+static void count_in_world(void)
+{
+	uint64_t value = 0;
+	for (uint64_t key = 0; key < KEYS; key++)
+		sink += (uint64_t)bpfrt_world_run(&world, 1, &key, 8, &value);
 }
 
 static void look_up(void)
@@ -295,20 +405,34 @@ int main(int argc, char **argv)
 	measure("the filter, bpfrt_prog_run", run_filter, PACKETS);
 	measure("the filter, bpfrt_prog_run_many of 4096", run_filter_many, MANY);
 	measure("the filter, bpfrt_prog_run_packet", run_filter_packet, PACKETS);
+	lay_packets();
+	measure("the filter, bpfrt_prog_run_packet, 4096", run_each_packet, MANY);
+	measure("the filter, bpfrt_prog_run_packets of 4096", run_packets, MANY);
 #ifdef PCAP
 	measure("the filter, libpcap's bpf_filter", run_libpcap, PACKETS);
 #endif
 	measure("a run of a closed handle", run_closed, PACKETS);
 	measure("bpfrt_prog_share and its close", share_filter, 1);
 	measure("bpfrt_prog_open_tcpdump and its close", open_filter, 1);
+	open_table();
+	measure("bpfrt_table_lookup_elem, of 1024 keys", look_up_in_table, KEYS);
+	measure("bpfrt_table_update_elem of a key there", update_table, KEYS);
+	measure("table: update, delete and reclaim", change_table, 1);
+	measure("count, bpfrt_reader_run, a key there", run_over_table, KEYS);
+	measure("count, bpfrt_reader_run, none there", miss_in_table, KEYS);
 #ifdef WORLDS
 	open_world();
+	measure("bpfrt_map_lookup_elem, of 1024 keys of 8", look_up_words, KEYS);
+	measure("count, bpfrt_world_run, a key there", count_in_world, KEYS);
 	measure("bpfrt_map_lookup_elem", look_up, PACKETS);
 	measure("update, delete, two advances and a reap", change, 1);
 	measure("exit_one, bpfrt_world_run", run_in_world, PACKETS);
 	measure("exit_one, start, steps and drop", step_in_world, PACKETS);
 	bpfrt_world_close(&world);
 #endif
+	bpfrt_table_close(&table);
+	bpfrt_reader_close(&reader);
+	bpfrt_prog_close(&counter);
 	bpfrt_prog_close(&one);
 	bpfrt_prog_close(&sum);
 	bpfrt_prog_close(&filter);

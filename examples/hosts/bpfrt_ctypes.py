@@ -9,18 +9,27 @@ The methods that both classes have give the same, and raise the same by name. He
 
 - a program may be loaded at any time, a map only before the first call that needs them all (`put`, `get`, `delete`, `start`, `reap`,
   `advance`, or a run of a program that names one);
-- `run_buffer`, `run_packet`, `load_filter`, `load_array` and `load_policy` come to it, and `dump`, `stat`, `batch` and `ask` are missing;
+- `run_buffer`, `run_packet`, `run_packets`, `load_filter`, `load_array` and `load_policy` come to it, and `dump`, `stat`, `batch` and
+  `ask` are missing;
 - `reap` says only whether an element was reclaimed;
 - want of memory is a MemoryError, and nothing has changed.
 
 A call cannot be cut off in its midst, so a Runtime does not break. Threads may share one: calls wait for one another. The child of a
-fork makes a Runtime of its own."""
+fork makes a Runtime of its own.
+
+A Table is a map of its own, over which up to eight threads run programs at the same time while another changes it:
+
+    table = Table(bpf, readers=2, elements=1000, key_words=1, value_words=2)
+    table.set([7], [0, 0])
+    value = table.reader().run(program, context)  # a reader for each thread"""
 import array
 import ctypes
 import errno
+import itertools
 import operator
 import os
 import re
+import struct
 import threading
 
 NUMBER = "(?:0|[1-9][0-9]{0,18})"
@@ -42,6 +51,15 @@ class Shape(ctypes.Structure):
     _fields_ = [(name, ctypes.c_uint32) for name in ("type", "key_size", "value_size", "max_entries", "spare", "reuse_limit")]
 
 
+class TableShape(ctypes.Structure):
+    _fields_ = [*((name, ctypes.c_uint32) for name in ("readers", "buckets", "elements", "key_words", "value_words", "values")),
+                ("first", ctypes.c_uint64), ("second", ctypes.c_uint64)]
+
+
+class TableStat(ctypes.Structure):
+    _fields_ = [(name, ctypes.c_uint64) for name in ("free", "waiting", "seats")]
+
+
 HANDLE, WHY, SHAPES = ctypes.POINTER(Handle), ctypes.POINTER(Refusal), ctypes.POINTER(Shape)
 BYTES, SIZE, U32, U64 = ctypes.c_void_p, ctypes.c_size_t, ctypes.c_uint32, ctypes.c_uint64
 MAPS, VALUE = ctypes.POINTER(U32), ctypes.POINTER(U64)
@@ -57,6 +75,11 @@ CALLS = {
     "map_delete_elem": [HANDLE, U32, BYTES, SIZE], "world_run": [HANDLE, U32, BYTES, SIZE, VALUE],
     "world_start": [HANDLE, U32, BYTES, SIZE], "world_step": [HANDLE, U32, VALUE], "world_drop": [HANDLE, U32],
     "world_advance": [HANDLE], "world_reap": [HANDLE],
+    "prog_run_packets": [HANDLE, BYTES, SIZE, BYTES, SIZE, BYTES, SIZE], "table_open": [HANDLE, ctypes.POINTER(TableShape)],
+    "table_reader": [HANDLE, HANDLE], "table_update_elem": [HANDLE, VALUE, SIZE, VALUE, SIZE, U64],
+    "table_lookup_elem": [HANDLE, VALUE, SIZE, VALUE, SIZE], "table_delete_elem": [HANDLE, VALUE, SIZE], "table_reclaim": [HANDLE],
+    "table_stat": [HANDLE, ctypes.POINTER(TableStat)], "reader_run": [HANDLE, HANDLE, BYTES, SIZE, VALUE],
+    "reader_run_packet": [HANDLE, HANDLE, BYTES, SIZE, U32, VALUE],
 }
 
 
@@ -85,6 +108,12 @@ def library_at(path):
 def checked_number(number):
     if not 0 <= operator.index(number) < 1 << 64:
         raise ValueError(f"{number} is no number below 2^64")
+    return operator.index(number)
+
+
+def checked_u32(number):
+    if checked_number(number) > LARGEST:
+        raise ValueError(f"{number} is no number below 2^32")
     return operator.index(number)
 
 
@@ -160,6 +189,13 @@ class Runtime:
         if number < 0:
             raise OSError(-number, os.strerror(-number), name)
         return number
+
+    def _called(self, name, held, *given):
+        """The same, with want of memory as a MemoryError."""
+        try:
+            return self._call(name, held, *given)
+        except OSError as error:
+            raise MemoryError(name) if error.errno == errno.ENOMEM else error from None
 
     def _opened(self, name, *given):
         """A new handle that a call opens."""
@@ -405,14 +441,28 @@ class Runtime:
         """Runs a filter on a packet, of which so many bytes were on the wire: what the classic program returns."""
         with self._turn:
             held, (room, size) = self._program(program).held, lent(packet)
-            value, length = U64(), size if length is None else checked_number(length)
-            if length > LARGEST:
-                raise ValueError(f"{length} is no length of a packet")
+            value, length = U64(), size if length is None else checked_u32(length)
             try:
                 self._call("prog_run_packet", held, room, size, length, value)
             except OSError as error:
                 raise Refused(63, "the program is no filter") if error.errno == errno.EINVAL else error
             return value.value
+
+    def run_packets(self, program, packets):
+        """Runs a filter on packets in one call, each of which is bytes, or a pair of bytes and how many were on the wire: an array of
+        the values."""
+        pairs = [(bytes_of(it[0]), checked_u32(it[1])) if isinstance(it, tuple) else (bytes_of(it), None) for it in packets]
+        data, sizes, count = b"".join(it for it, _ in pairs), [len(it) for it, _ in pairs], len(pairs)
+        lengths = [size if length is None else length for size, (_, length) in zip(sizes, pairs)]
+        rows = zip(itertools.accumulate(sizes, initial=0), sizes, lengths)
+        places = array.array("Q", struct.pack("=" + "QII" * count, *itertools.chain.from_iterable(rows)))
+        values = array.array("Q", bytes(8 * count))
+        with self._turn:
+            try:
+                self._call("prog_run_packets", self._program(program).held, data, len(data), lent(places)[0], count, lent(values)[0], count)
+            except OSError as error:
+                raise Refused(63, "the program is no filter") if error.errno == errno.EINVAL else error
+        return values
 
     def advance(self):
         """Ends the grace period, if it can end, and begins the next."""
@@ -423,3 +473,84 @@ class Runtime:
         """Reclaims an element: whether there was one."""
         with self._turn:
             return self._call("world_reap", self._made_world()) == 1
+
+
+def words_of(words):
+    """Numbers below 2^64 as the library reads them, and how many there are."""
+    words = [*map(checked_number, words)]
+    return (U64 * max(1, len(words)))(*words), len(words)
+
+
+class Table:
+    """A map of keys and values of so many words, of 8 bytes each. Where they are per_reader, each reader has values of its own, and `get`
+    gives their sums. Errors are OSErrors, as bpfrt.h tells them."""
+
+    def __init__(self, bpf, readers, elements, key_words, value_words, per_reader=False):
+        self._bpf, self._held, self._turn = bpf, Held(bpf._library), threading.Lock()
+        numbers = [*map(checked_u32, (readers, elements // 4 + 1, elements, key_words, value_words, bool(per_reader)))]
+        self._value_words, self._more = value_words, [0] * (value_words * (readers - 1) if per_reader else 0)
+        bpf._called("table_open", self._held, TableShape(*numbers, *struct.unpack("=QQ", os.urandom(16))))
+
+    def _on(self, call, *given):
+        with self._turn:
+            return self._bpf._call(call, self._held, *given)
+
+    def set(self, key, value, flags=0):
+        """Sets a key's value: flags 0 any key, 1 only a new one, 2 only one that is there. Of values per reader it is the first; the
+        others begin with zeros."""
+        self._on("table_update_elem", *words_of(key), *words_of([*value, *self._more]), checked_number(flags))
+
+    def get(self, key):
+        """The value's words, or None."""
+        room = (U64 * max(1, self._value_words))()
+        try:
+            self._on("table_lookup_elem", *words_of(key), room, self._value_words)
+        except FileNotFoundError:
+            return None
+        return room[:self._value_words]
+
+    def remove(self, key):
+        self._on("table_delete_elem", *words_of(key))
+
+    def reclaim(self):
+        """Frees what was removed or replaced, and no run can hold any more: how many."""
+        return self._on("table_reclaim")
+
+    def stat(self):
+        """How many elements are free, how many wait to be reclaimed, and how many seats no reader has."""
+        told = TableStat()
+        self._on("table_stat", told)
+        return told.free, told.waiting, told.seats
+
+    def reader(self):
+        """A reader, whose seat no other gets."""
+        made = Reader(self._bpf)
+        with self._turn:
+            self._bpf._called("table_reader", made._held, self._held.handle)
+        return made
+
+
+class Reader:
+    """Runs programs over a table, for one thread at a time. It has handles of its own of them."""
+
+    def __init__(self, bpf):
+        self._bpf, self._held, self._programs, self._turn = bpf, Held(bpf._library), {}, threading.Lock()
+
+    def _ran(self, call, program, data, *given):
+        value, (room, size) = U64(), lent(data)
+        with self._turn:
+            if program not in self._programs:
+                shared = Held(self._bpf._library)
+                with self._bpf._turn:
+                    self._bpf._called("prog_share", shared, self._bpf._program(program).held.handle)
+                self._programs[program] = shared
+            self._bpf._call(call, self._held, self._programs[program].handle, room, size, *given, value)
+        return value.value
+
+    def run(self, program, context=b""):
+        """Runs a program on a context: its exit value."""
+        return self._ran("reader_run", program, context)
+
+    def run_packet(self, program, packet, length=None):
+        """The same on a packet, of which so many bytes were on the wire."""
+        return self._ran("reader_run_packet", program, packet, checked_u32(memoryview(packet).nbytes if length is None else length))

@@ -11,7 +11,10 @@
  *
  *   -EBADF   the handle holds nothing, or something else         -EBUSY   the handle that is to be opened is open
  *   -EINVAL  an argument is none that the call takes              -ENOMEM  memory ran out, and nothing has changed
- *   -EACCES  the verifier refuses the program                     -EOPNOTSUPP  the program names a map, so it runs in a world alone
+ *   -ENOENT  no element has the key                               -EEXIST  an element has the key
+ *   -E2BIG   no place is left                                     -ENOSPC  no element of the table is free, or no seat
+ *   -EACCES  the verifier refuses the program
+ *   -EOPNOTSUPP  the program names a map, so it runs in a world or over a table alone; or no table serves it, and a world does
  *
  * and those that stand at a call. Where a call fails, what it would have written is as before.
  *
@@ -19,10 +22,11 @@
  *
  *   - A handle is all zeros, or was written last by these calls. It is not copied: each copy would free the same memory. It may be
  *     moved: copied, if its old place is then set to zero.
- *   - No two calls at once take the same handle. A thread takes a handle of its own (bpfrt_prog_share); it may be another thread's
- *     before, if a lock, a start or a join stands between.
+ *   - No two calls at once take the same handle. A thread takes a handle of its own (bpfrt_prog_share, bpfrt_table_reader); it may
+ *     be another thread's before, if a lock, a start or a join stands between.
  *   - A pointer leads to as many bytes, or items, as its length says. It may be null where that is 0,
  *     and is answered -EINVAL where it is not. `why` and `value` may be null.
+ *   - Memory that a call writes is none that it reads.
  *   - No call comes from a signal handler, or from the child of a fork of a process with threads.
  *   - malloc, realloc and free are those of one allocator, and align a block to each power of two up to 16 that divides its size.
  */
@@ -44,6 +48,18 @@ struct bpfrt_prog {
 
 /* A world: maps, programs that are bound to them, and their runs. */
 struct bpfrt_world {
+	void *at;
+	uint32_t state;
+};
+
+/* A table: one map, which one thread changes while others run programs over it. */
+struct bpfrt_table {
+	void *at;
+	uint32_t state;
+};
+
+/* A reader: one thread's seat at a table. */
+struct bpfrt_reader {
 	void *at;
 	uint32_t state;
 };
@@ -78,6 +94,48 @@ struct bpfrt_map_shape {
 	uint32_t reuse_limit;
 };
 
+/* What a world has. Each element of an array is linked. */
+struct bpfrt_world_stat {
+	uint64_t linked;
+	uint64_t unlinked; /* and not reclaimed yet */
+	uint64_t reclaimed; /* since the world was opened */
+	uint64_t worn; /* slots that were used as often as they may be */
+	uint64_t runs;
+	uint64_t sections; /* runs that are in one */
+};
+
+/* A packet that lies among bytes: how many stand before it, how many of it were captured, and how many it had on the wire. */
+struct bpfrt_packet {
+	uint64_t at;
+	uint32_t caplen;
+	uint32_t len;
+};
+
+/* Whose the values of a table are. With BPFRT_TABLE_PER_READER each reader has a value of its own under a key, and no two threads
+   store to the same: so counters lose nothing. An update sets all of them, and a lookup gives their sums. */
+enum bpfrt_table_values { BPFRT_TABLE_SHARED = 0, BPFRT_TABLE_PER_READER = 1 };
+
+/* A table has at most 8 readers, 16777216 buckets, 16777216 elements, and 8 words, of 8 bytes, in a key and in a value. Programs run
+   over one that has at most 131072 elements. A key has its place in one of two buckets, of 8 places each, which `first` and `second`
+   choose: numbers that the host draws at random, and tells nobody, or keys could be chosen that fall together. */
+struct bpfrt_table_shape {
+	uint32_t readers;
+	uint32_t buckets; /* 1 or more: bpfrt_table_buckets */
+	uint32_t elements;
+	uint32_t key_words;
+	uint32_t value_words;
+	uint32_t values; /* enum bpfrt_table_values */
+	uint64_t first;
+	uint64_t second;
+};
+
+/* What a table has. All other elements are linked. */
+struct bpfrt_table_stat {
+	uint64_t free;
+	uint64_t waiting; /* unlinked, and not reclaimed yet */
+	uint64_t seats; /* that no reader has yet */
+};
+
 /* The calls as the library exports them. A pointer that is given to them is never null, not even with the length 0. */
 int32_t bpfrt0_prog_open(struct bpfrt_prog *prog, const void *insns, size_t size, size_t ctx_len, const struct
 	bpfrt_map_shape *maps, size_t nr_maps, struct bpfrt_refusal *why);
@@ -91,6 +149,8 @@ int32_t bpfrt0_prog_run(struct bpfrt_prog *prog, const void *ctx, size_t len, ui
 int32_t bpfrt0_prog_run_many(struct bpfrt_prog *prog, const void *ctxs, size_t size, uint64_t *values, size_t count);
 int32_t bpfrt0_prog_run_packet(struct bpfrt_prog *prog, const void *packet, size_t caplen, uint32_t len, uint64_t
 	*value);
+int32_t bpfrt0_prog_run_packets(struct bpfrt_prog *prog, const void *bytes, size_t size, const struct bpfrt_packet *packets, size_t
+	nr_packets, uint64_t *values, size_t count);
 int32_t bpfrt0_close(void *handle);
 int32_t bpfrt0_world_open(struct bpfrt_world *world, const struct bpfrt_map_shape *maps, size_t nr_maps, struct
 	bpfrt_refusal *why);
@@ -100,12 +160,27 @@ int32_t bpfrt0_map_update_elem(struct bpfrt_world *world, uint32_t map, const vo
 int32_t bpfrt0_map_lookup_elem(struct bpfrt_world *world, uint32_t map, const void *key, size_t key_size, void *value,
 	size_t value_size);
 int32_t bpfrt0_map_delete_elem(struct bpfrt_world *world, uint32_t map, const void *key, size_t key_size);
+int32_t bpfrt0_map_get_next_key(struct bpfrt_world *world, uint32_t map, const void *key, size_t key_size, void *next, size_t
+	next_size);
 int32_t bpfrt0_world_run(struct bpfrt_world *world, uint32_t prog, const void *ctx, size_t len, uint64_t *value);
 int32_t bpfrt0_world_start(struct bpfrt_world *world, uint32_t prog, const void *ctx, size_t len);
 int32_t bpfrt0_world_step(struct bpfrt_world *world, uint32_t run, uint64_t *value);
 int32_t bpfrt0_world_drop(struct bpfrt_world *world, uint32_t run);
 int32_t bpfrt0_world_advance(struct bpfrt_world *world);
 int32_t bpfrt0_world_reap(struct bpfrt_world *world);
+int32_t bpfrt0_world_stat(struct bpfrt_world *world, struct bpfrt_world_stat *stat);
+int32_t bpfrt0_table_open(struct bpfrt_table *table, const struct bpfrt_table_shape *shape);
+int32_t bpfrt0_table_reader(struct bpfrt_reader *reader, struct bpfrt_table *table);
+int32_t bpfrt0_table_update_elem(struct bpfrt_table *table, const uint64_t *key, size_t key_words, const uint64_t *value, size_t
+	value_words, uint64_t flags);
+int32_t bpfrt0_table_lookup_elem(struct bpfrt_table *table, const uint64_t *key, size_t key_words, uint64_t *value, size_t
+	value_words);
+int32_t bpfrt0_table_delete_elem(struct bpfrt_table *table, const uint64_t *key, size_t key_words);
+int32_t bpfrt0_table_reclaim(struct bpfrt_table *table);
+int32_t bpfrt0_table_stat(struct bpfrt_table *table, struct bpfrt_table_stat *stat);
+int32_t bpfrt0_reader_run(struct bpfrt_reader *reader, struct bpfrt_prog *prog, const void *ctx, size_t len, uint64_t *value);
+int32_t bpfrt0_reader_run_packet(struct bpfrt_reader *reader, struct bpfrt_prog *prog, const void *packet, size_t caplen, uint32_t
+	len, uint64_t *value);
 
 /* Something to point at where there is nothing. */
 static inline const void *bpfrt_some(const void *at)
@@ -134,6 +209,12 @@ static inline const uint32_t *bpfrt_no_u32s(void)
 static inline uint64_t *bpfrt_no_values(void)
 {
 	static uint64_t none;
+	return &none;
+}
+
+static inline const struct bpfrt_packet *bpfrt_no_packets(void)
+{
+	static const struct bpfrt_packet none = {0, 0, 0};
 	return &none;
 }
 
@@ -220,8 +301,8 @@ static inline int32_t bpfrt_prog_run_many(struct bpfrt_prog *prog, const void *c
 }
 
 /* Runs a filter on a packet of `caplen` captured bytes and `len` on the wire, of which it sees the first 248. Any program with
-   contexts of 256 bytes may be run so: it finds the captured length, the length on the wire (4 bytes each) and the bytes. -EINVAL where its contexts have another
-   length. */
+   contexts of 256 bytes may be run so: it finds the captured length, the length on the wire (4 bytes each) and the bytes. -EINVAL
+   where its contexts have another length. */
 static inline int32_t bpfrt_prog_run_packet(struct bpfrt_prog *prog, const void *packet, size_t caplen, uint32_t len, uint64_t
 	*value)
 {
@@ -229,6 +310,16 @@ static inline int32_t bpfrt_prog_run_packet(struct bpfrt_prog *prog, const void 
 	if (!packet && caplen)
 		return -22; /* -EINVAL */
 	return bpfrt0_prog_run_packet(prog, bpfrt_some(packet), caplen, len, value ? value : &none);
+}
+
+/* The same on `count` packets that lie among `size` bytes, as in a ring or a capture's file. -EINVAL also where one lies outside. */
+static inline int32_t bpfrt_prog_run_packets(struct bpfrt_prog *prog, const void *bytes, size_t size, const struct bpfrt_packet
+	*packets, uint64_t *values, size_t count)
+{
+	if ((!bytes && size) || ((!packets || !values) && count))
+		return -22; /* -EINVAL */
+	return bpfrt0_prog_run_packets(prog, bpfrt_some(bytes), size, packets ? packets : bpfrt_no_packets(), count, values ? values :
+		bpfrt_no_values(), count);
 }
 
 /* Closes the handle. The program is freed with its last handle. -EBADF where it is closed. */
@@ -243,9 +334,10 @@ static inline int32_t bpfrt_prog_close(struct bpfrt_prog *prog)
 static inline int32_t bpfrt_world_open(struct bpfrt_world *world, const struct bpfrt_map_shape *maps, size_t nr_maps, struct
 	bpfrt_refusal *why)
 {
+	struct bpfrt_refusal none;
 	if (!maps && nr_maps)
 		return -22; /* -EINVAL */
-	return bpfrt0_world_open(world, (maps ? maps : bpfrt_no_shapes()), nr_maps, why);
+	return bpfrt0_world_open(world, (maps ? maps : bpfrt_no_shapes()), nr_maps, why ? why : &none);
 }
 
 /* Adds a program, whose map 0 is the world's map maps[0], and so on: its number, from 0, at most 63. Runs, maps and the other
@@ -283,6 +375,17 @@ static inline int32_t bpfrt_map_delete_elem(struct bpfrt_world *world, uint32_t 
 	if (!key && key_size)
 		return -22; /* -EINVAL */
 	return bpfrt0_map_delete_elem(world, map, bpfrt_some(key), key_size);
+}
+
+/* Writes the least key of a map above a key, in the order of bytes, and with a key of no bytes the least of all. The key need not be
+   in the map, and is other memory than `next`. -ENOENT where there is none; -ENXIO; -EINVAL where the map's keys have another length
+   than `next`, or `key` is longer than 64 bytes. */
+static inline int32_t bpfrt_map_get_next_key(struct bpfrt_world *world, uint32_t map, const void *key, size_t key_size, void *next,
+	size_t next_size)
+{
+	if ((!key && key_size) || (!next && next_size))
+		return -22; /* -EINVAL */
+	return bpfrt0_map_get_next_key(world, map, bpfrt_some(key), key_size, bpfrt_room(next), next_size);
 }
 
 /* Runs a program of the world on a context, from its start to its exit, with nothing between its steps. -ENXIO where no program has
@@ -328,10 +431,118 @@ static inline int32_t bpfrt_world_reap(struct bpfrt_world *world)
 	return bpfrt0_world_reap(world);
 }
 
+/* Tells what the world has. */
+static inline int32_t bpfrt_world_stat(struct bpfrt_world *world, struct bpfrt_world_stat *stat)
+{
+	return bpfrt0_world_stat(world, stat);
+}
+
 /* Closes the handle, and frees the world. -EBADF where it is closed. */
 static inline int32_t bpfrt_world_close(struct bpfrt_world *world)
 {
 	return bpfrt0_close(world);
+}
+
+/* Tables. One thread changes a table by its handle, while those of its readers run programs over it. No call waits for another, and
+   none takes memory but those that open. */
+
+/* How many buckets a table needs that is half full when each of its elements is linked. */
+static inline uint32_t bpfrt_table_buckets(uint32_t elements)
+{
+	return (uint32_t)(elements / 4 + 1);
+}
+
+/* Opens a table of this shape, in which nothing is linked. -EBUSY; -EINVAL where no table may have the shape; -ENOMEM. */
+static inline int32_t bpfrt_table_open(struct bpfrt_table *table, const struct bpfrt_table_shape *shape)
+{
+	return bpfrt0_table_open(table, shape);
+}
+
+/* Opens `reader` with the table's next seat, for another thread: the first one that is opened has the first value of an update.
+   -EBUSY; -EBADF of `table`; -ENOSPC where each seat has been given, since none is given back; -ENOMEM. */
+static inline int32_t bpfrt_table_reader(struct bpfrt_reader *reader, struct bpfrt_table *table)
+{
+	return bpfrt0_table_reader(reader, table);
+}
+
+/* Puts a value under a key; with BPFRT_TABLE_PER_READER those of all readers, one behind another. A run finds the old value or the
+   new one, and misses no key that is there. Flags as of bpfrt_map_update_elem. A key that is there takes a free element, too, and the
+   old one waits for the runs that may have found it; where none is free, those are reclaimed first that no run can hold. -EEXIST,
+   -ENOENT; -ENOSPC where no element is free, until runs end; -E2BIG where both buckets of a new key are full; -EINVAL for a wrong
+   length or flag. */
+static inline int32_t bpfrt_table_update_elem(struct bpfrt_table *table, const uint64_t *key, size_t key_words, const uint64_t *value,
+	size_t value_words, uint64_t flags)
+{
+	if ((!key && key_words) || (!value && value_words))
+		return -22; /* -EINVAL */
+	return bpfrt0_table_update_elem(table, key ? key : bpfrt_no_values(), key_words, value ? value : bpfrt_no_values(),
+		value_words, flags);
+}
+
+/* Copies the value of a key; with BPFRT_TABLE_PER_READER the sums of all readers' words, modulo 2^64. Each word is read by itself:
+   what runs store meanwhile is in it or not. -ENOENT, -EINVAL. */
+static inline int32_t bpfrt_table_lookup_elem(struct bpfrt_table *table, const uint64_t *key, size_t key_words, uint64_t *value, size_t
+	value_words)
+{
+	if ((!key && key_words) || (!value && value_words))
+		return -22; /* -EINVAL */
+	return bpfrt0_table_lookup_elem(table, key ? key : bpfrt_no_values(), key_words, value ? value : bpfrt_no_values(),
+		value_words);
+}
+
+/* Removes a key. A run that has found it goes on with its value. -ENOENT, -EINVAL. */
+static inline int32_t bpfrt_table_delete_elem(struct bpfrt_table *table, const uint64_t *key, size_t key_words)
+{
+	if (!key && key_words)
+		return -22; /* -EINVAL */
+	return bpfrt0_table_delete_elem(table, key ? key : bpfrt_no_values(), key_words);
+}
+
+/* Reclaims the elements of removed and replaced values that no run can hold any more: how many. */
+static inline int32_t bpfrt_table_reclaim(struct bpfrt_table *table)
+{
+	return bpfrt0_table_reclaim(table);
+}
+
+/* Tells what the table has. */
+static inline int32_t bpfrt_table_stat(struct bpfrt_table *table, struct bpfrt_table_stat *stat)
+{
+	return bpfrt0_table_stat(table, stat);
+}
+
+/* Runs a program on a context over the reader's table, to its exit. Each map of the program is the table: a hash map of its lengths,
+   8 bytes for a word, whose other numbers do not count. The next call may run another program: so a filter is replaced while others
+   run, and what the table has stays. -EBADF of either; -EINVAL where the context has another length, a map is none of these, or the
+   table has over 131072 elements; -EOPNOTSUPP where the program stores less than 8 bytes to a value, or updates or deletes. */
+static inline int32_t bpfrt_reader_run(struct bpfrt_reader *reader, struct bpfrt_prog *prog, const void *ctx, size_t len, uint64_t
+	*value)
+{
+	uint64_t none;
+	if (!ctx && len)
+		return -22; /* -EINVAL */
+	return bpfrt0_reader_run(reader, prog, bpfrt_some(ctx), len, value ? value : &none);
+}
+
+/* The same on a packet, as bpfrt_prog_run_packet. */
+static inline int32_t bpfrt_reader_run_packet(struct bpfrt_reader *reader, struct bpfrt_prog *prog, const void *packet, size_t caplen,
+	uint32_t len, uint64_t *value)
+{
+	uint64_t none;
+	if (!packet && caplen)
+		return -22; /* -EINVAL */
+	return bpfrt0_reader_run_packet(reader, prog, bpfrt_some(packet), caplen, len, value ? value : &none);
+}
+
+/* Closes the handle. No other reader gets its seat. -EBADF where it is closed. */
+static inline int32_t bpfrt_reader_close(struct bpfrt_reader *reader)
+{
+	return bpfrt0_close(reader);
+}
+
+/* Closes the handle. Readers that are open go on, and the table is freed with the last of them. -EBADF where it is closed. */
+static inline int32_t bpfrt_table_close(struct bpfrt_table *table)
+{
+	return bpfrt0_close(table);
 }
 
 #ifdef __cplusplus
