@@ -17,7 +17,8 @@ fn run_through(world: &mut World, prog: ProgId, context: CtxBytes) -> Result<u64
     ensures fault { IfErr result (λ number. number ≢ pos 0) }
 {
     let start = Event::Start { prog, ctx: context };
-    let mut answer = world.apply(&start);
+    let mut answer = Answer::Moved;
+    world.apply_into(&start, &mut answer);
     let run = match &answer {
         Answer::Started(run) => *run,
         Answer::Refused(refusal) => return Err(number_of_refusal(*refusal)),

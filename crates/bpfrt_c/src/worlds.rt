@@ -6,6 +6,7 @@ ghost use Rattle.bpf_model.specs.declared.event.EventRefusal.{EventRefusal as Re
 ghost use Rattle.bpf_model.specs.declared.event.Event.TheVariants as events;
 ghost use Rattle.bpf_model.specs.declared.limits.TheConstants.{CTX_BYTES, KEY_BYTES, VALUE_BYTES};
 ghost use Rattle.host_values.specs.Values.{world_in};
+ghost use Rattle.view_laws.specs.Reactions.{read_reaction};
 ghost use Rattle.bpfrt_c.specs.Worlds.{FindsBytes, IsAnswer, IsNumberOf, Reacts, answer_number, refusal_error};
 
 use crate::number::{EAGAIN, EBADF, EBUSY, EINVAL, ENOENT, ENXIO, ESRCH};
@@ -15,6 +16,7 @@ use bpf_model::{
 use host_handle::Host;
 use host_values::Held;
 use std::alloc::Global;
+use world::World;
 
 /// The number of a refusal.
 pub(crate) fn number_of_refusal(refusal: EventRefusal) -> i32
@@ -138,25 +140,28 @@ pub extern "C" fn bpfrt0_map_delete_elem(
     number_by(alloc, host, &event)
 }
 
-/// Copies a value that was found, where the room has its length; answers with the number of another answer.
-fn put_value(answer: &Answer, value: &mut [u8]) -> i32
-    ensures copied { result ≡ pos 0 → FindsBytes answer.now value.new }
-    ensures missing { answer.now ≡ answers.Found None → result ≡ neg_ℤ (pos 2) }
+/// Copies the value of a key in a world, where the room has its length; answers with the number of another answer. It does what the
+/// event would do, which changes nothing, without an answer of its own.
+fn read_value(world: &World, map: u32, key: &[u8], value: &mut [u8]) -> i32
+    ensures copied { result ≡ pos 0 → FindsBytes (read_reaction world.now map key.now).0 value.new }
+    ensures missing { (read_reaction world.now map key.now).0 ≡ answers.Found None → result ≡ neg_ℤ (pos 2) }
+    ensures same { (read_reaction world.now map key.now).1 ≡ world.now }
     ensures unwritten { result ≢ pos 0 → value.new ≡ value.old }
 {
-    match answer {
-        Answer::Found(Some(found)) => {
-            let bytes = found.as_slice();
-            if bytes.len() != value.len() {
-                return EINVAL;
-            }
-            value.copy_from_slice(bytes);
-            0
-        }
-        Answer::Found(None) => ENOENT,
-        Answer::Refused(refusal) => number_of_refusal(*refusal),
-        _ => EINVAL,
+    let Some(chosen) = world.registry().map(MapId::new(map as usize)) else {
+        return ENXIO;
+    };
+    if key.len() != chosen.shape().key_len {
+        return EINVAL;
     }
+    let Some(bytes) = chosen.bytes_of(key) else {
+        return ENOENT;
+    };
+    if bytes.len() != value.len() {
+        return EINVAL;
+    }
+    value.copy_from_slice(bytes);
+    0
 }
 
 /// Copies the value of a key. 0, or -EBADF, -ENXIO; -EINVAL where the key or the room has another length; -ENOENT.
@@ -183,14 +188,15 @@ pub extern "C" fn bpfrt0_map_lookup_elem(
     if key.len() > KEY_BYTES {
         return EINVAL;
     }
-    let event = Event::Read {
-        map: MapId::new(map as usize),
-        key: array_of(key),
+    let Some(held) = host.take(alloc) else {
+        return EBADF;
     };
-    match apply(alloc, host, &event) {
-        Some(answer) => put_value(&answer, value),
-        None => EBADF,
-    }
+    let number = match held.as_ref() {
+        Held::World(world) => read_value(world, map, key, value),
+        _ => EBADF,
+    };
+    host.put(held);
+    number
 }
 
 /// The number of the run that an answer names, or that of another answer.
