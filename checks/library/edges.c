@@ -320,9 +320,11 @@ static void closed_table(void)
 	IS(bpfrt_table_stat(&table, &stat), -EBADF);
 	IS(bpfrt_reader_run(&reader, &prog, NULL, 0, &value), -EBADF);
 	IS(bpfrt_reader_run_packet(&reader, &prog, NULL, 0, 0, &value), -EBADF);
+	IS(bpfrt_table_serves(&table, &prog), -EBADF);
 	open_prog(&prog, exit_one, sizeof exit_one, 0, NULL, 0);
 	IS(bpfrt_reader_run(&reader, &prog, NULL, 0, &value), -EBADF);
 	IS(bpfrt_reader_run_packet(&reader, &prog, NULL, 0, 0, &value), -EBADF);
+	IS(bpfrt_table_serves(&table, &prog), -EBADF);
 	IS(value == 6 && stat.free == 7 && stat.seats == 7, true);
 	IS(bpfrt_prog_run(&prog, NULL, 0, &value), 0);
 	IS(bpfrt_prog_close(&prog), 0);
@@ -593,13 +595,14 @@ static void runs_over_table(void)
 	IS(bpfrt_table_close(&table), 0);
 }
 
-/* What one run of a program answers over a table. */
-static int32_t ran(struct bpfrt_reader *reader, const unsigned char *insns, size_t size, size_t ctx_len, const struct bpfrt_map_shape
+/* What one run of a program answers over a table, which tells it before. */
+static int32_t ran(struct bpfrt_table *table, struct bpfrt_reader *reader, const unsigned char *insns, size_t size, size_t ctx_len, const struct bpfrt_map_shape
 	*shapes, size_t nr_shapes, uint64_t *value)
 {
 	struct bpfrt_prog prog = {0};
 	open_prog(&prog, insns, size, ctx_len, shapes, nr_shapes);
 	int32_t status = bpfrt_reader_run(reader, &prog, many, ctx_len, value);
+	IS(bpfrt_table_serves(table, &prog), status);
 	IS(bpfrt_prog_close(&prog), 0);
 	return status;
 }
@@ -619,19 +622,19 @@ static void served(void)
 	IS(bpfrt_table_update_elem(&table, &key, 1, &first, 1, 0), 0);
 	for (size_t number = 0; number < sizeof others / sizeof *others; number++) {
 		const struct bpfrt_map_shape both[] = {words, others[number]};
-		IS(ran(&reader, names_map, sizeof names_map, 0, &others[number], 1, &value), -EINVAL);
-		IS(ran(&reader, names_map, sizeof names_map, 0, both, 2, &value), -EINVAL);
+		IS(ran(&table, &reader, names_map, sizeof names_map, 0, &others[number], 1, &value), -EINVAL);
+		IS(ran(&table, &reader, names_map, sizeof names_map, 0, both, 2, &value), -EINVAL);
 	}
-	IS(ran(&reader, counts_in_byte, sizeof counts_in_byte, 8, &words, 1, &value), -EOPNOTSUPP);
-	IS(ran(&reader, deletes, sizeof deletes, 8, &words, 1, &value), -EOPNOTSUPP);
+	IS(ran(&table, &reader, counts_in_byte, sizeof counts_in_byte, 8, &words, 1, &value), -EOPNOTSUPP);
+	IS(ran(&table, &reader, deletes, sizeof deletes, 8, &words, 1, &value), -EOPNOTSUPP);
 	IS(value, 9);
-	IS(ran(&reader, names_map, sizeof names_map, 0, same, 2, &value), 0);
+	IS(ran(&table, &reader, names_map, sizeof names_map, 0, same, 2, &value), 0);
 	IS(value, 7);
-	IS(ran(&reader, exit_one, sizeof exit_one, 0, NULL, 0, &value), 0);
+	IS(ran(&table, &reader, exit_one, sizeof exit_one, 0, NULL, 0, &value), 0);
 	IS(value, 1);
-	IS(ran(&reader, exit_byte, sizeof exit_byte, 256, same, 2, &value), 0);
+	IS(ran(&table, &reader, exit_byte, sizeof exit_byte, 256, same, 2, &value), 0);
 	IS(value, 0);
-	IS(ran(&reader, counts, sizeof counts, 8, same, 2, &value), 0);
+	IS(ran(&table, &reader, counts, sizeof counts, 8, same, 2, &value), 0);
 	IS(value, 301);
 	IS(bpfrt_reader_close(&reader), 0);
 	IS(bpfrt_table_close(&table), 0);
@@ -646,8 +649,8 @@ static void many_elements(void)
 	for (uint32_t more = 0; more < 2; more++) {
 		open_table(&table, table_shape(1, 1, 131072 + more));
 		IS(bpfrt_table_reader(&reader, &table), 0);
-		IS(ran(&reader, names_map, sizeof names_map, 0, &words, 1, &value), more ? -EINVAL : 0);
-		IS(ran(&reader, exit_one, sizeof exit_one, 0, NULL, 0, &value), more ? -EINVAL : 0);
+		IS(ran(&table, &reader, names_map, sizeof names_map, 0, &words, 1, &value), more ? -EINVAL : 0);
+		IS(ran(&table, &reader, exit_one, sizeof exit_one, 0, NULL, 0, &value), more ? -EINVAL : 0);
 		IS(bpfrt_reader_close(&reader), 0);
 		IS(bpfrt_table_close(&table), 0);
 	}

@@ -178,6 +178,7 @@ int32_t bpfrt0_table_lookup_elem(struct bpfrt_table *table, const uint64_t *key,
 int32_t bpfrt0_table_delete_elem(struct bpfrt_table *table, const uint64_t *key, size_t key_words);
 int32_t bpfrt0_table_reclaim(struct bpfrt_table *table);
 int32_t bpfrt0_table_stat(struct bpfrt_table *table, struct bpfrt_table_stat *stat);
+int32_t bpfrt0_table_serves(struct bpfrt_table *table, struct bpfrt_prog *prog);
 int32_t bpfrt0_reader_run(struct bpfrt_reader *reader, struct bpfrt_prog *prog, const void *ctx, size_t len, uint64_t *value);
 int32_t bpfrt0_reader_run_packet(struct bpfrt_reader *reader, struct bpfrt_prog *prog, const void *packet, size_t caplen, uint32_t
 	len, uint64_t *value);
@@ -508,6 +509,13 @@ static inline int32_t bpfrt_table_reclaim(struct bpfrt_table *table)
 static inline int32_t bpfrt_table_stat(struct bpfrt_table *table, struct bpfrt_table_stat *stat)
 {
 	return bpfrt0_table_stat(table, stat);
+}
+
+/* Whether readers of the table may run the program, so that a host knows it before it hands the program to their threads: 0, or as
+   bpfrt_reader_run answers. */
+static inline int32_t bpfrt_table_serves(struct bpfrt_table *table, struct bpfrt_prog *prog)
+{
+	return bpfrt0_table_serves(table, prog);
 }
 
 /* Runs a program on a context over the reader's table, to its exit. Each map of the program is the table: a hash map of its lengths,

@@ -2,7 +2,8 @@
 ghost use Rattle.std.specs.Prelude.{◌≡◌, ◌≢◌, pos, neg_ℤ, Some, None, IsOk, IfSome, IfOk, IfErr, OnErr, length};
 ghost use Rattle.classic_program.specs.Context.{context_bytes};
 ghost use Rattle.classic_program.specs.declared.data.Data.TheVariants.{Packet};
-ghost use Rattle.host_values.specs.Values.{program_in, reader_in};
+ghost use Rattle.host_tables.specs.Reading.{CanServe};
+ghost use Rattle.host_values.specs.Values.{program_in, reader_in, table_in};
 ghost use Rattle.bpfrt_c.specs.Tables.{RunsIn, RunsOnPacketIn, Serves};
 
 use crate::number::{EBADF, EINVAL, EOPNOTSUPP};
@@ -61,6 +62,53 @@ fn run_over_on_packet(held: &mut Held, program: &Held, packet: &[u8], wire: u32)
         Ok(value) => Ok(value),
         Err(fault) => Err(number_of(fault)),
     }
+}
+
+/// Whether readers of the table that is held may run the program that is held, if they are.
+fn serves_held(held: &Held, program: &Held) -> i32
+    ensures serves { result ≡ pos 0 → IfSome (program_in (Some program.now)) (λ p. IfSome (table_in (Some held.now)) (λ t.
+        CanServe t.table.shape p.checked)) }
+    ensures served { IfSome (program_in (Some program.now)) (λ p. IfSome (table_in (Some held.now)) (λ t.
+        CanServe t.table.shape p.checked → result ≡ pos 0)) }
+    ensures none { table_in (Some held.now) ≡ None → result ≡ neg_ℤ (pos 9) }
+{
+    let Held::Table(table) = held else {
+        return EBADF;
+    };
+    let Held::Program(program) = program else {
+        return EBADF;
+    };
+    match table.serves(program) {
+        Ok(()) => 0,
+        Err(fault) => number_of(fault),
+    }
+}
+
+/// Whether readers of a table may run a program on a context of its length: so a host learns it before it hands the program to their
+/// threads.
+///
+/// 0, or -EBADF where the handles hold no table and no program; -EINVAL where a map of the program is no hash map of the table's lengths,
+/// or the table has over 131,072 elements; -EOPNOTSUPP where the program stores less than 8 bytes to an element, or changes a map.
+#[unsafe(no_mangle)]
+pub extern "C" fn bpfrt0_table_serves(alloc: Global, host: &mut Host, prog: &mut Host) -> i32
+    ensures serves { result ≡ pos 0 → IfSome (program_in prog.old.handle.held) (λ p. IfSome (table_in host.old.handle.held) (λ t.
+        CanServe t.table.shape p.checked)) }
+    ensures served { IfSome (program_in prog.old.handle.held) (λ p. IfSome (table_in host.old.handle.held) (λ t.
+        CanServe t.table.shape p.checked → result ≡ pos 0)) }
+    ensures kept { host.new.handle.held ≡ host.old.handle.held }
+    ensures prog { prog.new.handle.held ≡ prog.old.handle.held }
+{
+    let Some(program) = prog.take(alloc) else {
+        return EBADF;
+    };
+    let Some(held) = host.take(alloc) else {
+        prog.put(program);
+        return EBADF;
+    };
+    let number = serves_held(&held, &program);
+    host.put(held);
+    prog.put(program);
+    number
 }
 
 /// Runs a program over the table of a reader, each of whose maps is the table, to its exit, and writes its value. It takes no

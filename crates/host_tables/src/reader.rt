@@ -18,6 +18,24 @@ use map_table::{MapTable, ReadSeat};
 use std::marker::Model;
 use std::sync::Arc;
 
+/// Whether a program may run over the table, and if not, why.
+pub(crate) fn serves(table: &MapTable, program: &HostProgram) -> Result<(), TableRunFault>
+    ensures maps { (result ≡ Err Maps) ↔ (ServesMaps table.now.shape program.now.checked.shapes → ⊥) }
+    ensures words { (result ≡ Err SubWord) ↔ (ServesMaps table.now.shape program.now.checked.shapes
+        × StoresSubWords program.now.checked) }
+    ensures length { result ≢ Err Length }
+    ensures serves { OnOk result (CanServe table.now.shape program.now.checked) }
+    ensures served { CanServe table.now.shape program.now.checked → IsOk result }
+{
+    if !fits(table, program.verified()) {
+        return Err(TableRunFault::Maps);
+    }
+    if program.stores_sub_words() {
+        return Err(TableRunFault::SubWord);
+    }
+    Ok(())
+}
+
 /// A seat at a table that it shares, outside a section. Contracts see what the reader did and saw there.
 #[derive(Drop)]
 pub struct HostReader {
@@ -45,24 +63,6 @@ impl HostReader {
         HostReader { table, seat }
     }
 
-    /// Whether a program may run over the table, and if not, why.
-    fn serves(&self, program: &HostProgram) -> Result<(), TableRunFault>
-        ensures maps { (result ≡ Err Maps) ↔ (ServesMaps self.now.table.shape program.now.checked.shapes → ⊥) }
-        ensures words { (result ≡ Err SubWord) ↔ (ServesMaps self.now.table.shape program.now.checked.shapes
-            × StoresSubWords program.now.checked) }
-        ensures length { result ≢ Err Length }
-        ensures fits { OnOk result (ServesMaps self.now.table.shape program.now.checked.shapes) }
-        ensures serves { OnOk result (StoresSubWords program.now.checked → ⊥) }
-    {
-        if !fits(&self.table, program.verified()) {
-            return Err(TableRunFault::Maps);
-        }
-        if program.stores_sub_words() {
-            return Err(TableRunFault::SubWord);
-        }
-        Ok(())
-    }
-
     /// Runs a program over the table, each of whose maps is the table, to its exit. The outermost lock of the run opens the
     /// reader's section, and the section ends with it.
     ///
@@ -83,7 +83,7 @@ impl HostReader {
         if context.len() != program.ctx_len() {
             return Err(TableRunFault::Length);
         }
-        self.serves(program)?;
+        serves(&self.table, program)?;
         let context: CtxBytes = array_of(context);
         Ok(run_to_exit(&self.table, &mut self.seat, program.verified(), &context))
     }
@@ -107,7 +107,7 @@ impl HostReader {
         if program.ctx_len() != PACKET_CONTEXT {
             return Err(TableRunFault::Length);
         }
-        self.serves(program)?;
+        serves(&self.table, program)?;
         let context = packet_context(packet, wire);
         Ok(run_to_exit(&self.table, &mut self.seat, program.verified(), &context))
     }

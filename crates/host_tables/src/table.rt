@@ -1,13 +1,15 @@
 //! A table with its writer.
-ghost use Rattle.std.specs.Prelude.{◌≡◌, ◌↔◌, ◌∷◌, ℕ, List, Decides, Err, None, IfSome, IfNone, IfOk, IfErr, OnOk, length, true, false};
+ghost use Rattle.std.specs.Prelude.{◌≡◌, ◌↔◌, ◌∷◌, ℕ, List, Decides, Err, None, IfSome, IfNone, IfOk, IfErr, IsOk, OnOk, length, true, false};
 ghost use Rattle.map_table.specs.Held.{IsReady, IsSized};
 ghost use Rattle.map_table.specs.Values.{stored_of};
+ghost use Rattle.host_tables.specs.Reading.{CanServe};
 ghost use Rattle.host_tables.specs.Tables.{IsNewTable, IsNotSet, Reads, Reclaims, Removes, Seeks, Sets};
 ghost use Rattle.host_tables.specs.declared.fault.TableFault.TheVariants.{Shape};
 
-use crate::fault::{How, SetFault, TableFault};
-use crate::reader::HostReader;
+use crate::fault::{How, SetFault, TableFault, TableRunFault};
+use crate::reader::{HostReader, serves};
 use crate::writing::{make_room, put_under, read_sums, seek};
+use host_programs::HostProgram;
 use map_table::{
     MAX_BUCKETS, MAX_ELEMENTS, MAX_READERS, MAX_WORDS, MapTable, ReadSeat, TableShape, Writer,
 };
@@ -81,6 +83,16 @@ impl HostTable {
         ensures sized { IsSized result }
     {
         self.table.shape()
+    }
+
+    /// Whether readers of the table may run a program, and if not, why.
+    ///
+    /// Errors: `Maps`, `SubWord`.
+    pub fn serves(&self, program: &HostProgram) -> Result<(), TableRunFault>
+        ensures serves { OnOk result (CanServe self.now.table.shape program.now.checked) }
+        ensures served { CanServe self.now.table.shape program.now.checked → IsOk result }
+    {
+        serves(&self.table, program)
     }
 
     /// A reader, of which each thread needs its own: that of the next seat, the first one's first. `None` where each seat has been
