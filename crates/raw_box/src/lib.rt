@@ -9,8 +9,8 @@ ghost use Rattle.std.specs.Box.Ownership.{box_owns};
 use std::alloc::Allocator;
 use std::marker::Model;
 
-/// What a box is made of: where its value lies, and whose memory that is. It owns the value, and frees nothing where it is
-/// dropped, so that it is made a box again before that.
+/// What a box is made of: where its value lies, and whose memory that is. It owns the value, and has no `Drop`: only `into_box`
+/// takes it.
 pub struct RawBox<T, A: Allocator> {
     pub at: *mut T,
     pub alloc: A,
