@@ -92,6 +92,7 @@ fn next_held(held: &Held, map: u32, bound: &[u8], next: &mut [u8]) -> i32
     ensures none { result ≡ neg_ℤ (pos 2) → IfSome (world_in (Some held.now)) (λ w.
         HasNone (slice_get w.maps map) (bound_in_c bound.now)) }
     ensures other { world_in (Some held.now) ≡ None → result ≡ neg_ℤ (pos 9) }
+    ensures no_map { IfSome (world_in (Some held.now)) (λ w. slice_get w.maps map ≡ None → result ≡ neg_ℤ (pos 6)) }
     ensures unwritten { result ≢ pos 0 → next.new ≡ next.old }
 {
     let Held::World(world) = held else {
@@ -128,6 +129,7 @@ pub extern "C" fn bpfrt0_map_get_next_key(
     ensures missing { result ≡ neg_ℤ (pos 2) → IfSome (world_in host.old.handle.held) (λ w.
         HasNone (slice_get w.maps map) (bound_in_c bound.now)) }
     ensures none { world_in host.old.handle.held ≡ None → result ≡ neg_ℤ (pos 9) }
+    ensures no_map { IfSome (world_in host.old.handle.held) (λ w. slice_get w.maps map ≡ None → result ≡ neg_ℤ (pos 6)) }
     ensures unwritten { result ≢ pos 0 → next.new ≡ next.old }
     ensures kept { host.new.handle.held ≡ host.old.handle.held }
 {

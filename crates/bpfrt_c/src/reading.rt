@@ -1,5 +1,5 @@
 //! Readers of tables: runs of programs over a table.
-ghost use Rattle.std.specs.Prelude.{◌≡◌, ◌≢◌, pos, neg_ℤ, Some, None, IsOk, IfSome, IfOk, IfErr, OnErr, length};
+ghost use Rattle.std.specs.Prelude.{◌≡◌, ◌≢◌, pos, neg_ℤ, Some, None, Err, IsOk, IfSome, IfOk, IfErr, OnErr, length};
 ghost use Rattle.classic_program.specs.Context.{context_bytes};
 ghost use Rattle.classic_program.specs.declared.data.Data.TheVariants.{Packet};
 ghost use Rattle.host_tables.specs.Reading.{CanServe};
@@ -28,6 +28,8 @@ fn run_over(held: &mut Held, program: &Held, context: &[u8]) -> Result<u64, i32>
         (reader_in (Some held.old)) (reader_in (Some held.new))) }
     ensures ran { IfSome (program_in (Some program.now)) (λ p. IfSome (reader_in (Some held.old)) (λ r.
         Serves r p (length context.now) → IsOk result)) }
+    ensures none { reader_in (Some held.old) ≡ None → result ≡ Err (neg_ℤ (pos 9)) }
+    ensures no_program { program_in (Some program.now) ≡ None → result ≡ Err (neg_ℤ (pos 9)) }
     ensures kept { OnErr result (held.new ≡ held.old) }
     ensures fault { IfErr result (λ number. number ≢ pos 0) }
 {
@@ -49,6 +51,8 @@ fn run_over_on_packet(held: &mut Held, program: &Held, packet: &[u8], wire: u32)
         (reader_in (Some held.old)) (reader_in (Some held.new))) }
     ensures ran { IfSome (program_in (Some program.now)) (λ p. IfSome (reader_in (Some held.old)) (λ r.
         Serves r p (context_bytes Packet) → IsOk result)) }
+    ensures none { reader_in (Some held.old) ≡ None → result ≡ Err (neg_ℤ (pos 9)) }
+    ensures no_program { program_in (Some program.now) ≡ None → result ≡ Err (neg_ℤ (pos 9)) }
     ensures kept { OnErr result (held.new ≡ held.old) }
     ensures fault { IfErr result (λ number. number ≢ pos 0) }
 {
@@ -71,6 +75,7 @@ fn serves_held(held: &Held, program: &Held) -> i32
     ensures served { IfSome (program_in (Some program.now)) (λ p. IfSome (table_in (Some held.now)) (λ t.
         CanServe t.table.shape p.checked → result ≡ pos 0)) }
     ensures none { table_in (Some held.now) ≡ None → result ≡ neg_ℤ (pos 9) }
+    ensures no_program { program_in (Some program.now) ≡ None → result ≡ neg_ℤ (pos 9) }
 {
     let Held::Table(table) = held else {
         return EBADF;
@@ -95,6 +100,8 @@ pub extern "C" fn bpfrt0_table_serves(alloc: Global, host: &mut Host, prog: &mut
         CanServe t.table.shape p.checked)) }
     ensures served { IfSome (program_in prog.old.handle.held) (λ p. IfSome (table_in host.old.handle.held) (λ t.
         CanServe t.table.shape p.checked → result ≡ pos 0)) }
+    ensures none { table_in host.old.handle.held ≡ None → result ≡ neg_ℤ (pos 9) }
+    ensures no_program { program_in prog.old.handle.held ≡ None → result ≡ neg_ℤ (pos 9) }
     ensures kept { host.new.handle.held ≡ host.old.handle.held }
     ensures prog { prog.new.handle.held ≡ prog.old.handle.held }
 {
@@ -129,6 +136,8 @@ pub extern "C" fn bpfrt0_reader_run(
         (reader_in host.old.handle.held) (reader_in host.new.handle.held) value.new }
     ensures ran { IfSome (program_in prog.old.handle.held) (λ p. IfSome (reader_in host.old.handle.held) (λ r.
         Serves r p (length context.now) → result ≡ pos 0)) }
+    ensures none { reader_in host.old.handle.held ≡ None → result ≡ neg_ℤ (pos 9) }
+    ensures no_program { program_in prog.old.handle.held ≡ None → result ≡ neg_ℤ (pos 9) }
     ensures unwritten { result ≢ pos 0 → value.new ≡ value.old }
     ensures kept { result ≢ pos 0 → host.new.handle.held ≡ host.old.handle.held }
     ensures prog { prog.new.handle.held ≡ prog.old.handle.held }
@@ -168,6 +177,8 @@ pub extern "C" fn bpfrt0_reader_run_packet(
         (reader_in host.old.handle.held) (reader_in host.new.handle.held) value.new }
     ensures ran { IfSome (program_in prog.old.handle.held) (λ p. IfSome (reader_in host.old.handle.held) (λ r.
         Serves r p (context_bytes Packet) → result ≡ pos 0)) }
+    ensures none { reader_in host.old.handle.held ≡ None → result ≡ neg_ℤ (pos 9) }
+    ensures no_program { program_in prog.old.handle.held ≡ None → result ≡ neg_ℤ (pos 9) }
     ensures unwritten { result ≢ pos 0 → value.new ≡ value.old }
     ensures kept { result ≢ pos 0 → host.new.handle.held ≡ host.old.handle.held }
     ensures prog { prog.new.handle.held ≡ prog.old.handle.held }

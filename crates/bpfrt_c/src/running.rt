@@ -1,6 +1,6 @@
 //! Runs of programs that name no map.
 ghost use Rattle.std.specs.Prelude.{◌≡◌, ◌≢◌, pos, neg_ℤ, Some, None, Err, IfSome, IsOk, IfOk, IfErr, OnOk, OnErr, length};
-ghost use Rattle.host_programs.specs.Packets.{seen};
+ghost use Rattle.host_programs.specs.Packets.{AreInside, seen};
 ghost use Rattle.host_programs.specs.Runs.{Gives, GivesEach, GivesEachPacket, GivesOnPacket};
 ghost use Rattle.host_values.specs.Values.{program_in};
 ghost use Rattle.bpfrt_c.specs.Programs.{CanRunOn, CanRunOnAll, CanRunOnEach, CanRunOnPackets};
@@ -177,6 +177,8 @@ fn run_held_on_all(
     ensures ran { IfSome (program_in (Some held.now)) (λ p.
         CanRunOnAll p bytes.now packets.now (length values.old) → IsOk result) }
     ensures none { program_in (Some held.now) ≡ None → result ≡ Err (neg_ℤ (pos 9)) }
+    ensures as_many { OnOk result (length packets.now ≡ length values.old) }
+    ensures inside { OnOk result (AreInside (length bytes.now) packets.now) }
     ensures unwritten { OnErr result (values.new ≡ values.old) }
     ensures fault { IfErr result (λ number. number ≢ pos 0) }
 {
@@ -205,6 +207,8 @@ pub extern "C" fn bpfrt0_prog_run_packets(
     ensures ran { IfSome (program_in host.old.handle.held) (λ p.
         CanRunOnAll p bytes.now packets.now (length values.old) → result ≡ pos 0) }
     ensures none { program_in host.old.handle.held ≡ None → result ≡ neg_ℤ (pos 9) }
+    ensures as_many { result ≡ pos 0 → length packets.now ≡ length values.old }
+    ensures inside { result ≡ pos 0 → AreInside (length bytes.now) packets.now }
     ensures unwritten { result ≢ pos 0 → values.new ≡ values.old }
     ensures kept { host.new.handle.held ≡ host.old.handle.held }
 {

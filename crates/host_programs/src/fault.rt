@@ -65,7 +65,7 @@ pub enum RunFault {
     #[error("the program names a map")]
     NamesMaps,
     /// The context has another length than the program's, or many have; or a packet lies outside the bytes.
-    #[error("the context has another length than the program's")]
+    #[error("the context has another length than the program's, or a packet lies outside")]
     Length,
 }
 

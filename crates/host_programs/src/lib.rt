@@ -1,7 +1,7 @@
 //! Programs as a host opens them: verified once, and then run over bytes that the host lends.
 //!
 //! An open program is never changed, so threads may share it. A run of one that names no map takes no memory, copies no context,
-//! and cannot fail but for a context of another length.
+//! and cannot fail but for a context of another length, or packets that lie outside their bytes.
 #![tactic(auto)]
 
 mod fault;

@@ -128,6 +128,9 @@ impl HostProgram {
         ensures each { OnOk result (GivesEachPacket self.now bytes.now packets.now results.new) }
         ensures count { length results.new ≡ length results.old }
         ensures maps { (result ≡ Err NamesMaps) ↔ (HasNoMaps self.now.checked.program → ⊥) }
+        ensures packets { OnOk result (self.now.checked.ctx_len ≡ context_bytes Packet) }
+        ensures as_many { OnOk result (length packets.now ≡ length results.old) }
+        ensures inside { OnOk result (AreInside (length bytes.now) packets.now) }
         ensures ran { HasNoMaps self.now.checked.program → self.now.checked.ctx_len ≡ context_bytes Packet →
             length packets.now ≡ length results.old → AreInside (length bytes.now) packets.now → IsOk result }
         ensures unwritten { OnErr result (results.new ≡ results.old) }

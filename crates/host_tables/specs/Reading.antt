@@ -24,7 +24,8 @@ pub record RunsOnPacket (c : Checked) (p : Input) (old new : Holder) (value : �
   pub is : IsPacketContext p context
   pub runs : RunsOverTable c context old new value
 
--- A table of this shape serves the program: its maps have the table's lengths, and it stores whole words and changes no map.
+-- A table of this shape serves the program: its maps have the table's lengths, the table has no more elements than programs run over,
+-- and the program stores whole words and changes no map.
 pub record CanServe (k : TableShape) (c : Checked) : Type 0 where
   pub maps : ServesMaps k c.shapes
   pub words : StoresSubWords c → ⊥

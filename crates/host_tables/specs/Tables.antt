@@ -1,5 +1,5 @@
 -- What a host's table holds, and what its writer does in one call.
-use Rattle.std.specs.Prelude.{◌≡◌, ◌⊎◌, ℕ, zero, suc, ◌+◌, List, [], ◌∷◌, ◌++◌, All, Option, Some, None, IsSome, length, slice_index}
+use Rattle.std.specs.Prelude.{◌≡◌, ◌≢◌, ◌⊎◌, ℕ, zero, suc, ◌+◌, List, [], ◌∷◌, ◌++◌, All, Option, Some, None, IsSome, length, slice_index}
 use Rattle.std.specs.List.{range_with_len}
 use Rattle.map_table.specs.Counting.{AddsUp}
 use Rattle.map_table.specs.Hashes.{layout_of}
@@ -49,11 +49,12 @@ pub record Seeks (key : List ℕ) (found : Option ℕ) (v w : WriterView) : Type
   pub unlinked : w.unlinked ≡ v.unlinked
   pub finds : Finds v.table.shape key found w
 
--- A free element was filled, and linked under the key.
+-- A free element was filled, and linked under the key in an empty way.
 pub record Links (key value : List ℕ) (v w : WriterView) : Type 0 where
   pub way : ℕ
   pub element : ℕ
   pub word : ℕ
+  pub empty : word_in way v.view.mine ≡ 0
   pub taken : v.free ≡ w.free ++ element ∷ []
   pub names : Names word element
   pub puts : Puts way word element key value v w
@@ -90,7 +91,7 @@ pub record Reclaims (gone : List ℕ) (v w : WriterView) : Type 0 where
 
 -- Where no element was free, the writer reclaimed some first.
 abbrev pub MakesRoom : WriterView → WriterView → Type 0
-MakesRoom v w = (w ≡ v) ⊎ ((v.free ≡ []) × (gone : List ℕ) × Reclaims gone v w)
+MakesRoom v w = ((w ≡ v) × (v.free ≢ [])) ⊎ ((v.free ≡ []) × (gone : List ℕ) × Reclaims gone v w)
 
 -- The key that was found so, or was not, is one of those that are asked for.
 abbrev pub IsAsked : How → Option ℕ → Type 0
@@ -125,7 +126,7 @@ IsNoRoom key found w fault = ⊥
 abbrev pub IsWhy : List ℕ → How → Option ℕ → WriterView → SetFault → Type 0
 IsWhy key how found w Exists = (how ≡ New) × IsSome found
 IsWhy key how found w Missing = (how ≡ Present) × (found ≡ None)
-IsWhy key how found w fault = IsNoRoom key found w fault
+IsWhy key how found w fault = IsAsked how found × IsNoRoom key found w fault
 
 -- The writer made room and sought the key, and for this reason did no more.
 pub record IsNotSet (key : List ℕ) (how : How) (v w : WriterView) (fault : SetFault) : Type 0 where

@@ -49,8 +49,9 @@ pub enum TableRunFault {
     /// The context has another length than the program's.
     #[error("the context has another length than the program's")]
     Length,
-    /// The program was verified for a map that is no hash map of the table's lengths.
-    #[error("the program is for maps of other lengths")]
+    /// The program was verified for a map that is no hash map of the table's lengths, or the table has more elements than programs run
+    /// over (`MAX_RUN_ELEMENTS`).
+    #[error("the table is not the program's maps: their lengths differ, or it is too large")]
     Maps,
     /// The program stores to an element by another width than 8 bytes, or calls a helper that changes a map.
     #[error("the program stores less than a word, or changes a map")]

@@ -10,6 +10,7 @@ mod table;
 mod writing;
 
 pub use fault::{How, SetFault, TableFault, TableRunFault};
+pub use map_runs::MAX_RUN_ELEMENTS;
 pub use map_table::{
     MAX_BUCKETS, MAX_ELEMENTS, MAX_READERS, MAX_WORDS, Secret, TableShape, Values,
 };

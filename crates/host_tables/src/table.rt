@@ -1,10 +1,12 @@
 //! A table with its writer.
-ghost use Rattle.std.specs.Prelude.{◌≡◌, ◌↔◌, ◌∷◌, ℕ, List, Decides, Err, None, IfSome, IfNone, IfOk, IfErr, IsOk, OnOk, length, true, false};
+ghost use Rattle.std.specs.Prelude.{◌≡◌, ◌≢◌, ◌↔◌, [], ◌∷◌, ℕ, List, Decides, Err, None, IfSome, IfNone, IsNone, IfOk, IfErr, IsOk, OnOk, length, true, false};
 ghost use Rattle.map_table.specs.Held.{IsReady, IsSized};
 ghost use Rattle.map_table.specs.Values.{stored_of};
 ghost use Rattle.host_tables.specs.Reading.{CanServe};
 ghost use Rattle.host_tables.specs.Tables.{IsNewTable, IsNotSet, Reads, Reclaims, Removes, Seeks, Sets};
 ghost use Rattle.host_tables.specs.declared.fault.TableFault.TheVariants.{Shape};
+ghost use Rattle.host_tables.specs.declared.fault.TableRunFault.TheVariants.{Length, Maps};
+ghost use Rattle.map_runs.specs.Running.{ServesMaps};
 
 use crate::fault::{How, SetFault, TableFault, TableRunFault};
 use crate::reader::{HostReader, serves};
@@ -90,18 +92,21 @@ impl HostTable {
     /// Errors: `Maps`, `SubWord`.
     pub fn serves(&self, program: &HostProgram) -> Result<(), TableRunFault>
         ensures serves { OnOk result (CanServe self.now.table.shape program.now.checked) }
+        ensures maps { (result ≡ Err Maps) ↔ (ServesMaps self.now.table.shape program.now.checked.shapes → ⊥) }
+        ensures length { result ≢ Err Length }
         ensures served { CanServe self.now.table.shape program.now.checked → IsOk result }
     {
         serves(&self.table, program)
     }
 
     /// A reader, of which each thread needs its own: that of the next seat, the first one's first. `None` where each seat has been
-    /// given. A seat is not given back: it goes with its reader.
+    /// given, or no more owners of the table can be counted. A seat is not given back: it goes with its reader.
     pub fn reader(&mut self) -> Option<HostReader>
         ensures table { self.new.table ≡ self.old.table }
         ensures writer { self.new.writer ≡ self.old.writer }
         ensures seat { IfSome result (λ r. self.old.seats ≡ r ∷ self.new.seats) }
         ensures ready { IfSome result (IsReady self.old.table) }
+        ensures given { self.old.seats ≡ [] → IsNone result }
         ensures kept { IfNone result (self.new ≡ self.old) }
     {
         let Ok(table) = Arc::try_clone(&self.table) else {
@@ -165,6 +170,7 @@ impl HostTable {
         ensures read { result ≡ true → Reads key.now value.new self.old.writer self.new.writer }
         ensures missing { result ≡ false → Seeks key.now None self.old.writer self.new.writer }
         ensures unwritten { result ≡ false → value.new ≡ value.old }
+        ensures count { length value.new ≡ length value.old }
     {
         let _shape = self.table.shape();
         let Some(way) = seek(&self.table, &mut self.writer, key) else {

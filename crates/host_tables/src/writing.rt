@@ -70,6 +70,7 @@ pub(crate) fn read_sums(table: &MapTable, writer: &mut Writer, element: usize, s
     ensures table { writer.new.table ≡ writer.old.table }
     ensures free { writer.new.free ≡ writer.old.free }
     ensures unlinked { writer.new.unlinked ≡ writer.old.unlinked }
+    ensures count { length sums.new ≡ length sums.old }
     ensures total { (ms : List Move) × Works writer.old ms writer.new
         × SumsUp table.now.shape element table.now.shape.value_words sums.new ms }
 {
