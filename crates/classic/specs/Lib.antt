@@ -1,3 +1,4 @@
 pub mod Faults
 pub mod Layout
+pub mod Notes
 pub mod Translation

@@ -5,10 +5,12 @@ ghost use Rattle.bpf_model.specs.declared.insn.Insn.TheVariants as bpf;
 ghost use Rattle.bpf_model.specs.declared.insn.Operand.TheVariants as second;
 ghost use Rattle.bpf_model.specs.declared.insn.AluOp.TheVariants as ops;
 ghost use Rattle.bpf_model.specs.declared.opcode.Size.TheVariants.{Word32, Word64};
-ghost use Rattle.bpf_model.specs.declared.opcode.Width.TheVariants as widths;
-ghost use Rattle.classic.specs.Layout.{imm_of as imm_number, distance as distance_of, jump_to as jump_to_insn, jump_if as jump_if_insn, move as move_insn, put_number as put_number_insn, word_offset as word_offset_of, register_of, alu_of, condition_of, operand_of};
+ghost use Rattle.bpf_model.specs.declared.insn.UnaryOp.TheVariants as unary;
+ghost use Rattle.bpf_model.specs.declared.opcode.ByteOrder.TheVariants as order;
+ghost use Rattle.classic.specs.Layout.{imm_of as imm_number, distance as distance_of, jump_to as jump_to_insn, jump_if as jump_if_insn, move as move_insn, put_number as put_number_insn, word_offset as word_offset_of, register_of, alu_of, condition_of, opposite_of, divides as divides_op, compared as compared_of, test_operand};
 
-use bpf_model::{AluOp, Condition, Insn, Operand, Reg, Size, Width};
+use crate::notes::{Accumulator, Note};
+use bpf_model::{AluOp, ByteOrder, Condition, Insn, Operand, Reg, Size, SwapWidth, UnaryOp, Width};
 use classic_program::{ClassicOp, ClassicOperand, ClassicReg, ClassicTest};
 
 /// The register of A.
@@ -16,7 +18,7 @@ pub(crate) const A: u8 = 6;
 /// The register of X.
 pub(crate) const X: u8 = 7;
 /// The register of the context.
-pub(crate) const CONTEXT: u8 = 8;
+pub(crate) const CONTEXT: u8 = 1;
 /// The register of the length.
 pub(crate) const LENGTH: u8 = 9;
 
@@ -68,12 +70,56 @@ pub(crate) fn condition_for(test: ClassicTest) -> Condition
     }
 }
 
-pub(crate) fn operand_for(operand: ClassicOperand) -> Operand
-    ensures { result ≡ operand_of operand }
+/// The condition of the opposite of a test, where there is one.
+pub(crate) fn opposite_for(test: ClassicTest) -> Option<Condition>
+    ensures { result ≡ opposite_of test }
+{
+    match test {
+        ClassicTest::Equal => Some(Condition::NotEqual),
+        ClassicTest::Greater => Some(Condition::LessOrEqual),
+        ClassicTest::GreaterOrEqual => Some(Condition::Less),
+        ClassicTest::SharesBits => None,
+    }
+}
+
+/// Whether the operation has no result where the second operand is 0.
+pub(crate) fn divides(op: ClassicOp) -> bool
+    ensures { result ≡ divides_op op }
+{
+    matches!(op, ClassicOp::Div | ClassicOp::Mod)
+}
+
+/// A number as what A is compared with: its bytes are swapped where those of A are.
+fn compared(a: Accumulator, number: u32) -> u32
+    ensures { result ≡ compared_of a number }
+{
+    match a {
+        Accumulator::Unset | Accumulator::Number => number,
+        Accumulator::SwappedHalf => u32::from(((number % 65536) as u16).swap_bytes()),
+        Accumulator::SwappedWord => number.swap_bytes(),
+    }
+}
+
+/// The second operand of a test.
+pub(crate) fn compared_operand(note: &Note, operand: ClassicOperand) -> Operand
+    ensures { result ≡ test_operand note.now operand }
 {
     match operand {
-        ClassicOperand::Number(k) => Operand::Immediate(k.cast_signed()),
+        ClassicOperand::Number(k) => Operand::Immediate(compared(note.a, k).cast_signed()),
         ClassicOperand::Index => Operand::Register(reg(X)),
+    }
+}
+
+/// The low bytes of a register, swapped.
+pub(crate) fn swap_order(width: SwapWidth, dst: Reg) -> Insn
+    ensures { result ≡ bpf.Unary (unary.ByteSwap order.ToBig width) dst }
+{
+    Insn::Unary {
+        op: UnaryOp::ByteSwap {
+            order: ByteOrder::ToBig,
+            width,
+        },
+        dst,
     }
 }
 

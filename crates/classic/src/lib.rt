@@ -5,7 +5,10 @@
 mod blocks;
 mod emitting;
 mod fault;
+mod knowing;
 mod layout;
+mod notes;
+mod sound;
 mod translating;
 
 pub use classic_program::{
