@@ -192,6 +192,44 @@ static void runs(void)
 }
 
 /* A program that has a context of packets gives its byte `at`. */
+/* A null pointer with a length: what was in `why` before is gone. */
+static void nulls(void)
+{
+	struct bpfrt_prog prog = {0};
+	struct bpfrt_refusal other;
+	memset(&why, 'x', sizeof why);
+	IS(bpfrt_prog_open(&prog, NULL, 8, 0, NULL, 0, &why), -EINVAL);
+	IS(why.code == 0 && why.place == BPFRT_NOWHERE && why.at == 0 && strlen(why.words) > 0 && strlen(why.words) < sizeof why.words, true);
+	IS(bpfrt_prog_open(&prog, exit_one, sizeof exit_one, 0, NULL, 1, &why), -EINVAL);
+	memset(&other, 'x', sizeof other);
+	IS(bpfrt_prog_open_filter(&prog, NULL, 8, &other), -EINVAL);
+	IS(other.code == 0 && !strcmp(other.words, why.words), true);
+	IS(bpfrt_prog_open_policy(&prog, NULL, 8, NULL), -EINVAL);
+	IS(bpfrt_prog_open_tcpdump(&prog, NULL, 8, &why), -EINVAL);
+	IS(bpfrt_prog_open_file(&prog, NULL, 8, &why), -EINVAL);
+	IS(is_closed(&prog), true);
+}
+
+/* A packet's context has zeros behind it, whatever packet the handle had before. */
+static void packets_in_turn(void)
+{
+	static const unsigned char load[] = {0x71, 0x10, 30, 0, 0, 0, 0, 0, 0x95, 0, 0, 0, 0, 0, 0, 0};
+	unsigned char packet[300];
+	struct bpfrt_prog prog = {0};
+	uint64_t value = 0;
+	memset(packet, 7, sizeof packet);
+	IS(bpfrt_prog_open(&prog, load, sizeof load, 256, NULL, 0, &why), 0);
+	IS(bpfrt_prog_run_packet(&prog, packet, 300, 300, &value), 0);
+	IS(value, 7);
+	IS(bpfrt_prog_run_packet(&prog, packet, 22, 300, &value), 0);
+	IS(value, 0);
+	IS(bpfrt_prog_run_packet(&prog, packet, 23, 300, &value), 0);
+	IS(value, 7);
+	IS(bpfrt_prog_run_packet(&prog, NULL, 0, 0, &value), 0);
+	IS(value, 0);
+	IS(bpfrt_prog_close(&prog), 0);
+}
+
 static uint64_t byte_of(uint8_t at, uint8_t high, const void *packet, size_t captured, uint32_t length)
 {
 	const unsigned char load[] = {0x71, 0x10, at, high, 0, 0, 0, 0, 0x95, 0, 0, 0, 0, 0, 0, 0};
@@ -983,6 +1021,8 @@ int main(void)
 	no_programs();
 	no_shapes();
 	runs();
+	nulls();
+	packets_in_turn();
 	packets();
 	packets_in_bytes();
 	program_with_map();

@@ -13,6 +13,7 @@ import json
 import pathlib
 import random
 import re
+import struct
 import subprocess
 import sys
 from concurrent.futures import ThreadPoolExecutor
@@ -337,7 +338,15 @@ def python(library, bpfrt):
         values = [one.run_packet(number, packet, length) for packet, length in sample]
         yield "packets that pass", str(sum(map(bool, values))), "2"
         yield "packets in one call", outcome(one.run_packets, number, sample), str(values)
+        starts = itertools.accumulate((len(packet) for packet, _ in sample), initial=0)
+        whole = bytearray(b"".join(packet for packet, _ in sample))
+        places = b"".join(struct.pack("=QII", at, len(packet), length) for at, (packet, length) in zip(starts, sample))
+        yield "packets in a buffer", outcome(one.run_places, number, whole, places), str(values)
         for name, *given, wanted in [
+                ("run_places", number, b"", b"", "[]"), ("run_places", number, b"abc", bytes(15), "Refused [63, None, None]"),
+                ("run_places", number, b"abc", struct.pack("=QII", 1, 3, 3), "Refused [63, None, None]"),
+                ("run_places", byte, b"abc", bytes(16), "Refused [63, None, None]"), ("run_places", 9, b"", b"", "Refused [62, None, None]"),
+                ("run_places", number, "abc", b"", "TypeError [None, None, None]"),
                 ("run_buffer", byte, b"abc", "[97, 98, 99]"), ("run_buffer", byte, bytearray(b"abc"), "[97, 98, 99]"),
                 ("run_buffer", byte, memoryview(b"xabc")[1:], "[97, 98, 99]"), ("run_buffer", byte, b"", "[]"),
                 ("run_buffer", byte, host.array.array("H", [0x6261]), "[97, 98]"), ("run_buffer", byte, b"abc", 2, "Refused [63, None, None]"),

@@ -1,8 +1,10 @@
 -- How the bytes of a packet's context lie.
-use Rattle.std.proofs.Common.{◌≡◌, ℕ, zero, suc, ◌+◌, ◌-◌, ◌*◌, ◌^◌, ◌<◌, ◌≤◌, List, [], ◌∷◌, ◌++◌, length, take, min, sym, ap, ◌∙◌, subst, arith}
+use Rattle.std.proofs.Common.{◌≡◌, ℕ, zero, suc, ◌+◌, ◌-◌, ◌*◌, ◌^◌, ◌<◌, ◌≤◌, List, [], ◌∷◌, ◌++◌, length, take, min, refl, sym}
+use Rattle.std.proofs.Common.{ap, ◌∙◌, subst, arith, length-drop}
+use borrow.Rule.Slice.PartMut.{put_mid, post_of}
 use Rattle.std.specs.Prelude.{Some, slice_get}
 use Rattle.std.specs.Int.{w32, byte_at, to_le_bytes}
-use Rattle.std.proofs.lemmas.List.{take_min, length-take, length-append, append_assoc}
+use Rattle.std.proofs.lemmas.List.{take_min, length-take, length-append}
 use Rattle.std.proofs.lemmas.Nat.{from_le_bytes-to_le_bytes_4}
 use Rattle.std.proofs.lemmas.Option.{none-some}
 use Rattle.bpf_model.proofs.Lists.{get-append, get-below}
@@ -62,8 +64,17 @@ context_of packet wire n a b s zeros items bytes w least ea eb es z e =
           ∙ ap (λ (xs : List ℕ). slice_get (xs ++ zeros) k) same ∙ get-front (take packet_bytes packet) zeros k h;
     }
 
--- Bytes that were added one after another to none.
-pub added : (a b c d w x y z : List ℕ) → w ≡ [] ++ a → x ≡ w ++ b → y ≡ x ++ c → z ≡ y ++ d → z ≡ a ++ (b ++ (c ++ d))
-added a b c d w x y z e f g h =
-    h ∙ ap (λ (l : List ℕ). l ++ d) (g ∙ ap (λ (l : List ℕ). l ++ c) (f ∙ ap (λ (l : List ℕ). l ++ b) e))
-    ∙ append_assoc (a ++ b) c d ∙ append_assoc a b (c ++ d)
+-- Bytes that were written over others, one part behind the other.
+pub written : (packet : List ℕ) (wire n : ℕ) (a b s old : List ℕ) → AreBytes packet → wire < 2 ^ 32
+    → n ≡ min packet_bytes (length packet) → a ≡ to_le_bytes w32 n → b ≡ to_le_bytes w32 wire → s ≡ take n packet → length old ≡ 8 + packet_bytes
+    → IsPacketContext (seen packet wire) (put_mid 8 (8 + n - 8) (put_mid 4 4 (a ++ post_of 0 4 old) b) s)
+written packet wire n a b s old bytes w least ea eb es l =
+    let few : n ≤ packet_bytes = omega (arith, least) in
+    let size : 8 + n - 8 ≡ n = omega arith in
+    let rest = post_of 0 4 (post_of 0 4 old) in
+    let zeros = post_of 0 (8 + n - 8) rest in
+    let long : length zeros ≡ packet_bytes - n =
+    length-drop (8 + n - 8) rest ∙ omega (arith, l, few, length-drop 4 old, length-drop 4 (post_of 0 4 old)) in
+    context_of packet wire n (to_le_bytes w32 n) (to_le_bytes w32 wire) s zeros _ bytes w least refl refl es long
+    (ap (λ (x : List ℕ). put_mid 8 (8 + n - 8) (put_mid 4 4 (x ++ post_of 0 4 old) b) s) ea
+    ∙ ap (λ (y : List ℕ). put_mid 8 (8 + n - 8) (put_mid 4 4 (to_le_bytes w32 n ++ post_of 0 4 old) y) s) eb)

@@ -108,7 +108,7 @@ impl HostReader {
             return Err(TableRunFault::Length);
         }
         serves(&self.table, program)?;
-        let context = packet_context(packet, wire);
+        let context: CtxBytes = array_of(&packet_context(packet, wire));
         Ok(run_to_exit(&self.table, &mut self.seat, program.verified(), &context))
     }
 }

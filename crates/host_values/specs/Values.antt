@@ -1,6 +1,5 @@
 -- What a handle holds.
 use Rattle.std.specs.Prelude.{Option, Some, None}
-use Rattle.std.specs.Arc.{arc_value}
 use Rattle.bpf_model.specs.View.{WorldView}
 use Rattle.host_programs.specs.Opened.{OpenProgram}
 use Rattle.host_tables.specs.Tables.{OpenTable}
@@ -10,7 +9,7 @@ use Rattle.host_values.specs.declared.Held.TheVariants.{Program, World, Table, R
 
 -- the program, where one is held
 abbrev pub program_in : Option Held → Option OpenProgram
-program_in (Some (Program p)) = Some (arc_value p)
+program_in (Some (Program p)) = Some p
 program_in held = None
 
 -- the world, where one is held

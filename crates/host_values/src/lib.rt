@@ -1,16 +1,15 @@
 //! What a host in C holds behind a handle.
 #![tactic(auto)]
 
-use host_programs::HostProgram;
+use host_programs::Opened;
 use host_tables::{HostReader, HostTable};
-use std::sync::Arc;
 use world::World;
 
 /// One of the values that the library hands to C. A handle can be asked which it has.
 #[derive(Drop)]
 pub enum Held {
-    /// A program, which other handles may share.
-    Program(Arc<HostProgram>),
+    /// A program, which other handles may share, and room for its runs.
+    Program(Opened),
     /// A world of maps and programs.
     World(World),
     /// A table with its writer.

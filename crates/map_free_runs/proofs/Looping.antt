@@ -1,5 +1,5 @@
 -- What the loop of a run keeps.
-use Rattle.std.proofs.Common.{◌≡◌, ℕ, ◌+◌, ◌-◌, ◌<◌, List, [], length, Option, Some, None, refl, sym, ap, subst, ◌∙◌, arith}
+use Rattle.std.proofs.Common.{◌≡◌, ℕ, ◌+◌, ◌-◌, ◌<◌, List, length, Option, Some, None, refl, sym, ap, subst, ◌∙◌, arith}
 use Rattle.std.specs.Prelude.{take}
 use Rattle.std.proofs.lemmas.Option.{same_Some, slice_get_within}
 use Rattle.bpf_model.specs.declared.limits.TheConstants.{MAX_SLOTS}
@@ -24,7 +24,7 @@ use Rattle.machine.specs.declared.workspace.Workspace.{Workspace}
 use Rattle.machine.specs.Requests.{request_of, entered_view, resumed_view}
 use Rattle.machine.specs.RunWords.{run_words}
 use Rattle.machine.specs.Steps.{IsLocalStep}
-use Rattle.machine.specs.Workspaces.{CanDo, CanGoOn, DoesAt, HasGoneOn, HasMoved, IsFreshWorkspace, IsMove}
+use Rattle.machine.specs.Workspaces.{CanDo, CanGoOn, DoesAt, HasFreshRegisters, HasGoneOn, HasMoved, IsMove}
 use Rattle.machine.specs.Workspaces.{index_after, moved_on, not_yet, once_more, told, view_after, view_at}
 use Rattle.machine.proofs.Places.{insn_there, next_place}
 use Rattle.machine.proofs.Serving.{can_do}
@@ -40,11 +40,11 @@ pub record StandsBefore (c : Checked) (context : List ℕ) (index moved : ℕ) (
   pub stands : StandsAlone c (view_at c.program context index w view)
   pub moved_is : view.moved ≡ moved
 
-pub stands_first : (c : Checked) (context : List ℕ) (w : Workspace) → IsFreshWorkspace w → StandsAlone c (fresh_view 0 context) → StandsBefore c context 0 0 w
+pub stands_first : (c : Checked) (context : List ℕ) (w : Workspace) → HasFreshRegisters w
+    → StandsAlone c (record (fresh_view 0 context) { frame = w.frame }) → StandsBefore c context 0 0 w
 stands_first c context w f s = record {
   view = fresh_view 0 context;
-  stands = subst (λ (rs : List ℕ). StandsAlone c (run_words 0 context rs w.frame 0 0 0 None 0).view) (sym f.registers)
-      (subst (λ (fr : List ℕ). StandsAlone c (run_words 0 context (fresh_view 0 []).registers fr 0 0 0 None 0).view) (sym f.frame) s);
+  stands = subst (λ (rs : List ℕ). StandsAlone c (run_words 0 context rs w.frame 0 0 0 None 0).view) (sym f) s;
   moved_is = refl;
 }
 

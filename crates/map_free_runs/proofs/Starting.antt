@@ -2,7 +2,6 @@
 use Rattle.std.proofs.Common.{◌≡◌, ℕ, zero, suc, ◌+◌, ◌<◌, List, [], length, refl, subst, arith}
 use Rattle.std.specs.Prelude.{map, slice_index}
 use Rattle.std.specs.List.{range_with_len}
-use Rattle.std.proofs.lemmas.List.{length-replicate}
 use Rattle.std.proofs.lemmas.List.FromFn.{length-range_with_len}
 use Rattle.std.proofs.lemmas.Option.{slice_get_within}
 use Rattle.bpf_model.specs.declared.limits.TheConstants.{FRAME_BYTES, REGISTERS}
@@ -11,6 +10,7 @@ use Rattle.bpf_model.specs.Exit.{ExitsFrom, HasNoMaps}
 use Rattle.bpf_model.specs.Machine.{Run, fresh_run}
 use Rattle.bpf_model.specs.MapState.{new_map}
 use Rattle.bpf_model.specs.Step.{entry}
+use Rattle.bpf_model.specs.View.{RunView}
 use Rattle.bpf_model.specs.Word.{WordIs}
 use Rattle.bpf_model.proofs.Lists.{get-map}
 use Rattle.model_laws.proofs.Alone.{starts_sharing_nothing}
@@ -42,7 +42,7 @@ start-word (suc (suc (suc (suc (suc (suc (suc (suc (suc (suc zero)))))))))) h = 
 start-word (suc (suc (suc (suc (suc (suc (suc (suc (suc (suc (suc r))))))))))) h = absurd (omega arith)
 
 module _ (v : Checked) (justified : IsJustified v) (without-maps : HasNoMaps v.program) (context : List ℕ)
-    (long : length context ≡ v.ctx_len) (bytes : AreBytes context) where
+    (long : length context ≡ v.ctx_len) (bytes : AreBytes context) (frame : List ℕ) (cells : length frame ≡ FRAME_BYTES) where
   -- the program's list names each map by its own number
   bound : AreMapsBound v.shapes (range_with_len 0 (length v.shapes)) (map new_map v.shapes)
   bound = record {
@@ -53,12 +53,16 @@ module _ (v : Checked) (justified : IsJustified v) (without-maps : HasNoMaps v.p
   abbrev run : Run
   run = fresh_run 0 (loaded_among v) context
 
-  words : AreWords region_bases (fresh_view 0 context) run
+  -- No cell of the frame is written, so its bytes are any.
+  abbrev pub first : RunView
+  first = record (fresh_view 0 context) { frame = frame }
+
+  words : AreWords region_bases first run
   words = record {
     context = refl;
     register_count = refl;
     registers = start-word;
-    cells = length-replicate {A = ℕ} FRAME_BYTES 0;
+    cells = cells;
     frame = λ k less. tt;
     place = refl;
     depth = refl;
@@ -66,7 +70,7 @@ module _ (v : Checked) (justified : IsJustified v) (without-maps : HasNoMaps v.p
     exit = refl;
   }
 
-  pub starts : StandsAlone v (fresh_view 0 context)
+  pub starts : StandsAlone v first
   starts = record {
     justified = justified;
     without_maps = without-maps;

@@ -1,9 +1,10 @@
 //! Whole runs.
 ghost use Rattle.std.specs.Prelude.{◌≡◌, ℕ, ◌<◌, ◌≤◌, List, length};
-ghost use Rattle.bpf_model.specs.declared.limits.TheConstants.{MAX_SLOTS};
+ghost use Rattle.bpf_model.specs.declared.limits.TheConstants.{FRAME_BYTES, MAX_SLOTS};
 ghost use Rattle.bpf_model.specs.declared.limits.MapShape.{MapShape};
 ghost use Rattle.bpf_model.specs.Exit.{ExitsWith, HasNoMaps};
 ghost use Rattle.plan_laws.specs.MayExit.{MayExitWith};
+ghost use Rattle.machine.specs.Workspaces.{HasFreshRegisters};
 ghost use Rattle.map_free_runs.specs.Lone.{loaded_alone};
 
 use bpf_model::{CtxBytes, are_bytes};
@@ -48,9 +49,43 @@ pub fn run_over(verified: &Verified, context: &[u8]) -> Finished
     ensures some { 0 < result.steps }
     ensures limit { result.steps ≤ MAX_SLOTS }
 {
+    let mut workspace = Workspace::start();
+    finish(&mut workspace, verified, context)
+}
+
+/// Runs such a program in a workspace where others have run, of which nothing is seen. The clauses are those of `run_to_exit`.
+pub fn run_in(workspace: &mut Workspace, verified: &Verified, context: &[u8]) -> Finished
+    requires maps { HasNoMaps verified.now.program }
+    requires context { length context.now ≡ verified.now.ctx_len }
+    ensures exits { ExitsWith (loaded_alone verified.now) context.now result.steps result.value }
+    ensures only { (shapes : List MapShape) (steps value : ℕ) →
+        MayExitWith shapes (loaded_alone verified.now) context.now steps value →
+        (result.steps ≡ steps) × (result.value ≡ value) }
+    ensures bounded { result.steps ≤ length verified.now.program }
+    ensures some { 0 < result.steps }
+    ensures limit { result.steps ≤ MAX_SLOTS }
+{
+    workspace.restart();
+    finish(workspace, verified, context)
+}
+
+/// Runs a program to its exit, in a workspace whose registers are those of a start.
+#[inline(always)]
+fn finish(workspace: &mut Workspace, verified: &Verified, context: &[u8]) -> Finished
+    requires maps { HasNoMaps verified.now.program }
+    requires context { length context.now ≡ verified.now.ctx_len }
+    requires fresh { HasFreshRegisters workspace.old }
+    requires cells { length workspace.old.frame ≡ FRAME_BYTES }
+    ensures exits { ExitsWith (loaded_alone verified.now) context.now result.steps result.value }
+    ensures only { (shapes : List MapShape) (steps value : ℕ) →
+        MayExitWith shapes (loaded_alone verified.now) context.now steps value →
+        (result.steps ≡ steps) × (result.value ≡ value) }
+    ensures bounded { result.steps ≤ length verified.now.program }
+    ensures some { 0 < result.steps }
+    ensures limit { result.steps ≤ MAX_SLOTS }
+{
     let _program = verified.program();
     are_bytes(context);
-    let mut workspace = Workspace::start();
     let mut index = 0;
     let mut moved = 0;
     'steps: loop {

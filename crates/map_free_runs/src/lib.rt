@@ -7,5 +7,6 @@
 mod driver;
 mod step;
 
-pub use driver::{Finished, run_over, run_to_exit};
+pub use driver::{Finished, run_in, run_over, run_to_exit};
+pub use machine::Workspace;
 pub use step::{Step, has_no_maps, start_alone, step_alone};

@@ -1,4 +1,7 @@
-use Rattle.std.proofs.Common.{sym, subst}
+use Rattle.std.proofs.Common.{ℕ, [], sym, subst}
+use Rattle.std.proofs.lemmas.List.{length-replicate}
+use Rattle.bpf_model.specs.declared.limits.TheConstants.{FRAME_BYTES}
+use Rattle.view_laws.specs.Reactions.{fresh_view}
 use Rattle.bpf_model.specs.Real.{AreBytes}
 use Rattle.map_free_runs.specs.Lone.{StandsAlone}
 use Rattle.map_free_runs.proofs.Starting.{starts}
@@ -11,5 +14,5 @@ returns-clause-run c =
       at = c.start.ensures.run v.program;
       stands = subst (StandsAlone v) (sym c.start.ensures.view)
           (starts v c.program-program.ensures.justified c.requires.maps c.args.ctx.now.items c.requires.context
-          (subst AreBytes c.as_slice.ensures.value c.are_bytes.ensures));
+          (subst AreBytes c.as_slice.ensures.value c.are_bytes.ensures) (fresh_view 0 []).frame (length-replicate {A = ℕ} FRAME_BYTES 0));
     }

@@ -3,7 +3,7 @@ use Rattle.std.proofs.lemmas.List.{length-set}
 use Rattle.std.proofs.lemmas.Option.{slice_get_within}
 use Rattle.host_programs.specs.Runs.{Gives, context_at}
 use Rattle.host_programs.proofs.Each.{drop-more, next-each}
-use Rattle.host_programs.proofs.program.HostProgram.run_each.Goals as goal
+use Rattle.host_programs.proofs.program.HostProgram.values_on.Goals as goal
 
 pub loop-at-preserved : goal.loop-at-preserved
 loop-at-preserved c =
@@ -16,10 +16,10 @@ loop-at-preserved c =
     let rest = c.split_at.ensures.back ∙ ap (λ (xs : List ℕ). drop long xs) i.0 ∙ drop-more (at * long) long contexts
     ∙ ap (λ (k : ℕ). drop k contexts) next in
     let front = c.split_at.ensures.front ∙ ap (λ (xs : List ℕ). take long xs) i.0 in
-    let given : Gives p (context_at long at contexts) c.value_on.result =
-    subst (λ (xs : List ℕ). Gives p xs c.value_on.result) front
-    (record { exits = c.value_on.ensures.exits; returns = c.value_on.ensures.returns }) in
-    (rest, length-set c.loop-at.results at c.value_on.result ∙ i.1, i.2, i.3, next-each p long at c.value_on.result contexts c.loop-at.results i.4 given)
+    let given : Gives p (context_at long at contexts) c.value_in.result =
+    subst (λ (xs : List ℕ). Gives p xs c.value_in.result) front
+    (record { exits = c.value_in.ensures.exits; returns = c.value_in.ensures.returns }) in
+    (rest, length-set c.loop-at.results at c.value_in.result ∙ i.1, i.2, i.3, next-each p long at c.value_in.result contexts c.loop-at.results i.4 given)
 
 pub returns-clause-each : goal.returns-clause-each
 returns-clause-each c = λ k n h.

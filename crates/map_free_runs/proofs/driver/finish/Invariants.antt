@@ -1,6 +1,6 @@
 use Rattle.std.proofs.Common.{◌-◌, length}
 use Rattle.map_free_runs.proofs.Looping.{StandsBefore}
-use Rattle.map_free_runs.proofs.driver.run_over.Given as goal
+use Rattle.map_free_runs.proofs.driver.finish.Given as goal
 
 abbrev pub invariant-steps : goal.invariant-steps
 invariant-steps l = StandsBefore l.verified l.context l.index l.moved l.workspace

@@ -1,6 +1,6 @@
 use Rattle.std.proofs.Common.{◌≡◌, ◌*◌, ◌<◌, ℕ, Some, slice_get, length, drop}
 use Rattle.host_programs.specs.Runs.{Gives, context_at}
-use Rattle.host_programs.proofs.program.HostProgram.run_each.Given as goal
+use Rattle.host_programs.proofs.program.HostProgram.values_on.Given as goal
 
 abbrev pub invariant-loop-at : goal.invariant-loop-at
 invariant-loop-at l =

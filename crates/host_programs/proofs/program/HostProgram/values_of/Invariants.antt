@@ -2,7 +2,7 @@ use Rattle.std.proofs.Common.{◌≡◌, ◌<◌, ℕ, Some, length, slice_get}
 use Rattle.host_programs.specs.Packets.{seen_of}
 use Rattle.host_programs.specs.Runs.{GivesOnPacket}
 use Rattle.host_programs.specs.declared.packet.PacketAt.{PacketAt}
-use Rattle.host_programs.proofs.program.HostProgram.run_on_packets.Given as goal
+use Rattle.host_programs.proofs.program.HostProgram.values_of.Given as goal
 
 abbrev pub invariant-loop-at : goal.invariant-loop-at
 invariant-loop-at l = (length l.results ≡ length l.packets) × ((k n : ℕ) (packet : PacketAt) → k < l.at →
