@@ -10,7 +10,7 @@ use Rattle.bpf_model.specs.declared.event.EventRefusal.TheVariants as refusals
 use Rattle.bpf_model.specs.Machine.{Loaded}
 use Rattle.bpf_model.specs.View.{WorldView, start_view}
 use Rattle.bpf_model.specs.declared.limits.MapShape.{MapShape}
-use Rattle.world.specs.Stretches.{MakesMoves}
+use Rattle.world.specs.Through.{RunsThrough}
 use Rattle.world_laws.specs.Reacting.{full_reaction}
 use Rattle.load_laws.specs.Loads.{with_program}
 use Rattle.host_programs.specs.Opened.{OpenProgram}
@@ -56,17 +56,6 @@ IsNumberOf event (Some w) number = number ≡ answer_number (full_reaction w eve
 abbrev pub IsAnswer : Event → Option WorldView → Answer → Type 0
 IsAnswer event None answer = ⊥
 IsAnswer event (Some w) answer = (full_reaction w event).0 ≡ answer
-
--- From its start to its exit and its drop a run made all steps between, and nothing else happened.
-pub record RunsThrough (old : WorldView) (prog : ℕ) (context : List ℕ) (value : ℕ) (new : WorldView)
-    : Type 0 where
-  pub run : ℕ
-  pub started : (full_reaction old (events.Start prog (record { items = context }))).0 ≡ answers.Started run
-  pub moved : ℕ
-  pub mid : WorldView
-  pub moves : MakesMoves run (full_reaction old (events.Start prog (record { items = context }))).1 moved mid
-  pub exits : (full_reaction mid (events.Step run)).0 ≡ answers.Exited value
-  pub left : new ≡ (full_reaction (full_reaction mid (events.Step run)).1 (events.Drop run)).1
 
 -- The answer is that a key has these bytes.
 abbrev pub FindsBytes : Answer → List ℕ → Type 0

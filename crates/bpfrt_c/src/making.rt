@@ -113,7 +113,7 @@ fn loaded_of(alloc: Global, held: &Held, maps: &[u32]) -> Result<Loaded, i32>
     let Some(maps) = numbers_of(maps) else {
         return Err(EINVAL);
     };
-    match program.verified().copy(alloc) {
+    match program.program().verified().copy(alloc) {
         Ok(verified) => Ok(Loaded { verified, maps }),
         Err(_) => Err(ENOMEM),
     }

@@ -14,7 +14,7 @@ use crate::number::{EBADF, EBUSY, ENOMEM};
 use crate::refusal::{Refusal, tell, tell_memory};
 use crate::shape::{Shape, ShapesFault, shapes_of};
 use host_handle::Host;
-use host_programs::{Data, HostProgram, OpenFault};
+use host_programs::{Data, HostProgram, OpenFault, Opened};
 use host_values::Held;
 use std::alloc::Global;
 use std::sync::Arc;
@@ -40,7 +40,7 @@ fn put_program(
     let Ok(shared) = Arc::new(alloc, program) else {
         return tell_memory(why);
     };
-    let Ok(held) = Box::new(alloc, Held::Program(shared)) else {
+    let Ok(held) = Box::new(alloc, Held::Program(Opened::of(shared))) else {
         return tell_memory(why);
     };
     host.put(held);
@@ -193,7 +193,7 @@ fn another(alloc: Global, held: &Held) -> Result<Box<Held>, i32>
     let Held::Program(program) = held else {
         return Err(EBADF);
     };
-    let Ok(shared) = Arc::try_clone(program) else {
+    let Ok(shared) = program.share() else {
         return Err(ENOMEM);
     };
     match Box::new(alloc, Held::Program(shared)) {

@@ -39,7 +39,7 @@ fn run_over(held: &mut Held, program: &Held, context: &[u8]) -> Result<u64, i32>
     let Held::Reader(reader) = held else {
         return Err(EBADF);
     };
-    match reader.run(program, context) {
+    match reader.run(program.program(), context) {
         Ok(value) => Ok(value),
         Err(fault) => Err(number_of(fault)),
     }
@@ -62,7 +62,7 @@ fn run_over_on_packet(held: &mut Held, program: &Held, packet: &[u8], wire: u32)
     let Held::Reader(reader) = held else {
         return Err(EBADF);
     };
-    match reader.run_on_packet(program, packet, wire) {
+    match reader.run_on_packet(program.program(), packet, wire) {
         Ok(value) => Ok(value),
         Err(fault) => Err(number_of(fault)),
     }
@@ -83,7 +83,7 @@ fn serves_held(held: &Held, program: &Held) -> i32
     let Held::Program(program) = program else {
         return EBADF;
     };
-    match table.serves(program) {
+    match table.serves(program.program()) {
         Ok(()) => 0,
         Err(fault) => number_of(fault),
     }

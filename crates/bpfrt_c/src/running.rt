@@ -22,10 +22,11 @@ fn number_of(fault: RunFault) -> i32
 }
 
 /// Runs the program that is held, if one is.
-fn run_held(held: &Held, context: &[u8]) -> Result<u64, i32>
-    ensures gives { IfOk result (λ n. IfSome (program_in (Some held.now)) (λ p. Gives p context.now n)) }
-    ensures ran { IfSome (program_in (Some held.now)) (λ p. CanRunOn p context.now → IsOk result) }
-    ensures none { program_in (Some held.now) ≡ None → result ≡ Err (neg_ℤ (pos 9)) }
+fn run_held(held: &mut Held, context: &[u8]) -> Result<u64, i32>
+    ensures gives { IfOk result (λ n. IfSome (program_in (Some held.old)) (λ p. Gives p context.now n)) }
+    ensures ran { IfSome (program_in (Some held.old)) (λ p. CanRunOn p context.now → IsOk result) }
+    ensures none { program_in (Some held.old) ≡ None → result ≡ Err (neg_ℤ (pos 9)) }
+    ensures kept { held.new ≡ held.old }
     ensures fault { IfErr result (λ number. number ≢ pos 0) }
 {
     let Held::Program(program) = held else {
@@ -38,12 +39,13 @@ fn run_held(held: &Held, context: &[u8]) -> Result<u64, i32>
 }
 
 /// Runs the program that is held, if one is, on each context.
-fn run_held_on_each(held: &Held, contexts: &[u8], values: &mut [u64]) -> Result<(), i32>
-    ensures gives { OnOk result (IfSome (program_in (Some held.now)) (λ p. GivesEach p contexts.now values.new)) }
-    ensures ran { IfSome (program_in (Some held.now)) (λ p.
+fn run_held_on_each(held: &mut Held, contexts: &[u8], values: &mut [u64]) -> Result<(), i32>
+    ensures gives { OnOk result (IfSome (program_in (Some held.old)) (λ p. GivesEach p contexts.now values.new)) }
+    ensures ran { IfSome (program_in (Some held.old)) (λ p.
         CanRunOnEach p contexts.now (length values.old) → IsOk result) }
-    ensures none { program_in (Some held.now) ≡ None → result ≡ Err (neg_ℤ (pos 9)) }
+    ensures none { program_in (Some held.old) ≡ None → result ≡ Err (neg_ℤ (pos 9)) }
     ensures unwritten { OnErr result (values.new ≡ values.old) }
+    ensures kept { held.new ≡ held.old }
     ensures fault { IfErr result (λ number. number ≢ pos 0) }
 {
     let Held::Program(program) = held else {
@@ -56,11 +58,12 @@ fn run_held_on_each(held: &Held, contexts: &[u8], values: &mut [u64]) -> Result<
 }
 
 /// Runs the program that is held, if one is, on a packet.
-fn run_held_on_packet(held: &Held, packet: &[u8], wire: u32) -> Result<u64, i32>
-    ensures gives { IfOk result (λ n. IfSome (program_in (Some held.now)) (λ p.
+fn run_held_on_packet(held: &mut Held, packet: &[u8], wire: u32) -> Result<u64, i32>
+    ensures gives { IfOk result (λ n. IfSome (program_in (Some held.old)) (λ p.
         GivesOnPacket p (seen packet.now wire) n)) }
-    ensures ran { IfSome (program_in (Some held.now)) (λ p. CanRunOnPackets p → IsOk result) }
-    ensures none { program_in (Some held.now) ≡ None → result ≡ Err (neg_ℤ (pos 9)) }
+    ensures ran { IfSome (program_in (Some held.old)) (λ p. CanRunOnPackets p → IsOk result) }
+    ensures none { program_in (Some held.old) ≡ None → result ≡ Err (neg_ℤ (pos 9)) }
+    ensures kept { held.new ≡ held.old }
     ensures fault { IfErr result (λ number. number ≢ pos 0) }
 {
     let Held::Program(program) = held else {
@@ -90,10 +93,10 @@ pub extern "C" fn bpfrt0_prog_run(
     ensures unwritten { result ≢ pos 0 → value.new ≡ value.old }
     ensures kept { host.new.handle.held ≡ host.old.handle.held }
 {
-    let Some(held) = host.take(alloc) else {
+    let Some(mut held) = host.take(alloc) else {
         return EBADF;
     };
-    let ran = run_held(&held, context);
+    let ran = run_held(held.as_mut(), context);
     host.put(held);
     match ran {
         Ok(number) => {
@@ -122,10 +125,10 @@ pub extern "C" fn bpfrt0_prog_run_many(
     ensures unwritten { result ≢ pos 0 → values.new ≡ values.old }
     ensures kept { host.new.handle.held ≡ host.old.handle.held }
 {
-    let Some(held) = host.take(alloc) else {
+    let Some(mut held) = host.take(alloc) else {
         return EBADF;
     };
-    let ran = run_held_on_each(&held, contexts, values);
+    let ran = run_held_on_each(held.as_mut(), contexts, values);
     host.put(held);
     match ran {
         Ok(()) => 0,
@@ -151,10 +154,10 @@ pub extern "C" fn bpfrt0_prog_run_packet(
     ensures unwritten { result ≢ pos 0 → value.new ≡ value.old }
     ensures kept { host.new.handle.held ≡ host.old.handle.held }
 {
-    let Some(held) = host.take(alloc) else {
+    let Some(mut held) = host.take(alloc) else {
         return EBADF;
     };
-    let ran = run_held_on_packet(&held, packet, wire);
+    let ran = run_held_on_packet(held.as_mut(), packet, wire);
     host.put(held);
     match ran {
         Ok(number) => {
@@ -167,19 +170,20 @@ pub extern "C" fn bpfrt0_prog_run_packet(
 
 /// Runs the program that is held, if one is, on each packet.
 fn run_held_on_all(
-    held: &Held,
+    held: &mut Held,
     bytes: &[u8],
     packets: &[PacketAt],
     values: &mut [u64],
 ) -> Result<(), i32>
-    ensures gives { OnOk result (IfSome (program_in (Some held.now)) (λ p.
+    ensures gives { OnOk result (IfSome (program_in (Some held.old)) (λ p.
         GivesEachPacket p bytes.now packets.now values.new)) }
-    ensures ran { IfSome (program_in (Some held.now)) (λ p.
+    ensures ran { IfSome (program_in (Some held.old)) (λ p.
         CanRunOnAll p bytes.now packets.now (length values.old) → IsOk result) }
-    ensures none { program_in (Some held.now) ≡ None → result ≡ Err (neg_ℤ (pos 9)) }
+    ensures none { program_in (Some held.old) ≡ None → result ≡ Err (neg_ℤ (pos 9)) }
     ensures as_many { OnOk result (length packets.now ≡ length values.old) }
     ensures inside { OnOk result (AreInside (length bytes.now) packets.now) }
     ensures unwritten { OnErr result (values.new ≡ values.old) }
+    ensures kept { held.new ≡ held.old }
     ensures fault { IfErr result (λ number. number ≢ pos 0) }
 {
     let Held::Program(program) = held else {
@@ -212,10 +216,10 @@ pub extern "C" fn bpfrt0_prog_run_packets(
     ensures unwritten { result ≢ pos 0 → values.new ≡ values.old }
     ensures kept { host.new.handle.held ≡ host.old.handle.held }
 {
-    let Some(held) = host.take(alloc) else {
+    let Some(mut held) = host.take(alloc) else {
         return EBADF;
     };
-    let ran = run_held_on_all(&held, bytes, packets, values);
+    let ran = run_held_on_all(held.as_mut(), bytes, packets, values);
     host.put(held);
     match ran {
         Ok(()) => 0,
@@ -234,7 +238,7 @@ pub extern "C" fn bpfrt0_prog_ctx_len(alloc: Global, host: &mut Host) -> i32
         return EBADF;
     };
     let number = match held.as_ref() {
-        Held::Program(program) => program.ctx_len() as i32,
+        Held::Program(program) => program.program().ctx_len() as i32,
         _ => EBADF,
     };
     host.put(held);

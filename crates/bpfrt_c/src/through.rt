@@ -1,37 +1,35 @@
 //! Whole runs in a world.
-ghost use Rattle.std.specs.Prelude.{◌≡◌, ◌≢◌, pos, neg_ℤ, Some, None, IsSome, IfSome, IfOk, IfErr, length};
+ghost use Rattle.std.specs.Prelude.{◌≡◌, ◌≢◌, ◌≤◌, pos, neg_ℤ, Some, None, Err, IfOk, IfErr, length};
+ghost use Rattle.bpf_model.specs.declared.event.Answer.TheVariants as answers;
+ghost use Rattle.bpf_model.specs.declared.event.Event.TheVariants as events;
+ghost use Rattle.bpf_model.specs.declared.event.EventRefusal.{EventRefusal as Refusal_};
+ghost use Rattle.bpf_model.specs.declared.limits.TheConstants.{CTX_BYTES};
 ghost use Rattle.host_values.specs.Values.{world_in};
-ghost use Rattle.bpfrt_c.specs.Worlds.{RunsThrough, RunsThroughIn};
+ghost use Rattle.world.specs.Through.{RunsThrough};
+ghost use Rattle.world_laws.specs.Reacting.{full_reaction};
+ghost use Rattle.bpfrt_c.specs.Worlds.{IsAnswer, Reacts, RunsThroughIn, refusal_error};
 
-use crate::number::{EAGAIN, EBADF, EINVAL};
+use crate::number::{EBADF, EINVAL};
 use crate::worlds::number_of_refusal;
-use bpf_model::{Answer, CTX_BYTES, CtxBytes, Event, MAX_SLOTS, ProgId, array_of};
+use bpf_model::{CTX_BYTES, CtxBytes, ProgId, array_of};
 use host_handle::Host;
 use host_values::Held;
 use std::alloc::Global;
 use world::World;
 
 /// A run of a program from its start to its exit, and out of its run slot, with nothing between its steps.
-fn run_through(world: &mut World, prog: ProgId, context: CtxBytes) -> Result<u64, i32>
-    ensures through { IfOk result (λ value. RunsThrough world.old prog context.items value world.new) }
+fn run_through(world: &mut World, prog: ProgId, context: &CtxBytes) -> Result<u64, i32>
+    ensures through { IfOk result (λ value. RunsThrough world.old prog context.now.items value world.new) }
     ensures fault { IfErr result (λ number. number ≢ pos 0) }
+    ensures refused { (why : Refusal_) → (full_reaction world.old (events.Start prog context.now)).0 ≡ answers.Refused why →
+        result ≡ Err (neg_ℤ (pos (refusal_error why))) }
+    ensures kept { (why : Refusal_) → (full_reaction world.old (events.Start prog context.now)).0 ≡ answers.Refused why →
+        world.new ≡ world.old }
 {
-    let start = Event::Start { prog, ctx: context };
-    let mut answer = Answer::Moved;
-    world.apply_into(&start, &mut answer);
-    let run = match &answer {
-        Answer::Started(run) => *run,
-        Answer::Refused(refusal) => return Err(number_of_refusal(*refusal)),
-        _ => return Err(EAGAIN),
-    };
-    let _stretch = world.run_for(run, MAX_SLOTS);
-    world.apply_into(&Event::Step { run }, &mut answer);
-    let Answer::Exited(value) = &answer else {
-        return Err(EAGAIN);
-    };
-    let value = *value;
-    world.apply_into(&Event::Drop { run }, &mut answer);
-    Ok(value)
+    match world.run_through(prog, context) {
+        Ok(value) => Ok(value),
+        Err(refusal) => Err(number_of_refusal(refusal)),
+    }
 }
 
 /// Runs a program of the world on a context, from its start to its exit and its drop, with nothing between its steps.
@@ -48,6 +46,9 @@ pub extern "C" fn bpfrt0_world_run(
 ) -> i32
     ensures through { result ≡ pos 0 → RunsThroughIn (world_in host.old.handle.held) prog context.now value.new
         (world_in host.new.handle.held) }
+    ensures refused { (why : Refusal_) → length context.now ≤ CTX_BYTES →
+        IsAnswer (events.Start prog (record { items = context.now })) (world_in host.old.handle.held) (answers.Refused why) →
+        (result ≡ neg_ℤ (pos (refusal_error why))) × (world_in host.new.handle.held ≡ world_in host.old.handle.held) }
     ensures none { world_in host.old.handle.held ≡ None → host.new.handle.held ≡ host.old.handle.held }
     ensures unwritten { result ≢ pos 0 → value.new ≡ value.old }
 {
@@ -58,7 +59,7 @@ pub extern "C" fn bpfrt0_world_run(
         return EBADF;
     };
     let ran = match held.as_mut() {
-        Held::World(world) => run_through(world, ProgId::new(prog as usize), array_of(context)),
+        Held::World(world) => run_through(world, ProgId::new(prog as usize), &array_of(context)),
         _ => Err(EBADF),
     };
     host.put(held);

@@ -10,3 +10,4 @@ pub mod Programs
 pub mod Serving
 pub mod Stepping
 pub mod Stretches
+pub mod Through

@@ -17,5 +17,6 @@ mod starting;
 mod step;
 mod walk;
 
+pub(crate) use brief::Brief;
 pub use loaded::Loaded;
 pub use parts::Parts;

@@ -19,6 +19,7 @@ mod section;
 mod serving;
 pub mod serving_laws;
 mod stretch;
+mod through;
 mod world;
 
 pub use fault::WorldFault;

@@ -13,7 +13,7 @@ use machine::Run;
 
 impl Parts {
     /// Does a start as `start_into` says, and answers it in few bytes.
-    fn started(&mut self, prog: ProgId, ctx: &CtxBytes) -> Brief
+    pub(crate) fn started(&mut self, prog: ProgId, ctx: &CtxBytes) -> Brief
         ensures answer { brief_answer result ≡ (start_reaction self.old prog ctx.now.items).0 }
         ensures new { self.new ≡ (start_reaction self.old prog ctx.now.items).1 }
     {
@@ -58,7 +58,7 @@ impl Parts {
     }
 
     /// Does a drop as `drop_into` says, and answers it in few bytes.
-    fn dropped(&mut self, run: RunId) -> Brief
+    pub(crate) fn dropped(&mut self, run: RunId) -> Brief
         ensures answer { brief_answer result ≡ (drop_reaction self.old run).0 }
         ensures new { self.new ≡ (drop_reaction self.old run).1 }
     {

@@ -95,7 +95,7 @@ impl Parts {
 
     /// One step of a run, or why there is none.
     #[inline(always)]
-    fn stepped(&mut self, run: RunId) -> Brief
+    pub(crate) fn stepped(&mut self, run: RunId) -> Brief
         requires sound { IsMatched self.old }
         ensures answer { brief_answer result ≡ (full_reaction self.old (Event.Step run)).0 }
         ensures new { self.new ≡ (full_reaction self.old (Event.Step run)).1 }
