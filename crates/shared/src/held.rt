@@ -35,7 +35,7 @@ impl<'a, L: Ledger> Model for Held<'a, L> {
 }
 
 impl<'a, L: Ledger> Held<'a, L> {
-    /// The program of this number, as the world had it when it was shared.
+    /// The program of this number, as the world had it when it was shared, or as it was added.
     pub fn program(&self, prog: ProgId) -> Option<&Verified>
         ensures { option_copied result ≡ slice_get self.now prog }
     {

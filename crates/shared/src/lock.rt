@@ -235,7 +235,7 @@ impl<L: Ledger> Shared<L> {
         Ok(answer)
     }
 
-    /// The program of this number, as the world had it when it was shared. It needs no lock.
+    /// The program of this number, as the world had it when it was shared, or as it was added. It needs no lock.
     pub fn program(&self, prog: ProgId) -> Option<&Verified>
         ensures { option_copied result ≡ slice_get self.now prog }
     {

@@ -9,7 +9,7 @@ ghost use Rattle.bpf_model.specs.View.{shapes_of};
 ghost use Rattle.shared_books.specs.Books.{IsJournalFull, TotalsRise, CutsTo, LoadsTo};
 ghost use Rattle.world.specs.BoundTo.{IsBound};
 ghost use Rattle.world.specs.Programs.{program_of};
-ghost use Rattle.world.specs.declared.fault.WorldFault.TheVariants.{TooManyPrograms, Memory};
+ghost use Rattle.world.specs.declared.fault.WorldFault.TheVariants.{Binding, TooManyPrograms, Memory};
 ghost use Rattle.shared_books.specs.declared.fault.LoadFault.TheVariants as load_fault;
 ghost use Rattle.shared_books.specs.Receipts.{IsMachineAnswer};
 ghost use Rattle.shared_books.specs.Stretches.{EntersMoves, HasMade};
@@ -189,6 +189,9 @@ impl<L: Ledger> State<L> {
             ↔ (HasNoRuns self.old.books.world → ⊥) }
         ensures too_many { HasNoRuns self.old.books.world → MAX_PROGRAMS ≤ length self.old.books.world.programs →
             (result ≡ Err (load_fault.World TooManyPrograms)) ⊎ (result ≡ Err (load_fault.World Memory)) }
+        ensures binding { HasNoRuns self.old.books.world → length self.old.books.world.programs < MAX_PROGRAMS →
+            (IsBound (shapes_of self.old.books.world) loaded → ⊥) →
+            (result ≡ Err (load_fault.World (Binding (length self.old.books.world.programs)))) ⊎ (result ≡ Err (load_fault.World Memory)) }
         ensures made { HasNoRuns self.old.books.world → length self.old.books.world.programs < MAX_PROGRAMS →
             IsBound (shapes_of self.old.books.world) loaded → IsOk result ⊎ (result ≡ Err (load_fault.World Memory)) }
         ensures number { IfOk result (λ p. p ≡ length self.old.books.world.programs) }

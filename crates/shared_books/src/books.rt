@@ -11,7 +11,7 @@ ghost use Rattle.shared_books.specs.Tally.{IsTallyOf, origin_of};
 ghost use Rattle.shared_books.specs.Books.{HasNoRoom, TotalsRise, CutsTo, LoadsTo};
 ghost use Rattle.world.specs.BoundTo.{IsBound};
 ghost use Rattle.world.specs.Programs.{program_of};
-ghost use Rattle.world.specs.declared.fault.WorldFault.TheVariants.{TooManyPrograms, Memory};
+ghost use Rattle.world.specs.declared.fault.WorldFault.TheVariants.{Binding, TooManyPrograms, Memory};
 ghost use Rattle.shared_books.specs.declared.fault.LoadFault.TheVariants as load_fault;
 ghost use Rattle.shared_books.specs.declared.fault.SharedFault.TheVariants as fault;
 ghost use Rattle.shared_books.specs.declared.fault.CutFault.TheVariants as cut_fault;
@@ -202,6 +202,9 @@ impl<L: Ledger> Books<L> {
         ensures quiet { (result ≡ Err load_fault.NotQuiet) ↔ (HasNoRuns self.old.world → ⊥) }
         ensures too_many { HasNoRuns self.old.world → MAX_PROGRAMS ≤ length self.old.world.programs →
             (result ≡ Err (load_fault.World TooManyPrograms)) ⊎ (result ≡ Err (load_fault.World Memory)) }
+        ensures binding { HasNoRuns self.old.world → length self.old.world.programs < MAX_PROGRAMS →
+            (IsBound (shapes_of self.old.world) loaded → ⊥) →
+            (result ≡ Err (load_fault.World (Binding (length self.old.world.programs)))) ⊎ (result ≡ Err (load_fault.World Memory)) }
         ensures made { HasNoRuns self.old.world → length self.old.world.programs < MAX_PROGRAMS →
             IsBound (shapes_of self.old.world) loaded → IsOk result ⊎ (result ≡ Err (load_fault.World Memory)) }
         ensures number { IfOk result (λ p. p ≡ length self.old.world.programs) }
