@@ -16,7 +16,7 @@
  *   -EACCES  the verifier refuses the program
  *   -EOPNOTSUPP  the program names a map, so it runs in a world or over a table alone; or no table serves it, and a world does
  *
- * and those that stand at a call. Where a call fails, what it would have written is as before.
+ * and those that stand at a call. Where a call fails, what it would have written is as before, but for `why`.
  *
  * What the host owes, and nothing checks:
  *
@@ -64,7 +64,8 @@ struct bpfrt_reader {
 	uint32_t state;
 };
 
-/* Why no program was opened: its number in docs/REFUSALS.md, where the fault is, and in words what it is. */
+/* Why no program was opened: its number in docs/REFUSALS.md, where the fault is, and in words what it is. The number is 0 where a pointer
+   is null that may not be. */
 enum bpfrt_place {
 	BPFRT_NOWHERE = 0,
 	BPFRT_SLOT = 1,        /* of the program, from 0 */
@@ -219,6 +220,15 @@ static inline const struct bpfrt_packet *bpfrt_no_packets(void)
 	return &none;
 }
 
+/* What is answered where a pointer is null that may not be. */
+static inline int32_t bpfrt_is_null(struct bpfrt_refusal *why)
+{
+	static const struct bpfrt_refusal null = {0, 0, 0, "a pointer is null where bytes are to be"};
+	if (why)
+		*why = null;
+	return -22; /* -EINVAL */
+}
+
 /* Programs */
 
 /* Opens the program of these bytes (RFC 9669: 8 a slot, little-endian), for contexts of ctx_len bytes, at most 256, and for maps of
@@ -229,7 +239,7 @@ static inline int32_t bpfrt_prog_open(struct bpfrt_prog *prog, const void *insns
 {
 	struct bpfrt_refusal none;
 	if ((!insns && size) || (!maps && nr_maps))
-		return -22; /* -EINVAL */
+		return bpfrt_is_null(why);
 	return bpfrt0_prog_open(prog, bpfrt_some(insns), size, ctx_len, (maps ? maps : bpfrt_no_shapes()), nr_maps, why ? why : &none);
 }
 
@@ -239,17 +249,18 @@ static inline int32_t bpfrt_prog_open_file(struct bpfrt_prog *prog, const void *
 {
 	struct bpfrt_refusal none;
 	if (!text && size)
-		return -22; /* -EINVAL */
+		return bpfrt_is_null(why);
 	return bpfrt0_prog_open_file(prog, bpfrt_some(text), size, why ? why : &none);
 }
 
 /* Opens the filter that `tcpdump -ddd` wrote. Its runs return what the classic program returns, of a packet of at most 248 captured
-   bytes; of a longer one what it returns of the first 248, as if no more had been captured. */
+   bytes; of a longer one what it returns of the first 248, as if no more had been captured. A shift by a number of the packet's above 31
+   shifts by its low five bits, as in Linux; libpcap answers 0 there. */
 static inline int32_t bpfrt_prog_open_tcpdump(struct bpfrt_prog *prog, const void *text, size_t size, struct bpfrt_refusal *why)
 {
 	struct bpfrt_refusal none;
 	if (!text && size)
-		return -22; /* -EINVAL */
+		return bpfrt_is_null(why);
 	return bpfrt0_prog_open_tcpdump(prog, bpfrt_some(text), size, why ? why : &none);
 }
 
@@ -258,7 +269,7 @@ static inline int32_t bpfrt_prog_open_filter(struct bpfrt_prog *prog, const void
 {
 	struct bpfrt_refusal none;
 	if (!insns && size)
-		return -22; /* -EINVAL */
+		return bpfrt_is_null(why);
 	return bpfrt0_prog_open_filter(prog, bpfrt_some(insns), size, why ? why : &none);
 }
 
@@ -267,7 +278,7 @@ static inline int32_t bpfrt_prog_open_policy(struct bpfrt_prog *prog, const void
 {
 	struct bpfrt_refusal none;
 	if (!insns && size)
-		return -22; /* -EINVAL */
+		return bpfrt_is_null(why);
 	return bpfrt0_prog_open_policy(prog, bpfrt_some(insns), size, why ? why : &none);
 }
 
@@ -337,7 +348,7 @@ static inline int32_t bpfrt_world_open(struct bpfrt_world *world, const struct b
 {
 	struct bpfrt_refusal none;
 	if (!maps && nr_maps)
-		return -22; /* -EINVAL */
+		return bpfrt_is_null(why);
 	return bpfrt0_world_open(world, (maps ? maps : bpfrt_no_shapes()), nr_maps, why ? why : &none);
 }
 

@@ -194,4 +194,4 @@ Status, and the line on standard error:
 
 Example:
   $ printf '1\\n6 0 0 262144\\n' | bpfrt filter - | bpfrt check /dev/stdin
-  accepted 25 instructions 25 slots";
+  accepted 6 instructions 6 slots";
