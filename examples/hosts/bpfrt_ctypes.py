@@ -9,9 +9,9 @@ The methods that both classes have give the same, and raise the same by name. He
 
 - a program may be loaded at any time, a map only before the first call that needs them all (`put`, `get`, `delete`, `start`, `reap`,
   `advance`, or a run of a program that names one);
-- `run_buffer`, `run_packet`, `run_packets`, `load_filter`, `load_array` and `load_policy` come to it, and `dump`, `stat`, `batch` and
-  `ask` are missing;
-- `reap` says only whether an element was reclaimed;
+- `run_buffer`, `run_packet`, `run_packets`, `load_filter`, `load_array` and `load_policy` come to it, and `dump`, `stat`, `tidy`,
+  `batch` and `ask` are missing;
+- `reap` says only whether an element was reclaimed, no call has `timeout=`, and a refusal has no `text`;
 - want of memory is a MemoryError, and nothing has changed.
 
 A call cannot be cut off in its midst, so a Runtime does not break. Threads may share one: calls wait for one another. The child of a
@@ -447,6 +447,20 @@ class Runtime:
             except OSError as error:
                 raise Refused(63, "the program is no filter") if error.errno == errno.EINVAL else error
             return value.value
+
+    def run_places(self, program, data, places):
+        """Runs a filter on packets that lie in a buffer: an array of the values. `places` is a buffer too, with 16 bytes a packet:
+        where it begins, how much of it was captured, and how many bytes it had on the wire (struct's "=QII"). No packet is copied."""
+        with self._turn:
+            held, (room, size), (rows, length) = self._program(program).held, lent(data), lent(places)
+            if length % 16:
+                raise Refused(63, f"places of {length} bytes, and one has 16")
+            values = array.array("Q", bytes(length // 2))
+            try:
+                self._call("prog_run_packets", held, room, size, rows, length // 16, lent(values)[0], length // 16)
+            except OSError as error:
+                raise Refused(63, "the program is no filter, or a place lies outside") if error.errno == errno.EINVAL else error
+        return values
 
     def run_packets(self, program, packets):
         """Runs a filter on packets in one call, each of which is bytes, or a pair of bytes and how many were on the wire: an array of
