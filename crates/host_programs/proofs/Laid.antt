@@ -28,7 +28,7 @@ behind m n k rest =
     let e : 8 + k ≡ suc (suc (suc (suc (suc (suc (suc (suc k))))))) = omega arith in
     ap (slice_get (to_le_bytes w32 m ++ (to_le_bytes w32 n ++ rest))) e
 
-get-take : (n k b : ℕ) (xs : List ℕ) → slice_get (take n xs) k ≡ Some b → slice_get xs k ≡ Some b
+pub get-take : (n k b : ℕ) (xs : List ℕ) → slice_get (take n xs) k ≡ Some b → slice_get xs k ≡ Some b
 get-take zero k b xs h = absurd (none-some b h)
 get-take (suc n) k b [] h = h
 get-take (suc n) zero b (x ∷ xs) h = h

@@ -1,4 +1,7 @@
 mod Each
+mod Filtering
+mod Having
+mod InTime
 mod Laid
 mod OneExit
 mod Refused

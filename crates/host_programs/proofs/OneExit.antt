@@ -14,16 +14,16 @@ use Rattle.plan_laws.specs.MayExit.{MayExitFrom, may_exit_now, may_exit_later}
 use Rattle.plan_laws.specs.Verified.{Surrounds}
 
 -- a run of a program without maps, on a context of its length
-record IsAlone (run : Run) : Type 0 where
-  maps : run.program.maps ≡ []
-  long : length run.context ≡ run.program.context_len
-  bytes : AreBytes run.context
-  going : run.exit ≡ None
+pub record IsAlone (run : Run) : Type 0 where
+  pub maps : run.program.maps ≡ []
+  pub long : length run.context ≡ run.program.context_len
+  pub bytes : AreBytes run.context
+  pub going : run.exit ≡ None
 
 no-element : {A : Type 0} (n : ℕ) (e : Element) → slice_get {X = Element} [] n ≡ Some e → A
 no-element n e h = absurd (none-some e h)
 
-around : (run : Run) → IsAlone run → Surrounds [] run.program.context_len no_maps (section_of run ∷ []) run
+pub around : (run : Run) → IsAlone run → Surrounds [] run.program.context_len no_maps (section_of run ∷ []) run
 around run a = record {
   going = a.going;
   section = λ inside. (0, refl);
@@ -39,7 +39,7 @@ around run a = record {
   context = a.bytes;
 }
 
-same-exit : (old new : Option ℕ) (p q : ℕ) → q ≡ p + 1 → ((q ≡ p + 1) × (new ≡ old)) ⊎ (q ≡ p) → new ≡ old
+pub same-exit : (old new : Option ℕ) (p q : ℕ) → q ≡ p + 1 → ((q ≡ p + 1) × (new ≡ old)) ⊎ (q ≡ p) → new ≡ old
 same-exit old new p q e h = elim h [ inl x ↦ x.1 | inr x ↦ absurd (omega (arith, e, x)) ]
 
 may-exit : (run : Run) (steps n : ℕ) → IsAlone run → ExitsFrom run steps n → MayExitFrom [] run steps n

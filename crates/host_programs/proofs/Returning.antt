@@ -13,7 +13,7 @@ use Rattle.host_programs.specs.Opened.{IsTranslationOf}
 use Rattle.host_programs.specs.Runs.{ReturnsOn, Returns}
 use Rattle.host_programs.proofs.OneExit.{one_value}
 
-abbrev with_length : Checked → ℕ → Loaded
+abbrev pub with_length : Checked → ℕ → Loaded
 with_length v n = record { code = v.program; maps = []; context_len = n }
 
 pub returns_on : (v : Checked) (c : Option Classic) (context : List ℕ) (steps n : ℕ) → IsTranslationOf v c

@@ -1,5 +1,5 @@
 -- What a host has opened.
-use Rattle.std.specs.Prelude.{◌≡◌, ◌≤◌, ℕ, List, Option, Some, None, length}
+use Rattle.std.specs.Prelude.{◌≡◌, ◌≤◌, ℕ, List, [], Option, Some, None, length}
 use Rattle.bpf_model.specs.declared.limits.MapShape.{MapShape}
 use Rattle.bpf_model.specs.declared.limits.TheConstants.{CTX_BYTES, MAX_MAPS}
 use Rattle.bpf_model.specs.Shapes.{AreShapes}
@@ -21,9 +21,11 @@ pub record OpenProgram : Type 0 where
   pub checked : Checked
   pub classic : Option Classic
 
--- Each run of the program exits with what the classic program returns, on a context of that program's data.
+-- Each run of the program, which was verified for no maps, exits with what the classic program returns, on a context of that program's
+-- data.
 pub record Translates (v : Checked) (c : Classic) : Type 0 where
   pub context : v.ctx_len ≡ context_bytes c.kind
+  pub shapes : v.shapes ≡ []
   pub translation : IsTranslation c.kind c.instructions v.program
 
 -- No run of the program is ever stuck, and each exits in time.

@@ -5,7 +5,10 @@ ghost use Rattle.bpf_model.specs.declared.limits.TheConstants.{CTX_BYTES, MAX_MA
 ghost use Rattle.bpf_model.specs.Shapes.{AreShapes};
 ghost use Rattle.bpf_model.specs.Spelling.{IsProgram, text};
 ghost use Rattle.classic_program.specs.Reading.{IsListing, filters_in};
+ghost use Rattle.classic_program.specs.WellFormed.{checked};
 ghost use Rattle.classic_program.specs.declared.data.Data.TheVariants.{Packet};
+ghost use Rattle.classic_program.specs.declared.fault.ClassicFault.TheVariants.{Memory};
+ghost use Rattle.host_programs.specs.declared.fault.OpenFault.TheVariants.{Flawed};
 ghost use Rattle.classic_program.specs.declared.sock_filter.SockFilter.{SockFilter as FilterOf};
 ghost use Rattle.host_programs.specs.Opened.{IsOfBytes, IsOfFile, IsOfClassic};
 ghost use Rattle.host_programs.specs.Refusals.{IsBadShape, IsBytesFault, IsFileFault, IsClassicFault, IsListingFault, IsArrayFault};
@@ -13,7 +16,11 @@ ghost use Rattle.host_programs.specs.Refusals.{IsBadShape, IsBytesFault, IsFileF
 use crate::fault::OpenFault;
 use crate::program::HostProgram;
 use bpf_model::{CTX_BYTES, MAX_MAPS, MapShape};
-use classic::{Data, SockFilter, check, read_filter_array, read_listing, translate};
+use classic::{
+    ClassicFault, ClassicProgram, Data, SockFilter, check, read_filter_array, read_listing,
+    translate,
+};
+use classic_runs::PacketFilter;
 use insn_codec::decode;
 use maps::is_shape;
 use program_files::{load, verify_for_maps};
@@ -46,6 +53,20 @@ fn line_behind(bytes: &[u8], valid: usize) -> usize
         }
     }
     line
+}
+
+/// A classic program of packets, ready to be run.
+fn ready(alloc: Global, classic: &ClassicProgram) -> Result<Option<PacketFilter>, OpenFault>
+    ensures same { IfOk result (λ o. IfSome o (λ f. classic.now ≡ checked Packet f)) }
+    ensures fault { IfErr result (λ e. e ≡ Flawed Memory) }
+{
+    match classic.data() {
+        Data::Seccomp => Ok(None),
+        Data::Packet => match PacketFilter::new(alloc, classic) {
+            Ok(filter) => Ok(Some(filter)),
+            Err(_) => Err(OpenFault::Flawed(ClassicFault::Memory)),
+        },
+    }
 }
 
 impl HostProgram {
@@ -106,10 +127,12 @@ impl HostProgram {
             Ok(translation) => translation,
             Err(fault) => return Err(OpenFault::Untranslated(fault)),
         };
-        match verify(alloc, translation, &[], kind.context_len()) {
-            Ok(verified) => Ok(HostProgram::of_translation(verified, classic)),
-            Err(refusal) => Err(OpenFault::Program(refusal)),
-        }
+        let verified = match verify(alloc, translation, &[], kind.context_len()) {
+            Ok(verified) => verified,
+            Err(refusal) => return Err(OpenFault::Program(refusal)),
+        };
+        let filter = ready(alloc, &classic)?;
+        Ok(HostProgram::of_translation(verified, classic, filter))
     }
 
     /// The filter of packets that a text lists, as `tcpdump -ddd` writes it.

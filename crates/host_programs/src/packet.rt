@@ -1,6 +1,7 @@
 //! The context of a packet, and packets among bytes.
-ghost use Rattle.std.specs.Prelude.{◌≡◌, ◌≤◌, ◌+◌, ◌++◌, Decides, length};
+ghost use Rattle.std.specs.Prelude.{◌≡◌, ◌≤◌, ◌+◌, ◌++◌, Decides, length, take};
 ghost use Rattle.bpf_model.specs.declared.limits.TheConstants.{CTX_BYTES};
+ghost use Rattle.bpf_model.specs.Real.{AreBytes};
 ghost use Rattle.classic_program.specs.Context.{IsPacketContext, packet_bytes};
 ghost use Rattle.host_programs.specs.Packets.{AreInside, IsInside, bytes_of, seen};
 
@@ -61,4 +62,14 @@ pub(crate) fn packet_in<'a>(bytes: &'a [u8], packet: &PacketAt) -> &'a [u8]
     let (_, rest) = bytes.split_at(at);
     let (packet, _) = rest.split_at(packet.captured as usize);
     packet
+}
+
+/// What a program sees of a packet.
+#[inline]
+pub(crate) fn first_bytes(packet: &[u8]) -> &[u8]
+    ensures same { result.now ≡ take packet_bytes packet.now }
+    ensures bytes { AreBytes packet.now }
+{
+    are_bytes(packet);
+    &packet[..PACKET_BYTES.min(packet.len())]
 }

@@ -2,6 +2,7 @@
 
 use bpf_model::MapShape;
 use classic::ClassicProgram;
+use classic_runs::PacketFilter;
 use map_free_runs::has_no_maps;
 use shared_runs::stores_sub_words;
 use std::marker::Model;
@@ -12,6 +13,8 @@ use verifier::Verified;
 pub struct HostProgram {
     verified: Verified,
     classic: Option<ClassicProgram>,
+    /// That classic program ready to be run on packets, where it is one of packets.
+    filter: Option<PacketFilter>,
     /// Whether it names no map.
     alone: bool,
     /// Whether it stores less than a word to an element, or changes a map.
@@ -19,7 +22,9 @@ pub struct HostProgram {
 }
 
 impl Model for HostProgram {
-    ghost use Rattle.std.specs.Prelude.{Decides};
+    ghost use Rattle.std.specs.Prelude.{◌≡◌, Some, Decides, IfSome};
+    ghost use Rattle.classic_program.specs.WellFormed.{checked};
+    ghost use Rattle.classic_program.specs.declared.data.Data.TheVariants.{Packet};
     ghost use Rattle.bpf_model.specs.Exit.{HasNoMaps};
     ghost use Rattle.shared_runs.specs.Words.{StoresSubWords};
     ghost use Rattle.host_programs.specs.Opened.{OpenProgram, IsTranslationOf};
@@ -29,11 +34,14 @@ impl Model for HostProgram {
     ghost view = { λ p. record { checked = p.verified; classic = p.classic } };
 
     ghost invariant = { λ p. Decides p.alone (HasNoMaps p.verified.program)
-        × Decides p.sub_words (StoresSubWords p.verified) × IsTranslationOf p.verified p.classic };
+        × Decides p.sub_words (StoresSubWords p.verified) × IsTranslationOf p.verified p.classic
+        × IfSome p.filter (λ f. p.classic ≡ Some (checked Packet f)) };
 }
 
 impl HostProgram {
-    ghost use Rattle.std.specs.Prelude.{◌≡◌, ◌≤◌, Decides, Some, None, option_copied};
+    ghost use Rattle.std.specs.Prelude.{◌≡◌, ◌≤◌, Decides, Some, None, IfSome};
+    ghost use Rattle.classic_program.specs.WellFormed.{checked};
+    ghost use Rattle.classic_program.specs.declared.data.Data.TheVariants.{Packet};
     ghost use Rattle.bpf_model.specs.declared.limits.TheConstants.{CTX_BYTES};
     ghost use Rattle.bpf_model.specs.Exit.{HasNoMaps};
     ghost use Rattle.shared_runs.specs.Words.{StoresSubWords};
@@ -49,14 +57,20 @@ impl HostProgram {
         HostProgram {
             verified,
             classic: None,
+            filter: None,
             alone,
             sub_words,
         }
     }
 
-    /// A verified translation of a classic program.
-    pub(crate) fn of_translation(verified: Verified, classic: ClassicProgram) -> HostProgram
-        requires { Translates verified classic }
+    /// A verified translation of a classic program, which runs on packets as the filter, where there is one.
+    pub(crate) fn of_translation(
+        verified: Verified,
+        classic: ClassicProgram,
+        filter: Option<PacketFilter>,
+    ) -> HostProgram
+        requires translates { Translates verified classic }
+        requires same { IfSome filter (λ f. classic ≡ checked Packet f) }
         ensures checked { result.checked ≡ verified }
         ensures classic { result.classic ≡ Some classic }
     {
@@ -65,6 +79,7 @@ impl HostProgram {
         HostProgram {
             verified,
             classic: Some(classic),
+            filter,
             alone,
             sub_words,
         }
@@ -105,6 +120,13 @@ impl HostProgram {
         ensures { Decides result (StoresSubWords self.now.checked) }
     {
         self.sub_words
+    }
+
+    /// Its classic program, ready to be run on packets, where it is one of packets.
+    pub(crate) fn filter(&self) -> Option<&PacketFilter>
+        ensures { IfSome result (λ f. self.now.classic ≡ Some (checked Packet f.now)) }
+    {
+        self.filter.as_ref()
     }
 
     /// A law: an open program is verified, and is the translation of its classic program, where it has one.

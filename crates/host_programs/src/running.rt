@@ -9,7 +9,7 @@ ghost use Rattle.host_programs.specs.Runs.{ExitsAs, ExitsOnPacket, GivesEach, Gi
 
 use crate::fault::RunFault;
 use crate::opened::Opened;
-use crate::packet::{PacketAt, are_inside, packet_in};
+use crate::packet::{PacketAt, are_inside, first_bytes, packet_in};
 use crate::program::HostProgram;
 use crate::room::Room;
 use bpf_model::are_bytes;
@@ -30,15 +30,30 @@ impl HostProgram {
         run_in(workspace, self.verified(), context).value
     }
 
-    /// The exit value of a program that names no map and has contexts of packets, on one of these.
+    /// The exit value of such a program, which has contexts of packets, on a packet. A classic filter runs as it stands.
+    fn value_on(&self, packet: &[u8], wire: u32, room: &mut Room) -> u64
+        requires maps { HasNoMaps self.now.checked.program }
+        requires context { self.now.checked.ctx_len ≡ context_bytes Packet }
+        ensures { GivesOnPacket self.now (seen packet.now wire) result }
+    {
+        self.is_open();
+        match self.filter() {
+            Some(filter) => u64::from(filter.run(first_bytes(packet), wire)),
+            None => {
+                room.fill(packet, wire);
+                self.value_in(&mut room.workspace, &room.context)
+            }
+        }
+    }
+
+    /// The exit value of such a program on one of many packets.
     fn value_of(&self, bytes: &[u8], packet: &PacketAt, room: &mut Room) -> u64
         requires maps { HasNoMaps self.now.checked.program }
         requires context { self.now.checked.ctx_len ≡ context_bytes Packet }
         requires inside { IsInside (length bytes.now) packet.now }
         ensures { GivesOnPacket self.now (seen_of bytes.now packet.now) result }
     {
-        room.fill(packet_in(bytes, packet), packet.wire);
-        self.value_in(&mut room.workspace, &room.context)
+        self.value_on(packet_in(bytes, packet), packet.wire, room)
     }
 
     /// The exit values of such a program on contexts that stand one behind another, as many as there are results.
@@ -144,11 +159,7 @@ impl Opened {
         if self.program.ctx_len() != PACKET_CONTEXT {
             return Err(RunFault::Length);
         }
-        self.room.fill(packet, wire);
-        Ok(
-            self.program
-                .value_in(&mut self.room.workspace, &self.room.context),
-        )
+        Ok(self.program.value_on(packet, wire, &mut self.room))
     }
 
     /// Runs such a program on many packets that lie among bytes, each as `run_on_packet`. Packets may overlap.
