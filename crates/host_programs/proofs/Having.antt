@@ -45,10 +45,12 @@ pub has_context : (packet : List ℕ) (wire : ℕ) → AreBytes packet → wire 
 has_context packet wire bytes w =
     let n = min packet_bytes (length packet) in
     let zeros = replicate (packet_bytes - n) 0 in
+    let rest = take n packet ++ zeros in
     record {
-      context = to_le_bytes w32 n ++ (to_le_bytes w32 wire ++ (take n packet ++ zeros));
+      context = to_le_bytes w32 n ++ (to_le_bytes w32 wire ++ rest);
       is = context_of packet wire n (to_le_bytes w32 n) (to_le_bytes w32 wire) (take n packet) zeros _ bytes w refl refl refl refl
           (length-replicate (packet_bytes - n) 0) refl;
-      bytes = append-bytes (to_le_bytes w32 n) (to_le_bytes w32 wire ++ (take n packet ++ zeros)) (number-bytes n) (append-bytes (to_le_bytes w32 wire) (take n packet ++ zeros) (number-bytes wire)
+      bytes = append-bytes (to_le_bytes w32 n) (to_le_bytes w32 wire ++ rest) (number-bytes n)
+          (append-bytes (to_le_bytes w32 wire) rest (number-bytes wire)
           (append-bytes (take n packet) zeros (λ k b h. bytes k b (get-take n k b packet h)) (zero-bytes (packet_bytes - n))));
     }
