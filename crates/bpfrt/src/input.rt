@@ -1,21 +1,20 @@
 //! A file that is read.
 
-use std::fs::File;
 use std::io;
 use std::io::{ErrorKind, Read};
 
 /// A file, and whether it was read last in vain, where memory did not run out.
 #[derive(Drop)]
-pub struct Input {
-    file: File,
+pub struct Input<R: Drop> {
+    source: R,
     is_unread: bool,
 }
 
-impl Input {
+impl<R: Drop> Input<R> {
     /// Before the first read.
-    pub fn new(file: File) -> Input {
+    pub fn new(source: R) -> Input<R> {
         Input {
-            file,
+            source,
             is_unread: false,
         }
     }
@@ -26,9 +25,9 @@ impl Input {
     }
 }
 
-impl Read for Input {
+impl<R: Read + Drop> Read for Input<R> {
     fn read(&mut self, bytes: &mut [u8]) -> io::Result<usize> {
-        let outcome = self.file.read(bytes);
+        let outcome = self.source.read(bytes);
         self.is_unread = match &outcome {
             Ok(_) => false,
             Err(error) => error.kind() != ErrorKind::OutOfMemory,

@@ -2,8 +2,9 @@
 
 /// Behind the commands of `bpfrt --help`.
 pub const HELP: &str = "\
-A program file is raw bytes, or a text with a context, maps and slots (docs/PROGRAM_FILES.md).
-`bpfrt COMMAND --help` says what a command reads, prints and answers. Help is written on standard error.
+A program file is raw bytes, or a text with a context, maps and slots (docs/PROGRAM_FILES.md). FILE is a path, or `-`
+for standard input. `bpfrt COMMAND --help` says what a command reads, prints and answers. Help is written on standard
+error.
 
 Status: 0 fine, 1 refused or a wrong line, 2 usage, 3 memory, reading or writing";
 
@@ -73,7 +74,7 @@ Status, and the line on standard error:
   3  fault 13, 96, 97            out of memory; FILE or the output failed
 
 Example:
-  $ bpfrt disasm examples/exit_one.bpf | bpfrt asm --file /dev/stdin
+  $ bpfrt disasm examples/exit_one.bpf | bpfrt asm --file -
   bpfrt 1
   ctx 0
   code
@@ -175,8 +176,7 @@ Example:
 
 /// Behind the arguments of `bpfrt filter --help`.
 pub const FILTER_HELP: &str = "\
-Reads a classic BPF program: a filter as `tcpdump -ddd` writes it, or with --seccomp a policy as libseccomp exports
-it. `-` is standard input.
+Reads a classic BPF program: a filter as `tcpdump -ddd` writes it, or a policy as libseccomp exports it (--seccomp).
 
 Prints a program file, whose program exits with what the classic program returns. The context of a filter is how
 many bytes were captured and how many the packet had on the wire, 4 bytes each with the lowest first, and 248 bytes
@@ -193,5 +193,5 @@ Status, and the line on standard error:
   3  fault 13, 96, 97            out of memory; FILE or the output failed
 
 Example:
-  $ printf '1\\n6 0 0 262144\\n' | bpfrt filter - | bpfrt check /dev/stdin
+  $ printf '1\\n6 0 0 262144\\n' | bpfrt filter - | bpfrt check -
   accepted 6 instructions 6 slots";

@@ -17,7 +17,7 @@ mod streams;
 mod trace;
 
 pub use command_words::{
-    AsmForm, BpfrtCommand, Checking, FilterFile, MapElement, SingleRun, WordsFault, parse_words,
+    AsmForm, BpfrtCommand, Checking, InputFile, MapElement, SingleRun, WordsFault, parse_words,
 };
 pub use dispatch::run;
 pub use report::no_command;
