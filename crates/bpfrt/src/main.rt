@@ -7,7 +7,7 @@ mod progress;
 mod recent;
 
 use crate::answers::{Answers, Heard};
-use crate::input::Input;
+use crate::input::{Input, MOST_BYTES};
 use crate::progress::Progress;
 use crate::recent::Recent;
 use commands::{
@@ -22,7 +22,7 @@ use std::sync::Wait;
 use std::thread::Threads;
 use std::{env, io};
 
-/// Why a file cannot be opened, unless memory ran out.
+/// Why a file cannot be used, unless memory ran out.
 fn reason(kind: ErrorKind) -> Option<&'static str> {
     match kind {
         ErrorKind::OutOfMemory => None,
@@ -30,6 +30,7 @@ fn reason(kind: ErrorKind) -> Option<&'static str> {
         ErrorKind::PermissionDenied => Some("it may not be read"),
         ErrorKind::IsADirectory => Some("it is a folder"),
         ErrorKind::NotADirectory => Some("a part of its path is no folder"),
+        ErrorKind::FileTooLarge => Some("it has more than 16 MiB"),
         _ => Some("it cannot be opened"),
     }
 }
@@ -49,11 +50,23 @@ fn unopened<E: Write>(err: &mut E, command: &BpfrtCommand, path: &str, error: &E
     status
 }
 
-/// Opens a file that can be read: a folder can be opened, but not read.
+/// Why a file that was opened cannot be read to its end, unless memory ran out.
+fn reason_of_reading(kind: ErrorKind) -> Option<&'static str> {
+    match kind {
+        ErrorKind::OutOfMemory | ErrorKind::FileTooLarge => reason(kind),
+        _ => Some("it cannot be read"),
+    }
+}
+
+/// Opens a file that can be read: a folder can be opened, but not read, and of a file that is too large nothing is.
 fn opened(rt: &HostRuntime, path: &str) -> io::Result<File> {
     let file = File::open(rt, path)?;
-    if file.metadata()?.is_dir() {
+    let metadata = file.metadata()?;
+    if metadata.is_dir() {
         return Err(Error::from(ErrorKind::IsADirectory));
+    }
+    if metadata.is_file() && metadata.len() > MOST_BYTES {
+        return Err(Error::from(ErrorKind::FileTooLarge));
     }
     Ok(file)
 }
@@ -78,7 +91,7 @@ fn run_explained<H: Threads + Wait + Sync>(
     status
 }
 
-/// Runs the command on what is opened of the file of this name, and says where that cannot be read. The handle for threads and
+/// Runs the command on what is opened of the file of this name, and says why that cannot be read. The handle for threads and
 /// for waiting is the runtime again.
 fn run_on<H: Threads + Wait + Sync, R: Read + Drop, W: Write>(
     rt: &HostRuntime,
@@ -91,8 +104,8 @@ fn run_on<H: Threads + Wait + Sync, R: Read + Drop, W: Write>(
     let mut err = rt.stderr();
     let mut input = Input::new(source);
     let status = run(threads, rt.alloc(), command, &mut input, out, &mut err);
-    if input.is_unread() {
-        let _ = writeln!(err, "{name:?}: it cannot be read");
+    if let Some(reason) = input.fault().and_then(reason_of_reading) {
+        let _ = writeln!(err, "{name:?}: {reason}");
     }
     status
 }

@@ -3,13 +3,13 @@ ghost use Rattle.std.specs.Prelude.{◌≡◌, ◌≢◌, ◌⊎◌, IfSome};
 ghost use Rattle.assembled_texts.specs.Assembled.{IsRefusedByAsm};
 ghost use Rattle.commands.specs.Asm.{WritesCode, written_as};
 
-use crate::report::fault;
+use crate::report::out_of_memory;
 use crate::streams::{unread_in_words, write_text, written};
 use asm::AsmFault;
 use asm_source::{SourceFault, fed_text};
 use assembled_texts::{Assembled, TextFault, explain_text, has_head, make_code};
 use command_words::AsmForm;
-use program_files::{LoadFault, MEMORY, read_text};
+use program_files::{LoadFault, read_text};
 use std::alloc::Global;
 use std::io::{Read, Write};
 
@@ -30,13 +30,13 @@ fn named_line(lines: usize, fault: &SourceFault) -> usize {
 }
 
 /// Writes why bytes are no text of a program, `refused C at L` for an instruction's line, `refused C` or `fault C at L` for a
-/// line of the head, or the fault where memory ran out, and answers the status.
-fn flawed<E: Write>(err: &mut E, why: &TextFault) -> u8
+/// line of the head, or the fault where memory ran out, in words too where it is asked for, and answers the status.
+fn flawed<E: Write>(err: &mut E, why: &TextFault, in_words: bool) -> u8
     ensures status { (result ≡ 1) ⊎ (result ≡ 3) }
     ensures refused { result ≡ 1 → why.now ≢ TextFault.Memory }
 {
     let _ = match why {
-        TextFault::Memory => return fault(err, MEMORY),
+        TextFault::Memory => return out_of_memory(err, in_words),
         TextFault::NotUtf8 { line } => {
             let code = AsmFault::BadLine(*line).code();
             writeln!(err, "refused {code} at {line}")
@@ -75,7 +75,7 @@ pub fn told<E: Write>(
     ensures status { (result ≡ 1) ⊎ (result ≡ 3) }
     ensures refused { result ≡ 1 → why.now ≢ TextFault.Memory }
 {
-    let status = flawed(err, why);
+    let status = flawed(err, why, in_words);
     if in_words && status == 1 {
         let _ = explain_text(alloc, bytes, why, err);
     }
@@ -112,7 +112,7 @@ pub fn run_asm<R: Read, W: Write, E: Write>(
         Err(error) => return unread_in_words(err, &error, in_words),
     };
     let Ok(text) = fed_text(alloc, &bytes) else {
-        return fault(err, MEMORY);
+        return out_of_memory(err, in_words);
     };
     match make_code(alloc, &text) {
         Ok(made) => {

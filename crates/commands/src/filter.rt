@@ -3,10 +3,10 @@ ghost use Rattle.std.specs.Prelude.{◌≡◌, ◌≢◌, ◌⊎◌, IfSome};
 ghost use Rattle.translated_filters.specs.Filters.{IsRefusedByFilter};
 ghost use Rattle.commands.specs.Filters.{WritesFilter};
 
-use crate::report::fault;
+use crate::report::out_of_memory;
 use crate::streams::{unread_in_words, write_text, written};
 use classic::{Data, ReadFault};
-use program_files::{MEMORY, read_text};
+use program_files::read_text;
 use std::alloc::Global;
 use std::io::{Read, Write};
 use translated_filters::{FilterFault, explain_filter, make_file};
@@ -19,14 +19,14 @@ fn tell_refusal<E: Write>(err: &mut E, code: u8, place: Option<usize>) {
     };
 }
 
-/// Writes why bytes are no classic program, or have no program file, or the fault where memory ran out, and answers the
-/// status.
-fn told<E: Write>(err: &mut E, why: &FilterFault) -> u8
+/// Writes why bytes are no classic program, or have no program file, or the fault where memory ran out, in words too where it
+/// is asked for, and answers the status.
+fn told<E: Write>(err: &mut E, why: &FilterFault, in_words: bool) -> u8
     ensures status { (result ≡ 1) ⊎ (result ≡ 3) }
     ensures refused { result ≡ 1 → why.now ≢ FilterFault.Memory }
 {
     match why {
-        FilterFault::Memory => return fault(err, MEMORY),
+        FilterFault::Memory => return out_of_memory(err, in_words),
         FilterFault::NotUtf8 { line } => {
             tell_refusal(err, ReadFault::BadLine(*line).code(), Some(*line));
         }
@@ -50,7 +50,7 @@ fn told_of<E: Write>(
     ensures status { (result ≡ 1) ⊎ (result ≡ 3) }
     ensures refused { result ≡ 1 → why.now ≢ FilterFault.Memory }
 {
-    let status = told(err, why);
+    let status = told(err, why, in_words);
     if in_words && status == 1 {
         let _ = explain_filter(alloc, bytes, kind, why, err);
     }

@@ -45,6 +45,17 @@ pub fn fault<W: Write>(err: &mut W, code: u8) -> u8
     3
 }
 
+/// Writes the fault of want of memory, in words too where that is asked for, and answers its status.
+pub fn out_of_memory<W: Write>(err: &mut W, in_words: bool) -> u8
+    ensures { result ≡ 3 }
+{
+    let status = fault(err, MEMORY);
+    if in_words {
+        let _ = writeln!(err, "memory ran out");
+    }
+    status
+}
+
 /// Writes `refused C`, `refused C at S` for a slot or `fault C at L` for a line on standard error, or
 /// the fault where memory ran out or a result was lost, and answers the status.
 pub fn refused<W: Write>(err: &mut W, verdict: Verdict) -> u8
@@ -93,6 +104,9 @@ pub fn told_at<E: Write>(
     ensures memory { verdict.code ≡ memory_number → result ≡ 3 }
     ensures lost { verdict.code ≡ pool_fault_number Lost → result ≡ 3 }
 {
+    if verdict.code == MEMORY {
+        return out_of_memory(err, in_words);
+    }
     let status = refused(err, verdict);
     if let (Some(text), Some(slot)) = (text, verdict.slot) {
         let _ = write_source_line(alloc, text, slot, err);
