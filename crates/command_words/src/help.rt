@@ -24,7 +24,8 @@ With --log, standard error has before the verdict for each instruction, up to th
 and text, and what is known before it: r0 to r9, the frame (from r10 on) and open locks, as far as they may be read.
 
 With --json, prints one object in place of the line: {\"accepted\":true,\"instructions\":I,\"slots\":S}, or of a refusal,
-which stands on standard error too, {\"accepted\":false,\"code\":C,\"slot\":S,\"line\":L}, null where there is none.
+which stands on standard error too, {\"accepted\":false,\"code\":C,\"slot\":S,\"line\":L,\"name\":NAME,\"text\":MEANING}, with
+null where there is no slot or line.
 
 Status, and the line on standard error:
   0  accepted
@@ -139,7 +140,8 @@ then for each map of the file `KEY VALUE` for each element, in the order of the 
 With --explain, a refusal is followed on standard error by what `bpfrt check` says, or by what was given and is due.
 
 With --json, prints one object in their place: {\"accepted\":true,\"exit\":V,\"steps\":N,\"dump\":[LINE,..]}, where the
-lines of --dump are strings; of a refusal what `bpfrt check --json` does.
+lines of --dump are strings; of a refusal what `bpfrt check --json` does. Where CTX or an element is wrong, \"text\" says
+that the program is accepted.
 
 Status, and the line on standard error:
   0  the run has exited

@@ -7,6 +7,7 @@ mod dispatch;
 mod dump;
 mod filter;
 mod json;
+mod meanings;
 mod pool;
 mod puts;
 mod report;
