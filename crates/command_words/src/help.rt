@@ -64,7 +64,8 @@ and comments (docs/ASSEMBLY.md). Above them may stand the lines of a program fil
 end by CR LF.
 
 Prints the bytes of the program; with --file a program file of these lines and its slots; with --plain the
-instructions without names. With --explain, a refusal is followed on standard error by what is wrong with the line.
+instructions without names. With --explain, a refusal is followed on standard error by its name and meaning, and by
+what is wrong with the line.
 
 Status, and the line on standard error:
   0  written (a line warns where the text has a context and maps, and bytes alone are printed)
@@ -183,7 +184,8 @@ Reads a classic BPF program: a filter as `tcpdump -ddd` writes it, or a policy a
 Prints a program file, whose program exits with what the classic program returns. The context of a filter is how
 many bytes were captured and how many the packet had on the wire, 4 bytes each with the lowest first, and 248 bytes
 of packet, zeros behind what was captured; that of a policy is struct seccomp_data (examples/filters).
-With --explain, a refusal is followed on standard error by what is wrong, and the line where it is.
+With --explain, a refusal is followed on standard error by its name and meaning, the line where it is, and what is
+wrong.
 
 Status, and the line on standard error:
   0  written
