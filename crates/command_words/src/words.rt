@@ -479,6 +479,31 @@ fn bytes_of(alloc: Global, word: &str) -> Result<Option<Vec<u8>>, WordsFault> {
     }
 }
 
+/// Whether digits of a word have `0x` before them.
+fn has_prefix(word: &str) -> bool {
+    word.contains("0x") || word.contains("0X")
+}
+
+/// Why a word is no bytes.
+fn why_no_bytes(word: &str) -> &'static str {
+    if word.contains(' ') {
+        "it is no even number of hexadecimal digits, which stand without blanks"
+    } else if has_prefix(word) {
+        "it is no even number of hexadecimal digits, which stand without `0x`"
+    } else {
+        "it is no even number of hexadecimal digits"
+    }
+}
+
+/// Why a word is no element.
+fn why_no_element(word: &str) -> &'static str {
+    if has_prefix(word) {
+        "it is no KEY=VALUE, each an even number of hexadecimal digits, which stand without `0x`"
+    } else {
+        "it is no KEY=VALUE, each an even number of hexadecimal digits; CTX stands before --map"
+    }
+}
+
 /// The context that the words of `run` or `trace` tell.
 fn context_of(
     alloc: Global,
@@ -488,14 +513,7 @@ fn context_of(
     let word = matches.get_str("CTX").unwrap_or("");
     match bytes_of(alloc, word)? {
         Some(bytes) => Ok(bytes),
-        None => {
-            let why = if word.contains(' ') {
-                "it is no even number of hexadecimal digits, which stand without blanks"
-            } else {
-                "it is no even number of hexadecimal digits"
-            };
-            Err(bad_value(alloc, command, word, "[CTX]", why))
-        }
+        None => Err(bad_value(alloc, command, word, "[CTX]", why_no_bytes(word))),
     }
 }
 
@@ -528,9 +546,7 @@ fn push_elements(
         match element_of(alloc, map, word)? {
             Some(element) => elements.push(element)?,
             None => {
-                let why =
-                    "it is no KEY=VALUE, each an even number of hexadecimal digits; CTX stands before --map";
-                return Err(bad_value(alloc, command, word, MAP_OPTION, why));
+                return Err(bad_value(alloc, command, word, MAP_OPTION, why_no_element(word)));
             }
         }
     }

@@ -4,6 +4,7 @@ ghost use Rattle.assembled_texts.specs.Assembled.{IsRefusedByAsm};
 ghost use Rattle.commands.specs.Asm.{WritesCode, written_as};
 
 use crate::meanings::write_meaning_of;
+use crate::prefixes::explain_prefix;
 use crate::report::out_of_memory;
 use crate::streams::{unread_in_words, write_text, written};
 use asm::AsmFault;
@@ -76,7 +77,11 @@ fn write_words<E: Write>(
     err: &mut E,
 ) -> io::Result<()> {
     write_meaning_of(err, code_of(why))?;
-    explain_text(alloc, bytes, why, err)
+    explain_text(alloc, bytes, why, err)?;
+    match why {
+        TextFault::BadHead { line } => explain_prefix(err, bytes, *line),
+        _ => Ok(()),
+    }
 }
 
 /// Tells why bytes are no text of a program, in words too where it is asked for, and answers the status.

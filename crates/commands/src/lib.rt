@@ -9,6 +9,7 @@ mod filter;
 mod json;
 mod meanings;
 mod pool;
+mod prefixes;
 mod puts;
 mod report;
 mod run_words;
