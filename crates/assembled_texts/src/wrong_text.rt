@@ -26,7 +26,7 @@ fn write_name<E: Write>(
     let line = body.split('\n').nth(number.saturating_sub(1)).unwrap_or("");
     let words = explain_name(alloc, fault, line)?;
     let words = shown(alloc, words.as_str())?;
-    writeln!(err, "{words}")
+    writeln!(err, "  {words}")
 }
 
 /// How a line is nearly `code`, if it is; one that is ends the text.
@@ -103,7 +103,7 @@ fn explain_instruction<E: Write>(
     };
     if let Some(words) = instruction_words(alloc, text, line, number)? {
         let words = shown(alloc, words.as_str())?;
-        writeln!(err, "{words}")?;
+        writeln!(err, "  {words}")?;
     }
     Ok(())
 }
@@ -138,8 +138,8 @@ const PROGRAM_FILE: &str =
 const PROGRAM_BYTES: &str =
     "a program's bytes: `bpfrt check` checks them without `--asm`, and `bpfrt disasm` writes their instructions";
 
-/// Writes in words why bytes are no text of a program, and what they look like instead. They may end lines by a carriage
-/// return too.
+/// Writes in words what is wrong with bytes that are no text of a program, beside what the fault means, and what they look like
+/// instead. They may end lines by a carriage return too.
 pub fn explain_text<E: Write>(
     alloc: Global,
     bytes: &[u8],
@@ -157,11 +157,11 @@ pub fn explain_text<E: Write>(
 /// Writes what is wrong with a line of a text's head.
 fn explain_head<E: Write>(bytes: &[u8], line: usize, err: &mut E) -> io::Result<()> {
     if line == 1 && bytes.starts_with(b"bpfrt") {
-        return writeln!(err, "{NO_HEADING}");
+        return writeln!(err, "  {NO_HEADING}");
     }
     writeln!(
         err,
-        "above `code` stand `ctx N` and a line for each map, and nothing else"
+        "  above `code` stand `ctx N` and a line for each map, and nothing else"
     )?;
     write_wrong_line(err, bytes, line, 0)
 }
@@ -174,13 +174,13 @@ fn explain_fault<E: Write>(
     err: &mut E,
 ) -> io::Result<()> {
     match why {
-        TextFault::NotUtf8 { .. } => writeln!(err, "the line is not UTF-8 text"),
+        TextFault::NotUtf8 { .. } => writeln!(err, "  the line is not UTF-8 text"),
         TextFault::Unnamed { fault, .. } => write_name(alloc, bytes, fault, err),
         TextFault::Flawed { flaw, .. } => match flaw {
             AsmFault::BadLine(line) | AsmFault::BadOperand(line) => {
                 explain_instruction(alloc, bytes, *line, err)
             }
-            AsmFault::TooLong | AsmFault::Empty | AsmFault::Memory => writeln!(err, "{flaw}"),
+            AsmFault::TooLong | AsmFault::Empty | AsmFault::Memory => Ok(()),
         },
         TextFault::BadHead { line } => explain_head(bytes, *line, err),
         TextFault::Memory => Ok(()),

@@ -1,38 +1,57 @@
 //! A file that is read.
 
-use std::fs::File;
 use std::io;
-use std::io::{ErrorKind, Read};
+use std::io::{Error, ErrorKind, Read};
 
-/// A file, and whether it was read last in vain, where memory did not run out.
+/// The most bytes of a file that are read, 16 MiB: a text of more is not kept, and no program has as many.
+pub const MOST_BYTES: u64 = 16 << 20;
+
+/// A file of at most `MOST_BYTES` bytes, and what was wrong where it was read last in vain.
 #[derive(Drop)]
-pub struct Input {
-    file: File,
-    is_unread: bool,
+pub struct Input<R: Drop> {
+    source: R,
+    taken: u64,
+    fault: Option<ErrorKind>,
 }
 
-impl Input {
+impl<R: Drop> Input<R> {
     /// Before the first read.
-    pub fn new(file: File) -> Input {
+    pub fn new(source: R) -> Input<R> {
         Input {
-            file,
-            is_unread: false,
+            source,
+            taken: 0,
+            fault: None,
         }
     }
 
-    /// Whether the last read failed.
-    pub fn is_unread(&self) -> bool {
-        self.is_unread
+    /// What was wrong, where the last read failed.
+    pub fn fault(&self) -> Option<ErrorKind> {
+        self.fault
+    }
+
+    /// What is wrong behind a read with this outcome: with the file, too, if it is too large.
+    fn fault_behind(&mut self, outcome: &io::Result<usize>) -> Option<ErrorKind> {
+        match outcome {
+            Ok(count) => {
+                self.taken = self.taken.saturating_add(*count as u64);
+                if self.taken > MOST_BYTES {
+                    Some(ErrorKind::FileTooLarge)
+                } else {
+                    None
+                }
+            }
+            Err(error) => Some(error.kind()),
+        }
     }
 }
 
-impl Read for Input {
+impl<R: Read + Drop> Read for Input<R> {
     fn read(&mut self, bytes: &mut [u8]) -> io::Result<usize> {
-        let outcome = self.file.read(bytes);
-        self.is_unread = match &outcome {
-            Ok(_) => false,
-            Err(error) => error.kind() != ErrorKind::OutOfMemory,
-        };
-        outcome
+        let outcome = self.source.read(bytes);
+        self.fault = self.fault_behind(&outcome);
+        match self.fault {
+            Some(ErrorKind::FileTooLarge) => Err(Error::from(ErrorKind::FileTooLarge)),
+            _ => outcome,
+        }
     }
 }

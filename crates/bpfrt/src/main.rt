@@ -7,30 +7,30 @@ mod progress;
 mod recent;
 
 use crate::answers::{Answers, Heard};
-use crate::input::Input;
+use crate::input::{Input, MOST_BYTES};
 use crate::progress::Progress;
 use crate::recent::Recent;
-use commands::{BpfrtCommand, WordsFault, explain_script, no_command, parse_words, run, unread};
+use commands::{
+    BpfrtCommand, InputFile, WordsFault, explain_script, no_command, parse_words, run, unread,
+};
 use std::alloc::Global;
 use std::cell::RefCell;
 use std::fs::File;
-use std::io::{Error, ErrorKind, IsTerminal, Write};
+use std::io::{Error, ErrorKind, IsTerminal, Read, Write};
 use std::process::ExitCode;
 use std::sync::Wait;
 use std::thread::Threads;
 use std::{env, io};
 
-/// Why a file cannot be opened, unless memory ran out.
-fn reason(path: &str, kind: ErrorKind) -> Option<&'static str> {
+/// Why a file cannot be used, unless memory ran out.
+fn reason(kind: ErrorKind) -> Option<&'static str> {
     match kind {
         ErrorKind::OutOfMemory => None,
-        ErrorKind::NotFound if path == "-" => Some(
-            "there is no such file; standard input is /dev/stdin",
-        ),
         ErrorKind::NotFound => Some("there is no such file"),
         ErrorKind::PermissionDenied => Some("it may not be read"),
         ErrorKind::IsADirectory => Some("it is a folder"),
         ErrorKind::NotADirectory => Some("a part of its path is no folder"),
+        ErrorKind::FileTooLarge => Some("it has more than 16 MiB"),
         _ => Some("it cannot be opened"),
     }
 }
@@ -38,7 +38,7 @@ fn reason(path: &str, kind: ErrorKind) -> Option<&'static str> {
 /// Writes the fault of a file that cannot be opened, and behind it a line with its name and the reason. Answers the status.
 fn unopened<E: Write>(err: &mut E, command: &BpfrtCommand, path: &str, error: &Error) -> u8 {
     let status = unread(err, error);
-    let Some(reason) = reason(path, error.kind()) else {
+    let Some(reason) = reason(error.kind()) else {
         return status;
     };
     let _ = match command.other_file() {
@@ -50,11 +50,23 @@ fn unopened<E: Write>(err: &mut E, command: &BpfrtCommand, path: &str, error: &E
     status
 }
 
-/// Opens a file that can be read: a folder can be opened, but not read.
+/// Why a file that was opened cannot be read to its end, unless memory ran out.
+fn reason_of_reading(kind: ErrorKind) -> Option<&'static str> {
+    match kind {
+        ErrorKind::OutOfMemory | ErrorKind::FileTooLarge => reason(kind),
+        _ => Some("it cannot be read"),
+    }
+}
+
+/// Opens a file that can be read: a folder can be opened, but not read, and of a file that is too large nothing is.
 fn opened(rt: &HostRuntime, path: &str) -> io::Result<File> {
     let file = File::open(rt, path)?;
-    if file.metadata()?.is_dir() {
+    let metadata = file.metadata()?;
+    if metadata.is_dir() {
         return Err(Error::from(ErrorKind::IsADirectory));
+    }
+    if metadata.is_file() && metadata.len() > MOST_BYTES {
+        return Err(Error::from(ErrorKind::FileTooLarge));
     }
     Ok(file)
 }
@@ -79,6 +91,25 @@ fn run_explained<H: Threads + Wait + Sync>(
     status
 }
 
+/// Runs the command on what is opened of the file of this name, and says why that cannot be read. The handle for threads and
+/// for waiting is the runtime again.
+fn run_on<H: Threads + Wait + Sync, R: Read + Drop, W: Write>(
+    rt: &HostRuntime,
+    threads: &H,
+    command: &BpfrtCommand,
+    name: &str,
+    source: R,
+    out: &mut W,
+) -> u8 {
+    let mut err = rt.stderr();
+    let mut input = Input::new(source);
+    let status = run(threads, rt.alloc(), command, &mut input, out, &mut err);
+    if let Some(reason) = input.fault().and_then(reason_of_reading) {
+        let _ = writeln!(err, "{name:?}: {reason}");
+    }
+    status
+}
+
 /// Runs the command on the file that it names, or on standard input. The handle for threads and for
 /// waiting is the runtime again.
 fn run_into<H: Threads + Wait + Sync, W: Write>(
@@ -87,23 +118,16 @@ fn run_into<H: Threads + Wait + Sync, W: Write>(
     command: &BpfrtCommand,
     out: &mut W,
 ) -> u8 {
-    let alloc = rt.alloc();
     let mut err = rt.stderr();
     if let BpfrtCommand::Script { explain: true } = command {
         return run_explained(rt, threads, command);
     }
     match command.file() {
-        None => run(threads, alloc, command, &mut rt.stdin(), out, &mut err),
-        Some(path) => match opened(rt, path) {
-            Ok(file) => {
-                let mut input = Input::new(file);
-                let status = run(threads, alloc, command, &mut input, out, &mut err);
-                if input.is_unread() {
-                    let _ = writeln!(err, "{path:?}: it cannot be read");
-                }
-                status
-            }
-            Err(error) => unopened(&mut err, command, path, &error),
+        None => run(threads, rt.alloc(), command, &mut rt.stdin(), out, &mut err),
+        Some(InputFile::StandardInput) => run_on(rt, threads, command, "-", rt.stdin(), out),
+        Some(InputFile::Path(path)) => match opened(rt, path.as_str()) {
+            Ok(file) => run_on(rt, threads, command, path.as_str(), file, out),
+            Err(error) => unopened(&mut err, command, path.as_str(), &error),
         },
     }
 }

@@ -2,8 +2,9 @@
 
 /// Behind the commands of `bpfrt --help`.
 pub const HELP: &str = "\
-A program file is raw bytes, or a text with a context, maps and slots (docs/PROGRAM_FILES.md).
-`bpfrt COMMAND --help` says what a command reads, prints and answers. Help is written on standard error.
+A program file is raw bytes, or a text with a context, maps and slots (docs/PROGRAM_FILES.md). FILE is a path, or `-`
+for standard input. `bpfrt COMMAND --help` says what a command reads, prints and answers. Help is written on standard
+error.
 
 Status: 0 fine, 1 refused or a wrong line, 2 usage, 3 memory, reading or writing";
 
@@ -23,14 +24,15 @@ With --log, standard error has before the verdict for each instruction, up to th
 and text, and what is known before it: r0 to r9, the frame (from r10 on) and open locks, as far as they may be read.
 
 With --json, prints one object in place of the line: {\"accepted\":true,\"instructions\":I,\"slots\":S}, or of a refusal,
-which stands on standard error too, {\"accepted\":false,\"code\":C,\"slot\":S,\"line\":L}, null where there is none.
+which stands on standard error too, {\"accepted\":false,\"code\":C,\"slot\":S,\"line\":L,\"name\":NAME,\"text\":MEANING}, with
+null where there is no slot or line.
 
 Status, and the line on standard error:
   0  accepted
   1  refused C, refused C at S   decoding or the verifier refuses, at slot S (docs/REFUSALS.md)
      fault 94 at L               line L of the file is wrong (docs/PROGRAM_FILES.md)
   2  usage
-  3  fault 13, 96, 97            out of memory; FILE or the output failed
+  3  fault 13, 96, 97            out of memory, or FILE has more than 16 MiB; FILE or the output failed
 
 Example:
   $ bpfrt check examples/c/counter.bpfrt
@@ -48,7 +50,7 @@ Status, and the line on standard error:
   1  refused C, refused C at S   decoding refuses, at slot S (docs/REFUSALS.md)
      fault 94 at L               line L of the file is wrong (docs/PROGRAM_FILES.md)
   2  usage
-  3  fault 13, 96, 97            out of memory; FILE or the output failed
+  3  fault 13, 96, 97            out of memory, or FILE has more than 16 MiB; FILE or the output failed
 
 Example:
   $ bpfrt disasm examples/exit_one.bpf
@@ -62,7 +64,8 @@ and comments (docs/ASSEMBLY.md). Above them may stand the lines of a program fil
 end by CR LF.
 
 Prints the bytes of the program; with --file a program file of these lines and its slots; with --plain the
-instructions without names. With --explain, a refusal is followed on standard error by what is wrong with the line.
+instructions without names. With --explain, a refusal is followed on standard error by its name and meaning, and by
+what is wrong with the line.
 
 Status, and the line on standard error:
   0  written (a line warns where the text has a context and maps, and bytes alone are printed)
@@ -70,10 +73,10 @@ Status, and the line on standard error:
      refused 2, refused 3        there is no instruction, or there are too many
      fault 94 at L               line L is none that a program file has above its slots
   2  usage
-  3  fault 13, 96, 97            out of memory; FILE or the output failed
+  3  fault 13, 96, 97            out of memory, or FILE has more than 16 MiB; FILE or the output failed
 
 Example:
-  $ bpfrt disasm examples/exit_one.bpf | bpfrt asm --file /dev/stdin
+  $ bpfrt disasm examples/exit_one.bpf | bpfrt asm --file -
   bpfrt 1
   ctx 0
   code
@@ -117,7 +120,7 @@ Status, and the line on standard error:
      refused 90                  WORKERS is not 1 to 8
      refused 91                  COUNT is above 65536
   2  usage; so a WORKERS or COUNT that is no number, before FILE is read
-  3  fault 13, 96, 97            out of memory; FILE or the output failed
+  3  fault 13, 96, 97            out of memory, or FILE has more than 16 MiB; FILE or the output failed
                                  (the lines of some jobs may have been printed)
 
 Example:
@@ -138,7 +141,8 @@ then for each map of the file `KEY VALUE` for each element, in the order of the 
 With --explain, a refusal is followed on standard error by what `bpfrt check` says, or by what was given and is due.
 
 With --json, prints one object in their place: {\"accepted\":true,\"exit\":V,\"steps\":N,\"dump\":[LINE,..]}, where the
-lines of --dump are strings; of a refusal what `bpfrt check --json` does.
+lines of --dump are strings; of a refusal what `bpfrt check --json` does. Where CTX or an element is wrong, \"text\" says
+that the program is accepted.
 
 Status, and the line on standard error:
   0  the run has exited
@@ -147,7 +151,7 @@ Status, and the line on standard error:
      refused 65, refused 66      NAME is no map of the file; KEY or VALUE has another length than its map's
      refused 98                  the map has no place for the element
   2  usage; so bytes that are none, before FILE is read
-  3  fault 13, 96, 97            out of memory; FILE or the output failed
+  3  fault 13, 96, 97            out of memory, or FILE has more than 16 MiB; FILE or the output failed
 
 Example:
   $ bpfrt run examples/lookup_and_load.bpfrt --map m 00000000=2a00000000000000 --dump
@@ -175,13 +179,13 @@ Example:
 
 /// Behind the arguments of `bpfrt filter --help`.
 pub const FILTER_HELP: &str = "\
-Reads a classic BPF program: a filter as `tcpdump -ddd` writes it, or with --seccomp a policy as libseccomp exports
-it. `-` is standard input.
+Reads a classic BPF program: a filter as `tcpdump -ddd` writes it, or a policy as libseccomp exports it (--seccomp).
 
 Prints a program file, whose program exits with what the classic program returns. The context of a filter is how
 many bytes were captured and how many the packet had on the wire, 4 bytes each with the lowest first, and 248 bytes
 of packet, zeros behind what was captured; that of a policy is struct seccomp_data (examples/filters).
-With --explain, a refusal is followed on standard error by what is wrong, and the line where it is.
+With --explain, a refusal is followed on standard error by its name and meaning, the line where it is, and what is
+wrong.
 
 Status, and the line on standard error:
   0  written
@@ -190,8 +194,8 @@ Status, and the line on standard error:
      refused C, refused C at I   it is no program, or has no translation, by instruction I from 0: 103 to 114
                                  (docs/REFUSALS.md)
   2  usage
-  3  fault 13, 96, 97            out of memory; FILE or the output failed
+  3  fault 13, 96, 97            out of memory, or FILE has more than 16 MiB; FILE or the output failed
 
 Example:
-  $ printf '1\\n6 0 0 262144\\n' | bpfrt filter - | bpfrt check /dev/stdin
+  $ printf '1\\n6 0 0 262144\\n' | bpfrt filter - | bpfrt check -
   accepted 6 instructions 6 slots";

@@ -6,6 +6,6 @@ mod request;
 mod words;
 
 pub use request::{
-    AsmForm, BpfrtCommand, Checking, FilterFile, MapElement, SingleRun, VERSION, WordsFault,
+    AsmForm, BpfrtCommand, Checking, InputFile, MapElement, SingleRun, VERSION, WordsFault,
 };
 pub use words::{parse_words, shown};

@@ -36,9 +36,9 @@ pub struct Checking {
     pub json: bool,
 }
 
-/// Where a classic program is read from.
+/// What a command reads.
 #[derive(Debug, Drop)]
-pub enum FilterFile {
+pub enum InputFile {
     StandardInput,
     Path(String),
 }
@@ -59,17 +59,17 @@ pub enum AsmForm {
 pub enum BpfrtCommand {
     /// Verify the program in a file and say how long it is; or why it is refused.
     Check {
-        file: String,
+        file: InputFile,
         how: Checking,
     },
     /// Write the text of the program in a file.
     Disasm {
-        file: String,
+        file: InputFile,
     },
     /// Write the bytes of the program whose text is in a file, or what else is made of it; or say why it is refused, in
     /// words too.
     Asm {
-        file: String,
+        file: InputFile,
         form: AsmForm,
         explain: bool,
     },
@@ -82,24 +82,24 @@ pub enum BpfrtCommand {
     /// Run the program in a file so many times by so many workers; or say why it is refused, in words too.
     Pool {
         workers: u64,
-        file: String,
+        file: InputFile,
         count: u64,
         explain: bool,
     },
     /// Run the program in a file once by itself.
     Run {
-        file: String,
+        file: InputFile,
         single: SingleRun,
     },
     /// Run the program in a file once by itself, and tell each of its steps.
     Trace {
-        file: String,
+        file: InputFile,
         single: SingleRun,
     },
     /// Write the program file of the classic program in a file, a filter of packets or a policy of system calls; or say why
     /// there is none, in words too.
     Filter {
-        file: FilterFile,
+        file: InputFile,
         kind: Data,
         explain: bool,
     },
@@ -158,19 +158,16 @@ impl BpfrtCommand {
         }
     }
 
-    /// The path of the file that the command reads; none where it reads standard input, or nothing.
-    pub fn file(&self) -> Option<&str> {
+    /// The file that the command reads; none where it has no such word, and reads standard input or nothing.
+    pub fn file(&self) -> Option<&InputFile> {
         match self {
             BpfrtCommand::Check { file, .. }
             | BpfrtCommand::Disasm { file }
             | BpfrtCommand::Asm { file, .. }
             | BpfrtCommand::Pool { file, .. }
             | BpfrtCommand::Run { file, .. }
-            | BpfrtCommand::Trace { file, .. } => Some(file.as_str()),
-            BpfrtCommand::Filter { file, .. } => match file {
-                FilterFile::Path(path) => Some(path.as_str()),
-                FilterFile::StandardInput => None,
-            },
+            | BpfrtCommand::Trace { file, .. }
+            | BpfrtCommand::Filter { file, .. } => Some(file),
             BpfrtCommand::Script { .. } | BpfrtCommand::Version => None,
         }
     }

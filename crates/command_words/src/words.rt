@@ -5,7 +5,7 @@ use crate::help::{
     TRACE_HELP,
 };
 use crate::request::{
-    AsmForm, BpfrtCommand, Checking, FilterFile, MapElement, SingleRun, VERSION, WordsFault,
+    AsmForm, BpfrtCommand, Checking, InputFile, MapElement, SingleRun, VERSION, WordsFault,
     classic_file,
 };
 use clap::error::ErrorKind;
@@ -18,7 +18,7 @@ use std::alloc::{AllocError, Global};
 fn file_argument<'a>(alloc: Global) -> Arg<'a> {
     Arg::new(alloc, "FILE")
         .help(
-            "a program file: text that begins with `bpfrt 1`, or the bytes of the program's slots",
+            "a program file: text that begins with `bpfrt 1`, or the bytes of the program's slots; `-` for standard input",
         )
         .required(true)
         .action(ArgAction::Set)
@@ -62,7 +62,7 @@ fn asm_grammar<'a>(alloc: Global) -> Result<clap::Command<'a>, AllocError> {
         .after_help(ASM_HELP)
         .arg(
             Arg::new(alloc, "FILE")
-                .help("a text of instructions, one a line")
+                .help("a text of instructions, one a line; `-` for standard input")
                 .required(true)
                 .action(ArgAction::Set),
         )?
@@ -419,9 +419,11 @@ For more information, try '--help'."
     }
 }
 
-fn file_of(alloc: Global, matches: &ArgMatches<'_>) -> Result<String, WordsFault> {
+/// The file that the words tell: `-` is standard input.
+fn file_of(alloc: Global, matches: &ArgMatches<'_>) -> Result<InputFile, WordsFault> {
     match matches.get_str("FILE") {
-        Some(file) => Ok(String::from_str(alloc, file)?),
+        Some("-") => Ok(InputFile::StandardInput),
+        Some(path) => Ok(InputFile::Path(String::from_str(alloc, path)?)),
         None => Err(WordsFault::Usage(String::from_str(alloc, "a file is missing")?)),
     }
 }
@@ -477,6 +479,31 @@ fn bytes_of(alloc: Global, word: &str) -> Result<Option<Vec<u8>>, WordsFault> {
     }
 }
 
+/// Whether digits of a word have `0x` before them.
+fn has_prefix(word: &str) -> bool {
+    word.contains("0x") || word.contains("0X")
+}
+
+/// Why a word is no bytes.
+fn why_no_bytes(word: &str) -> &'static str {
+    if word.contains(' ') {
+        "it is no even number of hexadecimal digits, which stand without blanks"
+    } else if has_prefix(word) {
+        "it is no even number of hexadecimal digits, which stand without `0x`"
+    } else {
+        "it is no even number of hexadecimal digits"
+    }
+}
+
+/// Why a word is no element.
+fn why_no_element(word: &str) -> &'static str {
+    if has_prefix(word) {
+        "it is no KEY=VALUE, each an even number of hexadecimal digits, which stand without `0x`"
+    } else {
+        "it is no KEY=VALUE, each an even number of hexadecimal digits; CTX stands before --map"
+    }
+}
+
 /// The context that the words of `run` or `trace` tell.
 fn context_of(
     alloc: Global,
@@ -486,14 +513,7 @@ fn context_of(
     let word = matches.get_str("CTX").unwrap_or("");
     match bytes_of(alloc, word)? {
         Some(bytes) => Ok(bytes),
-        None => {
-            let why = if word.contains(' ') {
-                "it is no even number of hexadecimal digits, which stand without blanks"
-            } else {
-                "it is no even number of hexadecimal digits"
-            };
-            Err(bad_value(alloc, command, word, "[CTX]", why))
-        }
+        None => Err(bad_value(alloc, command, word, "[CTX]", why_no_bytes(word))),
     }
 }
 
@@ -526,9 +546,7 @@ fn push_elements(
         match element_of(alloc, map, word)? {
             Some(element) => elements.push(element)?,
             None => {
-                let why =
-                    "it is no KEY=VALUE, each an even number of hexadecimal digits; CTX stands before --map";
-                return Err(bad_value(alloc, command, word, MAP_OPTION, why));
+                return Err(bad_value(alloc, command, word, MAP_OPTION, why_no_element(word)));
             }
         }
     }
@@ -598,19 +616,13 @@ fn form_of(matches: &ArgMatches<'_>) -> AsmForm {
 
 /// The words of `filter`.
 fn filter_of(alloc: Global, matches: &ArgMatches<'_>) -> Result<BpfrtCommand, WordsFault> {
-    let path = file_of(alloc, matches)?;
-    let file = if path.as_str() == "-" {
-        FilterFile::StandardInput
-    } else {
-        FilterFile::Path(path)
-    };
     let kind = if matches.get_flag("seccomp") {
         Data::Seccomp
     } else {
         Data::Packet
     };
     Ok(BpfrtCommand::Filter {
-        file,
+        file: file_of(alloc, matches)?,
         kind,
         explain: matches.get_flag("explain"),
     })

@@ -9,12 +9,6 @@ abbrev pub number_json : Option ℕ → List ℕ
 number_json None = codes "null"
 number_json (Some n) = decimal n
 
--- why a file is refused
-abbrev pub refusal_json : Verdict → List ℕ
-refusal_json v =
-    codes "{\"accepted\":false,\"code\":" ++ (decimal v.code ++ (codes ",\"slot\":" ++ (number_json v.slot
-    ++ (codes ",\"line\":" ++ (number_json v.line ++ codes "}\n")))))
-
 -- a program of so many instructions and slots
 abbrev pub accepted_json : ℕ → ℕ → List ℕ
 accepted_json instructions slots =
@@ -29,6 +23,23 @@ byte_json b =
     else if b == 34 || b == 92 then 92 ∷ b ∷ []
     else if nat_lt b 32 then codes "\\u00" ++ encode_lower (b ∷ [])
     else b ∷ []
+
+-- a byte between the quotes of a string of its own, where a line feed is escaped
+abbrev pub character_json : ℕ → List ℕ
+character_json b = if b == 10 then codes "\\n" else byte_json b
+
+abbrev pub string_json : List ℕ → List ℕ
+string_json text = codes "\"" ++ (flat_map character_json text ++ codes "\"")
+
+-- the name of a refusal, and what it means
+abbrev pub words_json : List ℕ → List ℕ → List ℕ
+words_json name meaning = codes ",\"name\":" ++ (string_json name ++ (codes ",\"text\":" ++ string_json meaning))
+
+-- why a file is refused, with the name of that and what it means
+abbrev pub refusal_json : Verdict → List ℕ → List ℕ → List ℕ
+refusal_json v name meaning =
+    codes "{\"accepted\":false,\"code\":" ++ (decimal v.code ++ (codes ",\"slot\":" ++ (number_json v.slot
+    ++ (codes ",\"line\":" ++ (number_json v.line ++ (words_json name meaning ++ codes "}\n"))))))
 
 -- the lines of a text, each of which a line feed ends, as a list of strings
 abbrev pub lines_json : List ℕ → List ℕ

@@ -36,10 +36,10 @@ WritesAccepted json old new bytes =
     (program : List Insn) × IsVerifiedFile bytes program
     × Appends old new (accepted_text json (length program) (slot_total program))
 
--- what a verdict adds to the output: a JSON object, where that is asked for
+-- What a verdict adds to the output: a JSON object, where that is asked for. Nothing is said of the name and the meaning.
 abbrev pub TellsVerdict : Bool → Verdict → Option (List ℕ) → Option (List ℕ) → Type 0
 TellsVerdict false v old new = ⊤
-TellsVerdict true v old new = Appends old new (refusal_json v)
+TellsVerdict true v old new = (name meaning : List ℕ) × Appends old new (refusal_json v name meaning)
 
 -- The file or its code has a fault other than want of memory, or the verifier has such a verdict of its program; and the output
 -- has the verdict.

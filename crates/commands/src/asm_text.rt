@@ -3,7 +3,9 @@ ghost use Rattle.std.specs.Prelude.{◌≡◌, ◌≢◌, ◌⊎◌, IfSome};
 ghost use Rattle.assembled_texts.specs.Assembled.{IsRefusedByAsm};
 ghost use Rattle.commands.specs.Asm.{WritesCode, written_as};
 
-use crate::report::fault;
+use crate::meanings::write_meaning_of;
+use crate::prefixes::explain_prefix;
+use crate::report::out_of_memory;
 use crate::streams::{unread_in_words, write_text, written};
 use asm::AsmFault;
 use asm_source::{SourceFault, fed_text};
@@ -11,6 +13,7 @@ use assembled_texts::{Assembled, TextFault, explain_text, has_head, make_code};
 use command_words::AsmForm;
 use program_files::{LoadFault, MEMORY, read_text};
 use std::alloc::Global;
+use std::io;
 use std::io::{Read, Write};
 
 /// What is written in this form.
@@ -29,39 +32,56 @@ fn named_line(lines: usize, fault: &SourceFault) -> usize {
     fault.line().unwrap_or(0).saturating_add(lines)
 }
 
+/// The number of a fault of a text.
+fn code_of(why: &TextFault) -> u8 {
+    match why {
+        TextFault::Memory => MEMORY,
+        TextFault::NotUtf8 { line } => AsmFault::BadLine(*line).code(),
+        TextFault::Unnamed { lines, fault } => AsmFault::BadLine(named_line(*lines, fault)).code(),
+        TextFault::BadHead { line } => LoadFault::BadFile { line: *line }.code(),
+        TextFault::Flawed { flaw, .. } => flaw.code(),
+    }
+}
+
 /// Writes why bytes are no text of a program, `refused C at L` for an instruction's line, `refused C` or `fault C at L` for a
-/// line of the head, or the fault where memory ran out, and answers the status.
-fn flawed<E: Write>(err: &mut E, why: &TextFault) -> u8
+/// line of the head, or the fault where memory ran out, in words too where it is asked for, and answers the status.
+fn flawed<E: Write>(err: &mut E, why: &TextFault, in_words: bool) -> u8
     ensures status { (result ≡ 1) ⊎ (result ≡ 3) }
     ensures refused { result ≡ 1 → why.now ≢ TextFault.Memory }
 {
+    let code = code_of(why);
     let _ = match why {
-        TextFault::Memory => return fault(err, MEMORY),
-        TextFault::NotUtf8 { line } => {
-            let code = AsmFault::BadLine(*line).code();
-            writeln!(err, "refused {code} at {line}")
-        }
+        TextFault::Memory => return out_of_memory(err, in_words),
+        TextFault::NotUtf8 { line } => writeln!(err, "refused {code} at {line}"),
         TextFault::Unnamed { lines, fault } => {
             let line = named_line(*lines, fault);
-            let code = AsmFault::BadLine(line).code();
             writeln!(err, "refused {code} at {line}")
         }
-        TextFault::BadHead { line } => {
-            let code = LoadFault::BadFile { line: *line }.code();
-            writeln!(err, "fault {code} at {line}")
-        }
-        TextFault::Flawed { lines, flaw } => {
-            let code = flaw.code();
-            match flaw.line() {
-                Some(line) => {
-                    let line = line.saturating_add(*lines);
-                    writeln!(err, "refused {code} at {line}")
-                }
-                None => writeln!(err, "refused {code}"),
+        TextFault::BadHead { line } => writeln!(err, "fault {code} at {line}"),
+        TextFault::Flawed { lines, flaw } => match flaw.line() {
+            Some(line) => {
+                let line = line.saturating_add(*lines);
+                writeln!(err, "refused {code} at {line}")
             }
-        }
+            None => writeln!(err, "refused {code}"),
+        },
     };
     1
+}
+
+/// Writes the name and the meaning of a fault of a text, and what is wrong.
+fn write_words<E: Write>(
+    alloc: Global,
+    bytes: &[u8],
+    why: &TextFault,
+    err: &mut E,
+) -> io::Result<()> {
+    write_meaning_of(err, code_of(why))?;
+    explain_text(alloc, bytes, why, err)?;
+    match why {
+        TextFault::BadHead { line } => explain_prefix(err, bytes, *line),
+        _ => Ok(()),
+    }
 }
 
 /// Tells why bytes are no text of a program, in words too where it is asked for, and answers the status.
@@ -75,9 +95,9 @@ pub fn told<E: Write>(
     ensures status { (result ≡ 1) ⊎ (result ≡ 3) }
     ensures refused { result ≡ 1 → why.now ≢ TextFault.Memory }
 {
-    let status = flawed(err, why);
+    let status = flawed(err, why, in_words);
     if in_words && status == 1 {
-        let _ = explain_text(alloc, bytes, why, err);
+        let _ = write_words(alloc, bytes, why, err);
     }
     status
 }
@@ -112,7 +132,7 @@ pub fn run_asm<R: Read, W: Write, E: Write>(
         Err(error) => return unread_in_words(err, &error, in_words),
     };
     let Ok(text) = fed_text(alloc, &bytes) else {
-        return fault(err, MEMORY);
+        return out_of_memory(err, in_words);
     };
     match make_code(alloc, &text) {
         Ok(made) => {

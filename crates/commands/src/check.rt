@@ -7,12 +7,12 @@ ghost use Rattle.commands.specs.Checking.{RefusesText, WritesAcceptedText, Refus
 
 use crate::asm_text::told as told_of_text;
 use crate::json::write_accepted as write_json;
-use crate::report::{Telling, fault, told_twice};
+use crate::report::{Telling, out_of_memory, told_twice};
 use crate::streams::{unread_in_words, written};
 use asm_source::fed_text;
 use assembled_texts::make_code;
 use command_words::Checking;
-use program_files::{Accepted, FileBytes, MEMORY, check, read_file, read_text};
+use program_files::{Accepted, FileBytes, check, read_file, read_text};
 use std::alloc::Global;
 use std::io;
 use std::io::{Read, Write};
@@ -114,7 +114,7 @@ fn check_text<R: Read, W: Write, E: Write>(
         Err(error) => return unread_in_words(err, &error, how.explain),
     };
     let Ok(text) = fed_text(alloc, &bytes) else {
-        return fault(err, MEMORY);
+        return out_of_memory(err, how.explain);
     };
     match make_code(alloc, &text) {
         Ok(made) => check_file(

@@ -3,38 +3,65 @@ ghost use Rattle.std.specs.Prelude.{◌≡◌, ◌≢◌, ◌⊎◌, IfSome};
 ghost use Rattle.translated_filters.specs.Filters.{IsRefusedByFilter};
 ghost use Rattle.commands.specs.Filters.{WritesFilter};
 
-use crate::report::fault;
+use crate::meanings::write_meaning_of;
+use crate::report::out_of_memory;
 use crate::streams::{unread_in_words, write_text, written};
 use classic::{Data, ReadFault};
 use program_files::{MEMORY, read_text};
 use std::alloc::Global;
+use std::io;
 use std::io::{Read, Write};
 use translated_filters::{FilterFault, explain_filter, make_file};
 
-/// Writes `refused C`, or `refused C at N` for a line or an instruction.
-fn tell_refusal<E: Write>(err: &mut E, code: u8, place: Option<usize>) {
-    let _ = match place {
-        Some(place) => writeln!(err, "refused {code} at {place}"),
-        None => writeln!(err, "refused {code}"),
-    };
+/// The number of a fault of a classic program.
+fn code_of(why: &FilterFault) -> u8 {
+    match why {
+        FilterFault::Memory => MEMORY,
+        FilterFault::NotUtf8 { line } => ReadFault::BadLine(*line).code(),
+        FilterFault::Unread(fault) => fault.code(),
+        FilterFault::Flawed(fault) => fault.code(),
+        FilterFault::Untranslated(fault) => fault.code(),
+    }
 }
 
-/// Writes why bytes are no classic program, or have no program file, or the fault where memory ran out, and answers the
-/// status.
-fn told<E: Write>(err: &mut E, why: &FilterFault) -> u8
+/// The line or the instruction of a fault of a classic program, if it has one.
+fn place_of(why: &FilterFault) -> Option<usize> {
+    match why {
+        FilterFault::Memory => None,
+        FilterFault::NotUtf8 { line } => Some(*line),
+        FilterFault::Unread(fault) => fault.line(),
+        FilterFault::Flawed(fault) => fault.instruction(),
+        FilterFault::Untranslated(fault) => fault.instruction(),
+    }
+}
+
+/// Writes why bytes are no classic program, or have no program file, `refused C`, or `refused C at N` for a line or an
+/// instruction, or the fault where memory ran out, in words too where it is asked for, and answers the status.
+fn told<E: Write>(err: &mut E, why: &FilterFault, in_words: bool) -> u8
     ensures status { (result ≡ 1) ⊎ (result ≡ 3) }
     ensures refused { result ≡ 1 → why.now ≢ FilterFault.Memory }
 {
-    match why {
-        FilterFault::Memory => return fault(err, MEMORY),
-        FilterFault::NotUtf8 { line } => {
-            tell_refusal(err, ReadFault::BadLine(*line).code(), Some(*line));
-        }
-        FilterFault::Unread(fault) => tell_refusal(err, fault.code(), fault.line()),
-        FilterFault::Flawed(fault) => tell_refusal(err, fault.code(), fault.instruction()),
-        FilterFault::Untranslated(fault) => tell_refusal(err, fault.code(), fault.instruction()),
+    if matches!(why, FilterFault::Memory) {
+        return out_of_memory(err, in_words);
     }
+    let code = code_of(why);
+    let _ = match place_of(why) {
+        Some(place) => writeln!(err, "refused {code} at {place}"),
+        None => writeln!(err, "refused {code}"),
+    };
     1
+}
+
+/// Writes the name and the meaning of a fault of a classic program, and what is wrong.
+fn write_words<E: Write>(
+    alloc: Global,
+    bytes: &[u8],
+    kind: Data,
+    why: &FilterFault,
+    err: &mut E,
+) -> io::Result<()> {
+    write_meaning_of(err, code_of(why))?;
+    explain_filter(alloc, bytes, kind, why, err)
 }
 
 /// Tells why bytes are no classic program, or have no program file, in words too where it is asked for, and answers the
@@ -50,9 +77,9 @@ fn told_of<E: Write>(
     ensures status { (result ≡ 1) ⊎ (result ≡ 3) }
     ensures refused { result ≡ 1 → why.now ≢ FilterFault.Memory }
 {
-    let status = told(err, why);
+    let status = told(err, why, in_words);
     if in_words && status == 1 {
-        let _ = explain_filter(alloc, bytes, kind, why, err);
+        let _ = write_words(alloc, bytes, kind, why, err);
     }
     status
 }

@@ -1,9 +1,12 @@
 //! Answers as one JSON object.
-ghost use Rattle.std.specs.Prelude.{◌≡◌, ◌++◌, IfOk, OnOk, option_copied};
+ghost use Rattle.std.specs.Prelude.{◌≡◌, ◌++◌, true, IfOk, OnOk, option_copied};
 ghost use Rattle.std.specs.List.{flat_map};
 ghost use Rattle.std.specs.Io.KnownBytes.{Appends};
-ghost use Rattle.commands.specs.Json.{accepted_json, byte_json, ended_json, lines_json, number_json, refusal_json, traced_json};
+ghost use Rattle.commands.specs.Json.{accepted_json, byte_json, character_json, ended_json, lines_json, number_json, refusal_json};
+ghost use Rattle.commands.specs.Json.{string_json, traced_json, words_json};
+ghost use Rattle.commands.specs.Outputs.{TellsVerdict};
 
+use crate::meanings::words_of;
 use crate::streams::write_text;
 use program_files::{Accepted, Verdict};
 use run_once::Ended;
@@ -63,9 +66,50 @@ fn push_lines(text: &mut Vec<u8>, lines: &[u8]) -> Result<(), AllocError>
     text.extend_from_slice(b"\"]")
 }
 
-/// The object of a verdict.
-fn refusal_of(alloc: Global, verdict: &Verdict) -> io::Result<Vec<u8>>
-    ensures { IfOk result (λ text. text.items ≡ refusal_json verdict.now) }
+/// Adds a byte between the quotes of a string of its own.
+fn push_character(text: &mut Vec<u8>, byte: u8) -> Result<(), AllocError>
+    ensures { OnOk result (text.new.items ≡ text.old.items ++ character_json byte) }
+{
+    if byte == b'\n' {
+        return text.extend_from_slice(b"\\n");
+    }
+    push_byte(text, byte)
+}
+
+/// Adds the bytes between the quotes of a string of its own.
+fn push_characters(text: &mut Vec<u8>, bytes: &[u8]) -> Result<(), AllocError>
+    ensures { OnOk result (text.new.items ≡ text.old.items ++ flat_map character_json bytes.now) }
+{
+    let mut rest = bytes;
+    while let [first, more @ ..] = rest {
+        push_character(text, *first)?;
+        rest = more;
+    }
+    Ok(())
+}
+
+/// Adds a string.
+fn push_string(text: &mut Vec<u8>, bytes: &[u8]) -> Result<(), AllocError>
+    ensures { OnOk result (text.new.items ≡ text.old.items ++ string_json bytes.now) }
+{
+    text.extend_from_slice(b"\"")?;
+    push_characters(text, bytes)?;
+    text.extend_from_slice(b"\"")
+}
+
+/// Adds the name and the meaning of a verdict.
+fn push_words(text: &mut Vec<u8>, name: &[u8], meaning: &[u8]) -> Result<(), AllocError>
+    ensures { OnOk result (text.new.items ≡ text.old.items ++ words_json name.now meaning.now) }
+{
+    text.extend_from_slice(b",\"name\":")?;
+    push_string(text, name)?;
+    text.extend_from_slice(b",\"text\":")?;
+    push_string(text, meaning)
+}
+
+/// The object of a verdict with its name and its meaning.
+fn refusal_of(alloc: Global, verdict: &Verdict, name: &[u8], meaning: &[u8]) -> io::Result<Vec<u8>>
+    ensures { IfOk result (λ text. text.items ≡ refusal_json verdict.now name.now meaning.now) }
 {
     let code = verdict.code;
     let mut text = Vec::new(alloc);
@@ -73,15 +117,17 @@ fn refusal_of(alloc: Global, verdict: &Verdict) -> io::Result<Vec<u8>>
     push_number(&mut text, verdict.slot)?;
     text.extend_from_slice(b",\"line\":")?;
     push_number(&mut text, verdict.line)?;
+    push_words(&mut text, name, meaning)?;
     text.extend_from_slice(b"}\n")?;
     Ok(text)
 }
 
-/// Writes the object of a verdict.
+/// Writes the object of a verdict, with its name and its meaning.
 pub fn write_refusal<W: Write>(alloc: Global, out: &mut W, verdict: &Verdict) -> io::Result<()>
-    ensures { OnOk result (Appends (W.contents out.old) (W.contents out.new) (refusal_json verdict.now)) }
+    ensures { OnOk result (TellsVerdict true verdict.now (W.contents out.old) (W.contents out.new)) }
 {
-    let text = refusal_of(alloc, verdict)?;
+    let words = words_of(alloc, verdict.code)?;
+    let text = refusal_of(alloc, verdict, words.name.as_bytes(), words.text.as_bytes())?;
     write_text(out, &text)
 }
 

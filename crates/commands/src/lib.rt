@@ -7,7 +7,9 @@ mod dispatch;
 mod dump;
 mod filter;
 mod json;
+mod meanings;
 mod pool;
+mod prefixes;
 mod puts;
 mod report;
 mod run_words;
@@ -17,7 +19,7 @@ mod streams;
 mod trace;
 
 pub use command_words::{
-    AsmForm, BpfrtCommand, Checking, FilterFile, MapElement, SingleRun, WordsFault, parse_words,
+    AsmForm, BpfrtCommand, Checking, InputFile, MapElement, SingleRun, WordsFault, parse_words,
 };
 pub use dispatch::run;
 pub use report::no_command;

@@ -9,11 +9,11 @@ ghost use Rattle.job_queue.specs.declared.fault.PoolFault.TheVariants.{Lost};
 ghost use Rattle.job_queue.specs.Faults.{pool_fault_number};
 ghost use Rattle.commands.specs.Pools.{entries_line, IsProgramOf, IsRefusedByPool, WritesPool};
 
-use crate::report::{plain_verdict, refused, told};
+use crate::report::{out_of_memory, plain_verdict, refused, told};
 use crate::streams::{unread_in_words, written};
 use bpf_model::MAX_JOURNAL;
 use explanations::meaning_of;
-use program_files::{FileBytes, Verdict, read_file, verify_for_maps};
+use program_files::{FileBytes, MEMORY, Verdict, read_file, verify_for_maps};
 use std::alloc::Global;
 use std::io;
 use std::io::{Read, Write};
@@ -77,6 +77,9 @@ fn told_of_size<E: Write>(err: &mut E, verdict: Verdict, size: PoolSize, in_word
     ensures memory { verdict.code ≡ memory_number → result ≡ 3 }
     ensures lost { verdict.code ≡ pool_fault_number Lost → result ≡ 3 }
 {
+    if verdict.code == MEMORY {
+        return out_of_memory(err, in_words);
+    }
     let status = refused(err, verdict);
     if in_words && status == 1 {
         let _ = write_limits(err, verdict.code, size);

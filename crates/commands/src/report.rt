@@ -7,6 +7,7 @@ ghost use Rattle.job_queue.specs.Faults.{pool_fault_number};
 ghost use Rattle.commands.specs.Outputs.{IsPlainVerdict, TellsVerdict};
 
 use crate::json::write_refusal;
+use crate::prefixes::explain_prefix;
 use crate::streams::unwritten;
 use assembled_texts::write_source_line;
 use command_words::WordsFault;
@@ -14,6 +15,7 @@ use explanations::explain;
 use job_queue::PoolFault;
 use program_files::{FileBytes, MEMORY, Verdict};
 use std::alloc::Global;
+use std::io;
 use std::io::Write;
 
 /// The number of an element that its map has no place for.
@@ -43,6 +45,17 @@ pub fn fault<W: Write>(err: &mut W, code: u8) -> u8
 {
     let _ = writeln!(err, "fault {code}");
     3
+}
+
+/// Writes the fault of want of memory, in words too where that is asked for, and answers its status.
+pub fn out_of_memory<W: Write>(err: &mut W, in_words: bool) -> u8
+    ensures { result ≡ 3 }
+{
+    let status = fault(err, MEMORY);
+    if in_words {
+        let _ = writeln!(err, "memory ran out");
+    }
+    status
 }
 
 /// Writes `refused C`, `refused C at S` for a slot or `fault C at L` for a line on standard error, or
@@ -80,6 +93,20 @@ pub fn told<E: Write>(
     told_at(alloc, file, None, verdict, in_words, err)
 }
 
+/// Writes what a verdict on a file means, and of a wrong line, too, where its digits are to stand alone.
+fn write_words<E: Write>(
+    alloc: Global,
+    file: &FileBytes,
+    verdict: &Verdict,
+    err: &mut E,
+) -> io::Result<()> {
+    explain(alloc, file, verdict, err)?;
+    match (verdict.line, file) {
+        (Some(line), FileBytes::Whole(bytes)) => explain_prefix(err, bytes, line),
+        _ => Ok(()),
+    }
+}
+
 /// Tells a verdict on a file, and the line of the text that it was made of, if it was made of one.
 pub fn told_at<E: Write>(
     alloc: Global,
@@ -93,12 +120,15 @@ pub fn told_at<E: Write>(
     ensures memory { verdict.code ≡ memory_number → result ≡ 3 }
     ensures lost { verdict.code ≡ pool_fault_number Lost → result ≡ 3 }
 {
+    if verdict.code == MEMORY {
+        return out_of_memory(err, in_words);
+    }
     let status = refused(err, verdict);
     if let (Some(text), Some(slot)) = (text, verdict.slot) {
         let _ = write_source_line(alloc, text, slot, err);
     }
     if in_words && status == 1 {
-        let _ = explain(alloc, file, &verdict, err);
+        let _ = write_words(alloc, file, &verdict, err);
     }
     status
 }

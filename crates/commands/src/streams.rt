@@ -2,16 +2,20 @@
 ghost use Rattle.std.specs.Prelude.{◌≡◌, OnOk, MatchResult};
 ghost use Rattle.std.specs.Io.KnownBytes.{Appends};
 
-use crate::report::fault;
+use crate::report::{fault, out_of_memory};
+use program_files::MEMORY;
 use script_stream::{ScriptFault, stream_fault};
 use std::io;
 use std::io::{ErrorKind, Write};
 
-/// The status where an input cannot be opened or read, which is told on `err`: out of memory, `fault 13`,
-/// or else `fault 96`.
+/// The status where an input cannot be opened or read, which is told on `err`: where it is too large or memory ran out,
+/// `fault 13`, or else `fault 96`.
 pub fn unread<E: Write>(err: &mut E, error: &io::Error) -> u8
     ensures { result ≡ 3 }
 {
+    if error.kind() == ErrorKind::FileTooLarge {
+        return fault(err, MEMORY);
+    }
     fault(err, stream_fault(error, ScriptFault::Read).code())
 }
 
@@ -19,11 +23,10 @@ pub fn unread<E: Write>(err: &mut E, error: &io::Error) -> u8
 pub fn unread_in_words<E: Write>(err: &mut E, error: &io::Error, in_words: bool) -> u8
     ensures { result ≡ 3 }
 {
-    let status = unread(err, error);
-    if in_words && error.kind() == ErrorKind::OutOfMemory {
-        let _ = writeln!(err, "the file has more than 16 MiB, or memory ran out");
+    if error.kind() == ErrorKind::OutOfMemory {
+        return out_of_memory(err, in_words);
     }
-    status
+    unread(err, error)
 }
 
 /// Writes all of a text, and flushes the stream.

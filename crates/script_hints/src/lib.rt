@@ -5,4 +5,4 @@ mod answers;
 mod words;
 
 pub use answers::{Made, Outcome, Refusal, explain_answers, outcome_of, write_length};
-pub use words::explain_script;
+pub use words::{explain_script, has_prefix};

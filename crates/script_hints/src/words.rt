@@ -107,9 +107,18 @@ fn is_count(word: &[u8]) -> bool {
     }
 }
 
+/// Whether `0x` begins a word.
+pub fn has_prefix(word: &[u8]) -> bool {
+    word.starts_with(b"0x") || word.starts_with(b"0X")
+}
+
 /// What a word is to be and is not, if it is not.
 fn lack_of(due: Due, word: &[u8]) -> Option<&'static str> {
     match due {
+        Due::Number if has_prefix(word) => Some("no number: these are decimal, without `0x`"),
+        Due::Bytes if has_prefix(word) => Some(
+            "no bytes: these are hexadecimal digits without `0x`, two for each",
+        ),
         Due::Number if number_of(word).is_none() => Some(
             "no number: these are decimal, below 2^64, without a sign or leading zeros",
         ),

@@ -81,9 +81,8 @@ fn explain_bytes<E: Write>(bytes: &[u8], line: usize, err: &mut E) -> io::Result
     }
 }
 
-/// Writes why a text or an array lists no instructions.
+/// Writes the line for which a text lists no instructions, and what is wrong with it.
 fn explain_listing<E: Write>(bytes: &[u8], fault: &ReadFault, err: &mut E) -> io::Result<()> {
-    writeln!(err, "{fault}")?;
     match fault {
         ReadFault::BadCount => explain_count(bytes, err),
         ReadFault::BadLine(line) => {
@@ -160,18 +159,18 @@ fn explain_jump<E: Write>(
     match way_of(insn, number, count) {
         Way::Back => writeln!(
             err,
-            "instruction {number} jumps back, and jumps lead forward alone"
+            "  instruction {number} jumps back, and jumps lead forward alone"
         ),
         Way::To(target) => {
             let last = count.saturating_sub(1);
             writeln!(
                 err,
-                "instruction {number} jumps to instruction {target}, and the last one is {last}"
+                "  instruction {number} jumps to instruction {target}, and the last one is {last}"
             )
         }
         Way::Behind => writeln!(
             err,
-            "instruction {number} is the last one, and no `ret`, by which a program ends"
+            "  instruction {number} is the last one, and no `ret`, by which a program ends"
         ),
     }
 }
@@ -198,26 +197,22 @@ fn explain_window<E: Write>(
     }
 }
 
-/// Writes what is wrong with the instructions of a program, and answers with which.
+/// Writes what is wrong with an instruction of a program, where its fault does not say it.
 fn explain_flaw<E: Write>(
     alloc: Global,
     bytes: &[u8],
     kind: Data,
     fault: &ClassicFault,
     err: &mut E,
-) -> io::Result<Option<usize>> {
-    if let ClassicFault::BadJump(number) = fault {
-        explain_jump(alloc, bytes, kind, *number, err)?;
-        return Ok(Some(*number));
-    }
-    writeln!(err, "{fault}")?;
-    if let ClassicFault::NotOfSeccomp(_) = fault {
-        writeln!(
+) -> io::Result<()> {
+    match fault {
+        ClassicFault::BadJump(number) => explain_jump(alloc, bytes, kind, *number, err),
+        ClassicFault::NotOfSeccomp(_) => writeln!(
             err,
             "  a policy loads aligned words below 64, and nothing else"
-        )?;
+        ),
+        _ => Ok(()),
     }
-    Ok(fault.instruction())
 }
 
 /// What bytes look like that are not of this kind.
@@ -239,37 +234,37 @@ fn other_words(bytes: &[u8], kind: Data) -> Option<&'static str> {
     }
 }
 
-/// Writes in words why bytes are no classic program, or have no program file, but for the line, and answers for which
-/// instruction.
+/// The instruction that a fault is of, if it is of one.
+fn instruction_of(why: &FilterFault) -> Option<usize> {
+    match why {
+        FilterFault::Flawed(fault) => fault.instruction(),
+        FilterFault::Untranslated(fault) => fault.instruction(),
+        _ => None,
+    }
+}
+
+/// Writes in words what is wrong with bytes that are no classic program, or have no program file, and the line of a listing that
+/// is none.
 fn explain_why<E: Write>(
     alloc: Global,
     bytes: &[u8],
     kind: Data,
     why: &FilterFault,
     err: &mut E,
-) -> io::Result<Option<usize>> {
+) -> io::Result<()> {
     match why {
-        FilterFault::Memory => Ok(None),
-        FilterFault::NotUtf8 { line } => {
-            explain_bytes(bytes, *line, err)?;
-            Ok(None)
-        }
-        FilterFault::Unread(fault) => {
-            explain_listing(bytes, fault, err)?;
-            Ok(None)
-        }
+        FilterFault::NotUtf8 { line } => explain_bytes(bytes, *line, err),
+        FilterFault::Unread(fault) => explain_listing(bytes, fault, err),
         FilterFault::Flawed(fault) => explain_flaw(alloc, bytes, kind, fault, err),
-        FilterFault::Untranslated(fault) => {
-            writeln!(err, "{fault}")?;
-            if let TranslateFault::OutsideWindow(number) = fault {
-                explain_window(alloc, bytes, *number, err)?;
-            }
-            Ok(fault.instruction())
+        FilterFault::Untranslated(TranslateFault::OutsideWindow(number)) => {
+            explain_window(alloc, bytes, *number, err)
         }
+        _ => Ok(()),
     }
 }
 
-/// Writes in words why bytes are no classic program, or have no program file.
+/// Writes in words what is wrong with bytes that are no classic program, or have no program file, beside what the fault means: the
+/// line where it is, and below it what is known of that.
 pub fn explain_filter<E: Write>(
     alloc: Global,
     bytes: &[u8],
@@ -277,10 +272,10 @@ pub fn explain_filter<E: Write>(
     why: &FilterFault,
     err: &mut E,
 ) -> io::Result<()> {
-    let instruction = explain_why(alloc, bytes, kind, why, err)?;
-    if let (Data::Packet, Some(number)) = (kind, instruction) {
+    if let (Data::Packet, Some(number)) = (kind, instruction_of(why)) {
         write_line(err, bytes, number.saturating_add(FIRST_LINES), 0)?;
     }
+    explain_why(alloc, bytes, kind, why, err)?;
     match other_words(bytes, kind) {
         Some(words) => writeln!(err, "  it looks like {words}"),
         None => Ok(()),
