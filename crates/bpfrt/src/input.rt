@@ -1,24 +1,26 @@
 //! A file that is read.
 
 use std::io;
-use std::io::{Error, ErrorKind, Read};
+use std::io::{ErrorKind, Read};
 
-/// The most bytes of a file that are read, 16 MiB: a text of more is not kept, and no program has as many.
+/// The most bytes of a text that are kept, 16 MiB.
 pub const MOST_BYTES: u64 = 16 << 20;
 
-/// A file of at most `MOST_BYTES` bytes, and what was wrong where it was read last in vain.
+/// A file of which no more is read than so many bytes, and what was wrong where it was read last in vain.
 #[derive(Drop)]
 pub struct Input<R: Drop> {
     source: R,
+    left: u64,
     taken: u64,
     fault: Option<ErrorKind>,
 }
 
 impl<R: Drop> Input<R> {
-    /// Before the first read.
-    pub fn new(source: R) -> Input<R> {
+    /// Before the first read of at most so many bytes.
+    pub fn new(source: R, most: u64) -> Input<R> {
         Input {
             source,
+            left: most,
             taken: 0,
             fault: None,
         }
@@ -29,29 +31,26 @@ impl<R: Drop> Input<R> {
         self.fault
     }
 
-    /// What is wrong behind a read with this outcome: with the file, too, if it is too large.
-    fn fault_behind(&mut self, outcome: &io::Result<usize>) -> Option<ErrorKind> {
-        match outcome {
-            Ok(count) => {
-                self.taken = self.taken.saturating_add(*count as u64);
-                if self.taken > MOST_BYTES {
-                    Some(ErrorKind::FileTooLarge)
-                } else {
-                    None
-                }
-            }
-            Err(error) => Some(error.kind()),
-        }
+    /// Whether more was read than is kept of a text.
+    pub fn is_long(&self) -> bool {
+        self.taken > MOST_BYTES
     }
 }
 
 impl<R: Read + Drop> Read for Input<R> {
     fn read(&mut self, bytes: &mut [u8]) -> io::Result<usize> {
-        let outcome = self.source.read(bytes);
-        self.fault = self.fault_behind(&outcome);
-        match self.fault {
-            Some(ErrorKind::FileTooLarge) => Err(Error::from(ErrorKind::FileTooLarge)),
-            _ => outcome,
+        let most = usize::try_from(self.left)
+            .unwrap_or(usize::MAX)
+            .min(bytes.len());
+        let outcome = self.source.read(&mut bytes[..most]);
+        match &outcome {
+            Ok(count) => {
+                self.fault = None;
+                self.left = self.left.saturating_sub(*count as u64);
+                self.taken = self.taken.saturating_add(*count as u64);
+            }
+            Err(error) => self.fault = Some(error.kind()),
         }
+        outcome
     }
 }

@@ -58,17 +58,49 @@ fn reason_of_reading(kind: ErrorKind) -> Option<&'static str> {
     }
 }
 
-/// Opens a file that can be read: a folder can be opened, but not read, and of a file that is too large nothing is.
-fn opened(rt: &HostRuntime, path: &str) -> io::Result<File> {
+/// Of a raw program that is too long, so many bytes tell that, and its length past a multiple of 8 tells the rest.
+const TELLING_BYTES: u64 = 40_000;
+
+/// Whether the file begins as the text of a program file does.
+fn begins_as_text(rt: &HostRuntime, path: &str) -> io::Result<bool> {
+    let mut first = [0; 8];
+    let count = File::open(rt, path)?.read(&mut first)?;
+    Ok(count == 8 && first == *b"bpfrt 1\n")
+}
+
+/// How many bytes are read of a file of this length. Of a text that is too large nothing is.
+fn bytes_read(
+    rt: &HostRuntime,
+    command: &BpfrtCommand,
+    path: &str,
+    length: u64,
+) -> io::Result<u64> {
+    if length <= MOST_BYTES {
+        return Ok(u64::MAX);
+    }
+    let is_text = matches!(
+        command,
+        BpfrtCommand::Asm { .. } | BpfrtCommand::Filter { .. }
+    );
+    if is_text || begins_as_text(rt, path)? {
+        return Err(Error::from(ErrorKind::FileTooLarge));
+    }
+    Ok(TELLING_BYTES + length % 8)
+}
+
+/// Opens a file that can be read, and says how many bytes of it are: a folder can be opened, but not read.
+fn opened(rt: &HostRuntime, command: &BpfrtCommand, path: &str) -> io::Result<(File, u64)> {
     let file = File::open(rt, path)?;
     let metadata = file.metadata()?;
     if metadata.is_dir() {
         return Err(Error::from(ErrorKind::IsADirectory));
     }
-    if metadata.is_file() && metadata.len() > MOST_BYTES {
-        return Err(Error::from(ErrorKind::FileTooLarge));
-    }
-    Ok(file)
+    let most = if metadata.is_file() {
+        bytes_read(rt, command, path, metadata.len())?
+    } else {
+        u64::MAX
+    };
+    Ok((file, most))
 }
 
 /// Answers the script on standard input, and says in words why a line of it is refused, or no command. The handle for threads
@@ -98,13 +130,16 @@ fn run_on<H: Threads + Wait + Sync, R: Read + Drop, W: Write>(
     threads: &H,
     command: &BpfrtCommand,
     name: &str,
-    source: R,
+    input: &mut Input<R>,
     out: &mut W,
 ) -> u8 {
     let mut err = rt.stderr();
-    let mut input = Input::new(source);
-    let status = run(threads, rt.alloc(), command, &mut input, out, &mut err);
-    if let Some(reason) = input.fault().and_then(reason_of_reading) {
+    let status = run(threads, rt.alloc(), command, input, out, &mut err);
+    let fault = match input.fault() {
+        None if status == 3 && input.is_long() => Some(ErrorKind::FileTooLarge),
+        fault => fault,
+    };
+    if let Some(reason) = fault.and_then(reason_of_reading) {
         let _ = writeln!(err, "{name:?}: {reason}");
     }
     status
@@ -124,9 +159,15 @@ fn run_into<H: Threads + Wait + Sync, W: Write>(
     }
     match command.file() {
         None => run(threads, rt.alloc(), command, &mut rt.stdin(), out, &mut err),
-        Some(InputFile::StandardInput) => run_on(rt, threads, command, "-", rt.stdin(), out),
-        Some(InputFile::Path(path)) => match opened(rt, path.as_str()) {
-            Ok(file) => run_on(rt, threads, command, path.as_str(), file, out),
+        Some(InputFile::StandardInput) => {
+            let mut input = Input::new(rt.stdin(), u64::MAX);
+            run_on(rt, threads, command, "-", &mut input, out)
+        }
+        Some(InputFile::Path(path)) => match opened(rt, command, path.as_str()) {
+            Ok((file, most)) => {
+                let mut input = Input::new(file, most);
+                run_on(rt, threads, command, path.as_str(), &mut input, out)
+            }
             Err(error) => unopened(&mut err, command, path.as_str(), &error),
         },
     }

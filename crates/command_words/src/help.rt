@@ -32,7 +32,7 @@ Status, and the line on standard error:
   1  refused C, refused C at S   decoding or the verifier refuses, at slot S (docs/REFUSALS.md)
      fault 94 at L               line L of the file is wrong (docs/PROGRAM_FILES.md)
   2  usage
-  3  fault 13, 96, 97            out of memory, or FILE has more than 16 MiB; FILE or the output failed
+  3  fault 13, 96, 97            out of memory, or a text of more than 16 MiB; FILE or the output failed
 
 Example:
   $ bpfrt check examples/c/counter.bpfrt
@@ -50,7 +50,7 @@ Status, and the line on standard error:
   1  refused C, refused C at S   decoding refuses, at slot S (docs/REFUSALS.md)
      fault 94 at L               line L of the file is wrong (docs/PROGRAM_FILES.md)
   2  usage
-  3  fault 13, 96, 97            out of memory, or FILE has more than 16 MiB; FILE or the output failed
+  3  fault 13, 96, 97            out of memory, or a text of more than 16 MiB; FILE or the output failed
 
 Example:
   $ bpfrt disasm examples/exit_one.bpf
@@ -73,7 +73,7 @@ Status, and the line on standard error:
      refused 2, refused 3        there is no instruction, or there are too many
      fault 94 at L               line L is none that a program file has above its slots
   2  usage
-  3  fault 13, 96, 97            out of memory, or FILE has more than 16 MiB; FILE or the output failed
+  3  fault 13, 96, 97            out of memory, or a text of more than 16 MiB; FILE or the output failed
 
 Example:
   $ bpfrt disasm examples/exit_one.bpf | bpfrt asm --file -
@@ -120,7 +120,7 @@ Status, and the line on standard error:
      refused 90                  WORKERS is not 1 to 8
      refused 91                  COUNT is above 65536
   2  usage; so a WORKERS or COUNT that is no number, before FILE is read
-  3  fault 13, 96, 97            out of memory, or FILE has more than 16 MiB; FILE or the output failed
+  3  fault 13, 96, 97            out of memory, or a text of more than 16 MiB; FILE or the output failed
                                  (the lines of some jobs may have been printed)
 
 Example:
@@ -151,7 +151,7 @@ Status, and the line on standard error:
      refused 65, refused 66      NAME is no map of the file; KEY or VALUE has another length than its map's
      refused 98                  the map has no place for the element
   2  usage; so bytes that are none, before FILE is read
-  3  fault 13, 96, 97            out of memory, or FILE has more than 16 MiB; FILE or the output failed
+  3  fault 13, 96, 97            out of memory, or a text of more than 16 MiB; FILE or the output failed
 
 Example:
   $ bpfrt run examples/lookup_and_load.bpfrt --map m 00000000=2a00000000000000 --dump
@@ -194,7 +194,7 @@ Status, and the line on standard error:
      refused C, refused C at I   it is no program, or has no translation, by instruction I from 0: 103 to 114
                                  (docs/REFUSALS.md)
   2  usage
-  3  fault 13, 96, 97            out of memory, or FILE has more than 16 MiB; FILE or the output failed
+  3  fault 13, 96, 97            out of memory, or a text of more than 16 MiB; FILE or the output failed
 
 Example:
   $ printf '1\\n6 0 0 262144\\n' | bpfrt filter - | bpfrt check -
