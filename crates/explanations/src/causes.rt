@@ -240,10 +240,20 @@ fn stored_words(state: &AbsState, dst: Reg) -> &'static str {
     }
 }
 
+/// What is said of what is returned that is no number.
+fn returned_words(state: &AbsState) -> &'static str {
+    match state.regs.get(0) {
+        Some(RegKind::MaybeNull { .. } | RegKind::Value { .. }) => {
+            "  r{} is no number, and a program returns one: load it from the element, or write r0 anew, as by `mov64 r0, 0`\n"
+        }
+        _ => "  r{} is no number, and a program returns one\n",
+    }
+}
+
 /// Writes what is stored or returned that is no number.
 fn write_leak<W: Write>(out: &mut W, insn: &Insn, state: &AbsState) -> io::Result<()> {
     let (words, register) = match insn {
-        Insn::Exit => ("  r{} is no number, and a program returns one\n", Reg::R0),
+        Insn::Exit => (returned_words(state), Reg::R0),
         Insn::Store {
             dst,
             src: Operand::Register(src),

@@ -7,11 +7,13 @@ mod bounds;
 mod causes;
 mod depths;
 mod explanation;
+mod lost;
 mod meaning;
 mod missing;
 mod numbers;
 mod reads;
 mod slot_lines;
+mod ways;
 
 pub use causes::FUNCTIONS;
 pub use explanation::{explain, slot_shown, write_meaning};
