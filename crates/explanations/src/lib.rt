@@ -2,6 +2,7 @@
 #![tactic(auto)]
 
 mod access;
+mod alignment;
 mod arithmetic;
 mod bounds;
 mod causes;
