@@ -122,6 +122,20 @@ fn write_no_number<W: Write>(out: &mut W, register: Reg, why: &str) -> io::Resul
     )
 }
 
+/// What is said of a number to which a pointer is added.
+const TURNED: &str =
+    "  r{} is a pointer: add the number to it, as `add64 r{}, r{}`. In C move the pointer first, as `q = data + off`, and then use `q[i]`\n";
+
+/// Writes that a pointer is added to a number, and how the number is added to the pointer.
+fn write_turned<W: Write>(out: &mut W, pointer: Reg, number: Reg) -> io::Result<()> {
+    let pointer = Filling::Count(pointer.index());
+    write_filled(
+        out,
+        TURNED,
+        &[pointer, pointer, Filling::Count(number.index())],
+    )
+}
+
 /// What moves a pointer.
 const MOVED: &str = "  a pointer is moved by add64 and sub64 of a number, and by nothing else\n";
 
@@ -136,6 +150,9 @@ fn write_operation<W: Write>(
 ) -> io::Result<()> {
     let is_move = matches!(op, AluOp::Add | AluOp::Sub);
     if let Some(by) = reference_in(state, src) {
+        if op == AluOp::Add && size == Size::Word64 && !is_reference(state, dst) {
+            return write_turned(out, by, dst);
+        }
         if is_move {
             return write_no_number(out, by, "only a number moves a pointer");
         }

@@ -1,10 +1,11 @@
 //! What of an instruction or of its program is the cause of a refusal, in words.
 
+use crate::alignment::write_alignment;
 use crate::arithmetic::write_arithmetic;
 use crate::bounds::{sign_of, write_bounds};
 use crate::numbers::{
-    JUMP_TARGET, NO_SUCH_MAP, OUT_OF_BOUNDS, OUTSIDE_SECTION, POINTER_ARITHMETIC, POINTER_LEAK,
-    UNKNOWN_CALL, UNPAIRED_SECTION, WRONG_ARGUMENT,
+    BACK_JUMP, JUMP_TARGET, MISALIGNED, NO_SUCH_MAP, OUT_OF_BOUNDS, OUTSIDE_SECTION,
+    POINTER_ARITHMETIC, POINTER_LEAK, UNKNOWN_CALL, UNPAIRED_SECTION, WRONG_ARGUMENT,
 };
 use bpf_model::{
     ArgumentKind, CallKind, FRAME_BYTES, Helper, Insn, MapId, MapShape, Operand, Reg, ResultKind,
@@ -84,6 +85,10 @@ fn write_target<W: Write>(
     }
 }
 
+/// What is said of a jump that leads back.
+const LOOP: &str =
+    "  jumps lead forward alone: write a loop out turn by turn, in C by `#pragma unroll` and a constant in its head\n";
+
 /// What is said of a program without maps.
 const NO_MAPS: &str = "  the program has no maps: a file without `bpfrt 1` never has\n";
 
@@ -115,6 +120,7 @@ pub fn write_cause<W: Write>(
 ) -> io::Result<()> {
     match code {
         JUMP_TARGET => write_target(out, source, insn, slot),
+        BACK_JUMP => write_text(out, LOOP),
         UNKNOWN_CALL => write_filled(out, "  {}\n", &[Filling::Text(FUNCTIONS)]),
         NO_SUCH_MAP => write_maps(out, source),
         _ => Ok(()),
@@ -240,10 +246,20 @@ fn stored_words(state: &AbsState, dst: Reg) -> &'static str {
     }
 }
 
+/// What is said of what is returned that is no number.
+fn returned_words(state: &AbsState) -> &'static str {
+    match state.regs.get(0) {
+        Some(RegKind::MaybeNull { .. } | RegKind::Value { .. }) => {
+            "  r{} is no number, and a program returns one: load it from the element, or write r0 anew, as by `mov64 r0, 0`\n"
+        }
+        _ => "  r{} is no number, and a program returns one\n",
+    }
+}
+
 /// Writes what is stored or returned that is no number.
 fn write_leak<W: Write>(out: &mut W, insn: &Insn, state: &AbsState) -> io::Result<()> {
     let (words, register) = match insn {
-        Insn::Exit => ("  r{} is no number, and a program returns one\n", Reg::R0),
+        Insn::Exit => (returned_words(state), Reg::R0),
         Insn::Store {
             dst,
             src: Operand::Register(src),
@@ -289,6 +305,7 @@ pub fn write_known_cause<W: Write>(
         (OUT_OF_BOUNDS, Some(helper)) => write_outside(out, source, state, helper),
         (OUT_OF_BOUNDS, None) => write_bounds(out, source, insn, state),
         (OUTSIDE_SECTION, Some(helper)) => write_lookup(out, source, state, helper),
+        (MISALIGNED, _) => write_alignment(out, insn, state),
         (POINTER_ARITHMETIC, _) => write_arithmetic(out, insn, state),
         (POINTER_LEAK, _) => write_leak(out, insn, state),
         (UNPAIRED_SECTION, _) => write_section(out, insn, state.depth),

@@ -4,15 +4,17 @@ ghost use Rattle.bpf_model.specs.declared.limits.TheConstants.{CTX_BYTES};
 
 use crate::causes::{write_cause, write_known_cause};
 use crate::depths::write_depths;
-use crate::meaning::{Meaning, meaning_of};
-use crate::missing::write_bytes_read;
-use crate::numbers::{UNPAIRED_SECTION, WIDE_TAIL};
+use crate::lost::write_unreadable;
+use crate::meaning::{Meaning, meaning_of, unpaired};
+use crate::missing::{Place, write_bytes_read};
+use crate::numbers::{UNPAIRED_SECTION, UNWRITTEN_REGISTER, WIDE_TAIL};
 use crate::reads::registers_read;
 use crate::slot_lines::{SlotPlace, place_of_slot};
 use bpf_model::Insn;
 use disasm::line_of;
 use program_files::{FileBytes, HEADING, MEMORY, Source, Verdict, known_where_refused, load};
-use std::alloc::Global;
+use register_kinds::RegKind;
+use std::alloc::{AllocError, Global};
 use std::io;
 use std::io::Write;
 use text_likeness::{
@@ -31,26 +33,56 @@ fn index_at(source: &Source, slot: usize) -> Option<usize> {
     None
 }
 
+/// Writes what is known of a register. Whether a call has cleared it.
+fn write_register<W: Write>(
+    alloc: Global,
+    place: Place<'_>,
+    number: usize,
+    kind: RegKind,
+    out: &mut W,
+) -> io::Result<bool> {
+    write_filled(out, "  r{}: ", &[Filling::Count(number)])?;
+    match kind {
+        RegKind::Unwritten | RegKind::Ended | RegKind::Mixed => {
+            write_unreadable(alloc, place.source, place.index, number, kind, out)
+        }
+        _ => {
+            write_kind(out, place.source, &kind)?;
+            write_text(out, "\n")?;
+            Ok(false)
+        }
+    }
+}
+
+/// What is said where a call has cleared a register.
+const KEPT: &str =
+    "  a call leaves nothing in r1 to r5, and `callbtf` nothing in r0: keep what is needed later in r6 to r9\n";
+
 /// Writes a line for each register that the instruction reads, and how many locks are open.
 fn write_known<W: Write>(
-    out: &mut W,
-    source: &Source,
+    alloc: Global,
+    place: Place<'_>,
     insn: &Insn,
-    state: &AbsState,
+    code: u8,
+    out: &mut W,
 ) -> io::Result<()> {
     let read = registers_read(insn);
-    for (number, kind) in state.regs.iter().enumerate() {
+    let mut is_cleared = false;
+    for (number, kind) in place.state.regs.iter().enumerate() {
         if read.get(number).is_some_and(|is_read| *is_read) {
-            write_filled(out, "  r{}: ", &[Filling::Count(number)])?;
-            write_kind(out, source, kind)?;
-            write_text(out, "\n")?;
+            let by_call = write_register(alloc, place, number, *kind, out)?;
+            is_cleared = is_cleared || by_call;
         }
     }
     write_filled(
         out,
         "  locks that are not given up: {}\n",
-        &[Filling::Count(state.depth)],
-    )
+        &[Filling::Count(place.state.depth)],
+    )?;
+    if code == UNWRITTEN_REGISTER && is_cleared {
+        return write_text(out, KEPT);
+    }
+    Ok(())
 }
 
 /// Writes what stands at a slot.
@@ -85,9 +117,14 @@ fn write_instruction<W: Write>(
         write_depths(alloc, source, index, out)?;
     }
     if let Some(state) = known_where_refused(alloc, source)? {
-        write_known(out, source, insn, &state)?;
+        let place = Place {
+            source,
+            state: &state,
+            index,
+        };
+        write_known(alloc, place, insn, code, out)?;
         write_known_cause(out, source, insn, code, &state)?;
-        write_bytes_read(out, source, insn, code, &state)?;
+        write_bytes_read(alloc, out, place, insn, code)?;
     }
     Ok(())
 }
@@ -174,6 +211,45 @@ pub fn write_meaning<W: Write>(out: &mut W, meaning: Meaning) -> io::Result<()> 
     )
 }
 
+/// The meaning of a refusal by this number of the instruction at a slot: of sections the one cause that holds.
+fn meaning_at(
+    alloc: Global,
+    source: &Source,
+    code: u8,
+    slot: usize,
+) -> Result<Option<Meaning>, AllocError>
+    requires { source.now.ctx_len ≤ CTX_BYTES }
+{
+    if code != UNPAIRED_SECTION {
+        return Ok(meaning_of(code));
+    }
+    let insn = match index_at(source, slot) {
+        Some(index) => source.program.instructions().get(index),
+        None => None,
+    };
+    let depth = match known_where_refused(alloc, source)? {
+        Some(state) => Some(state.depth),
+        None => None,
+    };
+    Ok(unpaired(insn, depth))
+}
+
+/// Writes what a refusal of the instruction at a slot means, and why it is refused.
+fn write_refused<W: Write>(
+    alloc: Global,
+    source: &Source,
+    code: u8,
+    slot: usize,
+    out: &mut W,
+) -> io::Result<()>
+    requires { source.now.ctx_len ≤ CTX_BYTES }
+{
+    if let Some(meaning) = meaning_at(alloc, source, code, slot)? {
+        write_meaning(out, meaning)?;
+    }
+    write_instruction(alloc, source, code, slot, out)
+}
+
 /// Writes what a verdict on a program file means: a line with its name and its meaning; and where it is of an
 /// instruction, that one's text, what each register that it reads may hold, how many locks are open, by the path where that
 /// differs, and which byte of the frame is the cause. The frame is told from r10 on, maps by their place in the program's list and their names. Where
@@ -187,14 +263,15 @@ pub fn explain<W: Write>(
     verdict: &Verdict,
     out: &mut W,
 ) -> io::Result<()> {
+    if let (Some(slot), Ok(source)) = (verdict.slot, file.source(alloc)) {
+        return write_refused(alloc, &source, verdict.code, slot, out);
+    }
     if let Some(meaning) = meaning_of(verdict.code) {
         write_meaning(out, meaning)?;
     }
     write_source(file, verdict, out)?;
-    if let (Some(slot), Ok(source)) = (verdict.slot, file.source(alloc)) {
-        write_instruction(alloc, &source, verdict.code, slot, out)?;
-    } else if let Some(slot) = verdict.slot {
-        write_slot(alloc, file, slot_shown(verdict.code, slot), out)?;
+    match verdict.slot {
+        Some(slot) => write_slot(alloc, file, slot_shown(verdict.code, slot), out),
+        None => Ok(()),
     }
-    Ok(())
 }

@@ -2,16 +2,19 @@
 #![tactic(auto)]
 
 mod access;
+mod alignment;
 mod arithmetic;
 mod bounds;
 mod causes;
 mod depths;
 mod explanation;
+mod lost;
 mod meaning;
 mod missing;
 mod numbers;
 mod reads;
 mod slot_lines;
+mod ways;
 
 pub use causes::FUNCTIONS;
 pub use explanation::{explain, slot_shown, write_meaning};

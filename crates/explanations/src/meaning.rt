@@ -1,5 +1,7 @@
 //! The names and the meanings of refusals, as docs/REFUSALS.md has them.
 
+use bpf_model::Insn;
+
 /// The name of a refusal, and what it means in a sentence.
 #[derive(Clone, Copy, Debug, PartialEq, Eq)]
 pub struct Meaning {
@@ -175,4 +177,15 @@ pub fn meaning_of(code: u8) -> Option<Meaning> {
         94 => means("BadFile", "a line of a program file is wrong"),
         _ => of_use(code),
     }
+}
+
+/// The meaning of 34 of an instruction where so many locks are open, or where paths differ in how many: the one cause that holds.
+pub fn unpaired(insn: Option<&Insn>, depth: Option<usize>) -> Option<Meaning> {
+    let text = match (depth, insn) {
+        (None, _) => "paths that differ in depth meet",
+        (Some(_), Some(Insn::Exit)) => "an exit inside a section",
+        (Some(0), _) => "an unlock outside a section",
+        (Some(_), _) => "a lock where 8 are open",
+    };
+    means("UnpairedSection", text)
 }

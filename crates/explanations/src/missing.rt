@@ -2,14 +2,24 @@
 
 use crate::access::loaded;
 use crate::causes::{helper_of, is_outside, shape_of_call};
+use crate::lost::write_lost_byte;
 use crate::numbers::{MIXED_REGIONS, OUTSIDE_SECTION, POINTER_LEAK, UNWRITTEN_FRAME};
 use bpf_model::{ArgumentKind, FRAME_BYTES, Helper, Insn, Reg};
 use program_files::Source;
 use register_kinds::{AbsState, RegKind, check_bytes};
+use std::alloc::Global;
 use std::io;
 use std::io::Write;
 use text_likeness::{Filling, write_filled};
 use verifier_log::write_group;
+
+/// Where a program is refused: the index of the instruction, and what is known before it.
+#[derive(Clone, Copy)]
+pub struct Place<'a> {
+    pub source: &'a Source,
+    pub state: &'a AbsState,
+    pub index: usize,
+}
 
 /// Bytes of the frame that an instruction reads: for what, which one is the first, and how many.
 #[derive(Clone, Copy)]
@@ -104,21 +114,47 @@ fn write_first_in<W: Write>(
     Ok(Some(at))
 }
 
-/// Writes as `write_first_in` does, and below it the pointer or map of which the byte is part. Whether there is such a byte.
-fn write_first_of_part<W: Write>(
+/// Of which kind a byte of the frame is for which a program is refused by this number, and which cannot be read.
+fn unreadable_kind(code: u8) -> Option<RegKind> {
+    match code {
+        UNWRITTEN_FRAME => Some(RegKind::Unwritten),
+        OUTSIDE_SECTION => Some(RegKind::Ended),
+        MIXED_REGIONS => Some(RegKind::Mixed),
+        _ => None,
+    }
+}
+
+/// Writes how a byte of the frame came to be unreadable for which a program is refused by this number.
+fn write_lost<W: Write>(
+    alloc: Global,
     out: &mut W,
-    source: &Source,
-    state: &AbsState,
+    place: Place<'_>,
+    at: usize,
+    code: u8,
+) -> io::Result<()> {
+    match unreadable_kind(code) {
+        Some(bad) => write_lost_byte(alloc, place.source, place.index, at, bad, out),
+        None => Ok(()),
+    }
+}
+
+/// Writes as `write_first_in` does, and below it the pointer or map of which the byte is part, or how it came to be unreadable.
+/// Whether there is such a byte.
+fn write_first_of_part<W: Write>(
+    alloc: Global,
+    out: &mut W,
+    place: Place<'_>,
     part: FramePart,
     code: u8,
 ) -> io::Result<bool> {
-    let Some(at) = write_first_in(out, state, part, code)? else {
+    let Some(at) = write_first_in(out, place.state, part, code)? else {
         return Ok(false);
     };
     let group = at / 8;
     if code == POINTER_LEAK && group < 64 {
-        write_group(out, source, &state.frame, group)?;
+        write_group(out, place.source, &place.state.frame, group)?;
     }
+    write_lost(alloc, out, place, at, code)?;
     Ok(true)
 }
 
@@ -129,9 +165,9 @@ fn leads_to_bytes(kind: ArgumentKind) -> bool {
 
 /// Writes the first byte to which the arguments of a helper lead and for which it is refused by this number.
 fn write_first_of_call<W: Write>(
+    alloc: Global,
     out: &mut W,
-    source: &Source,
-    state: &AbsState,
+    place: Place<'_>,
     helper: Helper,
     code: u8,
 ) -> io::Result<()> {
@@ -139,9 +175,9 @@ fn write_first_of_call<W: Write>(
         let Some(register) = Reg::new(index as u8 + 1) else {
             return Ok(());
         };
-        match part_of_argument(source, state, register, *kind) {
+        match part_of_argument(place.source, place.state, register, *kind) {
             Some(part) => {
-                if write_first_of_part(out, source, state, part, code)? {
+                if write_first_of_part(alloc, out, place, part, code)? {
                     return Ok(());
                 }
             }
@@ -179,22 +215,27 @@ fn write_loaded<W: Write>(
 
 /// Writes which bytes of the frame that an instruction reads are the cause of its refusal by this number, if some are.
 pub fn write_bytes_read<W: Write>(
+    alloc: Global,
     out: &mut W,
-    source: &Source,
+    place: Place<'_>,
     insn: &Insn,
     code: u8,
-    state: &AbsState,
 ) -> io::Result<()> {
+    let Place { source, state, .. } = place;
     if let Some(part) = part_of_load(insn, state) {
         if code == POINTER_LEAK || code == MIXED_REGIONS {
-            return write_loaded(out, source, state, part);
+            write_loaded(out, source, state, part)?;
+            return match first_refused(state, part, code) {
+                Some(at) => write_lost(alloc, out, place, at, code),
+                None => Ok(()),
+            };
         }
-        write_first_in(out, state, part, code)?;
+        write_first_of_part(alloc, out, place, part, code)?;
         return Ok(());
     }
     match helper_of(insn) {
         Some(helper) if !is_outside(source, state, helper) => {
-            write_first_of_call(out, source, state, helper, code)
+            write_first_of_call(alloc, out, place, helper, code)
         }
         _ => Ok(()),
     }

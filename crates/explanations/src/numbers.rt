@@ -4,9 +4,15 @@ pub const WIDE_TAIL: u8 = 12;
 
 pub const JUMP_TARGET: u8 = 20;
 
+pub const BACK_JUMP: u8 = 21;
+
+pub const UNWRITTEN_REGISTER: u8 = 23;
+
 pub const POINTER_ARITHMETIC: u8 = 25;
 
 pub const OUT_OF_BOUNDS: u8 = 27;
+
+pub const MISALIGNED: u8 = 28;
 
 pub const UNWRITTEN_FRAME: u8 = 29;
 

@@ -1,5 +1,6 @@
 //! The steps of a run, one after another.
 
+use crate::calls::{asked_of, write_call};
 use crate::changes::{Before, write_changes};
 use crate::words::write_place;
 use bpf_model::{Event, Insn, MAX_SLOTS, Operand, RunId, Width};
@@ -80,7 +81,11 @@ fn write_step<W: Write>(
     writeln!(out, "{place}: {text}")?;
     write_store(out, world.registry(), run, insn)?;
     let before = Before::of(run);
+    let asked = asked_of(world.registry(), run, insn);
     let _ = world.apply(&Event::Step { run: RunId::new(0) });
+    if let Some(asked) = &asked {
+        write_call(out, world, asked)?;
+    }
     if let Some(run) = world.run(RunId::new(0)) {
         write_changes(out, world.registry(), &before, run)?;
     }
@@ -88,8 +93,8 @@ fn write_step<W: Write>(
 }
 
 /// Steps the run in run slot 0, which is of this program, to its exit. Of each step it writes the slot and the text of
-/// the instruction, and below them, indented, what a store writes, and which registers, bytes of the frame and
-/// number of open locks have changed.
+/// the instruction, and below them, indented, what a store writes, what a helper was called for and has given, and which
+/// registers, bytes of the frame and number of open locks have changed.
 ///
 /// An error says that nothing more could be written, or that memory ran out.
 pub fn write_steps<W: Write>(

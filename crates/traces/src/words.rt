@@ -27,11 +27,41 @@ fn region_of(word: u64) -> (u64, i64) {
     )
 }
 
+/// The byte of the frame to which a word leads, if it leads there.
+pub fn frame_place(word: u64) -> Option<usize> {
+    let (region, offset) = region_of(word);
+    if region == FRAME {
+        usize::try_from(offset).ok()
+    } else {
+        None
+    }
+}
+
+/// The map that a word is, if it is one: words of maps lie as far behind that of map 0 as their numbers say.
+pub fn map_of(maps: &Registry, word: u64) -> Option<MapId> {
+    let (region, offset) = region_of(word);
+    let number = offset.unsigned_abs();
+    if region == MAPS && offset >= 0 && number < maps.len() as u64 {
+        Some(MapId::new(number as usize))
+    } else {
+        None
+    }
+}
+
+/// Writes bytes as hexadecimal digits.
+pub fn write_bytes<W: Write>(out: &mut W, bytes: &[u8]) -> io::Result<()> {
+    for byte in bytes {
+        write!(out, "{byte:02x}")?;
+    }
+    Ok(())
+}
+
 /// Writes a map by its number in the world, and its name.
-fn write_map<W: Write>(out: &mut W, maps: &Registry, map: u64) -> io::Result<()> {
-    match maps.name(MapId::new(map as usize)) {
-        Some(name) => write!(out, "map {map} ({name})"),
-        None => write!(out, "map {map}"),
+pub fn write_map<W: Write>(out: &mut W, maps: &Registry, map: MapId) -> io::Result<()> {
+    let number = map.index();
+    match maps.name(map) {
+        Some(name) => write!(out, "map {number} ({name})"),
+        None => write!(out, "map {number}"),
     }
 }
 
@@ -53,22 +83,14 @@ fn write_signed<W: Write>(out: &mut W, number: i64) -> io::Result<()> {
     Ok(())
 }
 
-/// Writes which map a word is, if it is one: words of maps lie as far behind that of map 0 as their numbers say. Else it
-/// writes which negative number the word stands for.
-fn write_map_word<W: Write>(
-    out: &mut W,
-    maps: &Registry,
-    region: u64,
-    offset: i64,
-    word: u64,
-) -> io::Result<()> {
-    let number = offset.unsigned_abs();
-    if region == MAPS && offset >= 0 && number < maps.len() as u64 {
-        write!(out, " (")?;
-        write_map(out, maps, number)?;
-        return write!(out, ")");
-    }
-    write_signed(out, word.cast_signed())
+/// Writes which map a word is, if it is one, else which negative number it stands for.
+fn write_map_word<W: Write>(out: &mut W, maps: &Registry, word: u64) -> io::Result<()> {
+    let Some(map) = map_of(maps, word) else {
+        return write_signed(out, word.cast_signed());
+    };
+    write!(out, " (")?;
+    write_map(out, maps, map)?;
+    write!(out, ")")
 }
 
 /// Writes which place in memory a word would be, if it is one: the context, the frame, counted from r10, a map slot, a map;
@@ -85,9 +107,9 @@ pub fn write_place<W: Write>(out: &mut W, maps: &Registry, word: u64) -> io::Res
         let number = region - SLOTS;
         let slot = number % MAP_SLOTS;
         write!(out, " (slot {slot} of ")?;
-        write_map(out, maps, number / MAP_SLOTS)?;
+        write_map(out, maps, MapId::new((number / MAP_SLOTS) as usize))?;
     } else {
-        return write_map_word(out, maps, region, offset, word);
+        return write_map_word(out, maps, word);
     }
     write_offset(out, offset)?;
     write!(out, ")")

@@ -3,88 +3,16 @@ ghost use Rattle.std.specs.Prelude.{◌<◌};
 
 use crate::frame::write_group;
 use crate::known::{write_bits, write_kind};
-use crate::numbered::{Next, Numbered, joined, next_of};
-use bpf_model::Insn;
+use crate::numbered::next_of;
+use crate::states::{States, Waiting};
 use disasm::line_of;
 use program_files::{FileBytes, Source, shapes_of};
-use program_graph::{GraphRefusal, falls, judge};
-use register_kinds::{AbsState, Boxes, FrameCells, Identities, RegKind};
+use program_graph::{GraphRefusal, judge};
+use register_kinds::{AbsState, FrameCells, RegKind};
 use state_steps::EnvironmentShape;
 use std::alloc::{AllocError, Global};
+use std::io;
 use std::io::Write;
-use std::{io, mem};
-
-/// What waits for an instruction.
-#[derive(Drop)]
-enum Waiting {
-    /// No edge has led to the instruction yet.
-    Nothing,
-    /// What is known on all edges that have led to it.
-    Known(Numbered),
-    /// Edges have led to it with different numbers of locks open.
-    Differing,
-}
-
-/// The states that wait, by the index of their instructions.
-#[derive(Drop)]
-struct States {
-    by_index: Vec<Waiting>,
-    boxes: Boxes,
-    ids: Identities,
-}
-
-impl States {
-    /// What waits before the first step.
-    fn at_entry(alloc: Global, len: usize) -> Result<States, AllocError> {
-        let mut by_index = Vec::with_capacity(alloc, len)?;
-        by_index.push(Waiting::Known(Numbered::entry(alloc)?))?;
-        for _ in 1..len {
-            by_index.push(Waiting::Nothing)?;
-        }
-        Ok(States {
-            by_index,
-            boxes: Boxes::new(alloc),
-            ids: Identities::none(),
-        })
-    }
-
-    /// Takes out what waits for the instruction of this index.
-    fn take(&mut self, index: usize) -> Waiting {
-        match self.by_index.get_mut(index) {
-            Some(waiting) => mem::replace(waiting, Waiting::Nothing),
-            None => Waiting::Nothing,
-        }
-    }
-
-    /// Joins a state into what waits for the instruction of this index.
-    fn put(&mut self, index: usize, state: Numbered) {
-        let waiting = match self.take(index) {
-            Waiting::Nothing => Waiting::Known(state),
-            Waiting::Known(before) => match joined(before, state, &mut self.boxes, &mut self.ids) {
-                Some(both) => Waiting::Known(both),
-                None => Waiting::Differing,
-            },
-            Waiting::Differing => Waiting::Differing,
-        };
-        if let Some(place) = self.by_index.get_mut(index) {
-            *place = waiting;
-        }
-    }
-
-    /// Puts what an instruction makes where control goes on from it.
-    fn spread(&mut self, insn: &Insn, index: usize, target: Option<usize>, next: Next) {
-        let Next { falling, taken } = next;
-        let jumping = if falls(insn) {
-            self.put(index.saturating_add(1), falling);
-            taken
-        } else {
-            Some(falling)
-        };
-        if let (Some(target), Some(state)) = (target, jumping) {
-            self.put(target, state);
-        }
-    }
-}
 
 /// Writes each of r0 to r9 that is written on every path.
 fn write_registers<W: Write>(out: &mut W, source: &Source, state: &AbsState) -> io::Result<()> {

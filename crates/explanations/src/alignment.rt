@@ -1,0 +1,119 @@
+//! How an access begins at no multiple of its width, in words.
+
+use crate::access::{Access, accessed};
+use crate::bounds::sign_of;
+use bpf_model::{FRAME_BYTES, Insn};
+use register_kinds::{AbsState, ORIGIN, RegKind};
+use scalar_domain::Scalar;
+use std::io;
+use std::io::Write;
+use text_likeness::{Filling, write_filled};
+
+/// Writes that an access begins where the frame has this offset from r10, and that this is no multiple of its width.
+fn write_frame<W: Write>(out: &mut W, at: i64, width: usize) -> io::Result<()> {
+    write_filled(
+        out,
+        "  it begins at r10{}{}, which is no multiple of {}",
+        &[
+            Filling::Text(sign_of(at)),
+            Filling::Signed(at),
+            Filling::Count(width),
+        ],
+    )
+}
+
+/// Writes at which byte of its region an access begins or may begin, by a reference at these offsets and so far behind it.
+fn write_region<W: Write>(
+    out: &mut W,
+    offsets: &Scalar,
+    behind: i64,
+    width: usize,
+) -> io::Result<()> {
+    if offsets.least != offsets.greatest {
+        return write_filled(
+            out,
+            "  it may begin at a byte that is no multiple of {}",
+            &[Filling::Count(width)],
+        );
+    }
+    let first = offsets.least.wrapping_sub(ORIGIN).cast_signed();
+    write_filled(
+        out,
+        "  it begins at byte {}, which is no multiple of {}",
+        &[
+            Filling::Signed(first.saturating_add(behind)),
+            Filling::Count(width),
+        ],
+    )
+}
+
+/// A number that has each bit that may be set where an access may begin; of one offset alone that place.
+fn bits_of(offsets: &Scalar, behind: i64) -> u64 {
+    let more = behind.cast_unsigned();
+    if offsets.least == offsets.greatest {
+        offsets.least.wrapping_add(more)
+    } else {
+        offsets.may | more
+    }
+}
+
+/// How many bytes may be accessed at once where a number with these bits is the place: the most, and fewer than `width`.
+fn piece_of(bits: u64, width: usize) -> usize {
+    if width > 4 && bits % 4 == 0 {
+        4
+    } else if width > 2 && bits % 2 == 0 {
+        2
+    } else {
+        1
+    }
+}
+
+/// Writes in which pieces an access may be made instead.
+fn write_pieces<W: Write>(out: &mut W, insn: &Insn, piece: usize, width: usize) -> io::Result<()> {
+    let count = if piece == 0 { 1 } else { width / piece };
+    let unit = if piece == 1 { "byte" } else { "bytes" };
+    let words = match insn {
+        Insn::Store { .. } => ": write {} stores of {} {}\n",
+        _ => ": write {} loads of {} {}, and put them together by `lsh64` and `or64`\n",
+    };
+    write_filled(
+        out,
+        words,
+        &[
+            Filling::Count(count),
+            Filling::Count(piece),
+            Filling::Text(unit),
+        ],
+    )
+}
+
+/// Writes where an access begins by a reference at these offsets, and in which pieces it may be made.
+fn write_at_offsets<W: Write>(
+    out: &mut W,
+    insn: &Insn,
+    access: Access,
+    offsets: &Scalar,
+) -> io::Result<()> {
+    let behind = i64::from(access.offset);
+    write_region(out, offsets, behind, access.length)?;
+    let piece = piece_of(bits_of(offsets, behind), access.length);
+    write_pieces(out, insn, piece, access.length)
+}
+
+/// Writes where a load or a store begins that begins at no multiple of its width, and what to write instead.
+pub fn write_alignment<W: Write>(out: &mut W, insn: &Insn, state: &AbsState) -> io::Result<()> {
+    let Some(access) = accessed(insn) else {
+        return Ok(());
+    };
+    match state.regs.get(access.base.index()) {
+        Some(RegKind::Frame(at)) => {
+            let place = i64::from(*at) - FRAME_BYTES as i64 + i64::from(access.offset);
+            write_frame(out, place, access.length)?;
+            let piece = piece_of(place.cast_unsigned(), access.length);
+            write_pieces(out, insn, piece, access.length)
+        }
+        Some(RegKind::Ctx(offsets)) => write_at_offsets(out, insn, access, offsets),
+        Some(RegKind::Value { offset, .. }) => write_at_offsets(out, insn, access, offset),
+        _ => Ok(()),
+    }
+}

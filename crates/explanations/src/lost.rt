@@ -1,0 +1,224 @@
+//! How a register or a byte of the frame came to be unreadable, in words.
+
+use crate::ways::{Edge, Ways, ways_to};
+use disasm::line_of;
+use program_files::Source;
+use register_kinds::RegKind;
+use std::alloc::Global;
+use std::io;
+use std::io::Write;
+use text_likeness::{Filling, write_filled, write_text};
+use verifier_log::{Watched, write_kind};
+
+/// How many instructions are named at which something was lost.
+const MOST_NAMED: usize = 3;
+
+/// Whether what is known of one way and of another has nothing in common.
+fn differ(one: &RegKind, other: &RegKind) -> bool {
+    match (one, other) {
+        (RegKind::Unwritten, RegKind::Unwritten)
+        | (RegKind::Ended, RegKind::Ended)
+        | (RegKind::Mixed, _)
+        | (_, RegKind::Mixed)
+        | (RegKind::Num(_), RegKind::Num(_))
+        | (RegKind::Ctx(_), RegKind::Ctx(_)) => false,
+        (RegKind::Frame(one), RegKind::Frame(other)) => one != other,
+        (RegKind::Map(one), RegKind::Map(other))
+        | (RegKind::Value { map: one, .. }, RegKind::Value { map: other, .. })
+        | (RegKind::MaybeNull { map: one, .. }, RegKind::MaybeNull { map: other, .. }) => {
+            one != other
+        }
+        _ => true,
+    }
+}
+
+/// The first of these edges that leads where this one does, of which something else is known.
+fn other_edge(edges: &[Edge], edge: Edge) -> Option<Edge> {
+    for other in edges {
+        if other.to == edge.to && differ(&other.kind, &edge.kind) {
+            return Some(*other);
+        }
+    }
+    None
+}
+
+/// Two edges that lead to one instruction, of which different things are known. The edges stand by where they come from, the greatest
+/// first, and of the two the lower comes first.
+fn meeting(edges: &[Edge]) -> Option<(Edge, Edge)> {
+    for edge in edges {
+        if let Some(other) = other_edge(edges, *edge) {
+            return Some((other, *edge));
+        }
+    }
+    None
+}
+
+/// The slot at which the instruction of an index begins.
+fn slot_of(source: &Source, index: usize) -> usize {
+    source.program.starts().get(index).copied().unwrap_or(0)
+}
+
+/// Writes what is known on an edge, and from where it leads.
+fn write_edge<W: Write>(out: &mut W, source: &Source, edge: Edge) -> io::Result<()> {
+    let slot = slot_of(source, edge.from);
+    write_filled(out, "    from {}: ", &[Filling::Count(slot)])?;
+    match edge.kind {
+        RegKind::Unwritten => write_text(out, "not written")?,
+        RegKind::Ended => write_text(out, "a reference to an element, whose section has ended")?,
+        kind => write_kind(out, source, &kind)?,
+    }
+    write_text(out, "\n")
+}
+
+/// Writes what is known on two ways that meet, where different things are.
+fn write_meeting<W: Write>(out: &mut W, source: &Source, ways: &Ways) -> io::Result<()> {
+    match meeting(&ways.edges) {
+        Some((first, second)) => {
+            write_edge(out, source, first)?;
+            write_edge(out, source, second)
+        }
+        None => Ok(()),
+    }
+}
+
+/// Writes the text of the instruction of an index, and its slot.
+fn write_place<W: Write>(
+    alloc: Global,
+    source: &Source,
+    index: usize,
+    out: &mut W,
+) -> io::Result<()> {
+    let Some(insn) = source.program.instructions().get(index) else {
+        return Ok(());
+    };
+    let text = line_of(alloc, insn)?;
+    let slot = slot_of(source, index);
+    write_filled(
+        out,
+        "`{}` at {}",
+        &[Filling::Text(text.as_str()), Filling::Count(slot)],
+    )
+}
+
+/// Writes the instructions of these indexes and their slots, as one or the other.
+fn write_places<W: Write>(
+    alloc: Global,
+    source: &Source,
+    indexes: &[usize],
+    out: &mut W,
+) -> io::Result<()> {
+    for (number, index) in indexes.iter().enumerate().take(MOST_NAMED) {
+        if number > 0 {
+            write_text(out, " or ")?;
+        }
+        write_place(alloc, source, *index, out)?;
+    }
+    if indexes.len() > MOST_NAMED {
+        write_text(out, " or another one")?;
+    }
+    Ok(())
+}
+
+/// Whether something else is known on one of these edges than this, which cannot be read.
+fn is_some_other(edges: &[Edge], bad: RegKind) -> bool {
+    for edge in edges {
+        if edge.kind != bad {
+            return true;
+        }
+    }
+    false
+}
+
+/// Writes what became of something, and at which instructions.
+fn write_loss<W: Write>(
+    alloc: Global,
+    source: &Source,
+    ways: &Ways,
+    bad: RegKind,
+    how: &str,
+    out: &mut W,
+) -> io::Result<()> {
+    let is_readable = is_some_other(&ways.edges, bad);
+    if is_readable || ways.is_from_entry {
+        write_text(out, "on some path ")?;
+    }
+    write_text(out, how)?;
+    write_places(alloc, source, &ways.lost, out)?;
+    if ways.is_from_entry {
+        return write_text(out, ", on some not written");
+    }
+    if !is_readable && ways.lost.len() > 1 {
+        return write_text(out, ", by the path");
+    }
+    Ok(())
+}
+
+/// Writes why something of this kind cannot be read.
+fn write_why<W: Write>(
+    alloc: Global,
+    source: &Source,
+    ways: &Ways,
+    bad: RegKind,
+    out: &mut W,
+) -> io::Result<()> {
+    match bad {
+        RegKind::Unwritten if !ways.lost.is_empty() => {
+            write_loss(alloc, source, ways, bad, "cleared by ", out)
+        }
+        RegKind::Unwritten if is_some_other(&ways.edges, bad) => {
+            write_text(out, "not written on every path")
+        }
+        RegKind::Unwritten => write_text(out, "written on no path"),
+        RegKind::Ended if !ways.lost.is_empty() => {
+            let how = "a reference to an element, ended by ";
+            write_loss(alloc, source, ways, bad, how, out)
+        }
+        kind => write_kind(out, source, &kind),
+    }
+}
+
+/// Writes why a register, which is of this kind before the instruction of an index, cannot be read there: which call has cleared
+/// it, which unlock has ended it, which ways meet. Whether a call has cleared it.
+///
+/// An error says that nothing more could be written, or that memory ran out.
+pub fn write_unreadable<W: Write>(
+    alloc: Global,
+    source: &Source,
+    index: usize,
+    register: usize,
+    bad: RegKind,
+    out: &mut W,
+) -> io::Result<bool> {
+    let Some(ways) = ways_to(alloc, source, index, Watched::Register(register), bad)? else {
+        write_kind(out, source, &bad)?;
+        write_text(out, "\n")?;
+        return Ok(false);
+    };
+    write_why(alloc, source, &ways, bad, out)?;
+    write_text(out, "\n")?;
+    write_meeting(out, source, &ways)?;
+    Ok(bad == RegKind::Unwritten && !ways.lost.is_empty())
+}
+
+/// Writes why a byte of the frame, which is of this kind before the instruction of an index, cannot be read there: which unlock has
+/// ended the reference that it is part of, which ways meet.
+///
+/// An error says that nothing more could be written, or that memory ran out.
+pub fn write_lost_byte<W: Write>(
+    alloc: Global,
+    source: &Source,
+    index: usize,
+    at: usize,
+    bad: RegKind,
+    out: &mut W,
+) -> io::Result<()> {
+    let Some(ways) = ways_to(alloc, source, index, Watched::Byte(at), bad)? else {
+        return Ok(());
+    };
+    if bad == RegKind::Ended && !ways.lost.is_empty() {
+        write_text(out, "  its section was ended by ")?;
+        write_places(alloc, source, &ways.lost, out)?;
+        write_text(out, "\n")?;
+    }
+    write_meeting(out, source, &ways)
+}
