@@ -7,13 +7,13 @@ mod folded;
 
 use crate::trial::{Trial, trial_of_program};
 use anyhow::Result;
-use asm::assemble;
 use basic::{BRANCHES, FRAME, STRAIGHT};
 use folded::{
     BEFORE_BYTE_SWAPS, BEFORE_DIVISIONS, BEFORE_MIXED, BEFORE_SIGN_EXTENSIONS, BYTE_SWAPS,
     DIVISIONS, Folded, MIXED, SIGN_EXTENSIONS,
 };
 use std::alloc::{AllocError, Global};
+use world_bench::program_of;
 
 /// A program that is built in.
 #[derive(Clone, Copy)]
@@ -94,7 +94,7 @@ impl Sample {
         ensures { IfOk result IsReadyTrial }
     {
         let text = self.text(alloc)?;
-        let program = assemble(alloc, &text)?;
+        let program = program_of(alloc, &text)?;
         trial_of_program(alloc, program, usize::from(self.ctx_len))
     }
 }
