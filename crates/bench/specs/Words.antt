@@ -4,6 +4,8 @@ use Rattle.std.specs.Str.Parse.{digits_value, without_leading_plus}
 use Rattle.bpf_model.specs.declared.limits.TheConstants.{CTX_BYTES}
 use Rattle.bench.specs.declared.command.BenchCommand.{BenchCommand}
 use Rattle.bench.specs.declared.command.BenchCommand.TheVariants.{Repeat, Run, Samples}
+use Rattle.bench.specs.declared.command.Command.{Command}
+use Rattle.bench.specs.declared.command.Command.TheVariants.{Bench, Read, World}
 use Rattle.bench.specs.declared.command.Repeated.{Repeated}
 use Rattle.bench.specs.declared.command.Repeated.TheVariants.{Runs, Verifications}
 
@@ -25,3 +27,9 @@ IsAskedBy words (Repeat deed file ctx_len times) =
     × (map string_bytes words ≡ word_of deed ∷ file.now ∷ length ∷ count ∷ [])
     × (digits_value 10 (without_leading_plus length) ≡ ctx_len) × (ctx_len ≤ CTX_BYTES)
     × (digits_value 10 (without_leading_plus count) ≡ times) × (0 < times)
+
+-- The same of all commands. Of those on worlds and on tables nothing is said.
+abbrev pub IsAsked : {A : Type 0} → List (String A) → Command → Type 0
+IsAsked words (Bench command) = IsAskedBy words command
+IsAsked words (World command) = Unit {0}
+IsAsked words (Read command) = Unit {0}

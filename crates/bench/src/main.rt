@@ -6,16 +6,18 @@ ghost use Rattle.bpf_model.specs.declared.limits.TheConstants.{CTX_BYTES};
 ghost use Rattle.bench.specs.Trials.{IsReadyTrial};
 
 mod command;
+mod decimal;
 mod measure;
 mod report;
 mod samples;
+mod tables;
 mod trial;
+mod worlds;
 
 use anyhow::{Result, bail};
-use command::{BenchCommand, Repeated, parse_words};
+use command::{BenchCommand, Command, Repeated, WorldCommand, parse_command};
 use measure::{Timed, repeat_runs, repeat_verifications, time_per_call_part};
-use measurements::measurement_line;
-use report::sample_line;
+use report::{measurement_line, sample_line};
 use samples::samples;
 use std::process::ExitCode;
 use std::rt::Clock;
@@ -23,9 +25,9 @@ use std::sync::Wait;
 use std::thread::Threads;
 use std::time::CpuClock;
 use std::{env, fs};
-use table_bench::{lines_of as read_lines_of, parse_read_words};
+use tables::perform_read;
 use trial::{Trial, counted_run, trial_of};
-use world_bench::{WorldCommand, lines_of, parse_world_words};
+use worlds::perform_world;
 
 /// Runs each program that is built in, and prints what it came to.
 fn print_samples(rt: &HostRuntime) -> Result<()> {
@@ -90,95 +92,46 @@ fn measure_file(rt: &HostRuntime, file: &str, ctx_len: usize) -> Result<()>
     Ok(())
 }
 
-/// Prints the lines of a command on worlds. The handle for threads, for waiting and for the clock is the
-/// runtime again.
-fn print_world<H: Threads + Wait + Clock + Sync>(
-    rt: &HostRuntime,
-    handle: &H,
-    command: WorldCommand<'_>,
-) -> Result<()> {
-    for line in lines_of(handle, rt.alloc(), command)? {
-        rt.println(line)?;
-    }
-    Ok(())
-}
-
-/// Does what the words after `world` ask for.
-fn perform_world<H: Threads + Wait + Clock + Sync>(
-    rt: &HostRuntime,
-    handle: &H,
-    words: &[String],
-) -> Result<ExitCode> {
-    match parse_world_words(words) {
-        Ok(command) => print_world(rt, handle, command)?,
-        Err(fault) => {
-            eprintln!(rt; "{fault}")?;
-            return Ok(ExitCode::from(2));
-        }
-    }
-    Ok(ExitCode::SUCCESS)
-}
-
-/// Does what the words after `read` ask for.
-fn perform_read<H: Threads + Wait + Clock + CpuClock + Sync>(
-    rt: &HostRuntime,
-    handle: &H,
-    words: &[String],
-) -> Result<ExitCode> {
-    let command = match parse_read_words(words) {
-        Ok(command) => command,
-        Err(fault) => {
-            eprintln!(rt; "{fault}")?;
-            return Ok(ExitCode::from(2));
-        }
-    };
-    for line in read_lines_of(handle, rt.alloc(), command)? {
-        rt.println(line)?;
-    }
-    Ok(ExitCode::SUCCESS)
-}
-
-/// Does what the words after the program's own ask for.
-fn perform_program<H: Threads + Wait + Clock + Sync>(
-    rt: &HostRuntime,
-    handle: &H,
-    words: &[String],
-) -> Result<ExitCode> {
-    match parse_words(words) {
-        Ok(BenchCommand::Samples) => {
-            print_samples(rt)?;
-            print_world(rt, handle, WorldCommand::Answers)?;
-        }
-        Ok(BenchCommand::Run { file, ctx_len }) => measure_file(rt, file, ctx_len)?,
-        Ok(
-            BenchCommand::Repeat {
-                deed,
-                file,
-                ctx_len,
-                times,
-            },
-        ) => repeat_file(rt, deed, file, ctx_len, times)?,
-        Err(fault) => {
-            eprintln!(rt; "{fault}")?;
-            return Ok(ExitCode::from(2));
-        }
-    }
-    Ok(ExitCode::SUCCESS)
-}
-
-fn perform<H: Threads + Wait + Clock + CpuClock + Sync>(
-    rt: &HostRuntime,
-    handle: &H,
-) -> Result<ExitCode> {
+/// The words after the program's own.
+fn own_words(rt: &HostRuntime) -> Result<Vec<String>> {
     let mut words = Vec::new(rt.alloc());
     for word in env::args(rt)?.skip(1) {
         words.push(word)?;
     }
-    match words.as_slice() {
-        [first, rest @ ..] if first.as_str() == "world" => perform_world(rt, handle, rest),
-        [first, rest @ ..] if first.as_str() == "read" => perform_read(rt, handle, rest),
-        all => perform_program(rt, handle, all),
+    Ok(words)
+}
+
+/// Does what the words after the program's own ask for. The handle for threads, for waiting and for the clocks is the
+/// runtime again.
+fn perform<H: Threads + Wait + Clock + CpuClock + Sync>(
+    rt: &HostRuntime,
+    handle: &H,
+) -> Result<ExitCode> {
+    let words = own_words(rt)?;
+    match parse_command(words.as_slice()) {
+        Ok(Command::Bench(BenchCommand::Samples)) => {
+            print_samples(rt)?;
+            perform_world(rt, handle, WorldCommand::Answers)?;
+        }
+        Ok(Command::Bench(BenchCommand::Run { file, ctx_len })) => measure_file(rt, file, ctx_len)?,
+        Ok(
+            Command::Bench(
+                BenchCommand::Repeat {
+                    deed,
+                    file,
+                    ctx_len,
+                    times,
+                },
+            ),
+        ) => repeat_file(rt, deed, file, ctx_len, times)?,
+        Ok(Command::World(command)) => perform_world(rt, handle, command)?,
+        Ok(Command::Read(command)) => perform_read(rt, handle, command)?,
+        Err(fault) => {
+            eprintln!(rt; "{fault}")?;
+            return Ok(ExitCode::from(2));
+        }
     }
+    Ok(ExitCode::SUCCESS)
 }
 
 fn main(rt: HostRuntime) -> ExitCode {

@@ -2,15 +2,16 @@
 ghost use Rattle.std.specs.Prelude.{◌≡◌, ◌<◌, ◌^◌, ◌%◌, length, IfOk};
 ghost use Rattle.bench.specs.Trials.{IsReadyTrial};
 
+use crate::decimal::{Decimal, quotient};
 use crate::trial::{Trial, counted_run, counting_bytes};
 use anyhow::{Result, ensure};
 use bpf_model::CtxBytes;
 use map_free_runs::run_to_exit;
-use measurements::{BATCHES, Decimal, LEAST_MILLIS, quotient};
 use std::alloc::Global;
 use std::rt::Clock;
 use std::time::{Duration, Instant};
 use verifier::verify;
+use world_bench::{BATCHES, LEAST_MILLIS};
 
 /// A batch has at most 2 to this power of calls.
 const MOST_DOUBLINGS: u32 = 24;

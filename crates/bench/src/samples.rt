@@ -1,22 +1,28 @@
 //! The programs that are built in.
 //!
-//! Each is written as its slots: 16 hexadecimal digits, and behind the first slot of an instruction its text.
+//! Each is assembly text: lines, then operations whose results are folded, then the exit.
 
-mod arithmetic;
 mod basic;
+mod folded;
 
-use crate::trial::{Trial, trial_of};
+use crate::trial::{Trial, trial_of_program};
 use anyhow::Result;
-use arithmetic::{DIVISIONS, MIXED};
-use basic::{BRANCHES, BYTE_SWAPS, FRAME, SIGN_EXTENSIONS, STRAIGHT};
-use std::alloc::Global;
+use basic::{BRANCHES, FRAME, STRAIGHT};
+use folded::{
+    BEFORE_BYTE_SWAPS, BEFORE_DIVISIONS, BEFORE_MIXED, BEFORE_SIGN_EXTENSIONS, BYTE_SWAPS,
+    DIVISIONS, Folded, MIXED, SIGN_EXTENSIONS,
+};
+use std::alloc::{AllocError, Global};
+use world_bench::program_of;
 
 /// A program that is built in.
 #[derive(Clone, Copy)]
 pub struct Sample {
     pub name: &'static str,
-    /// The slots in hexadecimal digits.
-    code: &'static [&'static str],
+    /// Its first lines.
+    first: &'static str,
+    /// The operations behind them.
+    folded: &'static [Folded],
     /// The length of its context in bytes.
     ctx_len: u8,
 }
@@ -26,37 +32,44 @@ pub fn samples() -> [Sample; 7] {
     [
         Sample {
             name: "straight",
-            code: STRAIGHT,
+            first: STRAIGHT,
+            folded: &[],
             ctx_len: 0,
         },
         Sample {
             name: "branches",
-            code: BRANCHES,
+            first: BRANCHES,
+            folded: &[],
             ctx_len: 16,
         },
         Sample {
             name: "frame",
-            code: FRAME,
+            first: FRAME,
+            folded: &[],
             ctx_len: 8,
         },
         Sample {
             name: "divisions",
-            code: DIVISIONS,
+            first: BEFORE_DIVISIONS,
+            folded: DIVISIONS,
             ctx_len: 0,
         },
         Sample {
             name: "mixed",
-            code: MIXED,
+            first: BEFORE_MIXED,
+            folded: MIXED,
             ctx_len: 0,
         },
         Sample {
             name: "byte_swaps",
-            code: BYTE_SWAPS,
+            first: BEFORE_BYTE_SWAPS,
+            folded: BYTE_SWAPS,
             ctx_len: 0,
         },
         Sample {
             name: "sign_extensions",
-            code: SIGN_EXTENSIONS,
+            first: BEFORE_SIGN_EXTENSIONS,
+            folded: SIGN_EXTENSIONS,
             ctx_len: 0,
         },
     ]
@@ -66,21 +79,22 @@ impl Sample {
     ghost use Rattle.std.specs.Prelude.{IfOk};
     ghost use Rattle.bench.specs.Trials.{IsReadyTrial};
 
-    /// The bytes of the program.
-    fn bytes(&self, alloc: Global) -> Result<Vec<u8>> {
-        let mut bytes = Vec::with_capacity(alloc, 8 * self.code.len())?;
-        for slot in self.code {
-            let slot = hex::decode(alloc, *slot)?;
-            bytes.extend_from_slice(slot.as_slice())?;
+    /// The text of the program.
+    fn text(&self, alloc: Global) -> Result<String, AllocError> {
+        let mut text = String::from_str(alloc, self.first)?;
+        for folded in self.folded {
+            folded.push_to(&mut text)?;
         }
-        Ok(bytes)
+        text.push_str("exit\n")?;
+        Ok(text)
     }
 
     /// The program on a context of its length.
     pub fn trial(self, alloc: Global) -> Result<Trial>
         ensures { IfOk result IsReadyTrial }
     {
-        let bytes = self.bytes(alloc)?;
-        trial_of(alloc, bytes.as_slice(), usize::from(self.ctx_len))
+        let text = self.text(alloc)?;
+        let program = program_of(alloc, &text)?;
+        trial_of_program(alloc, program, usize::from(self.ctx_len))
     }
 }

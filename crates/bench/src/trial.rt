@@ -8,7 +8,7 @@ ghost use Rattle.bench.specs.Trials.{IsReadyTrial};
 
 use anyhow::{Result, ensure};
 use bpf_model::CtxBytes;
-use insn_codec::decode;
+use insn_codec::{Program, decode};
 use map_free_runs::{Finished, has_no_maps, run_to_exit};
 use std::alloc::Global;
 use verifier::{Verified, verify};
@@ -33,8 +33,24 @@ pub fn counting_bytes(ctx_len: usize) -> CtxBytes
     bytes
 }
 
-/// Decodes and verifies program bytes, with no maps, for a context of this length with the bytes 0, 1, 2
-/// and so on. The error says what is wrong with the bytes or the program, or that memory ran out.
+/// Verifies a program, with no maps, for a context of this length with the bytes 0, 1, 2 and so on. The error
+/// says what is wrong with it, or that memory ran out.
+pub fn trial_of_program(alloc: Global, program: Program, ctx_len: usize) -> Result<Trial>
+    requires { ctx_len ≤ CTX_BYTES }
+    ensures program { IfOk result (λ t. t.verified.program ≡ program) }
+    ensures length { IfOk result (λ t. t.verified.ctx_len ≡ ctx_len) }
+    ensures bytes { IfOk result (λ t. (k : ℕ) → k < ctx_len → slice_index t.ctx.items k ≡ k) }
+    ensures ready { IfOk result IsReadyTrial }
+{
+    let verified = verify(alloc, program, &[], ctx_len)?;
+    ensure!(has_no_maps(&verified), "the program names a map");
+    Ok(Trial {
+        verified,
+        ctx: counting_bytes(ctx_len),
+    })
+}
+
+/// The same of the program that these bytes spell. The error may also say what is wrong with the bytes.
 pub fn trial_of(alloc: Global, bytes: &[u8], ctx_len: usize) -> Result<Trial>
     requires { ctx_len ≤ CTX_BYTES }
     ensures program { IfOk result (λ t. bytes.now ≡ text t.verified.program) }
@@ -42,13 +58,7 @@ pub fn trial_of(alloc: Global, bytes: &[u8], ctx_len: usize) -> Result<Trial>
     ensures bytes { IfOk result (λ t. (k : ℕ) → k < ctx_len → slice_index t.ctx.items k ≡ k) }
     ensures ready { IfOk result IsReadyTrial }
 {
-    let program = decode(alloc, bytes)?;
-    let verified = verify(alloc, program, &[], ctx_len)?;
-    ensure!(has_no_maps(&verified), "the program names a map");
-    Ok(Trial {
-        verified,
-        ctx: counting_bytes(ctx_len),
-    })
+    trial_of_program(alloc, decode(alloc, bytes)?, ctx_len)
 }
 
 /// The value with which a run of the program on the context exits, and how many instructions it executes.

@@ -2,16 +2,12 @@
 use Rattle.std.specs.Prelude.{◌≡◌}
 use Rattle.read_table.specs.declared.view.TableShape.{TableShape}
 use Rattle.verifier.specs.Checked.{Checked}
-use Rattle.read_table.specs.Held.{IsReady, TableView}
 use Rattle.read_table.specs.Table.{table_of}
 use Rattle.map_table.specs.declared.view.TableShape.{TableShape as MapTableShape}
 use Rattle.map_table.specs.Values.{stored_of}
-use Rattle.map_table.specs.Held.{IsReady as IsMapReady, TableView as MapTableView}
 use Rattle.map_runs.specs.Running.{ServesMaps}
 use Rattle.shared_runs.specs.Words.{FitsTable, StoresSubWords}
 use Rattle.table_bench.specs.declared.apart.AtHome.{AtHome}
-use Rattle.table_bench.specs.declared.reader.Reader.{Reader}
-use Rattle.table_bench.specs.declared.map_stage.MapReader.{MapReader}
 
 -- keys and values are of one word
 abbrev pub HasWordLengths : TableShape → Type 0
@@ -20,10 +16,6 @@ HasWordLengths k = (k.key_words ≡ 1) × (k.value_words ≡ 1)
 -- The program's maps have the table's lengths, and its context is empty.
 abbrev pub IsProgramOf : TableShape → Checked → Type 0
 IsProgramOf k c = FitsTable (table_of k) c.shapes × (c.ctx_len ≡ 0)
-
--- the reader's seat is this table's, and outside a section
-abbrev pub IsReadyReader : TableView → Reader → Type 0
-IsReadyReader here r = IsReady here r.seat
 
 -- keys of a map table are of one word, and so is what an element stores beside its key
 abbrev pub HasOneWord : MapTableShape → Type 0
@@ -34,10 +26,6 @@ pub record IsMapProgramOf (k : MapTableShape) (c : Checked) : Type 0 where
   pub maps : ServesMaps k c.shapes
   pub words : StoresSubWords c → ⊥
   pub context : c.ctx_len ≡ 0
-
--- the reader's seat is this map table's, and outside a section
-abbrev pub IsReadyMapReader : MapTableView → MapReader → Type 0
-IsReadyMapReader here r = IsMapReady here r.seat
 
 -- the reader's table is as large as is asked for, and the reader is at it
 abbrev pub IsAtHome : {S T : Type 0} → (S → Type 0) → (S → T → Type 0) → AtHome S T → Type 0

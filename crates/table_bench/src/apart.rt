@@ -28,8 +28,12 @@ fn at_home<S: Measured>(alloc: Global) -> Result<AtHome<S, S::Reader>>
     let Some(reader) = readers.pop() else {
         bail!("no reader");
     };
-    let work = None;
-    let runner = Runner { reader, work };
+    let runner = Runner {
+        reader,
+        first: 0,
+        sum: 0,
+        work: None,
+    };
     Ok(AtHome { table, runner })
 }
 

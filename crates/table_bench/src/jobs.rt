@@ -5,11 +5,11 @@ ghost use Rattle.read_table.specs.declared.limits.TheConstants.{MAX_READERS};
 
 use crate::map_stage::{full_table, map_program};
 use crate::stage::{SLOTS, fill, lookup_program};
+use crate::task::Kind;
 use anyhow::{Result, bail, ensure};
 use bpf_model::{CtxBytes, ProgId};
 use map_runs::MapRuns;
-use measurements::{Decimal, LONG_TASK_BATCHES, quotient};
-use read_table::ReadTable;
+use read_table::{MAX_READERS, ReadTable};
 use shared_runs::RunsPrograms;
 use std::alloc::{AllocError, Global};
 use std::rt::Clock;
@@ -20,7 +20,7 @@ use verifier::Verified;
 use worker_pool::{Job, JobReport, Outcome, run_table_jobs};
 
 /// How many jobs a batch has. Each is a run that looks a key up and loads the value, once or again and again.
-const READ_JOBS: u32 = 65_536;
+pub const JOBS: u32 = 65_536;
 
 /// The value of the key.
 const VALUE: u64 = 1;
@@ -28,7 +28,7 @@ const VALUE: u64 = 1;
 /// A batch of jobs, each of program 0 on an empty context.
 fn read_jobs(alloc: Global) -> Result<Vec<Job>, AllocError> {
     let mut jobs = Vec::new(alloc);
-    for _ in 0..READ_JOBS {
+    for _ in 0..JOBS {
         jobs.push(Job {
             prog: ProgId::new(0),
             ctx: CtxBytes::new(),
@@ -107,33 +107,24 @@ fn time_of_map_jobs<R: Threads + Wait + Clock + Sync>(
     time_of_jobs(rt, alloc, &programs, jobs, &runs, &mut seats.list)
 }
 
-/// Over which table jobs run.
-#[derive(Clone, Copy, Debug, PartialEq, Eq)]
-pub enum Kind {
-    /// A `ReadTable`.
-    Read,
-    /// A `MapTable`.
-    Map,
-}
-
-/// The time of one job of so many lookups in nanoseconds: all jobs of the quickest batch after one another.
-pub fn time_per_job<R: Threads + Wait + Clock + Sync>(
+/// The time of the quickest of so many batches, of `JOBS` jobs of so many lookups each.
+pub fn time_of_job_batch<R: Threads + Wait + Clock + Sync>(
     rt: &R,
     alloc: Global,
     kind: Kind,
     seats: usize,
     lookups: u32,
-) -> Result<Decimal>
-    requires { (0 < seats) × (seats ≤ MAX_READERS) }
-{
+    batches: u32,
+) -> Result<Duration> {
+    ensure!(seats >= 1 && seats <= MAX_READERS, "no such seats");
     let jobs = read_jobs(alloc)?;
     let mut best = Duration::MAX;
-    for _ in 0..LONG_TASK_BATCHES {
+    for _ in 0..batches {
         let time = match kind {
             Kind::Read => time_of_read_jobs(rt, alloc, &jobs, seats, lookups)?,
             Kind::Map => time_of_map_jobs(rt, alloc, &jobs, seats, lookups)?,
         };
         best = best.min(time);
     }
-    Ok(quotient(best.as_nanos(), u128::from(READ_JOBS)))
+    Ok(best)
 }

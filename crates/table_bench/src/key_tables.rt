@@ -29,7 +29,7 @@ pub const SHAPE: TableShape = TableShape {
 };
 
 /// What is done again and again.
-#[derive(Clone, Copy, Debug, PartialEq, Eq)]
+#[derive(Clone, Copy)]
 enum Deed {
     /// Lookups of keys that are there, each in a section of its own, and a load of the value.
     Hits,

@@ -2,19 +2,18 @@
 #![tactic(auto)]
 
 mod apart;
-mod command;
 mod crew;
 mod jobs;
 mod key_tables;
 mod map_stage;
 mod measure;
 mod measured;
-mod outputs;
 mod reader;
 mod runner;
 mod stage;
 mod task;
 mod work;
 
-pub use command::{ReadCommand, ReadWordsFault, parse_read_words};
-pub use outputs::lines_of;
+pub use jobs::{JOBS, time_of_job_batch};
+pub use measure::{ALONE, Company, Crew, FOUR, FOUR_APART, count_task, repeat};
+pub use task::{Kind, Task, tasks};

@@ -2,7 +2,7 @@
 ghost use Rattle.std.specs.Prelude.{◌≡◌, ◌≤◌, All, IfOk, length};
 ghost use Rattle.read_table.specs.declared.limits.TheConstants.{MAX_READERS};
 ghost use Rattle.map_table.specs.Held.{IsReady};
-ghost use Rattle.table_bench.specs.Reads.{HasOneWord, IsMapProgramOf, IsReadyMapReader};
+ghost use Rattle.table_bench.specs.Reads.{HasOneWord, IsMapProgramOf};
 
 use crate::key_tables::{KEYS, ROUND, SHAPE, link_all, look_up_all, replace_all};
 use crate::measured::Measured;
@@ -12,7 +12,7 @@ use anyhow::{Result, bail};
 use bpf_model::CtxBytes;
 use map_runs::{fits, run_to_exit, stores_sub_words};
 use map_table::{MapTable, ReadSeat, Seats, TableShape, Writer};
-use std::alloc::{AllocError, Global};
+use std::alloc::Global;
 use std::sync::atomic::AtomicBool;
 use verifier::Verified;
 
@@ -21,14 +21,6 @@ use verifier::Verified;
 pub struct MapStage {
     pub table: MapTable,
     pub program: Verified,
-}
-
-/// A reader: its seat, the first of its keys, and a sum of what its calls found.
-#[derive(Drop)]
-pub struct MapReader {
-    pub seat: ReadSeat,
-    pub first: u64,
-    pub sum: u64,
 }
 
 /// A program that makes so many lookups, verified for the table and an empty context.
@@ -54,25 +46,6 @@ pub fn full_table(alloc: Global, readers: usize) -> Result<(MapTable, Seats, Wri
     let (table, seats, mut writer) = MapTable::new(alloc, shape)?;
     link_all(&table, &mut writer)?;
     Ok((table, seats, writer))
-}
-
-/// A reader for each seat, with keys of its own.
-fn readers_of(alloc: Global, seats: Seats, here: &MapTable) -> Result<Vec<MapReader>, AllocError>
-    requires { All (IsReady here.now) seats }
-    ensures { IfOk result (λ v. All (IsReadyMapReader here.now) v.items) }
-{
-    let _ = here;
-    let mut readers = Vec::new(alloc);
-    let mut first = 0u64;
-    for seat in seats.list {
-        readers.push(MapReader {
-            seat,
-            first,
-            sum: 0,
-        })?;
-        first = first.wrapping_add(ROUND);
-    }
-    Ok(readers)
 }
 
 /// Runs the program so many times. The sum of its exit values.
@@ -104,34 +77,36 @@ fn look_up_rounds(table: &MapTable, seat: &mut ReadSeat, first: u64, calls: u32)
 
 impl Measured for MapStage {
     ghost use Rattle.std.specs.Prelude.{◌≡◌};
-    ghost use Rattle.table_bench.specs.Reads.{HasOneWord, IsMapProgramOf, IsReadyMapReader};
+    ghost use Rattle.map_table.specs.Held.{IsReady};
+    ghost use Rattle.table_bench.specs.Reads.{HasOneWord, IsMapProgramOf};
 
-    type Reader = MapReader;
+    type Reader = ReadSeat;
 
     type Writer = Writer;
 
     ghost IsSet = { λ s. HasOneWord s.table.shape × IsMapProgramOf s.table.shape s.program };
 
-    ghost IsReader = { λ s. IsReadyMapReader s.table };
+    ghost IsReader = { λ s. IsReady s.table };
 
     ghost IsWriter = { λ s w. w.table ≡ s.table };
 
-    fn make(alloc: Global, readers: usize) -> Result<(MapStage, Vec<MapReader>, Writer)> {
+    fn make(alloc: Global, readers: usize) -> Result<(MapStage, Vec<ReadSeat>, Writer)> {
         let (table, seats, writer) = full_table(alloc, readers)?;
         let program = map_program(alloc, &table, 1)?;
-        let readers = readers_of(alloc, seats, &table)?;
-        Ok((MapStage { table, program }, readers, writer))
+        Ok((MapStage { table, program }, seats.list, writer))
     }
 
-    fn work(&self, reader: &mut MapReader, deed: Deed, calls: u32) {
+    fn keys_of_reader() -> u64 {
+        ROUND
+    }
+
+    fn work(&self, reader: &mut ReadSeat, first: u64, deed: Deed, calls: u32) -> u64 {
         let table = &self.table;
-        let seat = &mut reader.seat;
-        let found = match deed {
-            Deed::Runs => run_all(table, seat, &self.program, calls),
-            Deed::Hits => look_up_rounds(table, seat, reader.first, calls),
-            Deed::Misses => look_up_rounds(table, seat, reader.first.wrapping_add(KEYS), calls),
-        };
-        reader.sum = reader.sum.wrapping_add(found);
+        match deed {
+            Deed::Runs => run_all(table, reader, &self.program, calls),
+            Deed::Hits => look_up_rounds(table, reader, first, calls),
+            Deed::Misses => look_up_rounds(table, reader, first.wrapping_add(KEYS), calls),
+        }
     }
 
     /// Replaces the values of a round, and reclaims.
@@ -139,9 +114,5 @@ impl Measured for MapStage {
         let _ = done;
         replace_all(&self.table, writer);
         true
-    }
-
-    fn sum(reader: &MapReader) -> u64 {
-        reader.sum
     }
 }

@@ -4,12 +4,14 @@ ghost use Rattle.read_table.specs.declared.limits.TheConstants.{MAX_READERS};
 
 use crate::apart::count_apart;
 use crate::crew::go;
+use crate::key_tables::repeat_map_calls;
+use crate::map_stage::MapStage;
 use crate::measured::Measured;
-use crate::runner::{BATCH, SPAN, runners_of, work_of_all};
-use crate::task::Task;
+use crate::runner::{BATCH, SPAN, make_calls, runners_of, work_of_all};
+use crate::stage::Stage;
+use crate::task::{Deed, Kind, Task, task_named};
 use crate::work::{Work, per_second};
 use anyhow::{Result, bail, ensure};
-use measurements::{Decimal, quotient};
 use read_table::MAX_READERS;
 use std::alloc::Global;
 use std::rt::Clock;
@@ -23,7 +25,7 @@ const ROUNDS: u64 = 15;
 const COUNTED: u64 = SPAN * ROUNDS;
 
 /// With whom readers share their table.
-#[derive(Clone, Copy, Debug, PartialEq, Eq)]
+#[derive(Clone, Copy)]
 pub enum Company {
     /// With each other.
     Readers,
@@ -34,7 +36,7 @@ pub enum Company {
 }
 
 /// So many readers, and what they did together in all rounds.
-#[derive(Clone, Copy, Debug)]
+#[derive(Clone, Copy)]
 pub struct Crew {
     pub readers: usize,
     pub company: Company,
@@ -62,11 +64,10 @@ impl Crew {
         of_one.saturating_mul(u64::try_from(self.readers).unwrap_or(u64::MAX))
     }
 
-    /// For which part of the time in which calls were counted its readers had a processor.
-    pub fn share_given(&self) -> Decimal {
+    /// How many milliseconds of a processor its readers would have had throughout.
+    pub fn wanted_millis(&self) -> u64 {
         let readers = u64::try_from(self.readers).unwrap_or(u64::MAX);
-        let wanted = readers.saturating_mul(COUNTED).max(1);
-        quotient(self.work.given.as_millis(), u128::from(wanted))
+        readers.saturating_mul(COUNTED)
     }
 }
 
@@ -129,7 +130,7 @@ fn count_round<S: Measured, R: Threads + Clock + CpuClock + Sync>(
 
 /// Lets each crew make the calls of a task for `ROUNDS` rounds, one crew after the other in each: so all of them have the machine
 /// as it is then.
-pub fn count_crews<S: Measured, R: Threads + Clock + CpuClock + Sync>(
+fn count_crews<S: Measured, R: Threads + Clock + CpuClock + Sync>(
     rt: &R,
     alloc: Global,
     task: &Task,
@@ -141,14 +142,64 @@ pub fn count_crews<S: Measured, R: Threads + Clock + CpuClock + Sync>(
     Ok(())
 }
 
+/// At which places of `crews` stand one reader alone, four of one table, and four that have a table each.
+pub const ALONE: usize = 0;
+
+pub const FOUR: usize = 2;
+
+pub const FOUR_APART: usize = 3;
+
+/// The crews whose calls of a task are counted.
+fn crews() -> [Crew; 7] {
+    [
+        Crew::new(1, Company::Readers),
+        Crew::new(2, Company::Readers),
+        Crew::new(4, Company::Readers),
+        Crew::new(4, Company::Nobody),
+        Crew::new(1, Company::Writer),
+        Crew::new(2, Company::Writer),
+        Crew::new(4, Company::Writer),
+    ]
+}
+
+/// Counts the calls of a task that each crew makes.
+pub fn count_task<R: Threads + Clock + CpuClock + Sync>(
+    rt: &R,
+    alloc: Global,
+    task: &Task,
+) -> Result<[Crew; 7]> {
+    let mut crews = crews();
+    match task.kind {
+        Kind::Read => count_crews::<Stage, R>(rt, alloc, task, &mut crews)?,
+        Kind::Map => count_crews::<MapStage, R>(rt, alloc, task, &mut crews)?,
+    }
+    Ok(crews)
+}
+
 /// The sum of what so many rounds of calls of one reader find, all in this thread.
-pub fn repeat_calls<S: Measured>(alloc: Global, task: &Task, times: u32) -> Result<u64> {
-    let (table, mut readers, _writer) = S::make(alloc, 1)?;
-    let Some(reader) = readers.first_mut() else {
+fn repeat_calls<S: Measured>(alloc: Global, task: &Task, times: u32) -> Result<u64> {
+    let (table, readers, _writer) = S::make(alloc, 1)?;
+    let mut runners = runners_of(alloc, &table, readers)?;
+    let Some(runner) = runners.first_mut() else {
         bail!("no reader");
     };
     for _ in 0..times {
-        table.work(reader, task.deed, BATCH);
+        make_calls(&table, runner, task.deed, BATCH);
     }
-    Ok(S::sum(reader))
+    Ok(runner.sum)
+}
+
+/// The sum of what so many rounds of the calls of a name come to.
+pub fn repeat(alloc: Global, name: &str, times: u32) -> Result<u64> {
+    if let Some(task) = task_named(name) {
+        match (task.kind, task.deed) {
+            (Kind::Read, _) => return repeat_calls::<Stage>(alloc, &task, times),
+            (Kind::Map, Deed::Runs) => return repeat_calls::<MapStage>(alloc, &task, times),
+            (Kind::Map, _) => {}
+        }
+    }
+    match repeat_map_calls(alloc, name, times)? {
+        Some(sum) => Ok(sum),
+        None => bail!("no calls {name}"),
+    }
 }

@@ -9,7 +9,7 @@ use std::sync::atomic::AtomicBool;
 
 /// A table, with a program that is run over it.
 pub trait Measured: Send + Sync + Sized + Drop {
-    /// A reader, with a sum of what its calls found.
+    /// What a reader makes its calls with.
     type Reader: Send + Drop;
 
     /// The one writer.
@@ -31,8 +31,11 @@ pub trait Measured: Send + Sync + Sized + Drop {
         ensures readers { IfOk result (λ t. All (IsReader t.0) t.1.items) }
         ensures writer { IfOk result (λ t. IsWriter t.0 t.2) };
 
-    /// Makes so many calls.
-    fn work(&self, reader: &mut Self::Reader, deed: Deed, calls: u32)
+    /// How many keys each reader looks up in turn, none of them another's.
+    fn keys_of_reader() -> u64;
+
+    /// Makes so many calls, on keys from the first one on. The sum of what they found.
+    fn work(&self, reader: &mut Self::Reader, first: u64, deed: Deed, calls: u32) -> u64
         requires set { IsSet self.now }
         requires reader { IsReader self.now reader.old }
         ensures { IsReader self.now reader.new };
@@ -43,7 +46,4 @@ pub trait Measured: Send + Sync + Sized + Drop {
         requires set { IsSet self.now }
         requires writer { IsWriter self.now writer.old }
         ensures { IsWriter self.now writer.new };
-
-    /// The sum of what the reader's calls found.
-    fn sum(reader: &Self::Reader) -> u64;
 }

@@ -1,10 +1,9 @@
-//! A reader of the table, and its calls.
+//! The calls of a reader of a `ReadTable`.
 ghost use Rattle.std.specs.Prelude.{◌≡◌};
 ghost use Rattle.read_table.specs.History.{inside};
 ghost use Rattle.read_table.specs.Held.{IsKnown, IsReady};
 ghost use Rattle.table_bench.specs.Reads.{HasWordLengths, IsProgramOf};
 
-use crate::task::Deed;
 use bpf_model::CtxBytes;
 use read_table::{ReadSeat, ReadTable, uses_sub_words};
 use verifier::Verified;
@@ -13,15 +12,7 @@ use verifier::Verified;
 pub const KEYS: u64 = 32;
 
 /// How far the keys that are not there lie from those that are.
-const ABSENT: u64 = 1000;
-
-/// A reader: its seat, the first of its keys, and a sum of what its calls found.
-#[derive(Drop)]
-pub struct Reader {
-    pub seat: ReadSeat,
-    pub first: u64,
-    pub sum: u64,
-}
+pub const ABSENT: u64 = 1000;
 
 /// The word of the value of a key, or 0, by a lookup in the section that is open.
 #[inline]
@@ -53,7 +44,7 @@ fn look_up(table: &ReadTable, seat: &mut ReadSeat, key: u64) -> u64
 }
 
 /// Looks up keys from the first one on in turn. The sum of the words that are found.
-fn look_up_all(table: &ReadTable, seat: &mut ReadSeat, first: u64, calls: u32) -> u64
+pub fn look_up_all(table: &ReadTable, seat: &mut ReadSeat, first: u64, calls: u32) -> u64
     requires ready { IsReady table.now seat.old }
     requires lengths { HasWordLengths table.now.shape }
     ensures ready { IsReady table.now seat.new }
@@ -67,7 +58,7 @@ fn look_up_all(table: &ReadTable, seat: &mut ReadSeat, first: u64, calls: u32) -
 }
 
 /// Runs the program so many times. The sum of its exit values.
-fn run_all(table: &ReadTable, seat: &mut ReadSeat, program: &Verified, calls: u32) -> u64
+pub fn run_all(table: &ReadTable, seat: &mut ReadSeat, program: &Verified, calls: u32) -> u64
     requires ready { IsReady table.now seat.old }
     requires program { IsProgramOf table.now.shape program.now }
     ensures ready { IsReady table.now seat.new }
@@ -81,25 +72,4 @@ fn run_all(table: &ReadTable, seat: &mut ReadSeat, program: &Verified, calls: u3
         sum = sum.wrapping_add(table.run_to_exit(seat, program, &ctx));
     }
     sum
-}
-
-/// Makes so many calls. The sum of what they find.
-pub fn calls_of(
-    table: &ReadTable,
-    reader: &mut Reader,
-    program: &Verified,
-    deed: Deed,
-    calls: u32,
-) -> u64
-    requires ready { IsReady table.now reader.old.seat }
-    requires lengths { HasWordLengths table.now.shape }
-    requires program { IsProgramOf table.now.shape program.now }
-    ensures ready { IsReady table.now reader.new.seat }
-{
-    let seat = &mut reader.seat;
-    match deed {
-        Deed::Runs => run_all(table, seat, program, calls),
-        Deed::Hits => look_up_all(table, seat, reader.first, calls),
-        Deed::Misses => look_up_all(table, seat, reader.first.wrapping_add(ABSENT), calls),
-    }
 }

@@ -21,10 +21,13 @@ pub const SPAN: u64 = 100;
 /// The most batches that are made until then; fewer fit in the time.
 const MOST_BATCHES: u64 = 1 << 24;
 
-/// A reader, and what it did while calls were counted: nothing before, or where a clock failed.
+/// A reader, the first of its keys, a sum of what its calls found, and what it did while calls were counted: nothing before, or
+/// where a clock failed.
 #[derive(Drop)]
 pub struct Runner<T> {
     pub reader: T,
+    pub first: u64,
+    pub sum: u64,
     pub work: Option<Work>,
 }
 
@@ -44,24 +47,34 @@ fn given_so_far<C: CpuClock>(clock: &C) -> Option<Duration> {
     }
 }
 
+/// Makes so many calls.
+pub fn make_calls<S: Measured>(table: &S, runner: &mut Runner<S::Reader>, deed: Deed, calls: u32)
+    requires set { S.IsSet table.now }
+    requires reader { S.IsReader table.now runner.old.reader }
+    ensures { S.IsReader table.now runner.new.reader }
+{
+    let found = table.work(&mut runner.reader, runner.first, deed, calls);
+    runner.sum = runner.sum.wrapping_add(found);
+}
+
 /// Makes calls until so much time has gone since the round began. How many batches; nothing where the clock fails.
 fn work_until<S: Measured, C: Clock>(
     clock: &C,
     start: Instant,
     table: &S,
-    reader: &mut S::Reader,
+    runner: &mut Runner<S::Reader>,
     deed: Deed,
     end: Duration,
 ) -> Option<u64>
     requires set { S.IsSet table.now }
-    requires reader { S.IsReader table.now reader.old }
-    ensures { S.IsReader table.now reader.new }
+    requires reader { S.IsReader table.now runner.old.reader }
+    ensures { S.IsReader table.now runner.new.reader }
 {
     for batches in 0..MOST_BATCHES {
         if time_since(clock, start)? >= end {
             return Some(batches);
         }
-        table.work(reader, deed, BATCH);
+        make_calls(table, runner, deed, BATCH);
     }
     None
 }
@@ -71,24 +84,24 @@ fn work_in_span<S: Measured, C: Clock + CpuClock>(
     clock: &C,
     start: Instant,
     table: &S,
-    reader: &mut S::Reader,
+    runner: &mut Runner<S::Reader>,
     deed: Deed,
 ) -> Option<Work>
     requires set { S.IsSet table.now }
-    requires reader { S.IsReader table.now reader.old }
-    ensures { S.IsReader table.now reader.new }
+    requires reader { S.IsReader table.now runner.old.reader }
+    ensures { S.IsReader table.now runner.new.reader }
 {
     work_until(
         clock,
         start,
         table,
-        reader,
+        runner,
         deed,
         Duration::from_millis(FROM),
     )?;
     let given_before = given_so_far(clock)?;
     let end = Duration::from_millis(FROM + SPAN);
-    let batches = work_until(clock, start, table, reader, deed, end)?;
+    let batches = work_until(clock, start, table, runner, deed, end)?;
     let given = given_so_far(clock)?.saturating_sub(given_before);
     let calls = batches.saturating_mul(u64::from(BATCH));
     Some(Work { calls, given })
@@ -106,10 +119,11 @@ pub fn work_counted<S: Measured, C: Clock + CpuClock>(
     requires reader { S.IsReader table.now runner.old.reader }
     ensures { S.IsReader table.now runner.new.reader }
 {
-    runner.work = work_in_span(clock, start, table, &mut runner.reader, deed);
+    let work = work_in_span(clock, start, table, runner, deed);
+    runner.work = work;
 }
 
-/// The readers, none of which has made a call.
+/// The readers, each with keys of its own, none of which has made a call.
 pub fn runners_of<S: Measured>(
     alloc: Global,
     table: &S,
@@ -119,9 +133,17 @@ pub fn runners_of<S: Measured>(
     ensures { IfOk result (λ v. All (λ r. S.IsReader table.now r.reader) v.items) }
 {
     let _ = table;
+    let keys = S::keys_of_reader();
     let mut runners = Vec::new(alloc);
+    let mut first = 0u64;
     for reader in readers {
-        runners.push(Runner { reader, work: None })?;
+        runners.push(Runner {
+            reader,
+            first,
+            sum: 0,
+            work: None,
+        })?;
+        first = first.wrapping_add(keys);
     }
     Ok(runners)
 }

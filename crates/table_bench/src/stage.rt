@@ -1,16 +1,15 @@
 //! A `ReadTable` with its readers, its writer, and a program that is run over it.
-ghost use Rattle.std.specs.Prelude.{◌≡◌, All, IfOk};
+ghost use Rattle.std.specs.Prelude.{◌≡◌, IfOk};
 ghost use Rattle.std.specs.List.{Contains};
-ghost use Rattle.read_table.specs.Held.{IsReady};
-ghost use Rattle.table_bench.specs.Reads.{HasWordLengths, IsProgramOf, IsReadyReader};
+ghost use Rattle.table_bench.specs.Reads.{HasWordLengths, IsProgramOf};
 
 use crate::measured::Measured;
-use crate::reader::{KEYS, Reader, calls_of};
+use crate::reader::{ABSENT, KEYS, look_up_all, run_all};
 use crate::task::Deed;
 use anyhow::{Result, bail};
 use bpf_model::{MapKind, MapShape};
 use insn_codec::decode;
-use read_table::{ReadTable, Seats, Writer};
+use read_table::{ReadSeat, ReadTable, Writer};
 use std::alloc::{AllocError, Global};
 use std::sync::atomic::{AtomicBool, Ordering};
 use verifier::{Verified, verify};
@@ -82,25 +81,6 @@ pub fn lookup_program(alloc: Global, table: &ReadTable, lookups: u32) -> Result<
     Ok(verified)
 }
 
-/// A reader for each seat, with keys of its own.
-fn readers_of(alloc: Global, seats: Seats, here: &ReadTable) -> Result<Vec<Reader>, AllocError>
-    requires { All (IsReady here.now) seats }
-    ensures { IfOk result (λ v. All (IsReadyReader here.now) v.items) }
-{
-    let _ = here;
-    let mut readers = Vec::new(alloc);
-    let mut first = 0u64;
-    for seat in seats.list {
-        readers.push(Reader {
-            seat,
-            first,
-            sum: 0,
-        })?;
-        first = first.wrapping_add(KEYS);
-    }
-    Ok(readers)
-}
-
 /// Links the keys from 0 on, each with a value one above it.
 pub fn fill(table: &ReadTable, writer: &mut Writer) -> Result<()>
     requires lengths { HasWordLengths table.now.shape }
@@ -138,29 +118,37 @@ fn reclaim(table: &ReadTable, writer: &mut Writer, slot: usize, done: &AtomicBoo
 
 impl Measured for Stage {
     ghost use Rattle.std.specs.Prelude.{◌≡◌};
-    ghost use Rattle.table_bench.specs.Reads.{HasWordLengths, IsProgramOf, IsReadyReader};
+    ghost use Rattle.read_table.specs.Held.{IsReady};
+    ghost use Rattle.table_bench.specs.Reads.{HasWordLengths, IsProgramOf};
 
-    type Reader = Reader;
+    type Reader = ReadSeat;
 
     type Writer = Writer;
 
     ghost IsSet = { λ s. HasWordLengths s.table.shape × IsProgramOf s.table.shape s.program };
 
-    ghost IsReader = { λ s. IsReadyReader s.table };
+    ghost IsReader = { λ s. IsReady s.table };
 
     ghost IsWriter = { λ s w. w.table ≡ s.table };
 
-    fn make(alloc: Global, readers: usize) -> Result<(Stage, Vec<Reader>, Writer)> {
+    fn make(alloc: Global, readers: usize) -> Result<(Stage, Vec<ReadSeat>, Writer)> {
         let (table, seats, mut writer) = ReadTable::new(alloc, SLOTS, 8, 8, readers)?;
         fill(&table, &mut writer)?;
         let program = lookup_program(alloc, &table, 1)?;
-        let readers = readers_of(alloc, seats, &table)?;
-        Ok((Stage { table, program }, readers, writer))
+        Ok((Stage { table, program }, seats.list, writer))
     }
 
-    fn work(&self, reader: &mut Reader, deed: Deed, calls: u32) {
-        let found = calls_of(&self.table, reader, &self.program, deed, calls);
-        reader.sum = reader.sum.wrapping_add(found);
+    fn keys_of_reader() -> u64 {
+        KEYS
+    }
+
+    fn work(&self, reader: &mut ReadSeat, first: u64, deed: Deed, calls: u32) -> u64 {
+        let table = &self.table;
+        match deed {
+            Deed::Runs => run_all(table, reader, &self.program, calls),
+            Deed::Hits => look_up_all(table, reader, first, calls),
+            Deed::Misses => look_up_all(table, reader, first.wrapping_add(ABSENT), calls),
+        }
     }
 
     /// Links a key, unlinks it and has the slot again.
@@ -170,9 +158,5 @@ impl Measured for Stage {
         };
         writer.unlink(&self.table, slot);
         reclaim(&self.table, writer, slot, done)
-    }
-
-    fn sum(reader: &Reader) -> u64 {
-        reader.sum
     }
 }

@@ -3,7 +3,7 @@ use std::time::Duration;
 
 /// How many calls were made, and for how much of the time the readers had a processor. Where several readers or rounds are told
 /// together, both are sums.
-#[derive(Clone, Copy, Debug, PartialEq, Eq)]
+#[derive(Clone, Copy)]
 pub struct Work {
     pub calls: u64,
     /// The processor time of the threads. What other threads had the processor for, or the host of a virtual machine took, is no

@@ -3,13 +3,15 @@ ghost use Rattle.std.specs.Prelude.{◌≡◌, ◌<◌, ◌≤◌};
 ghost use Rattle.shared_books.specs.declared.worker.TheConstants.{MAX_WORKERS};
 
 use crate::activity::{Activity, Deed, SMALL_ENTRIES, Stepped, small};
+use crate::batch_time::{BatchTime, LONG_TASK_BATCHES};
+use crate::jobs::{JOBS, time_of_jobs};
 use crate::sequence::Sequence;
 use crate::setup::{key_of, make_world};
-use anyhow::{Result, bail};
+use anyhow::{Result, bail, ensure};
 use bpf_model::{Answer, CtxBytes, Event, KeyBytes, MapId, ProgId, RunId};
-use measurements::{Decimal, LONG_TASK_BATCHES, quotient};
-use shared::{Shared, Worker, Workers, is_quiet};
+use shared::{MAX_WORKERS, Shared, Worker, Workers, is_quiet};
 use std::alloc::Global;
+use std::marker::Brand;
 use std::rt::Clock;
 use std::sync::Wait;
 use std::sync::ledger::{Blank, Ledger};
@@ -29,11 +31,20 @@ pub enum Task {
     Advances,
 }
 
-/// A task, and by how many workers it is done.
+/// What a crew does in a batch.
+#[derive(Clone, Copy)]
+pub enum Batch {
+    /// `CALLS` calls of each worker.
+    Calls(Task),
+    /// `JOBS` jobs, which the workers serve together.
+    Jobs,
+}
+
+/// So many workers, and what they do.
 #[derive(Clone, Copy)]
 pub struct Crew {
     pub name: &'static str,
-    pub task: Task,
+    batch: Batch,
     pub workers: u8,
 }
 
@@ -43,43 +54,79 @@ const STRETCH: usize = 64;
 /// How many calls each worker makes in a batch.
 const CALLS: u32 = 50_000;
 
-const fn make_crew(name: &'static str, task: Task, workers: u8) -> Crew {
+const fn callers(name: &'static str, task: Task, workers: u8) -> Crew {
+    let batch = Batch::Calls(task);
     Crew {
         name,
-        task,
+        batch,
         workers,
     }
 }
 
-/// The crews, in the order in which they are printed.
+const fn pool(name: &'static str, workers: u8) -> Crew {
+    let batch = Batch::Jobs;
+    Crew {
+        name,
+        batch,
+        workers,
+    }
+}
+
+/// The crews that make calls, in the order in which they are printed.
 pub fn crews() -> [Crew; 12] {
     [
-        make_crew("shared_step_by_1", Task::Steps, 1),
-        make_crew("shared_step_by_2", Task::Steps, 2),
-        make_crew("shared_step_by_4", Task::Steps, 4),
-        make_crew("shared_step_by_8", Task::Steps, 8),
-        make_crew("shared_read_by_1", Task::Reads, 1),
-        make_crew("shared_read_by_2", Task::Reads, 2),
-        make_crew("shared_read_by_4", Task::Reads, 4),
-        make_crew("shared_read_by_8", Task::Reads, 8),
-        make_crew("shared_advance_by_1", Task::Advances, 1),
-        make_crew("shared_advance_by_2", Task::Advances, 2),
-        make_crew("shared_advance_by_4", Task::Advances, 4),
-        make_crew("shared_advance_by_8", Task::Advances, 8),
+        callers("shared_step_by_1", Task::Steps, 1),
+        callers("shared_step_by_2", Task::Steps, 2),
+        callers("shared_step_by_4", Task::Steps, 4),
+        callers("shared_step_by_8", Task::Steps, 8),
+        callers("shared_read_by_1", Task::Reads, 1),
+        callers("shared_read_by_2", Task::Reads, 2),
+        callers("shared_read_by_4", Task::Reads, 4),
+        callers("shared_read_by_8", Task::Reads, 8),
+        callers("shared_advance_by_1", Task::Advances, 1),
+        callers("shared_advance_by_2", Task::Advances, 2),
+        callers("shared_advance_by_4", Task::Advances, 4),
+        callers("shared_advance_by_8", Task::Advances, 8),
     ]
 }
 
 /// Crews of one worker that are repeated and not timed.
 pub fn further_crews() -> [Crew; 1] {
-    [make_crew("shared_stretch_by_1", Task::Stretches, 1)]
+    [callers("shared_stretch_by_1", Task::Stretches, 1)]
 }
 
-/// The activity whose map and program the workers share.
-fn activity() -> Activity {
-    Activity {
-        name: "shared",
-        deed: Deed::Steps(Stepped::Arithmetic),
-        shape: small(),
+/// The crews that serve jobs, in the order in which they are printed.
+pub fn pools() -> [Crew; 4] {
+    [
+        pool("pool_job_by_1", 1),
+        pool("pool_job_by_2", 2),
+        pool("pool_job_by_4", 4),
+        pool("pool_job_by_8", 8),
+    ]
+}
+
+impl Batch {
+    /// The activity whose map and program the workers share.
+    fn activity(self) -> Activity {
+        let stepped = match self {
+            Batch::Calls(_) => Stepped::Arithmetic,
+            Batch::Jobs => Stepped::Lookup,
+        };
+        Activity {
+            name: "shared",
+            deed: Deed::Steps(stepped),
+            shape: small(),
+        }
+    }
+}
+
+impl Crew {
+    /// How many calls, or jobs, a batch has.
+    fn parts(&self) -> u64 {
+        match self.batch {
+            Batch::Calls(_) => u64::from(CALLS) * u64::from(self.workers),
+            Batch::Jobs => u64::from(JOBS),
+        }
     }
 }
 
@@ -273,7 +320,7 @@ fn work<L: Ledger, R: Wait>(
 }
 
 /// The time of so many calls by each worker.
-fn time_of<L: Ledger + Send + Sync, R: Threads + Wait + Clock + Sync>(
+fn time_of_calls<L: Ledger + Send + Sync, R: Threads + Wait + Clock + Sync>(
     rt: &R,
     shared: &Shared<L>,
     all_workers: &mut Workers<L>,
@@ -291,50 +338,79 @@ fn time_of<L: Ledger + Send + Sync, R: Threads + Wait + Clock + Sync>(
     Ok(start.elapsed(rt)?)
 }
 
-/// One worker makes the calls of so many batches; how many calls they were.
-pub fn repeat_calls<L: Ledger + Send + Sync, R: Threads + Wait + Clock + Sync>(
+/// The time of a batch.
+fn time_of_batch<L: Ledger + Send + Sync, R: Threads + Wait + Clock + Sync>(
     rt: &R,
     alloc: Global,
-    blank: Blank,
-    task: Task,
-    times: u32,
-) -> Result<u64>
-    requires name { blank.name ≡ L.name }
-    requires parts { (blank.parts ≡ L.parts) × (blank.parts ≡ 1) }
-{
-    let world = make_world(alloc, &activity())?;
-    if !is_quiet(&world) {
-        bail!("a run was left");
+    shared: &Shared<L>,
+    all_workers: &mut Workers<L>,
+    batch: Batch,
+) -> Result<Duration> {
+    match batch {
+        Batch::Calls(task) => time_of_calls(rt, shared, all_workers, task, CALLS),
+        Batch::Jobs => time_of_jobs(rt, alloc, shared, all_workers),
     }
-    let (shared, mut all_workers, _) = Shared::<L>::new(alloc, world, 1, blank)?;
-    for _ in 0..times {
-        time_of(rt, &shared, &mut all_workers, task, CALLS)?;
-    }
-    Ok(u64::from(times) * u64::from(CALLS))
 }
 
-/// The time of one call in nanoseconds: all calls of the quickest batch after one another.
-pub fn time_per_call<L: Ledger + Send + Sync, R: Threads + Wait + Clock + Sync>(
+/// The time of the quickest of so many batches by so many workers.
+fn quickest<L: Ledger + Send + Sync, R: Threads + Wait + Clock + Sync>(
     rt: &R,
     alloc: Global,
     blank: Blank,
-    task: Task,
+    batch: Batch,
     workers: u8,
-) -> Result<Decimal>
+    batches: u32,
+) -> Result<Duration>
     requires name { blank.name ≡ L.name }
     requires parts { (blank.parts ≡ L.parts) × (blank.parts ≡ workers) }
     requires workers { (0 < workers) × (workers ≤ MAX_WORKERS) }
 {
-    let world = make_world(alloc, &activity())?;
+    let world = make_world(alloc, &batch.activity())?;
     if !is_quiet(&world) {
         bail!("a run was left");
     }
     let (shared, mut all_workers, _) = Shared::<L>::new(alloc, world, workers, blank)?;
     let mut best = Duration::MAX;
-    for _ in 0..LONG_TASK_BATCHES {
-        let time = time_of(rt, &shared, &mut all_workers, task, CALLS)?;
+    for _ in 0..batches {
+        let time = time_of_batch(rt, alloc, &shared, &mut all_workers, batch)?;
         best = best.min(time);
     }
-    let calls = u128::from(CALLS) * u128::from(workers);
-    Ok(quotient(best.as_nanos(), calls))
+    Ok(best)
+}
+
+/// The time of the quickest of so many batches of a crew.
+fn quickest_of<R: Threads + Wait + Clock + Sync>(
+    rt: &R,
+    alloc: Global,
+    crew: &Crew,
+    batches: u32,
+) -> Result<Duration> {
+    let workers = crew.workers;
+    ensure!(workers >= 1 && workers <= MAX_WORKERS, "no such crew");
+    let blank = Blank::new(u64::from(workers));
+    quickest::<Brand, R>(rt, alloc, blank, crew.batch, workers, batches)
+}
+
+/// Times a crew: all calls, or jobs, of its quickest batch after one another.
+pub fn time_crew<R: Threads + Wait + Clock + Sync>(
+    rt: &R,
+    alloc: Global,
+    crew: &Crew,
+) -> Result<BatchTime> {
+    Ok(BatchTime {
+        name: crew.name,
+        time: quickest_of(rt, alloc, crew, LONG_TASK_BATCHES)?,
+        parts: crew.parts(),
+    })
+}
+
+/// A crew does so many batches. How many calls, or jobs, they have.
+pub fn repeat_crew<R: Threads + Wait + Clock + Sync>(
+    rt: &R,
+    alloc: Global,
+    crew: &Crew,
+    times: u32,
+) -> Result<u64> {
+    quickest_of(rt, alloc, crew, times)?;
+    Ok(crew.parts().saturating_mul(u64::from(times)))
 }

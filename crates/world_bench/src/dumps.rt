@@ -42,13 +42,13 @@ fn full_world(alloc: Global, entries: usize) -> Result<World> {
     Ok(world)
 }
 
-/// Dumps a map so many times, and says of how many bytes its lines are.
-pub fn repeat_dump(alloc: Global, dump: &Dump, times: u32) -> Result<String> {
+/// Dumps a map so many times. Of how many bytes its lines are.
+pub fn repeat_dump(alloc: Global, dump: &Dump, times: u32) -> Result<usize> {
     let world = full_world(alloc, dump.entries)?;
     let mut out = Vec::new(alloc);
     for _ in 0..times {
         out.clear();
         write_elements(&world, MapId::new(0), &mut out)?;
     }
-    Ok(format!(in alloc; "{} bytes {}", dump.name, out.len())?)
+    Ok(out.len())
 }

@@ -2,18 +2,22 @@
 #![tactic(auto)]
 
 mod activity;
-mod command;
+mod batch_time;
 mod crew;
 mod dumps;
+mod jobs;
 mod measure;
-mod outputs;
-mod pool;
 mod programs;
-mod report;
+mod repeats;
 mod scripts;
 mod sequence;
 mod setup;
+mod subjects;
 mod tally;
 
-pub use command::{WorldCommand, WorldWordsFault, parse_world_words};
-pub use outputs::lines_of;
+pub use activity::{Activity, activities};
+pub use batch_time::{BATCHES, BatchTime, LEAST_MILLIS, LONG_TASK_BATCHES};
+pub use programs::program_of;
+pub use repeats::{Outcome, answers_of, repeat};
+pub use subjects::{Subject, times_of};
+pub use tally::Tally;

@@ -1,10 +1,11 @@
 //! How long a world's answers take.
-ghost use Rattle.std.specs.Prelude.{◌<◌};
 
-use crate::setup::Setup;
+use crate::activity::Activity;
+use crate::batch_time::{BATCHES, BatchTime, LEAST_MILLIS};
+use crate::setup::{Setup, make_setup};
 use crate::tally::Tally;
 use anyhow::{Result, ensure};
-use measurements::{BATCHES, Decimal, LEAST_MILLIS, quotient};
+use std::alloc::Global;
 use std::rt::Clock;
 use std::time::{Duration, Instant};
 
@@ -27,19 +28,22 @@ fn time_batch(clock: &impl Clock, setup: &mut Setup, tally: &mut Tally) -> Resul
     Ok((MOST_ROUNDS, time))
 }
 
-/// The time of one part in nanoseconds: the mean of the quickest of some batches.
-pub fn time_per_part(clock: &impl Clock, setup: &mut Setup) -> Result<Decimal> {
+/// Times an activity: the quickest of some batches of rounds.
+pub fn time_activity(clock: &impl Clock, alloc: Global, activity: &Activity) -> Result<BatchTime> {
+    let name = activity.name;
+    let mut setup = make_setup(alloc, activity)?;
     let mut tally = Tally::default();
-    let mut best = quotient(u128::from(u64::MAX), 1);
+    let mut best = BatchTime {
+        name,
+        time: Duration::MAX,
+        parts: 1,
+    };
     for _ in 0..BATCHES {
-        let (rounds, time) = time_batch(clock, setup, &mut tally)?;
-        let divisor = u128::from(rounds)
-            .saturating_mul(u128::from(setup.parts))
-            .max(1);
-        ensure!(divisor < 1 << 63, "too many rounds");
-        let mean = quotient(time.as_nanos(), divisor);
-        if (mean.whole, mean.hundredths) < (best.whole, best.hundredths) {
-            best = mean;
+        let (rounds, time) = time_batch(clock, &mut setup, &mut tally)?;
+        let parts = u64::from(rounds).saturating_mul(setup.parts);
+        let batch = BatchTime { name, time, parts };
+        if batch.is_quicker(&best) {
+            best = batch;
         }
     }
     ensure!(

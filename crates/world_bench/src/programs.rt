@@ -1,6 +1,14 @@
 //! The programs whose steps are timed, as lines of the assembly language.
 
+use anyhow::Result;
+use asm::assemble;
+use insn_codec::Program;
 use std::alloc::{AllocError, Global};
+
+/// The program of a text, one instruction a line.
+pub fn program_of(alloc: Global, text: &str) -> Result<Program> {
+    Ok(assemble(alloc, text)?)
+}
 
 /// Ten operations, of 64 and of 32 bits, by numbers and by registers.
 const TEN: &str =

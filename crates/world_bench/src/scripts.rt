@@ -1,13 +1,12 @@
 //! Lines of a script.
 
 use crate::activity::SMALL_ENTRIES;
-use crate::programs::arithmetic;
-use anyhow::{Result, bail};
-use asm::assemble;
+use crate::batch_time::{BatchTime, LONG_TASK_BATCHES};
+use crate::programs::{arithmetic, program_of};
+use anyhow::Result;
 use bpf_model::MAX_REUSE;
 use control::run_script;
 use insn_codec::encode;
-use measurements::{Decimal, LONG_TASK_BATCHES, quotient};
 use std::alloc::Global;
 use std::fmt::Write as _;
 use std::io;
@@ -38,10 +37,7 @@ impl Write for Counted {
 /// The bytes of the program of arithmetic, as a script has them.
 fn program_digits(alloc: Global) -> Result<String> {
     let text = arithmetic(alloc)?;
-    let program = match assemble(alloc, &text) {
-        Ok(program) => program,
-        Err(fault) => bail!("{fault}"),
-    };
+    let program = program_of(alloc, &text)?;
     Ok(hex::encode(alloc, encode(alloc, &program)?)?)
 }
 
@@ -74,18 +70,20 @@ fn time_of_script(clock: &impl Clock, alloc: Global, text: &str) -> Result<Durat
     let mut input = text.as_bytes();
     let mut out = Counted { bytes: 0 };
     let start = Instant::now(clock)?;
-    match run_script(alloc, &mut input, &mut out) {
-        Ok(()) => Ok(start.elapsed(clock)?),
-        Err(fault) => bail!("{fault}"),
-    }
+    run_script(alloc, &mut input, &mut out)?;
+    Ok(start.elapsed(clock)?)
 }
 
-/// The time of one line in nanoseconds: all lines of the quickest script after one another.
-pub fn time_per_line(clock: &impl Clock, alloc: Global) -> Result<Decimal> {
+/// Times the lines of a script: all lines of the quickest script after one another.
+pub fn time_script(clock: &impl Clock, alloc: Global) -> Result<BatchTime> {
     let text = script(alloc)?;
     let mut best = Duration::MAX;
     for _ in 0..LONG_TASK_BATCHES {
         best = best.min(time_of_script(clock, alloc, &text)?);
     }
-    Ok(quotient(best.as_nanos(), 3 * u128::from(ROUNDS)))
+    Ok(BatchTime {
+        name: "script_line",
+        time: best,
+        parts: 3 * u64::from(ROUNDS),
+    })
 }

@@ -3,13 +3,12 @@ ghost use Rattle.std.specs.Prelude.{◌<◌};
 
 use crate::activity::{Activity, Deed, Stepped};
 use crate::programs::{
-    ARITHMETIC_MOVES, LOOKUP_8, LOOKUP_8_MOVES, LOOKUP_64, LOOKUP_64_MOVES, arithmetic,
+    ARITHMETIC_MOVES, LOOKUP_8, LOOKUP_8_MOVES, LOOKUP_64, LOOKUP_64_MOVES, arithmetic, program_of,
 };
 use crate::sequence::Sequence;
 use crate::tally::Tally;
 use anyhow::{Result, bail};
 use arrayvec::ArrayVec;
-use asm::assemble;
 use bpf_model::{
     Answer, CtxBytes, Event, KeyBytes, MAX_ENTRIES, MapId, MapShape, ProgId, RunId, ValueBytes,
 };
@@ -108,27 +107,14 @@ fn text_of(alloc: Global, activity: &Activity) -> Result<(String, usize)> {
 
 /// A world with one map of the shape, and a program that is bound to it.
 pub fn world_of(alloc: Global, shape: MapShape, text: &str) -> Result<World> {
-    let program = match assemble(alloc, text) {
-        Ok(program) => program,
-        Err(fault) => bail!("{fault}"),
-    };
-    let verified = match verify(alloc, program, &[shape], 0) {
-        Ok(verified) => verified,
-        Err(refusal) => bail!("{refusal}"),
-    };
+    let verified = verify(alloc, program_of(alloc, text)?, &[shape], 0)?;
     let mut maps = ArrayVec::new();
     maps.push(0);
     let mut programs = Vec::new(alloc);
     programs.push(Loaded { verified, maps })?;
     let mut registry = Registry::new(alloc);
-    match registry.create("m", shape) {
-        Ok(_) => {}
-        Err(fault) => bail!("{fault}"),
-    }
-    match World::new(alloc, registry, programs) {
-        Ok(world) => Ok(world),
-        Err(fault) => bail!("{fault}"),
-    }
+    registry.create("m", shape)?;
+    Ok(World::new(alloc, registry, programs)?)
 }
 
 /// Stores an element under every other number, from 0.
