@@ -1,10 +1,13 @@
 //! A file that is read.
 
 use std::io;
-use std::io::{ErrorKind, Read};
+use std::io::{Error, ErrorKind, Read};
 
 /// The most bytes of a text that are kept, 16 MiB.
 pub const MOST_BYTES: u64 = 16 << 20;
+
+/// The first bytes of a program file that is a text.
+pub const TEXT_HEAD: [u8; 8] = *b"bpfrt 1\n";
 
 /// A file of which no more is read than so many bytes, and what was wrong where it was read last in vain.
 #[derive(Drop)]
@@ -12,16 +15,20 @@ pub struct Input<R: Drop> {
     source: R,
     left: u64,
     taken: u64,
+    head: [u8; 8],
+    is_text: bool,
     fault: Option<ErrorKind>,
 }
 
 impl<R: Drop> Input<R> {
-    /// Before the first read of at most so many bytes.
-    pub fn new(source: R, most: u64) -> Input<R> {
+    /// Before the first read of at most so many bytes. A text is known as one, or begins as a program file does.
+    pub fn new(source: R, most: u64, is_text: bool) -> Input<R> {
         Input {
             source,
             left: most,
             taken: 0,
+            head: [0; 8],
+            is_text,
             fault: None,
         }
     }
@@ -31,9 +38,23 @@ impl<R: Drop> Input<R> {
         self.fault
     }
 
-    /// Whether more was read than is kept of a text.
-    pub fn is_long(&self) -> bool {
-        self.taken > MOST_BYTES
+    /// Notes bytes that were read.
+    fn note(&mut self, bytes: &[u8]) {
+        let mut place = self.taken;
+        for byte in &bytes[..bytes.len().min(8)] {
+            if place < 8 {
+                self.head[place as usize] = *byte;
+                place += 1;
+            }
+        }
+        let count = bytes.len() as u64;
+        self.taken = self.taken.saturating_add(count);
+        self.left = self.left.saturating_sub(count);
+    }
+
+    /// Whether it is a text of which more was read than is kept.
+    fn is_too_large(&self) -> bool {
+        self.taken > MOST_BYTES && (self.is_text || self.head == TEXT_HEAD)
     }
 }
 
@@ -43,14 +64,20 @@ impl<R: Read + Drop> Read for Input<R> {
             .unwrap_or(usize::MAX)
             .min(bytes.len());
         let outcome = self.source.read(&mut bytes[..most]);
-        match &outcome {
+        self.fault = match &outcome {
             Ok(count) => {
-                self.fault = None;
-                self.left = self.left.saturating_sub(*count as u64);
-                self.taken = self.taken.saturating_add(*count as u64);
+                self.note(&bytes[..most.min(*count)]);
+                if self.is_too_large() {
+                    Some(ErrorKind::FileTooLarge)
+                } else {
+                    None
+                }
             }
-            Err(error) => self.fault = Some(error.kind()),
+            Err(error) => Some(error.kind()),
+        };
+        match self.fault {
+            Some(ErrorKind::FileTooLarge) => Err(Error::from(ErrorKind::FileTooLarge)),
+            _ => outcome,
         }
-        outcome
     }
 }

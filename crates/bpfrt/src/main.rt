@@ -7,7 +7,7 @@ mod progress;
 mod recent;
 
 use crate::answers::{Answers, Heard};
-use crate::input::{Input, MOST_BYTES};
+use crate::input::{Input, MOST_BYTES, TEXT_HEAD};
 use crate::progress::Progress;
 use crate::recent::Recent;
 use commands::{
@@ -65,7 +65,16 @@ const TELLING_BYTES: u64 = 40_000;
 fn begins_as_text(rt: &HostRuntime, path: &str) -> io::Result<bool> {
     let mut first = [0; 8];
     let count = File::open(rt, path)?.read(&mut first)?;
-    Ok(count == 8 && first == *b"bpfrt 1\n")
+    Ok(count == 8 && first == TEXT_HEAD)
+}
+
+/// Whether the command reads a text, and no program file.
+fn reads_text(command: &BpfrtCommand) -> bool {
+    match command {
+        BpfrtCommand::Check { how, .. } => how.asm,
+        BpfrtCommand::Asm { .. } | BpfrtCommand::Filter { .. } => true,
+        _ => false,
+    }
 }
 
 /// How many bytes are read of a file of this length. Of a text that is too large nothing is.
@@ -78,11 +87,7 @@ fn bytes_read(
     if length <= MOST_BYTES {
         return Ok(u64::MAX);
     }
-    let is_text = matches!(
-        command,
-        BpfrtCommand::Asm { .. } | BpfrtCommand::Filter { .. }
-    );
-    if is_text || begins_as_text(rt, path)? {
+    if reads_text(command) || begins_as_text(rt, path)? {
         return Err(Error::from(ErrorKind::FileTooLarge));
     }
     Ok(TELLING_BYTES + length % 8)
@@ -135,11 +140,7 @@ fn run_on<H: Threads + Wait + Sync, R: Read + Drop, W: Write>(
 ) -> u8 {
     let mut err = rt.stderr();
     let status = run(threads, rt.alloc(), command, input, out, &mut err);
-    let fault = match input.fault() {
-        None if status == 3 && input.is_long() => Some(ErrorKind::FileTooLarge),
-        fault => fault,
-    };
-    if let Some(reason) = fault.and_then(reason_of_reading) {
+    if let Some(reason) = input.fault().and_then(reason_of_reading) {
         let _ = writeln!(err, "{name:?}: {reason}");
     }
     status
@@ -160,12 +161,12 @@ fn run_into<H: Threads + Wait + Sync, W: Write>(
     match command.file() {
         None => run(threads, rt.alloc(), command, &mut rt.stdin(), out, &mut err),
         Some(InputFile::StandardInput) => {
-            let mut input = Input::new(rt.stdin(), u64::MAX);
+            let mut input = Input::new(rt.stdin(), u64::MAX, reads_text(command));
             run_on(rt, threads, command, "-", &mut input, out)
         }
         Some(InputFile::Path(path)) => match opened(rt, command, path.as_str()) {
             Ok((file, most)) => {
-                let mut input = Input::new(file, most);
+                let mut input = Input::new(file, most, reads_text(command));
                 run_on(rt, threads, command, path.as_str(), &mut input, out)
             }
             Err(error) => unopened(&mut err, command, path.as_str(), &error),
