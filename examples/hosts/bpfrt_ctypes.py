@@ -36,6 +36,7 @@ NUMBER = "(?:0|[1-9][0-9]{0,18})"
 MOST_STEPS, MOST_MAPS, MOST_PROGRAMS, LONGEST_CONTEXT, LARGEST = 4096, 16, 64, 256, (1 << 32) - 1
 HASH, ARRAY = 1, 2
 SLOT = 1  # What a refusal's place counts, where that is slots.
+ZERO = array.array("Q", [0])
 EXIT = bytes.fromhex("b700000000000000 9500000000000000")
 
 
@@ -135,7 +136,13 @@ def lent(data):
     view = memoryview(data)
     if view.readonly or not view.nbytes:
         return bytes(view), view.nbytes
-    return (ctypes.c_char * view.nbytes).from_buffer(view.cast("B")), view.nbytes
+    return ctypes.byref(ctypes.c_char.from_buffer(view)), view.nbytes
+
+
+def room_for(count):
+    """An array for so many values, and where it lies, while nothing else has it."""
+    values = ZERO * count
+    return values, values.buffer_info()[0]
 
 
 class Held:
@@ -433,8 +440,8 @@ class Runtime:
             count = size // max(1, length) if count is None else checked_number(count)
             if size != count * length:
                 raise Refused(63, f"contexts of {size} bytes, and one has {length}")
-            values = array.array("Q", bytes(8 * count))
-            self._call("prog_run_many", held, room, size, lent(values)[0], count)
+            values, to = room_for(count)
+            self._call("prog_run_many", held, room, size, to, count)
         return values
 
     def run_packet(self, program, packet, length=None):
@@ -455,9 +462,9 @@ class Runtime:
             held, (room, size), (rows, length) = self._program(program).held, lent(data), lent(places)
             if length % 16:
                 raise Refused(63, f"places of {length} bytes, and one has 16")
-            values = array.array("Q", bytes(length // 2))
+            values, to = room_for(length // 16)
             try:
-                self._call("prog_run_packets", held, room, size, rows, length // 16, lent(values)[0], length // 16)
+                self._call("prog_run_packets", held, room, size, rows, length // 16, to, length // 16)
             except OSError as error:
                 raise Refused(63, "the program is no filter, or a place lies outside") if error.errno == errno.EINVAL else error
         return values
@@ -469,11 +476,10 @@ class Runtime:
         data, sizes, count = b"".join(it for it, _ in pairs), [len(it) for it, _ in pairs], len(pairs)
         lengths = [size if length is None else length for size, (_, length) in zip(sizes, pairs)]
         rows = zip(itertools.accumulate(sizes, initial=0), sizes, lengths)
-        places = array.array("Q", struct.pack("=" + "QII" * count, *itertools.chain.from_iterable(rows)))
-        values = array.array("Q", bytes(8 * count))
+        places, (values, to) = struct.pack("=" + "QII" * count, *itertools.chain.from_iterable(rows)), room_for(count)
         with self._turn:
             try:
-                self._call("prog_run_packets", self._program(program).held, data, len(data), lent(places)[0], count, lent(values)[0], count)
+                self._call("prog_run_packets", self._program(program).held, data, len(data), places, count, to, count)
             except OSError as error:
                 raise Refused(63, "the program is no filter") if error.errno == errno.EINVAL else error
         return values

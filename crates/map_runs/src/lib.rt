@@ -14,5 +14,5 @@ mod running;
 pub use law::names_keep_keys_apart;
 pub use named_map::{NamedMap, key_in};
 pub use named_running::{NamedRuns, fits_named, run_named, run_named_to_exit};
-pub use running::{MAX_RUN_ELEMENTS, MapRuns, fits, run_shared, run_to_exit};
-pub use shared_runs::{SubWord, stores_sub_words};
+pub use running::{MAX_RUN_ELEMENTS, MapRuns, fits, run_in, run_shared, run_to_exit};
+pub use shared_runs::{SubWord, Workspace, stores_sub_words};

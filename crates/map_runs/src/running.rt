@@ -8,7 +8,9 @@ ghost use Rattle.map_runs.specs.Table.{table_of};
 use crate::key_words::{word_of, words_of};
 use bpf_model::CtxBytes;
 use map_table::{MapTable, ReadSeat};
-use shared_runs::{RunsPrograms, ServesRuns, SubWord, has_lengths, run_over, stores_sub_words};
+use shared_runs::{
+    RunsPrograms, ServesRuns, SubWord, Workspace, has_lengths, run_over, stores_sub_words,
+};
 use verifier::Verified;
 
 /// The most elements of a table that programs may run over: each has a word of its own among those of map slots.
@@ -164,6 +166,37 @@ pub fn run_to_exit(
         first: seat.first_place(),
     };
     let value = run_over::<Placed>(&placed, seat, verified, ctx);
+    seat.is_readers();
+    value
+}
+
+/// The same in a workspace where other runs have been, of which nothing is seen, over a context that the caller lends.
+pub fn run_in(
+    table: &MapTable,
+    seat: &mut ReadSeat,
+    workspace: &mut Workspace,
+    verified: &Verified,
+    context: &[u8],
+) -> u64
+    requires ready { IsReady table.now seat.old }
+    requires context { length context.now ≡ verified.now.ctx_len }
+    requires maps { ServesMaps table.now.shape verified.now.shapes }
+    requires words { StoresSubWords verified.now → ⊥ }
+    ensures runs { RunsShared table.now.shape verified.now context.now seat.old seat.new result }
+    ensures held { HasHeld seat.new.view }
+    ensures found { HasFound seat.new.view }
+    ensures met { HasMet seat.new.view }
+    ensures own { HasOwn seat.new.view }
+    ensures shape { seat.new.view.shape ≡ table.now.shape }
+    ensures ready { IsReady table.now seat.new }
+{
+    let _shape = table.shape();
+    seat.is_readers();
+    let placed = Placed {
+        table,
+        first: seat.first_place(),
+    };
+    let value = shared_runs::run_in::<Placed>(&placed, seat, workspace, verified, context);
     seat.is_readers();
     value
 }

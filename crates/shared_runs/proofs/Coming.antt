@@ -2,6 +2,7 @@
 use Rattle.std.proofs.Common.{◌≡◌, ℕ, ◌+◌, ◌<◌, ◌≤◌, sym, ap, subst, ◌∙◌, arith, List, [], ◌++◌, Some, length}
 use Rattle.std.proofs.lemmas.Option.{slice_get_within}
 use Rattle.bpf_model.specs.declared.insn.Insn.{Insn}
+use Rattle.bpf_model.specs.declared.limits.TheConstants.{FRAME_BYTES}
 use Rattle.bpf_model.specs.Real.{AreBytes}
 use Rattle.bpf_model.specs.Step.{insn_at}
 use Rattle.bpf_model.specs.View.{RunView}
@@ -27,11 +28,11 @@ use Rattle.shared_runs.proofs.Steps.{exits, moves, standing, steps}
 
 pub has-started : (k : Table) → IsTable k → (c : Checked) (context : List ℕ) (r : RunWords) → k.elements ≤ regions →
     IsJustified c → FitsTable k c.shapes → (StoresSubWords c → ⊥) → length context ≡ c.ctx_len → AreBytes context
-    → IsAt c.program r → r.view ≡ fresh_view 0 context → HasCome k c context [] r
-has-started k keeps c context r few j fits words long bytes at view = record {
+    → IsAt c.program r → length r.view.frame ≡ FRAME_BYTES → r.view ≡ record (fresh_view 0 context) { frame = r.view.frame } → HasCome k c context [] r
+has-started k keeps c context r few j fits words long bytes at cells view = record {
   at = at;
   sharing = subst (λ (v : RunView). IsSharing k c context [] v) (sym view)
-      (starts k keeps c j fits few words context long bytes);
+      (starts k keeps c j fits few words context long bytes r.view.frame cells);
 }
 
 module _ (k : Table) (keeps : IsTable k) (c : Checked) (context : List ℕ) (ms : List k.Move) (r : RunWords)

@@ -1,6 +1,7 @@
 -- A shared run that is stepped in a loop: each step of its course, and each reply, takes its seat further.
-use Rattle.std.proofs.Common.{◌≡◌, ℕ, ◌<◌, ◌-◌, sym, subst, arith, List, Some, length}
+use Rattle.std.proofs.Common.{◌≡◌, ℕ, ◌<◌, ◌-◌, refl, sym, ap, subst, arith, List, [], Some, length}
 use Rattle.bpf_model.specs.declared.insn.Insn.{Insn}
+use Rattle.bpf_model.specs.declared.limits.TheConstants.{FRAME_BYTES}
 use Rattle.bpf_model.specs.Real.{AreBytes}
 use Rattle.bpf_model.specs.Step.{insn_at}
 use Rattle.bpf_model.specs.View.{RunView}
@@ -16,6 +17,7 @@ use Rattle.machine.specs.Requests.{resumed_view}
 use Rattle.machine.specs.RunWords.{IsAt as StandsAt}
 use Rattle.machine.specs.Standing.{Awaits, IsReplyTo, IsRunOfChecked}
 use Rattle.machine.specs.Steps.{TakesStep}
+use Rattle.machine.specs.Workspaces.{HasFreshRegisters, IsFreshWorkspace}
 use Rattle.machine.proofs.Coursing.{is_at}
 use Rattle.shared_runs.specs.Running.{HasComeTo, RunsOver}
 use Rattle.shared_runs.specs.Serving.{IsServable, Serves, asking}
@@ -24,6 +26,15 @@ use Rattle.shared_runs.specs.Tables.{AreSteps, IsSmall, IsTable, Table}
 use Rattle.shared_runs.specs.Words.{FitsTable, StoresSubWords}
 use Rattle.shared_runs.proofs.Seated as seated
 
+-- A course that starts with a fresh workspace starts so with fresh registers and any frame.
+fresh_but_frame : (c : Checked) (context : List ℕ) (course : Course) (w : Workspace) → HasFreshRegisters w →
+    ((v : Workspace) → IsFreshWorkspace v → view_of c context course v ≡ fresh_view 0 context) →
+    view_of c context course w ≡ record (fresh_view 0 context) { frame = w.frame }
+fresh_but_frame c context course w fresh view =
+    let first : Workspace = record { registers = (fresh_view 0 []).registers; frame = (fresh_view 0 []).frame } in
+    let e = ap (λ (v : RunView). record v { frame = w.frame }) (view first (record { registers = refl; frame = refl })) in
+    subst (λ (rs : List ℕ). record (view_of c context course w) { registers = rs } ≡ record (fresh_view 0 context) { frame = w.frame }) (sym fresh) e
+
 module _ {Seat : Type 0} (k : Table) (IsAt : Seat → Type 0) (mine : Seat → List k.Move) (Goes : Seat → List k.Move → Seat → Type 0)
     (keeps : IsTable k) (steps : AreSteps k IsAt mine Goes) (c : Checked) (context : List ℕ) (start : Seat) (at_start : IsAt start) where
   -- what the loop keeps
@@ -31,11 +42,12 @@ module _ {Seat : Type 0} (k : Table) (IsAt : Seat → Type 0) (mine : Seat → L
   Kept now course w = IsOn c course × HasComeTo k Goes c context start now (words_of c context course w)
 
   pub has-started : (course : Course) (w : Workspace) → IsSmall k → IsJustified c → FitsTable k c.shapes → (StoresSubWords c → ⊥) →
-      length context ≡ c.ctx_len → AreBytes context → IsOn c course → view_of c context course w ≡ fresh_view 0 context → Kept start course w
-  has-started course w small j maps words long bytes on view = (
+      length context ≡ c.ctx_len → AreBytes context → IsOn c course → HasFreshRegisters w → length w.frame ≡ FRAME_BYTES →
+      ((v : Workspace) → IsFreshWorkspace v → view_of c context course v ≡ fresh_view 0 context) → Kept start course w
+  has-started course w small j maps words long bytes on fresh cells view = (
     on,
     seated.has-started k IsAt mine Goes keeps steps c context start at_start (words_of c context course w) small j maps words long bytes
-        (is_at c context course w on) view,
+        (is_at c context course w on) cells (fresh_but_frame c context course w fresh view),
   )
 
   module _ (now : Seat) (course : Course) (w : Workspace) (outside : k.inside (mine start) ≡ 0) (h : Kept now course w) where

@@ -1,6 +1,7 @@
 -- How far a seat has come with a shared run: each step of the run's words takes it further.
 use Rattle.std.proofs.Common.{◌≡◌, ℕ, ◌+◌, ◌<◌, ap, ◌∙◌, List, [], ◌++◌, Some, length}
 use Rattle.bpf_model.specs.declared.insn.Insn.{Insn}
+use Rattle.bpf_model.specs.declared.limits.TheConstants.{FRAME_BYTES}
 use Rattle.bpf_model.specs.Real.{AreBytes}
 use Rattle.bpf_model.specs.Step.{insn_at}
 use Rattle.view_laws.specs.Reactions.{fresh_view}
@@ -22,12 +23,12 @@ use Rattle.shared_runs.proofs.Coming as coming
 module _ {Seat : Type 0} (k : Table) (IsAt : Seat → Type 0) (mine : Seat → List k.Move) (Goes : Seat → List k.Move → Seat → Type 0)
     (keeps : IsTable k) (steps : AreSteps k IsAt mine Goes) (c : Checked) (context : List ℕ) (start : Seat) (at_start : IsAt start) where
   pub has-started : (r : RunWords) → IsSmall k → IsJustified c → FitsTable k c.shapes → (StoresSubWords c → ⊥) →
-      length context ≡ c.ctx_len → AreBytes context → StandsAt c.program r → r.view ≡ fresh_view 0 context →
-      HasComeTo k Goes c context start start r
-  has-started r small j maps words long bytes at view = record {
+      length context ≡ c.ctx_len → AreBytes context → StandsAt c.program r → length r.view.frame ≡ FRAME_BYTES →
+      r.view ≡ record (fresh_view 0 context) { frame = r.view.frame } → HasComeTo k Goes c context start start r
+  has-started r small j maps words long bytes at cells view = record {
     moves = [];
     goes = steps.none start at_start;
-    come = coming.has-started k keeps c context r small.few j maps words long bytes at view;
+    come = coming.has-started k keeps c context r small.few j maps words long bytes at cells view;
   }
 
   module _ (now : Seat) (r : RunWords) (outside : k.inside (mine start) ≡ 0) (h : HasComeTo k Goes c context start now r) where

@@ -14,7 +14,8 @@ mod serves_runs;
 mod sub_words;
 
 pub use lengths::has_lengths;
-pub use running::run_over;
+pub use machine::Workspace;
+pub use running::{run_in, run_over};
 pub use runs_programs::RunsPrograms;
 pub use serves_runs::ServesRuns;
 pub use sub_words::{SubWord, stores_sub_words, uses_sub_words};

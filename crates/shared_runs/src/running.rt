@@ -7,7 +7,7 @@ ghost use Rattle.world_laws.specs.Calling.{bytes_in, found_word};
 ghost use Rattle.world_laws.specs.Moving.{word_in};
 ghost use Rattle.world_laws.specs.Reaching.{IsInFrame};
 ghost use Rattle.shared_runs.specs.Running.{RunsOver};
-ghost use Rattle.machine.specs.Workspaces.{own_view};
+ghost use Rattle.machine.specs.Workspaces.{HasFreshRegisters, own_view};
 ghost use Rattle.shared_runs.specs.Serving.{IsServable, Serves, asking, map_named};
 ghost use Rattle.shared_runs.specs.SharedRuns.{closing, opening};
 ghost use Rattle.shared_runs.specs.Sharing.{flag_of};
@@ -145,18 +145,64 @@ pub fn run_over<T: ServesRuns>(
         seat.old seat.new result }
     ensures outside { (T.table words.now).inside (T.mine words.now seat.new) ≡ 0 }
 {
+    let mut workspace = Workspace::start();
+    finish::<T>(words, seat, &mut workspace, verified, ctx.as_slice())
+}
+
+/// Runs such a program in a workspace where others have run, of which nothing is seen, over a context that the caller lends. The
+/// clauses are those of `run_over`.
+#[inline]
+pub fn run_in<T: ServesRuns>(
+    words: &T::Words,
+    seat: &mut T::Seat,
+    workspace: &mut Workspace,
+    verified: &Verified,
+    context: &[u8],
+) -> u64
+    requires small { IsSmall (T.table words.now) }
+    requires at { T.IsAt words.now seat.old }
+    requires outside { (T.table words.now).inside (T.mine words.now seat.old) ≡ 0 }
+    requires context { length context.now ≡ verified.now.ctx_len }
+    requires maps { FitsTable (T.table words.now) verified.now.shapes }
+    requires whole { StoresSubWords verified.now → ⊥ }
+    ensures runs { RunsOver (T.table words.now) (T.Goes words.now) verified.now context.now
+        seat.old seat.new result }
+    ensures outside { (T.table words.now).inside (T.mine words.now seat.new) ≡ 0 }
+{
+    workspace.restart();
+    finish::<T>(words, seat, workspace, verified, context)
+}
+
+/// Runs a program to its exit, in a workspace whose registers are those of a start.
+fn finish<T: ServesRuns>(
+    words: &T::Words,
+    seat: &mut T::Seat,
+    workspace: &mut Workspace,
+    verified: &Verified,
+    context: &[u8],
+) -> u64
+    requires small { IsSmall (T.table words.now) }
+    requires at { T.IsAt words.now seat.old }
+    requires outside { (T.table words.now).inside (T.mine words.now seat.old) ≡ 0 }
+    requires context { length context.now ≡ verified.now.ctx_len }
+    requires maps { FitsTable (T.table words.now) verified.now.shapes }
+    requires whole { StoresSubWords verified.now → ⊥ }
+    requires fresh { HasFreshRegisters workspace.old }
+    requires cells { length workspace.old.frame ≡ FRAME_BYTES }
+    ensures runs { RunsOver (T.table words.now) (T.Goes words.now) verified.now context.now
+        seat.old seat.new result }
+    ensures outside { (T.table words.now).inside (T.mine words.now seat.new) ≡ 0 }
+{
     T::is_table(words);
     let _program = verified.program();
-    let context = ctx.as_slice();
     are_bytes(context);
-    let mut workspace = Workspace::start();
     let mut course = Course::start(verified);
     'steps: loop {
-        match course.step::<T>(&mut workspace, verified, context) {
+        match course.step::<T>(workspace, verified, context) {
             Local::Moved => {}
             Local::Shared(request) => {
-                let word = serve::<T>(words, seat, &workspace, course.depth(), request);
-                course.resume(&mut workspace, verified, request, word);
+                let word = serve::<T>(words, seat, workspace, course.depth(), request);
+                course.resume(workspace, verified, request, word);
             }
             Local::Exit(value) => return value,
         }

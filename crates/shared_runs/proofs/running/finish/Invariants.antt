@@ -1,7 +1,7 @@
 use Rattle.std.proofs.Common.{◌-◌, length}
 use Rattle.machine.specs.Courses.{IsOn, words_of}
 use Rattle.shared_runs.specs.Running.{HasComeTo}
-use Rattle.shared_runs.proofs.running.run_over.Given as goal
+use Rattle.shared_runs.proofs.running.finish.Given as goal
 
 abbrev pub invariant-steps : goal.invariant-steps
 invariant-steps g l = IsOn l.fn.verified l.course × HasComeTo (g.T.ServesRuns.table l.fn.words) (g.T.ServesRuns.Goes l.fn.words)
