@@ -378,6 +378,8 @@ class Runtime:
     def load(self, text, make_maps=True, *, timeout=None):
         """Makes the maps of a program file's text, or takes those of the same names, and loads its program: its number.
         Maps stay where the program is refused: load the next text for them with make_maps=False."""
+        if not isinstance(text, str):
+            raise TypeError("load takes a program file as text: read it as text, and give a program's bytes to load_code")
         until, maps = end_of(timeout), rf"(?:map \S+ (?:array|{NUMBER} {NUMBER} {NUMBER}) {NUMBER} {NUMBER}\n)*"
         parts = re.fullmatch(rf"bpfrt 1\nctx ({NUMBER})\n({maps})code\n([0-9a-fA-F \n]*)", text)
         if not parts:

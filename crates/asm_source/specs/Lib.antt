@@ -8,3 +8,4 @@ pub mod Index
 pub mod Fixed
 pub mod Labels
 pub mod LineEnds
+pub mod Head

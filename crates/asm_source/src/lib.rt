@@ -6,6 +6,7 @@
 
 mod bindings;
 mod fault;
+mod head;
 mod law;
 mod line_ends;
 mod lines;
@@ -20,6 +21,7 @@ mod tokens;
 mod words;
 
 pub use fault::SourceFault;
+pub use head::head_text;
 pub use law::{fixed_stays, label_leads, line_has_place, lines_are_kept};
 pub use line_ends::fed_text;
 pub use maps::maps_of;
