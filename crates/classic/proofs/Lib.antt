@@ -16,5 +16,6 @@ pub mod Standing
 pub mod Starting
 pub mod Swapping
 pub mod Testing
+pub mod Wanted
 pub mod Whole
 pub mod Widths
