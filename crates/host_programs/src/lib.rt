@@ -18,3 +18,4 @@ pub use fault::{OpenFault, Place, RunFault};
 pub use opened::Opened;
 pub use packet::{PacketAt, are_inside, packet_context};
 pub use program::HostProgram;
+pub use room::Room;

@@ -9,7 +9,7 @@ const ZEROS: [u8; PACKET_BYTES] = [0; PACKET_BYTES];
 
 /// The context of a packet, and the workspace of a run. Both are used again, and a run sees nothing of those before it.
 #[derive(Drop)]
-pub(crate) struct Room {
+pub struct Room {
     pub context: [u8; PACKET_CONTEXT],
     /// How many bytes of a packet the context has.
     pub filled: usize,
