@@ -1,3 +1,7 @@
+use Rattle.std.proofs.Common.{ℕ}
+use Rattle.std.proofs.lemmas.List.{length-replicate}
+use Rattle.bpf_model.specs.declared.limits.TheConstants.{FRAME_BYTES}
+use Rattle.view_laws.specs.Reactions.{fresh_view}
 use Rattle.shared_runs.proofs.Starting.{starts}
 use Rattle.shared_runs.proofs.Stores.{stores-uses}
 use Rattle.read_table.specs.Table.{table_of}
@@ -6,4 +10,4 @@ use Rattle.read_table.proofs.run_laws.shared_run_starts.Goals as goal
 
 pub returns : goal.returns
 returns g = λ k c justified fits few whole context long bytes. starts (table_of k) (is_table k) c justified fits few
-    (λ s. whole (stores-uses c s)) context long bytes
+    (λ s. whole (stores-uses c s)) context long bytes (fresh_view 0 context).frame (length-replicate {A = ℕ} FRAME_BYTES 0)
