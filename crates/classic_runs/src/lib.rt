@@ -3,6 +3,9 @@
 //!
 //! A filter is made ready once: what an instruction does is told by one tag. A run takes a load and the tests behind it in one turn.
 //! It returns what the classic machine returns, takes no memory and cannot fail.
+//!
+//! Behind a test that fails a run looks for another. So a test's two ways are two pieces of code, and a processor guesses the way.
+//! Where the next place is chosen without a branch, it waits for the packet's bytes, and many filters take twice as long.
 #![tactic(auto)]
 
 mod action;

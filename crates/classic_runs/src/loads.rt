@@ -6,7 +6,7 @@ ghost use Rattle.classic_program.specs.declared.insn.Datum.TheVariants.{HeaderLe
 ghost use Rattle.classic_program.specs.Machine.{Registers, bytes_at, loaded};
 
 /// The byte there.
-#[inline]
+#[inline(always)]
 pub(crate) fn byte_at(bytes: &[u8], at: usize) -> Option<u32>
     ensures { result ≡ bytes_at Packet bytes.now at Byte }
 {
@@ -17,7 +17,7 @@ pub(crate) fn byte_at(bytes: &[u8], at: usize) -> Option<u32>
 }
 
 /// The number of two bytes.
-#[inline]
+#[inline(always)]
 pub(crate) fn half_at(bytes: &[u8], at: usize) -> Option<u32>
     requires { at ≤ 2 ^ 40 }
     ensures { result ≡ bytes_at Packet bytes.now at Half }
@@ -31,7 +31,7 @@ pub(crate) fn half_at(bytes: &[u8], at: usize) -> Option<u32>
 }
 
 /// The number of four bytes.
-#[inline]
+#[inline(always)]
 pub(crate) fn word_at(bytes: &[u8], at: usize) -> Option<u32>
     requires { at ≤ 2 ^ 40 }
     ensures { result ≡ bytes_at Packet bytes.now at Word }
@@ -47,7 +47,7 @@ pub(crate) fn word_at(bytes: &[u8], at: usize) -> Option<u32>
 }
 
 /// The length of the header that begins there: four times the low half of its first byte.
-#[inline]
+#[inline(always)]
 pub(crate) fn header_at(bytes: &[u8], at: usize) -> Option<u32>
     ensures { (m : Registers) (wire : ℕ) → result ≡ loaded Packet (record { bytes = bytes.now; wire = wire }) m (HeaderLength at) }
 {

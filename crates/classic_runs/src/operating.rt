@@ -5,6 +5,7 @@ ghost use Rattle.classic_program.specs.Machine.{operated, passes as passes_test}
 use classic_program::{ClassicOp, ClassicTest};
 
 /// What an operation comes to, if it has a result.
+#[inline(always)]
 pub(crate) fn operate(op: ClassicOp, a: u32, b: u32) -> Option<u32>
     ensures { result ≡ operated op a b }
 {
@@ -23,6 +24,7 @@ pub(crate) fn operate(op: ClassicOp, a: u32, b: u32) -> Option<u32>
 }
 
 /// Whether A passes a test.
+#[inline(always)]
 pub(crate) fn passes(test: ClassicTest, a: u32, b: u32) -> bool
     ensures { result ≡ passes_test test a b }
 {

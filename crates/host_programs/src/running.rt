@@ -31,6 +31,7 @@ impl HostProgram {
     }
 
     /// The exit value of such a program, which has contexts of packets, on a packet. A classic filter runs as it stands.
+    #[inline(always)]
     fn value_on(&self, packet: &[u8], wire: u32, room: &mut Room) -> u64
         requires maps { HasNoMaps self.now.checked.program }
         requires context { self.now.checked.ctx_len ≡ context_bytes Packet }
@@ -47,6 +48,7 @@ impl HostProgram {
     }
 
     /// The exit value of such a program on one of many packets.
+    #[inline(always)]
     fn value_of(&self, bytes: &[u8], packet: &PacketAt, room: &mut Room) -> u64
         requires maps { HasNoMaps self.now.checked.program }
         requires context { self.now.checked.ctx_len ≡ context_bytes Packet }
