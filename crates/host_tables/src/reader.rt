@@ -11,9 +11,8 @@ ghost use Rattle.map_table.specs.Held.{IsReady};
 ghost use Rattle.shared_runs.specs.Words.{StoresSubWords};
 
 use crate::fault::TableRunFault;
-use bpf_model::{CTX_BYTES, CtxBytes, are_bytes, array_of};
-use host_programs::{HostProgram, PACKET_CONTEXT, packet_context};
-use map_runs::{fits, run_to_exit};
+use host_programs::{HostProgram, PACKET_CONTEXT, Room};
+use map_runs::{fits, run_in};
 use map_table::{MapTable, ReadSeat};
 use std::marker::Model;
 use std::sync::Arc;
@@ -36,11 +35,13 @@ pub(crate) fn serves(table: &MapTable, program: &HostProgram) -> Result<(), Tabl
     Ok(())
 }
 
-/// A seat at a table that it shares, outside a section. Contracts see what the reader did and saw there.
+/// A seat at a table that it shares, outside a section, and room for its runs, one at a time. Contracts see what the reader did and
+/// saw there.
 #[derive(Drop)]
 pub struct HostReader {
     table: Arc<MapTable>,
     seat: ReadSeat,
+    room: Room,
 }
 
 impl Model for HostReader {
@@ -60,7 +61,11 @@ impl HostReader {
         requires { IsReady (arc_value table) seat }
         ensures { result ≡ seat }
     {
-        HostReader { table, seat }
+        HostReader {
+            table,
+            seat,
+            room: Room::new(),
+        }
     }
 
     /// Runs a program over the table, each of whose maps is the table, to its exit. The outermost lock of the run opens the
@@ -84,8 +89,13 @@ impl HostReader {
             return Err(TableRunFault::Length);
         }
         serves(&self.table, program)?;
-        let context: CtxBytes = array_of(context);
-        Ok(run_to_exit(&self.table, &mut self.seat, program.verified(), &context))
+        Ok(run_in(
+            &self.table,
+            &mut self.seat,
+            &mut self.room.workspace,
+            program.verified(),
+            context,
+        ))
     }
 
     /// Runs such a program on a packet, of which it sees the first `PACKET_BYTES`, as if no more had been captured.
@@ -108,7 +118,13 @@ impl HostReader {
             return Err(TableRunFault::Length);
         }
         serves(&self.table, program)?;
-        let context: CtxBytes = array_of(&packet_context(packet, wire));
-        Ok(run_to_exit(&self.table, &mut self.seat, program.verified(), &context))
+        self.room.fill(packet, wire);
+        Ok(run_in(
+            &self.table,
+            &mut self.seat,
+            &mut self.room.workspace,
+            program.verified(),
+            &self.room.context,
+        ))
     }
 }
