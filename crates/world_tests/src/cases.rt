@@ -1,8 +1,7 @@
-//! Lists of events with the answers that they must have, worked out by hand, below the maps and programs of a machine.
+//! Lists of events with the answers that they must have, worked out by hand, below the maps and programs of a machine; and what
+//! worlds are asked outside of events.
 use crate::making::Setup;
-use bpf_model::MAX_RUNS;
 use std::alloc::Global;
-use std::fmt::Write;
 use std::test::Fail;
 
 /// Blocks, parted by empty lines: what `Setup::read` takes, a line `events`, and events with their answers. Where a program is one
@@ -38,7 +37,7 @@ advance = ok
 advance = ok
 reap = reaped 0 00000000 worn
 put 0 00000000 0500000000000000 0 = ret -12
-stat = stat linked 0 unlinked 0 given 2 worn 1 runs 0 open 0
+stat = linked 0 unlinked 0 given 2 worn 1 runs 0 open 0
 
 # An open section holds an element.
 map 4 8 4 4 100
@@ -80,7 +79,7 @@ reap = none
 step 1 7 = moved
 advance = ok
 reap = reaped 0 01000000 free
-stat = stat linked 0 unlinked 0 given 2 worn 0 runs 2 open 0
+stat = linked 0 unlinked 0 given 2 worn 0 runs 2 open 0
 
 # Who holds an element sees its own value.
 map 4 8 4 4 100
@@ -93,7 +92,7 @@ step 0 7 = moved
 put 0 00000000 0600000000000000 0 = ret 0
 get 0 00000000 = value 0600000000000000
 step 0 5 = exit 5
-stat = stat linked 1 unlinked 1 given 0 worn 0 runs 1 open 0
+stat = linked 1 unlinked 1 given 0 worn 0 runs 1 open 0
 drop 0 = ok
 drop 0 = refused 60
 
@@ -114,7 +113,7 @@ put 0 00000000 - 0 = refused 66
 del 0 000000 = refused 66
 get 0 0000000000 = refused 66
 get 1 00000000 = none
-stat = stat linked 0 unlinked 0 given 0 worn 0 runs 0 open 0
+stat = linked 0 unlinked 0 given 0 worn 0 runs 0 open 0
 
 # A held element outlives two updates.
 map 4 8 4 4 100
@@ -129,7 +128,7 @@ put 0 00000000 0700000000000000 0 = ret 0
 advance = ok
 advance = ok
 reap = none
-stat = stat linked 1 unlinked 2 given 0 worn 0 runs 1 open 1
+stat = linked 1 unlinked 2 given 0 worn 0 runs 1 open 1
 get 0 00000000 = value 0700000000000000
 step 0 5 = exit 5
 advance = ok
@@ -202,7 +201,7 @@ prog 0 0: UNGUARDED = refused 32 at Some(8)
 events
 start 0 - = run 0
 step 0 7 = moved
-step 0 1 = stuck
+step 0 1 = Stuck
 
 # Nothing holds an element that is looked up outside a section.
 map 4 8 4 4 100
@@ -216,7 +215,7 @@ del 0 00000000 = ret 0
 advance = ok
 advance = ok
 reap = reaped 0 00000000 free
-step 0 2 = stuck
+step 0 2 = Stuck
 
 # Nothing holds an element whose pointer is kept over an unlock.
 map 4 8 4 4 100
@@ -230,7 +229,7 @@ del 0 00000000 = ret 0
 advance = ok
 advance = ok
 reap = reaped 0 00000000 free
-step 0 1 = stuck
+step 0 1 = Stuck
 
 # A second section does not hold it.
 map 4 8 4 4 100
@@ -244,7 +243,7 @@ del 0 00000000 = ret 0
 advance = ok
 advance = ok
 reap = reaped 0 00000000 free
-step 0 2 = stuck
+step 0 2 = Stuck
 
 # A spilled pointer does not outlive its element.
 map 4 8 4 4 100
@@ -259,7 +258,7 @@ advance = ok
 advance = ok
 reap = reaped 0 00000000 free
 step 0 1 = moved
-step 0 1 = stuck
+step 0 1 = Stuck
 
 # The test of one lookup says nothing of another.
 map 4 8 4 4 100
@@ -270,7 +269,7 @@ put 0 00000000 0500000000000000 0 = ret 0
 start 0 01 = run 0
 step 0 9 = moved
 del 0 00000000 = ret 0
-step 0 8 = stuck
+step 0 8 = Stuck
 
 # The test of a lookup tells of that lookup.
 map 4 8 4 4 100
@@ -291,7 +290,7 @@ events
 put 0 00000000 0500000000000000 0 = ret 0
 start 0 0000000001000000 = run 0
 step 0 10 = moved
-step 0 1 = stuck
+step 0 1 = Stuck
 
 # A test of 64 bits bounds the whole number.
 map 4 8 4 4 100
@@ -321,7 +320,7 @@ put 0 00000000 0500000000000000 0 = ret 0
 start 0 08 = run 0
 step 0 9 = moved
 step 0 1 = moved
-step 0 1 = stuck
+step 0 1 = Stuck
 
 # An access that is not aligned.
 map 4 8 4 4 100
@@ -331,7 +330,7 @@ events
 put 0 00000000 0500000000000000 0 = ret 0
 start 0 05 = run 0
 step 0 10 = moved
-step 0 1 = stuck
+step 0 1 = Stuck
 
 # An access that is aligned.
 map 4 8 4 4 100
@@ -349,7 +348,7 @@ prog 0 0: NINE_LOCKS = refused 34 at Some(8)
 events
 start 0 - = run 0
 step 0 8 = moved
-step 0 1 = stuck
+step 0 1 = Stuck
 
 # A section ends at its outermost unlock: what the run holds is reclaimed after it, not before.
 map 4 8 4 4 100
@@ -386,7 +385,7 @@ del 0 00 = refused 66
 get 0 00000000 = value 0000000000000000
 get 0 01000000 = value 0500000000000000
 reap = none
-stat = stat linked 4 unlinked 0 given 0 worn 0 runs 0 open 0
+stat = linked 4 unlinked 0 given 0 worn 0 runs 0 open 0
 
 # A run holds an array's element outside every section, and sees an update of it.
 map array 8 2
@@ -405,7 +404,7 @@ prog 0 0: mov64 r0, 0; callbtf 2; exit = refused 34 at Some(1)
 events
 start 0 - = run 0
 step 0 1 = moved
-step 0 1 = stuck
+step 0 1 = Stuck
 
 # A helper that is none.
 map 4 8 4 4 100
@@ -414,7 +413,7 @@ prog 0 0: mov64 r0, 0; call 4; exit = refused 35 at Some(1)
 events
 start 0 - = run 0
 step 0 1 = moved
-step 0 1 = stuck
+step 0 1 = Stuck
 
 # After a lock r0 holds nothing.
 map 4 8 4 4 100
@@ -423,7 +422,7 @@ prog 0 0: callbtf 1; mov64 r1, r0; callbtf 2; mov64 r0, 0; exit = refused 23 at 
 events
 start 0 - = run 0
 step 0 1 = moved
-step 0 1 = stuck
+step 0 1 = Stuck
 
 # A lookup whose arguments hold nothing.
 map 4 8 4 4 100
@@ -432,7 +431,7 @@ prog 0 0: callbtf 1; mov64 r7, r10; call 1; callbtf 2; mov64 r0, 0; exit = refus
 events
 start 0 - = run 0
 step 0 2 = moved
-step 0 1 = stuck
+step 0 1 = Stuck
 
 # An exit inside a section.
 map 4 8 4 4 100
@@ -441,7 +440,7 @@ prog 0 0: callbtf 1; mov64 r0, 0; exit = refused 34 at Some(2)
 events
 start 0 - = run 0
 step 0 2 = moved
-step 0 1 = stuck
+step 0 1 = Stuck
 
 # The helpers update and delete.
 map 4 8 4 4 100
@@ -461,7 +460,7 @@ put 0 00000000 0500000000000000 0 = ret 0
 start 0 - = run 0
 step 0 10 = exit 18446744073709551599
 get 0 00000000 = value 0500000000000000
-stat = stat linked 1 unlinked 0 given 0 worn 0 runs 1 open 0
+stat = linked 1 unlinked 0 given 0 worn 0 runs 1 open 0
 
 # A deletion unlinks.
 map 4 8 4 4 100
@@ -559,17 +558,146 @@ drop 0 = ok
 get 0 01000000 = value 1702000000000000f401000000000000
 get 0 02000000 = value 00000000000000009100000000000000
 get 1 01000000 = value 06000000000000000000000000000000
-get 1 05000000 = value 10000000000000008502000000000000";
+get 1 05000000 = value 10000000000000008502000000000000
 
-/// The maps and the program of a block; and its events, with what they are answered.
+# An exit value is told of a run that has ended, of an equal program and context, and of no other. Run 0 has exited
+# with 5, run 1 with 0, run 2 with 1, run 4 of the program for longer values with 0; run 3 is still running.
+map 4 8 4 4 100
+map 4 16 4 4 100
+prog 1 0: LOAD
+prog 1 0: EXIT_ONE
+prog 1 1: LOAD
+prog 1 0: LOAD
+events
+put 0 01000000 0500000000000000 0 = ret 0
+start 0 01 = run 0
+start 0 02 = run 1
+start 1 01 = run 2
+start 0 01 = run 3
+step 0 20 = exit 5
+step 1 20 = exit 0
+step 2 20 = exit 1
+step 3 20 = exit 5
+drop 3 = ok
+start 0 01 = run 3
+step 3 9 = moved
+start 2 01 = run 4
+step 4 20 = exit 0
+start 0 01 = run 5
+step 5 20 = exit 5
+drop 5 = ok
+stat = linked 1 unlinked 0 given 0 worn 0 runs 5 open 1
+exit_of 0 0 01 = Some(5)
+exit_of 0 3 01 = Some(5)
+exit_of 0 0 02 = None
+exit_of 0 0 - = None
+exit_of 0 1 01 = None
+exit_of 0 2 01 = None
+exit_of 1 0 02 = Some(0)
+exit_of 1 0 01 = None
+exit_of 2 1 01 = Some(1)
+exit_of 2 0 01 = None
+exit_of 3 0 01 = None
+exit_of 4 2 01 = Some(0)
+exit_of 4 0 01 = None
+exit_of 5 0 01 = None
+exit_of 6 0 01 = None
+exit_of 63 0 01 = None
+exit_of 64 0 01 = None
+
+# Elements are told in the order of their keys' bytes, which is another than that in which they came. One was deleted, and one
+# replaced.
+map 4 8 4 4 100
+map 4 8 4 4 100
+events
+put 0 00010000 0100000000000000 0 = ret 0
+put 0 ff000000 0200000000000000 0 = ret 0
+put 0 00000000 0300000000000000 0 = ret 0
+put 0 00ff0000 0400000000000000 0 = ret 0
+del 0 ff000000 = ret 0
+put 0 000000ff 0500000000000000 0 = ret 0
+put 0 00010000 0600000000000000 2 = ret 0
+put 1 02000000 0700000000000000 0 = ret 0
+above 0 - = 00000000 0300000000000000
+above 0 00000000 = 000000ff 0500000000000000
+above 0 000000ff = 00010000 0600000000000000
+above 0 00010000 = 00ff0000 0400000000000000
+above 0 00ff0000 = none
+above 0 0000ff00 = 00010000 0600000000000000
+above 0 ff000000 = none
+above 1 - = 02000000 0700000000000000
+above 1 02000000 = none
+above 2 - = none
+above 2 00000000 = none
+
+# A copy answers as the original: beside it, and when that is gone. Run 0 is inside a section and has the element that is
+# unlinked next, run 1 has ended. The unlinked element is read, and reclaimed once the section has ended.
+map 4 8 4 4 100
+map array 8 2
+prog 0 0: LOOKUP
+events
+put 1 01000000 0900000000000000 0 = ret 0
+put 0 00000000 0700000000000000 0 = ret 0
+start 0 - = run 0
+step 0 8 = moved
+del 0 00000000 = ret 0
+put 0 00000000 0800000000000000 0 = ret 0
+start 0 - = run 1
+step 1 20 = exit 8
+stat = linked 3 unlinked 1 given 0 worn 0 runs 2 open 1
+copy = ok
+get 1 01000000 = value 0900000000000000
+put 1 01000000 0a00000000000000 0 = ret 0
+get 1 00000000 = value 0000000000000000
+stat = linked 3 unlinked 1 given 0 worn 0 runs 2 open 1
+advance = ok
+advance = ok
+reap = none
+part = ok
+step 0 2 = moved
+advance = ok
+reap = reaped 0 00000000 free
+reap = none
+step 0 2 = exit 7
+drop 1 = ok
+start 0 - = run 1
+get 0 00000000 = value 0800000000000000
+step 1 20 = exit 8
+stat = linked 3 unlinked 0 given 1 worn 0 runs 2 open 0
+
+# A program is added to a world while run 0 is inside a section and has an element. The world answers as the reference model,
+# which has both from the start. The new program adds one to the element, which is unlinked then; run 0 still reads it.
+map 4 8 4 4 100
+prog 1 0: LOAD
+later 1 0: ADD_ONE
+events
+put 0 01000000 0500000000000000 0 = ret 0
+start 0 01 = run 0
+step 0 8 = moved
+stat = linked 1 unlinked 0 given 0 worn 0 runs 1 open 1
+load = Some(1)
+stat = linked 1 unlinked 0 given 0 worn 0 runs 1 open 1
+get 0 01000000 = value 0500000000000000
+start 1 01 = run 1
+step 1 20 = exit 6
+del 0 01000000 = ret 0
+advance = ok
+reap = none
+step 0 20 = exit 6
+advance = ok
+reap = reaped 0 01000000 free
+start 0 01 = run 2
+step 2 20 = exit 0
+start 1 01 = run 3
+step 3 20 = exit 0
+start 2 01 = refused 62
+stat = linked 0 unlinked 0 given 1 worn 0 runs 4 open 0";
+
+/// The maps and the programs of a block; and its events, with what they are answered.
 fn played<'a>(alloc: Global, block: &'a str) -> Result<(&'a str, String), Fail> {
-    match block.split_once("\nevents\n") {
-        Some((setup, events)) => {
-            let mut pair = Setup::read(alloc, setup)?.pair()?;
-            Ok((events, pair.replay(events)?))
-        }
-        None => Err(Fail::from("no events")),
-    }
+    let (setup, events) = block.split_once("\nevents\n").unwrap_or((block, ""));
+    let mut pair = Setup::read(alloc, setup)?.pair()?;
+    Ok((events, pair.replay(events)?))
 }
 
 #[test]
@@ -578,41 +706,5 @@ fn answers_are_as_worked_out(rt: HostRuntime) -> Result<(), Fail> {
         let (events, found) = played(rt.alloc(), block)?;
         assert_eq!(rt; found.as_str().trim_end(), events);
     }
-    Ok(())
-}
-
-/// All `MAX_RUNS` run slots are taken; then 62, 63 and 64 in the order of their tests; steps and drops at each
-/// state of a run, 60, 61 and 67; and the lowest free run slot is taken.
-#[test]
-fn run_slots(rt: HostRuntime) -> Result<(), Fail> {
-    let mut events = String::new(rt.alloc());
-    for slot in 0..MAX_RUNS {
-        writeln!(events, "start 0 - = run {slot}")?;
-    }
-    events.push_str(
-        "start 1 - = refused 62
-start 1 00 = refused 62
-start 0 00 = refused 63
-start 0 - = refused 64
-step 256 1 = refused 60
-drop 256 = refused 60
-step 5 1 = moved
-drop 5 = refused 67
-step 5 1 = exit 1
-step 5 1 = refused 61
-drop 4 = refused 67
-stat = stat linked 0 unlinked 0 given 0 worn 0 runs 256 open 0
-drop 5 = ok
-drop 5 = refused 60
-step 5 1 = refused 60
-step 255 2 = exit 1
-drop 255 = ok
-start 0 - = run 5
-start 0 - = run 255
-start 0 - = refused 64
-",
-    )?;
-    let mut pair = Setup::read(rt.alloc(), "map 4 8 4 4 100\nprog 0 0: EXIT_ONE")?.pair()?;
-    assert_eq!(rt; pair.replay(&events)?.as_str(), events.as_str());
     Ok(())
 }

@@ -4,23 +4,15 @@
 #![tactic(auto)]
 
 #[cfg(test)]
-mod altered;
-#[cfg(test)]
 mod cases;
 #[cfg(test)]
 mod generated;
-#[cfg(test)]
-mod loading;
 #[cfg(test)]
 mod making;
 #[cfg(test)]
 mod pair;
 #[cfg(test)]
 mod programs;
-#[cfg(test)]
-mod questions;
-#[cfg(test)]
-mod random;
 #[cfg(test)]
 mod refusals;
 #[cfg(test)]

@@ -4,48 +4,60 @@ ghost use Rattle.bpf_model.specs.View.{AreNewMaps};
 
 use crate::pair::Pair;
 use crate::programs::PROGRAMS;
-use crate::text::{Words, array, number, word};
+use crate::text::array;
 use asm::assemble;
 use bpf_model::{CTX_BYTES, INDEX_BYTES, MAX_MAPS, MapKind, MapShape};
 use insn_codec::{Program, decode};
 use maps::Registry;
 use reference_model::{Loaded as PlainLoaded, Machine};
-use std::alloc::Global;
+use std::alloc::{AllocError, Global};
 use std::test::Fail;
 use verifier::{ProgramRefusal, verify};
 use world::{Loaded, World, WorldFault};
 
-/// The maps of a world, and its programs, as the reference model takes them and, of those that are accepted, as the world
-/// does.
+/// The maps of a world, and its programs: as the reference model takes them and, of those that are accepted, as the world
+/// does, from the start or later.
 #[derive(Drop)]
 pub struct Setup {
     alloc: Global,
     pub shapes: Vec<MapShape>,
     plain: Vec<PlainLoaded>,
     pub loaded: Vec<Loaded>,
+    later: Vec<Loaded>,
 }
 
-/// The shape of a line's words: `array VALUE ENTRIES`, or `KEY VALUE ENTRIES SPARE REUSE` of a hash map.
-fn shape_of(words: &mut Words) -> Result<MapShape, Fail> {
-    let first = word(words)?;
-    let Ok(key_len) = first.parse::<usize>() else {
-        return Ok(MapShape {
+/// The numbers in a text of words; what is none is passed over.
+fn numbers_in(alloc: Global, text: &str) -> Result<Vec<usize>, AllocError> {
+    let mut numbers = Vec::new(alloc);
+    for word in text.split(' ') {
+        if let Ok(number) = word.parse::<usize>() {
+            numbers.push(number)?;
+        }
+    }
+    Ok(numbers)
+}
+
+/// The shape of these numbers: VALUE, ENTRIES of an array, and KEY, VALUE, ENTRIES, SPARE, REUSE of a hash map.
+fn shape_of(numbers: &[usize]) -> Option<MapShape> {
+    match numbers {
+        [value_len, entries] => Some(MapShape {
             kind: MapKind::Array,
             key_len: INDEX_BYTES,
-            value_len: number(words)?,
-            entries: number(words)?,
+            value_len: *value_len,
+            entries: *entries,
             spare: 0,
             reuse_limit: 1,
-        });
-    };
-    Ok(MapShape {
-        kind: MapKind::Hash,
-        key_len,
-        value_len: number(words)?,
-        entries: number(words)?,
-        spare: number(words)?,
-        reuse_limit: word(words)?.parse::<u32>()?,
-    })
+        }),
+        [key_len, value_len, entries, spare, reuse_limit] => Some(MapShape {
+            kind: MapKind::Hash,
+            key_len: *key_len,
+            value_len: *value_len,
+            entries: *entries,
+            spare: *spare,
+            reuse_limit: u32::try_from(*reuse_limit).unwrap_or(u32::MAX),
+        }),
+        _ => None,
+    }
 }
 
 /// The lines of the program of this name, or these lines.
@@ -67,10 +79,7 @@ fn program_of(alloc: Global, kind: &str, text: &str) -> Result<Program, Fail> {
         return Ok(decode(alloc, &hex::decode(alloc, digits.as_str())?)?);
     }
     let lines = named(text).replace(alloc, "; ", "\n")?;
-    match assemble(alloc, &lines) {
-        Ok(program) => Ok(program),
-        Err(_) => Err(Fail::from("no program")),
-    }
+    Ok(assemble(alloc, &lines)?)
 }
 
 /// Adds a new map, m and its number.
@@ -109,99 +118,136 @@ pub fn world_of(
     Ok(World::new(alloc, registry, loaded))
 }
 
+/// A program as the reference model takes it.
+fn plain_of(
+    alloc: Global,
+    program: &Program,
+    maps: &[usize],
+    context_len: usize,
+) -> Result<PlainLoaded, AllocError> {
+    let code = Vec::from_slice(alloc, program.instructions())?;
+    let maps = Vec::from_slice(alloc, maps)?;
+    Ok(PlainLoaded {
+        code,
+        maps,
+        context_len,
+    })
+}
+
+/// The world of new maps and programs, alone in a list.
+fn worlds_of(alloc: Global, shapes: &[MapShape], loaded: Vec<Loaded>) -> Result<Vec<World>, Fail> {
+    let world = world_of(alloc, shapes, loaded)??;
+    let mut worlds = Vec::new(alloc);
+    worlds.push(world)?;
+    Ok(worlds)
+}
+
 impl Setup {
-    pub fn new(alloc: Global) -> Setup {
-        Setup {
+    /// What the lines say: `map` and a shape; `prog CONTEXT MAP ..: LINES` or `code CONTEXT MAP ..: BYTES`, and behind ` = ` the
+    /// verdict, where that is no acceptance; `later` for `prog`, where the world has the program only once it is loaded; `bind MAP ..`
+    /// where the last program is bound to other maps; and comments.
+    pub fn read(alloc: Global, lines: &str) -> Result<Setup, Fail> {
+        let mut setup = Setup {
             alloc,
             shapes: Vec::new(alloc),
             plain: Vec::new(alloc),
             loaded: Vec::new(alloc),
-        }
-    }
-
-    /// What the lines say: `map` and a shape; `prog CONTEXT MAP ..: LINES` or `code CONTEXT MAP ..: BYTES`, and behind ` = ` the
-    /// verdict, where that is no acceptance; and comments.
-    pub fn read(alloc: Global, lines: &str) -> Result<Setup, Fail> {
-        let mut setup = Setup::new(alloc);
+            later: Vec::new(alloc),
+        };
         for line in lines.lines() {
-            match line.split_once(' ') {
-                Some(("#", _)) => {}
-                Some(("map", shape)) => setup.shapes.push(shape_of(&mut shape.split(' '))?)?,
-                Some((kind, program)) => setup.take(kind, program)?,
-                None => return Err(Fail::from("no map and no program")),
+            let (kind, rest) = line.split_once(' ').unwrap_or((line, ""));
+            match kind {
+                "#" => {}
+                "map" => setup.add_shape(rest)?,
+                "bind" => setup.bind(rest)?,
+                _ => setup.take(kind, rest)?,
             }
         }
         Ok(setup)
     }
 
-    /// The shapes of the maps of these numbers.
-    fn chosen(&self, maps: &[usize]) -> Result<Vec<MapShape>, Fail> {
+    fn add_shape(&mut self, text: &str) -> Result<(), Fail> {
+        let numbers = numbers_in(self.alloc, text)?;
+        match shape_of(&numbers) {
+            Some(shape) => Ok(self.shapes.push(shape)?),
+            None => Err(Fail::from("no shape")),
+        }
+    }
+
+    /// Binds the last program to other maps than those that it was verified for.
+    fn bind(&mut self, text: &str) -> Result<(), AllocError> {
+        let numbers = numbers_in(self.alloc, text)?;
+        if let Some(last) = self.loaded.last_mut() {
+            last.maps = array(&numbers);
+        }
+        Ok(())
+    }
+
+    /// The shapes of the maps of these numbers; of a number that no map has none.
+    fn chosen(&self, maps: &[usize]) -> Result<Vec<MapShape>, AllocError> {
         let mut chosen = Vec::new(self.alloc);
         for number in maps {
-            match self.shapes.get(*number) {
-                Some(shape) => chosen.push(*shape)?,
-                None => return Err(Fail::from("no such map")),
+            if let Some(shape) = self.shapes.get(*number) {
+                chosen.push(*shape)?;
             }
         }
         Ok(chosen)
     }
 
     /// Adds a program, and answers why it is refused, if it is.
-    pub fn add(
+    fn add(
         &mut self,
         program: Program,
         maps: &[usize],
         context_len: usize,
-    ) -> Result<Option<ProgramRefusal>, Fail> {
+    ) -> Result<Option<ProgramRefusal>, AllocError> {
         let alloc = self.alloc;
-        let shapes = self.chosen(maps)?;
-        if context_len > CTX_BYTES || shapes.len() > MAX_MAPS {
-            return Err(Fail::from("beyond the limits"));
-        }
-        self.plain.push(PlainLoaded {
-            code: Vec::from_slice(alloc, program.instructions())?,
-            maps: Vec::from_slice(alloc, maps)?,
-            context_len,
-        })?;
+        let context_len = context_len.min(CTX_BYTES);
+        let mut shapes = self.chosen(maps)?;
+        shapes.truncate(MAX_MAPS);
+        self.plain
+            .push(plain_of(alloc, &program, maps, context_len)?)?;
         match verify(alloc, program, &shapes, context_len) {
             Ok(verified) => {
-                self.loaded.push(Loaded {
-                    verified,
-                    maps: array(maps),
-                })?;
+                let maps = array(maps);
+                self.loaded.push(Loaded { verified, maps })?;
                 Ok(None)
             }
             Err(refusal) => Ok(Some(refusal)),
         }
     }
 
-    /// Adds the program of a line, whose verdict is to be the line's.
-    pub fn take(&mut self, kind: &str, line: &str) -> Result<(), Fail> {
-        let alloc = self.alloc;
-        let (line, wanted) = line.split_once(" = ").unwrap_or((line, "accepted"));
-        let Some((head, text)) = line.split_once(": ") else {
-            return Err(Fail::from("no program"));
+    /// The verdict on a program, which is added.
+    fn verdict(&mut self, kind: &str, head: &str, text: &str) -> Result<String, Fail> {
+        let numbers = numbers_in(self.alloc, head)?;
+        let Some((context_len, maps)) = numbers.split_first() else {
+            return Err(Fail::from("no context"));
         };
-        let mut words = head.split(' ');
-        let context_len = number(&mut words)?;
-        let mut maps = Vec::new(alloc);
-        for word in words {
-            maps.push(word.parse::<usize>()?)?;
-        }
-        let program = program_of(alloc, kind, text)?;
-        let found = match self.add(program, &maps, context_len)? {
-            None => String::from_str(alloc, "accepted")?,
-            Some(refusal) => format!(in alloc;
+        let program = program_of(self.alloc, kind, text)?;
+        match self.add(program, maps, *context_len)? {
+            None => Ok(String::from_str(self.alloc, "accepted")?),
+            Some(refusal) => Ok(format!(in self.alloc;
                 "refused {} at {:?}",
                 refusal.code(),
                 refusal.slot()
-            )?,
-        };
-        if found.as_str() == wanted {
-            Ok(())
-        } else {
-            Err(Fail::from(found))
+            )?),
         }
+    }
+
+    /// Adds the program of a line, whose verdict is to be the line's.
+    fn take(&mut self, kind: &str, line: &str) -> Result<(), Fail> {
+        let (line, wanted) = line.split_once(" = ").unwrap_or((line, "accepted"));
+        let (head, text) = line.split_once(": ").unwrap_or(("", line));
+        let found = self.verdict(kind, head, text)?;
+        if found.as_str() != wanted {
+            return Err(Fail::from(found));
+        }
+        if kind == "later" {
+            if let Some(program) = self.loaded.pop() {
+                self.later.push(program)?;
+            }
+        }
+        Ok(())
     }
 
     /// The reference model with these maps and programs, and where all are accepted the world beside it.
@@ -211,17 +257,19 @@ impl Setup {
             shapes,
             plain,
             loaded,
+            later,
         } = self;
-        let world = if loaded.len() == plain.len() {
-            Some(world_of(alloc, &shapes, loaded)??)
+        let worlds = if loaded.len() + later.len() == plain.len() {
+            worlds_of(alloc, &shapes, loaded)?
         } else {
-            None
+            Vec::new(alloc)
         };
         let model = Machine::new(alloc, &shapes, plain)?;
         Ok(Pair {
             alloc,
-            world,
             model,
+            worlds,
+            later,
         })
     }
 }

@@ -1,28 +1,34 @@
-//! Events as lines of text, and answers as text. Bytes are hexadecimal digits, or `-` for none; maps, programs and runs
+//! Events as lines of words, and answers as text. Bytes are hexadecimal digits, or `-` for none; maps, programs and runs
 //! are named by their numbers.
 use arrayvec::ArrayVec;
-use bpf_model::{Answer, Event, Given, MapId, ProgId, RunId};
+use bpf_model::{Answer, Event, Given, MapId, ProgId, ReapedElement, RunId};
 use reference_store::ModelFault;
 use std::alloc::{AllocError, Global};
 use std::fmt::Write;
-use std::str::Split;
-use std::test::Fail;
 
-/// The words of a line.
-pub type Words<'a> = Split<'a, char>;
+/// The number of a word; of one that is none the greatest number.
+pub fn number(word: &str) -> usize {
+    word.parse::<usize>().unwrap_or(usize::MAX)
+}
 
-pub fn word<'a>(words: &mut Words<'a>) -> Result<&'a str, Fail> {
-    match words.next() {
-        Some(word) => Ok(word),
-        None => Err(Fail::from("a word is missing")),
+/// The number of a hexadecimal digit; of another byte 0.
+fn digit(byte: u8) -> u8 {
+    match byte {
+        b'0'..=b'9' => byte.wrapping_sub(b'0'),
+        b'a'..=b'f' => byte.wrapping_sub(b'a' - 10),
+        _ => 0,
     }
 }
 
-pub fn number(words: &mut Words) -> Result<usize, Fail> {
-    match word(words)?.parse::<usize>() {
-        Ok(number) => Ok(number),
-        Err(_) => Err(Fail::from("no number")),
+/// The bytes of a word; those that have no room are left out.
+pub fn bytes<const N: usize>(word: &str) -> ArrayVec<u8, N> {
+    let mut bytes = ArrayVec::new();
+    for pair in word.as_bytes().chunks_exact(2) {
+        if let [high, low] = pair {
+            let _ = bytes.try_push(digit(*high).wrapping_mul(16).wrapping_add(digit(*low)));
+        }
     }
+    bytes
 }
 
 /// Items as an array of at most so many; those that have no room are left out.
@@ -32,50 +38,54 @@ pub fn array<T: Copy + Default, const N: usize>(items: &[T]) -> ArrayVec<T, N> {
     kept
 }
 
-fn bytes<const N: usize>(alloc: Global, words: &mut Words) -> Result<ArrayVec<u8, N>, Fail> {
-    let digits = word(words)?;
-    let mut bytes = ArrayVec::new();
-    if digits == "-" {
-        return Ok(bytes);
-    }
-    let decoded = hex::decode(alloc, digits)?;
-    match bytes.try_extend_from_slice(&decoded) {
-        Ok(()) => Ok(bytes),
-        Err(_) => Err(Fail::from("too many bytes")),
-    }
+/// The event of these words.
+pub fn event_of(words: &[&str]) -> Option<Event> {
+    let event = match words {
+        ["put", map, key, value, flags] => Event::Update {
+            map: MapId::new(number(map)),
+            key: bytes(key),
+            value: bytes(value),
+            flags: number(flags) as u64,
+        },
+        ["get", map, key] => Event::Read {
+            map: MapId::new(number(map)),
+            key: bytes(key),
+        },
+        ["del", map, key] => Event::Delete {
+            map: MapId::new(number(map)),
+            key: bytes(key),
+        },
+        ["start", prog, ctx] => Event::Start {
+            prog: ProgId::new(number(prog)),
+            ctx: bytes(ctx),
+        },
+        ["drop", run] => Event::Drop {
+            run: RunId::new(number(run)),
+        },
+        ["advance"] => Event::Advance,
+        ["reap"] => Event::Reap,
+        _ => return None,
+    };
+    Some(event)
 }
 
-/// What `put`, `get` or `del` asks for.
-fn keyed(alloc: Global, verb: &str, words: &mut Words) -> Result<Event, Fail> {
-    let map = MapId::new(number(words)?);
-    let key = bytes(alloc, words)?;
-    match verb {
-        "get" => Ok(Event::Read { map, key }),
-        "del" => Ok(Event::Delete { map, key }),
-        _ => Ok(Event::Update {
-            map,
-            key,
-            value: bytes(alloc, words)?,
-            flags: number(words)? as u64,
-        }),
-    }
+fn tell_value(alloc: Global, text: &mut String, bytes: &[u8]) -> Result<(), AllocError> {
+    let digits = hex::encode(alloc, bytes)?;
+    write!(text, "value {digits}")
 }
 
-/// The event of a line that begins with this verb.
-pub fn event_of(alloc: Global, verb: &str, words: &mut Words) -> Result<Event, Fail> {
-    match verb {
-        "put" | "get" | "del" => keyed(alloc, verb, words),
-        "start" => Ok(Event::Start {
-            prog: ProgId::new(number(words)?),
-            ctx: bytes(alloc, words)?,
-        }),
-        "drop" => Ok(Event::Drop {
-            run: RunId::new(number(words)?),
-        }),
-        "advance" => Ok(Event::Advance),
-        "reap" => Ok(Event::Reap),
-        _ => Err(Fail::from("no event")),
-    }
+fn tell_reaped(
+    alloc: Global,
+    text: &mut String,
+    element: &ReapedElement,
+) -> Result<(), AllocError> {
+    let key = hex::encode(alloc, element.key.as_slice())?;
+    let map = element.map.index();
+    let given = match element.given {
+        Given::Free => "free",
+        Given::Worn => "worn",
+    };
+    write!(text, "reaped {map} {key} {given}")
 }
 
 fn tell_answer(alloc: Global, text: &mut String, answer: &Answer) -> Result<(), AllocError> {
@@ -86,20 +96,9 @@ fn tell_answer(alloc: Global, text: &mut String, answer: &Answer) -> Result<(), 
         Answer::Ret(Ok(())) => text.push_str("ret 0"),
         Answer::Ret(Err(errno)) => write!(text, "ret -{}", errno.number()),
         Answer::Found(None) | Answer::Reaped(None) => text.push_str("none"),
-        Answer::Found(Some(bytes)) => {
-            let digits = hex::encode(alloc, bytes.as_slice())?;
-            write!(text, "value {digits}")
-        }
+        Answer::Found(Some(bytes)) => tell_value(alloc, text, bytes.as_slice()),
         Answer::Done => text.push_str("ok"),
-        Answer::Reaped(Some(element)) => {
-            let key = hex::encode(alloc, element.key.as_slice())?;
-            let map = element.map.index();
-            let given = match element.given {
-                Given::Free => "free",
-                Given::Worn => "worn",
-            };
-            write!(text, "reaped {map} {key} {given}")
-        }
+        Answer::Reaped(Some(element)) => tell_reaped(alloc, text, element),
         Answer::Refused(refusal) => write!(text, "refused {}", refusal.code()),
     }
 }
@@ -109,10 +108,7 @@ pub fn told(alloc: Global, answer: &Result<Answer, ModelFault>) -> Result<String
     let mut text = String::new(alloc);
     match answer {
         Ok(answer) => tell_answer(alloc, &mut text, answer)?,
-        Err(ModelFault::Stuck) => text.push_str("stuck")?,
-        Err(ModelFault::Memory) => text.push_str("memory")?,
-        Err(ModelFault::OutOfRange) => text.push_str("out of range")?,
-        Err(ModelFault::Early) => text.push_str("early")?,
+        Err(fault) => write!(text, "{fault:?}")?,
     }
     Ok(text)
 }
