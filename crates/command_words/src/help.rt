@@ -60,8 +60,8 @@ Example:
 /// Behind the arguments of `bpfrt asm --help`.
 pub const ASM_HELP: &str = "\
 Reads a text of instructions, one a line, as `bpfrt disasm` writes it, or with labels, names, hexadecimal numbers
-and comments (docs/ASSEMBLY.md). Above them may stand the lines of a program file, from `ctx N` to `code`. Lines may
-end by CR LF.
+and comments (docs/ASSEMBLY.md). Above them may stand the lines of a program file, from `ctx N` to `code`, with
+comments and empty lines. Lines may end by CR LF.
 
 Prints the bytes of the program; with --file a program file of these lines and its slots; with --plain the
 instructions without names. With --explain, a refusal is followed on standard error by its name and meaning, and by
@@ -163,9 +163,10 @@ Example:
 pub const TRACE_HELP: &str = "\
 Runs a program as `bpfrt run` does, with the same words, and tells each of its steps above what that prints.
 
-Prints of each step `SLOT: INSTRUCTION`, and below it, behind two spaces, what a store writes, and the registers,
-the bytes of the frame and the number of open locks that the step has changed. A number that would be an address
-has behind it what stands there: the context, the frame (from r10 on), a map, or a map slot, where an element lies.
+Prints of each step `SLOT: INSTRUCTION`, and below it, behind two spaces, what a store writes, what a call does (the
+map, the key, the value, and what it gets), and the registers, the bytes of the frame and the number of open locks
+that the step has changed. A number that would be an address has behind it what stands there: the context, the
+frame (from r10 on), a map, or a map slot, where an element lies.
 With --json, the object of `bpfrt run` has these lines as strings: {\"trace\":[LINE,..],\"accepted\":true,..}.
 
 Status, and the line on standard error: those of `bpfrt run`.

@@ -242,6 +242,41 @@ fn command_in_other_case(word: &str) -> Option<&'static str> {
     .find(|name| word.eq_ignore_ascii_case(name))
 }
 
+/// What commands are called elsewhere, and their names here.
+const OTHER_COMMANDS: [(&str, &str); 6] = [
+    ("verify", "check"),
+    ("validate", "check"),
+    ("disassemble", "disasm"),
+    ("assemble", "asm"),
+    ("exec", "run"),
+    ("execute", "run"),
+];
+
+/// The command that the word means, where `clap` finds none near it.
+fn command_meant(word: &str) -> Option<&'static str> {
+    for (other, name) in OTHER_COMMANDS {
+        if word == other {
+            return Some(name);
+        }
+    }
+    command_in_other_case(word)
+}
+
+/// The tip for a first word that is no command, where `clap` has none.
+fn tip_of_command(alloc: Global, word: &str) -> Result<Option<String>, AllocError> {
+    if let Some(name) = command_meant(word) {
+        return Ok(Some(format!(in alloc; "a similar subcommand exists: '{name}'")?));
+    }
+    let tip = if word == "version" {
+        "`bpfrt --version` prints the version"
+    } else if word.contains('.') || word.contains('/') {
+        "a command stands before FILE, as in `bpfrt check FILE`"
+    } else {
+        return Ok(None);
+    };
+    Ok(Some(String::from_str(alloc, tip)?))
+}
+
 /// What `clap` says of words of this command, with the usage of `run` and `trace`, which it leaves out of some faults.
 fn with_usage(alloc: Global, command: &str, text: String) -> Result<String, AllocError> {
     if text.contains("Usage:") || (command != "run" && command != "trace") {
@@ -272,6 +307,9 @@ fn with_tip(alloc: Global, text: String, tip: Option<&str>) -> Result<String, Al
     }
 }
 
+/// Where what `asm` and `disasm` make goes to.
+const OUTPUT_TIP: &str = "the result goes to standard output: `> FILE`";
+
 /// Options that the command has not, and what is used instead.
 const OTHER_OPTIONS: [(&str, &str); 5] = [
     (
@@ -282,9 +320,9 @@ const OTHER_OPTIONS: [(&str, &str); 5] = [
         "--asm",
         "`bpfrt asm --file` makes a program file of assembly",
     ),
-    ("-o", "the result goes to standard output: `> FILE`"),
-    ("--out", "the result goes to standard output: `> FILE`"),
-    ("--output", "the result goes to standard output: `> FILE`"),
+    ("-o", OUTPUT_TIP),
+    ("--out", OUTPUT_TIP),
+    ("--output", OUTPUT_TIP),
 ];
 
 /// What is used instead of an option that a command has not.
@@ -295,6 +333,17 @@ fn tip_of_option(word: &str) -> Option<&'static str> {
         }
     }
     None
+}
+
+/// The tip for a word too many of this command.
+fn tip_of_more(command: &str, words: &[String]) -> Option<&'static str> {
+    match command {
+        "filter" => Some(classic_file(kind_of(words))),
+        "asm" | "disasm" => Some(OUTPUT_TIP),
+        "check" => Some("one FILE is checked at a time"),
+        "run" | "trace" => Some("CTX is one word: its bytes stand without blanks"),
+        _ => None,
+    }
 }
 
 /// The first word behind a command and its options.
@@ -316,10 +365,10 @@ fn tip_of_word(alloc: Global, words: &[String], text: &str) -> Result<Option<Str
             "a script comes on standard input: `bpfrt script < {file}`"
         )?));
     }
-    let tip = if command == "filter" && !word.starts_with('-') {
-        Some(classic_file(kind_of(words)))
-    } else {
+    let tip = if word.starts_with('-') {
         tip_of_option(word)
+    } else {
+        tip_of_more(command, words)
     };
     match tip {
         Some(tip) => Ok(Some(String::from_str(alloc, tip)?)),
@@ -387,29 +436,38 @@ fn asks_for_help_of_help(words: &[String]) -> bool {
     words.get(1).map_or("", String::as_str) == "help" && (option == "--help" || option == "-h")
 }
 
-/// Why the words are no command. `clap` finds no command near a word that differs from it in every
-/// letter's case.
-fn usage(alloc: Global, error: &clap::Error, words: &[String]) -> WordsFault {
-    let first = words.get(1).map_or("", String::as_str);
-    match (error.kind(), command_in_other_case(first)) {
-        (ErrorKind::OutOfMemory, _) => WordsFault::Memory,
-        (ErrorKind::InvalidSubcommand, _) if asks_for_help_of_help(words) => {
-            usage_fault(alloc, String::from_str(alloc, HELP_OF_HELP))
-        }
-        (ErrorKind::InvalidSubcommand, Some(name)) => {
-            let text = format!(in alloc;
-                "\
-error: unrecognized subcommand '{first}'
+/// What is said of a first word that is no command, with this tip.
+fn no_command_named(alloc: Global, word: &str, tip: &str) -> Result<String, AllocError> {
+    format!(in alloc;
+        "\
+error: unrecognized subcommand '{word}'
 
-  tip: a similar subcommand exists: '{name}'
+  tip: {tip}
 
 Usage: bpfrt <COMMAND>
 
 For more information, try '--help'."
-            );
-            usage_fault(alloc, text)
+    )
+}
+
+/// What is said of a first word that is no command, by `clap` where there is no tip of ours.
+fn told_of_command(alloc: Global, error: &clap::Error, word: &str) -> Result<String, AllocError> {
+    match tip_of_command(alloc, word)? {
+        Some(tip) => no_command_named(alloc, word, tip.as_str()),
+        None => format!(in alloc; "{error}"),
+    }
+}
+
+/// Why the words are no command.
+fn usage(alloc: Global, error: &clap::Error, words: &[String]) -> WordsFault {
+    let first = words.get(1).map_or("", String::as_str);
+    match error.kind() {
+        ErrorKind::OutOfMemory => WordsFault::Memory,
+        ErrorKind::InvalidSubcommand if asks_for_help_of_help(words) => {
+            usage_fault(alloc, String::from_str(alloc, HELP_OF_HELP))
         }
-        (kind, _) => {
+        ErrorKind::InvalidSubcommand => usage_fault(alloc, told_of_command(alloc, error, first)),
+        kind => {
             let text = format!(in alloc; "{error}");
             usage_fault(
                 alloc,
