@@ -1,19 +1,24 @@
 -- What `check` writes of a program file, or of a text of instructions, and how it refuses them.
 use Rattle.std.specs.Prelude.{◌⊎◌, ℕ, Bool, true, false, List, Option}
-use Rattle.asm_source.specs.LineEnds.{with_feeds}
-use Rattle.assembled_texts.specs.Assembled.{IsAssembled, IsRefusedByAsm}
+use Rattle.assembled_texts.specs.Assembled.{IsAssembled}
 use Rattle.commands.specs.Outputs.{RefusesFile, WritesAccepted}
+use Rattle.commands.specs.Sources.{IsRead, IsRefusedText}
 
 -- The program file that the text makes is accepted.
 abbrev pub WritesAcceptedText : Bool → Option (List ℕ) → Option (List ℕ) → List ℕ → Type 0
 WritesAcceptedText json old new bytes =
-    (lines code file : List ℕ) × IsAssembled (with_feeds bytes) lines code file × WritesAccepted json old new file
+    (read : List ℕ) × IsRead bytes read
+    × ((lines code file : List ℕ) × IsAssembled read lines code file × WritesAccepted json old new file)
+
+-- The program file that the text makes is refused.
+abbrev pub RefusesMade : Bool → Option (List ℕ) → Option (List ℕ) → List ℕ → Type 0
+RefusesMade json old new bytes =
+    (read : List ℕ) × IsRead bytes read
+    × ((lines code file : List ℕ) × IsAssembled read lines code file × RefusesFile json old new file)
 
 -- The text is refused, or the program file that it makes.
 abbrev pub RefusesText : Bool → Option (List ℕ) → Option (List ℕ) → List ℕ → Type 0
-RefusesText json old new bytes =
-    IsRefusedByAsm bytes
-    ⊎ ((lines code file : List ℕ) × IsAssembled (with_feeds bytes) lines code file × RefusesFile json old new file)
+RefusesText json old new bytes = IsRefusedText bytes ⊎ RefusesMade json old new bytes
 
 -- what `check` adds to the output for a text of instructions, or else a program file, that it accepts
 abbrev pub WritesChecked : Bool → Bool → Option (List ℕ) → Option (List ℕ) → List ℕ → Type 0

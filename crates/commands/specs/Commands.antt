@@ -3,7 +3,6 @@ use Rattle.std.specs.Prelude.{◌≡◌, ℕ, List, Option, ⊤, false, true, co
 use Rattle.std.specs.Io.KnownBytes.{Appends}
 use Rattle.command_words.specs.declared.request.BpfrtCommand.{BpfrtCommand}
 use Rattle.command_words.specs.declared.request.BpfrtCommand.TheVariants.{Check, Disasm, Asm, Script, Version, Pool, Run, Trace, Filter}
-use Rattle.assembled_texts.specs.Assembled.{IsRefusedByAsm}
 use Rattle.translated_filters.specs.Filters.{IsRefusedByFilter}
 use Rattle.commands.specs.Asm.{WritesCode}
 use Rattle.commands.specs.Filters.{WritesFilter}
@@ -12,6 +11,7 @@ use Rattle.commands.specs.Outputs.{IsRefusedByDecode, WritesText}
 use Rattle.commands.specs.Pools.{IsRefusedByPool, WritesPool}
 use Rattle.commands.specs.Runs.{RefusesRun, WritesRun}
 use Rattle.commands.specs.Scripts.{AnswersAll, AnswersBefore}
+use Rattle.commands.specs.Sources.{IsRefusedText}
 
 -- What a command adds to the output where all is fine.
 abbrev pub Writes : BpfrtCommand → Option (List ℕ) → Option (List ℕ) → List ℕ → Type 0
@@ -31,7 +31,7 @@ Writes (Filter file kind explain) old new bytes = WritesFilter kind old new byte
 abbrev pub Refuses : BpfrtCommand → Option (List ℕ) → Option (List ℕ) → List ℕ → Type 0
 Refuses (Check file how) old new bytes = RefusesChecked how.asm how.json old new bytes
 Refuses (Disasm file) old new bytes = IsRefusedByDecode bytes
-Refuses (Asm file form explain) old new bytes = IsRefusedByAsm bytes
+Refuses (Asm file form explain) old new bytes = IsRefusedText bytes
 Refuses (Script explain) old new bytes = AnswersBefore old new bytes
 Refuses Version old new bytes = ⊥
 Refuses (Pool workers file count explain) old new bytes = IsRefusedByPool workers count bytes

@@ -7,3 +7,4 @@ pub mod Outputs
 pub mod Pools
 pub mod Runs
 pub mod Scripts
+pub mod Sources

@@ -1,20 +1,23 @@
 //! The command that assembles a text.
 ghost use Rattle.std.specs.Prelude.{◌≡◌, ◌≢◌, ◌⊎◌, IfSome};
-ghost use Rattle.assembled_texts.specs.Assembled.{IsRefusedByAsm};
 ghost use Rattle.commands.specs.Asm.{WritesCode, written_as};
+ghost use Rattle.commands.specs.Sources.{IsRefusedText};
 
 use crate::meanings::write_meaning_of;
 use crate::prefixes::explain_prefix;
 use crate::report::out_of_memory;
+use crate::source_text::{SourceText, source_of};
 use crate::streams::{unread_in_words, write_text, written};
 use asm::AsmFault;
-use asm_source::{SourceFault, fed_text};
+use asm_source::SourceFault;
 use assembled_texts::{Assembled, TextFault, explain_text, has_head, make_code};
+use bpf_model::CTX_BYTES;
 use command_words::AsmForm;
 use program_files::{LoadFault, MEMORY, read_text};
 use std::alloc::Global;
 use std::io;
 use std::io::{Read, Write};
+use text_likeness::write_line;
 
 /// What is written in this form.
 fn text_in(made: &Assembled, form: AsmForm) -> &[u8]
@@ -43,9 +46,9 @@ fn code_of(why: &TextFault) -> u8 {
     }
 }
 
-/// Writes why bytes are no text of a program, `refused C at L` for an instruction's line, `refused C` or `fault C at L` for a
+/// Writes why a text is none of a program, `refused C at L` for an instruction's line, `refused C` or `fault C at L` for a
 /// line of the head, or the fault where memory ran out, in words too where it is asked for, and answers the status.
-fn flawed<E: Write>(err: &mut E, why: &TextFault, in_words: bool) -> u8
+fn flawed<E: Write>(err: &mut E, source: &SourceText, why: &TextFault, in_words: bool) -> u8
     ensures status { (result ≡ 1) ⊎ (result ≡ 3) }
     ensures refused { result ≡ 1 → why.now ≢ TextFault.Memory }
 {
@@ -54,13 +57,16 @@ fn flawed<E: Write>(err: &mut E, why: &TextFault, in_words: bool) -> u8
         TextFault::Memory => return out_of_memory(err, in_words),
         TextFault::NotUtf8 { line } => writeln!(err, "refused {code} at {line}"),
         TextFault::Unnamed { lines, fault } => {
-            let line = named_line(*lines, fault);
+            let line = source.line_read(named_line(*lines, fault));
             writeln!(err, "refused {code} at {line}")
         }
-        TextFault::BadHead { line } => writeln!(err, "fault {code} at {line}"),
+        TextFault::BadHead { line } => {
+            let line = source.line_read(*line);
+            writeln!(err, "fault {code} at {line}")
+        }
         TextFault::Flawed { lines, flaw } => match flaw.line() {
             Some(line) => {
-                let line = line.saturating_add(*lines);
+                let line = source.line_read(line.saturating_add(*lines));
                 writeln!(err, "refused {code} at {line}")
             }
             None => writeln!(err, "refused {code}"),
@@ -69,25 +75,61 @@ fn flawed<E: Write>(err: &mut E, why: &TextFault, in_words: bool) -> u8
     1
 }
 
+/// What is said of a line above `code` behind how it is written.
+const ABOVE_CODE: &str =
+    "  so is each line above `code` when comments, empty lines and further blanks are left out";
+
+/// Writes what is wrong with the line of this number above `code`, which is read as the first.
+fn explain_first<E: Write>(err: &mut E, source: &SourceText, number: usize) -> io::Result<()> {
+    write_line(err, &source.fed, number, 0)?;
+    writeln!(
+        err,
+        "  the first line that is no comment is `ctx N`: the length of the context in bytes, 0 to {CTX_BYTES}"
+    )
+}
+
+/// Writes what is wrong with the line above `code` that is read as the line of this number.
+fn explain_head<E: Write>(
+    alloc: Global,
+    bytes: &[u8],
+    source: &SourceText,
+    line: usize,
+    err: &mut E,
+) -> io::Result<()> {
+    let number = source.line_read(line);
+    if line == 1 && number > 1 {
+        explain_first(err, source, number)?;
+        return explain_prefix(err, bytes, number);
+    }
+    explain_text(alloc, bytes, &TextFault::BadHead { line: number }, err)?;
+    explain_prefix(err, bytes, number)?;
+    if number == 1 && bytes.starts_with(b"bpfrt") {
+        return Ok(());
+    }
+    writeln!(err, "{ABOVE_CODE}")
+}
+
 /// Writes the name and the meaning of a fault of a text, and what is wrong.
 fn write_words<E: Write>(
     alloc: Global,
     bytes: &[u8],
+    source: &SourceText,
     why: &TextFault,
     err: &mut E,
 ) -> io::Result<()> {
     write_meaning_of(err, code_of(why))?;
-    explain_text(alloc, bytes, why, err)?;
     match why {
-        TextFault::BadHead { line } => explain_prefix(err, bytes, *line),
-        _ => Ok(()),
+        TextFault::BadHead { line } => explain_head(alloc, bytes, source, *line, err),
+        _ if source.read == source.fed => explain_text(alloc, bytes, why, err),
+        _ => explain_text(alloc, &source.read, why, err),
     }
 }
 
-/// Tells why bytes are no text of a program, in words too where it is asked for, and answers the status.
+/// Tells why bytes, of which this is read, are no text of a program, in words too where it is asked for, and answers the status.
 pub fn told<E: Write>(
     alloc: Global,
     bytes: &[u8],
+    source: &SourceText,
     why: &TextFault,
     in_words: bool,
     err: &mut E,
@@ -95,9 +137,9 @@ pub fn told<E: Write>(
     ensures status { (result ≡ 1) ⊎ (result ≡ 3) }
     ensures refused { result ≡ 1 → why.now ≢ TextFault.Memory }
 {
-    let status = flawed(err, why, in_words);
+    let status = flawed(err, source, why, in_words);
     if in_words && status == 1 {
-        let _ = write_words(alloc, bytes, why, err);
+        let _ = write_words(alloc, bytes, source, why, err);
     }
     status
 }
@@ -124,21 +166,21 @@ pub fn run_asm<R: Read, W: Write, E: Write>(
     ensures status { (result ≡ 0) ⊎ (result ≡ 1) ⊎ (result ≡ 3) }
     ensures code { result ≡ 0 → IfSome (R.remaining input.old)
         (WritesCode form (W.contents out.old) (W.contents out.new)) }
-    ensures refused { result ≡ 1 → IfSome (R.remaining input.old) IsRefusedByAsm }
+    ensures refused { result ≡ 1 → IfSome (R.remaining input.old) IsRefusedText }
     ensures silent { result ≡ 1 → out.new ≡ out.old }
 {
     let bytes = match read_text(alloc, input) {
         Ok(bytes) => bytes,
         Err(error) => return unread_in_words(err, &error, in_words),
     };
-    let Ok(text) = fed_text(alloc, &bytes) else {
+    let Ok(source) = source_of(alloc, &bytes) else {
         return out_of_memory(err, in_words);
     };
-    match make_code(alloc, &text) {
+    match make_code(alloc, &source.read) {
         Ok(made) => {
-            warn_of_head(&text, form, err);
+            warn_of_head(&source.read, form, err);
             written(err, write_text(out, text_in(&made, form)))
         }
-        Err(why) => told(alloc, &bytes, &why, in_words, err),
+        Err(why) => told(alloc, &bytes, &source, &why, in_words, err),
     }
 }

@@ -7,10 +7,10 @@ ghost use Rattle.commands.specs.Checking.{RefusesText, WritesAcceptedText, Refus
 
 use crate::asm_text::told as told_of_text;
 use crate::json::write_accepted as write_json;
-use crate::report::{Telling, out_of_memory, told_twice};
+use crate::report::{MadeOf, Telling, out_of_memory, told_twice};
+use crate::source_text::{SourceText, source_of};
 use crate::streams::{unread_in_words, written};
-use asm_source::fed_text;
-use assembled_texts::make_code;
+use assembled_texts::{Assembled, make_code};
 use command_words::Checking;
 use program_files::{Accepted, FileBytes, check, read_file, read_text};
 use std::alloc::Global;
@@ -47,7 +47,7 @@ fn check_file<W: Write, E: Write>(
     alloc: Global,
     how: &Checking,
     file: &FileBytes,
-    text: Option<&[u8]>,
+    text: Option<MadeOf<'_>>,
     out: &mut W,
     err: &mut E,
 ) -> u8
@@ -94,6 +94,33 @@ fn check_program_file<R: Read, W: Write, E: Write>(
     }
 }
 
+/// Checks the program file that was made of a text.
+fn check_made<W: Write, E: Write>(
+    alloc: Global,
+    how: &Checking,
+    source: &SourceText,
+    made: Assembled,
+    out: &mut W,
+    err: &mut E,
+) -> u8
+    ensures status { (result ≡ 0) ⊎ (result ≡ 1) ⊎ (result ≡ 3) }
+    ensures accepted { result ≡ 0 →
+        WritesAccepted how.now.json (W.contents out.old) (W.contents out.new) made.file.items }
+    ensures refused { result ≡ 1 →
+        RefusesFile how.now.json (W.contents out.old) (W.contents out.new) made.file.items }
+    ensures silent { result ≡ 1 → how.now.json ≡ false → out.new ≡ out.old }
+{
+    let Ok(lines) = source.lines_of(alloc, &made.lines) else {
+        return out_of_memory(err, how.explain);
+    };
+    let text = MadeOf {
+        text: &source.fed,
+        lines: &lines,
+    };
+    let file = FileBytes::Whole(made.file);
+    check_file(alloc, how, &file, Some(text), out, err)
+}
+
 /// Checks the program whose text the input is.
 fn check_text<R: Read, W: Write, E: Write>(
     alloc: Global,
@@ -113,19 +140,12 @@ fn check_text<R: Read, W: Write, E: Write>(
         Ok(bytes) => bytes,
         Err(error) => return unread_in_words(err, &error, how.explain),
     };
-    let Ok(text) = fed_text(alloc, &bytes) else {
+    let Ok(source) = source_of(alloc, &bytes) else {
         return out_of_memory(err, how.explain);
     };
-    match make_code(alloc, &text) {
-        Ok(made) => check_file(
-            alloc,
-            how,
-            &FileBytes::Whole(made.file),
-            Some(&text),
-            out,
-            err,
-        ),
-        Err(why) => told_of_text(alloc, &bytes, &why, how.explain, err),
+    match make_code(alloc, &source.read) {
+        Ok(made) => check_made(alloc, how, &source, made, out, err),
+        Err(why) => told_of_text(alloc, &bytes, &source, &why, how.explain, err),
     }
 }
 

@@ -15,6 +15,7 @@ mod report;
 mod run_words;
 mod script;
 mod single;
+mod source_text;
 mod streams;
 mod trace;
 

@@ -11,7 +11,7 @@ use crate::prefixes::explain_prefix;
 use crate::streams::unwritten;
 use assembled_texts::write_source_line;
 use command_words::WordsFault;
-use explanations::explain;
+use explanations::explain_with_lines;
 use job_queue::PoolFault;
 use program_files::{FileBytes, MEMORY, Verdict};
 use std::alloc::Global;
@@ -20,6 +20,13 @@ use std::io::Write;
 
 /// The number of an element that its map has no place for.
 pub const NO_PLACE: u8 = 98;
+
+/// The text that a program file was made of, and for each instruction the number of its line there.
+#[derive(Clone, Copy)]
+pub struct MadeOf<'a> {
+    pub text: &'a [u8],
+    pub lines: &'a [usize],
+}
 
 /// How a verdict is told: in words too, and as a JSON object.
 #[derive(Clone, Copy)]
@@ -97,10 +104,15 @@ pub fn told<E: Write>(
 fn write_words<E: Write>(
     alloc: Global,
     file: &FileBytes,
+    text: Option<MadeOf<'_>>,
     verdict: &Verdict,
     err: &mut E,
 ) -> io::Result<()> {
-    explain(alloc, file, verdict, err)?;
+    let lines = match text {
+        Some(text) => text.lines,
+        None => &[],
+    };
+    explain_with_lines(alloc, file, lines, verdict, err)?;
     match (verdict.line, file) {
         (Some(line), FileBytes::Whole(bytes)) => explain_prefix(err, bytes, line),
         _ => Ok(()),
@@ -111,7 +123,7 @@ fn write_words<E: Write>(
 pub fn told_at<E: Write>(
     alloc: Global,
     file: &FileBytes,
-    text: Option<&[u8]>,
+    text: Option<MadeOf<'_>>,
     verdict: Verdict,
     in_words: bool,
     err: &mut E,
@@ -125,10 +137,10 @@ pub fn told_at<E: Write>(
     }
     let status = refused(err, verdict);
     if let (Some(text), Some(slot)) = (text, verdict.slot) {
-        let _ = write_source_line(alloc, text, slot, err);
+        let _ = write_source_line(alloc, text.text, slot, err);
     }
     if in_words && status == 1 {
-        let _ = write_words(alloc, file, &verdict, err);
+        let _ = write_words(alloc, file, text, &verdict, err);
     }
     status
 }
@@ -137,7 +149,7 @@ pub fn told_at<E: Write>(
 pub fn told_twice<W: Write, E: Write>(
     alloc: Global,
     file: &FileBytes,
-    text: Option<&[u8]>,
+    text: Option<MadeOf<'_>>,
     verdict: Verdict,
     form: Telling,
     out: &mut W,

@@ -4,7 +4,7 @@ ghost use Rattle.bpf_model.specs.declared.limits.TheConstants.{CTX_BYTES};
 
 use crate::causes::{write_cause, write_known_cause};
 use crate::depths::write_depths;
-use crate::lost::write_unreadable;
+use crate::lost::{Told, write_unreadable};
 use crate::meaning::{Meaning, meaning_of, unpaired};
 use crate::missing::{Place, write_bytes_read};
 use crate::numbers::{UNPAIRED_SECTION, UNWRITTEN_REGISTER, WIDE_TAIL};
@@ -44,7 +44,7 @@ fn write_register<W: Write>(
     write_filled(out, "  r{}: ", &[Filling::Count(number)])?;
     match kind {
         RegKind::Unwritten | RegKind::Ended | RegKind::Mixed => {
-            write_unreadable(alloc, place.source, place.index, number, kind, out)
+            write_unreadable(alloc, place.told(), place.index, number, kind, out)
         }
         _ => {
             write_kind(out, place.source, &kind)?;
@@ -97,13 +97,14 @@ fn write_at<W: Write>(out: &mut W, slot: usize, text: &str) -> io::Result<()> {
 /// Writes the text of the instruction at which a program is refused by this number, and what was known there.
 fn write_instruction<W: Write>(
     alloc: Global,
-    source: &Source,
+    told: Told<'_>,
     code: u8,
     slot: usize,
     out: &mut W,
 ) -> io::Result<()>
-    requires { source.now.ctx_len ≤ CTX_BYTES }
+    requires { told.source.now.ctx_len ≤ CTX_BYTES }
 {
+    let source = told.source;
     let Some(index) = index_at(source, slot) else {
         return Ok(());
     };
@@ -119,6 +120,7 @@ fn write_instruction<W: Write>(
     if let Some(state) = known_where_refused(alloc, source)? {
         let place = Place {
             source,
+            lines: told.lines,
             state: &state,
             index,
         };
@@ -237,17 +239,17 @@ fn meaning_at(
 /// Writes what a refusal of the instruction at a slot means, and why it is refused.
 fn write_refused<W: Write>(
     alloc: Global,
-    source: &Source,
+    told: Told<'_>,
     code: u8,
     slot: usize,
     out: &mut W,
 ) -> io::Result<()>
-    requires { source.now.ctx_len ≤ CTX_BYTES }
+    requires { told.source.now.ctx_len ≤ CTX_BYTES }
 {
-    if let Some(meaning) = meaning_at(alloc, source, code, slot)? {
+    if let Some(meaning) = meaning_at(alloc, told.source, code, slot)? {
         write_meaning(out, meaning)?;
     }
-    write_instruction(alloc, source, code, slot, out)
+    write_instruction(alloc, told, code, slot, out)
 }
 
 /// Writes what a verdict on a program file means: a line with its name and its meaning; and where it is of an
@@ -263,8 +265,26 @@ pub fn explain<W: Write>(
     verdict: &Verdict,
     out: &mut W,
 ) -> io::Result<()> {
+    explain_with_lines(alloc, file, &[], verdict, out)
+}
+
+/// Writes as `explain` does, and with the slot of another instruction the line where it stands in the text that the file was made
+/// of: those of all instructions are given.
+///
+/// An error says that nothing more could be written, or that memory ran out.
+pub fn explain_with_lines<W: Write>(
+    alloc: Global,
+    file: &FileBytes,
+    lines: &[usize],
+    verdict: &Verdict,
+    out: &mut W,
+) -> io::Result<()> {
     if let (Some(slot), Ok(source)) = (verdict.slot, file.source(alloc)) {
-        return write_refused(alloc, &source, verdict.code, slot, out);
+        let told = Told {
+            source: &source,
+            lines,
+        };
+        return write_refused(alloc, told, verdict.code, slot, out);
     }
     if let Some(meaning) = meaning_of(verdict.code) {
         write_meaning(out, meaning)?;

@@ -17,5 +17,5 @@ mod slot_lines;
 mod ways;
 
 pub use causes::FUNCTIONS;
-pub use explanation::{explain, slot_shown, write_meaning};
+pub use explanation::{explain, explain_with_lines, slot_shown, write_meaning};
 pub use meaning::{Meaning, meaning_of};

@@ -53,29 +53,50 @@ fn meeting(edges: &[Edge]) -> Option<(Edge, Edge)> {
     None
 }
 
+/// A program, and for each of its instructions the line of a text where it stands, where it was made of one.
+#[derive(Clone, Copy)]
+pub struct Told<'a> {
+    pub source: &'a Source,
+    pub lines: &'a [usize],
+}
+
 /// The slot at which the instruction of an index begins.
 fn slot_of(source: &Source, index: usize) -> usize {
     source.program.starts().get(index).copied().unwrap_or(0)
 }
 
+/// Writes the slot at which the instruction of an index begins, and the line of the text where it stands.
+fn write_slot<W: Write>(out: &mut W, told: Told<'_>, index: usize) -> io::Result<()> {
+    let slot = slot_of(told.source, index);
+    match told.lines.get(index) {
+        Some(line) => write_filled(
+            out,
+            "{} (line {})",
+            &[Filling::Count(slot), Filling::Count(*line)],
+        ),
+        None => write_filled(out, "{}", &[Filling::Count(slot)]),
+    }
+}
+
 /// Writes what is known on an edge, and from where it leads.
-fn write_edge<W: Write>(out: &mut W, source: &Source, edge: Edge) -> io::Result<()> {
-    let slot = slot_of(source, edge.from);
-    write_filled(out, "    from {}: ", &[Filling::Count(slot)])?;
+fn write_edge<W: Write>(out: &mut W, told: Told<'_>, edge: Edge) -> io::Result<()> {
+    write_text(out, "    from ")?;
+    write_slot(out, told, edge.from)?;
+    write_text(out, ": ")?;
     match edge.kind {
         RegKind::Unwritten => write_text(out, "not written")?,
         RegKind::Ended => write_text(out, "a reference to an element, whose section has ended")?,
-        kind => write_kind(out, source, &kind)?,
+        kind => write_kind(out, told.source, &kind)?,
     }
     write_text(out, "\n")
 }
 
 /// Writes what is known on two ways that meet, where different things are.
-fn write_meeting<W: Write>(out: &mut W, source: &Source, ways: &Ways) -> io::Result<()> {
+fn write_meeting<W: Write>(out: &mut W, told: Told<'_>, ways: &Ways) -> io::Result<()> {
     match meeting(&ways.edges) {
         Some((first, second)) => {
-            write_edge(out, source, first)?;
-            write_edge(out, source, second)
+            write_edge(out, told, first)?;
+            write_edge(out, told, second)
         }
         None => Ok(()),
     }
@@ -84,26 +105,22 @@ fn write_meeting<W: Write>(out: &mut W, source: &Source, ways: &Ways) -> io::Res
 /// Writes the text of the instruction of an index, and its slot.
 fn write_place<W: Write>(
     alloc: Global,
-    source: &Source,
+    told: Told<'_>,
     index: usize,
     out: &mut W,
 ) -> io::Result<()> {
-    let Some(insn) = source.program.instructions().get(index) else {
+    let Some(insn) = told.source.program.instructions().get(index) else {
         return Ok(());
     };
     let text = line_of(alloc, insn)?;
-    let slot = slot_of(source, index);
-    write_filled(
-        out,
-        "`{}` at {}",
-        &[Filling::Text(text.as_str()), Filling::Count(slot)],
-    )
+    write_filled(out, "`{}` at ", &[Filling::Text(text.as_str())])?;
+    write_slot(out, told, index)
 }
 
 /// Writes the instructions of these indexes and their slots, as one or the other.
 fn write_places<W: Write>(
     alloc: Global,
-    source: &Source,
+    told: Told<'_>,
     indexes: &[usize],
     out: &mut W,
 ) -> io::Result<()> {
@@ -111,7 +128,7 @@ fn write_places<W: Write>(
         if number > 0 {
             write_text(out, " or ")?;
         }
-        write_place(alloc, source, *index, out)?;
+        write_place(alloc, told, *index, out)?;
     }
     if indexes.len() > MOST_NAMED {
         write_text(out, " or another one")?;
@@ -132,7 +149,7 @@ fn is_some_other(edges: &[Edge], bad: RegKind) -> bool {
 /// Writes what became of something, and at which instructions.
 fn write_loss<W: Write>(
     alloc: Global,
-    source: &Source,
+    told: Told<'_>,
     ways: &Ways,
     bad: RegKind,
     how: &str,
@@ -143,7 +160,7 @@ fn write_loss<W: Write>(
         write_text(out, "on some path ")?;
     }
     write_text(out, how)?;
-    write_places(alloc, source, &ways.lost, out)?;
+    write_places(alloc, told, &ways.lost, out)?;
     if ways.is_from_entry {
         return write_text(out, ", on some not written");
     }
@@ -156,14 +173,14 @@ fn write_loss<W: Write>(
 /// Writes why something of this kind cannot be read.
 fn write_why<W: Write>(
     alloc: Global,
-    source: &Source,
+    told: Told<'_>,
     ways: &Ways,
     bad: RegKind,
     out: &mut W,
 ) -> io::Result<()> {
     match bad {
         RegKind::Unwritten if !ways.lost.is_empty() => {
-            write_loss(alloc, source, ways, bad, "cleared by ", out)
+            write_loss(alloc, told, ways, bad, "cleared by ", out)
         }
         RegKind::Unwritten if is_some_other(&ways.edges, bad) => {
             write_text(out, "not written on every path")
@@ -171,9 +188,9 @@ fn write_why<W: Write>(
         RegKind::Unwritten => write_text(out, "written on no path"),
         RegKind::Ended if !ways.lost.is_empty() => {
             let how = "a reference to an element, ended by ";
-            write_loss(alloc, source, ways, bad, how, out)
+            write_loss(alloc, told, ways, bad, how, out)
         }
-        kind => write_kind(out, source, &kind),
+        kind => write_kind(out, told.source, &kind),
     }
 }
 
@@ -183,20 +200,20 @@ fn write_why<W: Write>(
 /// An error says that nothing more could be written, or that memory ran out.
 pub fn write_unreadable<W: Write>(
     alloc: Global,
-    source: &Source,
+    told: Told<'_>,
     index: usize,
     register: usize,
     bad: RegKind,
     out: &mut W,
 ) -> io::Result<bool> {
-    let Some(ways) = ways_to(alloc, source, index, Watched::Register(register), bad)? else {
-        write_kind(out, source, &bad)?;
+    let Some(ways) = ways_to(alloc, told.source, index, Watched::Register(register), bad)? else {
+        write_kind(out, told.source, &bad)?;
         write_text(out, "\n")?;
         return Ok(false);
     };
-    write_why(alloc, source, &ways, bad, out)?;
+    write_why(alloc, told, &ways, bad, out)?;
     write_text(out, "\n")?;
-    write_meeting(out, source, &ways)?;
+    write_meeting(out, told, &ways)?;
     Ok(bad == RegKind::Unwritten && !ways.lost.is_empty())
 }
 
@@ -206,19 +223,19 @@ pub fn write_unreadable<W: Write>(
 /// An error says that nothing more could be written, or that memory ran out.
 pub fn write_lost_byte<W: Write>(
     alloc: Global,
-    source: &Source,
+    told: Told<'_>,
     index: usize,
     at: usize,
     bad: RegKind,
     out: &mut W,
 ) -> io::Result<()> {
-    let Some(ways) = ways_to(alloc, source, index, Watched::Byte(at), bad)? else {
+    let Some(ways) = ways_to(alloc, told.source, index, Watched::Byte(at), bad)? else {
         return Ok(());
     };
     if bad == RegKind::Ended && !ways.lost.is_empty() {
         write_text(out, "  its section was ended by ")?;
-        write_places(alloc, source, &ways.lost, out)?;
+        write_places(alloc, told, &ways.lost, out)?;
         write_text(out, "\n")?;
     }
-    write_meeting(out, source, &ways)
+    write_meeting(out, told, &ways)
 }

@@ -2,7 +2,7 @@
 
 use crate::access::loaded;
 use crate::causes::{helper_of, is_outside, shape_of_call};
-use crate::lost::write_lost_byte;
+use crate::lost::{Told, write_lost_byte};
 use crate::numbers::{MIXED_REGIONS, OUTSIDE_SECTION, POINTER_LEAK, UNWRITTEN_FRAME};
 use bpf_model::{ArgumentKind, FRAME_BYTES, Helper, Insn, Reg};
 use program_files::Source;
@@ -13,10 +13,11 @@ use std::io::Write;
 use text_likeness::{Filling, write_filled};
 use verifier_log::write_group;
 
-/// Where a program is refused: the index of the instruction, and what is known before it.
+/// Where a program is refused: the index of the instruction, what is known before it, and the lines of the text that it was made of.
 #[derive(Clone, Copy)]
 pub struct Place<'a> {
     pub source: &'a Source,
+    pub lines: &'a [usize],
     pub state: &'a AbsState,
     pub index: usize,
 }
@@ -27,6 +28,16 @@ struct FramePart {
     what: &'static str,
     first: usize,
     length: usize,
+}
+
+impl<'a> Place<'a> {
+    /// The program, and the lines of its text.
+    pub fn told(&self) -> Told<'a> {
+        Told {
+            source: self.source,
+            lines: self.lines,
+        }
+    }
 }
 
 /// The bytes at a reference and an offset from it, where that leads to the frame.
@@ -133,7 +144,7 @@ fn write_lost<W: Write>(
     code: u8,
 ) -> io::Result<()> {
     match unreadable_kind(code) {
-        Some(bad) => write_lost_byte(alloc, place.source, place.index, at, bad, out),
+        Some(bad) => write_lost_byte(alloc, place.told(), place.index, at, bad, out),
         None => Ok(()),
     }
 }
