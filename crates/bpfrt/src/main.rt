@@ -16,7 +16,7 @@ use commands::{
 use std::alloc::Global;
 use std::cell::RefCell;
 use std::fs::File;
-use std::io::{BufWriter, Error, ErrorKind, IsTerminal, LineWriter, Read, Stderr, Stdout, Write};
+use std::io::{Error, ErrorKind, IsTerminal, Read, Write};
 use std::process::ExitCode;
 use std::sync::Wait;
 use std::thread::Threads;
@@ -130,16 +130,16 @@ fn run_explained<H: Threads + Wait + Sync>(
 
 /// Runs the command on what is opened of the file of this name, and says why that cannot be read. The handle for threads and
 /// for waiting is the runtime again.
-fn run_on<H: Threads + Wait + Sync, R: Read + Drop, W: Write, E: Write>(
+fn run_on<H: Threads + Wait + Sync, R: Read + Drop, W: Write>(
     rt: &HostRuntime,
     threads: &H,
     command: &BpfrtCommand,
     name: &str,
     input: &mut Input<R>,
     out: &mut W,
-    err: &mut E,
 ) -> u8 {
-    let status = run(threads, rt.alloc(), command, input, out, err);
+    let mut err = rt.stderr();
+    let status = run(threads, rt.alloc(), command, input, out, &mut err);
     if let Some(reason) = input.fault().and_then(reason_of_reading) {
         let _ = writeln!(err, "{name:?}: {reason}");
     }
@@ -148,25 +148,28 @@ fn run_on<H: Threads + Wait + Sync, R: Read + Drop, W: Write, E: Write>(
 
 /// Runs the command on the file that it names, or on standard input. The handle for threads and for
 /// waiting is the runtime again.
-fn run_into<H: Threads + Wait + Sync, W: Write, E: Write>(
+fn run_into<H: Threads + Wait + Sync, W: Write>(
     rt: &HostRuntime,
     threads: &H,
     command: &BpfrtCommand,
     out: &mut W,
-    err: &mut E,
 ) -> u8 {
+    let mut err = rt.stderr();
+    if let BpfrtCommand::Script { explain: true } = command {
+        return run_explained(rt, threads, command);
+    }
     match command.file() {
-        None => run(threads, rt.alloc(), command, &mut rt.stdin(), out, err),
+        None => run(threads, rt.alloc(), command, &mut rt.stdin(), out, &mut err),
         Some(InputFile::StandardInput) => {
             let mut input = Input::new(rt.stdin(), u64::MAX, reads_text(command));
-            run_on(rt, threads, command, "-", &mut input, out, err)
+            run_on(rt, threads, command, "-", &mut input, out)
         }
         Some(InputFile::Path(path)) => match opened(rt, command, path.as_str()) {
             Ok((file, most)) => {
                 let mut input = Input::new(file, most, reads_text(command));
-                run_on(rt, threads, command, path.as_str(), &mut input, out, err)
+                run_on(rt, threads, command, path.as_str(), &mut input, out)
             }
-            Err(error) => unopened(err, command, path.as_str(), &error),
+            Err(error) => unopened(&mut err, command, path.as_str(), &error),
         },
     }
 }
@@ -180,59 +183,17 @@ fn jobs_told(rt: &HostRuntime, command: &BpfrtCommand) -> Option<u64> {
     }
 }
 
-/// Answers a script, each answer as soon as it is due.
-fn run_script<H: Threads + Wait + Sync>(
-    rt: &HostRuntime,
-    threads: &H,
-    command: &BpfrtCommand,
-    explain: bool,
-) -> u8 {
-    if explain {
-        return run_explained(rt, threads, command);
-    }
-    run_into(rt, threads, command, &mut rt.stdout(), &mut rt.stderr())
-}
-
-/// The longest line of standard error that is written by one call.
-const WHOLE_LINE: usize = 8192;
-
-/// Standard error, where each line is written by one call: lines of programs that share it stay whole.
-fn lines_of_errors(rt: &HostRuntime) -> Result<LineWriter<Stderr>, WordsFault> {
-    match LineWriter::with_capacity(rt.alloc(), WHOLE_LINE, rt.stderr()) {
-        Ok(err) => Ok(err),
-        Err(_) => Err(WordsFault::Memory),
-    }
-}
-
-/// Standard output, where what is written is kept until a flush, so that its lines stay whole too.
-fn pieces_of_output(rt: &HostRuntime) -> Result<BufWriter<Stdout>, WordsFault> {
-    match BufWriter::new(rt.alloc(), rt.stdout()) {
-        Ok(out) => Ok(out),
-        Err(_) => Err(WordsFault::Memory),
-    }
-}
-
-/// Runs a command that is no script into standard output.
-fn run_whole<H: Threads + Wait + Sync>(
-    rt: &HostRuntime,
-    threads: &H,
-    command: &BpfrtCommand,
-) -> Result<u8, WordsFault> {
-    let mut err = lines_of_errors(rt)?;
-    let status = match jobs_told(rt, command) {
-        None => {
-            let mut out = pieces_of_output(rt)?;
-            run_into(rt, threads, command, &mut out, &mut err)
-        }
+/// Runs the command into standard output.
+fn run_told<H: Threads + Wait + Sync>(rt: &HostRuntime, threads: &H, command: &BpfrtCommand) -> u8 {
+    match jobs_told(rt, command) {
+        None => run_into(rt, threads, command, &mut rt.stdout()),
         Some(jobs) => {
             let mut progress = Progress::new(rt.stdout(), rt.stderr(), jobs);
-            let status = run_into(rt, threads, command, &mut progress, &mut err);
+            let status = run_into(rt, threads, command, &mut progress);
             progress.end(status);
             status
         }
-    };
-    let _ = err.flush();
-    Ok(status)
+    }
 }
 
 /// The words of the command line, the program's own name first. A word that is not text is no usage
@@ -255,28 +216,13 @@ fn status_of<H: Threads + Wait + Sync>(rt: &HostRuntime, threads: &H) -> Result<
     let alloc = rt.alloc();
     let words = words_of(rt, alloc)?;
     let command = parse_words(alloc, &words)?;
-    match &command {
-        BpfrtCommand::Script { explain } => Ok(run_script(rt, threads, &command, *explain)),
-        command => run_whole(rt, threads, command),
-    }
-}
-
-/// Says why the words are no command, and answers the status.
-fn told_usage(rt: &HostRuntime, usage: &WordsFault) -> u8 {
-    match lines_of_errors(rt) {
-        Ok(mut err) => {
-            let status = no_command(&mut err, usage);
-            let _ = err.flush();
-            status
-        }
-        Err(_) => no_command(&mut rt.stderr(), usage),
-    }
+    Ok(run_told(rt, threads, &command))
 }
 
 fn main(rt: HostRuntime) -> ExitCode {
     let status = match status_of(&rt, &rt) {
         Ok(status) => status,
-        Err(usage) => told_usage(&rt, &usage),
+        Err(usage) => no_command(&mut rt.stderr(), &usage),
     };
     ExitCode::from(status)
 }
