@@ -1,5 +1,6 @@
 //! The command that assembles a text.
 ghost use Rattle.std.specs.Prelude.{◌≡◌, ◌≢◌, ◌⊎◌, IfSome};
+ghost use Rattle.std.specs.Io.KnownBytes.{Appends};
 ghost use Rattle.commands.specs.Asm.{WritesCode, written_as};
 ghost use Rattle.commands.specs.Sources.{IsRefusedText};
 
@@ -154,6 +155,15 @@ fn warn_of_head<E: Write>(bytes: &[u8], form: AsmForm, err: &mut E) {
     }
 }
 
+/// Writes what is asked for of what was made of a text, and answers the status.
+fn write_made<W: Write, E: Write>(form: AsmForm, made: &Assembled, out: &mut W, err: &mut E) -> u8
+    ensures status { (result ≡ 0) ⊎ (result ≡ 3) }
+    ensures written { result ≡ 0 → Appends (W.contents out.old) (W.contents out.new)
+        (written_as form made.now.lines.items made.now.code.items made.now.file.items) }
+{
+    written(err, write_text(out, text_in(made, form)))
+}
+
 /// Writes the bytes of the program whose text the input is, or what else is asked for.
 pub fn run_asm<R: Read, W: Write, E: Write>(
     alloc: Global,
@@ -179,7 +189,7 @@ pub fn run_asm<R: Read, W: Write, E: Write>(
     match make_code(alloc, &source.read) {
         Ok(made) => {
             warn_of_head(&source.read, form, err);
-            written(err, write_text(out, text_in(&made, form)))
+            write_made(form, &made, out, err)
         }
         Err(why) => told(alloc, &bytes, &source, &why, in_words, err),
     }
