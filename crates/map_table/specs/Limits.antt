@@ -3,7 +3,7 @@ use Rattle.std.specs.Prelude.{ℕ, ◌^◌}
 
 -- the most readers of a table
 abbrev pub most_readers : ℕ
-most_readers = 8
+most_readers = 64
 
 -- the most elements of a table
 abbrev pub most_elements : ℕ

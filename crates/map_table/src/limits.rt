@@ -1,7 +1,7 @@
 //! How large a table may be.
 
 /// The most readers of a table.
-pub const MAX_READERS: usize = 8;
+pub const MAX_READERS: usize = 64;
 
 /// The most elements of a table.
 pub const MAX_ELEMENTS: usize = 1 << 24;
