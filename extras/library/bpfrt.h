@@ -116,7 +116,7 @@ struct bpfrt_packet {
    store to the same: so counters lose nothing. An update sets all of them, and a lookup gives their sums. */
 enum bpfrt_table_values { BPFRT_TABLE_SHARED = 0, BPFRT_TABLE_PER_READER = 1 };
 
-/* A table has at most 8 readers, 16777216 buckets, 16777216 elements, and 8 words, of 8 bytes, in a key and in a value. Programs run
+/* A table has at most 64 readers, 16777216 buckets, 16777216 elements, and 8 words, of 8 bytes, in a key and in a value. Programs run
    over one that has at most 131072 elements. A key has its place in one of two buckets, of 8 places each, which `first` and `second`
    choose: numbers that the host draws at random, and tells nobody, or keys could be chosen that fall together. */
 struct bpfrt_table_shape {
