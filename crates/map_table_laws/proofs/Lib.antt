@@ -5,4 +5,5 @@ pub mod Owning
 mod Small
 pub mod Standing
 pub mod Steps
+mod Whole
 pub mod Writing

@@ -4,3 +4,4 @@ pub mod Layout
 pub mod Lookups
 pub mod Scanned
 pub mod Small
+pub mod Whole

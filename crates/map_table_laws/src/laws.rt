@@ -7,6 +7,7 @@ ghost use Rattle.map_table_laws.specs.History.{moves_of, with_writer, word_in, w
 ghost use Rattle.map_table_laws.specs.Lookups.{OnlySearches, AnswersLookup};
 ghost use Rattle.map_table_laws.specs.Found.{IsLinkedUnder, IsLinkedAs, Sometime, Throughout, StaysFound, StaysInside, OnlyReplaces};
 ghost use Rattle.map_table_laws.specs.Scanned.{OnlyScans, AllOutside};
+ghost use Rattle.map_table_laws.specs.Whole.{OnlyWriterStores};
 
 /// In every lawful history a way names only an element that there is and whose key may be linked in that way's bucket, with the key's tag.
 pub fn ways_name_keys_of_their_bucket()
@@ -37,6 +38,15 @@ pub fn held_elements_stay()
         (who element : ℕ) → StaysInside (moves_of who late) → Holds element (moves_of who early) →
         (generation element (moves_of 0 (late ++ early)) ≡ generation element (moves_of 0 early))
         × (key_of k element (late ++ early) ≡ key_of k element early) }
+{}
+
+/// In every lawful history a reader sees a value as a whole: if no reader stores in an element that it holds, all words
+/// of it stay while the section is open. So what it loads there is of one `link` or `replace`.
+pub fn held_values_stay()
+    ensures { (k : Layout) (late early : List (ℕ × Move)) → IsLawful k (late ++ early) →
+        (who element : ℕ) → StaysInside (moves_of who late) → Holds element (moves_of who early) →
+        OnlyWriterStores element late → (place : ℕ) →
+        word_at element place (late ++ early) ≡ word_at element place early }
 {}
 
 /// In every lawful history a load finds the word that was stored at the place last, by whomever, and 0 where none was.
