@@ -1,6 +1,6 @@
 //! Writes the program file of a classic program.
 ghost use Rattle.std.specs.Prelude.{◌≡◌, ◌≢◌, ◌⊎◌, IfSome};
-ghost use Rattle.translated_filters.specs.Filters.{IsRefusedByFilter};
+ghost use Rattle.program_texts.specs.Filters.{IsRefusedByFilter};
 ghost use Rattle.commands.specs.Filters.{WritesFilter};
 
 use crate::meanings::write_meaning_of;
@@ -8,10 +8,10 @@ use crate::report::out_of_memory;
 use crate::streams::{unread_in_words, write_text, written};
 use classic::{Data, ReadFault};
 use program_files::{MEMORY, read_text};
+use program_texts::{FilterFault, explain_filter, make_file};
 use std::alloc::Global;
 use std::io;
 use std::io::{Read, Write};
-use translated_filters::{FilterFault, explain_filter, make_file};
 
 /// The number of a fault of a classic program.
 fn code_of(why: &FilterFault) -> u8 {

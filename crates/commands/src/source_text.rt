@@ -1,9 +1,9 @@
 //! What is read of a text of instructions: its lines above `code` without comments.
-ghost use Rattle.std.specs.Prelude.{◌≡◌, ℕ, List, IfOk, option_copied};
-ghost use Rattle.assembled_texts.specs.Assembled.{IsSplit};
+ghost use Rattle.std.specs.Prelude.{◌≡◌, ℕ, List, IfOk};
 ghost use Rattle.commands.specs.Sources.{IsRead, IsReadByParts};
 
 use asm_source::{Tokens, fed_text, head_text};
+use program_texts::parts_of;
 use std::alloc::{AllocError, Global};
 use std::str;
 
@@ -14,27 +14,17 @@ pub struct SourceText {
     pub read: Vec<u8>,
 }
 
-/// The lines above the line `code` of a text, if it has that line, and what stands below.
-fn parts_of(text: &str) -> (Option<&str>, &str)
-    ensures { IsSplit text.now (option_copied result.0) result.1.now }
-{
-    match text.split_once("\ncode\n") {
-        Some((head, body)) => (Some(head), body),
-        None => (None, text),
-    }
-}
-
 /// What is read of a text.
 fn read_by_parts(alloc: Global, text: &str) -> Result<Vec<u8>, AllocError>
     ensures { IfOk result (λ read. IsReadByParts text.now read.items) }
 {
-    let (head, body) = parts_of(text);
-    let Some(head) = head else {
-        return Vec::from_slice(alloc, body.as_bytes());
+    let parts = parts_of(text);
+    let Some(head) = parts.head else {
+        return Vec::from_slice(alloc, parts.body.as_bytes());
     };
     let mut read = head_text(alloc, head.as_bytes())?;
     read.extend_from_slice(b"code\n")?;
-    read.extend_from_slice(body.as_bytes())?;
+    read.extend_from_slice(parts.body.as_bytes())?;
     Ok(read)
 }
 
@@ -69,7 +59,7 @@ impl SourceText {
     /// The lines above the line `code`, if there is one.
     fn head(&self) -> Option<&str> {
         match str::from_utf8(&self.fed) {
-            Ok(text) => parts_of(text).0,
+            Ok(text) => parts_of(text).head,
             Err(_) => None,
         }
     }

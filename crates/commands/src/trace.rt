@@ -12,10 +12,10 @@ use bpf_model::{Event, ProgId, array_of};
 use command_words::SingleRun;
 use insn_codec::Program;
 use program_files::{FileBytes, MEMORY, Verdict, read_file, verify_for_maps};
+use run_once::write_steps;
 use std::alloc::{AllocError, Global};
 use std::io;
 use std::io::{Read, Write};
-use traces::write_steps;
 use world::{Loaded, World};
 
 /// A world with the maps and the elements of a run, in which the run has been started, and the run's program.

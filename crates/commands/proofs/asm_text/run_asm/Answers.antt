@@ -1,6 +1,6 @@
 use Rattle.std.proofs.Common.{◌∙◌, subst}
 use Rattle.std.proofs.lemmas.Option.{IfSome_then}
-use Rattle.assembled_texts.specs.Assembled.{IsAssembled, IsTextFault}
+use Rattle.program_texts.specs.Assembled.{IsAssembled, IsTextFault}
 use Rattle.commands.specs.Sources.{IsRead}
 use Rattle.commands.proofs.asm_text.run_asm.Goals as goal
 
