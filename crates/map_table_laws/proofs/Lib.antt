@@ -1,6 +1,7 @@
 pub mod Hits
 pub mod Holding
 pub mod Moments
+mod Once
 pub mod Owning
 mod Small
 pub mod Standing

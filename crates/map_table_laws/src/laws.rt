@@ -6,6 +6,7 @@ ghost use Rattle.map_table_laws.specs.Layout.{Layout, IsCandidate, IsApart, Name
 ghost use Rattle.map_table_laws.specs.History.{moves_of, with_writer, word_in, word_at, key_of, generation, IsLinked, Holds, IsSpare, IsLawful};
 ghost use Rattle.map_table_laws.specs.Lookups.{OnlySearches, AnswersLookup};
 ghost use Rattle.map_table_laws.specs.Found.{IsLinkedUnder, IsLinkedAs, Sometime, Throughout, StaysFound, StaysInside, OnlyReplaces};
+ghost use Rattle.map_table_laws.specs.Once.{AreLinkedOnce, PutNoKeyTwice};
 ghost use Rattle.map_table_laws.specs.Scanned.{OnlyScans, AllOutside};
 ghost use Rattle.map_table_laws.specs.Whole.{OnlyWriterStores};
 
@@ -97,6 +98,14 @@ pub fn replaced_keys_stay()
     ensures { (k : Layout) (late early : List (ℕ × Move)) → IsLawful k (late ++ early) →
         (table : ℕ) (key : List ℕ) (way : ℕ) → IsLinkedUnder k table key way early →
         OnlyReplaces k table key way late early → StaysFound k table key way late early }
+{}
+
+/// In every lawful history no key is linked in two ways, if none was before and the writer puts no element in a way whose
+/// key is linked in another.
+pub fn keys_stay_once()
+    ensures { (k : Layout) (late early : List (ℕ × Move)) → IsLawful k (late ++ early) → (table : ℕ) →
+        AreLinkedOnce k table early → PutNoKeyTwice k table late early →
+        AreLinkedOnce k table (late ++ early) }
 {}
 
 /// In every lawful history an element that a lookup answers was linked under the key at some moment of it.

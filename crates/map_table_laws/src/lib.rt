@@ -16,7 +16,7 @@ pub use excluded::{
 };
 pub use laws::{
     elements_stand_in_one_way, held_elements_stay, held_values_stay, hits_are_held,
-    hits_were_linked, keys_that_stay_are_found, loads_find_what_was_stored,
+    hits_were_linked, keys_stay_once, keys_that_stay_are_found, loads_find_what_was_stored,
     null_refutes_every_element, null_refutes_every_way, one_scan_frees_all, own_words_stay,
     replaced_keys_stay, spare_elements_are_unheld, ways_name_keys_of_their_bucket,
 };
