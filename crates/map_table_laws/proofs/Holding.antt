@@ -1,19 +1,22 @@
--- An element that a reader holds is linked, or the reader was not seen outside since it was unlinked.
-use Rattle.std.proofs.Common.{◌≡◌, ℕ, List, [], ◌∷◌, ◌++◌, sym, ap, ◌∙◌, subst, ⊎_elim, arith}
+-- An element that a reader holds is linked, or the reader has not left its section since it was unlinked.
+use Rattle.std.proofs.Common.{◌≡◌, ◌≢◌, ℕ, ◌%◌, List, [], ◌∷◌, ◌++◌, sym, ap, ◌∙◌, subst, ⊎_elim, arith}
 use mathlib.Core.Logic.{dite}
 use native.Mathlib.Decide.{ℕ_discrete}
 use Rattle.map_table_laws.specs.declared.moves.Move.{Move}
 use Rattle.map_table_laws.specs.declared.moves.Move.TheVariants.{Open, Close, Learn, Load, Store, Put, Scan}
 use Rattle.map_table_laws.specs.Layout.{Layout, Names}
-use Rattle.map_table_laws.specs.History.{moves_of, inside, word_in, word_at, IsLinked, Holds, Cleared, IsSpare}
+use Rattle.map_table_laws.specs.History.{moves_of, inside, section_word, word_in, word_at, IsLinked, Holds, FoundSince, HasLeft, Cleared, IsSpare}
 use Rattle.map_table_laws.specs.History.{IsReader, MayDo, IsLawful}
 use Rattle.map_table_laws.proofs.Steps.{own, others, put_there}
+use Rattle.map_table_laws.proofs.Words.{word_parity}
 
 -- of what the reader did, ms, and what the writer did, ws
 pub record Held (k : Layout) (who element : ℕ) (ms ws : List Move) : Type 0 where
   pub reader : IsReader k who
   pub open_now : inside ms ≡ 1
   pub kept : (IsLinked element ws → ⊥) → Cleared who element ws → ⊥
+  -- each look since found the number that the section has
+  pub looks : (IsLinked element ws → ⊥) → (x : ℕ) → x ≢ section_word ms → FoundSince who element x ws → ⊥
 
 -- what is linked stays so, if the way that is written named something else
 still_linked : (element w x : ℕ) (ws : List Move) → (Names (word_in w ws) element → ⊥) → IsLinked element ws → IsLinked element (Put w x ∷ ws)
@@ -27,21 +30,30 @@ writes : (k : Layout) (who element : ℕ) (es : List (ℕ × Move)) (m : Move) �
 writes k who element es Open may h = absurd (omega arith)
 writes k who element es Close may h = absurd (omega arith)
 writes k who element es (Learn w x) may h = absurd (omega arith)
-writes k who element es (Load e p x) may h = record { reader = h.reader; open_now = h.open_now; kept = h.kept }
-writes k who element es (Store e p x) may h = record { reader = h.reader; open_now = h.open_now; kept = h.kept }
+writes k who element es (Load e p x) may h = record { reader = h.reader; open_now = h.open_now; kept = h.kept; looks = h.looks }
+writes k who element es (Store e p x) may h = record { reader = h.reader; open_now = h.open_now; kept = h.kept; looks = h.looks }
 writes k who element es (Put w x) may h = record {
   reader = h.reader;
   open_now = h.open_now;
   kept = λ not c. h.kept (λ l. not (still_linked element w x (moves_of 0 es) c.0 l)) c.1;
+  looks = λ not y ne f. h.looks (λ l. not (still_linked element w x (moves_of 0 es) f.0 l)) y ne f.1;
 }
-writes k who element es (Scan r x) may h = record {
-  reader = h.reader;
-  open_now = h.open_now;
-  kept = λ not c. ⊎_elim
-      (λ (z : (r ≡ who) × (x ≡ 0)). let o = h.open_now in let e : inside (moves_of who es) ≡ 0 =
-      ap (λ w. inside (moves_of w es)) (sym z.0) ∙ (sym may.1 ∙ z.1) in absurd (omega arith))
-      (λ z. h.kept not z) c;
-}
+writes k who element es (Scan r x) may h =
+    let is : r ≡ who → x ≡ section_word (moves_of who es) = λ e. may.1 ∙ ap (λ w. section_word (moves_of w es)) e in
+    record {
+      reader = h.reader;
+      open_now = h.open_now;
+      kept = λ not c. ⊎_elim
+          (λ (z : (r ≡ who) × HasLeft who element x (moves_of 0 es)). ⊎_elim
+          (λ (even : x % 2 ≡ 0). let o = h.open_now in let p = word_parity (moves_of who es) in
+          let e = ap (λ n. n % 2) (is z.0) in absurd (omega (arith, o, p, e, even)))
+          (λ (other : (y : ℕ) × (y ≢ x) × FoundSince who element y (moves_of 0 es)).
+          h.looks not other.0 (λ e. other.1 (e ∙ sym (is z.0))) other.2) z.1)
+          (λ z. h.kept not z) c;
+      looks = λ not y ne f. ⊎_elim
+          (λ (z : (r ≡ who) × (x ≡ y)). ne (sym z.1 ∙ is z.0))
+          (λ z. h.looks not y ne z) f;
+    }
 
 -- the reader's own next move
 reads : (k : Layout) (who element : ℕ) (es : List (ℕ × Move)) (m : Move) → MayDo k es who m →
@@ -54,12 +66,13 @@ reads k who element es (Learn w x) may ih known = ⊎_elim
       reader = may.0;
       open_now = may.1;
       kept = λ not c. not (w, subst (λ z. Names z element) may.2 t);
+      looks = λ not y ne f. not (w, subst (λ z. Names z element) may.2 t);
     })
-    (λ t. let h = ih t in record { reader = h.reader; open_now = h.open_now; kept = h.kept }) known
-reads k who element es (Load e p x) may ih known = let h = ih known in record { reader = h.reader; open_now = h.open_now; kept = h.kept }
-reads k who element es (Store e p x) may ih known = let h = ih known in record { reader = h.reader; open_now = h.open_now; kept = h.kept }
-reads k who element es (Put w x) may ih known = let h = ih known in record { reader = h.reader; open_now = h.open_now; kept = h.kept }
-reads k who element es (Scan r x) may ih known = let h = ih known in record { reader = h.reader; open_now = h.open_now; kept = h.kept }
+    (λ t. let h = ih t in record { reader = h.reader; open_now = h.open_now; kept = h.kept; looks = h.looks }) known
+reads k who element es (Load e p x) may ih known = let h = ih known in record { reader = h.reader; open_now = h.open_now; kept = h.kept; looks = h.looks }
+reads k who element es (Store e p x) may ih known = let h = ih known in record { reader = h.reader; open_now = h.open_now; kept = h.kept; looks = h.looks }
+reads k who element es (Put w x) may ih known = let h = ih known in record { reader = h.reader; open_now = h.open_now; kept = h.kept; looks = h.looks }
+reads k who element es (Scan r x) may ih known = let h = ih known in record { reader = h.reader; open_now = h.open_now; kept = h.kept; looks = h.looks }
 
 pub held : (k : Layout) (es : List (ℕ × Move)) → IsLawful k es → (who element : ℕ) → Holds element (moves_of who es) →
     Held k who element (moves_of who es) (moves_of 0 es)

@@ -1,5 +1,6 @@
 pub mod Hits
 pub mod Holding
+pub mod Looks
 pub mod Moments
 mod Once
 pub mod Owning
@@ -7,4 +8,5 @@ mod Small
 pub mod Standing
 pub mod Steps
 mod Whole
+pub mod Words
 pub mod Writing

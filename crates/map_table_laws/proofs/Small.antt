@@ -1,11 +1,11 @@
--- The small history is lawful, and without its scan it isn't.
+-- The small histories are lawful, and without the scan, or with one number found twice, they aren't.
 use Rattle.std.proofs.Common.{◌≡◌, ℕ, ◌<◌, ◌≤◌, List, [], ◌∷◌, refl, subst, inl, inr, arith, Bool, true, false}
 use Rattle.std.specs.Prelude.{◌==◌, if◌then◌else◌}
 use Rattle.map_table_laws.specs.declared.moves.Move.{Move}
 use Rattle.map_table_laws.specs.declared.moves.Move.TheVariants.{Scan}
 use Rattle.map_table_laws.specs.Layout.{Names}
 use Rattle.map_table_laws.specs.History.{moves_of, IsLinked, IsSpare, IsReader, IsLawful}
-use Rattle.map_table_laws.specs.Small.{small, naming, linked, found, replaced, left, reused, reused_too_early}
+use Rattle.map_table_laws.specs.Small.{small, naming, linked, found, replaced, left, reused, reused_beside, scanned_twice, reused_too_early, reused_by_one_number}
 use Rattle.map_table_laws.proofs.Steps.{nothing_named}
 use Rattle.map_table_laws.proofs.Writing.{filled_unheld}
 
@@ -38,8 +38,8 @@ zero_later l = shadowed (9 == l.0) (naming 1) (naming 0) 0 0 one_not_zero (nothi
 only_one : (r : ℕ) → 0 < r → r ≤ 1 → 1 ≡ r
 only_one r some within = omega (arith, some, within)
 
-zero_again : (ms : List Move) → ms ≡ moves_of 0 replaced → IsSpare 1 0 (Scan 1 0 ∷ ms)
-zero_again ms is = (λ l. zero_later (subst (IsLinked 0) is (l.0, l.1)), λ r some within. inl (only_one r some within, refl))
+zero_again : (ms : List Move) → ms ≡ moves_of 0 replaced → IsSpare 1 0 (Scan 1 2 ∷ ms)
+zero_again ms is = (λ l. zero_later (subst (IsLinked 0) is (l.0, l.1)), λ r some within. inl (only_one r some within, inl refl))
 
 linked_lawful : IsLawful small linked
 linked_lawful = (
@@ -97,3 +97,22 @@ reused_lawful = (
 
 pub too_early : IsLawful small reused_too_early → ⊥
 too_early h = filled_unheld small replaced replaced_lawful 1 0 0 6 h.0 (inl refl)
+
+-- the two looks found 1 and 3
+zero_beside : (ms : List Move) → ms ≡ moves_of 0 replaced → IsSpare 1 0 (Scan 1 3 ∷ Scan 1 1 ∷ ms)
+zero_beside ms is = (
+  λ l. zero_later (subst (IsLinked 0) is (l.0, l.1)),
+  λ r some within. let r_is = only_one r some within in inl (r_is, inr (1, (λ e. absurd (omega (arith, e))), inl (r_is, refl))),
+)
+
+pub beside_lawful : IsLawful small reused_beside
+beside_lawful = (
+  inl (refl, zero_beside (moves_of 0 replaced) refl),
+  ((refl, refl), ((reader, refl, refl), (reader, (reader, ((refl, refl), replaced_lawful))))),
+)
+
+twice_lawful : IsLawful small scanned_twice
+twice_lawful = ((refl, refl), ((refl, refl), replaced_lawful))
+
+pub one_number_too_early : IsLawful small reused_by_one_number → ⊥
+one_number_too_early h = filled_unheld small scanned_twice twice_lawful 1 0 0 6 h.0 (inl refl)

@@ -1,15 +1,15 @@
 -- What the writer does to keys that are linked, and to elements that are to be filled anew.
-use Rattle.std.proofs.Common.{◌≡◌, ℕ, ◌<◌, ◌≤◌, List, [], ◌∷◌, ◌++◌, refl, sym, ◌∙◌, subst, ⊎_elim, inl, inr, arith}
+use Rattle.std.proofs.Common.{◌≡◌, ◌≢◌, ◌⊎◌, ℕ, ◌%◌, ◌<◌, ◌≤◌, List, [], ◌∷◌, ◌++◌, refl, sym, ◌∙◌, subst, ⊎_elim, inl, inr, arith}
 use mathlib.Core.Logic.{dite}
 use native.Mathlib.Decide.{ℕ_discrete}
 use Rattle.std.proofs.Common.{None}
 use Rattle.map_table_laws.specs.declared.moves.Move.{Move}
 use Rattle.map_table_laws.specs.declared.moves.Move.TheVariants.{Open, Close, Learn, Load, Store, Put, Scan}
 use Rattle.map_table_laws.specs.Layout.{Layout, Names}
-use Rattle.map_table_laws.specs.History.{moves_of, word_in, IsLinked, Holds, Cleared, IsSpare, IsOpenTo, MayDo, MayLink, IsLawful}
+use Rattle.map_table_laws.specs.History.{moves_of, word_in, IsLinked, Holds, FoundSince, HasLeft, Cleared, IsSpare, IsOpenTo, MayDo, MayLink, IsLawful}
 use Rattle.map_table_laws.specs.Lookups.{OnlySearches, Refuted, FoundIn, AnswersLookup}
 use Rattle.map_table_laws.specs.Found.{IsLinkedUnder, IsLinkedAs, Throughout, StaysFound, BearsKey, KeepsKey, OnlyReplaces}
-use Rattle.map_table_laws.specs.Scanned.{OnlyScans, FoundOutside, AllOutside, LookedAt}
+use Rattle.map_table_laws.specs.Scanned.{OnlyScans, FoundOutside, FoundOther, FoundGone, AllOutside, LookedAt}
 use Rattle.map_table_laws.proofs.Steps.{key_step, put_here, one_name, nothing_named}
 use Rattle.map_table_laws.proofs.Holding.{held, spare_unheld}
 use Rattle.map_table_laws.proofs.Standing.{Quiet, Changed, step, changes_no_key, one_way, put_alone}
@@ -86,7 +86,7 @@ module _ (readers element : ℕ) where
   cleared_by low high r (Load e p x ∷ ms) ws s f = absurd s
   cleared_by low high r (Store e p x ∷ ms) ws s f = absurd s
   cleared_by low high r (Put w x ∷ ms) ws s f = absurd s
-  cleared_by low high r (Scan q x ∷ ms) ws s f = ⊎_elim (λ t. inl t) (λ t. inr (cleared_by low high r ms ws s.2 t)) f
+  cleared_by low high r (Scan q x ∷ ms) ws s f = ⊎_elim (λ (t : (q ≡ r) × (x % 2 ≡ 0)). inl (t.0, inl t.1)) (λ t. inr (cleared_by low high r ms ws s.2 t)) f
 
   pub unlinked_still : (low high : ℕ) (ms ws : List Move) → OnlyScans low high ms → IsLinked element (ms ++ ws) → IsLinked element ws
   unlinked_still low high [] ws s l = l
@@ -140,8 +140,22 @@ refuted_looked k table key way (Store e p x ∷ ms) h = refuted_looked k table k
 refuted_looked k table key way (Put w x ∷ ms) h = refuted_looked k table key way ms h
 refuted_looked k table key way (Scan r x ∷ ms) h = refuted_looked k table key way ms h
 
--- A reader that was not found outside since the element was unlinked is not cleared.
-not_cleared : (reader element way word : ℕ) (ms ws : List Move) → (FoundOutside reader ms → ⊥) → Names (word_in way ws) element →
+-- a number that was found since the element was unlinked was found in that stretch
+found_in : (reader element x y way word : ℕ) (ms ws : List Move) → Names (word_in way ws) element → y ≢ x →
+    FoundSince reader element y (ms ++ Put way word ∷ ws) → FoundOther reader x ms
+found_in reader element x y way word [] ws names ne f = absurd (f.0 names)
+found_in reader element x y way word (Open ∷ ms) ws names ne f = found_in reader element x y way word ms ws names ne f
+found_in reader element x y way word (Close ∷ ms) ws names ne f = found_in reader element x y way word ms ws names ne f
+found_in reader element x y way word (Learn w z ∷ ms) ws names ne f = found_in reader element x y way word ms ws names ne f
+found_in reader element x y way word (Load e p z ∷ ms) ws names ne f = found_in reader element x y way word ms ws names ne f
+found_in reader element x y way word (Store e p z ∷ ms) ws names ne f = found_in reader element x y way word ms ws names ne f
+found_in reader element x y way word (Put w z ∷ ms) ws names ne f = found_in reader element x y way word ms ws names ne f.1
+found_in reader element x y way word (Scan r z ∷ ms) ws names ne f = ⊎_elim
+    (λ (t : (r ≡ reader) × (z ≡ y)). inl (t.0, λ e. ne (sym t.1 ∙ e)))
+    (λ t. inr (found_in reader element x y way word ms ws names ne t)) f
+
+-- A reader that was found neither outside nor with two numbers since the element was unlinked is not cleared.
+not_cleared : (reader element way word : ℕ) (ms ws : List Move) → (FoundGone reader ms → ⊥) → Names (word_in way ws) element →
     Cleared reader element (ms ++ Put way word ∷ ws) → ⊥
 not_cleared reader element way word [] ws unseen names c = c.0 names
 not_cleared reader element way word (Open ∷ ms) ws unseen names c = not_cleared reader element way word ms ws unseen names c
@@ -150,13 +164,28 @@ not_cleared reader element way word (Learn w x ∷ ms) ws unseen names c = not_c
 not_cleared reader element way word (Load e p x ∷ ms) ws unseen names c = not_cleared reader element way word ms ws unseen names c
 not_cleared reader element way word (Store e p x ∷ ms) ws unseen names c = not_cleared reader element way word ms ws unseen names c
 not_cleared reader element way word (Put w x ∷ ms) ws unseen names c = not_cleared reader element way word ms ws unseen names c.1
-not_cleared reader element way word (Scan r x ∷ ms) ws unseen names c =
-    ⊎_elim (λ t. unseen (inl t)) (λ t. not_cleared reader element way word ms ws (λ z. unseen (inr z)) names t) c
+not_cleared reader element way word (Scan r x ∷ ms) ws unseen names c = ⊎_elim
+    (λ (t : (r ≡ reader) × HasLeft reader element x (ms ++ Put way word ∷ ws)). unseen (inl (
+      t.0,
+      ⊎_elim
+          (λ (even : x % 2 ≡ 0). inl even)
+          (λ (o : (y : ℕ) × (y ≢ x) × FoundSince reader element y (ms ++ Put way word ∷ ws)).
+          inr (found_in reader element x o.0 way word ms ws names o.1 o.2)) t.1,
+    )))
+    (λ t. not_cleared reader element way word ms ws (λ z. unseen (inr z)) names t) c
 
-pub skipped : (readers reader element way word : ℕ) (ms ws : List Move) → 0 < reader → reader ≤ readers → (FoundOutside reader ms → ⊥) →
+pub skipped : (readers reader element way word : ℕ) (ms ws : List Move) → 0 < reader → reader ≤ readers → (FoundGone reader ms → ⊥) →
     Names (word_in way ws) element → IsSpare readers element (ms ++ Put way word ∷ ws) → ⊥
 skipped readers reader element way word ms ws some within unseen names spare =
     not_cleared reader element way word ms ws unseen names (spare.1 reader some within)
+
+-- nor does one odd number since clear it, whatever was found before
+pub one_odd_number : (readers reader element way word found : ℕ) (ws : List Move) → 0 < reader → reader ≤ readers → found % 2 ≡ 1 →
+    Names (word_in way ws) element → IsSpare readers element (Scan reader found ∷ Put way word ∷ ws) → ⊥
+one_odd_number readers reader element way word found ws some within odd names spare =
+    skipped readers reader element way word (Scan reader found ∷ []) ws some within
+    (λ g. ⊎_elim (λ (t : (reader ≡ reader) × ((found % 2 ≡ 0) ⊎ ⊥)). ⊎_elim (λ (even : found % 2 ≡ 0). absurd (omega (arith, even, odd))) (λ n. n) t.1) (λ n. n) g)
+    names spare
 
 -- An element that was linked before a step and is so after it stands where it stood.
 same_way : (k : Layout) (e : ℕ × Move) (es : History) (a b element : ℕ) → IsLawful k es → MayDo k es e.0 e.1 →

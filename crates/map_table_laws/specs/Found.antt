@@ -3,7 +3,7 @@ use Rattle.std.specs.Prelude.{◌≡◌, ◌⊎◌, ℕ, List, [], ◌∷◌, �
 use Rattle.map_table_laws.specs.declared.moves.Move.{Move}
 use Rattle.map_table_laws.specs.declared.moves.Move.TheVariants.{Open, Close, Put}
 use Rattle.map_table_laws.specs.Layout.{Layout, Names}
-use Rattle.map_table_laws.specs.History.{moves_of, word_in, key_of}
+use Rattle.map_table_laws.specs.History.{moves_of, word_in, key_of, IsLinked}
 
 -- By all that was done the way names this element, of this table, with this key.
 pub record Links (k : Layout) (table : ℕ) (key : List ℕ) (way element : ℕ) (es : List (ℕ × Move)) : Type 0
@@ -34,6 +34,10 @@ Sometime p (e ∷ late) early = p (e ∷ (late ++ early)) ⊎ Sometime p late ea
 -- replaced by another.
 abbrev pub StaysFound : Layout → ℕ → List ℕ → ℕ → List (ℕ × Move) → List (ℕ × Move) → Type 0
 StaysFound k table key way late early = Throughout (IsLinkedUnder k table key way) late early
+
+-- no way names the element, from after the early steps until after the late ones
+abbrev pub StaysUnlinked : ℕ → List (ℕ × Move) → List (ℕ × Move) → Type 0
+StaysUnlinked element late early = Throughout (λ es. IsLinked element (moves_of 0 es) → ⊥) late early
 
 -- none of the moves begins or ends a section
 abbrev pub StaysInside : List Move → Type 0

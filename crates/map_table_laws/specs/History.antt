@@ -1,6 +1,6 @@
 -- What holders did to the tables, the newest first, and which of it is lawful (Linux RCU requirements, "Grace-Period
--- Guarantee": an element is filled anew only when each reader that might hold it was seen outside a section).
-use Rattle.std.specs.Prelude.{◌≡◌, ◌⊎◌, ℕ, zero, suc, ◌%◌, ◌^◌, ◌<◌, ◌≤◌, ◌==◌, List, [], ◌∷◌, if◌then◌else◌}
+-- Guarantee": an element is filled anew only when each reader that might hold it has left its section).
+use Rattle.std.specs.Prelude.{◌≡◌, ◌≢◌, ◌⊎◌, ℕ, zero, suc, ◌-◌, ◌*◌, ◌%◌, ◌^◌, ◌<◌, ◌≤◌, ◌==◌, min, List, [], ◌∷◌, if◌then◌else◌}
 use Rattle.map_table_laws.specs.declared.moves.Move.{Move}
 use Rattle.map_table_laws.specs.declared.moves.Move.TheVariants.{Open, Close, Learn, Load, Store, Put, Scan}
 use Rattle.map_table_laws.specs.Layout.{Layout, IsCandidate, Names, tag_in}
@@ -22,6 +22,21 @@ inside [] = 0
 inside (Open ∷ ms) = 1
 inside (Close ∷ ms) = 0
 inside (_ ∷ ms) = inside ms
+
+-- how many sections the reader opened
+abbrev pub opened : List Move → ℕ
+opened [] = 0
+opened (Open ∷ ms) = suc (opened ms)
+opened (_ ∷ ms) = opened ms
+
+-- how many sections a section word counts
+abbrev pub most_sections : ℕ
+most_sections = 2 ^ 62
+
+-- A reader's section word: twice the sections that it opened, less one inside the last. It is odd inside, and even outside.
+-- The count stops at the most: from there on the word tells inside from outside, and no section from another.
+abbrev pub section_word : List Move → ℕ
+section_word ms = 2 * min (opened ms) most_sections - inside ms
 
 -- the word of a way after the writer's moves: what he put there last, and 0 where he put none
 abbrev pub word_in : ℕ → List Move → ℕ
@@ -61,13 +76,29 @@ Holds element (Close ∷ ms) = ⊥
 Holds element (Learn way x ∷ ms) = Names x element ⊎ Holds element ms
 Holds element (_ ∷ ms) = Holds element ms
 
--- the writer saw the reader outside a section since the element was unlinked last, or it never was
+-- since the element was unlinked last, the writer found this number in the reader's section word
+abbrev pub FoundSince : ℕ → ℕ → ℕ → List Move → Type 0
+FoundSince reader element word [] = ⊥
+FoundSince reader element word (Put way x ∷ ms) =
+    (Names (word_in way ms) element → ⊥) × FoundSince reader element word ms
+FoundSince reader element word (Scan r x ∷ ms) =
+    ((r ≡ reader) × (x ≡ word)) ⊎ FoundSince reader element word ms
+FoundSince reader element word (_ ∷ ms) = FoundSince reader element word ms
+
+-- A reader whose section word has this number now has left each section that it was in when the element was unlinked: the
+-- number is even, or the writer found another one since.
+abbrev pub HasLeft : ℕ → ℕ → ℕ → List Move → Type 0
+HasLeft reader element word ms =
+    (word % 2 ≡ 0) ⊎ ((other : ℕ) × (other ≢ word) × FoundSince reader element other ms)
+
+-- The element was never unlinked; or, by what the writer found since it was unlinked last, the reader has left its section
+-- since.
 abbrev pub Cleared : ℕ → ℕ → List Move → Type 0
 Cleared reader element [] = Unit {0}
 Cleared reader element (Put way x ∷ ms) =
     (Names (word_in way ms) element → ⊥) × Cleared reader element ms
 Cleared reader element (Scan r found ∷ ms) =
-    ((r ≡ reader) × (found ≡ 0)) ⊎ Cleared reader element ms
+    ((r ≡ reader) × HasLeft reader element found ms) ⊎ Cleared reader element ms
 Cleared reader element (_ ∷ ms) = Cleared reader element ms
 
 -- no way names the element, and no reader can still hold it, by what the writer did
@@ -100,8 +131,8 @@ pub record MayLink (k : Layout) (es : List (ℕ × Move)) (way word : ℕ) : Typ
 
 -- What a holder may do after all this. A reader opens and closes its sections. Inside one it learns the words that ways
 -- have. It loads the words of elements that it holds, and stores those behind their keys which are no other reader's. A
--- load finds the word that was stored last. The writer loads any word, and stores those of spare elements. He empties a way, or puts a spare element
--- there, also in place of another.
+-- load finds the word that was stored last. The writer loads any word, and stores those of spare elements. He empties a
+-- way, or puts a spare element there, also in place of another. He finds the section word that a reader has.
 abbrev pub MayDo : Layout → List (ℕ × Move) → ℕ → Move → Type 0
 MayDo k es who Open = IsReader k who
 MayDo k es who Close = IsReader k who
@@ -113,7 +144,7 @@ MayDo k es who (Store element place x) =
     ((who ≡ 0) × IsSpare k.readers element (moves_of 0 es))
     ⊎ (Holds element (moves_of who es) × (k.key_words (k.table_of element) ≤ place) × IsOpenTo k who element place)
 MayDo k es who (Put way x) = (who ≡ 0) × ((x ≡ 0) ⊎ MayLink k es way x)
-MayDo k es who (Scan r x) = (who ≡ 0) × (x ≡ inside (moves_of r es))
+MayDo k es who (Scan r x) = (who ≡ 0) × (x ≡ section_word (moves_of r es))
 
 -- each step was one that its holder might do then
 abbrev pub IsLawful : Layout → List (ℕ × Move) → Type 0

@@ -1,5 +1,5 @@
 -- What a scan of the section words tells.
-use Rattle.std.specs.Prelude.{◌≡◌, ◌≢◌, ◌⊎◌, ℕ, ◌-◌, ◌<◌, ◌≤◌, List, [], ◌∷◌}
+use Rattle.std.specs.Prelude.{◌≡◌, ◌≢◌, ◌⊎◌, ℕ, ◌-◌, ◌%◌, ◌<◌, ◌≤◌, List, [], ◌∷◌}
 use Rattle.map_table_laws.specs.declared.moves.Move.{Move}
 use Rattle.map_table_laws.specs.declared.moves.Move.TheVariants.{Learn, Scan}
 
@@ -19,14 +19,27 @@ ScansInTurn low high (_ ∷ ms) = ⊥
 -- the reader was found outside a section
 abbrev pub FoundOutside : ℕ → List Move → Type 0
 FoundOutside reader [] = ⊥
-FoundOutside reader (Scan r x ∷ ms) = ((r ≡ reader) × (x ≡ 0)) ⊎ FoundOutside reader ms
+FoundOutside reader (Scan r x ∷ ms) = ((r ≡ reader) × (x % 2 ≡ 0)) ⊎ FoundOutside reader ms
 FoundOutside reader (_ ∷ ms) = FoundOutside reader ms
 
 -- the reader was found inside a section
 abbrev pub FoundInside : ℕ → List Move → Type 0
 FoundInside reader [] = ⊥
-FoundInside reader (Scan r x ∷ ms) = ((r ≡ reader) × (x ≢ 0)) ⊎ FoundInside reader ms
+FoundInside reader (Scan r x ∷ ms) = ((r ≡ reader) × (x % 2 ≡ 1)) ⊎ FoundInside reader ms
 FoundInside reader (_ ∷ ms) = FoundInside reader ms
+
+-- the reader was found with another number than this one
+abbrev pub FoundOther : ℕ → ℕ → List Move → Type 0
+FoundOther reader word [] = ⊥
+FoundOther reader word (Scan r x ∷ ms) = ((r ≡ reader) × (x ≢ word)) ⊎ FoundOther reader word ms
+FoundOther reader word (_ ∷ ms) = FoundOther reader word ms
+
+-- the reader was found outside a section, or with two numbers
+abbrev pub FoundGone : ℕ → List Move → Type 0
+FoundGone reader [] = ⊥
+FoundGone reader (Scan r x ∷ ms) =
+    ((r ≡ reader) × ((x % 2 ≡ 0) ⊎ FoundOther reader x ms)) ⊎ FoundGone reader ms
+FoundGone reader (_ ∷ ms) = FoundGone reader ms
 
 -- each reader was found outside
 abbrev pub AllOutside : ℕ → List Move → Type 0

@@ -1,5 +1,6 @@
 -- A small history, worked by hand: one reader, one table, keys of one word, values of one. A key is linked, found and
--- held while its value is replaced; its first element is filled anew after the reader was seen outside.
+-- held while its value is replaced; its first element is filled anew after the reader was seen outside, or in another
+-- section.
 use Rattle.std.specs.Prelude.{ℕ, ◌+◌, ◌*◌, ◌^◌, List, [], ◌∷◌}
 use Rattle.map_table_laws.specs.declared.moves.Move.{Move}
 use Rattle.map_table_laws.specs.declared.moves.Move.TheVariants.{Open, Close, Learn, Load, Store, Put, Scan}
@@ -40,8 +41,22 @@ left = (1, Close) ∷ (1, Store 0 1 60) ∷ (1, Load 0 1 50) ∷ replaced
 
 -- the writer sees it outside, and fills the element 0 anew
 abbrev pub reused : List (ℕ × Move)
-reused = (0, Put 1 (naming 0)) ∷ (0, Store 0 0 6) ∷ (0, Scan 1 0) ∷ left
+reused = (0, Put 1 (naming 0)) ∷ (0, Store 0 0 6) ∷ (0, Scan 1 2) ∷ left
+
+-- The writer finds the reader inside. The reader ends its section, begins another, and finds the element 1. The writer
+-- finds another number, and fills the element 0 anew while the reader is inside.
+abbrev pub reused_beside : List (ℕ × Move)
+reused_beside =
+    (0, Store 0 0 6) ∷ (0, Scan 1 3) ∷ (1, Learn 9 (naming 1)) ∷ (1, Open) ∷ (1, Close) ∷ (0, Scan 1 1) ∷ replaced
+
+-- the same where the reader stays in its section: both scans find one number
+abbrev pub scanned_twice : List (ℕ × Move)
+scanned_twice = (0, Scan 1 1) ∷ (0, Scan 1 1) ∷ replaced
 
 -- as it would be without the scan, while the reader is inside
 abbrev pub reused_too_early : List (ℕ × Move)
 reused_too_early = (0, Store 0 0 6) ∷ replaced
+
+-- as it would be where one number, found twice, were taken for two
+abbrev pub reused_by_one_number : List (ℕ × Move)
+reused_by_one_number = (0, Store 0 0 6) ∷ scanned_twice

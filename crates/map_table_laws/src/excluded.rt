@@ -1,13 +1,13 @@
 //! What the definitions exclude, and a history that they don't.
-ghost use Rattle.std.specs.Prelude.{◌≡◌, ◌≢◌, ℕ, ◌<◌, ◌≤◌, List, ◌∷◌, ◌++◌, None};
+ghost use Rattle.std.specs.Prelude.{◌≡◌, ◌≢◌, ℕ, ◌%◌, ◌<◌, ◌≤◌, List, ◌∷◌, ◌++◌, None};
 ghost use Rattle.map_table_laws.specs.declared.moves.Move.{Move};
-ghost use Rattle.map_table_laws.specs.declared.moves.Move.TheVariants.{Store, Put};
+ghost use Rattle.map_table_laws.specs.declared.moves.Move.TheVariants.{Store, Put, Scan};
 ghost use Rattle.map_table_laws.specs.Layout.{Layout, IsCandidate, Names};
 ghost use Rattle.map_table_laws.specs.History.{moves_of, word_in, Holds, IsSpare, MayDo, IsLawful};
 ghost use Rattle.map_table_laws.specs.Lookups.{AnswersLookup};
 ghost use Rattle.map_table_laws.specs.Found.{StaysFound};
-ghost use Rattle.map_table_laws.specs.Scanned.{FoundOutside, LookedAt};
-ghost use Rattle.map_table_laws.specs.Small.{small, reused, reused_too_early};
+ghost use Rattle.map_table_laws.specs.Scanned.{FoundGone, LookedAt};
+ghost use Rattle.map_table_laws.specs.Small.{small, reused, reused_beside, reused_too_early, reused_by_one_number};
 
 /// A small history that was worked by hand is lawful: a key is linked, found, replaced while a reader holds its element,
 /// and the element filled anew after the reader was seen outside.
@@ -18,6 +18,16 @@ pub fn small_history_is_lawful()
 /// Excluded: the same element filled anew while the reader is still inside.
 pub fn small_history_without_its_scan_is_not()
     ensures { IsLawful small reused_too_early → ⊥ }
+{}
+
+/// Lawful as well: the element filled anew while the reader is inside, since two looks found it in two sections.
+pub fn small_history_of_two_sections_is_lawful()
+    ensures { IsLawful small reused_beside }
+{}
+
+/// Excluded: the element filled anew after two looks that found the reader in one section.
+pub fn small_history_of_one_section_is_not()
+    ensures { IsLawful small reused_by_one_number → ⊥ }
 {}
 
 /// Excluded: null where some way of one of the two buckets was not looked at.
@@ -52,10 +62,18 @@ pub fn unlinking_first_is_excluded()
 {}
 
 /// Excluded: a scan that skips a seat. An element whose way was given another word is not spare before each reader was
-/// found outside since.
+/// found outside since, or with two numbers.
 pub fn skipping_a_reader_is_excluded()
     ensures { (readers reader element way word : ℕ) (since before : List Move) →
         0 < reader → reader ≤ readers → Names (word_in way before) element →
-        (FoundOutside reader since → ⊥) →
+        (FoundGone reader since → ⊥) →
         IsSpare readers element (since ++ Put way word ∷ before) → ⊥ }
+{}
+
+/// Excluded: a number that was found before the unlinking, taken for one of after it. One look since that finds a reader
+/// inside frees no element, whatever was found before.
+pub fn a_number_from_before_is_excluded()
+    ensures { (readers reader element way word found : ℕ) (before : List Move) →
+        0 < reader → reader ≤ readers → found % 2 ≡ 1 → Names (word_in way before) element →
+        IsSpare readers element (Scan reader found ∷ Put way word ∷ before) → ⊥ }
 {}

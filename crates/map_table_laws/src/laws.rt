@@ -1,11 +1,11 @@
 //! What every lawful history keeps, and what lookups over it answer.
-ghost use Rattle.std.specs.Prelude.{◌≡◌, ℕ, ◌<◌, List, ◌∷◌, ◌++◌, length, Some, None};
+ghost use Rattle.std.specs.Prelude.{◌≡◌, ℕ, ◌%◌, ◌^◌, ◌<◌, List, ◌∷◌, ◌++◌, length, Some, None};
 ghost use Rattle.map_table_laws.specs.declared.moves.Move.{Move};
-ghost use Rattle.map_table_laws.specs.declared.moves.Move.TheVariants.{Load};
+ghost use Rattle.map_table_laws.specs.declared.moves.Move.TheVariants.{Load, Scan};
 ghost use Rattle.map_table_laws.specs.Layout.{Layout, IsCandidate, IsApart, Names, tag_in};
-ghost use Rattle.map_table_laws.specs.History.{moves_of, with_writer, word_in, word_at, key_of, generation, IsLinked, Holds, IsSpare, IsLawful};
+ghost use Rattle.map_table_laws.specs.History.{moves_of, with_writer, inside, opened, most_sections, section_word, word_in, word_at, key_of, generation, IsLinked, Holds, FoundSince, Cleared, IsSpare, IsLawful};
 ghost use Rattle.map_table_laws.specs.Lookups.{OnlySearches, AnswersLookup};
-ghost use Rattle.map_table_laws.specs.Found.{IsLinkedUnder, IsLinkedAs, Sometime, Throughout, StaysFound, StaysInside, OnlyReplaces};
+ghost use Rattle.map_table_laws.specs.Found.{IsLinkedUnder, IsLinkedAs, Sometime, Throughout, StaysFound, StaysInside, StaysUnlinked, OnlyReplaces};
 ghost use Rattle.map_table_laws.specs.Once.{AreLinkedOnce, PutNoKeyTwice};
 ghost use Rattle.map_table_laws.specs.Scanned.{OnlyScans, AllOutside};
 ghost use Rattle.map_table_laws.specs.Whole.{OnlyWriterStores};
@@ -130,4 +130,43 @@ pub fn one_scan_frees_all()
     ensures { (readers : ℕ) (scan before : List Move) → OnlyScans 0 readers scan →
         AllOutside readers scan → (element : ℕ) →
         (IsLinked element before → ⊥) → IsSpare readers element (scan ++ before) }
+{}
+
+/// A section word is odd inside a section and even outside, stays while its reader neither begins nor ends a section, and
+/// fits in a word.
+pub fn section_words_tell_sections()
+    ensures parity { (ms : List Move) → section_word ms % 2 ≡ inside ms }
+    ensures stays { (late early : List Move) → StaysInside late →
+        section_word (late ++ early) ≡ section_word early }
+    ensures fits { (ms : List Move) → section_word ms < 2 ^ 64 }
+{}
+
+/// Where an element is not cleared of a reader, all looks at the reader since the unlinking found one odd number.
+pub fn uncleared_readers_have_one_number()
+    ensures { (reader element : ℕ) (writers : List Move) → (Cleared reader element writers → ⊥) →
+        (x y : ℕ) → FoundSince reader element x writers → FoundSince reader element y writers →
+        (x ≡ y) × (x % 2 ≡ 1) }
+{}
+
+/// So in every lawful history such a reader is inside one section from the first of these looks to the last: reclaiming
+/// waits for nothing else. Once the reader has opened 2^62 sections, its word does not tell one section from the next.
+pub fn uncleared_readers_stay_in_one_section()
+    ensures { (k : Layout) (reader element x y : ℕ) (late between early : List (ℕ × Move)) →
+        IsLawful k ((late ++ (0, Scan reader y) ∷ between) ++ (0, Scan reader x) ∷ early) →
+        StaysUnlinked element (late ++ (0, Scan reader y) ∷ between) ((0, Scan reader x) ∷ early) →
+        (Cleared reader element
+        (moves_of 0 ((late ++ (0, Scan reader y) ∷ between) ++ (0, Scan reader x) ∷ early)) → ⊥) →
+        (x ≡ y) × (inside (moves_of reader early) ≡ 1)
+        × (opened (moves_of reader early) < most_sections → StaysInside (moves_of reader between)) }
+{}
+
+/// In every lawful history two looks at a reader since an element was unlinked clear the element of it, where the reader
+/// began or ended a section between them, and had opened fewer than 2^62 before.
+pub fn two_looks_clear_who_moved()
+    ensures { (k : Layout) (reader element x y : ℕ) (late between early : List (ℕ × Move)) →
+        IsLawful k ((late ++ (0, Scan reader y) ∷ between) ++ (0, Scan reader x) ∷ early) →
+        StaysUnlinked element (late ++ (0, Scan reader y) ∷ between) ((0, Scan reader x) ∷ early) →
+        (StaysInside (moves_of reader between) → ⊥) → opened (moves_of reader early) < most_sections →
+        Cleared reader element
+        (moves_of 0 ((late ++ (0, Scan reader y) ∷ between) ++ (0, Scan reader x) ∷ early)) }
 {}
