@@ -99,8 +99,7 @@ def of_verdicts():
             elif line and not line.startswith("#"):
                 code = TABLES.code_of(setting.begin + text.split("; ") + setting.end)
                 yield f"{file.name}: {text}", code, setting.context, [*setting.maps], key
-    row = re.compile(r"^\| (\d+(?: at \d+)?) \| (?:`(.+)`|no line) \| `(.+)` \|$", re.M)
-    for said, refused, instead in row.findall((CHECKS.parent / "docs" / "REFUSALS.md").read_text()):
+    for said, refused, instead in TABLES.shown_programs():
         if said not in ("14 at 1", "15 at 1"):
             yield f"REFUSALS.md, {said}", TABLES.shown_code(refused) if refused else b"", 8, ["4 8 1 1 2"], f"refused {said}"
         yield f"REFUSALS.md, in place of {said}", TABLES.shown_code(instead), 8, ["4 8 1 1 2"], "accepted"
