@@ -5,7 +5,8 @@ use Rattle.map_table_laws.specs.declared.moves.Move.{Move}
 use Rattle.map_table_laws.specs.declared.moves.Move.TheVariants.{Scan}
 use Rattle.map_table_laws.specs.Layout.{Names}
 use Rattle.map_table_laws.specs.History.{moves_of, IsLinked, IsSpare, IsReader, IsLawful}
-use Rattle.map_table_laws.specs.Small.{small, naming, linked, found, replaced, left, reused, reused_beside, scanned_twice, reused_too_early, reused_by_one_number}
+use Rattle.map_table_laws.specs.Small.{small, naming, linked, found, replaced, left, reused, reused_beside, scanned_twice}
+use Rattle.map_table_laws.specs.Small.{reused_too_early, reused_by_one_number}
 use Rattle.map_table_laws.proofs.Steps.{nothing_named}
 use Rattle.map_table_laws.proofs.Writing.{filled_unheld}
 

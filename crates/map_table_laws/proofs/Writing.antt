@@ -184,7 +184,9 @@ pub one_odd_number : (readers reader element way word found : ℕ) (ws : List Mo
     Names (word_in way ws) element → IsSpare readers element (Scan reader found ∷ Put way word ∷ ws) → ⊥
 one_odd_number readers reader element way word found ws some within odd names spare =
     skipped readers reader element way word (Scan reader found ∷ []) ws some within
-    (λ g. ⊎_elim (λ (t : (reader ≡ reader) × ((found % 2 ≡ 0) ⊎ ⊥)). ⊎_elim (λ (even : found % 2 ≡ 0). absurd (omega (arith, even, odd))) (λ n. n) t.1) (λ n. n) g)
+    (λ g. ⊎_elim
+    (λ (t : (reader ≡ reader) × ((found % 2 ≡ 0) ⊎ ⊥)). ⊎_elim (λ (even : found % 2 ≡ 0). absurd (omega (arith, even, odd))) (λ n. n) t.1)
+    (λ n. n) g)
     names spare
 
 -- An element that was linked before a step and is so after it stands where it stood.
