@@ -81,8 +81,8 @@ pub record Unlinks (way : ℕ) (v w : WriterView) : Type 0 where
   pub free : w.free ≡ v.free
   pub step : Works v (Put way 0 ∷ []) w
 
--- These elements became free, since each reader was seen outside a section since their unlinking. Each of the others waits for a
--- reader that was seen inside, and never outside since.
+-- These elements became free, since each reader has left its section since their unlinking. Each of the others waits for a
+-- reader that was seen inside, and not to leave since.
 pub record Reclaims (gone : List ℕ) (v w : WriterView) : Type 0 where
   pub frees : Frees gone v w
   pub moves : List Move

@@ -1,18 +1,21 @@
 -- What the calls of a seat rest on.
-use Rattle.std.proofs.Common.{◌≡◌, ◌⊎◌, ℕ, ◌+◌, ◌-◌, ◌*◌, ◌/◌, ◌<◌, ◌≤◌, inl, inr, ◌∷◌, ◌++◌, refl, sym, ap, ◌∙◌, subst, arith}
+use Rattle.std.proofs.Common.{◌≡◌, ◌⊎◌, ℕ, ◌+◌, ◌-◌, ◌*◌, ◌/◌, ◌<◌, ◌≤◌, ◌^◌, inl, inr, List, [], ◌∷◌, ◌++◌, refl, sym, ap, ◌∙◌, subst, arith}
 use mathlib.Core.Option.{none}
 use Rattle.atomic_table.specs.Table.{Me, step, Allows}
 use Rattle.atomic_table.specs.Seated.{TableId}
 use Rattle.map_table_laws.specs.declared.moves.Move.{Move}
-use Rattle.map_table_laws.specs.declared.moves.Move.TheVariants.{Learn, Load, Store}
+use Rattle.map_table_laws.specs.declared.moves.Move.TheVariants.{Open, Close, Learn, Load, Store}
 use Rattle.map_table_laws.specs.Layout.{Names}
-use Rattle.map_table_laws.specs.History.{inside, word_at, Holds, IsSpare, IsLawful, IsReader, MayLink}
+use Rattle.map_table_laws.specs.History.{inside, opened, most_sections, section_word, word_at, Holds, IsSpare, IsLawful, IsReader, MayLink}
 use Rattle.map_table_laws.proofs.Standing.{fits}
+use Rattle.map_table_laws.proofs.Words.{inside_opened, word_below, word_at_limit}
+use mathlib.Core.Logic.{dite}
+use native.Mathlib.Decide.{dec_lt}
 use Rattle.map_table.specs.Limits.{section_stride}
 use Rattle.map_table.specs.Hashes.{layout_of}
 use Rattle.map_table.specs.declared.view.TableShape.{TableShape}
 use Rattle.map_table.specs.declared.view.View.{View}
-use Rattle.map_table.specs.Law.{ways_from, ways_of, count_of, width_of, Kept, Gains, opens, closes, learns, stores, puts, scans}
+use Rattle.map_table.specs.Law.{ways_from, ways_of, count_of, width_of, did, Kept, Gains, opens, closes, learns, stores, puts, scans}
 use Rattle.map_table.specs.Held.{Holder, Does, IsKnown}
 use Rattle.map_table.proofs.Places.{IsAt}
 use Rattle.map_table.proofs.Lists.{stored_here}
@@ -79,17 +82,59 @@ pub section_within : (j k : TableShape) (i me n : ℕ) → j ≡ k → IsReader 
 section_within j k i me n same reader at e =
     let r : IsReader (layout_of k) me = subst (λ (z : TableShape). IsReader (layout_of z) me) same reader in omega arith
 
-pub opens_at : (j k : TableShape) (slots id : ℕ) (me : Me ℕ View) (i : ℕ) → j ≡ k → IsReader (layout_of j) me.0.me →
-    IsSection i me.0.me → Allows (Kept k) slots id me i (λ _. 1) (λ _. opens (step slots i 1 0 none) me 1)
-opens_at j k slots id me i same reader at =
+pub opens_at : (j k : TableShape) (slots id : ℕ) (me : Me ℕ View) (i x : ℕ) → j ≡ k → IsReader (layout_of j) me.0.me →
+    IsSection i me.0.me → x ≡ section_word (Open ∷ me.0.mine) → Allows (Kept k) slots id me i (λ _. x) (λ _. opens (step slots i x 0 none) me x)
+opens_at j k slots id me i x same reader at word =
     let r : IsReader (layout_of k) me.0.me = subst (λ (z : TableShape). IsReader (layout_of z) me.0.me) same reader in
-    opens_ok k slots id me i (me.0.me - 1) (omega arith) (omega arith) (omega arith)
+    opens_ok k slots id me i (me.0.me - 1) x (omega arith) (omega arith) (omega arith) word
 
-pub closes_at : (j k : TableShape) (slots id : ℕ) (me : Me ℕ View) (i : ℕ) → j ≡ k → IsReader (layout_of j) me.0.me →
-    IsSection i me.0.me → Allows (Kept k) slots id me i (λ _. 0) (λ _. closes (step slots i 0 0 none) me 0)
-closes_at j k slots id me i same reader at =
+pub closes_at : (j k : TableShape) (slots id : ℕ) (me : Me ℕ View) (i x : ℕ) → j ≡ k → IsReader (layout_of j) me.0.me →
+    IsSection i me.0.me → x ≡ section_word (Close ∷ me.0.mine) → Allows (Kept k) slots id me i (λ _. x) (λ _. closes (step slots i x 0 none) me x)
+closes_at j k slots id me i x same reader at word =
     let r : IsReader (layout_of k) me.0.me = subst (λ (z : TableShape). IsReader (layout_of z) me.0.me) same reader in
-    closes_ok k slots id me i (me.0.me - 1) (omega arith) (omega arith) (omega arith)
+    closes_ok k slots id me i (me.0.me - 1) x (omega arith) (omega arith) (omega arith) word
+
+-- what a reader's seat keeps
+abbrev pub IsSeat : Me ℕ View → ℕ → ℕ → ℕ → Type 0
+IsSeat me section first word = IsReader (layout_of me.0.shape) me.0.me × IsSection section me.0.me × (me.1 ≡ [])
+    × (first ≡ first_of me.0.shape me.0.me) × (word ≡ section_word me.0.mine)
+
+-- it keeps it through each step
+pub seat_kept : (me new : Me ℕ View) (m : Move) (section first old word : ℕ) → Gains me.0 m new.0 → new.1 ≡ me.1 → IsSeat me section first old →
+    word ≡ section_word (m ∷ me.0.mine) → IsSeat new section first word
+seat_kept me new m section first old word g held i is =
+    let w : new ≡ (did me.0 m g.0, me.1) = λ j. (g.1 j, held j) in
+    subst (λ (z : Me ℕ View). IsSeat z section first word) (sym w) (i.0, i.1, i.2, i.3, is)
+
+-- the word of a reader outside is no more than the last
+pub small_word : (ms : List Move) (word : ℕ) → word ≡ section_word ms → word ≤ 2 * most_sections
+small_word ms word is = dite (dec_lt (opened ms) (2 ^ 62))
+    (λ l. let e = word_below ms l in omega (arith, is, e, l))
+    (λ l. let e = word_at_limit ms l in omega (arith, is, e))
+
+-- the word that a reader outside writes when it begins a section
+pub open_word : (ms : List Move) (word x : ℕ) → word ≡ section_word ms → inside ms ≡ 0 →
+    (word < 2 * most_sections → x ≡ word + 1) → (word ≡ 2 * most_sections → x ≡ 2 * most_sections - 1) → x ≡ section_word (Open ∷ ms)
+open_word ms word x is out counts stops = dite (dec_lt (opened ms) (2 ^ 62))
+    (λ l.
+    let e = word_below ms l in
+    let x_is = counts (omega (arith, is, e, out, l)) in
+    dite (dec_lt (opened ms + 1) (2 ^ 62))
+    (λ m. let n = word_below (Open ∷ ms) (omega (arith, m)) in omega (arith, is, e, out, x_is, n))
+    (λ m. let n = word_at_limit (Open ∷ ms) (λ z. m (omega (arith, z))) in omega (arith, is, e, out, x_is, n, l, m)))
+    (λ l.
+    let e = word_at_limit ms l in
+    let x_is = stops (omega (arith, is, e, out)) in
+    let n = word_at_limit (Open ∷ ms) (λ z. l (omega (arith, z))) in omega (arith, x_is, n))
+
+-- and when it ends one
+pub close_word : (ms : List Move) (word x : ℕ) → word ≡ section_word ms → inside ms ≡ 1 → x ≡ word + 1 → x ≡ section_word (Close ∷ ms)
+close_word ms word x is in_now x_is = dite (dec_lt (opened ms) (2 ^ 62))
+    (λ l.
+    let e = word_below ms l in
+    let some = inside_opened ms in
+    let n = word_below (Close ∷ ms) l in omega (arith, is, e, in_now, x_is, some, n))
+    (λ l. let e = word_at_limit ms l in let n = word_at_limit (Close ∷ ms) l in omega (arith, is, e, in_now, x_is, n))
 
 -- Where a way's word lies: the ways begin at w.
 pub learns_at : (j k : TableShape) (slots id : ℕ) (me : Me ℕ View) (w way : ℕ) → w ≡ ways_from j → me.0.shape ≡ j → j ≡ k →

@@ -5,7 +5,8 @@ use Rattle.std.proofs.lemmas.List.{length-drop, length-take-le, get_or-drop, get
 use Rattle.map_table_laws.specs.declared.moves.Move.{Move}
 use Rattle.map_table_laws.specs.History.{Cleared}
 use Rattle.map_table.specs.declared.view.View.{View}
-use Rattle.map_table.specs.Sightings.{AreSightings, Least, AreCleared, IsHeldUp}
+use Rattle.map_table.specs.declared.sightings.Sighting.{Sighting}
+use Rattle.map_table.specs.Sightings.{sighting_at, AreSightings, Least, AreCleared, IsHeldUp}
 use Rattle.map_table.specs.Writing.{times_in, IsFree, IsUnlinked, IsWriter}
 use Rattle.map_table.proofs.Members.{times_append, all_append}
 use Rattle.map_table.proofs.Seen.{Looked}
@@ -29,7 +30,7 @@ all_dropped P Q count xs to all k d l =
     let is : get_or (drop count xs) k d ≡ get_or xs (count + k) 0 = get_or-drop count xs k d ∙ get_or_default xs (count + k) d 0 within in
     subst Q (sym is) (to (count + k) (omega arith) within (all (count + k) 0 within))
 
-module _ (v : View) (ways free unlinked seen : List ℕ) (count : ℕ) (b : IsWriter v ways free unlinked) (a : AreSightings v unlinked seen)
+module _ (v : View) (ways free unlinked : List ℕ) (seen : List Sighting) (count : ℕ) (b : IsWriter v ways free unlinked) (a : AreSightings v unlinked seen)
     (least : Least count seen (length unlinked)) where
   cleared_at : (at : ℕ) → at < count → AreCleared v.shape.readers (slice_index unlinked at) v.mine
   cleared_at at low zero some within = absurd (omega (arith, some))
@@ -39,7 +40,7 @@ module _ (v : View) (ways free unlinked seen : List ℕ) (count : ℕ) (b : IsWr
       let few = least.each r (omega (arith, within, room)) in
       let same : r + 1 ≡ suc r = omega arith in
       subst (λ z. Cleared z (slice_index unlinked at) v.mine) same
-      ((a.right r at (omega (arith, within)) (omega (arith, low, most))).0 (omega (arith, low, few)))
+      (((a.each r (omega (arith, within))).cleared at (omega (arith, low, most))).0 (omega (arith, low, few)))
 
   pub all_cleared : All (λ e. AreCleared v.shape.readers e v.mine) (take count unlinked)
   all_cleared = all_taken (IsUnlinked v) (λ e. AreCleared v.shape.readers e v.mine) count unlinked least.most_is
@@ -67,7 +68,7 @@ module _ (v : View) (ways free unlinked seen : List ℕ) (count : ℕ) (b : IsWr
       IsHeldUp v.shape.readers (slice_index unlinked at) ms v.mine
   held_at ms at looked high low = ⊎_elim
       (λ (all : count ≡ length unlinked). absurd (omega (arith, all, high, low)))
-      (λ (one : (r : ℕ) × (r < length seen) × (slice_index seen r ≡ count)).
+      (λ (one : (r : ℕ) × (r < length seen) × ((sighting_at seen r).cleared ≡ count)).
       let room = a.room in
       let below = one.1 in
       let is = one.2 in
@@ -76,8 +77,8 @@ module _ (v : View) (ways free unlinked seen : List ℕ) (count : ℕ) (b : IsWr
         reader = one.0 + 1;
         some = omega arith;
         within = omega (arith, within);
-        never = λ c. let few = (a.right one.0 at within low).1 c in absurd (omega (arith, few, is, high));
-        inside = ⊎_elim (λ (z : slice_index seen one.0 ≡ length unlinked). absurd (omega (arith, z, is, high, low))) (λ f. f) (looked one.0 within);
+        never = λ c. let few = ((a.each one.0 within).cleared at low).1 c in absurd (omega (arith, few, is, high));
+        inside = ⊎_elim (λ (z : (sighting_at seen one.0).cleared ≡ length unlinked). absurd (omega (arith, z, is, high, low))) (λ f. f) (looked one.0 within);
       })
       least.one
 

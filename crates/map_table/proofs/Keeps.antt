@@ -13,7 +13,7 @@ use Rattle.map_table_laws.specs.declared.moves.Move.{Move}
 use Rattle.map_table_laws.specs.declared.moves.Move.TheVariants.{Open, Close, Learn, Load, Store, Put, Scan}
 use Rattle.map_table.specs.declared.view.TableShape.{TableShape}
 use Rattle.map_table.specs.declared.view.View.{View}
-use Rattle.map_table_laws.specs.History.{moves_of, inside, word_in, IsLawful, Holds, IsSpare, IsOpenTo, MayDo, MayLink, IsReader, word_at}
+use Rattle.map_table_laws.specs.History.{moves_of, inside, section_word, word_in, IsLawful, Holds, IsSpare, IsOpenTo, MayDo, MayLink, IsReader, word_at}
 use Rattle.map_table.specs.Hashes.{layout_of}
 use Rattle.map_table.specs.Limits.{section_stride}
 use Rattle.map_table.specs.Law.{ways_from, ways_of, width_of, count_of, Fits, Kept, writer_of, dealt, reader_of, did}
@@ -35,7 +35,7 @@ module _ (k : TableShape) where
   -- the words after a step are those of the history after it
   pub record Follows (s : St) (log : List (ℕ × Move)) (i x me : ℕ) (m : Move) : Type 0 where
     pub ways : (way : ℕ) → way < ways_of k → get_or (set s.words i x) (ways_from k + way) 0 ≡ word_in way (moves_of 0 ((me, m) ∷ log))
-    pub sections : (q : ℕ) → q < k.readers → get_or (set s.words i x) (q * section_stride) 0 ≡ inside (moves_of (q + 1) ((me, m) ∷ log))
+    pub sections : (q : ℕ) → q < k.readers → get_or (set s.words i x) (q * section_stride) 0 ≡ section_word (moves_of (q + 1) ((me, m) ∷ log))
     pub stored : (slot place : ℕ) → slot < k.elements → place < width_of k →
         get_or (set s.words i x) (index_in k slot place) 0 ≡ word_at slot place ((me, m) ∷ log)
 
@@ -164,7 +164,7 @@ module _ (k : TableShape) where
       let own : i / section_stride ≡ q = omega arith in
       let t = advance s r id i (get_or s.words i 0) me.0 me.1 m at (
         writer,
-        subst (λ (z : ℕ × ℕ). get_or s.words z.0 0 ≡ inside (moves_of (z.1 + 1) r.log))
+        subst (λ (z : ℕ × ℕ). get_or s.words z.0 0 ≡ section_word (moves_of (z.1 + 1) r.log))
             (λ a. (sym is a, sym own a)) (r.sections q low),
       ) (follows_load s r i me.0.me m tt tt tt) in
       (t.0, keeps, tt, t.1, (t.2, refl))
@@ -189,30 +189,38 @@ module _ (k : TableShape) where
 
   -- a step that sets the section word of its own reader
   follows_section : (s : St) (r : Kept k s) (i n x me : ℕ) (m : Move) → i ≡ n * section_stride → n < k.readers →
-      me ≡ n + 1 → IsQuiet m → IsIdle m → ((ms : List Move) → inside (m ∷ ms) ≡ x) → Follows s r.log i x me m
+      me ≡ n + 1 → IsQuiet m → IsIdle m → x ≡ section_word (m ∷ moves_of me r.log) → Follows s r.log i x me m
   follows_section s r i n x me m at low mine q d sets = let wide = r.wide in record {
     ways = λ slot l. get_or-set_other s.words i (ways_from k + slot) x 0 (λ e. absurd (omega arith)) ∙
         (r.ways slot l ∙ sym (quiet me 0 slot m r.log q));
     sections = λ j l. dite (ℕ_discrete j n)
         (λ e. ap (λ z. get_or (set s.words i x) z 0) (ap (λ z. z * section_stride) e ∙ sym at) ∙ (get_or-set_same s.words i x 0 (omega arith)
-        ∙ sym (subst (λ z. inside (moves_of z ((me, m) ∷ r.log)) ≡ x) (mine ∙ ap (λ z. z + 1) (sym e))
-        (ap inside (moves_self me m r.log) ∙ sets (moves_of me r.log)))))
+        ∙ sym (subst (λ z. section_word (moves_of z ((me, m) ∷ r.log)) ≡ x) (mine ∙ ap (λ z. z + 1) (sym e))
+        (ap section_word (moves_self me m r.log) ∙ sym sets))))
         (λ ne. get_or-set_other s.words i (j * section_stride) x 0 (λ e. ne (omega arith)) ∙
-        (r.sections j l ∙ sym (ap inside (moves_else me (j + 1) m r.log (λ e. ne (omega arith))))));
+        (r.sections j l ∙ sym (ap section_word (moves_else me (j + 1) m r.log (λ e. ne (omega arith))))));
     stored = stored_behind s r i x me m (omega arith) d;
   }
 
-  pub opens_ok : (slots id : ℕ) (me : Me ℕ View) (i n : ℕ) → i ≡ n * section_stride → n < k.readers → me.0.me ≡ n + 1
-      → Allows (Kept k) slots id me i (λ _. 1) (λ _. opens (step slots i 1 0 none) me 1)
-  opens_ok slots id me i n is low mine s r _ at _ =
-      let t = advance s r id i 1 me.0 me.1 Open at (omega arith, omega arith) (follows_section s r i n 1 me.0.me Open is low mine tt tt (λ ms. refl)) in
-      (t.0, keeps, tt, t.1, (t.2, refl))
+  -- what it announces
+  section_told : (v w : View) (m : Move) (x : ℕ) → Gains v m w → x ≡ section_word (m ∷ v.mine) → x ≡ section_word w.mine
+  section_told v w m x g is = is ∙ ap (λ (z : View). section_word z.mine) (sym g.1)
 
-  pub closes_ok : (slots id : ℕ) (me : Me ℕ View) (i n : ℕ) → i ≡ n * section_stride → n < k.readers → me.0.me ≡ n + 1
-      → Allows (Kept k) slots id me i (λ _. 0) (λ _. closes (step slots i 0 0 none) me 0)
-  closes_ok slots id me i n is low mine s r _ at _ =
-      let t = advance s r id i 0 me.0 me.1 Close at (omega arith, omega arith) (follows_section s r i n 0 me.0.me Close is low mine tt tt (λ ms. refl)) in
-      (t.0, keeps, tt, t.1, (t.2, refl))
+  pub opens_ok : (slots id : ℕ) (me : Me ℕ View) (i n x : ℕ) → i ≡ n * section_stride → n < k.readers → me.0.me ≡ n + 1
+      → x ≡ section_word (Open ∷ me.0.mine) → Allows (Kept k) slots id me i (λ _. x) (λ _. opens (step slots i x 0 none) me x)
+  opens_ok slots id me i n x is low mine word s r _ at _ =
+      let f = r.each_seat id me.0 at in
+      let t = advance s r id i x me.0 me.1 Open at (omega arith, omega arith)
+      (follows_section s r i n x me.0.me Open is low mine tt tt (word ∙ ap (λ ms. section_word (Open ∷ ms)) (sym f.mine))) in
+      (t.0, keeps, tt, t.1, (t.2, refl, section_told me.0 t.0 Open x t.2 word))
+
+  pub closes_ok : (slots id : ℕ) (me : Me ℕ View) (i n x : ℕ) → i ≡ n * section_stride → n < k.readers → me.0.me ≡ n + 1
+      → x ≡ section_word (Close ∷ me.0.mine) → Allows (Kept k) slots id me i (λ _. x) (λ _. closes (step slots i x 0 none) me x)
+  closes_ok slots id me i n x is low mine word s r _ at _ =
+      let f = r.each_seat id me.0 at in
+      let t = advance s r id i x me.0 me.1 Close at (omega arith, omega arith)
+      (follows_section s r i n x me.0.me Close is low mine tt tt (word ∙ ap (λ ms. section_word (Close ∷ ms)) (sym f.mine))) in
+      (t.0, keeps, tt, t.1, (t.2, refl, section_told me.0 t.0 Close x t.2 word))
 
   pub puts_ok : (slots id : ℕ) (me : Me ℕ View) (i x : ℕ) → ways_from k ≤ i → i < base_of k → me.0.me ≡ 0 → IsKnown me.0 →
       (x ≡ 0) ⊎ MayLink (layout_of k) me.0.seen (i - ways_from me.0.shape) x →

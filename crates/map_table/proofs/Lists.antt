@@ -4,7 +4,7 @@ use mathlib.Core.Logic.{dite}
 use native.Mathlib.Decide.{ℕ_discrete}
 use Rattle.map_table_laws.specs.declared.moves.Move.{Move}
 use Rattle.map_table_laws.specs.declared.moves.Move.TheVariants.{Open, Close, Learn, Load, Store, Put, Scan}
-use Rattle.map_table_laws.specs.History.{moves_of, inside, word_in, word_at}
+use Rattle.map_table_laws.specs.History.{moves_of, section_word, word_in, word_at}
 
 pub moves_self : (who : ℕ) (m : Move) (es : List (ℕ × Move)) → moves_of who ((who, m) ∷ es) ≡ m ∷ moves_of who es
 moves_self who m es = rw (eq-eqb who who refl) refl
@@ -32,7 +32,7 @@ quiet_step way (Store s p x) ms q = refl
 quiet_step way (Put s w) ms q = absurd q
 quiet_step way (Scan r x) ms q = refl
 
-still_step : (m : Move) (ms : List Move) → IsStill m → inside (m ∷ ms) ≡ inside ms
+still_step : (m : Move) (ms : List Move) → IsStill m → section_word (m ∷ ms) ≡ section_word ms
 still_step Open ms q = absurd q
 still_step Close ms q = absurd q
 still_step (Learn s h) ms q = refl
@@ -46,10 +46,10 @@ quiet me who way m es q = dite (ℕ_discrete me who)
     (λ e. rw (eq-eqb me who e) (quiet_step way m (moves_of who es) q))
     (λ ne. ap (word_in way) (moves_else me who m es ne))
 
-pub still : (me who : ℕ) (m : Move) (es : List (ℕ × Move)) → IsStill m → inside (moves_of who ((me, m) ∷ es)) ≡ inside (moves_of who es)
+pub still : (me who : ℕ) (m : Move) (es : List (ℕ × Move)) → IsStill m → section_word (moves_of who ((me, m) ∷ es)) ≡ section_word (moves_of who es)
 still me who m es q = dite (ℕ_discrete me who)
     (λ e. rw (eq-eqb me who e) (still_step m (moves_of who es) q))
-    (λ ne. ap inside (moves_else me who m es ne))
+    (λ ne. ap section_word (moves_else me who m es ne))
 
 -- a move that stores no word
 abbrev pub IsIdle : Move → Type 0

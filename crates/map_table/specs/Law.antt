@@ -12,7 +12,7 @@ use Rattle.map_table_laws.specs.declared.moves.Move.{Move}
 use Rattle.map_table_laws.specs.declared.moves.Move.TheVariants.{Open, Close, Learn, Load, Store, Put, Scan}
 use Rattle.map_table.specs.declared.view.TableShape.{TableShape}
 use Rattle.map_table.specs.declared.view.View.{View}
-use Rattle.map_table_laws.specs.History.{moves_of, inside, word_in, word_at, IsLawful}
+use Rattle.map_table_laws.specs.History.{moves_of, section_word, word_in, word_at, IsLawful}
 
 -- how many words an element has: those of its key, and those of its values behind them
 abbrev pub width_of : TableShape → ℕ
@@ -62,7 +62,7 @@ pub record Kept (k : TableShape) (s : State ℕ View) : Type 0 where
   pub ways : (way : ℕ) → way < ways_of k →
       slice_index s.words (ways_from k + way) ≡ word_in way (moves_of 0 log)
   pub sections : (r : ℕ) → r < k.readers →
-      slice_index s.words (r * section_stride) ≡ inside (moves_of (r + 1) log)
+      slice_index s.words (r * section_stride) ≡ section_word (moves_of (r + 1) log)
   pub stored : (element place : ℕ) → element < k.elements → place < width_of k →
       slice_index s.words (index_in k element place) ≡ word_at element place log
   pub lawful : IsLawful (layout_of k) log
@@ -101,13 +101,13 @@ Gains v m w =
 abbrev Sat : Type 0
 Sat = Me ℕ View
 
--- a reader began a section
+-- a reader began a section, and wrote the section word that it has since
 abbrev pub opens : Step ℕ → Sat → ℕ → Sat → Type 0
-opens st m n m' = Gains m.0 Open m'.0 × (m'.1 ≡ m.1)
+opens st m n m' = Gains m.0 Open m'.0 × (m'.1 ≡ m.1) × (st.first ≡ section_word m'.0.mine)
 
--- a reader ended its section
+-- a reader ended its section, and wrote the section word that it has since
 abbrev pub closes : Step ℕ → Sat → ℕ → Sat → Type 0
-closes st m n m' = Gains m.0 Close m'.0 × (m'.1 ≡ m.1)
+closes st m n m' = Gains m.0 Close m'.0 × (m'.1 ≡ m.1) × (st.first ≡ section_word m'.0.mine)
 
 -- a reader found the word of a way
 abbrev pub learns : Step ℕ → Sat → ℕ → Sat → Type 0

@@ -75,11 +75,11 @@ StaysIn k key way old new =
 abbrev pub Looks : WriterView → List Move → WriterView → Type 0
 Looks v ms w = ScansInTurn 0 v.table.shape.readers ms × Works v ms w
 
--- These elements, which were unlinked first, became free: each reader was seen outside a section since.
+-- These elements, which were unlinked first, became free: each reader has left its section since.
 pub record Frees (gone : List ℕ) (v w : WriterView) : Type 0 where
   pub unlinked : v.unlinked ≡ gone ++ w.unlinked
   pub free : w.free ≡ v.free ++ gone
-  pub outside : All (λ element. AreCleared v.table.shape.readers element w.view.mine) gone
+  pub cleared : All (λ element. AreCleared v.table.shape.readers element w.view.mine) gone
 
 -- an element that is neither free nor unlinked is linked
 abbrev pub IsNoneLost : View → List ℕ → List ℕ → Type 0

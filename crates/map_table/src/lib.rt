@@ -1,8 +1,8 @@
 //! A table of words, as large as people need, that readers look keys up in with no lock, beside one writer.
 //!
 //! Each reader has a seat. In a section of its own it learns which elements the ways of a key's two buckets name, and reads
-//! and writes the words of those. The writer links elements, replaces and unlinks them, and fills one anew only once it has
-//! seen each reader outside a section since.
+//! and writes the words of those. The writer links elements, replaces and unlinks them, and fills one anew only once each
+//! reader has left its section since.
 #![tactic(auto)]
 
 mod by_key;

@@ -29,7 +29,7 @@ impl Split<View> for Deals {
     ghost right = { reader_of };
 }
 
-/// A reader begins a section.
+/// A reader begins a section, and its section word counts it.
 pub struct Opens;
 
 impl Play<u8, View> for Opens {
@@ -38,7 +38,7 @@ impl Play<u8, View> for Opens {
     ghost then = { opens };
 }
 
-/// A reader ends its section.
+/// A reader ends its section, and its section word becomes even.
 pub struct Closes;
 
 impl Play<u8, View> for Closes {

@@ -1,9 +1,9 @@
 //! The table, and a reader's seat at it.
 ghost use Rattle.atomic_table.specs.Table.{State};
-ghost use Rattle.std.specs.Prelude.{◌≡◌, ◌⊎◌, ℕ, ◌+◌, ◌*◌, ◌<◌, ◌≤◌, [], ◌∷◌, length, slice_index, IfOk};
+ghost use Rattle.std.specs.Prelude.{◌≡◌, ◌⊎◌, ℕ, ◌+◌, ◌-◌, ◌*◌, ◌<◌, ◌≤◌, [], ◌∷◌, length, slice_index, IfOk};
 ghost use Rattle.map_table_laws.specs.declared.moves.Move.TheVariants.{Open, Close, Learn, Load, Store, Put, Scan};
 ghost use Rattle.map_table_laws.specs.Layout.{Names};
-ghost use Rattle.map_table_laws.specs.History.{inside, word_at, Holds, IsSpare, IsReader, MayLink};
+ghost use Rattle.map_table_laws.specs.History.{inside, most_sections, word_at, Holds, IsSpare, IsReader, MayLink};
 ghost use Rattle.map_table.specs.declared.view.View.{View};
 ghost use Rattle.map_table.specs.Hashes.{layout_of};
 ghost use Rattle.map_table.specs.Law.{Kept, ways_from, ways_of, count_of, base_of, width_of, writer_after};
@@ -43,22 +43,27 @@ impl Model for MapTable {
         × (t.base ≡ base_of t.shape) × (t.width ≡ width_of t.shape) × (t.ways ≡ ways_from t.shape) };
 }
 
+/// The section word of a reader outside, from which on it counts no more sections.
+const LAST_WORD: u64 = 1 << 63;
+
 /// A reader's seat at a table. Contracts see at which, and what the reader did and saw there. A seat that is dropped
 /// inside a section keeps elements from being filled anew, for ever: those that are unlinked later, and those that were unlinked
-/// before, unless its reader was seen outside since.
+/// before, unless the writer has seen since that its reader left an earlier section.
 #[derive(Drop)]
 pub struct ReadSeat {
     seat: Seat<u8, View>,
     // Where the reader's section word lies, and the place of the first word of its value in an element.
     section: usize,
     first: usize,
+    // The section word itself, which no one else writes.
+    word: u64,
 }
 
 impl Model for ReadSeat {
     ghost use Rattle.std.specs.Prelude.{◌≡◌, ◌+◌, ◌*◌, []};
     ghost use Rattle.map_table.specs.Limits.{section_stride};
     ghost use Rattle.map_table.specs.Hashes.{layout_of};
-    ghost use Rattle.map_table_laws.specs.History.{IsReader};
+    ghost use Rattle.map_table_laws.specs.History.{IsReader, section_word};
     ghost use Rattle.map_table.specs.Held.{Holder};
     ghost use Rattle.map_table.specs.Values.{first_of};
 
@@ -71,7 +76,22 @@ impl Model for ReadSeat {
 
     ghost invariant = { λ s. IsReader (layout_of s.seat.me.0.shape) s.seat.me.0.me
         × (s.section + section_stride ≡ s.seat.me.0.me * section_stride) × (s.seat.me.1 ≡ [])
-        × (s.first ≡ first_of s.seat.me.0.shape s.seat.me.0.me) };
+        × (s.first ≡ first_of s.seat.me.0.shape s.seat.me.0.me)
+        × (s.word ≡ section_word s.seat.me.0.mine) };
+}
+
+/// The section word that comes after this even one.
+#[inline]
+fn odd_after(word: u64) -> u64
+    requires small { word ≤ 2 * most_sections }
+    ensures counts { word < 2 * most_sections → result ≡ word + 1 }
+    ensures stops { word ≡ 2 * most_sections → result ≡ 2 * most_sections - 1 }
+{
+    if word < LAST_WORD {
+        word + 1
+    } else {
+        LAST_WORD - 1
+    }
 }
 
 impl ReadSeat {
@@ -135,28 +155,33 @@ impl MapTable {
         self.base + (element * self.width + place)
     }
 
-    /// Begins a section.
+    /// Begins a section. The reader's section word becomes one more, an odd number that it never had, so that the writer can
+    /// tell this section from those before. After 2^62 sections it stops counting, and only tells inside from outside.
     #[inline]
     pub fn open(&self, seat: &mut ReadSeat)
         requires table { seat.old.table ≡ self.now }
         requires outside { inside seat.old.view.mine ≡ 0 }
         ensures { Does seat.old Open seat.new }
     {
+        let word = odd_after(seat.word);
         self.table
             .shared
-            .store::<Opens>(&mut seat.seat, seat.section, 1);
+            .store::<Opens>(&mut seat.seat, seat.section, word);
+        seat.word = word;
     }
 
-    /// Ends the section.
+    /// Ends the section. The reader's section word becomes one more, and so even.
     #[inline]
     pub fn close(&self, seat: &mut ReadSeat)
         requires table { seat.old.table ≡ self.now }
         requires inside { inside seat.old.view.mine ≡ 1 }
         ensures { Does seat.old Close seat.new }
     {
+        let word = seat.word + 1;
         self.table
             .shared
-            .store::<Closes>(&mut seat.seat, seat.section, 0);
+            .store::<Closes>(&mut seat.seat, seat.section, word);
+        seat.word = word;
     }
 
     /// The word of a way. The words of the element that it names may be loaded and stored in the section that is open.
@@ -274,6 +299,7 @@ impl MapTable {
             seat,
             section: reader * SECTION_STRIDE,
             first,
+            word: 0,
         }
     }
 }
@@ -328,7 +354,7 @@ impl MapTable {
         self.table.shared.store::<Puts>(seat, index, word);
     }
 
-    /// Whether a reader is inside a section: 1 for inside, 0 for outside.
+    /// The section word of a reader: odd inside a section, and even outside.
     #[inline]
     pub(crate) fn scan(&self, seat: &mut Seat<u8, View>, reader: usize) -> u64
         requires table { (seat.old.table_id ≡ self.now.id) × (seat.old.me.0.shape ≡ self.now.shape) }

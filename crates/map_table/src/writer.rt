@@ -20,7 +20,7 @@ use crate::counting::add_up;
 use crate::hash::candidates_of;
 use crate::limits::BUCKET_WAYS;
 use crate::setup::{numbers, zeros};
-use crate::sightings::{least_of, look_round, lower_each, move_first, no_sightings};
+use crate::sightings::{Sighting, least_of, look_round, lower_each, move_first, no_sightings};
 use crate::table::MapTable;
 use crate::view::{TableShape, View};
 use crate::writing::{element_in, empty_of_both, fill_element, put_word, way_word};
@@ -37,9 +37,8 @@ pub struct Writer {
     ways: Vec<u64>,
     free: Vec<usize>,
     unlinked: Vec<usize>,
-    // Of each reader, how many of the unlinked elements it was seen outside a section since the unlinking of: of the first
-    // ones, since they are in the order of their unlinking.
-    seen: Vec<usize>,
+    // What the looks at each reader found.
+    seen: Vec<Sighting>,
 }
 
 impl Model for Writer {
@@ -186,15 +185,16 @@ impl Writer {
         self.unlinked.push_reserved(element);
     }
 
-    /// Looks at the section words of the readers that were not seen outside since the last unlinking, at each once. An
-    /// unlinked element is free once each reader was seen outside since, in one call or over several. It tells how many
-    /// became so. Those that were unlinked first come first.
+    /// Looks at the section words of the readers that may be where they were at the last unlinking, at each once. An unlinked
+    /// element is free once each reader has left its section since. A word proves it that is even, or other than at an
+    /// earlier look since the unlinking. It tells how many became free. Those that were unlinked first come first.
     pub fn reclaim(&mut self, table: &MapTable) -> usize
         requires table { self.old.table ≡ table.now }
         ensures table { self.new.table ≡ self.old.table }
         ensures freed { (gone : List ℕ) × (length gone ≡ result) × Frees gone self.old self.new }
 
-        // Each element that stays unlinked waits for a reader that was found inside now, and never outside since.
+        // Each element that stays unlinked waits for a reader that was found inside now, and is not cleared. It is in one
+        // section since the first look after the unlinking (law `uncleared_readers_stay_in_one_section`).
         ensures waits { (ms : List Move) × Looks self.old ms self.new
             × All (λ e. IsHeldUp table.now.shape.readers e ms self.new.view.mine) self.new.unlinked }
     {

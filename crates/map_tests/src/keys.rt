@@ -127,6 +127,30 @@ fn replace_beside(
     Some(([linked, replaced, last], [waiting, early, late, left]))
 }
 
+/// Replaces the value of a key beside a reader, and reclaims twice in its section and once in its next one: how many
+/// elements each call frees.
+fn reclaim_beside(
+    table: &MapTable,
+    reader: &mut ReadSeat,
+    writer: &mut Writer,
+) -> Option<[usize; 3]>
+    requires table { writer.old.table ≡ table.now }
+    requires shape { table.now.shape ≡ SHAPE }
+    requires reader { IsReady table.now reader.old }
+{
+    table.open(reader);
+    let way = writer.link(table, &[5, 7], &[50])?;
+    if !writer.replace(table, way, &[5, 7], &[51]) {
+        return None;
+    }
+    let (first, second) = (writer.reclaim(table), writer.reclaim(table));
+    table.close(reader);
+    table.open(reader);
+    let third = writer.reclaim(table);
+    table.close(reader);
+    Some([first, second, third])
+}
+
 /// Finds the way of a key by the key alone, unlinks it, and finds it no more. Whether it was so.
 fn unlink_found(table: &MapTable, writer: &mut Writer) -> bool
     requires table { writer.old.table ≡ table.now }
@@ -175,6 +199,19 @@ fn replaced_value_is_found(rt: HostRuntime) -> Result<(), Fail> {
     let (found, elements) = replace_beside(&table, first, second, &mut writer).expect(&rt, "room");
     assert_eq!(rt; found, [Some(50), Some(51), Some(51)]);
     assert_eq!(rt; elements, [1, 0, 1, 0]);
+    Ok(())
+}
+
+/// A reader that begins its next section between two looks holds up nothing, though each look finds it inside.
+#[test]
+fn next_section_frees(rt: HostRuntime) -> Result<(), Fail> {
+    let (table, seats, mut writer) = MapTable::new(rt.alloc(), SHAPE)?;
+    let mut list = seats.list;
+    let Some(reader) = list.first_mut() else {
+        return Err(Fail::from("no seat"));
+    };
+    let freed = reclaim_beside(&table, reader, &mut writer).expect(&rt, "room");
+    assert_eq!(rt; freed, [0, 0, 1]);
     Ok(())
 }
 

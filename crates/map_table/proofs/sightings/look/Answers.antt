@@ -1,35 +1,36 @@
-use Rattle.std.proofs.Common.{rules, ◌≡◌, ◌≢◌, ◌+◌, ◌<◌, ◌∷◌, [], refl, sym, subst, inl, inr, arith, length, get_or-set_same}
+use Rattle.std.proofs.Common.{◌≡◌, ◌+◌, ◌%◌, ◌<◌, ◌∷◌, [], refl, sym, ap, ◌∙◌, subst, inl, inr, arith, length}
+use Rattle.std.proofs.lemmas.List.{get_or_default}
+use mathlib.Core.Logic.{dite}
+use native.Mathlib.Decide.{ℕ_discrete}
 use Rattle.map_table_laws.specs.declared.moves.Move.TheVariants.{Scan}
+use Rattle.map_table_laws.proofs.Words.{odd_else}
 use Rattle.map_table.specs.declared.view.TableShape.{TableShape}
-use Rattle.map_table.proofs.Seen.{sightings_inside, sightings_outside}
+use Rattle.map_table.specs.declared.sightings.Sighting.{Sighting}
+use Rattle.map_table.specs.Sightings.{no_sighting, sighting_at, IsNoted}
+use Rattle.map_table.proofs.Seen.{set_here, sightings_looked}
 use Rattle.map_table.proofs.sightings.look.Goals as goal
-
-pub returns-then-scan-ne0-clause-seen : goal.returns-then-scan-ne0-clause-seen
-returns-then-scan-ne0-clause-seen c =
-    let ne : c.scan.result ≢ 0 = search rules in
-    sightings_inside c.args.seat.now.me.0 c.scan.new.seat.me.0 c.args.reader c.scan.result c.args.unlinked.now c.args.seen.now.items ne
-    c.scan.ensures.step c.requires.seen
-
-pub returns-then-scan-ne0-clause-steps : goal.returns-then-scan-ne0-clause-steps
-returns-then-scan-ne0-clause-steps c =
-    let ne : c.scan.result ≢ 0 = search rules in
-    (Scan (c.args.reader + 1) c.scan.result ∷ [], c.scan.ensures.step, (omega arith, omega arith, tt), inr (inl (refl, ne)))
 
 pub returns-clause-seen : goal.returns-clause-seen
 returns-clause-seen c =
-    let none : c.scan.result ≡ 0 = search rules in
     let within : c.args.reader < c.args.seat.now.me.0.shape.readers =
     subst (λ (k : TableShape). c.args.reader < k.readers) (sym c.requires.table.1) c.requires.reader in
-    sightings_outside c.args.seat.now.me.0 c.scan.new.seat.me.0 c.args.reader c.scan.result c.args.unlinked.now c.args.seen.now.items none within
-    c.scan.ensures.step c.requires.seen
+    let room = c.requires.seen.room in
+    let at : c.index-noted.result.now ≡ sighting_at c.args.seen.now.items c.args.reader =
+    c.index-noted.ensures ∙ get_or_default c.args.seen.now.items c.args.reader c.index-noted.result.now no_sighting (omega (arith, room, within)) in
+    sightings_looked c.args.seat.now.me.0 c.scan-word.new.seat.me.0 c.args.reader c.scan-word.result c.args.unlinked.now c.args.seen.now.items
+    c.after_look.result within c.scan-word.ensures.step
+    (subst (λ s. IsNoted s c.scan-word.result (length c.args.unlinked.now) c.after_look.result) at c.after_look.ensures) c.requires.seen
 
 pub returns-clause-steps : goal.returns-clause-steps
 returns-clause-steps c =
     let within : c.args.reader < c.args.seat.now.me.0.shape.readers =
     subst (λ (k : TableShape). c.args.reader < k.readers) (sym c.requires.table.1) c.requires.reader in
-    let room = c.requires.seen.room in (
-      Scan (c.args.reader + 1) c.scan.result ∷ [],
-      c.scan.ensures.step,
+    let room = c.requires.seen.room in
+    let here = set_here c.args.seen.now.items c.args.reader c.after_look.result (omega (arith, room, within)) in (
+      Scan (c.args.reader + 1) c.scan-word.result ∷ [],
+      c.scan-word.ensures.step,
       (omega arith, omega arith, tt),
-      inl (get_or-set_same c.args.seen.now.items c.args.reader (length c.args.unlinked.now) 0 (omega (arith, room, within))),
+      dite (ℕ_discrete (c.scan-word.result % 2) 0)
+          (λ even. inl (ap (λ (s : Sighting). s.cleared) here ∙ c.after_look.ensures.outside even))
+          (λ odd. inr (inl (refl, odd_else c.scan-word.result odd))),
     )

@@ -40,8 +40,8 @@ invariant_of-self c =
       c.look_round.ensures.held ∙ i.1,
       fits_still v w _ _ still m.to_capacity i.2,
       fits_still v w _ _ still m.from_capacity i.3,
-      subst (λ (z : List ℕ). AreSightings w z c.lower_each.new.numbers.items) (sym m.from)
-          (sightings_freed w count unlinked c.look_round.new.seen.items c.lower_each.new.numbers.items c.lower_each.ensures.room
+      subst (λ (z : List ℕ). AreSightings w z c.lower_each.new.seen.items) (sym m.from)
+          (sightings_freed w count unlinked c.look_round.new.seen.items c.lower_each.new.seen.items c.lower_each.ensures.room
           c.lower_each.ensures.lower least.most_is a),
       subst (λ (z : List ℕ × List ℕ). IsNoneLost w z.0 z.1) (λ j. (sym m.to j, sym m.from j))
           (freed_none_lost w count free unlinked (quiet_none_lost v w s.0 quiet s.1 free unlinked i.5)),
@@ -68,7 +68,7 @@ returns-clause-freed c =
         unlinked = sym (ap (λ (z : WriterView). z.unlinked) c.self.view_is) ∙
             (sym (take-append-drop count unlinked) ∙ ap (λ z. take count unlinked ++ z) (sym m.from));
         free = m.to ∙ ap (λ (z : WriterView). z.free ++ take count unlinked) c.self.view_is;
-        outside = subst (λ n. All (λ e. AreCleared n e w.mine) (take count unlinked)) readers
+        cleared = subst (λ n. All (λ e. AreCleared n e w.mine) (take count unlinked)) readers
             (all_cleared w c.self.inside.ways.items c.self.inside.free.items unlinked c.look_round.new.seen.items count b a least);
       },
     )
