@@ -8,6 +8,7 @@
 mod by_key;
 mod counting;
 mod hash;
+mod keys;
 mod limits;
 mod lookup;
 mod rule;

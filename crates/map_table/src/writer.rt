@@ -18,6 +18,7 @@ ghost use Rattle.map_table.specs.Writing.{Puts, Works, Looks, Frees, AreFull, St
 use crate::by_key::find_way;
 use crate::counting::add_up;
 use crate::hash::candidates_of;
+use crate::keys::load_key;
 use crate::limits::BUCKET_WAYS;
 use crate::setup::{numbers, zeros};
 use crate::sightings::{Sighting, least_of, look_round, lower_each, move_first, no_sightings};
@@ -149,6 +150,30 @@ impl Writer {
             IsLinkedUnder (layout_of table.now.shape) 0 key.now way self.new.view.seen → ⊥ }
     {
         find_way(table, &mut self.seat, self.ways.as_slice(), key)
+    }
+
+    /// Loads the key that is linked in a way. False where the way is empty, and then nothing is written.
+    pub fn key_at(&mut self, table: &MapTable, way: usize, key: &mut [u64]) -> bool
+        requires table { self.old.table ≡ table.now }
+        requires way { way < ways_of table.now.shape }
+        requires key { length key.old ≡ table.now.shape.key_words }
+        ensures table { self.new.table ≡ self.old.table }
+        ensures free { self.new.free ≡ self.old.free }
+        ensures unlinked { self.new.unlinked ≡ self.old.unlinked }
+        ensures steps { (ms : List Move) × OnlySearches (layout_of table.now.shape) 0 ms
+            × Works self.old ms self.new }
+        ensures found { result ≡ true →
+            IsLinkedUnder (layout_of table.now.shape) 0 key.new way self.new.view.seen }
+        ensures none { (result ≡ false) ↔ (word_in way self.old.view.mine ≡ 0) }
+        ensures unchanged { result ≡ false → self.new ≡ self.old }
+        ensures unwritten { result ≡ false → key.new ≡ key.old }
+        ensures count { length key.new ≡ length key.old }
+    {
+        let Some(element) = self.element_at(way) else {
+            return false;
+        };
+        load_key(table, &mut self.seat, element, key);
+        true
     }
 
     /// The sum, modulo 2^64, of the words at this place of all values of an element; of counters it is what all readers
