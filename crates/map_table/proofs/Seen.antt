@@ -183,7 +183,8 @@ sightings_unlinked v w way word element unlinked seen g all names a =
     }
 
 -- the note of a reader after a look at it
-module _ (r x : ℕ) (mine : List Move) (unlinked : List ℕ) (old new : Sighting) (a : IsSighting r mine unlinked old) (n : IsNoted old x (length unlinked) new) where
+module _ (r x : ℕ) (mine : List Move) (unlinked : List ℕ) (old new : Sighting) (a : IsSighting r mine unlinked old)
+    (n : IsNoted old x (length unlinked) new) where
   -- it was outside
   noted_outside : x % 2 ≡ 0 → IsSighting r (Scan r x ∷ mine) unlinked new
   noted_outside even =

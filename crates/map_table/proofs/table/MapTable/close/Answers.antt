@@ -19,7 +19,8 @@ pub invariant_of-seat : goal.invariant_of-seat
 invariant_of-seat c =
     let i = c.seat.invariant in
     let in_now = subst (λ (h : Holder). inside h.view.mine ≡ 1) (sym c.seat.view_is) c.requires.inside in
-    seat_kept _ _ Close _ _ _ _ c.store.ensures.2.0 c.store.ensures.2.1 i (close_word c.seat.inside.seat.me.0.mine c.seat.inside.word (c.seat.inside.word + 1) i.4 in_now refl)
+    seat_kept _ _ Close _ _ _ _ c.store.ensures.2.0 c.store.ensures.2.1 i
+    (close_word c.seat.inside.seat.me.0.mine c.seat.inside.word (c.seat.inside.word + 1) i.4 in_now refl)
 
 pub returns : goal.returns
 returns c = does _ _ _ _ _ Close Close c.seat.view_is c.store.ensures.0 refl c.store.ensures.2.0
