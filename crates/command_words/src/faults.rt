@@ -137,6 +137,11 @@ fn no_command_but(alloc: Global, word: &str, name: &str) -> Result<String, Alloc
     no_command_named(alloc, word, tip.as_str())
 }
 
+/// What `clap` says of an error.
+fn text_of(alloc: Global, error: &clap::Error) -> Result<String, AllocError> {
+    format!(in alloc; "{error}")
+}
+
 /// What is said of a first word that is no command, by `clap` where there is no tip of ours.
 fn told_of_command(alloc: Global, error: &clap::Error, word: &str) -> Result<String, AllocError> {
     if let Some(name) = command_meant(word) {
@@ -144,7 +149,7 @@ fn told_of_command(alloc: Global, error: &clap::Error, word: &str) -> Result<Str
     }
     match tip_of_first(word) {
         Some(tip) => no_command_named(alloc, word, tip),
-        None => format!(in alloc; "{error}"),
+        None => text_of(alloc, error),
     }
 }
 
@@ -166,14 +171,14 @@ fn asks_for_help_of_help(words: &[String]) -> bool {
 }
 
 /// What `clap` says of words of this command, with the usage of `run` and `trace`, which it leaves out of some faults.
-fn with_usage(alloc: Global, command: &str, text: String) -> Result<String, AllocError> {
+fn with_usage(alloc: Global, command: &str, text: &str) -> Result<String, AllocError> {
     if text.contains("Usage:") || (command != "run" && command != "trace") {
-        return Ok(text);
+        return String::from_str(alloc, text);
     }
     let usage = usage_of(command);
     match text.split_once("\n\nFor more") {
         Some((why, more)) => format!(in alloc; "{why}\n\nUsage: {usage}\n\nFor more{more}"),
-        None => Ok(text),
+        None => String::from_str(alloc, text),
     }
 }
 
@@ -189,9 +194,9 @@ fn before_tip(why: &str) -> &str {
 }
 
 /// What `clap` says, with a tip of ours in place of its tip on values.
-fn with_tip(alloc: Global, text: String, tip: Option<&str>) -> Result<String, AllocError> {
+fn with_tip(alloc: Global, text: &str, tip: Option<&str>) -> Result<String, AllocError> {
     let Some((why, more)) = text.split_once("\n\nUsage") else {
-        return Ok(text);
+        return String::from_str(alloc, text);
     };
     let why = before_tip(why);
     match tip {
@@ -261,7 +266,7 @@ fn script_file(words: &[String]) -> Option<&str> {
 }
 
 /// What is said of a word that no argument of the command takes.
-fn told_of_word(alloc: Global, words: &[String], text: String) -> Result<String, AllocError> {
+fn told_of_word(alloc: Global, words: &[String], text: &str) -> Result<String, AllocError> {
     match script_file(words) {
         Some(file) => {
             let tip = format!(in alloc;
@@ -270,7 +275,7 @@ fn told_of_word(alloc: Global, words: &[String], text: String) -> Result<String,
             with_tip(alloc, text, Some(tip.as_str()))
         }
         None => {
-            let tip = tip_of_word(words, text.as_str());
+            let tip = tip_of_word(words, text);
             with_tip(alloc, text, tip)
         }
     }
@@ -280,21 +285,32 @@ fn told_of_word(alloc: Global, words: &[String], text: String) -> Result<String,
 const MAP_TIP: &str =
     "what follows --map NAME is taken for its elements: FILE stands before --map, or behind `--`";
 
-/// What `clap` says of words with a fault of this kind, with the usage and the tips that it leaves out.
-fn told_by_clap(
+/// What `clap` says of words with a fault of this kind, with the tips that it leaves out.
+fn with_tips(
     alloc: Global,
     words: &[String],
     kind: ErrorKind,
-    text: String,
+    text: &str,
 ) -> Result<String, AllocError> {
-    let text = with_usage(alloc, word_at(words, 1), text)?;
     match kind {
         ErrorKind::UnknownArgument => told_of_word(alloc, words, text),
         ErrorKind::MissingRequiredArgument if has_word(words, "--map") => {
             with_tip(alloc, text, Some(MAP_TIP))
         }
-        _ => Ok(text),
+        _ => String::from_str(alloc, text),
     }
+}
+
+/// What `clap` says of words with an error of this kind, with what it leaves out.
+fn told_by_clap(
+    alloc: Global,
+    error: &clap::Error,
+    kind: ErrorKind,
+    words: &[String],
+) -> Result<String, AllocError> {
+    let text = text_of(alloc, error)?;
+    let text = with_usage(alloc, word_at(words, 1), text.as_str())?;
+    with_tips(alloc, words, kind, text.as_str())
 }
 
 /// What is said of words with this error.
@@ -304,7 +320,7 @@ fn told(alloc: Global, error: &clap::Error, words: &[String]) -> Result<String, 
             String::from_str(alloc, HELP_OF_HELP)
         }
         ErrorKind::InvalidSubcommand => told_of_command(alloc, error, word_at(words, 1)),
-        kind => told_by_clap(alloc, words, kind, format!(in alloc; "{error}")?),
+        kind => told_by_clap(alloc, error, kind, words),
     }
 }
 

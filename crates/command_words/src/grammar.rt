@@ -1,6 +1,6 @@
 //! The grammar by which `clap` takes the words apart.
 
-use crate::help::HELP;
+use crate::help::{HELP, help_of};
 use crate::request::VERSION;
 use crate::table::{Argument, COMMANDS, CommandWords};
 use clap::{Arg, ArgAction};
@@ -49,11 +49,14 @@ fn argument<'a>(alloc: Global, argument: Argument) -> Result<Arg<'a>, AllocError
     }
 }
 
-/// A command with what its help says before and behind the arguments.
-fn named<'a>(alloc: Global, words: &CommandWords) -> clap::Command<'a> {
-    clap::Command::new(alloc, words.name)
-        .about(words.about)
-        .after_help(words.help)
+/// A command with what its help says before the arguments.
+fn command_about<'a>(alloc: Global, name: &'static str, about: &'static str) -> clap::Command<'a> {
+    clap::Command::new(alloc, name).about(about)
+}
+
+/// The command with what its help says behind the arguments.
+fn with_help<'a>(command: clap::Command<'a>, help: &'static str) -> clap::Command<'a> {
+    command.after_help(help)
 }
 
 /// The command with a usage of its own, if there is one.
@@ -64,6 +67,16 @@ fn with_usage<'a>(command: clap::Command<'a>, usage: Option<&'static str>) -> cl
     }
 }
 
+/// The command with one more argument.
+fn with_argument<'a>(
+    alloc: Global,
+    command: clap::Command<'a>,
+    word: Argument,
+) -> Result<clap::Command<'a>, AllocError> {
+    let argument = argument(alloc, word)?;
+    command.arg(argument)
+}
+
 /// The command with these arguments.
 fn with_arguments<'a>(
     alloc: Global,
@@ -71,16 +84,18 @@ fn with_arguments<'a>(
     arguments: &[Argument],
 ) -> Result<clap::Command<'a>, AllocError> {
     for word in arguments {
-        let argument = argument(alloc, *word)?;
-        command = command.arg(argument)?;
+        command = with_argument(alloc, command, *word)?;
     }
     Ok(command)
 }
 
 /// The grammar of the words of a command.
 fn grammar_of<'a>(alloc: Global, words: &CommandWords) -> Result<clap::Command<'a>, AllocError> {
-    let command = with_usage(named(alloc, words), words.usage);
-    with_arguments(alloc, command, words.arguments)
+    let command = with_help(
+        command_about(alloc, words.name, words.about),
+        help_of(words.name),
+    );
+    with_arguments(alloc, with_usage(command, words.usage), words.arguments)
 }
 
 /// The program with these commands.
@@ -96,16 +111,13 @@ fn with_commands<'a>(
     Ok(program)
 }
 
-/// The program, before its commands.
-fn program<'a>(alloc: Global) -> clap::Command<'a> {
-    clap::Command::new(alloc, "bpfrt")
-        .about("An eBPF runtime with proved contracts")
-        .version(VERSION)
-        .after_help(HELP)
-        .subcommand_required(true)
+/// The program with its version, of which a command is asked.
+fn with_version<'a>(program: clap::Command<'a>) -> clap::Command<'a> {
+    program.version(VERSION).subcommand_required(true)
 }
 
 /// The grammar of the words.
 pub(crate) fn grammar<'a>(alloc: Global) -> Result<clap::Command<'a>, AllocError> {
-    with_commands(alloc, program(alloc), COMMANDS)
+    let program = command_about(alloc, "bpfrt", "An eBPF runtime with proved contracts");
+    with_commands(alloc, with_version(with_help(program, HELP)), COMMANDS)
 }

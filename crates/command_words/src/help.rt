@@ -1,7 +1,7 @@
 //! What `--help` says of each command, behind its arguments.
 
 /// Behind the commands of `bpfrt --help`.
-pub const HELP: &str = "\
+pub(crate) const HELP: &str = "\
 A program file is raw bytes, or a text with a context, maps and slots (docs/PROGRAM_FILES.md). FILE is a path, or `-`
 for standard input. `bpfrt COMMAND --help` says what a command reads, prints and answers. Help is written on standard
 error.
@@ -9,7 +9,7 @@ error.
 Status: 0 fine, 1 refused or a wrong line, 2 usage, 3 memory, reading or writing";
 
 /// Behind the arguments of `bpfrt check --help`.
-pub const CHECK_HELP: &str = "\
+const CHECK_HELP: &str = "\
 Reads a program file: a text (`bpfrt 1`, `ctx N`, `map ..`, `code`, slots in hexadecimal digits),
 whose maps and context the program is verified against, or raw bytes, with neither.
 
@@ -39,7 +39,7 @@ Example:
   accepted 33 instructions 35 slots";
 
 /// Behind the arguments of `bpfrt disasm --help`.
-pub const DISASM_HELP: &str = "\
+const DISASM_HELP: &str = "\
 Reads a program file as `bpfrt check` does, and verifies nothing.
 
 Prints the text of the program, one instruction a line (docs/ASSEMBLY.md). The file's context and maps are no part
@@ -58,7 +58,7 @@ Example:
   exit";
 
 /// Behind the arguments of `bpfrt asm --help`.
-pub const ASM_HELP: &str = "\
+const ASM_HELP: &str = "\
 Reads a text of instructions, one a line, as `bpfrt disasm` writes it, or with labels, names, hexadecimal numbers
 and comments (docs/ASSEMBLY.md). Above them may stand the lines of a program file, from `ctx N` to `code`, with
 comments and empty lines. Lines may end by CR LF.
@@ -84,7 +84,7 @@ Example:
   9500000000000000";
 
 /// Behind the words of `bpfrt script --help`.
-pub const SCRIPT_HELP: &str = "\
+const SCRIPT_HELP: &str = "\
 Reads a script from standard input to its end, one command a line (docs/SCRIPTS.md): maps and programs,
 then what happens to them.
 
@@ -104,7 +104,7 @@ Example:
   value 0500000000000000";
 
 /// Behind the arguments of `bpfrt pool --help`.
-pub const POOL_HELP: &str = "\
+const POOL_HELP: &str = "\
 Reads a program file as `bpfrt check` does, verifies it, and then runs it COUNT times by WORKERS threads that
 share one world of the file's maps. Each job starts the program on a context of zeros, steps it to its exit,
 and drops the run. Where no job changes a map and the maps are small, each 512 jobs have a world of their own,
@@ -130,7 +130,7 @@ Example:
   entries 8";
 
 /// Behind the arguments of `bpfrt run --help`.
-pub const RUN_HELP: &str = "\
+const RUN_HELP: &str = "\
 Reads a program file as `bpfrt check` does, verifies it, and then runs it once on the context CTX, to its exit,
 in a world of its own with the file's maps. They are new, but for what --map puts in. Bytes are two hexadecimal
 digits each. What follows --map NAME is taken for its elements, so it stands behind FILE and CTX, or FILE and CTX
@@ -160,7 +160,7 @@ Example:
   end";
 
 /// Behind the arguments of `bpfrt trace --help`.
-pub const TRACE_HELP: &str = "\
+const TRACE_HELP: &str = "\
 Runs a program as `bpfrt run` does, with the same words, and tells each of its steps above what that prints.
 
 Prints of each step `SLOT: INSTRUCTION`, and below it, behind two spaces, what a store writes, what a call does (the
@@ -179,7 +179,7 @@ Example:
   exit 1 steps 2";
 
 /// Behind the arguments of `bpfrt filter --help`.
-pub const FILTER_HELP: &str = "\
+const FILTER_HELP: &str = "\
 Reads a classic BPF program: a filter as `tcpdump -ddd` writes it, or a policy as libseccomp exports it (--seccomp).
 
 Prints a program file, whose program exits with what the classic program returns. The context of a filter is how
@@ -200,3 +200,17 @@ Status, and the line on standard error:
 Example:
   $ printf '1\\n6 0 0 262144\\n' | bpfrt filter - | bpfrt check -
   accepted 6 instructions 6 slots";
+
+/// What stands behind the arguments in the help of the command of this name.
+pub(crate) fn help_of(command: &str) -> &'static str {
+    match command {
+        "check" => CHECK_HELP,
+        "disasm" => DISASM_HELP,
+        "asm" => ASM_HELP,
+        "script" => SCRIPT_HELP,
+        "pool" => POOL_HELP,
+        "run" => RUN_HELP,
+        "trace" => TRACE_HELP,
+        _ => FILTER_HELP,
+    }
+}

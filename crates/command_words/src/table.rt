@@ -1,9 +1,5 @@
 //! The commands and their words, as data.
 
-use crate::help::{
-    ASM_HELP, CHECK_HELP, DISASM_HELP, FILTER_HELP, POOL_HELP, RUN_HELP, SCRIPT_HELP, TRACE_HELP,
-};
-
 /// A word of a command, or an option, and what the command's help says of it.
 #[derive(Clone, Copy)]
 pub(crate) enum Argument {
@@ -40,14 +36,13 @@ pub(crate) enum Argument {
     },
 }
 
-/// A command: its name, its help before and behind the arguments, its usage where `clap` is not to make it, and its arguments in
-/// the order of the help.
+/// A command: its name, what its help says before the arguments, its usage where `clap` is not to make it, and its arguments in the
+/// order of the help.
 #[derive(Clone, Copy)]
 pub(crate) struct CommandWords {
     pub name: &'static str,
     pub about: &'static str,
     pub usage: Option<&'static str>,
-    pub help: &'static str,
     pub arguments: &'static [Argument],
 }
 
@@ -108,7 +103,6 @@ pub(crate) const COMMANDS: &[CommandWords] = &[
         name: "check",
         about: "Verifies the program in FILE",
         usage: None,
-        help: CHECK_HELP,
         arguments: &[
             FILE,
             Argument::Flag {
@@ -131,14 +125,12 @@ pub(crate) const COMMANDS: &[CommandWords] = &[
         name: "disasm",
         about: "Writes the text of the program in FILE, one instruction a line",
         usage: None,
-        help: DISASM_HELP,
         arguments: &[FILE],
     },
     CommandWords {
         name: "asm",
         about: "Writes the bytes of the program whose text is in FILE",
         usage: None,
-        help: ASM_HELP,
         arguments: &[
             Argument::Word {
                 name: "FILE",
@@ -160,7 +152,6 @@ pub(crate) const COMMANDS: &[CommandWords] = &[
         name: "script",
         about: "Answers the script on standard input",
         usage: None,
-        help: SCRIPT_HELP,
         arguments: &[Argument::Flag {
             name: "explain",
             help: "say in words why a line is refused or no command",
@@ -170,7 +161,6 @@ pub(crate) const COMMANDS: &[CommandWords] = &[
         name: "pool",
         about: "Runs the program in FILE so many times by a pool of workers",
         usage: None,
-        help: POOL_HELP,
         arguments: &[
             Argument::Number {
                 name: "WORKERS",
@@ -188,21 +178,18 @@ pub(crate) const COMMANDS: &[CommandWords] = &[
         name: "run",
         about: "Runs the program in FILE once",
         usage: Some(RUN_USAGE),
-        help: RUN_HELP,
         arguments: RUN_ARGUMENTS,
     },
     CommandWords {
         name: "trace",
         about: "Runs the program in FILE once, and tells each step",
         usage: Some(TRACE_USAGE),
-        help: TRACE_HELP,
         arguments: RUN_ARGUMENTS,
     },
     CommandWords {
         name: "filter",
         about: "Translates the classic program in FILE, and writes a program file",
         usage: None,
-        help: FILTER_HELP,
         arguments: &[
             Argument::Word {
                 name: "FILE",

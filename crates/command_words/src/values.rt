@@ -7,7 +7,7 @@ use clap::ArgMatches;
 use classic::Data;
 use hex::{FromHexError, decode};
 use script_lines::number_of;
-use std::alloc::Global;
+use std::alloc::{AllocError, Global};
 
 /// The file that the words tell: `-` is standard input.
 pub(crate) fn file_of(alloc: Global, matches: &ArgMatches<'_>) -> Result<InputFile, WordsFault> {
@@ -90,27 +90,37 @@ fn context_of(
     }
 }
 
-/// The element of a map that these words spell, if they do.
+/// The element of a map with this key and this value.
 fn element(
     alloc: Global,
     map: &str,
-    key: &str,
+    key: Vec<u8>,
+    value: Vec<u8>,
+) -> Result<MapElement, AllocError> {
+    let map = String::from_str(alloc, map)?;
+    Ok(MapElement { map, key, value })
+}
+
+/// The element of a map with this key, and with the value that a word spells, if it does.
+fn element_at(
+    alloc: Global,
+    map: &str,
+    key: Vec<u8>,
     value: &str,
 ) -> Result<Option<MapElement>, WordsFault> {
-    let Some(key) = bytes_of(alloc, key)? else {
-        return Ok(None);
-    };
-    let Some(value) = bytes_of(alloc, value)? else {
-        return Ok(None);
-    };
-    let map = String::from_str(alloc, map)?;
-    Ok(Some(MapElement { map, key, value }))
+    match bytes_of(alloc, value)? {
+        Some(value) => Ok(Some(element(alloc, map, key, value)?)),
+        None => Ok(None),
+    }
 }
 
 /// The element that a word `KEY=VALUE` is, if it is one.
 fn element_of(alloc: Global, map: &str, word: &str) -> Result<Option<MapElement>, WordsFault> {
-    match word.split_once('=') {
-        Some((key, value)) => element(alloc, map, key, value),
+    let Some((key, value)) = word.split_once('=') else {
+        return Ok(None);
+    };
+    match bytes_of(alloc, key)? {
+        Some(key) => element_at(alloc, map, key, value),
         None => Ok(None),
     }
 }
