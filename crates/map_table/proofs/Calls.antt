@@ -1,5 +1,5 @@
 -- What the calls of a seat rest on.
-use Rattle.std.proofs.Common.{◌≡◌, ◌⊎◌, ℕ, ◌+◌, ◌-◌, ◌*◌, ◌/◌, ◌<◌, ◌≤◌, ◌^◌, inl, inr, List, [], ◌∷◌, ◌++◌, refl, sym, ap, ◌∙◌, subst, arith}
+use Rattle.std.proofs.Common.{◌≡◌, ◌⊎◌, ℕ, suc, min, ◌+◌, ◌-◌, ◌*◌, ◌/◌, ◌<◌, ◌≤◌, ◌^◌, inl, inr, List, [], ◌∷◌, ◌++◌, refl, sym, ap, ◌∙◌, subst, arith}
 use mathlib.Core.Option.{none}
 use Rattle.atomic_table.specs.Table.{Me, step, Allows}
 use Rattle.atomic_table.specs.Seated.{TableId}
@@ -8,7 +8,7 @@ use Rattle.map_table_laws.specs.declared.moves.Move.TheVariants.{Open, Close, Le
 use Rattle.map_table_laws.specs.Layout.{Names}
 use Rattle.map_table_laws.specs.History.{inside, opened, most_sections, section_word, word_at, Holds, IsSpare, IsLawful, IsReader, MayLink}
 use Rattle.map_table_laws.proofs.Standing.{fits}
-use Rattle.map_table_laws.proofs.Words.{inside_opened, word_below, word_at_limit}
+use Rattle.std.proofs.Math.Nat.{min-le_right, min-eq_left, min-eq_right}
 use mathlib.Core.Logic.{dite}
 use native.Mathlib.Decide.{dec_lt}
 use Rattle.map_table.specs.Limits.{section_stride}
@@ -96,45 +96,41 @@ closes_at j k slots id me i x same reader at word =
 
 -- what a reader's seat keeps
 abbrev pub IsSeat : Me ℕ View → ℕ → ℕ → ℕ → Type 0
-IsSeat me section first word = IsReader (layout_of me.0.shape) me.0.me × IsSection section me.0.me × (me.1 ≡ [])
-    × (first ≡ first_of me.0.shape me.0.me) × (word ≡ section_word me.0.mine)
+IsSeat me section first even = IsReader (layout_of me.0.shape) me.0.me × IsSection section me.0.me × (me.1 ≡ [])
+    × (first ≡ first_of me.0.shape me.0.me) × (even ≡ 2 * min (opened me.0.mine) most_sections)
 
 -- it keeps it through each step
-pub seat_kept : (me new : Me ℕ View) (m : Move) (section first old word : ℕ) → Gains me.0 m new.0 → new.1 ≡ me.1 → IsSeat me section first old →
-    word ≡ section_word (m ∷ me.0.mine) → IsSeat new section first word
-seat_kept me new m section first old word g held i is =
+pub seat_kept : (me new : Me ℕ View) (m : Move) (section first old even : ℕ) → Gains me.0 m new.0 → new.1 ≡ me.1 → IsSeat me section first old →
+    even ≡ 2 * min (opened (m ∷ me.0.mine)) most_sections → IsSeat new section first even
+seat_kept me new m section first old even g held i is =
     let w : new ≡ (did me.0 m g.0, me.1) = λ j. (g.1 j, held j) in
-    subst (λ (z : Me ℕ View). IsSeat z section first word) (sym w) (i.0, i.1, i.2, i.3, is)
+    subst (λ (z : Me ℕ View). IsSeat z section first even) (sym w) (i.0, i.1, i.2, i.3, is)
 
 -- the word of a reader outside is no more than the last
-pub small_word : (ms : List Move) (word : ℕ) → word ≡ section_word ms → word ≤ 2 * most_sections
-small_word ms word is = dite (dec_lt (opened ms) (2 ^ 62))
-    (λ l. let e = word_below ms l in omega (arith, is, e, l))
-    (λ l. let e = word_at_limit ms l in omega (arith, is, e))
+pub small_even : (n even : ℕ) → even ≡ 2 * min n most_sections → even ≤ 2 * most_sections
+small_even n even is = let l = min-le_right n most_sections in omega (arith, is, l)
 
--- the word that a reader outside writes when it begins a section
-pub open_word : (ms : List Move) (word x : ℕ) → word ≡ section_word ms → inside ms ≡ 0 →
-    (word < 2 * most_sections → x ≡ word + 1) → (word ≡ 2 * most_sections → x ≡ 2 * most_sections - 1) → x ≡ section_word (Open ∷ ms)
-open_word ms word x is out counts stops = dite (dec_lt (opened ms) (2 ^ 62))
+-- the even word after it
+pub next_even : (n even x : ℕ) → even ≡ 2 * min n most_sections → (even < 2 * most_sections → x ≡ even + 2) → (even ≡ 2 * most_sections → x ≡ even) →
+    x ≡ 2 * min (suc n) most_sections
+next_even n even x is counts stops = dite (dec_lt n (2 ^ 62))
     (λ l.
-    let e = word_below ms l in
-    let x_is = counts (omega (arith, is, e, out, l)) in
-    dite (dec_lt (opened ms + 1) (2 ^ 62))
-    (λ m. let n = word_below (Open ∷ ms) (omega (arith, m)) in omega (arith, is, e, out, x_is, n))
-    (λ m. let n = word_at_limit (Open ∷ ms) (λ z. m (omega (arith, z))) in omega (arith, is, e, out, x_is, n, l, m)))
+    let e : min n most_sections ≡ n = min-eq_left (omega (arith, l)) in
+    let f : min (suc n) most_sections ≡ suc n = min-eq_left (omega (arith, l)) in
+    let x_is = counts (omega (arith, is, e, l)) in omega (arith, is, e, f, x_is))
     (λ l.
-    let e = word_at_limit ms l in
-    let x_is = stops (omega (arith, is, e, out)) in
-    let n = word_at_limit (Open ∷ ms) (λ z. l (omega (arith, z))) in omega (arith, x_is, n))
+    let e : min n most_sections ≡ most_sections = min-eq_right (omega (arith, l)) in
+    let f : min (suc n) most_sections ≡ most_sections = min-eq_right (omega (arith, l)) in
+    let x_is = stops (omega (arith, is, e)) in omega (arith, is, e, f, x_is))
 
--- and when it ends one
-pub close_word : (ms : List Move) (word x : ℕ) → word ≡ section_word ms → inside ms ≡ 1 → x ≡ word + 1 → x ≡ section_word (Close ∷ ms)
-close_word ms word x is in_now x_is = dite (dec_lt (opened ms) (2 ^ 62))
-    (λ l.
-    let e = word_below ms l in
-    let some = inside_opened ms in
-    let n = word_below (Close ∷ ms) l in omega (arith, is, e, in_now, x_is, some, n))
-    (λ l. let e = word_at_limit ms l in let n = word_at_limit (Close ∷ ms) l in omega (arith, is, e, in_now, x_is, n))
+pub some_even : (n x : ℕ) → x ≡ 2 * min (suc n) most_sections → 1 ≤ x
+some_even n x is = dite (dec_lt n (2 ^ 62))
+    (λ l. let f : min (suc n) most_sections ≡ suc n = min-eq_left (omega (arith, l)) in omega (arith, is, f))
+    (λ l. let f : min (suc n) most_sections ≡ most_sections = min-eq_right (omega (arith, l)) in omega (arith, is, f))
+
+-- which is the word of the reader once it has ended its section
+pub outside_word : (ms : List Move) (even : ℕ) → even ≡ 2 * min (opened ms) most_sections → even ≡ section_word (Close ∷ ms)
+outside_word ms even is = let e : 2 * min (opened ms) most_sections ≡ 2 * min (opened ms) most_sections - 0 = omega arith in is ∙ e
 
 -- Where a way's word lies: the ways begin at w.
 pub learns_at : (j k : TableShape) (slots id : ℕ) (me : Me ℕ View) (w way : ℕ) → w ≡ ways_from j → me.0.shape ≡ j → j ≡ k →

@@ -8,6 +8,7 @@ use Rattle.map_table_laws.specs.declared.moves.Move.TheVariants.{Open, Close, Le
 use Rattle.map_table_laws.specs.Layout.{Layout, Names}
 use Rattle.map_table_laws.specs.History.{moves_of, key_of, MayDo, IsLawful}
 use Rattle.map_table_laws.specs.Found.{IsLinkedUnder, BearsKey, KeepsKey, OnlyReplaces}
+use Rattle.map_table_laws.proofs.Looks.{moves_append}
 use Rattle.map_table_laws.proofs.Steps.{own, others}
 use Rattle.map_table_laws.proofs.Writing.{only_replaced}
 use Rattle.map_table.specs.declared.view.TableShape.{TableShape}
@@ -47,13 +48,6 @@ no_puts_append (Scan r x ∷ ns) ms n m = no_puts_append ns ms n m
 fills_no_puts : (element from n : ℕ) (words : List ℕ) (ms : List Move) → Fills element from words n ms → NoPuts ms
 fills_no_puts element from zero words ms f = subst NoPuts (sym f) tt
 fills_no_puts element from (suc n) words ms f = subst NoPuts (sym f.1) (fills_no_puts element from n words f.0 f.2)
-
-moves_append : (who : ℕ) (late early : List (ℕ × Move)) → moves_of who (late ++ early) ≡ moves_of who late ++ moves_of who early
-moves_append who [] early = refl
-moves_append who (e ∷ late) early = dite (ℕ_discrete e.0 who)
-    (λ mine. own who e (late ++ early) mine ∙ (ap (λ ms. e.1 ∷ ms) (moves_append who late early) ∙
-    ap (λ ms. ms ++ moves_of who early) (sym (own who e late mine))))
-    (λ ne. others who e (late ++ early) ne ∙ (moves_append who late early ∙ ap (λ ms. ms ++ moves_of who early) (sym (others who e late ne))))
 
 module _ (k : Layout) (table : ℕ) (key : List ℕ) (way : ℕ) where
   abbrev Replaces : List (ℕ × Move) → List (ℕ × Move) → Type 0

@@ -55,15 +55,15 @@ pub struct ReadSeat {
     // Where the reader's section word lies, and the place of the first word of its value in an element.
     section: usize,
     first: usize,
-    // The section word itself, which no one else writes.
-    word: u64,
+    // Twice the sections that were begun, up to the last word: the section word of the reader outside.
+    even: u64,
 }
 
 impl Model for ReadSeat {
-    ghost use Rattle.std.specs.Prelude.{◌≡◌, ◌+◌, ◌*◌, []};
+    ghost use Rattle.std.specs.Prelude.{◌≡◌, ◌+◌, ◌*◌, min, []};
     ghost use Rattle.map_table.specs.Limits.{section_stride};
     ghost use Rattle.map_table.specs.Hashes.{layout_of};
-    ghost use Rattle.map_table_laws.specs.History.{IsReader, section_word};
+    ghost use Rattle.map_table_laws.specs.History.{IsReader, opened, most_sections};
     ghost use Rattle.map_table.specs.Held.{Holder};
     ghost use Rattle.map_table.specs.Values.{first_of};
 
@@ -77,21 +77,17 @@ impl Model for ReadSeat {
     ghost invariant = { λ s. IsReader (layout_of s.seat.me.0.shape) s.seat.me.0.me
         × (s.section + section_stride ≡ s.seat.me.0.me * section_stride) × (s.seat.me.1 ≡ [])
         × (s.first ≡ first_of s.seat.me.0.shape s.seat.me.0.me)
-        × (s.word ≡ section_word s.seat.me.0.mine) };
+        × (s.even ≡ 2 * min (opened s.seat.me.0.mine) most_sections) };
 }
 
-/// The section word that comes after this even one.
+/// The even word after this one, up to the last.
 #[inline]
-fn odd_after(word: u64) -> u64
-    requires small { word ≤ 2 * most_sections }
-    ensures counts { word < 2 * most_sections → result ≡ word + 1 }
-    ensures stops { word ≡ 2 * most_sections → result ≡ 2 * most_sections - 1 }
+fn even_after(even: u64) -> u64
+    requires small { even ≤ 2 * most_sections }
+    ensures counts { even < 2 * most_sections → result ≡ even + 2 }
+    ensures stops { even ≡ 2 * most_sections → result ≡ even }
 {
-    if word < LAST_WORD {
-        word + 1
-    } else {
-        LAST_WORD - 1
-    }
+    if even < LAST_WORD { even + 2 } else { even }
 }
 
 impl ReadSeat {
@@ -163,11 +159,11 @@ impl MapTable {
         requires outside { inside seat.old.view.mine ≡ 0 }
         ensures { Does seat.old Open seat.new }
     {
-        let word = odd_after(seat.word);
+        let even = even_after(seat.even);
         self.table
             .shared
-            .store::<Opens>(&mut seat.seat, seat.section, word);
-        seat.word = word;
+            .store::<Opens>(&mut seat.seat, seat.section, even - 1);
+        seat.even = even;
     }
 
     /// Ends the section. The reader's section word becomes one more, and so even.
@@ -177,11 +173,9 @@ impl MapTable {
         requires inside { inside seat.old.view.mine ≡ 1 }
         ensures { Does seat.old Close seat.new }
     {
-        let word = seat.word + 1;
         self.table
             .shared
-            .store::<Closes>(&mut seat.seat, seat.section, word);
-        seat.word = word;
+            .store::<Closes>(&mut seat.seat, seat.section, seat.even);
     }
 
     /// The word of a way. The words of the element that it names may be loaded and stored in the section that is open.
@@ -299,7 +293,7 @@ impl MapTable {
             seat,
             section: reader * SECTION_STRIDE,
             first,
-            word: 0,
+            even: 0,
         }
     }
 }

@@ -1,8 +1,7 @@
-use Rattle.std.proofs.Common.{◌≡◌, ◌+◌, refl, sym, ap, ◌∙◌, subst}
+use Rattle.std.proofs.Common.{refl, sym, ap, ◌∙◌}
 use Rattle.map_table_laws.specs.declared.moves.Move.TheVariants.{Close}
-use Rattle.map_table_laws.specs.History.{inside}
 use Rattle.map_table.specs.Held.{TableView, Holder}
-use Rattle.map_table.proofs.Calls.{does, section_within, closes_at, seat_kept, close_word}
+use Rattle.map_table.proofs.Calls.{does, section_within, closes_at, outside_word}
 use Rattle.map_table.proofs.table.MapTable.close.Goals as goal
 
 pub store-requires : goal.store-requires
@@ -10,17 +9,12 @@ store-requires c =
     let p = ap (λ (h : Holder). h.table) c.seat.view_is ∙ (c.requires.table ∙ sym c.self.view_is) in
     let i = c.seat.invariant in
     let t = c.self.invariant in
-    let same = ap (λ (q : TableView). q.shape) p in
-    let in_now = subst (λ (h : Holder). inside h.view.mine ≡ 1) (sym c.seat.view_is) c.requires.inside in
-    let word = close_word c.seat.inside.seat.me.0.mine c.seat.inside.word (c.seat.inside.word + 1) i.4 in_now refl in
-    (ap (λ (q : TableView). q.id) p, section_within _ _ _ _ _ same i.0 i.1 t.1, closes_at _ _ _ _ _ _ _ (same ∙ sym t.0) i.0 i.1 word)
-
-pub invariant_of-seat : goal.invariant_of-seat
-invariant_of-seat c =
-    let i = c.seat.invariant in
-    let in_now = subst (λ (h : Holder). inside h.view.mine ≡ 1) (sym c.seat.view_is) c.requires.inside in
-    seat_kept _ _ Close _ _ _ _ c.store.ensures.2.0 c.store.ensures.2.1 i
-    (close_word c.seat.inside.seat.me.0.mine c.seat.inside.word (c.seat.inside.word + 1) i.4 in_now refl)
+    let same = ap (λ (q : TableView). q.shape) p in (
+      ap (λ (q : TableView). q.id) p,
+      section_within _ _ _ _ _ same i.0 i.1 t.1,
+      closes_at _ _ _ _ _ _ _ (same ∙ sym t.0) i.0 i.1
+          (outside_word c.seat.inside.seat.me.0.mine c.seat.inside.even i.4),
+    )
 
 pub returns : goal.returns
 returns c = does _ _ _ _ _ Close Close c.seat.view_is c.store.ensures.0 refl c.store.ensures.2.0
