@@ -190,7 +190,7 @@ impl HostTable {
     ///
     /// A walk gives each time the key that it met last. It meets a key that stays linked once, if those that it gives stay linked, too.
     pub fn next_key(&mut self, key: Option<&[u64]>, next: &mut [u64]) -> bool
-        requires key { IfSome (option_copied key.entry) (λ k. length k ≡ self.old.table.shape.key_words) }
+        requires key { IfSome (option_copied key) (λ k. length k ≡ self.old.table.shape.key_words) }
         requires next { length next.old ≡ self.old.table.shape.key_words }
         ensures table { self.new.table ≡ self.old.table }
         ensures seats { self.new.seats ≡ self.old.seats }

@@ -11,12 +11,13 @@ use map_table::{BUCKET_WAYS, MapTable, Writer};
 /// Where the ways begin that come behind a key: at the first of all, where no key is given or it is not linked.
 pub(crate) fn start_behind(table: &MapTable, writer: &mut Writer, key: Option<&[u64]>) -> usize
     requires table { writer.old.table ≡ table.now }
-    requires key { IfSome (option_copied key.entry) (λ k. length k ≡ table.now.shape.key_words) }
+    requires key { IfSome (option_copied key) (λ k. length k ≡ table.now.shape.key_words) }
     ensures table { writer.new.table ≡ writer.old.table }
     ensures seeks { (found : Option ℕ) × SeeksGiven (option_copied key.entry) found writer.old writer.new
         × (result ≡ behind found) }
     ensures within { result ≤ ways_of table.now.shape }
 {
+    let _shape = table.shape();
     let Some(key) = key else {
         return 0;
     };

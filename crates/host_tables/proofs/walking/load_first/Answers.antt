@@ -1,7 +1,7 @@
-use Rattle.std.proofs.Common.{◌≡◌, refl, sym, ap, ◌∙◌, subst, arith}
+use Rattle.std.proofs.Common.{◌≡◌, refl, ◌∙◌, subst, arith}
 use Rattle.map_table.specs.Writing.{WriterView}
 use Rattle.map_table_laws.specs.History.{word_in}
-use Rattle.host_tables.proofs.Meeting.{empty_next, loads_key}
+use Rattle.host_tables.proofs.Meeting.{empty_next}
 use Rattle.host_tables.proofs.walking.load_first.Goals as goal
 
 pub loop-way-init : goal.loop-way-init
