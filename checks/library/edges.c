@@ -354,6 +354,7 @@ static void closed_table(void)
 	IS(bpfrt_table_update_elem(&table, NULL, 0, NULL, 0, 9), -EBADF);
 	IS(bpfrt_table_lookup_elem(&table, &key, 1, &value, 1), -EBADF);
 	IS(bpfrt_table_delete_elem(&table, &key, 1), -EBADF);
+	IS(bpfrt_table_get_next_key(&table, NULL, 1, &key), -EBADF);
 	IS(bpfrt_table_reclaim(&table), -EBADF);
 	IS(bpfrt_table_stat(&table, &stat), -EBADF);
 	IS(bpfrt_reader_run(&reader, &prog, NULL, 0, &value), -EBADF);
@@ -401,6 +402,7 @@ static void kinds_of_tables(void)
 	IS(bpfrt0_table_update_elem((struct bpfrt_table *)&reader, &key, 1, &value, 1, 0), -EBADF);
 	IS(bpfrt0_table_lookup_elem((struct bpfrt_table *)&prog, &key, 1, &value, 1), -EBADF);
 	IS(bpfrt0_table_delete_elem((struct bpfrt_table *)&prog, &key, 1), -EBADF);
+	IS(bpfrt0_table_get_next_key((struct bpfrt_table *)&reader, 0, &key, 0, &value, 1), -EBADF);
 	IS(bpfrt0_table_reclaim((struct bpfrt_table *)&reader), -EBADF);
 	IS(bpfrt0_table_stat((struct bpfrt_table *)&prog, &stat), -EBADF);
 	IS(bpfrt0_reader_run((struct bpfrt_reader *)&table, &prog, "", 0, &value), -EBADF);
@@ -508,10 +510,84 @@ static void elements_of_table(void)
 	IS(bpfrt_table_close(&table), 0);
 }
 
+/* How often a walk meets each key, and how many it meets. */
+static uint64_t walk(struct bpfrt_table *table, unsigned char *times, uint64_t most)
+{
+	uint64_t key, next, met = 0;
+	int32_t status = bpfrt_table_get_next_key(table, NULL, 1, &next);
+	memset(times, 0, most);
+	while (status == 0 && next < most && met <= most) {
+		times[next]++;
+		met++;
+		key = next;
+		status = bpfrt_table_get_next_key(table, &key, 1, &next);
+	}
+	IS(status, -ENOENT);
+	return met;
+}
+
+/* What the calls on keys answer where none, or one, is there. */
+static void one_key(void)
+{
+	struct bpfrt_table table = {0};
+	uint64_t keys[] = {5, 6}, value = 7, next[2] = {9, 9};
+	open_table(&table, table_shape(0, 4, 3));
+	IS(bpfrt_table_get_next_key(&table, NULL, 1, next), -ENOENT);
+	IS(bpfrt_table_get_next_key(&table, keys, 1, next), -ENOENT);
+	IS(bpfrt_table_update_elem(&table, keys, 1, &value, 1, 0), 0);
+	IS(bpfrt_table_get_next_key(&table, keys, 1, next), -ENOENT);
+	IS(bpfrt_table_get_next_key(&table, NULL, 0, next), -EINVAL);
+	IS(bpfrt_table_get_next_key(&table, NULL, 2, next), -EINVAL);
+	IS(bpfrt_table_get_next_key(&table, keys, 0, next), -EINVAL);
+	IS(bpfrt_table_get_next_key(&table, keys, 2, next), -EINVAL);
+	IS(bpfrt_table_get_next_key(&table, NULL, 1, NULL), -EINVAL);
+	IS(bpfrt_table_get_next_key(&table, NULL, 0, NULL), -EINVAL);
+	IS(bpfrt0_table_get_next_key(&table, 1, keys, 2, next, 1), -EINVAL);
+	IS(bpfrt0_table_get_next_key(&table, 1, keys, 1, next, 2), -EINVAL);
+	IS(next[0] == 9 && next[1] == 9, true);
+	IS(bpfrt_table_get_next_key(&table, NULL, 1, next), 0);
+	IS(next[0] == 5 && next[1] == 9, true);
+	next[0] = 9;
+	IS(bpfrt_table_get_next_key(&table, keys + 1, 1, next), 0);
+	IS(next[0] == 5 && next[1] == 9, true);
+	IS(bpfrt_table_close(&table), 0);
+}
+
+/* Keys that are removed, replaced and linked at random, beside what the host knows to be there. */
+static void walks(void)
+{
+	enum { KEYS = 96, ROUNDS = 200 };
+	unsigned char there[KEYS] = {0}, times[KEYS];
+	struct bpfrt_table table = {0};
+	uint64_t key, value = 7, state = 88172645463325252, count = 0;
+	open_table(&table, table_shape(0, 16, 100));
+	for (int round = 0; round < ROUNDS; round++) {
+		for (int change = 0; change < 16; change++) {
+			state ^= state << 13;
+			state ^= state >> 7;
+			state ^= state << 17;
+			key = state % KEYS;
+			if (there[key] && state >> 63) {
+				IS(bpfrt_table_delete_elem(&table, &key, 1), 0);
+				there[key] = 0;
+				count--;
+			} else {
+				IS(bpfrt_table_update_elem(&table, &key, 1, &value, 1, there[key] ? 2 : 1), 0);
+				count += !there[key];
+				there[key] = 1;
+			}
+		}
+		IS(walk(&table, times, KEYS), count);
+		IS(memcmp(there, times, KEYS), 0);
+	}
+	IS(bpfrt_table_close(&table), 0);
+}
+
 /* A bucket has eight places, and here each key is of the same two. */
 static void full_bucket(void)
 {
 	struct bpfrt_table table = {0};
+	unsigned char times[9];
 	uint64_t key, value = 7;
 	open_table(&table, table_shape(0, 1, 10));
 	for (key = 0; key < 8; key++)
@@ -525,6 +601,8 @@ static void full_bucket(void)
 	IS(bpfrt_table_delete_elem(&table, &key, 1), 0);
 	key = 8;
 	IS(bpfrt_table_update_elem(&table, &key, 1, &value, 1, 1), 0);
+	IS(walk(&table, times, sizeof times), 8);
+	IS(memcmp(times, "\1\1\1\0\1\1\1\1\1", sizeof times), 0);
 	IS(bpfrt_table_close(&table), 0);
 }
 
@@ -549,7 +627,10 @@ static void words_of_tables(void)
 	IS(bpfrt_table_update_elem(&table, NULL, 0, NULL, 0, 1), 0);
 	IS(bpfrt_table_update_elem(&table, NULL, 0, NULL, 0, 1), -EEXIST);
 	IS(bpfrt_table_lookup_elem(&table, NULL, 0, NULL, 0), 0);
+	IS(bpfrt_table_get_next_key(&table, NULL, 0, NULL), 0);
+	IS(bpfrt_table_get_next_key(&table, key, 0, NULL), -ENOENT);
 	IS(bpfrt_table_delete_elem(&table, NULL, 0), 0);
+	IS(bpfrt_table_get_next_key(&table, NULL, 0, NULL), -ENOENT);
 	IS(bpfrt_table_close(&table), 0);
 }
 
@@ -1030,6 +1111,8 @@ int main(void)
 	kinds_of_tables();
 	table_shapes();
 	elements_of_table();
+	one_key();
+	walks();
 	full_bucket();
 	words_of_tables();
 	seats();

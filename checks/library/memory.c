@@ -177,13 +177,14 @@ static void runs_over_table(void)
 {
 	static const uint64_t key[1], values[4];
 	struct bpfrt_table_stat stat;
-	uint64_t value, sums[2];
+	uint64_t value, next, sums[2];
 	open_filter();
 	open_reader();
 	long growths = refuser_growths;
 	int32_t status = bpfrt_table_update_elem(&table, key, 1, values, 4, 1);
 	status |= bpfrt_table_update_elem(&table, key, 1, values, 4, 2);
 	status |= bpfrt_table_lookup_elem(&table, key, 1, sums, 2) | bpfrt_reader_run_packet(&reader, &prog, NULL, 0, 0, &value);
+	status |= bpfrt_table_get_next_key(&table, NULL, 1, &next) | (bpfrt_table_get_next_key(&table, &next, 1, &value) + ENOENT);
 	status |= bpfrt_table_delete_elem(&table, key, 1);
 	status |= bpfrt_table_stat(&table, &stat) | (bpfrt_table_reclaim(&table) - 2);
 	growths = refuser_growths - growths;

@@ -28,7 +28,7 @@ import bpfrt_ctypes as host
 import classic
 import packets
 
-SECONDS, SEED, FRAMES, ANY, ROUNDS, CONTEXTS = 60, 1, 2000, 2000, 300, 20
+SECONDS, SEED, FRAMES, ANY, ROUNDS, CONTEXTS, KEYS = 60, 1, 2000, 2000, 300, 20, 160
 PLACES = {0: "", 1: " at {}", 2: " at {}", 3: " at {}", 4: " at map {}"}
 
 
@@ -378,6 +378,69 @@ def counted(table, program, key, times):
     return reader.run(program, key)
 
 
+def set_soon(table, key):
+    """Sets a key; where each element waits for readers, these are to go on first."""
+    while True:
+        try:
+            return table.set([key], [0])
+        except OSError as error:
+            if error.errno != errno.ENOSPC:
+                raise
+
+
+def change_some(table, there, rolled):
+    """Removes, replaces and links keys, and those that the host knows to be there go along."""
+    for key in rolled.sample(range(KEYS), 20):
+        if key in there and rolled.random() < 0.5:
+            table.remove([key])
+            there.remove(key)
+        else:
+            set_soon(table, key)
+            there.add(key)
+
+
+def met_meanwhile(table, there, rolled):
+    """The keys that a walk meets, in which each that was met is replaced, and odd ones that were not met last are removed."""
+    met = []
+    for key, in table:
+        met.append(key)
+        set_soon(table, key)
+        odd = rolled.choice([it for it in there if it % 2 and it != key] or [None])
+        if odd is not None:
+            table.remove([odd])
+            there.remove(odd)
+    return met
+
+
+def key_rows(one, count):
+    """Walks through keys beside three readers, and what the host knows to be there."""
+    table, there, rolled = host.Table(one, 3, 1000, 1, 1), {7}, random.Random(SEED)
+    yield "the keys of an empty table", outcome(list, table), "[]"
+    table.set([7], [0])
+    yield "one key", outcome(list, table), "[[7]]"
+    with ThreadPoolExecutor(3) as pool:
+        readers = [pool.submit(counted, table, count, key.to_bytes(8, "little"), 20000) for key in range(3)]
+        for number in range(100):
+            change_some(table, there, rolled)
+            yield f"walk {number}", str(sorted(key for key, in table)), str(sorted(there))
+        for key in range(KEYS):
+            set_soon(table, key)
+        there = set(range(KEYS))
+        met = met_meanwhile(table, there, rolled)
+        yield "keys that stay", str(sorted(key for key in met if not key % 2)), str([*range(0, KEYS, 2)])
+        yield "keys that were met twice", str(sorted({key for key in met if met.count(key) > 1})), "[]"
+        yield "what readers counted", str([it.exception() for it in readers]), "[None, None, None]"
+    yield "the keys then", str(sorted(key for key, in table)), str(sorted(there))
+    for key, in table:
+        table.remove([key])
+    yield "when each was removed in the walk", outcome(list, table), "[]"
+    pairs, words = host.Table(one, 0, 4, 2, 1), host.Table(one, 0, 4, 0, 1)
+    pairs.set([1, 2], [5])
+    yield "a key of two words", outcome(list, pairs), "[[1, 2]]"
+    words.set([], [5])
+    yield "a key of no words", outcome(list, words), "[[]]"
+
+
 def tables(library, _):
     """The class for tables: what each method gives or raises, one after another, and four threads that count."""
     key, one, error = (5).to_bytes(8, "little"), host.Runtime(library._name), "OSError [None, None, {}]".format
@@ -410,6 +473,7 @@ def tables(library, _):
         lasts = [it.result() for it in [pool.submit(counted, counters, count, key, 999) for _ in range(4)]]
     yield "what each counted", str(sorted(lasts)), "[1000, 1000, 1000, 2000]"
     yield "the sum", outcome(counters.get, [5]), "[5000]"
+    yield from key_rows(one, count)
     one.close()
     yield "a closed one", outcome(reader.run, count, key), "Broken [None, None, None]"
 

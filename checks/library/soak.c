@@ -42,6 +42,7 @@ static struct bpfrt_table values, counters;
 static pthread_barrier_t barrier;
 static atomic_int stops, ends;
 static _Atomic uint64_t begun[KEYS], put[KEYS]; /* the last n of a key that a call is to put, and that one has put */
+static unsigned char there[KEYS]; /* whether a key is linked in the first table */
 static uint64_t changes, filters, waits;
 
 static void fail(const char *what, uint64_t number, uint64_t other)
@@ -211,6 +212,7 @@ static void put_value(uint64_t key, uint64_t flags)
 	const uint64_t value[2] = {n, n + key + 1};
 	atomic_store(&begun[key], n);
 	update(&values, key, value, 2, flags);
+	there[key] = 1;
 	atomic_store(&put[key], n);
 	changes++;
 }
@@ -225,15 +227,36 @@ static void change(void)
 		return;
 	}
 	int32_t status = bpfrt_table_delete_elem(&values, &key, 1);
-	if (status == -ENOENT)
+	if (status == -ENOENT) {
 		put_value(key, 1);
-	else
+	} else {
 		done(status, "bpfrt_table_delete_elem");
+		there[key] = 0;
+	}
 	status = bpfrt_table_delete_elem(&counters, &key, 1);
 	if (status == -ENOENT)
 		update(&counters, key, zeros, READERS, 1);
 	else
 		done(status, "bpfrt_table_delete_elem");
+}
+
+/* A walk in which each key that it meets is replaced. It is to meet the keys that are there, and each once. */
+static void walk(void)
+{
+	unsigned char times[KEYS] = {0};
+	uint64_t key, next;
+	int32_t status = bpfrt_table_get_next_key(&values, NULL, 1, &next);
+	while (status == 0) {
+		key = next;
+		if (key >= KEYS || times[key]++ || !there[key])
+			fail("a key that is not there, or was met before:", key, 0);
+		put_value(key, 2);
+		status = bpfrt_table_get_next_key(&values, &key, 1, &next);
+	}
+	done(status == -ENOENT ? 0 : status, "bpfrt_table_get_next_key");
+	for (key = 0; key < KEYS; key++)
+		if (times[key] != there[key])
+			fail("a key that a walk does not meet:", key, 0);
 }
 
 /* Gives all readers another filter. One that was not taken yet is closed here. */
@@ -351,6 +374,7 @@ static void go_round(double end, int is_closed_first)
 			change();
 			read_sum(sums);
 		}
+		walk();
 		replace_filter();
 		if (filters % 4 == 0) {
 			done(bpfrt_table_reclaim(&values), "bpfrt_table_reclaim");

@@ -79,7 +79,8 @@ CALLS = {
     "prog_run_packets": [HANDLE, BYTES, SIZE, BYTES, SIZE, BYTES, SIZE], "table_open": [HANDLE, ctypes.POINTER(TableShape)],
     "table_reader": [HANDLE, HANDLE], "table_update_elem": [HANDLE, VALUE, SIZE, VALUE, SIZE, U64],
     "table_lookup_elem": [HANDLE, VALUE, SIZE, VALUE, SIZE], "table_delete_elem": [HANDLE, VALUE, SIZE], "table_reclaim": [HANDLE],
-    "table_stat": [HANDLE, ctypes.POINTER(TableStat)], "reader_run": [HANDLE, HANDLE, BYTES, SIZE, VALUE],
+    "table_get_next_key": [HANDLE, U32, VALUE, SIZE, VALUE, SIZE], "table_stat": [HANDLE, ctypes.POINTER(TableStat)],
+    "reader_run": [HANDLE, HANDLE, BYTES, SIZE, VALUE],
     "reader_run_packet": [HANDLE, HANDLE, BYTES, SIZE, U32, VALUE],
 }
 
@@ -508,7 +509,8 @@ class Table:
     def __init__(self, bpf, readers, elements, key_words, value_words, per_reader=False):
         self._bpf, self._held, self._turn = bpf, Held(bpf._library), threading.Lock()
         numbers = [*map(checked_u32, (readers, elements // 4 + 1, elements, key_words, value_words, bool(per_reader)))]
-        self._value_words, self._more = value_words, [0] * (value_words * (readers - 1) if per_reader else 0)
+        self._key_words, self._value_words = key_words, value_words
+        self._more = [0] * (value_words * (readers - 1) if per_reader else 0)
         bpf._called("table_open", self._held, TableShape(*numbers, *struct.unpack("=QQ", os.urandom(16))))
 
     def _on(self, call, *given):
@@ -531,6 +533,18 @@ class Table:
 
     def remove(self, key):
         self._on("table_delete_elem", *words_of(key))
+
+    def __iter__(self):
+        """The keys, in the table's own order. The table may change meanwhile: each key that stays comes once, unless the one that came
+        last is removed before the next is asked for. Then they come from the first again."""
+        room, key = (U64 * max(1, self._key_words))(), None
+        while True:
+            try:
+                self._on("table_get_next_key", key is not None, *words_of(key or []), room, self._key_words)
+            except FileNotFoundError:
+                return
+            key = room[:self._key_words]
+            yield key
 
     def reclaim(self):
         """Frees what was removed or replaced, and no run can hold any more: how many."""

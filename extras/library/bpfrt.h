@@ -177,6 +177,8 @@ int32_t bpfrt0_table_update_elem(struct bpfrt_table *table, const uint64_t *key,
 int32_t bpfrt0_table_lookup_elem(struct bpfrt_table *table, const uint64_t *key, size_t key_words, uint64_t *value, size_t
 	value_words);
 int32_t bpfrt0_table_delete_elem(struct bpfrt_table *table, const uint64_t *key, size_t key_words);
+int32_t bpfrt0_table_get_next_key(struct bpfrt_table *table, uint32_t is_given, const uint64_t *key, size_t key_words, uint64_t *next,
+	size_t next_words);
 int32_t bpfrt0_table_reclaim(struct bpfrt_table *table);
 int32_t bpfrt0_table_stat(struct bpfrt_table *table, struct bpfrt_table_stat *stat);
 int32_t bpfrt0_table_serves(struct bpfrt_table *table, struct bpfrt_prog *prog);
@@ -508,6 +510,17 @@ static inline int32_t bpfrt_table_delete_elem(struct bpfrt_table *table, const u
 	if (!key && key_words)
 		return -22; /* -EINVAL */
 	return bpfrt0_table_delete_elem(table, key ? key : bpfrt_no_values(), key_words);
+}
+
+/* Writes the key that comes next behind a key, where a null pointer stands for none: the first of all behind none, or behind one that
+   is not there. The order is the table's own. A walk that gives each time the key that it met last meets each key that stays, and
+   once, unless a key that it gives was removed. A key that is replaced stays. -ENOENT where none comes behind; -EINVAL. */
+static inline int32_t bpfrt_table_get_next_key(struct bpfrt_table *table, const uint64_t *key, size_t key_words, uint64_t *next)
+{
+	if (!next && key_words)
+		return -22; /* -EINVAL */
+	return bpfrt0_table_get_next_key(table, key != NULL, key ? key : bpfrt_no_values(), key ? key_words : 0, next ? next : bpfrt_no_values(),
+		key_words);
 }
 
 /* Reclaims the elements of removed and replaced values that no run can hold any more: how many. */

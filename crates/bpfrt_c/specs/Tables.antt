@@ -1,5 +1,5 @@
 -- What the calls on tables say of the values that handles hold.
-use Rattle.std.specs.Prelude.{◌≡◌, ℕ, ◌==◌, List, ◌∷◌, Option, Some, None, length, if◌then◌else◌}
+use Rattle.std.specs.Prelude.{◌≡◌, ◌⊎◌, ℕ, ◌==◌, List, ◌∷◌, Option, Some, None, length, if◌then◌else◌}
 use Rattle.host_programs.specs.Opened.{OpenProgram}
 use Rattle.host_programs.specs.Packets.{seen}
 use Rattle.host_tables.specs.Reading.{CanServe, RunsOnPacket, RunsOverTable}
@@ -77,6 +77,15 @@ SetsAs key value (Some how) v w = Sets key value how v w
 abbrev pub IsNotSetAs : List ℕ → Option How → SetFault → WriterView → WriterView → Type 0
 IsNotSetAs key None fault v w = ⊥
 IsNotSetAs key (Some how) fault v w = IsNotSet key how v w fault
+
+-- The key that C gives, or none where it gives a null pointer: the number is 0 then.
+abbrev pub key_in_c : ℕ → List ℕ → Option (List ℕ)
+key_in_c given key = if given == 0 then None else Some key
+
+-- The room has the length of the table's keys, and so has the key if one is given.
+pub record CanMeet (t : OpenTable) (given : ℕ) (key next : List ℕ) : Type 0 where
+  pub room_fits : length next ≡ t.table.shape.key_words
+  pub key_fits : (given ≡ 0) ⊎ (length key ≡ t.table.shape.key_words)
 
 -- The reader got the first seat of the table, which has one fewer.
 pub record Seats (t u : OpenTable) (r : Holder) : Type 0 where

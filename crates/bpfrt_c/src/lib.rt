@@ -6,6 +6,7 @@
 #![tactic(auto)]
 
 mod asked;
+mod keys;
 mod making;
 mod number;
 mod opening;

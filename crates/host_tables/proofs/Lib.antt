@@ -1,2 +1,3 @@
+mod Meeting
 mod Seeking
 mod Summing

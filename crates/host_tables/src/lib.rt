@@ -7,6 +7,7 @@
 mod fault;
 mod reader;
 mod table;
+mod walking;
 mod writing;
 
 pub use fault::{How, SetFault, TableFault, TableRunFault};
@@ -16,3 +17,4 @@ pub use map_table::{
 };
 pub use reader::HostReader;
 pub use table::{HostTable, is_sized};
+pub use walking::walks_meet_each_once;

@@ -1,15 +1,17 @@
 //! A table with its writer.
-ghost use Rattle.std.specs.Prelude.{◌≡◌, ◌≢◌, ◌↔◌, [], ◌∷◌, ℕ, List, Decides, Err, None, IfSome, IfNone, IsNone, IfOk, IfErr, IsOk, OnOk, length, true, false};
+ghost use Rattle.std.specs.Prelude.{◌≡◌, ◌≢◌, ◌↔◌, [], ◌∷◌, ℕ, List, Decides, Err, None, IfSome, IfNone, IsNone, IfOk, IfErr, IsOk, OnOk, option_copied, length, true, false};
 ghost use Rattle.map_table.specs.Held.{IsReady, IsSized};
 ghost use Rattle.map_table.specs.Values.{stored_of};
 ghost use Rattle.host_tables.specs.Reading.{CanServe};
 ghost use Rattle.host_tables.specs.Tables.{IsNewTable, IsNotSet, Reads, Reclaims, Removes, Seeks, Sets};
+ghost use Rattle.host_tables.specs.Walks.{Meets, MeetsNone};
 ghost use Rattle.host_tables.specs.declared.fault.TableFault.TheVariants.{Shape};
 ghost use Rattle.host_tables.specs.declared.fault.TableRunFault.TheVariants.{Length, Maps};
 ghost use Rattle.map_runs.specs.Running.{ServesMaps};
 
 use crate::fault::{How, SetFault, TableFault, TableRunFault};
 use crate::reader::{HostReader, serves};
+use crate::walking::{load_first, start_behind};
 use crate::writing::{make_room, put_under, read_sums, seek};
 use host_programs::HostProgram;
 use map_table::{
@@ -181,6 +183,24 @@ impl HostTable {
         };
         read_sums(&self.table, &mut self.writer, element, value);
         true
+    }
+
+    /// Writes the key that comes next behind a given one, in the order of ways: the first of all, where none is given or it is not
+    /// linked. False where none comes behind, and then nothing is written.
+    ///
+    /// A walk gives each time the key that it met last. It meets a key that stays linked once, if those that it gives stay linked, too.
+    pub fn next_key(&mut self, key: Option<&[u64]>, next: &mut [u64]) -> bool
+        requires key { IfSome (option_copied key) (λ k. length k ≡ self.old.table.shape.key_words) }
+        requires next { length next.old ≡ self.old.table.shape.key_words }
+        ensures table { self.new.table ≡ self.old.table }
+        ensures seats { self.new.seats ≡ self.old.seats }
+        ensures meets { result ≡ true → Meets (option_copied key.entry) next.new self.old.writer self.new.writer }
+        ensures none { result ≡ false → MeetsNone (option_copied key.entry) self.old.writer self.new.writer }
+        ensures unwritten { result ≡ false → next.new ≡ next.old }
+        ensures count { length next.new ≡ length next.old }
+    {
+        let from = start_behind(&self.table, &mut self.writer, key);
+        load_first(&self.table, &mut self.writer, from, next)
     }
 
     /// Frees the elements that were unlinked and that no reader can hold any more: how many. It looks at each reader once
