@@ -11,7 +11,7 @@ use crate::job::Job;
 use crate::printing::print_together;
 use bpf_model::{CallKind, Helper, Insn, MAX_JOURNAL, MapShape};
 use effects::Region;
-use shared::{ProgramWithMaps, Shared};
+use shared::{ProgramWithMaps, Shared, Workers};
 use std::alloc::{AllocError, Global};
 use std::sync::Wait;
 use std::sync::ledger::{Blank, Ledger};
@@ -74,6 +74,15 @@ fn may_be_apart(verified: &Verified, count: usize) -> bool
     !changes_maps(verified)
 }
 
+/// An equal program, with equal maps.
+fn copy_of(alloc: Global, program: &ProgramWithMaps) -> Result<ProgramWithMaps, AllocError>
+    ensures { IfOk result (λ p. p ≡ program.now) }
+{
+    let verified = program.verified.copy(alloc)?;
+    let registry = program.registry.copy()?;
+    Ok(ProgramWithMaps { verified, registry })
+}
+
 /// A copy of the program and its maps, where so many jobs of it may be served in worlds apart.
 pub(crate) fn copy_to_part(
     alloc: Global,
@@ -87,16 +96,53 @@ pub(crate) fn copy_to_part(
     if !may_be_apart(&program.verified, count) {
         return Ok(None);
     }
-    let verified = program.verified.copy(alloc)?;
-    let registry = program.registry.copy()?;
-    Ok(Some(ProgramWithMaps { verified, registry }))
+    Ok(Some(copy_of(alloc, program)?))
+}
+
+/// A world of one worker, of copies of the program and its maps. Nothing where memory runs out.
+fn own_world<L: Ledger>(
+    alloc: Global,
+    blank: Blank,
+    program: &ProgramWithMaps,
+) -> Option<(Shared<L>, Workers<L>)>
+    requires new_maps { AreNewMaps program.now.registry.maps }
+    requires shapes { program.now.verified.shapes ≡ shapes_of_maps program.now.registry.maps }
+    requires name { blank.name ≡ L.name }
+    requires parts { (blank.parts ≡ L.parts) × (blank.parts ≡ 1) }
+    ensures { IfSome result (λ t. IsOnly program.now.verified.program program.now.verified.shapes t.0) }
+{
+    let Ok(copied) = copy_of(alloc, program) else {
+        return None;
+    };
+    match Shared::<L>::of_program(alloc, copied, 1, blank) {
+        Ok(own) => Some(own),
+        Err(_) => None,
+    }
 }
 
 /// What a world of its own came to: the lines of a batch, and how many entries the world's journal has.
 #[derive(Drop)]
 pub(crate) struct Apart {
     pub text: Vec<u8>,
-    pub entries: usize,
+    pub entries: u64,
+}
+
+/// Serves a batch by the first worker of a world that nobody else uses, and makes its lines. Nothing where memory runs out, or
+/// where there is no worker.
+fn print_by_first<L: Ledger, R: Wait>(
+    rt: &R,
+    alloc: Global,
+    own: &Shared<L>,
+    workers: &mut Workers<L>,
+    job: &Job,
+    batch: &Batch,
+) -> Option<Apart>
+    ensures { IfSome result (λ a. IsPrinted own.now job.now batch.now a.text.items) }
+{
+    let worker = workers.list.first_mut()?;
+    let text = print_together(rt, alloc, own, worker, job, batch)?;
+    let entries = worker.made();
+    Some(Apart { text, entries })
 }
 
 /// Serves a batch in a world of its own, of copies of the program and its maps, and makes its lines. Nothing where memory
@@ -117,18 +163,6 @@ pub(crate) fn print_apart<L: Ledger, R: Wait>(
         IsOnly program.now.verified.program program.now.verified.shapes programs →
         IfSome result (λ a. IsPrinted programs job.now batch.now a.text.items) }
 {
-    let (Ok(verified), Ok(registry)) = (program.verified.copy(alloc), program.registry.copy())
-    else {
-        return None;
-    };
-    let copied = ProgramWithMaps { verified, registry };
-    let Ok((own, mut workers)) = Shared::<L>::of_program(alloc, copied, 1, blank) else {
-        return None;
-    };
-    let Some(worker) = workers.list.first_mut() else {
-        return None;
-    };
-    let text = print_together(rt, alloc, &own, worker, job, batch)?;
-    let entries = own.finish(workers).journal.len();
-    Some(Apart { text, entries })
+    let (own, mut workers) = own_world::<L>(alloc, blank, program)?;
+    print_by_first(rt, alloc, &own, &mut workers, job, batch)
 }

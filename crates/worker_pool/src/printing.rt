@@ -1,10 +1,10 @@
 //! One worker serves a batch of jobs, in the world that all share or in one of its own, and makes their lines.
-ghost use Rattle.std.specs.Prelude.{◌≡◌, ◌≤◌, ℕ, List, Option, Some, length, slice_get, IfErr, IfOk, IfSome, OnOk};
+ghost use Rattle.std.specs.Prelude.{◌≡◌, ◌≤◌, ◌<◌, ℕ, List, Option, Some, length, slice_get, IfErr, IfOk, IfSome, OnOk};
 ghost use Rattle.std.specs.Global.{Vec};
 ghost use Rattle.std.specs.Option.{ForSome};
 ghost use Rattle.std.specs.List.{AllZip};
 ghost use Rattle.job_queue.specs.declared.fault.PoolFault.TheVariants as faults;
-ghost use Rattle.job_queue.specs.Serving.{IsBadCount, most_jobs};
+ghost use Rattle.job_queue.specs.Serving.{IsBadCount, most_jobs, most_workers};
 ghost use Rattle.worker_pool.specs.declared.batch.Batch.{Batch};
 ghost use Rattle.worker_pool.specs.Batches.{AreBatches, AreOutcomes, HasWritten, HasWrittenPart, IsAlike, IsPrinted};
 ghost use Rattle.worker_pool.specs.Runs.{IsLate};
@@ -95,13 +95,12 @@ impl<L: Ledger> Printing<'_, L> {
         };
         let blank = Blank::new(1);
         let apart = print_apart::<Brand, R>(rt, self.alloc, blank, program, self.job, batch)?;
-        self.entries
-            .fetch_add(apart.entries as u64, Ordering::SeqCst);
+        self.entries.fetch_add(apart.entries, Ordering::SeqCst);
         Some(apart.text)
     }
 
     /// Writes the lines of batches that it has served, where all are there.
-    pub(crate) fn write_texts<W: Write>(
+    fn write_texts<W: Write>(
         &self,
         batches: &[Batch],
         texts: &[Option<Vec<u8>>],
@@ -133,7 +132,7 @@ impl<L: Ledger> Printing<'_, L> {
 impl<L: Ledger + Send + Sync> Printing<'_, L> {
     /// Serves all batches by the last workers, each in a thread of its own: the lines of each batch, where there was memory
     /// for them. The fault is that there is no memory left.
-    pub(crate) fn serve_batches<R: Threads + Wait + Sync>(
+    fn serve_batches<R: Threads + Wait + Sync>(
         &self,
         rt: &R,
         batches: &[Batch],
@@ -144,6 +143,7 @@ impl<L: Ledger + Send + Sync> Printing<'_, L> {
         requires few { length batches.now ≤ most_jobs }
         requires alike { ForSome self.now.apart.now (IsAlike self.now.shared.now) }
         ensures later { AllZip IsLater workers.old workers.new }
+        ensures workers { length workers.new ≡ length workers.old }
         ensures long { IfOk result (λ v. length v.items ≡ length batches.now) }
         ensures right { IfOk result (λ v. (k : ℕ) (batch : Batch) (text : Option (Vec ℕ)) →
             slice_get batches.now k ≡ Some batch → slice_get v.items k ≡ Some text →
@@ -151,6 +151,33 @@ impl<L: Ledger + Send + Sync> Printing<'_, L> {
         ensures fault { IfErr result (λ fault. fault ≡ faults.Memory) }
     {
         serve_all(rt, self.alloc, self, batches, threads, &mut workers.list)
+    }
+
+    /// Serves all batches by all workers, each in a thread of its own, and writes their lines.
+    pub(crate) fn print_all<R: Threads + Wait + Sync, W: Write>(
+        &self,
+        rt: &R,
+        batches: &[Batch],
+        workers: &mut Workers<L>,
+        out: &mut W,
+    ) -> Result<(), RunFault>
+        requires workers { (0 < length workers.old) × (length workers.old ≤ most_workers) }
+        requires few { length batches.now ≤ most_jobs }
+        requires alike { ForSome self.now.apart.now (IsAlike self.now.shared.now) }
+        ensures workers { length workers.new ≡ length workers.old }
+        ensures fault { IfErr result IsLate }
+        ensures written { (first end : ℕ) (old : Option (List ℕ)) → AreBatches first batches.now end →
+            HasWritten self.now.shared.now self.now.job.now first old (W.contents out.old) →
+            OnOk result (HasWritten self.now.shared.now self.now.job.now end old (W.contents out.new)) }
+        ensures part { (first end : ℕ) (old : Option (List ℕ)) → AreBatches first batches.now end →
+            HasWritten self.now.shared.now self.now.job.now first old (W.contents out.old) →
+            IfErr result (HasWrittenPart self.now.shared.now self.now.job.now end old (W.contents out.new)) }
+    {
+        let threads = workers.list.len();
+        let texts = self.serve_batches(rt, batches, threads, workers)?;
+        self.write_texts(batches, &texts, out)?;
+        out.flush()?;
+        Ok(())
     }
 }
 

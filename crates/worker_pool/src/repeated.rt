@@ -1,5 +1,5 @@
 //! One program, run many times over maps of its own.
-ghost use Rattle.std.specs.Prelude.{◌≡◌, ◌⊎◌, ◌≤◌, ◌<◌, Err, length, IfErr, OnOk};
+ghost use Rattle.std.specs.Prelude.{◌≡◌, ◌⊎◌, ◌≤◌, ◌<◌, ◌+◌, ℕ, List, Option, Err, length, IfErr, OnOk};
 ghost use Rattle.std.specs.Option.{ForSome};
 ghost use Rattle.bpf_model.specs.View.{AreNewMaps, shapes_of_maps};
 ghost use Rattle.job_queue.specs.declared.fault.PoolFault.TheVariants as faults;
@@ -32,6 +32,40 @@ const TOGETHER: usize = 64;
 /// How many jobs a world has that one worker alone uses.
 const APART: usize = 512;
 
+/// Serves so many jobs, numbered from `first` on, by all workers, each in a thread of its own, and writes their lines.
+fn serve_block<L: Ledger + Send + Sync, R: Threads + Wait + Sync, W: Write>(
+    rt: &R,
+    printing: &Printing<'_, L>,
+    first: usize,
+    count: usize,
+    workers: &mut Workers<L>,
+    out: &mut W,
+) -> Result<(), RunFault>
+    requires workers { (0 < length workers.old) × (length workers.old ≤ most_workers) }
+    requires limit { first + count ≤ most_jobs }
+    requires alike { ForSome printing.now.apart.now (IsAlike printing.now.shared.now) }
+    ensures workers { length workers.new ≡ length workers.old }
+    ensures fault { IfErr result IsLate }
+    ensures written { (old : Option (List ℕ)) →
+        HasWritten printing.now.shared.now printing.now.job.now first old (W.contents out.old) →
+        OnOk result (HasWritten printing.now.shared.now printing.now.job.now (first + count) old
+        (W.contents out.new)) }
+    ensures part { (old : Option (List ℕ)) →
+        HasWritten printing.now.shared.now printing.now.job.now first old (W.contents out.old) →
+        IfErr result (HasWrittenPart printing.now.shared.now printing.now.job.now (first + count) old
+        (W.contents out.new)) }
+{
+    let size = if printing.apart.is_some() {
+        APART
+    } else {
+        TOGETHER
+    };
+    let Ok(batches) = Batch::all_of(printing.alloc, size, first, count) else {
+        return Err(RunFault::Pool(PoolFault::Memory));
+    };
+    printing.print_all(rt, &batches, workers, out)
+}
+
 /// Serves a job so many times by all workers, each in a thread of its own: one block of jobs after another. The lines of
 /// a block are written as soon as it is served. How many entries worlds apart have had.
 fn serve_blocks<L: Ledger + Send + Sync, R: Threads + Wait + Sync, W: Write>(
@@ -53,7 +87,6 @@ fn serve_blocks<L: Ledger + Send + Sync, R: Threads + Wait + Sync, W: Write>(
     ensures part { IfErr result (HasWrittenPart shared.now job.now count
         (W.contents out.old) (W.contents out.new)) }
 {
-    let size = if apart.is_some() { APART } else { TOGETHER };
     let entries = AtomicU64::new(0);
     let printing = Printing {
         alloc,
@@ -62,19 +95,55 @@ fn serve_blocks<L: Ledger + Send + Sync, R: Threads + Wait + Sync, W: Write>(
         apart,
         entries,
     };
-    let threads = workers.list.len();
     let mut first = 0;
     while first < count {
         let some = BLOCK.min(count - first);
-        let Ok(batches) = Batch::all_of(alloc, size, first, some) else {
-            return Err(RunFault::Pool(PoolFault::Memory));
-        };
-        let texts = printing.serve_batches(rt, &batches, threads, workers)?;
-        printing.write_texts(&batches, &texts, out)?;
-        out.flush()?;
+        serve_block(rt, &printing, first, some, workers, out)?;
         first += some;
     }
     Ok(printing.entries.load(Ordering::SeqCst) as usize)
+}
+
+/// How many entries the workers have made.
+fn made_by<L: Ledger>(workers: &Workers<L>) -> u64 {
+    let mut sum = 0u64;
+    for worker in &workers.list {
+        sum = sum.saturating_add(worker.made());
+    }
+    sum
+}
+
+/// So many jobs by so many workers, beside copies for worlds apart. Answers how many entries the journals have.
+fn run_beside<L: Ledger + Send + Sync, R: Threads + Wait + Sync, W: Write>(
+    rt: &R,
+    alloc: Global,
+    blank: Blank,
+    program: ProgramWithMaps,
+    apart: &Option<ProgramWithMaps>,
+    workers: u8,
+    count: usize,
+    out: &mut W,
+) -> Result<usize, RunFault>
+    requires new_maps { AreNewMaps program.registry.maps }
+    requires shapes { program.verified.shapes ≡ shapes_of_maps program.registry.maps }
+    requires apart { ForSome apart.now (λ p. p ≡ program) }
+    requires workers { (0 < workers) × (workers ≤ most_workers) }
+    requires count { count ≤ most_jobs }
+    requires name { blank.name ≡ L.name }
+    requires parts { (blank.parts ≡ L.parts) × (blank.parts ≡ workers) }
+    ensures fault { IfErr result IsLate }
+    ensures written { OnOk result (WritesJobs program.verified.program program.verified.shapes
+        program.verified.ctx_len count (W.contents out.old) (W.contents out.new)) }
+    ensures part { IfErr result (WritesPart program.verified.program program.verified.shapes
+        program.verified.ctx_len count (W.contents out.old) (W.contents out.new)) }
+{
+    let job = zero_job(program.verified.ctx_len());
+    let shared = Shared::<L>::of_program(alloc, program, workers, blank);
+    let Ok((shared, mut workers)) = shared else {
+        return Err(RunFault::Pool(PoolFault::Memory));
+    };
+    let apart = serve_blocks(rt, alloc, &job, count, &shared, apart, &mut workers, out)?;
+    Ok((made_by(&workers) as usize).saturating_add(apart))
 }
 
 /// So many jobs by so many workers. Answers how many entries the journal has.
@@ -99,26 +168,10 @@ fn run_shared<L: Ledger + Send + Sync, R: Threads + Wait + Sync, W: Write>(
     ensures part { IfErr result (WritesPart program.verified.program program.verified.shapes
         program.verified.ctx_len count (W.contents out.old) (W.contents out.new)) }
 {
-    let job = zero_job(program.verified.ctx_len());
     let Ok(apart) = copy_to_part(alloc, &program, count) else {
         return Err(RunFault::Pool(PoolFault::Memory));
     };
-    let shared = Shared::<L>::of_program(alloc, program, workers, blank);
-    let Ok((shared, mut all_workers)) = shared else {
-        return Err(RunFault::Pool(PoolFault::Memory));
-    };
-    let entries = serve_blocks(
-        rt,
-        alloc,
-        &job,
-        count,
-        &shared,
-        &apart,
-        &mut all_workers,
-        out,
-    )?;
-    let finished = shared.finish(all_workers);
-    Ok(finished.journal.len().saturating_add(entries))
+    run_beside::<L, R, W>(rt, alloc, blank, program, &apart, workers, count, out)
 }
 
 /// Runs a program so many times by so many workers, on contexts of its length that are all zero,

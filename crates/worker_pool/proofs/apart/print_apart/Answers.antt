@@ -1,15 +1,11 @@
-use Rattle.std.proofs.Common.{ap, ◌∙◌, ◌∷◌, []}
-use Rattle.verifier.specs.Checked.{Checked}
+use Rattle.std.proofs.lemmas.Option.{IfSome_then}
 use Rattle.worker_pool.proofs.Batches.{printed_elsewhere}
 use Rattle.worker_pool.proofs.apart.print_apart.Goals as goal
 
 pub returns : goal.returns
 returns g c = record {
   printed = λ programs only.
-      printed_elsewhere c.in-Ok.own programs c.args.program.now.verified.program
-      c.args.program.now.verified.shapes c.args.job.now c.args.batch.now c.in_ok-text.text.items
-      (record {
-        code = c.in-Ok.ensures.codes ∙ ap (λ (v : Checked). v.program ∷ []) c.in-Ok-Ok.ensures.same;
-        maps = c.in-Ok.ensures.shapes ∙ ap (λ (v : Checked). v.shapes ∷ []) c.in-Ok-Ok.ensures.same;
-      }) only c.in_ok-text.ensures.printed;
+      let v = c.args.program.now.verified in
+      IfSome_then c.print_by_first.result c.print_by_first.ensures (λ a printed.
+      printed_elsewhere c.in_ok-own.own programs v.program v.shapes c.args.job.now c.args.batch.now a.text.items c.in_ok-own.ensures only printed);
 }
