@@ -92,11 +92,9 @@ fn count_two(table: &MapTable, writer: &mut Writer) -> u64
 /// All are linked. A hash that multiplies, whatever it begins with, leaves out half of either.
 #[test]
 fn chosen_keys_are_linked(rt: HostRuntime) -> Result<(), Fail> {
-    let alloc = rt.alloc();
-    let (table, _, mut writer) = MapTable::new(alloc, SIX)?;
-    let of_six = count_six(&table, &mut writer);
-    let (table, _, mut writer) = MapTable::new(alloc, TWO)?;
-    let of_two = count_two(&table, &mut writer);
-    assert_eq!(rt; [of_six, of_two], [32, 1024]);
+    let (table, _, mut writer) = MapTable::new(rt.alloc(), SIX)?;
+    assert!(rt; count_six(&table, &mut writer) == 32);
+    let (table, _, mut writer) = MapTable::new(rt.alloc(), TWO)?;
+    assert!(rt; count_two(&table, &mut writer) == 1024);
     Ok(())
 }

@@ -2,10 +2,9 @@
 ghost use Rattle.std.specs.Prelude.{◌≡◌, All};
 ghost use Rattle.map_table.specs.Held.{IsReady};
 
-use crate::keys::two_seats;
-use crate::runs::{COUNT, run, verified};
-use map_runs::SubWord;
+use crate::runs::{COUNT, exit, run, verified};
 use map_table::{MAX_READERS, MapTable, ReadSeat, Secret, TableShape, Values, Writer};
+use std::alloc::{AllocError, Global};
 use std::test::Fail;
 use std::thread::{Threads, for_each_mut};
 use verifier::Verified;
@@ -68,33 +67,42 @@ fn sum_at(table: &MapTable, writer: &mut Writer, way: usize) -> Option<u64>
     Some(writer.sum(table, element, 0))
 }
 
-/// All readers count at once, and then the first once more: what its run finds.
+/// All readers count at once under a key, and then the first once more: what its run finds, and the sum of all.
 fn count_and_look<R: Threads + Sync>(
     rt: &R,
     table: &MapTable,
     seats: &mut [ReadSeat],
+    writer: &mut Writer,
     program: &Verified,
-) -> Option<Result<u64, SubWord>>
+) -> Option<[u64; 2]>
     requires ready { All (IsReady table.now) seats.old }
+    requires table { writer.old.table ≡ table.now }
+    requires shape { table.now.shape ≡ COUNTERS }
 {
+    let way = writer.link(table, &[7], &[0; 8])?;
     count_all(rt, table, seats, program);
-    let (first, _) = two_seats(table, seats)?;
-    run(table, first, program, 7)
+    let [first, ..] = seats else {
+        return None;
+    };
+    let own = exit(table, first, program, 7)?;
+    Some([own, sum_at(table, writer, way)?])
+}
+
+/// The same in a new table.
+fn count_in_new<R: Threads + Sync>(
+    rt: &R,
+    alloc: Global,
+    program: &Verified,
+) -> Result<Option<[u64; 2]>, AllocError> {
+    let (table, mut seats, mut writer) = MapTable::new(alloc, COUNTERS)?;
+    Ok(count_and_look(rt, &table, &mut seats.list, &mut writer, program))
 }
 
 /// Eight readers count at once, a million times each, and none of it is lost. A reader's runs find its own count alone.
 #[test]
 fn no_count_is_lost(rt: HostRuntime) -> Result<(), Fail> {
-    let alloc = rt.alloc();
-    let (table, seats, mut writer) = MapTable::new(alloc, COUNTERS)?;
-    let mut list = seats.list;
-    let program = verified(alloc, COUNT)?;
-    let Some(way) = writer.link(&table, &[7], &[0; 8]) else {
-        return Err(Fail::from("no room"));
-    };
-    let own = count_and_look(&rt, &table, list.as_mut_slice(), &program);
-    assert_eq!(rt; own, Some(Ok(u64::from(RUNS))));
-    let sum = sum_at(&table, &mut writer, way);
-    assert_eq!(rt; sum, Some(8 * u64::from(RUNS) + 1));
+    let program = verified(rt.alloc(), COUNT)?;
+    let counted = count_in_new(&rt, rt.alloc(), &program)?;
+    assert!(rt; counted == Some([1_000_000, 8_000_001]));
     Ok(())
 }

@@ -1,5 +1,5 @@
 //! Lookups of keys that the writer links and replaces.
-ghost use Rattle.std.specs.Prelude.{◌≡◌, All, IfSome};
+ghost use Rattle.std.specs.Prelude.{◌≡◌, All, IfSome, length};
 ghost use Rattle.map_table_laws.specs.History.{inside};
 ghost use Rattle.map_table.specs.Held.{IsKnown, IsReady};
 ghost use Rattle.map_table.specs.Values.{stored_of};
@@ -80,49 +80,80 @@ fn count_found(table: &MapTable, seat: &mut ReadSeat) -> u64
     found
 }
 
+/// How many keys are found in a new table, how many there is room for, and how many are found then.
+fn counts(table: &MapTable, seats: &mut [ReadSeat], writer: &mut Writer) -> Option<[u64; 3]>
+    requires ready { All (IsReady table.now) seats.old }
+    requires table { writer.old.table ≡ table.now }
+    requires shape { table.now.shape ≡ SHAPE }
+{
+    let [seat, ..] = seats else {
+        return None;
+    };
+    let before = count_found(table, seat);
+    let linked = link_all(table, writer);
+    Some([before, linked, count_found(table, seat)])
+}
+
 /// A table takes as many keys as it was made for, and each is found with its own value.
 #[test]
 fn each_key_is_found(rt: HostRuntime) -> Result<(), Fail> {
-    let (table, seats, mut writer) = MapTable::new(rt.alloc(), SHAPE)?;
-    let count = seats.count() as u64;
-    let mut list = seats.list;
-    let Some(seat) = list.first_mut() else {
-        return Err(Fail::from("no seat"));
-    };
-    let before = count_found(&table, seat);
-    let linked = link_all(&table, &mut writer);
-    let after = count_found(&table, seat);
-    assert_eq!(rt; [count, before, linked, after], [2, 0, 1024, 1024]);
+    let (table, mut seats, mut writer) = MapTable::new(rt.alloc(), SHAPE)?;
+    assert!(rt; seats.count() == 2);
+    let counts = counts(&table, &mut seats.list, &mut writer);
+    assert!(rt; counts == Some([0, 1024, 1024]));
     Ok(())
 }
 
-/// Replaces the value of a key that was just linked, once while a reader is inside a section, and has its first element
+/// Links a key and replaces its value: what a lookup finds after the one and after the other.
+fn link_and_replace(
+    table: &MapTable,
+    seat: &mut ReadSeat,
+    writer: &mut Writer,
+) -> Option<[Option<u64>; 2]>
+    requires ready { IsReady table.now seat.old }
+    requires table { writer.old.table ≡ table.now }
+    requires shape { table.now.shape ≡ SHAPE }
+    ensures ready { IsReady table.now seat.new }
+    ensures table { writer.new.table ≡ table.now }
+{
+    let way = writer.link(table, &[5, 7], &[50])?;
+    let linked = look_up(table, seat, 5);
+    if !writer.replace(table, way, &[5, 7], &[51]) {
+        return None;
+    }
+    Some([linked, look_up(table, seat, 5)])
+}
+
+/// How many elements are reclaimed while the first reader alone is inside a section, and how many stay unlinked.
+fn reclaim_beside(table: &MapTable, first: &mut ReadSeat, writer: &mut Writer) -> [usize; 2]
+    requires ready { IsReady table.now first.old }
+    requires table { writer.old.table ≡ table.now }
+    ensures ready { IsReady table.now first.new }
+{
+    table.open(first);
+    let late = writer.reclaim(table);
+    table.close(first);
+    [late, writer.unlinked().len()]
+}
+
+/// Replaces the value of a key that was just linked, while the second reader is inside a section, and has its first element
 /// back after each reader was seen outside, though they take turns inside. What the lookups find: after the link, after
 /// the replacement, and at the end; and how many elements are unlinked and reclaimed: first, then, and at the end.
 fn replace_beside(
     table: &MapTable,
-    first: &mut ReadSeat,
-    second: &mut ReadSeat,
+    seats: &mut [ReadSeat],
     writer: &mut Writer,
 ) -> Option<([Option<u64>; 3], [usize; 4])>
+    requires ready { All (IsReady table.now) seats.old }
     requires table { writer.old.table ≡ table.now }
     requires shape { table.now.shape ≡ SHAPE }
-    requires first { IsReady table.now first.old }
-    requires second { IsReady table.now second.old }
 {
+    let (first, second) = two_seats(table, seats)?;
     table.open(second);
-    let way = writer.link(table, &[5, 7], &[50])?;
-    let linked = look_up(table, first, 5);
-    if !writer.replace(table, way, &[5, 7], &[51]) {
-        return None;
-    }
-    let replaced = look_up(table, first, 5);
+    let [linked, replaced] = link_and_replace(table, first, writer)?;
     let (waiting, early) = (writer.unlinked().len(), writer.reclaim(table));
     table.close(second);
-    table.open(first);
-    let late = writer.reclaim(table);
-    table.close(first);
-    let left = writer.unlinked().len();
+    let [late, left] = reclaim_beside(table, first, writer);
     let last = look_up(table, first, 5);
     Some(([linked, replaced, last], [waiting, early, late, left]))
 }
@@ -151,27 +182,72 @@ fn reclaim_beside(
     Some([first, second, third])
 }
 
-/// Finds the way of a key by the key alone, unlinks it, and finds it no more. Whether it was so.
-fn unlink_found(table: &MapTable, writer: &mut Writer) -> bool
+/// A reader that begins its next section between two looks holds up nothing, though each look finds it inside.
+#[test]
+fn next_section_frees(rt: HostRuntime) -> Result<(), Fail> {
+    let (table, mut seats, mut writer) = MapTable::new(rt.alloc(), SHAPE)?;
+    let Some(reader) = seats.list.first_mut() else {
+        return Err(Fail::from("no seat"));
+    };
+    let freed = reclaim_beside(&table, reader, &mut writer);
+    assert!(rt; freed == Some([0, 0, 1]));
+    Ok(())
+}
+
+/// A replaced value is found, and its element is free once no reader is inside.
+#[test]
+fn replaced_value_is_found(rt: HostRuntime) -> Result<(), Fail> {
+    let (table, mut seats, mut writer) = MapTable::new(rt.alloc(), SHAPE)?;
+    let replaced = replace_beside(&table, &mut seats.list, &mut writer);
+    assert!(rt; replaced == Some(([Some(50), Some(51), Some(51)], [1, 0, 1, 0])));
+    Ok(())
+}
+
+/// Links a key that is not there. Whether it is then found where it was linked, and no other key is.
+fn is_found_alone(table: &MapTable, writer: &mut Writer) -> bool
     requires table { writer.old.table ≡ table.now }
     requires shape { table.now.shape ≡ SHAPE }
+    ensures table { writer.new.table ≡ table.now }
 {
     let before = writer.find(table, &[5, 7]);
     let linked = writer.link(table, &[5, 7], &[50]);
-    let other = writer.find(table, &[6, 7]);
-    let count = writer.count_linked(table);
     let found = writer.find(table, &[5, 7]);
-    let Some(way) = found else {
-        return false;
-    };
+    let other = writer.find(table, &[6, 7]);
+    linked.is_some() && [before, found, other] == [None, linked, None]
+}
+
+/// Finds the way of a key by the key alone, and unlinks it: its element.
+pub fn unlink_found(table: &MapTable, writer: &mut Writer, key: &[u64]) -> Option<usize>
+    requires table { writer.old.table ≡ table.now }
+    requires key { length key.now ≡ table.now.shape.key_words }
+    ensures table { writer.new.table ≡ table.now }
+{
+    let way = writer.find(table, key)?;
     let element = writer.element_at(way);
     writer.unlink(table, way);
+    element
+}
+
+/// Unlinks the one key that is linked. Whether its element is then unlinked, and all others are free.
+fn is_unlinked(table: &MapTable, writer: &mut Writer) -> bool
+    requires table { writer.old.table ≡ table.now }
+    requires shape { table.now.shape ≡ SHAPE }
+{
+    let before = writer.count_linked(table);
+    let element = unlink_found(table, writer, &[5, 7]);
     let after = writer.find(table, &[5, 7]);
-    let counts = [count, writer.count_linked(table), writer.free().len()];
-    [before, other, after] == [None; 3]
-        && [found, element] == [linked, Some(1023)]
+    let counts = [before, writer.count_linked(table), writer.free().len()];
+    [element, after] == [Some(1023), None]
         && counts == [1, 0, 1023]
         && writer.unlinked() == &[1023][..]
+}
+
+/// The writer finds a key that is linked, and no other.
+#[test]
+fn key_is_found_and_unlinked(rt: HostRuntime) -> Result<(), Fail> {
+    let (table, _, mut writer) = MapTable::new(rt.alloc(), SHAPE)?;
+    assert!(rt; is_found_alone(&table, &mut writer) && is_unlinked(&table, &mut writer));
+    Ok(())
 }
 
 /// The first two seats.
@@ -183,42 +259,8 @@ pub fn two_seats<'a>(
     ensures { IfSome result (λ p. IsReady table.now p.0.now × IsReady table.now p.1.now) }
 {
     let _ = table;
-    let (first, rest) = list.split_first_mut()?;
-    let (second, _) = rest.split_first_mut()?;
+    let [first, second, ..] = list else {
+        return None;
+    };
     Some((first, second))
-}
-
-/// A replaced value is found, and its element is free once no reader is inside.
-#[test]
-fn replaced_value_is_found(rt: HostRuntime) -> Result<(), Fail> {
-    let (table, seats, mut writer) = MapTable::new(rt.alloc(), SHAPE)?;
-    let mut list = seats.list;
-    let Some((first, second)) = two_seats(&table, list.as_mut_slice()) else {
-        return Err(Fail::from("not two seats"));
-    };
-    let (found, elements) = replace_beside(&table, first, second, &mut writer).expect(&rt, "room");
-    assert_eq!(rt; found, [Some(50), Some(51), Some(51)]);
-    assert_eq!(rt; elements, [1, 0, 1, 0]);
-    Ok(())
-}
-
-/// A reader that begins its next section between two looks holds up nothing, though each look finds it inside.
-#[test]
-fn next_section_frees(rt: HostRuntime) -> Result<(), Fail> {
-    let (table, seats, mut writer) = MapTable::new(rt.alloc(), SHAPE)?;
-    let mut list = seats.list;
-    let Some(reader) = list.first_mut() else {
-        return Err(Fail::from("no seat"));
-    };
-    let freed = reclaim_beside(&table, reader, &mut writer).expect(&rt, "room");
-    assert_eq!(rt; freed, [0, 0, 1]);
-    Ok(())
-}
-
-/// The writer finds a key that is linked, and no other.
-#[test]
-fn key_is_found_and_unlinked(rt: HostRuntime) -> Result<(), Fail> {
-    let (table, _, mut writer) = MapTable::new(rt.alloc(), SHAPE)?;
-    assert!(rt; unlink_found(&table, &mut writer));
-    Ok(())
 }

@@ -1,12 +1,12 @@
 //! Several maps in one table, each under a name.
-ghost use Rattle.std.specs.Prelude.{◌≡◌, ◌<◌, ◌≤◌, length};
+ghost use Rattle.std.specs.Prelude.{◌≡◌, ◌<◌, ◌≤◌, All, length};
 ghost use Rattle.map_table.specs.Held.{IsReady};
 
-use crate::keys::two_seats;
 use crate::runs::{COUNT, WORDS, context_of, verified_with};
 use bpf_model::{MapKind, MapShape};
 use map_runs::{NamedMap, SubWord, fits_named, key_in, run_named};
 use map_table::{MapTable, ReadSeat, Secret, TableShape, Values, Writer};
+use std::alloc::{AllocError, Global};
 use std::test::Fail;
 use verifier::Verified;
 
@@ -57,11 +57,12 @@ const SINGLE_OF_TWO: NamedMap = NamedMap {
 
 /// A lookup of the word that the context has in the first map, and of it with a zero in the second. It exits with the sum
 /// of what it found: the one value, and the second word of the other.
-const SUM: &str = "7916000000000000 7b6af0ff00000000 b709000000000000 7b9af8ff00000000
-8520000001000000 bfa2000000000000 07020000f0ffffff 1851000000000000 0000000000000000
-8500000001000000 1500010000000000 7909000000000000 bfa2000000000000 07020000f0ffffff
-1851000001000000 0000000000000000 8500000001000000 1500020000000000 7908080000000000
-0f89000000000000 8520000002000000 bf90000000000000 9500000000000000";
+const SUM: &str = "\
+    79160000000000007b6af0ff00000000b7090000000000007b9af8ff000000008520000001000000\
+    bfa200000000000007020000f0ffffff185100000000000000000000000000008500000001000000\
+    15000100000000007909000000000000bfa200000000000007020000f0ffffff1851000001000000\
+    00000000000000008500000001000000150002000000000079080800000000000f89000000000000\
+    8520000002000000bf900000000000009500000000000000";
 
 /// Links a value under a key of a map, and tells whether there was room.
 fn link(table: &MapTable, writer: &mut Writer, map: &NamedMap, key: &[u64], value: [u64; 2]) -> bool
@@ -103,40 +104,64 @@ fn run(
     Some(run_named(table, seat, maps, verified, &ctx))
 }
 
+/// Lists of maps, words, and what a run of the program that sums comes to with these.
+const RUNS: &[(&[NamedMap], u64, Option<Result<u64, SubWord>>)] = &[
+    (&[SINGLE, PAIR], 5, Some(Ok(2100))),
+    (&[SINGLE, PAIR], 6, Some(Ok(300))),
+    (&[SINGLE, PAIR], 7, Some(Ok(4000))),
+    (&[SINGLE, PAIR], 8, Some(Ok(0))),
+    (&[PAIR, SINGLE], 5, None),
+    (&[SINGLE], 5, None),
+    (&[SINGLE, SINGLE_OF_TWO], 5, None),
+];
+
+/// How many of these runs come to that, where the words are linked.
+fn count_right(
+    table: &MapTable,
+    seats: &mut [ReadSeat],
+    writer: &mut Writer,
+    program: &Verified,
+) -> Option<usize>
+    requires ready { All (IsReady table.now) seats.old }
+    requires table { writer.old.table ≡ table.now }
+    requires shape { table.now.shape ≡ TABLE }
+{
+    let [seat, ..] = seats else {
+        return None;
+    };
+    if !link_all(table, writer) {
+        return None;
+    }
+    let mut right = 0usize;
+    for row in RUNS {
+        let (maps, word, end) = row;
+        if run(table, seat, maps, program, *word) == *end {
+            right = right.saturating_add(1);
+        }
+    }
+    Some(right)
+}
+
+/// A new table, over which the runs of the one program come to that. Whether it keeps the other program's maps.
+fn runs_in_new(
+    alloc: Global,
+    program: &Verified,
+    same: &Verified,
+) -> Result<(Option<usize>, bool), AllocError> {
+    let (table, mut seats, mut writer) = MapTable::new(alloc, TABLE)?;
+    let right = count_right(&table, &mut seats.list, &mut writer, program);
+    Ok((right, fits_named(&table, &[SINGLE, SINGLE], same)))
+}
+
 /// Two maps of different lengths lie in one table, with the same words of a key in both. A program finds each map's own
 /// value, and none where only the other map has the key. It is not run with its maps the other way round, with one, or with
 /// two of one name and other lengths. Two of one name and the same lengths are one map.
 #[test]
 fn each_map_has_its_own_keys(rt: HostRuntime) -> Result<(), Fail> {
     let alloc = rt.alloc();
-    let (table, seats, mut writer) = MapTable::new(alloc, TABLE)?;
-    let mut list = seats.list;
-    let Some((seat, _)) = two_seats(&table, list.as_mut_slice()) else {
-        return Err(Fail::from("not two seats"));
-    };
     let program = verified_with(alloc, SUM, &[WORDS, PAIRS])?;
-    assert!(rt; link_all(&table, &mut writer));
-    let maps = [SINGLE, PAIR];
-    let found = [
-        run(&table, seat, &maps, &program, 5),
-        run(&table, seat, &maps, &program, 6),
-        run(&table, seat, &maps, &program, 7),
-        run(&table, seat, &maps, &program, 8),
-        run(&table, seat, &[PAIR, SINGLE], &program, 5),
-        run(&table, seat, &[SINGLE], &program, 5),
-        run(&table, seat, &[SINGLE, SINGLE_OF_TWO], &program, 5),
-    ];
-    let exits = [
-        Some(Ok(2100)),
-        Some(Ok(300)),
-        Some(Ok(4000)),
-        Some(Ok(0)),
-        None,
-        None,
-        None,
-    ];
-    assert_eq!(rt; found, exits);
     let same = verified_with(alloc, COUNT, &[WORDS, WORDS])?;
-    assert!(rt; fits_named(&table, &[SINGLE, SINGLE], &same));
+    let (right, fits) = runs_in_new(alloc, &program, &same)?;
+    assert!(rt; right == Some(7) && fits);
     Ok(())
 }

@@ -1,29 +1,31 @@
 //! Runs of a program over the table, beside the writer.
-ghost use Rattle.std.specs.Prelude.{◌≡◌, ◌<◌, ◌≤◌, length};
+ghost use Rattle.std.specs.Prelude.{◌≡◌, ◌<◌, ◌≤◌, All, length};
 ghost use Rattle.bpf_model.specs.declared.limits.TheConstants.{MAX_MAPS};
 ghost use Rattle.map_table.specs.Held.{IsReady};
 
-use crate::keys::two_seats;
+use crate::keys::{two_seats, unlink_found};
 use bpf_model::{CtxBytes, MapKind, MapShape};
 use insn_codec::decode;
 use map_runs::{SubWord, fits, run_shared};
 use map_table::{MapTable, ReadSeat, Secret, TableShape, Values, Writer};
-use std::alloc::Global;
+use std::alloc::{AllocError, Global};
 use std::process::Abort;
 use std::test::Fail;
 use verifier::{Verified, verify};
 
 /// A lookup of the key that the context has. It adds 1 to the value, and exits with what it was before, or with 0 where
 /// there is none.
-pub const COUNT: &str = "7916000000000000 7b6af8ff00000000 b709000000000000 8520000001000000
-bfa2000000000000 07020000f8ffffff 1851000000000000 0000000000000000 8500000001000000
-1500040000000000 7909000000000000 bf97000000000000 0707000001000000 7b70000000000000
-8520000002000000 bf90000000000000 9500000000000000";
+pub const COUNT: &str = "\
+    79160000000000007b6af8ff00000000b7090000000000008520000001000000bfa2000000000000\
+    07020000f8ffffff1851000000000000000000000000000085000000010000001500040000000000\
+    7909000000000000bf9700000000000007070000010000007b700000000000008520000002000000\
+    bf900000000000009500000000000000";
 
 /// A load of the first byte of the value of such a key, into the register that the program exits with.
-const LOAD_BYTE: &str = "7916000000000000 7b6af8ff00000000 b709000000000000 8520000001000000
-bfa2000000000000 07020000f8ffffff 1851000000000000 0000000000000000 8500000001000000
-1500010000000000 7109000000000000 8520000002000000 bf90000000000000 9500000000000000";
+const LOAD_BYTE: &str = "\
+    79160000000000007b6af8ff00000000b7090000000000008520000001000000bfa2000000000000\
+    07020000f8ffffff1851000000000000000000000000000085000000010000001500010000000000\
+    71090000000000008520000002000000bf900000000000009500000000000000";
 
 /// The load.
 const LOAD: &str = "7109000000000000";
@@ -61,9 +63,7 @@ pub fn verified(alloc: Global, text: &str) -> Result<Verified, Fail> {
 pub fn verified_with(alloc: Global, text: &str, maps: &[MapShape]) -> Result<Verified, Fail>
     requires few { length maps.now ≤ MAX_MAPS }
 {
-    let digits = text.replace(alloc, "\n", "")?;
-    let digits = digits.as_str().replace(alloc, " ", "")?;
-    let bytes = hex::decode(alloc, digits.as_str())?;
+    let bytes = hex::decode(alloc, text)?;
     Ok(verify(alloc, decode(alloc, &bytes)?, maps, 8)?)
 }
 
@@ -108,6 +108,14 @@ pub fn run(
     Some(run_shared(table, seat, verified, &ctx))
 }
 
+/// The value with which such a run exits, if it does.
+pub fn exit(table: &MapTable, seat: &mut ReadSeat, verified: &Verified, key: u64) -> Option<u64>
+    requires ready { IsReady table.now seat.old }
+    ensures ready { IsReady table.now seat.new }
+{
+    run(table, seat, verified, key)?.ok()
+}
+
 /// Links the keys from 0 up to 999, each with ten times its number and 3 more, and tells how many.
 fn link_all(table: &MapTable, writer: &mut Writer) -> u64
     requires table { writer.old.table ≡ table.now }
@@ -130,61 +138,99 @@ fn count_runs(table: &MapTable, seat: &mut ReadSeat, program: &Verified, more: u
 {
     let mut found = 0u64;
     for key in 0..1000 {
-        if run(table, seat, program, key) == Some(Ok(10 * key + more)) {
+        if exit(table, seat, program, key) == Some(10 * key + more) {
             found = found.saturating_add(1);
         }
     }
     found
 }
 
-/// Replaces the value of a key that is linked, and unlinks it. What runs find: after the one, once more, and after the
-/// other; and how many elements are reclaimed between.
-fn replace_between(
+/// How many keys are linked, and how many of them runs find by the first seat and then, each with 1 more, by the second.
+fn counts(
     table: &MapTable,
-    seat: &mut ReadSeat,
+    first: &mut ReadSeat,
+    second: &mut ReadSeat,
     writer: &mut Writer,
     count: &Verified,
-) -> Option<([Option<Result<u64, SubWord>>; 3], usize)>
+) -> [u64; 3]
+    requires first { IsReady table.now first.old }
+    requires second { IsReady table.now second.old }
+    requires table { writer.old.table ≡ table.now }
+    requires shape { table.now.shape ≡ TABLE }
+    ensures first { IsReady table.now first.new }
+    ensures second { IsReady table.now second.new }
+    ensures table { writer.new.table ≡ table.now }
+{
+    let linked = link_all(table, writer);
+    let loaded = count_runs(table, first, count, 3);
+    [linked, loaded, count_runs(table, second, count, 4)]
+}
+
+/// Replaces the value of the key 5, and tells whether it was linked.
+fn replace(table: &MapTable, writer: &mut Writer) -> bool
+    requires table { writer.old.table ≡ table.now }
+    requires shape { table.now.shape ≡ TABLE }
+    ensures table { writer.new.table ≡ table.now }
+{
+    let Some(way) = writer.find(table, &[5]) else {
+        return false;
+    };
+    writer.replace(table, way, &[5], &[7000])
+}
+
+/// Replaces the value of a key that is linked, and unlinks it. Whether runs find the new value at once, what they stored
+/// themselves, and after the unlinking none; and whether the one element of the old value is reclaimed between.
+fn is_replaced(table: &MapTable, seat: &mut ReadSeat, writer: &mut Writer, count: &Verified) -> bool
     requires ready { IsReady table.now seat.old }
     requires table { writer.old.table ≡ table.now }
     requires shape { table.now.shape ≡ TABLE }
+    ensures ready { IsReady table.now seat.new }
 {
-    let way = writer.find(table, &[5])?;
-    if !writer.replace(table, way, &[5], &[7000]) {
-        return None;
-    }
-    let replaced = run(table, seat, count, 5);
-    let again = run(table, seat, count, 5);
+    let linked = replace(table, writer);
+    let replaced = exit(table, seat, count, 5);
+    let again = exit(table, seat, count, 5);
     let reclaimed = writer.reclaim(table);
-    let way = writer.find(table, &[5])?;
-    writer.unlink(table, way);
-    Some(([replaced, again, run(table, seat, count, 5)], reclaimed))
+    let unlinked = unlink_found(table, writer, &[5]).is_some();
+    let gone = exit(table, seat, count, 5);
+    linked
+        && unlinked
+        && reclaimed == 1
+        && [replaced, again, gone] == [Some(7000), Some(7001), Some(0)]
 }
 
 /// Runs find each key's own value, and store one that the next run finds, whichever seat it has. They find none where
-/// no key is linked, and a replaced value at once.
+/// no key is linked, and a replaced value at once. Whether it is so.
+fn are_found(
+    table: &MapTable,
+    seats: &mut [ReadSeat],
+    writer: &mut Writer,
+    count: &Verified,
+) -> bool
+    requires ready { All (IsReady table.now) seats.old }
+    requires table { writer.old.table ≡ table.now }
+    requires shape { table.now.shape ≡ TABLE }
+{
+    let Some((first, second)) = two_seats(table, seats) else {
+        return false;
+    };
+    let before = exit(table, first, count, 5);
+    let counts = counts(table, first, second, writer, count);
+    let missing = exit(table, first, count, 1000);
+    let replaced = is_replaced(table, second, writer, count);
+    let last = exit(table, first, count, 7);
+    replaced && counts == [1000; 3] && [before, missing, last] == [Some(0), Some(0), Some(75)]
+}
+
+/// Makes a table, over which the program runs so.
+fn run_on_new(alloc: Global, count: &Verified) -> Result<bool, AllocError> {
+    let (table, mut seats, mut writer) = MapTable::new(alloc, TABLE)?;
+    Ok(are_found(&table, &mut seats.list, &mut writer, count))
+}
+
 #[test]
 fn runs_load_and_store_values(rt: HostRuntime) -> Result<(), Fail> {
-    let alloc = rt.alloc();
-    let (table, seats, mut writer) = MapTable::new(alloc, TABLE)?;
-    let mut list = seats.list;
-    let Some((first, second)) = two_seats(&table, list.as_mut_slice()) else {
-        return Err(Fail::from("not two seats"));
-    };
-    let count = verified(alloc, COUNT)?;
-    let before = run(&table, first, &count, 5);
-    let linked = link_all(&table, &mut writer);
-    let loaded = count_runs(&table, first, &count, 3);
-    let stored = count_runs(&table, second, &count, 4);
-    let missing = run(&table, first, &count, 1000);
-    let between = replace_between(&table, second, &mut writer, &count).expect(&rt, "room");
-    let last = run(&table, first, &count, 7);
-    assert_eq!(rt; [linked, loaded, stored], [1000; 3]);
-    assert_eq!(rt;
-        [before, missing, last],
-        [Some(Ok(0)), Some(Ok(0)), Some(Ok(75))]
-    );
-    assert_eq!(rt; between, ([Some(Ok(7000)), Some(Ok(7001)), Some(Ok(0))], 1));
+    let count = verified(rt.alloc(), COUNT)?;
+    assert!(rt; run_on_new(rt.alloc(), &count)?);
     Ok(())
 }
 
@@ -210,7 +256,8 @@ fn load_each<R: Abort>(
 {
     for row in LOADS {
         let (load, wanted) = row;
-        assert_eq!(rt; loaded(alloc, table, seat, load)?, Some(*wanted), "{load}");
+        let found = loaded(alloc, table, seat, load)?;
+        assert!(rt; found == Some(*wanted), "{load}");
     }
     Ok(())
 }
@@ -219,16 +266,11 @@ fn load_each<R: Abort>(
 /// A store by fewer than 8 bytes is refused.
 #[test]
 fn runs_load_bytes_of_words(rt: HostRuntime) -> Result<(), Fail> {
-    let alloc = rt.alloc();
-    let (table, seats, mut writer) = MapTable::new(alloc, TABLE)?;
-    let mut list = seats.list;
-    let Some((seat, _)) = two_seats(&table, list.as_mut_slice()) else {
-        return Err(Fail::from("not two seats"));
+    let (table, mut seats, mut writer) = MapTable::new(rt.alloc(), TABLE)?;
+    let linked = writer.link(&table, &[7], &[0x8877_6655_4433_2211]);
+    let Some(seat) = seats.list.first_mut() else {
+        return Err(Fail::from("no seat"));
     };
-    assert!(rt;
-        writer
-            .link(&table, &[7], &[0x8877_6655_4433_2211])
-            .is_some()
-    );
-    load_each(&rt, alloc, &table, seat)
+    assert!(rt; linked.is_some());
+    load_each(&rt, rt.alloc(), &table, seat)
 }
