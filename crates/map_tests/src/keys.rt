@@ -160,7 +160,7 @@ fn replace_beside(
 
 /// Replaces the value of a key beside a reader, and reclaims twice in its section and once in its next one: how many
 /// elements each call frees.
-fn reclaim_beside(
+fn reclaim_over_sections(
     table: &MapTable,
     reader: &mut ReadSeat,
     writer: &mut Writer,
@@ -189,7 +189,7 @@ fn next_section_frees(rt: HostRuntime) -> Result<(), Fail> {
     let Some(reader) = seats.list.first_mut() else {
         return Err(Fail::from("no seat"));
     };
-    let freed = reclaim_beside(&table, reader, &mut writer);
+    let freed = reclaim_over_sections(&table, reader, &mut writer);
     assert!(rt; freed == Some([0, 0, 1]));
     Ok(())
 }
