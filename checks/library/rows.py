@@ -461,7 +461,7 @@ def tables(library, _):
             (reader.run_packet, packets_count, b"abcde", "0"), (reader.run_packet, packets_count, b"", 1 << 32, "ValueError [None, None, None]"),
             (table.set, [5], [50], 2, "None"), (table.stat, "(0, 1, 2)"), (table.reclaim, "1"), (table.set, [6], [1], "None"),
             (table.set, [7], [1], error(28)), (table.remove, [6], "None"), (table.remove, [6], "FileNotFoundError [None, None, 2]"),
-            (reader.run, count, key, "51"), (host.Table, one, 9, 2, 1, 1, error(22)),
+            (reader.run, count, key, "51"), (host.Table, one, 65, 2, 1, 1, error(22)),
             (host.Table, one, 1 << 32, 2, 1, 1, "ValueError [None, None, None]")]:
         yield f"{method.__name__}{tuple(given)}", outcome(method, *given), wanted
     for is_last in (False, False, True):
