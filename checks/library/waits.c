@@ -3,8 +3,10 @@
 
    Sixteen readers run a program that stays in its section for some 800 lookups, again and again. Every millisecond the writer replaces
    a hundred values, and looks at the readers once. Elements are reclaimed in the order in which they were replaced, so each is counted
-   from the look before which that was. It fails where one waits longer than MOST looks. */
+   from the look before which that was. It fails where one waits longer than MOST looks, or no element is free. A reader that other
+   work takes the processor from stays in its section, so the machine is to be idle. */
 #include <bpfrt.h>
+#include <errno.h>
 #include <stdatomic.h>
 #include <stdio.h>
 #include <stdlib.h>
@@ -108,7 +110,11 @@ static uint64_t look(uint64_t number)
 	uint64_t longest = 0;
 	for (int times = 0; times < CHANGES; times++) {
 		uint64_t key = (uint64_t)times % KEYS;
-		done(bpfrt_table_update_elem(&table, &key, 1, &number, 1, 2), "bpfrt_table_update_elem");
+		if (bpfrt_table_update_elem(&table, &key, 1, &number, 1, 2) == -ENOSPC) {
+			fprintf(stderr, "waits: each element waits, the first of them since %llu looks\n",
+				(unsigned long long)(number - replaced[first % ELEMENTS]));
+			_exit(1);
+		}
 		replaced[last++ % ELEMENTS] = number;
 	}
 	for (int32_t freed = done(bpfrt_table_reclaim(&table), "bpfrt_table_reclaim"); freed > 0; freed--) {
