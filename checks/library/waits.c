@@ -110,11 +110,13 @@ static uint64_t look(uint64_t number)
 	uint64_t longest = 0;
 	for (int times = 0; times < CHANGES; times++) {
 		uint64_t key = (uint64_t)times % KEYS;
-		if (bpfrt_table_update_elem(&table, &key, 1, &number, 1, 2) == -ENOSPC) {
+		int32_t status = bpfrt_table_update_elem(&table, &key, 1, &number, 1, 2);
+		if (status == -ENOSPC) {
 			fprintf(stderr, "waits: each element waits, the first of them since %llu looks\n",
 				(unsigned long long)(number - replaced[first % ELEMENTS]));
 			_exit(1);
 		}
+		done(status, "bpfrt_table_update_elem");
 		replaced[last++ % ELEMENTS] = number;
 	}
 	for (int32_t freed = done(bpfrt_table_reclaim(&table), "bpfrt_table_reclaim"); freed > 0; freed--) {
