@@ -96,14 +96,26 @@ const REPLIES: &str =
     "[None, None, None, None, Some(0), Some(1), Some(1), None, None, Some(0), Some(2), Some(2), \
 None, Some(1), Some(1), None, Some(0)]";
 
+/// The replies of an index to those commands, as text.
+fn told<I: Index + Drop>(alloc: Global) -> Result<String, AllocError> {
+    let replies = replies_of::<I>(alloc, &COMMANDS)?;
+    format!(in alloc; "{:?}", replies.as_slice())
+}
+
 #[test]
 fn commands_get_their_replies(rt: HostRuntime) -> Result<(), AllocError> {
-    let alloc = rt.alloc();
-    let buckets = format!(in alloc; "{:?}", replies_of::<Buckets>(alloc, &COMMANDS)?.as_slice())?;
-    assert_eq!(rt; buckets.as_str(), REPLIES);
-    let sorted = format!(in alloc; "{:?}", replies_of::<Sorted>(alloc, &COMMANDS)?.as_slice())?;
-    assert_eq!(rt; sorted.as_str(), REPLIES);
+    let buckets = told::<Buckets>(rt.alloc())?;
+    let sorted = told::<Sorted>(rt.alloc())?;
+    assert!(rt; buckets.as_str() == REPLIES);
+    assert!(rt; sorted.as_str() == REPLIES);
     Ok(())
+}
+
+/// The next state of a generator.
+fn next_state(state: u64) -> u64 {
+    state
+        .wrapping_mul(6_364_136_223_846_793_005)
+        .wrapping_add(1_442_695_040_888_963_407)
 }
 
 /// So many numbers of a generator.
@@ -111,23 +123,26 @@ fn generated(alloc: Global, count: usize) -> Result<Vec<u64>, AllocError> {
     let mut all = Vec::new(alloc);
     let mut state: u64 = 1;
     for _ in 0..count {
-        state = state
-            .wrapping_mul(6_364_136_223_846_793_005)
-            .wrapping_add(1_442_695_040_888_963_407);
-        all.push(state / 8_589_934_592)?;
+        state = next_state(state);
+        all.push(state >> 33)?;
     }
     Ok(all)
 }
 
+/// Whether there are so many replies, among them none and those of the first and the last slot.
+fn are_mixed(replies: &[Option<usize>], count: usize) -> bool {
+    replies.len() == count
+        && replies.contains(&None)
+        && replies.contains(&Some(0))
+        && replies.contains(&Some(MANY - 1))
+}
+
 #[test]
 fn both_forms_reply_alike(rt: HostRuntime) -> Result<(), AllocError> {
-    let alloc = rt.alloc();
-    let numbers = generated(alloc, 2000)?;
-    let replies = replies_of::<Buckets>(alloc, &numbers)?;
-    let others = replies_of::<Sorted>(alloc, &numbers)?;
-    assert_eq!(rt; replies.len(), 2000);
+    let numbers = generated(rt.alloc(), 2000)?;
+    let replies = replies_of::<Buckets>(rt.alloc(), &numbers)?;
+    let others = replies_of::<Sorted>(rt.alloc(), &numbers)?;
+    assert!(rt; are_mixed(&replies, 2000));
     assert!(rt; replies.as_slice() == others.as_slice());
-    assert!(rt; replies.contains(&None));
-    assert!(rt; replies.contains(&Some(0)) && replies.contains(&Some(MANY - 1)));
     Ok(())
 }

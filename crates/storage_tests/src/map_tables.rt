@@ -193,19 +193,37 @@ fn replay<I: Index>(alloc: Global, map: &mut HashMap<I>, lines: &str) -> Result<
     let mut text = String::new(alloc);
     for line in lines.lines() {
         let (command, _) = line.split_once(" = ").unwrap_or((line, ""));
-        write!(&mut text, "{command} = {}\n", answer(alloc, map, command)?)?;
+        let answer = answer(alloc, map, command)?;
+        write!(&mut text, "{command} = {}\n", answer.as_str())?;
     }
     Ok(text)
 }
 
-/// The answers of a copy of a map, which is made between these lines, where they are those of the original, which goes on first.
-fn copy_answers<I: Index + Drop>(alloc: Global, before: &str, after: &str) -> Result<String, Fail> {
+/// A map and its copy, which is made behind these lines.
+fn map_and_copy<I: Index + Drop>(
+    alloc: Global,
+    before: &str,
+) -> Result<(HashMap<I>, HashMap<I>), Fail> {
     let mut map: HashMap<I> = HashMap::new(alloc, SMALL)?;
     let _before = replay(alloc, &mut map, before)?;
-    let mut copy = map.copy(alloc)?;
-    let original = replay(alloc, &mut map, after)?;
-    drop(map);
-    let copied = replay(alloc, &mut copy, after)?;
+    let copy = map.copy(alloc)?;
+    Ok((map, copy))
+}
+
+/// The lines with the answers that a map gives before it is gone.
+fn last_answers<I: Index + Drop>(
+    alloc: Global,
+    mut map: HashMap<I>,
+    lines: &str,
+) -> Result<String, Fail> {
+    replay(alloc, &mut map, lines)
+}
+
+/// The answers of a copy of a map, which is made between these lines, where they are those of the original, which goes on first.
+fn copy_answers<I: Index + Drop>(alloc: Global, before: &str, after: &str) -> Result<String, Fail> {
+    let (map, copy) = map_and_copy::<I>(alloc, before)?;
+    let original = last_answers(alloc, map, after)?;
+    let copied = last_answers(alloc, copy, after)?;
     if copied.as_str() != original.as_str() {
         return Err(Fail::from("the copy answers otherwise"));
     }
@@ -214,15 +232,13 @@ fn copy_answers<I: Index + Drop>(alloc: Global, before: &str, after: &str) -> Re
 
 #[test]
 fn maps_of_both_forms(rt: HostRuntime) -> Result<(), Fail> {
-    let alloc = rt.alloc();
     for (before, after) in [("", SMALL_LINES), (BEFORE, AFTER), ("", GIVEN_BACK)] {
-        assert_eq!(rt;
-            copy_answers::<Buckets>(alloc, before, after)?.as_str(),
-            after
-        );
-        assert_eq!(rt;
-            copy_answers::<Sorted>(alloc, before, after)?.as_str(),
-            after
+        let buckets = copy_answers::<Buckets>(rt.alloc(), before, after)?;
+        assert_eq!(rt; buckets.as_str(), after);
+        let sorted = copy_answers::<Sorted>(rt.alloc(), before, after)?;
+        assert!(rt;
+            sorted.as_str() == buckets.as_str(),
+            "the second form answers otherwise"
         );
     }
     Ok(())

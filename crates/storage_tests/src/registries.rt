@@ -2,6 +2,7 @@
 use crate::map_tables::SMALL;
 use bpf_model::{MapId, MapShape};
 use maps::Registry;
+use std::alloc::Global;
 use std::test::Fail;
 
 /// A shape of no map: it has no entries.
@@ -23,27 +24,37 @@ static NAMES: [(&str, bool, Option<u8>); 9] = [
     ("abcdefghijklmnopqrstuvwxyz_012345", true, Some(50)),
 ];
 
+/// The code of the fault of a map of this name, unless it is created.
+fn told(registry: &mut Registry, name: &str, fine: bool) -> Option<u8> {
+    let shape = if fine { SMALL } else { EMPTY };
+    match registry.create(name, shape) {
+        Ok(_) => None,
+        Err(fault) => Some(fault.code()),
+    }
+}
+
+/// The name of the second map.
+const SECOND: &str = "abcdefghijklmnopqrstuvwxyz_01234";
+
+/// Whether there are two maps, of which the second has its name and its shape.
+fn has_second(registry: &Registry) -> bool {
+    let second = MapId::new(1);
+    registry.len() == 2
+        && registry.id(SECOND) == Some(second)
+        && registry.id("other").is_none()
+        && registry.shape(second) == Some(SMALL)
+        && registry.name(second) == Some(SECOND)
+        && registry.map(second).is_some()
+}
+
 #[test]
 fn registry_of_maps(rt: HostRuntime) -> Result<(), Fail> {
     let mut registry = Registry::new(rt.alloc());
     for (name, fine, code) in &NAMES {
-        let shape = if *fine { SMALL } else { EMPTY };
-        let told = match registry.create(name, shape) {
-            Ok(_) => None,
-            Err(fault) => Some(fault.code()),
-        };
-        assert_eq!(rt; told, *code, "{name}");
+        let told = told(&mut registry, name, *fine);
+        assert!(rt; told == *code, "{name}");
     }
-    let second = MapId::new(1);
-    let name = "abcdefghijklmnopqrstuvwxyz_01234";
-    assert_eq!(rt; registry.len(), 2);
-    assert_eq!(rt;
-        (registry.id(name), registry.id("other")),
-        (Some(second), None)
-    );
-    assert_eq!(rt; registry.shape(second), Some(SMALL));
-    assert_eq!(rt; registry.name(second), Some(name));
-    assert!(rt; registry.map(second).is_some());
+    assert!(rt; has_second(&registry));
     Ok(())
 }
 
@@ -72,19 +83,35 @@ fn has_two(registry: &Registry) -> bool {
         && registry.id("third").is_none()
 }
 
-#[test]
-fn copy_of_a_registry(rt: HostRuntime) -> Result<(), Fail> {
-    let mut registry = Registry::new(rt.alloc());
+/// A registry of the maps first and second. The second has one element.
+fn made(alloc: Global) -> Option<Registry> {
+    let mut registry = Registry::new(alloc);
     let first = registry.create("first", SMALL).is_ok();
     let second = registry.create("second", SMALL).is_ok();
-    let before = put_second(&mut registry, 7, 1);
-    let mut copy = registry.copy()?;
+    if first && second && put_second(&mut registry, 7, 1) == Some(0) {
+        return Some(registry);
+    }
+    None
+}
+
+/// Whether the original gets a third map and another value.
+fn goes_on(mut registry: Registry) -> bool {
     let third = registry.create("third", SMALL).is_ok();
-    let original = put_second(&mut registry, 7, 2);
-    drop(registry);
-    assert!(rt; first && second && third && has_two(&copy));
-    let copied = [put_second(&mut copy, 8, 3), put_second(&mut copy, 7, 4)];
-    assert_eq!(rt; (before, original), (Some(0), Some(1)));
-    assert_eq!(rt; copied, [Some(1), Some(2)]);
+    third && put_second(&mut registry, 7, 2) == Some(1)
+}
+
+/// Whether the copy has the two maps, and elements get their slots there.
+fn is_copy(copy: &mut Registry) -> bool {
+    has_two(copy) && put_second(copy, 8, 3) == Some(1) && put_second(copy, 7, 4) == Some(2)
+}
+
+#[test]
+fn copy_of_a_registry(rt: HostRuntime) -> Result<(), Fail> {
+    let Some(registry) = made(rt.alloc()) else {
+        return Err(Fail::from("no registry"));
+    };
+    let mut copy = registry.copy()?;
+    let went_on = goes_on(registry);
+    assert!(rt; went_on && is_copy(&mut copy));
     Ok(())
 }
