@@ -1,7 +1,8 @@
 -- Each step keeps the rule.
 use Rattle.std.proofs.Common.{◌≡◌, ◌≢◌, ◌⊎◌, ℕ, zero, suc, ◌+◌, ◌-◌, ◌*◌, ◌/◌, ◌%◌, ◌<◌, ◌≤◌, List, [], ◌∷◌, ◌++◌}
 use Rattle.std.proofs.Common.{length, get_or, set, refl, sym, ap, ◌∙◌, subst, ⊎_elim, inl, inr, arith, eq-eqb, ne_eqb}
-use Rattle.std.proofs.Common.{append-nil, ◌==◌, if◌then◌else◌, length-set, get_or-set_other, get_or-set_same}
+use Rattle.std.proofs.Common.{append-nil, ◌==◌, if◌then◌else◌, length-set, get_or-set_other, get_or-set_same, set-set, ◌^◌}
+use Rattle.std.proofs.lemmas.List.{length-append}
 use mathlib.Core.Logic.{dite}
 use mathlib.Core.Option.{some, none, some-injective, some-ne-none}
 use native.Mathlib.Decide.{ℕ_discrete}
@@ -17,7 +18,7 @@ use Rattle.map_table_laws.specs.History.{moves_of, inside, section_word, word_in
 use Rattle.map_table.specs.Hashes.{layout_of}
 use Rattle.map_table.specs.Limits.{section_stride}
 use Rattle.map_table.specs.Law.{ways_from, ways_of, width_of, count_of, Fits, Kept, writer_of, dealt, reader_of, did}
-use Rattle.map_table.specs.Law.{Gains, base_of, index_in, opens, closes, learns, loads, stores, puts, scans}
+use Rattle.map_table.specs.Law.{Gains, base_of, index_in, opens, closes, learns, loads, stores, adds, puts, scans}
 use Rattle.map_table.proofs.Lists.{moves_self, moves_else, IsQuiet, IsStill, IsIdle, quiet, still, idle, stored_here, stored_in_another, stored_beside}
 use Rattle.map_table.specs.Held.{IsKnown}
 use Rattle.map_table_laws.proofs.Steps.{put_here, put_there}
@@ -30,6 +31,22 @@ St = State ℕ View
 -- a writer's part of a history
 writers_own : (es : List (ℕ × Move)) (v : View) → v.me ≡ 0 → moves_of v.me es ≡ v.mine → moves_of 0 es ≡ v.mine
 writers_own es v writer is = ap (λ z. moves_of z es) (sym writer) ∙ is
+
+-- an element that is there is there again once another is put in its place
+some_here : {A : Type 0} (l : List A) (i : ℕ) (a b : A) → get_elem? l i ≡ some a → get_elem? (set l i b) i ≡ some b
+some_here [] i a b e = absurd (some-ne-none a (sym e))
+some_here (x ∷ xs) zero a b e = refl
+some_here (x ∷ xs) (suc i) a b e = some_here xs i a b e
+
+-- nothing stands before a list that is the whole
+no_more : {A : Type 0} (xs ys : List A) → ys ≡ xs ++ ys → xs ≡ []
+no_more [] ys e = refl
+no_more (x ∷ xs) ys e = absurd (let n = ap length e ∙ length-append (x ∷ xs) ys in omega (arith, n))
+
+-- of two steps of one seat on one word the second is left
+twice : (s : St) (i x y id : ℕ) (cs : List (ℕ × ℕ)) (a b : View) →
+    stepped (stepped s i x id cs a keeps) i y id cs b keeps ≡ stepped s i y id cs b keeps
+twice s i x y id cs a b = λ j. record { words = set-set s.words i x y j; homes = s.homes; views = set-set s.views id a b j }
 
 module _ (k : TableShape) where
   -- the words after a step are those of the history after it
@@ -186,6 +203,47 @@ module _ (k : TableShape) where
       (subst (Follows s r.log i x me.0.me) (sym same)
       (follows_store s r i slot place x me.0.me is low in_slot)) in
       (t.0, keeps, tt, t.1, (subst (λ (z : TableShape). base_of z ≤ i) (sym f.shape) (omega arith), t.2, refl))
+
+  -- A step that adds is a load, and a store of the sum.
+  pub adds_ok : (slots id : ℕ) (me : Me ℕ View) (i slot place amount : ℕ) → IsAt k i slot place → slot < k.elements →
+      place < width_of k → Holds slot me.0.mine → k.key_words ≤ place → IsOpenTo (layout_of k) me.0.me slot place
+      → Allows (Kept k) slots id me i (λ n. (n + amount) % 2 ^ 64) (adds (step slots i amount 0 none) me)
+  unfolding advance
+  adds_ok slots id me i slot place amount is low in_slot known behind open_to s r _ at _ =
+      let f = r.each_seat id me.0 at in
+      let x : ℕ = get_or s.words i 0 in
+      let y : ℕ = (x + amount) % 2 ^ 64 in
+      let p : ℕ = i - base_of me.0.shape in
+      let m : Move = Load (p / width_of me.0.shape) (p % width_of me.0.shape) x in
+      let n : Move = Store (p / width_of me.0.shape) (p % width_of me.0.shape) y in
+      let same_load : m ≡ Load slot place x = load_move me.0.shape k i slot place x f.shape is in_slot in
+      let same : n ≡ Store slot place y = store_move me.0.shape k i slot place y f.shape is in_slot in
+      let holds : Holds slot (moves_of me.0.me r.log) = subst (Holds slot) (sym f.mine) known in
+      let may : MayDo (layout_of k) r.log me.0.me (Load slot place x) =
+      (inr holds, ap (λ z. get_or s.words z 0) is ∙ r.stored slot place low in_slot) in
+      let t = advance s r id i x me.0 me.1 m at (subst (MayDo (layout_of k) r.log me.0.me) (sym same_load) may)
+      (follows_load s r i me.0.me m tt tt tt) in
+      let s1 : St = stepped s i x id me.1 t.0 keeps in
+      let r1 : Kept k s1 = t.1 in
+      let now : get_elem? s1.views id ≡ some t.0 = some_here s.views id me.0 t.0 at in
+      let still_holds : Holds slot (moves_of me.0.me ((me.0.me, m) ∷ r.log)) =
+      subst (Holds slot) (sym (moves_self me.0.me m r.log)) holds in
+      let stores_may : MayDo (layout_of k) ((me.0.me, m) ∷ r.log) me.0.me (Store slot place y) = inr (still_holds, behind, open_to) in
+      let u = advance s1 r1 id i y t.0 me.1 n now (subst (MayDo (layout_of k) ((me.0.me, m) ∷ r.log) me.0.me) (sym same) stores_may)
+      (subst (Follows s1 r1.log i y me.0.me) (sym same) (follows_store s1 r1 i slot place y me.0.me is low in_slot)) in
+      let g = r1.each_seat id t.0 now in
+      let between : g.later.0 ≡ [] = no_more g.later.0 t.0.seen (sym (ap (λ es. (me.0.me, m) ∷ es) f.later.1) ∙ g.later.1) in
+      let kept : Kept k (stepped s i y id me.1 u.0 keeps) = subst (Kept k) (twice s i x y id me.1 t.0 u.0) u.1 in (
+        u.0,
+        keeps,
+        tt,
+        kept,
+        (
+          subst (λ (z : TableShape). base_of z ≤ i) (sym f.shape) (omega arith),
+          (t.2.0, u.2.1 ∙ (λ j. did t.0 n (between j)), u.2.2, u.2.3),
+          refl,
+        ),
+      )
 
   -- a step that sets the section word of its own reader
   follows_section : (s : St) (r : Kept k s) (i n x me : ℕ) (m : Move) → i ≡ n * section_stride → n < k.readers →

@@ -48,6 +48,12 @@ pub record Goes (s : Holder) (ms : List Move) (t : Holder) : Type 0 where
 abbrev pub Does : Holder → Move → Holder → Type 0
 Does s m t = Goes s (m ∷ []) t
 
+-- The holder did just these two steps, the second right behind the first: nobody did anything between them.
+pub record DoesBoth (s : Holder) (m n : Move) (t : Holder) : Type 0 where
+  pub goes : Goes s (n ∷ m ∷ []) t
+  pub before : List (ℕ × Move)
+  pub at_once : t.view.seen ≡ (s.view.me, n) ∷ (s.view.me, m) ∷ before
+
 -- the seat is this table's, and outside a section
 pub record IsReady (here : TableView) (s : Holder) : Type 0 where
   pub table : s.table ≡ here

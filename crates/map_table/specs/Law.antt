@@ -1,6 +1,6 @@
 -- The rule of the table: its words are what one lawful history of all steps leaves, and each view is its holder's part
 -- of that history.
-use Rattle.std.specs.Prelude.{◌≡◌, ℕ, ◌+◌, ◌-◌, ◌*◌, ◌/◌, ◌%◌, ◌<◌, ◌≤◌, List, [], ◌∷◌, ◌++◌, length, slice_index}
+use Rattle.std.specs.Prelude.{◌≡◌, ℕ, ◌+◌, ◌-◌, ◌*◌, ◌/◌, ◌%◌, ◌^◌, ◌<◌, ◌≤◌, List, [], ◌∷◌, ◌++◌, length, slice_index}
 use mathlib.Core.Option.{some}
 use lib.ListN.{get_elem?}
 use Rattle.atomic_table.specs.Table.{State, Me, Step}
@@ -96,6 +96,12 @@ Gains v m w =
     (between : List (ℕ × Move)) × (w ≡ did v m between) × IsLawful (layout_of v.shape) w.seen
     × (moves_of v.me w.seen ≡ w.mine)
 
+-- The holder did just these two moves, and nobody did anything between them.
+abbrev pub GainsBoth : View → Move → Move → View → Type 0
+GainsBoth v m n w =
+    (between : List (ℕ × Move)) × (w ≡ did (did v m between) n []) × IsLawful (layout_of v.shape) w.seen
+    × (moves_of v.me w.seen ≡ w.mine)
+
 -- a seat as a step sees it. What each kind of step tells is a fact of the step, the seat before, the word that was
 -- found, and the seat after:
 abbrev Sat : Type 0
@@ -126,6 +132,14 @@ stores st m n m' =
     let at = st.word - base_of m.0.shape in
     (base_of m.0.shape ≤ st.word)
     × Gains m.0 (Store (at / width_of m.0.shape) (at % width_of m.0.shape) st.first) m'.0 × (m'.1 ≡ m.1)
+
+-- a reader added to a word of an element: it found a word, and stored the sum at once
+abbrev pub adds : Step ℕ → Sat → ℕ → Sat → Type 0
+adds st m n m' =
+    let at = st.word - base_of m.0.shape in
+    (base_of m.0.shape ≤ st.word)
+    × GainsBoth m.0 (Load (at / width_of m.0.shape) (at % width_of m.0.shape) n)
+    (Store (at / width_of m.0.shape) (at % width_of m.0.shape) ((n + st.first) % 2 ^ 64)) m'.0 × (m'.1 ≡ m.1)
 
 -- the writer put a word in a way
 abbrev pub puts : Step ℕ → Sat → ℕ → Sat → Type 0

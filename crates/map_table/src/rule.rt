@@ -74,6 +74,15 @@ impl Play<u8, View> for Stores {
     ghost then = { stores };
 }
 
+/// A reader adds to a word of an element.
+pub struct Adds;
+
+impl Play<u8, View> for Adds {
+    ghost use Rattle.map_table.specs.Law.{adds};
+
+    ghost then = { adds };
+}
+
 /// The writer puts a word in a way.
 pub struct Puts;
 

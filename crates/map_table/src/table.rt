@@ -1,6 +1,6 @@
 //! The table, and a reader's seat at it.
 ghost use Rattle.atomic_table.specs.Table.{State};
-ghost use Rattle.std.specs.Prelude.{◌≡◌, ◌⊎◌, ℕ, ◌+◌, ◌-◌, ◌*◌, ◌<◌, ◌≤◌, [], ◌∷◌, length, slice_index, IfOk};
+ghost use Rattle.std.specs.Prelude.{◌≡◌, ◌⊎◌, ℕ, ◌+◌, ◌-◌, ◌*◌, ◌%◌, ◌^◌, ◌<◌, ◌≤◌, [], ◌∷◌, length, slice_index, IfOk};
 ghost use Rattle.map_table_laws.specs.declared.moves.Move.TheVariants.{Open, Close, Learn, Load, Store, Put, Scan};
 ghost use Rattle.map_table_laws.specs.Layout.{Names};
 ghost use Rattle.map_table_laws.specs.History.{inside, most_sections, word_at, Holds, IsSpare, IsReader, MayLink};
@@ -8,10 +8,12 @@ ghost use Rattle.map_table.specs.declared.view.View.{View};
 ghost use Rattle.map_table.specs.Hashes.{layout_of};
 ghost use Rattle.map_table.specs.Law.{Kept, ways_from, ways_of, count_of, base_of, width_of, writer_after};
 ghost use Rattle.map_table.specs.Values.{first_of};
-ghost use Rattle.map_table.specs.Held.{IsSized, IsKnown, IsReady, IsNew, Does, Went};
+ghost use Rattle.map_table.specs.Held.{IsSized, IsKnown, IsReady, IsNew, Does, DoesBoth, Went};
 
 use crate::limits::BUCKET_WAYS;
-use crate::rule::{Closes, Deals, Law, Learns, Loads, Opens, Puts, SECTION_STRIDE, Scans, Stores};
+use crate::rule::{
+    Adds, Closes, Deals, Law, Learns, Loads, Opens, Puts, SECTION_STRIDE, Scans, Stores,
+};
 use crate::view::{TableShape, View};
 use atomic_table::{Seat, Shared, Table, TableRule};
 use std::alloc::{AllocError, Global};
@@ -247,6 +249,26 @@ impl MapTable {
         self.table
             .shared
             .store::<Stores>(&mut seat.seat, index, word);
+    }
+
+    /// Adds an amount to the word at a place of an element that was found in the section that is open, modulo 2^64, and answers
+    /// the word that was there. Nobody does anything between: where all that is stored at a place is added, no amount is lost (law
+    /// `added_amounts_stay`). The place is one of the reader's value; it is dearer than `load` and `store`.
+    #[inline]
+    pub fn add(&self, seat: &mut ReadSeat, element: usize, place: usize, amount: u64) -> u64
+        requires table { seat.old.table ≡ self.now }
+        requires held { Holds element seat.old.view.mine }
+        requires element { element < self.now.shape.elements }
+        requires value { first_of self.now.shape seat.old.view.me ≤ place }
+        requires place { place < first_of self.now.shape seat.old.view.me + self.now.shape.value_words }
+        ensures step { DoesBoth seat.old (Load element place result)
+            (Store element place ((result + amount) % 2 ^ 64)) seat.new }
+        ensures stored { word_at element place seat.new.view.seen ≡ (result + amount) % 2 ^ 64 }
+    {
+        let _first = seat.first;
+        let index = self.index_of(element, place);
+        let shared = &self.table.shared;
+        shared.fetch_add::<Adds>(&mut seat.seat, index, amount)
     }
 
     /// A table of these words, all zero, with the writer's seat.

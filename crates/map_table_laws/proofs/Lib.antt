@@ -1,3 +1,4 @@
+mod Added
 pub mod Hits
 pub mod Holding
 pub mod Looks

@@ -1,3 +1,4 @@
+pub mod Added
 pub mod Found
 pub mod History
 pub mod Layout

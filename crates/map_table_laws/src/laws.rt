@@ -1,5 +1,5 @@
 //! What every lawful history keeps, and what lookups over it answer.
-ghost use Rattle.std.specs.Prelude.{◌≡◌, ℕ, ◌%◌, ◌^◌, ◌<◌, List, ◌∷◌, ◌++◌, length, Some, None};
+ghost use Rattle.std.specs.Prelude.{◌≡◌, ℕ, ◌+◌, ◌%◌, ◌^◌, ◌<◌, List, ◌∷◌, ◌++◌, length, Some, None};
 ghost use Rattle.map_table_laws.specs.declared.moves.Move.{Move};
 ghost use Rattle.map_table_laws.specs.declared.moves.Move.TheVariants.{Load, Scan};
 ghost use Rattle.map_table_laws.specs.Layout.{Layout, IsCandidate, IsApart, Names, tag_in};
@@ -9,6 +9,7 @@ ghost use Rattle.map_table_laws.specs.Found.{IsLinkedUnder, IsLinkedAs, Sometime
 ghost use Rattle.map_table_laws.specs.Once.{AreLinkedOnce, PutNoKeyTwice};
 ghost use Rattle.map_table_laws.specs.Scanned.{OnlyScans, AllOutside};
 ghost use Rattle.map_table_laws.specs.Whole.{OnlyWriterStores};
+ghost use Rattle.map_table_laws.specs.Added.{AddsInAll};
 
 /// In every lawful history a way names only an element that there is and whose key may be linked in that way's bucket, with the key's tag.
 pub fn ways_name_keys_of_their_bucket()
@@ -63,6 +64,14 @@ pub fn own_words_stay()
     ensures { (k : Layout) (es : List (ℕ × Move)) → IsLawful k es → (who element place : ℕ) → 0 < who →
         k.owner (k.table_of element) place ≡ who →
         word_at element place es ≡ word_at element place (with_writer who es) }
+{}
+
+/// No amount that was added to a word is lost: where each of the late steps leaves it or adds to it, it has grown by the sum of all
+/// amounts, modulo 2^64, whoever added them.
+pub fn added_amounts_stay()
+    ensures { (element place total : ℕ) (late early : List (ℕ × Move)) →
+        AddsInAll element place late early total →
+        word_at element place (late ++ early) % 2 ^ 64 ≡ (word_at element place early + total) % 2 ^ 64 }
 {}
 
 /// Null refutes every element of the table: in every lawful history, where a stretch of a holder's list answers null,

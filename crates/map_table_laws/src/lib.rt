@@ -16,11 +16,11 @@ pub use excluded::{
     storing_at_anothers_place_is_excluded, unlinking_first_is_excluded,
 };
 pub use laws::{
-    elements_stand_in_one_way, held_elements_stay, held_values_stay, hits_are_held,
-    hits_were_linked, keys_stay_once, keys_that_stay_are_found, loads_find_what_was_stored,
-    null_refutes_every_element, null_refutes_every_way, one_scan_frees_all, own_words_stay,
-    replaced_keys_stay, section_words_tell_sections, spare_elements_are_unheld,
-    two_looks_clear_who_moved, uncleared_readers_have_one_number,
+    added_amounts_stay, elements_stand_in_one_way, held_elements_stay, held_values_stay,
+    hits_are_held, hits_were_linked, keys_stay_once, keys_that_stay_are_found,
+    loads_find_what_was_stored, null_refutes_every_element, null_refutes_every_way,
+    one_scan_frees_all, own_words_stay, replaced_keys_stay, section_words_tell_sections,
+    spare_elements_are_unheld, two_looks_clear_who_moved, uncleared_readers_have_one_number,
     uncleared_readers_stay_in_one_section, ways_name_keys_of_their_bucket,
 };
 pub use moves::Move;
