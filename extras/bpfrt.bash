@@ -1,4 +1,5 @@
 # Completes the words of bpfrt in bash: source extras/bpfrt.bash
+# Made by extras/completion of the program's help.
 
 # The names of the maps of the program file among the words, a line each.
 _bpfrt_maps() {
@@ -11,26 +12,48 @@ _bpfrt_maps() {
     done
 }
 
+_bpfrt_commands="check disasm asm script pool run trace filter"
+
+# The options of a command.
+_bpfrt_options() {
+    case $1 in
+    check) echo "--asm --log --explain --json" ;;
+    disasm) echo "" ;;
+    asm) echo "--file --plain --explain" ;;
+    script) echo "--explain" ;;
+    pool) echo "--explain" ;;
+    run) echo "--map --dump --explain --json" ;;
+    trace) echo "--map --dump --explain --json" ;;
+    filter) echo "--seccomp --explain" ;;
+    esac
+}
+
+# Which of the words is the first that may be a command's file.
+_bpfrt_place() {
+    case $1 in
+    check) echo 2 ;;
+    disasm) echo 2 ;;
+    asm) echo 2 ;;
+    pool) echo 3 ;;
+    run) echo 2 ;;
+    trace) echo 2 ;;
+    filter) echo 2 ;;
+    esac
+}
+
 _bpfrt() {
-    local word=${COMP_WORDS[COMP_CWORD]}
+    local word=${COMP_WORDS[COMP_CWORD]} before=${COMP_WORDS[COMP_CWORD - 1]} options place
+    options=$(_bpfrt_options "${COMP_WORDS[1]}")
+    place=$(_bpfrt_place "${COMP_WORDS[1]}")
     if ((COMP_CWORD == 1)); then
-        mapfile -t COMPREPLY < <(compgen -W "check disasm asm script pool run trace filter help --help --version -h -V" -- "$word")
+        mapfile -t COMPREPLY < <(compgen -W "$_bpfrt_commands help --help --version -h -V" -- "$word")
     elif [[ ${COMP_WORDS[1]} == help ]]; then
-        mapfile -t COMPREPLY < <(compgen -W "check disasm asm script pool run trace filter" -- "$word")
-    elif [[ ${COMP_WORDS[1]} == check && $word == -* ]]; then
-        mapfile -t COMPREPLY < <(compgen -W "--asm --log --explain --json" -- "$word")
-    elif [[ ${COMP_WORDS[1]} == @(script|pool) && $word == -* ]]; then
-        mapfile -t COMPREPLY < <(compgen -W "--explain" -- "$word")
-    elif [[ ${COMP_WORDS[1]} == asm && $word == -* ]]; then
-        mapfile -t COMPREPLY < <(compgen -W "--file --plain --explain" -- "$word")
-    elif [[ ${COMP_WORDS[1]} == filter && $word == -?* ]]; then
-        mapfile -t COMPREPLY < <(compgen -W "--seccomp --explain" -- "$word")
-    elif [[ ${COMP_WORDS[1]} == @(run|trace) && ${COMP_WORDS[COMP_CWORD - 1]} == --map ]]; then
+        mapfile -t COMPREPLY < <(compgen -W "$_bpfrt_commands" -- "$word")
+    elif [[ $before == --map ]]; then
         mapfile -t COMPREPLY < <(compgen -W "$(_bpfrt_maps)" -- "$word")
-    elif [[ ${COMP_WORDS[1]} == @(run|trace) && $word == -* ]]; then
-        mapfile -t COMPREPLY < <(compgen -W "--map --dump --explain --json" -- "$word")
-    elif [[ ${COMP_WORDS[1]} == @(check|disasm|asm|filter) || ${COMP_WORDS[1]} == pool && COMP_CWORD -ge 3 ||
-        ${COMP_WORDS[1]} == @(run|trace) && ($COMP_CWORD -eq 2 || ${COMP_WORDS[COMP_CWORD - 1]} == @(--dump|--explain|--json)) ]]; then
+    elif [[ $word == -* ]]; then
+        mapfile -t COMPREPLY < <(compgen -W "$options" -- "$word")
+    elif [[ -n $place ]] && ((COMP_CWORD >= place)) && { [[ $options != *--map* ]] || ((COMP_CWORD == place)) || [[ $before == --* ]]; }; then
         mapfile -t COMPREPLY < <(compgen -f -- "$word")
     fi
 }
