@@ -1,3 +1,6 @@
+mod KeyWalks
+mod Linked
 mod Meeting
 mod Seeking
 mod Summing
+mod Tidy

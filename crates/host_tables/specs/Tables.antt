@@ -1,5 +1,5 @@
 -- What a host's table holds, and what its writer does in one call.
-use Rattle.std.specs.Prelude.{◌≡◌, ◌≢◌, ◌⊎◌, ℕ, zero, suc, ◌+◌, List, [], ◌∷◌, ◌++◌, All, Option, Some, None, IsSome, length, slice_index}
+use Rattle.std.specs.Prelude.{◌≡◌, ◌⊎◌, ℕ, zero, suc, ◌+◌, ◌<◌, ◌≤◌, List, [], ◌∷◌, ◌++◌, All, Option, Some, None, IsSome, length, slice_index}
 use Rattle.std.specs.List.{range_with_len}
 use Rattle.map_table.specs.Counting.{AddsUp}
 use Rattle.map_table.specs.Hashes.{layout_of}
@@ -14,6 +14,7 @@ use Rattle.map_table_laws.specs.Found.{IsLinkedUnder}
 use Rattle.map_table_laws.specs.History.{word_in}
 use Rattle.map_table_laws.specs.Layout.{Names}
 use Rattle.map_table_laws.specs.Lookups.{OnlySearches}
+use Rattle.map_table_laws.specs.Once.{AreLinkedOnce}
 use Rattle.host_tables.specs.declared.fault.How.{How}
 use Rattle.host_tables.specs.declared.fault.How.TheVariants.{Any, New, Present}
 use Rattle.host_tables.specs.declared.fault.SetFault.{SetFault}
@@ -34,6 +35,12 @@ pub record IsNewTable (shape : TableShape) (t : OpenTable) : Type 0 where
   pub readers : length t.seats ≡ shape.readers
   pub new : All IsNew t.seats
   pub order : AreInOrder t.seats
+
+-- What is so between any two calls: no key is linked in two ways, and of the elements, if there are any, one at least is not
+-- linked.
+pub record IsTidy (w : WriterView) : Type 0 where
+  pub once : AreLinkedOnce (layout_of w.table.shape) 0 w.view.seen
+  pub reserve : 0 < w.table.shape.elements → 0 < length w.free + length w.unlinked
 
 -- The key is linked in this way, or in none.
 abbrev pub Finds : TableShape → List ℕ → Option ℕ → WriterView → Type 0
@@ -89,9 +96,16 @@ pub record Reclaims (gone : List ℕ) (v w : WriterView) : Type 0 where
   pub looks : Looks v moves w
   pub waits : All (λ e. IsHeldUp v.table.shape.readers e moves w.view.mine) w.unlinked
 
--- Where no element was free, the writer reclaimed some first.
-abbrev pub MakesRoom : WriterView → WriterView → Type 0
-MakesRoom v w = ((w ≡ v) × (v.free ≢ [])) ⊎ ((v.free ≡ []) × (gone : List ℕ) × Reclaims gone v w)
+-- How many elements are to be free for a value under a key that was found so, or was not: its own; and under a new key one more,
+-- so that a value can be replaced where all other elements are linked.
+abbrev pub needed_for : Option ℕ → ℕ
+needed_for None = 2
+needed_for (Some way) = 1
+
+-- Where fewer were free than are needed, the writer reclaimed what might be; else it did nothing.
+abbrev pub MakesRoom : ℕ → WriterView → WriterView → Type 0
+MakesRoom needed v w =
+    ((w ≡ v) × (needed ≤ length v.free)) ⊎ ((length v.free < needed) × (gone : List ℕ) × Reclaims gone v w)
 
 -- The key that was found so, or was not, is one of those that are asked for.
 abbrev pub IsAsked : How → Option ℕ → Type 0
@@ -106,35 +120,43 @@ abbrev pub PutsUnder : Option ℕ → List ℕ → List ℕ → WriterView → W
 PutsUnder (Some way) key value v w = Replaces way key value v w
 PutsUnder None key value v w = Links key value v w
 
--- The writer made room, sought the key, and put the value under it.
-pub record Sets (key value : List ℕ) (how : How) (v w : WriterView) : Type 0 where
+-- The writer made room, and put the value under a key that was found so, or was not.
+pub record PutsWithRoom (found : Option ℕ) (key value : List ℕ) (v w : WriterView) : Type 0 where
   pub ready : WriterView
+  pub room : MakesRoom (needed_for found) v ready
+  pub puts : PutsUnder found key value ready w
+
+-- The writer sought the key, made room, and put the value under it.
+pub record Sets (key value : List ℕ) (how : How) (v w : WriterView) : Type 0 where
   pub sought : WriterView
   pub found : Option ℕ
-  pub room : MakesRoom v ready
-  pub seeks : Seeks key found ready sought
+  pub seeks : Seeks key found v sought
   pub asked : IsAsked how found
-  pub puts : PutsUnder found key value sought w
+  pub puts : PutsWithRoom found key value sought w
 
--- Why there is no room for a value under a key that was found so, or was not.
+-- Why there is no room for a value under a key that was found so, or was not: fewer elements are free than are needed, or both
+-- buckets of a new key are full.
 abbrev pub IsNoRoom : List ℕ → Option ℕ → WriterView → SetFault → Type 0
-IsNoRoom key found w NoElement = w.free ≡ []
+IsNoRoom key found w NoElement = length w.free < needed_for found
 IsNoRoom key found w NoWay = (found ≡ None) × AreFull w.view key
 IsNoRoom key found w fault = ⊥
 
--- Why a key that was found so, or was not, is not set.
-abbrev pub IsWhy : List ℕ → How → Option ℕ → WriterView → SetFault → Type 0
-IsWhy key how found w Exists = (how ≡ New) × IsSome found
-IsWhy key how found w Missing = (how ≡ Present) × (found ≡ None)
-IsWhy key how found w fault = IsAsked how found × IsNoRoom key found w fault
+-- The writer reclaimed what might be, where that was needed, and there is no room for this reason.
+abbrev pub FindsNoRoom : List ℕ → Option ℕ → WriterView → WriterView → SetFault → Type 0
+FindsNoRoom key found v w fault = MakesRoom (needed_for found) v w × IsNoRoom key found w fault
 
--- The writer made room and sought the key, and for this reason did no more.
+-- Why a key that was found so, or was not, is not set. Where it is not asked for, nothing more was done.
+abbrev pub IsWhy : List ℕ → How → Option ℕ → WriterView → WriterView → SetFault → Type 0
+IsWhy key how found v w Exists = (how ≡ New) × IsSome found × (w ≡ v)
+IsWhy key how found v w Missing = (how ≡ Present) × (found ≡ None) × (w ≡ v)
+IsWhy key how found v w fault = IsAsked how found × FindsNoRoom key found v w fault
+
+-- The writer sought the key, and for this reason did not set it.
 pub record IsNotSet (key : List ℕ) (how : How) (v w : WriterView) (fault : SetFault) : Type 0 where
-  pub ready : WriterView
+  pub sought : WriterView
   pub found : Option ℕ
-  pub room : MakesRoom v ready
-  pub seeks : Seeks key found ready w
-  pub why : IsWhy key how found w fault
+  pub seeks : Seeks key found v sought
+  pub why : IsWhy key how found sought w fault
 
 -- The writer sought the key and found it, and emptied its way.
 pub record Removes (key : List ℕ) (v w : WriterView) : Type 0 where

@@ -1,13 +1,14 @@
 -- How a host walks over the keys of a table, in the order of its ways.
-use Rattle.std.specs.Prelude.{◌≡◌, ◌≢◌, ℕ, suc, ◌<◌, ◌≤◌, ◌==◌, List, [], ◌∷◌, Option, Some, None, if◌then◌else◌}
+use Rattle.std.specs.Prelude.{◌≡◌, ◌≢◌, ◌⊎◌, ℕ, suc, ◌<◌, ◌≤◌, ◌==◌, List, [], ◌∷◌, Option, Some, None, if◌then◌else◌}
 use Rattle.map_table.specs.Hashes.{layout_of}
 use Rattle.map_table.specs.Law.{ways_of}
 use Rattle.map_table.specs.Writing.{Works, WriterView}
 use Rattle.map_table.specs.declared.view.TableShape.{TableShape}
 use Rattle.map_table_laws.specs.declared.moves.Move.{Move}
 use Rattle.map_table_laws.specs.Found.{IsLinkedUnder}
-use Rattle.map_table_laws.specs.History.{word_in}
+use Rattle.map_table_laws.specs.History.{moves_of, word_in}
 use Rattle.map_table_laws.specs.Lookups.{OnlySearches}
+use Rattle.map_table_laws.specs.Once.{AreLinkedOnce}
 use Rattle.host_tables.specs.Tables.{Seeks}
 
 -- The writer sought the key that was given, and found it in this way, or in none. Where none was given it did nothing.
@@ -70,3 +71,36 @@ NeverEmpty way (call ∷ calls) last = (word_in way call.1 ≢ 0) × NeverEmpty 
 abbrev pub times_met : ℕ → List (ℕ × List Move) → ℕ
 times_met way [] = 0
 times_met way (call ∷ calls) = if call.0 == way then suc (times_met way calls) else times_met way calls
+
+-- What a call of a walk met: a key, in which way, and what had been done to the table by its end.
+pub record Meeting : Type 0 where
+  pub key : List ℕ
+  pub way : ℕ
+  pub seen : List (ℕ × Move)
+
+-- It is the key of the first way from one on that is not empty. Each key is linked in one way at most
+-- (`HostTable::keys_are_linked_once`).
+pub record IsMeeting (k : TableShape) (from : ℕ) (m : Meeting) : Type 0 where
+  pub first : IsFirst k from m.way (moves_of 0 m.seen)
+  pub under : IsLinkedUnder (layout_of k) 0 m.key m.way m.seen
+  pub once : AreLinkedOnce (layout_of k) 0 m.seen
+
+-- A walk from a way on to its end: each call met the first key from behind that of the one before, and in the end none was left.
+abbrev pub IsKeyWalk : TableShape → ℕ → List Meeting → List (ℕ × Move) → Type 0
+IsKeyWalk k from [] last = AreEmpty from (ways_of k) (moves_of 0 last)
+IsKeyWalk k from (m ∷ ms) last = IsMeeting k from m × IsKeyWalk k (suc m.way) ms last
+
+-- At each of the calls, and in the end, the key is linked in the way.
+abbrev pub StaysLinked : TableShape → List ℕ → ℕ → List Meeting → List (ℕ × Move) → Type 0
+StaysLinked k key way [] last = IsLinkedUnder (layout_of k) 0 key way last
+StaysLinked k key way (m ∷ ms) last = IsLinkedUnder (layout_of k) 0 key way m.seen × StaysLinked k key way ms last
+
+-- no call met the key
+abbrev pub NeverMet : List ℕ → List Meeting → Type 0
+NeverMet key [] = Unit {0}
+NeverMet key (m ∷ ms) = (m.key ≢ key) × NeverMet key ms
+
+-- one call met the key, and no other
+abbrev pub MetOnce : List ℕ → List Meeting → Type 0
+MetOnce key [] = ⊥
+MetOnce key (m ∷ ms) = ((m.key ≡ key) × NeverMet key ms) ⊎ ((m.key ≢ key) × MetOnce key ms)

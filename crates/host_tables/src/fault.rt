@@ -35,8 +35,8 @@ pub enum SetFault {
     /// A key that is linked was asked for, and it is not.
     #[error("the key is not linked")]
     Missing,
-    /// No element is free: each is linked, or waits for a reader.
-    #[error("no element is free")]
+    /// No element is free, or only the last one for a new key: each other is linked, or waits for a reader.
+    #[error("too few elements are free")]
     NoElement,
     /// Each way of the key's two buckets names an element.
     #[error("both buckets of the key are full")]

@@ -17,4 +17,4 @@ pub use map_table::{
 };
 pub use reader::HostReader;
 pub use table::{HostTable, is_sized};
-pub use walking::walks_meet_each_once;
+pub use walking::{walks_meet_each_key_once, walks_meet_each_once};

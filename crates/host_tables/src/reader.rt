@@ -111,6 +111,11 @@ impl HostReader {
         ensures table { self.new.table ≡ self.old.table }
         ensures unchanged { OnErr result (self.new ≡ self.old) }
         ensures length { (result ≡ Err Length) ↔ (program.now.checked.ctx_len ≢ context_bytes Packet) }
+        ensures maps { program.now.checked.ctx_len ≡ context_bytes Packet →
+            ((result ≡ Err Maps) ↔ (ServesMaps self.old.table.shape program.now.checked.shapes → ⊥)) }
+        ensures words { program.now.checked.ctx_len ≡ context_bytes Packet →
+            ServesMaps self.old.table.shape program.now.checked.shapes →
+            ((result ≡ Err SubWord) ↔ StoresSubWords program.now.checked) }
         ensures ran { program.now.checked.ctx_len ≡ context_bytes Packet →
             CanServe self.old.table.shape program.now.checked → IsOk result }
     {

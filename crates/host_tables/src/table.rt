@@ -1,6 +1,8 @@
 //! A table with its writer.
-ghost use Rattle.std.specs.Prelude.{◌≡◌, ◌≢◌, ◌↔◌, [], ◌∷◌, ℕ, List, Decides, Err, None, IfSome, IfNone, IsNone, IfOk, IfErr, IsOk, OnOk, option_copied, length, true, false};
+ghost use Rattle.std.specs.Prelude.{◌≡◌, ◌≢◌, ◌↔◌, ◌<◌, ◌+◌, [], ◌∷◌, ℕ, List, Decides, Err, None, IfSome, IfNone, IsNone, IfOk, IfErr, IsOk, OnOk, option_copied, length, true, false};
+ghost use Rattle.map_table.specs.Hashes.{layout_of};
 ghost use Rattle.map_table.specs.Held.{IsReady, IsSized};
+ghost use Rattle.map_table_laws.specs.Once.{AreLinkedOnce};
 ghost use Rattle.map_table.specs.Values.{stored_of};
 ghost use Rattle.host_tables.specs.Reading.{CanServe};
 ghost use Rattle.host_tables.specs.Tables.{IsNewTable, IsNotSet, Reads, Reclaims, Removes, Seeks, Sets};
@@ -12,7 +14,7 @@ ghost use Rattle.map_runs.specs.Running.{ServesMaps};
 use crate::fault::{How, SetFault, TableFault, TableRunFault};
 use crate::reader::{HostReader, serves};
 use crate::walking::{load_first, start_behind};
-use crate::writing::{make_room, put_under, read_sums, seek};
+use crate::writing::{read_sums, reclaim, seek, set_found, unlink};
 use host_programs::HostProgram;
 use map_table::{
     MAX_BUCKETS, MAX_ELEMENTS, MAX_READERS, MAX_WORDS, MapTable, ReadSeat, TableShape, Writer,
@@ -33,7 +35,7 @@ impl Model for HostTable {
     ghost use Rattle.std.specs.Prelude.{◌≡◌, All};
     ghost use Rattle.std.specs.Arc.{arc_value};
     ghost use Rattle.map_table.specs.Held.{IsReady};
-    ghost use Rattle.host_tables.specs.Tables.{OpenTable};
+    ghost use Rattle.host_tables.specs.Tables.{IsTidy, OpenTable};
 
     ghost Value = { OpenTable };
 
@@ -43,7 +45,8 @@ impl Model for HostTable {
       seats = t.seats.items;
     } };
 
-    ghost invariant = { λ t. (t.writer.table ≡ arc_value t.table) × All (IsReady (arc_value t.table)) t.seats.items };
+    ghost invariant = { λ t. (t.writer.table ≡ arc_value t.table) × All (IsReady (arc_value t.table)) t.seats.items
+        × IsTidy t.writer };
 }
 
 /// Whether a table may have this shape.
@@ -59,7 +62,8 @@ pub fn is_sized(shape: &TableShape) -> bool
 }
 
 impl HostTable {
-    /// A table of this shape, in which nothing is linked. All memory is taken here.
+    /// A table of this shape, in which nothing is linked. All memory is taken here. It takes one key fewer than it has elements
+    /// (`set`), and one of a single element takes none.
     ///
     /// Errors: `Shape` where no table may have it (`is_sized`); else `Memory`.
     pub fn new(alloc: Global, shape: TableShape) -> Result<HostTable, TableFault>
@@ -71,6 +75,7 @@ impl HostTable {
             return Err(TableFault::Shape);
         }
         let (table, seats, writer) = MapTable::new(alloc, shape)?;
+        writer.is_writers();
         let Ok(table) = Arc::new(alloc, table) else {
             return Err(TableFault::Memory);
         };
@@ -123,7 +128,11 @@ impl HostTable {
 
     /// Links a value under a key, or puts it in the place of the one that is there, in one store: at no moment does a
     /// reader miss a key that is linked before. Of a table with a value for each reader it is those of all, that of the first
-    /// reader first. Where no element is free, those are reclaimed first that no reader holds.
+    /// reader first.
+    ///
+    /// It fills one free element, and where the key is new, another stays free. So one element fewer can be linked than there
+    /// are, and a linked key can be given another value even then. Where too few are free, those are reclaimed first that no
+    /// reader holds.
     ///
     /// Errors: `Exists` and `Missing` where `how` asks otherwise; else `NoElement`, `NoWay`. Then what is linked stays.
     pub fn set(&mut self, key: &[u64], value: &[u64], how: How) -> Result<(), SetFault>
@@ -135,12 +144,11 @@ impl HostTable {
         ensures fault { IfErr result (IsNotSet key.now how self.old.writer self.new.writer) }
     {
         let _shape = self.table.shape();
-        make_room(&self.table, &mut self.writer);
         let found = seek(&self.table, &mut self.writer, key);
         match (found, how) {
             (Some(_), How::New) => Err(SetFault::Exists),
             (None, How::Present) => Err(SetFault::Missing),
-            _ => put_under(&self.table, &mut self.writer, found, key, value),
+            _ => set_found(&self.table, &mut self.writer, found, key, value),
         }
     }
 
@@ -157,7 +165,7 @@ impl HostTable {
         let Some(way) = seek(&self.table, &mut self.writer, key) else {
             return false;
         };
-        self.writer.unlink(&self.table, way);
+        unlink(&self.table, &mut self.writer, way);
         true
     }
 
@@ -188,7 +196,8 @@ impl HostTable {
     /// Writes the key that comes next behind a given one, in the order of ways: the first of all, where none is given or it is not
     /// linked. False where none comes behind, and then nothing is written.
     ///
-    /// A walk gives each time the key that it met last. It meets a key that stays linked once, if those that it gives stay linked, too.
+    /// A walk gives each time the key that it met last. It meets a key that stays linked once, if those that it gives stay linked, too
+    /// (laws `walks_meet_each_once`, `walks_meet_each_key_once`).
     pub fn next_key(&mut self, key: Option<&[u64]>, next: &mut [u64]) -> bool
         requires key { IfSome (option_copied key) (λ k. length k ≡ self.old.table.shape.key_words) }
         requires next { length next.old ≡ self.old.table.shape.key_words }
@@ -210,7 +219,21 @@ impl HostTable {
         ensures seats { self.new.seats ≡ self.old.seats }
         ensures reclaimed { (gone : List ℕ) × (length gone ≡ result) × Reclaims gone self.old.writer self.new.writer }
     {
-        self.writer.reclaim(&self.table)
+        reclaim(&self.table, &mut self.writer)
+    }
+
+    /// A law: no key is linked in two ways, however it was set.
+    pub fn keys_are_linked_once(&self)
+        ensures { AreLinkedOnce (layout_of self.now.table.shape) 0 self.now.writer.view.seen }
+    {
+        let _ = &self.writer;
+    }
+
+    /// A law: one element at least is not linked, if the table has any. So where none is free, some wait for readers.
+    pub fn one_is_in_reserve(&self)
+        ensures { 0 < self.now.table.shape.elements → 0 < length self.now.writer.free + length self.now.writer.unlinked }
+    {
+        let _ = &self.writer;
     }
 
     /// How many elements may be filled.

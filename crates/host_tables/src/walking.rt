@@ -1,7 +1,8 @@
 //! How the writer of a table walks over its keys.
 ghost use Rattle.std.specs.Prelude.{◌≡◌, ℕ, ◌<◌, ◌≤◌, List, Option, IfSome, option_copied, length, true, false};
 ghost use Rattle.map_table.specs.Law.{ways_of};
-ghost use Rattle.host_tables.specs.Walks.{AreEmpty, IsFirst, IsWalk, LoadsKey, NeverEmpty, SeeksGiven, behind, times_met};
+ghost use Rattle.host_tables.specs.Tables.{IsTidy};
+ghost use Rattle.host_tables.specs.Walks.{AreEmpty, IsFirst, IsKeyWalk, IsWalk, LoadsKey, Meeting, MetOnce, NeverEmpty, SeeksGiven, StaysLinked, behind, times_met};
 ghost use Rattle.map_table.specs.declared.view.TableShape.{TableShape as ShapeOf};
 ghost use Rattle.map_table_laws.specs.declared.moves.Move.{Move};
 
@@ -16,6 +17,7 @@ pub(crate) fn start_behind(table: &MapTable, writer: &mut Writer, key: Option<&[
     ensures seeks { (found : Option ℕ) × SeeksGiven (option_copied key.entry) found writer.old writer.new
         × (result ≡ behind found) }
     ensures within { result ≤ ways_of table.now.shape }
+    ensures tidy { IsTidy writer.old → IsTidy writer.new }
 {
     let _shape = table.shape();
     let Some(key) = key else {
@@ -43,7 +45,9 @@ pub(crate) fn load_first(
     ensures unchanged { result ≡ false → writer.new ≡ writer.old }
     ensures unwritten { result ≡ false → key.new ≡ key.old }
     ensures count { length key.new ≡ length key.old }
+    ensures tidy { IsTidy writer.old → IsTidy writer.new }
 {
+    writer.is_writers();
     for way in from..table.shape().buckets * BUCKET_WAYS {
         if writer.key_at(table, way, key) {
             return true;
@@ -57,4 +61,10 @@ pub(crate) fn load_first(
 pub fn walks_meet_each_once()
     ensures { (k : ShapeOf) (way : ℕ) (calls : List (ℕ × List Move)) (last : List Move) → IsWalk k 0 calls last →
         way < ways_of k → NeverEmpty way calls last → times_met way calls ≡ 1 }
+{}
+
+/// A law: such a walk meets each key that stays linked in one way meanwhile, and once. Its value may have been replaced.
+pub fn walks_meet_each_key_once()
+    ensures { (k : ShapeOf) (key : List ℕ) (way : ℕ) (calls : List Meeting) (last : List (ℕ × Move)) →
+        IsKeyWalk k 0 calls last → way < ways_of k → StaysLinked k key way calls last → MetOnce key calls }
 {}

@@ -1,24 +1,59 @@
 //! What the calls of a table's writer are made of.
-ghost use Rattle.std.specs.Prelude.{◌≡◌, ◌≢◌, ◌<◌, List, IfSome, IfErr, OnOk, OnErr, length};
+ghost use Rattle.std.specs.Prelude.{◌≡◌, ◌≢◌, ◌<◌, ◌≤◌, ℕ, List, Option, IfSome, IfErr, OnOk, OnErr, length, true, false};
 ghost use Rattle.map_table.specs.Values.{stored_of};
 ghost use Rattle.map_table.specs.Law.{ways_of};
 ghost use Rattle.map_table.specs.Writing.{Works};
 ghost use Rattle.map_table_laws.specs.declared.moves.Move.{Move};
-ghost use Rattle.host_tables.specs.Tables.{Finds, IsNoRoom, MakesRoom, PutsUnder, Seeks, SumsUp};
+ghost use Rattle.host_tables.specs.Tables.{Finds, FindsNoRoom, IsNoRoom, IsTidy, MakesRoom, PutsUnder, PutsWithRoom, Reclaims, Seeks, SumsUp, Unlinks, needed_for};
 ghost use Rattle.map_table_laws.specs.History.{word_in};
 
 use crate::fault::SetFault;
 use map_table::{MapTable, Writer};
 
-/// Reclaims what may be, where no element is free.
-pub(crate) fn make_room(table: &MapTable, writer: &mut Writer)
+/// How many elements are to be free for a value under a key that was found in this way, or in none.
+fn needed(found: Option<usize>) -> usize
+    ensures { result ≡ needed_for found }
+{
+    match found {
+        Some(_) => 1,
+        None => 2,
+    }
+}
+
+/// Whether so many are free.
+fn has_room(writer: &Writer, found: Option<usize>) -> bool
+    ensures room { result ≡ true → needed_for found ≤ length writer.now.free }
+    ensures few { result ≡ false → length writer.now.free < needed_for found }
+{
+    needed(found) <= writer.free().len()
+}
+
+/// Frees the elements that were unlinked and that no reader can hold any more: how many.
+pub(crate) fn reclaim(table: &MapTable, writer: &mut Writer) -> usize
     requires table { writer.old.table ≡ table.now }
     ensures table { writer.new.table ≡ writer.old.table }
-    ensures room { MakesRoom writer.old writer.new }
+    ensures reclaimed { (gone : List ℕ) × (length gone ≡ result) × Reclaims gone writer.old writer.new }
+    ensures finds { (key : List ℕ) (found : Option ℕ) → Finds table.now.shape key found writer.old →
+        Finds table.now.shape key found writer.new }
+    ensures tidy { IsTidy writer.old → IsTidy writer.new }
 {
-    if writer.free().is_empty() {
-        writer.reclaim(table);
+    writer.is_writers();
+    writer.reclaim(table)
+}
+
+/// Reclaims what may be, where fewer elements are free than are needed.
+fn make_room(table: &MapTable, writer: &mut Writer, found: Option<usize>)
+    requires table { writer.old.table ≡ table.now }
+    ensures table { writer.new.table ≡ writer.old.table }
+    ensures room { MakesRoom (needed_for found) writer.old writer.new }
+    ensures finds { (key : List ℕ) → Finds table.now.shape key found writer.old →
+        Finds table.now.shape key found writer.new }
+    ensures tidy { IsTidy writer.old → IsTidy writer.new }
+{
+    if has_room(writer, found) {
+        return;
     }
+    reclaim(table, writer);
 }
 
 /// Seeks a key: a way in which it is linked, or none where it is not.
@@ -30,12 +65,14 @@ pub(crate) fn seek(table: &MapTable, writer: &mut Writer, key: &[u64]) -> Option
     ensures finds { Finds table.now.shape key.now result writer.new }
     ensures within { IfSome result (λ way. way < ways_of table.now.shape) }
     ensures bears { IfSome result (λ way. word_in way writer.new.view.mine ≢ 0) }
+    ensures tidy { IsTidy writer.old → IsTidy writer.new }
 {
+    writer.is_writers();
     writer.find(table, key)
 }
 
 /// Puts a value under a key that was found in this way, or in none.
-pub(crate) fn put_under(
+fn put_under(
     table: &MapTable,
     writer: &mut Writer,
     found: Option<usize>,
@@ -49,10 +86,11 @@ pub(crate) fn put_under(
     requires finds { Finds table.now.shape key.now found writer.old }
     ensures table { writer.new.table ≡ writer.old.table }
     ensures put { OnOk result (PutsUnder found key.now value.now writer.old writer.new) }
+    ensures room { OnOk result (needed_for found ≤ length writer.old.free) }
     ensures unchanged { OnErr result (writer.new ≡ writer.old) }
     ensures fault { IfErr result (IsNoRoom key.now found writer.old) }
 {
-    if writer.free().is_empty() {
+    if !has_room(writer, found) {
         return Err(SetFault::NoElement);
     }
     let is_put = match found {
@@ -60,6 +98,42 @@ pub(crate) fn put_under(
         None => writer.link(table, key, value).is_some(),
     };
     if is_put { Ok(()) } else { Err(SetFault::NoWay) }
+}
+
+/// Makes room, and puts a value under a key that was found in this way, or in none.
+pub(crate) fn set_found(
+    table: &MapTable,
+    writer: &mut Writer,
+    found: Option<usize>,
+    key: &[u64],
+    value: &[u64],
+) -> Result<(), SetFault>
+    requires table { writer.old.table ≡ table.now }
+    requires key { length key.now ≡ table.now.shape.key_words }
+    requires value { length value.now ≡ stored_of table.now.shape }
+    requires within { IfSome found (λ way. way < ways_of table.now.shape) }
+    requires finds { Finds table.now.shape key.now found writer.old }
+    ensures table { writer.new.table ≡ writer.old.table }
+    ensures put { OnOk result (PutsWithRoom found key.now value.now writer.old writer.new) }
+    ensures fault { IfErr result (FindsNoRoom key.now found writer.old writer.new) }
+    ensures tidy { IsTidy writer.old → IsTidy writer.new }
+{
+    make_room(table, writer, found);
+    writer.is_writers();
+    put_under(table, writer, found, key, value)
+}
+
+/// Empties a way that names an element.
+pub(crate) fn unlink(table: &MapTable, writer: &mut Writer, way: usize)
+    requires table { writer.old.table ≡ table.now }
+    requires way { way < ways_of table.now.shape }
+    requires linked { word_in way writer.old.view.mine ≢ 0 }
+    ensures table { writer.new.table ≡ writer.old.table }
+    ensures unlinks { Unlinks way writer.old writer.new }
+    ensures tidy { IsTidy writer.old → IsTidy writer.new }
+{
+    writer.is_writers();
+    writer.unlink(table, way);
 }
 
 /// Sums up the values of an element, place by place.
@@ -73,6 +147,7 @@ pub(crate) fn read_sums(table: &MapTable, writer: &mut Writer, element: usize, s
     ensures count { length sums.new ≡ length sums.old }
     ensures total { (ms : List Move) × Works writer.old ms writer.new
         × SumsUp table.now.shape element table.now.shape.value_words sums.new ms }
+    ensures tidy { IsTidy writer.old → IsTidy writer.new }
 {
     writer.is_writers();
     for place in 0..sums.len() {

@@ -10,7 +10,8 @@ use Rattle.map_table_laws.proofs.Hits.{hit_linked}
 use Rattle.map_table_laws.proofs.Owning.{own_word}
 use Rattle.map_table.specs.declared.view.View.{View}
 use Rattle.map_table.specs.Hashes.{layout_of}
-use Rattle.map_runs.specs.Running.{HasFound, HasHeld, HasMet, HasOwn, Touches}
+use Rattle.map_runs.specs.Running.{HasFound, HasHeld, HasMet, HasOwn, HasWhole, Touches}
+use Rattle.map_runs.proofs.Whole.{values_stay}
 
 touched : (k : Layout) (es : List (ℕ × Move)) (who element : ℕ) (m : Move) → 0 < who → MayDo k es who m →
     Touches element m → Holds element (moves_of who es)
@@ -55,3 +56,10 @@ has-own v lawful some = λ after before element place word own e.
     let k = layout_of v.shape in
     let p = lawful_early k after ((v.me, Load element place word) ∷ before) (subst (IsLawful k) e lawful) in
     p.0.1 ∙ own_word k before p.1 v.me element place some own
+
+-- what it finds in an element that only the writer stores in is what was there when the section had found it
+pub has-whole : (v : View) → IsLawful (layout_of v.shape) v.seen → HasWhole v
+has-whole v lawful after late early element place word e holds inside only =
+    let k = layout_of v.shape in
+    let p = lawful_early k after ((v.me, Load element place word) ∷ (late ++ early)) (subst (IsLawful k) e lawful) in
+    p.0.1 ∙ values_stay k late early p.1 v.me element inside holds only place

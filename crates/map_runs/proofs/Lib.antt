@@ -1,4 +1,5 @@
 pub mod Keeping
 pub mod Known
 pub mod Serving
+pub mod Whole
 pub mod Words

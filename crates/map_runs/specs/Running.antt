@@ -7,6 +7,8 @@ use Rattle.map_table_laws.specs.declared.moves.Move.{Move}
 use Rattle.map_table_laws.specs.declared.moves.Move.TheVariants.{Load, Store}
 use Rattle.map_table_laws.specs.History.{moves_of, with_writer, word_at, Holds}
 use Rattle.map_table_laws.specs.Lookups.{LooksUp}
+use Rattle.map_table_laws.specs.Found.{StaysInside}
+use Rattle.map_table_laws.specs.Whole.{OnlyWriterStores}
 use Rattle.map_table.specs.declared.view.TableShape.{TableShape}
 use Rattle.map_table.specs.declared.view.View.{View}
 use Rattle.map_table.specs.Values.{first_of, owner_of}
@@ -55,3 +57,11 @@ abbrev pub HasOwn : View → Type 0
 HasOwn v = (after before : List (ℕ × Move)) (element place word : ℕ) → owner_of v.shape place ≡ v.me →
     v.seen ≡ after ++ (v.me, Load element place word) ∷ before →
     word ≡ word_at element place (with_writer v.me before)
+
+-- Values are seen whole. From a moment at which the holder held an element, while it stayed in its section and no reader stored
+-- there, each load found the word of that moment. So all words that it loads there are of one `link` or `replace`.
+abbrev pub HasWhole : View → Type 0
+HasWhole v = (after late early : List (ℕ × Move)) (element place word : ℕ) →
+    v.seen ≡ after ++ (v.me, Load element place word) ∷ (late ++ early) →
+    Holds element (moves_of v.me early) → StaysInside (moves_of v.me late) → OnlyWriterStores element late →
+    word ≡ word_at element place early

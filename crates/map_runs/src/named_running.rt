@@ -2,7 +2,7 @@
 ghost use Rattle.std.specs.Prelude.{◌≡◌, ◌↔◌, Decides, IfOk, IsErr, OnErr, length};
 ghost use Rattle.map_table.specs.Held.{Goes, IsKnown, IsReady};
 ghost use Rattle.map_runs.specs.Named.{RunsNamed, ServesNamed, named_table_of};
-ghost use Rattle.map_runs.specs.Running.{HasFound, HasHeld, HasMet, HasOwn};
+ghost use Rattle.map_runs.specs.Running.{HasFound, HasHeld, HasMet, HasOwn, HasWhole};
 ghost use Rattle.shared_runs.specs.Words.{StoresSubWords};
 
 use crate::named_map::{NamedMap, agree_by_name, have_room, key_of_bytes};
@@ -115,6 +115,7 @@ pub fn run_named(
     ensures found { HasFound seat.new.view }
     ensures met { HasMet seat.new.view }
     ensures own { HasOwn seat.new.view }
+    ensures whole { HasWhole seat.new.view }
     ensures shape { seat.new.view.shape ≡ table.now.shape }
     ensures ready { IsReady table.now seat.new }
 {
@@ -144,6 +145,7 @@ pub fn run_named_to_exit(
     ensures found { HasFound seat.new.view }
     ensures met { HasMet seat.new.view }
     ensures own { HasOwn seat.new.view }
+    ensures whole { HasWhole seat.new.view }
     ensures shape { seat.new.view.shape ≡ table.now.shape }
     ensures ready { IsReady table.now seat.new }
 {

@@ -2,7 +2,7 @@
 ghost use Rattle.std.specs.Prelude.{◌≡◌, ◌↔◌, Decides, IfOk, IsErr, OnErr, length};
 ghost use Rattle.map_table.specs.Held.{Goes, IsKnown, IsReady};
 ghost use Rattle.shared_runs.specs.Words.{StoresSubWords};
-ghost use Rattle.map_runs.specs.Running.{HasFound, HasHeld, HasMet, HasOwn, RunsShared, ServesMaps};
+ghost use Rattle.map_runs.specs.Running.{HasFound, HasHeld, HasMet, HasOwn, HasWhole, RunsShared, ServesMaps};
 ghost use Rattle.map_runs.specs.Table.{table_of};
 
 use crate::key_words::{word_of, words_of};
@@ -129,6 +129,9 @@ pub fn run_shared(
 
     // What it loads at places that are its own is what it stored there last, or the writer.
     ensures own { HasOwn seat.new.view }
+
+    // In a section all words that it loads of an element are of one value, if no reader stores there meanwhile.
+    ensures whole { HasWhole seat.new.view }
     ensures shape { seat.new.view.shape ≡ table.now.shape }
     ensures ready { IsReady table.now seat.new }
 {
@@ -156,6 +159,7 @@ pub fn run_to_exit(
     ensures found { HasFound seat.new.view }
     ensures met { HasMet seat.new.view }
     ensures own { HasOwn seat.new.view }
+    ensures whole { HasWhole seat.new.view }
     ensures shape { seat.new.view.shape ≡ table.now.shape }
     ensures ready { IsReady table.now seat.new }
 {
@@ -187,6 +191,7 @@ pub fn run_in(
     ensures found { HasFound seat.new.view }
     ensures met { HasMet seat.new.view }
     ensures own { HasOwn seat.new.view }
+    ensures whole { HasWhole seat.new.view }
     ensures shape { seat.new.view.shape ≡ table.now.shape }
     ensures ready { IsReady table.now seat.new }
 {

@@ -1,7 +1,9 @@
 use Rattle.std.proofs.Common.{◌≡◌, refl, ◌∙◌, subst, arith}
+use Rattle.map_table.specs.Hashes.{layout_of}
 use Rattle.map_table.specs.Writing.{WriterView}
 use Rattle.map_table_laws.specs.History.{word_in}
 use Rattle.host_tables.proofs.Meeting.{empty_next}
+use Rattle.host_tables.proofs.Tidy.{searched_tidy}
 use Rattle.host_tables.proofs.walking.load_first.Goals as goal
 
 pub loop-way-init : goal.loop-way-init
@@ -20,3 +22,10 @@ loop-way-preserved c =
       empty_next c.args.from at c.args.writer.now.view.mine
           (subst (λ (w : WriterView). word_in at w.view.mine ≡ 0) i.0 (e.none.0 no)) i.3,
     )
+
+pub returns-then-key_at-clause-tidy : goal.returns-then-key_at-clause-tidy
+returns-then-key_at-clause-tidy c =
+    let s = c.is_writers.ensures in
+    let e = c.key_at.ensures in
+    searched_tidy (layout_of c.args.table.now.shape) c.args.writer.now c.loop-way.writer c.key_at.new.self e.steps.0 c.loop-way.invariant.0
+    s.me s.shape s.known e.steps.1 e.steps.2 e.free e.unlinked

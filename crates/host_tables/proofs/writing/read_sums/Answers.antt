@@ -4,6 +4,7 @@ use Rattle.map_table.proofs.Going.{goes_none, goes_then}
 use Rattle.map_table.specs.Writing.{as_holder}
 use Rattle.host_tables.specs.Tables.{SumsUp}
 use Rattle.host_tables.proofs.Summing.{sums_next}
+use Rattle.host_tables.proofs.Tidy.{same_tidy, sums_leave}
 use Rattle.host_tables.proofs.writing.read_sums.Goals as goal
 
 pub loop-place-init : goal.loop-place-init
@@ -27,3 +28,10 @@ loop-place-preserved c =
             (sums_next k c.args.element at c.sum.result c.loop-place.sums s.0 t.0 (omega (arith, c.loop-place-test.true)) t.2 s.2),
       ),
     )
+
+pub returns-clause-tidy : goal.returns-clause-tidy
+returns-clause-tidy c =
+    let s = c.is_writers.ensures in
+    let i = c.loop-place.invariant in
+    same_tidy c.args.writer.now c.loop-place.writer i.4.0 s.me s.shape s.known i.4.1
+    (sums_leave c.args.table.now.shape c.args.element c.loop-place.place c.loop-place.sums i.4.0 i.4.2) i.1 i.2

@@ -1,4 +1,7 @@
+use Rattle.std.proofs.Common.{refl}
+use Rattle.map_table.specs.Hashes.{layout_of}
 use Rattle.host_tables.proofs.Seeking.{finds_so, seeks_so}
+use Rattle.host_tables.proofs.Tidy.{searched_tidy}
 use Rattle.host_tables.proofs.writing.seek.Goals as goal
 
 pub returns-clause-finds : goal.returns-clause-finds
@@ -9,3 +12,10 @@ returns-clause-seeks c =
     let f = c.find.ensures in
     seeks_so c.args.table.now c.args.key.now c.find.result c.args.writer.now c.find.new.self c.requires.table f.steps.0 f.steps.1 f.steps.2
     f.free f.unlinked (finds_so c.args.table.now.shape c.args.key.now c.find.result c.find.new.self f.found f.none)
+
+pub returns-clause-tidy : goal.returns-clause-tidy
+returns-clause-tidy c =
+    let s = c.is_writers.ensures in
+    let f = c.find.ensures in
+    searched_tidy (layout_of c.args.table.now.shape) c.args.writer.now c.args.writer.now c.find.new.self f.steps.0 refl s.me s.shape s.known
+    f.steps.1 f.steps.2 f.free f.unlinked

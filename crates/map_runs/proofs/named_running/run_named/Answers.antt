@@ -1,6 +1,6 @@
 use Rattle.std.proofs.Common.{◌∙◌, ap}
 use Rattle.map_table.specs.Held.{TableView}
-use Rattle.map_runs.proofs.Known.{has-found, has-held, has-met, has-own}
+use Rattle.map_runs.proofs.Known.{has-found, has-held, has-met, has-own, has-whole}
 use Rattle.map_runs.proofs.named_running.run_named.Goals as goal
 
 pub returns-then-stores_sub_words-clause-held : goal.returns-then-stores_sub_words-clause-held
@@ -17,3 +17,6 @@ returns-then-stores_sub_words-clause-met c = has-met c.args.seat.now.view c.requ
 
 pub returns-then-stores_sub_words-clause-own : goal.returns-then-stores_sub_words-clause-own
 returns-then-stores_sub_words-clause-own c = has-own c.args.seat.now.view c.requires.ready.known.0 c.is_readers.ensures.reader.0
+
+pub returns-then-stores_sub_words-clause-whole : goal.returns-then-stores_sub_words-clause-whole
+returns-then-stores_sub_words-clause-whole c = has-whole c.args.seat.now.view c.requires.ready.known.0

@@ -5,7 +5,7 @@ use Rattle.map_table.specs.Held.{Goes, IsSized, TableView}
 use Rattle.shared_runs.specs.Running.{RunsOver}
 use Rattle.map_runs.specs.Named.{named_table_of}
 use Rattle.map_runs.proofs.Keeping.{small_named}
-use Rattle.map_runs.proofs.Known.{has-found, has-held, has-met, has-own}
+use Rattle.map_runs.proofs.Known.{has-found, has-held, has-met, has-own, has-whole}
 use Rattle.map_runs.proofs.Serving.{ready-outside}
 use Rattle.map_runs.proofs.named_running.run_named_to_exit.Goals as goal
 
@@ -52,3 +52,6 @@ returns-clause-met c = has-met c.run_over-value.new.seat.view (returns-clause-re
 
 pub returns-clause-own : goal.returns-clause-own
 returns-clause-own c = has-own c.run_over-value.new.seat.view (returns-clause-ready c).known.0 c.is_readers-2.ensures.reader.0
+
+pub returns-clause-whole : goal.returns-clause-whole
+returns-clause-whole c = has-whole c.run_over-value.new.seat.view (returns-clause-ready c).known.0

@@ -5,7 +5,7 @@ use Rattle.map_table.specs.Held.{Goes, IsSized, TableView}
 use Rattle.shared_runs.specs.Running.{RunsOver}
 use Rattle.map_runs.specs.Table.{table_of}
 use Rattle.map_runs.proofs.Keeping.{small}
-use Rattle.map_runs.proofs.Known.{has-found, has-held, has-met, has-own}
+use Rattle.map_runs.proofs.Known.{has-found, has-held, has-met, has-own, has-whole}
 use Rattle.map_runs.proofs.Serving.{ready-after}
 use Rattle.map_runs.proofs.running.run_to_exit.Goals as goal
 
@@ -51,3 +51,6 @@ returns-clause-met c = has-met c.run_over-value.new.seat.view (returns-clause-re
 
 pub returns-clause-own : goal.returns-clause-own
 returns-clause-own c = has-own c.run_over-value.new.seat.view (returns-clause-ready c).known.0 c.is_readers-2.ensures.reader.0
+
+pub returns-clause-whole : goal.returns-clause-whole
+returns-clause-whole c = has-whole c.run_over-value.new.seat.view (returns-clause-ready c).known.0

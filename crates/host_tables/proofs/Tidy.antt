@@ -1,0 +1,148 @@
+-- What the writer's calls keep of a table.
+use Rattle.std.proofs.Common.{◌≡◌, ◌≢◌, ℕ, zero, suc, ◌+◌, ◌<◌, ◌≤◌, List, [], ◌∷◌, ◌++◌, length, length-append, refl, sym, ap, ◌∙◌, subst}
+use Rattle.std.proofs.Common.{Option, Some, None, Result, Ok, Err, OnOk, OnErr, IfErr, slice_index, arith}
+use Rattle.map_table_laws.specs.declared.moves.Move.{Move}
+use Rattle.map_table_laws.specs.declared.moves.Move.TheVariants.{Put}
+use Rattle.map_table_laws.specs.Layout.{Layout, Names}
+use Rattle.map_table_laws.specs.History.{moves_of, word_in}
+use Rattle.map_table_laws.specs.Lookups.{OnlySearches}
+use Rattle.map_table_laws.specs.Found.{IsLinkedUnder, StaysFound}
+use Rattle.map_table_laws.specs.Once.{AreLinkedOnce}
+use Rattle.map_table_laws.proofs.Steps.{nothing_named, put_here}
+use Rattle.map_table.specs.declared.view.TableShape.{TableShape}
+use Rattle.map_table.specs.Hashes.{layout_of}
+use Rattle.map_table.specs.Held.{IsKnown, TableView}
+use Rattle.map_table.specs.Values.{copies_of, stored_of}
+use Rattle.map_table.specs.Writing.{Frees, Looks, Puts, Works, WriterView}
+use Rattle.map_table.proofs.Keeping.{adds_quiet, fills_quiet, scans_quiet, searches_quiet}
+use Rattle.host_tables.specs.declared.fault.SetFault.{SetFault}
+use Rattle.host_tables.specs.Tables.{Finds, FindsNoRoom, IsNoRoom, IsTidy, Links, MakesRoom, PutsUnder, PutsWithRoom, Replaces, SumsUp, needed_for}
+use Rattle.host_tables.proofs.Linked.{Leaves, leaves_append, words_leave, same_key, linked_before, linked_after, last_word, once_left, once_put}
+
+-- moves that put nothing
+pub searches_leave : (k : Layout) (table : ℕ) (ms : List Move) → OnlySearches k table ms → (way : ℕ) → Leaves way ms
+searches_leave k table ms only way = words_leave way ms (searches_quiet k table ms only).words
+
+pub sums_leave : (k : TableShape) (element n : ℕ) (sums : List ℕ) (ms : List Move) → SumsUp k element n sums ms → (way : ℕ) → Leaves way ms
+sums_leave k element zero sums ms s way = subst (Leaves way) (sym s) tt
+sums_leave k element (suc n) sums ms s way = subst (Leaves way) (sym s.2) (leaves_append way s.0 s.1
+    (words_leave way s.0 (adds_quiet element (k.key_words + n) k.value_words (copies_of k) s.0 (slice_index sums n) s.3).words)
+    (sums_leave k element n sums s.1 s.4 way))
+
+-- a stretch of the writer's steps
+module _ (v w : WriterView) (ms : List Move) (writer : v.view.me ≡ 0) (shape : v.view.shape ≡ v.table.shape) (known : IsKnown v.view)
+    (works : Works v ms w) where
+  of_table : AreLinkedOnce (layout_of v.table.shape) 0 w.view.seen → (0 < v.table.shape.elements → 0 < length w.free + length w.unlinked) → IsTidy w
+  of_table once reserve = record {
+    once = subst (λ (t : TableView). AreLinkedOnce (layout_of t.shape) 0 w.view.seen) (sym works.table) once;
+    reserve = λ some. reserve (subst (λ (t : TableView). 0 < t.shape.elements) works.table some);
+  }
+
+  -- one that puts nothing
+  pub left_tidy : ((way : ℕ) → Leaves way ms) → length w.free + length w.unlinked ≡ length v.free + length v.unlinked → IsTidy v → IsTidy w
+  left_tidy h count tidy = of_table (once_left v.table.shape v.view w.view ms shape writer known works.went h tidy.once)
+      (λ some. subst (λ n. 0 < n) (sym count) (tidy.reserve some))
+
+  pub same_tidy : ((way : ℕ) → Leaves way ms) → w.free ≡ v.free → w.unlinked ≡ v.unlinked → IsTidy v → IsTidy w
+  same_tidy h free unlinked tidy = left_tidy h (λ i. length (free i) + length (unlinked i)) tidy
+
+  pub left_finds : ((way : ℕ) → Leaves way ms) → (key : List ℕ) (found : Option ℕ) → Finds v.table.shape key found v → Finds v.table.shape key found w
+  left_finds h key (Some way) finds = linked_after v.table.shape v.view w.view ms shape writer known works.went key way (h way) finds
+  left_finds h key None finds =
+      λ way l. finds way (linked_before v.table.shape v.view w.view ms shape writer known works.went key way (h way) l)
+
+  -- one that empties a way
+  pub unlinked_tidy : (way gone : ℕ) → ms ≡ Put way 0 ∷ [] → w.unlinked ≡ v.unlinked ++ gone ∷ [] → IsTidy v → IsTidy w
+  unlinked_tidy way gone is unlinked tidy = of_table
+      (once_put v.table.shape v.view w.view ms shape writer known works.went way
+      (λ other ne. subst (Leaves other) (sym is) (ne, tt))
+      (λ key other p q.
+      let none : word_in way (moves_of 0 w.view.seen) ≡ 0 =
+      last_word v.table.shape v.view w.view ms shape writer known works.went way ∙
+      (ap (λ (z : List Move). word_in way (z ++ v.view.mine)) is ∙ put_here way way 0 v.view.mine refl) in
+      absurd (nothing_named p.0 (subst (λ z. Names z p.0) none p.1.names)))
+      tidy.once)
+      (λ some. let long = ap (λ (z : List ℕ). length z) unlinked in omega (arith, long, length-append v.unlinked (gone ∷ [])))
+
+-- one that only searches
+pub searched_tidy : (k : Layout) (u v w : WriterView) (ms : List Move) → v ≡ u → u.view.me ≡ 0 → u.view.shape ≡ u.table.shape → IsKnown u.view →
+    OnlySearches k 0 ms → Works v ms w → w.free ≡ v.free → w.unlinked ≡ v.unlinked → IsTidy u → IsTidy w
+searched_tidy k u v w ms e writer shape known only works free unlinked tidy =
+    same_tidy u w ms writer shape known (subst (λ (z : WriterView). Works z ms w) e works) (searches_leave k 0 ms only)
+    (free ∙ ap (λ (z : WriterView). z.free) e) (unlinked ∙ ap (λ (z : WriterView). z.unlinked) e) tidy
+
+-- elements that became free
+pub freed_tidy : (gone : List ℕ) (v w : WriterView) (ms : List Move) → v.view.me ≡ 0 → v.view.shape ≡ v.table.shape → IsKnown v.view → Frees gone v w →
+    Looks v ms w → IsTidy v → IsTidy w
+freed_tidy gone v w ms writer shape known frees looks tidy =
+    let free = ap (λ (z : List ℕ). length z) frees.free in
+    let unlinked = ap (λ (z : List ℕ). length z) frees.unlinked in
+    left_tidy v w ms writer shape known looks.1 (λ way. words_leave way ms (scans_quiet 0 v.table.shape.readers ms looks.0).words)
+    (omega (arith, free, unlinked, length-append v.free gone, length-append gone w.unlinked)) tidy
+
+pub freed_finds : (v w : WriterView) (ms : List Move) → v.view.me ≡ 0 → v.view.shape ≡ v.table.shape → IsKnown v.view → Looks v ms w →
+    (key : List ℕ) (found : Option ℕ) → Finds v.table.shape key found v → Finds v.table.shape key found w
+freed_finds v w ms writer shape known looks =
+    left_finds v w ms writer shape known looks.1 (λ way. words_leave way ms (scans_quiet 0 v.table.shape.readers ms looks.0).words)
+
+-- a value that was put under a key, which was linked nowhere else
+module _ (v w : WriterView) (key value : List ℕ) (writer : v.view.me ≡ 0) (shape : v.view.shape ≡ v.table.shape) (known : IsKnown v.view) where
+  -- the moves
+  abbrev all_moves : (way word element : ℕ) → Puts way word element key value v w → List Move
+  all_moves way word element p = Put way word ∷ (p.1 ++ p.0)
+
+  puts_leave : (way word element : ℕ) → (p : Puts way word element key value v w) → (other : ℕ) → way ≢ other →
+      Leaves other (all_moves way word element p)
+  puts_leave way word element p other ne = (
+    ne,
+    leaves_append other p.1 p.0
+        (words_leave other p.1 (fills_quiet element v.table.shape.key_words (stored_of v.table.shape) value p.1 p.3).words)
+        (words_leave other p.0 (fills_quiet element 0 v.table.shape.key_words key p.0 p.2).words),
+  )
+
+  put_once : (way word element : ℕ) → Puts way word element key value v w → IsLinkedUnder (layout_of v.table.shape) 0 key way w.view.seen →
+      ((other : ℕ) → IsLinkedUnder (layout_of v.table.shape) 0 key other v.view.seen → way ≡ other) →
+      AreLinkedOnce (layout_of v.table.shape) 0 v.view.seen → AreLinkedOnce (layout_of v.table.shape) 0 w.view.seen
+  put_once way word element p under there = once_put v.table.shape v.view w.view (all_moves way word element p) shape writer known p.4.went way
+      (puts_leave way word element p)
+      (λ theirs other now before. there other (subst (λ z. IsLinkedUnder (layout_of v.table.shape) 0 z other v.view.seen)
+      (same_key (layout_of v.table.shape) 0 theirs key way w.view.seen now under) before))
+
+  links_tidy : 2 ≤ length v.free → Finds v.table.shape key None v → Links key value v w → IsTidy v → IsTidy w
+  links_tidy room finds l tidy = of_table v w (all_moves l.way l.word l.element l.puts) writer shape known l.puts.4
+      (put_once l.way l.word l.element l.puts l.under (λ other z. absurd (finds other z)) tidy.once)
+      (λ some. let long = ap (λ (z : List ℕ). length z) l.taken in omega (arith, room, long, length-append w.free (l.element ∷ [])))
+
+  at_end : (way : ℕ) (late early : List (ℕ × Move)) → StaysFound (layout_of v.table.shape) 0 key way late early →
+      IsLinkedUnder (layout_of v.table.shape) 0 key way (late ++ early)
+  at_end way [] early s = s
+  at_end way (e ∷ late) early s = s.0
+
+  replaces_tidy : (way : ℕ) → Finds v.table.shape key (Some way) v → Replaces way key value v w → IsTidy v → IsTidy w
+  replaces_tidy way finds r tidy =
+      let under = subst (IsLinkedUnder (layout_of v.table.shape) 0 key way) (sym r.stays.1) (at_end way r.stays.0 v.view.seen r.stays.2) in
+      of_table v w (all_moves way r.word r.element r.puts) writer shape known r.puts.4
+      (put_once way r.word r.element r.puts under (λ other z. tidy.once key way other finds z) tidy.once)
+      (λ some. let long = ap (λ (z : List ℕ). length z) r.unlinked in omega (arith, long, length-append v.unlinked (r.gone ∷ [])))
+
+  puts_tidy : (found : Option ℕ) → needed_for found ≤ length v.free → Finds v.table.shape key found v → PutsUnder found key value v w → IsTidy v → IsTidy w
+  puts_tidy (Some way) room finds p = replaces_tidy way finds p
+  puts_tidy None room finds p = links_tidy room finds p
+
+  -- whatever the call answers
+  pub set_tidy : (found : Option ℕ) (result : Result (Unit {0}) SetFault) → Finds v.table.shape key found v → OnOk result (PutsUnder found key value v w) →
+      OnOk result (needed_for found ≤ length v.free) → OnErr result (w ≡ v) → IsTidy v → IsTidy w
+  set_tidy found (Ok x) finds put room kept tidy = puts_tidy found room finds put tidy
+  set_tidy found (Err e) finds put room kept tidy = subst IsTidy (sym kept) tidy
+
+-- room was made before
+pub with_room : (found : Option ℕ) (key value : List ℕ) (v ready w : WriterView) (result : Result (Unit {0}) SetFault) →
+    MakesRoom (needed_for found) v ready → OnOk result (PutsUnder found key value ready w) → OnOk result (PutsWithRoom found key value v w)
+with_room found key value v ready w (Ok x) room put = record { ready = ready; room = room; puts = put }
+with_room found key value v ready w (Err e) room put = tt
+
+pub without_room : (found : Option ℕ) (key : List ℕ) (v ready w : WriterView) (result : Result (Unit {0}) SetFault) →
+    MakesRoom (needed_for found) v ready → OnErr result (w ≡ ready) → IfErr result (IsNoRoom key found ready) → IfErr result (FindsNoRoom key found v w)
+without_room found key v ready w (Ok x) room kept why = tt
+without_room found key v ready w (Err e) room kept why =
+    (subst (MakesRoom (needed_for found) v) (sym kept) room, subst (λ z. IsNoRoom key found z e) (sym kept) why)

@@ -1,0 +1,12 @@
+use Rattle.std.proofs.Common.{subst}
+use Rattle.map_table.specs.Hashes.{layout_of}
+use Rattle.map_table.specs.Held.{TableView}
+use Rattle.map_table_laws.specs.Once.{AreLinkedOnce}
+use Rattle.host_tables.specs.Tables.{OpenTable}
+use Rattle.host_tables.proofs.table.HostTable.keys_are_linked_once.Goals as goal
+
+pub returns : goal.returns
+returns c =
+    let seen = c.self.inside.writer.view.seen in
+    subst (λ (t : OpenTable). AreLinkedOnce (layout_of t.table.shape) 0 t.writer.view.seen) c.self.view_is
+    (subst (λ (t : TableView). AreLinkedOnce (layout_of t.shape) 0 seen) c.self.invariant.0 c.self.invariant.2.once)
