@@ -1,13 +1,15 @@
 -- What the calls of a seat rest on.
-use Rattle.std.proofs.Common.{◌≡◌, ◌⊎◌, ℕ, suc, min, ◌+◌, ◌-◌, ◌*◌, ◌/◌, ◌<◌, ◌≤◌, ◌^◌, inl, inr, List, [], ◌∷◌, ◌++◌, refl, sym, ap, ◌∙◌, subst, arith}
+use Rattle.std.proofs.Common.{◌≡◌, ◌≢◌, ◌⊎◌, ℕ, suc, min, ◌+◌, ◌-◌, ◌*◌, ◌/◌, ◌<◌, ◌≤◌, ◌^◌, inl, inr, List, [], ◌∷◌, ◌++◌}
+use Rattle.std.proofs.Common.{refl, sym, ap, ◌∙◌, subst, ⊎_elim, arith}
 use mathlib.Core.Option.{none}
 use Rattle.atomic_table.specs.Table.{Me, step, Allows}
 use Rattle.atomic_table.specs.Seated.{TableId}
 use Rattle.map_table_laws.specs.declared.moves.Move.{Move}
 use Rattle.map_table_laws.specs.declared.moves.Move.TheVariants.{Open, Close, Learn, Load, Store}
 use Rattle.map_table_laws.specs.Layout.{Names}
-use Rattle.map_table_laws.specs.History.{inside, opened, most_sections, section_word, word_at, Holds, IsSpare, IsLawful, IsReader, MayLink}
-use Rattle.map_table_laws.proofs.Standing.{fits}
+use Rattle.map_table_laws.specs.History.{moves_of, inside, opened, most_sections, section_word, word_in, word_at}
+use Rattle.map_table_laws.specs.History.{Holds, IsSpare, IsLawful, IsReader, MayLink}
+use Rattle.map_table_laws.proofs.Standing.{named, fits}
 use Rattle.std.proofs.Math.Nat.{min-le_right, min-eq_left, min-eq_right}
 use mathlib.Core.Logic.{dite}
 use native.Mathlib.Decide.{dec_lt}
@@ -62,6 +64,15 @@ pub learn_within : (v w : View) (m : Move) (way x element : ℕ) → m ≡ Learn
 learn_within v w m way x element is g names =
     let now = lawful_now v w m (Learn way x) is g in
     (fits (layout_of v.shape) (g.0 ++ v.seen) now.1 way element (subst (λ z. Names z element) now.0.2 names)).within
+
+-- and where it was not empty, it names one
+pub learn_named : (v w : View) (m : Move) (way x : ℕ) → m ≡ Learn way x → Gains v m w → x ≢ 0 → (element : ℕ) × Names x element
+learn_named v w m way x is g some =
+    let now = lawful_now v w m (Learn way x) is g in
+    let log : List (ℕ × Move) = g.0 ++ v.seen in ⊎_elim
+    (λ (empty : word_in way (moves_of 0 log) ≡ 0). absurd (some (now.0.2 ∙ empty)))
+    (λ (t : (element : ℕ) × Names (word_in way (moves_of 0 log)) element). (t.0, subst (λ z. Names z t.0) (sym now.0.2) t.1))
+    (named (layout_of v.shape) log now.1 way)
 
 abbrev pub holder : TableId → View → Holder
 holder t v = record { table = record { id = t; shape = v.shape }; view = v }

@@ -16,6 +16,7 @@ use Rattle.map_table.specs.declared.view.View.{View}
 use Rattle.map_table.specs.Law.{ways_of}
 use Rattle.map_table.specs.Counting.{AddsUp}
 use Rattle.map_table.specs.Held.{Went, IsSized}
+use Rattle.map_table.specs.Reading.{OnlyLoads}
 use Rattle.map_table.specs.Writing.{Fills, times_in, IsFree, IsUnlinked, IsWriter}
 use Rattle.map_table.proofs.Going.{went_known, went_mine}
 use Rattle.map_table.proofs.Filling.{went_shape, went_me}
@@ -71,6 +72,16 @@ searches_quiet k table (Load e p x ∷ ns) n = quiet_load e p x ns (searches_qui
 searches_quiet k table (Store e p x ∷ ns) n = absurd n
 searches_quiet k table (Put w x ∷ ns) n = absurd n
 searches_quiet k table (Scan r x ∷ ns) n = absurd n
+
+pub loads_quiet : (ns : List Move) → OnlyLoads ns → IsQuiet ns
+loads_quiet [] n = quiet_none
+loads_quiet (Open ∷ ns) n = absurd n
+loads_quiet (Close ∷ ns) n = absurd n
+loads_quiet (Learn w x ∷ ns) n = absurd n
+loads_quiet (Load e p x ∷ ns) n = quiet_load e p x ns (loads_quiet ns n)
+loads_quiet (Store e p x ∷ ns) n = absurd n
+loads_quiet (Put w x ∷ ns) n = absurd n
+loads_quiet (Scan r x ∷ ns) n = absurd n
 
 pub adds_quiet : (element place apart n : ℕ) (ms : List Move) (total : ℕ) → AddsUp element place apart n ms total → IsQuiet ms
 adds_quiet element place apart zero ms total a = subst IsQuiet (sym a.0) quiet_none

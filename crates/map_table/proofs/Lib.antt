@@ -7,6 +7,7 @@ pub mod Keeping
 pub mod Keeps
 pub mod Linking
 pub mod Lists
+pub mod Loading
 pub mod Lookups
 pub mod Lost
 pub mod Members
@@ -18,3 +19,4 @@ pub mod Seen
 pub mod Unlinking
 pub mod Valued
 pub mod Vectors
+pub mod Walking

@@ -73,7 +73,7 @@ found_front way element (Store s p x ∷ ns) ms r = found_front way element ns m
 found_front way element (Put s w ∷ ns) ms r = found_front way element ns ms r
 found_front way element (Scan q x ∷ ns) ms r = found_front way element ns ms r
 
-found_back : (way element : ℕ) (ns ms : List Move) → FoundIn way element ms → FoundIn way element (ns ++ ms)
+pub found_back : (way element : ℕ) (ns ms : List Move) → FoundIn way element ms → FoundIn way element (ns ++ ms)
 found_back way element [] ms r = r
 found_back way element (Open ∷ ns) ms r = found_back way element ns ms r
 found_back way element (Close ∷ ns) ms r = found_back way element ns ms r
@@ -83,7 +83,7 @@ found_back way element (Store s p x ∷ ns) ms r = found_back way element ns ms 
 found_back way element (Put s w ∷ ns) ms r = found_back way element ns ms r
 found_back way element (Scan q x ∷ ns) ms r = found_back way element ns ms r
 
-had_front : (element place word : ℕ) (ns ms : List Move) → HadWord element place word ns → HadWord element place word (ns ++ ms)
+pub had_front : (element place word : ℕ) (ns ms : List Move) → HadWord element place word ns → HadWord element place word (ns ++ ms)
 had_front element place word [] ms r = absurd r
 had_front element place word (Open ∷ ns) ms r = had_front element place word ns ms r
 had_front element place word (Close ∷ ns) ms r = had_front element place word ns ms r

@@ -18,6 +18,7 @@ use Rattle.map_table.specs.declared.view.View.{View}
 use Rattle.map_table.specs.declared.sightings.Sighting.{Sighting}
 use Rattle.map_table.specs.Counting.{AddsUp}
 use Rattle.map_table.specs.Held.{Went}
+use Rattle.map_table.specs.Reading.{OnlyLoads}
 use Rattle.map_table.specs.Law.{writer_after}
 use Rattle.map_table.specs.Sightings.{no_sighting, sighting_at, IsSighting, AreSightings, IsNoted, IsLowered}
 use Rattle.map_table.specs.Writing.{Fills, IsUnlinked}
@@ -119,6 +120,21 @@ searches_blind k table (Scan q x ∷ ns) n = absurd n
 pub sightings_searched : (k : Layout) (table : ℕ) (v w : View) (ns : List Move) (unlinked : List ℕ) (seen : List Sighting) → OnlySearches k table ns →
     Went v (ns ++ v.mine) w → AreSightings v unlinked seen → AreSightings w unlinked seen
 sightings_searched k table v w ns unlinked seen only g a = sightings_stay v w ns unlinked seen (searches_blind k table ns only) g a
+
+loads_blind : (ns : List Move) → OnlyLoads ns → IsBlind ns
+loads_blind [] n = tt
+loads_blind (Open ∷ ns) n = absurd n
+loads_blind (Close ∷ ns) n = absurd n
+loads_blind (Learn w x ∷ ns) n = absurd n
+loads_blind (Load s p x ∷ ns) n = loads_blind ns n
+loads_blind (Store s p x ∷ ns) n = absurd n
+loads_blind (Put w x ∷ ns) n = absurd n
+loads_blind (Scan q x ∷ ns) n = absurd n
+
+-- after loads
+pub sightings_loaded : (v w : View) (ns : List Move) (unlinked : List ℕ) (seen : List Sighting) → OnlyLoads ns → Went v (ns ++ v.mine) w →
+    AreSightings v unlinked seen → AreSightings w unlinked seen
+sightings_loaded v w ns unlinked seen only g a = sightings_stay v w ns unlinked seen (loads_blind ns only) g a
 
 adds_blind : (element place apart n : ℕ) (ms : List Move) (total : ℕ) → AddsUp element place apart n ms total → IsBlind ms
 adds_blind element place apart zero ms total a = subst IsBlind (sym a.0) tt

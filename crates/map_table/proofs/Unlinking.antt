@@ -1,6 +1,6 @@
 -- What unlinking and reclaiming leave.
-use Rattle.std.proofs.Common.{◌≡◌, ◌≢◌, ◌⊎◌, ℕ, suc, ◌+◌, ◌%◌, ◌^◌, ◌<◌, ◌≤◌, List, [], ◌∷◌}
-use Rattle.std.proofs.Common.{◌++◌, length, get_or, set, refl, sym, ap, ◌∙◌, subst, ⊎_elim, inl, inr, arith}
+use Rattle.std.proofs.Common.{◌≡◌, ◌≢◌, ℕ, suc, ◌+◌, ◌%◌, ◌^◌, ◌<◌, ◌≤◌, List, [], ◌∷◌}
+use Rattle.std.proofs.Common.{◌++◌, length, get_or, set, refl, sym, ap, ◌∙◌, subst, ⊎_elim, arith}
 use Rattle.std.proofs.Common.{length-append}
 use Rattle.std.specs.Prelude.{slice_index}
 use Rattle.std.specs.List.{range_with_len}
@@ -9,11 +9,11 @@ use mathlib.Core.Logic.{dite}
 use native.Mathlib.Decide.{ℕ_discrete}
 use Rattle.map_table_laws.specs.declared.moves.Move.{Move}
 use Rattle.map_table_laws.specs.declared.moves.Move.TheVariants.{Put}
-use Rattle.map_table_laws.specs.Layout.{Layout, IsCandidate, Names}
-use Rattle.map_table_laws.specs.History.{moves_of, word_in, MayLink, IsLawful}
+use Rattle.map_table_laws.specs.Layout.{IsCandidate, Names}
+use Rattle.map_table_laws.specs.History.{moves_of, word_in}
 use Rattle.map_table_laws.specs.Found.{IsLinkedUnder}
 use Rattle.map_table_laws.proofs.Steps.{one_name, nothing_named}
-use Rattle.map_table_laws.proofs.Standing.{Quiet, Changed, step, fits, one_way}
+use Rattle.map_table_laws.proofs.Standing.{named, fits, one_way}
 use Rattle.map_table.specs.declared.view.TableShape.{TableShape}
 use Rattle.map_table.specs.declared.view.View.{View}
 use Rattle.map_table.specs.Hashes.{layout_of}
@@ -25,19 +25,6 @@ use Rattle.map_table.proofs.Members.{one_for, times_append, times_push, times_ra
 use Rattle.map_table.proofs.Members.{all_to, all_range, nowhere, room, few, at_most_one, none_for}
 use Rattle.map_table.proofs.Linking.{taken, filled_writer, linked_writer}
 use Rattle.map_table.proofs.Keeping.{put_writer, put_unlinked, empty_names_none}
-
--- each way is empty, or names an element
-named : (k : Layout) (es : List (ℕ × Move)) → IsLawful k es → (way : ℕ) →
-    (word_in way (moves_of 0 es) ≡ 0) ⊎ ((element : ℕ) × Names (word_in way (moves_of 0 es)) element)
-named k [] lawful way = inl refl
-named k (e ∷ es) lawful way = ⊎_elim
-    (λ (q : Quiet e es). subst (λ z. (z ≡ 0) ⊎ ((element : ℕ) × Names z element)) (sym (q.same way)) (named k es lawful.1 way))
-    (λ (c : Changed k e es). dite (ℕ_discrete c.way way)
-    (λ same. let is : word_in way (moves_of 0 (e ∷ es)) ≡ c.word = subst (λ z. word_in z (moves_of 0 (e ∷ es)) ≡ c.word) same c.here in
-    subst (λ z. (z ≡ 0) ⊎ ((element : ℕ) × Names z element)) (sym is)
-    (⊎_elim (λ (z : c.word ≡ 0). inl z) (λ (m : MayLink k es c.way c.word). inr (m.element, m.names)) c.may))
-    (λ ne. subst (λ z. (z ≡ 0) ⊎ ((element : ℕ) × Names z element)) (sym (c.there way ne)) (named k es lawful.1 way)))
-    (step k e es lawful.0)
 
 pub names_some : (v : View) (ways free unlinked : List ℕ) (way : ℕ) → IsWriter v ways free unlinked → word_in way v.mine ≢ 0 →
     (element : ℕ) × Names (word_in way v.mine) element

@@ -3,6 +3,7 @@ pub mod Hashes
 pub mod Held
 pub mod Law
 pub mod Limits
+pub mod Reading
 pub mod Search
 pub mod Sightings
 pub mod Sip

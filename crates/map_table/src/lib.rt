@@ -11,6 +11,8 @@ mod hash;
 mod keys;
 mod limits;
 mod lookup;
+mod meeting;
+mod reading;
 mod rule;
 mod seats;
 mod setup;

@@ -1,6 +1,6 @@
 //! The table, and a reader's seat at it.
 ghost use Rattle.atomic_table.specs.Table.{State};
-ghost use Rattle.std.specs.Prelude.{◌≡◌, ◌⊎◌, ℕ, ◌+◌, ◌-◌, ◌*◌, ◌%◌, ◌^◌, ◌<◌, ◌≤◌, [], ◌∷◌, length, slice_index, IfOk};
+ghost use Rattle.std.specs.Prelude.{◌≡◌, ◌≢◌, ◌⊎◌, ℕ, ◌+◌, ◌-◌, ◌*◌, ◌%◌, ◌^◌, ◌<◌, ◌≤◌, [], ◌∷◌, length, slice_index, IfOk};
 ghost use Rattle.map_table_laws.specs.declared.moves.Move.TheVariants.{Open, Close, Learn, Load, Store, Put, Scan};
 ghost use Rattle.map_table_laws.specs.Layout.{Names};
 ghost use Rattle.map_table_laws.specs.History.{inside, most_sections, word_at, Holds, IsSpare, IsReader, MayLink};
@@ -187,6 +187,7 @@ impl MapTable {
         requires inside { inside seat.old.view.mine ≡ 1 }
         requires way { way < ways_of self.now.shape }
         ensures step { Does seat.old (Learn way result) seat.new }
+        ensures named { result ≢ 0 → (element : ℕ) × Names result element }
         ensures within { (element : ℕ) → Names result element → element < self.now.shape.elements }
         ensures held { (element : ℕ) → Names result element → Holds element seat.new.view.mine }
     {
@@ -209,6 +210,7 @@ impl MapTable {
         requires ways { ways ≡ ways_from self.now.shape }
         requires way { way < ways_of self.now.shape }
         ensures step { Does seat.old (Learn way result) seat.new }
+        ensures named { result ≢ 0 → (element : ℕ) × Names result element }
         ensures within { (element : ℕ) → Names result element → element < self.now.shape.elements }
         ensures held { (element : ℕ) → Names result element → Holds element seat.new.view.mine }
     {

@@ -12,6 +12,7 @@ ghost use Rattle.map_table.specs.Law.{ways_of, writer_after};
 ghost use Rattle.map_table.specs.Counting.{AddsUp};
 ghost use Rattle.map_table.specs.Values.{copies_of, stored_of};
 ghost use Rattle.map_table.specs.Held.{IsKnown, IsSized};
+ghost use Rattle.map_table.specs.Reading.{OnlyLoads, Reads};
 ghost use Rattle.map_table.specs.Sightings.{IsHeldUp};
 ghost use Rattle.map_table.specs.Writing.{Puts, Works, Looks, Frees, AreFull, StaysIn, IsFree, IsUnlinked, IsNoneLost, times_in};
 
@@ -20,6 +21,7 @@ use crate::counting::add_up;
 use crate::hash::candidates_of;
 use crate::keys::load_key;
 use crate::limits::BUCKET_WAYS;
+use crate::reading::load_values;
 use crate::setup::{numbers, zeros};
 use crate::sightings::{Sighting, least_of, look_round, lower_each, move_first, no_sightings};
 use crate::table::MapTable;
@@ -173,6 +175,34 @@ impl Writer {
             return false;
         };
         load_key(table, &mut self.seat, element, key);
+        true
+    }
+
+    /// Loads the words of all values of the element that a way names, in the order of their places: `stored_words` of the
+    /// shape. Each is loaded once, and is what was stored there last (law `loads_find_what_was_stored`). What readers
+    /// store meanwhile is there or not. False where the way is empty, and then nothing is done or written.
+    pub fn value_at(&mut self, table: &MapTable, way: usize, words: &mut [u64]) -> bool
+        requires table { self.old.table ≡ table.now }
+        requires way { way < ways_of table.now.shape }
+        requires words { length words.old ≡ stored_of table.now.shape }
+        ensures table { self.new.table ≡ self.old.table }
+        ensures free { self.new.free ≡ self.old.free }
+        ensures unlinked { self.new.unlinked ≡ self.old.unlinked }
+        ensures steps { (ms : List Move) × OnlyLoads ms × Works self.old ms self.new }
+        ensures loaded { result ≡ true → (element : ℕ) × (ms : List Move)
+            × Names (word_in way self.old.view.mine) element
+            × Reads element table.now.shape.key_words words.new (stored_of table.now.shape) ms
+            × Works self.old ms self.new }
+        ensures none { (result ≡ false) ↔ (word_in way self.old.view.mine ≡ 0) }
+        ensures unchanged { result ≡ false → self.new ≡ self.old }
+        ensures unwritten { result ≡ false → words.new ≡ words.old }
+        ensures count { length words.new ≡ length words.old }
+    {
+        let _shape = table.shape();
+        let Some(element) = self.element_at(way) else {
+            return false;
+        };
+        load_values(table, &mut self.seat, element, words);
         true
     }
 

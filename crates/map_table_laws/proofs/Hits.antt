@@ -58,7 +58,7 @@ loaded_word k element place word e es may is low =
     m.1 ∙ (sym (key_word k element place es low) ∙ ap (λ z. slice_index z place) (sym same))
 
 -- a word that was found in the section is the one that the key still has
-had_word : (k : Layout) (who element place word : ℕ) (late early : History) → 0 < who → IsLawful k (late ++ early) →
+pub had_word : (k : Layout) (who element place word : ℕ) (late early : History) → 0 < who → IsLawful k (late ++ early) →
     StaysInside (moves_of who late) → HadWord element place word (moves_of who late) → place < k.key_words (k.table_of element) →
     word ≡ slice_index (key_of k element (late ++ early)) place
 had_word k who element place word [] early some lawful s h low = absurd h

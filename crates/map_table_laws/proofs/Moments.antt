@@ -35,6 +35,10 @@ pub sometime_to : (p q : History → Type 0) (late early : History) → ((es : H
 sometime_to p q [] early f h = f early h
 sometime_to p q (e ∷ late) early f h = ⊎_elim (λ z. inl (f (e ∷ (late ++ early)) z)) (λ z. inr (sometime_to p q late early f z)) h
 
+pub at_last : (p : History → Type 0) (late early : History) → Throughout p late early → p (late ++ early)
+at_last p [] early t = t
+at_last p (e ∷ late) early t = t.0
+
 pub always_and_never : (p : History → Type 0) (late early : History) → Throughout p late early → Sometime (λ es. p es → ⊥) late early → ⊥
 always_and_never p [] early all h = h all
 always_and_never p (e ∷ late) early all h = ⊎_elim (λ z. z all.0) (λ z. always_and_never p late early all.1 z) h
@@ -121,10 +125,10 @@ searches_inside k table (Put w x ∷ ms) h = absurd h
 searches_inside k table (Scan r x ∷ ms) h = absurd h
 
 -- the element was found by this move, or before it
-record FindsNow (way element : ℕ) (m : Move) : Type 0 where
-  word : ℕ
-  is : m ≡ Learn way word
-  names : Names word element
+pub record FindsNow (way element : ℕ) (m : Move) : Type 0 where
+  pub word : ℕ
+  pub is : m ≡ Learn way word
+  pub names : Names word element
 
 found_head : (way element : ℕ) (m : Move) (ms : List Move) → FoundIn way element (m ∷ ms) → FindsNow way element m ⊎ FoundIn way element ms
 found_head way element Open ms h = inr h
@@ -137,14 +141,14 @@ found_head way element (Store e p x) ms h = inr h
 found_head way element (Put w x) ms h = inr h
 found_head way element (Scan r x) ms h = inr h
 
-found_step : (who way element : ℕ) (e : ℕ × Move) (late : History) → FoundIn way element (moves_of who (e ∷ late)) →
+pub found_step : (who way element : ℕ) (e : ℕ × Move) (late : History) → FoundIn way element (moves_of who (e ∷ late)) →
     ((e.0 ≡ who) × FindsNow way element e.1) ⊎ FoundIn way element (moves_of who late)
 found_step who way element e late h = dite (ℕ_discrete e.0 who)
     (λ mine. ⊎_elim (λ t. inl (mine, t)) (λ t. inr t) (found_head way element e.1 (moves_of who late) (subst (FoundIn way element) (own who e late mine) h)))
     (λ ne. inr (subst (FoundIn way element) (others who e late ne) h))
 
 -- who found an element in its section holds it
-found_holds : (who way element : ℕ) (late early : History) → StaysInside (moves_of who late) → FoundIn way element (moves_of who late) →
+pub found_holds : (who way element : ℕ) (late early : History) → StaysInside (moves_of who late) → FoundIn way element (moves_of who late) →
     Holds element (moves_of who (late ++ early))
 found_holds who way element [] early s h = absurd h
 found_holds who way element (e ∷ late) early s h = ⊎_elim
@@ -161,7 +165,7 @@ pub record Stood (k : Layout) (way element : ℕ) (key : List ℕ) (es : History
   pub names : Names (word_in way (moves_of 0 es)) element
   pub key_is : key_of k element es ≡ key
 
-learnt_stood : (k : Layout) (way element x : ℕ) (key : List ℕ) (es : History) (e : ℕ × Move) → IsLawful k es → MayDo k es e.0 e.1 →
+pub learnt_stood : (k : Layout) (way element x : ℕ) (key : List ℕ) (es : History) (e : ℕ × Move) → IsLawful k es → MayDo k es e.0 e.1 →
     e.1 ≡ Learn way x → Names x element → key_of k element (e ∷ es) ≡ key → Stood k way element key es
 learnt_stood k way element x key es e lawful may is names key_now =
     let m : MayDo k es e.0 (Learn way x) = subst (λ (z : Move). MayDo k es e.0 z) is may in record {

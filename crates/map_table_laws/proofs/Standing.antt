@@ -101,6 +101,19 @@ fits k (e ∷ es) lawful way element names = ⊎_elim
     (fits k es lawful.1 way element (subst (λ z. Names z element) is names)))))
     (step k e es lawful.0)
 
+-- each way is empty, or names an element
+pub named : (k : Layout) (es : List (ℕ × Move)) → IsLawful k es → (way : ℕ) →
+    (word_in way (moves_of 0 es) ≡ 0) ⊎ ((element : ℕ) × Names (word_in way (moves_of 0 es)) element)
+named k [] lawful way = inl refl
+named k (e ∷ es) lawful way = ⊎_elim
+    (λ (q : Quiet e es). subst (λ z. (z ≡ 0) ⊎ ((element : ℕ) × Names z element)) (sym (q.same way)) (named k es lawful.1 way))
+    (λ (c : Changed k e es). dite (ℕ_discrete c.way way)
+    (λ same. let is : word_in way (moves_of 0 (e ∷ es)) ≡ c.word = subst (λ z. word_in z (moves_of 0 (e ∷ es)) ≡ c.word) same c.here in
+    subst (λ z. (z ≡ 0) ⊎ ((element : ℕ) × Names z element)) (sym is)
+    (⊎_elim (λ (z : c.word ≡ 0). inl z) (λ (m : MayLink k es c.way c.word). inr (m.element, m.names)) c.may))
+    (λ ne. subst (λ z. (z ≡ 0) ⊎ ((element : ℕ) × Names z element)) (sym (c.there way ne)) (named k es lawful.1 way)))
+    (step k e es lawful.0)
+
 -- what is put in a way is not in another
 pub put_alone : (k : Layout) (es : List (ℕ × Move)) (way word other element : ℕ) → (word ≡ 0) ⊎ MayLink k es way word → Names word element →
     Names (word_in other (moves_of 0 es)) element → ⊥

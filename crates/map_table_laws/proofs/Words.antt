@@ -74,6 +74,10 @@ word_stays (Store e p x ∷ ns) ms s = word_stays ns ms s
 word_stays (Put w x ∷ ns) ms s = word_stays ns ms s
 word_stays (Scan r x ∷ ns) ms s = word_stays ns ms s
 
+-- and who was inside stays so
+pub inside_same : (ns ms : List Move) → StaysInside ns → inside (ns ++ ms) ≡ inside ms
+inside_same ns ms s = sym (word_parity (ns ++ ms)) ∙ (ap (λ z. z % 2) (word_stays ns ms s) ∙ word_parity ms)
+
 -- a stretch that opens no more sections, and at whose end one is open, begins and ends none
 none_opened : (ns ms : List Move) → opened (ns ++ ms) ≤ opened ms → inside (ns ++ ms) ≡ 1 → StaysInside ns
 none_opened [] ms few i = tt

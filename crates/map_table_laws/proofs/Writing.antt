@@ -120,7 +120,7 @@ filled_unheld k es lawful who element place word may h = ⊎_elim
     let reader = (held k es lawful 0 element r.0).reader in absurd (omega (arith, reader.0))) may
 
 -- null has looked at each way of both buckets
-found_looked : (way element : ℕ) (ms : List Move) → FoundIn way element ms → LookedAt way ms
+pub found_looked : (way element : ℕ) (ms : List Move) → FoundIn way element ms → LookedAt way ms
 found_looked way element [] h = absurd h
 found_looked way element (Open ∷ ms) h = found_looked way element ms h
 found_looked way element (Close ∷ ms) h = found_looked way element ms h

@@ -31,6 +31,12 @@ linked = (0, Put 9 (naming 0)) ∷ (0, Store 0 1 50) ∷ (0, Store 0 0 5) ∷ []
 abbrev pub found : List (ℕ × Move)
 found = (1, Load 0 0 5) ∷ (1, Learn 9 (naming 0)) ∷ (1, Open) ∷ linked
 
+-- The writer moves the key: it links the element 1, with the same key and value, in the way 1. The reader ends its section. The
+-- writer finds it outside, and unlinks the key in the way 9.
+abbrev pub moving : List (ℕ × Move)
+moving =
+    (0, Put 9 0) ∷ (0, Scan 1 2) ∷ (1, Close) ∷ (0, Put 1 (naming 1)) ∷ (0, Store 1 1 50) ∷ (0, Store 1 0 5) ∷ []
+
 -- the writer replaces the value: the element 1 has the same key, and the value 51
 abbrev pub replaced : List (ℕ × Move)
 replaced = (0, Put 9 (naming 1)) ∷ (0, Store 1 1 51) ∷ (0, Store 1 0 5) ∷ found

@@ -1,15 +1,17 @@
 //! What every lawful history keeps, and what lookups over it answer.
-ghost use Rattle.std.specs.Prelude.{◌≡◌, ℕ, ◌+◌, ◌%◌, ◌^◌, ◌<◌, List, ◌∷◌, ◌++◌, length, Some, None};
+ghost use Rattle.std.specs.Prelude.{◌≡◌, ℕ, ◌+◌, ◌%◌, ◌^◌, ◌<◌, List, ◌∷◌, ◌++◌, length, slice_index, Some, None};
 ghost use Rattle.map_table_laws.specs.declared.moves.Move.{Move};
 ghost use Rattle.map_table_laws.specs.declared.moves.Move.TheVariants.{Load, Scan};
 ghost use Rattle.map_table_laws.specs.Layout.{Layout, IsCandidate, IsApart, Names, tag_in};
 ghost use Rattle.map_table_laws.specs.History.{moves_of, with_writer, inside, opened, most_sections, section_word, word_in, word_at, key_of, generation, IsLinked, Holds, FoundSince, Cleared, IsSpare, IsLawful};
-ghost use Rattle.map_table_laws.specs.Lookups.{OnlySearches, AnswersLookup};
+ghost use Rattle.map_table_laws.specs.Lookups.{OnlySearches, AnswersLookup, FoundIn, HadWord};
 ghost use Rattle.map_table_laws.specs.Found.{IsLinkedUnder, IsLinkedAs, Sometime, Throughout, StaysFound, StaysInside, StaysUnlinked, OnlyReplaces};
 ghost use Rattle.map_table_laws.specs.Once.{AreLinkedOnce, PutNoKeyTwice};
 ghost use Rattle.map_table_laws.specs.Scanned.{OnlyScans, AllOutside};
 ghost use Rattle.map_table_laws.specs.Whole.{OnlyWriterStores};
 ghost use Rattle.map_table_laws.specs.Added.{AddsInAll};
+ghost use Rattle.map_table_laws.specs.Moved.{MovesKey};
+ghost use Rattle.map_table_laws.specs.Walks.{LearnsEach, Meets};
 
 /// In every lawful history a way names only an element that there is and whose key may be linked in that way's bucket, with the key's tag.
 pub fn ways_name_keys_of_their_bucket()
@@ -178,4 +180,41 @@ pub fn two_looks_clear_who_moved()
         (StaysInside (moves_of reader between) → ⊥) → opened (moves_of reader early) < most_sections →
         Cleared reader element
         (moves_of 0 ((late ++ (0, Scan reader y) ∷ between) ++ (0, Scan reader x) ∷ early)) }
+{}
+
+/// In every lawful history a key that the writer moves from one way to another is found throughout. No lookup answers null
+/// to it, wherever in these steps it begins and ends. One that began before the link may have passed the other way too
+/// early. Its section has ended by the unlinking, since its reader was found gone between them.
+pub fn moved_keys_are_found()
+    ensures { (k : Layout) (late early : List (ℕ × Move)) → IsLawful k (late ++ early) →
+        (table : ℕ) (key : List ℕ) (from to : ℕ) → MovesKey k table key from to late early →
+        (who : ℕ) (newer stretch older : List (ℕ × Move)) → late ≡ newer ++ (stretch ++ older) →
+        OnlySearches k table (moves_of who stretch) →
+        AnswersLookup k table key (moves_of who stretch) None → ⊥ }
+{}
+
+/// A walk: in every lawful history a reader that learns each way below n in one section meets each key that stays linked in
+/// one of them meanwhile, also while its value is replaced. It found there an element that was linked under the key
+/// then, and holds it.
+pub fn walks_of_readers_meet_keys_that_stay()
+    ensures { (k : Layout) (late early : List (ℕ × Move)) → IsLawful k (late ++ early) →
+        (table : ℕ) (key : List ℕ) (who way n : ℕ) → StaysInside (moves_of who late) →
+        LearnsEach n (moves_of who late) → way < n → StaysFound k table key way late early →
+        (element : ℕ) × Meets k table key who way element late early
+        × Holds element (moves_of who (late ++ early)) }
+{}
+
+/// It meets no other: in every lawful history an element that a reader finds in a way was linked there then, under the key
+/// that it still has when the stretch ends, if the reader stays in its section. The reader holds it, and each word of its
+/// key that the reader loaded is of this key.
+pub fn walks_of_readers_meet_linked_keys()
+    ensures { (k : Layout) (late early : List (ℕ × Move)) → IsLawful k (late ++ early) →
+        (who way element : ℕ) → StaysInside (moves_of who late) →
+        FoundIn way element (moves_of who late) →
+        (element < k.elements)
+        × Meets k (k.table_of element) (key_of k element (late ++ early)) who way element late early
+        × Holds element (moves_of who (late ++ early))
+        × ((place word : ℕ) → place < k.key_words (k.table_of element) →
+        HadWord element place word (moves_of who late) →
+        word ≡ slice_index (key_of k element (late ++ early)) place) }
 {}

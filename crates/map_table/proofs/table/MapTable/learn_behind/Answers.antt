@@ -3,7 +3,7 @@ use Rattle.map_table_laws.specs.declared.moves.Move.TheVariants.{Learn}
 use Rattle.map_table_laws.specs.History.{inside}
 use Rattle.map_table.specs.Law.{ways_from, ways_of}
 use Rattle.map_table.specs.Held.{TableView, Holder}
-use Rattle.map_table.proofs.Calls.{does, learns_at, learn_within, way_back, way_within}
+use Rattle.map_table.proofs.Calls.{does, learns_at, learn_named, learn_within, way_back, way_within}
 use Rattle.map_table.proofs.table.MapTable.learn_behind.Goals as goal
 
 pub load-requires : goal.load-requires
@@ -27,6 +27,13 @@ returns-clause-step c =
     let ways = subst (λ (q : TableView). c.args.ways ≡ ways_from q.shape) (sym c.self.view_is) c.requires.ways in
     let move = ap (λ z. Learn z c.load.result) (way_back _ c.self.inside.shape c.args.ways c.args.way ways (ap (λ (q : TableView). q.shape) p)) in
     does _ _ _ _ _ _ _ c.seat.view_is c.load.ensures.0 move c.load.ensures.2.0
+
+pub returns-clause-named : goal.returns-clause-named
+returns-clause-named c = λ some.
+    let p = ap (λ (h : Holder). h.table) c.seat.view_is ∙ (c.requires.table ∙ sym c.self.view_is) in
+    let ways = subst (λ (q : TableView). c.args.ways ≡ ways_from q.shape) (sym c.self.view_is) c.requires.ways in
+    let move = ap (λ z. Learn z c.load.result) (way_back _ c.self.inside.shape c.args.ways c.args.way ways (ap (λ (q : TableView). q.shape) p)) in
+    learn_named _ _ _ c.args.way c.load.result move c.load.ensures.2.0 some
 
 pub returns-clause-within : goal.returns-clause-within
 returns-clause-within c = λ element names.
