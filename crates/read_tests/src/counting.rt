@@ -1,13 +1,14 @@
 //! Jobs that count: each adds 1 to a value of which each reader has its own.
-ghost use Rattle.std.specs.Prelude.{◌≡◌, ◌<◌, All, IfOk, length};
+ghost use Rattle.std.specs.Prelude.{◌≡◌, ◌<◌, All, IfOk, length, vec_len};
 ghost use Rattle.map_runs.specs.Named.{ServesNamed};
+ghost use Rattle.map_table.specs.Held.{IsReady};
 
-use crate::jobs::job;
+use crate::jobs::{End, Kind, counts, jobs_of};
 use crate::making::verified_with_two;
 use crate::map_jobs::fitting;
 use map_runs::{MapRuns, NamedMap, NamedRuns, fits_named, key_in};
-use map_table::{MapTable, Secret, TableShape, Values, Writer};
-use std::alloc::{AllocError, Global};
+use map_table::{MapTable, ReadSeat, Secret, TableShape, Values, Writer};
+use std::alloc::Global;
 use std::sync::Wait;
 use std::test::Fail;
 use std::thread::Threads;
@@ -15,13 +16,28 @@ use verifier::Verified;
 use worker_pool::{Job, run_table_jobs};
 
 /// A lookup of the key of eight zero bytes in the first map, which adds 1 to the value.
-const COUNT: &str = "b706000000000000 8520000001000000 7a0af8ff00000000
-bfa2000000000000 07020000f8ffffff 1851000000000000 0000000000000000 8500000001000000
-1500030000000000 7901000000000000 0701000001000000 7b10000000000000
-8520000002000000 bf60000000000000 9500000000000000";
+const COUNT: &str = "\
+    b70600000000000085200000010000007a0af8ff00000000bfa200000000000007020000f8ffffff\
+    18510000000000000000000000000000850000000100000015000300000000007901000000000000\
+    07010000010000007b100000000000008520000002000000bf600000000000009500000000000000";
 
-/// The name of the map in the second, where it is that.
-const SECOND: (&str, &str) = ("1851000000000000", "1851000001000000");
+/// The same in the second map.
+const COUNT_IN_SECOND: &str = "\
+    b70600000000000085200000010000007a0af8ff00000000bfa200000000000007020000f8ffffff\
+    18510000010000000000000000000000850000000100000015000300000000007901000000000000\
+    07010000010000007b100000000000008520000002000000bf600000000000009500000000000000";
+
+/// Jobs of one program, which exits with 0.
+const ONE: &[Kind] = &[(0, 0, End::Exit(0))];
+
+/// Of five jobs three of the first program, and two of the second.
+const THREE_AND_TWO: &[Kind] = &[
+    (0, 0, End::Exit(0)),
+    (1, 0, End::Exit(0)),
+    (0, 0, End::Exit(0)),
+    (1, 0, End::Exit(0)),
+    (0, 0, End::Exit(0)),
+];
 
 /// A table for four readers, each of which has a counter of its own under a key of two words.
 const COUNTERS: TableShape = TableShape {
@@ -69,29 +85,42 @@ fn sum_under(table: &MapTable, writer: &mut Writer, key: &[u64]) -> Option<u64>
     Some(writer.sum(table, element, 0))
 }
 
-/// So many jobs of the first program, and so many of the second behind them.
-fn jobs_of(alloc: Global, first: usize, second: usize) -> Result<Vec<Job>, AllocError> {
-    let mut jobs = Vec::new(alloc);
-    for _ in 0..first {
-        jobs.push(job(0, 0))?;
-    }
-    for _ in 0..second {
-        jobs.push(job(1, 0))?;
-    }
-    Ok(jobs)
+/// Whether the four seats of a table that is the map of their program serve a hundred jobs.
+fn serve_one<R: Threads + Wait + Sync>(
+    rt: &R,
+    alloc: Global,
+    table: &MapTable,
+    seats: &mut Vec<ReadSeat>,
+    jobs: &[Job],
+) -> Result<bool, Fail>
+    requires four { vec_len seats.old ≡ 4 }
+    requires ready { All (IsReady table.now) seats.old.items }
+{
+    let programs = [fitting(alloc, table, COUNT, 0)?];
+    let runs = MapRuns { table };
+    let served = run_table_jobs(rt, alloc, &programs, jobs, &runs, seats);
+    Ok(counts(served, ONE) == Ok([100, 0]))
 }
 
-/// What four seats have counted that served so many jobs, in a table that is the map of their program.
-fn count_in_one<R: Threads + Wait + Sync>(rt: &R, alloc: Global) -> Result<Option<u64>, Fail> {
+/// The same of a new table, with the sum that was counted.
+fn count_in_one<R: Threads + Wait + Sync>(
+    rt: &R,
+    alloc: Global,
+    jobs: &[Job],
+) -> Result<(bool, Option<u64>), Fail> {
     let (table, mut seats, mut writer) = MapTable::new(alloc, OF_ONE)?;
     let _ = writer.link(&table, &[0], &[0; 4]);
-    let programs = [fitting(alloc, &table, COUNT, 0)?];
-    let jobs = jobs_of(alloc, 100, 0)?;
-    let runs = MapRuns { table: &table };
-    match run_table_jobs(rt, alloc, &programs, &jobs, &runs, &mut seats.list) {
-        Ok(_report) => Ok(sum_under(&table, &mut writer, &[0])),
-        Err(_fault) => Err(Fail::from("no report")),
-    }
+    let served = serve_one(rt, alloc, &table, &mut seats.list, jobs)?;
+    Ok((served, sum_under(&table, &mut writer, &[0])))
+}
+
+/// Each job counts once, whichever seat serves it.
+#[test]
+fn each_job_counts_once(rt: HostRuntime) -> Result<(), Fail> {
+    let jobs = jobs_of(rt.alloc(), ONE, 100)?;
+    let counted = count_in_one(&rt, rt.alloc(), &jobs)?;
+    assert!(rt; counted == (true, Some(100)));
+    Ok(())
 }
 
 /// The program of this text against two maps that the table keeps so.
@@ -115,8 +144,7 @@ fn two_programs(alloc: Global, table: &MapTable, maps: &[NamedMap]) -> Result<[V
     ensures { IfOk result (λ programs. All (λ v. ServesNamed table.now.shape maps.now v.shapes) programs) }
 {
     let first = fitting_named(alloc, table, maps, COUNT)?;
-    let text = COUNT.replace(alloc, SECOND.0, SECOND.1)?;
-    let second = fitting_named(alloc, table, maps, text.as_str())?;
+    let second = fitting_named(alloc, table, maps, COUNT_IN_SECOND)?;
     Ok([first, second])
 }
 
@@ -128,33 +156,46 @@ fn zero_in(map: &NamedMap) -> [u64; 2]
     [key[0], key[1]]
 }
 
-/// The same in two maps of one table, by a program for each.
-fn count_in_two<R: Threads + Wait + Sync>(rt: &R, alloc: Global) -> Result<[Option<u64>; 2], Fail> {
+/// Whether the four seats of a table that keeps the two maps serve a hundred jobs.
+fn serve_two<R: Threads + Wait + Sync>(
+    rt: &R,
+    alloc: Global,
+    table: &MapTable,
+    seats: &mut Vec<ReadSeat>,
+    jobs: &[Job],
+) -> Result<bool, Fail>
+    requires four { vec_len seats.old ≡ 4 }
+    requires ready { All (IsReady table.now) seats.old.items }
+{
+    let programs = two_programs(alloc, table, &MAPS)?;
+    let runs = NamedRuns { table, maps: &MAPS };
+    let served = run_table_jobs(rt, alloc, &programs, jobs, &runs, seats);
+    Ok(counts(served, THREE_AND_TWO) == Ok([100, 0]))
+}
+
+/// The same of a new table, with the sums that were counted in the first map and in the second.
+fn count_in_two<R: Threads + Wait + Sync>(
+    rt: &R,
+    alloc: Global,
+    jobs: &[Job],
+) -> Result<(bool, [Option<u64>; 2]), Fail> {
     let (table, mut seats, mut writer) = MapTable::new(alloc, COUNTERS)?;
     let (first, second) = (zero_in(&MAPS[0]), zero_in(&MAPS[1]));
     let _ = writer.link(&table, &first, &[0; 4]);
     let _ = writer.link(&table, &second, &[0; 4]);
-    let programs = two_programs(alloc, &table, &MAPS)?;
-    let jobs = jobs_of(alloc, 60, 40)?;
-    let runs = NamedRuns {
-        table: &table,
-        maps: &MAPS,
-    };
-    match run_table_jobs(rt, alloc, &programs, &jobs, &runs, &mut seats.list) {
-        Ok(_report) => Ok([
-            sum_under(&table, &mut writer, &first),
-            sum_under(&table, &mut writer, &second),
-        ]),
-        Err(_fault) => Err(Fail::from("no report")),
-    }
+    let served = serve_two(rt, alloc, &table, &mut seats.list, jobs)?;
+    let sums = [
+        sum_under(&table, &mut writer, &first),
+        sum_under(&table, &mut writer, &second),
+    ];
+    Ok((served, sums))
 }
 
 /// Each job counts once, whichever seat serves it, in the map of its program.
 #[test]
-fn each_job_counts_once(rt: HostRuntime) -> Result<(), Fail> {
-    let alloc = rt.alloc();
-    let one = count_in_one(&rt, alloc)?;
-    let two = count_in_two(&rt, alloc)?;
-    assert!(rt; one == Some(100) && two == [Some(60), Some(40)]);
+fn each_job_counts_in_its_map(rt: HostRuntime) -> Result<(), Fail> {
+    let jobs = jobs_of(rt.alloc(), THREE_AND_TWO, 100)?;
+    let counted = count_in_two(&rt, rt.alloc(), &jobs)?;
+    assert!(rt; counted == (true, [Some(60), Some(40)]));
     Ok(())
 }

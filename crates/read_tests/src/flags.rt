@@ -1,11 +1,12 @@
 //! Two jobs that wait for one another.
 ghost use Rattle.std.specs.Prelude.{◌≡◌};
 
-use job_queue::{Serve, serve_all};
+use job_queue::{PoolFault, Serve, serve_all};
+use std::alloc::{AllocError, Global};
 use std::sync::Wait;
 use std::sync::atomic::{AtomicBool, Ordering};
 use std::test::Fail;
-use std::thread::yield_now;
+use std::thread::{Threads, yield_now};
 
 /// How often a job looks for the other's flag.
 const LOOKS: u32 = 10_000_000;
@@ -78,24 +79,31 @@ impl Serve for Meeting {
     ghost fits_wider = { λ s t u v w job served a b c. tt };
 }
 
-#[test]
-fn two_jobs_meet(rt: HostRuntime) -> Result<(), Fail> {
-    let alloc = rt.alloc();
+/// Two workers, who have nothing of their own.
+fn two_workers(alloc: Global) -> Result<Vec<()>, AllocError> {
+    let mut workers = Vec::new(alloc);
+    workers.push(())?;
+    workers.push(())?;
+    Ok(workers)
+}
+
+/// What becomes of the two sides of a meeting.
+fn meet<R: Threads + Wait + Sync>(
+    rt: &R,
+    alloc: Global,
+    workers: &mut Vec<()>,
+) -> Result<Vec<Outcome>, PoolFault> {
     let meeting = Meeting {
         left: AtomicBool::new(false),
         right: AtomicBool::new(false),
     };
-    let mut workers = Vec::new(alloc);
-    workers.push(())?;
-    workers.push(())?;
-    let outcomes = serve_all(
-        &rt,
-        alloc,
-        &meeting,
-        &[Side::Left, Side::Right],
-        2,
-        &mut workers,
-    )?;
-    assert_eq!(rt; outcomes.as_slice(), &[Outcome::Exit, Outcome::Exit][..]);
+    serve_all(rt, alloc, &meeting, &[Side::Left, Side::Right], 2, workers)
+}
+
+#[test]
+fn two_jobs_meet(rt: HostRuntime) -> Result<(), Fail> {
+    let mut workers = two_workers(rt.alloc())?;
+    let outcomes = meet(&rt, rt.alloc(), &mut workers)?;
+    assert!(rt; outcomes.as_slice() == &[Outcome::Exit, Outcome::Exit][..]);
     Ok(())
 }

@@ -1,5 +1,5 @@
 //! Lookups of keys that the writer links and unlinks.
-ghost use Rattle.std.specs.Prelude.{◌≡◌};
+ghost use Rattle.std.specs.Prelude.{◌≡◌, All, IfSome};
 ghost use Rattle.std.specs.List.{Contains};
 ghost use Rattle.read_table.specs.History.{inside};
 ghost use Rattle.read_table.specs.Held.{IsKnown, IsReady};
@@ -76,21 +76,42 @@ fn count_found(table: &ReadTable, seat: &mut ReadSeat) -> u32
     found
 }
 
+/// How many keys are found in a new table, how many there is room for, and how many are found then.
+fn counts(table: &ReadTable, seats: &mut [ReadSeat], writer: &mut Writer) -> Option<[u32; 3]>
+    requires ready { All (IsReady table.now) seats.old }
+    requires table { writer.old.table ≡ table.now }
+    requires key { table.now.shape.key_words ≡ 2 }
+    requires value { table.now.shape.value_words ≡ 1 }
+{
+    let [seat, ..] = seats else {
+        return None;
+    };
+    let before = count_found(table, seat);
+    let linked = link_all(table, writer);
+    Some([before, u32::from(linked), count_found(table, seat)])
+}
+
 /// A table has as many slots as it was made with, and each of its keys is found with its own value.
 #[test]
 fn each_key_is_found(rt: HostRuntime) -> Result<(), Fail> {
-    let (table, seats, mut writer) = ReadTable::new(rt.alloc(), 250, 16, 8, 8)?;
-    let limits = [MAX_TABLE_SLOTS, MAX_READERS, seats.count()];
-    let mut list = seats.list;
-    let Some(seat) = list.first_mut() else {
-        return Err(Fail::from("no seat"));
-    };
-    let before = count_found(&table, seat);
-    let linked = link_all(&table, &mut writer);
-    let after = count_found(&table, seat);
-    assert_eq!(rt; [before, u32::from(linked), after], [0, 250, 250]);
-    assert_eq!(rt; limits, [256, 8, 8]);
+    let (table, mut seats, mut writer) = ReadTable::new(rt.alloc(), 250, 16, 8, 8)?;
+    assert!(rt; [MAX_TABLE_SLOTS, MAX_READERS, seats.count()] == [256, 8, 8]);
+    let counts = counts(&table, &mut seats.list, &mut writer);
+    assert!(rt; counts == Some([0, 250, 250]));
     Ok(())
+}
+
+/// Links the key 2, and then the key 1: where they are, if there is room.
+fn link_two(table: &ReadTable, writer: &mut Writer) -> Option<(usize, usize)>
+    requires table { writer.old.table ≡ table.now }
+    requires key { table.now.shape.key_words ≡ 2 }
+    requires value { table.now.shape.value_words ≡ 1 }
+    ensures table { writer.new.table ≡ table.now }
+    ensures linked { IfSome result (λ p. Contains writer.new.linked p.1) }
+{
+    let other = writer.link(table, &key(2), &value(2))?;
+    let slot = writer.link(table, &key(1), &value(1))?;
+    Some((other, slot))
 }
 
 /// Unlinks one of two keys while the second reader is inside a section, and links a third when it is outside. What
@@ -153,44 +174,56 @@ fn reclaim_in_turn(
     reclaimed
 }
 
+/// Whether the writer finds the slots of its keys and no others, before and after one of two slots is taken again in turn.
+fn are_seen_in_turn(table: &ReadTable, seats: &mut [ReadSeat], writer: &mut Writer) -> bool
+    requires ready { All (IsReady table.now) seats.old }
+    requires table { writer.old.table ≡ table.now }
+    requires key { table.now.shape.key_words ≡ 2 }
+    requires value { table.now.shape.value_words ≡ 1 }
+{
+    let Some((first, second)) = two_seats(table, seats) else {
+        return false;
+    };
+    let Some((other, slot)) = link_two(table, writer) else {
+        return false;
+    };
+    let before = (writer.find(table, &key(1)), writer.linked().len());
+    let in_turn = reclaim_in_turn(table, first, second, writer, slot);
+    let after = (writer.find(table, &key(1)), writer.linked().len());
+    let stays = (writer.find(table, &key(2)), writer.unlinked().len());
+    in_turn && [before, after, stays] == [(Some(slot), 2), (None, 1), (Some(other), 0)]
+}
+
 /// No reader has to be outside at the same time as another. The writer finds the slots of its keys, and no others.
 #[test]
 fn readers_are_seen_in_turn(rt: HostRuntime) -> Result<(), Fail> {
-    let (table, seats, mut writer) = ReadTable::new(rt.alloc(), 3, 16, 8, 2)?;
-    let mut list = seats.list;
-    let Some((first, second)) = two_seats(&table, list.as_mut_slice()) else {
-        return Err(Fail::from("not two seats"));
-    };
-    let other = writer.link(&table, &key(2), &value(2));
-    let Some(slot) = writer.link(&table, &key(1), &value(1)) else {
-        return Err(Fail::from("no free slot"));
-    };
-    let before = (writer.find(&table, &key(1)), writer.linked().len());
-    let in_turn = reclaim_in_turn(&table, first, second, &mut writer, slot);
-    let after = (writer.find(&table, &key(1)), writer.linked().len());
-    let stays = (writer.find(&table, &key(2)), writer.unlinked().len());
-    assert!(rt; other.is_some() && in_turn);
-    assert_eq!(rt;
-        [before, after, stays],
-        [(Some(slot), 2), (None, 1), (other, 0)]
-    );
+    let (table, mut seats, mut writer) = ReadTable::new(rt.alloc(), 3, 16, 8, 2)?;
+    let in_turn = are_seen_in_turn(&table, &mut seats.list, &mut writer);
+    assert!(rt; in_turn);
     Ok(())
 }
 
-/// A slot that was unlinked is found no more. It is taken again once no reader is inside a section, and not before.
+/// Whether a slot that was unlinked is found no more, and is taken again once no reader is inside a section, and not before.
+fn is_taken_again(table: &ReadTable, seats: &mut [ReadSeat], writer: &mut Writer) -> bool
+    requires ready { All (IsReady table.now) seats.old }
+    requires table { writer.old.table ≡ table.now }
+    requires key { table.now.shape.key_words ≡ 2 }
+    requires value { table.now.shape.value_words ≡ 1 }
+{
+    let Some((first, second)) = two_seats(table, seats) else {
+        return false;
+    };
+    let Some((_, slot)) = link_two(table, writer) else {
+        return false;
+    };
+    let end = unlink_beside(table, first, second, writer, slot);
+    end == Some(([None, Some(2), Some(3)], [None, Some(slot)]))
+}
+
 #[test]
 fn a_slot_is_taken_again(rt: HostRuntime) -> Result<(), Fail> {
-    let (table, seats, mut writer) = ReadTable::new(rt.alloc(), 2, 16, 8, 2)?;
-    let mut list = seats.list;
-    let Some((first, second)) = two_seats(&table, list.as_mut_slice()) else {
-        return Err(Fail::from("not two seats"));
-    };
-    let other = writer.link(&table, &key(2), &value(2));
-    let Some(slot) = writer.link(&table, &key(1), &value(1)) else {
-        return Err(Fail::from("no free slot"));
-    };
-    let end = unlink_beside(&table, first, second, &mut writer, slot);
-    assert_eq!(rt; end, Some(([None, Some(2), Some(3)], [None, Some(slot)])));
-    assert!(rt; other.is_some());
+    let (table, mut seats, mut writer) = ReadTable::new(rt.alloc(), 2, 16, 8, 2)?;
+    let again = is_taken_again(&table, &mut seats.list, &mut writer);
+    assert!(rt; again);
     Ok(())
 }

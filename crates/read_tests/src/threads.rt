@@ -1,13 +1,13 @@
 //! Readers in threads, beside the writer.
-ghost use Rattle.std.specs.Prelude.{◌≡◌, All, IfOk};
+ghost use Rattle.std.specs.Prelude.{◌≡◌, All};
 ghost use Rattle.std.specs.List.{Contains};
 ghost use Rattle.std.specs.Thread.{IsSync};
 ghost use Rattle.read_table.specs.Held.{IsReady};
 
 use crate::making::{LOOKUP_AND_LOAD, run, verified};
-use read_table::{ReadSeat, ReadTable, Seats, SubWord, Writer};
+use read_table::{MAX_READERS, ReadSeat, ReadTable, Writer};
 use std::alloc::{AllocError, Global};
-use std::process::Abort;
+use std::sync::atomic::{AtomicU64, Ordering};
 use std::test::Fail;
 use std::thread::{Threads, for_each_mut, join, yield_now};
 use verifier::Verified;
@@ -21,59 +21,41 @@ const ROUNDS: u32 = 20_000;
 /// How often the writer tries to have a slot again, before it gives up.
 const TRIES: u32 = 1_000_000;
 
-/// How many runs exited with 5, with 0, and in another way.
-#[derive(Clone, Copy, Debug, Default, PartialEq, Eq)]
-struct Counts {
-    fives: u32,
-    zeros: u32,
-    others: u32,
-}
-
-impl Counts {
-    fn note(&mut self, exit: Option<Result<u64, SubWord>>) {
-        let count = match exit {
-            Some(Ok(5)) => &mut self.fives,
-            Some(Ok(0)) => &mut self.zeros,
-            _ => &mut self.others,
-        };
-        *count = count.saturating_add(1);
-    }
-}
-
-/// A reader: its seat, and what its runs came to.
-#[derive(Drop)]
-struct Reader {
-    seat: ReadSeat,
-    counts: Counts,
-}
-
-impl Reader {
-    /// Runs the program, and counts what it came to, again and again.
-    fn run_all(&mut self, table: &ReadTable, program: &Verified)
-        requires { IsReady table.now self.old.seat }
-        ensures { IsReady table.now self.new.seat }
-    {
-        for _ in 0..RUNS {
-            let exit = run(table, &mut self.seat, program);
-            self.counts.note(exit);
+/// Runs the program so often, and tells how many runs exited with the key's value or with 0.
+fn count_right(table: &ReadTable, seat: &mut ReadSeat, program: &Verified) -> u64
+    requires ready { IsReady table.now seat.old }
+    ensures ready { IsReady table.now seat.new }
+{
+    let mut right = 0u64;
+    for _ in 0..RUNS {
+        let exit = run(table, seat, program);
+        if exit == Some(Ok(5)) || exit == Some(Ok(0)) {
+            right = right.saturating_add(1);
         }
     }
+    right
 }
 
-/// A reader for each seat of a table.
-fn readers_of(alloc: Global, table: &ReadTable, seats: Seats) -> Result<Vec<Reader>, AllocError>
-    requires { All (IsReady table.now) seats }
-    ensures { IfOk result (λ v. All (λ r. IsReady table.now r.seat) v.items) }
+/// All readers do so at once, each in a thread of its own, and add their counts up.
+fn count_all<R: Threads + Sync>(
+    rt: &R,
+    table: &ReadTable,
+    seats: &mut [ReadSeat],
+    program: &Verified,
+    right: &AtomicU64,
+)
+    requires ready { All (IsReady table.now) seats.old }
 {
-    let _ = table;
-    let mut readers = Vec::new(alloc);
-    for seat in seats.list {
-        readers.push(Reader {
-            seat,
-            counts: Counts::default(),
-        })?;
-    }
-    Ok(readers)
+    for_each_mut(
+        rt,
+        seats,
+        MAX_READERS,
+        &|_, seat: &mut ReadSeat|
+            requires { IsReady table.now seat.old }
+        {
+            right.fetch_add(count_right(table, seat, program), Ordering::SeqCst);
+        },
+    );
 }
 
 /// Tries to have an unlinked slot again. Whether it was got.
@@ -110,15 +92,16 @@ fn churn(table: &ReadTable, writer: &mut Writer) -> u32
     ROUNDS
 }
 
-/// Each reader runs the program in a thread of its own, beside the writer. How often the writer linked the key.
+/// The readers count in threads of their own, beside the writer. How often the writer linked the key.
 fn read_beside<R: Threads + Sync>(
     rt: &R,
     table: &ReadTable,
     program: &Verified,
-    readers: &mut [Reader],
+    seats: &mut [ReadSeat],
     writer: &mut Writer,
+    right: &AtomicU64,
 ) -> u32
-    requires ready { All (λ r. IsReady table.now r.seat) readers.old }
+    requires ready { All (IsReady table.now) seats.old }
     requires writer { writer.old.table ≡ table.now }
     requires key { table.now.shape.key_words ≡ 1 }
     requires value { table.now.shape.value_words ≡ 1 }
@@ -126,8 +109,8 @@ fn read_beside<R: Threads + Sync>(
     let (_, rounds) = join(
         rt,
         || -> ()
-            requires { IsSync R.row × All (λ r. IsReady table.now r.seat) readers.now }
-        { run_in_threads(rt, table, program, readers) },
+            requires { IsSync R.row × All (IsReady table.now) seats.now }
+        { count_all(rt, table, seats, program, right) },
         || -> u32
             requires { (table.now.shape.key_words ≡ 1) × (table.now.shape.value_words ≡ 1)
                 × (writer.now.table ≡ table.now) }
@@ -136,40 +119,23 @@ fn read_beside<R: Threads + Sync>(
     rounds
 }
 
-fn run_in_threads<R: Threads + Sync>(
+/// How often the writer of a new table linked the key, and how many of its readers' runs exited as they may.
+fn read_in_new<R: Threads + Sync>(
     rt: &R,
-    table: &ReadTable,
+    alloc: Global,
     program: &Verified,
-    readers: &mut [Reader],
-)
-    requires { All (λ r. IsReady table.now r.seat) readers.old }
-{
-    for_each_mut(
-        rt,
-        readers,
-        8,
-        &|_, reader: &mut Reader|
-            requires { IsReady table.now reader.old.seat }
-        { reader.run_all(table, program) },
-    );
+) -> Result<(u32, u64), AllocError> {
+    let (table, mut seats, mut writer) = ReadTable::new(alloc, 2, 8, 8, 8)?;
+    let right = AtomicU64::new(0);
+    let rounds = read_beside(rt, &table, program, &mut seats.list, &mut writer, &right);
+    Ok((rounds, right.load(Ordering::SeqCst)))
 }
 
-/// Eight readers look a key up while it is linked and unlinked: each run exits with its value or with 0.
+/// Eight readers look a key up while it is linked and unlinked: each of their 10,000 runs exits with its value or with 0.
 #[test]
 fn readers_beside_the_writer(rt: HostRuntime) -> Result<(), Fail> {
-    let alloc = rt.alloc();
-    let program = verified(alloc, LOOKUP_AND_LOAD, 0)?;
-    let (table, seats, mut writer) = ReadTable::new(alloc, 2, 8, 8, 8)?;
-    let mut readers = readers_of(alloc, &table, seats)?;
-    let rounds = read_beside(&rt, &table, &program, readers.as_mut_slice(), &mut writer);
-    assert_eq!(rt; rounds, ROUNDS);
-    for reader in &readers {
-        let Counts {
-            fives,
-            zeros,
-            others,
-        } = reader.counts;
-        assert_eq!(rt; (fives.saturating_add(zeros), others), (RUNS, 0));
-    }
+    let program = verified(rt.alloc(), LOOKUP_AND_LOAD, 0)?;
+    let counts = read_in_new(&rt, rt.alloc(), &program)?;
+    assert!(rt; counts == (20_000, 80_000));
     Ok(())
 }
