@@ -1,19 +1,6 @@
 //! Whether two worlds are alike.
-use bpf_model::{KeyBytes, MAX_ENTRIES, MapId, ValueBytes};
+use bpf_model::{MAX_ENTRIES, MapId};
 use world::World;
-
-/// Whether two elements, or none, are the same.
-fn are_equal(one: &Option<(KeyBytes, ValueBytes)>, other: &Option<(KeyBytes, ValueBytes)>) -> bool {
-    match one {
-        None => other.is_none(),
-        Some((key, value)) => match other {
-            None => false,
-            Some((same_key, same_value)) => {
-                key.as_slice() == same_key.as_slice() && value.as_slice() == same_value.as_slice()
-            }
-        },
-    }
-}
 
 /// Whether the one map of two worlds has the same elements.
 fn have_equal_elements(one: &World, other: &World) -> bool {
@@ -21,7 +8,7 @@ fn have_equal_elements(one: &World, other: &World) -> bool {
     let mut last = None;
     for _ in 0..=MAX_ENTRIES {
         let next = one.next_above(map, last.as_ref());
-        if !are_equal(&next, &other.next_above(map, last.as_ref())) {
+        if next != other.next_above(map, last.as_ref()) {
             return false;
         }
         match next {

@@ -4,13 +4,14 @@
 //! memory refused in turn (checks/memory_agree).
 #![tactic(auto)]
 
+mod again;
 mod alike;
 mod pooled;
 mod programs;
 mod stopped;
 mod worlds;
 
-use crate::pooled::share;
+use crate::pooled::{MadeAgain, share};
 use crate::programs::{arena, assembled, decoded, disassembled, encoded, verified};
 use crate::stopped::stop;
 use crate::worlds::{add_programs, created, make_world, ordered, run_events};
@@ -20,20 +21,17 @@ use std::sync::ledger::Blank;
 use verifier::Verified;
 use world::World;
 
-/// Tells what became of a call that has been made, and whether it was made again for want of memory.
-fn tell(rt: &HostRuntime, name: &str, again: bool) -> Result<()> {
-    if again {
-        println!(rt; "{name} 13 done")?;
-    } else {
-        println!(rt; "{name} done")?;
-    }
+/// Tells what became of a call, and whether it was made again for want of memory.
+fn tell(rt: &HostRuntime, name: &str, again: Result<bool>) -> Result<()> {
+    let word = if again? { " 13" } else { "" };
+    println!(rt; "{name}{word} done")?;
     Ok(())
 }
 
 /// The value of a call that has been made, once it is told.
 fn told<T: Drop>(rt: &HostRuntime, name: &str, made: Result<(T, bool)>) -> Result<T> {
     let (value, again) = made?;
-    tell(rt, name, again)?;
+    tell(rt, name, Ok(again))?;
     Ok(value)
 }
 
@@ -48,19 +46,29 @@ fn make_bytes(rt: &HostRuntime) -> Result<Vec<u8>> {
 fn make_program(rt: &HostRuntime, bytes: &[u8]) -> Result<Verified> {
     let alloc = rt.alloc();
     let program = told(rt, "decode", decoded(alloc, bytes))?;
-    tell(rt, "disassemble", disassembled(alloc, &program)?)?;
+    tell(rt, "disassemble", disassembled(alloc, &program))?;
     told(rt, "verify", verified(alloc, bytes))
+}
+
+/// The calls on arenas and maps.
+fn make_maps(rt: &HostRuntime) -> Result<()> {
+    tell(rt, "arena", arena(rt.alloc()))?;
+    tell(rt, "create", created(rt.alloc()))
+}
+
+/// The calls on a world that is there.
+fn use_world(rt: &HostRuntime, world: &mut World, verified: &Verified) -> Result<()> {
+    let alloc = rt.alloc();
+    tell(rt, "load", add_programs(alloc, world, verified))?;
+    tell(rt, "run_all", run_events(alloc, world))?;
+    tell(rt, "in_order", ordered(alloc, world))
 }
 
 /// The calls on arenas, maps and worlds.
 fn make_worlds(rt: &HostRuntime, verified: &Verified) -> Result<World> {
-    let alloc = rt.alloc();
-    tell(rt, "arena", arena(alloc)?)?;
-    tell(rt, "create", created(alloc)?)?;
-    let mut world = told(rt, "world", make_world(alloc, verified))?;
-    tell(rt, "load", add_programs(alloc, &mut world, verified)?)?;
-    tell(rt, "run_all", run_events(alloc, &mut world)?)?;
-    tell(rt, "in_order", ordered(alloc, &world)?)?;
+    make_maps(rt)?;
+    let mut world = told(rt, "world", make_world(rt.alloc(), verified))?;
+    use_world(rt, &mut world, verified)?;
     Ok(world)
 }
 
@@ -71,12 +79,17 @@ fn make_all(rt: &HostRuntime) -> Result<World> {
     make_worlds(rt, &verified)
 }
 
+/// Tells of the calls on a world that was shared up to a refused call, and on one that was shared to the end.
+fn tell_shared(rt: &HostRuntime, refused: MadeAgain, calls: MadeAgain) -> Result<()> {
+    tell(rt, "run_for", Ok(calls.run_for))?;
+    tell(rt, "act", Ok(refused.act | calls.act))?;
+    tell(rt, "cut", Ok(refused.cut | calls.cut))?;
+    tell(rt, "run_jobs", Ok(calls.jobs))
+}
+
 fn main(rt: HostRuntime) -> Result<()> {
     let world = make_all(&rt)?;
     let refused = stop::<Brand, _>(&rt, rt.alloc(), &world, Blank::new(2))?;
     let calls = share::<Brand, _>(&rt, rt.alloc(), world, Blank::new(2))?;
-    tell(&rt, "run_for", calls.run_for)?;
-    tell(&rt, "act", refused.act || calls.act)?;
-    tell(&rt, "cut", refused.cut || calls.cut)?;
-    tell(&rt, "run_jobs", calls.jobs)
+    tell_shared(&rt, refused, calls)
 }

@@ -1,7 +1,8 @@
 //! The calls on a shared world.
 ghost use Rattle.std.specs.Prelude.{◌≡◌};
 
-use crate::worlds::update;
+use crate::again::done;
+use crate::worlds::{start, update};
 use anyhow::{Result, bail, ensure};
 use bpf_model::{Answer, CtxBytes, Event, ProgId, RunId};
 use shared::{CutFault, Shared, SharedFault, StepsEnd, Worker, Workers, is_quiet};
@@ -13,8 +14,8 @@ use worker_pool::{Job, Outcome, PoolFault, Report, run_jobs};
 use world::World;
 
 /// Which calls were made again for want of memory.
-#[derive(Drop)]
-pub struct Told {
+#[derive(Clone, Copy)]
+pub struct MadeAgain {
     pub run_for: bool,
     pub act: bool,
     pub cut: bool,
@@ -27,28 +28,64 @@ pub const TIMES: usize = 100;
 /// How many entries a run makes that is started, makes eleven moves and its exit, and is dropped.
 const RUN_ENTRIES: usize = 14;
 
+/// A world that two workers share.
+pub fn shared_by_two<L: Ledger>(
+    alloc: Global,
+    world: World,
+    blank: Blank,
+) -> Result<(Shared<L>, Workers<L>)>
+    requires name { blank.name ≡ L.name }
+    requires parts { (blank.parts ≡ L.parts) × (blank.parts ≡ 2) }
+{
+    ensure!(is_quiet(&world), "a run slot is occupied");
+    let (shared, workers, _) = Shared::<L>::new(alloc, world, 2, blank)?;
+    Ok((shared, workers))
+}
+
+/// Makes one event, and lets its answer go.
+fn act_into<L: Ledger, R: Wait>(
+    rt: &R,
+    shared: &Shared<L>,
+    worker: &mut Worker<L>,
+    event: &Event,
+) -> Result<(), SharedFault> {
+    let mut answer = Answer::Moved;
+    shared.act_into(rt, worker, event, &mut answer)
+}
+
 /// Makes one event, once more where memory was refused.
-fn act_once<L: Ledger + Send + Sync, R: Wait>(
+fn act_once<L: Ledger, R: Wait>(
     rt: &R,
     shared: &Shared<L>,
     worker: &mut Worker<L>,
     event: Event,
 ) -> Result<bool> {
-    let mut answer = Answer::Moved;
-    match shared.act_into(rt, worker, &event, &mut answer) {
-        Err(SharedFault::Memory) => {
-            shared.act_into(rt, worker, &event, &mut answer)?;
-            Ok(true)
-        }
-        answer => {
-            answer?;
-            Ok(false)
-        }
+    match act_into(rt, shared, worker, &event) {
+        Err(SharedFault::Memory) => done(act_into(rt, shared, worker, &event), true),
+        answer => done(answer, false),
     }
 }
 
-/// The moves of a run, one a call. A call that was refused memory has made none.
-fn run_for<L: Ledger + Send + Sync, R: Wait>(
+/// A move of a run. A call that was refused memory has made none.
+fn move_once<L: Ledger, R: Wait>(
+    rt: &R,
+    shared: &Shared<L>,
+    worker: &mut Worker<L>,
+    run: RunId,
+) -> Result<bool> {
+    let made = worker.made();
+    let mut steps = shared.run_for(rt, worker, run, 1);
+    let again = steps.end == StepsEnd::Memory;
+    if again {
+        ensure!(worker.made() == made, "an entry was made");
+        steps = shared.run_for(rt, worker, run, 1);
+    }
+    ensure!(steps.moved == 1, "the run has not moved");
+    Ok(again)
+}
+
+/// The moves of a run, one a call.
+fn run_for<L: Ledger, R: Wait>(
     rt: &R,
     shared: &Shared<L>,
     worker: &mut Worker<L>,
@@ -56,57 +93,65 @@ fn run_for<L: Ledger + Send + Sync, R: Wait>(
 ) -> Result<bool> {
     let mut again = false;
     for _ in 3..RUN_ENTRIES {
-        let made = worker.made();
-        let mut steps = shared.run_for(rt, worker, run, 1);
-        if steps.end == StepsEnd::Memory {
-            ensure!(worker.made() == made, "an entry was made");
-            steps = shared.run_for(rt, worker, run, 1);
-            again = true;
-        }
-        ensure!(steps.moved == 1, "the run has not moved");
+        again |= move_once(rt, shared, worker, run)?;
     }
     Ok(again)
 }
 
-/// Makes updates. One that was refused memory has made no entry.
-fn act<L: Ledger + Send + Sync, R: Wait>(
+/// Makes an update. Whether it was refused memory.
+pub fn is_refused<L: Ledger, R: Wait>(
+    rt: &R,
+    shared: &Shared<L>,
+    worker: &mut Worker<L>,
+    number: u8,
+) -> Result<bool> {
+    match shared.act(rt, worker, update(number)) {
+        Err(SharedFault::Memory) => Ok(true),
+        answer => done(answer, false),
+    }
+}
+
+/// Makes an update. One that was refused memory has made no entry.
+fn update_once<L: Ledger, R: Wait>(
     rt: &R,
     shared: &Shared<L>,
     worker: &mut Worker<L>,
 ) -> Result<bool> {
+    let made = worker.made();
+    if !is_refused(rt, shared, worker, 42)? {
+        return Ok(false);
+    }
+    ensure!(worker.made() == made, "an entry was made");
+    done(shared.act(rt, worker, update(42)), true)
+}
+
+/// Makes updates.
+fn act<L: Ledger, R: Wait>(rt: &R, shared: &Shared<L>, worker: &mut Worker<L>) -> Result<bool> {
     let mut again = false;
     for _ in 0..TIMES {
-        let made = worker.made();
-        match shared.act(rt, worker, update(42)) {
-            Err(SharedFault::Memory) => {
-                ensure!(worker.made() == made, "an entry was made");
-                shared.act(rt, worker, update(42))?;
-                again = true;
-            }
-            answer => {
-                answer?;
-            }
-        }
+        again |= update_once(rt, shared, worker)?;
     }
     Ok(again)
 }
 
-/// Cuts the journal.
-fn cut<L: Ledger + Send + Sync, R: Wait>(
+/// Cuts the journal. Whether that was refused memory.
+pub fn is_cut_refused<L: Ledger, R: Wait>(
     rt: &R,
     alloc: Global,
     shared: &Shared<L>,
 ) -> Result<bool> {
     match shared.cut(rt, alloc) {
-        Err(CutFault::Memory) => {
-            shared.cut(rt, alloc)?;
-            Ok(true)
-        }
-        done => {
-            done?;
-            Ok(false)
-        }
+        Err(CutFault::Memory) => Ok(true),
+        answer => done(answer, false),
     }
+}
+
+/// Cuts the journal.
+fn cut<L: Ledger, R: Wait>(rt: &R, alloc: Global, shared: &Shared<L>) -> Result<bool> {
+    if !is_cut_refused(rt, alloc, shared)? {
+        return Ok(false);
+    }
+    done(shared.cut(rt, alloc), true)
 }
 
 /// Jobs of the one program.
@@ -131,24 +176,47 @@ fn have_exited<T>(report: &Report<T>) -> bool {
     report.jobs.len() == TIMES
 }
 
-/// Serves jobs by two workers. Where memory was refused some are stopped, or there is no report.
+/// Serves jobs by two workers. Whether all have exited: where memory was refused some are stopped, or there is no report.
 fn serve<L: Ledger + Send + Sync, R: Threads + Wait + Sync>(
+    rt: &R,
+    alloc: Global,
+    jobs: &[Job],
+    shared: &Shared<L>,
+    workers: &mut Workers<L>,
+) -> Result<bool> {
+    match run_jobs(rt, alloc, jobs, 2, shared, workers) {
+        Ok(report) => Ok(have_exited(&report)),
+        Err(PoolFault::Memory) => Ok(false),
+        Err(fault) => Err(fault.into()),
+    }
+}
+
+/// Serves jobs by two workers, which all have exited.
+fn serve_all<L: Ledger + Send + Sync, R: Threads + Wait + Sync>(
+    rt: &R,
+    alloc: Global,
+    jobs: &[Job],
+    shared: &Shared<L>,
+    workers: &mut Workers<L>,
+) -> Result<()> {
+    let report = run_jobs(rt, alloc, jobs, 2, shared, workers)?;
+    ensure!(have_exited(&report), "a job has not exited");
+    Ok(())
+}
+
+/// Serves jobs, once more where memory was refused.
+fn serve_once<L: Ledger + Send + Sync, R: Threads + Wait + Sync>(
     rt: &R,
     alloc: Global,
     shared: &Shared<L>,
     workers: &mut Workers<L>,
 ) -> Result<bool> {
     let jobs = jobs(alloc)?;
-    match run_jobs(rt, alloc, &jobs, 2, shared, workers) {
-        Ok(report) if have_exited(&report) => return Ok(false),
-        Ok(_) | Err(PoolFault::Memory) => {}
-        Err(fault) => return Err(fault.into()),
+    let again = !serve(rt, alloc, &jobs, shared, workers)?;
+    if again {
+        serve_all(rt, alloc, &jobs, shared, workers)?;
     }
-    let report = run_jobs(rt, alloc, &jobs, 2, shared, workers)?;
-    if !have_exited(&report) {
-        bail!("a job has not exited");
-    }
-    Ok(true)
+    Ok(again)
 }
 
 /// How many entries the workers have made.
@@ -167,20 +235,48 @@ fn are_those_made(entries: usize, made: u64) -> bool {
 }
 
 /// A run of the program, and then updates: which calls were made again, of `run_for` and of `act`.
-fn make_calls<L: Ledger + Send + Sync, R: Wait>(
+fn run_and_update<L: Ledger, R: Wait>(
     rt: &R,
     shared: &Shared<L>,
     worker: &mut Worker<L>,
 ) -> Result<(bool, bool)> {
     let run = RunId::new(0);
-    let prog = ProgId::new(0);
-    let ctx = CtxBytes::new();
-    let started = act_once(rt, shared, worker, Event::Start { prog, ctx })?;
+    let started = act_once(rt, shared, worker, start())?;
     let moved = run_for(rt, shared, worker, run)?;
     let ended = act_once(rt, shared, worker, Event::Step { run })?;
     let dropped = act_once(rt, shared, worker, Event::Drop { run })?;
     let updated = act(rt, shared, worker)?;
-    Ok((moved, started || ended || dropped || updated))
+    Ok((moved, started | ended | dropped | updated))
+}
+
+/// The same by the first worker.
+fn act_by_first<L: Ledger, R: Wait>(
+    rt: &R,
+    shared: &Shared<L>,
+    workers: &mut Workers<L>,
+) -> Result<(bool, bool)> {
+    match workers.as_mut_slice().first_mut() {
+        Some(first) => run_and_update(rt, shared, first),
+        None => bail!("there is no worker"),
+    }
+}
+
+/// A run, updates, a cut and jobs.
+fn make_calls<L: Ledger + Send + Sync, R: Threads + Wait + Sync>(
+    rt: &R,
+    alloc: Global,
+    shared: &Shared<L>,
+    workers: &mut Workers<L>,
+) -> Result<MadeAgain> {
+    let (run_for, act) = act_by_first(rt, shared, workers)?;
+    let cut = cut(rt, alloc, shared)?;
+    let jobs = serve_once(rt, alloc, shared, workers)?;
+    Ok(MadeAgain {
+        run_for,
+        act,
+        cut,
+        jobs,
+    })
 }
 
 /// Shares a world: a run, updates, a cut and jobs. In the end each entry since the cut is in the journal.
@@ -189,30 +285,17 @@ pub fn share<L: Ledger + Send + Sync, R: Threads + Wait + Sync>(
     alloc: Global,
     world: World,
     blank: Blank,
-) -> Result<Told>
+) -> Result<MadeAgain>
     requires name { blank.name ≡ L.name }
     requires parts { (blank.parts ≡ L.parts) × (blank.parts ≡ 2) }
 {
-    if !is_quiet(&world) {
-        bail!("a run slot is occupied");
-    }
-    let (shared, mut workers, _) = Shared::<L>::new(alloc, world, 2, blank)?;
-    let Some(first) = workers.as_mut_slice().first_mut() else {
-        bail!("there is no worker");
-    };
-    let (run_for, act) = make_calls(rt, &shared, first)?;
-    let cut = cut(rt, alloc, &shared)?;
-    let jobs = serve(rt, alloc, &shared, &mut workers)?;
+    let (shared, mut workers) = shared_by_two::<L>(alloc, world, blank)?;
+    let again = make_calls(rt, alloc, &shared, &mut workers)?;
     let made = made_by(&workers);
     let entries = shared.finish(workers).journal.len();
     ensure!(
         are_those_made(entries, made),
         "the entries are not those that were made"
     );
-    Ok(Told {
-        run_for,
-        act,
-        cut,
-        jobs,
-    })
+    Ok(again)
 }

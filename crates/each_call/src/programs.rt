@@ -2,6 +2,7 @@
 ghost use Rattle.std.specs.Prelude.{◌≡◌, IfOk};
 ghost use Rattle.element_store.specs.State.{new_arena};
 
+use crate::again::made;
 use anyhow::{Result, ensure};
 use asm::{AsmFault, assemble};
 use bpf_model::{MapKind, MapShape};
@@ -37,48 +38,60 @@ pub const SHAPE: MapShape = MapShape {
     reuse_limit: 1000,
 };
 
+/// The text of the program. It stands in one function, since each that names it is proved more slowly.
+fn text() -> &'static str {
+    TEXT
+}
+
 /// The program of the text.
 pub fn assembled(alloc: Global) -> Result<(Program, bool)> {
-    match assemble(alloc, TEXT) {
-        Err(AsmFault::Memory) => Ok((assemble(alloc, TEXT)?, true)),
-        made => Ok((made?, false)),
+    match assemble(alloc, text()) {
+        Err(AsmFault::Memory) => made(assemble(alloc, text()), true),
+        answer => made(answer, false),
     }
 }
 
 /// The bytes of a program.
 pub fn encoded(alloc: Global, program: &Program) -> Result<(Vec<u8>, bool)> {
     match encode(alloc, program) {
-        Err(_) => Ok((encode(alloc, program)?, true)),
-        Ok(bytes) => Ok((bytes, false)),
+        Err(_) => made(encode(alloc, program), true),
+        answer => made(answer, false),
     }
 }
 
 /// The program of the bytes.
 pub fn decoded(alloc: Global, bytes: &[u8]) -> Result<(Program, bool)> {
     match decode(alloc, bytes) {
-        Err(DecodeFault::Memory) => Ok((decode(alloc, bytes)?, true)),
-        made => Ok((made?, false)),
+        Err(DecodeFault::Memory) => made(decode(alloc, bytes), true),
+        answer => made(answer, false),
+    }
+}
+
+/// The text of a program.
+fn written(alloc: Global, program: &Program) -> Result<(String, bool)> {
+    match disassemble(alloc, program) {
+        Err(_) => made(disassemble(alloc, program), true),
+        answer => made(answer, false),
     }
 }
 
 /// Writes the text of the program, which is that of which it was made.
 pub fn disassembled(alloc: Global, program: &Program) -> Result<bool> {
-    let (text, again) = match disassemble(alloc, program) {
-        Err(_) => (disassemble(alloc, program)?, true),
-        Ok(text) => (text, false),
-    };
-    ensure!(text.as_str() == TEXT, "the text is another one");
+    let (found, again) = written(alloc, program)?;
+    ensure!(found.as_str() == text(), "the text is another one");
     Ok(again)
+}
+
+/// What the verifier says of the bytes' program, for one map.
+fn verdict(alloc: Global, bytes: &[u8]) -> Result<Result<Verified, ProgramRefusal>> {
+    Ok(verify(alloc, decode(alloc, bytes)?, &[SHAPE], 0))
 }
 
 /// The program of the bytes, verified for one map.
 pub fn verified(alloc: Global, bytes: &[u8]) -> Result<(Verified, bool)> {
-    match verify(alloc, decode(alloc, bytes)?, &[SHAPE], 0) {
-        Err(ProgramRefusal::Memory) => {
-            let verified = verify(alloc, decode(alloc, bytes)?, &[SHAPE], 0)?;
-            Ok((verified, true))
-        }
-        made => Ok((made?, false)),
+    match verdict(alloc, bytes)? {
+        Err(ProgramRefusal::Memory) => made(verdict(alloc, bytes)?, true),
+        answer => made(answer, false),
     }
 }
 

@@ -2,21 +2,14 @@
 ghost use Rattle.std.specs.Prelude.{◌≡◌};
 
 use crate::alike::are_alike;
-use crate::pooled::{TIMES, made_by};
-use crate::worlds::update;
+use crate::pooled::{MadeAgain, TIMES, is_cut_refused, is_refused, made_by, shared_by_two};
+use crate::worlds::apply_update;
 use anyhow::{Result, bail, ensure};
-use shared::{CutFault, Finished, Shared, SharedFault, Worker, is_quiet};
+use shared::{Finished, Shared, Worker, Workers};
 use std::alloc::Global;
 use std::sync::Wait;
 use std::sync::ledger::{Blank, Ledger};
 use world::World;
-
-/// Which call was refused memory, where one was.
-#[derive(Drop)]
-pub struct Refused {
-    pub act: bool,
-    pub cut: bool,
-}
 
 /// Makes updates, each of another value, until one is refused memory, and does those that were answered to a world of
 /// its own. How many they are.
@@ -27,26 +20,40 @@ fn act<L: Ledger, R: Wait>(
     wanted: &mut World,
 ) -> Result<usize> {
     for number in 0..TIMES {
-        match shared.act(rt, worker, update(number as u8)) {
-            Err(SharedFault::Memory) => return Ok(number),
-            answer => {
-                answer?;
-            }
+        if is_refused(rt, shared, worker, number as u8)? {
+            return Ok(number);
         }
-        let _ = wanted.apply(&update(number as u8));
+        apply_update(wanted, number as u8);
     }
     Ok(TIMES)
 }
 
-/// Cuts the journal. Whether that was refused memory.
-fn cut<L: Ledger, R: Wait>(rt: &R, alloc: Global, shared: &Shared<L>) -> Result<bool> {
-    match shared.cut(rt, alloc) {
-        Err(CutFault::Memory) => Ok(true),
-        done => {
-            done?;
-            Ok(false)
-        }
+/// The same by the first worker.
+fn act_by_first<L: Ledger, R: Wait>(
+    rt: &R,
+    shared: &Shared<L>,
+    workers: &mut Workers<L>,
+    wanted: &mut World,
+) -> Result<usize> {
+    match workers.as_mut_slice().first_mut() {
+        Some(first) => act(rt, shared, first, wanted),
+        None => bail!("there is no worker"),
     }
+}
+
+/// Makes updates and cuts the journal, up to a call that is refused memory: how many updates were made, and whether it was
+/// the cut. The workers' shares are those of the calls before it.
+fn make_calls<L: Ledger, R: Wait>(
+    rt: &R,
+    alloc: Global,
+    shared: &Shared<L>,
+    workers: &mut Workers<L>,
+    wanted: &mut World,
+) -> Result<(usize, bool)> {
+    let count = act_by_first(rt, shared, workers, wanted)?;
+    let cut = count >= TIMES && is_cut_refused(rt, alloc, shared)?;
+    ensure!(made_by(workers) == count as u64, "the shares are others");
+    Ok((count, cut))
 }
 
 /// The entries stand before the base or in the journal, and both worlds are those that they are to be.
@@ -61,6 +68,40 @@ fn compare(finished: &Finished, entries: (u64, usize), base: &World, world: &Wor
     Ok(())
 }
 
+/// Compares what a shared world leaves, after so many updates of this world, with the one that is wanted.
+fn compare_with(
+    finished: &Finished,
+    count: usize,
+    refused: MadeAgain,
+    world: &World,
+    wanted: &World,
+) -> Result<MadeAgain> {
+    let same = if refused.act | refused.cut {
+        compare(finished, (0, count), world, wanted)
+    } else {
+        compare(finished, (count as u64, 0), wanted, wanted)
+    };
+    same?;
+    Ok(refused)
+}
+
+/// Shares a world, makes the calls, and ends the sharing. What it leaves, how many updates were made, and whether the cut was
+/// refused.
+fn share_to_end<L: Ledger, R: Wait>(
+    rt: &R,
+    alloc: Global,
+    world: World,
+    blank: Blank,
+    wanted: &mut World,
+) -> Result<(Finished, usize, bool)>
+    requires name { blank.name ≡ L.name }
+    requires parts { (blank.parts ≡ L.parts) × (blank.parts ≡ 2) }
+{
+    let (shared, mut workers) = shared_by_two::<L>(alloc, world, blank)?;
+    let (count, cut) = make_calls(rt, alloc, &shared, &mut workers, wanted)?;
+    Ok((shared.finish(workers), count, cut))
+}
+
 /// Shares a copy of the world, makes updates and cuts the journal, up to a call that is refused memory. The journal, the
 /// worlds and the workers' shares are then those of the calls before it.
 pub fn stop<L: Ledger, R: Wait>(
@@ -68,27 +109,18 @@ pub fn stop<L: Ledger, R: Wait>(
     alloc: Global,
     world: &World,
     blank: Blank,
-) -> Result<Refused>
+) -> Result<MadeAgain>
     requires name { blank.name ≡ L.name }
     requires parts { (blank.parts ≡ L.parts) × (blank.parts ≡ 2) }
 {
-    let (copy, mut wanted) = (world.copy(alloc)?, world.copy(alloc)?);
-    if !is_quiet(&copy) {
-        bail!("a run slot is occupied");
-    }
-    let (shared, mut workers, _) = Shared::<L>::new(alloc, copy, 2, blank)?;
-    let Some(first) = workers.as_mut_slice().first_mut() else {
-        bail!("there is no worker");
+    let mut wanted = world.copy(alloc)?;
+    let copy = world.copy(alloc)?;
+    let (finished, count, cut) = share_to_end::<L, R>(rt, alloc, copy, blank, &mut wanted)?;
+    let refused = MadeAgain {
+        run_for: false,
+        act: count < TIMES,
+        cut,
+        jobs: false,
     };
-    let count = act(rt, &shared, first, &mut wanted)?;
-    let act = count < TIMES;
-    let cut = !act && cut(rt, alloc, &shared)?;
-    ensure!(made_by(&workers) == count as u64, "the shares are others");
-    let finished = shared.finish(workers);
-    if act || cut {
-        compare(&finished, (0, count), world, &wanted)?;
-    } else {
-        compare(&finished, (count as u64, 0), &wanted, &wanted)?;
-    }
-    Ok(Refused { act, cut })
+    compare_with(&finished, count, refused, world, &wanted)
 }

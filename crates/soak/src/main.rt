@@ -26,15 +26,32 @@ use std::sync::ledger::Blank;
 use std::thread::Threads;
 use world::World;
 
+/// The number that a word says, unless it says none, or 0.
+fn number_of(word: &str) -> Option<u32> {
+    match word.parse::<u32>() {
+        Ok(number) if number > 0 => Some(number),
+        _ => None,
+    }
+}
+
 /// A number that is not 0.
 fn number(word: Option<String>) -> Result<u32> {
-    let Some(word) = word else {
-        bail!("usage: soak ROUNDS CALLS");
+    let found = match &word {
+        Some(word) => number_of(word.as_str()),
+        None => None,
     };
-    match word.as_str().parse::<u32>() {
-        Ok(number) if number > 0 => Ok(number),
-        _ => bail!("usage: soak ROUNDS CALLS"),
+    match found {
+        Some(number) => Ok(number),
+        None => bail!("usage: soak ROUNDS CALLS"),
     }
+}
+
+/// The two numbers that the words say.
+fn numbers(rt: &HostRuntime) -> Result<(u32, u32)> {
+    let mut words = env::args(rt)?.skip(1);
+    let rounds = number(words.next())?;
+    let calls = number(words.next())?;
+    Ok((rounds, calls))
 }
 
 /// One round, with a ledger of its own.
@@ -79,19 +96,22 @@ fn go_tables<R: Threads + Sync>(
     Ok(all)
 }
 
-/// What the words ask for, and a line for each of standard output and standard error.
-fn perform<H: Threads + Wait + Sync>(rt: &HostRuntime, handle: &H) -> Result<()> {
-    let mut words = env::args(rt)?.skip(1);
-    let rounds = number(words.next())?;
-    let calls = number(words.next())?;
-    let tally = go(handle, rt.alloc(), rounds, calls)?;
-    let tables = go_tables(handle, rt.alloc(), rounds, calls)?;
+/// A line on standard error, and one on standard output.
+fn tell(rt: &HostRuntime, rounds: u32, tally: Tally, tables: TableTally) -> Result<()> {
     eprintln!(rt;
         "entries {} cuts {} worn {} runs {} changes {}",
         tally.entries, tally.cuts, tally.worn, tables.runs, tables.changes
     )?;
     println!(rt; "rounds {rounds}, no difference")?;
     Ok(())
+}
+
+/// What the words ask for, and what it came to.
+fn perform<H: Threads + Wait + Sync>(rt: &HostRuntime, handle: &H) -> Result<()> {
+    let (rounds, calls) = numbers(rt)?;
+    let tally = go(handle, rt.alloc(), rounds, calls)?;
+    let tables = go_tables(handle, rt.alloc(), rounds, calls)?;
+    tell(rt, rounds, tally, tables)
 }
 
 fn main(rt: HostRuntime) -> ExitCode {

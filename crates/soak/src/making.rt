@@ -2,7 +2,7 @@
 ghost use Rattle.std.specs.Prelude.{IfOk};
 ghost use Rattle.bpf_model.specs.View.{AreNewMaps};
 
-use anyhow::{Result, bail};
+use anyhow::Result;
 use arrayvec::ArrayVec;
 use asm::assemble;
 use bpf_model::{MapKind, MapShape};
@@ -129,7 +129,8 @@ fn shape_of(map: usize) -> MapShape {
 
 /// The program of a kind, bound to one map.
 fn loaded(alloc: Global, kind: Kind, map: usize) -> Result<Loaded> {
-    let verified = verify(alloc, assemble(alloc, text_of(kind))?, &[shape_of(map)], 1)?;
+    let program = assemble(alloc, text_of(kind))?;
+    let verified = verify(alloc, program, &[shape_of(map)], 1)?;
     let mut maps = ArrayVec::new();
     maps.push(map);
     Ok(Loaded { verified, maps })
@@ -164,14 +165,18 @@ fn add_programs(alloc: Global, programs: &mut Vec<Loaded>, map: usize) -> Result
     Ok(())
 }
 
-/// A world of all maps, and of a program of each kind for each.
-pub fn world_of(alloc: Global) -> Result<World> {
+/// A program of each kind for each map.
+fn all_programs(alloc: Global) -> Result<Vec<Loaded>> {
     let mut programs = Vec::new(alloc);
     for map in 0..MAPS {
         add_programs(alloc, &mut programs, map)?;
     }
-    match World::new(alloc, registry_of(alloc)?, programs) {
-        Ok(world) => Ok(world),
-        Err(fault) => bail!("{fault}"),
-    }
+    Ok(programs)
+}
+
+/// A world of all maps, and of a program of each kind for each.
+pub fn world_of(alloc: Global) -> Result<World> {
+    let programs = all_programs(alloc)?;
+    let registry = registry_of(alloc)?;
+    Ok(World::new(alloc, registry, programs)?)
 }

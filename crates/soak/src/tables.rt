@@ -293,29 +293,47 @@ fn go_beside<R: Threads + Sync>(
     changes
 }
 
-/// So many runs of each reader beside the writer, over a table of its own. An error where a run did not find what it must.
-pub fn go_table<R: Threads + Sync>(rt: &R, alloc: Global, calls: u32) -> Result<TableTally> {
-    let (table, seats, mut writer) = MapTable::new(alloc, SHAPE)?;
-    let linked = change_all(&table, &mut writer, 1);
-    ensure!(linked == u64::from(KEPT + PASSING), "the table is full");
-    let program = program_for(alloc, &table)?;
-    let mut watchers = watchers_of(alloc, seats, &table)?;
-    let changes = go_beside(
-        rt,
-        &table,
-        watchers.as_mut_slice(),
-        &mut writer,
-        &program,
-        calls,
-    );
+/// An error where a run did not find what it must.
+fn check_runs(watchers: &[Watcher]) -> Result<()> {
     let mut wrong = 0u64;
-    for watcher in &watchers {
+    for watcher in watchers {
         wrong = wrong.saturating_add(watcher.wrong);
     }
     ensure!(
         wrong == 0,
         "{wrong} runs over a table found what they must not"
     );
+    Ok(())
+}
+
+/// So many runs of a reader at each seat, beside the writer. How many changes there were. An error where a run did not find
+/// what it must.
+fn watch_beside<R: Threads + Sync>(
+    rt: &R,
+    alloc: Global,
+    table: &MapTable,
+    seats: Seats,
+    writer: &mut Writer,
+    calls: u32,
+) -> Result<u64>
+    requires ready { All (IsReady table.now) seats }
+    requires table { writer.old.table ≡ table.now }
+    requires lengths { HasOneWord table.now.shape }
+{
+    let program = program_for(alloc, table)?;
+    let mut watchers = watchers_of(alloc, seats, table)?;
+    let readers = watchers.as_mut_slice();
+    let changes = go_beside(rt, table, readers, writer, &program, calls);
+    check_runs(&watchers)?;
+    Ok(changes)
+}
+
+/// So many runs of each reader beside the writer, over a table of its own. An error where a run did not find what it must.
+pub fn go_table<R: Threads + Sync>(rt: &R, alloc: Global, calls: u32) -> Result<TableTally> {
+    let (table, seats, mut writer) = MapTable::new(alloc, SHAPE)?;
+    let linked = change_all(&table, &mut writer, 1);
+    ensure!(linked == u64::from(KEPT + PASSING), "the table is full");
+    let changes = watch_beside(rt, alloc, &table, seats, &mut writer, calls)?;
     let runs = (READERS as u64).saturating_mul(u64::from(calls));
     Ok(TableTally { runs, changes })
 }
