@@ -456,7 +456,7 @@ static void table_shapes(void)
 static void elements_of_table(void)
 {
 	struct bpfrt_table table = {0};
-	uint64_t keys[] = {1, 2, 3, 4}, value = 7, other = 8, both[2] = {9, 9};
+	uint64_t keys[] = {1, 2, 3}, value = 7, other = 8, both[2] = {9, 9};
 	open_table(&table, table_shape(2, 4, 3));
 	IS(bpfrt_table_update_elem(&table, keys, 0, &value, 1, 0), -EINVAL);
 	IS(bpfrt_table_update_elem(&table, keys, 2, &value, 1, 0), -EINVAL);
@@ -494,19 +494,43 @@ static void elements_of_table(void)
 	IS(bpfrt_table_reclaim(&table), 1);
 	IS(bpfrt_table_reclaim(&table), 0);
 	has(&table, 2, 0, 2);
-	IS(bpfrt_table_update_elem(&table, keys + 1, 1, &value, 1, 0), 0);
-	IS(bpfrt_table_update_elem(&table, keys + 2, 1, &value, 1, 0), 0);
-	has(&table, 0, 0, 2);
-	IS(bpfrt_table_update_elem(&table, keys + 3, 1, &value, 1, 0), -ENOSPC);
-	IS(bpfrt_table_update_elem(&table, keys, 1, &value, 1, 0), -ENOSPC);
-	IS(bpfrt_table_update_elem(&table, keys + 3, 1, &value, 1, 2), -ENOENT);
+	IS(bpfrt_table_close(&table), 0);
+}
+
+/* Of three elements two are linked. The third is for values of keys that are there. */
+static void full_table(void)
+{
+	struct bpfrt_table table = {0};
+	uint64_t keys[] = {1, 2, 3, 4}, value = 7, other = 8, read = 9;
+	open_table(&table, table_shape(2, 4, 3));
+	IS(bpfrt_table_update_elem(&table, keys, 1, &value, 1, 0), 0);
+	IS(bpfrt_table_update_elem(&table, keys + 1, 1, &value, 1, 1), 0);
+	has(&table, 1, 0, 2);
+	IS(bpfrt_table_update_elem(&table, keys + 2, 1, &value, 1, 0), -ENOSPC);
+	IS(bpfrt_table_update_elem(&table, keys + 2, 1, &value, 1, 1), -ENOSPC);
+	has(&table, 1, 0, 2);
+	IS(bpfrt_table_update_elem(&table, keys, 1, &other, 1, 0), 0);
+	has(&table, 0, 1, 2);
+	IS(bpfrt_table_update_elem(&table, keys + 2, 1, &value, 1, 2), -ENOENT);
 	IS(bpfrt_table_update_elem(&table, keys, 1, &value, 1, 1), -EEXIST);
+	has(&table, 0, 1, 2);
+	IS(bpfrt_table_update_elem(&table, keys + 1, 1, &other, 1, 2), 0);
+	has(&table, 0, 1, 2);
+	IS(bpfrt_table_lookup_elem(&table, keys + 1, 1, &read, 1), 0);
+	IS(read, 8);
+	IS(bpfrt_table_update_elem(&table, keys + 2, 1, &value, 1, 0), -ENOSPC);
+	has(&table, 1, 0, 2);
 	IS(bpfrt_table_delete_elem(&table, keys + 1, 1), 0);
 	IS(bpfrt_table_delete_elem(&table, keys + 1, 1), -ENOENT);
-	IS(bpfrt_table_lookup_elem(&table, keys + 1, 1, both, 1), -ENOENT);
-	has(&table, 0, 1, 2);
+	IS(bpfrt_table_lookup_elem(&table, keys + 1, 1, &read, 1), -ENOENT);
+	has(&table, 1, 1, 2);
 	IS(bpfrt_table_update_elem(&table, keys + 3, 1, &value, 1, 0), 0);
-	has(&table, 0, 0, 2);
+	has(&table, 1, 0, 2);
+	IS(bpfrt_table_close(&table), 0);
+	open_table(&table, table_shape(0, 1, 1));
+	IS(bpfrt_table_update_elem(&table, keys, 1, &value, 1, 0), -ENOSPC);
+	IS(bpfrt_table_update_elem(&table, keys, 1, &value, 1, 2), -ENOENT);
+	has(&table, 1, 0, 0);
 	IS(bpfrt_table_close(&table), 0);
 }
 
@@ -671,7 +695,7 @@ static void runs_over_table(void)
 	struct bpfrt_reader reader = {0}, other = {0};
 	struct bpfrt_prog prog = {0}, next = {0};
 	uint64_t key[2] = {5, 0}, value = 40;
-	open_table(&table, table_shape(2, 1, 2));
+	open_table(&table, table_shape(2, 1, 3));
 	IS(bpfrt_table_update_elem(&table, key, 1, &value, 1, 0), 0);
 	IS(bpfrt_table_reader(&reader, &table), 0);
 	IS(bpfrt_table_reader(&other, &table), 0);
@@ -1111,6 +1135,7 @@ int main(void)
 	kinds_of_tables();
 	table_shapes();
 	elements_of_table();
+	full_table();
 	one_key();
 	walks();
 	full_bucket();

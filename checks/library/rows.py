@@ -379,7 +379,7 @@ def counted(table, program, key, times):
 
 
 def set_soon(table, key):
-    """Sets a key; where each element waits for readers, these are to go on first."""
+    """Sets a key; where too few elements are free, readers hold others up, and are to go on first."""
     while True:
         try:
             return table.set([key], [0])
@@ -447,10 +447,10 @@ def tables(library, _):
     one.map("words", 8, 8, 1, 0, 1), one.map("others", 8, 4, 1, 0, 1)
     count, packets_count = one.load_code(COUNT, 8, ["words"]), one.load_code(COUNT, 256, ["words"])
     delete, other, byte = one.load_code(DELETE, 8, ["words"]), one.load_code(BYTE, 1, ["others"]), one.load_code(BYTE, 1)
-    table = host.Table(one, 3, 2, 1, 1)
+    table = host.Table(one, 3, 3, 1, 1)
     reader = table.reader()
     for method, *given, wanted in [
-            (table.stat, "(2, 0, 2)"), (table.get, [5], "None"), (table.set, [5], [40], "None"), (table.get, [5], "[40]"),
+            (table.stat, "(3, 0, 2)"), (table.get, [5], "None"), (table.set, [5], [40], "None"), (table.get, [5], "[40]"),
             (table.set, [5], [41], 1, "FileExistsError [None, None, 17]"), (table.set, [6], [41], 2, "FileNotFoundError [None, None, 2]"),
             (table.set, [5, 6], [1], error(22)), (table.set, [5], [], error(22)), (table.set, [5], [1], 3, error(22)),
             (table.set, [1 << 64], [1], "ValueError [None, None, None]"), (table.set, [5], [-1], "ValueError [None, None, None]"),
@@ -459,10 +459,10 @@ def tables(library, _):
             (reader.run, 99, b"", "Refused [62, None, None]"), (reader.run_packet, count, b"a", error(22)),
             (reader.run_packet, packets_count, b"abcde", 0, "42"), (reader.run_packet, packets_count, bytes(5), 0, "43"),
             (reader.run_packet, packets_count, b"abcde", "0"), (reader.run_packet, packets_count, b"", 1 << 32, "ValueError [None, None, None]"),
-            (table.set, [5], [50], 2, "None"), (table.stat, "(0, 1, 2)"), (table.reclaim, "1"), (table.set, [6], [1], "None"),
-            (table.set, [7], [1], error(28)), (table.remove, [6], "None"), (table.remove, [6], "FileNotFoundError [None, None, 2]"),
-            (reader.run, count, key, "51"), (host.Table, one, 65, 2, 1, 1, error(22)),
-            (host.Table, one, 1 << 32, 2, 1, 1, "ValueError [None, None, None]")]:
+            (table.set, [5], [49], 2, "None"), (table.stat, "(1, 1, 2)"), (table.reclaim, "1"), (table.set, [6], [1], "None"),
+            (table.set, [7], [1], error(28)), (table.set, [5], [50], "None"), (table.remove, [6], "None"),
+            (table.remove, [6], "FileNotFoundError [None, None, 2]"), (reader.run, count, key, "51"),
+            (host.Table, one, 65, 2, 1, 1, error(22)), (host.Table, one, 1 << 32, 2, 1, 1, "ValueError [None, None, None]")]:
         yield f"{method.__name__}{tuple(given)}", outcome(method, *given), wanted
     for is_last in (False, False, True):
         got = outcome(table.reader)

@@ -195,7 +195,7 @@ static void *work(void *data)
 	}
 }
 
-/* Puts a value; where each element that is not linked waits for readers, these are to go on first. */
+/* Puts a value; where too few elements are free, readers hold others up, and are to go on first. */
 static void update(struct bpfrt_table *table, uint64_t key, const uint64_t *value, size_t count, uint64_t flags)
 {
 	int32_t status;

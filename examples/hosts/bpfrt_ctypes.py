@@ -503,8 +503,9 @@ def words_of(words):
 
 
 class Table:
-    """A map of keys and values of so many words, of 8 bytes each. Where they are per_reader, each reader has values of its own, and `get`
-    gives their sums. Errors are OSErrors, as bpfrt.h tells them."""
+    """A map of keys and values of so many words, of 8 bytes each. It takes one key fewer than it has elements, so that each value can be
+    replaced. Where they are per_reader, each reader has values of its own, and `get` gives their sums. Errors are OSErrors, as bpfrt.h
+    tells them."""
 
     def __init__(self, bpf, readers, elements, key_words, value_words, per_reader=False):
         self._bpf, self._held, self._turn = bpf, Held(bpf._library), threading.Lock()

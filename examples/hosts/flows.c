@@ -72,7 +72,7 @@ static void open_table(struct bpfrt_table *table)
 	}
 }
 
-/* The other flows come and go. Where each element that is not linked waits for a thread in a section, this is to go on first. */
+/* The other flows come and go. Where too few elements are free, a thread in a section holds others up, and is to go on first. */
 static void change_flows(struct bpfrt_table *table)
 {
 	for (int number = 0; number < CHANGES; number++) {

@@ -12,7 +12,7 @@
  *   -EBADF   the handle holds nothing, or something else         -EBUSY   the handle that is to be opened is open
  *   -EINVAL  an argument is none that the call takes              -ENOMEM  memory ran out, and nothing has changed
  *   -ENOENT  no element has the key                               -EEXIST  an element has the key
- *   -E2BIG   no place is left                                     -ENOSPC  no element of the table is free, or no seat
+ *   -E2BIG   no place is left                                     -ENOSPC  too few elements of the table are free, or no seat
  *   -EACCES  the verifier refuses the program
  *   -EOPNOTSUPP  the program names a map, so it runs in a world or over a table alone; or no table serves it, and a world does
  *
@@ -117,8 +117,9 @@ struct bpfrt_packet {
 enum bpfrt_table_values { BPFRT_TABLE_SHARED = 0, BPFRT_TABLE_PER_READER = 1 };
 
 /* A table has at most 64 readers, 16777216 buckets, 16777216 elements, and 8 words, of 8 bytes, in a key and in a value. Programs run
-   over one that has at most 131072 elements. A key has its place in one of two buckets, of 8 places each, which `first` and `second`
-   choose: numbers that the host draws at random, and tells nobody, or keys could be chosen that fall together. */
+   over one that has at most 131072 elements. It takes one key fewer than it has elements. A key has its place in one of two buckets,
+   of 8 places each, which `first` and `second` choose: numbers that the host draws at random, and tells nobody, or keys could be
+   chosen that fall together. */
 struct bpfrt_table_shape {
 	uint32_t readers;
 	uint32_t buckets; /* 1 or more: bpfrt_table_buckets */
@@ -481,9 +482,9 @@ static inline int32_t bpfrt_table_reader(struct bpfrt_reader *reader, struct bpf
 
 /* Puts a value under a key; with BPFRT_TABLE_PER_READER those of all readers, one behind another. A run finds the old value or the
    new one, and misses no key that is there. Flags as of bpfrt_map_update_elem. A key that is there takes a free element, too, and the
-   old one waits for the runs that may have found it; where none is free, those are reclaimed first that no run can hold. -EEXIST,
-   -ENOENT; -ENOSPC where no element is free, until runs end; -E2BIG where both buckets of a new key are full; -EINVAL for a wrong
-   length or flag. */
+   old one waits for the runs that may have found it. A new key leaves one free, so that values can be put where all others are linked.
+   Where too few are free, those are reclaimed first that no run can hold. -EEXIST, -ENOENT; -ENOSPC where still too few are free,
+   until runs end or a key is removed; -E2BIG where both buckets of a new key are full; -EINVAL for a wrong length or flag. */
 static inline int32_t bpfrt_table_update_elem(struct bpfrt_table *table, const uint64_t *key, size_t key_words, const uint64_t *value,
 	size_t value_words, uint64_t flags)
 {
