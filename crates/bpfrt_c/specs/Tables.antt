@@ -43,8 +43,8 @@ how_in_c n =
     then Some Any
     else (if n == 1 then Some New else (if n == 2 then Some Present else None))
 
--- The number of errno.h for a key that is not set: EEXIST, ENOENT, ENOSPC where no element is free, E2BIG where both buckets of the
--- key are full.
+-- The number of errno.h for a key that is not set: EEXIST, ENOENT, ENOSPC where too few elements are free, E2BIG where both buckets of
+-- the key are full.
 abbrev pub set_error : SetFault → ℕ
 set_error Exists = 17
 set_error Missing = 2

@@ -21,7 +21,7 @@ pub const EBUSY: i32 = -16;
 /// There is such an element.
 pub const EEXIST: i32 = -17;
 
-/// No element of the table is free, or none of its seats.
+/// Too few elements of the table are free, or none of its seats.
 pub const ENOSPC: i32 = -28;
 
 /// An argument is none that the call takes.

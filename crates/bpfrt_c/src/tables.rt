@@ -206,11 +206,11 @@ fn set_held(held: &mut Held, key: &[u64], value: &[u64], flags: u64) -> i32
 }
 
 /// Sets a key: links a value under it, or puts it in the place of the one that is there, in one store, so that no reader misses a
-/// key that is linked before. Flags: 0, or 1 for a new key alone, or 2 for one that is there. Where no element is free, those are
-/// reclaimed first that no reader holds.
+/// key that is linked before. Flags: 0, or 1 for a new key alone, or 2 for one that is there. A new key leaves one element free. Where
+/// too few are free, those are reclaimed first that no reader holds.
 ///
-/// 0, or -EBADF where no table is held; -EINVAL for a wrong length or flag; -EEXIST, -ENOENT; -ENOSPC where no element is free;
-/// -E2BIG where both buckets of the key are full.
+/// 0, or -EBADF where no table is held; -EINVAL for a wrong length or flag; -EEXIST, -ENOENT; -ENOSPC where too few elements are
+/// free; -E2BIG where both buckets of the key are full.
 #[unsafe(no_mangle)]
 pub extern "C" fn bpfrt0_table_update_elem(
     alloc: Global,
