@@ -11,3 +11,5 @@ mod keys;
 mod names;
 #[cfg(test)]
 mod runs;
+#[cfg(test)]
+mod walks;
