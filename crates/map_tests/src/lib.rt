@@ -13,3 +13,5 @@ mod keys;
 mod names;
 #[cfg(test)]
 mod runs;
+#[cfg(test)]
+mod walks;
