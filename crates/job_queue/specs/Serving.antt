@@ -7,12 +7,12 @@ abbrev pub most_jobs : ℕ
 most_jobs = 65536
 
 -- the most threads of a pool
-abbrev pub most_workers : ℕ
-most_workers = 8
+abbrev pub most_threads : ℕ
+most_threads = 64
 
 -- no number of threads for a pool that has so many workers
 abbrev pub IsBadCount : ℕ → ℕ → Type 0
-IsBadCount threads workers = (threads ≡ 0) ⊎ (most_workers < threads) ⊎ (workers < threads)
+IsBadCount threads workers = (threads ≡ 0) ⊎ (most_threads < threads) ⊎ (workers < threads)
 
 module _ {J W T : Type 0} (fits : W → W → J → T → Type 0) where
   -- The result is right for the job, by one of the workers, between what that worker was before and

@@ -2,7 +2,7 @@
 ghost use Rattle.std.specs.Prelude.{◌≡◌, ◌<◌, ◌≤◌, [], length, IfOk, IfErr, IfSome, OnOk, IsSome, All, vec_len};
 ghost use Rattle.std.specs.List.{flat_map};
 ghost use Rattle.job_queue.specs.Blocks.{jobs_of, results_of, AreRightIn, ServesIn};
-ghost use Rattle.job_queue.specs.Serving.{most_workers};
+ghost use Rattle.job_queue.specs.Serving.{most_threads};
 
 use crate::fault::PoolFault;
 use crate::serve::Serve;
@@ -18,7 +18,7 @@ const BLOCKS_PER_THREAD: usize = 8;
 
 /// How many jobs a block has, where so many threads serve so many jobs.
 pub fn block_size(jobs: usize, threads: usize) -> usize
-    requires { (0 < threads) × (threads ≤ most_workers) }
+    requires { (0 < threads) × (threads ≤ most_threads) }
     ensures { 0 < result }
 {
     (jobs / (threads * BLOCKS_PER_THREAD)).clamp(1, MAX_BLOCK)

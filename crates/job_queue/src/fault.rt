@@ -6,7 +6,7 @@ use thiserror::Error;
 /// Why a pool gives no results.
 #[derive(Clone, Copy, Debug, PartialEq, Eq, Error)]
 pub enum PoolFault {
-    #[error("the number of workers is not 1 to 8, or more than there are")]
+    #[error("the number of workers is 0, more than a pool may have, or more than there are")]
     BadWorkers,
     #[error("more jobs than a pool may have")]
     TooManyJobs,

@@ -13,5 +13,5 @@ mod sheet;
 mod station;
 
 pub use fault::PoolFault;
-pub use pool::{MAX_JOBS, MAX_WORKERS, serve_all};
+pub use pool::{MAX_JOBS, MAX_THREADS, serve_all};
 pub use serve::Serve;

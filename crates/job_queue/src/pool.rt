@@ -4,7 +4,7 @@ ghost use Rattle.std.specs.List.{AllZip};
 ghost use Rattle.crossbeam_queue.specs.Passes.{view, IsPassOf};
 ghost use Rattle.job_queue.specs.Blocks.{InBlocks, ServesBlock};
 ghost use Rattle.job_queue.specs.Numbers.{putter};
-ghost use Rattle.job_queue.specs.Serving.{AreRightLines, AreServed, IsBadCount, most_jobs, most_workers};
+ghost use Rattle.job_queue.specs.Serving.{AreRightLines, AreServed, IsBadCount, most_jobs, most_threads};
 ghost use Rattle.job_queue.specs.Sheet.{worker_of, IsBlank};
 ghost use Rattle.job_queue.specs.Stations.{IsNewStation};
 ghost use Rattle.job_queue.specs.Turns.{AreSharedOut, AreTurns};
@@ -20,7 +20,7 @@ use std::sync::Wait;
 use std::thread::Threads;
 
 /// The most threads of a pool.
-pub const MAX_WORKERS: usize = 8;
+pub const MAX_THREADS: usize = 64;
 
 /// The most jobs of a pool.
 pub const MAX_JOBS: usize = 65_536;
@@ -193,7 +193,7 @@ fn serve_in_blocks<S: Serve + Sync, R: Threads + Wait + Sync>(
     workers: &mut Vec<S::Worker>,
 ) -> Result<Vec<S::Served>, PoolFault>
     requires some { 0 < length jobs.now }
-    requires threads { (0 < threads) × (threads ≤ most_workers) × (threads ≤ vec_len workers.old) }
+    requires threads { (0 < threads) × (threads ≤ most_threads) × (threads ≤ vec_len workers.old) }
     requires ready { All (S.ready serve.now) workers.old.items }
     ensures ready { All (S.ready serve.now) workers.new.items }
     ensures later { AllZip S.later workers.old.items workers.new.items }
@@ -220,7 +220,7 @@ fn serve_in_blocks<S: Serve + Sync, R: Threads + Wait + Sync>(
 /// All workers come back, whatever the answer, in their order.
 ///
 /// Errors: the first of these that holds.
-/// - `BadWorkers`: `threads` is 0, above `MAX_WORKERS`, or more than there are workers.
+/// - `BadWorkers`: `threads` is 0, above `MAX_THREADS`, or more than there are workers.
 /// - `TooManyJobs`: there are more than `MAX_JOBS`.
 /// - `Memory`: there is none; some jobs may have been served.
 ///
@@ -256,7 +256,7 @@ pub fn serve_all<S: Serve + Sync, R: Threads + Wait + Sync>(
         AreSharedOut (S.gains serve.now) jobs.now workers.old.items workers.new.items v.items) }
 {
     unchanged::<S>(workers.as_slice());
-    if threads == 0 || threads > MAX_WORKERS || threads > workers.len() {
+    if threads == 0 || threads > MAX_THREADS || threads > workers.len() {
         return Err(PoolFault::BadWorkers);
     }
     if jobs.len() > MAX_JOBS {

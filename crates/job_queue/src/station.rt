@@ -8,7 +8,7 @@ ghost use Rattle.job_queue.specs.Blocks.{InBlocks, ServesBlock};
 
 use crate::blocks::serve_block;
 use crate::numbers::{NumberPass, NumberQueue, Takes};
-use crate::pool::MAX_WORKERS;
+use crate::pool::MAX_THREADS;
 use crate::serve::Serve;
 use std::alloc::Global;
 use std::sync::Wait;
@@ -79,7 +79,7 @@ pub fn work_all<S: Serve + Sync, R: Threads + Wait + Sync>(
     thread::for_each_mut(
         rt,
         stations,
-        MAX_WORKERS,
+        MAX_THREADS,
         &|_, station: &mut Station<S::Worker, BlockResults<S::Served>>|
             requires { IsNewStation (IsPassOf queue.now) (S.ready serve.now) station.old }
             ensures { HasServed (InBlocks (S.fits serve.entry.now)) (ServesBlock (S.gains serve.entry.now)) S.later blocks.entry.now

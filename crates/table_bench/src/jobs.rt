@@ -1,6 +1,6 @@
 //! Jobs that the seats of a table serve.
 ghost use Rattle.std.specs.Prelude.{◌<◌, ◌≤◌, All, vec_len};
-ghost use Rattle.job_queue.specs.Serving.{most_workers};
+ghost use Rattle.job_queue.specs.Serving.{most_threads};
 ghost use Rattle.read_table.specs.declared.limits.TheConstants.{MAX_READERS};
 
 use crate::map_stage::{full_table, map_program};
@@ -57,7 +57,7 @@ fn time_of_jobs<T: RunsPrograms + Sync, R: Threads + Wait + Clock + Sync>(
     seats: &mut Vec<T::Seat>,
 ) -> Result<Duration>
     requires some { 0 < vec_len seats.old }
-    requires few { vec_len seats.old ≤ most_workers }
+    requires few { vec_len seats.old ≤ most_threads }
     requires ready { All (T.IsReady table.now) seats.old.items }
     requires fit { All (λ c. T.Fits table.now c.shapes) programs.now }
 {

@@ -20,12 +20,12 @@ mod zero_jobs;
 
 pub use fault::RunFault;
 pub use job::{Job, JobReport, Outcome, Report, StopCause, Trail};
-pub use job_queue::{MAX_JOBS, MAX_WORKERS, PoolFault, Serve};
+pub use job_queue::{MAX_JOBS, PoolFault, Serve};
 pub use pool::run_jobs;
 pub use pooled::Pooled;
 pub use reading::{Reading, run_read_jobs, run_table_jobs};
 pub use repeated::run_program;
-pub use shared::ProgramWithMaps;
+pub use shared::{MAX_WORKERS, ProgramWithMaps};
 
-// A pool has as many workers as a shared world may have.
-const _: () = prove!(MAX_WORKERS == shared::MAX_WORKERS as usize);
+// A pool has as many threads as a shared world may have workers.
+const _: () = prove!(MAX_WORKERS as usize <= job_queue::MAX_THREADS);

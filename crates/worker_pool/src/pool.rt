@@ -3,14 +3,15 @@ ghost use Rattle.std.specs.Prelude.{◌≡◌, ◌⊎◌, ◌<◌, ◌≤◌, le
 ghost use Rattle.std.specs.List.{AllZip};
 ghost use Rattle.job_queue.specs.declared.fault.PoolFault.{PoolFault};
 ghost use Rattle.job_queue.specs.declared.fault.PoolFault.TheVariants as faults;
-ghost use Rattle.job_queue.specs.Serving.{AreServed, IsBadCount, most_jobs};
+ghost use Rattle.job_queue.specs.Serving.{AreServed, most_jobs};
 ghost use Rattle.job_queue.specs.Turns.{AreSharedOut};
+ghost use Rattle.worker_pool.specs.Outcomes.{AreBadWorkers};
 ghost use Rattle.worker_pool.specs.Trails.{IsLater, IsServedJob, IsServedOnce};
 
 use crate::job::{Job, Report, Trail};
 use crate::pooled::Pooled;
 use job_queue::{PoolFault, serve_all};
-use shared::{Shared, Workers};
+use shared::{MAX_WORKERS, Shared, Workers};
 use std::alloc::Global;
 use std::sync::Wait;
 use std::sync::ledger::Ledger;
@@ -34,14 +35,14 @@ pub fn run_jobs<L: Ledger + Send + Sync, R: Threads + Wait + Sync>(
     shared: &Shared<L>,
     workers: &mut Workers<L>,
 ) -> Result<Report<Trail<L>>, PoolFault>
-    ensures bad_workers { IsBadCount threads (length workers.old) →
+    ensures bad_workers { AreBadWorkers threads (length workers.old) →
         result ≡ Err faults.BadWorkers }
-    ensures too_many_jobs { (IsBadCount threads (length workers.old) → ⊥)
+    ensures too_many_jobs { (AreBadWorkers threads (length workers.old) → ⊥)
         → most_jobs < length jobs.now → result ≡ Err faults.TooManyJobs }
-    ensures served { (IsBadCount threads (length workers.old) → ⊥)
+    ensures served { (AreBadWorkers threads (length workers.old) → ⊥)
         → length jobs.now ≤ most_jobs
         → IsOk result ⊎ (result ≡ Err faults.Memory) }
-    ensures refused { IsBadCount threads (length workers.old) ⊎ (most_jobs < length jobs.now)
+    ensures refused { AreBadWorkers threads (length workers.old) ⊎ (most_jobs < length jobs.now)
         → workers.new ≡ workers.old }
     ensures later { AllZip IsLater workers.old workers.new }
     ensures count { IfOk result (λ report. vec_len report.jobs ≡ length jobs.now) }
@@ -53,6 +54,9 @@ pub fn run_jobs<L: Ledger + Send + Sync, R: Threads + Wait + Sync>(
     ensures shared_out { IfOk result (λ report. AreSharedOut (IsServedOnce shared.now) jobs.now
         workers.old workers.new report.jobs.items) }
 {
+    if threads > MAX_WORKERS as usize {
+        return Err(PoolFault::BadWorkers);
+    }
     let pooled = Pooled { shared };
     match serve_all(rt, alloc, &pooled, jobs, threads, &mut workers.list) {
         Ok(jobs) => Ok(Report { jobs }),

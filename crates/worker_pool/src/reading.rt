@@ -3,9 +3,10 @@ ghost use Rattle.std.specs.Prelude.{◌≡◌, ◌⊎◌, ◌<◌, ◌≤◌, Al
 ghost use Rattle.std.specs.List.{AllZip};
 ghost use Rattle.job_queue.specs.declared.fault.PoolFault.{PoolFault};
 ghost use Rattle.job_queue.specs.declared.fault.PoolFault.TheVariants as faults;
-ghost use Rattle.job_queue.specs.Serving.{AreServed, most_jobs, most_workers};
+ghost use Rattle.job_queue.specs.Serving.{AreServed, most_jobs, most_threads};
 ghost use Rattle.job_queue.specs.Turns.{AreSharedOut};
 ghost use Rattle.read_table.specs.Held.{IsReady};
+ghost use Rattle.shared_books.specs.Books.{most_workers};
 ghost use Rattle.worker_pool.specs.Readings.{AllFit, GainsReadJob, HasGained, IsReadJob};
 ghost use Rattle.worker_pool.specs.TableJobs.{GainsJob, HasGrown, IsTableJob};
 
@@ -99,7 +100,7 @@ pub fn run_table_jobs<T: RunsPrograms + Sync, R: Threads + Wait + Sync>(
     seats: &mut Vec<T::Seat>,
 ) -> Result<Report<()>, PoolFault>
     requires some { 0 < vec_len seats.old }
-    requires few { vec_len seats.old ≤ most_workers }
+    requires few { vec_len seats.old ≤ most_threads }
     requires ready { All (T.IsReady table.now) seats.old.items }
     requires fit { All (λ c. T.Fits table.now c.shapes) programs.now }
     ensures too_many_jobs { most_jobs < length jobs.now → result ≡ Err faults.TooManyJobs }

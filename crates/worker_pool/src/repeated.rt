@@ -3,7 +3,8 @@ ghost use Rattle.std.specs.Prelude.{◌≡◌, ◌⊎◌, ◌≤◌, ◌<◌, �
 ghost use Rattle.std.specs.Option.{ForSome};
 ghost use Rattle.bpf_model.specs.View.{AreNewMaps, shapes_of_maps};
 ghost use Rattle.job_queue.specs.declared.fault.PoolFault.TheVariants as faults;
-ghost use Rattle.job_queue.specs.Serving.{most_jobs, most_workers};
+ghost use Rattle.job_queue.specs.Serving.{most_jobs};
+ghost use Rattle.shared_books.specs.Books.{most_workers};
 ghost use Rattle.worker_pool.specs.Batches.{HasWritten, HasWrittenPart, IsAlike};
 ghost use Rattle.worker_pool.specs.Runs.{IsLate, IsRunFaultOf, WritesJobs, WritesPart};
 
@@ -13,8 +14,8 @@ use crate::fault::RunFault;
 use crate::job::Job;
 use crate::printing::Printing;
 use crate::zero_jobs::zero_job;
-use job_queue::{MAX_JOBS, MAX_WORKERS, PoolFault};
-use shared::{ProgramWithMaps, Shared, Workers};
+use job_queue::{MAX_JOBS, PoolFault};
+use shared::{MAX_WORKERS, ProgramWithMaps, Shared, Workers};
 use std::alloc::Global;
 use std::io::Write;
 use std::marker::Brand;
