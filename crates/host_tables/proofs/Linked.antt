@@ -8,6 +8,7 @@ use Rattle.map_table_laws.specs.Layout.{Layout, Names}
 use Rattle.map_table_laws.specs.History.{moves_of, word_in, key_of, MayDo, IsLawful}
 use Rattle.map_table_laws.specs.Found.{IsLinkedUnder}
 use Rattle.map_table_laws.specs.Once.{AreLinkedOnce}
+use Rattle.map_table_laws.proofs.Once.{linked_back}
 use Rattle.map_table_laws.proofs.Steps.{own, others, key_step, one_name, put_here, put_there}
 use Rattle.map_table.specs.declared.view.TableShape.{TableShape}
 use Rattle.map_table.specs.declared.view.View.{View}
@@ -83,20 +84,7 @@ module _ (way : ℕ) where
       (λ ne. ap (word_in way) (others 0 e es ne))
 
 module _ (k : Layout) (table : ℕ) (key : List ℕ) (way : ℕ) where
-  -- what is linked there after a step that leaves the way was so before
-  step_before : (e : ℕ × Move) (es : List (ℕ × Move)) → MayDo k es e.0 e.1 → word_in way (moves_of 0 (e ∷ es)) ≡ word_in way (moves_of 0 es) →
-      IsLinkedUnder k table key way (e ∷ es) → IsLinkedUnder k table key way es
-  step_before e es may same l =
-      let was : Names (word_in way (moves_of 0 es)) l.0 = subst (λ z. Names z l.0) same l.1.names in (
-        l.0,
-        record {
-          names = was;
-          table_is = l.1.table_is;
-          key_is = sym (key_step k es e l.0 may (λ spare. spare.0 (way, was))) ∙ l.1.key_is;
-        },
-      )
-
-  -- and the other way round
+  -- what is linked there before a step that leaves the way is so after it
   step_after : (e : ℕ × Move) (es : List (ℕ × Move)) → MayDo k es e.0 e.1 → word_in way (moves_of 0 (e ∷ es)) ≡ word_in way (moves_of 0 es) →
       IsLinkedUnder k table key way es → IsLinkedUnder k table key way (e ∷ es)
   step_after e es may same l = (
@@ -112,7 +100,7 @@ module _ (k : Layout) (table : ℕ) (key : List ℕ) (way : ℕ) where
       IsLinkedUnder k table key way (late ++ early) → IsLinkedUnder k table key way early
   before_stretch [] early lawful h l = l
   before_stretch (e ∷ late) early lawful h l = before_stretch late early lawful.1 (rest way e late h)
-      (step_before e (late ++ early) lawful.0 (same_word way e late (late ++ early) h) l)
+      (linked_back k table e (late ++ early) lawful key way (same_word way e late (late ++ early) h) l)
 
   after_stretch : (late early : List (ℕ × Move)) → IsLawful k (late ++ early) → Leaves way (moves_of 0 late) →
       IsLinkedUnder k table key way early → IsLinkedUnder k table key way (late ++ early)

@@ -11,7 +11,7 @@ use Rattle.map_table_laws.proofs.Owning.{own_word}
 use Rattle.map_table.specs.declared.view.View.{View}
 use Rattle.map_table.specs.Hashes.{layout_of}
 use Rattle.map_runs.specs.Running.{HasFound, HasHeld, HasMet, HasOwn, HasWhole, Touches}
-use Rattle.map_runs.proofs.Whole.{values_stay}
+use Rattle.map_table_laws.proofs.Whole.{values_stay}
 
 touched : (k : Layout) (es : List (ℕ × Move)) (who element : ℕ) (m : Move) → 0 < who → MayDo k es who m →
     Touches element m → Holds element (moves_of who es)

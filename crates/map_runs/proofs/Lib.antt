@@ -1,5 +1,4 @@
 pub mod Keeping
 pub mod Known
 pub mod Serving
-pub mod Whole
 pub mod Words

@@ -12,10 +12,11 @@ use Rattle.map_table_laws.proofs.Steps.{key_step}
 use Rattle.map_table_laws.proofs.Standing.{Quiet, Changed, step, changes_no_key}
 
 module _ (k : Layout) (table : ℕ) (e : ℕ × Move) (es : List (ℕ × Move)) (lawful : IsLawful k (e ∷ es)) (key : List ℕ) where
-  -- what is linked was so before a step that puts nothing
-  before_quiet : (way : ℕ) → Quiet e es → IsLinkedUnder k table key way (e ∷ es) → IsLinkedUnder k table key way es
-  before_quiet way q l =
-      let was = subst (λ z. Names z l.0) (q.same way) l.1.names in (
+  -- what is linked in a way after a step that leaves the way was so before
+  pub linked_back : (way : ℕ) → word_in way (moves_of 0 (e ∷ es)) ≡ word_in way (moves_of 0 es) → IsLinkedUnder k table key way (e ∷ es) →
+      IsLinkedUnder k table key way es
+  linked_back way same l =
+      let was = subst (λ z. Names z l.0) same l.1.names in (
         l.0,
         record {
           names = was;
@@ -24,16 +25,12 @@ module _ (k : Layout) (table : ℕ) (e : ℕ × Move) (es : List (ℕ × Move)) 
         },
       )
 
-  -- and before one that puts something in another way
+  -- so before a step that puts nothing, and before one that puts something in another way
+  before_quiet : (way : ℕ) → Quiet e es → IsLinkedUnder k table key way (e ∷ es) → IsLinkedUnder k table key way es
+  before_quiet way q = linked_back way (q.same way)
+
   before_change : (way : ℕ) → (c : Changed k e es) → c.way ≢ way → IsLinkedUnder k table key way (e ∷ es) → IsLinkedUnder k table key way es
-  before_change way c ne l = (
-    l.0,
-    record {
-      names = subst (λ z. Names z l.0) (c.there way ne) l.1.names;
-      table_is = l.1.table_is;
-      key_is = sym (changes_no_key k e es l.0 c) ∙ l.1.key_is;
-    },
-  )
+  before_change way c ne = linked_back way (c.there way ne)
 
   -- what was put bears the key
   bears : (way : ℕ) → (c : Changed k e es) → c.way ≡ way → IsLinkedUnder k table key way (e ∷ es) → BearsKey k table key es c.word

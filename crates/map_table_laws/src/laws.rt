@@ -9,7 +9,7 @@ ghost use Rattle.map_table_laws.specs.Found.{IsLinkedUnder, IsLinkedAs, Sometime
 ghost use Rattle.map_table_laws.specs.Once.{AreLinkedOnce, PutNoKeyTwice};
 ghost use Rattle.map_table_laws.specs.Scanned.{OnlyScans, AllOutside};
 ghost use Rattle.map_table_laws.specs.Whole.{OnlyWriterStores};
-ghost use Rattle.map_table_laws.specs.Added.{AddsInAll};
+ghost use Rattle.map_table_laws.specs.Added.{OnlyAdds};
 ghost use Rattle.map_table_laws.specs.Moved.{MovesKey};
 ghost use Rattle.map_table_laws.specs.Walks.{LearnsEach, Meets};
 
@@ -68,11 +68,11 @@ pub fn own_words_stay()
         word_at element place es ≡ word_at element place (with_writer who es) }
 {}
 
-/// No amount that was added to a word is lost: where each of the late steps leaves it or adds to it, it has grown by the sum of all
-/// amounts, modulo 2^64, whoever added them.
+/// No amount that was added to a word is lost, however many add: in every lawful history where all that is stored at a place
+/// is added, by a load and a store with nothing between, its word has grown by the sum of the amounts, modulo 2^64.
 pub fn added_amounts_stay()
-    ensures { (element place total : ℕ) (late early : List (ℕ × Move)) →
-        AddsInAll element place late early total →
+    ensures { (k : Layout) (late early : List (ℕ × Move)) → IsLawful k (late ++ early) →
+        (element place total : ℕ) → OnlyAdds element place late total →
         word_at element place (late ++ early) % 2 ^ 64 ≡ (word_at element place early + total) % 2 ^ 64 }
 {}
 
