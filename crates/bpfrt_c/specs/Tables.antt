@@ -11,9 +11,9 @@ use Rattle.host_tables.specs.declared.fault.SetFault.TheVariants.{Exists, Missin
 use Rattle.map_table.specs.Held.{Holder}
 use Rattle.map_table.specs.Values.{stored_of}
 use Rattle.map_table.specs.Writing.{WriterView}
-use Rattle.map_table.specs.declared.view.TableShape.{TableShape}
-use Rattle.map_table.specs.declared.view.Values.{Values}
-use Rattle.map_table.specs.declared.view.Values.TheVariants.{Shared, PerReader}
+use Rattle.table_words.specs.declared.view.TableShape.{TableShape}
+use Rattle.table_words.specs.declared.view.Values.{Values}
+use Rattle.table_words.specs.declared.view.Values.TheVariants.{Shared, PerReader}
 use Rattle.bpfrt_c.specs.declared.tables.TableShape.{TableShape as Written}
 
 -- whose the values are: 0 for all readers', 1 for one for each reader

@@ -4,7 +4,7 @@ ghost use Rattle.host_tables.specs.Tables.{IsNewTable, Reads, Reclaims, Removes,
 ghost use Rattle.host_tables.specs.declared.fault.SetFault.{SetFault as Fault_};
 ghost use Rattle.host_values.specs.Values.{reader_in, table_in};
 ghost use Rattle.map_table.specs.Held.{IsSized};
-ghost use Rattle.map_table.specs.declared.view.TableShape.{TableShape as ShapeOf};
+ghost use Rattle.table_words.specs.declared.view.TableShape.{TableShape as ShapeOf};
 ghost use Rattle.bpfrt_c.specs.Tables.{CanSet, IsNotSetAs, SeatsIn, SetsAs, WritesIn, how_in_c, set_error, table_shape_in_c};
 
 use crate::number::{E2BIG, EBADF, EBUSY, EEXIST, EINVAL, ENOENT, ENOMEM, ENOSPC};

@@ -10,8 +10,8 @@ use Rattle.map_table_laws.specs.Found.{IsLinkedUnder}
 use Rattle.map_table_laws.specs.Once.{AreLinkedOnce}
 use Rattle.map_table_laws.proofs.Once.{linked_back}
 use Rattle.map_table_laws.proofs.Steps.{own, others, key_step, one_name, put_here, put_there}
-use Rattle.map_table.specs.declared.view.TableShape.{TableShape}
-use Rattle.map_table.specs.declared.view.View.{View}
+use Rattle.table_words.specs.declared.view.TableShape.{TableShape}
+use Rattle.table_words.specs.declared.view.View.{View}
 use Rattle.map_table.specs.Hashes.{layout_of}
 use Rattle.map_table.specs.Held.{Went, IsKnown}
 use Rattle.map_table.proofs.Replacing.{stretch}

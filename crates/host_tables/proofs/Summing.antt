@@ -3,7 +3,7 @@ use Rattle.std.proofs.Common.{◌≤◌, ◌<◌, ℕ, zero, suc, ◌+◌, List}
 use Rattle.std.proofs.Common.{set, length, refl, sym, subst, arith, get_or-set_other, get_or-set_same, ◌++◌}
 use Rattle.map_table.specs.Counting.{AddsUp}
 use Rattle.map_table.specs.Values.{copies_of}
-use Rattle.map_table.specs.declared.view.TableShape.{TableShape}
+use Rattle.table_words.specs.declared.view.TableShape.{TableShape}
 use Rattle.map_table_laws.specs.declared.moves.Move.{Move}
 use Rattle.host_tables.specs.Tables.{SumsUp}
 

@@ -9,7 +9,7 @@ use Rattle.map_table_laws.specs.Lookups.{OnlySearches}
 use Rattle.map_table_laws.specs.Found.{IsLinkedUnder, StaysFound}
 use Rattle.map_table_laws.specs.Once.{AreLinkedOnce}
 use Rattle.map_table_laws.proofs.Steps.{nothing_named, put_here}
-use Rattle.map_table.specs.declared.view.TableShape.{TableShape}
+use Rattle.table_words.specs.declared.view.TableShape.{TableShape}
 use Rattle.map_table.specs.Hashes.{layout_of}
 use Rattle.map_table.specs.Held.{IsKnown, TableView}
 use Rattle.map_table.specs.Values.{copies_of, stored_of}

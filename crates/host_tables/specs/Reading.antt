@@ -4,7 +4,7 @@ use Rattle.classic_program.specs.Context.{IsPacketContext}
 use Rattle.classic_program.specs.Machine.{Input}
 use Rattle.map_runs.specs.Running.{HasFound, HasHeld, HasMet, HasOwn, HasWhole, RunsShared, ServesMaps}
 use Rattle.map_table.specs.Held.{Holder}
-use Rattle.map_table.specs.declared.view.TableShape.{TableShape}
+use Rattle.table_words.specs.declared.view.TableShape.{TableShape}
 use Rattle.shared_runs.specs.Words.{StoresSubWords}
 use Rattle.verifier.specs.Checked.{Checked}
 

@@ -7,7 +7,7 @@ use Rattle.map_table.specs.Held.{AreInOrder, Holder, IsNew, TableView}
 use Rattle.map_table.specs.Sightings.{IsHeldUp}
 use Rattle.map_table.specs.Values.{copies_of}
 use Rattle.map_table.specs.Writing.{AreFull, Frees, Looks, Puts, StaysIn, Works, WriterView}
-use Rattle.map_table.specs.declared.view.TableShape.{TableShape}
+use Rattle.table_words.specs.declared.view.TableShape.{TableShape}
 use Rattle.map_table_laws.specs.declared.moves.Move.{Move}
 use Rattle.map_table_laws.specs.declared.moves.Move.TheVariants.{Put}
 use Rattle.map_table_laws.specs.Found.{IsLinkedUnder}

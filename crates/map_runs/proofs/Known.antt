@@ -8,7 +8,7 @@ use Rattle.map_table_laws.specs.Lookups.{AnswersLookup, OnlySearches}
 use Rattle.map_table_laws.proofs.Moments.{lawful_early, stays_found}
 use Rattle.map_table_laws.proofs.Hits.{hit_linked}
 use Rattle.map_table_laws.proofs.Owning.{own_word}
-use Rattle.map_table.specs.declared.view.View.{View}
+use Rattle.table_words.specs.declared.view.View.{View}
 use Rattle.map_table.specs.Hashes.{layout_of}
 use Rattle.map_runs.specs.Running.{HasFound, HasHeld, HasMet, HasOwn, HasWhole, Touches}
 use Rattle.map_table_laws.proofs.Whole.{values_stay}

@@ -1,10 +1,10 @@
 -- The table's calls are the moves of its seats, and a run leaves a seat that is ready.
 use Rattle.std.proofs.Common.{◌≡◌, ℕ, ◌+◌, ◌^◌, ◌<◌, ap, ◌∙◌, subst, arith, List}
-use Rattle.map_table.specs.declared.view.View.{View}
+use Rattle.table_words.specs.declared.view.View.{View}
 use Rattle.map_table.specs.Values.{first_of}
 use Rattle.map_table.specs.Held.{Goes, Holder, IsKnown, IsReady, IsSized, TableView}
 use Rattle.map_table_laws.specs.History.{inside, IsReader}
-use Rattle.map_table.specs.declared.view.TableShape.{TableShape}
+use Rattle.table_words.specs.declared.view.TableShape.{TableShape}
 use Rattle.map_table.specs.Hashes.{layout_of}
 use Rattle.map_table.specs.Law.{width_of}
 use Rattle.map_table.proofs.Valued.{few_words, in_element}

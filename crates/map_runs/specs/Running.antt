@@ -9,8 +9,8 @@ use Rattle.map_table_laws.specs.History.{moves_of, with_writer, word_at, Holds}
 use Rattle.map_table_laws.specs.Lookups.{LooksUp}
 use Rattle.map_table_laws.specs.Found.{StaysInside}
 use Rattle.map_table_laws.specs.Whole.{OnlyWriterStores}
-use Rattle.map_table.specs.declared.view.TableShape.{TableShape}
-use Rattle.map_table.specs.declared.view.View.{View}
+use Rattle.table_words.specs.declared.view.TableShape.{TableShape}
+use Rattle.table_words.specs.declared.view.View.{View}
 use Rattle.map_table.specs.Values.{first_of, owner_of}
 use Rattle.map_table.specs.Hashes.{layout_of}
 use Rattle.map_table.specs.Held.{Goes, Holder}

@@ -5,7 +5,7 @@ use Rattle.map_table_laws.specs.declared.moves.Move.{Move}
 use Rattle.map_table_laws.specs.declared.moves.Move.TheVariants.{Open, Close, Load, Store}
 use Rattle.map_table_laws.specs.History.{inside, Holds}
 use Rattle.map_table_laws.specs.Lookups.{LooksUp}
-use Rattle.map_table.specs.declared.view.TableShape.{TableShape}
+use Rattle.table_words.specs.declared.view.TableShape.{TableShape}
 use Rattle.map_table.specs.Hashes.{layout_of}
 use Rattle.shared_runs.specs.Tables.{Table}
 use Rattle.shared_runs.specs.Words.{HasLengths}

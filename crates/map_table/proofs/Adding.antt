@@ -1,14 +1,14 @@
 -- What a call that adds to a word rests on.
-use Rattle.std.proofs.Common.{◌≡◌, ℕ, ◌+◌, ◌%◌, ◌<◌, ◌≤◌, ◌^◌, List, [], ◌∷◌, ◌++◌, refl, sym, ap, ◌∙◌, subst}
+use Rattle.std.proofs.Common.{◌≡◌, ℕ, ◌+◌, ◌%◌, ◌<◌, ◌≤◌, ◌^◌, [], ◌∷◌, ◌++◌, refl, sym, ap, ◌∙◌, subst}
 use mathlib.Core.Option.{none}
 use Rattle.atomic_table.specs.Table.{Me, step, Allows}
 use Rattle.atomic_table.specs.Seated.{TableId}
 use Rattle.map_table_laws.specs.declared.moves.Move.{Move}
 use Rattle.map_table_laws.specs.declared.moves.Move.TheVariants.{Load, Store}
-use Rattle.map_table_laws.specs.History.{opened, most_sections, word_at, Holds, IsReader}
+use Rattle.map_table_laws.specs.History.{word_at, Holds, IsReader}
 use Rattle.map_table.specs.Hashes.{layout_of}
-use Rattle.map_table.specs.declared.view.TableShape.{TableShape}
-use Rattle.map_table.specs.declared.view.View.{View}
+use Rattle.table_words.specs.declared.view.TableShape.{TableShape}
+use Rattle.table_words.specs.declared.view.View.{View}
 use Rattle.map_table.specs.Law.{Kept, GainsBoth, adds, did}
 use Rattle.map_table.specs.Held.{Holder, DoesBoth}
 use Rattle.map_table.specs.Values.{first_of}

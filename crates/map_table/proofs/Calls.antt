@@ -15,8 +15,8 @@ use mathlib.Core.Logic.{dite}
 use native.Mathlib.Decide.{dec_lt}
 use Rattle.map_table.specs.Limits.{section_stride}
 use Rattle.map_table.specs.Hashes.{layout_of}
-use Rattle.map_table.specs.declared.view.TableShape.{TableShape}
-use Rattle.map_table.specs.declared.view.View.{View}
+use Rattle.table_words.specs.declared.view.TableShape.{TableShape}
+use Rattle.table_words.specs.declared.view.View.{View}
 use Rattle.map_table.specs.Law.{ways_from, ways_of, count_of, width_of, did, Kept, Gains, opens, closes, learns, stores, puts, scans}
 use Rattle.map_table.specs.Held.{Holder, Does, IsKnown}
 use Rattle.map_table.proofs.Places.{IsAt}

@@ -9,8 +9,8 @@ use Rattle.map_table_laws.specs.Layout.{Layout}
 use Rattle.map_table_laws.specs.History.{moves_of, word_at, word_after, key_of, Holds, IsSpare, IsOpenTo, MayDo, IsLawful}
 use Rattle.map_table_laws.proofs.Steps.{own, others, key_is}
 use Rattle.map_table_laws.proofs.Holding.{spare_unheld}
-use Rattle.map_table.specs.declared.view.TableShape.{TableShape}
-use Rattle.map_table.specs.declared.view.View.{View}
+use Rattle.table_words.specs.declared.view.TableShape.{TableShape}
+use Rattle.table_words.specs.declared.view.View.{View}
 use Rattle.map_table.specs.Hashes.{layout_of}
 use Rattle.map_table.specs.Held.{Went, IsKnown}
 use Rattle.map_table.proofs.Going.{went_known}

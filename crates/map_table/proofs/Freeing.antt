@@ -4,8 +4,8 @@ use Rattle.std.specs.Prelude.{slice_index, All}
 use Rattle.std.proofs.lemmas.List.{length-drop, length-take-le, get_or-drop, get_or-take, get_or_default, take-append-drop}
 use Rattle.map_table_laws.specs.declared.moves.Move.{Move}
 use Rattle.map_table_laws.specs.History.{Cleared}
-use Rattle.map_table.specs.declared.view.View.{View}
-use Rattle.map_table.specs.declared.sightings.Sighting.{Sighting}
+use Rattle.table_words.specs.declared.view.View.{View}
+use Rattle.table_words.specs.declared.notes.Sighting.{Sighting}
 use Rattle.map_table.specs.Sightings.{sighting_at, AreSightings, Least, AreCleared, IsHeldUp}
 use Rattle.map_table.specs.Writing.{times_in, IsFree, IsUnlinked, IsWriter}
 use Rattle.map_table.proofs.Members.{times_append, all_append}

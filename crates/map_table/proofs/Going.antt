@@ -2,7 +2,7 @@
 use Rattle.std.proofs.Common.{◌≡◌, ℕ, List, [], ◌∷◌, ◌++◌, refl, sym, ap, ◌∙◌, subst, append_assoc, inl, inr}
 use Rattle.map_table_laws.specs.declared.moves.Move.{Move}
 use Rattle.map_table_laws.specs.declared.moves.Move.TheVariants.{Open, Close, Learn, Load, Store}
-use Rattle.map_table.specs.declared.view.View.{View}
+use Rattle.table_words.specs.declared.view.View.{View}
 use Rattle.map_table_laws.specs.History.{moves_of, inside, Holds, IsLawful}
 use Rattle.map_table_laws.specs.Layout.{Names}
 use Rattle.map_table.specs.Hashes.{layout_of}

@@ -11,8 +11,8 @@ use Rattle.map_table_laws.specs.History.{word_in, IsLinked, Cleared, IsSpare}
 use Rattle.map_table_laws.specs.Lookups.{OnlySearches}
 use Rattle.map_table_laws.specs.Scanned.{ScansInTurn}
 use Rattle.map_table_laws.proofs.Steps.{put_here, put_there, one_name, nothing_named}
-use Rattle.map_table.specs.declared.view.TableShape.{TableShape}
-use Rattle.map_table.specs.declared.view.View.{View}
+use Rattle.table_words.specs.declared.view.TableShape.{TableShape}
+use Rattle.table_words.specs.declared.view.View.{View}
 use Rattle.map_table.specs.Law.{ways_of}
 use Rattle.map_table.specs.Counting.{AddsUp}
 use Rattle.map_table.specs.Held.{Went, IsSized}

@@ -18,5 +18,4 @@ pub mod Replacing
 pub mod Seen
 pub mod Unlinking
 pub mod Valued
-pub mod Vectors
 pub mod Walking

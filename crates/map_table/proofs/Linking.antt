@@ -10,12 +10,13 @@ use Rattle.map_table_laws.specs.Layout.{Layout, IsCandidate, Names, tag_in, buck
 use Rattle.map_table_laws.specs.History.{moves_of, word_in, key_of, IsSpare, MayLink, IsLawful}
 use Rattle.map_table_laws.specs.Found.{IsLinkedUnder}
 use Rattle.map_table_laws.proofs.Steps.{own, others, key_put}
-use Rattle.map_table.specs.declared.view.TableShape.{TableShape}
-use Rattle.map_table.specs.declared.view.View.{View}
+use Rattle.table_words.specs.declared.view.TableShape.{TableShape}
+use Rattle.table_words.specs.declared.view.View.{View}
 use Rattle.map_table.specs.Hashes.{layout_of, tag_of, first_bucket, second_bucket}
 use Rattle.map_table.specs.Law.{ways_of}
 use Rattle.map_table.specs.Held.{Holder, Goes, Went, IsKnown}
-use Rattle.map_table.specs.Writing.{Fills, times_in, IsFree, IsWriter, IsOfBoth}
+use Rattle.map_table.specs.Writing.{Fills, times_in, IsFree, IsWriter}
+use Rattle.table_words.specs.Ways.{IsOfBoth}
 use Rattle.map_table.proofs.Going.{went_known}
 use Rattle.atomic_table.specs.Seated.{TableId}
 use Rattle.map_table.proofs.Calls.{holder}

@@ -13,7 +13,7 @@ use Rattle.map_table_laws.specs.History.{inside, Holds, IsLawful}
 use Rattle.map_table_laws.specs.Lookups.{OnlySearches, FoundIn, HadWord, IsElse, Refuted, AnswersLookup, LooksUp}
 use Rattle.map_table_laws.proofs.Moments.{lawful_early, stays_found}
 use Rattle.map_table_laws.proofs.Hits.{hit_linked}
-use Rattle.map_table.specs.declared.view.TableShape.{TableShape}
+use Rattle.table_words.specs.declared.view.TableShape.{TableShape}
 use Rattle.map_table.specs.Hashes.{layout_of, first_bucket, second_bucket, tag_of}
 use Rattle.map_table.specs.Held.{Holder, Goes}
 use Rattle.map_table.specs.Search.{HadKey, HadOther, Searched, StaysThere, WasThere}

@@ -9,8 +9,8 @@ use Rattle.map_table_laws.specs.declared.moves.Move.TheVariants.{Put}
 use Rattle.map_table_laws.specs.Layout.{Names}
 use Rattle.map_table_laws.specs.History.{word_in, IsLinked}
 use Rattle.map_table_laws.proofs.Steps.{one_name, nothing_named}
-use Rattle.map_table.specs.declared.view.TableShape.{TableShape}
-use Rattle.map_table.specs.declared.view.View.{View}
+use Rattle.table_words.specs.declared.view.TableShape.{TableShape}
+use Rattle.table_words.specs.declared.view.View.{View}
 use Rattle.map_table.specs.Held.{Went}
 use Rattle.map_table.specs.Law.{writer_after}
 use Rattle.map_table.specs.Writing.{times_in, IsNoneLost}

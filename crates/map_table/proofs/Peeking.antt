@@ -11,8 +11,8 @@ use Rattle.map_table_laws.specs.Lookups.{OnlySearches}
 use Rattle.map_table_laws.specs.Found.{IsLinkedUnder}
 use Rattle.map_table_laws.proofs.Steps.{own, others, key_learn, key_load, key_word, one_name}
 use Rattle.map_table_laws.proofs.Standing.{fits}
-use Rattle.map_table.specs.declared.view.TableShape.{TableShape}
-use Rattle.map_table.specs.declared.view.View.{View}
+use Rattle.table_words.specs.declared.view.TableShape.{TableShape}
+use Rattle.table_words.specs.declared.view.View.{View}
 use Rattle.map_table.specs.Hashes.{layout_of, tag_of, first_bucket, second_bucket}
 use Rattle.map_table.specs.Held.{Went, IsKnown}
 use Rattle.map_table.proofs.Going.{went_known}

@@ -2,7 +2,7 @@
 use Rattle.std.proofs.Common.{◌≡◌, ℕ, ◌+◌, ◌-◌, ◌*◌, ◌/◌, ◌%◌, ◌<◌, ap, ◌∙◌, sym, subst, arith}
 use Rattle.std.proofs.lemmas.Nat.{div-mul-add, mod-mul-add, same_from_place, mul-add-lt}
 use Rattle.map_table_laws.specs.declared.moves.Move.TheVariants.{Load, Store}
-use Rattle.map_table.specs.declared.view.TableShape.{TableShape}
+use Rattle.table_words.specs.declared.view.TableShape.{TableShape}
 use Rattle.map_table.specs.Law.{base_of, width_of, count_of, index_in}
 
 -- where a word of a slot lies, as an equation

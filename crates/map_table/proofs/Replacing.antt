@@ -11,8 +11,8 @@ use Rattle.map_table_laws.specs.Found.{IsLinkedUnder, BearsKey, KeepsKey, OnlyRe
 use Rattle.map_table_laws.proofs.Looks.{moves_append}
 use Rattle.map_table_laws.proofs.Steps.{own, others}
 use Rattle.map_table_laws.proofs.Writing.{only_replaced}
-use Rattle.map_table.specs.declared.view.TableShape.{TableShape}
-use Rattle.map_table.specs.declared.view.View.{View}
+use Rattle.table_words.specs.declared.view.TableShape.{TableShape}
+use Rattle.table_words.specs.declared.view.View.{View}
 use Rattle.map_table.specs.Hashes.{layout_of}
 use Rattle.map_table.specs.Held.{Went, IsKnown}
 use Rattle.map_table.specs.Writing.{Fills, StaysIn}

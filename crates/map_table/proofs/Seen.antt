@@ -13,9 +13,9 @@ use Rattle.map_table_laws.specs.Layout.{Layout, Names}
 use Rattle.map_table_laws.specs.History.{word_in, FoundSince, HasLeft, Cleared}
 use Rattle.map_table_laws.specs.Lookups.{OnlySearches}
 use Rattle.map_table_laws.specs.Scanned.{ScansInTurn, FoundInside}
-use Rattle.map_table.specs.declared.view.TableShape.{TableShape}
-use Rattle.map_table.specs.declared.view.View.{View}
-use Rattle.map_table.specs.declared.sightings.Sighting.{Sighting}
+use Rattle.table_words.specs.declared.view.TableShape.{TableShape}
+use Rattle.table_words.specs.declared.view.View.{View}
+use Rattle.table_words.specs.declared.notes.Sighting.{Sighting}
 use Rattle.map_table.specs.Counting.{AddsUp}
 use Rattle.map_table.specs.Held.{Went}
 use Rattle.map_table.specs.Reading.{OnlyLoads}

@@ -2,9 +2,9 @@
 use Rattle.std.proofs.Common.{◌≡◌, ◌⊎◌, ℕ, ◌+◌, ◌-◌, ◌*◌, ◌/◌, ◌<◌, ◌≤◌, refl, ap, ◌∙◌, inl, inr, arith}
 use Rattle.std.proofs.lemmas.Nat.{div-mul-add, mul-add-lt, mul-le}
 use Rattle.map_table_laws.specs.History.{IsOpenTo, IsReader}
-use Rattle.map_table.specs.declared.view.Values.{Values}
-use Rattle.map_table.specs.declared.view.Values.TheVariants.{Shared, PerReader}
-use Rattle.map_table.specs.declared.view.TableShape.{TableShape}
+use Rattle.table_words.specs.declared.view.Values.{Values}
+use Rattle.table_words.specs.declared.view.Values.TheVariants.{Shared, PerReader}
+use Rattle.table_words.specs.declared.view.TableShape.{TableShape}
 use Rattle.map_table.specs.Limits.{most_readers, most_words}
 use Rattle.map_table.specs.Values.{copies_by, copies_of, first_by, first_of, owner_by}
 use Rattle.map_table.specs.Hashes.{layout_of}

@@ -14,8 +14,8 @@ use Rattle.map_table_laws.proofs.Steps.{key_word, key_is}
 use Rattle.map_table_laws.proofs.Looks.{moves_append}
 use Rattle.map_table_laws.proofs.Moments.{searches_inside}
 use Rattle.map_table_laws.proofs.Walks.{meets_linked}
-use Rattle.map_table.specs.declared.view.TableShape.{TableShape}
-use Rattle.map_table.specs.declared.view.View.{View}
+use Rattle.table_words.specs.declared.view.TableShape.{TableShape}
+use Rattle.table_words.specs.declared.view.View.{View}
 use Rattle.map_table.specs.Hashes.{layout_of}
 use Rattle.map_table.specs.Held.{Holder, Goes, Went, IsKnown}
 use Rattle.map_table.specs.Reading.{Reads}

@@ -5,7 +5,7 @@ use Rattle.map_table_laws.specs.declared.moves.Move.TheVariants.{Load}
 use Rattle.map_table_laws.specs.History.{moves_of}
 use Rattle.map_table_laws.specs.Lookups.{FoundIn, HadWord, Refuted}
 use Rattle.map_table_laws.specs.Found.{IsLinkedAs, Sometime, StaysFound}
-use Rattle.map_table.specs.declared.view.TableShape.{TableShape}
+use Rattle.table_words.specs.declared.view.TableShape.{TableShape}
 use Rattle.map_table.specs.Hashes.{layout_of}
 
 -- each word of the key was found in the element

@@ -1,13 +1,13 @@
 -- What clauses see of the writer, and what it keeps of its ways and elements.
-use Rattle.std.specs.Prelude.{◌≡◌, ◌≢◌, ◌⊎◌, ℕ, zero, suc, ◌+◌, ◌<◌, ◌≤◌, ◌==◌, List, [], ◌∷◌, ◌++◌, All, length, slice_index, if◌then◌else◌}
+use Rattle.std.specs.Prelude.{◌≡◌, ◌≢◌, ℕ, zero, suc, ◌+◌, ◌<◌, ◌≤◌, ◌==◌, List, [], ◌∷◌, ◌++◌, All, length, slice_index, if◌then◌else◌}
 use Rattle.map_table_laws.specs.declared.moves.Move.{Move}
 use Rattle.map_table_laws.specs.declared.moves.Move.TheVariants.{Store, Put}
-use Rattle.map_table_laws.specs.Layout.{IsCandidate, bucket_ways}
+use Rattle.map_table_laws.specs.Layout.{IsCandidate}
 use Rattle.map_table_laws.specs.History.{word_in, IsLinked, IsSpare}
 use Rattle.map_table_laws.specs.Found.{StaysFound}
 use Rattle.map_table_laws.specs.Scanned.{ScansInTurn}
-use Rattle.map_table.specs.declared.view.TableShape.{TableShape}
-use Rattle.map_table.specs.declared.view.View.{View}
+use Rattle.table_words.specs.declared.view.TableShape.{TableShape}
+use Rattle.table_words.specs.declared.view.View.{View}
 use Rattle.map_table.specs.Hashes.{layout_of}
 use Rattle.map_table.specs.Law.{ways_of}
 use Rattle.map_table.specs.Values.{stored_of}
@@ -56,11 +56,6 @@ IsFree v element = (element < v.shape.elements) × IsSpare v.shape.readers eleme
 -- an element that no way names
 abbrev pub IsUnlinked : View → ℕ → Type 0
 IsUnlinked v element = (element < v.shape.elements) × (IsLinked element v.mine → ⊥)
-
--- the way is of one of two buckets, which begin at these ways
-abbrev pub IsOfBoth : ℕ → ℕ → ℕ → Type 0
-IsOfBoth first second way =
-    ((first ≤ way) × (way < first + bucket_ways)) ⊎ ((second ≤ way) × (way < second + bucket_ways))
 
 -- each way of both buckets names an element
 abbrev pub AreFull : View → List ℕ → Type 0

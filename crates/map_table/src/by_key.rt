@@ -9,11 +9,9 @@ ghost use Rattle.map_table.specs.Hashes.{layout_of, tag_of};
 ghost use Rattle.map_table.specs.Law.{ways_of};
 ghost use Rattle.map_table.specs.Held.{IsKnown, Went};
 
-use crate::hash::{candidates_of, named};
-use crate::limits::BUCKET_WAYS;
 use crate::table::MapTable;
-use crate::view::View;
 use atomic_table::Seat;
+use table_words::{BUCKET_WAYS, View, candidates_of, named};
 
 /// Whether an element has this key.
 fn has_key(table: &MapTable, seat: &mut Seat<u8, View>, element: usize, key: &[u64]) -> bool

@@ -6,27 +6,20 @@
 #![tactic(auto)]
 
 mod by_key;
-mod counting;
-mod hash;
-mod keys;
-mod limits;
 mod lookup;
 mod meeting;
 mod reading;
-mod rule;
 mod seats;
 mod setup;
 mod sightings;
-mod sip;
 mod table;
-mod view;
 mod writer;
 mod writing;
 
-pub use limits::{BUCKET_WAYS, MAX_BUCKETS, MAX_ELEMENTS, MAX_READERS, MAX_WORDS};
-pub use rule::{Closes, Deals, Law, Learns, Loads, Opens, Puts, SECTION_STRIDE, Scans, Stores};
 pub use seats::Seats;
-pub use sip::Secret;
 pub use table::{MapTable, ReadSeat};
-pub use view::{TableShape, Values, View};
+pub use table_words::{
+    BUCKET_WAYS, Closes, Deals, Law, Learns, Loads, MAX_BUCKETS, MAX_ELEMENTS, MAX_READERS,
+    MAX_WORDS, Opens, Puts, SECTION_STRIDE, Scans, Secret, Stores, TableShape, Values, View,
+};
 pub use writer::Writer;

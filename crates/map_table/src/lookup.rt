@@ -9,9 +9,8 @@ ghost use Rattle.map_table.specs.Law.{ways_from, ways_of};
 ghost use Rattle.map_table.specs.Held.{IsKnown, Goes};
 ghost use Rattle.map_table.specs.Search.{HadKey, HadOther, Searched, StaysThere, WasThere};
 
-use crate::hash::{candidates_of, named};
-use crate::limits::BUCKET_WAYS;
 use crate::table::{MapTable, ReadSeat};
+use table_words::{BUCKET_WAYS, candidates_of, named};
 
 impl MapTable {
     /// An element that is linked under the key, or `None` where each way of the key's two buckets was found without it.
@@ -29,7 +28,7 @@ impl MapTable {
         ensures inside { inside seat.new.view.mine ≡ 1 }
         ensures held { IfSome result (λ element. Holds element seat.new.view.mine) }
         ensures element { IfSome result (λ element. element < self.now.shape.elements) }
-        ensures known { (element : ℕ) → Holds element seat.old.view.mine →
+        ensures keeps { (element : ℕ) → Holds element seat.old.view.mine →
             Holds element seat.new.view.mine }
 
         // A key that stays linked in one way through these moves, also while its value is replaced, is found.

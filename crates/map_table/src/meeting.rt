@@ -12,7 +12,7 @@ ghost use Rattle.map_table.specs.Held.{IsKnown, Does, Goes};
 ghost use Rattle.map_table.specs.Reading.{Reads, ReadsWay};
 
 use crate::table::{MapTable, ReadSeat};
-use crate::writing::element_in;
+use table_words::element_in;
 
 impl MapTable {
     /// Learns a way, and loads the key of the element that it names: the element, whose words may be loaded, and those of
@@ -34,7 +34,7 @@ impl MapTable {
         ensures inside { inside seat.new.view.mine ≡ 1 }
         ensures held { IfSome result (λ element. Holds element seat.new.view.mine) }
         ensures within { IfSome result (λ element. element < self.now.shape.elements) }
-        ensures known { (element : ℕ) → Holds element seat.old.view.mine →
+        ensures keeps { (element : ℕ) → Holds element seat.old.view.mine →
             Holds element seat.new.view.mine }
 
         // These moves were one learn of the way, and one load for each word of the key.

@@ -4,26 +4,12 @@ ghost use Rattle.std.specs.List.{range_with_len};
 ghost use Rattle.map_table.specs.Law.{writer_after};
 ghost use Rattle.map_table.specs.Held.{AreInOrder, IsReady, IsNew, IsSized};
 
-use crate::limits::BUCKET_WAYS;
-use crate::rule::SECTION_STRIDE;
 use crate::seats::Seats;
 use crate::table::MapTable;
-use crate::view::{TableShape, View};
 use crate::writer::Writer;
 use atomic_table::Seat;
 use std::alloc::{AllocError, Global};
-
-/// So many zeros.
-pub(crate) fn zeros(alloc: Global, count: usize) -> Result<Vec<u64>, AllocError>
-    ensures len { IfOk result (λ v. vec_len v ≡ count) }
-    ensures zeros { IfOk result (λ v. (j : ℕ) → slice_index v.items j ≡ 0) }
-{
-    let mut v = Vec::with_capacity(alloc, count)?;
-    for _ in 0..count {
-        v.push_reserved(0);
-    }
-    Ok(v)
-}
+use table_words::{BUCKET_WAYS, SECTION_STRIDE, TableShape, View, zeros};
 
 /// The numbers below `count`, in order.
 pub(crate) fn numbers(alloc: Global, count: usize) -> Result<Vec<usize>, AllocError>

@@ -4,20 +4,19 @@ ghost use Rattle.std.specs.Prelude.{◌≡◌, ◌≢◌, ◌⊎◌, ℕ, ◌+�
 ghost use Rattle.map_table_laws.specs.declared.moves.Move.TheVariants.{Open, Close, Learn, Load, Store, Put, Scan};
 ghost use Rattle.map_table_laws.specs.Layout.{Names};
 ghost use Rattle.map_table_laws.specs.History.{inside, most_sections, word_at, Holds, IsSpare, IsReader, MayLink};
-ghost use Rattle.map_table.specs.declared.view.View.{View};
+ghost use Rattle.table_words.specs.declared.view.View.{View};
 ghost use Rattle.map_table.specs.Hashes.{layout_of};
 ghost use Rattle.map_table.specs.Law.{Kept, ways_from, ways_of, count_of, base_of, width_of, writer_after};
 ghost use Rattle.map_table.specs.Values.{first_of};
 ghost use Rattle.map_table.specs.Held.{IsSized, IsKnown, IsReady, IsNew, Does, DoesBoth, Went};
 
-use crate::limits::BUCKET_WAYS;
-use crate::rule::{
-    Adds, Closes, Deals, Law, Learns, Loads, Opens, Puts, SECTION_STRIDE, Scans, Stores,
-};
-use crate::view::{TableShape, View};
 use atomic_table::{Seat, Shared, Table, TableRule};
 use std::alloc::{AllocError, Global};
 use std::marker::Model;
+use table_words::{
+    Adds, BUCKET_WAYS, Closes, Deals, Law, Learns, Loads, Opens, Puts, SECTION_STRIDE, Scans,
+    Stores, TableShape, View, even_after,
+};
 
 /// Words that readers and one writer share with no lock. Contracts see which table it is, and how many of each it has.
 #[derive(Drop)]
@@ -44,9 +43,6 @@ impl Model for MapTable {
         × (t.table.shared.table_id.words ≡ count_of t.shape) × IsSized t.shape
         × (t.base ≡ base_of t.shape) × (t.width ≡ width_of t.shape) × (t.ways ≡ ways_from t.shape) };
 }
-
-/// The section word of a reader outside, from which on it counts no more sections.
-const LAST_WORD: u64 = 1 << 63;
 
 /// A reader's seat at a table. Contracts see at which, and what the reader did and saw there. A seat that is dropped
 /// inside a section keeps elements from being filled anew, for ever: those that are unlinked later, and those that were unlinked
@@ -80,16 +76,6 @@ impl Model for ReadSeat {
         × (s.section + section_stride ≡ s.seat.me.0.me * section_stride) × (s.seat.me.1 ≡ [])
         × (s.first ≡ first_of s.seat.me.0.shape s.seat.me.0.me)
         × (s.even ≡ 2 * min (opened s.seat.me.0.mine) most_sections) };
-}
-
-/// The even word after this one, up to the last.
-#[inline]
-fn even_after(even: u64) -> u64
-    requires small { even ≤ 2 * most_sections }
-    ensures counts { even < 2 * most_sections → result ≡ even + 2 }
-    ensures stops { even ≡ 2 * most_sections → result ≡ even }
-{
-    if even < LAST_WORD { even + 2 } else { even }
 }
 
 impl ReadSeat {

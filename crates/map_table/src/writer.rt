@@ -17,19 +17,18 @@ ghost use Rattle.map_table.specs.Sightings.{IsHeldUp};
 ghost use Rattle.map_table.specs.Writing.{Puts, Works, Looks, Frees, AreFull, StaysIn, IsFree, IsUnlinked, IsNoneLost, times_in};
 
 use crate::by_key::find_way;
-use crate::counting::add_up;
-use crate::hash::candidates_of;
-use crate::keys::load_key;
-use crate::limits::BUCKET_WAYS;
-use crate::reading::load_values;
-use crate::setup::{numbers, zeros};
-use crate::sightings::{Sighting, least_of, look_round, lower_each, move_first, no_sightings};
+use crate::reading::{add_up, load_key, load_values};
+use crate::setup::numbers;
+use crate::sightings::look_round;
 use crate::table::MapTable;
-use crate::view::{TableShape, View};
-use crate::writing::{element_in, empty_of_both, fill_element, put_word, way_word};
+use crate::writing::{fill_element, put_word};
 use atomic_table::Seat;
 use std::alloc::{AllocError, Global};
 use std::marker::Model;
+use table_words::{
+    BUCKET_WAYS, Sighting, TableShape, View, candidates_of, element_in, empty_of_both, least_of,
+    lower_each, move_first, no_sightings, way_word, zeros,
+};
 
 /// Links elements under keys, replaces and unlinks them, and reclaims them. Contracts see at which table, what it did and
 /// saw there, the elements that it may fill, and those that it has unlinked and not yet reclaimed.

@@ -1,21 +1,17 @@
 //! What the calls of the writer are made of.
-ghost use Rattle.std.specs.Prelude.{◌≡◌, ◌≢◌, ◌⊎◌, ℕ, ◌+◌, ◌^◌, ◌<◌, ◌≤◌, List, ◌∷◌, ◌++◌, length, slice_index, slice_set, ◌%◌, IsNone, IfSome};
+ghost use Rattle.std.specs.Prelude.{◌≡◌, ◌⊎◌, ℕ, ◌+◌, ◌<◌, ◌≤◌, List, ◌∷◌, ◌++◌, length, slice_index, slice_set};
 ghost use Rattle.map_table_laws.specs.declared.moves.Move.{Move};
 ghost use Rattle.map_table_laws.specs.declared.moves.Move.TheVariants.{Put};
-ghost use Rattle.map_table_laws.specs.Layout.{bucket_ways, Names, tag_in};
 ghost use Rattle.map_table_laws.specs.History.{word_at, key_of, IsSpare, MayLink};
 ghost use Rattle.map_table.specs.Hashes.{layout_of};
-ghost use Rattle.map_table.specs.Limits.{most_elements};
 ghost use Rattle.map_table.specs.Law.{width_of, ways_of};
 ghost use Rattle.map_table.specs.Values.{stored_of};
 ghost use Rattle.map_table.specs.Held.{IsKnown, Went, IsSized};
-ghost use Rattle.map_table.specs.Writing.{Fills, IsOfBoth};
+ghost use Rattle.map_table.specs.Writing.{Fills};
 
-use crate::hash::Candidates;
-use crate::limits::BUCKET_WAYS;
 use crate::table::MapTable;
-use crate::view::View;
 use atomic_table::Seat;
+use table_words::View;
 
 /// Writes words into a spare element, from a place on.
 pub(crate) fn fill(
@@ -75,77 +71,6 @@ pub(crate) fn fill_element(
     fill(table, seat, element, shape.key_words, value);
 }
 
-/// The first way of a bucket that is empty, by the words of all ways.
-pub(crate) fn empty_way(ways: &[u64], first: usize) -> Option<usize>
-    requires { first + bucket_ways ≤ length ways.now }
-    ensures some { IfSome result (λ way. (first ≤ way) × (way < first + bucket_ways)
-        × (slice_index ways.now way ≡ 0)) }
-    ensures none { IsNone result → (way : ℕ) → first ≤ way → way < first + bucket_ways →
-        slice_index ways.now way ≢ 0 }
-{
-    for at in 0..BUCKET_WAYS {
-        if ways[first + at] == 0 {
-            return Some(first + at);
-        }
-    }
-    None
-}
-
-/// How many ways of a bucket are empty.
-fn count_empty(ways: &[u64], first: usize) -> usize
-    requires { first + bucket_ways ≤ length ways.now }
-    ensures { result ≤ bucket_ways }
-{
-    let mut count = 0;
-    for at in 0..BUCKET_WAYS {
-        if ways[first + at] == 0 {
-            count += 1;
-        }
-    }
-    count
-}
-
-/// An empty way of the one bucket, else of the other.
-fn empty_of(ways: &[u64], one: usize, other: usize) -> Option<usize>
-    requires one { one + bucket_ways ≤ length ways.now }
-    requires other { other + bucket_ways ≤ length ways.now }
-    ensures some { IfSome result (λ way. IsOfBoth one other way × (slice_index ways.now way ≡ 0)) }
-    ensures none { IsNone result → (way : ℕ) → IsOfBoth one other way →
-        slice_index ways.now way ≢ 0 }
-{
-    if let Some(way) = empty_way(ways, one) {
-        return Some(way);
-    }
-    empty_way(ways, other)
-}
-
-/// An empty way of a key's two buckets: of that with more of them, so that buckets fill evenly.
-pub(crate) fn empty_of_both(ways: &[u64], candidates: Candidates) -> Option<usize>
-    requires first { candidates.first + bucket_ways ≤ length ways.now }
-    requires second { candidates.second + bucket_ways ≤ length ways.now }
-    ensures some { IfSome result (λ way. IsOfBoth candidates.first candidates.second way
-        × (slice_index ways.now way ≡ 0)) }
-    ensures none { IsNone result → (way : ℕ) → IsOfBoth candidates.first candidates.second way →
-        slice_index ways.now way ≢ 0 }
-{
-    if count_empty(ways, candidates.first) >= count_empty(ways, candidates.second) {
-        empty_of(ways, candidates.first, candidates.second)
-    } else {
-        empty_of(ways, candidates.second, candidates.first)
-    }
-}
-
-/// The word of a way that names an element, with the tag of its key.
-#[inline]
-pub(crate) fn way_word(tag: u64, element: usize) -> u64
-    requires tag { tag < 2 ^ 32 }
-    requires element { element < most_elements }
-    ensures names { Names result element }
-    ensures tag { tag_in result ≡ tag }
-{
-    (tag << 32) + (element as u64 + 1)
-}
-
 /// Puts a word in a way, and notes it.
 pub(crate) fn put_word(
     table: &MapTable,
@@ -167,13 +92,4 @@ pub(crate) fn put_word(
 {
     table.put(seat, way, word);
     ways[way] = word;
-}
-
-/// The number of the element that a way's word names.
-#[inline]
-pub(crate) fn element_in(word: u64) -> usize
-    requires { word % 2 ^ 32 ≢ 0 }
-    ensures { Names word result }
-{
-    ((word & 0xffff_ffff) - 1) as usize
 }

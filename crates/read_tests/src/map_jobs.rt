@@ -14,9 +14,9 @@ use std::thread::Threads;
 use verifier::Verified;
 use worker_pool::{Job, PoolFault, Report, run_table_jobs};
 
-/// A table of keys and values of a word, for two readers.
+/// A table of keys and values of a word, for as many readers as there may be.
 const SHAPE: TableShape = TableShape {
-    readers: 2,
+    readers: 64,
     buckets: 2,
     elements: 8,
     key_words: 1,
@@ -65,7 +65,7 @@ fn three_programs(alloc: Global, table: &MapTable) -> Result<[Verified; 3], Fail
     Ok([lookup, load, store])
 }
 
-/// What comes of jobs that the two seats of a table serve.
+/// What comes of jobs that the seats of a table serve, each in a thread of its own.
 fn serve<R: Threads + Wait + Sync>(
     rt: &R,
     alloc: Global,
@@ -73,7 +73,7 @@ fn serve<R: Threads + Wait + Sync>(
     seats: &mut Vec<ReadSeat>,
     jobs: &[Job],
 ) -> Result<Result<Report<()>, PoolFault>, Fail>
-    requires two { vec_len seats.old ≡ 2 }
+    requires all { vec_len seats.old ≡ 64 }
     requires ready { All (IsReady table.now) seats.old.items }
 {
     let programs = three_programs(alloc, table)?;
@@ -94,8 +94,8 @@ fn serve_from_new<R: Threads + Wait + Sync>(
 
 #[test]
 fn each_job_over_a_map_table_has_its_outcome(rt: HostRuntime) -> Result<(), Fail> {
-    let jobs = jobs_of(rt.alloc(), KINDS, 5)?;
+    let jobs = jobs_of(rt.alloc(), KINDS, 1000)?;
     let served = serve_from_new(&rt, rt.alloc(), &jobs)?;
-    assert!(rt; counts(served, KINDS) == Ok([5, 0]));
+    assert!(rt; counts(served, KINDS) == Ok([1000, 0]));
     Ok(())
 }

@@ -1,7 +1,7 @@
 -- What the readers of a table need.
 use Rattle.std.specs.Prelude.{◌≡◌}
 use Rattle.verifier.specs.Checked.{Checked}
-use Rattle.map_table.specs.declared.view.TableShape.{TableShape}
+use Rattle.table_words.specs.declared.view.TableShape.{TableShape}
 use Rattle.map_table.specs.Held.{IsReady, TableView}
 use Rattle.map_table.specs.Values.{stored_of}
 use Rattle.map_runs.specs.Running.{ServesMaps}

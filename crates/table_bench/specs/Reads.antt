@@ -3,7 +3,7 @@ use Rattle.std.specs.Prelude.{◌≡◌}
 use Rattle.read_table.specs.declared.view.TableShape.{TableShape}
 use Rattle.verifier.specs.Checked.{Checked}
 use Rattle.read_table.specs.Table.{table_of}
-use Rattle.map_table.specs.declared.view.TableShape.{TableShape as MapTableShape}
+use Rattle.table_words.specs.declared.view.TableShape.{TableShape as MapTableShape}
 use Rattle.map_table.specs.Values.{stored_of}
 use Rattle.map_runs.specs.Running.{ServesMaps}
 use Rattle.shared_runs.specs.Words.{FitsTable, StoresSubWords}

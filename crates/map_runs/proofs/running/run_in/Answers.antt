@@ -1,5 +1,5 @@
 use Rattle.std.proofs.Common.{◌≡◌, sym, ◌∙◌, ap, subst}
-use Rattle.map_table.specs.declared.view.TableShape.{TableShape}
+use Rattle.table_words.specs.declared.view.TableShape.{TableShape}
 use Rattle.map_table.specs.Values.{first_of}
 use Rattle.map_table.specs.Held.{Goes, IsSized, TableView}
 use Rattle.shared_runs.specs.Running.{RunsOver}

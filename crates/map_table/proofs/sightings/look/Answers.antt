@@ -4,8 +4,8 @@ use mathlib.Core.Logic.{dite}
 use native.Mathlib.Decide.{ℕ_discrete}
 use Rattle.map_table_laws.specs.declared.moves.Move.TheVariants.{Scan}
 use Rattle.map_table_laws.proofs.Words.{odd_else}
-use Rattle.map_table.specs.declared.view.TableShape.{TableShape}
-use Rattle.map_table.specs.declared.sightings.Sighting.{Sighting}
+use Rattle.table_words.specs.declared.view.TableShape.{TableShape}
+use Rattle.table_words.specs.declared.notes.Sighting.{Sighting}
 use Rattle.map_table.specs.Sightings.{no_sighting, sighting_at, IsNoted}
 use Rattle.map_table.proofs.Seen.{set_here, sightings_looked}
 use Rattle.map_table.proofs.sightings.look.Goals as goal

@@ -1,5 +1,5 @@
 use Rattle.std.proofs.Common.{◌<◌, sym, subst}
-use Rattle.map_table.specs.declared.view.TableShape.{TableShape}
+use Rattle.table_words.specs.declared.view.TableShape.{TableShape}
 use Rattle.map_table.specs.Values.{stored_of}
 use Rattle.map_table.specs.Writing.{Fills}
 use Rattle.map_table.proofs.Going.{went_then}

@@ -1,5 +1,5 @@
 use Rattle.std.proofs.Common.{subst, arith}
-use Rattle.map_table.specs.declared.view.TableShape.{TableShape}
+use Rattle.table_words.specs.declared.view.TableShape.{TableShape}
 use Rattle.map_table.specs.Held.{IsSized}
 use Rattle.map_runs.proofs.Serving.{in_own_value}
 use Rattle.map_runs.proofs.running.PlacedServesRuns.load.Goals as goal

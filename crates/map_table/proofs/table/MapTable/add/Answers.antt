@@ -1,5 +1,5 @@
-use Rattle.std.proofs.Common.{ℕ, ◌+◌, ◌<◌, ◌≤◌, ◌%◌, ◌^◌, sym, ap, ◌∙◌, subst}
-use Rattle.map_table.specs.declared.view.TableShape.{TableShape}
+use Rattle.std.proofs.Common.{ℕ, ◌+◌, ◌<◌, ◌≤◌, sym, ap, ◌∙◌, subst}
+use Rattle.table_words.specs.declared.view.TableShape.{TableShape}
 use Rattle.map_table_laws.specs.History.{Holds, IsReader}
 use Rattle.map_table.specs.Hashes.{layout_of}
 use Rattle.map_table.specs.Law.{width_of}

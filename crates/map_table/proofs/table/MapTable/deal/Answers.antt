@@ -1,6 +1,6 @@
 use Rattle.std.proofs.Common.{ℕ, ◌<◌, sym, ap, ◌∙◌, subst, arith}
 use Rattle.atomic_table.specs.Table.{Me}
-use Rattle.map_table.specs.declared.view.View.{View}
+use Rattle.table_words.specs.declared.view.View.{View}
 use Rattle.map_table.proofs.Keeps.{deals_ok}
 use Rattle.map_table.specs.Held.{TableView}
 use Rattle.map_table.proofs.table.MapTable.deal.Goals as goal

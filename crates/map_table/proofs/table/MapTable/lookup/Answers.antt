@@ -14,8 +14,8 @@ returns-clause-held c =
     let h = c.search_both-found.ensures.searched in
     answers_held c.args.self.now.shape c.args.key.now c.args.seat.now c.search_both-found.new.seat h.0 c.search_both-found.result h.1 h.2
 
-pub returns-clause-known : goal.returns-clause-known
-returns-clause-known c =
+pub returns-clause-keeps : goal.returns-clause-keeps
+returns-clause-keeps c =
     let h = c.search_both-found.ensures.searched in
     searched_holds c.args.self.now.shape c.args.seat.now c.search_both-found.new.seat h.0 h.1 h.2.only
 

@@ -46,8 +46,8 @@ returns-clause-held c =
 pub returns-clause-within : goal.returns-clause-within
 returns-clause-within c = c.learn-word.ensures.within c.element_in-element.result c.element_in-element.ensures
 
-pub returns-clause-known : goal.returns-clause-known
-returns-clause-known c =
+pub returns-clause-keeps : goal.returns-clause-keeps
+returns-clause-keeps c =
     let h = c.copy_key.ensures.loaded in
     let first = Learn c.args.way c.learn-word.result ∷ [] in
     searched_holds c.args.self.now.shape c.args.seat.now c.copy_key.new.seat (h.0 ++ first)

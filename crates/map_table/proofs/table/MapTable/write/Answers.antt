@@ -1,5 +1,5 @@
 use Rattle.std.proofs.Common.{◌<◌, sym, ap, ◌∙◌, subst}
-use Rattle.map_table.specs.declared.view.TableShape.{TableShape}
+use Rattle.table_words.specs.declared.view.TableShape.{TableShape}
 use Rattle.map_table_laws.specs.declared.moves.Move.TheVariants.{Store}
 use Rattle.map_table_laws.specs.History.{IsSpare}
 use Rattle.map_table.specs.Law.{width_of}

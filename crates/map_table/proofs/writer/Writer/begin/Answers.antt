@@ -1,6 +1,6 @@
 use Rattle.std.proofs.Common.{rules, ◌≡◌, ◌*◌, length, ap}
 use Rattle.atomic_table.specs.Table.{Me}
-use Rattle.map_table.specs.declared.view.View.{View}
+use Rattle.table_words.specs.declared.view.View.{View}
 use Rattle.std.proofs.Common.{ℕ}
 use Rattle.map_table.proofs.Lost.{first_none_lost}
 use Rattle.map_table.proofs.Seen.{sightings_first}

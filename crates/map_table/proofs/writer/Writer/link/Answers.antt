@@ -5,7 +5,7 @@ use Rattle.map_table_laws.specs.declared.moves.Move.TheVariants.{Put}
 use Rattle.map_table_laws.specs.History.{IsSpare}
 use Rattle.map_table_laws.specs.Layout.{IsCandidate}
 use Rattle.map_table.specs.Values.{stored_of}
-use Rattle.map_table.specs.declared.view.TableShape.{TableShape}
+use Rattle.table_words.specs.declared.view.TableShape.{TableShape}
 use Rattle.map_table.specs.Hashes.{layout_of, first_bucket, second_bucket, tag_of}
 use Rattle.map_table.specs.Law.{ways_of}
 use Rattle.map_table.specs.Held.{TableView}

@@ -2,7 +2,7 @@ use Rattle.std.proofs.Common.{rules, ◌≡◌, ◌++◌, ◌∙◌, sym, ap, su
 use Rattle.std.specs.Prelude.{All}
 use Rattle.std.proofs.lemmas.List.{length-take-le, take-append-drop}
 use Rattle.map_table_laws.specs.Scanned.{ScansInTurn}
-use Rattle.map_table.specs.declared.view.TableShape.{TableShape}
+use Rattle.table_words.specs.declared.view.TableShape.{TableShape}
 use Rattle.map_table.specs.Held.{TableView}
 use Rattle.map_table.specs.Sightings.{AreSightings, AreCleared, IsHeldUp, Least}
 use Rattle.map_table.specs.Writing.{WriterView, as_holder, IsWriter, IsNoneLost}

@@ -4,7 +4,7 @@ use Rattle.map_table_laws.specs.History.{IsSpare, word_in}
 use Rattle.map_table_laws.specs.Layout.{Names, IsCandidate}
 use Rattle.map_table_laws.specs.Found.{IsLinkedUnder}
 use Rattle.map_table.specs.Values.{stored_of}
-use Rattle.map_table.specs.declared.view.TableShape.{TableShape}
+use Rattle.table_words.specs.declared.view.TableShape.{TableShape}
 use Rattle.map_table.specs.Hashes.{layout_of, tag_of}
 use Rattle.map_table.specs.Law.{ways_of}
 use Rattle.map_table.specs.Held.{TableView}

@@ -2,7 +2,7 @@ use Rattle.std.proofs.Common.{rules, ◌≢◌, ◌<◌, [], ◌∷◌, ◌++◌
 use Rattle.map_table_laws.specs.declared.moves.Move.TheVariants.{Put}
 use Rattle.map_table_laws.specs.Layout.{Names}
 use Rattle.map_table_laws.specs.History.{word_in}
-use Rattle.map_table.specs.declared.view.TableShape.{TableShape}
+use Rattle.table_words.specs.declared.view.TableShape.{TableShape}
 use Rattle.map_table.specs.Law.{ways_of}
 use Rattle.map_table.specs.Held.{TableView}
 use Rattle.map_table.specs.Writing.{WriterView, as_holder, IsWriter, IsNoneLost}

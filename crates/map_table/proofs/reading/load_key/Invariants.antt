@@ -1,0 +1,14 @@
+use Rattle.std.proofs.Common.{◌≡◌, ℕ, ◌<◌, ◌++◌, List, length}
+use Rattle.std.specs.Prelude.{slice_index}
+use Rattle.map_table_laws.specs.declared.moves.Move.{Move}
+use Rattle.map_table_laws.specs.History.{word_at}
+use Rattle.map_table_laws.specs.Lookups.{OnlySearches}
+use Rattle.map_table.specs.Hashes.{layout_of}
+use Rattle.map_table.specs.Held.{Went}
+use Rattle.map_table.proofs.reading.load_key.Given as goal
+
+abbrev pub invariant-loop-place : goal.invariant-loop-place
+invariant-loop-place l = (l.seat.table_id ≡ l.fn.seat.table_id) × (l.seat.me.1 ≡ l.fn.seat.me.1) ×
+    ((ms : List Move) × OnlySearches (layout_of l.table.shape) 0 ms × Went l.fn.seat.me.0 (ms ++ l.fn.seat.me.0.mine) l.seat.me.0) ×
+    (length l.key ≡ length l.fn.key) ×
+    ((p : ℕ) → p < l.place → slice_index l.key p ≡ word_at l.element p l.seat.me.0.seen)

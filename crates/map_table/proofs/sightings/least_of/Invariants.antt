@@ -1,7 +1,0 @@
-use Rattle.std.proofs.Common.{◌≡◌, ◌⊎◌, ℕ, ◌<◌, ◌≤◌, length}
-use Rattle.map_table.specs.Sightings.{sighting_at}
-use Rattle.map_table.proofs.sightings.least_of.Given as goal
-
-abbrev pub invariant-loop-at : goal.invariant-loop-at
-invariant-loop-at l = (l.least ≤ l.most) × ((j : ℕ) → j < l.at → l.least ≤ (sighting_at l.seen j).cleared) ×
-    ((l.least ≡ l.most) ⊎ ((j : ℕ) × (j < length l.seen) × ((sighting_at l.seen j).cleared ≡ l.least)))

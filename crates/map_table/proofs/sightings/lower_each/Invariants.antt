@@ -1,8 +1,0 @@
-use Rattle.std.proofs.Common.{◌≡◌, ℕ, ◌<◌, ◌≤◌, length}
-use Rattle.map_table.specs.Sightings.{sighting_at, IsLowered}
-use Rattle.map_table.proofs.sightings.lower_each.Given as goal
-
-abbrev pub invariant-loop-at : goal.invariant-loop-at
-invariant-loop-at l = (length l.seen.items ≡ length l.fn.seen.items) ×
-    ((j : ℕ) → j < l.at → IsLowered l.by (sighting_at l.fn.seen.items j) (sighting_at l.seen.items j)) ×
-    ((j : ℕ) → l.at ≤ j → sighting_at l.seen.items j ≡ sighting_at l.fn.seen.items j)

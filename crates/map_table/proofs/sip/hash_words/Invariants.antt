@@ -1,6 +1,0 @@
-use Rattle.std.proofs.Common.{◌≡◌, drop, fold}
-use Rattle.map_table.specs.Sip.{begun, absorbed}
-use Rattle.map_table.proofs.sip.hash_words.Given as goal
-
-abbrev pub invariant-loop-at : goal.invariant-loop-at
-invariant-loop-at l = fold absorbed l.state (drop l.at l.words) ≡ fold absorbed (begun l.fn.secret) l.words
