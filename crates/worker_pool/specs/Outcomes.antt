@@ -7,7 +7,7 @@ use Rattle.world_laws.specs.Exits.{MayExitAs, ExitsAs}
 use Rattle.job_queue.specs.declared.fault.PoolFault.{PoolFault}
 use Rattle.job_queue.specs.declared.fault.PoolFault.TheVariants.{BadWorkers, TooManyJobs, Memory}
 use Rattle.job_queue.specs.declared.fault.PoolFault.TheVariants.{Lost}
-use Rattle.job_queue.specs.Serving.{most_jobs}
+use Rattle.job_queue.specs.Serving.{IsBadCount, most_jobs}
 use Rattle.shared_books.specs.Books.{most_workers}
 use Rattle.verifier.specs.Checked.{Checked}
 use Rattle.worker_pool.specs.declared.job.Job.{Job}
@@ -16,9 +16,9 @@ use Rattle.worker_pool.specs.declared.job.Outcome.TheVariants.{Exit, Stopped}
 use Rattle.worker_pool.specs.declared.job.StopCause.{StopCause}
 use Rattle.worker_pool.specs.declared.job.StopCause.TheVariants.{SubWord}
 
--- no number of threads for a shared world of so many workers
+-- no number of threads for a shared world of so many workers: more than its most, or none for a pool of so many
 abbrev pub AreBadWorkers : ℕ → ℕ → Type 0
-AreBadWorkers threads workers = (threads ≡ 0) ⊎ (most_workers < threads) ⊎ (workers < threads)
+AreBadWorkers threads workers = (most_workers < threads) ⊎ IsBadCount threads workers
 
 -- The fault is one of so many workers and jobs, or of memory. No result is lost.
 abbrev pub IsFaultOf : ℕ → ℕ → PoolFault → Type 0

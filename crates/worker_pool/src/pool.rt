@@ -17,6 +17,11 @@ use std::sync::Wait;
 use std::sync::ledger::Ledger;
 use std::thread::Threads;
 
+/// A law: workers who have served nothing are later than themselves.
+fn unchanged<L: Ledger>(workers: &Workers<L>)
+    ensures { AllZip IsLater workers.now workers.now }
+{}
+
 /// Serves all jobs from a shared world by the last of its workers, each in a thread of its own: one outcome a
 /// job, in job order. The workers come back whatever the answer, in their order.
 ///
@@ -54,6 +59,7 @@ pub fn run_jobs<L: Ledger + Send + Sync, R: Threads + Wait + Sync>(
     ensures shared_out { IfOk result (λ report. AreSharedOut (IsServedOnce shared.now) jobs.now
         workers.old workers.new report.jobs.items) }
 {
+    unchanged(workers);
     if threads > MAX_WORKERS as usize {
         return Err(PoolFault::BadWorkers);
     }
