@@ -5,7 +5,7 @@ use Rattle.classic_program.specs.declared.data.Data.{Data}
 use Rattle.classic_program.specs.declared.data.Data.TheVariants.{Packet}
 use Rattle.classic_program.specs.declared.insn.ClassicReg.{ClassicReg}
 use Rattle.classic_program.specs.declared.insn.Datum.{Datum}
-use Rattle.classic_program.specs.declared.insn.Datum.TheVariants.{Bytes, Indexed, HeaderLength}
+use Rattle.classic_program.specs.declared.insn.Datum.TheVariants.{Bytes, Indexed}
 use Rattle.classic_program.specs.declared.insn.LoadSize.{LoadSize}
 use Rattle.classic.specs.declared.notes.Note.{Note}
 use Rattle.classic.specs.Layout.{fetch, check, load_indexed, load_block, keeps, register_of}
