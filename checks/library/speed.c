@@ -178,6 +178,41 @@ static void open_filter(void)
 	bpfrt_prog_close(&prog);
 }
 
+/* The same filter as an array of struct sock_filter, and its translation, the eBPF program that the others run. */
+static unsigned char array[4096 * 8], translation[LONGEST];
+static size_t array_size, translation_size;
+
+static void read_array(void)
+{
+	char *at = (char *)listing;
+	long count = strtol(at, &at, 10);
+	for (long number = 0; number < count && number < 4096; number++) {
+		uint16_t code = (uint16_t)strtoul(at, &at, 10);
+		unsigned char if_true = (unsigned char)strtoul(at, &at, 10);
+		unsigned char if_false = (unsigned char)strtoul(at, &at, 10);
+		uint32_t k = (uint32_t)strtoul(at, &at, 10);
+		memcpy(array + array_size, &code, 2);
+		array[array_size + 2] = if_true;
+		array[array_size + 3] = if_false;
+		memcpy(array + array_size + 4, &k, 4);
+		array_size += 8;
+	}
+}
+
+static void open_array(void)
+{
+	struct bpfrt_prog prog = {0};
+	sink += (uint64_t)bpfrt_prog_open_filter(&prog, array, array_size, &why);
+	bpfrt_prog_close(&prog);
+}
+
+static void open_translation(void)
+{
+	struct bpfrt_prog prog = {0};
+	sink += (uint64_t)bpfrt_prog_open(&prog, translation, translation_size, CONTEXT, NULL, 0, &why);
+	bpfrt_prog_close(&prog);
+}
+
 static void share_filter(void)
 {
 	struct bpfrt_prog prog = {0};
@@ -379,8 +414,8 @@ static void step_in_world(void)
 
 int main(int argc, char **argv)
 {
-	if (argc != 4)
-		fail("FILTER CAPTURE PROGRAM");
+	if (argc != 4 && argc != 5)
+		fail("FILTER CAPTURE PROGRAM [TRANSLATION]");
 	listing_size = read_file(argv[1], listing);
 	read_packets(argv[2]);
 	program_size = read_file(argv[3], program);
@@ -413,7 +448,13 @@ int main(int argc, char **argv)
 #endif
 	measure("a run of a closed handle", run_closed, PACKETS);
 	measure("bpfrt_prog_share and its close", share_filter, 1);
+	read_array();
 	measure("bpfrt_prog_open_tcpdump and its close", open_filter, 1);
+	measure("bpfrt_prog_open_filter and its close", open_array, 1);
+	if (argc == 5) {
+		translation_size = read_file(argv[4], translation);
+		measure("bpfrt_prog_open and its close", open_translation, 1);
+	}
 	open_table();
 	measure("bpfrt_table_lookup_elem, of 1024 keys", look_up_in_table, KEYS);
 	measure("bpfrt_table_update_elem of a key there", update_table, KEYS);

@@ -8,6 +8,7 @@ mod fault;
 mod knowing;
 mod layout;
 mod notes;
+mod slots;
 mod sound;
 mod translating;
 

@@ -85,6 +85,9 @@ fn filter_of(line: &[u8]) -> Option<SockFilter>
     })
 }
 
+/// For so many instructions at most room is made before they are read.
+const RESERVED: u64 = 4096;
+
 /// So many lines, an instruction each.
 fn read_lines(alloc: Global, count: u64, lines: Option<&[u8]>) -> Result<Vec<SockFilter>, ReadFault>
     ensures found { IfOk result (λ v. HasLines count (parts_left 10 lines.entry) v.items) }
@@ -92,7 +95,7 @@ fn read_lines(alloc: Global, count: u64, lines: Option<&[u8]>) -> Result<Vec<Soc
         IfErr result (λ e. e ≡ Memory) }
     ensures fault { IfErr result (IsLinesFault count (parts_left 10 lines.entry)) }
 {
-    let mut filters = Vec::new(alloc);
+    let mut filters = Vec::with_capacity(alloc, count.min(RESERVED) as usize)?;
     let mut rest = lines;
     for _ in 0..count {
         let Some(bytes) = rest else {

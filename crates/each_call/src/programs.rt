@@ -38,7 +38,7 @@ pub const SHAPE: MapShape = MapShape {
     reuse_limit: 1000,
 };
 
-/// The text of the program. It stands in one function, since each that names it is proved more slowly.
+/// The text of the program.
 fn text() -> &'static str {
     TEXT
 }

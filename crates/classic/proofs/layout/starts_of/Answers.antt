@@ -9,7 +9,7 @@ use Rattle.classic.specs.Layout.{slots}
 use Rattle.classic_program.proofs.Marking.{get-at}
 use Rattle.classic.proofs.Sequence.{IsLaying, laying-reached, laying-left}
 use Rattle.classic.proofs.layout.starts_of.Goals as goal
-use Rattle.classic.proofs.layout.starts_of.Goals.{in-Some+in_ok-slot, in_default}
+use Rattle.classic.proofs.layout.starts_of.Goals.{in-Some, in_default}
 
 goes : (d : Data) (program : List ClassicInsn) (notes : List (Option Note)) (begin : ℕ) (starts new : List ℕ) (index slot size next : ℕ)
     (i : ClassicInsn) (n : Note)
@@ -40,12 +40,12 @@ loop-index-preserved c =
     let within = c.loop-index-test.true in
     let l : c.loop-index.index < length notes = omega arith in
     elim c.match-notes-index.branch [
-      | in-Some+in_ok-slot w ↦
+      | in-Some w ↦
           let here = get-at program c.loop-index.index w.index-instructions-index.result within w.index-instructions-index.is in
-          goes c.args.kind program notes c.args.first c.loop-index.starts.items c.push.new.self.items c.loop-index.index c.loop-index.slot w.in_ok-slot.field-0
+          goes c.args.kind program notes c.args.first c.loop-index.starts.items c.push.new.self.items c.loop-index.index c.loop-index.slot w.block_slots-slot.result
           c.match-notes-index.slot
           w.index-instructions-index.result w.in-Some.note c.loop-index.invariant here
-          (slice_get-get_or notes c.loop-index.index None l ∙ ap Some w.in-Some.is) w.in_ok-slot.ensures.value w.in_ok-slot.ensures.bound
+          (slice_get-get_or notes c.loop-index.index None l ∙ ap Some w.in-Some.is) w.block_slots-slot.ensures.value w.block_slots-slot.ensures.bound
           c.in_ok-push.ensures.items w.slot-is
       | in_default w ↦
           stays c.args.kind program notes c.args.first c.loop-index.starts.items c.push.new.self.items c.loop-index.index c.loop-index.slot
