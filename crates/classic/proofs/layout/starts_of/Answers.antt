@@ -45,7 +45,8 @@ loop-index-preserved c =
           goes c.args.kind program notes c.args.first c.loop-index.starts.items c.push.new.self.items c.loop-index.index c.loop-index.slot w.block_slots-slot.result
           c.match-notes-index.slot
           w.index-instructions-index.result w.in-Some.note c.loop-index.invariant here
-          (slice_get-get_or notes c.loop-index.index None l ∙ ap Some w.in-Some.is) w.block_slots-slot.ensures.value w.block_slots-slot.ensures.bound
+          (slice_get-get_or notes c.loop-index.index None l ∙ ap Some w.in-Some.is)
+          w.block_slots-slot.ensures.value w.block_slots-slot.ensures.bound
           c.in_ok-push.ensures.items w.slot-is
       | in_default w ↦
           stays c.args.kind program notes c.args.first c.loop-index.starts.items c.push.new.self.items c.loop-index.index c.loop-index.slot
