@@ -42,7 +42,8 @@ loop-index-preserved c =
     elim c.match-notes-index.branch [
       | in-Some w ↦
           let here = get-at program c.loop-index.index w.index-instructions-index.result within w.index-instructions-index.is in
-          goes c.args.kind program notes c.args.first c.loop-index.starts.items c.push.new.self.items c.loop-index.index c.loop-index.slot w.block_slots-slot.result
+          goes c.args.kind program notes c.args.first c.loop-index.starts.items c.push.new.self.items c.loop-index.index c.loop-index.slot
+          w.block_slots-slot.result
           c.match-notes-index.slot
           w.index-instructions-index.result w.in-Some.note c.loop-index.invariant here
           (slice_get-get_or notes c.loop-index.index None l ∙ ap Some w.in-Some.is)
