@@ -178,7 +178,7 @@ static void open_filter(void)
 	bpfrt_prog_close(&prog);
 }
 
-/* The same filter as an array of struct sock_filter, and its translation, the eBPF program that the others run. */
+/* The same filter as an array of struct sock_filter, and as the eBPF program that `bpfrt filter` makes of it. */
 static unsigned char array[4096 * 8], translation[LONGEST];
 static size_t array_size, translation_size;
 
@@ -453,7 +453,7 @@ int main(int argc, char **argv)
 	measure("bpfrt_prog_open_filter and its close", open_array, 1);
 	if (argc == 5) {
 		translation_size = read_file(argv[4], translation);
-		measure("bpfrt_prog_open and its close", open_translation, 1);
+		measure("bpfrt_prog_open of its translation", open_translation, 1);
 	}
 	open_table();
 	measure("bpfrt_table_lookup_elem, of 1024 keys", look_up_in_table, KEYS);

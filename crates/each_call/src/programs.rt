@@ -38,15 +38,10 @@ pub const SHAPE: MapShape = MapShape {
     reuse_limit: 1000,
 };
 
-/// The text of the program.
-fn text() -> &'static str {
-    TEXT
-}
-
 /// The program of the text.
 pub fn assembled(alloc: Global) -> Result<(Program, bool)> {
-    match assemble(alloc, text()) {
-        Err(AsmFault::Memory) => made(assemble(alloc, text()), true),
+    match assemble(alloc, TEXT) {
+        Err(AsmFault::Memory) => made(assemble(alloc, TEXT), true),
         answer => made(answer, false),
     }
 }
@@ -78,7 +73,7 @@ fn written(alloc: Global, program: &Program) -> Result<(String, bool)> {
 /// Writes the text of the program, which is that of which it was made.
 pub fn disassembled(alloc: Global, program: &Program) -> Result<bool> {
     let (found, again) = written(alloc, program)?;
-    ensure!(found.as_str() == text(), "the text is another one");
+    ensure!(found.as_str() == TEXT, "the text is another one");
     Ok(again)
 }
 

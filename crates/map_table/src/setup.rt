@@ -1,5 +1,5 @@
 //! Makes a table, its readers' seats and its writer.
-ghost use Rattle.std.specs.Prelude.{◌≡◌, ◌<◌, ◌≤◌, [], length, slice_index, vec_len, vec_capacity, IfOk, OnOk, All, ℕ};
+ghost use Rattle.std.specs.Prelude.{◌≡◌, ◌<◌, ◌≤◌, [], length, vec_capacity, IfOk, OnOk, All};
 ghost use Rattle.std.specs.List.{range_with_len};
 ghost use Rattle.map_table.specs.Law.{writer_after};
 ghost use Rattle.map_table.specs.Held.{AreInOrder, IsReady, IsNew, IsSized};

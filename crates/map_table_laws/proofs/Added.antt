@@ -6,10 +6,10 @@ use Rattle.map_table_laws.specs.declared.moves.Move.{Move}
 use Rattle.map_table_laws.specs.declared.moves.Move.TheVariants.{Open, Close, Learn, Load, Store, Put, Scan}
 use Rattle.map_table_laws.specs.Layout.{Layout}
 use Rattle.map_table_laws.specs.History.{word_after, word_at, MayDo, IsLawful}
-use Rattle.map_table_laws.specs.Added.{StoresElsewhere, OnlyAdds}
+use Rattle.map_table_laws.specs.Added.{StoresNothingAt, OnlyAdds}
 
--- a move that stores elsewhere leaves the word
-left : (element place old : ℕ) (m : Move) → StoresElsewhere element place m → word_after element place m old ≡ old
+-- a move that stores nothing there leaves the word
+left : (element place old : ℕ) (m : Move) → StoresNothingAt element place m → word_after element place m old ≡ old
 left element place old Open off = refl
 left element place old Close off = refl
 left element place old (Learn w x) off = refl
@@ -57,10 +57,10 @@ module _ (k : Layout) (element place : ℕ) where
       let none = only.1 in
       omega (arith, same, none)
   add_up total (e ∷ (f ∷ es)) early lawful only = ⊎_elim
-      (λ (o : StoresElsewhere element place e.1 × OnlyAdds element place (f ∷ es) total).
+      (λ (o : StoresNothingAt element place e.1 × OnlyAdds element place (f ∷ es) total).
       ap (λ z. z % 2 ^ 64) (left element place (word_at element place ((f ∷ es) ++ early)) e.1 o.0) ∙
       add_up total (f ∷ es) early lawful.1 o.1)
-      (λ (p : (word amount rest : ℕ) × (f.1 ≡ Load element place word) × (e.1 ≡ Store element place ((word + amount) % 2 ^ 64))
+      (λ (p : (word amount rest : ℕ) × (e.0 ≡ f.0) × (f.1 ≡ Load element place word) × (e.1 ≡ Store element place ((word + amount) % 2 ^ 64))
       × OnlyAdds element place es rest × (total ≡ rest + amount)).
-      one_pair total e f es early lawful.1 p.0 p.1 p.2 p.3 p.4 p.6 (add_up p.2 es early lawful.1.1 p.5))
+      one_pair total e f es early lawful.1 p.0 p.1 p.2 p.4 p.5 p.7 (add_up p.2 es early lawful.1.1 p.6))
       only

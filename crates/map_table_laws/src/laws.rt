@@ -68,8 +68,9 @@ pub fn own_words_stay()
         word_at element place es ≡ word_at element place (with_writer who es) }
 {}
 
-/// No amount that was added to a word is lost, however many add: in every lawful history where all that is stored at a place
-/// is added, by a load and a store with nothing between, its word has grown by the sum of the amounts, modulo 2^64.
+/// No amount that was added to a word is lost, however many add: while all that is stored at a place in a lawful history is
+/// added, each time by a holder's load and store with nothing between, the word there grows by the sum of the amounts, modulo
+/// 2^64.
 pub fn added_amounts_stay()
     ensures { (k : Layout) (late early : List (ℕ × Move)) → IsLawful k (late ++ early) →
         (element place total : ℕ) → OnlyAdds element place late total →

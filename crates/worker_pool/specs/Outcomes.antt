@@ -16,7 +16,7 @@ use Rattle.worker_pool.specs.declared.job.Outcome.TheVariants.{Exit, Stopped}
 use Rattle.worker_pool.specs.declared.job.StopCause.{StopCause}
 use Rattle.worker_pool.specs.declared.job.StopCause.TheVariants.{SubWord}
 
--- no number of threads for a shared world of so many workers: more than its most, or none for a pool of so many
+-- no number of threads for a shared world that has so many workers
 abbrev pub AreBadWorkers : ℕ → ℕ → Type 0
 AreBadWorkers threads workers = (most_workers < threads) ⊎ IsBadCount threads workers
 

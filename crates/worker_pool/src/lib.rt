@@ -20,7 +20,7 @@ mod zero_jobs;
 
 pub use fault::RunFault;
 pub use job::{Job, JobReport, Outcome, Report, StopCause, Trail};
-pub use job_queue::{MAX_JOBS, PoolFault, Serve};
+pub use job_queue::{MAX_JOBS, MAX_THREADS, PoolFault, Serve};
 pub use pool::run_jobs;
 pub use pooled::Pooled;
 pub use reading::{Reading, run_read_jobs, run_table_jobs};
@@ -28,4 +28,4 @@ pub use repeated::run_program;
 pub use shared::{MAX_WORKERS, ProgramWithMaps};
 
 // A pool has as many threads as a shared world may have workers.
-const _: () = prove!(MAX_WORKERS as usize <= job_queue::MAX_THREADS);
+const _: () = prove!(MAX_WORKERS as usize <= MAX_THREADS);

@@ -80,8 +80,8 @@ impl<T: RunsPrograms> Serve for Reading<'_, T> {
     ghost fits_wider = { λ s. job_wider T.mine T.name (T.IsRun s.table.now) T.Refuses s.programs.now };
 }
 
-/// Serves all jobs by runs of these programs over a table, a thread for each seat: one outcome a job, in job order. The
-/// seats come back whatever the answer, in their order.
+/// Serves all jobs by runs of these programs over a table, a thread for each seat, of which there are 1 to `MAX_THREADS`: one
+/// outcome a job, in job order. The seats come back whatever the answer, in their order.
 ///
 /// A job is stopped where there is no program of its number (`NoProgram`), where its context has another length
 /// (`BadContext`), or where words don't serve its program (`SubWord`), in this order; else it has exited.
