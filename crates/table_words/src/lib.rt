@@ -1,5 +1,5 @@
-//! What the words of a lock-free table say: its shape, the rule that they keep, the ways that a key may be linked in by a
-//! keyed hash, and what the writer notes of each reader.
+//! What the words of a lock-free table say: its shape, the rule that they keep, the ways where a keyed hash lets a key be
+//! linked, and what the writer notes of each reader.
 //!
 //! Nothing here touches a table: `map_table` does.
 #![tactic(auto)]
