@@ -1,15 +1,16 @@
 //! Elements that are put into a file's maps.
 ghost use Rattle.std.specs.Prelude.{◌≡◌, ◌⊎◌, map, None, Some, IfOk, IfErr};
 ghost use Rattle.bpf_model.specs.declared.event.EventRefusal.{EventRefusal as RefusalOf};
-ghost use Rattle.program_files.specs.declared.verdict.Verdict.TheVariants.{Memory};
-ghost use Rattle.commands.specs.declared.refusal.CommandRefusal.TheVariants.{File, Event as OfEvent};
+ghost use Rattle.bpf_model.specs.EventNumbers.{event_refusal_number};
+ghost use Rattle.program_files.specs.Verdicts.{memory_number};
+ghost use Rattle.commands.specs.Outputs.{IsPlainVerdict};
 ghost use Rattle.commands.specs.Runs.{element_refusal, put_event, AllFit, HasBadElement};
 
-use crate::refusal::CommandRefusal;
+use crate::report::plain_verdict;
 use bpf_model::{Event, EventRefusal, array_of};
 use command_words::MapElement;
 use maps::Registry;
-use program_files::Verdict;
+use program_files::{MEMORY, Verdict};
 use std::alloc::Global;
 
 /// The event by which an element is put into its map, or the first test that it fails.
@@ -45,21 +46,22 @@ pub fn puts_of(
     alloc: Global,
     registry: &Registry,
     elements: &[MapElement],
-) -> Result<Vec<Event>, CommandRefusal>
+) -> Result<Vec<Event>, Verdict>
     ensures fit { IfOk result (λ _. AllFit registry.now elements.now) }
     ensures puts { IfOk result (λ es. es.items ≡ map (put_event registry.now) elements.now) }
-    ensures refused { IfErr result (λ v. (v ≡ File Memory) ⊎
-        ((r : RefusalOf) × HasBadElement registry.now elements.now r × (v ≡ OfEvent r))) }
+    ensures refused { IfErr result (λ v. (v.code ≡ memory_number) ⊎
+        ((r : RefusalOf) × HasBadElement registry.now elements.now r
+        × IsPlainVerdict (event_refusal_number r) v)) }
 {
     let mut puts = Vec::new(alloc);
     for number in 0..elements.len() {
         match put_of(registry, &elements[number]) {
             Ok(put) => {
                 if puts.push(put).is_err() {
-                    return Err(CommandRefusal::File(Verdict::Memory));
+                    return Err(plain_verdict(MEMORY));
                 }
             }
-            Err(refusal) => return Err(CommandRefusal::Event(refusal)),
+            Err(refusal) => return Err(plain_verdict(refusal.code())),
         }
     }
     Ok(puts)

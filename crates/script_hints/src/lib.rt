@@ -2,7 +2,6 @@
 #![tactic(auto)]
 
 mod answers;
-mod cause;
 mod words;
 
 pub use answers::{Made, Outcome, Refusal, explain_answers, outcome_of, write_length};
