@@ -11,7 +11,7 @@ use crate::input::{Input, MOST_BYTES, TEXT_HEAD};
 use crate::progress::Progress;
 use crate::recent::Recent;
 use commands::{
-    BpfrtCommand, InputFile, WordsFault, explain_script, no_command, parse_words, run, unread,
+    BpfrtCommand, InputFile, WordsFault, explain_script, no_command, parse_words, read_failed, run,
 };
 use std::alloc::Global;
 use std::cell::RefCell;
@@ -37,7 +37,7 @@ fn reason(kind: ErrorKind) -> Option<&'static str> {
 
 /// Writes the fault of a file that cannot be opened, and behind it a line with its name and the reason. Answers the status.
 fn unopened<E: Write>(err: &mut E, command: &BpfrtCommand, path: &str, error: &Error) -> u8 {
-    let status = unread(err, error);
+    let status = read_failed(err, error);
     let Some(reason) = reason(error.kind()) else {
         return status;
     };

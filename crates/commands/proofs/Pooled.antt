@@ -9,14 +9,12 @@ use Rattle.bpf_model.specs.View.{shapes_of_maps}
 use Rattle.program_graph.specs.GraphFlaws.{HasGoodGraph}
 use Rattle.plan_laws.specs.Verified.{IsVerified}
 use Rattle.job_queue.specs.declared.fault.PoolFault.{PoolFault}
-use Rattle.job_queue.specs.Faults.{pool_fault_number}
 use Rattle.worker_pool.specs.Lines.{job_lines}
 use Rattle.worker_pool.specs.Outcomes.{IsFaultOf, IsOutcomeOf}
 use Rattle.worker_pool.specs.Runs.{WritesJobs}
 use Rattle.program_files.specs.declared.program_file.Source.{Source}
-use Rattle.program_files.specs.declared.verdict.Verdict.{Verdict}
 use Rattle.program_files.specs.Checks.{content_with, IsSourceOf, IsVerifiedFile}
-use Rattle.commands.specs.Outputs.{IsPlainVerdict}
+use Rattle.commands.specs.declared.refusal.CommandRefusal.TheVariants.{Pool}
 use Rattle.commands.specs.Pools.{entries_line, IsPoolRefusal, IsProgramOf, WritesPool}
 
 abbrev pub file_of : (bytes : List ℕ) (s : Source) → IsSourceOf bytes s → HasGoodGraph s.program →
@@ -50,10 +48,9 @@ pool_written bytes program shapes context_len count entries old mid new found wr
 )
 
 pub pool_told : (workers count : ℕ) (bytes : List ℕ) (program : List Insn) (shapes : List MapShape) (context_len : ℕ) (f : PoolFault)
-    (v : Verdict) → IsProgramOf bytes program shapes context_len → IsFaultOf workers count f →
-    IsPlainVerdict (pool_fault_number f) v → IsPoolRefusal workers count bytes v
-pool_told workers count bytes program shapes context_len f v found fault told =
-    inr (record { program = program; file = found.file; fault = f; is = fault; told = told })
+    → IsProgramOf bytes program shapes context_len → IsFaultOf workers count f → IsPoolRefusal workers count bytes (Pool f)
+pool_told workers count bytes program shapes context_len f found fault =
+    inr (record { program = program; file = found.file; fault = f; is = fault; told = refl })
 
 -- what has the status 3 is not so where the status is 1
 pub not_so : (P : Type 0) (status : ℕ) → (P → status ≡ 3) → status ≡ 1 → P → ⊥

@@ -5,14 +5,12 @@ use Rattle.bpf_model.specs.declared.event.Event.{Event}
 use Rattle.bpf_model.specs.declared.event.EventRefusal.{EventRefusal}
 use Rattle.bpf_model.specs.declared.event.EventRefusal.TheVariants.{BadContext}
 use Rattle.bpf_model.specs.declared.insn.Insn.{Insn}
-use Rattle.bpf_model.specs.EventNumbers.{event_refusal_number}
 use Rattle.bpf_model.specs.View.{WorldView, shapes_of_maps}
 use Rattle.maps.specs.Registry.{RegistryView}
 use Rattle.program_graph.specs.GraphFlaws.{HasGoodGraph}
 use Rattle.plan_laws.specs.Verified.{IsVerified}
 use Rattle.program_files.specs.declared.program_file.Source.{Source}
-use Rattle.program_files.specs.declared.verdict.Verdict.{Verdict}
-use Rattle.program_files.specs.Verdicts.{memory_number}
+use Rattle.program_files.specs.declared.verdict.Verdict.TheVariants.{Memory}
 use Rattle.program_files.specs.Checks.{content_with, IsSourceOf}
 use Rattle.run_once.specs.declared.once.Ended.{Ended}
 use Rattle.run_once.specs.declared.once.RunEnd.{RunEnd}
@@ -20,8 +18,10 @@ use Rattle.run_once.specs.declared.once.RunEnd.TheVariants.{Exited, NotDone}
 use Rattle.run_once.specs.Once.{ComesTo, IsUpdate}
 use Rattle.command_words.specs.declared.request.MapElement.{MapElement}
 use Rattle.command_words.specs.declared.request.SingleRun.{SingleRun}
-use Rattle.commands.specs.Outputs.{IsPlainVerdict}
-use Rattle.commands.specs.Runs.{no_place_number, put_event, AllFit, HasBadElement, HasEnded, IsRunFault, IsRunRefusal, RunComesTo}
+use Rattle.commands.specs.declared.refusal.CommandRefusal.{CommandRefusal}
+use Rattle.commands.specs.declared.refusal.CommandRefusal.TheVariants.{File, Event as OfEvent, NoPlace}
+use Rattle.commands.specs.Refusals.{IsFileRefusal}
+use Rattle.commands.specs.Runs.{put_event, AllFit, HasBadElement, HasEnded, IsRunFault, IsRunRefusal, RunComesTo}
 use Rattle.commands.proofs.Pooled.{file_of}
 
 -- elements are put by updates
@@ -58,32 +58,27 @@ ended_of bytes single s e last good len fit run = record {
   runs = run;
 }
 
-told : (bytes : List ℕ) (single : SingleRun) (s : Source) (number : ℕ) (v : Verdict) → IsGood bytes s →
-    IsRunFault single (content_with s) s.program number → IsPlainVerdict number v → IsRunRefusal single bytes v
-told bytes single s number v good fault plain = inr (record {
+told : (bytes : List ℕ) (single : SingleRun) (s : Source) (v : CommandRefusal) → IsGood bytes s →
+    IsRunFault single (content_with s) s.program v → IsRunRefusal single bytes v
+told bytes single s v good fault = inr (record {
   program = s.program;
   file = file_of bytes s good.is good.graph good.verified;
-  number = number;
   fault = fault;
-  told = plain;
 })
 
-pub context_told : (bytes : List ℕ) (single : SingleRun) (s : Source) (v : Verdict) → IsGood bytes s →
-    length single.context.items ≢ s.ctx_len → IsPlainVerdict (event_refusal_number BadContext) v →
-    IsRunRefusal single bytes v
-context_told bytes single s v good other plain = told bytes single s (event_refusal_number BadContext) v good (inl (other, refl)) plain
+pub context_told : (bytes : List ℕ) (single : SingleRun) (s : Source) → IsGood bytes s →
+    length single.context.items ≢ s.ctx_len → IsRunRefusal single bytes (OfEvent BadContext)
+context_told bytes single s good other = told bytes single s (OfEvent BadContext) good (inl (other, refl))
 
-pub puts_told : (bytes : List ℕ) (single : SingleRun) (s : Source) (v : Verdict) → IsGood bytes s →
+pub puts_told : (bytes : List ℕ) (single : SingleRun) (s : Source) (v : CommandRefusal) → IsGood bytes s →
     length single.context.items ≡ s.ctx_len →
-    ((v.code ≡ memory_number) ⊎ ((r : EventRefusal) × HasBadElement s.registry single.elements.items r ×
-    IsPlainVerdict (event_refusal_number r) v)) → IsRunRefusal single bytes v
-puts_told bytes single s v good len (inl memory) = inl (inl (inl memory))
-puts_told bytes single s v good len (inr (r, bad, plain)) =
-    told bytes single s (event_refusal_number r) v good (inr (len, inl (r, bad, refl))) plain
-
-pub place_told : (bytes : List ℕ) (single : SingleRun) (s : Source) (k : ℕ) (last : WorldView) (v : Verdict) →
-    IsGood bytes s → length single.context.items ≡ s.ctx_len → AllFit s.registry single.elements.items →
-    RunComesTo single (content_with s) s.program (NotDone k) last → IsPlainVerdict no_place_number v →
+    ((v ≡ File Memory) ⊎ ((r : EventRefusal) × HasBadElement s.registry single.elements.items r × (v ≡ OfEvent r))) →
     IsRunRefusal single bytes v
-place_told bytes single s k last v good len fit run plain =
-    told bytes single s no_place_number v good (inr (len, inr (fit, (k, last, run), refl))) plain
+puts_told bytes single s v good len (inl memory) = inl (subst (IsFileRefusal bytes) (sym memory) (inl tt))
+puts_told bytes single s v good len (inr (r, bad, is)) = told bytes single s v good (inr (len, inl (r, bad, is)))
+
+pub place_told : (bytes : List ℕ) (single : SingleRun) (s : Source) (k : ℕ) (last : WorldView) →
+    IsGood bytes s → length single.context.items ≡ s.ctx_len → AllFit s.registry single.elements.items →
+    RunComesTo single (content_with s) s.program (NotDone k) last → IsRunRefusal single bytes NoPlace
+place_told bytes single s k last good len fit run =
+    told bytes single s NoPlace good (inr (len, inr (fit, (k, last, run), refl)))

@@ -3,7 +3,8 @@ use Rattle.std.specs.Prelude.{ℕ, ◌==◌, ◌||◌, nat_lt, if◌then◌else�
 use Rattle.std.specs.List.{flat_map}
 use Rattle.std.specs.Fmt.{decimal}
 use Rattle.hex.specs.Hex.{encode_lower}
-use Rattle.program_files.specs.declared.verdict.Verdict.{Verdict}
+use Rattle.commands.specs.declared.refusal.CommandRefusal.{CommandRefusal}
+use Rattle.commands.specs.Refusals.{command_number, command_slot, command_line}
 
 abbrev pub number_json : Option ℕ → List ℕ
 number_json None = codes "null"
@@ -36,10 +37,10 @@ abbrev pub words_json : List ℕ → List ℕ → List ℕ
 words_json name meaning = codes ",\"name\":" ++ (string_json name ++ (codes ",\"text\":" ++ string_json meaning))
 
 -- why a file is refused, with the name of that and what it means
-abbrev pub refusal_json : Verdict → List ℕ → List ℕ → List ℕ
+abbrev pub refusal_json : CommandRefusal → List ℕ → List ℕ → List ℕ
 refusal_json v name meaning =
-    codes "{\"accepted\":false,\"code\":" ++ (decimal v.code ++ (codes ",\"slot\":" ++ (number_json v.slot
-    ++ (codes ",\"line\":" ++ (number_json v.line ++ (words_json name meaning ++ codes "}\n"))))))
+    codes "{\"accepted\":false,\"code\":" ++ (decimal (command_number v) ++ (codes ",\"slot\":" ++ (number_json (command_slot v)
+    ++ (codes ",\"line\":" ++ (number_json (command_line v) ++ (words_json name meaning ++ codes "}\n"))))))
 
 -- the lines of a text, each of which a line feed ends, as a list of strings
 abbrev pub lines_json : List ℕ → List ℕ

@@ -5,6 +5,7 @@ pub mod Filters
 pub mod Json
 pub mod Outputs
 pub mod Pools
+pub mod Refusals
 pub mod Runs
 pub mod Scripts
 pub mod Sources

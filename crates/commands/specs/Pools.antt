@@ -12,10 +12,11 @@ use Rattle.job_queue.specs.Faults.{pool_fault_number}
 use Rattle.worker_pool.specs.declared.job.Outcome.{Outcome}
 use Rattle.worker_pool.specs.Lines.{job_lines}
 use Rattle.worker_pool.specs.Outcomes.{IsFaultOf, IsOutcomeOf}
-use Rattle.program_files.specs.declared.verdict.Verdict.{Verdict}
+use Rattle.commands.specs.declared.refusal.CommandRefusal.{CommandRefusal}
+use Rattle.commands.specs.declared.refusal.CommandRefusal.TheVariants.{Pool}
+use Rattle.commands.specs.Refusals.{IsFileRefusal, command_number}
 use Rattle.program_files.specs.Verdicts.{memory_number}
-use Rattle.program_files.specs.Checks.{IsVerifiedFile, IsCheckedRefusal}
-use Rattle.commands.specs.Outputs.{IsPlainVerdict}
+use Rattle.program_files.specs.Checks.{IsVerifiedFile}
 
 -- how many entries the journal has
 abbrev pub entries_line : ℕ → List ℕ
@@ -51,20 +52,20 @@ WritesPool count old new bytes =
 
 -- The file says a program that is verified with its maps and context, and the pool of so many
 -- workers and jobs has a fault.
-pub record IsPoolVerdict (workers count : ℕ) (bytes : List ℕ) (v : Verdict) : Type 0 where
+pub record IsPoolVerdict (workers count : ℕ) (bytes : List ℕ) (v : CommandRefusal) : Type 0 where
   pub program : List Insn
   pub file : IsVerifiedFile bytes program
   pub fault : PoolFault
   pub is : IsFaultOf workers count fault
-  pub told : IsPlainVerdict (pool_fault_number fault) v
+  pub told : v ≡ Pool fault
 
--- The verdict is what `check` says of the file, or else the pool's.
-abbrev pub IsPoolRefusal : ℕ → ℕ → List ℕ → Verdict → Type 0
+-- The refusal is what `check` says of the file, or else the pool's.
+abbrev pub IsPoolRefusal : ℕ → ℕ → List ℕ → CommandRefusal → Type 0
 IsPoolRefusal workers count bytes v =
-    IsCheckedRefusal bytes v ⊎ IsPoolVerdict workers count bytes v
+    IsFileRefusal bytes v ⊎ IsPoolVerdict workers count bytes v
 
--- `pool` refuses the file or its numbers, by a verdict that is neither want of memory nor a lost
+-- `pool` refuses the file or its numbers, for what is neither want of memory nor a lost
 -- result.
 abbrev pub IsRefusedByPool : ℕ → ℕ → List ℕ → Type 0
 IsRefusedByPool workers count bytes =
-    (v : Verdict) × (v.code ≢ memory_number) × (v.code ≢ pool_fault_number Lost) × IsPoolRefusal workers count bytes v
+    (v : CommandRefusal) × (command_number v ≢ memory_number) × (command_number v ≢ pool_fault_number Lost) × IsPoolRefusal workers count bytes v

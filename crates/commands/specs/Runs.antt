@@ -11,7 +11,6 @@ use Rattle.bpf_model.specs.declared.event.EventRefusal.{EventRefusal}
 use Rattle.bpf_model.specs.declared.event.EventRefusal.TheVariants.{BadContext}
 use Rattle.bpf_model.specs.declared.insn.Insn.{Insn}
 use Rattle.bpf_model.specs.declared.limits.MapShape.{MapShape}
-use Rattle.bpf_model.specs.EventNumbers.{event_refusal_number}
 use Rattle.bpf_model.specs.Event.{update_refusal}
 use Rattle.bpf_model.specs.View.{MapView, WorldView, shapes_of_maps}
 use Rattle.maps.specs.Registry.{RegistryView}
@@ -19,9 +18,11 @@ use Rattle.script_lines.specs.declared.reply.Reply.{Reply}
 use Rattle.script_lines.specs.declared.reply.Reply.TheVariants.{End}
 use Rattle.script_lines.specs.ReplyText.{reply_text}
 use Rattle.control.specs.Replies.{AreElements}
-use Rattle.program_files.specs.declared.verdict.Verdict.{Verdict}
+use Rattle.commands.specs.declared.refusal.CommandRefusal.{CommandRefusal}
+use Rattle.commands.specs.declared.refusal.CommandRefusal.TheVariants.{Event as OfEvent, NoPlace}
+use Rattle.commands.specs.Refusals.{IsFileRefusal, command_number}
 use Rattle.program_files.specs.Verdicts.{memory_number}
-use Rattle.program_files.specs.Checks.{IsVerifiedFile, IsCheckedRefusal}
+use Rattle.program_files.specs.Checks.{IsVerifiedFile}
 use Rattle.program_files.specs.ProgramFile.{FileContent}
 use Rattle.run_once.specs.declared.once.Ended.{Ended}
 use Rattle.run_once.specs.declared.once.RunEnd.{RunEnd}
@@ -30,7 +31,7 @@ use Rattle.run_once.specs.Once.{ComesTo}
 use Rattle.command_words.specs.declared.request.MapElement.{MapElement}
 use Rattle.command_words.specs.declared.request.SingleRun.{SingleRun}
 use Rattle.commands.specs.Json.{ended_json, traced_json}
-use Rattle.commands.specs.Outputs.{IsPlainVerdict, TellsVerdict}
+use Rattle.commands.specs.Outputs.{TellsVerdict}
 
 -- the number of the map that has the name
 abbrev pub map_named : RegistryView → List ℕ → Option ℕ
@@ -129,36 +130,30 @@ HasBadElement maps elements r =
     (good : List MapElement) × (bad : MapElement) × (others : List MapElement)
     × (elements ≡ good ++ bad ∷ others) × AllFit maps good × (element_refusal maps bad ≡ Some r)
 
--- the number of an element that its map has no place for
-abbrev pub no_place_number : ℕ
-no_place_number = 98
-
--- What this number tells of a run: the context has another length than the file tells; or it has
+-- What this refusal tells of a run: the context has another length than the file tells; or it has
 -- that, and the first element that fails a test fails this one; or all fit, and one isn't put, since
 -- its map has no place for it.
-abbrev pub IsRunFault : SingleRun → FileContent → List Insn → ℕ → Type 0
-IsRunFault single content program number =
-    ((length single.context.items ≢ content.ctx_len) × (number ≡ event_refusal_number BadContext))
+abbrev pub IsRunFault : SingleRun → FileContent → List Insn → CommandRefusal → Type 0
+IsRunFault single content program v =
+    ((length single.context.items ≢ content.ctx_len) × (v ≡ OfEvent BadContext))
     ⊎ ((length single.context.items ≡ content.ctx_len)
     × (((r : EventRefusal) × HasBadElement content.registry single.elements.items r
-    × (number ≡ event_refusal_number r))
+    × (v ≡ OfEvent r))
     ⊎ (AllFit content.registry single.elements.items
     × ((k : ℕ) × (last : WorldView) × RunComesTo single content program (NotDone k) last)
-    × (number ≡ no_place_number))))
+    × (v ≡ NoPlace))))
 
 -- The file says a program that is verified with its maps and context, and its run has a fault.
-pub record IsRunVerdict (single : SingleRun) (bytes : List ℕ) (v : Verdict) : Type 0 where
+pub record IsRunVerdict (single : SingleRun) (bytes : List ℕ) (v : CommandRefusal) : Type 0 where
   pub program : List Insn
   pub file : IsVerifiedFile bytes program
-  pub number : ℕ
-  pub fault : IsRunFault single file.content program number
-  pub told : IsPlainVerdict number v
+  pub fault : IsRunFault single file.content program v
 
--- The verdict is what `check` says of the file, or else of the run.
-abbrev pub IsRunRefusal : SingleRun → List ℕ → Verdict → Type 0
-IsRunRefusal single bytes v = IsCheckedRefusal bytes v ⊎ IsRunVerdict single bytes v
+-- The refusal is what `check` says of the file, or else of the run.
+abbrev pub IsRunRefusal : SingleRun → List ℕ → CommandRefusal → Type 0
+IsRunRefusal single bytes v = IsFileRefusal bytes v ⊎ IsRunVerdict single bytes v
 
--- `run` refuses the file, the context or an element, by a verdict that is not want of memory, and the output has it.
+-- `run` refuses the file, the context or an element, for what is not want of memory, and the output has it.
 abbrev pub RefusesRun : SingleRun → Option (List ℕ) → Option (List ℕ) → List ℕ → Type 0
 RefusesRun single old new bytes =
-    (v : Verdict) × (v.code ≢ memory_number) × IsRunRefusal single bytes v × TellsVerdict single.json v old new
+    (v : CommandRefusal) × (command_number v ≢ memory_number) × IsRunRefusal single bytes v × TellsVerdict single.json v old new

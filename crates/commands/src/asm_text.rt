@@ -4,16 +4,17 @@ ghost use Rattle.std.specs.Io.KnownBytes.{Appends};
 ghost use Rattle.commands.specs.Asm.{WritesCode, written_as};
 ghost use Rattle.commands.specs.Sources.{IsRefusedText};
 
-use crate::meanings::write_meaning_of;
 use crate::prefixes::explain_prefix;
-use crate::report::out_of_memory;
+use crate::report::{MEMORY, out_of_memory};
 use crate::source_text::{SourceText, source_of};
-use crate::streams::{unread_in_words, write_text, written};
+use crate::streams::{read_failed_in_words, write_status, write_text};
+use crate::text_meanings::meaning_of_text;
 use asm::AsmFault;
 use asm_source::SourceFault;
 use bpf_model::CTX_BYTES;
 use command_words::AsmForm;
-use program_files::{LoadFault, MEMORY, read_text};
+use explanations::write_meaning;
+use program_files::{LoadFault, read_text};
 use program_texts::{Assembled, TextFault, explain_text, has_head, make_code};
 use std::alloc::Global;
 use std::io;
@@ -49,7 +50,12 @@ fn code_of(why: &TextFault) -> u8 {
 
 /// Writes why a text is none of a program, `refused C at L` for an instruction's line, `refused C` or `fault C at L` for a
 /// line of the head, or the fault where memory ran out, in words too where it is asked for, and answers the status.
-fn flawed<E: Write>(err: &mut E, source: &SourceText, why: &TextFault, in_words: bool) -> u8
+fn report_fault_line<E: Write>(
+    err: &mut E,
+    source: &SourceText,
+    why: &TextFault,
+    in_words: bool,
+) -> u8
     ensures status { (result ≡ 1) ⊎ (result ≡ 3) }
     ensures refused { result ≡ 1 → why.now ≢ TextFault.Memory }
 {
@@ -118,7 +124,9 @@ fn write_words<E: Write>(
     why: &TextFault,
     err: &mut E,
 ) -> io::Result<()> {
-    write_meaning_of(err, code_of(why))?;
+    if let Some(meaning) = meaning_of_text(why) {
+        write_meaning(err, meaning)?;
+    }
     match why {
         TextFault::BadHead { line } => explain_head(alloc, bytes, source, *line, err),
         _ if source.read == source.fed => explain_text(alloc, bytes, why, err),
@@ -127,7 +135,7 @@ fn write_words<E: Write>(
 }
 
 /// Tells why bytes, of which this is read, are no text of a program, in words too where it is asked for, and answers the status.
-pub fn told<E: Write>(
+pub fn report_text_fault<E: Write>(
     alloc: Global,
     bytes: &[u8],
     source: &SourceText,
@@ -138,7 +146,7 @@ pub fn told<E: Write>(
     ensures status { (result ≡ 1) ⊎ (result ≡ 3) }
     ensures refused { result ≡ 1 → why.now ≢ TextFault.Memory }
 {
-    let status = flawed(err, source, why, in_words);
+    let status = report_fault_line(err, source, why, in_words);
     if in_words && status == 1 {
         let _ = write_words(alloc, bytes, source, why, err);
     }
@@ -161,7 +169,7 @@ fn write_made<W: Write, E: Write>(form: AsmForm, made: &Assembled, out: &mut W, 
     ensures written { result ≡ 0 → Appends (W.contents out.old) (W.contents out.new)
         (written_as form made.now.lines.items made.now.code.items made.now.file.items) }
 {
-    written(err, write_text(out, text_in(made, form)))
+    write_status(err, write_text(out, text_in(made, form)))
 }
 
 /// Writes the bytes of the program whose text the input is, or what else is asked for.
@@ -181,7 +189,7 @@ pub fn run_asm<R: Read, W: Write, E: Write>(
 {
     let bytes = match read_text(alloc, input) {
         Ok(bytes) => bytes,
-        Err(error) => return unread_in_words(err, &error, in_words),
+        Err(error) => return read_failed_in_words(err, &error, in_words),
     };
     let Ok(source) = source_of(alloc, &bytes) else {
         return out_of_memory(err, in_words);
@@ -191,6 +199,6 @@ pub fn run_asm<R: Read, W: Write, E: Write>(
             warn_of_head(&source.read, form, err);
             write_made(form, &made, out, err)
         }
-        Err(why) => told(alloc, &bytes, &source, &why, in_words, err),
+        Err(why) => report_text_fault(alloc, &bytes, &source, &why, in_words, err),
     }
 }

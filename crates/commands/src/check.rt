@@ -5,11 +5,12 @@ ghost use Rattle.program_files.specs.Files.{HoldsBytes};
 ghost use Rattle.commands.specs.Outputs.{RefusesFile, accepted_line, accepted_text, WritesAccepted};
 ghost use Rattle.commands.specs.Checking.{RefusesText, WritesAcceptedText, RefusesChecked, WritesChecked};
 
-use crate::asm_text::told as told_of_text;
+use crate::asm_text::report_text_fault;
 use crate::json::write_accepted as write_json;
-use crate::report::{MadeOf, Telling, out_of_memory, told_twice};
+use crate::refusal::CommandRefusal;
+use crate::report::{MadeOf, Telling, out_of_memory, report_in_form};
 use crate::source_text::{SourceText, source_of};
-use crate::streams::{unread_in_words, written};
+use crate::streams::{read_failed_in_words, write_status};
 use command_words::Checking;
 use program_files::{Accepted, FileBytes, check, read_file, read_text};
 use program_texts::{Assembled, make_code};
@@ -62,13 +63,21 @@ fn check_file<W: Write, E: Write>(
         let _ = write_log(alloc, file, err);
     }
     match check(alloc, file) {
-        Ok(accepted) => written(err, write_accepted(how.json, out, &accepted)),
+        Ok(accepted) => write_status(err, write_accepted(how.json, out, &accepted)),
         Err(verdict) => {
             let form = Telling {
                 explain: how.explain,
                 json: how.json,
             };
-            told_twice(alloc, file, text, verdict, form, out, err)
+            report_in_form(
+                alloc,
+                file,
+                text,
+                CommandRefusal::File(verdict),
+                form,
+                out,
+                err,
+            )
         }
     }
 }
@@ -90,7 +99,7 @@ fn check_program_file<R: Read, W: Write, E: Write>(
 {
     match read_file(alloc, input) {
         Ok(file) => check_file(alloc, how, &file, None, out, err),
-        Err(error) => unread_in_words(err, &error, how.explain),
+        Err(error) => read_failed_in_words(err, &error, how.explain),
     }
 }
 
@@ -138,14 +147,14 @@ fn check_text<R: Read, W: Write, E: Write>(
 {
     let bytes = match read_text(alloc, input) {
         Ok(bytes) => bytes,
-        Err(error) => return unread_in_words(err, &error, how.explain),
+        Err(error) => return read_failed_in_words(err, &error, how.explain),
     };
     let Ok(source) = source_of(alloc, &bytes) else {
         return out_of_memory(err, how.explain);
     };
     match make_code(alloc, &source.read) {
         Ok(made) => check_made(alloc, how, &source, made, out, err),
-        Err(why) => told_of_text(alloc, &bytes, &source, &why, how.explain, err),
+        Err(why) => report_text_fault(alloc, &bytes, &source, &why, how.explain, err),
     }
 }
 

@@ -8,9 +8,10 @@ use crate::asm_text::run_asm;
 use crate::check::run_check;
 use crate::filter::run_filter;
 use crate::pool::{PoolSize, run_pool};
-use crate::report::refused;
+use crate::refusal::CommandRefusal;
+use crate::report::report_line;
 use crate::script::run_lines;
-use crate::streams::{unread, write_text, written};
+use crate::streams::{read_failed, write_status, write_text};
 use crate::trace::run_single;
 use command_words::{BpfrtCommand, VERSION};
 use program_files::{read_file, text_of};
@@ -42,11 +43,11 @@ fn run_disasm<R: Read, W: Write, E: Write>(
 {
     let file = match read_file(alloc, input) {
         Ok(file) => file,
-        Err(error) => return unread(err, &error),
+        Err(error) => return read_failed(err, &error),
     };
     match text_of(alloc, &file) {
-        Ok(text) => written(err, write_text(out, text.as_bytes())),
-        Err(verdict) => refused(err, verdict),
+        Ok(text) => write_status(err, write_text(out, text.as_bytes())),
+        Err(verdict) => report_line(err, CommandRefusal::File(verdict)),
     }
 }
 
@@ -76,7 +77,7 @@ pub fn run<H: Threads + Wait + Sync, R: Read, W: Write, E: Write>(
         BpfrtCommand::Disasm { .. } => run_disasm(alloc, input, out, err),
         BpfrtCommand::Asm { form, explain, .. } => run_asm(alloc, *form, *explain, input, out, err),
         BpfrtCommand::Script { .. } => run_lines(alloc, input, out, err),
-        BpfrtCommand::Version => written(err, write_version(out)),
+        BpfrtCommand::Version => write_status(err, write_version(out)),
         BpfrtCommand::Pool {
             workers,
             count,

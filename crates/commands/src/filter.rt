@@ -3,11 +3,12 @@ ghost use Rattle.std.specs.Prelude.{◌≡◌, ◌≢◌, ◌⊎◌, IfSome};
 ghost use Rattle.program_texts.specs.Filters.{IsRefusedByFilter};
 ghost use Rattle.commands.specs.Filters.{WritesFilter};
 
-use crate::meanings::write_meaning_of;
-use crate::report::out_of_memory;
-use crate::streams::{unread_in_words, write_text, written};
+use crate::report::{MEMORY, out_of_memory};
+use crate::streams::{read_failed_in_words, write_status, write_text};
+use crate::text_meanings::meaning_of_filter;
 use classic::{Data, ReadFault};
-use program_files::{MEMORY, read_text};
+use explanations::write_meaning;
+use program_files::read_text;
 use program_texts::{FilterFault, explain_filter, make_file};
 use std::alloc::Global;
 use std::io;
@@ -37,7 +38,7 @@ fn place_of(why: &FilterFault) -> Option<usize> {
 
 /// Writes why bytes are no classic program, or have no program file, `refused C`, or `refused C at N` for a line or an
 /// instruction, or the fault where memory ran out, in words too where it is asked for, and answers the status.
-fn told<E: Write>(err: &mut E, why: &FilterFault, in_words: bool) -> u8
+fn report_fault_line<E: Write>(err: &mut E, why: &FilterFault, in_words: bool) -> u8
     ensures status { (result ≡ 1) ⊎ (result ≡ 3) }
     ensures refused { result ≡ 1 → why.now ≢ FilterFault.Memory }
 {
@@ -60,13 +61,15 @@ fn write_words<E: Write>(
     why: &FilterFault,
     err: &mut E,
 ) -> io::Result<()> {
-    write_meaning_of(err, code_of(why))?;
+    if let Some(meaning) = meaning_of_filter(why) {
+        write_meaning(err, meaning)?;
+    }
     explain_filter(alloc, bytes, kind, why, err)
 }
 
 /// Tells why bytes are no classic program, or have no program file, in words too where it is asked for, and answers the
 /// status.
-fn told_of<E: Write>(
+fn report_filter_fault<E: Write>(
     alloc: Global,
     bytes: &[u8],
     kind: Data,
@@ -77,7 +80,7 @@ fn told_of<E: Write>(
     ensures status { (result ≡ 1) ⊎ (result ≡ 3) }
     ensures refused { result ≡ 1 → why.now ≢ FilterFault.Memory }
 {
-    let status = told(err, why, in_words);
+    let status = report_fault_line(err, why, in_words);
     if in_words && status == 1 {
         let _ = write_words(alloc, bytes, kind, why, err);
     }
@@ -111,14 +114,14 @@ pub fn run_filter<R: Read, W: Write, E: Write>(
 {
     let bytes = match read_text(alloc, input) {
         Ok(bytes) => bytes,
-        Err(error) => return unread_in_words(err, &error, in_words),
+        Err(error) => return read_failed_in_words(err, &error, in_words),
     };
     match make_file(alloc, kind, &bytes) {
         Ok(file) => {
-            let status = written(err, write_text(out, &file.text));
+            let status = write_status(err, write_text(out, &file.text));
             note_beyond(err, status, file.beyond);
             status
         }
-        Err(why) => told_of(alloc, &bytes, kind, &why, in_words, err),
+        Err(why) => report_filter_fault(alloc, &bytes, kind, &why, in_words, err),
     }
 }

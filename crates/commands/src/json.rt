@@ -7,8 +7,9 @@ ghost use Rattle.commands.specs.Json.{string_json, traced_json, words_json};
 ghost use Rattle.commands.specs.Outputs.{TellsVerdict};
 
 use crate::meanings::words_of;
+use crate::refusal::CommandRefusal;
 use crate::streams::write_text;
-use program_files::{Accepted, Verdict};
+use program_files::Accepted;
 use run_once::Ended;
 use std::alloc::{AllocError, Global};
 use std::io;
@@ -97,7 +98,7 @@ fn push_string(text: &mut Vec<u8>, bytes: &[u8]) -> Result<(), AllocError>
     text.extend_from_slice(b"\"")
 }
 
-/// Adds the name and the meaning of a verdict.
+/// Adds the name and the meaning of a refusal.
 fn push_words(text: &mut Vec<u8>, name: &[u8], meaning: &[u8]) -> Result<(), AllocError>
     ensures { OnOk result (text.new.items ≡ text.old.items ++ words_json name.now meaning.now) }
 {
@@ -107,27 +108,36 @@ fn push_words(text: &mut Vec<u8>, name: &[u8], meaning: &[u8]) -> Result<(), All
     push_string(text, meaning)
 }
 
-/// The object of a verdict with its name and its meaning.
-fn refusal_of(alloc: Global, verdict: &Verdict, name: &[u8], meaning: &[u8]) -> io::Result<Vec<u8>>
-    ensures { IfOk result (λ text. text.items ≡ refusal_json verdict.now name.now meaning.now) }
+/// The object of a refusal with its name and its meaning.
+fn refusal_of(
+    alloc: Global,
+    refusal: &CommandRefusal,
+    name: &[u8],
+    meaning: &[u8],
+) -> io::Result<Vec<u8>>
+    ensures { IfOk result (λ text. text.items ≡ refusal_json refusal.now name.now meaning.now) }
 {
-    let code = verdict.code;
+    let code = refusal.code();
     let mut text = Vec::new(alloc);
     write!(text, "{{\"accepted\":false,\"code\":{code},\"slot\":")?;
-    push_number(&mut text, verdict.slot)?;
+    push_number(&mut text, refusal.slot())?;
     text.extend_from_slice(b",\"line\":")?;
-    push_number(&mut text, verdict.line)?;
+    push_number(&mut text, refusal.line())?;
     push_words(&mut text, name, meaning)?;
     text.extend_from_slice(b"}\n")?;
     Ok(text)
 }
 
-/// Writes the object of a verdict, with its name and its meaning.
-pub fn write_refusal<W: Write>(alloc: Global, out: &mut W, verdict: &Verdict) -> io::Result<()>
-    ensures { OnOk result (TellsVerdict true verdict.now (W.contents out.old) (W.contents out.new)) }
+/// Writes the object of a refusal, with its name and its meaning.
+pub fn write_refusal<W: Write>(
+    alloc: Global,
+    out: &mut W,
+    refusal: &CommandRefusal,
+) -> io::Result<()>
+    ensures { OnOk result (TellsVerdict true refusal.now (W.contents out.old) (W.contents out.new)) }
 {
-    let words = words_of(alloc, verdict.code)?;
-    let text = refusal_of(alloc, verdict, words.name.as_bytes(), words.text.as_bytes())?;
+    let words = words_of(alloc, refusal)?;
+    let text = refusal_of(alloc, refusal, words.name.as_bytes(), words.text.as_bytes())?;
     write_text(out, &text)
 }
 

@@ -11,12 +11,14 @@ mod meanings;
 mod pool;
 mod prefixes;
 mod puts;
+mod refusal;
 mod report;
 mod run_words;
 mod script;
 mod single;
 mod source_text;
 mod streams;
+mod text_meanings;
 mod trace;
 
 pub use command_words::{
@@ -25,4 +27,4 @@ pub use command_words::{
 pub use dispatch::run;
 pub use report::no_command;
 pub use script_hints::{Made, Outcome, Refusal, explain_answers, explain_script, outcome_of};
-pub use streams::unread;
+pub use streams::read_failed;

@@ -5,15 +5,18 @@ ghost use Rattle.bpf_model.specs.View.{AreNewMaps, shapes_of_maps};
 ghost use Rattle.program_files.specs.Checks.{IsCheckedRefusal};
 ghost use Rattle.program_files.specs.Files.{HoldsBytes};
 ghost use Rattle.program_files.specs.Verdicts.{memory_number};
+ghost use Rattle.commands.specs.Refusals.{command_number};
 ghost use Rattle.job_queue.specs.declared.fault.PoolFault.TheVariants.{Lost};
 ghost use Rattle.job_queue.specs.Faults.{pool_fault_number};
 ghost use Rattle.commands.specs.Pools.{entries_line, IsProgramOf, IsRefusedByPool, WritesPool};
 
-use crate::report::{out_of_memory, plain_verdict, refused, told};
-use crate::streams::{unread_in_words, written};
+use crate::meanings::meaning_of_refusal;
+use crate::refusal::CommandRefusal;
+use crate::report::{MEMORY, out_of_memory, report_line, report_refusal};
+use crate::streams::{read_failed_in_words, write_status};
 use bpf_model::MAX_JOURNAL;
-use explanations::meaning_of;
-use program_files::{FileBytes, MEMORY, Verdict, read_file, verify_for_maps};
+use explanations::write_meaning;
+use program_files::{FileBytes, Verdict, read_file, verify_for_maps};
 use std::alloc::Global;
 use std::io;
 use std::io::{Read, Write};
@@ -54,11 +57,9 @@ fn write_entries<W: Write>(out: &mut W, entries: usize) -> io::Result<()>
 }
 
 /// Writes how many workers and jobs are asked for, and how many a pool may have.
-fn write_limits<W: Write>(out: &mut W, code: u8, size: PoolSize) -> io::Result<()> {
-    if let Some(meaning) = meaning_of(code) {
-        let name = meaning.name;
-        let text = meaning.text;
-        writeln!(out, "{name}: {text}")?;
+fn write_limits<W: Write>(out: &mut W, refusal: &CommandRefusal, size: PoolSize) -> io::Result<()> {
+    if let Some(meaning) = meaning_of_refusal(refusal) {
+        write_meaning(out, meaning)?;
     }
     let PoolSize { workers, count } = size;
     writeln!(
@@ -72,17 +73,17 @@ fn write_limits<W: Write>(out: &mut W, code: u8, size: PoolSize) -> io::Result<(
 }
 
 /// Tells that a pool of this size is refused, in words too where it is asked for, and answers the status.
-fn told_of_size<E: Write>(err: &mut E, verdict: Verdict, size: PoolSize, in_words: bool) -> u8
+fn report_size<E: Write>(err: &mut E, refusal: CommandRefusal, size: PoolSize, in_words: bool) -> u8
     ensures status { (result ≡ 1) ⊎ (result ≡ 3) }
-    ensures memory { verdict.code ≡ memory_number → result ≡ 3 }
-    ensures lost { verdict.code ≡ pool_fault_number Lost → result ≡ 3 }
+    ensures memory { command_number refusal ≡ memory_number → result ≡ 3 }
+    ensures lost { command_number refusal ≡ pool_fault_number Lost → result ≡ 3 }
 {
-    if verdict.code == MEMORY {
+    if refusal.code() == MEMORY {
         return out_of_memory(err, in_words);
     }
-    let status = refused(err, verdict);
+    let status = report_line(err, refusal);
     if in_words && status == 1 {
-        let _ = write_limits(err, verdict.code, size);
+        let _ = write_limits(err, &refusal, size);
     }
     status
 }
@@ -108,17 +109,19 @@ pub fn run_pool<H: Threads + Wait + Sync, R: Read, W: Write, E: Write>(
 {
     let file = match read_file(alloc, input) {
         Ok(file) => file,
-        Err(error) => return unread_in_words(err, &error, in_words),
+        Err(error) => return read_failed_in_words(err, &error, in_words),
     };
     let program = match program_of(alloc, &file) {
         Ok(program) => program,
-        Err(verdict) => return told(alloc, &file, verdict, in_words, err),
+        Err(verdict) => {
+            return report_refusal(alloc, &file, CommandRefusal::File(verdict), in_words, err);
+        }
     };
     match run_program(rt, alloc, program, size.workers, size.count, out) {
-        Ok(entries) => written(err, write_entries(out, entries)),
+        Ok(entries) => write_status(err, write_entries(out, entries)),
         Err(RunFault::Pool(fault)) => {
-            told_of_size(err, plain_verdict(fault.code()), size, in_words)
+            report_size(err, CommandRefusal::Pool(fault), size, in_words)
         }
-        Err(RunFault::Write(error)) => written(err, Err(error)),
+        Err(RunFault::Write(error)) => write_status(err, Err(error)),
     }
 }

@@ -1,16 +1,15 @@
 //! Elements that are put into a file's maps.
 ghost use Rattle.std.specs.Prelude.{◌≡◌, ◌⊎◌, map, None, Some, IfOk, IfErr};
 ghost use Rattle.bpf_model.specs.declared.event.EventRefusal.{EventRefusal as RefusalOf};
-ghost use Rattle.bpf_model.specs.EventNumbers.{event_refusal_number};
-ghost use Rattle.program_files.specs.Verdicts.{memory_number};
-ghost use Rattle.commands.specs.Outputs.{IsPlainVerdict};
+ghost use Rattle.program_files.specs.declared.verdict.Verdict.TheVariants.{Memory};
+ghost use Rattle.commands.specs.declared.refusal.CommandRefusal.TheVariants.{File, Event as OfEvent};
 ghost use Rattle.commands.specs.Runs.{element_refusal, put_event, AllFit, HasBadElement};
 
-use crate::report::plain_verdict;
+use crate::refusal::CommandRefusal;
 use bpf_model::{Event, EventRefusal, array_of};
 use command_words::MapElement;
 use maps::Registry;
-use program_files::{MEMORY, Verdict};
+use program_files::Verdict;
 use std::alloc::Global;
 
 /// The event by which an element is put into its map, or the first test that it fails.
@@ -46,22 +45,21 @@ pub fn puts_of(
     alloc: Global,
     registry: &Registry,
     elements: &[MapElement],
-) -> Result<Vec<Event>, Verdict>
+) -> Result<Vec<Event>, CommandRefusal>
     ensures fit { IfOk result (λ _. AllFit registry.now elements.now) }
     ensures puts { IfOk result (λ es. es.items ≡ map (put_event registry.now) elements.now) }
-    ensures refused { IfErr result (λ v. (v.code ≡ memory_number) ⊎
-        ((r : RefusalOf) × HasBadElement registry.now elements.now r
-        × IsPlainVerdict (event_refusal_number r) v)) }
+    ensures refused { IfErr result (λ v. (v ≡ File Memory) ⊎
+        ((r : RefusalOf) × HasBadElement registry.now elements.now r × (v ≡ OfEvent r))) }
 {
     let mut puts = Vec::new(alloc);
     for number in 0..elements.len() {
         match put_of(registry, &elements[number]) {
             Ok(put) => {
                 if puts.push(put).is_err() {
-                    return Err(plain_verdict(MEMORY));
+                    return Err(CommandRefusal::File(Verdict::Memory));
                 }
             }
-            Err(refusal) => return Err(plain_verdict(refusal.code())),
+            Err(refusal) => return Err(CommandRefusal::Event(refusal)),
         }
     }
     Ok(puts)

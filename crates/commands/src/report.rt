@@ -4,22 +4,25 @@ ghost use Rattle.command_words.specs.declared.request.WordsFault.TheVariants.{Me
 ghost use Rattle.program_files.specs.Verdicts.{memory_number};
 ghost use Rattle.job_queue.specs.declared.fault.PoolFault.TheVariants.{Lost};
 ghost use Rattle.job_queue.specs.Faults.{pool_fault_number};
-ghost use Rattle.commands.specs.Outputs.{IsPlainVerdict, TellsVerdict};
+ghost use Rattle.commands.specs.Outputs.{TellsVerdict};
+ghost use Rattle.commands.specs.Refusals.{command_number};
 
 use crate::json::write_refusal;
+use crate::meanings::meaning_of_refusal;
 use crate::prefixes::explain_prefix;
-use crate::streams::unwritten;
+use crate::refusal::CommandRefusal;
+use crate::streams::write_failed;
 use command_words::WordsFault;
-use explanations::explain_with_lines;
+use explanations::{explain_with_lines, write_meaning};
 use job_queue::PoolFault;
-use program_files::{FileBytes, MEMORY, Verdict};
+use program_files::{FileBytes, Verdict};
 use program_texts::write_source_line;
 use std::alloc::Global;
 use std::io;
 use std::io::Write;
 
-/// The number of an element that its map has no place for.
-pub const NO_PLACE: u8 = 98;
+/// The number of want of memory.
+pub const MEMORY: u8 = 13;
 
 /// The text that a program file was made of, and for each instruction the number of its line there.
 #[derive(Clone, Copy)]
@@ -28,26 +31,15 @@ pub struct MadeOf<'a> {
     pub lines: &'a [usize],
 }
 
-/// How a verdict is told: in words too, and as a JSON object.
+/// How a refusal is told: in words too, and as a JSON object.
 #[derive(Clone, Copy)]
 pub struct Telling {
     pub explain: bool,
     pub json: bool,
 }
 
-/// The verdict of this number, of neither a slot nor a line.
-pub fn plain_verdict(code: u8) -> Verdict
-    ensures { IsPlainVerdict code result }
-{
-    Verdict {
-        code,
-        slot: None,
-        line: None,
-    }
-}
-
 /// Writes `fault C` on standard error, and answers its status.
-pub fn fault<W: Write>(err: &mut W, code: u8) -> u8
+pub fn report_fault<W: Write>(err: &mut W, code: u8) -> u8
     ensures { result ≡ 3 }
 {
     let _ = writeln!(err, "fault {code}");
@@ -58,7 +50,7 @@ pub fn fault<W: Write>(err: &mut W, code: u8) -> u8
 pub fn out_of_memory<W: Write>(err: &mut W, in_words: bool) -> u8
     ensures { result ≡ 3 }
 {
-    let status = fault(err, MEMORY);
+    let status = report_fault(err, MEMORY);
     if in_words {
         let _ = writeln!(err, "memory ran out");
     }
@@ -67,17 +59,17 @@ pub fn out_of_memory<W: Write>(err: &mut W, in_words: bool) -> u8
 
 /// Writes `refused C`, `refused C at S` for a slot or `fault C at L` for a line on standard error, or
 /// the fault where memory ran out or a result was lost, and answers the status.
-pub fn refused<W: Write>(err: &mut W, verdict: Verdict) -> u8
+pub fn report_line<W: Write>(err: &mut W, refusal: CommandRefusal) -> u8
     ensures status { (result ≡ 1) ⊎ (result ≡ 3) }
-    ensures memory { verdict.code ≡ memory_number → result ≡ 3 }
-    ensures lost { verdict.code ≡ pool_fault_number Lost → result ≡ 3 }
-    ensures other { verdict.code ≢ memory_number → verdict.code ≢ pool_fault_number Lost → result ≡ 1 }
+    ensures memory { command_number refusal ≡ memory_number → result ≡ 3 }
+    ensures lost { command_number refusal ≡ pool_fault_number Lost → result ≡ 3 }
+    ensures other { command_number refusal ≢ memory_number → command_number refusal ≢ pool_fault_number Lost → result ≡ 1 }
 {
-    let code = verdict.code;
+    let code = refusal.code();
     if code == MEMORY || code == PoolFault::Lost.code() {
-        return fault(err, code);
+        return report_fault(err, code);
     }
-    let _ = match (verdict.line, verdict.slot) {
+    let _ = match (refusal.line(), refusal.slot()) {
         (Some(line), _) => writeln!(err, "fault {code} at {line}"),
         (None, Some(slot)) => writeln!(err, "refused {code} at {slot}"),
         (None, None) => writeln!(err, "refused {code}"),
@@ -85,23 +77,23 @@ pub fn refused<W: Write>(err: &mut W, verdict: Verdict) -> u8
     1
 }
 
-/// Tells a verdict on a file, in words too where it is asked for, and answers the status.
-pub fn told<E: Write>(
+/// Tells why a file is refused, in words too where it is asked for, and answers the status.
+pub fn report_refusal<E: Write>(
     alloc: Global,
     file: &FileBytes,
-    verdict: Verdict,
+    refusal: CommandRefusal,
     in_words: bool,
     err: &mut E,
 ) -> u8
     ensures status { (result ≡ 1) ⊎ (result ≡ 3) }
-    ensures memory { verdict.code ≡ memory_number → result ≡ 3 }
-    ensures lost { verdict.code ≡ pool_fault_number Lost → result ≡ 3 }
+    ensures memory { command_number refusal ≡ memory_number → result ≡ 3 }
+    ensures lost { command_number refusal ≡ pool_fault_number Lost → result ≡ 3 }
 {
-    told_at(alloc, file, None, verdict, in_words, err)
+    report_refusal_at(alloc, file, None, refusal, in_words, err)
 }
 
 /// Writes what a verdict on a file means, and of a wrong line, too, where its digits are to stand alone.
-fn write_words<E: Write>(
+fn write_words_of_file<E: Write>(
     alloc: Global,
     file: &FileBytes,
     text: Option<MadeOf<'_>>,
@@ -113,60 +105,77 @@ fn write_words<E: Write>(
         None => &[],
     };
     explain_with_lines(alloc, file, lines, verdict, err)?;
-    match (verdict.line, file) {
+    match (verdict.line(), file) {
         (Some(line), FileBytes::Whole(bytes)) => explain_prefix(err, bytes, line),
         _ => Ok(()),
     }
 }
 
-/// Tells a verdict on a file, and the line of the text that it was made of, if it was made of one.
-pub fn told_at<E: Write>(
+/// Writes what a refusal means; of a file's also what of the file is the cause.
+fn write_words<E: Write>(
     alloc: Global,
     file: &FileBytes,
     text: Option<MadeOf<'_>>,
-    verdict: Verdict,
+    refusal: &CommandRefusal,
+    err: &mut E,
+) -> io::Result<()> {
+    if let CommandRefusal::File(verdict) = refusal {
+        return write_words_of_file(alloc, file, text, verdict, err);
+    }
+    match meaning_of_refusal(refusal) {
+        Some(meaning) => write_meaning(err, meaning),
+        None => Ok(()),
+    }
+}
+
+/// Tells why a file is refused, and the line of the text that it was made of, if it was made of one.
+pub fn report_refusal_at<E: Write>(
+    alloc: Global,
+    file: &FileBytes,
+    text: Option<MadeOf<'_>>,
+    refusal: CommandRefusal,
     in_words: bool,
     err: &mut E,
 ) -> u8
     ensures status { (result ≡ 1) ⊎ (result ≡ 3) }
-    ensures memory { verdict.code ≡ memory_number → result ≡ 3 }
-    ensures lost { verdict.code ≡ pool_fault_number Lost → result ≡ 3 }
+    ensures memory { command_number refusal ≡ memory_number → result ≡ 3 }
+    ensures lost { command_number refusal ≡ pool_fault_number Lost → result ≡ 3 }
 {
-    if verdict.code == MEMORY {
+    if refusal.code() == MEMORY {
         return out_of_memory(err, in_words);
     }
-    let status = refused(err, verdict);
-    if let (Some(text), Some(slot)) = (text, verdict.slot) {
+    let status = report_line(err, refusal);
+    if let (Some(text), Some(slot)) = (text, refusal.slot()) {
         let _ = write_source_line(alloc, text.text, slot, err);
     }
     if in_words && status == 1 {
-        let _ = write_words(alloc, file, text, &verdict, err);
+        let _ = write_words(alloc, file, text, &refusal, err);
     }
     status
 }
 
-/// Tells a verdict as `told_at` does, and on the output as a JSON object where that is asked for.
-pub fn told_twice<W: Write, E: Write>(
+/// Tells a refusal as `report_refusal_at` does, and on the output as a JSON object where that is asked for.
+pub fn report_in_form<W: Write, E: Write>(
     alloc: Global,
     file: &FileBytes,
     text: Option<MadeOf<'_>>,
-    verdict: Verdict,
+    refusal: CommandRefusal,
     form: Telling,
     out: &mut W,
     err: &mut E,
 ) -> u8
     ensures status { (result ≡ 1) ⊎ (result ≡ 3) }
-    ensures memory { verdict.code ≡ memory_number → result ≡ 3 }
-    ensures told { result ≡ 1 → TellsVerdict form.json verdict (W.contents out.old) (W.contents out.new) }
+    ensures memory { command_number refusal ≡ memory_number → result ≡ 3 }
+    ensures told { result ≡ 1 → TellsVerdict form.json refusal (W.contents out.old) (W.contents out.new) }
     ensures silent { result ≡ 1 → form.json ≡ false → out.new ≡ out.old }
 {
-    let status = told_at(alloc, file, text, verdict, form.explain, err);
+    let status = report_refusal_at(alloc, file, text, refusal, form.explain, err);
     if status != 1 || !form.json {
         return status;
     }
-    match write_refusal(alloc, out, &verdict) {
+    match write_refusal(alloc, out, &refusal) {
         Ok(()) => 1,
-        Err(error) => unwritten(err, &error),
+        Err(error) => write_failed(err, &error),
     }
 }
 
@@ -176,7 +185,7 @@ pub fn no_command<W: Write>(err: &mut W, usage: &WordsFault) -> u8
     ensures other { usage.now ≢ Memory → result ≡ 2 }
 {
     if matches!(usage, WordsFault::Memory) {
-        return fault(err, MEMORY);
+        return report_fault(err, MEMORY);
     }
     let _ = writeln!(err, "{usage}");
     2

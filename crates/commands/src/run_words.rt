@@ -2,7 +2,7 @@
 ghost use Rattle.bpf_model.specs.View.{AreNewMaps};
 
 use crate::puts::puts_of;
-use crate::report::NO_PLACE;
+use crate::refusal::CommandRefusal;
 use bpf_model::{Answer, Errno, EventRefusal, MapId, MapKind, MapShape};
 use command_words::{MapElement, SingleRun};
 use hex::encode;
@@ -116,30 +116,39 @@ fn context_words(file: &FileBytes) -> &'static str {
     }
 }
 
+/// Writes what is wrong with the context or with the first element that does not fit.
+fn write_event<W: Write>(
+    alloc: Global,
+    file: &FileBytes,
+    refusal: EventRefusal,
+    single: &SingleRun,
+    out: &mut W,
+) -> io::Result<()> {
+    let Ok(source) = file.source(alloc) else {
+        return Ok(());
+    };
+    if refusal != EventRefusal::BadContext {
+        return write_misfit(out, &source.registry, &single.elements);
+    }
+    let (given, due) = (single.context.len(), source.ctx_len);
+    let why = context_words(file);
+    writeln!(
+        out,
+        "  CTX has length {given}, and is to have length {due}, {why}"
+    )
+}
+
 /// Writes what is wrong with the context or the elements of one run, whose file is sound.
 pub fn explain_run<W: Write>(
     alloc: Global,
     file: &FileBytes,
-    code: u8,
+    refusal: CommandRefusal,
     single: &SingleRun,
     out: &mut W,
 ) -> io::Result<()> {
-    if code == NO_PLACE {
-        return write_unplaced(alloc, file, &single.elements, out);
+    match refusal {
+        CommandRefusal::NoPlace => write_unplaced(alloc, file, &single.elements, out),
+        CommandRefusal::Event(refusal) => write_event(alloc, file, refusal, single, out),
+        CommandRefusal::File(_) | CommandRefusal::Pool(_) => Ok(()),
     }
-    let Ok(source) = file.source(alloc) else {
-        return Ok(());
-    };
-    if code == EventRefusal::BadContext.code() {
-        let (given, due) = (single.context.len(), source.ctx_len);
-        let why = context_words(file);
-        return writeln!(
-            out,
-            "  CTX has length {given}, and is to have length {due}, {why}"
-        );
-    }
-    if code == EventRefusal::NoMap.code() || code == EventRefusal::BadLength.code() {
-        return write_misfit(out, &source.registry, &single.elements);
-    }
-    Ok(())
 }

@@ -2,13 +2,13 @@
 ghost use Rattle.std.specs.Prelude.{◌≡◌, ◌⊎◌, ℕ, IfSome};
 ghost use Rattle.commands.specs.Scripts.{AnswersAll, AnswersBefore};
 
-use crate::report::fault;
+use crate::report::report_fault;
 use control::{ScriptFault, run_script};
 use std::alloc::Global;
 use std::io::{Read, Write};
 
 /// Says on standard error why a script ended before its input, and answers the status.
-fn stopped<E: Write>(err: &mut E, why: ScriptFault) -> u8
+fn report_stop<E: Write>(err: &mut E, why: ScriptFault) -> u8
     ensures status { (result ≡ 1) ⊎ (result ≡ 3) }
     ensures bad { result ≡ 1 → (line : ℕ) × (why ≡ ScriptFault.BadCommand line) }
 {
@@ -18,7 +18,7 @@ fn stopped<E: Write>(err: &mut E, why: ScriptFault) -> u8
             let _ = writeln!(err, "fault {code} at {line}");
             1
         }
-        _ => fault(err, code),
+        _ => report_fault(err, code),
     }
 }
 
@@ -38,6 +38,6 @@ pub fn run_lines<R: Read, W: Write, E: Write>(
 {
     match run_script(alloc, input, out) {
         Ok(()) => 0,
-        Err(why) => stopped(err, why),
+        Err(why) => report_stop(err, why),
     }
 }

@@ -3,16 +3,18 @@ ghost use Rattle.std.specs.Prelude.{◌≡◌, ◌⊎◌, ◌++◌, List, ℕ, f
 ghost use Rattle.program_files.specs.Files.{HoldsBytes};
 ghost use Rattle.program_files.specs.Verdicts.{memory_number};
 ghost use Rattle.commands.specs.Outputs.{TellsVerdict};
+ghost use Rattle.commands.specs.Refusals.{command_number};
 ghost use Rattle.commands.specs.Runs.{ended_line, ended_text, IsDumped, IsRunRefusal, IsRunText};
 
 use crate::dump::write_maps;
 use crate::json::ended_of;
 use crate::puts::puts_of;
-use crate::report::{NO_PLACE, Telling, plain_verdict, told_twice};
+use crate::refusal::CommandRefusal;
+use crate::report::{Telling, report_in_form};
 use crate::run_words::explain_run;
 use bpf_model::{EventRefusal, array_of};
 use command_words::SingleRun;
-use program_files::{FileBytes, MEMORY, Verdict, verify_for_maps};
+use program_files::{FileBytes, Verdict, verify_for_maps};
 use run_once::{Ended, RunEnd, run_once};
 use std::alloc::{AllocError, Global};
 use std::io;
@@ -62,7 +64,11 @@ fn text_of(alloc: Global, ended: Ended, world: &World, single: &SingleRun) -> io
 /// - 63: the context has another length than the program's.
 /// - 65 or 66, of the first element that fails a test: no map has its name, or its key or value has another length.
 /// - 98: a map has no place for an element.
-pub fn run_of(alloc: Global, file: &FileBytes, single: &SingleRun) -> Result<Vec<u8>, Verdict>
+pub fn run_of(
+    alloc: Global,
+    file: &FileBytes,
+    single: &SingleRun,
+) -> Result<Vec<u8>, CommandRefusal>
     ensures ended { (bytes : List ℕ) → HoldsBytes file.now bytes →
         IfOk result (λ text. IsRunText single.now bytes text.items) }
     ensures refused { (bytes : List ℕ) → HoldsBytes file.now bytes →
@@ -71,44 +77,44 @@ pub fn run_of(alloc: Global, file: &FileBytes, single: &SingleRun) -> Result<Vec
     let source = file.source(alloc)?;
     let verified = verify_for_maps(alloc, source.program, &source.registry, source.ctx_len)?;
     if single.context.len() != verified.ctx_len() {
-        return Err(plain_verdict(EventRefusal::BadContext.code()));
+        return Err(CommandRefusal::Event(EventRefusal::BadContext));
     }
     let puts = puts_of(alloc, &source.registry, &single.elements)?;
     let context = array_of(&single.context);
     let Ok(ran) = run_once(alloc, verified, source.registry, puts, context) else {
-        return Err(plain_verdict(MEMORY));
+        return Err(CommandRefusal::File(Verdict::Memory));
     };
     let ended = match ran.outcome {
         RunEnd::Exited(ended) => ended,
-        RunEnd::NotDone(_) => return Err(plain_verdict(NO_PLACE)),
+        RunEnd::NotDone(_) => return Err(CommandRefusal::NoPlace),
     };
     match text_of(alloc, ended, &ran.world, single) {
         Ok(text) => Ok(text),
-        Err(_) => Err(plain_verdict(MEMORY)),
+        Err(_) => Err(CommandRefusal::File(Verdict::Memory)),
     }
 }
 
-/// Tells a verdict on a file or its run.
-pub fn told_of_run<W: Write, E: Write>(
+/// Tells why a file or its run is refused.
+pub fn report_run<W: Write, E: Write>(
     alloc: Global,
     file: &FileBytes,
-    verdict: Verdict,
+    refusal: CommandRefusal,
     single: &SingleRun,
     out: &mut W,
     err: &mut E,
 ) -> u8
     ensures status { (result ≡ 1) ⊎ (result ≡ 3) }
-    ensures memory { verdict.code ≡ memory_number → result ≡ 3 }
-    ensures told { result ≡ 1 → TellsVerdict single.now.json verdict (W.contents out.old) (W.contents out.new) }
+    ensures memory { command_number refusal ≡ memory_number → result ≡ 3 }
+    ensures told { result ≡ 1 → TellsVerdict single.now.json refusal (W.contents out.old) (W.contents out.new) }
     ensures silent { result ≡ 1 → single.now.json ≡ false → out.new ≡ out.old }
 {
     let form = Telling {
         explain: single.explain,
         json: single.json,
     };
-    let status = told_twice(alloc, file, None, verdict, form, out, err);
+    let status = report_in_form(alloc, file, None, refusal, form, out, err);
     if single.explain && status == 1 {
-        let _ = explain_run(alloc, file, verdict.code, single, err);
+        let _ = explain_run(alloc, file, refusal, single, err);
     }
     status
 }

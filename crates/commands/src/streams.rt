@@ -2,31 +2,30 @@
 ghost use Rattle.std.specs.Prelude.{◌≡◌, OnOk, MatchResult};
 ghost use Rattle.std.specs.Io.KnownBytes.{Appends};
 
-use crate::report::{fault, out_of_memory};
-use program_files::MEMORY;
+use crate::report::{MEMORY, out_of_memory, report_fault};
 use script_stream::{ScriptFault, stream_fault};
 use std::io;
 use std::io::{ErrorKind, Write};
 
 /// The status where an input cannot be opened or read, which is told on `err`: where it is too large or memory ran out,
 /// `fault 13`, or else `fault 96`.
-pub fn unread<E: Write>(err: &mut E, error: &io::Error) -> u8
+pub fn read_failed<E: Write>(err: &mut E, error: &io::Error) -> u8
     ensures { result ≡ 3 }
 {
     if error.kind() == ErrorKind::FileTooLarge {
-        return fault(err, MEMORY);
+        return report_fault(err, MEMORY);
     }
-    fault(err, stream_fault(error, ScriptFault::Read).code())
+    report_fault(err, stream_fault(error, ScriptFault::Read).code())
 }
 
-/// The status where an input cannot be read, which is told as `unread` does, and in words where that is asked for.
-pub fn unread_in_words<E: Write>(err: &mut E, error: &io::Error, in_words: bool) -> u8
+/// The status where an input cannot be read, which is told as `read_failed` does, and in words where that is asked for.
+pub fn read_failed_in_words<E: Write>(err: &mut E, error: &io::Error, in_words: bool) -> u8
     ensures { result ≡ 3 }
 {
     if error.kind() == ErrorKind::OutOfMemory {
         return out_of_memory(err, in_words);
     }
-    unread(err, error)
+    read_failed(err, error)
 }
 
 /// Writes all of a text, and flushes the stream.
@@ -38,18 +37,18 @@ pub fn write_text<W: Write>(out: &mut W, text: &[u8]) -> io::Result<()>
 }
 
 /// The status where an output's writing failed, which is told on `err`.
-pub fn unwritten<E: Write>(err: &mut E, error: &io::Error) -> u8
+pub fn write_failed<E: Write>(err: &mut E, error: &io::Error) -> u8
     ensures { result ≡ 3 }
 {
-    fault(err, stream_fault(error, ScriptFault::Write).code())
+    report_fault(err, stream_fault(error, ScriptFault::Write).code())
 }
 
 /// The status of an output that was written, or whose writing failed, which is told on `err`.
-pub fn written<E: Write>(err: &mut E, outcome: io::Result<()>) -> u8
+pub fn write_status<E: Write>(err: &mut E, outcome: io::Result<()>) -> u8
     ensures { MatchResult outcome (λ _. result ≡ 0) (λ _. result ≡ 3) }
 {
     match outcome {
         Ok(()) => 0,
-        Err(error) => unwritten(err, &error),
+        Err(error) => write_failed(err, &error),
     }
 }

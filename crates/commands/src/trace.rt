@@ -5,13 +5,13 @@ ghost use Rattle.commands.specs.Runs.{IsRunRefusal, IsToldText, traced_text, Ref
 
 use crate::json::traced_of;
 use crate::puts::puts_of;
-use crate::report::plain_verdict;
-use crate::single::{run_of, told_of_run};
-use crate::streams::{unread_in_words, write_text, written};
+use crate::refusal::CommandRefusal;
+use crate::single::{report_run, run_of};
+use crate::streams::{read_failed_in_words, write_status, write_text};
 use bpf_model::{Event, ProgId, array_of};
 use command_words::SingleRun;
 use insn_codec::Program;
-use program_files::{FileBytes, MEMORY, Verdict, read_file, verify_for_maps};
+use program_files::{FileBytes, Verdict, read_file, verify_for_maps};
 use run_once::write_steps;
 use std::alloc::{AllocError, Global};
 use std::io;
@@ -82,7 +82,7 @@ fn text_of(
     file: &FileBytes,
     steps: bool,
     single: &SingleRun,
-) -> Result<Vec<u8>, Verdict>
+) -> Result<Vec<u8>, CommandRefusal>
     ensures told { (bytes : List ℕ) → HoldsBytes file.now bytes →
         IfOk result (λ text. IsToldText steps single.now bytes text.items) }
     ensures refused { (bytes : List ℕ) → HoldsBytes file.now bytes →
@@ -93,11 +93,11 @@ fn text_of(
         return Ok(end);
     }
     let Ok(steps) = steps_of(alloc, file, single) else {
-        return Err(plain_verdict(MEMORY));
+        return Err(CommandRefusal::File(Verdict::Memory));
     };
     match together(alloc, single.json, steps, &end) {
         Ok(text) => Ok(text),
-        Err(_) => Err(plain_verdict(MEMORY)),
+        Err(_) => Err(CommandRefusal::File(Verdict::Memory)),
     }
 }
 
@@ -121,10 +121,10 @@ pub fn run_single<R: Read, W: Write, E: Write>(
 {
     let file = match read_file(alloc, input) {
         Ok(file) => file,
-        Err(error) => return unread_in_words(err, &error, single.explain),
+        Err(error) => return read_failed_in_words(err, &error, single.explain),
     };
     match text_of(alloc, &file, steps, single) {
-        Ok(text) => written(err, write_text(out, &text)),
-        Err(verdict) => told_of_run(alloc, &file, verdict, single, out, err),
+        Ok(text) => write_status(err, write_text(out, &text)),
+        Err(refusal) => report_run(alloc, &file, refusal, single, out, err),
     }
 }

@@ -2,6 +2,7 @@
 use bpf_model::{Given, ProgId, Stat, array_of};
 use commands::{WordsFault, no_command};
 use explanations::meaning_of;
+use program_files::Verdict;
 use script_lines::{Name, Reply, write_reply};
 use std::test::Fail;
 
@@ -46,5 +47,5 @@ fn want_of_memory(rt: HostRuntime) {
     let mut err: Vec<u8> = Vec::new(rt.alloc());
     assert_eq!(rt; no_command(&mut err, &WordsFault::Memory), 3);
     assert_eq!(rt; err.as_slice(), b"fault 13\n".as_slice());
-    assert!(rt; meaning_of(13).is_none());
+    assert!(rt; meaning_of(&Verdict::Memory).is_none());
 }

@@ -3,15 +3,12 @@
 use crate::alignment::write_alignment;
 use crate::arithmetic::write_arithmetic;
 use crate::bounds::{sign_of, write_bounds};
-use crate::numbers::{
-    BACK_JUMP, JUMP_TARGET, MISALIGNED, NO_SUCH_MAP, OUT_OF_BOUNDS, OUTSIDE_SECTION,
-    POINTER_ARITHMETIC, POINTER_LEAK, UNKNOWN_CALL, UNPAIRED_SECTION, WRONG_ARGUMENT,
-};
 use bpf_model::{
     ArgumentKind, CallKind, FRAME_BYTES, Helper, Insn, MapId, MapShape, Operand, Reg, ResultKind,
 };
 use program_files::Source;
-use register_kinds::{AbsState, RegKind, is_array};
+use program_graph::GraphFlaw;
+use register_kinds::{AbsState, InsnFault, RegKind, is_array};
 use std::io;
 use std::io::Write;
 use text_likeness::{Filling, write_filled, write_text};
@@ -110,19 +107,26 @@ fn write_maps<W: Write>(out: &mut W, source: &Source) -> io::Result<()> {
     write_text(out, "\n")
 }
 
-/// Writes what of a program is the cause of a refusal at this instruction, which stands at a slot.
-pub fn write_cause<W: Write>(
+/// Writes what is the cause of this flaw of the jump graph, which is at the instruction that stands at a slot.
+pub fn write_flaw_cause<W: Write>(
     out: &mut W,
     source: &Source,
     insn: &Insn,
-    code: u8,
+    flaw: GraphFlaw,
     slot: usize,
 ) -> io::Result<()> {
-    match code {
-        JUMP_TARGET => write_target(out, source, insn, slot),
-        BACK_JUMP => write_text(out, LOOP),
-        UNKNOWN_CALL => write_filled(out, "  {}\n", &[Filling::Text(FUNCTIONS)]),
-        NO_SUCH_MAP => write_maps(out, source),
+    match flaw {
+        GraphFlaw::JumpTarget => write_target(out, source, insn, slot),
+        GraphFlaw::BackJump => write_text(out, LOOP),
+        GraphFlaw::FallsOff | GraphFlaw::Unreachable => Ok(()),
+    }
+}
+
+/// Writes what of a program is the cause of this fault of an instruction.
+pub fn write_cause<W: Write>(out: &mut W, source: &Source, fault: InsnFault) -> io::Result<()> {
+    match fault {
+        InsnFault::UnknownCall => write_filled(out, "  {}\n", &[Filling::Text(FUNCTIONS)]),
+        InsnFault::NoSuchMap => write_maps(out, source),
         _ => Ok(()),
     }
 }
@@ -292,23 +296,23 @@ pub fn helper_of(insn: &Insn) -> Option<Helper> {
     }
 }
 
-/// Writes what of the registers before an instruction is the cause of a refusal.
+/// Writes what of the registers before an instruction is the cause of its fault.
 pub fn write_known_cause<W: Write>(
     out: &mut W,
     source: &Source,
     insn: &Insn,
-    code: u8,
+    fault: InsnFault,
     state: &AbsState,
 ) -> io::Result<()> {
-    match (code, helper_of(insn)) {
-        (WRONG_ARGUMENT, Some(helper)) => write_argument(out, state, helper),
-        (OUT_OF_BOUNDS, Some(helper)) => write_outside(out, source, state, helper),
-        (OUT_OF_BOUNDS, None) => write_bounds(out, source, insn, state),
-        (OUTSIDE_SECTION, Some(helper)) => write_lookup(out, source, state, helper),
-        (MISALIGNED, _) => write_alignment(out, insn, state),
-        (POINTER_ARITHMETIC, _) => write_arithmetic(out, insn, state),
-        (POINTER_LEAK, _) => write_leak(out, insn, state),
-        (UNPAIRED_SECTION, _) => write_section(out, insn, state.depth),
+    match (fault, helper_of(insn)) {
+        (InsnFault::WrongArgument, Some(helper)) => write_argument(out, state, helper),
+        (InsnFault::OutOfBounds, Some(helper)) => write_outside(out, source, state, helper),
+        (InsnFault::OutOfBounds, None) => write_bounds(out, source, insn, state),
+        (InsnFault::OutsideSection, Some(helper)) => write_lookup(out, source, state, helper),
+        (InsnFault::Misaligned, _) => write_alignment(out, insn, state),
+        (InsnFault::PointerArithmetic, _) => write_arithmetic(out, insn, state),
+        (InsnFault::PointerLeak, _) => write_leak(out, insn, state),
+        (InsnFault::UnpairedSection, _) => write_section(out, insn, state.depth),
         _ => Ok(()),
     }
 }

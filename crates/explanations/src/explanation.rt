@@ -2,32 +2,34 @@
 ghost use Rattle.std.specs.Prelude.{◌≤◌};
 ghost use Rattle.bpf_model.specs.declared.limits.TheConstants.{CTX_BYTES};
 
-use crate::causes::{write_cause, write_known_cause};
+use crate::causes::{write_cause, write_flaw_cause, write_known_cause};
 use crate::depths::write_depths;
 use crate::lost::{Told, write_unreadable};
-use crate::meaning::{Meaning, meaning_of, unpaired};
+use crate::meaning::{Meaning, meaning_of, meaning_of_fault, meaning_of_flaw, unpaired};
 use crate::missing::{Place, write_bytes_read};
-use crate::numbers::{UNPAIRED_SECTION, UNWRITTEN_REGISTER, WIDE_TAIL};
 use crate::reads::registers_read;
 use crate::slot_lines::{SlotPlace, place_of_slot};
 use bpf_model::Insn;
 use disasm::line_of;
-use program_files::{FileBytes, HEADING, MEMORY, Source, Verdict, known_where_refused, load};
-use register_kinds::RegKind;
-use std::alloc::{AllocError, Global};
+use insn_codec::{DecodeFault, InsnFlaw};
+use program_files::{FileBytes, HEADING, LoadFault, Source, Verdict, known_where_refused, load};
+use program_graph::GraphFlaw;
+use register_kinds::{InsnFault, RegKind};
+use std::alloc::Global;
 use std::io;
 use std::io::Write;
 use text_likeness::{
     Filling, likeness_of, write_filled, write_likeness, write_text, write_wrong_line,
 };
-use verifier::AbsState;
+use verifier::{AbsState, ProgramRefusal};
 use verifier_log::write_kind;
 
-/// The index of the instruction that begins at a slot, if one does.
-fn index_at(source: &Source, slot: usize) -> Option<usize> {
+/// The instruction that begins at a slot, and its index, if one does.
+fn insn_at(source: &Source, slot: usize) -> Option<(usize, &Insn)> {
     for (index, start) in source.program.starts().iter().enumerate() {
         if *start == slot {
-            return Some(index);
+            let insn = source.program.instructions().get(index)?;
+            return Some((index, insn));
         }
     }
     None
@@ -63,7 +65,7 @@ fn write_known<W: Write>(
     alloc: Global,
     place: Place<'_>,
     insn: &Insn,
-    code: u8,
+    fault: InsnFault,
     out: &mut W,
 ) -> io::Result<()> {
     let read = registers_read(insn);
@@ -79,7 +81,7 @@ fn write_known<W: Write>(
         "  locks that are not given up: {}\n",
         &[Filling::Count(place.state.depth)],
     )?;
-    if code == UNWRITTEN_REGISTER && is_cleared {
+    if fault == InsnFault::UnwrittenRegister && is_cleared {
         return write_text(out, KEPT);
     }
     Ok(())
@@ -94,41 +96,84 @@ fn write_at<W: Write>(out: &mut W, slot: usize, text: &str) -> io::Result<()> {
     )
 }
 
-/// Writes the text of the instruction at which a program is refused by this number, and what was known there.
-fn write_instruction<W: Write>(
+/// Writes a flaw of the jump graph: what it means, the text of the instruction at which it is, and why it is one.
+fn write_flaw<W: Write>(
+    alloc: Global,
+    source: &Source,
+    flaw: GraphFlaw,
+    slot: usize,
+    out: &mut W,
+) -> io::Result<()> {
+    write_meaning(out, meaning_of_flaw(flaw))?;
+    let Some((_, insn)) = insn_at(source, slot) else {
+        return Ok(());
+    };
+    let text = line_of(alloc, insn)?;
+    write_at(out, slot, text.as_str())?;
+    write_flaw_cause(out, source, insn, flaw, slot)
+}
+
+/// What a fault of an instruction means before which this is known: of sections the one cause that holds.
+fn meaning_there(fault: InsnFault, insn: &Insn, known: &Option<Box<AbsState>>) -> Option<Meaning> {
+    if fault != InsnFault::UnpairedSection {
+        return meaning_of_fault(fault);
+    }
+    let depth = match known {
+        Some(state) => Some(state.depth),
+        None => None,
+    };
+    Some(unpaired(insn, depth))
+}
+
+/// Writes why an instruction has a fault where this is known before it.
+fn write_known_fault<W: Write>(
+    alloc: Global,
+    place: Place<'_>,
+    insn: &Insn,
+    fault: InsnFault,
+    out: &mut W,
+) -> io::Result<()> {
+    write_known(alloc, place, insn, fault, out)?;
+    write_known_cause(out, place.source, insn, fault, place.state)?;
+    write_bytes_read(alloc, out, place, insn, fault)
+}
+
+/// Writes a fault of an instruction: what it means, the instruction's text, and why it has the fault.
+fn write_fault<W: Write>(
     alloc: Global,
     told: Told<'_>,
-    code: u8,
+    fault: InsnFault,
     slot: usize,
     out: &mut W,
 ) -> io::Result<()>
     requires { told.source.now.ctx_len ≤ CTX_BYTES }
 {
     let source = told.source;
-    let Some(index) = index_at(source, slot) else {
+    let Some((index, insn)) = insn_at(source, slot) else {
         return Ok(());
     };
-    let Some(insn) = source.program.instructions().get(index) else {
-        return Ok(());
-    };
+    let known = known_where_refused(alloc, source)?;
+    if let Some(meaning) = meaning_there(fault, insn, &known) {
+        write_meaning(out, meaning)?;
+    }
     let text = line_of(alloc, insn)?;
     write_at(out, slot, text.as_str())?;
-    write_cause(out, source, insn, code, slot)?;
-    if code == UNPAIRED_SECTION {
+    write_cause(out, source, fault)?;
+    if fault == InsnFault::UnpairedSection {
         write_depths(alloc, source, index, out)?;
     }
-    if let Some(state) = known_where_refused(alloc, source)? {
-        let place = Place {
-            source,
-            lines: told.lines,
-            state: &state,
-            index,
-        };
-        write_known(alloc, place, insn, code, out)?;
-        write_known_cause(out, source, insn, code, &state)?;
-        write_bytes_read(alloc, out, place, insn, code)?;
+    match &known {
+        Some(state) => {
+            let place = Place {
+                source,
+                lines: told.lines,
+                state,
+                index,
+            };
+            write_known_fault(alloc, place, insn, fault, out)
+        }
+        None => Ok(()),
     }
-    Ok(())
 }
 
 /// Writes in which line of a program file's text a slot stands, and where among that line's slots.
@@ -154,12 +199,14 @@ fn write_slot_line<W: Write>(bytes: &[u8], slot: usize, out: &mut W) -> io::Resu
     )
 }
 
-/// The slot that is shown of an instruction that begins at this slot and is refused by this number: the wrong one.
-pub fn slot_shown(code: u8, slot: usize) -> usize {
-    if code == WIDE_TAIL {
-        slot.saturating_add(1)
-    } else {
-        slot
+/// The slot that is shown of a fault of code: of a wide instruction's second half that one.
+pub fn slot_shown(fault: &DecodeFault) -> Option<usize> {
+    match fault {
+        DecodeFault::Insn {
+            flaw: InsnFlaw::WideTail,
+            slot,
+        } => Some(slot.saturating_add(1)),
+        _ => fault.slot(),
     }
 }
 
@@ -189,19 +236,29 @@ fn write_slot<W: Write>(
 /// How many lines stand above that of the context.
 const HEADING_LINES: usize = 1;
 
-/// Writes what bytes look like that are refused for a slot's form, and the line of a text that is wrong.
-fn write_source<W: Write>(file: &FileBytes, verdict: &Verdict, out: &mut W) -> io::Result<()> {
-    let bytes = match file {
+/// What is kept of a file's bytes.
+fn kept_of(file: &FileBytes) -> &[u8] {
+    match file {
         FileBytes::Whole(bytes) => bytes,
         FileBytes::TooLong { beginning, .. } => beginning,
-    };
-    if let Some(line) = verdict.line {
-        return write_wrong_line(out, bytes, line, HEADING_LINES);
     }
-    if verdict.code < MEMORY && !bytes.starts_with(HEADING) {
-        return write_likeness(out, bytes);
+}
+
+/// Writes what bytes look like that are no program, and the digits of the slot that is no instruction.
+fn write_code_fault<W: Write>(
+    alloc: Global,
+    file: &FileBytes,
+    fault: &DecodeFault,
+    out: &mut W,
+) -> io::Result<()> {
+    let bytes = kept_of(file);
+    if !bytes.starts_with(HEADING) && *fault != DecodeFault::Memory {
+        write_likeness(out, bytes)?;
     }
-    Ok(())
+    match slot_shown(fault) {
+        Some(slot) => write_slot(alloc, file, slot, out),
+        None => Ok(()),
+    }
 }
 
 /// Writes the name of a refusal, and what it means.
@@ -213,43 +270,20 @@ pub fn write_meaning<W: Write>(out: &mut W, meaning: Meaning) -> io::Result<()> 
     )
 }
 
-/// The meaning of a refusal by this number of the instruction at a slot: of sections the one cause that holds.
-fn meaning_at(
-    alloc: Global,
-    source: &Source,
-    code: u8,
-    slot: usize,
-) -> Result<Option<Meaning>, AllocError>
-    requires { source.now.ctx_len ≤ CTX_BYTES }
-{
-    if code != UNPAIRED_SECTION {
-        return Ok(meaning_of(code));
-    }
-    let insn = match index_at(source, slot) {
-        Some(index) => source.program.instructions().get(index),
-        None => None,
-    };
-    let depth = match known_where_refused(alloc, source)? {
-        Some(state) => Some(state.depth),
-        None => None,
-    };
-    Ok(unpaired(insn, depth))
-}
-
-/// Writes what a refusal of the instruction at a slot means, and why it is refused.
+/// Writes why the verifier refuses a program, and what that means.
 fn write_refused<W: Write>(
     alloc: Global,
     told: Told<'_>,
-    code: u8,
-    slot: usize,
+    refusal: &ProgramRefusal,
     out: &mut W,
 ) -> io::Result<()>
     requires { told.source.now.ctx_len ≤ CTX_BYTES }
 {
-    if let Some(meaning) = meaning_at(alloc, told.source, code, slot)? {
-        write_meaning(out, meaning)?;
+    match refusal {
+        ProgramRefusal::Graph { flaw, slot } => write_flaw(alloc, told.source, *flaw, *slot, out),
+        ProgramRefusal::Instruction { fault, slot } => write_fault(alloc, told, *fault, *slot, out),
+        ProgramRefusal::Memory => Ok(()),
     }
-    write_instruction(alloc, told, code, slot, out)
 }
 
 /// Writes what a verdict on a program file means: a line with its name and its meaning; and where it is of an
@@ -279,19 +313,21 @@ pub fn explain_with_lines<W: Write>(
     verdict: &Verdict,
     out: &mut W,
 ) -> io::Result<()> {
-    if let (Some(slot), Ok(source)) = (verdict.slot, file.source(alloc)) {
+    if let (Verdict::Program(refusal), Ok(source)) = (verdict, file.source(alloc)) {
         let told = Told {
             source: &source,
             lines,
         };
-        return write_refused(alloc, told, verdict.code, slot, out);
+        return write_refused(alloc, told, refusal, out);
     }
-    if let Some(meaning) = meaning_of(verdict.code) {
+    if let Some(meaning) = meaning_of(verdict) {
         write_meaning(out, meaning)?;
     }
-    write_source(file, verdict, out)?;
-    match verdict.slot {
-        Some(slot) => write_slot(alloc, file, slot_shown(verdict.code, slot), out),
-        None => Ok(()),
+    match verdict {
+        Verdict::File(LoadFault::BadFile { line }) => {
+            write_wrong_line(out, kept_of(file), *line, HEADING_LINES)
+        }
+        Verdict::Code(fault) => write_code_fault(alloc, file, fault, out),
+        _ => Ok(()),
     }
 }

@@ -11,11 +11,10 @@ mod explanation;
 mod lost;
 mod meaning;
 mod missing;
-mod numbers;
 mod reads;
 mod slot_lines;
 mod ways;
 
 pub use causes::FUNCTIONS;
 pub use explanation::{explain, explain_with_lines, slot_shown, write_meaning};
-pub use meaning::{Meaning, meaning_of};
+pub use meaning::{Meaning, meaning_of, meaning_of_event};

@@ -3,10 +3,9 @@
 use crate::access::loaded;
 use crate::causes::{helper_of, is_outside, shape_of_call};
 use crate::lost::{Told, write_lost_byte};
-use crate::numbers::{MIXED_REGIONS, OUTSIDE_SECTION, POINTER_LEAK, UNWRITTEN_FRAME};
 use bpf_model::{ArgumentKind, FRAME_BYTES, Helper, Insn, Reg};
 use program_files::Source;
-use register_kinds::{AbsState, RegKind, check_bytes};
+use register_kinds::{AbsState, InsnFault, RegKind, check_bytes};
 use std::alloc::Global;
 use std::io;
 use std::io::Write;
@@ -74,25 +73,25 @@ fn part_of_argument(
     }
 }
 
-/// What is said of a byte of the frame for which a program is refused by this number.
-fn byte_words(code: u8) -> Option<&'static str> {
-    match code {
-        UNWRITTEN_FRAME => Some("not written on every path"),
-        POINTER_LEAK => Some("part of a pointer or map"),
-        MIXED_REGIONS => Some("of different kinds on different paths"),
-        OUTSIDE_SECTION => Some(
+/// What is said of a byte of the frame for which an instruction has this fault.
+fn byte_words(fault: InsnFault) -> Option<&'static str> {
+    match fault {
+        InsnFault::UnwrittenFrame => Some("not written on every path"),
+        InsnFault::PointerLeak => Some("part of a pointer or map"),
+        InsnFault::MixedRegions => Some("of different kinds on different paths"),
+        InsnFault::OutsideSection => Some(
             "on some path part of a reference to an element, whose section has ended",
         ),
         _ => None,
     }
 }
 
-/// The first of these bytes for which a program is refused by this number.
-fn first_refused(state: &AbsState, part: FramePart, code: u8) -> Option<usize> {
+/// The first of these bytes for which an instruction has this fault.
+fn first_refused(state: &AbsState, part: FramePart, fault: InsnFault) -> Option<usize> {
     let end = part.first.saturating_add(part.length).min(FRAME_BYTES);
     for at in part.first..end {
-        if let Err(fault) = check_bytes(&state.frame, at, 1) {
-            if fault.code() == code {
+        if let Err(found) = check_bytes(&state.frame, at, 1) {
+            if found == fault {
                 return Some(at);
             }
         }
@@ -100,15 +99,15 @@ fn first_refused(state: &AbsState, part: FramePart, code: u8) -> Option<usize> {
     None
 }
 
-/// Writes the first of these bytes for which a program is refused by this number, counted from r10, if there is one, and
+/// Writes the first of these bytes for which an instruction has this fault, counted from r10, if there is one, and
 /// answers it.
 fn write_first_in<W: Write>(
     out: &mut W,
     state: &AbsState,
     part: FramePart,
-    code: u8,
+    fault: InsnFault,
 ) -> io::Result<Option<usize>> {
-    let (Some(words), Some(at)) = (byte_words(code), first_refused(state, part, code)) else {
+    let (Some(words), Some(at)) = (byte_words(fault), first_refused(state, part, fault)) else {
         return Ok(None);
     };
     write_filled(
@@ -125,25 +124,25 @@ fn write_first_in<W: Write>(
     Ok(Some(at))
 }
 
-/// Of which kind a byte of the frame is for which a program is refused by this number, and which cannot be read.
-fn unreadable_kind(code: u8) -> Option<RegKind> {
-    match code {
-        UNWRITTEN_FRAME => Some(RegKind::Unwritten),
-        OUTSIDE_SECTION => Some(RegKind::Ended),
-        MIXED_REGIONS => Some(RegKind::Mixed),
+/// Of which kind a byte of the frame is for which an instruction has this fault, and which cannot be read.
+fn unreadable_kind(fault: InsnFault) -> Option<RegKind> {
+    match fault {
+        InsnFault::UnwrittenFrame => Some(RegKind::Unwritten),
+        InsnFault::OutsideSection => Some(RegKind::Ended),
+        InsnFault::MixedRegions => Some(RegKind::Mixed),
         _ => None,
     }
 }
 
-/// Writes how a byte of the frame came to be unreadable for which a program is refused by this number.
+/// Writes how a byte of the frame came to be unreadable for which an instruction has this fault.
 fn write_lost<W: Write>(
     alloc: Global,
     out: &mut W,
     place: Place<'_>,
     at: usize,
-    code: u8,
+    fault: InsnFault,
 ) -> io::Result<()> {
-    match unreadable_kind(code) {
+    match unreadable_kind(fault) {
         Some(bad) => write_lost_byte(alloc, place.told(), place.index, at, bad, out),
         None => Ok(()),
     }
@@ -156,16 +155,16 @@ fn write_first_of_part<W: Write>(
     out: &mut W,
     place: Place<'_>,
     part: FramePart,
-    code: u8,
+    fault: InsnFault,
 ) -> io::Result<bool> {
-    let Some(at) = write_first_in(out, place.state, part, code)? else {
+    let Some(at) = write_first_in(out, place.state, part, fault)? else {
         return Ok(false);
     };
     let group = at / 8;
-    if code == POINTER_LEAK && group < 64 {
+    if fault == InsnFault::PointerLeak && group < 64 {
         write_group(out, place.source, &place.state.frame, group)?;
     }
-    write_lost(alloc, out, place, at, code)?;
+    write_lost(alloc, out, place, at, fault)?;
     Ok(true)
 }
 
@@ -174,13 +173,13 @@ fn leads_to_bytes(kind: ArgumentKind) -> bool {
     matches!(kind, ArgumentKind::KeyOfMap | ArgumentKind::ValueOfMap)
 }
 
-/// Writes the first byte to which the arguments of a helper lead and for which it is refused by this number.
+/// Writes the first byte to which the arguments of a helper lead and for which its call has this fault.
 fn write_first_of_call<W: Write>(
     alloc: Global,
     out: &mut W,
     place: Place<'_>,
     helper: Helper,
-    code: u8,
+    fault: InsnFault,
 ) -> io::Result<()> {
     for (index, kind) in helper.arguments().iter().enumerate() {
         let Some(register) = Reg::new(index as u8 + 1) else {
@@ -188,7 +187,7 @@ fn write_first_of_call<W: Write>(
         };
         match part_of_argument(place.source, place.state, register, *kind) {
             Some(part) => {
-                if write_first_of_part(alloc, out, place, part, code)? {
+                if write_first_of_part(alloc, out, place, part, fault)? {
                     return Ok(());
                 }
             }
@@ -224,29 +223,29 @@ fn write_loaded<W: Write>(
     )
 }
 
-/// Writes which bytes of the frame that an instruction reads are the cause of its refusal by this number, if some are.
+/// Writes which bytes of the frame that an instruction reads are the cause of its fault, if some are.
 pub fn write_bytes_read<W: Write>(
     alloc: Global,
     out: &mut W,
     place: Place<'_>,
     insn: &Insn,
-    code: u8,
+    fault: InsnFault,
 ) -> io::Result<()> {
     let Place { source, state, .. } = place;
     if let Some(part) = part_of_load(insn, state) {
-        if code == POINTER_LEAK || code == MIXED_REGIONS {
+        if matches!(fault, InsnFault::PointerLeak | InsnFault::MixedRegions) {
             write_loaded(out, source, state, part)?;
-            return match first_refused(state, part, code) {
-                Some(at) => write_lost(alloc, out, place, at, code),
+            return match first_refused(state, part, fault) {
+                Some(at) => write_lost(alloc, out, place, at, fault),
                 None => Ok(()),
             };
         }
-        write_first_of_part(alloc, out, place, part, code)?;
+        write_first_of_part(alloc, out, place, part, fault)?;
         return Ok(());
     }
     match helper_of(insn) {
         Some(helper) if !is_outside(source, state, helper) => {
-            write_first_of_call(alloc, out, place, helper, code)
+            write_first_of_call(alloc, out, place, helper, fault)
         }
         _ => Ok(()),
     }

@@ -13,10 +13,8 @@ use Rattle.insn_codec.specs.Faults.{IsDecodeFault, length_fault}
 use Rattle.program_files.specs.ProgramFile.{heading, IsRawFile, raw_content}
 use Rattle.program_files.specs.declared.program_file.FileBytes.{FileBytes}
 use Rattle.program_files.specs.declared.program_file.FileBytes.TheVariants.{TooLong}
-use Rattle.program_files.specs.declared.verdict.Verdict.{Verdict}
 use Rattle.program_files.specs.Files.{HoldsBytes}
-use Rattle.program_files.specs.Verdicts.{IsDecodeVerdict}
-use Rattle.program_files.specs.Checks.{IsDecodeRefusal}
+use Rattle.program_files.specs.Checks.{IsCodeFault}
 
 prefix_is : (bytes more text : List ℕ) → 8 ≤ length bytes → bytes ++ more ≡ heading ++ text → bytes ≡ heading ++ drop 8 bytes
 prefix_is bytes more text long e =
@@ -40,11 +38,11 @@ more_long file r b bytes more e h =
     let l : length (bytes ++ more) ≡ length bytes + length more = length-append bytes more in
     (omega arith, remainders r (length bytes) (length more) (length (bytes ++ more)) same l, raw_more bytes more (omega arith) k.2)
 
-long_told : (file : FileBytes) (r : ℕ) (b : Vec ℕ) (bytes : List ℕ) (f : DecodeFault) (v : Verdict) → file ≡ TooLong r b →
-    HoldsBytes file bytes → IsDecodeFault bytes f → IsDecodeVerdict f v → IsDecodeRefusal bytes v
-long_told file r b bytes f v e h fault told =
+long_told : (file : FileBytes) (r : ℕ) (b : Vec ℕ) (bytes : List ℕ) (f : DecodeFault) → file ≡ TooLong r b →
+    HoldsBytes file bytes → IsDecodeFault bytes f → IsCodeFault bytes f
+long_told file r b bytes f e h fault =
     let k = subst (λ (g : FileBytes). HoldsBytes g bytes) e h in
-    inr (inr (record { content = raw_content bytes; says = inr (k.2, refl); fault = f; is = fault; told = told }))
+    record { content = raw_content bytes; says = inr (k.2, refl); is = fault }
 
 length_long : (bytes : List ℕ) → length bytes % 8 ≡ 0 → 8 * MAX_SLOTS < length bytes → length_fault bytes ≡ Some faults.TooLong
 length_long bytes e long =
@@ -58,14 +56,14 @@ length_odd bytes e =
     let a : (length bytes % 8 == 0) ≡ false = grind (arith, nat_tests) in
     rw a refl
 
-pub even_told : (file : FileBytes) (r : ℕ) (b : Vec ℕ) (bytes : List ℕ) (v : Verdict) → file ≡ TooLong r b → r ≡ 0 →
-    HoldsBytes file bytes → IsDecodeVerdict faults.TooLong v → IsDecodeRefusal bytes v
-even_told file r b bytes v e z h told =
+pub even_told : (file : FileBytes) (r : ℕ) (b : Vec ℕ) (bytes : List ℕ) → file ≡ TooLong r b → r ≡ 0 →
+    HoldsBytes file bytes → IsCodeFault bytes faults.TooLong
+even_told file r b bytes e z h =
     let k = subst (λ (g : FileBytes). HoldsBytes g bytes) e h in
-    long_told file r b bytes faults.TooLong v e h (length_long bytes (sym k.1 ∙ z) k.0) told
+    long_told file r b bytes faults.TooLong e h (length_long bytes (sym k.1 ∙ z) k.0)
 
-pub odd_told : (file : FileBytes) (r : ℕ) (b : Vec ℕ) (bytes : List ℕ) (v : Verdict) → file ≡ TooLong r b → r ≢ 0 →
-    HoldsBytes file bytes → IsDecodeVerdict faults.Length v → IsDecodeRefusal bytes v
-odd_told file r b bytes v e z h told =
+pub odd_told : (file : FileBytes) (r : ℕ) (b : Vec ℕ) (bytes : List ℕ) → file ≡ TooLong r b → r ≢ 0 →
+    HoldsBytes file bytes → IsCodeFault bytes faults.Length
+odd_told file r b bytes e z h =
     let k = subst (λ (g : FileBytes). HoldsBytes g bytes) e h in
-    long_told file r b bytes faults.Length v e h (length_odd bytes (λ m. z (k.1 ∙ m))) told
+    long_told file r b bytes faults.Length e h (length_odd bytes (λ m. z (k.1 ∙ m)))

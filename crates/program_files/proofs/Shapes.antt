@@ -1,5 +1,5 @@
 -- The shapes of a registry's maps, and what is told of a program that the verifier refuses.
-use Rattle.std.proofs.Common.{◌≡◌, ◌⊎◌, ℕ, ◌+◌, ◌<◌, ◌≤◌, List, [], ◌∷◌, ◌++◌, length, map, take, get_or, ap, sym, ◌∙◌, inl, inr, arith}
+use Rattle.std.proofs.Common.{◌≡◌, ◌⊎◌, ℕ, ◌+◌, ◌<◌, ◌≤◌, List, [], ◌∷◌, ◌++◌, length, map, take, get_or, ap, sym, subst, ◌∙◌, inl, inr, arith}
 use Rattle.std.specs.Prelude.{Option, Some, None, slice_get, option_map}
 use Rattle.std.proofs.lemmas.List.{take_more, map-append}
 use Rattle.std.proofs.lemmas.Option.{slice_get_cases, same_Some, none-some}
@@ -8,12 +8,11 @@ use Rattle.bpf_model.specs.declared.limits.MapShape.{MapShape}
 use Rattle.model_laws.specs.PlainMaps.{IsPlainWithMaps}
 use Rattle.verifier.specs.declared.refusal.ProgramRefusal.{ProgramRefusal}
 use Rattle.verifier.specs.declared.refusal.ProgramRefusal.TheVariants.{Memory}
-use Rattle.verifier.specs.Numbers.{refusal_number}
 use Rattle.verifier.specs.Verdict.{IsToldOf}
 use Rattle.program_files.specs.declared.verdict.Verdict.{Verdict}
+use Rattle.program_files.specs.declared.verdict.Verdict.TheVariants.{Program}
 use Rattle.program_files.specs.declared.program_file.Source.{Source}
-use Rattle.program_files.specs.Verdicts.{IsRefusalVerdict}
-use Rattle.program_files.specs.Checks.{IsSourceOf, IsCheckedRefusal}
+use Rattle.program_files.specs.Checks.{IsSourceOf, IsProgramRefused, IsVerifierVerdict, IsCheckedRefusal}
 
 abbrev IsAt : List MapView → ℕ → Type 0
 IsAt maps n =
@@ -49,12 +48,12 @@ shape_missing maps n id r same is none below =
 
 pub verifier_told : (bytes : List ℕ) (s : Source) (r : ProgramRefusal) (v : Verdict) → IsSourceOf bytes s →
     IsToldOf s.program r → (IsPlainWithMaps s.program (shapes_of_maps s.registry.maps) → r ≡ Memory) →
-    IsRefusalVerdict r v → IsCheckedRefusal bytes v
-verifier_told bytes s r v is found with_maps told = inr (record {
-  source = s;
-  is = is;
-  refusal = r;
-  found = found;
-  told = told;
-  not_plain_with_maps = λ n p. n (told.code ∙ ap refusal_number (with_maps p));
-})
+    v ≡ Program r → IsCheckedRefusal bytes v
+verifier_told bytes s r v is found with_maps told =
+    let refused : IsProgramRefused bytes r = record {
+      source = s;
+      is = is;
+      found = found;
+      not_plain_with_maps = λ n p. n (with_maps p);
+    } in
+    inr (subst (IsVerifierVerdict bytes) (sym told) refused)

@@ -1,5 +1,5 @@
 -- What a program file says once it is decoded, verified or disassembled, and the verdict on one that is refused.
-use Rattle.std.specs.Prelude.{◌≡◌, ◌≢◌, ℕ, ◌⊎◌, List, length}
+use Rattle.std.specs.Prelude.{◌≡◌, ◌≢◌, ℕ, ◌⊎◌, List, length, ⊤}
 use Rattle.bpf_model.specs.declared.insn.Insn.{Insn}
 use Rattle.bpf_model.specs.Spelling.{IsProgram, text}
 use Rattle.bpf_model.specs.Places.{slot_total}
@@ -9,15 +9,15 @@ use Rattle.disasm.specs.Text.{program_text}
 use Rattle.insn_codec.specs.declared.fault.DecodeFault.{DecodeFault}
 use Rattle.insn_codec.specs.Faults.{IsDecodeFault}
 use Rattle.program_graph.specs.GraphFlaws.{HasGoodGraph}
-use Rattle.program_files.specs.declared.loader.fault.LoadFault.{LoadFault}
 use Rattle.program_files.specs.ProgramFile.{FileContent, FileSays, IsLoadFault}
 use Rattle.plan_laws.specs.Verified.{IsVerified}
 use Rattle.verifier.specs.declared.refusal.ProgramRefusal.{ProgramRefusal}
+use Rattle.verifier.specs.declared.refusal.ProgramRefusal.TheVariants as refusals
 use Rattle.verifier.specs.Verdict.{IsToldOf}
 use Rattle.program_files.specs.declared.verdict.Verdict.{Verdict}
+use Rattle.program_files.specs.declared.verdict.Verdict.TheVariants.{File, Code, Program, Memory}
 use Rattle.program_files.specs.declared.program_file.Source.{Source}
 use Rattle.program_files.specs.declared.file_check.Accepted.{Accepted}
-use Rattle.program_files.specs.Verdicts.{memory_number, IsDecodeVerdict, IsRefusalVerdict, IsLoadVerdict}
 
 -- what a file says whose code is the text of a program
 abbrev pub content_with : Source → FileContent
@@ -52,34 +52,33 @@ pub record IsTextOf (bytes lines : List ℕ) : Type 0 where
   pub is : IsSourceOf bytes source
   pub lines_are : lines ≡ program_text source.program
 
--- The verdict is of the first line that is wrong.
-pub record IsFileVerdict (bytes : List ℕ) (v : Verdict) : Type 0 where
-  pub fault : LoadFault
-  pub is : IsLoadFault bytes fault
-  pub told : IsLoadVerdict fault v
-
--- The verdict is the first fault of the code that the file says.
-pub record IsCodeVerdict (bytes : List ℕ) (v : Verdict) : Type 0 where
+-- The file says code, and this is its first fault.
+pub record IsCodeFault (bytes : List ℕ) (fault : DecodeFault) : Type 0 where
   pub content : FileContent
   pub says : FileSays bytes content
-  pub fault : DecodeFault
   pub is : IsDecodeFault content.code fault
-  pub told : IsDecodeVerdict fault v
 
--- The file says a program, and the verdict is the verifier's of it. Unless memory ran out, the
--- program isn't plain.
-pub record IsVerifierVerdict (bytes : List ℕ) (v : Verdict) : Type 0 where
+-- The file says a program, and the verifier refuses it so. Unless memory ran out, the program isn't
+-- plain.
+pub record IsProgramRefused (bytes : List ℕ) (refusal : ProgramRefusal) : Type 0 where
   pub source : Source
   pub is : IsSourceOf bytes source
-  pub refusal : ProgramRefusal
   pub found : IsToldOf source.program refusal
-  pub told : IsRefusalVerdict refusal v
-  pub not_plain_with_maps : v.code ≢ memory_number →
+  pub not_plain_with_maps : refusal ≢ refusals.Memory →
       ¬ (IsPlainWithMaps source.program (shapes_of_maps source.registry.maps))
 
--- The verdict is want of memory, or the first fault of the file, or of its code.
+-- The verdict is the first line that is wrong, or the first fault of the code that the file says.
+-- That memory ran out may be said of any.
 abbrev pub IsDecodeRefusal : List ℕ → Verdict → Type 0
-IsDecodeRefusal bytes v = (v.code ≡ memory_number) ⊎ (IsFileVerdict bytes v ⊎ IsCodeVerdict bytes v)
+IsDecodeRefusal bytes (File fault) = IsLoadFault bytes fault
+IsDecodeRefusal bytes (Code fault) = IsCodeFault bytes fault
+IsDecodeRefusal bytes (Program refusal) = ⊥
+IsDecodeRefusal bytes Memory = ⊤
+
+-- The verdict is the verifier's of the program that the file says.
+abbrev pub IsVerifierVerdict : List ℕ → Verdict → Type 0
+IsVerifierVerdict bytes (Program refusal) = IsProgramRefused bytes refusal
+IsVerifierVerdict bytes v = ⊥
 
 -- What `check` refuses with: want of memory, a fault of the file or of its code, or the
 -- verifier's verdict.

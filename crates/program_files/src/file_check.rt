@@ -18,10 +18,10 @@ pub struct Accepted {
 
 /// Decodes and verifies a file's program.
 ///
-/// Errors: the first of these, or 13 where memory runs out.
-/// - 94, with the line of the file that is wrong.
-/// - What decoding refuses: 1 to 3 of the length, 4 to 12 with the slot.
-/// - What the verifier refuses: 20 to 39, with the slot.
+/// Errors: the first of these, or want of memory, which is 13.
+/// - `File`: the line of the file that is wrong, 94.
+/// - `Code`: what decoding refuses, 1 to 3 of the length, 4 to 12 with the slot.
+/// - `Program`: what the verifier refuses, 20 to 39, with the slot.
 pub fn check(alloc: Global, file: &FileBytes) -> Result<Accepted, Verdict>
     ensures accepted { (bytes : List ℕ) → HoldsBytes file.now bytes →
         IfOk result (IsAcceptedFile bytes) }

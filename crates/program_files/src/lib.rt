@@ -11,5 +11,5 @@ mod verified_file;
 pub use crate::loader::{HEADING, LoadFault, ProgramFile, load};
 pub use file_check::{Accepted, check, text_of};
 pub use program_file::{FileBytes, Source, read_file, read_text};
-pub use verdict::{MEMORY, Verdict};
+pub use verdict::Verdict;
 pub use verified_file::{known_where_refused, shapes_of, verify_for_maps};

@@ -111,8 +111,8 @@ impl FileBytes {
     {
         match self {
             FileBytes::Whole(bytes) => source_of(alloc, bytes),
-            FileBytes::TooLong { remainder: 0, .. } => Err(Verdict::from(DecodeFault::TooLong)),
-            FileBytes::TooLong { .. } => Err(Verdict::from(DecodeFault::Length)),
+            FileBytes::TooLong { remainder: 0, .. } => Err(Verdict::Code(DecodeFault::TooLong)),
+            FileBytes::TooLong { .. } => Err(Verdict::Code(DecodeFault::Length)),
         }
     }
 }

@@ -1,10 +1,11 @@
 //! Why lines of a script are refused, in words for people.
 
+use crate::cause::{Cause, cause_of};
 use crate::words::{SHOWN, words_of};
 use bpf_model::{
     CTX_BYTES, EventRefusal, KEY_BYTES, MAX_ENTRIES, MAX_REUSE, MAX_SPARE, VALUE_BYTES,
 };
-use explanations::{explain, meaning_of, slot_shown};
+use explanations::{explain, meaning_of, slot_shown, write_meaning};
 use maps::MapFault;
 use program_files::{FileBytes, Verdict};
 use script_lines::{ScriptCommand, ShapeNumbers, number_of, parse_line};
@@ -41,15 +42,6 @@ pub struct Made {
     maps: Vec<MadeMap>,
     contexts: Vec<u64>,
 }
-
-/// The number of a map's or a program's making after that of the world.
-const SEALED: u8 = 56;
-
-/// The least number that is none of a program's own.
-const FIRST_OF_SCRIPTS: u8 = 50;
-
-/// The least number of the verifier.
-const FIRST_OF_VERIFIER: u8 = 20;
 
 /// What a line of answers says of the line that it answers; none where it is an element of a list, which goes on.
 pub fn outcome_of(answer: &[u8]) -> Option<Outcome> {
@@ -276,37 +268,32 @@ fn write_bad_name<W: Write>(out: &mut W, name: &[u8]) -> io::Result<()> {
     writeln!(out)
 }
 
-/// Writes what in a line of these words is the cause of its refusal.
-fn write_cause<W: Write>(
+/// Writes what in a line of these words is the cause of the refusal of its event.
+fn write_event_cause<W: Write>(
     out: &mut W,
     made: &Made,
+    words: &[&[u8]],
+    refusal: EventRefusal,
+) -> io::Result<()> {
+    match refusal {
+        EventRefusal::NoMap => write_no_map(out, made, words),
+        EventRefusal::BadLength => write_misfit(out, made, words),
+        EventRefusal::BadContext => write_context(out, made, words),
+        EventRefusal::NoProgram => write_programs(out, made),
+        _ => Ok(()),
+    }
+}
+
+/// Writes what in a line of these words is the cause of the refusal of its map.
+fn write_map_cause<W: Write>(
+    out: &mut W,
     command: &ScriptCommand<'_>,
     words: &[&[u8]],
-    code: u8,
+    fault: MapFault,
 ) -> io::Result<()> {
-    if code == EventRefusal::NoMap.code() {
-        return write_no_map(out, made, words);
-    }
-    if code == EventRefusal::BadLength.code() {
-        return write_misfit(out, made, words);
-    }
-    if code == EventRefusal::BadContext.code() {
-        return write_context(out, made, words);
-    }
-    if code == EventRefusal::NoProgram.code() {
-        return write_programs(out, made);
-    }
-    if code == MapFault::BadName.code() {
-        return write_bad_name(out, word_at(words, 1));
-    }
-    match command {
-        ScriptCommand::Map { shape, .. } if code == MapFault::BadShape.code() => {
-            write_shape(out, shape)
-        }
-        _ if code == SEALED => writeln!(
-            out,
-            "  `map` and `load` stand above the first line that is another command"
-        ),
+    match (fault, command) {
+        (MapFault::BadName, _) => write_bad_name(out, word_at(words, 1)),
+        (MapFault::BadShape, ScriptCommand::Map { shape, .. }) => write_shape(out, shape),
         _ => Ok(()),
     }
 }
@@ -347,13 +334,45 @@ fn write_slot<W: Write>(out: &mut W, words: &[&[u8]], slot: usize) -> io::Result
     }
 }
 
-/// Writes what a refusal means.
-fn write_meaning<W: Write>(out: &mut W, code: u8) -> io::Result<()> {
-    let Some(meaning) = meaning_of(code) else {
-        return Ok(());
+/// Writes what a verdict on the program of a `load` of these words means: of bytes that are no program with the digits of the
+/// slot that is no instruction.
+fn write_verdict<W: Write>(
+    alloc: Global,
+    out: &mut W,
+    made: &Made,
+    words: &[&[u8]],
+    verdict: &Verdict,
+) -> io::Result<()> {
+    let Verdict::Code(fault) = verdict else {
+        let file = FileBytes::Whole(file_of(alloc, made, words)?);
+        return explain(alloc, &file, verdict, out);
     };
-    let (name, text) = (meaning.name, meaning.text);
-    writeln!(out, "{name}: {text}")
+    if let Some(meaning) = meaning_of(verdict) {
+        write_meaning(out, meaning)?;
+    }
+    match slot_shown(fault) {
+        Some(slot) => write_slot(out, words, slot),
+        None => Ok(()),
+    }
+}
+
+/// What is said of a line that comes too late.
+const LATE: &str = "  `map` and `load` stand above the first line that is another command";
+
+/// Writes what in a line of these words is the cause of its refusal.
+fn write_cause<W: Write>(
+    out: &mut W,
+    made: &Made,
+    command: &ScriptCommand<'_>,
+    words: &[&[u8]],
+    cause: &Cause,
+) -> io::Result<()> {
+    match cause {
+        Cause::Event(refusal) => write_event_cause(out, made, words, *refusal),
+        Cause::Map(fault) => write_map_cause(out, command, words, *fault),
+        Cause::TooLate => writeln!(out, "{LATE}"),
+        Cause::Program(_) | Cause::TooManyPrograms => Ok(()),
+    }
 }
 
 /// Writes why a command of these words was refused.
@@ -363,23 +382,15 @@ fn write_why<W: Write>(
     made: &Made,
     command: &ScriptCommand<'_>,
     words: &[&[u8]],
-    refusal: Refusal,
+    cause: &Cause,
 ) -> io::Result<()> {
-    let Refusal { code, slot } = refusal;
-    if FIRST_OF_VERIFIER <= code && code < FIRST_OF_SCRIPTS {
-        let file = FileBytes::Whole(file_of(alloc, made, words)?);
-        let verdict = Verdict {
-            code,
-            slot,
-            line: None,
-        };
-        return explain(alloc, &file, &verdict, out);
+    if let Cause::Program(verdict) = cause {
+        return write_verdict(alloc, out, made, words, verdict);
     }
-    write_meaning(out, code)?;
-    match slot {
-        Some(slot) => write_slot(out, words, slot_shown(code, slot)),
-        None => write_cause(out, made, command, words, code),
+    if let Some(meaning) = cause.meaning() {
+        write_meaning(out, meaning)?;
     }
+    write_cause(out, made, command, words, cause)
 }
 
 /// Takes the outcome of a line, which has this number, and writes why it was refused, where it was.
@@ -401,11 +412,14 @@ fn take<W: Write>(
             Ok(())
         }
         Outcome::Refused(refusal) => {
-            let code = refusal.code;
+            let Refusal { code, slot } = refusal;
             write!(out, "line {number} is refused ({code}): ")?;
             write_quoted(out, line, SHOWN_OF_LINE)?;
             writeln!(out)?;
-            write_why(alloc, out, made, &command, &words, refusal)
+            match cause_of(code, slot) {
+                Some(cause) => write_why(alloc, out, made, &command, &words, &cause),
+                None => Ok(()),
+            }
         }
     }
 }

@@ -2,6 +2,7 @@
 #![tactic(auto)]
 
 mod answers;
+mod cause;
 mod words;
 
 pub use answers::{Made, Outcome, Refusal, explain_answers, outcome_of, write_length};

@@ -12,7 +12,7 @@ returns-clause-refused g c =
     (λ bytes same. (
       read,
       subst (λ z. IsRead z read) (c.deref.ensures.value ∙ same) c.in-Ok-source_of.ensures,
-      (why, c.told.ensures.refused is, subst (λ z. IsTextFault z why) c.deref-2.ensures.value c.in-Err-make_code.ensures.fault),
+      (why, c.report_text_fault.ensures.refused is, subst (λ z. IsTextFault z why) c.deref-2.ensures.value c.in-Err-make_code.ensures.fault),
     ))
 
 pub returns-in-Ok-make_code-clause-code : goal.returns-in-Ok-make_code-clause-code

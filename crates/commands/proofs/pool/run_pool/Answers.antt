@@ -1,21 +1,22 @@
-use Rattle.std.proofs.Common.{◌≡◌, ℕ, inl, subst}
+use Rattle.std.proofs.Common.{◌≡◌, inl}
 use Rattle.std.proofs.lemmas.Option.{IfSome_then}
 use Rattle.program_files.specs.Verdicts.{memory_number}
 use Rattle.job_queue.specs.declared.fault.PoolFault.TheVariants.{Lost}
 use Rattle.job_queue.specs.Faults.{pool_fault_number}
-use Rattle.commands.specs.Outputs.{IsPlainVerdict}
+use Rattle.commands.specs.declared.refusal.CommandRefusal.TheVariants.{File, Pool}
+use Rattle.commands.specs.Refusals.{command_number}
 use Rattle.commands.proofs.Pooled.{not_so, pool_told, pool_written, so_written}
 use Rattle.commands.proofs.pool.run_pool.Goals as goal
 
 pub returns-in-Err-program_of-clause-refused : goal.returns-in-Err-program_of-clause-refused
 returns-in-Err-program_of-clause-refused g c one =
-    let v = c.in-Err-program_of.verdict in
-    let told = c.told.ensures in
+    let v = File c.in-Err-program_of.verdict in
+    let told = c.report_refusal.ensures in
     IfSome_then (g.R.Read.remaining c.args.input.now) c.in-Ok.ensures
     (λ bytes holds. (
       v,
-      not_so (v.code ≡ memory_number) c.told.result told.memory one,
-      not_so (v.code ≡ pool_fault_number Lost) c.told.result told.lost one,
+      not_so (command_number v ≡ memory_number) c.report_refusal.result told.memory one,
+      not_so (command_number v ≡ pool_fault_number Lost) c.report_refusal.result told.lost one,
       inl (c.in-Err-program_of.ensures.refused bytes holds),
     ))
 
@@ -23,7 +24,7 @@ pub returns-in-Ok-run_program-clause-pooled : goal.returns-in-Ok-run_program-cla
 returns-in-Ok-run_program-clause-pooled g c zero =
     let p = c.in-Ok-program_of.program.verified in
     let contents = g.W.Write.contents in
-    let last = so_written c.write_entries.result c.written.result c.written.ensures zero c.write_entries.ensures in
+    let last = so_written c.write_entries.result c.write_status.result c.write_status.ensures zero c.write_entries.ensures in
     IfSome_then (g.R.Read.remaining c.args.input.now) c.in-Ok.ensures
     (λ bytes holds. pool_written bytes p.program p.shapes p.ctx_len c.args.size.count c.in-Ok-run_program.entries
     (contents c.args.out.now) (contents c.run_program.new.out) (contents c.write_entries.new.out)
@@ -32,15 +33,14 @@ returns-in-Ok-run_program-clause-pooled g c zero =
 pub returns-in-Err-Pool-clause-refused : goal.returns-in-Err-Pool-clause-refused
 returns-in-Err-Pool-clause-refused g c one =
     let p = c.in-Ok-program_of.program.verified in
-    let v = c.plain_verdict.result in
-    let told = c.told_of_size.ensures in
+    let v = Pool c.in-Err-Pool.fault in
+    let told = c.report_size.ensures in
     let fault = rw c.in-Err-Pool.field-0-is at c.in-Err-Pool.ensures.fault in
     IfSome_then (g.R.Read.remaining c.args.input.now) c.in-Ok.ensures
     (λ bytes holds. (
       v,
-      not_so (v.code ≡ memory_number) c.told_of_size.result told.memory one,
-      not_so (v.code ≡ pool_fault_number Lost) c.told_of_size.result told.lost one,
-      pool_told c.args.size.workers c.args.size.count bytes p.program p.shapes p.ctx_len c.in-Err-Pool.fault v
-          (c.in-Ok-program_of.ensures.found bytes holds) fault
-          (subst (λ (n : ℕ). IsPlainVerdict n v) c.code.ensures c.plain_verdict.ensures),
+      not_so (command_number v ≡ memory_number) c.report_size.result told.memory one,
+      not_so (command_number v ≡ pool_fault_number Lost) c.report_size.result told.lost one,
+      pool_told c.args.size.workers c.args.size.count bytes p.program p.shapes p.ctx_len c.in-Err-Pool.fault
+          (c.in-Ok-program_of.ensures.found bytes holds) fault,
     ))

@@ -1,11 +1,10 @@
-use Rattle.std.proofs.Common.{rules, ◌≡◌, ◌⊎◌, ℕ, List, subst, inl}
+use Rattle.std.proofs.Common.{rules, ◌≡◌, ◌⊎◌, ℕ, List, refl, subst, inl}
 use Rattle.std.proofs.lemmas.Result.{err_from_is_err_and}
 use Rattle.bpf_model.specs.declared.event.EventRefusal.{EventRefusal}
-use Rattle.bpf_model.specs.EventNumbers.{event_refusal_number}
 use Rattle.bpf_model.specs.View.{shapes_of_maps}
-use Rattle.program_files.specs.Verdicts.{memory_number}
+use Rattle.program_files.specs.declared.verdict.Verdict.TheVariants.{Memory, Program}
 use Rattle.command_words.specs.declared.request.MapElement.{MapElement}
-use Rattle.commands.specs.Outputs.{IsPlainVerdict}
+use Rattle.commands.specs.declared.refusal.CommandRefusal.TheVariants.{File, Event as OfEvent}
 use Rattle.commands.specs.Runs.{HasBadElement}
 use Rattle.program_files.proofs.Shapes.{verifier_told}
 use Rattle.run_once.specs.declared.once.RunEnd.{RunEnd}
@@ -14,12 +13,17 @@ use Rattle.run_once.specs.Once.{ComesTo}
 use Rattle.commands.proofs.Ran.{IsGood, are_updates, of_source, ended_of, context_told, puts_told, place_told}
 use Rattle.commands.proofs.single.run_of.Goals as goal
 
+pub returns-in_err-source-clause-refused : goal.returns-in_err-source-clause-refused
+returns-in_err-source-clause-refused c bytes h =
+    let p = err_from_is_err_and c.from_residual-in_err-source.result c.from_residual-in_err-source.ensures.1 in
+    rw (p.1, p.2) (inl (inl (c.in_err-source.ensures.fault bytes h)))
+
 pub returns-in_err-verified-clause-refused : goal.returns-in_err-verified-clause-refused
 returns-in_err-verified-clause-refused c bytes h =
     let p = err_from_is_err_and c.from_residual-in_err-verified.result c.from_residual-in_err-verified.ensures.1 in
-    rw p.1 (inl (verifier_told bytes c.in_ok-source.source c.in_err-verified.field-0.0 p.0
+    rw (p.1, p.2) (inl (verifier_told bytes c.in_ok-source.source c.in_err-verified.field-0.0 (Program c.in_err-verified.field-0.0)
     (c.in_ok-source.ensures.found bytes h) c.in_err-verified.ensures.told c.in_err-verified.ensures.plain_with_maps
-    p.2))
+    refl))
 
 pub returns-then-len-ctx_len-clause-refused : goal.returns-then-len-ctx_len-clause-refused
 returns-then-len-ctx_len-clause-refused c bytes h =
@@ -28,8 +32,7 @@ returns-then-len-ctx_len-clause-refused c bytes h =
       graph = c.in_ok-verified.ensures.graph;
       verified = c.in_ok-verified.ensures.verified;
     } in
-    context_told bytes c.args.single.now c.in_ok-source.source c.plain_verdict.result good (search rules)
-    (subst (λ (n : ℕ). IsPlainVerdict n c.plain_verdict.result) c.code.ensures c.plain_verdict.ensures)
+    context_told bytes c.args.single.now c.in_ok-source.source good (search rules)
 
 pub returns-in_err-puts-clause-refused : goal.returns-in_err-puts-clause-refused
 returns-in_err-puts-clause-refused c bytes h =
@@ -41,16 +44,13 @@ returns-in_err-puts-clause-refused c bytes h =
     } in
     let p = err_from_is_err_and c.from_residual-in_err-puts.result c.from_residual-in_err-puts.ensures.1 in
     let v = c.in_err-puts.field-0.0 in
-    let refused = subst (λ (es : List MapElement). (v.code ≡ memory_number)
-    ⊎ ((r : EventRefusal) × HasBadElement s.registry es r × IsPlainVerdict (event_refusal_number r) v))
+    let refused = subst (λ (es : List MapElement). (v ≡ File Memory)
+    ⊎ ((r : EventRefusal) × HasBadElement s.registry es r × (v ≡ OfEvent r)))
     c.deref.ensures.value c.in_err-puts.ensures.refused in
     rw (p.1, p.2) (puts_told bytes c.args.single.now s v good (search rules) refused)
 
 pub run_once-requires-clause-updates : goal.run_once-requires-clause-updates
 run_once-requires-clause-updates c = are_updates c.in_ok-source.source.registry c.args.single.now.elements.items c.in_ok-puts.puts.items (search rules)
-
-pub returns-in_default-clause-refused : goal.returns-in_default-clause-refused
-returns-in_default-clause-refused c bytes h = inl (inl (inl c.plain_verdict-in_default.ensures.code_is))
 
 pub returns-in-Ok-text_of-clause-ended : goal.returns-in-Ok-text_of-clause-ended
 returns-in-Ok-text_of-clause-ended c bytes h =
@@ -87,9 +87,7 @@ returns-in-NotDone-clause-refused c bytes h =
     } in
     let run = subst (λ (o : RunEnd). ComesTo (shapes_of_maps s.registry.maps) c.in_ok-verified.verified.program
     c.in_ok-puts.puts.items c.array_of-context.result.items o ran.world) c.in-NotDone.is c.in-Ok.ensures in
-    place_told bytes c.args.single.now s k ran.world c.plain_verdict-in-NotDone.result good
-    (search rules) (search rules)
+    place_told bytes c.args.single.now s k ran.world good (search rules) (search rules)
     (of_source c.args.single.now s c.in_ok-verified.verified.program c.in_ok-puts.puts.items
     c.array_of-context.result.items (NotDone k) ran.world c.in_ok-verified.ensures.program
     (search rules) (search rules) run)
-    c.plain_verdict-in-NotDone.ensures

@@ -7,7 +7,7 @@ use Rattle.commands.proofs.trace.run_single.Goals as goal
 pub returns-in-Ok-text_of-clause-ended : goal.returns-in-Ok-text_of-clause-ended
 returns-in-Ok-text_of-clause-ended g c zero =
     let contents = g.W.Write.contents in
-    let last = so_written c.write_text.result c.written.result c.written.ensures zero c.write_text.ensures in
+    let last = so_written c.write_text.result c.write_status.result c.write_status.ensures zero c.write_text.ensures in
     IfSome_then (g.R.Read.remaining c.args.input.now) c.in-Ok.ensures
     (λ bytes holds. (
       c.in-Ok-text_of.text.items,

@@ -4,8 +4,8 @@ use Rattle.program_files.proofs.program_file.FileBytes.source.Goals as goal
 
 pub returns-in-TooLong-eq0-default-clause-fault : goal.returns-in-TooLong-eq0-default-clause-fault
 returns-in-TooLong-eq0-default-clause-fault c bytes h = even_told c.args.self.now c.in-TooLong-eq0-default.remainder
-    c.in-TooLong-eq0-default.beginning bytes c.from.result c.in-TooLong-eq0-default.is (search rules) h c.from.ensures
+    c.in-TooLong-eq0-default.beginning bytes c.in-TooLong-eq0-default.is (search rules) h
 
 pub returns-in-TooLong-clause-fault : goal.returns-in-TooLong-clause-fault
 returns-in-TooLong-clause-fault c bytes h = odd_told c.args.self.now c.in-TooLong.remainder c.in-TooLong.beginning bytes
-    c.from-in-TooLong.result c.in-TooLong.is (search rules) h c.from-in-TooLong.ensures
+    c.in-TooLong.is (search rules) h

@@ -1,0 +1,74 @@
+//! Why a command refuses its input.
+ghost use Rattle.std.specs.Prelude.{◌≡◌};
+ghost use Rattle.program_files.specs.declared.verdict.Verdict.TheVariants.{Program};
+ghost use Rattle.commands.specs.declared.refusal.CommandRefusal.TheVariants.{File};
+
+use bpf_model::EventRefusal;
+use job_queue::PoolFault;
+use program_files::Verdict;
+use verifier::ProgramRefusal;
+
+/// Why a command refuses its input, by what is wrong.
+#[derive(Clone, Copy, Debug, PartialEq, Eq)]
+pub enum CommandRefusal {
+    /// The program file.
+    File(Verdict),
+    /// The context or an element of a run.
+    Event(EventRefusal),
+    /// An element of a run, for which its map has no place.
+    NoPlace,
+    /// The workers or the jobs of a pool.
+    Pool(PoolFault),
+}
+
+impl CommandRefusal {
+    ghost use Rattle.commands.specs.Refusals.{command_number, command_slot, command_line};
+
+    /// The number by which the refusal is known; 13 for want of memory.
+    pub fn code(&self) -> u8
+        ensures { result ≡ command_number self.now }
+    {
+        match self {
+            CommandRefusal::File(verdict) => verdict.code(),
+            CommandRefusal::Event(refusal) => refusal.code(),
+            CommandRefusal::NoPlace => 98,
+            CommandRefusal::Pool(fault) => fault.code(),
+        }
+    }
+
+    /// The slot where the instruction begins, counted from 0, where the refusal is of one.
+    pub fn slot(&self) -> Option<usize>
+        ensures { result ≡ command_slot self.now }
+    {
+        match self {
+            CommandRefusal::File(verdict) => verdict.slot(),
+            _ => None,
+        }
+    }
+
+    /// The line of the file, counted from 1, where the refusal is of one.
+    pub fn line(&self) -> Option<usize>
+        ensures { result ≡ command_line self.now }
+    {
+        match self {
+            CommandRefusal::File(verdict) => verdict.line(),
+            _ => None,
+        }
+    }
+}
+
+impl From<Verdict> for CommandRefusal {
+    ghost from_gives = { λ verdict r. r ≡ File verdict };
+
+    fn from(verdict: Verdict) -> CommandRefusal {
+        CommandRefusal::File(verdict)
+    }
+}
+
+impl From<ProgramRefusal> for CommandRefusal {
+    ghost from_gives = { λ refusal r. r ≡ File (Program refusal) };
+
+    fn from(refusal: ProgramRefusal) -> CommandRefusal {
+        CommandRefusal::File(Verdict::Program(refusal))
+    }
+}
