@@ -15,7 +15,7 @@ use Rattle.commands.proofs.single.run_of.Goals as goal
 
 pub returns-in_err-source-clause-refused : goal.returns-in_err-source-clause-refused
 returns-in_err-source-clause-refused c bytes h =
-    let p = err_from_is_err_and c.from_residual-in_err-source.result c.from_residual-in_err-source.ensures.1 in
+    let p = err_from_is_err_and c.from_residual.result c.from_residual.ensures.1 in
     rw (p.1, p.2) (inl (inl (c.in_err-source.ensures.fault bytes h)))
 
 pub returns-in_err-verified-clause-refused : goal.returns-in_err-verified-clause-refused

@@ -1,7 +1,9 @@
-use Rattle.std.proofs.Common.{ℕ, List, subst}
+use Rattle.std.proofs.Common.{◌≡◌, ℕ, List, subst}
 use Rattle.std.proofs.lemmas.Option.{IfSome_then}
 use Rattle.std.specs.Io.KnownBytes.{Appends}
-use Rattle.commands.proofs.Pooled.{so_written}
+use Rattle.program_files.specs.Verdicts.{memory_number}
+use Rattle.commands.specs.Refusals.{command_number}
+use Rattle.commands.proofs.Pooled.{not_so, so_written}
 use Rattle.commands.proofs.trace.run_single.Goals as goal
 
 pub returns-in-Ok-text_of-clause-ended : goal.returns-in-Ok-text_of-clause-ended
@@ -13,4 +15,15 @@ returns-in-Ok-text_of-clause-ended g c zero =
       c.in-Ok-text_of.text.items,
       c.in-Ok-text_of.ensures.told bytes holds,
       subst (λ (t : List ℕ). Appends (contents c.args.out.now) (contents c.write_text.new.out) t) c.deref.ensures.value last,
+    ))
+
+pub returns-clause-refused : goal.returns-clause-refused
+returns-clause-refused g c one =
+    let v = c.in-Err-text_of.refusal in
+    IfSome_then (g.R.Read.remaining c.args.input.now) c.in-Ok.ensures
+    (λ bytes holds. (
+      v,
+      not_so (command_number v ≡ memory_number) c.report_run.result c.report_run.ensures.memory one,
+      c.in-Err-text_of.ensures.refused bytes holds,
+      c.report_run.ensures.told one,
     ))
