@@ -8,6 +8,7 @@
 mod fault;
 mod input;
 mod lines;
+mod observer;
 mod output;
 mod progress;
 mod respond;
@@ -15,6 +16,7 @@ mod stream;
 
 pub use fault::{ScriptFault, stream_fault};
 pub use input::read_some;
+pub use observer::{Nobody, Observer};
 pub use progress::LINE_BYTES;
 pub use respond::{LineFault, Respond};
 pub use stream::serve;

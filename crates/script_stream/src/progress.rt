@@ -8,6 +8,7 @@ ghost use Rattle.script_stream.specs.Progress.{IsProgressAt, IsOutputFault};
 
 use crate::fault::ScriptFault;
 use crate::lines::cut_line;
+use crate::observer::Observer;
 use crate::output::{flush, write_text};
 use crate::respond::{LineFault, Respond};
 use std::alloc::Global;
@@ -28,19 +29,28 @@ pub struct Progress {
     pub(crate) answered: u64,
 }
 
-/// The fault of the line of this number.
-fn told(fault: LineFault, number: u64) -> ScriptFault
+/// The fault of the line of this number, which the observer sees where it is bad.
+fn told<A: Respond, V: Observer<A>>(
+    observer: &mut V,
+    fault: LineFault,
+    line: &[u8],
+    number: u64,
+) -> ScriptFault
     ensures { (n : ℕ) → result ≡ ScriptFault.BadCommand n → (n ≡ number) × (fault ≡ LineFault.Bad) }
 {
     match fault {
-        LineFault::Bad => ScriptFault::BadCommand { line: number },
+        LineFault::Bad => {
+            observer.bad_line(number, line);
+            ScriptFault::BadCommand { line: number }
+        }
         LineFault::Memory => ScriptFault::Memory,
     }
 }
 
 /// Adds the answer to the line of this number.
-fn answer<A: Respond>(
+fn answer<A: Respond, V: Observer<A>>(
     responder: &mut A,
+    observer: &mut V,
     line: &[u8],
     out: &mut Vec<u8>,
     number: u64,
@@ -52,14 +62,18 @@ fn answer<A: Respond>(
         → (n ≡ number) × IsBadLine A.is_bad line.now }
 {
     if line.len() > LINE_BYTES {
+        observer.bad_line(number, line);
         return Err(ScriptFault::BadCommand { line: number });
     }
     let before = out.len();
     match responder.respond(line, out) {
-        Ok(()) => Ok(()),
+        Ok(about) => {
+            observer.answered(number, line, &about, responder);
+            Ok(())
+        }
         Err(fault) => {
             out.truncate(before);
-            Err(told(fault, number))
+            Err(told::<A, V>(observer, fault, line, number))
         }
     }
 }
@@ -129,7 +143,12 @@ impl Progress {
     }
 
     /// Answers the line that ends with this piece.
-    fn end_line<A: Respond>(&mut self, responder: &mut A, piece: &[u8]) -> Result<(), ScriptFault>
+    fn end_line<A: Respond, V: Observer<A>>(
+        &mut self,
+        responder: &mut A,
+        observer: &mut V,
+        piece: &[u8],
+    ) -> Result<(), ScriptFault>
         ensures ok { OnOk result ((text : List ℕ)
             × A.answers responder.old (self.old.rest.items ++ piece.now) text responder.new
             × (self.new.out.items ≡ self.old.out.items ++ text)) }
@@ -142,10 +161,10 @@ impl Progress {
     {
         let number = self.answered.saturating_add(1);
         if self.rest.is_empty() {
-            answer(responder, piece, &mut self.out, number)?;
+            answer(responder, observer, piece, &mut self.out, number)?;
         } else {
             self.rest.extend_from_slice(piece)?;
-            answer(responder, &self.rest, &mut self.out, number)?;
+            answer(responder, observer, &self.rest, &mut self.out, number)?;
             self.rest.clear();
         }
         self.answered = number;
@@ -154,9 +173,10 @@ impl Progress {
 
     /// Answers the line that ends with this piece and a line feed. Answers are written where many wait, and
     /// before a fault is told.
-    fn take_line<A: Respond, W: Write>(
+    fn take_line<A: Respond, V: Observer<A>, W: Write>(
         &mut self,
         responder: &mut A,
+        observer: &mut V,
         writer: &mut W,
         piece: &[u8],
     ) -> Result<(), ScriptFault>
@@ -173,14 +193,18 @@ impl Progress {
             × ((after : List ℕ) → FailsWith A.answers A.is_bad first
             (read ++ (piece.now ++ 10 ∷ after)) (written ++ more) e)) }
     {
-        if let Err(fault) = self.end_line(responder, piece) {
+        if let Err(fault) = self.end_line(responder, observer, piece) {
             return Err(self.fail(writer, fault));
         }
         self.send_many(writer)
     }
 
     /// Keeps the beginning of a line whose end is not read yet.
-    fn keep(&mut self, piece: &[u8]) -> Result<(), ScriptFault>
+    fn keep<A: Respond, V: Observer<A>>(
+        &mut self,
+        observer: &mut V,
+        piece: &[u8],
+    ) -> Result<(), ScriptFault>
         ensures ok { OnOk result (self.new.rest.items ≡ self.old.rest.items ++ piece.now) }
         ensures out { self.new.out.items ≡ self.old.out.items }
         ensures answered { self.new.answered ≡ self.old.answered }
@@ -190,17 +214,18 @@ impl Progress {
     {
         self.rest.extend_from_slice(piece)?;
         if self.rest.len() > LINE_BYTES {
-            return Err(ScriptFault::BadCommand {
-                line: self.answered.saturating_add(1),
-            });
+            let number = self.answered.saturating_add(1);
+            observer.bad_line(number, &self.rest);
+            return Err(ScriptFault::BadCommand { line: number });
         }
         Ok(())
     }
 
     /// Answers the lines that end in this chunk, and keeps what stands behind them.
-    pub(crate) fn take<A: Respond, W: Write>(
+    pub(crate) fn take<A: Respond, V: Observer<A>, W: Write>(
         &mut self,
         responder: &mut A,
+        observer: &mut V,
         writer: &mut W,
         chunk: &[u8],
     ) -> Result<(), ScriptFault>
@@ -219,17 +244,21 @@ impl Progress {
     {
         let mut unread = chunk;
         while let Some((piece, after)) = cut_line(unread) {
-            self.take_line(responder, writer, piece)?;
+            self.take_line(responder, observer, writer, piece)?;
             unread = after;
         }
-        if let Err(fault) = self.keep(unread) {
+        if let Err(fault) = self.keep::<A, V>(observer, unread) {
             return Err(self.fail(writer, fault));
         }
         Ok(())
     }
 
     /// Answers what stands behind the last line feed, if there is anything.
-    fn end_open<A: Respond>(&mut self, responder: &mut A) -> Result<(), ScriptFault>
+    fn end_open<A: Respond, V: Observer<A>>(
+        &mut self,
+        responder: &mut A,
+        observer: &mut V,
+    ) -> Result<(), ScriptFault>
         ensures ok { (first : A) (read written : List ℕ)
             → IsProgressAt A.answers first read written self.old responder.old
             → OnOk result (Answered A.answers first (lines_of read) (written ++ self.new.out.items)
@@ -242,13 +271,14 @@ impl Progress {
         if self.rest.is_empty() {
             return Ok(());
         }
-        self.end_line(responder, &[])
+        self.end_line(responder, observer, &[])
     }
 
     /// Answers what stands behind the last line feed, and writes what waits.
-    pub(crate) fn finish<A: Respond, W: Write>(
+    pub(crate) fn finish<A: Respond, V: Observer<A>, W: Write>(
         &mut self,
         responder: &mut A,
+        observer: &mut V,
         writer: &mut W,
     ) -> Result<(), ScriptFault>
         ensures ok { (first : A) (read written : List ℕ)
@@ -262,7 +292,7 @@ impl Progress {
             × Appends (W.contents writer.old) (W.contents writer.new) more
             × FailsWith A.answers A.is_bad first read (written ++ more) e) }
     {
-        if let Err(fault) = self.end_open(responder) {
+        if let Err(fault) = self.end_open(responder, observer) {
             return Err(self.fail(writer, fault));
         }
         self.send(writer)

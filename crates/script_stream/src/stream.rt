@@ -8,6 +8,7 @@ ghost use Rattle.script_stream.specs.Progress.{IsProgressAt};
 
 use crate::fault::{ScriptFault, stream_fault};
 use crate::input::read_some;
+use crate::observer::Observer;
 use crate::progress::Progress;
 use crate::respond::Respond;
 use std::alloc::Global;
@@ -34,9 +35,10 @@ fn read_chunk<R: Read>(reader: &mut R, chunk: &mut [u8]) -> Result<usize, Script
 
 /// Reads once, and answers the lines that end there, or the last line at the end of the input. Answers
 /// whether the input may go on.
-fn serve_some<A: Respond, R: Read, W: Write>(
+fn serve_some<A: Respond, V: Observer<A>, R: Read, W: Write>(
     progress: &mut Progress,
     responder: &mut A,
+    observer: &mut V,
     reader: &mut R,
     writer: &mut W,
     chunk: &mut [u8],
@@ -62,16 +64,20 @@ fn serve_some<A: Respond, R: Read, W: Write>(
 {
     let count = read_chunk(reader, chunk)?;
     if count == 0 {
-        progress.finish(responder, writer)?;
+        progress.finish(responder, observer, writer)?;
+        observer.handed_on();
         return Ok(false);
     }
-    progress.take(responder, writer, &chunk[..count])?;
+    observer.read(&chunk[..count]);
+    progress.take(responder, observer, writer, &chunk[..count])?;
     progress.send(writer)?;
+    observer.handed_on();
     Ok(true)
 }
 
 /// Reads lines to the end of the input, answers each, and writes the answers and nothing else. What is
-/// answered is written and handed on before more is read.
+/// answered is written and handed on before more is read. Between the two the observer is told so, also at the end
+/// of a script that does not fail.
 ///
 /// Errors: the first that is met.
 /// - `BadCommand`: with the first line that is longer than `LINE_BYTES` bytes or no command. Written is
@@ -80,9 +86,10 @@ fn serve_some<A: Respond, R: Read, W: Write>(
 ///   an allocation did. Written is a beginning of the answers to the lines.
 ///
 /// Lines are those of the whole input, also of what was not read: the end of a read ends no line.
-pub fn serve<A: Respond, R: Read, W: Write>(
+pub fn serve<A: Respond, V: Observer<A>, R: Read, W: Write>(
     alloc: Global,
     responder: &mut A,
+    observer: &mut V,
     reader: &mut R,
     writer: &mut W,
 ) -> Result<(), ScriptFault>
@@ -100,7 +107,14 @@ pub fn serve<A: Respond, R: Read, W: Write>(
     let mut progress = Progress::new(alloc);
     let mut chunk = vec![in alloc; 0u8; CHUNK]?;
     for _ in 0..u64::MAX {
-        let goes_on = serve_some(&mut progress, responder, reader, writer, &mut chunk)?;
+        let goes_on = serve_some(
+            &mut progress,
+            responder,
+            observer,
+            reader,
+            writer,
+            &mut chunk,
+        )?;
         if !goes_on {
             return Ok(());
         }
