@@ -7,9 +7,11 @@ use Rattle.bpf_model.specs.View.{MapView}
 use Rattle.element_store.specs.State.{key_at, value_at}
 use Rattle.hash_index.specs.Order.{AreInOrder}
 use Rattle.script_lines.specs.declared.reply.Reply.{Reply}
-use Rattle.script_lines.specs.declared.reply.Reply.TheVariants.{Element}
+use Rattle.script_lines.specs.declared.reply.Reply.TheVariants as replies
+use Rattle.script_lines.specs.declared.reply.Reply.TheVariants.{Element, End}
 use Rattle.script_lines.specs.ReplyText.{reply_text}
 use Rattle.map_kinds.specs.Shown.{IsNext}
+use Rattle.control.specs.Refusals.{AreTold}
 use Rattle.control.specs.Replies.{AreElements}
 
 -- the text of the replies so far, and of one more
@@ -22,6 +24,26 @@ more_text start before after first reply e f =
     ∙ ap (λ (xs : List ℕ). start ++ xs)
     (ap (λ (xs : List ℕ). flat_map reply_text first ++ xs) (sym (append-nil (reply_text reply)))
     ∙ sym (flat_map-append reply_text first (reply ∷ [])))))
+
+-- no element is a refusal, nor is the end
+pub elements_told : (map : Option MapView) (bound : Option (List ℕ)) (elements : List Reply) →
+    AreElements map bound elements → AreTold None (elements ++ End ∷ [])
+elements_told map bound [] are = (tt, tt)
+elements_told map bound (replies.Element key value ∷ rest) are =
+    (tt, elements_told map (Some key.items) rest are.1)
+elements_told map bound (replies.Map n ∷ rest) are = absurd are
+elements_told map bound (replies.Prog n ∷ rest) are = absurd are
+elements_told map bound (replies.Ret r ∷ rest) are = absurd are
+elements_told map bound (replies.Value v ∷ rest) are = absurd are
+elements_told map bound (replies.Nothing ∷ rest) are = absurd are
+elements_told map bound (replies.Run n ∷ rest) are = absurd are
+elements_told map bound (replies.Moved ∷ rest) are = absurd are
+elements_told map bound (replies.Exit v ∷ rest) are = absurd are
+elements_told map bound (replies.Done ∷ rest) are = absurd are
+elements_told map bound (replies.Reaped m k g ∷ rest) are = absurd are
+elements_told map bound (replies.Stat s ∷ rest) are = absurd are
+elements_told map bound (replies.End ∷ rest) are = absurd are
+elements_told map bound (replies.Refused c s ∷ rest) are = absurd are
 
 -- The elements so far, which those of the slots that are left complete.
 pub record AreBegun (v : MapView) (left : List ℕ) (start text : List ℕ) : Type 0 where

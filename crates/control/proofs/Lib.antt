@@ -1,4 +1,3 @@
-pub mod PartOfState
 pub mod Made
 pub mod OneRun
 pub mod MapReplies
@@ -9,3 +8,4 @@ pub mod Happenings
 pub mod Replied
 pub mod ManySteps
 pub mod Elements
+pub mod GoingOn

@@ -1,5 +1,5 @@
 -- Replies while maps and programs are being made.
-use Rattle.std.proofs.Common.{◌≡◌, ◌∙◌, ℕ, List, [], ◌∷◌, ◌++◌, sym, ap, subst, refl, append-nil}
+use Rattle.std.proofs.Common.{◌≡◌, ◌∙◌, ℕ, List, Option, [], ◌∷◌, ◌++◌, sym, ap, subst, refl, append-nil}
 use Rattle.std.specs.List.{flat_map}
 use Rattle.bpf_model.specs.declared.event.Event.{Event}
 use Rattle.script_lines.specs.ReplyText.{reply_text}
@@ -11,6 +11,8 @@ use Rattle.control.specs.MapAndLoad.{MapReplies, LoadReplies, shape_of_numbers}
 use Rattle.control.specs.Setups.{SetupView}
 use Rattle.control.specs.declared.live.Live.{Live}
 use Rattle.control.specs.Lives.{LiveReplies}
+use Rattle.control.specs.declared.refusal.LineRefusal.{LineRefusal}
+use Rattle.control.specs.Refusals.{AreTold, IsAdded}
 use Rattle.control.specs.Sessions.{SetupReplies, TracksStart, sealed}
 use Rattle.control.specs.declared.session.Session.TheVariants as sessions
 
@@ -19,26 +21,29 @@ once : (before after : List ℕ) (reply : Reply) → after ≡ before ++ reply_t
 once before after reply text = text ∙ ap (λ (xs : List ℕ). before ++ xs) (sym (append-nil (reply_text reply)))
 
 pub map_made : (old : SetupView) (command : ScriptCommand) (name : List ℕ) (shape : ShapeNumbers) (reply : Reply)
-    (made : SetupView) (before after : List ℕ) → command ≡ commands.Map name shape →
-    MapReplies old name (shape_of_numbers shape) reply made → after ≡ before ++ reply_text reply →
+    (made : SetupView) (before after : List ℕ) (refusal : Option LineRefusal) → command ≡ commands.Map name shape →
+    MapReplies old name (shape_of_numbers shape) reply made → IsAdded reply before refusal after →
     (events : List Event) × (replies : List Reply) × SetupReplies old command events replies (sessions.Setup made) ×
-    (after ≡ before ++ flat_map reply_text replies)
-map_made old command name shape reply made before after is r text = (
+    AreTold refusal replies × (after ≡ before ++ flat_map reply_text replies)
+map_made old command name shape reply made before after refusal is r (told, text) = (
   [],
   reply ∷ [],
   subst (λ (c : ScriptCommand). SetupReplies old c [] (reply ∷ []) (sessions.Setup made)) (sym is) (reply, made, r, refl, refl, refl),
+  told,
   once before after reply text,
 )
 
 pub load_made : (old : SetupView) (command : ScriptCommand) (ctx_len : ℕ) (code : List ℕ) (names : List (List ℕ))
-    (reply : Reply) (made : SetupView) (before after : List ℕ) → command ≡ commands.Load ctx_len code names →
-    LoadReplies old ctx_len code names reply made → after ≡ before ++ reply_text reply → (events : List Event) ×
+    (reply : Reply) (made : SetupView) (before after : List ℕ) (refusal : Option LineRefusal) →
+    command ≡ commands.Load ctx_len code names →
+    LoadReplies old ctx_len code names reply made → IsAdded reply before refusal after → (events : List Event) ×
     (replies : List Reply) × SetupReplies old command events replies (sessions.Setup made) ×
-    (after ≡ before ++ flat_map reply_text replies)
-load_made old command ctx_len code names reply made before after is r text = (
+    AreTold refusal replies × (after ≡ before ++ flat_map reply_text replies)
+load_made old command ctx_len code names reply made before after refusal is r (told, text) = (
   [],
   reply ∷ [],
   subst (λ (c : ScriptCommand). SetupReplies old c [] (reply ∷ []) (sessions.Setup made)) (sym is) (reply, made, r, refl, refl, refl),
+  told,
   once before after reply text,
 )
 

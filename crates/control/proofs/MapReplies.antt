@@ -6,6 +6,9 @@ use Rattle.maps.specs.declared.fault.MapFault.TheVariants.{Memory}
 use Rattle.maps.specs.Registry.{creation_fault, map_fault_number}
 use Rattle.script_lines.specs.declared.reply.Reply.{Reply}
 use Rattle.control.specs.AnswerReplies.{refused}
+use Rattle.control.specs.declared.refusal.LineRefusal.{LineRefusal}
+use Rattle.control.specs.declared.refusal.LineRefusal.TheVariants as refusals
+use Rattle.control.specs.Refusals.{map_reply}
 use Rattle.control.specs.MapAndLoad.{MapReplied, MapReplies}
 use Rattle.control.specs.Setups.{SetupView}
 
@@ -21,14 +24,14 @@ refused-for None s name shape fault count made reply err tested none known is =
 
 -- a registry that refuses leaves the setup as it was
 pub create-refused : {E : Type 0} (s : SetupView) (name : List ℕ) (shape : MapShape) (fault : MapFault)
-    (o : Option MapFault) (count : ℕ) (result : Result Reply E) (new : SetupView) →
+    (o : Option MapFault) (count : ℕ) (result : Result (Result ℕ LineRefusal) E) (new : SetupView) →
     o ≡ creation_fault s.registry name shape → IfSome o (λ f. ◌≡◌ {A = Result ℕ MapFault} (Err fault) (Err f)) →
     IfNone o (◌≡◌ {A = Result ℕ MapFault} (Err fault) (Ok count)
     ⊎ ◌≡◌ {A = Result ℕ MapFault} (Err fault) (Err Memory)) → IfOk result (λ _. fault ≢ Memory) →
-    IfOk result (λ reply. reply ≡ refused (map_fault_number fault)) → new ≡ s →
-    IfOk result (λ reply. MapReplies s name shape reply new)
-create-refused s name shape fault o count (Ok reply) new fault-is tested none known is same =
-    subst (λ n. MapReplies s name shape reply n) (sym same)
-    (subst (λ p. MapReplied p s name shape reply s) fault-is
-    (refused-for o s name shape fault count (Err fault) reply refl tested none known is))
+    IfOk result (λ made. made ≡ Err (refusals.Map fault)) → new ≡ s →
+    IfOk result (λ made. MapReplies s name shape (map_reply made) new)
+create-refused s name shape fault o count (Ok made) new fault-is tested none known is same =
+    subst (λ n. MapReplies s name shape (map_reply made) n) (sym same)
+    (subst (λ p. MapReplied p s name shape (map_reply made) s) fault-is
+    (refused-for o s name shape fault count (Err fault) (map_reply made) refl tested none known (ap map_reply is)))
 create-refused s name shape fault o count (Err e) new fault-is tested none known is same = tt

@@ -14,7 +14,6 @@ use Rattle.script_stream.specs.declared.fault.ScriptFault.{ScriptFault}
 use Rattle.control.specs.declared.live.Live.{Live}
 use Rattle.control.specs.Lives.{Happen}
 use Rattle.control.proofs.Happenings.{happen_more}
-use Rattle.control.proofs.PartOfState.{fails_by}
 use Rattle.control.specs.Histories.{History, Continues, RunsTo, StaysMade}
 use Rattle.control.specs.Sessions.{AnswersCommand, LineAnswers, RepliesOnce, SessionReplies, SetupReplies, WorldReplies, TracksStart, sealed}
 use Rattle.control.specs.declared.session.Session.{Session}
@@ -125,6 +124,34 @@ histories old made before (line ∷ lines) text new r (first, rest, mid, (events
     let there = says_runs made before events (line_says line) old first mid r a in
     let later = histories mid there.0 (before ++ events) lines rest new there.2 more in
     (later.0, later.1, (first, rest, history mid there.0 (before ++ events), (events, a, refl, there.1, there.2), later.2, e))
+
+-- How a script fails, told of other states: what is answered from this state on, is answered from
+-- the other.
+fails_by : {S T : Type 0} (answers : S → List ℕ → List ℕ → S → Type 0) (others : T → List ℕ → List ℕ → T → Type 0)
+    (is_bad : List ℕ → Type 0) (old : S) (start : T) (read written : List ℕ) (fault : ScriptFault)
+    → ((lines : List (List ℕ)) (text : List ℕ) (new : S) → Answered answers old lines text new → (last : T) ×
+    Answered others start lines text last) → FailsWith answers is_bad old read written fault →
+    FailsWith others is_bad start read written fault
+fails_by answers others is_bad old start read written fault lifts f = record {
+  begun = let all = lifts f.begun.first (written ++ f.begun.more) f.begun.new f.begun.answered in record {
+    first = f.begun.first;
+    others = f.begun.others;
+    lines = f.begun.lines;
+    more = f.begun.more;
+    new = all.0;
+    answered = all.1;
+  };
+  before = λ line e. let b = f.before line e in let all = lifts b.good written b.new b.answered in record {
+    good = b.good;
+    bad = b.bad;
+    others = b.others;
+    lines = b.lines;
+    number = b.number;
+    is = b.is;
+    new = all.0;
+    answered = all.1;
+  };
+}
 
 pub fails_at : (is_bad : List ℕ → Type 0) (old : Session) (made : SetupView) (past : List Event)
     (read written : List ℕ) (fault : ScriptFault) → RunsTo made past old →

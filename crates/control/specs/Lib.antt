@@ -7,3 +7,4 @@ pub mod MapAndLoad
 pub mod Setups
 pub mod Lives
 pub mod Replies
+pub mod Refusals

@@ -1,5 +1,5 @@
 -- What a command is replied once there is a world.
-use Rattle.std.specs.Prelude.{◌≡◌, ℕ, List, ◌++◌}
+use Rattle.std.specs.Prelude.{◌≡◌, ℕ, List, ◌++◌, Option}
 use Rattle.std.specs.List.{flat_map}
 use Rattle.bpf_model.specs.declared.event.Event.{Event}
 use Rattle.bpf_model.specs.Drain.{AreScheduledAnswers}
@@ -14,6 +14,8 @@ use Rattle.script_lines.specs.declared.reply.Reply.{Reply}
 use Rattle.control.specs.declared.asked.Asked.{Asked}
 use Rattle.control.specs.Questions.{IsAsked}
 use Rattle.control.specs.declared.live.Live.{Live}
+use Rattle.control.specs.declared.refusal.LineRefusal.{LineRefusal}
+use Rattle.control.specs.Refusals.{AreTold}
 use Rattle.control.specs.Replies.{Replies}
 
 -- These events happen in a world of the runtime, and leave the other. With their answers they are a
@@ -38,9 +40,10 @@ pub record LiveReplies (old : Live) (command : ScriptCommand) (replies : List Re
   pub is_asked : IsAsked old.world.names command asked
   pub served : AskedReplies old asked replies new
 
--- What is asked is replied, and the text of the replies is added.
-pub record IsReplied (old : Live) (asked : Asked) (before after : List ℕ) (new : Live) :
-    Type 0 where
+-- What is asked is replied, and the text of the replies is added, which tell this refusal.
+pub record IsReplied (old : Live) (asked : Asked) (before : List ℕ) (refusal : Option LineRefusal)
+    (after : List ℕ) (new : Live) : Type 0 where
   pub replies : List Reply
   pub served : AskedReplies old asked replies new
+  pub told : AreTold refusal replies
   pub text : after ≡ before ++ flat_map reply_text replies

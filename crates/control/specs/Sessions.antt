@@ -4,7 +4,8 @@ use Rattle.std.specs.List.{flat_map}
 use Rattle.bpf_model.specs.declared.event.Event.{Event}
 use Rattle.bpf_model.specs.Refines.{TracksSchedule}
 use Rattle.bpf_model.specs.Schedule.{start_schedule}
-use Rattle.bpf_model.specs.View.{start_view}
+use Rattle.bpf_model.specs.Machine.{Loaded}
+use Rattle.bpf_model.specs.View.{start_view, MapView}
 use Rattle.script_lines.specs.ReplyText.{reply_text}
 use Rattle.script_lines.specs.Lines.{line_says}
 use Rattle.script_lines.specs.declared.command.BadLine.{BadLine}
@@ -30,6 +31,20 @@ new_session = sessions.Setup no_maps_or_programs
 abbrev pub now_at : SetupView → Option Live → Session
 now_at setup None = sessions.Setup setup
 now_at setup (Some live) = sessions.Live live
+
+-- the names and the maps that there are
+abbrev pub names_in : Session → List (List ℕ)
+names_in (sessions.Setup setup) = setup.registry.names
+names_in (sessions.Live live) = live.world.names
+
+abbrev pub maps_in : Session → List MapView
+maps_in (sessions.Setup setup) = setup.registry.maps
+maps_in (sessions.Live live) = live.world.maps
+
+-- the programs that there are
+abbrev pub loaded_in : Session → List Loaded
+loaded_in (sessions.Setup setup) = setup.programs
+loaded_in (sessions.Live live) = live.world.programs
 
 -- The world of these maps and programs tracks the start of the machine that has them.
 abbrev pub TracksStart : SetupView → Type 0

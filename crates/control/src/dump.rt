@@ -1,11 +1,11 @@
 //! The elements of a map.
-ghost use Rattle.std.specs.Prelude.{◌≡◌, ◌∷◌, ◌++◌, [], List, None, Some, OnOk, option_copied, slice_get};
+ghost use Rattle.std.specs.Prelude.{◌≡◌, ◌∷◌, ◌++◌, [], List, None, Some, OnOk, OnErr, option_copied, slice_get};
 ghost use Rattle.std.specs.List.{flat_map};
 ghost use Rattle.element_store.specs.State.{key_at};
 ghost use Rattle.hash_index.specs.Order.{AreInOrder};
 ghost use Rattle.script_lines.specs.declared.reply.Reply.{Reply};
 ghost use Rattle.script_lines.specs.declared.reply.Reply.TheVariants.{End};
-ghost use Rattle.script_lines.specs.ReplyText.{reply_text};
+ghost use Rattle.script_lines.specs.ReplyText.{reply_text, GoesOn};
 ghost use Rattle.control.specs.Replies.{AreElements};
 
 use bpf_model::MapId;
@@ -17,8 +17,9 @@ use world::World;
 /// Adds the lines of the elements in these map slots, which are those of all elements in the order of their keys.
 fn write_slots(map: &Map, slots: &[usize], out: &mut Vec<u8>) -> Result<(), AllocError>
     requires { AreInOrder map.now.index (key_at map.now.slots) None slots.now }
-    ensures { OnOk result ((elements : List Reply) × AreElements (Some map.now) None elements
+    ensures ok { OnOk result ((elements : List Reply) × AreElements (Some map.now) None elements
         × (out.new.items ≡ out.old.items ++ flat_map reply_text elements)) }
+    ensures err { OnErr result (GoesOn out.old.items out.new.items) }
 {
     for slot in slots {
         let (key, value) = map.element(*slot);
@@ -29,9 +30,10 @@ fn write_slots(map: &Map, slots: &[usize], out: &mut Vec<u8>) -> Result<(), Allo
 
 /// Adds the lines of the elements of a map, if there is one, in the order of their keys.
 fn write_map(map: Option<&Map>, out: &mut Vec<u8>) -> Result<(), AllocError>
-    ensures { OnOk result ((elements : List Reply)
+    ensures ok { OnOk result ((elements : List Reply)
         × AreElements (option_copied map.entry) None elements
         × (out.new.items ≡ out.old.items ++ flat_map reply_text elements)) }
+    ensures err { OnErr result (GoesOn out.old.items out.new.items) }
 {
     match map {
         None => Ok(()),
@@ -47,9 +49,10 @@ fn write_map(map: Option<&Map>, out: &mut Vec<u8>) -> Result<(), AllocError>
 /// The error is that there is no memory left. Where there is none for a list of the elements, nothing has been
 /// added; else a part may have been.
 pub fn write_elements(world: &World, map: MapId, out: &mut Vec<u8>) -> Result<(), AllocError>
-    ensures { OnOk result ((elements : List Reply)
+    ensures ok { OnOk result ((elements : List Reply)
         × AreElements (slice_get world.now.maps map) None elements
         × (out.new.items ≡ out.old.items ++ flat_map reply_text (elements ++ End ∷ []))) }
+    ensures err { OnErr result (GoesOn out.old.items out.new.items) }
 {
     write_map(world.registry().map(map), out)?;
     write_reply(&Reply::End, out)

@@ -9,6 +9,7 @@ mod dump;
 mod faults;
 mod live;
 mod map_names;
+mod refusal;
 mod replies;
 mod script;
 mod session;
@@ -19,7 +20,8 @@ mod steps;
 
 pub use dump::write_elements;
 pub use live::Live;
-pub use script::run_script;
+pub use refusal::LineRefusal;
+pub use script::{run_script, watch_script};
 pub use script_stream::ScriptFault;
 pub use session::Session;
 pub use setup::Setup;

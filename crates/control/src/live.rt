@@ -4,15 +4,13 @@ ghost use Rattle.control.specs.Replies.{overlong_refusal};
 
 use crate::asked::{Asked, ask};
 use crate::dump::write_elements;
-use crate::replies::{refused, write_answer};
+use crate::refusal::LineRefusal;
+use crate::replies::{write_answer, write_other, write_refusal};
 use crate::steps::make_steps;
 use bpf_model::{Answer, Event, EventRefusal, ProgId};
-use script_lines::{Reply, ScriptCommand, write_reply};
+use script_lines::{Reply, ScriptCommand};
 use std::alloc::AllocError;
 use world::World;
-
-/// The number by which a command is refused that would make a map or load a program once there is a world.
-const SEALED: u8 = 56;
 
 /// Why a start on a context that is longer than any is refused.
 fn refusal_of_overlong(world: &World, prog: ProgId) -> EventRefusal
@@ -31,20 +29,27 @@ pub struct Live {
 }
 
 impl Live {
-    ghost use Rattle.std.specs.Prelude.{◌≡◌, ◌++◌, List, OnOk};
+    ghost use Rattle.std.specs.Prelude.{◌≡◌, ◌++◌, List, IfOk, OnErr};
     ghost use Rattle.std.specs.List.{flat_map};
-    ghost use Rattle.script_lines.specs.ReplyText.{reply_text};
+    ghost use Rattle.script_lines.specs.ReplyText.{reply_text, GoesOn};
     ghost use Rattle.script_lines.specs.declared.reply.Reply.{Reply};
     ghost use Rattle.control.specs.Lives.{IsReplied, LiveReplies};
+    ghost use Rattle.control.specs.Refusals.{AreTold};
 
-    /// Answers what is asked, and adds the text of the replies.
-    fn answer_asked(&mut self, asked: Asked, out: &mut Vec<u8>) -> Result<(), AllocError>
-        ensures { OnOk result (IsReplied self.old asked out.old.items out.new.items self.new) }
+    /// Answers what is asked, and adds the text of the replies. The refusal that they tell is given.
+    fn answer_asked(
+        &mut self,
+        asked: Asked,
+        out: &mut Vec<u8>,
+    ) -> Result<Option<LineRefusal>, AllocError>
+        ensures ok { IfOk result (λ refusal.
+            IsReplied self.old asked out.old.items refusal out.new.items self.new) }
+        ensures err { OnErr result (GoesOn out.old.items out.new.items) }
     {
         self.world.is_world();
         match asked {
-            Asked::Sealed => write_reply(&refused(SEALED), out),
-            Asked::Refused(refusal) => write_reply(&refused(refusal.code()), out),
+            Asked::Sealed => write_refusal(LineRefusal::Sealed, out),
+            Asked::Refused(refusal) => write_refusal(LineRefusal::Event(refusal), out),
             Asked::Event(event) => {
                 event.is_real();
                 let mut answer = Answer::Moved;
@@ -52,7 +57,8 @@ impl Live {
                 write_answer(self.world.registry(), &answer, out)
             }
             Asked::Overlong(prog) => {
-                write_reply(&refused(refusal_of_overlong(&self.world, prog).code()), out)
+                let refusal = refusal_of_overlong(&self.world, prog);
+                write_refusal(LineRefusal::Event(refusal), out)
             }
             Asked::Steps { run, count } => {
                 Event::Step { run }.is_real();
@@ -60,12 +66,15 @@ impl Live {
                 make_steps(&mut self.world, run, count, &mut answer);
                 write_answer(self.world.registry(), &answer, out)
             }
-            Asked::Counts => write_reply(&Reply::Stat(self.world.stat()), out),
-            Asked::Elements(map) => write_elements(&self.world, map, out),
+            Asked::Counts => write_other(&Reply::Stat(self.world.stat()), out),
+            Asked::Elements(map) => {
+                write_elements(&self.world, map, out)?;
+                Ok(None)
+            }
         }
     }
 
-    /// Answers a command, and adds the text of the replies.
+    /// Answers a command, and adds the text of the replies. The refusal that they tell is given, if they tell one.
     ///
     /// # Errors
     ///
@@ -74,10 +83,12 @@ impl Live {
         &mut self,
         command: ScriptCommand<'_>,
         out: &mut Vec<u8>,
-    ) -> Result<(), AllocError>
-        ensures { OnOk result ((replies : List Reply)
+    ) -> Result<Option<LineRefusal>, AllocError>
+        ensures ok { IfOk result (λ refusal. (replies : List Reply)
             × LiveReplies self.old command.entry replies self.new
+            × AreTold refusal replies
             × (out.new.items ≡ out.old.items ++ flat_map reply_text replies)) }
+        ensures err { OnErr result (GoesOn out.old.items out.new.items) }
     {
         let asked = ask(self.world.registry(), command);
         self.answer_asked(asked, out)

@@ -6,62 +6,65 @@ ghost use Rattle.script_stream.specs.Lines.{lines_of};
 ghost use Rattle.control.specs.Histories.{History, Continues, new_history};
 ghost use Rattle.control.specs.Sessions.{IsNoCommand};
 
+use crate::refusal::LineRefusal;
 use crate::session::Session;
-use script_lines::{ScriptCommand, parse_line};
-use script_stream::{LineFault, Respond, ScriptFault, serve};
-use std::alloc::{AllocError, Global};
+use script_lines::parse_line;
+use script_stream::{LineFault, Nobody, Observer, Respond, ScriptFault, serve};
+use std::alloc::Global;
 use std::io::{Read, Write};
 
-/// A session that answers lines. The answer to a line is made in `text`, and added whole.
-#[derive(Drop)]
-struct Script {
-    alloc: Global,
-    session: Session,
-    text: Vec<u8>,
-}
-
-impl Script {
-    ghost use Rattle.std.specs.Prelude.{◌++◌, OnErr};
-    ghost use Rattle.std.specs.List.{flat_map};
-    ghost use Rattle.bpf_model.specs.declared.event.Event.{Event};
-    ghost use Rattle.script_lines.specs.ReplyText.{reply_text};
-    ghost use Rattle.script_lines.specs.declared.reply.Reply.{Reply};
-    ghost use Rattle.control.specs.Sessions.{SessionReplies};
-
-    /// Answers a command, and adds the text of the replies, or nothing.
-    fn answer(&mut self, command: ScriptCommand<'_>, out: &mut Vec<u8>) -> Result<(), AllocError>
-        ensures ok { OnOk result ((events : List Event) × (replies : List Reply)
-            × SessionReplies self.old.session command.entry events replies self.new.session
-            × (out.new.items ≡ out.old.items ++ flat_map reply_text replies)) }
-        ensures err { OnErr result (out.new.items ≡ out.old.items) }
-    {
-        self.text.clear();
-        self.session.answer(self.alloc, command, &mut self.text)?;
-        out.extend_from_slice(&self.text)
-    }
-}
-
-impl Respond for Script {
+impl Respond for Session {
     ghost use Rattle.std.specs.Prelude.{List};
     ghost use Rattle.bpf_model.specs.declared.event.Event.{Event};
     ghost use Rattle.control.specs.Sessions.{LineAnswers, IsNoCommand};
 
+    /// Why the line was refused, if it was.
+    type Told = Option<LineRefusal>;
+
     ghost answers = { λ old line text new.
-        (events : List Event) × LineAnswers old.session line events text new.session };
+        (events : List Event) × LineAnswers old line events text new };
 
     ghost is_bad = { IsNoCommand };
 
-    fn respond(&mut self, line: &[u8], out: &mut Vec<u8>) -> Result<(), LineFault> {
+    fn respond(
+        &mut self,
+        line: &[u8],
+        out: &mut Vec<u8>,
+    ) -> Result<Option<LineRefusal>, LineFault> {
         let command = match parse_line(line) {
             Ok(Some(command)) => command,
-            Ok(None) => return Ok(()),
+            Ok(None) => return Ok(None),
             Err(_) => return Err(LineFault::Bad),
         };
-        match self.answer(command, out) {
-            Ok(()) => Ok(()),
+        let alloc = *out.allocator();
+        match self.answer(alloc, command, out) {
+            Ok(refusal) => Ok(refusal),
             Err(_) => Err(LineFault::Memory),
         }
     }
+}
+
+/// Runs a script, as `run_script` does, and tells an observer of it. With each line that was answered the observer sees why
+/// it was refused, if it was, and what the line has left.
+pub fn watch_script<V: Observer<Session>, R: Read, W: Write>(
+    alloc: Global,
+    observer: &mut V,
+    reader: &mut R,
+    writer: &mut W,
+) -> Result<(), ScriptFault>
+    ensures text { OnOk result ((input text : List ℕ) × (new : History)
+        × Consumes (R.remaining reader.old) (R.remaining reader.new) input
+        × IsAtEnd (R.remaining reader.new)
+        × Appends (W.contents writer.old) (W.contents writer.new) text
+        × Answered Continues new_history (lines_of input) text new) }
+    ensures failed { IfErr result (λ e. (read text : List ℕ)
+        × Consumes (R.remaining reader.old) (R.remaining reader.new) read
+        × Appends (W.contents writer.old) (W.contents writer.new) text
+        × IsSoOfInput (R.remaining reader.new) read
+        (λ input. FailsWith Continues IsNoCommand new_history input text e)) }
+{
+    let mut session = Session::new(alloc);
+    serve(alloc, &mut session, observer, reader, writer)
 }
 
 /// Runs a script: reads lines to the end of the input, answers each command, and writes the answers and
@@ -91,10 +94,5 @@ pub fn run_script<R: Read, W: Write>(
         × IsSoOfInput (R.remaining reader.new) read
         (λ input. FailsWith Continues IsNoCommand new_history input text e)) }
 {
-    let mut script = Script {
-        alloc,
-        session: Session::new(alloc),
-        text: Vec::new(alloc),
-    };
-    serve(alloc, &mut script, reader, writer)
+    watch_script(alloc, &mut Nobody, reader, writer)
 }

@@ -1,8 +1,11 @@
 //! The state of a script.
 
 use crate::live::Live;
+use crate::refusal::LineRefusal;
 use crate::setup::Setup;
 use crate::setup_commands::answer_setup;
+use bpf_model::ProgId;
+use maps::Registry;
 use script_lines::ScriptCommand;
 use std::alloc::{AllocError, Global};
 
@@ -14,12 +17,13 @@ pub enum Session {
 }
 
 impl Session {
-    ghost use Rattle.std.specs.Prelude.{◌≡◌, ◌++◌, List, OnOk};
+    ghost use Rattle.std.specs.Prelude.{◌≡◌, ◌++◌, List, IfOk, OnErr, slice_get, option_map};
     ghost use Rattle.std.specs.List.{flat_map};
     ghost use Rattle.bpf_model.specs.declared.event.Event.{Event};
-    ghost use Rattle.script_lines.specs.ReplyText.{reply_text};
+    ghost use Rattle.script_lines.specs.ReplyText.{reply_text, GoesOn};
     ghost use Rattle.script_lines.specs.declared.reply.Reply.{Reply};
-    ghost use Rattle.control.specs.Sessions.{SessionReplies, new_session};
+    ghost use Rattle.control.specs.Refusals.{AreTold};
+    ghost use Rattle.control.specs.Sessions.{SessionReplies, new_session, names_in, maps_in, loaded_in};
 
     /// A session without maps and programs.
     pub fn new(alloc: Global) -> Session
@@ -28,7 +32,29 @@ impl Session {
         Session::Setup(Setup::new(alloc))
     }
 
-    /// Answers a command, and adds the text of the replies.
+    /// The maps that are made, with their names.
+    pub fn registry(&self) -> &Registry
+        ensures names { result.now.names ≡ names_in self.now }
+        ensures maps { result.now.maps ≡ maps_in self.now }
+    {
+        match self {
+            Session::Setup(setup) => setup.registry(),
+            Session::Live(live) => live.world.registry(),
+        }
+    }
+
+    /// The length of the contexts of a program, in bytes; `None` where there is no program of this number.
+    pub fn context_len(&self, prog: ProgId) -> Option<usize>
+        ensures { result ≡ option_map (λ p. p.context_len) (slice_get (loaded_in self.now) prog) }
+    {
+        let loaded = match self {
+            Session::Setup(setup) => setup.program(prog)?,
+            Session::Live(live) => live.world.program(prog)?,
+        };
+        Some(loaded.verified.ctx_len())
+    }
+
+    /// Answers a command, and adds the text of the replies. The refusal that they tell is given, if they tell one.
     ///
     /// # Errors
     ///
@@ -39,18 +65,21 @@ impl Session {
         alloc: Global,
         command: ScriptCommand<'_>,
         out: &mut Vec<u8>,
-    ) -> Result<(), AllocError>
-        ensures { OnOk result ((events : List Event) × (replies : List Reply)
+    ) -> Result<Option<LineRefusal>, AllocError>
+        ensures ok { IfOk result (λ refusal. (events : List Event) × (replies : List Reply)
             × SessionReplies self.old command.entry events replies self.new
+            × AreTold refusal replies
             × (out.new.items ≡ out.old.items ++ flat_map reply_text replies)) }
+        ensures err { OnErr result (GoesOn out.old.items out.new.items) }
     {
         match self {
             Session::Live(live) => live.answer(command, out),
             Session::Setup(setup) => {
-                if let Some(live) = answer_setup(alloc, setup, command, out)? {
+                let left = answer_setup(alloc, setup, command, out)?;
+                if let Some(live) = left.0 {
                     *self = Session::Live(live);
                 }
-                Ok(())
+                Ok(left.1)
             }
         }
     }

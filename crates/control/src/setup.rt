@@ -1,21 +1,23 @@
 //! The maps and programs that a world will have.
-ghost use Rattle.std.specs.Prelude.{◌≡◌, ◌≤◌, ◌<◌, length, IfOk, OnErr, IfSome, IfNone};
+ghost use Rattle.std.specs.Prelude.{◌≡◌, ◌≤◌, ◌<◌, length, IfOk, OnErr, IfSome, IfNone, option_map, option_copied, slice_get};
 ghost use Rattle.bpf_model.specs.declared.limits.TheConstants.{MAX_MAPS, MAX_PROGRAMS, CTX_BYTES};
 ghost use Rattle.bpf_model.specs.Refines.{TracksSchedule};
 ghost use Rattle.bpf_model.specs.Schedule.{start_schedule};
 ghost use Rattle.bpf_model.specs.View.{start_view};
 ghost use Rattle.world_laws.specs.Binding.{IsBoundTo};
+ghost use Rattle.world.specs.Programs.{program_of};
 ghost use Rattle.control.specs.MapAndLoad.{MapReplies, LoadReplies, ReadReplies, AreMapsNamed, HasUnknown};
+ghost use Rattle.control.specs.Refusals.{map_reply, program_reply};
 ghost use Rattle.control.specs.Setups.{shapes_made, no_maps_or_programs};
 
 use crate::faults::{uncreated, undecoded, unverified};
 use crate::map_names::map_named;
-use crate::replies::refused;
+use crate::refusal::LineRefusal;
 use arrayvec::ArrayVec;
-use bpf_model::{CTX_BYTES, EventRefusal, MAX_MAPS, MAX_PROGRAMS, MapShape, ProgId};
+use bpf_model::{CTX_BYTES, EventRefusal, MAX_MAPS, MAX_PROGRAMS, MapId, MapShape, ProgId};
 use insn_codec::decode;
 use maps::{MapFault, Registry};
-use script_lines::{Code, Name, Names, Reply};
+use script_lines::{Code, Name, Names};
 use std::alloc::{AllocError, Global};
 use std::marker::Model;
 use verifier::verify;
@@ -60,24 +62,43 @@ impl Setup {
         }
     }
 
-    /// Makes a map. The reply is its number, or refuses it: 50 for a bad name, 51 for one that is taken, 52
-    /// for a bad shape, 53 where there are `MAX_MAPS` maps.
+    /// The maps that are made, with their names.
+    pub fn registry(&self) -> &Registry
+        ensures { result.now ≡ self.now.registry }
+    {
+        &self.registry
+    }
+
+    /// The program of this number, if there is one.
+    pub fn program(&self, prog: ProgId) -> Option<&Loaded>
+        ensures { option_map program_of (option_copied result) ≡ slice_get self.now.programs prog }
+    {
+        self.loaded.get(prog.index())
+    }
+
+    /// Makes a map, and answers its number; or it is refused for a bad name, one that is taken, a bad shape, or since there
+    /// are `MAX_MAPS` maps.
     ///
     /// # Errors
     ///
     /// `AllocError` where memory runs out; nothing has changed then.
-    pub fn create(&mut self, name: &Name<'_>, shape: MapShape) -> Result<Reply<'static>, AllocError>
-        ensures replies { IfOk result (λ reply. MapReplies self.old name.now shape reply self.new) }
+    pub fn create(
+        &mut self,
+        name: &Name<'_>,
+        shape: MapShape,
+    ) -> Result<Result<MapId, LineRefusal>, AllocError>
+        ensures replies { IfOk result (λ made.
+            MapReplies self.old name.now shape (map_reply made) self.new) }
         ensures err { OnErr result (self.new ≡ self.old) }
     {
         let Some(text) = name.text() else {
-            return Ok(refused(MapFault::BadName.code()));
+            return Ok(Err(LineRefusal::Map(MapFault::BadName)));
         };
         let map = match self.registry.create(text, shape) {
             Ok(map) => map,
             Err(fault) => return uncreated(fault),
         };
-        Ok(Reply::Map(map))
+        Ok(Ok(map))
     }
 
     /// The maps of these names; `None` where one of the names is no map's.
@@ -119,13 +140,13 @@ impl Setup {
         ctx_len: usize,
         code: &[u8],
         bound: Bound,
-    ) -> Result<Reply<'static>, AllocError>
+    ) -> Result<Result<ProgId, LineRefusal>, AllocError>
         requires context { ctx_len ≤ CTX_BYTES }
         requires maps { length bound.shapes.items ≤ MAX_MAPS }
         requires bound { IsBoundTo (shapes_made self.old) bound.shapes.items bound.maps.items }
         requires room { length self.old.programs < MAX_PROGRAMS }
-        ensures replies { IfOk result (λ reply. ReadReplies self.old code.now bound.shapes.items
-            bound.maps.items ctx_len reply self.new) }
+        ensures replies { IfOk result (λ made. ReadReplies self.old code.now bound.shapes.items
+            bound.maps.items ctx_len (program_reply made) self.new) }
         ensures err { OnErr result (self.new ≡ self.old) }
     {
         let program = match decode(alloc, code) {
@@ -139,12 +160,12 @@ impl Setup {
         let number = self.loaded.len();
         let maps = bound.maps;
         self.loaded.push(Loaded { verified, maps })?;
-        Ok(Reply::Prog(ProgId::new(number)))
+        Ok(Ok(ProgId::new(number)))
     }
 
-    /// Loads a program for contexts of this length, bound to the maps of these names. The reply is its
-    /// number, or the first refusal of these: 54 where there are `MAX_PROGRAMS`, 63 for a context above
-    /// `CTX_BYTES`, 65 for a name that is no map's, that of decoding, that of the verifier.
+    /// Loads a program for contexts of this length, bound to the maps of these names, and answers its number; or the first
+    /// refusal of these: there are `MAX_PROGRAMS`, the context is above `CTX_BYTES`, a name is no map's, that of decoding,
+    /// that of the verifier.
     ///
     /// # Errors
     ///
@@ -155,19 +176,19 @@ impl Setup {
         ctx_len: u64,
         code: &Code<'_>,
         names: Names<'_>,
-    ) -> Result<Reply<'static>, AllocError>
-        ensures replies { IfOk result (λ reply.
-            LoadReplies self.old ctx_len code.now names.entry reply self.new) }
+    ) -> Result<Result<ProgId, LineRefusal>, AllocError>
+        ensures replies { IfOk result (λ made.
+            LoadReplies self.old ctx_len code.now names.entry (program_reply made) self.new) }
         ensures err { OnErr result (self.new ≡ self.old) }
     {
         if self.loaded.len() >= MAX_PROGRAMS {
-            return Ok(refused(WorldFault::TooManyPrograms.code()));
+            return Ok(Err(LineRefusal::TooManyPrograms));
         }
         if ctx_len > CTX_BYTES as u64 {
-            return Ok(refused(EventRefusal::BadContext.code()));
+            return Ok(Err(LineRefusal::Event(EventRefusal::BadContext)));
         }
         let Some(bound) = self.bind(alloc, names)? else {
-            return Ok(refused(EventRefusal::NoMap.code()));
+            return Ok(Err(LineRefusal::Event(EventRefusal::NoMap)));
         };
         let bytes = code.to_vec(alloc)?;
         self.load_bound(alloc, ctx_len as usize, &bytes, bound)

@@ -1,5 +1,5 @@
 -- The texts of answers.
-use Rattle.std.specs.Prelude.{ℕ, ◌==◌, if◌then◌else◌, List, [], ◌∷◌, ◌++◌, length, codes, Option}
+use Rattle.std.specs.Prelude.{◌≡◌, ℕ, ◌==◌, if◌then◌else◌, List, [], ◌∷◌, ◌++◌, length, codes, Option}
 use Rattle.std.specs.Prelude.{Some, None, Result, Ok, Err}
 use Rattle.std.specs.Fmt.{decimal}
 use Rattle.hex.specs.Hex.{encode_lower}
@@ -10,6 +10,10 @@ use Rattle.bpf_model.specs.declared.event.Given.TheVariants as given
 use Rattle.bpf_model.specs.declared.stat.Stat.{Stat}
 use Rattle.script_lines.specs.declared.reply.Reply.{Reply}
 use Rattle.script_lines.specs.declared.reply.Reply.TheVariants as replies
+
+-- The text goes on from its beginning.
+abbrev pub GoesOn : List ℕ → List ℕ → Type 0
+GoesOn before after = (more : List ℕ) × (after ≡ before ++ more)
 
 -- lower case digits, or `-` for no bytes
 abbrev pub bytes_text : List ℕ → List ℕ

@@ -1,8 +1,8 @@
 //! The text of answers.
-ghost use Rattle.std.specs.Prelude.{◌≡◌, ◌≤◌, ◌++◌, length, codes, OnOk};
+ghost use Rattle.std.specs.Prelude.{◌≡◌, ◌≤◌, ◌++◌, length, codes, OnOk, OnErr};
 ghost use Rattle.std.specs.Fmt.{decimal};
 ghost use Rattle.bpf_model.specs.declared.limits.TheConstants.{VALUE_BYTES};
-ghost use Rattle.script_lines.specs.ReplyText.{bytes_text, ret_text, given_text, slot_text, reaped_text, stat_text, reply_line, reply_text};
+ghost use Rattle.script_lines.specs.ReplyText.{bytes_text, ret_text, given_text, slot_text, reaped_text, stat_text, reply_line, reply_text, GoesOn};
 
 use crate::name::Name;
 use crate::reply::Reply;
@@ -11,14 +11,16 @@ use itoa::Buffer;
 use std::alloc::AllocError;
 
 fn push_number(out: &mut Vec<u8>, number: u64) -> Result<(), AllocError>
-    ensures { OnOk result (out.new.items ≡ out.old.items ++ decimal number) }
+    ensures ok { OnOk result (out.new.items ≡ out.old.items ++ decimal number) }
+    ensures err { OnErr result (GoesOn out.old.items out.new.items) }
 {
     let mut buffer = Buffer::new();
     out.extend_from_slice(buffer.format(number).as_bytes())
 }
 
 fn push_text(out: &mut Vec<u8>, text: &str) -> Result<(), AllocError>
-    ensures { OnOk result (out.new.items ≡ out.old.items ++ text.now) }
+    ensures ok { OnOk result (out.new.items ≡ out.old.items ++ text.now) }
+    ensures err { OnErr result (GoesOn out.old.items out.new.items) }
 {
     out.extend_from_slice(text.as_bytes())
 }
@@ -26,7 +28,8 @@ fn push_text(out: &mut Vec<u8>, text: &str) -> Result<(), AllocError>
 /// Adds bytes in hexadecimal.
 fn push_bytes(out: &mut Vec<u8>, bytes: &[u8]) -> Result<(), AllocError>
     requires { length bytes.now ≤ VALUE_BYTES }
-    ensures { OnOk result (out.new.items ≡ out.old.items ++ bytes_text bytes.now) }
+    ensures ok { OnOk result (out.new.items ≡ out.old.items ++ bytes_text bytes.now) }
+    ensures err { OnErr result (GoesOn out.old.items out.new.items) }
 {
     if bytes.is_empty() {
         return push_text(out, "-");
@@ -38,7 +41,8 @@ fn push_bytes(out: &mut Vec<u8>, bytes: &[u8]) -> Result<(), AllocError>
 }
 
 fn push_ret(out: &mut Vec<u8>, ret: &Result<(), Errno>) -> Result<(), AllocError>
-    ensures { OnOk result (out.new.items ≡ out.old.items ++ ret_text ret.now) }
+    ensures ok { OnOk result (out.new.items ≡ out.old.items ++ ret_text ret.now) }
+    ensures err { OnErr result (GoesOn out.old.items out.new.items) }
 {
     match ret {
         Ok(()) => push_text(out, "0"),
@@ -53,14 +57,16 @@ fn push_ret(out: &mut Vec<u8>, ret: &Result<(), Errno>) -> Result<(), AllocError
 #[tactic(auto, using(std::proofs::Common::append_assoc))]
 fn push_next_bytes(out: &mut Vec<u8>, bytes: &[u8]) -> Result<(), AllocError>
     requires { length bytes.now ≤ VALUE_BYTES }
-    ensures { OnOk result (out.new.items ≡ out.old.items ++ (codes " " ++ bytes_text bytes.now)) }
+    ensures ok { OnOk result (out.new.items ≡ out.old.items ++ (codes " " ++ bytes_text bytes.now)) }
+    ensures err { OnErr result (GoesOn out.old.items out.new.items) }
 {
     push_text(out, " ")?;
     push_bytes(out, bytes)
 }
 
 fn push_given(out: &mut Vec<u8>, given: Given) -> Result<(), AllocError>
-    ensures { OnOk result (out.new.items ≡ out.old.items ++ (codes " " ++ given_text given)) }
+    ensures ok { OnOk result (out.new.items ≡ out.old.items ++ (codes " " ++ given_text given)) }
+    ensures err { OnErr result (GoesOn out.old.items out.new.items) }
 {
     match given {
         Given::Free => push_text(out, " free"),
@@ -69,7 +75,8 @@ fn push_given(out: &mut Vec<u8>, given: Given) -> Result<(), AllocError>
 }
 
 fn push_slot(out: &mut Vec<u8>, slot: &Option<usize>) -> Result<(), AllocError>
-    ensures { OnOk result (out.new.items ≡ out.old.items ++ slot_text slot.now) }
+    ensures ok { OnOk result (out.new.items ≡ out.old.items ++ slot_text slot.now) }
+    ensures err { OnErr result (GoesOn out.old.items out.new.items) }
 {
     match slot {
         None => Ok(()),
@@ -82,7 +89,8 @@ fn push_slot(out: &mut Vec<u8>, slot: &Option<usize>) -> Result<(), AllocError>
 
 /// Adds a word and a number.
 fn push_counted(out: &mut Vec<u8>, word: &str, number: usize) -> Result<(), AllocError>
-    ensures { OnOk result (out.new.items ≡ out.old.items ++ (word.now ++ decimal number)) }
+    ensures ok { OnOk result (out.new.items ≡ out.old.items ++ (word.now ++ decimal number)) }
+    ensures err { OnErr result (GoesOn out.old.items out.new.items) }
 {
     push_text(out, word)?;
     push_number(out, number as u64)
@@ -97,8 +105,9 @@ fn push_pair(
     second: &str,
     second_number: usize,
 ) -> Result<(), AllocError>
-    ensures { OnOk result (out.new.items ≡ out.old.items
+    ensures ok { OnOk result (out.new.items ≡ out.old.items
         ++ ((first.now ++ decimal first_number) ++ (second.now ++ decimal second_number))) }
+    ensures err { OnErr result (GoesOn out.old.items out.new.items) }
 {
     push_counted(out, first, first_number)?;
     push_counted(out, second, second_number)
@@ -106,7 +115,8 @@ fn push_pair(
 
 #[tactic(auto, using(std::proofs::Common::append_assoc))]
 fn push_stat(out: &mut Vec<u8>, stat: Stat) -> Result<(), AllocError>
-    ensures { OnOk result (out.new.items ≡ out.old.items ++ stat_text stat) }
+    ensures ok { OnOk result (out.new.items ≡ out.old.items ++ stat_text stat) }
+    ensures err { OnErr result (GoesOn out.old.items out.new.items) }
 {
     push_pair(
         out,
@@ -126,8 +136,9 @@ fn push_reaped(
     key: &KeyBytes,
     given: Given,
 ) -> Result<(), AllocError>
-    ensures { OnOk result
+    ensures ok { OnOk result
         (out.new.items ≡ out.old.items ++ reaped_text map.now key.now.items given) }
+    ensures err { OnErr result (GoesOn out.old.items out.new.items) }
 {
     push_text(out, "reaped ")?;
     out.extend_from_slice(map.bytes())?;
@@ -138,7 +149,8 @@ fn push_reaped(
 /// Adds an answer without the line feed that ends it.
 #[tactic(auto, using(std::proofs::Common::append_assoc))]
 fn push_line(out: &mut Vec<u8>, reply: &Reply<'_>) -> Result<(), AllocError>
-    ensures { OnOk result (out.new.items ≡ out.old.items ++ reply_line reply.now) }
+    ensures ok { OnOk result (out.new.items ≡ out.old.items ++ reply_line reply.now) }
+    ensures err { OnErr result (GoesOn out.old.items out.new.items) }
 {
     match reply {
         Reply::Map(map) => push_counted(out, "map ", map.index()),
@@ -179,7 +191,8 @@ fn push_line(out: &mut Vec<u8>, reply: &Reply<'_>) -> Result<(), AllocError>
 ///
 /// `AllocError` where memory for it runs out; a part of the line may have been added.
 pub fn write_reply(reply: &Reply<'_>, out: &mut Vec<u8>) -> Result<(), AllocError>
-    ensures { OnOk result (out.new.items ≡ out.old.items ++ reply_text reply.now) }
+    ensures ok { OnOk result (out.new.items ≡ out.old.items ++ reply_text reply.now) }
+    ensures err { OnErr result (GoesOn out.old.items out.new.items) }
 {
     push_line(out, reply)?;
     push_text(out, "\n")

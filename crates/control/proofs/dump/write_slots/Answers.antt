@@ -17,10 +17,10 @@ loop-slot-preserved c =
     let here = subst (λ l. AreBegun c.args.map.now l c.args.out.now.items c.loop-slot.out.items)
     (drop_more c.args.slots.now c.loop-slot.slot-index 0 c.loop-slot-test.true) c.loop-slot.invariant in
     goes-on c.args.map.now c.args.out.now.items _ _ _ _ c.element-key.result.0 c.element-key.result.1 here c.element-key.ensures.key
-    c.element-key.ensures.value c.in_ok-write_reply.ensures
+    c.element-key.ensures.value c.in_ok-write_reply.ensures.ok
 
-pub returns : goal.returns
-returns c =
+pub returns-clause-ok : goal.returns-clause-ok
+returns-clause-ok c =
     let end : drop c.loop-slot.slot-index c.args.slots.now ≡ [] = drop_all c.loop-slot.slot-index c.args.slots.now (omega (arith, c.loop-slot-test.false)) in
     all-written c.args.map.now c.args.out.now.items c.loop-slot.out.items
     (subst (λ l. AreBegun c.args.map.now l c.args.out.now.items c.loop-slot.out.items) end c.loop-slot.invariant)

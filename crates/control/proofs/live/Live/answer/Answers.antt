@@ -1,19 +1,20 @@
 use Rattle.std.proofs.Common.{◌≡◌, List, ◌++◌, subst}
-use Rattle.std.specs.Prelude.{OnOk, Ok, Err}
+use Rattle.std.specs.Prelude.{IfOk, Ok, Err}
 use Rattle.std.specs.List.{flat_map}
 use Rattle.script_lines.specs.declared.reply.Reply.{Reply}
 use Rattle.script_lines.specs.ReplyText.{reply_text}
 use Rattle.control.specs.Questions.{IsAsked}
 use Rattle.control.specs.Lives.{IsReplied, LiveReplies}
+use Rattle.control.specs.Refusals.{AreTold}
 use Rattle.control.proofs.live.Live.answer.Goals as goal
 
-pub returns : goal.returns
-returns c = elim (c.answer_asked.result) as (λ r. OnOk r
-    (IsReplied c.args.self.now c.ask-asked.result c.args.out.now.items c.answer_asked.new.out.items
-    c.answer_asked.new.self) → OnOk r ((replies : List Reply) ×
-    LiveReplies c.args.self.now c.args.command replies c.answer_asked.new.self ×
+pub returns-clause-ok : goal.returns-clause-ok
+returns-clause-ok c = elim (c.answer_asked.result) as (λ r. IfOk r (λ refusal.
+    IsReplied c.args.self.now c.ask-asked.result c.args.out.now.items refusal c.answer_asked.new.out.items
+    c.answer_asked.new.self) → IfOk r (λ refusal. (replies : List Reply) ×
+    LiveReplies c.args.self.now c.args.command replies c.answer_asked.new.self × AreTold refusal replies ×
     (c.answer_asked.new.out.items ≡ c.args.out.now.items ++ flat_map reply_text replies))) [
-      | Ok u ↦ λ e. (
+      | Ok refusal ↦ λ e. (
         e.replies,
         record {
           asked = c.ask-asked.result;
@@ -21,7 +22,8 @@ returns c = elim (c.answer_asked.result) as (λ r. OnOk r
               subst (λ names. IsAsked names c.args.command c.ask-asked.result) c.registry.ensures.names c.ask-asked.ensures;
           served = e.served;
         },
+        e.told,
         e.text,
       )
       | Err u ↦ λ e. tt
-    ] c.answer_asked.ensures
+    ] c.answer_asked.ensures.ok

@@ -1,29 +1,31 @@
 use Rattle.std.proofs.Common.{◌≡◌, List, ◌++◌, refl, subst, sym}
-use Rattle.std.specs.Prelude.{OnOk, Ok, Err}
+use Rattle.std.specs.Prelude.{IfOk, Ok, Err}
 use Rattle.std.specs.List.{flat_map}
 use Rattle.bpf_model.specs.declared.event.Event.{Event}
 use Rattle.script_lines.specs.ReplyText.{reply_text}
 use Rattle.script_lines.specs.declared.reply.Reply.{Reply}
 use Rattle.control.specs.Lives.{LiveReplies}
+use Rattle.control.specs.Refusals.{AreTold}
 use Rattle.control.specs.Sessions.{SessionReplies}
 use Rattle.control.specs.declared.session.Session.{Session}
 use Rattle.control.specs.declared.session.Session.TheVariants as sessions
 use Rattle.control.proofs.session.Session.answer.Goals as goal
 
-pub returns-in-Live : goal.returns-in-Live
-returns-in-Live c = elim (c.answer.result) as (λ r. OnOk r
-    ((replies : List Reply) × LiveReplies c.in-Live.live c.args.command replies c.answer.new.self ×
-    (c.answer.new.out.items ≡ c.args.out.now.items ++ flat_map reply_text replies)) →
-    OnOk r ((events : List Event) × (replies : List Reply) ×
+pub returns-in-Live-clause-ok : goal.returns-in-Live-clause-ok
+returns-in-Live-clause-ok c = elim (c.answer.result) as (λ r. IfOk r (λ refusal.
+    (replies : List Reply) × LiveReplies c.in-Live.live c.args.command replies c.answer.new.self ×
+    AreTold refusal replies × (c.answer.new.out.items ≡ c.args.out.now.items ++ flat_map reply_text replies)) →
+    IfOk r (λ refusal. (events : List Event) × (replies : List Reply) ×
     SessionReplies c.args.self.now c.args.command events replies (sessions.Live c.answer.new.self) ×
-    (c.answer.new.out.items ≡ c.args.out.now.items ++ flat_map reply_text replies))) [
-      | Ok u ↦ λ e. (
+    AreTold refusal replies × (c.answer.new.out.items ≡ c.args.out.now.items ++ flat_map reply_text replies))) [
+      | Ok refusal ↦ λ e. (
         e.1.served.events,
         e.0,
         subst (λ (s : Session).
             SessionReplies s c.args.command e.1.served.events e.0 (sessions.Live c.answer.new.self)) (sym c.in-Live.is)
             (c.answer.new.self, e.1, refl, refl),
         e.2,
+        e.3,
       )
       | Err u ↦ λ e. tt
-    ] c.answer.ensures
+    ] c.answer.ensures.ok

@@ -11,7 +11,7 @@ use Rattle.control.proofs.setup.Setup.create.Goals as goal
 
 pub returns-in_default-clause-replies : goal.returns-in_default-clause-replies
 returns-in_default-clause-replies c =
-    rw (bad-name c.args.self.now.registry c.args.name.now c.args.shape c.in_default.ensures.none) (cc, refl)
+    rw (bad-name c.args.self.now.registry c.args.name.now c.args.shape c.in_default.ensures.none) (refl, refl)
 
 pub invariant_of-self-2 : goal.invariant_of-self-2
 invariant_of-self-2 c =
@@ -44,4 +44,4 @@ returns-in-Err-clause-replies c =
     let before : c.self.inside.registry ≡ s.registry = ap (λ v. v.registry) c.self.view_is in
     let same = ap (λ r. creation_fault r c.in-Some.text.now shape) before ∙ ap (λ n. creation_fault s.registry n shape) text in
     create-refused s c.args.name.now shape c.in-Err.fault _ _ c.uncreated.result _ same e.tested e.made
-    c.uncreated.ensures.known c.uncreated.ensures.reply (cc (e.err, c.self.view_is))
+    c.uncreated.ensures.known c.uncreated.ensures.refused (cc (e.err, c.self.view_is))

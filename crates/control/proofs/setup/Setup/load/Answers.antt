@@ -3,6 +3,7 @@ use Rattle.std.proofs.lemmas.List.{length-map}
 use Rattle.bpf_model.specs.declared.limits.TheConstants.{MAX_PROGRAMS}
 use Rattle.world.specs.Programs.{program_of}
 use Rattle.control.specs.MapAndLoad.{AreMapsNamed, ReadReplies}
+use Rattle.control.specs.Refusals.{program_reply}
 use Rattle.control.specs.Setups.{shapes_made}
 use Rattle.world_laws.specs.Binding.{IsBoundTo}
 use Rattle.control.proofs.LoadReplies.{read-reply}
@@ -27,4 +28,4 @@ returns-clause-replies c =
     let are : IsBoundTo (shapes_made s) bound.shapes.items bound.maps.items = rw c.in-Some.is at b.bound in
     read-reply s _ c.args.ctx_len c.args.code.now c.args.names bound.shapes.items bound.maps.items c.load_bound.result
     room (omega (arith, c.if-ctx_len.false)) named are
-    (subst (λ x. IfOk c.load_bound.result (λ reply. ReadReplies s x bound.shapes.items bound.maps.items c.args.ctx_len reply c.load_bound.new.self)) code read)
+    (subst (λ x. IfOk c.load_bound.result (λ made. ReadReplies s x bound.shapes.items bound.maps.items c.args.ctx_len (program_reply made) c.load_bound.new.self)) code read)

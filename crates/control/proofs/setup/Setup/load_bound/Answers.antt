@@ -7,8 +7,13 @@ use Rattle.world.specs.BoundTo.{AreProgramsBound}
 use Rattle.world_laws.specs.Binding.{IsBoundTo}
 use Rattle.world.specs.Programs.{program_of}
 use Rattle.control.proofs.GrownSetups.{bound-more}
-use Rattle.control.proofs.LoadReplies.{unverified-reply}
+use Rattle.control.proofs.LoadReplies.{undecoded-reply, unverified-reply}
 use Rattle.control.proofs.setup.Setup.load_bound.Goals as goal
+
+pub returns-in-Err-clause-replies : goal.returns-in-Err-clause-replies
+returns-in-Err-clause-replies c =
+    undecoded-reply c.args.self.now c.args.code.now c.args.bound.shapes.items c.args.bound.maps.items c.args.ctx_len
+    c.in-Err.fault c.undecoded.result c.in-Err.ensures.fault c.undecoded.ensures.known c.undecoded.ensures.refused
 
 pub returns-in-Err-verify-clause-replies : goal.returns-in-Err-verify-clause-replies
 returns-in-Err-verify-clause-replies c =
@@ -18,7 +23,7 @@ returns-in-Err-verify-clause-replies c =
     unverified-reply c.args.self.now c.args.code.now c.args.bound.shapes.items c.args.bound.maps.items c.args.ctx_len
     c.in-Ok.program c.in-Err-verify.refusal c.unverified.result d.program d.found v.flaw_is
     (subst (λ x. IsPlainWithMaps c.in-Ok.program x → c.in-Err-verify.refusal ≡ Memory) shapes v.plain_with_maps)
-    c.unverified.ensures.known c.unverified.ensures.reply
+    c.unverified.ensures.known c.unverified.ensures.refused
 
 pub invariant_of-self-2 : goal.invariant_of-self-2
 invariant_of-self-2 c =
