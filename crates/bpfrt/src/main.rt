@@ -1,20 +1,13 @@
 //! `bpfrt`: the command line over the runtime.
 #![tactic(auto)]
 
-mod answers;
 mod input;
 mod progress;
-mod recent;
 
-use crate::answers::{Answers, Heard};
 use crate::input::{Input, MOST_BYTES, TEXT_HEAD};
 use crate::progress::Progress;
-use crate::recent::Recent;
-use commands::{
-    BpfrtCommand, InputFile, WordsFault, explain_script, no_command, parse_words, read_failed, run,
-};
+use commands::{BpfrtCommand, InputFile, WordsFault, no_command, parse_words, read_failed, run};
 use std::alloc::Global;
-use std::cell::RefCell;
 use std::fs::File;
 use std::io::{Error, ErrorKind, IsTerminal, Read, Write};
 use std::process::ExitCode;
@@ -108,26 +101,6 @@ fn opened(rt: &HostRuntime, command: &BpfrtCommand, path: &str) -> io::Result<(F
     Ok((file, most))
 }
 
-/// Answers the script on standard input, and says in words why a line of it is refused, or no command. The handle for threads
-/// and for waiting is the runtime again.
-fn run_explained<H: Threads + Wait + Sync>(
-    rt: &HostRuntime,
-    threads: &H,
-    command: &BpfrtCommand,
-) -> u8 {
-    let alloc = rt.alloc();
-    let mut err = rt.stderr();
-    let heard = RefCell::new(Heard::new(alloc));
-    let mut input = Recent::new(alloc, rt.stdin(), rt.stderr(), &heard);
-    let mut out = Answers::new(rt.stdout(), &heard);
-    let status = run(threads, alloc, command, &mut input, &mut out, &mut err);
-    input.explain();
-    if let (1, Some((text, above))) = (status, input.text()) {
-        let _ = explain_script(alloc, text, above, &mut err);
-    }
-    status
-}
-
 /// Runs the command on what is opened of the file of this name, and says why that cannot be read. The handle for threads and
 /// for waiting is the runtime again.
 fn run_on<H: Threads + Wait + Sync, R: Read + Drop, W: Write>(
@@ -155,9 +128,6 @@ fn run_into<H: Threads + Wait + Sync, W: Write>(
     out: &mut W,
 ) -> u8 {
     let mut err = rt.stderr();
-    if let BpfrtCommand::Script { explain: true } = command {
-        return run_explained(rt, threads, command);
-    }
     match command.file() {
         None => run(threads, rt.alloc(), command, &mut rt.stdin(), out, &mut err),
         Some(InputFile::StandardInput) => {

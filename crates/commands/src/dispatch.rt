@@ -76,7 +76,7 @@ pub fn run<H: Threads + Wait + Sync, R: Read, W: Write, E: Write>(
         BpfrtCommand::Check { how, .. } => run_check(alloc, how, input, out, err),
         BpfrtCommand::Disasm { .. } => run_disasm(alloc, input, out, err),
         BpfrtCommand::Asm { form, explain, .. } => run_asm(alloc, *form, *explain, input, out, err),
-        BpfrtCommand::Script { .. } => run_lines(alloc, input, out, err),
+        BpfrtCommand::Script { explain } => run_lines(alloc, *explain, input, out, err),
         BpfrtCommand::Version => write_status(err, write_version(out)),
         BpfrtCommand::Pool {
             workers,

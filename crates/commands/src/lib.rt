@@ -26,5 +26,4 @@ pub use command_words::{
 };
 pub use dispatch::run;
 pub use report::no_command;
-pub use script_hints::{Made, Outcome, Refusal, explain_answers, explain_script, outcome_of};
 pub use streams::read_failed;

@@ -3,7 +3,8 @@ ghost use Rattle.std.specs.Prelude.{◌≡◌, ◌⊎◌, ℕ, IfSome};
 ghost use Rattle.commands.specs.Scripts.{AnswersAll, AnswersBefore};
 
 use crate::report::report_fault;
-use control::{ScriptFault, run_script};
+use control::{ScriptFault, run_script, watch_script};
+use script_hints::Explaining;
 use std::alloc::Global;
 use std::io::{Read, Write};
 
@@ -22,9 +23,9 @@ fn report_stop<E: Write>(err: &mut E, why: ScriptFault) -> u8
     }
 }
 
-/// Answers the script that the input is on `out`, and answers the exit status: 0, 1 at a line that is no
-/// command, 3 for a fault.
-pub fn run_lines<R: Read, W: Write, E: Write>(
+/// Answers the script as `run_lines` does, and says in words on standard error why lines of it are refused, and why one is no
+/// command.
+fn run_explained<R: Read, W: Write, E: Write>(
     alloc: Global,
     input: &mut R,
     out: &mut W,
@@ -36,6 +37,35 @@ pub fn run_lines<R: Read, W: Write, E: Write>(
     ensures stopped { result ≡ 1 → IfSome (R.remaining input.old)
         (AnswersBefore (W.contents out.old) (W.contents out.new)) }
 {
+    let mut explaining = Explaining::new(alloc, err);
+    match watch_script(alloc, &mut explaining, input, out) {
+        Ok(()) => 0,
+        Err(why) => {
+            let status = report_stop(explaining.writer(), why);
+            explaining.end(why);
+            status
+        }
+    }
+}
+
+/// Answers the script that the input is on `out`, and answers the exit status: 0, 1 at a line that is no
+/// command, 3 for a fault. In words it says why lines are refused where that is asked for.
+pub fn run_lines<R: Read, W: Write, E: Write>(
+    alloc: Global,
+    in_words: bool,
+    input: &mut R,
+    out: &mut W,
+    err: &mut E,
+) -> u8
+    ensures status { (result ≡ 0) ⊎ (result ≡ 1) ⊎ (result ≡ 3) }
+    ensures answered { result ≡ 0 → IfSome (R.remaining input.old)
+        (AnswersAll (W.contents out.old) (W.contents out.new)) }
+    ensures stopped { result ≡ 1 → IfSome (R.remaining input.old)
+        (AnswersBefore (W.contents out.old) (W.contents out.new)) }
+{
+    if in_words {
+        return run_explained(alloc, input, out, err);
+    }
     match run_script(alloc, input, out) {
         Ok(()) => 0,
         Err(why) => report_stop(err, why),

@@ -1,9 +1,11 @@
-//! What the lines and the answers of a script say, in words.
+//! Why the lines of a script are refused or no commands, in words.
 #![tactic(auto)]
 
-mod answers;
-mod cause;
+mod explaining;
+mod meaning;
+mod refused;
 mod words;
 
-pub use answers::{Made, Outcome, Refusal, explain_answers, outcome_of, write_length};
-pub use words::{explain_script, has_prefix};
+pub use explaining::Explaining;
+pub use refused::write_length;
+pub use words::has_prefix;

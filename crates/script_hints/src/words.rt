@@ -1,6 +1,6 @@
 //! Why a line of a script is no command, in words for people.
 
-use script_lines::{MAX_COUNT, number_of, parse_line};
+use script_lines::{MAX_COUNT, number_of};
 use script_stream::LINE_BYTES;
 use std::alloc::{AllocError, Global};
 use std::io::Write;
@@ -210,7 +210,7 @@ fn write_why<W: Write>(alloc: Global, out: &mut W, line: &[u8]) -> io::Result<()
 }
 
 /// Writes what a text looks like that is no script.
-fn write_likeness<W: Write>(out: &mut W, text: &[u8]) -> io::Result<()> {
+pub fn write_likeness<W: Write>(out: &mut W, text: &[u8]) -> io::Result<()> {
     match likeness_of(text) {
         None | Some(Likeness::Script | Likeness::Text) => Ok(()),
         Some(likeness) => {
@@ -220,26 +220,13 @@ fn write_likeness<W: Write>(out: &mut W, text: &[u8]) -> io::Result<()> {
     }
 }
 
-/// Writes which of the lines of a script that were read last is the first that is no command, and why. So many lines stand
-/// above them.
-pub fn explain_script<W: Write>(
+/// Writes a line that is no command, below so many others, and why it is none.
+pub fn write_bad_line<W: Write>(
     alloc: Global,
-    text: &[u8],
-    above: usize,
     out: &mut W,
+    above: usize,
+    line: &[u8],
 ) -> io::Result<()> {
-    let mut number: usize = 0;
-    for line in text.split(|byte| *byte == b'\n') {
-        number = number.saturating_add(1);
-        if parse_line(line).is_err() {
-            write_line(out, text, number, above)?;
-            write_why(alloc, out, line)?;
-            return if above == 0 {
-                write_likeness(out, text)
-            } else {
-                Ok(())
-            };
-        }
-    }
-    Ok(())
+    write_line(out, line, 1, above)?;
+    write_why(alloc, out, line)
 }
