@@ -217,11 +217,10 @@ fn write_map_cause<W: Write>(out: &mut W, words: &[&[u8]], fault: MapFault) -> i
 fn map_line(alloc: Global, name: &str, shape: &MapShape) -> Result<String, AllocError> {
     let (key, value, entries) = (shape.key_len, shape.value_len, shape.entries);
     let (spare, reuse) = (shape.spare, shape.reuse_limit);
-    match shape.kind {
-        MapKind::Hash => {
-            format!(in alloc; "map {name} {key} {value} {entries} {spare} {reuse}\n")
-        }
-        MapKind::Array => format!(in alloc; "map {name} array {value} {entries}\n"),
+    if shape.kind == MapKind::Hash {
+        format!(in alloc; "map {name} {key} {value} {entries} {spare} {reuse}\n")
+    } else {
+        format!(in alloc; "map {name} array {value} {entries}\n")
     }
 }
 

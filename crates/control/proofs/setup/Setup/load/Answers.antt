@@ -28,4 +28,5 @@ returns-clause-replies c =
     let are : IsBoundTo (shapes_made s) bound.shapes.items bound.maps.items = rw c.in-Some.is at b.bound in
     read-reply s _ c.args.ctx_len c.args.code.now c.args.names bound.shapes.items bound.maps.items c.load_bound.result
     room (omega (arith, c.if-ctx_len.false)) named are
-    (subst (λ x. IfOk c.load_bound.result (λ made. ReadReplies s x bound.shapes.items bound.maps.items c.args.ctx_len (program_reply made) c.load_bound.new.self)) code read)
+    (subst (λ x. IfOk c.load_bound.result (λ made.
+    ReadReplies s x bound.shapes.items bound.maps.items c.args.ctx_len (program_reply made) c.load_bound.new.self)) code read)
