@@ -134,7 +134,7 @@ type ReaderRow = (
     &'static str,
 );
 
-const READERS: [ReaderRow; 9] = [
+const READERS: [ReaderRow; 10] = [
     ("bpfrt check a", b"", Giving::Failing, 3, "", "fault 96\n"),
     ("bpfrt script", b"", Giving::Failing, 3, "", "fault 96\n"),
     (
@@ -160,6 +160,15 @@ const READERS: [ReaderRow; 9] = [
         3,
         "ok\nnone\n",
         "fault 96\n",
+    ),
+    (
+        "bpfrt script --explain",
+        b"get m 00\nrea",
+        Giving::Failing,
+        3,
+        "refused 65\n",
+        "line 1 is refused (65): \"get m 00\"\nNoMap: no map has the number, or the name\n  no map is called \"m\"; \
+the script has made no map\nfault 96\n",
     ),
     (
         "bpfrt script",
@@ -215,7 +224,7 @@ fn readers(rt: HostRuntime) -> Result<(), Fail> {
 /// writes and the status.
 type WriterRow = (&'static str, &'static [u8], u64, bool, u64, u8);
 
-const WRITERS: [WriterRow; 9] = [
+const WRITERS: [WriterRow; 10] = [
     ("bpfrt check a", EXIT_ONE, 0, true, 1, 3),
     ("bpfrt pool 1 a 1", EXIT_ONE, 0, true, 1, 3),
     ("bpfrt run a --dump", EXIT_ONE, 0, true, 1, 3),
@@ -223,6 +232,7 @@ const WRITERS: [WriterRow; 9] = [
     ("bpfrt script", b"advance\n", 0, false, 1, 3),
     ("bpfrt script", b"advance\nfly\n", 0, true, 1, 3),
     ("bpfrt script", b"advance\nfly\n", 0, false, 1, 3),
+    ("bpfrt script --explain", b"get m 00\nfly\n", 0, true, 1, 3),
     ("bpfrt script", b"# no answer\n", 0, true, 0, 0),
     (
         "bpfrt script",
