@@ -8,6 +8,7 @@ use bpf_model::ProgId;
 use maps::Registry;
 use script_lines::ScriptCommand;
 use std::alloc::{AllocError, Global};
+use world::Loaded;
 
 /// The state of a script: maps and programs are being made, or there is a world.
 #[derive(Drop)]
@@ -17,11 +18,12 @@ pub enum Session {
 }
 
 impl Session {
-    ghost use Rattle.std.specs.Prelude.{◌≡◌, ◌++◌, List, IfOk, OnErr, slice_get, option_map};
+    ghost use Rattle.std.specs.Prelude.{◌≡◌, ◌++◌, List, IfOk, OnErr, slice_get, option_copied, option_map};
     ghost use Rattle.std.specs.List.{flat_map};
     ghost use Rattle.bpf_model.specs.declared.event.Event.{Event};
     ghost use Rattle.script_lines.specs.ReplyText.{reply_text, GoesOn};
     ghost use Rattle.script_lines.specs.declared.reply.Reply.{Reply};
+    ghost use Rattle.world.specs.Programs.{program_of};
     ghost use Rattle.control.specs.Refusals.{AreTold};
     ghost use Rattle.control.specs.Sessions.{SessionReplies, new_session, names_in, maps_in, loaded_in};
 
@@ -43,15 +45,24 @@ impl Session {
         }
     }
 
+    /// The program of this number, if there is one.
+    fn program(&self, prog: ProgId) -> Option<&Loaded>
+        ensures { option_map program_of (option_copied result) ≡ slice_get (loaded_in self.now) prog }
+    {
+        match self {
+            Session::Setup(setup) => setup.program(prog),
+            Session::Live(live) => live.world.program(prog),
+        }
+    }
+
     /// The length of the contexts of a program, in bytes; `None` where there is no program of this number.
     pub fn context_len(&self, prog: ProgId) -> Option<usize>
         ensures { result ≡ option_map (λ p. p.context_len) (slice_get (loaded_in self.now) prog) }
     {
-        let loaded = match self {
-            Session::Setup(setup) => setup.program(prog)?,
-            Session::Live(live) => live.world.program(prog)?,
-        };
-        Some(loaded.verified.ctx_len())
+        match self.program(prog) {
+            Some(loaded) => Some(loaded.verified.ctx_len()),
+            None => None,
+        }
     }
 
     /// Answers a command, and adds the text of the replies. The refusal that they tell is given, if they tell one.

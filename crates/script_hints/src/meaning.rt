@@ -1,8 +1,9 @@
 //! What refusals of a script's lines mean.
 
 use control::LineRefusal;
-use explanations::{Meaning, meaning_of_event};
+use explanations::{Meaning, meaning_of, meaning_of_event};
 use maps::MapFault;
+use program_files::Verdict;
 
 /// What it means that a map is refused; none where memory ran out.
 fn meaning_of_map(fault: MapFault) -> Option<Meaning> {
@@ -18,8 +19,7 @@ fn meaning_of_map(fault: MapFault) -> Option<Meaning> {
     }
 }
 
-/// What the refusal of a line means; none where memory ran out, or where the program of a `load` is refused, which
-/// `explain` tells.
+/// What the refusal of a line means; none where memory ran out, or where the verifier refuses a program, which `explain` tells.
 pub fn meaning_of_refusal(refusal: &LineRefusal) -> Option<Meaning> {
     match refusal {
         LineRefusal::Map(fault) => meaning_of_map(*fault),
@@ -32,6 +32,7 @@ pub fn meaning_of_refusal(refusal: &LineRefusal) -> Option<Meaning> {
             "TooLate",
             "a script: a map or a program after the world was made",
         )),
-        LineRefusal::Decode(_) | LineRefusal::Program(_) => None,
+        LineRefusal::Decode(fault) => meaning_of(&Verdict::Code(*fault)),
+        LineRefusal::Program(_) => None,
     }
 }

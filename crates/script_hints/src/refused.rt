@@ -7,7 +7,7 @@ use bpf_model::{
     MapKind, MapShape, ProgId, VALUE_BYTES,
 };
 use control::{LineRefusal, Session};
-use explanations::{explain, meaning_of, slot_shown, write_meaning};
+use explanations::{explain, slot_shown, write_meaning};
 use maps::MapFault;
 use program_files::{FileBytes, Verdict};
 use script_lines::number_of;
@@ -247,8 +247,11 @@ fn file_of(alloc: Global, session: &Session, words: &[&[u8]]) -> Result<Vec<u8>,
     Ok(text)
 }
 
-/// Writes the digits of the slot that is no instruction.
-fn write_slot<W: Write>(out: &mut W, words: &[&[u8]], slot: usize) -> io::Result<()> {
+/// Writes the digits of the slot that is no instruction, if it is one slot.
+fn write_slot<W: Write>(out: &mut W, words: &[&[u8]], slot: Option<usize>) -> io::Result<()> {
+    let Some(slot) = slot else {
+        return Ok(());
+    };
     let first = slot.saturating_mul(16);
     match word_at(words, 2).get(first..first.saturating_add(16)) {
         Some(digits) => {
@@ -259,26 +262,16 @@ fn write_slot<W: Write>(out: &mut W, words: &[&[u8]], slot: usize) -> io::Result
     }
 }
 
-/// Writes what a verdict on the program of a `load` of these words means: of bytes that are no program with the digits of the
-/// slot that is no instruction.
-fn write_verdict<W: Write>(
+/// Writes what it means that the verifier refuses the program of a `load` of these words, and why it does.
+fn write_unverified<W: Write>(
     alloc: Global,
     out: &mut W,
     session: &Session,
     words: &[&[u8]],
     verdict: &Verdict,
 ) -> io::Result<()> {
-    let Verdict::Code(fault) = verdict else {
-        let file = FileBytes::Whole(file_of(alloc, session, words)?);
-        return explain(alloc, &file, verdict, out);
-    };
-    if let Some(meaning) = meaning_of(verdict) {
-        write_meaning(out, meaning)?;
-    }
-    match slot_shown(fault) {
-        Some(slot) => write_slot(out, words, slot),
-        None => Ok(()),
-    }
+    let file = FileBytes::Whole(file_of(alloc, session, words)?);
+    explain(alloc, &file, verdict, out)
 }
 
 /// What is said of a line that comes too late.
@@ -293,11 +286,9 @@ fn write_cause<W: Write>(
     refusal: &LineRefusal,
 ) -> io::Result<()> {
     match refusal {
-        LineRefusal::Decode(fault) => {
-            write_verdict(alloc, out, session, words, &Verdict::Code(*fault))
-        }
+        LineRefusal::Decode(fault) => write_slot(out, words, slot_shown(fault)),
         LineRefusal::Program(refusal) => {
-            write_verdict(alloc, out, session, words, &Verdict::Program(*refusal))
+            write_unverified(alloc, out, session, words, &Verdict::Program(*refusal))
         }
         LineRefusal::Event(refusal) => write_event_cause(out, session, words, *refusal),
         LineRefusal::Map(fault) => write_map_cause(out, words, *fault),
