@@ -77,17 +77,17 @@ pub fn write_contexts_fault<W: Write>(
     match fault {
         ContextsFault::BadLine { line } => {
             write_line(out, bytes, line, 0)?;
-            let digits = len * 2;
+            let digits = len.saturating_mul(2);
             writeln!(
                 out,
-                "  a line of the contexts is to have {digits} hexadecimal digits, two for each byte of the program's context, and nothing else"
+                "  each line is to have {digits} hexadecimal digits, two for each byte of the context, and nothing else"
             )
         }
         ContextsFault::BadLength => {
             let count = bytes.len();
             writeln!(
                 out,
-                "  the contexts have {count} bytes, and are to have a multiple of {len}, the length of the program's context"
+                "  the file of contexts has {count} bytes, no multiple of {len}, the length of the program's context"
             )
         }
         ContextsFault::Empty => writeln!(out, "  the file of contexts is empty"),
