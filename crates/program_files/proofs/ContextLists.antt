@@ -100,6 +100,7 @@ packed_none bytes contexts are =
     omega (arith, none, are.some)
 
 -- there are contexts where there are bytes
-pub packed_some : (bytes : List ℕ) (contexts : List (List ℕ)) → bytes ≡ flat_map (λ (context : List ℕ). context) contexts → 0 < length bytes → 0 < length contexts
+pub packed_some : (bytes : List ℕ) (contexts : List (List ℕ)) → bytes ≡ flat_map (λ (context : List ℕ). context) contexts →
+    0 < length bytes → 0 < length contexts
 packed_some bytes [] e more = absurd (omega (arith, ap (λ (l : List ℕ). length l) e, more))
 packed_some bytes (c ∷ contexts) e more = omega arith

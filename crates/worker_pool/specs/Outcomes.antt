@@ -9,7 +9,7 @@ use Rattle.world_laws.specs.Exits.{MayExitAs, ExitsAs}
 use Rattle.job_queue.specs.declared.fault.PoolFault.{PoolFault}
 use Rattle.job_queue.specs.declared.fault.PoolFault.TheVariants.{BadWorkers, TooManyJobs, Memory}
 use Rattle.job_queue.specs.declared.fault.PoolFault.TheVariants.{Lost}
-use Rattle.job_queue.specs.Serving.{IsBadCount, most_jobs}
+use Rattle.job_queue.specs.Serving.{most_jobs}
 use Rattle.shared_books.specs.Books.{most_workers}
 use Rattle.verifier.specs.Checked.{Checked}
 use Rattle.worker_pool.specs.declared.job.Job.{Job}
@@ -20,7 +20,7 @@ use Rattle.worker_pool.specs.declared.job.StopCause.TheVariants.{SubWord}
 
 -- no number of threads for a shared world that has so many workers
 abbrev pub AreBadWorkers : ℕ → ℕ → Type 0
-AreBadWorkers threads workers = (most_workers < threads) ⊎ IsBadCount threads workers
+AreBadWorkers threads workers = (threads ≡ 0) ⊎ (most_workers < threads) ⊎ (workers < threads)
 
 -- The fault is one of so many workers and jobs, or of memory. No result is lost.
 abbrev pub IsFaultOf : ℕ → ℕ → PoolFault → Type 0
