@@ -6,7 +6,9 @@ mod progress;
 
 use crate::input::{Input, MOST_BYTES, TEXT_HEAD};
 use crate::progress::Progress;
-use commands::{BpfrtCommand, InputFile, WordsFault, no_command, parse_words, read_failed, run};
+use commands::{
+    BpfrtCommand, InputFile, WordsFault, no_command, parse_words, read_failed, read_text, run,
+};
 use std::alloc::Global;
 use std::fs::File;
 use std::io::{Error, ErrorKind, IsTerminal, Read, Write};
@@ -71,34 +73,67 @@ fn reads_text(command: &BpfrtCommand) -> bool {
 }
 
 /// How many bytes are read of a file of this length. Of a text that is too large nothing is.
-fn bytes_read(
-    rt: &HostRuntime,
-    command: &BpfrtCommand,
-    path: &str,
-    length: u64,
-) -> io::Result<u64> {
+fn bytes_read(rt: &HostRuntime, is_text: bool, path: &str, length: u64) -> io::Result<u64> {
     if length <= MOST_BYTES {
         return Ok(u64::MAX);
     }
-    if reads_text(command) || begins_as_text(rt, path)? {
+    if is_text || begins_as_text(rt, path)? {
         return Err(Error::from(ErrorKind::FileTooLarge));
     }
     Ok(TELLING_BYTES + length % 8)
 }
 
-/// Opens a file that can be read, and says how many bytes of it are: a folder can be opened, but not read.
-fn opened(rt: &HostRuntime, command: &BpfrtCommand, path: &str) -> io::Result<(File, u64)> {
+/// Opens a file that can be read, a text or a program file, and says how many bytes of it are: a folder can be opened, but
+/// not read.
+fn opened(rt: &HostRuntime, is_text: bool, path: &str) -> io::Result<(File, u64)> {
     let file = File::open(rt, path)?;
     let metadata = file.metadata()?;
     if metadata.is_dir() {
         return Err(Error::from(ErrorKind::IsADirectory));
     }
     let most = if metadata.is_file() {
-        bytes_read(rt, command, path, metadata.len())?
+        bytes_read(rt, is_text, path, metadata.len())?
     } else {
         u64::MAX
     };
     Ok((file, most))
+}
+
+/// Reads a file of contexts to its end. Why it cannot be read is told, and the status is the error.
+fn read_contexts<R: Read + Drop>(
+    rt: &HostRuntime,
+    name: &str,
+    input: &mut Input<R>,
+) -> Result<Vec<u8>, u8> {
+    let error = match read_text(rt.alloc(), input) {
+        Ok(contexts) => return Ok(contexts),
+        Err(error) => error,
+    };
+    let mut err = rt.stderr();
+    let status = read_failed(&mut err, &error);
+    if let Some(reason) = input.fault().and_then(reason_of_reading) {
+        let _ = writeln!(err, "{name:?}: {reason}");
+    }
+    Err(status)
+}
+
+/// The bytes of the file of contexts that the command names; none where it names none. Why they cannot be read is told, and the
+/// status is the error.
+fn contexts_of(rt: &HostRuntime, command: &BpfrtCommand) -> Result<Vec<u8>, u8> {
+    match command.contexts_file() {
+        None => Ok(Vec::new(rt.alloc())),
+        Some(InputFile::StandardInput) => {
+            let mut input = Input::new(rt.stdin(), u64::MAX, true);
+            read_contexts(rt, "-", &mut input)
+        }
+        Some(InputFile::Path(path)) => match opened(rt, true, path.as_str()) {
+            Ok((file, most)) => {
+                let mut input = Input::new(file, most, true);
+                read_contexts(rt, path.as_str(), &mut input)
+            }
+            Err(error) => Err(unopened(&mut rt.stderr(), command, path.as_str(), &error)),
+        },
+    }
 }
 
 /// Runs the command on what is opened of the file of this name, and says why that cannot be read. The handle for threads and
@@ -107,12 +142,13 @@ fn run_on<H: Threads + Wait + Sync, R: Read + Drop, W: Write>(
     rt: &HostRuntime,
     threads: &H,
     command: &BpfrtCommand,
+    contexts: &[u8],
     name: &str,
     input: &mut Input<R>,
     out: &mut W,
 ) -> u8 {
     let mut err = rt.stderr();
-    let status = run(threads, rt.alloc(), command, input, out, &mut err);
+    let status = run(threads, rt.alloc(), command, contexts, input, out, &mut err);
     if let Some(reason) = input.fault().and_then(reason_of_reading) {
         let _ = writeln!(err, "{name:?}: {reason}");
     }
@@ -128,16 +164,36 @@ fn run_into<H: Threads + Wait + Sync, W: Write>(
     out: &mut W,
 ) -> u8 {
     let mut err = rt.stderr();
+    let contexts = match contexts_of(rt, command) {
+        Ok(contexts) => contexts,
+        Err(status) => return status,
+    };
     match command.file() {
-        None => run(threads, rt.alloc(), command, &mut rt.stdin(), out, &mut err),
+        None => run(
+            threads,
+            rt.alloc(),
+            command,
+            &[],
+            &mut rt.stdin(),
+            out,
+            &mut err,
+        ),
         Some(InputFile::StandardInput) => {
             let mut input = Input::new(rt.stdin(), u64::MAX, reads_text(command));
-            run_on(rt, threads, command, "-", &mut input, out)
+            run_on(rt, threads, command, &contexts, "-", &mut input, out)
         }
-        Some(InputFile::Path(path)) => match opened(rt, command, path.as_str()) {
+        Some(InputFile::Path(path)) => match opened(rt, reads_text(command), path.as_str()) {
             Ok((file, most)) => {
                 let mut input = Input::new(file, most, reads_text(command));
-                run_on(rt, threads, command, path.as_str(), &mut input, out)
+                run_on(
+                    rt,
+                    threads,
+                    command,
+                    &contexts,
+                    path.as_str(),
+                    &mut input,
+                    out,
+                )
             }
             Err(error) => unopened(&mut err, command, path.as_str(), &error),
         },

@@ -19,6 +19,15 @@ fn flag<'a>(alloc: Global, name: &'static str, help: &'static str) -> Arg<'a> {
         .action(ArgAction::SetTrue)
 }
 
+/// An option with a file behind it.
+fn file<'a>(alloc: Global, name: &'static str, help: &'static str) -> Arg<'a> {
+    Arg::new(alloc, name)
+        .long(name)
+        .help(help)
+        .value_names(&["FILE"])
+        .action(ArgAction::Set)
+}
+
 /// An option with the name of a map and elements behind it.
 fn elements<'a>(alloc: Global, name: &'static str, help: &'static str) -> Arg<'a> {
     Arg::new(alloc, name)
@@ -44,6 +53,10 @@ fn argument<'a>(alloc: Global, argument: Argument) -> Result<Arg<'a>, AllocError
         Argument::Flag { name, help } => Ok(flag(alloc, name, help)),
         Argument::FlagWithout { name, other, help } => {
             flag(alloc, name, help).conflicts_with(other)
+        }
+        Argument::File { name, help } => Ok(file(alloc, name, help)),
+        Argument::FileWithout { name, other, help } => {
+            file(alloc, name, help).conflicts_with(other)
         }
         Argument::Elements { name, help } => Ok(elements(alloc, name, help)),
     }

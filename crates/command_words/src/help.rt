@@ -106,9 +106,10 @@ Example:
 /// Behind the arguments of `bpfrt pool --help`.
 const POOL_HELP: &str = "\
 Reads a program file as `bpfrt check` does, verifies it, and then runs it COUNT times by WORKERS threads that
-share one world of the file's maps. Each job starts the program on a context of zeros, steps it to its exit,
-and drops the run. Where no job changes a map and the maps are small, each 512 jobs have a world of their own,
-so that no worker waits for another.
+share one world of the file's maps. Each job starts the program on its context, steps it to its exit, and drops
+the run. The context is zeros; with --contexts or --packed the jobs take those of a file in turn, job 0 the first,
+and begin again behind the last. Where no job changes a map and the maps are small, each 512 jobs have a world of
+their own, so that no worker waits for another.
 
 Prints a line for each job in order, `job I exit V`, or `job I stopped C` where an event of the job was refused
 or not applied, those of 16,384 jobs as soon as these are done; then `entries N`, how many events the journals have.
@@ -117,17 +118,23 @@ With --explain, a refusal is followed on standard error by what `bpfrt check` sa
 Status, and the line on standard error:
   0  all jobs are done; also where jobs stopped
   1  what `bpfrt check` says of FILE; then
+     refused 63, refused 63 at L the file has no context, or its line L is none, or its last one is cut
      refused 90                  WORKERS is not 1 to 8
      refused 91                  COUNT is above 65536
-  2  usage; so a WORKERS or COUNT that is no number, before FILE is read
-  3  fault 13, 96, 97            out of memory, or a text of more than 16 MiB; FILE or the output failed
+  2  usage; so a WORKERS or COUNT that is no number, before a file is read
+  3  fault 13, 96, 97            out of memory, or a text of more than 16 MiB; a file or the output failed
                                  (the lines of some jobs may have been printed)
 
 Example:
   $ bpfrt pool 4 examples/exit_one.bpf 2
   job 0 exit 1
   job 1 exit 1
-  entries 8";
+  entries 8
+  $ printf '2a\\n07\\n' | bpfrt pool 2 examples/first_byte.bpfrt 3 --contexts -
+  job 0 exit 42
+  job 1 exit 7
+  job 2 exit 42
+  entries 12";
 
 /// Behind the arguments of `bpfrt run --help`.
 const RUN_HELP: &str = "\

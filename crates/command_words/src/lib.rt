@@ -11,6 +11,7 @@ mod words;
 
 pub use faults::shown;
 pub use request::{
-    AsmForm, BpfrtCommand, Checking, InputFile, MapElement, SingleRun, VERSION, WordsFault,
+    AsmForm, BpfrtCommand, Checking, ContextForm, ContextsFile, InputFile, MapElement, SingleRun,
+    VERSION, WordsFault,
 };
 pub use words::parse_words;

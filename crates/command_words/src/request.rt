@@ -43,6 +43,22 @@ pub enum InputFile {
     Path(String),
 }
 
+/// How contexts stand in a file.
+#[derive(Clone, Copy, Debug, PartialEq, Eq, Drop)]
+pub enum ContextForm {
+    /// A line of hexadecimal digits for each.
+    Lines,
+    /// Their bytes, one context behind another.
+    Packed,
+}
+
+/// The file that has the contexts of a pool's jobs.
+#[derive(Debug, Drop)]
+pub struct ContextsFile {
+    pub file: InputFile,
+    pub form: ContextForm,
+}
+
 /// What is written of a text of instructions.
 #[derive(Clone, Copy, Debug, PartialEq, Eq, Drop)]
 pub enum AsmForm {
@@ -79,11 +95,13 @@ pub enum BpfrtCommand {
     },
     /// Say which version of the program this is.
     Version,
-    /// Run the program in a file so many times by so many workers; or say why it is refused, in words too.
+    /// Run the program in a file so many times by so many workers, on the contexts of another file where there is one, or on
+    /// zeros; or say why it is refused, in words too.
     Pool {
         workers: u64,
         file: InputFile,
         count: u64,
+        contexts: Option<ContextsFile>,
         explain: bool,
     },
     /// Run the program in a file once by itself.
@@ -154,6 +172,17 @@ impl BpfrtCommand {
     pub fn other_file(&self) -> Option<&'static str> {
         match self {
             BpfrtCommand::Filter { kind, .. } => Some(classic_file(*kind)),
+            _ => None,
+        }
+    }
+
+    /// The file of contexts that the command reads beside its file; none where it reads none.
+    pub fn contexts_file(&self) -> Option<&InputFile> {
+        match self {
+            BpfrtCommand::Pool {
+                contexts: Some(contexts),
+                ..
+            } => Some(&contexts.file),
             _ => None,
         }
     }

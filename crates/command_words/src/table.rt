@@ -29,6 +29,17 @@ pub(crate) enum Argument {
         other: &'static str,
         help: &'static str,
     },
+    /// An option with a file behind it.
+    File {
+        name: &'static str,
+        help: &'static str,
+    },
+    /// An option with a file behind it that does not stand beside another one.
+    FileWithout {
+        name: &'static str,
+        other: &'static str,
+        help: &'static str,
+    },
     /// An option that may stand again and again, with the name of a map and elements behind it.
     Elements {
         name: &'static str,
@@ -48,6 +59,12 @@ pub(crate) struct CommandWords {
 
 /// How the option `--map` is shown.
 pub(crate) const MAP_OPTION: &str = "--map <NAME> <KEY=VALUE>...";
+
+/// How the option `--contexts` is shown.
+pub(crate) const CONTEXTS_OPTION: &str = "--contexts <FILE>";
+
+/// How the option `--packed` is shown.
+pub(crate) const PACKED_OPTION: &str = "--packed <FILE>";
 
 /// The words of `pool`, in their order.
 pub(crate) const POOL_USAGE: &str = "bpfrt pool [OPTIONS] <WORKERS> <FILE> <COUNT>";
@@ -170,6 +187,15 @@ pub(crate) const COMMANDS: &[CommandWords] = &[
             Argument::Number {
                 name: "COUNT",
                 help: "how many jobs, 0 to 65536",
+            },
+            Argument::FileWithout {
+                name: "contexts",
+                other: "packed",
+                help: "take the jobs' contexts from this file, a line of hexadecimal digits each; `-` for standard input",
+            },
+            Argument::File {
+                name: "packed",
+                help: "take them from this file of bytes, as many for each as the program's context has",
             },
             EXPLAIN,
         ],

@@ -1,20 +1,61 @@
 //! What the words of a command say.
 
 use crate::faults::bad_value;
-use crate::request::{AsmForm, Checking, InputFile, MapElement, SingleRun, WordsFault};
-use crate::table::MAP_OPTION;
+use crate::request::{
+    AsmForm, Checking, ContextForm, ContextsFile, InputFile, MapElement, SingleRun, WordsFault,
+};
+use crate::table::{CONTEXTS_OPTION, MAP_OPTION, PACKED_OPTION};
 use clap::ArgMatches;
 use classic::Data;
 use hex::{FromHexError, decode};
 use script_lines::number_of;
 use std::alloc::{AllocError, Global};
 
-/// The file that the words tell: `-` is standard input.
+/// The file that a word tells: `-` is standard input.
+fn file_named(alloc: Global, word: &str) -> Result<InputFile, AllocError> {
+    match word {
+        "-" => Ok(InputFile::StandardInput),
+        path => Ok(InputFile::Path(String::from_str(alloc, path)?)),
+    }
+}
+
+/// The file that the words tell.
 pub(crate) fn file_of(alloc: Global, matches: &ArgMatches<'_>) -> Result<InputFile, WordsFault> {
     match matches.get_str("FILE") {
-        Some("-") => Ok(InputFile::StandardInput),
-        Some(path) => Ok(InputFile::Path(String::from_str(alloc, path)?)),
+        Some(word) => Ok(file_named(alloc, word)?),
         None => Err(WordsFault::Usage(String::from_str(alloc, "a file is missing")?)),
+    }
+}
+
+/// Why a file of contexts is refused.
+const STANDARD_INPUT_TWICE: &str = "FILE is standard input already";
+
+/// The file of contexts that a word tells, as an option that is shown so. Standard input is one file alone.
+fn contexts_in(
+    alloc: Global,
+    matches: &ArgMatches<'_>,
+    word: &str,
+    form: ContextForm,
+    shown: &str,
+) -> Result<Option<ContextsFile>, WordsFault> {
+    if word == "-" && word_of(matches, "FILE") == "-" {
+        return Err(bad_value(alloc, "pool", word, shown, STANDARD_INPUT_TWICE));
+    }
+    let file = file_named(alloc, word)?;
+    Ok(Some(ContextsFile { file, form }))
+}
+
+/// The file of contexts that the words of `pool` tell, if they tell one.
+pub(crate) fn contexts_of(
+    alloc: Global,
+    matches: &ArgMatches<'_>,
+) -> Result<Option<ContextsFile>, WordsFault> {
+    if let Some(word) = matches.get_str("contexts") {
+        return contexts_in(alloc, matches, word, ContextForm::Lines, CONTEXTS_OPTION);
+    }
+    match matches.get_str("packed") {
+        Some(word) => contexts_in(alloc, matches, word, ContextForm::Packed, PACKED_OPTION),
+        None => Ok(None),
     }
 }
 

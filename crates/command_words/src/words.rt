@@ -3,7 +3,7 @@
 use crate::faults::words_fault;
 use crate::grammar::grammar;
 use crate::request::{BpfrtCommand, WordsFault};
-use crate::values::{checking_of, data_of, file_of, form_of, pool_number, single_of};
+use crate::values::{checking_of, contexts_of, data_of, file_of, form_of, pool_number, single_of};
 use clap::ArgMatches;
 use clap::error::ErrorKind;
 use std::alloc::Global;
@@ -40,6 +40,7 @@ fn pool_of(alloc: Global, matches: &ArgMatches<'_>) -> Result<BpfrtCommand, Word
         workers,
         file: file_of(alloc, matches)?,
         count,
+        contexts: contexts_of(alloc, matches)?,
         explain: matches.get_flag("explain"),
     })
 }

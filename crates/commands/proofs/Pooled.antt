@@ -1,5 +1,5 @@
 -- What a pool gives of a file's program.
-use Rattle.std.proofs.Common.{◌≡◌, ℕ, List, All, refl, sym, subst, inr, arith}
+use Rattle.std.proofs.Common.{◌≡◌, ℕ, List, refl, sym, subst, inl, inr, arith}
 use Rattle.std.specs.Prelude.{Option, Result, Ok, Err, MatchResult, OnOk}
 use Rattle.std.specs.Io.KnownBytes.{Appends}
 use Rattle.std.proofs.KnownBytes.{Appends-trans}
@@ -10,11 +10,14 @@ use Rattle.program_graph.specs.GraphFlaws.{HasGoodGraph}
 use Rattle.plan_laws.specs.Verified.{IsVerified}
 use Rattle.job_queue.specs.declared.fault.PoolFault.{PoolFault}
 use Rattle.worker_pool.specs.Lines.{job_lines}
-use Rattle.worker_pool.specs.Outcomes.{IsFaultOf, IsOutcomeOf}
+use Rattle.worker_pool.specs.Outcomes.{AreOutcomesOn, IsFaultOf}
 use Rattle.worker_pool.specs.Runs.{WritesJobs}
 use Rattle.program_files.specs.declared.program_file.Source.{Source}
 use Rattle.program_files.specs.Checks.{content_with, IsSourceOf, IsVerifiedFile}
-use Rattle.commands.specs.declared.refusal.CommandRefusal.TheVariants.{Pool}
+use Rattle.bpf_model.specs.declared.event.EventRefusal.TheVariants.{BadContext}
+use Rattle.command_words.specs.declared.request.ContextsFile.{ContextsFile}
+use Rattle.commands.specs.declared.refusal.CommandRefusal.TheVariants.{Event, Pool}
+use Rattle.commands.specs.Contexts.{AreContexts}
 use Rattle.commands.specs.Pools.{entries_line, IsPoolRefusal, IsProgramOf, WritesPool}
 
 abbrev pub file_of : (bytes : List ℕ) (s : Source) → IsSourceOf bytes s → HasGoodGraph s.program →
@@ -30,27 +33,42 @@ program_found bytes s program shapes context_len is graph verified same_program 
     subst (λ (p : List Insn). IsProgramOf bytes p shapes context_len) (sym same_program) here
 
 -- the lines of the jobs, and that of the entries
-pub pool_written : (bytes : List ℕ) (program : List Insn) (shapes : List MapShape) (context_len count entries : ℕ)
-    (old mid new : Option (List ℕ)) → IsProgramOf bytes program shapes context_len →
-    WritesJobs program shapes context_len count old mid → Appends mid new (entries_line entries) →
-    WritesPool count old new bytes
-pool_written bytes program shapes context_len count entries old mid new found wrote last = (
+pub pool_written : (named : Option ContextsFile) (given bytes : List ℕ) (program : List Insn) (shapes : List MapShape) (context_len count entries : ℕ)
+    (contexts : List (List ℕ)) (old mid new : Option (List ℕ)) → IsProgramOf bytes program shapes context_len →
+    AreContexts named context_len given contexts → WritesJobs program shapes contexts count old mid → Appends mid new (entries_line entries) →
+    WritesPool named given count old new bytes
+pool_written named given bytes program shapes context_len count entries contexts old mid new found are wrote last = (
   wrote.outcomes,
   entries,
   record {
     program = program;
     file = found.file;
+    contexts = contexts;
+    are = subst (λ (n : ℕ). AreContexts named n given contexts) found.context are;
     number = wrote.number;
-    each = subst (λ (s : List MapShape). All (IsOutcomeOf program s found.file.content.ctx_len) wrote.outcomes) found.maps
-        (subst (λ (n : ℕ). All (IsOutcomeOf program shapes n) wrote.outcomes) found.context wrote.each);
+    each = subst (λ (s : List MapShape). AreOutcomesOn program s contexts 0 wrote.outcomes) found.maps wrote.each;
   },
   Appends-trans old mid new (job_lines 0 wrote.outcomes) (entries_line entries) wrote.written last,
 )
 
-pub pool_told : (workers count : ℕ) (bytes : List ℕ) (program : List Insn) (shapes : List MapShape) (context_len : ℕ) (f : PoolFault)
-    → IsProgramOf bytes program shapes context_len → IsFaultOf workers count f → IsPoolRefusal workers count bytes (Pool f)
-pool_told workers count bytes program shapes context_len f found fault =
-    inr (record { program = program; file = found.file; fault = f; is = fault; told = refl })
+pub pool_told : (named : Option ContextsFile) (given : List ℕ) (workers count : ℕ) (bytes : List ℕ) (program : List Insn) (shapes : List MapShape)
+    (context_len : ℕ) (f : PoolFault) → IsProgramOf bytes program shapes context_len → IsFaultOf workers count f →
+    IsPoolRefusal named given workers count bytes (Pool f)
+pool_told named given workers count bytes program shapes context_len f found fault =
+    inr (inr (record { program = program; file = found.file; fault = f; is = fault; told = refl }))
+
+-- the file of contexts says none of the program
+pub contexts_told : (named : Option ContextsFile) (given : List ℕ) (workers count : ℕ) (bytes : List ℕ) (program : List Insn)
+    (shapes : List MapShape) (context_len : ℕ) → IsProgramOf bytes program shapes context_len →
+    ((contexts : List (List ℕ)) → AreContexts named context_len given contexts → ⊥) →
+    IsPoolRefusal named given workers count bytes (Event BadContext)
+contexts_told named given workers count bytes program shapes context_len found none =
+    inr (inl (record {
+      program = program;
+      file = found.file;
+      none = subst (λ (n : ℕ). (contexts : List (List ℕ)) → AreContexts named n given contexts → ⊥) found.context none;
+      told = refl;
+    }))
 
 -- what has the status 3 is not so where the status is 1
 pub not_so : (P : Type 0) (status : ℕ) → (P → status ≡ 3) → status ≡ 1 → P → ⊥

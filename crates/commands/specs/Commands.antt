@@ -13,31 +13,31 @@ use Rattle.commands.specs.Runs.{RefusesRun, WritesRun}
 use Rattle.commands.specs.Scripts.{AnswersAll, AnswersBefore}
 use Rattle.commands.specs.Sources.{IsRefusedText}
 
--- What a command adds to the output where all is fine.
-abbrev pub Writes : BpfrtCommand → Option (List ℕ) → Option (List ℕ) → List ℕ → Type 0
-Writes (Check file how) old new bytes = WritesChecked how.asm how.json old new bytes
-Writes (Disasm file) old new bytes = WritesText old new bytes
-Writes (Asm file form explain) old new bytes = WritesCode form old new bytes
-Writes (Script explain) old new bytes = AnswersAll old new bytes
-Writes Version old new bytes = Appends old new (codes "bpfrt 0.1.0\n")
-Writes (Pool workers file count explain) old new bytes = WritesPool count old new bytes
-Writes (Run file single) old new bytes = WritesRun false single old new bytes
-Writes (Trace file single) old new bytes = WritesRun true single old new bytes
-Writes (Filter file kind explain) old new bytes = WritesFilter kind old new bytes
+-- What a command adds to the output where all is fine. A file of contexts that it names has the given bytes.
+abbrev pub Writes : BpfrtCommand → List ℕ → Option (List ℕ) → Option (List ℕ) → List ℕ → Type 0
+Writes (Check file how) given old new bytes = WritesChecked how.asm how.json old new bytes
+Writes (Disasm file) given old new bytes = WritesText old new bytes
+Writes (Asm file form explain) given old new bytes = WritesCode form old new bytes
+Writes (Script explain) given old new bytes = AnswersAll old new bytes
+Writes Version given old new bytes = Appends old new (codes "bpfrt 0.1.0\n")
+Writes (Pool workers file count contexts explain) given old new bytes = WritesPool contexts given count old new bytes
+Writes (Run file single) given old new bytes = WritesRun false single old new bytes
+Writes (Trace file single) given old new bytes = WritesRun true single old new bytes
+Writes (Filter file kind explain) given old new bytes = WritesFilter kind old new bytes
 
 -- What is so where a command refuses: its file, its numbers, its context or its elements are
 -- refused; or a line of the script is bad, and the answers to the lines before are written. The
 -- version is not refused.
-abbrev pub Refuses : BpfrtCommand → Option (List ℕ) → Option (List ℕ) → List ℕ → Type 0
-Refuses (Check file how) old new bytes = RefusesChecked how.asm how.json old new bytes
-Refuses (Disasm file) old new bytes = IsRefusedByDecode bytes
-Refuses (Asm file form explain) old new bytes = IsRefusedText bytes
-Refuses (Script explain) old new bytes = AnswersBefore old new bytes
-Refuses Version old new bytes = ⊥
-Refuses (Pool workers file count explain) old new bytes = IsRefusedByPool workers count bytes
-Refuses (Run file single) old new bytes = RefusesRun single old new bytes
-Refuses (Trace file single) old new bytes = RefusesRun single old new bytes
-Refuses (Filter file kind explain) old new bytes = IsRefusedByFilter kind bytes
+abbrev pub Refuses : BpfrtCommand → List ℕ → Option (List ℕ) → Option (List ℕ) → List ℕ → Type 0
+Refuses (Check file how) given old new bytes = RefusesChecked how.asm how.json old new bytes
+Refuses (Disasm file) given old new bytes = IsRefusedByDecode bytes
+Refuses (Asm file form explain) given old new bytes = IsRefusedText bytes
+Refuses (Script explain) given old new bytes = AnswersBefore old new bytes
+Refuses Version given old new bytes = ⊥
+Refuses (Pool workers file count contexts explain) given old new bytes = IsRefusedByPool contexts given workers count bytes
+Refuses (Run file single) given old new bytes = RefusesRun single old new bytes
+Refuses (Trace file single) given old new bytes = RefusesRun single old new bytes
+Refuses (Filter file kind explain) given old new bytes = IsRefusedByFilter kind bytes
 
 -- the command's input is a file, and its answer no JSON object
 abbrev pub ReadsFileForText : BpfrtCommand → Type 0
@@ -46,7 +46,7 @@ ReadsFileForText (Disasm file) = ⊤
 ReadsFileForText (Asm file form explain) = ⊤
 ReadsFileForText (Script explain) = ⊥
 ReadsFileForText Version = ⊥
-ReadsFileForText (Pool workers file count explain) = ⊤
+ReadsFileForText (Pool workers file count contexts explain) = ⊤
 ReadsFileForText (Run file single) = single.json ≡ false
 ReadsFileForText (Trace file single) = single.json ≡ false
 ReadsFileForText (Filter file kind explain) = ⊤

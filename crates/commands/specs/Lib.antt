@@ -1,6 +1,7 @@
 pub mod Asm
 pub mod Checking
 pub mod Commands
+pub mod Contexts
 pub mod Filters
 pub mod Json
 pub mod Outputs

@@ -1,8 +1,9 @@
 -- What `pool` writes, of which files, and how it refuses the others.
-use Rattle.std.specs.Prelude.{◌≡◌, ◌≢◌, ◌⊎◌, ℕ, List, ◌++◌, length, codes, All}
+use Rattle.std.specs.Prelude.{◌≡◌, ◌≢◌, ◌⊎◌, ℕ, List, ◌++◌, length, codes}
 use Rattle.std.specs.Prelude.{Option}
 use Rattle.std.specs.Fmt.{decimal}
 use Rattle.std.specs.Io.KnownBytes.{Appends}
+use Rattle.bpf_model.specs.declared.event.EventRefusal.TheVariants.{BadContext}
 use Rattle.bpf_model.specs.declared.insn.Insn.{Insn}
 use Rattle.bpf_model.specs.declared.limits.MapShape.{MapShape}
 use Rattle.bpf_model.specs.View.{shapes_of_maps}
@@ -11,10 +12,12 @@ use Rattle.job_queue.specs.declared.fault.PoolFault.TheVariants.{Lost}
 use Rattle.job_queue.specs.Faults.{pool_fault_number}
 use Rattle.worker_pool.specs.declared.job.Outcome.{Outcome}
 use Rattle.worker_pool.specs.Lines.{job_lines}
-use Rattle.worker_pool.specs.Outcomes.{IsFaultOf, IsOutcomeOf}
+use Rattle.worker_pool.specs.Outcomes.{AreOutcomesOn, IsFaultOf}
 use Rattle.commands.specs.declared.refusal.CommandRefusal.{CommandRefusal}
-use Rattle.commands.specs.declared.refusal.CommandRefusal.TheVariants.{Pool}
+use Rattle.commands.specs.declared.refusal.CommandRefusal.TheVariants.{Event, Pool}
+use Rattle.commands.specs.Contexts.{AreContexts}
 use Rattle.commands.specs.Refusals.{IsFileRefusal, command_number}
+use Rattle.command_words.specs.declared.request.ContextsFile.{ContextsFile}
 use Rattle.program_files.specs.Verdicts.{memory_number}
 use Rattle.program_files.specs.Checks.{IsVerifiedFile}
 
@@ -34,21 +37,32 @@ pub record IsProgramOf (bytes : List ℕ) (program : List Insn) (shapes : List M
   pub maps : shapes ≡ shapes_of_maps file.content.registry.maps
   pub context : context_len ≡ file.content.ctx_len
 
--- The file says a program that is verified with its maps and context. There is one outcome for each
--- of so many jobs, and those that have exited have exited as the program may on zeros, over the
--- file's maps; of the others nothing is known.
-pub record ArePooled (bytes : List ℕ) (count : ℕ) (outcomes : List Outcome) : Type 0 where
+-- The file says a program that is verified with its maps and context, and jobs take these contexts
+-- in turn. There is one outcome for each of so many jobs, and those that have exited have exited as
+-- the program may on their contexts, over the file's maps; of the others nothing is known.
+pub record ArePooled (named : Option ContextsFile) (given bytes : List ℕ) (count : ℕ)
+    (outcomes : List Outcome) : Type 0 where
   pub program : List Insn
   pub file : IsVerifiedFile bytes program
+  pub contexts : List (List ℕ)
+  pub are : AreContexts named file.content.ctx_len given contexts
   pub number : length outcomes ≡ count
-  pub each : All (IsOutcomeOf program (shapes_of_maps file.content.registry.maps)
-      file.content.ctx_len) outcomes
+  pub each : AreOutcomesOn program (shapes_of_maps file.content.registry.maps) contexts 0 outcomes
 
--- what `pool` adds to the output
-abbrev pub WritesPool : ℕ → Option (List ℕ) → Option (List ℕ) → List ℕ → Type 0
-WritesPool count old new bytes =
-    (outcomes : List Outcome) × (entries : ℕ) × ArePooled bytes count outcomes
+-- what `pool` adds to the output, where the file of contexts that is named has the given bytes
+abbrev pub WritesPool : Option ContextsFile → List ℕ → ℕ → Option (List ℕ) → Option (List ℕ) → List ℕ → Type 0
+WritesPool named given count old new bytes =
+    (outcomes : List Outcome) × (entries : ℕ) × ArePooled named given bytes count outcomes
     × Appends old new (pool_text outcomes entries)
+
+-- The file says a program that is verified with its maps and context, and the file of contexts says
+-- none of that program.
+pub record IsContextsRefusal (named : Option ContextsFile) (given bytes : List ℕ)
+    (v : CommandRefusal) : Type 0 where
+  pub program : List Insn
+  pub file : IsVerifiedFile bytes program
+  pub none : (contexts : List (List ℕ)) → AreContexts named file.content.ctx_len given contexts → ⊥
+  pub told : v ≡ Event BadContext
 
 -- The file says a program that is verified with its maps and context, and the pool of so many
 -- workers and jobs has a fault.
@@ -59,13 +73,14 @@ pub record IsPoolVerdict (workers count : ℕ) (bytes : List ℕ) (v : CommandRe
   pub is : IsFaultOf workers count fault
   pub told : v ≡ Pool fault
 
--- The refusal is what `check` says of the file, or else the pool's.
-abbrev pub IsPoolRefusal : ℕ → ℕ → List ℕ → CommandRefusal → Type 0
-IsPoolRefusal workers count bytes v =
-    IsFileRefusal bytes v ⊎ IsPoolVerdict workers count bytes v
+-- The refusal is what `check` says of the file, or else the contexts' or the pool's.
+abbrev pub IsPoolRefusal : Option ContextsFile → List ℕ → ℕ → ℕ → List ℕ → CommandRefusal → Type 0
+IsPoolRefusal named given workers count bytes v =
+    IsFileRefusal bytes v ⊎ (IsContextsRefusal named given bytes v ⊎ IsPoolVerdict workers count bytes v)
 
--- `pool` refuses the file or its numbers, for what is neither want of memory nor a lost
+-- `pool` refuses the file, its contexts or its numbers, for what is neither want of memory nor a lost
 -- result.
-abbrev pub IsRefusedByPool : ℕ → ℕ → List ℕ → Type 0
-IsRefusedByPool workers count bytes =
-    (v : CommandRefusal) × (command_number v ≢ memory_number) × (command_number v ≢ pool_fault_number Lost) × IsPoolRefusal workers count bytes v
+abbrev pub IsRefusedByPool : Option ContextsFile → List ℕ → ℕ → ℕ → List ℕ → Type 0
+IsRefusedByPool named given workers count bytes =
+    (v : CommandRefusal) × (command_number v ≢ memory_number) × (command_number v ≢ pool_fault_number Lost)
+    × IsPoolRefusal named given workers count bytes v

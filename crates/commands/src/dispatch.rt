@@ -56,20 +56,22 @@ fn run_disasm<R: Read, W: Write, E: Write>(
 /// of a file nothing was written on `out`, or a JSON object where that was asked for, and after line L of a script is wrong (95)
 /// the answers of the lines before; after a fault of writing, of a script or of a pool a part may have been. Which fault it was,
 /// and that there was one, no clause says: status 3 tells nothing. A reader of a file that is too large fails by `FileTooLarge`,
-/// which is 13 too. That a pool returns is not claimed: it waits for a lock.
+/// which is 13 too. That a pool returns is not claimed: it waits for a lock. The contexts are the bytes of the file that the
+/// command names beside its own (`BpfrtCommand::contexts_file`), and of no use to a command that names none.
 pub fn run<H: Threads + Wait + Sync, R: Read, W: Write, E: Write>(
     rt: &H,
     alloc: Global,
     command: &BpfrtCommand,
+    contexts: &[u8],
     input: &mut R,
     out: &mut W,
     err: &mut E,
 ) -> u8
     ensures status { (result ≡ 0) ⊎ (result ≡ 1) ⊎ (result ≡ 3) }
     ensures fine { result ≡ 0 → IfSome (R.remaining input.old)
-        (Writes command.now (W.contents out.old) (W.contents out.new)) }
+        (Writes command.now contexts.now (W.contents out.old) (W.contents out.new)) }
     ensures refused { result ≡ 1 → IfSome (R.remaining input.old)
-        (Refuses command.now (W.contents out.old) (W.contents out.new)) }
+        (Refuses command.now contexts.now (W.contents out.old) (W.contents out.new)) }
     ensures silent { result ≡ 1 → ReadsFileForText command.now → out.new ≡ out.old }
 {
     match command {
@@ -81,6 +83,7 @@ pub fn run<H: Threads + Wait + Sync, R: Read, W: Write, E: Write>(
         BpfrtCommand::Pool {
             workers,
             count,
+            contexts: named,
             explain,
             ..
         } => {
@@ -88,7 +91,7 @@ pub fn run<H: Threads + Wait + Sync, R: Read, W: Write, E: Write>(
                 workers: *workers,
                 count: *count,
             };
-            run_pool(rt, alloc, size, *explain, input, out, err)
+            run_pool(rt, alloc, size, named, contexts, *explain, input, out, err)
         }
         BpfrtCommand::Run { single, .. } => run_single(alloc, false, single, input, out, err),
         BpfrtCommand::Trace { single, .. } => run_single(alloc, true, single, input, out, err),

@@ -3,6 +3,7 @@
 
 mod asm_text;
 mod check;
+mod contexts;
 mod dispatch;
 mod dump;
 mod filter;
@@ -22,8 +23,10 @@ mod text_meanings;
 mod trace;
 
 pub use command_words::{
-    AsmForm, BpfrtCommand, Checking, InputFile, MapElement, SingleRun, WordsFault, parse_words,
+    AsmForm, BpfrtCommand, Checking, ContextForm, ContextsFile, InputFile, MapElement, SingleRun,
+    WordsFault, parse_words,
 };
 pub use dispatch::run;
+pub use program_files::read_text;
 pub use report::no_command;
 pub use streams::read_failed;

@@ -1,7 +1,8 @@
 //! A file's program, run many times by a pool of workers.
-ghost use Rattle.std.specs.Prelude.{◌≡◌, ◌⊎◌, List, ℕ, IfOk, IfErr, IfSome, OnOk};
+ghost use Rattle.std.specs.Prelude.{◌≡◌, ◌≢◌, ◌⊎◌, List, ℕ, IfOk, IfErr, IfSome, OnOk};
 ghost use Rattle.std.specs.Io.KnownBytes.{Appends};
 ghost use Rattle.bpf_model.specs.View.{AreNewMaps, shapes_of_maps};
+ghost use Rattle.program_files.specs.declared.contexts.ContextsFault.TheVariants.{Memory as ContextsMemory};
 ghost use Rattle.program_files.specs.Checks.{IsCheckedRefusal};
 ghost use Rattle.program_files.specs.Files.{HoldsBytes};
 ghost use Rattle.program_files.specs.Verdicts.{memory_number};
@@ -10,13 +11,15 @@ ghost use Rattle.job_queue.specs.declared.fault.PoolFault.TheVariants.{Lost};
 ghost use Rattle.job_queue.specs.Faults.{pool_fault_number};
 ghost use Rattle.commands.specs.Pools.{entries_line, IsProgramOf, IsRefusedByPool, WritesPool};
 
+use crate::contexts::{contexts_for, write_contexts_fault};
 use crate::meanings::meaning_of_refusal;
 use crate::refusal::CommandRefusal;
 use crate::report::{MEMORY, out_of_memory, report_line, report_refusal};
 use crate::streams::{read_failed_in_words, write_status};
-use bpf_model::MAX_JOURNAL;
-use explanations::write_meaning;
-use program_files::{FileBytes, Verdict, read_file, verify_for_maps};
+use bpf_model::{EventRefusal, MAX_JOURNAL};
+use command_words::ContextsFile;
+use explanations::{meaning_of_event, write_meaning};
+use program_files::{ContextsFault, FileBytes, Verdict, read_file, verify_for_maps};
 use std::alloc::Global;
 use std::io;
 use std::io::{Read, Write};
@@ -88,13 +91,51 @@ fn report_size<E: Write>(err: &mut E, refusal: CommandRefusal, size: PoolSize, i
     status
 }
 
+/// Writes what is wrong with a file of contexts of so many bytes each.
+fn write_contexts<W: Write>(
+    out: &mut W,
+    bytes: &[u8],
+    len: usize,
+    fault: ContextsFault,
+) -> io::Result<()> {
+    write_meaning(out, meaning_of_event(EventRefusal::BadContext))?;
+    write_contexts_fault(out, bytes, len, fault)
+}
+
+/// Tells that a file has no contexts of so many bytes, `refused 63`, or `refused 63 at L` for a line, in words too where it
+/// is asked for, and answers the status.
+fn report_contexts<E: Write>(
+    err: &mut E,
+    bytes: &[u8],
+    len: usize,
+    fault: ContextsFault,
+    in_words: bool,
+) -> u8
+    ensures status { (result ≡ 1) ⊎ (result ≡ 3) }
+    ensures refused { result ≡ 1 → fault ≢ ContextsMemory }
+{
+    let code = EventRefusal::BadContext.code();
+    let _ = match fault {
+        ContextsFault::Memory => return out_of_memory(err, in_words),
+        ContextsFault::BadLine { line } => writeln!(err, "refused {code} at {line}"),
+        ContextsFault::Empty | ContextsFault::BadLength => writeln!(err, "refused {code}"),
+    };
+    if in_words {
+        let _ = write_contexts(err, bytes, len, fault);
+    }
+    1
+}
+
 /// Runs the program that the input, a program file, says, writes the lines of its jobs on `out`, those
-/// of some jobs at a time as soon as they are done, and answers the exit status: 0, 1 where the file or
-/// the numbers are refused, 3 for a fault. Why the file is refused is told in words too where it is asked for.
+/// of some jobs at a time as soon as they are done, and answers the exit status: 0, 1 where the file, its
+/// contexts or the numbers are refused, 3 for a fault. Why they are is told in words too where it is asked for.
+/// The jobs take the given contexts in turn, where a file of them is named, or one of zeros.
 pub fn run_pool<H: Threads + Wait + Sync, R: Read, W: Write, E: Write>(
     rt: &H,
     alloc: Global,
     size: PoolSize,
+    named: &Option<ContextsFile>,
+    given: &[u8],
     in_words: bool,
     input: &mut R,
     out: &mut W,
@@ -102,9 +143,9 @@ pub fn run_pool<H: Threads + Wait + Sync, R: Read, W: Write, E: Write>(
 ) -> u8
     ensures status { (result ≡ 0) ⊎ (result ≡ 1) ⊎ (result ≡ 3) }
     ensures pooled { result ≡ 0 → IfSome (R.remaining input.old)
-        (WritesPool size.count (W.contents out.old) (W.contents out.new)) }
+        (WritesPool named.now given.now size.count (W.contents out.old) (W.contents out.new)) }
     ensures refused { result ≡ 1 → IfSome (R.remaining input.old)
-        (IsRefusedByPool size.workers size.count) }
+        (IsRefusedByPool named.now given.now size.workers size.count) }
     ensures silent { result ≡ 1 → out.new ≡ out.old }
 {
     let file = match read_file(alloc, input) {
@@ -117,7 +158,12 @@ pub fn run_pool<H: Threads + Wait + Sync, R: Read, W: Write, E: Write>(
             return report_refusal(alloc, &file, CommandRefusal::File(verdict), in_words, err);
         }
     };
-    match run_program(rt, alloc, program, size.workers, size.count, out) {
+    let len = program.verified.ctx_len();
+    let contexts = match contexts_for(alloc, named, len, given) {
+        Ok(contexts) => contexts,
+        Err(fault) => return report_contexts(err, given, len, fault, in_words),
+    };
+    match run_program(rt, alloc, program, &contexts, size.workers, size.count, out) {
         Ok(entries) => write_status(err, write_entries(out, entries)),
         Err(RunFault::Pool(fault)) => {
             report_size(err, CommandRefusal::Pool(fault), size, in_words)

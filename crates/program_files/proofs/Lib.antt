@@ -7,3 +7,4 @@ pub mod Files
 pub mod Slots
 pub mod Cuts
 pub mod Texts
+pub mod ContextLists

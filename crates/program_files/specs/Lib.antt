@@ -1,4 +1,5 @@
 pub mod Checks
+pub mod Contexts
 pub mod Files
 pub mod Verdicts
 pub mod Lines

@@ -2,6 +2,7 @@
 //! and the verdict on each that is refused.
 #![tactic(auto)]
 
+mod contexts;
 mod file_check;
 mod loader;
 mod program_file;
@@ -9,6 +10,7 @@ mod verdict;
 mod verified_file;
 
 pub use crate::loader::{HEADING, LoadFault, ProgramFile, load};
+pub use contexts::{ContextsFault, contexts_in_lines, packed_contexts};
 pub use file_check::{Accepted, check, text_of};
 pub use program_file::{FileBytes, Source, read_file, read_text};
 pub use verdict::Verdict;

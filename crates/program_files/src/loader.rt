@@ -8,4 +8,5 @@ mod program_file;
 mod words;
 
 pub use fault::LoadFault;
+pub(crate) use program_file::first_line;
 pub use program_file::{HEADING, ProgramFile, load};

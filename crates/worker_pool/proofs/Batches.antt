@@ -1,11 +1,12 @@
 -- What is written once a batch of jobs more is served.
-use Rattle.std.proofs.Common.{◌≡◌, ℕ, ◌+◌, ◌≤◌, refl, List, ◌∷◌, [], ◌++◌, length, sym, ap, ◌∙◌, subst, length-append, arith}
-use Rattle.std.specs.Prelude.{Option}
+use Rattle.std.proofs.Common.{◌≡◌, ℕ, ◌+◌, ◌≤◌, ◌%◌, refl, List, ◌∷◌, [], ◌++◌, length, map, sym, ap, ◌∙◌, subst, length-append, arith}
+use Rattle.std.specs.Prelude.{Option, Some, slice_get, IfSome}
 use Rattle.std.specs.Io.KnownBytes.{Appends, Keeps}
 use Rattle.std.proofs.KnownBytes.{Appends-kept, Appends-trans}
-use Rattle.std.proofs.lemmas.List.Elements.{All-append, All-cons, All-nil}
+use Rattle.std.proofs.lemmas.List.{length-map}
 use Rattle.bpf_model.specs.declared.insn.Insn.{Insn}
 use Rattle.bpf_model.specs.declared.limits.MapShape.{MapShape}
+use Rattle.bpf_model.proofs.Lists.{get-map}
 use Rattle.shared_books.specs.Books.{WorkerView}
 use Rattle.verifier.specs.Checked.{Checked}
 use Rattle.worker_pool.specs.declared.batch.Batch.{Batch}
@@ -15,7 +16,7 @@ use Rattle.worker_pool.specs.declared.job.Outcome.{Outcome}
 use Rattle.worker_pool.specs.declared.job.Trail.{Trail}
 use Rattle.worker_pool.specs.Batches.{AreBatches, AreOutcomes, HasWritten, IsPrinted}
 use Rattle.worker_pool.specs.Lines.{job_lines}
-use Rattle.worker_pool.specs.Outcomes.{AreRunsOf, IsOnly, IsOutcomeOf, IsZeroJob}
+use Rattle.worker_pool.specs.Outcomes.{AreJobsOn, AreOutcomesOn, AreRunsOf, IsOnly, IsOutcomeOn}
 use Rattle.worker_pool.specs.declared.fault.RunFault.{RunFault}
 use Rattle.worker_pool.specs.declared.fault.RunFault.TheVariants.{Pool, Write}
 use Rattle.worker_pool.specs.Runs.{WritesPart}
@@ -23,28 +24,45 @@ use Rattle.worker_pool.specs.Trails.{IsServedJob}
 use Rattle.worker_pool.proofs.JobLines.{job_lines-append}
 use Rattle.worker_pool.proofs.Outcomes.{fits_outcome}
 
--- a job on zeros is one of the only program
-pub runs_of : (program : List Insn) (shapes : List MapShape) (n len : ℕ) (programs : List Checked) (job : Job) → IsOnly program shapes programs →
-    n ≡ len → IsZeroJob n job → AreRunsOf program shapes len programs (job ∷ [])
-runs_of program shapes n len programs job only same zero = record {
-  only = only;
-  zeros = All-cons (IsZeroJob len) job [] (subst (λ (m : ℕ). IsZeroJob m job) same zero) (All-nil (IsZeroJob len));
-}
+-- jobs on contexts are of the only program
+pub runs_of : (program : List Insn) (shapes : List MapShape) (contexts : List (List ℕ)) (programs : List Checked) (jobs : List Job) →
+    IsOnly program shapes programs → AreJobsOn contexts jobs → AreRunsOf program shapes contexts programs jobs
+runs_of program shapes contexts programs jobs only are = record { only = only; are = are }
+
+-- outcomes of jobs, and of those after them
+pub outcomes_append : (program : List Insn) (shapes : List MapShape) (contexts : List (List ℕ)) (n m : ℕ) (xs ys : List Outcome) → m ≡ n + length xs →
+    AreOutcomesOn program shapes contexts n xs → AreOutcomesOn program shapes contexts m ys → AreOutcomesOn program shapes contexts n (xs ++ ys)
+outcomes_append program shapes contexts n m [] ys e front back =
+    subst (λ (k : ℕ). AreOutcomesOn program shapes contexts k ys) (let same : m ≡ n = omega (arith, e) in same) back
+outcomes_append program shapes contexts n m (x ∷ xs) ys e front back =
+    (front.0, outcomes_append program shapes contexts (n + 1) m xs ys (omega (arith, e)) front.1 back)
+
+-- the context of the job that is taken for a number
+context_taken : (contexts : List (List ℕ)) (jobs : List Job) (number : ℕ) (job : Job) → AreJobsOn contexts jobs →
+    slice_get jobs (number % length jobs) ≡ Some job → slice_get contexts (number % length contexts) ≡ Some job.ctx.items
+context_taken contexts jobs number job are at =
+    let context_of = λ (j : Job). j.ctx.items in
+    let same : length jobs ≡ length contexts = sym (length-map jobs context_of) ∙ ap (λ (cs : List (List ℕ)). length cs) are.contexts_are in
+    let taken : slice_get (map context_of jobs) (number % length jobs) ≡ Some job.ctx.items =
+    get-map context_of jobs (number % length jobs) job at in
+    let here : slice_get contexts (number % length jobs) ≡ Some job.ctx.items =
+    subst (λ (cs : List (List ℕ)). slice_get cs (number % length jobs) ≡ Some job.ctx.items) are.contexts_are taken in
+    subst (λ (n : ℕ). slice_get contexts (number % n) ≡ Some job.ctx.items) same here
 
 -- the lines of a batch in another world of the same program are those of one in this world
-pub printed_elsewhere : (own programs : List Checked) (code : List Insn) (shapes : List MapShape) (job : Job) (batch : Batch) (text : List ℕ) →
-    IsOnly code shapes own → IsOnly code shapes programs → IsPrinted own job batch text → IsPrinted programs job batch text
-printed_elsewhere own programs code shapes job batch text own_only only printed = record {
+pub printed_elsewhere : (own programs : List Checked) (code : List Insn) (shapes : List MapShape) (jobs : List Job) (batch : Batch) (text : List ℕ) →
+    IsOnly code shapes own → IsOnly code shapes programs → IsPrinted own jobs batch text → IsPrinted programs jobs batch text
+printed_elsewhere own programs code shapes jobs batch text own_only only printed = record {
   outcomes = printed.outcomes;
   are = (
     printed.are.0,
-    λ program asked len runs.
-        printed.are.1 program asked len record {
+    λ program asked contexts runs.
+        printed.are.1 program asked contexts record {
           only = record {
             code = own_only.code ∙ (sym only.code ∙ runs.only.code);
             maps = own_only.maps ∙ (sym only.maps ∙ runs.only.maps);
           };
-          zeros = runs.zeros;
+          are = runs.are;
         },
   );
   lines = printed.lines;
@@ -61,28 +79,33 @@ pub batches_up : (first end : ℕ) (batches : List Batch) → AreBatches first b
 batches_up first end [] are = omega (arith, are)
 batches_up first end (one ∷ batches) are = omega (arith, batches_up (first + one.count) end batches are.1)
 
-module _ (programs : List Checked) (job : Job) where
-  pub no_outcomes : AreOutcomes programs job 0 []
-  no_outcomes = (refl, λ program shapes len runs. All-nil (IsOutcomeOf program shapes len))
+module _ (programs : List Checked) (jobs : List Job) where
+  pub no_outcomes : (first : ℕ) → AreOutcomes programs jobs first 0 []
+  no_outcomes first = (refl, λ program shapes contexts runs. tt)
 
   -- one outcome more
-  pub more_outcomes : {L : Type 0} (k : ℕ) (outcomes : List Outcome) (u v : WorkerView) (report : JobReport (Trail L)) → AreOutcomes programs job k outcomes →
-      IsServedJob programs u v job report → AreOutcomes programs job (k + 1) (outcomes ++ report.outcome ∷ [])
-  more_outcomes k outcomes u v report are served = (
+  pub more_outcomes : {L : Type 0} (first k : ℕ) (outcomes : List Outcome) (job : Job) (u v : WorkerView) (report : JobReport (Trail L)) →
+      AreOutcomes programs jobs first k outcomes → slice_get jobs ((first + k) % length jobs) ≡ Some job → IsServedJob programs u v job report →
+      AreOutcomes programs jobs first (k + 1) (outcomes ++ report.outcome ∷ [])
+  more_outcomes first k outcomes job u v report are taken served = (
     (let l : length (outcomes ++ report.outcome ∷ []) ≡ k + 1 = omega (arith, length-append outcomes (report.outcome ∷ []), are.0) in l),
-    λ program shapes len runs.
-        let zero : IsZeroJob len job = runs.zeros 0 job (omega arith) in
-        let one = fits_outcome programs program shapes runs.only len job report.outcome report.trail zero served.fits in
-        All-append (IsOutcomeOf program shapes len) outcomes (report.outcome ∷ []) (are.1 program shapes len runs)
-        (All-cons (IsOutcomeOf program shapes len) report.outcome [] one (All-nil (IsOutcomeOf program shapes len))),
+    λ program shapes contexts runs.
+        let prog : job.prog ≡ 0 = runs.are.progs ((first + k) % length jobs) job taken in
+        let one : IsOutcomeOn program shapes job.ctx.items report.outcome =
+        fits_outcome programs program shapes runs.only job report.outcome report.trail prog served.fits in
+        let context = context_taken contexts jobs (first + k) job runs.are taken in
+        let last : IfSome (slice_get contexts ((first + k) % length contexts)) (λ context. IsOutcomeOn program shapes context report.outcome) =
+        subst (λ (o : Option (List ℕ)). IfSome o (λ context. IsOutcomeOn program shapes context report.outcome)) (sym context) one in
+        outcomes_append program shapes contexts first (first + k) outcomes (report.outcome ∷ []) (omega (arith, are.0))
+        (are.1 program shapes contexts runs) (last, tt),
   )
 
   -- the lines of one batch more
   pub more_written : (first : ℕ) (batch : Batch) (text : List ℕ) (old mid new : Option (List ℕ)) → batch.first ≡ first →
-      IsPrinted programs job batch text → HasWritten programs job first old mid → Appends mid new text →
-      HasWritten programs job (first + batch.count) old new
-  more_written first batch text old mid new at printed written wrote = λ program shapes len runs.
-      let w = written program shapes len runs in
+      IsPrinted programs jobs batch text → HasWritten programs jobs first old mid → Appends mid new text →
+      HasWritten programs jobs (first + batch.count) old new
+  more_written first batch text old mid new at printed written wrote = λ program shapes contexts runs.
+      let w = written program shapes contexts runs in
       let outcomes = printed.outcomes in
       let long = printed.are.0 in
       let number : length (w.outcomes ++ outcomes) ≡ first + batch.count = omega (arith, length-append w.outcomes outcomes, w.number, long) in
@@ -92,14 +115,15 @@ module _ (programs : List Checked) (job : Job) where
       record {
         outcomes = w.outcomes ++ outcomes;
         number = number;
-        each = All-append (IsOutcomeOf program shapes len) w.outcomes outcomes w.each (printed.are.1 program shapes len runs);
+        each = outcomes_append program shapes contexts 0 batch.first w.outcomes outcomes (omega (arith, w.number, at)) w.each
+            (printed.are.1 program shapes contexts runs);
         written = subst (Appends old new) (sym lines) (Appends-trans old mid new (job_lines 0 w.outcomes) text w.written wrote);
       }
 
   -- what is written stays so, where nothing is added
-  pub flushed : (n : ℕ) (old mid new : Option (List ℕ)) → HasWritten programs job n old mid → Keeps mid new → HasWritten programs job n old new
-  flushed n old mid new written kept = λ program shapes len runs.
-      let w = written program shapes len runs in
+  pub flushed : (n : ℕ) (old mid new : Option (List ℕ)) → HasWritten programs jobs n old mid → Keeps mid new → HasWritten programs jobs n old new
+  flushed n old mid new written kept = λ program shapes contexts runs.
+      let w = written program shapes contexts runs in
       record {
         outcomes = w.outcomes;
         number = w.number;
@@ -108,7 +132,7 @@ module _ (programs : List Checked) (job : Job) where
       }
 
 -- some of fewer are some of more
-pub part_of_more : (program : List Insn) (shapes : List MapShape) (len n m : ℕ) (old new : Option (List ℕ)) (fault : RunFault) → n ≤ m →
-    WritesPart program shapes len n old new fault → WritesPart program shapes len m old new fault
-part_of_more program shapes len n m old new (Pool fault) up part = (part.0, (let l : part.0 ≤ m = omega (arith, up, part.1) in l), part.2)
-part_of_more program shapes len n m old new (Write error) up part = tt
+pub part_of_more : (program : List Insn) (shapes : List MapShape) (contexts : List (List ℕ)) (n m : ℕ) (old new : Option (List ℕ)) (fault : RunFault) →
+    n ≤ m → WritesPart program shapes contexts n old new fault → WritesPart program shapes contexts m old new fault
+part_of_more program shapes contexts n m old new (Pool fault) up part = (part.0, (let l : part.0 ≤ m = omega (arith, up, part.1) in l), part.2)
+part_of_more program shapes contexts n m old new (Write error) up part = tt

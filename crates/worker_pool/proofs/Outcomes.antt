@@ -1,5 +1,5 @@
 -- What the outcomes of jobs say, where each is borne out by its trail.
-use Rattle.std.proofs.Common.{◌≡◌, ◌≢◌, ℕ, List, [], ◌∷◌, get_or, replicate, refl, ap, sym, subst, inl, inr}
+use Rattle.std.proofs.Common.{◌≡◌, ◌≢◌, ℕ, List, [], ◌∷◌, get_or, refl, ap, sym, subst, inl, inr}
 use Rattle.std.specs.Prelude.{Option, Some, None, Result, Ok, Err, slice_get}
 use Rattle.std.proofs.lemmas.Option.{none-some}
 use Rattle.bpf_model.specs.declared.insn.Insn.{Insn}
@@ -19,7 +19,7 @@ use Rattle.worker_pool.specs.declared.job.Outcome.TheVariants.{Exit, Stopped}
 use Rattle.worker_pool.specs.declared.job.Trail.{Trail}
 use Rattle.worker_pool.specs.declared.job.Trail.TheVariants as trails
 use Rattle.worker_pool.specs.Trails.{FitsJob, StopsBy, TellsExit, stop_of}
-use Rattle.worker_pool.specs.Outcomes.{IsOnly, IsOutcomeOf, IsPoolStop, IsZeroExit, IsZeroJob}
+use Rattle.worker_pool.specs.Outcomes.{IsExitOn, IsOnly, IsOutcomeOn, IsPoolStop}
 
 no_stop : (n : ℕ) (run : Option ℕ) (cause : StopCause) → Exit n ≡ Stopped run cause → ⊥
 no_stop n run cause e = cc
@@ -84,33 +84,30 @@ module _ (programs : List Checked) (code : List Insn) (shapes : List MapShape) (
       let f = first_program programs code shapes only in
       subst (λ (c : List Insn). HasNoMaps c → ExitsAs c context n) f.2 (subst (λ (o : Option Checked). IsOwnExit o context n) f.1 h)
 
-  zero_exit : (len : ℕ) (job : Job) (n : ℕ) → IsZeroJob len job →
-      IsPossibleExit (slice_get programs job.prog) job.ctx.items n →
-      IsOwnExit (slice_get programs job.prog) job.ctx.items n → IsZeroExit code shapes len n
-  zero_exit len job n z may own =
-      let at : slice_get programs job.prog ≡ slice_get programs 0 = ap (slice_get programs) z.prog in
+  own_program : (job : Job) (n : ℕ) → job.prog ≡ 0 → IsPossibleExit (slice_get programs job.prog) job.ctx.items n →
+      IsOwnExit (slice_get programs job.prog) job.ctx.items n → IsExitOn code shapes job.ctx.items n
+  own_program job n first may own =
+      let at : slice_get programs job.prog ≡ slice_get programs 0 = ap (slice_get programs) first in
       record {
-        may = may_exit (replicate len 0) n (subst (λ (c : List ℕ). IsPossibleExit (slice_get programs 0) c n)
-            z.context (subst (λ (o : Option Checked). IsPossibleExit o job.ctx.items n) at may));
-        alone = own_exit (replicate len 0) n (subst (λ (c : List ℕ). IsOwnExit (slice_get programs 0) c n) z.context
-            (subst (λ (o : Option Checked). IsOwnExit o job.ctx.items n) at own));
+        may = may_exit job.ctx.items n (subst (λ (o : Option Checked). IsPossibleExit o job.ctx.items n) at may);
+        alone = own_exit job.ctx.items n (subst (λ (o : Option Checked). IsOwnExit o job.ctx.items n) at own);
       }
 
-  told_exit : (len n run value : ℕ) (reply : Result Answer SharedFault) → IsZeroExit code shapes len value
-      → TellsExit run value reply (Exit n) → IsZeroExit code shapes len n
-  told_exit len n run value reply v (inl (done, is)) = subst (IsOutcomeOf code shapes len) (sym is) v
-  told_exit len n run value reply v (inr stops) = absurd (no_stop n (Some run) stops.cause stops.told)
+  told_exit : (context : List ℕ) (n run value : ℕ) (reply : Result Answer SharedFault) → IsExitOn code shapes context value
+      → TellsExit run value reply (Exit n) → IsExitOn code shapes context n
+  told_exit context n run value reply v (inl (done, is)) = subst (IsOutcomeOn code shapes context) (sym is) v
+  told_exit context n run value reply v (inr stops) = absurd (no_stop n (Some run) stops.cause stops.told)
 
-  exit_outcome : {L : Type 0} (len : ℕ) (job : Job) (n : ℕ) (trail : Trail L) → IsZeroJob len job →
-      FitsJob programs job (Exit n) trail → IsZeroExit code shapes len n
-  exit_outcome len job n (trails.Unstarted start) z h = absurd (no_stop n None h.stops.cause h.stops.told)
-  exit_outcome len job n (trails.Halted start moves step) z (run, started, same, halts) = absurd (no_stop n (Some run) halts.stops.cause halts.stops.told)
-  exit_outcome len job n (trails.OtherRun start moves step note) z (run, started, same, exits, asks, strange) =
+  exit_outcome : {L : Type 0} (job : Job) (n : ℕ) (trail : Trail L) → job.prog ≡ 0 →
+      FitsJob programs job (Exit n) trail → IsExitOn code shapes job.ctx.items n
+  exit_outcome job n (trails.Unstarted start) first h = absurd (no_stop n None h.stops.cause h.stops.told)
+  exit_outcome job n (trails.Halted start moves step) first (run, started, same, halts) = absurd (no_stop n (Some run) halts.stops.cause halts.stops.told)
+  exit_outcome job n (trails.OtherRun start moves step note) first (run, started, same, exits, asks, strange) =
       absurd (no_stop n (Some run) OtherRun strange.told)
-  exit_outcome len job n (trails.Ended start moves step note dropped) z (run, started, same, exits, asks, x) =
-      told_exit len n run x.value dropped.reply (zero_exit len job x.value z x.may x.alone) x.told
+  exit_outcome job n (trails.Ended start moves step note dropped) first (run, started, same, exits, asks, x) =
+      told_exit job.ctx.items n run x.value dropped.reply (own_program job x.value first x.may x.alone) x.told
 
-  pub fits_outcome : {L : Type 0} (len : ℕ) (job : Job) (outcome : Outcome) (trail : Trail L) → IsZeroJob len job →
-      FitsJob programs job outcome trail → IsOutcomeOf code shapes len outcome
-  fits_outcome len job (Exit n) trail z h = exit_outcome len job n trail z h
-  fits_outcome len job (Stopped run cause) trail z h = stop_outcome programs job run cause trail h
+  pub fits_outcome : {L : Type 0} (job : Job) (outcome : Outcome) (trail : Trail L) → job.prog ≡ 0 →
+      FitsJob programs job outcome trail → IsOutcomeOn code shapes job.ctx.items outcome
+  fits_outcome job (Exit n) trail first h = exit_outcome job n trail first h
+  fits_outcome job (Stopped run cause) trail first h = stop_outcome programs job run cause trail h

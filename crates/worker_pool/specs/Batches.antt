@@ -1,5 +1,5 @@
--- Many jobs that are all alike, some of them at a time.
-use Rattle.std.specs.Prelude.{◌≡◌, ℕ, ◌+◌, List, [], ◌∷◌, length, All, Option}
+-- Many jobs of one program, some of them at a time.
+use Rattle.std.specs.Prelude.{◌≡◌, ℕ, ◌+◌, List, [], ◌∷◌, length, Option}
 use Rattle.bpf_model.specs.declared.insn.Insn.{Insn}
 use Rattle.bpf_model.specs.declared.limits.MapShape.{MapShape}
 use Rattle.bpf_model.specs.View.{AreNewMaps, shapes_of_maps}
@@ -9,7 +9,7 @@ use Rattle.worker_pool.specs.declared.batch.Batch.{Batch}
 use Rattle.worker_pool.specs.declared.job.Job.{Job}
 use Rattle.worker_pool.specs.declared.job.Outcome.{Outcome}
 use Rattle.worker_pool.specs.Lines.{job_lines}
-use Rattle.worker_pool.specs.Outcomes.{AreRunsOf, IsOnly, IsOutcomeOf}
+use Rattle.worker_pool.specs.Outcomes.{AreOutcomesOn, AreRunsOf, IsOnly}
 use Rattle.worker_pool.specs.Runs.{WritesJobs, WritesPart}
 use Rattle.worker_pool.specs.declared.fault.RunFault.{RunFault}
 
@@ -19,13 +19,14 @@ AreBatches first [] end = first ≡ end
 AreBatches first (batch ∷ batches) end =
     (batch.first ≡ first) × AreBatches (first + batch.count) batches end
 
--- The outcomes are those of so many runs of a program, where the job is one of it.
-abbrev pub AreOutcomes : List Checked → Job → ℕ → List Outcome → Type 0
-AreOutcomes programs job count outcomes =
+-- The outcomes are those of so many runs of a program, numbered from `first` on, where the jobs are
+-- of it.
+abbrev pub AreOutcomes : List Checked → List Job → ℕ → ℕ → List Outcome → Type 0
+AreOutcomes programs jobs first count outcomes =
     (length outcomes ≡ count)
-    × ((program : List Insn) (shapes : List MapShape) (context_len : ℕ) →
-    AreRunsOf program shapes context_len programs (job ∷ []) →
-    All (IsOutcomeOf program shapes context_len) outcomes)
+    × ((program : List Insn) (shapes : List MapShape) (contexts : List (List ℕ)) →
+    AreRunsOf program shapes contexts programs jobs →
+    AreOutcomesOn program shapes contexts first outcomes)
 
 -- A world of these programs has this one alone; and its maps are new ones, of the shapes that it was verified with.
 abbrev pub IsAlike : List Checked → ProgramWithMaps → Type 0
@@ -35,22 +36,23 @@ IsAlike programs program =
     × (program.verified.shapes ≡ shapes_of_maps program.registry.maps)
 
 -- The text is the lines of the outcomes of a batch.
-pub record IsPrinted (programs : List Checked) (job : Job) (batch : Batch) (text : List ℕ) : Type 0 where
+pub record IsPrinted (programs : List Checked) (jobs : List Job) (batch : Batch) (text : List ℕ)
+    : Type 0 where
   pub outcomes : List Outcome
-  pub are : AreOutcomes programs job batch.count outcomes
+  pub are : AreOutcomes programs jobs batch.first batch.count outcomes
   pub lines : text ≡ job_lines batch.first outcomes
 
--- The output has gained the lines of so many runs of a program, where the job is one of it.
-abbrev pub HasWritten : List Checked → Job → ℕ → Option (List ℕ) → Option (List ℕ) → Type 0
-HasWritten programs job count old new =
-    (program : List Insn) (shapes : List MapShape) (context_len : ℕ) →
-    AreRunsOf program shapes context_len programs (job ∷ []) →
-    WritesJobs program shapes context_len count old new
+-- The output has gained the lines of so many runs of a program, where the jobs are of it.
+abbrev pub HasWritten : List Checked → List Job → ℕ → Option (List ℕ) → Option (List ℕ) → Type 0
+HasWritten programs jobs count old new =
+    (program : List Insn) (shapes : List MapShape) (contexts : List (List ℕ)) →
+    AreRunsOf program shapes contexts programs jobs →
+    WritesJobs program shapes contexts count old new
 
 -- Where the pool fails, it has gained the lines of some first ones of so many.
-abbrev pub HasWrittenPart : List Checked → Job → ℕ → Option (List ℕ) → Option (List ℕ) → RunFault →
-    Type 0
-HasWrittenPart programs job count old new fault =
-    (program : List Insn) (shapes : List MapShape) (context_len : ℕ) →
-    AreRunsOf program shapes context_len programs (job ∷ []) →
-    WritesPart program shapes context_len count old new fault
+abbrev pub HasWrittenPart : List Checked → List Job → ℕ → Option (List ℕ) → Option (List ℕ) →
+    RunFault → Type 0
+HasWrittenPart programs jobs count old new fault =
+    (program : List Insn) (shapes : List MapShape) (contexts : List (List ℕ)) →
+    AreRunsOf program shapes contexts programs jobs →
+    WritesPart program shapes contexts count old new fault

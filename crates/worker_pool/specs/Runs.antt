@@ -1,5 +1,5 @@
 -- What the runs of a program write, and why they end early.
-use Rattle.std.specs.Prelude.{◌≡◌, ◌≤◌, ℕ, List, length, Option, All, ⊤}
+use Rattle.std.specs.Prelude.{◌≡◌, ◌≤◌, ℕ, List, length, Option, ⊤}
 use Rattle.std.specs.Io.KnownBytes.{Appends}
 use Rattle.bpf_model.specs.declared.insn.Insn.{Insn}
 use Rattle.bpf_model.specs.declared.limits.MapShape.{MapShape}
@@ -9,24 +9,24 @@ use Rattle.worker_pool.specs.declared.fault.RunFault.{RunFault}
 use Rattle.worker_pool.specs.declared.fault.RunFault.TheVariants.{Pool, Write}
 use Rattle.worker_pool.specs.declared.job.Outcome.{Outcome}
 use Rattle.worker_pool.specs.Lines.{job_lines}
-use Rattle.worker_pool.specs.Outcomes.{IsFaultOf, IsOutcomeOf}
+use Rattle.worker_pool.specs.Outcomes.{AreOutcomesOn, IsFaultOf}
 
 -- The output gains the lines of so many jobs, numbered from 0 on. Those that have exited have exited
--- as the program may on so many zeros, over maps of these shapes; of the others nothing is known.
-pub record WritesJobs (program : List Insn) (shapes : List MapShape) (context_len count : ℕ)
-    (old new : Option (List ℕ)) : Type 0 where
+-- as the program may on their contexts, over maps of these shapes; of the others nothing is known.
+pub record WritesJobs (program : List Insn) (shapes : List MapShape) (contexts : List (List ℕ))
+    (count : ℕ) (old new : Option (List ℕ)) : Type 0 where
   pub outcomes : List Outcome
   pub number : length outcomes ≡ count
-  pub each : All (IsOutcomeOf program shapes context_len) outcomes
+  pub each : AreOutcomesOn program shapes contexts 0 outcomes
   pub written : Appends old new (job_lines 0 outcomes)
 
 -- Where the pool fails, the output has gained the lines of some first jobs. Where the output fails,
 -- nothing is said.
-abbrev pub WritesPart : List Insn → List MapShape → ℕ → ℕ → Option (List ℕ) → Option (List ℕ) →
-    RunFault → Type 0
-WritesPart program shapes context_len count old new (Pool fault) =
-    (some : ℕ) × (some ≤ count) × WritesJobs program shapes context_len some old new
-WritesPart program shapes context_len count old new (Write error) = ⊤
+abbrev pub WritesPart : List Insn → List MapShape → List (List ℕ) → ℕ → Option (List ℕ) →
+    Option (List ℕ) → RunFault → Type 0
+WritesPart program shapes contexts count old new (Pool fault) =
+    (some : ℕ) × (some ≤ count) × WritesJobs program shapes contexts some old new
+WritesPart program shapes contexts count old new (Write error) = ⊤
 
 -- the fault comes of no number that is refused
 abbrev pub IsLate : RunFault → Type 0

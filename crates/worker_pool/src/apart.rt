@@ -134,13 +134,14 @@ fn print_by_first<L: Ledger, R: Wait>(
     alloc: Global,
     own: &Shared<L>,
     workers: &mut Workers<L>,
-    job: &Job,
+    jobs: &[Job],
     batch: &Batch,
 ) -> Option<Apart>
-    ensures { IfSome result (λ a. IsPrinted own.now job.now batch.now a.text.items) }
+    requires { 0 < length jobs.now }
+    ensures { IfSome result (λ a. IsPrinted own.now jobs.now batch.now a.text.items) }
 {
     let worker = workers.list.first_mut()?;
-    let text = print_together(rt, alloc, own, worker, job, batch)?;
+    let text = print_together(rt, alloc, own, worker, jobs, batch)?;
     let entries = worker.made();
     Some(Apart { text, entries })
 }
@@ -152,17 +153,18 @@ pub(crate) fn print_apart<L: Ledger, R: Wait>(
     alloc: Global,
     blank: Blank,
     program: &ProgramWithMaps,
-    job: &Job,
+    jobs: &[Job],
     batch: &Batch,
 ) -> Option<Apart>
+    requires some { 0 < length jobs.now }
     requires new_maps { AreNewMaps program.now.registry.maps }
     requires shapes { program.now.verified.shapes ≡ shapes_of_maps program.now.registry.maps }
     requires name { blank.name ≡ L.name }
     requires parts { (blank.parts ≡ L.parts) × (blank.parts ≡ 1) }
     ensures printed { (programs : List Checked) →
         IsOnly program.now.verified.program program.now.verified.shapes programs →
-        IfSome result (λ a. IsPrinted programs job.now batch.now a.text.items) }
+        IfSome result (λ a. IsPrinted programs jobs.now batch.now a.text.items) }
 {
     let (own, mut workers) = own_world::<L>(alloc, blank, program)?;
-    print_by_first(rt, alloc, &own, &mut workers, job, batch)
+    print_by_first(rt, alloc, &own, &mut workers, jobs, batch)
 }

@@ -1,8 +1,10 @@
 //! Jobs, and what came of them.
-ghost use Rattle.std.specs.Prelude.{◌≡◌};
+ghost use Rattle.std.specs.Prelude.{◌≡◌, IfOk};
+ghost use Rattle.worker_pool.specs.Outcomes.{contexts_of, AreJobsOn};
 
-use bpf_model::{CtxBytes, EventRefusal, ProgId, RunId};
+use bpf_model::{CtxBytes, EventRefusal, ProgId, RunId, array_of};
 use shared::{ExitNote, Receipt, SharedFault, Stretch};
+use std::alloc::{AllocError, Global};
 use std::sync::ledger::Ledger;
 
 /// A program that is to run on a context.
@@ -10,6 +12,20 @@ use std::sync::ledger::Ledger;
 pub struct Job {
     pub prog: ProgId,
     pub ctx: CtxBytes,
+}
+
+/// Jobs of program 0 on these contexts, in their order. Fails where memory runs out.
+pub(crate) fn jobs_on(alloc: Global, contexts: &[CtxBytes]) -> Result<Vec<Job>, AllocError>
+    ensures { IfOk result (λ v. AreJobsOn (contexts_of contexts.now) v.items) }
+{
+    let mut jobs = Vec::with_capacity(alloc, contexts.len())?;
+    for index in 0..contexts.len() {
+        jobs.push_reserved(Job {
+            prog: ProgId::new(0),
+            ctx: array_of(contexts[index].as_slice()),
+        });
+    }
+    Ok(jobs)
 }
 
 /// Why a job has no exit value.

@@ -16,7 +16,6 @@ mod printing;
 mod reading;
 mod repeated;
 mod reply;
-mod zero_jobs;
 
 pub use fault::RunFault;
 pub use job::{Job, JobReport, Outcome, Report, StopCause, Trail};

@@ -27,34 +27,38 @@ use std::sync::atomic::{AtomicU64, Ordering};
 use std::sync::ledger::{Blank, Ledger};
 use std::thread::Threads;
 
-/// Serves batches of one job again and again, and makes their lines.
+/// Serves batches of jobs, which are taken in turn from a list, and makes their lines.
 #[derive(Drop)]
 pub(crate) struct Printing<'a, L: Ledger> {
     pub alloc: Global,
     pub shared: &'a Shared<L>,
-    pub job: &'a Job,
+    /// The jobs that are taken in turn, and the first again behind the last.
+    pub jobs: &'a [Job],
     /// The program and its maps, where each batch has a world of its own.
     pub apart: &'a Option<ProgramWithMaps>,
     /// How many entries the journals of such worlds had.
     pub entries: AtomicU64,
 }
 
-/// Serves the job so many times under one lock, and keeps of each time its outcome alone. Fails, before it takes the
-/// lock, where memory runs out.
-fn serve_again<L: Ledger, R: Wait>(
+/// Serves the jobs of a batch under one lock, and keeps of each its outcome alone. Fails, before it takes the lock, where
+/// memory runs out.
+fn serve_turns<L: Ledger, R: Wait>(
     rt: &R,
     alloc: Global,
     shared: &Shared<L>,
     worker: &mut Worker<L>,
-    job: &Job,
-    count: usize,
+    jobs: &[Job],
+    batch: &Batch,
 ) -> Result<Vec<Outcome>, AllocError>
+    requires some { 0 < length jobs.now }
     ensures later { IsLater worker.old worker.new }
-    ensures outcomes { IfOk result (λ v. AreOutcomes shared.now job.now count v.items) }
+    ensures outcomes { IfOk result (λ v.
+        AreOutcomes shared.now jobs.now batch.now.first batch.now.count v.items) }
 {
-    let mut outcomes = Vec::with_capacity(alloc, count)?;
+    let mut outcomes = Vec::with_capacity(alloc, batch.count)?;
     let mut held = shared.hold(rt);
-    for _ in 0..count {
+    for index in 0..batch.count {
+        let job = &jobs[(batch.first + index) % jobs.len()];
         let JobReport { outcome, trail: _ } = serve_held(rt, &mut held, worker, job);
         outcomes.push_reserved(outcome);
     }
@@ -67,13 +71,14 @@ pub(crate) fn print_together<L: Ledger, R: Wait>(
     alloc: Global,
     shared: &Shared<L>,
     worker: &mut Worker<L>,
-    job: &Job,
+    jobs: &[Job],
     batch: &Batch,
 ) -> Option<Vec<u8>>
+    requires some { 0 < length jobs.now }
     ensures later { IsLater worker.old worker.new }
-    ensures printed { IfSome result (λ v. IsPrinted shared.now job.now batch.now v.items) }
+    ensures printed { IfSome result (λ v. IsPrinted shared.now jobs.now batch.now v.items) }
 {
-    let Ok(outcomes) = serve_again(rt, alloc, shared, worker, job, batch.count) else {
+    let Ok(outcomes) = serve_turns(rt, alloc, shared, worker, jobs, batch) else {
         return None;
     };
     let mut text = Vec::new(alloc);
@@ -86,16 +91,17 @@ pub(crate) fn print_together<L: Ledger, R: Wait>(
 impl<L: Ledger> Printing<'_, L> {
     /// Serves a batch, and makes its lines. Nothing where memory runs out.
     fn print_batch<R: Wait>(&self, rt: &R, worker: &mut Worker<L>, batch: &Batch) -> Option<Vec<u8>>
+        requires some { 0 < length self.now.jobs.now }
         requires alike { ForSome self.now.apart.now (IsAlike self.now.shared.now) }
         ensures later { IsLater worker.old worker.new }
         ensures printed { IfSome result (λ v.
-            IsPrinted self.now.shared.now self.now.job.now batch.now v.items) }
+            IsPrinted self.now.shared.now self.now.jobs.now batch.now v.items) }
     {
         let Some(program) = self.apart else {
-            return print_together(rt, self.alloc, self.shared, worker, self.job, batch);
+            return print_together(rt, self.alloc, self.shared, worker, self.jobs, batch);
         };
         let blank = Blank::new(1);
-        let apart = print_apart::<Brand, R>(rt, self.alloc, blank, program, self.job, batch)?;
+        let apart = print_apart::<Brand, R>(rt, self.alloc, blank, program, self.jobs, batch)?;
         self.entries.fetch_add(apart.entries, Ordering::SeqCst);
         Some(apart.text)
     }
@@ -110,14 +116,14 @@ impl<L: Ledger> Printing<'_, L> {
         requires long { length texts.now ≡ length batches.now }
         requires right { (k : ℕ) (batch : Batch) (text : Option (Vec ℕ)) → slice_get batches.now k ≡ Some batch →
             slice_get texts.now k ≡ Some text →
-            IfSome text (λ t. IsPrinted self.now.shared.now self.now.job.now batch t.items) }
+            IfSome text (λ t. IsPrinted self.now.shared.now self.now.jobs.now batch t.items) }
         ensures fault { IfErr result IsLate }
         ensures written { (first end : ℕ) (old : Option (List ℕ)) → AreBatches first batches.now end →
-            HasWritten self.now.shared.now self.now.job.now first old (W.contents out.old) →
-            OnOk result (HasWritten self.now.shared.now self.now.job.now end old (W.contents out.new)) }
+            HasWritten self.now.shared.now self.now.jobs.now first old (W.contents out.old) →
+            OnOk result (HasWritten self.now.shared.now self.now.jobs.now end old (W.contents out.new)) }
         ensures part { (first end : ℕ) (old : Option (List ℕ)) → AreBatches first batches.now end →
-            HasWritten self.now.shared.now self.now.job.now first old (W.contents out.old) →
-            IfErr result (HasWrittenPart self.now.shared.now self.now.job.now end old (W.contents out.new)) }
+            HasWritten self.now.shared.now self.now.jobs.now first old (W.contents out.old) →
+            IfErr result (HasWrittenPart self.now.shared.now self.now.jobs.now end old (W.contents out.new)) }
     {
         let _batches = batches;
         for index in 0..texts.len() {
@@ -140,6 +146,7 @@ impl<L: Ledger + Send + Sync> Printing<'_, L> {
         threads: usize,
         workers: &mut Workers<L>,
     ) -> Result<Vec<Option<Vec<u8>>>, PoolFault>
+        requires some { 0 < length self.now.jobs.now }
         requires threads { IsBadCount threads (length workers.old) → ⊥ }
         requires few { length batches.now ≤ most_jobs }
         requires alike { ForSome self.now.apart.now (IsAlike self.now.shared.now) }
@@ -148,7 +155,7 @@ impl<L: Ledger + Send + Sync> Printing<'_, L> {
         ensures long { IfOk result (λ v. length v.items ≡ length batches.now) }
         ensures right { IfOk result (λ v. (k : ℕ) (batch : Batch) (text : Option (Vec ℕ)) →
             slice_get batches.now k ≡ Some batch → slice_get v.items k ≡ Some text →
-            IfSome text (λ t. IsPrinted self.now.shared.now self.now.job.now batch t.items)) }
+            IfSome text (λ t. IsPrinted self.now.shared.now self.now.jobs.now batch t.items)) }
         ensures fault { IfErr result (λ fault. fault ≡ faults.Memory) }
     {
         serve_all(rt, self.alloc, self, batches, threads, &mut workers.list)
@@ -162,17 +169,18 @@ impl<L: Ledger + Send + Sync> Printing<'_, L> {
         workers: &mut Workers<L>,
         out: &mut W,
     ) -> Result<(), RunFault>
+        requires some { 0 < length self.now.jobs.now }
         requires workers { (0 < length workers.old) × (length workers.old ≤ most_workers) }
         requires few { length batches.now ≤ most_jobs }
         requires alike { ForSome self.now.apart.now (IsAlike self.now.shared.now) }
         ensures workers { length workers.new ≡ length workers.old }
         ensures fault { IfErr result IsLate }
         ensures written { (first end : ℕ) (old : Option (List ℕ)) → AreBatches first batches.now end →
-            HasWritten self.now.shared.now self.now.job.now first old (W.contents out.old) →
-            OnOk result (HasWritten self.now.shared.now self.now.job.now end old (W.contents out.new)) }
+            HasWritten self.now.shared.now self.now.jobs.now first old (W.contents out.old) →
+            OnOk result (HasWritten self.now.shared.now self.now.jobs.now end old (W.contents out.new)) }
         ensures part { (first end : ℕ) (old : Option (List ℕ)) → AreBatches first batches.now end →
-            HasWritten self.now.shared.now self.now.job.now first old (W.contents out.old) →
-            IfErr result (HasWrittenPart self.now.shared.now self.now.job.now end old (W.contents out.new)) }
+            HasWritten self.now.shared.now self.now.jobs.now first old (W.contents out.old) →
+            IfErr result (HasWrittenPart self.now.shared.now self.now.jobs.now end old (W.contents out.new)) }
     {
         let threads = workers.list.len();
         let texts = self.serve_batches(rt, batches, threads, workers)?;
@@ -183,7 +191,7 @@ impl<L: Ledger + Send + Sync> Printing<'_, L> {
 }
 
 impl<L: Ledger + Send + Sync> Serve for Printing<'_, L> {
-    ghost use Rattle.std.specs.Prelude.{IfSome};
+    ghost use Rattle.std.specs.Prelude.{◌<◌, length, IfSome};
     ghost use Rattle.std.specs.Option.{ForSome};
     ghost use Rattle.worker_pool.specs.Batches.{IsAlike, IsPrinted};
     ghost use Rattle.worker_pool.specs.Trails.{IsLater};
@@ -195,13 +203,13 @@ impl<L: Ledger + Send + Sync> Serve for Printing<'_, L> {
 
     type Served = Option<Vec<u8>>;
 
-    ghost ready = { λ s w. ForSome s.apart.now (IsAlike s.shared.now) };
+    ghost ready = { λ s w. (0 < length s.jobs.now) × ForSome s.apart.now (IsAlike s.shared.now) };
 
     ghost later = { IsLater };
 
-    ghost fits = { λ s u v batch text. IfSome text (λ t. IsPrinted s.shared.now s.job.now batch t.items) };
+    ghost fits = { λ s u v batch text. IfSome text (λ t. IsPrinted s.shared.now s.jobs.now batch t.items) };
 
-    ghost gains = { λ s u v batch text. IfSome text (λ t. IsPrinted s.shared.now s.job.now batch t.items) };
+    ghost gains = { λ s u v batch text. IfSome text (λ t. IsPrinted s.shared.now s.jobs.now batch t.items) };
 
     /// Serves a batch, and makes its lines.
     fn serve<R: Wait>(&self, rt: &R, worker: &mut Worker<L>, batch: &Batch) -> Option<Vec<u8>> {

@@ -6,14 +6,15 @@ ghost use Rattle.job_queue.specs.declared.fault.PoolFault.TheVariants as faults;
 ghost use Rattle.job_queue.specs.Serving.{most_jobs};
 ghost use Rattle.shared_books.specs.Books.{most_workers};
 ghost use Rattle.worker_pool.specs.Batches.{HasWritten, HasWrittenPart, IsAlike};
+ghost use Rattle.worker_pool.specs.Outcomes.{contexts_of};
 ghost use Rattle.worker_pool.specs.Runs.{IsLate, IsRunFaultOf, WritesJobs, WritesPart};
 
 use crate::apart::copy_to_part;
 use crate::batch::Batch;
 use crate::fault::RunFault;
-use crate::job::Job;
+use crate::job::{Job, jobs_on};
 use crate::printing::Printing;
-use crate::zero_jobs::zero_job;
+use bpf_model::CtxBytes;
 use job_queue::{MAX_JOBS, PoolFault};
 use shared::{MAX_WORKERS, ProgramWithMaps, Shared, Workers};
 use std::alloc::Global;
@@ -42,18 +43,19 @@ fn serve_block<L: Ledger + Send + Sync, R: Threads + Wait + Sync, W: Write>(
     workers: &mut Workers<L>,
     out: &mut W,
 ) -> Result<(), RunFault>
+    requires some { 0 < length printing.now.jobs.now }
     requires workers { (0 < length workers.old) × (length workers.old ≤ most_workers) }
     requires limit { first + count ≤ most_jobs }
     requires alike { ForSome printing.now.apart.now (IsAlike printing.now.shared.now) }
     ensures workers { length workers.new ≡ length workers.old }
     ensures fault { IfErr result IsLate }
     ensures written { (old : Option (List ℕ)) →
-        HasWritten printing.now.shared.now printing.now.job.now first old (W.contents out.old) →
-        OnOk result (HasWritten printing.now.shared.now printing.now.job.now (first + count) old
+        HasWritten printing.now.shared.now printing.now.jobs.now first old (W.contents out.old) →
+        OnOk result (HasWritten printing.now.shared.now printing.now.jobs.now (first + count) old
         (W.contents out.new)) }
     ensures part { (old : Option (List ℕ)) →
-        HasWritten printing.now.shared.now printing.now.job.now first old (W.contents out.old) →
-        IfErr result (HasWrittenPart printing.now.shared.now printing.now.job.now (first + count) old
+        HasWritten printing.now.shared.now printing.now.jobs.now first old (W.contents out.old) →
+        IfErr result (HasWrittenPart printing.now.shared.now printing.now.jobs.now (first + count) old
         (W.contents out.new)) }
 {
     let size = if printing.apart.is_some() {
@@ -67,32 +69,33 @@ fn serve_block<L: Ledger + Send + Sync, R: Threads + Wait + Sync, W: Write>(
     printing.print_all(rt, &batches, workers, out)
 }
 
-/// Serves a job so many times by all workers, each in a thread of its own: one block of jobs after another. The lines of
-/// a block are written as soon as it is served. How many entries worlds apart have had.
+/// Serves so many jobs, taken from these in turn, by all workers, each in a thread of its own: one block after another. The
+/// lines of a block are written as soon as it is served. How many entries worlds apart have had.
 fn serve_blocks<L: Ledger + Send + Sync, R: Threads + Wait + Sync, W: Write>(
     rt: &R,
     alloc: Global,
-    job: &Job,
+    jobs: &[Job],
     count: usize,
     shared: &Shared<L>,
     apart: &Option<ProgramWithMaps>,
     workers: &mut Workers<L>,
     out: &mut W,
 ) -> Result<usize, RunFault>
+    requires some { 0 < length jobs.now }
     requires workers { (0 < length workers.old) × (length workers.old ≤ most_workers) }
     requires limit { count ≤ most_jobs }
     requires alike { ForSome apart.now (IsAlike shared.now) }
     ensures fault { IfErr result IsLate }
-    ensures written { OnOk result (HasWritten shared.now job.now count
+    ensures written { OnOk result (HasWritten shared.now jobs.now count
         (W.contents out.old) (W.contents out.new)) }
-    ensures part { IfErr result (HasWrittenPart shared.now job.now count
+    ensures part { IfErr result (HasWrittenPart shared.now jobs.now count
         (W.contents out.old) (W.contents out.new)) }
 {
     let entries = AtomicU64::new(0);
     let printing = Printing {
         alloc,
         shared,
-        job,
+        jobs,
         apart,
         entries,
     };
@@ -121,6 +124,7 @@ fn run_beside<L: Ledger + Send + Sync, R: Threads + Wait + Sync, W: Write>(
     blank: Blank,
     program: ProgramWithMaps,
     apart: &Option<ProgramWithMaps>,
+    contexts: &[CtxBytes],
     workers: u8,
     count: usize,
     out: &mut W,
@@ -128,22 +132,25 @@ fn run_beside<L: Ledger + Send + Sync, R: Threads + Wait + Sync, W: Write>(
     requires new_maps { AreNewMaps program.registry.maps }
     requires shapes { program.verified.shapes ≡ shapes_of_maps program.registry.maps }
     requires apart { ForSome apart.now (λ p. p ≡ program) }
+    requires contexts { 0 < length contexts.now }
     requires workers { (0 < workers) × (workers ≤ most_workers) }
     requires count { count ≤ most_jobs }
     requires name { blank.name ≡ L.name }
     requires parts { (blank.parts ≡ L.parts) × (blank.parts ≡ workers) }
     ensures fault { IfErr result IsLate }
     ensures written { OnOk result (WritesJobs program.verified.program program.verified.shapes
-        program.verified.ctx_len count (W.contents out.old) (W.contents out.new)) }
+        (contexts_of contexts.now) count (W.contents out.old) (W.contents out.new)) }
     ensures part { IfErr result (WritesPart program.verified.program program.verified.shapes
-        program.verified.ctx_len count (W.contents out.old) (W.contents out.new)) }
+        (contexts_of contexts.now) count (W.contents out.old) (W.contents out.new)) }
 {
-    let job = zero_job(program.verified.ctx_len());
+    let Ok(jobs) = jobs_on(alloc, contexts) else {
+        return Err(RunFault::Pool(PoolFault::Memory));
+    };
     let shared = Shared::<L>::of_program(alloc, program, workers, blank);
     let Ok((shared, mut workers)) = shared else {
         return Err(RunFault::Pool(PoolFault::Memory));
     };
-    let apart = serve_blocks(rt, alloc, &job, count, &shared, apart, &mut workers, out)?;
+    let apart = serve_blocks(rt, alloc, &jobs, count, &shared, apart, &mut workers, out)?;
     Ok((made_by(&workers) as usize).saturating_add(apart))
 }
 
@@ -153,30 +160,35 @@ fn run_shared<L: Ledger + Send + Sync, R: Threads + Wait + Sync, W: Write>(
     alloc: Global,
     blank: Blank,
     program: ProgramWithMaps,
+    contexts: &[CtxBytes],
     workers: u8,
     count: usize,
     out: &mut W,
 ) -> Result<usize, RunFault>
     requires new_maps { AreNewMaps program.registry.maps }
     requires shapes { program.verified.shapes ≡ shapes_of_maps program.registry.maps }
+    requires contexts { 0 < length contexts.now }
     requires workers { (0 < workers) × (workers ≤ most_workers) }
     requires count { count ≤ most_jobs }
     requires name { blank.name ≡ L.name }
     requires parts { (blank.parts ≡ L.parts) × (blank.parts ≡ workers) }
     ensures fault { IfErr result IsLate }
     ensures written { OnOk result (WritesJobs program.verified.program program.verified.shapes
-        program.verified.ctx_len count (W.contents out.old) (W.contents out.new)) }
+        (contexts_of contexts.now) count (W.contents out.old) (W.contents out.new)) }
     ensures part { IfErr result (WritesPart program.verified.program program.verified.shapes
-        program.verified.ctx_len count (W.contents out.old) (W.contents out.new)) }
+        (contexts_of contexts.now) count (W.contents out.old) (W.contents out.new)) }
 {
     let Ok(apart) = copy_to_part(alloc, &program, count) else {
         return Err(RunFault::Pool(PoolFault::Memory));
     };
-    run_beside::<L, R, W>(rt, alloc, blank, program, &apart, workers, count, out)
+    run_beside::<L, R, W>(
+        rt, alloc, blank, program, &apart, contexts, workers, count, out,
+    )
 }
 
-/// Runs a program so many times by so many workers, on contexts of its length that are all zero,
-/// over its maps, which all runs share: new ones, of the shapes that the program was verified with.
+/// Runs a program so many times by so many workers, over its maps, which all runs share: new ones, of the shapes that the
+/// program was verified with. The runs take these contexts in turn, run 0 the first, and the first again behind the last; a
+/// run on a context of another length than the program's is stopped (63).
 /// Writes a line for each job, in their order, on `out`: those of some jobs at a time, as soon as they
 /// are done, and flushes it. Answers how many entries the journal has.
 ///
@@ -197,12 +209,14 @@ pub fn run_program<R: Threads + Wait + Sync, W: Write>(
     rt: &R,
     alloc: Global,
     program: ProgramWithMaps,
+    contexts: &[CtxBytes],
     workers: u64,
     count: u64,
     out: &mut W,
 ) -> Result<usize, RunFault>
     requires new_maps { AreNewMaps program.registry.maps }
     requires shapes { program.verified.shapes ≡ shapes_of_maps program.registry.maps }
+    requires contexts { 0 < length contexts.now }
     ensures bad_workers { (workers ≡ 0) ⊎ (most_workers < workers) →
         result ≡ Err (RunFault.Pool faults.BadWorkers) }
     ensures too_many_jobs { 0 < workers → workers ≤ most_workers → most_jobs < count →
@@ -210,11 +224,12 @@ pub fn run_program<R: Threads + Wait + Sync, W: Write>(
     ensures refused { (workers ≡ 0) ⊎ (most_workers < workers) ⊎ (most_jobs < count) →
         out.new ≡ out.old }
     ensures fault { IfErr result (IsRunFaultOf workers count) }
-    // A job that has exited has exited with a value of the program's definition; of one that was stopped nothing is known.
+    // A job that has exited has exited with a value of the program's definition on its context; of one that was stopped
+    // nothing is known.
     ensures written { OnOk result (WritesJobs program.verified.program program.verified.shapes
-        program.verified.ctx_len count (W.contents out.old) (W.contents out.new)) }
+        (contexts_of contexts.now) count (W.contents out.old) (W.contents out.new)) }
     ensures part { IfErr result (WritesPart program.verified.program program.verified.shapes
-        program.verified.ctx_len count (W.contents out.old) (W.contents out.new)) }
+        (contexts_of contexts.now) count (W.contents out.old) (W.contents out.new)) }
 {
     if workers == 0 || workers > MAX_WORKERS as u64 {
         return Err(RunFault::Pool(PoolFault::BadWorkers));
@@ -228,6 +243,7 @@ pub fn run_program<R: Threads + Wait + Sync, W: Write>(
         alloc,
         blank,
         program,
+        contexts,
         workers as u8,
         count as usize,
         out,

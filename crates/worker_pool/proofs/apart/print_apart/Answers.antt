@@ -7,5 +7,5 @@ returns g c = record {
   printed = λ programs only.
       let v = c.args.program.now.verified in
       IfSome_then c.print_by_first.result c.print_by_first.ensures (λ a printed.
-      printed_elsewhere c.in_ok-own.own programs v.program v.shapes c.args.job.now c.args.batch.now a.text.items c.in_ok-own.ensures only printed);
+      printed_elsewhere c.in_ok-own.own programs v.program v.shapes c.args.jobs.now c.args.batch.now a.text.items c.in_ok-own.ensures only printed);
 }

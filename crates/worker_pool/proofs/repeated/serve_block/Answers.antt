@@ -19,7 +19,7 @@ returns-clause-part g c = λ old was.
 
 -- nothing more was written
 pub returns-in_default-clause-part : goal.returns-in_default-clause-part
-returns-in_default-clause-part g c = λ old was program shapes len runs.
+returns-in_default-clause-part g c = λ old was program shapes contexts runs.
     let first = c.args.first in
     let up : first ≤ first + c.args.count = omega arith in
-    (first, up, was program shapes len runs)
+    (first, up, was program shapes contexts runs)

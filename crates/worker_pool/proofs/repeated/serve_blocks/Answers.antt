@@ -19,5 +19,5 @@ returns-in_err-serve_block-clause-part g c =
     let part = c.in_err-serve_block.ensures.part (contents c.args.out.now) c.loop-first.invariant.written in
     let up : end ≤ c.args.count = omega arith in
     let p = err_from_is_err_and c.from_residual.result c.from_residual.ensures.1 in
-    rw (p.1, p.2) (λ program shapes len runs. part_of_more program shapes len end c.args.count (contents c.args.out.now)
-    (contents c.serve_block.new.out) _ up (part program shapes len runs))
+    rw (p.1, p.2) (λ program shapes contexts runs. part_of_more program shapes contexts end c.args.count (contents c.args.out.now)
+    (contents c.serve_block.new.out) _ up (part program shapes contexts runs))

@@ -7,7 +7,7 @@ abbrev pub invariant-loop-first : goal.invariant-loop-first
 invariant-loop-first g l = record {
   workers : length l.workers ≡ length l.fn.workers;
   within : l.first ≤ l.count;
-  written : HasWritten l.shared l.job l.first (g.W.Write.contents l.fn.out) (g.W.Write.contents l.out);
+  written : HasWritten l.shared l.jobs l.first (g.W.Write.contents l.fn.out) (g.W.Write.contents l.out);
 }
 
 abbrev pub decreases-loop-first : goal.decreases-loop-first

@@ -30,17 +30,17 @@ loop-index-preserved g c =
           c.in_ok-write_all-in-Some.ensures.bytes in (
             at.0 + b.0.count,
             pieces.1,
-            more_written c.args.self.now.shared.now c.args.self.now.job.now at.0 b.0 c.in-Some.text.items old (contents c.loop-index.out)
+            more_written c.args.self.now.shared.now c.args.self.now.jobs.now at.0 b.0 c.in-Some.text.items old (contents c.loop-index.out)
                 (contents c.write_all.new.self) pieces.0 (c.requires.right k b.0 (Some c.in-Some.text) b.1 text) at.2 wrote,
           );
     }
 
 pub returns-in-None-clause-part : goal.returns-in-None-clause-part
-returns-in-None-clause-part g c = λ first end old are was program shapes len runs.
+returns-in-None-clause-part g c = λ first end old are was program shapes contexts runs.
     let at = c.loop-index.invariant.kept first end old are was in (
       at.0,
       batches_up at.0 end (drop c.loop-index.index c.args.batches.now) at.1,
-      at.2 program shapes len runs,
+      at.2 program shapes contexts runs,
     )
 
 pub returns-clause-written : goal.returns-clause-written
@@ -48,4 +48,4 @@ returns-clause-written g c = λ first end old are was.
     let at = c.loop-index.invariant.kept first end old are was in
     let none = drop_of_length-le c.args.batches.now {i = c.loop-index.index} (omega (arith, c.requires.long)) in
     let same : at.0 ≡ end = subst (λ (bs : List Batch). AreBatches at.0 bs end) none at.1 in
-    subst (λ (n : ℕ). HasWritten c.args.self.now.shared.now c.args.self.now.job.now n old (g.W.Write.contents c.loop-index.out)) same at.2
+    subst (λ (n : ℕ). HasWritten c.args.self.now.shared.now c.args.self.now.jobs.now n old (g.W.Write.contents c.loop-index.out)) same at.2

@@ -1,0 +1,106 @@
+-- Contexts that were read so far, of lines and of bytes.
+use Rattle.std.proofs.Common.{◌≡◌, ℕ, ◌+◌, ◌*◌, ◌%◌, ◌<◌, List, [], ◌∷◌, ◌++◌, All, length, map, flat_map, refl, sym, ap, subst, ◌∙◌, arith}
+use Rattle.std.proofs.Common.{append_assoc, append-nil, length-append}
+use Rattle.std.specs.Prelude.{Option, Some, None}
+use Rattle.std.proofs.Math.Nat.{mul-mod_left}
+use Rattle.std.proofs.lemmas.Grind.{flat_map-append}
+use Rattle.std.proofs.lemmas.List.{map-append}
+use Rattle.std.proofs.lemmas.List.Elements.{All-append, All-cons, All-head, All-nil, All-tail}
+use Rattle.script_stream.specs.Lines.{lines_of}
+use Rattle.program_files.specs.Contexts.{context_in, AreInLines, ArePacked}
+
+-- the contexts of the lines before the rest
+abbrev pub AreReadTo : ℕ → List ℕ → List ℕ → List (List ℕ) → Type 0
+AreReadTo len bytes rest contexts =
+    map (context_in len) (lines_of bytes) ≡ map Some contexts ++ map (context_in len) (lines_of rest)
+
+some_no_none : (xs : List (List ℕ)) (front back : List (Option (List ℕ))) → map Some xs ≡ front ++ None ∷ back → ⊥
+some_no_none [] [] back e = cc
+some_no_none [] (y ∷ front) back e = cc
+some_no_none (x ∷ xs) [] back e = cc
+some_no_none (x ∷ xs) (y ∷ front) back e = some_no_none xs front back cc
+
+-- one line more
+pub line_read : (len : ℕ) (bytes rest line more : List ℕ) (contexts : List (List ℕ)) (context : List ℕ) →
+    AreReadTo len bytes rest contexts → lines_of rest ≡ line ∷ lines_of more → context_in len line ≡ Some context →
+    AreReadTo len bytes more (contexts ++ context ∷ [])
+line_read len bytes rest line more contexts context read cut says =
+    let behind = map (context_in len) (lines_of more) in
+    let next : map (context_in len) (lines_of rest) ≡ Some context ∷ behind =
+    ap (map (context_in len)) cut ∙ ap (λ (o : Option (List ℕ)). o ∷ behind) says in
+    let moved : map Some contexts ++ Some context ∷ behind ≡ map Some (contexts ++ context ∷ []) ++ behind =
+    sym (append_assoc (map Some contexts) (Some context ∷ []) behind)
+    ∙ ap (λ (l : List (Option (List ℕ))). l ++ behind) (sym (map-append Some contexts (context ∷ []))) in
+    read ∙ (ap (λ (l : List (Option (List ℕ))). map Some contexts ++ l) next ∙ moved)
+
+-- a line that says no context
+pub no_line : (len : ℕ) (bytes rest line more : List ℕ) (read contexts : List (List ℕ)) → AreReadTo len bytes rest read →
+    lines_of rest ≡ line ∷ lines_of more → context_in len line ≡ None → AreInLines len bytes contexts → ⊥
+no_line len bytes rest line more read contexts so cut none are =
+    let behind = map (context_in len) (lines_of more) in
+    let next : map (context_in len) (lines_of rest) ≡ None ∷ behind =
+    ap (map (context_in len)) cut ∙ ap (λ (o : Option (List ℕ)). o ∷ behind) none in
+    some_no_none contexts (map Some read) behind (sym are.each ∙ (so ∙ ap (λ (l : List (Option (List ℕ))). map Some read ++ l) next))
+
+-- all lines
+pub all_read : (len : ℕ) (bytes rest : List ℕ) (contexts : List (List ℕ)) → rest ≡ [] → AreReadTo len bytes rest contexts →
+    map (context_in len) (lines_of bytes) ≡ map Some contexts
+all_read len bytes rest contexts end read =
+    read ∙ (ap (λ (r : List ℕ). map Some contexts ++ map (context_in len) (lines_of r)) end ∙ append-nil (map Some contexts))
+
+no_some : (contexts : List (List ℕ)) → map Some contexts ≡ [] → 0 < length contexts → ⊥
+no_some [] e more = omega (arith, more)
+no_some (x ∷ contexts) e more = cc
+
+-- no line
+pub no_lines : (len : ℕ) (bytes rest : List ℕ) (contexts : List (List ℕ)) → rest ≡ [] → AreReadTo len bytes rest [] → AreInLines len bytes contexts → ⊥
+no_lines len bytes rest contexts end read are = no_some contexts (sym are.each ∙ all_read len bytes rest [] end read) are.some
+
+-- contexts of so many bytes each before the rest, which is a whole number of them
+pub record ArePackedTo (len : ℕ) (bytes rest : List ℕ) (contexts : List (List ℕ)) : Type 0 where
+  pub together : bytes ≡ flat_map (λ context. context) contexts ++ rest
+  pub each : All (λ context. length context ≡ len) contexts
+  pub whole : length rest % len ≡ 0
+
+-- one context more
+pub context_read : (len : ℕ) (bytes rest context more : List ℕ) (contexts : List (List ℕ)) → ArePackedTo len bytes rest contexts →
+    rest ≡ context ++ more → length context ≡ len → length more % len ≡ 0 → ArePackedTo len bytes more (contexts ++ context ∷ [])
+context_read len bytes rest context more contexts so cut long whole =
+    let front = flat_map (λ (c : List ℕ). c) contexts in
+    let joined : flat_map (λ (c : List ℕ). c) (contexts ++ context ∷ []) ≡ front ++ context =
+    flat_map-append (λ (c : List ℕ). c) contexts (context ∷ []) ∙ ap (λ (l : List ℕ). front ++ l) (append-nil context) in
+    record {
+      together = so.together ∙ (ap (λ (l : List ℕ). front ++ l) cut ∙ (sym (append_assoc front context more)
+          ∙ ap (λ (l : List ℕ). l ++ more) (sym joined)));
+      each = All-append (λ c. length c ≡ len) contexts (context ∷ []) so.each (All-cons (λ c. length c ≡ len) context [] long (All-nil (λ c. length c ≡ len)));
+      whole = whole;
+    }
+
+-- so many contexts have so many bytes
+pub packed_length : (len : ℕ) (contexts : List (List ℕ)) → All (λ context. length context ≡ len) contexts →
+    length (flat_map (λ (context : List ℕ). context) contexts) ≡ length contexts * len
+packed_length len [] each = refl
+packed_length len (c ∷ contexts) each =
+    let here : length c ≡ len = All-head (λ x. length x ≡ len) c contexts each in
+    let rest : length (flat_map (λ (x : List ℕ). x) contexts) ≡ length contexts * len =
+    packed_length len contexts (All-tail (λ x. length x ≡ len) c contexts each) in
+    let both : length (c ++ flat_map (λ (x : List ℕ). x) contexts) ≡ length c + length (flat_map (λ (x : List ℕ). x) contexts) =
+    length-append c (flat_map (λ (x : List ℕ). x) contexts) in
+    both ∙ (ap (λ (n : ℕ). n + length (flat_map (λ (x : List ℕ). x) contexts)) here ∙ ap (λ (n : ℕ). len + n) rest)
+
+-- the bytes of contexts are a whole number of them
+pub packed_whole : (len : ℕ) (bytes : List ℕ) (contexts : List (List ℕ)) → ArePacked len bytes contexts → length bytes % len ≡ 0
+packed_whole len bytes contexts are =
+    ap (λ (n : ℕ). n % len) (ap (λ (l : List ℕ). length l) are.together ∙ packed_length len contexts are.each) ∙ mul-mod_left (length contexts) len
+
+-- contexts of no bytes have none
+pub packed_none : (bytes : List ℕ) (contexts : List (List ℕ)) → ArePacked 0 bytes contexts → ⊥
+packed_none bytes contexts are =
+    let none : length bytes ≡ length contexts * 0 = ap (λ (l : List ℕ). length l) are.together ∙ packed_length 0 contexts are.each in
+    omega (arith, none, are.some)
+
+-- there are contexts where there are bytes
+pub packed_some : (bytes : List ℕ) (contexts : List (List ℕ)) → bytes ≡ flat_map (λ (context : List ℕ). context) contexts →
+    0 < length bytes → 0 < length contexts
+packed_some bytes [] e more = absurd (omega (arith, ap (λ (l : List ℕ). length l) e, more))
+packed_some bytes (c ∷ contexts) e more = omega arith
