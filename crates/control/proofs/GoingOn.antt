@@ -1,4 +1,4 @@
--- Texts that go on from their beginnings.
+-- Texts that begin with others.
 use Rattle.std.proofs.Common.{◌≡◌, ◌∙◌, List, ℕ, [], ◌++◌, sym, ap, append-nil, append_assoc}
 use Rattle.std.specs.Prelude.{Result, Ok, Err, OnErr}
 use Rattle.script_lines.specs.ReplyText.{GoesOn}

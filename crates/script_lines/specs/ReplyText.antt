@@ -11,7 +11,7 @@ use Rattle.bpf_model.specs.declared.stat.Stat.{Stat}
 use Rattle.script_lines.specs.declared.reply.Reply.{Reply}
 use Rattle.script_lines.specs.declared.reply.Reply.TheVariants as replies
 
--- The text goes on from its beginning.
+-- The later text begins with the earlier.
 abbrev pub GoesOn : List ℕ → List ℕ → Type 0
 GoesOn before after = (more : List ℕ) × (after ≡ before ++ more)
 

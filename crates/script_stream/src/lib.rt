@@ -1,4 +1,4 @@
-//! Scripts as streams: the lines of a reader are answered one after another, and the answers written.
+//! Scripts as streams: the lines of a reader are answered one after another, and the answers written. An observer looks on.
 //!
 //! Memory is bounded: a line is at most `LINE_BYTES` bytes without its line feed, and what is answered is
 //! written out before more is read. So a host that waits for an answer before it writes its next line has it,
