@@ -1,8 +1,6 @@
 //! How many slots the block of each instruction takes.
-ghost use Rattle.std.specs.Prelude.{◌≡◌, ℕ, ◌+◌, ◌≤◌, ◌^◌, List, length};
-ghost use Rattle.classic_program.specs.Machine.{size_of};
-ghost use Rattle.classic_program.specs.declared.insn.ClassicInsn.TheVariants.{Load as LoadInsn};
-ghost use Rattle.classic.specs.Layout.{load_bytes, fetch, check, load_indexed, load_block, alu_block, skip_block, test_block, slots, IsInWindow, keeps as keeps_of};
+ghost use Rattle.std.specs.Prelude.{◌≡◌, ℕ, ◌≤◌, ◌^◌, List, length};
+ghost use Rattle.classic.specs.Layout.{load_bytes, fetch, check, load_indexed, load_block, alu_block, skip_block, test_block, slots};
 ghost use Rattle.classic_program.specs.declared.insn.ClassicReg.{ClassicReg as RegisterName};
 ghost use Rattle.bpf_model.specs.declared.insn.Operand.{Operand as SecondOperand};
 
@@ -13,7 +11,7 @@ use classic_program::{
     ClassicInsn, ClassicOp, ClassicOperand, ClassicReg, ClassicTest, Data, Datum, LoadSize,
 };
 
-/// A load of bytes one by one.
+/// How many slots a load of bytes one by one takes.
 fn bytes_slots(size: LoadSize) -> usize
     ensures value { (dst base at : ℕ) → length (load_bytes dst base at size) ≡ result }
     ensures bound { result ≤ 10 }
@@ -25,7 +23,7 @@ fn bytes_slots(size: LoadSize) -> usize
     }
 }
 
-/// A load of bytes by the widest loads that are aligned, and a swap unless their order is kept.
+/// How many a load takes by the widest loads that are aligned, with a swap unless the order of bytes is kept.
 fn fetch_slots(keep: bool, at: usize, size: LoadSize) -> usize
     ensures value { (dst base : ℕ) → length (fetch keep dst base at size) ≡ result }
     ensures bound { result ≤ 10 }
@@ -46,7 +44,7 @@ fn fetch_slots(keep: bool, at: usize, size: LoadSize) -> usize
     }
 }
 
-/// The test that so many bytes were captured.
+/// How many the test takes that so many bytes were captured.
 fn check_slots(note: &Note, end: usize) -> usize
     ensures value { (tail start : ℕ) → length (check tail note.now start end) ≡ result }
     ensures bound { result ≤ 1 }
@@ -54,7 +52,7 @@ fn check_slots(note: &Note, end: usize) -> usize
     usize::from(end > note.captured)
 }
 
-/// A load of bytes at `X + at`.
+/// How many a load of bytes at `X + at` takes.
 fn indexed_slots(note: &Note, keep: bool, size: LoadSize, at: usize) -> usize
     requires { at ≤ 2 ^ 32 }
     ensures value { (tail start : ℕ) (into : RegisterName)
@@ -68,7 +66,7 @@ fn indexed_slots(note: &Note, keep: bool, size: LoadSize, at: usize) -> usize
     }
 }
 
-/// The block of a load.
+/// How many the block of a load takes.
 fn load_slots(kind: Data, note: &Note, into: ClassicReg, datum: &Datum) -> usize
     ensures value { length (load_block kind 0 note.now into datum.now 0) ≡ result }
     ensures bound { result ≤ 16 }
@@ -90,7 +88,7 @@ fn load_slots(kind: Data, note: &Note, into: ClassicReg, datum: &Datum) -> usize
     }
 }
 
-/// The block of an operation.
+/// How many the block of an operation takes.
 fn alu_slots(op: ClassicOp, operand: ClassicOperand) -> usize
     ensures value { length (alu_block 0 op operand 0) ≡ result }
     ensures bound { result ≤ 2 }
@@ -101,7 +99,7 @@ fn alu_slots(op: ClassicOp, operand: ClassicOperand) -> usize
     }
 }
 
-/// A jump that skips so many blocks.
+/// How many a jump takes that skips so many blocks.
 fn skip_slots(skip: usize) -> usize
     ensures value { (start : ℕ) (behind : List ℕ) → length (skip_block start skip behind) ≡ result }
     ensures bound { result ≤ 1 }
@@ -109,7 +107,7 @@ fn skip_slots(skip: usize) -> usize
     usize::from(skip != 0)
 }
 
-/// A test that skips so many blocks on either side.
+/// How many a test takes that skips so many blocks on either side.
 fn test_slots(test: ClassicTest, if_true: usize, if_false: usize) -> usize
     ensures value { (operand : SecondOperand) (start : ℕ) (behind : List ℕ)
         → length (test_block test operand if_true if_false start behind) ≡ result }
@@ -117,9 +115,7 @@ fn test_slots(test: ClassicTest, if_true: usize, if_false: usize) -> usize
 {
     if if_true == if_false {
         skip_slots(if_true)
-    } else if if_false == 0 {
-        1
-    } else if if_true == 0 && opposite_for(test).is_some() {
+    } else if if_false == 0 || (if_true == 0 && opposite_for(test).is_some()) {
         1
     } else {
         2

@@ -17,7 +17,7 @@ use crate::sock_filter::SockFilter;
 use std::alloc::Global;
 
 /// The most instructions of a program.
-const MOST_INSTRUCTIONS: usize = 4096;
+pub(crate) const MOST_INSTRUCTIONS: usize = 4096;
 
 fn divides_by_zero(instruction: &ClassicInsn) -> bool
     ensures { result ≡ divides_by_0 instruction.now }

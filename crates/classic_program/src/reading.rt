@@ -5,6 +5,7 @@ ghost use Rattle.classic_program.specs.declared.sock_filter.SockFilter.{SockFilt
 ghost use Rattle.classic_program.specs.ReadFaults.{IsLinesFault, IsListingFault};
 ghost use Rattle.classic_program.specs.Reading.{filter_at, filters_in, filter_in, number_below as number_below_of, parts_at, parts_left, HasLines, IsListing};
 
+use crate::checking::MOST_INSTRUCTIONS;
 use crate::fault::ReadFault;
 use crate::sock_filter::SockFilter;
 use script_lines::number_of;
@@ -85,9 +86,6 @@ fn filter_of(line: &[u8]) -> Option<SockFilter>
     })
 }
 
-/// For so many instructions at most room is made before they are read.
-const RESERVED: u64 = 4096;
-
 /// So many lines, an instruction each.
 fn read_lines(alloc: Global, count: u64, lines: Option<&[u8]>) -> Result<Vec<SockFilter>, ReadFault>
     ensures found { IfOk result (λ v. HasLines count (parts_left 10 lines.entry) v.items) }
@@ -95,7 +93,7 @@ fn read_lines(alloc: Global, count: u64, lines: Option<&[u8]>) -> Result<Vec<Soc
         IfErr result (λ e. e ≡ Memory) }
     ensures fault { IfErr result (IsLinesFault count (parts_left 10 lines.entry)) }
 {
-    let mut filters = Vec::with_capacity(alloc, count.min(RESERVED) as usize)?;
+    let mut filters = Vec::with_capacity(alloc, count.min(MOST_INSTRUCTIONS as u64) as usize)?;
     let mut rest = lines;
     for _ in 0..count {
         let Some(bytes) = rest else {

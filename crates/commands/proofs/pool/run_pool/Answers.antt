@@ -3,9 +3,11 @@ use Rattle.std.proofs.lemmas.Option.{IfSome_then}
 use Rattle.program_files.specs.Verdicts.{memory_number}
 use Rattle.job_queue.specs.declared.fault.PoolFault.TheVariants.{Lost}
 use Rattle.job_queue.specs.Faults.{pool_fault_number}
-use Rattle.commands.specs.declared.refusal.CommandRefusal.TheVariants.{File, Pool}
+use Rattle.commands.specs.declared.refusal.CommandRefusal.TheVariants.{Event, File, Pool}
 use Rattle.commands.specs.Refusals.{command_number}
-use Rattle.commands.proofs.Pooled.{not_so, pool_told, pool_written, so_written}
+use Rattle.worker_pool.specs.Outcomes.{contexts_of}
+use Rattle.bpf_model.specs.declared.event.EventRefusal.TheVariants.{BadContext}
+use Rattle.commands.proofs.Pooled.{contexts_told, not_so, pool_told, pool_written, so_written}
 use Rattle.commands.proofs.pool.run_pool.Goals as goal
 
 pub returns-in-Err-program_of-clause-refused : goal.returns-in-Err-program_of-clause-refused
@@ -26,9 +28,23 @@ returns-in-Ok-run_program-clause-pooled g c zero =
     let contents = g.W.Write.contents in
     let last = so_written c.write_entries.result c.write_status.result c.write_status.ensures zero c.write_entries.ensures in
     IfSome_then (g.R.Read.remaining c.args.input.now) c.in-Ok.ensures
-    (λ bytes holds. pool_written bytes p.program p.shapes p.ctx_len c.args.size.count c.in-Ok-run_program.entries
-    (contents c.args.out.now) (contents c.run_program.new.out) (contents c.write_entries.new.out)
-    (c.in-Ok-program_of.ensures.found bytes holds) c.in-Ok-run_program.ensures.written last)
+    (λ bytes holds. pool_written c.args.named.now c.args.given.now bytes p.program p.shapes p.ctx_len c.args.size.count
+    c.in-Ok-run_program.entries (contexts_of c.in-Ok-contexts_for.contexts.items) (contents c.args.out.now) (contents c.run_program.new.out)
+    (contents c.write_entries.new.out) (c.in-Ok-program_of.ensures.found bytes holds) c.in-Ok-contexts_for.ensures.found
+    c.in-Ok-run_program.ensures.written last)
+
+pub returns-in-Err-contexts_for-clause-refused : goal.returns-in-Err-contexts_for-clause-refused
+returns-in-Err-contexts_for-clause-refused g c one =
+    let p = c.in-Ok-program_of.program.verified in
+    let known = c.report_contexts.ensures.refused one in
+    IfSome_then (g.R.Read.remaining c.args.input.now) c.in-Ok.ensures
+    (λ bytes holds. (
+      Event BadContext,
+      (λ e. cc),
+      (λ e. cc),
+      contexts_told c.args.named.now c.args.given.now c.args.size.workers c.args.size.count bytes p.program p.shapes p.ctx_len
+          (c.in-Ok-program_of.ensures.found bytes holds) (c.in-Err-contexts_for.ensures.fault known),
+    ))
 
 pub returns-in-Err-Pool-clause-refused : goal.returns-in-Err-Pool-clause-refused
 returns-in-Err-Pool-clause-refused g c one =
@@ -41,6 +57,6 @@ returns-in-Err-Pool-clause-refused g c one =
       v,
       not_so (command_number v ≡ memory_number) c.report_size.result told.memory one,
       not_so (command_number v ≡ pool_fault_number Lost) c.report_size.result told.lost one,
-      pool_told c.args.size.workers c.args.size.count bytes p.program p.shapes p.ctx_len c.in-Err-Pool.fault
+      pool_told c.args.named.now c.args.given.now c.args.size.workers c.args.size.count bytes p.program p.shapes p.ctx_len c.in-Err-Pool.fault
           (c.in-Ok-program_of.ensures.found bytes holds) fault,
     ))
