@@ -1,8 +1,9 @@
 -- Contexts that were read so far, of lines and of bytes.
-use Rattle.std.proofs.Common.{◌≡◌, ℕ, ◌+◌, ◌*◌, ◌%◌, ◌<◌, List, [], ◌∷◌, ◌++◌, All, length, map, flat_map, refl, sym, ap, subst, ◌∙◌, arith}
-use Rattle.std.proofs.Common.{append_assoc, append-nil, length-append}
+use Rattle.std.proofs.Common.{◌≡◌, ℕ, ◌+◌, ◌*◌, ◌%◌, ◌<◌, ◌≤◌, List, [], ◌∷◌, ◌++◌, All, length, map, flat_map, sym, ap, ◌∙◌, arith}
+use Rattle.std.proofs.Common.{inl, inr, append_assoc, append-nil, length-append}
 use Rattle.std.specs.Prelude.{Option, Some, None}
-use Rattle.std.proofs.Math.Nat.{mul-mod_left}
+use Rattle.std.proofs.Math.Nat.{mod-eq_of_lt, mul-mod_left, suc-mul, zero-mul}
+use Rattle.std.proofs.lemmas.Bool.Decides.{leb_tells}
 use Rattle.std.proofs.lemmas.Grind.{flat_map-append}
 use Rattle.std.proofs.lemmas.List.{map-append}
 use Rattle.std.proofs.lemmas.List.Elements.{All-append, All-cons, All-head, All-nil, All-tail}
@@ -79,14 +80,15 @@ context_read len bytes rest context more contexts so cut long whole =
 -- so many contexts have so many bytes
 pub packed_length : (len : ℕ) (contexts : List (List ℕ)) → All (λ context. length context ≡ len) contexts →
     length (flat_map (λ (context : List ℕ). context) contexts) ≡ length contexts * len
-packed_length len [] each = refl
+packed_length len [] each = sym (zero-mul len)
 packed_length len (c ∷ contexts) each =
     let here : length c ≡ len = All-head (λ x. length x ≡ len) c contexts each in
     let rest : length (flat_map (λ (x : List ℕ). x) contexts) ≡ length contexts * len =
     packed_length len contexts (All-tail (λ x. length x ≡ len) c contexts each) in
     let both : length (c ++ flat_map (λ (x : List ℕ). x) contexts) ≡ length c + length (flat_map (λ (x : List ℕ). x) contexts) =
     length-append c (flat_map (λ (x : List ℕ). x) contexts) in
-    both ∙ (ap (λ (n : ℕ). n + length (flat_map (λ (x : List ℕ). x) contexts)) here ∙ ap (λ (n : ℕ). len + n) rest)
+    let sum : length c + length (flat_map (λ (x : List ℕ). x) contexts) ≡ length contexts * len + len = omega (arith, here, rest) in
+    both ∙ (sum ∙ sym (suc-mul (length contexts) len))
 
 -- the bytes of contexts are a whole number of them
 pub packed_whole : (len : ℕ) (bytes : List ℕ) (contexts : List (List ℕ)) → ArePacked len bytes contexts → length bytes % len ≡ 0
@@ -104,3 +106,10 @@ pub packed_some : (bytes : List ℕ) (contexts : List (List ℕ)) → bytes ≡ 
     0 < length bytes → 0 < length contexts
 packed_some bytes [] e more = absurd (omega (arith, ap (λ (l : List ℕ). length l) e, more))
 packed_some bytes (c ∷ contexts) e more = omega arith
+
+-- where bytes are left that are a whole number of contexts, one is left
+pub one_is_left : (len n : ℕ) → 0 < n → n % len ≡ 0 → len ≤ n
+one_is_left len n some whole = elim (leb_tells len n) [
+  | inl fits ↦ fits.1
+  | inr short ↦ absurd (let same : n % len ≡ n = mod-eq_of_lt short.1 in omega (arith, some, sym same ∙ whole))
+]

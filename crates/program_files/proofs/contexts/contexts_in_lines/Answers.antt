@@ -1,0 +1,10 @@
+use Rattle.std.proofs.Common.{ℕ, map}
+use Rattle.arrayvec.specs.ArrayVec.{ArrayVec}
+use Rattle.program_files.proofs.ContextLists.{no_line}
+use Rattle.program_files.proofs.contexts.contexts_in_lines.Goals as goal
+
+pub returns-in_default-clause-fault : goal.returns-in_default-clause-fault
+returns-in_default-clause-fault c = λ known contexts are.
+    no_line c.args.len c.args.bytes.now c.loop-rest.rest.now c.first_line.result.0.now c.first_line.result.1.now
+    (map (λ (x : ArrayVec ℕ). x.items) c.loop-rest.contexts.items) contexts c.loop-rest.invariant c.first_line.ensures.lines
+    c.in_default.ensures.none are
