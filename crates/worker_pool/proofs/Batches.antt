@@ -4,6 +4,7 @@ use Rattle.std.specs.Prelude.{Option, Some, slice_get, IfSome}
 use Rattle.std.specs.Io.KnownBytes.{Appends, Keeps}
 use Rattle.std.proofs.KnownBytes.{Appends-kept, Appends-trans}
 use Rattle.std.proofs.lemmas.List.{length-map}
+use Rattle.std.proofs.lemmas.Option.{get_or_from_slice_get, slice_get_within}
 use Rattle.bpf_model.specs.declared.insn.Insn.{Insn}
 use Rattle.bpf_model.specs.declared.limits.MapShape.{MapShape}
 use Rattle.bpf_model.proofs.Lists.{get-map}
@@ -16,18 +17,13 @@ use Rattle.worker_pool.specs.declared.job.Outcome.{Outcome}
 use Rattle.worker_pool.specs.declared.job.Trail.{Trail}
 use Rattle.worker_pool.specs.Batches.{AreBatches, AreOutcomes, HasWritten, IsPrinted}
 use Rattle.worker_pool.specs.Lines.{job_lines}
-use Rattle.worker_pool.specs.Outcomes.{AreJobsOn, AreOutcomesOn, AreRunsOf, IsOnly, IsOutcomeOn}
+use Rattle.worker_pool.specs.Outcomes.{AreJobsOn, AreOutcomesOn, IsOnly, IsOutcomeOn}
 use Rattle.worker_pool.specs.declared.fault.RunFault.{RunFault}
 use Rattle.worker_pool.specs.declared.fault.RunFault.TheVariants.{Pool, Write}
 use Rattle.worker_pool.specs.Runs.{WritesPart}
 use Rattle.worker_pool.specs.Trails.{IsServedJob}
 use Rattle.worker_pool.proofs.JobLines.{job_lines-append}
 use Rattle.worker_pool.proofs.Outcomes.{fits_outcome}
-
--- jobs on contexts are of the only program
-pub runs_of : (program : List Insn) (shapes : List MapShape) (contexts : List (List ℕ)) (programs : List Checked) (jobs : List Job) →
-    IsOnly program shapes programs → AreJobsOn contexts jobs → AreRunsOf program shapes contexts programs jobs
-runs_of program shapes contexts programs jobs only are = record { only = only; are = are }
 
 -- outcomes of jobs, and of those after them
 pub outcomes_append : (program : List Insn) (shapes : List MapShape) (contexts : List (List ℕ)) (n m : ℕ) (xs ys : List Outcome) → m ≡ n + length xs →
@@ -90,7 +86,9 @@ module _ (programs : List Checked) (jobs : List Job) where
   more_outcomes first k outcomes job u v report are taken served = (
     (let l : length (outcomes ++ report.outcome ∷ []) ≡ k + 1 = omega (arith, length-append outcomes (report.outcome ∷ []), are.0) in l),
     λ program shapes contexts runs.
-        let prog : job.prog ≡ 0 = runs.are.progs ((first + k) % length jobs) job taken in
+        let at = (first + k) % length jobs in
+        let prog : job.prog ≡ 0 =
+        subst (λ (j : Job). j.prog ≡ 0) (get_or_from_slice_get jobs at job job taken) (runs.are.progs at job (slice_get_within jobs at job taken)) in
         let one : IsOutcomeOn program shapes job.ctx.items report.outcome =
         fits_outcome programs program shapes runs.only job report.outcome report.trail prog served.fits in
         let context = context_taken contexts jobs (first + k) job runs.are taken in

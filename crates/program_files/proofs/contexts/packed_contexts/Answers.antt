@@ -1,4 +1,4 @@
-use Rattle.std.proofs.Common.{rules, ◌≡◌, ◌<◌, ◌+◌, ◌%◌, ◌++◌, ◌∷◌, [], ℕ, List, length, map, drop, take, ap, arith, subst, sym, ◌∙◌}
+use Rattle.std.proofs.Common.{rules, ◌≡◌, ◌<◌, ◌+◌, ◌%◌, ◌++◌, ◌∷◌, [], ℕ, List, length, map, take, ap, arith, subst, sym, ◌∙◌}
 use Rattle.std.proofs.Math.Nat.{add-mod_right}
 use Rattle.std.proofs.lemmas.List.{map-append, take-append-drop}
 use Rattle.arrayvec.specs.ArrayVec.{ArrayVec}
@@ -25,10 +25,15 @@ loop-rest-preserved c =
     let more = c.split_at.result.1.now in
     let some : 0 < length rest = search rules in
     let cut : rest ≡ front ++ more =
-    sym (ap (λ (l : List ℕ). l ++ more) c.split_at.ensures.front ∙ (ap (λ (l : List ℕ). take len rest ++ l) c.split_at.ensures.back ∙ take-append-drop len rest)) in
+    sym (ap (λ (l : List ℕ). l ++ more) c.split_at.ensures.front
+    ∙ (ap (λ (l : List ℕ). take len rest ++ l) c.split_at.ensures.back ∙ take-append-drop len rest)) in
     let whole : length more % len ≡ 0 =
-    sym (add-mod_right (length more) len) ∙ (ap (λ (n : ℕ). n % len) (omega (arith, c.split_at.ensures.back_len, one_is_left len (length rest) some c.loop-rest.invariant.whole)) ∙ c.loop-rest.invariant.whole) in
+    let fits = one_is_left len (length rest) some c.loop-rest.invariant.whole in
+    let sum : length more + len ≡ length rest = omega (arith, c.split_at.ensures.back_len, fits) in
+    sym (add-mod_right (length more) len) ∙ (ap (λ (n : ℕ). n % len) sum ∙ c.loop-rest.invariant.whole) in
     let read = map items c.loop-rest.contexts.items in
     let pushed : map items c.push.new.self.items ≡ read ++ front ∷ [] =
-    ap (map items) c.in_ok-push.ensures.items ∙ (map-append items c.loop-rest.contexts.items (c.array_of.result ∷ []) ∙ ap (λ (l : List ℕ). read ++ l ∷ []) c.array_of.ensures) in
-    subst (ArePackedTo len c.args.bytes.now more) (sym pushed) (context_read len c.args.bytes.now rest front more read c.loop-rest.invariant cut c.split_at.ensures.front_len whole)
+    ap (map items) c.in_ok-push.ensures.items ∙ (map-append items c.loop-rest.contexts.items (c.array_of.result ∷ [])
+    ∙ ap (λ (l : List ℕ). read ++ l ∷ []) c.array_of.ensures) in
+    subst (ArePackedTo len c.args.bytes.now more) (sym pushed)
+    (context_read len c.args.bytes.now rest front more read c.loop-rest.invariant cut c.split_at.ensures.front_len whole)

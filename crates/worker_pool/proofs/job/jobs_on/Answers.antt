@@ -1,10 +1,6 @@
-use Rattle.std.proofs.Common.{◌≡◌, ℕ, List, [], ◌∷◌, All, arith, length, map, refl, sym, ap, ◌∙◌, length-append}
-use Rattle.std.proofs.lemmas.List.{take_all}
-use Rattle.std.proofs.lemmas.List.Elements.{All-append, All-cons, All-nil}
-use Rattle.arrayvec.specs.ArrayVec.{ArrayVec}
-use Rattle.bpf_model.proofs.Lists.{map-take}
+use Rattle.std.proofs.Common.{◌≡◌, arith, refl}
+use Rattle.std.proofs.lemmas.List.Elements.{All-nil}
 use Rattle.worker_pool.specs.declared.job.Job.{Job}
-use Rattle.worker_pool.specs.Outcomes.{contexts_of}
 use Rattle.worker_pool.proofs.job.jobs_on.Goals as goal
 
 pub loop-index-init : goal.loop-index-init

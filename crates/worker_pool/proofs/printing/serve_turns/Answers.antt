@@ -1,6 +1,8 @@
-use Rattle.std.proofs.Common.{arith, subst, ◌∙◌, List}
+use Rattle.std.proofs.Common.{◌≡◌, ◌+◌, ◌%◌, arith, length, refl, subst, ◌∙◌, List}
 use Rattle.verifier.specs.Checked.{Checked}
-use Rattle.std.proofs.lemmas.Option.{slice_get-get_or}
+use Rattle.std.specs.Prelude.{Some, slice_get}
+use Rattle.std.proofs.Math.Nat.{mod-lt}
+use Rattle.std.proofs.lemmas.Option.{slice_get_read}
 use Rattle.worker_pool.specs.TrailLemmas.{later_again, later_same}
 use Rattle.worker_pool.specs.Trails.{IsServedJob}
 use Rattle.worker_pool.proofs.Batches.{more_outcomes, no_outcomes}
@@ -19,12 +21,15 @@ loop-index-preserved g c =
     let was = c.loop-index.invariant in
     let served = c.serve_held-outcome.ensures in
     let report = c.serve_held-outcome.result in
-    let job = c.jobs-index.result in
+    let job = c.index-jobs-batch.result in
+    let jobs = c.args.jobs.now in
+    let at = (c.args.batch.now.first + c.loop-index.index) % length jobs in
+    let taken : slice_get jobs at ≡ Some job = slice_get_read jobs (length jobs) at job refl (mod-lt _ c.requires.some) c.index-jobs-batch.is in
     let right = subst (λ (p : List Checked). IsServedJob p c.loop-index.worker c.serve_held-outcome.new.worker job report) was.held_is served.fits in
     record {
       held_is = served.programs ∙ was.held_is;
       later = later_again c.args.worker.now c.loop-index.worker c.serve_held-outcome.new.worker was.later served.later;
       room = omega (arith, c.push_reserved.ensures.capacity, was.room);
       are = rw c.push_reserved.ensures.items (more_outcomes c.args.shared.now c.args.jobs.now c.args.batch.now.first c.loop-index.index
-          c.loop-index.outcomes.items job c.loop-index.worker c.serve_held-outcome.new.worker report was.are c.jobs-index.ensures right);
+          c.loop-index.outcomes.items job c.loop-index.worker c.serve_held-outcome.new.worker report was.are taken right);
     }
