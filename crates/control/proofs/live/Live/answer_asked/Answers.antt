@@ -1,8 +1,7 @@
-use Rattle.std.proofs.Common.{◌≡◌, ◌∙◌, List, [], ◌∷◌, ◌++◌, ap, refl}
+use Rattle.std.proofs.Common.{◌∙◌, [], ◌∷◌, ◌++◌, ap, refl}
 use Rattle.std.specs.Prelude.{slice_get, None}
 use Rattle.bpf_model.specs.View.{WorldView}
 use Rattle.bpf_model.specs.EventNumbers.{event_refusal_number}
-use Rattle.script_lines.specs.declared.reply.Reply.{Reply}
 use Rattle.script_lines.specs.declared.reply.Reply.TheVariants as replies
 use Rattle.script_lines.specs.declared.reply.Reply.TheVariants.{End}
 use Rattle.control.specs.declared.asked.Asked.TheVariants as asked
