@@ -86,11 +86,14 @@ impl Session {
         match self {
             Session::Live(live) => live.answer(command, out),
             Session::Setup(setup) => {
-                let left = answer_setup(alloc, setup, command, out)?;
-                if let Some(live) = left.0 {
-                    *self = Session::Live(live);
+                let (made, refusal) = answer_setup(alloc, setup, command, out)?;
+                match made {
+                    Some(live) => {
+                        *self = Session::Live(live);
+                        Ok(refusal)
+                    }
+                    None => Ok(refusal),
                 }
-                Ok(left.1)
             }
         }
     }

@@ -1,8 +1,7 @@
-use Rattle.std.proofs.Common.{◌≡◌, ◌∙◌, List, [], ◌∷◌, ◌++◌, ap, refl}
+use Rattle.std.proofs.Common.{◌∙◌, [], ◌∷◌, ◌++◌, ap, refl}
 use Rattle.std.specs.Prelude.{slice_get, None}
 use Rattle.bpf_model.specs.View.{WorldView}
 use Rattle.bpf_model.specs.EventNumbers.{event_refusal_number}
-use Rattle.script_lines.specs.declared.reply.Reply.{Reply}
 use Rattle.script_lines.specs.declared.reply.Reply.TheVariants as replies
 use Rattle.script_lines.specs.declared.reply.Reply.TheVariants.{End}
 use Rattle.control.specs.declared.asked.Asked.TheVariants as asked
@@ -75,7 +74,7 @@ returns-in-Counts-clause-ok c =
 
 pub returns-in_ok-write_elements-in-Elements-clause-ok : goal.returns-in_ok-write_elements-in-Elements-clause-ok
 returns-in_ok-write_elements-in-Elements-clause-ok c =
-    let e = c.in_ok-write_elements.ensures.ok in
+    let e = c.in_ok-write_elements-in-Elements.ensures.ok in
     replied c.args.self.now c.args.asked (asked.Elements c.in-Elements.map) [] (e.0 ++ End ∷ [])
     c.args.self.now.world c.args.out.now.items c.write_elements.new.out.items None c.in-Elements.is
     (nothing c.args.self.now.world c.is_world.ensures) (e.0, e.1, refl, refl, refl)
