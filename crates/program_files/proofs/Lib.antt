@@ -7,3 +7,9 @@ pub mod Files
 pub mod Slots
 pub mod Cuts
 pub mod Texts
+pub mod SlotBytes
+pub mod Written
+pub mod SlotLines
+pub mod EndedLines
+pub mod ContextLine
+pub mod Heads

@@ -1,5 +1,6 @@
 pub mod Checks
 pub mod Files
+pub mod Heads
 pub mod Verdicts
 pub mod Lines
 pub mod Loaded

@@ -8,4 +8,5 @@ mod program_file;
 mod words;
 
 pub use fault::LoadFault;
-pub use program_file::{HEADING, ProgramFile, load};
+pub use lines_read::Stage;
+pub use program_file::{HEADING, ProgramFile, load, read_lines};
