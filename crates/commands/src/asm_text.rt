@@ -1,6 +1,8 @@
 //! The command that assembles a text.
-ghost use Rattle.std.specs.Prelude.{◌≡◌, ◌≢◌, ◌⊎◌, IfSome};
+ghost use Rattle.std.specs.Prelude.{◌≡◌, ◌≢◌, ◌⊎◌, IfOk, IfSome};
 ghost use Rattle.std.specs.Io.KnownBytes.{Appends};
+ghost use Rattle.bpf_model.specs.Spelling.{text};
+ghost use Rattle.program_files.specs.Heads.{file_text};
 ghost use Rattle.commands.specs.Asm.{WritesCode, written_as};
 ghost use Rattle.commands.specs.Sources.{IsRefusedText};
 
@@ -15,20 +17,21 @@ use bpf_model::CTX_BYTES;
 use command_words::AsmForm;
 use explanations::write_meaning;
 use program_files::{LoadFault, read_text};
-use program_texts::{Assembled, TextFault, explain_text, has_head, make_code};
-use std::alloc::Global;
+use program_texts::{Assembled, TextFault, assemble_text, explain_text, has_head};
+use std::alloc::{AllocError, Global};
 use std::io;
 use std::io::{Read, Write};
 use text_likeness::write_line;
 
-/// What is written in this form.
-fn text_in(made: &Assembled, form: AsmForm) -> &[u8]
-    ensures { result.now ≡ written_as form made.now.lines.items made.now.code.items made.now.file.items }
+/// What is asked for of what was made of a text. The error is that memory ran out.
+fn text_in(alloc: Global, form: AsmForm, made: Assembled) -> Result<Vec<u8>, AllocError>
+    ensures { IfOk result (λ t. t.items ≡ written_as form made.lines.items (text made.program)
+        (file_text made.head.text made.program)) }
 {
     match form {
-        AsmForm::Bytes => &made.code,
-        AsmForm::File => &made.file,
-        AsmForm::Plain => &made.lines,
+        AsmForm::Bytes => made.code(alloc),
+        AsmForm::File => made.file(alloc),
+        AsmForm::Plain => Ok(made.lines),
     }
 }
 
@@ -163,13 +166,25 @@ fn warn_of_head<E: Write>(bytes: &[u8], form: AsmForm, err: &mut E) {
     }
 }
 
-/// Writes what is asked for of what was made of a text, and answers the status.
-fn write_made<W: Write, E: Write>(form: AsmForm, made: &Assembled, out: &mut W, err: &mut E) -> u8
+/// Writes what is asked for of what was made of a text, of which this was read, and answers the status.
+fn write_made<W: Write, E: Write>(
+    alloc: Global,
+    form: AsmForm,
+    in_words: bool,
+    read: &[u8],
+    made: Assembled,
+    out: &mut W,
+    err: &mut E,
+) -> u8
     ensures status { (result ≡ 0) ⊎ (result ≡ 3) }
     ensures written { result ≡ 0 → Appends (W.contents out.old) (W.contents out.new)
-        (written_as form made.now.lines.items made.now.code.items made.now.file.items) }
+        (written_as form made.lines.items (text made.program) (file_text made.head.text made.program)) }
 {
-    write_status(err, write_text(out, text_in(made, form)))
+    let Ok(text) = text_in(alloc, form, made) else {
+        return out_of_memory(err, in_words);
+    };
+    warn_of_head(read, form, err);
+    write_status(err, write_text(out, &text))
 }
 
 /// Writes the bytes of the program whose text the input is, or what else is asked for.
@@ -194,11 +209,8 @@ pub fn run_asm<R: Read, W: Write, E: Write>(
     let Ok(source) = source_of(alloc, &bytes) else {
         return out_of_memory(err, in_words);
     };
-    match make_code(alloc, &source.read) {
-        Ok(made) => {
-            warn_of_head(&source.read, form, err);
-            write_made(form, &made, out, err)
-        }
+    match assemble_text(alloc, &source.read) {
+        Ok(made) => write_made(alloc, form, in_words, &source.read, made, out, err),
         Err(why) => report_text_fault(alloc, &bytes, &source, &why, in_words, err),
     }
 }

@@ -2,7 +2,10 @@
 ghost use Rattle.std.specs.Prelude.{◌≡◌, ◌⊎◌, List, ℕ, false, IfSome, OnOk};
 ghost use Rattle.std.specs.Io.KnownBytes.{Appends};
 ghost use Rattle.program_files.specs.Files.{HoldsBytes};
-ghost use Rattle.commands.specs.Outputs.{RefusesFile, accepted_line, accepted_text, WritesAccepted};
+ghost use Rattle.program_files.specs.Heads.{file_text};
+ghost use Rattle.program_files.specs.Verdicts.{memory_number, verdict_number};
+ghost use Rattle.commands.specs.declared.refusal.CommandRefusal.TheVariants.{File as FileRefusal};
+ghost use Rattle.commands.specs.Outputs.{RefusesFile, TellsVerdict, accepted_line, accepted_text, WritesAccepted};
 ghost use Rattle.commands.specs.Checking.{RefusesText, WritesAcceptedText, RefusesChecked, WritesChecked};
 
 use crate::asm_text::report_text_fault;
@@ -12,9 +15,9 @@ use crate::report::{MadeOf, Telling, out_of_memory, report_in_form};
 use crate::source_text::{SourceText, source_of};
 use crate::streams::{read_failed_in_words, write_status};
 use command_words::Checking;
-use program_files::{Accepted, FileBytes, check, read_file, read_text};
-use program_texts::{Assembled, make_code};
-use std::alloc::Global;
+use program_files::{Accepted, FileBytes, Verdict, check, check_source, read_file, read_text};
+use program_texts::{Assembled, assemble_text};
+use std::alloc::{AllocError, Global};
 use std::io;
 use std::io::{Read, Write};
 use verifier_log::write_log;
@@ -43,12 +46,21 @@ fn write_accepted<W: Write>(json: bool, out: &mut W, accepted: &Accepted) -> io:
     }
 }
 
-/// Checks the program that a file says, which may have been made of a text of instructions.
+/// How a refusal is told.
+fn telling_of(how: &Checking) -> Telling
+    ensures { result.json ≡ how.now.json }
+{
+    Telling {
+        explain: how.explain,
+        json: how.json,
+    }
+}
+
+/// Checks the program that a file says.
 fn check_file<W: Write, E: Write>(
     alloc: Global,
     how: &Checking,
     file: &FileBytes,
-    text: Option<MadeOf<'_>>,
     out: &mut W,
     err: &mut E,
 ) -> u8
@@ -65,19 +77,8 @@ fn check_file<W: Write, E: Write>(
     match check(alloc, file) {
         Ok(accepted) => write_status(err, write_accepted(how.json, out, &accepted)),
         Err(verdict) => {
-            let form = Telling {
-                explain: how.explain,
-                json: how.json,
-            };
-            report_in_form(
-                alloc,
-                file,
-                text,
-                CommandRefusal::File(verdict),
-                form,
-                out,
-                err,
-            )
+            let refusal = CommandRefusal::File(verdict);
+            report_in_form(alloc, file, None, refusal, telling_of(how), out, err)
         }
     }
 }
@@ -98,12 +99,63 @@ fn check_program_file<R: Read, W: Write, E: Write>(
     ensures silent { result ≡ 1 → how.now.json ≡ false → out.new ≡ out.old }
 {
     match read_file(alloc, input) {
-        Ok(file) => check_file(alloc, how, &file, None, out, err),
+        Ok(file) => check_file(alloc, how, &file, out, err),
         Err(error) => read_failed_in_words(err, &error, how.explain),
     }
 }
 
-/// Checks the program file that was made of a text.
+/// The program file that a text makes of which this was read, where words about it are asked for; else an empty one. It is
+/// for words alone.
+fn file_for_words(alloc: Global, how: &Checking, read: &[u8]) -> Result<FileBytes, AllocError> {
+    if !how.explain {
+        return Ok(FileBytes::Whole(Vec::new(alloc)));
+    }
+    let Ok(made) = assemble_text(alloc, read) else {
+        return Err(AllocError);
+    };
+    Ok(FileBytes::Whole(made.file(alloc)?))
+}
+
+/// Tells why the program of a text, whose plain lines these are, is refused.
+fn report_made<W: Write, E: Write>(
+    alloc: Global,
+    how: &Checking,
+    source: &SourceText,
+    lines: &[u8],
+    verdict: Verdict,
+    out: &mut W,
+    err: &mut E,
+) -> u8
+    ensures status { (result ≡ 1) ⊎ (result ≡ 3) }
+    ensures memory { verdict_number verdict ≡ memory_number → result ≡ 3 }
+    ensures told { result ≡ 1 → TellsVerdict how.now.json (FileRefusal verdict) (W.contents out.old) (W.contents out.new) }
+    ensures silent { result ≡ 1 → how.now.json ≡ false → out.new ≡ out.old }
+{
+    let Ok(lines) = source.lines_of(alloc, lines) else {
+        return out_of_memory(err, how.explain);
+    };
+    let Ok(file) = file_for_words(alloc, how, &source.read) else {
+        return out_of_memory(err, how.explain);
+    };
+    let text = MadeOf {
+        text: &source.fed,
+        lines: &lines,
+    };
+    let refusal = CommandRefusal::File(verdict);
+    report_in_form(alloc, &file, Some(text), refusal, telling_of(how), out, err)
+}
+
+/// Writes what the verifier knows of a text's program, where that is asked for.
+fn log_made<E: Write>(alloc: Global, how: &Checking, made: &Assembled, err: &mut E) {
+    if !how.log {
+        return;
+    }
+    if let Ok(file) = made.file(alloc) {
+        let _ = write_log(alloc, &FileBytes::Whole(file), err);
+    }
+}
+
+/// Checks the program that was made of a text, with the maps and the context of its head.
 fn check_made<W: Write, E: Write>(
     alloc: Global,
     how: &Checking,
@@ -113,21 +165,18 @@ fn check_made<W: Write, E: Write>(
     err: &mut E,
 ) -> u8
     ensures status { (result ≡ 0) ⊎ (result ≡ 1) ⊎ (result ≡ 3) }
-    ensures accepted { result ≡ 0 →
-        WritesAccepted how.now.json (W.contents out.old) (W.contents out.new) made.file.items }
-    ensures refused { result ≡ 1 →
-        RefusesFile how.now.json (W.contents out.old) (W.contents out.new) made.file.items }
+    // The program file that the text makes would be answered so. It is not made.
+    ensures accepted { result ≡ 0 → WritesAccepted how.now.json (W.contents out.old) (W.contents out.new)
+        (file_text made.head.text made.program) }
+    ensures refused { result ≡ 1 → RefusesFile how.now.json (W.contents out.old) (W.contents out.new)
+        (file_text made.head.text made.program) }
     ensures silent { result ≡ 1 → how.now.json ≡ false → out.new ≡ out.old }
 {
-    let Ok(lines) = source.lines_of(alloc, &made.lines) else {
-        return out_of_memory(err, how.explain);
-    };
-    let text = MadeOf {
-        text: &source.fed,
-        lines: &lines,
-    };
-    let file = FileBytes::Whole(made.file);
-    check_file(alloc, how, &file, Some(text), out, err)
+    log_made(alloc, how, &made, err);
+    match check_source(alloc, made.head.source(made.program)) {
+        Ok(accepted) => write_status(err, write_accepted(how.json, out, &accepted)),
+        Err(verdict) => report_made(alloc, how, source, &made.lines, verdict, out, err),
+    }
 }
 
 /// Checks the program whose text the input is.
@@ -152,7 +201,7 @@ fn check_text<R: Read, W: Write, E: Write>(
     let Ok(source) = source_of(alloc, &bytes) else {
         return out_of_memory(err, how.explain);
     };
-    match make_code(alloc, &source.read) {
+    match assemble_text(alloc, &source.read) {
         Ok(made) => check_made(alloc, how, &source, made, out, err),
         Err(why) => report_text_fault(alloc, &bytes, &source, &why, how.explain, err),
     }

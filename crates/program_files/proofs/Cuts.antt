@@ -66,3 +66,30 @@ first_line [] rest h = refl
 first_line (b ∷ front) rest h =
     cond-false (b == 10) _ _ (All-head (λ x. (x == 10) ≡ false) b front h) ∙
     ap (onto_first b) (first_line front rest (All-tail (λ x. (x == 10) ≡ false) b front h))
+
+-- lines and what stands behind them
+
+onto_behind : (b : ℕ) (lines more : List (List ℕ)) → lines ≢ [] → onto_first b (lines ++ more) ≡ onto_first b lines ++ more
+onto_behind b [] more some = absurd (some refl)
+onto_behind b (line ∷ lines) more some = refl
+
+pub ended_some : (front : List ℕ) → lines_of (front ++ 10 ∷ []) ≢ []
+ended_some [] h = cc
+ended_some (b ∷ front) h =
+    elim (b == 10) as (λ (v : Bool).
+    cond v ([] ∷ lines_of (front ++ 10 ∷ [])) (onto_first b (lines_of (front ++ 10 ∷ []))) ≡ [] → ⊥) [
+      | true ↦ (λ (e : [] ∷ lines_of (front ++ 10 ∷ []) ≡ []). cc)
+      | false ↦ (λ e. onto_some b (lines_of (front ++ 10 ∷ [])) e)
+    ] h
+
+-- what stands behind a line feed has lines of its own
+pub lines_behind : (front after : List ℕ) → lines_of (front ++ 10 ∷ after) ≡ lines_of (front ++ 10 ∷ []) ++ lines_of after
+lines_behind [] after = refl
+lines_behind (b ∷ front) after =
+    let here = lines_of (front ++ 10 ∷ []) in
+    ap (λ ls. cond (b == 10) ([] ∷ ls) (onto_first b ls)) (lines_behind front after)
+    ∙ (elim (b == 10) as (λ (v : Bool). cond v ([] ∷ (here ++ lines_of after)) (onto_first b (here ++ lines_of after))
+    ≡ cond v ([] ∷ here) (onto_first b here) ++ lines_of after) [
+      | true ↦ refl
+      | false ↦ onto_behind b here (lines_of after) (ended_some front)
+    ])

@@ -17,7 +17,8 @@ use Rattle.std.specs.Fmt.{option_append}
 use Rattle.program_files.specs.ProgramFile.{FileContent, IsContextLine, AreHashWords, AreArrayWords, AreShapeWords}
 use Rattle.program_files.specs.ProgramFile.{IsMapLine, AddsMap, AddMaps, IsProgramFile, IsFileBeginning, IsWrongAfter}
 use Rattle.program_files.specs.ProgramFile.{IsFirstWrongLine}
-use Rattle.program_files.specs.Stages.{AreMapsSoFar, IsAtStage}
+use Rattle.program_files.specs.Heads.{AreHeadLines}
+use Rattle.program_files.specs.Stages.{IsAtStage}
 use Rattle.program_files.proofs.Slots.{joined_nil}
 use Rattle.program_files.specs.declared.loader.fault.LineFault.{LineFault}
 use Rattle.program_files.specs.declared.loader.lines_read.Stage.{Stage}
@@ -128,7 +129,7 @@ same_map line name name2 s t h k =
     let w = same_line (codes "map") name name2 h.numbers k.numbers (sym h.words ∙ k.words) in
     (w.0, same_shape_words s t k.numbers (subst (λ (n : List (List ℕ)). AreShapeWords n s) w.1 h.shape_is) k.shape_is)
 
-same_registry : (r s : RegistryView) → r.names ≡ s.names → r.maps ≡ s.maps → r ≡ s
+pub same_registry : (r s : RegistryView) → r.names ≡ s.names → r.maps ≡ s.maps → r ≡ s
 same_registry r s a b =
     ap (λ (n : List (List ℕ)). let z : RegistryView = record { names = n; maps = r.maps } in z) a
     ∙ ap (λ n. let z : RegistryView = record { names = s.names; maps = n } in z) b
@@ -201,7 +202,7 @@ none_begins = (
   },
 )
 
-pub maps_begin : (lines : List (List ℕ)) (context : ℕ) (r : RegistryView) → AreMapsSoFar lines context r →
+pub maps_begin : (lines : List (List ℕ)) (context : ℕ) (r : RegistryView) → AreHeadLines lines context r →
     IsProgramFile (lines ++ code_line ∷ []) (record { ctx_len = context; registry = r; code = [] })
 maps_begin lines context r h = record {
   first = h.first;
@@ -227,8 +228,8 @@ context_wrong lines line e wrong b =
     let whole : (line ∷ b.0) ≡ h.first ∷ (h.map_lines ++ code_line ∷ h.code_lines) = sym (ap (λ ls. (ls ++ line ∷ []) ++ b.0) e) ∙ h.parts in
     wrong b.1.ctx_len (subst (λ l. IsContextLine l b.1.ctx_len) (sym (heads line h.first b.0 _ whole)) h.context)
 
-pub map_taken : (lines : List (List ℕ)) (line : List ℕ) (n : ℕ) (r s : RegistryView) → AreMapsSoFar lines n r →
-    AddsMap r line s → AreMapsSoFar (lines ++ line ∷ []) n s
+pub map_taken : (lines : List (List ℕ)) (line : List ℕ) (n : ℕ) (r s : RegistryView) → AreHeadLines lines n r →
+    AddsMap r line s → AreHeadLines (lines ++ line ∷ []) n s
 map_taken lines line n r s h k = record {
   first = h.first;
   map_lines = h.map_lines ++ line ∷ [];
@@ -237,7 +238,7 @@ map_taken lines line n r s h k = record {
   maps = add_last no_maps r s h.map_lines line h.maps k;
 }
 
-pub map_wrong : (lines : List (List ℕ)) (line : List ℕ) (n : ℕ) (r : RegistryView) → AreMapsSoFar lines n r →
+pub map_wrong : (lines : List (List ℕ)) (line : List ℕ) (n : ℕ) (r : RegistryView) → AreHeadLines lines n r →
     line ≢ code_line → ((s : RegistryView) → ¬ (AddsMap r line s)) → ¬ (IsFileBeginning (lines ++ line ∷ []))
 map_wrong lines line n r h other wrong b =
     let k = b.2 in
@@ -302,7 +303,7 @@ slots_wrong lines line c h e b =
 pub none_unfinished : (lines : List (List ℕ)) → lines ≡ [] → (c : FileContent) → ¬ (IsProgramFile lines c)
 none_unfinished lines e c h = cons-nil h.first _ (sym (sym e ∙ h.parts))
 
-pub maps_unfinished : (lines : List (List ℕ)) (n : ℕ) (r : RegistryView) → AreMapsSoFar lines n r → (c : FileContent) → ¬ (IsProgramFile lines c)
+pub maps_unfinished : (lines : List (List ℕ)) (n : ℕ) (r : RegistryView) → AreHeadLines lines n r → (c : FileContent) → ¬ (IsProgramFile lines c)
 maps_unfinished lines n r h c k = no_code_line no_maps r h.map_lines k.map_lines k.code_lines h.maps (tails h.first k.first _ _ (sym h.parts ∙ k.parts))
 
 -- a file says one thing

@@ -8,3 +8,9 @@ pub mod Slots
 pub mod Cuts
 pub mod Texts
 pub mod ContextLists
+pub mod SlotBytes
+pub mod Written
+pub mod SlotLines
+pub mod EndedLines
+pub mod ContextLine
+pub mod Heads

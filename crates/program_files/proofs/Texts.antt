@@ -7,9 +7,9 @@ use Rattle.std.proofs.lemmas.Bool.Decides.{nat_tests}
 use Rattle.std.proofs.lemmas.List.{length-append}
 use Rattle.script_stream.specs.Lines.{lines_of}
 use Rattle.program_files.specs.ProgramFile.{FileContent, heading, IsProgramFile, IsFileBeginning, IsFirstWrongLine, FileSays, IsWrongFile, IsLoadFault}
-use Rattle.program_files.specs.Stages.{HasNoByte, HasLoaded}
+use Rattle.program_files.specs.Stages.{HasNoByte, HasLoaded, HasWrongLine, IsLineFault}
 use Rattle.program_files.specs.declared.loader.lines_read.LinesRead.{LinesRead}
-use Rattle.program_files.specs.Loaded.{loaded_content}
+use Rattle.program_files.specs.Loaded.{loaded_content, IsFileTextFault}
 use Rattle.program_files.specs.declared.loader.fault.LoadFault.{LoadFault}
 use Rattle.program_files.specs.declared.loader.fault.LoadFault.TheVariants.{BadFile, Memory}
 use Rattle.program_files.specs.declared.loader.program_file.ProgramFile.{ProgramFile}
@@ -57,34 +57,48 @@ pub wrong_line : (text rest line more : List ℕ) (old : LinesRead) (number : �
     (lines_of rest ≡ line ∷ lines_of more) × (length more < length rest) →
     ((lines : List (List ℕ)) → HasLoaded lines old → IsFileBeginning lines) →
     ((lines : List (List ℕ)) → HasLoaded lines old → ¬ (IsFileBeginning (lines ++ line ∷ []))) →
-    IsFirstWrongLine (lines_of text) number
+    HasWrongLine (lines_of text) number
 wrong_line text rest line more old number h cut begins wrong = record {
   front = h.front;
-  rest = line ∷ lines_of more;
+  line = line;
+  rest = lines_of more;
   parts = h.lines ∙ ap (λ ls. h.front ++ ls) cut.0;
   number = h.number_is;
   begins = begins h.front h.loaded;
   wrong = wrong h.front h.loaded;
 }
 
-pub whole_file : (text rest : List ℕ) (old : LinesRead) (number : ℕ) (content : FileContent) →
-    IsReadTo text rest old number → rest ≡ [] → ((lines : List (List ℕ)) → HasLoaded lines old →
-    IsProgramFile lines content) → IsProgramFile (lines_of text) content
-whole_file text rest old number content h e finished =
-    subst (λ ls. IsProgramFile ls content) (sym (h.lines ∙ ap (λ r. h.front ++ lines_of r) e ∙ append-nil h.front)) (finished h.front h.loaded)
+all_lines : (text rest : List ℕ) (old : LinesRead) (number : ℕ) (h : IsReadTo text rest old number) → rest ≡ [] → lines_of text ≡ h.front
+all_lines text rest old number h e = h.lines ∙ ap (λ r. h.front ++ lines_of r) e ∙ append-nil h.front
 
-pub short_file : (text rest : List ℕ) (old : LinesRead) (number : ℕ) → IsReadTo text rest old number → rest ≡ [] →
-    ((lines : List (List ℕ)) → HasLoaded lines old → IsFileBeginning lines) →
-    ((lines : List (List ℕ)) → HasLoaded lines old → (content : FileContent) → ¬ (IsProgramFile lines content)) →
-    IsFirstWrongLine (lines_of text) number
-short_file text rest old number h e begins unfinished = record {
-  front = h.front;
+-- where nothing is left, all lines are read
+pub all_read : (text rest : List ℕ) (old : LinesRead) (number : ℕ) → IsReadTo text rest old number → rest ≡ [] → HasLoaded (lines_of text) old
+all_read text rest old number h e = subst (λ ls. HasLoaded ls old) (sym (all_lines text rest old number h e)) h.loaded
+
+pub number_behind : (text rest : List ℕ) (old : LinesRead) (number : ℕ) → IsReadTo text rest old number → rest ≡ [] → number ≡ length (lines_of text) + 2
+number_behind text rest old number h e = h.number_is ∙ ap (λ ls. length ls + 2) (sym (all_lines text rest old number h e))
+
+pub short_file : (text : List ℕ) (number : ℕ) → number ≡ length (lines_of text) + 2 → IsFileBeginning (lines_of text) →
+    ((content : FileContent) → ¬ (IsProgramFile (lines_of text) content)) → IsFirstWrongLine (lines_of text) number
+short_file text number e begins unfinished = record {
+  front = lines_of text;
   rest = [];
-  parts = h.lines ∙ ap (λ r. h.front ++ lines_of r) e;
-  number = h.number_is;
-  begins = begins h.front h.loaded;
-  wrong = unfinished h.front h.loaded;
+  parts = sym (append-nil (lines_of text));
+  number = e;
+  begins = begins;
+  wrong = unfinished;
 }
+
+pub line_fault : (text : List ℕ) (e : LoadFault) → IsLineFault (lines_of text) e → IsFileTextFault text e
+line_fault text (BadFile n) h = record {
+  front = h.front;
+  rest = h.line ∷ h.rest;
+  parts = h.parts;
+  number = h.number;
+  begins = h.begins;
+  wrong = h.wrong;
+}
+line_fault text Memory h = tt
 
 -- a file says one thing, or has a wrong line
 

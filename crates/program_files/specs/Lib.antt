@@ -1,6 +1,7 @@
 pub mod Checks
 pub mod Contexts
 pub mod Files
+pub mod Heads
 pub mod Verdicts
 pub mod Lines
 pub mod Loaded

@@ -1,9 +1,10 @@
 //! What is answered of a program file that is checked or disassembled.
-ghost use Rattle.std.specs.Prelude.{List, ℕ, IfOk, IfErr, string_bytes};
+ghost use Rattle.std.specs.Prelude.{List, ℕ, ◌≤◌, IfOk, IfErr, string_bytes};
+ghost use Rattle.bpf_model.specs.declared.limits.TheConstants.{CTX_BYTES};
 ghost use Rattle.program_files.specs.Files.{HoldsBytes};
-ghost use Rattle.program_files.specs.Checks.{IsAcceptedFile, IsTextOf, IsDecodeRefusal, IsCheckedRefusal};
+ghost use Rattle.program_files.specs.Checks.{IsAcceptedFile, IsSourceOf, IsTextOf, IsDecodeRefusal, IsCheckedRefusal};
 
-use crate::program_file::FileBytes;
+use crate::program_file::{FileBytes, Source};
 use crate::verdict::Verdict;
 use crate::verified_file::verify_for_maps;
 use disasm::disassemble;
@@ -14,6 +15,24 @@ use std::alloc::Global;
 pub struct Accepted {
     pub instructions: usize,
     pub slots: usize,
+}
+
+/// Verifies a program with its maps and its context.
+///
+/// Errors: what the verifier refuses, 20 to 39, with the slot; or want of memory, which is 13.
+pub fn check_source(alloc: Global, source: Source) -> Result<Accepted, Verdict>
+    requires { source.ctx_len ≤ CTX_BYTES }
+    ensures accepted { (bytes : List ℕ) → IsSourceOf bytes source →
+        IfOk result (IsAcceptedFile bytes) }
+    ensures refused { (bytes : List ℕ) → IsSourceOf bytes source →
+        IfErr result (IsCheckedRefusal bytes) }
+{
+    let verified = verify_for_maps(alloc, source.program, &source.registry, source.ctx_len)?;
+    let program = verified.program();
+    Ok(Accepted {
+        instructions: program.len(),
+        slots: program.slot_count(),
+    })
 }
 
 /// Decodes and verifies a file's program.
@@ -29,12 +48,7 @@ pub fn check(alloc: Global, file: &FileBytes) -> Result<Accepted, Verdict>
         IfErr result (IsCheckedRefusal bytes) }
 {
     let source = file.source(alloc)?;
-    let verified = verify_for_maps(alloc, source.program, &source.registry, source.ctx_len)?;
-    let program = verified.program();
-    Ok(Accepted {
-        instructions: program.len(),
-        slots: program.slot_count(),
-    })
+    check_source(alloc, source)
 }
 
 /// The text of a file's program, which is not verified.

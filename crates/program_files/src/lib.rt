@@ -1,17 +1,21 @@
-//! Program files: read in bounded memory, decoded, verified with their maps and their context, and disassembled;
-//! and the verdict on each that is refused.
+//! Program files: read in bounded memory, decoded, verified with their maps and their context, and disassembled; the
+//! verdict on each that is refused; and written.
 #![tactic(auto)]
 
 mod contexts;
 mod file_check;
+mod head;
 mod loader;
 mod program_file;
 mod verdict;
 mod verified_file;
+mod writer;
 
 pub use crate::loader::{HEADING, LoadFault, ProgramFile, load};
 pub use contexts::{ContextsFault, contexts_in_lines, packed_contexts};
-pub use file_check::{Accepted, check, text_of};
+pub use file_check::{Accepted, check, check_source, text_of};
+pub use head::{Head, read_head};
 pub use program_file::{FileBytes, Source, read_file, read_text};
 pub use verdict::Verdict;
 pub use verified_file::{known_where_refused, shapes_of, verify_for_maps};
+pub use writer::{load_undoes_write, write_file};

@@ -8,5 +8,6 @@ mod program_file;
 mod words;
 
 pub use fault::LoadFault;
+pub use lines_read::Stage;
 pub(crate) use program_file::first_line;
-pub use program_file::{HEADING, ProgramFile, load};
+pub use program_file::{HEADING, ProgramFile, load, read_lines};

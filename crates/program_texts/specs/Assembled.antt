@@ -11,6 +11,7 @@ use Rattle.asm.specs.Faults.{statements_in, IsAsmFault}
 use Rattle.asm_source.specs.Maps.{index_in, maps_in}
 use Rattle.asm_source.specs.Plain.{plain}
 use Rattle.asm_source.specs.declared.fault.SourceFault.{SourceFault}
+use Rattle.program_files.specs.declared.loader.fault.LoadFault.{LoadFault}
 use Rattle.program_files.specs.declared.loader.fault.LoadFault.TheVariants as load_faults
 use Rattle.program_files.specs.ProgramFile.{FileContent, FileSays, IsLoadFault, heading}
 use Rattle.program_texts.specs.declared.assembly.TextFault.{TextFault}
@@ -96,6 +97,11 @@ pub record HasBadHead (bytes : List ℕ) : Type 0 where
   pub line : ℕ
   pub fault_is : IsLoadFault file (load_faults.BadFile line)
   pub in_head : line ≤ last_line head
+
+-- why the text's head makes no program file; that memory ran out may be said of any
+abbrev pub IsHeadRefusal : List ℕ → LoadFault → Type 0
+IsHeadRefusal bytes (load_faults.BadFile line) = HasBadHead bytes
+IsHeadRefusal bytes load_faults.Memory = Unit {0}
 
 -- why the bytes are no text of a program; that memory ran out may be said of any
 abbrev pub IsTextFault : List ℕ → TextFault → Type 0

@@ -1,17 +1,18 @@
 //! The text of a program, assembled.
 ghost use Rattle.std.specs.Prelude.{◌≡◌, Ok, IfOk, IfErr, map, option_copied};
-ghost use Rattle.bpf_model.specs.Spelling.{IsProgram};
+ghost use Rattle.bpf_model.specs.Spelling.{IsProgram, text};
 ghost use Rattle.disasm.specs.Text.{line_of};
 ghost use Rattle.asm.specs.Faults.{statements_in, IsAsmFault};
 ghost use Rattle.asm_source.specs.Faulty.{IsFaultOf};
+ghost use Rattle.program_files.specs.Heads.{file_text};
 ghost use Rattle.program_texts.specs.Assembled.{IsAssembled, IsTextFault, plain_below};
 
-use crate::heads::{Split, file_of, lines_in, lines_of, parts_of};
+use crate::heads::{Split, head_of, lines_in, lines_of, parts_of};
 use asm::{AsmFault, assemble};
 use asm_source::{SourceFault, maps_of, plain_of};
 use insn_codec::{Program, encode};
-use program_files::LoadFault;
-use std::alloc::Global;
+use program_files::{Head, LoadFault, write_file};
+use std::alloc::{AllocError, Global};
 use std::str;
 
 /// Why bytes are no text of a program. Lines are counted from 1.
@@ -29,12 +30,28 @@ pub enum TextFault {
     Memory,
 }
 
-/// The plain text of the instructions, the bytes of their program, and a program file of these.
+/// The plain text of the instructions, their program, and the head of its program file.
 #[derive(Drop)]
 pub struct Assembled {
     pub lines: Vec<u8>,
-    pub code: Vec<u8>,
-    pub file: Vec<u8>,
+    pub program: Program,
+    pub head: Head,
+}
+
+impl Assembled {
+    /// The bytes of the program. The error is that memory ran out.
+    pub fn code(&self, alloc: Global) -> Result<Vec<u8>, AllocError>
+        ensures { IfOk result (λ code. code.items ≡ text self.now.program) }
+    {
+        encode(alloc, &self.program)
+    }
+
+    /// The program file. The error is that memory ran out.
+    pub fn file(&self, alloc: Global) -> Result<Vec<u8>, AllocError>
+        ensures { IfOk result (λ file. file.items ≡ file_text self.now.head.text self.now.program) }
+    {
+        write_file(alloc, &self.head, &self.program)
+    }
 }
 
 /// The plain text of the instructions of a text.
@@ -65,15 +82,17 @@ fn program_of(alloc: Global, lines: &[u8]) -> Result<Program, AsmFault>
     }
 }
 
-/// Assembles a text: its plain text, its program's bytes, and the program file that the text's head makes of them.
+/// Assembles a text: its plain text, its program, and the head of the program file that it makes.
 ///
 /// Errors: the first of these, or `Memory` where memory runs out.
 /// - `NotUtf8`, with the first line that is not UTF-8.
 /// - `Unnamed`: a name of a line has no meaning, more than one, or is none.
 /// - `Flawed`: a line is no instruction, or they are too many, or there is none.
 /// - `BadHead`, with the line above `code` that is wrong.
-pub fn make_code(alloc: Global, bytes: &[u8]) -> Result<Assembled, TextFault>
-    ensures made { IfOk result (λ a. IsAssembled bytes.now a.lines.items a.code.items a.file.items) }
+pub fn assemble_text(alloc: Global, bytes: &[u8]) -> Result<Assembled, TextFault>
+    // What it makes: plain text, the bytes of the program, and the program file.
+    ensures made { IfOk result (λ a. IsAssembled bytes.now a.lines.items (text a.program)
+        (file_text a.head.text a.program)) }
     ensures fault { IfErr result (IsTextFault bytes.now) }
 {
     let text = match str::from_utf8(bytes) {
@@ -98,14 +117,19 @@ pub fn make_code(alloc: Global, bytes: &[u8]) -> Result<Assembled, TextFault>
         Err(AsmFault::Memory) => return Err(TextFault::Memory),
         Err(flaw) => return Err(TextFault::Flawed { lines: above, flaw }),
     };
-    let Ok(code) = encode(alloc, &program) else {
-        return Err(TextFault::Memory);
+    let head = match head_of(alloc, &parts) {
+        Ok(head) => head,
+        Err(LoadFault::BadFile { line }) => {
+            return Err(TextFault::BadHead {
+                line: line.saturating_sub(1),
+            });
+        }
+        Err(LoadFault::Memory) => return Err(TextFault::Memory),
     };
-    match file_of(alloc, parts.head, &code) {
-        Ok(file) => Ok(Assembled { lines, code, file }),
-        Err(LoadFault::BadFile { line }) => Err(TextFault::BadHead {
-            line: line.saturating_sub(1),
-        }),
-        Err(LoadFault::Memory) => Err(TextFault::Memory),
-    }
+    head.says(&program);
+    Ok(Assembled {
+        lines,
+        program,
+        head,
+    })
 }

@@ -1,11 +1,9 @@
-//! Program files made of a head and a program's bytes.
-ghost use Rattle.std.specs.Prelude.{◌≡◌, ◌++◌, ◌+◌, ◌≤◌, ◌==◌, List, ℕ, IfOk, IfErr, IsTrue, count_by, length, option_copied};
-ghost use Rattle.program_files.specs.ProgramFile.{FileContent, FileSays, IsLoadFault, heading};
-ghost use Rattle.program_files.specs.declared.loader.fault.LoadFault.TheVariants as load_faults;
-ghost use Rattle.program_texts.specs.Assembled.{IsSplit, IsFileOf, HasHead, code_line, head_or_none, last_line};
+//! The parts of a text: the head of a program file, and what stands below.
+ghost use Rattle.std.specs.Prelude.{◌≡◌, ◌++◌, ◌∷◌, [], ◌≤◌, ◌==◌, List, ℕ, IfOk, IfErr, count_by, length, option_copied};
+ghost use Rattle.program_texts.specs.Assembled.{IsSplit, IsHeadRefusal, head_or_none};
 
-use program_files::{HEADING, LoadFault, load};
-use std::alloc::{AllocError, Global};
+use program_files::{Head, LoadFault, read_head};
+use std::alloc::Global;
 use std::str;
 
 /// The line that stands between a head and what follows.
@@ -59,37 +57,6 @@ pub fn lines_in(bytes: &[u8]) -> usize
     lines
 }
 
-/// The number of a head's last line in a program file, whose first line is the heading.
-fn last_line(head: &str) -> usize
-    ensures { result ≡ count_by (λ b. b == 10) head.now + 2 }
-{
-    lines_in(head.as_bytes()) + 2
-}
-
-/// The slots of a program's bytes, a line of digits each.
-fn slots_of(alloc: Global, code: &[u8]) -> Result<Vec<u8>, AllocError> {
-    let mut slots = Vec::new(alloc);
-    let digits = hex::encode(alloc, code)?;
-    for slot in digits.as_bytes().chunks(16) {
-        slots.extend_from_slice(slot)?;
-        slots.push(b'\n')?;
-    }
-    Ok(slots)
-}
-
-/// The text of a program file: a head, and the slots of a program's bytes.
-pub fn text_of(alloc: Global, head: &str, code: &[u8]) -> Result<Vec<u8>, AllocError>
-    ensures { IfOk result (λ file. (slots : List ℕ)
-        × (file.items ≡ heading ++ (head.now ++ (code_line ++ slots)))) }
-{
-    let mut file = Vec::from_slice(alloc, HEADING)?;
-    file.extend_from_slice(head.as_bytes())?;
-    file.extend_from_slice(CODE_LINE.as_bytes())?;
-    let slots = slots_of(alloc, code)?;
-    file.extend_from_slice(slots.as_slice())?;
-    Ok(file)
-}
-
 /// The lines of a head, or those of a program file without maps for an empty context.
 pub fn lines_of<'a>(head: Option<&'a str>) -> &'a str
     ensures { result.now ≡ head_or_none (option_copied head.entry) }
@@ -100,34 +67,16 @@ pub fn lines_of<'a>(head: Option<&'a str>) -> &'a str
     }
 }
 
-/// Whether a program file says a program of these bytes.
-fn says(alloc: Global, file: &[u8], code: &[u8]) -> Result<bool, LoadFault>
-    ensures says { IfOk result (λ yes. IsTrue yes → (content : FileContent) × FileSays file.now content
-        × (content.code ≡ code.now)) }
-    ensures fault { IfErr result (IsLoadFault file.now) }
-{
-    let said = load(alloc, file)?;
-    Ok(said.code.as_slice() == code)
-}
-
-/// A program file with this head, or with none, that says a program of these bytes. What is made is read again, so that
-/// nothing is written that says otherwise.
+/// The head of the program file that a text of these parts makes: its own, or one without maps for an empty context.
 ///
 /// Errors: `BadFile` with the line of the head in the file, where no program file has the head; else `Memory`.
-pub fn file_of(alloc: Global, head: Option<&str>, code: &[u8]) -> Result<Vec<u8>, LoadFault>
-    ensures file { IfOk result (λ file. IsFileOf (option_copied head.entry) code.now file.items) }
-    ensures fault { IfErr result (λ e. (line : ℕ) → e ≡ load_faults.BadFile line →
-        (file : List ℕ) × HasHead (option_copied head.entry) file
-        × IsLoadFault file (load_faults.BadFile line)
-        × (line ≤ last_line (option_copied head.entry))) }
+pub fn head_of(alloc: Global, parts: &Split<'_>) -> Result<Head, LoadFault>
+    ensures text { IfOk result (λ h. h.text ≡ head_or_none (option_copied parts.now.head) ++ 10 ∷ []) }
+    ensures fault { (bytes : List ℕ) → IsSplit bytes (option_copied parts.now.head) parts.now.body.now →
+        IfErr result (IsHeadRefusal bytes) }
 {
-    let lines = lines_of(head);
-    let file = text_of(alloc, lines, code)?;
-    match says(alloc, &file, code) {
-        Ok(true) => Ok(file),
-        Err(LoadFault::BadFile { line }) if line <= last_line(lines) => Err(LoadFault::BadFile {
-            line,
-        }),
-        _ => Err(LoadFault::Memory),
+    match parts.head {
+        Some(head) => read_head(alloc, head.as_bytes()),
+        None => Ok(Head::without_maps(alloc, 0)?),
     }
 }

@@ -9,8 +9,8 @@ mod window;
 mod words;
 mod wrong_text;
 
-pub use assembly::{Assembled, TextFault, make_code};
-pub use heads::{Split, has_head, lines_in, parts_of, text_of};
+pub use assembly::{Assembled, TextFault, assemble_text};
+pub use heads::{Split, has_head, lines_in, parts_of};
 pub use source_line::write_source_line;
 pub use translation::{FilterFault, FilterFile, make_file};
 pub use words::explain_filter;

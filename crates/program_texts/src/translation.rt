@@ -1,16 +1,17 @@
 //! The program file of a classic program.
-ghost use Rattle.std.specs.Prelude.{◌≡◌, IfOk, IfErr, IsTrue};
+ghost use Rattle.std.specs.Prelude.{IfOk, IfErr};
+ghost use Rattle.bpf_model.specs.Spelling.{text};
 ghost use Rattle.program_texts.specs.Filters.{IsFileOfCode, IsFilterFault, IsFilterFile, IsListed};
 
-use crate::heads::{lines_in, text_of};
+use crate::heads::lines_in;
 use crate::window::load_beyond;
 use classic::{
     ClassicFault, Data, ReadFault, SockFilter, TranslateFault, check, read_filter_array,
     read_listing, translate,
 };
-use insn_codec::encode;
-use program_files::{LoadFault, load};
-use std::alloc::Global;
+use insn_codec::Program;
+use program_files::{Head, write_file};
+use std::alloc::{AllocError, Global};
 use std::str;
 
 /// Why bytes are no classic program, or have no program file.
@@ -37,39 +38,12 @@ pub struct FilterFile {
     pub beyond: Option<usize>,
 }
 
-/// The head of a program file for contexts of these data.
-fn head_for(kind: Data) -> &'static str {
-    match kind {
-        Data::Packet => "ctx 256",
-        Data::Seccomp => "ctx 64",
-    }
-}
-
-/// Whether a program file says a program of these bytes, without maps, on a context of these data.
-fn says(alloc: Global, file: &[u8], kind: Data, code: &[u8]) -> Result<bool, LoadFault>
-    ensures { IfOk result (λ yes. IsTrue yes → IsFileOfCode kind code.now file.now) }
+/// The file that says a program, without maps, on a context of these data.
+fn file_for(alloc: Global, kind: Data, program: &Program) -> Result<Vec<u8>, AllocError>
+    ensures { IfOk result (λ file. IsFileOfCode kind (text program.now) file.items) }
 {
-    let said = load(alloc, file)?;
-    Ok(
-        said.code.as_slice() == code
-            && said.ctx_len == kind.context_len()
-            && said.registry.len() == 0,
-    )
-}
-
-/// A program file that says a program of these bytes. What is made is read again, so that nothing is written that says
-/// otherwise.
-fn file_for(alloc: Global, kind: Data, code: &[u8]) -> Result<Vec<u8>, FilterFault>
-    ensures file { IfOk result (λ file. IsFileOfCode kind code.now file.items) }
-    ensures fault { IfErr result (λ e. e ≡ FilterFault.Memory) }
-{
-    let Ok(file) = text_of(alloc, head_for(kind), code) else {
-        return Err(FilterFault::Memory);
-    };
-    match says(alloc, &file, kind, code) {
-        Ok(true) => Ok(file),
-        _ => Err(FilterFault::Memory),
-    }
+    let head = Head::without_maps(alloc, kind.context_len())?;
+    write_file(alloc, &head, program)
 }
 
 /// The instructions that a text lists.
@@ -132,10 +106,9 @@ pub fn make_file(alloc: Global, kind: Data, bytes: &[u8]) -> Result<FilterFile, 
         Err(TranslateFault::Memory) => return Err(FilterFault::Memory),
         Err(fault) => return Err(FilterFault::Untranslated(fault)),
     };
-    let Ok(code) = encode(alloc, &translation) else {
+    let Ok(text) = file_for(alloc, kind, &translation) else {
         return Err(FilterFault::Memory);
     };
-    let text = file_for(alloc, kind, &code)?;
     let beyond = load_beyond(kind, program.instructions());
     Ok(FilterFile { text, beyond })
 }

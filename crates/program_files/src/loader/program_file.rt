@@ -4,6 +4,7 @@ ghost use Rattle.bpf_model.specs.declared.limits.TheConstants.{CTX_BYTES};
 ghost use Rattle.script_stream.specs.Lines.{lines_of};
 ghost use Rattle.program_files.specs.ProgramFile.{FileContent, IsProgramFile, FileSays, IsLoadFault};
 ghost use Rattle.program_files.specs.Loaded.{loaded_content, IsFileTextFault};
+ghost use Rattle.program_files.specs.Stages.{HasLoaded, IsLineFault};
 
 use crate::loader::fault::{LineFault, LoadFault};
 use crate::loader::lines_read::LinesRead;
@@ -38,11 +39,20 @@ pub(crate) fn first_line(text: &[u8]) -> (&[u8], &[u8])
     }
 }
 
-/// What the lines behind the heading say.
-fn load_text(alloc: Global, text: &[u8]) -> Result<ProgramFile, LoadFault>
+/// What the lines of a text say, which may go on.
+#[derive(Drop)]
+pub struct TextRead {
+    pub said: LinesRead,
+    /// The number of the line behind them, where that of the first is 2.
+    pub next: usize,
+}
+
+/// Reads the lines behind the heading.
+pub fn read_lines(alloc: Global, text: &[u8]) -> Result<TextRead, LoadFault>
     requires { length text.now + 8 < 2 ^ 64 }
-    ensures found { IfOk result (λ f. IsProgramFile (lines_of text.now) (loaded_content f)) }
-    ensures fault { IfErr result (IsFileTextFault text.now) }
+    ensures read { IfOk result (λ r. HasLoaded (lines_of text.now) r.said) }
+    ensures next { IfOk result (λ r. r.next ≡ length (lines_of text.now) + 2) }
+    ensures wrong { IfErr result (IsLineFault (lines_of text.now)) }
 {
     let mut loading = LinesRead::new(alloc);
     let mut rest = text;
@@ -58,10 +68,23 @@ fn load_text(alloc: Global, text: &[u8]) -> Result<ProgramFile, LoadFault>
         rest = more;
         number += 1;
     }
-    loading.begins();
-    match loading.finish() {
+    Ok(TextRead {
+        said: loading,
+        next: number,
+    })
+}
+
+/// What the lines behind the heading say.
+fn load_text(alloc: Global, text: &[u8]) -> Result<ProgramFile, LoadFault>
+    requires { length text.now + 8 < 2 ^ 64 }
+    ensures found { IfOk result (λ f. IsProgramFile (lines_of text.now) (loaded_content f)) }
+    ensures fault { IfErr result (IsFileTextFault text.now) }
+{
+    let read = read_lines(alloc, text)?;
+    read.said.begins();
+    match read.said.finish() {
         Some(file) => Ok(file),
-        None => Err(LoadFault::BadFile { line: number }),
+        None => Err(LoadFault::BadFile { line: read.next }),
     }
 }
 

@@ -1,6 +1,6 @@
 use Rattle.std.proofs.Common.{length}
 use Rattle.program_files.proofs.Texts.{IsReadTo}
-use Rattle.program_files.proofs.loader.program_file.load_text.Given as goal
+use Rattle.program_files.proofs.loader.program_file.read_lines.Given as goal
 
 abbrev pub invariant-loop-rest : goal.invariant-loop-rest
 invariant-loop-rest l = IsReadTo l.text l.rest l.loading l.number
