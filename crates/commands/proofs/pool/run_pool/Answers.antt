@@ -1,9 +1,10 @@
-use Rattle.std.proofs.Common.{◌≡◌, inl}
+use Rattle.std.proofs.Common.{◌≡◌, ℕ, List, inl, subst, sym}
 use Rattle.std.proofs.lemmas.Option.{IfSome_then}
 use Rattle.program_files.specs.Verdicts.{memory_number}
 use Rattle.job_queue.specs.declared.fault.PoolFault.TheVariants.{Lost}
 use Rattle.job_queue.specs.Faults.{pool_fault_number}
 use Rattle.commands.specs.declared.refusal.CommandRefusal.TheVariants.{Event, File, Pool}
+use Rattle.commands.specs.Contexts.{AreContexts}
 use Rattle.commands.specs.Refusals.{command_number}
 use Rattle.worker_pool.specs.Outcomes.{contexts_of}
 use Rattle.bpf_model.specs.declared.event.EventRefusal.TheVariants.{BadContext}
@@ -25,25 +26,35 @@ returns-in-Err-program_of-clause-refused g c one =
 pub returns-in-Ok-run_program-clause-pooled : goal.returns-in-Ok-run_program-clause-pooled
 returns-in-Ok-run_program-clause-pooled g c zero =
     let p = c.in-Ok-program_of.program.verified in
+    let named = c.args.named.now in
+    let given = c.args.given.now in
+    let read = c.in-Ok-contexts_for.contexts.items in
     let contents = g.W.Write.contents in
     let last = so_written c.write_entries.result c.write_status.result c.write_status.ensures zero c.write_entries.ensures in
+    let of_length : AreContexts named p.ctx_len given (contexts_of read) =
+    subst (λ (n : ℕ). AreContexts named n given (contexts_of read)) c.ctx_len-len.ensures.value c.in-Ok-contexts_for.ensures.found in
+    let are : AreContexts named p.ctx_len given (contexts_of c.deref.result.now) =
+    subst (λ cs. AreContexts named p.ctx_len given (contexts_of cs)) (sym c.deref.ensures.value) of_length in
     IfSome_then (g.R.Read.remaining c.args.input.now) c.in-Ok.ensures
-    (λ bytes holds. pool_written c.args.named.now c.args.given.now bytes p.program p.shapes p.ctx_len c.args.size.count
-    c.in-Ok-run_program.entries (contexts_of c.in-Ok-contexts_for.contexts.items) (contents c.args.out.now) (contents c.run_program.new.out)
-    (contents c.write_entries.new.out) (c.in-Ok-program_of.ensures.found bytes holds) c.in-Ok-contexts_for.ensures.found
-    c.in-Ok-run_program.ensures.written last)
+    (λ bytes holds. pool_written named given bytes p.program p.shapes p.ctx_len c.args.size.count c.in-Ok-run_program.entries
+    (contexts_of c.deref.result.now) (contents c.args.out.now) (contents c.run_program.new.out) (contents c.write_entries.new.out)
+    (c.in-Ok-program_of.ensures.found bytes holds) are c.in-Ok-run_program.ensures.written last)
 
 pub returns-in-Err-contexts_for-clause-refused : goal.returns-in-Err-contexts_for-clause-refused
 returns-in-Err-contexts_for-clause-refused g c one =
     let p = c.in-Ok-program_of.program.verified in
-    let known = c.report_contexts.ensures.refused one in
+    let named = c.args.named.now in
+    let given = c.args.given.now in
+    let none = c.in-Err-contexts_for.ensures.fault (c.report_contexts.ensures.refused one) in
+    let of_length : (contexts : List (List ℕ)) → AreContexts named p.ctx_len given contexts → ⊥ =
+    subst (λ (n : ℕ). (contexts : List (List ℕ)) → AreContexts named n given contexts → ⊥) c.ctx_len-len.ensures.value none in
     IfSome_then (g.R.Read.remaining c.args.input.now) c.in-Ok.ensures
     (λ bytes holds. (
       Event BadContext,
       (λ e. cc),
       (λ e. cc),
-      contexts_told c.args.named.now c.args.given.now c.args.size.workers c.args.size.count bytes p.program p.shapes p.ctx_len
-          (c.in-Ok-program_of.ensures.found bytes holds) (c.in-Err-contexts_for.ensures.fault known),
+      contexts_told named given c.args.size.workers c.args.size.count bytes p.program p.shapes p.ctx_len
+          (c.in-Ok-program_of.ensures.found bytes holds) of_length,
     ))
 
 pub returns-in-Err-Pool-clause-refused : goal.returns-in-Err-Pool-clause-refused
