@@ -21,7 +21,7 @@ _bpfrt_options() {
     disasm) echo "" ;;
     asm) echo "--file --plain --explain" ;;
     script) echo "--explain" ;;
-    pool) echo "--explain" ;;
+    pool) echo "--contexts --packed --explain" ;;
     run) echo "--map --dump --explain --json" ;;
     trace) echo "--map --dump --explain --json" ;;
     filter) echo "--seccomp --explain" ;;
