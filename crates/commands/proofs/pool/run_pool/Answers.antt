@@ -1,4 +1,4 @@
-use Rattle.std.proofs.Common.{◌≡◌, ℕ, List, inl, subst, sym}
+use Rattle.std.proofs.Common.{◌≡◌, ℕ, List, arith, inl, subst, sym}
 use Rattle.std.proofs.lemmas.Option.{IfSome_then}
 use Rattle.program_files.specs.Verdicts.{memory_number}
 use Rattle.job_queue.specs.declared.fault.PoolFault.TheVariants.{Lost}
@@ -51,8 +51,8 @@ returns-in-Err-contexts_for-clause-refused g c one =
     IfSome_then (g.R.Read.remaining c.args.input.now) c.in-Ok.ensures
     (λ bytes holds. (
       Event BadContext,
-      (λ e. cc),
-      (λ e. cc),
+      (λ e. (let no : 63 ≡ 13 = e in omega (arith, no))),
+      (λ e. (let no : 63 ≡ 92 = e in omega (arith, no))),
       contexts_told named given c.args.size.workers c.args.size.count bytes p.program p.shapes p.ctx_len
           (c.in-Ok-program_of.ensures.found bytes holds) of_length,
     ))

@@ -1,0 +1,5 @@
+use Rattle.std.proofs.Common.{◌≡◌, replicate}
+use Rattle.commands.proofs.contexts.zeros.Given as goal
+
+abbrev pub invariant-loop : goal.invariant-loop
+invariant-loop l = l.bytes.items ≡ replicate l.counter 0
