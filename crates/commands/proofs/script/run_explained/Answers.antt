@@ -4,5 +4,5 @@ use Rattle.commands.proofs.script.run_explained.Goals as goal
 pub returns-in-Ok-clause-answered : goal.returns-in-Ok-clause-answered
 returns-in-Ok-clause-answered g c e = all_answered _ _ _ _ c.in-Ok.ensures.text
 
-pub returns-in-Err-clause-stopped : goal.returns-in-Err-clause-stopped
-returns-in-Err-clause-stopped g c e = stopped_before _ _ _ _ c.in-Err.why (c.report_stop-status.ensures.bad e) c.in-Err.ensures.failed
+pub returns-clause-stopped : goal.returns-clause-stopped
+returns-clause-stopped g c e = stopped_before _ _ _ _ c.in-Err.why (c.report_stop-status.ensures.bad e) c.in-Err.ensures.failed
