@@ -1,4 +1,4 @@
-use Rattle.std.proofs.Common.{rules, ◌≡◌, ◌⊎◌, ℕ, List, refl, subst, inl}
+use Rattle.std.proofs.Common.{rules, ◌≡◌, ◌⊎◌, List, refl, subst, inl}
 use Rattle.std.proofs.lemmas.Result.{err_from_is_err_and}
 use Rattle.bpf_model.specs.declared.event.EventRefusal.{EventRefusal}
 use Rattle.bpf_model.specs.View.{shapes_of_maps}
