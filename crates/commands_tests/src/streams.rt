@@ -121,7 +121,7 @@ fn status_of(
         giving,
         is_interrupted: false,
     };
-    Ok(run(rt, alloc, &command, &mut input, out, err))
+    Ok(run(rt, alloc, &command, &[], &mut input, out, err))
 }
 
 /// A command, the input, the status, and what is written on both outputs.
