@@ -3,7 +3,7 @@ use Rattle.std.proofs.Common.{◌≡◌, ℕ, ◌+◌, ◌%◌, ◌^◌, List, [
 use mathlib.Core.Logic.{dite}
 use native.Mathlib.Decide.{ℕ_discrete}
 use Rattle.map_table_laws.specs.declared.moves.Move.{Move}
-use Rattle.map_table_laws.specs.declared.moves.Move.TheVariants.{Open, Close, Learn, Load, Store, Put, Scan}
+use Rattle.map_table_laws.specs.declared.moves.Move.TheVariants.{Open, Close, Learn, Load, Store, Put, Double, Scan}
 use Rattle.map_table_laws.specs.Layout.{Layout}
 use Rattle.map_table_laws.specs.History.{word_after, word_at, MayDo, IsLawful}
 use Rattle.map_table_laws.specs.Added.{StoresNothingAt, OnlyAdds}
@@ -15,6 +15,7 @@ left element place old Close off = refl
 left element place old (Learn w x) off = refl
 left element place old (Load s p x) off = refl
 left element place old (Put w x) off = refl
+left element place old (Double v w x) off = refl
 left element place old (Scan r x) off = refl
 left element place old (Store s p x) off = dite (ℕ_discrete s element)
     (λ same. dite (ℕ_discrete p place)

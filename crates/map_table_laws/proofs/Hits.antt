@@ -5,7 +5,7 @@ use native.Mathlib.Decide.{ℕ_discrete}
 use Rattle.std.proofs.Common.{Some}
 use Rattle.std.specs.Prelude.{length, slice_index}
 use Rattle.map_table_laws.specs.declared.moves.Move.{Move}
-use Rattle.map_table_laws.specs.declared.moves.Move.TheVariants.{Open, Close, Learn, Load, Store, Put, Scan}
+use Rattle.map_table_laws.specs.declared.moves.Move.TheVariants.{Open, Close, Learn, Load, Store, Put, Double, Scan}
 use Rattle.map_table_laws.specs.Layout.{Layout, IsApart}
 use Rattle.map_table_laws.specs.History.{moves_of, word_at, key_of, Holds, MayDo, IsLawful}
 use Rattle.map_table_laws.specs.Lookups.{OnlySearches, HadWord, AnswersLookup}
@@ -25,6 +25,7 @@ had_head element place word (Load e p x) ms h = ⊎_elim
     (λ t. inr t) h
 had_head element place word (Store e p x) ms h = inr h
 had_head element place word (Put w x) ms h = inr h
+had_head element place word (Double v w x) ms h = inr h
 had_head element place word (Scan r x) ms h = inr h
 
 had_step : (who element place word : ℕ) (e : ℕ × Move) (late : History) → HadWord element place word (moves_of who (e ∷ late)) →

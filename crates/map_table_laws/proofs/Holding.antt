@@ -3,11 +3,11 @@ use Rattle.std.proofs.Common.{◌≡◌, ◌≢◌, ℕ, ◌%◌, List, [], ◌�
 use mathlib.Core.Logic.{dite}
 use native.Mathlib.Decide.{ℕ_discrete}
 use Rattle.map_table_laws.specs.declared.moves.Move.{Move}
-use Rattle.map_table_laws.specs.declared.moves.Move.TheVariants.{Open, Close, Learn, Load, Store, Put, Scan}
+use Rattle.map_table_laws.specs.declared.moves.Move.TheVariants.{Open, Close, Learn, Load, Store, Put, Double, Scan}
 use Rattle.map_table_laws.specs.Layout.{Layout, Names}
 use Rattle.map_table_laws.specs.History.{moves_of, inside, section_word, word_in, word_at, IsLinked, Holds, FoundSince, HasLeft, Cleared, IsSpare}
 use Rattle.map_table_laws.specs.History.{IsReader, MayDo, IsLawful}
-use Rattle.map_table_laws.proofs.Steps.{own, others, put_there}
+use Rattle.map_table_laws.proofs.Steps.{own, others, put_there, doubled_there, nothing_named}
 use Rattle.map_table_laws.proofs.Words.{word_parity}
 
 -- of what the reader did, ms, and what the writer did, ws
@@ -24,6 +24,12 @@ still_linked element w x ws not l = dite (ℕ_discrete w l.0)
     (λ same. absurd (not (subst (λ z. Names (word_in z ws) element) (sym same) l.1)))
     (λ ne. (l.0, subst (λ z. Names z element) (sym (put_there w l.0 x ws ne)) l.1))
 
+-- nor does a word in a second way, which was empty, unlink anything
+still_doubled : (element v w x : ℕ) (ws : List Move) → word_in w ws ≡ 0 → IsLinked element ws → IsLinked element (Double v w x ∷ ws)
+still_doubled element v w x ws empty l = dite (ℕ_discrete w l.0)
+    (λ same. absurd (nothing_named element (subst (λ z. Names z element) (ap (λ z. word_in z ws) (sym same) ∙ empty) l.1)))
+    (λ ne. (l.0, subst (λ z. Names z element) (sym (doubled_there v w l.0 x ws ne)) l.1))
+
 -- the writer's next move
 writes : (k : Layout) (who element : ℕ) (es : List (ℕ × Move)) (m : Move) → MayDo k es 0 m →
     Held k who element (moves_of who es) (moves_of 0 es) → Held k who element (moves_of who es) (m ∷ moves_of 0 es)
@@ -38,6 +44,13 @@ writes k who element es (Put w x) may h = record {
   kept = λ not c. h.kept (λ l. not (still_linked element w x (moves_of 0 es) c.0 l)) c.1;
   looks = λ not y ne f. h.looks (λ l. not (still_linked element w x (moves_of 0 es) f.0 l)) y ne f.1;
 }
+writes k who element es (Double v w x) may h =
+    let still = still_doubled element v w x (moves_of 0 es) may.1.empty in record {
+      reader = h.reader;
+      open_now = h.open_now;
+      kept = λ not c. h.kept (λ l. not (still l)) c;
+      looks = λ not y ne f. h.looks (λ l. not (still l)) y ne f;
+    }
 writes k who element es (Scan r x) may h =
     let is : r ≡ who → x ≡ section_word (moves_of who es) = λ e. may.1 ∙ ap (λ w. section_word (moves_of w es)) e in
     record {
@@ -72,6 +85,7 @@ reads k who element es (Learn w x) may ih known = ⊎_elim
 reads k who element es (Load e p x) may ih known = let h = ih known in record { reader = h.reader; open_now = h.open_now; kept = h.kept; looks = h.looks }
 reads k who element es (Store e p x) may ih known = let h = ih known in record { reader = h.reader; open_now = h.open_now; kept = h.kept; looks = h.looks }
 reads k who element es (Put w x) may ih known = let h = ih known in record { reader = h.reader; open_now = h.open_now; kept = h.kept; looks = h.looks }
+reads k who element es (Double v w x) may ih known = let h = ih known in record { reader = h.reader; open_now = h.open_now; kept = h.kept; looks = h.looks }
 reads k who element es (Scan r x) may ih known = let h = ih known in record { reader = h.reader; open_now = h.open_now; kept = h.kept; looks = h.looks }
 
 pub held : (k : Layout) (es : List (ℕ × Move)) → IsLawful k es → (who element : ℕ) → Holds element (moves_of who es) →

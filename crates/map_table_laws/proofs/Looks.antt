@@ -3,7 +3,7 @@ use Rattle.std.proofs.Common.{◌≡◌, ◌≢◌, ◌⊎◌, ℕ, ◌%◌, ◌
 use mathlib.Core.Logic.{dite}
 use native.Mathlib.Decide.{ℕ_discrete}
 use Rattle.map_table_laws.specs.declared.moves.Move.{Move}
-use Rattle.map_table_laws.specs.declared.moves.Move.TheVariants.{Open, Close, Learn, Load, Store, Put, Scan}
+use Rattle.map_table_laws.specs.declared.moves.Move.TheVariants.{Open, Close, Learn, Load, Store, Put, Double, Scan}
 use Rattle.map_table_laws.specs.Layout.{Layout}
 use Rattle.map_table_laws.specs.History.{moves_of, inside, opened, section_word, IsLinked, FoundSince, Cleared, IsLawful}
 use Rattle.map_table_laws.specs.Found.{StaysInside, StaysUnlinked}
@@ -21,6 +21,7 @@ one_number reader element (Learn w z ∷ ms) not x y f g = one_number reader ele
 one_number reader element (Load e p z ∷ ms) not x y f g = one_number reader element ms not x y f g
 one_number reader element (Store e p z ∷ ms) not x y f g = one_number reader element ms not x y f g
 one_number reader element (Put w z ∷ ms) not x y f g = one_number reader element ms (λ c. not (f.0, c)) x y f.1 g.1
+one_number reader element (Double v w z ∷ ms) not x y f g = one_number reader element ms not x y f g
 one_number reader element (Scan r z ∷ ms) not x y f g =
     let odd : r ≡ reader → z % 2 ≡ 1 = λ here. odd_else z (λ even. not (inl (here, inl even))) in
     let same : (o : ℕ) → r ≡ reader → FoundSince reader element o ms → o ≡ z =
@@ -43,6 +44,7 @@ two_numbers reader element (Learn w z ∷ ms) x y d f g = two_numbers reader ele
 two_numbers reader element (Load e p z ∷ ms) x y d f g = two_numbers reader element ms x y d f g
 two_numbers reader element (Store e p z ∷ ms) x y d f g = two_numbers reader element ms x y d f g
 two_numbers reader element (Put w z ∷ ms) x y d f g = (f.0, two_numbers reader element ms x y d f.1 g.1)
+two_numbers reader element (Double v w z ∷ ms) x y d f g = two_numbers reader element ms x y d f g
 two_numbers reader element (Scan r z ∷ ms) x y d f g = ⊎_elim
     (λ (a : (r ≡ reader) × (z ≡ x)). ⊎_elim
     (λ (ne : x ≢ y). ⊎_elim
@@ -64,6 +66,7 @@ found_head reader element word (Learn w x) ms not f = f
 found_head reader element word (Load e p x) ms not f = f
 found_head reader element word (Store e p x) ms not f = f
 found_head reader element word (Put w x) ms not f = ((λ names. not (w, names)), f)
+found_head reader element word (Double v w x) ms not f = f
 found_head reader element word (Scan r x) ms not f = inr f
 
 found_step : (reader element word : ℕ) (e : ℕ × Move) (es : History) → (IsLinked element (moves_of 0 es) → ⊥) →

@@ -5,7 +5,7 @@ use native.Mathlib.Decide.{ℕ_discrete}
 use Rattle.std.proofs.Common.{ne_eqb, Some, None}
 use Rattle.std.specs.Prelude.{slice_index}
 use Rattle.map_table_laws.specs.declared.moves.Move.{Move}
-use Rattle.map_table_laws.specs.declared.moves.Move.TheVariants.{Open, Close, Learn, Load, Store, Put, Scan}
+use Rattle.map_table_laws.specs.declared.moves.Move.TheVariants.{Open, Close, Learn, Load, Store, Put, Double, Scan}
 use Rattle.map_table_laws.specs.Layout.{Layout, IsCandidate, Names, tag_in, bucket_of}
 use Rattle.map_table_laws.specs.History.{moves_of, word_in, key_of, Holds, IsSpare}
 use Rattle.map_table_laws.specs.History.{generation, MayLink, MayDo, IsLawful}
@@ -51,6 +51,7 @@ tail_inside (Learn w x) ms h = h
 tail_inside (Load e p x) ms h = h
 tail_inside (Store e p x) ms h = h
 tail_inside (Put w x) ms h = h
+tail_inside (Double v w x) ms h = h
 tail_inside (Scan r x) ms h = h
 
 pub inside_rest : (who : ℕ) (e : ℕ × Move) (late : History) → StaysInside (moves_of who (e ∷ late)) → StaysInside (moves_of who late)
@@ -65,6 +66,7 @@ holds_head element (Learn w x) ms ns s h = inr h
 holds_head element (Load e p x) ms ns s h = h
 holds_head element (Store e p x) ms ns s h = h
 holds_head element (Put w x) ms ns s h = h
+holds_head element (Double v w x) ms ns s h = h
 holds_head element (Scan r x) ms ns s h = h
 
 pub holds_step : (who element : ℕ) (e : ℕ × Move) (late es : History) → StaysInside (moves_of who (e ∷ late)) → Holds element (moves_of who es) →
@@ -89,6 +91,7 @@ linked_again k element who Close es may kept = refl
 linked_again k element who (Learn w x) es may kept = refl
 linked_again k element who (Load e p x) es may kept = refl
 linked_again k element who (Store e p x) es may kept = refl
+linked_again k element who (Double v w x) es may kept = refl
 linked_again k element who (Scan r x) es may kept = refl
 linked_again k element who (Put w x) es may kept = rw (ne_eqb (x % 2 ^ 32) (suc element) (λ names. ⊎_elim
     (λ (none : x ≡ 0). nothing_named element (subst (λ z. Names z element) none names))
@@ -122,6 +125,7 @@ searches_inside k table (Learn w x ∷ ms) h = searches_inside k table ms h
 searches_inside k table (Load e p x ∷ ms) h = searches_inside k table ms h.1
 searches_inside k table (Store e p x ∷ ms) h = absurd h
 searches_inside k table (Put w x ∷ ms) h = absurd h
+searches_inside k table (Double v w x ∷ ms) h = absurd h
 searches_inside k table (Scan r x ∷ ms) h = absurd h
 
 -- the element was found by this move, or before it
@@ -139,6 +143,7 @@ found_head way element (Learn w x) ms h = ⊎_elim
 found_head way element (Load e p x) ms h = inr h
 found_head way element (Store e p x) ms h = inr h
 found_head way element (Put w x) ms h = inr h
+found_head way element (Double v w x) ms h = inr h
 found_head way element (Scan r x) ms h = inr h
 
 pub found_step : (who way element : ℕ) (e : ℕ × Move) (late : History) → FoundIn way element (moves_of who (e ∷ late)) →
@@ -216,6 +221,7 @@ module _ (k : Layout) (table : ℕ) (key : List ℕ) where
   head_refutes who way Close late early may lawful s r = absurd s
   head_refutes who way (Store e p x) late early may lawful s r = absurd s
   head_refutes who way (Put w x) late early may lawful s r = absurd s
+  head_refutes who way (Double v w x) late early may lawful s r = absurd s
   head_refutes who way (Scan q x) late early may lawful s r = absurd s
   head_refutes who way (Learn w x) late early may lawful s r = ⊎_elim
       (λ (t : (w ≡ way) × IsElse k table key x). inl (at_end (Never way) late early

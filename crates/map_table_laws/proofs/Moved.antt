@@ -1,73 +1,21 @@
 -- A key that the writer moves is found throughout.
-use Rattle.std.proofs.Common.{◌≡◌, ◌≢◌, ◌⊎◌, ℕ, ◌*◌, ◌%◌, ◌<◌, ◌≤◌, List, [], ◌∷◌, ◌++◌, refl, sym, ap, ◌∙◌, subst, ⊎_elim, inl, inr, arith}
-use Rattle.std.proofs.Common.{append_assoc, None}
-use Rattle.std.proofs.lemmas.List.{append_cancel_right}
+use Rattle.std.proofs.Common.{◌≡◌, ◌≢◌, ◌⊎◌, ℕ, ◌*◌, ◌%◌, ◌<◌, ◌≤◌, List, [], ◌∷◌, ◌++◌, refl, sym, ap, ◌∙◌, subst, ⊎_elim, inl, inr, arith, None}
 use mathlib.Core.Logic.{dite}
 use native.Mathlib.Decide.{ℕ_discrete}
 use Rattle.map_table_laws.specs.declared.moves.Move.{Move}
-use Rattle.map_table_laws.specs.declared.moves.Move.TheVariants.{Open, Close, Learn, Load, Store, Put, Scan}
+use Rattle.map_table_laws.specs.declared.moves.Move.TheVariants.{Open, Close, Learn, Load, Store, Put, Double, Scan}
 use Rattle.map_table_laws.specs.Layout.{Layout, Names, bucket_of}
-use Rattle.map_table_laws.specs.History.{moves_of, inside, section_word, MayDo, IsLawful}
+use Rattle.map_table_laws.specs.History.{moves_of, inside, section_word, word_in, IsMoving, IsSettled, since_double, HavePassed, IsReader, MayDo, IsLawful}
 use Rattle.map_table_laws.specs.Lookups.{OnlySearches, AnswersLookup}
-use Rattle.map_table_laws.specs.Found.{IsLinkedUnder, Throughout, StaysInside, StaysFound}
-use Rattle.map_table_laws.specs.Scanned.{FoundOther, FoundGone, LookedAt}
-use Rattle.map_table_laws.specs.Moved.{MovesKey}
-use Rattle.map_table_laws.proofs.Steps.{own, others, key_put, put_here, put_there, nothing_named}
-use Rattle.map_table_laws.proofs.Words.{word_parity, word_stays, inside_same}
-use Rattle.map_table_laws.proofs.Moments.{History, lawful_early, at_last, inside_rest, searches_inside, stays_found}
+use Rattle.map_table_laws.specs.Found.{Links, IsLinkedUnder, IsLinkedAs, Throughout, StaysInside, StaysFound}
+use Rattle.map_table_laws.specs.Scanned.{FoundOther, FoundGone}
+use Rattle.map_table_laws.proofs.Steps.{own, others, key_step, nothing_named}
+use Rattle.map_table_laws.proofs.Words.{word_parity, word_stays}
+use Rattle.map_table_laws.proofs.Standing.{Quiet, Putting, Doubling, Changed, step, here_at, put_alone, put_settled, one_way, Moved, moved_ways}
+use Rattle.map_table_laws.proofs.Moments.{History, inside_rest, searches_inside, stays_found}
 use Rattle.map_table_laws.proofs.Looks.{moves_append}
-use Rattle.map_table_laws.proofs.Writing.{emptied, refuted_looked}
+use Rattle.map_table_laws.proofs.Writing.{refuted_looked}
 use Rattle.map_table_laws.proofs.Walks.{was_inside}
-
-abbrev tail_of : History → History
-tail_of [] = []
-tail_of (e ∷ es) = es
-
--- of two ends of a list one is an end of the other
-ends : (a b c d : History) → a ++ b ≡ c ++ d → ((x : History) × (b ≡ x ++ d)) ⊎ ((x : History) × (d ≡ x ++ b))
-ends [] b c d is = inl (c, is)
-ends (e ∷ a) b [] d is = inr (e ∷ a, sym is)
-ends (e ∷ a) b (f ∷ c) d is = ends a b c d (ap tail_of is)
-
--- an end of a list is all of it, or an end of what is behind its first
-behind_first : (e : ℕ × Move) (rest x b : History) → e ∷ rest ≡ x ++ b → (b ≡ e ∷ rest) ⊎ ((z : History) × (rest ≡ z ++ b))
-behind_first e rest [] b is = inl (sym is)
-behind_first e rest (f ∷ z) b is = inr (z, ap tail_of is)
-
--- what was so throughout was so throughout each part
-older_part : (p : History → Type 0) (newer late early : History) → Throughout p (newer ++ late) early → Throughout p late early
-older_part p [] late early t = t
-older_part p (e ∷ newer) late early t = older_part p newer late early t.1
-
-newer_part : (p : History → Type 0) (late older early : History) → Throughout p (late ++ older) early → Throughout p late (older ++ early)
-newer_part p [] older early t = at_last p older early t
-newer_part p (e ∷ late) older early t = (
-  subst (λ (es : History). p (e ∷ es)) (append_assoc late older early) t.0,
-  newer_part p late older early t.1,
-)
-
-part : (p : History → Type 0) (all newer stretch older early : History) → all ≡ newer ++ (stretch ++ older) → Throughout p all early →
-    Throughout p stretch (older ++ early)
-part p all newer stretch older early is t =
-    newer_part p stretch older early (older_part p newer (stretch ++ older) early (subst (λ (z : History). Throughout p z early) is t))
-
--- a stretch that begins behind the end of a list lies in what came since
-part_since : (p : History → Type 0) (since put newer stretch older x early : History) → since ++ put ≡ newer ++ (stretch ++ older) → older ≡ x ++ put →
-    Throughout p since (put ++ early) → Throughout p stretch (older ++ early)
-part_since p since put newer stretch older x early is begins t =
-    let all : newer ++ (stretch ++ older) ≡ (newer ++ (stretch ++ x)) ++ put =
-    ap (λ (z : History). newer ++ (stretch ++ z)) begins ∙
-    (ap (λ (z : History). newer ++ z) (sym (append_assoc stretch x put)) ∙ sym (append_assoc newer (stretch ++ x) put)) in
-    let same : since ≡ newer ++ (stretch ++ x) = append_cancel_right since (newer ++ (stretch ++ x)) put (is ∙ all) in
-    let early_is : x ++ (put ++ early) ≡ older ++ early = sym (append_assoc x put early) ∙ ap (λ (z : History). z ++ early) (sym begins) in
-    subst (Throughout p stretch) early_is (part p since newer stretch x (put ++ early) same t)
-
--- a stretch over both steps of a move
-over_both : (stretch older y between put x : History) (e : ℕ × Move) → stretch ++ older ≡ y ++ e ∷ (between ++ put) → put ≡ x ++ older →
-    stretch ≡ y ++ e ∷ (between ++ x)
-over_both stretch older y between put x e is begins = append_cancel_right stretch (y ++ e ∷ (between ++ x)) older
-    (is ∙ (ap (λ (z : History). y ++ e ∷ (between ++ z)) begins ∙
-    (ap (λ (z : History). y ++ e ∷ z) (sym (append_assoc between x older)) ∙ sym (append_assoc y (e ∷ (between ++ x)) older))))
 
 -- what a look finds
 record LooksNow (reader : ℕ) (p : ℕ → Type 0) (m : Move) : Type 0 where
@@ -83,6 +31,7 @@ other_head reader word (Learn w x) ms h = inr h
 other_head reader word (Load e p x) ms h = inr h
 other_head reader word (Store e p x) ms h = inr h
 other_head reader word (Put w x) ms h = inr h
+other_head reader word (Double v w x) ms h = inr h
 other_head reader word (Scan r x) ms h = ⊎_elim
     (λ (t : (r ≡ reader) × (x ≢ word)). inl record { word = x; is = ap (λ z. Scan z x) t.0; so = t.1 })
     (λ t. inr t) h
@@ -95,6 +44,7 @@ gone_head reader (Learn w x) ms h = inr h
 gone_head reader (Load e p x) ms h = inr h
 gone_head reader (Store e p x) ms h = inr h
 gone_head reader (Put w x) ms h = inr h
+gone_head reader (Double v w x) ms h = inr h
 gone_head reader (Scan r x) ms h = ⊎_elim
     (λ (t : (r ≡ reader) × ((x % 2 ≡ 0) ⊎ FoundOther reader x ms)). inl record { word = x; is = ap (λ z. Scan z x) t.0; so = t.1 })
     (λ t. inr t) h
@@ -138,146 +88,6 @@ not_gone k reader (e ∷ late) early lawful s one f =
     (gone_head reader e.1 (moves_of 0 late) (subst (FoundGone reader) (own 0 e late writer) f)))
     (λ ne. not_gone k reader late early lawful.1 rest one (subst (FoundGone reader) (others 0 e late ne) f))
 
-older_inside : (who : ℕ) (newer late : History) → StaysInside (moves_of who (newer ++ late)) → StaysInside (moves_of who late)
-older_inside who [] late s = s
-older_inside who (e ∷ newer) late s = older_inside who newer late (inside_rest who e (newer ++ late) s)
-
-front_inside : (ns ms : List Move) → StaysInside (ns ++ ms) → StaysInside ns
-front_inside [] ms s = tt
-front_inside (Open ∷ ns) ms s = absurd s
-front_inside (Close ∷ ns) ms s = absurd s
-front_inside (Learn w x ∷ ns) ms s = front_inside ns ms s
-front_inside (Load e p x ∷ ns) ms s = front_inside ns ms s
-front_inside (Store e p x ∷ ns) ms s = front_inside ns ms s
-front_inside (Put w x ∷ ns) ms s = front_inside ns ms s
-front_inside (Scan r x ∷ ns) ms s = front_inside ns ms s
-
--- nor by any steps within the section
-not_gone_within : (k : Layout) (who : ℕ) (newer between older early : History) (e : ℕ × Move) → IsLawful k ((newer ++ e ∷ (between ++ older)) ++ early) →
-    StaysInside (moves_of who (newer ++ e ∷ (between ++ older))) → inside (moves_of who early) ≡ 1 → FoundGone who (moves_of 0 between) → ⊥
-not_gone_within k who newer between older early e lawful s one gone =
-    let here = lawful_early k newer ((e ∷ (between ++ older)) ++ early)
-    (subst (IsLawful k) (append_assoc newer (e ∷ (between ++ older)) early) lawful) in
-    let law : IsLawful k (between ++ (older ++ early)) = subst (IsLawful k) (append_assoc between older early) here.1 in
-    let all = inside_rest who e (between ++ older) (older_inside who newer (e ∷ (between ++ older)) s) in
-    let since = front_inside (moves_of who between) (moves_of who older) (subst StaysInside (moves_append who between older) all) in
-    let until = older_inside who between older all in
-    not_gone k who between (older ++ early) law since
-    (ap inside (moves_append who older early) ∙ (inside_same (moves_of who older) (moves_of who early) until ∙ one)) gone
-
-bucket_back : (bucket : ℕ) → bucket_of (bucket * 8) ≡ bucket
-bucket_back bucket = omega arith
-
-lawful_stretch : (k : Layout) (newer stretch older early : History) → IsLawful k ((newer ++ (stretch ++ older)) ++ early) →
-    IsLawful k (stretch ++ (older ++ early))
-lawful_stretch k newer stretch older early lawful = lawful_early k newer (stretch ++ (older ++ early))
-    (subst (IsLawful k) (append_assoc newer (stretch ++ older) early ∙ ap (λ (z : History). newer ++ z) (append_assoc stretch older early)) lawful)
-
--- a stretch that answers null while a key is moved
-module _ (k : Layout) (table : ℕ) (key : List ℕ) (from to who : ℕ) (newer stretch older early : History)
-    (lawful : IsLawful k (stretch ++ (older ++ early))) (only : OnlySearches k table (moves_of who stretch))
-    (null : AnswersLookup k table key (moves_of who stretch) None) where
-  missed : (way : ℕ) → StaysFound k table key way stretch (older ++ early) → ⊥
-  missed way all = stays_found k table key who way stretch (older ++ early) lawful only null all
-
-  looked : LookedAt (k.first table key * 8) (moves_of who stretch)
-  looked = refuted_looked k table key (k.first table key * 8) (moves_of who stretch)
-      (null (k.first table key * 8) (inl (bucket_back (k.first table key))))
-
-  -- it can't lie over the put and the emptying, between which its reader was found gone
-  crossed : (y between put x : History) → ((reader : ℕ) → 0 < reader → reader ≤ k.readers → FoundGone reader (moves_of 0 between)) →
-      stretch ++ older ≡ y ++ (0, Put from 0) ∷ (between ++ put) → put ≡ x ++ older → ⊥
-  crossed y between put x gone ends_at begins =
-      let s = searches_inside k table (moves_of who stretch) only in
-      let seen = was_inside k who (k.first table key * 8) stretch (older ++ early) lawful s looked in
-      let is = over_both stretch older y between put x (0, Put from 0) ends_at begins in
-      not_gone_within k who y between x (older ++ early) (0, Put from 0)
-      (subst (λ (z : History). IsLawful k (z ++ (older ++ early))) is lawful)
-      (subst (λ (z : History). StaysInside (moves_of who z)) is s) seen.1 (gone who seen.0.0 seen.0.1)
-
-  -- it ends behind the emptying, or before it
-  not_behind : (after between put x : History) → ((reader : ℕ) → 0 < reader → reader ≤ k.readers → FoundGone reader (moves_of 0 between)) →
-      newer ++ (stretch ++ older) ≡ after ++ (0, Put from 0) ∷ (between ++ put) → put ≡ x ++ older →
-      StaysFound k table key from (between ++ put) early → ⊥
-  not_behind after between put x gone is begins stays = ⊎_elim
-      (λ (t : (y : History) × (stretch ++ older ≡ y ++ (0, Put from 0) ∷ (between ++ put))). crossed t.0 between put x gone t.1 begins)
-      (λ (t : (y : History) × ((0, Put from 0) ∷ (between ++ put) ≡ y ++ (stretch ++ older))). ⊎_elim
-      (λ (all : stretch ++ older ≡ (0, Put from 0) ∷ (between ++ put)). crossed [] between put x gone all begins)
-      (λ (u : (z : History) × (between ++ put ≡ z ++ (stretch ++ older))).
-      missed from (part (IsLinkedUnder k table key from) (between ++ put) u.0 stretch older early u.1 stays))
-      (behind_first (0, Put from 0) (between ++ put) t.0 (stretch ++ older) t.1))
-      (ends newer (stretch ++ older) after ((0, Put from 0) ∷ (between ++ put)) is)
-
-pub moved_found : (k : Layout) (late early : History) → IsLawful k (late ++ early) → (table : ℕ) (key : List ℕ) (from to : ℕ) →
-    MovesKey k table key from to late early → (who : ℕ) (newer stretch older : History) → late ≡ newer ++ (stretch ++ older) →
-    OnlySearches k table (moves_of who stretch) → AnswersLookup k table key (moves_of who stretch) None → ⊥
-moved_found k late early lawful table key from to m who newer stretch older is only null =
-    let put : History = (0, Put to m.word) ∷ m.before in
-    let since : History = m.after ++ (0, Put from 0) ∷ m.between in
-    let here = lawful_stretch k newer stretch older early (subst (λ (z : History). IsLawful k (z ++ early)) is lawful) in
-    let steps : newer ++ (stretch ++ older) ≡ m.after ++ (0, Put from 0) ∷ (m.between ++ put) = sym is ∙ m.steps in
-    let all : since ++ put ≡ newer ++ (stretch ++ older) = append_assoc m.after ((0, Put from 0) ∷ m.between) put ∙ sym steps in
-    ⊎_elim
-    (λ (t : (x : History) × (older ≡ x ++ put)). missed k table key from to who newer stretch older early here only null to
-    (part_since (IsLinkedUnder k table key to) since put newer stretch older t.0 early all t.1 m.stays_in_to))
-    (λ (t : (x : History) × (put ≡ x ++ older)).
-    not_behind k table key from to who newer stretch older early here only null m.after m.between put t.0 m.gone steps t.1 m.stays_in_from)
-    (ends (newer ++ stretch) older since put (append_assoc newer stretch older ∙ sym all))
-
--- emptying one way links nothing in another
-linked_before : (k : Layout) (table : ℕ) (key : List ℕ) (from to : ℕ) (es : History) → IsLinkedUnder k table key to ((0, Put from 0) ∷ es) →
-    IsLinkedUnder k table key to es
-linked_before k table key from to es l = dite (ℕ_discrete from to)
-    (λ same. absurd (nothing_named l.0 (subst (λ z. Names z l.0) (put_here from to 0 (moves_of 0 es) same) l.1.names)))
-    (λ ne. (
-      l.0,
-      record {
-        names = subst (λ z. Names z l.0) (put_there from to 0 (moves_of 0 es) ne) l.1.names;
-        table_is = l.1.table_is;
-        key_is = sym (key_put k es 0 l.0 from 0) ∙ l.1.key_is;
-      },
-    ))
-
--- the way is emptied by the move's own step, or by a later one
-module _ (k : Layout) (table : ℕ) (key : List ℕ) (from to : ℕ) (late early : History) (m : MovesKey k table key from to late early) where
-  abbrev rest : History
-  rest = m.between ++ (0, Put to m.word) ∷ m.before
-
-  not_earlier : (before x : History) → rest ≡ x ++ (0, Put from 0) ∷ before → ⊥
-  not_earlier before x is = emptied k table key from x before early (subst (λ (z : History). StaysFound k table key from z early) is m.stays_in_from)
-
-  emptied_since : (after before : History) → late ≡ after ++ (0, Put from 0) ∷ before → (w : History) × (before ≡ w ++ rest)
-  emptied_since after before is = ⊎_elim
-      (λ (t : (x : History) × ((0, Put from 0) ∷ before ≡ x ++ (0, Put from 0) ∷ rest)). ⊎_elim
-      (λ (same : (0, Put from 0) ∷ rest ≡ (0, Put from 0) ∷ before). ([], sym (ap tail_of same)))
-      (λ (u : (z : History) × (before ≡ z ++ (0, Put from 0) ∷ rest)).
-      (u.0 ++ (0, Put from 0) ∷ [], u.1 ∙ sym (append_assoc u.0 ((0, Put from 0) ∷ []) rest)))
-      (behind_first (0, Put from 0) before t.0 ((0, Put from 0) ∷ rest) t.1))
-      (λ (t : (x : History) × ((0, Put from 0) ∷ rest ≡ x ++ (0, Put from 0) ∷ before)). ⊎_elim
-      (λ (same : (0, Put from 0) ∷ before ≡ (0, Put from 0) ∷ rest). ([], ap tail_of same))
-      (λ (u : (z : History) × (rest ≡ z ++ (0, Put from 0) ∷ before)). absurd (not_earlier before u.0 u.1))
-      (behind_first (0, Put from 0) rest t.0 ((0, Put from 0) ∷ before) t.1))
-      (ends after ((0, Put from 0) ∷ before) m.after ((0, Put from 0) ∷ rest) (sym is ∙ m.steps))
-
-  -- at each moment since the put the key is linked in the other way
-  linked_since : (newer older x : History) → late ≡ newer ++ older → older ≡ x ++ (0, Put to m.word) ∷ m.before → IsLinkedUnder k table key to (older ++ early)
-  linked_since newer older x is begins =
-      let put : History = (0, Put to m.word) ∷ m.before in
-      part_since (IsLinkedUnder k table key to) (m.after ++ (0, Put from 0) ∷ m.between) put newer [] older x early
-      (append_assoc m.after ((0, Put from 0) ∷ m.between) put ∙ (sym m.steps ∙ is)) begins m.stays_in_to
-
--- a move that unlinks first is none
-pub unlinked_first : (k : Layout) (table : ℕ) (key : List ℕ) (from to : ℕ) (after before early : History) →
-    (IsLinkedUnder k table key to (before ++ early) → ⊥) → MovesKey k table key from to (after ++ (0, Put from 0) ∷ before) early → ⊥
-unlinked_first k table key from to after before early not m =
-    let late : History = after ++ (0, Put from 0) ∷ before in
-    let put : History = (0, Put to m.word) ∷ m.before in
-    let w = emptied_since k table key from to late early m after before refl in
-    let begins : (0, Put from 0) ∷ before ≡ ((0, Put from 0) ∷ (w.0 ++ m.between)) ++ put =
-    ap (λ (z : History). (0, Put from 0) ∷ z) (w.1 ∙ sym (append_assoc w.0 m.between put)) in
-    not (linked_before k table key from to (before ++ early)
-    (linked_since k table key from to late early m after ((0, Put from 0) ∷ before) ((0, Put from 0) ∷ (w.0 ++ m.between)) refl begins))
-
 -- what was found was found by more moves
 other_front : (reader word : ℕ) (ns ms : List Move) → FoundOther reader word ns → FoundOther reader word (ns ++ ms)
 other_front reader word [] ms f = absurd f
@@ -287,6 +97,7 @@ other_front reader word (Learn w x ∷ ns) ms f = other_front reader word ns ms 
 other_front reader word (Load e p x ∷ ns) ms f = other_front reader word ns ms f
 other_front reader word (Store e p x ∷ ns) ms f = other_front reader word ns ms f
 other_front reader word (Put w x ∷ ns) ms f = other_front reader word ns ms f
+other_front reader word (Double v w x ∷ ns) ms f = other_front reader word ns ms f
 other_front reader word (Scan r x ∷ ns) ms f = ⊎_elim (λ (t : (r ≡ reader) × (x ≢ word)). inl t) (λ t. inr (other_front reader word ns ms t)) f
 
 gone_front : (reader : ℕ) (ns ms : List Move) → FoundGone reader ns → FoundGone reader (ns ++ ms)
@@ -297,60 +108,221 @@ gone_front reader (Learn w x ∷ ns) ms f = gone_front reader ns ms f
 gone_front reader (Load e p x ∷ ns) ms f = gone_front reader ns ms f
 gone_front reader (Store e p x ∷ ns) ms f = gone_front reader ns ms f
 gone_front reader (Put w x ∷ ns) ms f = gone_front reader ns ms f
+gone_front reader (Double v w x ∷ ns) ms f = gone_front reader ns ms f
 gone_front reader (Scan r x ∷ ns) ms f = ⊎_elim
     (λ (t : (r ≡ reader) × ((x % 2 ≡ 0) ⊎ FoundOther reader x ns)).
     inl (t.0, ⊎_elim (λ (even : x % 2 ≡ 0). inl even) (λ other. inr (other_front reader x ns ms other)) t.1))
     (λ t. inr (gone_front reader ns ms t)) f
 
-gone_back : (reader : ℕ) (ns ms : List Move) → FoundGone reader ms → FoundGone reader (ns ++ ms)
-gone_back reader [] ms f = f
-gone_back reader (Open ∷ ns) ms f = gone_back reader ns ms f
-gone_back reader (Close ∷ ns) ms f = gone_back reader ns ms f
-gone_back reader (Learn w x ∷ ns) ms f = gone_back reader ns ms f
-gone_back reader (Load e p x ∷ ns) ms f = gone_back reader ns ms f
-gone_back reader (Store e p x ∷ ns) ms f = gone_back reader ns ms f
-gone_back reader (Put w x ∷ ns) ms f = gone_back reader ns ms f
-gone_back reader (Scan r x ∷ ns) ms f = inr (gone_back reader ns ms f)
+-- the writer moves something, or not
+moved_or_not : (ms : List Move) → ((from : ℕ) × (to : ℕ) × IsMoving from to ms) ⊎ IsSettled ms
+moved_or_not [] = inr (λ f t m. m)
+moved_or_not (Open ∷ ms) = moved_or_not ms
+moved_or_not (Close ∷ ms) = moved_or_not ms
+moved_or_not (Learn w x ∷ ms) = moved_or_not ms
+moved_or_not (Load e p x ∷ ms) = moved_or_not ms
+moved_or_not (Store e p x ∷ ms) = moved_or_not ms
+moved_or_not (Put w x ∷ ms) = inr (λ f t m. m)
+moved_or_not (Double v w x ∷ ms) = inl (v, w, (refl, refl))
+moved_or_not (Scan r x ∷ ms) = moved_or_not ms
 
-gone_part : (reader : ℕ) (newer stretch older : History) → FoundGone reader (moves_of 0 stretch) →
-    FoundGone reader (moves_of 0 (newer ++ (stretch ++ older)))
-gone_part reader newer stretch older f =
-    let longer = subst (FoundGone reader) (sym (moves_append 0 stretch older)) (gone_front reader (moves_of 0 stretch) (moves_of 0 older) f) in
-    subst (FoundGone reader) (sym (moves_append 0 newer (stretch ++ older))) (gone_back reader (moves_of 0 newer) (moves_of 0 (stretch ++ older)) longer)
+one_move : (from to f t : ℕ) (ms : List Move) → IsMoving from to ms → IsMoving f t ms → (from ≡ f) × (to ≡ t)
+one_move from to f t [] m n = absurd m
+one_move from to f t (Open ∷ ms) m n = one_move from to f t ms m n
+one_move from to f t (Close ∷ ms) m n = one_move from to f t ms m n
+one_move from to f t (Learn w x ∷ ms) m n = one_move from to f t ms m n
+one_move from to f t (Load e p x ∷ ms) m n = one_move from to f t ms m n
+one_move from to f t (Store e p x ∷ ms) m n = one_move from to f t ms m n
+one_move from to f t (Put w x ∷ ms) m n = absurd m
+one_move from to f t (Double v w x ∷ ms) m n = (sym m.0 ∙ n.0, sym m.1 ∙ n.1)
+one_move from to f t (Scan r x ∷ ms) m n = one_move from to f t ms m n
 
--- a move that lies within these steps found each reader gone by them
-module _ (k : Layout) (table : ℕ) (key : List ℕ) (from to word : ℕ) (after between before early : History)
-    (m : MovesKey k table key from to (after ++ (0, Put from 0) ∷ (between ++ (0, Put to word) ∷ before)) early) where
-  within_steps : (w x : History) → between ++ (0, Put to word) ∷ before ≡ w ++ rest k table key from to
-      (after ++ (0, Put from 0) ∷ (between ++ (0, Put to word) ∷ before)) early m → (0, Put to m.word) ∷ m.before ≡ x ++ (0, Put to word) ∷ before →
-      between ≡ w ++ (m.between ++ x)
-  within_steps w x is begins =
-      let put : History = (0, Put to word) ∷ before in
-      append_cancel_right between (w ++ (m.between ++ x)) put (is ∙
-      (ap (λ (z : History). w ++ (m.between ++ z)) begins ∙
-      (ap (λ (z : History). w ++ z) (sym (append_assoc m.between x put)) ∙ sym (append_assoc w (m.between ++ x) put))))
+-- An element that stays linked, as a reader in a section finds it.
+module _ (k : Layout) (table : ℕ) (key : List ℕ) (element who : ℕ) (reader : IsReader k who) where
+  abbrev At : ℕ → History → Type 0
+  At way es = Links k table key way element es
 
-  -- its put is these steps' put, or a later one
-  not_before : (x : History) → (IsLinkedUnder k table key to (before ++ early) → ⊥) → before ≡ x ++ (0, Put to m.word) ∷ m.before → ⊥
-  not_before x not is =
-      let put : History = (0, Put to word) ∷ [] in
-      let last : History = (0, Put from 0) ∷ (between ++ put) in
-      let steps : after ++ (0, Put from 0) ∷ (between ++ (0, Put to word) ∷ before) ≡ (after ++ last) ++ before =
-      ap (λ (z : History). after ++ (0, Put from 0) ∷ z) (sym (append_assoc between put before)) ∙ sym (append_assoc after last before) in
-      not (linked_since k table key from to (after ++ (0, Put from 0) ∷ (between ++ (0, Put to word) ∷ before)) early m (after ++ last) before x steps is)
+  -- It stood in one way all the time. If it is moved now, that is the first way of the move; and in the second it stood
+  -- all the time as well, or the move began meanwhile.
+  record Stood (late early : History) : Type 0 where
+    way : ℕ
+    all : Throughout (At way) late early
+    second : (from to : ℕ) → IsMoving from to (moves_of 0 (late ++ early)) → (way ≢ to) ×
+        (way ≡ from → Throughout (At to) late early ⊎ ((older : List Move) × (moves_of 0 late ≡ since_double (moves_of 0 (late ++ early)) ++ older)))
 
-  pub found_gone : (reader : ℕ) → 0 < reader → reader ≤ k.readers → (IsLinkedUnder k table key to (before ++ early) → ⊥) → FoundGone reader (moves_of 0 between)
-  found_gone reader some few not =
-      let late : History = after ++ (0, Put from 0) ∷ (between ++ (0, Put to word) ∷ before) in
-      let put : History = (0, Put to m.word) ∷ m.before in
-      let w = emptied_since k table key from to late early m after (between ++ (0, Put to word) ∷ before) refl in
-      let gone : (x : History) → put ≡ x ++ (0, Put to word) ∷ before → FoundGone reader (moves_of 0 between) = λ x begins.
-      subst (λ (z : History). FoundGone reader (moves_of 0 z)) (sym (within_steps w.0 x w.1 begins))
-      (gone_part reader w.0 m.between x (m.gone reader some few)) in
+  at_last_way : (way : ℕ) (late early : History) → Throughout (At way) late early → At way (late ++ early)
+  at_last_way way [] early t = t
+  at_last_way way (e ∷ late) early t = t.0
+
+  -- a way whose word a step leaves
+  still : (e : ℕ × Move) (es : History) (way : ℕ) → MayDo k es e.0 e.1 → word_in way (moves_of 0 (e ∷ es)) ≡ word_in way (moves_of 0 es) → At way es →
+      At way (e ∷ es)
+  still e es way may same l = record {
+    names = subst (λ z. Names z element) (sym same) l.names;
+    table_is = l.table_is;
+    key_is = key_step k es e element may (λ spare. spare.0 (way, l.names)) ∙ l.key_is;
+  }
+
+  still_all : (e : ℕ × Move) (late early : History) (way : ℕ) → MayDo k (late ++ early) e.0 e.1 →
+      word_in way (moves_of 0 (e ∷ (late ++ early))) ≡ word_in way (moves_of 0 (late ++ early)) → Throughout (At way) late early →
+      Throughout (At way) (e ∷ late) early
+  still_all e late early way may same t = (still e (late ++ early) way may same (at_last_way way late early t), t)
+
+  -- at first
+  in_second : (early : History) → IsLawful k early → (way from to : ℕ) → IsMoving from to (moves_of 0 early) → way ≢ to → At way early → Stood [] early
+  in_second early lawful way from to moving ne l =
+      let m = moved_ways k early lawful from to moving in
+      record {
+        way = way;
+        all = l;
+        second = λ f t n.
+            let is = one_move from to f t (moves_of 0 early) moving n in
+            let same : way ≡ f → word_in way (moves_of 0 early) ≡ word_in t (moves_of 0 early) = λ at_f.
+            ap (λ z. word_in z (moves_of 0 early)) (at_f ∙ sym is.0) ∙ (m.at_from ∙ (sym m.at_to ∙ ap (λ z. word_in z (moves_of 0 early)) is.1)) in
+            (
+              λ at_t. ne (at_t ∙ sym is.1),
+              λ at_f. inl record { names = subst (λ z. Names z element) (same at_f) l.names; table_is = l.table_is; key_is = l.key_is },
+            );
+      }
+
+  at_first : (early : History) → IsLawful k early → (way : ℕ) → At way early → Stood [] early
+  at_first early lawful way l = ⊎_elim
+      (λ (t : (from : ℕ) × (to : ℕ) × IsMoving from to (moves_of 0 early)).
+      let m = moved_ways k early lawful t.0 t.1 t.2 in
+      dite (ℕ_discrete way t.1)
+      (λ at_to.
+      let same : word_in way (moves_of 0 early) ≡ word_in t.0 (moves_of 0 early) = ap (λ z. word_in z (moves_of 0 early)) at_to ∙ (m.at_to ∙ sym m.at_from) in
+      in_second early lawful t.0 t.0 t.1 t.2 m.two record { names = subst (λ z. Names z element) same l.names; table_is = l.table_is; key_is = l.key_is })
+      (λ ne. in_second early lawful way t.0 t.1 t.2 ne l))
+      (λ (none : IsSettled (moves_of 0 early)). record { way = way; all = l; second = λ f t n. absurd (none f t n) })
+      (moved_or_not (moves_of 0 early))
+
+  -- one more step
+  module _ (e : ℕ × Move) (late early : History) (lawful : IsLawful k (e ∷ (late ++ early))) (s : Stood late early) where
+    abbrev before : History
+    before = late ++ early
+
+    quiet_stood : Quiet e before → Stood (e ∷ late) early
+    quiet_stood q = record {
+      way = s.way;
+      all = still_all e late early s.way lawful.0 (q.same s.way) s.all;
+      second = λ f t n.
+          let was = s.second f t (q.back f t n) in
+          (
+            was.0,
+            λ at_f. ⊎_elim
+                (λ (all : Throughout (At t) late early). inl (still_all e late early t lawful.0 (q.same t) all))
+                (λ (o : (older : List Move) × (moves_of 0 late ≡ since_double (moves_of 0 before) ++ older)). inr (o.0, q.since late o.0 o.1))
+                (was.1 at_f),
+          );
+    }
+
+    -- a way that a step leaves, after a put
+    stood_after : (c : Changed k e before) → Putting k e before c.way c.word → (way : ℕ) → c.way ≢ way → Throughout (At way) late early → Stood (e ∷ late) early
+    stood_after c p way ne all = record {
+      way = way;
+      all = still_all e late early way lawful.0 (c.there way ne) all;
+      second = λ f t n. absurd (put_settled k e before c.way c.word p f t n);
+    }
+
+    -- the second way was emptied, or the first, once each reader had left
+    move_ended : (c : Changed k e before) → Putting k e before c.way c.word → StaysInside (moves_of who late) → inside (moves_of who early) ≡ 1 →
+        (from to : ℕ) → IsMoving from to (moves_of 0 before) → Stood (e ∷ late) early
+    move_ended c p inside_all one from to moving =
+        let m = moved_ways k before lawful.1 from to moving in
+        let was = s.second from to moving in
+        ⊎_elim
+        (λ (at_to : c.way ≡ to). stood_after c p s.way (λ is. was.0 (sym is ∙ at_to)) s.all)
+        (λ (at_from : (c.way ≡ from) × HavePassed k.readers (moves_of 0 before)). dite (ℕ_discrete s.way from)
+        (λ here. ⊎_elim
+        (λ (all : Throughout (At to) late early). stood_after c p to (λ is. m.two (sym at_from.0 ∙ is)) all)
+        (λ (o : (older : List Move) × (moves_of 0 late ≡ since_double (moves_of 0 before) ++ older)).
+        let gone : FoundGone who (moves_of 0 late) = subst (FoundGone who) (sym o.1)
+        (gone_front who (since_double (moves_of 0 before)) o.0 (at_from.1 who reader.0 reader.1)) in
+        absurd (not_gone k who late early lawful.1 inside_all one gone))
+        (was.1 here))
+        (λ ne. stood_after c p s.way (λ is. ne (sym is ∙ at_from.0)) s.all))
+        (p.settles from to moving).1
+
+    -- another word in the only way of the element would unlink it
+    put_over : (c : Changed k e before) → Putting k e before c.way c.word → IsSettled (moves_of 0 before) → c.way ≡ s.way →
+        IsLinkedAs k table key element (e ∷ before) → ⊥
+    put_over c p none here l =
+        let old = (at_last_way s.way late early s.all).names in
+        dite (ℕ_discrete c.way l.0)
+        (λ at_l. put_alone k before c.way c.word s.way element p.may (subst (λ z. Names z element) (here_at k e before c l.0 at_l) l.1.names) old)
+        (λ ne. ne (here ∙ sym (one_way k before lawful.1 none l.0 s.way element (subst (λ z. Names z element) (c.there l.0 ne) l.1.names) old)))
+
+    put_stood : (c : Changed k e before) → Putting k e before c.way c.word → StaysInside (moves_of who late) → inside (moves_of who early) ≡ 1 →
+        IsLinkedAs k table key element (e ∷ before) → Stood (e ∷ late) early
+    put_stood c p inside_all one l = ⊎_elim
+        (λ (t : (from : ℕ) × (to : ℕ) × IsMoving from to (moves_of 0 before)). move_ended c p inside_all one t.0 t.1 t.2)
+        (λ (none : IsSettled (moves_of 0 before)). dite (ℕ_discrete c.way s.way)
+        (λ here. absurd (put_over c p none here l))
+        (λ ne. stood_after c p s.way ne s.all))
+        (moved_or_not (moves_of 0 before))
+
+    double_stood : (c : Changed k e before) → Doubling k e before c.way c.word → Stood (e ∷ late) early
+    double_stood c d =
+        let ne : c.way ≢ s.way = λ is. nothing_named element (subst (λ z. Names z element)
+        (ap (λ z. word_in z (moves_of 0 before)) (sym is) ∙ d.may.empty) (at_last_way s.way late early s.all).names) in
+        record {
+          way = s.way;
+          all = still_all e late early s.way lawful.0 (c.there s.way ne) s.all;
+          second = λ f t n.
+              let is : (d.from ≡ f) × (c.way ≡ t) = subst (IsMoving f t) d.mine n in
+              (λ at_t. ne (is.1 ∙ sym at_t), λ at_f. inr (moves_of 0 (e ∷ late), ap (λ ms. since_double ms ++ moves_of 0 (e ∷ late)) (sym d.mine)));
+        }
+
+  stood : (late early : History) → IsLawful k (late ++ early) → StaysInside (moves_of who late) → inside (moves_of who early) ≡ 1 →
+      Throughout (IsLinkedAs k table key element) late early → Stood late early
+  stood [] early lawful s one t = at_first early lawful t.0 t.1
+  stood (e ∷ late) early lawful s one t =
+      let rest = inside_rest who e late s in
+      let ih = stood late early lawful.1 rest one t.1 in
       ⊎_elim
-      (λ (t : (x : History) × ((0, Put to word) ∷ before ≡ x ++ put)). ⊎_elim
-      (λ (same : put ≡ (0, Put to word) ∷ before). gone [] same)
-      (λ (u : (z : History) × (before ≡ z ++ put)). absurd (not_before u.0 not u.1))
-      (behind_first (0, Put to word) before t.0 put t.1))
-      (λ (t : (x : History) × (put ≡ x ++ (0, Put to word) ∷ before)). gone t.0 t.1)
-      (ends between ((0, Put to word) ∷ before) (w.0 ++ m.between) put (w.1 ∙ sym (append_assoc w.0 m.between put)))
+      (λ (q : Quiet e (late ++ early)). quiet_stood e late early lawful ih q)
+      (λ (c : Changed k e (late ++ early)). ⊎_elim
+      (λ (p : Putting k e (late ++ early) c.way c.word). put_stood e late early lawful ih c p rest one t.0)
+      (λ (d : Doubling k e (late ++ early) c.way c.word). double_stood e late early lawful ih c d)
+      c.how)
+      (step k e (late ++ early) lawful.0)
+
+  under_all : (way : ℕ) (late early : History) → Throughout (At way) late early → StaysFound k table key way late early
+  under_all way [] early t = (element, t)
+  under_all way (e ∷ late) early t = ((element, t.0), under_all way late early t.1)
+
+  -- so the key stays in one way
+  pub stays_somewhere : (late early : History) → IsLawful k (late ++ early) → StaysInside (moves_of who late) → inside (moves_of who early) ≡ 1 →
+      Throughout (IsLinkedAs k table key element) late early → (way : ℕ) × StaysFound k table key way late early
+  stays_somewhere late early lawful s one t =
+      let all = stood late early lawful s one t in
+      (all.way, under_all all.way late early all.all)
+
+bucket_back : (bucket : ℕ) → bucket_of (bucket * 8) ≡ bucket
+bucket_back bucket = omega arith
+
+-- an element that stays linked, moved or not, is not answered by null
+pub null_refutes_elements : (k : Layout) (late early : History) → IsLawful k (late ++ early) → (table : ℕ) (key : List ℕ) (who element : ℕ) →
+    OnlySearches k table (moves_of who late) → AnswersLookup k table key (moves_of who late) None →
+    Throughout (IsLinkedAs k table key element) late early → ⊥
+null_refutes_elements k late early lawful table key who element only null t =
+    let first = k.first table key * 8 in
+    let s = searches_inside k table (moves_of who late) only in
+    let looked = refuted_looked k table key first (moves_of who late) (null first (inl (bucket_back (k.first table key)))) in
+    let seen = was_inside k who first late early lawful s looked in
+    let w = stays_somewhere k table key element who seen.0 late early lawful s seen.1 t in
+    stays_found k table key who w.0 late early lawful only null w.1
+
+-- a word is not written in a second way once the first was emptied
+pub doubled_late : (k : Layout) (es : History) (from to word : ℕ) → word_in from (moves_of 0 es) ≡ 0 → MayDo k es 0 (Double from to word) → ⊥
+doubled_late k es from to word none may =
+    nothing_named may.1.element (subst (λ z. Names z may.1.element) (sym may.1.there ∙ none) may.1.names)
+
+-- nor is the first emptied before each reader has left
+pub emptied_early : (k : Layout) (es : History) → IsLawful k es → (from to reader word : ℕ) → IsMoving from to (moves_of 0 es) → 0 < reader →
+    reader ≤ k.readers → (FoundGone reader (since_double (moves_of 0 es)) → ⊥) → MayDo k es 0 (Put from word) → ⊥
+emptied_early k es lawful from to reader word moving some few unseen may = ⊎_elim
+    (λ (same : from ≡ to). (moved_ways k es lawful from to moving).two same)
+    (λ (t : (from ≡ from) × HavePassed k.readers (moves_of 0 es)). unseen (t.1 reader some few))
+    (may.2 from to moving).1

@@ -1,15 +1,15 @@
 -- Keys stay linked in one way at most.
-use Rattle.std.proofs.Common.{◌≡◌, ◌≢◌, ℕ, List, [], ◌∷◌, ◌++◌, sym, ◌∙◌, subst, ⊎_elim}
+use Rattle.std.proofs.Common.{◌≡◌, ◌≢◌, ◌⊎◌, ℕ, List, [], ◌∷◌, ◌++◌, refl, sym, ◌∙◌, subst, ⊎_elim, inl, inr}
 use mathlib.Core.Logic.{dite}
 use native.Mathlib.Decide.{ℕ_discrete}
 use Rattle.map_table_laws.specs.declared.moves.Move.{Move}
 use Rattle.map_table_laws.specs.declared.moves.Move.TheVariants.{Put}
 use Rattle.map_table_laws.specs.Layout.{Layout, Names}
-use Rattle.map_table_laws.specs.History.{moves_of, word_in, IsLawful}
+use Rattle.map_table_laws.specs.History.{moves_of, word_in, IsMoving, IsSettled, AreOneOrMoved, IsLawful}
 use Rattle.map_table_laws.specs.Found.{IsLinkedUnder, BearsKey}
 use Rattle.map_table_laws.specs.Once.{AreLinkedOnce, PutsNoKeyTwice, PutNoKeyTwice}
 use Rattle.map_table_laws.proofs.Steps.{key_step}
-use Rattle.map_table_laws.proofs.Standing.{Quiet, Changed, step, changes_no_key}
+use Rattle.map_table_laws.proofs.Standing.{Quiet, Putting, Doubling, Changed, step, here_at, put_moved}
 
 module _ (k : Layout) (table : ℕ) (e : ℕ × Move) (es : List (ℕ × Move)) (lawful : IsLawful k (e ∷ es)) (key : List ℕ) where
   -- what is linked in a way after a step that leaves the way was so before
@@ -35,24 +35,72 @@ module _ (k : Layout) (table : ℕ) (e : ℕ × Move) (es : List (ℕ × Move)) 
   -- what was put bears the key
   bears : (way : ℕ) → (c : Changed k e es) → c.way ≡ way → IsLinkedUnder k table key way (e ∷ es) → BearsKey k table key es c.word
   bears way c is l =
-      let here : word_in way (moves_of 0 (e ∷ es)) ≡ c.word = subst (λ z. word_in z (moves_of 0 (e ∷ es)) ≡ c.word) is c.here in
-      (l.0, subst (λ z. Names z l.0) here l.1.names, l.1.table_is, sym (changes_no_key k e es l.0 c) ∙ l.1.key_is)
+      (l.0, subst (λ z. Names z l.0) (here_at k e es c way is) l.1.names, l.1.table_is, sym (c.keys l.0) ∙ l.1.key_is)
+
+  -- what is put in a second way was linked in the first
+  first_linked : (way : ℕ) → (c : Changed k e es) → (d : Doubling k e es c.way c.word) → c.way ≡ way → IsLinkedUnder k table key way (e ∷ es) →
+      IsLinkedUnder k table key d.from es
+  first_linked way c d is l =
+      let b = bears way c is l in
+      (b.0, record { names = subst (λ z. Names z b.0) (sym d.may.there) b.1; table_is = b.2; key_is = b.3 })
+
+once_settled : (k : Layout) (table : ℕ) (es : List (ℕ × Move)) → AreLinkedOnce k table es → IsSettled (moves_of 0 es) → (key : List ℕ) (one other : ℕ) →
+    IsLinkedUnder k table key one es → IsLinkedUnder k table key other es → one ≡ other
+once_settled k table es once none key one other p q = ⊎_elim
+    (λ (same : one ≡ other). same)
+    (λ (m : IsMoving one other (moves_of 0 es) ⊎ IsMoving other one (moves_of 0 es)).
+    absurd (⊎_elim (λ t. none one other t) (λ t. none other one t) m))
+    (once key one other p q)
+
+put_once : (k : Layout) (table : ℕ) (e : ℕ × Move) (es : List (ℕ × Move)) → IsLawful k (e ∷ es) → AreLinkedOnce k table es →
+    PutsNoKeyTwice k table es e.1 → (c : Changed k e es) → Putting k e es c.way c.word → AreLinkedOnce k table (e ∷ es)
+put_once k table e es lawful once puts c t key one other p q =
+    let put : PutsNoKeyTwice k table es (Put c.way c.word) = subst (PutsNoKeyTwice k table es) t.is puts in
+    dite (ℕ_discrete c.way one)
+    (λ at_one. dite (ℕ_discrete c.way other)
+    (λ at_other. inl (sym at_one ∙ at_other))
+    (λ not_other. inl (sym at_one ∙
+    sym (put key other (bears k table e es lawful key one c at_one p) (before_change k table e es lawful key other c not_other q)))))
+    (λ not_one. dite (ℕ_discrete c.way other)
+    (λ at_other. inl (put key one (bears k table e es lawful key other c at_other q) (before_change k table e es lawful key one c not_one p) ∙ at_other))
+    (λ not_other. ⊎_elim
+    (λ (same : one ≡ other). inl same)
+    (λ (m : IsMoving one other (moves_of 0 es) ⊎ IsMoving other one (moves_of 0 es)). absurd (⊎_elim
+    (λ z. put_moved k e es c.way c.word one other t not_one not_other z)
+    (λ z. put_moved k e es c.way c.word other one t not_other not_one z) m))
+    (once key one other (before_change k table e es lawful key one c not_one p)
+    (before_change k table e es lawful key other c not_other q))))
+
+double_once : (k : Layout) (table : ℕ) (e : ℕ × Move) (es : List (ℕ × Move)) → IsLawful k (e ∷ es) → AreLinkedOnce k table es →
+    (c : Changed k e es) → Doubling k e es c.way c.word → AreLinkedOnce k table (e ∷ es)
+double_once k table e es lawful once c d key one other p q =
+    let only = once_settled k table es once d.may.settled key in
+    let moves : (way : ℕ) → c.way ≡ way → IsMoving d.from way (moves_of 0 (e ∷ es)) = λ way is. subst (IsMoving d.from way) (sym d.mine) (refl, is) in
+    dite (ℕ_discrete c.way one)
+    (λ at_one. dite (ℕ_discrete c.way other)
+    (λ at_other. inl (sym at_one ∙ at_other))
+    (λ not_other.
+    let is = only d.from other (first_linked k table e es lawful key one c d at_one p) (before_change k table e es lawful key other c not_other q) in
+    inr (inr (subst (λ z. IsMoving z one (moves_of 0 (e ∷ es))) is (moves one at_one)))))
+    (λ not_one. dite (ℕ_discrete c.way other)
+    (λ at_other.
+    let is = only d.from one (first_linked k table e es lawful key other c d at_other q) (before_change k table e es lawful key one c not_one p) in
+    inr (inl (subst (λ z. IsMoving z other (moves_of 0 (e ∷ es))) is (moves other at_other))))
+    (λ not_other. inl (only one other (before_change k table e es lawful key one c not_one p)
+    (before_change k table e es lawful key other c not_other q))))
 
 once_step : (k : Layout) (table : ℕ) (e : ℕ × Move) (es : List (ℕ × Move)) → IsLawful k (e ∷ es) → AreLinkedOnce k table es →
     PutsNoKeyTwice k table es e.1 → AreLinkedOnce k table (e ∷ es)
-once_step k table e es lawful once puts key one other p q = ⊎_elim
-    (λ (t : Quiet e es). once key one other (before_quiet k table e es lawful key one t p) (before_quiet k table e es lawful key other t q))
-    (λ (c : Changed k e es).
-    let put : PutsNoKeyTwice k table es (Put c.way c.word) = subst (PutsNoKeyTwice k table es) c.is puts in
-    dite (ℕ_discrete c.way one)
-    (λ at_one. dite (ℕ_discrete c.way other)
-    (λ at_other. sym at_one ∙ at_other)
-    (λ not_other. sym at_one ∙
-    sym (put key other (bears k table e es lawful key one c at_one p) (before_change k table e es lawful key other c not_other q))))
-    (λ not_one. dite (ℕ_discrete c.way other)
-    (λ at_other. put key one (bears k table e es lawful key other c at_other q) (before_change k table e es lawful key one c not_one p) ∙ at_other)
-    (λ not_other. once key one other (before_change k table e es lawful key one c not_one p)
-    (before_change k table e es lawful key other c not_other q))))
+once_step k table e es lawful once puts = ⊎_elim
+    (λ (t : Quiet e es) (key : List ℕ) (one other : ℕ) p q. ⊎_elim
+    (λ (same : one ≡ other). inl same)
+    (λ (m : IsMoving one other (moves_of 0 es) ⊎ IsMoving other one (moves_of 0 es)).
+    inr (⊎_elim (λ z. inl (t.onward one other z)) (λ z. inr (t.onward other one z)) m))
+    (once key one other (before_quiet k table e es lawful key one t p) (before_quiet k table e es lawful key other t q)))
+    (λ (c : Changed k e es). ⊎_elim
+    (λ (t : Putting k e es c.way c.word). put_once k table e es lawful once puts c t)
+    (λ (t : Doubling k e es c.way c.word). double_once k table e es lawful once c t)
+    c.how)
     (step k e es lawful.0)
 
 pub stays_once : (k : Layout) (late early : List (ℕ × Move)) → IsLawful k (late ++ early) → (table : ℕ) → AreLinkedOnce k table early →

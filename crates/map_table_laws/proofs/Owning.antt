@@ -3,7 +3,7 @@ use Rattle.std.proofs.Common.{◌≡◌, ◌≢◌, ℕ, ◌<◌, ◌≤◌, Lis
 use mathlib.Core.Logic.{dite}
 use native.Mathlib.Decide.{ℕ_discrete}
 use Rattle.map_table_laws.specs.declared.moves.Move.{Move}
-use Rattle.map_table_laws.specs.declared.moves.Move.TheVariants.{Open, Close, Learn, Load, Store, Put, Scan}
+use Rattle.map_table_laws.specs.declared.moves.Move.TheVariants.{Open, Close, Learn, Load, Store, Put, Double, Scan}
 use Rattle.map_table_laws.specs.Layout.{Layout}
 use Rattle.map_table_laws.specs.History.{moves_of, word_after, word_at, with_writer, Holds, IsSpare, IsOpenTo, MayDo, IsLawful}
 
@@ -15,6 +15,7 @@ others_leave k es who other element place old Close some own writer ne may = ref
 others_leave k es who other element place old (Learn w x) some own writer ne may = refl
 others_leave k es who other element place old (Load s p x) some own writer ne may = refl
 others_leave k es who other element place old (Put w x) some own writer ne may = refl
+others_leave k es who other element place old (Double v w x) some own writer ne may = refl
 others_leave k es who other element place old (Scan r x) some own writer ne may = refl
 others_leave k es who other element place old (Store s p x) some own writer ne may = dite (ℕ_discrete s element)
     (λ same. dite (ℕ_discrete p place)

@@ -2,15 +2,14 @@
 use Rattle.std.proofs.Common.{◌≡◌, ℕ, ◌<◌, ◌≤◌, List, [], ◌∷◌, ◌++◌, refl, subst, inl, inr, arith, Bool, true, false}
 use Rattle.std.specs.Prelude.{◌==◌, if◌then◌else◌}
 use Rattle.map_table_laws.specs.declared.moves.Move.{Move}
-use Rattle.map_table_laws.specs.declared.moves.Move.TheVariants.{Close, Store, Put, Scan}
+use Rattle.map_table_laws.specs.declared.moves.Move.TheVariants.{Close, Store, Put, Double, Scan}
 use Rattle.map_table_laws.specs.Layout.{Names}
-use Rattle.map_table_laws.specs.History.{moves_of, word_in, key_of, IsLinked, IsSpare, IsReader, IsLawful}
-use Rattle.map_table_laws.specs.Found.{IsLinkedUnder}
-use Rattle.map_table_laws.specs.Moved.{MovesKey}
-use Rattle.map_table_laws.specs.Small.{small, naming, linked, found, moving, replaced, left, reused, reused_beside, scanned_twice}
+use Rattle.map_table_laws.specs.History.{moves_of, word_in, IsLinked, IsSpare, HavePassed, IsReader, IsLawful}
+use Rattle.map_table_laws.specs.Small.{small, naming, linked, found, moved, moved_too_early, moved_back, replaced, left, reused, reused_beside, scanned_twice}
 use Rattle.map_table_laws.specs.Small.{reused_too_early, reused_by_one_number}
 use Rattle.map_table_laws.proofs.Steps.{nothing_named}
 use Rattle.map_table_laws.proofs.Writing.{filled_unheld}
+use Rattle.map_table_laws.proofs.Moved.{emptied_early}
 
 neither : (b : Bool) (v w element : ℕ) → (Names v element → ⊥) → (Names w element → ⊥) → Names (if b then v else w) element → ⊥
 neither true v w element p q h = p h
@@ -56,6 +55,7 @@ linked_lawful = (
       bucket = inr refl;
       tag = refl;
     },
+    λ f t m. absurd m,
   ),
   (inl (refl, at_first), (inl (refl, at_first), tt)),
 )
@@ -75,6 +75,7 @@ replaced_lawful = (
       bucket = inr refl;
       tag = refl;
     },
+    λ f t m. absurd m,
   ),
   (inl (refl, one_first), (inl (refl, one_first), found_lawful)),
 )
@@ -94,6 +95,7 @@ reused_lawful = (
       bucket = inl refl;
       tag = refl;
     },
+    λ f t m. absurd m,
   ),
   (inl (refl, zero_again (moves_of 0 replaced) refl), ((refl, refl), left_lawful)),
 )
@@ -120,73 +122,30 @@ twice_lawful = ((refl, refl), ((refl, refl), replaced_lawful))
 pub one_number_too_early : IsLawful small reused_by_one_number → ⊥
 one_number_too_early h = filled_unheld small scanned_twice twice_lawful 1 0 0 6 h.0 (inl refl)
 
-moving_lawful_stores : IsLawful small ((0, Store 1 1 50) ∷ (0, Store 1 0 5) ∷ found)
-moving_lawful_stores = (inl (refl, one_first), (inl (refl, one_first), found_lawful))
+reader_out : HavePassed 1 (Scan 1 2 ∷ Double 9 1 (naming 0) ∷ moves_of 0 found)
+reader_out r some within = inl (only_one r some within, inl refl)
 
-pub moving_lawful : IsLawful small (moving ++ found)
-moving_lawful = (
-  (refl, inl refl),
+doubled_lawful : IsLawful small ((0, Double 9 1 (naming 0)) ∷ found)
+doubled_lawful = (
   (
-    (refl, refl),
-    (
-      reader,
-      (
-        (
-          refl,
-          inr record {
-            element = 1;
-            names = refl;
-            within = omega arith;
-            spare = one_first;
-            bucket = inl refl;
-            tag = refl;
-          },
-        ),
-        moving_lawful_stores,
-      ),
-    ),
+    refl,
+    record {
+      element = 0;
+      names = refl;
+      there = refl;
+      empty = refl;
+      bucket = inl refl;
+      settled = λ f t m. m;
+    },
   ),
+  found_lawful,
 )
 
-linked_at : (way element : ℕ) (es : List (ℕ × Move)) → Names (word_in way (moves_of 0 es)) element → key_of small element es ≡ 5 ∷ [] →
-    IsLinkedUnder small 0 (5 ∷ []) way es
-linked_at way element es names key = (element, record { names = names; table_is = refl; key_is = key })
+pub moved_lawful : IsLawful small moved
+moved_lawful = ((refl, inl refl, λ f t m. (refl, inr (m.0, reader_out))), ((refl, refl), (reader, doubled_lawful)))
 
-abbrev filled : List (ℕ × Move)
-filled = (0, Store 1 0 5) ∷ found
+pub moved_back_lawful : IsLawful small moved_back
+moved_back_lawful = ((refl, inl refl, λ f t m. (refl, inl m.1)), doubled_lawful)
 
-abbrev valued : List (ℕ × Move)
-valued = (0, Store 1 1 50) ∷ filled
-
-abbrev twice : List (ℕ × Move)
-twice = (0, Put 1 (naming 1)) ∷ valued
-
-abbrev closed : List (ℕ × Move)
-closed = (1, Close) ∷ twice
-
-abbrev looked : List (ℕ × Move)
-looked = (0, Scan 1 2) ∷ closed
-
-pub moving_moves : MovesKey small 0 (5 ∷ []) 9 1 moving found
-moving_moves = record {
-  after = [];
-  between = (0, Scan 1 2) ∷ (1, Close) ∷ [];
-  before = (0, Store 1 1 50) ∷ (0, Store 1 0 5) ∷ [];
-  word = naming 1;
-  steps = refl;
-  gone = λ r some within. inl (only_one r some within, inl refl);
-  stays_in_from = (
-    linked_at 9 0 looked refl refl,
-    (
-      linked_at 9 0 closed refl refl,
-      (
-        linked_at 9 0 twice refl refl,
-        (linked_at 9 0 valued refl refl, (linked_at 9 0 filled refl refl, linked_at 9 0 found refl refl)),
-      ),
-    ),
-  );
-  stays_in_to = (
-    linked_at 1 1 ((0, Put 9 0) ∷ looked) refl refl,
-    (linked_at 1 1 looked refl refl, (linked_at 1 1 closed refl refl, linked_at 1 1 twice refl refl)),
-  );
-}
+pub moved_past_reader : IsLawful small moved_too_early → ⊥
+moved_past_reader h = emptied_early small ((0, Double 9 1 (naming 0)) ∷ found) doubled_lawful 9 1 1 0 (refl, refl) (omega arith) (omega arith) (λ n. n) h.0

@@ -4,7 +4,7 @@ use Rattle.std.specs.Prelude.{length, slice_index}
 use mathlib.Core.Logic.{dite}
 use native.Mathlib.Decide.{ℕ_discrete}
 use Rattle.map_table_laws.specs.declared.moves.Move.{Move}
-use Rattle.map_table_laws.specs.declared.moves.Move.TheVariants.{Open, Close, Learn, Load, Store, Put, Scan}
+use Rattle.map_table_laws.specs.declared.moves.Move.TheVariants.{Open, Close, Learn, Load, Store, Put, Double, Scan}
 use Rattle.map_table_laws.specs.Layout.{Layout, Names}
 use Rattle.map_table_laws.specs.History.{moves_of, word_in, word_after, word_at, words_from, key_of, Holds, IsSpare}
 use Rattle.map_table_laws.specs.History.{IsOpenTo, MayDo}
@@ -59,6 +59,7 @@ key_of_step k es who element (Learn w x) may kept = key_same k element ((who, Le
 key_of_step k es who element (Load s p x) may kept = key_same k element ((who, Load s p x) ∷ es) es (λ q l. refl)
 key_of_step k es who element (Store s p x) may kept = stored_key k es who element s p x may kept
 key_of_step k es who element (Put w x) may kept = key_same k element ((who, Put w x) ∷ es) es (λ p l. refl)
+key_of_step k es who element (Double v w x) may kept = key_same k element ((who, Double v w x) ∷ es) es (λ p l. refl)
 key_of_step k es who element (Scan r x) may kept = key_same k element ((who, Scan r x) ∷ es) es (λ p l. refl)
 
 pub key_step : (k : Layout) (es : List (ℕ × Move)) (e : ℕ × Move) (element : ℕ) → MayDo k es e.0 e.1 →
@@ -69,6 +70,10 @@ key_step k es e element may kept = key_of_step k es e.0 element e.1 may kept
 pub key_put : (k : Layout) (es : List (ℕ × Move)) (who element way x : ℕ) →
     key_of k element ((who, Put way x) ∷ es) ≡ key_of k element es
 key_put k es who element way x = key_same k element ((who, Put way x) ∷ es) es (λ p l. refl)
+
+pub key_doubled : (k : Layout) (es : List (ℕ × Move)) (who element from way x : ℕ) →
+    key_of k element ((who, Double from way x) ∷ es) ≡ key_of k element es
+key_doubled k es who element from way x = key_same k element ((who, Double from way x) ∷ es) es (λ p l. refl)
 
 -- nor does learning
 pub key_learn : (k : Layout) (es : List (ℕ × Move)) (who element way x : ℕ) →
@@ -99,6 +104,13 @@ put_here w way x ms is = rw (eq-eqb w way is) refl
 
 pub put_there : (w way x : ℕ) (ms : List Move) → w ≢ way → word_in way (Put w x ∷ ms) ≡ word_in way ms
 put_there w way x ms ne = rw (ne_eqb w way ne) refl
+
+-- the same of a word that is put in a second way
+pub doubled_here : (v w way x : ℕ) (ms : List Move) → w ≡ way → word_in way (Double v w x ∷ ms) ≡ x
+doubled_here v w way x ms is = rw (eq-eqb w way is) refl
+
+pub doubled_there : (v w way x : ℕ) (ms : List Move) → w ≢ way → word_in way (Double v w x ∷ ms) ≡ word_in way ms
+doubled_there v w way x ms ne = rw (ne_eqb w way ne) refl
 
 -- a word names one element
 pub one_name : (word a b : ℕ) → Names word a → Names word b → a ≡ b

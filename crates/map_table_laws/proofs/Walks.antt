@@ -4,7 +4,7 @@ use Rattle.std.specs.Prelude.{slice_index}
 use mathlib.Core.Logic.{dite}
 use native.Mathlib.Decide.{ℕ_discrete}
 use Rattle.map_table_laws.specs.declared.moves.Move.{Move}
-use Rattle.map_table_laws.specs.declared.moves.Move.TheVariants.{Open, Close, Learn, Load, Store, Put, Scan}
+use Rattle.map_table_laws.specs.declared.moves.Move.TheVariants.{Open, Close, Learn, Load, Store, Put, Double, Scan}
 use Rattle.map_table_laws.specs.Layout.{Layout, Names}
 use Rattle.map_table_laws.specs.History.{moves_of, inside, key_of, Holds, IsReader, MayDo, IsLawful}
 use Rattle.map_table_laws.specs.Lookups.{FoundIn, HadWord}
@@ -34,6 +34,7 @@ looked_head way (Learn w x) ms h = ⊎_elim
 looked_head way (Load e p x) ms h = inr h
 looked_head way (Store e p x) ms h = inr h
 looked_head way (Put w x) ms h = inr h
+looked_head way (Double v w x) ms h = inr h
 looked_head way (Scan r x) ms h = inr h
 
 looked_step : (who way : ℕ) (e : ℕ × Move) (late : History) → LookedAt way (moves_of who (e ∷ late)) →
@@ -66,6 +67,7 @@ found_more way element (Learn w x) ms h = inr h
 found_more way element (Load e p x) ms h = h
 found_more way element (Store e p x) ms h = h
 found_more way element (Put w x) ms h = h
+found_more way element (Double v w x) ms h = h
 found_more way element (Scan r x) ms h = h
 
 found_later : (who way element : ℕ) (e : ℕ × Move) (late : History) → FoundIn way element (moves_of who late) →

@@ -3,7 +3,7 @@ use Rattle.std.proofs.Common.{◌≡◌, ℕ, ◌≤◌, [], ◌∷◌, ◌++◌
 use mathlib.Core.Logic.{dite}
 use native.Mathlib.Decide.{ℕ_discrete}
 use Rattle.map_table_laws.specs.declared.moves.Move.{Move}
-use Rattle.map_table_laws.specs.declared.moves.Move.TheVariants.{Open, Close, Learn, Load, Store, Put, Scan}
+use Rattle.map_table_laws.specs.declared.moves.Move.TheVariants.{Open, Close, Learn, Load, Store, Put, Double, Scan}
 use Rattle.map_table_laws.specs.Layout.{Layout}
 use Rattle.map_table_laws.specs.History.{moves_of, word_after, word_at, Holds, IsSpare, IsOpenTo, MayDo, IsLawful}
 use Rattle.map_table_laws.specs.Found.{StaysInside}
@@ -25,6 +25,7 @@ word_stays k es lawful who element place old Close may kept only = refl
 word_stays k es lawful who element place old (Learn w x) may kept only = refl
 word_stays k es lawful who element place old (Load s p x) may kept only = refl
 word_stays k es lawful who element place old (Put w x) may kept only = refl
+word_stays k es lawful who element place old (Double v w x) may kept only = refl
 word_stays k es lawful who element place old (Scan r x) may kept only = refl
 word_stays k es lawful who element place old (Store s p x) may kept only = dite (ℕ_discrete s element)
     (λ same. ⊎_elim

@@ -4,7 +4,7 @@ use Rattle.std.proofs.Math.Nat.{min-eq_left, min-eq_right}
 use mathlib.Core.Logic.{dite}
 use native.Mathlib.Decide.{dec_lt}
 use Rattle.map_table_laws.specs.declared.moves.Move.{Move}
-use Rattle.map_table_laws.specs.declared.moves.Move.TheVariants.{Open, Close, Learn, Load, Store, Put, Scan}
+use Rattle.map_table_laws.specs.declared.moves.Move.TheVariants.{Open, Close, Learn, Load, Store, Put, Double, Scan}
 use Rattle.map_table_laws.specs.History.{inside, opened, section_word}
 use Rattle.map_table_laws.specs.Found.{StaysInside}
 
@@ -16,6 +16,7 @@ inside_small (Learn w x ∷ ms) = inside_small ms
 inside_small (Load e p x ∷ ms) = inside_small ms
 inside_small (Store e p x ∷ ms) = inside_small ms
 inside_small (Put w x ∷ ms) = inside_small ms
+inside_small (Double v w x ∷ ms) = inside_small ms
 inside_small (Scan r x ∷ ms) = inside_small ms
 
 -- who is inside has opened a section
@@ -27,6 +28,7 @@ inside_opened (Learn w x ∷ ms) = inside_opened ms
 inside_opened (Load e p x ∷ ms) = inside_opened ms
 inside_opened (Store e p x ∷ ms) = inside_opened ms
 inside_opened (Put w x ∷ ms) = inside_opened ms
+inside_opened (Double v w x ∷ ms) = inside_opened ms
 inside_opened (Scan r x ∷ ms) = inside_opened ms
 
 opened_more : (ns ms : List Move) → opened ms ≤ opened (ns ++ ms)
@@ -37,6 +39,7 @@ opened_more (Learn w x ∷ ns) ms = opened_more ns ms
 opened_more (Load e p x ∷ ns) ms = opened_more ns ms
 opened_more (Store e p x ∷ ns) ms = opened_more ns ms
 opened_more (Put w x ∷ ns) ms = opened_more ns ms
+opened_more (Double v w x ∷ ns) ms = opened_more ns ms
 opened_more (Scan r x ∷ ns) ms = opened_more ns ms
 
 -- the word while the count is below its limit, and from there on
@@ -72,6 +75,7 @@ word_stays (Learn w x ∷ ns) ms s = word_stays ns ms s
 word_stays (Load e p x ∷ ns) ms s = word_stays ns ms s
 word_stays (Store e p x ∷ ns) ms s = word_stays ns ms s
 word_stays (Put w x ∷ ns) ms s = word_stays ns ms s
+word_stays (Double v w x ∷ ns) ms s = word_stays ns ms s
 word_stays (Scan r x ∷ ns) ms s = word_stays ns ms s
 
 -- and who was inside stays so
@@ -87,6 +91,7 @@ none_opened (Learn w x ∷ ns) ms few i = none_opened ns ms few i
 none_opened (Load e p x ∷ ns) ms few i = none_opened ns ms few i
 none_opened (Store e p x ∷ ns) ms few i = none_opened ns ms few i
 none_opened (Put w x ∷ ns) ms few i = none_opened ns ms few i
+none_opened (Double v w x ∷ ns) ms few i = none_opened ns ms few i
 none_opened (Scan r x ∷ ns) ms few i = none_opened ns ms few i
 
 -- an odd word below the limit tells how many sections were opened

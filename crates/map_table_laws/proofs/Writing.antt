@@ -1,10 +1,10 @@
 -- What the writer does to keys that are linked, and to elements that are to be filled anew.
-use Rattle.std.proofs.Common.{◌≡◌, ◌≢◌, ◌⊎◌, ℕ, ◌%◌, ◌<◌, ◌≤◌, List, [], ◌∷◌, ◌++◌, refl, sym, ◌∙◌, subst, ⊎_elim, inl, inr, arith}
+use Rattle.std.proofs.Common.{◌≡◌, ◌≢◌, ◌⊎◌, ℕ, ◌%◌, ◌<◌, ◌≤◌, List, [], ◌∷◌, ◌++◌, refl, sym, ap, ◌∙◌, subst, ⊎_elim, inl, inr, arith}
 use mathlib.Core.Logic.{dite}
 use native.Mathlib.Decide.{ℕ_discrete}
 use Rattle.std.proofs.Common.{None}
 use Rattle.map_table_laws.specs.declared.moves.Move.{Move}
-use Rattle.map_table_laws.specs.declared.moves.Move.TheVariants.{Open, Close, Learn, Load, Store, Put, Scan}
+use Rattle.map_table_laws.specs.declared.moves.Move.TheVariants.{Open, Close, Learn, Load, Store, Put, Double, Scan}
 use Rattle.map_table_laws.specs.Layout.{Layout, Names}
 use Rattle.map_table_laws.specs.History.{moves_of, word_in, IsLinked, Holds, FoundSince, HasLeft, Cleared, IsSpare, IsOpenTo, MayDo, MayLink, IsLawful}
 use Rattle.map_table_laws.specs.Lookups.{OnlySearches, Refuted, FoundIn, AnswersLookup}
@@ -12,7 +12,7 @@ use Rattle.map_table_laws.specs.Found.{IsLinkedUnder, IsLinkedAs, Throughout, St
 use Rattle.map_table_laws.specs.Scanned.{OnlyScans, FoundOutside, FoundOther, FoundGone, AllOutside, LookedAt}
 use Rattle.map_table_laws.proofs.Steps.{key_step, put_here, one_name, nothing_named}
 use Rattle.map_table_laws.proofs.Holding.{held, spare_unheld}
-use Rattle.map_table_laws.proofs.Standing.{Quiet, Changed, step, changes_no_key, one_way, put_alone}
+use Rattle.map_table_laws.proofs.Standing.{Quiet, Putting, Doubling, Changed, step, here_at}
 use Rattle.map_table_laws.proofs.Moments.{History, stays_found}
 
 put_zero : (way : ℕ) (ms : List Move) → word_in way (Put way 0 ∷ ms) ≡ 0
@@ -42,18 +42,22 @@ module _ (k : Layout) (table : ℕ) (key : List ℕ) (way : ℕ) where
     record {
       names = subst (λ z. Names z b.0) (sym here) b.1;
       table_is = b.2;
-      key_is = changes_no_key k e es b.0 c ∙ b.3;
+      key_is = c.keys b.0 ∙ b.3;
     },
   )
 
   one_more : (e : ℕ × Move) (es : History) → MayDo k es e.0 e.1 → KeepsKey k table key way es e.1 → Linked es → Linked (e ∷ es)
   one_more e es may keeps l = ⊎_elim
       (λ (q : Quiet e es). linked_still e es may (q.same way) l)
-      (λ (c : Changed k e es). let put : KeepsKey k table key way es (Put c.way c.word) = subst (KeepsKey k table key way es) c.is keeps in
-      dite (ℕ_discrete c.way way)
+      (λ (c : Changed k e es). dite (ℕ_discrete c.way way)
       (λ same. ⊎_elim
+      (λ (p : Putting k e es c.way c.word). let put : KeepsKey k table key way es (Put c.way c.word) = subst (KeepsKey k table key way es) p.is keeps in
+      ⊎_elim
       (λ (not : c.way ≡ way → ⊥). absurd (not same))
-      (λ (b : BearsKey k table key es c.word). linked_anew e es c.word (subst (λ z. word_in z (moves_of 0 (e ∷ es)) ≡ c.word) same c.here) c b) put)
+      (λ (b : BearsKey k table key es c.word). linked_anew e es c.word (here_at k e es c way same) c b) put)
+      (λ (d : Doubling k e es c.way c.word). absurd (nothing_named l.0
+      (subst (λ z. Names z l.0) (ap (λ z. word_in z (moves_of 0 es)) (sym same) ∙ d.may.empty) l.1.names)))
+      c.how)
       (λ ne. linked_still e es may (c.there way ne) l))
       (step k e es may)
 
@@ -86,6 +90,7 @@ module _ (readers element : ℕ) where
   cleared_by low high r (Load e p x ∷ ms) ws s f = absurd s
   cleared_by low high r (Store e p x ∷ ms) ws s f = absurd s
   cleared_by low high r (Put w x ∷ ms) ws s f = absurd s
+  cleared_by low high r (Double v w x ∷ ms) ws s f = absurd s
   cleared_by low high r (Scan q x ∷ ms) ws s f = ⊎_elim (λ (t : (q ≡ r) × (x % 2 ≡ 0)). inl (t.0, inl t.1)) (λ t. inr (cleared_by low high r ms ws s.2 t)) f
 
   pub unlinked_still : (low high : ℕ) (ms ws : List Move) → OnlyScans low high ms → IsLinked element (ms ++ ws) → IsLinked element ws
@@ -96,6 +101,7 @@ module _ (readers element : ℕ) where
   unlinked_still low high (Load e p x ∷ ms) ws s l = absurd s
   unlinked_still low high (Store e p x ∷ ms) ws s l = absurd s
   unlinked_still low high (Put w x ∷ ms) ws s l = absurd s
+  unlinked_still low high (Double v w x ∷ ms) ws s l = absurd s
   unlinked_still low high (Scan q x ∷ ms) ws s l = unlinked_still low high ms ws s.2 (l.0, l.1)
 
   -- one scan of all readers frees all that was unlinked before it
@@ -128,6 +134,7 @@ found_looked way element (Learn w x ∷ ms) h = ⊎_elim (λ (t : (w ≡ way) ×
 found_looked way element (Load e p x ∷ ms) h = found_looked way element ms h
 found_looked way element (Store e p x ∷ ms) h = found_looked way element ms h
 found_looked way element (Put w x ∷ ms) h = found_looked way element ms h
+found_looked way element (Double v w x ∷ ms) h = found_looked way element ms h
 found_looked way element (Scan r x ∷ ms) h = found_looked way element ms h
 
 pub refuted_looked : (k : Layout) (table : ℕ) (key : List ℕ) (way : ℕ) (ms : List Move) → Refuted k table key way ms → LookedAt way ms
@@ -138,6 +145,7 @@ refuted_looked k table key way (Learn w x ∷ ms) h = ⊎_elim (λ t. inl t.0) (
 refuted_looked k table key way (Load e p x ∷ ms) h = ⊎_elim (λ t. found_looked way e ms t.0) (λ t. refuted_looked k table key way ms t) h
 refuted_looked k table key way (Store e p x ∷ ms) h = refuted_looked k table key way ms h
 refuted_looked k table key way (Put w x ∷ ms) h = refuted_looked k table key way ms h
+refuted_looked k table key way (Double v w x ∷ ms) h = refuted_looked k table key way ms h
 refuted_looked k table key way (Scan r x ∷ ms) h = refuted_looked k table key way ms h
 
 -- a number that was found since the element was unlinked was found in that stretch
@@ -150,6 +158,7 @@ found_in reader element x y way word (Learn w z ∷ ms) ws names ne f = found_in
 found_in reader element x y way word (Load e p z ∷ ms) ws names ne f = found_in reader element x y way word ms ws names ne f
 found_in reader element x y way word (Store e p z ∷ ms) ws names ne f = found_in reader element x y way word ms ws names ne f
 found_in reader element x y way word (Put w z ∷ ms) ws names ne f = found_in reader element x y way word ms ws names ne f.1
+found_in reader element x y way word (Double v w z ∷ ms) ws names ne f = found_in reader element x y way word ms ws names ne f
 found_in reader element x y way word (Scan r z ∷ ms) ws names ne f = ⊎_elim
     (λ (t : (r ≡ reader) × (z ≡ y)). inl (t.0, λ e. ne (sym t.1 ∙ e)))
     (λ t. inr (found_in reader element x y way word ms ws names ne t)) f
@@ -164,6 +173,7 @@ not_cleared reader element way word (Learn w x ∷ ms) ws unseen names c = not_c
 not_cleared reader element way word (Load e p x ∷ ms) ws unseen names c = not_cleared reader element way word ms ws unseen names c
 not_cleared reader element way word (Store e p x ∷ ms) ws unseen names c = not_cleared reader element way word ms ws unseen names c
 not_cleared reader element way word (Put w x ∷ ms) ws unseen names c = not_cleared reader element way word ms ws unseen names c.1
+not_cleared reader element way word (Double v w x ∷ ms) ws unseen names c = not_cleared reader element way word ms ws unseen names c
 not_cleared reader element way word (Scan r x ∷ ms) ws unseen names c = ⊎_elim
     (λ (t : (r ≡ reader) × HasLeft reader element x (ms ++ Put way word ∷ ws)). unseen (inl (
       t.0,
@@ -188,31 +198,3 @@ one_odd_number readers reader element way word found ws some within odd names sp
     (λ (t : (reader ≡ reader) × ((found % 2 ≡ 0) ⊎ ⊥)). ⊎_elim (λ (even : found % 2 ≡ 0). absurd (omega (arith, even, odd))) (λ n. n) t.1)
     (λ n. n) g)
     names spare
-
--- An element that was linked before a step and is so after it stands where it stood.
-same_way : (k : Layout) (e : ℕ × Move) (es : History) (a b element : ℕ) → IsLawful k es → MayDo k es e.0 e.1 →
-    Names (word_in a (moves_of 0 es)) element → Names (word_in b (moves_of 0 (e ∷ es))) element → a ≡ b
-same_way k e es a b element lawful may p q = ⊎_elim
-    (λ (t : Quiet e es). one_way k es lawful a b element p (subst (λ z. Names z element) (t.same b) q))
-    (λ (c : Changed k e es). dite (ℕ_discrete c.way b)
-    (λ at_b. absurd (put_alone k es c.way c.word a element c.may
-    (subst (λ z. Names z element) (subst (λ z. word_in z (moves_of 0 (e ∷ es)) ≡ c.word) at_b c.here) q) p))
-    (λ ne. one_way k es lawful a b element p (subst (λ z. Names z element) (c.there b ne) q)))
-    (step k e es may)
-
--- an element that stays linked under a key stands in one way
-pub one_way_throughout : (k : Layout) (table : ℕ) (key : List ℕ) (element : ℕ) (late early : History) → IsLawful k (late ++ early) →
-    Throughout (IsLinkedAs k table key element) late early →
-    (way : ℕ) × Names (word_in way (moves_of 0 (late ++ early))) element × StaysFound k table key way late early
-one_way_throughout k table key element [] early lawful t = (t.0, t.1.names, (element, t.1))
-one_way_throughout k table key element (e ∷ late) early lawful t =
-    let ih = one_way_throughout k table key element late early lawful.1 t.1 in
-    let same = same_way k e (late ++ early) ih.0 t.0.0 element lawful.1 lawful.0 ih.1 t.0.1.names in
-    (t.0.0, t.0.1.names, ((element, t.0.1), subst (λ w. StaysFound k table key w late early) same ih.2))
-
-pub null_refutes_elements : (k : Layout) (late early : History) → IsLawful k (late ++ early) → (table : ℕ) (key : List ℕ) (who element : ℕ) →
-    OnlySearches k table (moves_of who late) → AnswersLookup k table key (moves_of who late) None →
-    Throughout (IsLinkedAs k table key element) late early → ⊥
-null_refutes_elements k late early lawful table key who element only null t =
-    let w = one_way_throughout k table key element late early lawful t in
-    stays_found k table key who w.0 late early lawful only null w.2

@@ -2,8 +2,9 @@
 -- Guarantee": an element is filled anew only when each reader that might hold it has left its section).
 use Rattle.std.specs.Prelude.{◌≡◌, ◌≢◌, ◌⊎◌, ℕ, zero, suc, ◌-◌, ◌*◌, ◌%◌, ◌^◌, ◌<◌, ◌≤◌, ◌==◌, min, List, [], ◌∷◌, if◌then◌else◌}
 use Rattle.map_table_laws.specs.declared.moves.Move.{Move}
-use Rattle.map_table_laws.specs.declared.moves.Move.TheVariants.{Open, Close, Learn, Load, Store, Put, Scan}
+use Rattle.map_table_laws.specs.declared.moves.Move.TheVariants.{Open, Close, Learn, Load, Store, Put, Double, Scan}
 use Rattle.map_table_laws.specs.Layout.{Layout, IsCandidate, Names, tag_in}
+use Rattle.map_table_laws.specs.Scanned.{FoundGone}
 
 -- what one holder did; the writer is number 0
 abbrev pub moves_of : ℕ → List (ℕ × Move) → List Move
@@ -42,6 +43,7 @@ section_word ms = 2 * min (opened ms) most_sections - inside ms
 abbrev pub word_in : ℕ → List Move → ℕ
 word_in way [] = 0
 word_in way (Put w x ∷ ms) = if w == way then x else word_in way ms
+word_in way (Double from to x ∷ ms) = if to == way then x else word_in way ms
 word_in way (_ ∷ ms) = word_in way ms
 
 -- the word at a place of an element after a move, where it was the old one before
@@ -120,6 +122,45 @@ IsOpenTo k who element place =
 abbrev pub IsReader : Layout → ℕ → Type 0
 IsReader k who = (0 < who) × (who ≤ k.readers)
 
+-- The writer wrote the word of a way in a second one, and has not put a word in any way since.
+abbrev pub IsMoving : ℕ → ℕ → List Move → Type 0
+IsMoving from to [] = ⊥
+IsMoving from to (Put way x ∷ ms) = ⊥
+IsMoving from to (Double f t x ∷ ms) = (f ≡ from) × (t ≡ to)
+IsMoving from to (_ ∷ ms) = IsMoving from to ms
+
+abbrev pub IsSettled : List Move → Type 0
+IsSettled ms = (from to : ℕ) → IsMoving from to ms → ⊥
+
+-- the ways are one, or those of a move
+abbrev pub AreOneOrMoved : ℕ → ℕ → List Move → Type 0
+AreOneOrMoved one other ms = (one ≡ other) ⊎ (IsMoving one other ms ⊎ IsMoving other one ms)
+
+-- what the writer did since it wrote a word in a second way
+abbrev pub since_double : List Move → List Move
+since_double [] = []
+since_double (Double from to x ∷ ms) = []
+since_double (m ∷ ms) = m ∷ since_double ms
+
+-- since it did so each reader was found outside a section, or with two numbers
+abbrev pub HavePassed : ℕ → List Move → Type 0
+HavePassed readers ms = (r : ℕ) → 0 < r → r ≤ readers → FoundGone r (since_double ms)
+
+-- While a word stands in two ways, the writer empties one of them before it puts anything: the second, or the first once
+-- each reader has left the section that it was in when the word was written in the second.
+abbrev pub Settles : ℕ → ℕ → ℕ → List Move → Type 0
+Settles readers way word ms = (from to : ℕ) → IsMoving from to ms →
+    (word ≡ 0) × ((way ≡ to) ⊎ ((way ≡ from) × HavePassed readers ms))
+
+-- The word is that of a way, and names an element whose key may be linked in the other way as well, which is empty.
+pub record MayDouble (k : Layout) (es : List (ℕ × Move)) (from to word : ℕ) : Type 0 where
+  pub element : ℕ
+  pub names : Names word element
+  pub there : word_in from (moves_of 0 es) ≡ word
+  pub empty : word_in to (moves_of 0 es) ≡ 0
+  pub bucket : IsCandidate k (k.table_of element) (key_of k element es) to
+  pub settled : IsSettled (moves_of 0 es)
+
 -- The word names a spare element, which has a key that may be linked in this way, with the tag of that key.
 pub record MayLink (k : Layout) (es : List (ℕ × Move)) (way word : ℕ) : Type 0 where
   pub element : ℕ
@@ -132,7 +173,8 @@ pub record MayLink (k : Layout) (es : List (ℕ × Move)) (way word : ℕ) : Typ
 -- What a holder may do after all this. A reader opens and closes its sections. Inside one it learns the words that ways
 -- have. It loads the words of elements that it holds, and stores those behind their keys which are no other reader's. A
 -- load finds the word that was stored last. The writer loads any word, and stores those of spare elements. He empties a
--- way, or puts a spare element there, also in place of another. He finds the section word that a reader has.
+-- way, or puts a spare element there, also in place of another. He writes the word of a way in a second way, and then
+-- empties one of both. He finds the section word that a reader has.
 abbrev pub MayDo : Layout → List (ℕ × Move) → ℕ → Move → Type 0
 MayDo k es who Open = IsReader k who
 MayDo k es who Close = IsReader k who
@@ -143,7 +185,9 @@ MayDo k es who (Load element place x) =
 MayDo k es who (Store element place x) =
     ((who ≡ 0) × IsSpare k.readers element (moves_of 0 es))
     ⊎ (Holds element (moves_of who es) × (k.key_words (k.table_of element) ≤ place) × IsOpenTo k who element place)
-MayDo k es who (Put way x) = (who ≡ 0) × ((x ≡ 0) ⊎ MayLink k es way x)
+MayDo k es who (Put way x) =
+    (who ≡ 0) × ((x ≡ 0) ⊎ MayLink k es way x) × Settles k.readers way x (moves_of 0 es)
+MayDo k es who (Double from to x) = (who ≡ 0) × MayDouble k es from to x
 MayDo k es who (Scan r x) = (who ≡ 0) × (x ≡ section_word (moves_of r es))
 
 -- each step was one that its holder might do then

@@ -3,7 +3,7 @@
 -- section.
 use Rattle.std.specs.Prelude.{ℕ, ◌+◌, ◌*◌, ◌^◌, List, [], ◌∷◌}
 use Rattle.map_table_laws.specs.declared.moves.Move.{Move}
-use Rattle.map_table_laws.specs.declared.moves.Move.TheVariants.{Open, Close, Learn, Load, Store, Put, Scan}
+use Rattle.map_table_laws.specs.declared.moves.Move.TheVariants.{Open, Close, Learn, Load, Store, Put, Double, Scan}
 use Rattle.map_table_laws.specs.Layout.{Layout}
 
 -- each key may be linked in the buckets 0 and 1, with the tag 7
@@ -31,11 +31,18 @@ linked = (0, Put 9 (naming 0)) ∷ (0, Store 0 1 50) ∷ (0, Store 0 0 5) ∷ []
 abbrev pub found : List (ℕ × Move)
 found = (1, Load 0 0 5) ∷ (1, Learn 9 (naming 0)) ∷ (1, Open) ∷ linked
 
--- The writer moves the key: it links the element 1, with the same key and value, in the way 1. The reader ends its section. The
--- writer finds it outside, and unlinks the key in the way 9.
-abbrev pub moving : List (ℕ × Move)
-moving =
-    (0, Put 9 0) ∷ (0, Scan 1 2) ∷ (1, Close) ∷ (0, Put 1 (naming 1)) ∷ (0, Store 1 1 50) ∷ (0, Store 1 0 5) ∷ []
+-- The writer moves the key: it writes the word of the way 9 in the way 1 as well. The reader ends its section. The writer
+-- finds it outside, and empties the way 9.
+abbrev pub moved : List (ℕ × Move)
+moved = (0, Put 9 0) ∷ (0, Scan 1 2) ∷ (1, Close) ∷ (0, Double 9 1 (naming 0)) ∷ found
+
+-- as it would be without the look, while the reader is inside
+abbrev pub moved_too_early : List (ℕ × Move)
+moved_too_early = (0, Put 9 0) ∷ (0, Double 9 1 (naming 0)) ∷ found
+
+-- it takes the move back, and empties the way 1 while the reader is inside
+abbrev pub moved_back : List (ℕ × Move)
+moved_back = (0, Put 1 0) ∷ (0, Double 9 1 (naming 0)) ∷ found
 
 -- the writer replaces the value: the element 1 has the same key, and the value 51
 abbrev pub replaced : List (ℕ × Move)

@@ -1,14 +1,13 @@
 //! What the definitions exclude, and a history that they don't.
 ghost use Rattle.std.specs.Prelude.{◌≡◌, ◌≢◌, ℕ, ◌%◌, ◌<◌, ◌≤◌, List, [], ◌∷◌, ◌++◌, None};
 ghost use Rattle.map_table_laws.specs.declared.moves.Move.{Move};
-ghost use Rattle.map_table_laws.specs.declared.moves.Move.TheVariants.{Store, Put, Scan};
+ghost use Rattle.map_table_laws.specs.declared.moves.Move.TheVariants.{Store, Put, Double, Scan};
 ghost use Rattle.map_table_laws.specs.Layout.{Layout, IsCandidate, Names};
-ghost use Rattle.map_table_laws.specs.History.{moves_of, word_in, Holds, IsSpare, MayDo, IsLawful};
+ghost use Rattle.map_table_laws.specs.History.{moves_of, word_in, Holds, IsMoving, since_double, IsSpare, MayDo, IsLawful};
 ghost use Rattle.map_table_laws.specs.Lookups.{AnswersLookup};
-ghost use Rattle.map_table_laws.specs.Found.{IsLinkedUnder, StaysFound};
+ghost use Rattle.map_table_laws.specs.Found.{StaysFound};
 ghost use Rattle.map_table_laws.specs.Scanned.{FoundGone, LookedAt};
-ghost use Rattle.map_table_laws.specs.Moved.{MovesKey};
-ghost use Rattle.map_table_laws.specs.Small.{small, found, moving, reused, reused_beside, reused_too_early, reused_by_one_number};
+ghost use Rattle.map_table_laws.specs.Small.{small, moved, moved_back, moved_too_early, reused, reused_beside, reused_too_early, reused_by_one_number};
 
 /// A small history that was worked by hand is lawful: a key is linked, found, replaced while a reader holds its element,
 /// and the element filled anew after the reader was seen outside.
@@ -79,28 +78,28 @@ pub fn a_number_from_before_is_excluded()
         IsSpare readers element (Scan reader found ∷ Put way word ∷ before) → ⊥ }
 {}
 
-/// A small history that was worked by hand moves a key: it is linked in another way while a reader is inside, and unlinked
-/// in the first once that reader has left.
+/// Lawful as well: a key that is moved. Its word is written in a second way while a reader is inside, and the first way emptied
+/// once that reader has left; or the second, while it is still inside.
 pub fn small_history_moves_a_key()
-    ensures lawful { IsLawful small (moving ++ found) }
-    ensures moves { MovesKey small 0 (5 ∷ []) 9 1 moving found }
+    ensures moved { IsLawful small moved }
+    ensures back { IsLawful small moved_back }
 {}
 
-/// Excluded: a move that unlinks first. The first way is emptied while the key is not linked in the other one.
+/// Excluded: the first way emptied while the reader is still inside.
+pub fn small_history_moved_too_early_is_not()
+    ensures { IsLawful small moved_too_early → ⊥ }
+{}
+
+/// Excluded: a move that unlinks first. A way that was emptied has no word for a second one.
 pub fn moving_by_unlinking_first_is_excluded()
-    ensures { (k : Layout) (table : ℕ) (key : List ℕ) (from to : ℕ)
-        (after before early : List (ℕ × Move)) →
-        (IsLinkedUnder k table key to (before ++ early) → ⊥) →
-        MovesKey k table key from to (after ++ (0, Put from 0) ∷ before) early → ⊥ }
+    ensures { (k : Layout) (es : List (ℕ × Move)) (from to word : ℕ) →
+        word_in from (moves_of 0 es) ≡ 0 → MayDo k es 0 (Double from to word) → ⊥ }
 {}
 
-/// Excluded: a move past a reader. The put links the key in the other way, and between it and the emptying the reader was
-/// found neither outside nor with two numbers.
+/// Excluded: a move past a reader. Since the word was written in the second way the reader was found neither outside nor with
+/// two numbers, and the first way is emptied.
 pub fn moving_past_a_reader_is_excluded()
-    ensures { (k : Layout) (table : ℕ) (key : List ℕ) (from to reader word : ℕ)
-        (after between before early : List (ℕ × Move)) → 0 < reader → reader ≤ k.readers →
-        (IsLinkedUnder k table key to (before ++ early) → ⊥) →
-        (FoundGone reader (moves_of 0 between) → ⊥) →
-        MovesKey k table key from to
-        (after ++ (0, Put from 0) ∷ (between ++ (0, Put to word) ∷ before)) early → ⊥ }
+    ensures { (k : Layout) (es : List (ℕ × Move)) → IsLawful k es → (from to reader word : ℕ) →
+        IsMoving from to (moves_of 0 es) → 0 < reader → reader ≤ k.readers →
+        (FoundGone reader (since_double (moves_of 0 es)) → ⊥) → MayDo k es 0 (Put from word) → ⊥ }
 {}

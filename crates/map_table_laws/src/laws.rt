@@ -3,14 +3,13 @@ ghost use Rattle.std.specs.Prelude.{◌≡◌, ℕ, ◌+◌, ◌%◌, ◌^◌, �
 ghost use Rattle.map_table_laws.specs.declared.moves.Move.{Move};
 ghost use Rattle.map_table_laws.specs.declared.moves.Move.TheVariants.{Load, Scan};
 ghost use Rattle.map_table_laws.specs.Layout.{Layout, IsCandidate, IsApart, Names, tag_in};
-ghost use Rattle.map_table_laws.specs.History.{moves_of, with_writer, inside, opened, most_sections, section_word, word_in, word_at, key_of, generation, IsLinked, Holds, FoundSince, Cleared, IsSpare, IsLawful};
+ghost use Rattle.map_table_laws.specs.History.{moves_of, with_writer, inside, opened, most_sections, section_word, word_in, word_at, key_of, generation, IsLinked, AreOneOrMoved, Holds, FoundSince, Cleared, IsSpare, IsReader, IsLawful};
 ghost use Rattle.map_table_laws.specs.Lookups.{OnlySearches, AnswersLookup, FoundIn, HadWord};
 ghost use Rattle.map_table_laws.specs.Found.{IsLinkedUnder, IsLinkedAs, Sometime, Throughout, StaysFound, StaysInside, StaysUnlinked, OnlyReplaces};
 ghost use Rattle.map_table_laws.specs.Once.{AreLinkedOnce, PutNoKeyTwice};
 ghost use Rattle.map_table_laws.specs.Scanned.{OnlyScans, AllOutside};
 ghost use Rattle.map_table_laws.specs.Whole.{OnlyWriterStores};
 ghost use Rattle.map_table_laws.specs.Added.{OnlyAdds};
-ghost use Rattle.map_table_laws.specs.Moved.{MovesKey};
 ghost use Rattle.map_table_laws.specs.Walks.{LearnsEach, Meets};
 
 /// In every lawful history a way names only an element that there is and whose key may be linked in that way's bucket, with the key's tag.
@@ -21,11 +20,12 @@ pub fn ways_name_keys_of_their_bucket()
         × (tag_in (word_in way (moves_of 0 es)) ≡ k.tag (k.table_of element) (key_of k element es)) }
 {}
 
-/// In every lawful history one way at most names an element.
+/// In every lawful history one way at most names an element, but for one that is moved. That stands in both ways of the
+/// move.
 pub fn elements_stand_in_one_way()
     ensures { (k : Layout) (es : List (ℕ × Move)) → IsLawful k es → (one other element : ℕ) →
         Names (word_in one (moves_of 0 es)) element → Names (word_in other (moves_of 0 es)) element →
-        one ≡ other }
+        AreOneOrMoved one other (moves_of 0 es) }
 {}
 
 /// In every lawful history nobody holds a spare element, so that what the writer stores in it no reader can reach or
@@ -87,7 +87,8 @@ pub fn null_refutes_every_way()
         (way : ℕ) → Sometime (λ es. IsLinkedUnder k table key way es → ⊥) late early }
 {}
 
-/// So in every lawful history no element of the table stays linked under the key through a lookup that answers null.
+/// So in every lawful history no element of the table stays linked under the key through a lookup that answers null, also while
+/// it is moved to another way.
 pub fn null_refutes_every_element()
     ensures { (k : Layout) (late early : List (ℕ × Move)) → IsLawful k (late ++ early) →
         (table : ℕ) (key : List ℕ) (who element : ℕ) → OnlySearches k table (moves_of who late) →
@@ -112,8 +113,8 @@ pub fn replaced_keys_stay()
         OnlyReplaces k table key way late early → StaysFound k table key way late early }
 {}
 
-/// In every lawful history no key is linked in two ways, if none was before and the writer puts no element in a way whose
-/// key is linked in another.
+/// In every lawful history no key is linked in two ways, but for one that is moved, if none was before and the writer puts
+/// no element in a way whose key is linked in another.
 pub fn keys_stay_once()
     ensures { (k : Layout) (late early : List (ℕ × Move)) → IsLawful k (late ++ early) → (table : ℕ) →
         AreLinkedOnce k table early → PutNoKeyTwice k table late early →
@@ -183,15 +184,14 @@ pub fn two_looks_clear_who_moved()
         (moves_of 0 ((late ++ (0, Scan reader y) ∷ between) ++ (0, Scan reader x) ∷ early)) }
 {}
 
-/// In every lawful history a key that the writer moves from one way to another is found throughout. No lookup answers null
-/// to it, wherever in these steps it begins and ends. One that began before the link may have passed the other way too
-/// early. Its section has ended by the unlinking, since its reader was found gone between them.
-pub fn moved_keys_are_found()
+/// In every lawful history, as a reader in a section finds them, elements that stay linked under a key stay in one way, also
+/// where they are moved: either the first way of the move is not emptied before the section ends, or the second one had the
+/// word before the section began.
+pub fn moved_elements_keep_a_way()
     ensures { (k : Layout) (late early : List (ℕ × Move)) → IsLawful k (late ++ early) →
-        (table : ℕ) (key : List ℕ) (from to : ℕ) → MovesKey k table key from to late early →
-        (who : ℕ) (newer stretch older : List (ℕ × Move)) → late ≡ newer ++ (stretch ++ older) →
-        OnlySearches k table (moves_of who stretch) →
-        AnswersLookup k table key (moves_of who stretch) None → ⊥ }
+        (table : ℕ) (key : List ℕ) (who element : ℕ) → IsReader k who → inside (moves_of who early) ≡ 1 →
+        StaysInside (moves_of who late) → Throughout (IsLinkedAs k table key element) late early →
+        (way : ℕ) × StaysFound k table key way late early }
 {}
 
 /// A walk: in every lawful history a reader that learns each way below n in one section meets each key that stays linked in

@@ -12,7 +12,7 @@ pub use excluded::{
     a_number_from_before_is_excluded, filling_a_held_element_is_excluded,
     linking_a_held_element_is_excluded, moving_by_unlinking_first_is_excluded,
     moving_past_a_reader_is_excluded, null_after_one_bucket_is_excluded,
-    skipping_a_reader_is_excluded, small_history_is_lawful, small_history_moves_a_key,
+    skipping_a_reader_is_excluded, small_history_is_lawful, small_history_moved_too_early_is_not, small_history_moves_a_key,
     small_history_of_one_section_is_not, small_history_of_two_sections_is_lawful,
     small_history_without_its_scan_is_not, storing_at_anothers_place_is_excluded,
     unlinking_first_is_excluded,
@@ -20,7 +20,7 @@ pub use excluded::{
 pub use laws::{
     added_amounts_stay, elements_stand_in_one_way, held_elements_stay, held_values_stay,
     hits_are_held, hits_were_linked, keys_stay_once, keys_that_stay_are_found,
-    loads_find_what_was_stored, moved_keys_are_found, null_refutes_every_element,
+    loads_find_what_was_stored, moved_elements_keep_a_way, null_refutes_every_element,
     null_refutes_every_way, one_scan_frees_all, own_words_stay, replaced_keys_stay,
     section_words_tell_sections, spare_elements_are_unheld, two_looks_clear_who_moved,
     uncleared_readers_have_one_number, uncleared_readers_stay_in_one_section,

@@ -14,6 +14,8 @@ pub enum Move {
     Store(u64, u64, u64),
     /// The writer writes the word of a way: the way, and its word.
     Put(u64, u64),
+    /// The writer writes the word of a way in a second way as well: the way, the second one, and the word.
+    Double(u64, u64, u64),
     /// The writer finds the section word of a reader: the reader, and its word, odd inside and even outside.
     Scan(u64, u64),
 }
