@@ -1,7 +1,7 @@
 -- A map table keeps what every table of shared runs keeps.
 use Rattle.std.proofs.Common.{◌≡◌, ℕ, ◌≤◌, ◌*◌, ◌∙◌, sym, ap, arith, List, [], ◌∷◌, ◌++◌, inl, inr, refl, Option}
 use Rattle.map_table_laws.specs.declared.moves.Move.{Move}
-use Rattle.map_table_laws.specs.declared.moves.Move.TheVariants.{Open, Close, Learn, Load, Store, Put, Scan}
+use Rattle.map_table_laws.specs.declared.moves.Move.TheVariants.{Open, Close, Learn, Load, Store, Put, Double, Scan}
 use Rattle.map_table_laws.specs.History.{inside, Holds}
 use Rattle.table_words.specs.declared.view.TableShape.{TableShape}
 use Rattle.map_table.specs.Held.{IsSized}
@@ -22,6 +22,7 @@ holds_over element (Learn way x ∷ ms) before (inr h) = inr (holds_over element
 holds_over element (Load e p x ∷ ms) before h = holds_over element ms before h
 holds_over element (Store e p x ∷ ms) before h = holds_over element ms before h
 holds_over element (Put way x ∷ ms) before h = holds_over element ms before h
+holds_over element (Double f way x ∷ ms) before h = holds_over element ms before h
 holds_over element (Scan r x ∷ ms) before h = holds_over element ms before h
 
 -- a run's list begins outside every section
@@ -33,6 +34,7 @@ inside_over (Learn way x ∷ ms) before h = inside_over ms before h
 inside_over (Load e p x ∷ ms) before h = inside_over ms before h
 inside_over (Store e p x ∷ ms) before h = inside_over ms before h
 inside_over (Put way x ∷ ms) before h = inside_over ms before h
+inside_over (Double f way x ∷ ms) before h = inside_over ms before h
 inside_over (Scan r x ∷ ms) before h = inside_over ms before h
 
 pub is_table : (k : TableShape) (first : ℕ) → IsTable (table_of k first)

@@ -1,7 +1,7 @@
 -- What every lawful history says of its readers.
 use Rattle.std.proofs.Common.{◌≡◌, ℕ, ◌<◌, refl, sym, ◌∙◌, subst, arith, List, ◌∷◌, ◌++◌, inl, inr, ⊎_elim, Some, None}
 use Rattle.map_table_laws.specs.declared.moves.Move.{Move}
-use Rattle.map_table_laws.specs.declared.moves.Move.TheVariants.{Open, Close, Learn, Load, Store, Put, Scan}
+use Rattle.map_table_laws.specs.declared.moves.Move.TheVariants.{Open, Close, Learn, Load, Store, Put, Double, Scan}
 use Rattle.map_table_laws.specs.Layout.{Layout}
 use Rattle.map_table_laws.specs.History.{moves_of, Holds, IsLawful, MayDo}
 use Rattle.map_table_laws.specs.Lookups.{AnswersLookup, OnlySearches}
@@ -24,6 +24,7 @@ touched k es who element Open some may t = absurd t
 touched k es who element Close some may t = absurd t
 touched k es who element (Learn way x) some may t = absurd t
 touched k es who element (Put way x) some may t = absurd t
+touched k es who element (Double f way x) some may t = absurd t
 touched k es who element (Scan r x) some may t = absurd t
 
 -- what a reader touches it holds

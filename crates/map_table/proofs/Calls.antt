@@ -8,7 +8,7 @@ use Rattle.map_table_laws.specs.declared.moves.Move.{Move}
 use Rattle.map_table_laws.specs.declared.moves.Move.TheVariants.{Open, Close, Learn, Load, Store}
 use Rattle.map_table_laws.specs.Layout.{Names}
 use Rattle.map_table_laws.specs.History.{moves_of, inside, opened, most_sections, section_word, word_in, word_at}
-use Rattle.map_table_laws.specs.History.{Holds, IsSpare, IsLawful, IsReader, MayLink}
+use Rattle.map_table_laws.specs.History.{Settles, Holds, IsSpare, IsLawful, IsReader, MayDouble, MayLink}
 use Rattle.map_table_laws.proofs.Standing.{named, fits}
 use Rattle.std.proofs.Math.Nat.{min-le_right, min-eq_left, min-eq_right}
 use mathlib.Core.Logic.{dite}
@@ -17,13 +17,13 @@ use Rattle.map_table.specs.Limits.{section_stride}
 use Rattle.map_table.specs.Hashes.{layout_of}
 use Rattle.table_words.specs.declared.view.TableShape.{TableShape}
 use Rattle.table_words.specs.declared.view.View.{View}
-use Rattle.map_table.specs.Law.{ways_from, ways_of, count_of, width_of, did, Kept, Gains, opens, closes, learns, stores, puts, scans}
+use Rattle.map_table.specs.Law.{ways_from, ways_of, count_of, width_of, did, Kept, Gains, opens, closes, learns, stores, puts, doubles, scans}
 use Rattle.map_table.specs.Held.{Holder, Does, IsKnown}
 use Rattle.map_table.proofs.Places.{IsAt}
 use Rattle.map_table.proofs.Lists.{stored_here}
 use Rattle.map_table.specs.Values.{first_of}
 use Rattle.map_table.proofs.Valued.{behind_key, in_element, is_open}
-use Rattle.map_table.proofs.Keeps.{opens_ok, closes_ok, learns_ok, stores_ok, puts_ok, scans_ok}
+use Rattle.map_table.proofs.Keeps.{opens_ok, closes_ok, learns_ok, stores_ok, puts_ok, doubles_ok, scans_ok}
 use Rattle.map_table.proofs.Going.{went_one}
 
 pub stores_at : (k : TableShape) (slots id : ℕ) (me : Me ℕ View) (i element place x : ℕ) → IsAt k i element place →
@@ -45,7 +45,7 @@ word_seen : (v w : View) (m m' : Move) (element place : ℕ) → m ≡ m' → (g
 word_seen v w m m' element place is g = ap (λ (z : View). word_at element place z.seen) g.1 ∙
     ap (λ z. word_at element place ((v.me, z) ∷ (g.0 ++ v.seen))) is
 
-lawful_now : (v w : View) (m m' : Move) → m ≡ m' → (g : Gains v m w) → IsLawful (layout_of v.shape) ((v.me, m') ∷ (g.0 ++ v.seen))
+pub lawful_now : (v w : View) (m m' : Move) → m ≡ m' → (g : Gains v m w) → IsLawful (layout_of v.shape) ((v.me, m') ∷ (g.0 ++ v.seen))
 lawful_now v w m m' is g = subst (λ z. IsLawful (layout_of v.shape) ((v.me, z) ∷ (g.0 ++ v.seen))) is
     (subst (λ (z : View). IsLawful (layout_of v.shape) z.seen) g.1 g.2)
 
@@ -163,14 +163,26 @@ pub way_within : (k : TableShape) (w way n : ℕ) → w ≡ ways_from k → way 
 way_within k w way n at l e = omega (arith, at, l, e)
 
 pub puts_at : (j k : TableShape) (slots id : ℕ) (me : Me ℕ View) (w way x : ℕ) → w ≡ ways_from j → me.0.shape ≡ j → j ≡ k →
-    way < ways_of j → me.0.me ≡ 0 → IsKnown me.0 → (x ≡ 0) ⊎ MayLink (layout_of j) me.0.seen way x
+    way < ways_of j → me.0.me ≡ 0 → IsKnown me.0 → (x ≡ 0) ⊎ MayLink (layout_of j) me.0.seen way x →
+    Settles j.readers way x me.0.mine
     → Allows (Kept k) slots id me (w + way) (λ _. x) (λ _. puts (step slots (w + way) x 0 none) me x)
-puts_at j k slots id me w way x at same is l writer known may =
+puts_at j k slots id me w way x at same is l writer known may settles =
     let e : ways_from j ≡ ways_from k = ap ways_from is in
     let m : way < ways_of k = subst (λ (z : TableShape). way < ways_of z) is l in
     let back : (w + way) - ways_from me.0.shape ≡ way = way_back me.0.shape j w way at same in
     puts_ok k slots id me (w + way) x (omega (arith, at, e)) (omega (arith, at, e, m)) writer known
     (subst (λ (z : ℕ × TableShape). (x ≡ 0) ⊎ MayLink (layout_of z.1) me.0.seen z.0 x) (λ i. (sym back i, is i)) may)
+    (subst (λ (z : ℕ × TableShape). Settles z.1.readers z.0 x me.0.mine) (λ i. (sym back i, is i)) settles)
+
+pub doubles_at : (j k : TableShape) (slots id : ℕ) (me : Me ℕ View) (w from way x : ℕ) → w ≡ ways_from j → me.0.shape ≡ j → j ≡ k →
+    way < ways_of j → me.0.me ≡ 0 → IsKnown me.0 → MayDouble (layout_of j) me.0.seen from way x
+    → Allows (Kept k) slots id me (w + way) (λ _. x) (λ _. doubles (step slots (w + way) x 0 none) me x)
+doubles_at j k slots id me w from way x at same is l writer known may =
+    let e : ways_from j ≡ ways_from k = ap ways_from is in
+    let m : way < ways_of k = subst (λ (z : TableShape). way < ways_of z) is l in
+    let back : (w + way) - ways_from me.0.shape ≡ way = way_back me.0.shape j w way at same in
+    doubles_ok k slots id me (w + way) from x (omega (arith, at, e)) (omega (arith, at, e, m)) writer known
+    (subst (λ (z : ℕ × TableShape). MayDouble (layout_of z.1) me.0.seen from z.0 x) (λ i. (sym back i, is i)) may)
 
 pub scan_within : (k : TableShape) (reader n : ℕ) → reader < k.readers → n ≡ count_of k → reader * section_stride < n
 scan_within k reader n l e = omega arith

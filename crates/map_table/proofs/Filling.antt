@@ -4,7 +4,7 @@ use Rattle.std.specs.Prelude.{slice_index}
 use mathlib.Core.Logic.{dite}
 use native.Mathlib.Decide.{ℕ_discrete}
 use Rattle.map_table_laws.specs.declared.moves.Move.{Move}
-use Rattle.map_table_laws.specs.declared.moves.Move.TheVariants.{Open, Close, Learn, Load, Store, Put, Scan}
+use Rattle.map_table_laws.specs.declared.moves.Move.TheVariants.{Open, Close, Learn, Load, Store, Put, Double, Scan}
 use Rattle.map_table_laws.specs.Layout.{Layout}
 use Rattle.map_table_laws.specs.History.{moves_of, word_at, word_after, key_of, Holds, IsSpare, IsOpenTo, MayDo, IsLawful}
 use Rattle.map_table_laws.proofs.Steps.{own, others, key_is}
@@ -24,6 +24,7 @@ leaves_spare k es who element place Close ne may lawful spare = refl
 leaves_spare k es who element place (Learn w x) ne may lawful spare = refl
 leaves_spare k es who element place (Load s p x) ne may lawful spare = refl
 leaves_spare k es who element place (Put w x) ne may lawful spare = refl
+leaves_spare k es who element place (Double f w x) ne may lawful spare = refl
 leaves_spare k es who element place (Scan r x) ne may lawful spare = refl
 leaves_spare k es who element place (Store s p x) ne may lawful spare = dite (ℕ_discrete s element)
     (λ same. ⊎_elim

@@ -5,11 +5,11 @@ use Rattle.std.specs.Prelude.{All, slice_index}
 use mathlib.Core.Logic.{dite}
 use native.Mathlib.Decide.{ℕ_discrete}
 use Rattle.map_table_laws.specs.declared.moves.Move.{Move}
-use Rattle.map_table_laws.specs.declared.moves.Move.TheVariants.{Open, Close, Learn, Load, Store, Put, Scan}
+use Rattle.map_table_laws.specs.declared.moves.Move.TheVariants.{Open, Close, Learn, Load, Store, Put, Double, Scan}
 use Rattle.map_table_laws.specs.Layout.{Layout, Names}
-use Rattle.map_table_laws.specs.History.{word_in, IsLinked, Cleared, IsSpare}
+use Rattle.map_table_laws.specs.History.{word_in, IsLinked, IsMoving, IsSettled, Settles, Cleared, IsSpare}
 use Rattle.map_table_laws.specs.Lookups.{OnlySearches}
-use Rattle.map_table_laws.specs.Scanned.{ScansInTurn}
+use Rattle.map_table_laws.specs.Scanned.{OnlyScans, ScansInTurn}
 use Rattle.map_table_laws.proofs.Steps.{put_here, put_there, one_name, nothing_named}
 use Rattle.table_words.specs.declared.view.TableShape.{TableShape}
 use Rattle.table_words.specs.declared.view.View.{View}
@@ -26,20 +26,22 @@ use Rattle.map_table.proofs.Members.{all_to, all_both, all_else}
 pub record IsQuiet (ns : List Move) : Type 0 where
   pub words : (way : ℕ) (ms : List Move) → word_in way (ns ++ ms) ≡ word_in way ms
   pub cleared : (r e : ℕ) (ms : List Move) → Cleared r e ms → Cleared r e (ns ++ ms)
+  pub moving : (f t : ℕ) (ms : List Move) → IsMoving f t (ns ++ ms) → IsMoving f t ms
 
 quiet_none : IsQuiet []
-quiet_none = record { words = λ way ms. refl; cleared = λ r e ms c. c }
+quiet_none = record { words = λ way ms. refl; cleared = λ r e ms c. c; moving = λ f t ms m. m }
 
 quiet_store : (element place x : ℕ) (ns : List Move) → IsQuiet ns → IsQuiet (Store element place x ∷ ns)
-quiet_store element place x ns q = record { words = λ way ms. q.words way ms; cleared = λ r e ms c. q.cleared r e ms c }
+quiet_store element place x ns q = record { words = λ way ms. q.words way ms; cleared = λ r e ms c. q.cleared r e ms c; moving = λ f t ms m. q.moving f t ms m }
 
 quiet_scan : (reader x : ℕ) (ns : List Move) → IsQuiet ns → IsQuiet (Scan reader x ∷ ns)
-quiet_scan reader x ns q = record { words = λ way ms. q.words way ms; cleared = λ r e ms c. inr (q.cleared r e ms c) }
+quiet_scan reader x ns q = record { words = λ way ms. q.words way ms; cleared = λ r e ms c. inr (q.cleared r e ms c); moving = λ f t ms m. q.moving f t ms m }
 
 pub quiet_append : (ns ms : List Move) → IsQuiet ns → IsQuiet ms → IsQuiet (ns ++ ms)
 quiet_append ns ms p q = record {
   words = λ way qs. ap (word_in way) (append_assoc ns ms qs) ∙ (p.words way (ms ++ qs) ∙ q.words way qs);
   cleared = λ r e qs c. subst (Cleared r e) (sym (append_assoc ns ms qs)) (p.cleared r e (ms ++ qs) (q.cleared r e qs c));
+  moving = λ f t qs m. q.moving f t qs (p.moving f t (ms ++ qs) (subst (IsMoving f t) (append_assoc ns ms qs) m));
 }
 
 pub fills_quiet : (element from n : ℕ) (words : List ℕ) (ms : List Move) → Fills element from words n ms → IsQuiet ms
@@ -55,13 +57,14 @@ scans_quiet low high (Learn s h ∷ ns) n = absurd n
 scans_quiet low high (Load s p x ∷ ns) n = absurd n
 scans_quiet low high (Store s p x ∷ ns) n = absurd n
 scans_quiet low high (Put s w ∷ ns) n = absurd n
+scans_quiet low high (Double f s w ∷ ns) n = absurd n
 scans_quiet low high (Scan r x ∷ ns) n = quiet_scan r x ns (scans_quiet low (r - 1) ns n.2)
 
 quiet_learn : (way x : ℕ) (ns : List Move) → IsQuiet ns → IsQuiet (Learn way x ∷ ns)
-quiet_learn way x ns q = record { words = λ w ms. q.words w ms; cleared = λ r e ms c. q.cleared r e ms c }
+quiet_learn way x ns q = record { words = λ w ms. q.words w ms; cleared = λ r e ms c. q.cleared r e ms c; moving = λ f t ms m. q.moving f t ms m }
 
 quiet_load : (element place x : ℕ) (ns : List Move) → IsQuiet ns → IsQuiet (Load element place x ∷ ns)
-quiet_load element place x ns q = record { words = λ w ms. q.words w ms; cleared = λ r e ms c. q.cleared r e ms c }
+quiet_load element place x ns q = record { words = λ w ms. q.words w ms; cleared = λ r e ms c. q.cleared r e ms c; moving = λ f t ms m. q.moving f t ms m }
 
 pub searches_quiet : (k : Layout) (table : ℕ) (ns : List Move) → OnlySearches k table ns → IsQuiet ns
 searches_quiet k table [] n = quiet_none
@@ -71,7 +74,19 @@ searches_quiet k table (Learn w x ∷ ns) n = quiet_learn w x ns (searches_quiet
 searches_quiet k table (Load e p x ∷ ns) n = quiet_load e p x ns (searches_quiet k table ns n.1)
 searches_quiet k table (Store e p x ∷ ns) n = absurd n
 searches_quiet k table (Put w x ∷ ns) n = absurd n
+searches_quiet k table (Double f w x ∷ ns) n = absurd n
 searches_quiet k table (Scan r x ∷ ns) n = absurd n
+
+pub only_scans_quiet : (low high : ℕ) (ns : List Move) → OnlyScans low high ns → IsQuiet ns
+only_scans_quiet low high [] n = quiet_none
+only_scans_quiet low high (Open ∷ ns) n = absurd n
+only_scans_quiet low high (Close ∷ ns) n = absurd n
+only_scans_quiet low high (Learn w x ∷ ns) n = absurd n
+only_scans_quiet low high (Load e p x ∷ ns) n = absurd n
+only_scans_quiet low high (Store e p x ∷ ns) n = absurd n
+only_scans_quiet low high (Put w x ∷ ns) n = absurd n
+only_scans_quiet low high (Double f w x ∷ ns) n = absurd n
+only_scans_quiet low high (Scan r x ∷ ns) n = quiet_scan r x ns (only_scans_quiet low high ns n.2)
 
 pub loads_quiet : (ns : List Move) → OnlyLoads ns → IsQuiet ns
 loads_quiet [] n = quiet_none
@@ -81,6 +96,7 @@ loads_quiet (Learn w x ∷ ns) n = absurd n
 loads_quiet (Load e p x ∷ ns) n = quiet_load e p x ns (loads_quiet ns n)
 loads_quiet (Store e p x ∷ ns) n = absurd n
 loads_quiet (Put w x ∷ ns) n = absurd n
+loads_quiet (Double f w x ∷ ns) n = absurd n
 loads_quiet (Scan r x ∷ ns) n = absurd n
 
 pub adds_quiet : (element place apart n : ℕ) (ms : List Move) (total : ℕ) → AddsUp element place apart n ms total → IsQuiet ms
@@ -123,6 +139,14 @@ module _ (v w : View) (ns : List Move) (q : IsQuiet ns) (g : Went v (ns ++ v.min
     once = b.once;
   }
 
+  -- what is moved then was moved before
+  pub quiet_settled : IsSettled v.mine → IsSettled w.mine
+  quiet_settled none f t m = none f t (q.moving f t v.mine (subst (IsMoving f t) (went_mine v w (ns ++ v.mine) g) m))
+
+-- while nothing is moved a put settles nothing
+pub settles_none : (readers way word : ℕ) (ms : List Move) → IsSettled ms → Settles readers way word ms
+settles_none readers way word ms none f t m = absurd (none f t m)
+
 -- after a word was put in a way
 module _ (v w : View) (way word : ℕ) (g : Went v (Put way word ∷ v.mine) w) where
   shape : w.shape ≡ v.shape
@@ -133,6 +157,10 @@ module _ (v w : View) (way word : ℕ) (g : Went v (Put way word ∷ v.mine) w) 
 
   pub there : (other : ℕ) → way ≢ other → word_in other w.mine ≡ word_in other v.mine
   there other ne = ap (word_in other) (went_mine v w (Put way word ∷ v.mine) g) ∙ put_there way other word v.mine ne
+
+  -- nothing is moved
+  pub put_settled : IsSettled w.mine
+  put_settled f t m = subst (IsMoving f t) (went_mine v w (Put way word ∷ v.mine) g) m
 
   pub put_unlinked : (e : ℕ) → (Names word e → ⊥) → ((other : ℕ) → way ≢ other → Names (word_in other v.mine) e → ⊥) → IsLinked e w.mine → ⊥
   put_unlinked e not others l = dite (ℕ_discrete way l.0)

@@ -11,18 +11,18 @@ use lib.Seq.{set-get_or}
 use Rattle.atomic_table.specs.Table.{State, Me, step, keeps, stepped, Allows, Splits}
 use Rattle.atomic_table.proofs.Lists.{at_set}
 use Rattle.map_table_laws.specs.declared.moves.Move.{Move}
-use Rattle.map_table_laws.specs.declared.moves.Move.TheVariants.{Open, Close, Learn, Load, Store, Put, Scan}
+use Rattle.map_table_laws.specs.declared.moves.Move.TheVariants.{Open, Close, Learn, Load, Store, Put, Double, Scan}
 use Rattle.table_words.specs.declared.view.TableShape.{TableShape}
 use Rattle.table_words.specs.declared.view.View.{View}
-use Rattle.map_table_laws.specs.History.{moves_of, inside, section_word, word_in, IsLawful, Holds, IsSpare, IsOpenTo, MayDo, MayLink, IsReader, word_at}
+use Rattle.map_table_laws.specs.History.{moves_of, inside, section_word, word_in, IsLawful, Holds, IsSpare, IsOpenTo, Settles, MayDo, MayDouble, MayLink, IsReader, word_at}
 use Rattle.map_table.specs.Hashes.{layout_of}
 use Rattle.map_table.specs.Limits.{section_stride}
 use Rattle.map_table.specs.Law.{ways_from, ways_of, width_of, count_of, Fits, Kept, writer_of, dealt, reader_of, did}
-use Rattle.map_table.specs.Law.{Gains, base_of, index_in, opens, closes, learns, loads, stores, adds, puts, scans}
+use Rattle.map_table.specs.Law.{Gains, base_of, index_in, opens, closes, learns, loads, stores, adds, puts, doubles, scans}
 use Rattle.map_table.proofs.Lists.{moves_self, moves_else, IsQuiet, IsStill, IsIdle, quiet, still, idle, stored_here, stored_in_another, stored_beside}
 use Rattle.map_table.specs.Held.{IsKnown}
-use Rattle.map_table_laws.proofs.Steps.{put_here, put_there}
-use Rattle.map_table.proofs.Own.{may_later}
+use Rattle.map_table_laws.proofs.Steps.{put_here, put_there, doubled_here, doubled_there}
+use Rattle.map_table.proofs.Own.{may_later, double_later}
 use Rattle.map_table.proofs.Places.{IsAt, load_move, store_move, same_place, place_within}
 
 abbrev St : Type 0
@@ -282,8 +282,9 @@ module _ (k : TableShape) where
 
   pub puts_ok : (slots id : ℕ) (me : Me ℕ View) (i x : ℕ) → ways_from k ≤ i → i < base_of k → me.0.me ≡ 0 → IsKnown me.0 →
       (x ≡ 0) ⊎ MayLink (layout_of k) me.0.seen (i - ways_from me.0.shape) x →
+      Settles k.readers (i - ways_from me.0.shape) x me.0.mine →
       Allows (Kept k) slots id me i (λ _. x) (λ _. puts (step slots i x 0 none) me x)
-  puts_ok slots id me i x low high writer knows may s r _ at _ =
+  puts_ok slots id me i x low high writer knows may settles s r _ at _ =
       let f = r.each_seat id me.0 at in
       let wide = r.wide in
       let e : me.0.shape.readers ≡ k.readers = ap (λ (z : TableShape). z.readers) f.shape in
@@ -306,8 +307,38 @@ module _ (k : TableShape) where
       } in
       let later : (x ≡ 0) ⊎ MayLink (layout_of k) r.log way x = may_later (layout_of k) r.log f.later.0 me.0.seen way x f.later.1 r.lawful
       (writers_own r.log me.0 writer f.mine ∙ sym (writers_own me.0.seen me.0 writer knows.1)) may in
-      let t = advance s r id i x me.0 me.1 m at (writer, later) go in
+      let now : Settles k.readers way x (moves_of 0 r.log) = subst (Settles k.readers way x) (sym (writers_own r.log me.0 writer f.mine)) settles in
+      let t = advance s r id i x me.0 me.1 m at (writer, later, now) go in
       (t.0, keeps, tt, t.1, (t.2, refl))
+
+  pub doubles_ok : (slots id : ℕ) (me : Me ℕ View) (i from x : ℕ) → ways_from k ≤ i → i < base_of k → me.0.me ≡ 0 → IsKnown me.0 →
+      MayDouble (layout_of k) me.0.seen from (i - ways_from me.0.shape) x →
+      Allows (Kept k) slots id me i (λ _. x) (λ _. doubles (step slots i x 0 none) me x)
+  doubles_ok slots id me i from x low high writer knows may s r _ at _ =
+      let f = r.each_seat id me.0 at in
+      let wide = r.wide in
+      let e : me.0.shape.readers ≡ k.readers = ap (λ (z : TableShape). z.readers) f.shape in
+      let way : ℕ = i - ways_from me.0.shape in
+      let m : Move = Double from way x in
+      let go : Follows s r.log i x me.0.me m = record {
+        ways = λ other l. dite (ℕ_discrete way other)
+            (λ same. let here : ways_from k + other ≡ i = omega arith in
+            ap (λ j. get_or (set s.words i x) j 0) here ∙ (get_or-set_same s.words i x 0 (omega arith)
+            ∙ sym (subst (λ (z : ℕ × ℕ). word_in z.1 (moves_of z.0 ((me.0.me, m) ∷ r.log)) ≡ x)
+            (λ a. (writer a, same a)) (ap (word_in way) (moves_self me.0.me m r.log) ∙
+            doubled_here from way way x (moves_of me.0.me r.log) refl))))
+            (λ ne. get_or-set_other s.words i (ways_from k + other) x 0 (λ z. ne (omega arith)) ∙ (r.ways other l
+            ∙ sym (subst (λ z. word_in other (moves_of z ((me.0.me, m) ∷ r.log)) ≡ word_in other
+            (moves_of z r.log)) writer (ap (word_in other) (moves_self me.0.me m r.log) ∙
+            doubled_there from way other x (moves_of me.0.me r.log) ne))));
+        sections = λ j l. get_or-set_other s.words i (j * section_stride) x 0 (λ z. absurd (omega arith)) ∙
+            (r.sections j l ∙ sym (still me.0.me (j + 1) m r.log tt));
+        stored = stored_behind s r i x me.0.me m high tt;
+      } in
+      let later : MayDouble (layout_of k) r.log from way x = double_later (layout_of k) r.log f.later.0 me.0.seen from way x f.later.1 r.lawful
+      (writers_own r.log me.0 writer f.mine ∙ sym (writers_own me.0.seen me.0 writer knows.1)) may in
+      let t = advance s r id i x me.0 me.1 m at (writer, later) go in
+      (t.0, keeps, tt, t.1, ((from, t.2), refl))
 
   at_end : {A : Type 0} (l : List A) (a b : A) (j : ℕ) → get_elem? (l ++ a ∷ []) j ≡ some b → (get_elem? l j ≡ some b) ⊎ ((j ≡ length l) × (a ≡ b))
   at_end [] a b zero e = inr (refl, some-injective a b e)

@@ -1,5 +1,6 @@
 pub mod Adding
 pub mod Calls
+pub mod Doubled
 pub mod Filling
 pub mod Freeing
 pub mod Going
@@ -12,6 +13,7 @@ pub mod Lookups
 pub mod Lost
 pub mod Members
 pub mod Own
+pub mod Passing
 pub mod Peeking
 pub mod Places
 pub mod Replacing

@@ -3,7 +3,7 @@ use Rattle.std.proofs.Common.{◌≡◌, ◌≢◌, ℕ, List, ◌∷◌, refl, 
 use mathlib.Core.Logic.{dite}
 use native.Mathlib.Decide.{ℕ_discrete}
 use Rattle.map_table_laws.specs.declared.moves.Move.{Move}
-use Rattle.map_table_laws.specs.declared.moves.Move.TheVariants.{Open, Close, Learn, Load, Store, Put, Scan}
+use Rattle.map_table_laws.specs.declared.moves.Move.TheVariants.{Open, Close, Learn, Load, Store, Put, Double, Scan}
 use Rattle.map_table_laws.specs.History.{moves_of, section_word, word_in, word_at}
 
 pub moves_self : (who : ℕ) (m : Move) (es : List (ℕ × Move)) → moves_of who ((who, m) ∷ es) ≡ m ∷ moves_of who es
@@ -15,6 +15,7 @@ moves_else me who m es ne = rw (ne_eqb me who ne) refl
 -- a move that changes no header
 abbrev pub IsQuiet : Move → Type 0
 IsQuiet (Put s w) = ⊥
+IsQuiet (Double f s w) = ⊥
 IsQuiet _ = Unit {0}
 
 -- a move that changes no section
@@ -30,6 +31,7 @@ quiet_step way (Learn s h) ms q = refl
 quiet_step way (Load s p x) ms q = refl
 quiet_step way (Store s p x) ms q = refl
 quiet_step way (Put s w) ms q = absurd q
+quiet_step way (Double f s w) ms q = absurd q
 quiet_step way (Scan r x) ms q = refl
 
 still_step : (m : Move) (ms : List Move) → IsStill m → section_word (m ∷ ms) ≡ section_word ms
@@ -39,6 +41,7 @@ still_step (Learn s h) ms q = refl
 still_step (Load s p x) ms q = refl
 still_step (Store s p x) ms q = refl
 still_step (Put s w) ms q = refl
+still_step (Double f s w) ms q = refl
 still_step (Scan r x) ms q = refl
 
 pub quiet : (me who way : ℕ) (m : Move) (es : List (ℕ × Move)) → IsQuiet m → word_in way (moves_of who ((me, m) ∷ es)) ≡ word_in way (moves_of who es)
@@ -63,6 +66,7 @@ idle me element place (Learn s h) es q = refl
 idle me element place (Load s p x) es q = refl
 idle me element place (Store s p x) es q = absurd q
 idle me element place (Put s w) es q = refl
+idle me element place (Double f s w) es q = refl
 idle me element place (Scan r x) es q = refl
 
 pub stored_here : (me s p element place x : ℕ) (es : List (ℕ × Move)) → s ≡ element → p ≡ place → word_at element place ((me, Store s p x) ∷ es) ≡ x

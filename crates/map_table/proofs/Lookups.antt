@@ -7,7 +7,7 @@ use Rattle.std.specs.Prelude.{IfSome, IsSome, slice_index}
 use mathlib.Core.Logic.{dite}
 use native.Mathlib.Decide.{ℕ_discrete}
 use Rattle.map_table_laws.specs.declared.moves.Move.{Move}
-use Rattle.map_table_laws.specs.declared.moves.Move.TheVariants.{Open, Close, Learn, Load, Store, Put, Scan}
+use Rattle.map_table_laws.specs.declared.moves.Move.TheVariants.{Open, Close, Learn, Load, Store, Put, Double, Scan}
 use Rattle.map_table_laws.specs.Layout.{Names, tag_in, bucket_of, bucket_ways}
 use Rattle.map_table_laws.specs.History.{inside, Holds, IsLawful}
 use Rattle.map_table_laws.specs.Lookups.{OnlySearches, FoundIn, HadWord, IsElse, Refuted, AnswersLookup, LooksUp}
@@ -31,6 +31,7 @@ only_append k (Learn s h ∷ ns) ms n m = only_append k ns ms n m
 only_append k (Load s p x ∷ ns) ms n m = (n.0, only_append k ns ms n.1 m)
 only_append k (Store s p x ∷ ns) ms n m = absurd n
 only_append k (Put s w ∷ ns) ms n m = absurd n
+only_append k (Double v s w ∷ ns) ms n m = absurd n
 only_append k (Scan r x ∷ ns) ms n m = absurd n
 
 -- what was held stays held
@@ -42,6 +43,7 @@ only_holds k element (Learn s x ∷ ns) ms n h = inr (only_holds k element ns ms
 only_holds k element (Load s p x ∷ ns) ms n h = only_holds k element ns ms n.1 h
 only_holds k element (Store s p x ∷ ns) ms n h = absurd n
 only_holds k element (Put s w ∷ ns) ms n h = absurd n
+only_holds k element (Double v s w ∷ ns) ms n h = absurd n
 only_holds k element (Scan r x ∷ ns) ms n h = absurd n
 
 -- the section stays as it is
@@ -53,6 +55,7 @@ only_inside k (Learn s x ∷ ns) ms n = only_inside k ns ms n
 only_inside k (Load s p x ∷ ns) ms n = only_inside k ns ms n.1
 only_inside k (Store s p x ∷ ns) ms n = absurd n
 only_inside k (Put s w ∷ ns) ms n = absurd n
+only_inside k (Double v s w ∷ ns) ms n = absurd n
 only_inside k (Scan r x ∷ ns) ms n = absurd n
 
 pub searched_holds : (k : TableShape) (s t : Holder) (ms : List Move) → Goes s ms t → Only k ms → (element : ℕ)
@@ -71,6 +74,7 @@ found_front way element (Learn s x ∷ ns) ms r = elim r [ inl a ↦ inl a | inr
 found_front way element (Load s p x ∷ ns) ms r = found_front way element ns ms r
 found_front way element (Store s p x ∷ ns) ms r = found_front way element ns ms r
 found_front way element (Put s w ∷ ns) ms r = found_front way element ns ms r
+found_front way element (Double v s w ∷ ns) ms r = found_front way element ns ms r
 found_front way element (Scan q x ∷ ns) ms r = found_front way element ns ms r
 
 pub found_back : (way element : ℕ) (ns ms : List Move) → FoundIn way element ms → FoundIn way element (ns ++ ms)
@@ -81,6 +85,7 @@ found_back way element (Learn s x ∷ ns) ms r = inr (found_back way element ns 
 found_back way element (Load s p x ∷ ns) ms r = found_back way element ns ms r
 found_back way element (Store s p x ∷ ns) ms r = found_back way element ns ms r
 found_back way element (Put s w ∷ ns) ms r = found_back way element ns ms r
+found_back way element (Double v s w ∷ ns) ms r = found_back way element ns ms r
 found_back way element (Scan q x ∷ ns) ms r = found_back way element ns ms r
 
 pub had_front : (element place word : ℕ) (ns ms : List Move) → HadWord element place word ns → HadWord element place word (ns ++ ms)
@@ -91,6 +96,7 @@ had_front element place word (Learn s x ∷ ns) ms r = had_front element place w
 had_front element place word (Load s p x ∷ ns) ms r = elim r [ inl a ↦ inl a | inr b ↦ inr (had_front element place word ns ms b) ]
 had_front element place word (Store s p x ∷ ns) ms r = had_front element place word ns ms r
 had_front element place word (Put s w ∷ ns) ms r = had_front element place word ns ms r
+had_front element place word (Double v s w ∷ ns) ms r = had_front element place word ns ms r
 had_front element place word (Scan q x ∷ ns) ms r = had_front element place word ns ms r
 
 module _ (k : TableShape) (key : List ℕ) where
@@ -108,6 +114,7 @@ module _ (k : TableShape) (key : List ℕ) where
   ]
   refuted_front way (Store s p x ∷ ns) ms r = refuted_front way ns ms r
   refuted_front way (Put s w ∷ ns) ms r = refuted_front way ns ms r
+  refuted_front way (Double v s w ∷ ns) ms r = refuted_front way ns ms r
   refuted_front way (Scan q x ∷ ns) ms r = refuted_front way ns ms r
 
   refuted_back : (way : ℕ) (ns ms : List Move) → Refutes way ms → Refutes way (ns ++ ms)
@@ -118,6 +125,7 @@ module _ (k : TableShape) (key : List ℕ) where
   refuted_back way (Load s p x ∷ ns) ms r = inr (refuted_back way ns ms r)
   refuted_back way (Store s p x ∷ ns) ms r = refuted_back way ns ms r
   refuted_back way (Put s w ∷ ns) ms r = refuted_back way ns ms r
+  refuted_back way (Double v s w ∷ ns) ms r = refuted_back way ns ms r
   refuted_back way (Scan q x ∷ ns) ms r = refuted_back way ns ms r
 
   -- another key word of an element that was found in a way refutes the way
@@ -132,6 +140,7 @@ module _ (k : TableShape) (key : List ℕ) where
   ]
   other_refutes way element (Store s p x ∷ ns) ms o f = other_refutes way element ns ms o f
   other_refutes way element (Put s w ∷ ns) ms o f = other_refutes way element ns ms o f
+  other_refutes way element (Double v s w ∷ ns) ms o f = other_refutes way element ns ms o f
   other_refutes way element (Scan q x ∷ ns) ms o f = other_refutes way element ns ms o f
 
   -- one more word of a key was found
@@ -217,6 +226,7 @@ module _ (k : TableShape) (key : List ℕ) where
   found_holds way element (Load s p x ∷ ns) ms n f = found_holds way element ns ms n.1 f
   found_holds way element (Store s p x ∷ ns) ms n f = absurd n
   found_holds way element (Put s w ∷ ns) ms n f = absurd n
+  found_holds way element (Double v s w ∷ ns) ms n f = absurd n
   found_holds way element (Scan q x ∷ ns) ms n f = absurd n
 
   pub answers_held : (s t : Holder) (ms : List Move) (found : Option ℕ) → Goes s ms t → LooksUp (layout_of k) 0 key ms found →

@@ -3,10 +3,10 @@ use Rattle.std.proofs.Common.{◌≡◌, ◌≢◌, ◌⊎◌, ℕ, ◌≤◌, L
 use mathlib.Core.Logic.{dite}
 use native.Mathlib.Decide.{ℕ_discrete}
 use Rattle.map_table_laws.specs.declared.moves.Move.{Move}
-use Rattle.map_table_laws.specs.declared.moves.Move.TheVariants.{Open, Close, Learn, Load, Store, Put, Scan}
+use Rattle.map_table_laws.specs.declared.moves.Move.TheVariants.{Open, Close, Learn, Load, Store, Put, Double, Scan}
 use Rattle.map_table_laws.specs.Layout.{Layout, IsCandidate}
-use Rattle.map_table_laws.specs.History.{moves_of, key_of, Holds, IsSpare, IsOpenTo, MayDo, MayLink, IsLawful}
-use Rattle.map_table_laws.proofs.Steps.{own, others, key_stored, key_learn, key_load, key_put, key_other}
+use Rattle.map_table_laws.specs.History.{moves_of, word_in, key_of, IsSettled, Holds, IsSpare, IsOpenTo, MayDo, MayDouble, MayLink, IsLawful}
+use Rattle.map_table_laws.proofs.Steps.{own, others, key_stored, key_learn, key_load, key_put, key_doubled, key_other}
 
 -- a reader's step leaves each key
 pub readers_leave : (k : Layout) (es : List (ℕ × Move)) (who element : ℕ) (m : Move) → who ≢ 0 → MayDo k es who m →
@@ -16,6 +16,7 @@ readers_leave k es who element Close ne may = key_other k es who element Close (
 readers_leave k es who element (Learn w x) ne may = key_learn k es who element w x
 readers_leave k es who element (Load s p x) ne may = key_load k es who element s p x
 readers_leave k es who element (Put w x) ne may = key_put k es who element w x
+readers_leave k es who element (Double f w x) ne may = key_doubled k es who element f w x
 readers_leave k es who element (Scan r x) ne may = key_other k es who element (Scan r x) (λ p old. refl)
 readers_leave k es who element (Store s p x) ne may = ⊎_elim
     (λ (w : (who ≡ 0) × IsSpare k.readers s (moves_of 0 es)). absurd (ne w.0))
@@ -55,4 +56,19 @@ may_later k log between es way x is lawful same (inr m) =
       spare = subst (IsSpare k.readers m.element) (sym same) m.spare;
       bucket = subst (λ z. IsCandidate k (k.table_of m.element) z way) (sym key) m.bucket;
       tag = m.tag ∙ ap (k.tag (k.table_of m.element)) (sym key);
+    }
+
+-- and in a second way
+pub double_later : (k : Layout) (log between es : List (ℕ × Move)) (from to x : ℕ) → log ≡ between ++ es → IsLawful k log → moves_of 0 log ≡ moves_of 0 es →
+    MayDouble k es from to x → MayDouble k log from to x
+double_later k log between es from to x is lawful same m =
+    let key : key_of k m.element log ≡ key_of k m.element es = ap (key_of k m.element) is ∙
+    keys_stay k between es m.element (subst (IsLawful k) is lawful) (ap (moves_of 0) (sym is) ∙ same) in
+    record {
+      element = m.element;
+      names = m.names;
+      there = ap (word_in from) same ∙ m.there;
+      empty = ap (word_in to) same ∙ m.empty;
+      bucket = subst (λ z. IsCandidate k (k.table_of m.element) z to) (sym key) m.bucket;
+      settled = subst IsSettled (sym same) m.settled;
     }

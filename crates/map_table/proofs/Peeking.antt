@@ -4,7 +4,7 @@ use Rattle.std.specs.Prelude.{slice_index, true, false}
 use mathlib.Core.Logic.{dite}
 use native.Mathlib.Decide.{ℕ_discrete}
 use Rattle.map_table_laws.specs.declared.moves.Move.{Move}
-use Rattle.map_table_laws.specs.declared.moves.Move.TheVariants.{Open, Close, Learn, Load, Store, Put, Scan}
+use Rattle.map_table_laws.specs.declared.moves.Move.TheVariants.{Open, Close, Learn, Load, Store, Put, Double, Scan}
 use Rattle.map_table_laws.specs.Layout.{Layout, IsCandidate, Names, tag_in, bucket_of, bucket_ways}
 use Rattle.map_table_laws.specs.History.{moves_of, word_in, word_at, key_of, IsLawful}
 use Rattle.map_table_laws.specs.Lookups.{OnlySearches}
@@ -30,6 +30,7 @@ key_searched k table who element (Learn w x) ms es s = (key_learn k es who eleme
 key_searched k table who element (Load e p x) ms es s = (key_load k es who element e p x, s.1)
 key_searched k table who element (Store e p x) ms es s = absurd s
 key_searched k table who element (Put w x) ms es s = absurd s
+key_searched k table who element (Double f w x) ms es s = absurd s
 key_searched k table who element (Scan r x) ms es s = absurd s
 
 -- while the writer only searches, each key stays
@@ -58,7 +59,7 @@ module _ (k : TableShape) (v w : View) (ns : List Move) (shape : v.shape ≡ k) 
       (ap (λ z. slice_index z p) (key_kept element) ∙ key_word (layout_of k) element p v.seen low)
 
   -- the word of a way, by all that was done
-  way_kept : (way : ℕ) → word_in way (moves_of 0 w.seen) ≡ word_in way (moves_of 0 v.seen)
+  pub way_kept : (way : ℕ) → word_in way (moves_of 0 w.seen) ≡ word_in way (moves_of 0 v.seen)
   way_kept way =
       ap (word_in way) (own_list w (went_me v w (ns ++ v.mine) g ∙ writer) (went_known v w (ns ++ v.mine) g)) ∙
       (same_word v w ns (searches_quiet (layout_of k) 0 ns only) g way ∙ ap (word_in way) (sym (own_list v writer known)))

@@ -4,7 +4,7 @@ use Rattle.std.proofs.lemmas.List.{append_cancel_right}
 use mathlib.Core.Logic.{dite}
 use native.Mathlib.Decide.{ℕ_discrete}
 use Rattle.map_table_laws.specs.declared.moves.Move.{Move}
-use Rattle.map_table_laws.specs.declared.moves.Move.TheVariants.{Open, Close, Learn, Load, Store, Put, Scan}
+use Rattle.map_table_laws.specs.declared.moves.Move.TheVariants.{Open, Close, Learn, Load, Store, Put, Double, Scan}
 use Rattle.map_table_laws.specs.Layout.{Layout, Names}
 use Rattle.map_table_laws.specs.History.{moves_of, key_of, MayDo, IsLawful}
 use Rattle.map_table_laws.specs.Found.{IsLinkedUnder, BearsKey, KeepsKey, OnlyReplaces}
@@ -33,6 +33,7 @@ no_puts_rest (Learn w x) ms h = h
 no_puts_rest (Load e p x) ms h = h
 no_puts_rest (Store e p x) ms h = h
 no_puts_rest (Put w x) ms h = absurd h
+no_puts_rest (Double f w x) ms h = h
 no_puts_rest (Scan r x) ms h = h
 
 no_puts_append : (ns ms : List Move) → NoPuts ns → NoPuts ms → NoPuts (ns ++ ms)
@@ -43,6 +44,7 @@ no_puts_append (Learn w x ∷ ns) ms n m = no_puts_append ns ms n m
 no_puts_append (Load e p x ∷ ns) ms n m = no_puts_append ns ms n m
 no_puts_append (Store e p x ∷ ns) ms n m = no_puts_append ns ms n m
 no_puts_append (Put w x ∷ ns) ms n m = absurd n
+no_puts_append (Double f w x ∷ ns) ms n m = no_puts_append ns ms n m
 no_puts_append (Scan r x ∷ ns) ms n m = no_puts_append ns ms n m
 
 fills_no_puts : (element from n : ℕ) (words : List ℕ) (ms : List Move) → Fills element from words n ms → NoPuts ms
@@ -60,6 +62,7 @@ module _ (k : Layout) (table : ℕ) (key : List ℕ) (way : ℕ) where
   keeps_of who (Load e p x) es may none = tt
   keeps_of who (Store e p x) es may none = tt
   keeps_of who (Put w x) es may none = absurd (none may.0)
+  keeps_of who (Double f w x) es may none = tt
   keeps_of who (Scan r x) es may none = tt
 
   head_none : (m : Move) (ms : List Move) → NoPuts (m ∷ ms) → NoPuts (m ∷ [])
@@ -69,6 +72,7 @@ module _ (k : Layout) (table : ℕ) (key : List ℕ) (way : ℕ) where
   head_none (Load e p x) ms h = tt
   head_none (Store e p x) ms h = tt
   head_none (Put w x) ms h = absurd h
+  head_none (Double f w x) ms h = tt
   head_none (Scan r x) ms h = tt
 
   -- while the writer puts nothing

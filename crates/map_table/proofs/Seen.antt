@@ -8,7 +8,7 @@ use Rattle.std.proofs.Math.Seq.{get_or-append_seam}
 use mathlib.Core.Logic.{dite}
 use native.Mathlib.Decide.{ℕ_discrete, dec_lt}
 use Rattle.map_table_laws.specs.declared.moves.Move.{Move}
-use Rattle.map_table_laws.specs.declared.moves.Move.TheVariants.{Open, Close, Learn, Load, Store, Put, Scan}
+use Rattle.map_table_laws.specs.declared.moves.Move.TheVariants.{Open, Close, Learn, Load, Store, Put, Double, Scan}
 use Rattle.map_table_laws.specs.Layout.{Layout, Names}
 use Rattle.map_table_laws.specs.History.{word_in, FoundSince, HasLeft, Cleared}
 use Rattle.map_table_laws.specs.Lookups.{OnlySearches}
@@ -25,7 +25,7 @@ use Rattle.map_table.specs.Writing.{Fills, IsUnlinked}
 use Rattle.map_table.proofs.Going.{went_mine}
 use Rattle.map_table.proofs.Filling.{went_shape}
 
--- a stretch in which the writer puts no word in a way, and looks at no section word
+-- a stretch in which the writer takes no word out of a way, and looks at no section word
 abbrev pub IsBlind : List Move → Type 0
 IsBlind [] = Unit {0}
 IsBlind (Put w x ∷ ns) = ⊥
@@ -40,6 +40,7 @@ blind_append (Learn w x ∷ ns) ms n m = blind_append ns ms n m
 blind_append (Load e p x ∷ ns) ms n m = blind_append ns ms n m
 blind_append (Store e p x ∷ ns) ms n m = blind_append ns ms n m
 blind_append (Put w x ∷ ns) ms n m = absurd n
+blind_append (Double f w x ∷ ns) ms n m = blind_append ns ms n m
 blind_append (Scan r x ∷ ns) ms n m = absurd n
 
 -- it leaves what the looks tell
@@ -51,6 +52,7 @@ cleared_blind r e (Learn w x ∷ ns) ms n = cleared_blind r e ns ms n
 cleared_blind r e (Load s p x ∷ ns) ms n = cleared_blind r e ns ms n
 cleared_blind r e (Store s p x ∷ ns) ms n = cleared_blind r e ns ms n
 cleared_blind r e (Put w x ∷ ns) ms n = absurd n
+cleared_blind r e (Double f w x ∷ ns) ms n = cleared_blind r e ns ms n
 cleared_blind r e (Scan q x ∷ ns) ms n = absurd n
 
 found_blind : (r e y : ℕ) (ns ms : List Move) → IsBlind ns → FoundSince r e y ms ↔ FoundSince r e y (ns ++ ms)
@@ -61,6 +63,7 @@ found_blind r e y (Learn w x ∷ ns) ms n = found_blind r e y ns ms n
 found_blind r e y (Load s p x ∷ ns) ms n = found_blind r e y ns ms n
 found_blind r e y (Store s p x ∷ ns) ms n = found_blind r e y ns ms n
 found_blind r e y (Put w x ∷ ns) ms n = absurd n
+found_blind r e y (Double f w x ∷ ns) ms n = found_blind r e y ns ms n
 found_blind r e y (Scan q x ∷ ns) ms n = absurd n
 
 -- a note stays right where what the looks tell stays
@@ -114,6 +117,7 @@ searches_blind k table (Learn w x ∷ ns) n = searches_blind k table ns n
 searches_blind k table (Load s p x ∷ ns) n = searches_blind k table ns n.1
 searches_blind k table (Store s p x ∷ ns) n = absurd n
 searches_blind k table (Put w x ∷ ns) n = absurd n
+searches_blind k table (Double f w x ∷ ns) n = absurd n
 searches_blind k table (Scan q x ∷ ns) n = absurd n
 
 -- after a search
@@ -129,6 +133,7 @@ loads_blind (Learn w x ∷ ns) n = absurd n
 loads_blind (Load s p x ∷ ns) n = loads_blind ns n
 loads_blind (Store s p x ∷ ns) n = absurd n
 loads_blind (Put w x ∷ ns) n = absurd n
+loads_blind (Double f w x ∷ ns) n = absurd n
 loads_blind (Scan q x ∷ ns) n = absurd n
 
 -- after loads
@@ -145,6 +150,11 @@ pub sightings_added : (element place apart n : ℕ) (v w : View) (ms : List Move
     AddsUp element place apart n ms total → Went v (ms ++ v.mine) w → AreSightings v unlinked seen → AreSightings w unlinked seen
 sightings_added element place apart n v w ms total unlinked seen sum g a =
     sightings_stay v w ms unlinked seen (adds_blind element place apart n ms total sum) g a
+
+-- after a word was put in a second way
+pub sightings_doubled : (v w : View) (from to word : ℕ) (unlinked : List ℕ) (seen : List Sighting) → Went v (Double from to word ∷ v.mine) w →
+    AreSightings v unlinked seen → AreSightings w unlinked seen
+sightings_doubled v w from to word unlinked seen g a = sightings_stay v w (Double from to word ∷ []) unlinked seen tt g a
 
 -- after a word was put in a way
 pub sightings_put : (v w : View) (way word : ℕ) (unlinked : List ℕ) (seen : List Sighting) → Went v (Put way word ∷ v.mine) w → All (IsUnlinked v) unlinked →
@@ -371,6 +381,7 @@ scans_wider low high lower higher (Learn w x ∷ ns) l h n = absurd n
 scans_wider low high lower higher (Load e p x ∷ ns) l h n = absurd n
 scans_wider low high lower higher (Store e p x ∷ ns) l h n = absurd n
 scans_wider low high lower higher (Put w x ∷ ns) l h n = absurd n
+scans_wider low high lower higher (Double f w x ∷ ns) l h n = absurd n
 scans_wider low high lower higher (Scan r x ∷ ns) l h n =
     let a = n.0 in
     let b = n.1 in
@@ -386,11 +397,12 @@ scans_append low mid high (Learn w x ∷ ns) ms l h n m = absurd n
 scans_append low mid high (Load e p x ∷ ns) ms l h n m = absurd n
 scans_append low mid high (Store e p x ∷ ns) ms l h n m = absurd n
 scans_append low mid high (Put w x ∷ ns) ms l h n m = absurd n
+scans_append low mid high (Double f w x ∷ ns) ms l h n m = absurd n
 scans_append low mid high (Scan r x ∷ ns) ms l h n m =
     let a = n.0 in
     (omega (arith, a, l), n.1, scans_append low mid (r - 1) ns ms l (omega (arith, a)) n.2 m)
 
-inside_front : (reader : ℕ) (ns ms : List Move) → FoundInside reader ns → FoundInside reader (ns ++ ms)
+pub inside_front : (reader : ℕ) (ns ms : List Move) → FoundInside reader ns → FoundInside reader (ns ++ ms)
 inside_front reader [] ms f = absurd f
 inside_front reader (Open ∷ ns) ms f = inside_front reader ns ms f
 inside_front reader (Close ∷ ns) ms f = inside_front reader ns ms f
@@ -398,6 +410,7 @@ inside_front reader (Learn w x ∷ ns) ms f = inside_front reader ns ms f
 inside_front reader (Load e p x ∷ ns) ms f = inside_front reader ns ms f
 inside_front reader (Store e p x ∷ ns) ms f = inside_front reader ns ms f
 inside_front reader (Put w x ∷ ns) ms f = inside_front reader ns ms f
+inside_front reader (Double v w x ∷ ns) ms f = inside_front reader ns ms f
 inside_front reader (Scan r x ∷ ns) ms f = ⊎_elim (λ z. inl z) (λ z. inr (inside_front reader ns ms z)) f
 
 inside_back : (reader : ℕ) (ns ms : List Move) → FoundInside reader ms → FoundInside reader (ns ++ ms)
@@ -408,6 +421,7 @@ inside_back reader (Learn w x ∷ ns) ms f = inside_back reader ns ms f
 inside_back reader (Load e p x ∷ ns) ms f = inside_back reader ns ms f
 inside_back reader (Store e p x ∷ ns) ms f = inside_back reader ns ms f
 inside_back reader (Put w x ∷ ns) ms f = inside_back reader ns ms f
+inside_back reader (Double v w x ∷ ns) ms f = inside_back reader ns ms f
 inside_back reader (Scan r x ∷ ns) ms f = inr (inside_back reader ns ms f)
 
 -- each of the first readers is cleared of all that were unlinked, or was found inside

@@ -10,7 +10,7 @@ use native.Mathlib.Decide.{ℕ_discrete}
 use Rattle.map_table_laws.specs.declared.moves.Move.{Move}
 use Rattle.map_table_laws.specs.declared.moves.Move.TheVariants.{Put}
 use Rattle.map_table_laws.specs.Layout.{IsCandidate, Names}
-use Rattle.map_table_laws.specs.History.{moves_of, word_in}
+use Rattle.map_table_laws.specs.History.{moves_of, word_in, IsSettled}
 use Rattle.map_table_laws.specs.Found.{IsLinkedUnder}
 use Rattle.map_table_laws.proofs.Steps.{one_name, nothing_named}
 use Rattle.map_table_laws.proofs.Standing.{named, fits, one_way}
@@ -24,7 +24,7 @@ use Rattle.map_table.proofs.Filling.{own_list, went_shape}
 use Rattle.map_table.proofs.Members.{one_for, times_append, times_push, times_range, all_nil, all_append, all_push}
 use Rattle.map_table.proofs.Members.{all_to, all_range, nowhere, room, few, at_most_one, none_for}
 use Rattle.map_table.proofs.Linking.{taken, filled_writer, linked_writer}
-use Rattle.map_table.proofs.Keeping.{put_writer, put_unlinked, empty_names_none}
+use Rattle.map_table.proofs.Keeping.{quiet_append, fills_quiet, quiet_settled, put_writer, put_unlinked, empty_names_none}
 
 pub names_some : (v : View) (ways free unlinked : List ℕ) (way : ℕ) → IsWriter v ways free unlinked → word_in way v.mine ≢ 0 →
     (element : ℕ) × Names (word_in way v.mine) element
@@ -59,14 +59,14 @@ module _ (v : View) (ways free unlinked : List ℕ) (way element : ℕ) (b : IsW
       (all_to (IsFree v) (λ x. x < v.shape.elements) free (λ e f. f.0) b.are_free)
       (all_to (IsUnlinked v) (λ x. x < v.shape.elements) unlinked (λ e f. f.0) b.are_unlinked) b.once not_free not_unlinked
 
-  alone : (other : ℕ) → way ≢ other → Names (word_in other v.mine) element → ⊥
-  alone other ne there = ne (one_way (layout_of v.shape) v.seen b.known.0 way other element seen_names
+  alone : IsSettled v.mine → (other : ℕ) → way ≢ other → Names (word_in other v.mine) element → ⊥
+  alone none other ne there = ne (one_way (layout_of v.shape) v.seen b.known.0 (subst IsSettled (sym (own_list v b.me b.known)) none) way other element seen_names
       (subst (λ z. Names (word_in other z) element) (sym (own_list v b.me b.known)) there))
 
   -- after its way was given another word, it's unlinked
-  pub unlinked_writer : (w : View) (word : ℕ) (new : List ℕ) → Went v (Put way word ∷ v.mine) w → (Names word element → ⊥) →
+  pub unlinked_writer : IsSettled v.mine → (w : View) (word : ℕ) (new : List ℕ) → Went v (Put way word ∷ v.mine) w → (Names word element → ⊥) →
       times_in element free ≡ 0 → IsWriter w new free unlinked → IsWriter w new free (unlinked ++ element ∷ [])
-  unlinked_writer w word new g not none a = record {
+  unlinked_writer settled w word new g not none a = record {
     me = a.me;
     known = a.known;
     sized = a.sized;
@@ -75,7 +75,7 @@ module _ (v : View) (ways free unlinked : List ℕ) (way element : ℕ) (b : IsW
     are_free = a.are_free;
     are_unlinked = all_push (IsUnlinked w) element unlinked a.are_unlinked (
       subst (λ (k : TableShape). element < k.elements) (sym (went_shape v w (Put way word ∷ v.mine) g)) within,
-      put_unlinked v w way word g element not alone,
+      put_unlinked v w way word g element not (alone settled),
     );
     once = λ e.
         let t = times_push e element unlinked in
@@ -87,8 +87,8 @@ module _ (v : View) (ways free unlinked : List ℕ) (way element : ℕ) (b : IsW
         (λ ne. let z : one_for e element ≡ 0 = none_for e element ne in omega (arith, t, o, z));
   }
 
-  pub emptied_writer : (w : View) → Went v (Put way 0 ∷ v.mine) w → way < ways_of v.shape → IsWriter w (set ways way 0) free (unlinked ++ element ∷ [])
-  emptied_writer w g low = unlinked_writer w 0 (set ways way 0) g (nothing_named element) not_free
+  pub emptied_writer : IsSettled v.mine → (w : View) → Went v (Put way 0 ∷ v.mine) w → way < ways_of v.shape → IsWriter w (set ways way 0) free (unlinked ++ element ∷ [])
+  emptied_writer settled w g low = unlinked_writer settled w 0 (set ways way 0) g (nothing_named element) not_free
       (put_writer v w way 0 g ways free unlinked b low (empty_names_none free) (empty_names_none unlinked))
 
 pub all_fit : (v : View) (ways free unlinked : List ℕ) → IsWriter v ways free unlinked → length free + length unlinked ≤ v.shape.elements
@@ -144,16 +144,17 @@ linked_way v ways free unlinked key way b l =
 pub replaced_writer : (v u w : View) (ways old free unlinked : List ℕ) (element gone way word n from m : ℕ) (key value : List ℕ) (ks vs : List Move) →
     IsWriter v ways old unlinked → old ≡ free ++ element ∷ [] → Fills element 0 key n ks → Fills element from value m vs →
     Went v ((vs ++ ks) ++ v.mine) u → Went u (Put way word ∷ u.mine) w → way < ways_of v.shape → Names word element →
-    Names (word_in way v.mine) gone →
+    Names (word_in way v.mine) gone → IsSettled v.mine →
     IsWriter w (set ways way word) free (unlinked ++ gone ∷ []) × (length free + length unlinked < v.shape.elements)
-replaced_writer v u w ways old free unlinked element gone way word n from m key value ks vs b is fk fv g h low names there =
+replaced_writer v u w ways old free unlinked element gone way word n from m key value ks vs b is fk fv g h low names there settled =
     let f = filled_writer v u ways old free unlinked element n from m key value ks vs b is fk fv g in
     let now : Names (word_in way u.mine) gone = subst (λ z. Names z gone) (sym (f.1 way)) there in
     let spare = (taken v ways old free unlinked element b is).0 in
     let not : Names word gone → ⊥ = λ same. spare.1.0
     (way, subst (λ z. Names (word_in way v.mine) z) (one_name word gone element same names) there) in
     let linked = linked_writer v u w ways old free unlinked element way word n from m key value ks vs b is fk fv g h low names in (
-      unlinked_writer u ways free unlinked way gone f.0 now w word (set ways way word) h not (not_free u ways free unlinked way gone f.0 now) linked,
+      unlinked_writer u ways free unlinked way gone f.0 now
+          (quiet_settled v u (vs ++ ks) (quiet_append vs ks (fills_quiet element from m value vs fv) (fills_quiet element 0 n key ks fk)) g settled) w word (set ways way word) h not (not_free u ways free unlinked way gone f.0 now) linked,
       subst (λ (k : TableShape). length free + length unlinked < k.elements) (went_shape v u ((vs ++ ks) ++ v.mine) g)
           (space u ways free unlinked way gone f.0 now),
     )

@@ -3,7 +3,7 @@ use Rattle.std.proofs.Common.{◌≡◌, ℕ, ◌<◌, List, [], ◌∷◌, ◌+
 use Rattle.std.proofs.lemmas.List.{append_cancel_right}
 use Rattle.std.specs.Prelude.{slice_index}
 use Rattle.map_table_laws.specs.declared.moves.Move.{Move}
-use Rattle.map_table_laws.specs.declared.moves.Move.TheVariants.{Open, Close, Learn, Load, Store, Put, Scan}
+use Rattle.map_table_laws.specs.declared.moves.Move.TheVariants.{Open, Close, Learn, Load, Store, Put, Double, Scan}
 use Rattle.map_table_laws.specs.Layout.{Names}
 use Rattle.map_table_laws.specs.History.{moves_of, key_of, IsLawful}
 use Rattle.map_table_laws.specs.Lookups.{FoundIn, HadWord}
@@ -39,6 +39,7 @@ learnt_first way word (Learn w x ∷ ns) = inr (learnt_first way word ns)
 learnt_first way word (Load e p x ∷ ns) = learnt_first way word ns
 learnt_first way word (Store e p x ∷ ns) = learnt_first way word ns
 learnt_first way word (Put w x ∷ ns) = learnt_first way word ns
+learnt_first way word (Double f w x ∷ ns) = learnt_first way word ns
 learnt_first way word (Scan r x ∷ ns) = learnt_first way word ns
 
 -- an element whose key was loaded was linked under it when its way was learnt

@@ -1,4 +1,5 @@
 pub mod Counting
+pub mod Moving
 pub mod Reading
 pub mod Search
 pub mod Writing

@@ -8,6 +8,7 @@
 mod by_key;
 mod lookup;
 mod meeting;
+mod moving;
 mod reading;
 mod seats;
 mod setup;
@@ -16,6 +17,7 @@ mod table;
 mod writer;
 mod writing;
 
+pub use moving::Room;
 pub use seats::Seats;
 pub use table::{MapTable, ReadSeat};
 pub use table_words::{

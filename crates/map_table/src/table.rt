@@ -1,9 +1,9 @@
 //! The table, and a reader's seat at it.
 ghost use Rattle.atomic_table.specs.Table.{State};
 ghost use Rattle.std.specs.Prelude.{◌≡◌, ◌≢◌, ◌⊎◌, ℕ, ◌+◌, ◌-◌, ◌*◌, ◌%◌, ◌^◌, ◌<◌, ◌≤◌, [], ◌∷◌, length, slice_index, IfOk};
-ghost use Rattle.map_table_laws.specs.declared.moves.Move.TheVariants.{Open, Close, Learn, Load, Store, Put, Scan};
+ghost use Rattle.map_table_laws.specs.declared.moves.Move.TheVariants.{Open, Close, Learn, Load, Store, Put, Double, Scan};
 ghost use Rattle.map_table_laws.specs.Layout.{Names};
-ghost use Rattle.map_table_laws.specs.History.{inside, most_sections, word_at, Holds, IsSpare, IsReader, MayLink};
+ghost use Rattle.map_table_laws.specs.History.{inside, most_sections, word_at, Holds, IsSpare, IsReader, Settles, MayDouble, MayLink};
 ghost use Rattle.table_words.specs.declared.view.View.{View};
 ghost use Rattle.map_table.specs.Hashes.{layout_of};
 ghost use Rattle.map_table.specs.Law.{Kept, ways_from, ways_of, count_of, base_of, width_of, writer_after};
@@ -14,8 +14,8 @@ use atomic_table::{Seat, Shared, Table, TableRule};
 use std::alloc::{AllocError, Global};
 use std::marker::Model;
 use table_words::{
-    Adds, BUCKET_WAYS, Closes, Deals, Law, Learns, Loads, Opens, Puts, SECTION_STRIDE, Scans,
-    Stores, TableShape, View, even_after,
+    Adds, BUCKET_WAYS, Closes, Deals, Doubles, Law, Learns, Loads, Opens, Puts, SECTION_STRIDE,
+    Scans, Stores, TableShape, View, even_after,
 };
 
 /// Words that readers and one writer share with no lock. Contracts see which table it is, and how many of each it has.
@@ -350,12 +350,30 @@ impl MapTable {
         requires known { IsKnown seat.old.me.0 }
         requires way { way < ways_of self.now.shape }
         requires may { (word ≡ 0) ⊎ MayLink (layout_of self.now.shape) seat.old.me.0.seen way word }
+        requires settles { Settles self.now.shape.readers way word seat.old.me.0.mine }
         ensures table { seat.new.table_id ≡ seat.old.table_id }
         ensures held { seat.new.me.1 ≡ seat.old.me.1 }
         ensures step { Went seat.old.me.0 (Put way word ∷ seat.old.me.0.mine) seat.new.me.0 }
     {
         let index = self.ways + way;
         self.table.shared.store::<Puts>(seat, index, word);
+    }
+
+    /// Puts the word of a way in a second one.
+    #[inline]
+    pub(crate) fn double(&self, seat: &mut Seat<u8, View>, from: usize, to: usize, word: u64)
+        requires table { (seat.old.table_id ≡ self.now.id) × (seat.old.me.0.shape ≡ self.now.shape) }
+        requires writer { seat.old.me.0.me ≡ 0 }
+        requires known { IsKnown seat.old.me.0 }
+        requires to { to < ways_of self.now.shape }
+        requires may { MayDouble (layout_of self.now.shape) seat.old.me.0.seen from to word }
+        ensures table { seat.new.table_id ≡ seat.old.table_id }
+        ensures held { seat.new.me.1 ≡ seat.old.me.1 }
+        ensures step { Went seat.old.me.0 (Double from to word ∷ seat.old.me.0.mine) seat.new.me.0 }
+    {
+        let _ = from;
+        let index = self.ways + to;
+        self.table.shared.store::<Doubles>(seat, index, word);
     }
 
     /// The section word of a reader: odd inside a section, and even outside.

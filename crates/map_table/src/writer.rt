@@ -4,24 +4,29 @@ ghost use Rattle.std.specs.List.{range_with_len};
 ghost use Rattle.map_table_laws.specs.declared.moves.Move.{Move};
 ghost use Rattle.map_table_laws.specs.declared.moves.Move.TheVariants.{Put};
 ghost use Rattle.map_table_laws.specs.Layout.{IsCandidate, Names};
-ghost use Rattle.map_table_laws.specs.History.{word_in, IsSpare};
+ghost use Rattle.map_table_laws.specs.History.{word_in, IsSettled, IsSpare, MayDouble};
 ghost use Rattle.map_table_laws.specs.Lookups.{OnlySearches};
 ghost use Rattle.map_table_laws.specs.Found.{IsLinkedUnder};
+ghost use Rattle.map_table_laws.specs.Moved.{OnlyMoves};
+ghost use Rattle.map_table_laws.specs.Once.{AreLinkedOnce};
 ghost use Rattle.map_table.specs.Hashes.{layout_of};
 ghost use Rattle.map_table.specs.Law.{ways_of, writer_after};
 ghost use Rattle.map_table.specs.Counting.{AddsUp};
 ghost use Rattle.map_table.specs.Values.{copies_of, stored_of};
 ghost use Rattle.map_table.specs.Held.{IsKnown, IsSized};
+ghost use Rattle.map_table.specs.Moving.{IsSomeInside, NoneCanMove, StayLinked};
 ghost use Rattle.map_table.specs.Reading.{OnlyLoads, Reads};
+ghost use Rattle.map_table.specs.declared.moving.Room.TheVariants.{Made, Held, Full};
 ghost use Rattle.map_table.specs.Sightings.{IsHeldUp};
 ghost use Rattle.map_table.specs.Writing.{Puts, Works, Looks, Frees, AreFull, StaysIn, IsFree, IsUnlinked, IsNoneLost, times_in};
 
 use crate::by_key::find_way;
+use crate::moving::{Room, find_move};
 use crate::reading::{add_up, load_key, load_values};
 use crate::setup::numbers;
-use crate::sightings::look_round;
+use crate::sightings::{all_passed, look_round};
 use crate::table::MapTable;
-use crate::writing::{fill_element, put_word};
+use crate::writing::{double_word, fill_element, put_word};
 use atomic_table::Seat;
 use std::alloc::{AllocError, Global};
 use std::marker::Model;
@@ -45,6 +50,7 @@ pub struct Writer {
 
 impl Model for Writer {
     ghost use Rattle.std.specs.Prelude.{◌≡◌, ◌≤◌, [], vec_capacity};
+    ghost use Rattle.map_table_laws.specs.History.{IsSettled};
     ghost use Rattle.map_table.specs.Sightings.{AreSightings};
     ghost use Rattle.map_table.specs.Writing.{WriterView, IsWriter, IsNoneLost};
 
@@ -61,7 +67,8 @@ impl Model for Writer {
         × (w.seat.me.1 ≡ []) × (w.seat.me.0.shape.elements ≤ vec_capacity w.free)
         × (w.seat.me.0.shape.elements ≤ vec_capacity w.unlinked)
         × AreSightings w.seat.me.0 w.unlinked.items w.seen.items
-        × IsNoneLost w.seat.me.0 w.free.items w.unlinked.items };
+        × IsNoneLost w.seat.me.0 w.free.items w.unlinked.items
+        × IsSettled w.seat.me.0.mine };
 }
 
 impl Writer {
@@ -223,6 +230,86 @@ impl Writer {
         add_up(table, &mut self.seat, element, place)
     }
 
+    /// Moves the element of a way to another one of its key. It stands in both until each reader has left the section that it was
+    /// in. If one stays there, the element stays where it stood, and the answer is false.
+    fn move_to(&mut self, table: &MapTable, from: usize, to: usize) -> bool
+        requires table { self.old.table ≡ table.now }
+        requires from { from < ways_of table.now.shape }
+        requires to { to < ways_of table.now.shape }
+        requires may { MayDouble (layout_of table.now.shape) self.old.view.seen from to
+            (word_in from self.old.view.mine) }
+        ensures table { self.new.table ≡ self.old.table }
+        ensures free { self.new.free ≡ self.old.free }
+        ensures unlinked { self.new.unlinked ≡ self.old.unlinked }
+        ensures steps { (ms : List Move) × OnlyMoves ms self.old.view.mine × Works self.old ms self.new
+            × (result ≡ false → IsSomeInside table.now.shape.readers ms) }
+        ensures emptied { result ≡ true → word_in from self.new.view.mine ≡ 0 }
+    {
+        double_word(table, &mut self.seat, &mut self.ways, from, to);
+        let unlinked = self.unlinked.as_slice();
+        if !all_passed(table, &mut self.seat, &mut self.seen, unlinked) {
+            put_word(table, &mut self.seat, &mut self.ways, to, 0);
+            return false;
+        }
+        put_word(table, &mut self.seat, &mut self.ways, from, 0);
+        true
+    }
+
+    /// Makes room for a key whose two buckets are full: it moves an element from there to the other bucket of that one's key, if
+    /// it can. Each element keeps its key and its values, and stays linked at each moment, so no reader misses it (law
+    /// `null_refutes_every_element`). It looks at a reader 1,001 times at most, and waits for nobody.
+    pub fn make_room(&mut self, table: &MapTable, key: &[u64]) -> Room
+        requires table { self.old.table ≡ table.now }
+        requires key { length key.now ≡ table.now.shape.key_words }
+        ensures table { self.new.table ≡ self.old.table }
+        ensures free { self.new.free ≡ self.old.free }
+        ensures unlinked { self.new.unlinked ≡ self.old.unlinked }
+        ensures steps { (ms : List Move) × OnlyMoves ms self.old.view.mine × Works self.old ms self.new
+            × (result ≡ Held → IsSomeInside table.now.shape.readers ms) }
+        ensures made { result ≡ Made → AreFull self.new.view key.now → ⊥ }
+        ensures held { result ≡ Held → AreFull self.old.view key.now }
+        ensures full { result ≡ Full → AreFull self.new.view key.now × NoneCanMove self.new.view key.now }
+
+        // Each element that was linked under a key is linked so after each step of whomever.
+        ensures stay { StayLinked table.now.shape self.old.view.seen self.new.view.seen }
+
+        // No key is linked twice by it.
+        ensures once { AreLinkedOnce (layout_of table.now.shape) 0 self.old.view.seen →
+            AreLinkedOnce (layout_of table.now.shape) 0 self.new.view.seen }
+    {
+        self.is_writers();
+        self.find_room(table, key)
+    }
+
+    /// The same.
+    fn find_room(&mut self, table: &MapTable, key: &[u64]) -> Room
+        requires table { self.old.table ≡ table.now }
+        requires key { length key.now ≡ table.now.shape.key_words }
+        ensures table { self.new.table ≡ self.old.table }
+        ensures free { self.new.free ≡ self.old.free }
+        ensures unlinked { self.new.unlinked ≡ self.old.unlinked }
+        ensures steps { (ms : List Move) × OnlyMoves ms self.old.view.mine × Works self.old ms self.new
+            × (result ≡ Held → IsSomeInside table.now.shape.readers ms) }
+        ensures made { result ≡ Made → AreFull self.new.view key.now → ⊥ }
+        ensures held { result ≡ Held → AreFull self.old.view key.now }
+        ensures full { result ≡ Full → AreFull self.new.view key.now × NoneCanMove self.new.view key.now }
+    {
+        let shape = table.shape();
+        let candidates = candidates_of(shape, key);
+        if let Some(_) = empty_of_both(self.ways.as_slice(), candidates) {
+            return Room::Made;
+        }
+        let ways = self.ways.as_slice();
+        let Some((from, to)) = find_move(table, &mut self.seat, ways, candidates) else {
+            return Room::Full;
+        };
+        if self.move_to(table, from, to) {
+            Room::Made
+        } else {
+            Room::Held
+        }
+    }
+
     /// Empties a way that names an element. Readers that found the element before may use it until they end their section.
     pub fn unlink(&mut self, table: &MapTable, way: usize)
         requires table { self.old.table ≡ table.now }
@@ -316,6 +403,9 @@ impl Writer {
         ensures me { self.now.view.me ≡ 0 }
         ensures shape { self.now.view.shape ≡ self.now.table.shape }
         ensures known { IsKnown self.now.view }
+
+        // Between its calls nothing is moved, so each element stands in one way at most (law `elements_stand_in_one_way`).
+        ensures settled { IsSettled self.now.view.mine }
     {
         let _ = &self.free;
     }

@@ -1,8 +1,8 @@
 //! What the calls of the writer are made of.
 ghost use Rattle.std.specs.Prelude.{◌≡◌, ◌⊎◌, ℕ, ◌+◌, ◌<◌, ◌≤◌, List, ◌∷◌, ◌++◌, length, slice_index, slice_set};
 ghost use Rattle.map_table_laws.specs.declared.moves.Move.{Move};
-ghost use Rattle.map_table_laws.specs.declared.moves.Move.TheVariants.{Put};
-ghost use Rattle.map_table_laws.specs.History.{word_at, key_of, IsSpare, MayLink};
+ghost use Rattle.map_table_laws.specs.declared.moves.Move.TheVariants.{Put, Double};
+ghost use Rattle.map_table_laws.specs.History.{word_at, key_of, Settles, IsSpare, MayDouble, MayLink};
 ghost use Rattle.map_table.specs.Hashes.{layout_of};
 ghost use Rattle.map_table.specs.Law.{width_of, ways_of};
 ghost use Rattle.map_table.specs.Values.{stored_of};
@@ -71,6 +71,33 @@ pub(crate) fn fill_element(
     fill(table, seat, element, shape.key_words, value);
 }
 
+/// Puts the word of a way in a second one, and notes it.
+pub(crate) fn double_word(
+    table: &MapTable,
+    seat: &mut Seat<u8, View>,
+    ways: &mut Vec<u64>,
+    from: usize,
+    to: usize,
+)
+    requires table { (seat.old.table_id ≡ table.now.id) × (seat.old.me.0.shape ≡ table.now.shape) }
+    requires writer { seat.old.me.0.me ≡ 0 }
+    requires known { IsKnown seat.old.me.0 }
+    requires from { from < ways_of table.now.shape }
+    requires to { to < ways_of table.now.shape }
+    requires ways { length ways.old.items ≡ ways_of table.now.shape }
+    requires may { MayDouble (layout_of table.now.shape) seat.old.me.0.seen from to
+        (slice_index ways.old.items from) }
+    ensures table { seat.new.table_id ≡ seat.old.table_id }
+    ensures held { seat.new.me.1 ≡ seat.old.me.1 }
+    ensures ways { ways.new.items ≡ slice_set ways.old.items to (slice_index ways.old.items from) }
+    ensures step { Went seat.old.me.0
+        (Double from to (slice_index ways.old.items from) ∷ seat.old.me.0.mine) seat.new.me.0 }
+{
+    let word = ways[from];
+    table.double(seat, from, to, word);
+    ways[to] = word;
+}
+
 /// Puts a word in a way, and notes it.
 pub(crate) fn put_word(
     table: &MapTable,
@@ -85,6 +112,7 @@ pub(crate) fn put_word(
     requires way { way < ways_of table.now.shape }
     requires ways { length ways.old.items ≡ ways_of table.now.shape }
     requires may { (word ≡ 0) ⊎ MayLink (layout_of table.now.shape) seat.old.me.0.seen way word }
+    requires settles { Settles table.now.shape.readers way word seat.old.me.0.mine }
     ensures table { seat.new.table_id ≡ seat.old.table_id }
     ensures held { seat.new.me.1 ≡ seat.old.me.1 }
     ensures ways { ways.new.items ≡ slice_set ways.old.items way word }

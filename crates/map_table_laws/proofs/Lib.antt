@@ -3,7 +3,7 @@ pub mod Hits
 pub mod Holding
 pub mod Looks
 pub mod Moments
-mod Moved
+pub mod Moved
 pub mod Once
 pub mod Owning
 mod Small

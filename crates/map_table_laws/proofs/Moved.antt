@@ -1,5 +1,6 @@
 -- A key that the writer moves is found throughout.
 use Rattle.std.proofs.Common.{◌≡◌, ◌≢◌, ◌⊎◌, ℕ, ◌*◌, ◌%◌, ◌<◌, ◌≤◌, List, [], ◌∷◌, ◌++◌, refl, sym, ap, ◌∙◌, subst, ⊎_elim, inl, inr, arith, None}
+use Rattle.std.specs.Prelude.{length}
 use mathlib.Core.Logic.{dite}
 use native.Mathlib.Decide.{ℕ_discrete}
 use Rattle.map_table_laws.specs.declared.moves.Move.{Move}
@@ -7,13 +8,16 @@ use Rattle.map_table_laws.specs.declared.moves.Move.TheVariants.{Open, Close, Le
 use Rattle.map_table_laws.specs.Layout.{Layout, Names, bucket_of}
 use Rattle.map_table_laws.specs.History.{moves_of, inside, section_word, word_in, IsMoving, IsSettled, since_double, HavePassed, IsReader, MayDo, IsLawful}
 use Rattle.map_table_laws.specs.Lookups.{OnlySearches, AnswersLookup}
-use Rattle.map_table_laws.specs.Found.{Links, IsLinkedUnder, IsLinkedAs, Throughout, StaysInside, StaysFound}
+use Rattle.map_table_laws.specs.Found.{Links, IsLinkedAs, Throughout, StaysInside, StaysFound}
+use Rattle.map_table_laws.specs.Moved.{OnlyMoves}
+use Rattle.map_table_laws.specs.Once.{AreLinkedOnce, PutsNoKeyTwice, PutNoKeyTwice}
 use Rattle.map_table_laws.specs.Scanned.{FoundOther, FoundGone}
 use Rattle.map_table_laws.proofs.Steps.{own, others, key_step, nothing_named}
 use Rattle.map_table_laws.proofs.Words.{word_parity, word_stays}
-use Rattle.map_table_laws.proofs.Standing.{Quiet, Putting, Doubling, Changed, step, here_at, put_alone, put_settled, one_way, Moved, moved_ways}
-use Rattle.map_table_laws.proofs.Moments.{History, inside_rest, searches_inside, stays_found}
+use Rattle.map_table_laws.proofs.Standing.{Quiet, Putting, Doubling, Changed, step, here_at, put_alone, put_settled, one_way, moved_ways}
+use Rattle.map_table_laws.proofs.Moments.{History, at_last, inside_rest, searches_inside, stays_found}
 use Rattle.map_table_laws.proofs.Looks.{moves_append}
+use Rattle.map_table_laws.proofs.Once.{stays_once}
 use Rattle.map_table_laws.proofs.Writing.{refuted_looked}
 use Rattle.map_table_laws.proofs.Walks.{was_inside}
 
@@ -100,7 +104,7 @@ other_front reader word (Put w x ∷ ns) ms f = other_front reader word ns ms f
 other_front reader word (Double v w x ∷ ns) ms f = other_front reader word ns ms f
 other_front reader word (Scan r x ∷ ns) ms f = ⊎_elim (λ (t : (r ≡ reader) × (x ≢ word)). inl t) (λ t. inr (other_front reader word ns ms t)) f
 
-gone_front : (reader : ℕ) (ns ms : List Move) → FoundGone reader ns → FoundGone reader (ns ++ ms)
+pub gone_front : (reader : ℕ) (ns ms : List Move) → FoundGone reader ns → FoundGone reader (ns ++ ms)
 gone_front reader [] ms f = absurd f
 gone_front reader (Open ∷ ns) ms f = gone_front reader ns ms f
 gone_front reader (Close ∷ ns) ms f = gone_front reader ns ms f
@@ -113,6 +117,17 @@ gone_front reader (Scan r x ∷ ns) ms f = ⊎_elim
     (λ (t : (r ≡ reader) × ((x % 2 ≡ 0) ⊎ FoundOther reader x ns)).
     inl (t.0, ⊎_elim (λ (even : x % 2 ≡ 0). inl even) (λ other. inr (other_front reader x ns ms other)) t.1))
     (λ t. inr (gone_front reader ns ms t)) f
+
+pub gone_back : (reader : ℕ) (ns ms : List Move) → FoundGone reader ms → FoundGone reader (ns ++ ms)
+gone_back reader [] ms f = f
+gone_back reader (Open ∷ ns) ms f = gone_back reader ns ms f
+gone_back reader (Close ∷ ns) ms f = gone_back reader ns ms f
+gone_back reader (Learn w x ∷ ns) ms f = gone_back reader ns ms f
+gone_back reader (Load e p x ∷ ns) ms f = gone_back reader ns ms f
+gone_back reader (Store e p x ∷ ns) ms f = gone_back reader ns ms f
+gone_back reader (Put w x ∷ ns) ms f = gone_back reader ns ms f
+gone_back reader (Double v w x ∷ ns) ms f = gone_back reader ns ms f
+gone_back reader (Scan r x ∷ ns) ms f = inr (gone_back reader ns ms f)
 
 -- the writer moves something, or not
 moved_or_not : (ms : List Move) → ((from : ℕ) × (to : ℕ) × IsMoving from to ms) ⊎ IsSettled ms
@@ -178,8 +193,7 @@ module _ (k : Layout) (table : ℕ) (key : List ℕ) (element who : ℕ) (reader
         second = λ f t n.
             let is = one_move from to f t (moves_of 0 early) moving n in
             let same : way ≡ f → word_in way (moves_of 0 early) ≡ word_in t (moves_of 0 early) = λ at_f.
-            ap (λ z. word_in z (moves_of 0 early)) (at_f ∙ sym is.0) ∙ (m.at_from ∙ (sym m.at_to ∙ ap (λ z. word_in z (moves_of 0 early)) is.1)) in
-            (
+            ap (λ z. word_in z (moves_of 0 early)) (at_f ∙ sym is.0) ∙ (m.at_from ∙ (sym m.at_to ∙ ap (λ z. word_in z (moves_of 0 early)) is.1)) in (
               λ at_t. ne (at_t ∙ sym is.1),
               λ at_f. inl record { names = subst (λ z. Names z element) (same at_f) l.names; table_is = l.table_is; key_is = l.key_is },
             );
@@ -207,8 +221,7 @@ module _ (k : Layout) (table : ℕ) (key : List ℕ) (element who : ℕ) (reader
       way = s.way;
       all = still_all e late early s.way lawful.0 (q.same s.way) s.all;
       second = λ f t n.
-          let was = s.second f t (q.back f t n) in
-          (
+          let was = s.second f t (q.back f t n) in (
             was.0,
             λ at_f. ⊎_elim
                 (λ (all : Throughout (At t) late early). inl (still_all e late early t lawful.0 (q.same t) all))
@@ -326,3 +339,110 @@ emptied_early k es lawful from to reader word moving some few unseen may = ⊎_e
     (λ (same : from ≡ to). (moved_ways k es lawful from to moving).two same)
     (λ (t : (from ≡ from) × HavePassed k.readers (moves_of 0 es)). unseen (t.1 reader some few))
     (may.2 from to moving).1
+
+only_rest : (m : Move) (ms bs : List Move) → OnlyMoves (m ∷ ms) bs → OnlyMoves ms bs
+only_rest Open ms bs o = o
+only_rest Close ms bs o = o
+only_rest (Learn w x) ms bs o = o
+only_rest (Load e p x) ms bs o = o
+only_rest (Store e p x) ms bs o = o
+only_rest (Put w x) ms bs o = o.1
+only_rest (Double v w x) ms bs o = o
+only_rest (Scan r x) ms bs o = o
+
+only_moves_rest : (e : ℕ × Move) (late : History) (bs : List Move) → OnlyMoves (moves_of 0 (e ∷ late)) bs → OnlyMoves (moves_of 0 late) bs
+only_moves_rest e late bs o = dite (ℕ_discrete e.0 0)
+    (λ mine. only_rest e.1 (moves_of 0 late) bs (subst (λ ms. OnlyMoves ms bs) (own 0 e late mine) o))
+    (λ ne. subst (λ ms. OnlyMoves ms bs) (others 0 e late ne) o)
+
+-- a put among them ends a move
+put_ends : (k : Layout) (e : ℕ × Move) (late early : History) (way word : ℕ) → Putting k e (late ++ early) way word →
+    OnlyMoves (moves_of 0 (e ∷ late)) (moves_of 0 early) → (from : ℕ) × (to : ℕ) × IsMoving from to (moves_of 0 (late ++ early))
+put_ends k e late early way word p o = dite (ℕ_discrete e.0 0)
+    (λ mine.
+    let only : OnlyMoves (Put way word ∷ moves_of 0 late) (moves_of 0 early) = subst (λ ms. OnlyMoves ms (moves_of 0 early))
+    (own 0 e late mine ∙ ap (λ m. m ∷ moves_of 0 late) p.is) o in
+    (only.0.0, only.0.1, subst (IsMoving only.0.0 only.0.1) (sym (moves_append 0 late early)) only.0.2))
+    (λ ne.
+    let is = ap (λ (ms : List Move). length ms) (sym (others 0 e (late ++ early) ne) ∙ p.mine) in absurd (omega (arith, is)))
+
+-- an element that is linked stays so
+module _ (k : Layout) (table : ℕ) (key : List ℕ) (element : ℕ) where
+  links_still : (e : ℕ × Move) (es : History) (way : ℕ) → MayDo k es e.0 e.1 → word_in way (moves_of 0 (e ∷ es)) ≡ word_in way (moves_of 0 es) →
+      Links k table key way element es → IsLinkedAs k table key element (e ∷ es)
+  links_still e es way may same l = (
+    way,
+    record {
+      names = subst (λ z. Names z element) (sym same) l.names;
+      table_is = l.table_is;
+      key_is = key_step k es e element may (λ spare. spare.0 (way, l.names)) ∙ l.key_is;
+    },
+  )
+
+  -- a move that ends leaves it in its other way
+  end_leaves : (e : ℕ × Move) (es : History) → IsLawful k (e ∷ es) → (c : Changed k e es) → Putting k e es c.way c.word → (from to : ℕ) →
+      IsMoving from to (moves_of 0 es) → IsLinkedAs k table key element es → IsLinkedAs k table key element (e ∷ es)
+  end_leaves e es lawful c p from to moving l =
+      let m = moved_ways k es lawful.1 from to moving in
+      let other : (one two : ℕ) → c.way ≡ one → one ≢ two → word_in one (moves_of 0 es) ≡ word_in two (moves_of 0 es) → c.way ≡ l.0 →
+      IsLinkedAs k table key element (e ∷ es) = λ one two at ne same here.
+      links_still e es two lawful.0 (c.there two (λ is. ne (sym at ∙ is))) record {
+        names = subst (λ z. Names z element) (ap (λ z. word_in z (moves_of 0 es)) (sym here ∙ at) ∙ same) l.1.names;
+        table_is = l.1.table_is;
+        key_is = l.1.key_is;
+      } in
+      dite (ℕ_discrete c.way l.0)
+      (λ here. ⊎_elim
+      (λ (at_to : c.way ≡ to). other to from at_to (λ is. m.two (sym is)) (m.at_to ∙ sym m.at_from) here)
+      (λ (at_from : (c.way ≡ from) × HavePassed k.readers (moves_of 0 es)). other from to at_from.0 m.two (m.at_from ∙ sym m.at_to) here)
+      (p.settles from to moving).1)
+      (λ ne. links_still e es l.0 lawful.0 (c.there l.0 ne) l.1)
+
+  linked_on : (e : ℕ × Move) (late early : History) → IsLawful k (e ∷ (late ++ early)) → OnlyMoves (moves_of 0 (e ∷ late)) (moves_of 0 early) →
+      IsLinkedAs k table key element (late ++ early) → IsLinkedAs k table key element (e ∷ (late ++ early))
+  linked_on e late early lawful only l = ⊎_elim
+      (λ (q : Quiet e (late ++ early)). links_still e (late ++ early) l.0 lawful.0 (q.same l.0) l.1)
+      (λ (c : Changed k e (late ++ early)). ⊎_elim
+      (λ (p : Putting k e (late ++ early) c.way c.word).
+      let m = put_ends k e late early c.way c.word p only in
+      end_leaves e (late ++ early) lawful c p m.0 m.1 m.2 l)
+      (λ (d : Doubling k e (late ++ early) c.way c.word).
+      let ne : c.way ≢ l.0 = λ is. nothing_named element (subst (λ z. Names z element)
+      (ap (λ z. word_in z (moves_of 0 (late ++ early))) (sym is) ∙ d.may.empty) l.1.names) in
+      links_still e (late ++ early) l.0 lawful.0 (c.there l.0 ne) l.1)
+      c.how)
+      (step k e (late ++ early) lawful.0)
+
+  pub stays_linked : (late early : History) → IsLawful k (late ++ early) → OnlyMoves (moves_of 0 late) (moves_of 0 early) →
+      IsLinkedAs k table key element early → Throughout (IsLinkedAs k table key element) late early
+  stays_linked [] early lawful only l = l
+  stays_linked (e ∷ late) early lawful only l =
+      let t = stays_linked late early lawful.1 (only_moves_rest e late (moves_of 0 early) only) l in
+      (linked_on e late early lawful only (at_last (IsLinkedAs k table key element) late early t), t)
+
+-- no key is linked twice by it
+puts_nothing : (k : Layout) (table : ℕ) (who : ℕ) (m : Move) (es : History) → MayDo k es who m →
+    ((way word : ℕ) → Putting k (who, m) es way word → (from : ℕ) × (to : ℕ) × IsMoving from to (moves_of 0 es)) → PutsNoKeyTwice k table es m
+puts_nothing k table who Open es may ends = tt
+puts_nothing k table who Close es may ends = tt
+puts_nothing k table who (Learn w x) es may ends = tt
+puts_nothing k table who (Load e p x) es may ends = tt
+puts_nothing k table who (Store e p x) es may ends = tt
+puts_nothing k table who (Double v w x) es may ends = tt
+puts_nothing k table who (Scan r x) es may ends = tt
+puts_nothing k table who (Put w x) es may ends = λ key other b l.
+    let m = ends w x record { is = refl; mine = own 0 (who, Put w x) es may.0; may = may.1; settles = may.2 } in
+    let none : x ≡ 0 = (may.2 m.0 m.1 m.2).0 in
+    absurd (nothing_named b.0 (subst (λ z. Names z b.0) none b.1))
+
+none_twice : (k : Layout) (table : ℕ) (late early : History) → IsLawful k (late ++ early) → OnlyMoves (moves_of 0 late) (moves_of 0 early) →
+    PutNoKeyTwice k table late early
+none_twice k table [] early lawful only = tt
+none_twice k table (e ∷ late) early lawful only = (
+  puts_nothing k table e.0 e.1 (late ++ early) lawful.0 (λ way word p. put_ends k e late early way word p only),
+  none_twice k table late early lawful.1 (only_moves_rest e late (moves_of 0 early) only),
+)
+
+pub moves_once : (k : Layout) (late early : History) → IsLawful k (late ++ early) → (table : ℕ) → OnlyMoves (moves_of 0 late) (moves_of 0 early) →
+    AreLinkedOnce k table early → AreLinkedOnce k table (late ++ early)
+moves_once k late early lawful table only once = stays_once k late early lawful table once (none_twice k table late early lawful only)

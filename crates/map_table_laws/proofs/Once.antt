@@ -5,7 +5,7 @@ use native.Mathlib.Decide.{ℕ_discrete}
 use Rattle.map_table_laws.specs.declared.moves.Move.{Move}
 use Rattle.map_table_laws.specs.declared.moves.Move.TheVariants.{Put}
 use Rattle.map_table_laws.specs.Layout.{Layout, Names}
-use Rattle.map_table_laws.specs.History.{moves_of, word_in, IsMoving, IsSettled, AreOneOrMoved, IsLawful}
+use Rattle.map_table_laws.specs.History.{moves_of, word_in, IsMoving, IsSettled, IsLawful}
 use Rattle.map_table_laws.specs.Found.{IsLinkedUnder, BearsKey}
 use Rattle.map_table_laws.specs.Once.{AreLinkedOnce, PutsNoKeyTwice, PutNoKeyTwice}
 use Rattle.map_table_laws.proofs.Steps.{key_step}

@@ -2,18 +2,17 @@
 use Rattle.std.proofs.Common.{◌≡◌, ◌≢◌, ◌⊎◌, ℕ, ◌%◌, ◌<◌, ◌≤◌, List, [], ◌∷◌, ◌++◌, refl, sym, ap, ◌∙◌, subst, ⊎_elim, inl, inr, arith}
 use mathlib.Core.Logic.{dite}
 use native.Mathlib.Decide.{ℕ_discrete}
-use Rattle.std.proofs.Common.{None}
 use Rattle.map_table_laws.specs.declared.moves.Move.{Move}
 use Rattle.map_table_laws.specs.declared.moves.Move.TheVariants.{Open, Close, Learn, Load, Store, Put, Double, Scan}
 use Rattle.map_table_laws.specs.Layout.{Layout, Names}
 use Rattle.map_table_laws.specs.History.{moves_of, word_in, IsLinked, Holds, FoundSince, HasLeft, Cleared, IsSpare, IsOpenTo, MayDo, MayLink, IsLawful}
-use Rattle.map_table_laws.specs.Lookups.{OnlySearches, Refuted, FoundIn, AnswersLookup}
-use Rattle.map_table_laws.specs.Found.{IsLinkedUnder, IsLinkedAs, Throughout, StaysFound, BearsKey, KeepsKey, OnlyReplaces}
+use Rattle.map_table_laws.specs.Lookups.{Refuted, FoundIn}
+use Rattle.map_table_laws.specs.Found.{IsLinkedUnder, Throughout, StaysFound, BearsKey, KeepsKey, OnlyReplaces}
 use Rattle.map_table_laws.specs.Scanned.{OnlyScans, FoundOutside, FoundOther, FoundGone, AllOutside, LookedAt}
 use Rattle.map_table_laws.proofs.Steps.{key_step, put_here, one_name, nothing_named}
 use Rattle.map_table_laws.proofs.Holding.{held, spare_unheld}
 use Rattle.map_table_laws.proofs.Standing.{Quiet, Putting, Doubling, Changed, step, here_at}
-use Rattle.map_table_laws.proofs.Moments.{History, stays_found}
+use Rattle.map_table_laws.proofs.Moments.{History}
 
 put_zero : (way : ℕ) (ms : List Move) → word_in way (Put way 0 ∷ ms) ≡ 0
 put_zero way ms = put_here way way 0 ms refl

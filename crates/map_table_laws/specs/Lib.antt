@@ -3,6 +3,7 @@ pub mod Found
 pub mod History
 pub mod Layout
 pub mod Lookups
+pub mod Moved
 pub mod Once
 pub mod Scanned
 pub mod Small

@@ -6,6 +6,7 @@ ghost use Rattle.map_table_laws.specs.Layout.{Layout, IsCandidate, IsApart, Name
 ghost use Rattle.map_table_laws.specs.History.{moves_of, with_writer, inside, opened, most_sections, section_word, word_in, word_at, key_of, generation, IsLinked, AreOneOrMoved, Holds, FoundSince, Cleared, IsSpare, IsReader, IsLawful};
 ghost use Rattle.map_table_laws.specs.Lookups.{OnlySearches, AnswersLookup, FoundIn, HadWord};
 ghost use Rattle.map_table_laws.specs.Found.{IsLinkedUnder, IsLinkedAs, Sometime, Throughout, StaysFound, StaysInside, StaysUnlinked, OnlyReplaces};
+ghost use Rattle.map_table_laws.specs.Moved.{OnlyMoves};
 ghost use Rattle.map_table_laws.specs.Once.{AreLinkedOnce, PutNoKeyTwice};
 ghost use Rattle.map_table_laws.specs.Scanned.{OnlyScans, AllOutside};
 ghost use Rattle.map_table_laws.specs.Whole.{OnlyWriterStores};
@@ -192,6 +193,20 @@ pub fn moved_elements_keep_a_way()
         (table : ℕ) (key : List ℕ) (who element : ℕ) → IsReader k who → inside (moves_of who early) ≡ 1 →
         StaysInside (moves_of who late) → Throughout (IsLinkedAs k table key element) late early →
         (way : ℕ) × StaysFound k table key way late early }
+{}
+
+/// In every lawful history each linked element stays linked while the writer only moves, after each of these steps.
+pub fn moved_elements_stay_linked()
+    ensures { (k : Layout) (late early : List (ℕ × Move)) → IsLawful k (late ++ early) →
+        OnlyMoves (moves_of 0 late) (moves_of 0 early) → (table : ℕ) (key : List ℕ) (element : ℕ) →
+        IsLinkedAs k table key element early → Throughout (IsLinkedAs k table key element) late early }
+{}
+
+/// In every lawful history moves link no key twice.
+pub fn moves_link_no_key_twice()
+    ensures { (k : Layout) (late early : List (ℕ × Move)) → IsLawful k (late ++ early) → (table : ℕ) →
+        OnlyMoves (moves_of 0 late) (moves_of 0 early) → AreLinkedOnce k table early →
+        AreLinkedOnce k table (late ++ early) }
 {}
 
 /// A walk: in every lawful history a reader that learns each way below n in one section meets each key that stays linked in

@@ -9,7 +9,7 @@ use Rattle.table_words.specs.Hashes.{layout_of}
 use Rattle.table_words.specs.Limits.{section_stride}
 use Rattle.table_words.specs.Values.{stored_of}
 use Rattle.map_table_laws.specs.declared.moves.Move.{Move}
-use Rattle.map_table_laws.specs.declared.moves.Move.TheVariants.{Open, Close, Learn, Load, Store, Put, Scan}
+use Rattle.map_table_laws.specs.declared.moves.Move.TheVariants.{Open, Close, Learn, Load, Store, Put, Double, Scan}
 use Rattle.table_words.specs.declared.view.TableShape.{TableShape}
 use Rattle.table_words.specs.declared.view.View.{View}
 use Rattle.map_table_laws.specs.History.{moves_of, section_word, word_in, word_at, IsLawful}
@@ -144,6 +144,11 @@ adds st m n m' =
 -- the writer put a word in a way
 abbrev pub puts : Step ℕ → Sat → ℕ → Sat → Type 0
 puts st m n m' = Gains m.0 (Put (st.word - ways_from m.0.shape) st.first) m'.0 × (m'.1 ≡ m.1)
+
+-- the writer put the word of a way in a second one
+abbrev pub doubles : Step ℕ → Sat → ℕ → Sat → Type 0
+doubles st m n m' =
+    ((from : ℕ) × Gains m.0 (Double from (st.word - ways_from m.0.shape) st.first) m'.0) × (m'.1 ≡ m.1)
 
 -- the writer found the section word of a reader
 abbrev pub scans : Step ℕ → Sat → ℕ → Sat → Type 0

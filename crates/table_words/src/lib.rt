@@ -18,7 +18,7 @@ pub use hash::{Candidates, candidates_of, named};
 pub use limits::{BUCKET_WAYS, MAX_BUCKETS, MAX_ELEMENTS, MAX_READERS, MAX_WORDS};
 pub use lists::{move_first, zeros};
 pub use notes::{Sighting, least_of, lower_each, no_sightings};
-pub use rule::{Adds, Closes, Deals, Law, Learns, Loads, Opens, Puts, Scans, Stores};
+pub use rule::{Adds, Closes, Deals, Doubles, Law, Learns, Loads, Opens, Puts, Scans, Stores};
 pub use sections::{SECTION_STRIDE, even_after};
 pub use sip::Secret;
 pub use view::{TableShape, Values, View};

@@ -87,6 +87,15 @@ impl Play<u8, View> for Puts {
     ghost then = { puts };
 }
 
+/// The writer puts the word of a way in a second one.
+pub struct Doubles;
+
+impl Play<u8, View> for Doubles {
+    ghost use Rattle.table_words.specs.Law.{doubles};
+
+    ghost then = { doubles };
+}
+
 /// The writer loads the section word of a reader.
 pub struct Scans;
 

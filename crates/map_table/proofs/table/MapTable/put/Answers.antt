@@ -1,6 +1,6 @@
 use Rattle.std.proofs.Common.{◌≡◌, ◌⊎◌, ◌<◌, sym, ap, ◌∙◌, subst}
 use Rattle.map_table_laws.specs.declared.moves.Move.TheVariants.{Put}
-use Rattle.map_table_laws.specs.History.{MayLink}
+use Rattle.map_table_laws.specs.History.{Settles, MayLink}
 use Rattle.table_words.specs.declared.view.TableShape.{TableShape}
 use Rattle.map_table.specs.Hashes.{layout_of}
 use Rattle.map_table.specs.Law.{ways_of}
@@ -17,11 +17,12 @@ store-requires c =
     let same = c.requires.table.1 ∙ sym view in
     let way = subst (λ (k : TableShape). c.args.way < ways_of k) (sym view) c.requires.way in
     let may = subst (λ (k : TableShape). (c.args.word ≡ 0) ⊎ MayLink (layout_of k) c.args.seat.now.me.0.seen c.args.way c.args.word)
-    (sym view) c.requires.may in (
+    (sym view) c.requires.may in
+    let settles = subst (λ (k : TableShape). Settles k.readers c.args.way c.args.word c.args.seat.now.me.0.mine) (sym view) c.requires.settles in (
       c.requires.table.0 ∙ sym id,
       way_within c.self.inside.shape c.self.inside.ways c.args.way _ t.5 way t.1,
       puts_at c.self.inside.shape c.self.inside.table.shared.key _ _ _ c.self.inside.ways c.args.way _ t.5 same (sym t.0) way c.requires.writer
-          c.requires.known may,
+          c.requires.known may settles,
     )
 
 pub returns-clause-step : goal.returns-clause-step

@@ -1,5 +1,6 @@
-use Rattle.std.proofs.Common.{rules, ◌≡◌, ◌*◌, length, ap}
+use Rattle.std.proofs.Common.{rules, ◌≡◌, ◌*◌, length, ap, sym, subst}
 use Rattle.atomic_table.specs.Table.{Me}
+use Rattle.map_table_laws.specs.History.{IsSettled}
 use Rattle.table_words.specs.declared.view.View.{View}
 use Rattle.std.proofs.Common.{ℕ}
 use Rattle.map_table.proofs.Lost.{first_none_lost}
@@ -21,4 +22,5 @@ invariant_of-result c =
       at_most _ _ _ elements c.in_ok-unlinked.ensures.capacity,
       sightings_first _ w.0 c.args.shape _ _ view room c.in_ok-seen.ensures.none c.in_ok-unlinked.ensures.items,
       first_none_lost _ w.0 c.args.shape _ _ view c.in_ok-free.ensures.numbers,
+      subst (λ (z : View). IsSettled z.mine) (sym view) (λ f t m. m),
     )

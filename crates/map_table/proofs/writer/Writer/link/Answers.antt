@@ -12,7 +12,7 @@ use Rattle.map_table.specs.Held.{TableView}
 use Rattle.map_table.specs.Writing.{WriterView, as_holder, IsWriter, Fills, AreFull}
 use Rattle.map_table.proofs.Going.{went_known, went_then}
 use Rattle.map_table.proofs.Filling.{went_shape, went_me}
-use Rattle.map_table.proofs.Keeping.{quiet_append, fills_quiet}
+use Rattle.map_table.proofs.Keeping.{quiet_append, fills_quiet, quiet_settled, settles_none, put_settled}
 use Rattle.map_table.proofs.Lost.{quiet_none_lost, linked_none_lost}
 use Rattle.map_table.proofs.Seen.{sightings_filled, sightings_put}
 use Rattle.map_table.proofs.Linking.{may_link, linked_under, taken, filled_writer, linked_writer, works, of_both, way_low, fits_still, some_free}
@@ -57,6 +57,12 @@ put_word-requires-clause-may c =
     (of_both c.args.table.now.shape c.args.key.now _ _ c.in-Some.way (e.first ∙ ap (λ (k : TableShape). first_bucket k c.args.key.now * 8) same)
     (e.second ∙ ap (λ (k : TableShape). second_bucket k c.args.key.now * 8) same) c.in-Some.ensures.some.0))
 
+pub put_word-requires-clause-settles : goal.put_word-requires-clause-settles
+put_word-requires-clause-settles c =
+    let f = c.fill_element.ensures in
+    let quiet = quiet_append f.steps.1 f.steps.0 (fills_quiet _ _ _ _ f.steps.1 f.steps.3) (fills_quiet _ _ _ _ f.steps.0 f.steps.2) in
+    settles_none _ _ _ c.fill_element.new.seat.me.0.mine (quiet_settled c.self.inside.seat.me.0 c.fill_element.new.seat.me.0 (f.steps.1 ++ f.steps.0) quiet f.steps.4 c.self.invariant.6)
+
 pub invariant_of-self-2 : goal.invariant_of-self-2
 invariant_of-self-2 c =
     let i = c.self.invariant in
@@ -94,6 +100,7 @@ invariant_of-self-2 c =
           f.steps.2 f.steps.3 f.steps.4 i.4),
       linked_none_lost u w c.in-Some.way c.way_word-word.result p.step c.in-Some-pop.element _ c.pop.new.self.items unlinked empty h.items
           c.way_word-word.ensures.names (quiet_none_lost v u (f.steps.1 ++ f.steps.0) quiet f.steps.4 _ unlinked i.5),
+      put_settled u w c.in-Some.way c.way_word-word.result p.step,
     )
 
 pub returns-clause-steps : goal.returns-clause-steps

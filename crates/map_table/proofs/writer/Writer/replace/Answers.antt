@@ -11,7 +11,7 @@ use Rattle.map_table.specs.Held.{TableView}
 use Rattle.map_table.specs.Writing.{StaysIn, WriterView, as_holder, IsWriter, IsNoneLost, Fills}
 use Rattle.map_table.proofs.Going.{went_known, went_then}
 use Rattle.map_table.proofs.Filling.{went_shape, went_me}
-use Rattle.map_table.proofs.Keeping.{quiet_append, fills_quiet}
+use Rattle.map_table.proofs.Keeping.{quiet_append, fills_quiet, quiet_settled, settles_none, put_settled}
 use Rattle.map_table.specs.Sightings.{AreSightings}
 use Rattle.map_table.proofs.Lost.{quiet_none_lost, replaced_none_lost}
 use Rattle.map_table.proofs.Seen.{sightings_filled, sightings_unlinked}
@@ -82,6 +82,12 @@ put_word-requires-clause-may c =
     (e.tag ∙ ap (λ (k : TableShape). tag_of k c.args.key.now) c.shape-shape.ensures.shape)
     (subst (λ (k : TableShape). IsCandidate (layout_of k) 0 c.args.key.now c.args.way) shape here.0))
 
+pub put_word-requires-clause-settles : goal.put_word-requires-clause-settles
+put_word-requires-clause-settles c =
+    let f = c.fill_element.ensures in
+    let quiet = quiet_append f.steps.1 f.steps.0 (fills_quiet _ _ _ _ f.steps.1 f.steps.3) (fills_quiet _ _ _ _ f.steps.0 f.steps.2) in
+    settles_none _ _ _ c.fill_element.new.seat.me.0.mine (quiet_settled c.self.inside.seat.me.0 c.fill_element.new.seat.me.0 (f.steps.1 ++ f.steps.0) quiet f.steps.4 c.self.invariant.6)
+
 pub push_reserved-requires : goal.push_reserved-requires
 push_reserved-requires c =
     let i = c.self.invariant in
@@ -101,7 +107,7 @@ push_reserved-requires c =
     let r = replaced_writer c.self.inside.seat.me.0 c.fill_element.new.seat.me.0 c.put_word.new.seat.me.0 c.self.inside.ways.items _ c.pop.new.self.items
     c.self.inside.unlinked.items
     c.in-Some.element c.element_in-gone.result c.args.way c.way_word-word.result _ _ _ c.args.key.now c.args.value.now f.steps.0 f.steps.1 i.0 h.items
-    f.steps.2 f.steps.3 f.steps.4 c.put_word.ensures.step low c.way_word-word.ensures.names there in
+    f.steps.2 f.steps.3 f.steps.4 c.put_word.ensures.step low c.way_word-word.ensures.names there i.6 in
     let fits = i.3 in
     let less : length c.self.inside.unlinked.items < vec_capacity c.self.inside.unlinked = less_most _ _ _ _ r.1 fits in search rules
 
@@ -126,7 +132,7 @@ invariant_of-self-2 c =
     let r = replaced_writer c.self.inside.seat.me.0 c.fill_element.new.seat.me.0 c.put_word.new.seat.me.0 c.self.inside.ways.items _ c.pop.new.self.items
     c.self.inside.unlinked.items
     c.in-Some.element c.element_in-gone.result c.args.way c.way_word-word.result _ _ _ c.args.key.now c.args.value.now f.steps.0 f.steps.1 i.0 h.items
-    f.steps.2 f.steps.3 f.steps.4 p.step low c.way_word-word.ensures.names there in
+    f.steps.2 f.steps.3 f.steps.4 p.step low c.way_word-word.ensures.names there i.6 in
     let still = went_shape c.fill_element.new.seat.me.0 c.put_word.new.seat.me.0
     (Put c.args.way c.way_word-word.result ∷ c.fill_element.new.seat.me.0.mine) p.step ∙ went_shape c.self.inside.seat.me.0 c.fill_element.new.seat.me.0
     ((f.steps.1 ++ f.steps.0) ++ c.self.inside.seat.me.0.mine) f.steps.4 in
@@ -150,6 +156,7 @@ invariant_of-self-2 c =
       subst (λ (z : List ℕ). IsNoneLost w c.pop.new.self.items z) (sym q.items)
           (replaced_none_lost u w c.args.way c.way_word-word.result p.step c.in-Some.element gone _ c.pop.new.self.items unlinked now h.items
           c.way_word-word.ensures.names (quiet_none_lost v u (f.steps.1 ++ f.steps.0) quiet f.steps.4 _ unlinked i.5)),
+      put_settled u w c.args.way c.way_word-word.result p.step,
     )
 
 pub returns-clause-unlinked : goal.returns-clause-unlinked

@@ -1,7 +1,7 @@
 use Rattle.std.proofs.Common.{◌+◌, ◌∙◌, refl}
 use Rattle.map_table.specs.Values.{copies_of}
 use Rattle.map_table.proofs.Filling.{went_shape}
-use Rattle.map_table.proofs.Keeping.{adds_quiet, quiet_writer}
+use Rattle.map_table.proofs.Keeping.{adds_quiet, quiet_writer, quiet_settled}
 use Rattle.map_table.proofs.Linking.{fits_still}
 use Rattle.map_table.proofs.Lost.{quiet_none_lost}
 use Rattle.map_table.proofs.Seen.{sightings_added}
@@ -24,4 +24,5 @@ invariant_of-self c =
       sightings_added c.args.element from k.value_words (copies_of k) v w s.0 c.add_up.result c.self.inside.unlinked.items
           c.self.inside.seen.items s.1 s.2 i.4,
       quiet_none_lost v w s.0 quiet s.2 c.self.inside.free.items c.self.inside.unlinked.items i.5,
+      quiet_settled v w s.0 quiet s.2 i.6,
     )

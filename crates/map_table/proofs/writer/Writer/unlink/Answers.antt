@@ -10,6 +10,7 @@ use Rattle.map_table.specs.Sightings.{AreSightings}
 use Rattle.map_table.proofs.Lost.{emptied_none_lost}
 use Rattle.map_table.proofs.Seen.{sightings_unlinked}
 use Rattle.map_table.proofs.Filling.{went_shape}
+use Rattle.map_table.proofs.Keeping.{settles_none, put_settled}
 use Rattle.map_table.proofs.Linking.{fits_still, works}
 use Rattle.map_table.proofs.Unlinking.{low_half, read_way, less_most, space, emptied_writer}
 use Rattle.map_table.proofs.writer.Writer.unlink.Goals as goal
@@ -23,6 +24,9 @@ element_in-element-requires c =
     c.index.result.now i.0 low c.index.ensures in
     let some = subst (λ (w : WriterView). word_in c.args.way w.view.mine ≢ 0) (sym c.self.view_is) c.requires.linked in
     low_half c.self.inside.seat.me.0 c.self.inside.ways.items c.self.inside.free.items c.self.inside.unlinked.items c.args.way c.index.result.now i.0 some read
+
+pub put_word-requires-clause-settles : goal.put_word-requires-clause-settles
+put_word-requires-clause-settles c = settles_none _ _ _ c.self.inside.seat.me.0.mine c.self.invariant.6
 
 pub push_reserved-requires : goal.push_reserved-requires
 push_reserved-requires c =
@@ -50,7 +54,7 @@ invariant_of-self c =
     let still = went_shape c.self.inside.seat.me.0 c.put_word.new.seat.me.0 (Put c.args.way 0 ∷ c.self.inside.seat.me.0.mine) p.step in (
       subst (λ (z : List ℕ × List ℕ). IsWriter c.put_word.new.seat.me.0 z.0 c.self.inside.free.items z.1) (λ a. (sym p.ways a, sym q.items a))
           (emptied_writer c.self.inside.seat.me.0 c.self.inside.ways.items c.self.inside.free.items c.self.inside.unlinked.items c.args.way
-          c.element_in-element.result i.0 names c.put_word.new.seat.me.0 p.step low),
+          c.element_in-element.result i.0 names i.6 c.put_word.new.seat.me.0 p.step low),
       p.held ∙ i.1,
       fits_still c.self.inside.seat.me.0 c.put_word.new.seat.me.0 _ _ still refl i.2,
       fits_still c.self.inside.seat.me.0 c.put_word.new.seat.me.0 _ _ still q.capacity i.3,
@@ -60,6 +64,7 @@ invariant_of-self c =
       subst (λ (z : List ℕ). IsNoneLost c.put_word.new.seat.me.0 c.self.inside.free.items z) (sym q.items)
           (emptied_none_lost c.self.inside.seat.me.0 c.put_word.new.seat.me.0 c.args.way 0 p.step c.element_in-element.result
           c.self.inside.free.items c.self.inside.unlinked.items names i.5),
+      put_settled c.self.inside.seat.me.0 c.put_word.new.seat.me.0 c.args.way 0 p.step,
     )
 
 pub returns-clause-unlinked : goal.returns-clause-unlinked

@@ -1,6 +1,6 @@
 use Rattle.std.proofs.Common.{◌∙◌, refl}
 use Rattle.map_table.proofs.Filling.{went_shape}
-use Rattle.map_table.proofs.Keeping.{loads_quiet, quiet_writer}
+use Rattle.map_table.proofs.Keeping.{loads_quiet, quiet_writer, quiet_settled}
 use Rattle.map_table.proofs.Linking.{fits_still}
 use Rattle.map_table.proofs.Lost.{quiet_none_lost}
 use Rattle.map_table.proofs.Seen.{sightings_loaded}
@@ -20,4 +20,5 @@ invariant_of-self c =
       fits_still v w _ _ same refl i.3,
       sightings_loaded v w s.0 c.self.inside.unlinked.items c.self.inside.seen.items s.1 s.3 i.4,
       quiet_none_lost v w s.0 quiet s.3 c.self.inside.free.items c.self.inside.unlinked.items i.5,
+      quiet_settled v w s.0 quiet s.3 i.6,
     )

@@ -1,0 +1,7 @@
+use Rattle.std.proofs.Common.{subst}
+use Rattle.map_table_laws.specs.History.{IsSettled}
+use Rattle.map_table.specs.Writing.{WriterView}
+use Rattle.map_table.proofs.writer.Writer.is_writers.Goals as goal
+
+pub returns-clause-settled : goal.returns-clause-settled
+returns-clause-settled c = subst (λ (w : WriterView). IsSettled w.view.mine) c.self.view_is c.self.invariant.6

@@ -1,0 +1,38 @@
+-- What the writer finds and does where it makes room for a key.
+use Rattle.std.specs.Prelude.{◌≡◌, ◌≢◌, ◌⊎◌, ℕ, ◌+◌, ◌<◌, ◌≤◌, List, ◌++◌, slice_index}
+use Rattle.map_table_laws.specs.declared.moves.Move.{Move}
+use Rattle.map_table_laws.specs.Layout.{IsCandidate, Names, bucket_ways}
+use Rattle.map_table_laws.specs.History.{word_in, key_of}
+use Rattle.map_table_laws.specs.Found.{IsLinkedAs, Throughout}
+use Rattle.map_table_laws.specs.Scanned.{FoundInside, FoundGone}
+use Rattle.table_words.specs.declared.view.TableShape.{TableShape}
+use Rattle.table_words.specs.declared.view.View.{View}
+use Rattle.map_table.specs.Hashes.{layout_of}
+use Rattle.map_table.specs.Writing.{AreFull}
+
+-- each of the readers was found outside a section, or with two numbers
+abbrev pub HaveGone : ℕ → List Move → Type 0
+HaveGone readers ms = (r : ℕ) → 0 < r → r ≤ readers → FoundGone r ms
+
+-- one of the readers was found inside a section
+abbrev pub IsSomeInside : ℕ → List Move → Type 0
+IsSomeInside readers ms = (r : ℕ) × (0 < r) × (r ≤ readers) × FoundInside r ms
+
+-- each way of both buckets of the key has a word in this list
+abbrev pub HasFullBuckets : TableShape → List ℕ → List ℕ → Type 0
+HasFullBuckets k ways key = (way : ℕ) → IsCandidate (layout_of k) 0 key way → slice_index ways way ≢ 0
+
+-- the way is that of this number, of those of two buckets which begin at these ways
+abbrev pub IsNth : ℕ → ℕ → ℕ → ℕ → Type 0
+IsNth first second at way = ((at < bucket_ways) × (way ≡ first + at)) ⊎ ((bucket_ways ≤ at) × (way + bucket_ways ≡ second + at))
+
+-- each element that stands in a bucket of the key has two full buckets of its own
+abbrev pub NoneCanMove : View → List ℕ → Type 0
+NoneCanMove v key = (way element : ℕ) → IsCandidate (layout_of v.shape) 0 key way →
+    Names (word_in way v.mine) element → AreFull v (key_of (layout_of v.shape) element v.seen)
+
+-- The second history goes on from the first. Each element that was linked under a key is linked so after each of its steps.
+abbrev pub StayLinked : TableShape → List (ℕ × Move) → List (ℕ × Move) → Type 0
+StayLinked k old new = (late : List (ℕ × Move)) × (new ≡ late ++ old)
+    × ((key : List ℕ) (element : ℕ) → IsLinkedAs (layout_of k) 0 key element old →
+    Throughout (IsLinkedAs (layout_of k) 0 key element) late old)
