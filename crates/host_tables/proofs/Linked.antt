@@ -9,7 +9,7 @@ use Rattle.map_table_laws.specs.History.{moves_of, word_in, key_of, MayDo, IsLaw
 use Rattle.map_table_laws.specs.Found.{IsLinkedUnder}
 use Rattle.map_table_laws.specs.Once.{AreLinkedOnce}
 use Rattle.map_table_laws.proofs.Once.{linked_back}
-use Rattle.map_table_laws.proofs.Steps.{own, others, key_step, one_name, put_here, put_there}
+use Rattle.map_table_laws.proofs.Steps.{own, others, key_step, one_name, put_here, put_there, doubled_here, doubled_there}
 use Rattle.table_words.specs.declared.view.TableShape.{TableShape}
 use Rattle.table_words.specs.declared.view.View.{View}
 use Rattle.map_table.specs.Hashes.{layout_of}
@@ -20,6 +20,7 @@ use Rattle.map_table.proofs.Replacing.{stretch}
 abbrev pub Leaves : ℕ → List Move → Type 0
 Leaves way [] = Unit {0}
 Leaves way (Put w x ∷ ms) = (w ≢ way) × Leaves way ms
+Leaves way (Double f w x ∷ ms) = (w ≢ way) × Leaves way ms
 Leaves way (_ ∷ ms) = Leaves way ms
 
 pub leaves_append : (way : ℕ) (ns ms : List Move) → Leaves way ns → Leaves way ms → Leaves way (ns ++ ms)
@@ -30,6 +31,7 @@ leaves_append way (Learn w x ∷ ns) ms n m = leaves_append way ns ms n m
 leaves_append way (Load e p x ∷ ns) ms n m = leaves_append way ns ms n m
 leaves_append way (Store e p x ∷ ns) ms n m = leaves_append way ns ms n m
 leaves_append way (Put w x ∷ ns) ms n m = (n.0, leaves_append way ns ms n.1 m)
+leaves_append way (Double f w x ∷ ns) ms n m = (n.0, leaves_append way ns ms n.1 m)
 leaves_append way (Scan r x ∷ ns) ms n m = leaves_append way ns ms n m
 
 -- moves that change the word of no way, whatever it was, put none
@@ -43,6 +45,9 @@ words_leave way (Store e p x ∷ ns) same = words_leave way ns same
 words_leave way (Scan r x ∷ ns) same = words_leave way ns same
 words_leave way (Put w x ∷ ns) same =
     let e : x ≡ suc x = sym (put_here w w x (ns ++ Put w (suc x) ∷ []) refl) ∙ (same w (Put w (suc x) ∷ []) ∙ put_here w w (suc x) [] refl) in
+    absurd (omega (arith, e))
+words_leave way (Double f w x ∷ ns) same =
+    let e : x ≡ suc x = sym (doubled_here f w w x (ns ++ Put w (suc x) ∷ []) refl) ∙ (same w (Put w (suc x) ∷ []) ∙ put_here w w (suc x) [] refl) in
     absurd (omega (arith, e))
 
 -- two keys that are linked in one way are one
@@ -60,6 +65,7 @@ module _ (way : ℕ) where
   rest_leaves (Load e p x) ms h = h
   rest_leaves (Store e p x) ms h = h
   rest_leaves (Put w x) ms h = h.1
+  rest_leaves (Double f w x) ms h = h.1
   rest_leaves (Scan r x) ms h = h
 
   head_leaves : (m : Move) (ms ws : List Move) → Leaves way (m ∷ ms) → word_in way (m ∷ ws) ≡ word_in way ws
@@ -69,6 +75,7 @@ module _ (way : ℕ) where
   head_leaves (Load e p x) ms ws h = refl
   head_leaves (Store e p x) ms ws h = refl
   head_leaves (Put w x) ms ws h = put_there w way x ws h.0
+  head_leaves (Double f w x) ms ws h = doubled_there f w way x ws h.0
   head_leaves (Scan r x) ms ws h = refl
 
   rest : (e : ℕ × Move) (late : List (ℕ × Move)) → Leaves way (moves_of 0 (e ∷ late)) → Leaves way (moves_of 0 late)

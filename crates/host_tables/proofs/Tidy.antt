@@ -1,22 +1,24 @@
 -- What the writer's calls keep of a table.
-use Rattle.std.proofs.Common.{◌≡◌, ◌≢◌, ℕ, zero, suc, ◌+◌, ◌<◌, ◌≤◌, List, [], ◌∷◌, ◌++◌, length, length-append, refl, sym, ap, ◌∙◌, subst}
+use Rattle.std.proofs.Common.{◌≡◌, ◌≢◌, ℕ, zero, suc, ◌+◌, ◌<◌, ◌≤◌, List, [], ◌∷◌, ◌++◌, length, length-append, refl, sym, ap, ◌∙◌, subst, ◌⊎◌, ⊎_elim}
 use Rattle.std.proofs.Common.{Option, Some, None, Result, Ok, Err, OnOk, OnErr, IfErr, slice_index, arith}
 use Rattle.map_table_laws.specs.declared.moves.Move.{Move}
 use Rattle.map_table_laws.specs.declared.moves.Move.TheVariants.{Put}
 use Rattle.map_table_laws.specs.Layout.{Layout, Names}
 use Rattle.map_table_laws.specs.History.{moves_of, word_in}
 use Rattle.map_table_laws.specs.Lookups.{OnlySearches}
-use Rattle.map_table_laws.specs.Found.{IsLinkedUnder, StaysFound}
+use Rattle.map_table_laws.specs.Found.{IsLinkedUnder, IsLinkedAs, StaysFound}
+use Rattle.map_table_laws.specs.Moved.{OnlyMoves}
 use Rattle.map_table_laws.specs.Once.{AreLinkedOnce}
 use Rattle.map_table_laws.proofs.Steps.{nothing_named, put_here}
 use Rattle.table_words.specs.declared.view.TableShape.{TableShape}
 use Rattle.map_table.specs.Hashes.{layout_of}
 use Rattle.map_table.specs.Held.{IsKnown, TableView}
+use Rattle.map_table.specs.Moving.{StayLinked}
 use Rattle.map_table.specs.Values.{copies_of, stored_of}
 use Rattle.map_table.specs.Writing.{Frees, Looks, Puts, Works, WriterView}
 use Rattle.map_table.proofs.Keeping.{adds_quiet, fills_quiet, scans_quiet, searches_quiet}
 use Rattle.host_tables.specs.declared.fault.SetFault.{SetFault}
-use Rattle.host_tables.specs.Tables.{Finds, FindsNoRoom, IsNoRoom, IsTidy, Links, MakesRoom, PutsUnder, PutsWithRoom, Replaces, SumsUp, needed_for}
+use Rattle.host_tables.specs.Tables.{Finds, FindsNoRoom, IsNoRoom, IsTidy, Links, MakesRoom, Moves, PutsUnder, PutsWithRoom, Replaces, SumsUp, needed_for}
 use Rattle.host_tables.proofs.Linked.{Leaves, leaves_append, words_leave, same_key, linked_before, linked_after, last_word, once_left, once_put}
 
 -- moves that put nothing
@@ -108,7 +110,7 @@ module _ (v w : WriterView) (key value : List ℕ) (writer : v.view.me ≡ 0) (s
       (λ theirs other now before. there other (subst (λ z. IsLinkedUnder (layout_of v.table.shape) 0 z other v.view.seen)
       (same_key (layout_of v.table.shape) 0 theirs key way w.view.seen now under) before))
 
-  links_tidy : 2 ≤ length v.free → Finds v.table.shape key None v → Links key value v w → IsTidy v → IsTidy w
+  pub links_tidy : 2 ≤ length v.free → Finds v.table.shape key None v → Links key value v w → IsTidy v → IsTidy w
   links_tidy room finds l tidy = of_table v w (all_moves l.way l.word l.element l.puts) writer shape known l.puts.4
       (put_once l.way l.word l.element l.puts l.under (λ other z. absurd (finds other z)) tidy.once)
       (λ some. let long = ap (λ (z : List ℕ). length z) l.taken in omega (arith, room, long, length-append w.free (l.element ∷ [])))
@@ -118,22 +120,13 @@ module _ (v w : WriterView) (key value : List ℕ) (writer : v.view.me ≡ 0) (s
   at_end way [] early s = s
   at_end way (e ∷ late) early s = s.0
 
-  replaces_tidy : (way : ℕ) → Finds v.table.shape key (Some way) v → Replaces way key value v w → IsTidy v → IsTidy w
+  pub replaces_tidy : (way : ℕ) → Finds v.table.shape key (Some way) v → Replaces way key value v w → IsTidy v → IsTidy w
   replaces_tidy way finds r tidy =
       let under = subst (IsLinkedUnder (layout_of v.table.shape) 0 key way) (sym r.stays.1) (at_end way r.stays.0 v.view.seen r.stays.2) in
       of_table v w (all_moves way r.word r.element r.puts) writer shape known r.puts.4
       (put_once way r.word r.element r.puts under (λ other z. tidy.once key way other finds z) tidy.once)
       (λ some. let long = ap (λ (z : List ℕ). length z) r.unlinked in omega (arith, long, length-append v.unlinked (r.gone ∷ [])))
 
-  puts_tidy : (found : Option ℕ) → needed_for found ≤ length v.free → Finds v.table.shape key found v → PutsUnder found key value v w → IsTidy v → IsTidy w
-  puts_tidy (Some way) room finds p = replaces_tidy way finds p
-  puts_tidy None room finds p = links_tidy room finds p
-
-  -- whatever the call answers
-  pub set_tidy : (found : Option ℕ) (result : Result (Unit {0}) SetFault) → Finds v.table.shape key found v → OnOk result (PutsUnder found key value v w) →
-      OnOk result (needed_for found ≤ length v.free) → OnErr result (w ≡ v) → IsTidy v → IsTidy w
-  set_tidy found (Ok x) finds put room kept tidy = puts_tidy found room finds put tidy
-  set_tidy found (Err e) finds put room kept tidy = subst IsTidy (sym kept) tidy
 
 -- room was made before
 pub with_room : (found : Option ℕ) (key value : List ℕ) (v ready w : WriterView) (result : Result (Unit {0}) SetFault) →
@@ -142,7 +135,55 @@ with_room found key value v ready w (Ok x) room put = record { ready = ready; ro
 with_room found key value v ready w (Err e) room put = tt
 
 pub without_room : (found : Option ℕ) (key : List ℕ) (v ready w : WriterView) (result : Result (Unit {0}) SetFault) →
-    MakesRoom (needed_for found) v ready → OnErr result (w ≡ ready) → IfErr result (IsNoRoom key found ready) → IfErr result (FindsNoRoom key found v w)
-without_room found key v ready w (Ok x) room kept why = tt
-without_room found key v ready w (Err e) room kept why =
-    (subst (MakesRoom (needed_for found) v) (sym kept) room, subst (λ z. IsNoRoom key found z e) (sym kept) why)
+    MakesRoom (needed_for found) v ready → IfErr result (IsNoRoom key found ready w) → IfErr result (FindsNoRoom key found v w)
+without_room found key v ready w (Ok x) room why = tt
+without_room found key v ready w (Err e) room why = (ready, room, why)
+
+-- after a move
+pub moved_tidy : (v w : WriterView) → w.table ≡ v.table → w.free ≡ v.free → w.unlinked ≡ v.unlinked →
+    (AreLinkedOnce (layout_of v.table.shape) 0 v.view.seen → AreLinkedOnce (layout_of v.table.shape) 0 w.view.seen) → IsTidy v → IsTidy w
+moved_tidy v w table free unlinked once tidy = record {
+  once = subst (λ (t : TableView). AreLinkedOnce (layout_of t.shape) 0 w.view.seen) (sym table) (once tidy.once);
+  reserve = λ some. subst (λ n. 0 < n) (λ i. length (sym free i) + length (sym unlinked i))
+      (tidy.reserve (subst (λ (t : TableView). 0 < t.shape.elements) table some));
+}
+
+-- a key that is linked nowhere is so after a move
+pub moved_nowhere : (k : TableShape) (key : List ℕ) (v w : WriterView) →
+    ((key : List ℕ) (element : ℕ) → IsLinkedAs (layout_of k) 0 key element w.view.seen → IsLinkedAs (layout_of k) 0 key element v.view.seen) →
+    Finds k key None v → Finds k key None w
+moved_nowhere k key v w old none way l = let was = old key l.0 (way, l.1) in none was.0 (l.0, was.1)
+
+-- what the writer's calls tell of a table, as the clauses say it of the writer
+module _ (t : TableView) (v w : WriterView) (e : v.table ≡ t) where
+  pub moves_so : (ms : List Move) → OnlyMoves ms v.view.mine → Works v ms w → w.free ≡ v.free → w.unlinked ≡ v.unlinked →
+      StayLinked t.shape v.view.seen w.view.seen → Moves v w
+  moves_so ms only works free unlinked stay = record {
+    moves = ms;
+    only = only;
+    works = works;
+    free = free;
+    unlinked = unlinked;
+    stay = subst (λ (z : TableView). StayLinked z.shape v.view.seen w.view.seen) (sym e) stay;
+  }
+
+  pub links_so : (key value : List ℕ) (way element word : ℕ) → word_in way v.view.mine ≡ 0 → v.free ≡ w.free ++ element ∷ [] → Names word element →
+      Puts way word element key value v w → w.unlinked ≡ v.unlinked → IsLinkedUnder (layout_of t.shape) 0 key way w.view.seen → Links key value v w
+  links_so key value way element word empty taken names puts unlinked under = record {
+    way = way;
+    element = element;
+    word = word;
+    empty = empty;
+    taken = taken;
+    names = names;
+    puts = puts;
+    unlinked = unlinked;
+    under = subst (λ (z : TableView). IsLinkedUnder (layout_of z.shape) 0 key way w.view.seen) (sym e) under;
+  }
+
+-- two elements are free, so there is one
+pub not_none : (free : List ℕ) → 2 ≤ length free → free ≡ [] → ⊥
+not_none free two none = let long = ap (λ (z : List ℕ). length z) none in absurd (omega (arith, two, long))
+
+pub full_so : (free : List ℕ) (p : Type 0) → 2 ≤ length free → (free ≡ []) ⊎ p → p
+full_so free p two = ⊎_elim (λ (none : free ≡ []). absurd (not_none free two none)) (λ q. q)

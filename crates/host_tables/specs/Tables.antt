@@ -4,6 +4,7 @@ use Rattle.std.specs.List.{range_with_len}
 use Rattle.map_table.specs.Counting.{AddsUp}
 use Rattle.map_table.specs.Hashes.{layout_of}
 use Rattle.map_table.specs.Held.{AreInOrder, Holder, IsNew, TableView}
+use Rattle.map_table.specs.Moving.{IsSomeInside, NoneCanMove, StayLinked}
 use Rattle.map_table.specs.Sightings.{IsHeldUp}
 use Rattle.map_table.specs.Values.{copies_of}
 use Rattle.map_table.specs.Writing.{AreFull, Frees, Looks, Puts, StaysIn, Works, WriterView}
@@ -14,11 +15,12 @@ use Rattle.map_table_laws.specs.Found.{IsLinkedUnder}
 use Rattle.map_table_laws.specs.History.{word_in}
 use Rattle.map_table_laws.specs.Layout.{Names}
 use Rattle.map_table_laws.specs.Lookups.{OnlySearches}
+use Rattle.map_table_laws.specs.Moved.{OnlyMoves}
 use Rattle.map_table_laws.specs.Once.{AreLinkedOnce}
 use Rattle.host_tables.specs.declared.fault.How.{How}
 use Rattle.host_tables.specs.declared.fault.How.TheVariants.{Any, New, Present}
 use Rattle.host_tables.specs.declared.fault.SetFault.{SetFault}
-use Rattle.host_tables.specs.declared.fault.SetFault.TheVariants.{Exists, Missing, NoElement, NoWay}
+use Rattle.host_tables.specs.declared.fault.SetFault.TheVariants.{Exists, Missing, NoElement, NoWay, Held}
 
 -- which table, what its writer did and saw there, and the seats that no reader has yet
 pub record OpenTable : Type 0 where
@@ -67,6 +69,26 @@ pub record Links (key value : List ℕ) (v w : WriterView) : Type 0 where
   pub puts : Puts way word element key value v w
   pub unlinked : w.unlinked ≡ v.unlinked
   pub under : IsLinkedUnder (layout_of v.table.shape) 0 key way w.view.seen
+
+-- The writer moved elements to other ways, or none. It linked and unlinked nothing: each element that was linked under a key
+-- is linked so after each step.
+pub record Moves (v w : WriterView) : Type 0 where
+  pub moves : List Move
+  pub only : OnlyMoves moves v.view.mine
+  pub works : Works v moves w
+  pub free : w.free ≡ v.free
+  pub unlinked : w.unlinked ≡ v.unlinked
+  pub stay : StayLinked v.table.shape v.view.seen w.view.seen
+
+-- Where both buckets of the key were full, the writer moved an element out of them; else it did nothing.
+abbrev pub MakesWay : List ℕ → WriterView → WriterView → Type 0
+MakesWay key v w = ((w ≡ v) × (AreFull v.view key → ⊥)) ⊎ (AreFull v.view key × Moves v w)
+
+-- The writer made a way for a new key, and linked the value under it.
+pub record LinksNew (key value : List ℕ) (v w : WriterView) : Type 0 where
+  pub ready : WriterView
+  pub way : MakesWay key v ready
+  pub links : Links key value ready w
 
 -- A free element was filled, and put in the place of that in the way, in which the key stays linked all the time.
 pub record Replaces (way : ℕ) (key value : List ℕ) (v w : WriterView) : Type 0 where
@@ -118,7 +140,7 @@ IsAsked Present (Some way) = Unit {0}
 -- The value was put under the key: in its own way, or in an empty one.
 abbrev pub PutsUnder : Option ℕ → List ℕ → List ℕ → WriterView → WriterView → Type 0
 PutsUnder (Some way) key value v w = Replaces way key value v w
-PutsUnder None key value v w = Links key value v w
+PutsUnder None key value v w = LinksNew key value v w
 
 -- The writer made room, and put the value under a key that was found so, or was not.
 pub record PutsWithRoom (found : Option ℕ) (key value : List ℕ) (v w : WriterView) : Type 0 where
@@ -134,16 +156,20 @@ pub record Sets (key value : List ℕ) (how : How) (v w : WriterView) : Type 0 w
   pub asked : IsAsked how found
   pub puts : PutsWithRoom found key value sought w
 
--- Why there is no room for a value under a key that was found so, or was not: fewer elements are free than are needed, or both
--- buckets of a new key are full.
-abbrev pub IsNoRoom : List ℕ → Option ℕ → WriterView → SetFault → Type 0
-IsNoRoom key found w NoElement = length w.free < needed_for found
-IsNoRoom key found w NoWay = (found ≡ None) × AreFull w.view key
-IsNoRoom key found w fault = ⊥
+-- Why there is no room for a value under a key that was found so, or was not: fewer elements are free than are needed; or both
+-- buckets of a new key are full, and each element there has two full buckets of its own, or one could be moved, but a reader
+-- was found inside a section.
+abbrev pub IsNoRoom : List ℕ → Option ℕ → WriterView → WriterView → SetFault → Type 0
+IsNoRoom key found v w NoElement = (w ≡ v) × (length w.free < needed_for found)
+IsNoRoom key found v w NoWay = (found ≡ None) × Moves v w × AreFull w.view key × NoneCanMove w.view key
+IsNoRoom key found v w Held =
+    (found ≡ None) × AreFull v.view key × (m : Moves v w) × IsSomeInside v.table.shape.readers m.moves
+IsNoRoom key found v w fault = ⊥
 
 -- The writer reclaimed what might be, where that was needed, and there is no room for this reason.
 abbrev pub FindsNoRoom : List ℕ → Option ℕ → WriterView → WriterView → SetFault → Type 0
-FindsNoRoom key found v w fault = MakesRoom (needed_for found) v w × IsNoRoom key found w fault
+FindsNoRoom key found v w fault =
+    (ready : WriterView) × MakesRoom (needed_for found) v ready × IsNoRoom key found ready w fault
 
 -- Why a key that was found so, or was not, is not set. Where it is not asked for, nothing more was done.
 abbrev pub IsWhy : List ℕ → How → Option ℕ → WriterView → WriterView → SetFault → Type 0

@@ -38,9 +38,13 @@ pub enum SetFault {
     /// No element is free, or only the last one for a new key: each other is linked, or waits for a reader.
     #[error("too few elements are free")]
     NoElement,
-    /// Each way of the key's two buckets names an element.
+    /// Both buckets of the key are full, and no element of them can go to another.
     #[error("both buckets of the key are full")]
     NoWay,
+    /// Both buckets of the key are full. An element of them could go to another, but a reader stayed in one section. A later
+    /// call may succeed.
+    #[error("a reader holds up the move that would make room")]
+    Held,
 }
 
 /// Why a program is not run over a table.

@@ -134,7 +134,12 @@ impl HostTable {
     /// are, and a linked key can be given another value even then. Where too few are free, those are reclaimed first that no
     /// reader holds.
     ///
-    /// Errors: `Exists` and `Missing` where `how` asks otherwise; else `NoElement`, `NoWay`. Then what is linked stays.
+    /// Where both buckets of a new key are full, an element of them goes to the other bucket of its own key, if that has an empty way.
+    /// It stands in both until each reader has left the section that it was in, so no reader misses it. If a reader stays inside
+    /// for 1,001 looks, the element stays where it stood.
+    ///
+    /// Errors: `Exists` and `Missing` where `how` asks otherwise; else `NoElement`, `NoWay`, `Held`. Then what is linked stays, and
+    /// after `Held` the same call may succeed.
     pub fn set(&mut self, key: &[u64], value: &[u64], how: How) -> Result<(), SetFault>
         requires key { length key.now ≡ self.old.table.shape.key_words }
         requires value { length value.now ≡ stored_of self.old.table.shape }

@@ -1,14 +1,14 @@
 //! What the calls of a table's writer are made of.
-ghost use Rattle.std.specs.Prelude.{◌≡◌, ◌≢◌, ◌<◌, ◌≤◌, ℕ, List, Option, IfSome, IfErr, OnOk, OnErr, length, true, false};
+ghost use Rattle.std.specs.Prelude.{◌≡◌, ◌≢◌, ◌<◌, ◌≤◌, ℕ, List, Option, Some, None, IfSome, IfErr, OnOk, length, true, false};
 ghost use Rattle.map_table.specs.Values.{stored_of};
 ghost use Rattle.map_table.specs.Law.{ways_of};
 ghost use Rattle.map_table.specs.Writing.{Works};
 ghost use Rattle.map_table_laws.specs.declared.moves.Move.{Move};
-ghost use Rattle.host_tables.specs.Tables.{Finds, FindsNoRoom, IsNoRoom, IsTidy, MakesRoom, PutsUnder, PutsWithRoom, Reclaims, Seeks, SumsUp, Unlinks, needed_for};
+ghost use Rattle.host_tables.specs.Tables.{Finds, FindsNoRoom, IsNoRoom, IsTidy, LinksNew, MakesRoom, PutsUnder, PutsWithRoom, Reclaims, Replaces, Seeks, SumsUp, Unlinks, needed_for};
 ghost use Rattle.map_table_laws.specs.History.{word_in};
 
 use crate::fault::SetFault;
-use map_table::{MapTable, Writer};
+use map_table::{MapTable, Room, Writer};
 
 /// How many elements are to be free for a value under a key that was found in this way, or in none.
 fn needed(found: Option<usize>) -> usize
@@ -71,6 +71,61 @@ pub(crate) fn seek(table: &MapTable, writer: &mut Writer, key: &[u64]) -> Option
     writer.find(table, key)
 }
 
+/// Links a value under a new key. Where both buckets of the key are full, it moves an element out of them first, if it can.
+fn link_new(table: &MapTable, writer: &mut Writer, key: &[u64], value: &[u64]) -> Result<(), SetFault>
+    requires table { writer.old.table ≡ table.now }
+    requires key { length key.now ≡ table.now.shape.key_words }
+    requires value { length value.now ≡ stored_of table.now.shape }
+    requires room { needed_for None ≤ length writer.old.free }
+    requires finds { Finds table.now.shape key.now None writer.old }
+    ensures table { writer.new.table ≡ writer.old.table }
+    ensures put { OnOk result (LinksNew key.now value.now writer.old writer.new) }
+    ensures fault { IfErr result (IsNoRoom key.now None writer.old writer.new) }
+    ensures tidy { IsTidy writer.old → IsTidy writer.new }
+{
+    writer.is_writers();
+    if let Some(_) = writer.link(table, key, value) {
+        return Ok(());
+    }
+    match writer.make_room(table, key) {
+        Room::Held => return Err(SetFault::Held),
+        Room::Full => return Err(SetFault::NoWay),
+        Room::Made => {}
+    }
+    writer.is_writers();
+    let Some(_) = writer.link(table, key, value) else {
+        return Err(SetFault::NoWay);
+    };
+    Ok(())
+}
+
+/// Puts another value under a key that is linked in this way.
+fn replace(
+    table: &MapTable,
+    writer: &mut Writer,
+    way: usize,
+    key: &[u64],
+    value: &[u64],
+) -> Result<(), SetFault>
+    requires table { writer.old.table ≡ table.now }
+    requires key { length key.now ≡ table.now.shape.key_words }
+    requires value { length value.now ≡ stored_of table.now.shape }
+    requires room { needed_for (Some way) ≤ length writer.old.free }
+    requires within { way < ways_of table.now.shape }
+    requires finds { Finds table.now.shape key.now (Some way) writer.old }
+    ensures table { writer.new.table ≡ writer.old.table }
+    ensures put { OnOk result (Replaces way key.now value.now writer.old writer.new) }
+    ensures fault { IfErr result (λ e. ⊥) }
+    ensures tidy { IsTidy writer.old → IsTidy writer.new }
+{
+    writer.is_writers();
+    if writer.replace(table, way, key, value) {
+        Ok(())
+    } else {
+        Err(SetFault::NoElement)
+    }
+}
+
 /// Puts a value under a key that was found in this way, or in none.
 fn put_under(
     table: &MapTable,
@@ -86,18 +141,16 @@ fn put_under(
     requires finds { Finds table.now.shape key.now found writer.old }
     ensures table { writer.new.table ≡ writer.old.table }
     ensures put { OnOk result (PutsUnder found key.now value.now writer.old writer.new) }
-    ensures room { OnOk result (needed_for found ≤ length writer.old.free) }
-    ensures unchanged { OnErr result (writer.new ≡ writer.old) }
-    ensures fault { IfErr result (IsNoRoom key.now found writer.old) }
+    ensures fault { IfErr result (IsNoRoom key.now found writer.old writer.new) }
+    ensures tidy { IsTidy writer.old → IsTidy writer.new }
 {
     if !has_room(writer, found) {
         return Err(SetFault::NoElement);
     }
-    let is_put = match found {
-        Some(way) => writer.replace(table, way, key, value),
-        None => writer.link(table, key, value).is_some(),
-    };
-    if is_put { Ok(()) } else { Err(SetFault::NoWay) }
+    match found {
+        Some(way) => replace(table, writer, way, key, value),
+        None => link_new(table, writer, key, value),
+    }
 }
 
 /// Makes room, and puts a value under a key that was found in this way, or in none.
@@ -119,7 +172,6 @@ pub(crate) fn set_found(
     ensures tidy { IsTidy writer.old → IsTidy writer.new }
 {
     make_room(table, writer, found);
-    writer.is_writers();
     put_under(table, writer, found, key, value)
 }
 

@@ -10,10 +10,11 @@ use Rattle.map_table_laws.specs.declared.moves.Move.TheVariants.{Open, Close, Le
 use Rattle.map_table_laws.specs.Layout.{Layout, Names, IsCandidate, bucket_of, bucket_ways}
 use Rattle.map_table_laws.specs.History.{moves_of, word_in, key_of, IsMoving, IsSettled, since_double, Settles, Cleared, IsSpare, IsLinked, MayDouble, IsLawful}
 use Rattle.map_table_laws.specs.Lookups.{OnlySearches}
+use Rattle.map_table_laws.specs.Found.{IsLinkedAs}
 use Rattle.map_table_laws.specs.Moved.{OnlyMoves}
 use Rattle.map_table_laws.specs.Once.{AreLinkedOnce}
 use Rattle.map_table_laws.specs.Scanned.{OnlyScans}
-use Rattle.map_table_laws.proofs.Moved.{stays_linked, moves_once}
+use Rattle.map_table_laws.proofs.Moved.{stays_linked, linked_early, moves_once}
 use Rattle.map_table_laws.proofs.Steps.{doubled_here, doubled_there, nothing_named}
 use Rattle.map_table_laws.proofs.Standing.{named, one_way}
 use Rattle.table_words.specs.declared.view.TableShape.{TableShape}
@@ -336,8 +337,16 @@ module _ (k : TableShape) (v w : View) (ms : List Move) (shape : v.shape ≡ k) 
   pub room_stays : StayLinked k v.seen w.seen
   room_stays = (g.0, seen_is, λ key element l. stays_linked (layout_of k) 0 key element g.0 v.seen lawful_seen only_seen l)
 
-  pub room_once : AreLinkedOnce (layout_of k) 0 v.seen → AreLinkedOnce (layout_of k) 0 w.seen
-  room_once once = subst (AreLinkedOnce (layout_of k) 0) (sym seen_is) (moves_once (layout_of k) g.0 v.seen lawful_seen 0 only_seen once)
+  pub room_new : (key : List ℕ) (element : ℕ) → IsLinkedAs (layout_of k) 0 key element w.seen → IsLinkedAs (layout_of k) 0 key element v.seen
+  room_new key element l = linked_early (layout_of k) 0 key element g.0 v.seen lawful_seen only_seen
+      (subst (IsLinkedAs (layout_of k) 0 key element) seen_is l)
+
+  pub room_once : IsSettled w.mine → AreLinkedOnce (layout_of k) 0 v.seen → AreLinkedOnce (layout_of k) 0 w.seen
+  room_once none once =
+      let w_known = went_known v w (ms ++ v.mine) g in
+      let mine = own_list w (went_me v w (ms ++ v.mine) g ∙ writer) w_known in
+      let settled : IsSettled (moves_of 0 (g.0 ++ v.seen)) = subst IsSettled (sym mine ∙ ap (moves_of 0) seen_is) none in
+      subst (AreLinkedOnce (layout_of k) 0) (sym seen_is) (moves_once (layout_of k) g.0 v.seen lawful_seen 0 settled only_seen once)
 
 -- what the writer knows of the two ways of a move
 pub move_facts : (k : TableShape) (v : View) (ways free unlinked : List ℕ) (from to : ℕ) → IsWriter v ways free unlinked → v.shape ≡ k → from < ways_of k →

@@ -6,7 +6,7 @@ ghost use Rattle.map_table_laws.specs.declared.moves.Move.TheVariants.{Put};
 ghost use Rattle.map_table_laws.specs.Layout.{IsCandidate, Names};
 ghost use Rattle.map_table_laws.specs.History.{word_in, IsSettled, IsSpare, MayDouble};
 ghost use Rattle.map_table_laws.specs.Lookups.{OnlySearches};
-ghost use Rattle.map_table_laws.specs.Found.{IsLinkedUnder};
+ghost use Rattle.map_table_laws.specs.Found.{IsLinkedUnder, IsLinkedAs};
 ghost use Rattle.map_table_laws.specs.Moved.{OnlyMoves};
 ghost use Rattle.map_table_laws.specs.Once.{AreLinkedOnce};
 ghost use Rattle.map_table.specs.Hashes.{layout_of};
@@ -273,12 +273,17 @@ impl Writer {
         // Each element that was linked under a key is linked so after each step of whomever.
         ensures stay { StayLinked table.now.shape self.old.view.seen self.new.view.seen }
 
-        // No key is linked twice by it.
+        // Nothing is linked by it that was not linked before, and no key twice.
+        ensures none_new { (k : List ℕ) (element : ℕ) →
+            IsLinkedAs (layout_of table.now.shape) 0 k element self.new.view.seen →
+            IsLinkedAs (layout_of table.now.shape) 0 k element self.old.view.seen }
         ensures once { AreLinkedOnce (layout_of table.now.shape) 0 self.old.view.seen →
             AreLinkedOnce (layout_of table.now.shape) 0 self.new.view.seen }
     {
         self.is_writers();
-        self.find_room(table, key)
+        let room = self.find_room(table, key);
+        self.is_writers();
+        room
     }
 
     /// The same.

@@ -420,6 +420,40 @@ module _ (k : Layout) (table : ℕ) (key : List ℕ) (element : ℕ) where
       let t = stays_linked late early lawful.1 (only_moves_rest e late (moves_of 0 early) only) l in
       (linked_on e late early lawful only (at_last (IsLinkedAs k table key element) late early t), t)
 
+-- an element that is linked was so before
+module _ (k : Layout) (table : ℕ) (key : List ℕ) (element : ℕ) where
+  was_in : (e : ℕ × Move) (es : History) (way at : ℕ) → MayDo k es e.0 e.1 → word_in way (moves_of 0 (e ∷ es)) ≡ word_in at (moves_of 0 es) →
+      Links k table key way element (e ∷ es) → IsLinkedAs k table key element es
+  was_in e es way at may same l =
+      let was = subst (λ z. Names z element) same l.names in (
+        at,
+        record { names = was; table_is = l.table_is; key_is = sym (key_step k es e element may (λ spare. spare.0 (at, was))) ∙ l.key_is },
+      )
+
+  linked_back : (e : ℕ × Move) (late early : History) → IsLawful k (e ∷ (late ++ early)) → OnlyMoves (moves_of 0 (e ∷ late)) (moves_of 0 early) →
+      IsLinkedAs k table key element (e ∷ (late ++ early)) → IsLinkedAs k table key element (late ++ early)
+  linked_back e late early lawful only l = ⊎_elim
+      (λ (q : Quiet e (late ++ early)). was_in e (late ++ early) l.0 l.0 lawful.0 (q.same l.0) l.1)
+      (λ (c : Changed k e (late ++ early)). dite (ℕ_discrete c.way l.0)
+      (λ same.
+      let here = here_at k e (late ++ early) c l.0 same in
+      ⊎_elim
+      (λ (p : Putting k e (late ++ early) c.way c.word).
+      let m = put_ends k e late early c.way c.word p only in
+      let none = (p.settles m.0 m.1 m.2).0 in
+      absurd (nothing_named element (subst (λ z. Names z element) (here ∙ none) l.1.names)))
+      (λ (d : Doubling k e (late ++ early) c.way c.word).
+      was_in e (late ++ early) l.0 d.from lawful.0 (here ∙ sym d.may.there) l.1)
+      c.how)
+      (λ ne. was_in e (late ++ early) l.0 l.0 lawful.0 (c.there l.0 ne) l.1))
+      (step k e (late ++ early) lawful.0)
+
+  pub linked_early : (late early : History) → IsLawful k (late ++ early) → OnlyMoves (moves_of 0 late) (moves_of 0 early) →
+      IsLinkedAs k table key element (late ++ early) → IsLinkedAs k table key element early
+  linked_early [] early lawful only l = l
+  linked_early (e ∷ late) early lawful only l = linked_early late early lawful.1 (only_moves_rest e late (moves_of 0 early) only)
+      (linked_back e late early lawful only l)
+
 -- no key is linked twice by it
 puts_nothing : (k : Layout) (table : ℕ) (who : ℕ) (m : Move) (es : History) → MayDo k es who m →
     ((way word : ℕ) → Putting k (who, m) es way word → (from : ℕ) × (to : ℕ) × IsMoving from to (moves_of 0 es)) → PutsNoKeyTwice k table es m
@@ -443,6 +477,6 @@ none_twice k table (e ∷ late) early lawful only = (
   none_twice k table late early lawful.1 (only_moves_rest e late (moves_of 0 early) only),
 )
 
-pub moves_once : (k : Layout) (late early : History) → IsLawful k (late ++ early) → (table : ℕ) → OnlyMoves (moves_of 0 late) (moves_of 0 early) →
-    AreLinkedOnce k table early → AreLinkedOnce k table (late ++ early)
-moves_once k late early lawful table only once = stays_once k late early lawful table once (none_twice k table late early lawful only)
+pub moves_once : (k : Layout) (late early : History) → IsLawful k (late ++ early) → (table : ℕ) → IsSettled (moves_of 0 (late ++ early)) →
+    OnlyMoves (moves_of 0 late) (moves_of 0 early) → AreLinkedOnce k table early → AreLinkedOnce k table (late ++ early)
+moves_once k late early lawful table none only once = stays_once k late early lawful table none once (none_twice k table late early lawful only)

@@ -5,7 +5,7 @@ use native.Mathlib.Decide.{ℕ_discrete}
 use Rattle.map_table_laws.specs.declared.moves.Move.{Move}
 use Rattle.map_table_laws.specs.declared.moves.Move.TheVariants.{Put}
 use Rattle.map_table_laws.specs.Layout.{Layout, Names}
-use Rattle.map_table_laws.specs.History.{moves_of, word_in, IsMoving, IsSettled, IsLawful}
+use Rattle.map_table_laws.specs.History.{moves_of, word_in, IsMoving, IsSettled, IsLawful, AreOneOrMoved}
 use Rattle.map_table_laws.specs.Found.{IsLinkedUnder, BearsKey}
 use Rattle.map_table_laws.specs.Once.{AreLinkedOnce, PutsNoKeyTwice, PutNoKeyTwice}
 use Rattle.map_table_laws.proofs.Steps.{key_step}
@@ -44,7 +44,12 @@ module _ (k : Layout) (table : ℕ) (e : ℕ × Move) (es : List (ℕ × Move)) 
       let b = bears way c is l in
       (b.0, record { names = subst (λ z. Names z b.0) (sym d.may.there) b.1; table_is = b.2; key_is = b.3 })
 
-once_settled : (k : Layout) (table : ℕ) (es : List (ℕ × Move)) → AreLinkedOnce k table es → IsSettled (moves_of 0 es) → (key : List ℕ) (one other : ℕ) →
+-- no key is linked in two ways, but for one that is moved
+abbrev OnceOrMoved : Layout → ℕ → List (ℕ × Move) → Type 0
+OnceOrMoved k table es = (key : List ℕ) (one other : ℕ) →
+    IsLinkedUnder k table key one es → IsLinkedUnder k table key other es → AreOneOrMoved one other (moves_of 0 es)
+
+once_settled : (k : Layout) (table : ℕ) (es : List (ℕ × Move)) → OnceOrMoved k table es → IsSettled (moves_of 0 es) → (key : List ℕ) (one other : ℕ) →
     IsLinkedUnder k table key one es → IsLinkedUnder k table key other es → one ≡ other
 once_settled k table es once none key one other p q = ⊎_elim
     (λ (same : one ≡ other). same)
@@ -52,8 +57,8 @@ once_settled k table es once none key one other p q = ⊎_elim
     absurd (⊎_elim (λ t. none one other t) (λ t. none other one t) m))
     (once key one other p q)
 
-put_once : (k : Layout) (table : ℕ) (e : ℕ × Move) (es : List (ℕ × Move)) → IsLawful k (e ∷ es) → AreLinkedOnce k table es →
-    PutsNoKeyTwice k table es e.1 → (c : Changed k e es) → Putting k e es c.way c.word → AreLinkedOnce k table (e ∷ es)
+put_once : (k : Layout) (table : ℕ) (e : ℕ × Move) (es : List (ℕ × Move)) → IsLawful k (e ∷ es) → OnceOrMoved k table es →
+    PutsNoKeyTwice k table es e.1 → (c : Changed k e es) → Putting k e es c.way c.word → OnceOrMoved k table (e ∷ es)
 put_once k table e es lawful once puts c t key one other p q =
     let put : PutsNoKeyTwice k table es (Put c.way c.word) = subst (PutsNoKeyTwice k table es) t.is puts in
     dite (ℕ_discrete c.way one)
@@ -71,8 +76,8 @@ put_once k table e es lawful once puts c t key one other p q =
     (once key one other (before_change k table e es lawful key one c not_one p)
     (before_change k table e es lawful key other c not_other q))))
 
-double_once : (k : Layout) (table : ℕ) (e : ℕ × Move) (es : List (ℕ × Move)) → IsLawful k (e ∷ es) → AreLinkedOnce k table es →
-    (c : Changed k e es) → Doubling k e es c.way c.word → AreLinkedOnce k table (e ∷ es)
+double_once : (k : Layout) (table : ℕ) (e : ℕ × Move) (es : List (ℕ × Move)) → IsLawful k (e ∷ es) → OnceOrMoved k table es →
+    (c : Changed k e es) → Doubling k e es c.way c.word → OnceOrMoved k table (e ∷ es)
 double_once k table e es lawful once c d key one other p q =
     let only = once_settled k table es once d.may.settled key in
     let moves : (way : ℕ) → c.way ≡ way → IsMoving d.from way (moves_of 0 (e ∷ es)) = λ way is. subst (IsMoving d.from way) (sym d.mine) (refl, is) in
@@ -89,8 +94,8 @@ double_once k table e es lawful once c d key one other p q =
     (λ not_other. inl (only one other (before_change k table e es lawful key one c not_one p)
     (before_change k table e es lawful key other c not_other q))))
 
-once_step : (k : Layout) (table : ℕ) (e : ℕ × Move) (es : List (ℕ × Move)) → IsLawful k (e ∷ es) → AreLinkedOnce k table es →
-    PutsNoKeyTwice k table es e.1 → AreLinkedOnce k table (e ∷ es)
+once_step : (k : Layout) (table : ℕ) (e : ℕ × Move) (es : List (ℕ × Move)) → IsLawful k (e ∷ es) → OnceOrMoved k table es →
+    PutsNoKeyTwice k table es e.1 → OnceOrMoved k table (e ∷ es)
 once_step k table e es lawful once puts = ⊎_elim
     (λ (t : Quiet e es) (key : List ℕ) (one other : ℕ) p q. ⊎_elim
     (λ (same : one ≡ other). inl same)
@@ -103,8 +108,13 @@ once_step k table e es lawful once puts = ⊎_elim
     c.how)
     (step k e es lawful.0)
 
-pub stays_once : (k : Layout) (late early : List (ℕ × Move)) → IsLawful k (late ++ early) → (table : ℕ) → AreLinkedOnce k table early →
-    PutNoKeyTwice k table late early → AreLinkedOnce k table (late ++ early)
-stays_once k [] early lawful table once puts = once
-stays_once k (e ∷ late) early lawful table once puts =
-    once_step k table e (late ++ early) lawful (stays_once k late early lawful.1 table once puts.1) puts.0
+once_or_moved : (k : Layout) (late early : List (ℕ × Move)) → IsLawful k (late ++ early) → (table : ℕ) → OnceOrMoved k table early →
+    PutNoKeyTwice k table late early → OnceOrMoved k table (late ++ early)
+once_or_moved k [] early lawful table once puts = once
+once_or_moved k (e ∷ late) early lawful table once puts =
+    once_step k table e (late ++ early) lawful (once_or_moved k late early lawful.1 table once puts.1) puts.0
+
+pub stays_once : (k : Layout) (late early : List (ℕ × Move)) → IsLawful k (late ++ early) → (table : ℕ) → IsSettled (moves_of 0 (late ++ early)) →
+    AreLinkedOnce k table early → PutNoKeyTwice k table late early → AreLinkedOnce k table (late ++ early)
+stays_once k late early lawful table none once puts = once_settled k table (late ++ early)
+    (once_or_moved k late early lawful table (λ key one other p q. inl (once key one other p q)) puts) none

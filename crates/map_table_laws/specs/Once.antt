@@ -3,13 +3,12 @@ use Rattle.std.specs.Prelude.{◌≡◌, ℕ, List, [], ◌∷◌, ◌++◌}
 use Rattle.map_table_laws.specs.declared.moves.Move.{Move}
 use Rattle.map_table_laws.specs.declared.moves.Move.TheVariants.{Put}
 use Rattle.map_table_laws.specs.Layout.{Layout}
-use Rattle.map_table_laws.specs.History.{moves_of, AreOneOrMoved}
 use Rattle.map_table_laws.specs.Found.{IsLinkedUnder, BearsKey}
 
--- no key of the table is linked in two ways, but for one that is moved
+-- no key of the table is linked in two ways
 abbrev pub AreLinkedOnce : Layout → ℕ → List (ℕ × Move) → Type 0
 AreLinkedOnce k table es = (key : List ℕ) (one other : ℕ) →
-    IsLinkedUnder k table key one es → IsLinkedUnder k table key other es → AreOneOrMoved one other (moves_of 0 es)
+    IsLinkedUnder k table key one es → IsLinkedUnder k table key other es → one ≡ other
 
 -- after these steps the move puts no element in a way whose key is linked in another way
 abbrev pub PutsNoKeyTwice : Layout → ℕ → List (ℕ × Move) → Move → Type 0

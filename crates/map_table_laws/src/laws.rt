@@ -3,7 +3,7 @@ ghost use Rattle.std.specs.Prelude.{◌≡◌, ℕ, ◌+◌, ◌%◌, ◌^◌, �
 ghost use Rattle.map_table_laws.specs.declared.moves.Move.{Move};
 ghost use Rattle.map_table_laws.specs.declared.moves.Move.TheVariants.{Load, Scan};
 ghost use Rattle.map_table_laws.specs.Layout.{Layout, IsCandidate, IsApart, Names, tag_in};
-ghost use Rattle.map_table_laws.specs.History.{moves_of, with_writer, inside, opened, most_sections, section_word, word_in, word_at, key_of, generation, IsLinked, AreOneOrMoved, Holds, FoundSince, Cleared, IsSpare, IsReader, IsLawful};
+ghost use Rattle.map_table_laws.specs.History.{moves_of, with_writer, inside, opened, most_sections, section_word, word_in, word_at, key_of, generation, IsLinked, IsSettled, AreOneOrMoved, Holds, FoundSince, Cleared, IsSpare, IsReader, IsLawful};
 ghost use Rattle.map_table_laws.specs.Lookups.{OnlySearches, AnswersLookup, FoundIn, HadWord};
 ghost use Rattle.map_table_laws.specs.Found.{IsLinkedUnder, IsLinkedAs, Sometime, Throughout, StaysFound, StaysInside, StaysUnlinked, OnlyReplaces};
 ghost use Rattle.map_table_laws.specs.Moved.{OnlyMoves};
@@ -114,12 +114,12 @@ pub fn replaced_keys_stay()
         OnlyReplaces k table key way late early → StaysFound k table key way late early }
 {}
 
-/// In every lawful history no key is linked in two ways, but for one that is moved, if none was before and the writer puts
-/// no element in a way whose key is linked in another.
+/// In every lawful history no key is linked in two ways while nothing is moved, if none was before and the writer puts no
+/// element in a way whose key is linked in another.
 pub fn keys_stay_once()
     ensures { (k : Layout) (late early : List (ℕ × Move)) → IsLawful k (late ++ early) → (table : ℕ) →
-        AreLinkedOnce k table early → PutNoKeyTwice k table late early →
-        AreLinkedOnce k table (late ++ early) }
+        IsSettled (moves_of 0 (late ++ early)) → AreLinkedOnce k table early →
+        PutNoKeyTwice k table late early → AreLinkedOnce k table (late ++ early) }
 {}
 
 /// In every lawful history an element that a lookup answers was linked under the key at some moment of it.
@@ -202,11 +202,18 @@ pub fn moved_elements_stay_linked()
         IsLinkedAs k table key element early → Throughout (IsLinkedAs k table key element) late early }
 {}
 
-/// In every lawful history moves link no key twice.
+/// In every lawful history moves link nothing new: what is linked after them was linked under the same key before.
+pub fn moves_link_nothing_new()
+    ensures { (k : Layout) (late early : List (ℕ × Move)) → IsLawful k (late ++ early) →
+        OnlyMoves (moves_of 0 late) (moves_of 0 early) → (table : ℕ) (key : List ℕ) (element : ℕ) →
+        IsLinkedAs k table key element (late ++ early) → IsLinkedAs k table key element early }
+{}
+
+/// In every lawful history moves that have ended link no key twice.
 pub fn moves_link_no_key_twice()
     ensures { (k : Layout) (late early : List (ℕ × Move)) → IsLawful k (late ++ early) → (table : ℕ) →
-        OnlyMoves (moves_of 0 late) (moves_of 0 early) → AreLinkedOnce k table early →
-        AreLinkedOnce k table (late ++ early) }
+        IsSettled (moves_of 0 (late ++ early)) → OnlyMoves (moves_of 0 late) (moves_of 0 early) →
+        AreLinkedOnce k table early → AreLinkedOnce k table (late ++ early) }
 {}
 
 /// A walk: in every lawful history a reader that learns each way below n in one section meets each key that stays linked in
