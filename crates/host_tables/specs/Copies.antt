@@ -1,6 +1,7 @@
 -- What is copied from one table into another.
-use Rattle.std.specs.Prelude.{◌≡◌, ◌⊎◌, ℕ, zero, suc, List}
+use Rattle.std.specs.Prelude.{◌≡◌, ◌⊎◌, ℕ, zero, suc, ◌<◌, List}
 use Rattle.map_table.specs.Hashes.{layout_of}
+use Rattle.map_table.specs.Law.{ways_of}
 use Rattle.map_table.specs.Reading.{OnlyLoads, Reads}
 use Rattle.map_table.specs.Values.{stored_of}
 use Rattle.map_table.specs.Writing.{Works, WriterView}
@@ -16,6 +17,14 @@ use Rattle.host_tables.specs.Walks.{LoadsKey}
 -- the key is linked, in whatever way
 abbrev pub IsThere : TableShape → List ℕ → WriterView → Type 0
 IsThere k key w = (way : ℕ) × IsLinkedUnder (layout_of k) 0 key way w.view.seen
+
+-- each key that is linked in a way of the one table is linked in the other
+abbrev pub AreAllThere : TableShape → TableShape → WriterView → WriterView → Type 0
+AreAllThere k l w b = (key : List ℕ) (way : ℕ) → way < ways_of k → IsLinkedUnder (layout_of k) 0 key way w.view.seen → IsThere l key b
+
+-- each key that was linked is linked
+abbrev pub StayThere : TableShape → WriterView → WriterView → Type 0
+StayThere k v w = (key : List ℕ) → IsThere k key v → IsThere k key w
 
 -- Keys have as many words in both tables, and so have all values of an element.
 pub record AreAlike (k l : TableShape) : Type 0 where

@@ -3,9 +3,8 @@ ghost use Rattle.std.specs.Prelude.{◌≡◌, ◌≢◌, ◌↔◌, ◌<◌, �
 ghost use Rattle.map_table.specs.Hashes.{layout_of};
 ghost use Rattle.map_table.specs.Held.{IsReady, IsSized};
 ghost use Rattle.map_table.specs.Law.{ways_of};
-ghost use Rattle.map_table_laws.specs.Found.{IsLinkedUnder};
 ghost use Rattle.map_table_laws.specs.Once.{AreLinkedOnce};
-ghost use Rattle.host_tables.specs.Copies.{AreAlike, Copies, IsThere};
+ghost use Rattle.host_tables.specs.Copies.{AreAlike, AreAllThere, Copies, StayThere};
 ghost use Rattle.map_table.specs.Values.{stored_of};
 ghost use Rattle.host_tables.specs.Reading.{CanServe};
 ghost use Rattle.host_tables.specs.Tables.{IsNewTable, IsNotSet, Reads, Reclaims, Removes, Seeks, Sets};
@@ -188,11 +187,8 @@ impl HostTable {
             self.new.writer other.new.writer) }
 
         // Each key that is linked here is linked there, and each that was linked there still is.
-        ensures linked { OnOk result ((key : List ℕ) (way : ℕ) → way < ways_of self.old.table.shape →
-            IsLinkedUnder (layout_of self.old.table.shape) 0 key way self.new.writer.view.seen →
-            IsThere other.old.table.shape key other.new.writer) }
-        ensures kept { OnOk result ((key : List ℕ) → IsThere other.old.table.shape key other.old.writer →
-            IsThere other.old.table.shape key other.new.writer) }
+        ensures linked { OnOk result (AreAllThere self.old.table.shape other.old.table.shape self.new.writer other.new.writer) }
+        ensures kept { OnOk result (StayThere other.old.table.shape other.old.writer other.new.writer) }
     {
         self.writer.is_writers();
         other.writer.is_writers();

@@ -3,7 +3,7 @@ use Rattle.map_table_laws.specs.Found.{IsLinkedUnder}
 use Rattle.map_table.specs.Hashes.{layout_of}
 use Rattle.map_table.specs.Held.{TableView}
 use Rattle.map_table.specs.Law.{ways_of}
-use Rattle.host_tables.specs.Copies.{Copies, IsThere}
+use Rattle.host_tables.specs.Copies.{AreAllThere, Copies, IsThere, StayThere}
 use Rattle.host_tables.specs.Tables.{OpenTable}
 use Rattle.host_tables.proofs.Kept.{Knows, copied, ok_then}
 use Rattle.host_tables.proofs.table.HostTable.copy_to.Goals as goal
@@ -28,7 +28,7 @@ returns-clause-linked c =
       known = c.is_writers-2.ensures.known;
     } in
     ok_then c.copy_all.result (Copies n v a w b)
-    ((key : List ℕ) (way : ℕ) → way < ways_of k → IsLinkedUnder (layout_of k) 0 key way w.view.seen → IsThere l key b)
+    (AreAllThere k l w b)
     (λ cp key way low x. (copied k l n v a w b one two cp).linked key way (subst (λ z. way < z) (sym same) low) x) c.copy_all.ensures.copies
 
 pub returns-clause-kept : goal.returns-clause-kept
@@ -51,5 +51,5 @@ returns-clause-kept c =
     } in
     let old : a ≡ c.args.other.now.writer = ap (λ (t : OpenTable). t.writer) c.other.view_is in
     ok_then c.copy_all.result (Copies n v a w b)
-    ((key : List ℕ) → IsThere l key c.args.other.now.writer → IsThere l key b)
+    (StayThere l c.args.other.now.writer b)
     (λ cp key x. (copied k l n v a w b one two cp).kept.stays key (subst (IsThere l key) (sym old) x)) c.copy_all.ensures.copies
