@@ -195,11 +195,11 @@ static void *work(void *data)
 	}
 }
 
-/* Puts a value; where too few elements are free, readers hold others up, and are to go on first. */
+/* Puts a value; where too few elements are free, or one is to be moved, readers hold it up, and are to go on first. */
 static void update(struct bpfrt_table *table, uint64_t key, const uint64_t *value, size_t count, uint64_t flags)
 {
 	int32_t status;
-	while ((status = bpfrt_table_update_elem(table, &key, 1, value, count, flags)) == -ENOSPC) {
+	while ((status = bpfrt_table_update_elem(table, &key, 1, value, count, flags)) == -ENOSPC || status == -EAGAIN) {
 		waits++;
 		sched_yield();
 	}

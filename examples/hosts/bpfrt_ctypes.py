@@ -537,7 +537,8 @@ class Table:
 
     def __iter__(self):
         """The keys, in the table's own order. The table may change meanwhile: each key that stays comes once, unless the one that came
-        last is removed before the next is asked for. Then they come from the first again."""
+        last is removed before the next is asked for. Then they come from the first again. A new key that is set meanwhile may move
+        others, which may then come twice or not at all."""
         room, key = (U64 * max(1, self._key_words))(), None
         while True:
             try:
