@@ -94,7 +94,8 @@ moves_kept k v w b m = record {
 }
 
 -- a way that is linked under a key is not empty
-not_empty : (k : TableShape) (key : List ℕ) (way : ℕ) (v : WriterView) → Knows k v → word_in way v.view.mine ≡ 0 → IsLinkedUnder (layout_of k) 0 key way v.view.seen → ⊥
+not_empty : (k : TableShape) (key : List ℕ) (way : ℕ) (v : WriterView) → Knows k v → word_in way v.view.mine ≡ 0 →
+    IsLinkedUnder (layout_of k) 0 key way v.view.seen → ⊥
 not_empty k key way v b none l = nothing_named l.0
     (subst (λ z. Names z l.0) (ap (word_in way) (own_list v.view b.me b.known) ∙ none) l.1.names)
 
@@ -147,7 +148,8 @@ replaces_kept k way key value v w b r =
       (way, under),
     )
 
-put_kept : (k : TableShape) (found : Option ℕ) (key value : List ℕ) (v w : WriterView) → Knows k v → PutsUnder found key value v w → Kept k v w × IsThere k key w
+put_kept : (k : TableShape) (found : Option ℕ) (key value : List ℕ) (v w : WriterView) → Knows k v → PutsUnder found key value v w →
+    Kept k v w × IsThere k key w
 put_kept k (Some way) key value v w b p = replaces_kept k way key value v w b p
 put_kept k None key value v w b p = new_kept k key value v w b p
 
@@ -188,7 +190,8 @@ module _ (k l : TableShape) (n : ℕ) (v a u c w b : WriterView) (p : Copied k l
       let set = sets_kept l q.key q.words Any c b p.kept.knows q.sets in
       let back : (key : List ℕ) (way : ℕ) → IsLinkedUnder (layout_of k) 0 key way w.view.seen → IsLinkedUnder (layout_of k) 0 key way q.met.view.seen =
       was_there k q.met w lv.moves met lv.works (λ way. words_leave way lv.moves (loads_quiet lv.moves lv.only).words) in
-      let older : (key : List ℕ) (way : ℕ) → IsLinkedUnder (layout_of k) 0 key way w.view.seen → IsLinkedUnder (layout_of k) 0 key way u.view.seen = λ key way x.
+      let older : (key : List ℕ) (way : ℕ) → IsLinkedUnder (layout_of k) 0 key way w.view.seen → IsLinkedUnder (layout_of k) 0 key way u.view.seen =
+      λ key way x.
       was_there k u q.met lk.moves p.knows lk.works (searches_leave (layout_of u.table.shape) 0 lk.moves lk.only) key way (back key way x) in
       let under = subst (λ (z : TableShape). IsLinkedUnder (layout_of z) 0 q.key n q.met.view.seen) p.knows.table lk.under in
       record {

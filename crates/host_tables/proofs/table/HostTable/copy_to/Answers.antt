@@ -20,7 +20,12 @@ returns-clause-linked c =
     let here : v.table.shape ≡ k = ap (λ (t : TableView). t.shape) c.self.invariant.0 ∙ ap (λ (t : OpenTable). t.table.shape) c.self.view_is in
     let there : a.table.shape ≡ l = ap (λ (t : TableView). t.shape) c.other.invariant.0 ∙ ap (λ (t : OpenTable). t.table.shape) c.other.view_is in
     let same : n ≡ ways_of k = ap (λ (t : TableView). ways_of t.shape) c.deref.ensures ∙ ap (λ (t : OpenTable). ways_of t.table.shape) c.self.view_is in
-    let one : Knows k v = record { me = c.is_writers.ensures.me; shape = c.is_writers.ensures.shape ∙ here; table = here; known = c.is_writers.ensures.known } in
+    let one : Knows k v = record {
+      me = c.is_writers.ensures.me;
+      shape = c.is_writers.ensures.shape ∙ here;
+      table = here;
+      known = c.is_writers.ensures.known;
+    } in
     let two : Knows l a = record {
       me = c.is_writers-2.ensures.me;
       shape = c.is_writers-2.ensures.shape ∙ there;
@@ -42,7 +47,12 @@ returns-clause-kept c =
     let n = ways_of c.deref.result.now.shape in
     let here : v.table.shape ≡ k = ap (λ (t : TableView). t.shape) c.self.invariant.0 ∙ ap (λ (t : OpenTable). t.table.shape) c.self.view_is in
     let there : a.table.shape ≡ l = ap (λ (t : TableView). t.shape) c.other.invariant.0 ∙ ap (λ (t : OpenTable). t.table.shape) c.other.view_is in
-    let one : Knows k v = record { me = c.is_writers.ensures.me; shape = c.is_writers.ensures.shape ∙ here; table = here; known = c.is_writers.ensures.known } in
+    let one : Knows k v = record {
+      me = c.is_writers.ensures.me;
+      shape = c.is_writers.ensures.shape ∙ here;
+      table = here;
+      known = c.is_writers.ensures.known;
+    } in
     let two : Knows l a = record {
       me = c.is_writers-2.ensures.me;
       shape = c.is_writers-2.ensures.shape ∙ there;
