@@ -12,6 +12,8 @@ mod keys;
 #[cfg(test)]
 mod names;
 #[cfg(test)]
+mod room;
+#[cfg(test)]
 mod runs;
 #[cfg(test)]
 mod walks;

@@ -3,8 +3,9 @@
 //! and all elements are compared with what the workers left. `soak ROUNDS CALLS`: how many rounds, and how many events a worker
 //! brings in each.
 //!
-//! Then eight readers make as many runs over a table without a lock, beside a writer that links, unlinks, replaces and reclaims:
-//! a key that stays is always found, with one of its values, and never with an earlier one than before.
+//! Then eight readers make as many runs over a table without a lock, beside a writer that links, unlinks, replaces and reclaims, and
+//! moves elements, since the table is nearly full: a key that stays is always found, with one of its values, and never with an
+//! earlier one than before.
 #![tactic(auto)]
 
 mod making;
@@ -84,14 +85,9 @@ fn go_tables<R: Threads + Sync>(
     rounds: u32,
     calls: u32,
 ) -> Result<TableTally> {
-    let mut all = TableTally {
-        runs: 0,
-        changes: 0,
-    };
+    let mut all = TableTally::NONE;
     for _ in 0..rounds {
-        let one = go_table(rt, alloc, calls)?;
-        all.runs = all.runs.saturating_add(one.runs);
-        all.changes = all.changes.saturating_add(one.changes);
+        all.add(go_table(rt, alloc, calls)?);
     }
     Ok(all)
 }
@@ -99,8 +95,15 @@ fn go_tables<R: Threads + Sync>(
 /// A line on standard error, and one on standard output.
 fn tell(rt: &HostRuntime, rounds: u32, tally: Tally, tables: TableTally) -> Result<()> {
     eprintln!(rt;
-        "entries {} cuts {} worn {} runs {} changes {}",
-        tally.entries, tally.cuts, tally.worn, tables.runs, tables.changes
+        "entries {} cuts {} worn {} runs {} changes {} made {} held {} full {}",
+        tally.entries,
+        tally.cuts,
+        tally.worn,
+        tables.runs,
+        tables.changes,
+        tables.made,
+        tables.held,
+        tables.full
     )?;
     println!(rt; "rounds {rounds}, no difference")?;
     Ok(())

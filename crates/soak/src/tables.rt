@@ -1,4 +1,4 @@
-//! Eight readers run a program over a table without a lock, beside a writer that links, unlinks, replaces and reclaims.
+//! Eight readers run a program over a table without a lock, beside a writer that links, unlinks, replaces, moves and reclaims.
 ghost use Rattle.std.specs.Prelude.{◌≡◌, ◌<◌, All, IfOk};
 ghost use Rattle.std.specs.Thread.{IsSync};
 ghost use Rattle.map_table.specs.Held.{IsReady};
@@ -10,7 +10,7 @@ use anyhow::{Result, bail, ensure};
 use asm::assemble;
 use bpf_model::{CtxBytes, MapKind, MapShape};
 use map_runs::{fits, run_to_exit, stores_sub_words};
-use map_table::{MapTable, ReadSeat, Seats, Secret, TableShape, Values, Writer};
+use map_table::{MapTable, ReadSeat, Room, Seats, Secret, TableShape, Values, Writer};
 use std::alloc::{AllocError, Global};
 use std::sync::atomic::{AtomicBool, Ordering};
 use std::thread::{Threads, for_each_mut, join};
@@ -22,16 +22,16 @@ const READERS: usize = 8;
 /// How many keys stay linked, from 0 on. Their values are replaced again and again.
 const KEPT: u32 = 1024;
 
-/// How many keys behind them are linked and unlinked in turn.
-const PASSING: u32 = 256;
+/// How many keys behind them come and go. Half of them are linked, more or less.
+const PASSING: u32 = 512;
 
 /// How many keys the writer changes before it reclaims.
 const STRIDE: u32 = 64;
 
-/// A table for all keys, and for twice as many elements.
+/// A table of 1,376 ways, of which some 1,280 are full, so that elements move; with twice as many elements.
 const SHAPE: TableShape = TableShape {
     readers: READERS,
-    buckets: 512,
+    buckets: 172,
     elements: 2560,
     key_words: 1,
     value_words: 1,
@@ -79,11 +79,50 @@ pub struct Watcher {
     wrong: u64,
 }
 
-/// What rounds came to.
+/// What rounds came to: how many runs there were, how many keys were changed, and what the calls answered that were to make room.
 #[derive(Clone, Copy)]
 pub struct TableTally {
     pub runs: u64,
     pub changes: u64,
+    pub made: u64,
+    pub held: u64,
+    pub full: u64,
+}
+
+impl TableTally {
+    /// Nothing.
+    pub const NONE: TableTally = TableTally {
+        runs: 0,
+        changes: 0,
+        made: 0,
+        held: 0,
+        full: 0,
+    };
+
+    /// Adds what other rounds came to.
+    pub fn add(&mut self, other: TableTally) {
+        self.runs = self.runs.saturating_add(other.runs);
+        self.changes = self.changes.saturating_add(other.changes);
+        self.made = self.made.saturating_add(other.made);
+        self.held = self.held.saturating_add(other.held);
+        self.full = self.full.saturating_add(other.full);
+    }
+
+    /// Counts what a call answered that was to make room.
+    fn count(&mut self, room: Room) {
+        match room {
+            Room::Made => self.made = self.made.saturating_add(1),
+            Room::Held => self.held = self.held.saturating_add(1),
+            Room::Full => self.full = self.full.saturating_add(1),
+        }
+    }
+}
+
+/// The writer's part: which keys it takes, and what it came to.
+#[derive(Drop)]
+pub struct Changer {
+    mixer: Mixer,
+    tally: TableTally,
 }
 
 /// The value that a key has at a turn of the writer: one above the key, and the turn in the upper half.
@@ -190,83 +229,104 @@ fn watch_all<R: Threads + Sync>(
     done.store(true, Ordering::SeqCst);
 }
 
-/// Gives a key the value of a turn: replaces the one that it has, or links it.
-fn give(table: &MapTable, writer: &mut Writer, key: u32, turn: u32) -> bool
+/// Links a key with the value of a turn. Where both its buckets are full, it makes room first, if it can. Whether the key is linked.
+fn link(table: &MapTable, writer: &mut Writer, key: u32, turn: u32, tally: &mut TableTally) -> bool
     requires table { writer.old.table ≡ table.now }
     requires lengths { HasOneWord table.now.shape }
     ensures table { writer.new.table ≡ table.now }
 {
     let words = [u64::from(key)];
     let value = [value_at(turn, key)];
-    match writer.find(table, &words) {
-        Some(way) => writer.replace(table, way, &words, &value),
-        None => writer.link(table, &words, &value).is_some(),
+    if writer.link(table, &words, &value).is_some() {
+        return true;
     }
+    if writer.free().is_empty() {
+        return false;
+    }
+    let room = writer.make_room(table, &words);
+    tally.count(room);
+    room == Room::Made && writer.link(table, &words, &value).is_some()
 }
 
-/// Links a key where it is not linked, and else unlinks it.
-fn pass(table: &MapTable, writer: &mut Writer, key: u32, turn: u32) -> bool
+/// Gives a key the value of a turn: replaces the one that it has, or links it.
+fn give(table: &MapTable, writer: &mut Writer, key: u32, turn: u32, tally: &mut TableTally) -> bool
     requires table { writer.old.table ≡ table.now }
     requires lengths { HasOneWord table.now.shape }
     ensures table { writer.new.table ≡ table.now }
 {
     let words = [u64::from(key)];
     match writer.find(table, &words) {
+        Some(way) => writer.replace(table, way, &words, &[value_at(turn, key)]),
+        None => link(table, writer, key, turn, tally),
+    }
+}
+
+/// Links a key where it is not linked, and else unlinks it.
+fn pass(table: &MapTable, writer: &mut Writer, key: u32, turn: u32, tally: &mut TableTally) -> bool
+    requires table { writer.old.table ≡ table.now }
+    requires lengths { HasOneWord table.now.shape }
+    ensures table { writer.new.table ≡ table.now }
+{
+    match writer.find(table, &[u64::from(key)]) {
         Some(way) => {
             writer.unlink(table, way);
             true
         }
-        None => writer.link(table, &words, &[value_at(turn, key)]).is_some(),
+        None => link(table, writer, key, turn, tally),
     }
 }
 
-/// Changes a key: a kept one gets the value of the turn, another one is linked or unlinked. Whether there was room.
-fn change(table: &MapTable, writer: &mut Writer, key: u32, turn: u32) -> bool
+/// Changes a key: a kept one gets the value of the turn, and in place of another one any of those is linked or unlinked. Whether
+/// there was room.
+fn change(table: &MapTable, writer: &mut Writer, key: u32, turn: u32, changer: &mut Changer) -> bool
     requires table { writer.old.table ≡ table.now }
     requires lengths { HasOneWord table.now.shape }
     ensures table { writer.new.table ≡ table.now }
 {
     if key < KEPT {
-        return give(table, writer, key, turn);
+        return give(table, writer, key, turn, &mut changer.tally);
     }
-    pass(table, writer, key, turn)
+    let any = KEPT + changer.mixer.below(PASSING);
+    pass(table, writer, any, turn, &mut changer.tally)
 }
 
-/// Changes each key once, and reclaims again and again. How many keys were changed.
-fn change_all(table: &MapTable, writer: &mut Writer, turn: u32) -> u64
+/// Changes each kept key once, and as many others as there are, and reclaims again and again.
+fn change_all(table: &MapTable, writer: &mut Writer, turn: u32, changer: &mut Changer)
     requires table { writer.old.table ≡ table.now }
     requires lengths { HasOneWord table.now.shape }
     ensures table { writer.new.table ≡ table.now }
 {
-    let mut changed = 0u64;
     for key in 0..KEPT + PASSING {
-        if change(table, writer, key, turn) {
-            changed = changed.saturating_add(1);
+        if change(table, writer, key, turn, changer) {
+            changer.tally.changes = changer.tally.changes.saturating_add(1);
         }
         if key % STRIDE == 0 {
             writer.reclaim(table);
         }
     }
-    changed
 }
 
-/// Changes all keys, again and again, until the readers are done. How many changes there were.
-fn change_until(table: &MapTable, writer: &mut Writer, done: &AtomicBool, first: u32) -> u64
+/// Changes keys, again and again, until the readers are done.
+fn change_until(
+    table: &MapTable,
+    writer: &mut Writer,
+    done: &AtomicBool,
+    first: u32,
+    changer: &mut Changer,
+)
     requires table { writer.old.table ≡ table.now }
     requires lengths { HasOneWord table.now.shape }
     ensures table { writer.new.table ≡ table.now }
 {
-    let mut changes = 0u64;
     for turn in first..u32::MAX {
-        changes = changes.saturating_add(change_all(table, writer, turn));
+        change_all(table, writer, turn, changer);
         if done.load(Ordering::SeqCst) {
-            return changes;
+            return;
         }
     }
-    changes
 }
 
-/// The readers make so many runs each, beside the writer. How many changes there were.
+/// The readers make so many runs each, beside the writer.
 fn go_beside<R: Threads + Sync>(
     rt: &R,
     table: &MapTable,
@@ -274,23 +334,23 @@ fn go_beside<R: Threads + Sync>(
     writer: &mut Writer,
     program: &Verified,
     calls: u32,
-) -> u64
+    changer: &mut Changer,
+)
     requires ready { All (IsReadyWatcher table.now) watchers.old }
     requires program { IsProgramOf table.now.shape program.now }
     requires table { writer.old.table ≡ table.now }
     requires lengths { HasOneWord table.now.shape }
 {
     let done = AtomicBool::new(false);
-    let (_, changes) = join(
+    join(
         rt,
         || -> ()
             requires { IsSync R.row × IsProgramOf table.now.shape program.now × All (IsReadyWatcher table.now) watchers.now }
         { watch_all(rt, table, watchers, program, calls, &done) },
-        || -> u64
+        || -> ()
             requires { HasOneWord table.now.shape × (writer.now.table ≡ table.now) }
-        { change_until(table, writer, &done, 2) },
+        { change_until(table, writer, &done, 2, changer) },
     );
-    changes
 }
 
 /// An error where a run did not find what it must.
@@ -306,8 +366,7 @@ fn check_runs(watchers: &[Watcher]) -> Result<()> {
     Ok(())
 }
 
-/// So many runs of a reader at each seat, beside the writer. How many changes there were. An error where a run did not find
-/// what it must.
+/// So many runs of a reader at each seat, beside the writer. An error where a run did not find what it must.
 fn watch_beside<R: Threads + Sync>(
     rt: &R,
     alloc: Global,
@@ -315,7 +374,8 @@ fn watch_beside<R: Threads + Sync>(
     seats: Seats,
     writer: &mut Writer,
     calls: u32,
-) -> Result<u64>
+    changer: &mut Changer,
+) -> Result<()>
     requires ready { All (IsReady table.now) seats }
     requires table { writer.old.table ≡ table.now }
     requires lengths { HasOneWord table.now.shape }
@@ -323,17 +383,27 @@ fn watch_beside<R: Threads + Sync>(
     let program = program_for(alloc, table)?;
     let mut watchers = watchers_of(alloc, seats, table)?;
     let readers = watchers.as_mut_slice();
-    let changes = go_beside(rt, table, readers, writer, &program, calls);
-    check_runs(&watchers)?;
-    Ok(changes)
+    go_beside(rt, table, readers, writer, &program, calls, changer);
+    check_runs(&watchers)
 }
 
 /// So many runs of each reader beside the writer, over a table of its own. An error where a run did not find what it must.
 pub fn go_table<R: Threads + Sync>(rt: &R, alloc: Global, calls: u32) -> Result<TableTally> {
     let (table, seats, mut writer) = MapTable::new(alloc, SHAPE)?;
-    let linked = change_all(&table, &mut writer, 1);
-    ensure!(linked == u64::from(KEPT + PASSING), "the table is full");
-    let changes = watch_beside(rt, alloc, &table, seats, &mut writer, calls)?;
+    let mut changer = Changer {
+        mixer: Mixer::new(READERS as u8, 0),
+        tally: TableTally::NONE,
+    };
+    change_all(&table, &mut writer, 1, &mut changer);
+    ensure!(
+        changer.tally.changes == u64::from(KEPT + PASSING),
+        "the table is full"
+    );
+    changer.tally.changes = 0;
+    watch_beside(rt, alloc, &table, seats, &mut writer, calls, &mut changer)?;
     let runs = (READERS as u64).saturating_mul(u64::from(calls));
-    Ok(TableTally { runs, changes })
+    Ok(TableTally {
+        runs,
+        ..changer.tally
+    })
 }
