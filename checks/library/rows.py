@@ -379,12 +379,12 @@ def counted(table, program, key, times):
 
 
 def set_soon(table, key):
-    """Sets a key; where too few elements are free, readers hold others up, and are to go on first."""
+    """Sets a key; where too few elements are free, or one is to be moved, readers hold it up, and are to go on first."""
     while True:
         try:
             return table.set([key], [0])
         except OSError as error:
-            if error.errno != errno.ENOSPC:
+            if error.errno not in (errno.ENOSPC, errno.EAGAIN):
                 raise
 
 

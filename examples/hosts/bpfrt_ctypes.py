@@ -79,6 +79,7 @@ CALLS = {
     "prog_run_packets": [HANDLE, BYTES, SIZE, BYTES, SIZE, BYTES, SIZE], "table_open": [HANDLE, ctypes.POINTER(TableShape)],
     "table_reader": [HANDLE, HANDLE], "table_update_elem": [HANDLE, VALUE, SIZE, VALUE, SIZE, U64],
     "table_lookup_elem": [HANDLE, VALUE, SIZE, VALUE, SIZE], "table_delete_elem": [HANDLE, VALUE, SIZE], "table_reclaim": [HANDLE],
+    "table_copy": [HANDLE, HANDLE],
     "table_get_next_key": [HANDLE, U32, VALUE, SIZE, VALUE, SIZE], "table_stat": [HANDLE, ctypes.POINTER(TableStat)],
     "reader_run": [HANDLE, HANDLE, BYTES, SIZE, VALUE],
     "reader_run_packet": [HANDLE, HANDLE, BYTES, SIZE, U32, VALUE],
@@ -535,9 +536,17 @@ class Table:
     def remove(self, key):
         self._on("table_delete_elem", *words_of(key))
 
+    def copy_to(self, larger):
+        """Sets each key in a larger table, with all its values."""
+        if larger is self:
+            raise ValueError("a table is not copied into itself")
+        with larger._turn:
+            self._on("table_copy", larger._held)
+
     def __iter__(self):
         """The keys, in the table's own order. The table may change meanwhile: each key that stays comes once, unless the one that came
-        last is removed before the next is asked for. Then they come from the first again."""
+        last is removed before the next is asked for. Then they come from the first again. A new key that is set meanwhile may move
+        others, which may then come twice or not at all."""
         room, key = (U64 * max(1, self._key_words))(), None
         while True:
             try:

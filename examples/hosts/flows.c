@@ -72,15 +72,22 @@ static void open_table(struct bpfrt_table *table)
 	}
 }
 
-/* The other flows come and go. Where too few elements are free, a thread in a section holds others up, and is to go on first. */
+/* Links a new flow. Where too few elements are free, or an element is to be moved to make room, a thread in a section holds it up, and
+   is to go on first. */
+static int32_t link_flow(struct bpfrt_table *table, const uint64_t *key)
+{
+	int32_t status;
+	while ((status = bpfrt_table_update_elem(table, key, 1, zeros, 2 * THREADS, 1)) == -ENOSPC || status == -EAGAIN)
+		sched_yield();
+	return status;
+}
+
+/* The other flows come and go. */
 static void change_flows(struct bpfrt_table *table)
 {
 	for (int number = 0; number < CHANGES; number++) {
 		uint64_t sums[2], *key = &keys[FLOWS + number % (ALL_FLOWS - FLOWS)];
-		int32_t status;
-		while ((status = bpfrt_table_update_elem(table, key, 1, zeros, 2 * THREADS, 1)) == -ENOSPC)
-			sched_yield();
-		done(status, "bpfrt_table_update_elem");
+		done(link_flow(table, key), "bpfrt_table_update_elem");
 		done(bpfrt_table_lookup_elem(table, key, 1, sums, 2), "bpfrt_table_lookup_elem");
 		done(bpfrt_table_delete_elem(table, key, 1), "bpfrt_table_delete_elem");
 		done(number % 16 ? 0 : bpfrt_table_reclaim(table), "bpfrt_table_reclaim");

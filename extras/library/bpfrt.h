@@ -175,6 +175,7 @@ int32_t bpfrt0_table_open(struct bpfrt_table *table, const struct bpfrt_table_sh
 int32_t bpfrt0_table_reader(struct bpfrt_reader *reader, struct bpfrt_table *table);
 int32_t bpfrt0_table_update_elem(struct bpfrt_table *table, const uint64_t *key, size_t key_words, const uint64_t *value, size_t
 	value_words, uint64_t flags);
+int32_t bpfrt0_table_copy(struct bpfrt_table *table, struct bpfrt_table *larger);
 int32_t bpfrt0_table_lookup_elem(struct bpfrt_table *table, const uint64_t *key, size_t key_words, uint64_t *value, size_t
 	value_words);
 int32_t bpfrt0_table_delete_elem(struct bpfrt_table *table, const uint64_t *key, size_t key_words);
@@ -483,8 +484,11 @@ static inline int32_t bpfrt_table_reader(struct bpfrt_reader *reader, struct bpf
 /* Puts a value under a key; with BPFRT_TABLE_PER_READER those of all readers, one behind another. A run finds the old value or the
    new one, and misses no key that is there. Flags as of bpfrt_map_update_elem. A key that is there takes a free element, too, and the
    old one waits for the runs that may have found it. A new key leaves one free, so that values can be put where all others are linked.
-   Where too few are free, those are reclaimed first that no run can hold. -EEXIST, -ENOENT; -ENOSPC where still too few are free,
-   until runs end or a key is removed; -E2BIG where both buckets of a new key are full; -EINVAL for a wrong length or flag. */
+   Where too few are free, those are reclaimed first that no run can hold. Where both buckets of a new key are full, an element of them
+   is moved to the other bucket of its own key, if that has room; no run misses it, and what runs store there stays. -EEXIST, -ENOENT;
+   -ENOSPC where still too few are free, until runs end or a key is removed; -E2BIG where both buckets of a new key are full, and no
+   element there can be moved; -EAGAIN where one could be moved, but a run stayed in one section meanwhile: call again. -EINVAL for a
+   wrong length or flag. */
 static inline int32_t bpfrt_table_update_elem(struct bpfrt_table *table, const uint64_t *key, size_t key_words, const uint64_t *value,
 	size_t value_words, uint64_t flags)
 {
@@ -492,6 +496,18 @@ static inline int32_t bpfrt_table_update_elem(struct bpfrt_table *table, const u
 		return -22; /* -EINVAL */
 	return bpfrt0_table_update_elem(table, key ? key : bpfrt_no_values(), key_words, value ? value : bpfrt_no_values(),
 		value_words, flags);
+}
+
+/* Sets each key of a table in another one, with the words of all its values: so a host goes over to a larger table. From then on it
+   sets and removes keys in both. Each thread opens a reader of the larger table, and closes its old one between two runs: it finds each
+   key in the table that it runs over. Then the host closes the old table. What runs store in a value after it was copied stays in the old
+   table. -EBADF where either is no table; -EINVAL where both are one, or keys or values have other lengths; else as
+   bpfrt_table_update_elem. Then some keys are set, and the call may be made again. */
+static inline int32_t bpfrt_table_copy(struct bpfrt_table *table, struct bpfrt_table *larger)
+{
+	if (table == larger)
+		return -22; /* -EINVAL */
+	return bpfrt0_table_copy(table, larger);
 }
 
 /* Copies the value of a key; with BPFRT_TABLE_PER_READER the sums of all readers' words, modulo 2^64. Each word is read by itself:
@@ -515,7 +531,9 @@ static inline int32_t bpfrt_table_delete_elem(struct bpfrt_table *table, const u
 
 /* Writes the key that comes next behind a key, where a null pointer stands for none: the first of all behind none, or behind one that
    is not there. The order is the table's own. A walk that gives each time the key that it met last meets each key that stays, and
-   once, unless a key that it gives was removed. A key that is replaced stays. -ENOENT where none comes behind; -EINVAL. */
+   once, unless a key that it gives was removed, or it was moved to make room. A key that is replaced stays. A new key that is put between two calls may move another
+   key, which the walk then may miss or meet twice; where the key that is given was moved, the walk goes on from its new place. -ENOENT
+   where none comes behind; -EINVAL. */
 static inline int32_t bpfrt_table_get_next_key(struct bpfrt_table *table, const uint64_t *key, size_t key_words, uint64_t *next)
 {
 	if (!next && key_words)

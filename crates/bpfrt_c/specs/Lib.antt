@@ -1,4 +1,5 @@
 pub mod Asked
+pub mod Copying
 pub mod Programs
 pub mod Refused
 pub mod Shapes

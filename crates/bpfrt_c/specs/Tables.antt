@@ -7,7 +7,7 @@ use Rattle.host_tables.specs.Tables.{IsNotSet, OpenTable, Sets}
 use Rattle.host_tables.specs.declared.fault.How.{How}
 use Rattle.host_tables.specs.declared.fault.How.TheVariants.{Any, New, Present}
 use Rattle.host_tables.specs.declared.fault.SetFault.{SetFault}
-use Rattle.host_tables.specs.declared.fault.SetFault.TheVariants.{Exists, Missing, NoElement, NoWay}
+use Rattle.host_tables.specs.declared.fault.SetFault.TheVariants.{Exists, Missing, NoElement, NoWay, Held}
 use Rattle.map_table.specs.Held.{Holder}
 use Rattle.map_table.specs.Values.{stored_of}
 use Rattle.map_table.specs.Writing.{WriterView}
@@ -44,12 +44,13 @@ how_in_c n =
     else (if n == 1 then Some New else (if n == 2 then Some Present else None))
 
 -- The number of errno.h for a key that is not set: EEXIST, ENOENT, ENOSPC where too few elements are free, E2BIG where both buckets of
--- the key are full.
+-- the key are full and no element there can be moved, EAGAIN where one could be, but a reader was inside a section.
 abbrev pub set_error : SetFault → ℕ
 set_error Exists = 17
 set_error Missing = 2
 set_error NoElement = 28
 set_error NoWay = 7
+set_error Held = 11
 
 -- The table's writer did this, and nothing else has changed.
 pub record Writes (P : WriterView → WriterView → Type 0) (t u : OpenTable) : Type 0 where

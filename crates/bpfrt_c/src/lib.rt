@@ -6,6 +6,7 @@
 #![tactic(auto)]
 
 mod asked;
+mod copying;
 mod keys;
 mod making;
 mod number;

@@ -36,5 +36,5 @@ pub const ESRCH: i32 = -3;
 /// The world has as many programs as it may have; or both buckets of a table's key are full.
 pub const E2BIG: i32 = -7;
 
-/// Every run slot of the world is occupied.
+/// Every run slot of the world is occupied; or a run inside a section holds up the move that would make room in a table.
 pub const EAGAIN: i32 = -11;

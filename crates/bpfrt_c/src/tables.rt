@@ -7,7 +7,7 @@ ghost use Rattle.map_table.specs.Held.{IsSized};
 ghost use Rattle.table_words.specs.declared.view.TableShape.{TableShape as ShapeOf};
 ghost use Rattle.bpfrt_c.specs.Tables.{CanSet, IsNotSetAs, SeatsIn, SetsAs, WritesIn, how_in_c, set_error, table_shape_in_c};
 
-use crate::number::{E2BIG, EBADF, EBUSY, EEXIST, EINVAL, ENOENT, ENOMEM, ENOSPC};
+use crate::number::{E2BIG, EAGAIN, EBADF, EBUSY, EEXIST, EINVAL, ENOENT, ENOMEM, ENOSPC};
 use host_handle::Host;
 use host_tables::{HostTable, How, Secret, SetFault, TableFault, Values};
 use host_values::Held;
@@ -167,7 +167,7 @@ fn how_of(flags: u64) -> Option<How>
 }
 
 /// The number of why a key is not set.
-fn number_of_fault(fault: SetFault) -> i32
+pub(crate) fn number_of_fault(fault: SetFault) -> i32
     ensures { result ≡ neg_ℤ (pos (set_error fault)) }
 {
     match fault {
@@ -175,6 +175,7 @@ fn number_of_fault(fault: SetFault) -> i32
         SetFault::Missing => ENOENT,
         SetFault::NoElement => ENOSPC,
         SetFault::NoWay => E2BIG,
+        SetFault::Held => EAGAIN,
     }
 }
 
@@ -207,10 +208,12 @@ fn set_held(held: &mut Held, key: &[u64], value: &[u64], flags: u64) -> i32
 
 /// Sets a key: links a value under it, or puts it in the place of the one that is there, in one store, so that no reader misses a
 /// key that is linked before. Flags: 0, or 1 for a new key alone, or 2 for one that is there. A new key leaves one element free. Where
-/// too few are free, those are reclaimed first that no reader holds.
+/// too few are free, those are reclaimed first that no reader holds. Where both buckets of a new key are full, an element is moved out
+/// of them first, if one can be; no reader misses its key meanwhile.
 ///
 /// 0, or -EBADF where no table is held; -EINVAL for a wrong length or flag; -EEXIST, -ENOENT; -ENOSPC where too few elements are
-/// free; -E2BIG where both buckets of the key are full.
+/// free; -E2BIG where both buckets of the key are full, and no element of them can be moved; -EAGAIN where one could be, but a run
+/// stayed in one section meanwhile: call again.
 #[unsafe(no_mangle)]
 pub extern "C" fn bpfrt0_table_update_elem(
     alloc: Global,

@@ -1,3 +1,4 @@
+mod Kept
 mod KeyWalks
 mod Linked
 mod Meeting

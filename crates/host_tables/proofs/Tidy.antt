@@ -1,6 +1,6 @@
 -- What the writer's calls keep of a table.
 use Rattle.std.proofs.Common.{◌≡◌, ◌≢◌, ℕ, zero, suc, ◌+◌, ◌<◌, ◌≤◌, List, [], ◌∷◌, ◌++◌, length, length-append, refl, sym, ap, ◌∙◌, subst, ◌⊎◌, ⊎_elim}
-use Rattle.std.proofs.Common.{Option, Some, None, Result, Ok, Err, OnOk, OnErr, IfErr, slice_index, arith}
+use Rattle.std.proofs.Common.{Option, Some, None, Result, Ok, Err, OnOk, IfErr, slice_index, arith}
 use Rattle.map_table_laws.specs.declared.moves.Move.{Move}
 use Rattle.map_table_laws.specs.declared.moves.Move.TheVariants.{Put}
 use Rattle.map_table_laws.specs.Layout.{Layout, Names}
@@ -14,9 +14,10 @@ use Rattle.table_words.specs.declared.view.TableShape.{TableShape}
 use Rattle.map_table.specs.Hashes.{layout_of}
 use Rattle.map_table.specs.Held.{IsKnown, TableView}
 use Rattle.map_table.specs.Moving.{StayLinked}
+use Rattle.map_table.specs.Reading.{OnlyLoads}
 use Rattle.map_table.specs.Values.{copies_of, stored_of}
 use Rattle.map_table.specs.Writing.{Frees, Looks, Puts, Works, WriterView}
-use Rattle.map_table.proofs.Keeping.{adds_quiet, fills_quiet, scans_quiet, searches_quiet}
+use Rattle.map_table.proofs.Keeping.{adds_quiet, fills_quiet, loads_quiet, scans_quiet, searches_quiet}
 use Rattle.host_tables.specs.declared.fault.SetFault.{SetFault}
 use Rattle.host_tables.specs.Tables.{Finds, FindsNoRoom, IsNoRoom, IsTidy, Links, MakesRoom, Moves, PutsUnder, PutsWithRoom, Replaces, SumsUp, needed_for}
 use Rattle.host_tables.proofs.Linked.{Leaves, leaves_append, words_leave, same_key, linked_before, linked_after, last_word, once_left, once_put}
@@ -73,6 +74,12 @@ searched_tidy k u v w ms e writer shape known only works free unlinked tidy =
     same_tidy u w ms writer shape known (subst (λ (z : WriterView). Works z ms w) e works) (searches_leave k 0 ms only)
     (free ∙ ap (λ (z : WriterView). z.free) e) (unlinked ∙ ap (λ (z : WriterView). z.unlinked) e) tidy
 
+-- one that only loads
+pub loaded_tidy : (v w : WriterView) (ms : List Move) → v.view.me ≡ 0 → v.view.shape ≡ v.table.shape → IsKnown v.view → OnlyLoads ms → Works v ms w →
+    w.free ≡ v.free → w.unlinked ≡ v.unlinked → IsTidy v → IsTidy w
+loaded_tidy v w ms writer shape known only works free unlinked tidy =
+    same_tidy v w ms writer shape known works (λ way. words_leave way ms (loads_quiet ms only).words) free unlinked tidy
+
 -- elements that became free
 pub freed_tidy : (gone : List ℕ) (v w : WriterView) (ms : List Move) → v.view.me ≡ 0 → v.view.shape ≡ v.table.shape → IsKnown v.view → Frees gone v w →
     Looks v ms w → IsTidy v → IsTidy w
@@ -90,10 +97,10 @@ freed_finds v w ms writer shape known looks =
 -- a value that was put under a key, which was linked nowhere else
 module _ (v w : WriterView) (key value : List ℕ) (writer : v.view.me ≡ 0) (shape : v.view.shape ≡ v.table.shape) (known : IsKnown v.view) where
   -- the moves
-  abbrev all_moves : (way word element : ℕ) → Puts way word element key value v w → List Move
+  abbrev pub all_moves : (way word element : ℕ) → Puts way word element key value v w → List Move
   all_moves way word element p = Put way word ∷ (p.1 ++ p.0)
 
-  puts_leave : (way word element : ℕ) → (p : Puts way word element key value v w) → (other : ℕ) → way ≢ other →
+  pub puts_leave : (way word element : ℕ) → (p : Puts way word element key value v w) → (other : ℕ) → way ≢ other →
       Leaves other (all_moves way word element p)
   puts_leave way word element p other ne = (
     ne,
@@ -115,10 +122,15 @@ module _ (v w : WriterView) (key value : List ℕ) (writer : v.view.me ≡ 0) (s
       (put_once l.way l.word l.element l.puts l.under (λ other z. absurd (finds other z)) tidy.once)
       (λ some. let long = ap (λ (z : List ℕ). length z) l.taken in omega (arith, room, long, length-append w.free (l.element ∷ [])))
 
-  at_end : (way : ℕ) (late early : List (ℕ × Move)) → StaysFound (layout_of v.table.shape) 0 key way late early →
+  pub at_end : (way : ℕ) (late early : List (ℕ × Move)) → StaysFound (layout_of v.table.shape) 0 key way late early →
       IsLinkedUnder (layout_of v.table.shape) 0 key way (late ++ early)
   at_end way [] early s = s
   at_end way (e ∷ late) early s = s.0
+
+  pub at_first : (way : ℕ) (late early : List (ℕ × Move)) → StaysFound (layout_of v.table.shape) 0 key way late early →
+      IsLinkedUnder (layout_of v.table.shape) 0 key way early
+  at_first way [] early s = s
+  at_first way (e ∷ late) early s = at_first way late early s.1
 
   pub replaces_tidy : (way : ℕ) → Finds v.table.shape key (Some way) v → Replaces way key value v w → IsTidy v → IsTidy w
   replaces_tidy way finds r tidy =
@@ -126,7 +138,6 @@ module _ (v w : WriterView) (key value : List ℕ) (writer : v.view.me ≡ 0) (s
       of_table v w (all_moves way r.word r.element r.puts) writer shape known r.puts.4
       (put_once way r.word r.element r.puts under (λ other z. tidy.once key way other finds z) tidy.once)
       (λ some. let long = ap (λ (z : List ℕ). length z) r.unlinked in omega (arith, long, length-append v.unlinked (r.gone ∷ [])))
-
 
 -- room was made before
 pub with_room : (found : Option ℕ) (key value : List ℕ) (v ready w : WriterView) (result : Result (Unit {0}) SetFault) →

@@ -1,3 +1,4 @@
+pub mod Copies
 pub mod Reading
 pub mod Tables
 pub mod Walks

@@ -4,6 +4,7 @@
 //! Opening a table takes all memory that it ever has; no other call takes any.
 #![tactic(auto)]
 
+mod copying;
 mod fault;
 mod reader;
 mod table;

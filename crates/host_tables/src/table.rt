@@ -2,7 +2,9 @@
 ghost use Rattle.std.specs.Prelude.{◌≡◌, ◌≢◌, ◌↔◌, ◌<◌, ◌+◌, [], ◌∷◌, ℕ, List, Decides, Err, None, IfSome, IfNone, IsNone, IfOk, IfErr, IsOk, OnOk, option_copied, length, true, false};
 ghost use Rattle.map_table.specs.Hashes.{layout_of};
 ghost use Rattle.map_table.specs.Held.{IsReady, IsSized};
+ghost use Rattle.map_table.specs.Law.{ways_of};
 ghost use Rattle.map_table_laws.specs.Once.{AreLinkedOnce};
+ghost use Rattle.host_tables.specs.Copies.{AreAlike, AreAllThere, Copies, StayThere};
 ghost use Rattle.map_table.specs.Values.{stored_of};
 ghost use Rattle.host_tables.specs.Reading.{CanServe};
 ghost use Rattle.host_tables.specs.Tables.{IsNewTable, IsNotSet, Reads, Reclaims, Removes, Seeks, Sets};
@@ -11,6 +13,7 @@ ghost use Rattle.host_tables.specs.declared.fault.TableFault.TheVariants.{Shape}
 ghost use Rattle.host_tables.specs.declared.fault.TableRunFault.TheVariants.{Length, Maps};
 ghost use Rattle.map_runs.specs.Running.{ServesMaps};
 
+use crate::copying::copy_all;
 use crate::fault::{How, SetFault, TableFault, TableRunFault};
 use crate::reader::{HostReader, serves};
 use crate::walking::{load_first, start_behind};
@@ -157,6 +160,46 @@ impl HostTable {
         }
     }
 
+    /// Whether keys and values have as many words in another table as here, so that they can be copied.
+    pub fn is_alike(&self, other: &HostTable) -> bool
+        ensures { Decides result (AreAlike self.now.table.shape other.now.table.shape) }
+    {
+        let here = self.table.shape();
+        let there = other.table.shape();
+        here.key_words == there.key_words && here.stored_words() == there.stored_words()
+    }
+
+    /// Links each key of this table in another one, with the words of all its values, and answers how many there are. Of a key that
+    /// is linked there it puts the values in the place of those. So a host goes over to a larger table: it copies the keys, and
+    /// from then on sets and removes keys in both. Each reader changes over between two runs, so it looks into one of them, and
+    /// there it finds each key (law `null_refutes_every_element`). Once each has changed over, the smaller one is dropped.
+    ///
+    /// What readers store in a value after it was loaded is not copied.
+    ///
+    /// Errors: as `set` into the other table; then some keys are linked there, and it may be called again.
+    pub fn copy_to(&mut self, other: &mut HostTable) -> Result<usize, SetFault>
+        requires alike { AreAlike self.old.table.shape other.old.table.shape }
+        ensures table { self.new.table ≡ self.old.table }
+        ensures other { other.new.table ≡ other.old.table }
+        ensures seats { self.new.seats ≡ self.old.seats }
+        ensures other_seats { other.new.seats ≡ other.old.seats }
+        ensures copies { OnOk result (Copies (ways_of self.old.table.shape) self.old.writer other.old.writer
+            self.new.writer other.new.writer) }
+
+        // Each key that is linked here is linked there, and each that was linked there still is.
+        ensures linked { OnOk result (AreAllThere self.old.table.shape other.old.table.shape self.new.writer other.new.writer) }
+        ensures kept { OnOk result (StayThere other.old.table.shape other.old.writer other.new.writer) }
+    {
+        self.writer.is_writers();
+        other.writer.is_writers();
+        copy_all(
+            &self.table,
+            &mut self.writer,
+            &other.table,
+            &mut other.writer,
+        )
+    }
+
     /// Removes a key. Readers that found its element before may use it until they end their section. False where the key is
     /// not linked.
     pub fn remove(&mut self, key: &[u64]) -> bool
@@ -202,7 +245,8 @@ impl HostTable {
     /// linked. False where none comes behind, and then nothing is written.
     ///
     /// A walk gives each time the key that it met last. It meets a key that stays linked once, if those that it gives stay linked, too
-    /// (laws `walks_meet_each_once`, `walks_meet_each_key_once`).
+    /// (laws `walks_meet_each_once`, `walks_meet_each_key_once`). A key that `set` moves to its other bucket meanwhile, to make room,
+    /// is met or not, or twice.
     pub fn next_key(&mut self, key: Option<&[u64]>, next: &mut [u64]) -> bool
         requires key { IfSome (option_copied key) (λ k. length k ≡ self.old.table.shape.key_words) }
         requires next { length next.old ≡ self.old.table.shape.key_words }

@@ -72,7 +72,12 @@ pub(crate) fn seek(table: &MapTable, writer: &mut Writer, key: &[u64]) -> Option
 }
 
 /// Links a value under a new key. Where both buckets of the key are full, it moves an element out of them first, if it can.
-fn link_new(table: &MapTable, writer: &mut Writer, key: &[u64], value: &[u64]) -> Result<(), SetFault>
+fn link_new(
+    table: &MapTable,
+    writer: &mut Writer,
+    key: &[u64],
+    value: &[u64],
+) -> Result<(), SetFault>
     requires table { writer.old.table ≡ table.now }
     requires key { length key.now ≡ table.now.shape.key_words }
     requires value { length value.now ≡ stored_of table.now.shape }

@@ -1,5 +1,6 @@
 -- What the writer keeps while it moves an element.
-use Rattle.std.proofs.Common.{◌≡◌, ◌≢◌, ◌⊎◌, ℕ, suc, ◌+◌, ◌*◌, ◌%◌, ◌^◌, ◌<◌, ◌≤◌, List, [], ◌∷◌, ◌++◌, length, refl, sym, ap, ◌∙◌, subst, ⊎_elim, inl, inr, arith}
+use Rattle.std.proofs.Common.{◌≡◌, ◌≢◌, ◌⊎◌, ℕ, suc, ◌+◌, ◌*◌, ◌%◌, ◌^◌, ◌<◌, ◌≤◌, List, [], ◌∷◌, ◌++◌, length}
+use Rattle.std.proofs.Common.{refl, sym, ap, ◌∙◌, subst, ⊎_elim, inl, inr, arith}
 use Rattle.std.proofs.Common.{set, length-set, get_or, get_or-set_other, get_or-set_same, append_assoc}
 use Rattle.std.specs.Prelude.{slice_index}
 use mathlib.Core.Logic.{dite}
@@ -29,7 +30,8 @@ use Rattle.map_table.specs.Sightings.{AreSightings}
 use Rattle.map_table.specs.Writing.{WriterView, IsFree, IsUnlinked, IsNoneLost, IsWriter}
 use Rattle.map_table.proofs.Filling.{own_list, tail_of, went_shape, went_me}
 use Rattle.map_table.proofs.Going.{went_as, went_known, went_mine, went_then}
-use Rattle.map_table.proofs.Keeping.{IsQuiet, quiet_writer, quiet_settled, same_word, searches_quiet, only_scans_quiet, put_writer, put_settled, here, there, empty_names_none}
+use Rattle.map_table.proofs.Keeping.{IsQuiet, quiet_writer, quiet_settled, same_word, searches_quiet, only_scans_quiet}
+use Rattle.map_table.proofs.Keeping.{put_writer, put_settled, here, there, empty_names_none}
 use Rattle.map_table.proofs.Linking.{of_both, way_low}
 use Rattle.map_table.proofs.Members.{all_to}
 use Rattle.map_table.proofs.Peeking.{way_kept, key_kept}
@@ -283,7 +285,8 @@ moves_only low high ns ms from to z word n = ((from, to, moving_scans low high n
 pub move_settles : (readers from to z word : ℕ) (v u x : View) (ns : List Move) → OnlyScans 0 readers ns → Went v (Double from to word ∷ v.mine) u →
     Went u (ns ++ u.mine) x → (z ≡ to) ⊎ ((z ≡ from) × HaveGone readers ns) → Settles readers z 0 x.mine
 move_settles readers from to z word v u x ns only g h ends f t moving =
-    let mine : x.mine ≡ ns ++ Double from to word ∷ v.mine = went_mine u x (ns ++ u.mine) h ∙ ap (λ ms. ns ++ ms) (went_mine v u (Double from to word ∷ v.mine) g) in
+    let mine : x.mine ≡ ns ++ Double from to word ∷ v.mine =
+    went_mine u x (ns ++ u.mine) h ∙ ap (λ ms. ns ++ ms) (went_mine v u (Double from to word ∷ v.mine) g) in
     let is : (from ≡ f) × (to ≡ t) = (only_scans_quiet 0 readers ns only).moving f t (Double from to word ∷ v.mine) (subst (IsMoving f t) mine moving) in (
       refl,
       ⊎_elim
@@ -357,13 +360,15 @@ move_facts k v ways free unlinked from to b shape low may =
     let mine = own_list v b.me b.known in
     (may.element, subst (λ z. Names z may.element) (sym is) may.names, sym is, ap (word_in to) (sym mine) ∙ may.empty)
 
-pub writer_may : (k : TableShape) (w : WriterView) (v : View) (from to : ℕ) → v ≡ w.view → MayDouble (layout_of k) w.view.seen from to (word_in from w.view.mine) →
+pub writer_may : (k : TableShape) (w : WriterView) (v : View) (from to : ℕ) → v ≡ w.view →
+    MayDouble (layout_of k) w.view.seen from to (word_in from w.view.mine) →
     MayDouble (layout_of k) v.seen from to (word_in from v.mine)
 writer_may k w v from to is may = subst (λ (z : View). MayDouble (layout_of k) z.seen from to (word_in from z.mine)) (sym is) may
 
 -- what the writer keeps when a move has ended
 abbrev pub Ended : (v w : View) (ways free unlinked : List ℕ) (seen : List Sighting) → Type 0
-Ended v w ways free unlinked seen = IsWriter w ways free unlinked × AreSightings w unlinked seen × IsNoneLost w free unlinked × IsSettled w.mine × (w.shape ≡ v.shape)
+Ended v w ways free unlinked seen =
+    IsWriter w ways free unlinked × AreSightings w unlinked seen × IsNoneLost w free unlinked × IsSettled w.mine × (w.shape ≡ v.shape)
 
 pub move_ended : (k : TableShape) (v u x w : View) (ways new free unlinked : List ℕ) (seen : List Sighting) (from to z : ℕ) (ns : List Move) →
     IsWriter v ways free unlinked → IsNoneLost v free unlinked → v.shape ≡ k → from < ways_of k → to < ways_of k →

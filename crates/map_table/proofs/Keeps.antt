@@ -14,7 +14,8 @@ use Rattle.map_table_laws.specs.declared.moves.Move.{Move}
 use Rattle.map_table_laws.specs.declared.moves.Move.TheVariants.{Open, Close, Learn, Load, Store, Put, Double, Scan}
 use Rattle.table_words.specs.declared.view.TableShape.{TableShape}
 use Rattle.table_words.specs.declared.view.View.{View}
-use Rattle.map_table_laws.specs.History.{moves_of, inside, section_word, word_in, IsLawful, Holds, IsSpare, IsOpenTo, Settles, MayDo, MayDouble, MayLink, IsReader, word_at}
+use Rattle.map_table_laws.specs.History.{moves_of, inside, section_word, word_in, IsLawful, Holds, IsSpare, IsOpenTo}
+use Rattle.map_table_laws.specs.History.{Settles, MayDo, MayDouble, MayLink, IsReader, word_at}
 use Rattle.map_table.specs.Hashes.{layout_of}
 use Rattle.map_table.specs.Limits.{section_stride}
 use Rattle.map_table.specs.Law.{ways_from, ways_of, width_of, count_of, Fits, Kept, writer_of, dealt, reader_of, did}

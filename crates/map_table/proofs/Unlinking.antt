@@ -60,7 +60,8 @@ module _ (v : View) (ways free unlinked : List ℕ) (way element : ℕ) (b : IsW
       (all_to (IsUnlinked v) (λ x. x < v.shape.elements) unlinked (λ e f. f.0) b.are_unlinked) b.once not_free not_unlinked
 
   alone : IsSettled v.mine → (other : ℕ) → way ≢ other → Names (word_in other v.mine) element → ⊥
-  alone none other ne there = ne (one_way (layout_of v.shape) v.seen b.known.0 (subst IsSettled (sym (own_list v b.me b.known)) none) way other element seen_names
+  alone none other ne there =
+      ne (one_way (layout_of v.shape) v.seen b.known.0 (subst IsSettled (sym (own_list v b.me b.known)) none) way other element seen_names
       (subst (λ z. Names (word_in other z) element) (sym (own_list v b.me b.known)) there))
 
   -- after its way was given another word, it's unlinked
@@ -87,7 +88,8 @@ module _ (v : View) (ways free unlinked : List ℕ) (way element : ℕ) (b : IsW
         (λ ne. let z : one_for e element ≡ 0 = none_for e element ne in omega (arith, t, o, z));
   }
 
-  pub emptied_writer : IsSettled v.mine → (w : View) → Went v (Put way 0 ∷ v.mine) w → way < ways_of v.shape → IsWriter w (set ways way 0) free (unlinked ++ element ∷ [])
+  pub emptied_writer : IsSettled v.mine → (w : View) → Went v (Put way 0 ∷ v.mine) w → way < ways_of v.shape →
+      IsWriter w (set ways way 0) free (unlinked ++ element ∷ [])
   emptied_writer settled w g low = unlinked_writer settled w 0 (set ways way 0) g (nothing_named element) not_free
       (put_writer v w way 0 g ways free unlinked b low (empty_names_none free) (empty_names_none unlinked))
 
@@ -154,7 +156,8 @@ replaced_writer v u w ways old free unlinked element gone way word n from m key 
     (way, subst (λ z. Names (word_in way v.mine) z) (one_name word gone element same names) there) in
     let linked = linked_writer v u w ways old free unlinked element way word n from m key value ks vs b is fk fv g h low names in (
       unlinked_writer u ways free unlinked way gone f.0 now
-          (quiet_settled v u (vs ++ ks) (quiet_append vs ks (fills_quiet element from m value vs fv) (fills_quiet element 0 n key ks fk)) g settled) w word (set ways way word) h not (not_free u ways free unlinked way gone f.0 now) linked,
+          (quiet_settled v u (vs ++ ks) (quiet_append vs ks (fills_quiet element from m value vs fv) (fills_quiet element 0 n key ks fk)) g settled)
+          w word (set ways way word) h not (not_free u ways free unlinked way gone f.0 now) linked,
       subst (λ (k : TableShape). length free + length unlinked < k.elements) (went_shape v u ((vs ++ ks) ++ v.mine) g)
           (space u ways free unlinked way gone f.0 now),
     )

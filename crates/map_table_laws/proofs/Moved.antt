@@ -8,8 +8,8 @@ use Rattle.map_table_laws.specs.declared.moves.Move.TheVariants.{Open, Close, Le
 use Rattle.map_table_laws.specs.Layout.{Layout, Names, bucket_of}
 use Rattle.map_table_laws.specs.History.{moves_of, inside, section_word, word_in, IsMoving, IsSettled, since_double, HavePassed, IsReader, MayDo, IsLawful}
 use Rattle.map_table_laws.specs.Lookups.{OnlySearches, AnswersLookup}
-use Rattle.map_table_laws.specs.Found.{Links, IsLinkedAs, Throughout, StaysInside, StaysFound}
-use Rattle.map_table_laws.specs.Moved.{OnlyMoves}
+use Rattle.map_table_laws.specs.Found.{Links, IsLinkedAs, Throughout, StaysInside, StaysFound, BearsKey, IsLinkedUnder}
+use Rattle.map_table_laws.specs.Moved.{OnlyMoves, Keeps, OnlyKeeps}
 use Rattle.map_table_laws.specs.Once.{AreLinkedOnce, PutsNoKeyTwice, PutNoKeyTwice}
 use Rattle.map_table_laws.specs.Scanned.{FoundOther, FoundGone}
 use Rattle.map_table_laws.proofs.Steps.{own, others, key_step, nothing_named}
@@ -152,10 +152,21 @@ one_move from to f t (Put w x ∷ ms) m n = absurd m
 one_move from to f t (Double v w x ∷ ms) m n = (sym m.0 ∙ n.0, sym m.1 ∙ n.1)
 one_move from to f t (Scan r x ∷ ms) m n = one_move from to f t ms m n
 
--- An element that stays linked, as a reader in a section finds it.
-module _ (k : Layout) (table : ℕ) (key : List ℕ) (element who : ℕ) (reader : IsReader k who) where
-  abbrev At : ℕ → History → Type 0
-  At way es = Links k table key way element es
+-- What stands in a way stays where the step leaves the way's word, stands in each way with that word, and in no empty one.
+record IsStanding (k : Layout) (At : ℕ → History → Type 0) : Type 0 where
+  still : (e : ℕ × Move) (es : History) (way : ℕ) → MayDo k es e.0 e.1 → word_in way (moves_of 0 (e ∷ es)) ≡ word_in way (moves_of 0 es) → At way es →
+      At way (e ∷ es)
+  same_word : (es : History) (one other : ℕ) → word_in one (moves_of 0 es) ≡ word_in other (moves_of 0 es) → At one es → At other es
+  some : (es : History) (way : ℕ) → word_in way (moves_of 0 es) ≡ 0 → At way es → ⊥
+
+-- What stays linked, as a reader in a section finds it. So is told what a put does that ends no move, by what is known of the step.
+module _ (k : Layout) (At : ℕ → History → Type 0) (Known : ℕ × Move → History → Type 0) (i : IsStanding k At) (who : ℕ) (reader : IsReader k who)
+    (put_over : (e : ℕ × Move) (es : History) → IsLawful k (e ∷ es) → (c : Changed k e es) → Putting k e es c.way c.word → IsSettled (moves_of 0 es) →
+    (way : ℕ) → c.way ≡ way → At way es → Known e es → At way (e ∷ es)) where
+  -- it is known of each step
+  abbrev AllKnown : History → History → Type 0
+  AllKnown [] early = Unit {0}
+  AllKnown (e ∷ late) early = Known e (late ++ early) × AllKnown late early
 
   -- It stood in one way all the time. If it is moved now, that is the first way of the move; and in the second it stood
   -- all the time as well, or the move began meanwhile.
@@ -170,18 +181,10 @@ module _ (k : Layout) (table : ℕ) (key : List ℕ) (element who : ℕ) (reader
   at_last_way way (e ∷ late) early t = t.0
 
   -- a way whose word a step leaves
-  still : (e : ℕ × Move) (es : History) (way : ℕ) → MayDo k es e.0 e.1 → word_in way (moves_of 0 (e ∷ es)) ≡ word_in way (moves_of 0 es) → At way es →
-      At way (e ∷ es)
-  still e es way may same l = record {
-    names = subst (λ z. Names z element) (sym same) l.names;
-    table_is = l.table_is;
-    key_is = key_step k es e element may (λ spare. spare.0 (way, l.names)) ∙ l.key_is;
-  }
-
   still_all : (e : ℕ × Move) (late early : History) (way : ℕ) → MayDo k (late ++ early) e.0 e.1 →
       word_in way (moves_of 0 (e ∷ (late ++ early))) ≡ word_in way (moves_of 0 (late ++ early)) → Throughout (At way) late early →
       Throughout (At way) (e ∷ late) early
-  still_all e late early way may same t = (still e (late ++ early) way may same (at_last_way way late early t), t)
+  still_all e late early way may same t = (i.still e (late ++ early) way may same (at_last_way way late early t), t)
 
   -- at first
   in_second : (early : History) → IsLawful k early → (way from to : ℕ) → IsMoving from to (moves_of 0 early) → way ≢ to → At way early → Stood [] early
@@ -195,7 +198,7 @@ module _ (k : Layout) (table : ℕ) (key : List ℕ) (element who : ℕ) (reader
             let same : way ≡ f → word_in way (moves_of 0 early) ≡ word_in t (moves_of 0 early) = λ at_f.
             ap (λ z. word_in z (moves_of 0 early)) (at_f ∙ sym is.0) ∙ (m.at_from ∙ (sym m.at_to ∙ ap (λ z. word_in z (moves_of 0 early)) is.1)) in (
               λ at_t. ne (at_t ∙ sym is.1),
-              λ at_f. inl record { names = subst (λ z. Names z element) (same at_f) l.names; table_is = l.table_is; key_is = l.key_is },
+              λ at_f. inl (i.same_word early way t (same at_f) l),
             );
       }
 
@@ -206,7 +209,7 @@ module _ (k : Layout) (table : ℕ) (key : List ℕ) (element who : ℕ) (reader
       dite (ℕ_discrete way t.1)
       (λ at_to.
       let same : word_in way (moves_of 0 early) ≡ word_in t.0 (moves_of 0 early) = ap (λ z. word_in z (moves_of 0 early)) at_to ∙ (m.at_to ∙ sym m.at_from) in
-      in_second early lawful t.0 t.0 t.1 t.2 m.two record { names = subst (λ z. Names z element) same l.names; table_is = l.table_is; key_is = l.key_is })
+      in_second early lawful t.0 t.0 t.1 t.2 m.two (i.same_word early way t.0 same l))
       (λ ne. in_second early lawful way t.0 t.1 t.2 ne l))
       (λ (none : IsSettled (moves_of 0 early)). record { way = way; all = l; second = λ f t n. absurd (none f t n) })
       (moved_or_not (moves_of 0 early))
@@ -257,28 +260,23 @@ module _ (k : Layout) (table : ℕ) (key : List ℕ) (element who : ℕ) (reader
         (λ ne. stood_after c p s.way (λ is. ne (sym is ∙ at_from.0)) s.all))
         (p.settles from to moving).1
 
-    -- another word in the only way of the element would unlink it
-    put_over : (c : Changed k e before) → Putting k e before c.way c.word → IsSettled (moves_of 0 before) → c.way ≡ s.way →
-        IsLinkedAs k table key element (e ∷ before) → ⊥
-    put_over c p none here l =
-        let old = (at_last_way s.way late early s.all).names in
-        dite (ℕ_discrete c.way l.0)
-        (λ at_l. put_alone k before c.way c.word s.way element p.may (subst (λ z. Names z element) (here_at k e before c l.0 at_l) l.1.names) old)
-        (λ ne. ne (here ∙ sym (one_way k before lawful.1 none l.0 s.way element (subst (λ z. Names z element) (c.there l.0 ne) l.1.names) old)))
-
     put_stood : (c : Changed k e before) → Putting k e before c.way c.word → StaysInside (moves_of who late) → inside (moves_of who early) ≡ 1 →
-        IsLinkedAs k table key element (e ∷ before) → Stood (e ∷ late) early
-    put_stood c p inside_all one l = ⊎_elim
+        Known e before → Stood (e ∷ late) early
+    put_stood c p inside_all one known = ⊎_elim
         (λ (t : (from : ℕ) × (to : ℕ) × IsMoving from to (moves_of 0 before)). move_ended c p inside_all one t.0 t.1 t.2)
         (λ (none : IsSettled (moves_of 0 before)). dite (ℕ_discrete c.way s.way)
-        (λ here. absurd (put_over c p none here l))
+        (λ here. record {
+          way = s.way;
+          all = (put_over e before lawful c p none s.way here (at_last_way s.way late early s.all) known, s.all);
+          second = λ f t n. absurd (put_settled k e before c.way c.word p f t n);
+        })
         (λ ne. stood_after c p s.way ne s.all))
         (moved_or_not (moves_of 0 before))
 
     double_stood : (c : Changed k e before) → Doubling k e before c.way c.word → Stood (e ∷ late) early
     double_stood c d =
-        let ne : c.way ≢ s.way = λ is. nothing_named element (subst (λ z. Names z element)
-        (ap (λ z. word_in z (moves_of 0 before)) (sym is) ∙ d.may.empty) (at_last_way s.way late early s.all).names) in
+        let ne : c.way ≢ s.way = λ is. i.some before s.way (ap (λ z. word_in z (moves_of 0 before)) (sym is) ∙ d.may.empty)
+        (at_last_way s.way late early s.all) in
         record {
           way = s.way;
           all = still_all e late early s.way lawful.0 (c.there s.way ne) s.all;
@@ -288,29 +286,121 @@ module _ (k : Layout) (table : ℕ) (key : List ℕ) (element who : ℕ) (reader
         }
 
   stood : (late early : History) → IsLawful k (late ++ early) → StaysInside (moves_of who late) → inside (moves_of who early) ≡ 1 →
-      Throughout (IsLinkedAs k table key element) late early → Stood late early
-  stood [] early lawful s one t = at_first early lawful t.0 t.1
-  stood (e ∷ late) early lawful s one t =
+      (way : ℕ) → At way early → AllKnown late early → Stood late early
+  stood [] early lawful s one way l known = at_first early lawful way l
+  stood (e ∷ late) early lawful s one way l known =
       let rest = inside_rest who e late s in
-      let ih = stood late early lawful.1 rest one t.1 in
+      let ih = stood late early lawful.1 rest one way l known.1 in
       ⊎_elim
       (λ (q : Quiet e (late ++ early)). quiet_stood e late early lawful ih q)
       (λ (c : Changed k e (late ++ early)). ⊎_elim
-      (λ (p : Putting k e (late ++ early) c.way c.word). put_stood e late early lawful ih c p rest one t.0)
+      (λ (p : Putting k e (late ++ early) c.way c.word). put_stood e late early lawful ih c p rest one known.0)
       (λ (d : Doubling k e (late ++ early) c.way c.word). double_stood e late early lawful ih c d)
       c.how)
       (step k e (late ++ early) lawful.0)
 
-  under_all : (way : ℕ) (late early : History) → Throughout (At way) late early → StaysFound k table key way late early
+  -- so it stood in one way all the time
+  stays_in_one : (late early : History) → IsLawful k (late ++ early) → StaysInside (moves_of who late) → inside (moves_of who early) ≡ 1 →
+      (way : ℕ) → At way early → AllKnown late early → (w : ℕ) × Throughout (At w) late early
+  stays_in_one late early lawful s one way l known = let all = stood late early lawful s one way l known in (all.way, all.all)
+
+-- an element that stays linked
+module _ (k : Layout) (table : ℕ) (key : List ℕ) (element who : ℕ) (reader : IsReader k who) where
+  abbrev ElementAt : ℕ → History → Type 0
+  ElementAt way es = Links k table key way element es
+
+  abbrev LinkedAfter : ℕ × Move → History → Type 0
+  LinkedAfter e es = IsLinkedAs k table key element (e ∷ es)
+
+  element_stands : IsStanding k ElementAt
+  element_stands = record {
+    still = λ e es way may same l. record {
+      names = subst (λ z. Names z element) (sym same) l.names;
+      table_is = l.table_is;
+      key_is = key_step k es e element may (λ spare. spare.0 (way, l.names)) ∙ l.key_is;
+    };
+    same_word = λ es one other same l. record { names = subst (λ z. Names z element) same l.names; table_is = l.table_is; key_is = l.key_is };
+    some = λ es way none l. nothing_named element (subst (λ z. Names z element) none l.names);
+  }
+
+  -- another word in its only way would unlink it
+  element_over : (e : ℕ × Move) (es : History) → IsLawful k (e ∷ es) → (c : Changed k e es) → Putting k e es c.way c.word → IsSettled (moves_of 0 es) →
+      (way : ℕ) → c.way ≡ way → ElementAt way es → LinkedAfter e es → ElementAt way (e ∷ es)
+  element_over e es lawful c p none way here old l = absurd (dite (ℕ_discrete c.way l.0)
+      (λ at_l. put_alone k es c.way c.word way element p.may (subst (λ z. Names z element) (here_at k e es c l.0 at_l) l.1.names) old.names)
+      (λ ne. ne (here ∙ sym (one_way k es lawful.1 none l.0 way element (subst (λ z. Names z element) (c.there l.0 ne) l.1.names) old.names))))
+
+  first_known : (late early : History) → Throughout (IsLinkedAs k table key element) late early → IsLinkedAs k table key element early
+  first_known [] early t = t
+  first_known (e ∷ late) early t = first_known late early t.1
+
+  all_known : (late early : History) → Throughout (IsLinkedAs k table key element) late early →
+      AllKnown k ElementAt LinkedAfter element_stands who reader element_over late early
+  all_known [] early t = tt
+  all_known (e ∷ late) early t = (t.0, all_known late early t.1)
+
+  under_all : (way : ℕ) (late early : History) → Throughout (ElementAt way) late early → StaysFound k table key way late early
   under_all way [] early t = (element, t)
   under_all way (e ∷ late) early t = ((element, t.0), under_all way late early t.1)
 
-  -- so the key stays in one way
+  -- so its key stays in one way
   pub stays_somewhere : (late early : History) → IsLawful k (late ++ early) → StaysInside (moves_of who late) → inside (moves_of who early) ≡ 1 →
       Throughout (IsLinkedAs k table key element) late early → (way : ℕ) × StaysFound k table key way late early
   stays_somewhere late early lawful s one t =
-      let all = stood late early lawful s one t in
-      (all.way, under_all all.way late early all.all)
+      let first = first_known late early t in
+      let all = stays_in_one k ElementAt LinkedAfter element_stands who reader element_over late early lawful s one first.0 first.1 (all_known late early t) in
+      (all.0, under_all all.0 late early all.1)
+
+-- a key whose elements are only replaced, and moved
+module _ (k : Layout) (table : ℕ) (key : List ℕ) (who : ℕ) (reader : IsReader k who) where
+  abbrev KeyAt : ℕ → History → Type 0
+  KeyAt way es = IsLinkedUnder k table key way es
+
+  abbrev KeyKept : ℕ × Move → History → Type 0
+  KeyKept e es = Keeps k table key es e.1
+
+  key_stands : IsStanding k KeyAt
+  key_stands = record {
+    still = λ e es way may same l. (
+      l.0,
+      record {
+        names = subst (λ z. Names z l.0) (sym same) l.1.names;
+        table_is = l.1.table_is;
+        key_is = key_step k es e l.0 may (λ spare. spare.0 (way, l.1.names)) ∙ l.1.key_is;
+      },
+    );
+    same_word = λ es one other same l.
+        (l.0, record { names = subst (λ z. Names z l.0) same l.1.names; table_is = l.1.table_is; key_is = l.1.key_is });
+    some = λ es way none l. nothing_named l.0 (subst (λ z. Names z l.0) none l.1.names);
+  }
+
+  -- another word in its way has the key
+  key_over : (e : ℕ × Move) (es : History) → IsLawful k (e ∷ es) → (c : Changed k e es) → Putting k e es c.way c.word → IsSettled (moves_of 0 es) →
+      (way : ℕ) → c.way ≡ way → KeyAt way es → KeyKept e es → KeyAt way (e ∷ es)
+  key_over e es lawful c p none way here old known =
+      let keeps : Keeps k table key es (Put c.way c.word) = subst (Keeps k table key es) p.is known in
+      ⊎_elim
+      (λ (not : IsLinkedUnder k table key c.way es → ⊥). absurd (not (subst (λ z. IsLinkedUnder k table key z es) (sym here) old)))
+      (λ (t : BearsKey k table key es c.word ⊎ ((from : ℕ) × (to : ℕ) × IsMoving from to (moves_of 0 es))). ⊎_elim
+      (λ (b : BearsKey k table key es c.word). (
+        b.0,
+        record {
+          names = subst (λ z. Names z b.0) (sym (here_at k e es c way here)) b.1;
+          table_is = b.2;
+          key_is = c.keys b.0 ∙ b.3;
+        },
+      ))
+      (λ (m : (from : ℕ) × (to : ℕ) × IsMoving from to (moves_of 0 es)). absurd (none m.0 m.1 m.2)) t)
+      keeps
+
+  all_kept : (late early : History) → OnlyKeeps k table key late early → AllKnown k KeyAt KeyKept key_stands who reader key_over late early
+  all_kept [] early o = tt
+  all_kept (e ∷ late) early o = (o.0, all_kept late early o.1)
+
+  pub kept_somewhere : (late early : History) → IsLawful k (late ++ early) → StaysInside (moves_of who late) → inside (moves_of who early) ≡ 1 →
+      (way : ℕ) → IsLinkedUnder k table key way early → OnlyKeeps k table key late early → (w : ℕ) × StaysFound k table key w late early
+  kept_somewhere late early lawful s one way l o =
+      stays_in_one k KeyAt KeyKept key_stands who reader key_over late early lawful s one way l (all_kept late early o)
 
 bucket_back : (bucket : ℕ) → bucket_of (bucket * 8) ≡ bucket
 bucket_back bucket = omega arith
@@ -325,6 +415,18 @@ null_refutes_elements k late early lawful table key who element only null t =
     let looked = refuted_looked k table key first (moves_of who late) (null first (inl (bucket_back (k.first table key)))) in
     let seen = was_inside k who first late early lawful s looked in
     let w = stays_somewhere k table key element who seen.0 late early lawful s seen.1 t in
+    stays_found k table key who w.0 late early lawful only null w.1
+
+-- nor is a key that is only replaced and moved
+pub null_refutes_kept : (k : Layout) (late early : History) → IsLawful k (late ++ early) → (table : ℕ) (key : List ℕ) (who way : ℕ) →
+    IsLinkedUnder k table key way early → OnlyKeeps k table key late early → OnlySearches k table (moves_of who late) →
+    AnswersLookup k table key (moves_of who late) None → ⊥
+null_refutes_kept k late early lawful table key who way l o only null =
+    let first = k.first table key * 8 in
+    let s = searches_inside k table (moves_of who late) only in
+    let looked = refuted_looked k table key first (moves_of who late) (null first (inl (bucket_back (k.first table key)))) in
+    let seen = was_inside k who first late early lawful s looked in
+    let w = kept_somewhere k table key who seen.0 late early lawful s seen.1 way l o in
     stays_found k table key who w.0 late early lawful only null w.1
 
 -- a word is not written in a second way once the first was emptied

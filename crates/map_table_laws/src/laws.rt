@@ -6,7 +6,7 @@ ghost use Rattle.map_table_laws.specs.Layout.{Layout, IsCandidate, IsApart, Name
 ghost use Rattle.map_table_laws.specs.History.{moves_of, with_writer, inside, opened, most_sections, section_word, word_in, word_at, key_of, generation, IsLinked, IsSettled, AreOneOrMoved, Holds, FoundSince, Cleared, IsSpare, IsReader, IsLawful};
 ghost use Rattle.map_table_laws.specs.Lookups.{OnlySearches, AnswersLookup, FoundIn, HadWord};
 ghost use Rattle.map_table_laws.specs.Found.{IsLinkedUnder, IsLinkedAs, Sometime, Throughout, StaysFound, StaysInside, StaysUnlinked, OnlyReplaces};
-ghost use Rattle.map_table_laws.specs.Moved.{OnlyMoves};
+ghost use Rattle.map_table_laws.specs.Moved.{OnlyMoves, OnlyKeeps};
 ghost use Rattle.map_table_laws.specs.Once.{AreLinkedOnce, PutNoKeyTwice};
 ghost use Rattle.map_table_laws.specs.Scanned.{OnlyScans, AllOutside};
 ghost use Rattle.map_table_laws.specs.Whole.{OnlyWriterStores};
@@ -193,6 +193,15 @@ pub fn moved_elements_keep_a_way()
         (table : ℕ) (key : List ℕ) (who element : ℕ) → IsReader k who → inside (moves_of who early) ≡ 1 →
         StaysInside (moves_of who late) → Throughout (IsLinkedAs k table key element) late early →
         (way : ℕ) × StaysFound k table key way late early }
+{}
+
+/// In every lawful history no lookup answers null to a key that was linked before its first step, while the writer only
+/// replaces and moves what is linked under the key.
+pub fn kept_keys_are_found()
+    ensures { (k : Layout) (late early : List (ℕ × Move)) → IsLawful k (late ++ early) →
+        (table : ℕ) (key : List ℕ) (who way : ℕ) → IsLinkedUnder k table key way early →
+        OnlyKeeps k table key late early → OnlySearches k table (moves_of who late) →
+        AnswersLookup k table key (moves_of who late) None → ⊥ }
 {}
 
 /// In every lawful history each linked element stays linked while the writer only moves, after each of these steps.

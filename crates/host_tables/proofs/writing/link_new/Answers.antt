@@ -1,11 +1,11 @@
-use Rattle.std.proofs.Common.{◌≡◌, ◌≤◌, ◌∙◌, ◌++◌, ◌∷◌, [], ℕ, List, length, refl, sym, ap, subst, inr, Some, None}
+use Rattle.std.proofs.Common.{◌≤◌, ◌∙◌, ℕ, List, length, refl, sym, ap, subst, inr, None}
 use Rattle.map_table_laws.specs.Once.{AreLinkedOnce}
 use Rattle.map_table.specs.Hashes.{layout_of}
 use Rattle.map_table.specs.Held.{TableView}
 use Rattle.map_table.specs.Moving.{IsSomeInside, StayLinked}
 use Rattle.map_table.specs.Writing.{WriterView, AreFull}
 use Rattle.host_tables.specs.declared.fault.SetFault.TheVariants.{Held, NoWay}
-use Rattle.host_tables.specs.Tables.{Finds, IsNoRoom, IsTidy, Links, LinksNew, MakesWay, Moves}
+use Rattle.host_tables.specs.Tables.{Finds, IsNoRoom, IsTidy, Moves}
 use Rattle.host_tables.proofs.Tidy.{full_so, links_so, links_tidy, moved_nowhere, moved_tidy, moves_so}
 use Rattle.host_tables.proofs.writing.link_new.Goals as goal
 
@@ -85,8 +85,11 @@ returns-clause-put c =
     let l = e.steps in
     record {
       ready = w;
-      way = inr (full, subst (λ (z : WriterView). Moves z w) c.in_default.ensures.unchanged
-          (moves_so c.args.table.now v w table s.0 s.1 s.2 m.free m.unlinked m.stay));
+      way = inr (
+        full,
+        subst (λ (z : WriterView). Moves z w) c.in_default.ensures.unchanged
+            (moves_so c.args.table.now v w table s.0 s.1 s.2 m.free m.unlinked m.stay),
+      );
       links = links_so c.args.table.now w c.link-2.new.self (m.table ∙ table) c.args.key.now c.args.value.now c.in-Some-link.field-0 l.0 l.1 e.empty l.2 l.3 l.4
           c.link-2.ensures.unlinked e.under;
     }

@@ -24,6 +24,7 @@ returns-then-replace-clause-tidy c tidy =
       puts = s.4;
       was = u.1;
       unlinked = u.2;
-      stays = subst (λ (t : TableView). StaysIn t.shape c.args.key.now c.args.way v.view.seen c.replace.new.self.view.seen) (sym c.requires.table) (e.stays yes);
+      stays = subst (λ (t : TableView). StaysIn t.shape c.args.key.now c.args.way v.view.seen c.replace.new.self.view.seen)
+          (sym c.requires.table) (e.stays yes);
     } in
     replaces_tidy v c.replace.new.self c.args.key.now c.args.value.now w.me w.shape w.known c.args.way finds r tidy

@@ -97,8 +97,10 @@ returns-in_default-find_move-clause-full c = λ full.
     let words : (x : ℕ) → x < ways_of k → slice_index c.self.inside.ways.items x ≡ word_in x w.mine = λ x low.
     i.0.are_ways x (subst (λ (t : TableShape). x < ways_of t) (sym shape) low) ∙ sym (same_word v w s.0 (searches_quiet (layout_of k) 0 s.0 s.1) s.2 x) in
     let some : (x : ℕ) → slice_index c.as_slice-ways.result.now x ≢ 0 → word_in x w.mine ≢ 0 = λ x not.
-    words_full w c.self.inside.ways.items (ways_of k) count words x (λ none. not (ap (λ (xs : List ℕ). slice_index xs x) c.as_slice-ways.ensures.value ∙ none)) in
-    let both : (way : ℕ) → IsCandidate (layout_of w.shape) 0 key way → IsOfBoth c.candidates_of-candidates.result.first c.candidates_of-candidates.result.second way =
+    words_full w c.self.inside.ways.items (ways_of k) count words x
+    (λ none. not (ap (λ (xs : List ℕ). slice_index xs x) c.as_slice-ways.ensures.value ∙ none)) in
+    let both : (way : ℕ) → IsCandidate (layout_of w.shape) 0 key way →
+    IsOfBoth c.candidates_of-candidates.result.first c.candidates_of-candidates.result.second way =
     λ way candidate. candidate_both k key _ _ way (e.first ∙ ap (λ (k : TableShape). first_bucket k key * 8) same)
     (e.second ∙ ap (λ (k : TableShape). second_bucket k key * 8) same) (subst (λ (t : TableShape). IsCandidate (layout_of t) 0 key way) w_shape candidate) in (
       λ way candidate. some way (λ none. c.in_default.ensures.none refl way (both way candidate)

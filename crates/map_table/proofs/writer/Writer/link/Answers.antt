@@ -61,7 +61,8 @@ pub put_word-requires-clause-settles : goal.put_word-requires-clause-settles
 put_word-requires-clause-settles c =
     let f = c.fill_element.ensures in
     let quiet = quiet_append f.steps.1 f.steps.0 (fills_quiet _ _ _ _ f.steps.1 f.steps.3) (fills_quiet _ _ _ _ f.steps.0 f.steps.2) in
-    settles_none _ _ _ c.fill_element.new.seat.me.0.mine (quiet_settled c.self.inside.seat.me.0 c.fill_element.new.seat.me.0 (f.steps.1 ++ f.steps.0) quiet f.steps.4 c.self.invariant.6)
+    settles_none _ _ _ c.fill_element.new.seat.me.0.mine
+    (quiet_settled c.self.inside.seat.me.0 c.fill_element.new.seat.me.0 (f.steps.1 ++ f.steps.0) quiet f.steps.4 c.self.invariant.6)
 
 pub invariant_of-self-2 : goal.invariant_of-self-2
 invariant_of-self-2 c =

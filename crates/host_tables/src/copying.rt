@@ -1,0 +1,118 @@
+//! How the keys of one table are copied into another.
+ghost use Rattle.std.specs.Prelude.{◌≡◌, ◌<◌, ◌≤◌, ℕ, List, OnOk, IfOk, length, true, false};
+ghost use Rattle.map_table.specs.Law.{ways_of};
+ghost use Rattle.map_table.specs.Values.{stored_of};
+ghost use Rattle.map_table.specs.Writing.{WriterView};
+ghost use Rattle.host_tables.specs.Copies.{AreAlike, Copies, CopiesWay, IsThere, LoadsValues};
+ghost use Rattle.host_tables.specs.Tables.{IsTidy, Sets};
+ghost use Rattle.host_tables.specs.Walks.{LoadsKey};
+ghost use Rattle.host_tables.specs.declared.fault.How.TheVariants.{Any};
+ghost use Rattle.map_table_laws.specs.History.{word_in};
+
+use crate::fault::SetFault;
+use crate::writing::{seek, set_found};
+use map_table::{BUCKET_WAYS, MAX_READERS, MAX_WORDS, MapTable, Writer};
+
+/// The most words that all values of an element have.
+const MAX_STORED: usize = MAX_WORDS * MAX_READERS;
+
+/// Sets a key, whether it is linked or not.
+fn set_any(
+    table: &MapTable,
+    writer: &mut Writer,
+    key: &[u64],
+    value: &[u64],
+) -> Result<(), SetFault>
+    requires table { writer.old.table ≡ table.now }
+    requires key { length key.now ≡ table.now.shape.key_words }
+    requires value { length value.now ≡ stored_of table.now.shape }
+    ensures table { writer.new.table ≡ writer.old.table }
+    ensures set { OnOk result (Sets key.now value.now Any writer.old writer.new) }
+    ensures tidy { IsTidy writer.old → IsTidy writer.new }
+{
+    let found = seek(table, writer, key);
+    set_found(table, writer, found, key, value)
+}
+
+/// Loads the key of a way, and the words of all values of its element. False where the way is empty, and then nothing is done.
+fn load_way(
+    table: &MapTable,
+    writer: &mut Writer,
+    way: usize,
+    key: &mut [u64],
+    words: &mut [u64],
+) -> bool
+    requires table { writer.old.table ≡ table.now }
+    requires way { way < ways_of table.now.shape }
+    requires key { length key.old ≡ table.now.shape.key_words }
+    requires words { length words.old ≡ stored_of table.now.shape }
+    ensures table { writer.new.table ≡ writer.old.table }
+    ensures loads { result ≡ true → (met : WriterView) × LoadsKey way key.new writer.old met
+        × LoadsValues way words.new met writer.new }
+    ensures none { result ≡ false → (word_in way writer.old.view.mine ≡ 0) × (writer.new ≡ writer.old) }
+    ensures key_count { length key.new ≡ length key.old }
+    ensures word_count { length words.new ≡ length words.old }
+    ensures tidy { IsTidy writer.old → IsTidy writer.new }
+{
+    writer.is_writers();
+    if !writer.key_at(table, way, key) {
+        return false;
+    }
+    writer.is_writers();
+    writer.value_at(table, way, words)
+}
+
+/// Copies the key of a way, with the values of its element: whether there is one.
+fn copy_way(
+    table: &MapTable,
+    writer: &mut Writer,
+    way: usize,
+    other: &MapTable,
+    other_writer: &mut Writer,
+) -> Result<bool, SetFault>
+    requires table { writer.old.table ≡ table.now }
+    requires other { other_writer.old.table ≡ other.now }
+    requires alike { AreAlike table.now.shape other.now.shape }
+    requires way { way < ways_of table.now.shape }
+    ensures table { writer.new.table ≡ writer.old.table }
+    ensures other { other_writer.new.table ≡ other_writer.old.table }
+    ensures copies { OnOk result (CopiesWay way writer.old other_writer.old writer.new other_writer.new) }
+    ensures tidy { IsTidy writer.old → IsTidy writer.new }
+    ensures other_tidy { IsTidy other_writer.old → IsTidy other_writer.new }
+{
+    let shape = table.shape();
+    let mut key_words = [0; MAX_WORDS];
+    let mut value_words = [0; MAX_STORED];
+    let key = &mut key_words[..shape.key_words];
+    let words = &mut value_words[..shape.stored_words()];
+    if !load_way(table, writer, way, key, words) {
+        return Ok(false);
+    }
+    set_any(other, other_writer, key, words)?;
+    Ok(true)
+}
+
+/// Copies all keys: how many.
+pub(crate) fn copy_all(
+    table: &MapTable,
+    writer: &mut Writer,
+    other: &MapTable,
+    other_writer: &mut Writer,
+) -> Result<usize, SetFault>
+    requires table { writer.old.table ≡ table.now }
+    requires other { other_writer.old.table ≡ other.now }
+    requires alike { AreAlike table.now.shape other.now.shape }
+    ensures table { writer.new.table ≡ writer.old.table }
+    ensures other { other_writer.new.table ≡ other_writer.old.table }
+    ensures copies { OnOk result (Copies (ways_of table.now.shape) writer.old other_writer.old writer.new other_writer.new) }
+    ensures tidy { IsTidy writer.old → IsTidy writer.new }
+    ensures other_tidy { IsTidy other_writer.old → IsTidy other_writer.new }
+{
+    let mut count = 0;
+    for way in 0..table.shape().buckets * BUCKET_WAYS {
+        if copy_way(table, writer, way, other, other_writer)? {
+            count += 1;
+        }
+    }
+    Ok(count)
+}
