@@ -8,6 +8,9 @@
    a number of its reader, which is to be one more than at its last run. Of the 88 places of each table some 80 are taken, so that
    elements move beside the readers.
 
+   The first table grows: the writer copies it into one twice as large, and from then on puts and removes keys in both, first in the
+   larger one. Each reader changes over between two runs. When all have, the old table is closed.
+
    It goes rounds, each with new tables. In one the sums are those of the readers. In the next the tables are closed before the
    readers. Behind each there are as many blocks of memory as before. */
 #include <bpfrt.h>
@@ -21,7 +24,7 @@
 #include <time.h>
 #include <unistd.h>
 
-enum { READERS = 8, STAYING = 64, KEYS = 96, BUCKETS = 11, ELEMENTS = 512, SPAN = 32, CHANGES = 200, LONG = 1000, ROUND = 2 };
+enum { READERS = 8, STAYING = 64, KEYS = 96, BUCKETS = 11, ELEMENTS = 512, SPAN = 32, CHANGES = 200, LONG = 1000, ROUND = 2, GROWTHS = 3 };
 /* What a program answers: what the words differ by, at once or after a long time in its section, or the first word. */
 enum kind { DIFFERENCE, LATE_DIFFERENCE, FIRST, KINDS };
 
@@ -31,20 +34,22 @@ struct worker {
 	struct bpfrt_prog filter, count;
 	enum kind kind;
 	uint64_t seen[KEYS], counted[KEYS], runs;
-	pthread_mutex_t lock; /* of the next filter */
+	pthread_mutex_t lock; /* of what is next */
 	struct bpfrt_prog next;
 	enum kind next_kind;
+	struct bpfrt_reader larger;
 };
 
 extern long refuser_blocks;
 
 static struct worker workers[READERS];
-static struct bpfrt_table values, counters;
+static struct bpfrt_table values, counters, larger; /* `larger` is open while the first table grows */
+static unsigned growths;                            /* how often it has grown in this round */
 static pthread_barrier_t barrier;
 static atomic_int stops, ends;
 static _Atomic uint64_t begun[KEYS], put[KEYS]; /* the last n of a key that a call is to put, and that one has put */
 static unsigned char there[KEYS]; /* whether a key is linked in the first table */
-static uint64_t changes, filters, waits;
+static uint64_t changes, filters, waits, grown;
 static uint64_t held, full; /* keys that were not put, since a reader held up a move, or since none was possible */
 
 static void fail(const char *what, uint64_t number, uint64_t other)
@@ -156,7 +161,7 @@ static void run_count(struct worker *worker, uint64_t key)
 	worker->runs++;
 }
 
-/* Takes the next filter, where there is one, in the place of the reader's. */
+/* Takes the next filter and the reader of the larger table, where there are such, in the place of those that it has. */
 static void take_next(struct worker *worker)
 {
 	pthread_mutex_lock(&worker->lock);
@@ -165,6 +170,11 @@ static void take_next(struct worker *worker)
 		worker->filter = worker->next;
 		worker->kind = worker->next_kind;
 		worker->next = (struct bpfrt_prog){0};
+	}
+	if (worker->larger.state) {
+		done(bpfrt_reader_close(&worker->values), "bpfrt_reader_close");
+		worker->values = worker->larger;
+		worker->larger = (struct bpfrt_reader){0};
 	}
 	pthread_mutex_unlock(&worker->lock);
 }
@@ -219,8 +229,13 @@ static void put_value(uint64_t key, uint64_t flags)
 	uint64_t n = atomic_load(&put[key]) + 1;
 	const uint64_t value[2] = {n, n + key + 1};
 	atomic_store(&begun[key], n);
-	if (!update(&values, key, value, 2, flags))
+	if (larger.state && !update(&larger, key, value, 2, flags))
 		return;
+	if (!update(&values, key, value, 2, flags)) {
+		if (larger.state)
+			done(bpfrt_table_delete_elem(&larger, &key, 1), "bpfrt_table_delete_elem");
+		return;
+	}
 	there[key] = 1;
 	atomic_store(&put[key], n);
 	changes++;
@@ -240,6 +255,8 @@ static void change(void)
 		put_value(key, 1);
 	} else {
 		done(status, "bpfrt_table_delete_elem");
+		if (larger.state)
+			done(bpfrt_table_delete_elem(&larger, &key, 1), "bpfrt_table_delete_elem");
 		there[key] = 0;
 	}
 	status = bpfrt_table_delete_elem(&counters, &key, 1);
@@ -297,13 +314,45 @@ static void read_sum(uint64_t *sums)
 	sums[key] = sum;
 }
 
+static void open_values(struct bpfrt_table *table)
+{
+	const struct bpfrt_table_shape shape = {
+	    READERS, BUCKETS << growths, ELEMENTS << growths, 1, 2, BPFRT_TABLE_SHARED, random_number(), random_number()};
+	done(bpfrt_table_open(table, &shape), "bpfrt_table_open");
+}
+
+/* Begins to go over to a larger table. */
+static void grow(void)
+{
+	growths++;
+	open_values(&larger);
+	done(bpfrt_table_copy(&values, &larger), "bpfrt_table_copy");
+	for (int number = 0; number < READERS; number++) {
+		pthread_mutex_lock(&workers[number].lock);
+		done(bpfrt_table_reader(&workers[number].larger, &larger), "bpfrt_table_reader");
+		pthread_mutex_unlock(&workers[number].lock);
+	}
+}
+
+/* Closes the old table, where all readers have left it. */
+static void end_growth(void)
+{
+	struct bpfrt_table_stat stat;
+	done(bpfrt_table_stat(&values, &stat), "bpfrt_table_stat");
+	if (stat.seats)
+		return;
+	done(bpfrt_table_close(&values), "bpfrt_table_close");
+	values = larger;
+	larger = (struct bpfrt_table){0};
+	grown++;
+}
+
 static void open_tables(void)
 {
 	static const uint64_t zeros[READERS];
-	struct bpfrt_table_shape shape = {READERS, BUCKETS, ELEMENTS, 1, 2, BPFRT_TABLE_SHARED, random_number(), random_number()};
-	done(bpfrt_table_open(&values, &shape), "bpfrt_table_open");
-	shape.value_words = 1;
-	shape.values = BPFRT_TABLE_PER_READER;
+	const struct bpfrt_table_shape shape = {READERS, BUCKETS, ELEMENTS, 1, 1, BPFRT_TABLE_PER_READER, random_number(), random_number()};
+	growths = 0;
+	open_values(&values);
 	done(bpfrt_table_open(&counters, &shape), "bpfrt_table_open");
 	for (uint64_t key = 0; key < KEYS; key++) {
 		there[key] = 0;
@@ -336,6 +385,8 @@ static void open_workers(void)
 static void compare(void)
 {
 	struct bpfrt_table_stat stat;
+	if (larger.state)
+		end_growth();
 	for (uint64_t key = 0; key < STAYING; key++) {
 		uint64_t value[2], sum, counted = 0;
 		done(bpfrt_table_lookup_elem(&values, &key, 1, value, 2), "bpfrt_table_lookup_elem");
@@ -353,13 +404,15 @@ static void compare(void)
 	}
 	done(bpfrt_table_reclaim(&values), "bpfrt_table_reclaim");
 	done(bpfrt_table_stat(&values, &stat), "bpfrt_table_stat");
-	if (stat.free != ELEMENTS || stat.waiting != 0 || stat.seats != 0)
+	if (stat.free != (uint64_t)ELEMENTS << growths || larger.state || stat.waiting != 0 || stat.seats != 0)
 		fail("not each element is free:", stat.free, stat.waiting);
 }
 
 static void close_tables(void)
 {
 	done(bpfrt_table_close(&values), "bpfrt_table_close");
+	if (larger.state)
+		done(bpfrt_table_close(&larger), "bpfrt_table_close");
 	done(bpfrt_table_close(&counters), "bpfrt_table_close");
 }
 
@@ -370,7 +423,7 @@ static double now(void)
 	return (double)time.tv_sec + (double)time.tv_nsec / 1e9;
 }
 
-static void go_round(double end, int is_closed_first)
+static void go_round(double start, int is_closed_first)
 {
 	uint64_t sums[STAYING] = {0};
 	long blocks = refuser_blocks;
@@ -389,7 +442,11 @@ static void go_round(double end, int is_closed_first)
 			done(bpfrt_table_reclaim(&values), "bpfrt_table_reclaim");
 			done(bpfrt_table_reclaim(&counters), "bpfrt_table_reclaim");
 		}
-	} while (now() < end);
+		if (larger.state)
+			end_growth();
+		else if (growths < GROWTHS && now() > start + ROUND * (growths + 1.0) / (GROWTHS + 1))
+			grow();
+	} while (now() < start + ROUND);
 	if (is_closed_first) {
 		close_tables();
 		usleep(20000);
@@ -418,7 +475,7 @@ int main(int argc, char **argv)
 		done(-pthread_create(&workers[number].thread, NULL, work, &workers[number]), "pthread_create");
 	}
 	do
-		go_round(now() + ROUND, rounds++ % 2);
+		go_round(now(), rounds++ % 2);
 	while (now() - start < seconds);
 	atomic_store(&ends, 1);
 	pthread_barrier_wait(&barrier);
@@ -426,9 +483,9 @@ int main(int argc, char **argv)
 		pthread_join(workers[number].thread, NULL);
 		runs += workers[number].runs;
 	}
-	printf("soak: %llu rounds, %llu runs, %llu changes, %llu filters, no difference; the writer waited %llu times, and put %llu keys not since a "
-	       "reader held up a move, %llu since none was possible\n",
+	printf("soak: %llu rounds, %llu runs, %llu changes, %llu filters, %llu tables that grew, no difference\n"
+	       "the writer waited %llu times, and put %llu keys not since a reader held up a move, %llu since none was possible\n",
 	       (unsigned long long)rounds, (unsigned long long)runs, (unsigned long long)changes, (unsigned long long)filters,
-	       (unsigned long long)waits, (unsigned long long)held, (unsigned long long)full);
+	       (unsigned long long)grown, (unsigned long long)waits, (unsigned long long)held, (unsigned long long)full);
 	return 0;
 }

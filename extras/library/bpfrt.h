@@ -531,8 +531,8 @@ static inline int32_t bpfrt_table_delete_elem(struct bpfrt_table *table, const u
 
 /* Writes the key that comes next behind a key, where a null pointer stands for none: the first of all behind none, or behind one that
    is not there. The order is the table's own. A walk that gives each time the key that it met last meets each key that stays, and
-   once, unless a key that it gives was removed, or it was moved to make room. A key that is replaced stays. A new key that is put between two calls may move another
-   key, which the walk then may miss or meet twice; where the key that is given was moved, the walk goes on from its new place. -ENOENT
+   once, unless a key that it gives was removed. A key that is replaced stays. A new key that is put between two calls may move another
+   one, which the walk then may miss or meet twice; where the key that is given was moved, the walk goes on from its new place. -ENOENT
    where none comes behind; -EINVAL. */
 static inline int32_t bpfrt_table_get_next_key(struct bpfrt_table *table, const uint64_t *key, size_t key_words, uint64_t *next)
 {
