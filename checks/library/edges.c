@@ -342,7 +342,7 @@ static void has(struct bpfrt_table *table, uint64_t free, uint64_t waiting, uint
 
 static void closed_table(void)
 {
-	struct bpfrt_table table = {0};
+	struct bpfrt_table table = {0}, other = {0};
 	struct bpfrt_reader reader = {0};
 	struct bpfrt_prog prog = {0};
 	struct bpfrt_table_stat stat = {7, 7, 7};
@@ -356,6 +356,7 @@ static void closed_table(void)
 	IS(bpfrt_table_delete_elem(&table, &key, 1), -EBADF);
 	IS(bpfrt_table_get_next_key(&table, NULL, 1, &key), -EBADF);
 	IS(bpfrt_table_reclaim(&table), -EBADF);
+	IS(bpfrt_table_copy(&table, &other), -EBADF);
 	IS(bpfrt_table_stat(&table, &stat), -EBADF);
 	IS(bpfrt_reader_run(&reader, &prog, NULL, 0, &value), -EBADF);
 	IS(bpfrt_reader_run_packet(&reader, &prog, NULL, 0, 0, &value), -EBADF);
@@ -404,6 +405,8 @@ static void kinds_of_tables(void)
 	IS(bpfrt0_table_delete_elem((struct bpfrt_table *)&prog, &key, 1), -EBADF);
 	IS(bpfrt0_table_get_next_key((struct bpfrt_table *)&reader, 0, &key, 0, &value, 1), -EBADF);
 	IS(bpfrt0_table_reclaim((struct bpfrt_table *)&reader), -EBADF);
+	IS(bpfrt0_table_copy((struct bpfrt_table *)&prog, &table), -EBADF);
+	IS(bpfrt0_table_copy(&table, (struct bpfrt_table *)&reader), -EBADF);
 	IS(bpfrt0_table_stat((struct bpfrt_table *)&prog, &stat), -EBADF);
 	IS(bpfrt0_reader_run((struct bpfrt_reader *)&table, &prog, "", 0, &value), -EBADF);
 	IS(bpfrt0_reader_run((struct bpfrt_reader *)&prog, &prog, "", 0, &value), -EBADF);
@@ -628,6 +631,73 @@ static void full_bucket(void)
 	IS(walk(&table, times, sizeof times), 8);
 	IS(memcmp(times, "\1\1\1\0\1\1\1\1\1", sizeof times), 0);
 	IS(bpfrt_table_close(&table), 0);
+}
+
+/* A table that is full is copied into a larger one, beside a reader of each. The second table is not large enough, at first. */
+static void copied_table(void)
+{
+	struct bpfrt_table table = {0}, larger = {0}, other = {0};
+	struct bpfrt_reader old = {0}, reader = {0};
+	struct bpfrt_prog prog = {0};
+	unsigned char times[9];
+	uint64_t key, value = 30, found;
+	open_prog(&prog, counts, sizeof counts, 8, &words, 1);
+	open_table(&table, table_shape(1, 1, 10));
+	open_table(&larger, table_shape(1, 2, 5));
+	IS(bpfrt_table_reader(&old, &table), 0);
+	IS(bpfrt_table_reader(&reader, &larger), 0);
+	IS(bpfrt_table_copy(&table, &larger), 0);
+	IS(walk(&larger, times, sizeof times), 0);
+	for (key = 0; key < 8; key++)
+		IS(bpfrt_table_update_elem(&table, &key, 1, &value, 1, 1), 0);
+	key = 5;
+	IS(bpfrt_reader_run(&old, &prog, &key, 8, &found), 0);
+	IS(found, 31);
+	IS(bpfrt_table_copy(&table, &table), -EINVAL);
+	IS(bpfrt_table_copy(&table, &larger), -ENOSPC);
+	IS(walk(&larger, times, sizeof times), 4);
+	IS(walk(&table, times, sizeof times), 8);
+	IS(bpfrt_table_close(&larger), 0);
+	IS(bpfrt_table_copy(&table, &larger), -EBADF);
+	IS(bpfrt_reader_close(&reader), 0);
+	open_table(&larger, table_shape(1, 4, 17));
+	IS(bpfrt_table_reader(&reader, &larger), 0);
+	key = 8;
+	IS(bpfrt_table_update_elem(&table, &key, 1, &value, 1, 1), -E2BIG);
+	IS(bpfrt_table_update_elem(&larger, &key, 1, &value, 1, 1), 0);
+	IS(bpfrt_table_copy(&table, &larger), 0);
+	IS(walk(&larger, times, sizeof times), 9);
+	IS(memcmp(times, "\1\1\1\1\1\1\1\1\1", sizeof times), 0);
+	for (key = 0; key < 9; key++) {
+		IS(bpfrt_table_lookup_elem(&larger, &key, 1, &found, 1), 0);
+		IS(found, key == 5 ? 31 : 30);
+	}
+	key = 5;
+	IS(bpfrt_reader_run(&old, &prog, &key, 8, &found), 0);
+	IS(bpfrt_reader_close(&old), 0);
+	IS(bpfrt_reader_run(&reader, &prog, &key, 8, &found), 0);
+	IS(found, 32);
+	IS(bpfrt_table_copy(&table, &larger), 0);
+	IS(walk(&larger, times, sizeof times), 9);
+	IS(walk(&table, times, sizeof times), 8);
+	for (int number = 0; number < 3; number++) {
+		struct bpfrt_table_shape shape = table_shape(1, 4, 17);
+		shape.key_words += number == 0;
+		shape.value_words += number == 1;
+		if (number == 2) {
+			shape.readers = 2;
+			shape.values = BPFRT_TABLE_PER_READER;
+		}
+		open_table(&other, shape);
+		IS(bpfrt_table_copy(&larger, &other), -EINVAL);
+		IS(bpfrt_table_copy(&other, &larger), -EINVAL);
+		has(&other, 17, 0, shape.readers);
+		IS(bpfrt_table_close(&other), 0);
+	}
+	IS(bpfrt_table_close(&table), 0);
+	IS(bpfrt_table_close(&larger), 0);
+	IS(bpfrt_reader_close(&reader), 0);
+	IS(bpfrt_prog_close(&prog), 0);
 }
 
 static void words_of_tables(void)
@@ -1139,6 +1209,7 @@ int main(void)
 	one_key();
 	walks();
 	full_bucket();
+	copied_table();
 	words_of_tables();
 	seats();
 	runs_over_table();

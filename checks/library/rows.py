@@ -467,6 +467,13 @@ def tables(library, _):
     for is_last in (False, False, True):
         got = outcome(table.reader)
         yield "a further reader", got if is_last else got.split(".")[0], error(28) if is_last else "<bpfrt_ctypes"
+    larger, pairs = host.Table(one, 3, 9, 1, 1), host.Table(one, 3, 9, 2, 1)
+    larger.set([8], [1])
+    for method, *given, wanted in [
+            (table.copy_to, table, "ValueError [None, None, None]"), (table.copy_to, pairs, error(22)), (larger.copy_to, table, "None"),
+            (table.copy_to, larger, "None"), (larger.get, [5], "[51]"), (larger.get, [8], "[1]"), (table.get, [8], "[1]"),
+            (larger.reader().run, count, key, "52"), (table.get, [5], "[51]"), (pairs.stat, "(9, 0, 3)")]:
+        yield f"{method.__name__}{tuple(given)}", outcome(method, *given), wanted
     counters = host.Table(one, 4, 2, 1, 1, per_reader=True)
     counters.set([5], [1000])
     with ThreadPoolExecutor(4) as pool:

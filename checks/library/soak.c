@@ -337,10 +337,13 @@ static void grow(void)
 /* Closes the old table, where all readers have left it. */
 static void end_growth(void)
 {
-	struct bpfrt_table_stat stat;
-	done(bpfrt_table_stat(&values, &stat), "bpfrt_table_stat");
-	if (stat.seats)
-		return;
+	for (int number = 0; number < READERS; number++) {
+		pthread_mutex_lock(&workers[number].lock);
+		int is_old = workers[number].larger.state != 0;
+		pthread_mutex_unlock(&workers[number].lock);
+		if (is_old)
+			return;
+	}
 	done(bpfrt_table_close(&values), "bpfrt_table_close");
 	values = larger;
 	larger = (struct bpfrt_table){0};

@@ -540,8 +540,9 @@ class Table:
         """Sets each key in a larger table, with all its values."""
         if larger is self:
             raise ValueError("a table is not copied into itself")
-        with larger._turn:
-            self._on("table_copy", larger._held)
+        first, second = sorted((self, larger), key=id)
+        with first._turn, second._turn:
+            self._bpf._call("table_copy", self._held, larger._held.handle)
 
     def __iter__(self):
         """The keys, in the table's own order. The table may change meanwhile: each key that stays comes once, unless the one that came
