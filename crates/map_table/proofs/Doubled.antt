@@ -16,7 +16,7 @@ use Rattle.map_table_laws.specs.Moved.{OnlyMoves}
 use Rattle.map_table_laws.specs.Once.{AreLinkedOnce}
 use Rattle.map_table_laws.specs.Scanned.{OnlyScans}
 use Rattle.map_table_laws.proofs.Moved.{stays_linked, linked_early, moves_once}
-use Rattle.map_table_laws.proofs.Steps.{doubled_here, doubled_there, nothing_named}
+use Rattle.map_table_laws.proofs.Steps.{doubled_here, doubled_there, nothing_named, put_here, put_there}
 use Rattle.map_table_laws.proofs.Standing.{named, one_way}
 use Rattle.table_words.specs.declared.view.TableShape.{TableShape}
 use Rattle.table_words.specs.declared.view.View.{View}
@@ -25,7 +25,7 @@ use Rattle.table_words.specs.Ways.{IsOfBoth}
 use Rattle.map_table.specs.Hashes.{layout_of, first_bucket, second_bucket}
 use Rattle.map_table.specs.Law.{Gains, ways_of}
 use Rattle.map_table.specs.Held.{Went, IsKnown, IsSized}
-use Rattle.map_table.specs.Moving.{HaveGone, IsSomeInside, HasFullBuckets, IsNth, StayLinked}
+use Rattle.map_table.specs.Moving.{HaveGone, IsSomeInside, HasFullBuckets, IsNth, NoneCanMove, StandStill, StayLinked}
 use Rattle.map_table.specs.Sightings.{AreSightings}
 use Rattle.map_table.specs.Writing.{WriterView, IsFree, IsUnlinked, IsNoneLost, IsWriter}
 use Rattle.map_table.proofs.Filling.{own_list, tail_of, went_shape, went_me}
@@ -424,3 +424,25 @@ pub went_moves : (v w old : View) → v ≡ old → (k : Layout) (ns ms : List M
 went_moves v w old is k ns ms only g moves =
     let mine : w.mine ≡ ns ++ old.mine = went_mine v w (ns ++ v.mine) g ∙ ap (λ (z : View). ns ++ z.mine) is in
     only_moves_append ms ns old.mine (subst (OnlyMoves ms) mine moves) (searches_only_move k 0 ns old.mine only)
+
+-- a move that is taken back leaves each word
+pub still_again : (v u x w : View) (from to word : ℕ) (ns : List Move) → IsQuiet ns → word_in to v.mine ≡ 0 →
+    Went v (Double from to word ∷ v.mine) u → Went u (ns ++ u.mine) x → Went x (Put to 0 ∷ x.mine) w → StandStill v w
+still_again v u x w from to word ns quiet none g h j way =
+    let mine = ap (word_in way) (went_mine x w (Put to 0 ∷ x.mine) j) in
+    dite (ℕ_discrete to way)
+    (λ (is : to ≡ way). mine ∙ (put_here to way 0 x.mine is ∙ (sym none ∙ ap (λ z. word_in z v.mine) is)))
+    (λ other. mine ∙ (put_there to way 0 x.mine other ∙ (same_word u x ns quiet h way ∙
+    (ap (word_in way) (went_mine v u (Double from to word ∷ v.mine) g) ∙ doubled_there from to way word v.mine other))))
+
+-- an element that may be moved was one that could
+pub could_move : (k : TableShape) (v w : View) (ns : List Move) (key ways : List ℕ) (from to : ℕ) → v.shape ≡ k → v.me ≡ 0 → IsKnown v →
+    OnlySearches (layout_of k) 0 ns → Went v (ns ++ v.mine) w → IsCandidate (layout_of k) 0 key from → slice_index ways from ≡ word_in from v.mine →
+    MayDouble (layout_of k) w.seen from to (slice_index ways from) → NoneCanMove v key → ⊥
+could_move k v w ns key ways from to shape writer known only g candidate word may none =
+    let e = may.element in
+    let bucket : IsCandidate (layout_of k) 0 (key_of (layout_of k) e v.seen) to =
+    subst (λ z. IsCandidate (layout_of k) 0 z to) (key_kept k v w ns shape writer known only g e) may.bucket in
+    none from e (subst (λ (t : TableShape). IsCandidate (layout_of t) 0 key from) (sym shape) candidate) (subst (λ z. Names z e) word may.names) to
+    (subst (λ (t : TableShape). IsCandidate (layout_of t) 0 (key_of (layout_of t) e v.seen) to) (sym shape) bucket)
+    (ap (word_in to) (sym (own_list v writer known)) ∙ (sym (way_kept k v w ns shape writer known only g to) ∙ may.empty))

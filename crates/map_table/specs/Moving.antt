@@ -31,6 +31,10 @@ abbrev pub NoneCanMove : View → List ℕ → Type 0
 NoneCanMove v key = (way element : ℕ) → IsCandidate (layout_of v.shape) 0 key way →
     Names (word_in way v.mine) element → AreFull v (key_of (layout_of v.shape) element v.seen)
 
+-- each way has the word that it had
+abbrev pub StandStill : View → View → Type 0
+StandStill v w = (way : ℕ) → word_in way w.mine ≡ word_in way v.mine
+
 -- The second history goes on from the first. Each element that was linked under a key is linked so after each of its steps.
 abbrev pub StayLinked : TableShape → List (ℕ × Move) → List (ℕ × Move) → Type 0
 StayLinked k old new = (late : List (ℕ × Move)) × (new ≡ late ++ old)

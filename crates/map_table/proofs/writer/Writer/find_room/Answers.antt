@@ -1,14 +1,15 @@
 use Rattle.std.proofs.Common.{◌≡◌, ◌≢◌, ◌*◌, ◌+◌, ◌≤◌, ◌<◌, ◌++◌, ◌∙◌, ℕ, List, refl, sym, ap, subst}
 use Rattle.std.specs.Prelude.{slice_index}
 use Rattle.map_table_laws.specs.Layout.{IsCandidate, Names}
-use Rattle.map_table_laws.specs.History.{word_in, key_of}
+use Rattle.map_table_laws.specs.History.{word_in, key_of, MayDouble}
 use Rattle.table_words.specs.declared.view.TableShape.{TableShape}
 use Rattle.table_words.specs.Ways.{IsOfBoth}
 use Rattle.map_table.specs.Hashes.{layout_of, first_bucket, second_bucket}
 use Rattle.map_table.specs.Law.{ways_of}
 use Rattle.map_table.specs.Held.{TableView}
+use Rattle.map_table.specs.Moving.{NoneCanMove}
 use Rattle.map_table.specs.Writing.{WriterView, as_holder, AreFull}
-use Rattle.map_table.proofs.Doubled.{candidate_both, words_full, searches_only_move, went_moves}
+use Rattle.map_table.proofs.Doubled.{candidate_both, could_move, words_full, searches_only_move, went_moves}
 use Rattle.map_table.proofs.Filling.{went_shape}
 use Rattle.map_table.proofs.Going.{goes_then}
 use Rattle.map_table.proofs.Keeping.{searches_quiet, quiet_writer, quiet_settled, same_word}
@@ -156,4 +157,25 @@ returns-else-move_to-clause-held c = λ held.
     (candidate_both k key _ _ way (e.first ∙ ap (λ (k : TableShape). first_bucket k key * 8) same)
     (e.second ∙ ap (λ (k : TableShape). second_bucket k key * 8) same) (subst (λ (t : TableShape). IsCandidate (layout_of t) 0 key way) shape candidate))
     (ap (λ (xs : List ℕ). slice_index xs way) c.as_slice.ensures.value ∙ none)) in
-    subst (λ (w : WriterView). AreFull w.view key) c.self.view_is full
+    let s = c.find_move.ensures.steps in
+    let w = c.find_move.new.seat.me.0 in
+    let m = c.in-Some-find_move.ensures.some in
+    let from = c.in-Some-find_move.from in
+    let candidate = of_both k key _ _ from (e.first ∙ ap (λ (k : TableShape). first_bucket k key * 8) same)
+    (e.second ∙ ap (λ (k : TableShape). second_bucket k key * 8) same) m.0 in
+    let from_low = way_low _ _ from _ (subst (λ (t : TableShape). c.candidates_of-candidates.result.first + 8 ≤ ways_of t) same e.first_within)
+    (subst (λ (t : TableShape). c.candidates_of-candidates.result.second + 8 ≤ ways_of t) same e.second_within) m.0 in
+    let may = subst (λ (z : List ℕ). MayDouble (layout_of k) w.seen from c.in-Some-find_move.to (slice_index z from))
+    c.as_slice-ways.ensures.value m.2 in
+    subst (λ (w : WriterView). AreFull w.view key × (NoneCanMove w.view key → ⊥)) c.self.view_is
+    (full, could_move k v w s.0 key c.self.inside.ways.items from c.in-Some-find_move.to shape i.0.me i.0.known s.1 s.2 candidate
+    (words from from_low) may)
+
+pub returns-else-move_to-clause-still : goal.returns-else-move_to-clause-still
+returns-else-move_to-clause-still c = λ held. λ way.
+    let k = c.args.table.now.shape in
+    let s = c.find_move.ensures.steps in
+    let v = c.self.inside.seat.me.0 in
+    let w = c.find_move.new.seat.me.0 in
+    c.move_to.ensures.still c.if-move_to.false way ∙ (same_word v w s.0 (searches_quiet (layout_of k) 0 s.0 s.1) s.2 way ∙
+    ap (λ (z : WriterView). word_in way z.view.mine) c.self.view_is)
