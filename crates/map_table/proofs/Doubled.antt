@@ -25,7 +25,7 @@ use Rattle.table_words.specs.Ways.{IsOfBoth}
 use Rattle.map_table.specs.Hashes.{layout_of, first_bucket, second_bucket}
 use Rattle.map_table.specs.Law.{Gains, ways_of}
 use Rattle.map_table.specs.Held.{Went, IsKnown, IsSized}
-use Rattle.map_table.specs.Moving.{HaveGone, IsSomeInside, HasFullBuckets, IsNth, NoneCanMove, StandStill, StayLinked}
+use Rattle.map_table.specs.Moving.{HasGone, HaveGone, IsSomeInside, HasFullBuckets, IsNth, NoneCanMove, StandStill, StayLinked}
 use Rattle.map_table.specs.Sightings.{AreSightings}
 use Rattle.map_table.specs.Writing.{WriterView, IsFree, IsUnlinked, IsNoneLost, IsWriter}
 use Rattle.map_table.proofs.Filling.{own_list, tail_of, went_shape, went_me}
@@ -446,3 +446,20 @@ could_move k v w ns key ways from to shape writer known only g candidate word ma
     none from e (subst (λ (t : TableShape). IsCandidate (layout_of t) 0 key from) (sym shape) candidate) (subst (λ z. Names z e) word may.names) to
     (subst (λ (t : TableShape). IsCandidate (layout_of t) 0 (key_of (layout_of t) e v.seen) to) (sym shape) bucket)
     (ap (word_in to) (sym (own_list v writer known)) ∙ (sym (way_kept k v w ns shape writer known only g to) ∙ may.empty))
+
+-- a move that is ended in the first way
+pub has_gone : (v u x w : View) (from to word : ℕ) (ns : List Move) → IsQuiet ns → word_in to v.mine ≡ 0 → word_in from v.mine ≢ 0 →
+    word_in from v.mine ≡ word → Went v (Double from to word ∷ v.mine) u → Went u (ns ++ u.mine) x → Went x (Put from 0 ∷ x.mine) w →
+    HasGone from to v w
+has_gone v u x w from to word ns quiet none some is g h j =
+    let mine : (way : ℕ) → word_in way w.mine ≡ word_in way (Put from 0 ∷ x.mine) = λ way. ap (word_in way) (went_mine x w (Put from 0 ∷ x.mine) j) in
+    let before : (way : ℕ) → word_in way x.mine ≡ word_in way (Double from to word ∷ v.mine) =
+    λ way. same_word u x ns quiet h way ∙ ap (word_in way) (went_mine v u (Double from to word ∷ v.mine) g) in
+    let apart : from ≢ to = λ e. some (ap (λ z. word_in z v.mine) e ∙ none) in
+    record {
+      empty = none;
+      emptied = mine from ∙ put_here from from 0 x.mine refl;
+      there = mine to ∙ (put_there from to 0 x.mine apart ∙ (before to ∙ (doubled_here from to to word v.mine refl ∙ sym is)));
+      others = λ way one other. mine way ∙ (put_there from way 0 x.mine (λ e. one (sym e)) ∙
+          (before way ∙ doubled_there from to way word v.mine (λ e. other (sym e))));
+    }

@@ -35,6 +35,21 @@ NoneCanMove v key = (way element : ℕ) → IsCandidate (layout_of v.shape) 0 ke
 abbrev pub StandStill : View → View → Type 0
 StandStill v w = (way : ℕ) → word_in way w.mine ≡ word_in way v.mine
 
+-- The word of the one way stands in the other, which was empty. Each other way has the word that it had.
+pub record HasGone (from to : ℕ) (v w : View) : Type 0 where
+  pub empty : word_in to v.mine ≡ 0
+  pub emptied : word_in from w.mine ≡ 0
+  pub there : word_in to w.mine ≡ word_in from v.mine
+  pub others : (way : ℕ) → way ≢ from → way ≢ to → word_in way w.mine ≡ word_in way v.mine
+
+-- a word of the key's buckets has gone to another way
+abbrev pub GoesAside : List ℕ → View → View → Type 0
+GoesAside key v w = (from to : ℕ) × IsCandidate (layout_of v.shape) 0 key from × HasGone from to v w
+
+-- If both buckets of the key were full, a word of them went aside; else each stands where it stood.
+abbrev pub MakesOneWay : List ℕ → View → View → Type 0
+MakesOneWay key v w = (AreFull v key × GoesAside key v w) ⊎ ((AreFull v key → ⊥) × StandStill v w)
+
 -- The second history goes on from the first. Each element that was linked under a key is linked so after each of its steps.
 abbrev pub StayLinked : TableShape → List (ℕ × Move) → List (ℕ × Move) → Type 0
 StayLinked k old new = (late : List (ℕ × Move)) × (new ≡ late ++ old)

@@ -14,7 +14,7 @@ ghost use Rattle.map_table.specs.Law.{ways_of, writer_after};
 ghost use Rattle.map_table.specs.Counting.{AddsUp};
 ghost use Rattle.map_table.specs.Values.{copies_of, stored_of};
 ghost use Rattle.map_table.specs.Held.{IsKnown, IsSized};
-ghost use Rattle.map_table.specs.Moving.{IsSomeInside, NoneCanMove, StandStill, StayLinked};
+ghost use Rattle.map_table.specs.Moving.{HasGone, IsSomeInside, MakesOneWay, NoneCanMove, StandStill, StayLinked};
 ghost use Rattle.map_table.specs.Reading.{OnlyLoads, Reads};
 ghost use Rattle.map_table.specs.declared.moving.Room.TheVariants.{Made, Held, Full};
 ghost use Rattle.map_table.specs.Sightings.{IsHeldUp};
@@ -245,6 +245,7 @@ impl Writer {
             × (result ≡ false → IsSomeInside table.now.shape.readers ms) }
         ensures still { result ≡ false → StandStill self.old.view self.new.view }
         ensures emptied { result ≡ true → word_in from self.new.view.mine ≡ 0 }
+        ensures gone { result ≡ true → HasGone from to self.old.view self.new.view }
     {
         double_word(table, &mut self.seat, &mut self.ways, from, to);
         let unlinked = self.unlinked.as_slice();
@@ -268,8 +269,9 @@ impl Writer {
         ensures steps { (ms : List Move) × OnlyMoves ms self.old.view.mine × Works self.old ms self.new
             × (result ≡ Held → IsSomeInside table.now.shape.readers ms) }
         ensures made { result ≡ Made → AreFull self.new.view key.now → ⊥ }
+        ensures moved { result ≡ Made → MakesOneWay key.now self.old.view self.new.view }
         ensures held { result ≡ Held → AreFull self.old.view key.now × (NoneCanMove self.old.view key.now → ⊥) }
-        ensures still { result ≡ Held → StandStill self.old.view self.new.view }
+        ensures still { result ≢ Made → StandStill self.old.view self.new.view }
         ensures full { result ≡ Full → AreFull self.new.view key.now × NoneCanMove self.new.view key.now }
 
         // Each element that was linked under a key is linked so after each step of whomever.
@@ -298,8 +300,9 @@ impl Writer {
         ensures steps { (ms : List Move) × OnlyMoves ms self.old.view.mine × Works self.old ms self.new
             × (result ≡ Held → IsSomeInside table.now.shape.readers ms) }
         ensures made { result ≡ Made → AreFull self.new.view key.now → ⊥ }
+        ensures moved { result ≡ Made → MakesOneWay key.now self.old.view self.new.view }
         ensures held { result ≡ Held → AreFull self.old.view key.now × (NoneCanMove self.old.view key.now → ⊥) }
-        ensures still { result ≡ Held → StandStill self.old.view self.new.view }
+        ensures still { result ≢ Made → StandStill self.old.view self.new.view }
         ensures full { result ≡ Full → AreFull self.new.view key.now × NoneCanMove self.new.view key.now }
     {
         let shape = table.shape();

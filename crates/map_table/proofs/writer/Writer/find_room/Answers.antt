@@ -1,4 +1,4 @@
-use Rattle.std.proofs.Common.{◌≡◌, ◌≢◌, ◌*◌, ◌+◌, ◌≤◌, ◌<◌, ◌++◌, ◌∙◌, ℕ, List, refl, sym, ap, subst}
+use Rattle.std.proofs.Common.{◌≡◌, ◌≢◌, ◌*◌, ◌+◌, ◌≤◌, ◌<◌, ◌++◌, ◌∙◌, ℕ, List, refl, sym, ap, subst, inl, inr}
 use Rattle.std.specs.Prelude.{slice_index}
 use Rattle.map_table_laws.specs.Layout.{IsCandidate, Names}
 use Rattle.map_table_laws.specs.History.{word_in, key_of, MayDouble}
@@ -7,7 +7,7 @@ use Rattle.table_words.specs.Ways.{IsOfBoth}
 use Rattle.map_table.specs.Hashes.{layout_of, first_bucket, second_bucket}
 use Rattle.map_table.specs.Law.{ways_of}
 use Rattle.map_table.specs.Held.{TableView}
-use Rattle.map_table.specs.Moving.{NoneCanMove}
+use Rattle.map_table.specs.Moving.{MakesOneWay, NoneCanMove}
 use Rattle.map_table.specs.Writing.{WriterView, as_holder, AreFull}
 use Rattle.map_table.proofs.Doubled.{candidate_both, could_move, words_full, searches_only_move, went_moves}
 use Rattle.map_table.proofs.Filling.{went_shape}
@@ -179,3 +179,46 @@ returns-else-move_to-clause-still c = λ held. λ way.
     let w = c.find_move.new.seat.me.0 in
     c.move_to.ensures.still c.if-move_to.false way ∙ (same_word v w s.0 (searches_quiet (layout_of k) 0 s.0 s.1) s.2 way ∙
     ap (λ (z : WriterView). word_in way z.view.mine) c.self.view_is)
+
+pub returns-then-move_to-clause-moved : goal.returns-then-move_to-clause-moved
+returns-then-move_to-clause-moved c = λ made.
+    let i = c.self.invariant in
+    let e = c.candidates_of-candidates.ensures in
+    let same = c.shape-shape.ensures.shape in
+    let key = c.args.key.now in
+    let k = c.args.table.now.shape in
+    let v = c.self.inside.seat.me.0 in
+    let shape = ap (λ (w : WriterView). w.table.shape) c.self.view_is ∙ ap (λ (t : TableView). t.shape) c.requires.table in
+    let count = i.0.count ∙ ap ways_of shape in
+    let words : (x : ℕ) → x < ways_of k → slice_index c.self.inside.ways.items x ≡ word_in x v.mine = λ x low.
+    i.0.are_ways x (subst (λ (t : TableShape). x < ways_of t) (sym shape) low) in
+    let full : AreFull v key = λ way candidate. words_full v c.self.inside.ways.items (ways_of k) count words way
+    (λ none. c.in_default.ensures.none refl way
+    (candidate_both k key _ _ way (e.first ∙ ap (λ (k : TableShape). first_bucket k key * 8) same)
+    (e.second ∙ ap (λ (k : TableShape). second_bucket k key * 8) same) (subst (λ (t : TableShape). IsCandidate (layout_of t) 0 key way) shape candidate))
+    (ap (λ (xs : List ℕ). slice_index xs way) c.as_slice.ensures.value ∙ none)) in
+    let s = c.find_move.ensures.steps in
+    let w = c.find_move.new.seat.me.0 in
+    let m = c.in-Some-find_move.ensures.some in
+    let from = c.in-Some-find_move.from in
+    let candidate = of_both k key _ _ from (e.first ∙ ap (λ (k : TableShape). first_bucket k key * 8) same)
+    (e.second ∙ ap (λ (k : TableShape). second_bucket k key * 8) same) m.0 in
+    let g = c.move_to.ensures.gone c.if-move_to.true in
+    let before : (way : ℕ) → word_in way w.mine ≡ word_in way v.mine = same_word v w s.0 (searches_quiet (layout_of k) 0 s.0 s.1) s.2 in
+    subst (λ (z : WriterView). MakesOneWay key z.view c.move_to.new.self.view) c.self.view_is
+    (inl (full, (from, c.in-Some-find_move.to, subst (λ (t : TableShape). IsCandidate (layout_of t) 0 key from) (sym shape) candidate, record {
+      empty = sym (before c.in-Some-find_move.to) ∙ g.empty;
+      emptied = g.emptied;
+      there = g.there ∙ before from;
+      others = λ way one other. g.others way one other ∙ before way;
+    })))
+
+pub returns-in_default-find_move-clause-still : goal.returns-in_default-find_move-clause-still
+returns-in_default-find_move-clause-still c = λ no way.
+    let k = c.args.table.now.shape in
+    let s = c.find_move.ensures.steps in
+    same_word c.self.inside.seat.me.0 c.find_move.new.seat.me.0 s.0 (searches_quiet (layout_of k) 0 s.0 s.1) s.2 way ∙
+    ap (λ (z : WriterView). word_in way z.view.mine) c.self.view_is
+
+pub returns-in-Some-clause-moved : goal.returns-in-Some-clause-moved
+returns-in-Some-clause-moved c = λ made. inr (returns-in-Some-clause-made c made, λ way. refl)

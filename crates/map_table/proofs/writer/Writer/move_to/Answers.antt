@@ -1,12 +1,14 @@
 use Rattle.std.proofs.Common.{◌++◌, ◌∷◌, [], ◌∙◌, refl, sym, ap, subst, inl, inr, List, ℕ, set}
 use Rattle.map_table_laws.specs.declared.moves.Move.TheVariants.{Put, Double}
+use Rattle.map_table_laws.specs.Layout.{Names}
+use Rattle.map_table_laws.proofs.Steps.{nothing_named}
 use Rattle.map_table.specs.Held.{TableView}
 use Rattle.std.specs.Prelude.{MatchBool, slice_index}
 use Rattle.map_table_laws.specs.declared.moves.Move.{Move}
-use Rattle.map_table.specs.Moving.{HaveGone, IsSomeInside, StandStill}
+use Rattle.map_table.specs.Moving.{HasGone, HaveGone, IsSomeInside, StandStill}
 use Rattle.map_table.specs.Sightings.{AreSightings}
 use Rattle.map_table.specs.Writing.{WriterView, as_holder}
-use Rattle.map_table.proofs.Doubled.{move_ended, move_facts, move_went, move_settles, moved_inside, moves_only, still_again, writer_may}
+use Rattle.map_table.proofs.Doubled.{has_gone, move_ended, move_facts, move_went, move_settles, moved_inside, moves_only, still_again, writer_may}
 use Rattle.map_table.proofs.Keeping.{only_scans_quiet}
 use Rattle.map_table.proofs.Linking.{fits_still, works}
 use Rattle.map_table.proofs.Seen.{sightings_doubled}
@@ -130,3 +132,18 @@ returns-then-not-all_passed-clause-still c = λ no.
     subst (λ (z : WriterView). StandStill z.view c.put_word.new.seat.me.0) c.self.view_is
     (still_again v c.double_word.new.seat.me.0 c.all_passed.new.seat.me.0 c.put_word.new.seat.me.0 c.args.from c.args.to _ s.0
     (only_scans_quiet 0 k.readers s.0 s.1) f.3 c.double_word.ensures.step s.2 c.put_word.ensures.step)
+
+pub returns-clause-gone : goal.returns-clause-gone
+returns-clause-gone c = λ yes.
+    let i = c.self.invariant in
+    let s = c.all_passed.ensures.steps in
+    let k = c.args.table.now.shape in
+    let v = c.self.inside.seat.me.0 in
+    let shape = ap (λ (w : WriterView). w.table.shape) c.self.view_is ∙ ap (λ (t : TableView). t.shape) c.requires.table in
+    let may = writer_may k c.args.self.now v c.args.from c.args.to (ap (λ (z : WriterView). z.view) c.self.view_is) c.requires.may in
+    let f = move_facts k v c.self.inside.ways.items c.self.inside.free.items c.self.inside.unlinked.items c.args.from c.args.to i.0 shape
+    c.requires.from may in
+    subst (λ (z : WriterView). HasGone c.args.from c.args.to z.view c.put_word-2.new.seat.me.0) c.self.view_is
+    (has_gone v c.double_word.new.seat.me.0 c.all_passed.new.seat.me.0 c.put_word-2.new.seat.me.0 c.args.from c.args.to _ s.0
+    (only_scans_quiet 0 k.readers s.0 s.1) f.3 (λ none. nothing_named may.element (subst (λ z. Names z may.element) none may.names)) f.2
+    c.double_word.ensures.step s.2 c.put_word-2.ensures.step)
