@@ -231,7 +231,7 @@ static void put_value(uint64_t key, uint64_t flags)
 	atomic_store(&begun[key], n);
 	if (larger.state && !update(&larger, key, value, 2, flags))
 		return;
-	if (!update(&values, key, value, 2, flags)) {
+	if (!update(&values, key, value, 2, flags)) { /* a new key, then */
 		if (larger.state)
 			done(bpfrt_table_delete_elem(&larger, &key, 1), "bpfrt_table_delete_elem");
 		return;
@@ -239,6 +239,14 @@ static void put_value(uint64_t key, uint64_t flags)
 	there[key] = 1;
 	atomic_store(&put[key], n);
 	changes++;
+}
+
+static void remove_value(uint64_t key)
+{
+	if (larger.state)
+		done(bpfrt_table_delete_elem(&larger, &key, 1), "bpfrt_table_delete_elem");
+	done(bpfrt_table_delete_elem(&values, &key, 1), "bpfrt_table_delete_elem");
+	there[key] = 0;
 }
 
 /* Keys above those that stay are removed where they are there, and else put. */
@@ -250,16 +258,11 @@ static void change(void)
 		put_value(key, 2);
 		return;
 	}
-	int32_t status = bpfrt_table_delete_elem(&values, &key, 1);
-	if (status == -ENOENT) {
+	if (there[key])
+		remove_value(key);
+	else
 		put_value(key, 1);
-	} else {
-		done(status, "bpfrt_table_delete_elem");
-		if (larger.state)
-			done(bpfrt_table_delete_elem(&larger, &key, 1), "bpfrt_table_delete_elem");
-		there[key] = 0;
-	}
-	status = bpfrt_table_delete_elem(&counters, &key, 1);
+	int32_t status = bpfrt_table_delete_elem(&counters, &key, 1);
 	if (status == -ENOENT)
 		update(&counters, key, zeros, READERS, 1);
 	else
@@ -403,7 +406,7 @@ static void compare(void)
 	}
 	for (uint64_t key = 0; key < KEYS; key++) {
 		int32_t status = bpfrt_table_delete_elem(&values, &key, 1);
-		done(status == -ENOENT && key >= STAYING ? 0 : status, "bpfrt_table_delete_elem");
+		done(status == -ENOENT && !there[key] ? 0 : status, "bpfrt_table_delete_elem");
 	}
 	done(bpfrt_table_reclaim(&values), "bpfrt_table_reclaim");
 	done(bpfrt_table_stat(&values, &stat), "bpfrt_table_stat");

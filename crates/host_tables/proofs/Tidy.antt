@@ -1,5 +1,5 @@
 -- What the writer's calls keep of a table.
-use Rattle.std.proofs.Common.{◌≡◌, ◌≢◌, ℕ, zero, suc, ◌+◌, ◌<◌, ◌≤◌, List, [], ◌∷◌, ◌++◌, length, length-append, refl, sym, ap, ◌∙◌, subst, ◌⊎◌, ⊎_elim}
+use Rattle.std.proofs.Common.{◌≡◌, ◌≢◌, ℕ, zero, suc, ◌+◌, ◌<◌, ◌≤◌, List, [], ◌∷◌, ◌++◌, length, length-append, refl, sym, ap, ◌∙◌, subst, ◌⊎◌, ⊎_elim, inl, inr}
 use Rattle.std.proofs.Common.{Option, Some, None, Result, Ok, Err, OnOk, IfErr, slice_index, arith}
 use Rattle.map_table_laws.specs.declared.moves.Move.{Move}
 use Rattle.map_table_laws.specs.declared.moves.Move.TheVariants.{Put}
@@ -13,10 +13,10 @@ use Rattle.map_table_laws.proofs.Steps.{nothing_named, put_here}
 use Rattle.table_words.specs.declared.view.TableShape.{TableShape}
 use Rattle.map_table.specs.Hashes.{layout_of}
 use Rattle.map_table.specs.Held.{IsKnown, TableView}
-use Rattle.map_table.specs.Moving.{StayLinked}
+use Rattle.map_table.specs.Moving.{GoesAside, MakesOneWay, StayLinked}
 use Rattle.map_table.specs.Reading.{OnlyLoads}
 use Rattle.map_table.specs.Values.{copies_of, stored_of}
-use Rattle.map_table.specs.Writing.{Frees, Looks, Puts, Works, WriterView}
+use Rattle.map_table.specs.Writing.{AreFull, Frees, Looks, Puts, Works, WriterView}
 use Rattle.map_table.proofs.Keeping.{adds_quiet, fills_quiet, loads_quiet, scans_quiet, searches_quiet}
 use Rattle.host_tables.specs.declared.fault.SetFault.{SetFault}
 use Rattle.host_tables.specs.Tables.{Finds, FindsNoRoom, IsNoRoom, IsTidy, Links, MakesRoom, Moves, PutsUnder, PutsWithRoom, Replaces, SumsUp, needed_for}
@@ -198,3 +198,8 @@ not_none free two none = let long = ap (λ (z : List ℕ). length z) none in abs
 
 pub full_so : (free : List ℕ) (p : Type 0) → 2 ≤ length free → (free ≡ []) ⊎ p → p
 full_so free p two = ⊎_elim (λ (none : free ≡ []). absurd (not_none free two none)) (λ q. q)
+
+-- where both buckets were full, a word has gone aside
+pub aside_so : (key : List ℕ) (v w : WriterView) → AreFull v.view key → MakesOneWay key v.view w.view → GoesAside key v.view w.view
+aside_so key v w full (inl t) = t.1
+aside_so key v w full (inr t) = absurd (t.0 full)

@@ -4,7 +4,7 @@ use Rattle.std.specs.List.{range_with_len}
 use Rattle.map_table.specs.Counting.{AddsUp}
 use Rattle.map_table.specs.Hashes.{layout_of}
 use Rattle.map_table.specs.Held.{AreInOrder, Holder, IsNew, TableView}
-use Rattle.map_table.specs.Moving.{IsSomeInside, NoneCanMove, StayLinked}
+use Rattle.map_table.specs.Moving.{GoesAside, IsSomeInside, NoneCanMove, StandStill, StayLinked}
 use Rattle.map_table.specs.Sightings.{IsHeldUp}
 use Rattle.map_table.specs.Values.{copies_of}
 use Rattle.map_table.specs.Writing.{AreFull, Frees, Looks, Puts, StaysIn, Works, WriterView}
@@ -80,9 +80,9 @@ pub record Moves (v w : WriterView) : Type 0 where
   pub unlinked : w.unlinked ≡ v.unlinked
   pub stay : StayLinked v.table.shape v.view.seen w.view.seen
 
--- Where both buckets of the key were full, the writer moved an element out of them; else it did nothing.
+-- Where both buckets of the key were full, the writer moved one element out of them; else it did nothing.
 abbrev pub MakesWay : List ℕ → WriterView → WriterView → Type 0
-MakesWay key v w = ((w ≡ v) × (AreFull v.view key → ⊥)) ⊎ (AreFull v.view key × Moves v w)
+MakesWay key v w = ((w ≡ v) × (AreFull v.view key → ⊥)) ⊎ (AreFull v.view key × Moves v w × GoesAside key v.view w.view)
 
 -- The writer made a way for a new key, and linked the value under it.
 pub record LinksNew (key value : List ℕ) (v w : WriterView) : Type 0 where
@@ -156,14 +156,28 @@ pub record Sets (key value : List ℕ) (how : How) (v w : WriterView) : Type 0 w
   pub asked : IsAsked how found
   pub puts : PutsWithRoom found key value sought w
 
--- Why there is no room for a value under a key that was found so, or was not: fewer elements are free than are needed; or both
--- buckets of a new key are full, and each element there has two full buckets of its own, or one could be moved, but a reader
--- was found inside a section.
+-- Both buckets of the key were full, and an element there could be moved. A reader was found inside a section meanwhile, and each
+-- way has the word that it had.
+pub record IsHeld (key : List ℕ) (v w : WriterView) : Type 0 where
+  pub full : AreFull v.view key
+  pub some : NoneCanMove v.view key → ⊥
+  pub moves : Moves v w
+  pub inside : IsSomeInside v.table.shape.readers moves.moves
+  pub still : StandStill v.view w.view
+
+-- Both buckets of the key are full, and so are those of each key that is linked there. Each way has the word that it had.
+pub record HasNoWay (key : List ℕ) (v w : WriterView) : Type 0 where
+  pub full : AreFull w.view key
+  pub none : NoneCanMove w.view key
+  pub moves : Moves v w
+  pub still : StandStill v.view w.view
+
+-- Why there is no room for a value under a key that was found so, or was not: fewer elements are free than are needed. Or the key is
+-- new, and has no way.
 abbrev pub IsNoRoom : List ℕ → Option ℕ → WriterView → WriterView → SetFault → Type 0
 IsNoRoom key found v w NoElement = (w ≡ v) × (length w.free < needed_for found)
-IsNoRoom key found v w NoWay = (found ≡ None) × Moves v w × AreFull w.view key × NoneCanMove w.view key
-IsNoRoom key found v w Held =
-    (found ≡ None) × AreFull v.view key × (m : Moves v w) × IsSomeInside v.table.shape.readers m.moves
+IsNoRoom key found v w NoWay = (found ≡ None) × HasNoWay key v w
+IsNoRoom key found v w Held = (found ≡ None) × IsHeld key v w
 IsNoRoom key found v w fault = ⊥
 
 -- The writer reclaimed what might be, where that was needed, and there is no room for this reason.

@@ -89,7 +89,8 @@ pub(crate) fn look_round(
     }
 }
 
-/// Whether a reader has left the section that it was in: it is found outside, or with two numbers. It looks at it a few times.
+/// Whether a reader has left the section that it was in: it is found outside, or with two numbers. It looks at it 1,001 times
+/// at most.
 fn has_passed(
     table: &MapTable,
     seat: &mut Seat<u8, View>,

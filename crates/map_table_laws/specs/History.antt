@@ -142,7 +142,7 @@ since_double [] = []
 since_double (Double from to x ∷ ms) = []
 since_double (m ∷ ms) = m ∷ since_double ms
 
--- since it did so each reader was found outside a section, or with two numbers
+-- since the word was written in a second way each reader was found outside a section, or with two numbers
 abbrev pub HavePassed : ℕ → List Move → Type 0
 HavePassed readers ms = (r : ℕ) → 0 < r → r ≤ readers → FoundGone r (since_double ms)
 
@@ -152,7 +152,8 @@ abbrev pub Settles : ℕ → ℕ → ℕ → List Move → Type 0
 Settles readers way word ms = (from to : ℕ) → IsMoving from to ms →
     (word ≡ 0) × ((way ≡ to) ⊎ ((way ≡ from) × HavePassed readers ms))
 
--- The word is that of a way, and names an element whose key may be linked in the other way as well, which is empty.
+-- The word is that of a way, and names an element whose key may be linked in the other way as well. That is empty, and nothing is
+-- being moved.
 pub record MayDouble (k : Layout) (es : List (ℕ × Move)) (from to word : ℕ) : Type 0 where
   pub element : ℕ
   pub names : Names word element

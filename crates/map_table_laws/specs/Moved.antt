@@ -1,4 +1,4 @@
--- What the writer does while it links and unlinks nothing, or keeps a key linked.
+-- What the writer does while it links and unlinks nothing (`OnlyMoves`), and while it keeps a key linked (`OnlyKeeps`).
 use Rattle.std.specs.Prelude.{◌⊎◌, ℕ, List, [], ◌∷◌, ◌++◌}
 use Rattle.map_table_laws.specs.declared.moves.Move.{Move}
 use Rattle.map_table_laws.specs.declared.moves.Move.TheVariants.{Put}

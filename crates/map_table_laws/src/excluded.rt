@@ -90,8 +90,8 @@ pub fn small_history_moved_too_early_is_not()
     ensures { IsLawful small moved_too_early → ⊥ }
 {}
 
-/// Excluded: a move that unlinks first. A way that was emptied has no word for a second one.
-pub fn moving_by_unlinking_first_is_excluded()
+/// Excluded: a move out of an empty way, as of a writer that unlinks first: it has no word for the second way.
+pub fn doubling_an_empty_way_is_excluded()
     ensures { (k : Layout) (es : List (ℕ × Move)) (from to word : ℕ) →
         word_in from (moves_of 0 es) ≡ 0 → MayDo k es 0 (Double from to word) → ⊥ }
 {}

@@ -21,7 +21,7 @@ pub fn ways_name_keys_of_their_bucket()
         × (tag_in (word_in way (moves_of 0 es)) ≡ k.tag (k.table_of element) (key_of k element es)) }
 {}
 
-/// In every lawful history one way at most names an element, but for one that is moved. That stands in both ways of the
+/// In every lawful history one way at most names an element. One that is being moved stands at most in the two ways of the
 /// move.
 pub fn elements_stand_in_one_way()
     ensures { (k : Layout) (es : List (ℕ × Move)) → IsLawful k es → (one other element : ℕ) →
@@ -185,9 +185,9 @@ pub fn two_looks_clear_who_moved()
         (moves_of 0 ((late ++ (0, Scan reader y) ∷ between) ++ (0, Scan reader x) ∷ early)) }
 {}
 
-/// In every lawful history, as a reader in a section finds them, elements that stay linked under a key stay in one way, also
-/// where they are moved: either the first way of the move is not emptied before the section ends, or the second one had the
-/// word before the section began.
+/// In every lawful history a reader in a section finds an element that stays linked under a key in one way throughout, also
+/// where it is moved. Either the first way of the move is not emptied before the section ends, or the second one had the word
+/// before the section began.
 pub fn moved_elements_keep_a_way()
     ensures { (k : Layout) (late early : List (ℕ × Move)) → IsLawful k (late ++ early) →
         (table : ℕ) (key : List ℕ) (who element : ℕ) → IsReader k who → inside (moves_of who early) ≡ 1 →

@@ -9,8 +9,8 @@ mod laws;
 mod moves;
 
 pub use excluded::{
-    a_number_from_before_is_excluded, filling_a_held_element_is_excluded,
-    linking_a_held_element_is_excluded, moving_by_unlinking_first_is_excluded,
+    a_number_from_before_is_excluded, doubling_an_empty_way_is_excluded,
+    filling_a_held_element_is_excluded, linking_a_held_element_is_excluded,
     moving_past_a_reader_is_excluded, null_after_one_bucket_is_excluded,
     skipping_a_reader_is_excluded, small_history_is_lawful, small_history_moved_too_early_is_not,
     small_history_moves_a_key, small_history_of_one_section_is_not,

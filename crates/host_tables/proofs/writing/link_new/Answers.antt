@@ -1,12 +1,14 @@
-use Rattle.std.proofs.Common.{◌≤◌, ◌∙◌, ℕ, List, length, refl, sym, ap, subst, inr, None}
+use Rattle.std.proofs.Common.{◌≤◌, ◌≢◌, ◌∙◌, ℕ, List, length, refl, sym, ap, subst, inr, None}
 use Rattle.map_table_laws.specs.Once.{AreLinkedOnce}
 use Rattle.map_table.specs.Hashes.{layout_of}
 use Rattle.map_table.specs.Held.{TableView}
-use Rattle.map_table.specs.Moving.{IsSomeInside, StayLinked}
+use Rattle.map_table.specs.Moving.{IsSomeInside, MakesOneWay, StayLinked}
+use Rattle.map_table.specs.declared.moving.Room.{Room}
+use Rattle.map_table.specs.declared.moving.Room.TheVariants.{Made}
 use Rattle.map_table.specs.Writing.{WriterView, AreFull}
 use Rattle.host_tables.specs.declared.fault.SetFault.TheVariants.{Held, NoWay}
 use Rattle.host_tables.specs.Tables.{Finds, IsNoRoom, IsTidy, Moves}
-use Rattle.host_tables.proofs.Tidy.{full_so, links_so, links_tidy, moved_nowhere, moved_tidy, moves_so}
+use Rattle.host_tables.proofs.Tidy.{aside_so, full_so, links_so, links_tidy, moved_nowhere, moved_tidy, moves_so}
 use Rattle.host_tables.proofs.writing.link_new.Goals as goal
 
 pub returns-in-Some-clause-tidy : goal.returns-in-Some-clause-tidy
@@ -29,16 +31,20 @@ returns-in-Held-clause-fault c =
     let table = c.link.ensures.table ∙ c.requires.table in
     subst (λ (z : WriterView). IsNoRoom c.args.key.now None z w Held) c.in_default.ensures.unchanged (
       refl,
-      m.held c.in-Held.is,
       record {
-        moves = s.0;
-        only = s.1;
-        works = s.2;
-        free = m.free;
-        unlinked = m.unlinked;
-        stay = subst (λ (t : TableView). StayLinked t.shape v.view.seen w.view.seen) (sym table) m.stay;
+        full = (m.held c.in-Held.is).0;
+        some = (m.held c.in-Held.is).1;
+        moves = record {
+          moves = s.0;
+          only = s.1;
+          works = s.2;
+          free = m.free;
+          unlinked = m.unlinked;
+          stay = subst (λ (t : TableView). StayLinked t.shape v.view.seen w.view.seen) (sym table) m.stay;
+        };
+        inside = subst (λ (t : TableView). IsSomeInside t.shape.readers s.0) (sym table) (s.3 c.in-Held.is);
+        still = m.still (subst (λ (r : Room). r ≢ Made) (sym c.in-Held.is) (λ e. absurd cc));
       },
-      subst (λ (t : TableView). IsSomeInside t.shape.readers s.0) (sym table) (s.3 c.in-Held.is),
     )
 
 pub returns-in-Held-clause-tidy : goal.returns-in-Held-clause-tidy
@@ -59,8 +65,15 @@ returns-in-Full-clause-fault c =
     let w = c.make_room.new.self in
     let table = c.link.ensures.table ∙ c.requires.table in
     let full = m.full c.in-Full.is in
-    subst (λ (z : WriterView). IsNoRoom c.args.key.now None z w NoWay) c.in_default.ensures.unchanged
-    (refl, moves_so c.args.table.now v w table s.0 s.1 s.2 m.free m.unlinked m.stay, full.0, full.1)
+    subst (λ (z : WriterView). IsNoRoom c.args.key.now None z w NoWay) c.in_default.ensures.unchanged (
+      refl,
+      record {
+        full = full.0;
+        none = full.1;
+        moves = moves_so c.args.table.now v w table s.0 s.1 s.2 m.free m.unlinked m.stay;
+        still = m.still (subst (λ (r : Room). r ≢ Made) (sym c.in-Full.is) (λ e. absurd cc));
+      },
+    )
 
 pub returns-in-Full-clause-tidy : goal.returns-in-Full-clause-tidy
 returns-in-Full-clause-tidy c tidy =
@@ -89,6 +102,8 @@ returns-clause-put c =
         full,
         subst (λ (z : WriterView). Moves z w) c.in_default.ensures.unchanged
             (moves_so c.args.table.now v w table s.0 s.1 s.2 m.free m.unlinked m.stay),
+        aside_so c.args.key.now old w full
+            (subst (λ (z : WriterView). MakesOneWay c.args.key.now z.view w.view) c.in_default.ensures.unchanged (m.moved c.in-Made.is)),
       );
       links = links_so c.args.table.now w c.link-2.new.self (m.table ∙ table) c.args.key.now c.args.value.now c.in-Some-link.field-0 l.0 l.1 e.empty l.2 l.3 l.4
           c.link-2.ensures.unlinked e.under;

@@ -1,6 +1,4 @@
-use Rattle.std.proofs.Common.{◌≡◌, ◌<◌, ◌∙◌, ℕ, List, sym, ap, subst}
-use Rattle.map_table_laws.specs.Found.{IsLinkedUnder}
-use Rattle.map_table.specs.Hashes.{layout_of}
+use Rattle.std.proofs.Common.{◌≡◌, ◌<◌, ◌∙◌, sym, ap, subst}
 use Rattle.map_table.specs.Held.{TableView}
 use Rattle.map_table.specs.Law.{ways_of}
 use Rattle.host_tables.specs.Copies.{AreAllThere, Copies, IsThere, StayThere}

@@ -167,9 +167,11 @@ returns-else-move_to-clause-held c = λ held.
     (subst (λ (t : TableShape). c.candidates_of-candidates.result.second + 8 ≤ ways_of t) same e.second_within) m.0 in
     let may = subst (λ (z : List ℕ). MayDouble (layout_of k) w.seen from c.in-Some-find_move.to (slice_index z from))
     c.as_slice-ways.ensures.value m.2 in
-    subst (λ (w : WriterView). AreFull w.view key × (NoneCanMove w.view key → ⊥)) c.self.view_is
-    (full, could_move k v w s.0 key c.self.inside.ways.items from c.in-Some-find_move.to shape i.0.me i.0.known s.1 s.2 candidate
-    (words from from_low) may)
+    subst (λ (w : WriterView). AreFull w.view key × (NoneCanMove w.view key → ⊥)) c.self.view_is (
+      full,
+      could_move k v w s.0 key c.self.inside.ways.items from c.in-Some-find_move.to shape i.0.me i.0.known s.1 s.2 candidate
+          (words from from_low) may,
+    )
 
 pub returns-else-move_to-clause-still : goal.returns-else-move_to-clause-still
 returns-else-move_to-clause-still c = λ held. λ way.
@@ -206,12 +208,20 @@ returns-then-move_to-clause-moved c = λ made.
     let g = c.move_to.ensures.gone c.if-move_to.true in
     let before : (way : ℕ) → word_in way w.mine ≡ word_in way v.mine = same_word v w s.0 (searches_quiet (layout_of k) 0 s.0 s.1) s.2 in
     subst (λ (z : WriterView). MakesOneWay key z.view c.move_to.new.self.view) c.self.view_is
-    (inl (full, (from, c.in-Some-find_move.to, subst (λ (t : TableShape). IsCandidate (layout_of t) 0 key from) (sym shape) candidate, record {
-      empty = sym (before c.in-Some-find_move.to) ∙ g.empty;
-      emptied = g.emptied;
-      there = g.there ∙ before from;
-      others = λ way one other. g.others way one other ∙ before way;
-    })))
+    (inl (
+      full,
+      (
+        from,
+        c.in-Some-find_move.to,
+        subst (λ (t : TableShape). IsCandidate (layout_of t) 0 key from) (sym shape) candidate,
+        record {
+          empty = sym (before c.in-Some-find_move.to) ∙ g.empty;
+          emptied = g.emptied;
+          there = g.there ∙ before from;
+          others = λ way one other. g.others way one other ∙ before way;
+        },
+      ),
+    ))
 
 pub returns-in_default-find_move-clause-still : goal.returns-in_default-find_move-clause-still
 returns-in_default-find_move-clause-still c = λ no way.
