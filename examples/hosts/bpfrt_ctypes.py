@@ -537,7 +537,8 @@ class Table:
         self._on("table_delete_elem", *words_of(key))
 
     def copy_to(self, larger):
-        """Sets each key in a larger table, with all its values."""
+        """Sets each key in a larger table, with all its values. From then on set and remove keys in both, in the larger first. bpfrt.h has
+        the rules, at bpfrt_table_copy."""
         if larger is self:
             raise ValueError("a table is not copied into itself")
         first, second = sorted((self, larger), key=id)

@@ -22,8 +22,8 @@
  *
  *   - A handle is all zeros, or was written last by these calls. It is not copied: each copy would free the same memory. It may be
  *     moved: copied, if its old place is then set to zero.
- *   - No two calls at once take the same handle. A thread takes a handle of its own (bpfrt_prog_share, bpfrt_table_reader); it may
- *     be another thread's before, if a lock, a start or a join stands between.
+ *   - No two calls at once take the same handle. Who uses a handle opens those of other threads from it (bpfrt_prog_share,
+ *     bpfrt_table_reader). A handle goes from one thread to another by a lock, a start or a join.
  *   - A pointer leads to as many bytes, or items, as its length says. It may be null where that is 0,
  *     and is answered -EINVAL where it is not. `why` and `value` may be null.
  *   - Memory that a call writes is none that it reads.
@@ -138,7 +138,8 @@ struct bpfrt_table_stat {
 	uint64_t seats; /* that no reader has yet */
 };
 
-/* The calls as the library exports them. A pointer that is given to them is never null, not even with the length 0. */
+/* The calls as the library exports them. A pointer that is given to them is never null, not even with the length 0. Two handles of a call
+   are never one. */
 int32_t bpfrt0_prog_open(struct bpfrt_prog *prog, const void *insns, size_t size, size_t ctx_len, const struct
 	bpfrt_map_shape *maps, size_t nr_maps, struct bpfrt_refusal *why);
 int32_t bpfrt0_prog_open_file(struct bpfrt_prog *prog, const void *text, size_t size, struct bpfrt_refusal *why);
@@ -485,10 +486,10 @@ static inline int32_t bpfrt_table_reader(struct bpfrt_reader *reader, struct bpf
    new one, and misses no key that is there. Flags as of bpfrt_map_update_elem. A key that is there takes a free element, too, and the
    old one waits for the runs that may have found it. A new key leaves one free, so that values can be put where all others are linked.
    Where too few are free, those are reclaimed first that no run can hold. Where both buckets of a new key are full, an element of them
-   is moved to the other bucket of its own key, if that has room; no run misses it, and what runs store there stays. -EEXIST, -ENOENT;
-   -ENOSPC where still too few are free, until runs end or a key is removed; -E2BIG where both buckets of a new key are full, and no
-   element there can be moved; -EAGAIN where one could be moved, but a run stayed in one section meanwhile: call again. -EINVAL for a
-   wrong length or flag. */
+   is moved to the other bucket of its own key, if that has room. No run misses it, and what runs store there stays. -EEXIST, -ENOENT.
+   -ENOSPC where still too few are free, until runs end or a key is removed. -E2BIG where both buckets of a new key are full, and no
+   element there can be moved. -EAGAIN where an element could be moved, but a run stayed in one section meanwhile; each stands where it
+   stood: call again. -EINVAL for a wrong length or flag. */
 static inline int32_t bpfrt_table_update_elem(struct bpfrt_table *table, const uint64_t *key, size_t key_words, const uint64_t *value,
 	size_t value_words, uint64_t flags)
 {
@@ -498,11 +499,30 @@ static inline int32_t bpfrt_table_update_elem(struct bpfrt_table *table, const u
 		value_words, flags);
 }
 
-/* Sets each key of a table in another one, with the words of all its values: so a host goes over to a larger table. From then on it
-   sets and removes keys in both. Each thread opens a reader of the larger table, and closes its old one between two runs: it finds each
-   key in the table that it runs over. Then the host closes the old table. What runs store in a value after it was copied stays in the old
-   table. -EBADF where either is no table; -EINVAL where both are one, or keys or values have other lengths; else as
-   bpfrt_table_update_elem. Then some keys are set, and the call may be made again. */
+/* Sets each key of a table in another one, with the words of all its values. So a host goes over to a larger table. The two handles are
+   different ones.
+
+   - From the first call on, also one that fails, the host sets and removes keys in both tables. No copy removes a key: one that is removed
+     from the old table alone stays in the larger.
+   - It changes the larger one first. So a thread that goes over finds there each change of the host's that it found in the old one.
+   - What the larger one refuses to set, the host does not set in the old one.
+   - The old one may be nearly full. What it refuses, the host tries again or takes back in the larger: it removes a new key there. A value
+     that it replaced there, it sets as it was.
+   - After a call that failed, the larger one lacks some keys. Set there with the flags 0, and let the old one tell which keys are there.
+   - Once a call has answered 0, the host opens a reader of the larger table for each thread, and hands it over. No thread opens its own,
+     since bpfrt_table_reader takes the table's handle.
+   - The thread closes its old reader between two runs, and takes the new one. It finds each key in the table that it runs over. When all
+     have gone over, the host closes the old table.
+   - What runs store in a value after it was copied stays in the old table. So do not copy again once a program that stores has run over
+     the larger one. A copy would put the old words over what it stored.
+   - Readers that are opened in the order of the old ones go on with their own values (BPFRT_TABLE_PER_READER).
+   - Copied counters have the old counts, and old readers go on counting in the old table. For exact sums do not copy: set the keys with
+     zeros in the larger table. When the old readers are closed, add the old table's last sums to those of the larger. Only then close the
+     old table.
+
+   -EBADF where either is no table. -EINVAL where both are one, or key_words or value_words differ, or an element has not as many values in
+   both. So with BPFRT_TABLE_PER_READER both need the same number of readers. Else as bpfrt_table_update_elem (-ENOSPC, -E2BIG, -EAGAIN):
+   then some keys are set, each key that was there stays, and the call may be made again. */
 static inline int32_t bpfrt_table_copy(struct bpfrt_table *table, struct bpfrt_table *larger)
 {
 	if (table == larger)
@@ -529,11 +549,10 @@ static inline int32_t bpfrt_table_delete_elem(struct bpfrt_table *table, const u
 	return bpfrt0_table_delete_elem(table, key ? key : bpfrt_no_values(), key_words);
 }
 
-/* Writes the key that comes next behind a key, where a null pointer stands for none: the first of all behind none, or behind one that
-   is not there. The order is the table's own. A walk that gives each time the key that it met last meets each key that stays, and
-   once, unless a key that it gives was removed. A key that is replaced stays. A new key that is put between two calls may move another
-   one, which the walk then may miss or meet twice; where the key that is given was moved, the walk goes on from its new place. -ENOENT
-   where none comes behind; -EINVAL. */
+/* Writes the key that comes next behind a key, in the table's own order. Behind a null pointer, and behind a key that is not there, the
+   first of all comes. A walk gives each time the key that it met last. It meets each key that stays, and once, unless a key that it gives
+   was removed. A key that is replaced stays. A new key that is put between two calls may move another one, which the walk may then miss or
+   meet twice. Where the key that is given was moved, the walk goes on from its new place. -ENOENT where none comes behind; -EINVAL. */
 static inline int32_t bpfrt_table_get_next_key(struct bpfrt_table *table, const uint64_t *key, size_t key_words, uint64_t *next)
 {
 	if (!next && key_words)
