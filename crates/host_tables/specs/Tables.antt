@@ -80,7 +80,7 @@ pub record Moves (v w : WriterView) : Type 0 where
   pub unlinked : w.unlinked ≡ v.unlinked
   pub stay : StayLinked v.table.shape v.view.seen w.view.seen
 
--- Where both buckets of the key were full, the writer moved an element out of them; else it did nothing.
+-- Where both buckets of the key were full, the writer moved elements out of them; else it did nothing.
 abbrev pub MakesWay : List ℕ → WriterView → WriterView → Type 0
 MakesWay key v w = ((w ≡ v) × (AreFull v.view key → ⊥)) ⊎ (AreFull v.view key × Moves v w)
 
