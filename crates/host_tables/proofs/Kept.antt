@@ -1,5 +1,5 @@
 -- What copying leaves linked.
-use Rattle.std.proofs.Common.{◌≡◌, ◌≢◌, ℕ, zero, suc, ◌<◌, List, ◌++◌, refl, sym, ap, ◌∙◌, subst, ⊎_elim, arith, Option, Some, None, Result, Ok, Err, OnOk}
+use Rattle.std.proofs.Common.{◌≡◌, ◌≢◌, ℕ, zero, suc, ◌*◌, ◌<◌, List, ◌++◌, refl, sym, ap, ◌∙◌, subst, ⊎_elim, arith, Option, Some, None, Result, Ok, Err, OnOk, IfErr}
 use mathlib.Core.Logic.{dite}
 use native.Mathlib.Decide.{ℕ_discrete}
 use Rattle.map_table_laws.specs.declared.moves.Move.{Move}
@@ -12,14 +12,19 @@ use Rattle.table_words.specs.declared.view.TableShape.{TableShape}
 use Rattle.map_table.specs.Hashes.{layout_of}
 use Rattle.map_table.specs.Held.{IsKnown, TableView}
 use Rattle.map_table.specs.Reading.{OnlyLoads, Reads}
+use Rattle.map_table.specs.Values.{stored_of}
 use Rattle.map_table.specs.Writing.{Works, WriterView}
 use Rattle.map_table.proofs.Filling.{own_list, went_me, went_shape}
 use Rattle.map_table.proofs.Going.{went_known}
 use Rattle.map_table.proofs.Keeping.{loads_quiet}
 use Rattle.host_tables.specs.declared.fault.How.{How}
 use Rattle.host_tables.specs.declared.fault.How.TheVariants.{Any}
-use Rattle.host_tables.specs.Copies.{IsThere, CopiesKey, Copies}
-use Rattle.host_tables.specs.Tables.{Links, LinksNew, MakesRoom, Moves, PutsUnder, Replaces, Seeks, Sets, needed_for}
+use Rattle.host_tables.specs.declared.fault.SetFault.{SetFault}
+use Rattle.host_tables.specs.declared.fault.SetFault.TheVariants.{Exists, Missing, NoElement, NoWay, Held}
+use Rattle.host_tables.specs.Copies.{AreAlike, IsThere, CopiesKey, Copies, LoadsValues, StopsCopying}
+use Rattle.host_tables.specs.Tables.{FindsNoRoom, IsNoRoom, IsNotSet, IsWhy, Links, LinksNew, MakesRoom, Moves, PutsUnder, Replaces, Seeks, Sets}
+use Rattle.host_tables.specs.Tables.{needed_for}
+use Rattle.host_tables.specs.Walks.{LoadsKey}
 use Rattle.host_tables.proofs.Linked.{Leaves, words_leave, same_key, linked_before, linked_after}
 use Rattle.host_tables.proofs.Tidy.{searches_leave, freed_finds, puts_leave, all_moves, at_end, at_first}
 
@@ -161,9 +166,50 @@ sets_kept k key value how v w b s =
     let put = put_kept k s.found key value s.puts.ready w ready.knows s.puts.puts in
     (kept_then k v s.sought w sought (kept_then k s.sought s.puts.ready w ready put.0), put.1)
 
+-- a key that could not be set changes nothing that is linked
+no_room_kept : (k : TableShape) (key : List ℕ) (found : Option ℕ) (v w : WriterView) (fault : SetFault) → Knows k v → IsNoRoom key found v w fault →
+    Kept k v w
+no_room_kept k key found v w Exists b p = absurd p
+no_room_kept k key found v w Missing b p = absurd p
+no_room_kept k key found v w NoElement b p = kept_same k v w b p.0
+no_room_kept k key found v w NoWay b p = moves_kept k v w b p.1.moves
+no_room_kept k key found v w Held b p = moves_kept k v w b p.1.moves
+
+short_kept : (k : TableShape) (key : List ℕ) (found : Option ℕ) (v w : WriterView) (fault : SetFault) → Knows k v → FindsNoRoom key found v w fault →
+    Kept k v w
+short_kept k key found v w fault b p =
+    let ready = room_kept k (needed_for found) v p.0 b p.1 in
+    kept_then k v p.0 w ready (no_room_kept k key found p.0 w fault ready.knows p.2)
+
+why_kept : (k : TableShape) (key : List ℕ) (how : How) (found : Option ℕ) (v w : WriterView) (fault : SetFault) → Knows k v →
+    IsWhy key how found v w fault → Kept k v w
+why_kept k key how found v w Exists b p = kept_same k v w b p.2
+why_kept k key how found v w Missing b p = kept_same k v w b p.2
+why_kept k key how found v w NoElement b p = short_kept k key found v w NoElement b p.1
+why_kept k key how found v w NoWay b p = short_kept k key found v w NoWay b p.1
+why_kept k key how found v w Held b p = short_kept k key found v w Held b p.1
+
+not_set_kept : (k : TableShape) (key : List ℕ) (how : How) (v w : WriterView) (fault : SetFault) → Knows k v → IsNotSet key how v w fault → Kept k v w
+not_set_kept k key how v w fault b s =
+    let sought = sought_kept k key s.found v s.sought b s.seeks in
+    kept_then k v s.sought w sought (why_kept k key how s.found s.sought w fault sought.knows s.why)
+
+-- what loading a key, or values, leaves
+key_loaded : (k : TableShape) (way : ℕ) (key : List ℕ) (v w : WriterView) → Knows k v → LoadsKey way key v w → Kept k v w
+key_loaded k way key v w b l = record {
+  knows = knows_after k v w l.moves b l.works;
+  stays = left_there k v w l.moves b l.works (searches_leave (layout_of v.table.shape) 0 l.moves l.only);
+}
+
+values_loaded : (k : TableShape) (way : ℕ) (words : List ℕ) (v w : WriterView) → Knows k v → LoadsValues way words v w → Kept k v w
+values_loaded k way words v w b l = record {
+  knows = knows_after k v w l.moves b l.works;
+  stays = left_there k v w l.moves b l.works (λ way. words_leave way l.moves (loads_quiet l.moves l.only).words);
+}
+
 -- what copying leaves: the writer of the one table only loads
 pub record Copied (k l : TableShape) (n : ℕ) (v a w b : WriterView) : Type 0 where
-  pub knows : Knows k w
+  pub here : Kept k v w
   pub before : (key : List ℕ) (way : ℕ) → IsLinkedUnder (layout_of k) 0 key way w.view.seen → IsLinkedUnder (layout_of k) 0 key way v.view.seen
   pub kept : Kept l a b
   pub linked : (key : List ℕ) (way : ℕ) → way < n → IsLinkedUnder (layout_of k) 0 key way w.view.seen → IsThere l key b
@@ -173,11 +219,11 @@ module _ (k l : TableShape) (n : ℕ) (v a u c w b : WriterView) (p : Copied k l
   nothing_copied : word_in n u.view.mine ≡ 0 → w ≡ u → b ≡ c → Copied k l (suc n) v a w b
   nothing_copied none same_w same_b =
       subst (λ (z : WriterView × WriterView). Copied k l (suc n) v a z.0 z.1) (λ i. (sym same_w i, sym same_b i)) record {
-        knows = p.knows;
+        here = p.here;
         before = p.before;
         kept = p.kept;
         linked = λ key way low x. dite (ℕ_discrete way n)
-            (λ here. absurd (not_empty k key n u p.knows none (subst (λ z. IsLinkedUnder (layout_of k) 0 key z u.view.seen) here x)))
+            (λ here. absurd (not_empty k key n u p.here.knows none (subst (λ z. IsLinkedUnder (layout_of k) 0 key z u.view.seen) here x)))
             (λ ne. p.linked key way (omega (arith, low, ne)) x);
       }
 
@@ -185,17 +231,17 @@ module _ (k l : TableShape) (n : ℕ) (v a u c w b : WriterView) (p : Copied k l
   key_copied q =
       let lk = q.loads_key in
       let lv = q.loads_values in
-      let met = knows_after k u q.met lk.moves p.knows lk.works in
-      let last = knows_after k q.met w lv.moves met lv.works in
+      let met = key_loaded k n q.key u q.met p.here.knows lk in
+      let last = values_loaded k n q.words q.met w met.knows lv in
       let set = sets_kept l q.key q.words Any c b p.kept.knows q.sets in
       let back : (key : List ℕ) (way : ℕ) → IsLinkedUnder (layout_of k) 0 key way w.view.seen → IsLinkedUnder (layout_of k) 0 key way q.met.view.seen =
-      was_there k q.met w lv.moves met lv.works (λ way. words_leave way lv.moves (loads_quiet lv.moves lv.only).words) in
+      was_there k q.met w lv.moves met.knows lv.works (λ way. words_leave way lv.moves (loads_quiet lv.moves lv.only).words) in
       let older : (key : List ℕ) (way : ℕ) → IsLinkedUnder (layout_of k) 0 key way w.view.seen → IsLinkedUnder (layout_of k) 0 key way u.view.seen =
       λ key way x.
-      was_there k u q.met lk.moves p.knows lk.works (searches_leave (layout_of u.table.shape) 0 lk.moves lk.only) key way (back key way x) in
-      let under = subst (λ (z : TableShape). IsLinkedUnder (layout_of z) 0 q.key n q.met.view.seen) p.knows.table lk.under in
+      was_there k u q.met lk.moves p.here.knows lk.works (searches_leave (layout_of u.table.shape) 0 lk.moves lk.only) key way (back key way x) in
+      let under = subst (λ (z : TableShape). IsLinkedUnder (layout_of z) 0 q.key n q.met.view.seen) p.here.knows.table lk.under in
       record {
-        knows = last;
+        here = kept_then k v u w p.here (kept_then k u q.met w met last);
         before = λ key way x. p.before key way (older key way x);
         kept = kept_then l a c b p.kept set.0;
         linked = λ key way low x. dite (ℕ_discrete way n)
@@ -208,7 +254,7 @@ module _ (k l : TableShape) (n : ℕ) (v a u c w b : WriterView) (p : Copied k l
 pub copied : (k l : TableShape) (n : ℕ) (v a w b : WriterView) → Knows k v → Knows l a → Copies n v a w b → Copied k l n v a w b
 copied k l zero v a w b p q is =
     subst (λ (z : WriterView × WriterView). Copied k l zero v a z.0 z.1) (λ i. (sym is.0 i, sym is.1 i)) record {
-      knows = p;
+      here = kept_same k v v p refl;
       before = λ key way x. x;
       kept = kept_same l a a q refl;
       linked = λ key way low x. absurd (omega (arith, low));
@@ -219,6 +265,26 @@ copied k l (suc n) v a w b p q c =
     (λ t. nothing_copied k l n v a c.0 c.1 w b so_far t.0 t.1 t.2)
     (λ t. key_copied k l n v a c.0 c.1 w b so_far t)
     c.3
+
+-- a copy that stopped changes nothing that is linked in either table, and so does one that did not
+stopped : (k l s : TableShape) (v a w b : WriterView) (fault : SetFault) → Knows k v → Knows l a → StopsCopying s v a w b fault → Kept k v w × Kept l a b
+stopped k l s v a w b fault p q x =
+    let so_far = copied k l x.count v a x.u x.c p q x.copies in
+    let at = x.stops in
+    let met = key_loaded k x.count at.key x.u at.met so_far.here.knows at.loads_key in
+    let last = values_loaded k x.count at.words at.met w met.knows at.loads_values in (
+      kept_then k v x.u w so_far.here (kept_then k x.u at.met w met last),
+      kept_then l a x.c b so_far.kept (not_set_kept l at.key Any x.c b fault so_far.kept.knows at.fails),
+    )
+
+pub both_kept : (k l s : TableShape) (n : ℕ) (v a w b : WriterView) (r : Result (Unit {0}) SetFault) → Knows k v → Knows l a →
+    OnOk r (Copies n v a w b) → IfErr r (StopsCopying s v a w b) → Kept k v w × Kept l a b
+both_kept k l s n v a w b (Ok x) p q copies stops = let c = copied k l n v a w b p q copies in (c.here, c.kept)
+both_kept k l s n v a w b (Err fault) p q copies stops = stopped k l s v a w b fault p q stops
+
+-- the values of tables that are alike have as many words
+pub alike_stored : (k l : TableShape) → AreAlike k l → stored_of k ≡ stored_of l
+alike_stored k l alike i = alike.words i * alike.copies i
 
 -- reading words only loads
 pub reads_only : (element from n : ℕ) (words : List ℕ) (ms : List Move) → Reads element from words n ms → OnlyLoads ms

@@ -3,7 +3,7 @@ use Rattle.std.specs.Prelude.{◌≡◌, ◌⊎◌, ℕ, zero, suc, ◌<◌, Lis
 use Rattle.map_table.specs.Hashes.{layout_of}
 use Rattle.map_table.specs.Law.{ways_of}
 use Rattle.map_table.specs.Reading.{OnlyLoads, Reads}
-use Rattle.map_table.specs.Values.{stored_of}
+use Rattle.map_table.specs.Values.{copies_of, stored_of}
 use Rattle.map_table.specs.Writing.{Works, WriterView}
 use Rattle.table_words.specs.declared.view.TableShape.{TableShape}
 use Rattle.map_table_laws.specs.declared.moves.Move.{Move}
@@ -11,7 +11,8 @@ use Rattle.map_table_laws.specs.Found.{IsLinkedUnder}
 use Rattle.map_table_laws.specs.History.{word_in}
 use Rattle.map_table_laws.specs.Layout.{Names}
 use Rattle.host_tables.specs.declared.fault.How.TheVariants.{Any}
-use Rattle.host_tables.specs.Tables.{Sets}
+use Rattle.host_tables.specs.declared.fault.SetFault.{SetFault}
+use Rattle.host_tables.specs.Tables.{IsNotSet, Sets}
 use Rattle.host_tables.specs.Walks.{LoadsKey}
 
 -- the key is linked, in whatever way
@@ -26,10 +27,11 @@ AreAllThere k l w b = (key : List ℕ) (way : ℕ) → way < ways_of k → IsLin
 abbrev pub StayThere : TableShape → WriterView → WriterView → Type 0
 StayThere k v w = (key : List ℕ) → IsThere k key v → IsThere k key w
 
--- Keys have as many words in both tables, and so have all values of an element.
+-- Keys have as many words in both tables, and so have values, of which each element has as many.
 pub record AreAlike (k l : TableShape) : Type 0 where
   pub keys : k.key_words ≡ l.key_words
-  pub values : stored_of k ≡ stored_of l
+  pub words : k.value_words ≡ l.value_words
+  pub copies : copies_of k ≡ copies_of l
 
 -- The words of all values of the element in this way were loaded, each once, and nothing else was done.
 pub record LoadsValues (way : ℕ) (words : List ℕ) (v w : WriterView) : Type 0 where
@@ -39,6 +41,8 @@ pub record LoadsValues (way : ℕ) (words : List ℕ) (v w : WriterView) : Type 
   pub only : OnlyLoads moves
   pub reads : Reads element v.table.shape.key_words words (stored_of v.table.shape) moves
   pub works : Works v moves w
+  pub free : w.free ≡ v.free
+  pub unlinked : w.unlinked ≡ v.unlinked
 
 -- The one writer loaded the key of this way and its values, and the other set that key with these.
 pub record CopiesKey (way : ℕ) (v a w b : WriterView) : Type 0 where
@@ -57,3 +61,21 @@ CopiesWay way v a w b = ((word_in way v.view.mine ≡ 0) × (w ≡ v) × (b ≡ 
 abbrev pub Copies : ℕ → WriterView → WriterView → WriterView → WriterView → Type 0
 Copies zero v a w b = (w ≡ v) × (b ≡ a)
 Copies (suc n) v a w b = (u c : WriterView) × Copies n v a u c × CopiesWay n u c w b
+
+-- The one writer loaded the key of this way and its values, and for this reason the other did not set that key.
+pub record StopsAt (way : ℕ) (v a w b : WriterView) (fault : SetFault) : Type 0 where
+  pub key : List ℕ
+  pub words : List ℕ
+  pub met : WriterView
+  pub loads_key : LoadsKey way key v met
+  pub loads_values : LoadsValues way words met w
+  pub fails : IsNotSet key Any a b fault
+
+-- The keys of the first ways were copied, and that of the next one could not be set in the other table for this reason.
+pub record StopsCopying (k : TableShape) (v a w b : WriterView) (fault : SetFault) : Type 0 where
+  pub count : ℕ
+  pub some : count < ways_of k
+  pub u : WriterView
+  pub c : WriterView
+  pub copies : Copies count v a u c
+  pub stops : StopsAt count u c w b fault

@@ -1,10 +1,10 @@
 //! How the keys of one table are copied into another.
-ghost use Rattle.std.specs.Prelude.{◌≡◌, ◌<◌, ◌≤◌, ℕ, List, OnOk, IfOk, length, true, false};
+ghost use Rattle.std.specs.Prelude.{◌≡◌, ◌<◌, ◌≤◌, ℕ, List, OnOk, IfErr, length, true, false};
 ghost use Rattle.map_table.specs.Law.{ways_of};
 ghost use Rattle.map_table.specs.Values.{stored_of};
 ghost use Rattle.map_table.specs.Writing.{WriterView};
-ghost use Rattle.host_tables.specs.Copies.{AreAlike, Copies, CopiesWay, IsThere, LoadsValues};
-ghost use Rattle.host_tables.specs.Tables.{IsTidy, Sets};
+ghost use Rattle.host_tables.specs.Copies.{AreAlike, Copies, CopiesWay, LoadsValues, StopsAt, StopsCopying};
+ghost use Rattle.host_tables.specs.Tables.{IsNotSet, IsTidy, Sets};
 ghost use Rattle.host_tables.specs.Walks.{LoadsKey};
 ghost use Rattle.host_tables.specs.declared.fault.How.TheVariants.{Any};
 ghost use Rattle.map_table_laws.specs.History.{word_in};
@@ -28,6 +28,7 @@ fn set_any(
     requires value { length value.now ≡ stored_of table.now.shape }
     ensures table { writer.new.table ≡ writer.old.table }
     ensures set { OnOk result (Sets key.now value.now Any writer.old writer.new) }
+    ensures fault { IfErr result (IsNotSet key.now Any writer.old writer.new) }
     ensures tidy { IsTidy writer.old → IsTidy writer.new }
 {
     let found = seek(table, writer, key);
@@ -62,14 +63,15 @@ fn load_way(
     writer.value_at(table, way, words)
 }
 
-/// Copies the key of a way, with the values of its element: whether there is one.
+/// Copies the key of a way, with the values of its element, if there is one.
+#[tactic(auto, using(crate::proofs::Kept::alike_stored))]
 fn copy_way(
     table: &MapTable,
     writer: &mut Writer,
     way: usize,
     other: &MapTable,
     other_writer: &mut Writer,
-) -> Result<bool, SetFault>
+) -> Result<(), SetFault>
     requires table { writer.old.table ≡ table.now }
     requires other { other_writer.old.table ≡ other.now }
     requires alike { AreAlike table.now.shape other.now.shape }
@@ -77,6 +79,7 @@ fn copy_way(
     ensures table { writer.new.table ≡ writer.old.table }
     ensures other { other_writer.new.table ≡ other_writer.old.table }
     ensures copies { OnOk result (CopiesWay way writer.old other_writer.old writer.new other_writer.new) }
+    ensures fault { IfErr result (StopsAt way writer.old other_writer.old writer.new other_writer.new) }
     ensures tidy { IsTidy writer.old → IsTidy writer.new }
     ensures other_tidy { IsTidy other_writer.old → IsTidy other_writer.new }
 {
@@ -86,33 +89,30 @@ fn copy_way(
     let key = &mut key_words[..shape.key_words];
     let words = &mut value_words[..shape.stored_words()];
     if !load_way(table, writer, way, key, words) {
-        return Ok(false);
+        return Ok(());
     }
-    set_any(other, other_writer, key, words)?;
-    Ok(true)
+    set_any(other, other_writer, key, words)
 }
 
-/// Copies all keys: how many.
+/// Copies all keys.
 pub(crate) fn copy_all(
     table: &MapTable,
     writer: &mut Writer,
     other: &MapTable,
     other_writer: &mut Writer,
-) -> Result<usize, SetFault>
+) -> Result<(), SetFault>
     requires table { writer.old.table ≡ table.now }
     requires other { other_writer.old.table ≡ other.now }
     requires alike { AreAlike table.now.shape other.now.shape }
     ensures table { writer.new.table ≡ writer.old.table }
     ensures other { other_writer.new.table ≡ other_writer.old.table }
     ensures copies { OnOk result (Copies (ways_of table.now.shape) writer.old other_writer.old writer.new other_writer.new) }
+    ensures fault { IfErr result (StopsCopying table.now.shape writer.old other_writer.old writer.new other_writer.new) }
     ensures tidy { IsTidy writer.old → IsTidy writer.new }
     ensures other_tidy { IsTidy other_writer.old → IsTidy other_writer.new }
 {
-    let mut count = 0;
     for way in 0..table.shape().buckets * BUCKET_WAYS {
-        if copy_way(table, writer, way, other, other_writer)? {
-            count += 1;
-        }
+        copy_way(table, writer, way, other, other_writer)?;
     }
-    Ok(count)
+    Ok(())
 }

@@ -4,7 +4,7 @@ ghost use Rattle.map_table.specs.Hashes.{layout_of};
 ghost use Rattle.map_table.specs.Held.{IsReady, IsSized};
 ghost use Rattle.map_table.specs.Law.{ways_of};
 ghost use Rattle.map_table_laws.specs.Once.{AreLinkedOnce};
-ghost use Rattle.host_tables.specs.Copies.{AreAlike, AreAllThere, Copies, StayThere};
+ghost use Rattle.host_tables.specs.Copies.{AreAlike, AreAllThere, Copies, StayThere, StopsCopying};
 ghost use Rattle.map_table.specs.Values.{stored_of};
 ghost use Rattle.host_tables.specs.Reading.{CanServe};
 ghost use Rattle.host_tables.specs.Tables.{IsNewTable, IsNotSet, Reads, Reclaims, Removes, Seeks, Sets};
@@ -160,24 +160,28 @@ impl HostTable {
         }
     }
 
-    /// Whether keys and values have as many words in another table as here, so that they can be copied.
+    /// Whether keys can be copied into another table: they have as many words there, and so have values, of which each element
+    /// has as many.
     pub fn is_alike(&self, other: &HostTable) -> bool
         ensures { Decides result (AreAlike self.now.table.shape other.now.table.shape) }
     {
         let here = self.table.shape();
         let there = other.table.shape();
-        here.key_words == there.key_words && here.stored_words() == there.stored_words()
+        here.key_words == there.key_words
+            && here.value_words == there.value_words
+            && here.copies() == there.copies()
     }
 
-    /// Links each key of this table in another one, with the words of all its values, and answers how many there are. Of a key that
-    /// is linked there it puts the values in the place of those. So a host goes over to a larger table: it copies the keys, and
-    /// from then on sets and removes keys in both. Each reader changes over between two runs, so it looks into one of them, and
-    /// there it finds each key (law `null_refutes_every_element`). Once each has changed over, the smaller one is dropped.
+    /// Links each key of this table in another one, with the words of all its values. Of a key that is linked there it puts the
+    /// values in the place of those. So a host goes over to a larger table: it copies the keys, and from then on sets and removes
+    /// keys in both. Each reader changes over between two runs. No law spans both tables: each reader looks into one, and there it
+    /// finds each key that stays linked (law `kept_keys_are_found`). Once each has changed over, the smaller one is dropped.
     ///
     /// What readers store in a value after it was loaded is not copied.
     ///
-    /// Errors: as `set` into the other table; then some keys are linked there, and it may be called again.
-    pub fn copy_to(&mut self, other: &mut HostTable) -> Result<usize, SetFault>
+    /// Errors: as `set` into the other table, by `How::Any`. The keys of the first ways are set there then, and that of the next
+    /// one is not. What was linked in either table stays, and it may be called again.
+    pub fn copy_to(&mut self, other: &mut HostTable) -> Result<(), SetFault>
         requires alike { AreAlike self.old.table.shape other.old.table.shape }
         ensures table { self.new.table ≡ self.old.table }
         ensures other { other.new.table ≡ other.old.table }
@@ -185,10 +189,15 @@ impl HostTable {
         ensures other_seats { other.new.seats ≡ other.old.seats }
         ensures copies { OnOk result (Copies (ways_of self.old.table.shape) self.old.writer other.old.writer
             self.new.writer other.new.writer) }
+        ensures fault { IfErr result (StopsCopying self.old.table.shape self.old.writer other.old.writer
+            self.new.writer other.new.writer) }
 
-        // Each key that is linked here is linked there, and each that was linked there still is.
+        // Each key that is linked here is linked there.
         ensures linked { OnOk result (AreAllThere self.old.table.shape other.old.table.shape self.new.writer other.new.writer) }
-        ensures kept { OnOk result (StayThere other.old.table.shape other.old.writer other.new.writer) }
+
+        // What was linked in either table still is, also where it fails.
+        ensures stay { StayThere self.old.table.shape self.old.writer self.new.writer }
+        ensures kept { StayThere other.old.table.shape other.old.writer other.new.writer }
     {
         self.writer.is_writers();
         other.writer.is_writers();

@@ -34,6 +34,8 @@ returns-clause-loads c = λ yes.
         only = reads_only f.0 c.args.table.now.shape.key_words (stored_of c.args.table.now.shape) c.value_at.new.words f.1 f.3;
         reads = subst (λ (z : TableView). Reads f.0 z.shape.key_words c.value_at.new.words (stored_of z.shape) f.1) (sym u) f.3;
         works = f.4;
+        free = c.value_at.ensures.free;
+        unlinked = c.value_at.ensures.unlinked;
       },
     )
 
