@@ -20,19 +20,20 @@ use verifier::{Verified, verify};
 const READERS: usize = 8;
 
 /// How many keys stay linked, from 0 on. Their values are replaced again and again.
-const KEPT: u32 = 1024;
+const KEPT: u32 = 64;
 
 /// How many keys behind them come and go. Half of them are linked, more or less.
-const PASSING: u32 = 512;
+const PASSING: u32 = 32;
 
 /// How many keys the writer changes before it reclaims.
-const STRIDE: u32 = 64;
+const STRIDE: u32 = 16;
 
-/// A table of 1,376 ways, of which some 1,280 are full, so that elements move; with twice as many elements.
+/// A table of 88 ways, of which some 80 are full, so that elements move. It has few keys, so that readers are often at one that is
+/// moved.
 const SHAPE: TableShape = TableShape {
     readers: READERS,
-    buckets: 172,
-    elements: 2560,
+    buckets: 11,
+    elements: 512,
     key_words: 1,
     value_words: 1,
     values: Values::Shared,
