@@ -489,7 +489,8 @@ static inline int32_t bpfrt_table_reader(struct bpfrt_reader *reader, struct bpf
    is moved to the other bucket of its own key, if that has room. No run misses it, and what runs store there stays. -EEXIST, -ENOENT.
    -ENOSPC where still too few are free, until runs end or a key is removed. -E2BIG where both buckets of a new key are full, and no
    element there can be moved. -EAGAIN where an element could be moved, but a run stayed in one section meanwhile; each stands where it
-   stood: call again. -EINVAL for a wrong length or flag. */
+   stood: call again. With more busy threads than processors this may last for seconds; a larger table ends it. -EINVAL for a wrong
+   length or flag. */
 static inline int32_t bpfrt_table_update_elem(struct bpfrt_table *table, const uint64_t *key, size_t key_words, const uint64_t *value,
 	size_t value_words, uint64_t flags)
 {
