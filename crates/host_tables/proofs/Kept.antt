@@ -195,6 +195,12 @@ not_set_kept k key how v w fault b s =
     let sought = sought_kept k key s.found v s.sought b s.seeks in
     kept_then k v s.sought w sought (why_kept k key how s.found s.sought w fault sought.knows s.why)
 
+-- whether a key is set or not, what is linked stays
+pub set_kept : (k : TableShape) (key value : List ℕ) (how : How) (v w : WriterView) (r : Result (Unit {0}) SetFault) → Knows k v →
+    OnOk r (Sets key value how v w) → IfErr r (IsNotSet key how v w) → Kept k v w
+set_kept k key value how v w (Ok x) b sets fails = (sets_kept k key value how v w b sets).0
+set_kept k key value how v w (Err fault) b sets fails = not_set_kept k key how v w fault b fails
+
 -- what loading a key, or values, leaves
 key_loaded : (k : TableShape) (way : ℕ) (key : List ℕ) (v w : WriterView) → Knows k v → LoadsKey way key v w → Kept k v w
 key_loaded k way key v w b l = record {

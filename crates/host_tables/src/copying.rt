@@ -4,36 +4,16 @@ ghost use Rattle.map_table.specs.Law.{ways_of};
 ghost use Rattle.map_table.specs.Values.{stored_of};
 ghost use Rattle.map_table.specs.Writing.{WriterView};
 ghost use Rattle.host_tables.specs.Copies.{AreAlike, Copies, CopiesWay, LoadsValues, StopsAt, StopsCopying};
-ghost use Rattle.host_tables.specs.Tables.{IsNotSet, IsTidy, Sets};
+ghost use Rattle.host_tables.specs.Tables.{IsTidy};
 ghost use Rattle.host_tables.specs.Walks.{LoadsKey};
-ghost use Rattle.host_tables.specs.declared.fault.How.TheVariants.{Any};
 ghost use Rattle.map_table_laws.specs.History.{word_in};
 
-use crate::fault::SetFault;
-use crate::writing::{seek, set_found};
+use crate::fault::{How, SetFault};
+use crate::writing::set_asked;
 use map_table::{BUCKET_WAYS, MAX_READERS, MAX_WORDS, MapTable, Writer};
 
 /// The most words that all values of an element have.
 const MAX_STORED: usize = MAX_WORDS * MAX_READERS;
-
-/// Sets a key, whether it is linked or not.
-fn set_any(
-    table: &MapTable,
-    writer: &mut Writer,
-    key: &[u64],
-    value: &[u64],
-) -> Result<(), SetFault>
-    requires table { writer.old.table ≡ table.now }
-    requires key { length key.now ≡ table.now.shape.key_words }
-    requires value { length value.now ≡ stored_of table.now.shape }
-    ensures table { writer.new.table ≡ writer.old.table }
-    ensures set { OnOk result (Sets key.now value.now Any writer.old writer.new) }
-    ensures fault { IfErr result (IsNotSet key.now Any writer.old writer.new) }
-    ensures tidy { IsTidy writer.old → IsTidy writer.new }
-{
-    let found = seek(table, writer, key);
-    set_found(table, writer, found, key, value)
-}
 
 /// Loads the key of a way, and the words of all values of its element. False where the way is empty, and then nothing is done.
 fn load_way(
@@ -91,7 +71,7 @@ fn copy_way(
     if !load_way(table, writer, way, key, words) {
         return Ok(());
     }
-    set_any(other, other_writer, key, words)
+    set_asked(other, other_writer, key, words, How::Any)
 }
 
 /// Copies all keys.

@@ -4,7 +4,7 @@ ghost use Rattle.map_table.specs.Hashes.{layout_of};
 ghost use Rattle.map_table.specs.Held.{IsReady, IsSized};
 ghost use Rattle.map_table.specs.Law.{ways_of};
 ghost use Rattle.map_table_laws.specs.Once.{AreLinkedOnce};
-ghost use Rattle.host_tables.specs.Copies.{AreAlike, AreAllThere, Copies, StayThere, StopsCopying};
+ghost use Rattle.host_tables.specs.Copies.{AreAlike, AreAllThere, Copies, IsThere, StayThere, StopsCopying};
 ghost use Rattle.map_table.specs.Values.{stored_of};
 ghost use Rattle.host_tables.specs.Reading.{CanServe};
 ghost use Rattle.host_tables.specs.Tables.{IsNewTable, IsNotSet, Reads, Reclaims, Removes, Seeks, Sets};
@@ -17,7 +17,7 @@ use crate::copying::copy_all;
 use crate::fault::{How, SetFault, TableFault, TableRunFault};
 use crate::reader::{HostReader, serves};
 use crate::walking::{load_first, start_behind};
-use crate::writing::{read_sums, reclaim, seek, set_found, unlink};
+use crate::writing::{read_sums, reclaim, seek, set_asked, unlink};
 use host_programs::HostProgram;
 use map_table::{
     MAX_BUCKETS, MAX_ELEMENTS, MAX_READERS, MAX_WORDS, MapTable, ReadSeat, TableShape, Writer,
@@ -150,14 +150,14 @@ impl HostTable {
         ensures seats { self.new.seats ≡ self.old.seats }
         ensures set { OnOk result (Sets key.now value.now how self.old.writer self.new.writer) }
         ensures fault { IfErr result (IsNotSet key.now how self.old.writer self.new.writer) }
+
+        // A key that is set is linked, and what was linked still is, also where none is set.
+        ensures linked { OnOk result (IsThere self.old.table.shape key.now self.new.writer) }
+        ensures stay { StayThere self.old.table.shape self.old.writer self.new.writer }
     {
         let _shape = self.table.shape();
-        let found = seek(&self.table, &mut self.writer, key);
-        match (found, how) {
-            (Some(_), How::New) => Err(SetFault::Exists),
-            (None, How::Present) => Err(SetFault::Missing),
-            _ => set_found(&self.table, &mut self.writer, found, key, value),
-        }
+        self.writer.is_writers();
+        set_asked(&self.table, &mut self.writer, key, value, how)
     }
 
     /// Whether keys can be copied into another table: they have as many words there, and so have values, of which each element

@@ -4,10 +4,10 @@ ghost use Rattle.map_table.specs.Values.{stored_of};
 ghost use Rattle.map_table.specs.Law.{ways_of};
 ghost use Rattle.map_table.specs.Writing.{Works};
 ghost use Rattle.map_table_laws.specs.declared.moves.Move.{Move};
-ghost use Rattle.host_tables.specs.Tables.{Finds, FindsNoRoom, IsNoRoom, IsTidy, LinksNew, MakesRoom, PutsUnder, PutsWithRoom, Reclaims, Replaces, Seeks, SumsUp, Unlinks, needed_for};
+ghost use Rattle.host_tables.specs.Tables.{Finds, FindsNoRoom, IsNoRoom, IsNotSet, IsTidy, LinksNew, MakesRoom, PutsUnder, PutsWithRoom, Reclaims, Replaces, Seeks, Sets, SumsUp, Unlinks, needed_for};
 ghost use Rattle.map_table_laws.specs.History.{word_in};
 
-use crate::fault::SetFault;
+use crate::fault::{How, SetFault};
 use map_table::{MapTable, Room, Writer};
 
 /// How many elements are to be free for a value under a key that was found in this way, or in none.
@@ -178,6 +178,30 @@ pub(crate) fn set_found(
 {
     make_room(table, writer, found);
     put_under(table, writer, found, key, value)
+}
+
+/// Sets a key that is asked for, and says why it does not.
+pub(crate) fn set_asked(
+    table: &MapTable,
+    writer: &mut Writer,
+    key: &[u64],
+    value: &[u64],
+    how: How,
+) -> Result<(), SetFault>
+    requires table { writer.old.table ≡ table.now }
+    requires key { length key.now ≡ table.now.shape.key_words }
+    requires value { length value.now ≡ stored_of table.now.shape }
+    ensures table { writer.new.table ≡ writer.old.table }
+    ensures set { OnOk result (Sets key.now value.now how writer.old writer.new) }
+    ensures fault { IfErr result (IsNotSet key.now how writer.old writer.new) }
+    ensures tidy { IsTidy writer.old → IsTidy writer.new }
+{
+    let found = seek(table, writer, key);
+    match (found, how) {
+        (Some(_), How::New) => Err(SetFault::Exists),
+        (None, How::Present) => Err(SetFault::Missing),
+        _ => set_found(table, writer, found, key, value),
+    }
 }
 
 /// Empties a way that names an element.

@@ -10,9 +10,9 @@ returns-clause-copies c =
     let key = c.load_way.new.key in
     let words = c.load_way.new.words in
     let a = c.args.other_writer.now in
-    let b = c.set_any.new.writer in
+    let b = c.set_asked.new.writer in
     let l = c.load_way.ensures.loads c.if-not-load_way.false in
-    ok_then c.set_any.result (Sets key words Any a b)
+    ok_then c.set_asked.result (Sets key words Any a b)
     (CopiesWay c.args.way c.args.writer.now a c.load_way.new.writer b)
     (λ sets. inr record { key = key; words = words; met = l.0; loads_key = l.1; loads_values = l.2; sets = sets })
-    c.set_any.ensures.set
+    c.set_asked.ensures.set

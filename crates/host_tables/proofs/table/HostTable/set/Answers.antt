@@ -1,15 +1,37 @@
-use Rattle.std.proofs.Common.{ap}
-use Rattle.host_tables.specs.Tables.{IsAsked, OpenTable}
-use Rattle.host_tables.proofs.Seeking.{asked_some, asked_none, not_set}
-use Rattle.host_tables.proofs.table.HostTable.set.Goals.{in_default-via-in-Some+in_default, in_default-via-in-None+in_default}
+use Rattle.std.proofs.Common.{◌≡◌, ◌∙◌, sym, ap, subst}
+use Rattle.map_table.specs.Held.{TableView}
+use Rattle.host_tables.specs.Copies.{IsThere}
+use Rattle.host_tables.specs.Tables.{OpenTable, Sets}
+use Rattle.host_tables.proofs.Kept.{Knows, ok_then, set_kept, sets_kept}
 use Rattle.host_tables.proofs.table.HostTable.set.Goals as goal
 
-pub returns-in_default-clause-fault : goal.returns-in_default-clause-fault
-returns-in_default-clause-fault c =
-    let found = c.seek-found.result in
-    let asked : IsAsked c.args.how found = elim c.in_default.branch [
-      | in_default-via-in-Some+in_default w ↦ asked_some c.args.how found w.in_default.field-0-0 w.in_default.is-0 w.in_default.not-New-1
-      | in_default-via-in-None+in_default w ↦ asked_none c.args.how found w.in_default.is-0 w.in_default.not-Present-1
-    ] in
-    not_set c.args.key.now c.args.how found c.self.inside.writer c.args.self.now.writer c.seek-found.new.writer c.set_found.new.writer c.set_found.result
-    (ap (λ (t : OpenTable). t.writer) c.self.view_is) c.seek-found.ensures.seeks asked c.set_found.ensures.fault
+pub returns-clause-linked : goal.returns-clause-linked
+returns-clause-linked c =
+    let k = c.args.self.now.table.shape in
+    let v = c.self.inside.writer in
+    let w = c.set_asked.new.writer in
+    let here : v.table.shape ≡ k = ap (λ (t : TableView). t.shape) c.self.invariant.0 ∙ ap (λ (t : OpenTable). t.table.shape) c.self.view_is in
+    let knows : Knows k v = record {
+      me = c.is_writers.ensures.me;
+      shape = c.is_writers.ensures.shape ∙ here;
+      table = here;
+      known = c.is_writers.ensures.known;
+    } in
+    ok_then c.set_asked.result (Sets c.args.key.now c.args.value.now c.args.how v w) (IsThere k c.args.key.now w)
+    (λ s. (sets_kept k c.args.key.now c.args.value.now c.args.how v w knows s).1) c.set_asked.ensures.set
+
+pub returns-clause-stay : goal.returns-clause-stay
+returns-clause-stay c =
+    let k = c.args.self.now.table.shape in
+    let v = c.self.inside.writer in
+    let w = c.set_asked.new.writer in
+    let here : v.table.shape ≡ k = ap (λ (t : TableView). t.shape) c.self.invariant.0 ∙ ap (λ (t : OpenTable). t.table.shape) c.self.view_is in
+    let knows : Knows k v = record {
+      me = c.is_writers.ensures.me;
+      shape = c.is_writers.ensures.shape ∙ here;
+      table = here;
+      known = c.is_writers.ensures.known;
+    } in
+    let old : v ≡ c.args.self.now.writer = ap (λ (t : OpenTable). t.writer) c.self.view_is in
+    λ key x. (set_kept k c.args.key.now c.args.value.now c.args.how v w c.set_asked.result knows c.set_asked.ensures.set c.set_asked.ensures.fault).stays
+    key (subst (IsThere k key) (sym old) x)
