@@ -700,6 +700,30 @@ static void copied_table(void)
 	IS(bpfrt_prog_close(&prog), 0);
 }
 
+/* Elements of eight words, which are so many values of so many words. Only into a table with as many of each is one copied. */
+static void copied_words(void)
+{
+	static const struct bpfrt_table_shape shapes[] = {{2, 1, 2, 1, 4, BPFRT_TABLE_PER_READER, 1, 2}, {4, 1, 2, 1, 2, BPFRT_TABLE_PER_READER, 3, 4},
+							  {8, 1, 2, 1, 8, BPFRT_TABLE_SHARED, 5, 6}, {8, 1, 2, 1, 1, BPFRT_TABLE_PER_READER, 7, 8}};
+	const uint64_t values[8] = {1, 2, 3, 4, 5, 6, 7, 8}, key = 5;
+	for (size_t from = 0; from < 4; from++) {
+		for (size_t to = 0; to < 4; to++) {
+			struct bpfrt_table table = {0}, other = {0};
+			uint64_t one[8] = {0}, two[8] = {0};
+			open_table(&table, shapes[from]);
+			open_table(&other, shapes[to]);
+			IS(bpfrt_table_update_elem(&table, &key, 1, values, 8, 0), 0);
+			IS(bpfrt_table_copy(&table, &other), from == to ? 0 : -EINVAL);
+			has(&other, from == to ? 1 : 2, 0, shapes[to].readers);
+			IS(bpfrt_table_lookup_elem(&table, &key, 1, one, shapes[from].value_words), 0);
+			IS(bpfrt_table_lookup_elem(&other, &key, 1, two, shapes[to].value_words), from == to ? 0 : -ENOENT);
+			IS(from != to || memcmp(one, two, sizeof one) == 0, true);
+			IS(bpfrt_table_close(&table), 0);
+			IS(bpfrt_table_close(&other), 0);
+		}
+	}
+}
+
 static void words_of_tables(void)
 {
 	struct bpfrt_table table = {0};
@@ -1210,6 +1234,7 @@ int main(void)
 	walks();
 	full_bucket();
 	copied_table();
+	copied_words();
 	words_of_tables();
 	seats();
 	runs_over_table();
