@@ -4,7 +4,6 @@ use Rattle.bpf_model.specs.Call.{errno_number}
 use Rattle.bpf_model.specs.declared.event.Answer.{Answer}
 use Rattle.bpf_model.specs.declared.event.Answer.TheVariants as answers
 use Rattle.bpf_model.specs.declared.event.Event.{Event}
-use Rattle.bpf_model.specs.declared.event.Event.TheVariants as events
 use Rattle.bpf_model.specs.declared.event.EventRefusal.{EventRefusal}
 use Rattle.bpf_model.specs.declared.event.EventRefusal.TheVariants as refusals
 use Rattle.bpf_model.specs.Machine.{Loaded}
