@@ -9,7 +9,7 @@
    elements move beside the readers.
 
    The first table grows: the writer copies it into one twice as large, and from then on puts and removes keys in both, first in the
-   larger one. Each reader changes over between two runs. When all have, the old table is closed.
+   larger one. Each reader changes over between two runs. When all have, the old table is closed. There are twice as many keys then.
 
    It goes rounds, each with new tables. In one the sums are those of the readers. In the next the tables are closed before the
    readers. Behind each there are as many blocks of memory as before. */
@@ -25,6 +25,7 @@
 #include <unistd.h>
 
 enum { READERS = 8, STAYING = 64, KEYS = 96, BUCKETS = 11, ELEMENTS = 512, SPAN = 32, CHANGES = 200, LONG = 1000, ROUND = 2, GROWTHS = 3 };
+enum { MOST = KEYS << GROWTHS }; /* keys, where the table has grown */
 /* What a program answers: what the words differ by, at once or after a long time in its section, or the first word. */
 enum kind { DIFFERENCE, LATE_DIFFERENCE, FIRST, KINDS };
 
@@ -47,8 +48,8 @@ static struct bpfrt_table values, counters, larger; /* `larger` is open while th
 static unsigned growths;                            /* how often it has grown in this round */
 static pthread_barrier_t barrier;
 static atomic_int stops, ends;
-static _Atomic uint64_t begun[KEYS], put[KEYS]; /* the last n of a key that a call is to put, and that one has put */
-static unsigned char there[KEYS]; /* whether a key is linked in the first table */
+static _Atomic uint64_t begun[MOST], put[MOST]; /* the last n of a key that a call is to put, and that one has put */
+static unsigned char there[MOST]; /* whether a key is linked in the first table */
 static uint64_t changes, filters, waits, grown;
 static uint64_t held, full; /* keys that were not put, since a reader held up a move, or since none was possible */
 
@@ -253,7 +254,7 @@ static void remove_value(uint64_t key)
 static void change(void)
 {
 	static const uint64_t zeros[READERS];
-	uint64_t key = random_number() % KEYS;
+	uint64_t key = random_number() % (KEYS << growths);
 	if (key < STAYING) {
 		put_value(key, 2);
 		return;
@@ -262,6 +263,7 @@ static void change(void)
 		remove_value(key);
 	else
 		put_value(key, 1);
+	key = STAYING + key % (KEYS - STAYING);
 	int32_t status = bpfrt_table_delete_elem(&counters, &key, 1);
 	if (status == -ENOENT)
 		update(&counters, key, zeros, READERS, 1);
@@ -272,18 +274,18 @@ static void change(void)
 /* A walk in which each key that it meets is replaced. It is to meet the keys that are there, and each once. */
 static void walk(void)
 {
-	unsigned char times[KEYS] = {0};
+	unsigned char times[MOST] = {0};
 	uint64_t key, next;
 	int32_t status = bpfrt_table_get_next_key(&values, NULL, 1, &next);
 	while (status == 0) {
 		key = next;
-		if (key >= KEYS || times[key]++ || !there[key])
+		if (key >= MOST || times[key]++ || !there[key])
 			fail("a key that is not there, or was met before:", key, 0);
 		put_value(key, 2);
 		status = bpfrt_table_get_next_key(&values, &key, 1, &next);
 	}
 	done(status == -ENOENT ? 0 : status, "bpfrt_table_get_next_key");
-	for (key = 0; key < KEYS; key++)
+	for (key = 0; key < MOST; key++)
 		if (times[key] != there[key])
 			fail("a key that a walk does not meet:", key, 0);
 }
@@ -360,9 +362,11 @@ static void open_tables(void)
 	growths = 0;
 	open_values(&values);
 	done(bpfrt_table_open(&counters, &shape), "bpfrt_table_open");
-	for (uint64_t key = 0; key < KEYS; key++) {
+	for (uint64_t key = 0; key < MOST; key++) {
 		there[key] = 0;
 		atomic_store(&put[key], 0);
+	}
+	for (uint64_t key = 0; key < KEYS; key++) {
 		put_value(key, 1);
 		update(&counters, key, zeros, READERS, 1);
 	}
@@ -404,7 +408,7 @@ static void compare(void)
 		if (sum != counted)
 			fail("another sum than that of the readers:", sum, counted);
 	}
-	for (uint64_t key = 0; key < KEYS; key++) {
+	for (uint64_t key = 0; key < MOST; key++) {
 		int32_t status = bpfrt_table_delete_elem(&values, &key, 1);
 		done(status == -ENOENT && !there[key] ? 0 : status, "bpfrt_table_delete_elem");
 	}
