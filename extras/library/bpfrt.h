@@ -290,6 +290,8 @@ static inline int32_t bpfrt_prog_open_policy(struct bpfrt_prog *prog, const void
 /* Opens `prog` as one more handle of the program that `other` holds, for another thread. -EBUSY; -EBADF of `other`; -ENOMEM. */
 static inline int32_t bpfrt_prog_share(struct bpfrt_prog *prog, struct bpfrt_prog *other)
 {
+	if (prog == other)
+		return prog->at ? -16 : -9; /* -EBUSY, -EBADF */
 	return bpfrt0_prog_share(prog, other);
 }
 
@@ -460,8 +462,8 @@ static inline int32_t bpfrt_world_close(struct bpfrt_world *world)
 	return bpfrt0_close(world);
 }
 
-/* Tables. One thread changes a table by its handle, while those of its readers run programs over it. No call waits for another, and
-   none takes memory but those that open. */
+/* Tables. One thread changes a table by its handle, while those of its readers run programs over it. No call of a reader waits for
+   another, and none takes memory but those that open. */
 
 /* How many buckets a table needs that is half full when each of its elements is linked. */
 static inline uint32_t bpfrt_table_buckets(uint32_t elements)
@@ -489,8 +491,8 @@ static inline int32_t bpfrt_table_reader(struct bpfrt_reader *reader, struct bpf
    is moved to the other bucket of its own key, if that has room. No run misses it, and what runs store there stays. -EEXIST, -ENOENT.
    -ENOSPC where still too few are free, until runs end or a key is removed. -E2BIG where both buckets of a new key are full, and no
    element there can be moved. -EAGAIN where an element could be moved, but a run stayed in one section meanwhile; each stands where it
-   stood: call again. With more busy threads than processors this may last for seconds; a larger table ends it. -EINVAL for a wrong
-   length or flag. */
+   stood: call again. Before that the call has looked at the run for some 20 milliseconds. With more busy threads than processors a
+   call takes that long, since runs wait inside their sections for a processor. -EINVAL for a wrong length or flag. */
 static inline int32_t bpfrt_table_update_elem(struct bpfrt_table *table, const uint64_t *key, size_t key_words, const uint64_t *value,
 	size_t value_words, uint64_t flags)
 {

@@ -33,7 +33,7 @@ pub const EOPNOTSUPP: i32 = -95;
 /// No run has the number, or it has ended.
 pub const ESRCH: i32 = -3;
 
-/// The world has as many programs as it may have; or both buckets of a table's key are full.
+/// The world has as many programs as it may have; or both buckets of a table's key are full, and no element there can be moved.
 pub const E2BIG: i32 = -7;
 
 /// Every run slot of the world is occupied; or a run inside a section holds up the move that would make room in a table.

@@ -213,7 +213,7 @@ fn set_held(held: &mut Held, key: &[u64], value: &[u64], flags: u64) -> i32
 ///
 /// 0, or -EBADF where no table is held; -EINVAL for a wrong length or flag; -EEXIST, -ENOENT; -ENOSPC where too few elements are
 /// free; -E2BIG where both buckets of the key are full, and no element of them can be moved; -EAGAIN where one could be, but a run
-/// stayed in one section meanwhile: call again.
+/// stayed in one section meanwhile, for some 20 milliseconds: call again.
 #[unsafe(no_mangle)]
 pub extern "C" fn bpfrt0_table_update_elem(
     alloc: Global,

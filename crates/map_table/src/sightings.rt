@@ -11,8 +11,9 @@ use crate::table::MapTable;
 use atomic_table::Seat;
 use table_words::{Sighting, View};
 
-/// How often the writer looks at a reader that stays in one section before it gives up.
-const LOOKS: usize = 1_000;
+/// How often the writer looks again at a reader that stays in one section before it gives up: some 20 milliseconds. A reader
+/// that waits for its processor inside a section gets it within that time, where the processors are shared by a few threads each.
+const LOOKS: usize = 8_000_000;
 
 /// Looks at a reader, and notes what it finds: its section word.
 fn look_at(
@@ -89,8 +90,8 @@ pub(crate) fn look_round(
     }
 }
 
-/// Whether a reader has left the section that it was in: it is found outside, or with two numbers. It looks at it 1,001 times
-/// at most.
+/// Whether a reader has left the section that it was in: it is found outside, or with two numbers. It looks at it 8,000,001
+/// times at most.
 fn has_passed(
     table: &MapTable,
     seat: &mut Seat<u8, View>,
