@@ -1,5 +1,5 @@
 -- What one run gives of a file's program.
-use Rattle.std.proofs.Common.{◌≡◌, ◌≢◌, ◌⊎◌, ℕ, List, length, map, All, refl, sym, subst, inl, inr}
+use Rattle.std.proofs.Common.{◌≡◌, ◌≢◌, ◌⊎◌, ℕ, List, [], Bool, false, length, map, All, refl, sym, subst, inl, inr}
 use Rattle.std.proofs.lemmas.List.Elements.{All-map}
 use Rattle.bpf_model.specs.declared.event.Event.{Event}
 use Rattle.bpf_model.specs.declared.event.EventRefusal.{EventRefusal}
@@ -36,21 +36,21 @@ pub record IsGood (bytes : List ℕ) (s : Source) : Type 0 where
 
 -- a run of the verified program is one of the file's
 pub of_source : (single : SingleRun) (s : Source) (program : List Insn) (events : List Event) (items : List ℕ)
-    (outcome : RunEnd) (last : WorldView) → program ≡ s.program →
+    (outcome : RunEnd) (tells : Bool) (steps : List ℕ) (last : WorldView) → program ≡ s.program →
     events ≡ map (put_event s.registry) single.elements.items → items ≡ single.context.items →
-    ComesTo (shapes_of_maps s.registry.maps) program events items outcome last →
-    RunComesTo single (content_with s) s.program outcome last
-of_source single s program events items outcome last same_program puts same_context run =
+    ComesTo (shapes_of_maps s.registry.maps) program events items outcome tells steps last →
+    RunComesTo single (content_with s) s.program outcome tells steps last
+of_source single s program events items outcome tells steps last same_program puts same_context run =
     let shapes = shapes_of_maps s.registry.maps in
-    let elements = single.elements.items in
-    let of_puts = subst (λ (es : List Event). ComesTo shapes program es items outcome last) puts run in
-    let of_program = subst (λ (p : List Insn). ComesTo shapes p (map (put_event s.registry) elements) items outcome last) same_program of_puts in
-    subst (λ (xs : List ℕ). ComesTo shapes s.program (map (put_event s.registry) elements) xs outcome last) same_context of_program
+    let all = map (put_event s.registry) single.elements.items in
+    let of_puts = subst (λ (es : List Event). ComesTo shapes program es items outcome tells steps last) puts run in
+    let of_program = subst (λ (p : List Insn). ComesTo shapes p all items outcome tells steps last) same_program of_puts in
+    subst (λ (xs : List ℕ). ComesTo shapes s.program all xs outcome tells steps last) same_context of_program
 
-pub ended_of : (bytes : List ℕ) (single : SingleRun) (s : Source) (e : Ended) (last : WorldView) → IsGood bytes s →
-    length single.context.items ≡ s.ctx_len → AllFit s.registry single.elements.items →
-    RunComesTo single (content_with s) s.program (Exited e) last → HasEnded bytes single e last
-ended_of bytes single s e last good len fit run = record {
+pub ended_of : (bytes : List ℕ) (single : SingleRun) (s : Source) (e : Ended) (tells : Bool) (steps : List ℕ) (last : WorldView) →
+    IsGood bytes s → length single.context.items ≡ s.ctx_len → AllFit s.registry single.elements.items →
+    RunComesTo single (content_with s) s.program (Exited e) tells steps last → HasEnded bytes single e tells steps last
+ended_of bytes single s e tells steps last good len fit run = record {
   program = s.program;
   file = file_of bytes s good.is good.graph good.verified;
   len = len;
@@ -79,6 +79,6 @@ puts_told bytes single s v good len (inr (r, bad, is)) = told bytes single s v g
 
 pub place_told : (bytes : List ℕ) (single : SingleRun) (s : Source) (k : ℕ) (last : WorldView) →
     IsGood bytes s → length single.context.items ≡ s.ctx_len → AllFit s.registry single.elements.items →
-    RunComesTo single (content_with s) s.program (NotDone k) last → IsRunRefusal single bytes NoPlace
+    RunComesTo single (content_with s) s.program (NotDone k) false [] last → IsRunRefusal single bytes NoPlace
 place_told bytes single s k last good len fit run =
     told bytes single s NoPlace good (inr (len, inr (fit, (k, last, run), refl)))

@@ -59,22 +59,22 @@ put_event maps e =
     (record { items = e.value.items }) 0
 
 -- The program's one run comes to this end, in a world of new maps of the file's shapes into which
--- the elements were put first, one after another.
-abbrev pub RunComesTo : SingleRun → FileContent → List Insn → RunEnd → WorldView → Type 0
-RunComesTo single content program outcome last =
+-- the elements were put first, one after another. A text tells its steps, where that is asked for.
+abbrev pub RunComesTo : SingleRun → FileContent → List Insn → RunEnd → Bool → List ℕ → WorldView → Type 0
+RunComesTo single content program outcome tells steps last =
     ComesTo (shapes_of_maps content.registry.maps) program
-    (map (put_event content.registry) single.elements.items) single.context.items outcome last
+    (map (put_event content.registry) single.elements.items) single.context.items outcome tells steps last
 
 -- The file says a program that is verified with its maps and context, the context has the length
 -- that the file tells, each element has a map of the file and its lengths, and the program's one
--- run exits so.
-pub record HasEnded (bytes : List ℕ) (single : SingleRun) (e : Ended) (last : WorldView)
+-- run exits so. A text tells its steps, where that is asked for.
+pub record HasEnded (bytes : List ℕ) (single : SingleRun) (e : Ended) (tells : Bool) (steps : List ℕ) (last : WorldView)
     : Type 0 where
   pub program : List Insn
   pub file : IsVerifiedFile bytes program
   pub len : length single.context.items ≡ file.content.ctx_len
   pub fit : AllFit file.content.registry single.elements.items
-  pub runs : RunComesTo single file.content program (Exited e) last
+  pub runs : RunComesTo single file.content program (Exited e) tells steps last
 
 -- what `run` says of a run that exits with the value by its n-th step
 abbrev pub ended_line : ℕ → ℕ → List ℕ
@@ -98,31 +98,23 @@ abbrev pub ended_text : Bool → ℕ → ℕ → List ℕ → List ℕ
 ended_text false value n dumped = ended_line value n ++ dumped
 ended_text true value n dumped = ended_json value n dumped
 
--- the text that tells the run: how it has exited, and what is in its maps
-abbrev pub IsRunText : SingleRun → List ℕ → List ℕ → Type 0
-IsRunText single bytes text =
-    (e : Ended) × (last : WorldView) × (dumped : List ℕ) × HasEnded bytes single e last
-    × IsDumped single.dump last.maps dumped × (text ≡ ended_text single.json e.value e.steps dumped)
+-- what tells a run's exit alone, or its steps above that, as lines or as a JSON object
+abbrev pub told_text : Bool → Bool → List ℕ → List ℕ → List ℕ
+told_text false json steps end = end
+told_text true false steps end = steps ++ end
+told_text true true steps end = traced_json steps end
 
--- lines, and what tells a run behind them, or as a JSON object
-abbrev pub traced_text : Bool → List ℕ → List ℕ → List ℕ
-traced_text false steps end = steps ++ end
-traced_text true steps end = traced_json steps end
-
--- The text that tells a run with its steps: some lines, and what tells the run alone. Nothing is said of the lines.
-abbrev pub IsTraceText : SingleRun → List ℕ → List ℕ → Type 0
-IsTraceText single bytes text =
-    (steps end : List ℕ) × IsRunText single bytes end × (text ≡ traced_text single.json steps end)
-
--- the text that tells a run alone, or with its steps
+-- the text that tells the run: its steps, where that is asked for, how it has exited, and what is in its maps
 abbrev pub IsToldText : Bool → SingleRun → List ℕ → List ℕ → Type 0
-IsToldText false single bytes text = IsRunText single bytes text
-IsToldText true single bytes text = IsTraceText single bytes text
+IsToldText tells single bytes text =
+    (e : Ended) × (steps : List ℕ) × (last : WorldView) × (dumped : List ℕ) × HasEnded bytes single e tells steps last
+    × IsDumped single.dump last.maps dumped
+    × (text ≡ told_text tells single.json steps (ended_text single.json e.value e.steps dumped))
 
 -- what `run` adds to the output, and with its steps `trace`
 abbrev pub WritesRun : Bool → SingleRun → Option (List ℕ) → Option (List ℕ) → List ℕ → Type 0
-WritesRun steps single old new bytes =
-    (text : List ℕ) × IsToldText steps single bytes text × Appends old new text
+WritesRun tells single old new bytes =
+    (text : List ℕ) × IsToldText tells single bytes text × Appends old new text
 
 -- the first element that fails a test fails this one
 abbrev pub HasBadElement : RegistryView → List MapElement → EventRefusal → Type 0
@@ -140,7 +132,7 @@ IsRunFault single content program v =
     × (((r : EventRefusal) × HasBadElement content.registry single.elements.items r
     × (v ≡ OfEvent r))
     ⊎ (AllFit content.registry single.elements.items
-    × ((k : ℕ) × (last : WorldView) × RunComesTo single content program (NotDone k) last)
+    × ((k : ℕ) × (last : WorldView) × RunComesTo single content program (NotDone k) false [] last)
     × (v ≡ NoPlace))))
 
 -- The file says a program that is verified with its maps and context, and its run has a fault.

@@ -20,7 +20,6 @@ mod single;
 mod source_text;
 mod streams;
 mod text_meanings;
-mod trace;
 
 pub use command_words::{
     AsmForm, BpfrtCommand, Checking, ContextForm, ContextsFile, InputFile, MapElement, SingleRun,

@@ -1,5 +1,6 @@
--- A run in a world that tracks the start is one of the machine from its start.
-use Rattle.std.proofs.Common.{◌≡◌, ℕ, List, ◌∷◌, [], length, refl, subst, sym, ap, ◌∙◌}
+-- A run in a world that tracks the start.
+use Rattle.std.proofs.Common.{◌≡◌, ◌∙◌, ◌≢◌, ℕ, suc, ◌<◌, ◌≤◌, List, ◌∷◌, [], length, Some, refl, subst, sym, ap, arith}
+use Rattle.std.specs.Prelude.{All, Bool, slice_get}
 use Rattle.std.specs.List.{range_with_len}
 use Rattle.bpf_model.specs.declared.event.Answer.{Answer}
 use Rattle.bpf_model.specs.declared.event.Event.{Event}
@@ -7,34 +8,16 @@ use Rattle.bpf_model.specs.declared.insn.Insn.{Insn}
 use Rattle.bpf_model.specs.declared.limits.MapShape.{MapShape}
 use Rattle.bpf_model.specs.Headline.{AreMachineAnswers}
 use Rattle.bpf_model.specs.History.{IsHistory, last_of}
-use Rattle.bpf_model.specs.Machine.{Loaded, start_machine}
-use Rattle.bpf_model.specs.Refines.{Tracks, TracksSchedule}
-use Rattle.bpf_model.specs.Schedule.{start_schedule}
+use Rattle.bpf_model.specs.Machine.{Loaded, Machine, start_machine}
+use Rattle.bpf_model.specs.Refines.{Tracks}
 use Rattle.bpf_model.specs.View.{WorldView}
 use Rattle.verifier.specs.Checked.{Checked}
 use Rattle.world.specs.declared.kept.loaded.Loaded as world
 use Rattle.world.specs.Programs.{programs_in}
-use Rattle.run_once.specs.declared.once.RunEnd.{RunEnd}
-use Rattle.run_once.specs.Once.{one_run, bound_to_all, start_with, IsEnd, ComesTo}
-
-pub comes_to : (w new : WorldView) (shapes : List MapShape) (programs : List Loaded) (program : List Insn)
-    (before : List Event) (context : List ℕ) (events : List Event) (given : List Answer) (outcome : RunEnd) →
-    TracksSchedule w (start_schedule shapes programs) →
-    programs ≡ bound_to_all (length shapes) program (length context) ∷ [] →
-    events ≡ one_run before context (length program) → AreMachineAnswers Tracks w events given new →
-    IsEnd (length before) given outcome → ComesTo shapes program before context outcome new
-comes_to w new shapes programs program before context events given outcome tracks bound events_are machine is =
-    let started = machine (start_machine shapes programs) (start_schedule shapes programs, refl, tracks) in
-    let of_programs = subst (λ (p : List Loaded). IsHistory (start_machine shapes p) events given started.0) bound started.1 in
-    record {
-      given = given;
-      runs = record {
-        states = started.0;
-        history = subst (λ (es : List Event). IsHistory (start_with shapes program context) es given started.0) events_are of_programs;
-        tracked = subst (λ (p : List Loaded). Tracks new (last_of (start_machine shapes p) started.0)) bound started.2;
-      };
-      is = is;
-    }
+use Rattle.run_once.specs.declared.once.Ended.{Ended}
+use Rattle.run_once.specs.Going.{IsReady}
+use Rattle.run_once.specs.Once.{AreDone, IsUpdate, RunsOnce, StartsAndExits, StopsAt, bound_to_all, done, start_with}
+use Rattle.run_once.proofs.Starting.{ready_at_start, ready_behind}
 
 -- the one loaded program of a world is bound to all of its maps
 pub bound_program : (items : List world.Loaded) (l : world.Loaded) (v : Checked) (shapes : List MapShape)
@@ -49,3 +32,54 @@ bound_program items l v shapes context items_are verified_is maps_are shapes_are
     ∙ ap (λ maps. with maps v.ctx_len) maps_are
     ∙ ap (λ (ss : List MapShape). with (range_with_len 0 (length ss)) v.ctx_len) shapes_are
     ∙ ap (λ n. with (range_with_len 0 (length shapes)) n) (sym len_is)
+
+-- a history has an answer for each event
+as-many : (m : Machine) (events : List Event) (given : List Answer) (states : List Machine) → IsHistory m events given states →
+    length events ≡ length given
+as-many m [] [] [] h = refl
+as-many m (event ∷ events) (answer ∷ given) (next ∷ states) h = ap suc (as-many next events given states h.1)
+as-many m events given states h = absurd h
+
+-- The world tracks the start, and then the state behind the updates.
+module _ (w new : WorldView) (shapes : List MapShape) (programs : List Loaded) (program : List Insn) (before : List Event)
+    (context : List ℕ) (given : List Answer) (tracks : Tracks w (start_machine shapes programs))
+    (bound : programs ≡ bound_to_all (length shapes) program (length context) ∷ [])
+    (machine : AreMachineAnswers Tracks w before given new) where
+  abbrev begin : Machine
+  begin = start_with shapes program context
+
+  begins : Tracks w begin
+  begins = subst (λ (p : List Loaded). Tracks w (start_machine shapes p)) bound tracks
+
+  -- so the run can be started
+  pub ready : All IsUpdate before → (m : Machine) × Tracks new m × IsReady m (length program) (length context)
+  ready updates =
+      let (ss, history, tracked) = machine begin begins in (
+        last_of begin ss,
+        tracked,
+        ready_behind (length program) (length context) begin before given ss updates
+            (ready_at_start shapes program context) history,
+      )
+
+  pub stops : (k : ℕ) → k < length given → AreDone k given → slice_get given k ≢ Some done → StopsAt shapes program before context k new
+  stops k less are_done other =
+      let (ss, history, tracked) = machine begin begins in
+      let many = as-many begin before given ss history in
+      record {
+        given = given;
+        states = ss;
+        updates = history;
+        tracked = tracked;
+        there = omega (arith, less, many);
+        are_done = are_done;
+        not_done = other;
+      }
+
+  pub runs : (e : Ended) (tells : Bool) (text : List ℕ) (last : WorldView) → All IsUpdate before → AreDone (length given) given →
+      ((m : Machine) → Tracks new m → IsReady m (length program) (length context) → StartsAndExits m context e tells text last) →
+      e.steps ≤ length program → RunsOnce shapes program before context e tells text last
+  runs e tells text last updates are_done exits in_time =
+      let (ss, history, tracked) = machine begin begins in
+      let can = ready_behind (length program) (length context) begin before given ss updates (ready_at_start shapes program context) history in
+      let done_all = subst (λ n. AreDone n given) (sym (as-many begin before given ss history)) are_done in
+      record { given = given; states = ss; updates = history; are_done = done_all; runs = exits (last_of begin ss) tracked can; in_time = in_time }

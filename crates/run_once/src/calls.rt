@@ -2,8 +2,8 @@
 
 use crate::words::{frame_place, map_of, write_bytes, write_map};
 use bpf_model::{
-    Answer, CallKind, Event, Helper, Insn, KEY_BYTES, KeyBytes, MapId, Reg, ResultKind, RunId,
-    VALUE_BYTES, ValueBytes, array_of,
+    CallKind, Helper, Insn, KEY_BYTES, KeyBytes, MapId, Reg, ResultKind, RunId, VALUE_BYTES,
+    ValueBytes, array_of,
 };
 use machine::Run;
 use maps::Registry;
@@ -90,22 +90,15 @@ pub fn asked_of(maps: &Registry, run: &Run, insn: &Insn) -> Option<Asked> {
 
 /// Writes what is done, with which key, in which map.
 fn write_deed<W: Write>(out: &mut W, maps: &Registry, asked: &Asked, what: &str) -> io::Result<()> {
-    write!(out, "  {what} key ")?;
+    write!(out, "{what} key ")?;
     write_bytes(out, asked.key.as_slice())?;
     write!(out, " in ")?;
     write_map(out, maps, asked.map)
 }
 
 /// The value that a key has.
-fn found(world: &mut World, asked: &Asked) -> Option<ValueBytes> {
-    let read = Event::Read {
-        map: asked.map,
-        key: array_of(asked.key.as_slice()),
-    };
-    match world.apply(&read) {
-        Answer::Found(value) => value,
-        _ => None,
-    }
+fn found<'a>(maps: &'a Registry, asked: &Asked) -> Option<&'a [u8]> {
+    maps.map(asked.map)?.bytes_of(asked.key.as_slice())
 }
 
 /// The name of an error whose number, without its minus, this is.
@@ -135,14 +128,14 @@ fn write_given<W: Write>(out: &mut W, world: &World) -> io::Result<()> {
 }
 
 /// Writes what run 0 has called a helper for, and what it was given.
-pub fn write_call<W: Write>(out: &mut W, world: &mut World, asked: &Asked) -> io::Result<()> {
+pub fn write_call<W: Write>(out: &mut W, world: &World, asked: &Asked) -> io::Result<()> {
     match &asked.deed {
         Deed::LookUp => {
             write_deed(out, world.registry(), asked, "looks up")?;
-            match found(world, asked) {
+            match found(world.registry(), asked) {
                 Some(value) => {
                     write!(out, ", and finds ")?;
-                    write_bytes(out, value.as_slice())?;
+                    write_bytes(out, value)?;
                 }
                 None => write!(out, ", and finds nothing")?,
             }

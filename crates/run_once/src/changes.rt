@@ -49,7 +49,7 @@ fn write_registers<W: Write>(
         };
         let now = run.register(register);
         if now != *word {
-            write!(out, "  r{number} = {now}")?;
+            write!(out, "r{number} = {now}")?;
             write_place(out, maps, now)?;
             writeln!(out)?;
         }
@@ -78,7 +78,7 @@ fn write_frame<W: Write>(out: &mut W, before: &Before, run: &Run) -> io::Result<
         return Ok(());
     };
     let place = FRAME_BYTES.saturating_sub(first);
-    write!(out, "  r10-{place}: ")?;
+    write!(out, "r10-{place}: ")?;
     for byte in run.frame().iter().skip(first).take(count) {
         write!(out, "{byte:02x}")?;
     }
@@ -96,7 +96,7 @@ pub fn write_changes<W: Write>(
     write_frame(out, before, run)?;
     let depth = run.depth();
     if depth != before.depth {
-        writeln!(out, "  locks that are not given up: {depth}")?;
+        writeln!(out, "locks that are not given up: {depth}")?;
     }
     Ok(())
 }

@@ -9,4 +9,3 @@ mod tracing;
 mod words;
 
 pub use once::{Ended, Ran, RunEnd, run_once};
-pub use tracing::write_steps;

@@ -1,13 +1,20 @@
 //! A program's run, from its start to its exit.
-ghost use Rattle.std.specs.Prelude.{◌≡◌, ◌≢◌, ◌↔◌, IsTrue, ◌≤◌, ◌<◌, ◌+◌, ◌++◌, Some, length, replicate, slice_get, All, IfOk, IfSome, IfNone};
-ghost use Rattle.bpf_model.specs.declared.event.Answer.TheVariants as told;
+ghost use Rattle.std.specs.Prelude.{◌≡◌, ◌≢◌, ◌↔◌, IsTrue, ℕ, ◌≤◌, ◌<◌, List, [], ◌∷◌, ◌++◌, Some, length, slice_get, All, IfOk, IfSome, IfNone};
 ghost use Rattle.bpf_model.specs.declared.event.Event.TheVariants.{Step};
+ghost use Rattle.bpf_model.specs.declared.insn.Insn.{Insn};
+ghost use Rattle.bpf_model.specs.Headline.{AnswersAsMachine, AllExitInTime, AreNeverStuck};
+ghost use Rattle.bpf_model.specs.Machine.{Machine};
+ghost use Rattle.bpf_model.specs.Refines.{Tracks};
 ghost use Rattle.bpf_model.specs.View.{AreNewMaps, shapes_of_maps};
-ghost use Rattle.run_once.specs.Once.{one_run, done, AreDone, HasExit, HasNoExit, IsEnd, IsUpdate, ComesTo};
+ghost use Rattle.run_once.specs.Going.{IsGoing, IsReady};
+ghost use Rattle.run_once.specs.Once.{done, AreDone, IsUpdate, ComesTo, RunsToExit, StartsAndExits};
+ghost use Rattle.run_once.specs.Told.{IsNext, IsStepTold};
 
+use crate::tracing::tell_step;
 use bpf_model::{Answer, CtxBytes, Event, ProgId, RunId};
 use maps::Registry;
 use std::alloc::{AllocError, Global};
+use std::io;
 use verifier::Verified;
 use world::{Loaded, World};
 
@@ -23,38 +30,16 @@ pub struct Ended {
 pub enum RunEnd {
     /// It has exited.
     Exited(Ended),
-    /// This one of the updates before it, counted from 0, is the first that was not done.
+    /// It was not started: this one of the updates before it, counted from 0, is the first that was not done.
     NotDone(usize),
 }
 
-/// What one run has come to, and the world behind it.
+/// What one run has come to, what tells its steps, and the world behind it.
 #[derive(Drop)]
 pub struct Ran {
     pub outcome: RunEnd,
+    pub steps: Vec<u8>,
     pub world: World,
-}
-
-/// The steps of run 0.
-fn push_steps(events: &mut Vec<Event>, steps: usize) -> Result<(), AllocError>
-    ensures { IfOk result (λ _. events.new.items ≡ events.old.items ++ replicate steps (Step 0)) }
-{
-    for _ in 0..steps {
-        events.push(Event::Step { run: RunId::new(0) })?;
-    }
-    Ok(())
-}
-
-/// What comes before, a start of program 0, and so many steps.
-fn events_of(before: Vec<Event>, context: CtxBytes, steps: usize) -> Result<Vec<Event>, AllocError>
-    ensures { IfOk result (λ e. e.items ≡ one_run before.items context.items steps) }
-{
-    let mut events = before;
-    events.push(Event::Start {
-        prog: ProgId::new(0),
-        ctx: context,
-    })?;
-    push_steps(&mut events, steps)?;
-    Ok(events)
 }
 
 /// Whether an answer is that an update is done.
@@ -68,14 +53,13 @@ fn is_done(answer: &Answer) -> bool
     }
 }
 
-/// The first of so many answers that is not that an update is done.
-fn first_not_done(answers: &[Answer], count: usize) -> Option<usize>
-    requires { count ≤ length answers.now }
-    ensures some { IfSome result (λ k. (k < count) × AreDone k answers.now
+/// The first of these answers that is not that an update is done.
+fn first_not_done(answers: &[Answer]) -> Option<usize>
+    ensures some { IfSome result (λ k. (k < length answers.now) × AreDone k answers.now
         × (slice_get answers.now k ≢ Some done)) }
-    ensures none { IfNone result (AreDone count answers.now) }
+    ensures none { IfNone result (AreDone (length answers.now) answers.now) }
 {
-    for number in 0..count {
+    for number in 0..answers.len() {
         if !is_done(&answers[number]) {
             return Some(number);
         }
@@ -83,55 +67,94 @@ fn first_not_done(answers: &[Answer], count: usize) -> Option<usize>
     None
 }
 
-/// The first exit among the answers behind so many.
-fn exit_in(answers: &[Answer], before: usize) -> Option<Ended>
-    ensures some { IfSome result (λ e.
-        slice_get answers.now (before + e.steps) ≡ Some (told.Exited e.value)) }
-    ensures none { IfNone result (HasNoExit before answers.now) }
+/// Makes the next step of run 0, and writes what tells it, where that is asked for.
+fn next_step(
+    alloc: Global,
+    world: &mut World,
+    tells: bool,
+    text: &mut Vec<u8>,
+) -> io::Result<Answer>
+    requires next { (slot : ℕ) × (insn : Insn) × IsNext world.old slot insn }
+    ensures machine { IfOk result (λ a. AnswersAsMachine Tracks world.old (Step 0) a world.new) }
+    ensures never_stuck { IfOk result (λ a. AreNeverStuck Tracks world.old (Step 0 ∷ []) (a ∷ [])) }
+    ensures exits { IfOk result (λ a. AllExitInTime Tracks world.old (Step 0 ∷ []) (a ∷ [])) }
+    ensures told { IfOk result (λ a. (late : List ℕ) × (text.new.items ≡ text.old.items ++ late)
+        × ((slot : ℕ) (insn : Insn) → IsNext world.old slot insn → IsStepTold tells slot insn late)) }
 {
-    for number in before..answers.len() {
-        if let Answer::Exited(value) = &answers[number] {
-            return Some(Ended {
-                value: *value,
-                steps: number - before,
-            });
-        }
+    if tells {
+        return tell_step(alloc, world, text);
     }
-    None
+    Ok(world.apply(&Event::Step { run: RunId::new(0) }))
 }
 
-/// What answers say of a run behind so many updates, which has exited.
-fn end_of(answers: &[Answer], before: usize) -> RunEnd
-    requires { HasExit before answers.now }
-    ensures { IsEnd before answers.now result }
+/// Makes the steps of run 0, of a program of so many instructions, to its exit.
+fn run_to_exit(
+    alloc: Global,
+    world: &mut World,
+    count: usize,
+    tells: bool,
+    text: &mut Vec<u8>,
+) -> io::Result<Ended>
+    requires begins { (m : Machine) × Tracks world.old m × IsGoing m count 0 }
+    requires empty { text.old.items ≡ [] }
+    ensures runs { IfOk result (λ e. (m : Machine) → Tracks world.old m → IsGoing m count 0 →
+        RunsToExit m e tells text.new.items world.new) }
+    ensures in_time { IfOk result (λ e. e.steps ≤ count) }
 {
-    if let Some(number) = first_not_done(answers, before) {
-        return RunEnd::NotDone(number);
+    for at in 0..count {
+        let answer = next_step(alloc, world, tells, text)?;
+        if let Answer::Exited(value) = answer {
+            let steps = at + 1;
+            return Ok(Ended { value, steps });
+        }
     }
-    match exit_in(answers, before) {
-        Some(ended) => RunEnd::Exited(ended),
-        None => unreachable!(),
-    }
+    unreachable!()
+}
+
+/// Starts program 0, of so many instructions, in run slot 0, and makes the steps of its run to its exit.
+fn run_from_start(
+    alloc: Global,
+    world: &mut World,
+    context: CtxBytes,
+    count: usize,
+    tells: bool,
+    text: &mut Vec<u8>,
+) -> io::Result<Ended>
+    requires ready { (m : Machine) × Tracks world.old m × IsReady m count (length context.items) }
+    requires empty { text.old.items ≡ [] }
+    ensures runs { IfOk result (λ e. (m : Machine) → Tracks world.old m → IsReady m count (length context.items) →
+        StartsAndExits m context.items e tells text.new.items world.new) }
+    ensures in_time { IfOk result (λ e. e.steps ≤ count) }
+{
+    let prog = ProgId::new(0);
+    let _started = world.apply(&Event::Start { prog, ctx: context });
+    run_to_exit(alloc, world, count, tells, text)
 }
 
 /// Runs a verified program once, on a context of its length, in a world of these new maps, to which it is bound in
-/// their order. Before its start come these events, updates of the maps; nothing else happens there. Each run
-/// exits, with as many steps as the program has instructions at most.
+/// their order. Before its start come these events, updates of the maps; nothing else happens there. Where one of
+/// them is not done, the program is not started. Else its run exits, with as many steps as the program has
+/// instructions at most.
+///
+/// Where that is asked for, a text tells each step: the slot and the text of its instruction, and below them, indented, what
+/// a store writes, what a helper was called for and has given, and which registers, bytes of the frame and number of open locks
+/// have changed. Clauses speak of the instructions alone.
 ///
 /// The error is that there is no memory left.
 pub fn run_once(
     alloc: Global,
     verified: Verified,
     registry: Registry,
-    before: Vec<Event>,
+    before: &[Event],
     context: CtxBytes,
+    tells: bool,
 ) -> Result<Ran, AllocError>
     requires new_maps { AreNewMaps registry.maps }
     requires shapes { verified.shapes ≡ shapes_of_maps registry.maps }
     requires context { length context.items ≡ verified.ctx_len }
-    requires updates { All IsUpdate before.items }
+    requires updates { All IsUpdate before.now }
     ensures { IfOk result (λ r. ComesTo (shapes_of_maps registry.maps) verified.program
-        before.items context.items r.outcome r.world) }
+        before.now context.items r.outcome tells r.steps.items r.world) }
 {
     let count = verified.program().len();
     let _maps = registry.len();
@@ -140,9 +163,23 @@ pub fn run_once(
     let Ok(mut world) = World::new(alloc, registry, programs) else {
         return Err(AllocError);
     };
-    let updates = before.len();
-    let events = events_of(before, context, count)?;
-    let answers = world.run_all(alloc, &events)?;
-    let outcome = end_of(&answers, updates);
-    Ok(Ran { outcome, world })
+    let mut steps = Vec::new(alloc);
+    let answers = world.run_all(alloc, before)?;
+    if let Some(number) = first_not_done(&answers) {
+        let outcome = RunEnd::NotDone(number);
+        return Ok(Ran {
+            outcome,
+            steps,
+            world,
+        });
+    }
+    let Ok(ended) = run_from_start(alloc, &mut world, context, count, tells, &mut steps) else {
+        return Err(AllocError);
+    };
+    let outcome = RunEnd::Exited(ended);
+    Ok(Ran {
+        outcome,
+        steps,
+        world,
+    })
 }

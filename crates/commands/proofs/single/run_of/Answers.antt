@@ -1,4 +1,4 @@
-use Rattle.std.proofs.Common.{rules, ◌≡◌, ◌⊎◌, List, refl, subst, inl}
+use Rattle.std.proofs.Common.{rules, ◌≡◌, ◌⊎◌, List, [], false, refl, subst, inl}
 use Rattle.std.proofs.lemmas.Result.{err_from_is_err_and}
 use Rattle.bpf_model.specs.declared.event.EventRefusal.{EventRefusal}
 use Rattle.bpf_model.specs.View.{shapes_of_maps}
@@ -50,7 +50,7 @@ returns-in_err-puts-clause-refused c bytes h =
     rw (p.1, p.2) (puts_told bytes c.args.single.now s v good (search rules) refused)
 
 pub run_once-requires-clause-updates : goal.run_once-requires-clause-updates
-run_once-requires-clause-updates c = are_updates c.in_ok-source.source.registry c.args.single.now.elements.items c.in_ok-puts.puts.items (search rules)
+run_once-requires-clause-updates c = are_updates c.in_ok-source.source.registry c.args.single.now.elements.items c.deref-3.result.now (search rules)
 
 pub returns-in-Ok-text_of-clause-ended : goal.returns-in-Ok-text_of-clause-ended
 returns-in-Ok-text_of-clause-ended c bytes h =
@@ -61,15 +61,19 @@ returns-in-Ok-text_of-clause-ended c bytes h =
       graph = c.in_ok-verified.ensures.graph;
       verified = c.in_ok-verified.ensures.verified;
     } in
+    let e = c.in-Exited.ended in
+    let tells = c.args.tells in
+    let puts : c.deref-3.result.now ≡ c.in_ok-puts.puts.items = search rules in
     let run = subst (λ (o : RunEnd). ComesTo (shapes_of_maps s.registry.maps) c.in_ok-verified.verified.program
-    c.in_ok-puts.puts.items c.array_of-context.result.items o ran.world) c.in-Exited.is c.in-Ok.ensures in
+    c.deref-3.result.now c.array_of-context.result.items o tells ran.steps.items ran.world) c.in-Exited.is c.in-Ok.ensures in
     let text = c.in-Ok-text_of.ensures in (
-      c.in-Exited.ended,
+      e,
+      ran.steps.items,
       ran.world,
       text.0,
-      ended_of bytes c.args.single.now s c.in-Exited.ended ran.world good (search rules) (search rules)
-          (of_source c.args.single.now s c.in_ok-verified.verified.program c.in_ok-puts.puts.items
-          c.array_of-context.result.items (Exited c.in-Exited.ended) ran.world c.in_ok-verified.ensures.program
+      ended_of bytes c.args.single.now s e tells ran.steps.items ran.world good (search rules) (search rules)
+          (of_source c.args.single.now s c.in_ok-verified.verified.program c.deref-3.result.now
+          c.array_of-context.result.items (Exited e) tells ran.steps.items ran.world c.in_ok-verified.ensures.program
           (search rules) (search rules) run),
       text.1,
       text.2,
@@ -86,8 +90,8 @@ returns-in-NotDone-clause-refused c bytes h =
       verified = c.in_ok-verified.ensures.verified;
     } in
     let run = subst (λ (o : RunEnd). ComesTo (shapes_of_maps s.registry.maps) c.in_ok-verified.verified.program
-    c.in_ok-puts.puts.items c.array_of-context.result.items o ran.world) c.in-NotDone.is c.in-Ok.ensures in
+    c.deref-3.result.now c.array_of-context.result.items o c.args.tells ran.steps.items ran.world) c.in-NotDone.is c.in-Ok.ensures in
     place_told bytes c.args.single.now s k ran.world good (search rules) (search rules)
-    (of_source c.args.single.now s c.in_ok-verified.verified.program c.in_ok-puts.puts.items
-    c.array_of-context.result.items (NotDone k) ran.world c.in_ok-verified.ensures.program
+    (of_source c.args.single.now s c.in_ok-verified.verified.program c.deref-3.result.now
+    c.array_of-context.result.items (NotDone k) false [] ran.world c.in_ok-verified.ensures.program
     (search rules) (search rules) run)

@@ -1,4 +1,4 @@
-use Rattle.std.proofs.Common.{rules, ◌≡◌, ◌∙◌, ◌<◌, Some, length, refl, ap, arith, below_more}
+use Rattle.std.proofs.Common.{rules, ◌≡◌, ◌∙◌, ◌<◌, Some, length, refl, ap, below_more}
 use Rattle.std.specs.Prelude.{slice_get}
 use Rattle.std.proofs.lemmas.Option.{slice_get_read}
 use Rattle.run_once.specs.Once.{done}
@@ -9,7 +9,7 @@ loop-number-preserved c =
     let given = c.args.answers.now in
     let n = c.loop-number.number in
     let answer = c.index-answers-number.result in
-    let inside : n < length given = omega (arith, c.loop-number-test.true, c.requires) in
+    let inside : n < length given = search rules in
     let there : slice_get given n ≡ Some answer = slice_get_read given (length given) n answer refl inside c.index-answers-number.is in
     let done_here : answer ≡ done = c.is_done.ensures.0 (search rules) in
     below_more _ n c.loop-number.invariant (there ∙ ap Some done_here)

@@ -1,37 +1,55 @@
-use Rattle.std.proofs.Common.{rules, List, ◌∷◌, [], length, ◌≡◌, sym, subst}
+use Rattle.std.proofs.Common.{rules, ◌≡◌, ◌≢◌, ◌≤◌, ◌<◌, ◌∷◌, [], List, Some, length, subst, sym}
+use Rattle.std.specs.Prelude.{slice_get}
 use Rattle.bpf_model.specs.declared.event.Answer.{Answer}
+use Rattle.bpf_model.specs.Machine.{Machine}
+use Rattle.bpf_model.specs.Refines.{Tracks}
 use Rattle.bpf_model.specs.View.{shapes_of_maps}
-use Rattle.run_once.specs.Once.{HasExit, IsEnd}
-use Rattle.run_once.proofs.Exiting.{exits_there}
-use Rattle.run_once.proofs.Running.{bound_program, comes_to}
+use Rattle.run_once.specs.Going.{IsReady}
+use Rattle.run_once.specs.Once.{AreDone, StartsAndExits, done}
+use Rattle.run_once.proofs.Running.{bound_program, ready, runs, stops}
 use Rattle.run_once.proofs.once.run_once.Goals as goal
 
-pub end_of-outcome-requires : goal.end_of-outcome-requires
-end_of-outcome-requires c =
+pub returns-in-Some : goal.returns-in-Some
+returns-in-Some c =
     let shapes = shapes_of_maps c.args.registry.maps in
-    let before = c.args.before.items in
-    let context = c.args.context.items in
-    let given = c.in_ok-answers.answers.items in
     let pushed : c.push.new.self.items ≡ c.in_order.result ∷ [] = search rules in
-    let bound = bound_program c.push.new.self.items c.in_order.result c.args.verified shapes context pushed
-    c.in_order.ensures.verified c.in_order.ensures.maps c.requires.shapes c.requires.context in
-    let updates : c.len-updates.result ≡ length before = search rules in
-    let exit : HasExit (length before) given = exits_there c.in-Ok.world _ shapes _ c.args.verified.program before
-    context _ given c.in-Ok.ensures.start bound (search rules) c.requires.updates c.in_ok-answers.ensures.answers
-    c.in_ok-answers.ensures.exits in
-    subst (λ (xs : List Answer). HasExit c.len-updates.result xs) (sym c.deref-2.ensures.value) (subst (λ n. HasExit n given) (sym updates) exit)
+    let bound = bound_program c.push.new.self.items c.in_order.result c.args.verified shapes c.args.context.items
+    pushed c.in_order.ensures.verified c.in_order.ensures.maps c.requires.shapes c.requires.context in
+    let (less, are_done, other) = c.in-Some.ensures.some in
+    let of = c.deref.ensures.value in
+    stops c.in-Ok.world _ shapes _ c.args.verified.program c.args.before.now c.args.context.items _ c.in-Ok.ensures.machine bound
+    c.in_ok-answers.ensures.answers c.in-Some.number
+    (subst (λ (xs : List Answer). c.in-Some.number < length xs) of less)
+    (subst (λ (xs : List Answer). AreDone c.in-Some.number xs) of are_done)
+    (subst (λ (xs : List Answer). slice_get xs c.in-Some.number ≢ Some done) of other)
+
+pub run_from_start-requires-clause-ready : goal.run_from_start-requires-clause-ready
+run_from_start-requires-clause-ready c =
+    let shapes = shapes_of_maps c.args.registry.maps in
+    let pushed : c.push.new.self.items ≡ c.in_order.result ∷ [] = search rules in
+    let bound = bound_program c.push.new.self.items c.in_order.result c.args.verified shapes c.args.context.items
+    pushed c.in_order.ensures.verified c.in_order.ensures.maps c.requires.shapes c.requires.context in
+    let count : c.len-count.result ≡ length c.args.verified.program = search rules in
+    let r = ready c.in-Ok.world _ shapes _ c.args.verified.program c.args.before.now c.args.context.items _ c.in-Ok.ensures.machine bound
+    c.in_ok-answers.ensures.answers c.requires.updates in
+    (r.0, r.1, subst (λ n. IsReady r.0 n (length c.args.context.items)) (sym count) r.2)
 
 pub returns : goal.returns
 returns c =
     let shapes = shapes_of_maps c.args.registry.maps in
-    let before = c.args.before.items in
-    let given = c.in_ok-answers.answers.items in
-    let outcome = c.end_of-outcome.result in
     let pushed : c.push.new.self.items ≡ c.in_order.result ∷ [] = search rules in
     let bound = bound_program c.push.new.self.items c.in_order.result c.args.verified shapes c.args.context.items
     pushed c.in_order.ensures.verified c.in_order.ensures.maps c.requires.shapes c.requires.context in
-    let updates : c.len-updates.result ≡ length before = search rules in
-    let of_answers = subst (λ (xs : List Answer). IsEnd c.len-updates.result xs outcome) c.deref-2.ensures.value c.end_of-outcome.ensures in
-    let is : IsEnd (length before) given outcome = subst (λ n. IsEnd n given outcome) updates of_answers in
-    comes_to c.in-Ok.world _ shapes _ c.args.verified.program before c.args.context.items _ _ outcome
-    c.in-Ok.ensures.start bound (search rules) c.in_ok-answers.ensures.answers is
+    let count : c.len-count.result ≡ length c.args.verified.program = search rules in
+    let e = c.in-Ok-run_from_start.ensures in
+    let ended = c.in-Ok-run_from_start.ended in
+    let text = c.run_from_start.new.text.items in
+    let last = c.run_from_start.new.world in
+    let before = c.run_all.new.self in
+    let len = length c.args.context.items in
+    let exits = subst (λ n. (m : Machine) → Tracks before m → IsReady m n len → StartsAndExits m c.args.context.items ended c.args.tells text last)
+    count e.runs in
+    runs c.in-Ok.world _ shapes _ c.args.verified.program c.args.before.now c.args.context.items _ c.in-Ok.ensures.machine bound
+    c.in_ok-answers.ensures.answers ended c.args.tells text last c.requires.updates
+    (subst (λ (xs : List Answer). AreDone (length xs) xs) c.deref.ensures.value c.in_default-first_not_done.ensures.none)
+    exits (subst (λ n. ended.steps ≤ n) count e.in_time)

@@ -1,0 +1,19 @@
+use Rattle.std.proofs.Common.{rules, ◌≡◌, ℕ, List, ◌++◌, Bool, IfOk, subst, sym}
+use Rattle.bpf_model.specs.declared.event.Event.TheVariants.{Step}
+use Rattle.bpf_model.specs.declared.insn.Insn.{Insn}
+use Rattle.bpf_model.specs.Headline.{AnswersAsMachine}
+use Rattle.bpf_model.specs.Refines.{Tracks}
+use Rattle.run_once.specs.Told.{IsNext, IsStepTold}
+use Rattle.run_once.proofs.once.next_step.Goals as goal
+
+pub returns-then-tells-clause-told : goal.returns-then-tells-clause-told
+returns-then-tells-clause-told c =
+    subst
+    (λ (tells : Bool). IfOk c.tell_step.result (λ a. (late : List ℕ) × (c.tell_step.new.text.items ≡ c.args.text.now.items ++ late)
+    × ((slot : ℕ) (insn : Insn) → IsNext c.args.world.now slot insn → IsStepTold tells slot insn late)))
+    (sym c.if-tells.true) c.tell_step.ensures.told
+
+pub returns-clause-machine : goal.returns-clause-machine
+returns-clause-machine c =
+    let zero : c.new.result ≡ 0 = search rules in
+    subst (λ r. AnswersAsMachine Tracks c.args.world.now (Step r) c.apply.result c.apply.new.self) zero c.apply.ensures.machine
