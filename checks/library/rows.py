@@ -89,7 +89,7 @@ def opened(library, code, context, maps):
 
 
 def of_verdicts():
-    """The programs of checks/data/verdicts and of docs/REFUSALS.md: a name, the bytes, the context's length, the maps, what is said."""
+    """The programs of checks/data/verdicts and of docs/REFUSED_PROGRAMS.md: a name, the bytes, the context's length, the maps, what is said."""
     for file in sorted((DATA / "verdicts").iterdir()):
         setting = TABLES.Setting()
         for line in file.read_text().splitlines():
@@ -101,8 +101,8 @@ def of_verdicts():
                 yield f"{file.name}: {text}", code, setting.context, [*setting.maps], key
     for said, refused, instead in TABLES.shown_programs():
         if said not in ("14 at 1", "15 at 1"):
-            yield f"REFUSALS.md, {said}", TABLES.shown_code(refused) if refused else b"", 8, ["4 8 1 1 2"], f"refused {said}"
-        yield f"REFUSALS.md, in place of {said}", TABLES.shown_code(instead), 8, ["4 8 1 1 2"], "accepted"
+            yield f"REFUSED_PROGRAMS.md, {said}", TABLES.shown_code(refused) if refused else b"", 8, ["4 8 1 1 2"], f"refused {said}"
+        yield f"REFUSED_PROGRAMS.md, in place of {said}", TABLES.shown_code(instead), 8, ["4 8 1 1 2"], "accepted"
 
 
 def verdicts(library, bpfrt):
