@@ -7,7 +7,7 @@ ghost use Rattle.commands.specs.Asm.{WritesCode, written_as};
 ghost use Rattle.commands.specs.Sources.{IsRefusedText};
 
 use crate::prefixes::explain_prefix;
-use crate::report::{MEMORY, out_of_memory};
+use crate::report::out_of_memory;
 use crate::source_text::{SourceText, source_of};
 use crate::streams::{read_failed_in_words, write_status, write_text};
 use crate::text_meanings::meaning_of_text;
@@ -16,7 +16,7 @@ use asm_source::SourceFault;
 use bpf_model::CTX_BYTES;
 use command_words::AsmForm;
 use explanations::write_meaning;
-use program_files::{LoadFault, read_text};
+use program_files::{LoadFault, Verdict, read_text};
 use program_texts::{Assembled, TextFault, assemble_text, explain_text, has_head};
 use std::alloc::{AllocError, Global};
 use std::io;
@@ -43,7 +43,7 @@ fn named_line(lines: usize, fault: &SourceFault) -> usize {
 /// The number of a fault of a text.
 fn code_of(why: &TextFault) -> u8 {
     match why {
-        TextFault::Memory => MEMORY,
+        TextFault::Memory => Verdict::Memory.code(),
         TextFault::NotUtf8 { line } => AsmFault::BadLine(*line).code(),
         TextFault::Unnamed { lines, fault } => AsmFault::BadLine(named_line(*lines, fault)).code(),
         TextFault::BadHead { line } => LoadFault::BadFile { line: *line }.code(),

@@ -3,12 +3,12 @@ ghost use Rattle.std.specs.Prelude.{◌≡◌, ◌≢◌, ◌⊎◌, IfSome};
 ghost use Rattle.program_texts.specs.Filters.{IsRefusedByFilter};
 ghost use Rattle.commands.specs.Filters.{WritesFilter};
 
-use crate::report::{MEMORY, out_of_memory};
+use crate::report::out_of_memory;
 use crate::streams::{read_failed_in_words, write_status, write_text};
 use crate::text_meanings::meaning_of_filter;
 use classic::{Data, ReadFault};
 use explanations::write_meaning;
-use program_files::read_text;
+use program_files::{Verdict, read_text};
 use program_texts::{FilterFault, explain_filter, make_file};
 use std::alloc::Global;
 use std::io;
@@ -17,7 +17,7 @@ use std::io::{Read, Write};
 /// The number of a fault of a classic program.
 fn code_of(why: &FilterFault) -> u8 {
     match why {
-        FilterFault::Memory => MEMORY,
+        FilterFault::Memory => Verdict::Memory.code(),
         FilterFault::NotUtf8 { line } => ReadFault::BadLine(*line).code(),
         FilterFault::Unread(fault) => fault.code(),
         FilterFault::Flawed(fault) => fault.code(),

@@ -14,7 +14,7 @@ ghost use Rattle.commands.specs.Pools.{entries_line, IsProgramOf, IsRefusedByPoo
 use crate::contexts::{contexts_for, write_contexts_fault};
 use crate::meanings::meaning_of_refusal;
 use crate::refusal::CommandRefusal;
-use crate::report::{MEMORY, out_of_memory, report_line, report_refusal};
+use crate::report::{out_of_memory, report_line, report_refusal};
 use crate::streams::{read_failed_in_words, write_status};
 use bpf_model::{EventRefusal, MAX_JOURNAL};
 use command_words::ContextsFile;
@@ -81,7 +81,7 @@ fn report_size<E: Write>(err: &mut E, refusal: CommandRefusal, size: PoolSize, i
     ensures memory { command_number refusal ≡ memory_number → result ≡ 3 }
     ensures lost { command_number refusal ≡ pool_fault_number Lost → result ≡ 3 }
 {
-    if refusal.code() == MEMORY {
+    if refusal.is_memory() {
         return out_of_memory(err, in_words);
     }
     let status = report_line(err, refusal);

@@ -1,6 +1,7 @@
 //! Why a command refuses its input.
-ghost use Rattle.std.specs.Prelude.{◌≡◌};
+ghost use Rattle.std.specs.Prelude.{◌≡◌, Decides};
 ghost use Rattle.program_files.specs.declared.verdict.Verdict.TheVariants.{Program};
+ghost use Rattle.program_files.specs.Verdicts.{memory_number};
 ghost use Rattle.commands.specs.declared.refusal.CommandRefusal.TheVariants.{File};
 
 use bpf_model::EventRefusal;
@@ -34,6 +35,13 @@ impl CommandRefusal {
             CommandRefusal::NoPlace => 98,
             CommandRefusal::Pool(fault) => fault.code(),
         }
+    }
+
+    /// Whether memory ran out.
+    pub fn is_memory(&self) -> bool
+        ensures { Decides result (command_number self.now ≡ memory_number) }
+    {
+        self.code() == Verdict::Memory.code()
     }
 
     /// The slot where the instruction begins, counted from 0, where the refusal is of one.

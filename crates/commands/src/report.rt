@@ -21,9 +21,6 @@ use std::alloc::Global;
 use std::io;
 use std::io::Write;
 
-/// The number of want of memory.
-pub const MEMORY: u8 = 13;
-
 /// The text that a program file was made of, and for each instruction the number of its line there.
 #[derive(Clone, Copy)]
 pub struct MadeOf<'a> {
@@ -50,7 +47,7 @@ pub fn report_fault<W: Write>(err: &mut W, code: u8) -> u8
 pub fn out_of_memory<W: Write>(err: &mut W, in_words: bool) -> u8
     ensures { result ≡ 3 }
 {
-    let status = report_fault(err, MEMORY);
+    let status = report_fault(err, Verdict::Memory.code());
     if in_words {
         let _ = writeln!(err, "memory ran out");
     }
@@ -66,7 +63,7 @@ pub fn report_line<W: Write>(err: &mut W, refusal: CommandRefusal) -> u8
     ensures other { command_number refusal ≢ memory_number → command_number refusal ≢ pool_fault_number Lost → result ≡ 1 }
 {
     let code = refusal.code();
-    if code == MEMORY || code == PoolFault::Lost.code() {
+    if refusal.is_memory() || code == PoolFault::Lost.code() {
         return report_fault(err, code);
     }
     let _ = match (refusal.line(), refusal.slot()) {
@@ -141,7 +138,7 @@ pub fn report_refusal_at<E: Write>(
     ensures memory { command_number refusal ≡ memory_number → result ≡ 3 }
     ensures lost { command_number refusal ≡ pool_fault_number Lost → result ≡ 3 }
 {
-    if refusal.code() == MEMORY {
+    if refusal.is_memory() {
         return out_of_memory(err, in_words);
     }
     let status = report_line(err, refusal);
@@ -185,7 +182,7 @@ pub fn no_command<W: Write>(err: &mut W, usage: &WordsFault) -> u8
     ensures other { usage.now ≢ Memory → result ≡ 2 }
 {
     if matches!(usage, WordsFault::Memory) {
-        return report_fault(err, MEMORY);
+        return out_of_memory(err, false);
     }
     let _ = writeln!(err, "{usage}");
     2

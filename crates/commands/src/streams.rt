@@ -2,7 +2,7 @@
 ghost use Rattle.std.specs.Prelude.{◌≡◌, OnOk, MatchResult};
 ghost use Rattle.std.specs.Io.KnownBytes.{Appends};
 
-use crate::report::{MEMORY, out_of_memory, report_fault};
+use crate::report::{out_of_memory, report_fault};
 use script_stream::{ScriptFault, stream_fault};
 use std::io;
 use std::io::{ErrorKind, Write};
@@ -13,7 +13,7 @@ pub fn read_failed<E: Write>(err: &mut E, error: &io::Error) -> u8
     ensures { result ≡ 3 }
 {
     if error.kind() == ErrorKind::FileTooLarge {
-        return report_fault(err, MEMORY);
+        return out_of_memory(err, false);
     }
     report_fault(err, stream_fault(error, ScriptFault::Read).code())
 }
