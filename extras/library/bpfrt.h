@@ -503,7 +503,8 @@ static inline int32_t bpfrt_table_update_elem(struct bpfrt_table *table, const u
 }
 
 /* Sets each key of a table in another one, with the words of all its values. So a host goes over to a larger table. The two handles are
-   different ones.
+   different ones. A host that sets and removes nothing from this call until all threads have gone over needs none of the first five rules
+   (examples/hosts/grow.c).
 
    - From the first call on, also one that fails, the host sets and removes keys in both tables. No copy removes a key: one that is removed
      from the old table alone stays in the larger.
