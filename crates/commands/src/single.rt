@@ -56,27 +56,31 @@ fn end_of(alloc: Global, ended: Ended, json: bool, dumped: &[u8]) -> io::Result<
 }
 
 /// The steps of a run, and its end below them, as lines or as a JSON object.
-fn with_steps(alloc: Global, json: bool, steps: &[u8], end: &[u8]) -> Result<Vec<u8>, AllocError>
-    ensures { IfOk result (λ text. text.items ≡ told_text true json steps.now end.now) }
+fn with_steps(
+    alloc: Global,
+    json: bool,
+    mut steps: Vec<u8>,
+    end: &[u8],
+) -> Result<Vec<u8>, AllocError>
+    ensures { IfOk result (λ text. text.items ≡ told_text true json steps.items end.now) }
 {
     if json {
-        return traced_of(alloc, steps, end);
+        return traced_of(alloc, &steps, end);
     }
-    let mut text = Vec::from_slice(alloc, steps)?;
-    text.extend_from_slice(end)?;
-    Ok(text)
+    steps.extend_from_slice(end)?;
+    Ok(steps)
 }
 
 /// What tells a run that has exited, with its steps where they are asked for.
 fn text_of(
     alloc: Global,
     ended: Ended,
-    ran: &Ran,
+    ran: Ran,
     tells: bool,
     single: &SingleRun,
 ) -> io::Result<Vec<u8>>
-    ensures { IfOk result (λ text. (dumped : List ℕ) × IsDumped single.now.dump ran.now.world.maps dumped
-        × (text.items ≡ told_text tells single.now.json ran.now.steps.items
+    ensures { IfOk result (λ text. (dumped : List ℕ) × IsDumped single.now.dump ran.world.maps dumped
+        × (text.items ≡ told_text tells single.now.json ran.trace.items
         (ended_text single.now.json ended.value ended.steps dumped))) }
 {
     let dumped = dumped_of(alloc, &ran.world, single.dump)?;
@@ -84,7 +88,7 @@ fn text_of(
     if !tells {
         return Ok(end);
     }
-    let text = with_steps(alloc, single.json, &ran.steps, &end)?;
+    let text = with_steps(alloc, single.json, ran.trace, &end)?;
     Ok(text)
 }
 
@@ -121,7 +125,7 @@ fn run_of(
         RunEnd::Exited(ended) => ended,
         RunEnd::NotDone(_) => return Err(CommandRefusal::NoPlace),
     };
-    match text_of(alloc, ended, &ran, tells, single) {
+    match text_of(alloc, ended, ran, tells, single) {
         Ok(text) => Ok(text),
         Err(_) => Err(CommandRefusal::File(Verdict::Memory)),
     }

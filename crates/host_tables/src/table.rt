@@ -138,8 +138,8 @@ impl HostTable {
     /// reader holds.
     ///
     /// Where both buckets of a new key are full, an element of them goes to the other bucket of its own key, if that has an empty way.
-    /// It stands in both until each reader has left the section that it was in, so no reader misses it. If a reader stays inside
-    /// for 8,000,001 looks, some 20 milliseconds, the element stays where it stood.
+    /// It stands in both until each reader has left the section that it was in, so no reader misses it. It waits for one reader
+    /// after another. If one stays inside for 8,000,001 looks, some 20 milliseconds, the element stays where it stood.
     ///
     /// Errors: `Exists` and `Missing` where `how` asks otherwise; else `NoElement`, `NoWay`, `Held`. Then what is linked stays, and
     /// after `Held` the same call may succeed.

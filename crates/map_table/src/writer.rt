@@ -259,8 +259,8 @@ impl Writer {
 
     /// Makes room for a key whose two buckets are full: it moves an element from there to the other bucket of that one's key, if
     /// it can. Each element keeps its key and its values, and stays linked at each moment, so no reader misses it (law
-    /// `null_refutes_every_element`). It looks at a reader 8,000,001 times at most, some 20 milliseconds, and then gives up. Where each
-    /// reader has a processor it looks a few times.
+    /// `null_refutes_every_element`). It looks at one reader after another, at each 8,000,001 times at most (some 20 milliseconds), and
+    /// gives up at the first that stays inside. Where each has a processor it looks a few times.
     pub fn make_room(&mut self, table: &MapTable, key: &[u64]) -> Room
         requires table { self.old.table ≡ table.now }
         requires key { length key.now ≡ table.now.shape.key_words }

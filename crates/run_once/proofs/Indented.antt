@@ -1,27 +1,23 @@
 -- Lines behind two blanks, as they are written byte by byte.
-use Rattle.std.proofs.Common.{◌≡◌, ◌≢◌, inl, inr, ◌∙◌, ℕ, List, [], ◌∷◌, ◌++◌, Bool, true, false, arith, nat_eq, slice_index_or}
+use Rattle.std.proofs.Common.{◌≡◌, ◌⊎◌, inl, inr, ◌∙◌, ℕ, List, [], ◌∷◌, ◌++◌, Bool, true, false, arith, nat_eq, slice_index_or}
 use Rattle.std.proofs.Common.{refl, sym, ap, subst}
 use Rattle.std.specs.Prelude.{All, codes}
-use Rattle.std.proofs.lemmas.Bool.Decides.{eqb_tells}
+use Rattle.std.proofs.lemmas.Bool.{ne_eqb}
 use Rattle.std.proofs.lemmas.List.{append_assoc}
 use Rattle.std.proofs.lemmas.List.Elements.{All-append}
-use Rattle.run_once.specs.Told.{AreIndented, margin}
-
--- a byte that is in a line
-abbrev IsInLine : ℕ → Type 0
-IsInLine c = c ≢ 10
+use Rattle.run_once.specs.Told.{AreIndented, IsSeen, margin}
 
 -- The last line is ended, or it is not.
 abbrev pub IsPartly : Bool → List ℕ → Type 0
 IsPartly true late = AreIndented late
-IsPartly false late = (above line : List ℕ) × AreIndented above × All (λ c. c ≢ 10) line × (late ≡ above ++ (codes "  " ++ line))
+IsPartly false late = (above line : List ℕ) × AreIndented above × All IsSeen line × (late ≡ above ++ (codes "  " ++ line))
 
-all-one : (byte : ℕ) → IsInLine byte → All IsInLine (byte ∷ [])
+all-one : (byte : ℕ) → IsSeen byte → All IsSeen (byte ∷ [])
 all-one byte h = λ k d less.
     let first : k ≡ 0 = omega (arith, less) in
-    subst (λ (i : ℕ). IsInLine (slice_index_or (byte ∷ []) i d)) (sym first) h
+    subst (λ (i : ℕ). IsSeen (slice_index_or (byte ∷ []) i d)) (sym first) h
 
-all-none : All IsInLine []
+all-none : All IsSeen []
 all-none = λ k d less. absurd (omega (arith, less))
 
 -- a last line is ended
@@ -34,20 +30,26 @@ ends : (begins : Bool) (late : List ℕ) → IsPartly begins late → AreIndente
 ends true late h = AreIndented.one_more late [] h all-none
 ends false late h = ended late h
 
-goes-on : (begins : Bool) (late : List ℕ) (byte : ℕ) → byte ≢ 10 → IsPartly begins late → IsPartly false (late ++ (margin begins ++ byte ∷ []))
-goes-on true late byte in_line h = (late, byte ∷ [], h, all-one byte in_line, refl)
-goes-on false late byte in_line (above, line, h, all, is) = (
+goes-on : (begins : Bool) (late : List ℕ) (byte : ℕ) → IsSeen byte → IsPartly begins late → IsPartly false (late ++ (margin begins ++ byte ∷ []))
+goes-on true late byte seen h = (late, byte ∷ [], h, all-one byte seen, refl)
+goes-on false late byte seen (above, line, h, all, is) = (
   above,
   line ++ byte ∷ [],
   h,
-  All-append IsInLine line (byte ∷ []) all (all-one byte in_line),
+  All-append IsSeen line (byte ∷ []) all (all-one byte seen),
   ap (λ l. l ++ byte ∷ []) is ∙ append_assoc above (codes "  " ++ line) (byte ∷ []),
 )
 
+ended-here : (begins : Bool) (late : List ℕ) (byte : ℕ) → byte ≡ 10 → IsPartly begins late →
+    IsPartly (nat_eq byte 10) (late ++ (margin begins ++ byte ∷ []))
+ended-here begins late byte same h = subst
+    (λ c. IsPartly (nat_eq c 10) (late ++ (margin begins ++ c ∷ []))) (sym same) (ends begins late h)
+
 -- one byte more
-pub one_more : (begins : Bool) (late : List ℕ) (byte : ℕ) → IsPartly begins late → IsPartly (nat_eq byte 10) (late ++ (margin begins ++ byte ∷ []))
-one_more begins late byte h = elim (eqb_tells byte 10) [
-  | inl (is, same) ↦ subst (λ b. IsPartly b (late ++ (margin begins ++ byte ∷ []))) (sym is) (subst
-      (λ c. AreIndented (late ++ (margin begins ++ c ∷ []))) (sym same) (ends begins late h))
-  | inr (is, other) ↦ subst (λ b. IsPartly b (late ++ (margin begins ++ byte ∷ []))) (sym is) (goes-on begins late byte other h)
-]
+pub one_more : (begins : Bool) (late : List ℕ) (byte : ℕ) → ((byte ≡ 10) ⊎ IsSeen byte) → IsPartly begins late →
+    IsPartly (nat_eq byte 10) (late ++ (margin begins ++ byte ∷ []))
+one_more begins late byte (inl same) h = ended-here begins late byte same h
+one_more begins late byte (inr seen) h =
+    let low = seen.0 in
+    let other : nat_eq byte 10 ≡ false = ne_eqb byte 10 (λ e. absurd (omega (arith, low, e))) in
+    subst (λ b. IsPartly b (late ++ (margin begins ++ byte ∷ []))) (sym other) (goes-on begins late byte seen h)

@@ -11,11 +11,11 @@ use Rattle.bpf_model.specs.Schedule.{Schedule}
 use Rattle.bpf_model.specs.Step.{insn_at}
 use Rattle.bpf_model.specs.View.{RunView, WorldView}
 use Rattle.run_once.specs.Going.{IsGoing}
-use Rattle.run_once.specs.Told.{IsNext}
+use Rattle.run_once.specs.Told.{HasNext}
 
 -- what is found of the next instruction is that
 pub same_next : (w : WorldView) (slot : ℕ) (insn : Insn) (view : RunView) (place : ℕ) (found : Option Insn) (it : Insn) →
-    IsNext w slot insn → slice_get w.runs 0 ≡ Some (Some view) → place ≡ view.place →
+    HasNext w slot insn → slice_get w.runs 0 ≡ Some (Some view) → place ≡ view.place →
     ((l : Loaded) → slice_get w.programs view.program ≡ Some l → found ≡ insn_at l.code view.place) → found ≡ Some it →
     (place ≡ slot) × (it ≡ insn)
 same_next w slot insn view place found it n there placed finds is =
@@ -39,7 +39,7 @@ has slots es programs None None run h is = absurd (none-some run is)
 has slots es programs x y run h is = absurd h
 
 next_in : (w : WorldView) (s : Schedule) (count moved : ℕ) (g : IsGoing s.machine count moved) →
-    TracksSchedule w s → IsNext w g.run.state.place g.insn
+    TracksSchedule w s → HasNext w g.run.state.place g.insn
 next_in w s count moved g t =
     let r = t.refines in
     let x = has r.slots s.machine.store.elements s.machine.programs (slice_get w.runs 0) (slice_get s.machine.runs 0) g.run (r.runs 0) g.there in
@@ -52,6 +52,6 @@ next_in w s count moved g t =
       here = g.here;
     }
 
-pub next_of : (w : WorldView) (m : Machine) (count moved : ℕ) (g : IsGoing m count moved) → Tracks w m → IsNext w g.run.state.place g.insn
+pub next_of : (w : WorldView) (m : Machine) (count moved : ℕ) (g : IsGoing m count moved) → Tracks w m → HasNext w g.run.state.place g.insn
 next_of w m count moved g (s, same, t) =
-    subst (λ (k : Machine). (h : IsGoing k count moved) → IsNext w h.run.state.place h.insn) same (λ h. next_in w s count moved h t) g
+    subst (λ (k : Machine). (h : IsGoing k count moved) → HasNext w h.run.state.place h.insn) same (λ h. next_in w s count moved h t) g

@@ -61,8 +61,8 @@ module _ (w new : WorldView) (shapes : List MapShape) (programs : List Loaded) (
             (ready_at_start shapes program context) history,
       )
 
-  pub stops : (k : ℕ) → k < length given → AreDone k given → slice_get given k ≢ Some done → StopsAt shapes program before context k new
-  stops k less are_done other =
+  pub stops : (k : ℕ) (text : List ℕ) → text ≡ [] → k < length given → AreDone k given → slice_get given k ≢ Some done → StopsAt shapes program before context k text new
+  stops k text untold less are_done other =
       let (ss, history, tracked) = machine begin begins in
       let many = as-many begin before given ss history in
       record {
@@ -73,6 +73,7 @@ module _ (w new : WorldView) (shapes : List MapShape) (programs : List Loaded) (
         there = omega (arith, less, many);
         are_done = are_done;
         not_done = other;
+        untold = untold;
       }
 
   pub runs : (e : Ended) (tells : Bool) (text : List ℕ) (last : WorldView) → All IsUpdate before → AreDone (length given) given →

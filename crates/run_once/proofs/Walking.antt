@@ -13,7 +13,7 @@ use Rattle.bpf_model.specs.Refines.{Tracks}
 use Rattle.bpf_model.specs.View.{WorldView}
 use Rattle.run_once.specs.Going.{IsGoing}
 use Rattle.run_once.specs.Once.{RunsToExit}
-use Rattle.run_once.specs.Told.{AreTold, IsNext, IsStepTold, TellsStep}
+use Rattle.run_once.specs.Told.{AreTold, HasNext, IsStepTold, TellsStep}
 use Rattle.run_once.proofs.Histories.{last-longer, longer, replicate-more, told-longer}
 use Rattle.run_once.proofs.Nexts.{next_of}
 use Rattle.run_once.proofs.Stepping.{steps}
@@ -53,7 +53,7 @@ one_more m next count at tells text w answer k does =
 module _ (m : Machine) (count at : ℕ) (tells : Bool) (text late : List ℕ) (w new : WorldView) (answer : Answer)
     (k : Walked m count at tells text w) (machine : AnswersAsMachine Tracks w (Step 0) answer new)
     (never : AreNeverStuck Tracks w (Step 0 ∷ []) (answer ∷ [])) (time : AllExitInTime Tracks w (Step 0 ∷ []) (answer ∷ []))
-    (shown : (slot : ℕ) (insn : Insn) → IsNext w slot insn → IsStepTold tells slot insn late) where
+    (shown : (slot : ℕ) (insn : Insn) → HasNext w slot insn → IsStepTold tells slot insn late) where
   abbrev next : Machine
   next = (machine (last_of m k.states) k.tracked).0
 

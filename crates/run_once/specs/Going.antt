@@ -12,7 +12,8 @@ pub record IsReady (m : Machine) (count len : ℕ) : Type 0 where
   pub of : length program.code ≡ count
   pub fits : program.context_len ≡ len
 
--- The run in run slot 0 is of a program of so many instructions, and has made so many moves. It has not exited, nor is it stuck.
+-- The run in run slot 0 is of a program of so many instructions, and has made so many moves. It has not exited, and an
+-- instruction begins at its place.
 pub record IsGoing (m : Machine) (count moved : ℕ) : Type 0 where
   pub run : Run
   pub there : run_at m.runs 0 ≡ Some run

@@ -71,9 +71,9 @@ pub record RunsOnce (shapes : List MapShape) (program : List Insn) (before : Lis
   pub runs : StartsAndExits (last_of (start_with shapes program context) states) context e tells text last
   pub in_time : e.steps ≤ length program
 
--- Of the updates, the k-th, counted from 0, is the first that is not done. No run is started.
+-- Of the updates, the k-th, counted from 0, is the first that is not done. Those behind it are made, too, and no run is started.
 pub record StopsAt (shapes : List MapShape) (program : List Insn) (before : List Event) (context : List ℕ) (k : ℕ)
-    (last : WorldView) : Type 0 where
+    (text : List ℕ) (last : WorldView) : Type 0 where
   pub given : List Answer
   pub states : List Machine
   pub updates : IsHistory (start_with shapes program context) before given states
@@ -81,8 +81,9 @@ pub record StopsAt (shapes : List MapShape) (program : List Insn) (before : List
   pub there : k < length before
   pub are_done : AreDone k given
   pub not_done : slice_get given k ≢ Some done
+  pub untold : text ≡ []
 
 -- One run comes to this end, with these updates before it, and leaves the maps as this world has them. The text tells its steps.
 abbrev pub ComesTo : List MapShape → List Insn → List Event → List ℕ → RunEnd → Bool → List ℕ → WorldView → Type 0
 ComesTo shapes program before context (Exited e) tells text last = RunsOnce shapes program before context e tells text last
-ComesTo shapes program before context (NotDone k) tells text last = StopsAt shapes program before context k last
+ComesTo shapes program before context (NotDone k) tells text last = StopsAt shapes program before context k text last

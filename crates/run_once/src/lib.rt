@@ -1,5 +1,5 @@
-//! One run of a verified program, in a world of its own; and what a run does step by step, in words for people. No clause says that
-//! these words are right.
+//! One run of a verified program, in a world of its own, and its steps in words for people. No clause says that what stands below
+//! the line of a step is right.
 #![tactic(auto)]
 
 mod calls;

@@ -8,7 +8,7 @@ ghost use Rattle.bpf_model.specs.Refines.{Tracks};
 ghost use Rattle.bpf_model.specs.View.{AreNewMaps, shapes_of_maps};
 ghost use Rattle.run_once.specs.Going.{IsGoing, IsReady};
 ghost use Rattle.run_once.specs.Once.{done, AreDone, IsUpdate, ComesTo, RunsToExit, StartsAndExits};
-ghost use Rattle.run_once.specs.Told.{IsNext, IsStepTold};
+ghost use Rattle.run_once.specs.Told.{HasNext, IsStepTold};
 
 use crate::tracing::tell_step;
 use bpf_model::{Answer, CtxBytes, Event, ProgId, RunId};
@@ -38,7 +38,7 @@ pub enum RunEnd {
 #[derive(Drop)]
 pub struct Ran {
     pub outcome: RunEnd,
-    pub steps: Vec<u8>,
+    pub trace: Vec<u8>,
     pub world: World,
 }
 
@@ -74,12 +74,12 @@ fn next_step(
     tells: bool,
     text: &mut Vec<u8>,
 ) -> io::Result<Answer>
-    requires next { (slot : ℕ) × (insn : Insn) × IsNext world.old slot insn }
+    requires next { (slot : ℕ) × (insn : Insn) × HasNext world.old slot insn }
     ensures machine { IfOk result (λ a. AnswersAsMachine Tracks world.old (Step 0) a world.new) }
     ensures never_stuck { IfOk result (λ a. AreNeverStuck Tracks world.old (Step 0 ∷ []) (a ∷ [])) }
     ensures exits { IfOk result (λ a. AllExitInTime Tracks world.old (Step 0 ∷ []) (a ∷ [])) }
     ensures told { IfOk result (λ a. (late : List ℕ) × (text.new.items ≡ text.old.items ++ late)
-        × ((slot : ℕ) (insn : Insn) → IsNext world.old slot insn → IsStepTold tells slot insn late)) }
+        × ((slot : ℕ) (insn : Insn) → HasNext world.old slot insn → IsStepTold tells slot insn late)) }
 {
     if tells {
         return tell_step(alloc, world, text);
@@ -133,12 +133,12 @@ fn run_from_start(
 
 /// Runs a verified program once, on a context of its length, in a world of these new maps, to which it is bound in
 /// their order. Before its start come these events, updates of the maps; nothing else happens there. Where one of
-/// them is not done, the program is not started. Else its run exits, with as many steps as the program has
-/// instructions at most.
+/// them is not done, those behind it are made, too, and the program is not started. Else its run exits, with as many
+/// steps as the program has instructions at most.
 ///
-/// Where that is asked for, a text tells each step: the slot and the text of its instruction, and below them, indented, what
-/// a store writes, what a helper was called for and has given, and which registers, bytes of the frame and number of open locks
-/// have changed. Clauses speak of the instructions alone.
+/// Where that is asked for, a text tells each step: the slot and the text of its instruction, and below them, behind two
+/// blanks, what a store writes, what a helper was called for and has given, and what has changed: registers, bytes of
+/// the frame, the number of open locks. No clause says that what stands below is right.
 ///
 /// The error is that there is no memory left.
 pub fn run_once(
@@ -154,7 +154,7 @@ pub fn run_once(
     requires context { length context.items ≡ verified.ctx_len }
     requires updates { All IsUpdate before.now }
     ensures { IfOk result (λ r. ComesTo (shapes_of_maps registry.maps) verified.program
-        before.now context.items r.outcome tells r.steps.items r.world) }
+        before.now context.items r.outcome tells r.trace.items r.world) }
 {
     let count = verified.program().len();
     let _maps = registry.len();
@@ -163,23 +163,23 @@ pub fn run_once(
     let Ok(mut world) = World::new(alloc, registry, programs) else {
         return Err(AllocError);
     };
-    let mut steps = Vec::new(alloc);
+    let mut trace = Vec::new(alloc);
     let answers = world.run_all(alloc, before)?;
     if let Some(number) = first_not_done(&answers) {
         let outcome = RunEnd::NotDone(number);
         return Ok(Ran {
             outcome,
-            steps,
+            trace,
             world,
         });
     }
-    let Ok(ended) = run_from_start(alloc, &mut world, context, count, tells, &mut steps) else {
+    let Ok(ended) = run_from_start(alloc, &mut world, context, count, tells, &mut trace) else {
         return Err(AllocError);
     };
     let outcome = RunEnd::Exited(ended);
     Ok(Ran {
         outcome,
-        steps,
+        trace,
         world,
     })
 }

@@ -1,12 +1,12 @@
 //! A step of a run, and what tells it.
-ghost use Rattle.std.specs.Prelude.{◌≡◌, ℕ, List, ◌++◌, ◌∷◌, [], Some, slice_get, IfOk};
+ghost use Rattle.std.specs.Prelude.{◌≡◌, ◌⊎◌, ℕ, List, ◌++◌, ◌∷◌, [], Some, slice_get, IfOk};
 ghost use Rattle.bpf_model.specs.declared.insn.Insn.{Insn};
 ghost use Rattle.bpf_model.specs.declared.event.Event.TheVariants.{Step};
 ghost use Rattle.bpf_model.specs.Headline.{AnswersAsMachine, AllExitInTime, AreNeverStuck};
 ghost use Rattle.bpf_model.specs.Machine as machine;
 ghost use Rattle.bpf_model.specs.Refines.{Tracks};
 ghost use Rattle.bpf_model.specs.Step.{insn_at as insn_of};
-ghost use Rattle.run_once.specs.Told.{AreIndented, IsNext, ShowsStep, margin, step_line};
+ghost use Rattle.run_once.specs.Told.{AreIndented, HasNext, IsSeen, ShowsStep, margin, step_line};
 
 use crate::calls::{asked_of, write_call};
 use crate::changes::{Before, write_changes};
@@ -91,6 +91,16 @@ fn push_line(alloc: Global, text: &mut Vec<u8>, slot: usize, insn: &Insn) -> io:
     writeln!(text, "{slot}: {line}")
 }
 
+/// The byte, or `?` in the place of one that is neither seen nor a line feed.
+fn shown(byte: u8) -> u8
+    ensures { (result ≡ 10) ⊎ IsSeen result }
+{
+    match byte {
+        b'\n' | b' '..=b'~' => byte,
+        _ => b'?',
+    }
+}
+
 /// Writes a byte, behind two blanks where it begins a line.
 fn push_byte(text: &mut Vec<u8>, begins: bool, byte: u8) -> Result<(), AllocError>
     ensures { IfOk result (λ _. text.new.items ≡ text.old.items ++ (margin begins ++ byte ∷ [])) }
@@ -102,14 +112,15 @@ fn push_byte(text: &mut Vec<u8>, begins: bool, byte: u8) -> Result<(), AllocErro
     Ok(())
 }
 
-/// Writes each line of a text behind two blanks.
+/// Writes each line of a text behind two blanks, and ends the last one where it is not ended.
 fn push_indented(text: &mut Vec<u8>, lines: &[u8]) -> Result<(), AllocError>
     ensures { IfOk result (λ _. (late : List ℕ) × AreIndented late × (text.new.items ≡ text.old.items ++ late)) }
 {
     let mut begins = true;
     for byte in lines {
-        push_byte(text, begins, *byte)?;
-        begins = *byte == b'\n';
+        let byte = shown(*byte);
+        push_byte(text, begins, byte)?;
+        begins = byte == b'\n';
     }
     if !begins {
         text.push(b'\n')?;
@@ -117,18 +128,18 @@ fn push_indented(text: &mut Vec<u8>, lines: &[u8]) -> Result<(), AllocError>
     Ok(())
 }
 
-/// Makes the next step of run 0, and writes the slot and the text of its instruction. Below them, indented, stands what a store
-/// writes, what a helper was called for and has given, and which registers, bytes of the frame and number of open locks have
-/// changed.
+/// Makes the next step of run 0, and writes the slot and the text of its instruction. Below them, behind two blanks, stands what
+/// a store writes, what a helper was called for and has given, and what has changed: registers, bytes of the frame, the number
+/// of open locks.
 ///
 /// An error says that memory ran out.
-pub(crate) fn tell_step(alloc: Global, world: &mut World, text: &mut Vec<u8>) -> io::Result<Answer>
-    requires next { (slot : ℕ) × (insn : Insn) × IsNext world.old slot insn }
+pub fn tell_step(alloc: Global, world: &mut World, text: &mut Vec<u8>) -> io::Result<Answer>
+    requires next { (slot : ℕ) × (insn : Insn) × HasNext world.old slot insn }
     ensures machine { IfOk result (λ a. AnswersAsMachine Tracks world.old (Step 0) a world.new) }
     ensures never_stuck { IfOk result (λ a. AreNeverStuck Tracks world.old (Step 0 ∷ []) (a ∷ [])) }
     ensures exits { IfOk result (λ a. AllExitInTime Tracks world.old (Step 0 ∷ []) (a ∷ [])) }
     ensures told { IfOk result (λ a. (late : List ℕ) × (text.new.items ≡ text.old.items ++ late)
-        × ((slot : ℕ) (insn : Insn) → IsNext world.old slot insn → ShowsStep slot insn late)) }
+        × ((slot : ℕ) (insn : Insn) → HasNext world.old slot insn → ShowsStep slot insn late)) }
 {
     let Some(run) = world.run(RunId::new(0)) else {
         unreachable!();

@@ -1,4 +1,4 @@
-use Rattle.std.proofs.Common.{rules, ◌≡◌, ◌⊎◌, List, [], false, refl, subst, inl}
+use Rattle.std.proofs.Common.{rules, ◌≡◌, ◌⊎◌, ℕ, List, [], false, refl, subst, inl}
 use Rattle.std.proofs.lemmas.Result.{err_from_is_err_and}
 use Rattle.bpf_model.specs.declared.event.EventRefusal.{EventRefusal}
 use Rattle.bpf_model.specs.View.{shapes_of_maps}
@@ -9,7 +9,7 @@ use Rattle.commands.specs.Runs.{HasBadElement}
 use Rattle.program_files.proofs.Shapes.{verifier_told}
 use Rattle.run_once.specs.declared.once.RunEnd.{RunEnd}
 use Rattle.run_once.specs.declared.once.RunEnd.TheVariants.{Exited, NotDone}
-use Rattle.run_once.specs.Once.{ComesTo}
+use Rattle.run_once.specs.Once.{ComesTo, StopsAt}
 use Rattle.commands.proofs.Ran.{IsGood, are_updates, of_source, ended_of, context_told, puts_told, place_told}
 use Rattle.commands.proofs.single.run_of.Goals as goal
 
@@ -65,15 +65,15 @@ returns-in-Ok-text_of-clause-ended c bytes h =
     let tells = c.args.tells in
     let puts : c.deref-3.result.now ≡ c.in_ok-puts.puts.items = search rules in
     let run = subst (λ (o : RunEnd). ComesTo (shapes_of_maps s.registry.maps) c.in_ok-verified.verified.program
-    c.deref-3.result.now c.array_of-context.result.items o tells ran.steps.items ran.world) c.in-Exited.is c.in-Ok.ensures in
+    c.deref-3.result.now c.array_of-context.result.items o tells ran.trace.items ran.world) c.in-Exited.is c.in-Ok.ensures in
     let text = c.in-Ok-text_of.ensures in (
       e,
-      ran.steps.items,
+      ran.trace.items,
       ran.world,
       text.0,
-      ended_of bytes c.args.single.now s e tells ran.steps.items ran.world good (search rules) (search rules)
+      ended_of bytes c.args.single.now s e tells ran.trace.items ran.world good (search rules) (search rules)
           (of_source c.args.single.now s c.in_ok-verified.verified.program c.deref-3.result.now
-          c.array_of-context.result.items (Exited e) tells ran.steps.items ran.world c.in_ok-verified.ensures.program
+          c.array_of-context.result.items (Exited e) tells ran.trace.items ran.world c.in_ok-verified.ensures.program
           (search rules) (search rules) run),
       text.1,
       text.2,
@@ -90,8 +90,11 @@ returns-in-NotDone-clause-refused c bytes h =
       verified = c.in_ok-verified.ensures.verified;
     } in
     let run = subst (λ (o : RunEnd). ComesTo (shapes_of_maps s.registry.maps) c.in_ok-verified.verified.program
-    c.deref-3.result.now c.array_of-context.result.items o c.args.tells ran.steps.items ran.world) c.in-NotDone.is c.in-Ok.ensures in
+    c.deref-3.result.now c.array_of-context.result.items o c.args.tells ran.trace.items ran.world) c.in-NotDone.is c.in-Ok.ensures in
+    let stops : List ℕ → Type 0 = λ text. StopsAt (shapes_of_maps s.registry.maps) c.in_ok-verified.verified.program
+    c.deref-3.result.now c.array_of-context.result.items k text ran.world in
+    let told : stops ran.trace.items = run in
     place_told bytes c.args.single.now s k ran.world good (search rules) (search rules)
     (of_source c.args.single.now s c.in_ok-verified.verified.program c.deref-3.result.now
     c.array_of-context.result.items (NotDone k) false [] ran.world c.in_ok-verified.ensures.program
-    (search rules) (search rules) run)
+    (search rules) (search rules) (subst stops told.untold told))

@@ -3,14 +3,14 @@ use Rattle.bpf_model.specs.declared.event.Event.TheVariants.{Step}
 use Rattle.bpf_model.specs.declared.insn.Insn.{Insn}
 use Rattle.bpf_model.specs.Headline.{AnswersAsMachine}
 use Rattle.bpf_model.specs.Refines.{Tracks}
-use Rattle.run_once.specs.Told.{IsNext, IsStepTold}
+use Rattle.run_once.specs.Told.{HasNext, IsStepTold}
 use Rattle.run_once.proofs.once.next_step.Goals as goal
 
 pub returns-then-tells-clause-told : goal.returns-then-tells-clause-told
 returns-then-tells-clause-told c =
     subst
     (λ (tells : Bool). IfOk c.tell_step.result (λ a. (late : List ℕ) × (c.tell_step.new.text.items ≡ c.args.text.now.items ++ late)
-    × ((slot : ℕ) (insn : Insn) → IsNext c.args.world.now slot insn → IsStepTold tells slot insn late)))
+    × ((slot : ℕ) (insn : Insn) → HasNext c.args.world.now slot insn → IsStepTold tells slot insn late)))
     (sym c.if-tells.true) c.tell_step.ensures.told
 
 pub returns-clause-machine : goal.returns-clause-machine

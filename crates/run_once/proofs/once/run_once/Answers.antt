@@ -18,7 +18,7 @@ returns-in-Some c =
     let (less, are_done, other) = c.in-Some.ensures.some in
     let of = c.deref.ensures.value in
     stops c.in-Ok.world _ shapes _ c.args.verified.program c.args.before.now c.args.context.items _ c.in-Ok.ensures.machine bound
-    c.in_ok-answers.ensures.answers c.in-Some.number
+    c.in_ok-answers.ensures.answers c.in-Some.number c.new-trace.result.items c.new-trace.ensures.items
     (subst (λ (xs : List Answer). c.in-Some.number < length xs) of less)
     (subst (λ (xs : List Answer). AreDone c.in-Some.number xs) of are_done)
     (subst (λ (xs : List Answer). slice_get xs c.in-Some.number ≢ Some done) of other)

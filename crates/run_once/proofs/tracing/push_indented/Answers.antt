@@ -10,11 +10,11 @@ loop-byte-init c = ([], AreIndented.none, sym (append-nil c.args.text.now.items)
 pub loop-byte-preserved : goal.loop-byte-preserved
 loop-byte-preserved c =
     let i = c.loop-byte.invariant in
-    let byte = slice_index_or c.args.lines.now c.loop-byte.byte-index 0 in
+    let byte = c.shown-byte.result in
     let late = margin c.loop-byte.begins ++ byte ∷ [] in
     let items : c.push_byte.new.text.items ≡ c.loop-byte.text.items ++ late = search rules in (
       i.0 ++ late,
-      one_more c.loop-byte.begins i.0 byte i.1,
+      one_more c.loop-byte.begins i.0 byte c.shown-byte.ensures i.1,
       items ∙ (ap (λ l. l ++ late) i.2 ∙ append_assoc c.args.text.now.items i.0 late),
     )
 
