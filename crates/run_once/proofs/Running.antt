@@ -61,7 +61,8 @@ module _ (w new : WorldView) (shapes : List MapShape) (programs : List Loaded) (
             (ready_at_start shapes program context) history,
       )
 
-  pub stops : (k : ℕ) (text : List ℕ) → text ≡ [] → k < length given → AreDone k given → slice_get given k ≢ Some done → StopsAt shapes program before context k text new
+  pub stops : (k : ℕ) (text : List ℕ) → text ≡ [] → k < length given → AreDone k given → slice_get given k ≢ Some done →
+      StopsAt shapes program before context k text new
   stops k text untold less are_done other =
       let (ss, history, tracked) = machine begin begins in
       let many = as-many begin before given ss history in
