@@ -6,7 +6,7 @@ use crate::decimal::{Decimal, quotient};
 use crate::trial::{Trial, counted_run, counting_bytes};
 use anyhow::{Result, ensure};
 use bpf_model::CtxBytes;
-use map_free_runs::run_to_exit;
+use shared_runs::alone::run_to_exit;
 use std::alloc::Global;
 use std::rt::Clock;
 use std::time::{Duration, Instant};

@@ -2,7 +2,7 @@
 ghost use Rattle.std.specs.Prelude.{◌≡◌, ◌/◌, ◌%◌, ◌++◌, IfOk, string_bytes, codes, decimal};
 
 use crate::decimal::{Decimal, quotient};
-use map_free_runs::Finished;
+use shared_runs::alone::Finished;
 use std::alloc::{AllocError, Global};
 use std::time::Duration;
 use world_bench::{Outcome, Tally};

@@ -3,13 +3,13 @@ ghost use Rattle.std.specs.Prelude.{◌≡◌, ℕ, ◌<◌, ◌≤◌, length, 
 ghost use Rattle.bpf_model.specs.declared.limits.TheConstants.{CTX_BYTES, MAX_SLOTS};
 ghost use Rattle.bpf_model.specs.Exit.{ExitsWith};
 ghost use Rattle.bpf_model.specs.Spelling.{text};
-ghost use Rattle.map_free_runs.specs.Lone.{loaded_alone};
+ghost use Rattle.shared_runs.specs.Lone.{loaded_alone};
 ghost use Rattle.bench.specs.Trials.{IsReadyTrial};
 
 use anyhow::{Result, ensure};
 use bpf_model::CtxBytes;
 use insn_codec::{Program, decode};
-use map_free_runs::{Finished, has_no_maps, run_to_exit};
+use shared_runs::alone::{Finished, has_no_maps, run_to_exit};
 use std::alloc::Global;
 use verifier::{Verified, verify};
 

@@ -11,7 +11,7 @@ use Rattle.bpf_model.specs.View.{WorldView, start_view}
 use Rattle.bpf_model.specs.declared.limits.MapShape.{MapShape}
 use Rattle.world.specs.Through.{RunsThrough}
 use Rattle.world_laws.specs.Reacting.{full_reaction}
-use Rattle.load_laws.specs.Loads.{with_program}
+use Rattle.world_laws.specs.Loads.{with_program}
 use Rattle.host_programs.specs.Opened.{OpenProgram}
 
 -- The number of errno.h for a refusal: ESRCH for a run that is none or has ended, ENXIO for a program or a map that is none, EAGAIN

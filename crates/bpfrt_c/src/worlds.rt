@@ -6,7 +6,7 @@ ghost use Rattle.bpf_model.specs.declared.event.EventRefusal.{EventRefusal as Re
 ghost use Rattle.bpf_model.specs.declared.event.Event.TheVariants as events;
 ghost use Rattle.bpf_model.specs.declared.limits.TheConstants.{CTX_BYTES, KEY_BYTES, VALUE_BYTES};
 ghost use Rattle.host_values.specs.Values.{world_in};
-ghost use Rattle.view_laws.specs.Reactions.{read_reaction};
+ghost use Rattle.model_laws.specs.Reactions.{read_reaction};
 ghost use Rattle.bpfrt_c.specs.Worlds.{FindsBytes, IsAnswer, IsNumberOf, Reacts, answer_number, refusal_error};
 
 use crate::number::{EAGAIN, EBADF, EBUSY, EINVAL, ENOENT, ENXIO, ESRCH};

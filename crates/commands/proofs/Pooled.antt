@@ -6,7 +6,7 @@ use Rattle.std.proofs.KnownBytes.{Appends-trans}
 use Rattle.bpf_model.specs.declared.insn.Insn.{Insn}
 use Rattle.bpf_model.specs.declared.limits.MapShape.{MapShape}
 use Rattle.bpf_model.specs.View.{shapes_of_maps}
-use Rattle.program_graph.specs.GraphFlaws.{HasGoodGraph}
+use Rattle.verifier.specs.GraphFlaws.{HasGoodGraph}
 use Rattle.plan_laws.specs.Verified.{IsVerified}
 use Rattle.job_queue.specs.declared.fault.PoolFault.{PoolFault}
 use Rattle.worker_pool.specs.Lines.{job_lines}

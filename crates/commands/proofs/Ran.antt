@@ -7,7 +7,7 @@ use Rattle.bpf_model.specs.declared.event.EventRefusal.TheVariants.{BadContext}
 use Rattle.bpf_model.specs.declared.insn.Insn.{Insn}
 use Rattle.bpf_model.specs.View.{WorldView, shapes_of_maps}
 use Rattle.maps.specs.Registry.{RegistryView}
-use Rattle.program_graph.specs.GraphFlaws.{HasGoodGraph}
+use Rattle.verifier.specs.GraphFlaws.{HasGoodGraph}
 use Rattle.plan_laws.specs.Verified.{IsVerified}
 use Rattle.program_files.specs.declared.program_file.Source.{Source}
 use Rattle.program_files.specs.declared.verdict.Verdict.TheVariants.{Memory}

@@ -8,7 +8,7 @@ use Rattle.bpf_model.specs.Machine as machine
 use Rattle.bpf_model.specs.View.{AreNewMaps, new_map_view, shapes_of_maps}
 use Rattle.maps.specs.Registry.{RegistryView, no_maps, registry_code}
 use Rattle.world.specs.BoundTo.{AreProgramsBound}
-use Rattle.view_laws.specs.Codes.{program_code}
+use Rattle.model_laws.specs.Codes.{program_code}
 use Rattle.world.specs.declared.kept.loaded.Loaded.{Loaded}
 
 -- the maps and the programs that are made so far

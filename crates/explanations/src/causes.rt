@@ -7,11 +7,11 @@ use bpf_model::{
     ArgumentKind, CallKind, FRAME_BYTES, Helper, Insn, MapId, MapShape, Operand, Reg, ResultKind,
 };
 use program_files::Source;
-use program_graph::GraphFlaw;
 use register_kinds::{AbsState, InsnFault, RegKind, is_array};
 use std::io;
 use std::io::Write;
 use text_likeness::{Filling, write_filled, write_text};
+use verifier::GraphFlaw;
 
 /// Which functions there are.
 pub const FUNCTIONS: &str =

@@ -2,11 +2,11 @@
 
 use bpf_model::{CallKind, Insn, KernelFunction, MAX_DEPTH};
 use program_files::Source;
-use program_graph::{falls, judge};
 use std::alloc::{AllocError, Global};
 use std::io;
 use std::io::Write;
 use text_likeness::{Filling, write_filled, write_text};
+use verifier::{falls, judge};
 
 /// For each number of locks, 0 to `MAX_DEPTH`, whether so many are open on some path.
 type Depths = [bool; 9];

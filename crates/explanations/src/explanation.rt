@@ -13,7 +13,6 @@ use bpf_model::Insn;
 use disasm::line_of;
 use insn_codec::{DecodeFault, InsnFlaw};
 use program_files::{FileBytes, HEADING, LoadFault, Source, Verdict, known_where_refused, load};
-use program_graph::GraphFlaw;
 use register_kinds::{InsnFault, RegKind};
 use std::alloc::Global;
 use std::io;
@@ -21,7 +20,7 @@ use std::io::Write;
 use text_likeness::{
     Filling, likeness_of, write_filled, write_likeness, write_text, write_wrong_line,
 };
-use verifier::{AbsState, ProgramRefusal};
+use verifier::{AbsState, GraphFlaw, ProgramRefusal};
 use verifier_log::write_kind;
 
 /// The instruction that begins at a slot, and its index, if one does.

@@ -3,9 +3,8 @@
 use bpf_model::{EventRefusal, Insn};
 use insn_codec::{DecodeFault, InsnFlaw};
 use program_files::{LoadFault, Verdict};
-use program_graph::GraphFlaw;
 use register_kinds::InsnFault;
-use verifier::ProgramRefusal;
+use verifier::{GraphFlaw, ProgramRefusal};
 
 /// The name of a refusal, and what it means in a sentence.
 #[derive(Clone, Copy, Debug, PartialEq, Eq)]

@@ -2,9 +2,9 @@
 
 use bpf_model::{CallKind, Insn};
 use program_files::Source;
-use program_graph::{GraphRefusal, falls, judge};
 use register_kinds::RegKind;
 use std::alloc::{AllocError, Global};
+use verifier::{GraphRefusal, falls, judge};
 use verifier_log::{Passing, Watched, passings_of};
 
 /// A way from one instruction to another, by their indexes, and what is known there of what is watched.

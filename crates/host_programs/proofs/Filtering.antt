@@ -8,7 +8,7 @@ use Rattle.classic_program.specs.declared.data.Data.TheVariants.{Packet}
 use Rattle.classic_program.specs.declared.insn.ClassicInsn.{ClassicInsn}
 use Rattle.classic_program.specs.Machine.{Filters}
 use Rattle.classic_program.specs.WellFormed.{checked}
-use Rattle.map_free_runs.specs.Lone.{loaded_alone}
+use Rattle.shared_runs.specs.Lone.{loaded_alone}
 use Rattle.plan_laws.specs.Verified.{IsVerified}
 use Rattle.verifier.specs.Checked.{Checked}
 use Rattle.host_programs.specs.Opened.{IsSafe, Translates}

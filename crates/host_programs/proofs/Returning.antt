@@ -7,7 +7,7 @@ use Rattle.classic_program.specs.declared.data.Data.{Data}
 use Rattle.classic_program.specs.Context.{IsContext, IsPacketContext}
 use Rattle.classic_program.specs.Machine.{Input, Filters}
 use Rattle.classic_program.specs.WellFormed.{Checked as Classic}
-use Rattle.map_free_runs.specs.Lone.{loaded_alone}
+use Rattle.shared_runs.specs.Lone.{loaded_alone}
 use Rattle.verifier.specs.Checked.{Checked}
 use Rattle.host_programs.specs.Opened.{IsTranslationOf}
 use Rattle.host_programs.specs.Runs.{ReturnsOn, Returns}

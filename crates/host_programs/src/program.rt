@@ -3,7 +3,7 @@
 use bpf_model::MapShape;
 use classic::ClassicProgram;
 use classic_runs::PacketFilter;
-use map_free_runs::has_no_maps;
+use shared_runs::alone::has_no_maps;
 use shared_runs::stores_sub_words;
 use std::marker::Model;
 use verifier::Verified;

@@ -2,7 +2,7 @@
 
 use crate::packet::fill_context;
 use classic::{PACKET_BYTES, PACKET_CONTEXT};
-use map_free_runs::Workspace;
+use shared_runs::Workspace;
 
 /// Zeros, as stand behind the bytes of a short packet.
 const ZEROS: [u8; PACKET_BYTES] = [0; PACKET_BYTES];

@@ -14,7 +14,8 @@ use crate::program::HostProgram;
 use crate::room::Room;
 use bpf_model::are_bytes;
 use classic::PACKET_CONTEXT;
-use map_free_runs::{Workspace, run_in};
+use shared_runs::Workspace;
+use shared_runs::alone::run_in;
 
 impl HostProgram {
     /// The exit value of a program that names no map, on a context of its length, in a workspace where other runs have been.

@@ -14,7 +14,7 @@ ghost use Rattle.bpf_model.specs.Step.{insn_at};
 ghost use Rattle.bpf_model.specs.View.{RunView, WorldView, shapes_of};
 ghost use Rattle.verifier.specs.Checked.{Checked};
 ghost use Rattle.verifier.specs.Verdict.{IsJustified};
-ghost use Rattle.view_laws.specs.Matching.{Matches};
+ghost use Rattle.model_laws.specs.Matching.{Matches};
 ghost use Rattle.world_laws.specs.Local.{local_of};
 ghost use Rattle.world_laws.specs.Moving.{word_in};
 ghost use Rattle.world_laws.specs.Reacting.{full_reaction, insn_step};

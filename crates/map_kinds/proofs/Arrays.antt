@@ -18,7 +18,7 @@ use Rattle.bpf_model.proofs.Lists.{get-set_other, get-set_there}
 use Rattle.element_store.specs.Blocks.{block, with_block}
 use Rattle.element_store.specs.State.{is_at, key_at, value_at}
 use Rattle.element_store.proofs.BlockLaws.{room, block-written, block-other, block-zeros, length-with_block}
-use Rattle.view_laws.specs.Views.{updated, updated_by, written_by, overwritten_slot, written}
+use Rattle.model_laws.specs.Views.{updated, updated_by, written_by, overwritten_slot, written}
 use Rattle.map_kinds.specs.Arrays.{index_slot, array_view, IsArrayMap}
 use Rattle.map_kinds.specs.Shown.{IsOccupied}
 use Rattle.model_laws.proofs.Indices.{index-long, index-got}

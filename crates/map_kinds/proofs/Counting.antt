@@ -13,7 +13,7 @@ use Rattle.element_store.specs.State.{times_in}
 use Rattle.element_store.specs.State as arena
 use Rattle.element_store.proofs.Counts.{times-append, length_once}
 use Rattle.element_store.specs.Queued.{queued, reaped_lists}
-use Rattle.view_laws.specs.Views.{given_at, slot_given_back, reaped_view, filled, retired_slot}
+use Rattle.model_laws.specs.Views.{given_at, slot_given_back, reaped_view, filled, retired_slot}
 use Rattle.map_kinds.specs.declared.counts.Counts.{Counts}
 use Rattle.map_kinds.specs.Counting.{unlinked_in, worn_in, counts_linked, counts_reaped, IsCounted}
 use Rattle.map_kinds.specs.Parted.{PartsView, IsParted, standings}

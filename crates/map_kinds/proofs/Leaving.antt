@@ -10,9 +10,9 @@ use Rattle.bpf_model.specs.declared.event.Given.TheVariants.{Free, Worn}
 use Rattle.bpf_model.specs.declared.limits.MapShape.{MapShape}
 use Rattle.bpf_model.specs.View.{MapView, uses_at}
 use Rattle.element_store.specs.State.{worn_at, flag_in, is_last_use, given_back}
-use Rattle.view_laws.specs.Views.{given_at, reaped_view}
-use Rattle.view_laws.specs.Views as views
-use Rattle.view_laws.proofs.Lists.{len-remove_found}
+use Rattle.model_laws.specs.Views.{given_at, reaped_view}
+use Rattle.model_laws.specs.Views as views
+use Rattle.model_laws.proofs.Lists.{len-remove_found}
 use Rattle.element_store.specs.Queued.{reaped_lists}
 use Rattle.map_kinds.specs.Parted.{PartsView}
 use Rattle.map_kinds.specs.Updated.{unlinked_of}

@@ -5,7 +5,7 @@ use Rattle.std.proofs.lemmas.Option.{none-some}
 use Rattle.bpf_model.specs.View.{KeyMap}
 use Rattle.bpf_model.proofs.Lists.{key_cases}
 use Rattle.model_laws.proofs.Indices.{insert-other}
-use Rattle.view_laws.proofs.Lists.{remove-same, remove-other}
+use Rattle.model_laws.proofs.Lists.{remove-same, remove-other}
 use Rattle.map_kinds.specs.Shown.{AreKeysLong}
 
 pub long-removed : (m : KeyMap) (k : List ℕ) (n : ℕ) → AreKeysLong m n → AreKeysLong (remove m k) n

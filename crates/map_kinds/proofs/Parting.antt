@@ -12,7 +12,7 @@ use Rattle.element_store.specs.State.{ArenaState, IsTaken, is_at, indexed, times
 use Rattle.element_store.proofs.Counts.{one_cases, one_same, one_other, times-append}
 use Rattle.hash_index.proofs.Links.{insert_over}
 use Rattle.model_laws.proofs.Indices.{insert-same, insert-other}
-use Rattle.view_laws.proofs.Lists.{remove-same, remove-other}
+use Rattle.model_laws.proofs.Lists.{remove-same, remove-other}
 use Rattle.element_store.specs.Queued.{queued, retired_lists, reaped_lists}
 use Rattle.map_kinds.specs.Parted.{PartsView, standings, IsParted, IsInHand, IsInUse}
 use Rattle.bpf_model.specs.View.{KeyMap}

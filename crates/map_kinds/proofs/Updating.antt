@@ -13,9 +13,9 @@ use Rattle.bpf_model.specs.declared.limits.MapShape.{MapShape}
 use Rattle.bpf_model.specs.Helper.{hash_error, error_of_kind}
 use Rattle.bpf_model.specs.View.{SlotView, MapView, uses_at, map_state_of, key_in, value_in}
 use Rattle.element_store.specs.State.{taken}
-use Rattle.view_laws.specs.Views.{updated, updated_by, written_by, filled, filled_from, retired_key, retired_slot}
+use Rattle.model_laws.specs.Views.{updated, updated_by, written_by, filled, filled_from, retired_key, retired_slot}
 use Rattle.model_laws.proofs.Indices.{len-insert_new}
-use Rattle.view_laws.proofs.Lists.{remove-same, len-remove_found}
+use Rattle.model_laws.proofs.Lists.{remove-same, len-remove_found}
 use Rattle.map_kinds.specs.Parted.{PartsView, without_key}
 use Rattle.map_kinds.specs.Updated.{IsPut, replaced, with_taken}
 use Rattle.bpf_model.specs.View.{KeyMap}

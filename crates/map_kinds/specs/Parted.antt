@@ -2,7 +2,7 @@
 use Rattle.std.specs.Prelude.{◌≡◌, ℕ, ◌+◌, ◌<◌, ◌≤◌, List, Option, Some, None, length, refl}
 use Rattle.std.specs.Coded.{Coded, code_by, coded×}
 use Rattle.std.specs.FinMap.{remove}
-use Rattle.view_laws.specs.Codes.{key_map_code, queues_code}
+use Rattle.model_laws.specs.Codes.{key_map_code, queues_code}
 use Rattle.bpf_model.specs.Schedule.{Queues}
 use Rattle.bpf_model.specs.View.{KeyMap, SlotView}
 use Rattle.element_store.specs.Codes.{arena_code}

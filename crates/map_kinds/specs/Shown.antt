@@ -13,7 +13,7 @@ use Rattle.bpf_model.specs.View.{KeyMap, MapView}
 use Rattle.bpf_model.specs.Refines.{lists_of}
 use Rattle.element_store.specs.State.{ArenaState, key_at, value_at}
 use Rattle.hash_index.specs.Order.{IsAbove, NoneBetween}
-use Rattle.view_laws.specs.Views.{given_at, reaped_view}
+use Rattle.model_laws.specs.Views.{given_at, reaped_view}
 use Rattle.map_kinds.specs.Parted.{PartsView, IsInUse}
 
 abbrev pub map_view : MapShape → PartsView → MapView

@@ -22,7 +22,7 @@ pub struct ArrayMap {
 
 impl Model for ArrayMap {
     ghost use Rattle.bpf_model.specs.View.{MapView};
-    ghost use Rattle.view_laws.specs.Codes.{view_code};
+    ghost use Rattle.model_laws.specs.Codes.{view_code};
     ghost use Rattle.map_kinds.specs.Arrays.{array_view, IsArrayMap};
 
     ghost Value = { MapView };

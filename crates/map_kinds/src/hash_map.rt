@@ -24,7 +24,7 @@ pub struct HashMap<I: Index> {
 
 impl<I: Index> Model for HashMap<I> {
     ghost use Rattle.bpf_model.specs.View.{MapView};
-    ghost use Rattle.view_laws.specs.Codes.{view_code};
+    ghost use Rattle.model_laws.specs.Codes.{view_code};
     ghost use Rattle.map_kinds.specs.Counting.{IsCounted};
     ghost use Rattle.map_kinds.specs.Shown.{map_view};
 

@@ -8,7 +8,7 @@ ghost use Rattle.bpf_model.specs.Shapes.{IsShape};
 ghost use Rattle.bpf_model.specs.View.{new_map_view};
 ghost use Rattle.element_store.specs.State.{key_at, value_at};
 ghost use Rattle.hash_index.specs.Order.{AreInOrder, NoneAbove};
-ghost use Rattle.view_laws.specs.Views.{updated, deleted, written, turned_view, value_read};
+ghost use Rattle.model_laws.specs.Views.{updated, deleted, written, turned_view, value_read};
 ghost use Rattle.map_kinds.specs.Shown.{IsOccupied, IsReaped, IsNext};
 ghost use Rattle.map_kinds.specs.Counting.{counts_of};
 
@@ -37,7 +37,7 @@ pub struct Map {
 
 impl Model for Map {
     ghost use Rattle.bpf_model.specs.View.{MapView};
-    ghost use Rattle.view_laws.specs.Codes.{view_code};
+    ghost use Rattle.model_laws.specs.Codes.{view_code};
 
     ghost Value = { MapView };
 

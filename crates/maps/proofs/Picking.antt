@@ -6,7 +6,7 @@ use Rattle.arrayvec.specs.ArrayVec.{ArrayVec}
 use Rattle.bpf_model.specs.declared.event.Given.{Given}
 use Rattle.bpf_model.specs.declared.event.ReapedElement.{ReapedElement}
 use Rattle.bpf_model.specs.View.{MapView, key_in}
-use Rattle.view_laws.specs.Reactions.{Pick, or_pick, first_pick}
+use Rattle.model_laws.specs.Reactions.{Pick, or_pick, first_pick}
 use Rattle.maps.specs.Picking.{IsPicked}
 use Rattle.map_kinds.specs.Shown.{IsReaped}
 use Rattle.bpf_model.proofs.Lists.{drop-next}

@@ -2,8 +2,8 @@
 use Rattle.std.specs.Prelude.{◌≡◌, List, Some, slice_set}
 use Rattle.bpf_model.specs.declared.event.ReapedElement.{ReapedElement}
 use Rattle.bpf_model.specs.View.{MapView}
-use Rattle.view_laws.specs.Views.{reaped_view}
-use Rattle.view_laws.specs.Reactions.{Pick, first_pick, picked_element}
+use Rattle.model_laws.specs.Views.{reaped_view}
+use Rattle.model_laws.specs.Reactions.{Pick, first_pick, picked_element}
 
 pub record IsPicked (old new : List MapView) (element : ReapedElement) : Type 0 where
   pub pick : Pick

@@ -12,7 +12,7 @@ use Rattle.bpf_model.specs.declared.limits.TheConstants.{MAX_ENTRIES, MAX_SPARE,
 use Rattle.bpf_model.specs.declared.limits.TheConstants.{INDEX_BYTES}
 use Rattle.bpf_model.specs.View.{MapView}
 use Rattle.bpf_model.specs.Codes.{numbers_code}
-use Rattle.view_laws.specs.Codes.{view_code}
+use Rattle.model_laws.specs.Codes.{view_code}
 use Rattle.std.specs.Coded.{Coded, code_by, coded×, coded_list}
 use Rattle.maps.specs.declared.fault.MapFault.{MapFault}
 use Rattle.maps.specs.declared.fault.MapFault.TheVariants.{BadName, NameTaken, BadShape, TooMany}

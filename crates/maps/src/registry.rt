@@ -9,8 +9,8 @@ ghost use Rattle.maps.specs.Registry.{RegistryView, creation_fault, has_name};
 ghost use Rattle.maps.specs.Lending.{LendsMap};
 ghost use Rattle.maps.specs.Picking.{IsPicked};
 ghost use Rattle.map_kinds.specs.Counting.{counts_of_all};
-ghost use Rattle.view_laws.specs.Views.{turned_view};
-ghost use Rattle.view_laws.specs.Reactions.{first_pick};
+ghost use Rattle.model_laws.specs.Views.{turned_view};
+ghost use Rattle.model_laws.specs.Reactions.{first_pick};
 ghost use Rattle.maps.specs.declared.fault.MapFault.TheVariants.{Memory};
 
 use crate::copying::{copy_of_maps, copy_of_names};

@@ -39,3 +39,19 @@ pub mod Bounded
 mod NewElements
 mod ArraysStay
 pub mod Indices
+pub mod Lists
+pub mod ViewsChanging
+pub mod Mapping
+pub mod Wording
+pub mod Listing
+pub mod ViewedWorlds
+pub mod Deleting
+pub mod Updating
+pub mod ViewsAdvancing
+pub mod Reaping
+pub mod Reading
+pub mod Running
+pub mod ViewsStarting
+pub mod Tracking
+pub mod Reacting
+pub mod Storing

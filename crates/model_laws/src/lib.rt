@@ -1,7 +1,10 @@
-//! Laws of the abstract machine: what its definitions say of every state, every run and every history.
+//! Laws of the abstract machine: what its definitions say of every state, every run and every history. Those of what a
+//! world keeps stand in `views`.
 //!
 //! Each is a function with an empty body, whose contract is the law.
 #![tactic(auto)]
+
+mod views;
 
 ghost use Rattle.std.specs.Prelude.{◌≡◌, ℕ, ◌+◌, ◌<◌, ◌≤◌, ◌^◌, pos, false, List, [], ◌++◌, ◌∷◌, length, slice_get, Option, Some, None, ◌↔◌, ◌⊎◌, ◌≢◌, Result, Ok, Err};
 ghost use Rattle.std.specs.List.{sum_by};
@@ -50,6 +53,13 @@ ghost use Rattle.model_laws.specs.Steps.{AreSteps};
 ghost use Rattle.model_laws.specs.Accounted.{kept_count, born_count, IsFull};
 ghost use Rattle.model_laws.specs.Example.{lookup_and_load, example_shape};
 ghost use Rattle.model_laws.specs.Locations.{Location, IsNearLocation, named_location, location_word};
+
+pub use views::{
+    advance_simulates, delete_half, delete_simulates, drop_simulates, halves_simulate,
+    lock_simulates, move_simulates, reaction_keeps, reaction_simulates, reaction_tracks,
+    read_simulates, reap_simulates, simulates_tracks, start_simulates, store_half, tracked_matches,
+    unlock_simulates, update_half, update_simulates,
+};
 
 /// An event is refused exactly when a test fails, by the first that does, and then nothing changes.
 pub fn refused_exactly()

@@ -8,7 +8,7 @@ use Rattle.bpf_model.specs.View.{shapes_of_maps}
 use Rattle.disasm.specs.Text.{program_text}
 use Rattle.insn_codec.specs.declared.fault.DecodeFault.{DecodeFault}
 use Rattle.insn_codec.specs.Faults.{IsDecodeFault}
-use Rattle.program_graph.specs.GraphFlaws.{HasGoodGraph}
+use Rattle.verifier.specs.GraphFlaws.{HasGoodGraph}
 use Rattle.program_files.specs.ProgramFile.{FileContent, FileSays, IsLoadFault}
 use Rattle.plan_laws.specs.Verified.{IsVerified}
 use Rattle.verifier.specs.declared.refusal.ProgramRefusal.{ProgramRefusal}

@@ -3,7 +3,7 @@ ghost use Rattle.std.specs.Prelude.{◌≡◌, ◌≤◌, length, IfOk, IfErr};
 ghost use Rattle.model_laws.specs.PlainMaps.{IsPlainWithMaps};
 ghost use Rattle.bpf_model.specs.declared.limits.TheConstants.{CTX_BYTES, MAX_MAPS};
 ghost use Rattle.bpf_model.specs.View.{shapes_of_maps};
-ghost use Rattle.program_graph.specs.GraphFlaws.{HasGoodGraph};
+ghost use Rattle.verifier.specs.GraphFlaws.{HasGoodGraph};
 ghost use Rattle.plan_laws.specs.Verified.{IsVerified};
 ghost use Rattle.verifier.specs.Verdict.{IsToldOf, IsAccepted as IsTaken};
 

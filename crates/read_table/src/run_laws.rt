@@ -8,7 +8,7 @@ ghost use Rattle.bpf_model.specs.declared.value.Value.TheVariants.{Number};
 ghost use Rattle.bpf_model.specs.Real.{AreBytes};
 ghost use Rattle.bpf_model.specs.Step.{insn_at};
 ghost use Rattle.bpf_model.specs.View.{RunView};
-ghost use Rattle.view_laws.specs.Reactions.{fresh_view};
+ghost use Rattle.model_laws.specs.Reactions.{fresh_view};
 ghost use Rattle.verifier.specs.Checked.{Checked};
 ghost use Rattle.verifier.specs.Verdict.{IsJustified};
 ghost use Rattle.machine.specs.declared.request.Request.{Request};

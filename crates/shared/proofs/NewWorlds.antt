@@ -7,7 +7,7 @@ use Rattle.bpf_model.specs.declared.limits.MapShape.{MapShape}
 use Rattle.bpf_model.specs.declared.limits.TheConstants.{MAX_RUNS}
 use Rattle.bpf_model.specs.Machine.{Loaded}
 use Rattle.bpf_model.specs.View.{WorldView, RunView, start_view}
-use Rattle.journal_laws.specs.Replay.{HasNoRuns}
+use Rattle.shared_books.specs.Replay.{HasNoRuns}
 use Rattle.std.specs.Option.{option_flatten}
 
 no_run_at : (r : ℕ) → (slots : List (Option RunView)) → slots ≡ replicate MAX_RUNS None →

@@ -1,7 +1,7 @@
 //! A shared world of one program, which is bound to all maps.
 ghost use Rattle.std.specs.Prelude.{◌≡◌, ◌<◌, ◌≤◌, ◌∷◌, [], length, map, slice_get, IfOk, Some};
 ghost use Rattle.bpf_model.specs.View.{AreNewMaps, shapes_of, shapes_of_maps};
-ghost use Rattle.journal_laws.specs.Replay.{HasNoRuns};
+ghost use Rattle.shared_books.specs.Replay.{HasNoRuns};
 ghost use Rattle.shared_books.specs.Books.{AreNumbered, most_workers};
 
 use crate::lock::Shared;

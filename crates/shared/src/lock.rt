@@ -9,7 +9,7 @@ ghost use Rattle.shared_books.specs.declared.steps.StepsEnd.{StepsEnd};
 ghost use Rattle.bpf_model.specs.declared.event.Event.{Event};
 ghost use Rattle.bpf_model.specs.declared.event.Answer.{Answer};
 ghost use Rattle.shared_books.specs.Tally.{origin_of, shown_totals};
-ghost use Rattle.journal_laws.specs.Replay.{Replays, HasNoRuns};
+ghost use Rattle.shared_books.specs.Replay.{Replays, HasNoRuns};
 
 use crate::held::Held;
 use crate::state::{Counters, ExitNote, Receipt, State};

@@ -18,8 +18,8 @@ ghost use Rattle.world.specs.Stretches.{WouldBeRefused, WouldExit};
 ghost use Rattle.shared.specs.Meter.{MayWrite, writer_at};
 ghost use Rattle.shared_books.specs.Tally.{IsTallyOf, shown_totals};
 ghost use Rattle.bpf_model.specs.declared.limits.TheConstants.{MAX_JOURNAL, MAX_PROGRAMS};
-ghost use Rattle.journal_laws.specs.Replay.{Replays, HasNoRuns};
-ghost use Rattle.journal_laws.specs.Totals.{steps_of};
+ghost use Rattle.shared_books.specs.Replay.{Replays, HasNoRuns};
+ghost use Rattle.shared_books.specs.Totals.{steps_of};
 ghost use Rattle.shared_books.specs.declared.fault.CutFault.TheVariants as cut_fault;
 
 mod counters;

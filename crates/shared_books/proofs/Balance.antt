@@ -8,12 +8,12 @@ use Rattle.bpf_model.specs.Machine.{Loaded}
 use Rattle.bpf_model.specs.View.{WorldView}
 use Rattle.bpf_model.specs.declared.entry.Entry.{Entry}
 use Rattle.journal.specs.Entries.{JournalView}
-use Rattle.journal_laws.specs.Replay.{HasNoRuns, Replays}
-use Rattle.journal_laws.specs.Totals.{is_step, steps_of, unreclaimed_in}
-use Rattle.journal_laws.proofs.Replaying.{replays_push}
-use Rattle.journal_laws.proofs.Sharing.{steps_push}
+use Rattle.shared_books.specs.Replay.{HasNoRuns, Replays}
+use Rattle.shared_books.specs.Totals.{is_step, steps_of, unreclaimed_in}
+use Rattle.shared_books.proofs.Replaying.{replays_push}
+use Rattle.shared_books.proofs.Sharing.{steps_push}
 use Rattle.model_laws.proofs.Tallies.{one-most}
-use Rattle.load_laws.specs.Loads.{with_program}
+use Rattle.world_laws.specs.Loads.{with_program}
 use Rattle.world_laws.specs.Invariant.{IsWorld}
 use Rattle.world_laws.specs.Reacting.{full_reaction}
 use Rattle.shared_books.specs.declared.tally.Origin.{Origin}

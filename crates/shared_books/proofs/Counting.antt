@@ -6,7 +6,7 @@ use Rattle.std.specs.List.{sum_by}
 use Rattle.std.specs.FinMap.{get}
 use Rattle.std.proofs.lemmas.List.Sums.{sum_by-cons}
 use Rattle.std.proofs.lemmas.Option.{none-some, same_Some}
-use Rattle.view_laws.proofs.Reacting.{picked-at}
+use Rattle.model_laws.proofs.Reacting.{picked-at}
 use Rattle.model_laws.proofs.Tallies.{sum-set}
 use Rattle.bpf_model.specs.declared.call.Errno.{Errno}
 use Rattle.bpf_model.specs.declared.call.Helper.{Helper}
@@ -34,18 +34,18 @@ use Rattle.bpf_model.specs.Step.{insn_at}
 use Rattle.bpf_model.specs.View.{MapView, RunView, WorldView}
 use Rattle.model_laws.specs.Locations.{Location, InContext, InFrame, AtMap, InSlot}
 use Rattle.map_kinds.specs.Counting.{unlinked_in}
-use Rattle.view_laws.specs.Views.{retired_slot, retired_key, deleted, deleted_from, filled_from, overwritten_slot}
-use Rattle.view_laws.specs.Views.{written_by, updated_by, shown_error, turned_view, slot_given_back, given_at}
-use Rattle.view_laws.specs.Views.{reaped_view}
-use Rattle.view_laws.specs.Reactions.{with_map, shape_shown, refused_as, delete_at, delete_reaction, update_at}
-use Rattle.view_laws.specs.Reactions.{update_reaction, read_at, read_reaction, advanced_by, advance_reaction, Pick}
-use Rattle.view_laws.specs.Reactions.{first_pick, reap_by, reap_reaction, start_by, start_reaction, step_refused}
-use Rattle.view_laws.specs.Reactions.{drop_refused, drop_by, drop_reaction, step_by, reaction}
+use Rattle.model_laws.specs.Views.{retired_slot, retired_key, deleted, deleted_from, filled_from, overwritten_slot}
+use Rattle.model_laws.specs.Views.{written_by, updated_by, shown_error, turned_view, slot_given_back, given_at}
+use Rattle.model_laws.specs.Views.{reaped_view}
+use Rattle.model_laws.specs.Reactions.{with_map, shape_shown, refused_as, delete_at, delete_reaction, update_at}
+use Rattle.model_laws.specs.Reactions.{update_reaction, read_at, read_reaction, advanced_by, advance_reaction, Pick}
+use Rattle.model_laws.specs.Reactions.{first_pick, reap_by, reap_reaction, start_by, start_reaction, step_refused}
+use Rattle.model_laws.specs.Reactions.{drop_refused, drop_by, drop_reaction, step_by, reaction}
 use Rattle.world_laws.specs.Locating.{location_of}
 use Rattle.world_laws.specs.Moving.{word_in, operand_word, stored_slot, stored_at}
 use Rattle.world_laws.specs.Calling.{bytes_in, bound_number, serves, helper_called_on, helper_called, kernel_called}
 use Rattle.world_laws.specs.Reacting.{insn_step, step_at, step_in, run_step_of, or_step, full_reaction}
-use Rattle.journal_laws.specs.Totals.{unreclaimed_in}
+use Rattle.shared_books.specs.Totals.{unreclaimed_in}
 use Rattle.shared_books.specs.Tally.{CountsOn, reclaimed_by}
 
 -- How many more elements are unlinked in one view of a map than in another: at most one.

@@ -3,3 +3,9 @@ pub mod Balance
 pub mod Quiet
 pub mod Answered
 pub mod ManyMoves
+pub mod Fitting
+pub mod Replaying
+pub mod CountingUnlinked
+pub mod Stats
+pub mod Growing
+pub mod Sharing

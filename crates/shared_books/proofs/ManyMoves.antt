@@ -7,8 +7,8 @@ use Rattle.bpf_model.specs.declared.event.Event.TheVariants as events
 use Rattle.bpf_model.specs.declared.event.Answer.TheVariants as answers
 use Rattle.bpf_model.specs.declared.entry.Entry.{Entry}
 use Rattle.bpf_model.specs.View.{WorldView}
-use Rattle.journal_laws.specs.Totals.{unreclaimed_in}
-use Rattle.journal_laws.proofs.Replaying.{replays_to_world}
+use Rattle.shared_books.specs.Totals.{unreclaimed_in}
+use Rattle.shared_books.proofs.Replaying.{replays_to_world}
 use Rattle.world_laws.specs.Reacting.{full_reaction}
 use Rattle.world.specs.Stretches.{MakesMoves, WouldMove, not_yet, once_more}
 use Rattle.shared_books.specs.declared.tally.Tally.{Tally}

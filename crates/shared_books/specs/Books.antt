@@ -6,11 +6,11 @@ use Rattle.bpf_model.specs.declared.event.Answer.{Answer}
 use Rattle.bpf_model.specs.declared.limits.TheConstants.{MAX_JOURNAL}
 use Rattle.bpf_model.specs.Machine.{Loaded}
 use Rattle.bpf_model.specs.View.{WorldView}
-use Rattle.load_laws.specs.Loads.{with_program}
+use Rattle.world_laws.specs.Loads.{with_program}
 use Rattle.bpf_model.specs.declared.entry.Entry.{Entry}
 use Rattle.journal.specs.Entries.{JournalView}
-use Rattle.journal_laws.specs.Replay.{Replays}
-use Rattle.journal_laws.specs.Totals.{steps_of}
+use Rattle.shared_books.specs.Replay.{Replays}
+use Rattle.shared_books.specs.Totals.{steps_of}
 use Rattle.world_laws.specs.Reacting.{full_reaction}
 use Rattle.shared_books.specs.declared.tally.Tally.{Tally}
 use Rattle.shared_books.specs.declared.tally.Totals.{Totals}

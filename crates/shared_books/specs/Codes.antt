@@ -4,7 +4,7 @@ use Rattle.std.specs.Coded.{Coded, code_by, coded×, coded_ℕ, coded_list}
 use Rattle.bpf_model.specs.View.{WorldView}
 use Rattle.bpf_model.specs.declared.entry.Entry.{Entry}
 use Rattle.bpf_model.specs.contracts.entry.Entry as entry
-use Rattle.view_laws.specs.Codes.{world_code}
+use Rattle.model_laws.specs.Codes.{world_code}
 use Rattle.shared_books.specs.declared.tally.Tally.{Tally}
 use Rattle.shared_books.specs.contracts.tally.Tally as tally
 use Rattle.shared_books.specs.Books.{BooksView}

@@ -5,3 +5,5 @@ pub mod Receipts
 pub mod Noted
 pub mod Numbers
 pub mod Stretches
+pub mod Replay
+pub mod Totals

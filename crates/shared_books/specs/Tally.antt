@@ -3,7 +3,7 @@ use Rattle.std.specs.Prelude.{◌≡◌, ℕ, ◌+◌, ◌^◌, ◌-◌, ◌≤�
 use Rattle.bpf_model.specs.declared.event.Answer.{Answer}
 use Rattle.bpf_model.specs.declared.event.Answer.TheVariants.{Reaped}
 use Rattle.bpf_model.specs.View.{WorldView}
-use Rattle.journal_laws.specs.Totals.{is_step, unlinked_total, unreclaimed_in}
+use Rattle.shared_books.specs.Totals.{is_step, unlinked_total, unreclaimed_in}
 use Rattle.shared_books.specs.declared.tally.Totals.{Totals}
 use Rattle.shared_books.specs.declared.tally.Origin.{Origin}
 use Rattle.shared_books.specs.declared.tally.Tally.{Tally}

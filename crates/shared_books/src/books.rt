@@ -2,8 +2,8 @@
 ghost use Rattle.std.specs.Prelude.{◌≡◌, ℕ, ◌+◌, ◌-◌, ◌^◌, ◌<◌, ◌≤◌, ◌↔◌, [], length, ◌⊎◌, IsTrue, true, IfNone, IfOk, IfSome, IsOk, OnErr, OnOk, Err, Ok, option_copied};
 ghost use Rattle.bpf_model.specs.declared.limits.TheConstants.{MAX_JOURNAL, MAX_PROGRAMS};
 ghost use Rattle.bpf_model.specs.View.{shapes_of};
-ghost use Rattle.journal_laws.specs.Replay.{Replays, HasNoRuns};
-ghost use Rattle.journal_laws.specs.Totals.{steps_of};
+ghost use Rattle.shared_books.specs.Replay.{Replays, HasNoRuns};
+ghost use Rattle.shared_books.specs.Totals.{steps_of};
 ghost use Rattle.shared_books.specs.Noted.{IsEntered, receipt_of};
 ghost use Rattle.shared_books.specs.Receipts.{IsExitOf};
 ghost use Rattle.world_laws.specs.Invariant.{IsWorld};

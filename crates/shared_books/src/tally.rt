@@ -1,6 +1,6 @@
 //! What is counted of a shared world.
 ghost use Rattle.std.specs.Prelude.{◌≡◌, ◌+◌, ◌-◌, ◌<◌, ◌≤◌, ◌^◌};
-ghost use Rattle.journal_laws.specs.Totals.{unreclaimed_in};
+ghost use Rattle.shared_books.specs.Totals.{unreclaimed_in};
 ghost use Rattle.shared_books.specs.Tally.{CountsOn, steps_by, reclaimed_by, origin_of, shown_totals, IsTallyOf};
 
 use bpf_model::Answer;

@@ -3,8 +3,13 @@ pub mod Bytes
 pub mod Coming
 pub mod Learning
 pub mod Seated
+pub mod SectionCalls
 pub mod Looping
 pub mod Serving
 pub mod Starting
 pub mod Steps
 pub mod Stores
+pub mod Ending
+pub mod Going
+pub mod LoopingAlone
+pub mod StartingAlone

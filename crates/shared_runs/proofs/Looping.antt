@@ -5,7 +5,7 @@ use Rattle.bpf_model.specs.declared.limits.TheConstants.{FRAME_BYTES}
 use Rattle.bpf_model.specs.Real.{AreBytes}
 use Rattle.bpf_model.specs.Step.{insn_at}
 use Rattle.bpf_model.specs.View.{RunView}
-use Rattle.view_laws.specs.Reactions.{fresh_view}
+use Rattle.model_laws.specs.Reactions.{fresh_view}
 use Rattle.verifier.specs.Checked.{Checked}
 use Rattle.verifier.specs.Verdict.{IsJustified}
 use Rattle.machine.specs.declared.course.Course.{Course}

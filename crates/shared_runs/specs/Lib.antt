@@ -1,4 +1,5 @@
 pub mod Learnt
+pub mod Lone
 pub mod Running
 pub mod Serving
 pub mod SharedRuns

@@ -3,3 +3,4 @@ pub mod Lookups
 pub mod Steps
 pub mod Stepped
 pub mod Floor
+pub mod Resolved

@@ -1,7 +1,7 @@
 //! Runs of programs by themselves, also of such as were verified for maps.
 use crate::programs::{MAPS, longest, verified};
 use bpf_model::{CtxBytes, MapShape};
-use map_free_runs::{has_no_maps, run_to_exit};
+use shared_runs::alone::{has_no_maps, run_to_exit};
 use std::alloc::Global;
 use std::test::Fail;
 

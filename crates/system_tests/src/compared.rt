@@ -6,8 +6,8 @@ ghost use Rattle.bpf_model.specs.Exit.{HasNoMaps};
 use crate::programs::verified;
 use bpf_model::{Cell, CtxBytes, FRAME_BYTES, REGISTERS, Reg, Value, array_of};
 use machine::Run;
-use map_free_runs::{Step, has_no_maps, start_alone, step_alone};
 use reference_interpreter::{PlainRun, Progress};
+use shared_runs::alone::{Step, has_no_maps, start_alone, step_alone};
 use std::test::Fail;
 use verifier::Verified;
 

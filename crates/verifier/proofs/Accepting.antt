@@ -22,9 +22,9 @@ use Rattle.bpf_model.proofs.Places.{start_of-insn, starts_increase, start-insn}
 use Rattle.bpf_model.specs.Graph.{LeadsTo}
 use Rattle.bpf_model.specs.Places.{StartsAt}
 use Rattle.bpf_model.proofs.Lists.{get-below}
-use Rattle.program_graph.specs.FirstPass.{Follows}
-use Rattle.program_graph.specs.Indexes.{HasTargets, IsTarget}
-use Rattle.program_graph.proofs.Marking.{edge_from, first_start, target_within}
+use Rattle.verifier.specs.FirstPass.{Follows}
+use Rattle.verifier.specs.Indexes.{HasTargets, IsTarget}
+use Rattle.verifier.proofs.Marking.{edge_from, first_start, target_within}
 use Rattle.plan_laws.specs.Kinds as model
 use Rattle.register_kinds.specs.declared.state.AbsState.{AbsState}
 use Rattle.register_kinds.specs.States.{state_of}

@@ -8,3 +8,7 @@ pub mod Holding
 pub mod Peaks
 pub mod Plans
 pub mod Telling
+pub mod Edges
+pub mod Flaws
+pub mod Marking
+pub mod Verdicts

@@ -18,7 +18,7 @@ use Rattle.bpf_model.specs.Places.{starts_from}
 use Rattle.bpf_model.specs.Step.{insn_at}
 use Rattle.bpf_model.specs.Places.{StartsAt}
 use Rattle.bpf_model.proofs.Places.{starts-next, starts_increase, starts_ordered, start-inside}
-use Rattle.program_graph.proofs.Edges.{index_here}
+use Rattle.verifier.proofs.Edges.{index_here}
 use Rattle.plan_laws.specs.Kinds.{AbsState}
 use Rattle.state_steps.specs.Lookups.{Expects, Prepares}
 use Rattle.verifier.specs.FactsKnown.{IsInner}

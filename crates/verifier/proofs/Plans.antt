@@ -11,10 +11,10 @@ use Rattle.bpf_model.specs.Graph.{falls, distance, EndsWithExit}
 use Rattle.bpf_model.proofs.Places.{starts_apart, start_of-insn, start-insn, start-entry}
 use Rattle.bpf_model.specs.Graph.{LeadsTo}
 use Rattle.bpf_model.specs.Places.{StartsAt}
-use Rattle.program_graph.specs.GraphFlaws.{HasGoodGraph}
-use Rattle.program_graph.specs.FirstPass.{Follows}
-use Rattle.program_graph.specs.Indexes.{HasTargets, IsTarget}
-use Rattle.program_graph.proofs.Marking.{edge_into, reached_by, target_within}
+use Rattle.verifier.specs.GraphFlaws.{HasGoodGraph}
+use Rattle.verifier.specs.FirstPass.{Follows}
+use Rattle.verifier.specs.Indexes.{HasTargets, IsTarget}
+use Rattle.verifier.proofs.Marking.{edge_into, reached_by, target_within}
 use Rattle.plan_laws.specs.Kinds as model
 use Rattle.plan_laws.specs.Describes.{Describes}
 use Rattle.plan_laws.specs.Verified.{Plan}

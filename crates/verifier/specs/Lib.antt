@@ -5,3 +5,8 @@ pub mod Peak
 pub mod Waiting
 pub mod SecondPass
 pub mod Verdict
+pub mod FirstPass
+pub mod GraphFlaws
+pub mod Indexes
+pub mod FlawNumbers
+pub mod Told

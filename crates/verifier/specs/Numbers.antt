@@ -1,6 +1,6 @@
 -- The numbers by which refusals are known, and their slots.
 use Rattle.std.specs.Prelude.{ℕ, Option, Some, None}
-use Rattle.program_graph.specs.FlawNumbers.{graph_flaw_number}
+use Rattle.verifier.specs.FlawNumbers.{graph_flaw_number}
 use Rattle.register_kinds.specs.FaultNumbers.{insn_fault_number}
 use Rattle.verifier.specs.declared.refusal.ProgramRefusal.{ProgramRefusal}
 use Rattle.verifier.specs.declared.refusal.ProgramRefusal.TheVariants.{Graph, Instruction, Memory}

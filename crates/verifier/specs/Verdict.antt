@@ -9,8 +9,8 @@ use Rattle.bpf_model.specs.declared.value.Reference.TheVariants.{MapRef}
 use Rattle.bpf_model.specs.Places.{StartsAt}
 use Rattle.bpf_model.specs.Spelling.{IsProgram}
 use Rattle.bpf_model.specs.Step.{State}
-use Rattle.program_graph.specs.GraphFlaws.{HasGraphFlaw, HasGoodGraph}
-use Rattle.program_graph.specs.Indexes.{HasTargets}
+use Rattle.verifier.specs.GraphFlaws.{HasGraphFlaw, HasGoodGraph}
+use Rattle.verifier.specs.Indexes.{HasTargets}
 use Rattle.plan_laws.specs.Kinds as model
 use Rattle.plan_laws.specs.Describes.{Scene}
 use Rattle.plan_laws.specs.Effects.{is_array_in}
@@ -18,8 +18,8 @@ use Rattle.plan_laws.specs.Verified.{Plan, IsPlanned, IsClosed, IsVerified}
 use Rattle.register_kinds.specs.declared.fault.InsnFault.{InsnFault}
 use Rattle.register_kinds.specs.FaultNumbers.{insn_fault_number}
 use Rattle.effects.specs.declared.region.Region.{Region}
-use Rattle.resolved_insns.specs.declared.record.ResolvedInsn.{ResolvedInsn}
-use Rattle.resolved_insns.specs.Resolved.{AreResolved}
+use Rattle.state_steps.specs.declared.record.ResolvedInsn.{ResolvedInsn}
+use Rattle.state_steps.specs.Resolved.{AreResolved}
 use Rattle.state_steps.specs.Steps.{base_of, IsInRegion, Compares, IsComparable, LooksUp}
 use Rattle.verifier.specs.declared.refusal.ProgramRefusal.{ProgramRefusal}
 use Rattle.verifier.specs.declared.refusal.ProgramRefusal.TheVariants.{Graph, Instruction, Memory}

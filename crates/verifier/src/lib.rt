@@ -1,9 +1,12 @@
 //! The verifier: it accepts a program only when no run of it can ever be stuck.
 //!
-//! The first pass judges the jump graph; the second goes through the instructions in order with an abstract
-//! state for each, joined over all edges that lead to it.
+//! The first pass judges the jump graph: where jumps lead, whether the last instruction is EXIT, and whether each
+//! instruction is reached. The second goes through the instructions in order with an abstract state for each, joined
+//! over all edges that lead to it.
 #![tactic(auto)]
 
+mod graph;
+mod graph_flaw;
 mod known;
 mod pass;
 mod pending;
@@ -11,8 +14,9 @@ mod refusal;
 mod verified;
 mod waiting;
 
+pub use graph::{falls, judge};
+pub use graph_flaw::{GraphFlaw, GraphRefusal};
 pub use known::known_where_refused;
-pub use program_graph::GraphFlaw;
 pub use refusal::ProgramRefusal;
 pub use register_kinds::{AbsState, InsnFault};
 pub use state_steps::Region;

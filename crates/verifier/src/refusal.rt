@@ -1,7 +1,7 @@
 //! Why a program is refused.
 ghost use Rattle.std.specs.Prelude.{◌≡◌};
 
-use program_graph::GraphFlaw;
+use crate::graph_flaw::GraphFlaw;
 use register_kinds::InsnFault;
 use std::alloc::AllocError;
 use thiserror::Error;

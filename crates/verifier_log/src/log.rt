@@ -7,12 +7,12 @@ use crate::numbered::next_of;
 use crate::states::{States, Waiting};
 use disasm::line_of;
 use program_files::{FileBytes, Source, shapes_of};
-use program_graph::{GraphRefusal, judge};
 use register_kinds::{AbsState, FrameCells, RegKind};
 use state_steps::EnvironmentShape;
 use std::alloc::{AllocError, Global};
 use std::io;
 use std::io::Write;
+use verifier::{GraphRefusal, judge};
 
 /// Writes each of r0 to r9 that is written on every path.
 fn write_registers<W: Write>(out: &mut W, source: &Source, state: &AbsState) -> io::Result<()> {

@@ -2,10 +2,10 @@
 
 use crate::numbered::{Next, Numbered, joined};
 use bpf_model::Insn;
-use program_graph::falls;
 use register_kinds::{Boxes, Identities};
 use std::alloc::{AllocError, Global};
 use std::mem;
+use verifier::falls;
 
 /// What waits for an instruction.
 #[derive(Drop)]

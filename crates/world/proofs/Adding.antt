@@ -7,8 +7,8 @@ use Rattle.bpf_model.specs.Schedule.{Schedule}
 use Rattle.bpf_model.specs.View.{MapView, WorldView, shapes_of, shapes_of_maps}
 use Rattle.bpf_model.proofs.Lists.{get-append, get-append_cases}
 use Rattle.element_store.specs.Sections.{GraceState}
-use Rattle.load_laws.specs.Loads.{loads, schedule_loads, with_program}
-use Rattle.load_laws.proofs.Loading.{tracked_with_one_more, machine_with_one_more, loaded_is_world}
+use Rattle.world_laws.specs.Loads.{loads, schedule_loads, with_program}
+use Rattle.world_laws.proofs.OneMore.{tracked_with_one_more, machine_with_one_more, loaded_is_world}
 use Rattle.machine.specs.RunWords.{RunWords}
 use Rattle.plan_laws.specs.Verified.{IsVerified}
 use Rattle.world_laws.specs.Invariant.{IsWorld}

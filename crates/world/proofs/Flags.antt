@@ -3,7 +3,7 @@ use Rattle.std.proofs.Common.{◌≡◌, ℕ, List, length, Bool, true, false, S
 use Rattle.std.specs.Prelude.{slice_get, slice_set}
 use Rattle.bpf_model.specs.Schedule.{still_open}
 use Rattle.world.proofs.ServedFlags.{closed_awaits}
-use Rattle.view_laws.proofs.Listing.{still-same}
+use Rattle.model_laws.proofs.Listing.{still-same}
 
 -- what is awaited is open
 abbrev pub AwaitsOpen : List Bool → List Bool → Type 0

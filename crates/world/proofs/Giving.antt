@@ -46,8 +46,8 @@ use Rattle.plan_laws.proofs.Elements.{number_read, offset_some}
 use Rattle.plan_laws.proofs.Reaching.{keeps_well, well_never_stuck}
 use Rattle.world_laws.specs.Standing.{IsSlotWord, MapsAnswer}
 use Rattle.verifier.specs.Checked.{Checked}
-use Rattle.view_laws.specs.Matching.{Matches, Simulates}
-use Rattle.view_laws.proofs.Worlds.{here}
+use Rattle.model_laws.specs.Matching.{Matches, Simulates}
+use Rattle.model_laws.proofs.ViewedWorlds.{here}
 use Rattle.world_laws.specs.Calling.{bytes_in, found_word, returned_view}
 use Rattle.world_laws.specs.Local.{Asks, AsksNothing, local_of}
 use Rattle.world_laws.specs.Locating.{bytes_of, loaded_word, location_of, number_from, offset_at}

@@ -31,7 +31,7 @@ use Rattle.world_laws.specs.Reacting.{full_reaction, insn_step}
 use Rattle.world_laws.proofs.Worlds.{simulates}
 use Rattle.world_laws.proofs.KeepingWorlds.{world_is_matched}
 use Rattle.world_laws.specs.Reacting.{or_step}
-use Rattle.view_laws.specs.Reactions.{step_by, step_refused}
+use Rattle.model_laws.specs.Reactions.{step_by, step_refused}
 use Rattle.bpf_model.specs.declared.event.EventRefusal.TheVariants.{Ended, NoRun}
 use Rattle.bpf_model.specs.Event.{if_ended}
 use Rattle.bpf_model.specs.Machine.{run_at}

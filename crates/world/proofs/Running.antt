@@ -15,7 +15,7 @@ use Rattle.bpf_model.specs.Schedule.{Schedule}
 use Rattle.bpf_model.specs.Step.{insn_at}
 use Rattle.bpf_model.specs.View.{RunView, WorldView}
 use Rattle.model_laws.specs.Locations.{Location, InContext, InFrame, AtMap, InSlot}
-use Rattle.view_laws.specs.Matching.{Matches}
+use Rattle.model_laws.specs.Matching.{Matches}
 use Rattle.world_laws.proofs.Flags.{flag, awaited_open}
 use Rattle.world_laws.specs.Local.{Goes, Asks, local_of, local_load, local_store}
 use Rattle.world_laws.specs.Locating.{location_of}

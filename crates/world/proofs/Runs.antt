@@ -11,8 +11,8 @@ use Rattle.bpf_model.specs.Machine as machine
 use Rattle.bpf_model.specs.View.{MapView, RunView, WorldView}
 use Rattle.element_store.proofs.Views.{map-set_same}
 use Rattle.element_store.specs.Sections.{GraceState, IsGrace, is_open_depth, opened_in}
-use Rattle.view_laws.specs.Reactions.{with_run, fresh_view, start_by, start_reaction}
-use Rattle.view_laws.proofs.Listing.{still-same}
+use Rattle.model_laws.specs.Reactions.{with_run, fresh_view, start_by, start_reaction}
+use Rattle.model_laws.proofs.Listing.{still-same}
 use Rattle.machine.specs.RunWords.{RunWords, IsAt}
 use Rattle.world.specs.declared.kept.loaded.Loaded.{Loaded}
 use Rattle.world.specs.Programs.{program_of}

@@ -20,7 +20,7 @@ use Rattle.bpf_model.specs.Schedule.{still_open}
 use Rattle.bpf_model.specs.View.{MapView, RunView, WorldView}
 use Rattle.element_store.specs.Sections.{GraceState, depth_at, is_open_depth, opened_in}
 use Rattle.model_laws.specs.Locations.{Location, InContext, InFrame, AtMap, InSlot}
-use Rattle.view_laws.specs.Reactions.{with_run, locked_view, unlocked_view}
+use Rattle.model_laws.specs.Reactions.{with_run, locked_view, unlocked_view}
 use Rattle.world_laws.specs.Calling.{serves, helper_called, helper_called_on, returned_view}
 use Rattle.world_laws.specs.Calling as calling
 use Rattle.world_laws.specs.Locating.{location_of, loaded_word, number_from, bytes_of, offset_at}

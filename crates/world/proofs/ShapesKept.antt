@@ -5,9 +5,9 @@ use Rattle.bpf_model.specs.declared.event.ReapedElement.{ReapedElement}
 use Rattle.bpf_model.specs.declared.event.Event.TheVariants as events
 use Rattle.bpf_model.specs.View.{MapView, WorldView, shapes_of_maps}
 use Rattle.maps.specs.Picking.{IsPicked}
-use Rattle.view_laws.specs.Reactions.{Pick, reap_by}
-use Rattle.view_laws.specs.Views.{turned_view}
-use Rattle.view_laws.proofs.Reacting.{set-shapes}
+use Rattle.model_laws.specs.Reactions.{Pick, reap_by}
+use Rattle.model_laws.specs.Views.{turned_view}
+use Rattle.model_laws.proofs.Reacting.{set-shapes}
 use Rattle.world_laws.proofs.Keeping.{full_keeps}
 use Rattle.world.specs.declared.kept.loaded.Loaded.{Loaded}
 use Rattle.world.specs.BoundTo.{AreProgramsBound}

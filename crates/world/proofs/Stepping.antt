@@ -12,8 +12,8 @@ use Rattle.bpf_model.specs.Step.{insn_at}
 use Rattle.bpf_model.specs.View.{MapView, RunView, WorldView, shapes_of, shapes_of_maps}
 use Rattle.element_store.specs.Sections.{GraceState, is_open_depth, opened_in}
 use Rattle.verifier.specs.Verdict.{IsJustified}
-use Rattle.view_laws.specs.Matching.{Matches}
-use Rattle.view_laws.specs.Reactions.{step_refused}
+use Rattle.model_laws.specs.Matching.{Matches}
+use Rattle.model_laws.specs.Reactions.{step_refused}
 use Rattle.world_laws.specs.Local.{local_of}
 use Rattle.world_laws.specs.Reacting.{step_at, step_in, run_step_of, word_step}
 use Rattle.world_laws.specs.Typed.{IsSound}

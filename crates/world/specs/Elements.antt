@@ -3,7 +3,7 @@ use Rattle.std.specs.Prelude.{ℕ, List, Option, Some, slice_get, slice_set, ℤ
 use Rattle.bpf_model.specs.Access.{with_bytes}
 use Rattle.bpf_model.specs.View.{MapView, value_in}
 use Rattle.model_laws.specs.Locations.{Location, InSlot}
-use Rattle.view_laws.specs.Views.{written}
+use Rattle.model_laws.specs.Views.{written}
 use Rattle.world_laws.specs.Locating.{number_from, value_of}
 use Rattle.world_laws.specs.Reaching.{IsElementReached}
 

@@ -5,7 +5,7 @@ ghost use Rattle.bpf_model.specs.Machine.{Machine};
 ghost use Rattle.bpf_model.specs.Refines.{TracksSchedule, Tracks};
 ghost use Rattle.bpf_model.specs.Schedule.{Schedule};
 ghost use Rattle.bpf_model.specs.View.{shapes_of};
-ghost use Rattle.load_laws.specs.Loads.{loads, schedule_loads, with_program};
+ghost use Rattle.world_laws.specs.Loads.{loads, schedule_loads, with_program};
 ghost use Rattle.world.specs.BoundTo.{IsBound};
 ghost use Rattle.world.specs.Programs.{program_of};
 

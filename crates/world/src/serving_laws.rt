@@ -7,7 +7,7 @@ ghost use Rattle.bpf_model.specs.Step.{insn_at};
 ghost use Rattle.bpf_model.specs.View.{MapView, RunView, WorldView, shapes_of};
 ghost use Rattle.map_kinds.specs.Shown as shown;
 ghost use Rattle.verifier.specs.Checked.{Checked};
-ghost use Rattle.view_laws.specs.Matching.{Matches};
+ghost use Rattle.model_laws.specs.Matching.{Matches};
 ghost use Rattle.world_laws.specs.Local.{Asks, local_of};
 ghost use Rattle.world_laws.specs.Reaching as reaching;
 ghost use Rattle.world_laws.specs.Reacting.{insn_step};

@@ -27,7 +27,7 @@ pub struct World {
 
 impl Model for World {
     ghost use Rattle.bpf_model.specs.View.{WorldView};
-    ghost use Rattle.view_laws.specs.Codes.{world_code};
+    ghost use Rattle.model_laws.specs.Codes.{world_code};
     ghost use Rattle.world_laws.specs.Invariant.{IsWorld};
 
     ghost Value = { WorldView };

@@ -10,7 +10,7 @@ use Rattle.bpf_model.specs.Refines.{RefinesSchedule}
 use Rattle.bpf_model.specs.Schedule.{Schedule}
 use Rattle.bpf_model.specs.View.{MapView, WorldView, shapes_of}
 use Rattle.plan_laws.specs.Verified.{AreMapsBound}
-use Rattle.view_laws.proofs.Worlds.{here}
+use Rattle.model_laws.proofs.ViewedWorlds.{here}
 
 pub bound-count : (shapes asked : List MapShape) (numbers : List ℕ) → map (slice_get shapes) numbers ≡ map Some asked → length numbers ≡ length asked
 bound-count shapes asked numbers bound =

@@ -33,13 +33,13 @@ use Rattle.bpf_model.specs.Value.{◌>>=◌, reference}
 use Rattle.bpf_model.specs.View.{MapView, RunView, WorldView}
 use Rattle.bpf_model.specs.Word.{WordIs, element_bases, map_in, slot_base, map_base, frame_base}
 use Rattle.model_laws.proofs.Computations.{first-step}
-use Rattle.view_laws.specs.Matching.{Matches}
-use Rattle.view_laws.specs.Reactions.{with_map}
-use Rattle.view_laws.specs.Views.{deleted, updated}
-use Rattle.view_laws.proofs.Worlds.{here}
-use Rattle.view_laws.proofs.Running.{lock_simulates, unlock_simulates, halves_simulate}
-use Rattle.view_laws.proofs.Deleting.{delete_half}
-use Rattle.view_laws.proofs.Updating.{update_half}
+use Rattle.model_laws.specs.Matching.{Matches}
+use Rattle.model_laws.specs.Reactions.{with_map}
+use Rattle.model_laws.specs.Views.{deleted, updated}
+use Rattle.model_laws.proofs.ViewedWorlds.{here}
+use Rattle.model_laws.proofs.Running.{lock_simulates, unlock_simulates, halves_simulate}
+use Rattle.model_laws.proofs.Deleting.{delete_half}
+use Rattle.model_laws.proofs.Updating.{update_half}
 use Rattle.world_laws.specs.Moving.{word_in, moves_on}
 use Rattle.world_laws.specs.Calling.{bound_number, bytes_in, returned_view, found_word, serves, helper_called_on, helper_called, kernel_called}
 use Rattle.world_laws.specs.Reacting.{insn_step}

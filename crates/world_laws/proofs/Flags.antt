@@ -6,9 +6,9 @@ use Rattle.std.proofs.lemmas.Option.{slice_get-map}
 use Rattle.bpf_model.specs.Machine.{Run}
 use Rattle.bpf_model.specs.Schedule.{Schedule, is_open, still_open}
 use Rattle.bpf_model.specs.View.{RunView, WorldView}
-use Rattle.view_laws.specs.Matching.{Matches}
-use Rattle.view_laws.specs.Reactions.{with_run}
-use Rattle.view_laws.proofs.Worlds.{awaited-same}
+use Rattle.model_laws.specs.Matching.{Matches}
+use Rattle.model_laws.specs.Reactions.{with_run}
+use Rattle.model_laws.proofs.ViewedWorlds.{awaited-same}
 use Rattle.world_laws.specs.Typed.{IsSound, IsRunning}
 use Rattle.world_laws.proofs.Ready.{refines}
 use Rattle.bpf_model.proofs.Cases.{flattened}

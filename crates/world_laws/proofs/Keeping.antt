@@ -17,9 +17,9 @@ use Rattle.bpf_model.specs.Machine.{Loaded, run_at}
 use Rattle.bpf_model.specs.Step.{insn_at}
 use Rattle.bpf_model.specs.View.{MapView, RunView, WorldView}
 use Rattle.model_laws.specs.Locations.{Location, InContext, InFrame, AtMap, InSlot}
-use Rattle.view_laws.specs.Views.{shown_error}
-use Rattle.view_laws.specs.Reactions.{reaction}
-use Rattle.view_laws.proofs.Reacting.{Keeps, reaction_keeps, deleted-shape, updated-shape, map-keeps}
+use Rattle.model_laws.specs.Views.{shown_error}
+use Rattle.model_laws.specs.Reactions.{reaction}
+use Rattle.model_laws.proofs.Reacting.{Keeps, reaction_keeps, deleted-shape, updated-shape, map-keeps}
 use Rattle.world_laws.specs.Locating.{location_of}
 use Rattle.world_laws.specs.Moving.{word_in, operand_word, stored_slot, stored_at}
 use Rattle.world_laws.specs.Calling.{bytes_in, bound_number, serves, helper_called_on, helper_called, kernel_called}

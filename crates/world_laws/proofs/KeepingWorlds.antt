@@ -12,7 +12,7 @@ use Rattle.bpf_model.specs.View.{WorldView, new_map_view, start_view}
 use Rattle.model_laws.proofs.Starting.{start_tracked}
 use Rattle.plan_laws.specs.Well.{AreVerified}
 use Rattle.plan_laws.proofs.Reaching.{real-rest}
-use Rattle.view_laws.proofs.Reacting.{tracked_matches}
+use Rattle.model_laws.proofs.Reacting.{tracked_matches}
 use Rattle.world_laws.specs.Reacting.{full_reaction, full_reactions}
 use Rattle.world_laws.specs.Typed.{AreRealPrograms, IsMatched}
 use Rattle.world_laws.proofs.Worlds.{starts_ready, ready_stays, bounded_stays, simulates, tracked_is_sound}

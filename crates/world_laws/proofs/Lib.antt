@@ -15,12 +15,14 @@ pub mod Described
 pub mod Erasing
 pub mod Examples
 pub mod Flags
+pub mod Histories
 pub mod Keeping
 pub mod KeepingWorlds
 pub mod Listed
 pub mod Lived
 pub mod Loading
 pub mod Local
+pub mod OneMore
 pub mod Own
 pub mod Places
 pub mod Reaching

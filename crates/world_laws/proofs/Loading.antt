@@ -2,7 +2,7 @@
 use Rattle.std.proofs.Common.{◌≡◌, ℕ, ◌+◌, ◌≤◌, refl, sym, ap, subst, ◌∙◌, arith, Some, List, length, inr, false}
 use Rattle.std.specs.Prelude.{slice_get, slice_index, ℤ, pos, ◌+ℤ◌}
 use Rattle.std.proofs.lemmas.Option.{none-some, same_Some}
-use Rattle.view_laws.proofs.Storing.{accessible-kept}
+use Rattle.model_laws.proofs.Storing.{accessible-kept}
 use Rattle.model_laws.proofs.Stores.{accessible-born}
 use Rattle.plan_laws.proofs.Elements.{offset_some}
 use Rattle.bpf_model.specs.declared.limits.TheConstants.{FRAME_BYTES}
@@ -26,7 +26,7 @@ use Rattle.bpf_model.specs.Value.{◌>>=◌, number}
 use Rattle.bpf_model.specs.View.{RunView, WorldView, value_in}
 use Rattle.bpf_model.specs.Word.{WordIs}
 use Rattle.model_laws.specs.Locations.{Location, InContext, InFrame, InSlot}
-use Rattle.view_laws.specs.Matching.{Matches}
+use Rattle.model_laws.specs.Matching.{Matches}
 use Rattle.world_laws.specs.Locating.{location_of, value_of, bytes_of, offset_at, number_from, loaded_word}
 use Rattle.world_laws.specs.Moving.{word_in}
 use Rattle.world_laws.specs.Reacting.{insn_step}

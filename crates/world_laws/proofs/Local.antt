@@ -21,7 +21,7 @@ use Rattle.bpf_model.specs.Value.{◌>>=◌, number}
 use Rattle.bpf_model.specs.View.{RunView, WorldView}
 use Rattle.bpf_model.specs.Word.{WordIs}
 use Rattle.model_laws.specs.Locations.{Location, InContext, InFrame, AtMap, InSlot}
-use Rattle.view_laws.specs.Matching.{Matches}
+use Rattle.model_laws.specs.Matching.{Matches}
 use Rattle.world_laws.specs.Local.{Asks, local_load, local_store, local_of, Agrees, AsksNothing}
 use Rattle.world_laws.specs.Locating.{location_of, bytes_of, offset_at, number_from}
 use Rattle.world_laws.specs.Moving.{word_in, operand_word, with_word, moves_on, stored_at}

@@ -47,8 +47,8 @@ use Rattle.model_laws.specs.Locations.{Location}
 use Rattle.model_laws.specs.Scheduled.{queued_in}
 use Rattle.model_laws.proofs.Counting.{times-first, times-other, times-rest}
 use Rattle.plan_laws.proofs.Reaching.{well_never_stuck}
-use Rattle.view_laws.specs.Matching.{Matches}
-use Rattle.view_laws.proofs.Worlds.{here}
+use Rattle.model_laws.specs.Matching.{Matches}
+use Rattle.model_laws.proofs.ViewedWorlds.{here}
 use Rattle.world_laws.specs.Locating.{location_of}
 use Rattle.world_laws.specs.Moving.{word_in}
 use Rattle.bpf_model.specs.Request.{signature_of}

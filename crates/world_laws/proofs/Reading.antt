@@ -17,8 +17,8 @@ use Rattle.bpf_model.specs.Event.{key_refusal}
 use Rattle.bpf_model.specs.Helper.{update_error}
 use Rattle.bpf_model.specs.View.{MapView, RunView, WorldView, new_map_view, map_state_of}
 use Rattle.model_laws.specs.Example.{example_shape}
-use Rattle.view_laws.specs.Views.{retired_slot, deleted_from, delete_result, filled_from, updated_by, shown_error}
-use Rattle.view_laws.specs.Reactions.{with_map, shape_shown, delete_at}
+use Rattle.model_laws.specs.Views.{retired_slot, deleted_from, delete_result, filled_from, updated_by, shown_error}
+use Rattle.model_laws.specs.Reactions.{with_map, shape_shown, delete_at}
 use Rattle.model_laws.proofs.Indices.{insert-same}
 use Rattle.bpf_model.specs.View.{KeyMap}
 use Rattle.world_laws.specs.Calling.{found_word, returned_view}

@@ -30,9 +30,9 @@ use Rattle.bpf_model.specs.Word.{IsReferenceWord, WordIs, ByteIs, element_bases}
 use Rattle.model_laws.specs.Holds.{HoldsValue}
 use Rattle.plan_laws.specs.Describes.{scene_of, AreNear}
 use Rattle.plan_laws.proofs.Reaching.{surrounds}
-use Rattle.view_laws.specs.Matching.{Matches, Simulates, half}
-use Rattle.view_laws.specs.Reactions.{with_run}
-use Rattle.view_laws.proofs.Running.{move_simulates}
+use Rattle.model_laws.specs.Matching.{Matches, Simulates, half}
+use Rattle.model_laws.specs.Reactions.{with_run}
+use Rattle.model_laws.proofs.Running.{move_simulates}
 use Rattle.world_laws.specs.Moving.{word_in, operand_word, moved_view}
 use Rattle.world_laws.specs.Typed.{IsListed, IsSound, IsRunning}
 use Rattle.world_laws.proofs.Words.{IsBased}

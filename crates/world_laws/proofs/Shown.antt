@@ -13,7 +13,7 @@ use Rattle.bpf_model.specs.Word.{element_bases, map_in, slot_base, most_map_slot
 use Rattle.bpf_model.specs.Machine.{Machine, Run}
 use Rattle.plan_laws.specs.Describes.{scene_of, IsHeld}
 use Rattle.plan_laws.specs.Well.{IsWell}
-use Rattle.view_laws.proofs.Worlds.{here}
+use Rattle.model_laws.proofs.ViewedWorlds.{here}
 use Rattle.plan_laws.proofs.Arrays.{held-unreclaimed, linked-kept}
 use Rattle.bpf_model.proofs.Lists.{get-below}
 

@@ -20,9 +20,9 @@ use Rattle.bpf_model.specs.Schedule.{Schedule}
 use Rattle.bpf_model.specs.Step.{Outcome, after, insn_at}
 use Rattle.bpf_model.specs.View.{RunView, WorldView}
 use Rattle.plan_laws.proofs.Reaching.{well_never_stuck}
-use Rattle.view_laws.specs.Matching.{Matches, Simulates}
-use Rattle.view_laws.specs.Reactions.{step_refused, step_by, reaction}
-use Rattle.view_laws.proofs.Reacting.{reaction_simulates}
+use Rattle.model_laws.specs.Matching.{Matches, Simulates}
+use Rattle.model_laws.specs.Reactions.{step_refused, step_by, reaction}
+use Rattle.model_laws.proofs.Reacting.{reaction_simulates}
 use Rattle.world_laws.specs.Reacting.{insn_step, step_at, step_in, run_step_of, word_step, or_step, full_reaction}
 use Rattle.world_laws.specs.Typed.{IsSound, IsRunning}
 use Rattle.world_laws.proofs.Ready.{refines}

@@ -20,8 +20,8 @@ use Rattle.model_laws.proofs.Starting.{shapes-start}
 use Rattle.plan_laws.specs.Well.{AreVerified}
 use Rattle.plan_laws.proofs.Reaching.{reached_is_well, real-rest, tracked_never_stuck}
 use Rattle.plan_laws.proofs.Timing.{tracked_exits_in_time}
-use Rattle.view_laws.proofs.Reacting.{tracked_matches}
-use Rattle.view_laws.proofs.Tracking.{simulates_tracks}
+use Rattle.model_laws.proofs.Reacting.{tracked_matches}
+use Rattle.model_laws.proofs.Tracking.{simulates_tracks}
 use Rattle.world_laws.specs.Reacting.{full_reaction, full_reactions}
 use Rattle.world_laws.specs.Typed.{AreRealPrograms, IsReadyWorld, IsSound}
 use Rattle.world_laws.proofs.Listed.{reached_is_listed}

@@ -5,6 +5,7 @@ pub mod Described
 pub mod Exited
 pub mod Exits
 pub mod Invariant
+pub mod Loads
 pub mod Local
 pub mod Locating
 pub mod Moving

@@ -16,7 +16,7 @@ use Rattle.bpf_model.specs.Machine.{Loaded, run_at}
 use Rattle.bpf_model.specs.Operand.{unary_source}
 use Rattle.bpf_model.specs.Step.{insn_at}
 use Rattle.bpf_model.specs.View.{RunView, WorldView}
-use Rattle.view_laws.specs.Reactions.{reaction}
+use Rattle.model_laws.specs.Reactions.{reaction}
 use Rattle.world_laws.specs.Locating.{loaded_word}
 use Rattle.world_laws.specs.Moving.{word_in, operand_word, with_word, jumped_by, branched, map_word}
 use Rattle.world_laws.specs.Moving.{moves_on, ends_with, stored_word}

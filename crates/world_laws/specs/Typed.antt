@@ -11,7 +11,7 @@ use Rattle.bpf_model.specs.Spelling.{FitsInsn}
 use Rattle.bpf_model.specs.View.{RunView, WorldView, shapes_of}
 use Rattle.model_laws.specs.Holds.{HoldsState}
 use Rattle.plan_laws.specs.Well.{IsWell, AreVerified}
-use Rattle.view_laws.specs.Matching.{Matches}
+use Rattle.model_laws.specs.Matching.{Matches}
 
 -- A program is a value of its type: its instructions name registers and numbers that there are (in
 -- a definition they would else be any), and its list of maps has a limit.

@@ -4,6 +4,7 @@
 //! Each is a function whose contract is the law; only those of `typed` have a body.
 #![tactic(auto)]
 
+mod adding;
 mod exits;
 mod invariant;
 mod standing;
@@ -45,8 +46,8 @@ ghost use Rattle.scalar_domain.specs.Scalar.{Holds};
 ghost use Rattle.scalar_domain.specs.declared.scalar.Scalar.{Scalar};
 ghost use Rattle.plan_laws.specs.Limits.{IsWithinLimits};
 ghost use Rattle.plan_laws.specs.Well.{AreVerified};
-ghost use Rattle.view_laws.specs.Matching.{Matches, Simulates};
-ghost use Rattle.view_laws.specs.Reactions.{with_run};
+ghost use Rattle.model_laws.specs.Matching.{Matches, Simulates};
+ghost use Rattle.model_laws.specs.Reactions.{with_run};
 ghost use Rattle.world_laws.specs.WorldExample.{example_world, example_events, example_answers};
 ghost use Rattle.world_laws.specs.Local.{Asks, local_of, Agrees, AsksNothing};
 ghost use Rattle.world_laws.specs.Locating.{location_of};
@@ -55,6 +56,9 @@ ghost use Rattle.world_laws.specs.Reaching.{Reaches, IsWritable, IsCall, IsAllow
 ghost use Rattle.world_laws.specs.Reacting.{insn_step, word_step, full_reaction, full_reactions};
 ghost use Rattle.world_laws.specs.Typed.{AreRealPrograms, AreListed, IsReadyWorld, IsSound, IsRunning};
 
+pub use adding::{
+    loaded_is_world, reached_with_one_more, refines_with_one_more, tracked_with_one_more,
+};
 pub use exits::{exit_alike, exited_as_defined};
 pub use invariant::{
     bound_is_verified, count_has_room, reaction_is_world, reactions_make_world, start_is_world,

@@ -2,8 +2,8 @@
 ghost use Rattle.std.specs.Prelude.{◌≡◌, ◌≤◌, Some, length};
 ghost use Rattle.bpf_model.specs.declared.event.Answer.TheVariants.{Found};
 ghost use Rattle.bpf_model.specs.declared.limits.TheConstants.{VALUE_BYTES};
-ghost use Rattle.view_laws.specs.Reactions.{update_reaction, delete_reaction, read_reaction};
-ghost use Rattle.view_laws.specs.Views.{value_read};
+ghost use Rattle.model_laws.specs.Reactions.{update_reaction, delete_reaction, read_reaction};
+ghost use Rattle.model_laws.specs.Views.{value_read};
 ghost use Rattle.world.specs.Brief.{brief_answer};
 
 use crate::kept::brief::Brief;

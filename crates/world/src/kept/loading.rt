@@ -1,7 +1,7 @@
 //! A program more.
 ghost use Rattle.std.specs.Prelude.{◌≡◌, length, OnOk, OnErr};
 ghost use Rattle.bpf_model.specs.View.{shapes_of};
-ghost use Rattle.load_laws.specs.Loads.{with_program};
+ghost use Rattle.world_laws.specs.Loads.{with_program};
 ghost use Rattle.world.specs.BoundTo.{IsBound};
 ghost use Rattle.world.specs.Programs.{program_of};
 

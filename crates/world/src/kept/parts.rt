@@ -32,7 +32,7 @@ pub struct Parts {
 
 impl Model for Parts {
     ghost use Rattle.bpf_model.specs.View.{WorldView};
-    ghost use Rattle.view_laws.specs.Codes.{world_code};
+    ghost use Rattle.model_laws.specs.Codes.{world_code};
 
     ghost Value = { WorldView };
 

@@ -1,7 +1,7 @@
 //! Grace periods, and the elements that they let be reclaimed.
 ghost use Rattle.std.specs.Prelude.{◌≡◌, ◌+◌, ◌<◌, ◌^◌, Some};
 ghost use Rattle.bpf_model.specs.declared.event.Answer.TheVariants.{Reaped};
-ghost use Rattle.view_laws.specs.Reactions.{advance_reaction, reap_reaction};
+ghost use Rattle.model_laws.specs.Reactions.{advance_reaction, reap_reaction};
 
 use crate::kept::brief::Brief;
 use crate::kept::parts::Parts;

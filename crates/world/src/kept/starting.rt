@@ -1,6 +1,6 @@
 //! Where runs begin and end.
 ghost use Rattle.std.specs.Prelude.{◌≡◌};
-ghost use Rattle.view_laws.specs.Reactions.{start_reaction, drop_reaction, drop_refused};
+ghost use Rattle.model_laws.specs.Reactions.{start_reaction, drop_reaction, drop_refused};
 ghost use Rattle.world.specs.Brief.{brief_answer};
 ghost use Rattle.bpf_model.specs.Machine.{run_at};
 

@@ -2,7 +2,7 @@
 ghost use Rattle.std.specs.Prelude.{◌≡◌, None};
 ghost use Rattle.bpf_model.specs.declared.event.Event.{Event};
 ghost use Rattle.bpf_model.specs.Machine.{run_at};
-ghost use Rattle.view_laws.specs.Reactions.{step_refused};
+ghost use Rattle.model_laws.specs.Reactions.{step_refused};
 ghost use Rattle.world_laws.specs.Reacting.{full_reaction, word_step};
 ghost use Rattle.world_laws.specs.Typed.{IsMatched};
 ghost use Rattle.world.specs.Brief.{brief_answer};

@@ -3,7 +3,7 @@ use Rattle.std.specs.Prelude.{slice_set}
 use Rattle.std.proofs.lemmas.List.Edits.{map_over_more}
 use Rattle.std.proofs.lemmas.Option.{slice_get-get_or, same_Some}
 use Rattle.bpf_model.specs.View.{MapView}
-use Rattle.view_laws.specs.Views.{turned_view}
+use Rattle.model_laws.specs.Views.{turned_view}
 use Rattle.maps.proofs.registry.advance_each.Goals as goal
 
 pub loop-chosen-preserved : goal.loop-chosen-preserved

@@ -1,6 +1,6 @@
 use Rattle.std.proofs.Common.{◌≡◌, ◌++◌, take, drop}
 use Rattle.std.specs.Prelude.{map}
-use Rattle.view_laws.specs.Views.{turned_view}
+use Rattle.model_laws.specs.Views.{turned_view}
 use Rattle.maps.proofs.registry.advance_each.Given as goal
 
 abbrev pub invariant-loop-chosen : goal.invariant-loop-chosen

@@ -1,7 +1,7 @@
 use Rattle.std.proofs.Common.{ℕ}
 use Rattle.std.proofs.lemmas.List.{length-replicate}
 use Rattle.bpf_model.specs.declared.limits.TheConstants.{FRAME_BYTES}
-use Rattle.view_laws.specs.Reactions.{fresh_view}
+use Rattle.model_laws.specs.Reactions.{fresh_view}
 use Rattle.shared_runs.proofs.Starting.{starts}
 use Rattle.shared_runs.proofs.Stores.{stores-uses}
 use Rattle.read_table.specs.Table.{table_of}

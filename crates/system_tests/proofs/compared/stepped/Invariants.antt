@@ -1,4 +1,4 @@
-use Rattle.map_free_runs.specs.Lone.{IsLone}
+use Rattle.shared_runs.specs.Lone.{IsLone}
 use Rattle.system_tests.proofs.compared.stepped.Given as goal
 
 abbrev pub invariant-loop-moves : goal.invariant-loop-moves

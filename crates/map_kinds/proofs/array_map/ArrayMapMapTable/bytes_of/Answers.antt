@@ -3,7 +3,7 @@ use Rattle.std.specs.FinMap.{get}
 use Rattle.arrayvec.specs.ArrayVec.{ArrayVec}
 use Rattle.bpf_model.specs.View.{MapView, index_below}
 use Rattle.element_store.specs.Blocks.{block}
-use Rattle.view_laws.specs.Views.{value_shown, value_read}
+use Rattle.model_laws.specs.Views.{value_shown, value_read}
 use Rattle.map_kinds.specs.Arrays.{array_view}
 use Rattle.model_laws.proofs.Indices.{index-got}
 use Rattle.map_kinds.proofs.Arrays.{room-at, value-at}

@@ -6,7 +6,7 @@ use Rattle.bpf_model.proofs.Bytes.{length-with_bytes}
 use Rattle.element_store.specs.Blocks.{block}
 use Rattle.element_store.specs.State.{value_at}
 use Rattle.element_store.proofs.Slots.{block-full}
-use Rattle.view_laws.specs.Views.{written}
+use Rattle.model_laws.specs.Views.{written}
 use Rattle.map_kinds.specs.Arrays.{array_view, IsArrayMap}
 use Rattle.map_kinds.specs.Shown.{IsOccupied}
 use Rattle.map_kinds.proofs.Arrays.{occupied-in, room-at, value-at, written-view, written-kept}

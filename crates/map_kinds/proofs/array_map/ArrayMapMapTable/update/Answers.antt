@@ -3,7 +3,7 @@ use Rattle.std.specs.Prelude.{is_some}
 use Rattle.std.specs.FinMap.{get}
 use Rattle.bpf_model.specs.Helper.{array_error}
 use Rattle.bpf_model.specs.View.{MapView, index_below}
-use Rattle.view_laws.specs.Views.{updated}
+use Rattle.model_laws.specs.Views.{updated}
 use Rattle.map_kinds.specs.Arrays.{array_view, IsArrayMap}
 use Rattle.model_laws.proofs.Indices.{index-got}
 use Rattle.map_kinds.proofs.Arrays.{room-at, written-view, written-kept, array-updates}

@@ -4,7 +4,7 @@ use Rattle.bpf_model.specs.declared.event.Given.{Given}
 use Rattle.bpf_model.specs.declared.event.Given.TheVariants.{Free, Worn}
 use Rattle.bpf_model.specs.View.{MapView}
 use Rattle.element_store.specs.State.{key_at, worn_at, is_last_use, given_back}
-use Rattle.view_laws.specs.Views.{given_at, reaped_view}
+use Rattle.model_laws.specs.Views.{given_at, reaped_view}
 use Rattle.element_store.specs.Queued.{reaped_lists}
 use Rattle.map_kinds.specs.Counting.{IsCounted}
 use Rattle.map_kinds.specs.Parted.{PartsView}

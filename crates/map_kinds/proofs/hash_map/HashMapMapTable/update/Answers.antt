@@ -3,7 +3,7 @@ use Rattle.std.specs.Prelude.{IfNone}
 use Rattle.std.proofs.lemmas.List.{length-map}
 use Rattle.bpf_model.specs.declared.limits.TheConstants.{MAX_ENTRIES, MAX_SPARE}
 use Rattle.bpf_model.specs.View.{MapView, map_state_of, uses_at}
-use Rattle.view_laws.specs.Views.{updated, updated_by}
+use Rattle.model_laws.specs.Views.{updated, updated_by}
 use Rattle.map_kinds.specs.Counting.{IsCounted, unlinked_in}
 use Rattle.map_kinds.specs.Shown.{map_view}
 use Rattle.map_kinds.specs.Updated.{error_of}

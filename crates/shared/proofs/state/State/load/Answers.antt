@@ -1,6 +1,6 @@
 use Rattle.std.proofs.Common.{◌≡◌, subst}
 use Rattle.std.specs.Prelude.{◌↔◌, Err}
-use Rattle.journal_laws.specs.Replay.{HasNoRuns}
+use Rattle.shared_books.specs.Replay.{HasNoRuns}
 use Rattle.shared.specs.State.{StateView}
 use Rattle.shared_books.specs.declared.fault.LoadFault.TheVariants as load_fault
 use Rattle.shared.proofs.state.State.load.Goals as goal

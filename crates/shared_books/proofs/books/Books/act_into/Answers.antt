@@ -5,7 +5,7 @@ use Rattle.bpf_model.specs.declared.event.Answer.{Answer}
 use Rattle.bpf_model.specs.View.{WorldView}
 use Rattle.bpf_model.specs.declared.entry.Entry.{Entry}
 use Rattle.journal.specs.Entries.{IsAnswerTo, JournalView}
-use Rattle.journal_laws.proofs.Fitting.{reaction_fits}
+use Rattle.shared_books.proofs.Fitting.{reaction_fits}
 use Rattle.world_laws.specs.Reacting.{full_reaction}
 use Rattle.shared_books.specs.Books.{BooksView, WorkerView, Enters, TotalsRise, books_view}
 use Rattle.shared_books.specs.Noted.{IsEntered}

@@ -1,5 +1,5 @@
 use Rattle.std.proofs.Common.{rules, arith, refl, sym, ap, subst}
-use Rattle.journal_laws.specs.Replay.{HasNoRuns}
+use Rattle.shared_books.specs.Replay.{HasNoRuns}
 use Rattle.shared_books.specs.Books.{BooksView}
 use Rattle.shared_books.proofs.books.Books.cut.Goals as goal
 

@@ -1,6 +1,6 @@
 use Rattle.std.proofs.Common.{rules, arith, refl, sym, ap, subst, ◌∙◌}
-use Rattle.journal_laws.specs.Replay.{HasNoRuns}
-use Rattle.load_laws.specs.Loads.{with_program}
+use Rattle.shared_books.specs.Replay.{HasNoRuns}
+use Rattle.world_laws.specs.Loads.{with_program}
 use Rattle.world.specs.Programs.{program_of}
 use Rattle.shared_books.specs.Books.{BooksView, books_view}
 use Rattle.shared_books.proofs.Balance.{balanced-loaded}

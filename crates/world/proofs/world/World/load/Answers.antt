@@ -3,7 +3,7 @@ use Rattle.std.specs.Prelude.{OnOk}
 use Rattle.bpf_model.specs.Machine.{Machine}
 use Rattle.bpf_model.specs.Refines.{TracksSchedule, Tracks}
 use Rattle.bpf_model.specs.Schedule.{Schedule}
-use Rattle.load_laws.specs.Loads.{loads, schedule_loads}
+use Rattle.world_laws.specs.Loads.{loads, schedule_loads}
 use Rattle.world_laws.specs.Invariant.{IsWorld}
 use Rattle.world.specs.declared.fault.WorldFault.{WorldFault}
 use Rattle.world.specs.Programs.{program_of}

@@ -1,6 +1,6 @@
 use Rattle.std.proofs.Common.{◌∙◌, None, ap, sym}
 use Rattle.std.specs.Prelude.{slice_set}
-use Rattle.view_laws.specs.Reactions.{drop_by, with_run}
+use Rattle.model_laws.specs.Reactions.{drop_by, with_run}
 use Rattle.world.proofs.Runs.{dropped-kept, dropped-view}
 use Rattle.world.proofs.SlotFlags.{flags-set}
 use Rattle.world.proofs.kept.parts.Parts.dropped.Goals as goal

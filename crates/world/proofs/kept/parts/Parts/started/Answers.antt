@@ -2,7 +2,7 @@ use Rattle.std.proofs.Common.{◌≡◌, ◌∙◌, List, Some, None, sym, ap, l
 use Rattle.std.specs.Prelude.{slice_get, map}
 use Rattle.bpf_model.specs.declared.event.Answer.TheVariants.{Started}
 use Rattle.bpf_model.specs.Machine.{lowest_free}
-use Rattle.view_laws.specs.Reactions.{with_run, fresh_view}
+use Rattle.model_laws.specs.Reactions.{with_run, fresh_view}
 use Rattle.world.specs.declared.kept.loaded.Loaded.{Loaded}
 use Rattle.world.specs.Keeping.{view_of}
 use Rattle.world.proofs.Runs.{started-kept, started-view, started}

@@ -2,8 +2,8 @@ use Rattle.std.proofs.Common.{◌≡◌, ◌∙◌, ℕ, List, sym, ap, subst}
 use Rattle.std.specs.Prelude.{None, map, slice_get}
 use Rattle.bpf_model.specs.declared.event.Answer.{Answer}
 use Rattle.bpf_model.specs.View.{WorldView}
-use Rattle.view_laws.specs.Matching.{Matches}
-use Rattle.view_laws.specs.Reactions.{step_refused}
+use Rattle.model_laws.specs.Matching.{Matches}
+use Rattle.model_laws.specs.Reactions.{step_refused}
 use Rattle.world_laws.specs.Reacting.{word_step}
 use Rattle.world_laws.specs.Typed.{IsSound}
 use Rattle.world.specs.Brief.{brief_answer}

@@ -1,5 +1,0 @@
-use Rattle.journal_laws.proofs.Replaying as laws
-use Rattle.journal_laws.proofs.replays_to_world.Goals as goal
-
-pub returns : goal.returns
-returns c = laws.replays_to_world

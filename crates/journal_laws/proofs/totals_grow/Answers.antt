@@ -1,8 +1,0 @@
-use Rattle.journal_laws.proofs.Growing.{unlinked_grows, reclaimed_grows}
-use Rattle.journal_laws.proofs.totals_grow.Goals as goal
-
-pub returns-clause-unlinked : goal.returns-clause-unlinked
-returns-clause-unlinked c = unlinked_grows
-
-pub returns-clause-reclaimed : goal.returns-clause-reclaimed
-returns-clause-reclaimed c = reclaimed_grows

@@ -1,9 +1,0 @@
-use Rattle.std.proofs.Common.{◌-◌, length}
-use Rattle.map_free_runs.proofs.Looping.{StandsBefore}
-use Rattle.map_free_runs.proofs.driver.finish.Given as goal
-
-abbrev pub invariant-steps : goal.invariant-steps
-invariant-steps l = StandsBefore l.verified l.context l.index l.moved l.workspace
-
-abbrev pub decreases-steps : goal.decreases-steps
-decreases-steps l = length l.verified.program - l.moved

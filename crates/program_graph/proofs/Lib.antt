@@ -1,4 +1,0 @@
-pub mod Edges
-pub mod Flaws
-pub mod Marking
-pub mod Verdicts

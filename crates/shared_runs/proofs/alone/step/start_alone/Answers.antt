@@ -1,0 +1,18 @@
+use Rattle.std.proofs.Common.{ℕ, [], sym, subst}
+use Rattle.std.proofs.lemmas.List.{length-replicate}
+use Rattle.bpf_model.specs.declared.limits.TheConstants.{FRAME_BYTES}
+use Rattle.model_laws.specs.Reactions.{fresh_view}
+use Rattle.bpf_model.specs.Real.{AreBytes}
+use Rattle.shared_runs.specs.Lone.{StandsAlone}
+use Rattle.shared_runs.proofs.StartingAlone.{starts}
+use Rattle.shared_runs.proofs.alone.step.start_alone.Goals as goal
+
+pub returns-clause-run : goal.returns-clause-run
+returns-clause-run c =
+    let v = c.args.verified.now in
+    record {
+      at = c.start.ensures.run v.program;
+      stands = subst (StandsAlone v) (sym c.start.ensures.view)
+          (starts v c.program-program.ensures.justified c.requires.maps c.args.ctx.now.items c.requires.context
+          (subst AreBytes c.as_slice.ensures.value c.are_bytes.ensures) (fresh_view 0 []).frame (length-replicate {A = ℕ} FRAME_BYTES 0));
+    }

@@ -1,0 +1,11 @@
+use Rattle.std.proofs.Common.{◌≡◌, ℕ, ◌<◌, length}
+use Rattle.std.specs.Prelude.{slice_get, Some}
+use Rattle.bpf_model.specs.Places.{StartsAt}
+use Rattle.verifier.proofs.graph.indexes_of.Given as goal
+
+abbrev pub invariant-loop-index : goal.invariant-loop-index
+invariant-loop-index l = record {
+  long : length l.indexes.items ≡ l.slot_count;
+  found : (j p : ℕ) → j < l.index → StartsAt l.instructions j p → slice_get l.indexes.items p ≡ Some (Some j);
+  only : (p j : ℕ) → slice_get l.indexes.items p ≡ Some (Some j) → StartsAt l.instructions j p;
+}

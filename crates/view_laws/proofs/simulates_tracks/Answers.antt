@@ -1,5 +1,0 @@
-use Rattle.view_laws.proofs.Tracking.{simulates_tracks}
-use Rattle.view_laws.proofs.simulates_tracks.Goals as goal
-
-pub returns : goal.returns
-returns c w new event answer real shapes programs h s t = let d = simulates_tracks w new s event answer t real shapes programs (h s t) in (d.0, d.1, d.2)

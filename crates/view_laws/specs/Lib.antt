@@ -1,4 +1,0 @@
-pub mod Codes
-pub mod Views
-pub mod Reactions
-pub mod Matching
