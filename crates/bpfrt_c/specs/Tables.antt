@@ -1,5 +1,5 @@
 -- What the calls on tables say of the values that handles hold.
-use Rattle.std.specs.Prelude.{◌≡◌, ◌⊎◌, ℕ, ◌==◌, List, ◌∷◌, Option, Some, None, length, if◌then◌else◌}
+use Rattle.std.specs.Prelude.{◌≡◌, ◌⊎◌, ℕ, ◌+◌, ◌==◌, List, Option, Some, None, length, if◌then◌else◌}
 use Rattle.host_programs.specs.Opened.{OpenProgram}
 use Rattle.host_programs.specs.Packets.{seen}
 use Rattle.host_tables.specs.Reading.{CanServe, RunsOnPacket, RunsOverTable}
@@ -8,9 +8,9 @@ use Rattle.host_tables.specs.declared.fault.How.{How}
 use Rattle.host_tables.specs.declared.fault.How.TheVariants.{Any, New, Present}
 use Rattle.host_tables.specs.declared.fault.SetFault.{SetFault}
 use Rattle.host_tables.specs.declared.fault.SetFault.TheVariants.{Exists, Missing, NoElement, NoWay, Held}
-use Rattle.map_table.specs.Held.{Holder}
+use Rattle.map_table.specs.Held.{Holder, IsNew, IsReady}
 use Rattle.map_table.specs.Values.{stored_of}
-use Rattle.map_table.specs.Writing.{WriterView}
+use Rattle.map_table.specs.Writing.{MakesSeat, WriterView}
 use Rattle.table_words.specs.declared.view.TableShape.{TableShape}
 use Rattle.table_words.specs.declared.view.Values.{Values}
 use Rattle.table_words.specs.declared.view.Values.TheVariants.{Shared, PerReader}
@@ -88,11 +88,14 @@ pub record CanMeet (t : OpenTable) (given : ℕ) (key next : List ℕ) : Type 0 
   pub room_fits : length next ≡ t.table.shape.key_words
   pub key_fits : (given ≡ 0) ⊎ (length key ≡ t.table.shape.key_words)
 
--- The reader got the first seat of the table, which has one fewer.
+-- The reader got a seat of the table, which has one fewer. It has done nothing, and its history goes on from the writer's.
 pub record Seats (t u : OpenTable) (r : Holder) : Type 0 where
   pub table : u.table ≡ t.table
-  pub writer : u.writer ≡ t.writer
-  pub seat : t.seats ≡ r ∷ u.seats
+  pub seat : t.seats ≡ u.seats + 1
+  pub writer : MakesSeat t.writer u.writer
+  pub ready : IsReady t.table r
+  pub new : IsNew r
+  pub begins : r.view.seen ≡ u.writer.view.seen
 
 -- The same of the table and the reader that are held.
 abbrev pub SeatsIn : Option OpenTable → Option OpenTable → Option Holder → Type 0

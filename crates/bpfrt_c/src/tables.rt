@@ -364,7 +364,7 @@ pub extern "C" fn bpfrt0_table_reclaim(alloc: Global, host: &mut Host) -> i32
 /// The counts of the table that is held, if one is.
 fn stat_held(held: &Held) -> Option<TableStat>
     ensures counts { IfSome result (λ s. IfSome (table_in (Some held.now)) (λ t. (s.free ≡ length t.writer.free)
-        × (s.waiting ≡ length t.writer.unlinked) × (s.seats ≡ length t.seats))) }
+        × (s.waiting ≡ length t.writer.unlinked) × (s.seats ≡ t.seats))) }
     ensures some { IsSome result ↔ IsSome (table_in (Some held.now)) }
 {
     let Held::Table(table) = held else {
@@ -381,7 +381,7 @@ fn stat_held(held: &Held) -> Option<TableStat>
 #[unsafe(no_mangle)]
 pub extern "C" fn bpfrt0_table_stat(alloc: Global, host: &mut Host, stat: &mut TableStat) -> i32
     ensures counts { result ≡ pos 0 → IfSome (table_in host.old.handle.held) (λ t. (stat.new.free ≡ length t.writer.free)
-        × (stat.new.waiting ≡ length t.writer.unlinked) × (stat.new.seats ≡ length t.seats)) }
+        × (stat.new.waiting ≡ length t.writer.unlinked) × (stat.new.seats ≡ t.seats)) }
     ensures some { IsSome (table_in host.old.handle.held) → result ≡ pos 0 }
     ensures none { table_in host.old.handle.held ≡ None → result ≡ neg_ℤ (pos 9) }
     ensures unwritten { result ≢ pos 0 → stat.new ≡ stat.old }

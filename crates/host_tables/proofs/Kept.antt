@@ -1,15 +1,17 @@
 -- What copying leaves linked.
-use Rattle.std.proofs.Common.{◌≡◌, ◌≢◌, ℕ, zero, suc, ◌*◌, ◌<◌, List, ◌++◌, refl, sym, ap, ◌∙◌, subst, ⊎_elim, arith}
+use Rattle.std.proofs.Common.{◌≡◌, ◌≢◌, ℕ, zero, suc, ◌+◌, ◌-◌, ◌*◌, ◌<◌, List, ◌++◌, refl, sym, ap, ◌∙◌, subst, ⊎_elim, arith}
 use Rattle.std.proofs.Common.{Option, Some, None, Result, Ok, Err, OnOk, IfErr}
 use mathlib.Core.Logic.{dite}
 use native.Mathlib.Decide.{ℕ_discrete}
 use Rattle.map_table_laws.specs.declared.moves.Move.{Move}
 use Rattle.map_table_laws.specs.Layout.{Names}
-use Rattle.map_table_laws.specs.History.{word_in}
-use Rattle.map_table_laws.specs.Found.{Links as LinksIn, IsLinkedUnder, IsLinkedAs}
-use Rattle.map_table_laws.proofs.Moments.{at_last}
+use Rattle.map_table_laws.specs.History.{word_in, IsLawful}
+use Rattle.map_table_laws.specs.Found.{Links as LinksIn, IsLinkedUnder, IsLinkedAs, IsLinkedSomewhere}
+use Rattle.map_table_laws.proofs.Moments.{at_last, lawful_early}
+use Rattle.map_table_laws.proofs.Moved.{kept_linked, null_refutes_kept}
 use Rattle.map_table_laws.proofs.Steps.{nothing_named}
 use Rattle.table_words.specs.declared.view.TableShape.{TableShape}
+use Rattle.table_words.specs.declared.view.View.{View}
 use Rattle.map_table.specs.Hashes.{layout_of}
 use Rattle.map_table.specs.Held.{IsKnown, TableView}
 use Rattle.map_table.specs.Reading.{OnlyLoads, Reads}
@@ -22,12 +24,17 @@ use Rattle.host_tables.specs.declared.fault.How.{How}
 use Rattle.host_tables.specs.declared.fault.How.TheVariants.{Any}
 use Rattle.host_tables.specs.declared.fault.SetFault.{SetFault}
 use Rattle.host_tables.specs.declared.fault.SetFault.TheVariants.{Exists, Missing, NoElement, NoWay, Held}
-use Rattle.host_tables.specs.Copies.{AreAlike, IsThere, CopiesKey, Copies, LoadsValues, StopsCopying}
+use Rattle.host_tables.specs.Copies.{AreAlike, IsFoundBehind, IsThere, CopiesKey, Copies, LoadsValues, StopsCopying}
 use Rattle.host_tables.specs.Tables.{FindsNoRoom, IsNoRoom, IsNotSet, IsWhy, Links, LinksNew, MakesRoom, Moves, PutsUnder, Replaces, Seeks, Sets}
-use Rattle.host_tables.specs.Tables.{needed_for}
+use Rattle.host_tables.specs.Tables.{OpenTable, needed_for, seats_left}
 use Rattle.host_tables.specs.Walks.{LoadsKey}
 use Rattle.host_tables.proofs.Linked.{Leaves, words_leave, same_key, linked_before, linked_after}
 use Rattle.host_tables.proofs.Tidy.{searches_leave, freed_finds, puts_leave, all_moves, at_end, at_first}
+
+-- where no seat is made as many are left
+pub same_seats : (t : TableView) (v w : WriterView) (o : OpenTable) → record { table = t; writer = v; seats = seats_left t v } ≡ o →
+    w.view.next ≡ v.view.next → seats_left t w ≡ o.seats
+same_seats t v w o is same = ap (λ n. t.shape.readers + 1 - n) same ∙ ap (λ (q : OpenTable). q.seats) is
 
 -- a writer of a table of this shape
 pub record Knows (k : TableShape) (w : WriterView) : Type 0 where
@@ -35,6 +42,12 @@ pub record Knows (k : TableShape) (w : WriterView) : Type 0 where
   pub shape : w.view.shape ≡ k
   pub table : w.table.shape ≡ k
   pub known : IsKnown w.view
+
+pub writer_knows : (t : TableView) (v : WriterView) (o : OpenTable) → record { table = t; writer = v; seats = seats_left t v } ≡ o → v.table ≡ t →
+    v.view.me ≡ 0 → v.view.shape ≡ v.table.shape → IsKnown v.view → Knows o.table.shape v
+writer_knows t v o is at me shape known =
+    let here : v.table.shape ≡ o.table.shape = ap (λ (z : TableView). z.shape) at ∙ ap (λ (z : OpenTable). z.table.shape) is in
+    record { me = me; shape = shape ∙ here; table = here; known = known }
 
 pub knows_after : (k : TableShape) (v w : WriterView) (ms : List Move) → Knows k v → Works v ms w → Knows k w
 knows_after k v w ms b works = record {
@@ -56,20 +69,30 @@ was_there : (k : TableShape) (v w : WriterView) (ms : List Move) → Knows k v �
     IsLinkedUnder (layout_of k) 0 key way w.view.seen → IsLinkedUnder (layout_of k) 0 key way v.view.seen
 was_there k v w ms b works h key way l = linked_before k v.view w.view ms b.shape b.me b.known works.went key way (h way) l
 
--- what one call leaves: the facts of the writer, and what is linked
+-- a call makes no seat
+pub works_next : (v w : WriterView) (ms : List Move) → Works v ms w → w.view.next ≡ v.view.next
+works_next v w ms works = ap (λ (z : View). z.next) works.went.1
+
+-- what one call leaves: the facts of the writer, how many readers have a seat, and what is linked
 pub record Kept (k : TableShape) (v w : WriterView) : Type 0 where
   pub knows : Knows k w
+  pub next : w.view.next ≡ v.view.next
   pub stays : StaysThere k v w
 
 kept_then : (k : TableShape) (u v w : WriterView) → Kept k u v → Kept k v w → Kept k u w
-kept_then k u v w p q = record { knows = q.knows; stays = λ key l. q.stays key (p.stays key l) }
+kept_then k u v w p q = record { knows = q.knows; next = q.next ∙ p.next; stays = λ key l. q.stays key (p.stays key l) }
 
 kept_same : (k : TableShape) (v w : WriterView) → Knows k v → w ≡ v → Kept k v w
-kept_same k v w b is = record { knows = subst (Knows k) (sym is) b; stays = λ key l. subst (IsThere k key) (sym is) l }
+kept_same k v w b is = record {
+  knows = subst (Knows k) (sym is) b;
+  next = ap (λ (z : WriterView). z.view.next) is;
+  stays = λ key l. subst (IsThere k key) (sym is) l;
+}
 
 sought_kept : (k : TableShape) (key : List ℕ) (found : Option ℕ) (v w : WriterView) → Knows k v → Seeks key found v w → Kept k v w
 sought_kept k key found v w b s = record {
   knows = knows_after k v w s.moves b s.works;
+  next = works_next v w s.moves s.works;
   stays = left_there k v w s.moves b s.works (searches_leave (layout_of v.table.shape) 0 s.moves s.only);
 }
 
@@ -78,6 +101,7 @@ room_kept k needed v w b room = ⊎_elim
     (λ t. kept_same k v w b t.0)
     (λ t. let r = t.2 in record {
       knows = knows_after k v w r.moves b r.looks.1;
+      next = works_next v w r.moves r.looks.1;
       stays = λ key l. (
         l.0,
         subst (λ (z : TableShape). IsLinkedUnder (layout_of z) 0 key l.0 w.view.seen) b.table
@@ -90,6 +114,7 @@ room_kept k needed v w b room = ⊎_elim
 moves_kept : (k : TableShape) (v w : WriterView) → Knows k v → Moves v w → Kept k v w
 moves_kept k v w b m = record {
   knows = knows_after k v w m.moves b m.works;
+  next = works_next v w m.moves m.works;
   stays = λ key l.
       let stay = m.stay in
       let old : IsLinkedAs (layout_of v.table.shape) 0 key l.1.0 v.view.seen =
@@ -111,6 +136,7 @@ links_kept k key value v w b l =
     let works = l.puts.4 in (
       record {
         knows = knows_after k v w ms b works;
+        next = works_next v w ms works;
         stays = λ theirs old.
             let ne : l.way ≢ old.0 = λ same. not_empty k theirs l.way v b l.empty
             (subst (λ z. IsLinkedUnder (layout_of k) 0 theirs z v.view.seen) (sym same) old.1) in (
@@ -140,6 +166,7 @@ replaces_kept k way key value v w b r =
     let was = subst (λ (z : TableShape). IsLinkedUnder (layout_of z) 0 key way v.view.seen) b.table first in (
       record {
         knows = knows_after k v w ms b works;
+        next = works_next v w ms works;
         stays = λ theirs old. dite (ℕ_discrete way old.0)
             (λ same.
             let here = same_key (layout_of k) 0 key theirs way v.view.seen was
@@ -205,12 +232,14 @@ set_kept k key value how v w (Err fault) b sets fails = not_set_kept k key how v
 key_loaded : (k : TableShape) (way : ℕ) (key : List ℕ) (v w : WriterView) → Knows k v → LoadsKey way key v w → Kept k v w
 key_loaded k way key v w b l = record {
   knows = knows_after k v w l.moves b l.works;
+  next = works_next v w l.moves l.works;
   stays = left_there k v w l.moves b l.works (searches_leave (layout_of v.table.shape) 0 l.moves l.only);
 }
 
 values_loaded : (k : TableShape) (way : ℕ) (words : List ℕ) (v w : WriterView) → Knows k v → LoadsValues way words v w → Kept k v w
 values_loaded k way words v w b l = record {
   knows = knows_after k v w l.moves b l.works;
+  next = works_next v w l.moves l.works;
   stays = left_there k v w l.moves b l.works (λ way. words_leave way l.moves (loads_quiet l.moves l.only).words);
 }
 
@@ -288,6 +317,17 @@ pub both_kept : (k l s : TableShape) (n : ℕ) (v a w b : WriterView) (r : Resul
     OnOk r (Copies n v a w b) → IfErr r (StopsCopying s v a w b) → Kept k v w × Kept l a b
 both_kept k l s n v a w b (Ok x) p q copies stops = let c = copied k l n v a w b p q copies in (c.here, c.kept)
 both_kept k l s n v a w b (Err fault) p q copies stops = stopped k l s v a w b fault p q stops
+
+-- behind a copy each of its keys is found
+pub found_behind : (k : TableShape) (key : List ℕ) (early : List (ℕ × Move)) (v : View) → v.shape ≡ k → IsKnown v →
+    IsLinkedSomewhere (layout_of k) 0 key early → IsFoundBehind k key early v
+found_behind k key early v shape known l after late between is before during only null =
+    let lawful : IsLawful (layout_of k) (after ++ (late ++ (between ++ early))) =
+    subst (λ (z : TableShape × List (ℕ × Move)). IsLawful (layout_of z.0) z.1) (λ i. (shape i, is i)) known.0 in
+    let now = lawful_early (layout_of k) after (late ++ (between ++ early)) lawful in
+    let then = lawful_early (layout_of k) late (between ++ early) now in
+    let there = at_last (IsLinkedSomewhere (layout_of k) 0 key) between early (kept_linked (layout_of k) 0 key between early then l before) in
+    null_refutes_kept (layout_of k) late (between ++ early) now 0 key v.me there.0 there.1 during only null
 
 -- the values of tables that are alike have as many words
 pub alike_stored : (k l : TableShape) → AreAlike k l → stored_of k ≡ stored_of l

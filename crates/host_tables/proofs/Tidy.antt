@@ -1,8 +1,10 @@
 -- What the writer's calls keep of a table.
 use Rattle.std.proofs.Common.{◌≡◌, ◌≢◌, ℕ, zero, suc, ◌+◌, ◌<◌, ◌≤◌, List, [], ◌∷◌, ◌++◌, length, length-append, refl, sym, ap, ◌∙◌, subst, ◌⊎◌}
 use Rattle.std.proofs.Common.{⊎_elim, inl, inr, Option, Some, None, Result, Ok, Err, OnOk, IfErr, slice_index, arith}
+use Rattle.std.specs.List.{range_with_len}
+use Rattle.std.proofs.lemmas.List.FromFn.{length-range_with_len}
 use Rattle.map_table_laws.specs.declared.moves.Move.{Move}
-use Rattle.map_table_laws.specs.declared.moves.Move.TheVariants.{Put}
+use Rattle.map_table_laws.specs.declared.moves.Move.TheVariants.{Put, Scan}
 use Rattle.map_table_laws.specs.Layout.{Layout, Names}
 use Rattle.map_table_laws.specs.History.{moves_of, word_in}
 use Rattle.map_table_laws.specs.Lookups.{OnlySearches}
@@ -16,7 +18,7 @@ use Rattle.map_table.specs.Held.{IsKnown, TableView}
 use Rattle.map_table.specs.Moving.{GoesAside, MakesOneWay, StayLinked}
 use Rattle.map_table.specs.Reading.{OnlyLoads}
 use Rattle.map_table.specs.Values.{copies_of, stored_of}
-use Rattle.map_table.specs.Writing.{AreFull, Frees, Looks, Puts, Works, WriterView}
+use Rattle.map_table.specs.Writing.{AreFull, Frees, Looks, MakesSeat, Puts, Works, WriterView}
 use Rattle.map_table.proofs.Keeping.{adds_quiet, fills_quiet, loads_quiet, scans_quiet, searches_quiet}
 use Rattle.host_tables.specs.declared.fault.SetFault.{SetFault}
 use Rattle.host_tables.specs.Tables.{Finds, FindsNoRoom, IsNoRoom, IsTidy, Links, MakesRoom, Moves, PutsUnder, PutsWithRoom, Replaces, SumsUp, needed_for}
@@ -68,6 +70,22 @@ module _ (v w : WriterView) (ms : List Move) (writer : v.view.me ≡ 0) (shape :
       (λ some. let long = ap (λ (z : List ℕ). length z) unlinked in omega (arith, long, length-append v.unlinked (gone ∷ [])))
 
 -- one that only searches
+-- a table on which nothing was done
+pub first_tidy : (w : WriterView) (count : ℕ) → w.view.me ≡ 0 → IsKnown w.view → w.view.mine ≡ [] → count ≡ w.table.shape.elements →
+    w.free ≡ range_with_len 0 count → IsTidy w
+first_tidy w count me known none elements free = record {
+  once = λ key a b one two.
+      let own : moves_of 0 w.view.seen ≡ [] = ap (λ z. moves_of z w.view.seen) (sym me) ∙ (known.1 ∙ none) in
+      absurd (nothing_named one.0 (subst (λ (ms : List Move). Names (word_in a ms) one.0) own one.1.names));
+  reserve = λ some. let long = ap length free ∙ length-range_with_len 0 count in omega (arith, some, long, elements);
+}
+
+-- one more reader
+pub seated_tidy : (v w : WriterView) → v.view.me ≡ 0 → v.view.shape ≡ v.table.shape → IsKnown v.view → MakesSeat v w → IsTidy v → IsTidy w
+seated_tidy v w me shape known m tidy =
+    let t = same_tidy v m.looked (Scan v.view.next m.word ∷ []) me shape known m.looks (λ way. tt) m.free m.unlinked tidy in
+    subst IsTidy (sym m.seated) record { once = t.once; reserve = t.reserve }
+
 pub searched_tidy : (k : Layout) (u v w : WriterView) (ms : List Move) → v ≡ u → u.view.me ≡ 0 → u.view.shape ≡ u.table.shape → IsKnown u.view →
     OnlySearches k 0 ms → Works v ms w → w.free ≡ v.free → w.unlinked ≡ v.unlinked → IsTidy u → IsTidy w
 searched_tidy k u v w ms e writer shape known only works free unlinked tidy =

@@ -1,15 +1,18 @@
 -- What is copied from one table into another.
-use Rattle.std.specs.Prelude.{◌≡◌, ◌⊎◌, ℕ, zero, suc, ◌<◌, List}
+use Rattle.std.specs.Prelude.{◌≡◌, ◌⊎◌, ℕ, zero, suc, ◌<◌, List, ◌++◌, None}
 use Rattle.map_table.specs.Hashes.{layout_of}
 use Rattle.map_table.specs.Law.{ways_of}
 use Rattle.map_table.specs.Reading.{OnlyLoads, Reads}
 use Rattle.map_table.specs.Values.{copies_of, stored_of}
 use Rattle.map_table.specs.Writing.{Works, WriterView}
 use Rattle.table_words.specs.declared.view.TableShape.{TableShape}
+use Rattle.table_words.specs.declared.view.View.{View}
 use Rattle.map_table_laws.specs.declared.moves.Move.{Move}
 use Rattle.map_table_laws.specs.Found.{IsLinkedUnder}
-use Rattle.map_table_laws.specs.History.{word_in}
+use Rattle.map_table_laws.specs.History.{moves_of, word_in}
 use Rattle.map_table_laws.specs.Layout.{Names}
+use Rattle.map_table_laws.specs.Lookups.{AnswersLookup, OnlySearches}
+use Rattle.map_table_laws.specs.Moved.{OnlyKeeps}
 use Rattle.host_tables.specs.declared.fault.How.TheVariants.{Any}
 use Rattle.host_tables.specs.declared.fault.SetFault.{SetFault}
 use Rattle.host_tables.specs.Tables.{IsNotSet, Sets}
@@ -26,6 +29,14 @@ AreAllThere k l w b = (key : List ℕ) (way : ℕ) → way < ways_of k → IsLin
 -- each key that was linked is linked
 abbrev pub StayThere : TableShape → WriterView → WriterView → Type 0
 StayThere k v w = (key : List ℕ) → IsThere k key v → IsThere k key w
+
+-- No lookup that the holder made behind this history answered null to the key, if from there to the lookup's end the writer only replaced
+-- and moved what was linked under it.
+abbrev pub IsFoundBehind : TableShape → List ℕ → List (ℕ × Move) → View → Type 0
+IsFoundBehind k key early v =
+    (after late between : List (ℕ × Move)) → v.seen ≡ after ++ (late ++ (between ++ early)) →
+    OnlyKeeps (layout_of k) 0 key between early → OnlyKeeps (layout_of k) 0 key late (between ++ early) →
+    OnlySearches (layout_of k) 0 (moves_of v.me late) → AnswersLookup (layout_of k) 0 key (moves_of v.me late) None → ⊥
 
 -- Keys have as many words in both tables, and so have values, of which each element has as many.
 pub record AreAlike (k l : TableShape) : Type 0 where

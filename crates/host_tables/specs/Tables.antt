@@ -1,9 +1,9 @@
 -- What a host's table holds, and what its writer does in one call.
-use Rattle.std.specs.Prelude.{◌≡◌, ◌⊎◌, ℕ, zero, suc, ◌+◌, ◌<◌, ◌≤◌, List, [], ◌∷◌, ◌++◌, All, Option, Some, None, IsSome, length, slice_index}
+use Rattle.std.specs.Prelude.{◌≡◌, ◌⊎◌, ℕ, zero, suc, ◌+◌, ◌-◌, ◌<◌, ◌≤◌, List, [], ◌∷◌, ◌++◌, All, Option, Some, None, IsSome, length, slice_index}
 use Rattle.std.specs.List.{range_with_len}
 use Rattle.map_table.specs.Counting.{AddsUp}
 use Rattle.map_table.specs.Hashes.{layout_of}
-use Rattle.map_table.specs.Held.{AreInOrder, Holder, IsNew, TableView}
+use Rattle.map_table.specs.Held.{TableView}
 use Rattle.map_table.specs.Moving.{GoesAside, IsSomeInside, NoneCanMove, StandStill, StayLinked}
 use Rattle.map_table.specs.Sightings.{IsHeldUp}
 use Rattle.map_table.specs.Values.{copies_of}
@@ -22,11 +22,15 @@ use Rattle.host_tables.specs.declared.fault.How.TheVariants.{Any, New, Present}
 use Rattle.host_tables.specs.declared.fault.SetFault.{SetFault}
 use Rattle.host_tables.specs.declared.fault.SetFault.TheVariants.{Exists, Missing, NoElement, NoWay, Held}
 
--- which table, what its writer did and saw there, and the seats that no reader has yet
+-- which table, what its writer did and saw there, and how many readers have no seat yet
 pub record OpenTable : Type 0 where
   pub table : TableView
   pub writer : WriterView
-  pub seats : List Holder
+  pub seats : ℕ
+
+-- Readers count from 1, so the next one's number tells how many have no seat yet.
+abbrev pub seats_left : TableView → WriterView → ℕ
+seats_left t w = t.shape.readers + 1 - w.view.next
 
 -- a table of this shape on which nothing was done
 pub record IsNewTable (shape : TableShape) (t : OpenTable) : Type 0 where
@@ -34,9 +38,7 @@ pub record IsNewTable (shape : TableShape) (t : OpenTable) : Type 0 where
   pub undone : t.writer.view.mine ≡ []
   pub free : t.writer.free ≡ range_with_len 0 shape.elements
   pub unlinked : t.writer.unlinked ≡ []
-  pub readers : length t.seats ≡ shape.readers
-  pub new : All IsNew t.seats
-  pub order : AreInOrder t.seats
+  pub readers : t.seats ≡ shape.readers
 
 -- What is so between any two calls: no key is linked in two ways, and of the elements, if there are any, one at least is not
 -- linked.

@@ -3,10 +3,15 @@ ghost use Rattle.std.specs.Prelude.{◌≡◌, ◌<◌, ◌≤◌, ℕ, List, On
 ghost use Rattle.map_table.specs.Law.{ways_of};
 ghost use Rattle.map_table.specs.Values.{stored_of};
 ghost use Rattle.map_table.specs.Writing.{WriterView};
-ghost use Rattle.host_tables.specs.Copies.{AreAlike, Copies, CopiesWay, LoadsValues, StopsAt, StopsCopying};
+ghost use Rattle.host_tables.specs.Copies.{AreAlike, AreAllThere, IsFoundBehind, Copies, CopiesWay, LoadsValues, StopsAt, StopsCopying};
 ghost use Rattle.host_tables.specs.Tables.{IsTidy};
 ghost use Rattle.host_tables.specs.Walks.{LoadsKey};
+ghost use Rattle.map_table_laws.specs.Found.{IsLinkedUnder};
 ghost use Rattle.map_table_laws.specs.History.{word_in};
+ghost use Rattle.map_table.specs.Hashes.{layout_of};
+ghost use Rattle.map_table.specs.Held.{IsKnown};
+ghost use Rattle.table_words.specs.declared.view.TableShape.{TableShape as ShapeOf};
+ghost use Rattle.table_words.specs.declared.view.View.{View};
 
 use crate::fault::{How, SetFault};
 use crate::writing::set_asked;
@@ -96,3 +101,13 @@ pub(crate) fn copy_all(
     }
     Ok(())
 }
+
+/// A law of growth. Once `HostTable::copy_to` has copied a table into a larger one, each key that it copied is found in both: by each
+/// reader of the one and by each reader of the other, where their histories go on from the writers'. Those of readers that are
+/// opened behind the copy do so (`HostTable::reader`). So a reader may change over between any two of its sections.
+pub fn copied_keys_are_found()
+    ensures { (k l : ShapeOf) (w b : WriterView) → AreAllThere k l w b →
+        (key : List ℕ) (way : ℕ) → way < ways_of k → IsLinkedUnder (layout_of k) 0 key way w.view.seen →
+        (u v : View) → u.shape ≡ k → IsKnown u → v.shape ≡ l → IsKnown v →
+        IsFoundBehind k key w.view.seen u × IsFoundBehind l key b.view.seen v }
+{}

@@ -11,6 +11,7 @@ mod table;
 mod walking;
 mod writing;
 
+pub use copying::copied_keys_are_found;
 pub use fault::{How, SetFault, TableFault, TableRunFault};
 pub use map_runs::MAX_RUN_ELEMENTS;
 pub use map_table::{

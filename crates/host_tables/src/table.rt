@@ -1,7 +1,8 @@
 //! A table with its writer.
 ghost use Rattle.std.specs.Prelude.{◌≡◌, ◌≢◌, ◌↔◌, ◌<◌, ◌+◌, [], ◌∷◌, ℕ, List, Decides, Err, None, IfSome, IfNone, IsNone, IfOk, IfErr, IsOk, OnOk, option_copied, length, true, false};
 ghost use Rattle.map_table.specs.Hashes.{layout_of};
-ghost use Rattle.map_table.specs.Held.{IsReady, IsSized};
+ghost use Rattle.map_table.specs.Held.{IsNew, IsReady, IsSized};
+ghost use Rattle.map_table.specs.Writing.{MakesSeat};
 ghost use Rattle.map_table.specs.Law.{ways_of};
 ghost use Rattle.map_table_laws.specs.Once.{AreLinkedOnce};
 ghost use Rattle.host_tables.specs.Copies.{AreAlike, AreAllThere, Copies, IsThere, StayThere, StopsCopying};
@@ -19,37 +20,32 @@ use crate::reader::{HostReader, serves};
 use crate::walking::{load_first, start_behind};
 use crate::writing::{read_sums, reclaim, seek, set_asked, unlink};
 use host_programs::HostProgram;
-use map_table::{
-    MAX_BUCKETS, MAX_ELEMENTS, MAX_READERS, MAX_WORDS, MapTable, ReadSeat, TableShape, Writer,
-};
+use map_table::{MAX_BUCKETS, MAX_ELEMENTS, MAX_READERS, MAX_WORDS, MapTable, TableShape, Writer};
 use std::alloc::Global;
 use std::marker::Model;
 use std::sync::Arc;
 
-/// A table, its writer, and the seats that no reader has yet.
+/// A table and its writer, who makes the readers' seats.
 #[derive(Drop)]
 pub struct HostTable {
     table: Arc<MapTable>,
     writer: Writer,
-    seats: Vec<ReadSeat>,
 }
 
 impl Model for HostTable {
-    ghost use Rattle.std.specs.Prelude.{◌≡◌, All};
+    ghost use Rattle.std.specs.Prelude.{◌≡◌};
     ghost use Rattle.std.specs.Arc.{arc_value};
-    ghost use Rattle.map_table.specs.Held.{IsReady};
-    ghost use Rattle.host_tables.specs.Tables.{IsTidy, OpenTable};
+    ghost use Rattle.host_tables.specs.Tables.{IsTidy, OpenTable, seats_left};
 
     ghost Value = { OpenTable };
 
     ghost view = { λ t. record {
       table = arc_value t.table;
       writer = t.writer;
-      seats = t.seats.items;
+      seats = seats_left (arc_value t.table) t.writer;
     } };
 
-    ghost invariant = { λ t. (t.writer.table ≡ arc_value t.table) × All (IsReady (arc_value t.table)) t.seats.items
-        × IsTidy t.writer };
+    ghost invariant = { λ t. (t.writer.table ≡ arc_value t.table) × IsTidy t.writer };
 }
 
 /// Whether a table may have this shape.
@@ -77,16 +73,12 @@ impl HostTable {
         if !is_sized(&shape) {
             return Err(TableFault::Shape);
         }
-        let (table, seats, writer) = MapTable::new(alloc, shape)?;
+        let (table, writer) = MapTable::unseated(alloc, shape)?;
         writer.is_writers();
         let Ok(table) = Arc::new(alloc, table) else {
             return Err(TableFault::Memory);
         };
-        Ok(HostTable {
-            table,
-            writer,
-            seats: seats.list,
-        })
+        Ok(HostTable { table, writer })
     }
 
     /// How many of each the table has.
@@ -109,23 +101,26 @@ impl HostTable {
         serves(&self.table, program)
     }
 
-    /// A reader, of which each thread needs its own: that of the next seat, the first one's first. `None` where each seat has been
-    /// given, or no more owners of the table can be counted. A seat is not given back: it goes with its reader.
+    /// A reader, of which each thread needs its own. It begins with all that was done to the table before. `None` where each seat
+    /// has been given, or no more owners of the table can be counted. A seat is not given back: it goes with its reader.
     pub fn reader(&mut self) -> Option<HostReader>
         ensures table { self.new.table ≡ self.old.table }
-        ensures writer { self.new.writer ≡ self.old.writer }
-        ensures seat { IfSome result (λ r. self.old.seats ≡ r ∷ self.new.seats) }
+        ensures writer { IfSome result (λ r. MakesSeat self.old.writer self.new.writer) }
+        ensures seat { IfSome result (λ r. self.old.seats ≡ self.new.seats + 1) }
         ensures ready { IfSome result (IsReady self.old.table) }
-        ensures given { self.old.seats ≡ [] → IsNone result }
+        ensures new { IfSome result IsNew }
+        ensures me { IfSome result (λ r. r.view.me ≡ self.old.writer.view.next) }
+
+        // Its history goes on from the writer's, so each key that is linked by now is found (law `copied_keys_are_found`).
+        ensures begins { IfSome result (λ r. r.view.seen ≡ self.new.writer.view.seen) }
+        ensures given { self.old.seats ≡ 0 → IsNone result }
         ensures kept { IfNone result (self.new ≡ self.old) }
     {
         let Ok(table) = Arc::try_clone(&self.table) else {
             return None;
         };
-        if self.seats.is_empty() {
-            return None;
-        }
-        let seat = self.seats.remove(0);
+        self.writer.is_writers();
+        let seat = self.writer.seat(&self.table)?;
         Some(HostReader::of(table, seat))
     }
 
@@ -174,8 +169,9 @@ impl HostTable {
 
     /// Links each key of this table in another one, with the words of all its values. Of a key that is linked there it puts the
     /// values in the place of those. So a host goes over to a larger table: it copies the keys, and from then on sets and removes
-    /// keys in both. Each reader changes over between two runs. No law spans both tables: each reader looks into one, and there it
-    /// finds each key that stays linked (law `kept_keys_are_found`). Once each has changed over, the smaller one is dropped.
+    /// keys in both. It opens readers of the larger table behind the copy, and each reader changes over between two runs. It finds each
+    /// key that was copied in the one and in the other, while it stays linked there (law `copied_keys_are_found`). The smaller table
+    /// lives as long as its last reader.
     ///
     /// What readers store in a value after it was loaded is not copied.
     ///
@@ -308,10 +304,10 @@ impl HostTable {
         self.writer.unlinked().len()
     }
 
-    /// How many seats no reader has yet.
+    /// How many readers have no seat yet.
     pub fn count_seats(&self) -> usize
-        ensures { result ≡ length self.now.seats }
+        ensures { result ≡ self.now.seats }
     {
-        self.seats.len()
+        self.writer.count_seats(&self.table)
     }
 }

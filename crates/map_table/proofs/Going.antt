@@ -8,6 +8,7 @@ use Rattle.map_table_laws.specs.Layout.{Names}
 use Rattle.map_table.specs.Hashes.{layout_of}
 use Rattle.map_table.specs.Law.{Gains}
 use Rattle.map_table.specs.Held.{Holder, Does, Goes, Went, IsKnown}
+use Rattle.map_table.specs.Writing.{HasSeated}
 
 pub went_none : (v : View) → IsKnown v → Went v v.mine v
 went_none v k = ([], refl, k.0, k.1)
@@ -23,6 +24,9 @@ went_known v w ms g = (
 
 pub went_mine : (v w : View) (ms : List Move) → Went v ms w → w.mine ≡ ms
 went_mine v w ms g = ap (λ (z : View). z.mine) g.1
+
+pub went_seated : (v w : View) (ms : List Move) (count : ℕ) → Went v ms w → HasSeated v count → HasSeated w count
+went_seated v w ms count g h = subst (λ (z : View). HasSeated z count) (sym g.1) record { next = h.next; within = h.within }
 
 pub went_after : (u v w : View) (ms ns : List Move) → Went u ms v → Went v ns w → Went u ns w
 went_after u v w ms ns g h = (

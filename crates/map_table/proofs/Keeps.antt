@@ -1,7 +1,7 @@
 -- Each step keeps the rule.
 use Rattle.std.proofs.Common.{◌≡◌, ◌≢◌, ◌⊎◌, ℕ, zero, suc, ◌+◌, ◌-◌, ◌*◌, ◌/◌, ◌%◌, ◌<◌, ◌≤◌, List, [], ◌∷◌, ◌++◌}
 use Rattle.std.proofs.Common.{length, get_or, set, refl, sym, ap, ◌∙◌, subst, ⊎_elim, inl, inr, arith, eq-eqb, ne_eqb}
-use Rattle.std.proofs.Common.{append-nil, ◌==◌, if◌then◌else◌, length-set, get_or-set_other, get_or-set_same, set-set, ◌^◌}
+use Rattle.std.proofs.Common.{◌==◌, if◌then◌else◌, length-set, get_or-set_other, get_or-set_same, set-set, ◌^◌}
 use Rattle.std.proofs.lemmas.List.{length-append}
 use mathlib.Core.Logic.{dite}
 use mathlib.Core.Option.{some, none, some-injective, some-ne-none}
@@ -177,15 +177,22 @@ module _ (k : TableShape) where
 
   pub scans_ok : (slots id : ℕ) (me : Me ℕ View) (i r : ℕ) → i ≡ r * section_stride → r < k.readers → me.0.me ≡ 0 →
       Allows (Kept k) slots id me i (λ n. n) (scans (step slots i 0 0 none) me)
+  unfolding advance
   scans_ok slots id me i q is low writer s r _ at _ =
-      let m : Move = Scan (i / section_stride + 1) (get_or s.words i 0) in
+      let f = r.each_seat id me.0 at in
+      let reader : ℕ = i / section_stride + 1 in
+      let m : Move = Scan reader (get_or s.words i 0) in
+      let unmade : me.0.next ≤ reader → moves_of reader ((me.0.me, m) ∷ (f.later.0 ++ me.0.seen)) ≡ [] = λ n.
+      let next = f.deals writer in
+      moves_else me.0.me reader m (f.later.0 ++ me.0.seen) (λ e. absurd (omega arith)) ∙
+      (ap (moves_of reader) (sym f.later.1) ∙ r.fresh reader (omega arith)) in
       let own : i / section_stride ≡ q = omega arith in
       let t = advance s r id i (get_or s.words i 0) me.0 me.1 m at (
         writer,
         subst (λ (z : ℕ × ℕ). get_or s.words z.0 0 ≡ section_word (moves_of (z.1 + 1) r.log))
             (λ a. (sym is a, sym own a)) (r.sections q low),
       ) (follows_load s r i me.0.me m tt tt tt) in
-      (t.0, keeps, tt, t.1, (t.2, refl))
+      (t.0, keeps, tt, t.1, (t.2, refl, unmade))
 
   pub stores_ok : (slots id : ℕ) (me : Me ℕ View) (i slot place x : ℕ) → IsAt k i slot place → slot < k.elements →
       place < width_of k → ((me.0.me ≡ 0) × IsSpare k.readers slot me.0.mine)
@@ -389,7 +396,7 @@ module _ (k : TableShape) where
               known = omega arith;
               deals = λ z. absurd (omega arith);
               mine = r.fresh v.next (omega arith);
-              later = (r.log, sym (append-nil r.log));
+              later = f.later;
             })
             (at_end vs (reader_of v) u j e);
       }

@@ -17,6 +17,7 @@ pub mod Passing
 pub mod Peeking
 pub mod Places
 pub mod Replacing
+pub mod Seating
 pub mod Seen
 pub mod Unlinking
 pub mod Valued

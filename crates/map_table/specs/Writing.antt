@@ -1,7 +1,7 @@
 -- What clauses see of the writer, and what it keeps of its ways and elements.
 use Rattle.std.specs.Prelude.{◌≡◌, ◌≢◌, ℕ, zero, suc, ◌+◌, ◌<◌, ◌≤◌, ◌==◌, List, [], ◌∷◌, ◌++◌, All, length, slice_index, if◌then◌else◌}
 use Rattle.map_table_laws.specs.declared.moves.Move.{Move}
-use Rattle.map_table_laws.specs.declared.moves.Move.TheVariants.{Store, Put}
+use Rattle.map_table_laws.specs.declared.moves.Move.TheVariants.{Store, Put, Scan}
 use Rattle.map_table_laws.specs.Layout.{IsCandidate}
 use Rattle.map_table_laws.specs.History.{word_in, IsLinked, IsSpare}
 use Rattle.map_table_laws.specs.Found.{StaysFound}
@@ -9,7 +9,7 @@ use Rattle.map_table_laws.specs.Scanned.{ScansInTurn}
 use Rattle.table_words.specs.declared.view.TableShape.{TableShape}
 use Rattle.table_words.specs.declared.view.View.{View}
 use Rattle.map_table.specs.Hashes.{layout_of}
-use Rattle.map_table.specs.Law.{ways_of}
+use Rattle.map_table.specs.Law.{dealt, ways_of}
 use Rattle.map_table.specs.Values.{stored_of}
 use Rattle.map_table.specs.Sightings.{AreCleared}
 use Rattle.map_table.specs.Held.{TableView, Holder, IsKnown, IsSized, Goes}
@@ -29,6 +29,20 @@ as_holder w = record { table = w.table; view = w.view }
 -- The writer did just these steps, the newest first.
 abbrev pub Works : WriterView → List Move → WriterView → Type 0
 Works v ms w = Goes (as_holder v) ms (as_holder w)
+
+-- The writer looked at the section word of the reader that comes next, and made its seat.
+pub record MakesSeat (v w : WriterView) : Type 0 where
+  pub word : ℕ
+  pub looked : WriterView
+  pub looks : Works v (Scan v.view.next word ∷ []) looked
+  pub seated : w ≡ record looked { view = dealt looked.view }
+  pub free : looked.free ≡ v.free
+  pub unlinked : looked.unlinked ≡ v.unlinked
+
+-- So many readers have a seat, of those that the table has.
+pub record HasSeated (v : View) (count : ℕ) : Type 0 where
+  pub next : v.next ≡ count + 1
+  pub within : count ≤ v.shape.readers
 
 -- how often the element stands in the list
 abbrev pub times_in : ℕ → List ℕ → ℕ

@@ -64,8 +64,24 @@ impl MapTable {
     {
         let (table, mut seat) = MapTable::begin(alloc, shape)?;
         let seats = deal_all(alloc, &table, &mut seat, shape.readers)?;
-        let writer = Writer::begin(alloc, seat, shape)?;
+        let writer = Writer::begin(alloc, seat, shape, shape.readers)?;
         Ok((table, seats, writer))
+    }
+
+    /// A table of this shape, and its writer, who makes the readers' seats later (`Writer::seat`). Nothing is linked. All memory is
+    /// taken here: an `Err` says that there was too little, and no later call takes any.
+    pub fn unseated(alloc: Global, shape: TableShape) -> Result<(MapTable, Writer), AllocError>
+        requires sized { IsSized shape }
+        ensures shape { IfOk result (λ t. t.0.shape ≡ shape) }
+        ensures writer { IfOk result (λ t. t.1.table ≡ t.0) }
+        ensures new_writer { IfOk result (λ t. t.1.view.mine ≡ []) }
+        ensures unseated { IfOk result (λ t. t.1.view.next ≡ 1) }
+        ensures free { IfOk result (λ t. t.1.free ≡ range_with_len 0 shape.elements) }
+        ensures unlinked { IfOk result (λ t. t.1.unlinked ≡ []) }
+    {
+        let (table, seat) = MapTable::begin(alloc, shape)?;
+        let writer = Writer::begin(alloc, seat, shape, 0)?;
+        Ok((table, writer))
     }
 
     /// A table on which nothing was done, with the writer's seat.

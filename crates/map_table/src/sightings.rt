@@ -1,7 +1,8 @@
 //! The writer's looks at the readers' section words.
-ghost use Rattle.std.specs.Prelude.{◌≡◌, ◌≢◌, ◌⊎◌, ℕ, ◌+◌, ◌%◌, ◌<◌, List, ◌∷◌, ◌++◌, MatchBool, length};
+ghost use Rattle.std.specs.Prelude.{◌≡◌, ◌≢◌, ◌⊎◌, ℕ, ◌+◌, ◌%◌, ◌<◌, ◌≤◌, List, [], ◌∷◌, ◌++◌, MatchBool, length};
 ghost use Rattle.map_table_laws.specs.declared.moves.Move.{Move};
 ghost use Rattle.map_table_laws.specs.declared.moves.Move.TheVariants.{Scan};
+ghost use Rattle.map_table_laws.specs.History.{moves_of};
 ghost use Rattle.map_table_laws.specs.Scanned.{OnlyScans, ScansInTurn, FoundInside, FoundGone};
 ghost use Rattle.map_table.specs.Held.{IsKnown, Went};
 ghost use Rattle.map_table.specs.Moving.{HaveGone, IsSomeInside};
@@ -16,7 +17,7 @@ use table_words::{Sighting, View};
 const LOOKS: usize = 8_000_000;
 
 /// Looks at a reader, and notes what it finds: its section word.
-fn look_at(
+pub(crate) fn look_at(
     table: &MapTable,
     seat: &mut Seat<u8, View>,
     seen: &mut Vec<Sighting>,
@@ -33,6 +34,7 @@ fn look_at(
     ensures others { (r : ℕ) → r ≢ reader → sighting_at seen.new.items r ≡ sighting_at seen.old.items r }
     ensures noted { result % 2 ≡ 0 → (sighting_at seen.new.items reader).cleared ≡ length unlinked.now }
     ensures step { Went seat.old.me.0 (Scan (reader + 1) result ∷ seat.old.me.0.mine) seat.new.me.0 }
+    ensures unseated { seat.old.me.0.next ≤ reader + 1 → moves_of (reader + 1) seat.new.me.0.seen ≡ [] }
 {
     let word = table.scan(seat, reader);
     seen[reader] = seen[reader].after_look(word, unlinked.len());

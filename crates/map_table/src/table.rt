@@ -3,10 +3,10 @@ ghost use Rattle.atomic_table.specs.Table.{State};
 ghost use Rattle.std.specs.Prelude.{◌≡◌, ◌≢◌, ◌⊎◌, ℕ, ◌+◌, ◌-◌, ◌*◌, ◌%◌, ◌^◌, ◌<◌, ◌≤◌, [], ◌∷◌, length, slice_index, IfOk};
 ghost use Rattle.map_table_laws.specs.declared.moves.Move.TheVariants.{Open, Close, Learn, Load, Store, Put, Double, Scan};
 ghost use Rattle.map_table_laws.specs.Layout.{Names};
-ghost use Rattle.map_table_laws.specs.History.{inside, most_sections, word_at, Holds, IsSpare, IsReader, Settles, MayDouble, MayLink};
+ghost use Rattle.map_table_laws.specs.History.{inside, moves_of, most_sections, word_at, Holds, IsSpare, IsReader, Settles, MayDouble, MayLink};
 ghost use Rattle.table_words.specs.declared.view.View.{View};
 ghost use Rattle.map_table.specs.Hashes.{layout_of};
-ghost use Rattle.map_table.specs.Law.{Kept, ways_from, ways_of, count_of, base_of, width_of, writer_after};
+ghost use Rattle.map_table.specs.Law.{Kept, ways_from, ways_of, count_of, base_of, width_of, dealt, writer_after};
 ghost use Rattle.map_table.specs.Values.{first_of};
 ghost use Rattle.map_table.specs.Held.{IsSized, IsKnown, IsReady, IsNew, Does, DoesBoth, Went};
 
@@ -286,16 +286,20 @@ impl MapTable {
         Ok((table, seat))
     }
 
-    /// The seat of the next reader.
+    /// The seat of the next reader, which has done nothing yet. It begins with what the writer saw.
     pub(crate) fn deal(&self, writer: &mut Seat<u8, View>, reader: usize) -> ReadSeat
-        requires table { writer.old.table_id ≡ self.now.id }
-        requires writer { writer.old.me ≡ (writer_after reader self.now.shape, []) }
+        requires table { (writer.old.table_id ≡ self.now.id) × (writer.old.me.0.shape ≡ self.now.shape) }
+        requires writer { (writer.old.me.0.me ≡ 0) × (writer.old.me.1 ≡ []) }
+        requires next { writer.old.me.0.next ≡ reader + 1 }
+        requires known { IsKnown writer.old.me.0 }
+        requires none { moves_of (reader + 1) writer.old.me.0.seen ≡ [] }
         requires within { reader < self.now.shape.readers }
         ensures table { writer.new.table_id ≡ writer.old.table_id }
-        ensures writer { writer.new.me ≡ (writer_after (reader + 1) self.now.shape, []) }
+        ensures writer { writer.new.me ≡ (dealt writer.old.me.0, []) }
         ensures ready { IsReady self.now result }
         ensures new { IsNew result }
         ensures me { result.view.me ≡ reader + 1 }
+        ensures seen { result.view.seen ≡ writer.old.me.0.seen }
     {
         let seat = self.table.shared.split_seat::<Deals>(writer);
         let first = self.shape.first_place(reader);
@@ -385,6 +389,9 @@ impl MapTable {
         ensures table { seat.new.table_id ≡ seat.old.table_id }
         ensures held { seat.new.me.1 ≡ seat.old.me.1 }
         ensures step { Went seat.old.me.0 (Scan (reader + 1) result ∷ seat.old.me.0.mine) seat.new.me.0 }
+
+        // A reader that has no seat yet has done nothing.
+        ensures unseated { seat.old.me.0.next ≤ reader + 1 → moves_of (reader + 1) seat.new.me.0.seen ≡ [] }
     {
         let shared = &self.table.shared;
         shared.load::<Scans>(seat, reader * SECTION_STRIDE)

@@ -13,19 +13,19 @@ ghost use Rattle.map_table.specs.Hashes.{layout_of};
 ghost use Rattle.map_table.specs.Law.{ways_of, writer_after};
 ghost use Rattle.map_table.specs.Counting.{AddsUp};
 ghost use Rattle.map_table.specs.Values.{copies_of, stored_of};
-ghost use Rattle.map_table.specs.Held.{IsKnown, IsSized};
+ghost use Rattle.map_table.specs.Held.{IsKnown, IsNew, IsReady, IsSized};
 ghost use Rattle.map_table.specs.Moving.{HasGone, IsSomeInside, MakesOneWay, NoneCanMove, StandStill, StayLinked};
 ghost use Rattle.map_table.specs.Reading.{OnlyLoads, Reads};
 ghost use Rattle.map_table.specs.declared.moving.Room.TheVariants.{Made, Held, Full};
 ghost use Rattle.map_table.specs.Sightings.{IsHeldUp};
-ghost use Rattle.map_table.specs.Writing.{Puts, Works, Looks, Frees, AreFull, StaysIn, IsFree, IsUnlinked, IsNoneLost, times_in};
+ghost use Rattle.map_table.specs.Writing.{Puts, Works, Looks, Frees, MakesSeat, AreFull, StaysIn, IsFree, IsUnlinked, IsNoneLost, times_in};
 
 use crate::by_key::find_way;
 use crate::moving::{Room, find_move};
 use crate::reading::{add_up, load_key, load_values};
 use crate::setup::numbers;
-use crate::sightings::{all_passed, look_round};
-use crate::table::MapTable;
+use crate::sightings::{all_passed, look_at, look_round};
+use crate::table::{MapTable, ReadSeat};
 use crate::writing::{double_word, fill_element, put_word};
 use atomic_table::Seat;
 use std::alloc::{AllocError, Global};
@@ -46,13 +46,15 @@ pub struct Writer {
     unlinked: Vec<usize>,
     // What the looks at each reader found.
     seen: Vec<Sighting>,
+    // How many readers have a seat.
+    seated: usize,
 }
 
 impl Model for Writer {
     ghost use Rattle.std.specs.Prelude.{◌≡◌, ◌≤◌, [], vec_capacity};
     ghost use Rattle.map_table_laws.specs.History.{IsSettled};
     ghost use Rattle.map_table.specs.Sightings.{AreSightings};
-    ghost use Rattle.map_table.specs.Writing.{WriterView, IsWriter, IsNoneLost};
+    ghost use Rattle.map_table.specs.Writing.{WriterView, HasSeated, IsWriter, IsNoneLost};
 
     ghost Value = { WriterView };
 
@@ -68,7 +70,7 @@ impl Model for Writer {
         × (w.seat.me.0.shape.elements ≤ vec_capacity w.unlinked)
         × AreSightings w.seat.me.0 w.unlinked.items w.seen.items
         × IsNoneLost w.seat.me.0 w.free.items w.unlinked.items
-        × IsSettled w.seat.me.0.mine };
+        × IsSettled w.seat.me.0.mine × HasSeated w.seat.me.0 w.seated };
 }
 
 impl Writer {
@@ -431,13 +433,46 @@ impl Writer {
         &self.seat
     }
 
-    /// The writer of a table on which nothing was done.
+    /// The seat of the next reader, or `None` where each reader has one. The reader begins with all that was done up to this call:
+    /// so each key that is linked now is found by its first lookup, and by each later one while the writer keeps the key (law
+    /// `kept_keys_are_found`). The writer looks once at the reader's section word.
+    pub fn seat(&mut self, table: &MapTable) -> Option<ReadSeat>
+        requires table { self.old.table ≡ table.now }
+        ensures none { IsNone result ↔ (table.now.shape.readers < self.old.view.next) }
+        ensures unchanged { IfNone result (self.new ≡ self.old) }
+        ensures makes { IfSome result (λ s. MakesSeat self.old self.new) }
+        ensures ready { IfSome result (IsReady table.now) }
+        ensures new { IfSome result IsNew }
+        ensures me { IfSome result (λ s. s.view.me ≡ self.old.view.next) }
+        ensures seen { IfSome result (λ s. s.view.seen ≡ self.new.view.seen) }
+    {
+        let reader = self.seated;
+        if reader == table.shape().readers {
+            return None;
+        }
+        let unlinked = self.unlinked.as_slice();
+        look_at(table, &mut self.seat, &mut self.seen, unlinked, reader);
+        self.seated += 1;
+        Some(table.deal(&mut self.seat, reader))
+    }
+
+    /// How many readers have no seat yet.
+    pub fn count_seats(&self, table: &MapTable) -> usize
+        requires { self.now.table ≡ table.now }
+        ensures { result + self.now.view.next ≡ table.now.shape.readers + 1 }
+    {
+        table.shape().readers - self.seated
+    }
+
+    /// The writer of a table on which nothing was done, where so many readers have a seat.
     pub(crate) fn begin(
         alloc: Global,
         seat: Seat<u8, View>,
         shape: TableShape,
+        seated: usize,
     ) -> Result<Writer, AllocError>
-        requires writer { (n : ℕ) × (seat.me ≡ (writer_after n shape, [])) }
+        requires writer { seat.me ≡ (writer_after seated shape, []) }
+        requires within { seated ≤ shape.readers }
         requires sized { IsSized shape }
         ensures table { IfOk result (λ w. w.table.id ≡ seat.table_id) }
         ensures view { IfOk result (λ w. w.view ≡ seat.me.0) }
@@ -455,6 +490,7 @@ impl Writer {
             free,
             unlinked,
             seen,
+            seated,
         })
     }
 }

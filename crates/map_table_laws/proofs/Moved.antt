@@ -8,7 +8,7 @@ use Rattle.map_table_laws.specs.declared.moves.Move.TheVariants.{Open, Close, Le
 use Rattle.map_table_laws.specs.Layout.{Layout, Names, bucket_of}
 use Rattle.map_table_laws.specs.History.{moves_of, inside, section_word, word_in, IsMoving, IsSettled, since_double, HavePassed, IsReader, MayDo, IsLawful}
 use Rattle.map_table_laws.specs.Lookups.{OnlySearches, AnswersLookup}
-use Rattle.map_table_laws.specs.Found.{Links, IsLinkedAs, Throughout, StaysInside, StaysFound, BearsKey, IsLinkedUnder}
+use Rattle.map_table_laws.specs.Found.{Links, IsLinkedAs, Throughout, StaysInside, StaysFound, BearsKey, IsLinkedUnder, IsLinkedSomewhere}
 use Rattle.map_table_laws.specs.Moved.{OnlyMoves, Keeps, OnlyKeeps}
 use Rattle.map_table_laws.specs.Once.{AreLinkedOnce, PutsNoKeyTwice, PutNoKeyTwice}
 use Rattle.map_table_laws.specs.Scanned.{FoundOther, FoundGone}
@@ -521,6 +521,41 @@ module _ (k : Layout) (table : ℕ) (key : List ℕ) (element : ℕ) where
   stays_linked (e ∷ late) early lawful only l =
       let t = stays_linked late early lawful.1 (only_moves_rest e late (moves_of 0 early) only) l in
       (linked_on e late early lawful only (at_last (IsLinkedAs k table key element) late early t), t)
+
+-- a key that is only replaced and moved stays linked
+module _ (k : Layout) (table : ℕ) (key : List ℕ) where
+  kept_on : (e : ℕ × Move) (es : History) → IsLawful k (e ∷ es) → Keeps k table key es e.1 → IsLinkedSomewhere k table key es →
+      IsLinkedSomewhere k table key (e ∷ es)
+  kept_on e es lawful keeps l =
+      let element : ℕ = l.1.0 in
+      let under : IsLinkedAs k table key element (e ∷ es) → IsLinkedSomewhere k table key (e ∷ es) = λ a. (a.0, (element, a.1)) in
+      let still : word_in l.0 (moves_of 0 (e ∷ es)) ≡ word_in l.0 (moves_of 0 es) → IsLinkedSomewhere k table key (e ∷ es) =
+      λ same. under (links_still k table key element e es l.0 lawful.0 same l.1.1) in
+      ⊎_elim
+      (λ (q : Quiet e es). still (q.same l.0))
+      (λ (c : Changed k e es). ⊎_elim
+      (λ (p : Putting k e es c.way c.word). ⊎_elim
+      (λ (not : IsLinkedUnder k table key c.way es → ⊥).
+      still (c.there l.0 (λ is. not (subst (λ z. IsLinkedUnder k table key z es) (sym is) l.1))))
+      (λ (t : BearsKey k table key es c.word ⊎ ((from : ℕ) × (to : ℕ) × IsMoving from to (moves_of 0 es))). ⊎_elim
+      (λ (b : BearsKey k table key es c.word). (
+        c.way,
+        (b.0, record { names = subst (λ z. Names z b.0) (sym c.here) b.1; table_is = b.2; key_is = c.keys b.0 ∙ b.3 }),
+      ))
+      (λ (m : (from : ℕ) × (to : ℕ) × IsMoving from to (moves_of 0 es)).
+      under (end_leaves k table key element e es lawful c p m.0 m.1 m.2 (l.0, l.1.1))) t)
+      (subst (Keeps k table key es) p.is keeps))
+      (λ (d : Doubling k e es c.way c.word). still (c.there l.0 (λ is. nothing_named element (subst (λ z. Names z element)
+      (ap (λ z. word_in z (moves_of 0 es)) (sym is) ∙ d.may.empty) l.1.1.names))))
+      c.how)
+      (step k e es lawful.0)
+
+  pub kept_linked : (late early : History) → IsLawful k (late ++ early) → IsLinkedSomewhere k table key early → OnlyKeeps k table key late early →
+      Throughout (IsLinkedSomewhere k table key) late early
+  kept_linked [] early lawful l o = l
+  kept_linked (e ∷ late) early lawful l o =
+      let t = kept_linked late early lawful.1 l o.1 in
+      (kept_on e (late ++ early) lawful o.0 (at_last (IsLinkedSomewhere k table key) late early t), t)
 
 -- an element that is linked was so before
 module _ (k : Layout) (table : ℕ) (key : List ℕ) (element : ℕ) where

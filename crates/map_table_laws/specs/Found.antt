@@ -16,6 +16,10 @@ pub record Links (k : Layout) (table : ℕ) (key : List ℕ) (way element : ℕ)
 abbrev pub IsLinkedUnder : Layout → ℕ → List ℕ → ℕ → List (ℕ × Move) → Type 0
 IsLinkedUnder k table key way es = (element : ℕ) × Links k table key way element es
 
+-- the key is linked, in whatever way
+abbrev pub IsLinkedSomewhere : Layout → ℕ → List ℕ → List (ℕ × Move) → Type 0
+IsLinkedSomewhere k table key es = (way : ℕ) × IsLinkedUnder k table key way es
+
 -- the element is linked under the key, in whatever way
 abbrev pub IsLinkedAs : Layout → ℕ → List ℕ → ℕ → List (ℕ × Move) → Type 0
 IsLinkedAs k table key element es = (way : ℕ) × Links k table key way element es

@@ -5,7 +5,7 @@ ghost use Rattle.map_table_laws.specs.declared.moves.Move.TheVariants.{Load, Sca
 ghost use Rattle.map_table_laws.specs.Layout.{Layout, IsCandidate, IsApart, Names, tag_in};
 ghost use Rattle.map_table_laws.specs.History.{moves_of, with_writer, inside, opened, most_sections, section_word, word_in, word_at, key_of, generation, IsLinked, IsSettled, AreOneOrMoved, Holds, FoundSince, Cleared, IsSpare, IsReader, IsLawful};
 ghost use Rattle.map_table_laws.specs.Lookups.{OnlySearches, AnswersLookup, FoundIn, HadWord};
-ghost use Rattle.map_table_laws.specs.Found.{IsLinkedUnder, IsLinkedAs, Sometime, Throughout, StaysFound, StaysInside, StaysUnlinked, OnlyReplaces};
+ghost use Rattle.map_table_laws.specs.Found.{IsLinkedUnder, IsLinkedSomewhere, IsLinkedAs, Sometime, Throughout, StaysFound, StaysInside, StaysUnlinked, OnlyReplaces};
 ghost use Rattle.map_table_laws.specs.Moved.{OnlyMoves, OnlyKeeps};
 ghost use Rattle.map_table_laws.specs.Once.{AreLinkedOnce, PutNoKeyTwice};
 ghost use Rattle.map_table_laws.specs.Scanned.{OnlyScans, AllOutside};
@@ -193,6 +193,14 @@ pub fn moved_elements_keep_a_way()
         (table : ℕ) (key : List ℕ) (who element : ℕ) → IsReader k who → inside (moves_of who early) ≡ 1 →
         StaysInside (moves_of who late) → Throughout (IsLinkedAs k table key element) late early →
         (way : ℕ) × StaysFound k table key way late early }
+{}
+
+/// In every lawful history a key that is linked stays linked, in one way or another, while the writer only replaces and moves
+/// what is linked under the key.
+pub fn kept_keys_stay_linked()
+    ensures { (k : Layout) (late early : List (ℕ × Move)) → IsLawful k (late ++ early) →
+        (table : ℕ) (key : List ℕ) → IsLinkedSomewhere k table key early → OnlyKeeps k table key late early →
+        Throughout (IsLinkedSomewhere k table key) late early }
 {}
 
 /// In every lawful history no lookup answers null to a key that was linked before its first step, while the writer only

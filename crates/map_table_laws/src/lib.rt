@@ -19,13 +19,13 @@ pub use excluded::{
 };
 pub use laws::{
     added_amounts_stay, elements_stand_in_one_way, held_elements_stay, held_values_stay,
-    hits_are_held, hits_were_linked, kept_keys_are_found, keys_stay_once, keys_that_stay_are_found,
-    loads_find_what_was_stored, moved_elements_keep_a_way, moved_elements_stay_linked,
-    moves_link_no_key_twice, moves_link_nothing_new, null_refutes_every_element,
-    null_refutes_every_way, one_scan_frees_all, own_words_stay, replaced_keys_stay,
-    section_words_tell_sections, spare_elements_are_unheld, two_looks_clear_who_moved,
-    uncleared_readers_have_one_number, uncleared_readers_stay_in_one_section,
-    walks_of_readers_meet_keys_that_stay, walks_of_readers_meet_linked_keys,
-    ways_name_keys_of_their_bucket,
+    hits_are_held, hits_were_linked, kept_keys_are_found, kept_keys_stay_linked, keys_stay_once,
+    keys_that_stay_are_found, loads_find_what_was_stored, moved_elements_keep_a_way,
+    moved_elements_stay_linked, moves_link_no_key_twice, moves_link_nothing_new,
+    null_refutes_every_element, null_refutes_every_way, one_scan_frees_all, own_words_stay,
+    replaced_keys_stay, section_words_tell_sections, spare_elements_are_unheld,
+    two_looks_clear_who_moved, uncleared_readers_have_one_number,
+    uncleared_readers_stay_in_one_section, walks_of_readers_meet_keys_that_stay,
+    walks_of_readers_meet_linked_keys, ways_name_keys_of_their_bucket,
 };
 pub use moves::Move;

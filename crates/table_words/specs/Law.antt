@@ -81,9 +81,9 @@ writer_after n k = record { shape = k; me = 0; next = n + 1; mine = []; seen = [
 abbrev pub dealt : View → View
 dealt v = record v { next = v.next + 1 }
 
--- the reader that the writer makes next
+-- the reader that the writer makes next: it has done nothing, and saw what the writer saw
 abbrev pub reader_of : View → View
-reader_of v = record { shape = v.shape; me = v.next; next = 0; mine = []; seen = [] }
+reader_of v = record { shape = v.shape; me = v.next; next = 0; mine = []; seen = v.seen }
 
 -- the holder after its next step, with what others did between
 abbrev pub did : View → Move → List (ℕ × Move) → View
@@ -150,6 +150,8 @@ abbrev pub doubles : Step ℕ → Sat → ℕ → Sat → Type 0
 doubles st m n m' =
     ((from : ℕ) × Gains m.0 (Double from (st.word - ways_from m.0.shape) st.first) m'.0) × (m'.1 ≡ m.1)
 
--- the writer found the section word of a reader
+-- the writer found the section word of a reader, and one that it has not made yet has done nothing
 abbrev pub scans : Step ℕ → Sat → ℕ → Sat → Type 0
-scans st m n m' = Gains m.0 (Scan (st.word / section_stride + 1) n) m'.0 × (m'.1 ≡ m.1)
+scans st m n m' =
+    let reader = st.word / section_stride + 1 in
+    Gains m.0 (Scan reader n) m'.0 × (m'.1 ≡ m.1) × (m.0.next ≤ reader → moves_of reader m'.0.seen ≡ [])

@@ -9,4 +9,4 @@ pub returns : goal.returns
 returns c =
     let seen = c.self.inside.writer.view.seen in
     subst (λ (t : OpenTable). AreLinkedOnce (layout_of t.table.shape) 0 t.writer.view.seen) c.self.view_is
-    (subst (λ (t : TableView). AreLinkedOnce (layout_of t.shape) 0 seen) c.self.invariant.0 c.self.invariant.2.once)
+    (subst (λ (t : TableView). AreLinkedOnce (layout_of t.shape) 0 seen) c.self.invariant.0 c.self.invariant.1.once)

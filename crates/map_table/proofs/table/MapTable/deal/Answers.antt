@@ -1,6 +1,4 @@
-use Rattle.std.proofs.Common.{ℕ, ◌<◌, sym, ap, ◌∙◌, subst, arith}
-use Rattle.atomic_table.specs.Table.{Me}
-use Rattle.table_words.specs.declared.view.View.{View}
+use Rattle.std.proofs.Common.{◌<◌, sym, ap, ◌∙◌, subst, arith}
 use Rattle.map_table.proofs.Keeps.{deals_ok}
 use Rattle.map_table.specs.Held.{TableView}
 use Rattle.map_table.proofs.table.MapTable.deal.Goals as goal
@@ -11,4 +9,4 @@ split_seat-seat-requires c =
     let id = ap (λ (q : TableView). q.id) c.self.view_is in
     let words = t.1 in
     let low : c.args.reader < c.self.inside.shape.readers = subst (λ (q : TableView). c.args.reader < q.shape.readers) (sym c.self.view_is) c.requires.within in
-    (c.requires.table ∙ sym id, omega arith, deals_ok _ _ _ (ap (λ (m : Me ℕ View). m.0.me) c.requires.writer))
+    (c.requires.table.0 ∙ sym id, omega arith, deals_ok _ _ _ c.requires.writer.0)

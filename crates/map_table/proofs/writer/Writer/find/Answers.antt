@@ -1,6 +1,7 @@
 use Rattle.std.proofs.Common.{◌∙◌, refl}
 use Rattle.map_table.specs.Hashes.{layout_of}
 use Rattle.map_table.proofs.Filling.{went_shape}
+use Rattle.map_table.proofs.Going.{went_seated}
 use Rattle.map_table.proofs.Keeping.{searches_quiet, quiet_writer, quiet_settled}
 use Rattle.map_table.proofs.Linking.{fits_still}
 use Rattle.map_table.proofs.Lost.{quiet_none_lost}
@@ -23,4 +24,5 @@ invariant_of-self c =
       sightings_searched (layout_of k) 0 v w s.0 c.self.inside.unlinked.items c.self.inside.seen.items s.1 s.2 i.4,
       quiet_none_lost v w s.0 (searches_quiet (layout_of k) 0 s.0 s.1) s.2 c.self.inside.free.items c.self.inside.unlinked.items i.5,
       quiet_settled v w s.0 (searches_quiet (layout_of k) 0 s.0 s.1) s.2 i.6,
+      went_seated v w _ _ s.2 i.7,
     )

@@ -11,7 +11,7 @@ use Rattle.map_table.specs.Moving.{MakesOneWay, NoneCanMove}
 use Rattle.map_table.specs.Writing.{WriterView, as_holder, AreFull}
 use Rattle.map_table.proofs.Doubled.{candidate_both, could_move, words_full, searches_only_move, went_moves}
 use Rattle.map_table.proofs.Filling.{went_shape}
-use Rattle.map_table.proofs.Going.{goes_then}
+use Rattle.map_table.proofs.Going.{goes_then, went_seated}
 use Rattle.map_table.proofs.Keeping.{searches_quiet, quiet_writer, quiet_settled, same_word}
 use Rattle.map_table.proofs.Linking.{fits_still, of_both, way_low, works}
 use Rattle.map_table.proofs.Lost.{quiet_none_lost}
@@ -53,6 +53,7 @@ invariant_of-self c =
       sightings_searched (layout_of k) 0 v w s.0 c.self.inside.unlinked.items c.self.inside.seen.items s.1 s.2 i.4,
       quiet_none_lost v w s.0 quiet s.2 c.self.inside.free.items c.self.inside.unlinked.items i.5,
       quiet_settled v w s.0 quiet s.2 i.6,
+      went_seated v w _ _ s.2 i.7,
     )
 
 pub invariant_of-self-2 : goal.invariant_of-self-2
@@ -71,6 +72,7 @@ invariant_of-self-2 c =
       sightings_searched (layout_of k) 0 v w s.0 c.self.inside.unlinked.items c.self.inside.seen.items s.1 s.2 i.4,
       quiet_none_lost v w s.0 quiet s.2 c.self.inside.free.items c.self.inside.unlinked.items i.5,
       quiet_settled v w s.0 quiet s.2 i.6,
+      went_seated v w _ _ s.2 i.7,
     )
 
 pub returns-in_default-find_move-clause-steps : goal.returns-in_default-find_move-clause-steps

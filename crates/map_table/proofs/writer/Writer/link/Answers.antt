@@ -10,7 +10,7 @@ use Rattle.map_table.specs.Hashes.{layout_of, first_bucket, second_bucket, tag_o
 use Rattle.map_table.specs.Law.{ways_of}
 use Rattle.map_table.specs.Held.{TableView}
 use Rattle.map_table.specs.Writing.{WriterView, as_holder, IsWriter, Fills, AreFull}
-use Rattle.map_table.proofs.Going.{went_known, went_then}
+use Rattle.map_table.proofs.Going.{went_known, went_seated, went_then}
 use Rattle.map_table.proofs.Filling.{went_shape, went_me}
 use Rattle.map_table.proofs.Keeping.{quiet_append, fills_quiet, quiet_settled, settles_none, put_settled}
 use Rattle.map_table.proofs.Lost.{quiet_none_lost, linked_none_lost}
@@ -102,6 +102,7 @@ invariant_of-self-2 c =
       linked_none_lost u w c.in-Some.way c.way_word-word.result p.step c.in-Some-pop.element _ c.pop.new.self.items unlinked empty h.items
           c.way_word-word.ensures.names (quiet_none_lost v u (f.steps.1 ++ f.steps.0) quiet f.steps.4 _ unlinked i.5),
       put_settled u w c.in-Some.way c.way_word-word.result p.step,
+      went_seated u w _ _ p.step (went_seated v u _ _ f.steps.4 i.7),
     )
 
 pub returns-clause-steps : goal.returns-clause-steps

@@ -9,6 +9,7 @@ use Rattle.map_table.specs.Moving.{HasGone, HaveGone, IsSomeInside, StandStill}
 use Rattle.map_table.specs.Sightings.{AreSightings}
 use Rattle.map_table.specs.Writing.{WriterView, as_holder}
 use Rattle.map_table.proofs.Doubled.{has_gone, move_ended, move_facts, move_went, move_settles, moved_inside, moves_only, still_again, writer_may}
+use Rattle.map_table.proofs.Going.{went_seated}
 use Rattle.map_table.proofs.Keeping.{only_scans_quiet}
 use Rattle.map_table.proofs.Linking.{fits_still, works}
 use Rattle.map_table.proofs.Seen.{sightings_doubled}
@@ -59,6 +60,7 @@ invariant_of-self c =
       e.1,
       e.2,
       e.3,
+      went_seated x w _ _ p.step (went_seated u x _ _ s.2 (went_seated v u _ _ d.step i.7)),
     )
 
 pub returns-then-not-all_passed-clause-steps : goal.returns-then-not-all_passed-clause-steps
@@ -102,6 +104,7 @@ invariant_of-self-2 c =
       e.1,
       e.2,
       e.3,
+      went_seated x w _ _ p.step (went_seated u x _ _ s.2 (went_seated v u _ _ d.step i.7)),
     )
 
 pub returns-clause-steps : goal.returns-clause-steps

@@ -8,6 +8,7 @@ use Rattle.map_table.specs.Sightings.{AreSightings, AreCleared, IsHeldUp, Least}
 use Rattle.map_table.specs.Writing.{WriterView, as_holder, IsWriter, IsNoneLost}
 use Rattle.map_table.proofs.Filling.{went_shape}
 use Rattle.map_table.proofs.Freeing.{all_cleared, all_held, freed_writer}
+use Rattle.map_table.proofs.Going.{went_seated}
 use Rattle.map_table.proofs.Keeping.{scans_quiet, quiet_writer, quiet_settled}
 use Rattle.map_table.proofs.Linking.{fits_still, works}
 use Rattle.map_table.proofs.Lost.{quiet_none_lost, freed_none_lost}
@@ -46,6 +47,7 @@ invariant_of-self c =
       subst (λ (z : List ℕ × List ℕ). IsNoneLost w z.0 z.1) (λ j. (sym m.to j, sym m.from j))
           (freed_none_lost w count free unlinked (quiet_none_lost v w s.0 quiet s.1 free unlinked i.5)),
       quiet_settled v w s.0 quiet s.1 i.6,
+      went_seated v w _ _ s.1 i.7,
     )
 
 pub returns-clause-freed : goal.returns-clause-freed

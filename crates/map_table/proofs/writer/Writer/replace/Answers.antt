@@ -9,7 +9,7 @@ use Rattle.map_table.specs.Hashes.{layout_of, tag_of}
 use Rattle.map_table.specs.Law.{ways_of}
 use Rattle.map_table.specs.Held.{TableView}
 use Rattle.map_table.specs.Writing.{StaysIn, WriterView, as_holder, IsWriter, IsNoneLost, Fills}
-use Rattle.map_table.proofs.Going.{went_known, went_then}
+use Rattle.map_table.proofs.Going.{went_known, went_seated, went_then}
 use Rattle.map_table.proofs.Filling.{went_shape, went_me}
 use Rattle.map_table.proofs.Keeping.{quiet_append, fills_quiet, quiet_settled, settles_none, put_settled}
 use Rattle.map_table.specs.Sightings.{AreSightings}
@@ -158,6 +158,7 @@ invariant_of-self-2 c =
           (replaced_none_lost u w c.args.way c.way_word-word.result p.step c.in-Some.element gone _ c.pop.new.self.items unlinked now h.items
           c.way_word-word.ensures.names (quiet_none_lost v u (f.steps.1 ++ f.steps.0) quiet f.steps.4 _ unlinked i.5)),
       put_settled u w c.args.way c.way_word-word.result p.step,
+      went_seated u w _ _ p.step (went_seated v u _ _ f.steps.4 i.7),
     )
 
 pub returns-clause-unlinked : goal.returns-clause-unlinked

@@ -1,6 +1,7 @@
 use Rattle.std.proofs.Common.{◌+◌, ◌∙◌, refl}
 use Rattle.map_table.specs.Values.{copies_of}
 use Rattle.map_table.proofs.Filling.{went_shape}
+use Rattle.map_table.proofs.Going.{went_seated}
 use Rattle.map_table.proofs.Keeping.{adds_quiet, quiet_writer, quiet_settled}
 use Rattle.map_table.proofs.Linking.{fits_still}
 use Rattle.map_table.proofs.Lost.{quiet_none_lost}
@@ -25,4 +26,5 @@ invariant_of-self c =
           c.self.inside.seen.items s.1 s.2 i.4,
       quiet_none_lost v w s.0 quiet s.2 c.self.inside.free.items c.self.inside.unlinked.items i.5,
       quiet_settled v w s.0 quiet s.2 i.6,
+      went_seated v w _ _ s.2 i.7,
     )

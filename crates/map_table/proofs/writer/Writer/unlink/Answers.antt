@@ -10,6 +10,7 @@ use Rattle.map_table.specs.Sightings.{AreSightings}
 use Rattle.map_table.proofs.Lost.{emptied_none_lost}
 use Rattle.map_table.proofs.Seen.{sightings_unlinked}
 use Rattle.map_table.proofs.Filling.{went_shape}
+use Rattle.map_table.proofs.Going.{went_seated}
 use Rattle.map_table.proofs.Keeping.{settles_none, put_settled}
 use Rattle.map_table.proofs.Linking.{fits_still, works}
 use Rattle.map_table.proofs.Unlinking.{low_half, read_way, less_most, space, emptied_writer}
@@ -65,6 +66,7 @@ invariant_of-self c =
           (emptied_none_lost c.self.inside.seat.me.0 c.put_word.new.seat.me.0 c.args.way 0 p.step c.element_in-element.result
           c.self.inside.free.items c.self.inside.unlinked.items names i.5),
       put_settled c.self.inside.seat.me.0 c.put_word.new.seat.me.0 c.args.way 0 p.step,
+      went_seated c.self.inside.seat.me.0 c.put_word.new.seat.me.0 _ _ p.step i.7,
     )
 
 pub returns-clause-unlinked : goal.returns-clause-unlinked

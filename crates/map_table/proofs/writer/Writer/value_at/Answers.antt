@@ -1,5 +1,6 @@
 use Rattle.std.proofs.Common.{◌∙◌, refl}
 use Rattle.map_table.proofs.Filling.{went_shape}
+use Rattle.map_table.proofs.Going.{went_seated}
 use Rattle.map_table.proofs.Keeping.{loads_quiet, quiet_writer, quiet_settled}
 use Rattle.map_table.proofs.Linking.{fits_still}
 use Rattle.map_table.proofs.Lost.{quiet_none_lost}
@@ -21,4 +22,5 @@ invariant_of-self c =
       sightings_loaded v w s.0 c.self.inside.unlinked.items c.self.inside.seen.items s.1 s.3 i.4,
       quiet_none_lost v w s.0 quiet s.3 c.self.inside.free.items c.self.inside.unlinked.items i.5,
       quiet_settled v w s.0 quiet s.3 i.6,
+      went_seated v w _ _ s.3 i.7,
     )

@@ -1,0 +1,25 @@
+-- The writer once it has made one more reader.
+use Rattle.std.proofs.Common.{◌+◌, ◌≤◌, ℕ, List, ap}
+use Rattle.table_words.specs.declared.notes.Sighting.{Sighting}
+use Rattle.table_words.specs.declared.view.View.{View}
+use Rattle.map_table.specs.Law.{dealt}
+use Rattle.map_table.specs.Sightings.{AreSightings}
+use Rattle.map_table.specs.Writing.{HasSeated, IsWriter}
+
+pub seated_writer : (v : View) (ways free unlinked : List ℕ) → IsWriter v ways free unlinked → IsWriter (dealt v) ways free unlinked
+seated_writer v ways free unlinked i = record {
+  me = i.me;
+  known = i.known;
+  sized = i.sized;
+  count = i.count;
+  are_ways = i.are_ways;
+  are_free = i.are_free;
+  are_unlinked = i.are_unlinked;
+  once = i.once;
+}
+
+pub seated_sightings : (v : View) (unlinked : List ℕ) (seen : List Sighting) → AreSightings v unlinked seen → AreSightings (dealt v) unlinked seen
+seated_sightings v unlinked seen a = record { room = a.room; each = a.each }
+
+pub one_more : (v : View) (count : ℕ) → HasSeated v count → count + 1 ≤ v.shape.readers → HasSeated (dealt v) (count + 1)
+one_more v count h within = record { next = ap (λ n. n + 1) h.next; within = within }
