@@ -1,13 +1,12 @@
 //! What is asked of a world outside of events.
 ghost use Rattle.std.specs.Prelude.{◌≡◌, ◌≢◌, ◌↔◌, ℕ, List, pos, neg_ℤ, Some, None, IsSome, IfSome, option_copied, option_map, slice_get};
-ghost use Rattle.host_values.specs.Values.{world_in};
+ghost use Rattle.host_handle.specs.Values.{world_in};
 ghost use Rattle.world.specs.Asking.{HasNone, IsFound};
 ghost use Rattle.bpfrt_c.specs.Asked.{AreCountsOf, bound_in_c};
 
 use crate::number::{EBADF, EINVAL, ENOENT, ENXIO};
 use bpf_model::{KEY_BYTES, KeyBytes, MapId, array_of};
-use host_handle::Host;
-use host_values::Held;
+use host_handle::{Held, Host};
 use std::alloc::Global;
 use world::World;
 

@@ -4,12 +4,11 @@ ghost use Rattle.bpfrt_c.specs.Copying.{CopiesIn, StopsIn};
 ghost use Rattle.bpfrt_c.specs.Tables.{set_error};
 ghost use Rattle.host_tables.specs.Copies.{AreAlike};
 ghost use Rattle.host_tables.specs.declared.fault.SetFault.{SetFault as Fault_};
-ghost use Rattle.host_values.specs.Values.{table_in};
+ghost use Rattle.host_handle.specs.Values.{table_in};
 
 use crate::number::{EBADF, EINVAL};
 use crate::tables::number_of_fault;
-use host_handle::Host;
-use host_values::Held;
+use host_handle::{Held, Host};
 use std::alloc::Global;
 
 /// Copies the keys of the table that is held into another one, if both are tables.

@@ -1,13 +1,12 @@
 //! How a table's keys are asked for, one after another.
 ghost use Rattle.std.specs.Prelude.{◌≡◌, ◌≢◌, ◌⊎◌, List, pos, neg_ℤ, Some, None, IfSome, length, true, false};
 ghost use Rattle.host_tables.specs.Walks.{Meets, MeetsNone};
-ghost use Rattle.host_values.specs.Values.{table_in};
+ghost use Rattle.host_handle.specs.Values.{table_in};
 ghost use Rattle.bpfrt_c.specs.Tables.{CanMeet, WritesIn, key_in_c};
 
 use crate::number::{EBADF, EINVAL, ENOENT};
-use host_handle::Host;
+use host_handle::{Held, Host};
 use host_tables::HostTable;
-use host_values::Held;
 use std::alloc::Global;
 
 /// Writes the key that comes next in a table.

@@ -6,16 +6,15 @@ ghost use Rattle.classic_program.specs.declared.data.Data.TheVariants.{Packet, S
 ghost use Rattle.classic_program.specs.declared.sock_filter.SockFilter.{SockFilter};
 ghost use Rattle.host_programs.specs.Opened.{OpenProgram, IsOfBytes, IsOfFile, IsOfClassic};
 ghost use Rattle.host_programs.specs.Refusals.{IsArrayFault, IsFileFault, IsListingFault};
-ghost use Rattle.host_values.specs.Values.{program_in};
+ghost use Rattle.host_handle.specs.Values.{program_in};
 ghost use Rattle.bpfrt_c.specs.Refused.{IsBytesFaultInC, Tells};
 ghost use Rattle.bpfrt_c.specs.Shapes.{AreShapesInC};
 
 use crate::number::{EBADF, EBUSY, ENOMEM};
 use crate::refusal::{Refusal, tell, tell_memory};
 use crate::shape::{Shape, ShapesFault, shapes_of};
-use host_handle::Host;
+use host_handle::{Held, Host};
 use host_programs::{Data, HostProgram, OpenFault, Opened};
-use host_values::Held;
 use std::alloc::Global;
 use std::sync::Arc;
 

@@ -3,13 +3,12 @@ ghost use Rattle.std.specs.Prelude.{◌≡◌, ◌≢◌, pos, neg_ℤ, Some, No
 ghost use Rattle.classic_program.specs.Context.{context_bytes};
 ghost use Rattle.classic_program.specs.declared.data.Data.TheVariants.{Packet};
 ghost use Rattle.host_tables.specs.Reading.{CanServe};
-ghost use Rattle.host_values.specs.Values.{program_in, reader_in, table_in};
+ghost use Rattle.host_handle.specs.Values.{program_in, reader_in, table_in};
 ghost use Rattle.bpfrt_c.specs.Tables.{RunsIn, RunsOnPacketIn, Serves};
 
 use crate::number::{EBADF, EINVAL, EOPNOTSUPP};
-use host_handle::Host;
+use host_handle::{Held, Host};
 use host_tables::TableRunFault;
-use host_values::Held;
 use std::alloc::Global;
 
 /// The number of why a program is not run.

@@ -2,13 +2,12 @@
 ghost use Rattle.std.specs.Prelude.{◌≡◌, ◌≢◌, pos, neg_ℤ, Some, None, Err, IfSome, IsOk, IfOk, IfErr, OnOk, OnErr, length};
 ghost use Rattle.host_programs.specs.Packets.{AreInside, seen};
 ghost use Rattle.host_programs.specs.Runs.{Gives, GivesEach, GivesEachPacket, GivesOnPacket};
-ghost use Rattle.host_values.specs.Values.{program_in};
+ghost use Rattle.host_handle.specs.Values.{program_in};
 ghost use Rattle.bpfrt_c.specs.Programs.{CanRunOn, CanRunOnAll, CanRunOnEach, CanRunOnPackets};
 
 use crate::number::{EBADF, EINVAL, EOPNOTSUPP};
-use host_handle::Host;
+use host_handle::{Held, Host};
 use host_programs::{PacketAt, RunFault};
-use host_values::Held;
 use std::alloc::Global;
 
 /// The number of why a program is not run.

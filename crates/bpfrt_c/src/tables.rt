@@ -2,15 +2,14 @@
 ghost use Rattle.std.specs.Prelude.{◌≡◌, ◌≢◌, ◌<◌, ◌^◌, ◌⊎◌, ◌↔◌, ℕ, List, pos, neg_ℤ, Some, None, IsSome, IfSome, IfOk, IfErr, OnOk, OnErr, length};
 ghost use Rattle.host_tables.specs.Tables.{IsNewTable, Reads, Reclaims, Removes, Seeks};
 ghost use Rattle.host_tables.specs.declared.fault.SetFault.{SetFault as Fault_};
-ghost use Rattle.host_values.specs.Values.{reader_in, table_in};
+ghost use Rattle.host_handle.specs.Values.{reader_in, table_in};
 ghost use Rattle.map_table.specs.Held.{IsSized};
 ghost use Rattle.table_words.specs.declared.view.TableShape.{TableShape as ShapeOf};
 ghost use Rattle.bpfrt_c.specs.Tables.{CanSet, IsNotSetAs, SeatsIn, SetsAs, WritesIn, how_in_c, set_error, table_shape_in_c};
 
 use crate::number::{E2BIG, EAGAIN, EBADF, EBUSY, EEXIST, EINVAL, ENOENT, ENOMEM, ENOSPC};
-use host_handle::Host;
+use host_handle::{Held, Host};
 use host_tables::{HostTable, How, Secret, SetFault, TableFault, Values};
-use host_values::Held;
 use std::alloc::Global;
 
 /// In C `struct bpfrt_table_shape`. Values are those of all readers (0), or of each reader its own (1).

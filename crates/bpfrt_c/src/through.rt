@@ -4,7 +4,7 @@ ghost use Rattle.bpf_model.specs.declared.event.Answer.TheVariants as answers;
 ghost use Rattle.bpf_model.specs.declared.event.Event.TheVariants as events;
 ghost use Rattle.bpf_model.specs.declared.event.EventRefusal.{EventRefusal as Refusal_};
 ghost use Rattle.bpf_model.specs.declared.limits.TheConstants.{CTX_BYTES};
-ghost use Rattle.host_values.specs.Values.{world_in};
+ghost use Rattle.host_handle.specs.Values.{world_in};
 ghost use Rattle.world.specs.Through.{RunsThrough};
 ghost use Rattle.world_laws.specs.Reacting.{full_reaction};
 ghost use Rattle.bpfrt_c.specs.Worlds.{IsAnswer, Reacts, RunsThroughIn, refusal_error};
@@ -12,8 +12,7 @@ ghost use Rattle.bpfrt_c.specs.Worlds.{IsAnswer, Reacts, RunsThroughIn, refusal_
 use crate::number::{EBADF, EINVAL};
 use crate::worlds::number_of_refusal;
 use bpf_model::{CTX_BYTES, CtxBytes, ProgId, array_of};
-use host_handle::Host;
-use host_values::Held;
+use host_handle::{Held, Host};
 use std::alloc::Global;
 use world::World;
 

@@ -5,7 +5,7 @@ ghost use Rattle.bpf_model.specs.declared.event.Answer.TheVariants as answers;
 ghost use Rattle.bpf_model.specs.declared.event.EventRefusal.{EventRefusal as Refusal_};
 ghost use Rattle.bpf_model.specs.declared.event.Event.TheVariants as events;
 ghost use Rattle.bpf_model.specs.declared.limits.TheConstants.{CTX_BYTES, KEY_BYTES, VALUE_BYTES};
-ghost use Rattle.host_values.specs.Values.{world_in};
+ghost use Rattle.host_handle.specs.Values.{world_in};
 ghost use Rattle.model_laws.specs.Reactions.{read_reaction};
 ghost use Rattle.bpfrt_c.specs.Worlds.{FindsBytes, IsAnswer, IsNumberOf, Reacts, answer_number, refusal_error};
 
@@ -13,8 +13,7 @@ use crate::number::{EAGAIN, EBADF, EBUSY, EINVAL, ENOENT, ENXIO, ESRCH};
 use bpf_model::{
     Answer, CTX_BYTES, Event, EventRefusal, KEY_BYTES, MapId, ProgId, RunId, VALUE_BYTES, array_of,
 };
-use host_handle::Host;
-use host_values::Held;
+use host_handle::{Held, Host};
 use std::alloc::Global;
 use world::World;
 

@@ -5,8 +5,8 @@ use base.Fml.{Fml, ftrue}
 use denote.RawPtr.{Ptr}
 use Rattle.std.specs.Box.Ownership.{box_owns}
 use Rattle.std.specs.contracts.impls.GlobalAllocator.TheImpl.{ghosts}
-use Rattle.host_values.specs.declared.Held.{Held}
-use Rattle.host_values.specs.contracts.Held.{the_row}
+use Rattle.host_handle.specs.declared.held.Held.{Held}
+use Rattle.host_handle.specs.contracts.held.Held.{the_row}
 
 unfoldable pub holds : Ptr → Option Held → Fml
 holds p None = ftrue

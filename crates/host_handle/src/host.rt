@@ -1,9 +1,8 @@
 //! A handle that can be asked whether it has a value.
 ghost use Rattle.std.specs.Prelude.{◌≡◌, ◌↔◌, Some, None, IsSome, IsTrue, option_map};
 
-use crate::Handle;
-use host_values::Held;
-use raw_box::RawBox;
+use crate::held::Held;
+use crate::raw_box::{Handle, RawBox};
 use std::alloc::Global;
 use std::mem;
 

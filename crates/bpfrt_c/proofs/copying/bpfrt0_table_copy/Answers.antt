@@ -5,8 +5,8 @@ use Rattle.std.proofs.lemmas.Option.{IfSome_then}
 use Rattle.std.specs.Prelude.{ℤ, pos, neg_ℤ}
 use Rattle.host_tables.specs.Copies.{AreAlike}
 use Rattle.host_tables.specs.declared.fault.SetFault.{SetFault}
-use Rattle.host_values.specs.Values.{table_in}
-use Rattle.host_values.specs.declared.Held.{Held}
+use Rattle.host_handle.specs.Values.{table_in}
+use Rattle.host_handle.specs.declared.held.Held.{Held}
 use Rattle.bpfrt_c.specs.Copying.{StopsIn}
 use Rattle.bpfrt_c.specs.Tables.{set_error}
 use Rattle.bpfrt_c.proofs.copying.bpfrt0_table_copy.Goals as goal

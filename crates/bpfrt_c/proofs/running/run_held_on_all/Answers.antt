@@ -1,8 +1,8 @@
 use Rattle.std.proofs.Common.{Some, IfSome, sym, subst}
 use Rattle.host_programs.specs.Opened.{OpenProgram}
 use Rattle.host_programs.specs.Runs.{GivesEachPacket}
-use Rattle.host_values.specs.Values.{program_in}
-use Rattle.host_values.specs.declared.Held.{Held}
+use Rattle.host_handle.specs.Values.{program_in}
+use Rattle.host_handle.specs.declared.held.Held.{Held}
 use Rattle.bpfrt_c.proofs.running.run_held_on_all.Goals as goal
 
 pub returns-in-Ok-clause-gives : goal.returns-in-Ok-clause-gives

@@ -3,8 +3,8 @@ use mir.Val.{to_z, of_z}
 use Rattle.std.proofs.Common.{rules, ◌≡◌, ◌≢◌, ◌∙◌, Some, IfSome, Option, ap, sym, subst}
 use Rattle.std.specs.Prelude.{ℤ, pos, neg_ℤ}
 use Rattle.host_tables.specs.declared.fault.SetFault.{SetFault}
-use Rattle.host_values.specs.Values.{table_in}
-use Rattle.host_values.specs.declared.Held.{Held}
+use Rattle.host_handle.specs.Values.{table_in}
+use Rattle.host_handle.specs.declared.held.Held.{Held}
 use Rattle.bpfrt_c.specs.Tables.{CanSet, IsNotSetAs, WritesIn, how_in_c, set_error}
 use Rattle.bpfrt_c.proofs.tables.bpfrt0_table_update_elem.Goals as goal
 

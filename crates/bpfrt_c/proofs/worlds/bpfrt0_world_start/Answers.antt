@@ -4,7 +4,7 @@ use Rattle.std.proofs.Common.{ℕ, List, subst, ap, ◌∙◌}
 use Rattle.std.specs.Prelude.{ℤ}
 use Rattle.bpf_model.specs.declared.event.Answer.TheVariants as answers
 use Rattle.bpf_model.specs.declared.event.Event.TheVariants as events
-use Rattle.host_values.specs.Values.{world_in}
+use Rattle.host_handle.specs.Values.{world_in}
 use Rattle.bpfrt_c.specs.Worlds.{IsAnswer}
 use Rattle.bpfrt_c.proofs.Answered.{one_answer, small_error}
 use Rattle.bpfrt_c.proofs.worlds.bpfrt0_world_start.Goals as goal

@@ -1,5 +1,0 @@
-use Rattle.map_table.specs.Held.{IsReady}
-use Rattle.map_tests.proofs.keys.count_found.Given as goal
-
-abbrev pub invariant-loop-number : goal.invariant-loop-number
-invariant-loop-number l = IsReady l.table l.seat

@@ -1,5 +1,0 @@
-use Rattle.map_table.specs.Held.{IsReady}
-use Rattle.map_tests.proofs.names.count_right.Given as goal
-
-abbrev pub invariant-loop-row : goal.invariant-loop-row
-invariant-loop-row l = IsReady l.table l.seat

@@ -1,5 +1,0 @@
-use Rattle.map_table.specs.Held.{IsReady}
-use Rattle.map_tests.proofs.runs.count_runs.Given as goal
-
-abbrev pub invariant-loop-key : goal.invariant-loop-key
-invariant-loop-key l = IsReady l.table l.seat

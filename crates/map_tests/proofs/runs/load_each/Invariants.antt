@@ -1,5 +1,0 @@
-use Rattle.map_table.specs.Held.{IsReady}
-use Rattle.map_tests.proofs.runs.load_each.Given as goal
-
-abbrev pub invariant-loop-row : goal.invariant-loop-row
-invariant-loop-row g l = IsReady l.table l.seat

@@ -1,5 +1,0 @@
-use Rattle.read_table.specs.Held.{IsReady}
-use Rattle.read_tests.proofs.slots.count_found.Given as goal
-
-abbrev pub invariant-loop-number : goal.invariant-loop-number
-invariant-loop-number l = IsReady l.table l.seat

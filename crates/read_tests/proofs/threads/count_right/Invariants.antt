@@ -1,5 +1,0 @@
-use Rattle.read_table.specs.Held.{IsReady}
-use Rattle.read_tests.proofs.threads.count_right.Given as goal
-
-abbrev pub invariant-loop : goal.invariant-loop
-invariant-loop l = IsReady l.table l.seat

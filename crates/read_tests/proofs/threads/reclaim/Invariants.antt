@@ -1,6 +1,0 @@
-use Rattle.std.proofs.Common.{◌≡◌}
-use Rattle.std.specs.List.{Contains}
-use Rattle.read_tests.proofs.threads.reclaim.Given as goal
-
-abbrev pub invariant-loop : goal.invariant-loop
-invariant-loop l = (l.writer.table ≡ l.table) × Contains l.writer.unlinked l.slot

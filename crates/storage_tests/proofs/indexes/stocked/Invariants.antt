@@ -1,6 +1,0 @@
-use Rattle.storage_tests.specs.declared.indexes.TheConstants.{MANY}
-use Rattle.storage_tests.specs.Stock.{IsFilled}
-use Rattle.storage_tests.proofs.indexes.stocked.Given as goal
-
-abbrev pub invariant-loop-count : goal.invariant-loop-count
-invariant-loop-count l = IsFilled MANY l.count l.arena

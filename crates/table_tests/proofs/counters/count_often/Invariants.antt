@@ -1,0 +1,5 @@
+use Rattle.map_table.specs.Held.{IsReady}
+use Rattle.table_tests.proofs.counters.count_often.Given as goal
+
+abbrev pub invariant-loop : goal.invariant-loop
+invariant-loop l = IsReady l.table l.seat

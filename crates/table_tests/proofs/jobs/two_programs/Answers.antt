@@ -1,0 +1,15 @@
+use Rattle.std.proofs.Common.{[], ◌∷◌, zero, suc, arith}
+use Rattle.std.specs.Prelude.{All}
+use Rattle.read_table.specs.Table.{table_of}
+use Rattle.shared_runs.specs.Words.{FitsTable}
+use Rattle.verifier.specs.Checked.{Checked}
+use Rattle.table_tests.proofs.jobs.two_programs.Goals as goal
+
+all_two : (P : Checked → Type 0) (x y : Checked) → P x → P y → All P (x ∷ y ∷ [])
+all_two P x y p q zero d low = p
+all_two P x y p q (suc zero) d low = q
+all_two P x y p q (suc (suc k)) d low = let no : ⊥ = omega arith in absurd no
+
+pub returns : goal.returns
+returns c = all_two (λ v. FitsTable (table_of c.args.table.now.shape) v.shapes)
+    c.in_ok-lookup.lookup c.in_ok-byte.byte c.in_ok-lookup.ensures c.in_ok-byte.ensures

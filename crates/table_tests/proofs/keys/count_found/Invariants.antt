@@ -1,0 +1,5 @@
+use Rattle.map_table.specs.Held.{IsReady}
+use Rattle.table_tests.proofs.keys.count_found.Given as goal
+
+abbrev pub invariant-loop-number : goal.invariant-loop-number
+invariant-loop-number l = IsReady l.table l.seat
