@@ -42,7 +42,6 @@ use Rattle.model_laws.proofs.Requests.{LoadAsked, StoreAsked}
 use Rattle.plan_laws.specs.Describes.{scene_of, IsGuarded, IsHeld}
 use Rattle.plan_laws.proofs.Elements.{offset_some}
 use Rattle.world_laws.specs.Calling.{bytes_in, found_word}
-use Rattle.world_laws.specs.Local.{local_of}
 use Rattle.world_laws.specs.Moving.{operand_word, word_in}
 use Rattle.world_laws.specs.Reaching.{IsInFrame}
 use Rattle.world_laws.proofs.Bytes.{argument-bytes}
@@ -50,7 +49,8 @@ use Rattle.effects.specs.declared.region.Region.{Region}
 use Rattle.effects.specs.declared.region.Region.TheVariants as noted
 use Rattle.state_steps.specs.Steps.{IsInRegion, LooksUp, base_of}
 use Rattle.world_laws.specs.Around.{births, element_in_region, elements_around, key_length, map_of, region_of, regions, store_of, value_length}
-use Rattle.world_laws.specs.Described.{region_bases}
+use Rattle.plan_laws.specs.Verified.{IsVerified}
+use Rattle.world_laws.specs.Described.{IsShownBy, region_bases}
 use Rattle.world_laws.proofs.Asking.{lookup-asked}
 use Rattle.world_laws.proofs.Contents.{by-is, get-range, map-below, touched}
 use Rattle.world_laws.proofs.StandingOwn.{byte-stands, insn-real, operand-stands, register-word}
@@ -72,7 +72,9 @@ use Rattle.shared_runs.proofs.Learning.{Reached, also, enter-learnt, hit-learnt,
 use Rattle.shared_runs.proofs.Learning.{load-learnt, miss-learnt, nest-learnt, no-array, none, not-array, store-learnt}
 use Rattle.shared_runs.proofs.Learning.{also-cases, unnest-learnt}
 use Rattle.shared_runs.proofs.Bytes.{in-word, part-below, some-bytes}
-use Rattle.shared_runs.proofs.Steps.{Known, aligned, are-hash, asking, known, listed, listed-shapes, onward, ready, served-step, shown, so, some, waited}
+use Rattle.shared_runs.proofs.Stepped.{asks, ready, so}
+use Rattle.shared_runs.proofs.Stepped as stepped
+use Rattle.shared_runs.proofs.Steps.{aligned, are-hash, listed-shapes, onward, served-step}
 
 -- the register by which an element is accessed
 record Accesses (i : Insn) (n : ℕ) (m : State) : Type 0 where
@@ -96,15 +98,27 @@ module _ (k : Table) (keeps : IsTable k) (c : Checked) (context : List ℕ) (ms 
   abbrev run : Run
   run = x.run
 
-  module _ (i : Insn) (here : Known k c context ms v x i) where
+  abbrev some : IsVerified c.program c.shapes c.ctx_len
+  some = stepped.some c x.justified
+
+  abbrev shown : IsShownBy c.program c.shapes c.ctx_len some.plan c.shapes run v
+  shown = stepped.shown c x.justified run v x.shown
+
+  abbrev Known : Insn → Type 0
+  Known i = stepped.Known c x.justified run v x.shown i
+
+  abbrev listed : ℕ → Option MapShape
+  listed = stepped.listed c x.justified run v x.shown
+
+  module _ (i : Insn) (here : Known i) where
     abbrev Asks : Asked → Type 0
-    Asks request = asks_of i (listed k c context ms v x) run.state ≡ Some request
+    Asks request = asks_of i listed run.state ≡ Some request
 
     -- the elements around the run are all of those that it may have learnt
     load-reached : (n : ℕ) (o : ℤ) (width : ℕ) → Asks (LoadElement n o width) → Reached c.shapes n o width
     load-reached n o width e =
-        let s = replied.served c.program c.shapes c.ctx_len (some k c context ms v x).plan
-        (some k c context ms v x).closed c.shapes run (shown k c context ms v x).described i here
+        let s = replied.served c.program c.shapes c.ctx_len some.plan
+        some.closed c.shapes run shown.described i here
         (LoadElement n o width) e in
         let h = s.serves in
         let f = first-step (accessible (elements_around c.shapes (section_of run)) n) (loaded_from width o) h.0 h.1 in
@@ -117,8 +131,8 @@ module _ (k : Table) (keeps : IsTable k) (c : Checked) (context : List ℕ) (ms 
 
     store-reached : (n : ℕ) (o : ℤ) (width w : ℕ) → Asks (StoreElement n o width w) → Reached c.shapes n o width
     store-reached n o width w e =
-        let s = replied.served c.program c.shapes c.ctx_len (some k c context ms v x).plan
-        (some k c context ms v x).closed c.shapes run (shown k c context ms v x).described i here
+        let s = replied.served c.program c.shapes c.ctx_len some.plan
+        some.closed c.shapes run shown.described i here
         (StoreElement n o width w) e in
         let h = s.serves in
         let all = elements_around c.shapes (section_of run) in
@@ -229,16 +243,16 @@ module _ (k : Table) (keeps : IsTable k) (c : Checked) (context : List ℕ) (ms 
         let next = moves_run run (resumed i (Number part) run.state) in
         let below = part-below y w.low wide in
         onward k c context ms v x (k.finds (region_of n) w.place y ∷ ms) next (resumed_view i part v) x.learnt
-        (λ plan closed. (so k c context ms v x plan closed i (LoadElement n o width) here e).goes_on (Number part) part next
+        (λ plan closed. (so c x.justified run v x.shown plan closed i (LoadElement n o width) here e).goes_on (Number part) part next
         (part, below, refl) refl refl) refl refl
-        (load-learnt c.program c.shapes c.ctx_len (are-hash k c context ms v x) (some k c context ms v x).plan
-        (some k c context ms v x).closed run (shown k c context ms v x).described x.learnt x.index x.planned i
-        here n o width part below e r w.is_learnt next refl (shown k c context ms v x).described.going)
+        (load-learnt c.program c.shapes c.ctx_len (are-hash k c context ms v x) some.plan
+        some.closed run shown.described x.learnt x.index x.planned i
+        here n o width part below e r w.is_learnt next refl shown.described.going)
         (served-step k c context ms v x i (LoadElement n o width) here e
         (k.finds (region_of n) w.place y ∷ []) (Number part) next
         (w.place, w.low, y, w.offset, w.whole, w.within, w.slot, w.learnt_here, small, refl, refl) refl)
         (λ slot e. ((x.known slot e).0, keeps.find_holds (region_of n) w.place y slot ms (x.known slot e).1))
-        (keeps.find_inside (region_of n) w.place y ms ∙ (x.section ∙ ap flag_of (shown k c context ms v x).words.depth))
+        (keeps.find_inside (region_of n) w.place y ms ∙ (x.section ∙ ap flag_of shown.words.depth))
 
     store-goes : (n : ℕ) (o : ℤ) (width y word : ℕ) → width ≡ 8 → Asks (StoreElement n o width y) → Reached c.shapes n o width →
         (w : WordOf k ms x.learnt n o width) → GoesFurther k c context
@@ -248,19 +262,19 @@ module _ (k : Table) (keeps : IsTable k) (c : Checked) (context : List ℕ) (ms 
         let whole = w.whole in
         let first : 8 * w.place + w.low ≡ 8 * w.place = omega (arith, whole, wide) in
         onward k c context ms v x (k.writes (region_of n) w.place y ∷ ms) next (resumed_view i word v) x.learnt
-        (λ plan closed. (so k c context ms v x plan closed i (StoreElement n o width y) here e).goes_on Nothing word next refl tt refl) refl refl
-        (store-learnt c.program c.shapes c.ctx_len (are-hash k c context ms v x) (some k c context ms v x).plan
-        (some k c context ms v x).closed run (shown k c context ms v x).described x.learnt x.index x.planned i
-        here n o width y e r w.is_learnt next refl (shown k c context ms v x).described.going)
+        (λ plan closed. (so c x.justified run v x.shown plan closed i (StoreElement n o width y) here e).goes_on Nothing word next refl tt refl) refl refl
+        (store-learnt c.program c.shapes c.ctx_len (are-hash k c context ms v x) some.plan
+        some.closed run shown.described x.learnt x.index x.planned i
+        here n o width y e r w.is_learnt next refl shown.described.going)
         (served-step k c context ms v x i (StoreElement n o width y) here e
         (k.writes (region_of n) w.place y ∷ []) Nothing next
         (w.place, wide, w.offset ∙ ap pos first, w.within, w.slot, w.learnt_here, refl, refl) refl)
         (λ slot e. ((x.known slot e).0, keeps.write_holds (region_of n) w.place y slot ms (x.known slot e).1))
-        (keeps.write_inside (region_of n) w.place y ms ∙ (x.section ∙ ap flag_of (shown k c context ms v x).words.depth))
+        (keeps.write_inside (region_of n) w.place y ms ∙ (x.section ∙ ap flag_of shown.words.depth))
 
     -- this instruction stands at the run's place
     goes-at : (ns : List k.Move) (word : ℕ) → GoesFurther k c context ns v (resumed_view i word v) → GoesOnWith k c context ns v word
-    goes-at ns word h = (i, ap (insn_at c.program) (shown k c context ms v x).words.place ∙ here, h)
+    goes-at ns word h = (i, ap (insn_at c.program) shown.words.place ∙ here, h)
 
     -- where an address leads
     leads : (n : ℕ) (o offset : ℤ) (width : Width) (address : ℕ) →
@@ -280,9 +294,9 @@ module _ (k : Table) (keeps : IsTable k) (c : Checked) (context : List ℕ) (ms 
         }
 
     register : (q : ℕ) → q ≤ 10 → WordIs region_bases (run.state.regs q) (word_in v q)
-    register q l = register-word c.program c.shapes c.ctx_len (some k c context ms v x).plan
-        (ready k c context ms v x (some k c context ms v x).plan (some k c context ms v x).closed) c.shapes run v
-        (shown k c context ms v x) q l
+    register q l = register-word c.program c.shapes c.ctx_len some.plan
+        (ready c x.justified some.plan some.closed) c.shapes run v
+        shown q l
 
     -- a key in the frame
     record KeyAt (word len : ℕ) (key : List ℕ) : Type 0 where
@@ -304,15 +318,15 @@ module _ (k : Table) (keeps : IsTable k) (c : Checked) (context : List ℕ) (ms 
     key-from (Pointer (references.Frame (negsuc n))) word len key w e = absurd (none-some key e)
     key-from (Pointer (references.Frame (pos at))) word len key w e =
         let f = key-inside at len key (nat_le (at + len) FRAME_BYTES) refl e in
-        let s = shown k c context ms v x in
+        let s = shown in
         let long : length v.frame ≡ FRAME_BYTES = s.words.cells in
         let is : word - frame_base ≡ at = omega (arith, ints, w) in
         record {
           inside = record { least = omega (arith, ints, w); inside = omega (arith, is, f.0) };
           is = ap (λ at. take len (drop at v.frame)) is
               ∙ argument-bytes region_bases run.state.frame v.frame
-              (byte-stands c.program c.shapes c.ctx_len (some k c context ms v x).plan
-              (ready k c context ms v x (some k c context ms v x).plan (some k c context ms v x).closed) c.shapes
+              (byte-stands c.program c.shapes c.ctx_len some.plan
+              (ready c x.justified some.plan some.closed) c.shapes
               run v s) len at key (omega (arith, f.0, long)) f.1;
         }
 
@@ -331,13 +345,13 @@ module _ (k : Table) (keeps : IsTable k) (c : Checked) (context : List ℕ) (ms 
     missed map key f ns looked =
         let next = moves_run run (resumed i (Number 0) run.state) in
         onward k c context ms v x (ns ++ ms) next (resumed_view i 0 v) x.learnt
-        (λ plan closed. (so k c context ms v x plan closed i (Finding map key) here f.asked).goes_on (Number 0) 0 next (inl refl) refl refl) refl refl
-        (miss-learnt c.program c.shapes c.ctx_len (are-hash k c context ms v x) (some k c context ms v x).plan
-        (some k c context ms v x).closed run (shown k c context ms v x).described x.learnt x.index x.planned i
-        here map map key f.bound f.asked next refl (shown k c context ms v x).described.going)
+        (λ plan closed. (so c x.justified run v x.shown plan closed i (Finding map key) here f.asked).goes_on (Number 0) 0 next (inl refl) refl refl) refl refl
+        (miss-learnt c.program c.shapes c.ctx_len (are-hash k c context ms v x) some.plan
+        some.closed run shown.described x.learnt x.index x.planned i
+        here map map key f.bound f.asked next refl shown.described.going)
         (served-step k c context ms v x i (Finding map key) here f.asked ns (Number 0) next (None, looked, refl) refl)
         (λ slot e. ((x.known slot e).0, keeps.lookup_holds map key ns ms None looked slot (x.known slot e).1))
-        (keeps.lookup_inside map key ns ms None looked ∙ (x.section ∙ ap flag_of (shown k c context ms v x).words.depth))
+        (keeps.lookup_inside map key ns ms None looked ∙ (x.section ∙ ap flag_of shown.words.depth))
 
     hit : (map slot : ℕ) (key : List ℕ) → Finds map key → (ns : List k.Move) → k.LooksUp map key ns (Some slot) →
         GoesFurther k c context (ns ++ ms) v (resumed_view i (slot_base 0 slot) v)
@@ -351,18 +365,18 @@ module _ (k : Table) (keeps : IsTable k) (c : Checked) (context : List ℕ) (ms 
         let same : region_bases (element_in_region map slot) ≡ word = omega (arith, small) in
         let stands : WordIs region_bases reply word = omega (arith, ints, same) in
         onward k c context ms v x (ns ++ ms) next (resumed_view i word v) (also slot x.learnt)
-        (λ plan closed. (so k c context ms v x plan closed i (Finding map key) here f.asked).goes_on reply word next
+        (λ plan closed. (so c x.justified run v x.shown plan closed i (Finding map key) here f.asked).goes_on reply word next
         (inr (map, slot, f.bound, small, refl)) stands refl) refl refl
-        (hit-learnt c.program c.shapes c.ctx_len (are-hash k c context ms v x) (some k c context ms v x).plan
-        (some k c context ms v x).closed run (shown k c context ms v x).described x.learnt x.index x.planned i
+        (hit-learnt c.program c.shapes c.ctx_len (are-hash k c context ms v x) some.plan
+        some.closed run shown.described x.learnt x.index x.planned i
         here map map slot key f.below f.bound small f.asked f.long next refl
-        (shown k c context ms v x).described.going)
+        shown.described.going)
         (served-step k c context ms v x i (Finding map key) here f.asked ns reply next (Some slot, looked, refl) refl)
         (λ r e. elim (also-cases slot x.learnt r e) [
           | inl is ↦ (subst (λ j. j < k.elements) (sym is) in_table, subst (λ j. k.Holds j (ns ++ ms)) (sym is) (keeps.hit_holds map key ns ms slot looked))
           | inr before ↦ ((x.known r before).0, keeps.lookup_holds map key ns ms (Some slot) looked r (x.known r before).1)
         ])
-        (keeps.lookup_inside map key ns ms (Some slot) looked ∙ (x.section ∙ ap flag_of (shown k c context ms v x).words.depth))
+        (keeps.lookup_inside map key ns ms (Some slot) looked ∙ (x.section ∙ ap flag_of shown.words.depth))
 
     found : (map : ℕ) (key : List ℕ) → Finds map key → (ns : List k.Move) (o : Option ℕ) → k.LooksUp map key ns o →
         GoesFurther k c context (ns ++ ms) v (resumed_view i (found_word 0 o) v)
@@ -370,10 +384,10 @@ module _ (k : Table) (keeps : IsTable k) (c : Checked) (context : List ℕ) (ms 
     found map key f ns (Some slot) looked = hit map slot key f ns looked
 
     pub looks-up : (arguments : List Argument) → LooksUp i → Asks (CallHelper Lookup arguments) →
-        arguments_of (signature_of Lookup).arguments (listed k c context ms v x) run.state 1 ≡ Some arguments →
+        arguments_of (signature_of Lookup).arguments listed run.state 1 ≡ Some arguments →
         CanAnswer k c context ms v (requests.Call Lookup)
     looks-up arguments lookup asked e =
-        let l = lookup-asked (listed k c context ms v x) run.state arguments e in
+        let l = lookup-asked listed run.state arguments e in
         let shape : slice_get c.shapes l.map ≡ Some l.shape = ap (λ (f : ℕ → Option MapShape). f l.map) (listed-shapes k c context ms v x) ∙ l.shape_is in
         let below : l.map < length c.shapes = slice_get_within c.shapes l.map l.shape shape in
         let fits = x.fits l.map l.shape shape in
@@ -395,10 +409,10 @@ module _ (k : Table) (keeps : IsTable k) (c : Checked) (context : List ℕ) (ms 
           | inl inside ↦ inside
           | inr a ↦ absurd (no-array c.shapes (are-hash k c context ms v x) a.0 a.2)
         ] in
-        let depth : v.depth ≡ run.depth = (shown k c context ms v x).words.depth in
+        let depth : v.depth ≡ run.depth = shown.words.depth in
         record {
           inside = omega (arith, deep, depth);
-          frame = (shown k c context ms v x).words.cells;
+          frame = shown.words.cells;
           shape = l.shape;
           kept = subst (λ map. k.Keeps map l.shape) named fits.0;
           key = subst (IsInFrame (word_in v 2)) len_named at.inside;
@@ -409,7 +423,7 @@ module _ (k : Table) (keeps : IsTable k) (c : Checked) (context : List ℕ) (ms 
 
     -- sections
     depth-shown : v.depth ≡ run.depth
-    depth-shown = (shown k c context ms v x).words.depth
+    depth-shown = shown.words.depth
 
     deep-flag : (d : ℕ) → 0 < d → flag_of d ≡ 1
     deep-flag d inside = ap (λ b. if b then 0 else 1) (ne_eqb d 0 (λ e. absurd (omega (arith, inside, e))))
@@ -423,13 +437,13 @@ module _ (k : Table) (keeps : IsTable k) (c : Checked) (context : List ℕ) (ms 
     -- the outermost lock opens the seat's section
     enters-first : Asks Enter → run.depth < MAX_DEPTH → run.depth ≡ 0 → EntersBy 0
     enters-first asked room outside word =
-        let s = shown k c context ms v x in
+        let s = shown in
         let next = moves_run (locked run) (resumed i Nothing run.state) in
         let deeper : next.depth ≡ 1 = omega (arith, outside) in
         goes-at (k.begins ∷ ms) word (onward k c context ms v x (k.begins ∷ ms) next (resumed_view i word v) none
-        (λ plan closed. (so k c context ms v x plan closed i Enter here asked).goes_on Nothing word next refl tt (room, refl)) refl refl
-        (enter-learnt c.program c.shapes c.ctx_len (are-hash k c context ms v x) (some k c context ms v x).plan
-        (some k c context ms v x).closed run s.described x.learnt x.index x.planned i here outside asked next
+        (λ plan closed. (so c x.justified run v x.shown plan closed i Enter here asked).goes_on Nothing word next refl tt (room, refl)) refl refl
+        (enter-learnt c.program c.shapes c.ctx_len (are-hash k c context ms v x) some.plan
+        some.closed run s.described x.learnt x.index x.planned i here outside asked next
         (room, refl) s.described.going)
         (served-step k c context ms v x i Enter here asked (k.begins ∷ []) Nothing next (sym (ap (opening k) outside), refl) (room, refl))
         (λ slot e. absurd (false≢true e)) (keeps.begun ms ∙ sym (ap flag_of deeper)))
@@ -437,21 +451,21 @@ module _ (k : Table) (keeps : IsTable k) (c : Checked) (context : List ℕ) (ms 
     -- a further one is no move of it
     enters-again : Asks Enter → run.depth < MAX_DEPTH → 0 < run.depth → (word : ℕ) → GoesOnWith k c context ms v word
     enters-again asked room inside_one word =
-        let s = shown k c context ms v x in
+        let s = shown in
         let next = moves_run (locked run) (resumed i Nothing run.state) in
         let none_is : [] ≡ opening k run.depth = sym (ap (λ b. if b then k.begins ∷ [] else [])
         (ne_eqb run.depth 0 (λ e. absurd (omega (arith, inside_one, e))))) in
         goes-at ms word (onward k c context ms v x ms next (resumed_view i word v) x.learnt
-        (λ plan closed. (so k c context ms v x plan closed i Enter here asked).goes_on Nothing word next refl tt (room, refl)) refl refl
-        (nest-learnt c.program c.shapes c.ctx_len (are-hash k c context ms v x) (some k c context ms v x).plan
-        (some k c context ms v x).closed run s.described x.learnt x.index x.planned i here inside_one asked next
+        (λ plan closed. (so c x.justified run v x.shown plan closed i Enter here asked).goes_on Nothing word next refl tt (room, refl)) refl refl
+        (nest-learnt c.program c.shapes c.ctx_len (are-hash k c context ms v x) some.plan
+        some.closed run s.described x.learnt x.index x.planned i here inside_one asked next
         (room, refl) s.described.going)
         (served-step k c context ms v x i Enter here asked [] Nothing next (none_is, refl) (room, refl))
         x.known (x.section ∙ ap flag_of depth-shown ∙ deep-flag run.depth inside_one ∙ sym (deep-flag next.depth (omega (arith, inside_one)))))
 
     pub enters : Asks Enter → CanAnswer k c context ms v requests.Enter
     enters asked =
-        let a = so k c context ms v x (some k c context ms v x).plan (some k c context ms v x).closed i Enter here asked in
+        let a = so c x.justified run v x.shown some.plan some.closed i Enter here asked in
         let room : run.depth < MAX_DEPTH = (a.resumes Nothing).1.0 in
         record {
           goes_on = subst EntersBy (sym depth-shown) (elim (eqb_tells run.depth 0) [
@@ -465,13 +479,13 @@ module _ (k : Table) (keeps : IsTable k) (c : Checked) (context : List ℕ) (ms 
     -- the outermost unlock closes the seat's section
     leaves-last : Asks Leave → 0 < run.depth → run.depth ≡ 1 → LeavesBy 1
     leaves-last asked within inside_one word =
-        let s = shown k c context ms v x in
+        let s = shown in
         let next = moves_run (unlocked run) (resumed i Nothing run.state) in
         let ended : next.depth ≡ 0 = omega (arith, inside_one) in
         goes-at (k.ends ∷ ms) word (onward k c context ms v x (k.ends ∷ ms) next (resumed_view i word v) none
-        (λ plan closed. (so k c context ms v x plan closed i Leave here asked).goes_on Nothing word next refl tt (within, refl)) refl refl
-        (leave-learnt c.program c.shapes c.ctx_len (are-hash k c context ms v x) (some k c context ms v x).plan
-        (some k c context ms v x).closed run s.described x.learnt x.index x.planned i here inside_one asked next
+        (λ plan closed. (so c x.justified run v x.shown plan closed i Leave here asked).goes_on Nothing word next refl tt (within, refl)) refl refl
+        (leave-learnt c.program c.shapes c.ctx_len (are-hash k c context ms v x) some.plan
+        some.closed run s.described x.learnt x.index x.planned i here inside_one asked next
         (within, refl) s.described.going)
         (served-step k c context ms v x i Leave here asked (k.ends ∷ []) Nothing next (sym (ap (closing k) inside_one), refl) (within, refl))
         (λ slot e. absurd (false≢true e)) (keeps.ended ms ∙ sym (ap flag_of ended)))
@@ -479,22 +493,22 @@ module _ (k : Table) (keeps : IsTable k) (c : Checked) (context : List ℕ) (ms 
     -- an inner one is no move of it
     leaves-inner : Asks Leave → 1 < run.depth → (word : ℕ) → GoesOnWith k c context ms v word
     leaves-inner asked deep word =
-        let s = shown k c context ms v x in
+        let s = shown in
         let within : 0 < run.depth = omega (arith, deep) in
         let next = moves_run (unlocked run) (resumed i Nothing run.state) in
         let none_is : [] ≡ closing k run.depth = sym (ap (λ b. if b then k.ends ∷ [] else [])
         (ne_eqb run.depth 1 (λ e. absurd (omega (arith, deep, e))))) in
         goes-at ms word (onward k c context ms v x ms next (resumed_view i word v) x.learnt
-        (λ plan closed. (so k c context ms v x plan closed i Leave here asked).goes_on Nothing word next refl tt (within, refl)) refl refl
-        (unnest-learnt c.program c.shapes c.ctx_len (are-hash k c context ms v x) (some k c context ms v x).plan
-        (some k c context ms v x).closed run s.described x.learnt x.index x.planned i here deep asked next
+        (λ plan closed. (so c x.justified run v x.shown plan closed i Leave here asked).goes_on Nothing word next refl tt (within, refl)) refl refl
+        (unnest-learnt c.program c.shapes c.ctx_len (are-hash k c context ms v x) some.plan
+        some.closed run s.described x.learnt x.index x.planned i here deep asked next
         (within, refl) s.described.going)
         (served-step k c context ms v x i Leave here asked [] Nothing next (none_is, refl) (within, refl))
         x.known (x.section ∙ ap flag_of depth-shown ∙ deep-flag run.depth within ∙ sym (deep-flag next.depth (omega (arith, deep)))))
 
     pub leaves : Asks Leave → CanAnswer k c context ms v requests.Leave
     leaves asked =
-        let a = so k c context ms v x (some k c context ms v x).plan (some k c context ms v x).closed i Leave here asked in
+        let a = so c x.justified run v x.shown some.plan some.closed i Leave here asked in
         let within : 0 < run.depth = (a.resumes Nothing).1.0 in
         let depth : v.depth ≡ run.depth = depth-shown in
         record {
@@ -523,22 +537,22 @@ module _ (k : Table) (keeps : IsTable k) (c : Checked) (context : List ℕ) (ms 
           inr (subst (λ (j : Insn). ChangesMap j) (sym is) (inr (e ∙ ap Some d)));
     })
 
-  insn-real-at : (i : Insn) → Known k c context ms v x i → FitsInsn i
-  insn-real-at i here = insn-real c.program c.shapes c.ctx_len (some k c context ms v x).plan
-      (ready k c context ms v x (some k c context ms v x).plan (some k c context ms v x).closed) c.shapes run v
-      (shown k c context ms v x) i here
+  insn-real-at : (i : Insn) → Known i → FitsInsn i
+  insn-real-at i here = insn-real c.program c.shapes c.ctx_len some.plan
+      (ready c x.justified some.plan some.closed) c.shapes run v
+      shown i here
 
   abbrev Goal : Request → Type 0
   Goal request = CanAnswer k c context ms v request
 
-  loads-by : (i : Insn) (here : Known k c context ms v x i) (width : Width) (src : ℕ) (offset : ℤ) (b : Bool)
-      (asked : Asked) → src ≤ 10 → base_of i ≡ Some src → asks_of i (listed k c context ms v x) run.state ≡ Some asked →
+  loads-by : (i : Insn) (here : Known i) (width : Width) (src : ℕ) (offset : ℤ) (b : Bool)
+      (asked : Asked) → src ≤ 10 → base_of i ≡ Some src → asks_of i listed run.state ≡ Some asked →
       LoadAsked (byte_count width) offset (run.state.regs src) b asked →
       Goal (requests.Load (word_in v src) offset width)
   unfolding leads word-of
   loads-by i here width src offset b asked l base e a =
       let width_bytes = byte_count width in
-      let asks : asks_of i (listed k c context ms v x) run.state ≡ Some (LoadElement a.n (a.o +ℤ offset) width_bytes) = e ∙ ap Some (sym a.request_is) in
+      let asks : asks_of i listed run.state ≡ Some (LoadElement a.n (a.o +ℤ offset) width_bytes) = e ∙ ap Some (sym a.request_is) in
       let r = load-reached i here a.n (a.o +ℤ offset) width_bytes asks in
       let w = word-of i here a.n (a.o +ℤ offset) width r (record { base = src; offset = a.o; base_is = base; refers = a.base_is }) in
       record {
@@ -547,16 +561,16 @@ module _ (k : Table) (keeps : IsTable k) (c : Checked) (context : List ℕ) (ms 
             (load-goes i here a.n (a.o +ℤ offset) width y small asks r w);
       }
 
-  stores-by : (i : Insn) (here : Known k c context ms v x i) (width : Width) (dst : ℕ) (offset : ℤ) (value : Value)
+  stores-by : (i : Insn) (here : Known i) (width : Width) (dst : ℕ) (offset : ℤ) (value : Value)
       (number : ℕ) (asked : Asked) → dst ≤ 10 → base_of i ≡ Some dst → stored_width i ≡ Some (byte_count width)
-      → asks_of i (listed k c context ms v x) run.state ≡ Some asked → WordIs region_bases value number →
+      → asks_of i listed run.state ≡ Some asked → WordIs region_bases value number →
       StoreAsked (byte_count width) offset value (run.state.regs dst) asked →
       Goal (requests.Store (word_in v dst) offset width number)
   unfolding leads word-of
   stores-by i here width dst offset value number asked l base width_is e word a =
       let width_bytes = byte_count width in
       let same : number ≡ a.x = subst (λ u. WordIs region_bases u number) a.value_is word in
-      let asks : asks_of i (listed k c context ms v x) run.state ≡ Some
+      let asks : asks_of i listed run.state ≡ Some
       (StoreElement a.n (a.o +ℤ offset) width_bytes number) = e ∙ ap Some (sym a.request_is) ∙
       ap (λ n. Some (StoreElement a.n (a.o +ℤ offset) width_bytes n)) (sym same) in
       let r = store-reached i here a.n (a.o +ℤ offset) width_bytes number asks in
@@ -570,21 +584,21 @@ module _ (k : Table) (keeps : IsTable k) (c : Checked) (context : List ℕ) (ms 
             (store-goes i here a.n (a.o +ℤ offset) width_bytes number reply wide asks r w);
       }
 
-  by-function : (i : Insn) (here : Known k c context ms v x i) (f : KernelFunction) →
-      asks_of i (listed k c context ms v x) run.state ≡ Some (section_asked f) → Goal (kernel_request f)
+  by-function : (i : Insn) (here : Known i) (f : KernelFunction) →
+      asks_of i listed run.state ≡ Some (section_asked f) → Goal (kernel_request f)
   by-function i here ReadLock e = enters i here e
   by-function i here ReadUnlock e = leaves i here e
 
-  by-helper : (imm : ℤ) (here : Known k c context ms v x (Call kinds.Helper imm)) (helper : Helper)
+  by-helper : (imm : ℤ) (here : Known (Call kinds.Helper imm)) (helper : Helper)
       (arguments : List Argument) → helper_of imm ≡ Some helper →
-      arguments_of (signature_of helper).arguments (listed k c context ms v x) run.state 1 ≡ Some arguments
-      → asks_of (Call kinds.Helper imm) (listed k c context ms v x) run.state ≡ Some (CallHelper helper arguments) → Goal (requests.Call helper)
+      arguments_of (signature_of helper).arguments listed run.state 1 ≡ Some arguments
+      → asks_of (Call kinds.Helper imm) listed run.state ≡ Some (CallHelper helper arguments) → Goal (requests.Call helper)
   by-helper imm here Lookup arguments e of asks = looks-up (Call kinds.Helper imm) here arguments e asks of
   by-helper imm here Update arguments e of asks = changes-none (Call kinds.Helper imm) here Update imm refl e (inl refl)
   by-helper imm here Delete arguments e of asks = changes-none (Call kinds.Helper imm) here Delete imm refl e (inr refl)
 
-  by-insn : (i : Insn) (here : Known k c context ms v x i) (request : Request) (asked : Asked) →
-      request_of i v ≡ Some request → asks_of i (listed k c context ms v x) run.state ≡ Some asked → Goal request
+  by-insn : (i : Insn) (here : Known i) (request : Request) (asked : Asked) →
+      request_of i v ≡ Some request → asks_of i listed run.state ≡ Some asked → Goal request
   by-insn (Load width dst src offset) here request asked of e =
       let real = insn-real-at (Load width dst src offset) here in
       subst Goal (same_Some _ request of) (loads-by (Load width dst src offset) here width src offset (dst == 10)
@@ -598,9 +612,9 @@ module _ (k : Table) (keeps : IsTable k) (c : Checked) (context : List ℕ) (ms 
       let real = insn-real-at (Store width dst offset src) here in
       subst Goal (same_Some _ request of) (stores-by (Store width dst offset src) here width dst offset
       (operand_value src run.state.regs) (operand_word v src) asked real.0 refl refl e
-      (operand-stands c.program c.shapes c.ctx_len (some k c context ms v x).plan
-      (ready k c context ms v x (some k c context ms v x).plan (some k c context ms v x).closed) c.shapes run v
-      (shown k c context ms v x) src real.1)
+      (operand-stands c.program c.shapes c.ctx_len some.plan
+      (ready c x.justified some.plan some.closed) c.shapes run v
+      shown src real.1)
       (store-asked (byte_count width) offset (operand_value src run.state.regs) (run.state.regs dst) asked e))
   by-insn (Call kinds.Kernel imm) here request asked of e =
       let f = first-step (kernel_function_of imm) (λ function. Some (section_asked function)) asked e in
@@ -608,8 +622,8 @@ module _ (k : Table) (keeps : IsTable k) (c : Checked) (context : List ℕ) (ms 
       subst Goal same (by-function (Call kinds.Kernel imm) here f.0 (e ∙ sym f.2))
   by-insn (Call kinds.Helper imm) here request asked of e =
       let f = first-step (helper_of imm) (λ helper. arguments_of (signature_of helper).arguments
-      (listed k c context ms v x) run.state 1 >>= λ arguments. Some (CallHelper helper arguments)) asked e in
-      let g = first-step (arguments_of (signature_of f.0).arguments (listed k c context ms v x) run.state 1)
+      listed run.state 1 >>= λ arguments. Some (CallHelper helper arguments)) asked e in
+      let g = first-step (arguments_of (signature_of f.0).arguments listed run.state 1)
       (λ arguments. Some (CallHelper f.0 arguments)) asked f.2 in
       let same : requests.Call f.0 ≡ request = same_Some (requests.Call f.0) request (sym (ap (option_map requests.Call) f.1) ∙ of) in
       subst Goal same (by-helper imm here f.0 g.0 f.1 g.1 (e ∙ sym g.2))
@@ -619,7 +633,5 @@ module _ (k : Table) (keeps : IsTable k) (c : Checked) (context : List ℕ) (ms 
   pub can-serve : (request : Request) (after : RunView) → TakesStep c v (locals.Shared request) after →
       CanAnswer k c context ms v request × (after ≡ v)
   can-serve request after s =
-      let here = known k c context ms v x s.0 s.1 in
-      let o = waited (local_of s.0 v) (request_of s.0 v) v after request s.2 in
-      let a = asking k c context ms v x s.0 here o.0 in
-      (by-insn s.0 here request a.asked o.1 a.is, o.2)
+      let a = asks c x.justified run v x.shown request after s in
+      (by-insn s.0 a.here request a.asked a.words a.is, a.same)

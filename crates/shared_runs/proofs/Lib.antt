@@ -7,9 +7,8 @@ pub mod SectionCalls
 pub mod Looping
 pub mod Serving
 pub mod Starting
+pub mod Stepped
 pub mod Steps
 pub mod Stores
-pub mod Ending
 pub mod Going
 pub mod LoopingAlone
-pub mod StartingAlone

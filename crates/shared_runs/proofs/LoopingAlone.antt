@@ -23,13 +23,12 @@ use Rattle.machine.specs.declared.step.Halt.{Halt}
 use Rattle.machine.specs.declared.workspace.Workspace.{Workspace}
 use Rattle.machine.specs.Requests.{request_of, entered_view, resumed_view}
 use Rattle.machine.specs.RunWords.{run_words}
-use Rattle.machine.specs.Steps.{IsLocalStep}
+use Rattle.machine.specs.Steps.{IsLocalStep, TakesStep}
 use Rattle.machine.specs.Workspaces.{CanDo, CanGoOn, DoesAt, HasFreshRegisters, HasGoneOn, HasMoved, IsMove}
 use Rattle.machine.specs.Workspaces.{index_after, moved_on, not_yet, once_more, told, view_after, view_at}
 use Rattle.machine.proofs.Places.{insn_there, next_place}
 use Rattle.machine.proofs.Serving.{can_do}
 use Rattle.shared_runs.specs.Lone.{StandsAlone, loaded_alone}
-use Rattle.shared_runs.proofs.Ending.{below-limit}
 use Rattle.shared_runs.proofs.Going.{AsksSection, exits, moves, moves-below, resumed, shares, steps}
 
 -- With these registers and this frame, before the instruction of an index and after so many moves,
@@ -60,7 +59,7 @@ module _ (c : Checked) (context : List ℕ) (index moved : ℕ) (w : Workspace) 
   loop_below = let l : b.view.moved < length c.program = moves-below c before b.stands in omega (arith, l, b.moved_is)
 
   pub loop_limit : IsJustified c → moved < MAX_SLOTS
-  loop_limit j = let l : b.view.moved < MAX_SLOTS = below-limit c before b.stands j in omega (arith, l, b.moved_is)
+  loop_limit j = let l : moved < length c.program = loop_below in omega (arith, l, length_slots c.program, j.program.limit)
 
   -- the index is one of the program's, and so within the limit of programs
   pub loop_room : IsJustified c → index < MAX_SLOTS
@@ -72,11 +71,16 @@ module _ (c : Checked) (context : List ℕ) (index moved : ℕ) (w : Workspace) 
   abbrev Did : Workspace → Next → Type 0
   Did new result = (insn : Insn) → DoesAt c.program context insn index w result new
 
-  step_to : (new : Workspace) (result next : Next) → Did new result → result ≡ next → (insn : Insn) → insn_at c.program before.place ≡ Some insn
-      → IsLocalStep (laws.local_of insn before) (request_of insn before) before (told next) (view_after c.program context index next new b.view)
-  step_to new result next does e insn here =
-      subst (λ (n : Next). IsLocalStep (laws.local_of insn before) (request_of insn before) before (told n) (view_after c.program context index n new b.view)) e
-      (does insn (insn_there c.program index before.place insn here refl) b.view).step
+  step_to : (new : Workspace) (result next : Next) → Did new result → result ≡ next →
+      TakesStep c before (told next) (view_after c.program context index next new b.view)
+  step_to new result next does e =
+      let s = steps c before b.stands in (
+        s.insn,
+        s.here,
+        subst (λ (n : Next). IsLocalStep (laws.local_of s.insn before) (request_of s.insn before) before (told n)
+            (view_after c.program context index n new b.view)) e
+            (does s.insn (insn_there c.program index before.place s.insn s.here refl) b.view).step,
+      )
 
   pub loop_moves : (new : Workspace) (next : Next) → Did new next → IsMove next → StandsBefore c context (index_after index next) (moved + 1) new
   loop_moves new On does m =
@@ -111,16 +115,15 @@ module _ (c : Checked) (context : List ℕ) (index moved : ℕ) (w : Workspace) 
   loop_passes new result request does e =
       let after = view_at c.program context index new b.view in
       let shared = step_to new result (Shared request) does e in
-      let s = steps c before b.stands in
-      let a : AsksSection before after s.insn request = shares c before b.stands request after shared in
-      let there = insn_there c.program index before.place s.insn s.here refl in
+      let a : AsksSection before after shared.0 request = shares c before b.stands request after shared in
+      let there = insn_there c.program index before.place shared.0 shared.1 refl in
       let place : slot_total (take (index + 1) c.program) ≡ slot_total (take index c.program) + 1 =
-      next_place c.program index s.insn there ∙ ap (λ (n : ℕ). slot_total (take index c.program) + n) (ap slot_count a.is) in
+      next_place c.program index shared.0 there ∙ ap (λ (n : ℕ). slot_total (take index c.program) + n) (ap slot_count a.is) in
       let goes : (insn : Insn) → insn_at c.program after.place ≡ Some insn → entered_view (Some a.function) after ≡ resumed_view insn 0 after =
       λ insn here.
-      let same : s.insn ≡ insn = same_Some s.insn insn (sym s.here ∙ here) in
+      let same : shared.0 ≡ insn = same_Some shared.0 insn (sym shared.1 ∙ here) in
       ap (λ (o : Option KernelFunction). entered_view o after) (sym a.known) ∙ ap (λ (i : Insn). resumed_view i 0 after) (sym a.is ∙ same) in
-      let f = resumed c before b.stands request after (entered_view (Some a.function) after) 0 shared goes in
+      let f = resumed c before b.stands request after shared (entered_view (Some a.function) after) 0 goes in
       record {
         view = entered_view (Some a.function) b.view;
         stands = subst (StandsAlone c) (entered_at a.function new place) f.stands;

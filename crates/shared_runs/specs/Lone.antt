@@ -1,6 +1,5 @@
 -- A run of a program that names no map, by itself.
-use Rattle.std.specs.Prelude.{◌≡◌, ℕ, ◌+◌, ◌≤◌, [], length}
-use Rattle.std.specs.List.{range_with_len}
+use Rattle.std.specs.Prelude.{◌≡◌, ℕ, ◌+◌, ◌≤◌, []}
 use Rattle.bpf_model.specs.Exit.{ExitsFrom, ExitsWith, HasNoMaps}
 use Rattle.bpf_model.specs.Machine.{Loaded, Run, fresh_run}
 use Rattle.bpf_model.specs.Places.{StartsAt}
@@ -11,20 +10,13 @@ use Rattle.plan_laws.specs.Verified.{IsClosed, Plan}
 use Rattle.verifier.specs.Checked.{Checked}
 use Rattle.verifier.specs.Verdict.{IsJustified}
 use Rattle.machine.specs.RunWords.{RunWords, IsAt}
+use Rattle.shared_runs.specs.Words.{loaded_of}
 use Rattle.shared_runs.specs.declared.alone.step.Step.{Step}
 use Rattle.shared_runs.specs.declared.alone.step.Step.TheVariants.{Moved, Exit}
 
 -- the program as the machine loads it, with no maps
 abbrev pub loaded_alone : Checked → Loaded
 loaded_alone v = record { code = v.program; maps = []; context_len = v.ctx_len }
-
--- the program as the machine loads it among a map of each shape for which it was verified, in order
-abbrev pub loaded_among : Checked → Loaded
-loaded_among v = record {
-  code = v.program;
-  maps = range_with_len 0 (length v.shapes);
-  context_len = v.ctx_len;
-}
 
 -- The words are those of a run of the program, which names no map: among a map of each shape each
 -- plan of the program describes it. It refers to its own context and frame alone; it has moved at
@@ -34,13 +26,13 @@ pub record StandsAlone (v : Checked) (view : RunView) : Type 0 where
   pub justified : IsJustified v
   pub without_maps : HasNoMaps v.program
   pub run : Run
-  pub program : run.program ≡ loaded_among v
+  pub program : run.program ≡ loaded_of v
   pub shown : (plan : Plan) → IsClosed v.program v.shapes v.ctx_len plan →
       IsShownBy v.program v.shapes v.ctx_len plan v.shapes run view
   pub own : SharesNothing run
   pub further : (index : ℕ) → StartsAt v.program index run.state.place → run.moved ≤ index
   pub so_far : (steps n : ℕ) → ExitsFrom run steps n →
-      ExitsFrom (fresh_run 0 (loaded_among v) view.context) (view.moved + steps) n
+      ExitsFrom (fresh_run 0 (loaded_of v) view.context) (view.moved + steps) n
 
 -- The run is at its code, and its words are those of a run by itself.
 pub record IsLone (v : Checked) (r : RunWords) : Type 0 where

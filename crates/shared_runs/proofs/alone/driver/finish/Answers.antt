@@ -3,14 +3,14 @@ use Rattle.plan_laws.proofs.Exits.{one_exit}
 use Rattle.machine.specs.Workspaces.{IsMove}
 use Rattle.shared_runs.specs.Lone.{loaded_alone}
 use Rattle.shared_runs.proofs.LoopingAlone.{halts_below, halts_exited, halts_limit, halts_room, halts_shared, loop_can_go_on, stands_first}
-use Rattle.shared_runs.proofs.StartingAlone.{starts}
+use Rattle.shared_runs.proofs.Starting.{starts-alone}
 use Rattle.shared_runs.proofs.alone.driver.finish.Goals as goal
 
 pub steps-init : goal.steps-init
 steps-init c =
     let v = c.args.verified.now in
-    let first = starts v c.program-program.ensures.justified c.requires.maps c.args.context.now c.requires.context
-    c.are_bytes.ensures c.args.workspace.now.frame c.requires.cells in
+    let first = starts-alone v c.program-program.ensures.justified c.args.context.now c.requires.context
+    c.are_bytes.ensures c.args.workspace.now.frame c.requires.cells c.requires.maps in
     stands_first v c.args.context.now c.args.workspace.now c.requires.fresh first
 
 pub go_on-halt-requires-clause-can : goal.go_on-halt-requires-clause-can

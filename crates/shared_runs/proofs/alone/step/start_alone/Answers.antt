@@ -4,7 +4,7 @@ use Rattle.bpf_model.specs.declared.limits.TheConstants.{FRAME_BYTES}
 use Rattle.model_laws.specs.Reactions.{fresh_view}
 use Rattle.bpf_model.specs.Real.{AreBytes}
 use Rattle.shared_runs.specs.Lone.{StandsAlone}
-use Rattle.shared_runs.proofs.StartingAlone.{starts}
+use Rattle.shared_runs.proofs.Starting.{starts-alone}
 use Rattle.shared_runs.proofs.alone.step.start_alone.Goals as goal
 
 pub returns-clause-run : goal.returns-clause-run
@@ -13,6 +13,7 @@ returns-clause-run c =
     record {
       at = c.start.ensures.run v.program;
       stands = subst (StandsAlone v) (sym c.start.ensures.view)
-          (starts v c.program-program.ensures.justified c.requires.maps c.args.ctx.now.items c.requires.context
-          (subst AreBytes c.as_slice.ensures.value c.are_bytes.ensures) (fresh_view 0 []).frame (length-replicate {A = ℕ} FRAME_BYTES 0));
+          (starts-alone v c.program-program.ensures.justified c.args.ctx.now.items c.requires.context
+          (subst AreBytes c.as_slice.ensures.value c.are_bytes.ensures) (fresh_view 0 []).frame
+          (length-replicate {A = ℕ} FRAME_BYTES 0) c.requires.maps);
     }
