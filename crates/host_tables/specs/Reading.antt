@@ -2,13 +2,13 @@
 use Rattle.std.specs.Prelude.{ℕ, List}
 use Rattle.classic_program.specs.Context.{IsPacketContext}
 use Rattle.classic_program.specs.Machine.{Input}
-use Rattle.map_runs.specs.Running.{HasFound, HasHeld, HasMet, HasOwn, HasWhole, RunsShared, ServesMaps}
+use Rattle.shared_runs.specs.MapRuns.{HasFound, HasHeld, HasMet, HasOwn, HasWhole, RunsShared, ServesMaps}
 use Rattle.map_table.specs.Held.{Holder}
 use Rattle.table_words.specs.declared.view.TableShape.{TableShape}
 use Rattle.shared_runs.specs.Words.{StoresSubWords}
 use Rattle.verifier.specs.Checked.{Checked}
 
--- The reader's list gained the moves of a run of the program on the context, which exits with the value (`map_runs::run_shared`):
+-- The reader's list gained the moves of a run of the program on the context, which exits with the value (`shared_runs::maps::run_shared`):
 -- each word that it reached was of an element that it held; no lookup missed a key that stayed linked; what a lookup found was linked
 -- under its key; its own words are those that were stored last; and a value in which no reader stores it saw whole.
 pub record RunsOverTable (c : Checked) (context : List ℕ) (old new : Holder) (value : ℕ) : Type 0 where

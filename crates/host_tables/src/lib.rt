@@ -13,10 +13,10 @@ mod writing;
 
 pub use copying::copied_keys_are_found;
 pub use fault::{How, SetFault, TableFault, TableRunFault};
-pub use map_runs::MAX_RUN_ELEMENTS;
 pub use map_table::{
     MAX_BUCKETS, MAX_ELEMENTS, MAX_READERS, MAX_WORDS, Secret, TableShape, Values,
 };
 pub use reader::HostReader;
+pub use shared_runs::maps::MAX_RUN_ELEMENTS;
 pub use table::{HostTable, is_sized};
 pub use walking::{walks_meet_each_key_once, walks_meet_each_once};

@@ -6,14 +6,14 @@ ghost use Rattle.classic_program.specs.declared.data.Data.TheVariants.{Packet};
 ghost use Rattle.host_programs.specs.Packets.{seen};
 ghost use Rattle.host_tables.specs.Reading.{CanServe, RunsOnPacket, RunsOverTable};
 ghost use Rattle.host_tables.specs.declared.fault.TableRunFault.TheVariants.{Length, Maps, SubWord};
-ghost use Rattle.map_runs.specs.Running.{ServesMaps};
 ghost use Rattle.map_table.specs.Held.{IsReady};
+ghost use Rattle.shared_runs.specs.MapRuns.{ServesMaps};
 ghost use Rattle.shared_runs.specs.Words.{StoresSubWords};
 
 use crate::fault::TableRunFault;
 use host_programs::{HostProgram, PACKET_CONTEXT, Room};
-use map_runs::{fits, run_in};
 use map_table::{MapTable, ReadSeat};
+use shared_runs::maps::{fits, run_in};
 use std::marker::Model;
 use std::sync::Arc;
 

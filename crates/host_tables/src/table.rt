@@ -12,7 +12,7 @@ ghost use Rattle.host_tables.specs.Tables.{IsNewTable, IsNotSet, Reads, Reclaims
 ghost use Rattle.host_tables.specs.Walks.{Meets, MeetsNone};
 ghost use Rattle.host_tables.specs.declared.fault.TableFault.TheVariants.{Shape};
 ghost use Rattle.host_tables.specs.declared.fault.TableRunFault.TheVariants.{Length, Maps};
-ghost use Rattle.map_runs.specs.Running.{ServesMaps};
+ghost use Rattle.shared_runs.specs.MapRuns.{ServesMaps};
 
 use crate::copying::copy_all;
 use crate::fault::{How, SetFault, TableFault, TableRunFault};

@@ -12,3 +12,7 @@ pub mod Steps
 pub mod Stores
 pub mod Going
 pub mod LoopingAlone
+pub mod Keeping
+pub mod KeyWords
+pub mod Known
+pub mod MapServing

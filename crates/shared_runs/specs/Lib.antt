@@ -1,5 +1,8 @@
 pub mod Learnt
 pub mod Lone
+pub mod MapRuns
+pub mod MapTables
+pub mod Named
 pub mod Running
 pub mod Serving
 pub mod SharedRuns

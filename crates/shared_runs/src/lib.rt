@@ -2,11 +2,12 @@
 //!
 //! What such a run is, and how far it comes by what its seat does, is said and proved here of any table (`specs/Tables`):
 //! of one where readers look keys up in sections of their own, and use the elements that they hold there. `run_over` makes
-//! such a run over whatever serves runs. Runs that ask no table stand in `alone`.
+//! such a run over whatever serves runs. Runs that ask no table stand in `alone`, those over a `MapTable` in `maps`.
 #![tactic(auto)]
 
 pub mod alone;
 mod lengths;
+pub mod maps;
 mod naming;
 mod parts;
 mod running;

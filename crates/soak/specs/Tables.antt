@@ -4,7 +4,7 @@ use Rattle.verifier.specs.Checked.{Checked}
 use Rattle.table_words.specs.declared.view.TableShape.{TableShape}
 use Rattle.map_table.specs.Held.{IsReady, TableView}
 use Rattle.map_table.specs.Values.{stored_of}
-use Rattle.map_runs.specs.Running.{ServesMaps}
+use Rattle.shared_runs.specs.MapRuns.{ServesMaps}
 use Rattle.shared_runs.specs.Words.{StoresSubWords}
 use Rattle.soak.specs.declared.tables.Watcher.{Watcher}
 

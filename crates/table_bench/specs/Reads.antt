@@ -5,7 +5,7 @@ use Rattle.verifier.specs.Checked.{Checked}
 use Rattle.read_table.specs.Table.{table_of}
 use Rattle.table_words.specs.declared.view.TableShape.{TableShape as MapTableShape}
 use Rattle.map_table.specs.Values.{stored_of}
-use Rattle.map_runs.specs.Running.{ServesMaps}
+use Rattle.shared_runs.specs.MapRuns.{ServesMaps}
 use Rattle.shared_runs.specs.Words.{FitsTable, StoresSubWords}
 use Rattle.table_bench.specs.declared.apart.AtHome.{AtHome}
 

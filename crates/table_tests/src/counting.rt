@@ -1,13 +1,13 @@
 //! Jobs that count: each adds 1 to a value of which each reader has its own.
 ghost use Rattle.std.specs.Prelude.{◌≡◌, ◌<◌, All, IfOk, length, vec_len};
-ghost use Rattle.map_runs.specs.Named.{ServesNamed};
 ghost use Rattle.map_table.specs.Held.{IsReady};
+ghost use Rattle.shared_runs.specs.Named.{ServesNamed};
 
 use crate::jobs::{End, Kind, counts, jobs_of};
 use crate::making::verified_with_two;
 use crate::map_jobs::fitting;
-use map_runs::{MapRuns, NamedMap, NamedRuns, fits_named, key_in};
 use map_table::{MapTable, ReadSeat, Secret, TableShape, Values, Writer};
+use shared_runs::maps::{MapRuns, NamedMap, NamedRuns, fits_named, key_in};
 use std::alloc::Global;
 use std::sync::Wait;
 use std::test::Fail;

@@ -1,12 +1,12 @@
 //! Jobs that the seats of a `MapTable` serve.
 ghost use Rattle.std.specs.Prelude.{◌≡◌, ◌≤◌, All, IfOk, vec_len};
-ghost use Rattle.map_runs.specs.Running.{ServesMaps};
 ghost use Rattle.map_table.specs.Held.{IsReady};
+ghost use Rattle.shared_runs.specs.MapRuns.{ServesMaps};
 
 use crate::jobs::{End, Kind, counts, jobs_of};
 use crate::making::{LOAD_BYTE, LOOKUP_AND_LOAD, LOOKUP_AND_STORE_BYTE, verified};
-use map_runs::{MapRuns, fits};
 use map_table::{MapTable, ReadSeat, Secret, TableShape, Values};
+use shared_runs::maps::{MapRuns, fits};
 use std::alloc::Global;
 use std::sync::Wait;
 use std::test::Fail;

@@ -4,8 +4,8 @@ ghost use Rattle.map_table.specs.Held.{IsReady};
 
 use crate::map_table_runs::{COUNT, WORDS, context_of, verified_with};
 use bpf_model::{MapKind, MapShape};
-use map_runs::{NamedMap, SubWord, fits_named, key_in, run_named};
 use map_table::{MapTable, ReadSeat, Secret, TableShape, Values, Writer};
+use shared_runs::maps::{NamedMap, SubWord, fits_named, key_in, run_named};
 use std::alloc::{AllocError, Global};
 use std::test::Fail;
 use verifier::Verified;

@@ -1,6 +1,6 @@
 use Rattle.std.proofs.Common.{[], ◌∷◌, zero, suc, arith}
 use Rattle.std.specs.Prelude.{All}
-use Rattle.map_runs.specs.Named.{ServesNamed}
+use Rattle.shared_runs.specs.Named.{ServesNamed}
 use Rattle.verifier.specs.Checked.{Checked}
 use Rattle.table_tests.proofs.counting.two_programs.Goals as goal
 

@@ -1,6 +1,6 @@
 use Rattle.std.proofs.Common.{[], ◌∷◌, zero, suc, arith}
 use Rattle.std.specs.Prelude.{All}
-use Rattle.map_runs.specs.Running.{ServesMaps}
+use Rattle.shared_runs.specs.MapRuns.{ServesMaps}
 use Rattle.verifier.specs.Checked.{Checked}
 use Rattle.table_tests.proofs.map_jobs.three_programs.Goals as goal
 

@@ -1,4 +1,0 @@
-pub mod Keeping
-pub mod Known
-pub mod Serving
-pub mod Words

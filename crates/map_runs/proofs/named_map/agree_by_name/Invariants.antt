@@ -1,8 +1,0 @@
-use Rattle.std.proofs.Common.{ℕ, ◌<◌, get_or}
-use Rattle.std.specs.Prelude.{All}
-use Rattle.map_runs.specs.declared.named_map.NamedMap.{NamedMap}
-use Rattle.map_runs.specs.Named.{AgreesWith}
-use Rattle.map_runs.proofs.named_map.agree_by_name.Given as goal
-
-abbrev pub invariant-loop-index : goal.invariant-loop-index
-invariant-loop-index l = (i : ℕ) (d : NamedMap) → i < l.index → All (AgreesWith (get_or l.maps i d)) l.maps

@@ -1,7 +1,0 @@
-use Rattle.std.proofs.Common.{ℕ, ◌<◌, get_or}
-use Rattle.map_runs.specs.declared.named_map.NamedMap.{NamedMap}
-use Rattle.map_runs.specs.Named.{AgreesWith}
-use Rattle.map_runs.proofs.named_map.agree_with.Given as goal
-
-abbrev pub invariant-loop-index : goal.invariant-loop-index
-invariant-loop-index l = (i : ℕ) (d : NamedMap) → i < l.index → AgreesWith l.map (get_or l.maps i d)

@@ -1,0 +1,10 @@
+use Rattle.std.proofs.Common.{◌≡◌, ℕ, ◌<◌, Some}
+use Rattle.std.specs.Prelude.{slice_get}
+use Rattle.bpf_model.specs.declared.limits.MapKind.TheVariants.{Hash}
+use Rattle.bpf_model.specs.declared.limits.MapShape.{MapShape}
+use Rattle.shared_runs.specs.Named.{KeepsNamed}
+use Rattle.shared_runs.proofs.maps.named_map.have_room.Given as goal
+
+abbrev pub invariant-loop-index : goal.invariant-loop-index
+invariant-loop-index l = (i : ℕ) (shape : MapShape) → i < l.index → slice_get l.shapes i ≡ Some shape →
+    KeepsNamed l.table l.maps i shape × (shape.kind ≡ Hash)
