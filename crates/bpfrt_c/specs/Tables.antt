@@ -88,13 +88,14 @@ pub record CanMeet (t : OpenTable) (given : ℕ) (key next : List ℕ) : Type 0 
   pub room_fits : length next ≡ t.table.shape.key_words
   pub key_fits : (given ≡ 0) ⊎ (length key ≡ t.table.shape.key_words)
 
--- The reader got a seat of the table, which has one fewer. It has done nothing, and its history goes on from the writer's.
+-- The reader got the next seat of the table, which has one fewer. It has done nothing, and its history goes on from the writer's.
 pub record Seats (t u : OpenTable) (r : Holder) : Type 0 where
   pub table : u.table ≡ t.table
   pub seat : t.seats ≡ u.seats + 1
   pub writer : MakesSeat t.writer u.writer
   pub ready : IsReady t.table r
   pub new : IsNew r
+  pub me : r.view.me ≡ t.writer.view.next
   pub begins : r.view.seen ≡ u.writer.view.seen
 
 -- The same of the table and the reader that are held.

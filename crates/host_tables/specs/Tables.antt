@@ -39,6 +39,7 @@ pub record IsNewTable (shape : TableShape) (t : OpenTable) : Type 0 where
   pub free : t.writer.free ≡ range_with_len 0 shape.elements
   pub unlinked : t.writer.unlinked ≡ []
   pub readers : t.seats ≡ shape.readers
+  pub next : t.writer.view.next ≡ 1
 
 -- What is so between any two calls: no key is linked in two ways, and of the elements, if there are any, one at least is not
 -- linked.
