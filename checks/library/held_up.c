@@ -17,7 +17,7 @@ enum { LOOKUPS = 200, TRIES = 200, BUCKETS = 4, ELEMENTS = 8 * BUCKETS + 2 };
 
 static struct bpfrt_reader reader;
 static struct bpfrt_prog prog;
-static atomic_int ends, is_stopped, may_go;
+static atomic_int has_run, ends, is_stopped, may_go;
 
 static void be(long got, long wanted, const char *what)
 {
@@ -45,8 +45,10 @@ static void *work(void *data)
 {
 	uint64_t value;
 	(void)data;
-	while (!atomic_load(&ends))
+	while (!atomic_load(&ends)) {
 		be(bpfrt_reader_run(&reader, &prog, NULL, 0, &value), 0, "a run");
+		atomic_store(&has_run, 1);
+	}
 	return NULL;
 }
 
@@ -86,6 +88,8 @@ static int is_held_up(struct bpfrt_table *table, pthread_t thread)
 	uint64_t key = 0, value = 1;
 	int32_t status;
 	atomic_store(&may_go, 0);
+	while (!atomic_load(&has_run))
+		nap();
 	be(pthread_kill(thread, SIGUSR1), 0, "pthread_kill");
 	while (!atomic_load(&is_stopped))
 		nap();
@@ -119,6 +123,7 @@ static int is_held_up_once(uint64_t secret)
 	be(bpfrt_table_open(&table, &shape), 0, "bpfrt_table_open");
 	be(bpfrt_table_reader(&reader, &table), 0, "bpfrt_table_reader");
 	atomic_store(&ends, 0);
+	atomic_store(&has_run, 0);
 	be(pthread_create(&thread, NULL, work, NULL), 0, "pthread_create");
 	int is = is_held_up(&table, thread);
 	atomic_store(&ends, 1);
