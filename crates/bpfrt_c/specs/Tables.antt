@@ -2,6 +2,7 @@
 use Rattle.std.specs.Prelude.{◌≡◌, ◌⊎◌, ℕ, ◌+◌, ◌==◌, List, Option, Some, None, length, if◌then◌else◌}
 use Rattle.host_programs.specs.Opened.{OpenProgram}
 use Rattle.host_programs.specs.Packets.{seen}
+use Rattle.host_tables.specs.Copies.{StayThere}
 use Rattle.host_tables.specs.Reading.{CanServe, RunsOnPacket, RunsOverTable}
 use Rattle.host_tables.specs.Tables.{IsNotSet, OpenTable, Sets}
 use Rattle.host_tables.specs.declared.fault.How.{How}
@@ -88,15 +89,18 @@ pub record CanMeet (t : OpenTable) (given : ℕ) (key next : List ℕ) : Type 0 
   pub room_fits : length next ≡ t.table.shape.key_words
   pub key_fits : (given ≡ 0) ⊎ (length key ≡ t.table.shape.key_words)
 
--- The reader got the next seat of the table, which has one fewer. It has done nothing, and its history goes on from the writer's.
+-- The reader got the next seat of the table, which has one fewer. It has done nothing, and its history goes on from the writer's. What was
+-- linked still is.
 pub record Seats (t u : OpenTable) (r : Holder) : Type 0 where
   pub table : u.table ≡ t.table
   pub seat : t.seats ≡ u.seats + 1
   pub writer : MakesSeat t.writer u.writer
   pub ready : IsReady t.table r
   pub new : IsNew r
+  pub shape : r.view.shape ≡ t.table.shape
   pub me : r.view.me ≡ t.writer.view.next
   pub begins : r.view.seen ≡ u.writer.view.seen
+  pub stay : StayThere t.table.shape t.writer u.writer
 
 -- The same of the table and the reader that are held.
 abbrev pub SeatsIn : Option OpenTable → Option OpenTable → Option Holder → Type 0

@@ -1,5 +1,5 @@
 //! Tables: how they are opened, and what their writer does.
-ghost use Rattle.std.specs.Prelude.{◌≡◌, ◌≢◌, ◌<◌, ◌^◌, ◌⊎◌, ◌↔◌, ℕ, List, pos, neg_ℤ, Some, None, IsSome, IfSome, IfOk, IfErr, OnOk, OnErr, length};
+ghost use Rattle.std.specs.Prelude.{◌≡◌, ◌≢◌, ◌<◌, ◌^◌, ◌⊎◌, ◌↔◌, ℕ, List, pos, neg_ℤ, Some, None, Err, IsSome, IfSome, IfOk, IfErr, OnOk, OnErr, length};
 ghost use Rattle.host_tables.specs.Tables.{IsNewTable, Reads, Reclaims, Removes, Seeks};
 ghost use Rattle.host_tables.specs.declared.fault.SetFault.{SetFault as Fault_};
 ghost use Rattle.host_handle.specs.Values.{reader_in, table_in};
@@ -107,7 +107,9 @@ pub extern "C" fn bpfrt0_table_open(alloc: Global, host: &mut Host, shape: &Tabl
 fn seated(alloc: Global, held: &mut Held) -> Result<Box<Held>, i32>
     ensures seat { IfOk result (λ b. SeatsIn (table_in (Some held.old)) (table_in (Some held.new)) (reader_in (Some b.value))) }
     ensures kept { OnErr result (held.new ≡ held.old) }
-    ensures fault { IfErr result (λ number. number ≢ pos 0) }
+    ensures none { table_in (Some held.old) ≡ None → result ≡ Err (neg_ℤ (pos 9)) }
+    ensures fault { IfErr result (λ number.
+        (number ≡ neg_ℤ (pos 9)) ⊎ ((number ≡ neg_ℤ (pos 12)) ⊎ (number ≡ neg_ℤ (pos 28)))) }
 {
     let Held::Table(table) = held else {
         return Err(EBADF);
@@ -124,8 +126,8 @@ fn seated(alloc: Global, held: &mut Held) -> Result<Box<Held>, i32>
     }
 }
 
-/// Opens `reader` as a reader of the table that `host` holds, with the table's next seat, the first one's first. The table lives until the last of its readers
-/// is closed. A seat is not given back.
+/// Opens `reader` as a reader of the table that `host` holds, with the table's next seat. The table lives until the last of its
+/// readers is closed. A seat is not given back.
 ///
 /// 0, or -EBUSY where `reader` is open; -EBADF where no table is held; -ENOSPC where each seat has been given; -ENOMEM.
 #[unsafe(no_mangle)]
@@ -133,6 +135,9 @@ pub extern "C" fn bpfrt0_table_reader(alloc: Global, reader: &mut Host, host: &m
     ensures busy { IsSome reader.old.handle.held → result ≡ neg_ℤ (pos 16) }
     ensures seat { result ≡ pos 0 → SeatsIn (table_in host.old.handle.held) (table_in host.new.handle.held)
         (reader_in reader.new.handle.held) }
+    ensures none { reader.old.handle.held ≡ None → table_in host.old.handle.held ≡ None → result ≡ neg_ℤ (pos 9) }
+    ensures fault { result ≢ pos 0 → (result ≡ neg_ℤ (pos 16)) ⊎ ((result ≡ neg_ℤ (pos 9))
+        ⊎ ((result ≡ neg_ℤ (pos 12)) ⊎ (result ≡ neg_ℤ (pos 28)))) }
     ensures kept { result ≢ pos 0 → reader.new.handle.held ≡ reader.old.handle.held }
     ensures table { result ≢ pos 0 → host.new.handle.held ≡ host.old.handle.held }
 {

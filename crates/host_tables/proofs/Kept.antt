@@ -1,9 +1,10 @@
 -- What copying leaves linked.
-use Rattle.std.proofs.Common.{◌≡◌, ◌≢◌, ℕ, zero, suc, ◌+◌, ◌-◌, ◌*◌, ◌<◌, List, ◌++◌, refl, sym, ap, ◌∙◌, subst, ⊎_elim, arith}
+use Rattle.std.proofs.Common.{◌≡◌, ◌≢◌, ℕ, zero, suc, ◌+◌, ◌-◌, ◌*◌, ◌<◌, List, [], ◌∷◌, ◌++◌, refl, sym, ap, ◌∙◌, subst, ⊎_elim, arith}
 use Rattle.std.proofs.Common.{Option, Some, None, Result, Ok, Err, OnOk, IfErr}
 use mathlib.Core.Logic.{dite}
 use native.Mathlib.Decide.{ℕ_discrete}
 use Rattle.map_table_laws.specs.declared.moves.Move.{Move}
+use Rattle.map_table_laws.specs.declared.moves.Move.TheVariants.{Scan}
 use Rattle.map_table_laws.specs.Layout.{Names}
 use Rattle.map_table_laws.specs.History.{word_in, IsLawful}
 use Rattle.map_table_laws.specs.Found.{Links as LinksIn, IsLinkedUnder, IsLinkedAs, IsLinkedSomewhere}
@@ -16,7 +17,7 @@ use Rattle.map_table.specs.Hashes.{layout_of}
 use Rattle.map_table.specs.Held.{IsKnown, TableView}
 use Rattle.map_table.specs.Reading.{OnlyLoads, Reads}
 use Rattle.map_table.specs.Values.{stored_of}
-use Rattle.map_table.specs.Writing.{Works, WriterView}
+use Rattle.map_table.specs.Writing.{MakesSeat, Works, WriterView}
 use Rattle.map_table.proofs.Filling.{own_list, went_me, went_shape}
 use Rattle.map_table.proofs.Going.{went_known}
 use Rattle.map_table.proofs.Keeping.{loads_quiet}
@@ -110,6 +111,11 @@ room_kept k needed v w b room = ⊎_elim
       );
     })
     room
+
+-- one more reader
+pub seat_kept : (k : TableShape) (v w : WriterView) → Knows k v → MakesSeat v w → StaysThere k v w
+seat_kept k v w b m key l =
+    subst (IsThere k key) (sym m.seated) (left_there k v m.looked (Scan v.view.next m.word ∷ []) b m.looks (λ way. tt) key l)
 
 moves_kept : (k : TableShape) (v w : WriterView) → Knows k v → Moves v w → Kept k v w
 moves_kept k v w b m = record {
@@ -318,7 +324,7 @@ pub both_kept : (k l s : TableShape) (n : ℕ) (v a w b : WriterView) (r : Resul
 both_kept k l s n v a w b (Ok x) p q copies stops = let c = copied k l n v a w b p q copies in (c.here, c.kept)
 both_kept k l s n v a w b (Err fault) p q copies stops = stopped k l s v a w b fault p q stops
 
--- behind a copy each of its keys is found
+-- after a copy each of its keys is found
 pub found_behind : (k : TableShape) (key : List ℕ) (early : List (ℕ × Move)) (v : View) → v.shape ≡ k → IsKnown v →
     IsLinkedSomewhere (layout_of k) 0 key early → IsFoundBehind k key early v
 found_behind k key early v shape known l after late between is before during only null =

@@ -30,7 +30,7 @@ AreAllThere k l w b = (key : List ℕ) (way : ℕ) → way < ways_of k → IsLin
 abbrev pub StayThere : TableShape → WriterView → WriterView → Type 0
 StayThere k v w = (key : List ℕ) → IsThere k key v → IsThere k key w
 
--- No lookup that the holder made behind this history answered null to the key, if from there to the lookup's end the writer only replaced
+-- No lookup that the holder made after this history answered null to the key, if from there to the lookup's end the writer only replaced
 -- and moved what was linked under it.
 abbrev pub IsFoundBehind : TableShape → List ℕ → List (ℕ × Move) → View → Type 0
 IsFoundBehind k key early v =

@@ -22,13 +22,13 @@ use Rattle.host_tables.specs.declared.fault.How.TheVariants.{Any, New, Present}
 use Rattle.host_tables.specs.declared.fault.SetFault.{SetFault}
 use Rattle.host_tables.specs.declared.fault.SetFault.TheVariants.{Exists, Missing, NoElement, NoWay, Held}
 
--- which table, what its writer did and saw there, and how many readers have no seat yet
+-- which table, what its writer did and saw there, and how many seats are left
 pub record OpenTable : Type 0 where
   pub table : TableView
   pub writer : WriterView
   pub seats : ℕ
 
--- Readers count from 1, so the next one's number tells how many have no seat yet.
+-- Readers are numbered from 1, so the next one's number tells how many seats are left.
 abbrev pub seats_left : TableView → WriterView → ℕ
 seats_left t w = t.shape.readers + 1 - w.view.next
 

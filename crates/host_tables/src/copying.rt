@@ -102,9 +102,10 @@ pub(crate) fn copy_all(
     Ok(())
 }
 
-/// A law of growth. Once `HostTable::copy_to` has copied a table into a larger one, each key that it copied is found in both: by each
-/// reader of the one and by each reader of the other, where their histories go on from the writers'. Those of readers that are
-/// opened behind the copy do so (`HostTable::reader`). So a reader may change over between any two of its sections.
+/// A law of growth. Once `HostTable::copy_to` has copied a table into a larger one, no lookup in either misses a key that was copied,
+/// if the lookup's history goes on from the writer's, and while the writer only replaces and moves what is linked under the key
+/// (`OnlyKeeps`). The history of a reader that is opened after the copy goes on so (`HostTable::reader`). So a thread may change over to
+/// such a reader between any two of its sections.
 pub fn copied_keys_are_found()
     ensures { (k l : ShapeOf) (w b : WriterView) → AreAllThere k l w b →
         (key : List ℕ) (way : ℕ) → way < ways_of k → IsLinkedUnder (layout_of k) 0 key way w.view.seen →

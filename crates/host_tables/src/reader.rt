@@ -68,6 +68,13 @@ impl HostReader {
         }
     }
 
+    /// The reader's seat, to look at. Its laws speak of what the reader did and saw (`is_readers`, `share`).
+    pub fn seat(&self) -> &ReadSeat
+        ensures { result.now ≡ self.now }
+    {
+        &self.seat
+    }
+
     /// Runs a program over the table, each of whose maps is the table, to its exit. The outermost lock of the run opens the
     /// reader's section, and the section ends with it.
     ///

@@ -101,18 +101,35 @@ impl HostTable {
         serves(&self.table, program)
     }
 
-    /// A reader, of which each thread needs its own. It begins with all that was done to the table before. `None` where each seat
-    /// has been given, or no more owners of the table can be counted. A seat is not given back: it goes with its reader.
+    /// The table itself, whose laws and rule speak of all that is done to it (`MapTable::ruled`).
+    pub fn table(&self) -> &MapTable
+        ensures { result.now ≡ self.now.table }
+    {
+        &self.table
+    }
+
+    /// The table's writer, to look at. Its laws speak of what it did and saw (`is_writers`, `each_element_once`, `share`).
+    pub fn writer(&self) -> &Writer
+        ensures { result.now ≡ self.now.writer }
+    {
+        &self.writer
+    }
+
+    /// A reader, of which each thread needs its own. Its history begins with all that the writer saw. `None` where each seat has been
+    /// given, or no more owners of the table can be counted. A seat is not given back: it goes with its reader.
     pub fn reader(&mut self) -> Option<HostReader>
         ensures table { self.new.table ≡ self.old.table }
         ensures writer { IfSome result (λ r. MakesSeat self.old.writer self.new.writer) }
         ensures seat { IfSome result (λ r. self.old.seats ≡ self.new.seats + 1) }
         ensures ready { IfSome result (IsReady self.old.table) }
         ensures new { IfSome result IsNew }
+        ensures shape { IfSome result (λ r. r.view.shape ≡ self.old.table.shape) }
         ensures me { IfSome result (λ r. r.view.me ≡ self.old.writer.view.next) }
 
-        // Its history goes on from the writer's, so each key that is linked by now is found (law `copied_keys_are_found`).
+        // Its history goes on from the writer's. So it finds each key that is linked now, while the writer keeps it (laws
+        // `kept_keys_are_found`, `copied_keys_are_found`).
         ensures begins { IfSome result (λ r. r.view.seen ≡ self.new.writer.view.seen) }
+        ensures stay { StayThere self.old.table.shape self.old.writer self.new.writer }
         ensures given { self.old.seats ≡ 0 → IsNone result }
         ensures kept { IfNone result (self.new ≡ self.old) }
     {
@@ -121,6 +138,7 @@ impl HostTable {
         };
         self.writer.is_writers();
         let seat = self.writer.seat(&self.table)?;
+        seat.is_readers();
         Some(HostReader::of(table, seat))
     }
 
@@ -169,9 +187,9 @@ impl HostTable {
 
     /// Links each key of this table in another one, with the words of all its values. Of a key that is linked there it puts the
     /// values in the place of those. So a host goes over to a larger table: it copies the keys, and from then on sets and removes
-    /// keys in both. It opens readers of the larger table behind the copy, and each reader changes over between two runs. It finds each
-    /// key that was copied in the one and in the other, while it stays linked there (law `copied_keys_are_found`). The smaller table
-    /// lives as long as its last reader.
+    /// keys in both. After the copy it opens readers of the larger table, and each thread changes over to one between two runs. Such a
+    /// reader finds each key that was copied, while the writer keeps it (law `copied_keys_are_found`). The smaller table lives as long
+    /// as its last reader.
     ///
     /// What readers store in a value after it was loaded is not copied.
     ///
@@ -304,9 +322,10 @@ impl HostTable {
         self.writer.unlinked().len()
     }
 
-    /// How many readers have no seat yet.
+    /// How many seats are left. Readers are numbered from 1, in the order in which they are opened.
     pub fn count_seats(&self) -> usize
-        ensures { result ≡ self.now.seats }
+        ensures count { result ≡ self.now.seats }
+        ensures next { result + self.now.writer.view.next ≡ self.now.table.shape.readers + 1 }
     {
         self.writer.count_seats(&self.table)
     }
