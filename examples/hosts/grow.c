@@ -98,7 +98,7 @@ static void put_key(uint64_t key)
 	atomic_store(&put, key + 1);
 }
 
-/* Takes the reader that main has laid there, if it has, in the place of the one before: between two runs. */
+/* Takes the reader that main has put there, if it has, in the place of the one before: between two runs. */
 static void go_over(struct looker *looker)
 {
 	pthread_mutex_lock(&looker->lock);

@@ -516,8 +516,8 @@ static inline int32_t bpfrt_table_update_elem(struct bpfrt_table *table, const u
    - After a call that failed, the larger one lacks some keys. Set there with the flags 0, and let the old one tell which keys are there.
    - Once a call has answered 0, the host opens a reader of the larger table for each thread, and hands it over. No thread opens its own,
      since bpfrt_table_reader takes the table's handle.
-   - The thread closes its old reader between two runs, and takes the new one. It finds each key in the table that it runs over, since its
-     new reader was opened after the copy. When all have gone over, the host closes the old table.
+   - The thread closes its old reader between two runs, and takes the new one. That was opened after the copy, so it finds each key that was
+     copied and that the host keeps. When all have gone over, the host closes the old table.
    - What runs store in a value after it was copied stays in the old table. So do not copy again once a program that stores has run over
      the larger one. A copy would put the old words over what it stored.
    - Readers that are opened in the order of the old ones go on with their own values (BPFRT_TABLE_PER_READER).
