@@ -1,7 +1,5 @@
 -- How an argument is told by its bytes.
-use Rattle.std.proofs.Common.{ℕ, ◌≡◌, ◌≤◌, List, [], ◌∷◌, ◌++◌, get_or, sym, ap, ◌∙◌, arith, append_assoc}
-use Rattle.std.specs.Prelude.{Option, Some, None, IfSome}
-use Rattle.std.specs.Int.{IsInRange}
+use Rattle.bpf_model.proofs.Prelude.{ℕ, ◌≡◌, ◌≤◌, List, [], ◌∷◌, ◌++◌, get_or, sym, ap, ◌∙◌, arith, append_assoc, Option, Some, None, IfSome, IsInRange}
 use Rattle.disasm.specs.Text.{numeral, sign_text, argument_text}
 use Rattle.disasm.specs.declared.statement.Sign.{Sign}
 use Rattle.disasm.specs.declared.statement.Sign.TheVariants.{Plus, Minus}

@@ -1,15 +1,10 @@
 -- What the assembler's faults say of a program's lines, and the lines of a program's text.
-use Rattle.std.proofs.Common.{ℕ, ◌≡◌, ◌+◌, ◌<◌, ◌≤◌, Bool, true, false, not, cond, List, [], ◌∷◌, ◌++◌, length, refl}
-use Rattle.std.proofs.Common.{sym, ap, ◌∙◌, arith, append_assoc, ◌⊎◌, inl, inr}
-use Rattle.std.specs.Prelude.{map, Result, Ok, Err, IfOk, IfErr}
-use Rattle.std.specs.List.{AllByRecursion, filter}
+use Rattle.bpf_model.proofs.Prelude.{ℕ, ◌≡◌, ◌+◌, ◌<◌, ◌≤◌, Bool, true, false, not, cond, List, [], ◌∷◌, ◌++◌, length, refl, sym, ap, ◌∙◌, arith}
+use Rattle.bpf_model.proofs.Prelude.{append_assoc, ◌⊎◌, inl, inr, map, Result, Ok, Err, IfOk, IfErr, AllByRecursion, filter, sum_by-cons, FitsInsn, IsProgram}
+use Rattle.bpf_model.proofs.Prelude.{slot_count, slot_total, slot_count_some, cons-nil, heads, tails}
 use Rattle.std.proofs.lemmas.List.Concat.{flat_map-cons}
-use Rattle.std.proofs.lemmas.List.Sums.{sum_by-cons}
 use Rattle.bpf_model.specs.declared.insn.Insn.{Insn}
 use Rattle.bpf_model.specs.declared.limits.TheConstants.{MAX_SLOTS}
-use Rattle.bpf_model.specs.Spelling.{FitsInsn, IsProgram}
-use Rattle.bpf_model.specs.Step.{slot_count}
-use Rattle.bpf_model.specs.Places.{slot_total}
 use Rattle.disasm.specs.Text.{stem_of, suffix_of, mnemonic_text, arguments_text, mnemonic_of, text_arguments, statement_of, line_of, program_text}
 use Rattle.asm.specs.Reading.{Lacks}
 use Rattle.asm.specs.Grammar.{IsFormedLine}
@@ -23,8 +18,6 @@ use Rattle.asm.proofs.FormLaws.{formed_of}
 use Rattle.asm.proofs.Lacking.{lacks_append, arguments_lack_feed}
 use Rattle.asm.proofs.PlainNames.{name_lacks_any, stem_statement}
 use Rattle.asm.proofs.LinesRead.{keeps, first_line}
-use Rattle.bpf_model.proofs.Places.{slot_count_some}
-use Rattle.bpf_model.proofs.Lists.{cons-nil, heads, tails}
 
 -- a program takes a slot at least
 

@@ -1,6 +1,5 @@
 -- What the methods of text give, by cases on their results.
-use Rattle.std.proofs.Common.{ℕ, ◌≡◌, ◌≢◌, ◌<◌, List, ◌∷◌, ◌++◌, length, get_or, Bor}
-use Rattle.std.specs.Prelude.{Option, Some, None, IfSome, IfNone, MatchOption}
+use Rattle.bpf_model.proofs.Prelude.{ℕ, ◌≡◌, ◌≢◌, ◌<◌, List, ◌∷◌, ◌++◌, length, get_or, Bor, Option, Some, None, IfSome, IfNone, MatchOption}
 use Rattle.asm.specs.Reading.{Lacks}
 
 pub split_none : (c : ℕ) (text : List ℕ) (r : Option (Bor (List ℕ) × Bor (List ℕ))) →

@@ -1,10 +1,6 @@
 -- Numbers above 2 ^ 64 change no form, and no instruction has one.
-use Rattle.std.proofs.Common.{ℕ, ◌≡◌, ◌+◌, ◌<◌, ◌≤◌, ◌^◌, true, not, ◌==◌, refl, ap, subst, arith, ℤ, pos, negsuc}
-use Rattle.std.specs.Prelude.{Option, Some, FitsSigned}
-use Rattle.std.specs.Int.{w16, w32}
-use Rattle.std.proofs.lemmas.Int.{ints}
-use Rattle.std.proofs.lemmas.Bool.Decides.{nat_tests}
-use Rattle.bpf_model.specs.Spelling.{FitsInsn, FitsOperand, extension_bits}
+use Rattle.bpf_model.proofs.Prelude.{ℕ, ◌≡◌, ◌+◌, ◌<◌, ◌≤◌, ◌^◌, true, not, ◌==◌, refl, ap, subst, arith, ℤ, pos, negsuc, Option, Some, FitsSigned, w16, w32}
+use Rattle.bpf_model.proofs.Prelude.{ints, nat_tests, FitsInsn, FitsOperand, extension_bits}
 use Rattle.bpf_model.specs.declared.insn.Operand.{Operand}
 use Rattle.bpf_model.specs.declared.insn.Operand.TheVariants as operand
 use Rattle.bpf_model.specs.declared.insn.SignExtension.{SignExtension}

@@ -1,6 +1,5 @@
 -- Texts that lack a byte.
-use Rattle.std.proofs.Common.{ℕ, zero, suc, ◌≢◌, ◌<◌, ◌≤◌, List, [], ◌∷◌, ◌++◌, refl, arith, subst}
-use Rattle.std.specs.Int.{IsInRange}
+use Rattle.bpf_model.proofs.Prelude.{ℕ, zero, suc, ◌≢◌, ◌<◌, ◌≤◌, List, [], ◌∷◌, ◌++◌, refl, arith, subst, IsInRange}
 use Rattle.disasm.specs.Text.{numeral, argument_text, arguments_text}
 use Rattle.disasm.specs.declared.statement.Arguments.{Arguments}
 use Rattle.disasm.specs.declared.statement.Arguments.TheVariants.{Zero, One, Two, Three}

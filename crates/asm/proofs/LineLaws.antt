@@ -1,8 +1,5 @@
 -- What a line's statement says of the line.
-use Rattle.std.proofs.Common.{ℕ, ◌≡◌, ◌++◌, List, true, sym, ap, subst, ◌∙◌}
-use Rattle.std.specs.Prelude.{Option, Some, None, Result, Ok}
-use Rattle.std.proofs.lemmas.Option.{none-some, same_Some}
-use Rattle.bpf_model.specs.Spelling.{FitsInsn}
+use Rattle.bpf_model.proofs.Prelude.{ℕ, ◌≡◌, ◌++◌, List, true, sym, ap, subst, ◌∙◌, Option, Some, None, Result, Ok, none-some, same_Some, FitsInsn}
 use Rattle.bpf_model.specs.declared.insn.Insn.{Insn}
 use Rattle.disasm.specs.Text.{mnemonic_text, arguments_text, line_of, mnemonic_of, text_arguments, statement_of}
 use Rattle.disasm.specs.declared.mnemonic.Mnemonic.{Mnemonic}

@@ -1,17 +1,10 @@
 -- The lines that have been read, and those that are left.
-use Rattle.std.proofs.Common.{ℕ, ◌≡◌, ◌+◌, ◌≤◌, ◌==◌, Bool, true, false, not, cond, List, [], ◌∷◌, ◌++◌, length}
-use Rattle.std.proofs.Common.{get_or, refl, sym, ap, subst, ◌∙◌, arith, append_assoc, length-append, ne_eqb}
-use Rattle.std.specs.Prelude.{map}
-use Rattle.std.specs.Str.{IsUtf8}
-use Rattle.std.specs.List.{AllByRecursion, filter, All}
-use Rattle.std.proofs.lemmas.List.{map-append, append-nil, get_or_default}
-use Rattle.std.proofs.lemmas.List.Elements.{filter-append}
-use Rattle.std.proofs.lemmas.List.Splits.{slice_split_none, slice_split_at}
-use Rattle.std.proofs.ByRecursion.{All-push}
-use Rattle.std.proofs.lemmas.Bool.{false≢true}
+use Rattle.bpf_model.proofs.Prelude.{ℕ, ◌≡◌, ◌+◌, ◌≤◌, ◌==◌, Bool, true, false, not, cond, List, [], ◌∷◌, ◌++◌, length, get_or, refl, sym, ap, subst, ◌∙◌}
+use Rattle.bpf_model.proofs.Prelude.{arith, append_assoc, map, IsUtf8, AllByRecursion, filter, map-append, append-nil, get_or_default, filter-append}
+use Rattle.bpf_model.proofs.Prelude.{slice_split_none, slice_split_at, All-push, false≢true, FitsInsn, cons-nil, heads, tails}
+use Rattle.std.proofs.Common.{length-append, ne_eqb}
+use Rattle.std.specs.List.{All}
 use Rattle.bpf_model.specs.declared.insn.Insn.{Insn}
-use Rattle.bpf_model.specs.Spelling.{FitsInsn}
-use Rattle.bpf_model.proofs.Lists.{cons-nil, heads, tails}
 use Rattle.disasm.specs.Text.{line_of}
 use Rattle.asm.proofs.StatementLaws.{appended}
 use Rattle.asm.specs.Reading.{Lacks}

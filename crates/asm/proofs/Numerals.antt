@@ -1,12 +1,7 @@
 -- Numerals: their bytes are digits, the first is 0 in that of 0 alone, and each number has its own.
-use Rattle.std.proofs.Common.{ℕ, zero, suc, ◌≡◌, ◌≢◌, ◌+◌, ◌-◌, ◌*◌, ◌/◌, ◌%◌, ◌^◌, ◌<◌, ◌≤◌, List, [], ◌∷◌, ◌++◌}
-use Rattle.std.proofs.Common.{length, get_or, take, refl, sym, ap, ◌∙◌, arith, inl, inr}
-use Rattle.std.specs.Prelude.{map, Option, Some, None, IfSome, IfNone}
-use Rattle.std.specs.Int.{IsInRange}
-use Rattle.std.specs.Int.Digits.{digits_of, AllBelowBase}
-use Rattle.std.proofs.lemmas.Int.Digits.{first_digits_of, all_below_base_digits_of, same_from_digits_of}
-use Rattle.std.proofs.lemmas.List.{take_more, length-map}
-use Rattle.std.proofs.Math.Nat.{eq-zero-or-pos}
+use Rattle.bpf_model.proofs.Prelude.{ℕ, zero, suc, ◌≡◌, ◌≢◌, ◌+◌, ◌-◌, ◌*◌, ◌/◌, ◌%◌, ◌^◌, ◌<◌, ◌≤◌, List, [], ◌∷◌, ◌++◌, length, get_or, take, refl, sym, ap}
+use Rattle.bpf_model.proofs.Prelude.{◌∙◌, arith, inl, inr, map, Option, Some, None, IfSome, IfNone, IsInRange, digits_of, AllBelowBase, first_digits_of}
+use Rattle.bpf_model.proofs.Prelude.{all_below_base_digits_of, same_from_digits_of, take_more, length-map, eq-zero-or-pos}
 use Rattle.disasm.specs.Text.{glyph, glyphs, numeral}
 use Rattle.disasm.proofs.Numerals.{above_zero, last_digit}
 use Rattle.asm.specs.Reading.{capped}

@@ -1,7 +1,5 @@
 -- How the parts of a line are told by its separators.
-use Rattle.std.proofs.Common.{ℕ, ◌≡◌, List, [], ◌∷◌, ◌++◌, refl, sym, ap, ◌∙◌, append_assoc}
-use Rattle.std.specs.Prelude.{Option, Some, None, IfSome}
-use Rattle.std.proofs.lemmas.List.{append-nil}
+use Rattle.bpf_model.proofs.Prelude.{ℕ, ◌≡◌, List, [], ◌∷◌, ◌++◌, refl, sym, ap, ◌∙◌, append_assoc, Option, Some, None, IfSome, append-nil, tails, cons-nil}
 use Rattle.disasm.specs.Text.{mnemonic_text, argument_text, arguments_text}
 use Rattle.disasm.specs.declared.mnemonic.Mnemonic.{Mnemonic}
 use Rattle.disasm.specs.declared.statement.Argument.{Argument}
@@ -11,7 +9,6 @@ use Rattle.disasm.specs.declared.statement.Statement.{Statement}
 use Rattle.asm.specs.Reading.{IsArgumentsRead, ReadsArguments, IsStatementRead, capped_argument, capped_arguments, Lacks}
 use Rattle.asm.proofs.Lacking.{not_lacks, argument_lacks}
 use Rattle.asm.proofs.PlainNames.{name_lacks}
-use Rattle.bpf_model.proofs.Lists.{tails, cons-nil}
 
 regroup : (a b d mid : List ℕ) → (((a ++ mid) ++ b) ++ mid) ++ d ≡ a ++ (mid ++ (b ++ (mid ++ d)))
 regroup a b d mid = simp append_assoc

@@ -1,15 +1,8 @@
 -- A text of the fixed language stays as it is.
-use Rattle.std.proofs.Common.{ℕ, zero, suc, ◌≡◌, ◌≢◌, ◌+◌, ◌<◌, ◌==◌, Bool, true, false, ◌&&◌, ◌||◌, cond}
-use Rattle.std.proofs.Common.{List, [], ◌∷◌, ◌++◌, length, get_or, refl, sym, ap, ◌∙◌, arith, append_assoc, inl, inr}
-use Rattle.std.specs.Prelude.{map, nat_le, Option, None, Result, Ok, codes, bytes_eq}
-use Rattle.std.specs.List.{AllByRecursion, flat_map, onto_first}
-use Rattle.std.specs.Str.{all_ascii_digits}
-use Rattle.std.specs.Int.Digits.{digits_of, AllBelowBase}
-use Rattle.std.proofs.lemmas.Int.Digits.{all_below_base_digits_of, first_digits_of}
-use Rattle.std.proofs.lemmas.List.{append-nil, length-map}
-use Rattle.std.proofs.lemmas.Bool.{ne_eqb, and_parts}
-use Rattle.std.proofs.lemmas.Bool.Decides.{nat_tests}
-use Rattle.std.proofs.Math.Nat.{eq-zero-or-pos}
+use Rattle.bpf_model.proofs.Prelude.{ℕ, zero, suc, ◌≡◌, ◌≢◌, ◌+◌, ◌<◌, ◌==◌, Bool, true, false, ◌&&◌, ◌||◌, cond, List, [], ◌∷◌, ◌++◌, length, get_or, refl}
+use Rattle.bpf_model.proofs.Prelude.{sym, ap, ◌∙◌, arith, append_assoc, inl, inr, map, nat_le, Option, None, Result, Ok, codes, bytes_eq, AllByRecursion}
+use Rattle.bpf_model.proofs.Prelude.{flat_map, onto_first, all_ascii_digits, digits_of, AllBelowBase, all_below_base_digits_of, first_digits_of, append-nil}
+use Rattle.bpf_model.proofs.Prelude.{length-map, ne_eqb, and_parts, nat_tests, eq-zero-or-pos}
 use Rattle.disasm.specs.declared.statement.Sign.{Sign}
 use Rattle.disasm.specs.declared.statement.Sign.TheVariants.{Plus, Minus}
 use Rattle.disasm.specs.declared.statement.Argument.{Argument}
@@ -22,8 +15,8 @@ use Rattle.disasm.proofs.Numerals.{above_zero}
 use Rattle.asm_source.specs.Tokens.{is_letter, begins_word, tokens_of, lines_of}
 use Rattle.asm_source.specs.Numbers.{hex_in}
 use Rattle.asm_source.specs.Names.{Binding, is_name, is_register, label_in, is_constant, instruction_in, slots_after, with_line, with_lines}
-use Rattle.asm_source.specs.Plain.{Meanings, role_of, gap, joined, fed, is_end, token_text, tokens_text}
-use Rattle.asm_source.specs.Plain.{instruction_text, line_text, lines_text, plain, text_with}
+use Rattle.asm_source.specs.Plain.{Meanings, role_of, gap, joined, fed, is_end, token_text, tokens_text, instruction_text, line_text, lines_text, plain}
+use Rattle.asm_source.specs.Plain.{text_with}
 use Rattle.asm.specs.Faults.{is_comment}
 use Rattle.asm_source.specs.Fixed.{IsFixedLine, IsFixed, kept, kept_text}
 use Rattle.asm_source.specs.declared.site.Site.{Site}

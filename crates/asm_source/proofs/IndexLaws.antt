@@ -1,15 +1,11 @@
 -- Names in a list, and their places.
-use Rattle.std.proofs.Common.{ℕ, suc, ◌≡◌, ◌+◌, ◌≤◌, Bool, true, false, cond, not, List, [], ◌∷◌, ◌++◌, length, Bor}
-use Rattle.std.proofs.Common.{refl, sym, ap, ◌∙◌, arith}
-use Rattle.std.specs.Prelude.{nat_lt, nat_eq, Option, Some, None, is_some, option_map, slice_get, bytes_eq}
+use Rattle.bpf_model.proofs.Prelude.{ℕ, suc, ◌≡◌, ◌+◌, ◌≤◌, Bool, true, false, cond, not, List, [], ◌∷◌, ◌++◌, length, Bor, refl, sym, ap, ◌∙◌, arith, nat_lt}
+use Rattle.bpf_model.proofs.Prelude.{nat_eq, Option, Some, None, is_some, option_map, slice_get, bytes_eq, slice_cmp, nat_cmp, find, position_or_len}
+use Rattle.bpf_model.proofs.Prelude.{length-append, bytes_eq-Decides}
 use Rattle.std.specs.BTreeMap.{BTreeMap, Updates, get_by}
-use Rattle.std.specs.Cmp.Lexicographic.{slice_cmp}
-use Rattle.std.specs.Ordering.{nat_cmp}
-use Rattle.std.specs.List.{find, position, position_or_len}
-use Rattle.std.proofs.lemmas.List.{length-append}
+use Rattle.std.specs.List.{position}
 use Rattle.std.proofs.lemmas.List.Folds.{find_at, position_or_len_push}
 use Rattle.std.proofs.lemmas.List.Sums.{prefix_len-le-length}
-use Rattle.std.proofs.lemmas.Slice.Eq.{bytes_eq-Decides}
 use Rattle.std.proofs.lemmas.Map.Text.{btree_map_updates_str}
 use Rattle.asm_source.specs.Names.{Binding, named}
 use Rattle.asm_source.specs.Index.{IsIndexOf}

@@ -1,17 +1,13 @@
 -- A plain text has as many lines as its source.
-use Rattle.std.proofs.Common.{ℕ, ◌≡◌, ◌+◌, ◌-◌, ◌==◌, Bool, true, false, not, ◌&&◌, ◌||◌, cond, List, [], ◌∷◌, ◌++◌}
-use Rattle.std.proofs.Common.{length, refl, sym, ap, subst, ◌∙◌, append_assoc, arith}
-use Rattle.std.specs.Prelude.{nat_lt, Option, Some, None, is_some, Result, Ok, Err, IfOk, codes, bytes_eq}
-use Rattle.std.specs.List.{onto_first}
-use Rattle.std.proofs.lemmas.Bool.{and_parts}
-use Rattle.std.proofs.lemmas.Bool.Decides.{nat_tests}
+use Rattle.bpf_model.proofs.Prelude.{ℕ, ◌≡◌, ◌+◌, ◌-◌, ◌==◌, Bool, true, false, not, ◌&&◌, ◌||◌, cond, List, [], ◌∷◌, ◌++◌, length, refl, sym, ap, subst, ◌∙◌}
+use Rattle.bpf_model.proofs.Prelude.{append_assoc, arith, nat_lt, Option, Some, None, is_some, Result, Ok, Err, IfOk, codes, bytes_eq, onto_first, and_parts}
+use Rattle.bpf_model.proofs.Prelude.{nat_tests}
 use Rattle.disasm.specs.Text.{numeral}
 use Rattle.asm_source.specs.Tokens.{is_blank, is_letter, begins_word, tokens_of, lines_of}
 use Rattle.asm_source.specs.Numbers.{hex_in}
 use Rattle.asm_source.specs.Names.{Binding, is_name, is_constant, label_in, instruction_in, slots_after, named, names_in}
-use Rattle.asm_source.specs.Plain.{Meanings, role_of, word_text, value_text, meaning_text, number_text, label_text, map_text}
-use Rattle.asm_source.specs.Plain.{name_text, last_text, token_text, closes, gap, joined, fed, is_end, tokens_text}
-use Rattle.asm_source.specs.Plain.{instruction_text, line_text, lines_text, text_with, plain}
+use Rattle.asm_source.specs.Plain.{Meanings, role_of, word_text, value_text, meaning_text, number_text, label_text, map_text, name_text, last_text}
+use Rattle.asm_source.specs.Plain.{token_text, closes, gap, joined, fed, is_end, tokens_text, instruction_text, line_text, lines_text, text_with, plain}
 use Rattle.asm_source.specs.declared.names.Meaning.{Meaning}
 use Rattle.asm_source.specs.declared.names.Meaning.TheVariants.{Place, Number}
 use Rattle.asm_source.specs.declared.site.Role.{Role}

@@ -1,23 +1,15 @@
 -- A label leads to its instruction.
-use Rattle.std.proofs.Common.{ℕ, zero, suc, ◌≡◌, ◌+◌, ◌-◌, ◌==◌, Bool, true, false, not, cond, List, [], ◌∷◌, ◌++◌, length}
-use Rattle.std.proofs.Common.{get_or, take, refl, sym, ap, subst, ◌∙◌, append_assoc, length-append, arith}
-use Rattle.std.specs.Prelude.{map, slice_get, count_by, Option, Some, None, is_some, option_map, Result, Ok, Err, codes, bytes_eq}
-use Rattle.std.specs.List.{filter, find, onto_first}
-use Rattle.std.proofs.lemmas.Bool.{and_parts, false≢true}
-use Rattle.std.proofs.lemmas.Slice.Eq.{bytes_eq-Decides}
-use Rattle.std.proofs.lemmas.List.Sums.{sum_by-cons}
-use Rattle.std.proofs.lemmas.List.Splits.{slice_split-cons_yes, slice_split-cons_no}
-use Rattle.std.proofs.lemmas.Option.{none-some, same_Some}
-use Rattle.bpf_model.proofs.Lists.{cons-nil, heads, tails}
-use Rattle.bpf_model.proofs.Places.{insn_at-beyond}
+use Rattle.bpf_model.proofs.Prelude.{ℕ, zero, suc, ◌≡◌, ◌+◌, ◌-◌, ◌==◌, Bool, true, false, not, cond, List, [], ◌∷◌, ◌++◌, length, get_or, take, refl, sym}
+use Rattle.bpf_model.proofs.Prelude.{ap, subst, ◌∙◌, append_assoc, arith, map, slice_get, count_by, Option, Some, None, is_some, option_map, Result, Ok, Err}
+use Rattle.bpf_model.proofs.Prelude.{codes, bytes_eq, filter, find, onto_first, and_parts, false≢true, bytes_eq-Decides, sum_by-cons, slice_split-cons_yes}
+use Rattle.bpf_model.proofs.Prelude.{slice_split-cons_no, none-some, same_Some, cons-nil, heads, tails, insn_at-beyond, slot_count, insn_at, slot_total}
+use Rattle.std.proofs.Common.{length-append}
 use Rattle.bpf_model.specs.declared.insn.Insn.{Insn}
-use Rattle.bpf_model.specs.Step.{slot_count, insn_at}
-use Rattle.bpf_model.specs.Places.{slot_total}
 use Rattle.disasm.specs.Text.{line_of}
 use Rattle.asm.specs.Faults.{is_comment, lines_in, statements_in}
 use Rattle.asm_source.specs.Tokens.{tokens_of, lines_of}
-use Rattle.asm_source.specs.Names.{Binding, is_name, is_constant, constant_in, label_in, instruction_in, slots_of, slots_after, named, names_in}
-use Rattle.asm_source.specs.Names.{with_binding, with_constant, with_label, with_line, with_lines}
+use Rattle.asm_source.specs.Names.{Binding, is_name, is_constant, constant_in, label_in, instruction_in, slots_of, slots_after, named, names_in, with_binding}
+use Rattle.asm_source.specs.Names.{with_constant, with_label, with_line, with_lines}
 use Rattle.asm_source.specs.Plain.{Meanings, fed, is_end, instruction_text, line_text, lines_text, text_with, plain}
 use Rattle.asm_source.specs.Labels.{has_instruction, instructions_above, place_of, HasLabel, JumpsByName, LeadsToLine, StandsAtLine}
 use Rattle.asm_source.specs.declared.names.Meaning.{Meaning}

@@ -1,9 +1,6 @@
 -- The first line of a text, and how many lines there are.
-use Rattle.std.proofs.Common.{ℕ, suc, ◌≡◌, ◌+◌, ◌<◌, ◌≤◌, ◌==◌, Bool, true, false, not, cond, List, [], ◌∷◌, length}
-use Rattle.std.proofs.Common.{take, drop, refl, sym, ap, ◌∙◌, arith, Option, Some, None}
-use Rattle.std.specs.Prelude.{nat_lt, position}
-use Rattle.std.specs.List.{prefix_len, onto_first}
-use Rattle.std.proofs.lemmas.Bool.Decides.{nat_tests}
+use Rattle.bpf_model.proofs.Prelude.{ℕ, suc, ◌≡◌, ◌+◌, ◌<◌, ◌≤◌, ◌==◌, Bool, true, false, not, cond, List, [], ◌∷◌, length, take, drop, refl, sym, ap, ◌∙◌}
+use Rattle.bpf_model.proofs.Prelude.{arith, Option, Some, None, nat_lt, position, prefix_len, onto_first, nat_tests}
 use Rattle.asm_source.specs.Tokens.{lines_of}
 
 abbrev is_feed : ℕ → Bool

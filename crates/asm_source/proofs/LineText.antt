@@ -1,16 +1,8 @@
 -- What the text of a line says of its tokens, and of the instruction that it is the line of.
-use Rattle.std.proofs.Common.{ℕ, ◌≡◌, ◌+◌, ◌-◌, ◌<◌, ◌≤◌, ◌==◌, Bool, true, false, not, ◌&&◌, ◌||◌, cond, List, [], ◌∷◌, ◌++◌}
-use Rattle.std.proofs.Common.{refl, sym, ap, get_or, ◌∙◌, append_assoc, arith, ◌⊎◌, inl, inr}
-use Rattle.std.specs.Prelude.{map, nat_lt, Option, Some, None, is_some, Result, Ok, Err, codes, bytes_eq, ℤ, pos, negsuc, ◌+ℤ◌}
-use Rattle.std.specs.List.{onto_first}
-use Rattle.std.specs.Int.Digits.{digits_of}
-use Rattle.std.proofs.lemmas.Int.Digits.{first_digits_of, same_from_digits_of}
-use Rattle.std.proofs.Math.Nat.{eq-zero-or-pos}
-use Rattle.std.proofs.lemmas.Bool.{and_parts}
-use Rattle.std.proofs.lemmas.List.{append-nil}
-use Rattle.std.proofs.lemmas.Bool.Decides.{nat_tests}
-use Rattle.std.proofs.lemmas.Int.{ints}
-use Rattle.bpf_model.proofs.Lists.{heads, tails}
+use Rattle.bpf_model.proofs.Prelude.{ℕ, ◌≡◌, ◌+◌, ◌-◌, ◌<◌, ◌≤◌, ◌==◌, Bool, true, false, not, ◌&&◌, ◌||◌, cond, List, [], ◌∷◌, ◌++◌, refl, sym, ap, get_or}
+use Rattle.bpf_model.proofs.Prelude.{◌∙◌, append_assoc, arith, ◌⊎◌, inl, inr, map, nat_lt, Option, Some, None, is_some, Result, Ok, Err, codes, bytes_eq, ℤ}
+use Rattle.bpf_model.proofs.Prelude.{pos, negsuc, ◌+ℤ◌, onto_first, digits_of, first_digits_of, same_from_digits_of, eq-zero-or-pos, and_parts, append-nil}
+use Rattle.bpf_model.proofs.Prelude.{nat_tests, ints, heads, tails, slot_count, distance}
 use Rattle.bpf_model.specs.declared.insn.Insn.{Insn}
 use Rattle.bpf_model.specs.declared.insn.Insn.TheVariants as insn
 use Rattle.bpf_model.specs.declared.insn.Operand.TheVariants as operand
@@ -19,18 +11,16 @@ use Rattle.bpf_model.specs.declared.insn.AluOp.TheVariants as alu
 use Rattle.bpf_model.specs.declared.insn.CallKind.TheVariants.{Helper, Kernel}
 use Rattle.bpf_model.specs.declared.opcode.Condition.TheVariants as condition
 use Rattle.bpf_model.specs.declared.opcode.ByteOrder.TheVariants.{ToLittle, ToBig, Swap}
-use Rattle.bpf_model.specs.Step.{slot_count}
-use Rattle.bpf_model.specs.Graph.{distance}
 use Rattle.disasm.specs.declared.statement.Arguments.{Arguments}
 use Rattle.disasm.specs.declared.statement.Arguments.TheVariants.{Zero, One, Two, Three}
-use Rattle.disasm.specs.Text.{glyph, glyphs, numeral, sign_text, sign_of, magnitude, argument_text, arguments_text, mnemonic_text, mnemonic_of, text_arguments}
-use Rattle.disasm.specs.Text.{source_argument, line_of}
+use Rattle.disasm.specs.Text.{glyph, glyphs, numeral, sign_text, sign_of, magnitude, argument_text, arguments_text, mnemonic_text, mnemonic_of}
+use Rattle.disasm.specs.Text.{text_arguments, source_argument, line_of}
 use Rattle.disasm.proofs.Numerals.{above_zero}
 use Rattle.asm.specs.Faults.{is_comment}
 use Rattle.asm_source.specs.Tokens.{is_blank, is_letter, begins_word, tokens_of}
 use Rattle.asm_source.specs.Names.{begins_name, is_register, is_name, is_constant, label_in, instruction_in, slots_of, named}
-use Rattle.asm_source.specs.Plain.{Meanings, role_of, word_text, distance_text, label_text, name_text, last_text, gap, joined, is_end}
-use Rattle.asm_source.specs.Plain.{token_text, tokens_text, instruction_text}
+use Rattle.asm_source.specs.Plain.{Meanings, role_of, word_text, distance_text, label_text, name_text, last_text, gap, joined, is_end, token_text}
+use Rattle.asm_source.specs.Plain.{tokens_text, instruction_text}
 use Rattle.asm_source.specs.declared.names.Meaning.{Meaning}
 use Rattle.asm_source.specs.declared.names.Meaning.TheVariants.{Place}
 use Rattle.asm_source.specs.declared.site.Role.{Role}

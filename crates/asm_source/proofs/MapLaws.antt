@@ -1,8 +1,7 @@
 -- Names in lists.
-use Rattle.std.proofs.Common.{ℕ, suc, ◌≡◌, ◌+◌, not, cond, List, [], ◌∷◌, ◌++◌, length, refl, sym, ap, ◌∙◌, Bor, append_assoc}
-use Rattle.std.specs.Prelude.{nat_lt, Some, None, bytes_eq}
-use Rattle.std.specs.List.{position, prefix_len}
-use Rattle.std.proofs.lemmas.List.{map-append, append-nil}
+use Rattle.bpf_model.proofs.Prelude.{ℕ, suc, ◌≡◌, ◌+◌, not, cond, List, [], ◌∷◌, ◌++◌, length, refl, sym, ap, ◌∙◌, Bor, append_assoc, nat_lt, Some, None}
+use Rattle.bpf_model.proofs.Prelude.{bytes_eq, prefix_len, map-append, append-nil}
+use Rattle.std.specs.List.{position}
 use Rattle.std.specs.Option.{option_to_list as names_by}
 use Rattle.asm_source.specs.Maps.{texts, map_name_in, map_names_in}
 

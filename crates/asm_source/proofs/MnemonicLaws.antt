@@ -1,8 +1,5 @@
 -- Mnemonics are lower letters and digits, and begin with a letter.
-use Rattle.std.proofs.Common.{ℕ, ◌≡◌, Bool, true, false, ◌&&◌, ◌||◌, List, [], ◌∷◌, ◌++◌}
-use Rattle.std.proofs.Common.{refl}
-use Rattle.std.specs.Prelude.{nat_le}
-use Rattle.std.proofs.lemmas.Bool.{and_parts}
+use Rattle.bpf_model.proofs.Prelude.{ℕ, ◌≡◌, Bool, true, false, ◌&&◌, ◌||◌, List, [], ◌∷◌, ◌++◌, refl, nat_le, and_parts}
 use Rattle.bpf_model.specs.declared.opcode.Size.{Size}
 use Rattle.bpf_model.specs.declared.opcode.Size.TheVariants.{Word32, Word64}
 use Rattle.bpf_model.specs.declared.opcode.Width.{Width}
@@ -20,11 +17,10 @@ use Rattle.bpf_model.specs.declared.insn.AluOp.TheVariants as alu
 use Rattle.bpf_model.specs.declared.insn.CallKind.{CallKind}
 use Rattle.bpf_model.specs.declared.insn.CallKind.TheVariants.{Helper, Kernel}
 use Rattle.disasm.specs.declared.mnemonic.Mnemonic.{Mnemonic}
-use Rattle.disasm.specs.declared.mnemonic.Mnemonic.TheVariants.{Alu, MoveSigned, Negate, ByteSwap, LoadNumber}
-use Rattle.disasm.specs.declared.mnemonic.Mnemonic.TheVariants.{LoadMap, Jump, JumpLong, JumpIf, Call, Exit, Load}
-use Rattle.disasm.specs.declared.mnemonic.Mnemonic.TheVariants.{LoadSigned, Store, StoreRegister}
-use Rattle.disasm.specs.Text.{mnemonic_text, stem_of, suffix_of, alu_stem, condition_stem, order_stem, size_suffix}
-use Rattle.disasm.specs.Text.{jump_suffix, swap_suffix, width_suffix, signed_width_suffix, call_suffix}
+use Rattle.disasm.specs.declared.mnemonic.Mnemonic.TheVariants.{Alu, MoveSigned, Negate, ByteSwap, LoadNumber, LoadMap, Jump, JumpLong, JumpIf, Call, Exit}
+use Rattle.disasm.specs.declared.mnemonic.Mnemonic.TheVariants.{Load, LoadSigned, Store, StoreRegister}
+use Rattle.disasm.specs.Text.{mnemonic_text, stem_of, suffix_of, alu_stem, condition_stem, order_stem, size_suffix, jump_suffix, swap_suffix, width_suffix}
+use Rattle.disasm.specs.Text.{signed_width_suffix, call_suffix}
 
 abbrev pub is_low : ℕ → Bool
 is_low b = nat_le 97 b && nat_le b 122

@@ -1,6 +1,5 @@
 -- One more line of names.
-use Rattle.std.proofs.Common.{ℕ, ◌≡◌, ◌+◌, List, [], ◌∷◌, sym, ap, ◌∙◌, inl, inr}
-use Rattle.std.specs.Prelude.{Result, Ok}
+use Rattle.bpf_model.proofs.Prelude.{ℕ, ◌≡◌, ◌+◌, List, [], ◌∷◌, sym, ap, ◌∙◌, inl, inr, Result, Ok}
 use Rattle.asm_source.specs.Tokens.{tokens_of}
 use Rattle.asm_source.specs.Names.{Binding, with_line, with_lines, slots_after}
 use Rattle.asm_source.specs.Faulty.{IsFaultOf}

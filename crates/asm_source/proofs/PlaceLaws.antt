@@ -1,10 +1,7 @@
 -- The lines above one, and the slots that their instructions take.
-use Rattle.std.proofs.Common.{ℕ, zero, suc, ◌≡◌, ◌+◌, ◌<◌, inl, inr, true, List, [], ◌∷◌, ap, sym, subst, ◌∙◌, arith}
-use Rattle.std.specs.Prelude.{Some, slice_get, sum_by, take, drop}
-use Rattle.std.proofs.lemmas.List.Sums.{sum_by-cons, sum_by-append}
-use Rattle.std.proofs.lemmas.Bool.{cases_lt}
-use Rattle.std.proofs.lemmas.Option.{none-some, same_Some}
-use Rattle.bpf_model.proofs.Lists.{cons-nil, heads, tails, take-next}
+use Rattle.bpf_model.proofs.Prelude.{ℕ, zero, suc, ◌≡◌, ◌+◌, ◌<◌, inl, inr, true, List, [], ◌∷◌, ap, sym, subst, ◌∙◌, arith, Some, slice_get, take, drop}
+use Rattle.bpf_model.proofs.Prelude.{sum_by-cons, sum_by-append, cases_lt, none-some, same_Some, cons-nil, heads, tails, take-next}
+use Rattle.std.specs.Prelude.{sum_by}
 use Rattle.asm_source.specs.Tokens.{lines_of, tokens_of}
 use Rattle.asm_source.specs.Names.{instruction_in, slots_of}
 use Rattle.asm_source.specs.Labels.{BeginsAt, has_instruction, slots_above}

@@ -1,7 +1,5 @@
 -- Texts behind one another.
-use Rattle.std.proofs.Common.{ℕ, ◌≡◌, ◌+◌, Bool, List, [], ◌∷◌, ◌++◌, refl, sym, ap, ◌∙◌, append_assoc, inl, inr}
-use Rattle.std.specs.Prelude.{Result, Ok, Err}
-use Rattle.std.proofs.lemmas.List.{append-nil}
+use Rattle.bpf_model.proofs.Prelude.{ℕ, ◌≡◌, ◌+◌, Bool, List, [], ◌∷◌, ◌++◌, refl, sym, ap, ◌∙◌, append_assoc, inl, inr, Result, Ok, Err, append-nil}
 use Rattle.asm_source.specs.Names.{slots_after}
 use Rattle.asm_source.specs.Faulty.{IsFaultOf}
 use Rattle.asm_source.specs.Plain.{Meanings, gap, joined, prepended, fed, is_end, token_text, tokens_text, line_text, lines_text}

@@ -1,8 +1,6 @@
 -- The first token of a line.
-use Rattle.std.proofs.Common.{ℕ, suc, ◌≡◌, ◌≢◌, ◌+◌, ◌<◌, ◌==◌, Bool, true, false, not, ◌||◌, ◌&&◌, cond, List, [], ◌∷◌}
-use Rattle.std.proofs.Common.{length, get_or, take, drop, refl, sym, ap, ◌∙◌, arith}
-use Rattle.std.specs.List.{prefix_len, onto_first}
-use Rattle.std.proofs.lemmas.Bool.{ne_eqb}
+use Rattle.bpf_model.proofs.Prelude.{ℕ, suc, ◌≡◌, ◌≢◌, ◌+◌, ◌<◌, ◌==◌, Bool, true, false, not, ◌||◌, ◌&&◌, cond, List, [], ◌∷◌, length, get_or, take, drop}
+use Rattle.bpf_model.proofs.Prelude.{refl, sym, ap, ◌∙◌, arith, prefix_len, onto_first, ne_eqb}
 use Rattle.asm_source.specs.Tokens.{is_blank, is_mark, is_letter, begins_word, tokens_of}
 
 no_comment : (b : ℕ) → is_blank b ≡ true → (b == 59) ≡ false

@@ -1,5 +1,5 @@
 -- The bytes 0, 1, 2 and so on.
-use Rattle.std.proofs.Common.{◌≡◌, ℕ, ◌<◌, List, length, slice_index}
+use Rattle.bpf_model.proofs.Prelude.{◌≡◌, ℕ, ◌<◌, List, length, slice_index}
 
 -- so many bytes, each the number of its index
 pub record Counts (bytes : List ℕ) (n : ℕ) : Type 0 where

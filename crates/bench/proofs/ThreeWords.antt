@@ -1,6 +1,5 @@
 -- Three words.
-use Rattle.std.proofs.Common.{◌≡◌, ℕ, ◌<◌, ◌≤◌, sym, ◌∙◌, ap, arith, length, get_or, List, [], ◌∷◌}
-use Rattle.std.specs.Prelude.{map}
+use Rattle.bpf_model.proofs.Prelude.{◌≡◌, ℕ, ◌<◌, ◌≤◌, sym, ◌∙◌, ap, arith, length, get_or, List, [], ◌∷◌, map}
 
 -- the texts of three words
 pub three : {A : Type 0} (f : A → List ℕ) (xs : List A) (a b c : A) → 3 ≤ length xs → length xs < 4 →

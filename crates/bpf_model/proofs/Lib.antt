@@ -1,3 +1,4 @@
+pub mod Prelude
 pub mod Bytes
 pub mod Cases
 pub mod Keys

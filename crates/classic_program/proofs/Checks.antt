@@ -1,8 +1,8 @@
 -- What a check has found, and what a well-formed program rules out.
-use Rattle.std.proofs.Common.{◌≡◌, ℕ, suc, ◌<◌, ◌≤◌, List, [], ◌∷◌, length, Some, true, false, refl, sym, ap, ◌∙◌, subst, arith, inl, inr}
-use Rattle.std.specs.Prelude.{slice_get, eqb, ◌⊎◌}
-use Rattle.std.proofs.lemmas.Option.{slice_get_within}
-use Rattle.bpf_model.proofs.Lists.{get-below}
+use Rattle.bpf_model.proofs.Prelude.{◌≡◌, ℕ, suc, ◌<◌, ◌≤◌, List, [], ◌∷◌, length, Some, true, false, refl, sym, ap, ◌∙◌, subst, arith, inl, inr, slice_get}
+use Rattle.bpf_model.proofs.Prelude.{eqb, ◌⊎◌, slice_get_within, get-below}
+use Rattle.classic_program.proofs.Prelude.{IsSoundAt, IsInsnOf, AreInsnsOf, FitsClassic, divides_by_zero, is_of, reads_from, stores_to, Reaches, LeadsInside}
+use Rattle.classic_program.proofs.Prelude.{IsWellFormed}
 use Rattle.classic_program.specs.declared.data.Data.{Data}
 use Rattle.classic_program.specs.declared.fault.ClassicFault.{ClassicFault}
 use Rattle.classic_program.specs.declared.fault.ClassicFault.TheVariants as fault
@@ -10,10 +10,8 @@ use Rattle.classic_program.specs.declared.insn.ClassicInsn.{ClassicInsn}
 use Rattle.classic_program.specs.declared.insn.ClassicInsn.TheVariants as classic
 use Rattle.classic_program.specs.declared.insn.Datum.TheVariants as data_
 use Rattle.classic_program.specs.declared.sock_filter.SockFilter.{SockFilter}
-use Rattle.classic_program.specs.Faults.{IsDecodeFault, IsCheckFault, IsFlawAt, IsSoundAt, IsUnstored}
-use Rattle.classic_program.specs.Opcode.{IsInsnOf, AreInsnsOf}
-use Rattle.classic_program.specs.WellFormed.{FitsClassic, divides_by_zero, shifts_too_far, is_of, is_policy_remainder, reads_from}
-use Rattle.classic_program.specs.WellFormed.{most_instructions, stores_to, Reaches, LeadsInside, IsWellFormed}
+use Rattle.classic_program.specs.Faults.{IsDecodeFault, IsCheckFault, IsFlawAt, IsUnstored}
+use Rattle.classic_program.specs.WellFormed.{shifts_too_far, is_policy_remainder, most_instructions}
 use Rattle.classic_program.proofs.Every.{all-at, all-from}
 
 same-list : (xs ys : List ClassicInsn) → length xs ≡ length ys → ((k : ℕ) (x y : ClassicInsn) → slice_get xs k ≡ Some x → slice_get ys k ≡ Some y → x ≡ y)

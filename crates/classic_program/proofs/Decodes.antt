@@ -1,11 +1,9 @@
 -- The instructions that were decoded so far.
-use Rattle.std.proofs.Common.{◌≡◌, ℕ, ◌+◌, ◌≤◌, List, [], ◌∷◌, ◌++◌, length, Some, refl, sym, ap, ◌∙◌, subst, arith, inl, inr}
-use Rattle.std.specs.Prelude.{slice_get}
-use Rattle.std.proofs.lemmas.List.{length-append}
-use Rattle.bpf_model.proofs.Lists.{get-append_cases}
+use Rattle.bpf_model.proofs.Prelude.{◌≡◌, ℕ, ◌+◌, ◌≤◌, List, [], ◌∷◌, ◌++◌, length, Some, refl, sym, ap, ◌∙◌, subst, arith, inl, inr, slice_get}
+use Rattle.bpf_model.proofs.Prelude.{length-append, get-append_cases}
+use Rattle.classic_program.proofs.Prelude.{IsInsnOf, AreInsnsOf}
 use Rattle.classic_program.specs.declared.insn.ClassicInsn.{ClassicInsn}
 use Rattle.classic_program.specs.declared.sock_filter.SockFilter.{SockFilter}
-use Rattle.classic_program.specs.Opcode.{IsInsnOf, AreInsnsOf}
 
 pub record IsDecoding (filter : List SockFilter) (program : List ClassicInsn) (index : ℕ) : Type 0 where
   pub size : length program ≡ index

@@ -1,3 +1,4 @@
+pub mod Prelude
 pub mod Checks
 pub mod Decodes
 pub mod Every

@@ -1,12 +1,11 @@
 -- The lines of a listing that are read so far.
-use Rattle.std.proofs.Common.{◌≡◌, ℕ, suc, ◌+◌, ◌<◌, ◌≤◌, List, [], ◌∷◌, ◌++◌, length, refl, sym, ap, ◌∙◌, subst, arith, inl, inr}
-use Rattle.std.specs.Prelude.{map, slice_get, Option, Some, None, ◌⊎◌}
-use Rattle.std.proofs.lemmas.List.{append_assoc, append-nil, length-append, map-append}
-use Rattle.std.proofs.lemmas.Option.{same_Some}
-use Rattle.bpf_model.proofs.Lists.{get-below, get-map, get-append, heads, tails}
+use Rattle.bpf_model.proofs.Prelude.{◌≡◌, ℕ, suc, ◌+◌, ◌<◌, ◌≤◌, List, [], ◌∷◌, ◌++◌, length, refl, sym, ap, ◌∙◌, subst, arith, inl, inr, map, slice_get}
+use Rattle.bpf_model.proofs.Prelude.{Option, Some, None, ◌⊎◌, append-nil, length-append, map-append, same_Some, get-below, get-map, get-append, heads, tails}
+use Rattle.classic_program.proofs.Prelude.{filter_in, parts_at, IsListing}
+use Rattle.std.proofs.lemmas.List.{append_assoc}
 use Rattle.script_lines.specs.Words.{number_in}
 use Rattle.classic_program.specs.declared.sock_filter.SockFilter.{SockFilter}
-use Rattle.classic_program.specs.Reading.{filter_in, parts_at, HasLines, IsListing}
+use Rattle.classic_program.specs.Reading.{HasLines}
 use Rattle.classic_program.proofs.Splits.{first-part, no-bytes}
 
 pub record IsReadingLines (all left : List (List ℕ)) (filters : List SockFilter) (index : ℕ) : Type 0 where

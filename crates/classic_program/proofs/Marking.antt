@@ -1,15 +1,11 @@
 -- The marks of the instructions that paths lead to.
-use Rattle.std.proofs.Common.{◌≡◌, ℕ, ◌+◌, ◌<◌, ◌≤◌, List, length, Some, Bool, true, false, get_or, refl, sym, ap, ◌∙◌, subst, arith, inl, inr}
-use Rattle.std.specs.Prelude.{slice_get, slice_set, replicate, ◌⊎◌}
-use Rattle.std.proofs.lemmas.Bool.{cases_eq, cases_lt}
-use Rattle.std.proofs.lemmas.List.{length-set, length-replicate}
-use Rattle.std.proofs.lemmas.Option.{slice_get_within, slice_get-get_or}
-use Rattle.bpf_model.proofs.Lists.{get-set_same, get-set_other, get-set_cases, get-replicate}
+use Rattle.bpf_model.proofs.Prelude.{◌≡◌, ℕ, ◌+◌, ◌<◌, ◌≤◌, List, length, Some, Bool, true, false, get_or, refl, sym, ap, ◌∙◌, subst, arith, inl, inr}
+use Rattle.bpf_model.proofs.Prelude.{slice_get, slice_set, replicate, ◌⊎◌, cases_eq, cases_lt, length-set, length-replicate, slice_get_within}
+use Rattle.bpf_model.proofs.Prelude.{slice_get-get_or, get-set_same, get-set_other, get-set_cases, get-replicate}
+use Rattle.classic_program.proofs.Prelude.{IsSkip, Marks, AreMarks, skips_of, MaySkip, Reaches, reaches_first, reaches_next}
 use Rattle.classic_program.specs.declared.insn.ClassicInsn.{ClassicInsn}
 use Rattle.classic_program.specs.declared.insn.ClassicInsn.TheVariants as classic
 use Rattle.classic_program.specs.declared.paths.Skips.TheVariants.{Nowhere, One, Two}
-use Rattle.classic_program.specs.Paths.{IsSkip, Marks, AreMarks, skips_of}
-use Rattle.classic_program.specs.WellFormed.{MaySkip, Reaches, reaches_first, reaches_next}
 
 pub to-skip : (i : ClassicInsn) (s : ℕ) → MaySkip i s → IsSkip (skips_of i) s
 to-skip (classic.Load into datum) s h = h

@@ -1,14 +1,11 @@
 -- Bytes that are cut at the first of one byte.
-use Rattle.std.proofs.Common.{◌≡◌, ◌≢◌, ℕ, zero, suc, ◌+◌, ◌-◌, ◌<◌, ◌==◌, Bool, true, false, List, [], ◌∷◌, ◌++◌, length, get_or, take, drop, refl, sym, ap}
-use Rattle.std.proofs.Common.{subst, ◌∙◌, arith, length-drop, inl, inr}
-use Rattle.std.proofs.lemmas.Bool.{ne_eqb, eq-eqb}
-use Rattle.std.proofs.lemmas.List.{take_more}
-use Rattle.std.proofs.lemmas.List.Elements.{All-nil, All-cons, All-append}
-use Rattle.std.proofs.lemmas.List.Splits.{slice_split_none, slice_split_at, slice_split-cons_yes, slice_split-cons_no}
+use Rattle.bpf_model.proofs.Prelude.{◌≡◌, ◌≢◌, ℕ, zero, suc, ◌+◌, ◌-◌, ◌<◌, ◌==◌, Bool, true, false, List, [], ◌∷◌, ◌++◌, length, get_or, take, drop, refl}
+use Rattle.bpf_model.proofs.Prelude.{sym, ap, subst, ◌∙◌, arith, inl, inr, ne_eqb, eq-eqb, take_more, All-nil, All-cons, All-append, slice_split_none}
+use Rattle.bpf_model.proofs.Prelude.{slice_split_at, slice_split-cons_yes, slice_split-cons_no, onto_first, Option, Some, None, is_some, ◌⊎◌}
+use Rattle.classic_program.proofs.Prelude.{Lacks, parts_at, parts_left, filter_in}
+use Rattle.std.proofs.Common.{length-drop}
 use Rattle.std.specs.Borrow.{Bor}
-use Rattle.std.specs.List.{onto_first}
-use Rattle.std.specs.Prelude.{Option, Some, None, is_some, ◌⊎◌}
-use Rattle.classic_program.specs.Reading.{Lacks, parts_at, parts_left, filter_in, filter_of_words}
+use Rattle.classic_program.specs.Reading.{filter_of_words}
 use Rattle.classic_program.proofs.Records.{take-whole}
 
 -- one byte more that is another

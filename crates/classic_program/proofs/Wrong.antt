@@ -1,11 +1,8 @@
 -- What is wrong with the lines of a listing.
-use Rattle.std.proofs.Common.{◌≡◌, ℕ, zero, suc, ◌+◌, ◌<◌, ◌≤◌, List, [], ◌∷◌, ◌++◌, length, refl, sym, ap, ◌∙◌, subst, arith, inr}
-use Rattle.std.specs.Prelude.{map, take, All, Some, None, IfErr, Result, Ok, Err}
-use Rattle.std.proofs.lemmas.List.Elements.{All-nil, All-cons}
-use Rattle.std.proofs.lemmas.List.{append_cancel_left, append-nil, length-append}
-use Rattle.bpf_model.proofs.Lists.{heads, tails}
+use Rattle.bpf_model.proofs.Prelude.{◌≡◌, ℕ, zero, suc, ◌+◌, ◌<◌, ◌≤◌, List, [], ◌∷◌, ◌++◌, length, refl, sym, ap, ◌∙◌, subst, arith, inr, map, take, All}
+use Rattle.bpf_model.proofs.Prelude.{Some, None, IfErr, Result, Ok, Err, All-nil, All-cons, append_cancel_left, append-nil, length-append, heads, tails}
+use Rattle.classic_program.proofs.Prelude.{filter_in, parts_at}
 use Rattle.classic_program.specs.declared.sock_filter.SockFilter.{SockFilter}
-use Rattle.classic_program.specs.Reading.{filter_in, parts_at}
 use Rattle.classic_program.specs.declared.fault.ReadFault.{ReadFault}
 use Rattle.classic_program.specs.ReadFaults.{HasFilter, IsFirstWrong, IsMiscounted, IsLinesFault, IsListingFault}
 use Rattle.script_lines.specs.Words.{number_in}

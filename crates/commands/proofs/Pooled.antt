@@ -1,13 +1,10 @@
 -- What a pool gives of a file's program.
-use Rattle.std.proofs.Common.{◌≡◌, ℕ, List, refl, sym, subst, inl, inr, arith}
-use Rattle.std.specs.Prelude.{Option, Result, Ok, Err, MatchResult, OnOk}
-use Rattle.std.specs.Io.KnownBytes.{Appends}
-use Rattle.std.proofs.KnownBytes.{Appends-trans}
+use Rattle.bpf_model.proofs.Prelude.{◌≡◌, ℕ, List, refl, sym, subst, inl, inr, arith, Option, Result, Ok, Err, MatchResult, OnOk, Appends, Appends-trans}
+use Rattle.bpf_model.proofs.Prelude.{shapes_of_maps}
+use Rattle.plan_laws.proofs.Prelude.{IsVerified}
+use Rattle.verifier.proofs.Prelude.{HasGoodGraph}
 use Rattle.bpf_model.specs.declared.insn.Insn.{Insn}
 use Rattle.bpf_model.specs.declared.limits.MapShape.{MapShape}
-use Rattle.bpf_model.specs.View.{shapes_of_maps}
-use Rattle.verifier.specs.GraphFlaws.{HasGoodGraph}
-use Rattle.plan_laws.specs.Verified.{IsVerified}
 use Rattle.job_queue.specs.declared.fault.PoolFault.{PoolFault}
 use Rattle.worker_pool.specs.Lines.{job_lines}
 use Rattle.worker_pool.specs.Outcomes.{AreOutcomesOn, IsFaultOf}

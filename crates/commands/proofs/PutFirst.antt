@@ -1,17 +1,11 @@
 -- Elements that are put one after another, and what is told of one that is not.
-use Rattle.std.proofs.Common.{◌≡◌, ◌∙◌, ℕ, zero, suc, arith, ◌+◌, ◌<◌, ◌≤◌, List, [], ◌∷◌, ◌++◌, length, map, take}
-use Rattle.std.proofs.Common.{get_or, drop, All, Some, None, ap, sym, subst}
-use Rattle.std.specs.Prelude.{option_map, slice_get}
+use Rattle.bpf_model.proofs.Prelude.{◌≡◌, ◌∙◌, ℕ, zero, suc, arith, ◌+◌, ◌<◌, ◌≤◌, List, [], ◌∷◌, ◌++◌, length, map, take, get_or, drop, All, Some, None, ap}
+use Rattle.bpf_model.proofs.Prelude.{sym, subst, option_map, slice_get, map-append, take_more, All-append, slice_get-map, AreShapes, MapView}
 use Rattle.std.proofs.Math.Seq.{split_at}
-use Rattle.std.proofs.lemmas.List.{map-append, take_more}
-use Rattle.std.proofs.lemmas.List.Elements.{All-append}
-use Rattle.std.proofs.lemmas.Option.{slice_get-map}
 use Rattle.bpf_model.specs.declared.event.Event.{Event}
 use Rattle.bpf_model.specs.declared.event.EventRefusal.{EventRefusal}
 use Rattle.bpf_model.specs.declared.limits.MapShape.{MapShape}
 use Rattle.bpf_model.specs.declared.limits.TheConstants.{KEY_BYTES, VALUE_BYTES}
-use Rattle.bpf_model.specs.Shapes.{AreShapes}
-use Rattle.bpf_model.specs.View.{MapView}
 use Rattle.maps.specs.Registry.{RegistryView}
 use Rattle.command_words.specs.declared.request.MapElement.{MapElement}
 use Rattle.commands.specs.Runs.{element_refusal, put_event, AllFit, HasBadElement}

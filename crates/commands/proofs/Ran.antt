@@ -1,14 +1,13 @@
 -- What one run gives of a file's program.
-use Rattle.std.proofs.Common.{◌≡◌, ◌≢◌, ◌⊎◌, ℕ, List, [], Bool, false, length, map, All, refl, sym, subst, inl, inr}
+use Rattle.bpf_model.proofs.Prelude.{◌≡◌, ◌≢◌, ◌⊎◌, ℕ, List, [], Bool, false, length, map, All, refl, sym, subst, inl, inr, WorldView, shapes_of_maps}
+use Rattle.plan_laws.proofs.Prelude.{IsVerified}
+use Rattle.verifier.proofs.Prelude.{HasGoodGraph}
 use Rattle.std.proofs.lemmas.List.Elements.{All-map}
 use Rattle.bpf_model.specs.declared.event.Event.{Event}
 use Rattle.bpf_model.specs.declared.event.EventRefusal.{EventRefusal}
 use Rattle.bpf_model.specs.declared.event.EventRefusal.TheVariants.{BadContext}
 use Rattle.bpf_model.specs.declared.insn.Insn.{Insn}
-use Rattle.bpf_model.specs.View.{WorldView, shapes_of_maps}
 use Rattle.maps.specs.Registry.{RegistryView}
-use Rattle.verifier.specs.GraphFlaws.{HasGoodGraph}
-use Rattle.plan_laws.specs.Verified.{IsVerified}
 use Rattle.program_files.specs.declared.program_file.Source.{Source}
 use Rattle.program_files.specs.declared.verdict.Verdict.TheVariants.{Memory}
 use Rattle.program_files.specs.Checks.{content_with, IsSourceOf}

@@ -1,7 +1,6 @@
 -- What a script's end says of an input whose bytes are known.
-use Rattle.std.proofs.Common.{◌≡◌, ℕ, List, inl, inr, sym, subst}
-use Rattle.std.specs.Prelude.{Option, Some, None, IfSome}
-use Rattle.std.specs.Io.KnownBytes.{Appends, Consumes, IsAtEnd}
+use Rattle.bpf_model.proofs.Prelude.{◌≡◌, ℕ, List, inl, inr, sym, subst, Option, Some, None, IfSome, Appends, Consumes}
+use Rattle.std.specs.Io.KnownBytes.{IsAtEnd}
 use Rattle.std.proofs.KnownBytes.{Consumes-whole}
 use Rattle.control.specs.Histories.{History, Continues, new_history}
 use Rattle.control.specs.Sessions.{IsNoCommand}

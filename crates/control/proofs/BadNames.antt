@@ -1,9 +1,6 @@
 -- A text that is no UTF-8 is no name of a map.
-use Rattle.std.proofs.Common.{◌≡◌, ℕ, false, List, Some, refl}
-use Rattle.std.specs.Str.{IsUtf8}
-use Rattle.std.proofs.lemmas.Bool.{false_from_ne_true}
-use Rattle.std.proofs.lemmas.Str.{IsUtf8-from_ascii}
-use Rattle.bpf_model.specs.declared.limits.MapShape.{MapShape}
+use Rattle.bpf_model.proofs.Prelude.{◌≡◌, ℕ, false, List, Some, refl, IsUtf8, false_from_ne_true, IsUtf8-from_ascii}
+use Rattle.model_laws.proofs.Prelude.{MapShape}
 use Rattle.maps.specs.declared.fault.MapFault.TheVariants.{BadName}
 use Rattle.maps.proofs.Names.{ascii_name}
 use Rattle.maps.specs.Registry.{RegistryView, creation_fault, is_name}

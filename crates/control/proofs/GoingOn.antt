@@ -1,6 +1,6 @@
 -- Texts that begin with others.
-use Rattle.std.proofs.Common.{◌≡◌, ◌∙◌, List, ℕ, [], ◌++◌, sym, ap, append-nil, append_assoc}
-use Rattle.std.specs.Prelude.{Result, Ok, Err, OnErr}
+use Rattle.bpf_model.proofs.Prelude.{◌≡◌, ◌∙◌, List, ℕ, [], ◌++◌, sym, ap, append_assoc, Result, Ok, Err, OnErr}
+use Rattle.std.proofs.Common.{append-nil}
 use Rattle.script_lines.specs.ReplyText.{GoesOn}
 
 pub nothing-more : (text : List ℕ) → GoesOn text text

@@ -1,13 +1,11 @@
 -- Setups that grow by a map or a program.
-use Rattle.std.proofs.Common.{◌≡◌, ℕ, inl, inr, List, [], ◌∷◌, ◌++◌, map, Some, refl, sym, subst}
-use Rattle.std.specs.Prelude.{slice_get}
-use Rattle.std.proofs.lemmas.List.{map-append}
-use Rattle.bpf_model.specs.declared.limits.MapShape.{MapShape}
-use Rattle.bpf_model.specs.View.{MapView, shapes_of_maps}
+use Rattle.bpf_model.proofs.Prelude.{◌≡◌, ℕ, inl, inr, List, [], ◌∷◌, ◌++◌, map, Some, refl, sym, subst, slice_get, map-append, MapView, shapes_of_maps}
+use Rattle.bpf_model.proofs.Prelude.{get-append, get-append_cases}
+use Rattle.model_laws.proofs.Prelude.{MapShape}
+use Rattle.world.proofs.Prelude.{IsBound, AreProgramsBound}
+use Rattle.world_laws.proofs.Prelude.{IsBoundTo}
 use Rattle.world.specs.declared.kept.loaded.Loaded.{Loaded}
-use Rattle.world_laws.specs.Binding.{IsBoundTo}
-use Rattle.world.specs.BoundTo.{IsBound, AreProgramsBound}
-use Rattle.bpf_model.proofs.Lists.{get-append, get-append_cases, map-next}
+use Rattle.bpf_model.proofs.Lists.{map-next}
 
 -- Numbers that are found in a list are found in a longer one.
 pub found-more : {A : Type 0} (xs ys : List A) (numbers : List ℕ) (asked : List A) →

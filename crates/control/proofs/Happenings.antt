@@ -1,16 +1,11 @@
 -- What happens in a world.
-use Rattle.std.proofs.Common.{◌≡◌, ◌∙◌, ℕ, zero, suc, ◌+◌, List, [], ◌∷◌, ◌++◌, replicate, refl, subst, sym, ap}
-use Rattle.std.proofs.lemmas.Option.{none-some, same_Some}
-use Rattle.bpf_model.specs.declared.event.Event.{Event}
-use Rattle.bpf_model.specs.declared.event.Event.TheVariants.{Step}
-use Rattle.bpf_model.specs.declared.event.Answer.{Answer}
-use Rattle.bpf_model.specs.Real.{IsReal, AreReal}
-use Rattle.bpf_model.specs.View.{WorldView}
+use Rattle.bpf_model.proofs.Prelude.{◌≡◌, ◌∙◌, ℕ, zero, suc, ◌+◌, List, [], ◌∷◌, ◌++◌, replicate, refl, subst, sym, ap, none-some, same_Some, IsReal, AreReal}
+use Rattle.bpf_model.proofs.Prelude.{WorldView}
+use Rattle.model_laws.proofs.Prelude.{Event, Step, Answer}
+use Rattle.world_laws.proofs.Prelude.{full_reaction, full_reactions, IsWorld}
 use Rattle.world.proofs.Answering.{AllReact, all_scheduled}
-use Rattle.world_laws.specs.Reacting.{full_reaction, full_reactions}
 use Rattle.world_laws.proofs.Appending.{view_append}
 use Rattle.world_laws.proofs.Keeping.{full_keeps}
-use Rattle.world_laws.specs.Invariant.{IsWorld}
 use Rattle.control.specs.Lives.{Happen}
 use Rattle.control.specs.Replies.{MakesSteps}
 

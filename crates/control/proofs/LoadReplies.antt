@@ -1,23 +1,19 @@
 -- What a program's bytes are replied.
-use Rattle.std.proofs.Common.{◌≡◌, ◌≢◌, ℕ, ◌<◌, ◌≤◌, inl, inr, List, length, None, Result, Ok, Err, IfOk, refl, sym, ap, subst, arith}
-use Rattle.std.proofs.lemmas.Bool.Decides.{nat_tests}
-use Rattle.bpf_model.specs.declared.limits.TheConstants.{MAX_PROGRAMS, CTX_BYTES}
-use Rattle.bpf_model.specs.declared.insn.Insn.{Insn}
-use Rattle.bpf_model.specs.declared.limits.MapShape.{MapShape}
-use Rattle.model_laws.specs.PlainMaps.{IsPlainWithMaps}
-use Rattle.bpf_model.specs.Spelling.{IsProgram, text}
+use Rattle.bpf_model.proofs.Prelude.{◌≡◌, ◌≢◌, ℕ, ◌<◌, ◌≤◌, inl, inr, List, length, None, Result, Ok, Err, IfOk, refl, sym, ap, subst, arith, nat_tests}
+use Rattle.bpf_model.proofs.Prelude.{IsProgram, text}
+use Rattle.model_laws.proofs.Prelude.{MAX_PROGRAMS, CTX_BYTES, Insn, MapShape, IsPlainWithMaps}
+use Rattle.verifier.proofs.Prelude.{IsToldOf}
+use Rattle.world_laws.proofs.Prelude.{IsBoundTo}
 use Rattle.insn_codec.specs.declared.fault.DecodeFault.{DecodeFault}
 use Rattle.insn_codec.specs.declared.fault.DecodeFault.TheVariants as faults
 use Rattle.insn_codec.specs.Faults.{IsDecodeFault}
 use Rattle.verifier.specs.declared.refusal.ProgramRefusal.{ProgramRefusal}
 use Rattle.verifier.specs.declared.refusal.ProgramRefusal.TheVariants.{Memory}
-use Rattle.verifier.specs.Verdict.{IsToldOf}
 use Rattle.control.specs.MapAndLoad.{AreMapsNamed, ReadReplies, LoadReplied, LoadReplies, limit_refusal}
 use Rattle.control.specs.declared.refusal.LineRefusal.{LineRefusal}
 use Rattle.control.specs.declared.refusal.LineRefusal.TheVariants as refusals
 use Rattle.control.specs.Refusals.{program_reply}
 use Rattle.control.specs.Setups.{SetupView, shapes_made}
-use Rattle.world_laws.specs.Binding.{IsBoundTo}
 
 -- a fault of decoding that is not for want of memory
 pub undecoded-reply : {E : Type 0} (s : SetupView) (code : List ℕ) (shapes : List MapShape) (maps : List ℕ)

@@ -1,7 +1,7 @@
 -- Replies while maps and programs are being made.
-use Rattle.std.proofs.Common.{◌≡◌, ◌∙◌, ℕ, List, Option, [], ◌∷◌, ◌++◌, sym, ap, subst, refl, append-nil}
-use Rattle.std.specs.List.{flat_map}
-use Rattle.bpf_model.specs.declared.event.Event.{Event}
+use Rattle.bpf_model.proofs.Prelude.{◌≡◌, ◌∙◌, ℕ, List, Option, [], ◌∷◌, ◌++◌, sym, ap, subst, refl, flat_map}
+use Rattle.model_laws.proofs.Prelude.{Event}
+use Rattle.std.proofs.Common.{append-nil}
 use Rattle.script_lines.specs.ReplyText.{reply_text}
 use Rattle.script_lines.specs.declared.command.ScriptCommand.{ScriptCommand}
 use Rattle.script_lines.specs.declared.command.ScriptCommand.TheVariants as commands

@@ -1,15 +1,11 @@
 -- Steps of a run, one after another.
-use Rattle.std.proofs.Common.{◌≡◌, ◌≢◌, ◌∙◌, ◌⊎◌, ℕ, ◌+◌, ◌<◌, List, [], ◌∷◌, ◌++◌, replicate, sym, ap, refl, inl, inr}
-use Rattle.std.specs.Prelude.{max}
+use Rattle.bpf_model.proofs.Prelude.{◌≡◌, ◌≢◌, ◌∙◌, ◌⊎◌, ℕ, ◌+◌, ◌<◌, List, [], ◌∷◌, ◌++◌, replicate, sym, ap, refl, inl, inr, max, WorldView}
+use Rattle.model_laws.proofs.Prelude.{Event, Step, Answer, Moved}
+use Rattle.world.proofs.Prelude.{MakesMoves, WouldBeRefused, not_yet, once_more}
+use Rattle.world_laws.proofs.Prelude.{full_reaction, full_reactions}
 use Rattle.std.proofs.lemmas.List.{replicate_more}
-use Rattle.bpf_model.specs.declared.event.Event.{Event}
-use Rattle.bpf_model.specs.declared.event.Event.TheVariants.{Step}
-use Rattle.bpf_model.specs.declared.event.Answer.{Answer}
 use Rattle.bpf_model.specs.declared.event.Answer.TheVariants as answers
-use Rattle.bpf_model.specs.declared.event.Answer.TheVariants.{Moved}
-use Rattle.bpf_model.specs.View.{WorldView}
-use Rattle.world_laws.specs.Reacting.{full_reaction, full_reactions}
-use Rattle.world.specs.Stretches.{MakesMoves, WouldBeRefused, WouldExit, not_yet, once_more}
+use Rattle.world.specs.Stretches.{WouldExit}
 use Rattle.world.specs.declared.stretch.Stop.{Stop}
 use Rattle.world.specs.declared.stretch.Stop.TheVariants as stops
 use Rattle.world_laws.proofs.Appending.{answers_grow, view_grows}

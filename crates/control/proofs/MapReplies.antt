@@ -1,6 +1,6 @@
 -- What a `map` is replied.
-use Rattle.std.proofs.Common.{◌≡◌, ◌≢◌, ◌∙◌, ℕ, ◌⊎◌, inl, inr, List, Option, Some, None, Result, Ok, Err, IfOk, IfSome, IfNone, refl, sym, ap, subst}
-use Rattle.bpf_model.specs.declared.limits.MapShape.{MapShape}
+use Rattle.bpf_model.proofs.Prelude.{◌≡◌, ◌≢◌, ◌∙◌, ℕ, ◌⊎◌, inl, inr, List, Option, Some, None, Result, Ok, Err, IfOk, IfSome, IfNone, refl, sym, ap, subst}
+use Rattle.model_laws.proofs.Prelude.{MapShape}
 use Rattle.maps.specs.declared.fault.MapFault.{MapFault}
 use Rattle.maps.specs.declared.fault.MapFault.TheVariants.{Memory}
 use Rattle.maps.specs.Registry.{creation_fault, map_fault_number}

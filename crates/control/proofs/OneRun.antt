@@ -1,7 +1,7 @@
 -- The events of a script's lines are one history of the machine.
-use Rattle.std.proofs.Common.{◌≡◌, ◌∙◌, ℕ, List, [], ◌∷◌, ◌++◌, Option, Some, None, sym, ap, subst, refl, append-nil}
-use Rattle.std.specs.Prelude.{Result, Ok, Err}
-use Rattle.bpf_model.specs.declared.event.Event.{Event}
+use Rattle.bpf_model.proofs.Prelude.{◌≡◌, ◌∙◌, ℕ, List, [], ◌∷◌, ◌++◌, Option, Some, None, sym, ap, subst, refl, Result, Ok, Err}
+use Rattle.model_laws.proofs.Prelude.{Event}
+use Rattle.std.proofs.Common.{append-nil}
 use Rattle.script_lines.specs.Lines.{line_says}
 use Rattle.script_lines.specs.declared.command.BadLine.{BadLine}
 use Rattle.script_lines.specs.declared.command.ScriptCommand.{ScriptCommand}

@@ -1,10 +1,8 @@
 -- What is asked is replied, from what is replied and the text that is added.
-use Rattle.std.proofs.Common.{◌≡◌, ◌∙◌, ℕ, List, [], ◌∷◌, ◌++◌, sym, ap, subst, append-nil}
-use Rattle.std.specs.Prelude.{IfOk, Option, Result, Ok, Err}
-use Rattle.std.specs.List.{flat_map}
+use Rattle.bpf_model.proofs.Prelude.{◌≡◌, ◌∙◌, ℕ, List, [], ◌∷◌, ◌++◌, sym, ap, subst, IfOk, Option, Result, Ok, Err, flat_map, WorldView}
+use Rattle.model_laws.proofs.Prelude.{Event}
+use Rattle.std.proofs.Common.{append-nil}
 use Rattle.std.specs.declared.alloc.AllocError.{AllocError}
-use Rattle.bpf_model.specs.declared.event.Event.{Event}
-use Rattle.bpf_model.specs.View.{WorldView}
 use Rattle.script_lines.specs.declared.reply.Reply.{Reply}
 use Rattle.script_lines.specs.ReplyText.{reply_text}
 use Rattle.control.specs.declared.asked.Asked.{Asked}

@@ -1,12 +1,8 @@
 -- The last digit of a numeral, and that what std prints of a number is its numeral.
-use Rattle.std.proofs.Common.{ℕ, zero, suc, ◌≡◌, ◌+◌, ◌/◌, ◌%◌, ◌^◌, ◌<◌, ◌≤◌, List, [], ◌∷◌, ◌++◌, refl, sym, ap, ◌∙◌, arith}
-use Rattle.std.specs.Prelude.{map}
-use Rattle.std.specs.Int.Digits.{digits_of}
-use Rattle.std.specs.Fmt.{decimal}
+use Rattle.bpf_model.proofs.Prelude.{ℕ, zero, suc, ◌≡◌, ◌+◌, ◌/◌, ◌%◌, ◌^◌, ◌<◌, ◌≤◌, List, [], ◌∷◌, ◌++◌, refl, sym, ap, ◌∙◌, arith, map, digits_of, decimal}
+use Rattle.bpf_model.proofs.Prelude.{nat_tests, map_push}
 use Rattle.std.proofs.lemmas.Int.Digits.{digits_of_step}
 use Rattle.std.proofs.lemmas.Fmt.{decimal_by_steps_wide}
-use Rattle.std.proofs.lemmas.Bool.Decides.{nat_tests}
-use Rattle.std.proofs.lemmas.List.{map_push}
 use Rattle.disasm.specs.Text.{glyph, glyphs, numeral}
 
 pub above_zero : (n : ℕ) → 0 < n → numeral n ≡ glyphs n

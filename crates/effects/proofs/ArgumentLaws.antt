@@ -1,12 +1,8 @@
 -- The arguments of a helper's signature, one after another.
-use Rattle.std.proofs.Common.{◌≡◌, ℕ, suc, ◌+◌, ◌<◌, List, ◌∷◌, length, sym, ap, subst, ◌∙◌, arith, get_or}
-use Rattle.std.specs.Prelude.{drop}
-use Rattle.std.proofs.lemmas.Option.{slice_get-get_or}
-use Rattle.bpf_model.specs.declared.limits.MapShape.{MapShape}
-use Rattle.bpf_model.specs.declared.call.ArgumentKind.{ArgumentKind}
-use Rattle.bpf_model.proofs.Lists.{drop-next}
-use Rattle.plan_laws.specs.Kinds.{AbsState}
-use Rattle.effects.specs.Calls.{IsArgument, AreArguments}
+use Rattle.bpf_model.proofs.Prelude.{◌≡◌, ℕ, suc, ◌+◌, ◌<◌, List, ◌∷◌, length, sym, ap, subst, ◌∙◌, arith, get_or, drop, slice_get-get_or, drop-next}
+use Rattle.effects.proofs.Prelude.{IsArgument, AreArguments}
+use Rattle.model_laws.proofs.Prelude.{MapShape, ArgumentKind}
+use Rattle.plan_laws.proofs.Prelude.{AbsState}
 
 -- those from one on are it and those behind it
 module _ (shapes : List MapShape) (a : AbsState) (shape : MapShape) (kinds : List ArgumentKind) (i : ℕ)

@@ -1,42 +1,22 @@
 -- Conditional jumps and exits lead from described runs to described ones.
-use Rattle.std.proofs.Common.{◌≡◌, ℕ, ◌+◌, ◌^◌, ◌<◌, List, Some, None, inl, inr, refl, sym, ap, subst, ◌∙◌, ℤ, pos, true, false, Bool}
-use Rattle.std.specs.Prelude.{if◌then◌else◌}
-use Rattle.std.proofs.lemmas.Bool.{cases_eq}
-use Rattle.bpf_model.specs.declared.limits.MapShape.{MapShape}
-use Rattle.bpf_model.specs.declared.insn.Insn.TheVariants.{Jump, JumpLong, JumpIf, Exit}
-use Rattle.bpf_model.specs.declared.insn.Operand.{Operand}
-use Rattle.bpf_model.specs.declared.insn.Operand.TheVariants.{Register, Immediate}
-use Rattle.bpf_model.specs.declared.opcode.Condition.{Condition}
-use Rattle.bpf_model.specs.declared.opcode.Condition.TheVariants.{Equal, NotEqual}
-use Rattle.bpf_model.specs.declared.opcode.Size.{Size}
-use Rattle.bpf_model.specs.declared.opcode.Size.TheVariants.{Word64}
-use Rattle.bpf_model.specs.declared.value.Value.TheVariants.{Number}
-use Rattle.model_laws.specs.Plain.{Names}
-use Rattle.bpf_model.specs.Arithmetic.{compares, immediate}
-use Rattle.bpf_model.specs.Value.{◌>>=◌, number}
-use Rattle.bpf_model.specs.Operand.{operand_value, decided}
-use Rattle.bpf_model.specs.Step.{State, Environment, Moves, Exits, forward, jumps_to, jumps_by}
+use Rattle.bpf_model.proofs.Prelude.{◌≡◌, ℕ, ◌+◌, ◌^◌, ◌<◌, List, Some, None, inl, inr, refl, sym, ap, subst, ◌∙◌, ℤ, pos, true, false, Bool, if◌then◌else◌}
+use Rattle.bpf_model.proofs.Prelude.{cases_eq, compares, immediate, ◌>>=◌, number, operand_value, decided, State, Environment, Moves, Exits, forward}
+use Rattle.bpf_model.proofs.Prelude.{jumps_to, jumps_by}
+use Rattle.effects.proofs.Prelude.{RegKind, HasValue, Forks, ForksOnNull, ComparesNumbers, Narrows, AreNarrowed, operand_kind}
+use Rattle.model_laws.proofs.Prelude.{MapShape, Jump, JumpLong, JumpIf, Exit, Operand, Register, Immediate, Condition, Equal, NotEqual, Size, Word64, Number}
+use Rattle.model_laws.proofs.Prelude.{Names}
+use Rattle.plan_laws.proofs.Prelude.{Num, ValueAt, AbsState, Scene, Describes, with_kind, HasNumber, JumpsToSlot, ActsAlone, Transfers, AreAlike}
+use Rattle.register_kinds.proofs.Prelude.{kind_of, kind_in, state_of}
+use Rattle.scalar_domain.proofs.Prelude.{Holds, KeepsEdgeFloor}
 use Rattle.scalar_domain.specs.declared.scalar.Scalar.{Scalar}
-use Rattle.scalar_domain.specs.Scalar.{Holds}
-use Rattle.plan_laws.specs.Kinds.{Num, ValueAt, AbsState}
-use Rattle.plan_laws.specs.Describes.{Scene, Describes}
-use Rattle.plan_laws.specs.Effects.{with_kind, HasNumber}
-use Rattle.plan_laws.specs.Verified.{JumpsToSlot, ActsAlone, Transfers}
-use Rattle.plan_laws.specs.Planned.{AreAlike}
 use Rattle.plan_laws.proofs.Sets.{placed-described}
 use Rattle.plan_laws.proofs.Arguments.{reg-is}
 use Rattle.plan_laws.proofs.Local.{alone_transfers}
-use Rattle.register_kinds.specs.declared.kind.RegKind.{RegKind}
 use Rattle.register_kinds.specs.declared.kind.RegKind.TheVariants as kinds
 use Rattle.register_kinds.specs.declared.state.AbsState.{AbsState as StateHere}
-use Rattle.register_kinds.specs.States.{kind_of, kind_in, state_of}
-use Rattle.effects.specs.Computes.{HasValue}
-use Rattle.effects.specs.Forks.{Forks, ForksOnNull}
-use Rattle.effects.specs.Narrowing.{ComparesNumbers, Narrows, AreNarrowed, SetsSides, NarrowsKnown}
+use Rattle.effects.specs.Narrowing.{SetsSides, NarrowsKnown}
 use Rattle.register_kinds.proofs.Setting.{set-there, set-elsewhere}
-use Rattle.effects.specs.Floor.{operand_kind}
 use Rattle.effects.proofs.Known.{same_num}
-use Rattle.scalar_domain.specs.Floor.{KeepsEdgeFloor}
 
 -- the sides of a comparison become numbers, and all else stays as it is
 pub narrowed_one : (dst : ℕ) (src : Operand) (imm : ℤ) (x : Scalar) (a b : StateHere) → src ≡ Immediate imm →

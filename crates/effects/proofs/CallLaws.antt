@@ -1,47 +1,27 @@
 -- What a call or a test for null makes of states, by the laws of the known kinds.
-use Rattle.std.proofs.Common.{◌≡◌, ℕ, ◌/◌, ◌<◌, List, None, Some, ◌⊎◌, inl, inr, refl, sym, ap, subst, ◌∙◌, ℤ, arith, true, false}
-use Rattle.bpf_model.specs.declared.limits.MapKind.TheVariants.{Array}
-use Rattle.bpf_model.specs.declared.limits.MapShape.{MapShape}
-use Rattle.bpf_model.specs.declared.limits.TheConstants.{MAX_DEPTH}
-use Rattle.bpf_model.specs.declared.insn.Insn.{Insn}
-use Rattle.bpf_model.specs.declared.insn.Insn.TheVariants.{Call, JumpIf}
+use Rattle.bpf_model.proofs.Prelude.{◌≡◌, ℕ, ◌/◌, ◌<◌, List, None, Some, ◌⊎◌, inl, inr, refl, sym, ap, subst, ◌∙◌, ℤ, arith, true, false, signature_of}
+use Rattle.bpf_model.proofs.Prelude.{helper_of, kernel_function_of, Bool, ◌==◌, ◌||◌, if◌then◌else◌, pos, nat_le, nat_lt, slice_get, same_Some, ne_eqb}
+use Rattle.bpf_model.proofs.Prelude.{lt-leb, lt-ltb}
+use Rattle.effects.proofs.Prelude.{RegKind, OutsideSection, IsNull, IsThere, ForksOnNull, PerformsCall, MayLookUp, is_array_of, helper_fault, AreArguments}
+use Rattle.effects.proofs.Prelude.{IsLeft}
+use Rattle.model_laws.proofs.Prelude.{Array, MapShape, MAX_DEPTH, Insn, Call, JumpIf, Helper, ResultKind, ElementOrNull, Integer, ReadLock, ReadUnlock}
+use Rattle.model_laws.proofs.Prelude.{Immediate, Equal, NotEqual, Word64}
+use Rattle.plan_laws.proofs.Prelude.{Kind, Blank, Mixed, Ended, Num, CtxAt, FrameAt, MapAt, ValueAt, MaybeNull, CellKind, AbsState, after_call, after_lock}
+use Rattle.plan_laws.proofs.Prelude.{after_unlock, is_array, has_array_shape, is_array_in, returned_kind, ended_kind, ended_cell, left_kind, left_cell}
+use Rattle.plan_laws.proofs.Prelude.{IsOther, IsOtherCell, IsFresh, HasMap, when_null, when_there, Transfers, AreAlike, number_zero, origin}
+use Rattle.register_kinds.proofs.Prelude.{kind_of, cell_of, kind_at, kind_in, class_in, state_of, IsBelow, AreBelow, learnt}
 use Rattle.bpf_model.specs.declared.insn.CallKind.TheVariants as callee
-use Rattle.bpf_model.specs.declared.call.Helper.{Helper}
 use Rattle.bpf_model.specs.declared.call.Helper.TheVariants as helpers
-use Rattle.bpf_model.specs.declared.call.ResultKind.{ResultKind}
-use Rattle.bpf_model.specs.declared.call.ResultKind.TheVariants.{ElementOrNull, Integer}
-use Rattle.bpf_model.specs.Request.{signature_of}
-use Rattle.bpf_model.specs.declared.call.KernelFunction.TheVariants.{ReadLock, ReadUnlock}
-use Rattle.bpf_model.specs.Call.{helper_of, kernel_function_of}
-use Rattle.bpf_model.specs.declared.insn.Operand.TheVariants.{Immediate}
-use Rattle.bpf_model.specs.declared.opcode.Condition.TheVariants.{Equal, NotEqual}
-use Rattle.bpf_model.specs.declared.opcode.Size.TheVariants.{Word64}
-use Rattle.std.specs.Prelude.{Bool, ◌==◌, ◌||◌, if◌then◌else◌, pos, nat_le, nat_lt, slice_get}
-use Rattle.std.proofs.lemmas.Option.{same_Some}
-use Rattle.std.proofs.lemmas.Bool.{ne_eqb, lt-leb, lt-ltb}
-use Rattle.plan_laws.specs.Kinds.{Kind, Blank, Mixed, Ended, Num, CtxAt, FrameAt, MapAt, ValueAt, MaybeNull, CellKind, AbsState}
-use Rattle.plan_laws.specs.Effects.{after_call, after_lock, after_unlock, is_array, has_array_shape, is_array_in}
-use Rattle.plan_laws.specs.Effects.{returned_kind, ended_kind, ended_cell, left_kind, left_cell, IsOther, IsOtherCell}
-use Rattle.plan_laws.specs.Effects.{IsFresh, HasMap, when_null, when_there}
-use Rattle.plan_laws.specs.Verified.{Transfers}
-use Rattle.plan_laws.specs.Planned.{AreAlike, number_zero, origin}
 use Rattle.plan_laws.proofs.Planning.{alike_wider, transfers_wider, origin_has, zero_holds, to_alike}
 use Rattle.plan_laws.proofs.Arrays.{array-there}
 use Rattle.plan_laws.proofs.Calls.{lock_transfers, unlock_transfers, lookup_transfers}
 use Rattle.plan_laws.proofs.Updating.{update_transfers, delete_transfers}
 use Rattle.plan_laws.proofs.Local.{equal_transfers, not_equal_transfers}
-use Rattle.register_kinds.specs.declared.kind.RegKind.{RegKind}
 use Rattle.register_kinds.specs.declared.kind.RegKind.TheVariants as kinds
 use Rattle.register_kinds.specs.declared.kind.CellKind as classes
 use Rattle.register_kinds.specs.declared.kind.CellKind.TheVariants as class
 use Rattle.register_kinds.specs.declared.state.AbsState.{AbsState as StateHere}
-use Rattle.register_kinds.specs.declared.fault.InsnFault.TheVariants.{OutsideSection}
-use Rattle.register_kinds.specs.declared.learn.Lesson.TheVariants.{IsNull, IsThere}
-use Rattle.register_kinds.specs.States.{kind_of, cell_of, kind_at, kind_in, class_in, state_of}
-use Rattle.register_kinds.specs.Pairs.{IsBelow, AreBelow}
-use Rattle.register_kinds.specs.Changes.{learnt}
-use Rattle.effects.specs.Forks.{ForksOnNull}
-use Rattle.effects.specs.Calls.{PerformsCall, MayLookUp, is_array_of, helper_fault, AreArguments, IsResult, IsLeft, KeepsOwnNumbers}
+use Rattle.effects.specs.Calls.{IsResult, KeepsOwnNumbers}
 
 -- a jump where the register is equal to 0, or where it is not
 abbrev null_jump : Bool → ℕ → ℤ → Insn

@@ -1,50 +1,27 @@
 -- What operations give, by the kinds of their operands; and instructions that compute or load a number or a map lead from described runs to described ones.
-use Rattle.std.proofs.Common.{◌≡◌, ℕ, ◌+◌, ◌^◌, ◌<◌, ◌≤◌, List, length, Some, None, inl, refl, sym, ap, ap₂, subst, ◌∙◌, ℤ, pos, arith, true, false}
-use Rattle.std.specs.Prelude.{◌+ℤ◌, if◌then◌else◌}
-use Rattle.std.proofs.lemmas.Int.{ints}
-use Rattle.std.proofs.lemmas.Bool.{lt-ltb}
-use Rattle.bpf_model.specs.declared.limits.MapShape.{MapShape}
-use Rattle.bpf_model.specs.declared.value.Value.{Value}
-use Rattle.bpf_model.specs.declared.value.Value.TheVariants.{Number, Pointer}
-use Rattle.bpf_model.specs.declared.value.Reference.TheVariants.{Ctx, MapRef, Elem}
-use Rattle.bpf_model.specs.declared.insn.AluOp.{AluOp}
-use Rattle.bpf_model.specs.declared.insn.AluOp.TheVariants.{Move}
-use Rattle.bpf_model.specs.declared.insn.UnaryOp.{UnaryOp}
-use Rattle.bpf_model.specs.declared.insn.Insn.{Insn}
-use Rattle.bpf_model.specs.declared.insn.Insn.TheVariants.{Alu, Unary, LoadNumber, LoadMap}
-use Rattle.bpf_model.specs.declared.insn.Operand.{Operand}
-use Rattle.bpf_model.specs.declared.insn.Operand.TheVariants.{Register, Immediate}
-use Rattle.bpf_model.specs.declared.opcode.Size.{Size}
-use Rattle.bpf_model.specs.declared.opcode.Size.TheVariants.{Word32}
-use Rattle.bpf_model.specs.Arithmetic.{alu, unary}
-use Rattle.bpf_model.specs.Value.{◌>>=◌, number}
-use Rattle.bpf_model.specs.Operand.{operand_value, computed, unary_source}
-use Rattle.model_laws.specs.Near.{IsNear, IsNearOffset}
-use Rattle.bpf_model.specs.Graph.{falls}
-use Rattle.bpf_model.specs.Step.{slot_count}
-use Rattle.bpf_model.specs.Step.{State, Environment, Outcome, Moves as Goes, put, sets, after, map_value}
-use Rattle.bpf_model.specs.Element.{Element}
-use Rattle.model_laws.specs.ByKind.{AccessesElement}
+use Rattle.bpf_model.proofs.Prelude.{◌≡◌, ℕ, ◌+◌, ◌^◌, ◌<◌, ◌≤◌, List, length, Some, None, inl, refl, sym, ap, ap₂, subst, ◌∙◌, ℤ, pos, arith, true, false}
+use Rattle.bpf_model.proofs.Prelude.{◌+ℤ◌, if◌then◌else◌, ints, lt-ltb, alu, unary, ◌>>=◌, number, operand_value, computed, unary_source, falls, slot_count}
+use Rattle.bpf_model.proofs.Prelude.{State, Environment, Outcome, put, sets, after, map_value, Element}
+use Rattle.effects.proofs.Prelude.{RegKind, MovesOffsets, HasValue}
+use Rattle.model_laws.proofs.Prelude.{MapShape, Value, Number, Pointer, Ctx, MapRef, Elem, AluOp, Move, UnaryOp, Insn, Alu, Unary, LoadNumber, LoadMap}
+use Rattle.model_laws.proofs.Prelude.{Operand, Register, Immediate, Size, Word32, IsNear, IsNearOffset, AccessesElement}
+use Rattle.plan_laws.proofs.Prelude.{Kind, Blank, Num, CtxAt, MapAt, ValueAt, AbsState, Scene, HasOffset, IsOf, Describes, with_kind, IsEnvironment}
+use Rattle.plan_laws.proofs.Prelude.{Transfers, is_call, AreAlike}
+use Rattle.register_kinds.proofs.Prelude.{kind_of, kind_in, state_of}
+use Rattle.scalar_domain.proofs.Prelude.{Holds}
+use Rattle.bpf_model.specs.Step.{Moves as Goes}
 use Rattle.scalar_domain.specs.declared.scalar.Scalar.{Scalar}
-use Rattle.scalar_domain.specs.Scalar.{Holds}
-use Rattle.plan_laws.specs.Kinds.{Kind, Blank, Num, CtxAt, MapAt, ValueAt, AbsState}
-use Rattle.plan_laws.specs.Describes.{Scene, HasOffset, IsOf, Describes}
-use Rattle.plan_laws.specs.Effects.{with_kind}
-use Rattle.plan_laws.specs.Verified.{IsEnvironment, Transfers, is_call}
-use Rattle.plan_laws.specs.Planned.{AreAlike}
 use Rattle.plan_laws.proofs.Sets.{set-described}
 use Rattle.plan_laws.proofs.Arguments.{reg-is}
 use Rattle.plan_laws.proofs.Local.{alone_transfers}
 use Rattle.plan_laws.proofs.Elements.{set-is}
 use Rattle.plan_laws.proofs.Planning.{to_alike}
-use Rattle.register_kinds.specs.declared.kind.RegKind.{RegKind}
 use Rattle.register_kinds.specs.declared.kind.RegKind.TheVariants as kinds
 use Rattle.register_kinds.specs.declared.state.AbsState.{AbsState as StateHere}
-use Rattle.register_kinds.specs.States.{kind_of, kind_in, state_of}
 use Rattle.effects.specs.declared.moving.Way.{Way}
 use Rattle.effects.specs.declared.moving.Way.TheVariants.{Forward, Back}
 use Rattle.effects.specs.Performs.{PerformsAnywhere}
-use Rattle.effects.specs.Computes.{signed_move, MovesOffsets, Combines, Computes, HasValue, IsMove}
+use Rattle.effects.specs.Computes.{signed_move, Combines, Computes, IsMove}
 use Rattle.effects.proofs.Laws.{unary_lt, computed_numbers}
 use Rattle.scalar_domain.proofs.Words.{alu_lt}
 

@@ -1,18 +1,14 @@
 -- What operations leave is no wider than the scalar domain's.
-use Rattle.std.proofs.Common.{◌≡◌, ◌∙◌, refl, sym, ap, subst}
-use Rattle.bpf_model.specs.declared.insn.AluOp.{AluOp}
-use Rattle.bpf_model.specs.declared.insn.AluOp.TheVariants.{Move}
-use Rattle.bpf_model.specs.declared.opcode.Size.{Size}
-use Rattle.bpf_model.specs.declared.opcode.Size.TheVariants.{Word32, Word64}
+use Rattle.bpf_model.proofs.Prelude.{◌≡◌, ◌∙◌, refl, sym, ap, subst}
+use Rattle.effects.proofs.Prelude.{RegKind, IsNumbers}
+use Rattle.model_laws.proofs.Prelude.{AluOp, Move, Size, Word32, Word64}
+use Rattle.plan_laws.proofs.Prelude.{Num}
+use Rattle.register_kinds.proofs.Prelude.{kind_of}
+use Rattle.scalar_domain.proofs.Prelude.{IsConstant, KeepsFloor}
 use Rattle.scalar_domain.specs.declared.scalar.Scalar.{Scalar}
-use Rattle.scalar_domain.specs.Scalar.{IsConstant}
-use Rattle.scalar_domain.specs.Floor.{KeepsWideFloor, KeepsFloor}
+use Rattle.scalar_domain.specs.Floor.{KeepsWideFloor}
 use Rattle.scalar_domain.proofs.Edges.{no_wider-refl}
-use Rattle.plan_laws.specs.Kinds.{Num}
-use Rattle.register_kinds.specs.declared.kind.RegKind.{RegKind}
 use Rattle.register_kinds.specs.declared.kind.RegKind.TheVariants as kinds
-use Rattle.register_kinds.specs.States.{kind_of}
-use Rattle.effects.specs.Performs.{IsNumbers}
 use Rattle.effects.specs.Floor.{CombinesKnown}
 
 pub same_num : (a b : Scalar) → Num a ≡ Num b → a ≡ b

@@ -1,15 +1,6 @@
 -- Laws of the definitions of arithmetic: what an operation of one operand leaves is a word of 64 bits, and what one of two numbers computes is a number.
-use Rattle.std.proofs.Common.{◌≡◌, ℕ, ◌^◌, ◌<◌, refl}
-use Rattle.std.specs.Prelude.{Some}
-use Rattle.bpf_model.specs.declared.insn.AluOp.{AluOp}
-use Rattle.bpf_model.specs.declared.insn.AluOp.TheVariants.{Add}
-use Rattle.bpf_model.specs.declared.insn.UnaryOp.{UnaryOp}
-use Rattle.bpf_model.specs.declared.insn.UnaryOp.TheVariants.{Negate, ByteSwap, MoveSigned}
-use Rattle.bpf_model.specs.declared.opcode.Size.{Size}
-use Rattle.bpf_model.specs.declared.opcode.Size.TheVariants.{Word32, Word64}
-use Rattle.bpf_model.specs.Arithmetic.{alu, unary}
-use Rattle.bpf_model.specs.Operand.{computed}
-use Rattle.bpf_model.specs.declared.value.Value.TheVariants.{Number}
+use Rattle.bpf_model.proofs.Prelude.{◌≡◌, ℕ, ◌^◌, ◌<◌, refl, Some, alu, unary, computed}
+use Rattle.model_laws.proofs.Prelude.{AluOp, Add, UnaryOp, Negate, ByteSwap, MoveSigned, Size, Word32, Word64, Number}
 use Rattle.scalar_domain.proofs.Words.{negated_lt, moved_signed_lt}
 use Rattle.scalar_domain.proofs.Swaps.{reordered_lt}
 

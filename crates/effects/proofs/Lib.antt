@@ -1,3 +1,4 @@
+pub mod Prelude
 pub mod Within
 pub mod Reading
 pub mod Writing

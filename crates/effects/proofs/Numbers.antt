@@ -1,17 +1,13 @@
 -- Registers that are known to be numbers are read as numbers.
-use Rattle.std.proofs.Common.{◌≡◌, ℕ, ◌+◌, ◌^◌, ◌≤◌, ap, Ok, Err, ℤ, pos, arith}
-use Rattle.std.proofs.lemmas.Int.{ints}
-use Rattle.std.specs.Prelude.{Result, IsOk, IfOk}
+use Rattle.bpf_model.proofs.Prelude.{◌≡◌, ℕ, ◌+◌, ◌^◌, ◌≤◌, ap, Ok, Err, ℤ, pos, arith, ints, Result, IsOk, IfOk}
+use Rattle.effects.proofs.Prelude.{RegKind, InsnFault}
+use Rattle.model_laws.proofs.Prelude.{Immediate}
+use Rattle.plan_laws.proofs.Prelude.{HasOffset, Num}
+use Rattle.register_kinds.proofs.Prelude.{kind_of}
+use Rattle.scalar_domain.proofs.Prelude.{Holds, IsConstant}
 use Rattle.register_kinds.proofs.KindLaws.{kind_is}
-use Rattle.bpf_model.specs.declared.insn.Operand.TheVariants.{Immediate}
 use Rattle.scalar_domain.specs.declared.scalar.Scalar.{Scalar}
-use Rattle.scalar_domain.specs.Scalar.{Holds, IsConstant}
-use Rattle.plan_laws.specs.Describes.{HasOffset}
-use Rattle.plan_laws.specs.Kinds.{Num}
-use Rattle.register_kinds.specs.declared.kind.RegKind.{RegKind}
 use Rattle.register_kinds.specs.declared.kind.RegKind.TheVariants as kinds
-use Rattle.register_kinds.specs.States.{kind_of}
-use Rattle.register_kinds.specs.declared.fault.InsnFault.{InsnFault}
 use Rattle.register_kinds.specs.Tests.{held_kind}
 
 pub held_number : (k : RegKind) (s : Scalar) → kind_of k ≡ Num s → held_kind k ≡ Ok (kinds.Num s)

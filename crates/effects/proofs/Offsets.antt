@@ -1,17 +1,13 @@
 -- Offsets moved by words that are read as signed numbers.
-use Rattle.std.proofs.Common.{◌≡◌, ℕ, suc, ◌+◌, ◌-◌, ◌%◌, ◌^◌, ◌<◌, ◌≤◌, inl, inr, sym, ap, subst, ◌∙◌, ℤ, pos, negsuc, arith}
-use Rattle.std.specs.Prelude.{◌+ℤ◌, ◌-ℤ◌}
-use Rattle.std.specs.Int.{w64}
-use Rattle.std.proofs.lemmas.Int.{ints, to_z_pos}
-use Rattle.std.proofs.lemmas.Bool.{le-ltb}
-use mir.Val.{sel}
-use Rattle.bpf_model.specs.declared.limits.TheConstants.{FRAME_BYTES}
-use Rattle.bpf_model.specs.Arithmetic.{signed, word, immediate}
+use Rattle.bpf_model.proofs.Prelude.{◌≡◌, ℕ, suc, ◌+◌, ◌-◌, ◌%◌, ◌^◌, ◌<◌, ◌≤◌, inl, inr, sym, ap, subst, ◌∙◌, ℤ, pos, negsuc, arith, ◌+ℤ◌, ◌-ℤ◌, w64, ints}
+use Rattle.bpf_model.proofs.Prelude.{to_z_pos, le-ltb, sel, signed, word, immediate}
+use Rattle.effects.proofs.Prelude.{MovesOffsets, shifted_word}
+use Rattle.model_laws.proofs.Prelude.{FRAME_BYTES}
+use Rattle.plan_laws.proofs.Prelude.{HasOffset}
+use Rattle.scalar_domain.proofs.Prelude.{Holds}
 use Rattle.scalar_domain.specs.declared.scalar.Scalar.{Scalar}
-use Rattle.scalar_domain.specs.Scalar.{Holds}
 use Rattle.scalar_domain.proofs.Forms.{word_difference}
-use Rattle.plan_laws.specs.Describes.{HasOffset}
-use Rattle.effects.specs.Computes.{IsNearStep, MovesOffsets, shifted_word}
+use Rattle.effects.specs.Computes.{IsNearStep}
 use Rattle.effects.specs.declared.moving.Way.{Way}
 use Rattle.effects.specs.declared.moving.Way.TheVariants.{Forward, Back}
 

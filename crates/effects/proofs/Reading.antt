@@ -1,47 +1,29 @@
 -- Loads lead from described runs to described ones.
-use Rattle.std.proofs.Common.{◌≡◌, ℕ, ◌+◌, ◌/◌, ◌%◌, ◌^◌, ◌<◌, ◌≤◌, List, length, Some, None, inl, inr, refl, ap, subst, ◌∙◌, ℤ, arith, true}
-use Rattle.std.specs.Prelude.{slice_get, slice_index_or, ◌+ℤ◌}
-use Rattle.std.proofs.lemmas.Option.{slice_get-get_or}
-use Rattle.bpf_model.specs.declared.limits.MapShape.{MapShape}
-use Rattle.bpf_model.specs.declared.limits.TheConstants.{FRAME_BYTES}
-use Rattle.bpf_model.specs.declared.insn.Insn.TheVariants.{Load, LoadSigned}
-use Rattle.bpf_model.specs.declared.opcode.Width.{Width}
+use Rattle.bpf_model.proofs.Prelude.{◌≡◌, ℕ, ◌+◌, ◌/◌, ◌%◌, ◌^◌, ◌<◌, ◌≤◌, List, length, Some, None, inl, inr, refl, ap, subst, ◌∙◌, ℤ, arith, true}
+use Rattle.bpf_model.proofs.Prelude.{slice_get, slice_index_or, ◌+ℤ◌, slice_get-get_or, ◌>>=◌, number, loaded_signed, byte_count, unsigned_width}
+use Rattle.bpf_model.proofs.Prelude.{region_offset, number_at, byte_of, found, read, State, Environment, Moves, put, sets, load_from, Element}
+use Rattle.effects.proofs.Prelude.{RegKind, ReachesFrame, IsReadByLoad, read_kind, LoadsKnown}
+use Rattle.model_laws.proofs.Prelude.{MapShape, FRAME_BYTES, Load, LoadSigned, Width, SignedWidth, Value, Number, Pointer, Ctx, Frame, Byte, element_load}
+use Rattle.plan_laws.proofs.Prelude.{Kind, Num, CtxAt, FrameAt, ByteCell, PartCell, AbsState, Scene, IsContextAt, Describes, with_kind, IsAlwaysInside}
+use Rattle.plan_laws.proofs.Prelude.{IsPointer, IsEnvironment, Transfers}
+use Rattle.register_kinds.proofs.Prelude.{kind_of, cell_of, kind_in, cell_at, state_of, is_pointer, AreAll}
+use Rattle.scalar_domain.proofs.Prelude.{Holds}
 use Rattle.bpf_model.specs.declared.opcode.Width.TheVariants as widths
-use Rattle.bpf_model.specs.declared.opcode.SignedWidth.{SignedWidth}
 use Rattle.bpf_model.specs.declared.opcode.SignedWidth.TheVariants as signed_widths
-use Rattle.bpf_model.specs.declared.value.Value.{Value}
-use Rattle.bpf_model.specs.declared.value.Value.TheVariants.{Number, Pointer}
-use Rattle.bpf_model.specs.declared.value.Reference.TheVariants.{Ctx, Frame}
-use Rattle.bpf_model.specs.declared.value.Cell.TheVariants.{Byte}
-use Rattle.bpf_model.specs.Value.{◌>>=◌, number}
-use Rattle.bpf_model.specs.Arithmetic.{loaded_signed}
-use Rattle.bpf_model.specs.Access.{byte_count, unsigned_width, region_offset, number_at}
-use Rattle.bpf_model.specs.Frame.{byte_of, found, read}
-use Rattle.bpf_model.specs.Step.{State, Environment, Moves, put, sets, load_from}
-use Rattle.bpf_model.specs.Element.{Element}
-use Rattle.model_laws.specs.ByKind.{element_load}
 use Rattle.scalar_domain.specs.declared.scalar.Scalar.{Scalar}
-use Rattle.scalar_domain.specs.Scalar.{Holds}
-use Rattle.plan_laws.specs.Kinds.{Kind, Num, CtxAt, FrameAt, ByteCell, PartCell, AbsState}
-use Rattle.plan_laws.specs.Describes.{Scene, IsContextAt, Describes}
-use Rattle.plan_laws.specs.Effects.{with_kind, IsAlwaysInside, IsPointer}
-use Rattle.plan_laws.specs.Verified.{IsEnvironment, Transfers}
 use Rattle.plan_laws.proofs.Sets.{set-described}
 use Rattle.plan_laws.proofs.Arguments.{reg-is, cell-is}
 use Rattle.plan_laws.proofs.Local.{alone_transfers}
 use Rattle.plan_laws.proofs.Elements.{number_read, offset_some, set-is, load_transfers, load_signed_transfers, wide-fits}
 use Rattle.plan_laws.proofs.Spilling.{fill_transfers, no-element-load}
-use Rattle.register_kinds.specs.declared.kind.RegKind.{RegKind}
 use Rattle.register_kinds.specs.declared.kind.RegKind.TheVariants as kinds
 use Rattle.register_kinds.specs.declared.kind.CellKind.TheVariants as class
 use Rattle.register_kinds.specs.declared.frame.FrameCells.{FrameCells}
 use Rattle.register_kinds.specs.declared.state.AbsState.{AbsState as StateHere}
-use Rattle.register_kinds.specs.States.{kind_of, cell_of, kind_in, cell_at, state_of, is_pointer}
-use Rattle.register_kinds.specs.Tests.{AreAll}
 use Rattle.effects.specs.declared.region.Address.{Address}
 use Rattle.effects.specs.declared.reads.Reads.{Reads}
 use Rattle.effects.specs.declared.reads.Reads.TheVariants as reads
-use Rattle.effects.specs.Accesses.{ReachesFrame, ReadsParts, IsReadByLoad, read_kind, LoadsKnown}
+use Rattle.effects.specs.Accesses.{ReadsParts}
 use Rattle.scalar_domain.specs.Floor.{KeepsLoadFloor}
 
 -- A load through a value finds a number of so many bytes, and no element.

@@ -1,15 +1,11 @@
 -- Where accesses lie at each offset of a set.
-use Rattle.std.proofs.Common.{◌≡◌, ℕ, ◌+◌, ◌-◌, ◌%◌, ◌^◌, ◌≤◌, Some, None, sym, ap, ◌∙◌, ℤ, pos, arith}
-use Rattle.std.specs.Prelude.{◌+ℤ◌, ◌==◌, ◌&&◌, bit_and, if◌then◌else◌}
-use Rattle.std.proofs.lemmas.Int.{ints}
-use Rattle.std.proofs.lemmas.Bool.{le-leb, eq-eqb}
-use Rattle.std.proofs.lemmas.Nat.{and_mod, and_comm}
-use Rattle.bpf_model.specs.declared.opcode.Width.{Width}
+use Rattle.bpf_model.proofs.Prelude.{◌≡◌, ℕ, ◌+◌, ◌-◌, ◌%◌, ◌^◌, ◌≤◌, Some, None, sym, ap, ◌∙◌, ℤ, pos, arith, ◌+ℤ◌, ◌==◌, ◌&&◌, bit_and, if◌then◌else◌, ints}
+use Rattle.bpf_model.proofs.Prelude.{le-leb, eq-eqb, and_mod, and_comm, byte_count, region_offset}
+use Rattle.model_laws.proofs.Prelude.{Width}
+use Rattle.plan_laws.proofs.Prelude.{IsAlwaysInside}
+use Rattle.scalar_domain.proofs.Prelude.{Holds}
 use Rattle.bpf_model.specs.declared.opcode.Width.TheVariants as widths
-use Rattle.bpf_model.specs.Access.{byte_count, region_offset}
 use Rattle.scalar_domain.specs.declared.scalar.Scalar.{Scalar}
-use Rattle.scalar_domain.specs.Scalar.{Holds}
-use Rattle.plan_laws.specs.Effects.{IsAlwaysInside}
 
 -- low bits of which each is known
 low-known : (t n may must : ℕ) → bit_and n may ≡ n → bit_and must n ≡ must → may % 2 ^ t ≡ must % 2 ^ t → n % 2 ^ t ≡ must % 2 ^ t

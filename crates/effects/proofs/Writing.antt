@@ -1,24 +1,8 @@
 -- Stores lead from described runs to described ones.
-use Rattle.std.proofs.Common.{◌≡◌, ℕ, ◌+◌, List, Option, Some, None, inl, refl, sym, ap, subst, ◌∙◌, ℤ}
-use Rattle.std.specs.Prelude.{◌+ℤ◌}
-use Rattle.bpf_model.specs.declared.limits.MapShape.{MapShape}
-use Rattle.bpf_model.specs.declared.limits.TheConstants.{FRAME_BYTES}
-use Rattle.bpf_model.specs.declared.insn.Insn.TheVariants.{Store}
-use Rattle.bpf_model.specs.declared.insn.Operand.{Operand}
-use Rattle.bpf_model.specs.declared.insn.Operand.TheVariants.{Register}
-use Rattle.bpf_model.specs.declared.opcode.Width.{Width}
-use Rattle.bpf_model.specs.declared.opcode.Width.TheVariants.{Eight}
-use Rattle.bpf_model.specs.declared.value.Value.TheVariants.{Number, Pointer}
-use Rattle.bpf_model.specs.declared.value.Reference.TheVariants.{Frame}
-use Rattle.bpf_model.specs.declared.value.Cell.{Cell}
-use Rattle.bpf_model.specs.Value.{◌>>=◌}
-use Rattle.bpf_model.specs.Operand.{operand_value}
-use Rattle.bpf_model.specs.Access.{byte_count, region_offset}
-use Rattle.bpf_model.specs.Frame.{with_number}
-use Rattle.bpf_model.specs.Step.{Outcome, Moves, stored, frame_after, store_to}
-use Rattle.plan_laws.specs.Kinds.{Kind, FrameAt, ByteCell, PartCell, AbsState}
-use Rattle.plan_laws.specs.Effects.{with_cells, IsNumberOperand, IsWritten}
-use Rattle.plan_laws.specs.Verified.{Transfers}
+use Rattle.bpf_model.proofs.Prelude.{◌≡◌, ℕ, ◌+◌, List, Option, Some, None, inl, refl, sym, ap, subst, ◌∙◌, ℤ, ◌+ℤ◌, ◌>>=◌, operand_value, byte_count}
+use Rattle.bpf_model.proofs.Prelude.{region_offset, with_number, Outcome, Moves, stored, frame_after, store_to}
+use Rattle.model_laws.proofs.Prelude.{MapShape, FRAME_BYTES, Store, Operand, Register, Width, Eight, Number, Pointer, Frame, Cell}
+use Rattle.plan_laws.proofs.Prelude.{Kind, FrameAt, ByteCell, PartCell, AbsState, with_cells, IsNumberOperand, IsWritten, Transfers}
 use Rattle.plan_laws.proofs.Arguments.{reg-is}
 use Rattle.plan_laws.proofs.Local.{alone_transfers}
 use Rattle.plan_laws.proofs.Example.{bytes-described}

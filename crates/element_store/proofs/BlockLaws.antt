@@ -1,8 +1,10 @@
 -- One byte string after another.
-use Rattle.std.proofs.Common.{◌≡◌, ◌≢◌, ◌∙◌, ℕ, zero, suc, ◌+◌, ◌-◌, ◌*◌, ◌<◌, ◌≤◌, List, ◌++◌, length, replicate, refl, sym, ap, arith, take, drop}
-use Rattle.std.proofs.lemmas.List.{take-append-drop, drop-drop, length-append, length-take-le, length-drop, append_assoc, drop-replicate, take-replicate}
-use Rattle.std.proofs.Math.Seq.{take-append_seam, drop-append_seam, take-append-add, drop-append-add}
-use Rattle.element_store.specs.Blocks.{block, with_block}
+use Rattle.bpf_model.proofs.Prelude.{◌≡◌, ◌≢◌, ◌∙◌, ℕ, zero, suc, ◌+◌, ◌-◌, ◌*◌, ◌<◌, ◌≤◌, List, ◌++◌, length, replicate, refl, sym, ap, arith, take, drop}
+use Rattle.bpf_model.proofs.Prelude.{take-append-drop, drop-drop, length-append, length-take-le, length-drop, take-replicate, take-append_seam}
+use Rattle.bpf_model.proofs.Prelude.{drop-append_seam}
+use Rattle.element_store.proofs.Prelude.{block, with_block}
+use Rattle.std.proofs.lemmas.List.{append_assoc, drop-replicate}
+use Rattle.std.proofs.Math.Seq.{take-append-add, drop-append-add}
 
 pub times-suc : (i n : ℕ) → suc i * n ≡ n + i * n
 times-suc i n = omega arith

@@ -1,14 +1,11 @@
 -- The lists read nothing but their own slots.
-use Rattle.std.proofs.Common.{◌≡◌, ℕ, ◌<◌, ◌≤◌, List, Option, sym, subst, arith, length}
-use Rattle.bpf_model.specs.Schedule.{Queues}
-use Rattle.element_store.specs.State.{ArenaState, IsTaken, SameAt, link_at, times_in}
-use Rattle.element_store.specs.Queued.{queued}
+use Rattle.bpf_model.proofs.Prelude.{◌≡◌, ℕ, ◌<◌, ◌≤◌, List, Option, sym, subst, arith, length, Queues}
+use Rattle.element_store.proofs.Prelude.{ArenaState, IsTaken, SameAt, link_at, times_in, queued, deferred_lists, IsLine, FitsAs, DeferredFits}
 use Rattle.element_store.proofs.Counts.{length_once}
 use Rattle.element_store.proofs.Threading.{walk-thread, thread-agree}
 use Rattle.element_store.specs.declared.deferred.Line.{Line}
 use Rattle.element_store.specs.declared.deferred.DeferredSlots.{DeferredSlots}
 use Rattle.element_store.specs.Lines.{line_slots}
-use Rattle.element_store.specs.Deferred.{deferred_lists, IsLine, FitsAs, DeferredFits}
 
 line_is : (a : ArenaState) (l : Line) (xs : List ℕ) → IsLine (link_at a.links) l xs →
     ((j : ℕ) → times_in j xs ≤ 1) → ((j : ℕ) → 0 < times_in j xs → IsTaken a j) →

@@ -1,24 +1,15 @@
 -- What the calls leave of threaded lists.
-use Rattle.std.proofs.Common.{◌≡◌, ◌≢◌, ◌∙◌, ℕ, ◌+◌, ◌<◌, ◌≤◌, List, [], ◌∷◌, ◌++◌, Option, Some, None, inl, inr, refl, sym, ap, arith, cond, eqb, subst, drop}
-use Rattle.std.specs.Prelude.{IfSome}
-use Rattle.std.proofs.lemmas.Option.{same_Some}
-use Rattle.std.proofs.lemmas.List.{append-nil}
+use Rattle.bpf_model.proofs.Prelude.{◌≡◌, ◌≢◌, ◌∙◌, ℕ, ◌+◌, ◌<◌, ◌≤◌, List, [], ◌∷◌, ◌++◌, Option, Some, None, inl, inr, refl, sym, ap, arith, cond, eqb}
+use Rattle.bpf_model.proofs.Prelude.{subst, drop, IfSome, same_Some, append-nil, option_cases, Queues, turned, get-set_other, option_flatten}
+use Rattle.element_store.proofs.Prelude.{ArenaState, IsTaken, LinksOf, link_at, times_in, with_link, queued, retired_lists, reaped_lists, IsThread}
+use Rattle.element_store.proofs.Prelude.{last_slot_of, last_left, deferred_lists, IsLine, FitsAs, DeferredFits}
 use Rattle.element_store.proofs.DeferredFrame.{line_agree}
-use Rattle.bpf_model.proofs.Cases.{option_cases}
-use Rattle.bpf_model.specs.Schedule.{Queues, turned}
-use Rattle.element_store.specs.State.{ArenaState, IsTaken, LinksOf, link_at, times_in, with_link}
-use Rattle.element_store.specs.Queued.{queued, retired_lists, reaped_lists}
-use Rattle.element_store.specs.Threads.{IsThread, last_slot_of}
 use Rattle.element_store.proofs.Counts.{one_cases, one_same, times-append}
 use Rattle.element_store.proofs.Views.{taken_same}
 use Rattle.element_store.proofs.Threading.{thread-join, thread-some, last-none, last-held, last-append, left-last}
 use Rattle.element_store.specs.declared.deferred.Line.{Line}
 use Rattle.element_store.specs.declared.deferred.DeferredSlots.{DeferredSlots}
 use Rattle.element_store.specs.Lines.{AreLinksJoined, joined_lines, joined_to, joined_from}
-use Rattle.element_store.specs.Kept.{last_left}
-use Rattle.element_store.specs.Deferred.{deferred_lists, IsLine, FitsAs, DeferredFits}
-use Rattle.bpf_model.proofs.Lists.{get-set_other}
-use Rattle.std.specs.Option.{option_flatten}
 
 pub line_join : (f g : ℕ → Option ℕ) (front back : Line) (xs ys : List ℕ) → IsLine f front xs → IsLine g back ys → ((j : ℕ) → times_in j xs ≤ 1) →
     ((l : ℕ) → front.last ≡ Some l → g l ≡ back.first) → ((j : ℕ) → front.last ≢ Some j → g j ≡ f j) → IsLine g (joined_lines front back) (xs ++ ys)

@@ -1,14 +1,12 @@
 -- The depth of one run changes: what stays true of the depths, of who is inside a section, and of
 -- who is awaited.
-use Rattle.std.proofs.Common.{◌≡◌, ◌∙◌, ℕ, zero, suc, ◌<◌, ◌≤◌, Bool, true, false, List, length, get_or, Some, refl, sym, ap, subst, inl, inr, arith}
-use Rattle.std.specs.Prelude.{slice_get, slice_set, map, replicate}
+use Rattle.bpf_model.proofs.Prelude.{◌≡◌, ◌∙◌, ℕ, zero, suc, ◌<◌, ◌≤◌, Bool, true, false, List, length, get_or, Some, refl, sym, ap, subst, inl, inr, arith}
+use Rattle.bpf_model.proofs.Prelude.{slice_get, slice_set, map, replicate, cases_eq, lt-ltb, get_or-set_same, get_or-set_other, length-replicate, length-set}
+use Rattle.bpf_model.proofs.Prelude.{map-set, slice_get-get_or, slice_get_within, get-map, get-replicate, get-set_cases, get-set_other, get-set_same}
+use Rattle.bpf_model.proofs.Prelude.{set-same}
+use Rattle.element_store.proofs.Prelude.{GraceState, IsGrace, depth_at, grace_state_of, is_open_depth, opened_in}
 use Rattle.std.proofs.Math.Bool.{true≢false}
-use Rattle.std.proofs.lemmas.Bool.{cases_eq, lt-ltb}
-use Rattle.std.proofs.lemmas.List.{get_or-set_same, get_or-set_other, length-replicate, length-set, map-set}
-use Rattle.std.proofs.lemmas.Option.{slice_get-get_or, slice_get_within}
 use Rattle.bpf_model.specs.declared.limits.TheConstants.{MAX_DEPTH, MAX_RUNS}
-use Rattle.bpf_model.proofs.Lists.{get-map, get-replicate, get-set_cases, get-set_other, get-set_same, set-same}
-use Rattle.element_store.specs.Sections.{GraceState, IsGrace, depth_at, grace_state_of, is_open_depth, opened_in}
 
 module _ (g : GraceState) (sound : IsGrace g) (r d : ℕ) (within : r < MAX_RUNS) where
   abbrev now : List ℕ

@@ -1,18 +1,12 @@
 -- A new arena: its free slots in their order.
-use Rattle.std.proofs.Common.{◌≡◌, ◌≢◌, ◌∙◌, ℕ, zero, suc, ◌+◌, ◌<◌, ◌≤◌, ◌^◌, List, ◌∷◌, Option, Some, None, inl}
-use Rattle.std.proofs.Common.{inr, refl, sym, ap, arith, cond, eqb, false, subst, map, replicate, drop}
-use Rattle.std.specs.Prelude.{slice_get, nat_lt, SomeIff, ◌-◌}
-use Rattle.std.specs.List.{range_with_len}
-use Rattle.std.proofs.lemmas.Bool.{cond-true, cond-false, cases_Bool}
-use Rattle.std.proofs.lemmas.Bool.Decides.{nat_tests}
-use Rattle.std.proofs.lemmas.Option.{same_Some, slice_get_within}
-use Rattle.std.proofs.lemmas.List.FromFn.{length-map-range_with_len}
-use Rattle.bpf_model.specs.View.{unused_slot}
-use Rattle.element_store.specs.State.{times_in, new_arena}
-use Rattle.element_store.specs.Threads.{IsThread, last_slot_of}
-use Rattle.element_store.specs.Fresh.{below, fresh_cell, fresh_cells}
+use Rattle.bpf_model.proofs.Prelude.{◌≡◌, ◌≢◌, ◌∙◌, ℕ, zero, suc, ◌+◌, ◌<◌, ◌≤◌, ◌^◌, List, ◌∷◌, Option, Some, None, inl, inr, refl, sym, ap, arith, cond}
+use Rattle.bpf_model.proofs.Prelude.{eqb, false, subst, map, replicate, drop, slice_get, nat_lt, ◌-◌, range_with_len, cond-true, cond-false, cases_Bool}
+use Rattle.bpf_model.proofs.Prelude.{nat_tests, same_Some, slice_get_within, length-map-range_with_len, unused_slot}
+use Rattle.element_store.proofs.Prelude.{times_in, new_arena, IsThread, last_slot_of, fresh_cell, fresh_cells, IsThreaded, raw, raw_of, free_count}
+use Rattle.element_store.proofs.Prelude.{taken_count, slots_shown, arena_state_of, is_worn, link_view}
+use Rattle.std.specs.Prelude.{SomeIff}
+use Rattle.element_store.specs.Fresh.{below}
 use Rattle.element_store.specs.declared.cell.SlotCell.{SlotCell}
-use Rattle.element_store.specs.Kept.{IsThreaded, raw, raw_of, free_count, taken_count, slots_shown, arena_state_of, is_worn, link_view}
 use Rattle.element_store.proofs.Counts.{one_cases, one_other}
 use Rattle.element_store.proofs.Slots.{state-is}
 use Rattle.element_store.proofs.Views.{same_state}

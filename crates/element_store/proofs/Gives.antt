@@ -1,21 +1,16 @@
 -- A taken slot is given back.
-use Rattle.std.proofs.Common.{◌≡◌, ◌≢◌, ◌∙◌, ◌+◌, ◌<◌, ◌≤◌, ◌^◌, ◌++◌, ◌∷◌, [], ℕ, List, Option, Some, None, sym, ap}
-use Rattle.std.proofs.Common.{subst, arith, length, refl, eqb, true, Bool, cond}
-use Rattle.std.specs.Prelude.{slice_get, slice_set, IfSome}
-use Rattle.std.proofs.lemmas.Bool.{eqb-true, false_from_ne_true}
-use Rattle.bpf_model.specs.View.{SlotView, uses_at}
+use Rattle.bpf_model.proofs.Prelude.{◌≡◌, ◌≢◌, ◌∙◌, ◌+◌, ◌<◌, ◌≤◌, ◌^◌, ◌++◌, ◌∷◌, [], ℕ, List, Option, Some, None, sym, ap, subst, arith, length, refl, eqb}
+use Rattle.bpf_model.proofs.Prelude.{true, Bool, cond, slice_get, slice_set, IfSome, eqb-true, false_from_ne_true, SlotView, uses_at, length-set}
+use Rattle.element_store.proofs.Prelude.{IsTaken, ArenaState, given_back, is_last_use, times_in, IsThreaded, AreCellsKept, IsLaidOut, arena_state_of, free_of}
+use Rattle.element_store.proofs.Prelude.{state_with, slots_shown, free_count, taken_count, first_with, linked_behind, given_cell}
 use Rattle.bpf_model.specs.declared.event.Given.{Given}
 use Rattle.bpf_model.specs.declared.event.Given.TheVariants as given
-use Rattle.element_store.specs.State.{IsTaken, ArenaState, given_back, is_last_use, times_in}
 use Rattle.element_store.specs.declared.cell.SlotCell.{SlotCell}
 use Rattle.element_store.specs.declared.cell.Standing.TheVariants.{Free, Worn}
-use Rattle.element_store.specs.Kept.{IsThreaded, AreCellsKept, IsLaidOut, arena_state_of, free_of, state_with}
-use Rattle.element_store.specs.Kept.{slots_shown, free_count, taken_count, first_with, linked_behind, given_cell}
 use Rattle.element_store.proofs.Keeps.{IsTakenCell, kept_from, taken_at, wear, free_again, last_free, length-behind}
 use Rattle.element_store.proofs.Threading.{last-held}
 use Rattle.element_store.proofs.Views.{wear_view, free_view, behind_view, last_use_is}
 use Rattle.element_store.proofs.Slots.{held_from, state-is, shown-same, shown-behind, shown-uses, laid-out}
-use Rattle.std.proofs.lemmas.List.{length-set}
 
 -- what is told of the slot
 abbrev pub answer : Bool → Given

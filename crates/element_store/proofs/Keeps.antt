@@ -1,20 +1,14 @@
 -- What is done to cells keeps them threaded.
-use Rattle.std.proofs.Common.{◌≡◌, ◌≢◌, ◌∙◌, ℕ, ◌+◌, ◌<◌, ◌≤◌, List, [], ◌∷◌, ◌++◌, length, Option, Some, None, inl}
-use Rattle.std.proofs.Common.{inr, refl, sym, ap, arith, cond, eqb, subst, map}
-use Rattle.std.specs.Prelude.{slice_get, slice_set}
-use Rattle.std.proofs.lemmas.Option.{same_Some, slice_get_within}
-use Rattle.bpf_model.proofs.Cases.{option_cases}
-use Rattle.element_store.specs.State.{times_in, worn_at, flag_in}
-use Rattle.element_store.specs.Threads.{IsThread}
+use Rattle.bpf_model.proofs.Prelude.{◌≡◌, ◌≢◌, ◌∙◌, ℕ, ◌+◌, ◌<◌, ◌≤◌, List, [], ◌∷◌, ◌++◌, length, Option, Some, None, inl, inr, refl, sym, ap, arith, cond}
+use Rattle.bpf_model.proofs.Prelude.{eqb, subst, map, slice_get, slice_set, same_Some, slice_get_within, option_cases, length-set, get-below, get-map}
+use Rattle.bpf_model.proofs.Prelude.{get-set_cases, get-set_other, get-set_same}
+use Rattle.element_store.proofs.Prelude.{times_in, worn_at, flag_in, IsThread, is_worn, free_count, taken_count, raw, raw_of, free_of, given_cell, IsThreaded}
+use Rattle.element_store.proofs.Prelude.{AreCellsKept, last_left, first_with, relinked, linked_behind}
 use Rattle.element_store.proofs.Counts.{one_cases, one_same, one_other, times-append, length_once}
 use Rattle.element_store.proofs.Threading.{walk-thread, thread-agree, thread-some, thread-join, last-none, last-held, last-append, left-last}
 use Rattle.element_store.specs.declared.cell.Standing.{Standing}
 use Rattle.element_store.specs.declared.cell.Standing.TheVariants.{Free, Taken, Worn}
 use Rattle.element_store.specs.declared.cell.SlotCell.{SlotCell}
-use Rattle.element_store.specs.Kept.{is_worn, free_count, taken_count, raw, raw_of, free_of, given_cell, IsThreaded}
-use Rattle.element_store.specs.Kept.{AreCellsKept, last_left, first_with, relinked, linked_behind}
-use Rattle.std.proofs.lemmas.List.{length-set}
-use Rattle.bpf_model.proofs.Lists.{get-below, get-map, get-set_cases, get-set_other, get-set_same}
 
 pub free-is : (cells : List SlotCell) (first last : Option ℕ) (limit : ℕ) (ys : List ℕ) → IsThreaded cells first last limit ys → free_of cells first ≡ ys
 free-is cells first last limit ys t = walk-thread (raw cells) first ys (length cells) t.thread (length_once (length cells) ys t.once t.inside)

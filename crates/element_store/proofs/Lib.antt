@@ -1,3 +1,4 @@
+pub mod Prelude
 pub mod BlockLaws
 pub mod Counts
 pub mod DeferredFrame

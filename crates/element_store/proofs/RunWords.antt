@@ -1,22 +1,17 @@
 -- The flags of a set of runs.
-use Rattle.std.proofs.Common.{◌≡◌, ◌≢◌, ◌∙◌, ℕ, ◌+◌, ◌*◌, ◌/◌, ◌%◌, ◌^◌, ◌<◌, ◌⊎◌, zero, suc, Bool, true, false, List}
-use Rattle.std.proofs.Common.{[], ◌∷◌, length, get_or, refl, sym, ap, subst, inl, inr, arith, zero-add}
-use Rattle.std.specs.Prelude.{not, slice_set, replicate, ◌==◌}
-use Rattle.std.specs.Bool.{Decides}
-use Rattle.std.specs.Int.{bit_at, bit_not, trailing_zeros}
+use Rattle.bpf_model.proofs.Prelude.{◌≡◌, ◌≢◌, ◌∙◌, ℕ, ◌+◌, ◌*◌, ◌/◌, ◌%◌, ◌^◌, ◌<◌, ◌⊎◌, zero, suc, Bool, true, false, List, [], ◌∷◌, length, get_or, refl}
+use Rattle.bpf_model.proofs.Prelude.{sym, ap, subst, inl, inr, arith, not, slice_set, replicate, ◌==◌, Decides, bit_at, bit_not, trailing_zeros, cases_eq}
+use Rattle.bpf_model.proofs.Prelude.{same_lists, get_or-set_same, get_or-set_other, get_or-replicate, length-set, length-map-range_with_len}
+use Rattle.bpf_model.proofs.Prelude.{get_or-map-range_with_len, bit_at-trailing_zeros, is_any, bits}
+use Rattle.std.proofs.Common.{zero-add}
 use Rattle.std.specs.Int.Bits.{bit_and}
 use Rattle.std.specs.Int.RustNames.{bit_or}
 use Rattle.std.proofs.Math.Nat.{div-add-mod}
-use Rattle.std.proofs.lemmas.Bool.{cases_eq}
-use Rattle.std.proofs.lemmas.List.{same_lists, get_or-set_same, get_or-set_other, get_or-replicate, length-set}
-use Rattle.std.proofs.lemmas.List.FromFn.{length-map-range_with_len, get_or-map-range_with_len}
 use Rattle.std.proofs.lemmas.List.Folds.{list_any_at}
-use Rattle.std.proofs.lemmas.Nat.Bits.{bit_at_set_same, bit_at_set_other, bit_at_clear_same, bit_at_clear_other, bit_at-trailing_zeros}
+use Rattle.std.proofs.lemmas.Nat.Bits.{bit_at_set_same, bit_at_set_other, bit_at_clear_same, bit_at_clear_other}
 use Rattle.bpf_model.specs.declared.limits.TheConstants.{MAX_RUNS}
-use Rattle.bpf_model.specs.Schedule.{is_any}
 use Rattle.element_store.specs.Sections.{flags_of}
 use mir.Syntax.{w64}
-use mir.Val.{bits}
 
 -- the bit of run slot i
 abbrev bit_of : List ℕ → ℕ → ℕ

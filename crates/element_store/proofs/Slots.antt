@@ -1,18 +1,14 @@
 -- What the slots show, where cells and bytes change.
-use Rattle.std.proofs.Common.{◌≡◌, ◌≢◌, ◌∙◌, ℕ, zero, suc, ◌+◌, ◌*◌, ◌<◌, ◌≤◌, List, [], ◌∷◌, length, Option, Some}
-use Rattle.std.proofs.Common.{None, refl, sym, ap, arith, subst, take, drop, map}
-use Rattle.std.specs.Prelude.{slice_get, slice_set}
-use Rattle.std.proofs.lemmas.Option.{none-some, same_Some, slice_get_within, slice_get_past}
-use Rattle.std.proofs.lemmas.List.{length-drop, length-take, length-take-le, length-map}
-use Rattle.bpf_model.specs.View.{SlotView, key_in, uses_at}
-use Rattle.element_store.specs.State.{ArenaState, IsTaken, key_at, value_at, generation_at, with_slot_value}
-use Rattle.element_store.specs.Blocks.{block, with_block}
-use Rattle.element_store.specs.Kept.{shown_bytes, slots_shown, state_with, arena_state_of, free_of, IsThreaded}
-use Rattle.element_store.specs.Kept.{AreCellsKept, IsLaidOut, taken_count, relinked, linked_behind}
+use Rattle.bpf_model.proofs.Prelude.{◌≡◌, ◌≢◌, ◌∙◌, ℕ, zero, suc, ◌+◌, ◌*◌, ◌<◌, ◌≤◌, List, [], ◌∷◌, length, Option, Some, None, refl, sym, ap, arith, subst}
+use Rattle.bpf_model.proofs.Prelude.{take, drop, map, slice_get, slice_set, none-some, same_Some, slice_get_within, slice_get_past, length-drop, length-take}
+use Rattle.bpf_model.proofs.Prelude.{length-take-le, length-map, SlotView, key_in, uses_at, get-below, get-map}
+use Rattle.element_store.proofs.Prelude.{ArenaState, IsTaken, key_at, value_at, with_slot_value, block, with_block, slots_shown, state_with, arena_state_of}
+use Rattle.element_store.proofs.Prelude.{free_of, IsThreaded, AreCellsKept, IsLaidOut, taken_count, relinked, linked_behind}
+use Rattle.element_store.specs.State.{generation_at}
+use Rattle.element_store.specs.Kept.{shown_bytes}
 use Rattle.element_store.specs.declared.cell.SlotCell.{SlotCell}
 use Rattle.element_store.proofs.Keeps.{IsTakenCell, free-is, taken_cell}
 use Rattle.element_store.proofs.BlockLaws.{room, block-zero, block-suc, times-suc, first-here, rest-here, first-past, rest-past}
-use Rattle.bpf_model.proofs.Lists.{get-below, get-map}
 
 pub state-is : (cells : List SlotCell) (first last : Option ℕ) (limit : ℕ) (ys : List ℕ) (ks vs : List ℕ) (kl vl : ℕ)
     → IsThreaded cells first last limit ys → arena_state_of cells first ks vs kl vl limit ≡ state_with

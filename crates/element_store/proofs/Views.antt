@@ -1,15 +1,10 @@
 -- How the state shows what is done to one cell.
-use Rattle.std.proofs.Common.{◌≡◌, ◌∙◌, ℕ, ◌+◌, List, [], ◌∷◌, ◌++◌, Option, Some, None, refl, sym, ap, subst, eqb, Bool, true, false, map}
-use Rattle.std.specs.Prelude.{slice_get, slice_set, slice_index}
-use Rattle.std.proofs.lemmas.Option.{get_or_from_slice_get}
-use Rattle.std.proofs.lemmas.Bool.{cond-true, cond-false}
-use Rattle.bpf_model.specs.View.{SlotView, uses_at}
-use Rattle.element_store.specs.State.{ArenaState, IsTaken, with_link, taken, given_back, is_last_use}
+use Rattle.bpf_model.proofs.Prelude.{◌≡◌, ◌∙◌, ℕ, ◌+◌, List, [], ◌∷◌, ◌++◌, Option, Some, None, refl, sym, ap, subst, eqb, Bool, true, false, map, slice_get}
+use Rattle.bpf_model.proofs.Prelude.{slice_set, slice_index, get_or_from_slice_get, cond-true, cond-false, SlotView, uses_at, map-set, get-map, set-same}
+use Rattle.element_store.proofs.Prelude.{ArenaState, IsTaken, with_link, taken, given_back, is_last_use, given_cell, link_view, shown_link, is_worn}
+use Rattle.element_store.proofs.Prelude.{state_with, relinked, linked_behind}
 use Rattle.element_store.specs.declared.cell.SlotCell.{SlotCell}
 use Rattle.element_store.specs.declared.cell.Standing.TheVariants.{Free, Taken, Worn}
-use Rattle.element_store.specs.Kept.{given_cell, link_view, shown_link, is_worn, state_with, relinked, linked_behind}
-use Rattle.std.proofs.lemmas.List.{map-set}
-use Rattle.bpf_model.proofs.Lists.{get-map, set-same}
 
 pub map-set_same : {A B : Type 0} (f : A → B) (xs : List A) (i : ℕ) (x y : A) → slice_get xs i ≡ Some x → f y ≡ f x → map f (slice_set xs i y) ≡ map f xs
 map-set_same f xs i x y h e = map-set f xs i y ∙ set-same (map f xs) i (f y) (get-map f xs i x h ∙ ap (λ z. Some z) (sym e))

@@ -1,25 +1,19 @@
 -- What a change of one chain leaves of the buckets.
-use Rattle.std.proofs.Common.{◌≡◌, ◌≢◌, ◌∙◌, ℕ, ◌+◌, ◌<◌, ◌≤◌, List, ◌∷◌, length, Option, Some, None, inl, inr, refl, sym, ap, arith, cond, eqb, subst}
-use Rattle.std.specs.Prelude.{slice_get, slice_set}
-use Rattle.std.proofs.lemmas.Option.{same_Some}
-use Rattle.std.specs.FinMap.{get, insert, remove}
-use Rattle.bpf_model.proofs.Cases.{option_cases}
-use Rattle.element_store.specs.State.{ArenaState, IsTaken, LinksOf, indexed, link_at, key_at, with_link, times_in, slot_of, contents_of}
-use Rattle.element_store.specs.Threads.{IsThread, walk, chain_of}
+use Rattle.bpf_model.proofs.Prelude.{◌≡◌, ◌≢◌, ◌∙◌, ℕ, ◌+◌, ◌<◌, ◌≤◌, List, ◌∷◌, length, Option, Some, None, inl, inr, refl, sym, ap, arith, cond, eqb, subst}
+use Rattle.bpf_model.proofs.Prelude.{slice_get, slice_set, same_Some, get, insert, remove, option_cases, length-set, get-set_other, get-set_cases}
+use Rattle.bpf_model.proofs.Prelude.{option_flatten}
+use Rattle.element_store.proofs.Prelude.{ArenaState, IsTaken, LinksOf, indexed, link_at, key_at, with_link, times_in, slot_of, contents_of, IsThread, walk}
+use Rattle.element_store.proofs.Prelude.{chain_of}
 use Rattle.element_store.proofs.Counts.{one_cases, one_same, length_once}
 use Rattle.element_store.proofs.Threading.{walk-thread, thread-agree, walk-agree}
 use Rattle.element_store.proofs.Views.{taken_same}
-use Rattle.element_store.proofs.Indexing.{AreUnique, get-contents, slot_of-some, slot_of-absent, slot_of-none}
-use Rattle.element_store.proofs.Indexing.{slot_of-present, contents-insert, contents-remove, unique-insert}
-use Rattle.element_store.proofs.Indexing.{unique-remove, times-get, indexed-times}
+use Rattle.element_store.proofs.Indexing.{AreUnique, get-contents, slot_of-some, slot_of-absent, slot_of-none, slot_of-present, contents-insert}
+use Rattle.element_store.proofs.Indexing.{contents-remove, unique-insert, unique-remove, times-get, indexed-times}
 use Rattle.hash_index.specs.Chains.{IsChain, IsCut, bucket_of}
 use Rattle.hash_index.proofs.Ordered.{absent_gone}
 use Rattle.hash_index.specs.Buckets.{slots_from, chained_slots, HeadsFit}
 use Rattle.hash_index.specs.Many.{chain_among, chains_apart, chain_having, slots-set}
-use Rattle.std.proofs.lemmas.List.{length-set}
-use Rattle.bpf_model.proofs.Lists.{get-set_other, get-set_cases}
 use Rattle.hash_index.proofs.Steps.{walk_none}
-use Rattle.std.specs.Option.{option_flatten}
 
 pub home_chain : (heads : List (Option ℕ)) (a : ArenaState) (k : ℕ) (o : Option ℕ) → HeadsFit heads a → slice_get heads k ≡ Some o → IsChain a o
 home_chain heads a k o f h = record {

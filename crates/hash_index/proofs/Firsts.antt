@@ -1,18 +1,12 @@
 -- The first entry of a finite map above a bound is that of the least key.
-use Rattle.std.proofs.Common.{◌≡◌, ◌∙◌, ℕ, List, [], ◌∷◌, Option, Some, None, inl, inr, refl, sym, ap, subst, Bool, true, false}
-use Rattle.std.specs.Prelude.{IfSome, IfNone, ◌&&◌, T}
-use Rattle.std.specs.Ordering.{nat_cmp, is_lt}
-use Rattle.std.specs.declared.cmp.Ordering.{Ordering}
-use Rattle.std.specs.declared.cmp.Ordering.TheVariants.{Less, Equal, Greater}
-use Rattle.std.specs.Cmp.Lexicographic.{slice_cmp}
-use Rattle.std.specs.FinMap.{get, entries, entries_sorted, get-entries, find, is_sorted}
-use Rattle.bpf_model.specs.View.{KeyMap}
-use Rattle.std.proofs.lemmas.Bool.{cond-true, cond-false, false≢true, false_from_ne_true, cases_Bool}
-use Rattle.std.proofs.lemmas.Option.{none-some}
+use Rattle.bpf_model.proofs.Prelude.{◌≡◌, ◌∙◌, ℕ, List, [], ◌∷◌, Option, Some, None, inl, inr, refl, sym, ap, subst, Bool, true, false, IfSome, IfNone, ◌&&◌}
+use Rattle.bpf_model.proofs.Prelude.{nat_cmp, is_lt, Ordering, Less, Equal, Greater, slice_cmp, get, entries, get-entries, KeyMap, cond-true, cond-false}
+use Rattle.bpf_model.proofs.Prelude.{false≢true, false_from_ne_true, cases_Bool, none-some, same_key, same_key-true, same-same_key}
+use Rattle.std.specs.Prelude.{T}
+use Rattle.std.specs.FinMap.{entries_sorted, find, is_sorted}
 use Rattle.hash_index.specs.Order.{IsLess, IsAbove, NoneAbove, NoneBetween}
 use Rattle.hash_index.specs.Replies.{is_above, first_above}
 use Rattle.hash_index.proofs.Orders.{less_other}
-use Rattle.bpf_model.proofs.Keys.{same_key, same_key-true, same-same_key}
 
 left_true : (a b : Bool) → T (a && b) → T a
 left_true true b h = tt

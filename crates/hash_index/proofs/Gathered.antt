@@ -1,19 +1,10 @@
 -- Slots in the order of their keys.
-use Rattle.std.proofs.Common.{◌≡◌, ◌≢◌, ◌∙◌, ℕ, zero, suc, ◌<◌, ◌≤◌, List, [], ◌∷◌, length, Option, Some, None, inl, inr, refl}
-use Rattle.std.proofs.Common.{sym, ap, arith, cond, eqb, subst, false, get_or}
-use Rattle.std.specs.Prelude.{slice_get}
-use Rattle.std.specs.List.{sum_by}
+use Rattle.bpf_model.proofs.Prelude.{◌≡◌, ◌≢◌, ◌∙◌, ℕ, zero, suc, ◌<◌, ◌≤◌, List, [], ◌∷◌, length, Option, Some, None, inl, inr, refl, sym, ap, arith, cond}
+use Rattle.bpf_model.proofs.Prelude.{eqb, subst, false, get_or, slice_get, sum_by, nat_cmp, is_lt, slice_cmp, false≢true, nat_list_cmp_total, ranks_by}
+use Rattle.bpf_model.proofs.Prelude.{sum_by-cons, none-some, same_Some, slice_get_within, get_or_from_slice_get, get, KeyMap}
+use Rattle.element_store.proofs.Prelude.{times_in, contents_of}
 use Rattle.std.specs.List.Sorted.{IsPermutation, IsSortedByKey}
-use Rattle.std.specs.Ordering.{nat_cmp, is_lt}
-use Rattle.std.specs.Cmp.Lexicographic.{slice_cmp}
-use Rattle.std.proofs.lemmas.Bool.{false≢true}
-use Rattle.std.proofs.lemmas.Cmp.{nat_list_cmp_total}
-use Rattle.std.proofs.lemmas.List.Sorted.{ranks_by, sorted_far, sum_by-IsPermutation}
-use Rattle.std.proofs.lemmas.List.Sums.{sum_by-cons}
-use Rattle.std.proofs.lemmas.Option.{none-some, same_Some, slice_get_within, get_or_from_slice_get}
-use Rattle.std.specs.FinMap.{get}
-use Rattle.bpf_model.specs.View.{KeyMap}
-use Rattle.element_store.specs.State.{times_in, contents_of}
+use Rattle.std.proofs.lemmas.List.Sorted.{sorted_far, sum_by-IsPermutation}
 use Rattle.element_store.proofs.Counts.{one_cases, one_same, times_first}
 use Rattle.element_store.proofs.Indexing.{AreUnique, get-contents, slot_of-present, times-get}
 use Rattle.hash_index.specs.Held.{held_at, index_held}

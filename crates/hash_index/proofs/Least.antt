@@ -1,11 +1,7 @@
 -- The slot of the least key above a bound, among slots that are looked at one after another.
-use Rattle.std.proofs.Common.{◌≡◌, ◌∙◌, ℕ, zero, suc, ◌<◌, List, [], ◌∷◌, ◌++◌, length, Option, Some, None, ◌⊎◌, inl}
-use Rattle.std.proofs.Common.{inr, refl, sym, ap, arith, cond, eqb, subst, append_assoc}
-use Rattle.std.specs.Prelude.{slice_get, replicate, IfSome, IfNone}
-use Rattle.std.proofs.lemmas.List.{append-nil, length-replicate}
-use Rattle.std.specs.FinMap.{get, empty}
-use Rattle.element_store.specs.State.{ArenaState, times_in, key_at, link_at, contents_of}
-use Rattle.element_store.specs.Threads.{IsThread, chain_of}
+use Rattle.bpf_model.proofs.Prelude.{◌≡◌, ◌∙◌, ℕ, zero, suc, ◌<◌, List, [], ◌∷◌, ◌++◌, length, Option, Some, None, ◌⊎◌, inl, inr, refl, sym, ap, arith, cond}
+use Rattle.bpf_model.proofs.Prelude.{eqb, subst, append_assoc, slice_get, replicate, IfSome, IfNone, append-nil, length-replicate, get, empty, get-replicate}
+use Rattle.element_store.proofs.Prelude.{ArenaState, times_in, key_at, link_at, contents_of, IsThread, chain_of}
 use Rattle.element_store.proofs.Counts.{one_cases, one_same, times-append}
 use Rattle.element_store.proofs.Indexing.{AreUnique, get-contents, slot_of-present, times-get}
 use Rattle.hash_index.specs.Order.{IsLess, IsAbove, NoneAbove, NoneBetween, IsLeastOf}
@@ -13,7 +9,6 @@ use Rattle.hash_index.specs.Chains.{IsChain}
 use Rattle.hash_index.specs.Buckets.{HeadsFit, slots_from, chained_slots}
 use Rattle.hash_index.proofs.Orders.{less_trans, less_other}
 use Rattle.hash_index.proofs.Steps.{chain_step, chain_at, walk_none}
-use Rattle.bpf_model.proofs.Lists.{get-replicate}
 
 -- what it says of the finite map
 module _ (key : ℕ → List ℕ) (xs : List ℕ) (bound : Option (List ℕ)) where

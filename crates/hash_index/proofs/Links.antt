@@ -1,17 +1,8 @@
 -- The place of a key, and what is left once a slot is put there.
-use Rattle.std.proofs.Common.{◌≡◌, ◌∙◌, ℕ, ◌+◌, ◌<◌, List, get_or, length, Option, Some, None, inl, inr, refl, sym, ap, arith, cond, eqb, subst}
-use Rattle.std.specs.Prelude.{slice_get, IfSome}
-use Rattle.std.specs.FinMap.{get, insert, remove, same_map}
-use Rattle.std.proofs.lemmas.Bool.{cond-true, cond-false, cases_Bool}
-use Rattle.std.proofs.lemmas.Cmp.{nat_list_cmp_total}
-use Rattle.std.proofs.lemmas.Map.Lookups.{exact_bytes}
-use Rattle.std.proofs.lemmas.Option.{same_Some, slice_get_read}
-use Rattle.std.specs.Option.{option_flatten}
-use Rattle.bpf_model.specs.View.{KeyMap}
-use Rattle.bpf_model.proofs.Keys.{same_key, same-same_key}
-use Rattle.bpf_model.proofs.Lists.{get-set_other}
-use Rattle.element_store.specs.State.{ArenaState, LinksOf, contents_of, is_at, link_at, times_in, with_link}
-use Rattle.element_store.specs.Threads.{chain_of}
+use Rattle.bpf_model.proofs.Prelude.{◌≡◌, ◌∙◌, ℕ, ◌+◌, ◌<◌, List, get_or, length, Option, Some, None, inl, inr, refl, sym, ap, arith, cond, eqb, subst}
+use Rattle.bpf_model.proofs.Prelude.{slice_get, IfSome, get, insert, remove, same_map, cond-true, cond-false, cases_Bool, nat_list_cmp_total, exact_bytes}
+use Rattle.bpf_model.proofs.Prelude.{same_Some, slice_get_read, option_flatten, KeyMap, same_key, same-same_key, get-set_other}
+use Rattle.element_store.proofs.Prelude.{ArenaState, LinksOf, contents_of, is_at, link_at, times_in, with_link, chain_of}
 use Rattle.element_store.proofs.Counts.{one_same}
 use Rattle.element_store.proofs.Indexing.{get_at-insert, get_at-remove, times-get}
 use Rattle.hash_index.specs.Chains.{StandsBehind, bucket_of}

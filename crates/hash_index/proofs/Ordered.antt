@@ -1,11 +1,9 @@
 -- A slot joins or leaves a vector of slots.
-use Rattle.std.proofs.Common.{◌≡◌, ◌≢◌, ◌∙◌, ℕ, zero, suc, ◌+◌, ◌<◌, ◌≤◌, List, [], ◌∷◌, length, take, drop, Some}
-use Rattle.std.proofs.Common.{None, inl, inr, refl, sym, ap, arith, cond, eqb, subst}
-use Rattle.std.specs.Prelude.{slice_get, vec_capacity, insert, remove}
-use Rattle.std.proofs.lemmas.Option.{none-some, same_Some}
-use Rattle.std.proofs.lemmas.Bool.{eqb-true, eqb-false, cases_Bool}
+use Rattle.bpf_model.proofs.Prelude.{◌≡◌, ◌≢◌, ◌∙◌, ℕ, zero, suc, ◌+◌, ◌<◌, ◌≤◌, List, [], ◌∷◌, length, take, drop, Some, None, inl, inr, refl, sym, ap}
+use Rattle.bpf_model.proofs.Prelude.{arith, cond, eqb, subst, slice_get, vec_capacity, none-some, same_Some, eqb-true, eqb-false, cases_Bool}
+use Rattle.element_store.proofs.Prelude.{ArenaState, IsTaken, key_at, times_in, slot_of, contents_of}
+use Rattle.std.specs.Prelude.{insert, remove}
 use Rattle.std.specs.FinMap as map
-use Rattle.element_store.specs.State.{ArenaState, IsTaken, key_at, times_in, slot_of, contents_of}
 use Rattle.element_store.proofs.Counts.{one_cases, times-append, length_room}
 use Rattle.element_store.proofs.Indexing.{get-contents, slot_of-none, contents-insert, contents-remove, unique-insert, unique-remove, times-get}
 use Rattle.hash_index.specs.declared.sorted.Sorted.{Sorted}

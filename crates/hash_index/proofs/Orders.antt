@@ -1,20 +1,16 @@
 -- Byte order, and positions among ascending keys.
-use Rattle.std.proofs.Common.{◌≡◌, ◌≢◌, ◌∙◌, ℕ, zero, suc, ◌+◌, ◌<◌, ◌≤◌, List, [], ◌∷◌, length, Option, Some, None, ◌⊎◌, inl, inr, refl, sym, ap, arith, subst}
-use Rattle.std.specs.Prelude.{slice_get, insert, remove, IfSome, IfNone}
-use Rattle.std.specs.Ordering.{nat_cmp, is_lt, ordering_reverse}
-use Rattle.std.specs.declared.cmp.Ordering.{Ordering}
-use Rattle.std.specs.declared.cmp.Ordering.TheVariants.{Less, Equal, Greater}
-use Rattle.std.specs.Cmp.Lexicographic.{slice_cmp}
-use Rattle.std.proofs.lemmas.Bool.{cases_order, false≢true}
-use Rattle.std.proofs.lemmas.Cmp.{nat_list_cmp_total, tied_itself}
-use Rattle.std.proofs.lemmas.Map.Lookups.{exact_bytes}
-use Rattle.std.proofs.lemmas.Option.{none-some, same_Some, slice_get_within}
-use Rattle.element_store.specs.State.{times_in, slot_of}
+use Rattle.bpf_model.proofs.Prelude.{◌≡◌, ◌≢◌, ◌∙◌, ℕ, zero, suc, ◌+◌, ◌<◌, ◌≤◌, List, [], ◌∷◌, length, Option, Some, None, ◌⊎◌, inl, inr, refl, sym, ap}
+use Rattle.bpf_model.proofs.Prelude.{arith, subst, slice_get, IfSome, IfNone, nat_cmp, is_lt, Ordering, Less, Equal, Greater, slice_cmp, false≢true}
+use Rattle.bpf_model.proofs.Prelude.{nat_list_cmp_total, exact_bytes, none-some, same_Some, slice_get_within, get-below}
+use Rattle.element_store.proofs.Prelude.{times_in, slot_of}
+use Rattle.std.specs.Prelude.{insert, remove}
+use Rattle.std.specs.Ordering.{ordering_reverse}
+use Rattle.std.proofs.lemmas.Bool.{cases_order}
+use Rattle.std.proofs.lemmas.Cmp.{tied_itself}
 use Rattle.element_store.proofs.Indexing.{AreUnique, slot_of-absent, slot_of-present, slot_of-none}
 use Rattle.hash_index.specs.Order.{IsLess, IsAscending, IsLeastOf}
 use Rattle.hash_index.specs.Held.{held_at, index_held}
 use Rattle.hash_index.specs.Sorted.{IsPosition, IsPositionAbove}
-use Rattle.bpf_model.proofs.Lists.{get-below}
 
 pub less_trans : (a b c : List ℕ) → IsLess a b → IsLess b c → IsLess a c
 less_trans a b c = nat_list_cmp_total.trans a b c

@@ -1,8 +1,5 @@
 -- The least power of two that is no less than a number.
-use Rattle.std.proofs.Common.{◌≡◌, ℕ, zero, suc, ◌*◌, ◌/◌, ◌<◌, ◌≤◌, ◌^◌, inl, inr, arith}
-use Rattle.std.specs.Prelude.{max}
-use Rattle.std.proofs.Math.Nat.{one-le-pow, pow-suc, pow-le-pow_right}
-use Rattle.std.proofs.lemmas.Bool.{cases_lt}
+use Rattle.bpf_model.proofs.Prelude.{◌≡◌, ℕ, zero, suc, ◌*◌, ◌/◌, ◌<◌, ◌≤◌, ◌^◌, inl, inr, arith, max, one-le-pow, pow-suc, pow-le-pow_right, cases_lt}
 use Rattle.hash_index.specs.Buckets.{IsLeastPowerOfTwo}
 
 -- a power of two whose half is too small is the least

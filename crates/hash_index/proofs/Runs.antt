@@ -1,20 +1,12 @@
 -- Runs of commands.
-use Rattle.std.proofs.Common.{◌≡◌, ◌∙◌, ℕ, List, [], ◌∷◌, ◌++◌, Option, None, inl, inr, sym, ap, cond, subst, Bool, true, false, append_assoc}
-use Rattle.std.specs.Prelude.{is_some}
-use Rattle.std.specs.Ordering.{nat_cmp}
-use Rattle.std.specs.Cmp.Lexicographic.{slice_cmp}
-use Rattle.std.specs.FinMap.{get, insert, remove, empty, same_map, get-empty}
-use Rattle.bpf_model.specs.View.{KeyMap}
-use Rattle.std.proofs.lemmas.Bool.{cond-true, cond-false, cases_Bool}
-use Rattle.std.proofs.lemmas.Cmp.{nat_list_cmp_total}
-use Rattle.std.proofs.lemmas.Map.Lookups.{exact_bytes}
-use Rattle.std.proofs.lemmas.Option.{none-some, same_Some}
-use Rattle.element_store.specs.State.{ArenaState, key_at}
+use Rattle.bpf_model.proofs.Prelude.{◌≡◌, ◌∙◌, ℕ, List, [], ◌∷◌, ◌++◌, Option, None, inl, inr, sym, ap, cond, subst, Bool, true, false, append_assoc, is_some}
+use Rattle.bpf_model.proofs.Prelude.{nat_cmp, slice_cmp, get, insert, remove, empty, same_map, get-empty, KeyMap, cond-true, cond-false, cases_Bool}
+use Rattle.bpf_model.proofs.Prelude.{nat_list_cmp_total, exact_bytes, none-some, same_Some, same_key, same_key-true}
+use Rattle.element_store.proofs.Prelude.{ArenaState, key_at}
 use Rattle.element_store.proofs.Indexing.{get_at-insert, get_at-remove}
 use Rattle.hash_index.specs.declared.commands.Command.{Command}
 use Rattle.hash_index.specs.declared.commands.Command.TheVariants.{Link, Find, Unlink, Above}
 use Rattle.hash_index.specs.Replies.{IsKeyed, reply_of, after_command, replies}
-use Rattle.bpf_model.proofs.Keys.{same_key, same_key-true}
 
 pub remove_absent : (m : KeyMap) (k : List ℕ) → get m k ≡ None → remove m k ≡ m
 remove_absent m k h = same_map nat_list_cmp_total exact_bytes _ _ (λ q. get_at-remove m k q ∙ elim (cases_Bool (same_key q k)) [

@@ -1,11 +1,8 @@
 -- Keys of one word or of half a word.
-use Rattle.std.proofs.Common.{◌≡◌, ◌∙◌, ◌+◌, ◌-◌, ◌/◌, ◌<◌, ℕ, List, length, get_or, inl, inr, sym, ap, arith}
-use Rattle.std.specs.Int.{from_le_bytes, to_le_bytes, w32, w64}
-use Rattle.std.specs.Prelude.{bytes_eq, nat_eq}
+use Rattle.bpf_model.proofs.Prelude.{◌≡◌, ◌∙◌, ◌+◌, ◌-◌, ◌/◌, ◌<◌, ℕ, List, length, get_or, inl, inr, sym, ap, arith, from_le_bytes, to_le_bytes, w32, w64}
+use Rattle.bpf_model.proofs.Prelude.{bytes_eq, nat_eq, cases_Bool, eq-eqb, eqb-true, false_from_ne_true, false≢true, get_or_past, le_bytes_4}
 use Rattle.std.specs.Cmp.Lexicographic.{bytes_decides}
-use Rattle.std.proofs.lemmas.Bool.{cases_Bool, eq-eqb, eqb-true, false_from_ne_true, false≢true}
-use Rattle.std.proofs.lemmas.List.{get_or_past}
-use Rattle.std.proofs.lemmas.Nat.{le_bytes_4, le_bytes_8}
+use Rattle.std.proofs.lemmas.Nat.{le_bytes_8}
 use Rattle.hash_index.specs.Chains.{hash_of, hashed_word, mixed_hash, words_hash, hash_start, word_bytes}
 use Rattle.hash_index.specs.declared.hash.TheConstants.{HALF_BYTES}
 

@@ -1,15 +1,10 @@
 -- Steps along a chain.
-use Rattle.std.proofs.Common.{◌≡◌, ◌≢◌, ◌∙◌, ℕ, zero, suc, ◌+◌, ◌<◌, ◌≤◌, List, [], ◌∷◌, ◌++◌, length, Option, Some}
-use Rattle.std.proofs.Common.{None, refl, sym, ap, arith, cond, eqb, subst, append_assoc}
-use Rattle.std.proofs.lemmas.Bool.{cond-false, false_from_ne_true}
-use Rattle.element_store.specs.State.{ArenaState, IsTaken, link_at, key_at, with_link, times_in, slot_of}
-use Rattle.element_store.specs.Threads.{IsThread, walk, chain_of}
+use Rattle.bpf_model.proofs.Prelude.{◌≡◌, ◌≢◌, ◌∙◌, ℕ, zero, suc, ◌+◌, ◌<◌, ◌≤◌, List, [], ◌∷◌, ◌++◌, length, Option, Some, None, refl, sym, ap, arith, cond}
+use Rattle.bpf_model.proofs.Prelude.{eqb, subst, append_assoc, cond-false, false_from_ne_true, get-set_other, same_key-true, option_flatten}
+use Rattle.element_store.proofs.Prelude.{ArenaState, IsTaken, link_at, key_at, with_link, times_in, slot_of, IsThread, walk, chain_of}
 use Rattle.element_store.proofs.Counts.{one_same, times-append}
 use Rattle.element_store.proofs.Threading.{walk-thread, thread-some, thread-skip}
 use Rattle.hash_index.specs.Chains.{IsChain, IsBefore, IsCut, StandsBehind}
-use Rattle.bpf_model.proofs.Lists.{get-set_other}
-use Rattle.bpf_model.proofs.Keys.{same_key-true}
-use Rattle.std.specs.Option.{option_flatten}
 
 pub walk_none : (n : ℕ) (next : ℕ → Option ℕ) → walk n next None ≡ []
 walk_none zero next = refl

@@ -1,7 +1,7 @@
 -- The machine value of a `Handle`. Assumes `Logic`.
-use Rattle.std.proofs.Common.{◌≡◌, List, [], ◌∷◌, ◌++◌, refl, sym, subst, true≢false}
+use Rattle.bpf_model.proofs.Prelude.{◌≡◌, List, [], ◌∷◌, ◌++◌, refl, sym, subst, true≢false, Val, vstruct, vcons, vnil, of_list, Option, Some, None, IsSome}
+use Rattle.bpf_model.proofs.Prelude.{box_owns, ghosts, Global}
 use seplogic.Ra.Ura.{Ura}
-use mir.Val.{Val, vstruct, vcons, vnil, of_list}
 use types.Logic.{Logic}
 use types.Kit.{Item, Goal, Seq, Step, step, ‵, ◌$◌, drop, fsplit, fjoin, fpick, fpack, feq_i, feq_l}
 use denote.RattleType.{RattleType, Valss}
@@ -10,13 +10,8 @@ use denote.RawPtr.{Ptr, ptr_val}
 use denote.Steps.{nothing}
 use denote.Struct.Struct.{within}
 use denote.Struct.Owning.{shape}
-use Rattle.std.specs.Prelude.{Option}
 use Rattle.host_handle.specs.declared.held.Held.{Held}
 use Rattle.host_handle.specs.Held.{holds}
-use Rattle.std.specs.Prelude.{Some, None, IsSome}
-use Rattle.std.specs.Box.Ownership.{box_owns}
-use Rattle.std.specs.contracts.impls.GlobalAllocator.TheImpl.{ghosts}
-use Rattle.std.specs.declared.alloc.Global.{Global}
 use Rattle.host_handle.specs.contracts.held.Held.{the_row}
 use Rattle.host_handle.specs.contracts.raw_box.Handle as handle
 

@@ -1,6 +1,6 @@
 -- Runs on contexts that stand one behind another.
-use Rattle.std.proofs.Common.{inl, inr, ◌≡◌, ℕ, zero, suc, ◌+◌, ◌<◌, List, [], ◌∷◌, drop, Some, refl, sym, ap, ◌∙◌, subst, arith, slice_get, slice_set}
-use Rattle.bpf_model.proofs.Lists.{get-set_cases}
+use Rattle.bpf_model.proofs.Prelude.{inl, inr, ◌≡◌, ℕ, zero, suc, ◌+◌, ◌<◌, List, [], ◌∷◌, drop, Some, refl, sym, ap, ◌∙◌, subst, arith, slice_get, slice_set}
+use Rattle.bpf_model.proofs.Prelude.{get-set_cases}
 use Rattle.host_programs.specs.Opened.{OpenProgram}
 use Rattle.host_programs.specs.Packets.{seen_of}
 use Rattle.host_programs.specs.Runs.{Gives, GivesOnPacket, context_at}

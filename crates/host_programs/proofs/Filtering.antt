@@ -1,16 +1,11 @@
 -- What a classic filter returns of a packet is what runs of its translation exit with, in time.
-use Rattle.std.proofs.Common.{◌≡◌, ℕ, ◌^◌, ◌<◌, List, [], refl, sym, ◌∙◌, subst}
-use Rattle.std.proofs.lemmas.Option.{same_Some}
-use Rattle.bpf_model.specs.declared.limits.MapShape.{MapShape}
-use Rattle.bpf_model.specs.Exit.{ExitsWith}
-use Rattle.bpf_model.specs.Real.{AreBytes}
-use Rattle.classic_program.specs.declared.data.Data.TheVariants.{Packet}
-use Rattle.classic_program.specs.declared.insn.ClassicInsn.{ClassicInsn}
-use Rattle.classic_program.specs.Machine.{Filters}
-use Rattle.classic_program.specs.WellFormed.{checked}
+use Rattle.bpf_model.proofs.Prelude.{◌≡◌, ℕ, ◌^◌, ◌<◌, List, [], refl, sym, ◌∙◌, subst, same_Some, ExitsWith, AreBytes}
+use Rattle.classic.proofs.Prelude.{Packet, ClassicInsn}
+use Rattle.classic_program.proofs.Prelude.{Filters, checked}
+use Rattle.model_laws.proofs.Prelude.{MapShape}
+use Rattle.plan_laws.proofs.Prelude.{IsVerified}
+use Rattle.verifier.proofs.Prelude.{Checked}
 use Rattle.shared_runs.specs.Lone.{loaded_alone}
-use Rattle.plan_laws.specs.Verified.{IsVerified}
-use Rattle.verifier.specs.Checked.{Checked}
 use Rattle.host_programs.specs.Opened.{IsSafe, Translates}
 use Rattle.host_programs.specs.Packets.{seen}
 use Rattle.host_programs.specs.Runs.{ExitsOnPacket}

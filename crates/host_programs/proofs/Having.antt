@@ -1,13 +1,7 @@
 -- Each packet has a context.
-use Rattle.std.proofs.Common.{ℕ, zero, suc, ◌-◌, ◌/◌, ◌^◌, ◌<◌, List, [], ◌∷◌, ◌++◌, length, take, min, refl, arith}
-use Rattle.std.specs.Prelude.{replicate}
-use Rattle.std.specs.Int.{w32, byte_at, to_le_bytes}
-use Rattle.std.proofs.lemmas.List.{length-replicate}
-use Rattle.std.proofs.lemmas.Option.{none-some, same_Some}
-use Rattle.std.proofs.lemmas.Nat.{mod_below}
-use Rattle.bpf_model.proofs.Lists.{get-replicate}
-use Rattle.bpf_model.specs.Real.{AreBytes}
-use Rattle.classic_program.specs.Context.{IsPacketContext, packet_bytes}
+use Rattle.bpf_model.proofs.Prelude.{ℕ, zero, suc, ◌-◌, ◌/◌, ◌^◌, ◌<◌, List, [], ◌∷◌, ◌++◌, length, take, min, refl, arith, replicate, w32, byte_at}
+use Rattle.bpf_model.proofs.Prelude.{to_le_bytes, length-replicate, none-some, same_Some, mod_below, get-replicate, AreBytes}
+use Rattle.classic_program.proofs.Prelude.{IsPacketContext, packet_bytes}
 use Rattle.host_programs.specs.Packets.{seen}
 use Rattle.host_programs.proofs.Laid.{context_of, get-take}
 

@@ -1,17 +1,10 @@
 -- A run of a verified program by itself exits in time.
-use Rattle.std.proofs.Common.{◌≡◌, ℕ, suc, ◌+◌, ◌≤◌, List, [], ◌∷◌, length, Some, None, refl, sym, ap, ◌∙◌, subst, arith}
-use Rattle.std.proofs.lemmas.Option.{slice_get_within}
-use Rattle.bpf_model.specs.declared.event.Answer.TheVariants.{Moved}
-use Rattle.bpf_model.specs.declared.insn.Insn.{Insn}
-use Rattle.bpf_model.specs.Exit.{ExitsFrom, exits_now, exits_later, ExitsWith}
-use Rattle.bpf_model.specs.Machine.{Loaded, Run, fresh_run, section_of}
-use Rattle.bpf_model.specs.Places.{starts_from}
-use Rattle.bpf_model.specs.Real.{AreBytes}
-use Rattle.bpf_model.specs.Step.{insn_at, slot_count}
+use Rattle.bpf_model.proofs.Prelude.{◌≡◌, ℕ, suc, ◌+◌, ◌≤◌, List, [], ◌∷◌, length, Some, None, refl, sym, ap, ◌∙◌, subst, arith, slice_get_within, ExitsFrom}
+use Rattle.bpf_model.proofs.Prelude.{exits_now, exits_later, ExitsWith, Loaded, Run, fresh_run, section_of, starts_from, AreBytes, insn_at, slot_count}
+use Rattle.model_laws.proofs.Prelude.{Moved, Insn}
+use Rattle.plan_laws.proofs.Prelude.{scene_of, IsClosed, IsPlanned, IsVerified, Plan, Surrounds}
 use Rattle.model_laws.proofs.Exits.{no_maps}
 use Rattle.plan_laws.proofs.Reaching.{same-insn}
-use Rattle.plan_laws.specs.Describes.{scene_of}
-use Rattle.plan_laws.specs.Verified.{IsClosed, IsPlanned, IsVerified, Plan, Surrounds}
 use Rattle.host_programs.proofs.OneExit.{IsAlone, around, same-exit}
 
 length-starts : (n : ℕ) (code : List Insn) → length (starts_from n code) ≡ length code

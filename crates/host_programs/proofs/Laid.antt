@@ -1,16 +1,10 @@
 -- How the bytes of a packet's context lie.
-use Rattle.std.proofs.Common.{◌≡◌, ℕ, zero, suc, ◌+◌, ◌-◌, ◌*◌, ◌^◌, ◌<◌, ◌≤◌, List, [], ◌∷◌, ◌++◌, length, take, min, refl, sym}
-use Rattle.std.proofs.Common.{ap, ◌∙◌, subst, arith, length-drop}
+use Rattle.bpf_model.proofs.Prelude.{◌≡◌, ℕ, zero, suc, ◌+◌, ◌-◌, ◌*◌, ◌^◌, ◌<◌, ◌≤◌, List, [], ◌∷◌, ◌++◌, length, take, min, refl, sym, ap, ◌∙◌, subst}
+use Rattle.bpf_model.proofs.Prelude.{arith, Some, slice_get, w32, byte_at, to_le_bytes, take_min, length-take, length-append, from_le_bytes-to_le_bytes_4}
+use Rattle.bpf_model.proofs.Prelude.{none-some, get-append, get-below, number_at, AreBytes}
+use Rattle.classic_program.proofs.Prelude.{IsPacketContext, packet_bytes}
+use Rattle.std.proofs.Common.{length-drop}
 use borrow.Rule.Slice.PartMut.{put_mid, post_of}
-use Rattle.std.specs.Prelude.{Some, slice_get}
-use Rattle.std.specs.Int.{w32, byte_at, to_le_bytes}
-use Rattle.std.proofs.lemmas.List.{take_min, length-take, length-append}
-use Rattle.std.proofs.lemmas.Nat.{from_le_bytes-to_le_bytes_4}
-use Rattle.std.proofs.lemmas.Option.{none-some}
-use Rattle.bpf_model.proofs.Lists.{get-append, get-below}
-use Rattle.bpf_model.specs.Access.{number_at}
-use Rattle.bpf_model.specs.Real.{AreBytes}
-use Rattle.classic_program.specs.Context.{IsPacketContext, packet_bytes}
 use Rattle.host_programs.specs.Packets.{seen}
 
 regroup : (a b c d : ℕ) → a + 256 * (b + 256 * (c + 256 * (d + 256 * 0))) ≡ a + b * 256 ^ 1 + c * 256 ^ 2 + d * 256 ^ 3

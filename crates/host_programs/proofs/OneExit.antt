@@ -1,17 +1,11 @@
 -- A program without maps has one exit value on a context.
-use Rattle.std.proofs.Common.{◌≡◌, ℕ, ◌+◌, ◌⊎◌, inl, inr, List, [], ◌∷◌, length, Some, None, refl, sym, ap, ◌∙◌, subst, arith}
-use Rattle.std.specs.Prelude.{slice_get, Option}
-use Rattle.std.proofs.lemmas.Option.{none-some}
-use Rattle.bpf_model.specs.declared.event.Answer.TheVariants.{Moved}
-use Rattle.bpf_model.specs.Element.{Element}
-use Rattle.bpf_model.specs.Exit.{ExitsFrom, exits_now, exits_later, ExitsWith}
-use Rattle.bpf_model.specs.Machine.{Loaded, Run, fresh_run, section_of}
-use Rattle.bpf_model.specs.Real.{AreBytes}
+use Rattle.bpf_model.proofs.Prelude.{◌≡◌, ℕ, ◌+◌, ◌⊎◌, inl, inr, List, [], ◌∷◌, length, Some, None, refl, sym, ap, ◌∙◌, subst, arith, slice_get, Option}
+use Rattle.bpf_model.proofs.Prelude.{none-some, Element, ExitsFrom, exits_now, exits_later, ExitsWith, Loaded, Run, fresh_run, section_of, AreBytes}
+use Rattle.model_laws.proofs.Prelude.{Moved}
+use Rattle.plan_laws.proofs.Prelude.{MayExitFrom, may_exit_now, may_exit_later, Surrounds}
 use Rattle.model_laws.proofs.Exits.{no_maps}
 use Rattle.plan_laws.proofs.Exits.{one_exit}
 use Rattle.plan_laws.proofs.Reaching.{same-insn}
-use Rattle.plan_laws.specs.MayExit.{MayExitFrom, may_exit_now, may_exit_later}
-use Rattle.plan_laws.specs.Verified.{Surrounds}
 
 -- a run of a program without maps, on a context of its length
 pub record IsAlone (run : Run) : Type 0 where

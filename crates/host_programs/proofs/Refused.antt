@@ -1,16 +1,13 @@
 -- Why a classic program is not opened.
-use Rattle.std.proofs.Common.{List}
-use Rattle.bpf_model.specs.declared.insn.Insn.{Insn}
+use Rattle.bpf_model.proofs.Prelude.{List}
+use Rattle.classic.proofs.Prelude.{IsTranslation, Data, ClassicInsn}
+use Rattle.classic_program.proofs.Prelude.{AreInsnsOf, checked, IsWellFormed}
+use Rattle.model_laws.proofs.Prelude.{Insn}
+use Rattle.verifier.proofs.Prelude.{IsToldOf}
 use Rattle.classic.specs.Faults.{IsTranslateFault}
-use Rattle.classic.specs.Translation.{IsTranslation}
 use Rattle.classic.specs.declared.fault.TranslateFault.{TranslateFault}
-use Rattle.classic_program.specs.declared.data.Data.{Data}
-use Rattle.classic_program.specs.declared.insn.ClassicInsn.{ClassicInsn}
 use Rattle.classic_program.specs.declared.sock_filter.SockFilter.{SockFilter}
-use Rattle.classic_program.specs.Opcode.{AreInsnsOf}
-use Rattle.classic_program.specs.WellFormed.{checked, IsWellFormed}
 use Rattle.verifier.specs.declared.refusal.ProgramRefusal.{ProgramRefusal}
-use Rattle.verifier.specs.Verdict.{IsToldOf}
 use Rattle.host_programs.specs.declared.fault.OpenFault.TheVariants.{Program, Untranslated}
 use Rattle.host_programs.specs.Refusals.{IsClassicFault}
 

@@ -1,14 +1,10 @@
 -- What a run of a translation gives is what the classic program returns.
-use Rattle.std.proofs.Common.{◌≡◌, ℕ, List, [], length, Option, Some, None, refl, sym, subst}
-use Rattle.bpf_model.specs.Exit.{ExitsWith}
-use Rattle.bpf_model.specs.Machine.{Loaded}
-use Rattle.bpf_model.specs.Real.{AreBytes}
-use Rattle.classic_program.specs.declared.data.Data.{Data}
-use Rattle.classic_program.specs.Context.{IsContext, IsPacketContext}
-use Rattle.classic_program.specs.Machine.{Input, Filters}
+use Rattle.bpf_model.proofs.Prelude.{◌≡◌, ℕ, List, [], length, Option, Some, None, refl, sym, subst, ExitsWith, Loaded, AreBytes}
+use Rattle.classic.proofs.Prelude.{Data}
+use Rattle.classic_program.proofs.Prelude.{IsContext, IsPacketContext, Input, Filters}
+use Rattle.verifier.proofs.Prelude.{Checked}
 use Rattle.classic_program.specs.WellFormed.{Checked as Classic}
 use Rattle.shared_runs.specs.Lone.{loaded_alone}
-use Rattle.verifier.specs.Checked.{Checked}
 use Rattle.host_programs.specs.Opened.{IsTranslationOf}
 use Rattle.host_programs.specs.Runs.{ReturnsOn, Returns}
 use Rattle.host_programs.proofs.OneExit.{one_value}

@@ -1,9 +1,7 @@
 -- Shapes of a list, each of which a map may have.
-use Rattle.std.proofs.Common.{inl, inr, ◌≡◌, ℕ, ◌+◌, ◌<◌, ◌≤◌, List, length, get_or, Some, sym, ap, ◌∙◌, subst, arith, slice_get}
-use Rattle.std.proofs.lemmas.Bool.{cases_lt}
-use Rattle.std.proofs.lemmas.Option.{get_or_from_slice_get, slice_get_within}
-use Rattle.bpf_model.specs.Shapes.{IsShape}
-use Rattle.bpf_model.specs.declared.limits.MapShape.{MapShape}
+use Rattle.bpf_model.proofs.Prelude.{inl, inr, ◌≡◌, ℕ, ◌+◌, ◌<◌, ◌≤◌, List, length, get_or, Some, sym, ap, ◌∙◌, subst, arith, slice_get, cases_lt}
+use Rattle.bpf_model.proofs.Prelude.{get_or_from_slice_get, slice_get_within, IsShape}
+use Rattle.model_laws.proofs.Prelude.{MapShape}
 
 abbrev pub AreShapesBelow : ℕ → List MapShape → Type 0
 AreShapesBelow n shapes = (k : ℕ) (shape : MapShape) → k < n → slice_get shapes k ≡ Some shape → IsShape shape

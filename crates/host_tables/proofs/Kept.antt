@@ -1,23 +1,12 @@
 -- What copying leaves linked.
-use Rattle.std.proofs.Common.{◌≡◌, ◌≢◌, ℕ, zero, suc, ◌+◌, ◌-◌, ◌*◌, ◌<◌, List, [], ◌∷◌, ◌++◌, refl, sym, ap, ◌∙◌, subst, ⊎_elim, arith}
-use Rattle.std.proofs.Common.{Option, Some, None, Result, Ok, Err, OnOk, IfErr}
-use mathlib.Core.Logic.{dite}
-use native.Mathlib.Decide.{ℕ_discrete}
-use Rattle.map_table_laws.specs.declared.moves.Move.{Move}
-use Rattle.map_table_laws.specs.declared.moves.Move.TheVariants.{Scan}
-use Rattle.map_table_laws.specs.Layout.{Names}
-use Rattle.map_table_laws.specs.History.{word_in, IsLawful}
-use Rattle.map_table_laws.specs.Found.{Links as LinksIn, IsLinkedUnder, IsLinkedAs, IsLinkedSomewhere}
+use Rattle.bpf_model.proofs.Prelude.{◌≡◌, ◌≢◌, ℕ, zero, suc, ◌+◌, ◌-◌, ◌*◌, ◌<◌, List, [], ◌∷◌, ◌++◌, refl, sym, ap, ◌∙◌, subst, ⊎_elim, arith, Option, Some}
+use Rattle.bpf_model.proofs.Prelude.{None, Result, Ok, Err, OnOk, IfErr, dite, ℕ_discrete}
+use Rattle.map_table_laws.proofs.Prelude.{Names, word_in, IsLawful, IsLinkedUnder, IsLinkedAs, IsLinkedSomewhere}
+use Rattle.map_table.proofs.Prelude.{Move, Scan, TableShape, View, layout_of, IsKnown, TableView, OnlyLoads, Reads, stored_of, MakesSeat, Works, WriterView}
+use Rattle.map_table_laws.specs.Found.{Links as LinksIn}
 use Rattle.map_table_laws.proofs.Moments.{at_last, lawful_early}
 use Rattle.map_table_laws.proofs.Moved.{kept_linked, null_refutes_kept}
 use Rattle.map_table_laws.proofs.Steps.{nothing_named}
-use Rattle.table_words.specs.declared.view.TableShape.{TableShape}
-use Rattle.table_words.specs.declared.view.View.{View}
-use Rattle.map_table.specs.Hashes.{layout_of}
-use Rattle.map_table.specs.Held.{IsKnown, TableView}
-use Rattle.map_table.specs.Reading.{OnlyLoads, Reads}
-use Rattle.map_table.specs.Values.{stored_of}
-use Rattle.map_table.specs.Writing.{MakesSeat, Works, WriterView}
 use Rattle.map_table.proofs.Filling.{own_list, went_me, went_shape}
 use Rattle.map_table.proofs.Going.{went_known}
 use Rattle.map_table.proofs.Keeping.{loads_quiet}
@@ -26,8 +15,8 @@ use Rattle.host_tables.specs.declared.fault.How.TheVariants.{Any}
 use Rattle.host_tables.specs.declared.fault.SetFault.{SetFault}
 use Rattle.host_tables.specs.declared.fault.SetFault.TheVariants.{Exists, Missing, NoElement, NoWay, Held}
 use Rattle.host_tables.specs.Copies.{AreAlike, IsFoundBehind, IsThere, CopiesKey, Copies, LoadsValues, StopsCopying}
-use Rattle.host_tables.specs.Tables.{FindsNoRoom, IsNoRoom, IsNotSet, IsWhy, Links, LinksNew, MakesRoom, Moves, PutsUnder, Replaces, Seeks, Sets}
-use Rattle.host_tables.specs.Tables.{OpenTable, needed_for, seats_left}
+use Rattle.host_tables.specs.Tables.{FindsNoRoom, IsNoRoom, IsNotSet, IsWhy, Links, LinksNew, MakesRoom, Moves, PutsUnder, Replaces, Seeks, Sets, OpenTable}
+use Rattle.host_tables.specs.Tables.{needed_for, seats_left}
 use Rattle.host_tables.specs.Walks.{LoadsKey}
 use Rattle.host_tables.proofs.Linked.{Leaves, words_leave, same_key, linked_before, linked_after}
 use Rattle.host_tables.proofs.Tidy.{searches_leave, freed_finds, puts_leave, all_moves, at_end, at_first}

@@ -1,15 +1,7 @@
 -- Which keys a walk meets.
-use Rattle.std.proofs.Common.{◌≡◌, ◌≢◌, ℕ, suc, ◌<◌, ◌≤◌, List, [], ◌∷◌, inl, inr, subst, arith}
-use mathlib.Core.Logic.{dite}
-use native.Mathlib.Decide.{ℕ_discrete}
-use Rattle.std.proofs.Math.Decide.{dec_lt}
-use Rattle.map_table.specs.Hashes.{layout_of}
-use Rattle.map_table.specs.Law.{ways_of}
-use Rattle.table_words.specs.declared.view.TableShape.{TableShape}
-use Rattle.map_table_laws.specs.declared.moves.Move.{Move}
-use Rattle.map_table_laws.specs.Layout.{Names}
-use Rattle.map_table_laws.specs.History.{moves_of, word_in}
-use Rattle.map_table_laws.specs.Found.{IsLinkedUnder}
+use Rattle.bpf_model.proofs.Prelude.{◌≡◌, ◌≢◌, ℕ, suc, ◌<◌, ◌≤◌, List, [], ◌∷◌, inl, inr, subst, arith, dite, ℕ_discrete, dec_lt}
+use Rattle.map_table_laws.proofs.Prelude.{Names, moves_of, word_in, IsLinkedUnder}
+use Rattle.map_table.proofs.Prelude.{layout_of, ways_of, TableShape, Move}
 use Rattle.map_table_laws.proofs.Steps.{nothing_named}
 use Rattle.host_tables.specs.Walks.{IsKeyWalk, IsMeeting, Meeting, MetOnce, NeverMet, StaysLinked}
 use Rattle.host_tables.proofs.Linked.{same_key}

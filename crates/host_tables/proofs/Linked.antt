@@ -1,19 +1,9 @@
 -- What is linked in a way while the writer leaves it.
-use Rattle.std.proofs.Common.{◌≡◌, ◌≢◌, ℕ, suc, List, [], ◌∷◌, ◌++◌, refl, sym, ap, ◌∙◌, subst, arith}
-use mathlib.Core.Logic.{dite}
-use native.Mathlib.Decide.{ℕ_discrete}
-use Rattle.map_table_laws.specs.declared.moves.Move.{Move}
-use Rattle.map_table_laws.specs.declared.moves.Move.TheVariants.{Open, Close, Learn, Load, Store, Put, Double, Scan}
-use Rattle.map_table_laws.specs.Layout.{Layout, Names}
-use Rattle.map_table_laws.specs.History.{moves_of, word_in, key_of, MayDo, IsLawful}
-use Rattle.map_table_laws.specs.Found.{IsLinkedUnder}
-use Rattle.map_table_laws.specs.Once.{AreLinkedOnce}
+use Rattle.bpf_model.proofs.Prelude.{◌≡◌, ◌≢◌, ℕ, suc, List, [], ◌∷◌, ◌++◌, refl, sym, ap, ◌∙◌, subst, arith, dite, ℕ_discrete}
+use Rattle.map_table_laws.proofs.Prelude.{Layout, Names, moves_of, word_in, key_of, MayDo, IsLawful, IsLinkedUnder, AreLinkedOnce}
+use Rattle.map_table.proofs.Prelude.{Move, Open, Close, Learn, Load, Store, Put, Double, Scan, TableShape, View, layout_of, Went, IsKnown}
 use Rattle.map_table_laws.proofs.Once.{linked_back}
 use Rattle.map_table_laws.proofs.Steps.{own, others, key_step, one_name, put_here, put_there, doubled_here, doubled_there}
-use Rattle.table_words.specs.declared.view.TableShape.{TableShape}
-use Rattle.table_words.specs.declared.view.View.{View}
-use Rattle.map_table.specs.Hashes.{layout_of}
-use Rattle.map_table.specs.Held.{Went, IsKnown}
 use Rattle.map_table.proofs.Replacing.{stretch}
 
 -- none of the moves puts a word in the way

@@ -1,12 +1,8 @@
 -- What a walk meets.
-use Rattle.std.proofs.Common.{◌≡◌, ℕ, suc, ◌+◌, ◌<◌, ◌≤◌, List, [], ◌∷◌, refl, ap, ◌∙◌, arith, eq-eqb, ne_eqb}
-use mathlib.Core.Logic.{dite}
-use native.Mathlib.Decide.{ℕ_discrete}
-use Rattle.std.proofs.Math.Decide.{dec_lt}
-use Rattle.map_table.specs.Law.{ways_of}
-use Rattle.table_words.specs.declared.view.TableShape.{TableShape}
-use Rattle.map_table_laws.specs.declared.moves.Move.{Move}
-use Rattle.map_table_laws.specs.History.{word_in}
+use Rattle.bpf_model.proofs.Prelude.{◌≡◌, ℕ, suc, ◌+◌, ◌<◌, ◌≤◌, List, [], ◌∷◌, refl, ap, ◌∙◌, arith, dite, ℕ_discrete, dec_lt}
+use Rattle.map_table_laws.proofs.Prelude.{word_in}
+use Rattle.map_table.proofs.Prelude.{ways_of, TableShape, Move}
+use Rattle.std.proofs.Common.{eq-eqb, ne_eqb}
 use Rattle.host_tables.specs.Walks.{AreEmpty, IsWalk, NeverEmpty, times_met}
 
 -- one more empty way

@@ -1,13 +1,8 @@
 -- What a search for a key tells.
-use Rattle.std.proofs.Common.{◌≡◌, ℕ, List, Option, Some, None, Result, Ok, Err, refl, sym, subst, IfSome, IfErr}
+use Rattle.bpf_model.proofs.Prelude.{◌≡◌, ℕ, List, Option, Some, None, Result, Ok, Err, refl, sym, subst, IfSome, IfErr}
+use Rattle.map_table_laws.proofs.Prelude.{IsLinkedUnder, OnlySearches}
+use Rattle.map_table.proofs.Prelude.{layout_of, TableView, Works, WriterView, TableShape, Move}
 use Rattle.std.specs.Prelude.{IsNone}
-use Rattle.map_table.specs.Hashes.{layout_of}
-use Rattle.map_table.specs.Held.{TableView}
-use Rattle.map_table.specs.Writing.{Works, WriterView}
-use Rattle.table_words.specs.declared.view.TableShape.{TableShape}
-use Rattle.map_table_laws.specs.declared.moves.Move.{Move}
-use Rattle.map_table_laws.specs.Found.{IsLinkedUnder}
-use Rattle.map_table_laws.specs.Lookups.{OnlySearches}
 use Rattle.host_tables.specs.declared.fault.How.{How}
 use Rattle.host_tables.specs.declared.fault.How.TheVariants.{Any, New, Present}
 use Rattle.host_tables.specs.declared.fault.SetFault.{SetFault}

@@ -1,10 +1,7 @@
 -- Sums of an element's words, place by place.
-use Rattle.std.proofs.Common.{◌≤◌, ◌<◌, ℕ, zero, suc, ◌+◌, List}
-use Rattle.std.proofs.Common.{set, length, refl, sym, subst, arith, get_or-set_other, get_or-set_same, ◌++◌}
-use Rattle.map_table.specs.Counting.{AddsUp}
-use Rattle.map_table.specs.Values.{copies_of}
-use Rattle.table_words.specs.declared.view.TableShape.{TableShape}
-use Rattle.map_table_laws.specs.declared.moves.Move.{Move}
+use Rattle.bpf_model.proofs.Prelude.{◌≤◌, ◌<◌, ℕ, zero, suc, ◌+◌, List, set, length, refl, sym, subst, arith, ◌++◌}
+use Rattle.map_table.proofs.Prelude.{AddsUp, copies_of, TableShape, Move}
+use Rattle.std.proofs.Common.{get_or-set_other, get_or-set_same}
 use Rattle.host_tables.specs.Tables.{SumsUp}
 
 -- A word that is written behind the first sums changes none of them.

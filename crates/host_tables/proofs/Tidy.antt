@@ -1,24 +1,13 @@
 -- What the writer's calls keep of a table.
-use Rattle.std.proofs.Common.{◌≡◌, ◌≢◌, ℕ, zero, suc, ◌+◌, ◌<◌, ◌≤◌, List, [], ◌∷◌, ◌++◌, length, length-append, refl, sym, ap, ◌∙◌, subst, ◌⊎◌}
-use Rattle.std.proofs.Common.{⊎_elim, inl, inr, Option, Some, None, Result, Ok, Err, OnOk, IfErr, slice_index, arith}
-use Rattle.std.specs.List.{range_with_len}
-use Rattle.std.proofs.lemmas.List.FromFn.{length-range_with_len}
-use Rattle.map_table_laws.specs.declared.moves.Move.{Move}
-use Rattle.map_table_laws.specs.declared.moves.Move.TheVariants.{Put, Scan}
-use Rattle.map_table_laws.specs.Layout.{Layout, Names}
-use Rattle.map_table_laws.specs.History.{moves_of, word_in}
-use Rattle.map_table_laws.specs.Lookups.{OnlySearches}
-use Rattle.map_table_laws.specs.Found.{IsLinkedUnder, IsLinkedAs, StaysFound}
-use Rattle.map_table_laws.specs.Moved.{OnlyMoves}
-use Rattle.map_table_laws.specs.Once.{AreLinkedOnce}
+use Rattle.bpf_model.proofs.Prelude.{◌≡◌, ◌≢◌, ℕ, zero, suc, ◌+◌, ◌<◌, ◌≤◌, List, [], ◌∷◌, ◌++◌, length, refl, sym, ap, ◌∙◌, subst, ◌⊎◌, ⊎_elim, inl, inr}
+use Rattle.bpf_model.proofs.Prelude.{Option, Some, None, Result, Ok, Err, OnOk, IfErr, slice_index, arith, range_with_len, length-range_with_len}
+use Rattle.map_table_laws.proofs.Prelude.{Layout, Names, moves_of, word_in, OnlySearches, IsLinkedUnder, IsLinkedAs, StaysFound, OnlyMoves, AreLinkedOnce}
+use Rattle.map_table.proofs.Prelude.{Move, Put, Scan, TableShape, layout_of, IsKnown, TableView, MakesOneWay, StayLinked, OnlyLoads, copies_of, stored_of}
+use Rattle.map_table.proofs.Prelude.{AreFull, MakesSeat, Works, WriterView}
+use Rattle.std.proofs.Common.{length-append}
 use Rattle.map_table_laws.proofs.Steps.{nothing_named, put_here}
-use Rattle.table_words.specs.declared.view.TableShape.{TableShape}
-use Rattle.map_table.specs.Hashes.{layout_of}
-use Rattle.map_table.specs.Held.{IsKnown, TableView}
-use Rattle.map_table.specs.Moving.{GoesAside, MakesOneWay, StayLinked}
-use Rattle.map_table.specs.Reading.{OnlyLoads}
-use Rattle.map_table.specs.Values.{copies_of, stored_of}
-use Rattle.map_table.specs.Writing.{AreFull, Frees, Looks, MakesSeat, Puts, Works, WriterView}
+use Rattle.map_table.specs.Moving.{GoesAside}
+use Rattle.map_table.specs.Writing.{Frees, Looks, Puts}
 use Rattle.map_table.proofs.Keeping.{adds_quiet, fills_quiet, loads_quiet, scans_quiet, searches_quiet}
 use Rattle.host_tables.specs.declared.fault.SetFault.{SetFault}
 use Rattle.host_tables.specs.Tables.{Finds, FindsNoRoom, IsNoRoom, IsTidy, Links, MakesRoom, Moves, PutsUnder, PutsWithRoom, Replaces, SumsUp, needed_for}

@@ -1,16 +1,9 @@
 -- What is read so far, and what is left.
-use Rattle.std.proofs.Common.{◌≡◌, ℕ, ◌+◌, ◌*◌, ◌%◌, ◌<◌, List, [], ◌∷◌, ◌++◌, length, refl, sym, ap, ◌∙◌, arith, append_assoc, true, false, eqb, inl, inr}
-use Rattle.std.specs.List.{AllByRecursion}
-use Rattle.std.proofs.ByRecursion.{All-push}
-use Rattle.std.proofs.lemmas.Bool.Decides.{nat_tests}
-use Rattle.std.proofs.lemmas.List.{append-nil, length-append}
-use Rattle.std.proofs.lemmas.List.Sums.{sum_by-cons}
+use Rattle.bpf_model.proofs.Prelude.{◌≡◌, ℕ, ◌+◌, ◌*◌, ◌%◌, ◌<◌, List, [], ◌∷◌, ◌++◌, length, refl, sym, ap, ◌∙◌, arith, append_assoc, true, false, eqb, inl}
+use Rattle.bpf_model.proofs.Prelude.{inr, AllByRecursion, All-push, nat_tests, append-nil, length-append, sum_by-cons, FitsInsn, spelling, text, slot_count}
+use Rattle.bpf_model.proofs.Prelude.{slot_total, starts_from, slot_count_some}
 use Rattle.bpf_model.specs.declared.insn.Insn.{Insn}
-use Rattle.bpf_model.specs.Spelling.{FitsInsn, spelling, text}
-use Rattle.bpf_model.specs.Step.{slot_count}
-use Rattle.bpf_model.specs.Places.{slot_total, starts_from}
 use Rattle.insn_codec.proofs.InsnLaws.{shape}
-use Rattle.bpf_model.proofs.Places.{slot_count_some}
 
 -- what a test of a length for 0 says
 

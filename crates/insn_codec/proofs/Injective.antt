@@ -1,5 +1,5 @@
 -- No two opcodes have one byte.
-use Rattle.std.proofs.Common.{◌≡◌, arith}
+use Rattle.bpf_model.proofs.Prelude.{◌≡◌, arith, opcode_byte}
 use Rattle.bpf_model.specs.declared.opcode.Size.TheVariants.{Word32, Word64}
 use Rattle.bpf_model.specs.declared.opcode.AluCode.TheVariants.{Add}
 use Rattle.bpf_model.specs.declared.opcode.Condition.TheVariants.{Equal}
@@ -10,7 +10,6 @@ use Rattle.bpf_model.specs.declared.opcode.Source.TheVariants as source
 use Rattle.bpf_model.specs.declared.opcode.Width.TheVariants as width
 use Rattle.bpf_model.specs.declared.opcode.SignedWidth.TheVariants as signed
 use Rattle.bpf_model.specs.declared.opcode.Excluded.TheVariants as excluded
-use Rattle.bpf_model.specs.Opcode.{opcode_byte}
 
 pub injective : (o p : Opcode) → opcode_byte o ≡ opcode_byte p → o ≡ p
 injective (Alu Add Word32 source.Immediate) p e = grind arith

@@ -1,11 +1,8 @@
 -- An instruction is read again from its slots.
-use Rattle.std.proofs.Common.{◌≡◌, ℕ, ◌+◌, ◌-◌, ◌*◌, ◌/◌, ◌%◌, ◌^◌, ◌<◌, Bool, false, cond, eqb, not, [], ◌∷◌, take}
-use Rattle.std.proofs.Common.{drop, Option, Some, None, refl, sym, ap, ap₂, subst, ◌∙◌, arith, ℤ, pos, of_z, ◌⊎◌, inl, inr}
-use Rattle.std.specs.Ordering.{int_eq}
-use Rattle.std.specs.Int.{w32, cast_signed}
-use Rattle.std.specs.Prelude.{option_to_list}
-use Rattle.std.proofs.lemmas.Int.{of_z-to_z}
-use Rattle.std.proofs.lemmas.Bool.Decides.{nat_tests}
+use Rattle.bpf_model.proofs.Prelude.{◌≡◌, ℕ, ◌+◌, ◌-◌, ◌*◌, ◌/◌, ◌%◌, ◌^◌, ◌<◌, Bool, false, cond, eqb, not, [], ◌∷◌, take, drop, Option, Some, None, refl}
+use Rattle.bpf_model.proofs.Prelude.{sym, ap, ap₂, subst, ◌∙◌, arith, ℤ, pos, of_z, ◌⊎◌, inl, inr, int_eq, w32, cast_signed, option_to_list, of_z-to_z}
+use Rattle.bpf_model.proofs.Prelude.{nat_tests, opcode_byte, FitsInsn, slots_of, first_slot, tail_slot, opcode_of, alu_offset, extension_bits, swap_bits}
+use Rattle.bpf_model.proofs.Prelude.{call_source, slot_count, heads, tails}
 use Rattle.bpf_model.specs.declared.slot.Slot.{Slot}
 use Rattle.bpf_model.specs.declared.opcode.Size.{Size}
 use Rattle.bpf_model.specs.declared.opcode.Size.TheVariants.{Word32, Word64}
@@ -28,11 +25,7 @@ use Rattle.bpf_model.specs.declared.insn.CallKind.{CallKind}
 use Rattle.bpf_model.specs.declared.insn.CallKind.TheVariants.{Helper, Kernel}
 use Rattle.bpf_model.specs.declared.insn.Insn.{Insn}
 use Rattle.bpf_model.specs.declared.insn.Insn.TheVariants.{Alu, Unary, LoadNumber, LoadMap, Jump, JumpLong, JumpIf, Call, Exit, Load, LoadSigned, Store}
-use Rattle.bpf_model.specs.Opcode.{opcode_byte}
-use Rattle.bpf_model.specs.Spelling.{FitsInsn, slots_of, first_slot, tail_slot, opcode_of, code_of, alu_offset}
-use Rattle.bpf_model.specs.Spelling.{extension_size, extension_bits, swap_bits, call_source}
-use Rattle.bpf_model.specs.Step.{slot_count}
-use Rattle.bpf_model.proofs.Lists.{heads, tails}
+use Rattle.bpf_model.specs.Spelling.{code_of, extension_size}
 use Rattle.insn_codec.specs.Begins.{BeginsWith}
 use Rattle.insn_codec.specs.Faults.{flaw_with, is_excluded}
 

@@ -1,16 +1,10 @@
 -- No two faults of one input, none where it is a text, and no two programs with one text.
-use Rattle.std.proofs.Common.{◌≡◌, ℕ, ◌*◌, ◌%◌, ◌<◌, ◌≤◌, Bool, List, [], ◌∷◌, ◌++◌, length, Option, Some, None, refl}
-use Rattle.std.proofs.Common.{sym, ap, subst, ◌∙◌, arith, append_assoc, drop, cond}
-use Rattle.std.specs.List.{AllByRecursion}
-use Rattle.std.proofs.lemmas.Bool.Decides.{nat_tests}
-use Rattle.std.proofs.lemmas.List.{append-nil, length-append}
-use Rattle.std.proofs.lemmas.Option.{same_Some}
+use Rattle.bpf_model.proofs.Prelude.{◌≡◌, ℕ, ◌*◌, ◌%◌, ◌<◌, ◌≤◌, Bool, List, [], ◌∷◌, ◌++◌, length, Option, Some, None, refl, sym, ap, subst, ◌∙◌, arith}
+use Rattle.bpf_model.proofs.Prelude.{append_assoc, drop, cond, AllByRecursion, nat_tests, append-nil, length-append, same_Some, FitsInsn, IsProgram, spelling}
+use Rattle.bpf_model.proofs.Prelude.{text, slot_at, next_slot_at, opcode_of, slot_count, slot_total, slot_count_some}
 use Rattle.bpf_model.specs.declared.limits.TheConstants.{MAX_SLOTS}
 use Rattle.bpf_model.specs.declared.opcode.Opcode.{Opcode}
 use Rattle.bpf_model.specs.declared.insn.Insn.{Insn}
-use Rattle.bpf_model.specs.Spelling.{FitsInsn, IsProgram, spelling, text, slot_at, next_slot_at, opcode_of}
-use Rattle.bpf_model.specs.Step.{slot_count}
-use Rattle.bpf_model.specs.Places.{slot_total}
 use Rattle.insn_codec.specs.declared.fault.DecodeFault.{DecodeFault}
 use Rattle.insn_codec.specs.declared.fault.DecodeFault.TheVariants as faults
 use Rattle.insn_codec.specs.declared.flaw.InsnFlaw.{InsnFlaw}
@@ -20,7 +14,6 @@ use Rattle.insn_codec.proofs.InsnLaws.{opcode_is, included, no_flaw, same}
 use Rattle.insn_codec.proofs.TextLaws.{Again, again}
 use Rattle.insn_codec.proofs.DecodeLoop.{total_cons, length_text}
 use Rattle.insn_codec.proofs.Injective.{injective}
-use Rattle.bpf_model.proofs.Places.{slot_count_some}
 
 -- what two instructions that begin one input are
 one_first : (bytes x y : List ℕ) (i j : Insn) → FitsInsn i → FitsInsn j → bytes ≡ spelling i ++ x → bytes ≡ spelling j ++ y → (i ≡ j) × (x ≡ y)

@@ -1,10 +1,9 @@
 -- An instruction at the front of bytes, and its slots.
-use Rattle.std.proofs.Common.{◌≡◌, ℕ, ◌*◌, ◌/◌, ◌%◌, ◌^◌, ◌<◌, ◌≤◌, List, [], ◌∷◌, ◌++◌, length, take, drop, Option}
-use Rattle.std.proofs.Common.{Some, None, refl, sym, ap, subst, ◌∙◌, arith, ℤ, pos, inl, inr}
-use Rattle.std.specs.Int.{w16, w32, cast_signed}
-use Rattle.std.specs.Prelude.{FitsSigned, option_to_list}
-use Rattle.std.specs.List.{flat_map}
-use Rattle.std.proofs.lemmas.Int.{ints}
+use Rattle.bpf_model.proofs.Prelude.{◌≡◌, ℕ, ◌*◌, ◌/◌, ◌%◌, ◌^◌, ◌<◌, ◌≤◌, List, [], ◌∷◌, ◌++◌, length, take, drop, Option, Some, None, refl, sym, ap, subst}
+use Rattle.bpf_model.proofs.Prelude.{◌∙◌, arith, ℤ, pos, inl, inr, w16, w32, cast_signed, FitsSigned, option_to_list, flat_map, ints, opcode_byte, slot_bytes}
+use Rattle.bpf_model.proofs.Prelude.{slot_at, next_slot_at, FitsSlot, FitsOperand, FitsInsn, spelling, slots_of, first_slot, tail_slot, opcode_of, alu_offset}
+use Rattle.bpf_model.proofs.Prelude.{operand_src, extension_bits, swap_bits, call_source, slot_count, cases_lt, lt-ltb, le-ltb, drop-drop, length-append}
+use Rattle.bpf_model.proofs.Prelude.{length-drop}
 use Rattle.bpf_model.specs.declared.slot.Slot.{Slot}
 use Rattle.bpf_model.specs.declared.opcode.Opcode.{Opcode}
 use Rattle.bpf_model.specs.declared.opcode.SwapWidth.{SwapWidth}
@@ -20,13 +19,7 @@ use Rattle.bpf_model.specs.declared.insn.CallKind.{CallKind}
 use Rattle.bpf_model.specs.declared.insn.CallKind.TheVariants.{Helper, Kernel}
 use Rattle.bpf_model.specs.declared.insn.Insn.{Insn}
 use Rattle.bpf_model.specs.declared.insn.Insn.TheVariants.{Alu, Unary, LoadNumber, LoadMap, Jump, JumpLong, JumpIf, Call, Exit, Load, LoadSigned, Store}
-use Rattle.bpf_model.specs.Opcode.{opcode_byte}
-use Rattle.bpf_model.specs.Spelling.{slot_bytes, slot_at, next_slot_at, FitsSlot, FitsOperand, FitsInsn, spelling}
-use Rattle.bpf_model.specs.Spelling.{slots_of, first_slot, tail_slot, opcode_of, alu_offset, operand_src, operand_imm}
-use Rattle.bpf_model.specs.Spelling.{extension_bits, swap_bits, call_source}
-use Rattle.bpf_model.specs.Step.{slot_count}
-use Rattle.std.proofs.lemmas.Bool.{cases_lt, lt-ltb, le-ltb}
-use Rattle.std.proofs.lemmas.List.{drop-drop, length-append, length-drop}
+use Rattle.bpf_model.specs.Spelling.{operand_imm}
 use Rattle.insn_codec.proofs.SlotLaws.{IsBytes, IsBytes-drop, slot_again, slot_at-slot_bytes}
 use Rattle.insn_codec.specs.Begins.{BeginsWith}
 use Rattle.insn_codec.proofs.InsnLaws.{IsOneSlot, IsTwoSlots, shape, begins_parts}

@@ -1,6 +1,6 @@
 -- Each move keeps the queue's rule.
-use Rattle.std.proofs.Common.{◌≡◌, ◌≢◌, ◌⊎◌, ℕ, zero, suc, ◌+◌, ◌<◌, ◌≤◌, Bool, true, false, true≢false, cond, List, [], ◌∷◌}
-use Rattle.std.proofs.Common.{◌++◌, length, get_or, set, refl, sym, ap, ◌∙◌, subst, ⊎_elim, inl, inr, arith, length-append}
+use Rattle.std.proofs.Common.{◌≡◌, ◌≢◌, ◌⊎◌, ℕ, zero, suc, ◌+◌, ◌<◌, ◌≤◌, Bool, true, false, true≢false, cond, List, [], ◌∷◌, ◌++◌, length, get_or, set, refl}
+use Rattle.std.proofs.Common.{sym, ap, ◌∙◌, subst, ⊎_elim, inl, inr, arith, length-append}
 use Rattle.std.specs.Prelude.{sum_by, eqb, Option, Some, None, is_some, MatchOption}
 use Rattle.std.proofs.lemmas.List.Sums.{sum_by-cons, sum_by-append, sum_by-set}
 use mathlib.Core.Option.{some, some-injective, some-ne-none}
@@ -10,8 +10,8 @@ use Rattle.crossbeam_queue.specs.Fifo.{Pushes, Pops, Forks, Merges, Learns, Held
 use Rattle.crossbeam_queue.proofs.Lists.{at_set}
 use Rattle.atomic_table.proofs.Lists.{at_snoc}
 use Rattle.job_queue.specs.declared.numbers.PassView.{PassView}
-use Rattle.job_queue.specs.Numbers.{putter, taker, spent, with_number, without_number, with_another, with_taken_of}
-use Rattle.job_queue.specs.Numbers.{CountsFrom, WasTaken, times, taken_by_all, passes_out, Puts, HandsOutOnce, HasTakenAll}
+use Rattle.job_queue.specs.Numbers.{putter, taker, spent, with_number, without_number, with_another, with_taken_of, CountsFrom, WasTaken, times, taken_by_all}
+use Rattle.job_queue.specs.Numbers.{passes_out, Puts, HandsOutOnce, HasTakenAll}
 
 -- one where it is so
 abbrev pub one_if : Bool → ℕ

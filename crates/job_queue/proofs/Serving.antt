@@ -1,6 +1,6 @@
 -- Results of stations, one after another, and where they stand in the end.
-use Rattle.std.proofs.Common.{◌≡◌, ℕ, ◌+◌, ◌<◌, List, [], ◌∷◌, ◌++◌, length, get_or, sym, ap, ◌∙◌, subst, arith}
-use Rattle.std.proofs.Common.{length-append, map, zero, suc, refl, take, drop, append-nil, ⊎_elim, inl, inr, true, ◌⊎◌}
+use Rattle.std.proofs.Common.{◌≡◌, ℕ, ◌+◌, ◌<◌, List, [], ◌∷◌, ◌++◌, length, get_or, sym, ap, ◌∙◌, subst, arith, length-append, map, zero, suc, refl, take}
+use Rattle.std.proofs.Common.{drop, append-nil, ⊎_elim, inl, inr, true, ◌⊎◌}
 use Rattle.std.specs.Prelude.{All, slice_get, slice_set, slice_index_or, Option, Some, None, IsSome, option_map, unwrap_or}
 use Rattle.std.specs.List.{AllZip}
 use Rattle.std.proofs.lemmas.List.Elements.{All-append, All-map}

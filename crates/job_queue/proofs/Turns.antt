@@ -1,9 +1,7 @@
 -- What each worker served, and that it is all that there was to serve.
-use Rattle.std.proofs.Common.{◌≡◌, ◌≢◌, ℕ, zero, suc, ◌+◌, ◌<◌, ◌≤◌, List, [], ◌∷◌, ◌++◌, length, map, take, get_or}
-use Rattle.std.proofs.Common.{refl, sym, ap, ◌∙◌, subst, ⊎_elim, arith}
+use Rattle.std.proofs.Common.{◌≡◌, ◌≢◌, ℕ, zero, suc, ◌+◌, ◌<◌, ◌≤◌, List, [], ◌∷◌, ◌++◌, length, map, take, get_or, refl, sym, ap, ◌∙◌, subst, ⊎_elim, arith}
 use Rattle.std.proofs.Math.Seq.{take-suc}
-use Rattle.std.specs.Prelude.{All, IsSome, IfOk, OnOk, eqb, sum_by, slice_get, slice_index_or, Option, Some, None}
-use Rattle.std.specs.Prelude.{option_map, unwrap_or, Result, Ok, Err}
+use Rattle.std.specs.Prelude.{All, IsSome, IfOk, OnOk, eqb, sum_by, slice_get, slice_index_or, Option, Some, None, option_map, unwrap_or, Result, Ok, Err}
 use Rattle.std.specs.Global.{Vec}
 use Rattle.std.specs.Borrow.{Bor}
 use Rattle.std.specs.List.{flat_map}

@@ -1,7 +1,7 @@
 -- The entry of an index, among rows that stand for one or several.
-use Rattle.std.proofs.Common.{◌≡◌, ◌∙◌, ℕ, zero, suc, ◌+◌, ◌<◌, ◌≤◌, List, [], ◌∷◌, ◌++◌, length, Some, refl, ap, arith, length-append}
-use Rattle.std.specs.Prelude.{slice_get, option_map, replicate}
-use Rattle.std.proofs.lemmas.List.{length-replicate}
+use Rattle.bpf_model.proofs.Prelude.{◌≡◌, ◌∙◌, ℕ, zero, suc, ◌+◌, ◌<◌, ◌≤◌, List, [], ◌∷◌, ◌++◌, length, Some, refl, ap, arith, slice_get, option_map}
+use Rattle.bpf_model.proofs.Prelude.{replicate, length-replicate}
+use Rattle.std.proofs.Common.{length-append}
 use Rattle.bpf_model.specs.declared.entry.Entry.{Entry}
 use Rattle.journal.specs.declared.row.Row.{Row}
 use Rattle.journal.specs.Rows.{all_entries, entries_of, entry_of, span_of, AreStored}

@@ -1,17 +1,15 @@
 -- A row stands for its entry, and goes on to where more bytes come behind its own.
-use Rattle.std.proofs.Common.{◌≡◌, ◌∙◌, ℕ, inl, inr, suc, ◌+◌, ◌≤◌, List, [], ◌∷◌, ◌++◌, map, length, take, drop, Some, None, ◌-◌, refl, sym, ap, subst, arith}
-use Rattle.std.specs.Prelude.{slice_get}
-use Rattle.std.proofs.lemmas.List.{append_assoc, append-nil, drop_at, take_at, drop-append-le, take-append-le, length-append, length-drop}
-use Rattle.bpf_model.proofs.Lists.{get-append_cases}
+use Rattle.bpf_model.proofs.Prelude.{◌≡◌, ◌∙◌, ℕ, inl, inr, suc, ◌+◌, ◌≤◌, List, [], ◌∷◌, ◌++◌, map, length, take, drop, Some, None, ◌-◌, refl, sym, ap}
+use Rattle.bpf_model.proofs.Prelude.{subst, arith, slice_get, append-nil, take-append-le, length-append, length-drop, get-append_cases, replicate}
+use Rattle.std.proofs.lemmas.List.{append_assoc, drop_at, take_at, drop-append-le}
 use Rattle.bpf_model.specs.declared.limits.TheConstants.{KEY_BYTES, VALUE_BYTES}
 use Rattle.arrayvec.specs.ArrayVec.{ArrayVec}
 use Rattle.bpf_model.specs.declared.event.Event.TheVariants as events
 use Rattle.bpf_model.specs.declared.event.Answer.{Answer}
 use Rattle.bpf_model.specs.declared.event.Answer.TheVariants as answers
 use Rattle.std.proofs.lemmas.Grind.{flat_map-append}
-use Rattle.std.specs.Prelude.{replicate}
-use Rattle.journal.specs.Rows.{all_entries, answer_bytes, answer_of, entries_of, entry_bytes, entry_from, entry_of}
-use Rattle.journal.specs.Rows.{span_of, string_in, IsRowOf, IsStored, AreStored}
+use Rattle.journal.specs.Rows.{all_entries, answer_bytes, answer_of, entries_of, entry_bytes, entry_from, entry_of, span_of, string_in, IsRowOf, IsStored}
+use Rattle.journal.specs.Rows.{AreStored}
 use Rattle.bpf_model.specs.declared.entry.Entry.{Entry}
 use Rattle.journal.specs.declared.row.Outcome.{Outcome}
 use Rattle.journal.specs.declared.row.Row.{Row}

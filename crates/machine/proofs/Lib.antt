@@ -1,3 +1,4 @@
+pub mod Prelude
 pub mod Acting
 pub mod Doing
 pub mod Landing

@@ -1,17 +1,13 @@
 -- How many keys of a map are above a bound: fewer above one of them.
-use Rattle.std.proofs.Common.{◌≡◌, ◌∙◌, ℕ, ◌+◌, ◌<◌, ◌≤◌, Bool, true, false, cond, List, [], ◌∷◌, Option, Some, None, sym, ap, subst, refl, arith}
-use Rattle.std.specs.Ordering.{nat_cmp, is_lt, eq_by_cmp}
-use Rattle.std.specs.Cmp.Lexicographic.{slice_cmp}
-use Rattle.std.specs.FinMap.{entries, find, get, get-entries}
-use Rattle.std.proofs.lemmas.Bool.{false≢true}
-use Rattle.std.proofs.lemmas.Option.{none-some}
-use Rattle.std.proofs.lemmas.Map.Lookups.{exact_bytes}
+use Rattle.bpf_model.proofs.Prelude.{◌≡◌, ◌∙◌, ℕ, ◌+◌, ◌<◌, ◌≤◌, Bool, true, false, cond, List, [], ◌∷◌, Option, Some, None, sym, ap, subst, refl, arith}
+use Rattle.bpf_model.proofs.Prelude.{nat_cmp, is_lt, slice_cmp, entries, get, get-entries, false≢true, none-some, exact_bytes, KeyMap}
+use Rattle.std.specs.Ordering.{eq_by_cmp}
+use Rattle.std.specs.FinMap.{find}
 use Rattle.hash_index.specs.Order.{IsLess, IsAbove}
 use Rattle.hash_index.specs.Replies.{is_above}
 use Rattle.hash_index.proofs.Firsts.{less_tested, above_test}
 use Rattle.hash_index.proofs.Orders.{less_trans}
 use Rattle.bpf_model.proofs.Cases.{equal-is}
-use Rattle.bpf_model.specs.View.{KeyMap}
 
 abbrev pub above_in : Option (List ℕ) → List (List ℕ × ℕ) → ℕ
 above_in bound [] = 0

@@ -1,24 +1,12 @@
 -- What is seen of an array, through each change of its values.
-use Rattle.std.proofs.Common.{◌≡◌, ◌≢◌, ◌∙◌, ℕ, ◌+◌, ◌*◌, ◌<◌, ◌≤◌, List, [], length, map, replicate, Option, Some}
-use Rattle.std.proofs.Common.{None, Result, Ok, inl, inr, sym, ap, arith, subst}
-use Rattle.std.specs.Prelude.{slice_get, slice_set, is_some}
-use Rattle.std.specs.List.{range_with_len}
-use Rattle.std.specs.FinMap.{get, len}
-use Rattle.std.proofs.lemmas.Bool.{cases_eq, cases_lt}
-use Rattle.std.proofs.lemmas.List.{same_lists, length-set}
-use Rattle.std.proofs.lemmas.List.FromFn.{length-map-range_with_len, get_or-map-range_with_len}
-use Rattle.std.proofs.lemmas.Option.{slice_get_past, slice_get-get_or, get_or_from_slice_get}
-use Rattle.bpf_model.specs.declared.call.Errno.{Errno}
-use Rattle.bpf_model.specs.declared.limits.MapKind.TheVariants.{Array}
-use Rattle.bpf_model.specs.declared.limits.MapShape.{MapShape}
-use Rattle.bpf_model.specs.Helper.{array_error, error_of_kind}
-use Rattle.bpf_model.specs.MapState.{index_key}
-use Rattle.bpf_model.specs.View.{SlotView, MapView, array_slot, index_below, key_in, value_in, uses_in, map_state_of, new_view_of, new_map_view}
-use Rattle.bpf_model.proofs.Lists.{get-set_other, get-set_there}
-use Rattle.element_store.specs.Blocks.{block, with_block}
-use Rattle.element_store.specs.State.{is_at, key_at, value_at}
+use Rattle.bpf_model.proofs.Prelude.{◌≡◌, ◌≢◌, ◌∙◌, ℕ, ◌+◌, ◌*◌, ◌<◌, ◌≤◌, List, [], length, map, replicate, Option, Some, None, Result, Ok, inl, inr, sym}
+use Rattle.bpf_model.proofs.Prelude.{ap, arith, subst, slice_get, slice_set, is_some, range_with_len, get, len, cases_eq, cases_lt, same_lists, length-set}
+use Rattle.bpf_model.proofs.Prelude.{length-map-range_with_len, get_or-map-range_with_len, slice_get_past, slice_get-get_or, get_or_from_slice_get}
+use Rattle.bpf_model.proofs.Prelude.{array_error, error_of_kind, index_key, SlotView, MapView, array_slot, index_below, key_in, value_in, uses_in}
+use Rattle.bpf_model.proofs.Prelude.{map_state_of, new_view_of, new_map_view, get-set_other, get-set_there}
+use Rattle.element_store.proofs.Prelude.{block, with_block, is_at, key_at, value_at}
+use Rattle.model_laws.proofs.Prelude.{Errno, Array, MapShape, updated, updated_by, written_by, overwritten_slot, written}
 use Rattle.element_store.proofs.BlockLaws.{room, block-written, block-other, block-zeros, length-with_block}
-use Rattle.model_laws.specs.Views.{updated, updated_by, written_by, overwritten_slot, written}
 use Rattle.map_kinds.specs.Arrays.{index_slot, array_view, IsArrayMap}
 use Rattle.map_kinds.specs.Shown.{IsOccupied}
 use Rattle.model_laws.proofs.Indices.{index-long, index-got}

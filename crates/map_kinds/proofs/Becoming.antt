@@ -1,9 +1,7 @@
 -- The parts of a map over their arena, and what a call makes of them.
-use Rattle.std.proofs.Common.{◌≡◌}
-use Rattle.bpf_model.specs.View.{KeyMap}
-use Rattle.element_store.specs.State.{ArenaState}
+use Rattle.bpf_model.proofs.Prelude.{◌≡◌, KeyMap}
+use Rattle.element_store.proofs.Prelude.{ArenaState, DeferredFits, deferred_lists}
 use Rattle.element_store.specs.declared.deferred.DeferredSlots.{DeferredSlots}
-use Rattle.element_store.specs.Deferred.{DeferredFits, deferred_lists}
 use Rattle.map_kinds.specs.Parted.{PartsView, IsParted}
 
 module _ (X : Type 0) (contents : X → ArenaState → KeyMap) (fits_index : X → ArenaState → Type 0) where

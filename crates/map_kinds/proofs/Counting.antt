@@ -1,19 +1,11 @@
 -- How many slots stand in the lists, or are worn.
-use Rattle.std.proofs.Common.{◌≡◌, ◌∙◌, ℕ, ◌+◌, ◌<◌, ◌≤◌, List, [], ◌∷◌, ◌++◌, length, drop, Option, Some, None, sym, ap, subst, arith, length-append}
-use Rattle.std.specs.Prelude.{slice_get, IfNone}
-use Rattle.std.specs.FinMap.{len}
-use Rattle.std.proofs.lemmas.Option.{none-some}
-use Rattle.bpf_model.specs.declared.limits.TheConstants.{MAX_ENTRIES, MAX_SPARE}
-use Rattle.bpf_model.specs.declared.event.Given.{Given}
-use Rattle.bpf_model.specs.declared.event.Given.TheVariants.{Free, Worn}
-use Rattle.bpf_model.specs.declared.limits.MapShape.{MapShape}
-use Rattle.bpf_model.specs.Shapes.{IsShape}
-use Rattle.bpf_model.specs.MapState.{slots_of_shape}
-use Rattle.element_store.specs.State.{times_in}
+use Rattle.bpf_model.proofs.Prelude.{◌≡◌, ◌∙◌, ℕ, ◌+◌, ◌<◌, ◌≤◌, List, [], ◌∷◌, ◌++◌, length, drop, Option, Some, None, sym, ap, subst, arith, slice_get}
+use Rattle.bpf_model.proofs.Prelude.{IfNone, len, none-some, IsShape, slots_of_shape}
+use Rattle.element_store.proofs.Prelude.{times_in, queued, reaped_lists}
+use Rattle.model_laws.proofs.Prelude.{MAX_ENTRIES, MAX_SPARE, Given, Free, Worn, MapShape, given_at, slot_given_back, reaped_view, filled, retired_slot}
+use Rattle.std.proofs.Common.{length-append}
 use Rattle.element_store.specs.State as arena
 use Rattle.element_store.proofs.Counts.{times-append, length_once}
-use Rattle.element_store.specs.Queued.{queued, reaped_lists}
-use Rattle.model_laws.specs.Views.{given_at, slot_given_back, reaped_view, filled, retired_slot}
 use Rattle.map_kinds.specs.declared.counts.Counts.{Counts}
 use Rattle.map_kinds.specs.Counting.{unlinked_in, worn_in, counts_linked, counts_reaped, IsCounted}
 use Rattle.map_kinds.specs.Parted.{PartsView, IsParted, standings}

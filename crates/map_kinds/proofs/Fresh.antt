@@ -1,22 +1,12 @@
 -- A new hash map: a new arena, with nothing linked and nothing in a list.
-use Rattle.std.proofs.Common.{◌≡◌, ◌∙◌, ℕ, zero, suc, ◌+◌, ◌<◌, ◌≤◌, List, [], length, Option, Some, None, refl, sym, ap, arith, cond, Bool, false}
-use Rattle.std.specs.Prelude.{replicate, count_by, slice_get}
-use Rattle.std.specs.List.{range_with_len}
-use Rattle.std.specs.Ordering.{nat_cmp}
-use Rattle.std.specs.Cmp.Lexicographic.{slice_cmp}
+use Rattle.bpf_model.proofs.Prelude.{◌≡◌, ◌∙◌, ℕ, zero, suc, ◌+◌, ◌<◌, ◌≤◌, List, [], length, Option, Some, None, refl, sym, ap, arith, cond, Bool, false}
+use Rattle.bpf_model.proofs.Prelude.{replicate, count_by, slice_get, range_with_len, nat_cmp, slice_cmp, get, get-empty, len-empty, sum_by-replicate, IsShape}
+use Rattle.bpf_model.proofs.Prelude.{none-some, length-replicate, MapView, SlotView, unused_slot, new_view_of, new_map_view, key_in, value_in, no_queues}
+use Rattle.element_store.proofs.Prelude.{times_in, is_at, indexed, key_at, worn_at, new_arena}
+use Rattle.model_laws.proofs.Prelude.{Hash, MapShape}
 use Rattle.std.specs.FinMap as map
-use Rattle.std.specs.FinMap.{get, get-empty, len-empty}
-use Rattle.std.proofs.lemmas.List.Folds.{sum_by-replicate}
 use Rattle.std.proofs.Math.Nat.{mul-zero}
 use Rattle.element_store.proofs.Fresh.{times-once, times-below}
-use Rattle.bpf_model.specs.declared.limits.MapKind.TheVariants.{Hash}
-use Rattle.bpf_model.specs.declared.limits.MapShape.{MapShape}
-use Rattle.bpf_model.specs.Shapes.{IsShape}
-use Rattle.std.proofs.lemmas.Option.{none-some}
-use Rattle.std.proofs.lemmas.List.{length-replicate}
-use Rattle.bpf_model.specs.View.{MapView, SlotView, unused_slot, new_view_of, new_map_view, key_in, value_in}
-use Rattle.bpf_model.specs.Schedule.{no_queues}
-use Rattle.element_store.specs.State.{times_in, is_at, indexed, key_at, worn_at, new_arena}
 use Rattle.map_kinds.specs.Parted.{PartsView, IsParted}
 use Rattle.map_kinds.specs.Shown.{map_view, IsMap}
 

@@ -1,10 +1,8 @@
 -- Slots in the order of their keys, found one after another.
-use Rattle.std.proofs.Common.{◌≡◌, ℕ, suc, ◌<◌, ◌≤◌, List, [], ◌∷◌, ◌++◌, Option, Some, None, sym, subst, arith, append_assoc, append-nil}
-use Rattle.std.specs.Prelude.{IfSome, IfNone}
-use Rattle.std.specs.FinMap.{get}
-use Rattle.bpf_model.specs.declared.limits.TheConstants.{MAX_ENTRIES}
-use Rattle.bpf_model.specs.MapState.{index_key}
-use Rattle.bpf_model.specs.View.{KeyMap, index_below}
+use Rattle.bpf_model.proofs.Prelude.{◌≡◌, ℕ, suc, ◌<◌, ◌≤◌, List, [], ◌∷◌, ◌++◌, Option, Some, None, sym, subst, arith, append_assoc, IfSome, IfNone, get}
+use Rattle.bpf_model.proofs.Prelude.{index_key, KeyMap, index_below}
+use Rattle.model_laws.proofs.Prelude.{MAX_ENTRIES}
+use Rattle.std.proofs.Common.{append-nil}
 use Rattle.hash_index.specs.Order.{AreInOrder, IsAbove, IsNextOf, NoneAbove, NoneBetween}
 use Rattle.model_laws.proofs.Indices.{index-gets}
 use Rattle.map_kinds.proofs.Above.{keys_above, fewer_above}

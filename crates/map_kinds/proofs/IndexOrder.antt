@@ -1,16 +1,10 @@
 -- The byte order of an array's keys.
-use Rattle.std.proofs.Common.{◌≡◌, ◌∙◌, ℕ, ◌+◌, ◌*◌, ◌/◌, ◌%◌, ◌<◌, ◌≤◌, List, [], ◌∷◌, Some, None, ◌⊎◌, inl, inr, refl, sym, ap, arith, subst}
-use Rattle.std.specs.Prelude.{slice_index}
+use Rattle.bpf_model.proofs.Prelude.{◌≡◌, ◌∙◌, ℕ, ◌+◌, ◌*◌, ◌/◌, ◌%◌, ◌<◌, ◌≤◌, List, [], ◌∷◌, Some, None, ◌⊎◌, inl, inr, refl, sym, ap, arith, subst}
+use Rattle.bpf_model.proofs.Prelude.{slice_index, nat_cmp, is_lt, Ordering, Less, Equal, Greater, slice_cmp, cases_eq, false≢true, index_key, index_below}
+use Rattle.model_laws.proofs.Prelude.{MAX_ENTRIES}
 use Rattle.std.specs.Int.{bytes_low_first as rest}
-use Rattle.std.specs.Ordering.{nat_cmp, is_lt, ordering_then}
-use Rattle.std.specs.declared.cmp.Ordering.{Ordering}
-use Rattle.std.specs.declared.cmp.Ordering.TheVariants.{Less, Equal, Greater}
+use Rattle.std.specs.Ordering.{ordering_then}
 use Rattle.std.specs.Cmp.{ranked, nat_cmp_is}
-use Rattle.std.specs.Cmp.Lexicographic.{slice_cmp}
-use Rattle.std.proofs.lemmas.Bool.{cases_eq, false≢true}
-use Rattle.bpf_model.specs.declared.limits.TheConstants.{MAX_ENTRIES}
-use Rattle.bpf_model.specs.MapState.{index_key}
-use Rattle.bpf_model.specs.View.{index_below}
 use Rattle.hash_index.specs.Order.{IsLess, NoneAbove, NoneBetween}
 use Rattle.model_laws.proofs.Indices.{index-got}
 

@@ -1,19 +1,11 @@
 -- What a delete and a reap leave of a map.
-use Rattle.std.proofs.Common.{◌≡◌, ◌∙◌, ℕ, ◌+◌, ◌-◌, ◌<◌, List, [], ◌∷◌, ◌++◌, length, Option, Some, inl, inr, sym, ap, arith, Bool, true, subst, cond}
-use Rattle.std.specs.Prelude.{slice_set, count_by, ◌==◌}
-use Rattle.std.specs.FinMap.{get}
-use Rattle.std.proofs.lemmas.Bool.{cond-true, cond-false, cases_Bool}
+use Rattle.bpf_model.proofs.Prelude.{◌≡◌, ◌∙◌, ℕ, ◌+◌, ◌-◌, ◌<◌, List, [], ◌∷◌, ◌++◌, length, Option, Some, inl, inr, sym, ap, arith, Bool, true, subst, cond}
+use Rattle.bpf_model.proofs.Prelude.{slice_set, count_by, ◌==◌, get, cond-true, cond-false, cases_Bool, get-below, MapView, uses_at}
+use Rattle.element_store.proofs.Prelude.{worn_at, flag_in, is_last_use, given_back, reaped_lists}
+use Rattle.model_laws.proofs.Prelude.{Given, Free, Worn, MapShape, given_at, reaped_view}
 use Rattle.model_laws.proofs.Tallies.{count-set, one_of}
-use Rattle.bpf_model.proofs.Lists.{get-below}
-use Rattle.bpf_model.specs.declared.event.Given.{Given}
-use Rattle.bpf_model.specs.declared.event.Given.TheVariants.{Free, Worn}
-use Rattle.bpf_model.specs.declared.limits.MapShape.{MapShape}
-use Rattle.bpf_model.specs.View.{MapView, uses_at}
-use Rattle.element_store.specs.State.{worn_at, flag_in, is_last_use, given_back}
-use Rattle.model_laws.specs.Views.{given_at, reaped_view}
 use Rattle.model_laws.specs.Views as views
 use Rattle.model_laws.proofs.Lists.{len-remove_found}
-use Rattle.element_store.specs.Queued.{reaped_lists}
 use Rattle.map_kinds.specs.Parted.{PartsView}
 use Rattle.map_kinds.specs.Updated.{unlinked_of}
 use Rattle.map_kinds.specs.Shown.{map_view, IsMap, IsOfShape}

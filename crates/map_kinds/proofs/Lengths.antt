@@ -1,9 +1,5 @@
 -- Keys that come and go leave those of an index as long as they are.
-use Rattle.std.proofs.Common.{◌≡◌, ◌∙◌, ℕ, List, length, sym, ap, inl, inr}
-use Rattle.std.specs.FinMap.{get, insert, remove}
-use Rattle.std.proofs.lemmas.Option.{none-some}
-use Rattle.bpf_model.specs.View.{KeyMap}
-use Rattle.bpf_model.proofs.Lists.{key_cases}
+use Rattle.bpf_model.proofs.Prelude.{◌≡◌, ◌∙◌, ℕ, List, length, sym, ap, inl, inr, get, insert, remove, none-some, KeyMap, key_cases}
 use Rattle.model_laws.proofs.Indices.{insert-other}
 use Rattle.model_laws.proofs.Lists.{remove-same, remove-other}
 use Rattle.map_kinds.specs.Shown.{AreKeysLong}

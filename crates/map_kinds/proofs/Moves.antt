@@ -1,24 +1,16 @@
 -- Each call of a part keeps the parts fitting the arena, and its slots in their standings.
-use Rattle.std.proofs.Common.{◌≡◌, ◌≢◌, ◌∙◌, ℕ, ◌+◌, ◌<◌, ◌≤◌, List, [], ◌∷◌, ◌++◌, length, Option, Some, None, refl, sym, ap, arith, cond, eqb, subst}
-use Rattle.std.specs.FinMap.{get, insert, remove}
-use Rattle.bpf_model.specs.Schedule.{Queues, turned}
-use Rattle.element_store.specs.State.{ArenaState, IsTaken, LinksOf, SameAt, is_at, indexed, times_in, key_at, taken, given_back, with_slot_value}
+use Rattle.bpf_model.proofs.Prelude.{◌≡◌, ◌≢◌, ◌∙◌, ℕ, ◌+◌, ◌<◌, ◌≤◌, List, [], ◌∷◌, ◌++◌, length, Option, Some, None, refl, sym, ap, arith, cond, eqb, subst}
+use Rattle.bpf_model.proofs.Prelude.{get, insert, remove, Queues, turned, KeyMap, none-some, same_Some, length-set, get-set_other, option_flatten}
+use Rattle.element_store.proofs.Prelude.{ArenaState, IsTaken, LinksOf, SameAt, is_at, indexed, times_in, key_at, taken, given_back, with_slot_value}
+use Rattle.element_store.proofs.Prelude.{DeferredFits, deferred_lists, queued, retired_lists, reaped_lists}
 use Rattle.element_store.proofs.Counts.{one_same, one_other, times-append}
 use Rattle.element_store.proofs.Views.{taken_same}
 use Rattle.element_store.specs.declared.deferred.DeferredSlots.{DeferredSlots}
-use Rattle.element_store.specs.Deferred.{DeferredFits, deferred_lists}
-use Rattle.element_store.specs.Queued.{queued, retired_lists, reaped_lists}
 use Rattle.element_store.proofs.DeferredFrame.{deferred-frame}
 use Rattle.map_kinds.specs.Parted.{PartsView, standings, IsParted, IsInHand}
-use Rattle.bpf_model.specs.View.{KeyMap}
-use Rattle.map_kinds.proofs.Parting.{standing-taken, parted-links, parted-put, parted-removed, removed-held}
-use Rattle.map_kinds.proofs.Parting.{parted-retired, parted-turned, parted-reaped, parted-taken, taken-held, taken-indexed}
-use Rattle.map_kinds.proofs.Parting.{other-key, taken-key, parted-given, written-key, parted-written}
-use Rattle.std.proofs.lemmas.Option.{none-some, same_Some}
+use Rattle.map_kinds.proofs.Parting.{standing-taken, parted-links, parted-put, parted-removed, removed-held, parted-retired, parted-turned, parted-reaped}
+use Rattle.map_kinds.proofs.Parting.{parted-taken, taken-held, taken-indexed, other-key, taken-key, parted-given, written-key, parted-written}
 use Rattle.hash_index.proofs.Runs.{remove_absent}
-use Rattle.std.proofs.lemmas.List.{length-set}
-use Rattle.bpf_model.proofs.Lists.{get-set_other}
-use Rattle.std.specs.Option.{option_flatten}
 
 -- an arena that is another but for its links has the same slots in hand
 pub held-links : (m : KeyMap) (q : Queues) (a b : ArenaState) (j : ℕ) → b ≡ record a { links = b.links } →

@@ -1,23 +1,15 @@
 -- Where the slots stand after each change of a part.
-use Rattle.std.proofs.Common.{◌≡◌, ◌≢◌, ◌∙◌, ℕ, ◌+◌, ◌<◌, ◌≤◌, List, [], ◌∷◌, ◌++◌, length, Option, Some, None, inl}
-use Rattle.std.proofs.Common.{inr, refl, sym, ap, arith, cond, eqb, Bool, true, false, subst, drop}
-use Rattle.std.specs.Prelude.{slice_get, slice_set}
-use Rattle.std.proofs.lemmas.Bool.{cond-true, cond-false, eqb-true, eqb-false, cases_Bool}
-use Rattle.std.proofs.lemmas.Option.{none-some, same_Some}
-use Rattle.std.specs.FinMap.{get, insert, remove}
-use Rattle.bpf_model.proofs.Cases.{option_cases}
-use Rattle.bpf_model.specs.Schedule.{Queues, turned}
-use Rattle.bpf_model.specs.View.{SlotView, uses_at, key_in}
-use Rattle.element_store.specs.State.{ArenaState, IsTaken, is_at, indexed, times_in, key_at, worn_at, flag_in, taken, given_back, with_slot_value, is_last_use}
+use Rattle.bpf_model.proofs.Prelude.{◌≡◌, ◌≢◌, ◌∙◌, ℕ, ◌+◌, ◌<◌, ◌≤◌, List, [], ◌∷◌, ◌++◌, length, Option, Some, None, inl, inr, refl, sym, ap, arith, cond}
+use Rattle.bpf_model.proofs.Prelude.{eqb, Bool, true, false, subst, drop, slice_get, slice_set, cond-true, cond-false, eqb-true, eqb-false, cases_Bool}
+use Rattle.bpf_model.proofs.Prelude.{none-some, same_Some, get, insert, remove, option_cases, Queues, turned, SlotView, uses_at, key_in, KeyMap, length-set}
+use Rattle.bpf_model.proofs.Prelude.{get-set_other, get-set_same, key_cases}
+use Rattle.element_store.proofs.Prelude.{ArenaState, IsTaken, is_at, indexed, times_in, key_at, worn_at, flag_in, taken, given_back, with_slot_value}
+use Rattle.element_store.proofs.Prelude.{is_last_use, queued, retired_lists, reaped_lists}
 use Rattle.element_store.proofs.Counts.{one_cases, one_same, one_other, times-append}
 use Rattle.hash_index.proofs.Links.{insert_over}
 use Rattle.model_laws.proofs.Indices.{insert-same, insert-other}
 use Rattle.model_laws.proofs.Lists.{remove-same, remove-other}
-use Rattle.element_store.specs.Queued.{queued, retired_lists, reaped_lists}
 use Rattle.map_kinds.specs.Parted.{PartsView, standings, IsParted, IsInHand, IsInUse}
-use Rattle.bpf_model.specs.View.{KeyMap}
-use Rattle.std.proofs.lemmas.List.{length-set}
-use Rattle.bpf_model.proofs.Lists.{get-set_other, get-set_same, key_cases}
 
 -- a slot that is linked or in a list is taken
 pub standing-taken : (p : PartsView) (i : ℕ) → IsParted p → IsInUse p.index p.arena.slots p.lists i → IsTaken p.arena i

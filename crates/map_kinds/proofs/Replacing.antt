@@ -1,9 +1,6 @@
 -- What an update and a removal leave of the parts.
-use Rattle.std.proofs.Common.{◌≡◌, ◌∙◌, ℕ, ◌∷◌, List, Some, None, sym, ap}
-use Rattle.std.specs.FinMap.{insert}
-use Rattle.bpf_model.specs.View.{KeyMap}
-use Rattle.element_store.specs.State.{ArenaState, key_at}
-use Rattle.element_store.specs.Queued.{retired_lists}
+use Rattle.bpf_model.proofs.Prelude.{◌≡◌, ◌∙◌, ℕ, ◌∷◌, List, Some, None, sym, ap, insert, KeyMap}
+use Rattle.element_store.proofs.Prelude.{ArenaState, key_at, retired_lists}
 use Rattle.hash_index.proofs.Links.{insert_over}
 use Rattle.map_kinds.specs.Parted.{PartsView}
 use Rattle.map_kinds.specs.Updated.{IsPut, replaced, with_taken}

@@ -1,27 +1,16 @@
 -- What an update and a delete leave of a map.
-use Rattle.std.proofs.Common.{◌≡◌, ◌∙◌, ℕ, zero, suc, ◌+◌, ◌-◌, ◌<◌, ◌≤◌, List, [], ◌∷◌, length, Option, Some, None}
-use Rattle.std.proofs.Common.{Result, Ok, ◌⊎◌, inl, inr, refl, sym, ap, arith, subst}
-use Rattle.std.specs.Prelude.{slice_get, slice_set, is_some}
-use Rattle.std.specs.FinMap.{get, insert, remove, len, get-empty, empty_of_len}
-use Rattle.std.specs.Ordering.{nat_cmp}
-use Rattle.std.specs.Cmp.Lexicographic.{slice_cmp}
-use Rattle.std.proofs.lemmas.Bool.{cases_eq}
-use Rattle.std.proofs.lemmas.Option.{none-some}
-use Rattle.bpf_model.specs.declared.call.Errno.{Errno}
-use Rattle.bpf_model.specs.declared.limits.MapKind.TheVariants.{Hash}
-use Rattle.bpf_model.specs.declared.limits.MapShape.{MapShape}
-use Rattle.bpf_model.specs.Helper.{hash_error, error_of_kind}
-use Rattle.bpf_model.specs.View.{SlotView, MapView, uses_at, map_state_of, key_in, value_in}
-use Rattle.element_store.specs.State.{taken}
-use Rattle.model_laws.specs.Views.{updated, updated_by, written_by, filled, filled_from, retired_key, retired_slot}
+use Rattle.bpf_model.proofs.Prelude.{◌≡◌, ◌∙◌, ℕ, zero, suc, ◌+◌, ◌-◌, ◌<◌, ◌≤◌, List, [], ◌∷◌, length, Option, Some, None, Result, Ok, ◌⊎◌, inl, inr, refl}
+use Rattle.bpf_model.proofs.Prelude.{sym, ap, arith, subst, slice_get, slice_set, is_some, get, insert, remove, len, get-empty, nat_cmp, slice_cmp, cases_eq}
+use Rattle.bpf_model.proofs.Prelude.{none-some, hash_error, error_of_kind, SlotView, MapView, uses_at, map_state_of, key_in, value_in, KeyMap, length-set}
+use Rattle.element_store.proofs.Prelude.{taken}
+use Rattle.model_laws.proofs.Prelude.{Errno, Hash, MapShape, updated, updated_by, written_by, filled, filled_from, retired_key, retired_slot}
+use Rattle.std.specs.FinMap.{empty_of_len}
 use Rattle.model_laws.proofs.Indices.{len-insert_new}
 use Rattle.model_laws.proofs.Lists.{remove-same, len-remove_found}
 use Rattle.map_kinds.specs.Parted.{PartsView, without_key}
 use Rattle.map_kinds.specs.Updated.{IsPut, replaced, with_taken}
-use Rattle.bpf_model.specs.View.{KeyMap}
 use Rattle.map_kinds.specs.Shown.{map_view, IsMap, IsOfShape, AreKeysLong, linked_with}
 use Rattle.map_kinds.proofs.Lengths.{long-inserted, long-removed}
-use Rattle.std.proofs.lemmas.List.{length-set}
 
 -- an update, by the first test that fails and what the code knows of the map
 pub updated-by : (v : MapView) (key value : List ℕ) (flags linked : ℕ) (o : Option Errno) → v.shape.kind ≡ Hash →

@@ -1,17 +1,10 @@
 -- What a call that adds to a word rests on.
-use Rattle.std.proofs.Common.{◌≡◌, ℕ, ◌+◌, ◌%◌, ◌<◌, ◌≤◌, ◌^◌, [], ◌∷◌, ◌++◌, refl, sym, ap, ◌∙◌, subst}
-use mathlib.Core.Option.{none}
+use Rattle.map_table_laws.proofs.Prelude.{◌≡◌, ℕ, ◌+◌, ◌%◌, ◌<◌, ◌≤◌, ◌^◌, [], ◌∷◌, ◌++◌, refl, sym, ap, ◌∙◌, subst, none, word_at, Holds, IsReader}
+use Rattle.map_table.proofs.Prelude.{Move, Load, Store, layout_of, TableShape, View, Kept, adds, did, Holder, first_of}
 use Rattle.atomic_table.specs.Table.{Me, step, Allows}
 use Rattle.atomic_table.specs.Seated.{TableId}
-use Rattle.map_table_laws.specs.declared.moves.Move.{Move}
-use Rattle.map_table_laws.specs.declared.moves.Move.TheVariants.{Load, Store}
-use Rattle.map_table_laws.specs.History.{word_at, Holds, IsReader}
-use Rattle.map_table.specs.Hashes.{layout_of}
-use Rattle.table_words.specs.declared.view.TableShape.{TableShape}
-use Rattle.table_words.specs.declared.view.View.{View}
-use Rattle.map_table.specs.Law.{Kept, GainsBoth, adds, did}
-use Rattle.map_table.specs.Held.{Holder, DoesBoth}
-use Rattle.map_table.specs.Values.{first_of}
+use Rattle.map_table.specs.Law.{GainsBoth}
+use Rattle.map_table.specs.Held.{DoesBoth}
 use Rattle.map_table.proofs.Calls.{holder, IsSeat}
 use Rattle.map_table.proofs.Lists.{stored_here}
 use Rattle.map_table.proofs.Keeps.{adds_ok}

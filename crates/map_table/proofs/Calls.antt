@@ -1,27 +1,17 @@
 -- What the calls of a seat rest on.
-use Rattle.std.proofs.Common.{◌≡◌, ◌≢◌, ◌⊎◌, ℕ, suc, min, ◌+◌, ◌-◌, ◌*◌, ◌/◌, ◌<◌, ◌≤◌, ◌^◌, inl, inr, List, [], ◌∷◌, ◌++◌}
-use Rattle.std.proofs.Common.{refl, sym, ap, ◌∙◌, subst, ⊎_elim, arith}
-use mathlib.Core.Option.{none}
+use Rattle.map_table_laws.proofs.Prelude.{◌≡◌, ◌≢◌, ◌⊎◌, ℕ, suc, ◌+◌, ◌-◌, ◌*◌, ◌/◌, ◌<◌, ◌≤◌, ◌^◌, inl, inr, List, [], ◌∷◌, ◌++◌, refl, sym, ap, ◌∙◌, subst}
+use Rattle.map_table_laws.proofs.Prelude.{⊎_elim, arith, none, Names, moves_of, inside, opened, section_word, word_in, word_at, Settles, Holds, IsSpare}
+use Rattle.map_table_laws.proofs.Prelude.{IsLawful, IsReader, MayDouble, MayLink, min-eq_left, min-eq_right, dite, dec_lt}
+use Rattle.map_table.proofs.Prelude.{Move, Open, Close, Learn, Load, Store, section_stride, layout_of, TableShape, View, ways_from, ways_of, count_of}
+use Rattle.map_table.proofs.Prelude.{width_of, did, Kept, Gains, opens, closes, learns, stores, puts, doubles, scans, Holder, Does, IsKnown, first_of}
+use Rattle.std.proofs.Common.{min}
 use Rattle.atomic_table.specs.Table.{Me, step, Allows}
 use Rattle.atomic_table.specs.Seated.{TableId}
-use Rattle.map_table_laws.specs.declared.moves.Move.{Move}
-use Rattle.map_table_laws.specs.declared.moves.Move.TheVariants.{Open, Close, Learn, Load, Store}
-use Rattle.map_table_laws.specs.Layout.{Names}
-use Rattle.map_table_laws.specs.History.{moves_of, inside, opened, most_sections, section_word, word_in, word_at}
-use Rattle.map_table_laws.specs.History.{Settles, Holds, IsSpare, IsLawful, IsReader, MayDouble, MayLink}
+use Rattle.map_table_laws.specs.History.{most_sections}
 use Rattle.map_table_laws.proofs.Standing.{named, fits}
-use Rattle.std.proofs.Math.Nat.{min-le_right, min-eq_left, min-eq_right}
-use mathlib.Core.Logic.{dite}
-use native.Mathlib.Decide.{dec_lt}
-use Rattle.map_table.specs.Limits.{section_stride}
-use Rattle.map_table.specs.Hashes.{layout_of}
-use Rattle.table_words.specs.declared.view.TableShape.{TableShape}
-use Rattle.table_words.specs.declared.view.View.{View}
-use Rattle.map_table.specs.Law.{ways_from, ways_of, count_of, width_of, did, Kept, Gains, opens, closes, learns, stores, puts, doubles, scans}
-use Rattle.map_table.specs.Held.{Holder, Does, IsKnown}
+use Rattle.std.proofs.Math.Nat.{min-le_right}
 use Rattle.map_table.proofs.Places.{IsAt}
 use Rattle.map_table.proofs.Lists.{stored_here}
-use Rattle.map_table.specs.Values.{first_of}
 use Rattle.map_table.proofs.Valued.{behind_key, in_element, is_open}
 use Rattle.map_table.proofs.Keeps.{opens_ok, closes_ok, learns_ok, stores_ok, puts_ok, doubles_ok, scans_ok}
 use Rattle.map_table.proofs.Going.{went_one}

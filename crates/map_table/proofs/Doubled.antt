@@ -1,37 +1,22 @@
 -- What the writer keeps while it moves an element.
-use Rattle.std.proofs.Common.{◌≡◌, ◌≢◌, ◌⊎◌, ℕ, suc, ◌+◌, ◌*◌, ◌%◌, ◌^◌, ◌<◌, ◌≤◌, List, [], ◌∷◌, ◌++◌, length}
-use Rattle.std.proofs.Common.{refl, sym, ap, ◌∙◌, subst, ⊎_elim, inl, inr, arith}
-use Rattle.std.proofs.Common.{set, length-set, get_or, get_or-set_other, get_or-set_same, append_assoc}
-use Rattle.std.specs.Prelude.{slice_index}
-use mathlib.Core.Logic.{dite}
-use native.Mathlib.Decide.{ℕ_discrete, dec_lt}
+use Rattle.map_table_laws.proofs.Prelude.{◌≡◌, ◌≢◌, ◌⊎◌, ℕ, suc, ◌+◌, ◌*◌, ◌%◌, ◌^◌, ◌<◌, ◌≤◌, List, [], ◌∷◌, ◌++◌, length, refl, sym, ap, ◌∙◌, subst, ⊎_elim}
+use Rattle.map_table_laws.proofs.Prelude.{inl, inr, arith, set, length-set, get_or, get_or-set_other, get_or-set_same, append_assoc, slice_index, dite}
+use Rattle.map_table_laws.proofs.Prelude.{ℕ_discrete, dec_lt, Layout, Names, IsCandidate, bucket_of, bucket_ways, moves_of, word_in, key_of, IsMoving}
+use Rattle.map_table_laws.proofs.Prelude.{IsSettled, since_double, Settles, Cleared, IsSpare, IsLinked, MayDouble, IsLawful, OnlySearches, IsLinkedAs}
+use Rattle.map_table_laws.proofs.Prelude.{OnlyMoves, AreLinkedOnce, OnlyScans}
+use Rattle.map_table.proofs.Prelude.{Move, Open, Close, Learn, Load, Store, Put, Double, Scan, TableShape, View, Sighting, layout_of, first_bucket}
+use Rattle.map_table.proofs.Prelude.{second_bucket, Gains, ways_of, Went, IsKnown, IsSized, HasGone, HaveGone, IsSomeInside, NoneCanMove, StandStill}
+use Rattle.map_table.proofs.Prelude.{StayLinked, AreSightings, WriterView, IsFree, IsUnlinked, IsNoneLost, IsWriter}
 use Rattle.std.proofs.Math.ListN.{get_or-eq_default}
-use Rattle.map_table_laws.specs.declared.moves.Move.{Move}
-use Rattle.map_table_laws.specs.declared.moves.Move.TheVariants.{Open, Close, Learn, Load, Store, Put, Double, Scan}
-use Rattle.map_table_laws.specs.Layout.{Layout, Names, IsCandidate, bucket_of, bucket_ways}
-use Rattle.map_table_laws.specs.History.{moves_of, word_in, key_of, IsMoving, IsSettled, since_double, Settles, Cleared, IsSpare, IsLinked, MayDouble, IsLawful}
-use Rattle.map_table_laws.specs.Lookups.{OnlySearches}
-use Rattle.map_table_laws.specs.Found.{IsLinkedAs}
-use Rattle.map_table_laws.specs.Moved.{OnlyMoves}
-use Rattle.map_table_laws.specs.Once.{AreLinkedOnce}
-use Rattle.map_table_laws.specs.Scanned.{OnlyScans}
 use Rattle.map_table_laws.proofs.Moved.{stays_linked, linked_early, moves_once}
 use Rattle.map_table_laws.proofs.Steps.{doubled_here, doubled_there, nothing_named, put_here, put_there}
 use Rattle.map_table_laws.proofs.Standing.{named, one_way}
-use Rattle.table_words.specs.declared.view.TableShape.{TableShape}
-use Rattle.table_words.specs.declared.view.View.{View}
-use Rattle.table_words.specs.declared.notes.Sighting.{Sighting}
 use Rattle.table_words.specs.Ways.{IsOfBoth}
-use Rattle.map_table.specs.Hashes.{layout_of, first_bucket, second_bucket}
-use Rattle.map_table.specs.Law.{Gains, ways_of}
-use Rattle.map_table.specs.Held.{Went, IsKnown, IsSized}
-use Rattle.map_table.specs.Moving.{HasGone, HaveGone, IsSomeInside, HasFullBuckets, IsNth, NoneCanMove, StandStill, StayLinked}
-use Rattle.map_table.specs.Sightings.{AreSightings}
-use Rattle.map_table.specs.Writing.{WriterView, IsFree, IsUnlinked, IsNoneLost, IsWriter}
+use Rattle.map_table.specs.Moving.{HasFullBuckets, IsNth}
 use Rattle.map_table.proofs.Filling.{own_list, tail_of, went_shape, went_me}
 use Rattle.map_table.proofs.Going.{went_as, went_known, went_mine, went_then}
-use Rattle.map_table.proofs.Keeping.{IsQuiet, quiet_writer, quiet_settled, same_word, searches_quiet, only_scans_quiet}
-use Rattle.map_table.proofs.Keeping.{put_writer, put_settled, here, there, empty_names_none}
+use Rattle.map_table.proofs.Keeping.{IsQuiet, quiet_writer, quiet_settled, same_word, searches_quiet, only_scans_quiet, put_writer, put_settled, here, there}
+use Rattle.map_table.proofs.Keeping.{empty_names_none}
 use Rattle.map_table.proofs.Linking.{of_both, way_low}
 use Rattle.map_table.proofs.Members.{all_to}
 use Rattle.map_table.proofs.Peeking.{way_kept, key_kept}

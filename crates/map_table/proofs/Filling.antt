@@ -1,18 +1,10 @@
 -- What the writer stores in a spare element stays there.
-use Rattle.std.proofs.Common.{◌≡◌, ◌≢◌, ℕ, ◌+◌, ◌<◌, ◌≤◌, List, [], ◌∷◌, ◌++◌, length, refl, sym, ap, ◌∙◌, subst, ⊎_elim, arith, eq-eqb, ne_eqb}
-use Rattle.std.specs.Prelude.{slice_index}
-use mathlib.Core.Logic.{dite}
-use native.Mathlib.Decide.{ℕ_discrete}
-use Rattle.map_table_laws.specs.declared.moves.Move.{Move}
-use Rattle.map_table_laws.specs.declared.moves.Move.TheVariants.{Open, Close, Learn, Load, Store, Put, Double, Scan}
-use Rattle.map_table_laws.specs.Layout.{Layout}
-use Rattle.map_table_laws.specs.History.{moves_of, word_at, word_after, key_of, Holds, IsSpare, IsOpenTo, MayDo, IsLawful}
+use Rattle.map_table_laws.proofs.Prelude.{◌≡◌, ◌≢◌, ℕ, ◌+◌, ◌<◌, ◌≤◌, List, [], ◌∷◌, ◌++◌, length, refl, sym, ap, ◌∙◌, subst, ⊎_elim, arith, eq-eqb, ne_eqb}
+use Rattle.map_table_laws.proofs.Prelude.{slice_index, dite, ℕ_discrete, Layout, moves_of, word_at, word_after, key_of, Holds, IsSpare, IsOpenTo, MayDo}
+use Rattle.map_table_laws.proofs.Prelude.{IsLawful}
+use Rattle.map_table.proofs.Prelude.{Move, Open, Close, Learn, Load, Store, Put, Double, Scan, TableShape, View, layout_of, Went, IsKnown}
 use Rattle.map_table_laws.proofs.Steps.{own, others, key_is}
 use Rattle.map_table_laws.proofs.Holding.{spare_unheld}
-use Rattle.table_words.specs.declared.view.TableShape.{TableShape}
-use Rattle.table_words.specs.declared.view.View.{View}
-use Rattle.map_table.specs.Hashes.{layout_of}
-use Rattle.map_table.specs.Held.{Went, IsKnown}
 use Rattle.map_table.proofs.Going.{went_known}
 use Rattle.map_table.proofs.Own.{longer}
 

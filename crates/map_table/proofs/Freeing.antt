@@ -1,13 +1,8 @@
 -- What reclaiming leaves.
-use Rattle.std.proofs.Common.{◌≡◌, ℕ, zero, suc, ◌+◌, ◌<◌, ◌≤◌, List, ◌++◌, length, get_or, sym, ap, ◌∙◌, subst, ⊎_elim, arith, take, drop}
-use Rattle.std.specs.Prelude.{slice_index, All}
-use Rattle.std.proofs.lemmas.List.{length-drop, length-take-le, get_or-drop, get_or-take, get_or_default, take-append-drop}
-use Rattle.map_table_laws.specs.declared.moves.Move.{Move}
-use Rattle.map_table_laws.specs.History.{Cleared}
-use Rattle.table_words.specs.declared.view.View.{View}
-use Rattle.table_words.specs.declared.notes.Sighting.{Sighting}
-use Rattle.map_table.specs.Sightings.{sighting_at, AreSightings, Least, AreCleared, IsHeldUp}
-use Rattle.map_table.specs.Writing.{times_in, IsFree, IsUnlinked, IsWriter}
+use Rattle.map_table_laws.proofs.Prelude.{◌≡◌, ℕ, zero, suc, ◌+◌, ◌<◌, ◌≤◌, List, ◌++◌, length, get_or, sym, ap, ◌∙◌, subst, ⊎_elim, arith, take, drop}
+use Rattle.map_table_laws.proofs.Prelude.{slice_index, All, length-drop, length-take-le, get_or-drop, get_or_default, take-append-drop, Cleared}
+use Rattle.map_table.proofs.Prelude.{Move, View, Sighting, sighting_at, AreSightings, Least, AreCleared, IsHeldUp, times_in, IsFree, IsUnlinked, IsWriter}
+use Rattle.std.proofs.lemmas.List.{get_or-take}
 use Rattle.map_table.proofs.Members.{times_append, all_append}
 use Rattle.map_table.proofs.Seen.{Looked}
 

@@ -1,14 +1,7 @@
 -- Stretches of a holder's list.
-use Rattle.std.proofs.Common.{◌≡◌, ℕ, List, [], ◌∷◌, ◌++◌, refl, sym, ap, ◌∙◌, subst, append_assoc, inl, inr}
-use Rattle.map_table_laws.specs.declared.moves.Move.{Move}
-use Rattle.map_table_laws.specs.declared.moves.Move.TheVariants.{Open, Close, Learn, Load, Store}
-use Rattle.table_words.specs.declared.view.View.{View}
-use Rattle.map_table_laws.specs.History.{moves_of, inside, Holds, IsLawful}
-use Rattle.map_table_laws.specs.Layout.{Names}
-use Rattle.map_table.specs.Hashes.{layout_of}
-use Rattle.map_table.specs.Law.{Gains}
-use Rattle.map_table.specs.Held.{Holder, Does, Goes, Went, IsKnown}
-use Rattle.map_table.specs.Writing.{HasSeated}
+use Rattle.map_table_laws.proofs.Prelude.{◌≡◌, ℕ, List, [], ◌∷◌, ◌++◌, refl, sym, ap, ◌∙◌, subst, append_assoc, inl, inr, moves_of, inside, Holds, IsLawful}
+use Rattle.map_table_laws.proofs.Prelude.{Names}
+use Rattle.map_table.proofs.Prelude.{Move, Open, Close, Learn, Load, Store, View, layout_of, Gains, Holder, Does, Goes, Went, IsKnown, HasSeated}
 
 pub went_none : (v : View) → IsKnown v → Went v v.mine v
 went_none v k = ([], refl, k.0, k.1)

@@ -1,23 +1,10 @@
 -- What the writer keeps through its steps.
-use Rattle.std.proofs.Common.{◌≡◌, ◌≢◌, ℕ, zero, suc, ◌+◌, ◌-◌, ◌<◌, ◌*◌, List, [], ◌∷◌, ◌++◌, get_or, refl, sym, ap, ◌∙◌, subst, inr, arith, append_assoc}
-use Rattle.std.proofs.Common.{set, length-set, get_or-set_other, get_or-set_same}
-use Rattle.std.specs.Prelude.{All, slice_index}
-use mathlib.Core.Logic.{dite}
-use native.Mathlib.Decide.{ℕ_discrete}
-use Rattle.map_table_laws.specs.declared.moves.Move.{Move}
-use Rattle.map_table_laws.specs.declared.moves.Move.TheVariants.{Open, Close, Learn, Load, Store, Put, Double, Scan}
-use Rattle.map_table_laws.specs.Layout.{Layout, Names}
-use Rattle.map_table_laws.specs.History.{word_in, IsLinked, IsMoving, IsSettled, Settles, Cleared, IsSpare}
-use Rattle.map_table_laws.specs.Lookups.{OnlySearches}
-use Rattle.map_table_laws.specs.Scanned.{OnlyScans, ScansInTurn}
+use Rattle.map_table_laws.proofs.Prelude.{◌≡◌, ◌≢◌, ℕ, zero, suc, ◌+◌, ◌-◌, ◌<◌, ◌*◌, List, [], ◌∷◌, ◌++◌, get_or, refl, sym, ap, ◌∙◌, subst, inr, arith}
+use Rattle.map_table_laws.proofs.Prelude.{append_assoc, set, length-set, get_or-set_other, get_or-set_same, All, slice_index, dite, ℕ_discrete, Layout, Names}
+use Rattle.map_table_laws.proofs.Prelude.{word_in, IsLinked, IsMoving, IsSettled, Settles, Cleared, IsSpare, OnlySearches, OnlyScans, ScansInTurn}
+use Rattle.map_table.proofs.Prelude.{Move, Open, Close, Learn, Load, Store, Put, Double, Scan, TableShape, View, ways_of, AddsUp, Went, IsSized, OnlyLoads}
+use Rattle.map_table.proofs.Prelude.{Fills, times_in, IsFree, IsUnlinked, IsWriter}
 use Rattle.map_table_laws.proofs.Steps.{put_here, put_there, one_name, nothing_named}
-use Rattle.table_words.specs.declared.view.TableShape.{TableShape}
-use Rattle.table_words.specs.declared.view.View.{View}
-use Rattle.map_table.specs.Law.{ways_of}
-use Rattle.map_table.specs.Counting.{AddsUp}
-use Rattle.map_table.specs.Held.{Went, IsSized}
-use Rattle.map_table.specs.Reading.{OnlyLoads}
-use Rattle.map_table.specs.Writing.{Fills, times_in, IsFree, IsUnlinked, IsWriter}
 use Rattle.map_table.proofs.Going.{went_known, went_mine}
 use Rattle.map_table.proofs.Filling.{went_shape, went_me}
 use Rattle.map_table.proofs.Members.{all_to, all_both, all_else}

@@ -1,27 +1,20 @@
 -- Each step keeps the rule.
-use Rattle.std.proofs.Common.{◌≡◌, ◌≢◌, ◌⊎◌, ℕ, zero, suc, ◌+◌, ◌-◌, ◌*◌, ◌/◌, ◌%◌, ◌<◌, ◌≤◌, List, [], ◌∷◌, ◌++◌}
-use Rattle.std.proofs.Common.{length, get_or, set, refl, sym, ap, ◌∙◌, subst, ⊎_elim, inl, inr, arith, eq-eqb, ne_eqb}
-use Rattle.std.proofs.Common.{◌==◌, if◌then◌else◌, length-set, get_or-set_other, get_or-set_same, set-set, ◌^◌}
+use Rattle.map_table_laws.proofs.Prelude.{◌≡◌, ◌≢◌, ◌⊎◌, ℕ, zero, suc, ◌+◌, ◌-◌, ◌*◌, ◌/◌, ◌%◌, ◌<◌, ◌≤◌, List, [], ◌∷◌, ◌++◌, length, get_or, set, refl, sym}
+use Rattle.map_table_laws.proofs.Prelude.{ap, ◌∙◌, subst, ⊎_elim, inl, inr, arith, eq-eqb, ne_eqb, ◌==◌, if◌then◌else◌, length-set, get_or-set_other}
+use Rattle.map_table_laws.proofs.Prelude.{get_or-set_same, ◌^◌, dite, none, ℕ_discrete, moves_of, inside, section_word, word_in, IsLawful, Holds, IsSpare}
+use Rattle.map_table_laws.proofs.Prelude.{IsOpenTo, Settles, MayDo, MayDouble, MayLink, IsReader, word_at}
+use Rattle.map_table.proofs.Prelude.{Move, Open, Close, Learn, Load, Store, Put, Double, Scan, TableShape, View, layout_of, section_stride, ways_from}
+use Rattle.map_table.proofs.Prelude.{ways_of, width_of, count_of, Kept, dealt, did, Gains, base_of, index_in, opens, closes, learns, stores, adds, puts}
+use Rattle.map_table.proofs.Prelude.{doubles, scans, IsKnown}
+use Rattle.std.proofs.Common.{set-set}
 use Rattle.std.proofs.lemmas.List.{length-append}
-use mathlib.Core.Logic.{dite}
-use mathlib.Core.Option.{some, none, some-injective, some-ne-none}
-use native.Mathlib.Decide.{ℕ_discrete}
+use mathlib.Core.Option.{some, some-injective, some-ne-none}
 use lib.ListN.{get_elem?}
 use lib.Seq.{set-get_or}
 use Rattle.atomic_table.specs.Table.{State, Me, step, keeps, stepped, Allows, Splits}
 use Rattle.atomic_table.proofs.Lists.{at_set}
-use Rattle.map_table_laws.specs.declared.moves.Move.{Move}
-use Rattle.map_table_laws.specs.declared.moves.Move.TheVariants.{Open, Close, Learn, Load, Store, Put, Double, Scan}
-use Rattle.table_words.specs.declared.view.TableShape.{TableShape}
-use Rattle.table_words.specs.declared.view.View.{View}
-use Rattle.map_table_laws.specs.History.{moves_of, inside, section_word, word_in, IsLawful, Holds, IsSpare, IsOpenTo}
-use Rattle.map_table_laws.specs.History.{Settles, MayDo, MayDouble, MayLink, IsReader, word_at}
-use Rattle.map_table.specs.Hashes.{layout_of}
-use Rattle.map_table.specs.Limits.{section_stride}
-use Rattle.map_table.specs.Law.{ways_from, ways_of, width_of, count_of, Fits, Kept, writer_of, dealt, reader_of, did}
-use Rattle.map_table.specs.Law.{Gains, base_of, index_in, opens, closes, learns, loads, stores, adds, puts, doubles, scans}
+use Rattle.map_table.specs.Law.{Fits, writer_of, reader_of, loads}
 use Rattle.map_table.proofs.Lists.{moves_self, moves_else, IsQuiet, IsStill, IsIdle, quiet, still, idle, stored_here, stored_in_another, stored_beside}
-use Rattle.map_table.specs.Held.{IsKnown}
 use Rattle.map_table_laws.proofs.Steps.{put_here, put_there, doubled_here, doubled_there}
 use Rattle.map_table.proofs.Own.{may_later, double_later}
 use Rattle.map_table.proofs.Places.{IsAt, load_move, store_move, same_place, place_within}

@@ -1,3 +1,4 @@
+pub mod Prelude
 pub mod Adding
 pub mod Calls
 pub mod Doubled

@@ -1,21 +1,10 @@
 -- What linking an element leaves.
-use Rattle.std.proofs.Common.{◌≡◌, ℕ, ◌+◌, ◌*◌, ◌<◌, ◌≤◌, List, [], ◌∷◌, ◌++◌, length, set, refl, sym, ap, ◌∙◌, subst, ⊎_elim, inl, inr, arith}
-use Rattle.std.proofs.Common.{length-append}
-use Rattle.std.specs.Prelude.{All}
-use mathlib.Core.Logic.{dite}
-use native.Mathlib.Decide.{ℕ_discrete}
-use Rattle.map_table_laws.specs.declared.moves.Move.{Move}
-use Rattle.map_table_laws.specs.declared.moves.Move.TheVariants.{Put}
-use Rattle.map_table_laws.specs.Layout.{Layout, IsCandidate, Names, tag_in, bucket_of, bucket_ways}
-use Rattle.map_table_laws.specs.History.{moves_of, word_in, key_of, IsSpare, MayLink, IsLawful}
-use Rattle.map_table_laws.specs.Found.{IsLinkedUnder}
+use Rattle.map_table_laws.proofs.Prelude.{◌≡◌, ℕ, ◌+◌, ◌*◌, ◌<◌, ◌≤◌, List, [], ◌∷◌, ◌++◌, length, set, refl, sym, ap, ◌∙◌, subst, ⊎_elim, inl, inr, arith}
+use Rattle.map_table_laws.proofs.Prelude.{length-append, All, dite, ℕ_discrete, Layout, IsCandidate, Names, tag_in, bucket_of, bucket_ways, moves_of, word_in}
+use Rattle.map_table_laws.proofs.Prelude.{key_of, IsSpare, MayLink, IsLawful, IsLinkedUnder}
+use Rattle.map_table.proofs.Prelude.{Move, Put, TableShape, View, layout_of, tag_of, first_bucket, second_bucket, ways_of, Holder, Goes, Went, IsKnown, Fills}
+use Rattle.map_table.proofs.Prelude.{times_in, IsFree, IsWriter}
 use Rattle.map_table_laws.proofs.Steps.{own, others, key_put}
-use Rattle.table_words.specs.declared.view.TableShape.{TableShape}
-use Rattle.table_words.specs.declared.view.View.{View}
-use Rattle.map_table.specs.Hashes.{layout_of, tag_of, first_bucket, second_bucket}
-use Rattle.map_table.specs.Law.{ways_of}
-use Rattle.map_table.specs.Held.{Holder, Goes, Went, IsKnown}
-use Rattle.map_table.specs.Writing.{Fills, times_in, IsFree, IsWriter}
 use Rattle.table_words.specs.Ways.{IsOfBoth}
 use Rattle.map_table.proofs.Going.{went_known}
 use Rattle.atomic_table.specs.Seated.{TableId}

@@ -1,10 +1,6 @@
 -- The moves of one holder, after one more event.
-use Rattle.std.proofs.Common.{◌≡◌, ◌≢◌, ℕ, List, ◌∷◌, refl, ap, eq-eqb, ne_eqb}
-use mathlib.Core.Logic.{dite}
-use native.Mathlib.Decide.{ℕ_discrete}
-use Rattle.map_table_laws.specs.declared.moves.Move.{Move}
-use Rattle.map_table_laws.specs.declared.moves.Move.TheVariants.{Open, Close, Learn, Load, Store, Put, Double, Scan}
-use Rattle.map_table_laws.specs.History.{moves_of, section_word, word_in, word_at}
+use Rattle.map_table_laws.proofs.Prelude.{◌≡◌, ◌≢◌, ℕ, List, ◌∷◌, refl, ap, eq-eqb, ne_eqb, dite, ℕ_discrete, moves_of, section_word, word_in, word_at}
+use Rattle.map_table.proofs.Prelude.{Move, Open, Close, Learn, Load, Store, Put, Double, Scan}
 
 pub moves_self : (who : ℕ) (m : Move) (es : List (ℕ × Move)) → moves_of who ((who, m) ∷ es) ≡ m ∷ moves_of who es
 moves_self who m es = rw (eq-eqb who who refl) refl

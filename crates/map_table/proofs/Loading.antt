@@ -1,13 +1,7 @@
 -- Words of an element that were loaded one after another.
-use Rattle.std.proofs.Common.{◌≡◌, ℕ, zero, suc, ◌+◌, ◌<◌, ◌≤◌, List, ◌∷◌, length, refl, sym, ap, ◌∙◌, subst, inl, inr, arith, add-one}
-use Rattle.std.proofs.Common.{set, get_or-set_same, get_or-set_other}
-use Rattle.std.specs.Prelude.{slice_index}
-use mathlib.Core.Logic.{dite}
-use native.Mathlib.Decide.{ℕ_discrete}
-use Rattle.map_table_laws.specs.declared.moves.Move.{Move}
-use Rattle.map_table_laws.specs.declared.moves.Move.TheVariants.{Load}
-use Rattle.map_table_laws.specs.Lookups.{HadWord}
-use Rattle.map_table.specs.Reading.{Reads}
+use Rattle.map_table_laws.proofs.Prelude.{◌≡◌, ℕ, zero, suc, ◌+◌, ◌<◌, ◌≤◌, List, ◌∷◌, length, refl, sym, ap, ◌∙◌, subst, inl, inr, arith, add-one, set}
+use Rattle.map_table_laws.proofs.Prelude.{get_or-set_same, get_or-set_other, slice_index, dite, ℕ_discrete, HadWord}
+use Rattle.map_table.proofs.Prelude.{Move, Load, Reads}
 
 -- a word behind them changes none of them
 reads_set : (element from : ℕ) (words : List ℕ) (at x n : ℕ) (ms : List Move) → n ≤ at → Reads element from words n ms →

@@ -1,21 +1,15 @@
 -- Stretches that only search.
-use Rattle.std.proofs.Common.{◌≡◌, ◌≢◌, ◌⊎◌, ℕ, ◌+◌, ◌*◌, ◌%◌, ◌^◌, ◌<◌, ◌≤◌, List, [], ◌∷◌, ◌++◌, refl, sym, ap}
-use Rattle.std.proofs.Common.{◌∙◌, subst, ⊎_elim, inl, inr, arith, length, Option, Some, None}
-use Rattle.std.proofs.lemmas.List.{length-append, append_cancel_right}
-use Rattle.std.proofs.lemmas.Nat.{mul-le}
-use Rattle.std.specs.Prelude.{IfSome, IsSome, slice_index}
-use mathlib.Core.Logic.{dite}
-use native.Mathlib.Decide.{ℕ_discrete}
-use Rattle.map_table_laws.specs.declared.moves.Move.{Move}
-use Rattle.map_table_laws.specs.declared.moves.Move.TheVariants.{Open, Close, Learn, Load, Store, Put, Double, Scan}
-use Rattle.map_table_laws.specs.Layout.{Names, tag_in, bucket_of, bucket_ways}
-use Rattle.map_table_laws.specs.History.{inside, Holds, IsLawful}
-use Rattle.map_table_laws.specs.Lookups.{OnlySearches, FoundIn, HadWord, IsElse, Refuted, AnswersLookup, LooksUp}
+use Rattle.map_table_laws.proofs.Prelude.{◌≡◌, ◌≢◌, ◌⊎◌, ℕ, ◌+◌, ◌*◌, ◌%◌, ◌^◌, ◌<◌, ◌≤◌, List, [], ◌∷◌, ◌++◌, refl, sym, ap, ◌∙◌, subst, ⊎_elim, inl, inr}
+use Rattle.map_table_laws.proofs.Prelude.{arith, length, Some, None, append_cancel_right, mul-le, slice_index, dite, ℕ_discrete, Names, tag_in, bucket_of}
+use Rattle.map_table_laws.proofs.Prelude.{bucket_ways, inside, Holds, IsLawful, OnlySearches, FoundIn, HadWord, IsElse, Refuted, AnswersLookup}
+use Rattle.map_table.proofs.Prelude.{Move, Open, Close, Learn, Load, Store, Put, Double, Scan, TableShape, layout_of, first_bucket, second_bucket, tag_of}
+use Rattle.map_table.proofs.Prelude.{Holder, Goes}
+use Rattle.std.proofs.Common.{Option}
+use Rattle.std.proofs.lemmas.List.{length-append}
+use Rattle.std.specs.Prelude.{IfSome, IsSome}
+use Rattle.map_table_laws.specs.Lookups.{LooksUp}
 use Rattle.map_table_laws.proofs.Moments.{lawful_early, stays_found}
 use Rattle.map_table_laws.proofs.Hits.{hit_linked}
-use Rattle.table_words.specs.declared.view.TableShape.{TableShape}
-use Rattle.map_table.specs.Hashes.{layout_of, first_bucket, second_bucket, tag_of}
-use Rattle.map_table.specs.Held.{Holder, Goes}
 use Rattle.map_table.specs.Search.{HadKey, HadOther, Searched, StaysThere, WasThere}
 use Rattle.map_table.proofs.Going.{goes_fact, goes_known, went_mine}
 

@@ -1,19 +1,8 @@
 -- No element is lost: one that is neither free nor unlinked is linked.
-use Rattle.std.proofs.Common.{◌≡◌, ℕ, zero, suc, ◌+◌, ◌<◌, ◌≤◌, List, [], ◌∷◌, ◌++◌, sym, ap, ◌∙◌, subst, arith, take, drop}
-use Rattle.std.specs.List.{range_with_len}
-use Rattle.std.proofs.lemmas.List.{take-append-drop}
-use mathlib.Core.Logic.{dite}
-use native.Mathlib.Decide.{ℕ_discrete}
-use Rattle.map_table_laws.specs.declared.moves.Move.{Move}
-use Rattle.map_table_laws.specs.declared.moves.Move.TheVariants.{Put}
-use Rattle.map_table_laws.specs.Layout.{Names}
-use Rattle.map_table_laws.specs.History.{word_in, IsLinked}
+use Rattle.map_table_laws.proofs.Prelude.{◌≡◌, ℕ, zero, suc, ◌+◌, ◌<◌, ◌≤◌, List, [], ◌∷◌, ◌++◌, sym, ap, ◌∙◌, subst, arith, take, drop, range_with_len}
+use Rattle.map_table_laws.proofs.Prelude.{take-append-drop, dite, ℕ_discrete, Names, word_in, IsLinked}
+use Rattle.map_table.proofs.Prelude.{Move, Put, TableShape, View, Went, writer_after, times_in, IsNoneLost}
 use Rattle.map_table_laws.proofs.Steps.{one_name, nothing_named}
-use Rattle.table_words.specs.declared.view.TableShape.{TableShape}
-use Rattle.table_words.specs.declared.view.View.{View}
-use Rattle.map_table.specs.Held.{Went}
-use Rattle.map_table.specs.Law.{writer_after}
-use Rattle.map_table.specs.Writing.{times_in, IsNoneLost}
 use Rattle.map_table.proofs.Filling.{went_shape}
 use Rattle.map_table.proofs.Keeping.{IsQuiet, same_word, here, there}
 use Rattle.map_table.proofs.Members.{one_for, one_same, none_for, times_append, times_push}

@@ -1,13 +1,8 @@
 -- Lists of elements, each once at most.
-use Rattle.std.proofs.Common.{◌≡◌, ◌≢◌, ℕ, zero, suc, ◌+◌, ◌<◌, ◌≤◌, List, [], ◌∷◌, ◌++◌, length, get_or, refl, sym, ap, ◌∙◌, subst, arith, eq-eqb, ne_eqb}
-use Rattle.std.specs.Prelude.{All, ◌==◌, if◌then◌else◌}
-use Rattle.std.proofs.Common.{length-append}
-use mathlib.Core.Logic.{dite}
-use native.Mathlib.Decide.{ℕ_discrete}
-use Rattle.std.specs.List.{range_with_len}
-use Rattle.std.proofs.Common.{add-one}
+use Rattle.map_table_laws.proofs.Prelude.{◌≡◌, ◌≢◌, ℕ, zero, suc, ◌+◌, ◌<◌, ◌≤◌, List, [], ◌∷◌, ◌++◌, length, get_or, refl, sym, ap, ◌∙◌, subst, arith}
+use Rattle.map_table_laws.proofs.Prelude.{eq-eqb, ne_eqb, All, ◌==◌, if◌then◌else◌, length-append, dite, ℕ_discrete, range_with_len, add-one}
+use Rattle.map_table.proofs.Prelude.{times_in}
 use Rattle.std.proofs.lemmas.List.FromFn.{length-range_with_len, get_or-range_with_len}
-use Rattle.map_table.specs.Writing.{times_in}
 
 abbrev pub one_for : ℕ → ℕ → ℕ
 one_for element e = if e == element then 1 else 0

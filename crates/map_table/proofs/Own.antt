@@ -1,11 +1,8 @@
 -- What nobody but the writer changes.
-use Rattle.std.proofs.Common.{◌≡◌, ◌≢◌, ◌⊎◌, ℕ, ◌≤◌, List, [], ◌∷◌, ◌++◌, length, refl, sym, ap, ◌∙◌, subst, ⊎_elim, inl, inr, arith}
-use mathlib.Core.Logic.{dite}
-use native.Mathlib.Decide.{ℕ_discrete}
-use Rattle.map_table_laws.specs.declared.moves.Move.{Move}
-use Rattle.map_table_laws.specs.declared.moves.Move.TheVariants.{Open, Close, Learn, Load, Store, Put, Double, Scan}
-use Rattle.map_table_laws.specs.Layout.{Layout, IsCandidate}
-use Rattle.map_table_laws.specs.History.{moves_of, word_in, key_of, IsSettled, Holds, IsSpare, IsOpenTo, MayDo, MayDouble, MayLink, IsLawful}
+use Rattle.map_table_laws.proofs.Prelude.{◌≡◌, ◌≢◌, ◌⊎◌, ℕ, ◌≤◌, List, [], ◌∷◌, ◌++◌, length, refl, sym, ap, ◌∙◌, subst, ⊎_elim, inl, inr, arith, dite}
+use Rattle.map_table_laws.proofs.Prelude.{ℕ_discrete, Layout, IsCandidate, moves_of, word_in, key_of, IsSettled, Holds, IsSpare, IsOpenTo, MayDo, MayDouble}
+use Rattle.map_table_laws.proofs.Prelude.{MayLink, IsLawful}
+use Rattle.map_table.proofs.Prelude.{Move, Open, Close, Learn, Load, Store, Put, Double, Scan}
 use Rattle.map_table_laws.proofs.Steps.{own, others, key_stored, key_learn, key_load, key_put, key_doubled, key_other}
 
 -- a reader's step leaves each key

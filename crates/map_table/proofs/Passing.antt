@@ -1,16 +1,9 @@
 -- Whether readers have left their sections.
-use Rattle.std.proofs.Common.{◌≡◌, ◌≢◌, ℕ, ◌+◌, ◌%◌, ◌<◌, ◌≤◌, List, [], ◌∷◌, ◌++◌, refl, sym, subst, inl, inr, arith, Bool, true, false}
-use Rattle.std.specs.Prelude.{MatchBool}
-use mathlib.Core.Logic.{dite}
-use native.Mathlib.Decide.{ℕ_discrete}
-use Rattle.map_table_laws.specs.declared.moves.Move.{Move}
-use Rattle.map_table_laws.specs.declared.moves.Move.TheVariants.{Open, Close, Learn, Load, Store, Put, Double, Scan}
-use Rattle.map_table_laws.specs.Scanned.{OnlyScans, FoundInside, FoundOther, FoundGone}
+use Rattle.map_table_laws.proofs.Prelude.{◌≡◌, ◌≢◌, ℕ, ◌+◌, ◌%◌, ◌<◌, ◌≤◌, List, [], ◌∷◌, ◌++◌, refl, sym, subst, inl, inr, arith, Bool, true, false}
+use Rattle.map_table_laws.proofs.Prelude.{MatchBool, dite, ℕ_discrete, OnlyScans, FoundInside, FoundOther, FoundGone}
+use Rattle.map_table.proofs.Prelude.{Move, Open, Close, Learn, Load, Store, Put, Double, Scan, View, Went, HaveGone, IsSomeInside}
 use Rattle.map_table_laws.proofs.Moved.{gone_front, gone_back}
 use Rattle.map_table_laws.proofs.Words.{odd_else}
-use Rattle.table_words.specs.declared.view.View.{View}
-use Rattle.map_table.specs.Held.{Went}
-use Rattle.map_table.specs.Moving.{HaveGone, IsSomeInside}
 use Rattle.map_table.proofs.Going.{went_then}
 use Rattle.map_table.proofs.Seen.{inside_front}
 

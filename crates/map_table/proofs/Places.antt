@@ -1,9 +1,7 @@
 -- Where the words of slots lie.
-use Rattle.std.proofs.Common.{◌≡◌, ℕ, ◌+◌, ◌-◌, ◌*◌, ◌/◌, ◌%◌, ◌<◌, ap, ◌∙◌, sym, subst, arith}
-use Rattle.std.proofs.lemmas.Nat.{div-mul-add, mod-mul-add, same_from_place, mul-add-lt}
-use Rattle.map_table_laws.specs.declared.moves.Move.TheVariants.{Load, Store}
-use Rattle.table_words.specs.declared.view.TableShape.{TableShape}
-use Rattle.map_table.specs.Law.{base_of, width_of, count_of, index_in}
+use Rattle.map_table_laws.proofs.Prelude.{◌≡◌, ℕ, ◌+◌, ◌-◌, ◌*◌, ◌/◌, ◌%◌, ◌<◌, ap, ◌∙◌, sym, subst, arith, div-mul-add, mul-add-lt}
+use Rattle.map_table.proofs.Prelude.{Load, Store, TableShape, base_of, width_of, count_of, index_in}
+use Rattle.std.proofs.lemmas.Nat.{mod-mul-add, same_from_place}
 
 -- where a word of a slot lies, as an equation
 abbrev pub IsAt : TableShape → ℕ → ℕ → ℕ → Type 0

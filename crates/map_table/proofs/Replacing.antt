@@ -1,21 +1,10 @@
 -- A key stays linked while its element is replaced.
-use Rattle.std.proofs.Common.{◌≡◌, ℕ, zero, suc, List, [], ◌∷◌, ◌++◌, refl, sym, ap, ◌∙◌, subst, inr, append_assoc}
-use Rattle.std.proofs.lemmas.List.{append_cancel_right}
-use mathlib.Core.Logic.{dite}
-use native.Mathlib.Decide.{ℕ_discrete}
-use Rattle.map_table_laws.specs.declared.moves.Move.{Move}
-use Rattle.map_table_laws.specs.declared.moves.Move.TheVariants.{Open, Close, Learn, Load, Store, Put, Double, Scan}
-use Rattle.map_table_laws.specs.Layout.{Layout, Names}
-use Rattle.map_table_laws.specs.History.{moves_of, key_of, MayDo, IsLawful}
-use Rattle.map_table_laws.specs.Found.{IsLinkedUnder, BearsKey, KeepsKey, OnlyReplaces}
+use Rattle.map_table_laws.proofs.Prelude.{◌≡◌, ℕ, zero, suc, List, [], ◌∷◌, ◌++◌, refl, sym, ap, ◌∙◌, subst, inr, append_assoc, append_cancel_right, dite}
+use Rattle.map_table_laws.proofs.Prelude.{ℕ_discrete, Layout, Names, moves_of, key_of, MayDo, IsLawful, IsLinkedUnder, BearsKey, KeepsKey, OnlyReplaces}
+use Rattle.map_table.proofs.Prelude.{Move, Open, Close, Learn, Load, Store, Put, Double, Scan, TableShape, View, layout_of, Went, IsKnown, Fills, StaysIn}
 use Rattle.map_table_laws.proofs.Looks.{moves_append}
 use Rattle.map_table_laws.proofs.Steps.{own, others}
 use Rattle.map_table_laws.proofs.Writing.{only_replaced}
-use Rattle.table_words.specs.declared.view.TableShape.{TableShape}
-use Rattle.table_words.specs.declared.view.View.{View}
-use Rattle.map_table.specs.Hashes.{layout_of}
-use Rattle.map_table.specs.Held.{Went, IsKnown}
-use Rattle.map_table.specs.Writing.{Fills, StaysIn}
 use Rattle.map_table.proofs.Going.{went_known}
 use Rattle.map_table.proofs.Own.{keys_stay}
 use Rattle.map_table.proofs.Filling.{own_list, went_shape, went_me, head_of, tail_of}

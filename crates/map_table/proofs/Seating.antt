@@ -1,10 +1,6 @@
 -- The writer once it has made one more reader.
-use Rattle.std.proofs.Common.{◌+◌, ◌≤◌, ℕ, List, ap}
-use Rattle.table_words.specs.declared.notes.Sighting.{Sighting}
-use Rattle.table_words.specs.declared.view.View.{View}
-use Rattle.map_table.specs.Law.{dealt}
-use Rattle.map_table.specs.Sightings.{AreSightings}
-use Rattle.map_table.specs.Writing.{HasSeated, IsWriter}
+use Rattle.map_table_laws.proofs.Prelude.{◌+◌, ◌≤◌, ℕ, List, ap}
+use Rattle.map_table.proofs.Prelude.{Sighting, View, dealt, AreSightings, HasSeated, IsWriter}
 
 pub seated_writer : (v : View) (ways free unlinked : List ℕ) → IsWriter v ways free unlinked → IsWriter (dealt v) ways free unlinked
 seated_writer v ways free unlinked i = record {

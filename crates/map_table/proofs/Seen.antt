@@ -1,27 +1,14 @@
 -- What the writer notes of its readers stays right.
-use Rattle.std.proofs.Common.{◌≡◌, ◌≢◌, ◌⊎◌, ◌↔◌, ℕ, zero, suc, ◌+◌, ◌-◌, ◌%◌, ◌<◌, ◌≤◌, List, [], ◌∷◌, ◌++◌, length, refl, sym, ap, ◌∙◌, subst, ⊎_elim}
-use Rattle.std.proofs.Common.{inl, inr, arith, drop, set, length-set, get_or-set_same, get_or-set_other}
-use Rattle.std.specs.Prelude.{slice_index, All}
-use Rattle.std.proofs.Common.{length-append}
-use Rattle.std.proofs.lemmas.List.{length-drop, get_or-drop, get_or_append_left}
+use Rattle.map_table_laws.proofs.Prelude.{◌≡◌, ◌≢◌, ◌⊎◌, ℕ, zero, suc, ◌+◌, ◌-◌, ◌%◌, ◌<◌, ◌≤◌, List, [], ◌∷◌, ◌++◌, length, refl, sym, ap, ◌∙◌, subst}
+use Rattle.map_table_laws.proofs.Prelude.{⊎_elim, inl, inr, arith, drop, set, length-set, get_or-set_same, get_or-set_other, slice_index, All, length-append}
+use Rattle.map_table_laws.proofs.Prelude.{length-drop, get_or-drop, dite, ℕ_discrete, dec_lt, Layout, Names, word_in, FoundSince, HasLeft, Cleared}
+use Rattle.map_table_laws.proofs.Prelude.{OnlySearches, ScansInTurn, FoundInside}
+use Rattle.map_table.proofs.Prelude.{Move, Open, Close, Learn, Load, Store, Put, Double, Scan, TableShape, View, Sighting, AddsUp, Went, OnlyLoads}
+use Rattle.map_table.proofs.Prelude.{writer_after, no_sighting, sighting_at, AreSightings, IsNoted, Fills, IsUnlinked}
+use Rattle.std.proofs.Common.{◌↔◌}
+use Rattle.std.proofs.lemmas.List.{get_or_append_left}
 use Rattle.std.proofs.Math.Seq.{get_or-append_seam}
-use mathlib.Core.Logic.{dite}
-use native.Mathlib.Decide.{ℕ_discrete, dec_lt}
-use Rattle.map_table_laws.specs.declared.moves.Move.{Move}
-use Rattle.map_table_laws.specs.declared.moves.Move.TheVariants.{Open, Close, Learn, Load, Store, Put, Double, Scan}
-use Rattle.map_table_laws.specs.Layout.{Layout, Names}
-use Rattle.map_table_laws.specs.History.{word_in, FoundSince, HasLeft, Cleared}
-use Rattle.map_table_laws.specs.Lookups.{OnlySearches}
-use Rattle.map_table_laws.specs.Scanned.{ScansInTurn, FoundInside}
-use Rattle.table_words.specs.declared.view.TableShape.{TableShape}
-use Rattle.table_words.specs.declared.view.View.{View}
-use Rattle.table_words.specs.declared.notes.Sighting.{Sighting}
-use Rattle.map_table.specs.Counting.{AddsUp}
-use Rattle.map_table.specs.Held.{Went}
-use Rattle.map_table.specs.Reading.{OnlyLoads}
-use Rattle.map_table.specs.Law.{writer_after}
-use Rattle.map_table.specs.Sightings.{no_sighting, sighting_at, IsSighting, AreSightings, IsNoted, IsLowered}
-use Rattle.map_table.specs.Writing.{Fills, IsUnlinked}
+use Rattle.map_table.specs.Sightings.{IsSighting, IsLowered}
 use Rattle.map_table.proofs.Going.{went_mine}
 use Rattle.map_table.proofs.Filling.{went_shape}
 

@@ -1,28 +1,14 @@
 -- What unlinking and reclaiming leave.
-use Rattle.std.proofs.Common.{◌≡◌, ◌≢◌, ℕ, suc, ◌+◌, ◌%◌, ◌^◌, ◌<◌, ◌≤◌, List, [], ◌∷◌}
-use Rattle.std.proofs.Common.{◌++◌, length, get_or, set, refl, sym, ap, ◌∙◌, subst, ⊎_elim, arith}
-use Rattle.std.proofs.Common.{length-append}
-use Rattle.std.specs.Prelude.{slice_index}
-use Rattle.std.specs.List.{range_with_len}
-use Rattle.std.proofs.lemmas.List.{get_or_default}
-use mathlib.Core.Logic.{dite}
-use native.Mathlib.Decide.{ℕ_discrete}
-use Rattle.map_table_laws.specs.declared.moves.Move.{Move}
-use Rattle.map_table_laws.specs.declared.moves.Move.TheVariants.{Put}
-use Rattle.map_table_laws.specs.Layout.{IsCandidate, Names}
-use Rattle.map_table_laws.specs.History.{moves_of, word_in, IsSettled}
-use Rattle.map_table_laws.specs.Found.{IsLinkedUnder}
+use Rattle.map_table_laws.proofs.Prelude.{◌≡◌, ◌≢◌, ℕ, suc, ◌+◌, ◌%◌, ◌^◌, ◌<◌, ◌≤◌, List, [], ◌∷◌, ◌++◌, length, get_or, set, refl, sym, ap, ◌∙◌, subst}
+use Rattle.map_table_laws.proofs.Prelude.{⊎_elim, arith, length-append, slice_index, range_with_len, get_or_default, dite, ℕ_discrete, IsCandidate, Names}
+use Rattle.map_table_laws.proofs.Prelude.{moves_of, word_in, IsSettled, IsLinkedUnder}
+use Rattle.map_table.proofs.Prelude.{Move, Put, TableShape, View, layout_of, ways_of, writer_after, Went, IsSized, Fills, times_in, IsFree, IsUnlinked}
+use Rattle.map_table.proofs.Prelude.{IsWriter}
 use Rattle.map_table_laws.proofs.Steps.{one_name, nothing_named}
 use Rattle.map_table_laws.proofs.Standing.{named, fits, one_way}
-use Rattle.table_words.specs.declared.view.TableShape.{TableShape}
-use Rattle.table_words.specs.declared.view.View.{View}
-use Rattle.map_table.specs.Hashes.{layout_of}
-use Rattle.map_table.specs.Law.{ways_of, writer_after}
-use Rattle.map_table.specs.Held.{Went, IsSized}
-use Rattle.map_table.specs.Writing.{Fills, times_in, IsFree, IsUnlinked, IsWriter}
 use Rattle.map_table.proofs.Filling.{own_list, went_shape}
-use Rattle.map_table.proofs.Members.{one_for, times_append, times_push, times_range, all_nil, all_append, all_push}
-use Rattle.map_table.proofs.Members.{all_to, all_range, nowhere, room, few, at_most_one, none_for}
+use Rattle.map_table.proofs.Members.{one_for, times_append, times_push, times_range, all_nil, all_append, all_push, all_to, all_range, nowhere, room, few}
+use Rattle.map_table.proofs.Members.{at_most_one, none_for}
 use Rattle.map_table.proofs.Linking.{taken, filled_writer, linked_writer}
 use Rattle.map_table.proofs.Keeping.{quiet_append, fills_quiet, quiet_settled, put_writer, put_unlinked, empty_names_none}
 

@@ -1,15 +1,11 @@
 -- Where a reader's own value lies.
-use Rattle.std.proofs.Common.{◌≡◌, ◌⊎◌, ℕ, ◌+◌, ◌-◌, ◌*◌, ◌/◌, ◌<◌, ◌≤◌, refl, ap, ◌∙◌, inl, inr, arith}
-use Rattle.std.proofs.lemmas.Nat.{div-mul-add, mul-add-lt, mul-le}
-use Rattle.map_table_laws.specs.History.{IsOpenTo, IsReader}
+use Rattle.map_table_laws.proofs.Prelude.{◌≡◌, ◌⊎◌, ℕ, ◌+◌, ◌-◌, ◌*◌, ◌/◌, ◌<◌, ◌≤◌, refl, ap, ◌∙◌, inl, inr, arith, div-mul-add, mul-add-lt, mul-le}
+use Rattle.map_table_laws.proofs.Prelude.{IsOpenTo, IsReader}
+use Rattle.map_table.proofs.Prelude.{TableShape, most_words, copies_of, first_of, layout_of, width_of, IsSized}
 use Rattle.table_words.specs.declared.view.Values.{Values}
 use Rattle.table_words.specs.declared.view.Values.TheVariants.{Shared, PerReader}
-use Rattle.table_words.specs.declared.view.TableShape.{TableShape}
-use Rattle.map_table.specs.Limits.{most_readers, most_words}
-use Rattle.map_table.specs.Values.{copies_by, copies_of, first_by, first_of, owner_by}
-use Rattle.map_table.specs.Hashes.{layout_of}
-use Rattle.map_table.specs.Law.{width_of}
-use Rattle.map_table.specs.Held.{IsSized}
+use Rattle.map_table.specs.Limits.{most_readers}
+use Rattle.map_table.specs.Values.{copies_by, first_by, owner_by}
 
 behind_by : (v : Values) (k : TableShape) (who place : ℕ) → first_by v k who ≤ place → k.key_words ≤ place
 behind_by Shared k who place from = from

@@ -1,24 +1,12 @@
 -- What a reader that meets a way finds there.
-use Rattle.std.proofs.Common.{◌≡◌, ℕ, ◌<◌, List, [], ◌∷◌, ◌++◌, length, refl, sym, ap, ◌∙◌, subst, inl, inr}
-use Rattle.std.proofs.lemmas.List.{append_cancel_right}
-use Rattle.std.specs.Prelude.{slice_index}
-use Rattle.map_table_laws.specs.declared.moves.Move.{Move}
-use Rattle.map_table_laws.specs.declared.moves.Move.TheVariants.{Open, Close, Learn, Load, Store, Put, Double, Scan}
-use Rattle.map_table_laws.specs.Layout.{Names}
-use Rattle.map_table_laws.specs.History.{moves_of, key_of, IsLawful}
-use Rattle.map_table_laws.specs.Lookups.{FoundIn, HadWord}
-use Rattle.map_table_laws.specs.Found.{StaysInside}
-use Rattle.map_table_laws.specs.Scanned.{LookedAt}
-use Rattle.map_table_laws.specs.Walks.{Meets}
+use Rattle.map_table_laws.proofs.Prelude.{◌≡◌, ℕ, ◌<◌, List, [], ◌∷◌, ◌++◌, length, refl, sym, ap, ◌∙◌, subst, inl, inr, append_cancel_right, slice_index}
+use Rattle.map_table_laws.proofs.Prelude.{Names, moves_of, key_of, IsLawful, FoundIn, HadWord, StaysInside, LookedAt, Meets}
+use Rattle.map_table.proofs.Prelude.{Move, Open, Close, Learn, Load, Store, Put, Double, Scan, TableShape, View, layout_of, Holder, Goes, Went, IsKnown}
+use Rattle.map_table.proofs.Prelude.{Reads}
 use Rattle.map_table_laws.proofs.Steps.{key_word, key_is}
 use Rattle.map_table_laws.proofs.Looks.{moves_append}
 use Rattle.map_table_laws.proofs.Moments.{searches_inside}
 use Rattle.map_table_laws.proofs.Walks.{meets_linked}
-use Rattle.table_words.specs.declared.view.TableShape.{TableShape}
-use Rattle.table_words.specs.declared.view.View.{View}
-use Rattle.map_table.specs.Hashes.{layout_of}
-use Rattle.map_table.specs.Held.{Holder, Goes, Went, IsKnown}
-use Rattle.map_table.specs.Reading.{Reads}
 use Rattle.map_table.proofs.Going.{goes_known}
 use Rattle.map_table.proofs.Lookups.{Only, only_append, found_back, had_front}
 use Rattle.map_table.proofs.Loading.{reads_had}

@@ -1,11 +1,8 @@
 -- Amounts that are added to a word add up.
-use Rattle.std.proofs.Common.{◌≡◌, ℕ, ◌+◌, ◌%◌, ◌^◌, List, [], ◌∷◌, ◌++◌, refl, ap, ◌∙◌, subst, ⊎_elim, arith, eq-eqb, ne_eqb}
-use mathlib.Core.Logic.{dite}
-use native.Mathlib.Decide.{ℕ_discrete}
+use Rattle.map_table_laws.proofs.Prelude.{◌≡◌, ℕ, ◌+◌, ◌%◌, ◌^◌, List, [], ◌∷◌, ◌++◌, refl, ap, ◌∙◌, subst, ⊎_elim, arith, eq-eqb, ne_eqb, dite, ℕ_discrete}
+use Rattle.map_table_laws.proofs.Prelude.{Layout, word_after, word_at, MayDo, IsLawful}
 use Rattle.map_table_laws.specs.declared.moves.Move.{Move}
 use Rattle.map_table_laws.specs.declared.moves.Move.TheVariants.{Open, Close, Learn, Load, Store, Put, Double, Scan}
-use Rattle.map_table_laws.specs.Layout.{Layout}
-use Rattle.map_table_laws.specs.History.{word_after, word_at, MayDo, IsLawful}
 use Rattle.map_table_laws.specs.Added.{StoresNothingAt, OnlyAdds}
 
 -- a move that stores nothing there leaves the word

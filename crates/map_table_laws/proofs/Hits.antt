@@ -1,15 +1,10 @@
 -- What a lookup answers was linked under its key.
-use Rattle.std.proofs.Common.{◌≡◌, ◌⊎◌, ℕ, ◌<◌, List, [], ◌∷◌, ◌++◌, refl, sym, ap, ◌∙◌, subst, ⊎_elim, inl, inr, arith}
-use mathlib.Core.Logic.{dite}
-use native.Mathlib.Decide.{ℕ_discrete}
-use Rattle.std.proofs.Common.{Some}
-use Rattle.std.specs.Prelude.{length, slice_index}
+use Rattle.map_table_laws.proofs.Prelude.{◌≡◌, ◌⊎◌, ℕ, ◌<◌, List, [], ◌∷◌, ◌++◌, refl, sym, ap, ◌∙◌, subst, ⊎_elim, inl, inr, arith, dite, ℕ_discrete, Some}
+use Rattle.map_table_laws.proofs.Prelude.{length, slice_index, Layout, moves_of, word_at, key_of, Holds, MayDo, IsLawful, OnlySearches, HadWord}
+use Rattle.map_table_laws.proofs.Prelude.{AnswersLookup, IsLinkedAs, Sometime, StaysInside}
 use Rattle.map_table_laws.specs.declared.moves.Move.{Move}
 use Rattle.map_table_laws.specs.declared.moves.Move.TheVariants.{Open, Close, Learn, Load, Store, Put, Double, Scan}
-use Rattle.map_table_laws.specs.Layout.{Layout, IsApart}
-use Rattle.map_table_laws.specs.History.{moves_of, word_at, key_of, Holds, MayDo, IsLawful}
-use Rattle.map_table_laws.specs.Lookups.{OnlySearches, HadWord, AnswersLookup}
-use Rattle.map_table_laws.specs.Found.{IsLinkedAs, Sometime, StaysInside}
+use Rattle.map_table_laws.specs.Layout.{IsApart}
 use Rattle.map_table_laws.proofs.Steps.{own, others, key_step, key_load, key_word, key_is}
 use Rattle.map_table_laws.proofs.Holding.{spare_unheld}
 use Rattle.map_table_laws.proofs.Standing.{fits}

@@ -1,12 +1,9 @@
 -- An element that a reader holds is linked, or the reader has not left its section since it was unlinked.
-use Rattle.std.proofs.Common.{◌≡◌, ◌≢◌, ℕ, ◌%◌, List, [], ◌∷◌, ◌++◌, sym, ap, ◌∙◌, subst, ⊎_elim, arith}
-use mathlib.Core.Logic.{dite}
-use native.Mathlib.Decide.{ℕ_discrete}
+use Rattle.map_table_laws.proofs.Prelude.{◌≡◌, ◌≢◌, ℕ, ◌%◌, List, [], ◌∷◌, ◌++◌, sym, ap, ◌∙◌, subst, ⊎_elim, arith, dite, ℕ_discrete, Layout, Names}
+use Rattle.map_table_laws.proofs.Prelude.{moves_of, inside, section_word, word_in, word_at, IsLinked, Holds, FoundSince, HasLeft, Cleared, IsSpare, IsReader}
+use Rattle.map_table_laws.proofs.Prelude.{MayDo, IsLawful}
 use Rattle.map_table_laws.specs.declared.moves.Move.{Move}
 use Rattle.map_table_laws.specs.declared.moves.Move.TheVariants.{Open, Close, Learn, Load, Store, Put, Double, Scan}
-use Rattle.map_table_laws.specs.Layout.{Layout, Names}
-use Rattle.map_table_laws.specs.History.{moves_of, inside, section_word, word_in, word_at, IsLinked, Holds, FoundSince, HasLeft, Cleared, IsSpare}
-use Rattle.map_table_laws.specs.History.{IsReader, MayDo, IsLawful}
 use Rattle.map_table_laws.proofs.Steps.{own, others, put_there, doubled_there, nothing_named}
 use Rattle.map_table_laws.proofs.Words.{word_parity}
 

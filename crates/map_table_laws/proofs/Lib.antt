@@ -1,3 +1,4 @@
+pub mod Prelude
 mod Added
 pub mod Hits
 pub mod Holding

@@ -1,12 +1,9 @@
 -- What the writer's looks at a reader tell.
-use Rattle.std.proofs.Common.{◌≡◌, ◌≢◌, ◌⊎◌, ℕ, ◌%◌, ◌^◌, ◌<◌, List, [], ◌∷◌, ◌++◌, refl, sym, ap, ◌∙◌, subst, ⊎_elim, inl, inr}
-use mathlib.Core.Logic.{dite}
-use native.Mathlib.Decide.{ℕ_discrete}
+use Rattle.map_table_laws.proofs.Prelude.{◌≡◌, ◌≢◌, ◌⊎◌, ℕ, ◌%◌, ◌^◌, ◌<◌, List, [], ◌∷◌, ◌++◌, refl, sym, ap, ◌∙◌, subst, ⊎_elim, inl, inr, dite, ℕ_discrete}
+use Rattle.map_table_laws.proofs.Prelude.{Layout, moves_of, inside, opened, section_word, IsLinked, FoundSince, Cleared, IsLawful, StaysInside}
 use Rattle.map_table_laws.specs.declared.moves.Move.{Move}
 use Rattle.map_table_laws.specs.declared.moves.Move.TheVariants.{Open, Close, Learn, Load, Store, Put, Double, Scan}
-use Rattle.map_table_laws.specs.Layout.{Layout}
-use Rattle.map_table_laws.specs.History.{moves_of, inside, opened, section_word, IsLinked, FoundSince, Cleared, IsLawful}
-use Rattle.map_table_laws.specs.Found.{StaysInside, StaysUnlinked}
+use Rattle.map_table_laws.specs.Found.{StaysUnlinked}
 use Rattle.map_table_laws.proofs.Steps.{own, others}
 use Rattle.map_table_laws.proofs.Words.{word_low, word_parity, one_section, odd_else}
 use Rattle.map_table_laws.proofs.Moments.{History, lawful_early}

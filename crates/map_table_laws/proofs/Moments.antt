@@ -1,16 +1,11 @@
 -- What is so at the moments of a stretch.
-use Rattle.std.proofs.Common.{◌≡◌, ◌≢◌, ◌⊎◌, ℕ, suc, ◌%◌, ◌^◌, ◌<◌, List, [], ◌∷◌, ◌++◌, refl, sym, ap, ◌∙◌, subst, ⊎_elim, inl, inr, arith}
-use mathlib.Core.Logic.{dite}
-use native.Mathlib.Decide.{ℕ_discrete}
-use Rattle.std.proofs.Common.{ne_eqb, Some, None}
-use Rattle.std.specs.Prelude.{slice_index}
+use Rattle.map_table_laws.proofs.Prelude.{◌≡◌, ◌≢◌, ◌⊎◌, ℕ, suc, ◌%◌, ◌^◌, ◌<◌, List, [], ◌∷◌, ◌++◌, refl, sym, ap, ◌∙◌, subst, ⊎_elim, inl, inr, arith, dite}
+use Rattle.map_table_laws.proofs.Prelude.{ℕ_discrete, ne_eqb, Some, None, slice_index, Layout, IsCandidate, Names, tag_in, bucket_of, moves_of, word_in}
+use Rattle.map_table_laws.proofs.Prelude.{key_of, Holds, IsSpare, MayLink, MayDo, IsLawful, OnlySearches, FoundIn, IsElse, Refuted, AnswersLookup}
+use Rattle.map_table_laws.proofs.Prelude.{IsLinkedUnder, Throughout, Sometime, StaysInside, StaysFound}
 use Rattle.map_table_laws.specs.declared.moves.Move.{Move}
 use Rattle.map_table_laws.specs.declared.moves.Move.TheVariants.{Open, Close, Learn, Load, Store, Put, Double, Scan}
-use Rattle.map_table_laws.specs.Layout.{Layout, IsCandidate, Names, tag_in, bucket_of}
-use Rattle.map_table_laws.specs.History.{moves_of, word_in, key_of, Holds, IsSpare}
-use Rattle.map_table_laws.specs.History.{generation, MayLink, MayDo, IsLawful}
-use Rattle.map_table_laws.specs.Lookups.{OnlySearches, FoundIn, IsElse, Refuted, AnswersLookup}
-use Rattle.map_table_laws.specs.Found.{IsLinkedUnder, Throughout, Sometime, StaysInside, StaysFound}
+use Rattle.map_table_laws.specs.History.{generation}
 use Rattle.map_table_laws.proofs.Steps.{own, others, key_step, key_learn, key_word, one_name, nothing_named}
 use Rattle.map_table_laws.proofs.Holding.{spare_unheld}
 use Rattle.map_table_laws.proofs.Standing.{fits}

@@ -1,17 +1,13 @@
 -- A key that the writer moves is found throughout.
-use Rattle.std.proofs.Common.{◌≡◌, ◌≢◌, ◌⊎◌, ℕ, ◌*◌, ◌%◌, ◌<◌, ◌≤◌, List, [], ◌∷◌, ◌++◌, refl, sym, ap, ◌∙◌, subst, ⊎_elim, inl, inr, arith, None}
-use Rattle.std.specs.Prelude.{length}
-use mathlib.Core.Logic.{dite}
-use native.Mathlib.Decide.{ℕ_discrete}
+use Rattle.map_table_laws.proofs.Prelude.{◌≡◌, ◌≢◌, ◌⊎◌, ℕ, ◌*◌, ◌%◌, ◌<◌, ◌≤◌, List, [], ◌∷◌, ◌++◌, refl, sym, ap, ◌∙◌, subst, ⊎_elim, inl, inr, arith, None}
+use Rattle.map_table_laws.proofs.Prelude.{length, dite, ℕ_discrete, Layout, Names, bucket_of, moves_of, inside, section_word, word_in, IsMoving, IsSettled}
+use Rattle.map_table_laws.proofs.Prelude.{since_double, HavePassed, IsReader, MayDo, IsLawful, OnlySearches, AnswersLookup, IsLinkedAs, Throughout}
+use Rattle.map_table_laws.proofs.Prelude.{StaysInside, StaysFound, BearsKey, IsLinkedUnder, IsLinkedSomewhere, OnlyMoves, AreLinkedOnce, PutsNoKeyTwice}
+use Rattle.map_table_laws.proofs.Prelude.{PutNoKeyTwice, FoundOther, FoundGone}
 use Rattle.map_table_laws.specs.declared.moves.Move.{Move}
 use Rattle.map_table_laws.specs.declared.moves.Move.TheVariants.{Open, Close, Learn, Load, Store, Put, Double, Scan}
-use Rattle.map_table_laws.specs.Layout.{Layout, Names, bucket_of}
-use Rattle.map_table_laws.specs.History.{moves_of, inside, section_word, word_in, IsMoving, IsSettled, since_double, HavePassed, IsReader, MayDo, IsLawful}
-use Rattle.map_table_laws.specs.Lookups.{OnlySearches, AnswersLookup}
-use Rattle.map_table_laws.specs.Found.{Links, IsLinkedAs, Throughout, StaysInside, StaysFound, BearsKey, IsLinkedUnder, IsLinkedSomewhere}
-use Rattle.map_table_laws.specs.Moved.{OnlyMoves, Keeps, OnlyKeeps}
-use Rattle.map_table_laws.specs.Once.{AreLinkedOnce, PutsNoKeyTwice, PutNoKeyTwice}
-use Rattle.map_table_laws.specs.Scanned.{FoundOther, FoundGone}
+use Rattle.map_table_laws.specs.Found.{Links}
+use Rattle.map_table_laws.specs.Moved.{Keeps, OnlyKeeps}
 use Rattle.map_table_laws.proofs.Steps.{own, others, key_step, nothing_named}
 use Rattle.map_table_laws.proofs.Words.{word_parity, word_stays}
 use Rattle.map_table_laws.proofs.Standing.{Quiet, Putting, Doubling, Changed, step, here_at, put_alone, put_settled, one_way, moved_ways}

@@ -1,13 +1,9 @@
 -- Keys stay linked in one way at most.
-use Rattle.std.proofs.Common.{◌≡◌, ◌≢◌, ◌⊎◌, ℕ, List, [], ◌∷◌, ◌++◌, refl, sym, ◌∙◌, subst, ⊎_elim, inl, inr}
-use mathlib.Core.Logic.{dite}
-use native.Mathlib.Decide.{ℕ_discrete}
+use Rattle.map_table_laws.proofs.Prelude.{◌≡◌, ◌≢◌, ◌⊎◌, ℕ, List, [], ◌∷◌, ◌++◌, refl, sym, ◌∙◌, subst, ⊎_elim, inl, inr, dite, ℕ_discrete, Layout, Names}
+use Rattle.map_table_laws.proofs.Prelude.{moves_of, word_in, IsMoving, IsSettled, IsLawful, AreOneOrMoved, IsLinkedUnder, BearsKey, AreLinkedOnce}
+use Rattle.map_table_laws.proofs.Prelude.{PutsNoKeyTwice, PutNoKeyTwice}
 use Rattle.map_table_laws.specs.declared.moves.Move.{Move}
 use Rattle.map_table_laws.specs.declared.moves.Move.TheVariants.{Put}
-use Rattle.map_table_laws.specs.Layout.{Layout, Names}
-use Rattle.map_table_laws.specs.History.{moves_of, word_in, IsMoving, IsSettled, IsLawful, AreOneOrMoved}
-use Rattle.map_table_laws.specs.Found.{IsLinkedUnder, BearsKey}
-use Rattle.map_table_laws.specs.Once.{AreLinkedOnce, PutsNoKeyTwice, PutNoKeyTwice}
 use Rattle.map_table_laws.proofs.Steps.{key_step}
 use Rattle.map_table_laws.proofs.Standing.{Quiet, Putting, Doubling, Changed, step, here_at, put_moved}
 

@@ -1,11 +1,9 @@
 -- A word that is one reader's own.
-use Rattle.std.proofs.Common.{◌≡◌, ◌≢◌, ℕ, ◌<◌, ◌≤◌, List, [], ◌∷◌, refl, sym, ap, ◌∙◌, ⊎_elim, arith, eq-eqb, ne_eqb}
-use mathlib.Core.Logic.{dite}
-use native.Mathlib.Decide.{ℕ_discrete}
+use Rattle.map_table_laws.proofs.Prelude.{◌≡◌, ◌≢◌, ℕ, ◌<◌, ◌≤◌, List, [], ◌∷◌, refl, sym, ap, ◌∙◌, ⊎_elim, arith, eq-eqb, ne_eqb, dite, ℕ_discrete, Layout}
+use Rattle.map_table_laws.proofs.Prelude.{moves_of, word_after, word_at, Holds, IsSpare, IsOpenTo, MayDo, IsLawful}
 use Rattle.map_table_laws.specs.declared.moves.Move.{Move}
 use Rattle.map_table_laws.specs.declared.moves.Move.TheVariants.{Open, Close, Learn, Load, Store, Put, Double, Scan}
-use Rattle.map_table_laws.specs.Layout.{Layout}
-use Rattle.map_table_laws.specs.History.{moves_of, word_after, word_at, with_writer, Holds, IsSpare, IsOpenTo, MayDo, IsLawful}
+use Rattle.map_table_laws.specs.History.{with_writer}
 
 -- the step of another reader leaves it
 others_leave : (k : Layout) (es : List (ℕ × Move)) (who other element place old : ℕ) (m : Move) → 0 < who →

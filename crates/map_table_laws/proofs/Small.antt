@@ -1,10 +1,8 @@
 -- The small histories are lawful, and without the scan, or with one number found twice, they aren't.
-use Rattle.std.proofs.Common.{◌≡◌, ℕ, ◌<◌, ◌≤◌, List, [], ◌∷◌, refl, subst, inl, inr, arith, Bool, true, false}
-use Rattle.std.specs.Prelude.{◌==◌, if◌then◌else◌}
+use Rattle.map_table_laws.proofs.Prelude.{◌≡◌, ℕ, ◌<◌, ◌≤◌, List, [], ◌∷◌, refl, subst, inl, inr, arith, Bool, true, false, ◌==◌, if◌then◌else◌, Names}
+use Rattle.map_table_laws.proofs.Prelude.{moves_of, IsLinked, IsSpare, HavePassed, IsReader, IsLawful}
 use Rattle.map_table_laws.specs.declared.moves.Move.{Move}
 use Rattle.map_table_laws.specs.declared.moves.Move.TheVariants.{Double, Scan}
-use Rattle.map_table_laws.specs.Layout.{Names}
-use Rattle.map_table_laws.specs.History.{moves_of, IsLinked, IsSpare, HavePassed, IsReader, IsLawful}
 use Rattle.map_table_laws.specs.Small.{small, naming, linked, found, moved, moved_too_early, moved_back, replaced, left, reused, reused_beside, scanned_twice}
 use Rattle.map_table_laws.specs.Small.{reused_too_early, reused_by_one_number}
 use Rattle.map_table_laws.proofs.Steps.{nothing_named}

@@ -1,14 +1,11 @@
 -- What stands in ways.
-use Rattle.std.proofs.Common.{◌≡◌, ◌≢◌, ◌⊎◌, ℕ, ◌<◌, List, [], ◌∷◌, ◌++◌, refl, sym, ap, ◌∙◌, subst, ⊎_elim, inl, inr}
-use mathlib.Core.Logic.{dite}
-use native.Mathlib.Decide.{ℕ_discrete}
+use Rattle.map_table_laws.proofs.Prelude.{◌≡◌, ◌≢◌, ◌⊎◌, ℕ, ◌<◌, List, [], ◌∷◌, ◌++◌, refl, sym, ap, ◌∙◌, subst, ⊎_elim, inl, inr, dite, ℕ_discrete, Layout}
+use Rattle.map_table_laws.proofs.Prelude.{IsCandidate, Names, tag_in, moves_of, word_in, key_of, IsMoving, IsSettled, since_double, AreOneOrMoved, Settles}
+use Rattle.map_table_laws.proofs.Prelude.{MayDouble, MayLink, MayDo, IsLawful}
 use Rattle.map_table_laws.specs.declared.moves.Move.{Move}
 use Rattle.map_table_laws.specs.declared.moves.Move.TheVariants.{Open, Close, Learn, Load, Store, Put, Double, Scan}
-use Rattle.map_table_laws.specs.Layout.{Layout, IsCandidate, Names, tag_in}
-use Rattle.map_table_laws.specs.History.{moves_of, word_in, key_of, IsMoving, IsSettled, since_double, AreOneOrMoved}
-use Rattle.map_table_laws.specs.History.{Settles, MayDouble, MayLink, MayDo, IsLawful}
-use Rattle.map_table_laws.proofs.Steps.{own, others, put_here, put_there, doubled_here, doubled_there}
-use Rattle.map_table_laws.proofs.Steps.{key_step, key_put, key_doubled, one_name, nothing_named}
+use Rattle.map_table_laws.proofs.Steps.{own, others, put_here, put_there, doubled_here, doubled_there, key_step, key_put, key_doubled, one_name}
+use Rattle.map_table_laws.proofs.Steps.{nothing_named}
 
 -- What a step leaves of the words in ways: all of them, or all but one, in which the writer puts a word.
 pub record Quiet (e : ℕ × Move) (es : List (ℕ × Move)) : Type 0 where

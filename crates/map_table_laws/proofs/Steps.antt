@@ -1,13 +1,10 @@
 -- What one more step leaves as it was.
-use Rattle.std.proofs.Common.{◌≡◌, ◌≢◌, ℕ, zero, suc, ◌+◌, ◌<◌, ◌≤◌, List, [], ◌∷◌, refl, sym, ap, ◌∙◌, subst, ⊎_elim, arith, eq-eqb, ne_eqb}
-use Rattle.std.specs.Prelude.{length, slice_index}
-use mathlib.Core.Logic.{dite}
-use native.Mathlib.Decide.{ℕ_discrete}
+use Rattle.map_table_laws.proofs.Prelude.{◌≡◌, ◌≢◌, ℕ, zero, suc, ◌+◌, ◌<◌, ◌≤◌, List, [], ◌∷◌, refl, sym, ap, ◌∙◌, subst, ⊎_elim, arith, eq-eqb, ne_eqb}
+use Rattle.map_table_laws.proofs.Prelude.{length, slice_index, dite, ℕ_discrete, Layout, Names, moves_of, word_in, word_after, word_at, key_of, Holds}
+use Rattle.map_table_laws.proofs.Prelude.{IsSpare, IsOpenTo, MayDo}
 use Rattle.map_table_laws.specs.declared.moves.Move.{Move}
 use Rattle.map_table_laws.specs.declared.moves.Move.TheVariants.{Open, Close, Learn, Load, Store, Put, Double, Scan}
-use Rattle.map_table_laws.specs.Layout.{Layout, Names}
-use Rattle.map_table_laws.specs.History.{moves_of, word_in, word_after, word_at, words_from, key_of, Holds, IsSpare}
-use Rattle.map_table_laws.specs.History.{IsOpenTo, MayDo}
+use Rattle.map_table_laws.specs.History.{words_from}
 
 -- the moves of one holder, after one more step
 pub own : (who : ℕ) (e : ℕ × Move) (es : List (ℕ × Move)) → e.0 ≡ who → moves_of who (e ∷ es) ≡ e.1 ∷ moves_of who es

@@ -1,16 +1,10 @@
 -- What a reader that learns ways in a section finds there.
-use Rattle.std.proofs.Common.{◌≡◌, ◌⊎◌, ℕ, ◌<◌, List, [], ◌∷◌, ◌++◌, refl, sym, ap, ◌∙◌, subst, ⊎_elim, inl, inr}
-use Rattle.std.specs.Prelude.{slice_index}
-use mathlib.Core.Logic.{dite}
-use native.Mathlib.Decide.{ℕ_discrete}
+use Rattle.map_table_laws.proofs.Prelude.{◌≡◌, ◌⊎◌, ℕ, ◌<◌, List, [], ◌∷◌, ◌++◌, refl, sym, ap, ◌∙◌, subst, ⊎_elim, inl, inr, slice_index, dite, ℕ_discrete}
+use Rattle.map_table_laws.proofs.Prelude.{Layout, Names, moves_of, inside, key_of, Holds, IsReader, MayDo, IsLawful, FoundIn, HadWord, IsLinkedUnder}
+use Rattle.map_table_laws.proofs.Prelude.{StaysInside, StaysFound, LookedAt, Meets}
 use Rattle.map_table_laws.specs.declared.moves.Move.{Move}
 use Rattle.map_table_laws.specs.declared.moves.Move.TheVariants.{Open, Close, Learn, Load, Store, Put, Double, Scan}
-use Rattle.map_table_laws.specs.Layout.{Layout, Names}
-use Rattle.map_table_laws.specs.History.{moves_of, inside, key_of, Holds, IsReader, MayDo, IsLawful}
-use Rattle.map_table_laws.specs.Lookups.{FoundIn, HadWord}
-use Rattle.map_table_laws.specs.Found.{IsLinkedUnder, StaysInside, StaysFound}
-use Rattle.map_table_laws.specs.Scanned.{LookedAt}
-use Rattle.map_table_laws.specs.Walks.{LearnsEach, MeetsNow, Meets}
+use Rattle.map_table_laws.specs.Walks.{LearnsEach, MeetsNow}
 use Rattle.map_table_laws.proofs.Steps.{own, others, key_step}
 use Rattle.map_table_laws.proofs.Words.{inside_same}
 use Rattle.map_table_laws.proofs.Holding.{spare_unheld}

@@ -1,12 +1,8 @@
 -- The words of an element that a reader holds stay while no reader stores in it.
-use Rattle.std.proofs.Common.{◌≡◌, ℕ, ◌≤◌, [], ◌∷◌, ◌++◌, refl, ap, ◌∙◌, subst, ⊎_elim, arith, ne_eqb}
-use mathlib.Core.Logic.{dite}
-use native.Mathlib.Decide.{ℕ_discrete}
+use Rattle.map_table_laws.proofs.Prelude.{◌≡◌, ℕ, ◌≤◌, [], ◌∷◌, ◌++◌, refl, ap, ◌∙◌, subst, ⊎_elim, arith, ne_eqb, dite, ℕ_discrete, Layout, moves_of}
+use Rattle.map_table_laws.proofs.Prelude.{word_after, word_at, Holds, IsSpare, IsOpenTo, MayDo, IsLawful, StaysInside}
 use Rattle.map_table_laws.specs.declared.moves.Move.{Move}
 use Rattle.map_table_laws.specs.declared.moves.Move.TheVariants.{Open, Close, Learn, Load, Store, Put, Double, Scan}
-use Rattle.map_table_laws.specs.Layout.{Layout}
-use Rattle.map_table_laws.specs.History.{moves_of, word_after, word_at, Holds, IsSpare, IsOpenTo, MayDo, IsLawful}
-use Rattle.map_table_laws.specs.Found.{StaysInside}
 use Rattle.map_table_laws.specs.Whole.{OnlyWriterStores}
 use Rattle.map_table_laws.proofs.Holding.{held, spare_unheld}
 use Rattle.map_table_laws.proofs.Moments.{History, inside_rest, holds_on}

@@ -1,12 +1,8 @@
 -- What section words tell.
-use Rattle.std.proofs.Common.{◌≡◌, ◌≢◌, ℕ, ◌+◌, ◌-◌, ◌*◌, ◌%◌, ◌^◌, ◌<◌, ◌≤◌, List, [], ◌∷◌, ◌++◌, refl, sym, ap, ◌∙◌, subst, arith}
-use Rattle.std.proofs.Math.Nat.{min-eq_left, min-eq_right}
-use mathlib.Core.Logic.{dite}
-use native.Mathlib.Decide.{dec_lt}
+use Rattle.map_table_laws.proofs.Prelude.{◌≡◌, ◌≢◌, ℕ, ◌+◌, ◌-◌, ◌*◌, ◌%◌, ◌^◌, ◌<◌, ◌≤◌, List, [], ◌∷◌, ◌++◌, refl, sym, ap, ◌∙◌, subst, arith, min-eq_left}
+use Rattle.map_table_laws.proofs.Prelude.{min-eq_right, dite, dec_lt, inside, opened, section_word, StaysInside}
 use Rattle.map_table_laws.specs.declared.moves.Move.{Move}
 use Rattle.map_table_laws.specs.declared.moves.Move.TheVariants.{Open, Close, Learn, Load, Store, Put, Double, Scan}
-use Rattle.map_table_laws.specs.History.{inside, opened, section_word}
-use Rattle.map_table_laws.specs.Found.{StaysInside}
 
 pub inside_small : (ms : List Move) → inside ms ≤ 1
 inside_small [] = omega arith

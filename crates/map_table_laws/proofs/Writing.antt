@@ -1,14 +1,11 @@
 -- What the writer does to keys that are linked, and to elements that are to be filled anew.
-use Rattle.std.proofs.Common.{◌≡◌, ◌≢◌, ◌⊎◌, ℕ, ◌%◌, ◌<◌, ◌≤◌, List, [], ◌∷◌, ◌++◌, refl, sym, ap, ◌∙◌, subst, ⊎_elim, inl, inr, arith}
-use mathlib.Core.Logic.{dite}
-use native.Mathlib.Decide.{ℕ_discrete}
+use Rattle.map_table_laws.proofs.Prelude.{◌≡◌, ◌≢◌, ◌⊎◌, ℕ, ◌%◌, ◌<◌, ◌≤◌, List, [], ◌∷◌, ◌++◌, refl, sym, ap, ◌∙◌, subst, ⊎_elim, inl, inr, arith, dite}
+use Rattle.map_table_laws.proofs.Prelude.{ℕ_discrete, Layout, Names, moves_of, word_in, IsLinked, Holds, FoundSince, HasLeft, Cleared, IsSpare, IsOpenTo}
+use Rattle.map_table_laws.proofs.Prelude.{MayDo, MayLink, IsLawful, Refuted, FoundIn, IsLinkedUnder, Throughout, StaysFound, BearsKey, KeepsKey, OnlyReplaces}
+use Rattle.map_table_laws.proofs.Prelude.{OnlyScans, FoundOther, FoundGone, LookedAt}
 use Rattle.map_table_laws.specs.declared.moves.Move.{Move}
 use Rattle.map_table_laws.specs.declared.moves.Move.TheVariants.{Open, Close, Learn, Load, Store, Put, Double, Scan}
-use Rattle.map_table_laws.specs.Layout.{Layout, Names}
-use Rattle.map_table_laws.specs.History.{moves_of, word_in, IsLinked, Holds, FoundSince, HasLeft, Cleared, IsSpare, IsOpenTo, MayDo, MayLink, IsLawful}
-use Rattle.map_table_laws.specs.Lookups.{Refuted, FoundIn}
-use Rattle.map_table_laws.specs.Found.{IsLinkedUnder, Throughout, StaysFound, BearsKey, KeepsKey, OnlyReplaces}
-use Rattle.map_table_laws.specs.Scanned.{OnlyScans, FoundOutside, FoundOther, FoundGone, AllOutside, LookedAt}
+use Rattle.map_table_laws.specs.Scanned.{FoundOutside, AllOutside}
 use Rattle.map_table_laws.proofs.Steps.{key_step, put_here, one_name, nothing_named}
 use Rattle.map_table_laws.proofs.Holding.{held, spare_unheld}
 use Rattle.map_table_laws.proofs.Standing.{Quiet, Putting, Doubling, Changed, step, here_at}

@@ -1,12 +1,8 @@
 -- Names of maps among the texts that a set keeps.
-use Rattle.std.proofs.Common.{◌≡◌, ◌<◌, ℕ, zero, suc, ap, ◌∙◌, refl, sym, arith, Bool, true, List, map}
-use Rattle.std.specs.Prelude.{[], ◌∷◌, ◌++◌, ◌||◌, ◌&&◌, Some, None, not, ◌+◌, position, cond, nat_le, nat_lt, length}
-use Rattle.std.specs.Prelude.{slice_get, slice_index}
-use Rattle.std.specs.List.{list_all, list_any, position_or_len, prefix_len, AllZip}
-use Rattle.std.specs.Str.{IsAscii}
-use Rattle.std.proofs.lemmas.Bool.{and_parts}
-use Rattle.std.proofs.lemmas.Bool.Decides.{nat_tests}
-use Rattle.std.proofs.lemmas.List.{map-append, length-append, length-map}
+use Rattle.bpf_model.proofs.Prelude.{◌≡◌, ◌<◌, ℕ, zero, suc, ap, ◌∙◌, refl, sym, arith, Bool, true, List, map, [], ◌∷◌, ◌++◌, ◌||◌, ◌&&◌, Some, None, not}
+use Rattle.bpf_model.proofs.Prelude.{◌+◌, position, cond, nat_le, nat_lt, length, slice_get, slice_index, list_all, list_any, position_or_len, prefix_len}
+use Rattle.bpf_model.proofs.Prelude.{IsAscii, and_parts, nat_tests, map-append, length-append, length-map}
+use Rattle.std.specs.List.{AllZip}
 use Rattle.maps.specs.Registry.{begins_with_letter, is_name, is_name_character, longest_name}
 
 pub any_named : {A B : Type 0} (v : A → B) (test : B → Bool) (xs : List A) → list_any (λ x. test (v x)) xs ≡ list_any test (map v xs)

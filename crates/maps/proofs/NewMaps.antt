@@ -1,9 +1,7 @@
 -- The maps of a world that nothing has used.
-use Rattle.std.proofs.Common.{◌∙◌, List, [], ◌∷◌, ◌++◌, map, sym, ap}
-use Rattle.std.proofs.lemmas.List.{map-append}
-use Rattle.bpf_model.specs.declared.limits.MapShape.{MapShape}
+use Rattle.bpf_model.proofs.Prelude.{◌∙◌, List, [], ◌∷◌, ◌++◌, map, sym, ap, map-append, AreNewMaps, MapView, new_map_view, shapes_of_maps}
+use Rattle.model_laws.proofs.Prelude.{MapShape}
 use Rattle.model_laws.proofs.Starting.{shapes-start}
-use Rattle.bpf_model.specs.View.{AreNewMaps, MapView, new_map_view, shapes_of_maps}
 
 -- a new map is new, and leaves the others new
 pub new-more : (maps : List MapView) (shape : MapShape) → AreNewMaps maps → AreNewMaps (maps ++ new_map_view shape ∷ [])

@@ -1,6 +1,5 @@
 -- What holds of what an option has.
-use Rattle.std.proofs.Common.{ℕ, Option, Some, None}
-use Rattle.std.specs.Prelude.{IfSome, IfNone}
+use Rattle.bpf_model.proofs.Prelude.{ℕ, Option, Some, None, IfSome, IfNone}
 
 pub some-both : (o : Option ℕ) (P Q R : ℕ → Type 0) → IfSome o P → IfSome o Q → ((i : ℕ) → P i → Q i → R i) → IfSome o R
 some-both None P Q R p q h = tt

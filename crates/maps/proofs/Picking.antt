@@ -1,15 +1,10 @@
 -- The first ready slot of the maps of a registry, from one map on.
-use Rattle.std.proofs.Common.{◌≡◌, ◌∙◌, ℕ, suc, List, [], ◌∷◌, drop, Option, Some, sym, ap}
-use Rattle.std.specs.Prelude.{slice_get, slice_set}
-use Rattle.std.proofs.lemmas.Option.{none-some, same_Some}
+use Rattle.bpf_model.proofs.Prelude.{◌≡◌, ◌∙◌, ℕ, suc, List, [], ◌∷◌, drop, Option, Some, sym, ap, slice_get, slice_set, none-some, same_Some, MapView}
+use Rattle.bpf_model.proofs.Prelude.{key_in, drop-next}
+use Rattle.model_laws.proofs.Prelude.{Given, ReapedElement, Pick, or_pick, first_pick}
 use Rattle.arrayvec.specs.ArrayVec.{ArrayVec}
-use Rattle.bpf_model.specs.declared.event.Given.{Given}
-use Rattle.bpf_model.specs.declared.event.ReapedElement.{ReapedElement}
-use Rattle.bpf_model.specs.View.{MapView, key_in}
-use Rattle.model_laws.specs.Reactions.{Pick, or_pick, first_pick}
 use Rattle.maps.specs.Picking.{IsPicked}
 use Rattle.map_kinds.specs.Shown.{IsReaped}
-use Rattle.bpf_model.proofs.Lists.{drop-next}
 
 -- the maps before map i have nothing that is ready
 abbrev pub NoneReadyBefore : List MapView → ℕ → Type 0

@@ -1,53 +1,27 @@
 -- Each map slot is free, holds an element that isn't reclaimed, or is worn out.
-use Rattle.std.proofs.Common.{◌≡◌, ◌≢◌, ℕ, zero, suc, ◌+◌, ◌*◌, ◌<◌, ◌≤◌, List, [], ◌∷◌, ◌++◌, length, replicate}
-use Rattle.std.proofs.Common.{Option, Some, None, inl, inr, refl, sym, ap, ◌∙◌, arith, subst, Result, Bool, true}
-use Rattle.std.proofs.Common.{false}
-use Rattle.std.specs.Prelude.{slice_get, slice_set, ◌↔◌, ◌==◌, not, if◌then◌else◌}
-use Rattle.std.specs.List.{sum_by}
-use Rattle.std.proofs.Math.Nat.{add-mul}
+use Rattle.bpf_model.proofs.Prelude.{◌≡◌, ◌≢◌, ℕ, zero, suc, ◌+◌, ◌*◌, ◌<◌, ◌≤◌, List, [], ◌∷◌, ◌++◌, length, replicate, Option, Some, None, inl, inr, refl}
+use Rattle.bpf_model.proofs.Prelude.{sym, ap, ◌∙◌, arith, subst, Result, Bool, true, false, slice_get, slice_set, ◌↔◌, ◌==◌, not, if◌then◌else◌, sum_by}
+use Rattle.bpf_model.proofs.Prelude.{add-mul, cases_eq, eqb-true, eq-eqb, false≢true, and_parts, sum_by-cons, sum_by-append, sum_by_push, sum_by-replicate}
+use Rattle.bpf_model.proofs.Prelude.{length-append, length-replicate, nil_from_length, helper_of, Section, Element, Linked, is_reclaimed, Unlinked, Reclaimed}
+use Rattle.bpf_model.proofs.Prelude.{unlinked, with_life, with_value, set_to, newborn, overwritten, MapState, Store, new_map, with_bag, with_elements}
+use Rattle.bpf_model.proofs.Prelude.{with_given, given_of, returned, most_births, LooksUp, Replaces, Settles, Updates, Removes, Deletes, Writes, RemovesFrom}
+use Rattle.bpf_model.proofs.Prelude.{Reclaims, Run, Machine, Loaded, environment, open_sections, start_machine, Schedule, IsScheduledHistory, start_schedule}
+use Rattle.bpf_model.proofs.Prelude.{times, IsReachedSchedule, IsShape, AreShapes, slots_of_shape, new_bag, all_new_elements, get-append_cases, get-set_cases}
+use Rattle.bpf_model.proofs.Prelude.{last_of}
+use Rattle.model_laws.proofs.Prelude.{Insn, Call, Helper, Errno, Event, Answer, Given, Free, Worn, MapShape, Value, MapKind, Hash, Array, StepsByKind}
+use Rattle.model_laws.proofs.Prelude.{HelperStep, kept_count, born_count, IsFull}
 use Rattle.std.proofs.Math.Numerals.{lt_of_le_of_ne}
-use Rattle.std.proofs.lemmas.Bool.{cases_eq, eqb-true, eq-eqb, false≢true, and_parts}
-use Rattle.std.proofs.lemmas.List.Sums.{sum_by-cons, sum_by-append, sum_by_push}
-use Rattle.std.proofs.lemmas.List.Folds.{sum_by-replicate}
-use Rattle.std.proofs.lemmas.List.{length-append, length-replicate, nil_from_length}
-use Rattle.bpf_model.specs.declared.insn.Insn.{Insn}
-use Rattle.bpf_model.specs.declared.insn.Insn.TheVariants.{Call}
 use Rattle.bpf_model.specs.declared.insn.CallKind.TheVariants as kinds
-use Rattle.bpf_model.specs.declared.call.Helper.{Helper}
 use Rattle.bpf_model.specs.declared.call.Helper.TheVariants as helpers
-use Rattle.bpf_model.specs.declared.call.Errno.{Errno}
-use Rattle.bpf_model.specs.declared.event.Event.{Event}
-use Rattle.bpf_model.specs.declared.event.Answer.{Answer}
-use Rattle.bpf_model.specs.declared.event.Given.{Given}
-use Rattle.bpf_model.specs.declared.event.Given.TheVariants.{Free, Worn}
-use Rattle.bpf_model.specs.declared.limits.MapShape.{MapShape}
-use Rattle.bpf_model.specs.declared.value.Value.{Value}
-use Rattle.bpf_model.specs.Call.{helper_of}
-use Rattle.bpf_model.specs.Section.{Section}
-use Rattle.bpf_model.specs.Element.{Element, Linked, is_reclaimed, Unlinked, Reclaimed, unlinked, with_life, with_value, set_to, newborn, overwritten}
-use Rattle.bpf_model.specs.MapState.{MapState, Store, TakesOut, new_map, with_bag, with_elements, with_given, given_of, returned}
-use Rattle.bpf_model.specs.Shapes.{most_births}
-use Rattle.bpf_model.specs.Helper.{LooksUp, Replaces, Settles, Updates, Removes, Deletes, Writes, RemovesFrom}
-use Rattle.bpf_model.specs.declared.limits.MapKind.{MapKind}
-use Rattle.bpf_model.specs.declared.limits.MapKind.TheVariants.{Hash, Array}
-use Rattle.bpf_model.specs.Reclaim.{Reclaims}
-use Rattle.bpf_model.specs.Machine.{Run, Machine, Loaded, environment, open_sections, start_machine}
+use Rattle.bpf_model.specs.MapState.{TakesOut}
 use Rattle.model_laws.proofs.Changing.{StoreChange, ByUpdate, ByDelete, ByReclaim, Change, Still, Begins, Steps, Stores, Leaves, change}
-use Rattle.model_laws.specs.ByKind.{StepsByKind, HelperStep}
-use Rattle.bpf_model.specs.Schedule.{Schedule, IsScheduledHistory, start_schedule}
-use Rattle.bpf_model.specs.Refines.{times, IsReachedSchedule}
-use Rattle.model_laws.specs.Accounted.{kept_count, born_count, IsFull}
 use Rattle.model_laws.proofs.Stores.{Touches, touches-found, touches-acts, shape-given}
-use Rattle.bpf_model.specs.Shapes.{IsArrayShape, IsShape, AreShapes}
-use Rattle.bpf_model.specs.MapState.{slots_of_shape, new_bag, all_new_elements}
+use Rattle.bpf_model.specs.Shapes.{IsArrayShape}
 use Rattle.model_laws.proofs.NewElements.{new_count, new-once, fresh-counts, born-new}
 use Rattle.model_laws.proofs.Counting.{map-back, times-append, times-first, times-other}
-use Rattle.model_laws.proofs.Tallies.{one_of, count-set, sum-set, uses_of, is_kept, of-same, of-other, kept-touched}
-use Rattle.model_laws.proofs.Tallies.{kept-born, kept-reclaimed, kept-kinds, kept_uses, uses-touched, born-touched}
-use Rattle.model_laws.proofs.Tallies.{kept-was, kept-is, uses-here, uses-away, uses-born, born-born, uses-reclaimed}
+use Rattle.model_laws.proofs.Tallies.{one_of, count-set, sum-set, uses_of, is_kept, of-same, of-other, kept-touched, kept-born, kept-reclaimed, kept-kinds}
+use Rattle.model_laws.proofs.Tallies.{kept_uses, uses-touched, born-touched, kept-was, kept-is, uses-here, uses-away, uses-born, born-born, uses-reclaimed}
 use Rattle.model_laws.proofs.Tallies.{born-reclaimed, uses-most}
-use Rattle.bpf_model.proofs.Lists.{get-append_cases, get-set_cases}
-use Rattle.bpf_model.specs.History.{last_of}
 use Rattle.model_laws.proofs.Requests.{run_by_kind}
 
 abbrev total : List ℕ → ℕ

@@ -1,13 +1,8 @@
 -- Two advances that met no open section.
-use Rattle.std.proofs.Common.{◌≡◌, ℕ, zero, suc, List, [], ◌∷◌, ◌++◌, Option, Some, None, Bool, true, false, refl, ap, ◌∙◌, map}
-use Rattle.std.specs.Prelude.{slice_get, if◌then◌else◌}
-use Rattle.bpf_model.specs.declared.event.Event.TheVariants.{Advance}
-use Rattle.bpf_model.specs.declared.event.Answer.{Answer}
-use Rattle.bpf_model.specs.declared.event.Answer.TheVariants.{Done}
-use Rattle.bpf_model.specs.Section.{Section}
-use Rattle.bpf_model.specs.Machine.{Run, Machine, open_sections, is_inside, section_of}
-use Rattle.bpf_model.specs.Event.{PerformsEvent}
-use Rattle.bpf_model.specs.Schedule.{Queues, Schedule, open_flags, is_any, turned, advanced, DoesScheduled}
+use Rattle.bpf_model.proofs.Prelude.{◌≡◌, ℕ, zero, suc, List, [], ◌∷◌, ◌++◌, Option, Some, None, Bool, true, false, refl, ap, ◌∙◌, map, slice_get}
+use Rattle.bpf_model.proofs.Prelude.{if◌then◌else◌, Section, Run, Machine, open_sections, is_inside, section_of, PerformsEvent, Queues, Schedule, open_flags}
+use Rattle.bpf_model.proofs.Prelude.{is_any, turned, advanced, DoesScheduled}
+use Rattle.model_laws.proofs.Prelude.{Advance, Answer, Done}
 
 no_flag-at : (b : Bool) (s : Section) (rest : List Section) (flags : List Bool) → (if b then s ∷ rest else rest) ≡ []
     → (rest ≡ [] → is_any flags ≡ false) → is_any (b ∷ flags) ≡ false

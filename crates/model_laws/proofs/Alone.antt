@@ -1,35 +1,14 @@
 -- A run that shares nothing makes its steps whatever the maps are, and leaves them as they are.
-use Rattle.std.proofs.Common.{◌≡◌, ℕ, ◌-◌, List, [], ◌∷◌, Option, Some, None, cond, Bool, true, false, inl, inr, refl, sym, ap, ◌∙◌, subst, ℤ}
-use Rattle.std.specs.Prelude.{◌==◌, nat_lt}
-use Rattle.std.specs.List.{AllByRecursion}
-use Rattle.std.proofs.lemmas.Bool.{false≢true}
-use Rattle.std.proofs.lemmas.Option.{none-some, same_Some}
-use Rattle.bpf_model.specs.declared.insn.Insn.{Insn}
-use Rattle.bpf_model.specs.declared.insn.Insn.TheVariants.{Call, Load, LoadSigned, Store}
+use Rattle.bpf_model.proofs.Prelude.{◌≡◌, ℕ, ◌-◌, List, [], ◌∷◌, Option, Some, None, cond, Bool, true, false, inl, inr, refl, sym, ap, ◌∙◌, subst, ℤ, ◌==◌}
+use Rattle.bpf_model.proofs.Prelude.{nat_lt, AllByRecursion, false≢true, none-some, same_Some, ◌>>=◌, reference, byte_count, unsigned_width, operand_value}
+use Rattle.bpf_model.proofs.Prelude.{slot_count, State, Environment, Outcome, Moves, Exits, after, insn_at, helper_of, kernel_function_of, names_map}
+use Rattle.bpf_model.proofs.Prelude.{HasNoMaps, Section, Element, Loaded, Run, environment, fresh_run, OutcomeStep, RunStep}
+use Rattle.model_laws.proofs.Prelude.{Insn, Call, Load, LoadSigned, Store, Helper, KernelFunction, ReadLock, ReadUnlock, Answer, Value, Nothing, Number}
+use Rattle.model_laws.proofs.Prelude.{Pointer, Ctx, Frame, MapRef, Elem, StepsByKind, Acts, AccessesElement, KernelStep, HelperStep, element_load}
+use Rattle.model_laws.proofs.Prelude.{element_store, bound_map, HoldsValue, HoldsState, IsOwn, SharesNothing}
 use Rattle.bpf_model.specs.declared.insn.CallKind.TheVariants as kinds
-use Rattle.bpf_model.specs.declared.call.Helper.{Helper}
 use Rattle.bpf_model.specs.declared.call.Helper.TheVariants as helpers
-use Rattle.bpf_model.specs.declared.call.KernelFunction.{KernelFunction}
-use Rattle.bpf_model.specs.declared.call.KernelFunction.TheVariants.{ReadLock, ReadUnlock}
-use Rattle.bpf_model.specs.declared.event.Answer.{Answer}
-use Rattle.bpf_model.specs.declared.value.Value.{Value}
-use Rattle.bpf_model.specs.declared.value.Value.TheVariants.{Nothing, Number, Pointer}
-use Rattle.bpf_model.specs.declared.value.Reference.TheVariants.{Ctx, Frame, MapRef, Elem}
-use Rattle.bpf_model.specs.Value.{◌>>=◌, reference}
-use Rattle.bpf_model.specs.Access.{byte_count, unsigned_width}
-use Rattle.bpf_model.specs.Operand.{operand_value}
-use Rattle.bpf_model.specs.Step.{slot_count}
-use Rattle.bpf_model.specs.Step.{State, Environment, Outcome, Moves, Exits, after, insn_at}
-use Rattle.bpf_model.specs.Call.{helper_of, kernel_function_of}
-use Rattle.bpf_model.specs.Exit.{names_map, HasNoMaps}
-use Rattle.bpf_model.specs.Section.{Section}
-use Rattle.bpf_model.specs.Element.{Element}
 use Rattle.bpf_model.specs.MapState as map_state
-use Rattle.bpf_model.specs.Machine.{Loaded, Run, environment, fresh_run}
-use Rattle.model_laws.specs.ByKind.{StepsByKind, Acts, AccessesElement, KernelStep, HelperStep, element_load, element_store, bound_map}
-use Rattle.bpf_model.specs.MachineStep.{OutcomeStep, RunStep}
-use Rattle.model_laws.specs.Holds.{HoldsValue, HoldsState}
-use Rattle.model_laws.specs.Alone.{IsOwn, SharesNothing}
 use Rattle.model_laws.proofs.Holding.{Closed, HoldsOutcome, holds-entry, holds-after, holds-returns}
 use Rattle.model_laws.proofs.Requests.{by_kind, of_kind}
 

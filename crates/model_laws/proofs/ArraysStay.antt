@@ -1,42 +1,18 @@
 -- The elements of arrays stay linked in each step of the machine.
-use Rattle.std.proofs.Common.{◌≡◌, ℕ, false, List, ◌++◌, length, ◌<◌, arith, Option, Some, None, inl, inr, refl, sym, ap, ◌∙◌, subst, Result, ℤ, ◌+ℤ◌}
-use Rattle.std.specs.Prelude.{slice_get, slice_set}
-use Rattle.std.proofs.lemmas.Option.{none-some, same_Some, slice_get_within}
-use Rattle.bpf_model.specs.declared.insn.Insn.{Insn}
-use Rattle.bpf_model.specs.declared.insn.Insn.TheVariants.{Call, Load, LoadSigned, Store}
+use Rattle.bpf_model.proofs.Prelude.{◌≡◌, ℕ, false, List, ◌++◌, length, ◌<◌, arith, Option, Some, None, inl, inr, refl, sym, ap, ◌∙◌, subst, Result, ℤ, ◌+ℤ◌}
+use Rattle.bpf_model.proofs.Prelude.{slice_get, slice_set, none-some, same_Some, slice_get_within, operand_value, byte_count, region_offset, helper_of, State}
+use Rattle.bpf_model.proofs.Prelude.{Environment, Outcome, Section, Element, Unlinked, Reclaimed, with_value, with_life, set_to, accessible, changed}
+use Rattle.bpf_model.proofs.Prelude.{overwritten, unlinked, MapState, LooksUp, Writes, Settles, Updates, RemovesFrom, Deletes, Reclaims, Run, Machine}
+use Rattle.bpf_model.proofs.Prelude.{environment, open_sections, stored_in, with_bytes, DoesEvent, get-append, get-below, get-set_cases}
+use Rattle.model_laws.proofs.Prelude.{Insn, Call, Load, LoadSigned, Store, Helper, Errno, Event, Answer, Given, MapKind, Hash, Array, Value, Nothing, Number}
+use Rattle.model_laws.proofs.Prelude.{Pointer, Ctx, Frame, MapRef, Elem, StepsByKind, AccessesElement, Acts, HelperStep, element_store, StaysLinked}
 use Rattle.bpf_model.specs.declared.insn.CallKind.TheVariants as kinds
-use Rattle.bpf_model.specs.declared.call.Helper.{Helper}
 use Rattle.bpf_model.specs.declared.call.Helper.TheVariants as helpers
-use Rattle.bpf_model.specs.declared.call.Errno.{Errno}
-use Rattle.bpf_model.specs.declared.event.Event.{Event}
-use Rattle.bpf_model.specs.declared.event.Answer.{Answer}
-use Rattle.bpf_model.specs.declared.event.Given.{Given}
-use Rattle.bpf_model.specs.declared.limits.MapKind.{MapKind}
-use Rattle.bpf_model.specs.declared.limits.MapKind.TheVariants.{Hash, Array}
-use Rattle.bpf_model.specs.declared.value.Value.{Value}
-use Rattle.bpf_model.specs.declared.value.Value.TheVariants.{Nothing, Number, Pointer}
-use Rattle.bpf_model.specs.declared.value.Reference.TheVariants.{Ctx, Frame, MapRef, Elem}
-use Rattle.bpf_model.specs.Operand.{operand_value}
-use Rattle.bpf_model.specs.Access.{byte_count, region_offset}
-use Rattle.bpf_model.specs.Call.{helper_of}
-use Rattle.bpf_model.specs.Step.{State, Environment, Outcome}
-use Rattle.bpf_model.specs.Section.{Section}
-use Rattle.bpf_model.specs.Element.{Element, Unlinked, Reclaimed, with_value, with_life, set_to, accessible, changed, overwritten, unlinked}
 use Rattle.bpf_model.specs.MapState as map_state
-use Rattle.bpf_model.specs.MapState.{MapState}
-use Rattle.bpf_model.specs.Helper.{LooksUp, Writes, Settles, Updates, RemovesFrom, Deletes}
-use Rattle.bpf_model.specs.Reclaim.{Reclaims}
-use Rattle.bpf_model.specs.Machine.{Run, Machine, environment, open_sections}
 use Rattle.model_laws.proofs.Changing.{StoreChange, ByUpdate, ByDelete, ByReclaim, Change, Still, Begins, Steps, Stores, Leaves, change}
-use Rattle.model_laws.specs.ByKind.{StepsByKind, AccessesElement, Acts, HelperStep, element_store}
-use Rattle.bpf_model.specs.Element.{stored_in}
-use Rattle.bpf_model.specs.Access.{with_bytes}
-use Rattle.model_laws.specs.Consistent.{StaysLinked}
-use Rattle.bpf_model.specs.Event.{DoesEvent}
 use Rattle.model_laws.proofs.Computations.{first-step}
 use Rattle.model_laws.proofs.Lives.{linked≢unlinked}
 use Rattle.model_laws.proofs.Stores.{touches-found}
-use Rattle.bpf_model.proofs.Lists.{get-append, get-below, get-set_cases}
 use Rattle.model_laws.proofs.Requests.{run_by_kind}
 
 -- each element that was there and is of no array, or linked, is so afterwards

@@ -1,15 +1,7 @@
 -- An element is unlinked before it is reclaimed.
-use Rattle.std.proofs.Common.{◌≡◌, ℕ, zero, suc, ◌<◌, List, [], ◌∷◌, Some, ◌⊎◌, inl, inr, refl, sym, ap, ◌∙◌, arith, subst, Bool}
-use Rattle.std.specs.Prelude.{slice_get}
-use Rattle.std.proofs.lemmas.Option.{none-some, same_Some}
-use Rattle.bpf_model.specs.declared.event.Event.{Event}
-use Rattle.bpf_model.specs.declared.event.Answer.{Answer}
-use Rattle.bpf_model.specs.Section.{Section}
-use Rattle.bpf_model.specs.Element.{Element, Life, Linked, Unlinked, Reclaimed, HasLife}
-use Rattle.bpf_model.specs.Machine.{Machine, open_sections}
-use Rattle.bpf_model.specs.Event.{DoesEvent}
-use Rattle.bpf_model.specs.History.{IsHistory}
-use Rattle.model_laws.specs.Consistent.{IsConsistent}
+use Rattle.bpf_model.proofs.Prelude.{◌≡◌, ℕ, zero, suc, ◌<◌, List, [], ◌∷◌, Some, ◌⊎◌, inl, inr, refl, sym, ap, ◌∙◌, arith, subst, Bool, slice_get, none-some}
+use Rattle.bpf_model.proofs.Prelude.{same_Some, Section, Element, Life, Linked, Unlinked, Reclaimed, HasLife, Machine, open_sections, DoesEvent, IsHistory}
+use Rattle.model_laws.proofs.Prelude.{Event, Answer, IsConsistent}
 use Rattle.bpf_model.specs.Headline.{IsUnlinkedBetween}
 use Rattle.model_laws.proofs.Changing.{is_reap}
 use Rattle.model_laws.proofs.Stores.{LifeMoves, Stays, Unlinks, Ends, does-moves}

@@ -1,18 +1,7 @@
 -- A step of a run makes no reference to an element that was never born.
-use Rattle.std.proofs.Common.{◌≡◌, ℕ, ◌≤◌, List, sym, subst, arith}
-use Rattle.bpf_model.specs.declared.insn.Insn.{Insn}
-use Rattle.bpf_model.specs.declared.value.Value.{Value}
-use Rattle.bpf_model.specs.declared.value.Value.TheVariants.{Nothing, Number, Pointer}
-use Rattle.bpf_model.specs.declared.value.Reference.{Reference}
-use Rattle.bpf_model.specs.declared.value.Reference.TheVariants.{Ctx, Frame, MapRef, Elem}
-use Rattle.bpf_model.specs.declared.value.Cell.{Cell}
-use Rattle.bpf_model.specs.declared.value.Cell.TheVariants.{Unwritten, Byte, Part}
-use Rattle.bpf_model.specs.Step.{State, Environment, Outcome, entry}
-use Rattle.model_laws.specs.Consistent.{IsBorn, IsBornValue, IsBornCell}
-use Rattle.bpf_model.specs.Element.{Element}
-use Rattle.model_laws.specs.ByKind.{Acts}
-use Rattle.bpf_model.specs.Step.{returns}
-use Rattle.model_laws.specs.Holds.{HoldsState}
+use Rattle.bpf_model.proofs.Prelude.{◌≡◌, ℕ, ◌≤◌, List, sym, subst, arith, State, Environment, Outcome, entry, Element, returns}
+use Rattle.model_laws.proofs.Prelude.{Insn, Value, Nothing, Number, Pointer, Reference, Ctx, Frame, MapRef, Elem, Cell, Unwritten, Byte, Part, IsBorn}
+use Rattle.model_laws.proofs.Prelude.{IsBornValue, IsBornCell, Acts, HoldsState}
 use Rattle.model_laws.proofs.Holding.{Closed, HoldsOutcome, holds-entry, holds-acts, holds-returns}
 
 -- each register and each cell of a state

@@ -1,24 +1,13 @@
 -- A world reclaims no more elements than its map slots can bear.
-use Rattle.std.proofs.Common.{◌≡◌, ℕ, suc, ◌+◌, ◌<◌, ◌≤◌, List, [], ◌∷◌, length, Some, inl, inr, refl, sym, ap, ◌∙◌, arith, subst}
-use Rattle.std.specs.Prelude.{slice_get, ◌==◌, count_by}
-use Rattle.std.specs.List.{sum_by}
-use Rattle.std.proofs.lemmas.Bool.{cases_eq}
-use Rattle.std.proofs.lemmas.Option.{slice_get_within}
-use Rattle.std.proofs.lemmas.List.{length-map}
-use Rattle.std.proofs.lemmas.List.Sums.{sum_by-cons}
-use Rattle.bpf_model.specs.declared.limits.MapShape.{MapShape}
-use Rattle.bpf_model.specs.Element.{Element, is_reclaimed}
-use Rattle.bpf_model.specs.MapState.{MapState}
-use Rattle.bpf_model.specs.Shapes.{most_births}
-use Rattle.bpf_model.specs.Schedule.{Schedule}
-use Rattle.bpf_model.specs.View.{shape_of_view as shape, WorldView, shapes_of}
-use Rattle.bpf_model.specs.Refines.{TracksSchedule}
-use Rattle.model_laws.specs.Accounted.{born_count}
+use Rattle.bpf_model.proofs.Prelude.{◌≡◌, ℕ, suc, ◌+◌, ◌<◌, ◌≤◌, List, [], ◌∷◌, length, Some, inl, inr, refl, sym, ap, ◌∙◌, arith, subst, slice_get, ◌==◌}
+use Rattle.bpf_model.proofs.Prelude.{count_by, sum_by, cases_eq, slice_get_within, length-map, sum_by-cons, Element, is_reclaimed, MapState, most_births}
+use Rattle.bpf_model.proofs.Prelude.{Schedule, WorldView, shapes_of, TracksSchedule, get-below}
+use Rattle.model_laws.proofs.Prelude.{MapShape, born_count}
+use Rattle.bpf_model.specs.View.{shape_of_view as shape}
 use Rattle.model_laws.proofs.Counting.{map-back}
 use Rattle.model_laws.proofs.Tallies.{of_map, of-same, of-other, count-cons, one-most}
 use Rattle.model_laws.proofs.Reached.{tracked_is_scheduled}
 use Rattle.model_laws.proofs.Accounting.{births_bounded}
-use Rattle.bpf_model.proofs.Lists.{get-below}
 
 -- the births of all maps of a list, the first of which is map k
 abbrev born_from : ℕ → List MapShape → List Element → ℕ

@@ -1,24 +1,12 @@
 -- What an event changes: nothing, the runs, a run that steps, or the store. A law of all events goes by this, so an event that
 -- changes no more than another one does asks for no case of its own.
-use Rattle.std.proofs.Common.{◌≡◌, ℕ, ◌+◌, List, Option, Some, None, Bool, true, false, refl, ap, ◌∙◌, arith, Result}
-use Rattle.std.specs.Prelude.{slice_set, ◌==◌, if◌then◌else◌}
+use Rattle.bpf_model.proofs.Prelude.{◌≡◌, ℕ, ◌+◌, List, Option, Some, None, Bool, true, false, refl, ap, ◌∙◌, arith, Result, slice_set, ◌==◌, if◌then◌else◌}
+use Rattle.bpf_model.proofs.Prelude.{Section, Element, Store, Updates, Deletes, Reclaims, Machine, open_sections, with_store, with_runs, StepsRun}
+use Rattle.bpf_model.proofs.Prelude.{PerformsEvent, Answers, DoesEvent, Starts, refusal, moved_once, moves_after}
+use Rattle.model_laws.proofs.Prelude.{Errno, Event, Answer, EventRefusal, Given}
 use Rattle.arrayvec.specs.ArrayVec.{ArrayVec}
-use Rattle.bpf_model.specs.declared.call.Errno.{Errno}
-use Rattle.bpf_model.specs.declared.event.Event.{Event}
 use Rattle.bpf_model.specs.declared.event.Event.TheVariants as events
-use Rattle.bpf_model.specs.declared.event.Answer.{Answer}
 use Rattle.bpf_model.specs.declared.event.Answer.TheVariants as answers
-use Rattle.bpf_model.specs.declared.event.EventRefusal.{EventRefusal}
-use Rattle.bpf_model.specs.declared.event.Given.{Given}
-use Rattle.bpf_model.specs.Section.{Section}
-use Rattle.bpf_model.specs.Element.{Element}
-use Rattle.bpf_model.specs.MapState.{Store}
-use Rattle.bpf_model.specs.Helper.{Updates, Deletes}
-use Rattle.bpf_model.specs.Reclaim.{Reclaims}
-use Rattle.bpf_model.specs.Machine.{Machine, open_sections, with_store, with_runs}
-use Rattle.bpf_model.specs.MachineStep.{StepsRun}
-use Rattle.bpf_model.specs.Event.{PerformsEvent, Answers, DoesEvent, Starts, refusal}
-use Rattle.bpf_model.specs.Headline.{moved_once, moves_after}
 
 abbrev pub is_reap : Event → Bool
 is_reap events.Reap = true

@@ -1,7 +1,6 @@
 -- The first of the tests of an update that fails, where none does.
-use Rattle.std.proofs.Common.{◌≡◌, ℕ, List, [], ◌∷◌, length, None, Some, refl, Bool, true, false}
-use Rattle.std.specs.Prelude.{◌==◌, if◌then◌else◌}
-use Rattle.bpf_model.specs.declared.call.Errno.{Errno}
+use Rattle.bpf_model.proofs.Prelude.{◌≡◌, ℕ, List, [], ◌∷◌, length, None, Some, refl, Bool, true, false, ◌==◌, if◌then◌else◌}
+use Rattle.model_laws.proofs.Prelude.{Errno}
 
 -- where a map slot is free, one is the first
 pub bag-has : (bag : List ℕ) → (length bag == 0) ≡ false → (c : ℕ) × (rest : List ℕ) × (bag ≡ c ∷ rest)

@@ -1,6 +1,5 @@
 -- Computations that may be stuck.
-use Rattle.std.proofs.Common.{◌≡◌, Option, Some, None, refl, ap}
-use Rattle.bpf_model.specs.Value.{◌>>=◌}
+use Rattle.bpf_model.proofs.Prelude.{◌≡◌, Option, Some, None, refl, ap, ◌>>=◌}
 
 -- a computation that isn't stuck had a first step
 pub first-step : {A B : Type 0} (o : Option A) (f : A → Option B) (y : B) → (o >>= f) ≡ Some y → (x : A) × (o ≡ Some x) × (f x ≡ Some y)

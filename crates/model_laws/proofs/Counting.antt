@@ -1,18 +1,10 @@
 -- The lists of unlinked elements, counted.
-use Rattle.std.proofs.Common.{◌≡◌, ℕ, zero, suc, ◌+◌, ◌<◌, ◌≤◌, List, [], ◌∷◌, ◌++◌, length, map, drop, cond, Option}
-use Rattle.std.proofs.Common.{Some, None, inl, inr, refl, sym, ap, ◌∙◌, arith, subst, Bool, true, false}
-use Rattle.std.specs.Prelude.{slice_get, slice_set, ◌==◌, ◌&&◌, ◌||◌, if◌then◌else◌}
-use Rattle.std.proofs.Math.Dec.{eqb-suc-zero}
-use Rattle.std.proofs.Math.Nat.{zero-add}
-use Rattle.std.proofs.lemmas.Bool.{eqb-true, eq-eqb, false_from_ne_true, and_parts, false≢true}
-use Rattle.std.proofs.lemmas.Option.{none-some, same_Some}
-use Rattle.std.proofs.lemmas.List.Sums.{sum_by-cons, sum_by-append}
-use Rattle.bpf_model.proofs.Cases.{option_cases, none-at, none-without}
-use Rattle.bpf_model.specs.Element.{Element, is_linked}
-use Rattle.bpf_model.specs.Schedule.{is_unlinked}
-use Rattle.bpf_model.specs.Schedule.{Queues, is_any, still_open, retired_in, unlinked_between, retired, or_first, first_ready, without_first}
-use Rattle.bpf_model.specs.Refines.{times}
-use Rattle.bpf_model.proofs.Lists.{get-set_cases}
+use Rattle.bpf_model.proofs.Prelude.{◌≡◌, ℕ, zero, suc, ◌+◌, ◌<◌, ◌≤◌, List, [], ◌∷◌, ◌++◌, length, map, drop, cond, Option, Some, None, inl, inr, refl, sym}
+use Rattle.bpf_model.proofs.Prelude.{ap, ◌∙◌, arith, subst, Bool, true, false, slice_get, slice_set, ◌==◌, ◌&&◌, ◌||◌, if◌then◌else◌, eqb-suc-zero, zero-add}
+use Rattle.bpf_model.proofs.Prelude.{eqb-true, eq-eqb, false_from_ne_true, and_parts, false≢true, none-some, same_Some, sum_by-cons, sum_by-append}
+use Rattle.bpf_model.proofs.Prelude.{option_cases, none-without, Element, is_linked, is_unlinked, Queues, is_any, still_open, retired_in, unlinked_between}
+use Rattle.bpf_model.proofs.Prelude.{retired, or_first, first_ready, without_first, times, get-set_cases}
+use Rattle.bpf_model.proofs.Cases.{none-at}
 
 pub times-append : (n : ℕ) (xs ys : List ℕ) → times n (xs ++ ys) ≡ times n xs + times n ys
 times-append n xs ys = sum_by-append (λ x. cond (x == n) 1 0) xs ys

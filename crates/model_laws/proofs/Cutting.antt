@@ -1,11 +1,6 @@
 -- Histories of the machine, cut and joined.
-use Rattle.std.proofs.Common.{◌≡◌, List, [], ◌∷◌, ◌++◌, length, refl, sym, ◌∙◌, ap, subst, arith}
-use Rattle.std.specs.Prelude.{◌↔◌}
-use Rattle.bpf_model.specs.declared.event.Event.{Event}
-use Rattle.bpf_model.specs.declared.event.Answer.{Answer}
-use Rattle.bpf_model.specs.Machine.{Machine}
-use Rattle.bpf_model.specs.History.{IsHistory, last_of}
-use Rattle.bpf_model.specs.Replay.{HasHistoryTo}
+use Rattle.bpf_model.proofs.Prelude.{◌≡◌, List, [], ◌∷◌, ◌++◌, length, refl, sym, ◌∙◌, ap, subst, arith, ◌↔◌, Machine, IsHistory, last_of, HasHistoryTo}
+use Rattle.model_laws.proofs.Prelude.{Event, Answer}
 
 -- a history of two lists of events is one of the first, and one of the second from its last state
 cut : (m new : Machine) (es fs : List Event) (xs ys : List Answer) (states : List Machine) →

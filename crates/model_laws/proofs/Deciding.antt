@@ -1,55 +1,26 @@
 -- With the runtime's choices an event has one answer and leads to one state.
-use Rattle.std.proofs.Common.{◌≡◌, ℕ, ◌+◌, ◌-◌, List, [], ◌∷◌, ◌++◌, length, Option, Some, None, is_some, inl, inr}
-use Rattle.std.proofs.Common.{refl, sym, ap, ◌∙◌, arith, false, subst, Result, ℤ}
-use Rattle.std.specs.Prelude.{slice_get, slice_set}
-use Rattle.std.proofs.lemmas.Option.{none-some}
+use Rattle.bpf_model.proofs.Prelude.{◌≡◌, ℕ, ◌+◌, ◌-◌, List, [], ◌∷◌, ◌++◌, length, Option, Some, None, is_some, inl, inr, refl, sym, ap, ◌∙◌, arith, false}
+use Rattle.bpf_model.proofs.Prelude.{subst, Result, ℤ, slice_get, slice_set, none-some, loaded_signed, operand_value, ◌>>=◌, byte_count, unsigned_width}
+use Rattle.bpf_model.proofs.Prelude.{helper_of, kernel_function_of, ret_word, State, Environment, Outcome, Moves, Exits, after, sets, load_from, store_to}
+use Rattle.bpf_model.proofs.Prelude.{Section, Element, Unlinked, Reclaimed, HasLife, with_life, linked_count, unlinked, newborn, MapState, with_bag}
+use Rattle.bpf_model.proofs.Prelude.{with_elements, returned, given_of, LooksUp, Replaces, Settles, Updates, Removes, Deletes, update_error, Writes}
+use Rattle.bpf_model.proofs.Prelude.{RemovesFrom, Reclaims, Run, Machine, environment, open_sections, moves, with_store, with_runs, begins, OutcomeStep}
+use Rattle.bpf_model.proofs.Prelude.{InsnStep, RunStep, StepsRun, returns, found_value, Starts, PerformsEvent, Answers, refusal, Schedule, first_ready}
+use Rattle.bpf_model.proofs.Prelude.{scheduled, TakesFirst, TakesOldest, DoesScheduled, IsScheduledHistory, get-append_last, get-set_there, heads, tails}
+use Rattle.bpf_model.proofs.Prelude.{both}
+use Rattle.model_laws.proofs.Prelude.{Insn, Call, Load, LoadSigned, Store, Helper, KernelFunction, ReadLock, ReadUnlock, Errno, Event, Answer, EventRefusal}
+use Rattle.model_laws.proofs.Prelude.{Given, ReapedElement, Value, Nothing, Number, Pointer, Ctx, Frame, MapRef, Elem, MapKind, Hash, Array, StepsByKind}
+use Rattle.model_laws.proofs.Prelude.{Acts, AccessesElement, KernelStep, LookupStep, UpdateStep, DeleteStep, HelperStep, element_load, element_store}
+use Rattle.model_laws.proofs.Prelude.{key_argument, value_argument, IsScheduled, IsSingle}
 use Rattle.arrayvec.specs.ArrayVec.{ArrayVec}
-use Rattle.bpf_model.specs.declared.insn.Insn.{Insn}
-use Rattle.bpf_model.specs.declared.insn.Insn.TheVariants.{Call, Load, LoadSigned, Store}
 use Rattle.bpf_model.specs.declared.insn.CallKind.TheVariants as kinds
-use Rattle.bpf_model.specs.declared.call.Helper.{Helper}
 use Rattle.bpf_model.specs.declared.call.Helper.TheVariants as helpers
-use Rattle.bpf_model.specs.declared.call.KernelFunction.{KernelFunction}
-use Rattle.bpf_model.specs.declared.call.KernelFunction.TheVariants.{ReadLock, ReadUnlock}
-use Rattle.bpf_model.specs.declared.call.Errno.{Errno}
-use Rattle.bpf_model.specs.declared.event.Event.{Event}
 use Rattle.bpf_model.specs.declared.event.Event.TheVariants as events
-use Rattle.bpf_model.specs.declared.event.Answer.{Answer}
 use Rattle.bpf_model.specs.declared.event.Answer.TheVariants as answers
-use Rattle.bpf_model.specs.declared.event.EventRefusal.{EventRefusal}
-use Rattle.bpf_model.specs.declared.event.Given.{Given}
-use Rattle.bpf_model.specs.declared.event.ReapedElement.{ReapedElement}
-use Rattle.bpf_model.specs.declared.value.Value.{Value}
-use Rattle.bpf_model.specs.declared.value.Value.TheVariants.{Nothing, Number, Pointer}
-use Rattle.bpf_model.specs.declared.value.Reference.TheVariants.{Ctx, Frame, MapRef, Elem}
-use Rattle.bpf_model.specs.Arithmetic.{loaded_signed}
-use Rattle.bpf_model.specs.Operand.{operand_value}
-use Rattle.bpf_model.specs.Value.{◌>>=◌}
-use Rattle.bpf_model.specs.Access.{byte_count, unsigned_width}
-use Rattle.bpf_model.specs.Call.{helper_of, kernel_function_of, ret_word}
-use Rattle.bpf_model.specs.Step.{State, Environment, Outcome, Moves, Exits, after, sets, load_from, store_to}
-use Rattle.bpf_model.specs.Section.{Section}
-use Rattle.bpf_model.specs.Element.{Element, Unlinked, Reclaimed, HasLife, with_life, linked_count, unlinked, newborn}
 use Rattle.bpf_model.specs.MapState as map_state
-use Rattle.bpf_model.specs.MapState.{MapState, with_bag, with_elements, returned, given_of}
-use Rattle.bpf_model.specs.Helper.{LooksUp, Replaces, Settles, Updates, Removes, Deletes, update_error, Writes, RemovesFrom}
-use Rattle.bpf_model.specs.declared.limits.MapKind.{MapKind}
-use Rattle.bpf_model.specs.declared.limits.MapKind.TheVariants.{Hash, Array}
-use Rattle.bpf_model.specs.Reclaim.{Reclaims}
-use Rattle.bpf_model.specs.Machine.{Run, Machine, environment, open_sections, moves, with_store, with_runs, begins}
-use Rattle.bpf_model.specs.MachineStep.{OutcomeStep, InsnStep, RunStep, StepsRun}
-use Rattle.model_laws.specs.ByKind.{StepsByKind, Acts, AccessesElement, KernelStep, LookupStep, UpdateStep}
-use Rattle.model_laws.specs.ByKind.{DeleteStep, HelperStep, element_load, element_store, key_argument, value_argument}
-use Rattle.bpf_model.specs.Step.{returns}
-use Rattle.bpf_model.specs.Request.{found_value}
-use Rattle.bpf_model.specs.Event.{Starts, ReadsElement, PerformsEvent, Answers, refusal}
-use Rattle.bpf_model.specs.Schedule.{Schedule, first_ready, scheduled, TakesFirst, TakesOldest, DoesScheduled, IsScheduledHistory}
-use Rattle.model_laws.specs.Scheduled.{IsScheduled}
-use Rattle.model_laws.specs.Consistent.{IsSingle}
+use Rattle.bpf_model.specs.Event.{ReadsElement}
 use Rattle.model_laws.proofs.Stores.{touches-found}
 use Rattle.model_laws.proofs.Scheduling.{same-element, stays_scheduled}
-use Rattle.bpf_model.proofs.Lists.{get-append_last, get-set_there, heads, tails}
-use Rattle.bpf_model.proofs.Cases.{both}
 use Rattle.model_laws.proofs.Requests.{by_kind}
 
 never : {A B : Type 0} (o : Option A) (x : A) → o ≡ None → o ≡ Some x → B

@@ -1,39 +1,21 @@
 -- A key leaves a map: all of a delete, and the first half of an update.
-use Rattle.std.proofs.Common.{◌≡◌, ◌≢◌, ◌∙◌, ℕ, ◌+◌, ◌<◌, List, [], ◌∷◌, ◌++◌, map, length, Option, Some, None, refl, sym, ap, arith, subst, Result, Err}
-use Rattle.std.specs.Prelude.{slice_get, slice_set, slice_index, count_by, is_some}
-use Rattle.std.specs.FinMap.{get}
-use Rattle.std.proofs.lemmas.Option.{none-some, same_Some, slice_get_within}
-use Rattle.std.proofs.lemmas.List.{append-nil, length-set}
-use Rattle.bpf_model.specs.declared.call.Errno.{Errno}
-use Rattle.bpf_model.specs.declared.call.Errno.TheVariants.{InvalidArgument}
-use Rattle.bpf_model.specs.declared.limits.MapKind.{MapKind}
-use Rattle.bpf_model.specs.declared.limits.MapKind.TheVariants.{Hash, Array}
+use Rattle.bpf_model.proofs.Prelude.{◌≡◌, ◌≢◌, ◌∙◌, ℕ, ◌+◌, ◌<◌, List, [], ◌∷◌, ◌++◌, map, length, Option, Some, None, refl, sym, ap, arith, subst, Result}
+use Rattle.bpf_model.proofs.Prelude.{Err, slice_get, slice_set, slice_index, count_by, is_some, get, none-some, same_Some, slice_get_within, append-nil}
+use Rattle.bpf_model.proofs.Prelude.{length-set, Section, Element, Linked, Unlinked, IsLinkedAt, set_to, unlinked, with_life, is_reclaimed, MapState, Store}
+use Rattle.bpf_model.proofs.Prelude.{with_elements, LooksUp, Removes, RemovesFrom, Deletes, open_sections, with_store, Answers, key_refusal, refusal, Queues}
+use Rattle.bpf_model.proofs.Prelude.{Schedule, retired, retired_in, unlinked_between, MapView, WorldView, map_state_of, lists_of, named, ElementsStand}
+use Rattle.bpf_model.proofs.Prelude.{SlotsStand, RefinesSchedule, oldest-none}
+use Rattle.model_laws.proofs.Prelude.{Errno, InvalidArgument, MapKind, Hash, Array, Ret, EventRefusal, NoMap, IsScheduled, retired_key, retired_slot}
+use Rattle.model_laws.proofs.Prelude.{delete_result, deleted_from, deleted, shape_shown, with_map, delete_at, delete_reaction, Matches, Simulates}
 use Rattle.bpf_model.specs.declared.event.Event.TheVariants as events
-use Rattle.bpf_model.specs.declared.event.Answer.TheVariants.{Ret}
-use Rattle.bpf_model.specs.declared.event.EventRefusal.{EventRefusal}
-use Rattle.bpf_model.specs.declared.event.EventRefusal.TheVariants.{NoMap}
 use Rattle.arrayvec.specs.ArrayVec.{ArrayVec}
-use Rattle.bpf_model.specs.Section.{Section}
-use Rattle.bpf_model.specs.Element.{Element, Linked, Unlinked, IsLinkedAt, set_to, unlinked, with_life, is_reclaimed}
-use Rattle.bpf_model.specs.MapState.{MapState, Store, with_elements}
-use Rattle.bpf_model.specs.Helper.{LooksUp, Removes, RemovesFrom, Deletes}
-use Rattle.bpf_model.specs.Machine.{open_sections, with_store}
-use Rattle.bpf_model.specs.Event.{Answers, key_refusal, refusal}
-use Rattle.bpf_model.specs.Schedule.{Queues, Schedule, retired, retired_in, unlinked_between}
-use Rattle.model_laws.specs.Scheduled.{IsScheduled}
 use Rattle.model_laws.proofs.Counting.{retired-back, length-retired}
-use Rattle.bpf_model.specs.View.{MapView, WorldView, map_state_of}
-use Rattle.bpf_model.specs.Refines.{lists_of, named, ElementsStand, SlotsStand, RefinesSchedule}
-use Rattle.model_laws.specs.Views.{retired_key, retired_slot, delete_result, deleted_from, deleted}
-use Rattle.model_laws.specs.Reactions.{shape_shown, with_map, delete_at, delete_reaction}
-use Rattle.model_laws.specs.Matching.{Matches, Simulates, DeletesHalf}
-use Rattle.model_laws.proofs.ViewsChanging.{Changes}
+use Rattle.model_laws.specs.Matching.{DeletesHalf}
+use Rattle.model_laws.proofs.ViewsChanging.{Changes, changes-same}
 use Rattle.model_laws.proofs.Tallies.{count-set, one_of}
 use Rattle.model_laws.proofs.Lists.{remove-same}
-use Rattle.model_laws.proofs.ViewsChanging.{changes-same}
 use Rattle.model_laws.proofs.Mapping.{unlinks, elements-retired}
 use Rattle.model_laws.proofs.Listing.{named-kept, between-more, between-one, between-other, more-none, more-one}
-use Rattle.bpf_model.proofs.Cases.{oldest-none}
 use Rattle.model_laws.proofs.ViewedWorlds.{Here, here, Turns, turned-world, key-refusal-is, refuses, stays-half, half-simulates}
 
 -- births below n have the same map slots

@@ -1,41 +1,24 @@
 -- After two quiet advances, a reap finds nothing only when everything that was unlinked before is reclaimed.
-use Rattle.std.proofs.Common.{◌≡◌, ◌≢◌, ℕ, zero, suc, ◌+◌, ◌<◌, List, [], ◌∷◌, length, map, Option, Some, None, refl}
-use Rattle.std.proofs.Common.{sym, ap, ◌∙◌, arith, subst, Bool, true, false}
-use Rattle.std.specs.Prelude.{slice_get, slice_set, ◌==◌, ◌&&◌}
-use Rattle.std.proofs.lemmas.Bool.{false_from_ne_true, false≢true}
-use Rattle.std.proofs.lemmas.Option.{none-some, same_Some, slice_get_within}
-use Rattle.bpf_model.proofs.Cases.{oldest-none}
-use Rattle.bpf_model.specs.declared.limits.MapShape.{MapShape}
-use Rattle.bpf_model.specs.declared.event.Event.{Event}
+use Rattle.bpf_model.proofs.Prelude.{◌≡◌, ◌≢◌, ℕ, zero, suc, ◌+◌, ◌<◌, List, [], ◌∷◌, length, map, Option, Some, None, refl, sym, ap, ◌∙◌, arith, subst, Bool}
+use Rattle.bpf_model.proofs.Prelude.{true, false, slice_get, slice_set, ◌==◌, ◌&&◌, false_from_ne_true, false≢true, none-some, same_Some, slice_get_within}
+use Rattle.bpf_model.proofs.Prelude.{oldest-none, Section, AllEnded, Element, Life, Linked, Unlinked, Reclaimed, HasLife, is_linked, with_life, is_unlinked}
+use Rattle.bpf_model.proofs.Prelude.{MapState, Store, given_of, Reclaims, AreShapes, Loaded, Machine, open_sections, with_store, Queues, Schedule, open_flags}
+use Rattle.bpf_model.proofs.Prelude.{is_any, retired_in, unlinked_between, turned, advanced, first_ready, reaped, scheduled, TakesFirst, DoesScheduled}
+use Rattle.bpf_model.proofs.Prelude.{IsScheduledHistory, start_schedule, machines, times, length-set, get-below, get-set_there}
+use Rattle.model_laws.proofs.Prelude.{MapShape, Event, Answer, Given, ReapedElement, IsScheduled}
 use Rattle.bpf_model.specs.declared.event.Event.TheVariants as events
-use Rattle.bpf_model.specs.declared.event.Answer.{Answer}
 use Rattle.bpf_model.specs.declared.event.Answer.TheVariants as answers
-use Rattle.bpf_model.specs.declared.event.Given.{Given}
-use Rattle.bpf_model.specs.declared.event.ReapedElement.{ReapedElement}
-use Rattle.bpf_model.specs.Section.{Section, AllEnded}
-use Rattle.bpf_model.specs.Element.{Element, Life, Linked, Unlinked, Reclaimed, HasLife, is_linked, with_life}
-use Rattle.bpf_model.specs.Schedule.{is_unlinked}
-use Rattle.bpf_model.specs.MapState.{MapState, Store, given_of}
-use Rattle.bpf_model.specs.Reclaim.{Reclaims}
-use Rattle.bpf_model.specs.Shapes.{AreShapes}
-use Rattle.bpf_model.specs.Machine.{Loaded, Machine, open_sections, with_store}
-use Rattle.bpf_model.specs.Schedule.{Queues, Schedule, open_flags, is_any, retired_in, unlinked_between, turned}
-use Rattle.bpf_model.specs.Schedule.{advanced, first_ready, reaped, scheduled, TakesFirst, DoesScheduled}
-use Rattle.bpf_model.specs.Schedule.{IsScheduledHistory, start_schedule}
-use Rattle.bpf_model.specs.Drain.{IsQuietAdvance, Drains, machines}
-use Rattle.bpf_model.specs.Refines.{times}
-use Rattle.model_laws.specs.Scheduled.{IsScheduled, IsReapable}
+use Rattle.bpf_model.specs.Drain.{IsQuietAdvance, Drains}
+use Rattle.model_laws.specs.Scheduled.{IsReapable}
 use Rattle.model_laws.proofs.Advancing.{no_flag}
 use Rattle.model_laws.proofs.Changing.{is_reap}
 use Rattle.model_laws.proofs.Stores.{LifeMoves, Stays, Unlinks, Ends, StoreMoves, does-moves}
-use Rattle.model_laws.proofs.Counting.{newly, times-append, times-first, between-is, retired-back, map-back, any-flag}
-use Rattle.model_laws.proofs.Counting.{flag-any, first-index, none-ready, without-back}
+use Rattle.model_laws.proofs.Counting.{newly, times-append, times-first, between-is, retired-back, map-back, any-flag, flag-any, first-index, none-ready}
+use Rattle.model_laws.proofs.Counting.{without-back}
 use Rattle.model_laws.proofs.Queueing.{Queued, queued-here}
 use Rattle.model_laws.proofs.Scheduling.{plain, first-queued, starts_scheduled, stays_scheduled}
 use Rattle.model_laws.proofs.Lives.{linked≢unlinked, reclaimed≢linked}
 use Rattle.model_laws.proofs.Tallies.{one_of}
-use Rattle.std.proofs.lemmas.List.{length-set}
-use Rattle.bpf_model.proofs.Lists.{get-below, get-set_there}
 
 -- an element that isn't linked any more
 pub record IsOut (es : List Element) (n : ℕ) : Type 0 where

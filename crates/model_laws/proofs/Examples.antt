@@ -1,27 +1,14 @@
 -- The example is plain with maps: each field is a table of its twelve instructions, and each path meets an invariant of its place.
-use Rattle.std.proofs.Common.{◌≡◌, ℕ, zero, suc, ◌+◌, ◌-◌, ◌<◌, ◌≤◌, List, [], ◌∷◌, Bool, true, false, cond, inl, inr, refl, sym, ap, ◌∙◌, subst, arith}
-use Rattle.std.specs.Prelude.{Option, Some, None, ◌⊎◌, pos, ◌+ℤ◌, ◌&&◌, nat_lt, slice_get, take, ℤ, negsuc}
-use Rattle.std.proofs.lemmas.Option.{none-some, same_Some}
-use Rattle.std.proofs.lemmas.Bool.{ne_eqb, ltb-false, lt-ltb, false≢true}
-use Rattle.bpf_model.specs.declared.limits.TheConstants.{FRAME_BYTES}
-use Rattle.bpf_model.proofs.Cases.{same-pos}
-use Rattle.bpf_model.specs.declared.limits.MapShape.{MapShape}
-use Rattle.bpf_model.specs.declared.insn.Insn.{Insn}
-use Rattle.bpf_model.specs.declared.insn.Insn.TheVariants.{Alu, Load, Exit}
-use Rattle.bpf_model.specs.declared.insn.AluOp.TheVariants.{Move, Add}
-use Rattle.bpf_model.specs.declared.insn.Operand.TheVariants.{Register, Immediate}
-use Rattle.bpf_model.specs.declared.opcode.Size.TheVariants.{Word64}
-use Rattle.bpf_model.specs.declared.opcode.Width.TheVariants.{Eight}
-use Rattle.bpf_model.specs.Step.{slot_count}
-use Rattle.bpf_model.specs.Step.{insn_at}
-use Rattle.bpf_model.specs.Graph.{falls, distance, JumpsTo, GoesTo, Reached, reached_entry, reached_next}
-use Rattle.model_laws.specs.Plain.{ReadsRegister, WritesRegister, ReadsByte, WritesByte, WithoutByte, without_entry, without_next}
-use Rattle.model_laws.specs.PlainMaps.{lookup_call, lock_call, unlock_call, GuardedLookup, LookupPart, FrameCopy}
-use Rattle.model_laws.specs.PlainMaps.{KeyAddress, MapLoad, LookupCall, NullTest, ValueLoad, part_insn, part_slot}
-use Rattle.model_laws.specs.PlainMaps.{IsGuardedLookup, IsLookupPart, HasForm, InSection, section_entry, section_lock}
-use Rattle.model_laws.specs.PlainMaps.{section_unlock, section_next, LacksRegister, lacks_entry, lacks_call}
-use Rattle.model_laws.specs.PlainMaps.{lacks_next, IsPlainWithMaps}
-use Rattle.model_laws.specs.Example.{lookup_and_load, example_shape}
+use Rattle.bpf_model.proofs.Prelude.{◌≡◌, ℕ, zero, suc, ◌+◌, ◌-◌, ◌<◌, ◌≤◌, List, [], ◌∷◌, Bool, true, false, cond, inl, inr, refl, sym, ap, ◌∙◌, subst}
+use Rattle.bpf_model.proofs.Prelude.{arith, Option, Some, None, ◌⊎◌, pos, ◌+ℤ◌, ◌&&◌, nat_lt, slice_get, take, ℤ, negsuc, none-some, same_Some, ne_eqb}
+use Rattle.bpf_model.proofs.Prelude.{ltb-false, lt-ltb, false≢true, same-pos, slot_count, insn_at, falls, distance, JumpsTo, GoesTo, Reached, reached_entry}
+use Rattle.bpf_model.proofs.Prelude.{reached_next}
+use Rattle.model_laws.proofs.Prelude.{FRAME_BYTES, MapShape, Insn, Alu, Load, Exit, Move, Add, Register, Immediate, Word64, Eight, WritesRegister, WritesByte}
+use Rattle.model_laws.proofs.Prelude.{WithoutByte, without_entry, without_next, lookup_call, lock_call, unlock_call, GuardedLookup, LookupPart, FrameCopy}
+use Rattle.model_laws.proofs.Prelude.{KeyAddress, MapLoad, LookupCall, NullTest, ValueLoad, part_insn, part_slot, IsGuardedLookup, IsLookupPart, HasForm}
+use Rattle.model_laws.proofs.Prelude.{InSection, section_entry, section_lock, section_unlock, section_next, LacksRegister, lacks_entry, lacks_call}
+use Rattle.model_laws.proofs.Prelude.{lacks_next, IsPlainWithMaps, lookup_and_load, example_shape}
+use Rattle.model_laws.specs.Plain.{ReadsRegister, ReadsByte}
 
 -- what holds of each instruction of a list and the slot where it begins, the first at slot n
 abbrev EachFrom : (ℕ → Insn → Type 0) → ℕ → List Insn → Type 0

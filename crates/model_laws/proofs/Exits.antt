@@ -1,13 +1,6 @@
 -- A run that shares nothing has one step at most.
-use Rattle.std.proofs.Common.{◌≡◌, List, [], refl}
-use Rattle.std.proofs.lemmas.Option.{none-some}
-use Rattle.bpf_model.specs.declared.event.Answer.{Answer}
-use Rattle.bpf_model.specs.Section.{Section}
-use Rattle.bpf_model.specs.MapState.{Store}
-use Rattle.bpf_model.specs.Machine.{Run}
-use Rattle.bpf_model.specs.MachineStep.{RunStep}
-use Rattle.bpf_model.proofs.Cases.{oldest-none}
-use Rattle.model_laws.specs.Alone.{SharesNothing}
+use Rattle.bpf_model.proofs.Prelude.{◌≡◌, List, [], refl, none-some, Section, Store, Run, RunStep, oldest-none}
+use Rattle.model_laws.proofs.Prelude.{Answer, SharesNothing}
 use Rattle.model_laws.proofs.Deciding.{run-one}
 use Rattle.model_laws.proofs.Alone.{others_change_nothing}
 

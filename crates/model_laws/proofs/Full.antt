@@ -1,20 +1,8 @@
 -- When an update finds no memory.
-use Rattle.std.proofs.Common.{◌≡◌, ◌≢◌, ℕ, List, length, Option, Some, None, refl, sym, ap, ◌∙◌, Bool, true, false, Result, Ok, Err}
-use Rattle.std.specs.Prelude.{slice_get, ◌==◌, if◌then◌else◌}
-use Rattle.std.proofs.lemmas.Bool.{eqb-true, eq-eqb, false≢true}
-use Rattle.std.proofs.lemmas.Option.{same_Some}
-use Rattle.std.proofs.lemmas.List.{nil_from_length}
-use Rattle.bpf_model.specs.declared.call.Errno.{Errno}
-use Rattle.bpf_model.specs.declared.call.Errno.TheVariants.{NoEntry, TooBig, NoMemory, Exists, InvalidArgument}
-use Rattle.bpf_model.specs.declared.limits.MapShape.{MapShape}
-use Rattle.bpf_model.specs.MapState.{MapState, Store}
-use Rattle.bpf_model.specs.declared.limits.MapKind.{MapKind}
-use Rattle.bpf_model.specs.declared.limits.MapKind.TheVariants.{Hash, Array}
-use Rattle.bpf_model.specs.Helper.{error_of_kind, Settles, Updates}
-use Rattle.bpf_model.specs.Machine.{Loaded, open_sections}
-use Rattle.bpf_model.specs.Schedule.{Schedule}
-use Rattle.bpf_model.specs.Refines.{IsReachedSchedule}
-use Rattle.model_laws.specs.Accounted.{IsFull}
+use Rattle.bpf_model.proofs.Prelude.{◌≡◌, ◌≢◌, ℕ, List, length, Option, Some, None, refl, sym, ap, ◌∙◌, Bool, true, false, Result, Ok, Err, slice_get, ◌==◌}
+use Rattle.bpf_model.proofs.Prelude.{if◌then◌else◌, eqb-true, eq-eqb, false≢true, same_Some, nil_from_length, MapState, Store, error_of_kind, Settles}
+use Rattle.bpf_model.proofs.Prelude.{Updates, Loaded, open_sections, Schedule, IsReachedSchedule}
+use Rattle.model_laws.proofs.Prelude.{Errno, NoEntry, TooBig, NoMemory, Exists, InvalidArgument, MapShape, MapKind, Hash, Array, IsFull}
 use Rattle.model_laws.proofs.Accounting.{enomem_exactly}
 
 -- the tests of an update, in their order

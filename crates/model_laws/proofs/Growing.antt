@@ -1,12 +1,8 @@
 -- Changes of elements that let them grow.
-use Rattle.std.proofs.Common.{◌≡◌, ℕ, List, ◌++◌, Option, Some, None, inl, inr, refl, sym, ap, subst, ◌∙◌}
-use Rattle.std.specs.Prelude.{slice_get, slice_set}
-use Rattle.std.proofs.lemmas.Bool.{cases_eq}
-use Rattle.bpf_model.specs.Section.{Section}
-use Rattle.bpf_model.specs.Element.{Element, Life, Linked, Unlinked, Reclaimed, IsLinkedAt, HasLife, with_life}
-use Rattle.bpf_model.specs.Element.{with_value, set_to, changed, overwritten, unlinked}
-use Rattle.model_laws.specs.Growth.{IsLaterLife, IsLaterElement, ElementsGrow}
-use Rattle.bpf_model.proofs.Lists.{get-append, get-set_other, get-set_there}
+use Rattle.bpf_model.proofs.Prelude.{◌≡◌, ℕ, List, ◌++◌, Option, Some, None, inl, inr, refl, sym, ap, subst, ◌∙◌, slice_get, slice_set, cases_eq, Section}
+use Rattle.bpf_model.proofs.Prelude.{Element, Life, Linked, Unlinked, Reclaimed, IsLinkedAt, HasLife, with_life, with_value, set_to, changed, overwritten}
+use Rattle.bpf_model.proofs.Prelude.{unlinked, get-append, get-set_other, get-set_there}
+use Rattle.model_laws.proofs.Prelude.{IsLaterLife, IsLaterElement, ElementsGrow}
 
 later-same : (l : Life) → IsLaterLife l l
 later-same Linked = tt

@@ -1,37 +1,14 @@
 -- What a step of a run by itself can bring into its registers and its frame: only references of a kind that it holds already.
-use Rattle.std.proofs.Common.{◌≡◌, refl, ℕ, ◌+◌, ◌-◌, ◌/◌, ◌%◌, ◌^◌, List, Option, Some, None, ℤ, pos, negsuc, ◌+ℤ◌}
-use Rattle.std.proofs.Common.{◌-ℤ◌, sym, subst, Bool, true, false, inl, inr}
-use Rattle.std.specs.Prelude.{slice_get, if◌then◌else◌, ◌==◌, ◌&&◌, nat_le, nat_lt, length}
-use Rattle.std.specs.Int.{w64}
-use Rattle.std.proofs.lemmas.Option.{none-some, same_Some}
-use Rattle.bpf_model.specs.declared.limits.TheConstants.{FRAME_BYTES}
-use Rattle.bpf_model.specs.declared.insn.Insn.{Insn}
-use Rattle.bpf_model.specs.declared.insn.Insn.TheVariants.{Alu, Unary, LoadNumber, LoadMap, Jump, JumpLong, JumpIf, Call, Exit, Load, LoadSigned, Store}
-use Rattle.bpf_model.specs.declared.insn.AluOp.{AluOp}
-use Rattle.bpf_model.specs.declared.insn.AluOp.TheVariants.{Add, Sub, Move}
-use Rattle.bpf_model.specs.declared.insn.Operand.{Operand}
-use Rattle.bpf_model.specs.declared.insn.Operand.TheVariants.{Register, Immediate}
-use Rattle.bpf_model.specs.declared.opcode.Size.{Size}
-use Rattle.bpf_model.specs.declared.opcode.Size.TheVariants.{Word32, Word64}
-use Rattle.bpf_model.specs.declared.value.Value.{Value}
-use Rattle.bpf_model.specs.declared.value.Value.TheVariants.{Nothing, Number, Pointer}
-use Rattle.bpf_model.specs.declared.value.Reference.{Reference}
-use Rattle.bpf_model.specs.declared.value.Reference.TheVariants.{Ctx, Frame, MapRef, Elem}
-use Rattle.bpf_model.specs.declared.value.Cell.{Cell}
-use Rattle.bpf_model.specs.declared.value.Cell.TheVariants.{Unwritten, Byte, Part}
-use Rattle.bpf_model.specs.Arithmetic.{alu, signed, unary, loaded_signed}
-use Rattle.bpf_model.specs.Value.{◌>>=◌, held, number, reference}
-use Rattle.bpf_model.specs.Access.{byte_count, unsigned_width, region_offset, number_at}
-use Rattle.bpf_model.specs.Frame.{byte_of, are_parts, found, read, is_within, with_number, with_reference}
-use Rattle.bpf_model.specs.Operand.{operand_value, unary_source, offset_by, of_numbers, sum_of, difference_of, computed, decided}
-use Rattle.bpf_model.specs.Step.{State, Environment, Outcome, Moves, Exits, entry, forward, sets, jumps_to, jumps_by}
-use Rattle.bpf_model.specs.Step.{loaded, load_from, frame_after, stored, store_to, map_value, after}
-use Rattle.bpf_model.specs.Exit.{names_map}
-use Rattle.model_laws.specs.Holds.{HoldsValue, HoldsCell, HoldsState}
-use Rattle.bpf_model.specs.Element.{Element}
-use Rattle.model_laws.specs.ByKind.{AccessesElement, Acts}
-use Rattle.bpf_model.specs.Step.{returns}
-use Rattle.bpf_model.proofs.Cases.{choice}
+use Rattle.bpf_model.proofs.Prelude.{◌≡◌, refl, ℕ, ◌+◌, ◌-◌, ◌/◌, ◌%◌, ◌^◌, List, Option, Some, None, ℤ, pos, negsuc, ◌+ℤ◌, ◌-ℤ◌, sym, subst, Bool, true}
+use Rattle.bpf_model.proofs.Prelude.{false, inl, inr, slice_get, if◌then◌else◌, ◌==◌, ◌&&◌, nat_le, nat_lt, length, w64, none-some, same_Some, alu, signed}
+use Rattle.bpf_model.proofs.Prelude.{unary, loaded_signed, ◌>>=◌, held, number, reference, byte_count, unsigned_width, region_offset, number_at, byte_of}
+use Rattle.bpf_model.proofs.Prelude.{are_parts, found, read, is_within, with_number, with_reference, operand_value, unary_source, offset_by, of_numbers}
+use Rattle.bpf_model.proofs.Prelude.{sum_of, difference_of, computed, decided, State, Environment, Outcome, Moves, Exits, entry, forward, sets, jumps_to}
+use Rattle.bpf_model.proofs.Prelude.{jumps_by, load_from, frame_after, stored, store_to, map_value, after, names_map, Element, returns, choice}
+use Rattle.model_laws.proofs.Prelude.{FRAME_BYTES, Insn, Alu, Unary, LoadNumber, LoadMap, Jump, JumpLong, JumpIf, Call, Exit, Load, LoadSigned, Store, AluOp}
+use Rattle.model_laws.proofs.Prelude.{Add, Sub, Move, Operand, Register, Immediate, Size, Word32, Word64, Value, Nothing, Number, Pointer, Reference, Ctx}
+use Rattle.model_laws.proofs.Prelude.{Frame, MapRef, Elem, Cell, Unwritten, Byte, Part, HoldsValue, HoldsCell, HoldsState, AccessesElement, Acts}
+use Rattle.bpf_model.specs.Step.{loaded}
 use Rattle.model_laws.proofs.Computations.{first-step}
 
 abbrev pub HoldsOutcome : (Reference → Type 0) → Outcome → Type 0

@@ -1,18 +1,10 @@
 -- A key put into an index, and the indices of an array, by their keys.
-use Rattle.std.proofs.Common.{◌≡◌, ◌≢◌, ◌∙◌, ℕ, zero, suc, ◌+◌, ◌<◌, ◌≤◌, ◌^◌, List, length, Some, None, inl, inr, refl, sym, ap, arith}
-use Rattle.std.specs.Prelude.{is_some}
-use Rattle.std.specs.FinMap.{get, insert, len, get-empty, len-empty, get-insert, len-insert}
-use Rattle.std.specs.Ordering.{nat_cmp}
-use Rattle.std.specs.Cmp.Lexicographic.{slice_cmp}
-use Rattle.std.proofs.lemmas.Bool.{cases_eq, cond-true, cond-false}
-use Rattle.std.proofs.lemmas.Cmp.{nat_list_cmp_total}
-use Rattle.std.proofs.lemmas.Option.{none-some, same_Some}
-use Rattle.bpf_model.specs.declared.limits.TheConstants.{MAX_ENTRIES, INDEX_BYTES}
-use Rattle.bpf_model.specs.MapState.{index_key}
-use Rattle.bpf_model.specs.View.{KeyMap, index_below}
-use Rattle.bpf_model.proofs.Cases.{option_cases}
-use Rattle.bpf_model.proofs.Keys.{same-same_key, other-same_key}
-use Rattle.bpf_model.proofs.Lists.{key_cases}
+use Rattle.bpf_model.proofs.Prelude.{◌≡◌, ◌≢◌, ◌∙◌, ℕ, zero, suc, ◌+◌, ◌<◌, ◌≤◌, ◌^◌, List, length, Some, None, inl, inr, refl, sym, ap, arith, is_some, get}
+use Rattle.bpf_model.proofs.Prelude.{insert, len, get-empty, len-empty, get-insert, nat_cmp, slice_cmp, cases_eq, cond-true, cond-false, nat_list_cmp_total}
+use Rattle.bpf_model.proofs.Prelude.{none-some, same_Some, index_key, KeyMap, index_below, option_cases, same-same_key, other-same_key, key_cases}
+use Rattle.model_laws.proofs.Prelude.{MAX_ENTRIES}
+use Rattle.std.specs.FinMap.{len-insert}
+use Rattle.bpf_model.specs.declared.limits.TheConstants.{INDEX_BYTES}
 use Rattle.model_laws.proofs.NewElements.{index-same}
 
 pub insert-same : (m : KeyMap) (key : List ℕ) (i : ℕ) → get (insert m key i) key ≡ Some i

@@ -1,17 +1,9 @@
 -- Steps with the runtime's choices, one after another, make a history.
-use Rattle.std.proofs.Common.{◌≡◌, List, [], ◌∷◌, ◌++◌, refl, sym, subst}
-use Rattle.bpf_model.specs.declared.event.Event.{Event}
-use Rattle.bpf_model.specs.declared.event.Answer.{Answer}
-use Rattle.bpf_model.specs.declared.limits.MapShape.{MapShape}
-use Rattle.bpf_model.specs.Machine.{Loaded}
-use Rattle.bpf_model.specs.Schedule.{Schedule, IsScheduledHistory, start_schedule}
-use Rattle.bpf_model.specs.Drain.{AnswersAsScheduled, AreScheduledAnswers}
-use Rattle.bpf_model.specs.View.{WorldView}
-use Rattle.bpf_model.specs.Refines.{TracksSchedule}
-use Rattle.model_laws.specs.Steps.{AreSteps}
+use Rattle.bpf_model.proofs.Prelude.{◌≡◌, List, [], ◌∷◌, ◌++◌, refl, sym, subst, Loaded, Schedule, IsScheduledHistory, start_schedule, AnswersAsScheduled}
+use Rattle.bpf_model.proofs.Prelude.{AreScheduledAnswers, WorldView, TracksSchedule, last_of}
+use Rattle.model_laws.proofs.Prelude.{Event, Answer, MapShape, AreSteps}
 use Rattle.model_laws.proofs.Draining.{drains_from}
 use Rattle.model_laws.proofs.Reached.{tracked_is_scheduled}
-use Rattle.bpf_model.specs.History.{last_of}
 
 module _ {World : Type 0} (Tracks : World → Schedule → Type 0) where
   -- the history of the steps, at whose end the last world tracks the last state

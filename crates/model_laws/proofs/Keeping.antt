@@ -1,30 +1,17 @@
 -- The machine stays consistent.
-use Rattle.std.proofs.Common.{◌≡◌, ◌≢◌, ℕ, zero, suc, ◌+◌, ◌<◌, ◌≤◌, List, length, map, replicate, Some, None, ◌⊎◌, inl, inr, sym, ap, ◌∙◌, arith, subst, Bool}
-use Rattle.std.specs.Prelude.{slice_get}
-use Rattle.std.proofs.lemmas.Bool.{cases_eq, cases_lt}
-use Rattle.std.proofs.lemmas.Option.{none-some, same_Some, slice_get_within}
-use Rattle.bpf_model.proofs.Cases.{same-since}
-use Rattle.bpf_model.specs.declared.limits.MapShape.{MapShape}
-use Rattle.bpf_model.specs.declared.limits.TheConstants.{MAX_DEPTH, MAX_RUNS}
-use Rattle.bpf_model.specs.declared.event.Event.{Event}
-use Rattle.bpf_model.specs.declared.event.Answer.{Answer}
-use Rattle.bpf_model.specs.Section.{Section}
-use Rattle.bpf_model.specs.Element.{Element, Life, Linked, Unlinked, IsLinkedAt}
-use Rattle.bpf_model.specs.MapState.{Store, new_map, all_new_elements}
-use Rattle.bpf_model.specs.Shapes.{AreShapes}
-use Rattle.bpf_model.specs.Machine.{Loaded, Run, Machine, open_sections, run_at, start_machine}
-use Rattle.bpf_model.specs.Event.{DoesEvent}
-use Rattle.model_laws.specs.Consistent.{HasLengths, StaysLinked, IsConsistent, IsSingle, AllBegun}
+use Rattle.bpf_model.proofs.Prelude.{◌≡◌, ◌≢◌, ℕ, zero, suc, ◌+◌, ◌<◌, ◌≤◌, List, length, map, replicate, Some, None, ◌⊎◌, inl, inr, sym, ap, ◌∙◌, arith}
+use Rattle.bpf_model.proofs.Prelude.{subst, Bool, slice_get, cases_eq, cases_lt, none-some, same_Some, slice_get_within, same-since, Section, Element, Life}
+use Rattle.bpf_model.proofs.Prelude.{Linked, Unlinked, IsLinkedAt, Store, new_map, all_new_elements, AreShapes, Loaded, Run, Machine, open_sections, run_at}
+use Rattle.bpf_model.proofs.Prelude.{start_machine, DoesEvent, length-replicate, get-below, get-map}
+use Rattle.model_laws.proofs.Prelude.{MapShape, MAX_DEPTH, MAX_RUNS, Event, Answer, HasLengths, StaysLinked, IsConsistent, IsSingle, AllBegun}
 use Rattle.model_laws.proofs.Born.{IsBornState, more-value, more-cell, born-entry}
 use Rattle.model_laws.proofs.Moves.{RunsMove, run-before, started-grows, does-move}
 use Rattle.model_laws.proofs.Changing.{is_reap}
 use Rattle.model_laws.proofs.Stores.{LifeMoves, Stays, Unlinks, Ends, Alters, Born, StoreMoves, does-moves}
 use Rattle.model_laws.proofs.Past.{all-begun-later, open-begun}
 use Rattle.model_laws.proofs.Lives.{linked≢unlinked, reclaimed≢linked, reclaimed≢unlinked}
-use Rattle.std.proofs.lemmas.List.{length-replicate}
 use Rattle.model_laws.proofs.ArraysStay.{does-fix}
 use Rattle.model_laws.proofs.NewElements.{new-element, new-single, new-once, length-index}
-use Rattle.bpf_model.proofs.Lists.{get-below, get-map}
 
 -- at the start
 pub no-run : (n r : ℕ) (run : Run) → run_at (replicate n None) r ≡ Some run → ⊥

@@ -1,16 +1,8 @@
 -- Elements are reclaimed late: the grace-period guarantee.
-use Rattle.std.proofs.Common.{◌≡◌, ℕ, zero, suc, ◌<◌, List, [], ◌∷◌, Some, ◌⊎◌, inl, inr, sym, ap, ◌∙◌, arith, subst, Bool}
-use Rattle.std.specs.Prelude.{slice_get}
-use Rattle.std.proofs.lemmas.Option.{none-some, same_Some}
-use Rattle.bpf_model.proofs.Cases.{same-since}
-use Rattle.bpf_model.specs.declared.event.Event.{Event}
-use Rattle.bpf_model.specs.declared.event.Answer.{Answer}
-use Rattle.bpf_model.specs.Section.{Section, AllEnded}
-use Rattle.bpf_model.specs.Element.{Element, Life, Linked, Unlinked, Reclaimed, HasLife}
-use Rattle.bpf_model.specs.Machine.{Machine, open_sections}
-use Rattle.bpf_model.specs.Event.{DoesEvent}
-use Rattle.bpf_model.specs.History.{IsHistory}
-use Rattle.model_laws.specs.Consistent.{IsConsistent, AllBegun}
+use Rattle.bpf_model.proofs.Prelude.{◌≡◌, ℕ, zero, suc, ◌<◌, List, [], ◌∷◌, Some, ◌⊎◌, inl, inr, sym, ap, ◌∙◌, arith, subst, Bool, slice_get, none-some}
+use Rattle.bpf_model.proofs.Prelude.{same_Some, same-since, Section, AllEnded, Element, Life, Linked, Unlinked, Reclaimed, HasLife, Machine, open_sections}
+use Rattle.bpf_model.proofs.Prelude.{DoesEvent, IsHistory}
+use Rattle.model_laws.proofs.Prelude.{Event, Answer, IsConsistent, AllBegun}
 use Rattle.bpf_model.specs.Headline.{ReclaimedLate}
 use Rattle.model_laws.proofs.Moves.{does-move}
 use Rattle.model_laws.proofs.Changing.{is_reap}

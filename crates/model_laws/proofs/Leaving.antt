@@ -1,15 +1,10 @@
 -- An event leaves each run as it is but the one that it steps or drops.
-use Rattle.std.proofs.Common.{◌≡◌, ◌≢◌, ◌∙◌, ℕ, suc, ◌+◌, List, [], ◌∷◌, Option, Some, None, refl, sym, ap, arith}
-use Rattle.std.specs.Prelude.{slice_get, slice_set}
-use Rattle.std.specs.Option.{option_map, option_flatten}
-use Rattle.std.proofs.lemmas.Option.{none-some, same_Some}
-use Rattle.bpf_model.specs.declared.event.Event.{Event}
+use Rattle.bpf_model.proofs.Prelude.{◌≡◌, ◌≢◌, ◌∙◌, ℕ, suc, ◌+◌, List, [], ◌∷◌, Option, Some, None, refl, sym, ap, arith, slice_get, slice_set}
+use Rattle.bpf_model.proofs.Prelude.{option_flatten, none-some, same_Some, Run, Machine, fresh_run, lowest_free, run_at, DoesEvent, get-set_other}
+use Rattle.model_laws.proofs.Prelude.{Event, Answer}
+use Rattle.std.specs.Option.{option_map}
 use Rattle.bpf_model.specs.declared.event.Event.TheVariants as events
-use Rattle.bpf_model.specs.declared.event.Answer.{Answer}
-use Rattle.bpf_model.specs.Machine.{Run, Machine, fresh_run, lowest_free, run_at}
-use Rattle.bpf_model.specs.Event.{DoesEvent}
 use Rattle.model_laws.proofs.Changing.{Change, Still, Begins, Steps, Stores, Leaves, change}
-use Rattle.bpf_model.proofs.Lists.{get-set_other}
 
 plus-one : (o : Option ℕ) (r : ℕ) → option_map (λ r. r + 1) o ≡ Some r → (q : ℕ) × (o ≡ Some q) × (r ≡ suc q)
 plus-one None r h = absurd (none-some r h)

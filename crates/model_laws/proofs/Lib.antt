@@ -1,3 +1,4 @@
+pub mod Prelude
 pub mod Computations
 pub mod Lives
 pub mod Changing

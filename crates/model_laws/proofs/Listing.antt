@@ -1,16 +1,10 @@
 -- The lists after each change of the elements.
-use Rattle.std.proofs.Common.{◌≡◌, ◌≢◌, ◌∙◌, ℕ, zero, suc, ◌+◌, ◌<◌, List, [], ◌∷◌, ◌++◌, map, length, Some, refl, sym, ap, arith, Bool, true, false}
-use Rattle.std.specs.Prelude.{slice_get, slice_set, slice_index, ◌==◌, ◌&&◌}
-use Rattle.std.proofs.lemmas.Bool.{eqb-true, eq-eqb, false_from_ne_true, cond-true, cond-false}
-use Rattle.std.proofs.lemmas.Option.{none-some, same_Some, slice_get_within}
-use Rattle.std.proofs.lemmas.List.{map-append, append-nil}
-use Rattle.bpf_model.specs.Section.{Section}
-use Rattle.bpf_model.specs.Element.{Element, Life, Linked, Unlinked, Reclaimed, is_linked, with_life, with_value}
-use Rattle.bpf_model.specs.Schedule.{is_unlinked}
-use Rattle.bpf_model.specs.Schedule.{Queues, Schedule, retired_in, unlinked_between, turned, still_open}
-use Rattle.model_laws.specs.Scheduled.{IsScheduled}
+use Rattle.bpf_model.proofs.Prelude.{◌≡◌, ◌≢◌, ◌∙◌, ℕ, zero, suc, ◌+◌, ◌<◌, List, [], ◌∷◌, ◌++◌, map, length, Some, refl, sym, ap, arith, Bool, true, false}
+use Rattle.bpf_model.proofs.Prelude.{slice_get, slice_set, slice_index, ◌==◌, ◌&&◌, eqb-true, eq-eqb, false_from_ne_true, cond-true, cond-false, none-some}
+use Rattle.bpf_model.proofs.Prelude.{same_Some, slice_get_within, map-append, append-nil, Section, Element, Life, Linked, Unlinked, Reclaimed, is_linked}
+use Rattle.bpf_model.proofs.Prelude.{with_life, with_value, is_unlinked, Queues, Schedule, retired_in, unlinked_between, turned, still_open, times, named}
+use Rattle.model_laws.proofs.Prelude.{IsScheduled}
 use Rattle.model_laws.proofs.Queueing.{queued-of}
-use Rattle.bpf_model.specs.Refines.{times, named}
 use Rattle.model_laws.proofs.Lists.{map-same, stands-in}
 
 -- what is unlinked between two lists of elements

@@ -1,7 +1,5 @@
 -- An element is not both linked and unlinked, and a reclaimed one is neither.
-use Rattle.std.proofs.Common.{◌≡◌, List}
-use Rattle.bpf_model.specs.Section.{Section}
-use Rattle.bpf_model.specs.Element.{Linked, Unlinked, Reclaimed}
+use Rattle.bpf_model.proofs.Prelude.{◌≡◌, List, Section, Linked, Unlinked, Reclaimed}
 
 pub linked≢unlinked : (since : List Section) → Linked ≡ Unlinked since → ⊥
 linked≢unlinked since h = cc

@@ -1,24 +1,15 @@
 -- The elements of a map stand in its view, through each change of them.
-use Rattle.std.proofs.Common.{◌≡◌, ◌≢◌, ◌∙◌, ℕ, ◌+◌, ◌<◌, ◌≤◌, List, [], ◌∷◌, ◌++◌, length, Some, None, ◌⊎◌, inl, inr, refl, sym, ap, arith, subst, false}
-use Rattle.std.specs.Prelude.{slice_get, slice_set, slice_index, ◌==◌, ◌&&◌}
-use Rattle.std.specs.FinMap.{get, insert, remove, len}
-use Rattle.std.proofs.lemmas.Bool.{cases_eq, cases_lt, eq-eqb, false≢true}
-use Rattle.std.proofs.lemmas.Option.{none-some, same_Some, slice_get_within}
-use Rattle.bpf_model.specs.declared.event.Given.{Given}
-use Rattle.bpf_model.specs.declared.event.Given.TheVariants.{Free, Worn}
-use Rattle.bpf_model.specs.Section.{Section}
-use Rattle.bpf_model.specs.Element.{Element, Life, Unlinked, Reclaimed, IsLinkedAt, is_linked, is_reclaimed, linked_count, with_life, newborn}
+use Rattle.bpf_model.proofs.Prelude.{◌≡◌, ◌≢◌, ◌∙◌, ℕ, ◌+◌, ◌<◌, ◌≤◌, List, [], ◌∷◌, ◌++◌, length, Some, None, ◌⊎◌, inl, inr, refl, sym, ap, arith, subst}
+use Rattle.bpf_model.proofs.Prelude.{false, slice_get, slice_set, slice_index, ◌==◌, ◌&&◌, get, insert, remove, len, cases_eq, cases_lt, eq-eqb, false≢true}
+use Rattle.bpf_model.proofs.Prelude.{none-some, same_Some, slice_get_within, Section, Element, Life, Unlinked, Reclaimed, IsLinkedAt, is_linked, is_reclaimed}
+use Rattle.bpf_model.proofs.Prelude.{linked_count, with_life, newborn, MapView, uses_at, times, slot_view, IsElementKept, ElementsStand, SlotsStand}
+use Rattle.bpf_model.proofs.Prelude.{length-set, get-append_cases, get-append_last, get-below, get-set_cases, get-set_other, get-set_there, key_cases}
+use Rattle.model_laws.proofs.Prelude.{Given, Free, Worn, retired_slot, filled, slot_given_back}
 use Rattle.model_laws.proofs.Counting.{times-first, times-other, times-append}
-use Rattle.bpf_model.specs.View.{MapView, uses_at}
-use Rattle.bpf_model.specs.Refines.{times, slot_view, IsElementKept, ElementsStand, SlotsStand}
-use Rattle.model_laws.specs.Views.{retired_slot, filled, slot_given_back}
-use Rattle.model_laws.proofs.ViewsChanging.{Changes}
+use Rattle.model_laws.proofs.ViewsChanging.{Changes, changes-life, link-kept, link-back, not-linked, link-grown, link-cases, count-born}
 use Rattle.model_laws.proofs.Tallies.{one_of, count-set}
 use Rattle.model_laws.proofs.Indices.{insert-same, insert-other, len-insert_new}
 use Rattle.model_laws.proofs.Lists.{remove-same, remove-other, len-remove_found, index-append, index-last}
-use Rattle.model_laws.proofs.ViewsChanging.{changes-life, link-kept, link-back, not-linked, link-grown, link-cases, count-born}
-use Rattle.std.proofs.lemmas.List.{length-set}
-use Rattle.bpf_model.proofs.Lists.{get-append_cases, get-append_last, get-below, get-set_cases, get-set_other, get-set_there, key_cases}
 
 -- a kept element of the map was one before
 record Kin (slots names : List ℕ) (k : ℕ) (es : List Element) (n : ℕ) (f : Element) : Type 0 where

@@ -1,34 +1,14 @@
 -- What a step of the machine does to its runs.
-use Rattle.std.proofs.Common.{◌≡◌, ◌≢◌, ℕ, ◌+◌, ◌<◌, ◌≤◌, List, length, Option, Some, None, ◌⊎◌, inl, inr, refl, sym, ap, ◌∙◌, arith, Bool, true, false, subst}
-use Rattle.std.specs.Prelude.{slice_set, ◌==◌, if◌then◌else◌}
-use Rattle.std.proofs.lemmas.Bool.{cases_lt, eqb-false}
-use Rattle.std.proofs.lemmas.Option.{none-some, same_Some, slice_get_within}
-use Rattle.bpf_model.specs.declared.limits.TheConstants.{MAX_DEPTH}
-use Rattle.bpf_model.specs.declared.insn.Insn.{Insn}
-use Rattle.bpf_model.specs.declared.insn.Insn.TheVariants.{Call}
+use Rattle.bpf_model.proofs.Prelude.{◌≡◌, ◌≢◌, ℕ, ◌+◌, ◌<◌, ◌≤◌, List, length, Option, Some, None, ◌⊎◌, inl, inr, refl, sym, ap, ◌∙◌, arith, Bool, true}
+use Rattle.bpf_model.proofs.Prelude.{false, subst, slice_set, ◌==◌, if◌then◌else◌, cases_lt, eqb-false, none-some, same_Some, slice_get_within, helper_of}
+use Rattle.bpf_model.proofs.Prelude.{kernel_function_of, ret_word, State, Outcome, Moves, Exits, Section, Store, LooksUp, Loaded, Run, Machine, environment}
+use Rattle.bpf_model.proofs.Prelude.{open_sections, moves, exits, locked, unlocked, fresh_run, run_at, OutcomeStep, InsnStep, StepsRun, returns, found_value}
+use Rattle.bpf_model.proofs.Prelude.{DoesEvent}
+use Rattle.model_laws.proofs.Prelude.{MAX_DEPTH, Insn, Call, Helper, KernelFunction, ReadLock, ReadUnlock, Event, Answer, Moved, Exited, Value, Nothing}
+use Rattle.model_laws.proofs.Prelude.{Number, IsBornValue, StepsByKind, KernelStep, HelperStep}
 use Rattle.bpf_model.specs.declared.insn.CallKind.TheVariants as kinds
-use Rattle.bpf_model.specs.declared.call.Helper.{Helper}
 use Rattle.bpf_model.specs.declared.call.Helper.TheVariants as helpers
-use Rattle.bpf_model.specs.declared.call.KernelFunction.{KernelFunction}
-use Rattle.bpf_model.specs.declared.call.KernelFunction.TheVariants.{ReadLock, ReadUnlock}
-use Rattle.bpf_model.specs.declared.event.Event.{Event}
-use Rattle.bpf_model.specs.declared.event.Answer.{Answer}
-use Rattle.bpf_model.specs.declared.event.Answer.TheVariants.{Moved, Exited}
-use Rattle.bpf_model.specs.declared.value.Value.{Value}
-use Rattle.bpf_model.specs.declared.value.Value.TheVariants.{Nothing, Number}
-use Rattle.bpf_model.specs.Call.{helper_of, kernel_function_of, ret_word}
-use Rattle.bpf_model.specs.Step.{State, Outcome, Moves, Exits}
-use Rattle.bpf_model.specs.Section.{Section}
-use Rattle.bpf_model.specs.MapState.{Store}
-use Rattle.bpf_model.specs.Helper.{LooksUp}
 use Rattle.model_laws.proofs.Changing.{Change, Still, Begins, Steps, Stores, Leaves, change}
-use Rattle.model_laws.specs.Consistent.{IsBornValue}
-use Rattle.bpf_model.specs.Machine.{Loaded, Run, Machine, environment, open_sections, moves, exits, locked, unlocked, fresh_run, run_at}
-use Rattle.bpf_model.specs.MachineStep.{OutcomeStep, InsnStep, StepsRun}
-use Rattle.model_laws.specs.ByKind.{StepsByKind, KernelStep, HelperStep}
-use Rattle.bpf_model.specs.Step.{returns}
-use Rattle.bpf_model.specs.Request.{found_value}
-use Rattle.bpf_model.specs.Event.{DoesEvent}
 use Rattle.model_laws.proofs.Born.{IsBornState, IsBornOutcome, born-acts, born-returns, born-returns_as}
 use Rattle.model_laws.proofs.Sections.{run-set_cases}
 use Rattle.model_laws.proofs.Requests.{by_kind, run_by_kind}

@@ -1,23 +1,9 @@
 -- The elements that new maps have: those of arrays.
-use Rattle.std.proofs.Common.{◌≡◌, ℕ, zero, suc, ◌+◌, ◌*◌, ◌<◌, ◌≤◌, List, [], ◌∷◌, ◌++◌, length, map, cond, Some}
-use Rattle.std.proofs.Common.{◌⊎◌, inl, inr, refl, sym, ap, ◌∙◌, arith, subst, ◌^◌}
-use Rattle.std.specs.Prelude.{slice_get, not, ◌==◌, ◌&&◌}
-use Rattle.std.specs.List.{range_with_len}
-use Rattle.std.specs.Int.{w32, from_le_bytes}
-use Rattle.std.proofs.lemmas.Nat.{from_le_bytes-to_le_bytes_4}
-use Rattle.std.proofs.lemmas.Bool.{cases_eq}
-use Rattle.std.proofs.lemmas.Option.{none-some, same_Some}
-use Rattle.std.proofs.lemmas.List.{length-append}
-use Rattle.std.proofs.lemmas.List.FromFn.{length-map-range_with_len}
-use Rattle.std.proofs.lemmas.List.Sums.{sum_by-cons, sum_by-append}
-use Rattle.bpf_model.specs.declared.limits.MapShape.{MapShape}
-use Rattle.bpf_model.specs.declared.limits.MapKind.{MapKind}
-use Rattle.bpf_model.specs.declared.limits.MapKind.TheVariants.{Hash, Array}
-use Rattle.bpf_model.specs.declared.limits.TheConstants.{MAX_ENTRIES}
-use Rattle.bpf_model.specs.Element.{Element, Linked, is_linked, is_reclaimed, linked_count}
-use Rattle.bpf_model.specs.Shapes.{AreShapes}
-use Rattle.bpf_model.specs.MapState.{index_key, array_element, new_elements, all_new_elements}
-use Rattle.model_laws.specs.Accounted.{kept_count, born_count}
+use Rattle.bpf_model.proofs.Prelude.{◌≡◌, ℕ, zero, suc, ◌+◌, ◌*◌, ◌<◌, ◌≤◌, List, [], ◌∷◌, ◌++◌, length, map, cond, Some, ◌⊎◌, inl, inr, refl, sym, ap, ◌∙◌}
+use Rattle.bpf_model.proofs.Prelude.{arith, subst, ◌^◌, slice_get, not, ◌==◌, ◌&&◌, range_with_len, w32, from_le_bytes, from_le_bytes-to_le_bytes_4, cases_eq}
+use Rattle.bpf_model.proofs.Prelude.{none-some, same_Some, length-append, length-map-range_with_len, sum_by-cons, sum_by-append, Element, Linked, is_linked}
+use Rattle.bpf_model.proofs.Prelude.{is_reclaimed, linked_count, AreShapes, index_key, array_element, new_elements, all_new_elements}
+use Rattle.model_laws.proofs.Prelude.{MapShape, MapKind, Hash, Array, MAX_ENTRIES, kept_count, born_count}
 use Rattle.model_laws.proofs.Tallies.{one_of, count-cons, of_map, of-same, of-other, kept_uses, uses_of, is_kept}
 
 -- Different indices have different keys.

@@ -1,13 +1,8 @@
 -- A section that has begun and isn't open is never open again.
-use Rattle.std.proofs.Common.{◌≡◌, ℕ, zero, suc, ◌<◌, ◌≤◌, List, [], ◌∷◌, Some, inl, inr, sym, ap, ◌∙◌, arith, subst}
-use Rattle.std.specs.Prelude.{slice_get}
-use Rattle.std.proofs.lemmas.Option.{none-some, same_Some}
-use Rattle.bpf_model.specs.declared.event.Event.{Event}
-use Rattle.bpf_model.specs.declared.event.Answer.{Answer}
-use Rattle.bpf_model.specs.Section.{Section, Has, AllEnded}
-use Rattle.bpf_model.specs.Machine.{Run, Machine, open_sections, section_of, run_at}
-use Rattle.bpf_model.specs.History.{IsHistory}
-use Rattle.model_laws.specs.Consistent.{IsConsistent, HasBegun, AllBegun}
+use Rattle.bpf_model.proofs.Prelude.{◌≡◌, ℕ, zero, suc, ◌<◌, ◌≤◌, List, [], ◌∷◌, Some, inl, inr, sym, ap, ◌∙◌, arith, subst, slice_get, none-some, same_Some}
+use Rattle.bpf_model.proofs.Prelude.{Section, Has, AllEnded, Run, Machine, open_sections, section_of, run_at, IsHistory}
+use Rattle.model_laws.proofs.Prelude.{Event, Answer, IsConsistent, AllBegun}
+use Rattle.model_laws.specs.Consistent.{HasBegun}
 use Rattle.model_laws.proofs.Sections.{OpenAt, open_at, has_open}
 use Rattle.model_laws.proofs.Moves.{RunsMove, run-before, started-grows, does-move}
 

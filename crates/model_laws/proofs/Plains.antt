@@ -1,14 +1,9 @@
 -- A plain program is plain with maps too.
-use Rattle.std.proofs.Common.{◌≡◌, ℕ, ◌+◌, List, Some, Bool, true, false, ◌⊎◌, inl, inr, refl, sym, subst}
-use Rattle.std.proofs.lemmas.Bool.{false≢true}
-use Rattle.bpf_model.specs.declared.limits.MapShape.{MapShape}
-use Rattle.bpf_model.specs.declared.insn.Insn.{Insn}
-use Rattle.bpf_model.specs.Step.{insn_at}
-use Rattle.model_laws.specs.Plain.{IsSimple, without_entry, without_next}
+use Rattle.bpf_model.proofs.Prelude.{◌≡◌, ℕ, ◌+◌, List, Some, Bool, true, false, ◌⊎◌, inl, inr, refl, sym, subst, false≢true, insn_at}
+use Rattle.model_laws.proofs.Prelude.{MapShape, Insn, IsSimple, without_entry, without_next, lookup_call, lock_call, unlock_call, LookupCall, IsGuardedLookup}
+use Rattle.model_laws.proofs.Prelude.{IsLookupPart, InSection, section_entry, section_lock, section_unlock, section_next, LacksRegister, lacks_entry}
+use Rattle.model_laws.proofs.Prelude.{lacks_call, lacks_next, IsPlainWithMaps}
 use Rattle.model_laws.specs.PlainAlone.{IsPlain, WithoutRegister}
-use Rattle.model_laws.specs.PlainMaps.{lookup_call, lock_call, unlock_call, LookupCall, IsGuardedLookup, IsLookupPart}
-use Rattle.model_laws.specs.PlainMaps.{InSection, section_entry, section_lock, section_unlock, section_next}
-use Rattle.model_laws.specs.PlainMaps.{LacksRegister, lacks_entry, lacks_call, lacks_next, IsPlainWithMaps}
 
 module _ (program : List Insn) (shapes : List MapShape) (p : IsPlain program) where
   no_guard : (start : ℕ) → IsGuardedLookup program shapes start → ⊥

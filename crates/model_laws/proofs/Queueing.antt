@@ -1,27 +1,17 @@
 -- What is queued is unlinked, and what it waits for stays.
-use Rattle.std.proofs.Common.{◌≡◌, ◌≢◌, ℕ, ◌+◌, ◌<◌, ◌≤◌, List, map, Option, Some, None, inl, inr, refl, sym, ap, ◌∙◌, arith, subst, Bool, true, false}
-use Rattle.std.specs.Prelude.{slice_get, ◌==◌, ◌&&◌, if◌then◌else◌}
-use Rattle.std.proofs.lemmas.Bool.{eqb-true, eq-eqb, false_from_ne_true, and_parts, false≢true, lt-ltb, and_right}
-use Rattle.std.proofs.lemmas.Option.{none-some, same_Some}
-use Rattle.bpf_model.proofs.Lists.{get-map}
-use Rattle.bpf_model.proofs.Cases.{flattened}
-use Rattle.bpf_model.specs.Section.{Section, Has, AllEnded}
-use Rattle.bpf_model.specs.Element.{Element, Life, Linked, Unlinked, Reclaimed, is_linked}
-use Rattle.bpf_model.specs.Schedule.{is_unlinked}
-use Rattle.bpf_model.specs.MapState.{Store}
-use Rattle.bpf_model.specs.Machine.{Run, open_sections, run_at}
-use Rattle.bpf_model.specs.Schedule.{Queues, Schedule, is_open, open_flags}
-use Rattle.bpf_model.specs.Refines.{times}
-use Rattle.model_laws.specs.Scheduled.{queued_in, Waits, IsScheduled}
+use Rattle.bpf_model.proofs.Prelude.{◌≡◌, ◌≢◌, ℕ, ◌+◌, ◌<◌, ◌≤◌, List, map, Option, Some, None, inl, inr, refl, sym, ap, ◌∙◌, arith, subst, Bool, true, false}
+use Rattle.bpf_model.proofs.Prelude.{slice_get, ◌==◌, ◌&&◌, if◌then◌else◌, eqb-true, eq-eqb, false_from_ne_true, and_parts, false≢true, lt-ltb, and_right}
+use Rattle.bpf_model.proofs.Prelude.{none-some, same_Some, get-map, flattened, Section, Has, AllEnded, Element, Life, Linked, Unlinked, Reclaimed, is_linked}
+use Rattle.bpf_model.proofs.Prelude.{is_unlinked, Store, Run, open_sections, run_at, Queues, Schedule, is_open, open_flags, times, zero-add}
+use Rattle.model_laws.proofs.Prelude.{queued_in, Waits, IsScheduled, AllBegun}
 use Rattle.model_laws.proofs.Moves.{RunsMove, run-before}
 use Rattle.model_laws.proofs.Stores.{LifeMoves, Stays, Unlinks, Ends, Alters, StoreMoves}
 use Rattle.model_laws.proofs.Past.{ended-later}
 use Rattle.model_laws.proofs.Keeping.{element-before}
 use Rattle.model_laws.proofs.Counting.{newly}
-use Rattle.std.proofs.Math.Nat.{add-zero, zero-add}
+use Rattle.std.proofs.Math.Nat.{add-zero}
 use Rattle.model_laws.proofs.Lives.{linked≢unlinked, reclaimed≢unlinked}
 use Rattle.model_laws.proofs.Tallies.{one_of, one-most}
-use Rattle.model_laws.specs.Consistent.{AllBegun}
 
 -- what is queued is an unlinked element of the map
 pub record Queued (es : List Element) (k n : ℕ) : Type 0 where

@@ -1,15 +1,8 @@
 -- The states that are reached from the start have what the laws of the runtime's choices need.
-use Rattle.std.proofs.Common.{List, [], ◌∷◌, subst}
-use Rattle.bpf_model.specs.declared.limits.MapShape.{MapShape}
-use Rattle.bpf_model.specs.declared.event.Event.{Event}
-use Rattle.bpf_model.specs.declared.event.Answer.{Answer}
-use Rattle.bpf_model.specs.Machine.{Loaded}
-use Rattle.bpf_model.specs.Schedule.{Schedule, IsScheduledHistory, start_schedule}
-use Rattle.bpf_model.specs.View.{WorldView, shapes_of}
-use Rattle.bpf_model.specs.Refines.{IsReachedSchedule, TracksSchedule}
-use Rattle.model_laws.specs.Scheduled.{IsScheduled}
+use Rattle.bpf_model.proofs.Prelude.{List, [], ◌∷◌, subst, Loaded, Schedule, IsScheduledHistory, start_schedule, WorldView, shapes_of, IsReachedSchedule}
+use Rattle.bpf_model.proofs.Prelude.{TracksSchedule, last_of}
+use Rattle.model_laws.proofs.Prelude.{MapShape, Event, Answer, IsScheduled}
 use Rattle.model_laws.proofs.Scheduling.{starts_scheduled, stays_scheduled}
-use Rattle.bpf_model.specs.History.{last_of}
 
 pub scheduled-last : (s : Schedule) (events : List Event) (answers : List Answer) (states : List Schedule) →
     IsScheduled s → IsScheduledHistory s events answers states → IsScheduled (last_of s states)

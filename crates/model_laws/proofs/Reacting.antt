@@ -1,34 +1,16 @@
 -- A reaction to an event is a step of each schedule that the world matches, and it keeps the names and the shapes of the maps and the programs.
-use Rattle.std.proofs.Common.{◌≡◌, ◌∙◌, ℕ, suc, ◌+◌, List, [], ◌∷◌, map, length, Option, Some, None, refl, sym, ap, subst, arith, Bool, true, false, ◌≤◌}
-use Rattle.std.specs.Prelude.{slice_get, slice_set}
-use Rattle.std.specs.FinMap.{get}
-use Rattle.std.proofs.lemmas.Option.{none-some, same_Some}
-use Rattle.bpf_model.specs.declared.call.Errno.{Errno}
-use Rattle.bpf_model.specs.declared.event.Event.{Event}
+use Rattle.bpf_model.proofs.Prelude.{◌≡◌, ◌∙◌, ℕ, suc, ◌+◌, List, [], ◌∷◌, map, length, Option, Some, None, refl, sym, ap, subst, arith, Bool, true, false}
+use Rattle.bpf_model.proofs.Prelude.{◌≤◌, slice_get, slice_set, get, none-some, same_Some, Element, Loaded, Run, lowest_free, IsReal, if_ended, if_running}
+use Rattle.bpf_model.proofs.Prelude.{step_refusal, drop_refusal, refusal, key_refusal, update_refusal, start_refusal, Schedule, is_any, AnswersAsScheduled}
+use Rattle.bpf_model.proofs.Prelude.{MapView, RunView, WorldView, shapes_of, RunSlotRefines, TracksSchedule, map-set, set-same, option_flatten}
+use Rattle.model_laws.proofs.Prelude.{Errno, Event, Answer, EventRefusal, MapKind, Hash, Array, Given, Free, Worn, retired_slot, retired_key, deleted_from}
+use Rattle.model_laws.proofs.Prelude.{deleted, filled_from, overwritten_slot, written_by, updated_by, updated, shown_error, turned_view, slot_given_back}
+use Rattle.model_laws.proofs.Prelude.{given_at, reaped_view, with_map, shape_shown, refused_as, delete_at, delete_reaction, update_at, update_reaction}
+use Rattle.model_laws.proofs.Prelude.{read_at, read_reaction, advanced_by, advance_reaction, Pick, or_pick, first_pick, reap_by, reap_reaction, start_by}
+use Rattle.model_laws.proofs.Prelude.{start_reaction, step_refused, drop_refused, drop_by, drop_reaction, step_by, reaction, Matches, Simulates}
 use Rattle.bpf_model.specs.declared.event.Event.TheVariants as events
-use Rattle.bpf_model.specs.declared.event.Answer.{Answer}
-use Rattle.bpf_model.specs.declared.event.EventRefusal.{EventRefusal}
-use Rattle.bpf_model.specs.declared.limits.MapKind.{MapKind}
-use Rattle.bpf_model.specs.declared.limits.MapKind.TheVariants.{Hash, Array}
-use Rattle.bpf_model.specs.declared.event.Given.{Given}
-use Rattle.bpf_model.specs.declared.event.Given.TheVariants.{Free, Worn}
-use Rattle.bpf_model.specs.Element.{Element}
-use Rattle.bpf_model.specs.Machine.{Loaded, Run, lowest_free}
-use Rattle.bpf_model.specs.Real.{IsReal}
-use Rattle.bpf_model.specs.Event.{if_ended, if_running, step_refusal, drop_refusal, refusal, key_refusal, update_refusal, start_refusal}
-use Rattle.bpf_model.specs.Schedule.{Schedule, is_any}
-use Rattle.bpf_model.specs.Drain.{AnswersAsScheduled}
-use Rattle.bpf_model.specs.View.{shape_of_view as shape, MapView, RunView, WorldView, shapes_of}
-use Rattle.bpf_model.specs.Refines.{RunSlotRefines, TracksSchedule}
+use Rattle.bpf_model.specs.View.{shape_of_view as shape}
 use Rattle.model_laws.proofs.Reached.{tracked_is_scheduled}
-use Rattle.model_laws.specs.Views.{retired_slot, retired_key, deleted_from, deleted, filled_from, overwritten_slot}
-use Rattle.model_laws.specs.Views.{written_by, updated_by, updated, shown_error, turned_view, slot_given_back}
-use Rattle.model_laws.specs.Views.{given_at, reaped_view}
-use Rattle.model_laws.specs.Reactions.{with_map, shape_shown, refused_as, delete_at, delete_reaction, update_at}
-use Rattle.model_laws.specs.Reactions.{update_reaction, read_at, read_reaction, advanced_by, advance_reaction, Pick}
-use Rattle.model_laws.specs.Reactions.{or_pick, first_pick, reap_by, reap_reaction, start_by, start_reaction}
-use Rattle.model_laws.specs.Reactions.{step_refused, drop_refused, drop_by, drop_reaction, step_by, reaction}
-use Rattle.model_laws.specs.Matching.{Matches, Simulates}
 use Rattle.model_laws.proofs.ViewedWorlds.{refuses}
 use Rattle.model_laws.proofs.Deleting.{delete_simulates}
 use Rattle.model_laws.proofs.Updating.{update_simulates}
@@ -38,9 +20,6 @@ use Rattle.model_laws.proofs.Reading.{read_simulates}
 use Rattle.model_laws.proofs.Running.{dropped_run}
 use Rattle.model_laws.proofs.ViewsStarting.{start_simulates}
 use Rattle.model_laws.proofs.Tracking.{simulates_tracks}
-use Rattle.std.proofs.lemmas.List.{map-set}
-use Rattle.bpf_model.proofs.Lists.{set-same}
-use Rattle.std.specs.Option.{option_flatten}
 
 -- the refusals of a step and of a drop
 step-refusal_is : (slots : List ℕ) (es : List Element) (programs : List Loaded) (v : Option (Option RunView))

@@ -1,21 +1,9 @@
 -- What a world makes of a read is a step of the schedule.
-use Rattle.std.proofs.Common.{◌≡◌, ◌∙◌, ℕ, length, Option, Some, None, refl, sym, ap, subst}
-use Rattle.std.specs.Prelude.{slice_get}
-use Rattle.std.specs.FinMap.{get}
-use Rattle.std.proofs.lemmas.Option.{none-some}
+use Rattle.bpf_model.proofs.Prelude.{◌≡◌, ◌∙◌, ℕ, length, Option, Some, None, refl, sym, ap, subst, slice_get, get, none-some, is_reclaimed, Answers}
+use Rattle.bpf_model.proofs.Prelude.{key_refusal, Schedule, MapView, WorldView, value_in, oldest-none}
+use Rattle.model_laws.proofs.Prelude.{Found, EventRefusal, NoMap, value_shown, shape_shown, read_at, read_reaction, Matches, Simulates}
 use Rattle.arrayvec.specs.ArrayVec.{ArrayVec}
 use Rattle.bpf_model.specs.declared.event.Event.TheVariants as events
-use Rattle.bpf_model.specs.declared.event.Answer.TheVariants.{Found}
-use Rattle.bpf_model.specs.declared.event.EventRefusal.{EventRefusal}
-use Rattle.bpf_model.specs.declared.event.EventRefusal.TheVariants.{NoMap}
-use Rattle.bpf_model.specs.Element.{is_reclaimed}
-use Rattle.bpf_model.specs.Event.{Answers, key_refusal}
-use Rattle.bpf_model.specs.Schedule.{Schedule}
-use Rattle.bpf_model.specs.View.{MapView, WorldView, value_in}
-use Rattle.model_laws.specs.Views.{value_shown}
-use Rattle.model_laws.specs.Reactions.{shape_shown, read_at, read_reaction}
-use Rattle.model_laws.specs.Matching.{Matches, Simulates}
-use Rattle.bpf_model.proofs.Cases.{oldest-none}
 use Rattle.model_laws.proofs.ViewedWorlds.{here, key-refusal-is, unchanged, refuses}
 
 module _ (w : WorldView) (s : Schedule) (sim : Matches w s) (k : ℕ) (key : ArrayVec ℕ) where

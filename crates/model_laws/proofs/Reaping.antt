@@ -1,30 +1,19 @@
 -- What a world makes of a reap is a step of the schedule.
-use Rattle.std.proofs.Common.{◌≡◌, ◌∙◌, ℕ, suc, ◌+◌, ◌<◌, ◌≤◌, List, [], ◌∷◌, map, drop, length, Some, None, ◌⊎◌, inl, inr, refl, sym, ap, arith, subst}
-use Rattle.std.specs.Prelude.{slice_get, slice_set, slice_index, count_by}
-use Rattle.std.proofs.lemmas.Bool.{cases_eq}
-use Rattle.std.proofs.lemmas.Option.{same_Some, slice_get_within}
-use Rattle.std.proofs.lemmas.List.{map-append, length-set}
+use Rattle.bpf_model.proofs.Prelude.{◌≡◌, ◌∙◌, ℕ, suc, ◌+◌, ◌<◌, ◌≤◌, List, [], ◌∷◌, map, drop, length, Some, None, ◌⊎◌, inl, inr, refl, sym, ap, arith}
+use Rattle.bpf_model.proofs.Prelude.{subst, slice_get, slice_set, slice_index, count_by, cases_eq, same_Some, slice_get_within, map-append, length-set}
+use Rattle.bpf_model.proofs.Prelude.{Element, Reclaimed, is_reclaimed, with_life, MapState, Store, with_given, given_of, returned, Reclaims, open_sections}
+use Rattle.bpf_model.proofs.Prelude.{with_store, Queues, Schedule, or_first, first_ready, without_first, DoesScheduled, MapView, WorldView, uses_in, uses_at}
+use Rattle.bpf_model.proofs.Prelude.{map_state_of, key_in, times, slot_view, IsElementKept, lists_of, named, SlotsStand, MapRefines, RefinesSchedule}
+use Rattle.bpf_model.proofs.Prelude.{oldest-none, none-without, get-set_other, get-set_there}
+use Rattle.model_laws.proofs.Prelude.{Given, Free, Worn, IsScheduled, slot_given_back, given_at, reaped_view, Pick, or_pick, first_pick, reap_by}
+use Rattle.model_laws.proofs.Prelude.{reap_reaction, Matches, Simulates}
 use Rattle.bpf_model.specs.declared.event.Event.TheVariants as events
-use Rattle.bpf_model.specs.declared.event.Given.{Given}
-use Rattle.bpf_model.specs.declared.event.Given.TheVariants.{Free, Worn}
-use Rattle.bpf_model.specs.Element.{Element, Reclaimed, is_reclaimed, with_life}
-use Rattle.bpf_model.specs.MapState.{MapState, Store, with_given, given_of, returned}
-use Rattle.bpf_model.specs.Reclaim.{Reclaims}
-use Rattle.bpf_model.specs.Machine.{open_sections, with_store}
-use Rattle.bpf_model.specs.Schedule.{Queues, Schedule, or_first, first_ready, without_first, DoesScheduled}
-use Rattle.model_laws.specs.Scheduled.{IsScheduled}
 use Rattle.model_laws.proofs.Counting.{times-first, times-other, times-append, shortened, FirstIndex, index-later, index-here, length-without}
 use Rattle.model_laws.proofs.Queueing.{Queued, queued-of}
-use Rattle.bpf_model.specs.View.{MapView, WorldView, uses_in, uses_at, map_state_of, key_in}
-use Rattle.bpf_model.specs.Refines.{times, slot_view, IsElementKept, lists_of, named, SlotsStand, MapRefines, RefinesSchedule}
-use Rattle.model_laws.specs.Views.{slot_given_back, given_at, reaped_view}
-use Rattle.model_laws.specs.Reactions.{Pick, or_pick, first_pick, with_reaped, reap_by, reap_reaction}
-use Rattle.model_laws.specs.Matching.{Matches, Simulates}
+use Rattle.model_laws.specs.Reactions.{with_reaped}
 use Rattle.model_laws.proofs.Tallies.{count-set, one_of}
 use Rattle.model_laws.proofs.Mapping.{reclaims, elements-given}
-use Rattle.bpf_model.proofs.Cases.{oldest-none, none-without}
 use Rattle.model_laws.proofs.ViewedWorlds.{Here, here, Turns, turned-world, steps}
-use Rattle.bpf_model.proofs.Lists.{get-set_other, get-set_there}
 
 -- What a reap picks: the same in the views of maps, the first of which is map k, and in their lists.
 record Picked (slots : List ℕ) (k : ℕ) (vs : List MapView) (qs : List Queues) : Type 0 where

@@ -1,20 +1,9 @@
 -- An event is refused exactly when a test fails.
-use Rattle.std.proofs.Common.{◌≡◌, List, Option, Some, None, refl, sym, ap, subst}
-use Rattle.std.specs.Prelude.{◌↔◌}
-use Rattle.bpf_model.specs.declared.insn.Insn.{Insn}
-use Rattle.bpf_model.specs.declared.insn.Insn.TheVariants.{Call}
+use Rattle.bpf_model.proofs.Prelude.{◌≡◌, List, Option, Some, None, refl, sym, ap, subst, ◌↔◌, Outcome, Moves, Exits, Section, Store, Run, Machine}
+use Rattle.bpf_model.proofs.Prelude.{open_sections, OutcomeStep, PerformsEvent, Answers, DoesEvent, refusal}
+use Rattle.model_laws.proofs.Prelude.{Insn, Call, Event, Refused, Moved, Exited, EventRefusal, StepsByKind}
 use Rattle.bpf_model.specs.declared.insn.CallKind.TheVariants as kinds
-use Rattle.bpf_model.specs.declared.event.Event.{Event}
 use Rattle.bpf_model.specs.declared.event.Event.TheVariants as events
-use Rattle.bpf_model.specs.declared.event.Answer.TheVariants.{Refused, Moved, Exited}
-use Rattle.bpf_model.specs.declared.event.EventRefusal.{EventRefusal}
-use Rattle.bpf_model.specs.Step.{Outcome, Moves, Exits}
-use Rattle.bpf_model.specs.Section.{Section}
-use Rattle.bpf_model.specs.MapState.{Store}
-use Rattle.bpf_model.specs.Machine.{Run, Machine, open_sections}
-use Rattle.model_laws.specs.ByKind.{StepsByKind}
-use Rattle.bpf_model.specs.MachineStep.{OutcomeStep}
-use Rattle.bpf_model.specs.Event.{PerformsEvent, Answers, DoesEvent, refusal}
 use Rattle.model_laws.proofs.Requests.{run_by_kind}
 
 ends-answer : (out : Outcome) (run : Run) (k : EventRefusal) (new : Run) → OutcomeStep out run (Refused k) new → ⊥

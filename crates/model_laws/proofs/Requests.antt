@@ -1,48 +1,19 @@
 -- A step of an instruction is what the run does by itself, or a request that is served.
-use Rattle.std.proofs.Common.{◌≡◌, ℕ, suc, List, [], ◌∷◌, Option, Some, None, Bool, true, false, ◌⊎◌, inl, inr, refl, sym, ap, ◌∙◌, subst, ℤ, ◌+ℤ◌}
-use Rattle.std.specs.Prelude.{◌==◌, ◌↔◌, slice_get, if◌then◌else◌}
-use Rattle.std.proofs.lemmas.Option.{none-some, same_Some}
-use Rattle.std.proofs.lemmas.Bool.{cond-false}
-use Rattle.bpf_model.specs.declared.limits.MapShape.{MapShape}
-use Rattle.bpf_model.specs.declared.insn.Insn.{Insn}
-use Rattle.bpf_model.specs.declared.insn.Insn.TheVariants.{Call, Load, LoadSigned, Store}
+use Rattle.bpf_model.proofs.Prelude.{◌≡◌, ℕ, suc, List, [], ◌∷◌, Option, Some, None, Bool, true, false, ◌⊎◌, inl, inr, refl, sym, ap, ◌∙◌, subst, ℤ, ◌+ℤ◌}
+use Rattle.bpf_model.proofs.Prelude.{◌==◌, ◌↔◌, slice_get, if◌then◌else◌, none-some, same_Some, cond-false, loaded_signed, operand_value, ◌>>=◌, number}
+use Rattle.bpf_model.proofs.Prelude.{reference, byte_count, unsigned_width, helper_of, kernel_function_of, ret_word, State, Environment, Outcome, Moves}
+use Rattle.bpf_model.proofs.Prelude.{after, sets, forward, load_from, store_to, Section, Element, accessible, Run, Machine, open_sections, environment, moves}
+use Rattle.bpf_model.proofs.Prelude.{locked, unlocked, OutcomeStep, InsnStep, StepsRun, loaded_from, stored_in, frame_bytes, found_value, returns, Argument}
+use Rattle.bpf_model.proofs.Prelude.{MapArgument, BytesArgument, NumberArgument, Request, LoadElement, StoreElement, CallHelper, Enter, Leave, named_map}
+use Rattle.bpf_model.proofs.Prelude.{called_shape, signature_of, argument_of, arguments_of, load_request, store_request, section_request, asks}
+use Rattle.bpf_model.proofs.Prelude.{extended_reply, loads, ServesRequest, bound_shape, Resumes, StepsAlone, StepsServed}
+use Rattle.model_laws.proofs.Prelude.{MapShape, Insn, Call, Load, LoadSigned, Store, Helper, Lookup, Update, Delete, KernelFunction, ReadLock, ReadUnlock}
+use Rattle.model_laws.proofs.Prelude.{Answer, Moved, Value, Nothing, Number, Pointer, Ctx, Frame, MapRef, Elem, StepsByKind, Acts, AccessesElement}
+use Rattle.model_laws.proofs.Prelude.{KernelStep, LookupStep, UpdateStep, DeleteStep, HelperStep, element_load, element_store, bound_map, map_argument}
+use Rattle.model_laws.proofs.Prelude.{key_argument, ArgumentKind, MapOfProgram, KeyOfMap, ValueOfMap, AnyNumber, ElementOrNull, IsOfKind}
 use Rattle.bpf_model.specs.declared.insn.CallKind.TheVariants as kinds
-use Rattle.bpf_model.specs.declared.call.Helper.{Helper}
-use Rattle.bpf_model.specs.declared.call.Helper.TheVariants.{Lookup, Update, Delete}
-use Rattle.bpf_model.specs.declared.call.KernelFunction.{KernelFunction}
-use Rattle.bpf_model.specs.declared.call.KernelFunction.TheVariants.{ReadLock, ReadUnlock}
-use Rattle.bpf_model.specs.declared.event.Answer.{Answer}
-use Rattle.bpf_model.specs.declared.event.Answer.TheVariants.{Moved}
-use Rattle.bpf_model.specs.declared.value.Value.{Value}
-use Rattle.bpf_model.specs.declared.value.Value.TheVariants.{Nothing, Number, Pointer}
-use Rattle.bpf_model.specs.declared.value.Reference.TheVariants.{Ctx, Frame, MapRef, Elem}
-use Rattle.bpf_model.specs.Arithmetic.{loaded_signed}
-use Rattle.bpf_model.specs.Operand.{operand_value}
-use Rattle.bpf_model.specs.Value.{◌>>=◌, number, reference}
-use Rattle.bpf_model.specs.Access.{byte_count, unsigned_width}
-use Rattle.bpf_model.specs.Call.{helper_of, kernel_function_of, ret_word}
-use Rattle.bpf_model.specs.Step.{State, Environment, Outcome, Moves, after, sets, forward, load_from, store_to}
-use Rattle.bpf_model.specs.Section.{Section}
-use Rattle.bpf_model.specs.Element.{Element, accessible}
 use Rattle.bpf_model.specs.MapState as map_state
-use Rattle.bpf_model.specs.Machine.{Run, Machine, open_sections, environment, moves, locked, unlocked}
-use Rattle.model_laws.specs.ByKind.{StepsByKind, Acts, AccessesElement, KernelStep, LookupStep, UpdateStep}
-use Rattle.model_laws.specs.ByKind.{DeleteStep, HelperStep, element_load, element_store, bound_map, map_argument}
-use Rattle.model_laws.specs.ByKind.{key_argument}
-use Rattle.bpf_model.specs.MachineStep.{OutcomeStep, InsnStep, StepsRun}
-use Rattle.bpf_model.specs.Element.{loaded_from, stored_in}
-use Rattle.bpf_model.specs.Frame.{frame_bytes}
-use Rattle.bpf_model.specs.Request.{found_value}
-use Rattle.bpf_model.specs.Step.{returns}
-use Rattle.bpf_model.specs.declared.call.ArgumentKind.{ArgumentKind}
-use Rattle.bpf_model.specs.declared.call.ArgumentKind.TheVariants.{MapOfProgram, KeyOfMap, ValueOfMap, AnyNumber}
-use Rattle.bpf_model.specs.declared.call.ResultKind.TheVariants.{ElementOrNull}
-use Rattle.bpf_model.specs.Request.{Argument, MapArgument, BytesArgument, NumberArgument, Request, LoadElement}
-use Rattle.bpf_model.specs.Request.{StoreElement, CallHelper, Enter, Leave, named_map, called_shape, signature_of}
-use Rattle.bpf_model.specs.Request.{argument_of, arguments_of, load_request, store_request, section_request, asks}
-use Rattle.bpf_model.specs.Request.{extended_reply, loads, Calls, ServesRequest, bound_shape}
-use Rattle.model_laws.specs.Replies.{IsOfKind}
-use Rattle.bpf_model.specs.MachineStep.{Resumes, StepsAlone, StepsServed}
+use Rattle.bpf_model.specs.Request.{Calls}
 use Rattle.model_laws.proofs.Computations.{first-step, then-step}
 
 -- steps of a computation, taken together

@@ -1,38 +1,17 @@
 -- A change of one run slot, by its run's step or a drop, is a step of the schedule.
-use Rattle.std.proofs.Common.{◌≡◌, ◌∙◌, ℕ, suc, ◌+◌, ◌-◌, ◌<◌, List, [], ◌∷◌, length, Option, Some, None, inl, inr}
-use Rattle.std.proofs.Common.{refl, sym, ap, arith, Bool, true, false, subst, ℤ}
-use Rattle.std.specs.Prelude.{slice_get, slice_set, slice_index, nat_lt, nat_le, ◌==◌, if◌then◌else◌}
-use Rattle.std.proofs.lemmas.Bool.{cases_eq}
-use Rattle.std.proofs.lemmas.Option.{same_Some}
-use Rattle.bpf_model.specs.declared.limits.TheConstants.{MAX_DEPTH}
-use Rattle.bpf_model.specs.declared.insn.Insn.TheVariants.{Call}
+use Rattle.bpf_model.proofs.Prelude.{◌≡◌, ◌∙◌, ℕ, suc, ◌+◌, ◌-◌, ◌<◌, List, [], ◌∷◌, length, Option, Some, None, inl, inr, refl, sym, ap, arith, Bool, true}
+use Rattle.bpf_model.proofs.Prelude.{false, subst, ℤ, slice_get, slice_set, slice_index, nat_lt, nat_le, ◌==◌, if◌then◌else◌, cases_eq, same_Some}
+use Rattle.bpf_model.proofs.Prelude.{kernel_function_of, insn_at, Element, Store, open_sections, Loaded, Run, run_at, moves, locked, unlocked, with_runs}
+use Rattle.bpf_model.proofs.Prelude.{with_store, StepsRun, returns, Answers, refusal, step_refusal, if_ended, drop_refusal, if_running, Schedule, is_open}
+use Rattle.bpf_model.proofs.Prelude.{open_flags, still_open, retired, TakesOldest, DoesScheduled, WordIs, element_bases, RunView, WorldView, RunRefines}
+use Rattle.bpf_model.proofs.Prelude.{RunSlotRefines, RefinesSchedule, oldest-none, run-behind, length-set, map-set, get-set_other, get-set_there}
+use Rattle.bpf_model.proofs.Prelude.{option_flatten}
+use Rattle.model_laws.proofs.Prelude.{MAX_DEPTH, Call, ReadLock, ReadUnlock, Answer, Moved, Done, Value, Nothing, KernelStep, with_run, locked_view}
+use Rattle.model_laws.proofs.Prelude.{unlocked_view, Matches, Simulates, half}
 use Rattle.bpf_model.specs.declared.insn.CallKind.TheVariants as kinds
-use Rattle.bpf_model.specs.declared.call.KernelFunction.TheVariants.{ReadLock, ReadUnlock}
 use Rattle.bpf_model.specs.declared.event.Event.TheVariants as events
-use Rattle.bpf_model.specs.declared.event.Answer.{Answer}
-use Rattle.bpf_model.specs.declared.event.Answer.TheVariants.{Moved, Done}
-use Rattle.bpf_model.specs.declared.value.Value.{Value}
-use Rattle.bpf_model.specs.declared.value.Value.TheVariants.{Nothing}
-use Rattle.bpf_model.specs.Call.{kernel_function_of}
-use Rattle.bpf_model.specs.Step.{insn_at}
-use Rattle.bpf_model.specs.Element.{Element}
-use Rattle.bpf_model.specs.MapState.{Store}
-use Rattle.bpf_model.specs.Machine.{open_sections, Loaded, Run, run_at, moves, locked, unlocked, with_runs, with_store}
-use Rattle.bpf_model.specs.MachineStep.{StepsRun}
-use Rattle.model_laws.specs.ByKind.{KernelStep}
-use Rattle.bpf_model.specs.Step.{returns}
-use Rattle.bpf_model.specs.Event.{Answers, refusal, step_refusal, if_ended, drop_refusal, if_running}
-use Rattle.bpf_model.specs.Schedule.{Schedule, is_open, open_flags, still_open, retired, TakesOldest, DoesScheduled}
-use Rattle.bpf_model.specs.Word.{WordIs, element_bases}
-use Rattle.bpf_model.specs.View.{RunView, WorldView}
-use Rattle.bpf_model.specs.Refines.{RunRefines, RunSlotRefines, RefinesSchedule}
-use Rattle.model_laws.specs.Reactions.{is_open_view, with_run, locked_view, unlocked_view}
-use Rattle.model_laws.specs.Matching.{Matches, Simulates, half}
-use Rattle.bpf_model.proofs.Cases.{oldest-none, run-behind}
+use Rattle.model_laws.specs.Reactions.{is_open_view}
 use Rattle.model_laws.proofs.ViewedWorlds.{retired-same, steps}
-use Rattle.std.proofs.lemmas.List.{length-set, map-set}
-use Rattle.bpf_model.proofs.Lists.{get-set_other, get-set_there}
-use Rattle.std.specs.Option.{option_flatten}
 use Rattle.model_laws.proofs.Requests.{of_kind}
 
 length-still : (a b : List Bool) → length a ≡ length b → length (still_open a b) ≡ length b

@@ -1,44 +1,23 @@
 -- What is so of the runtime's choices at the start, and stays so.
-use Rattle.std.proofs.Common.{◌≡◌, ◌≢◌, ℕ, ◌+◌, ◌<◌, List, ◌++◌, replicate, Option, Some, None, inl, inr, refl}
-use Rattle.std.proofs.Common.{sym, ap, ◌∙◌, arith, subst, Bool, true, false}
-use Rattle.std.specs.Prelude.{slice_get, slice_set, ◌==◌, ◌&&◌, if◌then◌else◌}
-use Rattle.std.proofs.lemmas.Bool.{cases_eq, cases_lt, false≢true}
-use Rattle.std.proofs.lemmas.Option.{same_Some}
-use Rattle.std.proofs.lemmas.List.{length-map}
-use Rattle.bpf_model.specs.declared.limits.MapShape.{MapShape}
-use Rattle.bpf_model.specs.declared.limits.TheConstants.{MAX_RUNS}
-use Rattle.bpf_model.specs.declared.event.Event.{Event}
+use Rattle.bpf_model.proofs.Prelude.{◌≡◌, ◌≢◌, ℕ, ◌+◌, ◌<◌, List, ◌++◌, replicate, Option, Some, None, inl, inr, refl, sym, ap, ◌∙◌, arith, subst, Bool, true}
+use Rattle.bpf_model.proofs.Prelude.{false, slice_get, slice_set, ◌==◌, ◌&&◌, if◌then◌else◌, cases_eq, cases_lt, false≢true, same_Some, length-map, Section}
+use Rattle.bpf_model.proofs.Prelude.{Has, AllEnded, Element, Unlinked, Reclaimed, HasLife, with_life, is_unlinked, Store, new_map, all_new_elements}
+use Rattle.bpf_model.proofs.Prelude.{AreShapes, Reclaims, Loaded, Machine, open_sections, with_store, DoesEvent, Queues, Schedule, open_flags, still_open}
+use Rattle.bpf_model.proofs.Prelude.{is_any, retired_in, unlinked_between, retired, turned, advanced, first_ready, without_first, reaped, scheduled}
+use Rattle.bpf_model.proofs.Prelude.{TakesFirst, DoesScheduled, start_schedule, no_queues, times, get-set_cases, get-set_other, get-replicate, none-without}
+use Rattle.model_laws.proofs.Prelude.{MapShape, MAX_RUNS, Event, Answer, Given, IsConsistent, queued_in, Waits, IsScheduled}
 use Rattle.bpf_model.specs.declared.event.Event.TheVariants as events
-use Rattle.bpf_model.specs.declared.event.Answer.{Answer}
 use Rattle.bpf_model.specs.declared.event.Answer.TheVariants as answers
-use Rattle.bpf_model.specs.declared.event.Given.{Given}
-use Rattle.bpf_model.specs.Section.{Section, Has, AllEnded}
-use Rattle.bpf_model.specs.Element.{Element, Unlinked, Reclaimed, HasLife, with_life}
-use Rattle.bpf_model.specs.Schedule.{is_unlinked}
-use Rattle.bpf_model.specs.MapState.{Store, new_map, all_new_elements}
-use Rattle.bpf_model.specs.Shapes.{AreShapes}
 use Rattle.model_laws.proofs.NewElements.{new-once}
-use Rattle.bpf_model.specs.Reclaim.{Reclaims}
-use Rattle.bpf_model.specs.Machine.{Loaded, Machine, open_sections, with_store}
-use Rattle.bpf_model.specs.Event.{DoesEvent}
-use Rattle.bpf_model.specs.Schedule.{Queues, Schedule, open_flags, still_open, is_any, retired_in, unlinked_between}
-use Rattle.bpf_model.specs.Schedule.{retired, turned, advanced, first_ready, without_first, reaped, scheduled}
-use Rattle.bpf_model.specs.Schedule.{TakesFirst, DoesScheduled, start_schedule, no_queues}
-use Rattle.model_laws.specs.Consistent.{IsConsistent}
-use Rattle.bpf_model.specs.Refines.{times}
-use Rattle.model_laws.specs.Scheduled.{queued_in, Waits, IsScheduled}
 use Rattle.model_laws.proofs.Sections.{OpenAt, open_at}
 use Rattle.model_laws.proofs.Moves.{RunsMove, does-move}
 use Rattle.model_laws.proofs.Changing.{is_reap}
 use Rattle.model_laws.proofs.Stores.{StoreMoves, does-moves}
 use Rattle.model_laws.proofs.Keeping.{starts_consistent, stays_consistent}
-use Rattle.model_laws.proofs.Counting.{times-append, times-first, times-other, between-is, retired-back}
-use Rattle.model_laws.proofs.Counting.{length-retired, map-back, still-forth, still-back, flag-any, shortened}
-use Rattle.model_laws.proofs.Counting.{FirstIndex, first-index, without-back, length-without}
+use Rattle.model_laws.proofs.Counting.{times-append, times-first, times-other, between-is, retired-back, length-retired, map-back, still-forth, still-back}
+use Rattle.model_laws.proofs.Counting.{flag-any, shortened, FirstIndex, first-index, without-back, length-without}
 use Rattle.model_laws.proofs.Queueing.{Queued, queued-of, queued-most, queued-reclaimed, queued-elsewhere, open-flag, keeps-waits, count-step}
 use Rattle.model_laws.proofs.Lives.{reclaimed≢unlinked}
-use Rattle.bpf_model.proofs.Lists.{get-set_cases, get-set_other, get-replicate}
-use Rattle.bpf_model.proofs.Cases.{none-without}
 
 abbrev total : ℕ → Queues → ℕ
 total n q = times n q.next + times n q.waiting + times n q.ready

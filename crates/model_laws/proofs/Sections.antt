@@ -1,10 +1,7 @@
 -- Runs by their run slots, and the sections that are open.
-use Rattle.std.proofs.Common.{◌≡◌, ◌≢◌, ℕ, zero, suc, ◌<◌, List, [], ◌∷◌, Option, Some, None, ◌⊎◌, inl, inr, refl, ap, ◌∙◌, subst, arith, Bool, true, false}
-use Rattle.std.specs.Prelude.{slice_get, slice_set, if◌then◌else◌}
-use Rattle.std.proofs.lemmas.Bool.{ltb-true, lt-ltb}
-use Rattle.std.proofs.lemmas.Option.{none-some, same_Some}
-use Rattle.bpf_model.specs.Section.{Section, Has}
-use Rattle.bpf_model.specs.Machine.{Run, is_inside, section_of, open_sections, run_at}
+use Rattle.bpf_model.proofs.Prelude.{◌≡◌, ◌≢◌, ℕ, zero, suc, ◌<◌, List, [], ◌∷◌, Option, Some, None, ◌⊎◌, inl, inr, refl, ap, ◌∙◌, subst, arith, Bool, true}
+use Rattle.bpf_model.proofs.Prelude.{false, slice_get, slice_set, if◌then◌else◌, ltb-true, lt-ltb, none-some, same_Some, Section, Has, Run, is_inside}
+use Rattle.bpf_model.proofs.Prelude.{section_of, open_sections, run_at}
 
 pub run-set_cases : (runs : List (Option Run)) (r q : ℕ) (new : Option Run) (x : Run) →
     run_at (slice_set runs r new) q ≡ Some x → ((q ≡ r) × (new ≡ Some x)) ⊎ ((q ≢ r) × (run_at runs q ≡ Some x))

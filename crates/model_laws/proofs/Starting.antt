@@ -1,30 +1,15 @@
 -- The world at the start tracks the schedule at the start.
-use Rattle.std.proofs.Common.{◌≡◌, ℕ, zero, suc, ◌+◌, ◌<◌, ◌≤◌, List, [], ◌∷◌, map, length, replicate, Some, None}
-use Rattle.std.proofs.Common.{inl, inr, refl, sym, ap, ◌∙◌, arith, subst, false}
-use Rattle.std.specs.Prelude.{slice_get, slice_index, count_by}
-use Rattle.std.specs.List.{range_with_len}
-use Rattle.std.specs.FinMap.{get, get-empty, len-empty}
-use Rattle.std.specs.Ordering.{nat_cmp}
-use Rattle.std.specs.Cmp.Lexicographic.{slice_cmp}
-use Rattle.std.proofs.lemmas.Bool.{cases_eq}
-use Rattle.std.proofs.lemmas.Option.{none-some, same_Some, get_or_from_slice_get}
-use Rattle.std.proofs.lemmas.List.FromFn.{length-map-range_with_len}
-use Rattle.std.proofs.lemmas.List.{length-map, length-replicate}
-use Rattle.bpf_model.specs.declared.limits.MapShape.{MapShape}
-use Rattle.bpf_model.specs.declared.limits.TheConstants.{MAX_RUNS}
-use Rattle.bpf_model.specs.declared.limits.TheConstants.{MAX_ENTRIES}
-use Rattle.bpf_model.specs.declared.limits.MapKind.{MapKind}
-use Rattle.bpf_model.specs.declared.limits.MapKind.TheVariants.{Hash, Array}
-use Rattle.bpf_model.specs.Element.{Element, Linked, is_reclaimed, linked_count}
-use Rattle.bpf_model.specs.MapState.{MapState, slots_of_shape, new_bag, new_map, index_key, array_element, all_new_elements}
-use Rattle.bpf_model.specs.Shapes.{AreShapes}
-use Rattle.bpf_model.specs.Machine.{Loaded}
-use Rattle.bpf_model.specs.Schedule.{Queues, open_flags, start_schedule, no_queues}
-use Rattle.bpf_model.specs.View.{SlotView, MapView, uses_at, unused_slot, index_below, array_slot, new_view_of, new_map_view, start_view}
-use Rattle.bpf_model.specs.Refines.{times, slot_view, MapRefines, RunSlotRefines, RefinesSchedule, TracksSchedule}
+use Rattle.bpf_model.proofs.Prelude.{◌≡◌, ℕ, zero, suc, ◌+◌, ◌<◌, ◌≤◌, List, [], ◌∷◌, map, length, replicate, Some, None, inl, inr, refl, sym, ap, ◌∙◌, arith}
+use Rattle.bpf_model.proofs.Prelude.{subst, false, slice_get, slice_index, count_by, range_with_len, get, get-empty, len-empty, nat_cmp, slice_cmp, cases_eq}
+use Rattle.bpf_model.proofs.Prelude.{none-some, same_Some, get_or_from_slice_get, length-map-range_with_len, length-map, length-replicate, Element, Linked}
+use Rattle.bpf_model.proofs.Prelude.{is_reclaimed, linked_count, MapState, slots_of_shape, new_bag, new_map, index_key, array_element, all_new_elements}
+use Rattle.bpf_model.proofs.Prelude.{AreShapes, Loaded, Queues, open_flags, start_schedule, no_queues, SlotView, MapView, uses_at, unused_slot, index_below}
+use Rattle.bpf_model.proofs.Prelude.{array_slot, new_view_of, new_map_view, start_view, times, slot_view, MapRefines, RunSlotRefines, RefinesSchedule}
+use Rattle.bpf_model.proofs.Prelude.{TracksSchedule}
+use Rattle.model_laws.proofs.Prelude.{MapShape, MAX_RUNS, MAX_ENTRIES, MapKind, Hash, Array}
 use Rattle.model_laws.proofs.Tallies.{one_of, count-cons}
-use Rattle.model_laws.proofs.NewElements.{range-get, all_new_slots, length-all_new, new-element, new-there}
-use Rattle.model_laws.proofs.NewElements.{new-single, new-once, fresh-counts, new_count, born-new}
+use Rattle.model_laws.proofs.NewElements.{range-get, all_new_slots, length-all_new, new-element, new-there, new-single, new-once, fresh-counts, new_count}
+use Rattle.model_laws.proofs.NewElements.{born-new}
 use Rattle.model_laws.proofs.Indices.{index-got, index-gets, len-index}
 use Rattle.model_laws.proofs.Counting.{times-first, times-other, map-back}
 

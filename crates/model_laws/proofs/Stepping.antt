@@ -1,42 +1,18 @@
 -- Each step of the machine lets the elements grow.
-use Rattle.std.proofs.Common.{◌≡◌, ℕ, zero, suc, List, [], ◌∷◌, length, Option, Some, None, inl, inr, sym, ap, subst}
-use Rattle.std.specs.Prelude.{slice_get, ℤ, ◌+ℤ◌, Result}
-use Rattle.bpf_model.specs.declared.insn.Insn.{Insn}
-use Rattle.bpf_model.specs.declared.insn.Insn.TheVariants.{Call, Load, LoadSigned, Store}
+use Rattle.bpf_model.proofs.Prelude.{◌≡◌, ℕ, zero, suc, List, [], ◌∷◌, length, Option, Some, None, inl, inr, sym, ap, subst, slice_get, ℤ, ◌+ℤ◌, Result}
+use Rattle.bpf_model.proofs.Prelude.{operand_value, byte_count, region_offset, helper_of, State, Environment, Outcome, Section, Element, with_value}
+use Rattle.bpf_model.proofs.Prelude.{with_life, accessible, changed, unlinked, LooksUp, Replaces, Writes, Settles, Updates, Removes, RemovesFrom, Deletes}
+use Rattle.bpf_model.proofs.Prelude.{Reclaims, Run, Machine, environment, open_sections, with_store, StepsRun, stored_in, with_bytes, DoesEvent, IsHistory}
+use Rattle.bpf_model.proofs.Prelude.{Reclaimed, HasLife}
+use Rattle.model_laws.proofs.Prelude.{Insn, Call, Load, LoadSigned, Store, Helper, Errno, Event, Answer, Value, Nothing, Number, Pointer, Ctx, Frame, MapRef}
+use Rattle.model_laws.proofs.Prelude.{Elem, MapKind, Hash, Array, StepsByKind, AccessesElement, Acts, HelperStep, element_store, ElementsGrow}
 use Rattle.bpf_model.specs.declared.insn.CallKind.TheVariants as kinds
-use Rattle.bpf_model.specs.declared.call.Helper.{Helper}
 use Rattle.bpf_model.specs.declared.call.Helper.TheVariants as helpers
-use Rattle.bpf_model.specs.declared.call.Errno.{Errno}
-use Rattle.bpf_model.specs.declared.event.Event.{Event}
-use Rattle.bpf_model.specs.declared.event.Answer.{Answer}
-use Rattle.bpf_model.specs.declared.value.Value.{Value}
-use Rattle.bpf_model.specs.declared.value.Value.TheVariants.{Nothing, Number, Pointer}
-use Rattle.bpf_model.specs.declared.value.Reference.TheVariants.{Ctx, Frame, MapRef, Elem}
-use Rattle.bpf_model.specs.Operand.{operand_value}
-use Rattle.bpf_model.specs.Access.{byte_count, region_offset}
-use Rattle.bpf_model.specs.Call.{helper_of}
-use Rattle.bpf_model.specs.Step.{State, Environment, Outcome}
-use Rattle.bpf_model.specs.Section.{Section}
-use Rattle.bpf_model.specs.Element.{Element, with_value, with_life, accessible, changed, unlinked}
 use Rattle.bpf_model.specs.MapState as map_state
-use Rattle.bpf_model.specs.Helper.{LooksUp, Replaces, Writes, Settles, Updates, Removes, RemovesFrom, Deletes}
-use Rattle.bpf_model.specs.declared.limits.MapKind.{MapKind}
-use Rattle.bpf_model.specs.declared.limits.MapKind.TheVariants.{Hash, Array}
-use Rattle.bpf_model.specs.Reclaim.{Reclaims}
-use Rattle.bpf_model.specs.Machine.{Run, Machine, environment, open_sections, with_store}
 use Rattle.model_laws.proofs.Changing.{StoreChange, ByUpdate, ByDelete, ByReclaim, Change, Still, Begins, Steps, Stores, Leaves, change}
-use Rattle.model_laws.specs.ByKind.{StepsByKind, AccessesElement, Acts, HelperStep, element_store}
-use Rattle.bpf_model.specs.MachineStep.{StepsRun}
-use Rattle.bpf_model.specs.Element.{stored_in}
-use Rattle.bpf_model.specs.Access.{with_bytes}
-use Rattle.bpf_model.specs.Event.{DoesEvent}
-use Rattle.bpf_model.specs.History.{IsHistory}
-use Rattle.bpf_model.specs.Element.{Reclaimed, HasLife}
-use Rattle.model_laws.specs.Growth.{ElementsGrow}
 use Rattle.model_laws.proofs.Computations.{first-step}
-use Rattle.model_laws.proofs.Growing.{grows-same, grows-along, grows-append, grows-set, grows-changed}
-use Rattle.model_laws.proofs.Growing.{grows-overwritten, grows-unlinked, follows-value, follows-reclaimed}
-use Rattle.model_laws.proofs.Growing.{stays-reclaimed}
+use Rattle.model_laws.proofs.Growing.{grows-same, grows-along, grows-append, grows-set, grows-changed, grows-overwritten, grows-unlinked, follows-value}
+use Rattle.model_laws.proofs.Growing.{follows-reclaimed, stays-reclaimed}
 use Rattle.model_laws.proofs.Requests.{run_by_kind}
 
 -- a store to an element

@@ -1,56 +1,22 @@
 -- What a step of the machine does to its elements and maps.
-use Rattle.std.proofs.Common.{◌≡◌, ℕ, zero, suc, ◌+◌, List, [], ◌∷◌, ◌++◌, length, Option, Some, None, ◌⊎◌, inl, inr}
-use Rattle.std.proofs.Common.{refl, sym, ap, ◌∙◌, Bool, true, false, subst, Result, ℤ, pos, negsuc, ◌+ℤ◌}
-use Rattle.std.specs.Prelude.{slice_get, slice_set, ◌==◌, ◌&&◌, nat_le, if◌then◌else◌}
-use Rattle.std.proofs.lemmas.Bool.{cases_eq, eqb-true}
-use Rattle.std.proofs.lemmas.Option.{none-some, same_Some}
-use Rattle.bpf_model.specs.declared.limits.TheConstants.{FRAME_BYTES}
-use Rattle.bpf_model.specs.declared.insn.Insn.{Insn}
-use Rattle.bpf_model.specs.declared.insn.Insn.TheVariants.{Call, Load, LoadSigned, Store}
+use Rattle.bpf_model.proofs.Prelude.{◌≡◌, ℕ, zero, suc, ◌+◌, List, [], ◌∷◌, ◌++◌, length, Option, Some, None, ◌⊎◌, inl, inr, refl, sym, ap, ◌∙◌, Bool, true}
+use Rattle.bpf_model.proofs.Prelude.{false, subst, Result, ℤ, pos, negsuc, ◌+ℤ◌, slice_get, slice_set, ◌==◌, ◌&&◌, nat_le, if◌then◌else◌, cases_eq, eqb-true}
+use Rattle.bpf_model.proofs.Prelude.{none-some, same_Some, operand_value, ◌>>=◌, byte_count, region_offset, byte_of, helper_of, State, Environment, Outcome}
+use Rattle.bpf_model.proofs.Prelude.{Section, AllEnded, Element, Life, Linked, Unlinked, Reclaimed, IsLinkedAt, IsAbsent, with_value, with_life, set_to}
+use Rattle.bpf_model.proofs.Prelude.{changed, unlinked, unless_reclaimed, accessible, newborn, overwritten, MapState, with_bag, with_elements, with_given}
+use Rattle.bpf_model.proofs.Prelude.{given_of, returned, shape_in, shape_of, LooksUp, Replaces, Settles, Updates, Removes, Deletes, Writes, RemovesFrom}
+use Rattle.bpf_model.proofs.Prelude.{Reclaims, Run, Machine, environment, open_sections, stored_in, with_bytes, bytes_at, bytes_from, frame_bytes, DoesEvent}
+use Rattle.bpf_model.proofs.Prelude.{refusal, update_refusal, length-with_bytes, length-set, get-append, get-append_cases, get-set_cases, get-set_other}
+use Rattle.bpf_model.proofs.Prelude.{get-set_there, InsnStep}
+use Rattle.model_laws.proofs.Prelude.{FRAME_BYTES, Insn, Call, Load, LoadSigned, Store, Helper, Errno, Event, Answer, BadLength, Given, Free, Worn, MapShape}
+use Rattle.model_laws.proofs.Prelude.{Value, Nothing, Number, Pointer, Ctx, Frame, MapRef, Elem, Cell, MapKind, Hash, Array, HasLengths, IsSingle}
+use Rattle.model_laws.proofs.Prelude.{StepsByKind, AccessesElement, Acts, HelperStep, element_store, key_argument, value_argument}
 use Rattle.bpf_model.specs.declared.insn.CallKind.TheVariants as kinds
-use Rattle.bpf_model.specs.declared.call.Helper.{Helper}
 use Rattle.bpf_model.specs.declared.call.Helper.TheVariants as helpers
-use Rattle.bpf_model.specs.declared.call.Errno.{Errno}
-use Rattle.bpf_model.specs.declared.event.Event.{Event}
-use Rattle.bpf_model.specs.declared.event.Answer.{Answer}
-use Rattle.bpf_model.specs.declared.event.EventRefusal.TheVariants.{BadLength}
-use Rattle.bpf_model.specs.declared.event.Given.{Given}
-use Rattle.bpf_model.specs.declared.event.Given.TheVariants.{Free, Worn}
-use Rattle.bpf_model.specs.declared.limits.MapShape.{MapShape}
-use Rattle.bpf_model.specs.declared.value.Value.{Value}
-use Rattle.bpf_model.specs.declared.value.Value.TheVariants.{Nothing, Number, Pointer}
-use Rattle.bpf_model.specs.declared.value.Reference.TheVariants.{Ctx, Frame, MapRef, Elem}
-use Rattle.bpf_model.specs.declared.value.Cell.{Cell}
-use Rattle.bpf_model.specs.Operand.{operand_value}
-use Rattle.bpf_model.specs.Value.{◌>>=◌}
-use Rattle.bpf_model.specs.Access.{byte_count, region_offset}
-use Rattle.bpf_model.specs.Frame.{byte_of}
-use Rattle.bpf_model.specs.Call.{helper_of}
-use Rattle.bpf_model.specs.Step.{State, Environment, Outcome}
-use Rattle.bpf_model.specs.Section.{Section, AllEnded}
-use Rattle.bpf_model.specs.Element.{Element, Life, Linked, Unlinked, Reclaimed, IsLinkedAt, IsAbsent, with_value}
-use Rattle.bpf_model.specs.Element.{with_life, set_to, changed, unlinked, unless_reclaimed, accessible, newborn}
-use Rattle.bpf_model.specs.Element.{overwritten}
 use Rattle.bpf_model.specs.MapState as map_state
-use Rattle.bpf_model.specs.MapState.{MapState, with_bag, with_elements, with_given, given_of, returned, shape_in, shape_of}
-use Rattle.bpf_model.specs.Helper.{LooksUp, Replaces, Settles, Updates, Removes, Deletes, Writes, RemovesFrom}
-use Rattle.bpf_model.specs.declared.limits.MapKind.{MapKind}
-use Rattle.bpf_model.specs.declared.limits.MapKind.TheVariants.{Hash, Array}
-use Rattle.bpf_model.specs.Reclaim.{Reclaims}
 use Rattle.model_laws.proofs.Changing.{is_reap, StoreChange, ByUpdate, ByDelete, ByReclaim, Change, Still, Begins, Steps, Stores, Leaves, change}
-use Rattle.model_laws.specs.Consistent.{HasLengths, IsSingle}
-use Rattle.bpf_model.specs.Machine.{Run, Machine, environment, open_sections}
-use Rattle.model_laws.specs.ByKind.{StepsByKind, AccessesElement, Acts, HelperStep, element_store, key_argument, value_argument}
-use Rattle.bpf_model.specs.Element.{stored_in}
-use Rattle.bpf_model.specs.Access.{with_bytes}
-use Rattle.bpf_model.specs.Frame.{bytes_at, bytes_from, frame_bytes}
-use Rattle.bpf_model.specs.Event.{DoesEvent, refusal, update_refusal}
 use Rattle.model_laws.proofs.Computations.{first-step}
 use Rattle.model_laws.proofs.Lives.{linked≢unlinked}
-use Rattle.bpf_model.proofs.Bytes.{length-with_bytes}
-use Rattle.std.proofs.lemmas.List.{length-set}
-use Rattle.bpf_model.proofs.Lists.{get-append, get-append_cases, get-set_cases, get-set_other, get-set_there}
-use Rattle.bpf_model.specs.MachineStep.{InsnStep}
 use Rattle.model_laws.proofs.Requests.{by_kind}
 
 -- How a life goes on in one step: it stays, the element is unlinked, or (in a reap) its sections have ended.

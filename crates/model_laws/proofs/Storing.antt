@@ -1,29 +1,18 @@
 -- A store of a run to an element: the value in its map slot changes.
-use Rattle.std.proofs.Common.{◌≡◌, ◌≢◌, ◌∙◌, ℕ, ◌<◌, List, length, Option, Some, None, ◌⊎◌, inl, inr, refl, sym, ap, Bool, true, false, subst, ℤ}
-use Rattle.std.specs.Prelude.{slice_get, slice_set, slice_index, ◌==◌, ◌&&◌, if◌then◌else◌}
-use Rattle.std.proofs.lemmas.Bool.{cases_eq}
-use Rattle.std.proofs.lemmas.Option.{none-some, same_Some}
-use Rattle.bpf_model.specs.Value.{◌>>=◌}
-use Rattle.bpf_model.specs.Access.{region_offset}
-use Rattle.bpf_model.specs.Element.{Element, is_linked, is_reclaimed, with_value, set_to, changed, unless_reclaimed, accessible}
-use Rattle.bpf_model.specs.MapState.{MapState, Store, with_elements}
-use Rattle.bpf_model.specs.Element.{stored_in}
-use Rattle.bpf_model.specs.Access.{with_bytes}
-use Rattle.bpf_model.specs.Schedule.{Queues, Schedule, retired}
-use Rattle.bpf_model.specs.View.{SlotView, MapView, WorldView, uses_in, uses_at, map_state_of, key_in, value_in}
-use Rattle.bpf_model.specs.Refines.{slot_view, IsElementKept, SlotsStand, ElementsStand, RefinesSchedule, named}
+use Rattle.bpf_model.proofs.Prelude.{◌≡◌, ◌≢◌, ◌∙◌, ℕ, ◌<◌, List, length, Option, Some, None, ◌⊎◌, inl, inr, refl, sym, ap, Bool, true, false, subst, ℤ}
+use Rattle.bpf_model.proofs.Prelude.{slice_get, slice_set, slice_index, ◌==◌, ◌&&◌, if◌then◌else◌, cases_eq, none-some, same_Some, ◌>>=◌, region_offset}
+use Rattle.bpf_model.proofs.Prelude.{Element, is_linked, is_reclaimed, with_value, set_to, changed, unless_reclaimed, accessible, MapState, Store}
+use Rattle.bpf_model.proofs.Prelude.{with_elements, stored_in, with_bytes, Queues, Schedule, retired, SlotView, MapView, WorldView, uses_in, uses_at}
+use Rattle.bpf_model.proofs.Prelude.{map_state_of, key_in, value_in, slot_view, IsElementKept, SlotsStand, ElementsStand, RefinesSchedule, named, oldest-none}
+use Rattle.bpf_model.proofs.Prelude.{length-set, get-set_cases, get-set_other, get-set_there}
+use Rattle.model_laws.proofs.Prelude.{written, with_map, Matches, half}
 use Rattle.model_laws.proofs.Counting.{retired-back, length-retired}
 use Rattle.model_laws.proofs.Stores.{accessible-born}
-use Rattle.model_laws.specs.Views.{written}
-use Rattle.model_laws.specs.Reactions.{with_map}
-use Rattle.model_laws.specs.Matching.{Matches, half, StoresHalf}
+use Rattle.model_laws.specs.Matching.{StoresHalf}
 use Rattle.model_laws.proofs.Lists.{map-same}
 use Rattle.model_laws.proofs.ViewsChanging.{link-written, link-unwritten, count-written, changes-value}
 use Rattle.model_laws.proofs.Listing.{between-value, more-none}
-use Rattle.bpf_model.proofs.Cases.{oldest-none}
 use Rattle.model_laws.proofs.ViewedWorlds.{Here, here, Turns, turned-world}
-use Rattle.std.proofs.lemmas.List.{length-set}
-use Rattle.bpf_model.proofs.Lists.{get-set_cases, get-set_other, get-set_there}
 
 -- an element that may be accessed is not reclaimed
 pub accessible-kept : (es : List Element) (n : ℕ) (o : Option Element) (e : Element) → slice_get es n ≡ o →

@@ -1,15 +1,10 @@
 -- How many elements of a map are linked, unlinked or kept, as the elements change.
-use Rattle.std.proofs.Common.{◌≡◌, ℕ, zero, suc, ◌+◌, ◌*◌, ◌≤◌, List, [], ◌∷◌, ◌++◌, length, cond, Some, refl, sym, ap, ◌∙◌, arith, Bool, true, false}
-use Rattle.std.specs.Prelude.{slice_get, slice_set, ◌==◌, ◌&&◌, not, count_by}
-use Rattle.std.specs.List.{sum_by}
-use Rattle.std.proofs.Math.Nat.{add-mul}
-use Rattle.std.proofs.lemmas.Bool.{eq-eqb, eqb-true, false_from_ne_true, false≢true, and_right}
-use Rattle.std.proofs.lemmas.Option.{none-some, same_Some}
-use Rattle.std.proofs.lemmas.List.Sums.{sum_by-cons, sum_by_push}
-use Rattle.bpf_model.specs.Section.{Section}
-use Rattle.bpf_model.specs.Element.{Element, Life, Linked, Unlinked, Reclaimed, is_linked, is_reclaimed, linked_count, with_life}
-use Rattle.bpf_model.specs.Schedule.{is_unlinked}
-use Rattle.model_laws.specs.Accounted.{unlinked_count, kept_count, born_count}
+use Rattle.bpf_model.proofs.Prelude.{◌≡◌, ℕ, zero, suc, ◌+◌, ◌*◌, ◌≤◌, List, [], ◌∷◌, ◌++◌, length, cond, Some, refl, sym, ap, ◌∙◌, arith, Bool, true, false}
+use Rattle.bpf_model.proofs.Prelude.{slice_get, slice_set, ◌==◌, ◌&&◌, not, count_by, sum_by, add-mul, eq-eqb, eqb-true, false_from_ne_true, false≢true}
+use Rattle.bpf_model.proofs.Prelude.{and_right, none-some, same_Some, sum_by-cons, sum_by_push, Section, Element, Life, Linked, Unlinked, Reclaimed}
+use Rattle.bpf_model.proofs.Prelude.{is_linked, is_reclaimed, linked_count, with_life, is_unlinked}
+use Rattle.model_laws.proofs.Prelude.{kept_count, born_count}
+use Rattle.model_laws.specs.Accounted.{unlinked_count}
 use Rattle.model_laws.proofs.Stores.{LifeMoves, Stays, Unlinks, Ends, Alters, Touches}
 
 -- counts of lists

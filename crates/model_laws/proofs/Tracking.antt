@@ -1,15 +1,7 @@
 -- A step leads on from the schedule that a world tracks.
-use Rattle.std.proofs.Common.{◌≡◌, List, [], ◌∷◌, ◌++◌, inl, inr, sym, subst}
-use Rattle.bpf_model.specs.declared.limits.MapShape.{MapShape}
-use Rattle.bpf_model.specs.declared.event.Event.{Event}
-use Rattle.bpf_model.specs.declared.event.Answer.{Answer}
-use Rattle.bpf_model.specs.Real.{IsReal, AreReal}
-use Rattle.bpf_model.specs.Machine.{Loaded}
-use Rattle.bpf_model.specs.Schedule.{Schedule, DoesScheduled, start_schedule}
-use Rattle.bpf_model.specs.View.{WorldView, shapes_of}
-use Rattle.bpf_model.specs.Refines.{IsReachedSchedule, TracksSchedule}
-use Rattle.model_laws.specs.Matching.{Matches, Simulates}
-use Rattle.bpf_model.proofs.Lists.{get-append_cases}
+use Rattle.bpf_model.proofs.Prelude.{◌≡◌, List, [], ◌∷◌, ◌++◌, inl, inr, sym, subst, IsReal, AreReal, Loaded, Schedule, DoesScheduled, start_schedule}
+use Rattle.bpf_model.proofs.Prelude.{WorldView, shapes_of, IsReachedSchedule, TracksSchedule, get-append_cases}
+use Rattle.model_laws.proofs.Prelude.{MapShape, Event, Answer, Matches, Simulates}
 use Rattle.model_laws.proofs.Joining.{history-join, last-join}
 
 pub real-more : (events : List Event) (event : Event) → AreReal events → IsReal event → AreReal (events ++ event ∷ [])

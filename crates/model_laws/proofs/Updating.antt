@@ -1,44 +1,26 @@
 -- An update: in a hash map what the key had leaves, and an element is born in the map slot that has
 -- been free longest; in an array the value in the index's map slot changes.
-use Rattle.std.proofs.Common.{◌≡◌, ◌∙◌, ℕ, ◌+◌, ◌-◌, ◌<◌, ◌≤◌, List, [], ◌∷◌, ◌++◌, map, length, Option, Some, None}
-use Rattle.std.proofs.Common.{inl, inr, refl, sym, ap, arith, false, subst, Result, Ok, Err}
-use Rattle.std.specs.Prelude.{slice_get, slice_set, slice_index, count_by, is_some, cond, not, nat_lt, nat_le, ◌==◌, ◌&&◌}
-use Rattle.std.specs.FinMap.{get, len}
-use Rattle.std.proofs.lemmas.Option.{none-some, same_Some}
-use Rattle.std.proofs.lemmas.List.{length-append, length-set}
-use Rattle.std.proofs.lemmas.List.Sums.{sum_by_push}
-use Rattle.bpf_model.specs.declared.call.Errno.{Errno}
+use Rattle.bpf_model.proofs.Prelude.{◌≡◌, ◌∙◌, ℕ, ◌+◌, ◌-◌, ◌<◌, ◌≤◌, List, [], ◌∷◌, ◌++◌, map, length, Option, Some, None, inl, inr, refl, sym, ap, arith}
+use Rattle.bpf_model.proofs.Prelude.{false, subst, Result, Ok, Err, slice_get, slice_set, slice_index, count_by, is_some, cond, not, nat_lt, nat_le, ◌==◌}
+use Rattle.bpf_model.proofs.Prelude.{◌&&◌, get, len, none-some, same_Some, length-append, length-set, sum_by_push, Section, Element, IsLinkedAt, IsAbsent}
+use Rattle.bpf_model.proofs.Prelude.{linked_count, is_reclaimed, newborn, overwritten, set_to, with_value, MapState, Store, with_bag, with_elements, LooksUp}
+use Rattle.bpf_model.proofs.Prelude.{Replaces, Writes, Settles, Updates, hash_error, error_of_kind, update_error, open_sections, with_store, Answers}
+use Rattle.bpf_model.proofs.Prelude.{update_refusal, refusal, Queues, Schedule, retired, TakesOldest, SlotView, MapView, WorldView, uses_in, uses_at}
+use Rattle.bpf_model.proofs.Prelude.{map_state_of, times, RefinesSchedule, option_cases, oldest-none, get-append_last, get-set_other, get-set_there}
+use Rattle.model_laws.proofs.Prelude.{Errno, Ret, EventRefusal, NoMap, MapKind, Hash, Array, IsScheduled, retired_key, filled, filled_from, written}
+use Rattle.model_laws.proofs.Prelude.{overwritten_slot, written_by, updated_by, updated, shown_error, shape_shown, with_map, update_at, update_reaction}
+use Rattle.model_laws.proofs.Prelude.{Matches, Simulates, half, ChangesHalf}
 use Rattle.bpf_model.specs.declared.event.Event.TheVariants as events
-use Rattle.bpf_model.specs.declared.event.Answer.TheVariants.{Ret}
-use Rattle.bpf_model.specs.declared.event.EventRefusal.{EventRefusal}
-use Rattle.bpf_model.specs.declared.event.EventRefusal.TheVariants.{NoMap}
 use Rattle.arrayvec.specs.ArrayVec.{ArrayVec}
-use Rattle.bpf_model.specs.declared.limits.MapKind.{MapKind}
-use Rattle.bpf_model.specs.declared.limits.MapKind.TheVariants.{Hash, Array}
-use Rattle.bpf_model.specs.Section.{Section}
-use Rattle.bpf_model.specs.Element.{Element, IsLinkedAt, IsAbsent, linked_count, is_reclaimed, newborn, overwritten, set_to, with_value}
-use Rattle.bpf_model.specs.MapState.{MapState, Store, with_bag, with_elements}
-use Rattle.bpf_model.specs.Helper.{LooksUp, Replaces, Writes, Settles, Updates, hash_error, error_of_kind, update_error}
-use Rattle.bpf_model.specs.Machine.{open_sections, with_store}
-use Rattle.bpf_model.specs.Event.{Answers, update_refusal, refusal}
-use Rattle.bpf_model.specs.Schedule.{Queues, Schedule, retired, TakesOldest}
-use Rattle.model_laws.specs.Scheduled.{IsScheduled}
 use Rattle.model_laws.proofs.Counting.{length-retired, times-first}
-use Rattle.bpf_model.specs.View.{SlotView, MapView, WorldView, uses_in, uses_at, map_state_of}
-use Rattle.bpf_model.specs.Refines.{times, RefinesSchedule}
-use Rattle.model_laws.specs.Views.{retired_key, filled, filled_from, written, overwritten_slot, written_by, updated_by, updated, shown_error}
-use Rattle.model_laws.specs.Reactions.{shape_shown, with_map, update_at, update_reaction}
-use Rattle.model_laws.specs.Matching.{Matches, Simulates, half, ChangesHalf, UpdatesHalf}
-use Rattle.model_laws.proofs.ViewsChanging.{Changes}
+use Rattle.model_laws.specs.Matching.{UpdatesHalf}
+use Rattle.model_laws.proofs.ViewsChanging.{Changes, changes-trans, changes-born}
 use Rattle.model_laws.proofs.Lists.{map-same, index-append, stands-in}
-use Rattle.model_laws.proofs.ViewsChanging.{changes-trans, changes-born}
 use Rattle.model_laws.proofs.Mapping.{elements-born, slots-born}
-use Rattle.bpf_model.proofs.Cases.{option_cases, oldest-none}
 use Rattle.model_laws.proofs.ViewedWorlds.{Here, Turns, turned-world, shapes-agree, refuses, stays-half, half-simulates}
 use Rattle.model_laws.proofs.Storing.{written-half}
 use Rattle.model_laws.proofs.Deleting.{Dropped, h, drop, lists-left, lists-others}
 use Rattle.model_laws.proofs.Choices.{last-false}
-use Rattle.bpf_model.proofs.Lists.{get-append_last, get-set_other, get-set_there}
 
 free-has : (v : MapView) (free : List ℕ) → v.free ≡ free → (length (map (uses_at v.slots) free) == 0) ≡ false → (i : ℕ) × (rest : List ℕ) × (free ≡ i ∷ rest)
 free-has v [] e h = absurd (cc)

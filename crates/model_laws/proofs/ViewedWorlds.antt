@@ -1,30 +1,16 @@
 -- A world stands for the schedule after a change of one map.
-use Rattle.std.proofs.Common.{◌≡◌, ◌≢◌, ◌∙◌, ℕ, suc, ◌<◌, List, [], ◌∷◌, map, length, Option, Some, None, inl, inr, refl, sym, ap, arith, Bool, subst}
-use Rattle.std.specs.Prelude.{slice_get, slice_set, count_by}
-use Rattle.std.proofs.lemmas.Option.{none-some, same_Some, slice_get_within}
-use Rattle.bpf_model.proofs.Cases.{option_cases, oldest-none}
-use Rattle.bpf_model.specs.declared.event.Event.{Event}
+use Rattle.bpf_model.proofs.Prelude.{◌≡◌, ◌≢◌, ◌∙◌, ℕ, suc, ◌<◌, List, [], ◌∷◌, map, length, Option, Some, None, inl, inr, refl, sym, ap, arith, Bool, subst}
+use Rattle.bpf_model.proofs.Prelude.{slice_get, slice_set, count_by, none-some, same_Some, slice_get_within, option_cases, oldest-none, Element, is_reclaimed}
+use Rattle.bpf_model.proofs.Prelude.{MapState, Store, shape_in, shape_of, with_store, Answers, key_refusal, refusal, Queues, Schedule, open_flags, still_open}
+use Rattle.bpf_model.proofs.Prelude.{retired, scheduled, TakesFirst, DoesScheduled, MapView, WorldView, MapRefines, RefinesSchedule, length-set, get-below}
+use Rattle.bpf_model.proofs.Prelude.{get-set_cases, set-same}
+use Rattle.model_laws.proofs.Prelude.{Event, Answer, Refused, EventRefusal, IsScheduled, shape_shown, with_map, Matches, Simulates, half, ChangesHalf}
 use Rattle.bpf_model.specs.declared.event.Event.TheVariants as events
-use Rattle.bpf_model.specs.declared.event.Answer.{Answer}
-use Rattle.bpf_model.specs.declared.event.Answer.TheVariants.{Refused}
-use Rattle.bpf_model.specs.declared.event.EventRefusal.{EventRefusal}
-use Rattle.bpf_model.specs.Element.{Element, is_reclaimed}
-use Rattle.bpf_model.specs.MapState.{MapState, Store, shape_in, shape_of}
-use Rattle.bpf_model.specs.Machine.{with_store}
-use Rattle.bpf_model.specs.Event.{Answers, key_refusal, refusal}
-use Rattle.bpf_model.specs.Schedule.{Queues, Schedule, open_flags, still_open, retired, scheduled, TakesFirst, DoesScheduled}
-use Rattle.model_laws.specs.Scheduled.{IsScheduled}
 use Rattle.model_laws.proofs.Scheduling.{stays_scheduled}
-use Rattle.bpf_model.specs.View.{MapView, WorldView}
-use Rattle.bpf_model.specs.Refines.{MapRefines, RefinesSchedule}
-use Rattle.model_laws.specs.Reactions.{shape_shown, with_map}
-use Rattle.model_laws.specs.Matching.{Matches, Simulates, half, ChangesHalf}
 use Rattle.model_laws.proofs.ViewsChanging.{Changes}
 use Rattle.model_laws.proofs.Mapping.{elements-other}
 use Rattle.model_laws.proofs.Wording.{slot-kept}
 use Rattle.model_laws.proofs.Listing.{named-kept, between-same, still-same, more-none}
-use Rattle.std.proofs.lemmas.List.{length-set}
-use Rattle.bpf_model.proofs.Lists.{get-below, get-set_cases, set-same}
 
 -- what stands at a map's number
 pub record Here (w : WorldView) (s : Schedule) (x : RefinesSchedule w s) (k : ℕ) (v : MapView) : Type 0 where

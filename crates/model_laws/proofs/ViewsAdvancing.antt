@@ -1,18 +1,10 @@
 -- What a world makes of an advance is a step of the schedule.
-use Rattle.std.proofs.Common.{◌≡◌, ◌∙◌, ℕ, map, length, refl, sym, ap, Bool, true, false, subst}
-use Rattle.std.proofs.lemmas.List.{length-map}
+use Rattle.bpf_model.proofs.Prelude.{◌≡◌, ◌∙◌, ℕ, map, length, refl, sym, ap, Bool, true, false, subst, length-map, Queues, Schedule, open_flags, is_any}
+use Rattle.bpf_model.proofs.Prelude.{turned, advanced, DoesScheduled, MapState, MapView, WorldView, MapRefines, RefinesSchedule, oldest-none}
+use Rattle.model_laws.proofs.Prelude.{Done, turned_view, advanced_by, advance_reaction, Matches, Simulates}
 use Rattle.bpf_model.specs.declared.event.Event.TheVariants as events
-use Rattle.bpf_model.specs.declared.event.Answer.TheVariants.{Done}
-use Rattle.bpf_model.specs.Schedule.{Queues, Schedule, open_flags, is_any, turned, advanced, DoesScheduled}
-use Rattle.bpf_model.specs.MapState.{MapState}
 use Rattle.model_laws.proofs.Counting.{map-back}
-use Rattle.bpf_model.specs.View.{MapView, WorldView}
-use Rattle.bpf_model.specs.Refines.{MapRefines, RefinesSchedule}
-use Rattle.model_laws.specs.Views.{turned_view}
-use Rattle.model_laws.specs.Reactions.{advanced_by, advance_reaction}
-use Rattle.model_laws.specs.Matching.{Matches, Simulates}
 use Rattle.model_laws.proofs.Listing.{named-turned}
-use Rattle.bpf_model.proofs.Cases.{oldest-none}
 use Rattle.model_laws.proofs.ViewedWorlds.{steps}
 
 stands-turned : (w : WorldView) (s : Schedule) (x : RefinesSchedule w s) (k : ℕ) (v : MapView) (m : MapState)

@@ -1,16 +1,11 @@
 -- What a new life of an element, and a birth, leave as it was.
-use Rattle.std.proofs.Common.{◌≡◌, ◌≢◌, ◌∙◌, ℕ, ◌+◌, ◌<◌, ◌≤◌, List, [], ◌∷◌, ◌++◌, length, Some, ◌⊎◌, inl, inr, refl, sym, ap, arith, cond, Bool, false, subst}
-use Rattle.std.specs.Prelude.{slice_get, slice_set, slice_index, count_by, ◌==◌, ◌&&◌}
-use Rattle.std.proofs.lemmas.Bool.{cases_eq, cases_lt, eqb-true, false_from_ne_true, false≢true, and_right}
-use Rattle.std.proofs.lemmas.Option.{same_Some, slice_get_within}
-use Rattle.std.proofs.lemmas.List.{length-append, length-set}
-use Rattle.std.proofs.lemmas.List.Sums.{sum_by_push}
-use Rattle.bpf_model.specs.Element.{Element, Life, IsLinkedAt, is_linked, is_reclaimed, linked_count, with_life, with_value, newborn}
-use Rattle.bpf_model.specs.Word.{map_in}
-use Rattle.bpf_model.specs.Refines.{slot_view}
+use Rattle.bpf_model.proofs.Prelude.{◌≡◌, ◌≢◌, ◌∙◌, ℕ, ◌+◌, ◌<◌, ◌≤◌, List, [], ◌∷◌, ◌++◌, length, Some, ◌⊎◌, inl, inr, refl, sym, ap, arith, cond, Bool}
+use Rattle.bpf_model.proofs.Prelude.{false, subst, slice_get, slice_set, slice_index, count_by, ◌==◌, ◌&&◌, cases_eq, cases_lt, eqb-true, false_from_ne_true}
+use Rattle.bpf_model.proofs.Prelude.{false≢true, and_right, same_Some, slice_get_within, length-append, length-set, sum_by_push, Element, Life, IsLinkedAt}
+use Rattle.bpf_model.proofs.Prelude.{is_linked, is_reclaimed, linked_count, with_life, with_value, newborn, map_in, slot_view, get-append, get-append_cases}
+use Rattle.bpf_model.proofs.Prelude.{get-below, get-set_cases, get-set_other, get-set_there}
 use Rattle.model_laws.proofs.Tallies.{one_of, count-set}
 use Rattle.model_laws.proofs.Lists.{index-append}
-use Rattle.bpf_model.proofs.Lists.{get-append, get-append_cases, get-below, get-set_cases, get-set_other, get-set_there}
 
 -- An element that was there before: not reclaimed, in the same map, and outside map k with the same key, value and use count.
 pub record Was (k : ℕ) (es : List Element) (n : ℕ) (f : Element) : Type 0 where

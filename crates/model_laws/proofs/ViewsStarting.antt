@@ -1,26 +1,14 @@
 -- What a world makes of a start is a step of the schedule.
-use Rattle.std.proofs.Common.{◌≡◌, ◌∙◌, ℕ, zero, suc, ◌+◌, ◌<◌, List, [], ◌∷◌, length, Option, Some, None, refl, sym, ap, arith, subst, Bool, true, false}
-use Rattle.std.specs.Prelude.{slice_get, slice_index, ◌==◌, if◌then◌else◌}
+use Rattle.bpf_model.proofs.Prelude.{◌≡◌, ◌∙◌, ℕ, zero, suc, ◌+◌, ◌<◌, List, [], ◌∷◌, length, Option, Some, None, refl, sym, ap, arith, subst, Bool, true}
+use Rattle.bpf_model.proofs.Prelude.{false, slice_get, slice_index, ◌==◌, if◌then◌else◌, none-some, length-replicate, entry_value, Element, Loaded, Run}
+use Rattle.bpf_model.proofs.Prelude.{fresh_run, lowest_free, Answers, refusal, start_refusal, Schedule, DoesScheduled, WordIs, element_bases, RunView}
+use Rattle.bpf_model.proofs.Prelude.{WorldView, RunRefines, RunSlotRefines, RefinesSchedule, oldest-none}
+use Rattle.model_laws.proofs.Prelude.{Started, FRAME_BYTES, REGISTERS, EventRefusal, NoProgram, BadContext, fresh_view, with_run, start_by, start_reaction}
+use Rattle.model_laws.proofs.Prelude.{Matches, Simulates}
 use Rattle.std.specs.Option.{option_map}
-use Rattle.std.proofs.lemmas.Option.{none-some}
-use Rattle.std.proofs.lemmas.List.{length-replicate}
 use Rattle.arrayvec.specs.ArrayVec.{ArrayVec}
 use Rattle.bpf_model.specs.declared.event.Event.TheVariants as events
-use Rattle.bpf_model.specs.declared.event.Answer.TheVariants.{Started}
-use Rattle.bpf_model.specs.declared.limits.TheConstants.{FRAME_BYTES, REGISTERS}
-use Rattle.bpf_model.specs.declared.event.EventRefusal.{EventRefusal}
-use Rattle.bpf_model.specs.declared.event.EventRefusal.TheVariants.{NoProgram, BadContext, RunsFull}
-use Rattle.bpf_model.specs.Step.{entry_value}
-use Rattle.bpf_model.specs.Element.{Element}
-use Rattle.bpf_model.specs.Machine.{Loaded, Run, fresh_run, lowest_free}
-use Rattle.bpf_model.specs.Event.{Answers, refusal, start_refusal}
-use Rattle.bpf_model.specs.Schedule.{Schedule, DoesScheduled}
-use Rattle.bpf_model.specs.Word.{WordIs, element_bases}
-use Rattle.bpf_model.specs.View.{RunView, WorldView}
-use Rattle.bpf_model.specs.Refines.{RunRefines, RunSlotRefines, RefinesSchedule}
-use Rattle.model_laws.specs.Reactions.{fresh_view, with_run, start_by, start_reaction}
-use Rattle.model_laws.specs.Matching.{Matches, Simulates}
-use Rattle.bpf_model.proofs.Cases.{oldest-none}
+use Rattle.bpf_model.specs.declared.event.EventRefusal.TheVariants.{RunsFull}
 use Rattle.model_laws.proofs.Leaving.{free-there}
 use Rattle.model_laws.proofs.ViewedWorlds.{refuses, steps}
 use Rattle.model_laws.proofs.Running.{run-changed, run-world, lists-same}

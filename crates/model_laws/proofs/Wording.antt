@@ -1,21 +1,10 @@
 -- The words of the runs stand for what they stood for.
-use Rattle.std.proofs.Common.{◌≡◌, ◌∙◌, ℕ, ◌<◌, List, length, Option, Some, None, refl, sym, ap}
-use Rattle.std.specs.Prelude.{slice_index, pos, ◌+ℤ◌}
-use Rattle.bpf_model.specs.declared.value.Value.{Value}
-use Rattle.bpf_model.specs.declared.value.Value.TheVariants.{Nothing, Number, Pointer}
-use Rattle.bpf_model.specs.declared.value.Reference.{Reference}
-use Rattle.bpf_model.specs.declared.value.Reference.TheVariants.{Ctx, Frame, MapRef, Elem}
-use Rattle.bpf_model.specs.declared.value.Cell.{Cell}
-use Rattle.bpf_model.specs.declared.value.Cell.TheVariants.{Unwritten, Byte, Part}
-use Rattle.bpf_model.specs.Element.{Element}
-use Rattle.bpf_model.specs.Machine.{Loaded, Run}
-use Rattle.bpf_model.specs.Word.{slot_base, IsReferenceWord, WordIs, ByteIs, element_bases}
-use Rattle.model_laws.specs.Consistent.{IsBorn, IsBornValue, IsBornCell}
+use Rattle.bpf_model.proofs.Prelude.{◌≡◌, ◌∙◌, ℕ, ◌<◌, List, length, Option, Some, None, refl, sym, ap, slice_index, pos, ◌+ℤ◌, Element, Loaded, Run}
+use Rattle.bpf_model.proofs.Prelude.{slot_base, IsReferenceWord, WordIs, ByteIs, element_bases, RunView, RunRefines, RunSlotRefines, option_flatten}
+use Rattle.model_laws.proofs.Prelude.{Value, Nothing, Number, Pointer, Reference, Ctx, Frame, MapRef, Elem, Cell, Unwritten, Byte, Part, IsBorn, IsBornValue}
+use Rattle.model_laws.proofs.Prelude.{IsBornCell}
 use Rattle.model_laws.proofs.Born.{IsBornState}
-use Rattle.bpf_model.specs.View.{RunView}
-use Rattle.bpf_model.specs.Refines.{RunRefines, RunSlotRefines}
 use Rattle.model_laws.proofs.ViewsChanging.{Changes}
-use Rattle.std.specs.Option.{option_flatten}
 
 module _ (k : ℕ) (slots names : List ℕ) (es fs : List Element) (c : Changes k slots names es fs) where
   base-kept : (n : ℕ) → n < length es → element_bases names fs n ≡ element_bases slots es n

@@ -1,14 +1,10 @@
 -- The words of near locations differ.
-use Rattle.std.proofs.Common.{◌≡◌, ℕ, suc, ◌+◌, ◌-◌, ◌*◌, ◌^◌, ◌<◌, ◌≤◌, List, cond, ℤ, pos, negsuc, ◌+ℤ◌, ◌↔◌, refl, sym, ap, ◌∙◌, arith, le-ltb}
-use Rattle.std.proofs.lemmas.Int.{ints}
-use Rattle.bpf_model.proofs.Cases.{same-pos}
-use Rattle.bpf_model.specs.declared.value.Reference.{Reference}
-use Rattle.bpf_model.specs.declared.value.Reference.TheVariants.{Ctx, Frame, MapRef, Elem}
-use Rattle.bpf_model.specs.Element.{Element}
-use Rattle.bpf_model.specs.declared.limits.TheConstants.{MAX_MAPS}
-use Rattle.model_laws.specs.Near.{IsNearOffset}
-use Rattle.bpf_model.specs.Word.{ctx_base, frame_base, map_base, slot_base, most_map_slots, IsReferenceWord, element_bases}
-use Rattle.model_laws.specs.Locations.{Location, InContext, InFrame, AtMap, InSlot, IsNearLocation, location_word, named_location}
+use Rattle.bpf_model.proofs.Prelude.{◌≡◌, ℕ, suc, ◌+◌, ◌-◌, ◌*◌, ◌^◌, ◌<◌, ◌≤◌, List, cond, ℤ, pos, negsuc, ◌+ℤ◌, ◌↔◌, refl, sym, ap, ◌∙◌, arith, ints}
+use Rattle.bpf_model.proofs.Prelude.{same-pos, Element, ctx_base, frame_base, map_base, slot_base, most_map_slots, IsReferenceWord, element_bases}
+use Rattle.model_laws.proofs.Prelude.{Reference, Ctx, Frame, MapRef, Elem, MAX_MAPS, IsNearOffset, Location, InContext, InFrame, AtMap, InSlot}
+use Rattle.model_laws.proofs.Prelude.{IsNearLocation, named_location}
+use Rattle.std.proofs.Common.{le-ltb}
+use Rattle.model_laws.specs.Locations.{location_word}
 
 near-pos : (n : ℕ) → IsNearOffset (pos n) → n ≤ 2 ^ 29
 near-pos n h = omega (arith, ints)

@@ -1,15 +1,8 @@
 -- What the schedules that a world tracks say of the machines that it tracks.
-use Rattle.std.proofs.Common.{◌≡◌, List, [], ◌∷◌, refl, ap, ◌∙◌, subst}
-use Rattle.bpf_model.specs.declared.event.Event.{Event}
-use Rattle.bpf_model.specs.declared.event.Answer.{Answer}
-use Rattle.bpf_model.specs.Event.{DoesEvent}
-use Rattle.bpf_model.specs.History.{IsHistory, last_of}
-use Rattle.bpf_model.specs.Headline.{AnswersAsMachine, AreMachineAnswers, AreReclaimedLate}
-use Rattle.bpf_model.specs.Schedule.{Schedule, IsScheduledHistory}
-use Rattle.bpf_model.specs.Drain.{AnswersAsScheduled, AreScheduledAnswers, machines}
-use Rattle.bpf_model.specs.View.{WorldView}
-use Rattle.bpf_model.specs.Refines.{TracksSchedule, Tracks}
-use Rattle.model_laws.specs.Consistent.{IsConsistent}
+use Rattle.bpf_model.proofs.Prelude.{◌≡◌, List, [], ◌∷◌, refl, ap, ◌∙◌, subst, DoesEvent, IsHistory, last_of, AnswersAsMachine, AreMachineAnswers}
+use Rattle.bpf_model.proofs.Prelude.{AreReclaimedLate, Schedule, IsScheduledHistory, AnswersAsScheduled, AreScheduledAnswers, machines, WorldView}
+use Rattle.bpf_model.proofs.Prelude.{TracksSchedule, Tracks}
+use Rattle.model_laws.proofs.Prelude.{Event, Answer, IsConsistent}
 use Rattle.model_laws.proofs.Late.{reclaimed_late}
 use Rattle.model_laws.proofs.Reached.{tracked_is_scheduled}
 

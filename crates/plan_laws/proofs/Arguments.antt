@@ -1,27 +1,10 @@
 -- The arguments of a call of a described run.
-use Rattle.std.proofs.Common.{◌≡◌, ℕ, zero, suc, ◌+◌, ◌<◌, ◌≤◌, List, [], ◌∷◌, Some, None, refl, ap, subst, ◌∙◌, pos, arith}
-use Rattle.std.specs.Prelude.{slice_get, if◌then◌else◌}
-use Rattle.std.proofs.lemmas.Bool.{le-leb}
-use Rattle.std.proofs.lemmas.Option.{none-some, same_Some}
-use Rattle.bpf_model.specs.declared.limits.TheConstants.{FRAME_BYTES}
-use Rattle.bpf_model.specs.declared.limits.MapShape.{MapShape}
-use Rattle.bpf_model.specs.declared.value.Value.TheVariants.{Pointer}
-use Rattle.bpf_model.specs.declared.value.Reference.TheVariants.{Frame}
-use Rattle.bpf_model.specs.declared.value.Cell.{Cell}
-use Rattle.bpf_model.specs.declared.value.Cell.TheVariants.{Byte}
-use Rattle.bpf_model.specs.Value.{◌>>=◌, reference}
-use Rattle.bpf_model.specs.Frame.{byte_of}
-use Rattle.bpf_model.specs.Step.{State}
-use Rattle.bpf_model.specs.Section.{Section}
-use Rattle.bpf_model.specs.MapState.{MapState, Store, shape_in, shape_of}
-use Rattle.bpf_model.specs.Machine.{Run}
-use Rattle.model_laws.specs.ByKind.{bound_map, map_argument, key_argument, value_argument}
-use Rattle.bpf_model.specs.Frame.{bytes_at, frame_bytes}
-use Rattle.bpf_model.specs.Real.{AreBytes}
-use Rattle.plan_laws.specs.Kinds.{Kind, FrameAt, MapAt, CellKind, ByteCell, AbsState}
-use Rattle.plan_laws.specs.Describes.{Scene, scene_of, IsOf, IsOfCell, Describes}
-use Rattle.plan_laws.specs.Effects.{HasMap, HasBytes}
-use Rattle.plan_laws.specs.Verified.{Surrounds}
+use Rattle.bpf_model.proofs.Prelude.{◌≡◌, ℕ, zero, suc, ◌+◌, ◌<◌, ◌≤◌, List, [], ◌∷◌, Some, None, refl, ap, subst, ◌∙◌, pos, arith, slice_get, if◌then◌else◌}
+use Rattle.bpf_model.proofs.Prelude.{le-leb, none-some, same_Some, ◌>>=◌, reference, byte_of, State, Section, MapState, Store, shape_in, shape_of, Run}
+use Rattle.bpf_model.proofs.Prelude.{bytes_at, frame_bytes, AreBytes}
+use Rattle.model_laws.proofs.Prelude.{FRAME_BYTES, MapShape, Pointer, Frame, Cell, Byte, bound_map, map_argument, key_argument, value_argument}
+use Rattle.plan_laws.proofs.Prelude.{Kind, FrameAt, MapAt, CellKind, ByteCell, AbsState, Scene, scene_of, IsOf, IsOfCell, Describes, HasMap, HasBytes}
+use Rattle.plan_laws.proofs.Prelude.{Surrounds}
 
 pub reg-is : (a : AbsState) (c : Scene) (m : State) (r : ℕ) (k : Kind) (d : Describes a c m) → a.regs r ≡ k → IsOf c d.naming k (m.regs r)
 reg-is a c m r k d e = subst (λ k. IsOf c d.naming k (m.regs r)) e (d.regs r)

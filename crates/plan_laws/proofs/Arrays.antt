@@ -1,21 +1,10 @@
 -- Maps that are arrays, by the program's list, by the shapes that were verified, and by the store: their elements stay.
-use Rattle.std.proofs.Common.{◌≡◌, ℕ, zero, suc, List, [], ◌∷◌, Option, Some, None, inl, inr, refl, sym, ap, ◌∙◌, true, false}
-use Rattle.std.specs.Prelude.{slice_get}
-use Rattle.std.proofs.lemmas.Option.{none-some, same_Some}
-use Rattle.bpf_model.specs.declared.limits.MapKind.{MapKind}
-use Rattle.bpf_model.specs.declared.limits.MapKind.TheVariants.{Hash, Array}
-use Rattle.bpf_model.specs.declared.limits.MapShape.{MapShape}
-use Rattle.bpf_model.specs.Section.{Section}
-use Rattle.bpf_model.specs.Element.{Element, Life, Linked, Unlinked, Reclaimed, is_reclaimed}
-use Rattle.bpf_model.specs.MapState.{MapState, Store}
-use Rattle.bpf_model.specs.Machine.{Run}
-use Rattle.model_laws.specs.Consistent.{StaysLinked}
-use Rattle.bpf_model.proofs.Cases.{both}
-use Rattle.bpf_model.proofs.Lists.{get-map}
+use Rattle.bpf_model.proofs.Prelude.{◌≡◌, ℕ, zero, suc, List, [], ◌∷◌, Option, Some, None, inl, inr, refl, sym, ap, ◌∙◌, true, false, slice_get, none-some}
+use Rattle.bpf_model.proofs.Prelude.{same_Some, Section, Element, Life, Linked, Unlinked, Reclaimed, is_reclaimed, MapState, Store, Run, both, get-map}
+use Rattle.model_laws.proofs.Prelude.{MapKind, Hash, Array, MapShape, StaysLinked}
+use Rattle.plan_laws.proofs.Prelude.{scene_of, IsGuarded, IsArrayMap, IsHeld, is_array, has_array_shape, is_array_in, AreMapsBound, StaysKept}
 use Rattle.model_laws.proofs.Stores.{KeepsShapes}
-use Rattle.plan_laws.specs.Describes.{kinds_of, scene_of, IsGuarded, IsArrayMap, IsHeld}
-use Rattle.plan_laws.specs.Effects.{is_array, has_array_shape, is_array_in}
-use Rattle.plan_laws.specs.Verified.{AreMapsBound, StaysKept}
+use Rattle.plan_laws.specs.Describes.{kinds_of}
 
 -- a map of this number has the kind
 pub kind-there : (states : List MapState) (n : ℕ) (kind : MapKind) → slice_get (kinds_of states) n ≡ Some kind →

@@ -1,14 +1,8 @@
 -- Whatever verifies the program of a run against the shapes of its maps describes the run.
-use Rattle.std.proofs.Common.{◌≡◌, ◌∙◌, ℕ, suc, ◌<◌, List, [], ◌∷◌, length, Some, None, refl, sym, ap, subst, arith}
-use Rattle.std.specs.Prelude.{slice_get}
-use Rattle.std.proofs.lemmas.Option.{same_Some, slice_get_within}
-use Rattle.bpf_model.proofs.Lists.{get-below}
-use Rattle.bpf_model.specs.declared.limits.MapShape.{MapShape}
-use Rattle.bpf_model.specs.Machine.{Machine, Run, run_at}
-use Rattle.bpf_model.specs.MapState.{MapState, Store}
-use Rattle.plan_laws.specs.Describes.{scene_of}
-use Rattle.plan_laws.specs.Verified.{AreMapsBound, IsPlanned, IsVerified}
-use Rattle.plan_laws.specs.Well.{IsTyped, IsWell}
+use Rattle.bpf_model.proofs.Prelude.{◌≡◌, ◌∙◌, ℕ, suc, ◌<◌, List, [], ◌∷◌, length, Some, None, refl, sym, ap, subst, arith, slice_get, same_Some}
+use Rattle.bpf_model.proofs.Prelude.{slice_get_within, get-below, Machine, Run, run_at, MapState, Store}
+use Rattle.model_laws.proofs.Prelude.{MapShape}
+use Rattle.plan_laws.proofs.Prelude.{scene_of, AreMapsBound, IsPlanned, IsVerified, IsTyped, IsWell}
 
 same-items : {A : Type 0} (xs ys : List A) → length xs ≡ length ys → ((i : ℕ) (x : A) → slice_get xs i ≡ Some x → slice_get ys i ≡ Some x) → xs ≡ ys
 same-items [] [] e h = refl

@@ -1,38 +1,18 @@
 -- Calls of a described run.
-use Rattle.std.proofs.Common.{◌≡◌, ◌≢◌, ℕ, ◌+◌, ◌-◌, ◌<◌, ◌/◌, List, Option, Some, None, ◌⊎◌, inl, inr, refl, sym, ap, subst, ℤ, arith, Bool, true, false, ◌∙◌}
-use Rattle.std.specs.Prelude.{slice_get, if◌then◌else◌}
-use Rattle.std.proofs.lemmas.Bool.{ne_eqb}
-use Rattle.std.proofs.lemmas.Bool.Decides.{eqb_tells}
+use Rattle.bpf_model.proofs.Prelude.{◌≡◌, ◌≢◌, ℕ, ◌+◌, ◌-◌, ◌<◌, ◌/◌, List, Option, Some, None, ◌⊎◌, inl, inr, refl, sym, ap, subst, ℤ, arith, Bool, true}
+use Rattle.bpf_model.proofs.Prelude.{false, ◌∙◌, slice_get, if◌then◌else◌, ne_eqb, eqb_tells, helper_of, kernel_function_of, slot_count, falls, State}
+use Rattle.bpf_model.proofs.Prelude.{Section, Store, LooksUp, Run, section_of, moves, locked, unlocked, found_value, returns}
+use Rattle.model_laws.proofs.Prelude.{Array, MapShape, MAX_DEPTH, Insn, Call, ReadLock, ReadUnlock, Moved, Value, Nothing, Cell, KernelStep, HelperStep}
+use Rattle.model_laws.proofs.Prelude.{LookupStep, map_argument}
+use Rattle.plan_laws.proofs.Prelude.{Kind, Blank, Mixed, Ended, Num, CtxAt, FrameAt, MapAt, ValueAt, MaybeNull, CellKind, BlankCell, MixedCell, EndedCell}
+use Rattle.plan_laws.proofs.Prelude.{ByteCell, PartCell, AbsState, Scene, scene_of, IsGuarded, IsArrayMap, IsHeld, Naming, IsNullOrHeld, IsOf, Stored}
+use Rattle.plan_laws.proofs.Prelude.{IsOfCell, Describes, after_call, after_lock, after_unlock, is_array_in, ended_kind, ended_cell, left_kind, left_cell}
+use Rattle.plan_laws.proofs.Prelude.{IsFresh, HasMap, HasBytes, AreMapsBound, Surrounds, Leads, Transfers}
 use Rattle.plan_laws.proofs.Valued.{same-bytes}
-use Rattle.bpf_model.specs.declared.limits.MapKind.TheVariants.{Array}
-use Rattle.bpf_model.specs.declared.limits.MapShape.{MapShape}
-use Rattle.bpf_model.specs.declared.limits.TheConstants.{MAX_DEPTH}
-use Rattle.bpf_model.specs.declared.insn.Insn.{Insn}
-use Rattle.bpf_model.specs.declared.insn.Insn.TheVariants.{Call}
 use Rattle.bpf_model.specs.declared.insn.CallKind.TheVariants as kinds
 use Rattle.bpf_model.specs.declared.call.Helper.TheVariants as helpers
-use Rattle.bpf_model.specs.declared.call.KernelFunction.TheVariants.{ReadLock, ReadUnlock}
-use Rattle.bpf_model.specs.declared.event.Answer.TheVariants.{Moved}
-use Rattle.bpf_model.specs.declared.value.Value.{Value}
-use Rattle.bpf_model.specs.declared.value.Value.TheVariants.{Nothing}
-use Rattle.bpf_model.specs.declared.value.Cell.{Cell}
-use Rattle.bpf_model.specs.Call.{helper_of, kernel_function_of}
-use Rattle.bpf_model.specs.Step.{slot_count}
-use Rattle.bpf_model.specs.Graph.{falls}
-use Rattle.bpf_model.specs.Step.{State}
-use Rattle.bpf_model.specs.Section.{Section}
 use Rattle.scalar_domain.specs.declared.scalar.Scalar.{Scalar}
-use Rattle.bpf_model.specs.MapState.{Store}
-use Rattle.bpf_model.specs.Helper.{LooksUp}
-use Rattle.bpf_model.specs.Machine.{Run, section_of, moves, locked, unlocked}
-use Rattle.model_laws.specs.ByKind.{KernelStep, HelperStep, LookupStep, map_argument}
-use Rattle.bpf_model.specs.Request.{found_value}
-use Rattle.bpf_model.specs.Step.{returns}
-use Rattle.plan_laws.specs.Kinds.{Kind, Blank, Mixed, Ended, Num, CtxAt, FrameAt, MapAt, ValueAt, MaybeNull}
-use Rattle.plan_laws.specs.Kinds.{CellKind, BlankCell, MixedCell, EndedCell, ByteCell, PartCell, AbsState}
-use Rattle.plan_laws.specs.Describes.{Scene, scene_of, IsGuarded, IsGuardedInside, IsArrayMap, IsHeld, Naming, IsNullOrHeld, IsOf, Stored, IsOfCell, Describes}
-use Rattle.plan_laws.specs.Effects.{after_call, after_lock, after_unlock, is_array_in, ended_kind, ended_cell, left_kind, left_cell, IsFresh, HasMap, HasBytes}
-use Rattle.plan_laws.specs.Verified.{AreMapsBound, Surrounds, Leads, Transfers}
+use Rattle.plan_laws.specs.Describes.{IsGuardedInside}
 use Rattle.plan_laws.proofs.Arrays.{shape-bound, array-bound}
 use Rattle.plan_laws.proofs.Kept.{HoldsOn, of-kept, cell-kept}
 use Rattle.plan_laws.proofs.Sets.{returned-of, near-returned, named-described}

@@ -1,18 +1,10 @@
 -- Where a run that stands in a run slot after a step comes from.
-use Rattle.std.proofs.Common.{◌≡◌, ℕ, List, length, Option, Some, None, inl, inr, refl, sym, ap, subst, ◌∙◌, Bool, true, false}
-use Rattle.std.specs.Prelude.{slice_get, slice_set, ◌==◌, if◌then◌else◌}
-use Rattle.std.proofs.lemmas.Bool.{eqb-true}
-use Rattle.std.proofs.lemmas.Option.{none-some, same_Some}
-use Rattle.bpf_model.specs.declared.event.Event.{Event}
+use Rattle.bpf_model.proofs.Prelude.{◌≡◌, ℕ, List, length, Option, Some, None, inl, inr, refl, sym, ap, subst, ◌∙◌, Bool, true, false, slice_get, slice_set}
+use Rattle.bpf_model.proofs.Prelude.{◌==◌, if◌then◌else◌, eqb-true, none-some, same_Some, Loaded, Run, Machine, open_sections, fresh_run, lowest_free, run_at}
+use Rattle.bpf_model.proofs.Prelude.{RunStep, StepsRun, PerformsEvent, Answers, DoesEvent, Starts, refusal, start_refusal, if_full, AreBytes, IsReal}
+use Rattle.model_laws.proofs.Prelude.{Event, Answer, EventRefusal, BadContext}
 use Rattle.bpf_model.specs.declared.event.Event.TheVariants as events
-use Rattle.bpf_model.specs.declared.event.Answer.{Answer}
 use Rattle.bpf_model.specs.declared.event.Answer.TheVariants as answers
-use Rattle.bpf_model.specs.declared.event.EventRefusal.{EventRefusal}
-use Rattle.bpf_model.specs.declared.event.EventRefusal.TheVariants.{BadContext}
-use Rattle.bpf_model.specs.Machine.{Loaded, Run, Machine, open_sections, fresh_run, lowest_free, run_at}
-use Rattle.bpf_model.specs.MachineStep.{RunStep, StepsRun}
-use Rattle.bpf_model.specs.Event.{PerformsEvent, Answers, DoesEvent, Starts, refusal, start_refusal, if_full}
-use Rattle.bpf_model.specs.Real.{AreBytes, IsReal}
 use Rattle.model_laws.proofs.Changing.{Change, Still, Begins, Steps, Stores, Leaves, change}
 use Rattle.model_laws.proofs.Sections.{run-set_cases}
 

@@ -1,48 +1,25 @@
 -- Loads from elements and stores to them: an element that is held isn't reclaimed, and its value is as long as its map's shape says.
-use Rattle.std.proofs.Common.{◌≡◌, ℕ, zero, suc, ◌+◌, ◌*◌, ◌<◌, ◌≤◌, ◌^◌, ◌%◌, ◌/◌, List, length, Option, Some, None}
-use Rattle.std.proofs.Common.{inl, inr, refl, sym, ap, subst, ◌∙◌, ℤ, pos, negsuc, arith, false}
-use Rattle.std.specs.Prelude.{slice_get, slice_set, if◌then◌else◌, ◌==◌, ◌&&◌, ◌+ℤ◌, nat_le}
-use Rattle.std.proofs.lemmas.Bool.{ne_eqb, leb-true, and_parts}
-use Rattle.std.proofs.lemmas.Option.{none-some, same_Some, cond_some}
-use Rattle.std.proofs.lemmas.Nat.{mod_below}
-use Rattle.std.proofs.Math.Nat.{pow-suc}
-use Rattle.bpf_model.specs.declared.limits.MapShape.{MapShape}
-use Rattle.bpf_model.specs.declared.insn.Insn.TheVariants.{Load, LoadSigned, Store}
-use Rattle.bpf_model.specs.declared.insn.Operand.{Operand}
-use Rattle.bpf_model.specs.declared.insn.Operand.TheVariants.{Register, Immediate}
-use Rattle.bpf_model.specs.declared.opcode.Width.{Width}
+use Rattle.bpf_model.proofs.Prelude.{◌≡◌, ℕ, zero, suc, ◌+◌, ◌*◌, ◌<◌, ◌≤◌, ◌^◌, ◌%◌, ◌/◌, List, length, Option, Some, None, inl, inr, refl, sym, ap, subst}
+use Rattle.bpf_model.proofs.Prelude.{◌∙◌, ℤ, pos, negsuc, arith, false, slice_get, slice_set, if◌then◌else◌, ◌==◌, ◌&&◌, ◌+ℤ◌, nat_le, ne_eqb, leb-true}
+use Rattle.bpf_model.proofs.Prelude.{and_parts, none-some, same_Some, cond_some, mod_below, pow-suc, ◌>>=◌, number, immediate, loaded_signed, operand_value}
+use Rattle.bpf_model.proofs.Prelude.{byte_count, unsigned_width, region_offset, number_at, State, Environment, Outcome, Moves, put, sets, forward, load_from}
+use Rattle.bpf_model.proofs.Prelude.{store_to, Section, Element, with_value, changed, unless_reclaimed, accessible, with_elements, Run, environment}
+use Rattle.bpf_model.proofs.Prelude.{loaded_from, stored_in, with_bytes, AreBytes, AllBytes, get-below, get-set_cases}
+use Rattle.model_laws.proofs.Prelude.{MapShape, Load, LoadSigned, Store, Operand, Register, Immediate, Width, Value, Number, Pointer, Elem, SignedWidth}
+use Rattle.model_laws.proofs.Prelude.{element_load, element_store}
+use Rattle.plan_laws.proofs.Prelude.{Num, ValueAt, AbsState, Scene, scene_of, IsHeld, IsElementOf, Describes, with_kind, IsAlwaysInside, IsNumberOperand}
+use Rattle.plan_laws.proofs.Prelude.{Surrounds, Transfers}
+use Rattle.scalar_domain.proofs.Prelude.{Holds}
 use Rattle.bpf_model.specs.declared.opcode.Width.TheVariants as widths
-use Rattle.bpf_model.specs.declared.value.Value.{Value}
-use Rattle.bpf_model.specs.declared.value.Value.TheVariants.{Number, Pointer}
-use Rattle.bpf_model.specs.declared.value.Reference.TheVariants.{Elem}
-use Rattle.bpf_model.specs.Value.{◌>>=◌, number}
-use Rattle.bpf_model.specs.declared.opcode.SignedWidth.{SignedWidth}
-use Rattle.bpf_model.specs.Arithmetic.{immediate, loaded_signed}
-use Rattle.bpf_model.specs.Operand.{operand_value}
-use Rattle.bpf_model.specs.Access.{byte_count, unsigned_width, region_offset, number_at}
-use Rattle.bpf_model.specs.Step.{State, Environment, Outcome, Moves, put, sets, forward, load_from, store_to}
-use Rattle.bpf_model.specs.Section.{Section}
-use Rattle.bpf_model.specs.Element.{Element, with_value, changed, unless_reclaimed, accessible}
-use Rattle.bpf_model.specs.MapState.{Store as Maps, with_elements}
-use Rattle.bpf_model.specs.Machine.{Run, environment}
-use Rattle.model_laws.specs.ByKind.{element_load, element_store}
-use Rattle.bpf_model.specs.Element.{loaded_from, stored_in}
-use Rattle.bpf_model.specs.Access.{with_bytes}
-use Rattle.bpf_model.specs.Real.{AreBytes, AllBytes}
+use Rattle.bpf_model.specs.MapState.{Store as Maps}
 use Rattle.model_laws.proofs.Stores.{touches-stored}
-use Rattle.scalar_domain.specs.Scalar.{Holds}
 use Rattle.scalar_domain.specs.declared.scalar.Scalar.{Scalar}
-use Rattle.plan_laws.specs.Kinds.{Num, ValueAt, AbsState}
-use Rattle.plan_laws.specs.Describes.{Scene, scene_of, IsHeld, IsElementOf, Describes}
-use Rattle.plan_laws.specs.Effects.{with_kind, IsAlwaysInside, IsNumberOperand}
-use Rattle.plan_laws.specs.Verified.{Surrounds, Transfers}
 use Rattle.plan_laws.proofs.Arrays.{AllStayKept, held-unreclaimed}
 use Rattle.plan_laws.proofs.Kept.{Keeps, keeps-touches, describes-kept}
 use Rattle.plan_laws.proofs.Valued.{bytes-changed}
 use Rattle.plan_laws.proofs.Sets.{set-described, placed-described}
 use Rattle.plan_laws.proofs.Arguments.{reg-is, bound}
 use Rattle.plan_laws.proofs.Local.{Acting, no-call, acts-transfers}
-use Rattle.bpf_model.proofs.Lists.{get-below, get-set_cases}
 
 pub accessible-held : (s : Maps) (run : Run) (map n : ℕ) → AllStayKept s → (h : IsHeld (scene_of s run) map n) → accessible s.elements n ≡ Some h.element
 accessible-held s run map n arrays h = ap (λ o. o >>= unless_reclaimed) h.born ∙

@@ -1,48 +1,20 @@
 -- A program with a guarded lookup is verified: the plan has a state for each of its instructions.
-use Rattle.std.proofs.Common.{◌≡◌, ℕ, zero, suc, ◌+◌, ◌-◌, ◌<◌, ◌≤◌, ◌^◌, ◌%◌, ◌/◌, List, [], ◌∷◌, Some, None, inl}
-use Rattle.std.proofs.Common.{inr, refl, sym, ap, subst, ◌∙◌, ℤ, pos, negsuc, arith, Bool, true, false}
-use Rattle.std.specs.Prelude.{slice_get, if◌then◌else◌, ◌==◌, ◌+ℤ◌, nat_le, nat_lt}
-use Rattle.std.proofs.lemmas.Bool.{cases_eq, eq-eqb, ne_eqb}
-use Rattle.std.proofs.lemmas.Option.{none-some, same_Some}
-use Rattle.std.proofs.lemmas.Int.{ints}
-use Rattle.std.proofs.lemmas.Nat.{mod_below}
-use Rattle.bpf_model.specs.declared.limits.TheConstants.{FRAME_BYTES}
-use Rattle.bpf_model.specs.declared.limits.MapShape.{MapShape}
-use Rattle.bpf_model.specs.declared.insn.Insn.{Insn}
-use Rattle.bpf_model.specs.declared.insn.Insn.TheVariants.{Alu, LoadMap, JumpIf, Call, Exit, Load, Store}
-use Rattle.bpf_model.specs.declared.insn.AluOp.TheVariants.{Move, Add}
-use Rattle.bpf_model.specs.declared.insn.CallKind.TheVariants.{Helper, Kernel}
-use Rattle.bpf_model.specs.declared.insn.Operand.TheVariants.{Register, Immediate}
-use Rattle.bpf_model.specs.declared.opcode.Size.TheVariants.{Word64}
-use Rattle.bpf_model.specs.declared.opcode.Width.TheVariants.{Four, Eight}
-use Rattle.bpf_model.specs.declared.opcode.Condition.TheVariants.{Equal}
-use Rattle.bpf_model.specs.declared.value.Value.{Value}
-use Rattle.bpf_model.specs.declared.value.Value.TheVariants.{Number, Pointer}
-use Rattle.bpf_model.specs.declared.value.Reference.TheVariants.{Frame, MapRef}
-use Rattle.bpf_model.specs.declared.value.Cell.{Cell}
-use Rattle.bpf_model.specs.declared.value.Cell.TheVariants.{Byte}
-use Rattle.bpf_model.specs.Arithmetic.{immediate}
-use Rattle.bpf_model.specs.Value.{◌>>=◌, number}
-use Rattle.bpf_model.specs.Access.{region_offset}
-use Rattle.bpf_model.specs.Frame.{is_within, with_number}
-use Rattle.bpf_model.specs.Operand.{computed}
-use Rattle.bpf_model.specs.Step.{slot_count}
-use Rattle.bpf_model.specs.Graph.{falls, distance}
-use Rattle.bpf_model.specs.Graph.{LeadsTo}
-use Rattle.bpf_model.specs.Step.{State, Environment, Outcome, Moves, Exits, after, put, sets, store_to}
-use Rattle.bpf_model.specs.Element.{Element}
-use Rattle.model_laws.specs.ByKind.{AccessesElement, element_store}
-use Rattle.bpf_model.specs.MachineStep.{NeverStuck}
-use Rattle.model_laws.specs.Example.{lookup_and_load, lookup_program, example_shape}
-use Rattle.scalar_domain.specs.Scalar.{Holds}
+use Rattle.bpf_model.proofs.Prelude.{◌≡◌, ℕ, zero, suc, ◌+◌, ◌-◌, ◌<◌, ◌≤◌, ◌^◌, ◌%◌, ◌/◌, List, [], ◌∷◌, Some, None, inl, inr, refl, sym, ap, subst, ◌∙◌, ℤ}
+use Rattle.bpf_model.proofs.Prelude.{pos, negsuc, arith, Bool, true, false, slice_get, if◌then◌else◌, ◌==◌, ◌+ℤ◌, nat_le, nat_lt, cases_eq, eq-eqb, ne_eqb}
+use Rattle.bpf_model.proofs.Prelude.{none-some, same_Some, ints, mod_below, immediate, ◌>>=◌, number, region_offset, is_within, with_number, computed}
+use Rattle.bpf_model.proofs.Prelude.{slot_count, falls, distance, LeadsTo, State, Environment, Outcome, Moves, Exits, after, put, sets, store_to, Element}
+use Rattle.bpf_model.proofs.Prelude.{NeverStuck, Loaded, MapState, new_map, Schedule, IsReachedSchedule, within, choice}
+use Rattle.model_laws.proofs.Prelude.{FRAME_BYTES, MapShape, Insn, Alu, LoadMap, JumpIf, Call, Exit, Load, Store, Move, Add, Kernel, Register, Immediate}
+use Rattle.model_laws.proofs.Prelude.{Word64, Eight, Equal, Value, Number, Pointer, Frame, MapRef, Cell, Byte, AccessesElement, element_store}
+use Rattle.model_laws.proofs.Prelude.{lookup_and_load, lookup_program, example_shape, IsNear, IsNearCell}
+use Rattle.plan_laws.proofs.Prelude.{Kind, Blank, Num, FrameAt, MapAt, MaybeNull, CellKind, BlankCell, ByteCell, AbsState, Scene, Naming, Stored, HasOffset}
+use Rattle.plan_laws.proofs.Prelude.{IsOf, IsOfCell, AreNear, Describes, with_kind, with_cells, after_call, after_lock, after_unlock, when_null, when_there}
+use Rattle.plan_laws.proofs.Prelude.{IsFresh, IsOther, IsOtherCell, IsAlwaysInside, HasBytes, Plan, Transfers, ActsAlone, IsVerified, number_zero, origin}
+use Rattle.plan_laws.proofs.Prelude.{Wider, entry_state, IsCovered, IsVerifiedFor}
+use Rattle.scalar_domain.proofs.Prelude.{Holds}
+use Rattle.bpf_model.specs.declared.insn.CallKind.TheVariants.{Helper}
+use Rattle.bpf_model.specs.declared.opcode.Width.TheVariants.{Four}
 use Rattle.scalar_domain.specs.declared.scalar.Scalar.{Scalar}
-use Rattle.plan_laws.specs.Kinds.{Kind, Blank, Num, FrameAt, MapAt, MaybeNull, CellKind, BlankCell, ByteCell, AbsState}
-use Rattle.model_laws.specs.Near.{IsNear, IsNearCell}
-use Rattle.plan_laws.specs.Describes.{Scene, Naming, Stored, HasOffset, IsOf, IsOfCell, AreNear, Describes}
-use Rattle.plan_laws.specs.Effects.{with_kind, with_cells, after_call, after_lock, after_unlock, when_null}
-use Rattle.plan_laws.specs.Effects.{when_there, IsFresh, IsOther, IsOtherCell, IsAlwaysInside, HasBytes}
-use Rattle.plan_laws.specs.Verified.{Plan, Transfers, ActsAlone, IsVerified}
-use Rattle.plan_laws.specs.Planned.{number_zero, origin, Wider, entry_state, IsCovered}
 use Rattle.plan_laws.proofs.Sets.{set-described}
 use Rattle.plan_laws.proofs.Arguments.{reg-is}
 use Rattle.plan_laws.proofs.Calls.{lock_transfers, unlock_transfers, lookup_transfers}
@@ -50,13 +22,6 @@ use Rattle.plan_laws.proofs.Local.{alone_transfers, equal_transfers}
 use Rattle.plan_laws.proofs.Elements.{load_transfers, set-is}
 use Rattle.plan_laws.proofs.Planning.{kept_is_closed, origin_has, zero_holds}
 use Rattle.plan_laws.proofs.Reaching.{well_never_stuck, reached_is_well}
-use Rattle.plan_laws.specs.Well.{IsVerifiedFor}
-use Rattle.bpf_model.specs.Machine.{Loaded}
-use Rattle.bpf_model.specs.MapState.{MapState, new_map}
-use Rattle.bpf_model.specs.Schedule.{Schedule}
-use Rattle.bpf_model.specs.Refines.{IsReachedSchedule}
-use Rattle.bpf_model.proofs.Bytes.{within}
-use Rattle.bpf_model.proofs.Cases.{choice}
 
 -- bytes stored to the frame
 byte-cell : (c : Scene) (ρ : Naming) (σ : Stored) (b : Bool) (k n : ℕ) (cell : CellKind) (x : Cell) → n < 256 →

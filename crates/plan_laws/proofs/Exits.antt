@@ -1,32 +1,16 @@
 -- A run has one exit at most where its steps need no others, and without map references they never do.
-use Rattle.std.proofs.Common.{◌≡◌, ℕ, suc, List, [], Option, Some, None, refl, sym, ap, ◌∙◌, subst}
-use Rattle.std.proofs.lemmas.Option.{none-some}
-use Rattle.bpf_model.specs.declared.limits.MapShape.{MapShape}
-use Rattle.bpf_model.specs.declared.insn.Insn.{Insn}
-use Rattle.bpf_model.specs.declared.insn.Insn.TheVariants.{Call}
+use Rattle.bpf_model.proofs.Prelude.{◌≡◌, ℕ, suc, List, [], Option, Some, None, refl, sym, ap, ◌∙◌, subst, none-some, Outcome, Moves, Exits, helper_of}
+use Rattle.bpf_model.proofs.Prelude.{kernel_function_of, ExitsFrom, exits_now, exits_later, ExitsWith, HasNoMaps, Section, Store, Loaded, Run, fresh_run}
+use Rattle.bpf_model.proofs.Prelude.{OutcomeStep, InsnStep, RunStep, both}
+use Rattle.model_laws.proofs.Prelude.{MapShape, Insn, Call, Helper, KernelFunction, ReadLock, ReadUnlock, Answer, Moved, Exited, Value, StepsByKind}
+use Rattle.model_laws.proofs.Prelude.{KernelStep, HelperStep, SharesNothing}
+use Rattle.plan_laws.proofs.Prelude.{MayExitFrom, MayExitWith, may_exit_now, may_exit_later}
 use Rattle.bpf_model.specs.declared.insn.CallKind.TheVariants as kinds
-use Rattle.bpf_model.specs.declared.call.Helper.{Helper}
 use Rattle.bpf_model.specs.declared.call.Helper.TheVariants as helpers
-use Rattle.bpf_model.specs.declared.call.KernelFunction.{KernelFunction}
-use Rattle.bpf_model.specs.declared.call.KernelFunction.TheVariants.{ReadLock, ReadUnlock}
-use Rattle.bpf_model.specs.declared.event.Answer.{Answer}
-use Rattle.bpf_model.specs.declared.event.Answer.TheVariants.{Moved, Exited}
-use Rattle.bpf_model.specs.declared.value.Value.{Value}
-use Rattle.bpf_model.specs.Step.{Outcome, Moves, Exits}
-use Rattle.bpf_model.specs.Call.{helper_of, kernel_function_of}
-use Rattle.bpf_model.specs.Exit.{ExitsFrom, exits_now, exits_later, ExitsWith, HasNoMaps}
-use Rattle.bpf_model.specs.Section.{Section}
-use Rattle.bpf_model.specs.MapState.{Store}
-use Rattle.bpf_model.specs.Machine.{Loaded, Run, fresh_run}
-use Rattle.bpf_model.specs.MachineStep.{OutcomeStep, InsnStep, RunStep}
-use Rattle.model_laws.specs.ByKind.{StepsByKind, KernelStep, HelperStep}
-use Rattle.bpf_model.proofs.Cases.{both}
-use Rattle.model_laws.specs.Alone.{SharesNothing}
 use Rattle.model_laws.proofs.Deciding.{meet, kernel-one, alone-one}
 use Rattle.model_laws.proofs.Alone.{others_change_nothing, starts_sharing_nothing, stays_sharing_nothing}
 use Rattle.model_laws.proofs.Exits.{no_maps}
 use Rattle.model_laws.proofs.Requests.{by_kind, of_kind}
-use Rattle.plan_laws.specs.MayExit.{MayExitFrom, MayExitWith, may_exit_now, may_exit_later}
 
 -- the number of its start doesn't matter
 abbrev renamed : ℕ → Run → Run

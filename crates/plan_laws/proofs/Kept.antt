@@ -1,26 +1,13 @@
 -- What is held stays held, whatever the store does in a step: the run's section is open, so that an element that it guards isn't reclaimed.
-use Rattle.std.proofs.Common.{◌≡◌, ℕ, ◌<◌, ◌/◌, List, Option, Some, None, inl, inr, refl, sym, ap, subst, ◌∙◌, Bool}
-use Rattle.std.specs.Prelude.{slice_get}
-use Rattle.bpf_model.specs.declared.insn.Insn.{Insn}
-use Rattle.bpf_model.specs.declared.event.Event.{Event}
-use Rattle.bpf_model.specs.declared.event.Answer.{Answer}
-use Rattle.bpf_model.specs.declared.value.Value.{Value}
-use Rattle.bpf_model.specs.declared.value.Cell.{Cell}
-use Rattle.bpf_model.specs.Step.{State}
-use Rattle.bpf_model.specs.Section.{Section, Has}
-use Rattle.bpf_model.specs.Element.{Element, Life}
-use Rattle.bpf_model.specs.MapState.{Store, with_elements}
-use Rattle.bpf_model.specs.Machine.{Run, Machine, open_sections, section_of, run_at}
-use Rattle.bpf_model.specs.MachineStep.{InsnStep}
-use Rattle.bpf_model.specs.Event.{DoesEvent}
-use Rattle.model_laws.specs.Consistent.{IsConsistent}
+use Rattle.bpf_model.proofs.Prelude.{◌≡◌, ℕ, ◌<◌, ◌/◌, List, Option, Some, None, inl, inr, refl, sym, ap, subst, ◌∙◌, Bool, slice_get, State, Section, Has}
+use Rattle.bpf_model.proofs.Prelude.{Element, Life, Store, with_elements, Run, Machine, open_sections, section_of, run_at, InsnStep, DoesEvent}
+use Rattle.model_laws.proofs.Prelude.{Insn, Event, Answer, Value, Cell, IsConsistent, IsSingle}
+use Rattle.plan_laws.proofs.Prelude.{Kind, Blank, Mixed, Ended, Num, CtxAt, FrameAt, MapAt, ValueAt, MaybeNull, CellKind, BlankCell, MixedCell, EndedCell}
+use Rattle.plan_laws.proofs.Prelude.{ByteCell, PartCell, AbsState, Scene, scene_of, IsGuarded, IsHeld, Naming, IsNullOrHeld, IsOf, Stored, IsOfCell}
+use Rattle.plan_laws.proofs.Prelude.{Describes}
 use Rattle.model_laws.proofs.Sections.{has_open}
-use Rattle.model_laws.specs.Consistent.{IsSingle}
 use Rattle.model_laws.proofs.Changing.{is_reap}
 use Rattle.model_laws.proofs.Stores.{LifeMoves, Stays, Unlinks, Ends, Alters, Touches, KeepsShapes, AllLengths, StoreMoves, does-moves, moves-insn}
-use Rattle.plan_laws.specs.Kinds.{Kind, Blank, Mixed, Ended, Num, CtxAt, FrameAt, MapAt, ValueAt, MaybeNull}
-use Rattle.plan_laws.specs.Kinds.{CellKind, BlankCell, MixedCell, EndedCell, ByteCell, PartCell, AbsState}
-use Rattle.plan_laws.specs.Describes.{Scene, scene_of, IsGuarded, IsHeld, Naming, IsNullOrHeld, IsOf, Stored, IsOfCell, Describes}
 use Rattle.plan_laws.proofs.Arrays.{array-kept}
 
 guarded-later : (reap : Bool) (opened : List Section) (old new : Life) (s : Section) → Has opened s →

@@ -1,41 +1,18 @@
 -- Instructions that a described run makes by itself, and null tests.
-use Rattle.std.proofs.Common.{◌≡◌, ℕ, ◌+◌, ◌<◌, ◌^◌, ◌%◌, ◌/◌, List, length, Option, Some, None, inl, inr, refl, sym, ap, subst, ◌∙◌, ℤ, pos, arith, false}
-use Rattle.std.specs.Prelude.{if◌then◌else◌}
-use Rattle.std.proofs.lemmas.Bool.{cases_eq, eq-eqb, ne_eqb}
-use Rattle.std.proofs.lemmas.Option.{same_Some, none-some}
-use Rattle.std.proofs.lemmas.Nat.{mod_below}
-use Rattle.bpf_model.specs.declared.limits.MapShape.{MapShape}
-use Rattle.bpf_model.specs.declared.insn.Insn.{Insn}
-use Rattle.bpf_model.specs.declared.insn.Insn.TheVariants.{JumpIf, Call}
-use Rattle.bpf_model.specs.declared.insn.Operand.TheVariants.{Immediate}
-use Rattle.bpf_model.specs.declared.opcode.Condition.TheVariants.{Equal, NotEqual}
-use Rattle.bpf_model.specs.declared.opcode.Size.TheVariants.{Word64}
-use Rattle.bpf_model.specs.declared.event.Answer.{Answer}
-use Rattle.bpf_model.specs.declared.event.Answer.TheVariants.{Moved, Exited}
-use Rattle.bpf_model.specs.declared.value.Value.{Value}
-use Rattle.bpf_model.specs.declared.value.Value.TheVariants.{Number, Pointer}
-use Rattle.bpf_model.specs.declared.value.Reference.TheVariants.{Elem}
-use Rattle.bpf_model.specs.declared.value.Cell.{Cell}
-use Rattle.bpf_model.specs.declared.value.Cell.TheVariants.{Byte}
-use Rattle.bpf_model.specs.Arithmetic.{immediate}
-use Rattle.bpf_model.specs.Value.{◌>>=◌}
-use Rattle.bpf_model.specs.Operand.{decided}
-use Rattle.bpf_model.specs.Step.{State, Outcome, Moves, Exits, after, forward, jumps_to, jumps_by}
-use Rattle.bpf_model.specs.Section.{Section}
-use Rattle.bpf_model.specs.Element.{Element}
-use Rattle.bpf_model.specs.MapState.{Store, with_elements}
-use Rattle.bpf_model.specs.Machine.{Run, environment, moves, exits}
-use Rattle.model_laws.specs.ByKind.{AccessesElement, Acts, ActStep}
-use Rattle.bpf_model.specs.MachineStep.{OutcomeStep, InsnStep}
-use Rattle.bpf_model.specs.Request.{found_value}
-use Rattle.scalar_domain.specs.Scalar.{Holds}
+use Rattle.bpf_model.proofs.Prelude.{◌≡◌, ℕ, ◌+◌, ◌<◌, ◌^◌, ◌%◌, ◌/◌, List, length, Option, Some, None, inl, inr, refl, sym, ap, subst, ◌∙◌, ℤ, pos, arith}
+use Rattle.bpf_model.proofs.Prelude.{false, if◌then◌else◌, cases_eq, eq-eqb, ne_eqb, same_Some, none-some, mod_below, immediate, ◌>>=◌, decided, State}
+use Rattle.bpf_model.proofs.Prelude.{Outcome, Moves, Exits, after, forward, jumps_to, jumps_by, Section, Element, Store, with_elements, Run, environment}
+use Rattle.bpf_model.proofs.Prelude.{moves, exits, OutcomeStep, InsnStep, found_value, AllBytes}
+use Rattle.model_laws.proofs.Prelude.{MapShape, Insn, JumpIf, Call, Immediate, Equal, NotEqual, Word64, Answer, Moved, Exited, Value, Number, Pointer, Elem}
+use Rattle.model_laws.proofs.Prelude.{Cell, Byte, AccessesElement, Acts}
+use Rattle.plan_laws.proofs.Prelude.{Kind, Blank, Mixed, Ended, Num, CtxAt, FrameAt, MapAt, ValueAt, MaybeNull, CellKind, BlankCell, MixedCell, EndedCell}
+use Rattle.plan_laws.proofs.Prelude.{ByteCell, PartCell, AbsState, Scene, scene_of, Naming, IsNullOrHeld, HasOffset, IsOf, Stored, part_of, IsOfCell}
+use Rattle.plan_laws.proofs.Prelude.{Describes, when_null, when_there, Surrounds, HasStep, Leads, Transfers, is_call, IsEnvironment, JumpsToSlot}
+use Rattle.scalar_domain.proofs.Prelude.{Holds}
+use Rattle.model_laws.specs.ByKind.{ActStep}
 use Rattle.scalar_domain.specs.declared.scalar.Scalar.{Scalar}
-use Rattle.bpf_model.specs.Real.{AllBytes}
-use Rattle.plan_laws.specs.Kinds.{Kind, Blank, Mixed, Ended, Num, CtxAt, FrameAt, MapAt, ValueAt, MaybeNull}
-use Rattle.plan_laws.specs.Kinds.{CellKind, BlankCell, MixedCell, EndedCell, ByteCell, PartCell, AbsState}
-use Rattle.plan_laws.specs.Describes.{Scene, scene_of, Naming, IsNullOrHeld, HasOffset, IsOf, Stored, part_of, IsOfCell, Describes}
-use Rattle.plan_laws.specs.Effects.{null_kind, null_cell, there_kind, there_cell, when_null, when_there}
-use Rattle.plan_laws.specs.Verified.{Surrounds, HasStep, Leads, Transfers, is_call, IsEnvironment, JumpsToSlot, LandsDescribed, TransfersAlone}
+use Rattle.plan_laws.specs.Effects.{null_kind, null_cell, there_kind, there_cell}
+use Rattle.plan_laws.specs.Verified.{LandsDescribed, TransfersAlone}
 use Rattle.plan_laws.proofs.Arguments.{reg-is}
 use Rattle.model_laws.proofs.Requests.{by_kind, of_kind}
 

@@ -1,22 +1,10 @@
 -- The references of runs of verified programs are near, so that two of them with one word name one location.
-use Rattle.std.proofs.Common.{◌≡◌, ℕ, List, ◌∷◌, sym, subst, ◌∙◌}
-use Rattle.bpf_model.specs.declared.value.Reference.{Reference}
-use Rattle.bpf_model.specs.declared.value.Reference.TheVariants.{Ctx, Frame, MapRef, Elem}
-use Rattle.bpf_model.specs.declared.event.Event.{Event}
-use Rattle.bpf_model.specs.declared.event.Answer.{Answer}
-use Rattle.bpf_model.specs.Element.{Element}
-use Rattle.bpf_model.specs.Machine.{Machine}
-use Rattle.bpf_model.specs.Word.{IsReferenceWord, element_bases}
-use Rattle.bpf_model.specs.Real.{AreReal}
-use Rattle.bpf_model.specs.History.{IsHistory, AllStates}
-use Rattle.bpf_model.specs.View.{WorldView}
-use Rattle.bpf_model.specs.Refines.{Tracks}
-use Rattle.bpf_model.specs.View.{shapes_of}
-use Rattle.model_laws.specs.Locations.{IsNearLocation, named_location}
+use Rattle.bpf_model.proofs.Prelude.{◌≡◌, ℕ, List, ◌∷◌, sym, subst, ◌∙◌, Element, Machine, IsReferenceWord, element_bases, AreReal, IsHistory, AllStates}
+use Rattle.bpf_model.proofs.Prelude.{WorldView, Tracks, shapes_of}
+use Rattle.model_laws.proofs.Prelude.{Reference, Ctx, Frame, MapRef, Elem, Event, Answer, IsNearLocation, named_location, IsNearReference}
+use Rattle.plan_laws.proofs.Prelude.{IsWithinLimits, AreVerified, IsWell}
 use Rattle.model_laws.proofs.Words.{words_of_locations, near_words_differ}
-use Rattle.model_laws.specs.Near.{IsNearReference}
-use Rattle.plan_laws.specs.Limits.{IsWithinLimits, IsNearMachine}
-use Rattle.plan_laws.specs.Well.{AreVerified, IsWell}
+use Rattle.plan_laws.specs.Limits.{IsNearMachine}
 use Rattle.plan_laws.proofs.Reaching.{reached_is_well, well_along, all-states}
 
 pub well_is_near : (m : Machine) → IsWell m → IsNearMachine m

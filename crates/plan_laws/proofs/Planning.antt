@@ -1,34 +1,12 @@
 -- A plan that is kept instruction by instruction is closed.
-use Rattle.std.proofs.Common.{◌≡◌, ℕ, suc, ◌+◌, ◌^◌, List, Option, Some, None, ℤ, inl, inr, refl, sym, ap, subst, ◌∙◌, arith}
-use Rattle.std.specs.Prelude.{if◌then◌else◌, ◌==◌, slice_get, pos, ◌+ℤ◌, unwrap_or}
-use Rattle.std.proofs.lemmas.Option.{same_Some}
-use Rattle.std.proofs.lemmas.Int.{ints}
-use Rattle.scalar_domain.specs.Scalar.{Holds}
-use Rattle.bpf_model.specs.declared.limits.TheConstants.{FRAME_BYTES}
-use Rattle.bpf_model.specs.declared.insn.Insn.{Insn}
-use Rattle.bpf_model.specs.declared.limits.MapShape.{MapShape}
-use Rattle.bpf_model.specs.declared.event.Answer.{Answer}
-use Rattle.bpf_model.specs.declared.value.Value.TheVariants.{Nothing, Pointer}
-use Rattle.bpf_model.specs.declared.value.Reference.TheVariants.{Ctx, Frame}
-use Rattle.bpf_model.specs.declared.value.Cell.TheVariants.{Unwritten}
-use Rattle.bpf_model.specs.Step.{slot_count}
-use Rattle.bpf_model.specs.Graph.{distance}
-use Rattle.bpf_model.specs.Places.{StartsAt}
-use Rattle.bpf_model.specs.Graph.{LeadsTo}
-use Rattle.bpf_model.proofs.Places.{starts-next, start-entry, start-insn}
-use Rattle.bpf_model.specs.Step.{State, entry, put, insn_at}
-use Rattle.bpf_model.specs.Section.{Section}
-use Rattle.bpf_model.specs.MapState.{Store}
-use Rattle.bpf_model.specs.Machine.{Run}
-use Rattle.bpf_model.specs.MachineStep.{InsnStep}
-use Rattle.bpf_model.proofs.Cases.{both}
-use Rattle.std.specs.Int.Bits.{and_self}
-use Rattle.scalar_domain.specs.Constant.{le_self}
-use Rattle.bpf_model.specs.Real.{AllBytes}
-use Rattle.plan_laws.specs.Kinds.{Blank, CtxAt, FrameAt, AbsState}
-use Rattle.plan_laws.specs.Describes.{Scene, scene_of, HasOffset, IsContextAt, IsOf, IsOfCell, AreNear, Describes}
-use Rattle.plan_laws.specs.Verified.{Plan, Surrounds, JumpsToSlot, Leads, Transfers, IsPlanned, IsPlannedAfter, IsClosed}
-use Rattle.plan_laws.specs.Planned.{origin, number_zero, Wider, AreAlike, Joins, entry_state, Covers, IsCovered, IsPlanKept}
+use Rattle.bpf_model.proofs.Prelude.{◌≡◌, ℕ, suc, ◌+◌, ◌^◌, List, Option, Some, None, ℤ, inl, inr, refl, sym, ap, subst, ◌∙◌, arith, if◌then◌else◌, ◌==◌}
+use Rattle.bpf_model.proofs.Prelude.{slice_get, pos, ◌+ℤ◌, unwrap_or, same_Some, ints, slot_count, distance, StartsAt, LeadsTo, starts-next, start-entry}
+use Rattle.bpf_model.proofs.Prelude.{start-insn, State, entry, put, insn_at, Section, Store, Run, InsnStep, both, and_self, AllBytes}
+use Rattle.model_laws.proofs.Prelude.{FRAME_BYTES, Insn, MapShape, Answer, Nothing, Pointer, Ctx, Frame, Unwritten}
+use Rattle.plan_laws.proofs.Prelude.{Blank, CtxAt, FrameAt, AbsState, Scene, scene_of, HasOffset, IsContextAt, IsOf, IsOfCell, AreNear, Describes, Plan}
+use Rattle.plan_laws.proofs.Prelude.{Surrounds, JumpsToSlot, Leads, Transfers, IsPlanned, IsPlannedAfter, IsClosed, origin, number_zero, Wider, AreAlike}
+use Rattle.plan_laws.proofs.Prelude.{Joins, entry_state, Covers, IsCovered, IsPlanKept}
+use Rattle.scalar_domain.proofs.Prelude.{Holds, le_self}
 use Rattle.plan_laws.proofs.Sets.{choice-of, near-set, widened}
 
 pub join_left : (pair : ℕ → ℕ × ℕ) (a b c : AbsState) → Joins pair a b c → Wider a c

@@ -1,35 +1,17 @@
 -- A machine of verified programs stays well, and is never stuck.
-use Rattle.std.proofs.Common.{◌≡◌, ℕ, suc, ◌+◌, ◌<◌, ◌⊎◌, inl, inr, arith, List, [], ◌∷◌, length, Some, None, refl, sym, ap, subst, ◌∙◌}
-use Rattle.std.specs.Prelude.{slice_get}
-use Rattle.bpf_model.proofs.Places.{start-inside, starts_apart}
-use Rattle.bpf_model.specs.Step.{State}
-use Rattle.bpf_model.specs.declared.limits.MapShape.{MapShape}
-use Rattle.bpf_model.specs.declared.limits.TheConstants.{MAX_RUNS}
-use Rattle.bpf_model.specs.declared.insn.Insn.{Insn}
-use Rattle.bpf_model.specs.declared.event.Event.{Event}
-use Rattle.bpf_model.specs.declared.event.Answer.{Answer}
-use Rattle.bpf_model.specs.Section.{Section}
-use Rattle.bpf_model.specs.MapState.{MapState, Store}
-use Rattle.bpf_model.specs.Shapes.{AreShapes}
-use Rattle.bpf_model.specs.Machine.{Loaded, Run, Machine, open_sections, fresh_run, run_at, start_machine, moves, locked, unlocked}
-use Rattle.bpf_model.specs.MachineStep.{InsnStep, RunStep, StepsRun, NeverStuck}
-use Rattle.bpf_model.specs.Event.{DoesEvent}
-use Rattle.bpf_model.specs.Real.{AreBytes, IsReal, AreReal, AllBytes}
-use Rattle.bpf_model.specs.History.{IsHistory, AllStates, last_of}
-use Rattle.bpf_model.specs.Schedule.{Schedule, IsScheduledHistory, start_schedule}
-use Rattle.bpf_model.specs.declared.event.Answer.TheVariants.{Moved, Exited}
-use Rattle.bpf_model.specs.Headline.{AreNeverStuck, moved_once}
-use Rattle.bpf_model.specs.View.{WorldView}
-use Rattle.bpf_model.specs.Refines.{IsReachedSchedule, Tracks}
-use Rattle.bpf_model.specs.View.{shapes_of}
+use Rattle.bpf_model.proofs.Prelude.{◌≡◌, ℕ, suc, ◌+◌, ◌<◌, ◌⊎◌, inl, inr, arith, List, [], ◌∷◌, length, Some, None, refl, sym, ap, subst, ◌∙◌, slice_get}
+use Rattle.bpf_model.proofs.Prelude.{start-inside, starts_apart, State, Section, MapState, Store, AreShapes, Loaded, Run, Machine, open_sections, fresh_run}
+use Rattle.bpf_model.proofs.Prelude.{run_at, start_machine, moves, locked, unlocked, InsnStep, RunStep, StepsRun, NeverStuck, DoesEvent, AreBytes, IsReal}
+use Rattle.bpf_model.proofs.Prelude.{AreReal, AllBytes, IsHistory, AllStates, last_of, Schedule, IsScheduledHistory, start_schedule, AreNeverStuck}
+use Rattle.bpf_model.proofs.Prelude.{moved_once, WorldView, IsReachedSchedule, Tracks, shapes_of}
+use Rattle.model_laws.proofs.Prelude.{MapShape, MAX_RUNS, Insn, Event, Answer, Moved, Exited}
+use Rattle.plan_laws.proofs.Prelude.{Scene, scene_of, Plan, AreMapsBound, Surrounds, IsPlanned, IsPlannedAfter, IsClosed, IsVerified, AreVerified}
+use Rattle.plan_laws.proofs.Prelude.{IsVerifiedFor, IsTyped, IsWell}
 use Rattle.model_laws.proofs.Sections.{has_open}
 use Rattle.model_laws.proofs.Changing.{is_reap}
 use Rattle.model_laws.proofs.Stores.{KeepsShapes, StoreMoves, does-moves}
 use Rattle.model_laws.proofs.Keeping.{no-run, starts_consistent, stays_consistent}
 use Rattle.model_laws.proofs.Moves.{Changes, Goes, Locks, Unlocks, Ends, changed-insn}
-use Rattle.plan_laws.specs.Describes.{Scene, scene_of}
-use Rattle.plan_laws.specs.Verified.{Plan, AreMapsBound, Surrounds, IsPlanned, IsPlannedAfter, IsClosed, IsVerified}
-use Rattle.plan_laws.specs.Well.{AreVerified, IsVerifiedFor, IsTyped, IsWell}
 use Rattle.plan_laws.proofs.Arrays.{linked-kept}
 use Rattle.plan_laws.proofs.Kept.{Keeps, keeps-moves, describes-kept}
 use Rattle.plan_laws.proofs.Coming.{FreshRun, Comes, Stands, Starting, Stepping, does-come}

@@ -1,20 +1,12 @@
 -- What is set, forgotten or renamed in a described run.
-use Rattle.std.proofs.Common.{◌≡◌, ℕ, ◌/◌, Option, Some, None, inl, inr, refl, sym, ap, subst, ◌∙◌, Bool, true, false, ◌<◌, arith}
-use Rattle.std.specs.Prelude.{◌==◌, nat_le, if◌then◌else◌}
-use Rattle.std.proofs.lemmas.Bool.{eq-eqb, ne_eqb}
-use Rattle.bpf_model.specs.declared.value.Value.{Value}
-use Rattle.bpf_model.specs.declared.value.Value.TheVariants.{Nothing}
-use Rattle.bpf_model.specs.declared.value.Cell.{Cell}
-use Rattle.bpf_model.specs.Step.{State, put}
-use Rattle.bpf_model.specs.Request.{found_value}
-use Rattle.bpf_model.specs.Step.{returns}
+use Rattle.bpf_model.proofs.Prelude.{◌≡◌, ℕ, ◌/◌, Option, Some, None, inl, inr, refl, sym, ap, subst, ◌∙◌, Bool, true, false, ◌<◌, arith, ◌==◌, nat_le}
+use Rattle.bpf_model.proofs.Prelude.{if◌then◌else◌, eq-eqb, ne_eqb, State, put, found_value, returns, choice}
+use Rattle.model_laws.proofs.Prelude.{Value, Nothing, Cell, IsNear}
+use Rattle.plan_laws.proofs.Prelude.{Kind, Blank, Mixed, Ended, Num, CtxAt, FrameAt, MapAt, ValueAt, MaybeNull, CellKind, BlankCell, MixedCell, EndedCell}
+use Rattle.plan_laws.proofs.Prelude.{ByteCell, PartCell, AbsState, IsElementOf, Scene, IsArrayMap, IsHeld, Naming, IsNullOrHeld, IsOf, Stored, IsOfCell}
+use Rattle.plan_laws.proofs.Prelude.{AreNear, Describes, with_kind, returned_kind, after_call, IsOther, IsOtherCell, IsFresh, IsWiderKind}
 use Rattle.scalar_domain.specs.declared.scalar.Scalar.{Scalar}
-use Rattle.plan_laws.specs.Kinds.{Kind, Blank, Mixed, Ended, Num, CtxAt, FrameAt, MapAt, ValueAt, MaybeNull}
-use Rattle.plan_laws.specs.Kinds.{CellKind, BlankCell, MixedCell, EndedCell, ByteCell, PartCell, AbsState}
-use Rattle.model_laws.specs.Near.{IsNear}
-use Rattle.bpf_model.proofs.Cases.{choice}
-use Rattle.plan_laws.specs.Describes.{IsElementOf, Scene, IsArrayMap, IsHeld, Naming, IsNullOrHeld, IsOf, Stored, IsOfCell, AreNear, Describes}
-use Rattle.plan_laws.specs.Effects.{with_kind, returned_kind, after_call, IsOther, IsOtherCell, IsFresh, IsWiderKind, IsWiderCell, IsWider}
+use Rattle.plan_laws.specs.Effects.{IsWiderCell, IsWider}
 
 module _ (c : Scene) (ρ : Naming) where
   pub choice-of : (b : Bool) (k l : Kind) (v w : Value) → IsOf c ρ k v → IsOf c ρ l w → IsOf c ρ (if b then k else l) (if b then v else w)

@@ -1,44 +1,16 @@
 -- References in the frame: a group of eight cells holds what was stored there last.
-use Rattle.std.proofs.Common.{◌≡◌, ◌≢◌, ℕ, zero, suc, ◌+◌, ◌-◌, ◌*◌, ◌<◌, ◌≤◌, ◌^◌, ◌%◌, ◌/◌, List, Option, Some}
-use Rattle.std.proofs.Common.{None, ◌⊎◌, inl, inr, refl, sym, ap, subst, ◌∙◌, ℤ, pos, negsuc, arith, Bool, true}
-use Rattle.std.proofs.Common.{false}
-use Rattle.std.specs.Prelude.{if◌then◌else◌, ◌==◌, ◌&&◌, ◌+ℤ◌, nat_le, nat_lt}
-use Rattle.std.specs.Ordering.{int_eq}
-use Rattle.std.proofs.lemmas.Bool.{cases_lt, eq-eqb, ne_eqb, le-leb, lt-leb, lt-ltb, le-ltb, eqb-true}
-use Rattle.std.proofs.lemmas.Bool.Decides.{Decides-int_eq}
-use Rattle.std.proofs.lemmas.Option.{none-some, same_Some}
-use Rattle.std.proofs.Math.Nat.{div-le_self}
-use Rattle.bpf_model.specs.declared.limits.TheConstants.{FRAME_BYTES}
-use Rattle.bpf_model.specs.declared.limits.MapShape.{MapShape}
-use Rattle.bpf_model.specs.declared.insn.Insn.TheVariants.{Load, Store}
-use Rattle.bpf_model.specs.declared.insn.Operand.TheVariants.{Register}
-use Rattle.bpf_model.specs.declared.opcode.Width.TheVariants.{Eight}
-use Rattle.bpf_model.specs.declared.value.Value.{Value}
-use Rattle.bpf_model.specs.declared.value.Value.TheVariants.{Nothing, Number, Pointer}
-use Rattle.bpf_model.specs.declared.value.Reference.{Reference}
-use Rattle.bpf_model.specs.declared.value.Reference.TheVariants.{Ctx, Frame, MapRef, Elem}
-use Rattle.bpf_model.specs.declared.value.Cell.{Cell}
-use Rattle.bpf_model.specs.declared.value.Cell.TheVariants.{Byte, Part}
-use Rattle.bpf_model.specs.Value.{◌>>=◌}
-use Rattle.bpf_model.specs.Access.{region_offset, number_at}
-use Rattle.bpf_model.specs.Frame.{byte_of, is_same_reference, is_part, are_parts, found, read, is_within}
-use Rattle.bpf_model.specs.Step.{State, Outcome, Moves, put, sets, load_from, frame_after, store_to}
-use Rattle.bpf_model.specs.Element.{Element}
-use Rattle.model_laws.specs.Holds.{HoldsValue}
-use Rattle.model_laws.specs.Alone.{IsOwn}
+use Rattle.bpf_model.proofs.Prelude.{◌≡◌, ◌≢◌, ℕ, zero, suc, ◌+◌, ◌-◌, ◌*◌, ◌<◌, ◌≤◌, ◌^◌, ◌%◌, ◌/◌, List, Option, Some, None, ◌⊎◌, inl, inr, refl, sym, ap}
+use Rattle.bpf_model.proofs.Prelude.{subst, ◌∙◌, ℤ, pos, negsuc, arith, Bool, true, false, if◌then◌else◌, ◌==◌, ◌&&◌, ◌+ℤ◌, nat_le, nat_lt, int_eq, cases_lt}
+use Rattle.bpf_model.proofs.Prelude.{eq-eqb, ne_eqb, le-leb, lt-leb, lt-ltb, le-ltb, eqb-true, Decides-int_eq, none-some, same_Some, div-le_self, ◌>>=◌}
+use Rattle.bpf_model.proofs.Prelude.{region_offset, number_at, byte_of, is_same_reference, is_part, are_parts, found, read, is_within, State, Outcome, Moves}
+use Rattle.bpf_model.proofs.Prelude.{put, sets, load_from, frame_after, store_to, Element, Run, environment, found_value, AllBytes, choice}
+use Rattle.model_laws.proofs.Prelude.{FRAME_BYTES, MapShape, Load, Store, Register, Eight, Value, Nothing, Number, Pointer, Reference, Ctx, Frame, MapRef}
+use Rattle.model_laws.proofs.Prelude.{Elem, Cell, Byte, Part, HoldsValue, IsOwn, element_load, element_store, IsNear, IsNearCell}
+use Rattle.plan_laws.proofs.Prelude.{Kind, Blank, Mixed, Ended, Num, CtxAt, FrameAt, MapAt, ValueAt, MaybeNull, CellKind, BlankCell, MixedCell, EndedCell}
+use Rattle.plan_laws.proofs.Prelude.{ByteCell, PartCell, AbsState, Scene, scene_of, Naming, IsOf, Stored, part_of, IsOfCell, AreNear, Describes, with_kind}
+use Rattle.plan_laws.proofs.Prelude.{with_cells, IsWritten, IsPointer, Transfers}
 use Rattle.model_laws.proofs.Alone.{load-own, store-own}
 use Rattle.bpf_model.specs.MapState.{Store as Maps}
-use Rattle.bpf_model.specs.Machine.{Run, environment}
-use Rattle.model_laws.specs.ByKind.{element_load, element_store}
-use Rattle.bpf_model.specs.Request.{found_value}
-use Rattle.bpf_model.specs.Real.{AllBytes}
-use Rattle.plan_laws.specs.Kinds.{Kind, Blank, Mixed, Ended, Num, CtxAt, FrameAt, MapAt, ValueAt, MaybeNull}
-use Rattle.plan_laws.specs.Kinds.{CellKind, BlankCell, MixedCell, EndedCell, ByteCell, PartCell, AbsState}
-use Rattle.model_laws.specs.Near.{IsNear, IsNearCell}
-use Rattle.bpf_model.proofs.Cases.{choice}
-use Rattle.plan_laws.specs.Describes.{Scene, scene_of, Naming, IsOf, Stored, part_of, IsOfCell, AreNear, Describes}
-use Rattle.plan_laws.specs.Effects.{with_kind, with_cells, IsWritten, IsPointer}
-use Rattle.plan_laws.specs.Verified.{Transfers}
 use Rattle.plan_laws.proofs.Sets.{set-described}
 use Rattle.plan_laws.proofs.Arguments.{reg-is, cell-is}
 use Rattle.plan_laws.proofs.Local.{Acting, no-call, acts-transfers, by-itself}

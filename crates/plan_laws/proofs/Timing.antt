@@ -1,28 +1,14 @@
 -- Runs of verified programs exit in time: what a run has moved, by the answers, is less than its program is long.
-use Rattle.std.proofs.Common.{◌≡◌, ℕ, zero, suc, ◌+◌, ◌<◌, List, [], ◌∷◌, length, Option, Some, None, inl, inr, refl}
-use Rattle.std.proofs.Common.{sym, ap, subst, ◌∙◌, Bool, true, false, arith}
-use Rattle.std.specs.Prelude.{slice_get, slice_set, take, ◌==◌, if◌then◌else◌}
-use Rattle.std.proofs.lemmas.Bool.{eq-eqb, ne_eqb}
-use Rattle.std.proofs.lemmas.Option.{none-some, same_Some}
-use Rattle.bpf_model.specs.declared.event.Event.{Event}
+use Rattle.bpf_model.proofs.Prelude.{◌≡◌, ℕ, zero, suc, ◌+◌, ◌<◌, List, [], ◌∷◌, length, Option, Some, None, inl, inr, refl, sym, ap, subst, ◌∙◌, Bool, true}
+use Rattle.bpf_model.proofs.Prelude.{false, arith, slice_get, slice_set, take, ◌==◌, if◌then◌else◌, eq-eqb, ne_eqb, none-some, same_Some, Section, Store, Run}
+use Rattle.bpf_model.proofs.Prelude.{Machine, open_sections, fresh_run, run_at, StepsRun, PerformsEvent, Answers, DoesEvent, Starts, refusal, AreReal}
+use Rattle.bpf_model.proofs.Prelude.{IsHistory, moved_once, moves_after, moves_of, moved_by, ExitsInTime, AllExitInTime, WorldView, Tracks, shapes_of}
+use Rattle.model_laws.proofs.Prelude.{Event, Answer, EventRefusal}
+use Rattle.plan_laws.proofs.Prelude.{AreVerified, IsWell}
 use Rattle.bpf_model.specs.declared.event.Event.TheVariants as events
-use Rattle.bpf_model.specs.declared.event.Answer.{Answer}
 use Rattle.bpf_model.specs.declared.event.Answer.TheVariants as answers
-use Rattle.bpf_model.specs.declared.event.EventRefusal.{EventRefusal}
-use Rattle.bpf_model.specs.Section.{Section}
-use Rattle.bpf_model.specs.MapState.{Store}
-use Rattle.bpf_model.specs.Machine.{Run, Machine, open_sections, fresh_run, run_at}
-use Rattle.bpf_model.specs.MachineStep.{StepsRun}
-use Rattle.bpf_model.specs.Event.{PerformsEvent, Answers, DoesEvent, Starts, refusal}
-use Rattle.bpf_model.specs.Real.{AreReal}
-use Rattle.bpf_model.specs.History.{IsHistory}
-use Rattle.bpf_model.specs.Headline.{moved_once, moves_after, moves_of, moved_by, ExitsInTime, AllExitInTime}
-use Rattle.bpf_model.specs.View.{WorldView}
-use Rattle.bpf_model.specs.Refines.{Tracks}
-use Rattle.bpf_model.specs.View.{shapes_of}
 use Rattle.model_laws.proofs.Changing.{StoreChange, ByUpdate, ByDelete, ByReclaim, Change, Still, Begins, Steps, Stores, Leaves, change}
 use Rattle.model_laws.proofs.Sections.{run-set_cases}
-use Rattle.plan_laws.specs.Well.{AreVerified, IsWell}
 use Rattle.plan_laws.proofs.Reaching.{same-insn, keeps_well, reached_is_well, real-rest}
 
 -- the number is what the run in run slot r has moved, where there is one

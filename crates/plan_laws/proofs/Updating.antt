@@ -1,37 +1,15 @@
 -- Updates and deletes by a described run.
-use Rattle.std.proofs.Common.{◌≡◌, ℕ, ◌<◌, ◌^◌, List, [], ◌∷◌, ◌++◌, length, Option, Some, None, refl, sym, ap, subst, ◌∙◌, ℤ, arith, Bool, Result, Ok, Err}
-use Rattle.std.specs.Prelude.{slice_get, slice_set, ◌==◌, ◌&&◌, is_some, not, nat_le, nat_lt}
-use Rattle.std.proofs.lemmas.Option.{same_Some}
-use Rattle.bpf_model.specs.declared.limits.MapKind.{MapKind}
-use Rattle.bpf_model.specs.declared.limits.MapKind.TheVariants.{Hash, Array}
-use Rattle.bpf_model.specs.declared.limits.MapShape.{MapShape}
-use Rattle.bpf_model.specs.declared.insn.Insn.TheVariants.{Call}
+use Rattle.bpf_model.proofs.Prelude.{◌≡◌, ℕ, ◌<◌, ◌^◌, List, [], ◌∷◌, ◌++◌, length, Option, Some, None, refl, sym, ap, subst, ◌∙◌, ℤ, arith, Bool, Result, Ok}
+use Rattle.bpf_model.proofs.Prelude.{Err, slice_get, slice_set, ◌==◌, ◌&&◌, is_some, not, nat_le, nat_lt, same_Some, number, helper_of, ret_word, Section}
+use Rattle.bpf_model.proofs.Prelude.{linked_count, newborn, overwritten, unlinked, MapState, Store, with_bag, with_elements, Updates, Settles, Writes}
+use Rattle.bpf_model.proofs.Prelude.{Removes, RemovesFrom, hash_error, error_of_kind, update_error, Run, moves, InsnStep, returns, AreBytes}
+use Rattle.model_laws.proofs.Prelude.{MapKind, Hash, Array, MapShape, Call, Errno, NoEntry, TooBig, NoMemory, Exists, InvalidArgument, Answer, Moved, Value}
+use Rattle.model_laws.proofs.Prelude.{Number, HelperStep, UpdateStep, DeleteStep, value_argument, IsNear}
+use Rattle.plan_laws.proofs.Prelude.{Num, AbsState, scene_of, Describes, after_call, HasMap, HasBytes, Surrounds, HasStep, Leads, Transfers}
+use Rattle.scalar_domain.proofs.Prelude.{Holds}
 use Rattle.bpf_model.specs.declared.insn.CallKind.TheVariants as kinds
 use Rattle.bpf_model.specs.declared.call.Helper.TheVariants as helpers
-use Rattle.bpf_model.specs.declared.call.Errno.{Errno}
-use Rattle.bpf_model.specs.declared.call.Errno.TheVariants.{NoEntry, TooBig, NoMemory, Exists, InvalidArgument}
-use Rattle.bpf_model.specs.declared.event.Answer.{Answer}
-use Rattle.bpf_model.specs.declared.event.Answer.TheVariants.{Moved}
-use Rattle.bpf_model.specs.declared.value.Value.{Value}
-use Rattle.bpf_model.specs.declared.value.Value.TheVariants.{Number}
-use Rattle.bpf_model.specs.Value.{number}
-use Rattle.bpf_model.specs.Call.{helper_of, ret_word}
-use Rattle.bpf_model.specs.Section.{Section}
-use Rattle.bpf_model.specs.Element.{linked_count, newborn, overwritten, unlinked}
-use Rattle.bpf_model.specs.MapState.{MapState, Store, with_bag, with_elements}
-use Rattle.bpf_model.specs.Helper.{Updates, Settles, Writes, Removes, RemovesFrom, hash_error, error_of_kind, update_error}
-use Rattle.bpf_model.specs.Machine.{Run, moves}
-use Rattle.bpf_model.specs.MachineStep.{InsnStep}
-use Rattle.model_laws.specs.ByKind.{HelperStep, UpdateStep, DeleteStep, value_argument}
-use Rattle.bpf_model.specs.Step.{returns}
-use Rattle.bpf_model.specs.Real.{AreBytes}
-use Rattle.scalar_domain.specs.Scalar.{Holds}
 use Rattle.scalar_domain.specs.declared.scalar.Scalar.{Scalar}
-use Rattle.plan_laws.specs.Kinds.{Num, AbsState}
-use Rattle.model_laws.specs.Near.{IsNear}
-use Rattle.plan_laws.specs.Describes.{scene_of, Describes}
-use Rattle.plan_laws.specs.Effects.{after_call, HasMap, HasBytes}
-use Rattle.plan_laws.specs.Verified.{Surrounds, HasStep, Leads, Transfers}
 use Rattle.plan_laws.proofs.Kept.{describes-kept, insn-keeps}
 use Rattle.plan_laws.proofs.Valued.{bytes-updates, bytes-deletes}
 use Rattle.plan_laws.proofs.Sets.{returned-described}

@@ -1,27 +1,13 @@
 -- The values of all elements stay bytes; the programs stay.
-use Rattle.std.proofs.Common.{◌≡◌, ℕ, zero, suc, List, [], ◌∷◌, ◌++◌, map, replicate, Option, Some, None, inl, inr, refl, sym, ap, subst, ◌∙◌, Result, arith}
-use Rattle.std.specs.Prelude.{slice_get, slice_set}
-use Rattle.std.specs.List.{range_with_len}
-use Rattle.std.proofs.lemmas.Option.{none-some, same_Some}
-use Rattle.bpf_model.specs.declared.call.Errno.{Errno}
-use Rattle.bpf_model.specs.declared.event.Event.{Event}
+use Rattle.bpf_model.proofs.Prelude.{◌≡◌, ℕ, zero, suc, List, [], ◌∷◌, ◌++◌, map, replicate, Option, Some, None, inl, inr, refl, sym, ap, subst, ◌∙◌, Result}
+use Rattle.bpf_model.proofs.Prelude.{arith, slice_get, slice_set, range_with_len, none-some, same_Some, Section, Element, Unlinked, Reclaimed, with_life}
+use Rattle.bpf_model.proofs.Prelude.{with_value, newborn, set_to, changed, overwritten, unlinked, MapState, Store, array_element, new_elements}
+use Rattle.bpf_model.proofs.Prelude.{all_new_elements, Writes, Settles, Updates, Removes, RemovesFrom, Deletes, Machine, open_sections, StepsRun}
+use Rattle.bpf_model.proofs.Prelude.{PerformsEvent, Answers, DoesEvent, refusal, AreBytes, IsReal, AllBytes, get-append_cases, get-replicate, get-set_cases}
+use Rattle.model_laws.proofs.Prelude.{Errno, Event, Answer, EventRefusal, MapKind, Hash, Array, MapShape}
 use Rattle.bpf_model.specs.declared.event.Event.TheVariants as events
-use Rattle.bpf_model.specs.declared.event.Answer.{Answer}
 use Rattle.bpf_model.specs.declared.event.Answer.TheVariants as answers
-use Rattle.bpf_model.specs.declared.event.EventRefusal.{EventRefusal}
-use Rattle.bpf_model.specs.Section.{Section}
-use Rattle.bpf_model.specs.Element.{Element, Unlinked, Reclaimed, with_life, with_value, newborn, set_to, changed, overwritten, unlinked}
-use Rattle.bpf_model.specs.declared.limits.MapKind.{MapKind}
-use Rattle.bpf_model.specs.declared.limits.MapKind.TheVariants.{Hash, Array}
-use Rattle.bpf_model.specs.declared.limits.MapShape.{MapShape}
-use Rattle.bpf_model.specs.MapState.{MapState, Store, array_element, new_elements, all_new_elements}
-use Rattle.bpf_model.specs.Helper.{Writes, Settles, Updates, Removes, RemovesFrom, Deletes}
-use Rattle.bpf_model.specs.Machine.{Machine, open_sections}
-use Rattle.bpf_model.specs.MachineStep.{StepsRun}
-use Rattle.bpf_model.specs.Event.{PerformsEvent, Answers, DoesEvent, refusal}
-use Rattle.bpf_model.specs.Real.{AreBytes, IsReal, AllBytes}
 use Rattle.model_laws.proofs.Changing.{StoreChange, ByUpdate, ByDelete, ByReclaim, Change, Still, Begins, Steps, Stores, Leaves, change}
-use Rattle.bpf_model.proofs.Lists.{get-append_cases, get-replicate, get-set_cases}
 
 bytes-along : (es new : List Element) → new ≡ es → AllBytes es → AllBytes new
 bytes-along es new e h = subst AllBytes (sym e) h

@@ -1,15 +1,8 @@
 -- The line of a context.
-use Rattle.std.proofs.Common.{◌≡◌, ℕ, ◌<◌, ◌^◌, ◌==◌, true, false, List, [], ◌∷◌, ◌++◌, refl, sym, ap, ◌∙◌, arith}
-use Rattle.std.specs.Prelude.{codes}
+use Rattle.bpf_model.proofs.Prelude.{◌≡◌, ℕ, ◌<◌, ◌^◌, ◌==◌, true, false, List, [], ◌∷◌, ◌++◌, refl, sym, ap, ◌∙◌, arith, codes, decimal, onto_first}
+use Rattle.bpf_model.proofs.Prelude.{all_ascii_digits, digits_value, ne_eqb, and_parts, false≢true, digits_decimal, decimal_digit, All-nil, All-cons}
+use Rattle.bpf_model.proofs.Prelude.{IsNumeralModel, numerals_by_value, tells_all_ascii_digits}
 use Rattle.std.specs.Char.{is_ascii_digit}
-use Rattle.std.specs.Fmt.{decimal}
-use Rattle.std.specs.List.{onto_first}
-use Rattle.std.specs.Str.{all_ascii_digits}
-use Rattle.std.specs.Str.Parse.{digits_value}
-use Rattle.std.proofs.lemmas.Bool.{ne_eqb, and_parts, false≢true}
-use Rattle.std.proofs.lemmas.Fmt.{digits_decimal, decimal_digit}
-use Rattle.std.proofs.lemmas.List.Elements.{All-nil, All-cons}
-use Rattle.std.proofs.lemmas.Str.Parse.{IsNumeralModel, numerals_by_value, tells_all_ascii_digits}
 use Rattle.script_stream.specs.Lines.{lines_of}
 use Rattle.program_files.specs.Lines.{file_words}
 use Rattle.program_files.specs.Stages.{HasNoByte}

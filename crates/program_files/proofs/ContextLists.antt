@@ -1,12 +1,10 @@
 -- Contexts that were read so far, of lines and of bytes.
-use Rattle.std.proofs.Common.{◌≡◌, ℕ, ◌+◌, ◌*◌, ◌%◌, ◌<◌, ◌≤◌, List, [], ◌∷◌, ◌++◌, All, length, map, flat_map, sym, ap, ◌∙◌, arith}
-use Rattle.std.proofs.Common.{inl, inr, append_assoc, append-nil, length-append}
-use Rattle.std.specs.Prelude.{Option, Some, None}
-use Rattle.std.proofs.Math.Nat.{mod-eq_of_lt, mul-mod_left, suc-mul, zero-mul}
+use Rattle.bpf_model.proofs.Prelude.{◌≡◌, ℕ, ◌+◌, ◌*◌, ◌%◌, ◌<◌, ◌≤◌, List, [], ◌∷◌, ◌++◌, All, length, map, sym, ap, ◌∙◌, arith, inl, inr, append_assoc}
+use Rattle.bpf_model.proofs.Prelude.{Option, Some, None, mod-eq_of_lt, mul-mod_left, map-append, All-append, All-cons, All-head, All-nil, All-tail}
+use Rattle.std.proofs.Common.{flat_map, append-nil, length-append}
+use Rattle.std.proofs.Math.Nat.{suc-mul, zero-mul}
 use Rattle.std.proofs.lemmas.Bool.Decides.{leb_tells}
 use Rattle.std.proofs.lemmas.Grind.{flat_map-append}
-use Rattle.std.proofs.lemmas.List.{map-append}
-use Rattle.std.proofs.lemmas.List.Elements.{All-append, All-cons, All-head, All-nil, All-tail}
 use Rattle.script_stream.specs.Lines.{lines_of}
 use Rattle.program_files.specs.Contexts.{context_in, AreInLines, ArePacked}
 

@@ -1,11 +1,7 @@
 -- Bytes that are cut at the first of one byte: words and lines.
-use Rattle.std.proofs.Common.{◌≡◌, ◌≢◌, ℕ, ◌+◌, ◌<◌, ◌==◌, Bool, true, false, not, cond, List, [], ◌∷◌, ◌++◌, length}
-use Rattle.std.proofs.Common.{get_or, take, Bor, refl, sym, ap, subst, ◌∙◌}
-use Rattle.std.specs.Prelude.{Option, Some, None, is_some, MatchOption}
-use Rattle.std.specs.List.{onto_first}
-use Rattle.std.proofs.lemmas.Bool.{cond-false, false≢true, ne_eqb}
-use Rattle.std.proofs.lemmas.List.{take_more}
-use Rattle.std.proofs.lemmas.List.Elements.{All-nil, All-cons, All-head, All-tail, All-append}
+use Rattle.bpf_model.proofs.Prelude.{◌≡◌, ◌≢◌, ℕ, ◌+◌, ◌<◌, ◌==◌, Bool, true, false, not, cond, List, [], ◌∷◌, ◌++◌, length, get_or, take, Bor, refl, sym, ap}
+use Rattle.bpf_model.proofs.Prelude.{subst, ◌∙◌, Option, Some, None, is_some, MatchOption, onto_first, cond-false, false≢true, ne_eqb, take_more, All-nil}
+use Rattle.bpf_model.proofs.Prelude.{All-cons, All-head, All-tail, All-append}
 use Rattle.program_files.specs.Lines.{file_words}
 use Rattle.script_stream.specs.Lines.{lines_of}
 use Rattle.program_files.specs.Stages.{HasNoByte, words_left}

@@ -1,22 +1,15 @@
 -- Program files, line by line.
-use Rattle.std.proofs.Common.{◌≡◌, ◌≢◌, ℕ, ◌==◌, Bool, false, List, [], ◌∷◌, ◌++◌, length, flat_map, inl, inr, refl}
-use Rattle.std.proofs.Common.{sym, ap, ap₂, subst, ◌∙◌, arith, append_assoc, append-nil}
-use Rattle.std.specs.Prelude.{Option, Some, None, Result, Ok, Err, OnOk, codes}
+use Rattle.bpf_model.proofs.Prelude.{◌≡◌, ◌≢◌, ℕ, ◌==◌, Bool, false, List, [], ◌∷◌, ◌++◌, length, inl, inr, refl, sym, ap, ap₂, subst, ◌∙◌, arith}
+use Rattle.bpf_model.proofs.Prelude.{append_assoc, Option, Some, None, Result, Ok, Err, OnOk, codes, false≢true, flat_map-append, none-some, same_Some}
+use Rattle.bpf_model.proofs.Prelude.{new_map_view, heads, tails, cons-nil, option_append}
+use Rattle.model_laws.proofs.Prelude.{MapKind, MapShape}
+use Rattle.std.proofs.Common.{flat_map, append-nil}
 use lib.Pointwise.{pointwise}
-use Rattle.std.proofs.lemmas.Bool.{false≢true}
-use Rattle.std.proofs.lemmas.List.Concat.{flat_map-append}
-use Rattle.std.proofs.lemmas.Option.{none-some, same_Some}
-use Rattle.bpf_model.specs.declared.limits.MapKind.{MapKind}
-use Rattle.bpf_model.specs.declared.limits.MapShape.{MapShape}
-use Rattle.bpf_model.specs.View.{new_map_view}
-use Rattle.bpf_model.proofs.Lists.{heads, tails, cons-nil}
 use Rattle.maps.specs.Registry.{RegistryView, no_maps}
 use Rattle.program_files.specs.Lines.{file_words, code_slots, slot_in}
 use Rattle.script_lines.specs.Words.{number_in}
-use Rattle.std.specs.Fmt.{option_append}
-use Rattle.program_files.specs.ProgramFile.{FileContent, IsContextLine, AreHashWords, AreArrayWords, AreShapeWords}
-use Rattle.program_files.specs.ProgramFile.{IsMapLine, AddsMap, AddMaps, IsProgramFile, IsFileBeginning, IsWrongAfter}
-use Rattle.program_files.specs.ProgramFile.{IsFirstWrongLine}
+use Rattle.program_files.specs.ProgramFile.{FileContent, IsContextLine, AreHashWords, AreArrayWords, AreShapeWords, IsMapLine, AddsMap, AddMaps}
+use Rattle.program_files.specs.ProgramFile.{IsProgramFile, IsFileBeginning, IsWrongAfter, IsFirstWrongLine}
 use Rattle.program_files.specs.Heads.{AreHeadLines}
 use Rattle.program_files.specs.Stages.{IsAtStage}
 use Rattle.program_files.proofs.Slots.{joined_nil}

@@ -1,6 +1,6 @@
 -- What is kept of an input whose bytes are known.
-use Rattle.std.proofs.Common.{◌≡◌, ℕ, List, ◌++◌}
-use Rattle.std.specs.Prelude.{Option, Some, None, ⊤}
+use Rattle.bpf_model.proofs.Prelude.{◌≡◌, ℕ, List, ◌++◌, Option, Some, None}
+use Rattle.std.specs.Prelude.{⊤}
 use Rattle.program_files.specs.declared.program_file.FileBytes.{FileBytes}
 use Rattle.program_files.specs.Files.{HoldsBytes}
 

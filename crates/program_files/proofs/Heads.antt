@@ -1,12 +1,7 @@
 -- Heads, what is wrong with them, and what is written below them.
-use Rattle.std.proofs.Common.{◌≡◌, ◌≢◌, ℕ, ◌+◌, ◌<◌, ◌≤◌, ◌^◌, List, [], ◌∷◌, ◌++◌, length, refl, sym, ap, subst, ◌∙◌, arith, append_assoc, inl, inr}
-use Rattle.std.specs.Prelude.{codes}
-use Rattle.std.specs.Fmt.{decimal}
-use Rattle.std.proofs.lemmas.List.{length-append}
-use Rattle.bpf_model.specs.declared.insn.Insn.{Insn}
-use Rattle.bpf_model.specs.declared.limits.TheConstants.{CTX_BYTES}
-use Rattle.bpf_model.specs.Spelling.{IsProgram}
-use Rattle.bpf_model.specs.View.{AreNewMaps}
+use Rattle.bpf_model.proofs.Prelude.{◌≡◌, ◌≢◌, ℕ, ◌+◌, ◌<◌, ◌≤◌, ◌^◌, List, [], ◌∷◌, ◌++◌, length, refl, sym, ap, subst, ◌∙◌, arith, append_assoc, inl, inr}
+use Rattle.bpf_model.proofs.Prelude.{codes, decimal, length-append, IsProgram, AreNewMaps}
+use Rattle.model_laws.proofs.Prelude.{Insn, CTX_BYTES}
 use Rattle.maps.specs.Registry.{RegistryView, no_maps}
 use Rattle.script_lines.proofs.Again.{number_again}
 use Rattle.script_stream.specs.Lines.{lines_of}

@@ -1,6 +1,5 @@
 -- The maps that a file names are new.
-use Rattle.std.proofs.Common.{ℕ, List, [], ◌∷◌, refl, sym, subst, inl, inr}
-use Rattle.bpf_model.specs.View.{AreNewMaps}
+use Rattle.bpf_model.proofs.Prelude.{ℕ, List, [], ◌∷◌, refl, sym, subst, inl, inr, AreNewMaps}
 use Rattle.maps.specs.Registry.{RegistryView, no_maps}
 use Rattle.maps.proofs.NewMaps.{new-more}
 use Rattle.program_files.specs.ProgramFile.{FileContent, FileSays, AddMaps}

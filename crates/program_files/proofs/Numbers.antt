@@ -1,8 +1,6 @@
 -- Where a number is missing among the words of a map's shape.
-use Rattle.std.proofs.Common.{◌≡◌, ◌<◌, ◌∷◌, [], ℕ, List}
-use Rattle.std.specs.Prelude.{Option, Some, None, IfNone}
-use Rattle.bpf_model.specs.declared.limits.MapShape.{MapShape}
-use Rattle.bpf_model.specs.declared.limits.TheConstants.{MAX_REUSE}
+use Rattle.bpf_model.proofs.Prelude.{◌≡◌, ◌<◌, ◌∷◌, [], ℕ, List, Option, Some, None, IfNone}
+use Rattle.model_laws.proofs.Prelude.{MapShape, MAX_REUSE}
 use Rattle.script_lines.specs.Words.{number_in}
 use Rattle.program_files.specs.ProgramFile.{AreHashWords, AreArrayWords}
 

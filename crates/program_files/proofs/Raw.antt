@@ -1,12 +1,8 @@
 -- Bytes that do not begin as a text.
-use Rattle.std.proofs.Common.{◌≡◌, ℕ, ◌+◌, ◌*◌, ◌%◌, ◌<◌, ◌≤◌, ◌==◌, ◌≢◌, true, false, List, ◌++◌, length, take, drop}
-use Rattle.std.proofs.Common.{refl, sym, ap, subst, ◌∙◌, take-append-drop, arith, inr}
-use Rattle.std.proofs.lemmas.List.{length-append}
-use Rattle.std.specs.Prelude.{Some, nat_lt}
-use Rattle.std.specs.Global.{Vec}
-use Rattle.std.proofs.lemmas.Bool.Decides.{nat_tests}
-use Rattle.std.proofs.lemmas.List.{take-append-le}
-use Rattle.bpf_model.specs.declared.limits.TheConstants.{MAX_SLOTS}
+use Rattle.bpf_model.proofs.Prelude.{◌≡◌, ℕ, ◌+◌, ◌*◌, ◌%◌, ◌<◌, ◌≤◌, ◌==◌, ◌≢◌, true, false, List, ◌++◌, length, take, drop, refl, sym, ap, subst, ◌∙◌}
+use Rattle.bpf_model.proofs.Prelude.{arith, inr, length-append, Some, nat_lt, Vec, nat_tests, take-append-le}
+use Rattle.model_laws.proofs.Prelude.{MAX_SLOTS}
+use Rattle.std.proofs.Common.{take-append-drop}
 use Rattle.insn_codec.specs.declared.fault.DecodeFault.{DecodeFault}
 use Rattle.insn_codec.specs.declared.fault.DecodeFault.TheVariants as faults
 use Rattle.insn_codec.specs.Faults.{IsDecodeFault, length_fault}

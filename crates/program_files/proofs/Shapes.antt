@@ -1,14 +1,11 @@
 -- The shapes of a registry's maps, and what is told of a program that the verifier refuses.
-use Rattle.std.proofs.Common.{◌≡◌, ◌⊎◌, ℕ, ◌+◌, ◌<◌, ◌≤◌, List, [], ◌∷◌, ◌++◌, length, map, take, get_or, ap, sym, subst, ◌∙◌, inl, inr, arith}
-use Rattle.std.specs.Prelude.{Option, Some, None, slice_get, option_map}
-use Rattle.std.proofs.lemmas.List.{take_more, map-append}
-use Rattle.std.proofs.lemmas.Option.{slice_get_cases, same_Some, none-some}
-use Rattle.bpf_model.specs.View.{MapView, shapes_of_maps, shape_of_view as shape_of}
-use Rattle.bpf_model.specs.declared.limits.MapShape.{MapShape}
-use Rattle.model_laws.specs.PlainMaps.{IsPlainWithMaps}
+use Rattle.bpf_model.proofs.Prelude.{◌≡◌, ◌⊎◌, ℕ, ◌+◌, ◌<◌, ◌≤◌, List, [], ◌∷◌, ◌++◌, length, map, take, get_or, ap, sym, subst, ◌∙◌, inl, inr, arith, Option}
+use Rattle.bpf_model.proofs.Prelude.{Some, None, slice_get, option_map, take_more, map-append, slice_get_cases, same_Some, none-some, MapView, shapes_of_maps}
+use Rattle.model_laws.proofs.Prelude.{MapShape, IsPlainWithMaps}
+use Rattle.verifier.proofs.Prelude.{IsToldOf}
+use Rattle.bpf_model.specs.View.{shape_of_view as shape_of}
 use Rattle.verifier.specs.declared.refusal.ProgramRefusal.{ProgramRefusal}
 use Rattle.verifier.specs.declared.refusal.ProgramRefusal.TheVariants.{Memory}
-use Rattle.verifier.specs.Verdict.{IsToldOf}
 use Rattle.program_files.specs.declared.verdict.Verdict.{Verdict}
 use Rattle.program_files.specs.declared.verdict.Verdict.TheVariants.{Program}
 use Rattle.program_files.specs.declared.program_file.Source.{Source}

@@ -1,20 +1,14 @@
 -- The bytes of a program's slots are bytes.
-use Rattle.std.proofs.Common.{ℕ, zero, suc, ◌+◌, ◌*◌, ◌/◌, ◌^◌, ◌<◌, ◌≤◌, List, [], ◌∷◌, ◌++◌, arith, ℤ, pos}
-use Rattle.std.specs.Int.{w16, w32, cast_unsigned, cast_signed, byte_at}
-use Rattle.std.specs.List.{flat_map, AllByRecursion}
+use Rattle.bpf_model.proofs.Prelude.{ℕ, zero, suc, ◌+◌, ◌*◌, ◌/◌, ◌^◌, ◌<◌, ◌≤◌, List, [], ◌∷◌, ◌++◌, arith, ℤ, pos, w16, w32, cast_signed, byte_at, flat_map}
+use Rattle.bpf_model.proofs.Prelude.{AllByRecursion, opcode_byte, slot_bytes, slots_of, first_slot, tail_slot, opcode_of, operand_src, call_source, FitsInsn}
+use Rattle.bpf_model.proofs.Prelude.{FitsOperand}
+use Rattle.model_laws.proofs.Prelude.{Slot, Operand, Negate, ByteSwap, MoveSigned, CallKind, Kernel, Insn, Alu, Unary, LoadNumber, LoadMap, Jump, JumpLong}
+use Rattle.model_laws.proofs.Prelude.{JumpIf, Call, Exit, Load, LoadSigned, Store}
+use Rattle.std.specs.Int.{cast_unsigned}
 use Rattle.hex.specs.Hex.{IsBytes}
-use Rattle.bpf_model.specs.declared.slot.Slot.{Slot}
 use Rattle.bpf_model.specs.declared.opcode.Opcode.{Opcode}
-use Rattle.bpf_model.specs.declared.insn.Operand.{Operand}
 use Rattle.bpf_model.specs.declared.insn.Operand.TheVariants as operand
-use Rattle.bpf_model.specs.declared.insn.UnaryOp.TheVariants.{Negate, ByteSwap, MoveSigned}
-use Rattle.bpf_model.specs.declared.insn.CallKind.{CallKind}
-use Rattle.bpf_model.specs.declared.insn.CallKind.TheVariants.{Helper, Kernel}
-use Rattle.bpf_model.specs.declared.insn.Insn.{Insn}
-use Rattle.bpf_model.specs.declared.insn.Insn.TheVariants.{Alu, Unary, LoadNumber, LoadMap, Jump, JumpLong, JumpIf, Call, Exit, Load, LoadSigned, Store}
-use Rattle.bpf_model.specs.Opcode.{opcode_byte}
-use Rattle.bpf_model.specs.Spelling.{slot_bytes, slots_of, first_slot, tail_slot, opcode_of, operand_src, call_source}
-use Rattle.bpf_model.specs.Spelling.{FitsInsn, FitsOperand}
+use Rattle.bpf_model.specs.declared.insn.CallKind.TheVariants.{Helper}
 
 -- the bytes of a slot are bytes
 abbrev pub IsSmall : Slot → Type 0

@@ -1,13 +1,10 @@
 -- Digits that are cut into lines.
-use Rattle.std.proofs.Common.{◌≡◌, ℕ, ◌+◌, ◌<◌, ◌≤◌, List, [], ◌∷◌, ◌++◌, length, flat_map, take, drop}
-use Rattle.std.proofs.Common.{refl, sym, ap, subst, ◌∙◌, arith, append_assoc, append-nil}
-use Rattle.std.proofs.lemmas.List.{length-append}
-use Rattle.std.proofs.Math.Seq.{take-append_seam, drop-append_seam}
+use Rattle.bpf_model.proofs.Prelude.{◌≡◌, ℕ, ◌+◌, ◌<◌, ◌≤◌, List, [], ◌∷◌, ◌++◌, length, take, drop, refl, sym, ap, subst, ◌∙◌, arith, append_assoc}
+use Rattle.bpf_model.proofs.Prelude.{length-append, take-append_seam, drop-append_seam, slot_bytes, slots_of, text}
+use Rattle.model_laws.proofs.Prelude.{Insn, Slot}
+use Rattle.std.proofs.Common.{flat_map, append-nil}
 use Rattle.hex.specs.Hex.{encode_with, encode_lower, lower_digits}
 use Rattle.hex.proofs.HexLemmas.{length-encode_with}
-use Rattle.bpf_model.specs.declared.insn.Insn.{Insn}
-use Rattle.bpf_model.specs.declared.slot.Slot.{Slot}
-use Rattle.bpf_model.specs.Spelling.{slot_bytes, slots_of, text}
 use Rattle.program_files.specs.Heads.{slot_line}
 use Rattle.program_files.proofs.Written.{text_of_slots}
 

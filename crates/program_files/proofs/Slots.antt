@@ -1,14 +1,10 @@
 -- The slots of a line, word by word; and maps that no registry takes.
-use Rattle.std.proofs.Common.{◌≡◌, ◌≢◌, ℕ, ◌<◌, Bool, true, false, not, cond, ◌&&◌, List, [], ◌++◌, refl, sym, ◌∙◌, arith}
-use Rattle.std.specs.Prelude.{Option, Some, None}
-use Rattle.std.proofs.lemmas.Bool.{false≢true}
-use Rattle.std.proofs.lemmas.Bool.Decides.{nat_tests}
-use Rattle.bpf_model.specs.declared.limits.MapShape.{MapShape}
-use Rattle.bpf_model.specs.declared.limits.TheConstants.{MAX_REUSE}
+use Rattle.bpf_model.proofs.Prelude.{◌≡◌, ◌≢◌, ℕ, ◌<◌, Bool, true, false, not, cond, ◌&&◌, List, [], ◌++◌, refl, sym, ◌∙◌, arith, Option, Some, None}
+use Rattle.bpf_model.proofs.Prelude.{false≢true, nat_tests, option_append}
+use Rattle.model_laws.proofs.Prelude.{MapShape, MAX_REUSE}
 use Rattle.maps.specs.declared.fault.MapFault.{MapFault}
 use Rattle.maps.specs.declared.fault.MapFault.TheVariants.{BadName, NameTaken, BadShape, TooMany}
 use Rattle.maps.specs.Registry.{RegistryView, is_name, is_shape, has_name, creation_fault}
-use Rattle.std.specs.Fmt.{option_append}
 use Rattle.std.specs.Int.{is_in_range}
 use Rattle.program_files.specs.Lines.{file_words, code_slots}
 

@@ -1,10 +1,8 @@
 -- The lines of a text, read up to one of them.
-use Rattle.std.proofs.Common.{◌≡◌, ℕ, ◌+◌, ◌<◌, ◌≤◌, ◌==◌, Bool, false, not, List, [], ◌∷◌, ◌++◌, length, Bor, refl}
-use Rattle.std.proofs.Common.{sym, ap, subst, ◌∙◌, arith, append_assoc, append-nil, inl, inr}
-use Rattle.std.specs.Prelude.{Option, Some, None, MatchOption, Result, Ok, Err, IfOk, IfErr, MatchResult}
-use Rattle.std.proofs.lemmas.Bool.{false≢true}
-use Rattle.std.proofs.lemmas.Bool.Decides.{nat_tests}
-use Rattle.std.proofs.lemmas.List.{length-append}
+use Rattle.bpf_model.proofs.Prelude.{◌≡◌, ℕ, ◌+◌, ◌<◌, ◌≤◌, ◌==◌, Bool, false, not, List, [], ◌∷◌, ◌++◌, length, Bor, refl, sym, ap, subst, ◌∙◌, arith}
+use Rattle.bpf_model.proofs.Prelude.{append_assoc, inl, inr, Option, Some, None, MatchOption, Result, Ok, Err, IfOk, IfErr, MatchResult, false≢true}
+use Rattle.bpf_model.proofs.Prelude.{nat_tests, length-append}
+use Rattle.std.proofs.Common.{append-nil}
 use Rattle.script_stream.specs.Lines.{lines_of}
 use Rattle.program_files.specs.ProgramFile.{FileContent, heading, IsProgramFile, IsFileBeginning, IsFirstWrongLine, FileSays, IsWrongFile, IsLoadFault}
 use Rattle.program_files.specs.Stages.{HasNoByte, HasLoaded, HasWrongLine, IsLineFault}

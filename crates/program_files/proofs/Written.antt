@@ -1,19 +1,11 @@
 -- The lines of a program's slots say its bytes.
-use Rattle.std.proofs.Common.{◌≡◌, ℕ, suc, ◌/◌, ◌%◌, ◌<◌, ◌==◌, false, List, [], ◌∷◌, ◌++◌, flat_map, slice_index}
-use Rattle.std.proofs.Common.{refl, sym, ap, ap₂, ◌∙◌, arith, append_assoc}
-use Rattle.std.specs.Prelude.{Some, None}
-use Rattle.std.specs.Fmt.{option_append}
-use Rattle.std.specs.List.{AllByRecursion}
-use Rattle.std.specs.Result.{result_ok}
-use Rattle.std.proofs.lemmas.Bool.{ne_eqb}
-use Rattle.std.proofs.lemmas.List.Concat.{flat_map-append}
-use Rattle.std.proofs.lemmas.List.Elements.{All-nil, All-cons}
-use Rattle.std.proofs.lemmas.Option.{none-some}
+use Rattle.bpf_model.proofs.Prelude.{◌≡◌, ℕ, suc, ◌/◌, ◌%◌, ◌<◌, ◌==◌, false, List, [], ◌∷◌, ◌++◌, slice_index, refl, sym, ap, ap₂, ◌∙◌, arith, append_assoc}
+use Rattle.bpf_model.proofs.Prelude.{Some, None, option_append, AllByRecursion, result_ok, ne_eqb, flat_map-append, All-nil, All-cons, none-some, slot_bytes}
+use Rattle.bpf_model.proofs.Prelude.{slots_of, spelling, text, IsProgram}
+use Rattle.model_laws.proofs.Prelude.{Insn, Slot}
+use Rattle.std.proofs.Common.{flat_map}
 use Rattle.hex.specs.Hex.{IsBytes, encode_with, encode_lower, lower_digits, hex_digit_value}
 use Rattle.hex.proofs.HexLemmas.{IsDigits-lower_digits, decode_sized-encode_lower}
-use Rattle.bpf_model.specs.declared.insn.Insn.{Insn}
-use Rattle.bpf_model.specs.declared.slot.Slot.{Slot}
-use Rattle.bpf_model.specs.Spelling.{slot_bytes, slots_of, spelling, text, IsProgram}
 use Rattle.script_stream.specs.Lines.{lines_of}
 use Rattle.program_files.specs.Heads.{slot_line, slot_lines}
 use Rattle.program_files.specs.Lines.{file_words, slot_in, code_slots}

@@ -1,7 +1,6 @@
 -- A text's head, and the program file that it makes.
-use Rattle.std.proofs.Common.{◌≡◌, ℕ, ◌+◌, ◌≤◌, List, [], ◌∷◌, ◌++◌, length, refl, sym, ap, ◌∙◌, arith, append_assoc, inl, inr}
-use Rattle.std.specs.Prelude.{codes, Option, Some, Result, Ok, Err, IfErr}
-use Rattle.std.proofs.lemmas.List.{length-append}
+use Rattle.bpf_model.proofs.Prelude.{◌≡◌, ℕ, ◌+◌, ◌≤◌, List, [], ◌∷◌, ◌++◌, length, refl, sym, ap, ◌∙◌, arith, append_assoc, inl, inr, codes, Option, Some}
+use Rattle.bpf_model.proofs.Prelude.{Result, Ok, Err, IfErr, length-append, text}
 use Rattle.bpf_model.specs.declared.insn.Insn.{Insn}
 use Rattle.script_stream.specs.Lines.{lines_of, ended}
 use Rattle.program_files.specs.Heads.{HeadView, IsHeadFault, slot_lines, file_text, file_content}
@@ -10,7 +9,6 @@ use Rattle.program_files.specs.declared.loader.fault.LoadFault.{LoadFault}
 use Rattle.program_files.specs.declared.loader.fault.LoadFault.TheVariants.{BadFile, Memory}
 use Rattle.program_files.proofs.EndedLines.{ended_again, line_below}
 use Rattle.program_texts.specs.Assembled.{IsSplit, HasHead, IsFileOf, IsHeadRefusal, code_line, head_or_none}
-use Rattle.bpf_model.specs.Spelling.{text}
 
 -- a text that is split at its first line `code` has none in its head
 no_code : (bytes head body first : List ℕ) (above below : List (List ℕ)) → bytes ≡ head ++ (code_line ++ body) →

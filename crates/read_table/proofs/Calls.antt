@@ -1,20 +1,16 @@
 -- What the calls of a seat rest on.
-use Rattle.std.proofs.Common.{◌≡◌, ℕ, ◌+◌, ◌-◌, ◌*◌, ◌/◌, ◌%◌, ◌<◌, ◌≤◌, inl, inr, [], ◌∷◌, ◌++◌, refl, sym, ap, ◌∙◌, subst, arith}
-use mathlib.Core.Option.{none}
+use Rattle.bpf_model.proofs.Prelude.{◌≡◌, ℕ, ◌+◌, ◌-◌, ◌*◌, ◌/◌, ◌%◌, ◌<◌, ◌≤◌, inl, inr, [], ◌∷◌, ◌++◌, refl, sym, ap, ◌∙◌, subst, arith, none}
+use Rattle.read_table.proofs.Prelude.{section_stride, inside, header_in, word_at_place, Knows, IsLearnt, IsLawful, IsReader, MayLink, headers_from, count_of}
+use Rattle.read_table.proofs.Prelude.{width_of, Kept, Gains, opens, closes, learns, stores, changes, scans, Holder, Does, IsUnchanged, IsFree}
 use Rattle.atomic_table.specs.Table.{Me, step, Allows}
 use Rattle.atomic_table.specs.Seated.{TableId}
-use Rattle.read_table.specs.Limits.{section_stride}
 use Rattle.read_table.specs.declared.view.Move.{Move}
 use Rattle.read_table.specs.declared.view.Move.TheVariants.{Load, Store}
 use Rattle.read_table.specs.declared.view.TableShape.{TableShape}
 use Rattle.read_table.specs.declared.view.View.{View}
-use Rattle.read_table.specs.History.{inside, header_in, word_at_place, Knows, IsLearnt, IsLawful, IsReader, MayLink}
-use Rattle.read_table.specs.Law.{headers_from, count_of, width_of, Kept, Gains, opens, closes, learns, stores, changes, scans}
 use Rattle.read_table.proofs.Places.{IsAt}
 use Rattle.read_table.proofs.Lists.{stored_here}
 use Rattle.read_table.proofs.Keeps.{opens_ok, closes_ok, learns_ok, stores_ok, changes_ok, scans_ok}
-use Rattle.read_table.specs.Held.{Holder, Does, IsUnchanged}
-use Rattle.read_table.specs.Slots.{IsFree}
 use Rattle.read_table.proofs.Going.{went_one, goes_known, goes_fact, known_unchanged}
 
 pub stores_at : (k : TableShape) (slots id : ℕ) (me : Me ℕ View) (i slot place x : ℕ) → IsAt k i slot place →

@@ -1,17 +1,14 @@
 -- A key that stays linked in a slot is found.
-use Rattle.std.proofs.Common.{◌≡◌, ◌≢◌, ⊎_elim, ℕ, ◌%◌, ◌<◌, ◌≤◌, List, [], ◌∷◌, ◌++◌, refl, sym, ap, ◌∙◌, subst, arith, eq-eqb, ne_eqb, Option, Some, None}
-use Rattle.std.specs.Prelude.{IsSome}
-use mathlib.Core.Logic.{dite}
-use native.Mathlib.Decide.{ℕ_discrete}
-use Rattle.std.proofs.lemmas.List.{append_cancel_right}
+use Rattle.bpf_model.proofs.Prelude.{◌≡◌, ◌≢◌, ⊎_elim, ℕ, ◌%◌, ◌<◌, ◌≤◌, List, [], ◌∷◌, ◌++◌, refl, sym, ap, ◌∙◌, subst, arith, Option, Some, None, IsSome}
+use Rattle.bpf_model.proofs.Prelude.{dite, ℕ_discrete, append_cancel_right}
+use Rattle.read_table.proofs.Prelude.{moves_of, header_in, word_at_place, IsLearnt, IsSpare, MayDo, IsLawful, key_word, Refuted, AnswersLookup, IsLinkedUnder}
+use Rattle.read_table.proofs.Prelude.{KeepsHeader, Holder, Goes}
+use Rattle.std.proofs.Common.{eq-eqb, ne_eqb}
 use Rattle.read_table.specs.declared.view.Move.{Move}
 use Rattle.read_table.specs.declared.view.Move.TheVariants.{Open, Close, Learn, Load, Store, Header, Scan}
 use Rattle.read_table.specs.declared.view.TableShape.{TableShape}
 use Rattle.read_table.specs.declared.view.View.{View}
-use Rattle.read_table.specs.History.{moves_of, header_in, word_at_place, IsLearnt, IsSpare, MayDo, IsLawful}
-use Rattle.read_table.specs.Lookups.{key_word, Refuted, AnswersLookup}
-use Rattle.read_table.specs.Found.{IsLinkedUnder, KeepsHeader, StaysLinked, HasFound}
-use Rattle.read_table.specs.Held.{Holder, Goes}
+use Rattle.read_table.specs.Found.{StaysLinked, HasFound}
 use Rattle.read_table.proofs.Going.{goes_known, went_mine}
 use Rattle.read_table.proofs.Lists.{moves_else, stored_in_another, stored_beside}
 

@@ -1,12 +1,10 @@
 -- Stretches of a holder's list.
-use Rattle.std.proofs.Common.{◌≡◌, ℕ, List, [], ◌∷◌, ◌++◌, refl, sym, ap, ◌∙◌, subst, append_assoc, inl, inr, ◌%◌}
+use Rattle.bpf_model.proofs.Prelude.{◌≡◌, ℕ, List, [], ◌∷◌, ◌++◌, refl, sym, ap, ◌∙◌, subst, append_assoc, inl, inr, ◌%◌}
+use Rattle.read_table.proofs.Prelude.{moves_of, inside, Knows, IsLearnt, IsLawful, Gains, Holder, Does, Goes, Went, IsKnown, IsUnchanged}
 use Rattle.read_table.specs.declared.view.Move.{Move}
 use Rattle.read_table.specs.declared.view.Move.TheVariants.{Open, Close, Learn, Load, Store}
 use Rattle.read_table.specs.declared.view.View.{View}
-use Rattle.read_table.specs.History.{moves_of, inside, Knows, IsLearnt, IsLawful}
-use Rattle.read_table.specs.Law.{Gains}
 use Rattle.read_table.proofs.Safe.{same_generation}
-use Rattle.read_table.specs.Held.{Holder, Does, Goes, Went, IsKnown, IsUnchanged}
 
 pub went_none : (v : View) → IsKnown v → Went v v.mine v
 went_none v k = ([], refl, k.0, k.1)

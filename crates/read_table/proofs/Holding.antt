@@ -1,10 +1,10 @@
 -- What a reader touches it holds, by any lawful history.
-use Rattle.std.proofs.Common.{◌≡◌, ℕ, ◌<◌, inl, inr, ⊎_elim, subst, arith, List, [], ◌∷◌, ◌++◌}
+use Rattle.bpf_model.proofs.Prelude.{◌≡◌, ℕ, ◌<◌, inl, inr, ⊎_elim, subst, arith, List, [], ◌∷◌, ◌++◌}
+use Rattle.read_table.proofs.Prelude.{IsLawful, IsLearnt, MayDo, moves_of}
 use Rattle.read_table.specs.declared.view.Move.{Move}
 use Rattle.read_table.specs.declared.view.Move.TheVariants.{Close, Header, Learn, Load, Open, Scan, Store}
 use Rattle.read_table.specs.declared.view.TableShape.{TableShape}
 use Rattle.read_table.specs.declared.view.View.{View}
-use Rattle.read_table.specs.History.{IsLawful, IsLearnt, MayDo, moves_of}
 use Rattle.read_table.proofs.Safe.{same_generation}
 use Rattle.read_table.specs.Running.{HasHeld, HoldsSlot, Touches}
 

@@ -1,19 +1,15 @@
 -- What the writer keeps through its steps.
-use Rattle.std.proofs.Common.{◌≡◌, ◌≢◌, ⊎_elim, ℕ, zero, suc, ◌+◌, ◌^◌, ◌%◌, ◌<◌, ◌≤◌, List, [], ◌∷◌, ◌++◌, get_or}
-use Rattle.std.proofs.Common.{set, refl, sym, ap, ◌∙◌, subst, inl, inr, arith, eq-eqb, ne_eqb, append_assoc}
-use Rattle.std.proofs.Common.{length-set, get_or-set_other, get_or-set_same}
-use mathlib.Core.Logic.{dite}
-use native.Mathlib.Decide.{ℕ_discrete}
-use Rattle.std.specs.Prelude.{All}
+use Rattle.bpf_model.proofs.Prelude.{◌≡◌, ◌≢◌, ⊎_elim, ℕ, zero, suc, ◌+◌, ◌^◌, ◌%◌, ◌<◌, ◌≤◌, List, [], ◌∷◌, ◌++◌, get_or, set, refl, sym, ap, ◌∙◌, subst}
+use Rattle.bpf_model.proofs.Prelude.{inl, inr, arith, append_assoc, dite, ℕ_discrete, All}
+use Rattle.read_table.proofs.Prelude.{header_in, Cleared, MayLink, Holder, Went, Goes, Fills, Leaves, times_in, IsFree, IsLinked, IsUnlinked, AreSlots}
+use Rattle.read_table.proofs.Prelude.{IsWriter}
+use Rattle.std.proofs.Common.{eq-eqb, ne_eqb, length-set, get_or-set_other, get_or-set_same}
 use Rattle.std.proofs.lemmas.List.Elements.{All-push}
 use Rattle.atomic_table.specs.Seated.{TableId}
 use Rattle.read_table.specs.declared.view.Move.{Move}
 use Rattle.read_table.specs.declared.view.Move.TheVariants.{Store, Header, Scan}
 use Rattle.read_table.specs.declared.view.TableShape.{TableShape}
 use Rattle.read_table.specs.declared.view.View.{View}
-use Rattle.read_table.specs.History.{header_in, Cleared, MayLink}
-use Rattle.read_table.specs.Held.{Holder, Went, Goes}
-use Rattle.read_table.specs.Slots.{Fills, Leaves, times_in, IsFree, IsLinked, IsUnlinked, AreSlots, IsWriter}
 use Rattle.read_table.proofs.Going.{went_known, went_mine}
 use Rattle.read_table.proofs.Calls.{holder}
 use Rattle.read_table.proofs.Slots.{one_same, at_leaves, all_leaves, times_leaves, times_push, length_leaves, length_pushed, all_else, all_to}

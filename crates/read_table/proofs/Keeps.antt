@@ -1,10 +1,9 @@
 -- Each step keeps the rule.
-use Rattle.std.proofs.Common.{◌≡◌, ◌≢◌, ◌⊎◌, ℕ, zero, suc, ◌+◌, ◌-◌, ◌*◌, ◌/◌, ◌%◌, ◌<◌, ◌≤◌, List, [], ◌∷◌, ◌++◌}
-use Rattle.std.proofs.Common.{length, get_or, set, refl, sym, ap, ◌∙◌, subst, ⊎_elim, inl, inr, arith, eq-eqb, ne_eqb}
-use Rattle.std.proofs.Common.{append-nil, ◌==◌, if◌then◌else◌, length-set, get_or-set_other, get_or-set_same}
-use mathlib.Core.Logic.{dite}
-use mathlib.Core.Option.{some, none, some-injective, some-ne-none}
-use native.Mathlib.Decide.{ℕ_discrete}
+use Rattle.bpf_model.proofs.Prelude.{◌≡◌, ◌≢◌, ◌⊎◌, ℕ, zero, suc, ◌+◌, ◌-◌, ◌*◌, ◌/◌, ◌%◌, ◌<◌, ◌≤◌, List, [], ◌∷◌, ◌++◌, length, get_or, set, refl, sym, ap}
+use Rattle.bpf_model.proofs.Prelude.{◌∙◌, subst, ⊎_elim, inl, inr, arith, ◌==◌, if◌then◌else◌, dite, some, none, some-injective, some-ne-none, ℕ_discrete}
+use Rattle.read_table.proofs.Prelude.{moves_of, inside, header_in, IsLawful, IsLearnt, IsSpare, MayDo, MayLink, IsReader, word_at_place, section_stride}
+use Rattle.read_table.proofs.Prelude.{headers_from, width_of, count_of, Kept, Gains, base_of, index_in, opens, closes, learns, stores, changes, scans}
+use Rattle.std.proofs.Common.{eq-eqb, ne_eqb, append-nil, length-set, get_or-set_other, get_or-set_same}
 use lib.ListN.{get_elem?}
 use lib.Seq.{set-get_or}
 use Rattle.atomic_table.specs.Table.{State, Me, step, keeps, stepped, Allows, Splits}
@@ -13,10 +12,7 @@ use Rattle.read_table.specs.declared.view.Move.{Move}
 use Rattle.read_table.specs.declared.view.Move.TheVariants.{Open, Close, Learn, Load, Store, Header, Scan}
 use Rattle.read_table.specs.declared.view.TableShape.{TableShape}
 use Rattle.read_table.specs.declared.view.View.{View}
-use Rattle.read_table.specs.History.{moves_of, inside, header_in, IsLawful, IsLearnt, IsSpare, MayDo, MayLink, IsReader, word_at_place}
-use Rattle.read_table.specs.Limits.{section_stride}
-use Rattle.read_table.specs.Law.{headers_from, width_of, count_of, Fits, Kept, writer_of, dealt, reader_of, did}
-use Rattle.read_table.specs.Law.{Gains, base_of, index_in, opens, closes, learns, loads, stores, changes, scans}
+use Rattle.read_table.specs.Law.{Fits, writer_of, dealt, reader_of, did, loads}
 use Rattle.read_table.proofs.Lists.{moves_self, moves_else, IsQuiet, IsStill, IsIdle, quiet, still, idle, stored_here, stored_in_another, stored_beside}
 use Rattle.read_table.proofs.Places.{IsAt, load_move, store_move, same_place, place_within}
 

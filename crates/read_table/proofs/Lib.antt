@@ -1,3 +1,4 @@
+pub mod Prelude
 pub mod Calls
 pub mod Finding
 pub mod Going

@@ -1,17 +1,13 @@
 -- A slot that the writer has linked is so under its key.
-use Rattle.std.proofs.Common.{◌≡◌, ◌≢◌, ⊎_elim, ℕ, zero, suc, ◌+◌, ◌%◌, ◌<◌, ◌≤◌, List, [], ◌∷◌, ◌++◌, refl, sym, ap, ◌∙◌, subst, arith, append_assoc}
-use Rattle.std.proofs.Common.{Some, eq-eqb, ne_eqb}
-use mathlib.Core.Logic.{dite}
-use native.Mathlib.Decide.{ℕ_discrete}
+use Rattle.bpf_model.proofs.Prelude.{◌≡◌, ◌≢◌, ⊎_elim, ℕ, zero, suc, ◌+◌, ◌%◌, ◌<◌, ◌≤◌, List, [], ◌∷◌, ◌++◌, refl, sym, ap, ◌∙◌, subst, arith, append_assoc}
+use Rattle.bpf_model.proofs.Prelude.{Some, dite, ℕ_discrete}
+use Rattle.read_table.proofs.Prelude.{moves_of, header_in, word_at_place, IsLearnt, IsSpare, MayDo, IsLawful, key_word, IsLinkedUnder, Went, Fills}
+use Rattle.std.proofs.Common.{eq-eqb, ne_eqb}
 use Rattle.read_table.specs.declared.view.Move.{Move}
 use Rattle.read_table.specs.declared.view.Move.TheVariants.{Open, Close, Learn, Load, Store, Header, Scan}
 use Rattle.read_table.specs.declared.view.TableShape.{TableShape}
 use Rattle.read_table.specs.declared.view.View.{View}
-use Rattle.read_table.specs.History.{moves_of, header_in, word_after, word_at_place, IsLearnt, IsSpare, MayDo, IsLawful}
-use Rattle.read_table.specs.Lookups.{key_word}
-use Rattle.read_table.specs.Found.{IsLinkedUnder}
-use Rattle.read_table.specs.Held.{Went}
-use Rattle.read_table.specs.Slots.{Fills}
+use Rattle.read_table.specs.History.{word_after}
 use Rattle.read_table.proofs.Going.{went_known, went_mine}
 use Rattle.read_table.proofs.Keeping.{went_me, went_shape}
 use Rattle.read_table.proofs.Lists.{moves_else, stored_in_another, stored_beside}

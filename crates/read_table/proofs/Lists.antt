@@ -1,10 +1,9 @@
 -- The moves of one holder, after one more event.
-use Rattle.std.proofs.Common.{◌≡◌, ◌≢◌, ℕ, List, ◌∷◌, refl, ap, eq-eqb, ne_eqb}
-use mathlib.Core.Logic.{dite}
-use native.Mathlib.Decide.{ℕ_discrete}
+use Rattle.bpf_model.proofs.Prelude.{◌≡◌, ◌≢◌, ℕ, List, ◌∷◌, refl, ap, dite, ℕ_discrete}
+use Rattle.read_table.proofs.Prelude.{moves_of, inside, header_in, word_at_place}
+use Rattle.std.proofs.Common.{eq-eqb, ne_eqb}
 use Rattle.read_table.specs.declared.view.Move.{Move}
 use Rattle.read_table.specs.declared.view.Move.TheVariants.{Open, Close, Learn, Load, Store, Header, Scan}
-use Rattle.read_table.specs.History.{moves_of, inside, header_in, word_at_place}
 
 pub moves_self : (who : ℕ) (m : Move) (es : List (ℕ × Move)) → moves_of who ((who, m) ∷ es) ≡ m ∷ moves_of who es
 moves_self who m es = rw (eq-eqb who who refl) refl

@@ -1,19 +1,11 @@
 -- Stretches that only search.
-use Rattle.std.proofs.Common.{◌≡◌, ◌≢◌, ℕ, ◌+◌, ◌*◌, ◌%◌, ◌<◌, ◌≤◌, List, [], ◌∷◌, ◌++◌, Bool, true, false, refl, sym, ap}
-use Rattle.std.proofs.Common.{◌∙◌, subst, inl, inr, arith, length, Option, Some, None}
-use Rattle.std.proofs.lemmas.List.{length-append}
-use Rattle.std.proofs.lemmas.Nat.{mul-le}
-use Rattle.std.specs.Prelude.{MatchBool, IfSome}
-use mathlib.Core.Logic.{dite}
-use native.Mathlib.Decide.{ℕ_discrete}
-use Rattle.std.proofs.Math.Decide.{dec_lt}
+use Rattle.bpf_model.proofs.Prelude.{◌≡◌, ◌≢◌, ℕ, ◌+◌, ◌*◌, ◌%◌, ◌<◌, ◌≤◌, List, [], ◌∷◌, ◌++◌, Bool, true, false, refl, sym, ap, ◌∙◌, subst, inl, inr, arith}
+use Rattle.bpf_model.proofs.Prelude.{length, Option, Some, None, length-append, mul-le, MatchBool, IfSome, dite, ℕ_discrete, dec_lt}
+use Rattle.read_table.proofs.Prelude.{inside, Knows, IsLearnt, key_word, OnlySearches, HadWord, Refuted, AnswersLookup, Holder, Goes, Searched}
 use Rattle.read_table.specs.declared.view.Move.{Move}
 use Rattle.read_table.specs.declared.view.Move.TheVariants.{Open, Close, Learn, Load, Store, Header, Scan}
 use Rattle.read_table.specs.declared.view.TableShape.{TableShape}
-use Rattle.read_table.specs.History.{inside, Knows, IsLearnt}
-use Rattle.read_table.specs.Lookups.{key_word, OnlySearches, HadWord, Refuted, AnswersLookup}
-use Rattle.read_table.specs.Held.{Holder, Goes}
-use Rattle.read_table.specs.Search.{HadKey, Searched}
+use Rattle.read_table.specs.Search.{HadKey}
 use Rattle.read_table.proofs.Going.{goes_fact}
 
 pub only_append : (k : TableShape) (ns ms : List Move) → OnlySearches k ns → OnlySearches k ms → OnlySearches k (ns ++ ms)

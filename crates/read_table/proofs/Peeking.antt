@@ -1,18 +1,13 @@
 -- What the writer reads of its linked slots stays so.
-use Rattle.std.proofs.Common.{◌≡◌, ◌≢◌, ℕ, suc, ◌%◌, ◌<◌, List, [], ◌∷◌, ◌++◌, refl, sym, ap, ◌∙◌, subst, arith, Some, eq-eqb}
-use mathlib.Core.Logic.{dite}
-use native.Mathlib.Decide.{ℕ_discrete}
-use Rattle.std.specs.List.{Contains}
-use Rattle.std.proofs.lemmas.List.{append_cancel_right}
+use Rattle.bpf_model.proofs.Prelude.{◌≡◌, ◌≢◌, ℕ, suc, ◌%◌, ◌<◌, List, [], ◌∷◌, ◌++◌, refl, sym, ap, ◌∙◌, subst, arith, Some, dite, ℕ_discrete, Contains}
+use Rattle.bpf_model.proofs.Prelude.{append_cancel_right}
+use Rattle.read_table.proofs.Prelude.{moves_of, header_in, word_at_place, Cleared, IsLawful, OnlySearches, IsLinkedUnder, KeepsHeader, IsKnown, Went}
+use Rattle.read_table.proofs.Prelude.{AreSlots, IsFree, IsLinked, IsUnlinked, one_for, times_in}
+use Rattle.std.proofs.Common.{eq-eqb}
 use Rattle.read_table.specs.declared.view.Move.{Move}
 use Rattle.read_table.specs.declared.view.Move.TheVariants.{Open, Close, Learn, Load, Store, Header, Scan}
 use Rattle.read_table.specs.declared.view.TableShape.{TableShape}
 use Rattle.read_table.specs.declared.view.View.{View}
-use Rattle.read_table.specs.History.{moves_of, header_in, word_at_place, Cleared, IsLawful}
-use Rattle.read_table.specs.Lookups.{OnlySearches}
-use Rattle.read_table.specs.Found.{IsLinkedUnder, KeepsHeader}
-use Rattle.read_table.specs.Held.{IsKnown, Went}
-use Rattle.read_table.specs.Slots.{AreSlots, IsFree, IsLinked, IsUnlinked, one_for, times_in}
 use Rattle.read_table.proofs.Finding.{header-stays, words-stay}
 use Rattle.read_table.proofs.Keeping.{IsQuiet, quiet_none}
 use Rattle.read_table.proofs.Lists.{moves_else}

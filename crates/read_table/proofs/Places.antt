@@ -1,9 +1,9 @@
 -- Where the words of slots lie.
-use Rattle.std.proofs.Common.{◌≡◌, ℕ, ◌+◌, ◌-◌, ◌*◌, ◌/◌, ◌%◌, ◌<◌, ap, ◌∙◌, sym, subst, arith}
+use Rattle.bpf_model.proofs.Prelude.{◌≡◌, ℕ, ◌+◌, ◌-◌, ◌*◌, ◌/◌, ◌%◌, ◌<◌, ap, ◌∙◌, sym, subst, arith}
+use Rattle.read_table.proofs.Prelude.{base_of, width_of, count_of, index_in}
 use Rattle.std.proofs.lemmas.Nat.{div-mul-add, mod-mul-add, same_from_place, mul-add-lt}
 use Rattle.read_table.specs.declared.view.Move.TheVariants.{Load, Store}
 use Rattle.read_table.specs.declared.view.TableShape.{TableShape}
-use Rattle.read_table.specs.Law.{base_of, width_of, count_of, index_in}
 
 -- where a word of a slot lies, as an equation
 abbrev pub IsAt : TableShape → ℕ → ℕ → ℕ → Type 0

@@ -1,12 +1,11 @@
 -- What a reader learnt as linked keeps its generation while its section is open.
-use Rattle.std.proofs.Common.{◌≡◌, ◌⊎◌, ℕ, ◌+◌, ◌%◌, List, [], ◌∷◌, ◌++◌, refl, sym, ap, ◌∙◌, subst, ⊎_elim, inl, inr, arith, eq-eqb, ne_eqb}
-use mathlib.Core.Logic.{dite}
-use native.Mathlib.Decide.{ℕ_discrete}
+use Rattle.bpf_model.proofs.Prelude.{◌≡◌, ◌⊎◌, ℕ, ◌+◌, ◌%◌, List, [], ◌∷◌, ◌++◌, refl, sym, ap, ◌∙◌, subst, ⊎_elim, inl, inr, arith, dite, ℕ_discrete}
+use Rattle.read_table.proofs.Prelude.{moves_of, inside, header_in, word_at_place, Knows, IsLearnt, Cleared, MayLink, IsSpare, IsReader, MayDo, IsLawful}
+use Rattle.std.proofs.Common.{eq-eqb, ne_eqb}
 use Rattle.read_table.specs.declared.view.Move.{Move}
 use Rattle.read_table.specs.declared.view.Move.TheVariants.{Open, Close, Learn, Load, Store, Header, Scan}
 use Rattle.read_table.specs.declared.view.TableShape.{TableShape}
-use Rattle.read_table.specs.History.{moves_of, inside, header_in, word_at_place, generation, Knows, IsLearnt, Cleared}
-use Rattle.read_table.specs.History.{MayLink, IsSpare, IsReader, MayDo, IsLawful}
+use Rattle.read_table.specs.History.{generation}
 
 -- of what the reader did, a, and what the writer did, b
 record Safe (k : TableShape) (who slot h : ℕ) (a b : List Move) : Type 0 where

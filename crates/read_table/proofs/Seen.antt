@@ -1,20 +1,13 @@
 -- What the writer notes of its readers stays right.
-use Rattle.std.proofs.Common.{◌≡◌, ◌≢◌, ⊎_elim, ℕ, zero, suc, ◌+◌, ◌-◌, ◌*◌, ◌<◌, ◌≤◌, List, [], ◌∷◌, ◌++◌, length, get_or, refl, sym, ap, ◌∙◌, subst}
-use Rattle.std.proofs.Common.{inl, inr, arith, append_assoc}
-use Rattle.std.specs.Prelude.{Bool, true, false, MatchBool, ◌&&◌}
-use Rattle.std.proofs.lemmas.List.{get_or_default}
-use mathlib.Core.Logic.{dite}
-use native.Mathlib.Decide.{ℕ_discrete}
+use Rattle.bpf_model.proofs.Prelude.{◌≡◌, ◌≢◌, ⊎_elim, ℕ, zero, suc, ◌+◌, ◌-◌, ◌*◌, ◌<◌, ◌≤◌, List, [], ◌∷◌, ◌++◌, length, get_or, refl, sym, ap, ◌∙◌, subst}
+use Rattle.bpf_model.proofs.Prelude.{inl, inr, arith, append_assoc, Bool, true, false, MatchBool, ◌&&◌, get_or_default, dite, ℕ_discrete}
+use Rattle.read_table.proofs.Prelude.{Cleared, IsSized, Went, most_readers, most_table_slots, AreSightings, noted, ScansInTurn, FoundInside, Tells}
+use Rattle.read_table.proofs.Prelude.{writer_after, Fills}
 use Rattle.read_table.specs.declared.view.Move.{Move}
 use Rattle.read_table.specs.declared.view.Move.TheVariants.{Open, Close, Learn, Load, Store, Header, Scan}
 use Rattle.read_table.specs.declared.view.TableShape.{TableShape}
 use Rattle.read_table.specs.declared.view.View.{View}
-use Rattle.read_table.specs.History.{Cleared}
-use Rattle.read_table.specs.Held.{IsSized, Went}
-use Rattle.read_table.specs.Limits.{most_readers, most_table_slots}
-use Rattle.read_table.specs.Sightings.{AreSightings, noted, ScansInTurn, FoundInside, IsHeldUp, Tells}
-use Rattle.read_table.specs.Law.{writer_after}
-use Rattle.read_table.specs.Slots.{Fills}
+use Rattle.read_table.specs.Sightings.{IsHeldUp}
 use Rattle.read_table.proofs.Going.{went_mine}
 use Rattle.read_table.proofs.Keeping.{IsQuiet, fills_quiet, quiet_append, quiet_none, quiet_scan, went_shape}
 

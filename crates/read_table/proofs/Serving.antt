@@ -1,12 +1,10 @@
 -- The table's calls are the moves of its seats, and a run leaves a seat that is ready.
-use Rattle.std.proofs.Common.{◌≡◌, ℕ, ◌∙◌, List}
-use Rattle.read_table.specs.Held.{Goes, Holder, IsKnown, IsReady, TableView}
-use Rattle.read_table.specs.History.{inside}
+use Rattle.bpf_model.proofs.Prelude.{◌≡◌, ℕ, ◌∙◌, List}
+use Rattle.read_table.proofs.Prelude.{Goes, Holder, IsKnown, IsReady, TableView, inside, table_of}
+use Rattle.verifier.proofs.Prelude.{Checked}
 use Rattle.read_table.proofs.Going.{goes_known, goes_mine, goes_none, goes_then}
-use Rattle.verifier.specs.Checked.{Checked}
 use Rattle.shared_runs.specs.Tables.{AreSteps}
 use Rattle.read_table.specs.Running.{RunsShared}
-use Rattle.read_table.specs.Table.{table_of}
 
 pub are_steps : (here : TableView) → AreSteps (table_of here.shape) (λ (s : Holder). (s.table ≡ here) × IsKnown s.view) (λ (s : Holder). s.view.mine) Goes
 are_steps here = record {

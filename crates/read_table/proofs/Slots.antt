@@ -1,15 +1,11 @@
 -- The writer's lists of slots.
-use Rattle.std.proofs.Common.{◌≡◌, ◌≢◌, ℕ, zero, suc, ◌+◌, ◌<◌, ◌≤◌, List, [], ◌∷◌, ◌++◌, length, get_or, refl, sym}
-use Rattle.std.proofs.Common.{ap, ◌∙◌, subst, inl, arith, eq-eqb, ne_eqb, add-one, length-append}
-use mathlib.Core.Logic.{dite}
-use native.Mathlib.Decide.{ℕ_discrete}
-use Rattle.std.specs.Prelude.{All}
-use Rattle.std.specs.List.{range_with_len, remove, Contains}
-use Rattle.std.proofs.lemmas.List.FromFn.{length-range_with_len, get_or-range_with_len}
+use Rattle.bpf_model.proofs.Prelude.{◌≡◌, ◌≢◌, ℕ, zero, suc, ◌+◌, ◌<◌, ◌≤◌, List, [], ◌∷◌, ◌++◌, length, get_or, refl, sym, ap, ◌∙◌, subst, inl, arith}
+use Rattle.bpf_model.proofs.Prelude.{add-one, dite, ℕ_discrete, All, range_with_len, Contains, length-range_with_len, get_or-range_with_len}
+use Rattle.read_table.proofs.Prelude.{writer_after, one_for, times_in, Leaves, IsFree, IsLinked, IsUnlinked, AreSlots, IsWriter}
+use Rattle.std.proofs.Common.{eq-eqb, ne_eqb, length-append}
+use Rattle.std.specs.List.{remove}
 use Rattle.read_table.specs.declared.view.TableShape.{TableShape}
 use Rattle.read_table.specs.declared.view.View.{View}
-use Rattle.read_table.specs.Law.{writer_after}
-use Rattle.read_table.specs.Slots.{one_for, times_in, Leaves, IsFree, IsLinked, IsUnlinked, AreSlots, IsWriter}
 
 pub one_same : (slot s : ℕ) → s ≡ slot → one_for slot s ≡ 1
 one_same slot s e = rw (eq-eqb s slot e) refl

@@ -1,13 +1,10 @@
 -- What a stretch of a seat's list leaves of what was known before it: what every table of shared runs keeps.
-use Rattle.std.proofs.Common.{◌≡◌, ℕ, ◌≤◌, arith, inl, inr, refl, List, [], ◌∷◌, ◌++◌}
+use Rattle.bpf_model.proofs.Prelude.{◌≡◌, ℕ, ◌≤◌, arith, inl, inr, refl, List, [], ◌∷◌, ◌++◌}
+use Rattle.read_table.proofs.Prelude.{IsLearnt, Knows, inside, IsSized, OnlySearches, table_of}
+use Rattle.world_laws.proofs.Prelude.{regions}
 use Rattle.read_table.specs.declared.view.Move.{Move}
 use Rattle.read_table.specs.declared.view.Move.TheVariants.{Close, Header, Learn, Load, Open, Scan, Store}
 use Rattle.read_table.specs.declared.view.TableShape.{TableShape}
-use Rattle.read_table.specs.History.{IsLearnt, Knows, inside}
-use Rattle.read_table.specs.Held.{IsSized}
-use Rattle.read_table.specs.Lookups.{OnlySearches}
-use Rattle.read_table.specs.Table.{table_of}
-use Rattle.world_laws.specs.Around.{regions}
 use Rattle.shared_runs.specs.Tables.{IsSmall, IsTable}
 
 -- a lookup forgets nothing

@@ -1,31 +1,21 @@
 -- What the definition's step gives, by what the plain run's registers, cells and values are.
-use Rattle.std.proofs.Common.{◌≡◌, ◌≢◌, inl, inr, ℕ, zero, suc, ◌+◌, ◌<◌, ◌≤◌, refl, sym, ◌∙◌, ap, subst, arith, List, [], ◌∷◌}
-use Rattle.std.specs.Prelude.{◌==◌, if◌then◌else◌, length, slice_set, Option, Some, None, slice_index_or, ℤ, pos, ◌+ℤ◌, ◌-ℤ◌}
-use Rattle.std.specs.Int.{w64}
-use Rattle.std.proofs.Math.Path.{fun_ext}
-use Rattle.std.proofs.lemmas.Bool.{cases_lt, cases_eq, ne_eqb, eq-eqb}
-use Rattle.std.proofs.lemmas.List.{get_or-set_same, get_or-set_other}
+use Rattle.bpf_model.proofs.Prelude.{◌≡◌, ◌≢◌, inl, inr, ℕ, zero, suc, ◌+◌, ◌<◌, ◌≤◌, refl, sym, ◌∙◌, ap, subst, arith, List, [], ◌∷◌, ◌==◌, if◌then◌else◌}
+use Rattle.bpf_model.proofs.Prelude.{length, slice_set, Option, Some, None, slice_index_or, ℤ, pos, ◌+ℤ◌, ◌-ℤ◌, w64, fun_ext, cases_lt, cases_eq, ne_eqb}
+use Rattle.bpf_model.proofs.Prelude.{eq-eqb, get_or-set_same, get_or-set_other, is_within, offset_by, sum_of, difference_of, region_offset, signed}
+use Rattle.bpf_model.proofs.Prelude.{start-insn_at, starts_inside, slot_count_some, slot_total, State, Outcome, Moves, insn_at, entry_value, sets, put}
+use Rattle.bpf_model.proofs.Prelude.{stored, frame_after, ◌>>=◌, number, before, behind, within}
 use Rattle.bpf_model.specs.declared.value.Cell.{Cell}
 use Rattle.bpf_model.specs.declared.value.Cell.TheVariants.{Unwritten}
 use Rattle.bpf_model.specs.declared.limits.TheConstants.{FRAME_BYTES, MAX_SLOTS}
-use Rattle.bpf_model.specs.Frame.{is_within}
 use Rattle.bpf_model.specs.declared.insn.Insn.{Insn}
 use Rattle.bpf_model.specs.declared.value.Value.{Value}
 use Rattle.bpf_model.specs.declared.value.Value.TheVariants.{Nothing, Pointer}
 use Rattle.bpf_model.specs.declared.value.Reference.{Reference}
 use Rattle.bpf_model.specs.declared.value.Reference.TheVariants.{Ctx, Frame, MapRef, Elem}
-use Rattle.bpf_model.specs.Operand.{offset_by, sum_of, difference_of}
-use Rattle.bpf_model.specs.Access.{region_offset}
-use Rattle.bpf_model.specs.Arithmetic.{signed}
-use Rattle.bpf_model.proofs.Places.{start-insn_at, starts_inside, slot_count_some}
-use Rattle.bpf_model.specs.Places.{slot_total}
-use Rattle.bpf_model.specs.Step.{State, Outcome, Moves, insn_at, entry_value, sets, put, stored, frame_after}
-use Rattle.bpf_model.specs.Value.{◌>>=◌, number}
 use Rattle.reference_interpreter.specs.declared.plain_run.PlainRun.{PlainRun}
 use Rattle.reference_interpreter.specs.declared.plain_run.Progress.{Progress}
 use Rattle.reference_interpreter.specs.declared.value.Computed.{Computed}
 use Rattle.reference_interpreter.specs.Plain.{cells_of, Comes, IsComputed, IsFar, IsSum, pointed_offset}
-use Rattle.bpf_model.proofs.Bytes.{before, behind, within}
 
 pub bind_comes : {A : Type 0} (o : Option A) (f : A → Option Outcome) (x : A) (answer : Progress) (old new : PlainRun)
     → o ≡ Some x → Comes (f x) answer old new → Comes (o >>= f) answer old new

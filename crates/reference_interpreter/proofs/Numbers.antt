@@ -1,10 +1,7 @@
 -- Numbers as bytes.
-use Rattle.std.proofs.Common.{◌≡◌, ℕ, zero, suc, ◌+◌, ◌-◌, ◌*◌, ◌/◌, ◌^◌, ◌<◌, ◌≤◌, sym, ◌∙◌, ap, arith, add-one, lit<}
-use Rattle.std.specs.Prelude.{Option, Some}
+use Rattle.bpf_model.proofs.Prelude.{◌≡◌, ℕ, zero, suc, ◌+◌, ◌-◌, ◌*◌, ◌/◌, ◌^◌, ◌<◌, ◌≤◌, sym, ◌∙◌, ap, arith, add-one, lit<, Option, Some, pow-suc}
+use Rattle.bpf_model.proofs.Prelude.{pow-le-pow_right, div-div-eq-div-mul, number_at, ◌>>=◌}
 use Rattle.std.proofs.Math.Numerals.{sub-one}
-use Rattle.std.proofs.Math.Nat.{pow-suc, pow-le-pow_right, div-div-eq-div-mul}
-use Rattle.bpf_model.specs.Access.{number_at}
-use Rattle.bpf_model.specs.Value.{◌>>=◌}
 
 pub pow_step : (w : ℕ) → 0 < w → 256 ^ w ≡ 256 ^ (w - 1) * 256
 pow_step w h = let e : w ≡ suc (w - 1) = omega arith in ap (λ (k : ℕ). 256 ^ k) e ∙ pow-suc 256 (w - 1)

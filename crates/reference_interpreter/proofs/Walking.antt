@@ -1,7 +1,6 @@
 -- One more step of a run.
-use Rattle.std.proofs.Common.{◌≡◌, ℕ, suc, ◌+◌, subst, arith, List}
+use Rattle.bpf_model.proofs.Prelude.{◌≡◌, ℕ, suc, ◌+◌, subst, arith, List, State, Environment, Moves}
 use Rattle.bpf_model.specs.declared.insn.Insn.{Insn}
-use Rattle.bpf_model.specs.Step.{State, Environment, Moves}
 use Rattle.reference_interpreter.specs.Plain.{StepsByItself}
 use Rattle.reference_interpreter.specs.Runs.{Walks, walks_more}
 

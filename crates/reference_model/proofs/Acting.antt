@@ -1,32 +1,17 @@
 -- Instructions other than calls.
-use Rattle.std.proofs.Common.{◌≡◌, ℕ, List, Option, Some, None, refl, sym, ap, ◌∙◌, subst, inl, inr}
-use Rattle.std.specs.Prelude.{ℤ, Result}
-use Rattle.bpf_model.specs.Value.{◌>>=◌, number}
-use Rattle.bpf_model.specs.declared.insn.Insn.{Insn}
-use Rattle.bpf_model.specs.declared.insn.Insn.TheVariants.{Alu, Unary, LoadNumber, LoadMap, Jump, JumpLong, JumpIf, Call, Exit, Load, LoadSigned, Store}
-use Rattle.bpf_model.specs.declared.value.Value.{Value}
-use Rattle.bpf_model.specs.declared.value.Value.TheVariants.{Nothing, Number, Pointer}
-use Rattle.bpf_model.specs.declared.value.Reference.TheVariants.{Ctx, Frame, MapRef, Elem}
-use Rattle.bpf_model.specs.declared.opcode.Width.{Width}
-use Rattle.bpf_model.specs.declared.opcode.SignedWidth.{SignedWidth}
-use Rattle.bpf_model.specs.Access.{byte_count, unsigned_width}
-use Rattle.bpf_model.specs.Arithmetic.{loaded_signed}
-use Rattle.bpf_model.specs.Element.{Element}
-use Rattle.bpf_model.specs.Step.{Environment, Outcome, Moves, Exits, after, load_from, sets}
-use Rattle.model_laws.specs.ByKind.{element_load, AccessesElement}
+use Rattle.bpf_model.proofs.Prelude.{◌≡◌, ℕ, List, Option, Some, None, refl, sym, ap, ◌∙◌, subst, inl, inr, ℤ, Result, ◌>>=◌, number, byte_count}
+use Rattle.bpf_model.proofs.Prelude.{unsigned_width, loaded_signed, Element, Environment, Outcome, Moves, Exits, after, load_from, sets, kernel_function_of}
+use Rattle.bpf_model.proofs.Prelude.{Section, Run}
+use Rattle.model_laws.proofs.Prelude.{Insn, Alu, Unary, LoadNumber, LoadMap, Jump, JumpLong, JumpIf, Call, Exit, Load, LoadSigned, Store, Value, Nothing}
+use Rattle.model_laws.proofs.Prelude.{Number, Pointer, Ctx, Frame, MapRef, Elem, Width, SignedWidth, element_load, AccessesElement, CallKind, Answer}
 use Rattle.reference_interpreter.specs.declared.plain_run.PlainRun.{PlainRun}
 use Rattle.reference_interpreter.specs.declared.plain_run.Progress.{Progress}
 use Rattle.reference_interpreter.specs.declared.plain_run.Progress.TheVariants as progress
 use Rattle.reference_interpreter.specs.Plain.{plain_state_of, Comes}
 use Rattle.reference_model.specs.Acting.{element_in, load_outcome, extended_outcome, ActsAs, AloneAs, KernelsAs, KindStepsAs, InsnStepsAs, call_in}
-use Rattle.bpf_model.specs.Call.{kernel_function_of}
 use Rattle.reference_store.proofs.Telling.{tells-map}
-use Rattle.bpf_model.specs.declared.insn.CallKind.{CallKind}
 use Rattle.bpf_model.specs.declared.insn.CallKind.TheVariants as kinds
-use Rattle.bpf_model.specs.declared.event.Answer.{Answer}
-use Rattle.bpf_model.specs.Section.{Section}
 use Rattle.bpf_model.specs.MapState as maps
-use Rattle.bpf_model.specs.Machine.{Run}
 use Rattle.reference_store.specs.declared.fault.ModelFault.{ModelFault}
 use Rattle.model_laws.proofs.Requests.{by_kind, of_kind}
 

@@ -1,14 +1,11 @@
 -- Runs by run slot.
-use Rattle.std.proofs.Common.{◌≡◌, ℕ, ◌+◌, ◌<◌, ◌≤◌, List, [], ◌∷◌, ◌++◌, Option, Some, None, Bool, refl, sym, ap, ◌∙◌, subst, arith, length, true, false}
-use Rattle.std.specs.Prelude.{Result, slice_get, drop, take, is_some, if◌then◌else◌}
+use Rattle.bpf_model.proofs.Prelude.{◌≡◌, ℕ, ◌+◌, ◌<◌, ◌≤◌, List, [], ◌∷◌, ◌++◌, Option, Some, None, Bool, refl, sym, ap, ◌∙◌, subst, arith, length, true}
+use Rattle.bpf_model.proofs.Prelude.{false, Result, slice_get, drop, take, is_some, if◌then◌else◌, map-append, drop_all, lowest_free, open_sections}
+use Rattle.bpf_model.proofs.Prelude.{is_inside, section_of, RunStep, Section}
+use Rattle.model_laws.proofs.Prelude.{Answer}
 use Rattle.std.specs.Option.{option_map}
-use Rattle.std.proofs.lemmas.List.{map-append, drop_all}
-use Rattle.bpf_model.specs.declared.event.Answer.{Answer}
-use Rattle.bpf_model.specs.Machine.{lowest_free, open_sections, is_inside, section_of}
 use Rattle.bpf_model.specs.Machine as model
-use Rattle.bpf_model.specs.MachineStep.{RunStep}
 use Rattle.bpf_model.specs.MapState as maps
-use Rattle.bpf_model.specs.Section.{Section}
 use Rattle.reference_store.specs.declared.fault.ModelFault.{ModelFault}
 use Rattle.reference_store.proofs.Lists.{drop-at, take-at}
 use Rattle.reference_store.proofs.Telling.{tells-map}

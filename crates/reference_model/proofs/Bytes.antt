@@ -1,11 +1,8 @@
 -- Bytes of the frame, read one by one.
-use Rattle.std.proofs.Common.{◌≡◌, ℕ, suc, ◌+◌, ◌<◌, List, [], ◌∷◌, ◌++◌, Option, Some, None, refl, sym, ap, ◌∙◌, arith}
-use Rattle.std.specs.Prelude.{◌-◌}
-use Rattle.std.proofs.lemmas.List.{append_assoc, append-nil}
-use Rattle.bpf_model.specs.declared.value.Cell.{Cell}
-use Rattle.bpf_model.specs.Frame.{byte_of}
-use Rattle.bpf_model.specs.Frame.{bytes_at}
-use Rattle.bpf_model.specs.Value.{◌>>=◌}
+use Rattle.bpf_model.proofs.Prelude.{◌≡◌, ℕ, suc, ◌+◌, ◌<◌, List, [], ◌∷◌, ◌++◌, Option, Some, None, refl, sym, ap, ◌∙◌, arith, ◌-◌, append-nil, byte_of}
+use Rattle.bpf_model.proofs.Prelude.{bytes_at, ◌>>=◌}
+use Rattle.model_laws.proofs.Prelude.{Cell}
+use Rattle.std.proofs.lemmas.List.{append_assoc}
 
 abbrev pub with_front : List ℕ → Option (List ℕ) → Option (List ℕ)
 with_front xs o = o >>= λ rest. Some (xs ++ rest)

@@ -1,21 +1,13 @@
 -- Events and their answers.
-use Rattle.std.proofs.Common.{◌≡◌, ℕ, List, Option, Some, None, refl, sym, ap, ◌∙◌, subst}
-use Rattle.std.specs.Prelude.{Result, slice_get, slice_set, length, if◌then◌else◌}
-use Rattle.bpf_model.specs.declared.event.Event.{Event}
+use Rattle.bpf_model.proofs.Prelude.{◌≡◌, ℕ, List, Option, Some, None, refl, sym, ap, ◌∙◌, subst, Result, slice_get, slice_set, length, if◌then◌else◌}
+use Rattle.bpf_model.proofs.Prelude.{option_flatten, Store, shape_of, Run, Machine, run_at, open_sections, with_runs, with_store, StepsRun, eq-eqb, Loaded}
+use Rattle.bpf_model.proofs.Prelude.{lowest_free, begins, refusal, key_refusal, start_refusal, if_full, step_refusal, if_ended, Answers, PerformsEvent}
+use Rattle.bpf_model.proofs.Prelude.{DoesEvent}
+use Rattle.model_laws.proofs.Prelude.{Event, Answer, Found, Started, BadContext}
 use Rattle.bpf_model.specs.declared.event.Event.TheVariants as events
-use Rattle.bpf_model.specs.declared.event.Answer.{Answer}
-use Rattle.std.specs.Option.{option_map, option_flatten}
-use Rattle.bpf_model.specs.declared.event.Answer.TheVariants.{Found}
+use Rattle.std.specs.Option.{option_map}
 use Rattle.reference_store.specs.Births.{Finds}
-use Rattle.bpf_model.specs.MapState.{Store, shape_of}
-use Rattle.bpf_model.specs.Machine.{Run, Machine, run_at, open_sections, with_runs, with_store}
-use Rattle.bpf_model.specs.MachineStep.{StepsRun}
-use Rattle.std.proofs.lemmas.Bool.{eq-eqb}
-use Rattle.bpf_model.specs.declared.event.Answer.TheVariants.{Started}
-use Rattle.bpf_model.specs.declared.event.EventRefusal.TheVariants.{BadContext}
-use Rattle.bpf_model.specs.Machine.{Loaded, lowest_free, begins}
 use Rattle.arrayvec.specs.ArrayVec.{ArrayVec}
-use Rattle.bpf_model.specs.Event.{refusal, key_refusal, start_refusal, if_full, step_refusal, if_ended, Answers, PerformsEvent, DoesEvent}
 use Rattle.reference_store.specs.declared.fault.ModelFault.{ModelFault}
 use Rattle.reference_model.specs.Acting.{SlotStep, SlotStepsAs}
 use Rattle.reference_model.specs.Following.{DoesAs}

@@ -1,8 +1,7 @@
 -- Flags that are set in both of two lists.
-use Rattle.std.proofs.Common.{◌≡◌, ℕ, ◌+◌, ◌≤◌, List, [], ◌∷◌, ◌++◌, Some, Bool, refl, sym, ap, ◌∙◌, length}
-use Rattle.std.specs.Prelude.{slice_get, drop, ◌&&◌}
-use Rattle.std.proofs.lemmas.List.{append_assoc, append-nil, drop_all}
-use Rattle.bpf_model.specs.Schedule.{still_open}
+use Rattle.bpf_model.proofs.Prelude.{◌≡◌, ℕ, ◌+◌, ◌≤◌, List, [], ◌∷◌, ◌++◌, Some, Bool, refl, sym, ap, ◌∙◌, length, slice_get, drop, ◌&&◌, append-nil}
+use Rattle.bpf_model.proofs.Prelude.{drop_all, still_open}
+use Rattle.std.proofs.lemmas.List.{append_assoc}
 use Rattle.reference_store.proofs.Lists.{drop-at}
 
 pub flags-more : (xs ys done : List Bool) (i : ℕ) (a b : Bool) → slice_get xs i ≡ Some a → slice_get ys i ≡ Some b →

@@ -1,24 +1,11 @@
 -- The lists after each event.
-use Rattle.std.proofs.Common.{◌≡◌, ℕ, Some, None, refl, sym, ap, ◌∙◌}
-use Rattle.std.specs.Prelude.{slice_get, slice_set}
-use Rattle.bpf_model.specs.declared.event.Event.{Event}
-use Rattle.bpf_model.specs.declared.event.Event.TheVariants.{Advance, Reap}
-use Rattle.bpf_model.specs.declared.event.Answer.{Answer}
-use Rattle.bpf_model.specs.declared.event.Answer.TheVariants.{Done, Reaped}
-use Rattle.bpf_model.specs.declared.event.ReapedElement.{ReapedElement}
-use Rattle.bpf_model.specs.Element.{Reclaimed, with_life}
-use Rattle.bpf_model.specs.MapState.{Store}
-use Rattle.bpf_model.specs.Machine.{with_store, open_sections}
-use Rattle.bpf_model.specs.Schedule.{Schedule, advanced, is_any, first_ready, without_first}
-use Rattle.std.proofs.Common.{Ok, Err}
-use Rattle.std.specs.Prelude.{Result, IfOk, OnOk}
-use Rattle.bpf_model.specs.Schedule.{TakesOldest, DoesScheduled}
+use Rattle.bpf_model.proofs.Prelude.{◌≡◌, ℕ, Some, None, refl, sym, ap, ◌∙◌, slice_get, slice_set, Reclaimed, with_life, Store, with_store, open_sections}
+use Rattle.bpf_model.proofs.Prelude.{Schedule, advanced, is_any, first_ready, without_first, Ok, Err, Result, IfOk, OnOk, TakesOldest, DoesScheduled}
+use Rattle.bpf_model.proofs.Prelude.{get-set_there, none-without}
+use Rattle.model_laws.proofs.Prelude.{Event, Advance, Reap, Answer, Done, Reaped, ReapedElement}
 use Rattle.reference_store.specs.declared.fault.ModelFault.{ModelFault}
-use Rattle.reference_model.specs.Following.{DoesAs}
+use Rattle.reference_model.specs.Following.{DoesAs, FollowsLists}
 use Rattle.reference_store.specs.Births.{ReclaimsTo}
-use Rattle.reference_model.specs.Following.{FollowsLists}
-use Rattle.bpf_model.proofs.Lists.{get-set_there}
-use Rattle.bpf_model.proofs.Cases.{none-without}
 
 pub advance-follows : (s new : Schedule) → new.machine ≡ s.machine → new ≡ advanced s s.machine (is_any s.awaited) → FollowsLists s Advance Done new
 advance-follows s new same lists = record { first = tt; lists = lists ∙ ap (λ m. advanced s m (is_any s.awaited)) (sym same) }

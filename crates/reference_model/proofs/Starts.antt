@@ -1,8 +1,6 @@
 -- Empty lists for each map, and run slots without a run, as a machine starts.
-use Rattle.std.proofs.Common.{◌≡◌, ℕ, zero, suc, List, [], ◌∷◌, None, refl, ap, length, map}
-use Rattle.std.specs.Prelude.{replicate}
-use Rattle.bpf_model.specs.declared.limits.MapShape.{MapShape}
-use Rattle.bpf_model.specs.Schedule.{no_queues}
+use Rattle.bpf_model.proofs.Prelude.{◌≡◌, ℕ, zero, suc, List, [], ◌∷◌, None, refl, ap, length, map, replicate, no_queues}
+use Rattle.model_laws.proofs.Prelude.{MapShape}
 use Rattle.reference_model.specs.declared.run.Loaded.{Loaded}
 use Rattle.reference_model.specs.RunState.{runs_of}
 

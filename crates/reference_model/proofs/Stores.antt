@@ -1,8 +1,6 @@
 -- Maps of a store.
-use Rattle.std.proofs.Common.{◌≡◌, ℕ, zero, suc, ◌<◌, List, [], ◌∷◌, length, Some, map, arith}
-use Rattle.std.specs.Prelude.{slice_get}
-use Rattle.bpf_model.specs.declared.limits.MapShape.{MapShape}
-use Rattle.bpf_model.specs.MapState.{shape_in}
+use Rattle.bpf_model.proofs.Prelude.{◌≡◌, ℕ, zero, suc, ◌<◌, List, [], ◌∷◌, length, Some, map, arith, slice_get, shape_in}
+use Rattle.model_laws.proofs.Prelude.{MapShape}
 use Rattle.reference_store.specs.declared.map_state.MapState.{MapState}
 use Rattle.reference_store.specs.State.{map_of}
 

@@ -1,11 +1,7 @@
 -- Accesses to elements.
-use Rattle.std.proofs.Common.{◌≡◌, ℕ, List, Option, Some, None, refl, sym, ap, ◌∙◌, length, Bool, true, false}
-use Rattle.std.specs.Prelude.{slice_get, slice_set, ℤ, if◌then◌else◌}
-use Rattle.bpf_model.specs.Value.{◌>>=◌}
-use Rattle.bpf_model.specs.Access.{region_offset, number_at}
-use Rattle.bpf_model.specs.Element.{Element, is_reclaimed, unless_reclaimed, accessible, changed, with_value}
-use Rattle.bpf_model.specs.Element.{loaded_from, stored_in}
-use Rattle.bpf_model.specs.Access.{with_bytes}
+use Rattle.bpf_model.proofs.Prelude.{◌≡◌, ℕ, List, Option, Some, None, refl, sym, ap, ◌∙◌, length, Bool, true, false, slice_get, slice_set, ℤ, if◌then◌else◌}
+use Rattle.bpf_model.proofs.Prelude.{◌>>=◌, region_offset, number_at, Element, is_reclaimed, unless_reclaimed, accessible, changed, with_value, loaded_from}
+use Rattle.bpf_model.proofs.Prelude.{stored_in, with_bytes}
 use Rattle.reference_store.specs.Storing.{saved, SavesTo, StoresTo}
 use Rattle.reference_store.proofs.Elements.{changed-at}
 

@@ -1,16 +1,11 @@
 -- A birth is a replacement by the definition; updates and deletes, by the kind of their map.
-use Rattle.std.proofs.Common.{◌≡◌, ℕ, ◌+◌, ◌<◌, List, [], ◌∷◌, ◌++◌, length, Option, Some, None, Ok, Err, refl, sym, ap, subst, ◌∙◌, arith, Bool, true, false}
-use Rattle.std.specs.Prelude.{Result, slice_get, slice_set, is_some, drop, ◌==◌, ◌&&◌, not, nat_lt, nat_le, if◌then◌else◌}
-use Rattle.bpf_model.specs.declared.call.Errno.TheVariants.{NoEntry, TooBig, NoMemory, Exists, InvalidArgument}
-use Rattle.bpf_model.specs.Section.{Section}
-use Rattle.bpf_model.specs.declared.call.Errno.{Errno}
-use Rattle.bpf_model.specs.Element.{Linked, unlinked, linked_count, newborn, overwritten}
-use Rattle.bpf_model.specs.declared.limits.MapKind.TheVariants.{Hash, Array}
-use Rattle.bpf_model.specs.MapState.{MapState, Store, with_bag, with_elements}
-use Rattle.bpf_model.specs.Helper.{LooksUp, Replaces, Settles, Updates, Writes, RemovesFrom, Deletes, Removes, error_of_kind, hash_error, update_error}
+use Rattle.bpf_model.proofs.Prelude.{◌≡◌, ℕ, ◌+◌, ◌<◌, List, [], ◌∷◌, ◌++◌, length, Option, Some, None, Ok, Err, refl, sym, ap, subst, ◌∙◌, arith, Bool, true}
+use Rattle.bpf_model.proofs.Prelude.{false, Result, slice_get, slice_set, is_some, drop, ◌==◌, ◌&&◌, not, nat_lt, nat_le, if◌then◌else◌, Section, Linked}
+use Rattle.bpf_model.proofs.Prelude.{unlinked, linked_count, newborn, overwritten, MapState, Store, with_bag, with_elements, LooksUp, Replaces, Settles}
+use Rattle.bpf_model.proofs.Prelude.{Updates, Writes, RemovesFrom, Deletes, Removes, error_of_kind, hash_error, update_error, set-same}
+use Rattle.model_laws.proofs.Prelude.{NoEntry, TooBig, NoMemory, Exists, InvalidArgument, Errno, Hash, Array}
 use Rattle.reference_store.specs.Births.{uses_after_first, set_first, without_first_free}
 use Rattle.reference_store.proofs.Lists.{first-of, drop-none}
-use Rattle.bpf_model.proofs.Lists.{set-same}
 
 pub without_first-at : (ms : List MapState) (k : ℕ) (m : MapState) → slice_get ms k ≡ Some m →
     without_first_free ms k ≡ slice_set ms k (with_bag (drop 1 m.bag) m)

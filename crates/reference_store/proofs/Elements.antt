@@ -1,11 +1,8 @@
 -- What a map has under a key, and lists of elements in which one is changed or added.
-use Rattle.std.proofs.Common.{◌≡◌, ℕ, zero, suc, ◌<◌, ◌≤◌, List, [], ◌∷◌, ◌++◌, length, Option, Some, None, refl, sym, ap, ◌∙◌, subst, arith, map}
-use Rattle.std.specs.Prelude.{slice_get, slice_set}
-use Rattle.std.proofs.lemmas.Option.{slice_get_within}
-use Rattle.bpf_model.specs.Section.{Section}
-use Rattle.bpf_model.specs.Element.{Element, Unlinked, IsLinkedAt, with_life, set_to, changed, unlinked}
+use Rattle.bpf_model.proofs.Prelude.{◌≡◌, ℕ, zero, suc, ◌<◌, ◌≤◌, List, [], ◌∷◌, ◌++◌, length, Option, Some, None, refl, sym, ap, ◌∙◌, subst, arith, map}
+use Rattle.bpf_model.proofs.Prelude.{slice_get, slice_set, slice_get_within, Section, Element, Unlinked, IsLinkedAt, with_life, set_to, changed, unlinked}
+use Rattle.bpf_model.proofs.Prelude.{slice_get_past}
 use Rattle.reference_store.specs.State.{IsLinkedHere}
-use Rattle.std.proofs.lemmas.Option.{slice_get_past}
 
 -- an element of the list is what the map has under the key, when it says so
 pub linked-here : (es : List Element) (map : ℕ) (key : List ℕ) (n : ℕ) (e : Element) → slice_get es n ≡ Some e →

@@ -1,8 +1,8 @@
 -- Facts about lists, of what stands at an index and what is left from an index on.
-use Rattle.std.proofs.Common.{◌≡◌, ℕ, zero, suc, ◌+◌, ◌<◌, ◌≤◌, List, [], ◌∷◌, ◌++◌, length, Some, refl, sym, ap, ◌∙◌, subst, arith, map}
-use Rattle.std.specs.Prelude.{slice_get, slice_index_or, remove, drop, take}
-use Rattle.std.proofs.lemmas.List.{append_assoc, append-nil, drop_all}
-use Rattle.bpf_model.proofs.Lists.{drop-next, take-next}
+use Rattle.bpf_model.proofs.Prelude.{◌≡◌, ℕ, zero, suc, ◌+◌, ◌<◌, ◌≤◌, List, [], ◌∷◌, ◌++◌, length, Some, refl, sym, ap, ◌∙◌, subst, arith, map, slice_get}
+use Rattle.bpf_model.proofs.Prelude.{slice_index_or, drop, take, append-nil, drop_all, drop-next, take-next}
+use Rattle.std.specs.Prelude.{remove}
+use Rattle.std.proofs.lemmas.List.{append_assoc}
 
 pub remove-first : {A : Type 0} (xs : List A) → remove xs 0 ≡ drop 1 xs
 remove-first [] = refl

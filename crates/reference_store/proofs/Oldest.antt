@@ -1,16 +1,10 @@
 -- A new element takes the map slot that has been free longest.
-use Rattle.std.proofs.Common.{◌≡◌, ℕ, ◌+◌, ◌<◌, ◌≤◌, List, [], ◌∷◌, ◌++◌, Option, Some, None, refl, sym, ap, ◌∙◌, arith, length}
-use Rattle.std.specs.Prelude.{slice_get, drop, ◌-◌}
-use Rattle.bpf_model.specs.Section.{Section}
-use Rattle.bpf_model.specs.Element.{Element, Unlinked, Linked, with_life, set_to, unlinked}
-use Rattle.bpf_model.specs.MapState.{MapState, Store, with_bag}
-use Rattle.bpf_model.specs.Schedule.{TakesOldest}
+use Rattle.bpf_model.proofs.Prelude.{◌≡◌, ℕ, ◌+◌, ◌<◌, ◌≤◌, List, [], ◌∷◌, ◌++◌, Option, Some, None, refl, sym, ap, ◌∙◌, arith, length, slice_get, drop, ◌-◌}
+use Rattle.bpf_model.proofs.Prelude.{Section, Element, Unlinked, Linked, with_life, set_to, unlinked, MapState, Store, with_bag, TakesOldest, length-set}
+use Rattle.bpf_model.proofs.Prelude.{slice_get_past, get-set_there, get-append_last}
 use Rattle.reference_store.specs.Births.{uses_after_first, without_first_free}
 use Rattle.reference_store.proofs.Births.{without_first-at}
 use Rattle.reference_store.proofs.Lists.{first-of}
-use Rattle.std.proofs.lemmas.List.{length-set}
-use Rattle.std.proofs.lemmas.Option.{slice_get_past}
-use Rattle.bpf_model.proofs.Lists.{get-set_there, get-append_last}
 
 changed-length : (f : Element → Element) (es : List Element) (n : ℕ) (o : Option Element) → length (set_to f es n o) ≡ length es
 changed-length f es n None = refl

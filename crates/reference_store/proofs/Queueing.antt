@@ -1,17 +1,13 @@
 -- The lists of unlinked elements, changed map by map.
-use Rattle.std.proofs.Common.{◌≡◌, ℕ, zero, suc, ◌+◌, ◌<◌, ◌≤◌, List, [], ◌∷◌, ◌++◌, Option, Some, None, Bool, refl}
-use Rattle.std.proofs.Common.{sym, ap, ◌∙◌, arith, length, true, false, map}
-use Rattle.std.specs.Prelude.{slice_get, slice_set, drop, take, is_some, ◌&&◌, ◌==◌, if◌then◌else◌}
-use Rattle.std.proofs.lemmas.List.{append_assoc, append-nil, drop_all, map-set}
-use Rattle.std.proofs.lemmas.Bool.{eq-eqb, ne_eqb}
-use Rattle.bpf_model.specs.Element.{Element, is_linked}
-use Rattle.bpf_model.specs.Schedule.{is_unlinked}
-use Rattle.bpf_model.specs.Schedule.{Queues, turned, retired, retired_in, unlinked_between, first_ready, or_first, without_first}
+use Rattle.bpf_model.proofs.Prelude.{◌≡◌, ℕ, zero, suc, ◌+◌, ◌<◌, ◌≤◌, List, [], ◌∷◌, ◌++◌, Option, Some, None, Bool, refl, sym, ap, ◌∙◌, arith, length, true}
+use Rattle.bpf_model.proofs.Prelude.{false, map, slice_get, slice_set, drop, take, is_some, ◌&&◌, ◌==◌, if◌then◌else◌, append-nil, drop_all, map-set, eq-eqb}
+use Rattle.bpf_model.proofs.Prelude.{ne_eqb, Element, is_linked, is_unlinked, Queues, turned, retired, retired_in, unlinked_between, first_ready, or_first}
+use Rattle.bpf_model.proofs.Prelude.{without_first, get-map}
+use Rattle.std.proofs.lemmas.List.{append_assoc}
 use Rattle.bpf_model.specs.Schedule as schedule
 use Rattle.reference_store.specs.State.{queues_of}
 use Rattle.reference_store.specs.declared.queues.Queues as plain
 use Rattle.reference_store.proofs.Lists.{drop-at}
-use Rattle.bpf_model.proofs.Lists.{get-map}
 
 -- A list of which the first so many items have been changed, each by its index.
 abbrev pub mixed : {A : Type 0} → (ℕ → A → A) → ℕ → ℕ → List A → List A

@@ -1,11 +1,7 @@
 -- A reclamation is one by the definition.
-use Rattle.std.proofs.Common.{◌≡◌, ℕ, List, Some, ap, ◌∙◌}
-use Rattle.std.specs.Prelude.{slice_get, slice_set}
-use Rattle.bpf_model.specs.declared.event.Given.{Given}
-use Rattle.bpf_model.specs.Section.{Section}
-use Rattle.bpf_model.specs.Element.{Element, Reclaimed, with_life}
-use Rattle.bpf_model.specs.MapState.{MapState, Store, given_of, returned}
-use Rattle.bpf_model.specs.Reclaim.{Reclaims}
+use Rattle.bpf_model.proofs.Prelude.{◌≡◌, ℕ, List, Some, ap, ◌∙◌, slice_get, slice_set, Section, Element, Reclaimed, with_life, MapState, Store, given_of}
+use Rattle.bpf_model.proofs.Prelude.{returned, Reclaims}
+use Rattle.model_laws.proofs.Prelude.{Given}
 use Rattle.reference_store.specs.Births.{MayReclaim}
 
 -- x is the element, and z its map after the map slot was given back

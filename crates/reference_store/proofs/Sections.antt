@@ -1,14 +1,9 @@
 -- Sections, compared and listed.
-use Rattle.std.proofs.Common.{◌≡◌, ℕ, ◌+◌, ◌<◌, ◌≤◌, Bool, List, Some, None, sym, ap, ◌∙◌, subst, arith, length, true, false, inl, inr}
-use Rattle.std.specs.Prelude.{slice_get, slice_index_or, ◌==◌, ◌&&◌}
-use Rattle.std.proofs.lemmas.Option.{slice_get-get_or}
-use Rattle.std.proofs.lemmas.Bool.{eq-eqb, false≢true, cases_lt}
+use Rattle.bpf_model.proofs.Prelude.{◌≡◌, ℕ, ◌+◌, ◌<◌, ◌≤◌, Bool, List, Some, None, sym, ap, ◌∙◌, subst, arith, length, true, false, inl, inr, slice_get}
+use Rattle.bpf_model.proofs.Prelude.{slice_index_or, ◌==◌, ◌&&◌, slice_get-get_or, eq-eqb, false≢true, cases_lt, slice_get_past, length-map, get-map}
 use Rattle.bpf_model.specs.Section as model
 use Rattle.reference_store.specs.declared.element.Section.{Section}
 use Rattle.reference_store.specs.State.{section_shown, sections_of}
-use Rattle.std.proofs.lemmas.Option.{slice_get_past}
-use Rattle.std.proofs.lemmas.List.{length-map}
-use Rattle.bpf_model.proofs.Lists.{get-map}
 
 same-section : (x s : Section) → section_shown x ≡ section_shown s → ((x.run == s.run) && (x.number == s.number)) ≡ true
 same-section x s e = ap (λ b. b && (x.number == s.number)) (eq-eqb x.run s.run (ap (λ t. t.run) e)) ∙ eq-eqb x.number s.number (ap (λ t. t.number) e)

@@ -1,6 +1,5 @@
 -- What a result or a fault says of the machine's step.
-use Rattle.std.proofs.Common.{Ok, Err}
-use Rattle.std.specs.Prelude.{Result}
+use Rattle.bpf_model.proofs.Prelude.{Ok, Err, Result}
 use Rattle.reference_store.specs.declared.fault.ModelFault.{ModelFault}
 use Rattle.reference_store.specs.declared.fault.ModelFault.TheVariants as faults
 use Rattle.reference_store.specs.Telling.{TellsResult}

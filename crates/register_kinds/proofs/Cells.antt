@@ -1,21 +1,15 @@
 -- Joins of whole states: cells by what was stored in their groups.
-use Rattle.std.proofs.Common.{◌≡◌, ℕ, ◌+◌, ◌/◌, ◌<◌, List, length, refl, sym, subst, ◌∙◌, arith, inl, inr, ap₂}
-use Rattle.std.specs.Prelude.{if◌then◌else◌}
-use Rattle.std.proofs.lemmas.Bool.{cases_lt}
-use Rattle.std.proofs.lemmas.List.{get_or_past}
-use Rattle.plan_laws.specs.Kinds.{PartCell}
-use Rattle.plan_laws.specs.Planned.{Joins}
+use Rattle.bpf_model.proofs.Prelude.{◌≡◌, ℕ, ◌+◌, ◌/◌, ◌<◌, List, length, refl, sym, subst, ◌∙◌, arith, inl, inr, ap₂, if◌then◌else◌, cases_lt, get_or_past}
+use Rattle.plan_laws.proofs.Prelude.{PartCell, Joins}
+use Rattle.register_kinds.proofs.Prelude.{kind_of, cell_of, kind_at, kind_in, class_in, cell_at, state_of, is_pointer, joined_class, IsBelow, AreBelow}
+use Rattle.register_kinds.proofs.Prelude.{PairsGrow, pair_of, JoinsKind, JoinsCell}
 use Rattle.register_kinds.specs.declared.kind.RegKind.{RegKind}
 use Rattle.register_kinds.specs.declared.kind.RegKind.TheVariants as kinds
 use Rattle.register_kinds.specs.declared.kind.CellKind as classes
 use Rattle.register_kinds.specs.declared.kind.CellKind.TheVariants as cells
 use Rattle.register_kinds.specs.declared.frame.FrameCells.{FrameCells}
 use Rattle.register_kinds.specs.declared.state.AbsState.{AbsState as StateHere}
-use Rattle.register_kinds.specs.States.{kind_of, cell_of, kind_at, kind_in, class_in, cell_at, state_of, is_pointer}
-use Rattle.register_kinds.specs.Joined.{joined_class}
 use Rattle.register_kinds.proofs.Pairs.{kind_later}
-use Rattle.register_kinds.specs.Pairs.{IsBelow, AreBelow}
-use Rattle.register_kinds.specs.JoinTable.{PairsGrow, pair_of, JoinsKind, JoinsCell}
 
 module _ (top : ℕ) (pairs : List (ℕ × ℕ)) where
   -- parts on both sides

@@ -1,12 +1,10 @@
 -- States after a change, register by register and byte by byte.
-use Rattle.std.proofs.Common.{◌≡◌, ◌≢◌, ℕ, ◌+◌, ◌<◌, ◌≤◌, List, length, refl, sym, subst, ◌∙◌, arith, inl, inr, below_more}
-use Rattle.std.specs.Prelude.{slice_set, slice_index_or}
-use Rattle.std.proofs.lemmas.Bool.{cases_lt}
-use Rattle.std.proofs.lemmas.List.{get_or-set_same, get_or-set_other, get_or_past}
-use Rattle.plan_laws.specs.Kinds.{Blank}
+use Rattle.bpf_model.proofs.Prelude.{◌≡◌, ◌≢◌, ℕ, ◌+◌, ◌<◌, ◌≤◌, List, length, refl, sym, subst, ◌∙◌, arith, inl, inr, below_more, slice_set, slice_index_or}
+use Rattle.bpf_model.proofs.Prelude.{cases_lt, get_or-set_same, get_or-set_other, get_or_past}
+use Rattle.plan_laws.proofs.Prelude.{Blank}
+use Rattle.register_kinds.proofs.Prelude.{learnt_kind}
 use Rattle.register_kinds.specs.declared.learn.Lesson.{Lesson}
 use Rattle.register_kinds.specs.declared.learn.Lesson.TheVariants.{SectionEnds, IsNull, IsThere}
-use Rattle.register_kinds.specs.Changes.{learnt_kind}
 
 -- Each item of a list becomes what a function makes of it.
 module _ (A : Type 0) (d : A) where

@@ -1,9 +1,9 @@
 -- The kind in code of a kind of the laws.
-use Rattle.std.proofs.Common.{◌≡◌, refl, sym, ap, ◌∙◌}
-use Rattle.plan_laws.specs.Kinds.{Kind, Blank, Ended, Mixed, Num, CtxAt, FrameAt, MapAt, ValueAt, MaybeNull}
+use Rattle.bpf_model.proofs.Prelude.{◌≡◌, refl, sym, ap, ◌∙◌}
+use Rattle.plan_laws.proofs.Prelude.{Kind, Blank, Ended, Mixed, Num, CtxAt, FrameAt, MapAt, ValueAt, MaybeNull}
+use Rattle.register_kinds.proofs.Prelude.{kind_of}
 use Rattle.register_kinds.specs.declared.kind.RegKind.{RegKind}
 use Rattle.register_kinds.specs.declared.kind.RegKind.TheVariants as kinds
-use Rattle.register_kinds.specs.States.{kind_of}
 
 abbrev pub reg_kind : Kind → RegKind
 reg_kind Blank = kinds.Unwritten

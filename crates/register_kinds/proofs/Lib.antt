@@ -1,3 +1,4 @@
+pub mod Prelude
 pub mod Pairs
 pub mod Cells
 pub mod Changes

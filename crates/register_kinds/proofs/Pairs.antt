@@ -1,26 +1,18 @@
 -- Joins, a register or a byte at a time, while the list of pairs grows.
-use Rattle.std.proofs.Common.{◌≡◌, ◌≢◌, ℕ, ◌+◌, ◌-◌, ◌<◌, ◌≤◌, List, length, Some, refl, sym, ap, subst, ◌∙◌, arith, inl, inr, below_more}
-use Rattle.std.specs.Prelude.{slice_get, slice_set, slice_index_or, nat_lt, unwrap_or, if◌then◌else◌}
-use Rattle.std.proofs.lemmas.Bool.{cases_lt, lt-ltb, le-ltb}
-use Rattle.std.proofs.lemmas.Option.{slice_get-get_or, slice_get_within}
-use Rattle.std.proofs.lemmas.List.{get_or-set_same, get_or-set_other, get_or_past, get_or-replicate, length-replicate}
-use Rattle.std.specs.Prelude.{ℤ}
+use Rattle.bpf_model.proofs.Prelude.{◌≡◌, ◌≢◌, ℕ, ◌+◌, ◌-◌, ◌<◌, ◌≤◌, List, length, Some, refl, sym, ap, subst, ◌∙◌, arith, inl, inr, below_more, slice_get}
+use Rattle.bpf_model.proofs.Prelude.{slice_set, slice_index_or, nat_lt, unwrap_or, if◌then◌else◌, cases_lt, lt-ltb, le-ltb, slice_get-get_or}
+use Rattle.bpf_model.proofs.Prelude.{slice_get_within, get_or-set_same, get_or-set_other, get_or_past, get_or-replicate, length-replicate, ℤ, and_self}
+use Rattle.plan_laws.proofs.Prelude.{HasOffset, Kind, Blank, Mixed, Ended, Num, CtxAt, FrameAt, MapAt, ValueAt, MaybeNull, IsWiderKind}
+use Rattle.register_kinds.proofs.Prelude.{kind_of, kind_at, kind_in, class_in, IsHull, IsJoinedKind, IsBelow, PairsGrow, pair_of, IsTable, JoinsKind}
+use Rattle.scalar_domain.proofs.Prelude.{Holds, le_self}
 use Rattle.std.proofs.Math.ListN.{replicate}
-use Rattle.scalar_domain.specs.Scalar.{Holds}
 use Rattle.scalar_domain.specs.declared.scalar.Scalar.{Scalar}
-use Rattle.plan_laws.specs.Describes.{HasOffset}
-use Rattle.plan_laws.specs.Kinds.{Kind, Blank, Mixed, Ended, Num, CtxAt, FrameAt, MapAt, ValueAt, MaybeNull}
-use Rattle.plan_laws.specs.Effects.{IsWiderKind}
 use Rattle.register_kinds.specs.declared.kind.RegKind.{RegKind}
 use Rattle.register_kinds.specs.declared.kind.RegKind.TheVariants as kinds
 use Rattle.register_kinds.specs.declared.kind.CellKind.TheVariants as cells
-use Rattle.register_kinds.specs.States.{kind_of, kind_at, kind_in, class_in}
-use Rattle.std.specs.Int.Bits.{or_self, and_self}
+use Rattle.std.specs.Int.Bits.{or_self}
 use Rattle.std.proofs.Math.Nat.{min-eq_left, max-eq_left}
-use Rattle.scalar_domain.specs.Constant.{le_self}
-use Rattle.register_kinds.specs.Joined.{IsHull, IsJoinedKind}
-use Rattle.register_kinds.specs.Pairs.{IsBelow, IsPairing}
-use Rattle.register_kinds.specs.JoinTable.{PairsGrow, pair_of, IsTable, JoinsKind}
+use Rattle.register_kinds.specs.Pairs.{IsPairing}
 
 -- what an identity stands for
 pub pair_old : (top : ℕ) (pairs : List (ℕ × ℕ)) (id : ℕ) → id < top → pair_of top pairs id ≡ (id, id)

@@ -1,11 +1,9 @@
 -- What `==` of two kinds says.
-use Rattle.std.proofs.Common.{◌≡◌, ℕ, ◌≤◌, Bool, true, false, ap, ap₂, refl, sym, ◌∙◌, subst}
-use Rattle.std.specs.Prelude.{Decides, ◌&&◌}
+use Rattle.bpf_model.proofs.Prelude.{◌≡◌, ℕ, ◌≤◌, Bool, true, false, ap, ap₂, refl, sym, ◌∙◌, subst, ◌&&◌, false≢true, Decides-eqb, Decides-int_eq}
+use Rattle.scalar_domain.proofs.Prelude.{Within}
+use Rattle.std.specs.Prelude.{Decides}
 use Rattle.std.proofs.Math.Bridge.{le_prop}
 use Rattle.std.proofs.Math.Nat.{ℕ_set}
-use Rattle.std.proofs.lemmas.Bool.{false≢true}
-use Rattle.std.proofs.lemmas.Bool.Decides.{Decides-eqb, Decides-int_eq}
-use Rattle.scalar_domain.specs.Mask.{Within}
 use Rattle.scalar_domain.specs.declared.scalar.Scalar.{Scalar}
 use Rattle.scalar_domain.specs.contracts.scalar.ScalarPartialEq.TheImpl as scalar
 use Rattle.register_kinds.specs.declared.kind.RegKind.{RegKind}

@@ -1,11 +1,8 @@
 -- Histories that are one step longer.
-use Rattle.std.proofs.Common.{◌≡◌, ◌∙◌, ℕ, zero, suc, List, [], ◌∷◌, ◌++◌, replicate, refl, sym, ap}
-use Rattle.std.proofs.lemmas.List.{append_assoc, append-nil}
-use Rattle.bpf_model.specs.declared.event.Event.{Event}
-use Rattle.bpf_model.specs.declared.event.Answer.{Answer}
-use Rattle.bpf_model.specs.Machine.{Machine}
-use Rattle.bpf_model.specs.Event.{DoesEvent}
-use Rattle.bpf_model.specs.History.{IsHistory, last_of}
+use Rattle.bpf_model.proofs.Prelude.{◌≡◌, ◌∙◌, ℕ, zero, suc, List, [], ◌∷◌, ◌++◌, replicate, refl, sym, ap, append-nil, Machine, DoesEvent, IsHistory}
+use Rattle.bpf_model.proofs.Prelude.{last_of}
+use Rattle.model_laws.proofs.Prelude.{Event, Answer}
+use Rattle.std.proofs.lemmas.List.{append_assoc}
 use Rattle.run_once.specs.Told.{TellsStep, TellsSteps}
 
 pub replicate-more : {A : Type 0} (n : ℕ) (x : A) → replicate n x ++ x ∷ [] ≡ replicate (suc n) x

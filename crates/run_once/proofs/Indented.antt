@@ -1,10 +1,7 @@
 -- Lines behind two blanks, as they are written byte by byte.
-use Rattle.std.proofs.Common.{◌≡◌, ◌⊎◌, inl, inr, ◌∙◌, ℕ, List, [], ◌∷◌, ◌++◌, Bool, true, false, arith, nat_eq, slice_index_or}
-use Rattle.std.proofs.Common.{refl, sym, ap, subst}
-use Rattle.std.specs.Prelude.{All, codes}
-use Rattle.std.proofs.lemmas.Bool.{ne_eqb}
+use Rattle.bpf_model.proofs.Prelude.{◌≡◌, ◌⊎◌, inl, inr, ◌∙◌, ℕ, List, [], ◌∷◌, ◌++◌, Bool, true, false, arith, nat_eq, slice_index_or, refl, sym, ap, subst}
+use Rattle.bpf_model.proofs.Prelude.{All, codes, ne_eqb, All-append}
 use Rattle.std.proofs.lemmas.List.{append_assoc}
-use Rattle.std.proofs.lemmas.List.Elements.{All-append}
 use Rattle.run_once.specs.Told.{AreIndented, IsSeen, margin}
 
 -- The last line is ended, or it is not.

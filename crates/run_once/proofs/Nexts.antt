@@ -1,15 +1,7 @@
 -- The next instruction of the run in run slot 0, as the world has it and as the machine has it.
-use Rattle.std.proofs.Common.{◌≡◌, ◌∙◌, ℕ, List, Option, Some, None, refl, sym, ap, subst}
-use Rattle.std.specs.Prelude.{slice_get}
-use Rattle.std.specs.Option.{option_flatten}
-use Rattle.std.proofs.lemmas.Option.{none-some, same_Some}
-use Rattle.bpf_model.specs.declared.insn.Insn.{Insn}
-use Rattle.bpf_model.specs.Element.{Element}
-use Rattle.bpf_model.specs.Machine.{Loaded, Machine, Run}
-use Rattle.bpf_model.specs.Refines.{RunRefines, RunSlotRefines, Tracks, TracksSchedule}
-use Rattle.bpf_model.specs.Schedule.{Schedule}
-use Rattle.bpf_model.specs.Step.{insn_at}
-use Rattle.bpf_model.specs.View.{RunView, WorldView}
+use Rattle.bpf_model.proofs.Prelude.{◌≡◌, ◌∙◌, ℕ, List, Option, Some, None, refl, sym, ap, subst, slice_get, option_flatten, none-some, same_Some, Element}
+use Rattle.bpf_model.proofs.Prelude.{Loaded, Machine, Run, RunRefines, RunSlotRefines, Tracks, TracksSchedule, Schedule, insn_at, RunView, WorldView}
+use Rattle.model_laws.proofs.Prelude.{Insn}
 use Rattle.run_once.specs.Going.{IsGoing}
 use Rattle.run_once.specs.Told.{HasNext}
 

@@ -1,19 +1,10 @@
 -- A run in a world that tracks the start.
-use Rattle.std.proofs.Common.{◌≡◌, ◌∙◌, ◌≢◌, ℕ, suc, ◌<◌, ◌≤◌, List, ◌∷◌, [], length, Some, refl, subst, sym, ap, arith}
-use Rattle.std.specs.Prelude.{All, Bool, slice_get}
-use Rattle.std.specs.List.{range_with_len}
-use Rattle.bpf_model.specs.declared.event.Answer.{Answer}
-use Rattle.bpf_model.specs.declared.event.Event.{Event}
-use Rattle.bpf_model.specs.declared.insn.Insn.{Insn}
-use Rattle.bpf_model.specs.declared.limits.MapShape.{MapShape}
-use Rattle.bpf_model.specs.Headline.{AreMachineAnswers}
-use Rattle.bpf_model.specs.History.{IsHistory, last_of}
-use Rattle.bpf_model.specs.Machine.{Loaded, Machine, start_machine}
-use Rattle.bpf_model.specs.Refines.{Tracks}
-use Rattle.bpf_model.specs.View.{WorldView}
-use Rattle.verifier.specs.Checked.{Checked}
+use Rattle.bpf_model.proofs.Prelude.{◌≡◌, ◌∙◌, ◌≢◌, ℕ, suc, ◌<◌, ◌≤◌, List, ◌∷◌, [], length, Some, refl, subst, sym, ap, arith, All, Bool, slice_get}
+use Rattle.bpf_model.proofs.Prelude.{range_with_len, AreMachineAnswers, IsHistory, last_of, Loaded, Machine, start_machine, Tracks, WorldView}
+use Rattle.model_laws.proofs.Prelude.{Answer, Event, Insn, MapShape}
+use Rattle.verifier.proofs.Prelude.{Checked}
+use Rattle.world.proofs.Prelude.{programs_in}
 use Rattle.world.specs.declared.kept.loaded.Loaded as world
-use Rattle.world.specs.Programs.{programs_in}
 use Rattle.run_once.specs.declared.once.Ended.{Ended}
 use Rattle.run_once.specs.Going.{IsReady}
 use Rattle.run_once.specs.Once.{AreDone, IsUpdate, RunsOnce, StartsAndExits, StopsAt, bound_to_all, done, start_with}

@@ -1,24 +1,10 @@
 -- The updates that come before, and the start of the run in run slot 0.
-use Rattle.std.proofs.Common.{◌≡◌, ◌∙◌, ℕ, ◌<◌, List, [], ◌∷◌, length, Option, Some, None, refl, sym, ap, subst, arith}
-use Rattle.std.specs.Prelude.{All, slice_get, slice_set, if◌then◌else◌}
-use Rattle.std.proofs.lemmas.Bool.{eq-eqb}
-use Rattle.std.proofs.lemmas.Option.{none-some, same_Some}
-use Rattle.std.proofs.lemmas.List.Elements.{All-tail}
-use Rattle.bpf_model.specs.declared.insn.Insn.{Insn}
-use Rattle.bpf_model.specs.declared.limits.MapShape.{MapShape}
-use Rattle.bpf_model.specs.declared.event.Event.{Event}
+use Rattle.bpf_model.proofs.Prelude.{◌≡◌, ◌∙◌, ℕ, ◌<◌, List, [], ◌∷◌, length, Option, Some, None, refl, sym, ap, subst, arith, All, slice_get, slice_set}
+use Rattle.bpf_model.proofs.Prelude.{if◌then◌else◌, eq-eqb, none-some, same_Some, All-tail, Loaded, Run, Machine, fresh_run, lowest_free, run_at, NeverStuck}
+use Rattle.bpf_model.proofs.Prelude.{PerformsEvent, Answers, DoesEvent, Starts, refusal, start_refusal, AllExitInTime, AnswersAsMachine, AreNeverStuck}
+use Rattle.bpf_model.proofs.Prelude.{ExitsInTime, moved_by, moves_of, AllStates, IsHistory, last_of, Tracks, WorldView}
+use Rattle.model_laws.proofs.Prelude.{Insn, MapShape, Event, Answer, Started, Ret, EventRefusal, BadContext}
 use Rattle.bpf_model.specs.declared.event.Event.TheVariants.{Update}
-use Rattle.bpf_model.specs.declared.event.Answer.{Answer}
-use Rattle.bpf_model.specs.declared.event.Answer.TheVariants.{Started, Ret}
-use Rattle.bpf_model.specs.declared.event.EventRefusal.{EventRefusal}
-use Rattle.bpf_model.specs.declared.event.EventRefusal.TheVariants.{BadContext}
-use Rattle.bpf_model.specs.Machine.{Loaded, Run, Machine, fresh_run, lowest_free, run_at}
-use Rattle.bpf_model.specs.MachineStep.{NeverStuck}
-use Rattle.bpf_model.specs.Event.{PerformsEvent, Answers, DoesEvent, Starts, refusal, start_refusal}
-use Rattle.bpf_model.specs.Headline.{AllExitInTime, AnswersAsMachine, AreNeverStuck, ExitsInTime, moved_by, moves_of}
-use Rattle.bpf_model.specs.History.{AllStates, IsHistory, last_of}
-use Rattle.bpf_model.specs.Refines.{Tracks}
-use Rattle.bpf_model.specs.View.{WorldView}
 use Rattle.run_once.specs.Going.{IsGoing, IsReady}
 use Rattle.run_once.specs.Once.{IsUpdate, bound_to_all, start_on, start_with}
 

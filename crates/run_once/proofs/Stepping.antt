@@ -1,15 +1,8 @@
 -- A step of the run in run slot 0, which has not exited: it moves on, or it exits.
-use Rattle.std.proofs.Common.{◌≡◌, ◌∙◌, ◌⊎◌, inl, inr, ℕ, ◌+◌, ◌<◌, List, [], ◌∷◌, length, Option, Some, None, refl, sym, ap, subst}
-use Rattle.std.specs.Prelude.{slice_set}
-use Rattle.std.proofs.lemmas.Option.{none-some, same_Some}
-use Rattle.bpf_model.specs.declared.event.Event.TheVariants.{Step}
-use Rattle.bpf_model.specs.declared.event.Answer.{Answer}
-use Rattle.bpf_model.specs.declared.event.Answer.TheVariants.{Moved, Exited}
-use Rattle.bpf_model.specs.Machine.{Loaded, Machine, Run, open_sections, run_at}
-use Rattle.bpf_model.specs.MachineStep.{NeverStuck, StepsRun}
-use Rattle.bpf_model.specs.Event.{Answers, DoesEvent, if_ended, refusal, step_refusal}
-use Rattle.bpf_model.specs.Headline.{ExitsInTime, moved_by, moves_of}
-use Rattle.bpf_model.specs.History.{AllStates}
+use Rattle.bpf_model.proofs.Prelude.{◌≡◌, ◌∙◌, ◌⊎◌, inl, inr, ℕ, ◌+◌, ◌<◌, List, [], ◌∷◌, length, Option, Some, None, refl, sym, ap, subst, slice_set}
+use Rattle.bpf_model.proofs.Prelude.{none-some, same_Some, Loaded, Machine, Run, open_sections, run_at, NeverStuck, StepsRun, Answers, DoesEvent, if_ended}
+use Rattle.bpf_model.proofs.Prelude.{refusal, step_refusal, ExitsInTime, moved_by, moves_of, AllStates}
+use Rattle.model_laws.proofs.Prelude.{Step, Answer, Moved, Exited}
 use Rattle.model_laws.proofs.Moves.{Changes, Ends, Goes, Locks, Unlocks, changed-insn}
 use Rattle.plan_laws.proofs.Reaching.{same-insn}
 use Rattle.run_once.specs.Going.{IsGoing}

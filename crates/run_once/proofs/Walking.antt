@@ -1,16 +1,7 @@
 -- The steps of the run in run slot 0 so far, none of which was its exit.
-use Rattle.std.proofs.Common.{◌≡◌, ◌∙◌, ◌⊎◌, inl, inr, ℕ, suc, ◌+◌, List, [], ◌∷◌, ◌++◌, replicate, Bool, true, false, sym, ap, subst, arith}
-use Rattle.bpf_model.specs.declared.event.Answer.{Answer}
-use Rattle.bpf_model.specs.declared.event.Answer.TheVariants.{Moved, Exited}
-use Rattle.bpf_model.specs.declared.event.Event.{Event}
-use Rattle.bpf_model.specs.declared.event.Event.TheVariants.{Step}
-use Rattle.bpf_model.specs.declared.insn.Insn.{Insn}
-use Rattle.bpf_model.specs.Event.{DoesEvent}
-use Rattle.bpf_model.specs.Headline.{AllExitInTime, AnswersAsMachine, AreNeverStuck}
-use Rattle.bpf_model.specs.History.{IsHistory, last_of}
-use Rattle.bpf_model.specs.Machine.{Machine}
-use Rattle.bpf_model.specs.Refines.{Tracks}
-use Rattle.bpf_model.specs.View.{WorldView}
+use Rattle.bpf_model.proofs.Prelude.{◌≡◌, ◌∙◌, ◌⊎◌, inl, inr, ℕ, suc, ◌+◌, List, [], ◌∷◌, ◌++◌, replicate, Bool, true, false, sym, ap, subst, arith}
+use Rattle.bpf_model.proofs.Prelude.{DoesEvent, AllExitInTime, AnswersAsMachine, AreNeverStuck, IsHistory, last_of, Machine, Tracks, WorldView}
+use Rattle.model_laws.proofs.Prelude.{Answer, Moved, Exited, Event, Step, Insn}
 use Rattle.run_once.specs.Going.{IsGoing}
 use Rattle.run_once.specs.Once.{RunsToExit}
 use Rattle.run_once.specs.Told.{AreTold, HasNext, IsStepTold, TellsStep}

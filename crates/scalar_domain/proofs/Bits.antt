@@ -1,13 +1,8 @@
 -- Numbers within a mask.
-use Rattle.std.proofs.Common.{◌≡◌, ℕ, suc, ◌+◌, ◌-◌, ◌*◌, ◌/◌, ◌%◌, ◌^◌, ◌<◌, ◌≤◌, sym, ◌∙◌, ap, ap₂, subst, arith}
-use Rattle.std.specs.Prelude.{bit_and, bit_or, bit_xor}
-use Rattle.std.specs.Int.{bit_at, leading_zeros, w64}
-use Rattle.std.proofs.lemmas.Nat.{and_le_r, and_mask, and_mod, and_shr, and_block, pow_pos, shr_split, leading_top}
-use Rattle.std.specs.Int.Bits.{and_self, and_zero_l}
-use Rattle.std.proofs.lemmas.Nat.Bits.{bit_at_and, bit_at_or, bit_at_xor, same_from_bits, bit_at-lt, ones_shr}
-use Rattle.std.proofs.Math.Nat.{mod-eq_of_lt}
-use Rattle.std.proofs.Math.Pow.{shr_mono}
-use Rattle.scalar_domain.specs.Mask.{Within}
+use Rattle.bpf_model.proofs.Prelude.{◌≡◌, ℕ, suc, ◌+◌, ◌-◌, ◌*◌, ◌/◌, ◌%◌, ◌^◌, ◌<◌, ◌≤◌, sym, ◌∙◌, ap, ap₂, subst, arith, bit_and, bit_or, bit_xor, bit_at}
+use Rattle.bpf_model.proofs.Prelude.{leading_zeros, w64, and_le_r, and_mask, and_mod, and_shr, and_block, pow_pos, shr_split, leading_top, and_self}
+use Rattle.bpf_model.proofs.Prelude.{and_zero_l, bit_at_and, bit_at_or, bit_at_xor, same_from_bits, bit_at-lt, ones_shr, mod-eq_of_lt, shr_mono}
+use Rattle.scalar_domain.proofs.Prelude.{Within}
 
 -- a number within a mask has no bit that the mask has not
 pub within_bit : (n m i : ℕ) → Within n m → bit_at n i ≤ bit_at m i

@@ -1,13 +1,10 @@
 -- Bits of sums, by carries.
-use Rattle.std.proofs.Common.{◌≡◌, ℕ, ◌+◌, ◌-◌, ◌*◌, ◌/◌, ◌%◌, ◌^◌, ◌<◌, ◌≤◌, sym, ◌∙◌, ap, ap₂, arith}
+use Rattle.bpf_model.proofs.Prelude.{◌≡◌, ℕ, ◌+◌, ◌-◌, ◌*◌, ◌/◌, ◌%◌, ◌^◌, ◌<◌, ◌≤◌, sym, ◌∙◌, ap, ap₂, arith, bit_and, bit_or, bit_xor, min, max, bit_at}
+use Rattle.bpf_model.proofs.Prelude.{bit_not, w64, pow_pos, shr_split, mod_below, bit_at_and, bit_at_or, bit_at_xor, bit_at-lt, same_from_bits_below}
+use Rattle.bpf_model.proofs.Prelude.{mul-add-div_right, add-mod, div-eq_of_lt, shr_mono}
+use Rattle.scalar_domain.proofs.Prelude.{Within, HasBits, AreKnownBelow}
 use native.Mathlib.Decide.{dec_lt}
-use Rattle.std.specs.Prelude.{bit_and, bit_or, bit_xor, min, max}
-use Rattle.std.specs.Int.{bit_at, bit_not, w64}
-use Rattle.std.proofs.lemmas.Nat.{pow_pos, shr_split, mod_below}
-use Rattle.std.proofs.lemmas.Nat.Bits.{bit_at_and, bit_at_or, bit_at_xor, bit_at_not, bit_at-lt, bit_at_above, bit_at_mask_inside, same_from_bits_below}
-use Rattle.std.proofs.Math.Nat.{mul-add-div_right, add-mod, div-eq_of_lt}
-use Rattle.std.proofs.Math.Pow.{shr_mono}
-use Rattle.scalar_domain.specs.Mask.{Within, HasBits, AreKnownBelow}
+use Rattle.std.proofs.lemmas.Nat.Bits.{bit_at_not, bit_at_above, bit_at_mask_inside}
 use Rattle.scalar_domain.proofs.Bits.{within_bit, within_from, within_le, within-mod}
 use Rattle.scalar_domain.proofs.Multiples.{low_bit, low_zero, sum_low, below_word, word}
 

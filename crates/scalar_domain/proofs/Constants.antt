@@ -1,13 +1,8 @@
 -- What the operations give of constants is as narrow as it has to be.
-use Rattle.std.proofs.Common.{◌≡◌, ℕ, ◌+◌, ◌-◌, ◌*◌, ◌%◌, ◌^◌, ◌<◌, sym, ◌∙◌, ap, subst, arith}
-use Rattle.std.specs.Prelude.{bit_and}
-use Rattle.std.specs.Int.Bits.{and_self}
-use Rattle.std.proofs.lemmas.Nat.{and_le_r}
-use Rattle.std.proofs.Math.Nat.{mod-eq_of_lt}
+use Rattle.bpf_model.proofs.Prelude.{◌≡◌, ℕ, ◌+◌, ◌-◌, ◌*◌, ◌%◌, ◌^◌, ◌<◌, sym, ◌∙◌, ap, subst, arith, bit_and, and_self, and_le_r, mod-eq_of_lt}
+use Rattle.scalar_domain.proofs.Prelude.{IsConstant, IsNoWider, Within, Masks, ShiftsLeft}
 use Rattle.scalar_domain.specs.declared.scalar.Scalar.{Scalar}
-use Rattle.scalar_domain.specs.Scalar.{IsConstant, IsNoWider}
-use Rattle.scalar_domain.specs.Mask.{Within}
-use Rattle.scalar_domain.specs.Precision.{Adds, Subtracts, Masks, ShiftsLeft}
+use Rattle.scalar_domain.specs.Precision.{Adds, Subtracts}
 use Rattle.scalar_domain.proofs.Bits.{and-within_r}
 use Rattle.scalar_domain.proofs.Multiples.{sum_low, low_zero}
 use Rattle.scalar_domain.proofs.Shifts.{low_zeros}

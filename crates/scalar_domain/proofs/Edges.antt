@@ -1,25 +1,19 @@
 -- What the edges of a conditional jump say.
-use Rattle.std.proofs.Common.{◌≡◌, ℕ, suc, pos, negsuc, refl, ap, ap₂, inl, inr, ◌-◌, ◌%◌, ◌^◌, ◌<◌, ◌≤◌, sym, ◌∙◌, subst, arith, Bool, true, false}
-use Rattle.std.specs.Prelude.{bit_and, ◌==◌, int_lt, int_le, Option, Some, None, IsSomeAnd}
-use Rattle.std.specs.Int.{Width, w32, w64}
-use mir.Val.{bits, hbits, sel}
-use Rattle.std.proofs.lemmas.Bool.{eqb-true, eqb-false, not-true, eq-eqb, ltb-true, ltb-false, leb-true, leb-false}
-use Rattle.std.proofs.lemmas.Bool.{lt-ltb, le-ltb, le-leb, lt-leb, not-false, not_from_true, false≢true, cases_lt}
-use Rattle.std.proofs.lemmas.Int.{to_z_pos}
-use Rattle.std.proofs.lemmas.Nat.{and-not, and_comm}
-use Rattle.std.proofs.Math.Nat.{mod-eq_of_lt}
-use Rattle.bpf_model.specs.Arithmetic.{holds, signed}
+use Rattle.bpf_model.proofs.Prelude.{◌≡◌, ℕ, suc, pos, negsuc, refl, ap, ap₂, inl, inr, ◌-◌, ◌%◌, ◌^◌, ◌<◌, ◌≤◌, sym, ◌∙◌, subst, arith, Bool, true, false}
+use Rattle.bpf_model.proofs.Prelude.{bit_and, ◌==◌, int_lt, int_le, Option, Some, None, Width, w32, w64, bits, hbits, sel, eqb-true, eqb-false, eq-eqb}
+use Rattle.bpf_model.proofs.Prelude.{ltb-true, ltb-false, leb-true, lt-ltb, le-ltb, le-leb, lt-leb, not_from_true, false≢true, cases_lt, to_z_pos, and-not}
+use Rattle.bpf_model.proofs.Prelude.{and_comm, mod-eq_of_lt, signed, and_self}
+use Rattle.scalar_domain.proofs.Prelude.{IsNoWider, Within, Related, relation_on, unsigned_condition, signed_order, SignedRelated, TellsDifferent}
+use Rattle.std.specs.Prelude.{IsSomeAnd}
+use Rattle.std.proofs.lemmas.Bool.{not-true, leb-false, not-false}
+use Rattle.bpf_model.specs.Arithmetic.{holds}
 use Rattle.bpf_model.specs.declared.opcode.Condition.{Condition}
 use Rattle.bpf_model.specs.declared.opcode.Condition.TheVariants as condition
 use Rattle.scalar_domain.specs.declared.scalar.Scalar.{Scalar}
 use Rattle.scalar_domain.specs.declared.relation.Relation.{Relation}
-use Rattle.scalar_domain.specs.Scalar.{IsNoWider}
-use Rattle.scalar_domain.specs.Mask.{Within}
-use Rattle.scalar_domain.specs.Relation.{Related, Bounding, relation_on, unsigned_condition, signed_order}
-use Rattle.scalar_domain.specs.Relation.{SignedRelated, MovesBounds, GoesAlong, TellsDifferent}
+use Rattle.scalar_domain.specs.Relation.{Bounding, MovesBounds, GoesAlong}
 use Rattle.scalar_domain.specs.declared.relation.Relation.TheVariants.{Different}
 use Rattle.scalar_domain.proofs.Bits.{within-and, within_le, within-trans}
-use Rattle.std.specs.Int.Bits.{and_self}
 
 pub related : (w : Width) (c : Condition) (t : Bool) (x y : ℕ) → holds w c x y ≡ t → Related (relation_on c t) x y
 related w condition.Equal true x y e = eqb-true x y e

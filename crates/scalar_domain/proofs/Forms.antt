@@ -1,16 +1,12 @@
 -- The arithmetic in whole numbers, without sign.
-use Rattle.std.proofs.Common.{◌≡◌, ℕ, ◌+◌, ◌-◌, ◌*◌, ◌/◌, ◌%◌, ◌^◌, ◌<◌, ◌≤◌, pos, refl, sym, ◌∙◌, ap, ap₂, arith, Bool, cond}
-use Rattle.std.specs.Prelude.{◌==◌, ◌-ℤ◌, neg_ℤ, int_div, int_rem, unsigned_abs}
-use Rattle.std.specs.Int.{Width, w32, w64, int_shr}
-use mir.Val.{bits, hbits}
-use Rattle.std.proofs.lemmas.Int.{ints, to_z_pos, int_rem_euclid_is}
-use Rattle.std.proofs.lemmas.Nat.{pow_pos, shr_le}
-use Rattle.std.proofs.Math.Nat.{mod-eq_of_lt, div-le_self, mod-le}
+use Rattle.bpf_model.proofs.Prelude.{◌≡◌, ℕ, ◌+◌, ◌-◌, ◌*◌, ◌/◌, ◌%◌, ◌^◌, ◌<◌, ◌≤◌, pos, refl, sym, ◌∙◌, ap, ap₂, arith, Bool, cond, ◌==◌, ◌-ℤ◌, neg_ℤ}
+use Rattle.bpf_model.proofs.Prelude.{int_div, int_rem, unsigned_abs, Width, w32, w64, bits, hbits, ints, to_z_pos, int_rem_euclid_is, pow_pos, shr_le}
+use Rattle.bpf_model.proofs.Prelude.{mod-eq_of_lt, div-le_self, mod-le, operate, word, signed}
+use Rattle.scalar_domain.proofs.Prelude.{unsigned_form}
+use Rattle.std.specs.Int.{int_shr}
 use Rattle.scalar_domain.proofs.Multiples.{below_word}
-use Rattle.bpf_model.specs.Arithmetic.{operate, word, signed}
 use Rattle.bpf_model.specs.declared.insn.AluOp.{AluOp}
 use Rattle.bpf_model.specs.declared.insn.AluOp.TheVariants.{Add, Sub, Mul, SignedDiv, ShiftLeft, ShiftRight, SignedMod, ShiftRightSigned}
-use Rattle.scalar_domain.specs.Unsigned.{unsigned_form}
 use Rattle.scalar_domain.proofs.Words.{operate_lt}
 
 pub word_difference : (x y : ℕ) → y < 2 ^ 64 → word w64 (pos x -ℤ pos y) ≡ (x + (2 ^ 64 - y)) % 2 ^ 64

@@ -1,3 +1,4 @@
+pub mod Prelude
 pub mod Bits
 pub mod Carries
 pub mod Constants

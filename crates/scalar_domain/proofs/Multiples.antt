@@ -1,15 +1,14 @@
 -- Numbers whose low bits are zero.
-use Rattle.std.proofs.Common.{◌≡◌, ℕ, ◌+◌, ◌-◌, ◌*◌, ◌/◌, ◌%◌, ◌^◌, ◌<◌, ◌≤◌, sym, ◌∙◌, ap, ap₂, subst, arith}
+use Rattle.bpf_model.proofs.Prelude.{◌≡◌, ℕ, ◌+◌, ◌-◌, ◌*◌, ◌/◌, ◌%◌, ◌^◌, ◌<◌, ◌≤◌, sym, ◌∙◌, ap, ap₂, subst, arith, bit_and, bit_at, trailing_zeros, w64}
+use Rattle.bpf_model.proofs.Prelude.{and_mod, pow_pos, mod_below, pow-add, bit_at-trailing_zeros, same_from_bits_below, bit_at-zero, add-mod, mul-mod_left}
+use Rattle.bpf_model.proofs.Prelude.{mod-eq_of_lt, shr_split}
+use Rattle.scalar_domain.proofs.Prelude.{Within}
 use native.Mathlib.Decide.{dec_le}
 use lib.Pow.{mod-mod-pow, pow_mono}
-use Rattle.std.specs.Prelude.{bit_and}
-use Rattle.std.specs.Int.{bit_at, trailing_zeros, w64}
-use Rattle.std.proofs.lemmas.Nat.{and_mod, pow_pos, mod_below, pow-add, mul-mod}
+use Rattle.std.proofs.lemmas.Nat.{mul-mod}
 use Rattle.std.specs.Int.Bits.{and_zero_r}
-use Rattle.std.proofs.lemmas.Nat.Bits.{and_high_mask, bit_at-trailing_zeros, same_from_bits_below, bit_at_cat_low, bit_at-zero}
-use Rattle.std.proofs.Math.Nat.{add-mod, mul-mod_left, zero-mod, mod-eq_of_lt}
-use Rattle.std.proofs.lemmas.Nat.{shr_split}
-use Rattle.scalar_domain.specs.Mask.{Within}
+use Rattle.std.proofs.lemmas.Nat.Bits.{and_high_mask, bit_at_cat_low}
+use Rattle.std.proofs.Math.Nat.{zero-mod}
 use Rattle.scalar_domain.proofs.Bits.{within-both}
 
 -- the low bits are zero where the mask's are

@@ -1,23 +1,17 @@
 -- Pairs of numbers between the bounds of two sides.
-use Rattle.std.proofs.Common.{◌≡◌, ◌≢◌, ℕ, refl, sym, ◌∙◌, ap, ap₂, ◌-◌, ◌<◌, ◌≤◌, ◌^◌, arith, Bool, true, false}
-use Rattle.std.specs.Prelude.{◌==◌, not, int_lt, int_le, bit_and}
-use Rattle.std.specs.Int.{Width, w32, w64}
-use Rattle.std.specs.Int.Bits.{and_self}
-use mir.Val.{hbits}
-use Rattle.std.proofs.lemmas.Bool.{eq-eqb, ne_eqb, lt-ltb, le-ltb, le-leb, lt-leb, not_from_true, false≢true}
-use Rattle.std.proofs.lemmas.Int.{to_z_pos}
-use Rattle.std.proofs.lemmas.Nat.{and-not, and_comm}
-use Rattle.bpf_model.specs.Arithmetic.{holds, compares}
+use Rattle.bpf_model.proofs.Prelude.{◌≡◌, ◌≢◌, ℕ, refl, sym, ◌∙◌, ap, ap₂, ◌-◌, ◌<◌, ◌≤◌, ◌^◌, arith, Bool, true, false, ◌==◌, not, int_lt, int_le, bit_and}
+use Rattle.bpf_model.proofs.Prelude.{Width, w32, w64, and_self, hbits, eq-eqb, ne_eqb, lt-ltb, le-ltb, le-leb, lt-leb, not_from_true, false≢true, to_z_pos}
+use Rattle.bpf_model.proofs.Prelude.{and-not, and_comm, compares}
+use Rattle.scalar_domain.proofs.Prelude.{Within, Holds, HoldsSome, IsConstant, IsNoWider, Related, relation_on, unsigned_condition, signed_order}
+use Rattle.scalar_domain.proofs.Prelude.{TellsDifferent, IsBetween, AreLeft, Counts, Told, ToldSigned}
+use Rattle.bpf_model.specs.Arithmetic.{holds}
 use Rattle.bpf_model.specs.declared.opcode.Condition.{Condition}
 use Rattle.bpf_model.specs.declared.opcode.Condition.TheVariants as condition
 use Rattle.bpf_model.specs.declared.opcode.Size.TheVariants.{Word32}
 use Rattle.scalar_domain.specs.declared.scalar.Scalar.{Scalar}
 use Rattle.scalar_domain.specs.declared.relation.Relation.{Relation}
 use Rattle.scalar_domain.specs.declared.relation.Relation.TheVariants.{Below, AtMost, Above, AtLeast, Equal, Different, Apart, Unknown}
-use Rattle.scalar_domain.specs.Mask.{Within}
-use Rattle.scalar_domain.specs.Scalar.{Holds, HoldsSome, IsConstant, IsNoWider}
-use Rattle.scalar_domain.specs.Relation.{Related, relation_on, unsigned_condition, signed_order, TellsDifferent, IsBetween}
-use Rattle.scalar_domain.specs.Relation.{AreLeft, LeavesNumbers, Counts, Told, ToldSigned}
+use Rattle.scalar_domain.specs.Relation.{LeavesNumbers}
 use Rattle.scalar_domain.proofs.Bits.{within-trans, within_le}
 use Rattle.scalar_domain.proofs.Edges.{narrow_compares}
 

@@ -1,8 +1,6 @@
 -- Quotients by a positive divisor, and their order.
-use Rattle.std.proofs.Common.{◌≡◌, ℕ, zero, suc, ◌/◌, ◌<◌, ◌≤◌, ap, cond, arith}
-use Rattle.std.specs.Prelude.{◌==◌}
+use Rattle.bpf_model.proofs.Prelude.{◌≡◌, ℕ, zero, suc, ◌/◌, ◌<◌, ◌≤◌, ap, cond, arith, ◌==◌, eqb-suc-zero}
 use Rattle.std.proofs.lemmas.Nat.{le-div}
-use Rattle.std.proofs.Math.Dec.{eqb-suc-zero}
 use Rattle.std.proofs.Math.Nat.{div-mul-le_self, mul-le-mul_left}
 
 pub when_positive : {A : Type 0} (y : ℕ) (a b : A) → 0 < y → cond (y == 0) a b ≡ b

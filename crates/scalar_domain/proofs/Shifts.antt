@@ -1,11 +1,9 @@
 -- Low bits and shifts of the numbers of a scalar.
-use Rattle.std.proofs.Common.{◌≡◌, ℕ, ◌+◌, ◌-◌, ◌*◌, ◌/◌, ◌%◌, ◌^◌, ◌<◌, ◌≤◌, sym, ◌∙◌, ap, subst, arith}
-use Rattle.std.proofs.lemmas.Nat.{pow_pos, pow-add, shl-shr}
-use Rattle.std.proofs.lemmas.Nat.Bits.{ones_shr}
-use Rattle.std.proofs.Math.Nat.{mod-eq_of_lt, mul-mod_left, mul-le-mul_right}
-use Rattle.std.proofs.Math.Pow.{shr_mono}
+use Rattle.bpf_model.proofs.Prelude.{◌≡◌, ℕ, ◌+◌, ◌-◌, ◌*◌, ◌/◌, ◌%◌, ◌^◌, ◌<◌, ◌≤◌, sym, ◌∙◌, ap, subst, arith, pow_pos, pow-add, ones_shr, mod-eq_of_lt}
+use Rattle.bpf_model.proofs.Prelude.{mul-mod_left, mul-le-mul_right, shr_mono}
+use Rattle.scalar_domain.proofs.Prelude.{Within}
+use Rattle.std.proofs.lemmas.Nat.{shl-shr}
 use lib.Pow.{mod-mod-pow}
-use Rattle.scalar_domain.specs.Mask.{Within}
 use Rattle.scalar_domain.proofs.Bits.{within-mod, low_mono, same_high}
 
 pub low_ordered : (l g k m : ℕ) → m ≡ 2 ^ k → l ≤ g → l / m ≡ g / m → l % m ≤ g % m

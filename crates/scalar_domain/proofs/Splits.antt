@@ -1,18 +1,15 @@
 -- Where the numbers between two bounds are split.
-use Rattle.std.proofs.Common.{◌≡◌, ℕ, suc, ◌+◌, ◌-◌, ◌*◌, ◌/◌, ◌%◌, ◌^◌, ◌<◌, ◌≤◌, ◌⊎◌, inl, inr, sym, ◌∙◌, ap, ap₂, arith}
-use Rattle.std.specs.Prelude.{bit_and, bit_or, bit_xor}
-use Rattle.std.specs.Int.{bit_at, w64, leading_zeros}
-use Rattle.std.specs.Int.Bits.{and_self, and_zero_l, or_zero_r}
-use Rattle.std.proofs.lemmas.Nat.{and_block, or_block, xor_shr, pow_pos, shr_split, mod_below, leading_top, xor_lt}
-use Rattle.std.proofs.lemmas.Nat.Bits.{bit_at_or, bit_at_xor, bit_at-zero, bit_at-lt, bit_at_lowest, same_from_bits, ones_shr}
-use Rattle.std.proofs.Math.Nat.{mul-add-div_right, div-eq_of_lt}
-use Rattle.std.proofs.Math.Pow.{shr_mono}
-use Rattle.scalar_domain.specs.Mask.{Within}
+use Rattle.bpf_model.proofs.Prelude.{◌≡◌, ℕ, suc, ◌+◌, ◌-◌, ◌*◌, ◌/◌, ◌%◌, ◌^◌, ◌<◌, ◌≤◌, ◌⊎◌, inl, inr, sym, ◌∙◌, ap, ap₂, arith, bit_and, bit_or, bit_xor}
+use Rattle.bpf_model.proofs.Prelude.{bit_at, w64, leading_zeros, and_self, and_zero_l, and_block, pow_pos, shr_split, mod_below, leading_top, xor_lt}
+use Rattle.bpf_model.proofs.Prelude.{bit_at_or, bit_at_xor, bit_at-zero, bit_at-lt, same_from_bits, ones_shr, mul-add-div_right, div-eq_of_lt, shr_mono}
+use Rattle.scalar_domain.proofs.Prelude.{Within, Holds, HoldsSome}
+use Rattle.std.specs.Int.Bits.{or_zero_r}
+use Rattle.std.proofs.lemmas.Nat.{or_block, xor_shr}
+use Rattle.std.proofs.lemmas.Nat.Bits.{bit_at_lowest}
 use native.Mathlib.Decide.{dec_lt}
 use Rattle.scalar_domain.specs.declared.scalar.Scalar.{Scalar}
-use Rattle.scalar_domain.specs.Scalar.{Holds, HoldsSome}
-use Rattle.scalar_domain.proofs.Bits.{within_bit, within_ones, within_le, within-both, within-trans, or-within}
-use Rattle.scalar_domain.proofs.Bits.{within-or_l, within-or_r, and-within_l, and-within_r}
+use Rattle.scalar_domain.proofs.Bits.{within_bit, within_ones, within_le, within-both, within-trans, or-within, within-or_l, within-or_r, and-within_l}
+use Rattle.scalar_domain.proofs.Bits.{and-within_r}
 
 pub same_xor : (a b : ℕ) → bit_xor a b ≡ 0 → a ≡ b
 same_xor a b e = same_from_bits _ _ (λ i. omega (

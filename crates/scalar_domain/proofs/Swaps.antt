@@ -1,13 +1,10 @@
 -- Swapped bytes are a word.
-use Rattle.std.proofs.Common.{ℕ, ◌+◌, ◌*◌, ◌/◌, ◌%◌, ◌^◌, ◌<◌, arith}
-use Rattle.std.specs.Int.{swap_bytes}
-use Rattle.std.proofs.lemmas.Nat.{mod_below, pow_pos}
-use Rattle.bpf_model.specs.Arithmetic.{reordered, swapped_width}
+use Rattle.bpf_model.proofs.Prelude.{ℕ, ◌+◌, ◌*◌, ◌/◌, ◌%◌, ◌^◌, ◌<◌, arith, swap_bytes, mod_below, pow_pos, reordered, bits}
+use Rattle.bpf_model.specs.Arithmetic.{swapped_width}
 use Rattle.bpf_model.specs.declared.opcode.ByteOrder.{ByteOrder}
 use Rattle.bpf_model.specs.declared.opcode.ByteOrder.TheVariants.{ToLittle, ToBig, Swap}
 use Rattle.bpf_model.specs.declared.opcode.SwapWidth.{SwapWidth}
 use Rattle.bpf_model.specs.declared.opcode.SwapWidth.TheVariants as swap_width
-use mir.Val.{bits}
 
 byte : (n : ℕ) → n % 256 < 256
 byte n = mod_below n 256 (pow_pos 8)

@@ -1,11 +1,9 @@
 -- Results of arithmetic are words.
-use Rattle.std.proofs.Common.{ℕ, ◌*◌, ◌/◌, ◌%◌, ◌^◌, ◌<◌, ℤ, pos, negsuc, arith, Bool, true, false, cond}
-use Rattle.std.specs.Prelude.{◌==◌, ◌+ℤ◌, neg_ℤ, int_div, int_rem}
-use Rattle.std.specs.Int.{Width, w8, w16, w32, w64}
-use mir.Val.{bits}
-use Rattle.std.proofs.lemmas.Nat.{and_le_l, or_lt, xor_lt, mod_below, pow_pos, shr_le}
-use Rattle.std.proofs.Math.Nat.{div-le_self, mod-le}
-use Rattle.bpf_model.specs.Arithmetic.{operate, alu, word, signed, negated, moved_signed, loaded_signed}
+use Rattle.bpf_model.proofs.Prelude.{ℕ, ◌*◌, ◌/◌, ◌%◌, ◌^◌, ◌<◌, ℤ, pos, negsuc, arith, Bool, true, false, cond, ◌==◌, ◌+ℤ◌, neg_ℤ, int_div, int_rem, Width}
+use Rattle.bpf_model.proofs.Prelude.{w16, w32, w64, bits, and_le_l, or_lt, xor_lt, mod_below, pow_pos, shr_le, div-le_self, mod-le, operate, alu, word}
+use Rattle.bpf_model.proofs.Prelude.{signed, negated, loaded_signed}
+use Rattle.std.specs.Int.{w8}
+use Rattle.bpf_model.specs.Arithmetic.{moved_signed}
 use Rattle.bpf_model.specs.declared.insn.AluOp.{AluOp}
 use Rattle.bpf_model.specs.declared.insn.AluOp.TheVariants.{Add, Div, SignedDiv, Or, And, ShiftLeft, ShiftRight, Mod, SignedMod, Xor, Move}
 use Rattle.bpf_model.specs.declared.insn.SignExtension.{SignExtension}

@@ -1,15 +1,9 @@
 -- What is written of numbers and bytes is read again.
-use Rattle.std.proofs.Common.{ℕ, zero, suc, ◌≡◌, ◌*◌, ◌^◌, ◌<◌, ◌==◌, Bool, true, false, not, ◌&&◌, ◌||◌, List, []}
-use Rattle.std.proofs.Common.{◌∷◌, length, get_or, refl, sym, ap, ◌∙◌, arith}
-use Rattle.std.specs.Prelude.{Option, Some, None, Ok, nat_lt, if◌then◌else◌, codes, bytes_eq}
-use Rattle.std.specs.Fmt.{decimal}
-use Rattle.std.specs.Str.{all_ascii_digits}
-use Rattle.std.specs.Str.Parse.{digits_value}
-use Rattle.std.proofs.lemmas.Bool.{ne_eqb, eqb-true, false_from_ne_true, and_parts}
-use Rattle.std.proofs.lemmas.Bool.Decides.{nat_tests}
-use Rattle.std.proofs.lemmas.Fmt.{decimal_digit, decimal_nonempty, first_decimal, digits_decimal, digits_value-decimal, decimal-digits_value}
-use Rattle.std.proofs.lemmas.Slice.Eq.{bytes_eq-Decides}
-use Rattle.std.proofs.lemmas.Str.Parse.{IsNumeralModel, numerals_by_value, tells_all_ascii_digits}
+use Rattle.bpf_model.proofs.Prelude.{ℕ, zero, suc, ◌≡◌, ◌*◌, ◌^◌, ◌<◌, ◌==◌, Bool, true, false, not, ◌&&◌, ◌||◌, List, [], ◌∷◌, length, get_or, refl, sym, ap}
+use Rattle.bpf_model.proofs.Prelude.{◌∙◌, arith, Option, Some, None, Ok, nat_lt, if◌then◌else◌, codes, bytes_eq, decimal, all_ascii_digits, digits_value}
+use Rattle.bpf_model.proofs.Prelude.{ne_eqb, eqb-true, false_from_ne_true, and_parts, nat_tests, decimal_digit, digits_decimal, bytes_eq-Decides}
+use Rattle.bpf_model.proofs.Prelude.{IsNumeralModel, numerals_by_value, tells_all_ascii_digits}
+use Rattle.std.proofs.lemmas.Fmt.{decimal_nonempty, first_decimal, digits_value-decimal, decimal-digits_value}
 use Rattle.std.proofs.Math.Bool.{or-true}
 use Rattle.hex.specs.Hex.{IsBytes, decode_of, encode_lower, lower_digits}
 use Rattle.hex.proofs.HexLemmas.{decode_of-encode_lower, length-encode_with}

@@ -1,8 +1,6 @@
 -- Bytes in hexadecimal: how many they are, and that what was decoded is them.
-use Rattle.std.proofs.Common.{ℕ, ◌≡◌, ◌≢◌, ◌*◌, ◌/◌, ◌%◌, true, false, List, length, refl, sym, ap, ◌∙◌, arith}
-use Rattle.std.specs.Prelude.{Some, None, Result, Ok, Err, MatchResult, codes, bytes_eq, option_map}
-use Rattle.std.specs.List.{list_all}
-use Rattle.std.specs.Result.{result_ok}
+use Rattle.bpf_model.proofs.Prelude.{ℕ, ◌≡◌, ◌≢◌, ◌*◌, ◌/◌, ◌%◌, true, false, List, length, refl, sym, ap, ◌∙◌, arith, Some, None, Result, Ok, Err}
+use Rattle.bpf_model.proofs.Prelude.{MatchResult, codes, bytes_eq, option_map, list_all, result_ok}
 use Rattle.std.proofs.lemmas.List.Sums.{AllPass-from_list_all, list_all-from_AllPass}
 use Rattle.hex.specs.Hex.{decode_of, decode_sized, is_hex_digit}
 use Rattle.hex.specs.declared.error.FromHexError.{FromHexError}

@@ -1,14 +1,10 @@
 -- The words of a line, one after another.
-use Rattle.std.proofs.Common.{ℕ, suc, ◌≡◌, ◌≢◌, ◌<◌, ◌≤◌, ◌==◌, Bool, true, false, not, ◌⊎◌, inl, inr, List, [], ◌∷◌}
-use Rattle.std.proofs.Common.{◌++◌, length, get_or, take, drop, refl, sym, ap, ◌∙◌, arith}
+use Rattle.bpf_model.proofs.Prelude.{ℕ, suc, ◌≡◌, ◌≢◌, ◌<◌, ◌≤◌, ◌==◌, Bool, true, false, not, ◌⊎◌, inl, inr, List, [], ◌∷◌, ◌++◌, length, get_or, take, drop}
+use Rattle.bpf_model.proofs.Prelude.{refl, sym, ap, ◌∙◌, arith, drop-cons, ne_eqb, eqb_tells, take-append-drop, take_all, drop_all, length-take, get_or-take}
+use Rattle.bpf_model.proofs.Prelude.{slice_split_none, slice_split_at}
 use Rattle.std.specs.Prelude.{filter}
 use Rattle.std.specs.List.{slice_split, All}
-use Rattle.std.proofs.Math.Seq.{drop-cons}
-use Rattle.std.proofs.lemmas.Bool.{ne_eqb}
-use Rattle.std.proofs.lemmas.Bool.Decides.{eqb_tells}
-use Rattle.std.proofs.lemmas.List.{take-append-drop, take_all, drop_all, length-take, get_or-take}
 use Rattle.std.proofs.lemmas.List.Elements.{All-from_get_or}
-use Rattle.std.proofs.lemmas.List.Splits.{slice_split_none, slice_split_at}
 use Rattle.script_lines.specs.Words.{words_of, is_word}
 
 abbrev is_space : ℕ → Bool

@@ -1,6 +1,6 @@
 -- Steps of a script.
-use Rattle.std.proofs.Common.{◌≡◌, ℕ, ◌+◌, ◌-◌, ◌<◌, ◌⊎◌, List, [], ◌∷◌, ◌++◌, length, refl, sym, ap, subst, ◌∙◌}
-use Rattle.std.proofs.Common.{append_assoc, append-nil, length-append, arith, inl, inr, Result, Ok, Err, OnOk}
+use Rattle.std.proofs.Common.{◌≡◌, ℕ, ◌+◌, ◌-◌, ◌<◌, ◌⊎◌, List, [], ◌∷◌, ◌++◌, length, refl, sym, ap, subst, ◌∙◌, append_assoc, append-nil, length-append}
+use Rattle.std.proofs.Common.{arith, inl, inr, Result, Ok, Err, OnOk}
 use Rattle.std.specs.Io.Iter.{u64_saturate}
 use Rattle.script_stream.specs.declared.progress.Progress.{Progress}
 use Rattle.script_stream.specs.declared.fault.ScriptFault.{ScriptFault}
@@ -8,8 +8,8 @@ use Rattle.script_stream.specs.declared.fault.ScriptFault.TheVariants.{BadComman
 use Rattle.script_stream.specs.Lines.{lines_of, ended, HasNoFeed}
 use Rattle.script_stream.specs.Answered.{Answered, AnsweredBefore, BeginsAnswered, FailsWith, IsBadLine, longest_line}
 use Rattle.script_stream.specs.Progress.{IsProgressAt, IsOutputFault}
-use Rattle.script_stream.proofs.LineLemmas.{lines_of-feed, lines_of-ended, lines_of-last, lines_of-open, HasFirst}
-use Rattle.script_stream.proofs.LineLemmas.{HasNoFeed-append, HaveNoFeed-snoc, ended-snoc}
+use Rattle.script_stream.proofs.LineLemmas.{lines_of-feed, lines_of-ended, lines_of-last, lines_of-open, HasFirst, HasNoFeed-append, HaveNoFeed-snoc}
+use Rattle.script_stream.proofs.LineLemmas.{ended-snoc}
 
 pub saturate_more : (n m : ℕ) → m ≡ u64_saturate n → u64_saturate (m + 1) ≡ u64_saturate (n + 1)
 saturate_more n m e = omega arith

@@ -1,10 +1,7 @@
 -- An exit value that the world answers is one that some world answered.
-use Rattle.std.proofs.Common.{◌≡◌, ℕ, List, Option, Some, None, subst}
-use Rattle.std.specs.Prelude.{IfSome, slice_get}
-use Rattle.std.proofs.lemmas.Option.{IfSome_then}
-use Rattle.bpf_model.specs.View.{WorldView}
-use Rattle.verifier.specs.Checked.{Checked}
-use Rattle.world_laws.specs.Invariant.{IsWorld}
+use Rattle.bpf_model.proofs.Prelude.{◌≡◌, ℕ, List, Option, Some, None, subst, IfSome, slice_get, IfSome_then, WorldView}
+use Rattle.verifier.proofs.Prelude.{Checked}
+use Rattle.world_laws.proofs.Prelude.{IsWorld}
 use Rattle.world_laws.proofs.Lived.{may_exit_as, exits_as}
 use Rattle.shared_books.specs.Receipts.{IsExitOf, HasExitedOnce, IsPossibleExit, IsOwnExit}
 

@@ -1,10 +1,7 @@
 -- The programs that are kept are those of the world, as far as they were copied.
-use Rattle.std.proofs.Common.{◌≡◌, ℕ, ◌+◌, List, [], ◌∷◌, ◌++◌, map, take, Some}
-use Rattle.std.specs.Prelude.{slice_get}
-use Rattle.bpf_model.proofs.Lists.{map-take}
+use Rattle.bpf_model.proofs.Prelude.{◌≡◌, ℕ, ◌+◌, List, [], ◌∷◌, ◌++◌, map, take, Some, slice_get, map-take, Loaded}
+use Rattle.verifier.proofs.Prelude.{Checked}
 use Rattle.bpf_model.specs.declared.limits.MapShape.{MapShape}
-use Rattle.bpf_model.specs.Machine.{Loaded}
-use Rattle.verifier.specs.Checked.{Checked}
 
 -- instructions, context lengths and, among maps of these shapes, bindings are those of these programs, one after another
 pub record AreKept (among : List MapShape) (kept : List Checked) (programs : List Loaded) : Type 0 where

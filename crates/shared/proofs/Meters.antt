@@ -1,7 +1,7 @@
 -- Each step keeps the counters' rule.
-use Rattle.std.proofs.Common.{◌≡◌, ◌≢◌, ℕ, zero, suc, ◌≤◌, List, [], ◌∷◌, true, false, true≢false, set, refl, sym, ◌∙◌, subst, ⊎_elim, le_refl, le_trans}
-use Rattle.std.specs.Prelude.{slice_index}
-use mathlib.Core.Option.{some, some-injective, some-ne-none}
+use Rattle.bpf_model.proofs.Prelude.{◌≡◌, ◌≢◌, ℕ, zero, suc, ◌≤◌, List, [], ◌∷◌, true, false, true≢false, set, refl, sym, ◌∙◌, subst, ⊎_elim, slice_index}
+use Rattle.bpf_model.proofs.Prelude.{some, some-injective, some-ne-none}
+use Rattle.std.proofs.Common.{le_refl, le_trans}
 use lib.ListN.{get_elem?}
 use Rattle.crossbeam_utils.specs.Register.{Turns, Forks}
 use Rattle.atomic_table.proofs.Lists.{at_set, at_snoc, set_again}

@@ -1,14 +1,9 @@
 -- A new world has no run.
-use Rattle.std.proofs.Common.{◌≡◌, ◌⊎◌, ℕ, ◌<◌, ◌≤◌, List, length, replicate, get_or, ap, sym, ◌∙◌, inl, inr, arith}
-use Rattle.std.specs.Prelude.{Option, Some, None, slice_get}
-use Rattle.std.proofs.lemmas.List.{length-replicate, get_or-replicate}
-use Rattle.std.proofs.lemmas.Option.{slice_get_cases}
+use Rattle.bpf_model.proofs.Prelude.{◌≡◌, ◌⊎◌, ℕ, ◌<◌, ◌≤◌, List, length, replicate, get_or, ap, sym, ◌∙◌, inl, inr, arith, Option, Some, None, slice_get}
+use Rattle.bpf_model.proofs.Prelude.{length-replicate, get_or-replicate, slice_get_cases, Loaded, WorldView, RunView, start_view, option_flatten}
 use Rattle.bpf_model.specs.declared.limits.MapShape.{MapShape}
 use Rattle.bpf_model.specs.declared.limits.TheConstants.{MAX_RUNS}
-use Rattle.bpf_model.specs.Machine.{Loaded}
-use Rattle.bpf_model.specs.View.{WorldView, RunView, start_view}
 use Rattle.shared_books.specs.Replay.{HasNoRuns}
-use Rattle.std.specs.Option.{option_flatten}
 
 no_run_at : (r : ℕ) → (slots : List (Option RunView)) → slots ≡ replicate MAX_RUNS None →
     ((o : Option RunView) × (r < length slots) × (slice_get slots r ≡ Some o) × (get_or slots r o ≡ o))

@@ -1,10 +1,7 @@
 -- The shapes of the maps of a world's only program.
-use Rattle.std.proofs.Common.{◌≡◌, List, [], ◌∷◌, map, ap, sym, refl, ◌∙◌}
-use Rattle.std.specs.Prelude.{Option, Some}
-use Rattle.std.proofs.lemmas.Option.{same_Some}
-use Rattle.bpf_model.proofs.Lists.{cons-nil, heads, tails}
+use Rattle.bpf_model.proofs.Prelude.{◌≡◌, List, [], ◌∷◌, map, ap, sym, refl, ◌∙◌, Option, Some, same_Some, cons-nil, heads, tails}
+use Rattle.verifier.proofs.Prelude.{Checked}
 use Rattle.bpf_model.specs.declared.limits.MapShape.{MapShape}
-use Rattle.verifier.specs.Checked.{Checked}
 
 same-shapes : (xs ys : List MapShape) → map Some xs ≡ map Some ys → xs ≡ ys
 same-shapes [] [] e = refl

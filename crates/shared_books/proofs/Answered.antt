@@ -1,12 +1,7 @@
 -- The reaction of a world is an answer of the abstract machine.
-use Rattle.std.proofs.Common.{◌≡◌, refl, sym, subst}
-use Rattle.bpf_model.specs.declared.event.Event.{Event}
-use Rattle.bpf_model.specs.declared.event.Answer.{Answer}
-use Rattle.bpf_model.specs.Real.{IsReal}
-use Rattle.bpf_model.specs.Event.{DoesEvent}
-use Rattle.bpf_model.specs.View.{WorldView}
-use Rattle.world_laws.specs.Invariant.{IsWorld}
-use Rattle.world_laws.specs.Reacting.{full_reaction}
+use Rattle.bpf_model.proofs.Prelude.{◌≡◌, refl, sym, subst, IsReal, DoesEvent, WorldView}
+use Rattle.model_laws.proofs.Prelude.{Event, Answer}
+use Rattle.world_laws.proofs.Prelude.{IsWorld, full_reaction}
 use Rattle.world_laws.proofs.Worlds.{simulates}
 use Rattle.shared_books.specs.Receipts.{IsMachineAnswer}
 

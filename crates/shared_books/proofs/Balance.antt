@@ -1,21 +1,15 @@
 -- The books stay balanced: with one entry more, and when the journal is cut.
-use Rattle.std.proofs.lemmas.Option.{none-some}
-use Rattle.std.proofs.Common.{◌≡◌, ◌∙◌, ℕ, ◌+◌, ◌^◌, ◌<◌, ◌≤◌, List, [], ◌∷◌, ◌++◌, length, refl, sym, ap, subst, arith, length-append}
-use Rattle.bpf_model.specs.declared.event.Event.{Event}
-use Rattle.bpf_model.specs.declared.event.Answer.{Answer}
-use Rattle.bpf_model.specs.Real.{IsReal}
-use Rattle.bpf_model.specs.Machine.{Loaded}
-use Rattle.bpf_model.specs.View.{WorldView}
-use Rattle.bpf_model.specs.declared.entry.Entry.{Entry}
+use Rattle.bpf_model.proofs.Prelude.{none-some, ◌≡◌, ◌∙◌, ℕ, ◌+◌, ◌^◌, ◌<◌, ◌≤◌, List, [], ◌∷◌, ◌++◌, length, refl, sym, ap, subst, arith, IsReal, Loaded}
+use Rattle.bpf_model.proofs.Prelude.{WorldView}
+use Rattle.model_laws.proofs.Prelude.{Event, Answer, Entry}
+use Rattle.world_laws.proofs.Prelude.{with_program, IsWorld, full_reaction}
+use Rattle.std.proofs.Common.{length-append}
 use Rattle.journal.specs.Entries.{JournalView}
 use Rattle.shared_books.specs.Replay.{HasNoRuns, Replays}
 use Rattle.shared_books.specs.Totals.{is_step, steps_of, unreclaimed_in}
 use Rattle.shared_books.proofs.Replaying.{replays_push}
 use Rattle.shared_books.proofs.Sharing.{steps_push}
 use Rattle.model_laws.proofs.Tallies.{one-most}
-use Rattle.world_laws.specs.Loads.{with_program}
-use Rattle.world_laws.specs.Invariant.{IsWorld}
-use Rattle.world_laws.specs.Reacting.{full_reaction}
 use Rattle.shared_books.specs.declared.tally.Origin.{Origin}
 use Rattle.shared_books.specs.declared.tally.Tally.{Tally}
 use Rattle.shared_books.specs.Books.{BooksView, AreBalanced, Enters, books_view}

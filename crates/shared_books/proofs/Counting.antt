@@ -1,50 +1,22 @@
 -- Each reaction unlinks or reclaims at most one element, and says so where it reclaims.
-use Rattle.std.proofs.Common.{◌≡◌, ◌∙◌, ℕ, ◌+◌, ◌≤◌, List, [], ◌∷◌, map, length, Option, Some, None, refl, ap, subst}
-use Rattle.std.proofs.Common.{arith, Bool, true, false, length-append, length-drop}
-use Rattle.std.specs.Prelude.{slice_get, ℤ, pos, negsuc, ◌+ℤ◌}
-use Rattle.std.specs.List.{sum_by}
-use Rattle.std.specs.FinMap.{get}
-use Rattle.std.proofs.lemmas.List.Sums.{sum_by-cons}
-use Rattle.std.proofs.lemmas.Option.{none-some, same_Some}
+use Rattle.bpf_model.proofs.Prelude.{◌≡◌, ◌∙◌, ℕ, ◌+◌, ◌≤◌, List, [], ◌∷◌, map, length, Option, Some, None, refl, ap, subst, arith, Bool, true, false}
+use Rattle.bpf_model.proofs.Prelude.{slice_get, ℤ, pos, negsuc, ◌+ℤ◌, sum_by, get, sum_by-cons, none-some, same_Some, byte_count, helper_of}
+use Rattle.bpf_model.proofs.Prelude.{kernel_function_of, key_refusal, update_refusal, start_refusal, Loaded, lowest_free, run_at, is_any, insn_at, MapView}
+use Rattle.bpf_model.proofs.Prelude.{RunView, WorldView}
+use Rattle.model_laws.proofs.Prelude.{Errno, Helper, Lookup, Update, Delete, KernelFunction, ReadLock, ReadUnlock, MapKind, Hash, Array, Answer, Moved, Done}
+use Rattle.model_laws.proofs.Prelude.{Event, EventRefusal, Given, Free, Worn, Insn, Store, Call, Location, InContext, InFrame, AtMap, InSlot, retired_slot}
+use Rattle.model_laws.proofs.Prelude.{retired_key, deleted, deleted_from, filled_from, overwritten_slot, written_by, updated_by, shown_error, turned_view}
+use Rattle.model_laws.proofs.Prelude.{slot_given_back, given_at, reaped_view, with_map, shape_shown, refused_as, delete_at, delete_reaction, update_at}
+use Rattle.model_laws.proofs.Prelude.{update_reaction, read_at, read_reaction, advanced_by, advance_reaction, Pick, first_pick, reap_by, reap_reaction}
+use Rattle.model_laws.proofs.Prelude.{start_by, start_reaction, step_refused, drop_refused, drop_by, drop_reaction, step_by, reaction}
+use Rattle.world_laws.proofs.Prelude.{location_of, word_in, operand_word, stored_slot, stored_at, bytes_in, bound_number, serves, helper_called_on}
+use Rattle.world_laws.proofs.Prelude.{helper_called, kernel_called, insn_step, step_at, step_in, run_step_of, or_step, full_reaction}
+use Rattle.std.proofs.Common.{length-append, length-drop}
 use Rattle.model_laws.proofs.Reacting.{picked-at}
 use Rattle.model_laws.proofs.Tallies.{sum-set}
-use Rattle.bpf_model.specs.declared.call.Errno.{Errno}
-use Rattle.bpf_model.specs.declared.call.Helper.{Helper}
-use Rattle.bpf_model.specs.declared.call.Helper.TheVariants.{Lookup, Update, Delete}
-use Rattle.bpf_model.specs.declared.call.KernelFunction.{KernelFunction}
-use Rattle.bpf_model.specs.declared.call.KernelFunction.TheVariants.{ReadLock, ReadUnlock}
-use Rattle.bpf_model.specs.declared.limits.MapKind.{MapKind}
-use Rattle.bpf_model.specs.declared.limits.MapKind.TheVariants.{Hash, Array}
-use Rattle.bpf_model.specs.declared.event.Answer.{Answer}
-use Rattle.bpf_model.specs.declared.event.Answer.TheVariants.{Moved, Done}
-use Rattle.bpf_model.specs.declared.event.Event.{Event}
 use Rattle.bpf_model.specs.declared.event.Event.TheVariants as events
-use Rattle.bpf_model.specs.declared.event.EventRefusal.{EventRefusal}
-use Rattle.bpf_model.specs.declared.event.Given.{Given}
-use Rattle.bpf_model.specs.declared.event.Given.TheVariants.{Free, Worn}
 use Rattle.bpf_model.specs.declared.insn.CallKind.TheVariants as kinds
-use Rattle.bpf_model.specs.declared.insn.Insn.{Insn}
-use Rattle.bpf_model.specs.declared.insn.Insn.TheVariants.{Store, Call}
-use Rattle.bpf_model.specs.Access.{byte_count}
-use Rattle.bpf_model.specs.Call.{helper_of, kernel_function_of}
-use Rattle.bpf_model.specs.Event.{key_refusal, update_refusal, start_refusal}
-use Rattle.bpf_model.specs.Machine.{Loaded, lowest_free, run_at}
-use Rattle.bpf_model.specs.Schedule.{is_any}
-use Rattle.bpf_model.specs.Step.{insn_at}
-use Rattle.bpf_model.specs.View.{MapView, RunView, WorldView}
-use Rattle.model_laws.specs.Locations.{Location, InContext, InFrame, AtMap, InSlot}
 use Rattle.map_kinds.specs.Counting.{unlinked_in}
-use Rattle.model_laws.specs.Views.{retired_slot, retired_key, deleted, deleted_from, filled_from, overwritten_slot}
-use Rattle.model_laws.specs.Views.{written_by, updated_by, shown_error, turned_view, slot_given_back, given_at}
-use Rattle.model_laws.specs.Views.{reaped_view}
-use Rattle.model_laws.specs.Reactions.{with_map, shape_shown, refused_as, delete_at, delete_reaction, update_at}
-use Rattle.model_laws.specs.Reactions.{update_reaction, read_at, read_reaction, advanced_by, advance_reaction, Pick}
-use Rattle.model_laws.specs.Reactions.{first_pick, reap_by, reap_reaction, start_by, start_reaction, step_refused}
-use Rattle.model_laws.specs.Reactions.{drop_refused, drop_by, drop_reaction, step_by, reaction}
-use Rattle.world_laws.specs.Locating.{location_of}
-use Rattle.world_laws.specs.Moving.{word_in, operand_word, stored_slot, stored_at}
-use Rattle.world_laws.specs.Calling.{bytes_in, bound_number, serves, helper_called_on, helper_called, kernel_called}
-use Rattle.world_laws.specs.Reacting.{insn_step, step_at, step_in, run_step_of, or_step, full_reaction}
 use Rattle.shared_books.specs.Totals.{unreclaimed_in}
 use Rattle.shared_books.specs.Tally.{CountsOn, reclaimed_by}
 

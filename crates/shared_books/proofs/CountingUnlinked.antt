@@ -1,27 +1,16 @@
 -- The lists of a world count the machine's unlinked elements.
-use Rattle.std.proofs.Common.{◌≡◌, ◌≢◌, ◌∙◌, ℕ, zero, suc, ◌+◌, ◌<◌, List, [], ◌∷◌, ◌++◌, length, Bool, true, false}
-use Rattle.std.proofs.Common.{cond, Option, Some, None, refl, sym, ap, arith}
-use Rattle.std.specs.Prelude.{slice_get, slice_index, ◌==◌, ◌&&◌, not, count_by}
-use Rattle.std.specs.List.{sum_by}
+use Rattle.bpf_model.proofs.Prelude.{◌≡◌, ◌≢◌, ◌∙◌, ℕ, zero, suc, ◌+◌, ◌<◌, List, [], ◌∷◌, ◌++◌, length, Bool, true, false, cond, Option, Some, None, refl}
+use Rattle.bpf_model.proofs.Prelude.{sym, ap, arith, slice_get, slice_index, ◌==◌, ◌&&◌, not, count_by, sum_by, eq-eqb, length-append, length-map}
+use Rattle.bpf_model.proofs.Prelude.{sum_by-cons, slice_get_within, Element, Life, Linked, Unlinked, Reclaimed, is_linked, is_reclaimed, is_unlinked, Machine}
+use Rattle.bpf_model.proofs.Prelude.{Tracks, TracksSchedule, RefinesSchedule, lists_of, named, times, Queues, Schedule, MapView, WorldView, get-below}
+use Rattle.model_laws.proofs.Prelude.{IsScheduled, queued_in}
 use Rattle.std.proofs.Math.Dec.{eqb-suc-suc}
-use Rattle.std.proofs.lemmas.Bool.{eq-eqb}
-use Rattle.std.proofs.lemmas.List.{length-append, length-map}
-use Rattle.std.proofs.lemmas.List.Sums.{sum_by-cons}
-use Rattle.std.proofs.lemmas.Option.{slice_get_within}
-use Rattle.bpf_model.specs.Element.{Element, Life, Linked, Unlinked, Reclaimed, is_linked, is_reclaimed}
-use Rattle.bpf_model.specs.Schedule.{is_unlinked}
-use Rattle.bpf_model.specs.Machine.{Machine}
-use Rattle.bpf_model.specs.Refines.{Tracks, TracksSchedule, RefinesSchedule, lists_of, named, times}
-use Rattle.bpf_model.specs.Schedule.{Queues, Schedule}
-use Rattle.bpf_model.specs.View.{MapView, WorldView}
 use Rattle.map_kinds.specs.Counting.{unlinked_in}
-use Rattle.model_laws.specs.Scheduled.{IsScheduled, queued_in}
 use Rattle.model_laws.proofs.Counting.{times-append, times-first, times-other}
 use Rattle.model_laws.proofs.Queueing.{queued-elsewhere}
 use Rattle.model_laws.proofs.Reached.{tracked_is_scheduled}
 use Rattle.model_laws.proofs.Tallies.{count-cons, one_of}
 use Rattle.shared_books.specs.Totals.{ever_reclaimed, ever_unlinked, reclaimed_total, unlinked_total}
-use Rattle.bpf_model.proofs.Lists.{get-below}
 
 -- 1 where an index has an unlinked element, else 0
 abbrev flag : Option Element → ℕ

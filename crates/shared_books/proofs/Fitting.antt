@@ -1,25 +1,11 @@
 -- The kinds of answers that an event can have.
-use Rattle.std.proofs.Common.{ℕ, List, Option, Some, None, sym, subst}
-use Rattle.bpf_model.specs.declared.insn.Insn.{Insn}
-use Rattle.bpf_model.specs.declared.insn.Insn.TheVariants.{Call}
+use Rattle.bpf_model.proofs.Prelude.{ℕ, List, Option, Some, None, sym, subst, Outcome, Moves, Exits, Section, Store, Run, Machine, open_sections, OutcomeStep}
+use Rattle.bpf_model.proofs.Prelude.{PerformsEvent, Answers, DoesEvent, refusal, IsReal, WorldView}
+use Rattle.model_laws.proofs.Prelude.{Insn, Call, Event, Answer, Started, Ret, Found, Done, Reaped, Refused, EventRefusal, StepsByKind}
+use Rattle.world_laws.proofs.Prelude.{full_reaction, IsWorld}
 use Rattle.bpf_model.specs.declared.insn.CallKind.TheVariants as kinds
-use Rattle.bpf_model.specs.declared.event.Event.{Event}
 use Rattle.bpf_model.specs.declared.event.Event.TheVariants as events
-use Rattle.bpf_model.specs.declared.event.Answer.{Answer}
-use Rattle.bpf_model.specs.declared.event.Answer.TheVariants.{Started, Ret, Found, Done, Reaped, Refused}
-use Rattle.bpf_model.specs.declared.event.EventRefusal.{EventRefusal}
-use Rattle.bpf_model.specs.Step.{Outcome, Moves, Exits}
-use Rattle.bpf_model.specs.Section.{Section}
-use Rattle.bpf_model.specs.MapState.{Store}
-use Rattle.bpf_model.specs.Machine.{Run, Machine, open_sections}
-use Rattle.bpf_model.specs.MachineStep.{OutcomeStep}
-use Rattle.model_laws.specs.ByKind.{StepsByKind}
-use Rattle.bpf_model.specs.Event.{PerformsEvent, Answers, DoesEvent, refusal}
-use Rattle.bpf_model.specs.Real.{IsReal}
-use Rattle.bpf_model.specs.View.{WorldView}
-use Rattle.world_laws.specs.Reacting.{full_reaction}
 use Rattle.world_laws.proofs.Worlds.{simulates}
-use Rattle.world_laws.specs.Invariant.{IsWorld}
 use Rattle.journal.specs.Entries.{IsAnswerTo}
 use Rattle.model_laws.proofs.Requests.{run_by_kind}
 

@@ -1,18 +1,12 @@
 -- Totals never go back.
-use Rattle.std.proofs.Common.{◌≡◌, suc, ◌≤◌, List, [], ◌∷◌, Bool, true, false, refl, sym, ap, subst, arith}
-use Rattle.std.specs.Prelude.{not, count_by}
-use Rattle.std.proofs.lemmas.Option.{none-some, same_Some}
-use Rattle.bpf_model.specs.declared.event.Event.{Event}
-use Rattle.bpf_model.specs.Element.{Element, Life, Linked, Unlinked, Reclaimed, is_linked, is_reclaimed}
-use Rattle.bpf_model.specs.Real.{IsReal}
-use Rattle.bpf_model.specs.View.{WorldView}
-use Rattle.model_laws.specs.Growth.{IsLaterLife, IsLaterElement, ElementsGrow}
+use Rattle.bpf_model.proofs.Prelude.{◌≡◌, suc, ◌≤◌, List, [], ◌∷◌, Bool, true, false, refl, sym, ap, subst, arith, not, count_by, none-some, same_Some}
+use Rattle.bpf_model.proofs.Prelude.{Element, Life, Linked, Unlinked, Reclaimed, is_linked, is_reclaimed, IsReal, WorldView}
+use Rattle.model_laws.proofs.Prelude.{Event, IsLaterLife, IsLaterElement, ElementsGrow}
+use Rattle.world_laws.proofs.Prelude.{full_reaction, IsWorld}
 use Rattle.model_laws.proofs.Growing.{only-reclaimed}
 use Rattle.model_laws.proofs.Stepping.{elements_only_grow}
 use Rattle.model_laws.proofs.Tallies.{count-cons, one_of}
-use Rattle.world_laws.specs.Reacting.{full_reaction}
 use Rattle.world_laws.proofs.Worlds.{simulates}
-use Rattle.world_laws.specs.Invariant.{IsWorld}
 use Rattle.shared_books.specs.Totals.{ever_reclaimed, ever_unlinked, reclaimed_total, unlinked_total}
 use Rattle.shared_books.proofs.CountingUnlinked.{unlinked_is_machines, reclaimed_is_machines}
 

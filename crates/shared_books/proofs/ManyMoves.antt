@@ -1,16 +1,15 @@
 -- The books stay balanced with many moves of one run more, one after another.
-use Rattle.std.proofs.Common.{◌≡◌, ◌∙◌, ℕ, ◌+◌, ◌-◌, ◌^◌, ◌<◌, ◌≤◌, List, [], ◌∷◌, ◌++◌, length, replicate, refl, sym}
-use Rattle.std.proofs.Common.{ap, subst, arith, append_assoc, length-append}
+use Rattle.bpf_model.proofs.Prelude.{◌≡◌, ◌∙◌, ℕ, ◌+◌, ◌-◌, ◌^◌, ◌<◌, ◌≤◌, List, [], ◌∷◌, ◌++◌, length, replicate, refl, sym, ap, subst, arith, append_assoc}
+use Rattle.bpf_model.proofs.Prelude.{append-nil, length-replicate, WorldView}
+use Rattle.model_laws.proofs.Prelude.{Entry}
+use Rattle.world.proofs.Prelude.{MakesMoves, WouldMove, not_yet, once_more}
+use Rattle.world_laws.proofs.Prelude.{full_reaction}
+use Rattle.std.proofs.Common.{length-append}
 use Rattle.std.proofs.lemmas.Grind.{replicate_next}
-use Rattle.std.proofs.lemmas.List.{append-nil, length-replicate}
 use Rattle.bpf_model.specs.declared.event.Event.TheVariants as events
 use Rattle.bpf_model.specs.declared.event.Answer.TheVariants as answers
-use Rattle.bpf_model.specs.declared.entry.Entry.{Entry}
-use Rattle.bpf_model.specs.View.{WorldView}
 use Rattle.shared_books.specs.Totals.{unreclaimed_in}
 use Rattle.shared_books.proofs.Replaying.{replays_to_world}
-use Rattle.world_laws.specs.Reacting.{full_reaction}
-use Rattle.world.specs.Stretches.{MakesMoves, WouldMove, not_yet, once_more}
 use Rattle.shared_books.specs.declared.tally.Tally.{Tally}
 use Rattle.shared_books.specs.Books.{BooksView, AreBalanced, Enters, TotalsRise}
 use Rattle.shared_books.specs.Receipts.{IsMachineAnswer}

@@ -1,10 +1,7 @@
 -- No run slot is occupied exactly where none is counted.
-use Rattle.std.proofs.Common.{◌≡◌, zero, suc, List, [], ◌∷◌, Option, Some, None, refl, sym, arith}
-use Rattle.std.specs.Prelude.{is_some, count_by}
-use Rattle.std.proofs.lemmas.Option.{none-some}
+use Rattle.bpf_model.proofs.Prelude.{◌≡◌, zero, suc, List, [], ◌∷◌, Option, Some, None, refl, sym, arith, is_some, count_by, none-some, RunView}
 use Rattle.bpf_model.specs.Replay.{AreFree}
 use Rattle.model_laws.proofs.Tallies.{count-cons}
-use Rattle.bpf_model.specs.View.{RunView}
 
 pub free-where-none : (runs : List (Option RunView)) → count_by is_some runs ≡ 0 → AreFree runs
 free-where-none [] e r = refl

@@ -1,29 +1,16 @@
 -- Journals that replay.
-use Rattle.std.proofs.Common.{◌≡◌, ◌∙◌, ℕ, ◌≤◌, List, [], ◌∷◌, ◌++◌, length, Some, None, Option, refl, sym, ap, subst}
-use Rattle.std.specs.Prelude.{slice_get}
-use Rattle.std.proofs.lemmas.List.{map_push}
-use Rattle.std.proofs.lemmas.Option.{none-some}
-use Rattle.bpf_model.specs.declared.event.Event.{Event}
-use Rattle.bpf_model.specs.declared.event.Answer.{Answer}
-use Rattle.bpf_model.specs.Element.{Element}
-use Rattle.bpf_model.specs.Real.{IsReal, AreReal}
-use Rattle.bpf_model.specs.Drain.{AreScheduledAnswers}
-use Rattle.bpf_model.specs.Headline.{AreMachineAnswers, AreNeverStuck, AllExitInTime, AreReclaimedLate}
-use Rattle.bpf_model.specs.Replay.{HasHistoryTo}
-use Rattle.bpf_model.specs.History.{IsHistory, last_of}
-use Rattle.bpf_model.specs.Machine.{Loaded, Machine, Run, run_at}
-use Rattle.bpf_model.specs.Refines.{Tracks, TracksSchedule, RunSlotRefines}
+use Rattle.bpf_model.proofs.Prelude.{◌≡◌, ◌∙◌, ℕ, ◌≤◌, List, [], ◌∷◌, ◌++◌, length, Some, None, Option, refl, sym, ap, subst, slice_get, map_push, none-some}
+use Rattle.bpf_model.proofs.Prelude.{Element, IsReal, AreReal, AreScheduledAnswers, AreMachineAnswers, AreNeverStuck, AllExitInTime, AreReclaimedLate}
+use Rattle.bpf_model.proofs.Prelude.{HasHistoryTo, IsHistory, last_of, Loaded, Machine, Run, run_at, Tracks, TracksSchedule, RunSlotRefines, RunView}
+use Rattle.bpf_model.proofs.Prelude.{WorldView, option_flatten}
+use Rattle.model_laws.proofs.Prelude.{Event, Answer, Entry}
+use Rattle.world_laws.proofs.Prelude.{full_reaction, full_reactions, IsWorld}
 use Rattle.bpf_model.specs.Replay.{HasNoRunsOnMachine, ReplaysOnMachine, answers_of, events_of}
-use Rattle.bpf_model.specs.View.{RunView, WorldView}
 use Rattle.model_laws.proofs.Tracking.{real-more}
-use Rattle.world_laws.specs.Reacting.{full_reaction, full_reactions}
 use Rattle.world_laws.proofs.Worlds.{answers_machine, answers_scheduled, never_stuck, exit_in_time, reclaimed_late}
-use Rattle.world_laws.specs.Invariant.{IsWorld}
 use Rattle.world_laws.proofs.Appending.{answers_grow, view_grows}
 use Rattle.world_laws.proofs.KeepingWorlds.{reactions_make_world}
-use Rattle.bpf_model.specs.declared.entry.Entry.{Entry}
 use Rattle.shared_books.specs.Replay.{HasNoRuns, Replays}
-use Rattle.std.specs.Option.{option_flatten}
 
 pub empty_replays : (w : WorldView) → IsWorld w → HasNoRuns w → Replays w w []
 empty_replays w is quiet = record {

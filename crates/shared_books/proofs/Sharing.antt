@@ -1,13 +1,9 @@
 -- Shares of workers.
-use Rattle.std.proofs.Common.{◌≡◌, ◌≢◌, ◌∙◌, ℕ, zero, suc, ◌+◌, ◌<◌, List, [], ◌∷◌, ◌++◌, length, Bool, true, false, cond, refl, ap, arith}
-use Rattle.std.specs.Prelude.{◌==◌, count_by}
-use Rattle.std.specs.List.{range_with_len, sum_by}
-use Rattle.std.proofs.lemmas.Bool.{eq-eqb, eqb-true, false_from_ne_true}
-use Rattle.std.proofs.lemmas.List.Elements.{filter-append}
-use Rattle.std.proofs.lemmas.List.{append-nil}
-use Rattle.std.proofs.lemmas.List.Sums.{sum_by-cons, sum_by_push}
+use Rattle.bpf_model.proofs.Prelude.{◌≡◌, ◌≢◌, ◌∙◌, ℕ, zero, suc, ◌+◌, ◌<◌, List, [], ◌∷◌, ◌++◌, length, Bool, true, false, cond, refl, ap, arith, ◌==◌}
+use Rattle.bpf_model.proofs.Prelude.{count_by, range_with_len, sum_by, eq-eqb, eqb-true, false_from_ne_true, filter-append, append-nil, sum_by-cons}
+use Rattle.bpf_model.proofs.Prelude.{sum_by_push}
+use Rattle.model_laws.proofs.Prelude.{Entry}
 use Rattle.model_laws.proofs.Tallies.{count-cons, one_of}
-use Rattle.bpf_model.specs.declared.entry.Entry.{Entry}
 use Rattle.shared_books.specs.Totals.{AreOfWorkers, entries_by, is_step, share_of, shares, steps_of}
 
 longer : (b : Bool) (e : Entry) (es : List Entry) → length (cond b (e ∷ es) es) ≡ one_of b + length es

@@ -1,23 +1,14 @@
 -- What a world tells of itself is what its machine counts.
-use Rattle.std.proofs.Common.{◌≡◌, ◌≢◌, ◌∙◌, ℕ, zero, suc, ◌+◌, ◌<◌, ◌≤◌, List, [], ◌∷◌, length, Bool, true, false, Option, Some, None, refl, sym, ap, arith}
-use Rattle.std.specs.Prelude.{slice_get, ◌==◌, ◌&&◌, count_by, is_some, map, if◌then◌else◌}
-use Rattle.std.specs.List.{sum_by}
-use Rattle.std.proofs.lemmas.Bool.{eq-eqb, eqb-true, false≢true}
-use Rattle.std.proofs.lemmas.List.Sums.{sum_by-cons}
-use Rattle.std.proofs.lemmas.Option.{same_Some, slice_get_within}
-use Rattle.bpf_model.specs.Element.{Element, linked_count, is_linked}
-use Rattle.bpf_model.specs.Machine.{Loaded, Machine, Run, is_inside, open_sections, section_of}
-use Rattle.bpf_model.specs.MapState.{MapState}
-use Rattle.bpf_model.specs.Refines.{RunSlotRefines, Tracks, TracksSchedule}
-use Rattle.bpf_model.specs.Schedule.{Schedule, is_open}
-use Rattle.bpf_model.specs.Section.{Section}
-use Rattle.bpf_model.specs.View.{MapView, RunView, WorldView}
-use Rattle.bpf_model.proofs.Lists.{get-below}
+use Rattle.bpf_model.proofs.Prelude.{◌≡◌, ◌≢◌, ◌∙◌, ℕ, zero, suc, ◌+◌, ◌<◌, ◌≤◌, List, [], ◌∷◌, length, Bool, true, false, Option, Some, None, refl, sym, ap}
+use Rattle.bpf_model.proofs.Prelude.{arith, slice_get, ◌==◌, ◌&&◌, count_by, is_some, map, if◌then◌else◌, sum_by, eq-eqb, eqb-true, false≢true, sum_by-cons}
+use Rattle.bpf_model.proofs.Prelude.{same_Some, slice_get_within, Element, linked_count, is_linked, Loaded, Machine, Run, is_inside, open_sections}
+use Rattle.bpf_model.proofs.Prelude.{section_of, MapState, RunSlotRefines, Tracks, TracksSchedule, Schedule, is_open, Section, MapView, RunView, WorldView}
+use Rattle.bpf_model.proofs.Prelude.{get-below}
+use Rattle.world.proofs.Prelude.{stat_of}
 use Rattle.map_kinds.specs.Counting.{linked_in, worn_in}
 use Rattle.model_laws.proofs.Reached.{tracked_is_scheduled}
 use Rattle.model_laws.proofs.Tallies.{count-cons, of-other, one_of}
 use Rattle.shared_books.specs.Totals.{machine_stat}
-use Rattle.world.specs.Asking.{stat_of}
 use Rattle.shared_books.proofs.CountingUnlinked.{unlinked-now}
 
 -- how many elements are linked in so many maps from one on

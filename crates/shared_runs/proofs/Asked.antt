@@ -1,66 +1,36 @@
 -- What a shared run asks is served by its seat, and it goes on.
-use Rattle.std.proofs.Common.{◌≡◌, ℕ, ◌+◌, ◌-◌, ◌*◌, ◌/◌, ◌%◌, ◌^◌, ◌<◌, ◌≤◌, ◌⊎◌, inl, inr, refl, sym, ap, subst}
-use Rattle.std.proofs.Common.{◌∙◌, arith, List, [], ◌∷◌, ◌++◌, length, map, Option, Some, None, Bool, true, false, ℤ}
-use Rattle.std.specs.Prelude.{slice_get, option_map, pos, negsuc, ◌+ℤ◌, ◌==◌, nat_le, take, drop, if◌then◌else◌}
-use Rattle.std.proofs.lemmas.Bool.{cases_eq, false≢true, leb-true, ne_eqb}
-use Rattle.std.proofs.lemmas.Bool.Decides.{eqb_tells}
-use Rattle.std.proofs.lemmas.Int.{ints}
-use Rattle.std.proofs.lemmas.Option.{none-some, same_Some, slice_get_within}
-use Rattle.std.proofs.lemmas.List.{length-replicate}
-use Rattle.bpf_model.specs.declared.call.Helper.{Helper}
-use Rattle.bpf_model.specs.declared.call.Helper.TheVariants.{Lookup, Update, Delete}
-use Rattle.bpf_model.specs.declared.call.KernelFunction.{KernelFunction}
-use Rattle.bpf_model.specs.declared.call.KernelFunction.TheVariants.{ReadLock, ReadUnlock}
+use Rattle.bpf_model.proofs.Prelude.{◌≡◌, ℕ, ◌+◌, ◌-◌, ◌*◌, ◌/◌, ◌%◌, ◌^◌, ◌<◌, ◌≤◌, ◌⊎◌, inl, inr, refl, sym, ap, subst, ◌∙◌, arith, List, [], ◌∷◌, ◌++◌}
+use Rattle.bpf_model.proofs.Prelude.{length, map, Option, Some, None, Bool, true, false, ℤ, slice_get, option_map, pos, negsuc, ◌+ℤ◌, ◌==◌, nat_le, take}
+use Rattle.bpf_model.proofs.Prelude.{drop, if◌then◌else◌, cases_eq, false≢true, leb-true, ne_eqb, eqb_tells, ints, none-some, same_Some, slice_get_within}
+use Rattle.bpf_model.proofs.Prelude.{length-replicate, byte_count, number_at, region_offset, unsigned_width, helper_of, kernel_function_of, Element}
+use Rattle.bpf_model.proofs.Prelude.{accessible, Loaded, Run, locked, section_of, unlocked, bytes_at, frame_bytes, loaded_from, stored_in, operand_value}
+use Rattle.bpf_model.proofs.Prelude.{start-insn_at, starts_apart, LoadElement, StoreElement, CallHelper, Enter, Leave, MapArgument, BytesArgument, Argument}
+use Rattle.bpf_model.proofs.Prelude.{resumed, signature_of, arguments_of, FitsInsn, State, insn_at, ◌>>=◌, RunView, WordIs, frame_base, slot_base, get-below}
+use Rattle.machine.proofs.Prelude.{request_of, resumed_view, kernel_request, TakesStep}
+use Rattle.model_laws.proofs.Prelude.{Helper, Lookup, Update, Delete, KernelFunction, ReadLock, ReadUnlock, Insn, Call, Load, LoadSigned, Store, MapShape}
+use Rattle.model_laws.proofs.Prelude.{FRAME_BYTES, MAX_DEPTH, Width, Value, Nothing, Number, Pointer}
+use Rattle.plan_laws.proofs.Prelude.{scene_of, IsGuarded, IsHeld, IsVerified}
+use Rattle.verifier.proofs.Prelude.{Checked}
+use Rattle.world_laws.proofs.Prelude.{bytes_in, found_word, operand_word, word_in, IsInFrame, births, element_in_region, elements_around, key_length, map_of}
+use Rattle.world_laws.proofs.Prelude.{region_of, regions, store_of, value_length, IsShownBy, region_bases}
 use Rattle.bpf_model.specs.declared.insn.CallKind.TheVariants as kinds
-use Rattle.bpf_model.specs.declared.insn.Insn.{Insn}
-use Rattle.bpf_model.specs.declared.insn.Insn.TheVariants.{Call, Load, LoadSigned, Store}
-use Rattle.bpf_model.specs.declared.limits.MapShape.{MapShape}
-use Rattle.bpf_model.specs.declared.limits.TheConstants.{FRAME_BYTES, MAX_DEPTH}
-use Rattle.bpf_model.specs.declared.opcode.Width.{Width}
-use Rattle.bpf_model.specs.declared.value.Value.{Value}
-use Rattle.bpf_model.specs.declared.value.Value.TheVariants.{Nothing, Number, Pointer}
 use Rattle.bpf_model.specs.declared.value.Reference.TheVariants as references
-use Rattle.bpf_model.specs.Access.{byte_count, number_at, region_offset, unsigned_width}
-use Rattle.bpf_model.specs.Call.{helper_of, kernel_function_of}
-use Rattle.bpf_model.specs.Element.{Element, accessible}
-use Rattle.bpf_model.specs.Machine.{Loaded, Run, locked, moves as moves_run, section_of, unlocked}
-use Rattle.bpf_model.specs.Frame.{bytes_at, frame_bytes}
-use Rattle.bpf_model.specs.Element.{loaded_from, stored_in}
-use Rattle.bpf_model.specs.Operand.{operand_value}
-use Rattle.bpf_model.proofs.Places.{start-insn_at, starts_apart}
-use Rattle.bpf_model.specs.Request.{Request as Asked, LoadElement, StoreElement, CallHelper, Enter, Leave}
-use Rattle.bpf_model.specs.Request.{MapArgument, BytesArgument, Argument, asks as asks_of, resumed}
-use Rattle.bpf_model.specs.Request.{section_request as section_asked, signature_of, arguments_of}
-use Rattle.bpf_model.specs.Spelling.{FitsInsn}
-use Rattle.bpf_model.specs.Step.{State, insn_at}
-use Rattle.bpf_model.specs.Value.{◌>>=◌}
-use Rattle.bpf_model.specs.View.{RunView}
-use Rattle.bpf_model.specs.Word.{WordIs, frame_base, slot_base}
-use Rattle.bpf_model.proofs.Lists.{get-below}
+use Rattle.bpf_model.specs.Machine.{moves as moves_run}
+use Rattle.bpf_model.specs.Request.{Request as Asked, asks as asks_of, section_request as section_asked}
 use Rattle.model_laws.proofs.Computations.{first-step}
 use Rattle.model_laws.proofs.Requests.{LoadAsked, StoreAsked}
-use Rattle.plan_laws.specs.Describes.{scene_of, IsGuarded, IsHeld}
 use Rattle.plan_laws.proofs.Elements.{offset_some}
-use Rattle.world_laws.specs.Calling.{bytes_in, found_word}
-use Rattle.world_laws.specs.Moving.{operand_word, word_in}
-use Rattle.world_laws.specs.Reaching.{IsInFrame}
 use Rattle.world_laws.proofs.Bytes.{argument-bytes}
 use Rattle.effects.specs.declared.region.Region.{Region}
 use Rattle.effects.specs.declared.region.Region.TheVariants as noted
 use Rattle.state_steps.specs.Steps.{IsInRegion, LooksUp, base_of}
-use Rattle.world_laws.specs.Around.{births, element_in_region, elements_around, key_length, map_of, region_of, regions, store_of, value_length}
-use Rattle.plan_laws.specs.Verified.{IsVerified}
-use Rattle.world_laws.specs.Described.{IsShownBy, region_bases}
 use Rattle.world_laws.proofs.Asking.{lookup-asked}
 use Rattle.world_laws.proofs.Contents.{by-is, get-range, map-below, touched}
 use Rattle.world_laws.proofs.StandingOwn.{byte-stands, insn-real, operand-stands, register-word}
 use Rattle.world_laws.proofs.Replied as replied
-use Rattle.verifier.specs.Checked.{Checked}
 use Rattle.machine.specs.declared.request.Request.{Request}
 use Rattle.machine.specs.declared.request.Request.TheVariants as requests
 use Rattle.machine.specs.declared.request.Local.TheVariants as locals
-use Rattle.machine.specs.Requests.{request_of, resumed_view, kernel_request}
-use Rattle.machine.specs.Steps.{TakesStep}
 use Rattle.machine.proofs.AskingSo.{load-asked, store-asked}
 use Rattle.shared_runs.specs.Tables.{Table, IsTable}
 use Rattle.shared_runs.specs.Learnt.{learnt_element, learnt_elements}
@@ -68,9 +38,8 @@ use Rattle.shared_runs.specs.Serving.{CanAnswer, GoesOnWith, LeadsToWord, map_na
 use Rattle.shared_runs.specs.SharedRuns.{closing, opening}
 use Rattle.shared_runs.specs.Sharing.{GoesFurther, IsSharing, flag_of}
 use Rattle.shared_runs.specs.Words.{ChangesMap, IsElementRegion, IsOtherWidth, part_of, stored_width}
-use Rattle.shared_runs.proofs.Learning.{Reached, also, enter-learnt, hit-learnt, learnt-guarded, leave-learnt}
-use Rattle.shared_runs.proofs.Learning.{load-learnt, miss-learnt, nest-learnt, no-array, none, not-array, store-learnt}
-use Rattle.shared_runs.proofs.Learning.{also-cases, unnest-learnt}
+use Rattle.shared_runs.proofs.Learning.{Reached, also, enter-learnt, hit-learnt, learnt-guarded, leave-learnt, load-learnt, miss-learnt, nest-learnt}
+use Rattle.shared_runs.proofs.Learning.{no-array, none, not-array, store-learnt, also-cases, unnest-learnt}
 use Rattle.shared_runs.proofs.Bytes.{in-word, part-below, some-bytes}
 use Rattle.shared_runs.proofs.Stepped.{asks, ready, so}
 use Rattle.shared_runs.proofs.Stepped as stepped

@@ -1,9 +1,7 @@
 -- Bytes of one word.
-use Rattle.std.proofs.Common.{◌≡◌, ℕ, ◌+◌, ◌*◌, ◌/◌, ◌%◌, ◌^◌, ◌<◌, ◌≤◌, arith}
-use Rattle.std.proofs.Math.Nat.{mod-lt}
-use Rattle.bpf_model.specs.declared.opcode.Width.{Width}
+use Rattle.bpf_model.proofs.Prelude.{◌≡◌, ℕ, ◌+◌, ◌*◌, ◌/◌, ◌%◌, ◌^◌, ◌<◌, ◌≤◌, arith, mod-lt, byte_count}
+use Rattle.model_laws.proofs.Prelude.{Width}
 use Rattle.bpf_model.specs.declared.opcode.Width.TheVariants as widths
-use Rattle.bpf_model.specs.Access.{byte_count}
 use Rattle.shared_runs.specs.Words.{part_of}
 
 pub some-bytes : (width : Width) → 0 < byte_count width

@@ -1,21 +1,12 @@
 -- How far a shared run has come: each step of its words takes it further.
-use Rattle.std.proofs.Common.{◌≡◌, ℕ, ◌+◌, ◌<◌, ◌≤◌, sym, ap, subst, ◌∙◌, arith, List, [], ◌++◌, Some, length}
-use Rattle.std.proofs.lemmas.Option.{slice_get_within}
-use Rattle.bpf_model.specs.declared.insn.Insn.{Insn}
-use Rattle.bpf_model.specs.declared.limits.TheConstants.{FRAME_BYTES}
-use Rattle.bpf_model.specs.Real.{AreBytes}
-use Rattle.bpf_model.specs.Step.{insn_at}
-use Rattle.bpf_model.specs.View.{RunView}
-use Rattle.model_laws.specs.Reactions.{fresh_view}
-use Rattle.world_laws.specs.Around.{regions}
-use Rattle.verifier.specs.Checked.{Checked}
-use Rattle.verifier.specs.Verdict.{IsJustified}
+use Rattle.bpf_model.proofs.Prelude.{◌≡◌, ℕ, ◌+◌, ◌<◌, ◌≤◌, sym, ap, subst, ◌∙◌, arith, List, [], ◌++◌, Some, length, slice_get_within, AreBytes, insn_at}
+use Rattle.bpf_model.proofs.Prelude.{RunView}
+use Rattle.machine.proofs.Prelude.{resumed_view, IsAt, RunWords, Awaits, IsReplyTo, IsValidRun, TakesStep}
+use Rattle.model_laws.proofs.Prelude.{Insn, FRAME_BYTES, fresh_view}
+use Rattle.verifier.proofs.Prelude.{Checked, IsJustified}
+use Rattle.world_laws.proofs.Prelude.{regions}
 use Rattle.machine.specs.declared.request.Request.{Request}
 use Rattle.machine.specs.declared.request.Local.TheVariants.{Exit, Moved, Shared}
-use Rattle.machine.specs.Requests.{resumed_view}
-use Rattle.machine.specs.RunWords.{IsAt, RunWords}
-use Rattle.machine.specs.Standing.{Awaits, IsReplyTo, IsValidRun}
-use Rattle.machine.specs.Steps.{TakesStep}
 use Rattle.machine.proofs.Places.{insn_there}
 use Rattle.shared_runs.specs.Tables.{Table, IsTable}
 use Rattle.shared_runs.specs.Serving.{CanAnswer, IsServable, Serves}

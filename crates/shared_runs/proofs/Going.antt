@@ -1,44 +1,25 @@
 -- What a step of a run by itself comes to.
-use Rattle.std.proofs.Common.{◌≡◌, ℕ, suc, ◌+◌, ◌<◌, ◌≤◌, List, [], ◌∷◌, length, Some, None, Bool, true}
-use Rattle.std.proofs.Common.{false, inl, inr, refl, sym, ap, subst, ◌∙◌, arith, ℤ}
-use Rattle.std.specs.Prelude.{option_map}
-use Rattle.std.proofs.lemmas.Bool.{false≢true}
-use Rattle.std.proofs.lemmas.Option.{same_Some}
-use Rattle.bpf_model.specs.declared.call.KernelFunction.{KernelFunction}
-use Rattle.bpf_model.specs.declared.call.KernelFunction.TheVariants.{ReadLock, ReadUnlock}
-use Rattle.bpf_model.specs.declared.event.Answer.{Answer}
-use Rattle.bpf_model.specs.declared.event.Answer.TheVariants.{Moved, Exited}
+use Rattle.bpf_model.proofs.Prelude.{◌≡◌, ℕ, suc, ◌+◌, ◌<◌, ◌≤◌, List, [], ◌∷◌, length, Some, None, Bool, true, false, inl, inr, refl, sym, ap, subst, ◌∙◌}
+use Rattle.bpf_model.proofs.Prelude.{arith, ℤ, option_map, false≢true, same_Some, kernel_function_of, ExitsFrom, ExitsWith, exits_later, exits_now, Loaded}
+use Rattle.bpf_model.proofs.Prelude.{Run, fresh_run, section_of, InsnStep, RunStep, StartsAt, start-inside, starts_apart, ServesRequest, StepsServed, Section}
+use Rattle.bpf_model.proofs.Prelude.{Exits, Moves, insn_at, RunView}
+use Rattle.machine.proofs.Prelude.{request_of, resumed_view, kernel_request, MayGive, IsRunOfChecked, CanStep, TakesStep}
+use Rattle.model_laws.proofs.Prelude.{KernelFunction, ReadLock, ReadUnlock, Answer, Moved, Exited, Insn, Call, Nothing}
+use Rattle.plan_laws.proofs.Prelude.{IsVerified}
+use Rattle.verifier.proofs.Prelude.{Checked}
+use Rattle.world_laws.proofs.Prelude.{MayReply, element_of, elements_around, store_of, IsShownBy}
 use Rattle.bpf_model.specs.declared.insn.CallKind.TheVariants as kinds
-use Rattle.bpf_model.specs.declared.insn.Insn.{Insn}
-use Rattle.bpf_model.specs.declared.insn.Insn.TheVariants.{Call}
-use Rattle.bpf_model.specs.declared.value.Value.TheVariants.{Nothing}
-use Rattle.bpf_model.specs.Call.{kernel_function_of}
-use Rattle.bpf_model.specs.Exit.{ExitsFrom, ExitsWith, exits_later, exits_now}
-use Rattle.bpf_model.specs.Machine.{Loaded, Run, exits as exits_run, fresh_run, moves as moves_run, section_of}
-use Rattle.bpf_model.specs.MachineStep.{InsnStep, RunStep}
+use Rattle.bpf_model.specs.Machine.{exits as exits_run, moves as moves_run}
 use Rattle.bpf_model.specs.MapState as map_state
-use Rattle.bpf_model.specs.Places.{StartsAt}
-use Rattle.bpf_model.proofs.Places.{start-inside, starts_apart}
-use Rattle.bpf_model.specs.Request.{Request as Asked, ServesRequest, asks as asks_of, section_request as section_asked}
-use Rattle.bpf_model.specs.MachineStep.{StepsServed}
-use Rattle.bpf_model.specs.Section.{Section}
-use Rattle.bpf_model.specs.Step.{Exits, Moves, insn_at}
-use Rattle.bpf_model.specs.View.{RunView}
+use Rattle.bpf_model.specs.Request.{Request as Asked, asks as asks_of, section_request as section_asked}
 use Rattle.model_laws.proofs.Alone.{others_change_nothing, stays_sharing_nothing}
-use Rattle.plan_laws.specs.Verified.{IsVerified}
 use Rattle.plan_laws.proofs.Reaching.{same-insn}
 use Rattle.world_laws.proofs.Alike.{exit_alike}
-use Rattle.world_laws.specs.Around.{MayReply, element_of, elements_around, store_of}
-use Rattle.world_laws.specs.Described.{IsShownBy}
 use Rattle.world_laws.proofs.Contents.{plain-content}
 use Rattle.world_laws.proofs.Described.{plain-guards, plain-single, planned, surrounds}
-use Rattle.verifier.specs.Checked.{Checked}
 use Rattle.machine.specs.declared.request.Request.{Request}
 use Rattle.machine.specs.declared.request.Request.TheVariants as requests
 use Rattle.machine.specs.declared.request.Local.TheVariants as locals
-use Rattle.machine.specs.Requests.{request_of, resumed_view, kernel_request}
-use Rattle.machine.specs.Standing.{MayGive, IsRunOfChecked}
-use Rattle.machine.specs.Steps.{CanStep, TakesStep}
 use Rattle.shared_runs.specs.Lone.{StandsAlone, loaded_alone}
 use Rattle.shared_runs.specs.Words.{loaded_of}
 use Rattle.shared_runs.proofs.SectionCalls.{IsSectionCall, asks_section}

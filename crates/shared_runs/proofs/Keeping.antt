@@ -1,12 +1,9 @@
 -- A map table keeps what every table of shared runs keeps.
-use Rattle.std.proofs.Common.{◌≡◌, ℕ, ◌≤◌, ◌*◌, ◌∙◌, sym, ap, arith, List, [], ◌∷◌, ◌++◌, inl, inr, refl, Option}
-use Rattle.map_table_laws.specs.declared.moves.Move.{Move}
-use Rattle.map_table_laws.specs.declared.moves.Move.TheVariants.{Open, Close, Learn, Load, Store, Put, Double, Scan}
-use Rattle.map_table_laws.specs.History.{inside, Holds}
-use Rattle.table_words.specs.declared.view.TableShape.{TableShape}
-use Rattle.map_table.specs.Held.{IsSized}
+use Rattle.bpf_model.proofs.Prelude.{◌≡◌, ℕ, ◌≤◌, ◌*◌, ◌∙◌, sym, ap, arith, List, [], ◌∷◌, ◌++◌, inl, inr, refl, Option}
+use Rattle.map_table_laws.proofs.Prelude.{inside, Holds}
+use Rattle.map_table.proofs.Prelude.{Move, Open, Close, Learn, Load, Store, Put, Double, Scan, TableShape, IsSized}
+use Rattle.world_laws.proofs.Prelude.{regions}
 use Rattle.map_table.proofs.Lookups.{only_holds, only_inside, found_holds}
-use Rattle.world_laws.specs.Around.{regions}
 use Rattle.shared_runs.specs.Tables.{IsSmall, IsTable}
 use Rattle.shared_runs.specs.declared.maps.named_map.NamedMap.{NamedMap}
 use Rattle.shared_runs.specs.Named.{key_words_in, named_table_of}

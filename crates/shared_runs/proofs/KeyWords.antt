@@ -1,9 +1,6 @@
 -- The words of a key, one after another.
-use Rattle.std.proofs.Common.{◌≡◌, ℕ, zero, suc, ◌+◌, ◌*◌, ◌<◌, [], ◌∷◌, inl, inr, sym, ap, subst, ◌∙◌, arith, List, Option, Some, length}
-use Rattle.std.specs.Prelude.{slice_get, slice_index, slice_set}
-use Rattle.std.proofs.lemmas.Bool.{cases_eq}
-use Rattle.std.proofs.lemmas.List.{get_or-set_other, get_or-set_same}
-use Rattle.bpf_model.specs.Access.{number_at}
+use Rattle.bpf_model.proofs.Prelude.{◌≡◌, ℕ, zero, suc, ◌+◌, ◌*◌, ◌<◌, [], ◌∷◌, inl, inr, sym, ap, subst, ◌∙◌, arith, List, Option, Some, length, slice_get}
+use Rattle.bpf_model.proofs.Prelude.{slice_index, slice_set, cases_eq, get_or-set_other, get_or-set_same, number_at}
 use Rattle.shared_runs.specs.MapTables.{AreBytesOf}
 
 -- one more word was written

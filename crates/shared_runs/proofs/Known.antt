@@ -1,15 +1,10 @@
 -- What every lawful history says of its readers.
-use Rattle.std.proofs.Common.{◌≡◌, ℕ, ◌<◌, refl, sym, ◌∙◌, subst, arith, List, ◌∷◌, ◌++◌, inl, inr, ⊎_elim, Some, None}
-use Rattle.map_table_laws.specs.declared.moves.Move.{Move}
-use Rattle.map_table_laws.specs.declared.moves.Move.TheVariants.{Open, Close, Learn, Load, Store, Put, Double, Scan}
-use Rattle.map_table_laws.specs.Layout.{Layout}
-use Rattle.map_table_laws.specs.History.{moves_of, Holds, IsLawful, MayDo}
-use Rattle.map_table_laws.specs.Lookups.{AnswersLookup, OnlySearches}
+use Rattle.bpf_model.proofs.Prelude.{◌≡◌, ℕ, ◌<◌, refl, sym, ◌∙◌, subst, arith, List, ◌∷◌, ◌++◌, inl, inr, ⊎_elim, Some, None}
+use Rattle.map_table_laws.proofs.Prelude.{Layout, moves_of, Holds, IsLawful, MayDo, AnswersLookup, OnlySearches}
+use Rattle.map_table.proofs.Prelude.{Move, Open, Close, Learn, Load, Store, Put, Double, Scan, View, layout_of}
 use Rattle.map_table_laws.proofs.Moments.{lawful_early, stays_found}
 use Rattle.map_table_laws.proofs.Hits.{hit_linked}
 use Rattle.map_table_laws.proofs.Owning.{own_word}
-use Rattle.table_words.specs.declared.view.View.{View}
-use Rattle.map_table.specs.Hashes.{layout_of}
 use Rattle.shared_runs.specs.MapRuns.{HasFound, HasHeld, HasMet, HasOwn, HasWhole, Touches}
 use Rattle.map_table_laws.proofs.Whole.{values_stay}
 

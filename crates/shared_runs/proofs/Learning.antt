@@ -1,48 +1,21 @@
 -- What the plan says of a run among the elements alone that it has learnt in the section that is open, and that a step keeps it so.
-use Rattle.std.proofs.Common.{◌≡◌, ℕ, ◌+◌, ◌^◌, ◌<◌, ◌≤◌, ◌⊎◌, inl, inr, refl, sym, ap, subst, ◌∙◌, arith, List, [], ◌∷◌}
-use Rattle.std.proofs.Common.{length, map, Option, Some, None, Bool, true, false}
-use Rattle.std.specs.Prelude.{slice_get, slice_set, ℤ, pos, ◌==◌, if◌then◌else◌}
-use Rattle.std.proofs.lemmas.Option.{same_Some, slice_get_within}
-use Rattle.std.proofs.lemmas.Bool.{false≢true, eq-eqb, eqb-true, ne_eqb}
-use Rattle.bpf_model.specs.declared.call.Helper.TheVariants.{Lookup}
-use Rattle.bpf_model.specs.declared.insn.Insn.{Insn}
-use Rattle.bpf_model.specs.declared.event.Answer.TheVariants.{Moved}
-use Rattle.bpf_model.specs.declared.limits.MapKind.{MapKind}
-use Rattle.bpf_model.specs.declared.limits.MapKind.TheVariants.{Array, Hash}
-use Rattle.bpf_model.specs.declared.limits.MapShape.{MapShape}
-use Rattle.bpf_model.specs.declared.value.Value.{Value}
-use Rattle.bpf_model.specs.declared.value.Value.TheVariants.{Nothing, Number, Pointer}
-use Rattle.bpf_model.specs.declared.value.Reference.TheVariants.{Elem}
-use Rattle.bpf_model.specs.Access.{region_offset, number_at}
-use Rattle.model_laws.specs.Consistent.{IsSingle}
-use Rattle.bpf_model.specs.Element.{Element, Linked, Unlinked, IsLinkedAt, IsAbsent, accessible, changed, is_reclaimed, set_to, with_value}
-use Rattle.bpf_model.specs.Real.{AreBytes}
-use Rattle.bpf_model.specs.Machine.{Run, environment, locked, moves, section_of, unlocked}
-use Rattle.bpf_model.specs.MachineStep.{InsnStep}
-use Rattle.bpf_model.specs.Element.{loaded_from, stored_in}
-use Rattle.bpf_model.specs.Access.{with_bytes}
-use Rattle.bpf_model.specs.MapState.{MapState, Store, new_map}
-use Rattle.bpf_model.specs.Request.{Request, LoadElement, StoreElement, CallHelper, Enter, Leave, MapArgument}
-use Rattle.bpf_model.specs.Request.{BytesArgument, ServesRequest, asks, bound_shape, resumed}
-use Rattle.bpf_model.specs.MachineStep.{StepsAlone, Resumes}
-use Rattle.bpf_model.specs.Section.{Section}
-use Rattle.bpf_model.specs.Step.{State, Moves, after, insn_at}
-use Rattle.bpf_model.specs.Value.{◌>>=◌}
-use Rattle.bpf_model.proofs.Bytes.{length-with_bytes}
-use Rattle.bpf_model.proofs.Lists.{get-below, get-map, get-set_cases}
-use Rattle.std.proofs.lemmas.List.{length-map, length-replicate}
+use Rattle.bpf_model.proofs.Prelude.{◌≡◌, ℕ, ◌+◌, ◌^◌, ◌<◌, ◌≤◌, ◌⊎◌, inl, inr, refl, sym, ap, subst, ◌∙◌, arith, List, [], ◌∷◌, length, map, Option, Some}
+use Rattle.bpf_model.proofs.Prelude.{None, Bool, true, false, slice_get, slice_set, ℤ, pos, ◌==◌, if◌then◌else◌, same_Some, slice_get_within, false≢true}
+use Rattle.bpf_model.proofs.Prelude.{eq-eqb, eqb-true, ne_eqb, region_offset, number_at, Element, Linked, Unlinked, IsLinkedAt, IsAbsent, accessible, changed}
+use Rattle.bpf_model.proofs.Prelude.{is_reclaimed, set_to, with_value, AreBytes, Run, environment, locked, moves, section_of, unlocked, InsnStep, loaded_from}
+use Rattle.bpf_model.proofs.Prelude.{stored_in, with_bytes, MapState, Store, new_map, Request, LoadElement, StoreElement, CallHelper, Enter, Leave}
+use Rattle.bpf_model.proofs.Prelude.{MapArgument, BytesArgument, ServesRequest, asks, bound_shape, resumed, StepsAlone, Resumes, Section, State, Moves, after}
+use Rattle.bpf_model.proofs.Prelude.{insn_at, ◌>>=◌, length-with_bytes, get-below, get-map, get-set_cases, length-map, length-replicate}
+use Rattle.model_laws.proofs.Prelude.{Lookup, Insn, Moved, MapKind, Array, Hash, MapShape, Value, Nothing, Number, Pointer, Elem, IsSingle}
+use Rattle.plan_laws.proofs.Prelude.{scene_of, IsArrayMap, IsGuarded, Plan, IsClosed, IsPlanned, IsPlannedAfter, StaysKept, is_array_in}
+use Rattle.world_laws.proofs.Prelude.{map_of, region_of, regions, element_in_region, key_length, value_length, elements_by, births, store_of, IsDescribed}
 use Rattle.model_laws.proofs.Computations.{first-step}
-use Rattle.plan_laws.specs.Describes.{scene_of, IsArrayMap, IsGuarded}
-use Rattle.plan_laws.specs.Verified.{Plan, IsClosed, IsPlanned, IsPlannedAfter, StaysKept}
-use Rattle.plan_laws.specs.Effects.{is_array_in}
 use Rattle.plan_laws.proofs.Arrays.{array-there, kind-there}
 use Rattle.plan_laws.proofs.Elements.{offset_some, with-bytes}
 use Rattle.plan_laws.proofs.Kept.{Keeps, describes-kept}
-use Rattle.world_laws.specs.Around.{map_of, region_of, regions, element_in_region, key_length, value_length, elements_by, births, store_of}
-use Rattle.world_laws.specs.Described.{IsDescribed}
 use Rattle.world_laws.proofs.StandingBytes.{number-back}
-use Rattle.world_laws.proofs.Contents.{get-by, by-below, by-is, IsContent, zero-bytes, single-one, Guards, keeps-by}
-use Rattle.world_laws.proofs.Contents.{keeps-list, changed_at, changed-here, changed-all, linked-at, touch}
+use Rattle.world_laws.proofs.Contents.{get-by, by-below, by-is, IsContent, zero-bytes, single-one, Guards, keeps-by, keeps-list, changed_at, changed-here}
+use Rattle.world_laws.proofs.Contents.{changed-all, linked-at, touch}
 use Rattle.world_laws.proofs.Described.{surrounds}
 use Rattle.shared_runs.specs.Learnt.{learnt_element, learnt_elements, life_of}
 

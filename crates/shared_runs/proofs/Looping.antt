@@ -1,23 +1,14 @@
 -- A shared run that is stepped in a loop: each step of its course, and each reply, takes its seat further.
-use Rattle.std.proofs.Common.{◌≡◌, ℕ, ◌<◌, ◌-◌, refl, sym, ap, subst, arith, List, [], Some, length}
-use Rattle.bpf_model.specs.declared.insn.Insn.{Insn}
-use Rattle.bpf_model.specs.declared.limits.TheConstants.{FRAME_BYTES}
-use Rattle.bpf_model.specs.Real.{AreBytes}
-use Rattle.bpf_model.specs.Step.{insn_at}
-use Rattle.bpf_model.specs.View.{RunView}
-use Rattle.model_laws.specs.Reactions.{fresh_view}
-use Rattle.verifier.specs.Checked.{Checked}
-use Rattle.verifier.specs.Verdict.{IsJustified}
+use Rattle.bpf_model.proofs.Prelude.{◌≡◌, ℕ, ◌<◌, ◌-◌, refl, sym, ap, subst, arith, List, [], Some, length, AreBytes, insn_at, RunView}
+use Rattle.machine.proofs.Prelude.{IsOn, view_of, words_of, resumed_view, Awaits, IsReplyTo, IsRunOfChecked, TakesStep, HasFreshRegisters, IsFreshWorkspace}
+use Rattle.model_laws.proofs.Prelude.{Insn, FRAME_BYTES, fresh_view}
+use Rattle.verifier.proofs.Prelude.{Checked, IsJustified}
 use Rattle.machine.specs.declared.course.Course.{Course}
 use Rattle.machine.specs.declared.request.Local.TheVariants.{Exit, Moved, Shared}
 use Rattle.machine.specs.declared.request.Request.{Request}
 use Rattle.machine.specs.declared.workspace.Workspace.{Workspace}
-use Rattle.machine.specs.Courses.{IsOn, view_of, words_after, words_of}
-use Rattle.machine.specs.Requests.{resumed_view}
+use Rattle.machine.specs.Courses.{words_after}
 use Rattle.machine.specs.RunWords.{IsAt as StandsAt}
-use Rattle.machine.specs.Standing.{Awaits, IsReplyTo, IsRunOfChecked}
-use Rattle.machine.specs.Steps.{TakesStep}
-use Rattle.machine.specs.Workspaces.{HasFreshRegisters, IsFreshWorkspace}
 use Rattle.machine.proofs.Coursing.{is_at}
 use Rattle.shared_runs.specs.Running.{HasComeTo, RunsOver}
 use Rattle.shared_runs.specs.Serving.{IsServable, Serves, asking}

@@ -1,31 +1,18 @@
 -- What the loop of a run keeps.
-use Rattle.std.proofs.Common.{◌≡◌, ℕ, ◌+◌, ◌-◌, ◌<◌, List, length, Option, Some, None, refl, sym, ap, subst, ◌∙◌, arith}
-use Rattle.std.specs.Prelude.{take}
-use Rattle.std.proofs.lemmas.Option.{same_Some, slice_get_within}
-use Rattle.bpf_model.specs.declared.limits.TheConstants.{MAX_SLOTS}
-use Rattle.bpf_model.specs.declared.call.KernelFunction.{KernelFunction}
-use Rattle.bpf_model.specs.declared.call.KernelFunction.TheVariants.{ReadLock, ReadUnlock}
-use Rattle.bpf_model.specs.declared.insn.Insn.{Insn}
-use Rattle.bpf_model.specs.Exit.{ExitsWith}
-use Rattle.bpf_model.specs.Step.{slot_count}
-use Rattle.bpf_model.specs.Places.{slot_total}
-use Rattle.bpf_model.specs.Step.{insn_at}
-use Rattle.bpf_model.specs.View.{RunView}
-use Rattle.model_laws.specs.Reactions.{fresh_view}
+use Rattle.bpf_model.proofs.Prelude.{◌≡◌, ℕ, ◌+◌, ◌-◌, ◌<◌, List, length, Option, Some, None, refl, sym, ap, subst, ◌∙◌, arith, take, same_Some}
+use Rattle.bpf_model.proofs.Prelude.{slice_get_within, ExitsWith, slot_count, slot_total, insn_at, RunView}
+use Rattle.machine.proofs.Prelude.{request_of, entered_view, resumed_view, run_words, IsLocalStep, TakesStep, CanDo, CanGoOn, DoesAt, HasFreshRegisters}
+use Rattle.machine.proofs.Prelude.{HasMoved, IsMove, index_after, moved_on, not_yet, once_more, told, view_after, view_at}
+use Rattle.model_laws.proofs.Prelude.{MAX_SLOTS, KernelFunction, ReadLock, ReadUnlock, Insn, fresh_view}
+use Rattle.verifier.proofs.Prelude.{Checked, IsJustified}
 use Rattle.world_laws.specs.Local as laws
-use Rattle.verifier.specs.Checked.{Checked}
-use Rattle.verifier.specs.Verdict.{IsJustified}
 use Rattle.verifier.proofs.Edges.{length_slots}
 use Rattle.machine.specs.declared.request.Request.{Request}
 use Rattle.machine.specs.declared.request.Next.{Next}
 use Rattle.machine.specs.declared.request.Next.TheVariants.{At, Exit, On, Shared}
 use Rattle.machine.specs.declared.step.Halt.{Halt}
 use Rattle.machine.specs.declared.workspace.Workspace.{Workspace}
-use Rattle.machine.specs.Requests.{request_of, entered_view, resumed_view}
-use Rattle.machine.specs.RunWords.{run_words}
-use Rattle.machine.specs.Steps.{IsLocalStep, TakesStep}
-use Rattle.machine.specs.Workspaces.{CanDo, CanGoOn, DoesAt, HasFreshRegisters, HasGoneOn, HasMoved, IsMove}
-use Rattle.machine.specs.Workspaces.{index_after, moved_on, not_yet, once_more, told, view_after, view_at}
+use Rattle.machine.specs.Workspaces.{HasGoneOn}
 use Rattle.machine.proofs.Places.{insn_there, next_place}
 use Rattle.machine.proofs.Serving.{can_do}
 use Rattle.shared_runs.specs.Lone.{StandsAlone, loaded_alone}

@@ -1,21 +1,15 @@
 -- The table's calls are the moves of its seats, and a run leaves a seat that is ready.
-use Rattle.std.proofs.Common.{◌≡◌, ℕ, ◌+◌, ◌^◌, ◌<◌, ap, ◌∙◌, subst, arith, List}
-use Rattle.table_words.specs.declared.view.View.{View}
-use Rattle.map_table.specs.Values.{first_of}
-use Rattle.map_table.specs.Held.{Goes, Holder, IsKnown, IsReady, IsSized, TableView}
-use Rattle.map_table_laws.specs.History.{inside, IsReader}
-use Rattle.table_words.specs.declared.view.TableShape.{TableShape}
-use Rattle.map_table.specs.Hashes.{layout_of}
-use Rattle.map_table.specs.Law.{width_of}
+use Rattle.bpf_model.proofs.Prelude.{◌≡◌, ℕ, ◌+◌, ◌^◌, ◌<◌, ap, ◌∙◌, subst, arith, List}
+use Rattle.map_table_laws.proofs.Prelude.{inside, IsReader}
+use Rattle.map_table.proofs.Prelude.{View, first_of, Goes, Holder, IsKnown, IsReady, IsSized, TableView, TableShape, layout_of, width_of, Move}
+use Rattle.verifier.proofs.Prelude.{Checked}
 use Rattle.map_table.proofs.Valued.{few_words, in_element}
 use Rattle.map_table.proofs.Going.{goes_known, goes_mine, goes_none, goes_then}
-use Rattle.verifier.specs.Checked.{Checked}
 use Rattle.shared_runs.specs.Tables.{AreSteps}
 use Rattle.shared_runs.specs.MapRuns.{RunsShared}
 use Rattle.shared_runs.specs.MapTables.{table_of}
 use Rattle.shared_runs.specs.declared.maps.named_map.NamedMap.{NamedMap}
 use Rattle.shared_runs.specs.Named.{named_table_of}
-use Rattle.map_table_laws.specs.declared.moves.Move.{Move}
 
 -- a seat at a table whose value begins at this place
 abbrev pub Stands : TableView → ℕ → Holder → Type 0

@@ -1,18 +1,11 @@
 -- How far a seat has come with a shared run: each step of the run's words takes it further.
-use Rattle.std.proofs.Common.{◌≡◌, ℕ, ◌+◌, ◌<◌, ap, ◌∙◌, List, [], ◌++◌, Some, length}
-use Rattle.bpf_model.specs.declared.insn.Insn.{Insn}
-use Rattle.bpf_model.specs.declared.limits.TheConstants.{FRAME_BYTES}
-use Rattle.bpf_model.specs.Real.{AreBytes}
-use Rattle.bpf_model.specs.Step.{insn_at}
-use Rattle.model_laws.specs.Reactions.{fresh_view}
-use Rattle.verifier.specs.Checked.{Checked}
-use Rattle.verifier.specs.Verdict.{IsJustified}
+use Rattle.bpf_model.proofs.Prelude.{◌≡◌, ℕ, ◌+◌, ◌<◌, ap, ◌∙◌, List, [], ◌++◌, Some, length, AreBytes, insn_at}
+use Rattle.machine.proofs.Prelude.{resumed_view, RunWords, Awaits, IsReplyTo, IsValidRun, TakesStep}
+use Rattle.model_laws.proofs.Prelude.{Insn, FRAME_BYTES, fresh_view}
+use Rattle.verifier.proofs.Prelude.{Checked, IsJustified}
 use Rattle.machine.specs.declared.request.Request.{Request}
 use Rattle.machine.specs.declared.request.Local.TheVariants.{Exit, Moved, Shared}
-use Rattle.machine.specs.Requests.{resumed_view}
-use Rattle.machine.specs.RunWords.{IsAt as StandsAt, RunWords}
-use Rattle.machine.specs.Standing.{Awaits, IsReplyTo, IsValidRun}
-use Rattle.machine.specs.Steps.{TakesStep}
+use Rattle.machine.specs.RunWords.{IsAt as StandsAt}
 use Rattle.shared_runs.specs.Running.{HasComeTo, RunsOver}
 use Rattle.shared_runs.specs.Serving.{IsServable, Serves}
 use Rattle.shared_runs.specs.Sharing.{flag_of}

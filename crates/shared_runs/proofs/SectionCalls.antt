@@ -1,28 +1,12 @@
 -- A run that refers to its own context and frame alone can ask for a section, and for nothing else.
-use Rattle.std.proofs.Common.{◌≡◌, ℕ, List, [], ◌∷◌, Option, Some, None, Bool, true, false, refl, ℤ}
-use Rattle.std.specs.Prelude.{◌==◌, if◌then◌else◌}
-use Rattle.std.proofs.lemmas.Option.{none-some, same_Some}
-use Rattle.bpf_model.specs.declared.call.Helper.{Helper}
+use Rattle.bpf_model.proofs.Prelude.{◌≡◌, ℕ, List, [], ◌∷◌, Option, Some, None, Bool, true, false, refl, ℤ, ◌==◌, if◌then◌else◌, none-some, same_Some}
+use Rattle.bpf_model.proofs.Prelude.{byte_count, unsigned_width, helper_of, kernel_function_of, operand_value, Argument, MapArgument, Request, argument_of}
+use Rattle.bpf_model.proofs.Prelude.{arguments_of, asks, load_request, named_map, section_request, signature_of, store_request, CallHelper, State, ◌>>=◌}
+use Rattle.bpf_model.proofs.Prelude.{reference}
+use Rattle.model_laws.proofs.Prelude.{Helper, KernelFunction, Insn, Call, Load, LoadSigned, Store, MapShape, Value, Nothing, Number, Pointer, Ctx, Frame}
+use Rattle.model_laws.proofs.Prelude.{MapRef, Elem, HoldsState, HoldsValue, AnyNumber, KeyOfMap, MapOfProgram, ValueOfMap, ArgumentKind, IsOwn}
 use Rattle.bpf_model.specs.declared.call.Helper.TheVariants as helpers
-use Rattle.bpf_model.specs.declared.call.KernelFunction.{KernelFunction}
 use Rattle.bpf_model.specs.declared.insn.CallKind.TheVariants as kinds
-use Rattle.bpf_model.specs.declared.insn.Insn.{Insn}
-use Rattle.bpf_model.specs.declared.insn.Insn.TheVariants.{Call, Load, LoadSigned, Store}
-use Rattle.bpf_model.specs.declared.limits.MapShape.{MapShape}
-use Rattle.bpf_model.specs.declared.value.Value.{Value}
-use Rattle.bpf_model.specs.declared.value.Value.TheVariants.{Nothing, Number, Pointer}
-use Rattle.bpf_model.specs.declared.value.Reference.TheVariants.{Ctx, Frame, MapRef, Elem}
-use Rattle.bpf_model.specs.Access.{byte_count, unsigned_width}
-use Rattle.bpf_model.specs.Call.{helper_of, kernel_function_of}
-use Rattle.model_laws.specs.Holds.{HoldsState, HoldsValue}
-use Rattle.bpf_model.specs.Operand.{operand_value}
-use Rattle.bpf_model.specs.declared.call.ArgumentKind.TheVariants.{AnyNumber, KeyOfMap, MapOfProgram, ValueOfMap}
-use Rattle.bpf_model.specs.Request.{Argument, MapArgument, Request, argument_of, arguments_of, asks, load_request}
-use Rattle.bpf_model.specs.Request.{named_map, section_request, signature_of, store_request, CallHelper}
-use Rattle.bpf_model.specs.declared.call.ArgumentKind.{ArgumentKind}
-use Rattle.bpf_model.specs.Step.{State}
-use Rattle.bpf_model.specs.Value.{◌>>=◌, reference}
-use Rattle.model_laws.specs.Alone.{IsOwn}
 use Rattle.model_laws.proofs.Computations.{first-step}
 
 -- The instruction is a lock or an unlock, and that is what it asks.

@@ -1,18 +1,11 @@
 -- What a seat does for a shared run serves it.
-use Rattle.std.proofs.Common.{◌≡◌, ◌⊎◌, ℕ, ◌+◌, ◌*◌, ◌/◌, ◌%◌, ◌^◌, ◌<◌, ◌≤◌, inl, inr, refl, sym, subst, arith}
-use Rattle.std.proofs.Common.{List, [], ◌∷◌, ◌++◌, Option, Some, None, ℤ}
-use Rattle.std.specs.Prelude.{pos, ◌+ℤ◌}
-use Rattle.bpf_model.specs.declared.call.Helper.TheVariants.{Lookup}
-use Rattle.bpf_model.specs.declared.opcode.Width.{Width}
-use Rattle.bpf_model.specs.Access.{byte_count}
-use Rattle.bpf_model.specs.View.{RunView}
-use Rattle.bpf_model.specs.Word.{most_map_slots, slot_base}
-use Rattle.world_laws.specs.Standing.{IsSlotWord}
-use Rattle.world_laws.specs.Calling.{bytes_in, found_word}
+use Rattle.bpf_model.proofs.Prelude.{◌≡◌, ◌⊎◌, ℕ, ◌+◌, ◌*◌, ◌/◌, ◌%◌, ◌^◌, ◌<◌, ◌≤◌, inl, inr, refl, sym, subst, arith, List, [], ◌∷◌, ◌++◌, Option, Some}
+use Rattle.bpf_model.proofs.Prelude.{None, ℤ, pos, ◌+ℤ◌, byte_count, RunView, most_map_slots, slot_base}
+use Rattle.machine.proofs.Prelude.{MayGive}
+use Rattle.model_laws.proofs.Prelude.{Lookup, Width}
+use Rattle.world_laws.proofs.Prelude.{IsSlotWord, bytes_in, found_word, regions}
 use Rattle.machine.specs.declared.request.Request.{Request}
 use Rattle.machine.specs.declared.request.Request.TheVariants as requests
-use Rattle.machine.specs.Standing.{MayGive}
-use Rattle.world_laws.specs.Around.{regions}
 use Rattle.shared_runs.specs.Tables.{Table, IsTable, IsSmall}
 use Rattle.shared_runs.specs.Serving.{CanAnswer, GoesOnWith, IsServable, LeadsToWord, Serves, map_named}
 use Rattle.shared_runs.specs.SharedRuns.{closing, opening}

@@ -1,27 +1,19 @@
 -- A run that each plan of its program shows: its next step goes on by itself, or ends it, or asks.
-use Rattle.std.proofs.Common.{◌≡◌, ℕ, [], refl, sym, ap, subst, ◌∙◌, Option, Some}
-use Rattle.std.specs.Prelude.{slice_get}
-use Rattle.bpf_model.specs.declared.insn.Insn.{Insn}
-use Rattle.bpf_model.specs.declared.limits.MapShape.{MapShape}
-use Rattle.bpf_model.specs.Machine.{Run, environment, moves as moves_run}
-use Rattle.bpf_model.specs.Request.{Request as Asked, asks as asks_of, bound_shape}
-use Rattle.bpf_model.specs.Spelling.{FitsInsn}
-use Rattle.bpf_model.specs.Step.{Exits, Moves, Outcome, State, after as after_insn, insn_at}
-use Rattle.bpf_model.specs.View.{RunView}
-use Rattle.plan_laws.specs.Verified.{IsClosed, IsVerified, Plan}
-use Rattle.world_laws.specs.Around.{store_of}
-use Rattle.world_laws.specs.Described.{IsShownBy}
+use Rattle.bpf_model.proofs.Prelude.{◌≡◌, ℕ, [], refl, sym, ap, subst, ◌∙◌, Option, Some, slice_get, Run, environment, bound_shape, FitsInsn, Exits, Moves}
+use Rattle.bpf_model.proofs.Prelude.{Outcome, State, insn_at, RunView}
+use Rattle.machine.proofs.Prelude.{request_of, IsRunOfChecked, CanStep, IsLocalStep, TakesStep}
+use Rattle.model_laws.proofs.Prelude.{Insn, MapShape}
+use Rattle.plan_laws.proofs.Prelude.{IsClosed, IsVerified, Plan}
+use Rattle.verifier.proofs.Prelude.{Checked, IsJustified, verified_of}
+use Rattle.world_laws.proofs.Prelude.{store_of, IsShownBy, ended_view}
+use Rattle.bpf_model.specs.Machine.{moves as moves_run}
+use Rattle.bpf_model.specs.Request.{Request as Asked, asks as asks_of}
+use Rattle.bpf_model.specs.Step.{after as after_insn}
 use Rattle.world_laws.specs.Local as laws
-use Rattle.world_laws.specs.Moving.{ended_view}
 use Rattle.world_laws.proofs.Codes.{all-get}
 use Rattle.world_laws.proofs.StandingOwn.{Does, IsReadyCode}
-use Rattle.verifier.specs.Checked.{Checked}
-use Rattle.verifier.specs.Verdict.{IsJustified, verified_of}
 use Rattle.machine.specs.declared.request.Request.{Request}
 use Rattle.machine.specs.declared.request.Local.TheVariants as locals
-use Rattle.machine.specs.Requests.{request_of}
-use Rattle.machine.specs.Standing.{IsRunOfChecked}
-use Rattle.machine.specs.Steps.{CanStep, IsLocalStep, TakesStep}
 use Rattle.machine.proofs.Answering.{stands}
 use Rattle.machine.proofs.AskingSo.{AsksSo, asks-so}
 use Rattle.machine.proofs.StandingLaws.{can_step}

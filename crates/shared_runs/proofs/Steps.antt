@@ -1,30 +1,18 @@
 -- Each step of the words of a shared run is a step of the run.
-use Rattle.std.proofs.Common.{◌≡◌, ℕ, suc, ◌+◌, ◌%◌, ◌<◌, ◌≤◌, inl, inr, refl, sym, ap, subst, ◌∙◌, arith, List, [], ◌++◌, length, Option, Some, Bool, true, ℤ}
-use Rattle.std.specs.Prelude.{slice_get, pos, negsuc, ◌==◌, ◌&&◌, nat_le}
-use Rattle.std.specs.List.{range_with_len}
-use Rattle.std.proofs.Math.Path.{fun_ext}
-use Rattle.std.proofs.lemmas.Bool.{and_parts, cases_lt, eqb-true}
-use Rattle.std.proofs.lemmas.Option.{cond_some, none-some, slice_get_past}
-use Rattle.std.proofs.lemmas.List.FromFn.{length-range_with_len}
-use Rattle.bpf_model.specs.declared.insn.Insn.{Insn}
-use Rattle.bpf_model.specs.declared.limits.MapShape.{MapShape}
-use Rattle.bpf_model.specs.declared.value.Value.{Value}
-use Rattle.bpf_model.specs.Access.{region_offset}
-use Rattle.bpf_model.specs.Machine.{Loaded, Run, exits as exits_run, fresh_run, moves as moves_run}
+use Rattle.bpf_model.proofs.Prelude.{◌≡◌, ℕ, suc, ◌+◌, ◌%◌, ◌<◌, ◌≤◌, inl, inr, refl, sym, ap, subst, ◌∙◌, arith, List, [], ◌++◌, length, Option, Some, Bool}
+use Rattle.bpf_model.proofs.Prelude.{true, ℤ, slice_get, pos, negsuc, ◌==◌, ◌&&◌, nat_le, range_with_len, fun_ext, and_parts, cases_lt, eqb-true, cond_some}
+use Rattle.bpf_model.proofs.Prelude.{none-some, slice_get_past, length-range_with_len, region_offset, Loaded, Run, fresh_run, bound_shape, Resumes, Exits}
+use Rattle.bpf_model.proofs.Prelude.{Moves, insn_at, ◌>>=◌, RunView, get-below, get-map}
+use Rattle.machine.proofs.Prelude.{IsRunOfChecked, CanStep, MovesOn, TakesStep, stays}
+use Rattle.model_laws.proofs.Prelude.{Insn, MapShape, Value}
+use Rattle.verifier.proofs.Prelude.{Checked}
+use Rattle.world_laws.proofs.Prelude.{store_of, IsShownBy}
+use Rattle.bpf_model.specs.Machine.{exits as exits_run, moves as moves_run}
 use Rattle.bpf_model.specs.MapState as map_state
-use Rattle.bpf_model.specs.Request.{Request as Asked, asks as asks_of, bound_shape}
-use Rattle.bpf_model.specs.MachineStep.{Resumes}
-use Rattle.bpf_model.specs.Step.{Exits, Moves, insn_at}
-use Rattle.bpf_model.specs.Value.{◌>>=◌}
-use Rattle.bpf_model.specs.View.{RunView}
-use Rattle.bpf_model.proofs.Lists.{get-below, get-map}
-use Rattle.world_laws.specs.Around.{store_of}
-use Rattle.world_laws.specs.Described.{IsShownBy}
+use Rattle.bpf_model.specs.Request.{Request as Asked, asks as asks_of}
 use Rattle.world_laws.proofs.Contents.{get-range}
-use Rattle.verifier.specs.Checked.{Checked}
 use Rattle.machine.specs.declared.request.Local.TheVariants as locals
-use Rattle.machine.specs.Standing.{IsRunOfChecked}
-use Rattle.machine.specs.Steps.{CanStep, MovesOn, TakesStep, moves as more, stays}
+use Rattle.machine.specs.Steps.{moves as more}
 use Rattle.shared_runs.specs.Tables.{Table}
 use Rattle.shared_runs.specs.Sharing.{ExitsShared, GoesFurther, IsSharing, flag_of}
 use Rattle.shared_runs.specs.SharedRuns.{Comes, IsSharedRun, Replies, itself, shared}

@@ -1,8 +1,7 @@
 -- What stores other widths than words accesses such.
-use Rattle.std.proofs.Common.{⊎_elim, inl, inr}
-use Rattle.bpf_model.specs.declared.insn.Insn.{Insn}
-use Rattle.bpf_model.specs.declared.insn.Insn.TheVariants.{Store}
-use Rattle.verifier.specs.Checked.{Checked}
+use Rattle.bpf_model.proofs.Prelude.{⊎_elim, inl, inr}
+use Rattle.model_laws.proofs.Prelude.{Insn, Store}
+use Rattle.verifier.proofs.Prelude.{Checked}
 use Rattle.shared_runs.specs.Words.{IsOtherWidth, StoresSubWords, UsesSubWords, access_width, stored_width}
 
 stores-accesses : (i : Insn) → IsOtherWidth (stored_width i) → IsOtherWidth (access_width i)

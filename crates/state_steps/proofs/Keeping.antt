@@ -1,30 +1,14 @@
 -- What is known stays known, and what is ready is accepted.
-use Rattle.std.proofs.Common.{◌≡◌, ℕ, Some, refl, sym, ap, subst, ◌∙◌, inl, inr, ℤ, pos, Bool, true, false}
-use Rattle.std.specs.Prelude.{◌+ℤ◌, ◌⊎◌, if◌then◌else◌}
-use Rattle.std.proofs.lemmas.Bool.{cases_eq}
-use Rattle.std.proofs.lemmas.Option.{same_Some}
-use Rattle.bpf_model.specs.declared.insn.Insn.{Insn}
-use Rattle.bpf_model.specs.declared.insn.Insn.TheVariants.{Alu, Load, LoadSigned, Store}
-use Rattle.bpf_model.specs.declared.insn.AluOp.{AluOp}
-use Rattle.bpf_model.specs.declared.insn.AluOp.TheVariants.{Move}
-use Rattle.bpf_model.specs.declared.insn.Operand.{Operand}
-use Rattle.bpf_model.specs.declared.insn.Operand.TheVariants.{Register, Immediate}
-use Rattle.bpf_model.specs.declared.opcode.Size.{Size}
-use Rattle.bpf_model.specs.Frame.{is_within}
-use Rattle.model_laws.specs.Plain.{WritesRegister, WritesByte, Names, TakesByte, IsFrameAccess}
-use Rattle.bpf_model.specs.Access.{byte_count, unsigned_width, region_offset}
-use Rattle.bpf_model.specs.declared.opcode.Width.{Width}
-use Rattle.bpf_model.specs.declared.opcode.SignedWidth.{SignedWidth}
-use Rattle.bpf_model.specs.declared.limits.TheConstants.{FRAME_BYTES}
-use Rattle.effects.specs.Accesses.{ReachesFrame, ReadsBytes}
+use Rattle.bpf_model.proofs.Prelude.{◌≡◌, ℕ, Some, refl, sym, ap, subst, ◌∙◌, inl, inr, ℤ, pos, Bool, true, false, ◌+ℤ◌, ◌⊎◌, if◌then◌else◌, cases_eq}
+use Rattle.bpf_model.proofs.Prelude.{same_Some, is_within, byte_count, unsigned_width, region_offset, within}
+use Rattle.effects.proofs.Prelude.{ReachesFrame, ReadsBytes, AreNarrowed}
+use Rattle.model_laws.proofs.Prelude.{Insn, Alu, Load, LoadSigned, Store, AluOp, Move, Operand, Register, Immediate, Size, WritesRegister, WritesByte, Names}
+use Rattle.model_laws.proofs.Prelude.{TakesByte, Width, SignedWidth, FRAME_BYTES}
+use Rattle.plan_laws.proofs.Prelude.{Kind, CellKind, Num, FrameAt, ByteCell, AbsState, with_kind, with_cells, IsNumberOperand, HasNumber, AreAlike}
+use Rattle.model_laws.specs.Plain.{IsFrameAccess}
 use Rattle.scalar_domain.specs.declared.scalar.Scalar.{Scalar}
-use Rattle.plan_laws.specs.Kinds.{Kind, CellKind, Num, FrameAt, ByteCell, AbsState}
-use Rattle.plan_laws.specs.Effects.{with_kind, with_cells, IsNumberOperand, HasNumber}
-use Rattle.plan_laws.specs.Planned.{AreAlike}
 use Rattle.effects.specs.Computes.{ReadsNumber}
-use Rattle.effects.specs.Narrowing.{AreNarrowed}
 use Rattle.state_steps.specs.Facts.{Register as RegisterFact, FrameByte, FramePointer, Section, KeepsFacts, ReadsNumbers, IsReadyInsn}
-use Rattle.bpf_model.proofs.Bytes.{within}
 use Rattle.register_kinds.proofs.Setting.{set-there, set-elsewhere}
 
 pub same_keeps : (i : Insn) (a : AbsState) → ((r : ℕ) → WritesRegister i r → ⊥) → ((k : ℕ) → WritesByte i k → ⊥) → KeepsFacts i a a

@@ -1,51 +1,30 @@
 -- Parts of guarded lookups and calls that begin or end a section are accepted, and leave what the next part needs.
-use Rattle.std.proofs.Common.{◌≡◌, ℕ, ◌+◌, ◌-◌, ◌<◌, ◌≤◌, List, length, Option, Some, None, refl, sym, ap, subst, ◌∙◌}
-use Rattle.std.proofs.Common.{inl, inr, arith, ℤ, pos, Bool, true, false}
-use Rattle.std.specs.Prelude.{◌⊎◌, if◌then◌else◌, ◌+ℤ◌, slice_get, Result, IsOk}
-use Rattle.std.proofs.lemmas.Bool.{cases_eq, eq-eqb, false≢true}
-use Rattle.plan_laws.specs.Verified.{is_call}
+use Rattle.bpf_model.proofs.Prelude.{◌≡◌, ℕ, ◌+◌, ◌-◌, ◌<◌, ◌≤◌, List, length, Option, Some, None, refl, sym, ap, subst, ◌∙◌, inl, inr, arith, ℤ, pos, Bool}
+use Rattle.bpf_model.proofs.Prelude.{true, false, ◌⊎◌, if◌then◌else◌, ◌+ℤ◌, slice_get, Result, IsOk, cases_eq, eq-eqb, false≢true, helper_of}
+use Rattle.bpf_model.proofs.Prelude.{kernel_function_of, slice_get_within, region_offset}
+use Rattle.effects.proofs.Prelude.{Splits, section_fault, InsnFault, ReadsValue, IsNull, IsThere}
+use Rattle.model_laws.proofs.Prelude.{FRAME_BYTES, MapShape, Insn, Alu, Unary, LoadNumber, LoadMap, Jump, JumpLong, JumpIf, Call, Exit, Load, LoadSigned}
+use Rattle.model_laws.proofs.Prelude.{Store, AluOp, Add, Move, CallKind, ReadLock, ReadUnlock, Array, Operand, Immediate, Condition, Equal, Width}
+use Rattle.model_laws.proofs.Prelude.{SignedWidth, Size, Word64, IsValueLoad, GuardedLookup, LookupPart, FrameCopy, KeyAddress, MapLoad, LookupCall, NullTest}
+use Rattle.model_laws.proofs.Prelude.{ValueLoad, part_insn}
+use Rattle.plan_laws.proofs.Prelude.{is_call, Kind, Blank, Num, FrameAt, MapAt, ValueAt, MaybeNull, ByteCell, AbsState, with_kind, after_call, after_lock}
+use Rattle.plan_laws.proofs.Prelude.{after_unlock, left_kind, left_cell, IsWritten, HasBytes, AreAlike, origin}
+use Rattle.register_kinds.proofs.Prelude.{learnt, learnt_kind, kind_of, kind_in, state_of}
 use Rattle.register_kinds.proofs.KindLaws.{kind_is}
-use Rattle.bpf_model.specs.declared.limits.TheConstants.{FRAME_BYTES}
-use Rattle.bpf_model.specs.declared.limits.MapShape.{MapShape}
-use Rattle.bpf_model.specs.declared.insn.Insn.{Insn}
-use Rattle.bpf_model.specs.declared.insn.Insn.TheVariants.{Alu, Unary, LoadNumber, LoadMap, Jump, JumpLong, JumpIf, Call, Exit, Load, LoadSigned, Store}
-use Rattle.bpf_model.specs.declared.insn.AluOp.{AluOp}
-use Rattle.bpf_model.specs.declared.insn.AluOp.TheVariants.{Add, Move}
-use Rattle.bpf_model.specs.Call.{helper_of, kernel_function_of}
 use Rattle.bpf_model.specs.declared.call.Helper.TheVariants as helpers
-use Rattle.bpf_model.specs.declared.insn.CallKind.{CallKind}
 use Rattle.bpf_model.specs.declared.insn.CallKind.TheVariants as callee
 use Rattle.effects.proofs.CallLaws.{returned_above, left_same, left_cell_same}
-use Rattle.effects.specs.Calls.{FindsIn, Called, Splits, kernel_fault, section_fault, outcome_of}
-use Rattle.bpf_model.specs.declared.call.KernelFunction.TheVariants.{ReadLock, ReadUnlock}
-use Rattle.bpf_model.specs.declared.limits.MapKind.TheVariants.{Array}
-use Rattle.register_kinds.specs.declared.fault.InsnFault.{InsnFault}
-use Rattle.std.proofs.lemmas.Option.{slice_get_within}
-use Rattle.bpf_model.specs.declared.insn.Operand.{Operand}
-use Rattle.bpf_model.specs.declared.insn.Operand.TheVariants.{Register as RegisterOperand, Immediate}
-use Rattle.bpf_model.specs.Access.{region_offset}
-use Rattle.bpf_model.specs.declared.opcode.Condition.{Condition}
-use Rattle.bpf_model.specs.declared.opcode.Condition.TheVariants.{Equal}
-use Rattle.bpf_model.specs.declared.opcode.Width.{Width}
-use Rattle.bpf_model.specs.declared.opcode.SignedWidth.{SignedWidth}
-use Rattle.effects.specs.Accesses.{ReadsValue}
-use Rattle.register_kinds.specs.declared.learn.Lesson.TheVariants.{IsNull, IsThere}
-use Rattle.register_kinds.specs.Changes.{learnt, learnt_kind, learnt_cell}
+use Rattle.effects.specs.Calls.{FindsIn, Called, kernel_fault, outcome_of}
+use Rattle.bpf_model.specs.declared.insn.Operand.TheVariants.{Register as RegisterOperand}
+use Rattle.register_kinds.specs.Changes.{learnt_cell}
 use Rattle.state_steps.specs.Stepped.{IsEqualToNull}
-use Rattle.bpf_model.specs.declared.opcode.Size.{Size}
-use Rattle.bpf_model.specs.declared.opcode.Size.TheVariants.{Word64}
-use Rattle.model_laws.specs.PlainMaps.{IsValueLoad, GuardedLookup, LookupPart, FrameCopy, KeyAddress, MapLoad}
-use Rattle.model_laws.specs.PlainMaps.{LookupCall, NullTest, ValueLoad, part_insn, IsFitting}
+use Rattle.model_laws.specs.PlainMaps.{IsFitting}
 use Rattle.scalar_domain.specs.declared.scalar.Scalar.{Scalar}
-use Rattle.plan_laws.specs.Kinds.{Kind, Blank, Num, FrameAt, MapAt, ValueAt, MaybeNull, ByteCell, AbsState}
-use Rattle.plan_laws.specs.Effects.{with_kind, after_call, after_lock, after_unlock, left_kind, left_cell, IsWritten, HasBytes}
-use Rattle.plan_laws.specs.Planned.{AreAlike, origin}
 use Rattle.register_kinds.specs.declared.kind.RegKind.TheVariants as kinds
 use Rattle.register_kinds.specs.declared.state.AbsState.{AbsState as StateHere}
-use Rattle.register_kinds.specs.States.{kind_of, kind_in, state_of}
 use Rattle.state_steps.specs.Facts.{Register, FrameByte, FramePointer, Section}
-use Rattle.state_steps.specs.Lookups.{IsKeyWritten, Expects, Prepares, KeepsSaved, IsReadyPart, LeavesPart}
-use Rattle.state_steps.specs.Lookups.{IsReadySection, LeavesSection, IsReadyWithMaps, Serves, section_call}
+use Rattle.state_steps.specs.Lookups.{IsKeyWritten, Expects, Prepares, KeepsSaved, IsReadyPart, LeavesPart, IsReadySection, LeavesSection, IsReadyWithMaps}
+use Rattle.state_steps.specs.Lookups.{Serves, section_call}
 use Rattle.register_kinds.proofs.Setting.{set-there, set-elsewhere}
 
 -- what is ready among instructions that are no part of a lookup, and no call

@@ -1,56 +1,28 @@
 -- Steps of instructions that have one state behind them, and of conditional jumps.
-use Rattle.std.proofs.Common.{◌≡◌, ℕ, ◌<◌, ◌≤◌, List, Option, Some, None, refl, sym, ap, subst, ◌∙◌, inl, inr, ℤ, pos, Bool, true, false, Ok}
-use Rattle.std.specs.Prelude.{IfSome, if◌then◌else◌, nat_lt, ◌||◌}
-use Rattle.std.proofs.lemmas.Bool.{cases_lt, ltb-true}
-use Rattle.std.proofs.lemmas.Option.{none-some, same_Some}
-use Rattle.bpf_model.specs.declared.limits.MapShape.{MapShape}
-use Rattle.bpf_model.specs.declared.call.Helper.{Helper}
-use Rattle.bpf_model.specs.declared.insn.CallKind.{CallKind}
+use Rattle.bpf_model.proofs.Prelude.{◌≡◌, ℕ, ◌<◌, ◌≤◌, List, Option, Some, None, refl, sym, ap, subst, ◌∙◌, inl, inr, ℤ, pos, Bool, true, false, Ok, IfSome}
+use Rattle.bpf_model.proofs.Prelude.{if◌then◌else◌, nat_lt, ◌||◌, cases_lt, ltb-true, none-some, same_Some, found_value, operand_value, State}
+use Rattle.effects.proofs.Prelude.{IsNull, IsThere, AbsState, Forks, ForksOnNull, Splits, MayLookUp, is_array_of, helper_fault, section_fault, InsnFault}
+use Rattle.effects.proofs.Prelude.{OutsideSection, ComparesNumbers, RegKind}
+use Rattle.model_laws.proofs.Prelude.{MapShape, Helper, CallKind, Insn, Call, JumpIf, Operand, Register, Immediate, Condition, Equal, NotEqual, Size, Word64}
+use Rattle.model_laws.proofs.Prelude.{Value, Pointer, Elem, Names}
+use Rattle.plan_laws.proofs.Prelude.{Kind, Num, Scene, Naming, IsOf, Transfers, AreAlike}
+use Rattle.register_kinds.proofs.Prelude.{learnt, learnt_kind, kind_of, kind_in, state_of, AreBelow, kind_at}
 use Rattle.bpf_model.specs.declared.insn.CallKind.TheVariants as callee
-use Rattle.bpf_model.specs.declared.insn.Insn.{Insn}
-use Rattle.bpf_model.specs.declared.insn.Insn.TheVariants.{Call, JumpIf}
-use Rattle.bpf_model.specs.declared.insn.Operand.{Operand}
-use Rattle.bpf_model.specs.declared.insn.Operand.TheVariants.{Register, Immediate}
-use Rattle.bpf_model.specs.declared.opcode.Condition.{Condition}
-use Rattle.bpf_model.specs.declared.opcode.Condition.TheVariants.{Equal, NotEqual}
-use Rattle.bpf_model.specs.declared.opcode.Size.{Size}
-use Rattle.bpf_model.specs.declared.opcode.Size.TheVariants.{Word64}
-use Rattle.bpf_model.specs.declared.value.Value.{Value}
-use Rattle.bpf_model.specs.declared.value.Value.TheVariants.{Pointer}
-use Rattle.bpf_model.specs.declared.value.Reference.TheVariants.{Elem}
-use Rattle.bpf_model.specs.Request.{found_value}
-use Rattle.bpf_model.specs.Operand.{operand_value}
-use Rattle.model_laws.specs.Plain.{Names}
-use Rattle.bpf_model.specs.Step.{State}
 use Rattle.scalar_domain.specs.declared.scalar.Scalar.{Scalar}
-use Rattle.plan_laws.specs.Kinds.{Kind, Num, AbsState as Known}
-use Rattle.plan_laws.specs.Describes.{Scene, Naming, IsOf}
-use Rattle.plan_laws.specs.Verified.{Transfers}
-use Rattle.plan_laws.specs.Planned.{AreAlike}
+use Rattle.plan_laws.specs.Kinds.{AbsState as Known}
 use Rattle.register_kinds.specs.declared.learn.Lesson.{Lesson}
-use Rattle.register_kinds.specs.declared.learn.Lesson.TheVariants.{SectionEnds, IsNull, IsThere}
-use Rattle.register_kinds.specs.Changes.{learnt, learnt_kind}
+use Rattle.register_kinds.specs.declared.learn.Lesson.TheVariants.{SectionEnds}
 use Rattle.register_kinds.specs.declared.kind.RegKind.TheVariants as kinds
-use Rattle.register_kinds.specs.declared.state.AbsState.{AbsState}
-use Rattle.register_kinds.specs.States.{kind_of, kind_in, state_of}
-use Rattle.register_kinds.specs.Pairs.{AreBelow}
 use Rattle.effects.specs.declared.region.Region.{Region}
 use Rattle.effects.specs.declared.region.Region.TheVariants as regions
 use Rattle.effects.specs.Accesses.{IsBase}
-use Rattle.register_kinds.specs.States.{kind_at}
-use Rattle.effects.specs.Forks.{Forks, ForksOnNull}
-use Rattle.effects.specs.Calls.{Splits, MayLookUp, is_array_of, helper_fault, section_fault}
 use Rattle.effects.proofs.CallLaws.{array_of}
-use Rattle.register_kinds.specs.declared.fault.InsnFault.{InsnFault}
-use Rattle.register_kinds.specs.declared.fault.InsnFault.TheVariants.{OutsideSection}
-use Rattle.effects.specs.Narrowing.{ComparesNumbers}
 use Rattle.state_steps.specs.declared.flow.Flow.{Flow}
 use Rattle.state_steps.specs.Steps.{IsBranch, base_of, IsInRegion, Compares, IsComparable, LooksUp}
 use Rattle.state_steps.specs.Facts.{IsReadyInsn, KeepsFacts}
 use Rattle.state_steps.specs.Lookups.{Serves}
 use Rattle.state_steps.specs.Stepped.{single_flow, Stepped, ComparesWell}
 use Rattle.state_steps.specs.Floor.{KeepsInsnFloor, KeepsNumbers}
-use Rattle.register_kinds.specs.declared.kind.RegKind.{RegKind}
 
 -- a lookup reaches no memory by a register
 no-base : (i : Insn) → LooksUp i → base_of i ≡ None

@@ -1,9 +1,7 @@
 -- Slots of a new arena that are taken one after another.
-use Rattle.std.proofs.Common.{◌≡◌, ◌∙◌, ℕ, suc, ◌+◌, ◌-◌, ◌<◌, ◌≤◌, List, [], ◌∷◌, ◌++◌, length, drop, Option, Some, None, sym, ap, arith, Bool}
-use Rattle.std.specs.Prelude.{IfSome, IfNone}
-use Rattle.std.specs.List.{range_with_len}
-use Rattle.element_store.specs.State.{ArenaState, times_in, worn_at, taken, new_arena}
-use Rattle.std.proofs.lemmas.List.{length-replicate, length-set}
+use Rattle.bpf_model.proofs.Prelude.{◌≡◌, ◌∙◌, ℕ, suc, ◌+◌, ◌-◌, ◌<◌, ◌≤◌, List, [], ◌∷◌, ◌++◌, length, drop, Option, Some, None, sym, ap, arith, Bool}
+use Rattle.bpf_model.proofs.Prelude.{IfSome, IfNone, range_with_len, length-replicate, length-set}
+use Rattle.element_store.proofs.Prelude.{ArenaState, times_in, worn_at, taken, new_arena}
 use Rattle.map_kinds.proofs.Fresh.{none-worn}
 use Rattle.element_store.proofs.Fresh.{times-before}
 use Rattle.hash_index.specs.declared.commands.Command.{Command}

@@ -1,48 +1,34 @@
 -- A plain program meets no refusal but for want of memory.
-use Rattle.std.proofs.Common.{◌≡◌, ◌≢◌, ℕ, zero, suc, ◌+◌, ◌<◌, ◌≤◌, refl, sym, ◌∙◌, ap, subst, arith, inl, inr, true, false, Bool, List, length}
-use Rattle.std.specs.Prelude.{slice_get, Option, Some, None, Result, Err, ◌⊎◌, unwrap_or, IfSome, option_map, ℤ, pos, ◌+ℤ◌, ◌^◌, min, max, if◌then◌else◌}
-use Rattle.std.proofs.lemmas.Bool.{cases_lt, cases_eq}
-use Rattle.std.proofs.lemmas.Option.{none-some, same_Some}
-use Rattle.bpf_model.specs.declared.insn.Insn.{Insn}
-use Rattle.bpf_model.specs.declared.insn.Insn.TheVariants.{Alu, Unary, LoadNumber, LoadMap, Jump, JumpLong, JumpIf, Call, Exit, Load, LoadSigned, Store}
-use Rattle.bpf_model.specs.declared.limits.MapShape.{MapShape}
-use Rattle.bpf_model.specs.declared.limits.TheConstants.{FRAME_BYTES}
-use Rattle.bpf_model.specs.declared.opcode.Width.{Width}
-use Rattle.bpf_model.specs.Access.{byte_count, region_offset}
-use Rattle.bpf_model.specs.Graph.{distance, JumpsTo, GoesTo}
-use Rattle.model_laws.specs.Plain.{IsSimple, WritesRegister, WritesByte, TakesByte, WithoutByte, without_entry, without_next}
-use Rattle.model_laws.specs.PlainMaps.{lookup_call, lock_call, unlock_call, IsGuardedLookup, IsLookupPart, HasForm}
-use Rattle.model_laws.specs.PlainMaps.{InSection, section_entry, section_lock, section_unlock, section_next}
-use Rattle.model_laws.specs.PlainMaps.{LacksRegister, lacks_entry, lacks_call, lacks_next, IsPlainWithMaps}
-use Rattle.model_laws.specs.PlainMaps.{GuardedLookup, LookupPart, FrameCopy, KeyAddress, MapLoad, LookupCall, NullTest}
-use Rattle.model_laws.specs.PlainMaps.{ValueLoad, part_insn, part_slot}
-use Rattle.bpf_model.specs.Step.{slot_count}
-use Rattle.bpf_model.specs.Step.{insn_at}
-use Rattle.bpf_model.proofs.Places.{start_of-insn, starts_increase, start-insn}
-use Rattle.bpf_model.specs.Graph.{LeadsTo}
-use Rattle.bpf_model.specs.Places.{StartsAt}
-use Rattle.bpf_model.proofs.Lists.{get-below}
-use Rattle.verifier.specs.FirstPass.{Follows}
-use Rattle.verifier.specs.Indexes.{HasTargets, IsTarget}
+use Rattle.bpf_model.proofs.Prelude.{◌≡◌, ◌≢◌, ℕ, zero, suc, ◌+◌, ◌<◌, ◌≤◌, refl, sym, ◌∙◌, ap, subst, arith, inl, inr, true, false, Bool, List, length}
+use Rattle.bpf_model.proofs.Prelude.{slice_get, Option, Some, None, Result, Err, ◌⊎◌, unwrap_or, IfSome, option_map, ℤ, pos, ◌+ℤ◌, ◌^◌, min, max}
+use Rattle.bpf_model.proofs.Prelude.{if◌then◌else◌, cases_lt, cases_eq, none-some, same_Some, byte_count, region_offset, distance, JumpsTo, GoesTo}
+use Rattle.bpf_model.proofs.Prelude.{slot_count, insn_at, start_of-insn, starts_increase, start-insn, LeadsTo, StartsAt, get-below}
+use Rattle.effects.proofs.Prelude.{AbsState, InsnFault}
+use Rattle.model_laws.proofs.Prelude.{Insn, Alu, Unary, LoadNumber, LoadMap, Jump, JumpLong, JumpIf, Call, Exit, Load, LoadSigned, Store, MapShape}
+use Rattle.model_laws.proofs.Prelude.{FRAME_BYTES, Width, IsSimple, WritesRegister, WritesByte, TakesByte, WithoutByte, without_entry, without_next}
+use Rattle.model_laws.proofs.Prelude.{lookup_call, lock_call, unlock_call, IsGuardedLookup, IsLookupPart, HasForm, InSection, section_entry, section_lock}
+use Rattle.model_laws.proofs.Prelude.{section_unlock, section_next, LacksRegister, lacks_entry, lacks_call, lacks_next, IsPlainWithMaps, GuardedLookup}
+use Rattle.model_laws.proofs.Prelude.{LookupPart, FrameCopy, KeyAddress, MapLoad, LookupCall, NullTest, ValueLoad, part_insn, part_slot}
+use Rattle.register_kinds.proofs.Prelude.{state_of, IsJoinedKind}
+use Rattle.verifier.proofs.Prelude.{Follows, HasTargets, IsTarget, IsInner, AreKnown, Awaited, state_in, AreSame, JoinsTo, Merged, Leads, Fell, Jumped}
+use Rattle.verifier.proofs.Prelude.{Advances, StartsFrom, refusal_of}
 use Rattle.verifier.proofs.Marking.{edge_from, first_start, target_within}
 use Rattle.plan_laws.specs.Kinds as model
-use Rattle.register_kinds.specs.declared.state.AbsState.{AbsState}
-use Rattle.register_kinds.specs.States.{state_of}
-use Rattle.register_kinds.specs.Joined.{IsJoinedKind, IsJoinedCell, AreJoined}
-use Rattle.register_kinds.specs.declared.fault.InsnFault.{InsnFault}
+use Rattle.register_kinds.specs.Joined.{IsJoinedCell, AreJoined}
 use Rattle.register_kinds.specs.declared.fault.InsnFault.TheVariants as faults
 use Rattle.effects.specs.declared.region.Region.{Region}
 use Rattle.state_steps.specs.Facts.{Fact, Register, FrameByte, FramePointer, Section, FactHolds, depth_of, Makes, IsReadyInsn, KeepsFacts}
-use Rattle.state_steps.specs.Lookups.{IsKeyWritten, Expects, KeepsSaved, IsReadyPart, LeavesPart, IsReadySection, LeavesSection, IsReadyWithMaps, section_call}
+use Rattle.state_steps.specs.Lookups.{IsKeyWritten, Expects, KeepsSaved, IsReadyPart, LeavesPart, IsReadySection, LeavesSection, IsReadyWithMaps}
+use Rattle.state_steps.specs.Lookups.{section_call}
 use Rattle.verifier.specs.declared.refusal.ProgramRefusal.{ProgramRefusal}
 use Rattle.verifier.specs.declared.refusal.ProgramRefusal.TheVariants.{Memory}
 use Rattle.verifier.specs.declared.waiting.Waiting.{Waiting}
 use Rattle.verifier.specs.declared.waiting.Waiting.TheVariants.{Nothing, Known, Differing}
-use Rattle.verifier.specs.FactsKnown.{IsInner, Knows, WithoutFact, IsExpected, IsKnown, AreKnown, CanAccept}
-use Rattle.verifier.specs.SecondPass.{Awaited, state_in, IsConflict, AreSame, JoinsTo, Merged, Leads, Fell, Jumped, Advances, StartsFrom, refusal_of}
+use Rattle.verifier.specs.FactsKnown.{Knows, WithoutFact, IsExpected, IsKnown, CanAccept}
+use Rattle.verifier.specs.SecondPass.{IsConflict}
 use Rattle.verifier.specs.Verdict.{IsAccepted}
-use Rattle.verifier.proofs.Lookups.{part_or_not, part_of_slot, part_no_byte, part_keeps, behind, falls_from}
-use Rattle.verifier.proofs.Lookups.{slot_inside, slot_behind, pass_on, part_low, part_at}
+use Rattle.verifier.proofs.Lookups.{part_or_not, part_of_slot, part_no_byte, part_keeps, behind, falls_from, slot_inside, slot_behind, pass_on, part_low}
+use Rattle.verifier.proofs.Lookups.{part_at}
 use Rattle.verifier.proofs.Plans.{falls_inside}
 
 -- what both states know the joined one knows

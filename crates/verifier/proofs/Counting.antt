@@ -1,12 +1,9 @@
 -- How many states wait.
-use Rattle.std.proofs.Common.{◌≡◌, ℕ, zero, suc, ◌+◌, ◌<◌, ◌≤◌, List, [], ◌∷◌, length, arith, ap, ◌∙◌, ◌-◌}
-use Rattle.std.specs.Prelude.{slice_index_or, slice_set, max}
-use Rattle.std.proofs.Math.Nat.{le-max_left, le-max_right, max-le}
-use Rattle.std.proofs.lemmas.List.{length-set, get_or_default, get_or-set_same}
-use Rattle.std.proofs.lemmas.List.Sums.{sum_by-cons}
+use Rattle.bpf_model.proofs.Prelude.{◌≡◌, ℕ, zero, suc, ◌+◌, ◌<◌, ◌≤◌, List, [], ◌∷◌, length, arith, ap, ◌∙◌, ◌-◌, slice_index_or, slice_set, max}
+use Rattle.bpf_model.proofs.Prelude.{le-max_left, le-max_right, max-le, length-set, get_or_default, get_or-set_same, sum_by-cons}
+use Rattle.verifier.proofs.Prelude.{occupied, states_in, AreStatesCounted}
 use Rattle.verifier.specs.declared.waiting.Waiting.{Waiting}
 use Rattle.verifier.specs.declared.waiting.Waiting.TheVariants.{Nothing, Known, Differing}
-use Rattle.verifier.specs.SecondPass.{occupied, states_in, AreStatesCounted}
 
 pub at_most_one : (w : Waiting) → occupied w ≤ 1
 at_most_one Nothing = omega arith

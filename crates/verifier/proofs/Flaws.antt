@@ -1,18 +1,13 @@
 -- A good graph has no flaw, and a forward graph is good.
-use Rattle.std.proofs.Common.{◌≡◌, ℕ, ◌+◌, ◌<◌, refl, sym, ◌∙◌, ap, ap₂, arith, inl, inr, List, cond}
-use Rattle.std.specs.Prelude.{Option, Some, None, ℤ, pos, ◌+ℤ◌}
+use Rattle.bpf_model.proofs.Prelude.{◌≡◌, ℕ, ◌+◌, ◌<◌, refl, sym, ◌∙◌, ap, ap₂, arith, inl, inr, List, cond, Option, Some, None, ℤ, pos, ◌+ℤ◌, none-some}
+use Rattle.bpf_model.proofs.Prelude.{same_Some, distance, JumpsTo, EndsWithExit, slot_total, insn_at, cases_lt, lt-leb}
+use Rattle.model_laws.proofs.Prelude.{Insn, Exit}
+use Rattle.verifier.proofs.Prelude.{missing, landing_flaw, distance_flaw, jump_flaw, JumpsWell, IsFirstBadJump, HasGraphFlaw, HasGoodGraph}
 use Rattle.std.proofs.lemmas.List.{same_from_push}
-use Rattle.std.proofs.lemmas.Option.{none-some, same_Some}
-use Rattle.bpf_model.specs.declared.insn.Insn.{Insn}
-use Rattle.bpf_model.specs.declared.insn.Insn.TheVariants.{Exit}
-use Rattle.bpf_model.specs.Graph.{distance, JumpsTo, EndsWithExit, HasForwardGraph}
-use Rattle.bpf_model.specs.Places.{slot_total}
-use Rattle.bpf_model.specs.Step.{insn_at}
+use Rattle.bpf_model.specs.Graph.{HasForwardGraph}
 use Rattle.verifier.specs.declared.graph_flaw.GraphFlaw.{GraphFlaw}
 use Rattle.verifier.specs.declared.graph_flaw.GraphFlaw.TheVariants.{JumpTarget, BackJump, FallsOff, Unreachable}
-use Rattle.verifier.specs.GraphFlaws.{missing, landing_flaw, distance_flaw, jump_flaw, JumpsWell, IsFirstBadJump}
-use Rattle.verifier.specs.GraphFlaws.{IsFirstUnreachable, IsBadEnd, HasGraphFlaw, HasGoodGraph}
-use Rattle.std.proofs.lemmas.Bool.{cases_lt, lt-leb}
+use Rattle.verifier.specs.GraphFlaws.{IsFirstUnreachable, IsBadEnd}
 
 bad_not_well : (program : List Insn) (f : GraphFlaw) (s : ℕ) → IsFirstBadJump program f s → JumpsWell program → ⊥
 bad_not_well program f s a well = (let e : None ≡ Some f = sym (well s a.insn a.at) ∙ a.bad in cc)

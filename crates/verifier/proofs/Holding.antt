@@ -1,16 +1,12 @@
 -- What waits for an instruction, taken out of the table and put back.
-use Rattle.std.proofs.Common.{◌≡◌, ◌≢◌, ℕ, suc, ◌+◌, ◌<◌, ◌≤◌, List, length, arith, refl, sym, ◌∙◌, ap, subst, inl, inr}
-use Rattle.std.specs.Prelude.{slice_index_or, slice_set, max, Some}
-use Rattle.std.proofs.Math.Nat.{le-max_left, max-le}
-use Rattle.std.proofs.lemmas.Bool.{cases_Bool, cases_eq}
-use Rattle.std.proofs.lemmas.List.{ext_get_or, length-set, get_or-set_same, get_or-set_other}
-use Rattle.bpf_model.specs.declared.insn.Insn.{Insn}
-use Rattle.bpf_model.specs.Graph.{falls}
-use Rattle.register_kinds.specs.declared.state.AbsState.{AbsState}
+use Rattle.bpf_model.proofs.Prelude.{◌≡◌, ◌≢◌, ℕ, suc, ◌+◌, ◌<◌, ◌≤◌, List, length, arith, refl, sym, ◌∙◌, ap, subst, inl, inr, slice_index_or, slice_set}
+use Rattle.bpf_model.proofs.Prelude.{max, Some, le-max_left, max-le, cases_Bool, cases_eq, length-set, get_or-set_same, get_or-set_other, falls}
+use Rattle.effects.proofs.Prelude.{AbsState}
+use Rattle.model_laws.proofs.Prelude.{Insn}
+use Rattle.verifier.proofs.Prelude.{Table, size_of, states_in, state_in, occupied, awaited, holding, Joined, Merged, Leads, Puts}
+use Rattle.std.proofs.lemmas.List.{ext_get_or}
 use Rattle.verifier.specs.declared.waiting.Waiting.{Waiting}
 use Rattle.verifier.specs.declared.waiting.Waiting.TheVariants.{Nothing}
-use Rattle.verifier.specs.SecondPass.{Table, size_of, states_in, state_in, occupied, awaited, holding, Joined, Merged, Leads}
-use Rattle.verifier.specs.Waiting.{Puts}
 use Rattle.verifier.proofs.Counting.{set_counted}
 
 pub held_there : (k : ℕ) (w : Waiting) (t : Table) → k < size_of t → awaited (holding k w t) k ≡ w

@@ -1,3 +1,4 @@
+pub mod Prelude
 pub mod Accepting
 pub mod Below
 pub mod Counting

@@ -1,27 +1,17 @@
 -- Where guarded lookups stand in a plain program, and how control goes through them.
-use Rattle.std.proofs.Common.{◌≡◌, ℕ, zero, suc, ◌+◌, ◌-◌, ◌<◌, ◌≤◌, refl, sym, ◌∙◌, ap, subst, arith, inl, inr, true, List, ℤ, pos, negsuc}
-use Rattle.std.specs.Prelude.{slice_get, Option, Some, None, ◌⊎◌}
-use Rattle.std.proofs.lemmas.Bool.{cases_lt, cases_eq}
-use Rattle.std.proofs.lemmas.Option.{none-some, same_Some}
-use Rattle.bpf_model.specs.declared.insn.Insn.{Insn}
-use Rattle.bpf_model.specs.declared.insn.Insn.TheVariants.{Alu, Unary, LoadNumber, LoadMap, Jump, JumpLong, JumpIf, Call, Exit, Load, LoadSigned, Store}
-use Rattle.bpf_model.specs.declared.insn.CallKind.TheVariants.{Helper, Kernel}
-use Rattle.bpf_model.specs.declared.limits.MapShape.{MapShape}
-use Rattle.bpf_model.specs.Graph.{falls, distance, JumpsTo, GoesTo, Reached}
-use Rattle.model_laws.specs.Plain.{WritesByte}
-use Rattle.model_laws.specs.PlainMaps.{lookup_call, IsValueLoad, IsGuardedLookup, IsLookupPart, KeepsSection, HasForm}
-use Rattle.model_laws.specs.PlainMaps.{LacksRegister, lacks_call, lacks_next, IsPlainWithMaps, GuardedLookup}
-use Rattle.model_laws.specs.PlainMaps.{LookupPart, FrameCopy, KeyAddress, MapLoad, LookupCall, NullTest, ValueLoad}
-use Rattle.model_laws.specs.PlainMaps.{part_insn, part_slot}
-use Rattle.bpf_model.specs.Step.{slot_count}
-use Rattle.bpf_model.specs.Places.{starts_from}
-use Rattle.bpf_model.specs.Step.{insn_at}
-use Rattle.bpf_model.specs.Places.{StartsAt}
-use Rattle.bpf_model.proofs.Places.{starts-next, starts_increase, starts_ordered, start-inside}
+use Rattle.bpf_model.proofs.Prelude.{◌≡◌, ℕ, zero, suc, ◌+◌, ◌-◌, ◌<◌, ◌≤◌, refl, sym, ◌∙◌, ap, subst, arith, inl, inr, true, List, ℤ, pos, negsuc, slice_get}
+use Rattle.bpf_model.proofs.Prelude.{Option, Some, None, ◌⊎◌, cases_lt, cases_eq, none-some, same_Some, falls, distance, JumpsTo, GoesTo, Reached, slot_count}
+use Rattle.bpf_model.proofs.Prelude.{starts_from, insn_at, StartsAt, starts-next, starts_increase, starts_ordered, start-inside}
+use Rattle.model_laws.proofs.Prelude.{Insn, Alu, Unary, LoadNumber, LoadMap, Jump, JumpLong, JumpIf, Call, Exit, Load, LoadSigned, Store, Kernel, MapShape}
+use Rattle.model_laws.proofs.Prelude.{WritesByte, lookup_call, IsValueLoad, IsGuardedLookup, IsLookupPart, HasForm, LacksRegister, lacks_call, lacks_next}
+use Rattle.model_laws.proofs.Prelude.{IsPlainWithMaps, GuardedLookup, LookupPart, FrameCopy, KeyAddress, MapLoad, LookupCall, NullTest, ValueLoad, part_insn}
+use Rattle.model_laws.proofs.Prelude.{part_slot}
+use Rattle.plan_laws.proofs.Prelude.{AbsState}
+use Rattle.verifier.proofs.Prelude.{IsInner}
+use Rattle.bpf_model.specs.declared.insn.CallKind.TheVariants.{Helper}
+use Rattle.model_laws.specs.PlainMaps.{KeepsSection}
 use Rattle.verifier.proofs.Edges.{index_here}
-use Rattle.plan_laws.specs.Kinds.{AbsState}
 use Rattle.state_steps.specs.Lookups.{Expects, Prepares}
-use Rattle.verifier.specs.FactsKnown.{IsInner}
 
 -- the slot behind each part
 abbrev pub step_slot : LookupPart → ℕ

@@ -1,20 +1,11 @@
 -- Edges of the jump graph by slots and by indexes, and which instructions are reached.
-use Rattle.std.proofs.Common.{◌≡◌, ℕ, suc, ◌+◌, ◌<◌, refl, sym, ◌∙◌, ap, subst, arith, inl, inr, Bool, true, List, [], ◌∷◌, length}
-use Rattle.std.specs.Prelude.{slice_get, Option, Some, None, ◌⊎◌, pos, ◌+ℤ◌, IfSome}
-use Rattle.std.proofs.lemmas.Bool.{cases_eq}
-use Rattle.std.proofs.lemmas.Option.{slice_get_within, same_Some}
-use Rattle.bpf_model.proofs.Cases.{same-pos}
-use Rattle.bpf_model.specs.declared.insn.Insn.{Insn}
-use Rattle.bpf_model.specs.Graph.{JumpsTo, GoesTo, Reached, reached_entry, reached_next}
-use Rattle.bpf_model.specs.Places.{starts_from}
-use Rattle.bpf_model.specs.Step.{slot_count}
-use Rattle.bpf_model.specs.Step.{insn_at}
-use Rattle.bpf_model.proofs.Places.{starts-next, starts_ordered, starts_apart, start_of-insn, slot_count_some, start-entry, start-insn, start-inside}
-use Rattle.bpf_model.specs.Graph.{LeadsTo}
-use Rattle.bpf_model.specs.Places.{StartsAt}
-use Rattle.bpf_model.proofs.Lists.{get-below}
-use Rattle.verifier.specs.FirstPass.{Follows, IsInsnReached, Marks}
-use Rattle.verifier.specs.Indexes.{HasTargets, IsTarget}
+use Rattle.bpf_model.proofs.Prelude.{◌≡◌, ℕ, suc, ◌+◌, ◌<◌, refl, sym, ◌∙◌, ap, subst, arith, inl, inr, Bool, true, List, [], ◌∷◌, length, slice_get, Option}
+use Rattle.bpf_model.proofs.Prelude.{Some, None, ◌⊎◌, pos, ◌+ℤ◌, IfSome, cases_eq, slice_get_within, same_Some, same-pos, JumpsTo, GoesTo, Reached}
+use Rattle.bpf_model.proofs.Prelude.{reached_entry, reached_next, starts_from, slot_count, insn_at, starts-next, starts_ordered, starts_apart, start_of-insn}
+use Rattle.bpf_model.proofs.Prelude.{slot_count_some, start-entry, start-insn, start-inside, LeadsTo, StartsAt, get-below}
+use Rattle.model_laws.proofs.Prelude.{Insn}
+use Rattle.verifier.proofs.Prelude.{Follows, IsInsnReached, HasTargets, IsTarget}
+use Rattle.verifier.specs.FirstPass.{Marks}
 use Rattle.verifier.proofs.Edges.{index_here}
 
 -- the first instruction begins at slot 0

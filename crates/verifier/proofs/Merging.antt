@@ -1,20 +1,16 @@
 -- What a join keeps in the states that wait.
-use Rattle.std.proofs.Common.{◌≡◌, ◌≢◌, ℕ, refl, sym, ◌∙◌, ap, subst, inl, inr}
-use Rattle.std.specs.Prelude.{◌⊎◌, Option, Some, None, IsSome, IfSome, option_map}
-use Rattle.effects.specs.Forks.{taken_from}
+use Rattle.bpf_model.proofs.Prelude.{◌≡◌, ◌≢◌, ℕ, refl, sym, ◌∙◌, ap, subst, inl, inr, ◌⊎◌, Option, Some, None, IsSome, IfSome, option_map, cases_eq}
+use Rattle.bpf_model.proofs.Prelude.{same_Some}
+use Rattle.effects.proofs.Prelude.{taken_from, AbsState}
+use Rattle.model_laws.proofs.Prelude.{GuardedLookup, LookupPart}
+use Rattle.plan_laws.proofs.Prelude.{Wider}
+use Rattle.register_kinds.proofs.Prelude.{state_of, AreBelow}
+use Rattle.verifier.proofs.Prelude.{Awaited, state_in, AllBelow, AreSame, JoinsTo, Joined, Merged}
 use Rattle.effects.specs.declared.forks.Taken.{Taken}
-use Rattle.std.proofs.lemmas.Bool.{cases_eq}
-use Rattle.std.proofs.lemmas.Option.{same_Some}
-use Rattle.model_laws.specs.PlainMaps.{GuardedLookup, LookupPart}
-use Rattle.plan_laws.specs.Planned.{Wider}
-use Rattle.register_kinds.specs.declared.state.AbsState.{AbsState}
-use Rattle.register_kinds.specs.States.{state_of}
-use Rattle.register_kinds.specs.Pairs.{AreBelow}
 use Rattle.state_steps.specs.Facts.{Fact, FactHolds}
 use Rattle.state_steps.specs.Lookups.{Expects}
 use Rattle.verifier.specs.declared.waiting.Waiting.{Waiting}
 use Rattle.verifier.specs.declared.waiting.Waiting.TheVariants.{Nothing, Differing}
-use Rattle.verifier.specs.SecondPass.{Awaited, state_in, AllBelow, AreSame, JoinsTo, Joined, Merged}
 
 -- the state that waits and the one that comes are both joined into the new one
 pub joined_from : (w new : Waiting) (a b c : AbsState) → w ≢ Differing → state_in w ≡ Some a → state_in new ≡ Some c →

@@ -1,36 +1,23 @@
 -- The second pass keeps a plan that each step keeps.
-use Rattle.std.proofs.Common.{◌≡◌, ◌≢◌, ℕ, zero, suc, ◌+◌, ◌<◌, ◌≤◌, refl, sym, ◌∙◌, ap, subst, arith, inl, inr, true, false, cond, List, [], ◌∷◌, ◌++◌, length}
-use Rattle.std.specs.Prelude.{slice_get, Option, Some, None, ltb, unwrap_or, option_map, IsSome, ℤ, ◌⊎◌}
-use Rattle.std.proofs.lemmas.Bool.{cases_lt, cases_eq, le-ltb, lt-ltb}
-use Rattle.std.proofs.lemmas.List.{get_or_past}
-use Rattle.std.proofs.lemmas.Option.{slice_get_within, same_Some}
-use Rattle.bpf_model.specs.declared.insn.Insn.{Insn}
-use Rattle.bpf_model.specs.declared.insn.Insn.TheVariants.{Exit}
-use Rattle.bpf_model.specs.declared.limits.MapShape.{MapShape}
-use Rattle.bpf_model.specs.Graph.{falls, distance, EndsWithExit}
-use Rattle.bpf_model.proofs.Places.{starts_apart, start_of-insn, start-insn, start-entry}
-use Rattle.bpf_model.specs.Graph.{LeadsTo}
-use Rattle.bpf_model.specs.Places.{StartsAt}
-use Rattle.verifier.specs.GraphFlaws.{HasGoodGraph}
-use Rattle.verifier.specs.FirstPass.{Follows}
-use Rattle.verifier.specs.Indexes.{HasTargets, IsTarget}
+use Rattle.bpf_model.proofs.Prelude.{◌≡◌, ◌≢◌, ℕ, zero, suc, ◌+◌, ◌<◌, ◌≤◌, refl, sym, ◌∙◌, ap, subst, arith, inl, inr, true, false, cond, List, [], ◌∷◌}
+use Rattle.bpf_model.proofs.Prelude.{◌++◌, length, slice_get, Option, Some, None, ltb, unwrap_or, option_map, IsSome, ℤ, ◌⊎◌, cases_lt, cases_eq, le-ltb}
+use Rattle.bpf_model.proofs.Prelude.{lt-ltb, get_or_past, slice_get_within, same_Some, falls, distance, EndsWithExit, starts_apart, start_of-insn, start-insn}
+use Rattle.bpf_model.proofs.Prelude.{start-entry, LeadsTo, StartsAt, get-append_cases, get-below}
+use Rattle.effects.proofs.Prelude.{AbsState, MayLookUp}
+use Rattle.model_laws.proofs.Prelude.{Insn, Exit, MapShape}
+use Rattle.plan_laws.proofs.Prelude.{Describes, Plan, Covers, entry_state}
+use Rattle.register_kinds.proofs.Prelude.{state_of}
+use Rattle.verifier.proofs.Prelude.{HasGoodGraph, Follows, HasTargets, IsTarget, Awaited, Table, size_of, awaited, state_in, planned, Leads, Fell, Jumped}
+use Rattle.verifier.proofs.Prelude.{Advances, Notes, Passed, IsPassed, DiffersAhead, HasWaiting, StartsFrom}
 use Rattle.verifier.proofs.Marking.{edge_into, reached_by, target_within}
 use Rattle.plan_laws.specs.Kinds as model
-use Rattle.plan_laws.specs.Describes.{Describes}
-use Rattle.plan_laws.specs.Verified.{Plan}
 use Rattle.plan_laws.specs.Planned as plans
-use Rattle.plan_laws.specs.Planned.{Covers, entry_state}
 use Rattle.plan_laws.proofs.Planning.{alike_wider}
-use Rattle.register_kinds.specs.declared.state.AbsState.{AbsState}
-use Rattle.register_kinds.specs.States.{state_of}
-use Rattle.effects.specs.Calls.{MayLookUp}
 use Rattle.effects.specs.declared.region.Region.{Region}
 use Rattle.verifier.specs.declared.waiting.Waiting.{Waiting}
 use Rattle.verifier.specs.declared.waiting.Waiting.TheVariants.{Nothing, Differing}
-use Rattle.verifier.specs.SecondPass.{Awaited, Table, size_of, awaited, state_in, planned, Leads, Fell, Jumped, Spreads}
-use Rattle.verifier.specs.SecondPass.{Advances, Notes, Passed, IsPassed, DiffersAhead, HasWaiting, StartsFrom}
+use Rattle.verifier.specs.SecondPass.{Spreads}
 use Rattle.verifier.proofs.Merging.{Later, same_later, Stays, AllStay, same_stay, merged_there, merged_later, merged_or}
-use Rattle.bpf_model.proofs.Lists.{get-append_cases, get-below}
 
 -- an instruction that falls through isn't the last
 exit_last : (program front : List Insn) (k : ℕ) (i : Insn) → program ≡ front ++ Exit ∷ [] →

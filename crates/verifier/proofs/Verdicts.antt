@@ -1,19 +1,11 @@
 -- What the first pass tells: a bad end, an instruction that no path reaches, or a good graph.
-use Rattle.std.proofs.Common.{◌≡◌, ℕ, zero, suc, ◌+◌, ◌-◌, ◌<◌, ◌≤◌, refl, ◌∙◌, ap, arith, List, [], ◌∷◌, ◌++◌, length}
-use Rattle.std.specs.Prelude.{slice_index_or}
-use Rattle.std.proofs.lemmas.List.Sums.{sum_by-cons}
-use Rattle.bpf_model.specs.declared.insn.Insn.{Insn}
-use Rattle.bpf_model.specs.Places.{starts_from, slot_total}
-use Rattle.bpf_model.specs.Step.{slot_count}
-use Rattle.bpf_model.specs.Spelling.{IsProgram}
-use Rattle.bpf_model.proofs.Places.{insn_of-start, starts_ordered, start-insn}
-use Rattle.bpf_model.specs.Places.{StartsAt}
-use Rattle.std.proofs.lemmas.Option.{slice_get_within}
+use Rattle.bpf_model.proofs.Prelude.{◌≡◌, ℕ, zero, suc, ◌+◌, ◌-◌, ◌<◌, ◌≤◌, refl, ◌∙◌, ap, arith, List, [], ◌∷◌, ◌++◌, length, slice_index_or, sum_by-cons}
+use Rattle.bpf_model.proofs.Prelude.{starts_from, slot_total, slot_count, IsProgram, insn_of-start, starts_ordered, start-insn, StartsAt, slice_get_within}
+use Rattle.bpf_model.proofs.Prelude.{EndsWithExit}
+use Rattle.model_laws.proofs.Prelude.{Insn}
+use Rattle.verifier.proofs.Prelude.{JumpsWell, HasGraphFlaw, HasGoodGraph, IsFirstUnreached, IsInsnReached}
 use Rattle.verifier.specs.declared.graph_flaw.GraphFlaw.TheVariants.{FallsOff, Unreachable}
-use Rattle.verifier.specs.GraphFlaws.{JumpsWell, HasGraphFlaw, HasGoodGraph}
-use Rattle.verifier.specs.FirstPass.{IsFirstUnreached, IsInsnReached}
 use Rattle.verifier.proofs.Edges.{start_read, index_here}
-use Rattle.bpf_model.specs.Graph.{EndsWithExit}
 
 -- a program that isn't empty has a last instruction, at the start of the last index
 pub record HasLast (n k : ℕ) (program : List Insn) : Type 0 where

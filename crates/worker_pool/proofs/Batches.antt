@@ -1,15 +1,13 @@
 -- What is written once a batch of jobs more is served.
-use Rattle.std.proofs.Common.{◌≡◌, ℕ, ◌+◌, ◌≤◌, ◌%◌, refl, List, ◌∷◌, [], ◌++◌, length, map, sym, ap, ◌∙◌, subst, length-append, arith}
-use Rattle.std.specs.Prelude.{Option, Some, slice_get, IfSome}
-use Rattle.std.specs.Io.KnownBytes.{Appends, Keeps}
-use Rattle.std.proofs.KnownBytes.{Appends-kept, Appends-trans}
-use Rattle.std.proofs.lemmas.List.{length-map}
-use Rattle.std.proofs.lemmas.Option.{get_or_from_slice_get, slice_get_within}
+use Rattle.bpf_model.proofs.Prelude.{◌≡◌, ℕ, ◌+◌, ◌≤◌, ◌%◌, refl, List, ◌∷◌, [], ◌++◌, length, map, sym, ap, ◌∙◌, subst, arith, Option, Some, slice_get}
+use Rattle.bpf_model.proofs.Prelude.{IfSome, Appends, Appends-trans, length-map, get_or_from_slice_get, slice_get_within, get-map}
+use Rattle.verifier.proofs.Prelude.{Checked}
+use Rattle.std.proofs.Common.{length-append}
+use Rattle.std.specs.Io.KnownBytes.{Keeps}
+use Rattle.std.proofs.KnownBytes.{Appends-kept}
 use Rattle.bpf_model.specs.declared.insn.Insn.{Insn}
 use Rattle.bpf_model.specs.declared.limits.MapShape.{MapShape}
-use Rattle.bpf_model.proofs.Lists.{get-map}
 use Rattle.shared_books.specs.Books.{WorkerView}
-use Rattle.verifier.specs.Checked.{Checked}
 use Rattle.worker_pool.specs.declared.batch.Batch.{Batch}
 use Rattle.worker_pool.specs.declared.job.Job.{Job}
 use Rattle.worker_pool.specs.declared.job.JobReport.{JobReport}

@@ -1,16 +1,14 @@
 -- What the outcomes of jobs say, where each is borne out by its trail.
-use Rattle.std.proofs.Common.{◌≡◌, ◌≢◌, ℕ, List, [], ◌∷◌, get_or, refl, ap, sym, subst, inl, inr}
-use Rattle.std.specs.Prelude.{Option, Some, None, Result, Ok, Err, slice_get}
-use Rattle.std.proofs.lemmas.Option.{none-some}
+use Rattle.bpf_model.proofs.Prelude.{◌≡◌, ◌≢◌, ℕ, List, [], ◌∷◌, get_or, refl, ap, sym, subst, inl, inr, Option, Some, None, Result, Ok, Err, slice_get}
+use Rattle.bpf_model.proofs.Prelude.{none-some, HasNoMaps}
+use Rattle.verifier.proofs.Prelude.{Checked}
+use Rattle.world_laws.proofs.Prelude.{MayExitAs, ExitsAs}
 use Rattle.bpf_model.specs.declared.insn.Insn.{Insn}
 use Rattle.bpf_model.specs.declared.limits.MapShape.{MapShape}
 use Rattle.bpf_model.specs.declared.event.Answer.{Answer}
 use Rattle.bpf_model.specs.declared.event.Answer.TheVariants as answers
-use Rattle.bpf_model.specs.Exit.{HasNoMaps}
-use Rattle.world_laws.specs.Exits.{MayExitAs, ExitsAs}
 use Rattle.shared_books.specs.declared.fault.SharedFault.{SharedFault}
 use Rattle.shared_books.specs.Receipts.{IsPossibleExit, IsOwnExit}
-use Rattle.verifier.specs.Checked.{Checked}
 use Rattle.worker_pool.specs.declared.job.Job.{Job}
 use Rattle.worker_pool.specs.declared.job.StopCause.{StopCause}
 use Rattle.worker_pool.specs.declared.job.StopCause.TheVariants.{Fault, OtherRun, Refused, SubWord}

@@ -1,6 +1,6 @@
 -- What a job gives that was not begun.
-use Rattle.std.proofs.Common.{◌≡◌, List, [], refl, sym, ap, subst, None}
-use Rattle.verifier.specs.Checked.{Checked}
+use Rattle.bpf_model.proofs.Prelude.{◌≡◌, List, [], refl, sym, ap, subst, None}
+use Rattle.verifier.proofs.Prelude.{Checked}
 use Rattle.worker_pool.specs.declared.job.Job.{Job}
 use Rattle.worker_pool.specs.declared.job.JobReport.{JobReport}
 use Rattle.worker_pool.specs.declared.job.Outcome.{Outcome}

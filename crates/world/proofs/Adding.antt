@@ -1,22 +1,14 @@
 -- A world with one program more.
-use Rattle.std.proofs.Common.{◌≡◌, ℕ, ◌<◌, List, [], ◌∷◌, ◌++◌, length, Option, inl, inr, sym, subst}
-use Rattle.bpf_model.specs.declared.limits.TheConstants.{MAX_PROGRAMS}
-use Rattle.bpf_model.specs.Machine.{Machine}
-use Rattle.bpf_model.specs.Refines.{TracksSchedule, Tracks}
-use Rattle.bpf_model.specs.Schedule.{Schedule}
-use Rattle.bpf_model.specs.View.{MapView, WorldView, shapes_of, shapes_of_maps}
-use Rattle.bpf_model.proofs.Lists.{get-append, get-append_cases}
-use Rattle.element_store.specs.Sections.{GraceState}
-use Rattle.world_laws.specs.Loads.{loads, schedule_loads, with_program}
+use Rattle.bpf_model.proofs.Prelude.{◌≡◌, ℕ, ◌<◌, List, [], ◌∷◌, ◌++◌, length, Option, inl, inr, sym, subst, Machine, TracksSchedule, Tracks, Schedule}
+use Rattle.bpf_model.proofs.Prelude.{MapView, WorldView, shapes_of, shapes_of_maps, get-append, get-append_cases}
+use Rattle.element_store.proofs.Prelude.{GraceState}
+use Rattle.machine.proofs.Prelude.{RunWords}
+use Rattle.model_laws.proofs.Prelude.{MAX_PROGRAMS}
+use Rattle.plan_laws.proofs.Prelude.{IsVerified}
+use Rattle.world.proofs.Prelude.{AreProgramsBound, IsBound, ArePartsKept, program_of}
+use Rattle.world_laws.proofs.Prelude.{loads, schedule_loads, with_program, IsWorld, IsRealProgram}
 use Rattle.world_laws.proofs.OneMore.{tracked_with_one_more, machine_with_one_more, loaded_is_world}
-use Rattle.machine.specs.RunWords.{RunWords}
-use Rattle.plan_laws.specs.Verified.{IsVerified}
-use Rattle.world_laws.specs.Invariant.{IsWorld}
-use Rattle.world_laws.specs.Typed.{IsRealProgram}
 use Rattle.world.specs.declared.kept.loaded.Loaded.{Loaded}
-use Rattle.world.specs.BoundTo.{AreProgramsBound, IsBound}
-use Rattle.world.specs.Keeping.{ArePartsKept}
-use Rattle.world.specs.Programs.{program_of}
 
 more-bound : (maps : List MapView) (programs : List Loaded) (l : Loaded) → AreProgramsBound (shapes_of_maps maps) programs →
     IsBound (shapes_of_maps maps) l → AreProgramsBound (shapes_of_maps maps) (programs ++ l ∷ [])

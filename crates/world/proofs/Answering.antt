@@ -1,15 +1,9 @@
 -- What a world answers is its reaction, to one event and to a list of events: the clauses of the laws at these values.
-use Rattle.std.proofs.Common.{◌≡◌, List, [], ◌∷◌, sym, subst}
-use Rattle.bpf_model.specs.declared.event.Event.{Event}
-use Rattle.bpf_model.specs.declared.event.Answer.{Answer}
-use Rattle.bpf_model.specs.Drain.{AnswersAsScheduled, AreScheduledAnswers}
-use Rattle.bpf_model.specs.Real.{IsReal, AreReal}
-use Rattle.bpf_model.specs.Headline.{AnswersAsMachine, AreMachineAnswers, AreNeverStuck, AllExitInTime, AreReclaimedLate}
-use Rattle.bpf_model.specs.Refines.{TracksSchedule, Tracks}
-use Rattle.bpf_model.specs.View.{WorldView}
-use Rattle.world_laws.specs.Reacting.{full_reaction, full_reactions}
+use Rattle.bpf_model.proofs.Prelude.{◌≡◌, List, [], ◌∷◌, sym, subst, AnswersAsScheduled, AreScheduledAnswers, IsReal, AreReal, AnswersAsMachine}
+use Rattle.bpf_model.proofs.Prelude.{AreMachineAnswers, AreNeverStuck, AllExitInTime, AreReclaimedLate, TracksSchedule, Tracks, WorldView}
+use Rattle.model_laws.proofs.Prelude.{Event, Answer}
+use Rattle.world_laws.proofs.Prelude.{full_reaction, full_reactions, IsWorld}
 use Rattle.world_laws.proofs.Worlds as laws
-use Rattle.world_laws.specs.Invariant.{IsWorld}
 use Rattle.world_laws.proofs.KeepingWorlds.{reaction_is_world}
 
 -- one event

@@ -1,18 +1,13 @@
 -- Exits, as they are asked for.
-use Rattle.std.proofs.Common.{◌≡◌, ◌∙◌, ℕ, zero, suc, List, [], ◌∷◌, Option, Some, None, refl, sym, ap, subst}
-use Rattle.std.specs.Prelude.{slice_get, map, option_map, IfSome, IfNone}
-use Rattle.std.proofs.lemmas.Option.{none-some, same_Some, slice_get-map}
-use Rattle.bpf_model.specs.declared.insn.Insn.{Insn}
-use Rattle.bpf_model.specs.declared.limits.MapShape.{MapShape}
+use Rattle.bpf_model.proofs.Prelude.{◌≡◌, ◌∙◌, ℕ, zero, suc, List, [], ◌∷◌, Option, Some, None, refl, sym, ap, subst, slice_get, map, option_map, IfSome}
+use Rattle.bpf_model.proofs.Prelude.{IfNone, none-some, same_Some, slice_get-map, MapView, RunView, WorldView, shapes_of_maps}
+use Rattle.element_store.proofs.Prelude.{GraceState}
+use Rattle.machine.proofs.Prelude.{RunWords}
+use Rattle.model_laws.proofs.Prelude.{Insn, MapShape}
+use Rattle.world.proofs.Prelude.{IsBound, program_of, view_of, world_of, HasNoRun}
+use Rattle.world_laws.proofs.Prelude.{HasExited}
 use Rattle.bpf_model.specs.Machine as machine
-use Rattle.bpf_model.specs.View.{MapView, RunView, WorldView, shapes_of_maps}
-use Rattle.world_laws.specs.Exited.{HasExited}
-use Rattle.element_store.specs.Sections.{GraceState}
-use Rattle.machine.specs.RunWords.{RunWords}
 use Rattle.world.specs.declared.kept.loaded.Loaded.{Loaded}
-use Rattle.world.specs.BoundTo.{IsBound}
-use Rattle.world.specs.Programs.{program_of}
-use Rattle.world.specs.Keeping.{view_of, world_of, HasNoRun}
 use Rattle.world.proofs.Slots.{Runs}
 
 -- a view that is shown is that of a run

@@ -1,7 +1,5 @@
 -- The flags of runs that are inside sections and awaited, when a run slot's flag is cleared.
-use Rattle.std.proofs.Common.{◌≡◌, ℕ, List, length, Bool, true, false, Some}
-use Rattle.std.specs.Prelude.{slice_get, slice_set}
-use Rattle.bpf_model.specs.Schedule.{still_open}
+use Rattle.bpf_model.proofs.Prelude.{◌≡◌, ℕ, List, length, Bool, true, false, Some, slice_get, slice_set, still_open}
 use Rattle.world.proofs.ServedFlags.{closed_awaits}
 use Rattle.model_laws.proofs.Listing.{still-same}
 

@@ -1,60 +1,31 @@
 -- What the world serves is a word that the access can give.
-use Rattle.std.proofs.Common.{◌≡◌, ◌∙◌, ℕ, ◌+◌, ◌^◌, ◌<◌, ◌≤◌, ◌⊎◌, List, Option, Some, None, length, inl, inr, refl, sym, ap, subst, arith}
-use Rattle.std.specs.Prelude.{slice_get, slice_index, option_map, ℤ, ◌+ℤ◌}
-use Rattle.std.specs.FinMap.{get}
-use Rattle.std.proofs.lemmas.List.{length-map}
-use Rattle.std.proofs.lemmas.Option.{none-some, same_Some}
+use Rattle.bpf_model.proofs.Prelude.{◌≡◌, ◌∙◌, ℕ, ◌+◌, ◌^◌, ◌<◌, ◌≤◌, ◌⊎◌, List, Option, Some, None, length, inl, inr, refl, sym, ap, subst, arith, slice_get}
+use Rattle.bpf_model.proofs.Prelude.{slice_index, option_map, ℤ, ◌+ℤ◌, get, length-map, none-some, same_Some, byte_count, number_at, region_offset}
+use Rattle.bpf_model.proofs.Prelude.{unsigned_width, helper_of, kernel_function_of, accessible, is_reclaimed, AreBytes, Loaded, Run, environment, moves}
+use Rattle.bpf_model.proofs.Prelude.{open_sections, InsnStep, Resumes, RunStep, StepsServed, RunRefines, CallHelper, ServesRequest, arguments_of, bound_shape}
+use Rattle.bpf_model.proofs.Prelude.{resumed, signature_of, loaded_from, AreShapes, Schedule, insn_at, ◌>>=◌, MapView, RunView, WorldView, shapes_of, WordIs}
+use Rattle.bpf_model.proofs.Prelude.{element_bases, most_map_slots, get-below, get-set_there}
+use Rattle.machine.proofs.Prelude.{IsCodeOf, request_of, entered_view, resumed_view, kernel_request, MayGive}
+use Rattle.model_laws.proofs.Prelude.{Lookup, Update, Delete, KernelFunction, ReadLock, ReadUnlock, Answer, Insn, Integer, MAX_MAPS, REGISTERS, Value}
+use Rattle.model_laws.proofs.Prelude.{Nothing, Number, Pointer, Ctx, Frame, MapRef, Elem, SignedWidth, Width, StepsByKind, element_load, IsOfKind, Location}
+use Rattle.model_laws.proofs.Prelude.{InContext, InFrame, AtMap, InSlot, Matches, Simulates}
+use Rattle.verifier.proofs.Prelude.{Checked}
+use Rattle.world.proofs.Prelude.{Request, called, called_at, called_on, element_number, CanServe, IsReply, maps_after}
+use Rattle.world_laws.proofs.Prelude.{IsSlotWord, MapsAnswer, bytes_in, found_word, returned_view, Asks, AsksNothing, local_of, bytes_of, loaded_word}
+use Rattle.world_laws.proofs.Prelude.{location_of, number_from, offset_at, moves_on, word_in, IsCall, full_reaction, AreRealPrograms, IsRunning, IsSound}
 use Rattle.bpf_model.specs.declared.call.Helper.{Helper as HelperId}
-use Rattle.bpf_model.specs.declared.call.Helper.TheVariants.{Lookup, Update, Delete}
-use Rattle.bpf_model.specs.declared.call.KernelFunction.{KernelFunction}
-use Rattle.bpf_model.specs.declared.call.KernelFunction.TheVariants.{ReadLock, ReadUnlock}
 use Rattle.bpf_model.specs.declared.event.Event.TheVariants as events
-use Rattle.bpf_model.specs.declared.event.Answer.{Answer}
 use Rattle.bpf_model.specs.declared.insn.CallKind.TheVariants as kinds
-use Rattle.bpf_model.specs.declared.insn.Insn.{Insn}
 use Rattle.bpf_model.specs.declared.insn.Insn.TheVariants as insns
-use Rattle.bpf_model.specs.declared.call.ResultKind.TheVariants.{Integer}
-use Rattle.bpf_model.specs.declared.limits.TheConstants.{MAX_MAPS, REGISTERS}
-use Rattle.bpf_model.specs.declared.value.Value.{Value}
-use Rattle.bpf_model.specs.declared.value.Value.TheVariants.{Nothing, Number, Pointer}
-use Rattle.bpf_model.specs.declared.value.Reference.TheVariants.{Ctx, Frame, MapRef, Elem}
-use Rattle.bpf_model.specs.declared.opcode.SignedWidth.{SignedWidth}
-use Rattle.bpf_model.specs.declared.opcode.Width.{Width}
-use Rattle.bpf_model.specs.Access.{byte_count, number_at, region_offset, unsigned_width}
-use Rattle.bpf_model.specs.Call.{helper_of, kernel_function_of}
-use Rattle.bpf_model.specs.Element.{accessible, is_reclaimed}
-use Rattle.bpf_model.specs.Real.{AreBytes}
-use Rattle.bpf_model.specs.Machine.{Loaded, Run, environment, moves, open_sections}
-use Rattle.bpf_model.specs.MachineStep.{InsnStep, Resumes, RunStep, StepsServed}
-use Rattle.bpf_model.specs.Refines.{RunRefines}
-use Rattle.bpf_model.specs.Request.{CallHelper, ServesRequest, arguments_of, bound_shape, resumed, signature_of}
-use Rattle.model_laws.specs.ByKind.{StepsByKind, element_load}
-use Rattle.bpf_model.specs.Element.{loaded_from}
-use Rattle.bpf_model.specs.Shapes.{AreShapes}
 use Rattle.bpf_model.specs.MapState as map_state
-use Rattle.bpf_model.specs.Schedule.{Schedule}
-use Rattle.bpf_model.specs.Step.{after as after_insn, insn_at}
-use Rattle.bpf_model.specs.Value.{◌>>=◌}
-use Rattle.bpf_model.specs.View.{MapView, RunView, WorldView, shape_of_view as shape, shapes_of}
-use Rattle.bpf_model.specs.Word.{WordIs, element_bases, most_map_slots}
-use Rattle.bpf_model.proofs.Lists.{get-below, get-set_there}
-use Rattle.model_laws.specs.Replies.{IsNumber, IsOfKind}
-use Rattle.model_laws.specs.Locations.{Location, InContext, InFrame, AtMap, InSlot}
+use Rattle.bpf_model.specs.Step.{after as after_insn}
+use Rattle.bpf_model.specs.View.{shape_of_view as shape}
+use Rattle.model_laws.specs.Replies.{IsNumber}
 use Rattle.model_laws.proofs.Computations.{first-step}
 use Rattle.plan_laws.proofs.Coming.{Comes, Stands, Starting, Stepping, does-come}
 use Rattle.plan_laws.proofs.Elements.{number_read, offset_some}
 use Rattle.plan_laws.proofs.Reaching.{keeps_well, well_never_stuck}
-use Rattle.world_laws.specs.Standing.{IsSlotWord, MapsAnswer}
-use Rattle.verifier.specs.Checked.{Checked}
-use Rattle.model_laws.specs.Matching.{Matches, Simulates}
 use Rattle.model_laws.proofs.ViewedWorlds.{here}
-use Rattle.world_laws.specs.Calling.{bytes_in, found_word, returned_view}
-use Rattle.world_laws.specs.Local.{Asks, AsksNothing, local_of}
-use Rattle.world_laws.specs.Locating.{bytes_of, loaded_word, location_of, number_from, offset_at}
-use Rattle.world_laws.specs.Moving.{moves_on, word_in}
-use Rattle.world_laws.specs.Reaching.{IsCall}
-use Rattle.world_laws.specs.Reacting.{full_reaction}
-use Rattle.world_laws.specs.Typed.{AreRealPrograms, IsRunning, IsSound}
 use Rattle.world_laws.proofs.Bytes.{set_cond}
 use Rattle.world_laws.proofs.Keeping.{full_keeps}
 use Rattle.world_laws.proofs.Listed.{stays_listed}
@@ -64,17 +35,10 @@ use Rattle.world_laws.proofs.Own.{insn-real}
 use Rattle.world_laws.proofs.Ready.{near, refines, register-word}
 use Rattle.world_laws.proofs.Shown.{shown}
 use Rattle.world_laws.proofs.Stepping.{full_simulates}
-use Rattle.machine.specs.declared.request.Request.{Request}
 use Rattle.machine.specs.declared.request.Request.TheVariants as requests
-use Rattle.machine.specs.Regions.{IsCodeOf}
-use Rattle.machine.specs.Requests.{request_of, entered_view, resumed_view, kernel_request}
-use Rattle.machine.specs.Standing.{MayGive}
 use Rattle.machine.proofs.Laws.{same-program}
 use Rattle.machine.proofs.Reacting.{reacts_by_insn}
 use Rattle.machine.proofs.RunningStands.{running_answers}
-use Rattle.world.specs.Calls.{called, called_at, called_on}
-use Rattle.world.specs.Elements.{element_number}
-use Rattle.world.specs.Serving.{CanServe, IsReply, maps_after}
 use Rattle.world.proofs.Running.{running}
 use Rattle.world.proofs.ServedSteps.{served_moves}
 use Rattle.model_laws.proofs.Requests.{by_kind, replies_by_signature}

@@ -1,9 +1,7 @@
 -- The maps of a program, each under its own number.
-use Rattle.std.proofs.Common.{arith, ◌≡◌, ℕ, zero, suc, ◌+◌, ◌<◌, List, [], ◌∷◌, ◌++◌, length, map, take, ap, ◌∙◌}
-use Rattle.std.specs.List.{range_with_len}
-use Rattle.std.specs.Prelude.{Some, slice_get}
-use Rattle.bpf_model.specs.declared.limits.MapShape.{MapShape}
-use Rattle.bpf_model.proofs.Lists.{map-take, get-below}
+use Rattle.bpf_model.proofs.Prelude.{arith, ◌≡◌, ℕ, zero, suc, ◌+◌, ◌<◌, List, [], ◌∷◌, ◌++◌, length, map, take, ap, ◌∙◌, range_with_len, Some, slice_get}
+use Rattle.bpf_model.proofs.Prelude.{map-take, get-below}
+use Rattle.model_laws.proofs.Prelude.{MapShape}
 
 -- one more map under its own number
 pub one_more : (shapes : List MapShape) (ns : List ℕ) (n : ℕ) → n < length shapes →

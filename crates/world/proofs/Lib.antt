@@ -1,3 +1,4 @@
+pub mod Prelude
 pub mod Adding
 pub mod Answering
 pub mod Exits

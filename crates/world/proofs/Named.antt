@@ -1,13 +1,8 @@
 -- The map that a call names, and what the call makes of it.
-use Rattle.std.proofs.Common.{◌≡◌, ◌∙◌, ℕ, ◌-◌, sym, ap, List, Option, Some}
-use Rattle.std.specs.Prelude.{slice_get, slice_index}
-use Rattle.std.proofs.lemmas.Option.{get_or_from_slice_get}
-use Rattle.bpf_model.specs.declared.call.Helper.{Helper}
-use Rattle.bpf_model.specs.View.{MapView, RunView}
-use Rattle.bpf_model.specs.Word.{map_base}
-use Rattle.world_laws.specs.Moving.{word_in}
-use Rattle.world_laws.specs.Reaching.{IsCall}
-use Rattle.world.specs.Calls.{called, called_on, called_at}
+use Rattle.bpf_model.proofs.Prelude.{◌≡◌, ◌∙◌, ℕ, ◌-◌, sym, ap, List, Option, Some, slice_get, slice_index, get_or_from_slice_get, MapView, RunView, map_base}
+use Rattle.model_laws.proofs.Prelude.{Helper}
+use Rattle.world.proofs.Prelude.{called, called_on, called_at}
+use Rattle.world_laws.proofs.Prelude.{word_in, IsCall}
 
 module _ (helper known : Helper) (bound : List ℕ) (maps : List MapView) (v : RunView) (c : IsCall helper bound maps v)
     (k id : ℕ) (at : k ≡ word_in v 1 - map_base) (is : id ≡ slice_index bound k) where

@@ -1,49 +1,24 @@
 -- What the next step of a run is answered, by the instruction before which the run stands.
-use Rattle.std.proofs.Common.{◌≡◌, ◌∙◌, ℕ, ◌<◌, ◌^◌, List, Option, Some, None, refl, sym, ap, subst}
-use Rattle.std.specs.Prelude.{slice_get, ℤ}
-use Rattle.bpf_model.specs.declared.call.Helper.{Helper}
-use Rattle.bpf_model.specs.declared.call.KernelFunction.{KernelFunction}
-use Rattle.bpf_model.specs.declared.call.KernelFunction.TheVariants.{ReadLock, ReadUnlock}
-use Rattle.bpf_model.specs.declared.insn.Insn.{Insn}
-use Rattle.bpf_model.specs.declared.insn.Insn.TheVariants.{Call, Exit, Store}
+use Rattle.bpf_model.proofs.Prelude.{◌≡◌, ◌∙◌, ℕ, ◌<◌, ◌^◌, List, Option, Some, None, refl, sym, ap, subst, slice_get, ℤ, byte_count, helper_of}
+use Rattle.bpf_model.proofs.Prelude.{kernel_function_of, Answers, DoesEvent, refusal, Loaded, Machine, Run, open_sections, OutcomeStep, Section, Outcome}
+use Rattle.bpf_model.proofs.Prelude.{Moves, Exits, MapView, RunView, WorldView, if_ended, run_at, option_map, option_flatten, slice_get-map}
+use Rattle.element_store.proofs.Prelude.{GraceState}
+use Rattle.machine.proofs.Prelude.{RunWords}
+use Rattle.model_laws.proofs.Prelude.{Helper, KernelFunction, ReadLock, ReadUnlock, Insn, Call, Exit, Store, Answer, EventRefusal, StepsByKind, Location}
+use Rattle.model_laws.proofs.Prelude.{InContext, InFrame, AtMap, InSlot, step_by, step_refused}
+use Rattle.world.proofs.Prelude.{HasNoRun, IsKept, view_of, world_of, IsFlagged, WouldBeRefused, WouldMove}
+use Rattle.world_laws.proofs.Prelude.{bound_number, serves, helper_called_on, helper_called, kernel_called, IsWorld, location_of, operand_word, stored_at}
+use Rattle.world_laws.proofs.Prelude.{word_in, full_reaction, insn_step, or_step}
 use Rattle.bpf_model.specs.declared.insn.CallKind.TheVariants as kinds
 use Rattle.bpf_model.specs.declared.event.Event.TheVariants as events
-use Rattle.bpf_model.specs.declared.event.Answer.{Answer}
 use Rattle.bpf_model.specs.declared.event.Answer.TheVariants as answers
-use Rattle.bpf_model.specs.declared.event.EventRefusal.{EventRefusal}
-use Rattle.bpf_model.specs.Access.{byte_count}
-use Rattle.bpf_model.specs.Call.{helper_of, kernel_function_of}
-use Rattle.bpf_model.specs.Event.{Answers, DoesEvent, refusal}
-use Rattle.bpf_model.specs.Machine.{Loaded, Machine, Run, open_sections}
-use Rattle.bpf_model.specs.MachineStep.{OutcomeStep}
 use Rattle.bpf_model.specs.MapState.{Store as MapStore}
-use Rattle.bpf_model.specs.Section.{Section}
-use Rattle.bpf_model.specs.Step.{Outcome, Moves, Exits}
-use Rattle.bpf_model.specs.View.{MapView, RunView, WorldView}
-use Rattle.model_laws.specs.ByKind.{StepsByKind}
-use Rattle.model_laws.specs.Locations.{Location, InContext, InFrame, AtMap, InSlot}
 use Rattle.model_laws.proofs.Requests.{run_by_kind}
-use Rattle.world_laws.specs.Calling.{bound_number, serves, helper_called_on, helper_called, kernel_called}
-use Rattle.world_laws.specs.Invariant.{IsWorld}
-use Rattle.world_laws.specs.Locating.{location_of}
-use Rattle.world_laws.specs.Moving.{operand_word, stored_at, word_in}
-use Rattle.world_laws.specs.Reacting.{full_reaction, insn_step}
 use Rattle.world_laws.proofs.Worlds.{simulates}
 use Rattle.world_laws.proofs.KeepingWorlds.{world_is_matched}
-use Rattle.world_laws.specs.Reacting.{or_step}
-use Rattle.model_laws.specs.Reactions.{step_by, step_refused}
 use Rattle.bpf_model.specs.declared.event.EventRefusal.TheVariants.{Ended, NoRun}
-use Rattle.bpf_model.specs.Event.{if_ended}
-use Rattle.bpf_model.specs.Machine.{run_at}
-use Rattle.std.specs.Prelude.{option_map}
-use Rattle.std.specs.Option.{option_flatten}
-use Rattle.std.proofs.lemmas.Option.{slice_get-map}
-use Rattle.element_store.specs.Sections.{GraceState}
-use Rattle.machine.specs.RunWords.{RunWords}
 use Rattle.world.specs.declared.kept.loaded.Loaded as parts
-use Rattle.world.specs.Keeping.{HasNoRun, IsKept, view_of, world_of}
-use Rattle.world.specs.Serving.{IsFlagged}
-use Rattle.world.specs.Stretches.{IsStanding, WouldBeRefused, WouldMove}
+use Rattle.world.specs.Stretches.{IsStanding}
 use Rattle.world.proofs.Running.{flagged, running}
 use Rattle.world.proofs.ServedSteps.{helping}
 use Rattle.world.proofs.Stepping.{is_going}

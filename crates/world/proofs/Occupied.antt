@@ -1,19 +1,14 @@
 -- What the world knows of a slot that has an element is what a map asks.
-use Rattle.std.proofs.Common.{◌≡◌, ◌∙◌, ℕ, ◌+◌, refl, sym, ap, arith, List, [], ◌∷◌, cond, inl, inr, Some}
-use Rattle.std.specs.Prelude.{◌==◌, slice_get, ℤ, ◌+ℤ◌}
-use Rattle.std.specs.FinMap.{get}
-use Rattle.std.proofs.lemmas.List.Sums.{sum_by-cons}
-use Rattle.std.proofs.lemmas.Option.{same_Some}
-use Rattle.std.proofs.Common.{subst}
-use Rattle.bpf_model.specs.View.{MapView}
+use Rattle.bpf_model.proofs.Prelude.{◌≡◌, ◌∙◌, ℕ, ◌+◌, refl, sym, ap, arith, List, [], ◌∷◌, cond, inl, inr, Some, ◌==◌, slice_get, ℤ, ◌+ℤ◌, get, sum_by-cons}
+use Rattle.bpf_model.proofs.Prelude.{same_Some, subst, MapView}
+use Rattle.model_laws.proofs.Prelude.{Location, InSlot}
+use Rattle.world.proofs.Prelude.{ReachesElement}
 use Rattle.bpf_model.specs.Refines as refines
 use Rattle.element_store.specs.State as state
 use Rattle.element_store.proofs.Counts.{one_same}
-use Rattle.model_laws.specs.Locations.{Location, InSlot}
 use Rattle.map_kinds.specs.Shown as shown
 use Rattle.world_laws.specs.Reaching as reaching
 use Rattle.world_laws.specs.Reaching.{IsElementReached}
-use Rattle.world.specs.Elements.{ReachesElement}
 
 same-times : (i : ℕ) (xs : List ℕ) → refines.times i xs ≡ state.times_in i xs
 same-times i [] = refl

@@ -1,49 +1,26 @@
 -- Moves that a run makes by itself are steps of its world.
-use Rattle.std.proofs.Common.{◌≡◌, ◌∙◌, ℕ, ◌+◌, ◌<◌, ◌^◌, List, [], ◌∷◌, Option, Some, None, Bool, true, false, zero, suc, refl, sym, ap, subst}
-use Rattle.std.specs.Prelude.{slice_get, slice_set, nat_lt, ℤ, pos, negsuc, ◌+ℤ◌}
-use Rattle.bpf_model.proofs.Lists.{get-set_there, set-same}
-use Rattle.bpf_model.specs.declared.event.Answer.{Answer}
+use Rattle.bpf_model.proofs.Prelude.{◌≡◌, ◌∙◌, ℕ, ◌+◌, ◌<◌, ◌^◌, List, [], ◌∷◌, Option, Some, None, Bool, true, false, zero, suc, refl, sym, ap, subst}
+use Rattle.bpf_model.proofs.Prelude.{slice_get, slice_set, nat_lt, ℤ, pos, negsuc, ◌+ℤ◌, get-set_there, set-same, byte_count, unsigned_width, compares}
+use Rattle.bpf_model.proofs.Prelude.{loaded_signed, Loaded, insn_at, RunView, WorldView, ◌≤◌, inl, inr, map, arith, option_map, length-set, map-set}
+use Rattle.bpf_model.proofs.Prelude.{same_Some, slice_get-map, get-set_cases, MapView}
+use Rattle.element_store.proofs.Prelude.{GraceState}
+use Rattle.machine.proofs.Prelude.{request_of, IsLocalStep, TakesStep, WalksOn, at_first, one_more, RunWords, IsBefore}
+use Rattle.model_laws.proofs.Prelude.{Answer, Insn, Location, InContext, InFrame, AtMap, InSlot, MAX_DEPTH}
+use Rattle.verifier.proofs.Prelude.{Checked}
+use Rattle.world.proofs.Prelude.{IsFlagged, with_view, MakesMoves, WouldMove, not_yet, once_more, Walk, AreRunsKept, IsKept, IsOfProgram, depth_of_run}
+use Rattle.world.proofs.Prelude.{view_of, world_of, program_of}
+use Rattle.world_laws.proofs.Prelude.{LocalStep, Goes, Ends, Asks, local_of, local_load, local_store, location_of, branched, ended_view, jumped_to}
+use Rattle.world_laws.proofs.Prelude.{operand_word, stored_frame, word_in, full_reaction, insn_step, IsWorld}
 use Rattle.bpf_model.specs.declared.event.Answer.TheVariants as answers
 use Rattle.bpf_model.specs.declared.event.Event.TheVariants as events
-use Rattle.bpf_model.specs.declared.insn.Insn.{Insn}
 use Rattle.bpf_model.specs.declared.insn.Insn.TheVariants as insns
-use Rattle.bpf_model.specs.Access.{byte_count, unsigned_width}
-use Rattle.bpf_model.specs.Arithmetic.{compares, loaded_signed}
-use Rattle.bpf_model.specs.Machine.{Loaded}
-use Rattle.bpf_model.specs.Step.{insn_at}
-use Rattle.bpf_model.specs.View.{RunView, WorldView}
-use Rattle.model_laws.specs.Locations.{Location, InContext, InFrame, AtMap, InSlot}
-use Rattle.verifier.specs.Checked.{Checked}
-use Rattle.world_laws.specs.Local.{LocalStep, Goes, Ends, Asks, local_of, local_load, local_store}
-use Rattle.world_laws.specs.Locating.{location_of}
-use Rattle.world_laws.specs.Moving.{branched, ended_view, jumped_to, operand_word, stored_frame, word_in}
-use Rattle.world_laws.specs.Reacting.{full_reaction, insn_step}
 use Rattle.machine.specs.declared.request.Local.TheVariants as code
-use Rattle.machine.specs.Requests.{request_of}
-use Rattle.machine.specs.Steps.{IsLocalStep, TakesStep}
-use Rattle.machine.specs.Walks.{WalksOn, at_first, one_more}
 use Rattle.machine.proofs.Reacting.{reacts_by_insn}
-use Rattle.world.specs.Serving.{IsFlagged, with_view}
-use Rattle.world.specs.Stretches.{MakesMoves, WouldMove, not_yet, once_more}
 use Rattle.world.proofs.ServedSteps.{own_asks, own_is, own_keeps}
-use Rattle.std.proofs.Common.{◌≤◌, inl, inr, map, arith}
-use Rattle.std.specs.Prelude.{option_map}
-use Rattle.std.proofs.lemmas.List.{length-set, map-set}
-use Rattle.std.proofs.lemmas.Option.{same_Some, slice_get-map}
-use Rattle.bpf_model.proofs.Lists.{get-set_cases}
-use Rattle.bpf_model.specs.declared.limits.TheConstants.{MAX_DEPTH}
-use Rattle.bpf_model.specs.View.{MapView}
-use Rattle.element_store.specs.Sections.{GraceState}
-use Rattle.world_laws.specs.Invariant.{IsWorld}
 use Rattle.world_laws.proofs.KeepingWorlds.{reaction_is_world}
-use Rattle.machine.specs.declared.walk.Walk.{Walk}
 use Rattle.machine.specs.declared.walk.WalkEnd.{WalkEnd}
 use Rattle.machine.specs.declared.walk.WalkEnd.TheVariants.{Enough, Asks as AsksNext, Exits}
-use Rattle.machine.specs.RunWords.{RunWords}
-use Rattle.machine.specs.Walks.{IsBefore}
 use Rattle.world.specs.declared.kept.loaded.Loaded as parts
-use Rattle.world.specs.Keeping.{AreRunsKept, IsKept, IsOfProgram, depth_of_run, view_of, world_of}
-use Rattle.world.specs.Programs.{program_of}
 use Rattle.world.specs.Stretches.{HasWalked, IsAhead}
 use Rattle.world.proofs.NextSteps.{would-move}
 

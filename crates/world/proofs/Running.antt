@@ -1,37 +1,17 @@
 -- A run that has not ended in a world whose programs are verified: its flag, and that what it asks can be served.
-use Rattle.std.proofs.Common.{◌≡◌, ◌∙◌, ℕ, ◌≤◌, refl, sym, ap, subst, Some, None}
-use Rattle.std.specs.Prelude.{slice_get, option_map, ℤ}
-use Rattle.std.proofs.lemmas.Option.{none-some, same_Some}
-use Rattle.bpf_model.specs.declared.call.KernelFunction.{KernelFunction}
-use Rattle.bpf_model.specs.declared.call.KernelFunction.TheVariants.{ReadLock, ReadUnlock}
-use Rattle.bpf_model.specs.declared.insn.CallKind.TheVariants.{Helper, Kernel}
-use Rattle.bpf_model.specs.declared.insn.Insn.{Insn}
+use Rattle.bpf_model.proofs.Prelude.{◌≡◌, ◌∙◌, ℕ, ◌≤◌, refl, sym, ap, subst, Some, None, slice_get, option_map, ℤ, none-some, same_Some, byte_count}
+use Rattle.bpf_model.proofs.Prelude.{unsigned_width, loaded_signed, Loaded, Run, Schedule, insn_at, RunView, WorldView, run-behind, option_flatten}
+use Rattle.machine.proofs.Prelude.{request_of, kernel_request}
+use Rattle.model_laws.proofs.Prelude.{KernelFunction, ReadLock, ReadUnlock, Kernel, Insn, MAX_DEPTH, Location, InContext, InFrame, AtMap, InSlot, Matches}
+use Rattle.world.proofs.Prelude.{Request, Call, ReachesElement, CanServe, IsFlagged}
+use Rattle.world_laws.proofs.Prelude.{Goes, Asks, local_of, local_load, local_store, location_of, word_in, operand_word, IsAllowed, Reaches, IsWritable}
+use Rattle.world_laws.proofs.Prelude.{IsSound, IsRunning}
+use Rattle.bpf_model.specs.declared.insn.CallKind.TheVariants.{Helper}
 use Rattle.bpf_model.specs.declared.insn.Insn.TheVariants as insns
-use Rattle.bpf_model.specs.declared.limits.TheConstants.{MAX_DEPTH}
-use Rattle.bpf_model.specs.Access.{byte_count, unsigned_width}
-use Rattle.bpf_model.specs.Arithmetic.{loaded_signed}
-use Rattle.bpf_model.specs.Machine.{Loaded, Run}
-use Rattle.bpf_model.specs.Schedule.{Schedule}
-use Rattle.bpf_model.specs.Step.{insn_at}
-use Rattle.bpf_model.specs.View.{RunView, WorldView}
-use Rattle.model_laws.specs.Locations.{Location, InContext, InFrame, AtMap, InSlot}
-use Rattle.model_laws.specs.Matching.{Matches}
 use Rattle.world_laws.proofs.Flags.{flag, awaited_open}
-use Rattle.world_laws.specs.Local.{Goes, Asks, local_of, local_load, local_store}
-use Rattle.world_laws.specs.Locating.{location_of}
-use Rattle.world_laws.specs.Moving.{word_in, operand_word}
-use Rattle.world_laws.specs.Reaching.{IsAllowed, Reaches, IsWritable}
-use Rattle.world_laws.specs.Typed.{IsSound, IsRunning}
 use Rattle.world_laws.proofs.Ready.{refines}
-use Rattle.bpf_model.proofs.Cases.{run-behind}
 use Rattle.machine.proofs.Laws.{same-program}
 use Rattle.world_laws.proofs.Reaching.{load_reaches, load_signed_reaches, store_reaches, helper_arguments, kernel_call_allowed}
-use Rattle.machine.specs.declared.request.Request.{Request}
-use Rattle.machine.specs.declared.request.Request.TheVariants.{Call}
-use Rattle.machine.specs.Requests.{request_of, kernel_request}
-use Rattle.world.specs.Elements.{ReachesElement}
-use Rattle.world.specs.Serving.{CanServe, IsFlagged}
-use Rattle.std.specs.Option.{option_flatten}
 
 -- the machine's run in the slot of a run that has not ended
 pub running : (w : WorldView) (s : Schedule) → Matches w s → (r : ℕ) (v : RunView) →

@@ -1,27 +1,18 @@
 -- What a start and a drop leave of a world.
-use Rattle.std.proofs.Common.{◌≡◌, ◌∙◌, ℕ, zero, suc, List, ◌∷◌, length, Bool, true, false, Option, Some, None, inl, inr, refl, sym, ap, subst, cond}
-use Rattle.std.specs.Prelude.{slice_get, slice_set, map, option_map, replicate}
-use Rattle.std.proofs.lemmas.Option.{none-some, same_Some, slice_get-map}
-use Rattle.std.proofs.lemmas.Bool.{eq-eqb}
-use Rattle.bpf_model.specs.declared.event.EventRefusal.TheVariants.{BadContext}
-use Rattle.bpf_model.specs.declared.limits.TheConstants.{MAX_RUNS}
-use Rattle.bpf_model.specs.Event.{start_refusal, if_full}
-use Rattle.bpf_model.specs.Schedule.{still_open}
+use Rattle.bpf_model.proofs.Prelude.{◌≡◌, ◌∙◌, ℕ, zero, suc, List, ◌∷◌, length, Bool, true, false, Option, Some, None, inl, inr, refl, sym, ap, subst, cond}
+use Rattle.bpf_model.proofs.Prelude.{slice_get, slice_set, map, option_map, replicate, none-some, same_Some, slice_get-map, eq-eqb, start_refusal, if_full}
+use Rattle.bpf_model.proofs.Prelude.{still_open, MapView, RunView, WorldView, length-map, length-set, map-set, get-map, set-same, get-set_cases}
+use Rattle.bpf_model.proofs.Prelude.{get-replicate, lowest_free}
+use Rattle.element_store.proofs.Prelude.{GraceState, IsGrace, is_open_depth, opened_in}
+use Rattle.machine.proofs.Prelude.{RunWords, IsAt}
+use Rattle.model_laws.proofs.Prelude.{BadContext, MAX_RUNS, with_run, fresh_view, start_by, start_reaction}
+use Rattle.world.proofs.Prelude.{program_of, view_of, depth_of_run, IsOfProgram, AreRunsKept, world_of}
 use Rattle.bpf_model.specs.Machine as machine
-use Rattle.bpf_model.specs.View.{MapView, RunView, WorldView}
 use Rattle.element_store.proofs.Views.{map-set_same}
-use Rattle.element_store.specs.Sections.{GraceState, IsGrace, is_open_depth, opened_in}
-use Rattle.model_laws.specs.Reactions.{with_run, fresh_view, start_by, start_reaction}
 use Rattle.model_laws.proofs.Listing.{still-same}
-use Rattle.machine.specs.RunWords.{RunWords, IsAt}
 use Rattle.world.specs.declared.kept.loaded.Loaded.{Loaded}
-use Rattle.world.specs.Programs.{program_of}
-use Rattle.world.specs.Keeping.{view_of, depth_of_run, IsOfProgram, AreRunsKept, world_of}
 use Rattle.world.proofs.Flags.{still-cleared}
 use Rattle.world.proofs.Slots.{Runs}
-use Rattle.std.proofs.lemmas.List.{length-map, length-set, map-set}
-use Rattle.bpf_model.proofs.Lists.{get-map, set-same, get-set_cases, get-replicate}
-use Rattle.bpf_model.specs.Machine.{lowest_free}
 
 same_world : (names : List (List ℕ)) (maps : List MapView) (programs : List machine.Loaded) (given : ℕ)
     (rs qs : List (Option RunView)) (os ps cs bs : List Bool) → rs ≡ qs → os ≡ ps → cs ≡ bs →

@@ -1,17 +1,10 @@
 -- What `==` of two instructions, and of two shapes of maps, says.
-use Rattle.std.proofs.Common.{◌≡◌, Bool, true, false, ap, refl}
-use Rattle.std.specs.Prelude.{Decides, ◌&&◌}
-use Rattle.std.proofs.lemmas.Bool.{false≢true}
-use Rattle.std.proofs.lemmas.Bool.Decides.{Decides-eqb, Decides-int_eq}
+use Rattle.bpf_model.proofs.Prelude.{◌≡◌, Bool, true, false, ap, refl, ◌&&◌, false≢true, Decides-eqb, Decides-int_eq}
+use Rattle.model_laws.proofs.Prelude.{Insn, Operand, Register, Immediate, UnaryOp, Negate, ByteSwap, MoveSigned, MapShape}
+use Rattle.std.specs.Prelude.{Decides}
 use denote.Enum.Bare.{Bare, sameb, same_true, true_same}
 use denote.Enum.Declared.{Declared}
-use Rattle.bpf_model.specs.declared.insn.Insn.{Insn}
 use Rattle.bpf_model.specs.declared.insn.Insn.TheVariants as insns
-use Rattle.bpf_model.specs.declared.insn.Operand.{Operand}
-use Rattle.bpf_model.specs.declared.insn.Operand.TheVariants.{Register, Immediate}
-use Rattle.bpf_model.specs.declared.insn.UnaryOp.{UnaryOp}
-use Rattle.bpf_model.specs.declared.insn.UnaryOp.TheVariants.{Negate, ByteSwap, MoveSigned}
-use Rattle.bpf_model.specs.declared.limits.MapShape.{MapShape}
 use Rattle.bpf_model.specs.contracts.insn.InsnPartialEq.TheImpl as insn
 use Rattle.bpf_model.specs.contracts.insn.OperandPartialEq.TheImpl as operand
 use Rattle.bpf_model.specs.contracts.insn.UnaryOpPartialEq.TheImpl as unary

@@ -1,13 +1,10 @@
 -- Which sections are awaited, where one more is open or one less, and where a run goes one lock
 -- deeper or comes back.
-use Rattle.std.proofs.Common.{◌≡◌, ◌∙◌, ℕ, zero, suc, ◌-◌, ◌<◌, refl, sym, ap, arith, inl, inr, List, [], ◌∷◌}
-use Rattle.std.specs.Prelude.{◌==◌, ◌&&◌, Bool, true, false, if◌then◌else◌, map, slice_set}
+use Rattle.bpf_model.proofs.Prelude.{◌≡◌, ◌∙◌, ℕ, zero, suc, ◌-◌, ◌<◌, refl, sym, ap, arith, inl, inr, List, [], ◌∷◌, ◌==◌, ◌&&◌, Bool, true, false}
+use Rattle.bpf_model.proofs.Prelude.{if◌then◌else◌, map, slice_set, cases_eq, cond-false, cond-true, eq-eqb, le-ltb, lt-ltb, ne_eqb, map-set, still_open}
+use Rattle.bpf_model.proofs.Prelude.{heads, tails}
+use Rattle.element_store.proofs.Prelude.{GraceState, depth_at, is_open_depth, opened_in}
 use Rattle.std.proofs.Math.Bool.{and-false, and-true}
-use Rattle.std.proofs.lemmas.Bool.{cases_eq, cond-false, cond-true, eq-eqb, le-ltb, lt-ltb, ne_eqb}
-use Rattle.std.proofs.lemmas.List.{map-set}
-use Rattle.bpf_model.specs.Schedule.{still_open}
-use Rattle.bpf_model.proofs.Lists.{heads, tails}
-use Rattle.element_store.specs.Sections.{GraceState, depth_at, is_open_depth, opened_in}
 
 -- a section that is opened is awaited no more than before
 pub opened_awaits : (fs os : List Bool) (r : ℕ) → still_open fs os ≡ fs → still_open fs (slice_set os r true) ≡ fs

@@ -1,46 +1,26 @@
 -- A world's step of a run is what the run does by itself, or what is served to it and how it goes on.
-use Rattle.std.proofs.Common.{◌≡◌, ◌∙◌, ℕ, ◌+◌, ◌-◌, refl, sym, ap, subst, List, Option, Some, None, Bool, true, false}
-use Rattle.std.specs.Prelude.{slice_get, slice_set, nat_lt, map, option_map, ℤ, pos, negsuc, ◌+ℤ◌}
-use Rattle.std.proofs.lemmas.List.{map-set}
-use Rattle.std.proofs.lemmas.Option.{none-some, same_Some, get_or_from_slice_get}
+use Rattle.bpf_model.proofs.Prelude.{◌≡◌, ◌∙◌, ℕ, ◌+◌, ◌-◌, refl, sym, ap, subst, List, Option, Some, None, Bool, true, false, slice_get, slice_set, nat_lt}
+use Rattle.bpf_model.proofs.Prelude.{map, option_map, ℤ, pos, negsuc, ◌+ℤ◌, map-set, none-some, same_Some, get_or_from_slice_get, byte_count, unsigned_width}
+use Rattle.bpf_model.proofs.Prelude.{compares, loaded_signed, helper_of, kernel_function_of, Loaded, still_open, MapView, RunView, WorldView, set-same}
+use Rattle.element_store.proofs.Prelude.{GraceState, depth_at, is_open_depth, opened_in}
+use Rattle.machine.proofs.Prelude.{IsLocalStep, request_of, kernel_request, entered_view, resumed_view}
+use Rattle.model_laws.proofs.Prelude.{Lookup, Update, Delete, KernelFunction, ReadLock, ReadUnlock, Answer, Kernel, Insn, Location, InContext, InFrame, AtMap}
+use Rattle.model_laws.proofs.Prelude.{InSlot, with_run, locked_view, unlocked_view}
+use Rattle.world.proofs.Prelude.{Request, Call, Enter, Leave, called, called_on, called_at, ReachesElement, element_number, CanServe, IsReply, maps_after}
+use Rattle.world.proofs.Prelude.{grace_after, IsFlagged, ShowsGrace, with_view, world_with}
+use Rattle.world_laws.proofs.Prelude.{serves, helper_called, helper_called_on, returned_view, location_of, loaded_word, number_from, bytes_of, offset_at}
+use Rattle.world_laws.proofs.Prelude.{word_in, operand_word, with_word, jumped_to, branched, moves_on, ended_view, stored_frame, stored_slot, stored_at}
+use Rattle.world_laws.proofs.Prelude.{advanced_view, LocalStep, Goes, Ends, Asks, local_of, local_load, local_store, Agrees, insn_step, IsCall}
 use Rattle.bpf_model.specs.declared.call.Helper.{Helper as HelperId}
-use Rattle.bpf_model.specs.declared.call.Helper.TheVariants.{Lookup, Update, Delete}
-use Rattle.bpf_model.specs.declared.call.KernelFunction.{KernelFunction}
-use Rattle.bpf_model.specs.declared.call.KernelFunction.TheVariants.{ReadLock, ReadUnlock}
-use Rattle.bpf_model.specs.declared.event.Answer.{Answer}
 use Rattle.bpf_model.specs.declared.event.Answer.TheVariants as answers
-use Rattle.bpf_model.specs.declared.insn.CallKind.TheVariants.{Helper, Kernel}
-use Rattle.bpf_model.specs.declared.insn.Insn.{Insn}
+use Rattle.bpf_model.specs.declared.insn.CallKind.TheVariants.{Helper}
 use Rattle.bpf_model.specs.declared.insn.Insn.TheVariants as insns
-use Rattle.bpf_model.specs.Access.{byte_count, unsigned_width}
-use Rattle.bpf_model.specs.Arithmetic.{compares, loaded_signed}
-use Rattle.bpf_model.specs.Call.{helper_of, kernel_function_of}
-use Rattle.bpf_model.specs.Machine.{Loaded}
-use Rattle.bpf_model.specs.Schedule.{still_open}
-use Rattle.bpf_model.specs.View.{MapView, RunView, WorldView}
-use Rattle.element_store.specs.Sections.{GraceState, depth_at, is_open_depth, opened_in}
-use Rattle.model_laws.specs.Locations.{Location, InContext, InFrame, AtMap, InSlot}
-use Rattle.model_laws.specs.Reactions.{with_run, locked_view, unlocked_view}
-use Rattle.world_laws.specs.Calling.{serves, helper_called, helper_called_on, returned_view}
 use Rattle.world_laws.specs.Calling as calling
-use Rattle.world_laws.specs.Locating.{location_of, loaded_word, number_from, bytes_of, offset_at}
-use Rattle.world_laws.specs.Moving.{word_in, operand_word, with_word, jumped_to, branched, moves_on, ended_view}
-use Rattle.world_laws.specs.Moving.{stored_frame, stored_slot, stored_at, advanced_view}
-use Rattle.world_laws.specs.Local.{LocalStep, Goes, Ends, Asks, local_of, local_load, local_store, Agrees}
-use Rattle.world_laws.specs.Reacting.{insn_step}
 use Rattle.world_laws.proofs.Local.{local_agrees}
-use Rattle.machine.specs.declared.request.Request.{Request}
-use Rattle.machine.specs.declared.request.Request.TheVariants.{Call, Enter, Leave}
 use Rattle.machine.specs.declared.request.Local as code
 use Rattle.machine.specs.declared.request.Local.TheVariants as code_answers
-use Rattle.machine.specs.Steps.{IsLocalStep}
-use Rattle.machine.specs.Requests.{request_of, kernel_request, entered_view, resumed_view}
-use Rattle.world_laws.specs.Reaching.{IsCall}
-use Rattle.world.specs.Calls.{called, called_on, called_at}
-use Rattle.world.specs.Elements.{ReachesElement, element_number, maps_after_store, stored_element}
-use Rattle.world.specs.Serving.{CanServe, IsReply, maps_after, grace_after, IsFlagged, IsOwnWorld, ShowsGrace}
-use Rattle.world.specs.Serving.{served_step, with_view, world_showing, world_with}
-use Rattle.bpf_model.proofs.Lists.{set-same}
+use Rattle.world.specs.Elements.{maps_after_store, stored_element}
+use Rattle.world.specs.Serving.{IsOwnWorld, served_step, world_showing}
 
 -- what a load finds, where it reaches an element
 loaded_is : (w : WorldView) (v : RunView) (width : ℕ) (offset : ℤ) (l : Location) → ReachesElement w.maps width offset l

@@ -1,9 +1,8 @@
 -- Programs that are bound to maps of the shapes that they were verified for, one number of a list after another.
-use Rattle.std.proofs.Common.{◌≡◌, ◌∙◌, ℕ, zero, suc, ◌+◌, ◌<◌, ◌≤◌, List, [], ◌∷◌, map, length, take, get_or, Option, Some, sym, ap, subst, arith, below_more}
-use Rattle.std.specs.Prelude.{slice_get}
-use Rattle.std.proofs.lemmas.Option.{none-some, same_Some, slice_get_within, get_or_from_slice_get}
-use Rattle.bpf_model.specs.declared.limits.MapShape.{MapShape}
-use Rattle.world_laws.specs.Binding.{IsBoundTo}
+use Rattle.bpf_model.proofs.Prelude.{◌≡◌, ◌∙◌, ℕ, zero, suc, ◌+◌, ◌<◌, ◌≤◌, List, [], ◌∷◌, map, length, take, get_or, Option, Some, sym, ap, subst, arith}
+use Rattle.bpf_model.proofs.Prelude.{below_more, slice_get, none-some, same_Some, slice_get_within, get_or_from_slice_get}
+use Rattle.model_laws.proofs.Prelude.{MapShape}
+use Rattle.world_laws.proofs.Prelude.{IsBoundTo}
 use Rattle.world_laws.proofs.Binding.{bound-each}
 
 pub bound-more : (shapes : List MapShape) (numbers : List ℕ) (asked : List MapShape) (i n : ℕ) (s : MapShape) →

@@ -1,16 +1,13 @@
 -- What events do to maps leaves their shapes, so that programs stay bound to them.
-use Rattle.std.proofs.Common.{◌≡◌, ◌∙◌, ℕ, List, [], ◌∷◌, Option, Some, refl, sym, ap, subst}
-use Rattle.std.specs.Prelude.{map, slice_get, slice_set}
-use Rattle.bpf_model.specs.declared.event.ReapedElement.{ReapedElement}
+use Rattle.bpf_model.proofs.Prelude.{◌≡◌, ◌∙◌, ℕ, List, [], ◌∷◌, Option, Some, refl, sym, ap, subst, map, slice_get, slice_set, MapView, WorldView}
+use Rattle.bpf_model.proofs.Prelude.{shapes_of_maps}
+use Rattle.model_laws.proofs.Prelude.{ReapedElement, Pick, reap_by, turned_view}
+use Rattle.world.proofs.Prelude.{AreProgramsBound}
 use Rattle.bpf_model.specs.declared.event.Event.TheVariants as events
-use Rattle.bpf_model.specs.View.{MapView, WorldView, shapes_of_maps}
 use Rattle.maps.specs.Picking.{IsPicked}
-use Rattle.model_laws.specs.Reactions.{Pick, reap_by}
-use Rattle.model_laws.specs.Views.{turned_view}
 use Rattle.model_laws.proofs.Reacting.{set-shapes}
 use Rattle.world_laws.proofs.Keeping.{full_keeps}
 use Rattle.world.specs.declared.kept.loaded.Loaded.{Loaded}
-use Rattle.world.specs.BoundTo.{AreProgramsBound}
 
 abbrev pub AreBound : List MapView → List Loaded → Type 0
 AreBound maps programs = AreProgramsBound (shapes_of_maps maps) programs

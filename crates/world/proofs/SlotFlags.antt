@@ -1,13 +1,10 @@
 -- A byte for each run slot.
-use Rattle.std.proofs.Common.{◌≡◌, ◌∙◌, ℕ, zero, suc, ◌<◌, List, [], ◌∷◌, length, Option, Some, None, refl, sym, ap, subst, arith, rules}
-use Rattle.std.specs.Prelude.{slice_get, slice_set, map, IfSome}
-use Rattle.std.proofs.lemmas.List.{map-set}
-use Rattle.std.proofs.lemmas.Option.{none-some, same_Some}
+use Rattle.bpf_model.proofs.Prelude.{◌≡◌, ◌∙◌, ℕ, zero, suc, ◌<◌, List, [], ◌∷◌, length, Option, Some, None, refl, sym, ap, subst, arith, rules, slice_get}
+use Rattle.bpf_model.proofs.Prelude.{slice_set, map, IfSome, map-set, none-some, same_Some, lowest_free}
+use Rattle.machine.proofs.Prelude.{RunWords}
+use Rattle.world.proofs.Prelude.{flag_of, view_of}
 use Rattle.memchr.specs.Find.{IsFirstByte, Nowhere, Passes, is_byte}
-use Rattle.bpf_model.specs.Machine.{lowest_free}
 use Rattle.element_store.proofs.Views.{map-set_same}
-use Rattle.machine.specs.RunWords.{RunWords}
-use Rattle.world.specs.Keeping.{flag_of, view_of}
 use Rattle.world.proofs.Slots.{AreTaken, Runs, free-here, free-none}
 
 pub flags-set : (runs : Runs) (flags : List ℕ) (i : ℕ) (o : Option RunWords) → flags ≡ map flag_of runs →

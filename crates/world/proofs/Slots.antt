@@ -1,11 +1,8 @@
 -- Run slots: the lowest free one.
-use Rattle.std.proofs.Common.{◌≡◌, ◌∙◌, ℕ, zero, suc, ◌+◌, ◌<◌, List, [], ◌∷◌, length, Option, Some, None, refl, sym}
-use Rattle.std.proofs.Common.{ap, arith, add-one}
-use Rattle.std.specs.Prelude.{slice_get, map, option_map}
-use Rattle.std.proofs.lemmas.Option.{none-some, same_Some}
-use Rattle.machine.specs.RunWords.{RunWords}
-use Rattle.world.specs.Keeping.{view_of}
-use Rattle.bpf_model.specs.Machine.{lowest_free}
+use Rattle.bpf_model.proofs.Prelude.{◌≡◌, ◌∙◌, ℕ, zero, suc, ◌+◌, ◌<◌, List, [], ◌∷◌, length, Option, Some, None, refl, sym, ap, arith, add-one, slice_get}
+use Rattle.bpf_model.proofs.Prelude.{map, option_map, none-some, same_Some, lowest_free}
+use Rattle.machine.proofs.Prelude.{RunWords}
+use Rattle.world.proofs.Prelude.{view_of}
 
 abbrev pub Runs : Type 0
 Runs = List (Option RunWords)

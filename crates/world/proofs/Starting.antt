@@ -1,24 +1,16 @@
 -- A world of new maps, and programs that are bound to them.
-use Rattle.std.proofs.Common.{◌≡◌, ◌∙◌, ℕ, ◌≤◌, List, map, length, Some, sym, ap, subst, arith}
-use Rattle.std.specs.Prelude.{slice_get}
-use Rattle.std.proofs.lemmas.List.{length-map}
-use Rattle.bpf_model.specs.declared.limits.TheConstants.{MAX_MAPS, MAX_PROGRAMS}
-use Rattle.bpf_model.specs.Shapes.{AreShapes}
-use Rattle.bpf_model.specs.MapState.{new_map}
-use Rattle.bpf_model.specs.Refines.{TracksSchedule}
-use Rattle.bpf_model.specs.Schedule.{start_schedule}
-use Rattle.bpf_model.specs.View.{AreNewMaps, MapView, WorldView, start_view, shapes_of_maps, unused_world}
+use Rattle.bpf_model.proofs.Prelude.{◌≡◌, ◌∙◌, ℕ, ◌≤◌, List, map, length, Some, sym, ap, subst, arith, slice_get, length-map, AreShapes, new_map}
+use Rattle.bpf_model.proofs.Prelude.{TracksSchedule, start_schedule, AreNewMaps, MapView, WorldView, start_view, shapes_of_maps}
+use Rattle.model_laws.proofs.Prelude.{MAX_MAPS, MAX_PROGRAMS}
+use Rattle.plan_laws.proofs.Prelude.{IsVerified, IsVerifiedFor, AreVerified}
+use Rattle.world.proofs.Prelude.{program_of, programs_in, AreProgramsBound}
+use Rattle.world_laws.proofs.Prelude.{IsRealProgram, AreRealPrograms, IsWorld}
+use Rattle.bpf_model.specs.View.{unused_world}
 use Rattle.model_laws.proofs.Counting.{map-back}
 use Rattle.model_laws.proofs.Starting.{start_tracked}
-use Rattle.plan_laws.specs.Verified.{IsVerified}
-use Rattle.plan_laws.specs.Well.{IsVerifiedFor, AreVerified}
-use Rattle.world_laws.specs.Typed.{IsRealProgram, AreRealPrograms}
 use Rattle.world.specs.declared.kept.loaded.Loaded.{Loaded}
-use Rattle.world.specs.Programs.{program_of, programs_in}
-use Rattle.world_laws.specs.Invariant.{IsWorld}
 use Rattle.world_laws.proofs.BindingOf.{bound_is_verified}
 use Rattle.world_laws.proofs.KeepingWorlds.{start_is_world}
-use Rattle.world.specs.BoundTo.{AreProgramsBound}
 
 -- What is known of the parts of a new world before it is made.
 pub record IsSafe (maps : List MapView) (loaded : List Loaded) : Type 0 where

@@ -1,45 +1,26 @@
 -- A step of a run: what its parts come to in the run's world.
-use Rattle.std.proofs.Common.{◌≡◌, ◌∙◌, ℕ, ◌<◌, arith, refl, sym, ap, subst, Bool, List, Option, Some, None, inl, inr}
-use Rattle.std.specs.Prelude.{slice_get, slice_set, map, option_map}
-use Rattle.std.proofs.lemmas.Option.{none-some, same_Some, slice_get-map, slice_get_within}
-use Rattle.bpf_model.specs.declared.event.Answer.{Answer}
+use Rattle.bpf_model.proofs.Prelude.{◌≡◌, ◌∙◌, ℕ, ◌<◌, arith, refl, sym, ap, subst, Bool, List, Option, Some, None, inl, inr, slice_get, slice_set, map}
+use Rattle.bpf_model.proofs.Prelude.{option_map, none-some, same_Some, slice_get-map, slice_get_within, Schedule, still_open, insn_at, MapView, RunView}
+use Rattle.bpf_model.proofs.Prelude.{WorldView, shapes_of, shapes_of_maps, length-set, map-set, get-map, set-same, get-set_cases, option_flatten}
+use Rattle.element_store.proofs.Prelude.{GraceState, is_open_depth, opened_in}
+use Rattle.machine.proofs.Prelude.{request_of, resumed_view, RunWords, IsAt, IsCodeOf, MayGive, IsLocalStep}
+use Rattle.model_laws.proofs.Prelude.{Answer, Insn, MAX_RUNS, Matches, step_refused}
+use Rattle.verifier.proofs.Prelude.{IsJustified}
+use Rattle.world.proofs.Prelude.{Request, CanServe, IsReply, IsFlagged, ShowsGrace, grace_after, maps_after, with_view, world_with, program_of}
+use Rattle.world.proofs.Prelude.{AreProgramsBound, view_of, depth_of_run, IsOfProgram, AreRunsKept, IsKept, world_of, HasTaken}
+use Rattle.world_laws.proofs.Prelude.{local_of, step_at, step_in, run_step_of, word_step, IsSound}
 use Rattle.bpf_model.specs.declared.event.Answer.TheVariants as answers
-use Rattle.bpf_model.specs.declared.insn.Insn.{Insn}
-use Rattle.bpf_model.specs.declared.limits.TheConstants.{MAX_RUNS}
 use Rattle.bpf_model.specs.Machine as machine
-use Rattle.bpf_model.specs.Schedule.{Schedule, still_open}
-use Rattle.bpf_model.specs.Step.{insn_at}
-use Rattle.bpf_model.specs.View.{MapView, RunView, WorldView, shapes_of, shapes_of_maps}
-use Rattle.element_store.specs.Sections.{GraceState, is_open_depth, opened_in}
-use Rattle.verifier.specs.Verdict.{IsJustified}
-use Rattle.model_laws.specs.Matching.{Matches}
-use Rattle.model_laws.specs.Reactions.{step_refused}
-use Rattle.world_laws.specs.Local.{local_of}
-use Rattle.world_laws.specs.Reacting.{step_at, step_in, run_step_of, word_step}
-use Rattle.world_laws.specs.Typed.{IsSound}
 use Rattle.world_laws.proofs.Keeping.{step-keeps}
 use Rattle.world_laws.proofs.Stepping.{not-ended}
-use Rattle.machine.specs.declared.request.Request.{Request}
 use Rattle.machine.specs.declared.request.Local.TheVariants as code
-use Rattle.machine.specs.Requests.{request_of, resumed_view}
-use Rattle.machine.specs.RunWords.{RunWords, IsAt}
-use Rattle.machine.specs.Regions.{IsCodeOf}
-use Rattle.machine.specs.Standing.{MayGive}
-use Rattle.machine.specs.Steps.{IsLocalStep}
 use Rattle.machine.proofs.Laws.{can_step}
 use Rattle.machine.proofs.RunningStands.{running_stands}
-use Rattle.world.specs.Serving.{CanServe, IsReply, IsFlagged, ShowsGrace, grace_after, maps_after, with_view, world_with}
 use Rattle.world.proofs.Giving.{may_give}
 use Rattle.world.proofs.Running.{running, flagged, can_be_served}
 use Rattle.world.proofs.ServedSteps.{own_is, own_keeps, own_asks, served_is, goes_on, resumed-program, shown-still}
 use Rattle.world.specs.declared.kept.loaded.Loaded.{Loaded}
-use Rattle.world.specs.Programs.{program_of}
-use Rattle.world.specs.BoundTo.{AreProgramsBound}
-use Rattle.world.specs.Keeping.{view_of, depth_of_run, IsOfProgram, AreRunsKept, IsKept, world_of}
-use Rattle.world.specs.Stepping.{CanTake, HasTaken, IsGoing, HasGone}
-use Rattle.std.proofs.lemmas.List.{length-set, map-set}
-use Rattle.bpf_model.proofs.Lists.{get-map, set-same, get-set_cases}
-use Rattle.std.specs.Option.{option_flatten}
+use Rattle.world.specs.Stepping.{CanTake, IsGoing, HasGone}
 
 module _ (loaded : Loaded) (maps : List MapView) (g : GraceState) (r : ℕ) (old : RunWords) (can : CanTake loaded maps g r old) where
   abbrev v : RunView

@@ -1,31 +1,12 @@
 -- Without map references an exit is of the instructions alone: whatever else a program was loaded with, its run makes the same steps.
-use Rattle.std.proofs.Common.{◌≡◌, ℕ, List, [], Option, Some, None, false, inl, refl, sym, ap, ◌∙◌, ℤ}
-use Rattle.std.proofs.lemmas.Bool.{false≢true}
+use Rattle.bpf_model.proofs.Prelude.{◌≡◌, ℕ, List, [], Option, Some, None, false, inl, refl, sym, ap, ◌∙◌, ℤ, false≢true, byte_count, unsigned_width}
+use Rattle.bpf_model.proofs.Prelude.{loaded_signed, helper_of, kernel_function_of, names_map, HasNoMaps, ExitsFrom, exits_now, exits_later, ExitsWith}
+use Rattle.bpf_model.proofs.Prelude.{Section, State, Outcome, Moves, Exits, load_from, sets, after, insn_at, environment_of, Store, Loaded, Run, environment}
+use Rattle.bpf_model.proofs.Prelude.{fresh_run, OutcomeStep, RunStep, ◌>>=◌, number}
+use Rattle.model_laws.proofs.Prelude.{Insn, Call, Load, LoadSigned, LoadMap, KernelFunction, ReadLock, ReadUnlock, Answer, Moved, Exited, Value, Nothing}
+use Rattle.model_laws.proofs.Prelude.{Number, Pointer, Ctx, Frame, MapRef, Elem, StepsByKind, KernelStep, HoldsState, IsOwn, SharesNothing}
 use Rattle.model_laws.proofs.Exits.{no_maps}
-use Rattle.bpf_model.specs.declared.insn.Insn.{Insn}
-use Rattle.bpf_model.specs.declared.insn.Insn.TheVariants.{Call, Load, LoadSigned, LoadMap}
 use Rattle.bpf_model.specs.declared.insn.CallKind.TheVariants as kinds
-use Rattle.bpf_model.specs.declared.call.KernelFunction.{KernelFunction}
-use Rattle.bpf_model.specs.declared.call.KernelFunction.TheVariants.{ReadLock, ReadUnlock}
-use Rattle.bpf_model.specs.declared.event.Answer.{Answer}
-use Rattle.bpf_model.specs.declared.event.Answer.TheVariants.{Moved, Exited}
-use Rattle.bpf_model.specs.declared.value.Value.{Value}
-use Rattle.bpf_model.specs.declared.value.Value.TheVariants.{Nothing, Number, Pointer}
-use Rattle.bpf_model.specs.declared.value.Reference.TheVariants.{Ctx, Frame, MapRef, Elem}
-use Rattle.bpf_model.specs.Access.{byte_count, unsigned_width}
-use Rattle.bpf_model.specs.Arithmetic.{loaded_signed}
-use Rattle.bpf_model.specs.Call.{helper_of, kernel_function_of}
-use Rattle.bpf_model.specs.Exit.{names_map, HasNoMaps, ExitsFrom, exits_now, exits_later, ExitsWith}
-use Rattle.bpf_model.specs.Section.{Section}
-use Rattle.bpf_model.specs.Step.{State, Outcome, Moves, Exits, load_from, sets, after, insn_at}
-use Rattle.bpf_model.specs.Step.{environment_of}
-use Rattle.bpf_model.specs.MapState.{Store}
-use Rattle.bpf_model.specs.Machine.{Loaded, Run, environment, fresh_run}
-use Rattle.bpf_model.specs.MachineStep.{OutcomeStep, RunStep}
-use Rattle.model_laws.specs.ByKind.{StepsByKind, KernelStep}
-use Rattle.bpf_model.specs.Value.{◌>>=◌, number}
-use Rattle.model_laws.specs.Holds.{HoldsState}
-use Rattle.model_laws.specs.Alone.{IsOwn, SharesNothing}
 use Rattle.model_laws.proofs.Alone.{insn-all, helper-own, acts-own, starts_sharing_nothing, stays_sharing_nothing}
 use Rattle.plan_laws.proofs.Reaching.{same-insn}
 use Rattle.model_laws.proofs.Requests.{by_kind, of_kind}

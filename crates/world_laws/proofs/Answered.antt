@@ -1,49 +1,25 @@
 -- A run that maps around it have answered stands among the maps after the call. First it forgets each reference to an
 -- element that it may not access, since such a number may be born in the call.
-use Rattle.std.proofs.Common.{◌≡◌, ℕ, zero, suc, ◌+◌, ◌<◌, refl, sym, ap, subst, ◌∙◌, arith, List, [], ◌∷◌, length, Option, Some, None}
-use Rattle.std.proofs.Common.{Bool, true, false, inl, inr}
-use Rattle.std.specs.Prelude.{slice_get, slice_set, slice_index, ◌==◌, nat_le, if◌then◌else◌, ℤ, pos, negsuc}
-use Rattle.std.proofs.lemmas.Bool.{false≢true}
-use Rattle.std.proofs.lemmas.List.{length-set}
-use Rattle.std.proofs.lemmas.Option.{none-some, same_Some, slice_get_within}
-use Rattle.bpf_model.specs.declared.call.ArgumentKind.{ArgumentKind}
-use Rattle.bpf_model.specs.declared.call.ArgumentKind.TheVariants.{MapOfProgram, KeyOfMap, ValueOfMap, AnyNumber}
+use Rattle.bpf_model.proofs.Prelude.{◌≡◌, ℕ, zero, suc, ◌+◌, ◌<◌, refl, sym, ap, subst, ◌∙◌, arith, List, [], ◌∷◌, length, Option, Some, None, Bool, true}
+use Rattle.bpf_model.proofs.Prelude.{false, inl, inr, slice_get, slice_set, slice_index, ◌==◌, nat_le, if◌then◌else◌, ℤ, pos, negsuc, false≢true, length-set}
+use Rattle.bpf_model.proofs.Prelude.{none-some, same_Some, slice_get_within, helper_of, Element, Life, accessible, is_reclaimed, unless_reclaimed, byte_of}
+use Rattle.bpf_model.proofs.Prelude.{bytes_at, bytes_from, frame_bytes, Run, moves, InsnStep, StepsServed, MapState, Store, AllBytes, Argument, MapArgument}
+use Rattle.bpf_model.proofs.Prelude.{BytesArgument, NumberArgument, Request, CallHelper, ServesRequest, argument_of, arguments_of, asks, bound_shape}
+use Rattle.bpf_model.proofs.Prelude.{called_shape, named_map, signature_of, Section, State, insn_at, returned_value, returns, ◌>>=◌, number, reference}
+use Rattle.bpf_model.proofs.Prelude.{RunView, WordIs, slot_base, AreWords}
+use Rattle.model_laws.proofs.Prelude.{ArgumentKind, MapOfProgram, KeyOfMap, ValueOfMap, AnyNumber, Insn, Call, MapShape, FRAME_BYTES, REGISTERS, Cell}
+use Rattle.model_laws.proofs.Prelude.{Unwritten, Byte, Part, Value, Nothing, Number, Pointer, Ctx, Frame, MapRef, Elem}
+use Rattle.plan_laws.proofs.Prelude.{IsHeld, scene_of, IsClosed, IsPlanned, IsVerified, Plan, Surrounds}
+use Rattle.world_laws.proofs.Prelude.{returned_view, IsNumbered, IsRunOf, IsSlotWord, MapsAnswer}
 use Rattle.bpf_model.specs.declared.insn.CallKind.TheVariants as kinds
-use Rattle.bpf_model.specs.declared.insn.Insn.{Insn}
-use Rattle.bpf_model.specs.declared.insn.Insn.TheVariants.{Call}
-use Rattle.bpf_model.specs.declared.limits.MapShape.{MapShape}
-use Rattle.bpf_model.specs.declared.limits.TheConstants.{FRAME_BYTES, REGISTERS}
-use Rattle.bpf_model.specs.declared.value.Cell.{Cell}
-use Rattle.bpf_model.specs.declared.value.Cell.TheVariants.{Unwritten, Byte, Part}
-use Rattle.bpf_model.specs.declared.value.Value.{Value}
-use Rattle.bpf_model.specs.declared.value.Value.TheVariants.{Nothing, Number, Pointer}
-use Rattle.bpf_model.specs.declared.value.Reference.TheVariants.{Ctx, Frame, MapRef, Elem}
-use Rattle.bpf_model.specs.Call.{helper_of}
-use Rattle.bpf_model.specs.Element.{Element, Life, accessible, is_reclaimed, unless_reclaimed}
-use Rattle.bpf_model.specs.Frame.{byte_of, bytes_at, bytes_from, frame_bytes}
-use Rattle.bpf_model.specs.Machine.{Run, moves}
-use Rattle.bpf_model.specs.MachineStep.{InsnStep, StepsServed}
-use Rattle.bpf_model.specs.MapState.{MapState, Store}
-use Rattle.bpf_model.specs.Real.{AllBytes}
-use Rattle.bpf_model.specs.Request.{Argument, MapArgument, BytesArgument, NumberArgument, Request, CallHelper}
-use Rattle.bpf_model.specs.Request.{ServesRequest, argument_of, arguments_of, asks, bound_shape, called_shape, named_map, signature_of}
-use Rattle.bpf_model.specs.Section.{Section}
-use Rattle.bpf_model.specs.Step.{State, insn_at, returned_value, returns}
-use Rattle.bpf_model.specs.Value.{◌>>=◌, number, reference}
-use Rattle.bpf_model.specs.View.{RunView}
-use Rattle.bpf_model.specs.Word.{WordIs, slot_base}
 use Rattle.model_laws.proofs.Computations.{first-step, then-step}
 use Rattle.model_laws.proofs.Holding.{Closed, holds-returns}
 use Rattle.model_laws.proofs.Keeping.{element-before, keeps-lengths, keeps-single}
 use Rattle.model_laws.proofs.Stores.{AllLengths, Ends, LifeMoves, StoreMoves, Stays, Unlinks, accessible-born, moves-insn}
-use Rattle.plan_laws.specs.Describes.{IsHeld, scene_of}
-use Rattle.plan_laws.specs.Verified.{IsClosed, IsPlanned, IsVerified, Plan, Surrounds}
 use Rattle.plan_laws.proofs.Arrays.{AllStayKept}
 use Rattle.plan_laws.proofs.Elements.{accessible-held}
 use Rattle.plan_laws.proofs.Reaching.{bound-kept}
-use Rattle.world_laws.specs.Calling.{returned_view}
-use Rattle.bpf_model.specs.Refines.{AreWords}
-use Rattle.world_laws.specs.Standing.{IsNumbered, IsRunOf, IsSlotWord, LieInSlots, MapsAnswer}
+use Rattle.world_laws.specs.Standing.{LieInSlots}
 use Rattle.world_laws.proofs.Bytes.{set_cond}
 use Rattle.world_laws.proofs.Calling.{word-returned}
 use Rattle.world_laws.proofs.Erasing as erasing

@@ -1,9 +1,7 @@
 -- Answers to events, and the world after them, where further events come behind.
-use Rattle.std.proofs.Common.{◌≡◌, ◌∙◌, List, [], ◌∷◌, ◌++◌, refl, sym, ap}
-use Rattle.bpf_model.specs.declared.event.Event.{Event}
-use Rattle.bpf_model.specs.declared.event.Answer.{Answer}
-use Rattle.bpf_model.specs.View.{WorldView}
-use Rattle.world_laws.specs.Reacting.{full_reaction, full_reactions}
+use Rattle.bpf_model.proofs.Prelude.{◌≡◌, ◌∙◌, List, [], ◌∷◌, ◌++◌, refl, sym, ap, WorldView}
+use Rattle.model_laws.proofs.Prelude.{Event, Answer}
+use Rattle.world_laws.proofs.Prelude.{full_reaction, full_reactions}
 
 pub answers_append : (w : WorldView) (first rest : List Event) →
     (full_reactions w (first ++ rest)).0 ≡ (full_reactions w first).0 ++

@@ -1,14 +1,7 @@
 -- An exit value that was asked for, where there is one, is one of the program's definition.
-use Rattle.std.proofs.Common.{ℕ, List, Option}
-use Rattle.std.specs.Prelude.{IfSome}
-use Rattle.std.proofs.lemmas.Option.{IfSome_then}
-use Rattle.bpf_model.specs.declared.insn.Insn.{Insn}
-use Rattle.bpf_model.specs.Exit.{HasNoMaps}
-use Rattle.bpf_model.specs.declared.limits.MapShape.{MapShape}
-use Rattle.bpf_model.specs.View.{WorldView}
-use Rattle.world_laws.specs.Exited.{HasExited}
-use Rattle.world_laws.specs.Invariant.{IsWorld}
-use Rattle.world_laws.specs.Exits.{MayExitAs, ExitsAs}
+use Rattle.bpf_model.proofs.Prelude.{ℕ, List, Option, IfSome, IfSome_then, HasNoMaps, WorldView}
+use Rattle.model_laws.proofs.Prelude.{Insn, MapShape}
+use Rattle.world_laws.proofs.Prelude.{HasExited, IsWorld, MayExitAs, ExitsAs}
 use Rattle.world_laws.proofs.Lived.{may_exit_as, exits_as}
 
 module _ (w : WorldView) (r : ℕ) (code : List Insn) (shapes : List MapShape) (context_len : ℕ) (context : List ℕ)

@@ -1,20 +1,8 @@
 -- What a lookup asks: a map of the program's list, and a key of its length in the frame.
-use Rattle.std.proofs.Common.{◌≡◌, ℕ, zero, suc, ◌+◌, sym, ap, ◌∙◌, List, [], ◌∷◌, length, map, Option, Some, None, Bool, true, false}
-use Rattle.std.specs.Prelude.{nat_le, if◌then◌else◌, ℤ, pos, negsuc}
-use Rattle.std.proofs.lemmas.Option.{none-some, same_Some}
-use Rattle.bpf_model.specs.declared.call.Helper.TheVariants.{Lookup}
-use Rattle.bpf_model.specs.declared.limits.MapShape.{MapShape}
-use Rattle.bpf_model.specs.declared.limits.TheConstants.{FRAME_BYTES}
-use Rattle.bpf_model.specs.declared.value.Cell.{Cell}
-use Rattle.bpf_model.specs.declared.value.Value.{Value}
-use Rattle.bpf_model.specs.declared.value.Value.TheVariants.{Nothing, Number, Pointer}
-use Rattle.bpf_model.specs.declared.value.Reference.TheVariants.{Ctx, Frame, MapRef, Elem}
-use Rattle.bpf_model.specs.Frame.{byte_of}
-use Rattle.bpf_model.specs.Frame.{bytes_at, bytes_from, frame_bytes}
-use Rattle.bpf_model.specs.Request.{Argument, MapArgument, BytesArgument, argument_of, arguments_of, called_shape, named_map, signature_of}
-use Rattle.bpf_model.specs.declared.call.ArgumentKind.TheVariants.{KeyOfMap, MapOfProgram}
-use Rattle.bpf_model.specs.Step.{State}
-use Rattle.bpf_model.specs.Value.{◌>>=◌, reference}
+use Rattle.bpf_model.proofs.Prelude.{◌≡◌, ℕ, zero, suc, ◌+◌, sym, ap, ◌∙◌, List, [], ◌∷◌, length, map, Option, Some, None, Bool, true, false, nat_le}
+use Rattle.bpf_model.proofs.Prelude.{if◌then◌else◌, ℤ, pos, negsuc, none-some, same_Some, byte_of, bytes_at, bytes_from, frame_bytes, Argument, MapArgument}
+use Rattle.bpf_model.proofs.Prelude.{BytesArgument, argument_of, arguments_of, called_shape, named_map, signature_of, State, ◌>>=◌, reference}
+use Rattle.model_laws.proofs.Prelude.{Lookup, MapShape, FRAME_BYTES, Cell, Value, Nothing, Number, Pointer, Ctx, Frame, MapRef, Elem, KeyOfMap, MapOfProgram}
 use Rattle.model_laws.proofs.Computations.{first-step}
 
 length-bytes_at : (frame : ℕ → Cell) (at n : ℕ) (bytes : List ℕ) → bytes_at frame at n ≡ Some bytes → length bytes ≡ n

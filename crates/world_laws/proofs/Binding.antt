@@ -1,15 +1,9 @@
 -- A program that is bound to maps of a world is bound to the machine's.
-use Rattle.std.proofs.Common.{◌≡◌, ◌∙◌, ℕ, zero, suc, List, [], ◌∷◌, map, length, Option, Some, None, refl, sym, ap}
-use Rattle.std.specs.Prelude.{slice_get}
+use Rattle.bpf_model.proofs.Prelude.{◌≡◌, ◌∙◌, ℕ, zero, suc, List, [], ◌∷◌, map, length, Option, Some, None, refl, sym, ap, slice_get, length-map, none-some}
+use Rattle.bpf_model.proofs.Prelude.{same_Some, slice_get-map, MapState, RefinesSchedule, Schedule, MapView, WorldView, shapes_of}
+use Rattle.model_laws.proofs.Prelude.{MapShape}
+use Rattle.plan_laws.proofs.Prelude.{AreMapsBound}
 use Rattle.std.specs.Option.{option_map}
-use Rattle.std.proofs.lemmas.List.{length-map}
-use Rattle.std.proofs.lemmas.Option.{none-some, same_Some, slice_get-map}
-use Rattle.bpf_model.specs.declared.limits.MapShape.{MapShape}
-use Rattle.bpf_model.specs.MapState.{MapState}
-use Rattle.bpf_model.specs.Refines.{RefinesSchedule}
-use Rattle.bpf_model.specs.Schedule.{Schedule}
-use Rattle.bpf_model.specs.View.{MapView, WorldView, shapes_of}
-use Rattle.plan_laws.specs.Verified.{AreMapsBound}
 use Rattle.model_laws.proofs.ViewedWorlds.{here}
 
 pub bound-count : (shapes asked : List MapShape) (numbers : List ℕ) → map (slice_get shapes) numbers ≡ map Some asked → length numbers ≡ length asked

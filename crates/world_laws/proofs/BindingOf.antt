@@ -1,13 +1,9 @@
 -- A program is verified for the maps to which it is bound.
-use Rattle.std.proofs.Common.{List, map, refl}
-use Rattle.bpf_model.proofs.Lists.{get-map}
-use Rattle.bpf_model.specs.declared.limits.MapShape.{MapShape}
-use Rattle.bpf_model.specs.Machine.{Loaded}
-use Rattle.bpf_model.specs.MapState.{new_map}
-use Rattle.plan_laws.specs.Verified.{IsVerified}
-use Rattle.plan_laws.specs.Well.{IsVerifiedFor}
+use Rattle.bpf_model.proofs.Prelude.{List, map, refl, get-map, Loaded, new_map}
+use Rattle.model_laws.proofs.Prelude.{MapShape}
+use Rattle.plan_laws.proofs.Prelude.{IsVerified, IsVerifiedFor}
+use Rattle.world_laws.proofs.Prelude.{IsBoundTo}
 use Rattle.world_laws.proofs.Binding.{bound-count, bound-each}
-use Rattle.world_laws.specs.Binding.{IsBoundTo}
 
 pub bound_is_verified : (shapes asked : List MapShape) (program : Loaded) → IsBoundTo shapes asked program.maps →
     IsVerified program.code asked program.context_len → IsVerifiedFor (map new_map shapes) program

@@ -1,22 +1,13 @@
 -- Bytes of lists: those that a number was written to, those that a load reads, those of an argument.
-use Rattle.std.proofs.Common.{◌≡◌, ℕ, zero, suc, ◌+◌, ◌-◌, ◌*◌, ◌/◌, ◌%◌, ◌^◌, ◌<◌, ◌≤◌, refl, sym, ◌∙◌, ap, subst, arith, length, List, [], ◌∷◌, inl, inr, ◌≢◌}
-use Rattle.std.specs.Prelude.{Some, ◌==◌, if◌then◌else◌, slice_get, slice_index, slice_set, take, drop, unwrap_or, ℤ, pos}
-use Rattle.std.proofs.lemmas.Bool.{cases_lt, cases_eq, eq-eqb, ne_eqb, cond-true, cond-false}
-use Rattle.std.proofs.lemmas.List.{get_or-set_same, get_or-set_other}
-use Rattle.std.proofs.lemmas.Option.{slice_get-get_or, same_Some}
-use Rattle.std.proofs.Math.Nat.{pow-suc, div-div-eq-div-mul}
-use Rattle.bpf_model.specs.declared.value.Cell.{Cell}
-use Rattle.bpf_model.specs.Access.{number_at}
-use Rattle.bpf_model.specs.Frame.{byte_of, is_within}
-use Rattle.bpf_model.specs.Access.{with_bytes}
-use Rattle.bpf_model.specs.Frame.{bytes_at}
-use Rattle.bpf_model.specs.Value.{◌>>=◌}
-use Rattle.bpf_model.specs.Word.{ByteIs}
-use Rattle.world_laws.specs.Locating.{number_from}
+use Rattle.bpf_model.proofs.Prelude.{◌≡◌, ℕ, zero, suc, ◌+◌, ◌-◌, ◌*◌, ◌/◌, ◌%◌, ◌^◌, ◌<◌, ◌≤◌, refl, sym, ◌∙◌, ap, subst, arith, length, List, [], ◌∷◌, inl}
+use Rattle.bpf_model.proofs.Prelude.{inr, ◌≢◌, Some, ◌==◌, if◌then◌else◌, slice_get, slice_index, slice_set, take, drop, unwrap_or, ℤ, pos, cases_lt}
+use Rattle.bpf_model.proofs.Prelude.{cases_eq, eq-eqb, ne_eqb, cond-true, cond-false, get_or-set_same, get_or-set_other, slice_get-get_or, same_Some, pow-suc}
+use Rattle.bpf_model.proofs.Prelude.{div-div-eq-div-mul, number_at, byte_of, is_within, with_bytes, bytes_at, ◌>>=◌, ByteIs, before, behind, within}
+use Rattle.bpf_model.proofs.Prelude.{length-with_bytes, drop-next}
+use Rattle.model_laws.proofs.Prelude.{Cell}
+use Rattle.world_laws.proofs.Prelude.{number_from}
 use Rattle.world_laws.proofs.Cells.{number_more, byte_known}
 use Rattle.model_laws.proofs.Computations.{first-step}
-use Rattle.bpf_model.proofs.Bytes.{before, behind, within, length-with_bytes}
-use Rattle.bpf_model.proofs.Lists.{drop-next}
 
 pub set_cond : (xs : List ℕ) (d x q : ℕ) → d < length xs → slice_index (slice_set xs d x) q ≡ (if q == d then x else slice_index xs q)
 set_cond xs d x q l = elim (cases_eq q d) [

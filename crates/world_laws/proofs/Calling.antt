@@ -1,54 +1,25 @@
 -- Calls: a lock, an unlock, and the helpers.
-use Rattle.std.proofs.Common.{◌≡◌, ℕ, ◌+◌, ◌-◌, ◌<◌, ◌≤◌, refl, sym, ap, subst, ◌∙◌, arith, Option, Some, None, List, length, Bool, true, false}
-use Rattle.std.specs.Prelude.{slice_get, slice_index, slice_set, take, drop, ℤ, pos, negsuc, ◌+ℤ◌, ◌==◌, nat_le, if◌then◌else◌}
-use Rattle.std.specs.FinMap.{get}
-use Rattle.std.proofs.lemmas.Int.{ints}
-use Rattle.std.proofs.lemmas.Bool.{leb-true}
-use Rattle.std.proofs.lemmas.List.{length-set}
-use Rattle.std.proofs.lemmas.Option.{none-some, same_Some, slice_get_within}
-use Rattle.bpf_model.specs.declared.limits.TheConstants.{FRAME_BYTES, REGISTERS}
-use Rattle.bpf_model.specs.declared.call.Helper.{Helper}
-use Rattle.bpf_model.specs.declared.call.Helper.TheVariants.{Lookup, Update, Delete}
-use Rattle.bpf_model.specs.declared.call.KernelFunction.{KernelFunction}
-use Rattle.bpf_model.specs.declared.call.KernelFunction.TheVariants.{ReadLock, ReadUnlock}
-use Rattle.bpf_model.specs.declared.event.Answer.TheVariants.{Moved}
+use Rattle.bpf_model.proofs.Prelude.{◌≡◌, ℕ, ◌+◌, ◌-◌, ◌<◌, ◌≤◌, refl, sym, ap, subst, ◌∙◌, arith, Option, Some, None, List, length, Bool, true, false}
+use Rattle.bpf_model.proofs.Prelude.{slice_get, slice_index, slice_set, take, drop, ℤ, pos, negsuc, ◌+ℤ◌, ◌==◌, nat_le, if◌then◌else◌, get, ints, leb-true}
+use Rattle.bpf_model.proofs.Prelude.{length-set, none-some, same_Some, slice_get_within, helper_of, kernel_function_of, ret_word, Element, LooksUp, Loaded}
+use Rattle.bpf_model.proofs.Prelude.{Run, open_sections, moves, returns, returned_value, found_value, frame_bytes, bytes_at, RunRefines, Schedule, ◌>>=◌}
+use Rattle.bpf_model.proofs.Prelude.{reference, MapView, RunView, WorldView, WordIs, element_bases, map_in, slot_base, map_base, frame_base, get-below}
+use Rattle.model_laws.proofs.Prelude.{FRAME_BYTES, REGISTERS, Helper, Lookup, Update, Delete, KernelFunction, ReadLock, ReadUnlock, Moved, Call, MapShape}
+use Rattle.model_laws.proofs.Prelude.{Value, Nothing, Number, Pointer, Ctx, Frame, MapRef, Elem, KernelStep, HelperStep, LookupStep, UpdateStep, DeleteStep}
+use Rattle.model_laws.proofs.Prelude.{map_argument, bound_map, key_argument, Matches, with_map, deleted, updated}
+use Rattle.world_laws.proofs.Prelude.{word_in, moves_on, bound_number, bytes_in, returned_view, found_word, serves, helper_called_on, helper_called}
+use Rattle.world_laws.proofs.Prelude.{kernel_called, insn_step, IsSound, IsRunning}
 use Rattle.bpf_model.specs.declared.insn.CallKind.TheVariants as kinds
-use Rattle.bpf_model.specs.declared.insn.Insn.TheVariants.{Call}
-use Rattle.bpf_model.specs.declared.limits.MapShape.{MapShape}
-use Rattle.bpf_model.specs.declared.value.Value.{Value}
-use Rattle.bpf_model.specs.declared.value.Value.TheVariants.{Nothing, Number, Pointer}
-use Rattle.bpf_model.specs.declared.value.Reference.TheVariants.{Ctx, Frame, MapRef, Elem}
-use Rattle.bpf_model.specs.Call.{helper_of, kernel_function_of, ret_word}
-use Rattle.bpf_model.specs.Element.{Element}
-use Rattle.bpf_model.specs.Helper.{LooksUp}
-use Rattle.bpf_model.specs.Machine.{Loaded, Run, open_sections, moves}
-use Rattle.model_laws.specs.ByKind.{KernelStep, HelperStep, LookupStep, UpdateStep, DeleteStep, map_argument, bound_map, key_argument}
-use Rattle.bpf_model.specs.Step.{returns, returned_value}
-use Rattle.bpf_model.specs.Request.{found_value}
-use Rattle.bpf_model.specs.Frame.{frame_bytes, bytes_at}
 use Rattle.bpf_model.specs.MapState as map_state
-use Rattle.bpf_model.specs.Refines.{RunRefines}
-use Rattle.bpf_model.specs.Schedule.{Schedule}
-use Rattle.bpf_model.specs.Value.{◌>>=◌, reference}
-use Rattle.bpf_model.specs.View.{MapView, RunView, WorldView}
-use Rattle.bpf_model.specs.Word.{WordIs, element_bases, map_in, slot_base, map_base, frame_base}
 use Rattle.model_laws.proofs.Computations.{first-step}
-use Rattle.model_laws.specs.Matching.{Matches}
-use Rattle.model_laws.specs.Reactions.{with_map}
-use Rattle.model_laws.specs.Views.{deleted, updated}
 use Rattle.model_laws.proofs.ViewedWorlds.{here}
 use Rattle.model_laws.proofs.Running.{lock_simulates, unlock_simulates, halves_simulate}
 use Rattle.model_laws.proofs.Deleting.{delete_half}
 use Rattle.model_laws.proofs.Updating.{update_half}
-use Rattle.world_laws.specs.Moving.{word_in, moves_on}
-use Rattle.world_laws.specs.Calling.{bound_number, bytes_in, returned_view, found_word, serves, helper_called_on, helper_called, kernel_called}
-use Rattle.world_laws.specs.Reacting.{insn_step}
-use Rattle.world_laws.specs.Typed.{IsSound, IsRunning}
 use Rattle.world_laws.proofs.Words.{number_word}
 use Rattle.world_laws.proofs.Bytes.{set_cond, argument-bytes}
 use Rattle.world_laws.proofs.Ready.{bases, refines, register-word, byte-stands, moves-to, move-refines, half-refines}
 use Rattle.world_laws.proofs.Own.{Known, Does}
-use Rattle.bpf_model.proofs.Lists.{get-below}
 use Rattle.model_laws.proofs.Requests.{of_kind}
 
 pub word-returned : (bases : ℕ → ℕ) (a b : Bool) (x y : ℕ) (u v : Value) → WordIs bases u x → WordIs bases v y →

@@ -1,26 +1,14 @@
 -- Elements by a function of their numbers: what stands around a run, as far as it can tell.
-use Rattle.std.proofs.Common.{◌≡◌, ℕ, ◌+◌, ◌<◌, refl, sym, ap, subst, ◌∙◌, arith, inl, inr, List, [], ◌∷◌, length}
-use Rattle.std.proofs.Common.{map, replicate, Option, Some, None, Bool, true, false}
-use Rattle.std.specs.Prelude.{slice_get, ◌==◌, if◌then◌else◌}
-use Rattle.std.specs.List.{range_with_len}
-use Rattle.std.proofs.lemmas.Option.{none-some, same_Some, slice_get_within, slice_get-get_or}
-use Rattle.std.proofs.lemmas.List.{length-replicate}
-use Rattle.std.proofs.lemmas.List.FromFn.{get_or-range_with_len, length-range_with_len, length-map-range_with_len}
-use Rattle.bpf_model.specs.declared.limits.MapShape.{MapShape}
-use Rattle.model_laws.specs.Consistent.{HasLengths, IsSingle}
-use Rattle.bpf_model.specs.Element.{Element, Linked, Unlinked, accessible, unless_reclaimed, is_reclaimed}
-use Rattle.bpf_model.specs.Value.{◌>>=◌}
-use Rattle.std.proofs.lemmas.Bool.{eq-eqb, eqb-true}
-use Rattle.bpf_model.specs.Real.{AreBytes, AllBytes}
-use Rattle.bpf_model.specs.Machine.{Run, section_of}
-use Rattle.bpf_model.specs.MapState.{new_map}
-use Rattle.bpf_model.specs.Section.{Section}
-use Rattle.bpf_model.proofs.Lists.{get-map, get-replicate, get-below}
-use Rattle.plan_laws.specs.Describes.{scene_of, IsArrayMap, IsGuarded}
-use Rattle.plan_laws.specs.Verified.{StaysKept}
+use Rattle.bpf_model.proofs.Prelude.{◌≡◌, ℕ, ◌+◌, ◌<◌, refl, sym, ap, subst, ◌∙◌, arith, inl, inr, List, [], ◌∷◌, length, map, replicate, Option, Some, None}
+use Rattle.bpf_model.proofs.Prelude.{Bool, true, false, slice_get, ◌==◌, if◌then◌else◌, range_with_len, none-some, same_Some, slice_get_within}
+use Rattle.bpf_model.proofs.Prelude.{slice_get-get_or, length-replicate, get_or-range_with_len, length-range_with_len, length-map-range_with_len, Element}
+use Rattle.bpf_model.proofs.Prelude.{Linked, Unlinked, accessible, unless_reclaimed, is_reclaimed, ◌>>=◌, eq-eqb, eqb-true, AreBytes, AllBytes, Run}
+use Rattle.bpf_model.proofs.Prelude.{section_of, new_map, Section, get-map, get-replicate, get-below}
+use Rattle.model_laws.proofs.Prelude.{MapShape, HasLengths, IsSingle}
+use Rattle.plan_laws.proofs.Prelude.{scene_of, IsArrayMap, IsGuarded, StaysKept}
+use Rattle.world_laws.proofs.Prelude.{map_of, key_length, value_length, element_of, elements_by, births, store_of}
 use Rattle.plan_laws.proofs.Arrays.{AllStayKept}
 use Rattle.plan_laws.proofs.Kept.{Keeps}
-use Rattle.world_laws.specs.Around.{map_of, key_length, value_length, element_of, elements_by, births, store_of}
 
 pub get-range : (count n : ℕ) → n < count → slice_get (range_with_len 0 count) n ≡ Some n
 get-range count n l =

@@ -1,17 +1,10 @@
 -- The count of reclaimed elements has room in 64 bits.
-use Rattle.std.proofs.Common.{◌≡◌, ◌+◌, ◌*◌, ◌^◌, ◌<◌, ◌≤◌, List, length, get_or, arith}
-use Rattle.std.specs.List.{sum_by}
-use Rattle.std.proofs.lemmas.List.{length-map}
+use Rattle.bpf_model.proofs.Prelude.{◌≡◌, ◌+◌, ◌*◌, ◌^◌, ◌<◌, ◌≤◌, List, length, get_or, arith, sum_by, length-map, slice_get-get_or, IsShape, AreShapes}
+use Rattle.bpf_model.proofs.Prelude.{most_births, slots_of_shape, MapView, WorldView, shapes_of, most_map_slots}
+use Rattle.model_laws.proofs.Prelude.{MAX_REUSE, MAX_MAPS, MapShape}
+use Rattle.world_laws.proofs.Prelude.{IsWorld}
 use Rattle.std.proofs.lemmas.List.Sums.{sum_by-le}
-use Rattle.std.proofs.lemmas.Option.{slice_get-get_or}
 use Rattle.std.proofs.Math.Nat.{mul-le-mul}
-use Rattle.bpf_model.specs.declared.limits.TheConstants.{MAX_REUSE, MAX_MAPS}
-use Rattle.bpf_model.specs.declared.limits.MapShape.{MapShape}
-use Rattle.bpf_model.specs.Shapes.{IsShape, AreShapes, most_births}
-use Rattle.bpf_model.specs.MapState.{slots_of_shape}
-use Rattle.bpf_model.specs.View.{MapView, WorldView, shapes_of}
-use Rattle.bpf_model.specs.Word.{most_map_slots}
-use Rattle.world_laws.specs.Invariant.{IsWorld}
 
 births-few : (shape : MapShape) → IsShape shape → most_births shape ≤ most_map_slots * MAX_REUSE
 births-few shape is =

@@ -1,23 +1,12 @@
 -- What the plan says of a run is kept by the steps of the run, whatever stands around it.
-use Rattle.std.proofs.Common.{◌≡◌, ℕ, inl, inr, refl, sym, ap, subst, ◌∙◌, arith, List, [], ◌∷◌, length, map, Some, None}
-use Rattle.bpf_model.specs.declared.insn.Insn.{Insn}
-use Rattle.bpf_model.specs.declared.event.Answer.TheVariants.{Moved}
-use Rattle.bpf_model.specs.declared.limits.MapShape.{MapShape}
-use Rattle.model_laws.specs.Consistent.{IsSingle}
-use Rattle.bpf_model.specs.Element.{Element}
-use Rattle.bpf_model.specs.Real.{AreBytes}
-use Rattle.bpf_model.specs.Machine.{Loaded, Run, environment, fresh_run, moves, section_of}
-use Rattle.bpf_model.specs.MachineStep.{InsnStep}
-use Rattle.bpf_model.specs.MapState.{Store, new_map}
-use Rattle.bpf_model.specs.MachineStep.{StepsAlone}
-use Rattle.bpf_model.specs.Section.{Section}
-use Rattle.bpf_model.specs.Step.{State, Moves, after, insn_at}
-use Rattle.plan_laws.specs.Describes.{scene_of}
-use Rattle.plan_laws.specs.Verified.{Plan, AreMapsBound, Surrounds, IsPlanned, IsPlannedAfter, IsClosed}
+use Rattle.bpf_model.proofs.Prelude.{◌≡◌, ℕ, inl, inr, refl, sym, ap, subst, ◌∙◌, arith, List, [], ◌∷◌, length, map, Some, None, Element, AreBytes, Loaded}
+use Rattle.bpf_model.proofs.Prelude.{Run, environment, fresh_run, moves, section_of, InsnStep, Store, new_map, StepsAlone, Section, State, Moves, after}
+use Rattle.bpf_model.proofs.Prelude.{insn_at}
+use Rattle.model_laws.proofs.Prelude.{Insn, Moved, MapShape, IsSingle}
+use Rattle.plan_laws.proofs.Prelude.{scene_of, Plan, AreMapsBound, Surrounds, IsPlanned, IsPlannedAfter, IsClosed}
+use Rattle.world_laws.proofs.Prelude.{element_of, elements_by, births, elements_around, store_of, IsDescribed}
 use Rattle.plan_laws.proofs.Kept.{Keeps, describes-kept}
 use Rattle.plan_laws.proofs.Reaching.{same-insn}
-use Rattle.world_laws.specs.Around.{element_of, elements_by, births, elements_around, store_of}
-use Rattle.world_laws.specs.Described.{IsDescribed}
 use Rattle.world_laws.proofs.Contents.{IsContent, plain-content, lengths, all-bytes, all-kept, single-one, life-unlinked, Guards, keeps-by}
 
 module _ (code : List Insn) (shapes : List MapShape) (ctx_len : ℕ) (plan : Plan) (closed : IsClosed code shapes ctx_len plan) (around : List MapShape) where

@@ -1,40 +1,20 @@
 -- Each element that may be accessed is given the number of its map and its region; a reference to
 -- any other is forgotten. The run that is left stands for the same words, and what described it
 -- does so still.
-use Rattle.std.proofs.Common.{◌≡◌, ℕ, inl, inr, ◌-◌, ◌*◌, ◌/◌, ◌%◌, ◌^◌, ◌<◌, refl, sym, ap, subst, ◌∙◌, arith, List, length, map, Option, Some, None}
-use Rattle.std.specs.Prelude.{slice_index, ℤ, pos, ◌+ℤ◌}
-use Rattle.std.proofs.lemmas.Option.{none-some, same_Some, slice_get_within}
-use Rattle.std.proofs.lemmas.List.{length-map}
-use Rattle.bpf_model.specs.declared.insn.Insn.{Insn}
-use Rattle.bpf_model.specs.declared.limits.MapKind.TheVariants.{Array}
-use Rattle.bpf_model.specs.declared.limits.MapShape.{MapShape}
-use Rattle.bpf_model.specs.declared.value.Cell.{Cell}
-use Rattle.bpf_model.specs.declared.value.Cell.TheVariants.{Unwritten, Byte, Part}
-use Rattle.bpf_model.specs.declared.value.Value.{Value}
-use Rattle.bpf_model.specs.declared.value.Value.TheVariants.{Nothing, Number, Pointer}
-use Rattle.bpf_model.specs.declared.value.Reference.TheVariants.{Ctx, Frame, MapRef, Elem}
-use Rattle.bpf_model.specs.Element.{Element, accessible}
-use Rattle.model_laws.specs.Holds.{HoldsValue, HoldsCell}
-use Rattle.bpf_model.specs.Machine.{Run, section_of}
-use Rattle.bpf_model.specs.Request.{found_value}
-use Rattle.bpf_model.specs.MapState.{MapState, new_map}
-use Rattle.model_laws.specs.Near.{IsNear, IsNearCell, IsNearOffset}
-use Rattle.bpf_model.specs.Step.{State}
-use Rattle.bpf_model.specs.Value.{◌>>=◌}
-use Rattle.bpf_model.specs.View.{RunView}
-use Rattle.bpf_model.specs.Word.{WordIs, ByteIs}
-use Rattle.bpf_model.proofs.Lists.{get-map}
+use Rattle.bpf_model.proofs.Prelude.{◌≡◌, ℕ, inl, inr, ◌-◌, ◌*◌, ◌/◌, ◌%◌, ◌^◌, ◌<◌, refl, sym, ap, subst, ◌∙◌, arith, List, length, map, Option, Some, None}
+use Rattle.bpf_model.proofs.Prelude.{slice_index, ℤ, pos, ◌+ℤ◌, none-some, same_Some, slice_get_within, length-map, Element, accessible, Run, section_of}
+use Rattle.bpf_model.proofs.Prelude.{found_value, MapState, new_map, State, ◌>>=◌, RunView, WordIs, ByteIs, get-map, AreWords}
+use Rattle.model_laws.proofs.Prelude.{Insn, Array, MapShape, Cell, Unwritten, Byte, Part, Value, Nothing, Number, Pointer, Ctx, Frame, MapRef, Elem}
+use Rattle.model_laws.proofs.Prelude.{HoldsValue, HoldsCell, IsNear, IsNearCell, IsNearOffset}
+use Rattle.plan_laws.proofs.Prelude.{Kind, Blank, Mixed, Ended, Num, CtxAt, FrameAt, MapAt, ValueAt, MaybeNull, CellKind, BlankCell, MixedCell, EndedCell}
+use Rattle.plan_laws.proofs.Prelude.{ByteCell, PartCell, AbsState, Scene, scene_of, IsArrayMap, IsHeld, Naming, IsNullOrHeld, IsOf, Stored, IsOfCell}
+use Rattle.plan_laws.proofs.Prelude.{Describes, part_of, AreMapsBound, IsClosed, Plan}
+use Rattle.world_laws.proofs.Prelude.{regions, map_of, element_in_region, element_of, births, elements_around, store_of, IsSlotWord, IsNumbered, IsRunOf}
+use Rattle.world_laws.proofs.Prelude.{IsShownBy, region_bases}
 use Rattle.model_laws.proofs.Computations.{first-step, then-step}
-use Rattle.plan_laws.specs.Kinds.{Kind, Blank, Mixed, Ended, Num, CtxAt, FrameAt, MapAt, ValueAt, MaybeNull}
-use Rattle.plan_laws.specs.Kinds.{CellKind, BlankCell, MixedCell, EndedCell, ByteCell, PartCell, AbsState}
-use Rattle.plan_laws.specs.Describes.{Scene, scene_of, IsArrayMap, IsHeld, Naming, IsNullOrHeld, IsOf, Stored, IsOfCell, Describes, part_of}
-use Rattle.plan_laws.specs.Verified.{AreMapsBound, IsClosed, Plan}
 use Rattle.plan_laws.proofs.Arrays.{kind-there, there-kind}
 use Rattle.plan_laws.proofs.Elements.{accessible-held}
-use Rattle.world_laws.specs.Around.{regions, region_word, map_of, element_in_region, element_of, births, elements_around, store_of}
-use Rattle.bpf_model.specs.Refines.{AreWords}
-use Rattle.world_laws.specs.Standing.{IsSlotWord, IsNumbered, IsRunOf}
-use Rattle.world_laws.specs.Described.{IsShownBy, region_bases}
+use Rattle.world_laws.specs.Around.{region_word}
 use Rattle.world_laws.proofs.Contents.{get-by}
 
 -- the region that begins at a word

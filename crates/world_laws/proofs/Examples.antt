@@ -1,15 +1,11 @@
 -- A world with a program that looks a key up is ready.
-use Rattle.std.proofs.Common.{ℕ, zero, suc, ◌^◌, ◌<◌, arith, [], ◌∷◌, subst}
-use Rattle.std.specs.List.{AllByRecursion}
+use Rattle.bpf_model.proofs.Prelude.{ℕ, zero, suc, ◌^◌, ◌<◌, arith, [], ◌∷◌, subst, AllByRecursion, none-some, same_Some, FitsInsn}
+use Rattle.model_laws.proofs.Prelude.{lookup_and_load, lookup_program, example_shape}
+use Rattle.scalar_domain.proofs.Prelude.{Holds}
+use Rattle.world_laws.proofs.Prelude.{IsRealProgram, AreRealPrograms, IsReadyWorld, example_world}
 use Rattle.std.proofs.Math.Facts.{sfits_lit}
-use Rattle.std.proofs.lemmas.Option.{none-some, same_Some}
-use Rattle.bpf_model.specs.Spelling.{FitsInsn}
-use Rattle.model_laws.specs.Example.{lookup_and_load, lookup_program, example_shape}
-use Rattle.scalar_domain.specs.Scalar.{Holds}
 use Rattle.scalar_domain.specs.declared.scalar.Scalar.{Scalar}
 use Rattle.plan_laws.proofs.Example.{safe-one}
-use Rattle.world_laws.specs.Typed.{IsRealProgram, AreRealPrograms, IsReadyWorld}
-use Rattle.world_laws.specs.WorldExample.{example_world}
 use Rattle.world_laws.proofs.Codes.{all-get}
 use Rattle.world_laws.proofs.Worlds.{starts_ready}
 

@@ -1,18 +1,11 @@
 -- The flags of sections change by a lock and an unlock alone.
-use Rattle.std.proofs.Common.{◌≡◌, ℕ, sym, ap, ◌∙◌, List, Some, Bool}
-use Rattle.std.specs.Prelude.{slice_get, nat_lt}
+use Rattle.bpf_model.proofs.Prelude.{◌≡◌, ℕ, sym, ap, ◌∙◌, List, Some, Bool, slice_get, nat_lt, slice_get-map, Run, Schedule, is_open, still_open, RunView}
+use Rattle.bpf_model.proofs.Prelude.{WorldView, flattened, set-same}
+use Rattle.model_laws.proofs.Prelude.{Matches, with_run}
+use Rattle.world_laws.proofs.Prelude.{IsSound, IsRunning}
 use Rattle.std.specs.Option.{option_map}
-use Rattle.std.proofs.lemmas.Option.{slice_get-map}
-use Rattle.bpf_model.specs.Machine.{Run}
-use Rattle.bpf_model.specs.Schedule.{Schedule, is_open, still_open}
-use Rattle.bpf_model.specs.View.{RunView, WorldView}
-use Rattle.model_laws.specs.Matching.{Matches}
-use Rattle.model_laws.specs.Reactions.{with_run}
 use Rattle.model_laws.proofs.ViewedWorlds.{awaited-same}
-use Rattle.world_laws.specs.Typed.{IsSound, IsRunning}
 use Rattle.world_laws.proofs.Ready.{refines}
-use Rattle.bpf_model.proofs.Cases.{flattened}
-use Rattle.bpf_model.proofs.Lists.{set-same}
 
 module _ (w : WorldView) (s : Schedule) (m : Matches w s) where
   -- no section is awaited that is not open

@@ -1,29 +1,16 @@
 -- A history of the machine, with one program more in each state.
-use Rattle.std.proofs.Common.{◌≡◌, ◌∙◌, ℕ, zero, suc, ◌+◌, ◌<◌, List, [], ◌∷◌, ◌++◌, length, map, Option, Some, None}
-use Rattle.std.proofs.Common.{Bool, true, false, inl, inr, refl, sym, ap, subst, arith}
-use Rattle.std.specs.Prelude.{slice_get}
-use Rattle.std.proofs.lemmas.Option.{none-some, same_Some, slice_get_past}
-use Rattle.std.proofs.lemmas.List.{length-append}
+use Rattle.bpf_model.proofs.Prelude.{◌≡◌, ◌∙◌, ℕ, zero, suc, ◌+◌, ◌<◌, List, [], ◌∷◌, ◌++◌, length, map, Option, Some, None, Bool, true, false, inl, inr}
+use Rattle.bpf_model.proofs.Prelude.{refl, sym, ap, subst, arith, slice_get, none-some, same_Some, slice_get_past, length-append, Loaded, Machine}
+use Rattle.bpf_model.proofs.Prelude.{lowest_free, PerformsEvent, Answers, DoesEvent, refusal, start_refusal, last_of, IsReal, AreReal, IsReachedSchedule}
+use Rattle.bpf_model.proofs.Prelude.{Schedule, TakesFirst, DoesScheduled, IsScheduledHistory, advanced, is_any, scheduled, start_schedule, option_cases}
+use Rattle.bpf_model.proofs.Prelude.{get-append}
+use Rattle.model_laws.proofs.Prelude.{Event, Answer, EventRefusal, NoProgram, MapShape, MAX_PROGRAMS}
+use Rattle.world_laws.proofs.Prelude.{loads, schedule_loads}
 use Rattle.arrayvec.specs.ArrayVec.{ArrayVec}
-use Rattle.bpf_model.specs.declared.event.Event.{Event}
 use Rattle.bpf_model.specs.declared.event.Event.TheVariants as events
-use Rattle.bpf_model.specs.declared.event.Answer.{Answer}
 use Rattle.bpf_model.specs.declared.event.Answer.TheVariants as answers
-use Rattle.bpf_model.specs.declared.event.EventRefusal.{EventRefusal}
-use Rattle.bpf_model.specs.declared.event.EventRefusal.TheVariants.{NoProgram}
-use Rattle.bpf_model.specs.declared.limits.MapShape.{MapShape}
-use Rattle.bpf_model.specs.declared.limits.TheConstants.{MAX_PROGRAMS}
-use Rattle.bpf_model.specs.Machine.{Loaded, Machine, lowest_free}
-use Rattle.bpf_model.specs.Event.{PerformsEvent, Answers, DoesEvent, refusal, start_refusal}
-use Rattle.bpf_model.specs.History.{last_of}
-use Rattle.bpf_model.specs.Real.{IsReal, AreReal}
-use Rattle.bpf_model.specs.Refines.{IsReachedSchedule}
-use Rattle.bpf_model.specs.Schedule.{Schedule, TakesFirst, DoesScheduled, IsScheduledHistory, advanced, is_any, scheduled, start_schedule}
-use Rattle.bpf_model.proofs.Cases.{option_cases}
-use Rattle.bpf_model.proofs.Lists.{get-append}
 use Rattle.plan_laws.proofs.Valued.{does-programs}
 use Rattle.plan_laws.proofs.Reaching.{real-rest}
-use Rattle.world_laws.specs.Loads.{loads, schedule_loads}
 
 -- the program is there under the number of the event, where the event is a start
 abbrev HasProgram : Machine → Event → Type 0

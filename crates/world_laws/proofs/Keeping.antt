@@ -1,29 +1,13 @@
 -- No reaction changes the name or the shape of a map, or the programs.
-use Rattle.std.proofs.Common.{◌≡◌, ℕ, Option, Some, None, refl}
-use Rattle.std.specs.Prelude.{slice_get, ℤ, pos, negsuc, ◌+ℤ◌}
-use Rattle.bpf_model.specs.declared.call.Helper.{Helper}
-use Rattle.bpf_model.specs.declared.call.Helper.TheVariants.{Lookup, Update, Delete}
-use Rattle.bpf_model.specs.declared.call.KernelFunction.{KernelFunction}
-use Rattle.bpf_model.specs.declared.call.KernelFunction.TheVariants.{ReadLock, ReadUnlock}
-use Rattle.bpf_model.specs.declared.event.Answer.{Answer}
-use Rattle.bpf_model.specs.declared.event.Event.{Event}
+use Rattle.bpf_model.proofs.Prelude.{◌≡◌, ℕ, Option, Some, None, refl, slice_get, ℤ, pos, negsuc, ◌+ℤ◌, byte_count, helper_of, kernel_function_of, Loaded}
+use Rattle.bpf_model.proofs.Prelude.{run_at, insn_at, MapView, RunView, WorldView}
+use Rattle.model_laws.proofs.Prelude.{Helper, Lookup, Update, Delete, KernelFunction, ReadLock, ReadUnlock, Answer, Event, Insn, Store, Call, Location}
+use Rattle.model_laws.proofs.Prelude.{InContext, InFrame, AtMap, InSlot, shown_error, reaction}
+use Rattle.world_laws.proofs.Prelude.{location_of, word_in, operand_word, stored_slot, stored_at, bytes_in, bound_number, serves, helper_called_on}
+use Rattle.world_laws.proofs.Prelude.{helper_called, kernel_called, insn_step, step_at, step_in, run_step_of, word_step, or_step, full_reaction}
 use Rattle.bpf_model.specs.declared.event.Event.TheVariants as events
 use Rattle.bpf_model.specs.declared.insn.CallKind.TheVariants as kinds
-use Rattle.bpf_model.specs.declared.insn.Insn.{Insn}
-use Rattle.bpf_model.specs.declared.insn.Insn.TheVariants.{Store, Call}
-use Rattle.bpf_model.specs.Access.{byte_count}
-use Rattle.bpf_model.specs.Call.{helper_of, kernel_function_of}
-use Rattle.bpf_model.specs.Machine.{Loaded, run_at}
-use Rattle.bpf_model.specs.Step.{insn_at}
-use Rattle.bpf_model.specs.View.{MapView, RunView, WorldView}
-use Rattle.model_laws.specs.Locations.{Location, InContext, InFrame, AtMap, InSlot}
-use Rattle.model_laws.specs.Views.{shown_error}
-use Rattle.model_laws.specs.Reactions.{reaction}
 use Rattle.model_laws.proofs.Reacting.{Keeps, reaction_keeps, deleted-shape, updated-shape, map-keeps}
-use Rattle.world_laws.specs.Locating.{location_of}
-use Rattle.world_laws.specs.Moving.{word_in, operand_word, stored_slot, stored_at}
-use Rattle.world_laws.specs.Calling.{bytes_in, bound_number, serves, helper_called_on, helper_called, kernel_called}
-use Rattle.world_laws.specs.Reacting.{insn_step, step_at, step_in, run_step_of, word_step, or_step, full_reaction}
 
 module _ (w : WorldView) where
   slot-keeps : (width x : ℕ) (z : ℤ) (k slot : ℕ) (o : Option MapView) → slice_get w.maps k ≡ o → Keeps w (stored_slot width x z k o slot w)

@@ -1,22 +1,14 @@
 -- A world at the start, and after its reactions.
-use Rattle.std.proofs.Common.{◌≡◌, ◌≤◌, ℕ, List, [], ◌∷◌, map, length, arith, refl}
-use Rattle.std.proofs.lemmas.List.{length-map}
-use Rattle.bpf_model.specs.declared.event.Event.{Event}
-use Rattle.bpf_model.specs.declared.limits.MapShape.{MapShape}
-use Rattle.bpf_model.specs.declared.limits.TheConstants.{MAX_MAPS, MAX_PROGRAMS}
-use Rattle.bpf_model.specs.Real.{IsReal, AreReal}
-use Rattle.bpf_model.specs.Machine.{Loaded}
-use Rattle.bpf_model.specs.Shapes.{AreShapes}
-use Rattle.bpf_model.specs.Schedule.{start_schedule}
-use Rattle.bpf_model.specs.View.{WorldView, new_map_view, start_view}
+use Rattle.bpf_model.proofs.Prelude.{◌≡◌, ◌≤◌, ℕ, List, [], ◌∷◌, map, length, arith, refl, length-map, IsReal, AreReal, Loaded, AreShapes, start_schedule}
+use Rattle.bpf_model.proofs.Prelude.{WorldView, new_map_view, start_view}
+use Rattle.model_laws.proofs.Prelude.{Event, MapShape, MAX_MAPS, MAX_PROGRAMS}
+use Rattle.plan_laws.proofs.Prelude.{AreVerified}
+use Rattle.world_laws.proofs.Prelude.{full_reaction, full_reactions, AreRealPrograms, IsWorld}
 use Rattle.model_laws.proofs.Starting.{start_tracked}
-use Rattle.plan_laws.specs.Well.{AreVerified}
 use Rattle.plan_laws.proofs.Reaching.{real-rest}
 use Rattle.model_laws.proofs.Reacting.{tracked_matches}
-use Rattle.world_laws.specs.Reacting.{full_reaction, full_reactions}
-use Rattle.world_laws.specs.Typed.{AreRealPrograms, IsMatched}
+use Rattle.world_laws.specs.Typed.{IsMatched}
 use Rattle.world_laws.proofs.Worlds.{starts_ready, ready_stays, bounded_stays, simulates, tracked_is_sound}
-use Rattle.world_laws.specs.Invariant.{IsWorld}
 
 pub start_is_world : (names : List (List ℕ)) (shapes : List MapShape) (programs : List Loaded) → AreShapes shapes →
     length shapes ≤ MAX_MAPS → length programs ≤ MAX_PROGRAMS → AreVerified shapes programs → AreRealPrograms programs

@@ -1,42 +1,17 @@
 -- References to maps are to those of the program's list, in every state that is reached.
-use Rattle.std.proofs.Common.{◌≡◌, ℕ, ◌+◌, List, length, Option, Some, None, sym, subst, inl, inr}
-use Rattle.std.specs.Prelude.{ℤ, pos, negsuc, nat_lt, ◌==◌}
-use Rattle.std.proofs.lemmas.Bool.{ltb-true, false≢true}
-use Rattle.std.proofs.lemmas.Option.{none-some, cond_some}
-use Rattle.bpf_model.specs.declared.call.Helper.{Helper}
-use Rattle.bpf_model.specs.declared.call.Helper.TheVariants.{Lookup, Update, Delete}
-use Rattle.bpf_model.specs.declared.call.KernelFunction.{KernelFunction}
-use Rattle.bpf_model.specs.declared.call.KernelFunction.TheVariants.{ReadLock, ReadUnlock}
-use Rattle.bpf_model.specs.declared.event.Event.{Event}
-use Rattle.bpf_model.specs.declared.event.Answer.{Answer}
+use Rattle.bpf_model.proofs.Prelude.{◌≡◌, ℕ, ◌+◌, List, length, Option, Some, None, sym, subst, inl, inr, ℤ, pos, negsuc, nat_lt, ◌==◌, ltb-true, false≢true}
+use Rattle.bpf_model.proofs.Prelude.{none-some, cond_some, helper_of, kernel_function_of, DoesEvent, IsReal, Loaded, Run, Machine, environment, fresh_run}
+use Rattle.bpf_model.proofs.Prelude.{open_sections, OutcomeStep, returns, found_value, Store, IsReachedSchedule, Schedule, start_schedule, Section, State}
+use Rattle.bpf_model.proofs.Prelude.{Environment, Outcome, Moves, Exits, put, sets, map_value, after, choice}
+use Rattle.model_laws.proofs.Prelude.{Helper, Lookup, Update, Delete, KernelFunction, ReadLock, ReadUnlock, Event, Answer, Insn, LoadMap, Call, MapShape}
+use Rattle.model_laws.proofs.Prelude.{MAX_RUNS, Value, Nothing, Pointer, MapRef, StepsByKind, KernelStep, HelperStep, HoldsValue, HoldsState}
+use Rattle.world_laws.proofs.Prelude.{IsListed}
 use Rattle.bpf_model.specs.declared.insn.CallKind.TheVariants as kinds
-use Rattle.bpf_model.specs.declared.insn.Insn.{Insn}
-use Rattle.bpf_model.specs.declared.insn.Insn.TheVariants.{LoadMap, Call}
-use Rattle.bpf_model.specs.declared.limits.MapShape.{MapShape}
-use Rattle.bpf_model.specs.declared.limits.TheConstants.{MAX_RUNS}
-use Rattle.bpf_model.specs.declared.value.Value.{Value}
-use Rattle.bpf_model.specs.declared.value.Value.TheVariants.{Nothing, Pointer}
-use Rattle.bpf_model.specs.declared.value.Reference.TheVariants.{MapRef}
-use Rattle.bpf_model.specs.Call.{helper_of, kernel_function_of}
-use Rattle.bpf_model.specs.Event.{DoesEvent}
-use Rattle.bpf_model.specs.Real.{IsReal}
-use Rattle.bpf_model.specs.Machine.{Loaded, Run, Machine, environment, fresh_run, open_sections}
-use Rattle.bpf_model.specs.MachineStep.{OutcomeStep}
-use Rattle.model_laws.specs.ByKind.{StepsByKind, KernelStep, HelperStep}
-use Rattle.bpf_model.specs.Step.{returns}
-use Rattle.bpf_model.specs.Request.{found_value}
-use Rattle.bpf_model.specs.MapState.{Store}
-use Rattle.bpf_model.specs.Refines.{IsReachedSchedule}
-use Rattle.bpf_model.specs.Schedule.{Schedule, start_schedule}
-use Rattle.bpf_model.specs.Section.{Section}
-use Rattle.bpf_model.specs.Step.{State, Environment, Outcome, Moves, Exits, put, sets, map_value, after}
-use Rattle.model_laws.specs.Holds.{HoldsValue, HoldsState}
-use Rattle.bpf_model.proofs.Cases.{choice}
 use Rattle.model_laws.proofs.Holding.{Closed, HoldsOutcome, holds-entry, holds-acts, holds-returns}
 use Rattle.model_laws.proofs.Keeping.{no-run}
 use Rattle.plan_laws.proofs.Coming.{Comes, Stands, Starting, Stepping, does-come}
 use Rattle.plan_laws.proofs.Reaching.{kept-last}
-use Rattle.world_laws.specs.Typed.{IsListed, AreListed}
+use Rattle.world_laws.specs.Typed.{AreListed}
 use Rattle.world_laws.proofs.Words.{refused}
 use Rattle.model_laws.proofs.Computations.{first-step}
 use Rattle.model_laws.proofs.Requests.{by_kind}

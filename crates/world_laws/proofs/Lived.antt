@@ -1,38 +1,18 @@
 -- Each run of a reached machine has made the steps of its program from the start: what it may still exit with, or has exited with, is an exit of a fresh run.
-use Rattle.std.proofs.Common.{◌≡◌, ℕ, suc, List, Some, None, refl, sym, ap, subst, ◌∙◌}
-use Rattle.std.specs.Prelude.{slice_get}
-use Rattle.std.proofs.lemmas.Option.{none-some, same_Some}
-use Rattle.bpf_model.specs.declared.insn.Insn.{Insn}
-use Rattle.bpf_model.specs.declared.event.Event.{Event}
-use Rattle.bpf_model.specs.declared.event.Answer.{Answer}
-use Rattle.bpf_model.specs.declared.event.Answer.TheVariants.{Moved, Exited}
-use Rattle.bpf_model.specs.declared.limits.TheConstants.{MAX_RUNS}
-use Rattle.bpf_model.specs.declared.limits.MapShape.{MapShape}
-use Rattle.bpf_model.specs.Exit.{HasNoMaps}
-use Rattle.bpf_model.specs.MapState.{MapState}
-use Rattle.bpf_model.specs.Machine.{Loaded, Run, Machine, fresh_run, open_sections, run_at}
-use Rattle.bpf_model.specs.MachineStep.{RunStep}
-use Rattle.bpf_model.specs.Event.{DoesEvent}
-use Rattle.bpf_model.specs.Real.{IsReal}
-use Rattle.bpf_model.specs.Refines.{IsReachedSchedule, RunRefines}
-use Rattle.bpf_model.proofs.Cases.{run-behind}
-use Rattle.bpf_model.specs.Schedule.{Schedule, start_schedule}
-use Rattle.bpf_model.specs.View.{WorldView, shapes_of}
+use Rattle.bpf_model.proofs.Prelude.{◌≡◌, ℕ, suc, List, Some, None, refl, sym, ap, subst, ◌∙◌, slice_get, none-some, same_Some, HasNoMaps, MapState, Loaded}
+use Rattle.bpf_model.proofs.Prelude.{Run, Machine, fresh_run, open_sections, run_at, RunStep, DoesEvent, IsReal, IsReachedSchedule, RunRefines, run-behind}
+use Rattle.bpf_model.proofs.Prelude.{Schedule, start_schedule, WorldView, shapes_of, option_flatten}
+use Rattle.model_laws.proofs.Prelude.{Insn, Event, Answer, Moved, Exited, MAX_RUNS, MapShape}
+use Rattle.plan_laws.proofs.Prelude.{MayExitFrom, MayExitWith, may_exit_now, may_exit_later, AreMapsBound, Surrounds, IsWell, AreVerified}
+use Rattle.world_laws.proofs.Prelude.{HasExited, IsWorld, MayExitAs, ExitsAs}
 use Rattle.model_laws.proofs.Keeping.{no-run}
 use Rattle.model_laws.proofs.Moves.{Changes, Goes, Locks, Unlocks, Ends, changed-insn}
 use Rattle.model_laws.proofs.Stores.{KeepsShapes, does-moves}
-use Rattle.plan_laws.specs.MayExit.{MayExitFrom, MayExitWith, may_exit_now, may_exit_later}
-use Rattle.plan_laws.specs.Verified.{AreMapsBound, Surrounds}
 use Rattle.plan_laws.proofs.Bound.{bound-alike}
 use Rattle.world_laws.proofs.Binding.{bound-behind}
 use Rattle.plan_laws.proofs.Exits.{exits_alone}
 use Rattle.plan_laws.proofs.Coming.{Comes, Stands, Starting, Stepping, does-come}
 use Rattle.plan_laws.proofs.Reaching.{bound-kept, kept-last, keeps_well, starts_well, surrounds}
-use Rattle.plan_laws.specs.Well.{IsWell, AreVerified}
-use Rattle.world_laws.specs.Exited.{HasExited}
-use Rattle.world_laws.specs.Invariant.{IsWorld}
-use Rattle.world_laws.specs.Exits.{MayExitAs, ExitsAs}
-use Rattle.std.specs.Option.{option_flatten}
 
 -- an exit of the run's program on its context
 abbrev MayExit : List MapShape → Run → ℕ → Type 0

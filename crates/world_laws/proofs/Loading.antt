@@ -1,36 +1,15 @@
 -- Loads: from the context, from the frame, and from elements.
-use Rattle.std.proofs.Common.{◌≡◌, ℕ, ◌+◌, ◌≤◌, refl, sym, ap, subst, ◌∙◌, arith, Some, List, length, inr, false}
-use Rattle.std.specs.Prelude.{slice_get, slice_index, ℤ, pos, ◌+ℤ◌}
-use Rattle.std.proofs.lemmas.Option.{none-some, same_Some}
+use Rattle.bpf_model.proofs.Prelude.{◌≡◌, ℕ, ◌+◌, ◌≤◌, refl, sym, ap, subst, ◌∙◌, arith, Some, List, length, inr, false, slice_get, slice_index, ℤ, pos, ◌+ℤ◌}
+use Rattle.bpf_model.proofs.Prelude.{none-some, same_Some, byte_count, unsigned_width, region_offset, number_at, loaded_signed, Element, accessible}
+use Rattle.bpf_model.proofs.Prelude.{is_reclaimed, read, open_sections, Run, environment, loaded_from, Schedule, Outcome, sets, load_from, after, ◌>>=◌}
+use Rattle.bpf_model.proofs.Prelude.{number, RunView, WorldView, value_in, WordIs}
+use Rattle.model_laws.proofs.Prelude.{FRAME_BYTES, Load, LoadSigned, Width, SignedWidth, Value, Nothing, Number, Pointer, Ctx, Frame, MapRef, Elem}
+use Rattle.model_laws.proofs.Prelude.{AccessesElement, element_load, IsNear, Location, InContext, InFrame, InSlot, Matches}
+use Rattle.world_laws.proofs.Prelude.{location_of, bytes_of, offset_at, number_from, loaded_word, word_in, insn_step, IsSound, IsRunning}
 use Rattle.model_laws.proofs.Storing.{accessible-kept}
 use Rattle.model_laws.proofs.Stores.{accessible-born}
 use Rattle.plan_laws.proofs.Elements.{offset_some}
-use Rattle.bpf_model.specs.declared.limits.TheConstants.{FRAME_BYTES}
-use Rattle.bpf_model.specs.declared.insn.Insn.TheVariants.{Load, LoadSigned}
-use Rattle.bpf_model.specs.declared.opcode.Width.{Width}
-use Rattle.bpf_model.specs.declared.opcode.SignedWidth.{SignedWidth}
-use Rattle.bpf_model.specs.declared.value.Value.{Value}
-use Rattle.bpf_model.specs.declared.value.Value.TheVariants.{Nothing, Number, Pointer}
-use Rattle.bpf_model.specs.declared.value.Reference.TheVariants.{Ctx, Frame, MapRef, Elem}
-use Rattle.bpf_model.specs.Access.{byte_count, unsigned_width, region_offset, number_at}
-use Rattle.bpf_model.specs.Arithmetic.{loaded_signed}
-use Rattle.bpf_model.specs.Element.{Element, accessible, is_reclaimed}
-use Rattle.bpf_model.specs.Frame.{read}
-use Rattle.bpf_model.specs.Machine.{open_sections, Run, environment}
-use Rattle.model_laws.specs.ByKind.{AccessesElement, element_load}
-use Rattle.bpf_model.specs.Element.{loaded_from}
-use Rattle.model_laws.specs.Near.{IsNear}
-use Rattle.bpf_model.specs.Schedule.{Schedule}
-use Rattle.bpf_model.specs.Step.{Outcome, sets, load_from, after}
-use Rattle.bpf_model.specs.Value.{◌>>=◌, number}
-use Rattle.bpf_model.specs.View.{RunView, WorldView, value_in}
-use Rattle.bpf_model.specs.Word.{WordIs}
-use Rattle.model_laws.specs.Locations.{Location, InContext, InFrame, InSlot}
-use Rattle.model_laws.specs.Matching.{Matches}
-use Rattle.world_laws.specs.Locating.{location_of, value_of, bytes_of, offset_at, number_from, loaded_word}
-use Rattle.world_laws.specs.Moving.{word_in}
-use Rattle.world_laws.specs.Reacting.{insn_step}
-use Rattle.world_laws.specs.Typed.{IsSound, IsRunning}
+use Rattle.world_laws.specs.Locating.{value_of}
 use Rattle.world_laws.proofs.Words.{number_word}
 use Rattle.world_laws.proofs.Cells.{read_word}
 use Rattle.world_laws.proofs.Places.{context-location, frame-location, slot-location}

@@ -1,32 +1,11 @@
 -- What a run does without its world is what it does in it, and it asks exactly where the machine's run can't act by itself.
-use Rattle.std.proofs.Common.{◌≡◌, ℕ, refl, sym, ap, subst, List, Some}
-use Rattle.std.specs.Prelude.{ℤ, ◌+ℤ◌}
-use Rattle.std.proofs.lemmas.Option.{none-some}
-use Rattle.bpf_model.specs.declared.insn.Insn.{Insn}
-use Rattle.bpf_model.specs.declared.insn.Insn.TheVariants.{Call, Load, LoadSigned, Store}
-use Rattle.bpf_model.specs.declared.value.Value.{Value}
-use Rattle.bpf_model.specs.declared.value.Value.TheVariants.{Nothing, Number, Pointer}
-use Rattle.bpf_model.specs.declared.value.Reference.TheVariants.{Ctx, Frame, MapRef, Elem}
-use Rattle.bpf_model.specs.Access.{byte_count, unsigned_width}
-use Rattle.bpf_model.specs.Arithmetic.{loaded_signed}
-use Rattle.bpf_model.specs.Element.{Element, accessible}
-use Rattle.bpf_model.specs.Machine.{Loaded, Run, environment}
-use Rattle.model_laws.specs.ByKind.{AccessesElement, element_load}
-use Rattle.bpf_model.specs.Element.{loaded_from}
-use Rattle.model_laws.specs.Near.{IsNear}
-use Rattle.bpf_model.specs.Operand.{operand_value}
-use Rattle.bpf_model.specs.Schedule.{Schedule}
-use Rattle.bpf_model.specs.Step.{Outcome, sets, load_from, after}
-use Rattle.bpf_model.specs.Value.{◌>>=◌, number}
-use Rattle.bpf_model.specs.View.{RunView, WorldView}
-use Rattle.bpf_model.specs.Word.{WordIs}
-use Rattle.model_laws.specs.Locations.{Location, InContext, InFrame, AtMap, InSlot}
-use Rattle.model_laws.specs.Matching.{Matches}
-use Rattle.world_laws.specs.Local.{Asks, local_load, local_store, local_of, Agrees, AsksNothing}
-use Rattle.world_laws.specs.Locating.{location_of, bytes_of, offset_at, number_from}
-use Rattle.world_laws.specs.Moving.{word_in, operand_word, with_word, moves_on, stored_at}
-use Rattle.world_laws.specs.Reacting.{insn_step}
-use Rattle.world_laws.specs.Typed.{IsSound, IsRunning}
+use Rattle.bpf_model.proofs.Prelude.{◌≡◌, ℕ, refl, sym, ap, subst, List, Some, ℤ, ◌+ℤ◌, none-some, byte_count, unsigned_width, loaded_signed, Element}
+use Rattle.bpf_model.proofs.Prelude.{accessible, Loaded, Run, environment, loaded_from, operand_value, Schedule, Outcome, sets, load_from, after, ◌>>=◌}
+use Rattle.bpf_model.proofs.Prelude.{number, RunView, WorldView, WordIs}
+use Rattle.model_laws.proofs.Prelude.{Insn, Call, Load, LoadSigned, Store, Value, Nothing, Number, Pointer, Ctx, Frame, MapRef, Elem, AccessesElement}
+use Rattle.model_laws.proofs.Prelude.{element_load, IsNear, Location, InContext, InFrame, AtMap, InSlot, Matches}
+use Rattle.world_laws.proofs.Prelude.{Asks, local_load, local_store, local_of, Agrees, AsksNothing, location_of, bytes_of, offset_at, number_from, word_in}
+use Rattle.world_laws.proofs.Prelude.{operand_word, with_word, moves_on, stored_at, insn_step, IsSound, IsRunning}
 use Rattle.world_laws.proofs.Places.{context-location, frame-location}
 use Rattle.world_laws.proofs.Ready.{bases, near, register-word}
 use Rattle.world_laws.proofs.Own.{Known, insn-real}

@@ -1,23 +1,11 @@
 -- What a world tracks, and what is so of it, with one program more.
-use Rattle.std.proofs.Common.{◌≡◌, ℕ, ◌<◌, List, [], ◌∷◌, ◌++◌, length, Option, Some, None, inl, inr, ap, subst, arith, map}
-use Rattle.std.specs.Prelude.{slice_get}
-use Rattle.std.proofs.lemmas.List.{length-append}
-use Rattle.bpf_model.specs.declared.limits.MapShape.{MapShape}
-use Rattle.bpf_model.specs.declared.limits.TheConstants.{MAX_PROGRAMS}
-use Rattle.bpf_model.specs.Element.{Element}
-use Rattle.bpf_model.specs.Machine.{Loaded, Run, Machine}
-use Rattle.bpf_model.specs.MapState.{new_map}
-use Rattle.bpf_model.specs.Refines.{RunSlotRefines, RefinesSchedule, TracksSchedule, Tracks}
-use Rattle.bpf_model.specs.Schedule.{Schedule}
-use Rattle.bpf_model.specs.View.{RunView, WorldView, shapes_of}
-use Rattle.bpf_model.proofs.Lists.{get-append, get-append_cases}
-use Rattle.plan_laws.specs.Verified.{IsVerified}
-use Rattle.plan_laws.specs.Well.{IsVerifiedFor}
-use Rattle.world_laws.specs.Binding.{IsBoundTo}
-use Rattle.world_laws.specs.Invariant.{IsWorld}
-use Rattle.world_laws.specs.Typed.{IsRealProgram}
+use Rattle.bpf_model.proofs.Prelude.{◌≡◌, ℕ, ◌<◌, List, [], ◌∷◌, ◌++◌, length, Option, Some, None, inl, inr, ap, subst, arith, map, slice_get, length-append}
+use Rattle.bpf_model.proofs.Prelude.{Element, Loaded, Run, Machine, new_map, RunSlotRefines, RefinesSchedule, TracksSchedule, Tracks, Schedule, RunView}
+use Rattle.bpf_model.proofs.Prelude.{WorldView, shapes_of, get-append, get-append_cases}
+use Rattle.model_laws.proofs.Prelude.{MapShape, MAX_PROGRAMS}
+use Rattle.plan_laws.proofs.Prelude.{IsVerified, IsVerifiedFor}
+use Rattle.world_laws.proofs.Prelude.{IsBoundTo, IsWorld, IsRealProgram, loads, schedule_loads, with_program}
 use Rattle.world_laws.proofs.BindingOf.{bound_is_verified}
-use Rattle.world_laws.specs.Loads.{loads, schedule_loads, with_program}
 use Rattle.world_laws.proofs.Histories.{reached_with_one_more}
 
 -- what holds of each program of a list and of one more holds of each of the longer list

@@ -1,59 +1,21 @@
 -- What loads, stores and helpers of a running run reach is there.
-use Rattle.std.proofs.Common.{◌≡◌, ℕ, ◌+◌, ◌<◌, ◌≤◌, refl, sym, ap, subst, ◌∙◌, arith, Option, Some, None, List, []}
-use Rattle.std.proofs.Common.{◌∷◌, map, length, inl, inr, Bool, true, false}
-use Rattle.std.specs.Prelude.{slice_get, slice_index, ℤ, pos, negsuc, ◌+ℤ◌, nat_le, ◌&&◌, ◌==◌, if◌then◌else◌}
-use Rattle.std.specs.FinMap.{get}
-use Rattle.std.proofs.lemmas.Int.{ints}
-use Rattle.std.proofs.lemmas.Bool.{cases_eq, eq-eqb, leb-true}
-use Rattle.std.proofs.lemmas.Option.{none-some, same_Some}
+use Rattle.bpf_model.proofs.Prelude.{◌≡◌, ℕ, ◌+◌, ◌<◌, ◌≤◌, refl, sym, ap, subst, ◌∙◌, arith, Option, Some, None, List, [], ◌∷◌, map, length, inl, inr, Bool}
+use Rattle.bpf_model.proofs.Prelude.{true, false, slice_get, slice_index, ℤ, pos, negsuc, ◌+ℤ◌, nat_le, ◌&&◌, ◌==◌, if◌then◌else◌, get, ints, cases_eq}
+use Rattle.bpf_model.proofs.Prelude.{eq-eqb, leb-true, none-some, same_Some, byte_count, unsigned_width, region_offset, number_at, loaded_signed, helper_of}
+use Rattle.bpf_model.proofs.Prelude.{kernel_function_of, Element, Life, Linked, Unlinked, Reclaimed, accessible, is_reclaimed, is_unlinked, read, Loaded, Run}
+use Rattle.bpf_model.proofs.Prelude.{environment, open_sections, InsnStep, loaded_from, frame_bytes, bytes_at, operand_value, times, Queues, Schedule}
+use Rattle.bpf_model.proofs.Prelude.{load_from, sets, insn_at, ◌>>=◌, number, RunView, WorldView, key_in, WordIs, signature_of}
+use Rattle.model_laws.proofs.Prelude.{FRAME_BYTES, MAX_DEPTH, Helper, Lookup, Update, Delete, KernelFunction, ReadLock, ReadUnlock, Answer, MapShape, Insn}
+use Rattle.model_laws.proofs.Prelude.{Load, LoadSigned, Store, Call, Operand, Width, SignedWidth, Value, Nothing, Number, Pointer, Ctx, Frame, MapRef, Elem}
+use Rattle.model_laws.proofs.Prelude.{StepsByKind, HelperStep, KernelStep, value_argument, element_load, IsNear, Location, queued_in, Matches}
+use Rattle.world_laws.proofs.Prelude.{location_of, word_in, IsInside, Reaches, IsWritable, IsInFrame, IsCall, IsAllowed, IsSound, IsRunning}
 use Rattle.plan_laws.proofs.Elements.{offset_some}
-use Rattle.bpf_model.specs.declared.limits.TheConstants.{FRAME_BYTES, MAX_DEPTH}
-use Rattle.bpf_model.specs.declared.call.Helper.{Helper}
-use Rattle.bpf_model.specs.declared.call.Helper.TheVariants.{Lookup, Update, Delete}
-use Rattle.bpf_model.specs.declared.call.KernelFunction.{KernelFunction}
-use Rattle.bpf_model.specs.declared.call.KernelFunction.TheVariants.{ReadLock, ReadUnlock}
-use Rattle.bpf_model.specs.declared.event.Answer.{Answer}
 use Rattle.bpf_model.specs.declared.insn.CallKind.TheVariants as kinds
-use Rattle.bpf_model.specs.declared.limits.MapShape.{MapShape}
-use Rattle.bpf_model.specs.declared.insn.Insn.{Insn}
-use Rattle.bpf_model.specs.declared.insn.Insn.TheVariants.{Load, LoadSigned, Store, Call}
-use Rattle.bpf_model.specs.declared.insn.Operand.{Operand}
-use Rattle.bpf_model.specs.declared.opcode.Width.{Width}
-use Rattle.bpf_model.specs.declared.opcode.SignedWidth.{SignedWidth}
-use Rattle.bpf_model.specs.declared.value.Value.{Value}
-use Rattle.bpf_model.specs.declared.value.Value.TheVariants.{Nothing, Number, Pointer}
-use Rattle.bpf_model.specs.declared.value.Reference.TheVariants.{Ctx, Frame, MapRef, Elem}
-use Rattle.bpf_model.specs.Access.{byte_count, unsigned_width, region_offset, number_at}
-use Rattle.bpf_model.specs.Arithmetic.{loaded_signed}
-use Rattle.bpf_model.specs.Call.{helper_of, kernel_function_of}
-use Rattle.bpf_model.specs.Element.{Element, Life, Linked, Unlinked, Reclaimed, accessible, is_reclaimed}
-use Rattle.bpf_model.specs.Schedule.{is_unlinked}
-use Rattle.bpf_model.specs.Frame.{read}
-use Rattle.bpf_model.specs.Machine.{Loaded, Run, environment, open_sections}
-use Rattle.model_laws.specs.ByKind.{StepsByKind, HelperStep, KernelStep, value_argument, element_load}
-use Rattle.bpf_model.specs.MachineStep.{InsnStep}
-use Rattle.bpf_model.specs.Element.{loaded_from}
-use Rattle.bpf_model.specs.Frame.{frame_bytes, bytes_at}
 use Rattle.bpf_model.specs.MapState as map_state
-use Rattle.model_laws.specs.Near.{IsNear}
-use Rattle.bpf_model.specs.Operand.{operand_value}
-use Rattle.bpf_model.specs.Refines.{times}
-use Rattle.bpf_model.specs.Schedule.{Queues, Schedule}
-use Rattle.bpf_model.specs.Step.{load_from, sets, insn_at}
-use Rattle.bpf_model.specs.Value.{◌>>=◌, number}
-use Rattle.bpf_model.specs.View.{RunView, WorldView, key_in}
-use Rattle.bpf_model.specs.Word.{WordIs}
-use Rattle.model_laws.specs.Locations.{Location}
-use Rattle.model_laws.specs.Scheduled.{queued_in}
 use Rattle.model_laws.proofs.Counting.{times-first, times-other, times-rest}
 use Rattle.plan_laws.proofs.Reaching.{well_never_stuck}
-use Rattle.model_laws.specs.Matching.{Matches}
 use Rattle.model_laws.proofs.ViewedWorlds.{here}
-use Rattle.world_laws.specs.Locating.{location_of}
-use Rattle.world_laws.specs.Moving.{word_in}
-use Rattle.bpf_model.specs.Request.{signature_of}
-use Rattle.world_laws.specs.Reaching.{IsInside, HasElement, Reaches, IsWritable, IsInFrame, AreInFrame, IsCall, IsAllowed, HasInsn}
-use Rattle.world_laws.specs.Typed.{IsSound, IsRunning}
+use Rattle.world_laws.specs.Reaching.{HasElement, AreInFrame, HasInsn}
 use Rattle.world_laws.proofs.Places.{context-location, frame-location}
 use Rattle.world_laws.proofs.Shown.{Shown}
 use Rattle.world_laws.proofs.Ready.{bases, refines, near, register-word}

@@ -1,32 +1,15 @@
 -- The answers of the example.
-use Rattle.std.proofs.Common.{◌≡◌, ◌∙◌, ℕ, List, [], ◌∷◌, ◌++◌, false, Option, Some, None, refl, ap}
-use Rattle.std.specs.Prelude.{Result, Ok, is_some, slice_get, ◌==◌, if◌then◌else◌}
-use Rattle.std.specs.Ordering.{nat_cmp}
-use Rattle.std.specs.Cmp.Lexicographic.{slice_cmp}
-use Rattle.std.specs.FinMap.{get, empty, insert, len, get-empty, len-empty}
-use Rattle.bpf_model.specs.declared.call.Errno.{Errno}
-use Rattle.bpf_model.specs.declared.event.Event.{Event}
-use Rattle.bpf_model.specs.declared.event.Event.TheVariants.{Start, Step, Update, Delete, Advance, Reap, Drop}
-use Rattle.bpf_model.specs.declared.event.Answer.{Answer}
-use Rattle.bpf_model.specs.declared.event.Answer.TheVariants.{Started, Moved, Exited, Ret, Done, Reaped}
-use Rattle.bpf_model.specs.declared.event.Given.TheVariants.{Free}
-use Rattle.bpf_model.specs.declared.event.EventRefusal.TheVariants.{BadLength}
-use Rattle.bpf_model.specs.declared.limits.MapKind.{MapKind}
-use Rattle.bpf_model.specs.declared.limits.MapKind.TheVariants.{Hash}
-use Rattle.bpf_model.specs.Event.{key_refusal}
-use Rattle.bpf_model.specs.Helper.{update_error}
-use Rattle.bpf_model.specs.View.{MapView, RunView, WorldView, new_map_view, map_state_of}
-use Rattle.model_laws.specs.Example.{example_shape}
-use Rattle.model_laws.specs.Views.{retired_slot, deleted_from, delete_result, filled_from, updated_by, shown_error}
-use Rattle.model_laws.specs.Reactions.{with_map, shape_shown, delete_at}
+use Rattle.bpf_model.proofs.Prelude.{◌≡◌, ◌∙◌, ℕ, List, [], ◌∷◌, ◌++◌, false, Option, Some, None, refl, ap, Result, Ok, is_some, slice_get, ◌==◌}
+use Rattle.bpf_model.proofs.Prelude.{if◌then◌else◌, nat_cmp, slice_cmp, get, empty, insert, len, get-empty, len-empty, key_refusal, update_error, MapView}
+use Rattle.bpf_model.proofs.Prelude.{RunView, WorldView, new_map_view, map_state_of, KeyMap, option_flatten}
+use Rattle.model_laws.proofs.Prelude.{Errno, Event, Start, Step, Advance, Reap, Drop, Answer, Started, Moved, Exited, Ret, Done, Reaped, Free, BadLength}
+use Rattle.model_laws.proofs.Prelude.{MapKind, Hash, example_shape, retired_slot, deleted_from, delete_result, filled_from, updated_by, shown_error, with_map}
+use Rattle.model_laws.proofs.Prelude.{shape_shown, delete_at}
+use Rattle.world_laws.proofs.Prelude.{found_word, returned_view, moves_on, full_reaction, full_reactions, example_world}
+use Rattle.bpf_model.specs.declared.event.Event.TheVariants.{Update, Delete}
 use Rattle.model_laws.proofs.Indices.{insert-same}
-use Rattle.bpf_model.specs.View.{KeyMap}
-use Rattle.world_laws.specs.Calling.{found_word, returned_view}
-use Rattle.world_laws.specs.Moving.{moves_on}
-use Rattle.world_laws.specs.Reacting.{full_reaction, full_reactions}
 use Rattle.world_laws.proofs.Appending.{answers_append}
-use Rattle.world_laws.specs.WorldExample.{key_zero, value_263, example_world, example_events, example_answers}
-use Rattle.std.specs.Option.{option_flatten}
+use Rattle.world_laws.specs.WorldExample.{key_zero, value_263, example_events, example_answers}
 
 -- one event before others
 next : (w new : WorldView) (e : Event) (a : Answer) (es : List Event) → full_reaction w e ≡ (a, new) →

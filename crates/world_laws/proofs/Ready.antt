@@ -1,44 +1,18 @@
 -- A run before its step: what its words stand for, and what the instruction at hand needs.
-use Rattle.std.proofs.Common.{◌≡◌, ℕ, ◌+◌, ◌^◌, ◌<◌, ◌≢◌, refl, ap, subst, ◌∙◌, arith, Some, List, length, ◌≤◌}
-use Rattle.std.specs.Prelude.{slice_get, slice_index, ℤ, pos, negsuc, FitsSigned}
-use Rattle.std.specs.Int.{w32}
-use Rattle.std.proofs.lemmas.Int.{ints}
-use Rattle.bpf_model.specs.Spelling.{FitsOperand}
-use Rattle.bpf_model.specs.declared.limits.TheConstants.{FRAME_BYTES, REGISTERS, MAX_MAPS}
-use Rattle.bpf_model.specs.declared.insn.Insn.{Insn}
-use Rattle.bpf_model.specs.declared.insn.Operand.{Operand}
-use Rattle.bpf_model.specs.declared.insn.Operand.TheVariants.{Register, Immediate}
-use Rattle.bpf_model.specs.declared.event.Answer.{Answer}
-use Rattle.bpf_model.specs.declared.event.Answer.TheVariants.{Moved}
+use Rattle.bpf_model.proofs.Prelude.{◌≡◌, ℕ, ◌+◌, ◌^◌, ◌<◌, ◌≢◌, refl, ap, subst, ◌∙◌, arith, Some, List, length, ◌≤◌, slice_get, slice_index, ℤ, pos, negsuc}
+use Rattle.bpf_model.proofs.Prelude.{FitsSigned, w32, ints, FitsOperand, immediate, Element, Loaded, Run, open_sections, moves, InsnStep, operand_value}
+use Rattle.bpf_model.proofs.Prelude.{Store, RunRefines, RunSlotRefines, RefinesSchedule, Schedule, State, insn_at, RunView, WorldView, IsReferenceWord}
+use Rattle.bpf_model.proofs.Prelude.{WordIs, ByteIs, element_bases, flattened}
+use Rattle.model_laws.proofs.Prelude.{FRAME_BYTES, REGISTERS, MAX_MAPS, Insn, Operand, Register, Immediate, Answer, Moved, Value, Nothing, Number, Pointer}
+use Rattle.model_laws.proofs.Prelude.{Reference, Ctx, Frame, MapRef, Elem, IsNear, IsNearReference, HoldsValue, Matches, Simulates, half, with_run}
+use Rattle.plan_laws.proofs.Prelude.{scene_of, AreNear}
+use Rattle.world_laws.proofs.Prelude.{word_in, operand_word, moved_view, IsListed, IsSound, IsRunning}
 use Rattle.bpf_model.specs.declared.event.Event.TheVariants as events
-use Rattle.bpf_model.specs.declared.value.Value.{Value}
-use Rattle.bpf_model.specs.declared.value.Value.TheVariants.{Nothing, Number, Pointer}
-use Rattle.bpf_model.specs.declared.value.Reference.{Reference}
-use Rattle.bpf_model.specs.declared.value.Reference.TheVariants.{Ctx, Frame, MapRef, Elem}
-use Rattle.bpf_model.specs.Arithmetic.{immediate}
-use Rattle.bpf_model.specs.Element.{Element}
-use Rattle.bpf_model.specs.Machine.{Loaded, Run, open_sections, moves}
-use Rattle.bpf_model.specs.MachineStep.{InsnStep}
-use Rattle.model_laws.specs.Near.{IsNear, IsNearReference}
-use Rattle.bpf_model.specs.Operand.{operand_value}
-use Rattle.bpf_model.specs.MapState.{Store}
-use Rattle.bpf_model.specs.Refines.{RunRefines, RunSlotRefines, RefinesSchedule}
-use Rattle.bpf_model.specs.Schedule.{Schedule}
-use Rattle.bpf_model.specs.Step.{State, insn_at}
-use Rattle.bpf_model.specs.View.{RunView, WorldView}
-use Rattle.bpf_model.specs.Word.{IsReferenceWord, WordIs, ByteIs, element_bases}
-use Rattle.model_laws.specs.Holds.{HoldsValue}
-use Rattle.plan_laws.specs.Describes.{scene_of, AreNear}
 use Rattle.plan_laws.proofs.Reaching.{surrounds}
-use Rattle.model_laws.specs.Matching.{Matches, Simulates, half}
-use Rattle.model_laws.specs.Reactions.{with_run}
 use Rattle.model_laws.proofs.Running.{move_simulates}
-use Rattle.world_laws.specs.Moving.{word_in, operand_word, moved_view}
-use Rattle.world_laws.specs.Typed.{IsListed, IsSound, IsRunning}
 use Rattle.world_laws.proofs.Words.{IsBased}
 use Rattle.world_laws.proofs.Sure.{IsSure, typed, run-near}
 use Rattle.world_laws.proofs.Shown.{shown, held-kept}
-use Rattle.bpf_model.proofs.Cases.{flattened}
 
 pub immediate-below : (imm : ℤ) → FitsSigned w32 imm → immediate imm < 2 ^ 64
 immediate-below (pos n) f = omega (arith, ints, f)

@@ -1,44 +1,21 @@
 -- Whatever may be replied to what a run asks, the plan describes the run that goes on with it.
-use Rattle.std.proofs.Common.{◌≡◌, ℕ, ◌+◌, ◌^◌, ◌<◌, ◌≤◌, ◌⊎◌, inl, inr, refl, sym, ap, subst, ◌∙◌, arith, List, []}
-use Rattle.std.proofs.Common.{◌∷◌, length, map, Option, Some, None, false}
-use Rattle.std.specs.Prelude.{slice_get, slice_set, ℤ, pos}
-use Rattle.std.proofs.lemmas.Option.{none-some, same_Some}
-use Rattle.bpf_model.specs.declared.call.Helper.TheVariants.{Lookup}
-use Rattle.bpf_model.specs.declared.insn.Insn.{Insn}
-use Rattle.bpf_model.specs.declared.event.Answer.{Answer}
-use Rattle.bpf_model.specs.declared.event.Answer.TheVariants.{Moved}
-use Rattle.bpf_model.specs.declared.limits.MapShape.{MapShape}
-use Rattle.bpf_model.specs.declared.value.Value.{Value}
-use Rattle.bpf_model.specs.declared.value.Value.TheVariants.{Nothing, Number, Pointer}
-use Rattle.bpf_model.specs.declared.value.Reference.TheVariants.{Elem}
-use Rattle.bpf_model.specs.Access.{region_offset, number_at}
-use Rattle.model_laws.specs.Consistent.{IsSingle}
-use Rattle.bpf_model.specs.Element.{Element, Linked, Unlinked, IsLinkedAt, IsAbsent, accessible, changed, is_reclaimed, set_to, with_value}
-use Rattle.bpf_model.specs.Real.{AreBytes}
-use Rattle.bpf_model.specs.Machine.{Run, environment, locked, moves, section_of, unlocked}
-use Rattle.bpf_model.specs.MachineStep.{InsnStep}
-use Rattle.bpf_model.specs.Element.{loaded_from, stored_in}
-use Rattle.bpf_model.specs.Access.{with_bytes}
-use Rattle.bpf_model.specs.MapState.{Store, new_map}
-use Rattle.bpf_model.specs.Request.{Request, LoadElement, StoreElement, CallHelper, Enter, Leave, MapArgument}
-use Rattle.bpf_model.specs.Request.{BytesArgument, ServesRequest, asks, bound_shape, resumed}
-use Rattle.bpf_model.specs.MachineStep.{StepsAlone, StepsServed, Resumes}
-use Rattle.bpf_model.specs.Section.{Section}
-use Rattle.bpf_model.specs.Step.{insn_at}
-use Rattle.bpf_model.specs.Value.{◌>>=◌}
-use Rattle.bpf_model.proofs.Bytes.{length-with_bytes}
-use Rattle.bpf_model.proofs.Lists.{get-set_cases}
+use Rattle.bpf_model.proofs.Prelude.{◌≡◌, ℕ, ◌+◌, ◌^◌, ◌<◌, ◌≤◌, ◌⊎◌, inl, inr, refl, sym, ap, subst, ◌∙◌, arith, List, [], ◌∷◌, length, map, Option, Some}
+use Rattle.bpf_model.proofs.Prelude.{None, false, slice_get, slice_set, ℤ, pos, none-some, same_Some, region_offset, number_at, Element, Linked, Unlinked}
+use Rattle.bpf_model.proofs.Prelude.{IsLinkedAt, IsAbsent, accessible, changed, is_reclaimed, set_to, with_value, AreBytes, Run, environment, locked, moves}
+use Rattle.bpf_model.proofs.Prelude.{section_of, unlocked, InsnStep, loaded_from, stored_in, with_bytes, Store, new_map, Request, LoadElement, StoreElement}
+use Rattle.bpf_model.proofs.Prelude.{CallHelper, Enter, Leave, MapArgument, BytesArgument, ServesRequest, asks, bound_shape, resumed, StepsAlone, StepsServed}
+use Rattle.bpf_model.proofs.Prelude.{Resumes, Section, insn_at, ◌>>=◌, length-with_bytes, get-set_cases}
+use Rattle.model_laws.proofs.Prelude.{Lookup, Insn, Answer, Moved, MapShape, Value, Nothing, Number, Pointer, Elem, IsSingle}
+use Rattle.plan_laws.proofs.Prelude.{scene_of, IsGuarded, Plan, IsClosed, StaysKept}
+use Rattle.world_laws.proofs.Prelude.{map_of, regions, element_in_region, key_length, value_length, element_of, elements_by, births, elements_around}
+use Rattle.world_laws.proofs.Prelude.{store_of}
 use Rattle.model_laws.proofs.Computations.{first-step}
 use Rattle.model_laws.proofs.Requests.{asks_or_acts}
-use Rattle.plan_laws.specs.Describes.{scene_of, IsGuarded}
-use Rattle.plan_laws.specs.Verified.{Plan, IsClosed, StaysKept}
 use Rattle.plan_laws.proofs.Elements.{offset_some, with-bytes}
 use Rattle.plan_laws.proofs.Kept.{Keeps}
-use Rattle.world_laws.specs.Around.{map_of, regions, element_in_region, key_length, value_length, element_of, elements_by, births, elements_around, store_of}
 use Rattle.world_laws.proofs.StandingBytes.{number-back}
-use Rattle.world_laws.proofs.Contents.{get-by, by-below, by-is, IsContent, plain-content, single-one, life-unlinked}
-use Rattle.world_laws.proofs.Contents.{Guards, keeps-by, keeps-list, changed_at, changed-here, changed-all, linked-at}
-use Rattle.world_laws.proofs.Contents.{Touched, touched, touch}
+use Rattle.world_laws.proofs.Contents.{get-by, by-below, by-is, IsContent, plain-content, single-one, life-unlinked, Guards, keeps-by, keeps-list, changed_at}
+use Rattle.world_laws.proofs.Contents.{changed-here, changed-all, linked-at, Touched, touched, touch}
 use Rattle.world_laws.proofs.Described.{Described, surrounds, planned, plain-single, plain-guards, stepped}
 
 module _ (code : List Insn) (shapes : List MapShape) (ctx_len : ℕ) (plan : Plan)

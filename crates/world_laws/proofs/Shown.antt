@@ -1,21 +1,12 @@
 -- What a world's view shows of an element that a run may access, and of words near its map slot.
-use Rattle.std.proofs.Common.{◌≡◌, ℕ, ◌+◌, ◌<◌, ◌≤◌, refl, ap, ◌∙◌, arith, false, Some, length}
-use Rattle.std.specs.Prelude.{slice_get, slice_index}
+use Rattle.bpf_model.proofs.Prelude.{◌≡◌, ℕ, ◌+◌, ◌<◌, ◌≤◌, refl, ap, ◌∙◌, arith, false, Some, length, slice_get, slice_index, slice_get-map}
+use Rattle.bpf_model.proofs.Prelude.{slice_get_within, Element, is_reclaimed, IsShape, AreShapes, Schedule, MapView, WorldView, shapes_of, slot_view}
+use Rattle.bpf_model.proofs.Prelude.{RefinesSchedule, element_bases, map_in, slot_base, most_map_slots, Machine, Run, get-below}
+use Rattle.model_laws.proofs.Prelude.{MAX_ENTRIES, MAX_MAPS, MAX_SPARE}
+use Rattle.plan_laws.proofs.Prelude.{scene_of, IsHeld, IsWell}
 use Rattle.std.specs.Option.{option_map}
-use Rattle.std.proofs.lemmas.Option.{slice_get-map, slice_get_within}
-use Rattle.bpf_model.specs.declared.limits.TheConstants.{MAX_ENTRIES, MAX_MAPS, MAX_SPARE}
-use Rattle.bpf_model.specs.Element.{Element, is_reclaimed}
-use Rattle.bpf_model.specs.Shapes.{IsShape, AreShapes}
-use Rattle.bpf_model.specs.Schedule.{Schedule}
-use Rattle.bpf_model.specs.View.{MapView, WorldView, shapes_of}
-use Rattle.bpf_model.specs.Refines.{slot_view, RefinesSchedule}
-use Rattle.bpf_model.specs.Word.{element_bases, map_in, slot_base, most_map_slots}
-use Rattle.bpf_model.specs.Machine.{Machine, Run}
-use Rattle.plan_laws.specs.Describes.{scene_of, IsHeld}
-use Rattle.plan_laws.specs.Well.{IsWell}
 use Rattle.model_laws.proofs.ViewedWorlds.{here}
 use Rattle.plan_laws.proofs.Arrays.{held-unreclaimed, linked-kept}
-use Rattle.bpf_model.proofs.Lists.{get-below}
 
 -- An element that is kept stands in a map slot of its map, and its first byte has that map slot's word.
 pub record Shown (w : WorldView) (s : Schedule) (x : RefinesSchedule w s) (n : ℕ) (e : Element) : Type 0 where

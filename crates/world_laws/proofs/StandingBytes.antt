@@ -1,12 +1,6 @@
 -- A number that was written is read back.
-use Rattle.std.proofs.Common.{◌≡◌, ℕ, zero, suc, ◌+◌, ◌*◌, ◌/◌, ◌%◌, ◌^◌, ◌<◌, ◌≤◌, refl, sym, ap, ◌∙◌, arith, List, length, Option, Some}
-use Rattle.std.specs.Prelude.{slice_get, slice_set}
-use Rattle.std.proofs.Math.Nat.{pow-suc}
-use Rattle.bpf_model.specs.Access.{number_at}
-use Rattle.bpf_model.specs.Access.{with_bytes}
-use Rattle.bpf_model.specs.Value.{◌>>=◌}
-use Rattle.bpf_model.proofs.Bytes.{length-with_bytes}
-use Rattle.bpf_model.proofs.Lists.{get-below, get-set_there, get-set_other}
+use Rattle.bpf_model.proofs.Prelude.{◌≡◌, ℕ, zero, suc, ◌+◌, ◌*◌, ◌/◌, ◌%◌, ◌^◌, ◌<◌, ◌≤◌, refl, sym, ap, ◌∙◌, arith, List, length, Option, Some, slice_get}
+use Rattle.bpf_model.proofs.Prelude.{slice_set, pow-suc, number_at, with_bytes, ◌>>=◌, length-with_bytes, get-below, get-set_there, get-set_other}
 
 pub number-alike : (f g : ℕ → Option ℕ) (at width : ℕ) → ((k : ℕ) → at ≤ k → f k ≡ g k) → number_at f at width ≡ number_at g at width
 number-alike f g at zero h = refl

@@ -1,38 +1,21 @@
 -- The step of a run on words is its step in the machine: for each instruction, and for the run in a run slot.
-use Rattle.std.proofs.Common.{◌≡◌, ℕ, List, Option, Some, None, refl, sym, ap, subst, ◌∙◌, inl, inr}
-use Rattle.std.specs.Prelude.{slice_get}
-use Rattle.std.proofs.lemmas.Option.{none-some}
-use Rattle.bpf_model.specs.declared.event.Answer.{Answer}
-use Rattle.bpf_model.specs.declared.event.Event.{Event}
+use Rattle.bpf_model.proofs.Prelude.{◌≡◌, ℕ, List, Option, Some, None, refl, sym, ap, subst, ◌∙◌, inl, inr, slice_get, none-some, helper_of}
+use Rattle.bpf_model.proofs.Prelude.{kernel_function_of, Element, if_ended, Loaded, Run, environment, open_sections, OutcomeStep, InsnStep, Schedule, Outcome}
+use Rattle.bpf_model.proofs.Prelude.{after, insn_at, RunView, WorldView, flattened, run-behind, option_flatten}
+use Rattle.model_laws.proofs.Prelude.{Answer, Event, EventRefusal, Insn, Alu, Unary, LoadNumber, LoadMap, Jump, JumpLong, JumpIf, Call, Exit, Load}
+use Rattle.model_laws.proofs.Prelude.{LoadSigned, Store, StepsByKind, AccessesElement, Acts, Matches, Simulates, step_refused, step_by, reaction}
+use Rattle.world_laws.proofs.Prelude.{insn_step, step_at, step_in, run_step_of, word_step, or_step, full_reaction, IsSound, IsRunning}
 use Rattle.bpf_model.specs.declared.event.Event.TheVariants as events
-use Rattle.bpf_model.specs.declared.event.EventRefusal.{EventRefusal}
 use Rattle.bpf_model.specs.declared.insn.CallKind.TheVariants as kinds
-use Rattle.bpf_model.specs.declared.insn.Insn.{Insn}
-use Rattle.bpf_model.specs.declared.insn.Insn.TheVariants.{Alu, Unary, LoadNumber, LoadMap, Jump, JumpLong, JumpIf, Call, Exit, Load, LoadSigned, Store}
-use Rattle.bpf_model.specs.Call.{helper_of, kernel_function_of}
-use Rattle.bpf_model.specs.Element.{Element}
-use Rattle.bpf_model.specs.Event.{if_ended}
-use Rattle.bpf_model.specs.Machine.{Loaded, Run, environment, open_sections}
-use Rattle.model_laws.specs.ByKind.{StepsByKind, AccessesElement, Acts}
-use Rattle.bpf_model.specs.MachineStep.{OutcomeStep, InsnStep}
 use Rattle.bpf_model.specs.MapState as map_state
-use Rattle.bpf_model.specs.Schedule.{Schedule}
-use Rattle.bpf_model.specs.Step.{Outcome, after, insn_at}
-use Rattle.bpf_model.specs.View.{RunView, WorldView}
 use Rattle.plan_laws.proofs.Reaching.{well_never_stuck}
-use Rattle.model_laws.specs.Matching.{Matches, Simulates}
-use Rattle.model_laws.specs.Reactions.{step_refused, step_by, reaction}
 use Rattle.model_laws.proofs.Reacting.{reaction_simulates}
-use Rattle.world_laws.specs.Reacting.{insn_step, step_at, step_in, run_step_of, word_step, or_step, full_reaction}
-use Rattle.world_laws.specs.Typed.{IsSound, IsRunning}
 use Rattle.world_laws.proofs.Ready.{refines}
-use Rattle.world_laws.proofs.Own.{alu-simulates, unary-simulates, number-simulates, map-simulates, jump-simulates}
-use Rattle.world_laws.proofs.Own.{long-simulates, branch-simulates, exit-simulates}
+use Rattle.world_laws.proofs.Own.{alu-simulates, unary-simulates, number-simulates, map-simulates, jump-simulates, long-simulates, branch-simulates}
+use Rattle.world_laws.proofs.Own.{exit-simulates}
 use Rattle.world_laws.proofs.Loading.{load-simulates, load-signed-simulates, element-load-simulates, element-load-signed-simulates}
 use Rattle.world_laws.proofs.Storing.{store-simulates, element-store-simulates}
 use Rattle.world_laws.proofs.Calling.{kernel-simulates, helper-simulates}
-use Rattle.bpf_model.proofs.Cases.{flattened, run-behind}
-use Rattle.std.specs.Option.{option_flatten}
 use Rattle.model_laws.proofs.Requests.{by_kind}
 
 module _ (w : WorldView) (s : Schedule) (m : Matches w s) (sound : IsSound w s) (r : ℕ) (run : Run) (v : RunView) (k : IsRunning w s r run v) where

@@ -1,21 +1,10 @@
 -- A register that the instruction at hand needs has something in it for sure: a number of 64 bits, or a reference, to an element only inside
 -- a section that guards it.
-use Rattle.std.proofs.Common.{◌≡◌, ℕ, ◌^◌, ◌<◌, refl, sym, subst, ◌∙◌, arith, Option, Some, None, Bool, true, false}
-use Rattle.std.specs.Prelude.{◌==◌, if◌then◌else◌}
-use Rattle.std.proofs.lemmas.Bool.{eqb-true}
-use Rattle.std.proofs.lemmas.Option.{same_Some}
-use Rattle.bpf_model.specs.declared.insn.Insn.{Insn}
-use Rattle.bpf_model.specs.declared.value.Value.{Value}
-use Rattle.bpf_model.specs.declared.value.Value.TheVariants.{Nothing, Number, Pointer}
-use Rattle.bpf_model.specs.declared.value.Reference.TheVariants.{Elem}
-use Rattle.bpf_model.specs.Step.{State, put, insn_at}
-use Rattle.bpf_model.specs.Machine.{Run, Machine, open_sections, run_at}
-use Rattle.bpf_model.specs.Request.{found_value}
-use Rattle.model_laws.specs.Near.{IsNear}
-use Rattle.plan_laws.specs.Kinds.{Kind, Blank, Mixed, Ended, Num, CtxAt, FrameAt, MapAt, ValueAt, MaybeNull, AbsState}
-use Rattle.plan_laws.specs.Describes.{Scene, scene_of, IsHeld, Naming, IsNullOrHeld, IsOf, AreNear, Describes}
-use Rattle.plan_laws.specs.Verified.{HasStep, IsPlanned}
-use Rattle.plan_laws.specs.Well.{IsTyped, IsWell}
+use Rattle.bpf_model.proofs.Prelude.{◌≡◌, ℕ, ◌^◌, ◌<◌, refl, sym, subst, ◌∙◌, arith, Option, Some, None, Bool, true, false, ◌==◌, if◌then◌else◌, eqb-true}
+use Rattle.bpf_model.proofs.Prelude.{same_Some, State, put, insn_at, Run, Machine, open_sections, run_at, found_value}
+use Rattle.model_laws.proofs.Prelude.{Insn, Value, Nothing, Number, Pointer, Elem, IsNear}
+use Rattle.plan_laws.proofs.Prelude.{Kind, Blank, Mixed, Ended, Num, CtxAt, FrameAt, MapAt, ValueAt, MaybeNull, AbsState, Scene, scene_of, IsHeld, Naming}
+use Rattle.plan_laws.proofs.Prelude.{IsNullOrHeld, IsOf, AreNear, Describes, HasStep, IsPlanned, IsTyped, IsWell}
 use Rattle.plan_laws.proofs.Reaching.{surrounds}
 
 abbrev pub IsSure : Scene → Value → Type 0

@@ -1,29 +1,21 @@
 -- The main theorem over views: one event, and a list of events.
-use Rattle.std.proofs.Common.{◌≡◌, ◌∙◌, ℕ, zero, suc, ◌≤◌, List, [], ◌∷◌, map, length, refl, sym, ap, subst, arith}
-use Rattle.std.proofs.lemmas.List.{length-map}
-use Rattle.std.proofs.lemmas.Option.{none-some, same_Some}
-use Rattle.bpf_model.specs.declared.limits.TheConstants.{MAX_MAPS, MAX_PROGRAMS}
-use Rattle.bpf_model.specs.declared.event.Event.{Event}
-use Rattle.bpf_model.specs.declared.limits.MapShape.{MapShape}
-use Rattle.bpf_model.specs.Drain.{AnswersAsScheduled, AreScheduledAnswers}
-use Rattle.bpf_model.specs.Real.{IsReal, AreReal}
-use Rattle.bpf_model.specs.Headline.{AnswersAsMachine, AreMachineAnswers, AreNeverStuck, AllExitInTime, AreReclaimedLate}
-use Rattle.bpf_model.specs.Machine.{Loaded}
-use Rattle.bpf_model.specs.Schedule.{Schedule, DoesScheduled}
-use Rattle.bpf_model.specs.View.{shape_of_view as shape, WorldView, new_map_view, start_view, shapes_of}
-use Rattle.bpf_model.specs.Refines.{TracksSchedule, Tracks, IsBounded}
-use Rattle.model_laws.specs.Steps.{AreSteps}
+use Rattle.bpf_model.proofs.Prelude.{◌≡◌, ◌∙◌, ℕ, zero, suc, ◌≤◌, List, [], ◌∷◌, map, length, refl, sym, ap, subst, arith, length-map, none-some, same_Some}
+use Rattle.bpf_model.proofs.Prelude.{AnswersAsScheduled, AreScheduledAnswers, IsReal, AreReal, AnswersAsMachine, AreMachineAnswers, AreNeverStuck}
+use Rattle.bpf_model.proofs.Prelude.{AllExitInTime, AreReclaimedLate, Loaded, Schedule, DoesScheduled, WorldView, new_map_view, start_view, shapes_of}
+use Rattle.bpf_model.proofs.Prelude.{TracksSchedule, Tracks}
+use Rattle.model_laws.proofs.Prelude.{MAX_MAPS, MAX_PROGRAMS, Event, MapShape, AreSteps}
+use Rattle.plan_laws.proofs.Prelude.{AreVerified}
+use Rattle.world_laws.proofs.Prelude.{full_reaction, full_reactions, AreRealPrograms, IsReadyWorld, IsSound}
+use Rattle.bpf_model.specs.View.{shape_of_view as shape}
+use Rattle.bpf_model.specs.Refines.{IsBounded}
 use Rattle.model_laws.proofs.Bounded.{given_bounded}
 use Rattle.model_laws.proofs.Joining.{steps_make_scheduled}
 use Rattle.model_laws.proofs.Worlds.{scheduled_is_machine, scheduled_is_machine_once, tracked_reclaimed_late}
 use Rattle.model_laws.proofs.Starting.{shapes-start}
-use Rattle.plan_laws.specs.Well.{AreVerified}
 use Rattle.plan_laws.proofs.Reaching.{reached_is_well, real-rest, tracked_never_stuck}
 use Rattle.plan_laws.proofs.Timing.{tracked_exits_in_time}
 use Rattle.model_laws.proofs.Reacting.{tracked_matches}
 use Rattle.model_laws.proofs.Tracking.{simulates_tracks}
-use Rattle.world_laws.specs.Reacting.{full_reaction, full_reactions}
-use Rattle.world_laws.specs.Typed.{AreRealPrograms, IsReadyWorld, IsSound}
 use Rattle.world_laws.proofs.Listed.{reached_is_listed}
 use Rattle.world_laws.proofs.Stepping.{full_simulates}
 use Rattle.world_laws.proofs.Keeping.{full_keeps}

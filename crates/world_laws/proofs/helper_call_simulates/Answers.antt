@@ -1,6 +1,5 @@
-use Rattle.std.proofs.Common.{refl}
+use Rattle.bpf_model.proofs.Prelude.{refl, helper_of}
 use Rattle.world_laws.proofs.Calling.{helper-simulates}
-use Rattle.bpf_model.specs.Call.{helper_of}
 use Rattle.world_laws.proofs.helper_call_simulates.Goals as goal
 
 pub returns : goal.returns

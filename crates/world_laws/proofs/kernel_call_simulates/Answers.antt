@@ -1,6 +1,5 @@
-use Rattle.std.proofs.Common.{refl}
+use Rattle.bpf_model.proofs.Prelude.{refl, kernel_function_of}
 use Rattle.world_laws.proofs.Calling.{kernel-simulates}
-use Rattle.bpf_model.specs.Call.{kernel_function_of}
 use Rattle.world_laws.proofs.kernel_call_simulates.Goals as goal
 
 pub returns : goal.returns

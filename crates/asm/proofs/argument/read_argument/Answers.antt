@@ -1,4 +1,4 @@
-use Rattle.std.proofs.Common.{ap, get_or, arith}
+use Rattle.bpf_model.proofs.Prelude.{ap, get_or, arith}
 use Rattle.disasm.specs.declared.statement.Sign.TheVariants.{Plus, Minus}
 use Rattle.asm.proofs.ArgumentLaws.{register_only, memory_only, plus_only, minus_only, register_found, memory_found, signed_found, number_found}
 use Rattle.asm.proofs.argument.read_argument.Goals as goal

@@ -1,4 +1,4 @@
-use Rattle.std.proofs.Common.{◌++◌, ◌∷◌, [], List, ℕ}
+use Rattle.bpf_model.proofs.Prelude.{◌++◌, ◌∷◌, [], List, ℕ}
 use Rattle.disasm.specs.Text.{numeral, sign_text}
 use Rattle.asm.proofs.argument.read_memory.Goals as goal
 

@@ -1,5 +1,4 @@
-use Rattle.std.proofs.Common.{◌∙◌, ap, inr, refl}
-use Rattle.std.proofs.lemmas.Result.{err_from_is_err_and}
+use Rattle.bpf_model.proofs.Prelude.{◌∙◌, ap, inr, refl, err_from_is_err_and}
 use Rattle.asm.specs.Faults.{statements_in}
 use Rattle.asm.proofs.Assembled.{text_fault_only, made_only, statements_of_program}
 use Rattle.asm.proofs.assembling.assemble.Goals as goal

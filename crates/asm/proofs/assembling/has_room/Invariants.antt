@@ -1,6 +1,5 @@
-use Rattle.std.proofs.Common.{◌≡◌, ◌≤◌, take}
+use Rattle.bpf_model.proofs.Prelude.{◌≡◌, ◌≤◌, take, slot_total}
 use Rattle.bpf_model.specs.declared.limits.TheConstants.{MAX_SLOTS}
-use Rattle.bpf_model.specs.Places.{slot_total}
 use Rattle.asm.proofs.assembling.has_room.Given as goal
 
 abbrev pub invariant-loop-instruction : goal.invariant-loop-instruction

@@ -1,5 +1,4 @@
-use Rattle.std.proofs.Common.{rules, arith, ℕ, ◌≡◌, ◌==◌, false, ◌<◌}
-use Rattle.std.proofs.lemmas.Bool.Decides.{nat_tests}
+use Rattle.bpf_model.proofs.Prelude.{rules, arith, ℕ, ◌≡◌, ◌==◌, false, ◌<◌, nat_tests}
 use Rattle.asm.proofs.Assembled.{some_slots}
 use Rattle.asm.proofs.assembling.program_of.Goals as goal
 

@@ -1,5 +1,4 @@
-use Rattle.std.proofs.Common.{rules, ◌+◌}
-use Rattle.std.proofs.lemmas.Result.{err_from_is_err_and}
+use Rattle.bpf_model.proofs.Prelude.{rules, ◌+◌, err_from_is_err_and}
 use Rattle.asm.proofs.LinesRead.{next_read, next_fault, last_read, last_fault, all_read, only_read, next_room}
 use Rattle.asm.proofs.assembling.read_lines.Goals as goal
 

@@ -1,4 +1,4 @@
-use Rattle.std.proofs.Common.{length}
+use Rattle.bpf_model.proofs.Prelude.{length}
 use Rattle.asm.proofs.LinesRead.{IsReading}
 use Rattle.asm.proofs.assembling.read_lines.Given as goal
 

@@ -1,5 +1,4 @@
-use Rattle.std.proofs.Common.{sym, ◌∙◌}
-use Rattle.std.proofs.lemmas.Bool.{false≢true}
+use Rattle.bpf_model.proofs.Prelude.{sym, ◌∙◌, false≢true}
 use Rattle.asm.proofs.LineLaws.{no_insn, formed_line, formed_insn, has_form, text_is, ok_is, not_insn}
 use Rattle.asm.proofs.line.read_insn.Goals as goal
 

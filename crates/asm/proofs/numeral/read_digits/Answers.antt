@@ -1,4 +1,4 @@
-use Rattle.std.proofs.Common.{rules}
+use Rattle.bpf_model.proofs.Prelude.{rules}
 use Rattle.asm.proofs.Numerals.{read_more}
 use Rattle.asm.proofs.numeral.read_digits.Goals as goal
 

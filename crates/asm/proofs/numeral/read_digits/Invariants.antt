@@ -1,4 +1,4 @@
-use Rattle.std.proofs.Common.{take}
+use Rattle.bpf_model.proofs.Prelude.{take}
 use Rattle.asm.proofs.numeral.read_digits.Given as goal
 use Rattle.asm.proofs.Numerals.{IsReadSoFar}
 

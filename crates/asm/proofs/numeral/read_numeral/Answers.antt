@@ -1,4 +1,4 @@
-use Rattle.std.proofs.Common.{arith, ◌∙◌, ap, get_or, length}
+use Rattle.bpf_model.proofs.Prelude.{arith, ◌∙◌, ap, get_or, length}
 use Rattle.asm.proofs.Numerals.{numeral_zero_only, numeral_not_long, digits_only}
 use Rattle.asm.proofs.numeral.read_numeral.Goals as goal
 

@@ -1,5 +1,4 @@
-use Rattle.std.proofs.Common.{arith, ap, length}
-use Rattle.std.proofs.lemmas.Result.{err_from_is_err_and}
+use Rattle.bpf_model.proofs.Prelude.{arith, ap, length, err_from_is_err_and}
 use Rattle.asm_source.specs.Names.{names_in}
 use Rattle.asm_source.proofs.NameLaws.{line_named, names_end, name_fault}
 use Rattle.asm_source.proofs.bindings.names_of.Goals as goal

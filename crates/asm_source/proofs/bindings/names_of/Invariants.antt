@@ -1,4 +1,4 @@
-use Rattle.std.proofs.Common.{◌≡◌, ◌+◌, ◌*◌, ◌≤◌, length, Ok}
+use Rattle.bpf_model.proofs.Prelude.{◌≡◌, ◌+◌, ◌*◌, ◌≤◌, length, Ok}
 use Rattle.asm_source.specs.Names.{names_in, with_lines}
 use Rattle.asm_source.proofs.bindings.names_of.Given as goal
 

@@ -1,4 +1,4 @@
-use Rattle.std.proofs.Common.{◌≡◌, ◌++◌, length}
+use Rattle.bpf_model.proofs.Prelude.{◌≡◌, ◌++◌, length}
 use Rattle.std.specs.Prelude.{flat_map}
 use Rattle.asm_source.specs.Tokens.{tokens_of}
 use Rattle.asm_source.specs.Head.{line_of_tokens, head_text}

@@ -1,4 +1,4 @@
-use Rattle.std.proofs.Common.{◌≡◌, ◌++◌, length}
+use Rattle.bpf_model.proofs.Prelude.{◌≡◌, ◌++◌, length}
 use Rattle.asm_source.specs.LineEnds.{with_feeds}
 use Rattle.asm_source.proofs.line_ends.fed_text.Given as goal
 

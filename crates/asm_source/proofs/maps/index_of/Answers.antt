@@ -1,4 +1,4 @@
-use Rattle.std.proofs.Common.{sym, ◌∙◌}
+use Rattle.bpf_model.proofs.Prelude.{sym, ◌∙◌}
 use Rattle.asm_source.proofs.MapLaws.{position_of_texts}
 use Rattle.asm_source.proofs.maps.index_of.Goals as goal
 

@@ -1,4 +1,4 @@
-use Rattle.std.proofs.Common.{◌≡◌, ◌++◌, length}
+use Rattle.bpf_model.proofs.Prelude.{◌≡◌, ◌++◌, length}
 use Rattle.asm_source.specs.Maps.{texts, map_names_in, maps_in}
 use Rattle.asm_source.proofs.maps.maps_of.Given as goal
 

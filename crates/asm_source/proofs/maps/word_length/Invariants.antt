@@ -1,5 +1,4 @@
-use Rattle.std.proofs.Common.{◌≡◌, ◌+◌, ◌==◌, not, drop}
-use Rattle.std.specs.List.{prefix_len}
+use Rattle.bpf_model.proofs.Prelude.{◌≡◌, ◌+◌, ◌==◌, not, drop, prefix_len}
 use Rattle.asm_source.proofs.maps.word_length.Given as goal
 
 abbrev pub invariant-loop-index : goal.invariant-loop-index

@@ -1,5 +1,4 @@
-use Rattle.std.proofs.Common.{◌≡◌, drop}
-use Rattle.std.specs.Str.{all_ascii_digits}
+use Rattle.bpf_model.proofs.Prelude.{◌≡◌, drop, all_ascii_digits}
 use Rattle.asm_source.proofs.names.are_digits.Given as goal
 
 abbrev pub invariant-loop-digit : goal.invariant-loop-digit

@@ -1,4 +1,4 @@
-use Rattle.std.proofs.Common.{rules, arith}
+use Rattle.bpf_model.proofs.Prelude.{rules, arith}
 use Rattle.disasm.proofs.Numerals.{decimal_is_numeral}
 use Rattle.asm_source.proofs.numbers.push_numeral.Goals as goal
 

@@ -1,4 +1,4 @@
-use Rattle.std.proofs.Common.{◌≡◌, drop, Some}
+use Rattle.bpf_model.proofs.Prelude.{◌≡◌, drop, Some}
 use Rattle.asm_source.specs.Numbers.{digits_in, with_digits}
 use Rattle.asm_source.proofs.numbers.read_digits.Given as goal
 

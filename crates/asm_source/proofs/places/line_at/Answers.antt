@@ -1,4 +1,4 @@
-use Rattle.std.proofs.Common.{suc, ◌≡◌, ◌+◌, ◌-◌, ◌∙◌, refl, arith, ap, sym, subst, length}
+use Rattle.bpf_model.proofs.Prelude.{suc, ◌≡◌, ◌+◌, ◌-◌, ◌∙◌, refl, arith, ap, sym, subst, length}
 use Rattle.asm_source.specs.Tokens.{lines_of}
 use Rattle.asm_source.specs.Labels.{BeginsAt}
 use Rattle.asm_source.proofs.PlaceLaws.{line_slots, line_here, lines_behind, slots_more, none_more, none_past}

@@ -1,5 +1,4 @@
-use Rattle.std.proofs.Common.{ℕ, ◌≡◌, ◌+◌, ◌*◌, ◌<◌, ◌≤◌, length}
-use Rattle.std.specs.Prelude.{drop}
+use Rattle.bpf_model.proofs.Prelude.{ℕ, ◌≡◌, ◌+◌, ◌*◌, ◌<◌, ◌≤◌, length, drop}
 use Rattle.asm_source.specs.Tokens.{lines_of}
 use Rattle.asm_source.specs.Labels.{BeginsAt, slots_above}
 use Rattle.asm_source.proofs.places.line_at.Given as goal

@@ -1,5 +1,4 @@
-use Rattle.std.proofs.Common.{arith, ap, length}
-use Rattle.std.proofs.lemmas.Result.{err_from_is_err_and}
+use Rattle.bpf_model.proofs.Prelude.{arith, ap, length, err_from_is_err_and}
 use Rattle.asm_source.specs.Tokens.{lines_of}
 use Rattle.asm_source.specs.Maps.{meanings_of}
 use Rattle.asm_source.specs.Plain.{lines_text}

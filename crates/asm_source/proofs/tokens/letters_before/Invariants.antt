@@ -1,5 +1,4 @@
-use Rattle.std.proofs.Common.{◌≡◌, ◌+◌, drop}
-use Rattle.std.specs.List.{prefix_len}
+use Rattle.bpf_model.proofs.Prelude.{◌≡◌, ◌+◌, drop, prefix_len}
 use Rattle.asm_source.specs.Tokens.{is_letter}
 use Rattle.asm_source.proofs.tokens.letters_before.Given as goal
 

@@ -1,4 +1,4 @@
-use Rattle.std.proofs.Common.{◌≡◌, length}
+use Rattle.bpf_model.proofs.Prelude.{◌≡◌, length}
 use Rattle.asm_source.specs.Tokens.{tokens_of}
 use Rattle.asm_source.proofs.tokens.without_blanks.Given as goal
 

@@ -1,5 +1,4 @@
-use Rattle.std.proofs.Common.{sym, ◌∙◌, codes}
-use Rattle.std.proofs.lemmas.Result.{err_from_is_err_and}
+use Rattle.bpf_model.proofs.Prelude.{sym, ◌∙◌, codes, err_from_is_err_and}
 use Rattle.asm_source.specs.Maps.{meanings_of}
 use Rattle.asm_source.specs.Plain.{tokens_text}
 use Rattle.asm_source.proofs.TextLaws.{token_pushed, tokens_end, token_fault}

@@ -1,4 +1,4 @@
-use Rattle.std.proofs.Common.{◌≡◌, length}
+use Rattle.bpf_model.proofs.Prelude.{◌≡◌, length}
 use Rattle.asm_source.specs.Maps.{meanings_of}
 use Rattle.asm_source.specs.Plain.{prepended, tokens_text}
 use Rattle.asm_source.proofs.words.push_tokens.Given as goal

@@ -1,6 +1,5 @@
-use Rattle.std.proofs.Common.{◌≡◌, ◌∷◌, sym, ◌∙◌, ap, List, ℕ, []}
+use Rattle.bpf_model.proofs.Prelude.{◌≡◌, ◌∷◌, sym, ◌∙◌, ap, List, ℕ, [], codes, string_bytes}
 use Rattle.std.specs.Cmp.Lexicographic.{same_text}
-use Rattle.std.specs.Prelude.{codes, string_bytes}
 use Rattle.bench.proofs.ThreeWords.{three}
 use Rattle.bench.proofs.command.parse_words.Goals as goal
 

@@ -1,11 +1,7 @@
-use Rattle.std.proofs.Common.{◌≡◌, ℕ, ◌+◌, ◌<◌, ◌≤◌, List, [], ◌∷◌, ◌++◌, Option, Some, None, length, sym, ap, ◌∙◌, subst, arith}
-use Rattle.std.specs.Prelude.{slice_get}
-use Rattle.std.proofs.lemmas.Option.{slice_get-get_or}
-use Rattle.bpf_model.proofs.Lists.{get-below}
-use Rattle.classic_program.specs.declared.data.Data.{Data}
-use Rattle.classic_program.specs.declared.insn.ClassicInsn.{ClassicInsn}
+use Rattle.bpf_model.proofs.Prelude.{◌≡◌, ℕ, ◌+◌, ◌<◌, ◌≤◌, List, [], ◌∷◌, ◌++◌, Option, Some, None, length, sym, ap, ◌∙◌, subst, arith, slice_get}
+use Rattle.bpf_model.proofs.Prelude.{slice_get-get_or, get-below}
+use Rattle.classic.proofs.Prelude.{Data, ClassicInsn, slots}
 use Rattle.classic.specs.declared.notes.Note.{Note}
-use Rattle.classic.specs.Layout.{slots}
 use Rattle.classic_program.proofs.Marking.{get-at}
 use Rattle.classic.proofs.Sequence.{IsLaying, laying-reached, laying-left}
 use Rattle.classic.proofs.layout.starts_of.Goals as goal

@@ -1,6 +1,5 @@
-use Rattle.std.proofs.Common.{[], ap, sym, ◌∙◌}
-use Rattle.classic_program.specs.declared.insn.ClassicInsn.{ClassicInsn}
-use Rattle.classic.specs.Layout.{slots}
+use Rattle.bpf_model.proofs.Prelude.{[], ap, sym, ◌∙◌}
+use Rattle.classic.proofs.Prelude.{ClassicInsn, slots}
 use Rattle.classic.proofs.slots.block_slots.Goals as goal
 
 pub returns-in-Jump-clause-value : goal.returns-in-Jump-clause-value

@@ -1,14 +1,9 @@
-use Rattle.std.proofs.Common.{◌≡◌, ℕ, ◌+◌, Bool, length, ap, sym, ◌∙◌}
-use Rattle.std.proofs.lemmas.List.{length-append}
-use Rattle.classic_program.specs.Machine.{size_of}
-use Rattle.classic_program.specs.declared.data.Data.{Data}
-use Rattle.classic_program.specs.declared.data.Data.TheVariants.{Packet}
-use Rattle.classic_program.specs.declared.insn.ClassicReg.{ClassicReg}
-use Rattle.classic_program.specs.declared.insn.Datum.{Datum}
+use Rattle.bpf_model.proofs.Prelude.{◌≡◌, ℕ, ◌+◌, Bool, length, ap, sym, ◌∙◌, length-append}
+use Rattle.classic.proofs.Prelude.{Data, Packet, ClassicReg, Datum, LoadSize, fetch, check, load_block, keeps, register_of}
+use Rattle.classic_program.proofs.Prelude.{size_of}
 use Rattle.classic_program.specs.declared.insn.Datum.TheVariants.{Bytes, Indexed}
-use Rattle.classic_program.specs.declared.insn.LoadSize.{LoadSize}
 use Rattle.classic.specs.declared.notes.Note.{Note}
-use Rattle.classic.specs.Layout.{fetch, check, load_indexed, load_block, keeps, register_of}
+use Rattle.classic.specs.Layout.{load_indexed}
 use Rattle.classic.proofs.slots.load_slots.Goals as goal
 
 of-packet : (n : Note) (into : ClassicReg) (size : LoadSize) (at k f : ℕ) → length (check 0 n 0 (at + size_of size)) ≡ k

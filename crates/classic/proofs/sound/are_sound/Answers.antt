@@ -1,8 +1,7 @@
-use Rattle.std.proofs.Common.{◌≡◌, ◌<◌, Some, None, true, length, refl, ap, ◌∙◌, subst, arith}
-use Rattle.std.proofs.lemmas.Option.{slice_get-get_or, slice_get_within}
+use Rattle.bpf_model.proofs.Prelude.{◌≡◌, ◌<◌, Some, None, true, length, refl, ap, ◌∙◌, subst, arith, slice_get-get_or, slice_get_within}
+use Rattle.classic.proofs.Prelude.{claims}
 use Rattle.classic_program.proofs.Marking.{get-at}
 use Rattle.classic.specs.declared.notes.Note.{Note}
-use Rattle.classic.specs.Notes.{claims}
 use Rattle.classic.proofs.Closing.{sound-next, sound-left}
 use Rattle.classic.proofs.sound.are_sound.Goals as goal
 use Rattle.classic.proofs.sound.are_sound.Goals.{in-Some+else-not-is_sound_at, in_default}

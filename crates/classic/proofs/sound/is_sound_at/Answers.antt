@@ -1,4 +1,4 @@
-use Rattle.std.proofs.Common.{◌+◌, ℕ, ap}
+use Rattle.bpf_model.proofs.Prelude.{◌+◌, ℕ, ap}
 use Rattle.classic.proofs.Closing.{sound-test}
 use Rattle.classic.proofs.sound.is_sound_at.Goals as goal
 

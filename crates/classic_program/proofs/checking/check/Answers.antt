@@ -1,5 +1,4 @@
-use Rattle.std.proofs.Common.{◌≤◌, length, arith}
-use Rattle.std.proofs.lemmas.Result.{err_from_is_err_and}
+use Rattle.bpf_model.proofs.Prelude.{◌≤◌, length, arith, err_from_is_err_and}
 use Rattle.classic_program.proofs.Checks.{decode-fault, decode-only, none-flawed, leads-inside, none-unstored, well-formed}
 use Rattle.classic_program.proofs.checking.check.Goals as goal
 

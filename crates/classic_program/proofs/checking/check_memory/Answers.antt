@@ -1,9 +1,6 @@
-use Rattle.std.proofs.Common.{◌≡◌, ℕ, ◌+◌, ◌<◌, List, Bool, true, Some, ap, ◌∙◌, subst, arith, inl, inr}
-use Rattle.std.specs.Prelude.{slice_get}
-use Rattle.std.proofs.lemmas.Bool.{cases_lt}
+use Rattle.bpf_model.proofs.Prelude.{◌≡◌, ℕ, ◌+◌, ◌<◌, List, Bool, true, Some, ap, ◌∙◌, subst, arith, inl, inr, slice_get, cases_lt}
+use Rattle.classic_program.proofs.Prelude.{AreMarks, reads_from, stores_to, Reaches}
 use Rattle.classic_program.specs.declared.insn.ClassicInsn.{ClassicInsn}
-use Rattle.classic_program.specs.Paths.{AreMarks}
-use Rattle.classic_program.specs.WellFormed.{reads_from, stores_to, Reaches}
 use Rattle.classic_program.proofs.checking.check_memory.Goals as goal
 
 next : (program : List ClassicInsn) (number : ℕ) (marks items : List Bool) →

@@ -1,5 +1,5 @@
-use Rattle.std.proofs.Common.{length}
-use Rattle.classic_program.specs.Faults.{IsSoundAt}
+use Rattle.bpf_model.proofs.Prelude.{length}
+use Rattle.classic_program.proofs.Prelude.{IsSoundAt}
 use Rattle.classic_program.proofs.Every.{each-next, each-all}
 use Rattle.classic_program.proofs.Marking.{get-at}
 use Rattle.classic_program.proofs.checking.first_flaw.Goals as goal

@@ -1,7 +1,6 @@
-use Rattle.std.proofs.Common.{◌≡◌, ℕ, ◌<◌, length, Some}
-use Rattle.std.specs.Prelude.{slice_get}
+use Rattle.bpf_model.proofs.Prelude.{◌≡◌, ℕ, ◌<◌, length, Some, slice_get}
+use Rattle.classic_program.proofs.Prelude.{IsSoundAt}
 use Rattle.classic_program.specs.declared.insn.ClassicInsn.{ClassicInsn}
-use Rattle.classic_program.specs.Faults.{IsSoundAt}
 use Rattle.classic_program.proofs.checking.first_flaw.Given as goal
 
 abbrev pub invariant-loop-index : goal.invariant-loop-index

@@ -1,6 +1,6 @@
-use Rattle.std.proofs.Common.{sym, ◌∙◌, subst, arith}
+use Rattle.bpf_model.proofs.Prelude.{sym, ◌∙◌, subst, arith}
+use Rattle.classic_program.proofs.Prelude.{IsSkip}
 use Rattle.classic_program.specs.declared.paths.Skips.{Skips}
-use Rattle.classic_program.specs.Paths.{IsSkip}
 use Rattle.classic_program.proofs.Marking.{to-skip}
 use Rattle.classic_program.proofs.checking.flaw_at.Goals as goal
 

@@ -1,7 +1,6 @@
-use Rattle.std.proofs.Common.{◌≡◌, ℕ, ◌<◌, Some, true}
-use Rattle.std.specs.Prelude.{slice_get}
+use Rattle.bpf_model.proofs.Prelude.{◌≡◌, ℕ, ◌<◌, Some, true, slice_get}
+use Rattle.classic_program.proofs.Prelude.{reads_from}
 use Rattle.classic_program.specs.declared.insn.ClassicInsn.{ClassicInsn}
-use Rattle.classic_program.specs.WellFormed.{reads_from}
 use Rattle.classic_program.proofs.checking.marked_reader.Given as goal
 
 abbrev pub invariant-loop-index : goal.invariant-loop-index

@@ -1,5 +1,4 @@
-use Rattle.std.proofs.Common.{◌+◌, List, sym, subst}
-use Rattle.std.proofs.lemmas.Option.{slice_get-get_or}
+use Rattle.bpf_model.proofs.Prelude.{◌+◌, List, sym, subst, slice_get-get_or}
 use Rattle.classic_program.specs.declared.insn.ClassicInsn.{ClassicInsn}
 use Rattle.classic_program.proofs.Decodes.{IsDecoding, decoding-next}
 use Rattle.classic_program.proofs.decoding.decode.Goals as goal

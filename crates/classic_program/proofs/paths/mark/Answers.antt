@@ -1,9 +1,7 @@
-use Rattle.std.proofs.Common.{◌≡◌, ◌+◌, ◌<◌, ℕ, List, Bool, true, length, refl, sym, subst, arith, inl, inr}
-use Rattle.std.specs.Prelude.{slice_set}
-use Rattle.std.proofs.lemmas.List.{length-set}
+use Rattle.bpf_model.proofs.Prelude.{◌≡◌, ◌+◌, ◌<◌, ℕ, List, Bool, true, length, refl, sym, subst, arith, inl, inr, slice_set, length-set}
+use Rattle.classic_program.proofs.Prelude.{Marks, IsSkip}
 use Rattle.classic_program.specs.declared.paths.Skips.{Skips}
 use Rattle.classic_program.specs.declared.paths.Skips.TheVariants.{One, Two}
-use Rattle.classic_program.specs.Paths.{Marks, IsSkip}
 use Rattle.classic_program.proofs.Marking.{marks-one, marks-two}
 use Rattle.classic_program.proofs.paths.mark.Goals as goal
 

@@ -1,10 +1,7 @@
-use Rattle.std.proofs.Common.{◌≡◌, ℕ, ◌+◌, ◌<◌, List, Bool, true, false, Some, length, sym, ap, ◌∙◌, subst, arith}
-use Rattle.std.specs.Prelude.{slice_get}
-use Rattle.std.proofs.lemmas.List.{with_items_is}
+use Rattle.bpf_model.proofs.Prelude.{◌≡◌, ℕ, ◌+◌, ◌<◌, List, Bool, true, false, Some, length, sym, ap, ◌∙◌, subst, arith, slice_get, with_items_is}
+use Rattle.classic_program.proofs.Prelude.{Marks, IsSkip, skips_of, stops_at, LeadsInside}
 use Rattle.classic_program.specs.declared.insn.ClassicInsn.{ClassicInsn}
 use Rattle.classic_program.specs.declared.paths.Skips.{Skips}
-use Rattle.classic_program.specs.Paths.{Marks, IsSkip, skips_of, stops_at}
-use Rattle.classic_program.specs.WellFormed.{LeadsInside}
 use Rattle.classic_program.proofs.Marking.{IsMarking, get-at, marking-start, marking-goes, marking-stays, marking-all, from-skip}
 use Rattle.classic_program.proofs.paths.marks_of.Goals as goal
 use Rattle.classic_program.proofs.paths.marks_of.Goals.{then-index+then-not-stops, else-index, else-index-via-then-index+else-not-stops}

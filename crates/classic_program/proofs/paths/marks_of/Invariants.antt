@@ -1,4 +1,4 @@
-use Rattle.classic_program.specs.Paths.{stops_at}
+use Rattle.classic_program.proofs.Prelude.{stops_at}
 use Rattle.classic_program.proofs.Marking.{IsMarking}
 use Rattle.classic_program.proofs.paths.marks_of.Given as goal
 

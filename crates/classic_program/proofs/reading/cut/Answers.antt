@@ -1,5 +1,6 @@
-use Rattle.std.proofs.Common.{take_all, get_or, refl, subst}
-use Rattle.classic_program.specs.Reading.{Lacks}
+use Rattle.bpf_model.proofs.Prelude.{get_or, refl, subst}
+use Rattle.classic_program.proofs.Prelude.{Lacks}
+use Rattle.std.proofs.Common.{take_all}
 use Rattle.classic_program.proofs.Splits.{lacks-more, cut-none, cut-some}
 use Rattle.classic_program.proofs.reading.cut.Goals as goal
 

@@ -1,5 +1,5 @@
-use Rattle.std.proofs.Common.{take}
-use Rattle.classic_program.specs.Reading.{Lacks}
+use Rattle.bpf_model.proofs.Prelude.{take}
+use Rattle.classic_program.proofs.Prelude.{Lacks}
 use Rattle.classic_program.proofs.reading.cut.Given as goal
 
 abbrev pub invariant-loop-index : goal.invariant-loop-index

@@ -1,4 +1,4 @@
-use Rattle.std.proofs.Common.{sym, ◌∙◌}
+use Rattle.bpf_model.proofs.Prelude.{sym, ◌∙◌}
 use Rattle.classic_program.proofs.Splits.{five-words}
 use Rattle.classic_program.proofs.reading.filter_of.Goals as goal
 

@@ -1,4 +1,4 @@
-use Rattle.std.proofs.Common.{◌<◌, length, refl, arith}
+use Rattle.bpf_model.proofs.Prelude.{◌<◌, length, refl, arith}
 use Rattle.classic_program.proofs.Records.{reading-next}
 use Rattle.classic_program.proofs.reading.read_filter_array.Goals as goal
 

@@ -1,4 +1,4 @@
-use Rattle.std.proofs.Common.{length}
+use Rattle.bpf_model.proofs.Prelude.{length}
 use Rattle.classic_program.proofs.Records.{IsReading}
 use Rattle.classic_program.proofs.reading.read_filter_array.Given as goal
 

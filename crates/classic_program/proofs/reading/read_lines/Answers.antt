@@ -1,5 +1,5 @@
-use Rattle.std.proofs.Common.{◌≡◌, ◌<◌, ℕ, ◌+◌, length, ap, ◌∙◌, subst, arith}
-use Rattle.classic_program.specs.Reading.{parts_left}
+use Rattle.bpf_model.proofs.Prelude.{◌≡◌, ◌<◌, ℕ, ◌+◌, length, ap, ◌∙◌, subst, arith}
+use Rattle.classic_program.proofs.Prelude.{parts_left}
 use Rattle.classic_program.proofs.Lines.{IsReadingLines, lines-next, none-wrong, none-more}
 use Rattle.classic_program.proofs.Wrong.{too-few, too-many, first-wrong}
 use Rattle.classic_program.proofs.reading.read_lines.Goals as goal

@@ -1,4 +1,4 @@
-use Rattle.classic_program.specs.Reading.{parts_left}
+use Rattle.classic_program.proofs.Prelude.{parts_left}
 use Rattle.classic_program.proofs.Lines.{IsReadingLines}
 use Rattle.classic_program.proofs.reading.read_lines.Given as goal
 

@@ -1,5 +1,5 @@
-use Rattle.std.proofs.Common.{ap, ◌∙◌, sym, inl, refl}
-use Rattle.classic_program.specs.Reading.{parts_at, parts_left}
+use Rattle.bpf_model.proofs.Prelude.{ap, ◌∙◌, sym, inl, refl}
+use Rattle.classic_program.proofs.Prelude.{parts_at, parts_left}
 use Rattle.classic_program.proofs.Wrong.{in-lines}
 use Rattle.classic_program.proofs.Lines.{listing-lines}
 use Rattle.classic_program.proofs.reading.read_listing.Goals as goal

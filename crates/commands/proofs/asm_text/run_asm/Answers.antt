@@ -1,6 +1,4 @@
-use Rattle.std.proofs.Common.{◌∙◌, subst}
-use Rattle.std.proofs.lemmas.Option.{IfSome_then}
-use Rattle.bpf_model.specs.Spelling.{text}
+use Rattle.bpf_model.proofs.Prelude.{◌∙◌, subst, IfSome_then, text}
 use Rattle.program_files.specs.Heads.{file_text}
 use Rattle.program_texts.specs.Assembled.{IsAssembled, IsTextFault}
 use Rattle.commands.specs.Sources.{IsRead}

@@ -1,6 +1,4 @@
-use Rattle.std.proofs.Common.{◌≡◌, ℕ, subst}
-use Rattle.std.specs.Io.KnownBytes.{Appends}
-use Rattle.bpf_model.specs.Places.{slot_total}
+use Rattle.bpf_model.proofs.Prelude.{◌≡◌, ℕ, subst, Appends, slot_total}
 use Rattle.program_files.specs.Heads.{file_text}
 use Rattle.program_files.specs.Verdicts.{memory_number, verdict_number}
 use Rattle.commands.specs.Outputs.{accepted_text}

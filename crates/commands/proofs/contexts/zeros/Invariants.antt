@@ -1,4 +1,4 @@
-use Rattle.std.proofs.Common.{◌≡◌, replicate}
+use Rattle.bpf_model.proofs.Prelude.{◌≡◌, replicate}
 use Rattle.commands.proofs.contexts.zeros.Given as goal
 
 abbrev pub invariant-loop : goal.invariant-loop

@@ -1,10 +1,6 @@
-use Rattle.std.proofs.Common.{rules, ◌≡◌, ◌∙◌, ◌⊎◌, ◌<◌, ◌≤◌, ◌+◌, ℕ, List, [], ◌∷◌, ◌++◌, Option, Some, None, length}
-use Rattle.std.proofs.Common.{take, get_or, refl, sym, ap, subst, inl, inr, append_assoc, append-nil, arith}
-use Rattle.std.specs.Prelude.{slice_get}
-use Rattle.std.specs.List.{flat_map}
-use Rattle.std.proofs.lemmas.List.{take_more, take_all}
-use Rattle.std.proofs.lemmas.Option.{slice_get_cases}
-use Rattle.bpf_model.specs.View.{MapView}
+use Rattle.bpf_model.proofs.Prelude.{rules, ◌≡◌, ◌∙◌, ◌⊎◌, ◌<◌, ◌≤◌, ◌+◌, ℕ, List, [], ◌∷◌, ◌++◌, Option, Some, None, length, take, get_or, refl, sym, ap}
+use Rattle.bpf_model.proofs.Prelude.{subst, inl, inr, append_assoc, arith, slice_get, flat_map, take_more, take_all, slice_get_cases, MapView}
+use Rattle.std.proofs.Common.{append-nil}
 use Rattle.script_lines.specs.declared.reply.Reply.TheVariants.{End}
 use Rattle.script_lines.specs.ReplyText.{reply_text}
 use Rattle.control.specs.Replies.{AreElements}

@@ -1,4 +1,4 @@
-use Rattle.std.proofs.Common.{◌≡◌, ℕ, List, ◌++◌, take}
+use Rattle.bpf_model.proofs.Prelude.{◌≡◌, ℕ, List, ◌++◌, take}
 use Rattle.commands.specs.Runs.{AreDumps}
 use Rattle.commands.proofs.dump.write_maps.Given as goal
 

@@ -1,5 +1,4 @@
-use Rattle.std.proofs.Common.{◌≡◌, ◌++◌, length}
-use Rattle.std.specs.List.{flat_map}
+use Rattle.bpf_model.proofs.Prelude.{◌≡◌, ◌++◌, length, flat_map}
 use Rattle.commands.specs.Json.{byte_json}
 use Rattle.commands.proofs.json.push_bytes.Given as goal
 

@@ -1,5 +1,4 @@
-use Rattle.std.proofs.Common.{ℕ, List, Result, Ok, Err, OnOk, ◌∙◌, subst}
-use Rattle.std.specs.Io.KnownBytes.{Appends}
+use Rattle.bpf_model.proofs.Prelude.{ℕ, List, Result, Ok, Err, OnOk, ◌∙◌, subst, Appends}
 use Rattle.commands.proofs.json.write_refusal.Goals as goal
 
 tells : {T E P Q : Type 0} (r : Result T E) → (P → Q) → OnOk r P → OnOk r Q

@@ -1,4 +1,4 @@
-use Rattle.std.proofs.lemmas.Result.{err_from_is_err_and}
+use Rattle.bpf_model.proofs.Prelude.{err_from_is_err_and}
 use Rattle.commands.proofs.Pooled.{program_found}
 use Rattle.program_files.proofs.Shapes.{verifier_told}
 use Rattle.commands.proofs.pool.program_of.Goals as goal

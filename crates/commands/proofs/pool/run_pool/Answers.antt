@@ -1,5 +1,4 @@
-use Rattle.std.proofs.Common.{◌≡◌, ℕ, List, arith, inl, subst, sym}
-use Rattle.std.proofs.lemmas.Option.{IfSome_then}
+use Rattle.bpf_model.proofs.Prelude.{◌≡◌, ℕ, List, arith, inl, subst, sym, IfSome_then}
 use Rattle.program_files.specs.Verdicts.{memory_number}
 use Rattle.job_queue.specs.declared.fault.PoolFault.TheVariants.{Lost}
 use Rattle.job_queue.specs.Faults.{pool_fault_number}

@@ -1,4 +1,4 @@
-use Rattle.std.proofs.Common.{rules, arith, ap, length}
+use Rattle.bpf_model.proofs.Prelude.{rules, arith, ap, length}
 use Rattle.commands.proofs.PutFirst.{short_enough}
 use Rattle.commands.proofs.puts.put_of.Goals as goal
 

@@ -1,5 +1,4 @@
-use Rattle.std.proofs.Common.{rules, ◌≡◌, ◌∙◌, ◌<◌, ◌≤◌, ◌∷◌, [], ◌++◌, length, get_or, map, sym, ap, subst, inr}
-use Rattle.std.proofs.lemmas.List.{take_all}
+use Rattle.bpf_model.proofs.Prelude.{rules, ◌≡◌, ◌∙◌, ◌<◌, ◌≤◌, ◌∷◌, [], ◌++◌, length, get_or, map, sym, ap, subst, inr, take_all}
 use Rattle.commands.specs.Runs.{put_event, AllFit}
 use Rattle.commands.proofs.PutFirst.{first_bad, one_put_more, one_fits_more}
 use Rattle.commands.proofs.puts.puts_of.Goals as goal

@@ -1,4 +1,4 @@
-use Rattle.std.proofs.Common.{◌≡◌, map, take}
+use Rattle.bpf_model.proofs.Prelude.{◌≡◌, map, take}
 use Rattle.commands.specs.Runs.{put_event, AllFit}
 use Rattle.commands.proofs.puts.puts_of.Given as goal
 

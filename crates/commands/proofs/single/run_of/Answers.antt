@@ -1,7 +1,5 @@
-use Rattle.std.proofs.Common.{rules, ◌≡◌, ◌⊎◌, ℕ, List, [], false, refl, subst, inl}
-use Rattle.std.proofs.lemmas.Result.{err_from_is_err_and}
+use Rattle.bpf_model.proofs.Prelude.{rules, ◌≡◌, ◌⊎◌, ℕ, List, [], false, refl, subst, inl, err_from_is_err_and, shapes_of_maps}
 use Rattle.bpf_model.specs.declared.event.EventRefusal.{EventRefusal}
-use Rattle.bpf_model.specs.View.{shapes_of_maps}
 use Rattle.program_files.specs.declared.verdict.Verdict.TheVariants.{Memory, Program}
 use Rattle.command_words.specs.declared.request.MapElement.{MapElement}
 use Rattle.commands.specs.declared.refusal.CommandRefusal.TheVariants.{File, Event as OfEvent}

@@ -1,6 +1,4 @@
-use Rattle.std.proofs.Common.{◌≡◌, ℕ, List, subst}
-use Rattle.std.proofs.lemmas.Option.{IfSome_then}
-use Rattle.std.specs.Io.KnownBytes.{Appends}
+use Rattle.bpf_model.proofs.Prelude.{◌≡◌, ℕ, List, subst, IfSome_then, Appends}
 use Rattle.program_files.specs.Verdicts.{memory_number}
 use Rattle.commands.specs.Refusals.{command_number}
 use Rattle.commands.proofs.Pooled.{not_so, so_written}

@@ -1,7 +1,4 @@
-use Rattle.std.proofs.Common.{◌≡◌, ◌∙◌, ◌∷◌, ◌++◌, [], List, None, ap, subst}
-use Rattle.std.specs.Prelude.{OnOk, Ok, Err, slice_get}
-use Rattle.std.specs.List.{flat_map}
-use Rattle.bpf_model.specs.View.{MapView}
+use Rattle.bpf_model.proofs.Prelude.{◌≡◌, ◌∙◌, ◌∷◌, ◌++◌, [], List, None, ap, subst, OnOk, Ok, Err, slice_get, flat_map, MapView}
 use Rattle.script_lines.specs.declared.reply.Reply.{Reply}
 use Rattle.script_lines.specs.declared.reply.Reply.TheVariants.{End}
 use Rattle.script_lines.specs.ReplyText.{reply_text}

@@ -1,6 +1,5 @@
-use Rattle.std.proofs.Common.{◌≡◌, ◌++◌, [], List, None, append-nil, sym, subst}
-use Rattle.std.specs.Prelude.{OnOk, option_copied}
-use Rattle.std.specs.List.{flat_map}
+use Rattle.bpf_model.proofs.Prelude.{◌≡◌, ◌++◌, [], List, None, sym, subst, OnOk, option_copied, flat_map}
+use Rattle.std.proofs.Common.{append-nil}
 use Rattle.script_lines.specs.declared.reply.Reply.{Reply}
 use Rattle.script_lines.specs.ReplyText.{reply_text}
 use Rattle.control.specs.Replies.{AreElements}

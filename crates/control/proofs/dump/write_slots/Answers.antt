@@ -1,5 +1,4 @@
-use Rattle.std.proofs.Common.{◌≡◌, [], subst, drop, arith}
-use Rattle.std.proofs.lemmas.List.{drop_all, drop_more}
+use Rattle.bpf_model.proofs.Prelude.{◌≡◌, [], subst, drop, arith, drop_all, drop_more}
 use Rattle.control.proofs.Elements.{AreBegun, all-written, begun, goes-on}
 use Rattle.control.proofs.dump.write_slots.Goals as goal
 

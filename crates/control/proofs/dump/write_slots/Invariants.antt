@@ -1,4 +1,4 @@
-use Rattle.std.proofs.Common.{drop}
+use Rattle.bpf_model.proofs.Prelude.{drop}
 use Rattle.control.proofs.Elements.{AreBegun}
 use Rattle.control.proofs.dump.write_slots.Given as goal
 

@@ -1,9 +1,5 @@
-use Rattle.std.proofs.Common.{arith, ◌≡◌, ◌∙◌, ℕ, ◌+◌, ◌<◌, Bool, false, List, [], length, Some, sym, ap, inl, inr}
-use Rattle.std.specs.Prelude.{slice_get, bytes_eq, unwrap_or}
-use Rattle.std.proofs.lemmas.Bool.{false≢true, cases_lt}
-use Rattle.std.proofs.lemmas.Option.{slice_get_within, same_Some}
-use Rattle.std.proofs.lemmas.Slice.Eq.{bytes_eq-Decides}
-use Rattle.bpf_model.proofs.Lists.{get-below}
+use Rattle.bpf_model.proofs.Prelude.{arith, ◌≡◌, ◌∙◌, ℕ, ◌+◌, ◌<◌, Bool, false, List, [], length, Some, sym, ap, inl, inr, slice_get, bytes_eq, unwrap_or}
+use Rattle.bpf_model.proofs.Prelude.{false≢true, cases_lt, slice_get_within, same_Some, bytes_eq-Decides, get-below}
 use Rattle.control.specs.Names.{map_name}
 use Rattle.control.proofs.map_names.map_named.Goals as goal
 

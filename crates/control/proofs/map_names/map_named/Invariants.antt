@@ -1,5 +1,4 @@
-use Rattle.std.proofs.Common.{◌≡◌, ℕ, ◌<◌}
-use Rattle.std.specs.Prelude.{slice_get, Some}
+use Rattle.bpf_model.proofs.Prelude.{◌≡◌, ℕ, ◌<◌, slice_get, Some}
 use Rattle.control.proofs.map_names.map_named.Given as goal
 
 abbrev pub invariant-loop-number : goal.invariant-loop-number

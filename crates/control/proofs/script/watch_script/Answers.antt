@@ -1,5 +1,5 @@
-use Rattle.std.proofs.Common.{ℕ, List, [], refl, subst}
-use Rattle.std.proofs.lemmas.Result.{on_ok_weaker, IfErr-weaker}
+use Rattle.bpf_model.proofs.Prelude.{ℕ, List, [], refl, subst, on_ok_weaker}
+use Rattle.std.proofs.lemmas.Result.{IfErr-weaker}
 use Rattle.control.specs.Setups.{no_maps_or_programs}
 use Rattle.script_stream.specs.Answered.{Answered, FailsWith}
 use Rattle.script_stream.specs.Lines.{lines_of}

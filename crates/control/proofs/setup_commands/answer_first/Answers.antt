@@ -1,8 +1,5 @@
-use Rattle.std.proofs.Common.{◌≡◌, ◌∙◌, ap, subst}
+use Rattle.bpf_model.proofs.Prelude.{◌≡◌, ◌∙◌, ap, subst, TracksSchedule, start_schedule, WorldView, start_view}
 use Rattle.control.specs.Setups.{SetupView, shapes_made}
-use Rattle.bpf_model.specs.Refines.{TracksSchedule}
-use Rattle.bpf_model.specs.Schedule.{start_schedule}
-use Rattle.bpf_model.specs.View.{WorldView, start_view}
 use Rattle.control.specs.declared.live.Live.{Live}
 use Rattle.control.specs.Lives.{LiveReplies}
 use Rattle.control.specs.Sessions.{sealed, TracksStart}

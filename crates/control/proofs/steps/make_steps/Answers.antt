@@ -1,7 +1,5 @@
-use Rattle.std.proofs.Common.{◌≡◌, ◌≢◌, ◌+◌, ◌<◌, ◌≤◌, ◌⊎◌, replicate, arith, rules}
-use Rattle.std.specs.Prelude.{max}
-use Rattle.bpf_model.specs.declared.event.Event.TheVariants.{Step}
-use Rattle.bpf_model.specs.declared.event.Answer.TheVariants.{Moved}
+use Rattle.bpf_model.proofs.Prelude.{◌≡◌, ◌≢◌, ◌+◌, ◌<◌, ◌≤◌, ◌⊎◌, replicate, arith, rules, max}
+use Rattle.model_laws.proofs.Prelude.{Step, Moved}
 use Rattle.control.proofs.ManySteps.{last_step, made_moves, no_move_ahead}
 use Rattle.control.proofs.steps.make_steps.Goals as goal
 

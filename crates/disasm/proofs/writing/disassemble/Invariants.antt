@@ -1,4 +1,4 @@
-use Rattle.std.proofs.Common.{◌≡◌, take}
+use Rattle.bpf_model.proofs.Prelude.{◌≡◌, take}
 use Rattle.std.specs.String.{string_bytes}
 use Rattle.disasm.specs.Text.{program_text}
 use Rattle.disasm.proofs.writing.disassemble.Given as goal

@@ -1,7 +1,7 @@
-use Rattle.std.proofs.Common.{sym, ap, subst}
-use Rattle.bpf_model.specs.declared.call.ArgumentKind.{ArgumentKind}
-use Rattle.register_kinds.specs.States.{kind_of, state_of}
-use Rattle.effects.specs.Calls.{IsArgument}
+use Rattle.bpf_model.proofs.Prelude.{sym, ap, subst}
+use Rattle.effects.proofs.Prelude.{IsArgument}
+use Rattle.model_laws.proofs.Prelude.{ArgumentKind}
+use Rattle.register_kinds.proofs.Prelude.{kind_of, state_of}
 use Rattle.effects.proofs.arguments.check_argument.Goals as goal
 
 pub returns-in_ok-_numbers-in-AnyNumber-clause-argument : goal.returns-in_ok-_numbers-in-AnyNumber-clause-argument

@@ -1,7 +1,7 @@
-use Rattle.std.proofs.Common.{ℕ, get_or, subst}
-use Rattle.bpf_model.specs.declared.call.ArgumentKind.TheVariants.{MapOfProgram}
-use Rattle.register_kinds.specs.States.{state_of}
-use Rattle.effects.specs.Calls.{IsArgument}
+use Rattle.bpf_model.proofs.Prelude.{ℕ, get_or, subst}
+use Rattle.effects.proofs.Prelude.{IsArgument}
+use Rattle.model_laws.proofs.Prelude.{MapOfProgram}
+use Rattle.register_kinds.proofs.Prelude.{state_of}
 use Rattle.effects.proofs.ArgumentLaws.{from_next, to_next}
 use Rattle.effects.proofs.arguments.check_arguments.Goals as goal
 

@@ -1,9 +1,7 @@
 -- All are arguments if those that are left are, and then these are.
-use Rattle.std.proofs.Common.{◌≡◌, ◌+◌}
-use Rattle.std.specs.Prelude.{drop}
-use Rattle.bpf_model.specs.Request.{signature_of}
-use Rattle.register_kinds.specs.States.{state_of}
-use Rattle.effects.specs.Calls.{AreArguments}
+use Rattle.bpf_model.proofs.Prelude.{◌≡◌, ◌+◌, drop, signature_of}
+use Rattle.effects.proofs.Prelude.{AreArguments}
+use Rattle.register_kinds.proofs.Prelude.{state_of}
 use Rattle.effects.proofs.arguments.check_arguments.Given as goal
 
 abbrev pub invariant-loop-index : goal.invariant-loop-index

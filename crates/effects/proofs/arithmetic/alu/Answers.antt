@@ -1,14 +1,12 @@
+use Rattle.bpf_model.proofs.Prelude.{refl, sym, subst}
+use Rattle.effects.proofs.Prelude.{RegKind, operand_kind}
+use Rattle.plan_laws.proofs.Prelude.{with_kind, AreAlike, Kind}
+use Rattle.register_kinds.proofs.Prelude.{kind_of, state_of, kind_in}
 use Rattle.register_kinds.proofs.Results.{same_Ok}
-use Rattle.register_kinds.specs.States.{kind_of, state_of, kind_in}
-use Rattle.std.proofs.Common.{refl, sym, subst}
-use Rattle.plan_laws.specs.Effects.{with_kind}
-use Rattle.plan_laws.specs.Planned.{AreAlike}
-use Rattle.register_kinds.specs.declared.kind.RegKind.{RegKind}
 use Rattle.effects.proofs.Combining.{alu_sound}
 use Rattle.effects.proofs.arithmetic.alu.Goals as goal
 use Rattle.register_kinds.proofs.Setting.{set-there, set-elsewhere}
-use Rattle.effects.specs.Floor.{LeavesKnown, operand_kind}
-use Rattle.plan_laws.specs.Kinds.{Kind}
+use Rattle.effects.specs.Floor.{LeavesKnown}
 
 pub returns-clause-sound : goal.returns-clause-sound
 returns-clause-sound c = alu_sound c.args.op c.args.size c.args.dst c.args.src.now c.args.state.now c.set.new.self

@@ -1,14 +1,13 @@
-use Rattle.std.proofs.Common.{sym, ap, subst, ◌∙◌, inl, inr}
-use Rattle.std.proofs.lemmas.Result.{IfOk-weaker}
-use Rattle.plan_laws.specs.Kinds.{Num}
+use Rattle.bpf_model.proofs.Prelude.{sym, ap, subst, ◌∙◌, inl, inr, IfOk-weaker}
+use Rattle.effects.proofs.Prelude.{IsNumbers}
+use Rattle.model_laws.proofs.Prelude.{AluOp}
+use Rattle.plan_laws.proofs.Prelude.{Num}
+use Rattle.register_kinds.proofs.Prelude.{kind_of, state_of}
+use Rattle.scalar_domain.proofs.Prelude.{KeepsFloor}
 use Rattle.register_kinds.proofs.KindLaws.{kind_is}
 use Rattle.register_kinds.proofs.Results.{same_Ok}
-use Rattle.register_kinds.specs.States.{kind_of, state_of}
 use Rattle.effects.proofs.Combining.{moves_compute, others_compute}
 use Rattle.effects.proofs.arithmetic.computed_kind.Goals as goal
-use Rattle.bpf_model.specs.declared.insn.AluOp.{AluOp}
-use Rattle.scalar_domain.specs.Floor.{KeepsFloor}
-use Rattle.effects.specs.Performs.{IsNumbers}
 
 pub returns-in_ok-operand-in-Move-clause-sound : goal.returns-in_ok-operand-in-Move-clause-sound
 returns-in_ok-operand-in-Move-clause-sound c = IfOk-weaker c.copied.result _ _

@@ -1,10 +1,9 @@
-use Rattle.std.proofs.Common.{rules, w32}
-use mir.Val.{SFits}
-use Rattle.std.proofs.lemmas.Int.{to_z-of_z}
+use Rattle.bpf_model.proofs.Prelude.{rules, SFits, to_z-of_z}
+use Rattle.plan_laws.proofs.Prelude.{MapAt}
+use Rattle.register_kinds.proofs.Prelude.{state_of}
+use Rattle.std.proofs.Common.{w32}
 use Rattle.effects.proofs.Combining.{map_sound}
 use Rattle.register_kinds.proofs.Setting.{set-elsewhere}
-use Rattle.plan_laws.specs.Kinds.{MapAt}
-use Rattle.register_kinds.specs.States.{state_of}
 use Rattle.effects.proofs.arithmetic.load_map.Goals as goal
 
 pub returns-clause-sound : goal.returns-clause-sound

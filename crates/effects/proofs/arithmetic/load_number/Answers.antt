@@ -1,9 +1,9 @@
-use Rattle.std.proofs.Common.{arith, refl}
+use Rattle.bpf_model.proofs.Prelude.{arith, refl}
+use Rattle.plan_laws.proofs.Prelude.{Num}
+use Rattle.register_kinds.proofs.Prelude.{state_of}
 use Rattle.effects.proofs.Combining.{number_sound}
 use Rattle.effects.proofs.arithmetic.load_number.Goals as goal
 use Rattle.register_kinds.proofs.Setting.{set-there, set-elsewhere}
-use Rattle.plan_laws.specs.Kinds.{Num}
-use Rattle.register_kinds.specs.States.{state_of}
 
 pub returns-clause-sound : goal.returns-clause-sound
 returns-clause-sound c = number_sound c.args.dst c.args.number c.constant.result c.args.state.now c.set.new.self

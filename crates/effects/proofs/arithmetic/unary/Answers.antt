@@ -1,11 +1,11 @@
-use Rattle.std.proofs.Common.{◌≡◌, refl, sym, ap, subst, ◌∙◌}
+use Rattle.bpf_model.proofs.Prelude.{◌≡◌, refl, sym, ap, subst, ◌∙◌}
+use Rattle.plan_laws.proofs.Prelude.{Num}
+use Rattle.register_kinds.proofs.Prelude.{kind_of, kind_in, state_of}
 use Rattle.effects.proofs.Combining.{unary_sound}
 use Rattle.effects.proofs.arithmetic.unary.Goals as goal
 use Rattle.register_kinds.proofs.Setting.{set-there, set-elsewhere}
-use Rattle.plan_laws.specs.Kinds.{Num}
 use Rattle.scalar_domain.specs.declared.scalar.Scalar.{Scalar}
 use Rattle.scalar_domain.specs.Floor.{KeepsUnaryFloor}
-use Rattle.register_kinds.specs.States.{kind_of, kind_in, state_of}
 use Rattle.effects.proofs.Known.{same_num}
 
 pub returns-clause-sound : goal.returns-clause-sound

@@ -1,12 +1,9 @@
-use Rattle.std.proofs.Common.{◌≡◌, Some, subst, sym, ap, ℤ, w32}
-use Rattle.bpf_model.specs.Call.{helper_of}
-use Rattle.bpf_model.specs.declared.call.Helper.TheVariants.{Lookup}
-use Rattle.std.proofs.lemmas.Int.{to_z-of_z}
-use Rattle.std.proofs.lemmas.Result.{on_ok_weaker}
-use Rattle.bpf_model.specs.declared.insn.CallKind.{CallKind}
+use Rattle.bpf_model.proofs.Prelude.{◌≡◌, Some, subst, sym, ap, ℤ, helper_of, to_z-of_z, on_ok_weaker}
+use Rattle.effects.proofs.Prelude.{PerformsCall}
+use Rattle.model_laws.proofs.Prelude.{Lookup, CallKind}
+use Rattle.register_kinds.proofs.Prelude.{kind_of, state_of}
+use Rattle.std.proofs.Common.{w32}
 use Rattle.bpf_model.specs.declared.insn.CallKind.TheVariants as callee
-use Rattle.register_kinds.specs.States.{kind_of, state_of}
-use Rattle.effects.specs.Calls.{PerformsCall}
 use Rattle.effects.proofs.CallLaws.{lookup_inside}
 use Rattle.effects.proofs.calls.call.Goals as goal
 

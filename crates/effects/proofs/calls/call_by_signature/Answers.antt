@@ -1,8 +1,7 @@
-use Rattle.std.proofs.Common.{subst}
-use Rattle.bpf_model.specs.declared.call.ResultKind.{ResultKind}
-use Rattle.bpf_model.specs.Request.{signature_of}
-use Rattle.register_kinds.specs.States.{kind_at}
-use Rattle.effects.specs.Calls.{IsLeft}
+use Rattle.bpf_model.proofs.Prelude.{subst, signature_of}
+use Rattle.effects.proofs.Prelude.{IsLeft}
+use Rattle.model_laws.proofs.Prelude.{ResultKind}
+use Rattle.register_kinds.proofs.Prelude.{kind_at}
 use Rattle.effects.proofs.CallLaws.{helper_sound, left_result}
 use Rattle.effects.proofs.calls.call_by_signature.Goals as goal
 use Rattle.effects.proofs.calls.call_by_signature.Goals.{After-leave_call}

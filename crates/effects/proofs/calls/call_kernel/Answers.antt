@@ -1,8 +1,6 @@
-use Rattle.std.proofs.Common.{◌≡◌, Some, sym, ap, ◌∙◌, w32}
-use Rattle.std.proofs.lemmas.Int.{to_z-of_z}
-use Rattle.std.proofs.lemmas.Result.{on_ok_weaker}
-use Rattle.bpf_model.specs.Call.{kernel_function_of}
-use Rattle.bpf_model.specs.declared.call.KernelFunction.TheVariants.{ReadUnlock}
+use Rattle.bpf_model.proofs.Prelude.{◌≡◌, Some, sym, ap, ◌∙◌, to_z-of_z, on_ok_weaker, kernel_function_of}
+use Rattle.model_laws.proofs.Prelude.{ReadUnlock}
+use Rattle.std.proofs.Common.{w32}
 use Rattle.effects.proofs.calls.call_kernel.Goals as goal
 
 pub returns-in-Some-ReadUnlock-clause-sound : goal.returns-in-Some-ReadUnlock-clause-sound

@@ -1,5 +1,5 @@
-use Rattle.std.proofs.Common.{arith}
-use Rattle.register_kinds.specs.States.{state_of}
+use Rattle.bpf_model.proofs.Prelude.{arith}
+use Rattle.register_kinds.proofs.Prelude.{state_of}
 use Rattle.effects.proofs.CallLaws.{lock_sound, lock_others}
 use Rattle.effects.proofs.calls.lock.Goals as goal
 

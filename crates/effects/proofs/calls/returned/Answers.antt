@@ -1,7 +1,7 @@
-use Rattle.std.proofs.Common.{refl, sym, subst}
-use Rattle.bpf_model.specs.declared.call.ResultKind.{ResultKind}
+use Rattle.bpf_model.proofs.Prelude.{refl, sym, subst}
+use Rattle.effects.proofs.Prelude.{IsLeft}
+use Rattle.model_laws.proofs.Prelude.{ResultKind}
 use Rattle.register_kinds.specs.declared.kind.RegKind.TheVariants.{Num}
-use Rattle.effects.specs.Calls.{IsLeft}
 use Rattle.effects.proofs.calls.returned.Goals as goal
 
 pub returns-in-Integer-clause-left : goal.returns-in-Integer-clause-left

@@ -1,4 +1,4 @@
-use Rattle.std.proofs.Common.{refl}
+use Rattle.bpf_model.proofs.Prelude.{refl}
 use Rattle.effects.proofs.Branches.{exit_sound}
 use Rattle.effects.proofs.exits.exit.Goals as goal
 

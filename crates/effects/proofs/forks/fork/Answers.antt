@@ -1,7 +1,6 @@
-use Rattle.std.proofs.Common.{◌≡◌, ap, subst, ◌∙◌, true, false}
-use Rattle.register_kinds.specs.declared.state.AbsState.{AbsState}
-use Rattle.register_kinds.specs.States.{state_of, kind_of}
-use Rattle.effects.specs.Narrowing.{Narrows}
+use Rattle.bpf_model.proofs.Prelude.{◌≡◌, ap, subst, ◌∙◌, true, false}
+use Rattle.effects.proofs.Prelude.{AbsState, Narrows}
+use Rattle.register_kinds.proofs.Prelude.{state_of, kind_of}
 use Rattle.effects.proofs.Branches.{fork_sound, numbers_compared, edge_known, sides_stay, narrowed_none}
 use Rattle.effects.proofs.forks.fork.Goals as goal
 

@@ -1,9 +1,7 @@
-use Rattle.std.proofs.Common.{subst}
-use Rattle.plan_laws.specs.Kinds.{Num}
-use Rattle.plan_laws.specs.Effects.{with_kind}
-use Rattle.plan_laws.specs.Planned.{AreAlike}
-use Rattle.register_kinds.specs.declared.state.AbsState.{AbsState}
-use Rattle.register_kinds.specs.States.{state_of}
+use Rattle.bpf_model.proofs.Prelude.{subst}
+use Rattle.effects.proofs.Prelude.{AbsState}
+use Rattle.plan_laws.proofs.Prelude.{Num, with_kind, AreAlike}
+use Rattle.register_kinds.proofs.Prelude.{state_of}
 use Rattle.effects.proofs.Branches.{narrowed_one, narrowed_both, sides_one, sides_both}
 use Rattle.effects.proofs.forks.narrow.Goals.{in-Register, in-Immediate}
 use Rattle.effects.proofs.forks.narrow.Goals as goal

@@ -1,8 +1,6 @@
-use Rattle.std.proofs.Common.{subst, ap, ◌∙◌}
-use Rattle.std.proofs.lemmas.Result.{IfOk-weaker}
-use Rattle.register_kinds.specs.declared.kind.RegKind.{RegKind}
-use Rattle.register_kinds.specs.States.{kind_of, state_of}
-use Rattle.effects.specs.Computes.{HasValue}
+use Rattle.bpf_model.proofs.Prelude.{subst, ap, ◌∙◌, IfOk-weaker}
+use Rattle.effects.proofs.Prelude.{RegKind, HasValue}
+use Rattle.register_kinds.proofs.Prelude.{kind_of, state_of}
 use Rattle.effects.proofs.forks.sides.Goals as goal
 
 pub returns-clause-right : goal.returns-clause-right

@@ -1,4 +1,4 @@
-use Rattle.std.proofs.Common.{refl}
+use Rattle.bpf_model.proofs.Prelude.{refl}
 use Rattle.effects.proofs.Branches.{value_forks}
 use Rattle.effects.proofs.forks.value_forks.Goals as goal
 

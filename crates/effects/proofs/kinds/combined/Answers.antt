@@ -1,11 +1,10 @@
-use Rattle.std.proofs.Common.{◌≡◌, ◌+◌, ◌^◌, refl, sym, ap, subst, ◌∙◌, arith}
+use Rattle.bpf_model.proofs.Prelude.{◌≡◌, ◌+◌, ◌^◌, refl, sym, ap, subst, ◌∙◌, arith, immediate}
+use Rattle.effects.proofs.Prelude.{shifted_word}
+use Rattle.register_kinds.proofs.Prelude.{kind_of}
+use Rattle.scalar_domain.proofs.Prelude.{IsConstant}
 use Rattle.register_kinds.proofs.Results.{same_Ok}
-use Rattle.bpf_model.specs.Arithmetic.{immediate}
-use Rattle.scalar_domain.specs.Scalar.{IsConstant}
-use Rattle.effects.specs.Computes.{shifted_word}
 use Rattle.effects.specs.declared.moving.Way.TheVariants.{Forward}
 use Rattle.effects.proofs.Offsets.{step_inside}
-use Rattle.register_kinds.specs.States.{kind_of}
 use Rattle.effects.proofs.Combining.{numbers_combine}
 use Rattle.effects.proofs.kinds.combined.Goals as goal
 use Rattle.effects.proofs.Known.{same_num, numbers_known}

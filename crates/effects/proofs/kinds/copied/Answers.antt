@@ -1,4 +1,4 @@
-use Rattle.std.proofs.Common.{refl, ap, Ok}
+use Rattle.bpf_model.proofs.Prelude.{refl, ap, Ok}
 use Rattle.effects.proofs.Combining.{low_combines}
 use Rattle.effects.proofs.kinds.copied.Goals as goal
 use Rattle.effects.proofs.Known.{copied_known, moved_known}

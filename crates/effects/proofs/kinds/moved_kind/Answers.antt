@@ -1,6 +1,5 @@
-use Rattle.std.proofs.Common.{rules, ◌≡◌, sym, ◌∙◌, pos, w32}
-use mir.Val.{SFits}
-use Rattle.std.proofs.lemmas.Int.{to_z-of_z}
+use Rattle.bpf_model.proofs.Prelude.{rules, ◌≡◌, sym, ◌∙◌, pos, SFits, to_z-of_z}
+use Rattle.std.proofs.Common.{w32}
 use Rattle.effects.proofs.Numbers.{same_frame}
 use Rattle.effects.proofs.Combining.{context_moves, value_moves}
 use Rattle.effects.proofs.kinds.moved_kind.Goals as goal

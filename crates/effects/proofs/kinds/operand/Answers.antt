@@ -1,12 +1,9 @@
-use Rattle.std.proofs.Common.{rules, ◌≡◌, refl, sym, ap, subst, ◌∙◌, w32}
-use mir.Val.{SFits}
-use Rattle.std.proofs.lemmas.Int.{to_z-of_z}
-use Rattle.bpf_model.specs.Arithmetic.{immediate}
-use Rattle.bpf_model.specs.declared.insn.Operand.TheVariants.{Register, Immediate}
-use Rattle.scalar_domain.specs.Scalar.{IsConstant}
-use Rattle.bpf_model.specs.declared.insn.Operand.{Operand}
-use Rattle.plan_laws.specs.Effects.{IsNumberOperand}
-use Rattle.register_kinds.specs.States.{kind_in, state_of}
+use Rattle.bpf_model.proofs.Prelude.{rules, ◌≡◌, refl, sym, ap, subst, ◌∙◌, SFits, to_z-of_z, immediate}
+use Rattle.model_laws.proofs.Prelude.{Register, Immediate, Operand}
+use Rattle.plan_laws.proofs.Prelude.{IsNumberOperand}
+use Rattle.register_kinds.proofs.Prelude.{kind_in, state_of}
+use Rattle.scalar_domain.proofs.Prelude.{IsConstant}
+use Rattle.std.proofs.Common.{w32}
 use Rattle.effects.proofs.Numbers.{held_number, same_immediate}
 use Rattle.effects.proofs.kinds.operand.Goals as goal
 

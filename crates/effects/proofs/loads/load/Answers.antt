@@ -1,11 +1,9 @@
-use Rattle.std.proofs.Common.{refl, sym, subst, ap, ◌∙◌}
+use Rattle.bpf_model.proofs.Prelude.{refl, sym, subst, ap, ◌∙◌}
+use Rattle.effects.proofs.Prelude.{read_kind, LoadsKnown}
+use Rattle.model_laws.proofs.Prelude.{Load}
+use Rattle.plan_laws.proofs.Prelude.{Kind, with_kind, AreAlike}
+use Rattle.register_kinds.proofs.Prelude.{state_of, kind_of}
 use Rattle.register_kinds.proofs.Results.{same_Ok}
-use Rattle.bpf_model.specs.declared.insn.Insn.TheVariants.{Load}
-use Rattle.plan_laws.specs.Kinds.{Kind}
-use Rattle.plan_laws.specs.Effects.{with_kind}
-use Rattle.plan_laws.specs.Planned.{AreAlike}
-use Rattle.register_kinds.specs.States.{state_of, kind_of}
-use Rattle.effects.specs.Accesses.{read_kind, LoadsKnown}
 use Rattle.effects.proofs.Reading.{read_transfers, load_known}
 use Rattle.effects.proofs.loads.load.Goals as goal
 use Rattle.plan_laws.proofs.Planning.{to_alike}

@@ -1,14 +1,9 @@
-use Rattle.std.proofs.Common.{refl, subst, sym, ap, ◌∙◌}
-use Rattle.effects.specs.Accesses.{ReadsBytes, ReadsValue}
+use Rattle.bpf_model.proofs.Prelude.{refl, subst, sym, ap, ◌∙◌, byte_count}
+use Rattle.effects.proofs.Prelude.{ReadsBytes, ReadsValue, read_kind, IsReadByLoad}
+use Rattle.model_laws.proofs.Prelude.{LoadSigned, Width}
+use Rattle.plan_laws.proofs.Prelude.{Kind, with_kind, AreAlike}
+use Rattle.register_kinds.proofs.Prelude.{kind_of, state_of}
 use Rattle.register_kinds.proofs.Results.{same_Ok}
-use Rattle.bpf_model.specs.declared.insn.Insn.TheVariants.{LoadSigned}
-use Rattle.bpf_model.specs.declared.opcode.Width.{Width}
-use Rattle.bpf_model.specs.Access.{byte_count}
-use Rattle.plan_laws.specs.Kinds.{Kind}
-use Rattle.plan_laws.specs.Effects.{with_kind}
-use Rattle.plan_laws.specs.Planned.{AreAlike}
-use Rattle.register_kinds.specs.States.{kind_of, state_of}
-use Rattle.effects.specs.Accesses.{read_kind, IsReadByLoad}
 use Rattle.effects.proofs.Reading.{read_signed_transfers, number_loaded}
 use Rattle.scalar_domain.proofs.Words.{loaded_signed_lt}
 use Rattle.effects.proofs.loads.load_signed.Goals as goal

@@ -1,4 +1,4 @@
-use Rattle.std.proofs.Common.{refl}
+use Rattle.bpf_model.proofs.Prelude.{refl}
 use Rattle.effects.proofs.Offsets.{moves}
 use Rattle.effects.proofs.moving.moved.Goals as goal
 

@@ -1,10 +1,8 @@
-use Rattle.std.proofs.Common.{rules, ◌+◌, ◌^◌, ◌≤◌, sym, subst, pos, arith, w32}
-use mir.Val.{SFits}
-use Rattle.std.proofs.lemmas.Int.{to_z-of_z}
-use Rattle.std.proofs.lemmas.Result.{IfOk-weaker}
+use Rattle.bpf_model.proofs.Prelude.{rules, ◌+◌, ◌^◌, ◌≤◌, sym, subst, pos, arith, SFits, to_z-of_z, IfOk-weaker}
+use Rattle.effects.proofs.Prelude.{shifted_word}
+use Rattle.scalar_domain.proofs.Prelude.{IsConstant}
+use Rattle.std.proofs.Common.{w32}
 use Rattle.register_kinds.proofs.Results.{same_Ok}
-use Rattle.scalar_domain.specs.Scalar.{IsConstant}
-use Rattle.effects.specs.Computes.{shifted_word}
 use Rattle.effects.proofs.Numbers.{ok_value, offset_is}
 use Rattle.effects.proofs.moving.moved_in_frame.Goals as goal
 

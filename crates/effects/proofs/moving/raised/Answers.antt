@@ -1,5 +1,5 @@
-use Rattle.std.proofs.Common.{rules, refl, subst}
-use Rattle.scalar_domain.specs.Scalar.{IsConstant}
+use Rattle.bpf_model.proofs.Prelude.{rules, refl, subst}
+use Rattle.scalar_domain.proofs.Prelude.{IsConstant}
 use Rattle.effects.proofs.moving.raised.Goals as goal
 
 pub returns-clause-constant : goal.returns-clause-constant

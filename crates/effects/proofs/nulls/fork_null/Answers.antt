@@ -1,9 +1,7 @@
-use Rattle.std.proofs.Common.{◌≡◌, subst, ◌∙◌}
-use Rattle.plan_laws.specs.Planned.{AreAlike}
-use Rattle.register_kinds.specs.declared.learn.Lesson.TheVariants.{IsNull, IsThere}
-use Rattle.register_kinds.specs.declared.state.AbsState.{AbsState}
-use Rattle.register_kinds.specs.States.{state_of}
-use Rattle.register_kinds.specs.Changes.{learnt}
+use Rattle.bpf_model.proofs.Prelude.{◌≡◌, subst, ◌∙◌}
+use Rattle.effects.proofs.Prelude.{IsNull, IsThere, AbsState}
+use Rattle.plan_laws.proofs.Prelude.{AreAlike}
+use Rattle.register_kinds.proofs.Prelude.{state_of, learnt}
 use Rattle.effects.proofs.CallLaws.{null_jumps, null_falls_through}
 use Rattle.effects.proofs.nulls.fork_null.Goals as goal
 use Rattle.effects.proofs.nulls.fork_null.Goals.{then-equal, else-equal}

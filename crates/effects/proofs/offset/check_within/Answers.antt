@@ -1,8 +1,6 @@
-use Rattle.std.proofs.Common.{◌≡◌, ℕ, ◌+◌, ◌≤◌, ◌^◌, ℤ, pos, subst, w16}
-use Rattle.std.specs.Prelude.{◌+ℤ◌}
-use Rattle.std.proofs.lemmas.Int.{to_z-of_z}
-use Rattle.bpf_model.specs.Access.{byte_count}
-use Rattle.scalar_domain.specs.Scalar.{Holds}
+use Rattle.bpf_model.proofs.Prelude.{◌≡◌, ℕ, ◌+◌, ◌≤◌, ◌^◌, ℤ, pos, subst, ◌+ℤ◌, to_z-of_z, byte_count}
+use Rattle.scalar_domain.proofs.Prelude.{Holds}
+use Rattle.std.proofs.Common.{w16}
 use Rattle.effects.proofs.Within.{always_inside}
 use Rattle.effects.proofs.offset.check_within.Goals as goal
 

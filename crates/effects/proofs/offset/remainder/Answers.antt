@@ -1,5 +1,4 @@
-use Rattle.std.proofs.Common.{◌≡◌, ◌%◌, ap, sym, ◌∙◌}
-use Rattle.bpf_model.specs.Access.{byte_count}
+use Rattle.bpf_model.proofs.Prelude.{◌≡◌, ◌%◌, ap, sym, ◌∙◌, byte_count}
 use Rattle.effects.proofs.Within.{same_remainder}
 use Rattle.effects.proofs.offset.remainder.Goals as goal
 

@@ -1,6 +1,5 @@
-use Rattle.std.proofs.Common.{rules, w16}
-use mir.Val.{SFits}
-use Rattle.std.proofs.lemmas.Int.{to_z-of_z}
+use Rattle.bpf_model.proofs.Prelude.{rules, SFits, to_z-of_z}
+use Rattle.std.proofs.Common.{w16}
 use Rattle.effects.proofs.reads.check_value.Goals as goal
 
 pub returns-in_ok-check_within-in-Some-clause-inside : goal.returns-in_ok-check_within-in-Some-clause-inside

@@ -1,7 +1,6 @@
-use Rattle.std.proofs.Common.{rules, ap, ◌∙◌, w16}
-use mir.Val.{SFits}
-use Rattle.std.proofs.lemmas.Int.{to_z-of_z}
-use Rattle.register_kinds.specs.States.{kind_of}
+use Rattle.bpf_model.proofs.Prelude.{rules, ap, ◌∙◌, SFits, to_z-of_z}
+use Rattle.register_kinds.proofs.Prelude.{kind_of}
+use Rattle.std.proofs.Common.{w16}
 use Rattle.effects.proofs.reads.read.Goals as goal
 
 pub returns-in_ok-check_within-in-Ctx-clause-reads : goal.returns-in_ok-check_within-in-Ctx-clause-reads

@@ -1,12 +1,8 @@
-use Rattle.std.proofs.Common.{rules, subst, w16, w32}
-use mir.Val.{SFits}
-use Rattle.std.specs.Prelude.{◌/◌}
-use Rattle.std.proofs.lemmas.Int.{to_z-of_z}
-use Rattle.register_kinds.specs.declared.kind.RegKind.{RegKind}
+use Rattle.bpf_model.proofs.Prelude.{rules, subst, SFits, ◌/◌, to_z-of_z}
+use Rattle.effects.proofs.Prelude.{RegKind}
+use Rattle.register_kinds.proofs.Prelude.{kind_of, IsBelow, AreAll}
+use Rattle.std.proofs.Common.{w16, w32}
 use Rattle.register_kinds.specs.declared.kind.CellKind.TheVariants.{Part}
-use Rattle.register_kinds.specs.States.{kind_of}
-use Rattle.register_kinds.specs.Pairs.{IsBelow}
-use Rattle.register_kinds.specs.Tests.{AreAll}
 use Rattle.effects.proofs.Reading.{parts_read}
 use Rattle.effects.proofs.reads.read_from_frame.Goals as goal
 

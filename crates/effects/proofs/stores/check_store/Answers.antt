@@ -1,8 +1,7 @@
-use Rattle.std.proofs.Common.{rules, ap, w16}
-use mir.Val.{SFits}
-use Rattle.std.proofs.lemmas.Int.{to_z-of_z}
+use Rattle.bpf_model.proofs.Prelude.{rules, ap, SFits, to_z-of_z}
+use Rattle.register_kinds.proofs.Prelude.{kind_of, state_of}
+use Rattle.std.proofs.Common.{w16}
 use Rattle.plan_laws.proofs.Elements.{store_transfers}
-use Rattle.register_kinds.specs.States.{kind_of, state_of}
 use Rattle.effects.proofs.stores.check_store.Goals as goal
 
 pub returns : goal.returns

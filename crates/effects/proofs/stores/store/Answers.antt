@@ -1,5 +1,5 @@
-use Rattle.std.proofs.Common.{refl, ap, ◌∙◌}
-use Rattle.register_kinds.specs.States.{kind_of}
+use Rattle.bpf_model.proofs.Prelude.{refl, ap, ◌∙◌}
+use Rattle.register_kinds.proofs.Prelude.{kind_of}
 use Rattle.effects.proofs.stores.store.Goals as goal
 
 pub returns-in_ok-store_value-in-Value-clause-region : goal.returns-in_ok-store_value-in-Value-clause-region

@@ -1,12 +1,8 @@
-use Rattle.std.proofs.Common.{rules, subst, ap, ℕ, w16, w32}
-use mir.Val.{SFits}
-use Rattle.std.proofs.lemmas.Int.{to_z-of_z}
-use Rattle.bpf_model.specs.declared.insn.Insn.TheVariants.{Store}
-use Rattle.bpf_model.specs.Access.{byte_count}
-use Rattle.plan_laws.specs.Kinds.{ByteCell}
-use Rattle.plan_laws.specs.Effects.{with_cells}
-use Rattle.plan_laws.specs.Planned.{AreAlike}
-use Rattle.register_kinds.specs.States.{kind_of, state_of}
+use Rattle.bpf_model.proofs.Prelude.{rules, subst, ap, ℕ, SFits, to_z-of_z, byte_count}
+use Rattle.model_laws.proofs.Prelude.{Store}
+use Rattle.plan_laws.proofs.Prelude.{ByteCell, with_cells, AreAlike}
+use Rattle.register_kinds.proofs.Prelude.{kind_of, state_of}
+use Rattle.std.proofs.Common.{w16, w32}
 use Rattle.effects.proofs.Writing.{number_stored}
 use Rattle.effects.proofs.stores.store_number.Goals as goal
 use Rattle.plan_laws.proofs.Planning.{to_alike}

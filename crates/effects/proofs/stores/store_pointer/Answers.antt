@@ -1,10 +1,8 @@
-use Rattle.std.proofs.Common.{rules, ap, w16, w32}
-use mir.Val.{SFits}
-use Rattle.std.proofs.lemmas.Int.{to_z-of_z}
-use Rattle.bpf_model.specs.declared.insn.Insn.TheVariants.{Store}
-use Rattle.plan_laws.specs.Kinds.{PartCell}
-use Rattle.plan_laws.specs.Effects.{with_cells}
-use Rattle.register_kinds.specs.States.{kind_of, state_of}
+use Rattle.bpf_model.proofs.Prelude.{rules, ap, SFits, to_z-of_z}
+use Rattle.model_laws.proofs.Prelude.{Store}
+use Rattle.plan_laws.proofs.Prelude.{PartCell, with_cells}
+use Rattle.register_kinds.proofs.Prelude.{kind_of, state_of}
+use Rattle.std.proofs.Common.{w16, w32}
 use Rattle.effects.proofs.Writing.{spill_stored}
 use Rattle.effects.proofs.stores.store_pointer.Goals as goal
 use Rattle.plan_laws.proofs.Planning.{to_alike}

@@ -1,7 +1,7 @@
-use Rattle.std.proofs.Common.{subst, sym, ap, ◌∙◌}
-use Rattle.bpf_model.specs.declared.insn.Operand.{Operand}
-use Rattle.plan_laws.specs.Effects.{IsNumberOperand}
-use Rattle.register_kinds.specs.States.{kind_of, state_of}
+use Rattle.bpf_model.proofs.Prelude.{subst, sym, ap, ◌∙◌}
+use Rattle.model_laws.proofs.Prelude.{Operand}
+use Rattle.plan_laws.proofs.Prelude.{IsNumberOperand}
+use Rattle.register_kinds.proofs.Prelude.{kind_of, state_of}
 use Rattle.effects.proofs.stores.stored_value.Goals as goal
 
 pub returns-in-Num-clause-number : goal.returns-in-Num-clause-number

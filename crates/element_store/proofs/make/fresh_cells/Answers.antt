@@ -1,6 +1,5 @@
-use Rattle.std.proofs.Common.{◌≡◌, ◌∙◌, ◌+◌, ◌++◌, ◌∷◌, [], ℕ, List, Option, sym, ap, arith}
-use Rattle.std.proofs.lemmas.List.FromFn.{map-range_with_len_more}
-use Rattle.element_store.specs.Fresh.{fresh_cell, fresh_cells}
+use Rattle.bpf_model.proofs.Prelude.{◌≡◌, ◌∙◌, ◌+◌, ◌++◌, ◌∷◌, [], ℕ, List, Option, sym, ap, arith, map-range_with_len_more}
+use Rattle.element_store.proofs.Prelude.{fresh_cell, fresh_cells}
 use Rattle.element_store.specs.declared.cell.SlotCell.{SlotCell}
 use Rattle.element_store.specs.declared.cell.Standing.TheVariants.{Free}
 use Rattle.element_store.proofs.make.fresh_cells.Goals as goal

@@ -1,5 +1,5 @@
-use Rattle.std.proofs.Common.{◌≡◌}
-use Rattle.element_store.specs.Fresh.{fresh_cells}
+use Rattle.bpf_model.proofs.Prelude.{◌≡◌}
+use Rattle.element_store.proofs.Prelude.{fresh_cells}
 use Rattle.element_store.proofs.make.fresh_cells.Given as goal
 
 abbrev pub invariant-loop-slot : goal.invariant-loop-slot

@@ -1,6 +1,4 @@
-use Rattle.std.proofs.Common.{◌∙◌, refl}
-use Rattle.std.proofs.lemmas.Bool.Decides.{Decides-eqb}
-use Rattle.std.proofs.lemmas.Slice.Eq.{slice_eq-Decides}
+use Rattle.bpf_model.proofs.Prelude.{◌∙◌, refl, Decides-eqb, slice_eq-Decides}
 use Rattle.element_store.proofs.RunWords.{any-of}
 use Rattle.element_store.proofs.run_set.is_any_bit.Goals as goal
 

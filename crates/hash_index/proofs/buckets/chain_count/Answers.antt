@@ -1,4 +1,4 @@
-use Rattle.std.proofs.Common.{subst}
+use Rattle.bpf_model.proofs.Prelude.{subst}
 use Rattle.hash_index.specs.Buckets.{IsLeastPowerOfTwo}
 use Rattle.hash_index.proofs.Powers.{no_lesser}
 use Rattle.hash_index.proofs.buckets.chain_count.Goals as goal

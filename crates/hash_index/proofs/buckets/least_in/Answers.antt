@@ -1,7 +1,4 @@
-use Rattle.std.proofs.Common.{◌+◌, ℕ, List, Option, None, subst, drop}
-use Rattle.std.specs.Prelude.{option_copied, slice_index_or}
-use Rattle.std.proofs.lemmas.Option.{slice_get-get_or}
-use Rattle.std.proofs.lemmas.List.{drop_more}
+use Rattle.bpf_model.proofs.Prelude.{◌+◌, ℕ, List, Option, None, subst, drop, option_copied, slice_index_or, slice_get-get_or, drop_more}
 use Rattle.hash_index.proofs.Changes.{home_chain}
 use Rattle.hash_index.proofs.Least.{IsGathered, gather_step}
 use Rattle.hash_index.proofs.buckets.least_in.Goals as goal

@@ -1,5 +1,4 @@
-use Rattle.std.proofs.Common.{◌<◌, length, drop}
-use Rattle.std.specs.Prelude.{IfSome, option_copied}
+use Rattle.bpf_model.proofs.Prelude.{◌<◌, length, drop, IfSome, option_copied}
 use Rattle.hash_index.proofs.Least.{IsGathered}
 use Rattle.hash_index.proofs.buckets.least_in.Given as goal
 

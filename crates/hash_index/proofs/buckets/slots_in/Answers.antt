@@ -1,9 +1,5 @@
-use Rattle.std.proofs.Common.{◌∙◌, ◌+◌, ◌++◌, ℕ, List, Option, None, sym, ap, drop, length, append_assoc}
-use Rattle.std.specs.Prelude.{slice_index_or}
-use Rattle.std.proofs.lemmas.Option.{slice_get-get_or}
-use Rattle.std.proofs.lemmas.List.{drop_more}
-use Rattle.element_store.specs.State.{link_at}
-use Rattle.element_store.specs.Threads.{chain_of}
+use Rattle.bpf_model.proofs.Prelude.{◌∙◌, ◌+◌, ◌++◌, ℕ, List, Option, None, sym, ap, drop, length, append_assoc, slice_index_or, slice_get-get_or, drop_more}
+use Rattle.element_store.proofs.Prelude.{link_at, chain_of}
 use Rattle.hash_index.specs.Buckets.{slots_from}
 use Rattle.hash_index.proofs.Changes.{home_chain}
 use Rattle.hash_index.proofs.buckets.slots_in.Goals as goal

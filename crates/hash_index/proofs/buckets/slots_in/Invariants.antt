@@ -1,5 +1,5 @@
-use Rattle.std.proofs.Common.{◌≡◌, ◌++◌, length, drop}
-use Rattle.element_store.specs.State.{link_at}
+use Rattle.bpf_model.proofs.Prelude.{◌≡◌, ◌++◌, length, drop}
+use Rattle.element_store.proofs.Prelude.{link_at}
 use Rattle.hash_index.specs.Buckets.{chained_slots, slots_from}
 use Rattle.hash_index.proofs.buckets.slots_in.Given as goal
 

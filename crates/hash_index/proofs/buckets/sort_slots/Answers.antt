@@ -1,10 +1,6 @@
-use Rattle.std.proofs.Common.{◌≡◌, ap, rules}
-use Rattle.std.specs.Ordering.{nat_cmp, is_lt}
-use Rattle.std.specs.Cmp.Lexicographic.{slice_cmp}
-use Rattle.std.proofs.lemmas.Cmp.{nat_list_cmp_total}
+use Rattle.bpf_model.proofs.Prelude.{◌≡◌, ap, rules, nat_cmp, is_lt, slice_cmp, nat_list_cmp_total, ranks_by}
+use Rattle.element_store.proofs.Prelude.{key_at}
 use Rattle.std.proofs.lemmas.Fn.{always_returns_same}
-use Rattle.std.proofs.lemmas.List.Sorted.{ranks_by}
-use Rattle.element_store.specs.State.{key_at}
 use Rattle.hash_index.proofs.buckets.sort_slots.Goals as goal
 
 pub returns-clause-order : goal.returns-clause-order

@@ -1,6 +1,6 @@
-use Rattle.std.proofs.Common.{◌≡◌, ◌∙◌, ◌∷◌, ◌++◌, [], ℕ, List, length, sym, ap, subst, append_assoc, append-nil}
-use Rattle.element_store.specs.State.{link_at}
-use Rattle.element_store.specs.Threads.{chain_of}
+use Rattle.bpf_model.proofs.Prelude.{◌≡◌, ◌∙◌, ◌∷◌, ◌++◌, [], ℕ, List, length, sym, ap, subst, append_assoc}
+use Rattle.element_store.proofs.Prelude.{link_at, chain_of}
+use Rattle.std.proofs.Common.{append-nil}
 use Rattle.hash_index.specs.Chains.{IsChain}
 use Rattle.hash_index.proofs.Steps.{chain_step, chain_at, rest_at, shorter, walk_none}
 use Rattle.hash_index.proofs.chain.add_chain.Goals as goal

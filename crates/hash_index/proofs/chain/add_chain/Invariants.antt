@@ -1,5 +1,5 @@
-use Rattle.std.proofs.Common.{◌≡◌, ◌++◌, length}
-use Rattle.element_store.specs.Threads.{chain_of}
+use Rattle.bpf_model.proofs.Prelude.{◌≡◌, ◌++◌, length}
+use Rattle.element_store.proofs.Prelude.{chain_of}
 use Rattle.hash_index.specs.Chains.{IsChain}
 use Rattle.hash_index.proofs.chain.add_chain.Given as goal
 

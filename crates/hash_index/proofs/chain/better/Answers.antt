@@ -1,7 +1,5 @@
-use Rattle.std.proofs.Common.{◌∙◌, ℕ, Option, sym, subst}
-use Rattle.std.specs.Prelude.{option_copied}
-use Rattle.std.proofs.lemmas.Bool.{false≢true}
-use Rattle.element_store.specs.State.{key_at}
+use Rattle.bpf_model.proofs.Prelude.{◌∙◌, ℕ, Option, sym, subst, option_copied, false≢true}
+use Rattle.element_store.proofs.Prelude.{key_at}
 use Rattle.hash_index.specs.Order.{IsLess, IsLeastOf}
 use Rattle.hash_index.proofs.Least.{least_passed, least_kept, least_replaced, least_first}
 use Rattle.hash_index.proofs.chain.better.Goals as goal

@@ -1,5 +1,5 @@
-use Rattle.std.proofs.Common.{subst}
-use Rattle.element_store.specs.Threads.{chain_of}
+use Rattle.bpf_model.proofs.Prelude.{subst}
+use Rattle.element_store.proofs.Prelude.{chain_of}
 use Rattle.hash_index.specs.Chains.{StandsBehind}
 use Rattle.hash_index.proofs.Steps.{before_in, cut_after, cut_first, stands_in}
 use Rattle.hash_index.proofs.chain.cut.Goals as goal

@@ -1,5 +1,4 @@
-use Rattle.std.proofs.Common.{sym, subst}
-use Rattle.std.specs.Prelude.{option_copied}
+use Rattle.bpf_model.proofs.Prelude.{sym, subst, option_copied}
 use Rattle.hash_index.specs.Chains.{IsChain}
 use Rattle.hash_index.proofs.Steps.{chain_step, chain_at, shorter}
 use Rattle.hash_index.proofs.Least.{scan_step, scan_end}

@@ -1,6 +1,5 @@
-use Rattle.std.proofs.Common.{◌<◌, length}
-use Rattle.std.specs.Prelude.{IfSome, option_copied}
-use Rattle.element_store.specs.Threads.{chain_of}
+use Rattle.bpf_model.proofs.Prelude.{◌<◌, length, IfSome, option_copied}
+use Rattle.element_store.proofs.Prelude.{chain_of}
 use Rattle.hash_index.specs.Chains.{IsChain}
 use Rattle.hash_index.proofs.Least.{IsScanned}
 use Rattle.hash_index.proofs.chain.least_with.Given as goal

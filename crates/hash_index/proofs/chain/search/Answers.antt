@@ -1,8 +1,7 @@
-use Rattle.std.proofs.Common.{◌∙◌, refl, sym}
-use Rattle.element_store.specs.State.{key_at}
+use Rattle.bpf_model.proofs.Prelude.{◌∙◌, refl, sym, same_key-false}
+use Rattle.element_store.proofs.Prelude.{key_at}
 use Rattle.hash_index.proofs.Steps.{chain_step, chain_at, rest_at, searched, shorter, walked_found, walked_on}
 use Rattle.hash_index.proofs.chain.search.Goals as goal
-use Rattle.bpf_model.proofs.Keys.{same_key-false}
 
 pub is_at-requires-clause-slot : goal.is_at-requires-clause-slot
 is_at-requires-clause-slot g c = (chain_step c.args.arena.now c.in-Some.slot

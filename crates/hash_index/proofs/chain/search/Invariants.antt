@@ -1,6 +1,5 @@
-use Rattle.std.proofs.Common.{◌≡◌, length}
-use Rattle.element_store.specs.State.{key_at, slot_of}
-use Rattle.element_store.specs.Threads.{chain_of}
+use Rattle.bpf_model.proofs.Prelude.{◌≡◌, length}
+use Rattle.element_store.proofs.Prelude.{key_at, slot_of, chain_of}
 use Rattle.hash_index.specs.Chains.{IsChain}
 use Rattle.hash_index.proofs.Steps.{IsWalked}
 use Rattle.hash_index.proofs.chain.search.Given as goal

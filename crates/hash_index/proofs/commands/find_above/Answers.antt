@@ -1,7 +1,5 @@
-use Rattle.std.proofs.Common.{◌∙◌, ℕ, List, Some, None, sym, ap}
-use Rattle.std.specs.Prelude.{option_map}
-use Rattle.std.specs.FinMap.{entries}
-use Rattle.element_store.specs.State.{key_at}
+use Rattle.bpf_model.proofs.Prelude.{◌∙◌, ℕ, List, Some, None, sym, ap, option_map, entries}
+use Rattle.element_store.proofs.Prelude.{key_at}
 use Rattle.hash_index.specs.Replies.{first_above}
 use Rattle.hash_index.proofs.Firsts.{next_is}
 use Rattle.hash_index.proofs.commands.find_above.Goals as goal

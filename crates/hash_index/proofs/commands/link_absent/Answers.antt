@@ -1,6 +1,6 @@
-use Rattle.std.proofs.Common.{◌∙◌, sym, ap, subst}
+use Rattle.bpf_model.proofs.Prelude.{◌∙◌, sym, ap, subst}
+use Rattle.element_store.proofs.Prelude.{is_at}
 use Rattle.std.specs.FinMap as map
-use Rattle.element_store.specs.State.{is_at}
 use Rattle.hash_index.proofs.commands.link_absent.Goals as goal
 
 pub link-requires-clause-apart : goal.link-requires-clause-apart

@@ -1,6 +1,5 @@
-use Rattle.std.proofs.Common.{◌≡◌, ◌∙◌, ◌+◌, ◌++◌, ◌∷◌, ℕ, List, Option, refl, sym, ap, subst, drop}
-use Rattle.std.proofs.lemmas.List.{drop_more}
-use Rattle.element_store.specs.State.{key_at}
+use Rattle.bpf_model.proofs.Prelude.{◌≡◌, ◌∙◌, ◌+◌, ◌++◌, ◌∷◌, ℕ, List, Option, refl, sym, ap, subst, drop, drop_more}
+use Rattle.element_store.proofs.Prelude.{key_at}
 use Rattle.hash_index.specs.declared.commands.Command.{Command}
 use Rattle.hash_index.specs.Replies.{AreReadyCommands, IsKeyed, replies}
 use Rattle.hash_index.proofs.Runs.{keyed_step, keyed_empty, keys_still, links_still, told_more}

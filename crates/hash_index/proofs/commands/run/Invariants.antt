@@ -1,6 +1,5 @@
-use Rattle.std.proofs.Common.{◌≡◌, ◌++◌, drop}
-use Rattle.std.specs.FinMap.{empty}
-use Rattle.element_store.specs.State.{key_at}
+use Rattle.bpf_model.proofs.Prelude.{◌≡◌, ◌++◌, drop, empty}
+use Rattle.element_store.proofs.Prelude.{key_at}
 use Rattle.hash_index.specs.Replies.{AreReadyCommands, IsKeyed, replies}
 use Rattle.hash_index.proofs.commands.run.Given as goal
 

@@ -1,4 +1,4 @@
-use Rattle.std.proofs.Common.{◌∙◌, sym}
+use Rattle.bpf_model.proofs.Prelude.{◌∙◌, sym}
 use Rattle.hash_index.proofs.Short.{half_is}
 use Rattle.hash_index.proofs.hash.half_word.Goals as goal
 

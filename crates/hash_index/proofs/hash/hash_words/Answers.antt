@@ -1,5 +1,4 @@
-use Rattle.std.proofs.Common.{◌≡◌, ◌∙◌, ap, subst, sym, ℕ, suc, ◌+◌, ◌-◌, ◌/◌, ◌<◌, ◌≤◌, List, arith, rules, length, drop}
-use Rattle.std.proofs.lemmas.List.{length-drop, take_all}
+use Rattle.bpf_model.proofs.Prelude.{◌≡◌, ◌∙◌, ap, subst, sym, ℕ, suc, ◌+◌, ◌-◌, ◌/◌, ◌<◌, ◌≤◌, List, arith, rules, length, drop, length-drop, take_all}
 use Rattle.hash_index.specs.Chains.{hash_of, mixed_hash, hashed_word, words_hash, word_bytes}
 use Rattle.hash_index.proofs.hash.hash_words.Goals as goal
 

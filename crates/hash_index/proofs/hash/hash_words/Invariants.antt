@@ -1,4 +1,4 @@
-use Rattle.std.proofs.Common.{◌≡◌, ◌<◌, ◌≤◌, length, ◌+◌, ◌-◌, ◌*◌, ◌/◌}
+use Rattle.bpf_model.proofs.Prelude.{◌≡◌, ◌<◌, ◌≤◌, length, ◌+◌, ◌-◌, ◌*◌, ◌/◌}
 use Rattle.hash_index.specs.Chains.{hash_of, words_hash, word_bytes}
 use Rattle.hash_index.proofs.hash.hash_words.Given as goal
 

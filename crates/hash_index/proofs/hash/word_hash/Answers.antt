@@ -1,4 +1,4 @@
-use Rattle.std.proofs.Common.{◌∙◌, ap, sym}
+use Rattle.bpf_model.proofs.Prelude.{◌∙◌, ap, sym}
 use Rattle.hash_index.specs.Chains.{mixed_hash, hash_start}
 use Rattle.hash_index.proofs.Short.{word_hashed}
 use Rattle.hash_index.proofs.hash.word_hash.Goals as goal

@@ -1,7 +1,5 @@
-use Rattle.std.proofs.Common.{◌∙◌, ap}
-use Rattle.std.specs.Prelude.{bytes_eq}
-use Rattle.std.specs.Cmp.Lexicographic.{texts_ties}
-use Rattle.element_store.specs.State.{key_at}
+use Rattle.bpf_model.proofs.Prelude.{◌∙◌, ap, bytes_eq, texts_ties}
+use Rattle.element_store.proofs.Prelude.{key_at}
 use Rattle.hash_index.proofs.keys.has_key.Goals as goal
 
 pub returns : goal.returns

@@ -1,8 +1,5 @@
-use Rattle.std.proofs.Common.{◌∙◌, List, ℕ, length, sym, ap}
-use Rattle.std.specs.Prelude.{bytes_eq}
-use Rattle.std.specs.Cmp.Lexicographic.{texts_ties}
-use Rattle.bpf_model.proofs.Keys.{other-same_key}
-use Rattle.element_store.specs.State.{key_at}
+use Rattle.bpf_model.proofs.Prelude.{◌∙◌, List, ℕ, length, sym, ap, bytes_eq, texts_ties, other-same_key}
+use Rattle.element_store.proofs.Prelude.{key_at}
 use Rattle.hash_index.proofs.keys.has_word.Goals as goal
 
 pub returns-then-held-eq-WORD_BYTES : goal.returns-then-held-eq-WORD_BYTES

@@ -1,4 +1,4 @@
-use Rattle.std.proofs.Common.{arith}
+use Rattle.bpf_model.proofs.Prelude.{arith}
 use Rattle.hash_index.proofs.Short.{word_told}
 use Rattle.hash_index.proofs.keys.same_words.Goals as goal
 

@@ -1,4 +1,4 @@
-use Rattle.element_store.specs.State.{key_at}
+use Rattle.element_store.proofs.Prelude.{key_at}
 use Rattle.hash_index.proofs.Orders.{found, unique-ascending}
 use Rattle.hash_index.proofs.position.find_in.Goals as goal
 

@@ -1,7 +1,5 @@
-use Rattle.std.proofs.Common.{arith}
-use Rattle.std.specs.Prelude.{option_copied}
-use Rattle.std.proofs.lemmas.Option.{slice_get-get_or}
-use Rattle.element_store.specs.State.{key_at}
+use Rattle.bpf_model.proofs.Prelude.{arith, option_copied, slice_get-get_or}
+use Rattle.element_store.proofs.Prelude.{key_at}
 use Rattle.hash_index.proofs.Orders.{least_there, none_there}
 use Rattle.hash_index.proofs.position.least_above.Goals as goal
 

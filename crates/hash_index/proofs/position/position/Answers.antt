@@ -1,7 +1,5 @@
-use Rattle.std.proofs.Common.{◌+◌, ◌-◌, ◌/◌, arith, sym, ◌∙◌}
-use Rattle.std.proofs.lemmas.Option.{slice_get-get_or}
-use Rattle.std.proofs.lemmas.Bool.{false≢true}
-use Rattle.element_store.specs.State.{key_at}
+use Rattle.bpf_model.proofs.Prelude.{◌+◌, ◌-◌, ◌/◌, arith, sym, ◌∙◌, slice_get-get_or, false≢true}
+use Rattle.element_store.proofs.Prelude.{key_at}
 use Rattle.hash_index.specs.Held.{held_at}
 use Rattle.hash_index.proofs.Orders.{halved_below, halved_above}
 use Rattle.hash_index.proofs.position.position.Goals as goal

@@ -1,4 +1,4 @@
-use Rattle.element_store.specs.State.{key_at}
+use Rattle.element_store.proofs.Prelude.{key_at}
 use Rattle.hash_index.proofs.Orders.{above_after, above_here}
 use Rattle.hash_index.proofs.position.position_above.Goals as goal
 

@@ -1,11 +1,9 @@
-use Rattle.std.proofs.Common.{◌≡◌, ◌∙◌, ◌<◌, length, arith, ap, sym}
-use Rattle.std.specs.Prelude.{slice_index_or}
-use Rattle.std.proofs.lemmas.Option.{slice_get-get_or, same_Some, slice_get_within}
-use Rattle.element_store.specs.State.{key_at}
+use Rattle.bpf_model.proofs.Prelude.{◌≡◌, ◌∙◌, ◌<◌, length, arith, ap, sym, slice_index_or, slice_get-get_or, same_Some, slice_get_within, same_key-true}
+use Rattle.bpf_model.proofs.Prelude.{same_key-false}
+use Rattle.element_store.proofs.Prelude.{key_at}
 use Rattle.hash_index.specs.Held.{held_at}
 use Rattle.hash_index.proofs.position.standing.Goals as goal
 use Rattle.hash_index.proofs.position.standing.Goals.{else-at-slots-via-then-at-slots+else-has_key, else-at-slots-via-else-at-slots}
-use Rattle.bpf_model.proofs.Keys.{same_key-true, same_key-false}
 
 pub has_key-requires : goal.has_key-requires
 has_key-requires c = c.requires.within _ (held_at c.args.slots.now _ _ (slice_get-get_or c.args.slots.now c.args.at 0 c.if-at-slots.true))

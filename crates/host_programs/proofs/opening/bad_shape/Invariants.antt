@@ -1,6 +1,5 @@
-use Rattle.std.proofs.Common.{◌≡◌, ◌<◌, ℕ, Some, slice_get}
-use Rattle.bpf_model.specs.declared.limits.MapShape.{MapShape}
-use Rattle.bpf_model.specs.Shapes.{IsShape}
+use Rattle.bpf_model.proofs.Prelude.{◌≡◌, ◌<◌, ℕ, Some, slice_get, IsShape}
+use Rattle.model_laws.proofs.Prelude.{MapShape}
 use Rattle.host_programs.proofs.opening.bad_shape.Given as goal
 
 abbrev pub invariant-loop-number : goal.invariant-loop-number

@@ -1,4 +1,4 @@
-use Rattle.std.proofs.Common.{◌∙◌}
+use Rattle.bpf_model.proofs.Prelude.{◌∙◌}
 use Rattle.host_programs.proofs.Laid.{written}
 use Rattle.host_programs.proofs.packet.fill_context.Goals as goal
 

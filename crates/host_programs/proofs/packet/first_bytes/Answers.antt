@@ -1,6 +1,5 @@
-use Rattle.std.proofs.Common.{ℕ, ap, ◌∙◌, take}
-use Rattle.std.proofs.lemmas.List.{take_min}
-use Rattle.classic_program.specs.Context.{packet_bytes}
+use Rattle.bpf_model.proofs.Prelude.{ℕ, ap, ◌∙◌, take, take_min}
+use Rattle.classic_program.proofs.Prelude.{packet_bytes}
 use Rattle.host_programs.proofs.packet.first_bytes.Goals as goal
 
 pub returns-clause-same : goal.returns-clause-same

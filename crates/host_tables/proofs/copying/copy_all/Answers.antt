@@ -1,5 +1,5 @@
-use Rattle.std.proofs.Common.{rules, ◌<◌}
-use Rattle.map_table.specs.Law.{ways_of}
+use Rattle.bpf_model.proofs.Prelude.{rules, ◌<◌}
+use Rattle.map_table.proofs.Prelude.{ways_of}
 use Rattle.host_tables.specs.Copies.{StopsCopying}
 use Rattle.host_tables.proofs.copying.copy_all.Goals as goal
 

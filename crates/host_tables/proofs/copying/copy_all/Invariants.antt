@@ -1,4 +1,4 @@
-use Rattle.std.proofs.Common.{◌≡◌}
+use Rattle.bpf_model.proofs.Prelude.{◌≡◌}
 use Rattle.host_tables.specs.Copies.{Copies}
 use Rattle.host_tables.specs.Tables.{IsTidy}
 use Rattle.host_tables.proofs.copying.copy_all.Given as goal

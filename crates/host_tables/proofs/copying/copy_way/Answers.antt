@@ -1,4 +1,4 @@
-use Rattle.std.proofs.Common.{inr}
+use Rattle.bpf_model.proofs.Prelude.{inr}
 use Rattle.host_tables.specs.declared.fault.How.TheVariants.{Any}
 use Rattle.host_tables.specs.Copies.{CopiesWay}
 use Rattle.host_tables.specs.Tables.{Sets}

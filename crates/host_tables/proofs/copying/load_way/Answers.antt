@@ -1,13 +1,8 @@
-use Rattle.std.proofs.Common.{◌∙◌, sym, subst}
-use Rattle.map_table_laws.specs.Found.{IsLinkedUnder}
-use Rattle.map_table_laws.specs.Lookups.{OnlySearches}
-use Rattle.map_table.specs.Hashes.{layout_of}
-use Rattle.map_table.specs.Held.{TableView}
-use Rattle.map_table.specs.Reading.{Reads}
-use Rattle.map_table.specs.Values.{stored_of}
+use Rattle.bpf_model.proofs.Prelude.{◌∙◌, sym, subst, refl}
+use Rattle.map_table_laws.proofs.Prelude.{IsLinkedUnder, OnlySearches}
+use Rattle.map_table.proofs.Prelude.{layout_of, TableView, Reads, stored_of}
 use Rattle.host_tables.proofs.Kept.{reads_only}
 use Rattle.host_tables.proofs.Tidy.{loaded_tidy, searched_tidy}
-use Rattle.std.proofs.Common.{refl}
 use Rattle.host_tables.proofs.copying.load_way.Goals as goal
 
 pub returns-clause-loads : goal.returns-clause-loads

@@ -1,7 +1,6 @@
-use Rattle.std.proofs.Common.{◌≡◌, refl, ◌∙◌, subst, arith}
-use Rattle.map_table.specs.Hashes.{layout_of}
-use Rattle.map_table.specs.Writing.{WriterView}
-use Rattle.map_table_laws.specs.History.{word_in}
+use Rattle.bpf_model.proofs.Prelude.{◌≡◌, refl, ◌∙◌, subst, arith}
+use Rattle.map_table_laws.proofs.Prelude.{word_in}
+use Rattle.map_table.proofs.Prelude.{layout_of, WriterView}
 use Rattle.host_tables.proofs.Meeting.{empty_next}
 use Rattle.host_tables.proofs.Tidy.{searched_tidy}
 use Rattle.host_tables.proofs.walking.load_first.Goals as goal

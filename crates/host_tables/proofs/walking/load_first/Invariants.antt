@@ -1,4 +1,4 @@
-use Rattle.std.proofs.Common.{◌≡◌, ◌≤◌}
+use Rattle.bpf_model.proofs.Prelude.{◌≡◌, ◌≤◌}
 use Rattle.host_tables.specs.Walks.{AreEmpty}
 use Rattle.host_tables.proofs.walking.load_first.Given as goal
 

@@ -1,4 +1,4 @@
-use Rattle.std.proofs.Common.{arith}
+use Rattle.bpf_model.proofs.Prelude.{arith}
 use Rattle.host_tables.proofs.KeyWalks.{meets_key_once}
 use Rattle.host_tables.proofs.walking.walks_meet_each_key_once.Goals as goal
 

@@ -1,11 +1,8 @@
-use Rattle.std.proofs.Common.{◌≤◌, ◌≢◌, ◌∙◌, ℕ, List, length, refl, sym, ap, subst, inr, None}
-use Rattle.map_table_laws.specs.Once.{AreLinkedOnce}
-use Rattle.map_table.specs.Hashes.{layout_of}
-use Rattle.map_table.specs.Held.{TableView}
-use Rattle.map_table.specs.Moving.{IsSomeInside, MakesOneWay, StayLinked}
+use Rattle.bpf_model.proofs.Prelude.{◌≤◌, ◌≢◌, ◌∙◌, ℕ, List, length, refl, sym, ap, subst, inr, None}
+use Rattle.map_table_laws.proofs.Prelude.{AreLinkedOnce}
+use Rattle.map_table.proofs.Prelude.{layout_of, TableView, IsSomeInside, MakesOneWay, StayLinked, WriterView, AreFull}
 use Rattle.map_table.specs.declared.moving.Room.{Room}
 use Rattle.map_table.specs.declared.moving.Room.TheVariants.{Made}
-use Rattle.map_table.specs.Writing.{WriterView, AreFull}
 use Rattle.host_tables.specs.declared.fault.SetFault.TheVariants.{Held, NoWay}
 use Rattle.host_tables.specs.Tables.{Finds, IsNoRoom, IsTidy, Moves}
 use Rattle.host_tables.proofs.Tidy.{aside_so, full_so, links_so, links_tidy, moved_nowhere, moved_tidy, moves_so}

@@ -1,4 +1,4 @@
-use Rattle.std.proofs.Common.{ℕ, Option, sym, subst, IfErr}
+use Rattle.bpf_model.proofs.Prelude.{ℕ, Option, sym, subst, IfErr}
 use Rattle.host_tables.specs.Tables.{IsNoRoom}
 use Rattle.host_tables.proofs.writing.put_under.Goals as goal
 

@@ -1,7 +1,6 @@
-use Rattle.std.proofs.Common.{◌∙◌, ◌++◌, [], refl, set, sym, subst, arith, add-one}
-use Rattle.std.proofs.lemmas.List.{length-set}
+use Rattle.bpf_model.proofs.Prelude.{◌∙◌, ◌++◌, [], refl, set, sym, subst, arith, add-one, length-set}
+use Rattle.map_table.proofs.Prelude.{as_holder}
 use Rattle.map_table.proofs.Going.{goes_none, goes_then}
-use Rattle.map_table.specs.Writing.{as_holder}
 use Rattle.host_tables.specs.Tables.{SumsUp}
 use Rattle.host_tables.proofs.Summing.{sums_next}
 use Rattle.host_tables.proofs.Tidy.{same_tidy, sums_leave}

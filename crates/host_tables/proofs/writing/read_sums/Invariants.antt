@@ -1,6 +1,5 @@
-use Rattle.std.proofs.Common.{◌≡◌, List, length}
-use Rattle.map_table.specs.Writing.{Works}
-use Rattle.map_table_laws.specs.declared.moves.Move.{Move}
+use Rattle.bpf_model.proofs.Prelude.{◌≡◌, List, length}
+use Rattle.map_table.proofs.Prelude.{Works, Move}
 use Rattle.host_tables.specs.Tables.{SumsUp}
 use Rattle.host_tables.proofs.writing.read_sums.Given as goal
 

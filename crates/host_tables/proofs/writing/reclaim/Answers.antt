@@ -1,5 +1,5 @@
-use Rattle.std.proofs.Common.{subst, sym}
-use Rattle.map_table.specs.Held.{TableView}
+use Rattle.bpf_model.proofs.Prelude.{subst, sym}
+use Rattle.map_table.proofs.Prelude.{TableView}
 use Rattle.host_tables.specs.Tables.{Finds}
 use Rattle.host_tables.proofs.Tidy.{freed_finds, freed_tidy}
 use Rattle.host_tables.proofs.writing.reclaim.Goals as goal

@@ -1,8 +1,6 @@
-use Rattle.std.proofs.Common.{sym, subst}
-use Rattle.map_table.specs.Held.{TableView}
-use Rattle.map_table.specs.Writing.{StaysIn}
+use Rattle.bpf_model.proofs.Prelude.{sym, subst, Some}
+use Rattle.map_table.proofs.Prelude.{TableView, StaysIn}
 use Rattle.host_tables.specs.Tables.{Finds, Replaces}
-use Rattle.std.proofs.Common.{Some}
 use Rattle.host_tables.proofs.Tidy.{replaces_tidy}
 use Rattle.host_tables.proofs.writing.replace.Goals as goal
 

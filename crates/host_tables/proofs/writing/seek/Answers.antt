@@ -1,5 +1,5 @@
-use Rattle.std.proofs.Common.{refl}
-use Rattle.map_table.specs.Hashes.{layout_of}
+use Rattle.bpf_model.proofs.Prelude.{refl}
+use Rattle.map_table.proofs.Prelude.{layout_of}
 use Rattle.host_tables.proofs.Seeking.{finds_so, seeks_so}
 use Rattle.host_tables.proofs.Tidy.{searched_tidy}
 use Rattle.host_tables.proofs.writing.seek.Goals as goal

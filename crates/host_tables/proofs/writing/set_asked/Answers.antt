@@ -1,4 +1,4 @@
-use Rattle.std.proofs.Common.{refl}
+use Rattle.bpf_model.proofs.Prelude.{refl}
 use Rattle.host_tables.specs.Tables.{IsAsked}
 use Rattle.host_tables.proofs.Seeking.{asked_some, asked_none, not_set}
 use Rattle.host_tables.proofs.writing.set_asked.Goals.{in_default-via-in-Some+in_default, in_default-via-in-None+in_default}

@@ -1,5 +1,5 @@
-use Rattle.std.proofs.Common.{[], ◌∷◌, refl}
-use Rattle.map_table_laws.specs.declared.moves.Move.TheVariants.{Put}
+use Rattle.bpf_model.proofs.Prelude.{[], ◌∷◌, refl}
+use Rattle.map_table.proofs.Prelude.{Put}
 use Rattle.host_tables.proofs.Tidy.{unlinked_tidy}
 use Rattle.host_tables.proofs.writing.unlink.Goals as goal
 

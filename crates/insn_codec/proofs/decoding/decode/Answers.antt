@@ -1,7 +1,5 @@
-use Rattle.std.proofs.Common.{◌≡◌, ℕ, ◌*◌, List, length, ap, ◌∙◌, arith}
+use Rattle.bpf_model.proofs.Prelude.{◌≡◌, ℕ, ◌*◌, List, length, ap, ◌∙◌, arith, text, slot_total}
 use Rattle.bpf_model.specs.declared.insn.Insn.{Insn}
-use Rattle.bpf_model.specs.Spelling.{text}
-use Rattle.bpf_model.specs.Places.{slot_total}
 use Rattle.insn_codec.proofs.DecodeLoop.{length_text, none_from, some_from}
 use Rattle.insn_codec.proofs.decoding.decode.Goals as goal
 

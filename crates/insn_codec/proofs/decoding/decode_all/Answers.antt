@@ -1,5 +1,4 @@
-use Rattle.std.proofs.Common.{◌≡◌, Result, Ok, Err}
-use Rattle.std.specs.Prelude.{IfOk, IsOk}
+use Rattle.bpf_model.proofs.Prelude.{◌≡◌, Result, Ok, Err, IfOk, IsOk}
 use Rattle.insn_codec.proofs.DecodeLoop.{goes_on, stops, ends, none_from, some_from}
 use Rattle.insn_codec.proofs.decoding.decode_all.Goals as goal
 use Rattle.std.proofs.lemmas.Result.{IfOk-at_ok}

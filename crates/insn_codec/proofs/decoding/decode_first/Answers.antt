@@ -1,10 +1,8 @@
-use Rattle.std.proofs.Common.{◌≡◌, ℕ, ◌*◌, List, ◌++◌, drop, Option, sym, refl, arith, subst}
-use Rattle.std.proofs.lemmas.Result.{err_from_is_err_and}
+use Rattle.bpf_model.proofs.Prelude.{◌≡◌, ℕ, ◌*◌, List, ◌++◌, drop, Option, sym, refl, arith, subst, err_from_is_err_and, FitsInsn, spelling, slot_at}
+use Rattle.bpf_model.proofs.Prelude.{next_slot_at, slot_count}
 use Rattle.std.proofs.lemmas.List.{take_rest}
 use Rattle.bpf_model.specs.declared.slot.Slot.{Slot}
 use Rattle.bpf_model.specs.declared.insn.Insn.{Insn}
-use Rattle.bpf_model.specs.Spelling.{FitsInsn, spelling, slot_at, next_slot_at}
-use Rattle.bpf_model.specs.Step.{slot_count}
 use Rattle.insn_codec.specs.declared.flaw.InsnFlaw.{InsnFlaw}
 use Rattle.insn_codec.specs.Faults.{IsInsnFlaw, IsInsnFlawAt}
 use Rattle.insn_codec.specs.Begins.{BeginsWith}

@@ -1,10 +1,8 @@
-use Rattle.std.proofs.Common.{◌≡◌, ℕ, List, [], ◌∷◌, ◌++◌, ◌∙◌, append_assoc, refl, rules, FitsSigned, ◌/◌, ◌^◌, ℤ}
-use Rattle.std.proofs.lemmas.Int.{to_z-of_z}
+use Rattle.bpf_model.proofs.Prelude.{◌≡◌, ℕ, List, [], ◌∷◌, ◌++◌, ◌∙◌, append_assoc, refl, rules, FitsSigned, ◌/◌, ◌^◌, ℤ, to_z-of_z, w32, cast_signed}
+use Rattle.bpf_model.proofs.Prelude.{slot_bytes, slots_of, spelling, first_slot, tail_slot}
 use Rattle.bpf_model.specs.declared.slot.Slot.{Slot}
 use Rattle.bpf_model.specs.declared.insn.Insn.{Insn}
 use Rattle.bpf_model.specs.declared.insn.Insn.TheVariants.{LoadNumber}
-use Rattle.std.specs.Int.{w32, cast_signed}
-use Rattle.bpf_model.specs.Spelling.{slot_bytes, slots_of, spelling, first_slot, tail_slot}
 use Rattle.insn_codec.proofs.encoding.put.Goals as goal
 
 put_two : (old mid new : List ℕ) (s t : Slot) (i : Insn) → mid ≡ old ++ slot_bytes s → new ≡ mid ++ slot_bytes t →

@@ -1,5 +1,4 @@
-use Rattle.std.proofs.Common.{◌≡◌, ◌∙◌, List, Result, Ok, Err, ◌⊎◌, inl, inr}
-use Rattle.std.specs.Prelude.{IfOk, IfErr}
+use Rattle.bpf_model.proofs.Prelude.{◌≡◌, ◌∙◌, List, Result, Ok, Err, ◌⊎◌, inl, inr, IfOk, IfErr}
 use Rattle.bpf_model.specs.declared.insn.Insn.{Insn}
 use Rattle.insn_codec.specs.declared.fault.DecodeFault.{DecodeFault}
 use Rattle.insn_codec.specs.declared.fault.DecodeFault.TheVariants.{Memory}

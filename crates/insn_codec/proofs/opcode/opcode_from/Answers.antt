@@ -1,4 +1,4 @@
-use Rattle.std.proofs.Common.{◌≡◌, Some, arith}
+use Rattle.bpf_model.proofs.Prelude.{◌≡◌, Some, arith, opcode_byte}
 use Rattle.bpf_model.specs.declared.opcode.Size.TheVariants.{Word32}
 use Rattle.bpf_model.specs.declared.opcode.ByteOrder.TheVariants.{ToLittle}
 use Rattle.bpf_model.specs.declared.opcode.Opcode.{Opcode}
@@ -7,7 +7,6 @@ use Rattle.bpf_model.specs.declared.opcode.Source.TheVariants.{Immediate}
 use Rattle.bpf_model.specs.declared.opcode.Width.TheVariants as width
 use Rattle.bpf_model.specs.declared.opcode.SignedWidth.TheVariants as signed
 use Rattle.bpf_model.specs.declared.opcode.Excluded.TheVariants as excluded
-use Rattle.bpf_model.specs.Opcode.{opcode_byte}
 use Rattle.insn_codec.proofs.opcode.opcode_from.Goals as goal
 
 pub returns-in_default-clause-only : goal.returns-in_default-clause-only

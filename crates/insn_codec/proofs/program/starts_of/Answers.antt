@@ -1,8 +1,5 @@
-use Rattle.std.proofs.Common.{◌≡◌, ℕ, ◌+◌, List, [], ◌∷◌, ◌++◌, take, rules, arith, sym, ap, ◌∙◌}
-use Rattle.std.proofs.lemmas.List.{take_more}
+use Rattle.bpf_model.proofs.Prelude.{◌≡◌, ℕ, ◌+◌, List, [], ◌∷◌, ◌++◌, take, rules, arith, sym, ap, ◌∙◌, take_more, slot_count, slot_total, starts_from}
 use Rattle.bpf_model.specs.declared.insn.Insn.{Insn}
-use Rattle.bpf_model.specs.Step.{slot_count}
-use Rattle.bpf_model.specs.Places.{slot_total, starts_from}
 use Rattle.insn_codec.proofs.DecodeLoop.{starts_push, total_push}
 use Rattle.insn_codec.proofs.program.starts_of.Goals as goal
 

@@ -1,5 +1,4 @@
-use Rattle.std.proofs.Common.{◌≡◌, take}
-use Rattle.bpf_model.specs.Places.{slot_total, starts_from}
+use Rattle.bpf_model.proofs.Prelude.{◌≡◌, take, slot_total, starts_from}
 use Rattle.insn_codec.proofs.program.starts_of.Given as goal
 
 abbrev pub invariant-loop-instruction : goal.invariant-loop-instruction

@@ -1,10 +1,7 @@
-use Rattle.std.proofs.Common.{◌≡◌, Option, Some, Result, Ok, Err, ap, ◌∙◌}
-use Rattle.std.specs.Prelude.{IfOk, IfErr}
-use Rattle.std.proofs.lemmas.Option.{same_Some}
+use Rattle.bpf_model.proofs.Prelude.{◌≡◌, Option, Some, Result, Ok, Err, ap, ◌∙◌, IfOk, IfErr, same_Some, FitsInsn, opcode_of}
 use Rattle.bpf_model.specs.declared.slot.Slot.{Slot}
 use Rattle.bpf_model.specs.declared.opcode.Opcode.{Opcode}
 use Rattle.bpf_model.specs.declared.insn.Insn.{Insn}
-use Rattle.bpf_model.specs.Spelling.{FitsInsn, opcode_of}
 use Rattle.insn_codec.specs.declared.flaw.InsnFlaw.{InsnFlaw}
 use Rattle.insn_codec.specs.Faults.{flaw_with}
 use Rattle.insn_codec.specs.Begins.{BeginsWith}

@@ -4,11 +4,10 @@ use Rattle.std.specs.List.{AllZip}
 use Rattle.crossbeam_queue.specs.Passes.{view, IsPassOf}
 use Rattle.job_queue.specs.Blocks.{InBlocks, ServesBlock}
 use Rattle.job_queue.specs.Serving.{IsServedFor}
-use Rattle.job_queue.specs.Stations.{IsKept}
+use Rattle.job_queue.specs.Stations.{IsKept, times_taken}
 use Rattle.job_queue.specs.Sheet.{worker_of, StandsIn}
 use Rattle.job_queue.proofs.QueueRule.{takes, learns_all, left_none, left_once}
 use Rattle.job_queue.proofs.Serving.{all_lines, stands_right, stations_kept, workers_later, workers_ready, written_back}
-use Rattle.job_queue.specs.Stations.{times_taken}
 use Rattle.job_queue.specs.Turns.{AreTurns}
 use Rattle.job_queue.proofs.Turns.{turns_are}
 use Rattle.job_queue.proofs.pool.serve_at.Goals as goal

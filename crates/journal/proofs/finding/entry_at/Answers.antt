@@ -1,6 +1,4 @@
-use Rattle.std.proofs.Common.{◌≡◌, ◌∙◌, Some, None, length, refl, sym, ap, arith}
-use Rattle.std.specs.Prelude.{slice_get, option_map}
-use Rattle.std.proofs.lemmas.Option.{slice_get_past, slice_get_read}
+use Rattle.bpf_model.proofs.Prelude.{◌≡◌, ◌∙◌, Some, None, length, refl, sym, ap, arith, slice_get, option_map, slice_get_past, slice_get_read}
 use Rattle.journal.specs.Rows.{all_entries, entry_of}
 use Rattle.journal.proofs.Indexing.{entry-of-row}
 use Rattle.journal.proofs.finding.entry_at.Goals as goal

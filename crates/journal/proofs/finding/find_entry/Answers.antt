@@ -1,7 +1,4 @@
-use Rattle.std.proofs.Common.{◌≡◌, ◌∙◌, ℕ, suc, ◌+◌, ◌-◌, ◌∷◌, List, Some, drop, length, refl, sym, ap, arith}
-use Rattle.std.specs.Prelude.{slice_get}
-use Rattle.std.proofs.lemmas.Option.{slice_get_read}
-use Rattle.bpf_model.proofs.Lists.{drop-next}
+use Rattle.bpf_model.proofs.Prelude.{◌≡◌, ◌∙◌, ℕ, suc, ◌+◌, ◌-◌, ◌∷◌, List, Some, drop, length, refl, sym, ap, arith, slice_get, slice_get_read, drop-next}
 use Rattle.journal.specs.declared.row.Row.{Row}
 use Rattle.journal.specs.Rows.{all_entries, span_of}
 use Rattle.journal.proofs.Indexing.{entry-here, entry-later}

@@ -1,5 +1,4 @@
-use Rattle.std.proofs.Common.{◌≡◌, drop}
-use Rattle.std.specs.Prelude.{slice_get}
+use Rattle.bpf_model.proofs.Prelude.{◌≡◌, drop, slice_get}
 use Rattle.journal.specs.Rows.{all_entries}
 use Rattle.journal.proofs.finding.find_entry.Given as goal
 

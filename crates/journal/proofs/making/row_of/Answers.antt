@@ -1,4 +1,4 @@
-use Rattle.std.proofs.Common.{sym, subst}
+use Rattle.bpf_model.proofs.Prelude.{sym, subst}
 use Rattle.bpf_model.specs.declared.event.Event.{Event}
 use Rattle.journal.specs.declared.row.Row.TheVariants as rows
 use Rattle.journal.specs.Rows.{IsRowOf, entry_from}

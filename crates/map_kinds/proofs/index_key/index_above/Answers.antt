@@ -1,5 +1,4 @@
-use Rattle.std.proofs.Common.{refl}
-use Rattle.std.proofs.lemmas.Bool.{false≢true}
+use Rattle.bpf_model.proofs.Prelude.{refl, false≢true}
 use Rattle.map_kinds.proofs.IndexOrder.{least-first, least-second, least-third, none-left}
 use Rattle.map_kinds.proofs.index_key.index_above.Goals as goal
 

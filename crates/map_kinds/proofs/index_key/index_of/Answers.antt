@@ -1,8 +1,4 @@
-use Rattle.std.proofs.Common.{◌≡◌, ◌∙◌, sym, ap}
-use Rattle.std.specs.FinMap.{get}
-use Rattle.std.proofs.lemmas.Nat.{le_bytes_4}
-use Rattle.bpf_model.specs.MapState.{index_key}
-use Rattle.bpf_model.specs.View.{index_below}
+use Rattle.bpf_model.proofs.Prelude.{◌≡◌, ◌∙◌, sym, ap, get, le_bytes_4, index_key, index_below}
 use Rattle.model_laws.proofs.Indices.{index-gets, index-past, index-long}
 use Rattle.map_kinds.proofs.index_key.index_of.Goals as goal
 

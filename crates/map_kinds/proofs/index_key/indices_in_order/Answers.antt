@@ -1,8 +1,5 @@
-use Rattle.std.proofs.Common.{◌<◌, ◌≤◌, Some, None, arith, sym, subst}
-use Rattle.std.specs.Prelude.{IfSome, IfNone}
-use Rattle.bpf_model.specs.declared.limits.TheConstants.{MAX_ENTRIES}
-use Rattle.bpf_model.specs.MapState.{index_key}
-use Rattle.bpf_model.specs.View.{index_below}
+use Rattle.bpf_model.proofs.Prelude.{◌<◌, ◌≤◌, Some, None, arith, sym, subst, IfSome, IfNone, index_key, index_below}
+use Rattle.model_laws.proofs.Prelude.{MAX_ENTRIES}
 use Rattle.hash_index.specs.Order.{IsNextOf, NoneAbove}
 use Rattle.model_laws.proofs.Indices.{index-got}
 use Rattle.map_kinds.proofs.InOrder.{IsBegun, all-found, begun, fewer-left, goes-on, index-next}

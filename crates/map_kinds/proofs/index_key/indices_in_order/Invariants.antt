@@ -1,5 +1,4 @@
-use Rattle.bpf_model.specs.MapState.{index_key}
-use Rattle.bpf_model.specs.View.{index_below}
+use Rattle.bpf_model.proofs.Prelude.{index_key, index_below}
 use Rattle.map_kinds.proofs.InOrder.{IsBegun, left_from}
 use Rattle.map_kinds.proofs.index_key.indices_in_order.Given as goal
 

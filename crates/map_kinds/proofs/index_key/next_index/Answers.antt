@@ -1,8 +1,5 @@
-use Rattle.std.proofs.Common.{ℕ, List, Option, Some, None, [], sym, ap, subst}
-use Rattle.std.specs.Prelude.{IfSome, IfNone}
+use Rattle.bpf_model.proofs.Prelude.{ℕ, List, Option, Some, None, [], sym, ap, subst, IfSome, IfNone, index_key, index_below}
 use Rattle.std.specs.Option.{option_copied}
-use Rattle.bpf_model.specs.MapState.{index_key}
-use Rattle.bpf_model.specs.View.{index_below}
 use Rattle.hash_index.specs.Order.{NoneAbove, NoneBetween}
 use Rattle.map_kinds.proofs.IndexOrder.{between-any, above-any}
 use Rattle.map_kinds.proofs.index_key.next_index.Goals as goal

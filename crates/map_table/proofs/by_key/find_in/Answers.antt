@@ -1,8 +1,5 @@
-use Rattle.std.proofs.Common.{◌+◌, ◌++◌, [], refl, sym, ◌∙◌, subst, arith}
-use mathlib.Core.Logic.{dite}
-use native.Mathlib.Decide.{ℕ_discrete}
-use Rattle.map_table_laws.specs.Found.{IsLinkedUnder}
-use Rattle.map_table.specs.Hashes.{layout_of}
+use Rattle.map_table_laws.proofs.Prelude.{◌+◌, ◌++◌, [], refl, sym, ◌∙◌, subst, arith, dite, ℕ_discrete, IsLinkedUnder}
+use Rattle.map_table.proofs.Prelude.{layout_of}
 use Rattle.map_table.proofs.Going.{went_known, went_none, went_then}
 use Rattle.map_table.proofs.Filling.{went_me, went_shape}
 use Rattle.map_table.proofs.Keeping.{searches_quiet, same_word}

@@ -1,9 +1,5 @@
-use Rattle.std.proofs.Common.{◌≡◌, ℕ, ◌+◌, ◌<◌, ◌≤◌, ◌++◌, List}
-use Rattle.map_table_laws.specs.declared.moves.Move.{Move}
-use Rattle.map_table_laws.specs.Lookups.{OnlySearches}
-use Rattle.map_table_laws.specs.Found.{IsLinkedUnder}
-use Rattle.map_table.specs.Hashes.{layout_of}
-use Rattle.map_table.specs.Held.{Went}
+use Rattle.map_table_laws.proofs.Prelude.{◌≡◌, ℕ, ◌+◌, ◌<◌, ◌≤◌, ◌++◌, List, OnlySearches, IsLinkedUnder}
+use Rattle.map_table.proofs.Prelude.{Move, layout_of, Went}
 use Rattle.map_table.proofs.by_key.find_in.Given as goal
 
 abbrev pub invariant-loop-at : goal.invariant-loop-at

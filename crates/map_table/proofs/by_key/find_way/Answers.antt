@@ -1,6 +1,5 @@
-use Rattle.std.proofs.Common.{◌*◌, ◌++◌, refl, sym, ap, ◌∙◌}
-use Rattle.table_words.specs.declared.view.TableShape.{TableShape}
-use Rattle.map_table.specs.Hashes.{layout_of, first_bucket, second_bucket}
+use Rattle.map_table_laws.proofs.Prelude.{◌*◌, ◌++◌, refl, sym, ap, ◌∙◌}
+use Rattle.map_table.proofs.Prelude.{TableShape, layout_of, first_bucket, second_bucket}
 use Rattle.map_table.proofs.Going.{went_known, went_then}
 use Rattle.map_table.proofs.Filling.{went_me, went_shape}
 use Rattle.map_table.proofs.Keeping.{searches_quiet, same_word}

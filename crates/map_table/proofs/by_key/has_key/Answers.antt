@@ -1,11 +1,6 @@
-use Rattle.std.proofs.Common.{rules, ◌≡◌, ◌≢◌, ◌<◌, ◌≤◌, ◌∷◌, [], refl, sym, ap, ◌∙◌, subst, arith}
-use Rattle.std.specs.Prelude.{slice_index}
-use mathlib.Core.Logic.{dite}
-use native.Mathlib.Decide.{ℕ_discrete}
-use Rattle.map_table_laws.specs.declared.moves.Move.TheVariants.{Load}
-use Rattle.map_table_laws.specs.History.{word_at}
+use Rattle.map_table_laws.proofs.Prelude.{rules, ◌≡◌, ◌≢◌, ◌<◌, ◌≤◌, ◌∷◌, [], refl, sym, ap, ◌∙◌, subst, arith, slice_index, dite, ℕ_discrete, word_at}
+use Rattle.map_table.proofs.Prelude.{Load, layout_of}
 use Rattle.map_table_laws.proofs.Steps.{key_word, key_is}
-use Rattle.map_table.specs.Hashes.{layout_of}
 use Rattle.map_table.proofs.Going.{went_known, went_none, went_then}
 use Rattle.map_table.proofs.Filling.{went_me, went_shape}
 use Rattle.map_table.proofs.Peeking.{word_kept, false_true}

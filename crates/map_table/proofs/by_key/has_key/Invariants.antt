@@ -1,10 +1,5 @@
-use Rattle.std.proofs.Common.{◌≡◌, ℕ, ◌<◌, ◌++◌, List}
-use Rattle.std.specs.Prelude.{slice_index}
-use Rattle.map_table_laws.specs.declared.moves.Move.{Move}
-use Rattle.map_table_laws.specs.History.{word_at}
-use Rattle.map_table_laws.specs.Lookups.{OnlySearches}
-use Rattle.map_table.specs.Hashes.{layout_of}
-use Rattle.map_table.specs.Held.{Went}
+use Rattle.map_table_laws.proofs.Prelude.{◌≡◌, ℕ, ◌<◌, ◌++◌, List, slice_index, word_at, OnlySearches}
+use Rattle.map_table.proofs.Prelude.{Move, layout_of, Went}
 use Rattle.map_table.proofs.by_key.has_key.Given as goal
 
 abbrev pub invariant-loop-place : goal.invariant-loop-place

@@ -1,8 +1,5 @@
-use Rattle.std.proofs.Common.{◌≡◌, ◌++◌, List}
-use Rattle.map_table_laws.specs.declared.moves.Move.{Move}
-use Rattle.map_table_laws.specs.Lookups.{OnlySearches}
-use Rattle.map_table.specs.Hashes.{layout_of}
-use Rattle.map_table.specs.Held.{Went}
+use Rattle.map_table_laws.proofs.Prelude.{◌≡◌, ◌++◌, List, OnlySearches}
+use Rattle.map_table.proofs.Prelude.{Move, layout_of, Went}
 use Rattle.map_table.proofs.Doubled.{NoneYet}
 use Rattle.map_table.proofs.moving.find_move.Given as goal
 

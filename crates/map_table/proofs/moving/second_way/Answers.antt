@@ -1,8 +1,6 @@
-use Rattle.std.proofs.Common.{◌+◌, ◌*◌, ◌≤◌, ap, ◌∙◌, subst}
+use Rattle.map_table_laws.proofs.Prelude.{◌+◌, ◌*◌, ◌≤◌, ap, ◌∙◌, subst}
+use Rattle.map_table.proofs.Prelude.{TableShape, first_bucket, second_bucket, ways_of}
 use Rattle.std.proofs.lemmas.Option.{IfSome_then}
-use Rattle.table_words.specs.declared.view.TableShape.{TableShape}
-use Rattle.map_table.specs.Hashes.{first_bucket, second_bucket}
-use Rattle.map_table.specs.Law.{ways_of}
 use Rattle.map_table.proofs.Doubled.{low_named, second_found}
 use Rattle.map_table.proofs.Peeking.{named_within}
 use Rattle.map_table.proofs.moving.second_way.Goals as goal

@@ -1,8 +1,5 @@
-use Rattle.std.proofs.Common.{◌+◌, ◌*◌, ◌%◌, ◌^◌, ◌∷◌, [], refl, sym, ◌∙◌, subst, add-one}
-use Rattle.map_table_laws.specs.declared.moves.Move.TheVariants.{Load}
-use Rattle.table_words.specs.declared.view.TableShape.{TableShape}
-use Rattle.map_table.specs.Counting.{AddsUp}
-use Rattle.map_table.specs.Held.{Went}
+use Rattle.map_table_laws.proofs.Prelude.{◌+◌, ◌*◌, ◌%◌, ◌^◌, ◌∷◌, [], refl, sym, ◌∙◌, subst, add-one}
+use Rattle.map_table.proofs.Prelude.{Load, TableShape, AddsUp, Went}
 use Rattle.map_table.proofs.Going.{went_none, went_then}
 use Rattle.map_table.proofs.reading.add_up.Goals as goal
 

@@ -1,7 +1,5 @@
-use Rattle.std.proofs.Common.{◌≡◌, ◌+◌, ◌++◌, List}
-use Rattle.map_table_laws.specs.declared.moves.Move.{Move}
-use Rattle.map_table.specs.Counting.{AddsUp}
-use Rattle.map_table.specs.Held.{Went}
+use Rattle.map_table_laws.proofs.Prelude.{◌≡◌, ◌+◌, ◌++◌, List}
+use Rattle.map_table.proofs.Prelude.{Move, AddsUp, Went}
 use Rattle.map_table.proofs.reading.add_up.Given as goal
 
 abbrev pub invariant-loop-copy : goal.invariant-loop-copy

@@ -1,12 +1,8 @@
-use Rattle.std.proofs.Common.{rules, ◌≡◌, ◌<◌, ◌≤◌, ◌∷◌, [], refl, set, length, sym, ◌∙◌, subst, arith, get_or-set_other, get_or-set_same}
+use Rattle.map_table_laws.proofs.Prelude.{rules, ◌≡◌, ◌<◌, ◌≤◌, ◌∷◌, [], refl, set, length, sym, ◌∙◌, subst, arith, get_or-set_other, get_or-set_same}
+use Rattle.map_table_laws.proofs.Prelude.{slice_index, dite, ℕ_discrete, word_at}
+use Rattle.map_table.proofs.Prelude.{Load, layout_of}
 use Rattle.std.proofs.lemmas.List.{length-set}
-use Rattle.std.specs.Prelude.{slice_index}
-use mathlib.Core.Logic.{dite}
-use native.Mathlib.Decide.{ℕ_discrete}
-use Rattle.map_table_laws.specs.declared.moves.Move.TheVariants.{Load}
-use Rattle.map_table_laws.specs.History.{word_at}
 use Rattle.map_table_laws.proofs.Steps.{key_is}
-use Rattle.map_table.specs.Hashes.{layout_of}
 use Rattle.map_table.proofs.Going.{went_known, went_none, went_then}
 use Rattle.map_table.proofs.Filling.{went_me, went_shape}
 use Rattle.map_table.proofs.Peeking.{word_kept}

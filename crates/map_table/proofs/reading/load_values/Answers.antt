@@ -1,9 +1,6 @@
-use Rattle.std.proofs.Common.{rules, ◌≡◌, ◌+◌, ◌<◌, ◌≤◌, ◌∷◌, [], refl, length, ap, ◌∙◌, subst, arith}
+use Rattle.map_table_laws.proofs.Prelude.{rules, ◌≡◌, ◌+◌, ◌<◌, ◌≤◌, ◌∷◌, [], refl, length, ap, ◌∙◌, subst, arith}
+use Rattle.map_table.proofs.Prelude.{Load, TableShape, Reads, stored_of}
 use Rattle.std.proofs.lemmas.List.{length-set}
-use Rattle.map_table_laws.specs.declared.moves.Move.TheVariants.{Load}
-use Rattle.table_words.specs.declared.view.TableShape.{TableShape}
-use Rattle.map_table.specs.Reading.{Reads}
-use Rattle.map_table.specs.Values.{stored_of}
 use Rattle.map_table.proofs.Going.{went_none, went_then}
 use Rattle.map_table.proofs.Loading.{reads_more}
 use Rattle.map_table.proofs.reading.load_values.Goals as goal

@@ -1,7 +1,5 @@
-use Rattle.std.proofs.Common.{◌≡◌, ◌++◌, List, length}
-use Rattle.map_table_laws.specs.declared.moves.Move.{Move}
-use Rattle.map_table.specs.Held.{Went}
-use Rattle.map_table.specs.Reading.{OnlyLoads, Reads}
+use Rattle.map_table_laws.proofs.Prelude.{◌≡◌, ◌++◌, List, length}
+use Rattle.map_table.proofs.Prelude.{Move, Went, OnlyLoads, Reads}
 use Rattle.map_table.proofs.reading.load_values.Given as goal
 
 abbrev pub invariant-loop-place : goal.invariant-loop-place

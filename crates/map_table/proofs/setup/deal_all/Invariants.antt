@@ -1,7 +1,6 @@
-use Rattle.std.proofs.Common.{◌≡◌, ◌≤◌, [], vec_len, vec_capacity}
-use Rattle.std.specs.Prelude.{All}
-use Rattle.map_table.specs.Law.{writer_after}
-use Rattle.map_table.specs.Held.{AreInOrder, IsReady, IsNew}
+use Rattle.map_table_laws.proofs.Prelude.{◌≡◌, ◌≤◌, [], vec_len, vec_capacity, All}
+use Rattle.map_table.proofs.Prelude.{writer_after, IsReady}
+use Rattle.map_table.specs.Held.{AreInOrder, IsNew}
 use Rattle.map_table.proofs.setup.deal_all.Given as goal
 
 abbrev pub invariant-loop-reader : goal.invariant-loop-reader

@@ -1,5 +1,4 @@
-use Rattle.std.proofs.Common.{◌≡◌, ◌≤◌, vec_len, vec_capacity}
-use Rattle.std.specs.List.{range_with_len}
+use Rattle.map_table_laws.proofs.Prelude.{◌≡◌, ◌≤◌, vec_len, vec_capacity, range_with_len}
 use Rattle.map_table.proofs.setup.numbers.Given as goal
 
 abbrev pub invariant-loop-i : goal.invariant-loop-i

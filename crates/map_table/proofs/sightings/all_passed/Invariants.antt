@@ -1,5 +1,5 @@
-use Rattle.std.proofs.Common.{◌≡◌}
-use Rattle.map_table.specs.Sightings.{AreSightings}
+use Rattle.map_table_laws.proofs.Prelude.{◌≡◌}
+use Rattle.map_table.proofs.Prelude.{AreSightings}
 use Rattle.map_table.proofs.Passing.{FirstPassed}
 use Rattle.map_table.proofs.sightings.all_passed.Given as goal
 

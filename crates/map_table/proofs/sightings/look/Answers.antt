@@ -1,7 +1,5 @@
-use Rattle.std.proofs.Common.{◌+◌, ◌%◌, [], ◌∷◌, refl, inl, inr, arith}
-use mathlib.Core.Logic.{dite}
-use native.Mathlib.Decide.{ℕ_discrete}
-use Rattle.map_table_laws.specs.declared.moves.Move.TheVariants.{Scan}
+use Rattle.map_table_laws.proofs.Prelude.{◌+◌, ◌%◌, [], ◌∷◌, refl, inl, inr, arith, dite, ℕ_discrete}
+use Rattle.map_table.proofs.Prelude.{Scan}
 use Rattle.map_table_laws.proofs.Words.{odd_else}
 use Rattle.map_table.proofs.sightings.look.Goals as goal
 

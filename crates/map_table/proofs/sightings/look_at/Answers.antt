@@ -1,8 +1,5 @@
-use Rattle.std.proofs.Common.{◌≡◌, ◌<◌, sym, ap, ◌∙◌, subst, arith, length}
-use Rattle.std.proofs.lemmas.List.{get_or_default}
-use Rattle.table_words.specs.declared.view.TableShape.{TableShape}
-use Rattle.table_words.specs.declared.notes.Sighting.{Sighting}
-use Rattle.map_table.specs.Sightings.{no_sighting, sighting_at, IsNoted}
+use Rattle.map_table_laws.proofs.Prelude.{◌≡◌, ◌<◌, sym, ap, ◌∙◌, subst, arith, length, get_or_default}
+use Rattle.map_table.proofs.Prelude.{TableShape, Sighting, no_sighting, sighting_at, IsNoted}
 use Rattle.map_table.proofs.Seen.{set_here, sightings_looked}
 use Rattle.map_table.proofs.sightings.look_at.Goals as goal
 

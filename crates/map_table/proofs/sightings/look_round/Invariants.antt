@@ -1,8 +1,5 @@
-use Rattle.std.proofs.Common.{◌≡◌, ◌++◌, List, length}
-use Rattle.map_table_laws.specs.declared.moves.Move.{Move}
-use Rattle.map_table_laws.specs.Scanned.{ScansInTurn}
-use Rattle.map_table.specs.Held.{Went}
-use Rattle.map_table.specs.Sightings.{AreSightings}
+use Rattle.map_table_laws.proofs.Prelude.{◌≡◌, ◌++◌, List, length, ScansInTurn}
+use Rattle.map_table.proofs.Prelude.{Move, Went, AreSightings}
 use Rattle.map_table.proofs.Seen.{Looked}
 use Rattle.map_table.proofs.sightings.look_round.Given as goal
 

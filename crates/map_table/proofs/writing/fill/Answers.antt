@@ -1,7 +1,5 @@
-use Rattle.std.proofs.Common.{◌+◌, ◌∷◌, [], sym, ◌∙◌, subst, refl, add-one}
-use Rattle.std.specs.Prelude.{slice_index}
-use Rattle.map_table_laws.specs.declared.moves.Move.TheVariants.{Store}
-use Rattle.map_table.specs.Writing.{Fills}
+use Rattle.map_table_laws.proofs.Prelude.{◌+◌, ◌∷◌, [], sym, ◌∙◌, subst, refl, add-one, slice_index}
+use Rattle.map_table.proofs.Prelude.{Store, Fills}
 use Rattle.map_table.proofs.Going.{went_then}
 use Rattle.map_table.proofs.Filling.{filled_more}
 use Rattle.map_table.proofs.writing.fill.Goals as goal

@@ -1,9 +1,5 @@
-use Rattle.std.proofs.Common.{◌≡◌, ◌+◌, ◌<◌, ◌++◌, ℕ, List}
-use Rattle.std.specs.Prelude.{slice_index}
-use Rattle.map_table_laws.specs.declared.moves.Move.{Move}
-use Rattle.map_table_laws.specs.History.{word_at, IsSpare}
-use Rattle.map_table.specs.Held.{Went}
-use Rattle.map_table.specs.Writing.{Fills}
+use Rattle.map_table_laws.proofs.Prelude.{◌≡◌, ◌+◌, ◌<◌, ◌++◌, ℕ, List, slice_index, word_at, IsSpare}
+use Rattle.map_table.proofs.Prelude.{Move, Went, Fills}
 use Rattle.map_table.proofs.writing.fill.Given as goal
 
 abbrev pub invariant-loop-place : goal.invariant-loop-place

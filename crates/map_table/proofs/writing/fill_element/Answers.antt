@@ -1,7 +1,5 @@
-use Rattle.std.proofs.Common.{◌<◌, sym, subst}
-use Rattle.table_words.specs.declared.view.TableShape.{TableShape}
-use Rattle.map_table.specs.Values.{stored_of}
-use Rattle.map_table.specs.Writing.{Fills}
+use Rattle.map_table_laws.proofs.Prelude.{◌<◌, sym, subst}
+use Rattle.map_table.proofs.Prelude.{TableShape, stored_of, Fills}
 use Rattle.map_table.proofs.Going.{went_then}
 use Rattle.map_table.proofs.Filling.{filled_key}
 use Rattle.map_table.proofs.writing.fill_element.Goals as goal

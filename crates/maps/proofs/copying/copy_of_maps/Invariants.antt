@@ -1,4 +1,4 @@
-use Rattle.std.proofs.Common.{◌≡◌, take}
+use Rattle.bpf_model.proofs.Prelude.{◌≡◌, take}
 use Rattle.maps.proofs.copying.copy_of_maps.Given as goal
 
 abbrev pub invariant-loop-chosen : goal.invariant-loop-chosen

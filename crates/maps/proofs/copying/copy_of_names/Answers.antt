@@ -1,5 +1,5 @@
+use Rattle.bpf_model.proofs.Prelude.{string_bytes}
 use Rattle.std.proofs.Common.{Global}
-use Rattle.std.specs.Prelude.{string_bytes}
 use Rattle.maps.proofs.Names.{same_named, as_long}
 use Rattle.maps.proofs.copying.copy_of_names.Goals as goal
 

@@ -1,6 +1,5 @@
-use Rattle.std.proofs.Common.{◌≡◌, ◌∙◌, ap}
-use Rattle.std.specs.Prelude.{◌++◌, ◌∷◌, [], if◌then◌else◌, map, false, string_bytes, string_eq, bytes_eq}
-use Rattle.std.specs.List.{list_any}
+use Rattle.bpf_model.proofs.Prelude.{◌≡◌, ◌∙◌, ap, ◌++◌, ◌∷◌, [], if◌then◌else◌, map, false, string_bytes, bytes_eq, list_any}
+use Rattle.std.specs.Prelude.{string_eq}
 use Rattle.maps.proofs.Names.{any_named, added, one_longer}
 use Rattle.maps.proofs.registry.add_name.Goals as goal
 

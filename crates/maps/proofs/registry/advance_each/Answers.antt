@@ -1,9 +1,6 @@
-use Rattle.std.proofs.Common.{◌≡◌, ◌∙◌, ◌<◌, ap, sym, arith, length, get_or}
-use Rattle.std.specs.Prelude.{slice_set}
+use Rattle.bpf_model.proofs.Prelude.{◌≡◌, ◌∙◌, ◌<◌, ap, sym, arith, length, get_or, slice_set, slice_get-get_or, same_Some, MapView}
+use Rattle.model_laws.proofs.Prelude.{turned_view}
 use Rattle.std.proofs.lemmas.List.Edits.{map_over_more}
-use Rattle.std.proofs.lemmas.Option.{slice_get-get_or, same_Some}
-use Rattle.bpf_model.specs.View.{MapView}
-use Rattle.model_laws.specs.Views.{turned_view}
 use Rattle.maps.proofs.registry.advance_each.Goals as goal
 
 pub loop-chosen-preserved : goal.loop-chosen-preserved

@@ -1,6 +1,5 @@
-use Rattle.std.proofs.Common.{◌≡◌, ◌++◌, take, drop}
-use Rattle.std.specs.Prelude.{map}
-use Rattle.model_laws.specs.Views.{turned_view}
+use Rattle.bpf_model.proofs.Prelude.{◌≡◌, ◌++◌, take, drop, map}
+use Rattle.model_laws.proofs.Prelude.{turned_view}
 use Rattle.maps.proofs.registry.advance_each.Given as goal
 
 abbrev pub invariant-loop-chosen : goal.invariant-loop-chosen

@@ -1,7 +1,4 @@
-use Rattle.std.proofs.Common.{◌≡◌, ℕ, ◌<◌}
-use Rattle.std.specs.Prelude.{slice_get, Some}
-use Rattle.bpf_model.specs.Shapes.{IsShape}
-use Rattle.bpf_model.specs.View.{MapView}
+use Rattle.bpf_model.proofs.Prelude.{◌≡◌, ℕ, ◌<◌, slice_get, Some, IsShape, MapView}
 use Rattle.maps.proofs.registry.each_has_shape.Given as goal
 
 abbrev pub invariant-loop-map : goal.invariant-loop-map

@@ -1,5 +1,4 @@
-use Rattle.std.proofs.Common.{◌<◌, arith, length, get_or}
-use Rattle.std.proofs.lemmas.Option.{slice_get-get_or}
+use Rattle.bpf_model.proofs.Prelude.{◌<◌, arith, length, get_or, slice_get-get_or}
 use Rattle.maps.proofs.Picking.{picked}
 use Rattle.maps.proofs.registry.reap_first.Goals as goal
 

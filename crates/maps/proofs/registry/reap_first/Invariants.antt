@@ -1,4 +1,4 @@
-use Rattle.std.proofs.Common.{◌≡◌}
+use Rattle.bpf_model.proofs.Prelude.{◌≡◌}
 use Rattle.maps.proofs.Picking.{NoneReadyBefore}
 use Rattle.maps.proofs.registry.reap_first.Given as goal
 

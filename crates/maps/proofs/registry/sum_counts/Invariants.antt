@@ -1,5 +1,5 @@
-use Rattle.std.proofs.Common.{◌≡◌, ◌*◌, ◌≤◌, take, ◌+◌}
-use Rattle.bpf_model.specs.declared.limits.TheConstants.{MAX_ENTRIES, MAX_SPARE}
+use Rattle.bpf_model.proofs.Prelude.{◌≡◌, ◌*◌, ◌≤◌, take, ◌+◌}
+use Rattle.model_laws.proofs.Prelude.{MAX_ENTRIES, MAX_SPARE}
 use Rattle.map_kinds.specs.Counting.{counts_of_all}
 use Rattle.maps.proofs.registry.sum_counts.Given as goal
 

@@ -1,4 +1,4 @@
-use Rattle.std.proofs.Common.{ℕ, map}
+use Rattle.bpf_model.proofs.Prelude.{ℕ, map}
 use Rattle.arrayvec.specs.ArrayVec.{ArrayVec}
 use Rattle.program_files.proofs.ContextLists.{no_line}
 use Rattle.program_files.proofs.contexts.contexts_in_lines.Goals as goal

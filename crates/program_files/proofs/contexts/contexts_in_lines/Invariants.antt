@@ -1,4 +1,4 @@
-use Rattle.std.proofs.Common.{length, map}
+use Rattle.bpf_model.proofs.Prelude.{length, map}
 use Rattle.program_files.proofs.ContextLists.{AreReadTo}
 use Rattle.program_files.proofs.contexts.contexts_in_lines.Given as goal
 

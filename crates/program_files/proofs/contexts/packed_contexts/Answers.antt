@@ -1,6 +1,6 @@
-use Rattle.std.proofs.Common.{rules, ◌≡◌, ◌<◌, ◌+◌, ◌%◌, ◌++◌, ◌∷◌, [], ℕ, List, length, map, take, ap, arith, subst, sym, ◌∙◌}
+use Rattle.bpf_model.proofs.Prelude.{rules, ◌≡◌, ◌<◌, ◌+◌, ◌%◌, ◌++◌, ◌∷◌, [], ℕ, List, length, map, take, ap, arith, subst, sym, ◌∙◌, map-append}
+use Rattle.bpf_model.proofs.Prelude.{take-append-drop}
 use Rattle.std.proofs.Math.Nat.{add-mod_right}
-use Rattle.std.proofs.lemmas.List.{map-append, take-append-drop}
 use Rattle.arrayvec.specs.ArrayVec.{ArrayVec}
 use Rattle.program_files.specs.Contexts.{ArePacked}
 use Rattle.program_files.proofs.ContextLists.{context_read, one_is_left, packed_none, packed_whole, ArePackedTo}

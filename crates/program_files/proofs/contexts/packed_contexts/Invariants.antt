@@ -1,4 +1,4 @@
-use Rattle.std.proofs.Common.{length, map}
+use Rattle.bpf_model.proofs.Prelude.{length, map}
 use Rattle.program_files.proofs.ContextLists.{ArePackedTo}
 use Rattle.program_files.proofs.contexts.packed_contexts.Given as goal
 

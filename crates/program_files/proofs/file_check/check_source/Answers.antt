@@ -1,4 +1,4 @@
-use Rattle.std.proofs.lemmas.Result.{err_from_is_err_and}
+use Rattle.bpf_model.proofs.Prelude.{err_from_is_err_and}
 use Rattle.program_files.proofs.Shapes.{verifier_told}
 use Rattle.program_files.proofs.file_check.check_source.Goals as goal
 

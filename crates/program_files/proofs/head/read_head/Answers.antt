@@ -1,5 +1,4 @@
-use Rattle.std.proofs.Common.{rules}
-use Rattle.std.proofs.lemmas.Result.{err_from_is_err_and}
+use Rattle.bpf_model.proofs.Prelude.{rules, err_from_is_err_and}
 use Rattle.program_files.specs.Stages.{content_of}
 use Rattle.program_files.proofs.Heads.{head_fault, no_head}
 use Rattle.program_files.proofs.head.read_head.Goals as goal

@@ -1,4 +1,4 @@
-use Rattle.std.specs.Io.KnownBytes.{Consumes}
+use Rattle.bpf_model.proofs.Prelude.{Consumes}
 use Rattle.program_files.proofs.program_file.read_text.Given as goal
 
 abbrev pub invariant-loop : goal.invariant-loop

@@ -1,5 +1,5 @@
-use Rattle.std.proofs.Common.{◌++◌, ◌∷◌, [], List, ap, ◌∙◌, arith}
-use Rattle.bpf_model.specs.declared.limits.MapShape.{MapShape}
+use Rattle.bpf_model.proofs.Prelude.{◌++◌, ◌∷◌, [], List, ap, ◌∙◌, arith}
+use Rattle.model_laws.proofs.Prelude.{MapShape}
 use Rattle.program_files.proofs.Shapes.{shape_found, shape_missing}
 use Rattle.program_files.proofs.verified_file.shapes_of.Goals as goal
 use Rattle.program_files.proofs.verified_file.shapes_of.Goals.{in-Some+in_ok-push, in_default}

@@ -1,4 +1,4 @@
-use Rattle.std.proofs.Common.{◌≡◌, take, map}
+use Rattle.bpf_model.proofs.Prelude.{◌≡◌, take, map}
 use Rattle.program_files.proofs.verified_file.shapes_of.Given as goal
 
 abbrev pub invariant-loop-number : goal.invariant-loop-number

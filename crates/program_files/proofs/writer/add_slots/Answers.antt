@@ -1,5 +1,5 @@
-use Rattle.std.proofs.Common.{rules, flat_map}
-use Rattle.bpf_model.specs.Spelling.{slots_of}
+use Rattle.bpf_model.proofs.Prelude.{rules, slots_of}
+use Rattle.std.proofs.Common.{flat_map}
 use Rattle.program_files.proofs.SlotLines.{has_room, next_line, from_digits, all_written}
 use Rattle.program_files.proofs.writer.add_slots.Goals as goal
 

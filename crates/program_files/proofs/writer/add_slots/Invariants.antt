@@ -1,5 +1,5 @@
-use Rattle.std.proofs.Common.{length, flat_map}
-use Rattle.bpf_model.specs.Spelling.{slots_of}
+use Rattle.bpf_model.proofs.Prelude.{length, slots_of}
+use Rattle.std.proofs.Common.{flat_map}
 use Rattle.program_files.proofs.SlotLines.{IsWrittenTo}
 use Rattle.program_files.proofs.writer.add_slots.Given as goal
 

@@ -1,4 +1,4 @@
-use Rattle.std.proofs.Common.{sym, subst}
+use Rattle.bpf_model.proofs.Prelude.{sym, subst}
 use Rattle.std.proofs.lemmas.Result.{MatchResult-weaker}
 use Rattle.program_files.specs.Heads.{file_content}
 use Rattle.program_files.specs.ProgramFile.{FileSays}

@@ -1,4 +1,4 @@
-use Rattle.std.proofs.Common.{refl, ap, sym, subst, ◌∙◌}
+use Rattle.bpf_model.proofs.Prelude.{refl, ap, sym, subst, ◌∙◌}
 use Rattle.std.specs.Option.{option_copied}
 use Rattle.asm.specs.Faults.{statements_in}
 use Rattle.program_texts.specs.Assembled.{IsSplit}

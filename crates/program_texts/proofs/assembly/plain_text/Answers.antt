@@ -1,5 +1,4 @@
-use Rattle.std.proofs.Common.{◌≡◌, ◌∙◌, ap, subst, List, ℕ}
-use Rattle.std.specs.Prelude.{Result, Ok, IfOk, IfErr}
+use Rattle.bpf_model.proofs.Prelude.{◌≡◌, ◌∙◌, ap, subst, List, ℕ, Result, Ok, IfOk, IfErr}
 use Rattle.std.specs.Option.{option_copied}
 use Rattle.asm_source.specs.Faulty.{IsFaultOf}
 use Rattle.asm_source.specs.Maps.{index_in, maps_in, texts}

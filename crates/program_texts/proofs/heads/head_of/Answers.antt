@@ -1,5 +1,4 @@
-use Rattle.std.proofs.Common.{List, ℕ, Option, Bor, [], ◌∷◌, ◌++◌, ap, sym, subst, ◌∙◌}
-use Rattle.std.specs.Prelude.{IfErr, option_copied}
+use Rattle.bpf_model.proofs.Prelude.{List, ℕ, Option, Bor, [], ◌∷◌, ◌++◌, ap, sym, subst, ◌∙◌, IfErr, option_copied}
 use Rattle.program_files.specs.Heads.{HeadView, IsHeadFault}
 use Rattle.program_files.proofs.ContextLine.{none_is}
 use Rattle.program_texts.specs.Assembled.{IsSplit, head_or_none}

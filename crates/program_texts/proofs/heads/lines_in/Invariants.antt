@@ -1,5 +1,4 @@
-use Rattle.std.proofs.Common.{◌≡◌, ◌≤◌, take}
-use Rattle.std.specs.Prelude.{◌==◌, count_by}
+use Rattle.bpf_model.proofs.Prelude.{◌≡◌, ◌≤◌, take, ◌==◌, count_by}
 use Rattle.program_texts.proofs.heads.lines_in.Given as goal
 
 abbrev pub invariant-loop-byte : goal.invariant-loop-byte

@@ -1,6 +1,4 @@
-use Rattle.std.proofs.Common.{◌≡◌, ◌≢◌, ◌∙◌, ℕ, ◌<◌, ◌≤◌, List, ◌++◌, length, drop, None, Some, refl, ap, inl, inr, arith}
-use Rattle.std.proofs.Math.Seq.{drop-append_seam}
-use Rattle.std.proofs.lemmas.Bool.{cases_lt}
+use Rattle.bpf_model.proofs.Prelude.{◌≡◌, ◌≢◌, ◌∙◌, ℕ, ◌<◌, ◌≤◌, List, ◌++◌, length, drop, None, Some, refl, ap, inl, inr, arith, drop-append_seam, cases_lt}
 use Rattle.std.proofs.lemmas.Str.Pattern.{split_text_parts}
 use Rattle.program_texts.specs.Assembled.{code_line}
 use Rattle.program_texts.proofs.heads.parts_of.Goals as goal

@@ -1,6 +1,6 @@
-use Rattle.std.proofs.Common.{rules, ◌≢◌, sym, subst}
+use Rattle.bpf_model.proofs.Prelude.{rules, ◌≢◌, sym, subst}
+use Rattle.classic_program.proofs.Prelude.{IsListing}
 use Rattle.classic_program.specs.declared.fault.ReadFault.TheVariants as read_faults
-use Rattle.classic_program.specs.Reading.{IsListing}
 use Rattle.program_texts.proofs.translation.listed_in_text.Goals as goal
 
 pub returns-in-Err-read_listing : goal.returns-in-Err-read_listing

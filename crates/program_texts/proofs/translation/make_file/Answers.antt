@@ -1,4 +1,4 @@
-use Rattle.std.proofs.Common.{rules}
+use Rattle.bpf_model.proofs.Prelude.{rules}
 use Rattle.program_texts.proofs.translation.make_file.Goals as goal
 
 pub returns-clause-file : goal.returns-clause-file

@@ -1,8 +1,5 @@
-use Rattle.std.proofs.Common.{rules, ◌≡◌, ◌<◌, ◌++◌, sym, ◌∙◌, subst, arith, length, get_or, true, false}
-use mathlib.Core.Logic.{dite}
-use native.Mathlib.Decide.{ℕ_discrete}
-use Rattle.std.proofs.lemmas.List.{get_or_default}
-use Rattle.read_table.specs.Found.{IsLinkedUnder}
+use Rattle.bpf_model.proofs.Prelude.{rules, ◌≡◌, ◌<◌, ◌++◌, sym, ◌∙◌, subst, arith, length, get_or, true, false, dite, ℕ_discrete, get_or_default}
+use Rattle.read_table.proofs.Prelude.{IsLinkedUnder}
 use Rattle.read_table.proofs.Going.{went_known, went_then}
 use Rattle.read_table.proofs.Keeping.{quiet_linked, went_me, went_shape}
 use Rattle.read_table.proofs.Lookups.{only_append}

@@ -1,8 +1,6 @@
-use Rattle.std.proofs.Common.{◌≡◌, ℕ, ◌<◌, ◌++◌, List, get_or}
+use Rattle.bpf_model.proofs.Prelude.{◌≡◌, ℕ, ◌<◌, ◌++◌, List, get_or}
+use Rattle.read_table.proofs.Prelude.{IsLinkedUnder, Went, OnlySearches}
 use Rattle.read_table.specs.declared.view.Move.{Move}
-use Rattle.read_table.specs.Found.{IsLinkedUnder}
-use Rattle.read_table.specs.Held.{Went}
-use Rattle.read_table.specs.Lookups.{OnlySearches}
 use Rattle.read_table.proofs.by_key.find_in.Given as goal
 
 abbrev pub invariant-loop-at : goal.invariant-loop-at

@@ -1,9 +1,6 @@
-use Rattle.std.proofs.Common.{rules, ◌≡◌, ◌≢◌, ◌<◌, ◌≤◌, ◌∷◌, [], refl, sym, ap, ◌∙◌, subst, arith, Some, true, false}
-use mathlib.Core.Logic.{dite}
-use native.Mathlib.Decide.{ℕ_discrete}
+use Rattle.bpf_model.proofs.Prelude.{rules, ◌≡◌, ◌≢◌, ◌<◌, ◌≤◌, ◌∷◌, [], refl, sym, ap, ◌∙◌, subst, arith, Some, true, false, dite, ℕ_discrete}
+use Rattle.read_table.proofs.Prelude.{word_at_place, key_word}
 use Rattle.read_table.specs.declared.view.Move.TheVariants.{Load}
-use Rattle.read_table.specs.History.{word_at_place}
-use Rattle.read_table.specs.Lookups.{key_word}
 use Rattle.read_table.proofs.Going.{went_known, went_none, went_then}
 use Rattle.read_table.proofs.Keeping.{quiet_linked, went_me, went_shape}
 use Rattle.read_table.proofs.Lookups.{same_number}

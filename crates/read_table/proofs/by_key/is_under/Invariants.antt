@@ -1,8 +1,6 @@
-use Rattle.std.proofs.Common.{◌≡◌, ℕ, ◌<◌, ◌++◌, List, Some}
+use Rattle.bpf_model.proofs.Prelude.{◌≡◌, ℕ, ◌<◌, ◌++◌, List, Some}
+use Rattle.read_table.proofs.Prelude.{Went, word_at_place, key_word, OnlySearches}
 use Rattle.read_table.specs.declared.view.Move.{Move}
-use Rattle.read_table.specs.Held.{Went}
-use Rattle.read_table.specs.History.{word_at_place}
-use Rattle.read_table.specs.Lookups.{key_word, OnlySearches}
 use Rattle.read_table.proofs.by_key.is_under.Given as goal
 
 abbrev pub invariant-loop-place : goal.invariant-loop-place

@@ -1,5 +1,4 @@
-use Rattle.std.proofs.Common.{arith}
-use Rattle.std.proofs.lemmas.Option.{slice_get_within}
+use Rattle.bpf_model.proofs.Prelude.{arith, slice_get_within}
 use Rattle.machine.proofs.Places.{insn_there}
 use Rattle.read_table.proofs.run_laws.moves_below_length.Goals as goal
 

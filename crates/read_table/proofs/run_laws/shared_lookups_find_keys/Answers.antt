@@ -1,10 +1,7 @@
-use Rattle.std.proofs.Common.{◌≡◌, ℕ, ◌∙◌, sym, refl, subst, Option, Some, None}
-use Rattle.std.specs.Prelude.{option_map}
-use Rattle.bpf_model.specs.declared.value.Value.{Value}
-use Rattle.bpf_model.specs.declared.value.Value.TheVariants.{Number}
-use Rattle.bpf_model.specs.Request.{found_value}
-use Rattle.world_laws.specs.Around.{element_in_region}
-use Rattle.read_table.specs.Lookups.{AnswersLookup}
+use Rattle.bpf_model.proofs.Prelude.{◌≡◌, ℕ, ◌∙◌, sym, refl, subst, Option, Some, None, option_map, found_value}
+use Rattle.model_laws.proofs.Prelude.{Value, Number}
+use Rattle.read_table.proofs.Prelude.{AnswersLookup}
+use Rattle.world_laws.proofs.Prelude.{element_in_region}
 use Rattle.read_table.proofs.Finding.{never-null}
 use Rattle.read_table.proofs.run_laws.shared_lookups_find_keys.Goals as goal
 

@@ -1,5 +1,5 @@
+use Rattle.read_table.proofs.Prelude.{table_of}
 use Rattle.shared_runs.proofs.Steps.{moves}
-use Rattle.read_table.specs.Table.{table_of}
 use Rattle.read_table.proofs.run_laws.shared_run_moves.Goals as goal
 
 pub returns : goal.returns

@@ -1,5 +1,5 @@
+use Rattle.read_table.proofs.Prelude.{table_of}
 use Rattle.shared_runs.proofs.Steps.{standing}
-use Rattle.read_table.specs.Table.{table_of}
 use Rattle.read_table.proofs.run_laws.shared_run_stands.Goals as goal
 
 pub returns : goal.returns

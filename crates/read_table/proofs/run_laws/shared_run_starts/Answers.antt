@@ -1,10 +1,8 @@
-use Rattle.std.proofs.Common.{ℕ}
-use Rattle.std.proofs.lemmas.List.{length-replicate}
-use Rattle.bpf_model.specs.declared.limits.TheConstants.{FRAME_BYTES}
-use Rattle.model_laws.specs.Reactions.{fresh_view}
+use Rattle.bpf_model.proofs.Prelude.{ℕ, length-replicate}
+use Rattle.model_laws.proofs.Prelude.{FRAME_BYTES, fresh_view}
+use Rattle.read_table.proofs.Prelude.{table_of}
 use Rattle.shared_runs.proofs.Starting.{starts}
 use Rattle.shared_runs.proofs.Stores.{stores-uses}
-use Rattle.read_table.specs.Table.{table_of}
 use Rattle.read_table.proofs.Stretches.{is_table}
 use Rattle.read_table.proofs.run_laws.shared_run_starts.Goals as goal
 

@@ -1,7 +1,6 @@
-use Rattle.std.proofs.Common.{◌≡◌, ◌≤◌, [], vec_len, vec_capacity}
-use Rattle.std.specs.Prelude.{All}
-use Rattle.read_table.specs.Law.{writer_after}
-use Rattle.read_table.specs.Held.{AreInOrder, IsReady, IsNew}
+use Rattle.bpf_model.proofs.Prelude.{◌≡◌, ◌≤◌, [], vec_len, vec_capacity, All}
+use Rattle.read_table.proofs.Prelude.{writer_after, IsReady}
+use Rattle.read_table.specs.Held.{AreInOrder, IsNew}
 use Rattle.read_table.proofs.setup.deal_all.Given as goal
 
 abbrev pub invariant-loop-reader : goal.invariant-loop-reader

@@ -1,4 +1,4 @@
-use Rattle.std.proofs.Common.{◌≡◌, ℕ, ◌≤◌, vec_len, vec_capacity, slice_index_or}
+use Rattle.bpf_model.proofs.Prelude.{◌≡◌, ℕ, ◌≤◌, vec_len, vec_capacity, slice_index_or}
 use Rattle.read_table.proofs.setup.zeros.Given as goal
 
 abbrev pub invariant-loop : goal.invariant-loop

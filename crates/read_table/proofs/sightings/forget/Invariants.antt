@@ -1,6 +1,5 @@
-use Rattle.std.proofs.Common.{◌≡◌, ◌≢◌, ℕ, ◌<◌, length, false}
-use Rattle.read_table.specs.Limits.{most_readers, most_table_slots}
-use Rattle.read_table.specs.Sightings.{noted}
+use Rattle.bpf_model.proofs.Prelude.{◌≡◌, ◌≢◌, ℕ, ◌<◌, length, false}
+use Rattle.read_table.proofs.Prelude.{most_readers, most_table_slots, noted}
 use Rattle.read_table.proofs.sightings.forget.Given as goal
 
 abbrev pub invariant-loop-reader : goal.invariant-loop-reader

@@ -1,4 +1,4 @@
-use Rattle.std.proofs.Common.{◌≡◌, ℕ, ◌≤◌, get_or, false, vec_len, vec_capacity}
+use Rattle.bpf_model.proofs.Prelude.{◌≡◌, ℕ, ◌≤◌, get_or, false, vec_len, vec_capacity}
 use Rattle.read_table.proofs.sightings.no_sightings.Given as goal
 
 abbrev pub invariant-loop : goal.invariant-loop

@@ -1,6 +1,5 @@
-use Rattle.std.proofs.Common.{◌≡◌, ◌≢◌, ℕ, ◌<◌, length, true}
-use Rattle.read_table.specs.Limits.{most_readers, most_table_slots}
-use Rattle.read_table.specs.Sightings.{noted}
+use Rattle.bpf_model.proofs.Prelude.{◌≡◌, ◌≢◌, ℕ, ◌<◌, length, true}
+use Rattle.read_table.proofs.Prelude.{most_readers, most_table_slots, noted}
 use Rattle.read_table.proofs.sightings.note.Given as goal
 
 abbrev pub invariant-loop-slot : goal.invariant-loop-slot

@@ -1,4 +1,4 @@
-use Rattle.std.proofs.Common.{rules, sym, ap, ◌∙◌, ◌+◌, ◌++◌, ◌∷◌, []}
+use Rattle.bpf_model.proofs.Prelude.{rules, sym, ap, ◌∙◌, ◌+◌, ◌++◌, ◌∷◌, []}
 use Rattle.read_table.proofs.Slots.{range_more}
 use Rattle.read_table.proofs.writer.numbers.Goals as goal
 

@@ -1,5 +1,4 @@
-use Rattle.std.proofs.Common.{◌≡◌, ◌≤◌, vec_len, vec_capacity}
-use Rattle.std.specs.List.{range_with_len}
+use Rattle.bpf_model.proofs.Prelude.{◌≡◌, ◌≤◌, vec_len, vec_capacity, range_with_len}
 use Rattle.read_table.proofs.writer.numbers.Given as goal
 
 abbrev pub invariant-loop-i : goal.invariant-loop-i

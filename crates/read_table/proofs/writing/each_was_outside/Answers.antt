@@ -1,7 +1,5 @@
-use Rattle.std.proofs.Common.{rules, ◌≡◌, ◌+◌, ◌≤◌, ◌++◌, sym, ap, ◌∙◌, subst, arith, append_assoc, Bool}
-use Rattle.std.specs.Prelude.{MatchBool, ◌&&◌}
-use Rattle.read_table.specs.History.{Cleared}
-use Rattle.read_table.specs.Sightings.{FoundInside, ScansInTurn, Tells}
+use Rattle.bpf_model.proofs.Prelude.{rules, ◌≡◌, ◌+◌, ◌≤◌, ◌++◌, sym, ap, ◌∙◌, subst, arith, append_assoc, Bool, MatchBool, ◌&&◌}
+use Rattle.read_table.proofs.Prelude.{Cleared, FoundInside, ScansInTurn, Tells}
 use Rattle.read_table.proofs.Going.{went_mine, went_then}
 use Rattle.read_table.proofs.Seen.{scans_append, tells_more}
 use Rattle.read_table.proofs.writing.each_was_outside.Goals as goal

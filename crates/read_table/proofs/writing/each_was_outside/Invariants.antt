@@ -1,7 +1,6 @@
-use Rattle.std.proofs.Common.{◌≡◌, ◌++◌, List}
+use Rattle.bpf_model.proofs.Prelude.{◌≡◌, ◌++◌, List}
+use Rattle.read_table.proofs.Prelude.{Went, AreSightings, ScansInTurn, Tells}
 use Rattle.read_table.specs.declared.view.Move.{Move}
-use Rattle.read_table.specs.Held.{Went}
-use Rattle.read_table.specs.Sightings.{AreSightings, ScansInTurn, Tells}
 use Rattle.read_table.proofs.writing.each_was_outside.Given as goal
 
 abbrev pub invariant-loop-reader : goal.invariant-loop-reader

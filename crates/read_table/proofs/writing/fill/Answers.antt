@@ -1,6 +1,6 @@
-use Rattle.std.proofs.Common.{◌+◌, ◌∷◌, [], sym, ◌∙◌, subst, refl, add-one}
+use Rattle.bpf_model.proofs.Prelude.{◌+◌, ◌∷◌, [], sym, ◌∙◌, subst, refl, add-one}
+use Rattle.read_table.proofs.Prelude.{Fills}
 use Rattle.read_table.specs.declared.view.Move.TheVariants.{Store}
-use Rattle.read_table.specs.Slots.{Fills}
 use Rattle.read_table.proofs.Going.{went_then}
 use Rattle.read_table.proofs.Keeping.{fills_quiet, quiet_free}
 use Rattle.read_table.proofs.writing.fill.Goals as goal

@@ -1,7 +1,6 @@
-use Rattle.std.proofs.Common.{◌≡◌, ◌++◌, List}
+use Rattle.bpf_model.proofs.Prelude.{◌≡◌, ◌++◌, List}
+use Rattle.read_table.proofs.Prelude.{Went, Fills}
 use Rattle.read_table.specs.declared.view.Move.{Move}
-use Rattle.read_table.specs.Held.{Went}
-use Rattle.read_table.specs.Slots.{Fills}
 use Rattle.read_table.proofs.writing.fill.Given as goal
 
 abbrev pub invariant-loop-place : goal.invariant-loop-place

@@ -1,4 +1,4 @@
-use Rattle.std.proofs.Common.{◌≢◌, ℕ, ◌<◌, slice_index_or}
+use Rattle.bpf_model.proofs.Prelude.{◌≢◌, ℕ, ◌<◌, slice_index_or}
 use Rattle.read_table.proofs.writing.position_of.Given as goal
 
 abbrev pub invariant-loop-at : goal.invariant-loop-at

@@ -1,5 +1,5 @@
-use Rattle.std.proofs.Common.{rules, ◌<◌, length, sym, subst}
-use Rattle.read_table.specs.Slots.{Leaves}
+use Rattle.bpf_model.proofs.Prelude.{rules, ◌<◌, length, sym, subst}
+use Rattle.read_table.proofs.Prelude.{Leaves}
 use Rattle.read_table.proofs.Slots.{leaves_remove}
 use Rattle.read_table.proofs.writing.take_nearest.Goals as goal
 

@@ -1,7 +1,7 @@
-use Rattle.std.proofs.Common.{rules, ◌≡◌, ◌≢◌, ◌+◌, ◌<◌, ◌∷◌, [], refl, sym, ◌∙◌, subst, inl, ⊎_elim, arith}
+use Rattle.bpf_model.proofs.Prelude.{rules, ◌≡◌, ◌≢◌, ◌+◌, ◌<◌, ◌∷◌, [], refl, sym, ◌∙◌, subst, inl, ⊎_elim, arith}
+use Rattle.read_table.proofs.Prelude.{Went}
 use Rattle.read_table.specs.declared.view.TableShape.{TableShape}
 use Rattle.read_table.specs.declared.view.Move.TheVariants.{Scan}
-use Rattle.read_table.specs.Held.{Went}
 use Rattle.read_table.proofs.Going.{went_none}
 use Rattle.read_table.proofs.Seen.{note_read, true-false}
 use Rattle.read_table.proofs.writing.was_outside.Goals as goal

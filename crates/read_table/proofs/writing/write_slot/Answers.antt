@@ -1,6 +1,6 @@
-use Rattle.std.proofs.Common.{subst}
+use Rattle.bpf_model.proofs.Prelude.{subst}
+use Rattle.read_table.proofs.Prelude.{Fills}
 use Rattle.read_table.specs.declared.view.TableShape.{TableShape}
-use Rattle.read_table.specs.Slots.{Fills}
 use Rattle.read_table.proofs.Going.{went_then}
 use Rattle.read_table.proofs.Keeping.{fills_quiet, quiet_free}
 use Rattle.read_table.proofs.writing.write_slot.Goals as goal

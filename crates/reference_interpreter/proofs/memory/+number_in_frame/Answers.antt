@@ -1,5 +1,4 @@
-use Rattle.std.proofs.Common.{◌∙◌, ap, sym, arith}
-use Rattle.bpf_model.specs.Frame.{byte_of}
+use Rattle.bpf_model.proofs.Prelude.{◌∙◌, ap, sym, arith, byte_of}
 use Rattle.reference_interpreter.specs.Plain.{cells_of}
 use Rattle.reference_interpreter.proofs.Numbers.{number_step}
 use Rattle.reference_interpreter.proofs.memory.+number_in_frame.Goals as goal

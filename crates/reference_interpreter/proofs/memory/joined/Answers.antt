@@ -1,4 +1,4 @@
-use Rattle.std.proofs.Common.{arith}
+use Rattle.bpf_model.proofs.Prelude.{arith}
 use Rattle.reference_interpreter.proofs.Numbers.{pow_step, pow_top}
 use Rattle.reference_interpreter.proofs.memory.joined.Goals as goal
 

@@ -1,4 +1,4 @@
-use Rattle.std.proofs.Common.{◌∙◌, ◌+◌, ◌-◌, ◌%◌, ◌/◌, ◌^◌, ◌≡◌, ℕ, ap, arith}
+use Rattle.bpf_model.proofs.Prelude.{◌∙◌, ◌+◌, ◌-◌, ◌%◌, ◌/◌, ◌^◌, ◌≡◌, ℕ, ap, arith}
 use Rattle.bpf_model.specs.declared.value.Cell.TheVariants.{Byte}
 use Rattle.reference_interpreter.proofs.Numbers.{div_step}
 use Rattle.reference_interpreter.proofs.Laws.{cells_more}

@@ -1,5 +1,4 @@
-use Rattle.std.proofs.Common.{◌≡◌, ℕ, ◌-◌, if◌then◌else◌}
-use Rattle.bpf_model.specs.Frame.{is_within}
+use Rattle.bpf_model.proofs.Prelude.{◌≡◌, ℕ, ◌-◌, if◌then◌else◌, is_within}
 use Rattle.bpf_model.specs.declared.value.Cell.TheVariants.{Part}
 use Rattle.reference_interpreter.specs.Plain.{cells_of}
 use Rattle.reference_interpreter.proofs.memory.write_reference.Given as goal

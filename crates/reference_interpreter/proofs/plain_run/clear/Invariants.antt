@@ -1,4 +1,4 @@
-use Rattle.std.proofs.Common.{◌≡◌, ℕ, ◌<◌}
+use Rattle.bpf_model.proofs.Prelude.{◌≡◌, ℕ, ◌<◌}
 use Rattle.bpf_model.specs.declared.value.Cell.TheVariants.{Unwritten}
 use Rattle.reference_interpreter.specs.Plain.{cells_of}
 use Rattle.reference_interpreter.proofs.plain_run.clear.Given as goal

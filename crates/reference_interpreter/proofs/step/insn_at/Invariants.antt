@@ -1,5 +1,4 @@
-use Rattle.std.proofs.Common.{◌≡◌, drop}
-use Rattle.bpf_model.specs.Step.{insn_at}
+use Rattle.bpf_model.proofs.Prelude.{◌≡◌, drop, insn_at}
 use Rattle.reference_interpreter.proofs.step.insn_at.Given as goal
 
 abbrev pub invariant-loop-insn : goal.invariant-loop-insn

@@ -1,4 +1,4 @@
-use Rattle.std.proofs.Common.{◌∙◌, sym}
+use Rattle.bpf_model.proofs.Prelude.{◌∙◌, sym}
 use Rattle.reference_interpreter.proofs.Laws.{far_moved}
 use Rattle.reference_interpreter.proofs.value.at_offset.Goals as goal
 

@@ -1,6 +1,5 @@
-use Rattle.std.proofs.Common.{subst, sym}
+use Rattle.bpf_model.proofs.Prelude.{subst, sym, computed}
 use Rattle.bpf_model.specs.declared.opcode.Size.TheVariants.{Word32}
-use Rattle.bpf_model.specs.Operand.{computed}
 use Rattle.reference_interpreter.specs.Plain.{IsComputed}
 use Rattle.reference_interpreter.proofs.value.compute.Goals as goal
 

@@ -1,9 +1,4 @@
-use Rattle.std.proofs.Common.{rules, ◌∙◌, sym, subst}
-use Rattle.std.specs.Prelude.{pos, ◌+ℤ◌, ◌-ℤ◌}
-use Rattle.std.specs.Int.{w64}
-use Rattle.std.proofs.lemmas.Int.{to_z-of_z}
-use mir.Val.{SFits}
-use Rattle.bpf_model.specs.Arithmetic.{signed}
+use Rattle.bpf_model.proofs.Prelude.{rules, ◌∙◌, sym, subst, pos, ◌+ℤ◌, ◌-ℤ◌, w64, to_z-of_z, SFits, signed}
 use Rattle.reference_interpreter.specs.Plain.{IsSum}
 use Rattle.reference_interpreter.proofs.Laws.{difference_known}
 use Rattle.reference_interpreter.proofs.value.difference.Goals as goal

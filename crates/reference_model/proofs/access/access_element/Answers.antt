@@ -1,9 +1,5 @@
-use Rattle.std.proofs.Common.{rules, ◌≡◌, Some, sym, subst}
-use Rattle.std.specs.Int.{w16, w64}
-use Rattle.std.proofs.lemmas.Int.{to_z-of_z}
-use mir.Val.{SFits}
+use Rattle.bpf_model.proofs.Prelude.{rules, ◌≡◌, Some, sym, subst, w16, w64, to_z-of_z, SFits, environment_of}
 use Rattle.reference_interpreter.specs.Plain.{plain_state_of}
-use Rattle.bpf_model.specs.Step.{environment_of}
 use Rattle.reference_store.specs.State.{elements_of}
 use Rattle.reference_model.specs.Acting.{base_element, ActsAs}
 use Rattle.reference_model.proofs.Acting.{loaded-acts, extended-acts}

@@ -1,6 +1,4 @@
-use Rattle.std.proofs.Common.{◌+◌, sym, ◌∙◌, ap, arith}
-use Rattle.std.specs.Prelude.{◌-◌}
-use Rattle.bpf_model.specs.Frame.{bytes_at}
+use Rattle.bpf_model.proofs.Prelude.{◌+◌, sym, ◌∙◌, ap, arith, ◌-◌, bytes_at}
 use Rattle.reference_interpreter.specs.Plain.{plain_state_of}
 use Rattle.reference_model.proofs.Bytes.{bytes-next, bytes-stuck, bytes-end, bytes-begin, with_front}
 use Rattle.reference_model.proofs.call.bytes_at.Goals as goal

@@ -1,6 +1,4 @@
-use Rattle.std.specs.Int.{w32}
-use Rattle.std.proofs.lemmas.Int.{to_z-of_z}
-use mir.Val.{SFits}
+use Rattle.bpf_model.proofs.Prelude.{w32, to_z-of_z, SFits}
 use Rattle.reference_model.specs.RunState.{loaded_of}
 use Rattle.reference_store.proofs.Telling.{tells-map}
 use Rattle.reference_model.proofs.call.call_helper.Goals as goal

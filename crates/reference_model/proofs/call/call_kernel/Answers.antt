@@ -1,7 +1,4 @@
-use Rattle.std.proofs.Common.{Some, sym, ap, ◌∙◌, subst}
-use Rattle.std.specs.Int.{w32}
-use Rattle.std.proofs.lemmas.Int.{to_z-of_z}
-use mir.Val.{SFits}
+use Rattle.bpf_model.proofs.Prelude.{Some, sym, ap, ◌∙◌, subst, w32, to_z-of_z, SFits}
 use Rattle.reference_model.specs.RunState.{run_with}
 use Rattle.reference_model.specs.Acting.{KernelsAs}
 use Rattle.reference_model.proofs.call.call_kernel.Goals as goal

@@ -1,10 +1,5 @@
-use Rattle.std.proofs.Common.{Some, refl, sym, ap, ◌∙◌, subst}
-use Rattle.std.specs.Int.{w32}
-use Rattle.std.proofs.lemmas.Int.{to_z-of_z}
-use mir.Val.{SFits}
-use Rattle.bpf_model.specs.declared.value.Value.{Value}
-use Rattle.bpf_model.specs.MapState.{Store}
-use Rattle.model_laws.specs.ByKind.{HelperStep}
+use Rattle.bpf_model.proofs.Prelude.{Some, refl, sym, ap, ◌∙◌, subst, w32, to_z-of_z, SFits, Store}
+use Rattle.model_laws.proofs.Prelude.{Value, HelperStep}
 use Rattle.reference_store.specs.State.{store_of, sections_of}
 use Rattle.reference_model.specs.RunState.{run_with, loaded_of}
 use Rattle.reference_store.specs.Telling.{TellsResult}

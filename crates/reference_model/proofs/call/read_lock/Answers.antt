@@ -1,7 +1,5 @@
-use Rattle.std.proofs.Common.{◌+◌, ℕ, ap, ◌∙◌, arith}
-use Rattle.bpf_model.specs.declared.value.Value.TheVariants.{Nothing}
-use Rattle.bpf_model.specs.Machine.{Run, moves}
-use Rattle.bpf_model.specs.Step.{returns}
+use Rattle.bpf_model.proofs.Prelude.{◌+◌, ℕ, ap, ◌∙◌, arith, Run, moves, returns}
+use Rattle.model_laws.proofs.Prelude.{Nothing}
 use Rattle.reference_interpreter.specs.Plain.{plain_state_of}
 use Rattle.reference_store.proofs.Telling.{tells-map}
 use Rattle.reference_model.proofs.call.read_lock.Goals as goal

@@ -1,4 +1,4 @@
-use Rattle.std.proofs.Common.{arith}
+use Rattle.bpf_model.proofs.Prelude.{arith}
 use Rattle.reference_store.proofs.Telling.{tells-map}
 use Rattle.reference_model.proofs.call.read_unlock.Goals as goal
 

@@ -1,8 +1,5 @@
-use Rattle.std.proofs.Common.{◌≡◌, Some, sym, ap, ◌∙◌}
-use Rattle.bpf_model.specs.declared.value.Value.TheVariants.{Number}
-use Rattle.bpf_model.specs.Value.{◌>>=◌, number}
-use Rattle.bpf_model.specs.Frame.{frame_bytes}
-use Rattle.model_laws.specs.ByKind.{value_argument}
+use Rattle.bpf_model.proofs.Prelude.{◌≡◌, Some, sym, ap, ◌∙◌, ◌>>=◌, number, frame_bytes}
+use Rattle.model_laws.proofs.Prelude.{Number, value_argument}
 use Rattle.reference_store.specs.State.{store_of}
 use Rattle.reference_model.specs.RunState.{run_with, loaded_of}
 use Rattle.reference_model.proofs.Stores.{shape-within}

@@ -1,8 +1,5 @@
-use Rattle.std.proofs.Common.{◌<◌, ◌++◌, ◌∷◌, [], length, sym, ap, ◌∙◌, arith, inl, inr, false}
-use Rattle.std.specs.Prelude.{drop, ◌+◌, slice_index_or}
-use Rattle.std.proofs.lemmas.Option.{slice_get-get_or}
-use Rattle.std.proofs.lemmas.Bool.{cases_lt}
-use Rattle.bpf_model.specs.Schedule.{still_open}
+use Rattle.bpf_model.proofs.Prelude.{◌<◌, ◌++◌, ◌∷◌, [], length, sym, ap, ◌∙◌, arith, inl, inr, false, drop, ◌+◌, slice_index_or, slice_get-get_or, cases_lt}
+use Rattle.bpf_model.proofs.Prelude.{still_open}
 use Rattle.reference_model.proofs.Flags.{flags-more, flags-first, flags-second}
 use Rattle.reference_model.proofs.grace.still_open.Goals as goal
 

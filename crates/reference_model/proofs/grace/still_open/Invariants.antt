@@ -1,6 +1,4 @@
-use Rattle.std.proofs.Common.{◌≡◌, ◌++◌}
-use Rattle.std.specs.Prelude.{drop}
-use Rattle.bpf_model.specs.Schedule.{still_open}
+use Rattle.bpf_model.proofs.Prelude.{◌≡◌, ◌++◌, drop, still_open}
 use Rattle.reference_model.proofs.grace.still_open.Given as goal
 
 abbrev pub invariant-loop-r : goal.invariant-loop-r

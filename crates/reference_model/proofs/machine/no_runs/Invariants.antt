@@ -1,5 +1,4 @@
-use Rattle.std.proofs.Common.{◌≡◌, None}
-use Rattle.std.specs.Prelude.{replicate}
+use Rattle.bpf_model.proofs.Prelude.{◌≡◌, None, replicate}
 use Rattle.reference_model.proofs.machine.no_runs.Given as goal
 
 abbrev pub invariant-loop : goal.invariant-loop

@@ -1,5 +1,4 @@
-use Rattle.std.proofs.Common.{◌≡◌, false}
-use Rattle.std.specs.Prelude.{replicate}
+use Rattle.bpf_model.proofs.Prelude.{◌≡◌, false, replicate}
 use Rattle.reference_model.proofs.machine.none_awaited.Given as goal
 
 abbrev pub invariant-loop : goal.invariant-loop

@@ -1,8 +1,5 @@
-use Rattle.std.proofs.Common.{◌≡◌, ◌+◌, Some, sym, ap, ◌∙◌, arith, true, false, length, refl}
-use Rattle.std.specs.Prelude.{is_some, not}
-use Rattle.bpf_model.specs.Machine.{lowest_free}
+use Rattle.bpf_model.proofs.Prelude.{◌≡◌, ◌+◌, Some, sym, ap, ◌∙◌, arith, true, false, length, refl, is_some, not, lowest_free, slice_get_read}
 use Rattle.reference_model.specs.RunState.{runs_of}
-use Rattle.std.proofs.lemmas.Option.{slice_get_read}
 use Rattle.reference_model.proofs.BySlot.{later, later-none, lowest-here, lowest-later, lowest-past}
 use Rattle.reference_model.proofs.run_slots.lowest_free.Goals as goal
 

@@ -1,5 +1,4 @@
-use Rattle.std.proofs.Common.{◌≡◌, List}
-use Rattle.bpf_model.specs.Machine.{lowest_free}
+use Rattle.bpf_model.proofs.Prelude.{◌≡◌, List, lowest_free}
 use Rattle.reference_model.specs.RunState.{runs_of}
 use Rattle.reference_model.specs.declared.run.Loaded.{Loaded}
 use Rattle.reference_model.proofs.BySlot.{later, lowest_from}

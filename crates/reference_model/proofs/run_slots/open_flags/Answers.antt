@@ -1,13 +1,9 @@
-use Rattle.std.proofs.Common.{◌≡◌, ◌++◌, ◌∷◌, [], Some, map, sym, ap, ◌∙◌, arith, length, refl}
-use Rattle.std.specs.Prelude.{slice_get, drop, ◌+◌}
+use Rattle.bpf_model.proofs.Prelude.{◌≡◌, ◌++◌, ◌∷◌, [], Some, map, sym, ap, ◌∙◌, arith, length, refl, slice_get, drop, ◌+◌, length-map, is_open}
+use Rattle.bpf_model.proofs.Prelude.{slice_get_read, get-map}
 use Rattle.std.specs.Option.{option_map}
-use Rattle.std.proofs.lemmas.List.{length-map}
-use Rattle.bpf_model.specs.Schedule.{is_open}
 use Rattle.reference_model.specs.RunState.{runs_of, run_of}
-use Rattle.std.proofs.lemmas.Option.{slice_get_read}
 use Rattle.reference_store.proofs.Lists.{mapped-more, mapped-all}
 use Rattle.reference_model.proofs.run_slots.open_flags.Goals as goal
-use Rattle.bpf_model.proofs.Lists.{get-map}
 
 pub loop-r-preserved : goal.loop-r-preserved
 loop-r-preserved c = λ programs.

@@ -1,6 +1,4 @@
-use Rattle.std.proofs.Common.{◌≡◌, ◌++◌, List, map}
-use Rattle.std.specs.Prelude.{drop}
-use Rattle.bpf_model.specs.Schedule.{is_open, open_flags}
+use Rattle.bpf_model.proofs.Prelude.{◌≡◌, ◌++◌, List, map, drop, is_open, open_flags}
 use Rattle.reference_model.specs.declared.run.Loaded.{Loaded}
 use Rattle.reference_model.specs.RunState.{runs_of}
 use Rattle.reference_model.proofs.run_slots.open_flags.Given as goal

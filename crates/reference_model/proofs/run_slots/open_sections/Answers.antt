@@ -1,8 +1,5 @@
-use Rattle.std.proofs.Common.{◌++◌, [], ◌∷◌, ap, ◌∙◌, arith, length, refl}
-use Rattle.std.proofs.lemmas.List.{take_all}
+use Rattle.bpf_model.proofs.Prelude.{◌++◌, [], ◌∷◌, ap, ◌∙◌, arith, length, refl, take_all, open_sections, slice_get_read}
 use Rattle.std.specs.Option.{option_map}
-use Rattle.bpf_model.specs.Machine.{open_sections}
-use Rattle.std.proofs.lemmas.Option.{slice_get_read}
 use Rattle.reference_model.specs.RunState.{run_of, runs_of}
 use Rattle.reference_model.proofs.BySlot.{open-more}
 use Rattle.reference_model.proofs.run_slots.open_sections.Goals as goal

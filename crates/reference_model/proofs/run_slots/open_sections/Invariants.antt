@@ -1,6 +1,4 @@
-use Rattle.std.proofs.Common.{◌≡◌, List}
-use Rattle.std.specs.Prelude.{take}
-use Rattle.bpf_model.specs.Machine.{open_sections}
+use Rattle.bpf_model.proofs.Prelude.{◌≡◌, List, take, open_sections}
 use Rattle.reference_store.specs.State.{sections_of}
 use Rattle.reference_model.specs.RunState.{runs_of}
 use Rattle.reference_model.specs.declared.run.Loaded.{Loaded}

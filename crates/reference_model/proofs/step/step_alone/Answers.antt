@@ -1,8 +1,7 @@
-use Rattle.std.proofs.Common.{rules, ◌≡◌, sym, ap, ◌∙◌, subst, length}
+use Rattle.bpf_model.proofs.Prelude.{rules, ◌≡◌, sym, ap, ◌∙◌, subst, length, environment_of}
+use Rattle.model_laws.proofs.Prelude.{Acts}
 use Rattle.bpf_model.specs.Machine as machine
-use Rattle.model_laws.specs.ByKind.{Acts}
 use Rattle.reference_interpreter.specs.Plain.{plain_state_of}
-use Rattle.bpf_model.specs.Step.{environment_of}
 use Rattle.reference_store.specs.State.{elements_of}
 use Rattle.reference_model.specs.RunState.{run_with, loaded_of}
 use Rattle.reference_model.specs.Acting.{ActsAs}

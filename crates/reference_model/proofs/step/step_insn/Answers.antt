@@ -1,8 +1,5 @@
-use Rattle.std.proofs.Common.{rules, Some, sym, ap, ◌∙◌, subst}
-use Rattle.std.specs.Int.{w32}
-use Rattle.std.proofs.lemmas.Int.{to_z-of_z}
-use mir.Val.{SFits}
-use Rattle.bpf_model.specs.declared.insn.Insn.TheVariants.{Call}
+use Rattle.bpf_model.proofs.Prelude.{rules, Some, sym, ap, ◌∙◌, subst, w32, to_z-of_z, SFits}
+use Rattle.model_laws.proofs.Prelude.{Call}
 use Rattle.bpf_model.specs.declared.insn.CallKind.TheVariants as kinds
 use Rattle.reference_store.specs.State.{store_of, sections_of}
 use Rattle.reference_model.specs.RunState.{run_with, loaded_of}

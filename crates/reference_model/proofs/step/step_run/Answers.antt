@@ -1,8 +1,5 @@
-use Rattle.std.proofs.Common.{rules, ◌≡◌, Some, sym, ◌∙◌, subst}
-use Rattle.std.proofs.lemmas.Option.{same_Some}
-use Rattle.bpf_model.specs.declared.insn.Insn.{Insn}
-use Rattle.bpf_model.specs.Step.{insn_at}
-use Rattle.bpf_model.specs.MachineStep.{InsnStep}
+use Rattle.bpf_model.proofs.Prelude.{rules, ◌≡◌, Some, sym, ◌∙◌, subst, same_Some, insn_at, InsnStep}
+use Rattle.model_laws.proofs.Prelude.{Insn}
 use Rattle.reference_store.specs.State.{store_of, sections_of}
 use Rattle.reference_store.proofs.Telling.{tells-map}
 use Rattle.reference_model.specs.RunState.{loaded_of, run_with}

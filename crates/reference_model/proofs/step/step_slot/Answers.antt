@@ -1,10 +1,8 @@
-use Rattle.std.proofs.Common.{◌≡◌, Some, sym, ap, ◌∙◌, subst, length, refl}
-use Rattle.std.specs.Prelude.{slice_get}
+use Rattle.bpf_model.proofs.Prelude.{◌≡◌, Some, sym, ap, ◌∙◌, subst, length, refl, slice_get, slice_get_read}
 use Rattle.std.specs.Option.{option_map}
 use Rattle.reference_store.specs.State.{store_of, sections_of}
 use Rattle.reference_model.specs.RunState.{run_of, loaded_of, run_with, or_no_program}
 use Rattle.reference_model.specs.Acting.{SlotStepsAs}
-use Rattle.std.proofs.lemmas.Option.{slice_get_read}
 use Rattle.reference_model.proofs.BySlot.{slot-steps}
 use Rattle.reference_model.proofs.step.step_slot.Goals as goal
 

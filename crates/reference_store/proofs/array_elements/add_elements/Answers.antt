@@ -1,8 +1,5 @@
-use Rattle.std.proofs.Common.{◌≡◌, ◌+◌, [], ◌∷◌, ◌++◌, map, sym, ap, arith, ◌∙◌, append_assoc}
-use Rattle.std.specs.List.{range_with_len}
-use Rattle.std.proofs.lemmas.List.{map-append}
-use Rattle.std.proofs.lemmas.List.FromFn.{map-range_with_len_more}
-use Rattle.bpf_model.specs.MapState.{array_element}
+use Rattle.bpf_model.proofs.Prelude.{◌≡◌, ◌+◌, [], ◌∷◌, ◌++◌, map, sym, ap, arith, ◌∙◌, append_assoc, range_with_len, map-append, map-range_with_len_more}
+use Rattle.bpf_model.proofs.Prelude.{array_element}
 use Rattle.reference_store.specs.State.{element_of, elements_of}
 use Rattle.reference_store.proofs.array_elements.add_elements.Goals as goal
 

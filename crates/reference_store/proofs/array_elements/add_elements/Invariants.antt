@@ -1,6 +1,4 @@
-use Rattle.std.proofs.Common.{◌≡◌, ◌++◌, map}
-use Rattle.std.specs.List.{range_with_len}
-use Rattle.bpf_model.specs.MapState.{array_element}
+use Rattle.bpf_model.proofs.Prelude.{◌≡◌, ◌++◌, map, range_with_len, array_element}
 use Rattle.reference_store.specs.State.{elements_of}
 use Rattle.reference_store.proofs.array_elements.add_elements.Given as goal
 

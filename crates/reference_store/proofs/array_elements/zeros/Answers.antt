@@ -1,5 +1,4 @@
-use Rattle.std.proofs.Common.{◌∙◌}
-use Rattle.std.proofs.lemmas.List.{take-replicate}
+use Rattle.bpf_model.proofs.Prelude.{◌∙◌, take-replicate}
 use Rattle.bpf_model.specs.declared.limits.TheConstants.{VALUE_BYTES}
 use Rattle.reference_store.proofs.array_elements.zeros.Goals as goal
 

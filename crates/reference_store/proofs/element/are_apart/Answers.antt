@@ -1,5 +1,4 @@
-use Rattle.std.proofs.Common.{arith, refl}
-use Rattle.std.proofs.lemmas.Bool.{false≢true}
+use Rattle.bpf_model.proofs.Prelude.{arith, refl, false≢true}
 use Rattle.reference_store.proofs.Sections.{apart-more, all-apart, not-ended}
 use Rattle.reference_store.proofs.element.are_apart.Goals as goal
 

@@ -1,6 +1,4 @@
-use Rattle.std.proofs.Common.{◌≡◌, ◌<◌, ℕ, Some}
-use Rattle.std.specs.Prelude.{slice_get}
-use Rattle.bpf_model.specs.Section.{Section, Has}
+use Rattle.bpf_model.proofs.Prelude.{◌≡◌, ◌<◌, ℕ, Some, slice_get, Section, Has}
 use Rattle.reference_store.specs.State.{sections_of}
 use Rattle.reference_store.proofs.element.are_apart.Given as goal
 

@@ -1,6 +1,4 @@
-use Rattle.std.proofs.Common.{ap, subst, sym, ◌∙◌}
-use Rattle.bpf_model.proofs.Cases.{same-since}
-use Rattle.bpf_model.specs.Section.{AllEnded}
+use Rattle.bpf_model.proofs.Prelude.{ap, subst, sym, ◌∙◌, same-since, AllEnded}
 use Rattle.reference_store.specs.State.{life_of, sections_of}
 use Rattle.reference_store.proofs.element.has_ended.Goals as goal
 

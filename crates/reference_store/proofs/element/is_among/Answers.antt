@@ -1,4 +1,4 @@
-use Rattle.std.proofs.Common.{arith}
+use Rattle.bpf_model.proofs.Prelude.{arith}
 use Rattle.reference_store.proofs.Sections.{not-among, none-among}
 use Rattle.reference_store.proofs.element.is_among.Goals as goal
 

@@ -1,5 +1,4 @@
-use Rattle.std.proofs.Common.{◌≡◌, ◌<◌, ℕ, Some}
-use Rattle.std.specs.Prelude.{slice_get}
+use Rattle.bpf_model.proofs.Prelude.{◌≡◌, ◌<◌, ℕ, Some, slice_get}
 use Rattle.reference_store.specs.State.{section_shown, sections_of}
 use Rattle.reference_store.proofs.element.is_among.Given as goal
 

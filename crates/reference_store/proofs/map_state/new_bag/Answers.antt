@@ -1,7 +1,4 @@
-use Rattle.std.proofs.Common.{ap, sym, ◌++◌, ◌∙◌}
-use Rattle.std.specs.Prelude.{replicate}
-use Rattle.std.proofs.lemmas.List.{replicate-append-replicate}
-use Rattle.bpf_model.specs.MapState.{new_bag}
+use Rattle.bpf_model.proofs.Prelude.{ap, sym, ◌++◌, ◌∙◌, replicate, replicate-append-replicate, new_bag}
 use Rattle.reference_store.proofs.map_state.new_bag.Goals as goal
 
 pub returns-in_ok-put_unused-in-Hash-2 : goal.returns-in_ok-put_unused-in-Hash-2

@@ -1,6 +1,4 @@
-use Rattle.std.proofs.Common.{[], ◌∷◌, ◌++◌, ap, ◌∙◌, append_assoc}
-use Rattle.std.specs.Prelude.{replicate}
-use Rattle.std.proofs.lemmas.List.{replicate-append-replicate}
+use Rattle.bpf_model.proofs.Prelude.{[], ◌∷◌, ◌++◌, ap, ◌∙◌, append_assoc, replicate, replicate-append-replicate}
 use Rattle.reference_store.proofs.map_state.put_unused.Goals as goal
 
 pub loop-preserved : goal.loop-preserved

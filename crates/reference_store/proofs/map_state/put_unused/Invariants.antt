@@ -1,5 +1,4 @@
-use Rattle.std.proofs.Common.{◌≡◌, ◌++◌}
-use Rattle.std.specs.Prelude.{replicate}
+use Rattle.bpf_model.proofs.Prelude.{◌≡◌, ◌++◌, replicate}
 use Rattle.reference_store.proofs.map_state.put_unused.Given as goal
 
 abbrev pub invariant-loop : goal.invariant-loop

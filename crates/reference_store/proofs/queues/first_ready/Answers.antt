@@ -1,12 +1,8 @@
-use Rattle.std.proofs.Common.{◌≡◌, Some, map, sym, ◌∙◌, arith, length, refl}
-use Rattle.std.specs.Prelude.{slice_get}
-use Rattle.std.proofs.lemmas.List.{length-map}
+use Rattle.bpf_model.proofs.Prelude.{◌≡◌, Some, map, sym, ◌∙◌, arith, length, refl, slice_get, length-map, slice_get_read, get-map}
 use Rattle.reference_store.specs.State.{queues_of}
-use Rattle.std.proofs.lemmas.Option.{slice_get_read}
 use Rattle.reference_store.proofs.Queueing.{ready-here, ready-later, ready-past}
 use Rattle.reference_store.proofs.queues.first_ready.Goals as goal
 use Rattle.reference_store.proofs.queues.first_ready.Goals.{After-first_of}
-use Rattle.bpf_model.proofs.Lists.{get-map}
 
 there : (c : After-first_of) → slice_get (map queues_of c.args.queues.now) c.loop-k.k ≡ Some (queues_of c.index-queues-k.result)
 there c = get-map queues_of c.args.queues.now c.loop-k.k c.index-queues-k.result

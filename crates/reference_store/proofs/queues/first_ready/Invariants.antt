@@ -1,6 +1,4 @@
-use Rattle.std.proofs.Common.{◌≡◌, map}
-use Rattle.std.specs.Prelude.{drop}
-use Rattle.bpf_model.specs.Schedule.{first_ready}
+use Rattle.bpf_model.proofs.Prelude.{◌≡◌, map, drop, first_ready}
 use Rattle.reference_store.specs.State.{queues_of}
 use Rattle.reference_store.proofs.queues.first_ready.Given as goal
 

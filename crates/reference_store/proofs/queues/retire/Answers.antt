@@ -1,15 +1,10 @@
-use Rattle.std.proofs.Common.{◌≡◌, ◌<◌, ◌++◌, ◌∷◌, [], length, Some, None, sym, ap, ◌∙◌, arith, inl, inr, List, ℕ, refl}
-use Rattle.std.specs.Prelude.{slice_get, drop, ◌+◌, if◌then◌else◌}
-use Rattle.std.proofs.lemmas.Bool.{cases_lt}
-use Rattle.std.proofs.lemmas.List.{length-map}
-use Rattle.bpf_model.specs.Schedule.{Queues, unlinked_between}
+use Rattle.bpf_model.proofs.Prelude.{◌≡◌, ◌<◌, ◌++◌, ◌∷◌, [], length, Some, None, sym, ap, ◌∙◌, arith, inl, inr, List, ℕ, refl, slice_get, drop, ◌+◌}
+use Rattle.bpf_model.proofs.Prelude.{if◌then◌else◌, cases_lt, length-map, Queues, unlinked_between, slice_get_read, get-map}
 use Rattle.reference_store.specs.State.{element_of, elements_of}
 use Rattle.reference_store.specs.Retiring.{linked_map}
-use Rattle.std.proofs.lemmas.Option.{slice_get_read}
 use Rattle.reference_store.proofs.Queueing.{unlinked-more, unlinked-first, unlinked-second}
 use Rattle.reference_store.proofs.Lists.{made-from}
 use Rattle.reference_store.proofs.queues.retire.Goals as goal
-use Rattle.bpf_model.proofs.Lists.{get-map}
 
 pub loop-n-preserved : goal.loop-n-preserved
 loop-n-preserved c = record {

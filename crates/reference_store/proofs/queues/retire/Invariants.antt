@@ -1,7 +1,4 @@
-use Rattle.std.proofs.Common.{◌≡◌, ◌++◌, List, map}
-use Rattle.std.specs.Prelude.{drop}
-use Rattle.bpf_model.specs.Element.{Element}
-use Rattle.bpf_model.specs.Schedule.{unlinked_between}
+use Rattle.bpf_model.proofs.Prelude.{◌≡◌, ◌++◌, List, map, drop, Element, unlinked_between}
 use Rattle.reference_store.specs.State.{elements_of}
 use Rattle.reference_store.specs.Retiring.{linked_map}
 use Rattle.reference_store.proofs.queues.retire.Given as goal

@@ -1,8 +1,6 @@
-use Rattle.std.proofs.Common.{◌≡◌, List, map}
-use Rattle.bpf_model.specs.Element.{Element}
+use Rattle.bpf_model.proofs.Prelude.{◌≡◌, List, map, Element, retired_in}
 use Rattle.reference_store.specs.State.{queues_of, elements_of}
 use Rattle.reference_store.specs.Retiring.{linked_map}
-use Rattle.bpf_model.specs.Schedule.{retired_in}
 use Rattle.reference_store.proofs.Queueing.{mixed}
 use Rattle.reference_store.proofs.queues.retire_all.Given as goal
 

@@ -1,15 +1,10 @@
-use Rattle.std.proofs.Common.{◌≡◌, ◌<◌, ◌++◌, ◌+◌, length, Some, None, map, sym, ap, ◌∙◌, subst, arith, true, false, List, ℕ, refl}
-use Rattle.std.specs.Prelude.{slice_get, slice_set, is_some, take, drop}
-use Rattle.bpf_model.specs.Schedule.{without_first}
+use Rattle.bpf_model.proofs.Prelude.{◌≡◌, ◌<◌, ◌++◌, ◌+◌, length, Some, None, map, sym, ap, ◌∙◌, subst, arith, true, false, List, ℕ, refl, slice_get}
+use Rattle.bpf_model.proofs.Prelude.{slice_set, is_some, take, drop, without_first, slice_get_read, map-set, get-map, both}
 use Rattle.bpf_model.specs.Schedule as schedule
 use Rattle.reference_store.specs.State.{queues_of}
 use Rattle.reference_store.specs.declared.queues.Queues.{Queues}
-use Rattle.std.proofs.lemmas.Option.{slice_get_read}
-use Rattle.std.proofs.lemmas.List.{map-set}
 use Rattle.reference_store.proofs.Queueing.{without-here, without-later, is-first, not-first}
 use Rattle.reference_store.proofs.queues.take_first.Goals as goal
-use Rattle.bpf_model.proofs.Lists.{get-map}
-use Rattle.bpf_model.proofs.Cases.{both}
 
 abbrev shorter : Queues → schedule.Queues
 shorter q = record { next = (queues_of q).next; waiting = (queues_of q).waiting; ready = drop 1 (queues_of q).ready }

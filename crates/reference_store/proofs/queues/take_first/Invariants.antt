@@ -1,6 +1,4 @@
-use Rattle.std.proofs.Common.{◌≡◌, ◌++◌, map}
-use Rattle.std.specs.Prelude.{drop, take}
-use Rattle.bpf_model.specs.Schedule.{without_first}
+use Rattle.bpf_model.proofs.Prelude.{◌≡◌, ◌++◌, map, drop, take, without_first}
 use Rattle.reference_store.specs.State.{queues_of}
 use Rattle.reference_store.proofs.queues.take_first.Given as goal
 

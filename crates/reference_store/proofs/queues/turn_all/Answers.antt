@@ -1,10 +1,6 @@
-use Rattle.std.proofs.Common.{◌<◌, length, map, sym, ap, ◌∙◌, arith, refl}
-use Rattle.std.proofs.lemmas.List.{length-map}
-use Rattle.bpf_model.specs.Schedule.{turned}
+use Rattle.bpf_model.proofs.Prelude.{◌<◌, length, map, sym, ap, ◌∙◌, arith, refl, length-map, turned, slice_get_read}
 use Rattle.reference_store.specs.State.{queues_of}
-use Rattle.std.proofs.lemmas.Option.{slice_get_read}
-use Rattle.reference_store.proofs.Queueing.{all-turned}
-use Rattle.reference_store.proofs.Queueing.{changed-one}
+use Rattle.reference_store.proofs.Queueing.{all-turned, changed-one}
 use Rattle.reference_store.proofs.queues.turn_all.Goals as goal
 
 pub loop-k-preserved : goal.loop-k-preserved

@@ -1,5 +1,4 @@
-use Rattle.std.proofs.Common.{◌≡◌, map}
-use Rattle.bpf_model.specs.Schedule.{turned}
+use Rattle.bpf_model.proofs.Prelude.{◌≡◌, map, turned}
 use Rattle.reference_store.specs.State.{queues_of}
 use Rattle.reference_store.proofs.Queueing.{mixed}
 use Rattle.reference_store.proofs.queues.turn_all.Given as goal

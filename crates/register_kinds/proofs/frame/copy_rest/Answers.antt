@@ -1,8 +1,5 @@
-use Rattle.std.proofs.Common.{◌≢◌, ◌∙◌, Some, sym, ap, arith, below_more}
-use Rattle.std.specs.Prelude.{unwrap_or}
-use Rattle.std.proofs.lemmas.List.{same_lists}
-use Rattle.std.proofs.lemmas.Option.{unwrap_or-slice_get, slice_get-get_or}
-use Rattle.bpf_model.proofs.Lists.{get-set_same, get-set_other}
+use Rattle.bpf_model.proofs.Prelude.{◌≢◌, ◌∙◌, Some, sym, ap, arith, below_more, unwrap_or, same_lists, slice_get-get_or, get-set_same, get-set_other}
+use Rattle.std.proofs.lemmas.Option.{unwrap_or-slice_get}
 use Rattle.register_kinds.proofs.frame.copy_rest.Goals as goal
 
 pub loop-i-init : goal.loop-i-init

@@ -1,5 +1,4 @@
-use Rattle.std.proofs.Common.{◌≡◌, ℕ, ◌<◌}
-use Rattle.std.specs.Prelude.{slice_get}
+use Rattle.bpf_model.proofs.Prelude.{◌≡◌, ℕ, ◌<◌, slice_get}
 use Rattle.register_kinds.proofs.frame.copy_rest.Given as goal
 
 abbrev pub invariant-loop-i : goal.invariant-loop-i

@@ -1,7 +1,5 @@
-use Rattle.std.proofs.Common.{◌≡◌, ℕ, ◌-◌}
-use Rattle.std.specs.Prelude.{if◌then◌else◌}
-use Rattle.bpf_model.specs.Frame.{is_within}
-use Rattle.register_kinds.specs.States.{class_in}
+use Rattle.bpf_model.proofs.Prelude.{◌≡◌, ℕ, ◌-◌, if◌then◌else◌, is_within}
+use Rattle.register_kinds.proofs.Prelude.{class_in}
 use Rattle.register_kinds.proofs.frame.fill.Given as goal
 
 abbrev pub invariant-loop-i : goal.invariant-loop-i

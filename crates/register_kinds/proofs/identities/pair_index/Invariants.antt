@@ -1,5 +1,4 @@
-use Rattle.std.proofs.Common.{◌≡◌, ℕ, ◌<◌, Some}
-use Rattle.std.specs.Prelude.{slice_get}
+use Rattle.bpf_model.proofs.Prelude.{◌≡◌, ℕ, ◌<◌, Some, slice_get}
 use Rattle.register_kinds.proofs.identities.pair_index.Given as goal
 
 abbrev pub invariant-loop-i : goal.invariant-loop-i

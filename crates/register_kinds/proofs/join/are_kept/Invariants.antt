@@ -1,7 +1,5 @@
-use Rattle.std.proofs.Common.{◌≡◌, ℕ, ◌<◌, ◌≤◌}
-use Rattle.std.specs.Prelude.{IsTrue}
-use Rattle.register_kinds.specs.States.{class_in}
-use Rattle.register_kinds.specs.Joined.{joined_class}
+use Rattle.bpf_model.proofs.Prelude.{◌≡◌, ℕ, ◌<◌, ◌≤◌, IsTrue}
+use Rattle.register_kinds.proofs.Prelude.{class_in, joined_class}
 use Rattle.register_kinds.proofs.join.are_kept.Given as goal
 
 abbrev pub invariant-loop-i : goal.invariant-loop-i

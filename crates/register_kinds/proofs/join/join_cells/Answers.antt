@@ -1,9 +1,6 @@
-use Rattle.std.proofs.Common.{◌≡◌, ap, ◌∙◌, arith, inl, inr, ◌*◌, ◌/◌}
-use Rattle.std.proofs.lemmas.Bool.{cases_lt}
-use Rattle.std.proofs.lemmas.List.{get_or_read}
+use Rattle.bpf_model.proofs.Prelude.{◌≡◌, ap, ◌∙◌, arith, inl, inr, ◌*◌, ◌/◌, cases_lt, get_or_read}
+use Rattle.register_kinds.proofs.Prelude.{kind_in, class_in, is_pointer, joined_class}
 use Rattle.register_kinds.specs.declared.kind.RegKind.TheVariants as kinds
-use Rattle.register_kinds.specs.States.{kind_in, class_in, is_pointer}
-use Rattle.register_kinds.specs.Joined.{joined_class}
 use Rattle.register_kinds.proofs.Cells.{joined_all}
 use Rattle.register_kinds.proofs.join.join_cells.Goals as goal
 

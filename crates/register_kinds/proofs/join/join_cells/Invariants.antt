@@ -1,6 +1,5 @@
-use Rattle.std.proofs.Common.{◌≡◌, ℕ, ◌*◌, ◌/◌, ◌<◌, ◌≤◌}
-use Rattle.register_kinds.specs.States.{kind_in, class_in, is_pointer}
-use Rattle.register_kinds.specs.Joined.{joined_class}
+use Rattle.bpf_model.proofs.Prelude.{◌≡◌, ℕ, ◌*◌, ◌/◌, ◌<◌, ◌≤◌}
+use Rattle.register_kinds.proofs.Prelude.{kind_in, class_in, is_pointer, joined_class}
 use Rattle.register_kinds.proofs.join.join_cells.Given as goal
 
 abbrev pub invariant-loop-g : goal.invariant-loop-g

@@ -1,9 +1,7 @@
-use Rattle.std.proofs.Common.{◌≡◌, ◌≢◌, ap, ◌∙◌, arith, ◌≤◌}
-use Rattle.std.proofs.lemmas.List.{get_or-set_other}
+use Rattle.bpf_model.proofs.Prelude.{◌≡◌, ◌≢◌, ap, ◌∙◌, arith, ◌≤◌, get_or-set_other}
+use Rattle.register_kinds.proofs.Prelude.{class_in, is_pointer, joined_class}
 use Rattle.register_kinds.specs.declared.kind.CellKind.{CellKind}
 use Rattle.register_kinds.specs.declared.kind.CellKind.TheVariants.{Unwritten}
-use Rattle.register_kinds.specs.States.{class_in, is_pointer}
-use Rattle.register_kinds.specs.Joined.{joined_class}
 use Rattle.register_kinds.proofs.Changes.{mapped_more, mapped_kept}
 use Rattle.register_kinds.proofs.join.join_group.Goals as goal
 

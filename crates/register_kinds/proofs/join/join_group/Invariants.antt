@@ -1,6 +1,5 @@
-use Rattle.std.proofs.Common.{◌≡◌, ℕ, ◌<◌, ◌≤◌}
-use Rattle.register_kinds.specs.States.{class_in, is_pointer}
-use Rattle.register_kinds.specs.Joined.{joined_class}
+use Rattle.bpf_model.proofs.Prelude.{◌≡◌, ℕ, ◌<◌, ◌≤◌}
+use Rattle.register_kinds.proofs.Prelude.{class_in, is_pointer, joined_class}
 use Rattle.register_kinds.proofs.join.join_group.Given as goal
 
 abbrev pub invariant-loop-i : goal.invariant-loop-i

@@ -1,8 +1,6 @@
-use Rattle.std.proofs.Common.{rules, subst}
+use Rattle.bpf_model.proofs.Prelude.{rules, subst}
+use Rattle.register_kinds.proofs.Prelude.{IsHull, JoinsKind, kind_of}
 use Rattle.register_kinds.specs.declared.kind.RegKind.{RegKind}
-use Rattle.register_kinds.specs.Joined.{IsHull}
-use Rattle.register_kinds.specs.JoinTable.{JoinsKind}
-use Rattle.register_kinds.specs.States.{kind_of}
 use Rattle.register_kinds.proofs.Pairs.{joins_same, numbers_joined}
 use Rattle.register_kinds.proofs.join.join_into.Goals as goal
 

@@ -1,10 +1,7 @@
-use Rattle.std.proofs.Common.{subst, ◌∙◌, arith}
-use Rattle.std.specs.Prelude.{slice_index_or}
-use Rattle.std.proofs.lemmas.List.{get_or_default, get_or_read}
+use Rattle.bpf_model.proofs.Prelude.{subst, ◌∙◌, arith, slice_index_or, get_or_default, get_or_read}
+use Rattle.register_kinds.proofs.Prelude.{kind_of, kind_at, JoinsKind}
 use Rattle.register_kinds.specs.declared.kind.RegKind.{RegKind}
 use Rattle.register_kinds.specs.declared.kind.RegKind.TheVariants.{Unwritten}
-use Rattle.register_kinds.specs.States.{kind_of, kind_at}
-use Rattle.register_kinds.specs.JoinTable.{JoinsKind}
 use Rattle.register_kinds.proofs.Pairs.{kinds_more, kinds_all}
 use Rattle.register_kinds.proofs.Changes.{mapped_kept}
 use Rattle.register_kinds.proofs.join.join_kinds.Goals as goal

@@ -1,6 +1,5 @@
-use Rattle.std.proofs.Common.{◌≡◌, ℕ, ◌+◌, ◌-◌, ◌<◌, ◌≤◌, length}
-use Rattle.register_kinds.specs.States.{kind_at, kind_in}
-use Rattle.register_kinds.specs.JoinTable.{PairsGrow, IsTable, JoinsKind}
+use Rattle.bpf_model.proofs.Prelude.{◌≡◌, ℕ, ◌+◌, ◌-◌, ◌<◌, ◌≤◌, length}
+use Rattle.register_kinds.proofs.Prelude.{kind_at, kind_in, PairsGrow, IsTable, JoinsKind}
 use Rattle.register_kinds.proofs.join.join_kinds.Given as goal
 
 abbrev pub invariant-loop-i : goal.invariant-loop-i

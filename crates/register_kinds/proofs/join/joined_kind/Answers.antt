@@ -1,4 +1,4 @@
-use Rattle.register_kinds.specs.Joined.{IsHull}
+use Rattle.register_kinds.proofs.Prelude.{IsHull}
 use Rattle.register_kinds.proofs.Pairs.{maybe_joined, numbers_joined, contexts_joined, values_joined}
 use Rattle.register_kinds.proofs.join.joined_kind.Goals as goal
 

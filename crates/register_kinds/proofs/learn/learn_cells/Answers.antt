@@ -1,10 +1,8 @@
-use Rattle.std.proofs.Common.{◌≡◌, ap, ◌∙◌, ◌/◌, arith}
-use Rattle.std.proofs.lemmas.List.{get_or_read}
+use Rattle.bpf_model.proofs.Prelude.{◌≡◌, ap, ◌∙◌, ◌/◌, arith, get_or_read}
+use Rattle.register_kinds.proofs.Prelude.{kind_in, class_in, learnt_class}
 use Rattle.register_kinds.specs.declared.kind.RegKind.TheVariants as kinds
 use Rattle.register_kinds.specs.declared.kind.CellKind.{CellKind}
 use Rattle.register_kinds.specs.declared.kind.CellKind.TheVariants.{Unwritten}
-use Rattle.register_kinds.specs.States.{kind_in, class_in}
-use Rattle.register_kinds.specs.Changes.{learnt_class}
 use Rattle.register_kinds.proofs.Changes.{mapped_more, mapped_kept}
 use Rattle.register_kinds.proofs.learn.learn_cells.Goals as goal
 

@@ -1,6 +1,5 @@
-use Rattle.std.proofs.Common.{◌≡◌, ℕ, ◌/◌, ◌<◌, ◌≤◌}
-use Rattle.register_kinds.specs.States.{kind_in, class_in}
-use Rattle.register_kinds.specs.Changes.{learnt_class}
+use Rattle.bpf_model.proofs.Prelude.{◌≡◌, ℕ, ◌/◌, ◌<◌, ◌≤◌}
+use Rattle.register_kinds.proofs.Prelude.{kind_in, class_in, learnt_class}
 use Rattle.register_kinds.proofs.learn.learn_cells.Given as goal
 
 abbrev pub invariant-loop-i : goal.invariant-loop-i

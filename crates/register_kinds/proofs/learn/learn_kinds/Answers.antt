@@ -1,10 +1,7 @@
-use Rattle.std.proofs.Common.{◌≡◌, ℕ, ap, subst, sym, ◌∙◌, arith}
-use Rattle.std.proofs.lemmas.List.{get_or_read, get_or_past}
+use Rattle.bpf_model.proofs.Prelude.{◌≡◌, ℕ, ap, subst, sym, ◌∙◌, arith, get_or_read, get_or_past}
+use Rattle.register_kinds.proofs.Prelude.{kind_of, kind_at, learnt_kind, IsBelow}
 use Rattle.register_kinds.specs.declared.kind.RegKind.{RegKind}
 use Rattle.register_kinds.specs.declared.kind.RegKind.TheVariants.{Unwritten}
-use Rattle.register_kinds.specs.States.{kind_of, kind_at}
-use Rattle.register_kinds.specs.Changes.{learnt_kind}
-use Rattle.register_kinds.specs.Pairs.{IsBelow}
 use Rattle.register_kinds.proofs.Changes.{mapped_more, mapped_kept, mapped_all, learnt_unwritten}
 use Rattle.register_kinds.proofs.learn.learn_kinds.Goals as goal
 

@@ -1,7 +1,5 @@
-use Rattle.std.proofs.Common.{◌≡◌, ℕ, ◌<◌, ◌≤◌}
-use Rattle.register_kinds.specs.States.{kind_at, kind_in}
-use Rattle.register_kinds.specs.Changes.{learnt_kind}
-use Rattle.register_kinds.specs.Pairs.{IsBelow}
+use Rattle.bpf_model.proofs.Prelude.{◌≡◌, ℕ, ◌<◌, ◌≤◌}
+use Rattle.register_kinds.proofs.Prelude.{kind_at, kind_in, learnt_kind, IsBelow}
 use Rattle.register_kinds.proofs.learn.learn_kinds.Given as goal
 
 abbrev pub invariant-loop-i : goal.invariant-loop-i

@@ -1,6 +1,6 @@
-use Rattle.std.proofs.Common.{◌≡◌, ℕ, ◌<◌, ◌≤◌}
-use Rattle.std.specs.Prelude.{IsTrue, IsFalse}
-use Rattle.register_kinds.specs.States.{class_in}
+use Rattle.bpf_model.proofs.Prelude.{◌≡◌, ℕ, ◌<◌, ◌≤◌, IsTrue}
+use Rattle.register_kinds.proofs.Prelude.{class_in}
+use Rattle.std.specs.Prelude.{IsFalse}
 use Rattle.register_kinds.proofs.reads.are_all.Given as goal
 
 abbrev pub invariant-loop-i : goal.invariant-loop-i

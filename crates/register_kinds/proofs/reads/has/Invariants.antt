@@ -1,5 +1,5 @@
-use Rattle.std.proofs.Common.{◌≡◌, ℕ, ◌<◌, ◌≤◌}
-use Rattle.register_kinds.specs.States.{class_in}
+use Rattle.bpf_model.proofs.Prelude.{◌≡◌, ℕ, ◌<◌, ◌≤◌}
+use Rattle.register_kinds.proofs.Prelude.{class_in}
 use Rattle.register_kinds.proofs.reads.has.Given as goal
 
 abbrev pub invariant-loop-i : goal.invariant-loop-i

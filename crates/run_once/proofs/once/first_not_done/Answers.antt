@@ -1,6 +1,4 @@
-use Rattle.std.proofs.Common.{rules, ◌≡◌, ◌∙◌, ◌<◌, Some, length, refl, ap, below_more}
-use Rattle.std.specs.Prelude.{slice_get}
-use Rattle.std.proofs.lemmas.Option.{slice_get_read}
+use Rattle.bpf_model.proofs.Prelude.{rules, ◌≡◌, ◌∙◌, ◌<◌, Some, length, refl, ap, below_more, slice_get, slice_get_read}
 use Rattle.run_once.specs.Once.{done}
 use Rattle.run_once.proofs.once.first_not_done.Goals as goal
 

@@ -1,8 +1,5 @@
-use Rattle.std.proofs.Common.{rules, ◌≡◌, ℕ, List, ◌++◌, Bool, IfOk, subst, sym}
-use Rattle.bpf_model.specs.declared.event.Event.TheVariants.{Step}
-use Rattle.bpf_model.specs.declared.insn.Insn.{Insn}
-use Rattle.bpf_model.specs.Headline.{AnswersAsMachine}
-use Rattle.bpf_model.specs.Refines.{Tracks}
+use Rattle.bpf_model.proofs.Prelude.{rules, ◌≡◌, ℕ, List, ◌++◌, Bool, IfOk, subst, sym, AnswersAsMachine, Tracks}
+use Rattle.model_laws.proofs.Prelude.{Step, Insn}
 use Rattle.run_once.specs.Told.{HasNext, IsStepTold}
 use Rattle.run_once.proofs.once.next_step.Goals as goal
 

@@ -1,10 +1,5 @@
-use Rattle.std.proofs.Common.{ℕ, [], ◌∷◌, length, subst}
-use Rattle.std.proofs.lemmas.Result.{IfOk-weaker}
-use Rattle.bpf_model.specs.declared.event.Event.{Event}
-use Rattle.bpf_model.specs.declared.event.Event.TheVariants.{Start}
-use Rattle.bpf_model.specs.Headline.{AllExitInTime, AnswersAsMachine, AreNeverStuck}
-use Rattle.bpf_model.specs.Refines.{Tracks}
-use Rattle.bpf_model.specs.Machine.{Machine}
+use Rattle.bpf_model.proofs.Prelude.{ℕ, [], ◌∷◌, length, subst, IfOk-weaker, AllExitInTime, AnswersAsMachine, AreNeverStuck, Tracks, Machine}
+use Rattle.model_laws.proofs.Prelude.{Event, Start}
 use Rattle.run_once.specs.Going.{IsGoing, IsReady}
 use Rattle.run_once.specs.Once.{RunsToExit, StartsAndExits}
 use Rattle.run_once.proofs.Starting.{started_in}

@@ -1,9 +1,5 @@
-use Rattle.std.proofs.Common.{rules, ◌≡◌, ◌≢◌, ◌≤◌, ◌<◌, ◌∷◌, [], List, Some, length, subst, sym}
-use Rattle.std.specs.Prelude.{slice_get}
-use Rattle.bpf_model.specs.declared.event.Answer.{Answer}
-use Rattle.bpf_model.specs.Machine.{Machine}
-use Rattle.bpf_model.specs.Refines.{Tracks}
-use Rattle.bpf_model.specs.View.{shapes_of_maps}
+use Rattle.bpf_model.proofs.Prelude.{rules, ◌≡◌, ◌≢◌, ◌≤◌, ◌<◌, ◌∷◌, [], List, Some, length, subst, sym, slice_get, Machine, Tracks, shapes_of_maps}
+use Rattle.model_laws.proofs.Prelude.{Answer}
 use Rattle.run_once.specs.Going.{IsReady}
 use Rattle.run_once.specs.Once.{AreDone, StartsAndExits, done}
 use Rattle.run_once.proofs.Running.{bound_program, ready, runs, stops}

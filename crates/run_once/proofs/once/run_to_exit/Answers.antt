@@ -1,5 +1,4 @@
-use Rattle.std.proofs.Common.{rules, ◌≡◌, List, ℕ, ◌+◌, arith, subst, sym}
-use Rattle.bpf_model.specs.History.{last_of}
+use Rattle.bpf_model.proofs.Prelude.{rules, ◌≡◌, List, ℕ, ◌+◌, arith, subst, sym, last_of}
 use Rattle.run_once.specs.Once.{RunsToExit}
 use Rattle.run_once.specs.declared.once.Ended.{Ended}
 use Rattle.run_once.proofs.Nexts.{next_of}

@@ -1,5 +1,4 @@
-use Rattle.bpf_model.specs.Machine.{Machine}
-use Rattle.bpf_model.specs.Refines.{Tracks}
+use Rattle.bpf_model.proofs.Prelude.{Machine, Tracks}
 use Rattle.run_once.specs.Going.{IsGoing}
 use Rattle.run_once.proofs.Walking.{Walked}
 use Rattle.run_once.proofs.once.run_to_exit.Given as goal

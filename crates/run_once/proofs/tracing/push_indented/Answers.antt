@@ -1,5 +1,5 @@
-use Rattle.std.proofs.Common.{rules, ◌≡◌, ◌∙◌, ◌++◌, ◌∷◌, [], false, ap, subst, sym}
-use Rattle.std.proofs.lemmas.List.{append_assoc, append-nil}
+use Rattle.bpf_model.proofs.Prelude.{rules, ◌≡◌, ◌∙◌, ◌++◌, ◌∷◌, [], false, ap, subst, sym, append-nil}
+use Rattle.std.proofs.lemmas.List.{append_assoc}
 use Rattle.run_once.specs.Told.{AreIndented, margin}
 use Rattle.run_once.proofs.Indented.{IsPartly, ended, one_more}
 use Rattle.run_once.proofs.tracing.push_indented.Goals as goal

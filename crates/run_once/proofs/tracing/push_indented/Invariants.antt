@@ -1,4 +1,4 @@
-use Rattle.std.proofs.Common.{◌≡◌, List, ℕ, ◌++◌}
+use Rattle.bpf_model.proofs.Prelude.{◌≡◌, List, ℕ, ◌++◌}
 use Rattle.run_once.proofs.Indented.{IsPartly}
 use Rattle.run_once.proofs.tracing.push_indented.Given as goal
 

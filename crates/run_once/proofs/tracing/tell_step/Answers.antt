@@ -1,9 +1,6 @@
-use Rattle.std.proofs.Common.{rules, ◌≡◌, ◌∙◌, ◌++◌, Some, ap, refl, slice_get, subst}
+use Rattle.bpf_model.proofs.Prelude.{rules, ◌≡◌, ◌∙◌, ◌++◌, Some, ap, refl, slice_get, subst, AnswersAsMachine, Tracks}
+use Rattle.model_laws.proofs.Prelude.{Step, Insn}
 use Rattle.std.proofs.lemmas.List.{append_assoc}
-use Rattle.bpf_model.specs.declared.event.Event.TheVariants.{Step}
-use Rattle.bpf_model.specs.declared.insn.Insn.{Insn}
-use Rattle.bpf_model.specs.Headline.{AnswersAsMachine}
-use Rattle.bpf_model.specs.Refines.{Tracks}
 use Rattle.run_once.specs.Told.{ShowsStep, step_line}
 use Rattle.run_once.proofs.Nexts.{same_next}
 use Rattle.run_once.proofs.tracing.tell_step.Goals as goal

@@ -1,7 +1,5 @@
-use Rattle.std.proofs.Common.{sym, ◌∙◌, ap, subst, arith}
-use Rattle.std.specs.Int.{w32}
-use Rattle.bpf_model.specs.Arithmetic.{operate}
-use Rattle.scalar_domain.specs.Scalar.{Holds}
+use Rattle.bpf_model.proofs.Prelude.{sym, ◌∙◌, ap, subst, arith, w32, operate}
+use Rattle.scalar_domain.proofs.Prelude.{Holds}
 use Rattle.scalar_domain.proofs.Forms.{narrow_same}
 use Rattle.scalar_domain.proofs.apply.apply_narrow.Goals as goal
 

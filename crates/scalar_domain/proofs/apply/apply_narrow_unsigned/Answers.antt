@@ -1,10 +1,6 @@
-use Rattle.std.proofs.Common.{◌≡◌, ◌*◌, ◌/◌, ◌%◌, ◌^◌, sym, ◌∙◌, ap, subst, arith}
-use Rattle.std.specs.Int.{w32}
-use Rattle.std.proofs.lemmas.Nat.{shr_le}
-use Rattle.std.proofs.Math.Nat.{mod-eq_of_lt}
+use Rattle.bpf_model.proofs.Prelude.{◌≡◌, ◌*◌, ◌/◌, ◌%◌, ◌^◌, sym, ◌∙◌, ap, subst, arith, w32, shr_le, mod-eq_of_lt, operate}
+use Rattle.scalar_domain.proofs.Prelude.{Holds}
 use Rattle.scalar_domain.proofs.Multiples.{below_word}
-use Rattle.bpf_model.specs.Arithmetic.{operate}
-use Rattle.scalar_domain.specs.Scalar.{Holds}
 use Rattle.scalar_domain.proofs.Forms.{low_same}
 use Rattle.scalar_domain.proofs.apply.apply_narrow_unsigned.Goals as goal
 

@@ -1,7 +1,5 @@
-use Rattle.std.proofs.Common.{sym, ◌∙◌, ap, subst}
-use Rattle.std.specs.Int.{w64}
-use Rattle.bpf_model.specs.Arithmetic.{operate}
-use Rattle.scalar_domain.specs.Scalar.{Holds}
+use Rattle.bpf_model.proofs.Prelude.{sym, ◌∙◌, ap, subst, w64, operate}
+use Rattle.scalar_domain.proofs.Prelude.{Holds}
 use Rattle.scalar_domain.proofs.Words.{operate_lt}
 use Rattle.scalar_domain.proofs.Forms.{word_difference}
 use Rattle.scalar_domain.proofs.apply.apply_unsigned.Goals as goal

@@ -1,8 +1,5 @@
-use Rattle.std.proofs.Common.{sym, ◌∙◌, ap, subst, arith}
-use Rattle.std.specs.Int.{w64}
-use Rattle.bpf_model.specs.Arithmetic.{operate}
-use Rattle.scalar_domain.specs.Scalar.{Holds}
-use Rattle.scalar_domain.specs.Unsigned.{unsigned_form}
+use Rattle.bpf_model.proofs.Prelude.{sym, ◌∙◌, ap, subst, arith, w64, operate}
+use Rattle.scalar_domain.proofs.Prelude.{Holds, unsigned_form}
 use Rattle.scalar_domain.proofs.Forms.{wide_same}
 use Rattle.scalar_domain.proofs.apply.apply_wide.Goals as goal
 

@@ -1,4 +1,4 @@
-use Rattle.std.proofs.Common.{arith}
+use Rattle.bpf_model.proofs.Prelude.{arith}
 use Rattle.scalar_domain.proofs.Bits.{ones_within}
 use Rattle.scalar_domain.proofs.bitwise.ones_up_to.Goals as goal
 

@@ -1,9 +1,6 @@
-use Rattle.std.proofs.Common.{◌≡◌, ◌≢◌, ℕ, ◌+◌, ◌-◌, ◌/◌, ◌^◌, ◌<◌, ◌≤◌, sym, subst, arith}
-use Rattle.std.specs.Prelude.{bit_or, bit_xor}
-use Rattle.std.specs.Int.{w64, leading_zeros}
-use Rattle.std.specs.Int.Bits.{and_self}
+use Rattle.bpf_model.proofs.Prelude.{◌≡◌, ◌≢◌, ℕ, ◌+◌, ◌-◌, ◌/◌, ◌^◌, ◌<◌, ◌≤◌, sym, subst, arith, bit_or, bit_xor, w64, leading_zeros, and_self}
+use Rattle.scalar_domain.proofs.Prelude.{Within}
 use native.Mathlib.Decide.{dec_lt}
-use Rattle.scalar_domain.specs.Mask.{Within}
 use Rattle.scalar_domain.proofs.Splits.{same_xor, Splits, splits, from, to, lower, upper}
 use Rattle.scalar_domain.proofs.inhabited.split.Goals as goal
 

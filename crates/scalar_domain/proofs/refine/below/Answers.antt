@@ -1,4 +1,4 @@
-use Rattle.std.proofs.Common.{◌<◌, arith}
+use Rattle.bpf_model.proofs.Prelude.{◌<◌, arith}
 use Rattle.scalar_domain.proofs.Pairs.{ordered}
 use Rattle.scalar_domain.proofs.refine.below.Goals as goal
 

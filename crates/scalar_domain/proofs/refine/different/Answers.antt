@@ -1,5 +1,6 @@
-use Rattle.std.proofs.Common.{◌≡◌, ◌≢◌, inl, inr, sym, ◌∙◌, ap, subst}
-use Rattle.scalar_domain.specs.Relation.{IsBetween, IsNoBound}
+use Rattle.bpf_model.proofs.Prelude.{◌≡◌, ◌≢◌, inl, inr, sym, ◌∙◌, ap, subst}
+use Rattle.scalar_domain.proofs.Prelude.{IsBetween}
+use Rattle.scalar_domain.specs.Relation.{IsNoBound}
 use Rattle.scalar_domain.proofs.Pairs.{parted, mapped, turned}
 use Rattle.scalar_domain.proofs.refine.different.Goals as goal
 

@@ -1,5 +1,4 @@
-use Rattle.std.proofs.Common.{arith}
-use Rattle.std.proofs.lemmas.Bool.{false≢true}
+use Rattle.bpf_model.proofs.Prelude.{arith, false≢true}
 use Rattle.scalar_domain.proofs.Edges.{no_wider-trans}
 use Rattle.scalar_domain.proofs.Pairs.{between, shared}
 use Rattle.scalar_domain.proofs.refine.equal.Goals as goal

@@ -1,7 +1,5 @@
-use Rattle.std.proofs.Common.{◌^◌, inl, inr, sym, ◌∙◌, ap, subst, arith}
-use Rattle.std.proofs.lemmas.Option.{IfSome_then}
-use Rattle.std.specs.Int.{w32}
-use Rattle.scalar_domain.specs.Relation.{Related, SignedRelated, AreLeft, Counts, IsBetween, Told, ToldSigned, relation_on}
+use Rattle.bpf_model.proofs.Prelude.{◌^◌, inl, inr, sym, ◌∙◌, ap, subst, arith, IfSome_then, w32}
+use Rattle.scalar_domain.proofs.Prelude.{Related, SignedRelated, AreLeft, Counts, IsBetween, Told, ToldSigned, relation_on}
 use Rattle.scalar_domain.proofs.Edges.{related, signed_related}
 use Rattle.scalar_domain.proofs.Pairs.{left_along, left_signed}
 use Rattle.scalar_domain.proofs.refine.refine_narrow.Goals as goal

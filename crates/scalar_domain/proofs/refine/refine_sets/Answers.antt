@@ -1,6 +1,4 @@
-use Rattle.std.proofs.Common.{◌≡◌, sym, ◌∙◌, subst, arith}
-use Rattle.std.proofs.lemmas.Bool.{false≢true}
-use Rattle.bpf_model.specs.Arithmetic.{compares}
+use Rattle.bpf_model.proofs.Prelude.{◌≡◌, sym, ◌∙◌, subst, arith, false≢true, compares}
 use Rattle.scalar_domain.specs.Relation.{AreHeld}
 use Rattle.scalar_domain.proofs.Edges.{no_wider-refl}
 use Rattle.scalar_domain.proofs.Pairs.{differ, one_held}

@@ -1,8 +1,5 @@
-use Rattle.std.proofs.Common.{◌≡◌, ◌<◌, ◌^◌, inl, inr, sym, ◌∙◌, ap, subst, arith}
-use Rattle.std.specs.Prelude.{IfSome}
-use Rattle.std.proofs.lemmas.Option.{IfSome_then}
-use Rattle.bpf_model.specs.Arithmetic.{compares}
-use Rattle.scalar_domain.specs.Relation.{Counts, LeavesSome, relation_on}
+use Rattle.bpf_model.proofs.Prelude.{◌≡◌, ◌<◌, ◌^◌, inl, inr, sym, ◌∙◌, ap, subst, arith, IfSome, IfSome_then, compares}
+use Rattle.scalar_domain.proofs.Prelude.{Counts, LeavesSome, relation_on}
 use Rattle.scalar_domain.proofs.Edges.{narrow_compares}
 use Rattle.scalar_domain.proofs.Pairs.{left_narrow}
 use Rattle.scalar_domain.proofs.refine.refine_words.Goals as goal

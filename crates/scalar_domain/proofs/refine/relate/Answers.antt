@@ -1,9 +1,5 @@
-use Rattle.std.proofs.Common.{◌≡◌, ◌<◌, ◌≤◌, ◌∙◌, inr, sym, subst, arith}
-use Rattle.std.specs.Prelude.{bit_and, IfSome}
-use Rattle.std.specs.Int.Bits.{and_zero_l}
-use Rattle.std.proofs.lemmas.Nat.{and_comm}
-use Rattle.std.proofs.lemmas.Option.{IfSome_then}
-use Rattle.scalar_domain.specs.Relation.{Related, AreLeft, Counts, IsBetween, LeavesSome, Told}
+use Rattle.bpf_model.proofs.Prelude.{◌≡◌, ◌<◌, ◌≤◌, ◌∙◌, inr, sym, subst, arith, bit_and, IfSome, and_zero_l, and_comm, IfSome_then}
+use Rattle.scalar_domain.proofs.Prelude.{Related, AreLeft, Counts, IsBetween, LeavesSome, Told}
 use Rattle.scalar_domain.proofs.Edges.{apart, outside}
 use Rattle.scalar_domain.proofs.Pairs.{apart_left, between, turned}
 use Rattle.scalar_domain.proofs.refine.relate.Goals as goal

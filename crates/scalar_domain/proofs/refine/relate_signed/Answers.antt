@@ -1,6 +1,5 @@
-use Rattle.std.proofs.Common.{◌<◌, ◌≤◌, sym, subst, arith}
-use Rattle.std.proofs.lemmas.Option.{IfSome_then}
-use Rattle.scalar_domain.specs.Relation.{SignedRelated, AreLeft, IsBetween, ToldSigned}
+use Rattle.bpf_model.proofs.Prelude.{◌<◌, ◌≤◌, sym, subst, arith, IfSome_then}
+use Rattle.scalar_domain.proofs.Prelude.{SignedRelated, AreLeft, IsBetween, ToldSigned}
 use Rattle.scalar_domain.specs.declared.relation.Relation.TheVariants.{Below, AtMost, Above, AtLeast}
 use Rattle.scalar_domain.proofs.Edges.{no_wider-trans}
 use Rattle.scalar_domain.proofs.Pairs.{signed_left, signed_right}

@@ -1,7 +1,6 @@
-use Rattle.std.proofs.Common.{ℕ, ◌%◌, ◌^◌, ◌≤◌, ◌<◌, ap, sym, ◌∙◌, subst, arith}
-use Rattle.std.specs.Int.{trailing_zeros, w64}
-use Rattle.std.proofs.lemmas.Nat.Bits.{ones_shl, bit_at-trailing_zeros}
-use Rattle.scalar_domain.specs.Mask.{Within}
+use Rattle.bpf_model.proofs.Prelude.{ℕ, ◌%◌, ◌^◌, ◌≤◌, ◌<◌, ap, sym, ◌∙◌, subst, arith, trailing_zeros, w64, bit_at-trailing_zeros}
+use Rattle.scalar_domain.proofs.Prelude.{Within}
+use Rattle.std.proofs.lemmas.Nat.Bits.{ones_shl}
 use Rattle.scalar_domain.proofs.Multiples.{lowest_zero, most_zero, from_low_zero, only_zero}
 use Rattle.scalar_domain.proofs.sums.ones_from.Goals as goal
 

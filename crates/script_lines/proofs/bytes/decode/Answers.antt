@@ -1,4 +1,4 @@
-use Rattle.std.proofs.Common.{sym, ◌∙◌}
+use Rattle.bpf_model.proofs.Prelude.{sym, ◌∙◌}
 use Rattle.script_lines.proofs.HexLaws.{decoded}
 use Rattle.script_lines.proofs.bytes.decode.Goals as goal
 

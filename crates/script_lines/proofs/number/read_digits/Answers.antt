@@ -1,4 +1,4 @@
-use Rattle.std.proofs.Common.{sym, arith}
+use Rattle.bpf_model.proofs.Prelude.{sym, arith}
 use Rattle.script_lines.proofs.NumberLaws.{all_read, too_large}
 use Rattle.script_lines.proofs.number.read_digits.Goals as goal
 

@@ -1,6 +1,4 @@
-use Rattle.std.proofs.Common.{◌≡◌, ℕ, List, ◌++◌, ap, ◌∙◌, append_assoc}
-use Rattle.std.specs.Prelude.{codes}
-use Rattle.std.proofs.lemmas.Result.{on_ok_weaker}
+use Rattle.bpf_model.proofs.Prelude.{◌≡◌, ℕ, List, ◌++◌, ap, ◌∙◌, append_assoc, codes, on_ok_weaker}
 use Rattle.script_lines.specs.ReplyText.{counted}
 use Rattle.script_lines.proofs.reply_text.push_stat.Goals as goal
 

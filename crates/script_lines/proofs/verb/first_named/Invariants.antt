@@ -1,5 +1,4 @@
-use Rattle.std.proofs.Common.{◌≡◌, drop}
-use Rattle.std.specs.List.{find}
+use Rattle.bpf_model.proofs.Prelude.{◌≡◌, drop, find}
 use Rattle.std.specs.Str.{bytes_eq}
 use Rattle.script_lines.specs.Grammar.{verb_name}
 use Rattle.script_lines.proofs.verb.first_named.Given as goal

@@ -1,4 +1,4 @@
-use Rattle.std.proofs.Common.{ℕ, ◌≡◌, ◌≢◌, ◌<◌, List, length, get_or, arith}
+use Rattle.bpf_model.proofs.Prelude.{ℕ, ◌≡◌, ◌≢◌, ◌<◌, List, length, get_or, arith}
 use Rattle.script_lines.proofs.WordLaws.{first_word}
 use Rattle.script_lines.proofs.words.split_word.Goals as goal
 

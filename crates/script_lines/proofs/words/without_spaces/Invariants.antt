@@ -1,4 +1,4 @@
-use Rattle.std.proofs.Common.{◌≡◌, length}
+use Rattle.bpf_model.proofs.Prelude.{◌≡◌, length}
 use Rattle.script_lines.specs.Words.{words_of}
 use Rattle.script_lines.proofs.words.without_spaces.Given as goal
 

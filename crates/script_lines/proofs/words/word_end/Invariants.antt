@@ -1,4 +1,4 @@
-use Rattle.std.proofs.Common.{◌≢◌, ◌<◌, ℕ, slice_index}
+use Rattle.bpf_model.proofs.Prelude.{◌≢◌, ◌<◌, ℕ, slice_index}
 use Rattle.script_lines.proofs.words.word_end.Given as goal
 
 abbrev pub invariant-loop-index : goal.invariant-loop-index

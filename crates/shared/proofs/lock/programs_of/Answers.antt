@@ -1,9 +1,7 @@
-use Rattle.std.proofs.Common.{◌≡◌, ◌∙◌, List, Some, ap, map, sym, subst, ◌+◌, take}
-use Rattle.std.specs.Prelude.{slice_get}
+use Rattle.bpf_model.proofs.Prelude.{◌≡◌, ◌∙◌, List, Some, ap, map, sym, subst, ◌+◌, take, slice_get, shapes_of}
+use Rattle.verifier.proofs.Prelude.{Checked}
+use Rattle.world.proofs.Prelude.{program_of}
 use Rattle.bpf_model.specs.declared.limits.MapShape.{MapShape}
-use Rattle.bpf_model.specs.View.{shapes_of}
-use Rattle.verifier.specs.Checked.{Checked}
-use Rattle.world.specs.Programs.{program_of}
 use Rattle.shared.proofs.Kept.{AreKept, IsKeptAs, kept-more}
 use Rattle.shared.proofs.lock.programs_of.Goals as goal
 

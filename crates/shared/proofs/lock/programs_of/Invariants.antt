@@ -1,5 +1,4 @@
-use Rattle.std.proofs.Common.{take}
-use Rattle.bpf_model.specs.View.{shapes_of}
+use Rattle.bpf_model.proofs.Prelude.{take, shapes_of}
 use Rattle.shared.proofs.Kept.{AreKept}
 use Rattle.shared.proofs.lock.programs_of.Given as goal
 

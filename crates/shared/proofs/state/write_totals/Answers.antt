@@ -1,4 +1,4 @@
-use Rattle.std.proofs.Common.{rules}
+use Rattle.bpf_model.proofs.Prelude.{rules}
 use Rattle.shared.proofs.Meters.{writes_totals}
 use Rattle.shared.proofs.state.write_totals.Goals as goal
 

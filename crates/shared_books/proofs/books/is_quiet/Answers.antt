@@ -1,6 +1,4 @@
-use Rattle.std.proofs.Common.{◌≡◌, ◌∙◌, sym, ap, arith}
-use Rattle.std.specs.Prelude.{count_by, is_some}
-use Rattle.std.proofs.lemmas.Bool.Decides.{nat_tests}
+use Rattle.bpf_model.proofs.Prelude.{◌≡◌, ◌∙◌, sym, ap, arith, count_by, is_some, nat_tests}
 use Rattle.bpf_model.specs.declared.stat.Stat.{Stat}
 use Rattle.shared_books.proofs.Quiet.{free-where-none, none-where-free}
 use Rattle.shared_books.proofs.books.is_quiet.Goals as goal

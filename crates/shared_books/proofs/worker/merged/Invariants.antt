@@ -1,4 +1,5 @@
-use Rattle.std.proofs.Common.{◌≡◌, ◌+◌, vec_len, sum_by}
+use Rattle.bpf_model.proofs.Prelude.{◌≡◌, ◌+◌, vec_len}
+use Rattle.std.proofs.Common.{sum_by}
 use Rattle.shared_books.specs.Books.{WorkerView}
 use Rattle.shared_books.proofs.worker.merged.Given as goal
 

@@ -1,5 +1,4 @@
-use Rattle.std.proofs.Common.{◌≡◌, ◌+◌, vec_len}
-use Rattle.std.specs.Prelude.{All}
+use Rattle.bpf_model.proofs.Prelude.{◌≡◌, ◌+◌, vec_len, All}
 use Rattle.shared_books.specs.Books.{WorkerView, AreNumbered}
 use Rattle.shared_books.proofs.worker.new_workers.Given as goal
 

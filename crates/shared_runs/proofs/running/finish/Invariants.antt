@@ -1,5 +1,5 @@
-use Rattle.std.proofs.Common.{◌-◌, length}
-use Rattle.machine.specs.Courses.{IsOn, words_of}
+use Rattle.bpf_model.proofs.Prelude.{◌-◌, length}
+use Rattle.machine.proofs.Prelude.{IsOn, words_of}
 use Rattle.shared_runs.specs.Running.{HasComeTo}
 use Rattle.shared_runs.proofs.running.finish.Given as goal
 

@@ -1,13 +1,8 @@
-use Rattle.std.proofs.Common.{◌≡◌, ℕ, ◌+◌, ◌-◌, ◌*◌, ◌≤◌, List, [], arith, ap, length, min, ◌∙◌, sym, subst}
-use Rattle.std.specs.Prelude.{drop, take}
-use Rattle.std.proofs.lemmas.List.{length-drop, length-take}
-use Rattle.bpf_model.specs.declared.limits.MapShape.{MapShape}
-use Rattle.bpf_model.specs.declared.limits.TheConstants.{FRAME_BYTES}
-use Rattle.bpf_model.specs.Word.{frame_base}
-use Rattle.world_laws.specs.Calling.{bytes_in}
-use Rattle.world_laws.specs.Moving.{word_in}
-use Rattle.world_laws.specs.Reaching.{IsInFrame}
-use Rattle.machine.specs.Workspaces.{own_view}
+use Rattle.bpf_model.proofs.Prelude.{◌≡◌, ℕ, ◌+◌, ◌-◌, ◌*◌, ◌≤◌, List, [], arith, ap, length, min, ◌∙◌, sym, subst, drop, take, length-drop, length-take}
+use Rattle.bpf_model.proofs.Prelude.{frame_base}
+use Rattle.machine.proofs.Prelude.{own_view}
+use Rattle.model_laws.proofs.Prelude.{MapShape, FRAME_BYTES}
+use Rattle.world_laws.proofs.Prelude.{bytes_in, word_in, IsInFrame}
 use Rattle.shared_runs.specs.Serving.{map_named}
 use Rattle.shared_runs.proofs.running.look_up.Goals as goal
 

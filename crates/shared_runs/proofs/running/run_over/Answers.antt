@@ -1,6 +1,5 @@
-use Rattle.std.proofs.Common.{ℕ, List, length, ap, subst, ◌∙◌}
-use Rattle.std.proofs.lemmas.List.{length-replicate}
-use Rattle.bpf_model.specs.declared.limits.TheConstants.{FRAME_BYTES}
+use Rattle.bpf_model.proofs.Prelude.{ℕ, List, length, ap, subst, ◌∙◌, length-replicate}
+use Rattle.model_laws.proofs.Prelude.{FRAME_BYTES}
 use Rattle.shared_runs.specs.Running.{RunsOver}
 use Rattle.shared_runs.proofs.running.run_over.Goals as goal
 

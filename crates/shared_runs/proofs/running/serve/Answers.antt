@@ -1,10 +1,7 @@
-use Rattle.std.proofs.Common.{rules, ◌≡◌, [], ◌∷◌, sym, subst, w16, ℕ}
-use mir.Val.{SFits}
-use Rattle.std.proofs.lemmas.Int.{to_z-of_z}
-use Rattle.bpf_model.specs.declared.call.Helper.TheVariants.{Lookup}
+use Rattle.bpf_model.proofs.Prelude.{rules, ◌≡◌, [], ◌∷◌, sym, subst, ℕ, SFits, to_z-of_z, byte_count, RunView}
+use Rattle.model_laws.proofs.Prelude.{Lookup}
+use Rattle.std.proofs.Common.{w16}
 use Rattle.machine.specs.declared.request.Request.TheVariants.{Call}
-use Rattle.bpf_model.specs.Access.{byte_count}
-use Rattle.bpf_model.specs.View.{RunView}
 use Rattle.shared_runs.specs.Serving.{Serves, asking}
 use Rattle.shared_runs.specs.Words.{part_of}
 use Rattle.shared_runs.specs.SharedRuns.{closing, opening}

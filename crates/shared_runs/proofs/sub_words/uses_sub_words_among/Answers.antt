@@ -1,8 +1,6 @@
-use Rattle.std.proofs.Common.{◌≡◌, ℕ, ◌⊎◌, inl, inr, refl, sym, ap, subst, ◌∙◌, arith, List, Some, length}
-use Rattle.std.specs.Prelude.{slice_get}
-use Rattle.std.proofs.lemmas.Bool.{cases_eq, false≢true}
-use Rattle.std.proofs.lemmas.Option.{same_Some, slice_get_read, slice_get_within}
-use Rattle.bpf_model.specs.declared.insn.Insn.{Insn}
+use Rattle.bpf_model.proofs.Prelude.{◌≡◌, ℕ, ◌⊎◌, inl, inr, refl, sym, ap, subst, ◌∙◌, arith, List, Some, length, slice_get, cases_eq, false≢true, same_Some}
+use Rattle.bpf_model.proofs.Prelude.{slice_get_read, slice_get_within}
+use Rattle.model_laws.proofs.Prelude.{Insn}
 use Rattle.shared_runs.specs.Words.{ChangesMap, IsSubWordAccess}
 use Rattle.shared_runs.proofs.sub_words.uses_sub_words_among.Goals as goal
 

@@ -1,6 +1,5 @@
-use Rattle.std.proofs.Common.{ℕ, ◌≡◌, ◌<◌, ◌⊎◌, Some}
-use Rattle.std.specs.Prelude.{slice_get}
-use Rattle.bpf_model.specs.declared.insn.Insn.{Insn}
+use Rattle.bpf_model.proofs.Prelude.{ℕ, ◌≡◌, ◌<◌, ◌⊎◌, Some, slice_get}
+use Rattle.model_laws.proofs.Prelude.{Insn}
 use Rattle.shared_runs.specs.Words.{ChangesMap, IsSubWordAccess}
 use Rattle.shared_runs.proofs.sub_words.uses_sub_words_among.Given as goal
 

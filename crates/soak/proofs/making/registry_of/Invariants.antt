@@ -1,4 +1,4 @@
-use Rattle.bpf_model.specs.View.{AreNewMaps}
+use Rattle.bpf_model.proofs.Prelude.{AreNewMaps}
 use Rattle.soak.proofs.making.registry_of.Given as goal
 
 abbrev pub invariant-loop-map : goal.invariant-loop-map

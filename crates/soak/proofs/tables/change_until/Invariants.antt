@@ -1,4 +1,4 @@
-use Rattle.std.proofs.Common.{◌≡◌}
+use Rattle.bpf_model.proofs.Prelude.{◌≡◌}
 use Rattle.soak.proofs.tables.change_until.Given as goal
 
 abbrev pub invariant-loop-turn : goal.invariant-loop-turn

@@ -1,4 +1,4 @@
-use Rattle.map_table.specs.Held.{IsReady}
+use Rattle.map_table.proofs.Prelude.{IsReady}
 use Rattle.soak.proofs.tables.watch.Given as goal
 
 abbrev pub invariant-loop : goal.invariant-loop

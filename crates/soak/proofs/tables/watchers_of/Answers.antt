@@ -1,7 +1,5 @@
-use Rattle.std.proofs.Common.{[], List, Bool, true, false, sym, subst}
-use Rattle.std.specs.Prelude.{All, if◌then◌else◌}
-use Rattle.std.proofs.lemmas.List.Elements.{All-append, All-cons, All-head, All-nil, All-tail}
-use Rattle.map_table.specs.Held.{IsReady}
+use Rattle.bpf_model.proofs.Prelude.{[], List, Bool, true, false, sym, subst, All, if◌then◌else◌, All-append, All-cons, All-head, All-nil, All-tail}
+use Rattle.map_table.proofs.Prelude.{IsReady}
 use Rattle.soak.specs.Tables.{IsReadyWatcher}
 use Rattle.soak.proofs.tables.watchers_of.Goals as goal
 

@@ -1,5 +1,5 @@
-use Rattle.std.specs.Prelude.{All}
-use Rattle.map_table.specs.Held.{IsReady}
+use Rattle.bpf_model.proofs.Prelude.{All}
+use Rattle.map_table.proofs.Prelude.{IsReady}
 use Rattle.soak.specs.Tables.{IsReadyWatcher}
 use Rattle.soak.proofs.tables.watchers_of.Given as goal
 

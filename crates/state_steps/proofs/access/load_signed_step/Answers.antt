@@ -1,7 +1,6 @@
-use Rattle.std.proofs.Common.{rules, refl, ◌∙◌}
-use Rattle.bpf_model.specs.declared.insn.Insn.TheVariants.{LoadSigned}
-use Rattle.register_kinds.specs.States.{state_of}
-use Rattle.bpf_model.specs.Access.{byte_count, unsigned_width}
+use Rattle.bpf_model.proofs.Prelude.{rules, refl, ◌∙◌, byte_count, unsigned_width}
+use Rattle.model_laws.proofs.Prelude.{LoadSigned}
+use Rattle.register_kinds.proofs.Prelude.{state_of}
 use Rattle.state_steps.proofs.Serving.{load_serves, load_ready_maps, signed_no_other, no_section_call}
 use Rattle.state_steps.proofs.Stepping.{access_step}
 use Rattle.state_steps.proofs.Keeping.{set_keeps, signed_ready}

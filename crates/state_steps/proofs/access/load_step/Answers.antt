@@ -1,7 +1,6 @@
-use Rattle.std.proofs.Common.{rules, refl, ◌∙◌}
-use Rattle.bpf_model.specs.declared.insn.Insn.TheVariants.{Load}
-use Rattle.register_kinds.specs.States.{state_of}
-use Rattle.bpf_model.specs.Access.{byte_count}
+use Rattle.bpf_model.proofs.Prelude.{rules, refl, ◌∙◌, byte_count}
+use Rattle.model_laws.proofs.Prelude.{Load}
+use Rattle.register_kinds.proofs.Prelude.{state_of}
 use Rattle.state_steps.proofs.Serving.{load_serves, load_ready_maps, load_no_other, no_section_call}
 use Rattle.state_steps.proofs.Stepping.{access_step}
 use Rattle.state_steps.proofs.Keeping.{set_keeps, load_ready}

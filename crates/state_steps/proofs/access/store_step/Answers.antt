@@ -1,7 +1,6 @@
-use Rattle.std.proofs.Common.{rules, refl, None, ◌∙◌}
-use Rattle.bpf_model.specs.declared.insn.Insn.TheVariants.{Store}
-use Rattle.bpf_model.specs.Access.{byte_count}
-use Rattle.register_kinds.specs.States.{state_of}
+use Rattle.bpf_model.proofs.Prelude.{rules, refl, None, ◌∙◌, byte_count}
+use Rattle.model_laws.proofs.Prelude.{Store}
+use Rattle.register_kinds.proofs.Prelude.{state_of}
 use Rattle.state_steps.proofs.Serving.{serves_none, never_ready}
 use Rattle.state_steps.proofs.Stepping.{access_step}
 use Rattle.state_steps.proofs.Keeping.{store_keeps, store_reaches, store_number, taken_within}

@@ -1,7 +1,7 @@
-use Rattle.std.proofs.Common.{rules, refl, ◌∙◌}
-use Rattle.bpf_model.specs.declared.insn.Insn.TheVariants.{Alu}
-use Rattle.register_kinds.specs.States.{state_of}
-use Rattle.effects.specs.Computes.{SetsKind}
+use Rattle.bpf_model.proofs.Prelude.{rules, refl, ◌∙◌}
+use Rattle.effects.proofs.Prelude.{SetsKind}
+use Rattle.model_laws.proofs.Prelude.{Alu}
+use Rattle.register_kinds.proofs.Prelude.{state_of}
 use Rattle.state_steps.proofs.Serving.{alu_serves, alu_ready}
 use Rattle.state_steps.proofs.Stepping.{quiet_step}
 use Rattle.state_steps.proofs.Keeping.{set_keeps, alu_reads}

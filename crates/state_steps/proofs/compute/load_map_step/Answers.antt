@@ -1,9 +1,8 @@
-use Rattle.std.proofs.Common.{rules, refl, w32, ◌∙◌}
-use mir.Val.{SFits}
-use Rattle.std.proofs.lemmas.Int.{to_z-of_z}
-use Rattle.bpf_model.specs.declared.insn.Insn.TheVariants.{LoadMap}
-use Rattle.register_kinds.specs.States.{state_of}
-use Rattle.effects.specs.Computes.{SetsKind}
+use Rattle.bpf_model.proofs.Prelude.{rules, refl, ◌∙◌, SFits, to_z-of_z}
+use Rattle.effects.proofs.Prelude.{SetsKind}
+use Rattle.model_laws.proofs.Prelude.{LoadMap}
+use Rattle.register_kinds.proofs.Prelude.{state_of}
+use Rattle.std.proofs.Common.{w32}
 use Rattle.state_steps.proofs.Serving.{map_serves}
 use Rattle.state_steps.proofs.Stepping.{quiet_step}
 use Rattle.state_steps.proofs.compute.load_map_step.Goals as goal

@@ -1,6 +1,6 @@
-use Rattle.std.proofs.Common.{refl, None, ◌∙◌}
-use Rattle.bpf_model.specs.declared.insn.Insn.TheVariants.{LoadNumber}
-use Rattle.register_kinds.specs.States.{state_of}
+use Rattle.bpf_model.proofs.Prelude.{refl, None, ◌∙◌}
+use Rattle.model_laws.proofs.Prelude.{LoadNumber}
+use Rattle.register_kinds.proofs.Prelude.{state_of}
 use Rattle.state_steps.proofs.Serving.{serves_none}
 use Rattle.state_steps.proofs.Stepping.{quiet_step}
 use Rattle.state_steps.proofs.Keeping.{set_keeps}

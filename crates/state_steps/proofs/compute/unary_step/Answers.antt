@@ -1,7 +1,6 @@
-use Rattle.std.proofs.Common.{refl, None, ◌∙◌}
-use Rattle.bpf_model.specs.declared.insn.Insn.TheVariants.{Unary}
-use Rattle.bpf_model.specs.Operand.{unary_source}
-use Rattle.register_kinds.specs.States.{state_of}
+use Rattle.bpf_model.proofs.Prelude.{refl, None, ◌∙◌, unary_source}
+use Rattle.model_laws.proofs.Prelude.{Unary}
+use Rattle.register_kinds.proofs.Prelude.{state_of}
 use Rattle.state_steps.proofs.Serving.{serves_none}
 use Rattle.state_steps.proofs.Stepping.{quiet_step}
 use Rattle.state_steps.proofs.Keeping.{set_keeps}

@@ -1,7 +1,6 @@
-use Rattle.std.proofs.Common.{sym, ◌∙◌}
-use Rattle.std.proofs.lemmas.Result.{on_ok_weaker, IfOk-weaker}
-use Rattle.state_steps.proofs.Stepping.{null_forks, null_others, null_others_taken, maybe_compares, value_compares}
-use Rattle.state_steps.proofs.Stepping.{numbers_compare, null_no_number, value_no_number}
+use Rattle.bpf_model.proofs.Prelude.{sym, ◌∙◌, on_ok_weaker, IfOk-weaker}
+use Rattle.state_steps.proofs.Stepping.{null_forks, null_others, null_others_taken, maybe_compares, value_compares, numbers_compare, null_no_number}
+use Rattle.state_steps.proofs.Stepping.{value_no_number}
 use Rattle.state_steps.proofs.control.branch.Goals as goal
 
 pub returns-in_ok-fork_null-in-Some-MaybeNull-clause-sound : goal.returns-in_ok-fork_null-in-Some-MaybeNull-clause-sound

@@ -1,11 +1,9 @@
-use Rattle.std.proofs.Common.{rules, refl, pos, inl, inr}
-use Rattle.bpf_model.specs.declared.limits.TheConstants.{FRAME_BYTES}
+use Rattle.bpf_model.proofs.Prelude.{rules, refl, pos, inl, inr, none-some}
+use Rattle.effects.proofs.Prelude.{taken_from}
+use Rattle.model_laws.proofs.Prelude.{FRAME_BYTES, JumpIf}
+use Rattle.register_kinds.proofs.Prelude.{state_of}
 use Rattle.state_steps.proofs.Serving.{branch_serves, branch_ready}
 use Rattle.state_steps.proofs.Keeping.{narrow_keeps, operand_number}
-use Rattle.std.proofs.lemmas.Option.{none-some}
-use Rattle.bpf_model.specs.declared.insn.Insn.TheVariants.{JumpIf}
-use Rattle.register_kinds.specs.States.{state_of}
-use Rattle.effects.specs.Forks.{taken_from}
 use Rattle.state_steps.proofs.control.branch_step.Goals as goal
 
 pub returns : goal.returns

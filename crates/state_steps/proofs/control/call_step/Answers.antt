@@ -1,9 +1,7 @@
-use Rattle.std.proofs.Common.{◌≡◌, ◌∙◌, rules, refl, sym, w32}
-use Rattle.std.specs.Prelude.{Err, Ok}
-use mir.Val.{SFits}
-use Rattle.std.proofs.lemmas.Int.{to_z-of_z}
-use Rattle.bpf_model.specs.declared.insn.Insn.TheVariants.{Call}
-use Rattle.register_kinds.specs.States.{state_of}
+use Rattle.bpf_model.proofs.Prelude.{◌≡◌, ◌∙◌, rules, refl, sym, Err, Ok, SFits, to_z-of_z}
+use Rattle.model_laws.proofs.Prelude.{Call}
+use Rattle.register_kinds.proofs.Prelude.{state_of}
+use Rattle.std.proofs.Common.{w32}
 use Rattle.state_steps.proofs.Serving.{call_ready, call_serves}
 use Rattle.state_steps.proofs.Stepping.{quiet_step, above_five, inside_here}
 use Rattle.state_steps.proofs.control.call_step.Goals as goal

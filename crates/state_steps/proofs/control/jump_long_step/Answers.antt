@@ -1,7 +1,6 @@
-use Rattle.std.proofs.Common.{refl}
-use Rattle.bpf_model.specs.declared.insn.Insn.TheVariants.{JumpLong}
-use Rattle.std.specs.Prelude.{None}
-use Rattle.register_kinds.specs.States.{state_of}
+use Rattle.bpf_model.proofs.Prelude.{refl, None}
+use Rattle.model_laws.proofs.Prelude.{JumpLong}
+use Rattle.register_kinds.proofs.Prelude.{state_of}
 use Rattle.state_steps.proofs.Keeping.{same_keeps}
 use Rattle.state_steps.proofs.Serving.{serves_none}
 use Rattle.state_steps.proofs.Stepping.{quiet_step}

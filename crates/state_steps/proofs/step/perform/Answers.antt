@@ -1,7 +1,6 @@
-use Rattle.std.proofs.Common.{rules, subst, sym, Ok, w32}
-use mir.Val.{SFits}
-use Rattle.std.proofs.lemmas.Int.{to_z-of_z}
-use Rattle.bpf_model.specs.declared.insn.Insn.{Insn}
+use Rattle.bpf_model.proofs.Prelude.{rules, subst, sym, Ok, SFits, to_z-of_z}
+use Rattle.model_laws.proofs.Prelude.{Insn}
+use Rattle.std.proofs.Common.{w32}
 use Rattle.state_steps.specs.Stepped.{Stepped}
 use Rattle.state_steps.proofs.step.perform.Goals as goal
 

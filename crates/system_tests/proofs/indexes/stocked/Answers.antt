@@ -1,4 +1,4 @@
-use Rattle.std.proofs.Common.{arith}
+use Rattle.bpf_model.proofs.Prelude.{arith}
 use Rattle.system_tests.specs.declared.indexes.TheConstants.{MANY}
 use Rattle.system_tests.proofs.Stocking.{filled_new, stocked_when}
 use Rattle.system_tests.proofs.indexes.stocked.Goals as goal

@@ -1,10 +1,9 @@
-use Rattle.std.proofs.Common.{◌≡◌, ℕ, sym, subst, rules}
+use Rattle.bpf_model.proofs.Prelude.{◌≡◌, ℕ, sym, subst, rules}
+use Rattle.machine.proofs.Prelude.{RunWords, Awaits, MayGive}
+use Rattle.verifier.proofs.Prelude.{Checked}
 use Rattle.bpf_model.specs.declared.call.Helper.{Helper}
 use Rattle.bpf_model.specs.declared.call.Helper.TheVariants.{Update, Delete}
 use Rattle.machine.specs.declared.request.Request.TheVariants.{Call}
-use Rattle.machine.specs.RunWords.{RunWords}
-use Rattle.machine.specs.Standing.{Awaits, MayGive}
-use Rattle.verifier.specs.Checked.{Checked}
 use Rattle.system_tests.proofs.standing.call_word.Goals as goal
 
 -- what one helper may be answered, another that is the same may

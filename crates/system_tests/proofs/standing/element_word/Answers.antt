@@ -1,4 +1,4 @@
-use Rattle.std.proofs.Common.{refl, inl, inr, arith}
+use Rattle.bpf_model.proofs.Prelude.{refl, inl, inr, arith}
 use Rattle.system_tests.proofs.standing.element_word.Goals as goal
 
 pub returns-then-found : goal.returns-then-found

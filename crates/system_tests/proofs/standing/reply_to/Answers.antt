@@ -1,6 +1,5 @@
-use Rattle.std.proofs.Common.{sym, subst}
-use Rattle.std.specs.Prelude.{IfSome}
-use Rattle.machine.specs.Standing.{Awaits, MayGive}
+use Rattle.bpf_model.proofs.Prelude.{sym, subst, IfSome}
+use Rattle.machine.proofs.Prelude.{Awaits, MayGive}
 use Rattle.system_tests.proofs.standing.reply_to.Goals as goal
 
 pub call_word-requires-clause-waits : goal.call_word-requires-clause-waits

@@ -1,4 +1,4 @@
-use Rattle.machine.specs.Standing.{IsValidRun}
+use Rattle.machine.proofs.Prelude.{IsValidRun}
 use Rattle.system_tests.proofs.standing.value_of.Given as goal
 
 -- the run stands

@@ -1,9 +1,7 @@
-use Rattle.std.proofs.Common.{◌≡◌, ◌≤◌, ℕ, zero, suc, sym, subst, refl, [], ◌∷◌, arith}
-use Rattle.std.specs.Prelude.{slice_get, Some}
-use Rattle.std.proofs.lemmas.Option.{none-some, same_Some}
+use Rattle.bpf_model.proofs.Prelude.{◌≡◌, ◌≤◌, ℕ, zero, suc, sym, subst, refl, [], ◌∷◌, arith, slice_get, Some, none-some, same_Some}
+use Rattle.machine.proofs.Prelude.{AreHashMaps}
 use Rattle.bpf_model.specs.declared.limits.MapKind.TheVariants.{Hash}
 use Rattle.bpf_model.specs.declared.limits.MapShape.{MapShape}
-use Rattle.machine.specs.Standing.{AreHashMaps}
 use Rattle.system_tests.proofs.standing.verified_of.Goals as goal
 
 -- a list of one map, which is a hash map that has room

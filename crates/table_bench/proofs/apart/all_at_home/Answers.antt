@@ -1,6 +1,4 @@
-use Rattle.std.proofs.Common.{[], sym, subst}
-use Rattle.std.specs.Prelude.{All}
-use Rattle.std.proofs.lemmas.List.Elements.{All-append, All-cons, All-nil}
+use Rattle.bpf_model.proofs.Prelude.{[], sym, subst, All, All-append, All-cons, All-nil}
 use Rattle.table_bench.specs.Reads.{IsAtHome}
 use Rattle.table_bench.proofs.Lists.{all-either}
 use Rattle.table_bench.proofs.apart.all_at_home.Goals as goal

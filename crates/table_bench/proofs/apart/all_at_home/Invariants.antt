@@ -1,4 +1,4 @@
-use Rattle.std.specs.Prelude.{All}
+use Rattle.bpf_model.proofs.Prelude.{All}
 use Rattle.table_bench.specs.Reads.{IsAtHome}
 use Rattle.table_bench.proofs.apart.all_at_home.Given as goal
 

@@ -1,4 +1,4 @@
-use Rattle.map_table.specs.Held.{IsReady}
+use Rattle.map_table.proofs.Prelude.{IsReady}
 use Rattle.table_bench.proofs.key_tables.look_up_all.Given as goal
 
 abbrev pub invariant-loop-turn : goal.invariant-loop-turn

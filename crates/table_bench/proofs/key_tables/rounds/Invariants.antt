@@ -1,5 +1,5 @@
-use Rattle.std.proofs.Common.{◌≡◌}
-use Rattle.map_table.specs.Held.{IsReady}
+use Rattle.bpf_model.proofs.Prelude.{◌≡◌}
+use Rattle.map_table.proofs.Prelude.{IsReady}
 use Rattle.table_bench.proofs.key_tables.rounds.Given as goal
 
 abbrev pub invariant-loop : goal.invariant-loop

@@ -1,4 +1,4 @@
-use Rattle.read_table.specs.Held.{IsReady}
+use Rattle.read_table.proofs.Prelude.{IsReady}
 use Rattle.table_bench.proofs.reader.look_up_all.Given as goal
 
 abbrev pub invariant-loop-turn : goal.invariant-loop-turn

@@ -1,6 +1,4 @@
-use Rattle.std.proofs.Common.{[], sym, subst}
-use Rattle.std.specs.Prelude.{All}
-use Rattle.std.proofs.lemmas.List.Elements.{All-append, All-cons, All-head, All-nil, All-tail}
+use Rattle.bpf_model.proofs.Prelude.{[], sym, subst, All, All-append, All-cons, All-head, All-nil, All-tail}
 use Rattle.table_bench.specs.declared.runner.Runner.{Runner}
 use Rattle.table_bench.proofs.Lists.{all-either}
 use Rattle.table_bench.proofs.runner.runners_of.Goals as goal

@@ -1,4 +1,4 @@
-use Rattle.std.specs.Prelude.{All}
+use Rattle.bpf_model.proofs.Prelude.{All}
 use Rattle.table_bench.specs.declared.runner.Runner.{Runner}
 use Rattle.table_bench.proofs.runner.runners_of.Given as goal
 

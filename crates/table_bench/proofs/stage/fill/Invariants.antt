@@ -1,4 +1,4 @@
-use Rattle.std.proofs.Common.{◌≡◌}
+use Rattle.bpf_model.proofs.Prelude.{◌≡◌}
 use Rattle.table_bench.proofs.stage.fill.Given as goal
 
 abbrev pub invariant-loop-key : goal.invariant-loop-key

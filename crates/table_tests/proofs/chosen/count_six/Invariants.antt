@@ -1,4 +1,4 @@
-use Rattle.std.proofs.Common.{◌≡◌}
+use Rattle.bpf_model.proofs.Prelude.{◌≡◌}
 use Rattle.table_tests.proofs.chosen.count_six.Given as goal
 
 abbrev pub invariant-loop-number : goal.invariant-loop-number

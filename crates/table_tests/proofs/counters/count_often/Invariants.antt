@@ -1,4 +1,4 @@
-use Rattle.map_table.specs.Held.{IsReady}
+use Rattle.map_table.proofs.Prelude.{IsReady}
 use Rattle.table_tests.proofs.counters.count_often.Given as goal
 
 abbrev pub invariant-loop : goal.invariant-loop

@@ -1,7 +1,6 @@
-use Rattle.std.proofs.Common.{[], ◌∷◌, zero, suc, arith}
-use Rattle.std.specs.Prelude.{All}
+use Rattle.bpf_model.proofs.Prelude.{[], ◌∷◌, zero, suc, arith, All}
+use Rattle.verifier.proofs.Prelude.{Checked}
 use Rattle.shared_runs.specs.Named.{ServesNamed}
-use Rattle.verifier.specs.Checked.{Checked}
 use Rattle.table_tests.proofs.counting.two_programs.Goals as goal
 
 all_two : (P : Checked → Type 0) (x y : Checked) → P x → P y → All P (x ∷ y ∷ [])

@@ -1,8 +1,7 @@
-use Rattle.std.proofs.Common.{[], ◌∷◌, zero, suc, arith}
-use Rattle.std.specs.Prelude.{All}
-use Rattle.read_table.specs.Table.{table_of}
+use Rattle.bpf_model.proofs.Prelude.{[], ◌∷◌, zero, suc, arith, All}
+use Rattle.read_table.proofs.Prelude.{table_of}
+use Rattle.verifier.proofs.Prelude.{Checked}
 use Rattle.shared_runs.specs.Words.{FitsTable}
-use Rattle.verifier.specs.Checked.{Checked}
 use Rattle.table_tests.proofs.jobs.two_programs.Goals as goal
 
 all_two : (P : Checked → Type 0) (x y : Checked) → P x → P y → All P (x ∷ y ∷ [])

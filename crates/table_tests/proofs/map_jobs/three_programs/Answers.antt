@@ -1,7 +1,6 @@
-use Rattle.std.proofs.Common.{[], ◌∷◌, zero, suc, arith}
-use Rattle.std.specs.Prelude.{All}
+use Rattle.bpf_model.proofs.Prelude.{[], ◌∷◌, zero, suc, arith, All}
+use Rattle.verifier.proofs.Prelude.{Checked}
 use Rattle.shared_runs.specs.MapRuns.{ServesMaps}
-use Rattle.verifier.specs.Checked.{Checked}
 use Rattle.table_tests.proofs.map_jobs.three_programs.Goals as goal
 
 all_three : (P : Checked → Type 0) (x y z : Checked) → P x → P y → P z → All P (x ∷ y ∷ z ∷ [])

@@ -1,4 +1,4 @@
-use Rattle.map_table.specs.Held.{IsReady}
+use Rattle.map_table.proofs.Prelude.{IsReady}
 use Rattle.table_tests.proofs.map_table_runs.count_runs.Given as goal
 
 abbrev pub invariant-loop-key : goal.invariant-loop-key

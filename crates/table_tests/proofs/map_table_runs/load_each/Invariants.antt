@@ -1,4 +1,4 @@
-use Rattle.map_table.specs.Held.{IsReady}
+use Rattle.map_table.proofs.Prelude.{IsReady}
 use Rattle.table_tests.proofs.map_table_runs.load_each.Given as goal
 
 abbrev pub invariant-loop-row : goal.invariant-loop-row

@@ -1,4 +1,4 @@
-use Rattle.read_table.specs.Held.{IsReady}
+use Rattle.read_table.proofs.Prelude.{IsReady}
 use Rattle.table_tests.proofs.read_table_runs.all_come_so.Given as goal
 
 abbrev pub invariant-loop-row : goal.invariant-loop-row

@@ -1,5 +1,5 @@
-use Rattle.std.proofs.Common.{◌≡◌}
-use Rattle.map_table.specs.Held.{IsReady}
+use Rattle.bpf_model.proofs.Prelude.{◌≡◌}
+use Rattle.map_table.proofs.Prelude.{IsReady}
 use Rattle.table_tests.proofs.room.count_found.Given as goal
 
 abbrev pub invariant-loop-number : goal.invariant-loop-number

@@ -1,4 +1,4 @@
-use Rattle.read_table.specs.Held.{IsReady}
+use Rattle.read_table.proofs.Prelude.{IsReady}
 use Rattle.table_tests.proofs.slots.count_found.Given as goal
 
 abbrev pub invariant-loop-number : goal.invariant-loop-number

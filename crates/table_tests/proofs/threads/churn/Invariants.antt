@@ -1,4 +1,4 @@
-use Rattle.std.proofs.Common.{◌≡◌}
+use Rattle.bpf_model.proofs.Prelude.{◌≡◌}
 use Rattle.table_tests.proofs.threads.churn.Given as goal
 
 abbrev pub invariant-loop-round : goal.invariant-loop-round

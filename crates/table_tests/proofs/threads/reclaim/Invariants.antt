@@ -1,5 +1,4 @@
-use Rattle.std.proofs.Common.{◌≡◌}
-use Rattle.std.specs.List.{Contains}
+use Rattle.bpf_model.proofs.Prelude.{◌≡◌, Contains}
 use Rattle.table_tests.proofs.threads.reclaim.Given as goal
 
 abbrev pub invariant-loop : goal.invariant-loop

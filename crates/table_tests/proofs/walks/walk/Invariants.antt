@@ -1,6 +1,6 @@
-use Rattle.std.proofs.Common.{◌≡◌}
-use Rattle.map_table_laws.specs.History.{inside}
-use Rattle.map_table.specs.Held.{IsKnown}
+use Rattle.bpf_model.proofs.Prelude.{◌≡◌}
+use Rattle.map_table_laws.proofs.Prelude.{inside}
+use Rattle.map_table.proofs.Prelude.{IsKnown}
 use Rattle.table_tests.proofs.walks.walk.Given as goal
 
 abbrev pub invariant-loop-way : goal.invariant-loop-way

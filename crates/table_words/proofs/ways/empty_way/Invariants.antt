@@ -1,5 +1,4 @@
-use Rattle.std.proofs.Common.{◌≢◌, ◌+◌, ◌<◌, ◌≤◌, ℕ}
-use Rattle.std.specs.Prelude.{slice_index}
+use Rattle.map_table_laws.proofs.Prelude.{◌≢◌, ◌+◌, ◌<◌, ◌≤◌, ℕ, slice_index}
 use Rattle.table_words.proofs.ways.empty_way.Given as goal
 
 abbrev pub invariant-loop-at : goal.invariant-loop-at

@@ -1,9 +1,6 @@
-use Rattle.std.proofs.Common.{◌≡◌, ◌<◌, length, arith, ap, sym, ◌∙◌, refl, subst, true, false, rules}
-use Rattle.std.specs.Prelude.{slice_index_or, slice_get, Some, None, IfSome}
-use Rattle.std.proofs.lemmas.Option.{slice_get_read, slice_get-get_or}
-use Rattle.bpf_model.specs.Graph.{Reached, reached_entry}
-use Rattle.verifier.specs.FirstPass.{IsInsnReached}
-use Rattle.bpf_model.specs.Places.{StartsAt}
+use Rattle.bpf_model.proofs.Prelude.{◌≡◌, ◌<◌, length, arith, ap, sym, ◌∙◌, refl, subst, true, false, rules, slice_index_or, slice_get, Some, None, IfSome}
+use Rattle.bpf_model.proofs.Prelude.{slice_get_read, slice_get-get_or, Reached, reached_entry, StartsAt}
+use Rattle.verifier.proofs.Prelude.{IsInsnReached}
 use Rattle.verifier.proofs.Marking.{first_start, marked, target_fits, marks_sound, marks_ahead, before_more}
 use Rattle.verifier.proofs.graph.first_unmarked.Goals as goal
 

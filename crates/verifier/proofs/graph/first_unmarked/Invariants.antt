@@ -1,7 +1,6 @@
-use Rattle.std.proofs.Common.{◌≡◌, ℕ, ◌<◌, length, true}
-use Rattle.std.specs.Prelude.{slice_get, Some, Option}
-use Rattle.bpf_model.specs.declared.insn.Insn.{Insn}
-use Rattle.verifier.specs.FirstPass.{Follows, IsInsnReached}
+use Rattle.bpf_model.proofs.Prelude.{◌≡◌, ℕ, ◌<◌, length, true, slice_get, Some, Option}
+use Rattle.model_laws.proofs.Prelude.{Insn}
+use Rattle.verifier.proofs.Prelude.{Follows, IsInsnReached}
 use Rattle.verifier.proofs.graph.first_unmarked.Given as goal
 
 abbrev pub invariant-loop-index : goal.invariant-loop-index

@@ -1,10 +1,5 @@
-use Rattle.std.proofs.Common.{ℕ, ◌<◌, length, arith, ap}
-use Rattle.std.specs.Prelude.{slice_index_or}
-use Rattle.bpf_model.proofs.Places.{length-starts_from, start-inside}
-use Rattle.bpf_model.specs.Places.{StartsAt}
+use Rattle.bpf_model.proofs.Prelude.{ℕ, ◌<◌, length, arith, ap, slice_index_or, length-starts_from, start-inside, StartsAt, length-set, Option}
 use Rattle.verifier.proofs.Edges.{start_read, start_below, index_found, index_only, length_slots}
-use Rattle.std.proofs.lemmas.List.{length-set}
-use Rattle.std.specs.Prelude.{Option}
 use Rattle.verifier.proofs.graph.indexes_of.Goals as goal
 
 pub index_mut-requires : goal.index_mut-requires

@@ -1,6 +1,4 @@
-use Rattle.std.proofs.Common.{◌≡◌, ℕ, ◌<◌, length}
-use Rattle.std.specs.Prelude.{slice_get, Some}
-use Rattle.bpf_model.specs.Places.{StartsAt}
+use Rattle.bpf_model.proofs.Prelude.{◌≡◌, ℕ, ◌<◌, length, slice_get, Some, StartsAt}
 use Rattle.verifier.proofs.graph.indexes_of.Given as goal
 
 abbrev pub invariant-loop-index : goal.invariant-loop-index

@@ -1,12 +1,9 @@
-use Rattle.std.proofs.Common.{◌≡◌, ℕ, ◌<◌, ◌-◌, length, arith, ap, rules}
-use Rattle.bpf_model.proofs.Places.{length-starts_from}
-use Rattle.verifier.specs.FirstPass.{IsFirstUnreached, IsInsnReached}
+use Rattle.bpf_model.proofs.Prelude.{◌≡◌, ℕ, ◌<◌, ◌-◌, length, arith, ap, rules, length-starts_from, slice_index_or, EndsWithExit}
+use Rattle.verifier.proofs.Prelude.{IsFirstUnreached, IsInsnReached}
 use Rattle.verifier.proofs.Verdicts.{some_insn, bad_end, unreachable_at, good_graph}
-use Rattle.std.specs.Prelude.{slice_index_or}
 use Rattle.verifier.specs.declared.graph_flaw.GraphFlaw.TheVariants.{Unreachable}
 use Rattle.verifier.proofs.Flaws.{good_has_none}
 use Rattle.verifier.proofs.graph.judge.Goals as goal
-use Rattle.bpf_model.specs.Graph.{EndsWithExit}
 
 pub overflow_sub-result : goal.overflow_sub-result
 overflow_sub-result c = omega (

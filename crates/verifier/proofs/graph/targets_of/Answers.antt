@@ -1,14 +1,8 @@
-use Rattle.std.proofs.Common.{◌≡◌, length, arith, ap, sym, refl, subst}
-use Rattle.std.specs.Prelude.{slice_index_or, slice_get, Some, Ok}
-use Rattle.std.proofs.lemmas.Option.{slice_get_read}
-use Rattle.bpf_model.specs.Graph.{distance}
-use Rattle.bpf_model.proofs.Places.{length-starts_from, start-insn}
-use Rattle.bpf_model.specs.Places.{StartsAt}
-use Rattle.verifier.specs.FirstPass.{target_of}
-use Rattle.verifier.specs.Indexes.{HasTargets}
+use Rattle.bpf_model.proofs.Prelude.{◌≡◌, length, arith, ap, sym, refl, subst, slice_index_or, slice_get, Some, Ok, slice_get_read, distance}
+use Rattle.bpf_model.proofs.Prelude.{length-starts_from, start-insn, StartsAt}
+use Rattle.verifier.proofs.Prelude.{target_of, HasTargets, HasGraphFlaw}
 use Rattle.verifier.proofs.Edges.{start_read, start_below, flaw_found, bad_jump, jumps_before, jumps_all, targets_more, is_target, jumps_more}
 use Rattle.verifier.proofs.Flaws.{good_has_none}
-use Rattle.verifier.specs.GraphFlaws.{HasGraphFlaw}
 use Rattle.verifier.proofs.graph.targets_of.Goals as goal
 use Rattle.verifier.proofs.graph.targets_of.Goals.{After-drop-targets}
 

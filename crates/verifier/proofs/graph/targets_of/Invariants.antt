@@ -1,9 +1,6 @@
-use Rattle.std.proofs.Common.{◌≡◌, ℕ, ◌<◌, ◌≤◌, length, vec_capacity}
-use Rattle.std.specs.Prelude.{slice_get, Some, None}
-use Rattle.bpf_model.specs.declared.insn.Insn.{Insn}
-use Rattle.verifier.specs.GraphFlaws.{jump_flaw}
-use Rattle.verifier.specs.Indexes.{HasTargets}
-use Rattle.bpf_model.specs.Places.{StartsAt}
+use Rattle.bpf_model.proofs.Prelude.{◌≡◌, ℕ, ◌<◌, ◌≤◌, length, vec_capacity, slice_get, Some, None, StartsAt}
+use Rattle.model_laws.proofs.Prelude.{Insn}
+use Rattle.verifier.proofs.Prelude.{jump_flaw, HasTargets}
 use Rattle.verifier.proofs.graph.targets_of.Given as goal
 
 abbrev pub invariant-loop-index : goal.invariant-loop-index

@@ -1,7 +1,6 @@
-use Rattle.std.proofs.Common.{◌≡◌, suc, ◌+◌, ◌<◌, Some, None, ap, arith, inl, inr, refl, subst, sym, ◌∙◌}
+use Rattle.bpf_model.proofs.Prelude.{◌≡◌, suc, ◌+◌, ◌<◌, Some, None, ap, arith, inl, inr, refl, subst, sym, ◌∙◌}
+use Rattle.verifier.proofs.Prelude.{Table, size_of, states_in, occupied, awaited, holding, Merged, Puts}
 use Rattle.verifier.specs.declared.waiting.Waiting.TheVariants.{Nothing}
-use Rattle.verifier.specs.SecondPass.{Table, size_of, states_in, occupied, awaited, holding, Merged}
-use Rattle.verifier.specs.Waiting.{Puts}
 use Rattle.verifier.proofs.Holding.{taken_next, joined_merged, joined_puts, peak_stays, same_puts}
 use Rattle.verifier.proofs.pass.go_on.Goals as goal
 

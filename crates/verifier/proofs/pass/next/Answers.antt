@@ -1,6 +1,5 @@
-use Rattle.std.proofs.Common.{◌≡◌, ◌<◌, suc, ◌+◌, ap, arith, inl, inr, subst, sym, ◌∙◌}
-use Rattle.verifier.specs.SecondPass.{Table, size_of, awaited, holding, Merged}
-use Rattle.verifier.specs.Waiting.{Puts}
+use Rattle.bpf_model.proofs.Prelude.{◌≡◌, ◌<◌, suc, ◌+◌, ap, arith, inl, inr, subst, sym, ◌∙◌}
+use Rattle.verifier.proofs.Prelude.{Table, size_of, awaited, holding, Merged, Puts}
 use Rattle.verifier.proofs.Holding.{taken_next, joined_merged, joined_puts, same_puts}
 use Rattle.verifier.proofs.pass.next.Goals as goal
 

@@ -1,8 +1,6 @@
-use Rattle.std.proofs.Common.{◌≡◌, Some, ap, subst, sym, ◌∙◌}
-use Rattle.effects.specs.Forks.{taken_from}
-use Rattle.register_kinds.specs.declared.state.AbsState.{AbsState}
-use Rattle.verifier.specs.SecondPass.{Table, awaited, Jumped}
-use Rattle.verifier.specs.Waiting.{Puts}
+use Rattle.bpf_model.proofs.Prelude.{◌≡◌, Some, ap, subst, sym, ◌∙◌}
+use Rattle.effects.proofs.Prelude.{taken_from, AbsState}
+use Rattle.verifier.proofs.Prelude.{Table, awaited, Jumped, Puts}
 use Rattle.verifier.proofs.Holding.{both_lead}
 use Rattle.verifier.proofs.pass.part.Goals.{in-Same+in_ok-jump_alike-in-Same, in-Apart}
 use Rattle.verifier.proofs.pass.part.Goals as goal

@@ -1,7 +1,7 @@
-use Rattle.std.proofs.Common.{◌≡◌, ◌≢◌, ◌∙◌, Some, sym, ap, refl}
-use Rattle.register_kinds.specs.States.{state_of}
+use Rattle.bpf_model.proofs.Prelude.{◌≡◌, ◌≢◌, ◌∙◌, Some, sym, ap, refl}
+use Rattle.register_kinds.proofs.Prelude.{state_of}
+use Rattle.verifier.proofs.Prelude.{state_in}
 use Rattle.verifier.specs.declared.waiting.Waiting.TheVariants.{Known, Differing}
-use Rattle.verifier.specs.SecondPass.{state_in}
 use Rattle.verifier.proofs.Accepting.{joined_facts, joined_expects}
 use Rattle.verifier.proofs.Merging.{joined_from}
 use Rattle.verifier.proofs.waiting.join_into.Goals as goal

@@ -1,7 +1,5 @@
-use Rattle.std.proofs.Common.{◌≡◌, inl, inr, refl, sym, ap, subst, ◌∙◌, arith, List, Some, length}
-use Rattle.std.specs.Prelude.{slice_get}
-use Rattle.std.proofs.lemmas.Bool.{cases_eq, false≢true}
-use Rattle.std.proofs.lemmas.Option.{same_Some, slice_get_read, slice_get_within}
+use Rattle.bpf_model.proofs.Prelude.{◌≡◌, inl, inr, refl, sym, ap, subst, ◌∙◌, arith, List, Some, length, slice_get, cases_eq, false≢true, same_Some}
+use Rattle.bpf_model.proofs.Prelude.{slice_get_read, slice_get_within}
 use Rattle.bpf_model.specs.declared.insn.Insn.{Insn}
 use Rattle.effects.specs.declared.region.Region.{Region}
 use Rattle.worker_pool.specs.Apart.{ChangesMapAt}

@@ -1,5 +1,4 @@
-use Rattle.std.proofs.Common.{ℕ, ◌≡◌, ◌<◌, Some}
-use Rattle.std.specs.Prelude.{slice_get}
+use Rattle.bpf_model.proofs.Prelude.{ℕ, ◌≡◌, ◌<◌, Some, slice_get}
 use Rattle.bpf_model.specs.declared.insn.Insn.{Insn}
 use Rattle.effects.specs.declared.region.Region.{Region}
 use Rattle.worker_pool.specs.Apart.{ChangesMapAt}

@@ -1,4 +1,4 @@
-use Rattle.std.proofs.lemmas.Option.{IfSome_then}
+use Rattle.bpf_model.proofs.Prelude.{IfSome_then}
 use Rattle.worker_pool.proofs.Batches.{printed_elsewhere}
 use Rattle.worker_pool.proofs.apart.print_apart.Goals as goal
 

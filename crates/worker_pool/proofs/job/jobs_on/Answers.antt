@@ -1,5 +1,4 @@
-use Rattle.std.proofs.Common.{◌≡◌, arith, refl}
-use Rattle.std.proofs.lemmas.List.Elements.{All-nil}
+use Rattle.bpf_model.proofs.Prelude.{◌≡◌, arith, refl, All-nil}
 use Rattle.worker_pool.specs.declared.job.Job.{Job}
 use Rattle.worker_pool.proofs.job.jobs_on.Goals as goal
 

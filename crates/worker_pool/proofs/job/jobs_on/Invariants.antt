@@ -1,4 +1,4 @@
-use Rattle.std.proofs.Common.{◌≡◌, ◌≤◌, All, length, map, take, vec_capacity}
+use Rattle.bpf_model.proofs.Prelude.{◌≡◌, ◌≤◌, All, length, map, take, vec_capacity}
 use Rattle.worker_pool.specs.Outcomes.{contexts_of}
 use Rattle.worker_pool.proofs.job.jobs_on.Given as goal
 

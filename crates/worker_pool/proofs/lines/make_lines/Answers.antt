@@ -1,4 +1,4 @@
-use Rattle.std.proofs.Common.{◌≡◌, ◌+◌, ◌<◌, ◌++◌, ℕ, List, length, get_or, ap, sym, ◌∙◌, arith}
+use Rattle.bpf_model.proofs.Prelude.{◌≡◌, ◌+◌, ◌<◌, ◌++◌, ℕ, List, length, get_or, ap, sym, ◌∙◌, arith}
 use Rattle.worker_pool.specs.Lines.{job_line}
 use Rattle.worker_pool.proofs.JobLines.{next_line}
 use Rattle.worker_pool.proofs.lines.make_lines.Goals as goal

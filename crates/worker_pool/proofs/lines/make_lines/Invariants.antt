@@ -1,4 +1,4 @@
-use Rattle.std.proofs.Common.{◌≡◌, take}
+use Rattle.bpf_model.proofs.Prelude.{◌≡◌, take}
 use Rattle.worker_pool.specs.Lines.{job_lines}
 use Rattle.worker_pool.proofs.lines.make_lines.Given as goal
 

@@ -1,6 +1,5 @@
-use Rattle.std.proofs.Common.{rules, sym, ◌∙◌, subst, refl, inl, inr, List}
-use Rattle.verifier.specs.Checked.{Checked}
-use Rattle.std.specs.Prelude.{IfSome, slice_get}
+use Rattle.bpf_model.proofs.Prelude.{rules, sym, ◌∙◌, subst, refl, inl, inr, List, IfSome, slice_get}
+use Rattle.verifier.proofs.Prelude.{Checked}
 use Rattle.shared_books.specs.Receipts.{HasExitedOnce, IsPossibleExit, IsOwnExit}
 use Rattle.worker_pool.specs.Trails.{HasExitReply}
 use Rattle.worker_pool.proofs.pooled.finish_job.Goals.{in-Ok, in-Err-dropped}

@@ -1,4 +1,4 @@
-use Rattle.std.proofs.Common.{◌≡◌, ◌+◌, ◌-◌, ◌^◌, IfOk}
+use Rattle.bpf_model.proofs.Prelude.{◌≡◌, ◌+◌, ◌-◌, ◌^◌, IfOk}
 use Rattle.bpf_model.specs.declared.event.Event.TheVariants.{Step}
 use Rattle.shared_books.specs.Receipts.{IsMachineAnswer}
 use Rattle.worker_pool.specs.Trails.{IsLater, IsByWorker, IsStretchBy, AreNext}

@@ -1,4 +1,4 @@
-use Rattle.std.proofs.Common.{ap, ◌∙◌, List}
+use Rattle.bpf_model.proofs.Prelude.{ap, ◌∙◌, List}
 use Rattle.worker_pool.specs.declared.job.Outcome.{Outcome}
 use Rattle.worker_pool.specs.Lines.{job_lines}
 use Rattle.worker_pool.proofs.printing.print_together.Goals as goal

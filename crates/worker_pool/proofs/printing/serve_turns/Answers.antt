@@ -1,8 +1,5 @@
-use Rattle.std.proofs.Common.{◌≡◌, ◌+◌, ◌%◌, arith, length, refl, subst, ◌∙◌, List}
-use Rattle.verifier.specs.Checked.{Checked}
-use Rattle.std.specs.Prelude.{Some, slice_get}
-use Rattle.std.proofs.Math.Nat.{mod-lt}
-use Rattle.std.proofs.lemmas.Option.{slice_get_read}
+use Rattle.bpf_model.proofs.Prelude.{◌≡◌, ◌+◌, ◌%◌, arith, length, refl, subst, ◌∙◌, List, Some, slice_get, mod-lt, slice_get_read}
+use Rattle.verifier.proofs.Prelude.{Checked}
 use Rattle.worker_pool.specs.TrailLemmas.{later_again, later_same}
 use Rattle.worker_pool.specs.Trails.{IsServedJob}
 use Rattle.worker_pool.proofs.Batches.{more_outcomes, no_outcomes}

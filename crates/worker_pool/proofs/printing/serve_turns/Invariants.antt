@@ -1,4 +1,4 @@
-use Rattle.std.proofs.Common.{◌≡◌, ◌≤◌, vec_capacity}
+use Rattle.bpf_model.proofs.Prelude.{◌≡◌, ◌≤◌, vec_capacity}
 use Rattle.worker_pool.specs.Batches.{AreOutcomes}
 use Rattle.worker_pool.specs.Trails.{IsLater}
 use Rattle.worker_pool.proofs.printing.serve_turns.Given as goal

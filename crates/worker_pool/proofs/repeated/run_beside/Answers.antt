@@ -1,5 +1,4 @@
-use Rattle.std.proofs.Common.{subst, sym}
-use Rattle.std.proofs.lemmas.Result.{err_from_is_err_and}
+use Rattle.bpf_model.proofs.Prelude.{subst, sym, err_from_is_err_and}
 use Rattle.worker_pool.specs.Outcomes.{contexts_of, AreJobsOn}
 use Rattle.worker_pool.proofs.repeated.run_beside.Goals as goal
 

@@ -1,4 +1,4 @@
-use Rattle.std.proofs.Common.{◌+◌, ◌≤◌, List, arith, subst, sym}
+use Rattle.bpf_model.proofs.Prelude.{◌+◌, ◌≤◌, List, arith, subst, sym}
 use Rattle.worker_pool.specs.declared.batch.Batch.{Batch}
 use Rattle.worker_pool.specs.Batches.{AreBatches}
 use Rattle.worker_pool.proofs.repeated.serve_block.Goals as goal

@@ -1,5 +1,4 @@
-use Rattle.std.proofs.Common.{◌+◌, ◌≤◌, arith, ◌∙◌}
-use Rattle.std.proofs.lemmas.Result.{err_from_is_err_and}
+use Rattle.bpf_model.proofs.Prelude.{◌+◌, ◌≤◌, arith, ◌∙◌, err_from_is_err_and}
 use Rattle.worker_pool.proofs.Batches.{part_of_more}
 use Rattle.worker_pool.proofs.repeated.serve_blocks.Goals as goal
 

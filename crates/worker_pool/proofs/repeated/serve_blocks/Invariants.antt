@@ -1,4 +1,4 @@
-use Rattle.std.proofs.Common.{◌≡◌, ◌≤◌, ◌-◌, length}
+use Rattle.bpf_model.proofs.Prelude.{◌≡◌, ◌≤◌, ◌-◌, length}
 use Rattle.worker_pool.specs.Batches.{HasWritten}
 use Rattle.worker_pool.proofs.repeated.serve_blocks.Given as goal
 

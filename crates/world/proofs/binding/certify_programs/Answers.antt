@@ -1,7 +1,7 @@
-use Rattle.plan_laws.specs.Verified.{IsVerified}
-use Rattle.world_laws.specs.Typed.{IsRealProgram}
+use Rattle.plan_laws.proofs.Prelude.{IsVerified}
+use Rattle.world.proofs.Prelude.{program_of}
+use Rattle.world_laws.proofs.Prelude.{IsRealProgram}
 use Rattle.world.specs.declared.kept.loaded.Loaded.{Loaded}
-use Rattle.world.specs.Programs.{program_of}
 use Rattle.world.proofs.Shapes.{each-more, each-all}
 use Rattle.world.proofs.binding.certify_programs.Goals as goal
 

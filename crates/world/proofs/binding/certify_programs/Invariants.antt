@@ -1,9 +1,8 @@
-use Rattle.std.proofs.Common.{◌≡◌, ℕ, ◌<◌}
-use Rattle.std.specs.Prelude.{slice_get, Some}
-use Rattle.plan_laws.specs.Verified.{IsVerified}
-use Rattle.world_laws.specs.Typed.{IsRealProgram}
+use Rattle.bpf_model.proofs.Prelude.{◌≡◌, ℕ, ◌<◌, slice_get, Some}
+use Rattle.plan_laws.proofs.Prelude.{IsVerified}
+use Rattle.world.proofs.Prelude.{program_of}
+use Rattle.world_laws.proofs.Prelude.{IsRealProgram}
 use Rattle.world.specs.declared.kept.loaded.Loaded.{Loaded}
-use Rattle.world.specs.Programs.{program_of}
 use Rattle.world.proofs.binding.certify_programs.Given as goal
 
 abbrev pub invariant-loop-program : goal.invariant-loop-program

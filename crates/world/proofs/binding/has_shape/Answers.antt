@@ -1,5 +1,4 @@
-use Rattle.std.proofs.Common.{◌∙◌, Some, sym, ap}
-use Rattle.std.proofs.lemmas.Option.{none-some, same_Some, slice_get-map}
+use Rattle.bpf_model.proofs.Prelude.{◌∙◌, Some, sym, ap, none-some, same_Some, slice_get-map}
 use Rattle.bpf_model.specs.View.{shape_of_view as shape_of}
 use Rattle.world.proofs.Same.{shapes-decides}
 use Rattle.world.proofs.binding.has_shape.Goals as goal

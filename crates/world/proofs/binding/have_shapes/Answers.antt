@@ -1,9 +1,6 @@
-use Rattle.std.proofs.Common.{◌≡◌, ◌∙◌, ℕ, ◌+◌, ◌<◌, length, map, take, get_or, Some, suc, refl, sym, ap, subst, arith}
-use Rattle.std.specs.Prelude.{slice_get}
-use Rattle.std.proofs.lemmas.Option.{slice_get-get_or}
-use Rattle.bpf_model.specs.declared.limits.MapKind.TheVariants.{Hash}
-use Rattle.bpf_model.specs.declared.limits.MapShape.{MapShape}
-use Rattle.bpf_model.specs.View.{shapes_of_maps}
+use Rattle.bpf_model.proofs.Prelude.{◌≡◌, ◌∙◌, ℕ, ◌+◌, ◌<◌, length, map, take, get_or, Some, suc, refl, sym, ap, subst, arith, slice_get, slice_get-get_or}
+use Rattle.bpf_model.proofs.Prelude.{shapes_of_maps}
+use Rattle.model_laws.proofs.Prelude.{Hash, MapShape}
 use Rattle.world.proofs.Shapes.{bound-at, bound-more}
 use Rattle.world.proofs.binding.have_shapes.Goals as goal
 

@@ -1,7 +1,5 @@
-use Rattle.std.proofs.Common.{◌∙◌, ℕ, sym, ap, List}
-use Rattle.std.specs.Prelude.{slice_set}
-use Rattle.bpf_model.specs.declared.call.Helper.TheVariants.{Update, Delete}
-use Rattle.bpf_model.specs.View.{MapView}
+use Rattle.bpf_model.proofs.Prelude.{◌∙◌, ℕ, sym, ap, List, slice_set, MapView}
+use Rattle.model_laws.proofs.Prelude.{Update, Delete}
 use Rattle.world.proofs.Named.{called_is}
 use Rattle.world.proofs.calling.call.Goals as goal
 

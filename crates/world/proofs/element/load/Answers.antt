@@ -1,7 +1,5 @@
-use Rattle.std.proofs.Common.{◌≡◌, ◌∙◌, sym, ap, Some}
-use Rattle.std.specs.Prelude.{slice_get, option_copied}
-use Rattle.bpf_model.specs.Access.{byte_count}
-use Rattle.world_laws.specs.Locating.{location_of, word_offset}
+use Rattle.bpf_model.proofs.Prelude.{◌≡◌, ◌∙◌, sym, ap, Some, slice_get, option_copied, byte_count}
+use Rattle.world_laws.proofs.Prelude.{location_of, word_offset}
 use Rattle.world.proofs.Occupied.{reached, occupied}
 use Rattle.world.proofs.element.load.Goals as goal
 

@@ -1,7 +1,6 @@
-use Rattle.std.proofs.Common.{◌∙◌, ◌+◌, sym, arith}
-use Rattle.element_store.specs.Sections.{GraceState, depth_at}
-use Rattle.machine.specs.declared.request.Request.TheVariants.{Enter}
-use Rattle.world.specs.Serving.{grace_after}
+use Rattle.bpf_model.proofs.Prelude.{◌∙◌, ◌+◌, sym, arith}
+use Rattle.element_store.proofs.Prelude.{GraceState, depth_at}
+use Rattle.world.proofs.Prelude.{Enter, grace_after}
 use Rattle.world.proofs.ServedFlags.{inside-awaits, same-grace}
 use Rattle.world.proofs.section.enter.Goals as goal
 

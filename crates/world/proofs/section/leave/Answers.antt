@@ -1,7 +1,6 @@
-use Rattle.std.proofs.Common.{◌∙◌}
-use Rattle.element_store.specs.Sections.{GraceState}
-use Rattle.machine.specs.declared.request.Request.TheVariants.{Leave}
-use Rattle.world.specs.Serving.{grace_after}
+use Rattle.bpf_model.proofs.Prelude.{◌∙◌}
+use Rattle.element_store.proofs.Prelude.{GraceState}
+use Rattle.world.proofs.Prelude.{Leave, grace_after}
 use Rattle.world.proofs.ServedFlags.{same-grace, unlocked-awaits}
 use Rattle.world.proofs.section.leave.Goals as goal
 

@@ -1,9 +1,7 @@
-use Rattle.std.proofs.Common.{◌≡◌, ℕ, ◌<◌, sym, subst}
-use Rattle.std.proofs.lemmas.Option.{get_or_from_slice_get}
-use Rattle.bpf_model.specs.declared.limits.TheConstants.{MAX_DEPTH}
-use Rattle.element_store.specs.Sections.{depth_at}
-use Rattle.machine.specs.declared.request.Request.{Request}
-use Rattle.world.specs.Serving.{CanServe}
+use Rattle.bpf_model.proofs.Prelude.{◌≡◌, ℕ, ◌<◌, sym, subst, get_or_from_slice_get}
+use Rattle.element_store.proofs.Prelude.{depth_at}
+use Rattle.model_laws.proofs.Prelude.{MAX_DEPTH}
+use Rattle.world.proofs.Prelude.{Request, CanServe}
 use Rattle.world.proofs.serving.serve.Goals as goal
 
 pub enter-requires-clause-depth : goal.enter-requires-clause-depth

@@ -1,7 +1,5 @@
-use Rattle.std.proofs.Common.{◌≡◌, ℕ, ◌<◌}
-use Rattle.std.specs.Prelude.{slice_get, Some}
-use Rattle.bpf_model.specs.Spelling.{FitsInsn}
-use Rattle.bpf_model.specs.declared.insn.Insn.{Insn}
+use Rattle.bpf_model.proofs.Prelude.{◌≡◌, ℕ, ◌<◌, slice_get, Some, FitsInsn}
+use Rattle.model_laws.proofs.Prelude.{Insn}
 use Rattle.world_laws.proofs.typed.code_is_real.Given as goal
 
 abbrev pub invariant-loop-insn : goal.invariant-loop-insn

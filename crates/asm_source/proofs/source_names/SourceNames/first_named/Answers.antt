@@ -1,5 +1,4 @@
-use Rattle.std.proofs.Common.{arith}
-use Rattle.std.specs.Prelude.{bytes_eq}
+use Rattle.bpf_model.proofs.Prelude.{arith, bytes_eq}
 use Rattle.asm_source.specs.Names.{Binding}
 use Rattle.asm_source.proofs.IndexLaws.{found_at, found_nowhere}
 use Rattle.asm_source.proofs.source_names.SourceNames.first_named.Goals as goal

@@ -1,4 +1,4 @@
-use Rattle.std.proofs.Common.{◌∙◌}
+use Rattle.bpf_model.proofs.Prelude.{◌∙◌}
 use Rattle.asm_source.proofs.source_names.SourceNames.place_of.Goals as goal
 
 pub returns : goal.returns

@@ -1,4 +1,4 @@
-use Rattle.std.proofs.Common.{rules}
+use Rattle.bpf_model.proofs.Prelude.{rules}
 use Rattle.asm_source.proofs.IndexLaws.{index_grown}
 use Rattle.asm_source.proofs.source_names.SourceNames.push.Goals as goal
 

@@ -1,6 +1,4 @@
-use Rattle.std.proofs.Common.{◌≡◌, List, ◌++◌, subst}
-use Rattle.std.specs.Prelude.{IfOk, Ok, Err}
-use Rattle.std.specs.List.{flat_map}
+use Rattle.bpf_model.proofs.Prelude.{◌≡◌, List, ◌++◌, subst, IfOk, Ok, Err, flat_map}
 use Rattle.script_lines.specs.declared.reply.Reply.{Reply}
 use Rattle.script_lines.specs.ReplyText.{reply_text}
 use Rattle.control.specs.Questions.{IsAsked}

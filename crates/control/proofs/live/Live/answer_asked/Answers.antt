@@ -1,12 +1,10 @@
-use Rattle.std.proofs.Common.{◌∙◌, [], ◌∷◌, ◌++◌, ap, refl}
-use Rattle.std.specs.Prelude.{slice_get, None}
-use Rattle.bpf_model.specs.View.{WorldView}
+use Rattle.bpf_model.proofs.Prelude.{◌∙◌, [], ◌∷◌, ◌++◌, ap, refl, slice_get, None, WorldView}
+use Rattle.world.proofs.Prelude.{stat_of}
 use Rattle.bpf_model.specs.EventNumbers.{event_refusal_number}
 use Rattle.script_lines.specs.declared.reply.Reply.TheVariants as replies
 use Rattle.script_lines.specs.declared.reply.Reply.TheVariants.{End}
 use Rattle.control.specs.declared.asked.Asked.TheVariants as asked
 use Rattle.control.specs.AnswerReplies.{refused, reply_to}
-use Rattle.world.specs.Asking.{stat_of}
 use Rattle.control.specs.declared.refusal.LineRefusal.TheVariants as refusals
 use Rattle.control.specs.Refusals.{refusal_reply}
 use Rattle.control.specs.Replies.{overlong_refusal, sealed_number}

@@ -1,7 +1,5 @@
-use Rattle.std.proofs.Common.{◌≡◌, List, ◌++◌, refl, subst, sym}
-use Rattle.std.specs.Prelude.{IfOk, Ok, Err}
-use Rattle.std.specs.List.{flat_map}
-use Rattle.bpf_model.specs.declared.event.Event.{Event}
+use Rattle.bpf_model.proofs.Prelude.{◌≡◌, List, ◌++◌, refl, subst, sym, IfOk, Ok, Err, flat_map}
+use Rattle.model_laws.proofs.Prelude.{Event}
 use Rattle.script_lines.specs.ReplyText.{reply_text}
 use Rattle.script_lines.specs.declared.reply.Reply.{Reply}
 use Rattle.control.specs.Lives.{LiveReplies}

@@ -1,9 +1,6 @@
-use Rattle.std.proofs.Common.{◌≡◌, ◌∙◌, ◌++◌, ◌∷◌, [], length, Some, sym, ap, subst, arith, append_assoc}
-use Rattle.std.specs.Prelude.{slice_get, option_map}
-use Rattle.std.proofs.lemmas.List.{length-append}
-use Rattle.std.proofs.lemmas.Option.{slice_get-map}
-use Rattle.bpf_model.specs.View.{MapView, shapes_of_maps}
-use Rattle.world_laws.specs.Binding.{IsBoundTo}
+use Rattle.bpf_model.proofs.Prelude.{◌≡◌, ◌∙◌, ◌++◌, ◌∷◌, [], length, Some, sym, ap, subst, arith, append_assoc, slice_get, option_map, length-append}
+use Rattle.bpf_model.proofs.Prelude.{slice_get-map, MapView, shapes_of_maps}
+use Rattle.world_laws.proofs.Prelude.{IsBoundTo}
 use Rattle.control.specs.MapAndLoad.{AreMapsNamed}
 use Rattle.control.proofs.GrownSetups.{found-next}
 use Rattle.control.proofs.setup.Setup.bind.Goals as goal

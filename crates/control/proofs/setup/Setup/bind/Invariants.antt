@@ -1,5 +1,5 @@
-use Rattle.std.proofs.Common.{◌≡◌, ℕ, List, ◌++◌, length}
-use Rattle.world_laws.specs.Binding.{IsBoundTo}
+use Rattle.bpf_model.proofs.Prelude.{◌≡◌, ℕ, List, ◌++◌, length}
+use Rattle.world_laws.proofs.Prelude.{IsBoundTo}
 use Rattle.control.specs.MapAndLoad.{AreMapsNamed}
 use Rattle.control.specs.Setups.{shapes_made}
 use Rattle.control.proofs.setup.Setup.bind.Given as goal

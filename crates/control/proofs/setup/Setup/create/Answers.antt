@@ -1,8 +1,6 @@
-use Rattle.std.proofs.Common.{◌≡◌, ◌∙◌, ◌∷◌, [], length, refl, sym, ap, subst, arith}
-use Rattle.std.proofs.lemmas.List.{length-append}
-use Rattle.bpf_model.specs.View.{AreNewMaps, new_map_view, shapes_of_maps}
+use Rattle.bpf_model.proofs.Prelude.{◌≡◌, ◌∙◌, ◌∷◌, [], length, refl, sym, ap, subst, arith, length-append, AreNewMaps, new_map_view, shapes_of_maps}
+use Rattle.world.proofs.Prelude.{AreProgramsBound}
 use Rattle.maps.specs.Registry.{creation_fault}
-use Rattle.world.specs.BoundTo.{AreProgramsBound}
 use Rattle.control.proofs.MapReplies.{create-refused}
 use Rattle.maps.proofs.NewMaps.{new-more}
 use Rattle.control.proofs.GrownSetups.{bound-still}

@@ -1,11 +1,10 @@
-use Rattle.std.proofs.Common.{◌≡◌, ◌∙◌, ◌<◌, length, map, IfOk, ap, subst, arith}
-use Rattle.std.proofs.lemmas.List.{length-map}
-use Rattle.bpf_model.specs.declared.limits.TheConstants.{MAX_PROGRAMS}
-use Rattle.world.specs.Programs.{program_of}
+use Rattle.bpf_model.proofs.Prelude.{◌≡◌, ◌∙◌, ◌<◌, length, map, IfOk, ap, subst, arith, length-map}
+use Rattle.model_laws.proofs.Prelude.{MAX_PROGRAMS}
+use Rattle.world.proofs.Prelude.{program_of}
+use Rattle.world_laws.proofs.Prelude.{IsBoundTo}
 use Rattle.control.specs.MapAndLoad.{AreMapsNamed, ReadReplies}
 use Rattle.control.specs.Refusals.{program_reply}
 use Rattle.control.specs.Setups.{shapes_made}
-use Rattle.world_laws.specs.Binding.{IsBoundTo}
 use Rattle.control.proofs.LoadReplies.{read-reply}
 use Rattle.control.proofs.setup.Setup.load.Goals as goal
 

@@ -1,11 +1,8 @@
-use Rattle.std.proofs.Common.{◌≡◌, ◌∙◌, ◌∷◌, [], length, map, sym, ap, subst, arith}
-use Rattle.std.proofs.lemmas.List.{length-append, length-map}
-use Rattle.model_laws.specs.PlainMaps.{IsPlainWithMaps}
-use Rattle.bpf_model.specs.View.{shapes_of_maps}
+use Rattle.bpf_model.proofs.Prelude.{◌≡◌, ◌∙◌, ◌∷◌, [], length, map, sym, ap, subst, arith, length-append, length-map, shapes_of_maps}
+use Rattle.model_laws.proofs.Prelude.{IsPlainWithMaps}
+use Rattle.world.proofs.Prelude.{AreProgramsBound, program_of}
+use Rattle.world_laws.proofs.Prelude.{IsBoundTo}
 use Rattle.verifier.specs.declared.refusal.ProgramRefusal.TheVariants.{Memory}
-use Rattle.world.specs.BoundTo.{AreProgramsBound}
-use Rattle.world_laws.specs.Binding.{IsBoundTo}
-use Rattle.world.specs.Programs.{program_of}
 use Rattle.control.proofs.GrownSetups.{bound-more}
 use Rattle.control.proofs.LoadReplies.{undecoded-reply, unverified-reply}
 use Rattle.control.proofs.setup.Setup.load_bound.Goals as goal

@@ -1,7 +1,4 @@
-use Rattle.std.proofs.Common.{ap, subst, ◌∙◌}
-use Rattle.bpf_model.specs.Refines.{TracksSchedule}
-use Rattle.bpf_model.specs.Schedule.{start_schedule}
-use Rattle.bpf_model.specs.View.{start_view}
+use Rattle.bpf_model.proofs.Prelude.{ap, subst, ◌∙◌, TracksSchedule, start_schedule, start_view}
 use Rattle.control.specs.Setups.{SetupView, shapes_made}
 use Rattle.control.proofs.setup.Setup.seal.Goals as goal
 

@@ -1,6 +1,6 @@
-use Rattle.std.proofs.Common.{subst}
+use Rattle.bpf_model.proofs.Prelude.{subst}
+use Rattle.effects.proofs.Prelude.{IsReadByLoad}
 use Rattle.effects.specs.declared.reads.Reads.{Reads}
-use Rattle.effects.specs.Accesses.{IsReadByLoad}
 use Rattle.effects.proofs.reads.Reads.region.Goals as goal
 
 pub returns-in-Context : goal.returns-in-Context

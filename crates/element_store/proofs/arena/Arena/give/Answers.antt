@@ -1,9 +1,7 @@
-use Rattle.std.proofs.Common.{◌≡◌, ◌∙◌, ◌<◌, ℕ, List, Option, Some, sym, ap, subst, rules, length, refl, true, false}
-use Rattle.std.specs.Prelude.{slice_get, slice_set, IfSome}
-use Rattle.std.proofs.lemmas.Option.{slice_get_read}
-use Rattle.std.proofs.lemmas.Bool.{eq-eqb, eqb-true, false_from_ne_true}
+use Rattle.bpf_model.proofs.Prelude.{◌≡◌, ◌∙◌, ◌<◌, ℕ, List, Option, Some, sym, ap, subst, rules, length, refl, true, false, slice_get, slice_set, IfSome}
+use Rattle.bpf_model.proofs.Prelude.{slice_get_read, eq-eqb, eqb-true, false_from_ne_true}
+use Rattle.element_store.proofs.Prelude.{AreCellsKept, IsLaidOut, arena_state_of, linked_behind, given_cell}
 use Rattle.element_store.specs.declared.cell.SlotCell.{SlotCell}
-use Rattle.element_store.specs.Kept.{AreCellsKept, IsLaidOut, arena_state_of, linked_behind, given_cell}
 use Rattle.element_store.specs.declared.cell.Standing.TheVariants.{Free}
 use Rattle.element_store.proofs.Gives.{held, countable, told, worn-kept, worn-state, last-inside, freed-kept, freed-state}
 use Rattle.element_store.proofs.arena.Arena.give.Goals.{After-index-old}

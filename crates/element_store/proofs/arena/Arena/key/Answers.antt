@@ -1,7 +1,5 @@
-use Rattle.std.proofs.Common.{◌∙◌, ◌+◌, ◌*◌, ◌<◌, ◌≤◌, ℕ, List, sym, ap, subst, rules, length, refl}
-use Rattle.std.proofs.lemmas.Option.{slice_get_read}
-use Rattle.element_store.specs.State.{ArenaState, key_at}
-use Rattle.element_store.specs.Blocks.{block}
+use Rattle.bpf_model.proofs.Prelude.{◌∙◌, ◌+◌, ◌*◌, ◌<◌, ◌≤◌, ℕ, List, sym, ap, subst, rules, length, refl, slice_get_read}
+use Rattle.element_store.proofs.Prelude.{ArenaState, key_at, block}
 use Rattle.element_store.proofs.BlockLaws.{room}
 use Rattle.element_store.proofs.Slots.{inside_from, shown-key, shown-unused, shown-used}
 use Rattle.element_store.proofs.arena.Arena.key.Goals as goal

@@ -1,4 +1,4 @@
-use Rattle.std.proofs.Common.{◌<◌, ◌≤◌, sym, length, rules}
+use Rattle.bpf_model.proofs.Prelude.{◌<◌, ◌≤◌, sym, length, rules}
 use Rattle.element_store.proofs.Slots.{inside_to, past_to}
 use Rattle.element_store.proofs.arena.Arena.key_or_none.Goals as goal
 

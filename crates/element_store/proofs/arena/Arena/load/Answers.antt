@@ -1,8 +1,5 @@
-use Rattle.std.proofs.Common.{◌≡◌, ◌∙◌, ◌+◌, ◌*◌, ◌<◌, ◌≤◌, ℕ, List, Some, sym, ap, subst, length}
-use Rattle.std.specs.Prelude.{slice_get}
-use Rattle.bpf_model.specs.Access.{byte_count, number_at}
-use Rattle.element_store.specs.State.{ArenaState}
-use Rattle.element_store.specs.Blocks.{block}
+use Rattle.bpf_model.proofs.Prelude.{◌≡◌, ◌∙◌, ◌+◌, ◌*◌, ◌<◌, ◌≤◌, ℕ, List, Some, sym, ap, subst, length, slice_get, byte_count, number_at}
+use Rattle.element_store.proofs.Prelude.{ArenaState, block}
 use Rattle.element_store.proofs.BlockLaws.{room}
 use Rattle.element_store.proofs.Slots.{inside_from, block-full, value_is}
 use Rattle.element_store.proofs.arena.Arena.load.Goals as goal

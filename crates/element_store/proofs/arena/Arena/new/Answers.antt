@@ -1,8 +1,6 @@
-use Rattle.std.proofs.Common.{◌≡◌, ◌∙◌, ◌*◌, ◌<◌, ◌^◌, List, sym, ap, subst, length}
-use Rattle.std.proofs.lemmas.List.FromFn.{length-map-range_with_len}
+use Rattle.bpf_model.proofs.Prelude.{◌≡◌, ◌∙◌, ◌*◌, ◌<◌, ◌^◌, List, sym, ap, subst, length, length-map-range_with_len}
+use Rattle.element_store.proofs.Prelude.{fresh_cell, fresh_cells, AreCellsKept, arena_state_of}
 use Rattle.element_store.specs.declared.cell.SlotCell.{SlotCell}
-use Rattle.element_store.specs.Fresh.{fresh_cell, fresh_cells}
-use Rattle.element_store.specs.Kept.{AreCellsKept, arena_state_of}
 use Rattle.element_store.proofs.Keeps.{kept_from}
 use Rattle.element_store.proofs.Fresh.{threaded-fresh, state-fresh, last-checked, last_below}
 use Rattle.element_store.proofs.arena.Arena.new.Goals as goal

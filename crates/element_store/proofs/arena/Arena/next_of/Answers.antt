@@ -1,12 +1,8 @@
-use Rattle.std.proofs.Common.{◌∙◌, ◌<◌, sym, ap, subst, rules, length, refl}
-use Rattle.std.proofs.lemmas.Option.{slice_get_read}
-use Rattle.element_store.specs.State.{IsTaken, link_at, ArenaState}
-use Rattle.element_store.specs.Kept.{link_view, shown_link}
+use Rattle.bpf_model.proofs.Prelude.{◌∙◌, ◌<◌, sym, ap, subst, rules, length, refl, slice_get_read, get-map, option_flatten}
+use Rattle.element_store.proofs.Prelude.{IsTaken, link_at, ArenaState, link_view, shown_link}
 use Rattle.element_store.proofs.Keeps.{taken_at, taken_cell}
 use Rattle.element_store.proofs.Slots.{held_from}
 use Rattle.element_store.proofs.arena.Arena.next_of.Goals as goal
-use Rattle.bpf_model.proofs.Lists.{get-map}
-use Rattle.std.specs.Option.{option_flatten}
 
 pub returns : goal.returns
 returns c =

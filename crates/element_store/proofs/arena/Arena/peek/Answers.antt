@@ -1,5 +1,4 @@
-use Rattle.std.proofs.Common.{◌∙◌, ◌<◌, ◌≤◌, ℕ, List, Some, sym, ap, subst, length, rules, arith, refl}
-use Rattle.std.proofs.lemmas.Option.{slice_get_read, same_Some}
+use Rattle.bpf_model.proofs.Prelude.{◌∙◌, ◌<◌, ◌≤◌, ℕ, List, Some, sym, ap, subst, length, rules, arith, refl, slice_get_read, same_Some}
 use Rattle.bpf_model.specs.declared.limits.TheConstants.{KEY_BYTES, VALUE_BYTES}
 use Rattle.element_store.proofs.Slots.{inside_to, key-short, value-short, generation_is, generation_past}
 use Rattle.element_store.proofs.arena.Arena.peek.Goals.{else-tag-len-via-then-tag-len+else-index-tag, else-tag-len-via-else-tag-len}

@@ -1,17 +1,11 @@
-use Rattle.std.proofs.Common.{◌∙◌, ◌<◌, List, sym, ap, subst, rules, length, refl}
-use Rattle.std.specs.Prelude.{slice_set}
-use Rattle.std.proofs.lemmas.Option.{slice_get_read}
-use Rattle.bpf_model.specs.View.{SlotView}
-use Rattle.element_store.specs.State.{IsTaken, with_link, ArenaState}
+use Rattle.bpf_model.proofs.Prelude.{◌∙◌, ◌<◌, List, sym, ap, subst, rules, length, refl, slice_set, slice_get_read, SlotView, length-set, get-map}
+use Rattle.bpf_model.proofs.Prelude.{get-set_same, option_flatten}
+use Rattle.element_store.proofs.Prelude.{IsTaken, with_link, ArenaState, free_of, state_with, slots_shown, link_view, shown_link}
 use Rattle.element_store.specs.declared.cell.SlotCell.{SlotCell}
-use Rattle.element_store.specs.Kept.{free_of, state_with, slots_shown, link_view, shown_link}
 use Rattle.element_store.proofs.Keeps.{kept_from, relink, taken_at}
 use Rattle.element_store.proofs.Views.{set_link_view}
 use Rattle.element_store.proofs.Slots.{held_from, state-is, shown-same, laid-out}
 use Rattle.element_store.proofs.arena.Arena.set_next.Goals as goal
-use Rattle.std.proofs.lemmas.List.{length-set}
-use Rattle.bpf_model.proofs.Lists.{get-map, get-set_same}
-use Rattle.std.specs.Option.{option_flatten}
 
 pub index_mut-cell-requires : goal.index_mut-cell-requires
 index_mut-cell-requires c =

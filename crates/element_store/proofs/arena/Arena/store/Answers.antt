@@ -1,13 +1,8 @@
-use Rattle.std.proofs.Common.{◌≡◌, ◌∙◌, ◌+◌, ◌*◌, ◌<◌, ◌≤◌, ℕ, List, sym, ap, subst, length}
-use Rattle.bpf_model.specs.Access.{byte_count}
-use Rattle.bpf_model.specs.Access.{with_bytes}
-use Rattle.element_store.specs.State.{with_slot_value}
-use Rattle.element_store.specs.Blocks.{block}
-use Rattle.element_store.specs.Kept.{arena_state_of}
+use Rattle.bpf_model.proofs.Prelude.{◌≡◌, ◌∙◌, ◌+◌, ◌*◌, ◌<◌, ◌≤◌, ℕ, List, sym, ap, subst, length, byte_count, with_bytes, length-with_bytes}
+use Rattle.element_store.proofs.Prelude.{with_slot_value, block, arena_state_of}
 use Rattle.element_store.proofs.BlockLaws.{room}
 use Rattle.element_store.proofs.Slots.{inside_from, block-full, value_is, state-stored}
 use Rattle.element_store.proofs.arena.Arena.store.Goals as goal
-use Rattle.bpf_model.proofs.Bytes.{length-with_bytes}
 
 pub write_inside-requires-clause-room : goal.write_inside-requires-clause-room
 write_inside-requires-clause-room c =

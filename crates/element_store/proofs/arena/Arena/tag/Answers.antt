@@ -1,11 +1,8 @@
-use Rattle.std.proofs.Common.{◌≡◌, ◌∙◌, ◌<◌, sym, ap, rules, length, refl}
-use Rattle.std.specs.Prelude.{slice_index}
-use Rattle.std.proofs.lemmas.Option.{slice_get_read, get_or_from_slice_get}
-use Rattle.element_store.specs.State.{ArenaState}
+use Rattle.bpf_model.proofs.Prelude.{◌≡◌, ◌∙◌, ◌<◌, sym, ap, rules, length, refl, slice_index, slice_get_read, get_or_from_slice_get, get-map}
+use Rattle.element_store.proofs.Prelude.{ArenaState}
 use Rattle.element_store.specs.declared.cell.SlotCell.{SlotCell}
 use Rattle.element_store.proofs.Slots.{inside_from}
 use Rattle.element_store.proofs.arena.Arena.tag.Goals as goal
-use Rattle.bpf_model.proofs.Lists.{get-map}
 
 pub index-requires : goal.index-requires
 index-requires c =

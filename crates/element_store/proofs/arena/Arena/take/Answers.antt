@@ -1,18 +1,14 @@
-use Rattle.std.proofs.Common.{◌≡◌, ◌∙◌, ◌+◌, ◌<◌, ◌≤◌, ◌^◌, ◌∷◌, ℕ, List, Option, Some, None, sym, ap, subst, arith, rules, length, refl}
-use Rattle.std.specs.Prelude.{slice_get, slice_set}
-use Rattle.std.proofs.lemmas.Option.{slice_get_read, same_Some}
-use Rattle.element_store.specs.State.{taken, ArenaState}
-use Rattle.element_store.specs.Blocks.{with_block}
+use Rattle.bpf_model.proofs.Prelude.{◌≡◌, ◌∙◌, ◌+◌, ◌<◌, ◌≤◌, ◌^◌, ◌∷◌, ℕ, List, Option, Some, None, sym, ap, subst, arith, rules, length, refl, slice_get}
+use Rattle.bpf_model.proofs.Prelude.{slice_set, slice_get_read, same_Some, length-set}
+use Rattle.element_store.proofs.Prelude.{taken, ArenaState, with_block, IsThreaded, free_of, last_left, state_with, slots_shown, free_count}
 use Rattle.element_store.specs.declared.cell.SlotCell.{SlotCell}
 use Rattle.element_store.specs.declared.cell.Standing.TheVariants.{Free, Taken}
-use Rattle.element_store.specs.Kept.{IsThreaded, free_of, last_left, state_with, slots_shown, free_count}
 use Rattle.element_store.proofs.BlockLaws.{length-with_block}
 use Rattle.element_store.proofs.Keeps.{kept_from, free-is, first_free, took}
 use Rattle.element_store.proofs.Slots.{state-is, shown-taken, inside-bytes, laid-out}
 use Rattle.element_store.proofs.Views.{take_view}
 use Rattle.element_store.proofs.arena.Arena.take.Goals.{In-Some, After-index-old, After-last_after-self-inside}
 use Rattle.element_store.proofs.arena.Arena.take.Goals as goal
-use Rattle.std.proofs.lemmas.List.{length-set}
 
 -- the slot has a cell
 within : (c : In-Some) → c.in-Some.slot < length c.self.inside.cells.items

@@ -1,7 +1,6 @@
-use Rattle.std.proofs.Common.{None, sym, subst, refl}
-use Rattle.bpf_model.specs.Schedule.{turned}
+use Rattle.bpf_model.proofs.Prelude.{None, sym, subst, refl, turned}
+use Rattle.element_store.proofs.Prelude.{deferred_lists, FitsAs}
 use Rattle.element_store.specs.declared.deferred.Line.{Line}
-use Rattle.element_store.specs.Deferred.{deferred_lists, FitsAs}
 use Rattle.element_store.proofs.DeferredFrame.{lists-are, fits_from}
 use Rattle.element_store.proofs.DeferredMoves.{turned_fits, lasts_taken}
 use Rattle.element_store.proofs.deferred.DeferredSlots.advance.Goals.{After-join-self}

@@ -1,9 +1,6 @@
-use Rattle.std.proofs.Common.{◌≡◌, ℕ, Option, Some, sym, subst}
-use Rattle.element_store.specs.State.{ArenaState, link_at}
-use Rattle.element_store.specs.Queued.{reaped_lists}
+use Rattle.bpf_model.proofs.Prelude.{◌≡◌, ℕ, Option, Some, sym, subst}
+use Rattle.element_store.proofs.Prelude.{ArenaState, link_at, reaped_lists, last_left, deferred_lists, FitsAs, DeferredFits}
 use Rattle.element_store.specs.declared.deferred.DeferredSlots.{DeferredSlots}
-use Rattle.element_store.specs.Kept.{last_left}
-use Rattle.element_store.specs.Deferred.{deferred_lists, FitsAs, DeferredFits}
 use Rattle.element_store.proofs.DeferredFrame.{lists-are, fits_from}
 use Rattle.element_store.proofs.DeferredMoves.{reaped_fits}
 use Rattle.element_store.proofs.deferred.DeferredSlots.reap.Goals as goal

@@ -1,9 +1,6 @@
-use Rattle.std.proofs.Common.{◌∙◌, sym, ap, subst}
-use Rattle.bpf_model.specs.Schedule.{Queues}
-use Rattle.element_store.specs.State.{ArenaState, LinksOf}
-use Rattle.element_store.specs.Queued.{queued, retired_lists}
+use Rattle.bpf_model.proofs.Prelude.{◌∙◌, sym, ap, subst, Queues}
+use Rattle.element_store.proofs.Prelude.{ArenaState, LinksOf, queued, retired_lists, deferred_lists, FitsAs}
 use Rattle.element_store.specs.declared.deferred.Line.{Line}
-use Rattle.element_store.specs.Deferred.{deferred_lists, FitsAs}
 use Rattle.element_store.proofs.DeferredFrame.{lists-are, fits_from}
 use Rattle.element_store.proofs.DeferredMoves.{retired_fits, lasts_taken}
 use Rattle.element_store.proofs.deferred.DeferredSlots.retire.Goals.{After-join-self}

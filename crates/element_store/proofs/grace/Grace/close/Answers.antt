@@ -1,7 +1,6 @@
-use Rattle.std.proofs.Common.{◌≡◌, ◌∙◌, ◌-◌, ◌<◌, ◌≤◌, List, Bool, sym, ap, subst, arith}
-use Rattle.std.specs.Prelude.{slice_set, false}
+use Rattle.bpf_model.proofs.Prelude.{◌≡◌, ◌∙◌, ◌-◌, ◌<◌, ◌≤◌, List, Bool, sym, ap, subst, arith, slice_set, false}
+use Rattle.element_store.proofs.Prelude.{GraceState, IsGrace, depth_at, grace_state_of, is_open_depth, opened_in}
 use Rattle.bpf_model.specs.declared.limits.TheConstants.{MAX_DEPTH, MAX_RUNS}
-use Rattle.element_store.specs.Sections.{GraceState, IsGrace, depth_at, grace_state_of, is_open_depth, opened_in}
 use Rattle.element_store.proofs.Depths.{opened-now, opened-stays, inside-after, unawaited-after}
 use Rattle.element_store.proofs.grace.Grace.close.Goals as goal
 

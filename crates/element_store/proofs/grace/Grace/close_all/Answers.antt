@@ -1,7 +1,6 @@
-use Rattle.std.proofs.Common.{◌∙◌, ◌<◌, List, Bool, sym, ap, subst, arith}
-use Rattle.std.specs.Prelude.{slice_set, false}
+use Rattle.bpf_model.proofs.Prelude.{◌∙◌, ◌<◌, List, Bool, sym, ap, subst, arith, slice_set, false}
+use Rattle.element_store.proofs.Prelude.{GraceState, IsGrace, grace_state_of}
 use Rattle.bpf_model.specs.declared.limits.TheConstants.{MAX_RUNS}
-use Rattle.element_store.specs.Sections.{GraceState, IsGrace, grace_state_of}
 use Rattle.element_store.proofs.Depths.{opened-now, unawaited-after}
 use Rattle.element_store.proofs.grace.Grace.close_all.Goals as goal
 

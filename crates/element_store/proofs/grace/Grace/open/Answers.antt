@@ -1,7 +1,6 @@
-use Rattle.std.proofs.Common.{◌≡◌, ◌∙◌, ◌+◌, ◌<◌, ◌≤◌, sym, ap, subst, arith}
-use Rattle.std.specs.Prelude.{slice_set, true}
+use Rattle.bpf_model.proofs.Prelude.{◌≡◌, ◌∙◌, ◌+◌, ◌<◌, ◌≤◌, sym, ap, subst, arith, slice_set, true}
+use Rattle.element_store.proofs.Prelude.{GraceState, depth_at, grace_state_of, is_open_depth, opened_in}
 use Rattle.bpf_model.specs.declared.limits.TheConstants.{MAX_DEPTH, MAX_RUNS}
-use Rattle.element_store.specs.Sections.{GraceState, depth_at, grace_state_of, is_open_depth, opened_in}
 use Rattle.element_store.proofs.Depths.{opened-now, opened-stays, inside-after}
 use Rattle.element_store.proofs.grace.Grace.open.Goals as goal
 

@@ -1,5 +1,4 @@
-use Rattle.std.proofs.Common.{◌∙◌, ap}
-use Rattle.std.specs.Prelude.{true, slice_set}
+use Rattle.bpf_model.proofs.Prelude.{◌∙◌, ap, true, slice_set}
 use Rattle.element_store.proofs.RunWords.{flags-set}
 use Rattle.element_store.proofs.run_set.RunSet.insert.Goals as goal
 

@@ -1,5 +1,4 @@
-use Rattle.std.proofs.Common.{◌∙◌, ap}
-use Rattle.std.specs.Prelude.{false, slice_set}
+use Rattle.bpf_model.proofs.Prelude.{◌∙◌, ap, false, slice_set}
 use Rattle.element_store.proofs.RunWords.{flags-clear}
 use Rattle.element_store.proofs.run_set.RunSet.remove.Goals as goal
 

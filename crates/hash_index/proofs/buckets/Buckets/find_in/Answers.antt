@@ -1,5 +1,4 @@
-use Rattle.std.proofs.Common.{◌≡◌, ◌∙◌, ◌<◌, sym, ap, rules, length}
-use Rattle.std.specs.Prelude.{slice_get}
+use Rattle.bpf_model.proofs.Prelude.{◌≡◌, ◌∙◌, ◌<◌, sym, ap, rules, length, slice_get}
 use Rattle.hash_index.specs.Chains.{bucket_of}
 use Rattle.hash_index.proofs.Changes.{home_chain, lookup_home}
 use Rattle.hash_index.proofs.Links.{head_at, place_in}

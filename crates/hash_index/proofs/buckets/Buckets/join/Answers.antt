@@ -1,6 +1,4 @@
-use Rattle.std.proofs.Common.{◌<◌, Some, rules, length, refl}
-use Rattle.std.specs.Prelude.{slice_set}
-use Rattle.std.proofs.lemmas.Option.{slice_get_read}
+use Rattle.bpf_model.proofs.Prelude.{◌<◌, Some, rules, length, refl, slice_set, slice_get_read}
 use Rattle.hash_index.proofs.Changes.{Linked, linked_in}
 use Rattle.hash_index.proofs.Links.{one_link}
 use Rattle.hash_index.proofs.buckets.Buckets.join.Goals as goal

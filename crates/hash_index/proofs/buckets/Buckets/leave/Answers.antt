@@ -1,5 +1,4 @@
-use Rattle.std.proofs.Common.{◌≡◌, ◌<◌, rules, length, Some}
-use Rattle.std.specs.Prelude.{slice_get, slice_set}
+use Rattle.bpf_model.proofs.Prelude.{◌≡◌, ◌<◌, rules, length, Some, slice_get, slice_set}
 use Rattle.hash_index.proofs.Changes.{CanCut, Unlinked, can_cut, unlinked_in}
 use Rattle.hash_index.proofs.Links.{head_at}
 use Rattle.hash_index.proofs.buckets.Buckets.leave.Goals.{After-index-first, After-cut}

@@ -1,5 +1,5 @@
-use Rattle.std.proofs.Common.{◌≡◌, ◌∙◌, ◌<◌, ◌≤◌, ℕ, List, Option, sym, ap, subst}
-use Rattle.element_store.specs.State.{key_at, times_in}
+use Rattle.bpf_model.proofs.Prelude.{◌≡◌, ◌∙◌, ◌<◌, ◌≤◌, ℕ, List, Option, sym, ap, subst}
+use Rattle.element_store.proofs.Prelude.{key_at, times_in}
 use Rattle.hash_index.specs.Buckets.{chained_slots}
 use Rattle.hash_index.proofs.Gathered.{ascends, contents_ordered, times-moved}
 use Rattle.hash_index.proofs.buckets.BucketsIndex.in_order.Goals as goal

@@ -1,6 +1,6 @@
-use Rattle.std.proofs.Common.{◌∙◌, sym, ap, subst}
+use Rattle.bpf_model.proofs.Prelude.{◌∙◌, sym, ap, subst}
+use Rattle.element_store.proofs.Prelude.{ArenaState, key_at}
 use Rattle.std.specs.FinMap as map
-use Rattle.element_store.specs.State.{ArenaState, key_at}
 use Rattle.hash_index.specs.Buckets.{IsPlaceIn, chained_slots, contents_in}
 use Rattle.hash_index.proofs.Links.{found_same, gone_in, put_over}
 use Rattle.hash_index.proofs.buckets.BucketsIndex.link.Goals as goal

@@ -1,6 +1,4 @@
-use Rattle.std.proofs.Common.{◌≡◌, ◌∙◌, ℕ, List, Option, None, length, sym, ap, subst}
-use Rattle.std.specs.Prelude.{min}
-use Rattle.std.proofs.lemmas.List.{length-replicate}
+use Rattle.bpf_model.proofs.Prelude.{◌≡◌, ◌∙◌, ℕ, List, Option, None, length, sym, ap, subst, min, length-replicate}
 use Rattle.bpf_model.specs.declared.limits.TheConstants.{MAX_ENTRIES}
 use Rattle.hash_index.specs.Buckets.{IsLeastPowerOfTwo}
 use Rattle.hash_index.proofs.Least.{fits_none, contents_none}

@@ -1,6 +1,5 @@
-use Rattle.std.proofs.Common.{ℕ, List, Option, subst}
-use Rattle.std.specs.Prelude.{option_copied}
-use Rattle.element_store.specs.State.{key_at}
+use Rattle.bpf_model.proofs.Prelude.{ℕ, List, Option, subst, option_copied}
+use Rattle.element_store.proofs.Prelude.{key_at}
 use Rattle.hash_index.specs.Order.{IsLeastOf}
 use Rattle.hash_index.specs.Buckets.{chained_slots}
 use Rattle.hash_index.proofs.Least.{least_some, least_is_above, least_between, least_none}

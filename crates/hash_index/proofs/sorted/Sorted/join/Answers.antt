@@ -1,6 +1,5 @@
-use Rattle.std.proofs.Common.{◌≡◌, ◌<◌, arith, rules, length}
-use Rattle.std.specs.Prelude.{vec_len, vec_capacity}
-use Rattle.element_store.specs.State.{key_at}
+use Rattle.bpf_model.proofs.Prelude.{◌≡◌, ◌<◌, arith, rules, length, vec_len, vec_capacity}
+use Rattle.element_store.proofs.Prelude.{key_at}
 use Rattle.hash_index.proofs.Ordered.{has_room, sorted_link, placed}
 use Rattle.hash_index.proofs.sorted.Sorted.join.Goals as goal
 

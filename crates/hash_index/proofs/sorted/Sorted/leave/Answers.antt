@@ -1,8 +1,6 @@
-use Rattle.std.proofs.Common.{◌≡◌, ◌<◌, arith, rules, length}
-use Rattle.std.specs.Prelude.{vec_len}
+use Rattle.bpf_model.proofs.Prelude.{◌≡◌, ◌<◌, arith, rules, length, vec_len, slice_get_within}
 use Rattle.hash_index.proofs.Ordered.{sorted_unlink}
 use Rattle.hash_index.proofs.sorted.Sorted.leave.Goals as goal
-use Rattle.std.proofs.lemmas.Option.{slice_get_within}
 
 pub remove-slot-requires : goal.remove-slot-requires
 remove-slot-requires c =

@@ -1,5 +1,5 @@
-use Rattle.std.proofs.Common.{◌∙◌, ℕ, List, sym, ap, subst}
-use Rattle.element_store.specs.State.{slot_of, key_at}
+use Rattle.bpf_model.proofs.Prelude.{◌∙◌, ℕ, List, sym, ap, subst}
+use Rattle.element_store.proofs.Prelude.{slot_of, key_at}
 use Rattle.element_store.proofs.Indexing.{get-contents}
 use Rattle.hash_index.specs.Sorted.{IsPosition}
 use Rattle.hash_index.proofs.sorted.SortedIndex.find.Goals as goal

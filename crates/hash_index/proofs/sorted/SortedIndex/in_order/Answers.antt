@@ -1,6 +1,5 @@
-use Rattle.std.proofs.Common.{◌≡◌, ℕ, List, None, refl, sym, subst}
-use Rattle.std.specs.Prelude.{IfOk, Ok, Err}
-use Rattle.element_store.specs.State.{key_at}
+use Rattle.bpf_model.proofs.Prelude.{◌≡◌, ℕ, List, None, refl, sym, subst, IfOk, Ok, Err}
+use Rattle.element_store.proofs.Prelude.{key_at}
 use Rattle.hash_index.specs.Order.{AreInOrder}
 use Rattle.hash_index.specs.Sorted.{sorted_contents}
 use Rattle.hash_index.proofs.Gathered.{contents_ordered}

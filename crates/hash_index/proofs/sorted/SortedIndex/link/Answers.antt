@@ -1,5 +1,5 @@
-use Rattle.std.proofs.Common.{refl}
-use Rattle.element_store.specs.State.{key_at}
+use Rattle.bpf_model.proofs.Prelude.{refl}
+use Rattle.element_store.proofs.Prelude.{key_at}
 use Rattle.hash_index.specs.Sorted.{sorted_contents}
 use Rattle.hash_index.proofs.Links.{found_same, gone_in, put_over}
 use Rattle.hash_index.proofs.Orders.{stands_at}

@@ -1,6 +1,6 @@
-use Rattle.std.proofs.Common.{◌∙◌, sym, ap}
+use Rattle.bpf_model.proofs.Prelude.{◌∙◌, sym, ap}
+use Rattle.element_store.proofs.Prelude.{key_at}
 use Rattle.std.specs.FinMap as map
-use Rattle.element_store.specs.State.{key_at}
 use Rattle.hash_index.specs.Sorted.{sorted_contents}
 use Rattle.hash_index.proofs.Links.{found_same}
 use Rattle.hash_index.proofs.Runs.{remove_absent}

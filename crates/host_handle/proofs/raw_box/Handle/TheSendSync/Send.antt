@@ -1,12 +1,11 @@
+use Rattle.bpf_model.proofs.Prelude.{Option, Some, None, Global}
 use mir.Raw.{raw}
 use base.Fraction.{full_share}
 use base.Shift.{Keyless}
 use denote.Memory.{lone}
 use denote.RawPtr.{Ptr, block_ptr, null_ptr}
 use denote.Param.Send.{IsSend, part_keyless, owning_send, sendable}
-use Rattle.std.specs.Prelude.{Option, Some, None}
 use Rattle.std.proofs.Crossing.{frees}
-use Rattle.std.specs.declared.alloc.Global.{Global}
 use Rattle.host_handle.specs.declared.held.Held.{Held}
 use Rattle.host_handle.specs.contracts.held.Held as value
 use Rattle.host_handle.proofs.held.Held.TheSendSync.{the_send}

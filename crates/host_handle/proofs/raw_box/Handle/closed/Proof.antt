@@ -1,5 +1,5 @@
 -- `closed` makes a handle that owns nothing.
-use Rattle.std.proofs.Common.{[], ◌∷◌, refl, lit<}
+use Rattle.bpf_model.proofs.Prelude.{[], ◌∷◌, refl, lit<, None}
 use base.Fml.{ftrue}
 use types.Kit.{‵, raw, ◌$◌, ◌∵◌, !, qed, drop, suffices, done, group}
 use types.Run.{enter, lit, no_more, and_then, returns}
@@ -10,7 +10,6 @@ use denote.Steps.{nothing}
 use denote.Triple.Entry.{on_entry}
 use denote.Triple.Walked.{Stays, walk_of, says, ends_at}
 use Rattle.std.proofs.raw_atomic.Walks.{proved}
-use Rattle.std.specs.Prelude.{None}
 use Rattle.host_handle.proofs.HandleValues.{word, handle_in}
 use Rattle.host_handle.specs.contracts.raw_box.Handle.closed as f
 use Rattle.host_handle.proofs.raw_box.Handle.closed.Statement.{statement}

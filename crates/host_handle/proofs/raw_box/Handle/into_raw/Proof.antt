@@ -1,10 +1,9 @@
 -- `into_raw` shows the type behind the pointer.
-use Rattle.std.proofs.Common.{◌∙◌, ap, List, [], ◌∷◌, ◌++◌, refl, sym, subst}
+use Rattle.bpf_model.proofs.Prelude.{◌∙◌, ap, List, [], ◌∷◌, ◌++◌, refl, sym, subst, impl, tnil, dnil, Val, vptr, Goes-blank, handle_tells, proved_at, IsSome}
+use Rattle.bpf_model.proofs.Prelude.{box_owns, ghosts}
 use base.Logic.{SProp, ent, id⊢, fst∗, never}
 use base.Fml.{ftrue}
 use mir.Raw.{raw as bare}
-use mir.Syntax.{impl, tnil, dnil}
-use mir.Val.{Val, vptr}
 use prog.Wp.{WpFn}
 use types.Logic.{sem}
 use types.Kit.{‵, raw, ◌⊛◌, ◌$◌, ◌∵◌, !, qed, keep, fsplit, split, move, join, suffices, done, group}
@@ -20,12 +19,7 @@ use denote.RawPtr.{Ptr, block_ptr, null_ptr, in_a_block}
 use denote.Signature.{types_at, plain}
 use denote.Steps.{nothing, heard}
 use denote.Triple.Walked.{Stays, stay_dropped, walk_of, says, ends_at}
-use Rattle.std.proofs.alloc.Calls.{Goes-blank, handle_tells}
-use Rattle.std.proofs.raw_atomic.Walks.{proved_at}
-use Rattle.std.specs.Prelude.{IsSome}
-use Rattle.std.specs.Box.Ownership.{box_owns}
 use Rattle.std.specs.contracts.alloc.Global as global
-use Rattle.std.specs.contracts.impls.GlobalAllocator.TheImpl.{ghosts}
 use Rattle.std.proofs.alloc.Global.TheLaws as heap_laws
 use Rattle.host_handle.specs.contracts.held.Held as store
 use Rattle.host_handle.proofs.BoxValues.{both, parts_good, parts_in}

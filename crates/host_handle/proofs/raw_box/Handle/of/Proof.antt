@@ -1,8 +1,7 @@
 -- `of` hides the type behind the pointer.
-use Rattle.std.proofs.Common.{List, [], ◌∷◌, ◌++◌, refl, sym, subst}
+use Rattle.bpf_model.proofs.Prelude.{List, [], ◌∷◌, ◌++◌, refl, sym, subst, Val, vptr, Goes-blank, proved_at, Some, ghosts}
 use base.Logic.{SProp, ent, id⊢}
 use base.Fml.{ftrue}
-use mir.Val.{Val, vptr}
 use prog.Wp.{WpFn}
 use types.Kit.{‵, ◌⊛◌, ◌$◌, ◌∵◌, !, qed, keep, fsplit, split, move, join, suffices, done, group}
 use types.Run.{stop, fld, enter, of_opd, no_more, and_then, returns}
@@ -15,11 +14,7 @@ use denote.RawPtr.{block_ptr}
 use denote.Signature.{types_at, plain}
 use denote.Steps.{nothing}
 use denote.Triple.Walked.{Stays, stay_dropped, walk_of, says, ends_at}
-use Rattle.std.proofs.alloc.Calls.{Goes-blank}
-use Rattle.std.proofs.raw_atomic.Walks.{proved_at}
-use Rattle.std.specs.Prelude.{Some}
 use Rattle.std.specs.contracts.alloc.Global as global
-use Rattle.std.specs.contracts.impls.GlobalAllocator.TheImpl.{ghosts}
 use Rattle.std.proofs.alloc.Global.TheLaws as heap_laws
 use Rattle.host_handle.specs.contracts.held.Held as store
 use Rattle.host_handle.proofs.BoxValues.{both, Parts, parts_good, parts_out}

@@ -1,9 +1,7 @@
 -- `of` takes the box apart.
-use Rattle.std.proofs.Common.{◌≡◌, List, [], ◌∷◌, ◌++◌, refl, sym, ap, ◌∙◌, subst}
-use mir.Syntax.{a_type, dcons, dnil}
+use Rattle.bpf_model.proofs.Prelude.{◌≡◌, List, [], ◌∷◌, ◌++◌, refl, sym, ap, ◌∙◌, subst, a_type, dcons, dnil, Val, vptr, vstruct, of_list, inst_fn}
+use Rattle.bpf_model.proofs.Prelude.{Goes-blank, handle_tells, box_owns, box_out, box_in, proved_at, leaves}
 use mir.Raw.{raw as bare}
-use mir.Val.{Val, vptr, vstruct, of_list}
-use mir.MapTy.{inst_fn}
 use base.Logic.{SProp, ent, emp, never, id⊢, fst∗}
 use base.Fml.{ftrue, fsep, flft}
 use prog.Wp.{WpFn}
@@ -53,12 +51,8 @@ use denote.Struct.Tuple.{Tuple}
 use denote.Triple.Spec.{triple_of}
 use denote.Triple.Call.{calls_at}
 use denote.Triple.Walked.{Stays, stay_dropped, walk_of}
-use Rattle.std.proofs.alloc.Calls.{Goes-blank, handle_tells}
 use denote.Triple.Table.{framed}
-use Rattle.std.specs.Box.Ownership.{box_owns}
 use Rattle.std.proofs.BoxSteps.Form as box
-use Rattle.std.proofs.BoxSteps.Steps.{box_out, box_in}
-use Rattle.std.proofs.raw_atomic.Walks.{proved_at, leaves}
 use Rattle.host_handle.proofs.BoxValues.{both, parts_good, parts_in}
 use Rattle.std.specs.contracts.boxed.Box.into_raw_with_allocator as callee
 use Rattle.std.proofs.boxed.Box.into_raw_with_allocator.Met.{met}

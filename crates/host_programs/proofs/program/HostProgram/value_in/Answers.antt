@@ -1,7 +1,6 @@
-use Rattle.std.proofs.Common.{subst}
-use Rattle.bpf_model.specs.Exit.{ExitsWith}
+use Rattle.bpf_model.proofs.Prelude.{subst, ExitsWith}
+use Rattle.verifier.proofs.Prelude.{Checked}
 use Rattle.shared_runs.specs.Lone.{loaded_alone}
-use Rattle.verifier.specs.Checked.{Checked}
 use Rattle.host_programs.proofs.Returning.{returns_on}
 use Rattle.host_programs.proofs.program.HostProgram.value_in.Goals as goal
 

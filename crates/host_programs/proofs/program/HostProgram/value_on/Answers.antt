@@ -1,7 +1,7 @@
-use Rattle.std.proofs.Common.{◌≡◌, ℕ, List, Option, Some, sym, subst}
-use Rattle.classic_program.specs.declared.data.Data.TheVariants.{Packet}
-use Rattle.classic_program.specs.Machine.{Filters}
-use Rattle.classic_program.specs.WellFormed.{Checked as Classic, checked}
+use Rattle.bpf_model.proofs.Prelude.{◌≡◌, ℕ, List, Option, Some, sym, subst}
+use Rattle.classic.proofs.Prelude.{Packet}
+use Rattle.classic_program.proofs.Prelude.{Filters, checked}
+use Rattle.classic_program.specs.WellFormed.{Checked as Classic}
 use Rattle.host_programs.specs.Opened.{IsTranslationOf}
 use Rattle.host_programs.specs.Packets.{seen}
 use Rattle.host_programs.specs.Runs.{Returns}

@@ -1,6 +1,4 @@
-use Rattle.std.proofs.Common.{arith, ◌∙◌}
-use Rattle.std.proofs.lemmas.List.{length-set}
-use Rattle.std.proofs.lemmas.Option.{get_or_from_slice_get, slice_get_within}
+use Rattle.bpf_model.proofs.Prelude.{arith, ◌∙◌, length-set, get_or_from_slice_get, slice_get_within}
 use Rattle.host_programs.proofs.Each.{next-packet}
 use Rattle.host_programs.proofs.program.HostProgram.values_of.Goals as goal
 

@@ -1,4 +1,4 @@
-use Rattle.std.proofs.Common.{◌≡◌, ◌<◌, ℕ, Some, length, slice_get}
+use Rattle.bpf_model.proofs.Prelude.{◌≡◌, ◌<◌, ℕ, Some, length, slice_get}
 use Rattle.host_programs.specs.Packets.{seen_of}
 use Rattle.host_programs.specs.Runs.{GivesOnPacket}
 use Rattle.host_programs.specs.declared.packet.PacketAt.{PacketAt}

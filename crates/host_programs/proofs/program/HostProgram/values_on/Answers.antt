@@ -1,6 +1,4 @@
-use Rattle.std.proofs.Common.{◌≡◌, ℕ, ◌+◌, ◌*◌, List, drop, take, ap, ◌∙◌, subst, arith}
-use Rattle.std.proofs.lemmas.List.{length-set}
-use Rattle.std.proofs.lemmas.Option.{slice_get_within}
+use Rattle.bpf_model.proofs.Prelude.{◌≡◌, ℕ, ◌+◌, ◌*◌, List, drop, take, ap, ◌∙◌, subst, arith, length-set, slice_get_within}
 use Rattle.host_programs.specs.Runs.{Gives, context_at}
 use Rattle.host_programs.proofs.Each.{drop-more, next-each}
 use Rattle.host_programs.proofs.program.HostProgram.values_on.Goals as goal

@@ -1,4 +1,4 @@
-use Rattle.std.proofs.Common.{◌≡◌, ◌*◌, ◌<◌, ℕ, Some, slice_get, length, drop}
+use Rattle.bpf_model.proofs.Prelude.{◌≡◌, ◌*◌, ◌<◌, ℕ, Some, slice_get, length, drop}
 use Rattle.host_programs.specs.Runs.{Gives, context_at}
 use Rattle.host_programs.proofs.program.HostProgram.values_on.Given as goal
 

@@ -1,6 +1,5 @@
-use Rattle.std.proofs.Common.{◌≡◌, ◌<◌, ◌∙◌, sym, ap, subst}
-use Rattle.map_table.specs.Held.{TableView}
-use Rattle.map_table.specs.Law.{ways_of}
+use Rattle.bpf_model.proofs.Prelude.{◌≡◌, ◌<◌, ◌∙◌, sym, ap, subst}
+use Rattle.map_table.proofs.Prelude.{TableView, ways_of}
 use Rattle.host_tables.specs.Copies.{AreAllThere, Copies, IsThere}
 use Rattle.host_tables.specs.Tables.{OpenTable}
 use Rattle.host_tables.proofs.Kept.{both_kept, copied, ok_then, same_seats, writer_knows}

@@ -1,7 +1,6 @@
-use Rattle.std.proofs.Common.{subst}
-use Rattle.map_table.specs.Hashes.{layout_of}
-use Rattle.map_table.specs.Held.{TableView}
-use Rattle.map_table_laws.specs.Once.{AreLinkedOnce}
+use Rattle.bpf_model.proofs.Prelude.{subst}
+use Rattle.map_table_laws.proofs.Prelude.{AreLinkedOnce}
+use Rattle.map_table.proofs.Prelude.{layout_of, TableView}
 use Rattle.host_tables.specs.Tables.{OpenTable}
 use Rattle.host_tables.proofs.table.HostTable.keys_are_linked_once.Goals as goal
 

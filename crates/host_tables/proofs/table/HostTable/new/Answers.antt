@@ -1,4 +1,4 @@
-use Rattle.std.proofs.Common.{rules}
+use Rattle.bpf_model.proofs.Prelude.{rules}
 use Rattle.host_tables.proofs.Tidy.{first_tidy}
 use Rattle.host_tables.proofs.table.HostTable.new.Goals as goal
 

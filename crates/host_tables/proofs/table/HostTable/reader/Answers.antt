@@ -1,5 +1,5 @@
-use Rattle.std.proofs.Common.{ap, sym, subst, ◌∙◌}
-use Rattle.map_table.specs.Writing.{WriterView}
+use Rattle.bpf_model.proofs.Prelude.{ap, sym, subst, ◌∙◌}
+use Rattle.map_table.proofs.Prelude.{WriterView}
 use Rattle.host_tables.specs.Copies.{IsThere}
 use Rattle.host_tables.specs.Tables.{OpenTable}
 use Rattle.host_tables.proofs.Kept.{seat_kept, writer_knows}

@@ -1,4 +1,4 @@
-use Rattle.std.proofs.Common.{◌≡◌, sym, ap, subst}
+use Rattle.bpf_model.proofs.Prelude.{◌≡◌, sym, ap, subst}
 use Rattle.host_tables.specs.Copies.{IsThere}
 use Rattle.host_tables.specs.Tables.{OpenTable, Sets}
 use Rattle.host_tables.proofs.Kept.{ok_then, same_seats, set_kept, sets_kept, writer_knows}

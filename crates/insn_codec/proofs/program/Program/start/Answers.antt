@@ -1,8 +1,5 @@
-use Rattle.std.proofs.Common.{◌≡◌, ℕ, ◌<◌, List, length, get_or, ap, ◌∙◌, arith}
-use Rattle.std.proofs.lemmas.List.{get_or_read}
+use Rattle.bpf_model.proofs.Prelude.{◌≡◌, ℕ, ◌<◌, List, length, get_or, ap, ◌∙◌, arith, get_or_read, length-starts_from, starts_from}
 use Rattle.bpf_model.specs.declared.insn.Insn.{Insn}
-use Rattle.bpf_model.proofs.Places.{length-starts_from}
-use Rattle.bpf_model.specs.Places.{starts_from}
 use Rattle.insn_codec.proofs.program.Program.start.Goals as goal
 
 module _ (starts : List ℕ) (inside now : List Insn) (e : starts ≡ starts_from 0 inside) (v : inside ≡ now) where

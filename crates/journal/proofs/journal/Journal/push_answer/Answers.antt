@@ -1,4 +1,4 @@
-use Rattle.std.proofs.Common.{◌≡◌, ◌++◌, ◌∷◌, [], List, length, ap, subst, ◌∙◌, rules, arith, ℕ}
+use Rattle.bpf_model.proofs.Prelude.{◌≡◌, ◌++◌, ◌∷◌, [], List, length, ap, subst, ◌∙◌, rules, arith, ℕ}
 use Rattle.journal.specs.Rows.{IsRowOf, entry_from}
 use Rattle.bpf_model.specs.declared.entry.Entry.{Entry}
 use Rattle.journal.proofs.Counting.{counted-push, entries-pushed}

@@ -1,4 +1,4 @@
-use Rattle.std.proofs.Common.{arith}
+use Rattle.bpf_model.proofs.Prelude.{arith}
 use Rattle.journal.proofs.Counting.{counted-moves}
 use Rattle.journal.proofs.journal.Journal.push_moves.Goals as goal
 

@@ -1,7 +1,6 @@
-use Rattle.std.proofs.Common.{◌∙◌, sym, ap, subst}
-use Rattle.std.proofs.lemmas.Option.{same_Some}
-use Rattle.bpf_model.specs.declared.insn.Insn.{Insn}
-use Rattle.machine.specs.Requests.{MayResume, resumed_view}
+use Rattle.bpf_model.proofs.Prelude.{◌∙◌, sym, ap, subst, same_Some}
+use Rattle.machine.proofs.Prelude.{MayResume, resumed_view}
+use Rattle.model_laws.proofs.Prelude.{Insn}
 use Rattle.machine.proofs.Places.{insn_there, run_room, resumed_at}
 use Rattle.machine.proofs.run.Run.take_reply.Goals as goal
 use Rattle.machine.proofs.run.Run.take_reply.Goals.{After-insn_of-insn}

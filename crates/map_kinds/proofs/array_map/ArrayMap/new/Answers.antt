@@ -1,4 +1,4 @@
-use Rattle.std.proofs.Common.{◌∙◌, ap}
+use Rattle.bpf_model.proofs.Prelude.{◌∙◌, ap}
 use Rattle.map_kinds.specs.Arrays.{array_view}
 use Rattle.map_kinds.proofs.Arrays.{fresh-array}
 use Rattle.map_kinds.proofs.array_map.ArrayMap.new.Goals as goal

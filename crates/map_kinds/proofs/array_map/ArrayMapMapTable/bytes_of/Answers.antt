@@ -1,9 +1,8 @@
-use Rattle.std.proofs.Common.{◌≡◌, ◌∙◌, ℕ, ◌+◌, ◌*◌, ◌<◌, ◌≤◌, List, length, Option, Some, sym, ap, subst}
-use Rattle.std.specs.FinMap.{get}
+use Rattle.bpf_model.proofs.Prelude.{◌≡◌, ◌∙◌, ℕ, ◌+◌, ◌*◌, ◌<◌, ◌≤◌, List, length, Option, Some, sym, ap, subst, get, MapView, index_below}
+use Rattle.element_store.proofs.Prelude.{block}
+use Rattle.model_laws.proofs.Prelude.{value_shown}
 use Rattle.arrayvec.specs.ArrayVec.{ArrayVec}
-use Rattle.bpf_model.specs.View.{MapView, index_below}
-use Rattle.element_store.specs.Blocks.{block}
-use Rattle.model_laws.specs.Views.{value_shown, value_read}
+use Rattle.model_laws.specs.Views.{value_read}
 use Rattle.map_kinds.specs.Arrays.{array_view}
 use Rattle.model_laws.proofs.Indices.{index-got}
 use Rattle.map_kinds.proofs.Arrays.{room-at, value-at}

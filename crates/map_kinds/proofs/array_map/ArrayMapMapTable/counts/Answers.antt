@@ -1,4 +1,4 @@
-use Rattle.std.proofs.Common.{ℕ, ◌∙◌, sym, ap}
+use Rattle.bpf_model.proofs.Prelude.{ℕ, ◌∙◌, sym, ap}
 use Rattle.map_kinds.specs.declared.counts.Counts.{Counts}
 use Rattle.map_kinds.specs.Counting.{counts_of}
 use Rattle.model_laws.proofs.Indices.{len-index}

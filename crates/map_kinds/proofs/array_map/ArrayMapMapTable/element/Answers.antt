@@ -1,9 +1,6 @@
-use Rattle.std.proofs.Common.{◌≡◌, ◌∙◌, ℕ, ◌+◌, ◌*◌, ◌<◌, ◌≤◌, List, length, Some, sym, ap, subst, arith}
-use Rattle.std.specs.FinMap.{get}
-use Rattle.bpf_model.specs.declared.limits.TheConstants.{MAX_ENTRIES}
-use Rattle.bpf_model.specs.View.{MapView}
-use Rattle.element_store.specs.Blocks.{block}
-use Rattle.element_store.specs.State.{key_at, value_at}
+use Rattle.bpf_model.proofs.Prelude.{◌≡◌, ◌∙◌, ℕ, ◌+◌, ◌*◌, ◌<◌, ◌≤◌, List, length, Some, sym, ap, subst, arith, get, MapView}
+use Rattle.element_store.proofs.Prelude.{block, key_at, value_at}
+use Rattle.model_laws.proofs.Prelude.{MAX_ENTRIES}
 use Rattle.map_kinds.proofs.Arrays.{key-is, linked-in, room-at, value-at}
 use Rattle.map_kinds.proofs.array_map.ArrayMapMapTable.element.Goals as goal
 

@@ -1,8 +1,5 @@
-use Rattle.std.proofs.Common.{None, subst}
-use Rattle.std.specs.Prelude.{IfOk, Ok, Err}
-use Rattle.bpf_model.specs.MapState.{index_key}
-use Rattle.bpf_model.specs.View.{MapView, index_below}
-use Rattle.element_store.specs.State.{key_at}
+use Rattle.bpf_model.proofs.Prelude.{None, subst, IfOk, Ok, Err, index_key, MapView, index_below}
+use Rattle.element_store.proofs.Prelude.{key_at}
 use Rattle.hash_index.specs.Order.{AreInOrder}
 use Rattle.model_laws.proofs.Indices.{index-got}
 use Rattle.map_kinds.specs.Arrays.{array_view}

@@ -1,9 +1,5 @@
-use Rattle.std.proofs.Common.{◌≡◌, ◌∙◌, ℕ, ◌+◌, ◌*◌, ◌<◌, ◌≤◌, List, length, Some, sym, ap, subst}
-use Rattle.std.specs.Prelude.{slice_get}
-use Rattle.bpf_model.specs.Access.{byte_count, number_at}
-use Rattle.bpf_model.specs.View.{MapView}
-use Rattle.element_store.specs.Blocks.{block}
-use Rattle.element_store.specs.State.{value_at}
+use Rattle.bpf_model.proofs.Prelude.{◌≡◌, ◌∙◌, ℕ, ◌+◌, ◌*◌, ◌<◌, ◌≤◌, List, length, Some, sym, ap, subst, slice_get, byte_count, number_at, MapView}
+use Rattle.element_store.proofs.Prelude.{block, value_at}
 use Rattle.element_store.proofs.Slots.{block-full}
 use Rattle.map_kinds.specs.Shown.{IsOccupied}
 use Rattle.map_kinds.proofs.Arrays.{occupied-in, room-at, value-at}

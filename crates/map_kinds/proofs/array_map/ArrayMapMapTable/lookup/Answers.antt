@@ -1,9 +1,5 @@
-use Rattle.std.proofs.Common.{◌≡◌, ◌∙◌, ℕ, ◌+◌, ◌<◌, ◌≤◌, List, length, Option, Some, None, sym, ap, arith, subst}
-use Rattle.std.specs.Prelude.{IfSome}
-use Rattle.std.specs.FinMap.{get}
-use Rattle.bpf_model.specs.declared.limits.MapShape.{MapShape}
-use Rattle.bpf_model.specs.declared.limits.TheConstants.{MAX_ENTRIES, MAX_SPARE}
-use Rattle.bpf_model.specs.View.{MapView, index_below}
+use Rattle.bpf_model.proofs.Prelude.{◌≡◌, ◌∙◌, ℕ, ◌+◌, ◌<◌, ◌≤◌, List, length, Option, Some, None, sym, ap, arith, subst, IfSome, get, MapView, index_below}
+use Rattle.model_laws.proofs.Prelude.{MapShape, MAX_ENTRIES, MAX_SPARE}
 use Rattle.map_kinds.specs.Arrays.{IsArrayMap}
 use Rattle.model_laws.proofs.Indices.{index-got}
 use Rattle.map_kinds.proofs.array_map.ArrayMapMapTable.lookup.Goals as goal

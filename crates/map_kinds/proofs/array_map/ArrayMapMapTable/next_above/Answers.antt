@@ -1,9 +1,6 @@
-use Rattle.std.proofs.Common.{◌≡◌, ◌∙◌, ℕ, List, Some, refl, sym, ap, subst}
+use Rattle.bpf_model.proofs.Prelude.{◌≡◌, ◌∙◌, ℕ, List, Some, refl, sym, ap, subst, get, index_key, MapView, index_below}
+use Rattle.element_store.proofs.Prelude.{key_at, value_at}
 use Rattle.std.specs.Option.{option_copied}
-use Rattle.std.specs.FinMap.{get}
-use Rattle.bpf_model.specs.MapState.{index_key}
-use Rattle.bpf_model.specs.View.{MapView, index_below}
-use Rattle.element_store.specs.State.{key_at, value_at}
 use Rattle.map_kinds.specs.Arrays.{array_view}
 use Rattle.map_kinds.specs.Shown.{IsNext}
 use Rattle.model_laws.proofs.Indices.{index-gets}

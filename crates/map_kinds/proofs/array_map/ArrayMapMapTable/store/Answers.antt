@@ -1,12 +1,7 @@
-use Rattle.std.proofs.Common.{◌≡◌, ◌∙◌, ℕ, ◌<◌, List, length, sym, ap, subst}
-use Rattle.bpf_model.specs.Access.{byte_count}
-use Rattle.bpf_model.specs.Access.{with_bytes}
-use Rattle.bpf_model.specs.View.{MapView}
-use Rattle.bpf_model.proofs.Bytes.{length-with_bytes}
-use Rattle.element_store.specs.Blocks.{block}
-use Rattle.element_store.specs.State.{value_at}
+use Rattle.bpf_model.proofs.Prelude.{◌≡◌, ◌∙◌, ℕ, ◌<◌, List, length, sym, ap, subst, byte_count, with_bytes, MapView, length-with_bytes}
+use Rattle.element_store.proofs.Prelude.{block, value_at}
+use Rattle.model_laws.proofs.Prelude.{written}
 use Rattle.element_store.proofs.Slots.{block-full}
-use Rattle.model_laws.specs.Views.{written}
 use Rattle.map_kinds.specs.Arrays.{array_view, IsArrayMap}
 use Rattle.map_kinds.specs.Shown.{IsOccupied}
 use Rattle.map_kinds.proofs.Arrays.{occupied-in, room-at, value-at, written-view, written-kept}

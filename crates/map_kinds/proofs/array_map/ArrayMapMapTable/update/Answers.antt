@@ -1,9 +1,5 @@
-use Rattle.std.proofs.Common.{◌≡◌, ◌∙◌, ◌+◌, ◌*◌, ◌<◌, ◌≤◌, length, Some, None, sym, ap, subst}
-use Rattle.std.specs.Prelude.{is_some}
-use Rattle.std.specs.FinMap.{get}
-use Rattle.bpf_model.specs.Helper.{array_error}
-use Rattle.bpf_model.specs.View.{MapView, index_below}
-use Rattle.model_laws.specs.Views.{updated}
+use Rattle.bpf_model.proofs.Prelude.{◌≡◌, ◌∙◌, ◌+◌, ◌*◌, ◌<◌, ◌≤◌, length, Some, None, sym, ap, subst, is_some, get, array_error, MapView, index_below}
+use Rattle.model_laws.proofs.Prelude.{updated}
 use Rattle.map_kinds.specs.Arrays.{array_view, IsArrayMap}
 use Rattle.model_laws.proofs.Indices.{index-got}
 use Rattle.map_kinds.proofs.Arrays.{room-at, written-view, written-kept, array-updates}

@@ -1,8 +1,5 @@
-use Rattle.std.proofs.Common.{◌≡◌, ◌∙◌, ◌+◌, sym, ap, refl, subst, arith}
-use Rattle.bpf_model.specs.declared.limits.MapKind.TheVariants.{Hash}
-use Rattle.bpf_model.specs.declared.limits.MapShape.{MapShape}
-use Rattle.bpf_model.specs.Shapes.{IsShape}
-use Rattle.bpf_model.specs.View.{MapView}
+use Rattle.bpf_model.proofs.Prelude.{◌≡◌, ◌∙◌, ◌+◌, sym, ap, refl, subst, arith, IsShape, MapView}
+use Rattle.model_laws.proofs.Prelude.{Hash, MapShape}
 use Rattle.map_kinds.specs.Parted.{PartsView}
 use Rattle.map_kinds.specs.Counting.{IsCounted}
 use Rattle.map_kinds.specs.Shown.{map_view}

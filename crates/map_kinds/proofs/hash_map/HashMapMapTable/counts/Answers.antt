@@ -1,5 +1,5 @@
-use Rattle.std.proofs.Common.{◌≡◌, ◌≤◌, arith, ◌+◌}
-use Rattle.bpf_model.specs.declared.limits.TheConstants.{MAX_ENTRIES, MAX_SPARE}
+use Rattle.bpf_model.proofs.Prelude.{◌≡◌, ◌≤◌, arith, ◌+◌}
+use Rattle.model_laws.proofs.Prelude.{MAX_ENTRIES, MAX_SPARE}
 use Rattle.map_kinds.specs.Counting.{unlinked_in}
 use Rattle.map_kinds.specs.Shown.{map_view}
 use Rattle.map_kinds.proofs.Counting.{few-unlinked}

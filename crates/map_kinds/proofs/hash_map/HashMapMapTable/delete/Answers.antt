@@ -1,6 +1,7 @@
-use Rattle.std.proofs.Common.{◌≡◌, ◌∙◌, ◌+◌, ◌<◌, ◌≤◌, [], ◌∷◌, ◌++◌, length, Some, sym, ap, arith, length-append}
+use Rattle.bpf_model.proofs.Prelude.{◌≡◌, ◌∙◌, ◌+◌, ◌<◌, ◌≤◌, [], ◌∷◌, ◌++◌, length, Some, sym, ap, arith}
+use Rattle.model_laws.proofs.Prelude.{MAX_ENTRIES, MAX_SPARE}
+use Rattle.std.proofs.Common.{length-append}
 use Rattle.std.specs.FinMap as map
-use Rattle.bpf_model.specs.declared.limits.TheConstants.{MAX_ENTRIES, MAX_SPARE}
 use Rattle.map_kinds.specs.Counting.{unlinked_in, worn_in}
 use Rattle.map_kinds.specs.Parted.{PartsView}
 use Rattle.map_kinds.specs.Shown.{map_view}

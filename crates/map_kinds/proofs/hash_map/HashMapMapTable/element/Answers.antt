@@ -1,7 +1,5 @@
-use Rattle.std.proofs.Common.{◌≡◌, Some, sym, subst}
-use Rattle.std.specs.FinMap.{get}
-use Rattle.bpf_model.specs.View.{MapView}
-use Rattle.element_store.specs.State.{key_at}
+use Rattle.bpf_model.proofs.Prelude.{◌≡◌, Some, sym, subst, get, MapView}
+use Rattle.element_store.proofs.Prelude.{key_at}
 use Rattle.map_kinds.proofs.Parting.{linked-stands, standing-taken}
 use Rattle.map_kinds.proofs.hash_map.HashMapMapTable.element.Goals as goal
 

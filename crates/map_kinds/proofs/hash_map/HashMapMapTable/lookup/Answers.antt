@@ -1,10 +1,6 @@
-use Rattle.std.proofs.Common.{◌≡◌, ◌∙◌, ℕ, ◌<◌, List, Option, Some, None, length, ap, sym, subst, arith, ◌+◌}
-use Rattle.std.specs.Prelude.{IfSome}
-use Rattle.std.specs.FinMap.{get}
-use Rattle.bpf_model.specs.declared.limits.TheConstants.{MAX_ENTRIES, MAX_SPARE}
-use Rattle.bpf_model.specs.declared.limits.MapShape.{MapShape}
-use Rattle.bpf_model.specs.View.{MapView}
-use Rattle.element_store.specs.State.{IsTaken}
+use Rattle.bpf_model.proofs.Prelude.{◌≡◌, ◌∙◌, ℕ, ◌<◌, List, Option, Some, None, length, ap, sym, subst, arith, ◌+◌, IfSome, get, MapView}
+use Rattle.element_store.proofs.Prelude.{IsTaken}
+use Rattle.model_laws.proofs.Prelude.{MAX_ENTRIES, MAX_SPARE, MapShape}
 use Rattle.map_kinds.specs.Parted.{PartsView, IsParted}
 use Rattle.map_kinds.specs.Shown.{IsMap}
 use Rattle.map_kinds.proofs.Parting.{standing-taken, linked-stands}

@@ -1,11 +1,6 @@
-use Rattle.std.proofs.Common.{◌≡◌, ◌∙◌, ◌<◌, sym, ap, subst, arith, length, cond}
-use Rattle.std.specs.Prelude.{slice_get}
-use Rattle.bpf_model.specs.declared.event.Given.{Given}
-use Rattle.bpf_model.specs.declared.event.Given.TheVariants.{Free, Worn}
-use Rattle.bpf_model.specs.View.{MapView}
-use Rattle.element_store.specs.State.{key_at, worn_at, is_last_use, given_back}
-use Rattle.model_laws.specs.Views.{given_at, reaped_view}
-use Rattle.element_store.specs.Queued.{reaped_lists}
+use Rattle.bpf_model.proofs.Prelude.{◌≡◌, ◌∙◌, ◌<◌, sym, ap, subst, arith, length, cond, slice_get, MapView}
+use Rattle.element_store.proofs.Prelude.{key_at, worn_at, is_last_use, given_back, reaped_lists}
+use Rattle.model_laws.proofs.Prelude.{Given, Free, Worn, given_at, reaped_view}
 use Rattle.map_kinds.specs.Counting.{IsCounted}
 use Rattle.map_kinds.specs.Parted.{PartsView}
 use Rattle.map_kinds.specs.Shown.{map_view}

@@ -1,9 +1,6 @@
-use Rattle.std.proofs.Common.{◌≡◌, ◌∙◌, ◌+◌, ◌<◌, ◌≤◌, Ok, Err, arith, sym, ap, subst, refl, length}
-use Rattle.std.specs.Prelude.{IfNone}
-use Rattle.std.proofs.lemmas.List.{length-map}
-use Rattle.bpf_model.specs.declared.limits.TheConstants.{MAX_ENTRIES, MAX_SPARE}
-use Rattle.bpf_model.specs.View.{MapView, map_state_of, uses_at}
-use Rattle.model_laws.specs.Views.{updated, updated_by}
+use Rattle.bpf_model.proofs.Prelude.{◌≡◌, ◌∙◌, ◌+◌, ◌<◌, ◌≤◌, Ok, Err, arith, sym, ap, subst, refl, length, IfNone, length-map, MapView, map_state_of}
+use Rattle.bpf_model.proofs.Prelude.{uses_at}
+use Rattle.model_laws.proofs.Prelude.{MAX_ENTRIES, MAX_SPARE, updated, updated_by}
 use Rattle.map_kinds.specs.Counting.{IsCounted, unlinked_in}
 use Rattle.map_kinds.specs.Shown.{map_view}
 use Rattle.map_kinds.specs.Updated.{error_of}

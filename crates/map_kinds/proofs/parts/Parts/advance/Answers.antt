@@ -1,7 +1,5 @@
-use Rattle.std.proofs.Common.{◌∙◌, ap}
-use Rattle.bpf_model.specs.Schedule.{turned}
-use Rattle.element_store.specs.State.{ArenaState}
-use Rattle.element_store.specs.Deferred.{deferred_lists}
+use Rattle.bpf_model.proofs.Prelude.{◌∙◌, ap, turned}
+use Rattle.element_store.proofs.Prelude.{ArenaState, deferred_lists}
 use Rattle.map_kinds.specs.Parted.{PartsView}
 use Rattle.map_kinds.proofs.Moves.{turned-step}
 use Rattle.map_kinds.proofs.parts.Parts.advance.Goals as goal

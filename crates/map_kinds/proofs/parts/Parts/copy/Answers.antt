@@ -1,8 +1,6 @@
-use Rattle.std.proofs.Common.{sym, subst}
-use Rattle.bpf_model.specs.View.{KeyMap}
-use Rattle.element_store.specs.Deferred.{DeferredFits, deferred_lists}
+use Rattle.bpf_model.proofs.Prelude.{sym, subst, KeyMap}
+use Rattle.element_store.proofs.Prelude.{DeferredFits, deferred_lists, ArenaState}
 use Rattle.element_store.specs.declared.deferred.DeferredSlots.{DeferredSlots}
-use Rattle.element_store.specs.State.{ArenaState}
 use Rattle.map_kinds.specs.Parted.{IsParted}
 use Rattle.map_kinds.proofs.parts.Parts.copy.Goals as goal
 

@@ -1,6 +1,5 @@
-use Rattle.std.proofs.Common.{◌∙◌, sym, ap, subst}
-use Rattle.element_store.specs.State.{ArenaState, given_back}
-use Rattle.element_store.specs.Deferred.{deferred_lists}
+use Rattle.bpf_model.proofs.Prelude.{◌∙◌, sym, ap, subst}
+use Rattle.element_store.proofs.Prelude.{ArenaState, given_back, deferred_lists}
 use Rattle.map_kinds.specs.Parted.{PartsView, IsInHand}
 use Rattle.map_kinds.proofs.Moves.{given-step}
 use Rattle.map_kinds.proofs.parts.Parts.give.Goals as goal

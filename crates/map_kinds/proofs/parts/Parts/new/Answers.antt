@@ -1,12 +1,7 @@
-use Rattle.std.proofs.Common.{◌≡◌, ◌∙◌, ◌+◌, ◌≤◌, sym, ap, subst, length, arith}
+use Rattle.bpf_model.proofs.Prelude.{◌≡◌, ◌∙◌, ◌+◌, ◌≤◌, sym, ap, subst, length, arith, length-replicate, Queues, no_queues, unused_slot, KeyMap}
+use Rattle.element_store.proofs.Prelude.{ArenaState, deferred_lists}
 use Rattle.std.specs.FinMap as map
-use Rattle.std.proofs.lemmas.List.{length-replicate}
-use Rattle.bpf_model.specs.Schedule.{Queues, no_queues}
-use Rattle.bpf_model.specs.View.{unused_slot}
-use Rattle.element_store.specs.State.{ArenaState}
-use Rattle.element_store.specs.Deferred.{deferred_lists}
 use Rattle.map_kinds.specs.Parted.{PartsView, IsParted}
-use Rattle.bpf_model.specs.View.{KeyMap}
 use Rattle.map_kinds.proofs.Fresh.{parted-fresh}
 use Rattle.map_kinds.proofs.parts.Parts.new.Goals as goal
 

@@ -1,8 +1,5 @@
-use Rattle.std.proofs.Common.{◌≡◌, ◌∙◌, ℕ, Option, Some, None, sym, ap, subst}
-use Rattle.std.specs.Prelude.{slice_get, IfSome}
-use Rattle.element_store.specs.State.{ArenaState}
-use Rattle.element_store.specs.Queued.{reaped_lists}
-use Rattle.element_store.specs.Deferred.{deferred_lists}
+use Rattle.bpf_model.proofs.Prelude.{◌≡◌, ◌∙◌, ℕ, Option, Some, None, sym, ap, subst, slice_get, IfSome}
+use Rattle.element_store.proofs.Prelude.{ArenaState, reaped_lists, deferred_lists}
 use Rattle.map_kinds.specs.Parted.{PartsView, IsParted, IsInHand}
 use Rattle.map_kinds.proofs.Becoming.{Become}
 use Rattle.map_kinds.proofs.Parting.{reaped-held}

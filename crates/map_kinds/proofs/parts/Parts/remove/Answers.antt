@@ -1,10 +1,7 @@
-use Rattle.std.proofs.Common.{◌≡◌, ◌∙◌, ℕ, None, Some, sym, ap}
+use Rattle.bpf_model.proofs.Prelude.{◌≡◌, ◌∙◌, ℕ, None, Some, sym, ap, KeyMap}
+use Rattle.element_store.proofs.Prelude.{ArenaState, retired_lists, deferred_lists}
 use Rattle.std.specs.FinMap as map
-use Rattle.bpf_model.specs.View.{KeyMap}
-use Rattle.element_store.specs.State.{ArenaState}
-use Rattle.element_store.specs.Queued.{retired_lists}
 use Rattle.hash_index.proofs.Runs.{remove_absent}
-use Rattle.element_store.specs.Deferred.{deferred_lists}
 use Rattle.map_kinds.specs.Parted.{PartsView, IsInHand}
 use Rattle.map_kinds.specs.Updated.{unlinked_of}
 use Rattle.map_kinds.proofs.Becoming.{Become, parts_over}

@@ -1,11 +1,6 @@
-use Rattle.std.proofs.Common.{◌∙◌, sym, ap, subst}
-use Rattle.element_store.specs.State.{ArenaState}
-use Rattle.element_store.specs.Deferred.{deferred_lists}
-use Rattle.map_kinds.specs.Parted.{PartsView}
-use Rattle.bpf_model.specs.Access.{byte_count}
-use Rattle.bpf_model.specs.Access.{with_bytes}
-use Rattle.element_store.specs.State.{with_slot_value, value_at}
-use Rattle.map_kinds.specs.Parted.{IsInUse}
+use Rattle.bpf_model.proofs.Prelude.{◌∙◌, sym, ap, subst, byte_count, with_bytes}
+use Rattle.element_store.proofs.Prelude.{ArenaState, deferred_lists, with_slot_value, value_at}
+use Rattle.map_kinds.specs.Parted.{PartsView, IsInUse}
 use Rattle.map_kinds.proofs.Parting.{standing-taken}
 use Rattle.map_kinds.proofs.Moves.{written-step}
 use Rattle.map_kinds.proofs.parts.Parts.store.Goals as goal

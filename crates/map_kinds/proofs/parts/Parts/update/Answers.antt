@@ -1,8 +1,6 @@
-use Rattle.std.proofs.Common.{◌≡◌, ◌∙◌, ◌∷◌, ℕ, Some, sym, ap, subst}
+use Rattle.bpf_model.proofs.Prelude.{◌≡◌, ◌∙◌, ◌∷◌, ℕ, Some, sym, ap, subst}
+use Rattle.element_store.proofs.Prelude.{ArenaState, key_at, retired_lists, deferred_lists}
 use Rattle.std.specs.FinMap as map
-use Rattle.element_store.specs.State.{ArenaState, key_at}
-use Rattle.element_store.specs.Queued.{retired_lists}
-use Rattle.element_store.specs.Deferred.{deferred_lists}
 use Rattle.map_kinds.specs.Parted.{PartsView, IsInHand}
 use Rattle.map_kinds.specs.Updated.{with_taken}
 use Rattle.map_kinds.proofs.Becoming.{Become, parts_over}

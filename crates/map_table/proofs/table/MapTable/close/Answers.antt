@@ -1,6 +1,5 @@
-use Rattle.std.proofs.Common.{refl, sym, ap, ◌∙◌}
-use Rattle.map_table_laws.specs.declared.moves.Move.TheVariants.{Close}
-use Rattle.map_table.specs.Held.{TableView, Holder}
+use Rattle.map_table_laws.proofs.Prelude.{refl, sym, ap, ◌∙◌}
+use Rattle.map_table.proofs.Prelude.{Close, TableView, Holder}
 use Rattle.map_table.proofs.Calls.{does, section_within, closes_at, outside_word}
 use Rattle.map_table.proofs.table.MapTable.close.Goals as goal
 

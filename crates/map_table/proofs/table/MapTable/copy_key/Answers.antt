@@ -1,7 +1,6 @@
-use Rattle.std.proofs.Common.{rules, ◌≡◌, ◌+◌, ◌<◌, ◌≤◌, [], ◌∷◌, refl, length, ◌∙◌, subst, arith}
+use Rattle.map_table_laws.proofs.Prelude.{rules, ◌≡◌, ◌+◌, ◌<◌, ◌≤◌, [], ◌∷◌, refl, length, ◌∙◌, subst, arith}
+use Rattle.map_table.proofs.Prelude.{Load, Reads}
 use Rattle.std.proofs.lemmas.List.{length-set}
-use Rattle.map_table_laws.specs.declared.moves.Move.TheVariants.{Load}
-use Rattle.map_table.specs.Reading.{Reads}
 use Rattle.map_table.proofs.Going.{goes_none, goes_more}
 use Rattle.map_table.proofs.Lookups.{searched_holds}
 use Rattle.map_table.proofs.Loading.{reads_more}

@@ -1,9 +1,5 @@
-use Rattle.std.proofs.Common.{◌≡◌, List, length}
-use Rattle.map_table_laws.specs.declared.moves.Move.{Move}
-use Rattle.map_table_laws.specs.Lookups.{OnlySearches}
-use Rattle.map_table.specs.Hashes.{layout_of}
-use Rattle.map_table.specs.Held.{Goes}
-use Rattle.map_table.specs.Reading.{Reads}
+use Rattle.map_table_laws.proofs.Prelude.{◌≡◌, List, length, OnlySearches}
+use Rattle.map_table.proofs.Prelude.{Move, layout_of, Goes, Reads}
 use Rattle.map_table.proofs.table.MapTable.copy_key.Given as goal
 
 abbrev pub invariant-loop-place : goal.invariant-loop-place

@@ -1,6 +1,6 @@
-use Rattle.std.proofs.Common.{◌<◌, sym, ap, ◌∙◌, subst, arith}
+use Rattle.map_table_laws.proofs.Prelude.{◌<◌, sym, ap, ◌∙◌, subst, arith}
+use Rattle.map_table.proofs.Prelude.{TableView}
 use Rattle.map_table.proofs.Keeps.{deals_ok}
-use Rattle.map_table.specs.Held.{TableView}
 use Rattle.map_table.proofs.table.MapTable.deal.Goals as goal
 
 pub split_seat-seat-requires : goal.split_seat-seat-requires

@@ -1,9 +1,5 @@
-use Rattle.std.proofs.Common.{◌<◌, sym, ap, ◌∙◌, subst}
-use Rattle.map_table_laws.specs.History.{MayDouble}
-use Rattle.table_words.specs.declared.view.TableShape.{TableShape}
-use Rattle.map_table.specs.Hashes.{layout_of}
-use Rattle.map_table.specs.Law.{ways_of}
-use Rattle.map_table.specs.Held.{TableView}
+use Rattle.map_table_laws.proofs.Prelude.{◌<◌, sym, ap, ◌∙◌, subst, MayDouble}
+use Rattle.map_table.proofs.Prelude.{TableShape, layout_of, ways_of, TableView}
 use Rattle.map_table.proofs.Calls.{way_back, way_within, doubles_at}
 use Rattle.map_table.proofs.Doubled.{doubled_move}
 use Rattle.map_table.proofs.table.MapTable.double.Goals as goal

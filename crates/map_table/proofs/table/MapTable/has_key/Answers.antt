@@ -1,6 +1,5 @@
-use Rattle.std.proofs.Common.{rules, ◌≡◌, ◌≢◌, ◌<◌, ◌≤◌, [], ◌∷◌, arith, refl, inl}
-use Rattle.std.specs.Prelude.{slice_index}
-use Rattle.map_table_laws.specs.declared.moves.Move.TheVariants.{Load}
+use Rattle.map_table_laws.proofs.Prelude.{rules, ◌≡◌, ◌≢◌, ◌<◌, ◌≤◌, [], ◌∷◌, arith, refl, inl, slice_index}
+use Rattle.map_table.proofs.Prelude.{Load}
 use Rattle.map_table.proofs.Going.{goes_none, goes_more}
 use Rattle.map_table.proofs.Lookups.{searched_holds, more_had}
 use Rattle.map_table.proofs.table.MapTable.has_key.Goals as goal

@@ -1,9 +1,5 @@
-use Rattle.std.proofs.Common.{ℕ, ◌<◌, ◌≤◌, List, length}
-use Rattle.std.specs.Prelude.{slice_index}
-use Rattle.map_table_laws.specs.declared.moves.Move.{Move}
-use Rattle.map_table_laws.specs.Lookups.{OnlySearches, HadWord}
-use Rattle.map_table.specs.Hashes.{layout_of}
-use Rattle.map_table.specs.Held.{Goes}
+use Rattle.map_table_laws.proofs.Prelude.{ℕ, ◌<◌, ◌≤◌, List, length, slice_index, OnlySearches, HadWord}
+use Rattle.map_table.proofs.Prelude.{Move, layout_of, Goes}
 use Rattle.map_table.proofs.table.MapTable.has_key.Given as goal
 
 abbrev pub invariant-loop-place : goal.invariant-loop-place

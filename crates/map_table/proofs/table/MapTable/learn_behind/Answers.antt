@@ -1,8 +1,5 @@
-use Rattle.std.proofs.Common.{◌≡◌, ◌<◌, sym, ap, ◌∙◌, subst}
-use Rattle.map_table_laws.specs.declared.moves.Move.TheVariants.{Learn}
-use Rattle.map_table_laws.specs.History.{inside}
-use Rattle.map_table.specs.Law.{ways_from, ways_of}
-use Rattle.map_table.specs.Held.{TableView, Holder}
+use Rattle.map_table_laws.proofs.Prelude.{◌≡◌, ◌<◌, sym, ap, ◌∙◌, subst, inside}
+use Rattle.map_table.proofs.Prelude.{Learn, ways_from, ways_of, TableView, Holder}
 use Rattle.map_table.proofs.Calls.{does, learns_at, learn_named, learn_within, way_back, way_within}
 use Rattle.map_table.proofs.table.MapTable.learn_behind.Goals as goal
 

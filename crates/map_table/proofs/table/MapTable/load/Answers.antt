@@ -1,8 +1,5 @@
-use Rattle.std.proofs.Common.{◌<◌, inr, sym, ap, ◌∙◌, subst}
-use Rattle.table_words.specs.declared.view.TableShape.{TableShape}
-use Rattle.map_table_laws.specs.History.{Holds}
-use Rattle.map_table.specs.Law.{width_of}
-use Rattle.map_table.specs.Held.{TableView, Holder}
+use Rattle.map_table_laws.proofs.Prelude.{◌<◌, inr, sym, ap, ◌∙◌, subst, Holds}
+use Rattle.map_table.proofs.Prelude.{TableShape, width_of, TableView, Holder}
 use Rattle.map_table.proofs.Keeps.{loads_ok}
 use Rattle.map_table.proofs.Places.{IsAt, load_move}
 use Rattle.map_table.proofs.Calls.{does, load_found}

@@ -1,5 +1,5 @@
-use Rattle.std.proofs.Common.{◌<◌, ◌++◌, ◌∙◌, ap, subst}
-use Rattle.map_table.specs.Held.{TableView}
+use Rattle.map_table_laws.proofs.Prelude.{◌<◌, ◌++◌, ◌∙◌, ap, subst}
+use Rattle.map_table.proofs.Prelude.{TableView}
 use Rattle.map_table.proofs.Filling.{went_me}
 use Rattle.map_table.proofs.Lookups.{searched_inside, searched_holds, answers_held, lookup_finds, hit_was_there}
 use Rattle.map_table.proofs.table.MapTable.lookup.Goals as goal

@@ -1,6 +1,6 @@
-use Rattle.std.proofs.Common.{[], ◌∷◌, ◌++◌, arith}
+use Rattle.map_table_laws.proofs.Prelude.{[], ◌∷◌, ◌++◌, arith}
+use Rattle.map_table.proofs.Prelude.{Learn}
 use Rattle.std.proofs.lemmas.List.{length-append}
-use Rattle.map_table_laws.specs.declared.moves.Move.TheVariants.{Learn}
 use Rattle.map_table.proofs.Going.{goes_then}
 use Rattle.map_table.proofs.Lookups.{only_append, way_found, way_refuted}
 use Rattle.map_table.proofs.table.MapTable.match_way.Goals as goal

@@ -1,6 +1,5 @@
-use Rattle.std.proofs.Common.{rules, ◌≢◌, [], ◌∷◌, ◌++◌, ap, ◌∙◌, arith}
-use Rattle.map_table_laws.specs.declared.moves.Move.TheVariants.{Learn}
-use Rattle.map_table.specs.Held.{TableView}
+use Rattle.map_table_laws.proofs.Prelude.{rules, ◌≢◌, [], ◌∷◌, ◌++◌, ap, ◌∙◌, arith}
+use Rattle.map_table.proofs.Prelude.{Learn, TableView}
 use Rattle.map_table.proofs.Going.{goes_then}
 use Rattle.map_table.proofs.Lookups.{only_append, searched_holds, searched_inside}
 use Rattle.map_table.proofs.Walking.{learnt_first, meets_way}

@@ -1,7 +1,5 @@
-use Rattle.std.proofs.Common.{◌-◌, refl, sym, ap, ◌∙◌}
-use Rattle.map_table_laws.specs.declared.moves.Move.TheVariants.{Open}
-use Rattle.map_table_laws.specs.History.{opened}
-use Rattle.map_table.specs.Held.{TableView, Holder}
+use Rattle.map_table_laws.proofs.Prelude.{◌-◌, refl, sym, ap, ◌∙◌, opened}
+use Rattle.map_table.proofs.Prelude.{Open, TableView, Holder}
 use Rattle.map_table.proofs.Calls.{does, section_within, opens_at, seat_kept, small_even, next_even}
 use Rattle.map_table.proofs.table.MapTable.open.Goals as goal
 

@@ -1,8 +1,5 @@
-use Rattle.std.proofs.Common.{◌<◌, inl, sym, ap, ◌∙◌, subst}
-use Rattle.table_words.specs.declared.view.TableShape.{TableShape}
-use Rattle.map_table_laws.specs.declared.moves.Move.TheVariants.{Load}
-use Rattle.map_table.specs.Law.{width_of}
-use Rattle.map_table.specs.Held.{TableView}
+use Rattle.map_table_laws.proofs.Prelude.{◌<◌, inl, sym, ap, ◌∙◌, subst}
+use Rattle.map_table.proofs.Prelude.{TableShape, Load, width_of, TableView}
 use Rattle.map_table.proofs.Calls.{load_found}
 use Rattle.map_table.proofs.Going.{went_as}
 use Rattle.map_table.proofs.Keeps.{loads_ok}

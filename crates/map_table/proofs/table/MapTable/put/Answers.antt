@@ -1,10 +1,5 @@
-use Rattle.std.proofs.Common.{◌≡◌, ◌⊎◌, ◌<◌, sym, ap, ◌∙◌, subst}
-use Rattle.map_table_laws.specs.declared.moves.Move.TheVariants.{Put}
-use Rattle.map_table_laws.specs.History.{Settles, MayLink}
-use Rattle.table_words.specs.declared.view.TableShape.{TableShape}
-use Rattle.map_table.specs.Hashes.{layout_of}
-use Rattle.map_table.specs.Law.{ways_of}
-use Rattle.map_table.specs.Held.{TableView}
+use Rattle.map_table_laws.proofs.Prelude.{◌≡◌, ◌⊎◌, ◌<◌, sym, ap, ◌∙◌, subst, Settles, MayLink}
+use Rattle.map_table.proofs.Prelude.{Put, TableShape, layout_of, ways_of, TableView}
 use Rattle.map_table.proofs.Calls.{way_back, way_within, puts_at}
 use Rattle.map_table.proofs.Going.{went_as}
 use Rattle.map_table.proofs.table.MapTable.put.Goals as goal

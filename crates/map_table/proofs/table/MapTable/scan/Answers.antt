@@ -1,6 +1,5 @@
-use Rattle.std.proofs.Common.{◌+◌, ◌<◌, sym, ap, ◌∙◌, subst}
-use Rattle.map_table_laws.specs.declared.moves.Move.TheVariants.{Scan}
-use Rattle.map_table.specs.Held.{TableView}
+use Rattle.map_table_laws.proofs.Prelude.{◌+◌, ◌<◌, sym, ap, ◌∙◌, subst}
+use Rattle.map_table.proofs.Prelude.{Scan, TableView}
 use Rattle.map_table.proofs.Calls.{scans_at, scan_within, scan_reader}
 use Rattle.map_table.proofs.Going.{went_as}
 use Rattle.map_table.proofs.table.MapTable.scan.Goals as goal

@@ -1,8 +1,5 @@
-use Rattle.std.proofs.Common.{ℕ, ◌+◌, ◌*◌, ◌<◌, ◌≤◌, List, length}
-use Rattle.map_table_laws.specs.declared.moves.Move.{Move}
-use Rattle.map_table_laws.specs.Lookups.{OnlySearches, Refuted}
-use Rattle.map_table.specs.Hashes.{layout_of}
-use Rattle.map_table.specs.Held.{Goes}
+use Rattle.map_table_laws.proofs.Prelude.{ℕ, ◌+◌, ◌*◌, ◌<◌, ◌≤◌, List, length, OnlySearches, Refuted}
+use Rattle.map_table.proofs.Prelude.{Move, layout_of, Goes}
 use Rattle.map_table.proofs.table.MapTable.search.Given as goal
 
 abbrev pub invariant-loop-at : goal.invariant-loop-at

@@ -1,7 +1,5 @@
-use Rattle.std.proofs.Common.{◌+◌, ◌*◌, ◌++◌}
-use Rattle.std.proofs.Common.{ap, ◌∙◌}
-use Rattle.table_words.specs.declared.view.TableShape.{TableShape}
-use Rattle.map_table.specs.Hashes.{first_bucket, second_bucket}
+use Rattle.map_table_laws.proofs.Prelude.{◌+◌, ◌*◌, ◌++◌, ap, ◌∙◌}
+use Rattle.map_table.proofs.Prelude.{TableShape, first_bucket, second_bucket}
 use Rattle.map_table.proofs.Going.{goes_then}
 use Rattle.map_table.proofs.Lookups.{searched_inside, only_append, first_found, both_searched, brief_both, brief_one}
 use Rattle.map_table.proofs.table.MapTable.search_both.Goals as goal

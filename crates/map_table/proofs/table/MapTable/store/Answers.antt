@@ -1,10 +1,5 @@
-use Rattle.std.proofs.Common.{ℕ, ◌+◌, ◌<◌, ◌≤◌, sym, ap, ◌∙◌, subst}
-use Rattle.table_words.specs.declared.view.TableShape.{TableShape}
-use Rattle.map_table_laws.specs.History.{Holds, IsReader}
-use Rattle.map_table.specs.Hashes.{layout_of}
-use Rattle.map_table.specs.Law.{width_of}
-use Rattle.map_table.specs.Values.{first_of}
-use Rattle.map_table.specs.Held.{TableView, Holder}
+use Rattle.map_table_laws.proofs.Prelude.{ℕ, ◌+◌, ◌<◌, ◌≤◌, sym, ap, ◌∙◌, subst, Holds, IsReader}
+use Rattle.map_table.proofs.Prelude.{TableShape, layout_of, width_of, first_of, TableView, Holder}
 use Rattle.map_table.proofs.Places.{IsAt, store_move}
 use Rattle.map_table.proofs.Calls.{does, stores_at, store_left}
 use Rattle.map_table.proofs.Valued.{in_element}

@@ -1,9 +1,5 @@
-use Rattle.std.proofs.Common.{◌<◌, sym, ap, ◌∙◌, subst}
-use Rattle.table_words.specs.declared.view.TableShape.{TableShape}
-use Rattle.map_table_laws.specs.declared.moves.Move.TheVariants.{Store}
-use Rattle.map_table_laws.specs.History.{IsSpare}
-use Rattle.map_table.specs.Law.{width_of}
-use Rattle.map_table.specs.Held.{TableView}
+use Rattle.map_table_laws.proofs.Prelude.{◌<◌, sym, ap, ◌∙◌, subst, IsSpare}
+use Rattle.map_table.proofs.Prelude.{TableShape, Store, width_of, TableView}
 use Rattle.map_table.proofs.Places.{IsAt, store_move}
 use Rattle.map_table.proofs.Calls.{writes_at}
 use Rattle.map_table.proofs.Going.{went_as}

@@ -1,9 +1,6 @@
-use Rattle.std.proofs.Common.{rules, refl, ◌≡◌, ◌*◌, length, ap, sym, subst}
+use Rattle.map_table_laws.proofs.Prelude.{rules, refl, ◌≡◌, ◌*◌, length, ap, sym, subst, IsSettled, ℕ}
+use Rattle.map_table.proofs.Prelude.{View, HasSeated}
 use Rattle.atomic_table.specs.Table.{Me}
-use Rattle.map_table_laws.specs.History.{IsSettled}
-use Rattle.table_words.specs.declared.view.View.{View}
-use Rattle.std.proofs.Common.{ℕ}
-use Rattle.map_table.specs.Writing.{HasSeated}
 use Rattle.map_table.proofs.Lost.{first_none_lost}
 use Rattle.map_table.proofs.Seen.{sightings_first}
 use Rattle.map_table.proofs.Unlinking.{begins, at_most}

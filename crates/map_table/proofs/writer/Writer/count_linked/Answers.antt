@@ -1,7 +1,5 @@
-use Rattle.std.proofs.Common.{rules, ◌≡◌, ◌∙◌, sym, ap, length, arith}
-use Rattle.table_words.specs.declared.view.TableShape.{TableShape}
-use Rattle.map_table.specs.Held.{TableView}
-use Rattle.map_table.specs.Writing.{WriterView}
+use Rattle.map_table_laws.proofs.Prelude.{rules, ◌≡◌, ◌∙◌, sym, ap, length, arith}
+use Rattle.map_table.proofs.Prelude.{TableShape, TableView, WriterView}
 use Rattle.map_table.proofs.Unlinking.{all_fit}
 use Rattle.map_table.proofs.writer.Writer.count_linked.Goals as goal
 

@@ -1,6 +1,5 @@
-use Rattle.std.proofs.Common.{subst}
-use Rattle.std.specs.Prelude.{All}
-use Rattle.map_table.specs.Writing.{WriterView, IsFree, IsUnlinked, IsNoneLost}
+use Rattle.map_table_laws.proofs.Prelude.{subst, All}
+use Rattle.map_table.proofs.Prelude.{WriterView, IsFree, IsUnlinked, IsNoneLost}
 use Rattle.map_table.proofs.writer.Writer.each_element_once.Goals as goal
 
 pub returns-clause-free : goal.returns-clause-free

@@ -1,10 +1,6 @@
-use Rattle.std.proofs.Common.{rules, ◌≢◌, ◌<◌, ◌∙◌, sym, subst}
-use Rattle.map_table_laws.specs.Layout.{Names}
-use Rattle.map_table_laws.specs.History.{word_in}
+use Rattle.map_table_laws.proofs.Prelude.{rules, ◌≢◌, ◌<◌, ◌∙◌, sym, subst, Names, word_in}
+use Rattle.map_table.proofs.Prelude.{layout_of, ways_of, WriterView}
 use Rattle.map_table_laws.proofs.Standing.{fits}
-use Rattle.map_table.specs.Hashes.{layout_of}
-use Rattle.map_table.specs.Law.{ways_of}
-use Rattle.map_table.specs.Writing.{WriterView}
 use Rattle.map_table.proofs.Filling.{own_list}
 use Rattle.map_table.proofs.Unlinking.{low_half, read_way}
 use Rattle.map_table.proofs.writer.Writer.element_at.Goals as goal

@@ -1,14 +1,8 @@
-use Rattle.std.proofs.Common.{◌≡◌, ◌≢◌, ◌*◌, ◌+◌, ◌≤◌, ◌<◌, ◌++◌, ◌∙◌, ℕ, List, refl, sym, ap, subst, inl, inr}
-use Rattle.std.specs.Prelude.{slice_index}
-use Rattle.map_table_laws.specs.Layout.{IsCandidate, Names}
-use Rattle.map_table_laws.specs.History.{word_in, key_of, MayDouble}
-use Rattle.table_words.specs.declared.view.TableShape.{TableShape}
+use Rattle.map_table_laws.proofs.Prelude.{◌≡◌, ◌≢◌, ◌*◌, ◌+◌, ◌≤◌, ◌<◌, ◌++◌, ◌∙◌, ℕ, List, refl, sym, ap, subst, inl, inr, slice_index, IsCandidate, Names}
+use Rattle.map_table_laws.proofs.Prelude.{word_in, key_of, MayDouble}
+use Rattle.map_table.proofs.Prelude.{TableShape, layout_of, first_bucket, second_bucket, ways_of, TableView, MakesOneWay, NoneCanMove, WriterView, as_holder}
+use Rattle.map_table.proofs.Prelude.{AreFull}
 use Rattle.table_words.specs.Ways.{IsOfBoth}
-use Rattle.map_table.specs.Hashes.{layout_of, first_bucket, second_bucket}
-use Rattle.map_table.specs.Law.{ways_of}
-use Rattle.map_table.specs.Held.{TableView}
-use Rattle.map_table.specs.Moving.{MakesOneWay, NoneCanMove}
-use Rattle.map_table.specs.Writing.{WriterView, as_holder, AreFull}
 use Rattle.map_table.proofs.Doubled.{candidate_both, could_move, words_full, searches_only_move, went_moves}
 use Rattle.map_table.proofs.Filling.{went_shape}
 use Rattle.map_table.proofs.Going.{goes_then, went_seated}

@@ -1,6 +1,5 @@
-use Rattle.std.proofs.Common.{subst}
-use Rattle.map_table_laws.specs.History.{IsSettled}
-use Rattle.map_table.specs.Writing.{WriterView}
+use Rattle.map_table_laws.proofs.Prelude.{subst, IsSettled}
+use Rattle.map_table.proofs.Prelude.{WriterView}
 use Rattle.map_table.proofs.writer.Writer.is_writers.Goals as goal
 
 pub returns-clause-settled : goal.returns-clause-settled

@@ -1,9 +1,5 @@
-use Rattle.std.proofs.Common.{◌∙◌, ap, refl, subst, sym}
-use Rattle.map_table_laws.specs.History.{word_in}
-use Rattle.map_table_laws.specs.Layout.{Names}
-use Rattle.map_table.specs.Hashes.{layout_of}
-use Rattle.map_table.specs.Held.{TableView}
-use Rattle.map_table.specs.Writing.{WriterView}
+use Rattle.map_table_laws.proofs.Prelude.{◌∙◌, ap, refl, subst, sym, word_in, Names}
+use Rattle.map_table.proofs.Prelude.{layout_of, TableView, WriterView}
 use Rattle.map_table.proofs.Filling.{went_shape}
 use Rattle.map_table.proofs.Going.{went_seated}
 use Rattle.map_table.proofs.Keeping.{searches_quiet, quiet_writer, quiet_settled}

@@ -1,15 +1,7 @@
-use Rattle.std.proofs.Common.{◌≡◌, ℕ, ◌+◌, ◌*◌, ◌<◌, ◌≤◌, [], ◌∷◌, ◌++◌, ⊎_elim, inr, sym, ap, ◌∙◌, subst, refl, arith}
-use Rattle.std.proofs.Common.{List}
-use Rattle.std.specs.Prelude.{slice_index}
-use Rattle.map_table_laws.specs.declared.moves.Move.TheVariants.{Put}
-use Rattle.map_table_laws.specs.History.{IsSpare}
-use Rattle.map_table_laws.specs.Layout.{IsCandidate}
-use Rattle.map_table.specs.Values.{stored_of}
-use Rattle.table_words.specs.declared.view.TableShape.{TableShape}
-use Rattle.map_table.specs.Hashes.{layout_of, first_bucket, second_bucket, tag_of}
-use Rattle.map_table.specs.Law.{ways_of}
-use Rattle.map_table.specs.Held.{TableView}
-use Rattle.map_table.specs.Writing.{WriterView, as_holder, IsWriter, Fills, AreFull}
+use Rattle.map_table_laws.proofs.Prelude.{◌≡◌, ℕ, ◌+◌, ◌*◌, ◌<◌, ◌≤◌, [], ◌∷◌, ◌++◌, ⊎_elim, inr, sym, ap, ◌∙◌, subst, refl, arith, List, slice_index}
+use Rattle.map_table_laws.proofs.Prelude.{IsSpare, IsCandidate}
+use Rattle.map_table.proofs.Prelude.{Put, stored_of, TableShape, layout_of, first_bucket, second_bucket, tag_of, ways_of, TableView, WriterView, as_holder}
+use Rattle.map_table.proofs.Prelude.{IsWriter, Fills, AreFull}
 use Rattle.map_table.proofs.Going.{went_known, went_seated, went_then}
 use Rattle.map_table.proofs.Filling.{went_shape, went_me}
 use Rattle.map_table.proofs.Keeping.{quiet_append, fills_quiet, quiet_settled, settles_none, put_settled}

@@ -1,6 +1,6 @@
+use Rattle.map_table_laws.proofs.Prelude.{◌∙◌, ap}
+use Rattle.map_table.proofs.Prelude.{TableView}
 use Rattle.map_table.proofs.Doubled.{room_stays, room_new, room_once}
-use Rattle.std.proofs.Common.{◌∙◌, ap}
-use Rattle.map_table.specs.Held.{TableView}
 use Rattle.map_table.proofs.writer.Writer.make_room.Goals as goal
 
 pub returns-clause-stay : goal.returns-clause-stay

@@ -1,13 +1,6 @@
-use Rattle.std.proofs.Common.{◌++◌, ◌∷◌, [], ◌∙◌, refl, sym, ap, subst, inl, inr, List, ℕ, set}
-use Rattle.map_table_laws.specs.declared.moves.Move.TheVariants.{Put, Double}
-use Rattle.map_table_laws.specs.Layout.{Names}
+use Rattle.map_table_laws.proofs.Prelude.{◌++◌, ◌∷◌, [], ◌∙◌, refl, sym, ap, subst, inl, inr, List, ℕ, set, Names, MatchBool, slice_index}
+use Rattle.map_table.proofs.Prelude.{Put, Double, TableView, Move, HasGone, HaveGone, IsSomeInside, StandStill, AreSightings, WriterView, as_holder}
 use Rattle.map_table_laws.proofs.Steps.{nothing_named}
-use Rattle.map_table.specs.Held.{TableView}
-use Rattle.std.specs.Prelude.{MatchBool, slice_index}
-use Rattle.map_table_laws.specs.declared.moves.Move.{Move}
-use Rattle.map_table.specs.Moving.{HasGone, HaveGone, IsSomeInside, StandStill}
-use Rattle.map_table.specs.Sightings.{AreSightings}
-use Rattle.map_table.specs.Writing.{WriterView, as_holder}
 use Rattle.map_table.proofs.Doubled.{has_gone, move_ended, move_facts, move_went, move_settles, moved_inside, moves_only, still_again, writer_may}
 use Rattle.map_table.proofs.Going.{went_seated}
 use Rattle.map_table.proofs.Keeping.{only_scans_quiet}

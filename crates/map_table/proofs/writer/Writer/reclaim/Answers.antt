@@ -1,11 +1,6 @@
-use Rattle.std.proofs.Common.{rules, ◌≡◌, ◌++◌, ◌∙◌, sym, ap, subst, ℕ, List, take, drop, length}
-use Rattle.std.specs.Prelude.{All}
-use Rattle.std.proofs.lemmas.List.{length-take-le, take-append-drop}
-use Rattle.map_table_laws.specs.Scanned.{ScansInTurn}
-use Rattle.table_words.specs.declared.view.TableShape.{TableShape}
-use Rattle.map_table.specs.Held.{TableView}
-use Rattle.map_table.specs.Sightings.{AreSightings, AreCleared, IsHeldUp, Least}
-use Rattle.map_table.specs.Writing.{WriterView, as_holder, IsWriter, IsNoneLost}
+use Rattle.map_table_laws.proofs.Prelude.{rules, ◌≡◌, ◌++◌, ◌∙◌, sym, ap, subst, ℕ, List, take, drop, length, All, length-take-le, take-append-drop}
+use Rattle.map_table_laws.proofs.Prelude.{ScansInTurn}
+use Rattle.map_table.proofs.Prelude.{TableShape, TableView, AreSightings, AreCleared, IsHeldUp, Least, WriterView, as_holder, IsWriter, IsNoneLost}
 use Rattle.map_table.proofs.Filling.{went_shape}
 use Rattle.map_table.proofs.Freeing.{all_cleared, all_held, freed_writer}
 use Rattle.map_table.proofs.Going.{went_seated}

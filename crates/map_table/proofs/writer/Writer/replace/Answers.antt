@@ -1,18 +1,10 @@
-use Rattle.std.proofs.Common.{rules, ℕ, ◌<◌, [], ◌∷◌, ◌++◌, inr, sym, ap, ◌∙◌, subst, arith, List, length, vec_capacity}
-use Rattle.map_table_laws.specs.declared.moves.Move.TheVariants.{Put}
-use Rattle.map_table_laws.specs.History.{IsSpare, word_in}
-use Rattle.map_table_laws.specs.Layout.{Names, IsCandidate}
-use Rattle.map_table_laws.specs.Found.{IsLinkedUnder}
-use Rattle.map_table.specs.Values.{stored_of}
-use Rattle.table_words.specs.declared.view.TableShape.{TableShape}
-use Rattle.map_table.specs.Hashes.{layout_of, tag_of}
-use Rattle.map_table.specs.Law.{ways_of}
-use Rattle.map_table.specs.Held.{TableView}
-use Rattle.map_table.specs.Writing.{StaysIn, WriterView, as_holder, IsWriter, IsNoneLost, Fills}
+use Rattle.map_table_laws.proofs.Prelude.{rules, ℕ, ◌<◌, [], ◌∷◌, ◌++◌, inr, sym, ap, ◌∙◌, subst, arith, List, length, vec_capacity, IsSpare, word_in, Names}
+use Rattle.map_table_laws.proofs.Prelude.{IsCandidate, IsLinkedUnder}
+use Rattle.map_table.proofs.Prelude.{Put, stored_of, TableShape, layout_of, tag_of, ways_of, TableView, StaysIn, WriterView, as_holder, IsWriter, IsNoneLost}
+use Rattle.map_table.proofs.Prelude.{Fills, AreSightings}
 use Rattle.map_table.proofs.Going.{went_known, went_seated, went_then}
 use Rattle.map_table.proofs.Filling.{went_shape, went_me}
 use Rattle.map_table.proofs.Keeping.{quiet_append, fills_quiet, quiet_settled, settles_none, put_settled}
-use Rattle.map_table.specs.Sightings.{AreSightings}
 use Rattle.map_table.proofs.Lost.{quiet_none_lost, replaced_none_lost}
 use Rattle.map_table.proofs.Seen.{sightings_filled, sightings_unlinked}
 use Rattle.map_table.proofs.Linking.{may_link, linked_under, taken, filled_writer, works, fits_still}

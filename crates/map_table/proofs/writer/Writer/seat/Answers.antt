@@ -1,13 +1,6 @@
-use Rattle.std.proofs.Common.{rules, ◌≡◌, ◌+◌, ◌≤◌, ◌∙◌, [], ◌∷◌, ℕ, List, sym, ap, subst, refl, arith}
+use Rattle.map_table_laws.proofs.Prelude.{rules, ◌≡◌, ◌+◌, ◌≤◌, ◌∙◌, [], ◌∷◌, ℕ, List, sym, ap, subst, refl, arith, IsSettled}
+use Rattle.map_table.proofs.Prelude.{Scan, TableShape, View, TableView, dealt, AreSightings, WriterView, HasSeated, IsWriter, IsNoneLost, Works, as_holder}
 use Rattle.atomic_table.specs.Table.{Me}
-use Rattle.map_table_laws.specs.declared.moves.Move.TheVariants.{Scan}
-use Rattle.map_table_laws.specs.History.{IsSettled}
-use Rattle.table_words.specs.declared.view.TableShape.{TableShape}
-use Rattle.table_words.specs.declared.view.View.{View}
-use Rattle.map_table.specs.Held.{TableView}
-use Rattle.map_table.specs.Law.{dealt}
-use Rattle.map_table.specs.Sightings.{AreSightings}
-use Rattle.map_table.specs.Writing.{WriterView, HasSeated, IsWriter, IsNoneLost, Works, as_holder}
 use Rattle.map_table.proofs.Filling.{went_shape}
 use Rattle.map_table.proofs.Going.{went_seated}
 use Rattle.map_table.proofs.Keeping.{scans_quiet, quiet_writer, quiet_settled}

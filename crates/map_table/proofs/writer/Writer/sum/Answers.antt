@@ -1,5 +1,5 @@
-use Rattle.std.proofs.Common.{◌+◌, ◌∙◌, refl}
-use Rattle.map_table.specs.Values.{copies_of}
+use Rattle.map_table_laws.proofs.Prelude.{◌+◌, ◌∙◌, refl}
+use Rattle.map_table.proofs.Prelude.{copies_of}
 use Rattle.map_table.proofs.Filling.{went_shape}
 use Rattle.map_table.proofs.Going.{went_seated}
 use Rattle.map_table.proofs.Keeping.{adds_quiet, quiet_writer, quiet_settled}

@@ -1,12 +1,5 @@
-use Rattle.std.proofs.Common.{rules, ◌≢◌, ◌<◌, [], ◌∷◌, ◌++◌, ◌∙◌, refl, sym, ap, subst, ℕ, List, length, vec_capacity}
-use Rattle.map_table_laws.specs.declared.moves.Move.TheVariants.{Put}
-use Rattle.map_table_laws.specs.Layout.{Names}
-use Rattle.map_table_laws.specs.History.{word_in}
-use Rattle.table_words.specs.declared.view.TableShape.{TableShape}
-use Rattle.map_table.specs.Law.{ways_of}
-use Rattle.map_table.specs.Held.{TableView}
-use Rattle.map_table.specs.Writing.{WriterView, as_holder, IsWriter, IsNoneLost}
-use Rattle.map_table.specs.Sightings.{AreSightings}
+use Rattle.map_table_laws.proofs.Prelude.{rules, ◌≢◌, ◌<◌, [], ◌∷◌, ◌++◌, ◌∙◌, refl, sym, ap, subst, ℕ, List, length, vec_capacity, Names, word_in}
+use Rattle.map_table.proofs.Prelude.{Put, TableShape, ways_of, TableView, WriterView, as_holder, IsWriter, IsNoneLost, AreSightings}
 use Rattle.map_table.proofs.Lost.{emptied_none_lost}
 use Rattle.map_table.proofs.Seen.{sightings_unlinked}
 use Rattle.map_table.proofs.Filling.{went_shape}

@@ -1,5 +1,4 @@
-use Rattle.std.proofs.Common.{◌∙◌, ap}
-use Rattle.std.specs.Prelude.{string_bytes, bytes_eq}
+use Rattle.bpf_model.proofs.Prelude.{◌∙◌, ap, string_bytes, bytes_eq}
 use Rattle.maps.specs.Registry.{has_name}
 use Rattle.maps.proofs.Names.{any_named}
 use Rattle.maps.proofs.registry.Registry.has_name.Goals as goal

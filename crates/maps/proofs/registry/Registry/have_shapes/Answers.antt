@@ -1,7 +1,5 @@
-use Rattle.std.proofs.Common.{◌≡◌, ◌∙◌, List, ap, sym, subst}
-use Rattle.std.specs.Prelude.{slice_get, Some}
-use Rattle.bpf_model.specs.Shapes.{IsShape}
-use Rattle.bpf_model.specs.View.{MapView, shape_of_view as shape_of}
+use Rattle.bpf_model.proofs.Prelude.{◌≡◌, ◌∙◌, List, ap, sym, subst, slice_get, Some, IsShape, MapView}
+use Rattle.bpf_model.specs.View.{shape_of_view as shape_of}
 use Rattle.model_laws.proofs.Counting.{map-back}
 use Rattle.maps.specs.Registry.{RegistryView}
 use Rattle.maps.proofs.registry.Registry.have_shapes.Goals as goal

@@ -1,5 +1,4 @@
-use Rattle.std.proofs.Common.{◌∙◌, sym, ap}
-use Rattle.std.specs.Prelude.{string_bytes, bytes_eq, Some, position}
+use Rattle.bpf_model.proofs.Prelude.{◌∙◌, sym, ap, string_bytes, bytes_eq, Some, position}
 use Rattle.maps.proofs.Names.{position_named}
 use Rattle.maps.proofs.registry.Registry.id.Goals as goal
 

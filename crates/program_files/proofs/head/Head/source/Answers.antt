@@ -1,4 +1,4 @@
-use Rattle.std.proofs.Common.{ap}
+use Rattle.bpf_model.proofs.Prelude.{ap}
 use Rattle.program_files.specs.Heads.{HeadView}
 use Rattle.program_files.specs.declared.program_file.Source.{Source}
 use Rattle.program_files.proofs.Heads.{source_is}

@@ -1,4 +1,4 @@
-use Rattle.std.proofs.Common.{rules}
+use Rattle.bpf_model.proofs.Prelude.{rules}
 use Rattle.program_files.proofs.Heads.{context_made}
 use Rattle.program_files.proofs.head.Head.without_maps.Goals as goal
 

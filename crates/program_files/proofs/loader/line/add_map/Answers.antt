@@ -1,6 +1,4 @@
-use Rattle.std.proofs.Common.{sym, subst}
-use Rattle.std.specs.Str.{IsAscii}
-use Rattle.std.proofs.lemmas.Str.{IsUtf8-from_ascii}
+use Rattle.bpf_model.proofs.Prelude.{sym, subst, IsAscii, IsUtf8-from_ascii}
 use Rattle.program_files.proofs.Files.{same_map}
 use Rattle.program_files.proofs.Slots.{sound_map, too_often}
 use Rattle.maps.proofs.Names.{ascii_name}

@@ -1,4 +1,4 @@
-use Rattle.std.proofs.Common.{length}
+use Rattle.bpf_model.proofs.Prelude.{length}
 use Rattle.program_files.specs.Stages.{words_left}
 use Rattle.program_files.proofs.Slots.{HasSlots}
 use Rattle.program_files.proofs.loader.line.add_slots.Given as goal

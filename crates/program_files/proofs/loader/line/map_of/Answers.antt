@@ -1,4 +1,4 @@
-use Rattle.std.proofs.Common.{sym, ap, ◌∙◌, List, ℕ, ◌∷◌}
+use Rattle.bpf_model.proofs.Prelude.{sym, ap, ◌∙◌, List, ℕ, ◌∷◌}
 use Rattle.program_files.proofs.Files.{shape_words}
 use Rattle.program_files.proofs.Numbers.{if_none}
 use Rattle.program_files.proofs.loader.line.map_of.Goals as goal

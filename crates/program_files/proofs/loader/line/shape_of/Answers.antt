@@ -1,5 +1,4 @@
-use Rattle.std.proofs.Common.{inl, inr}
-use Rattle.std.specs.Prelude.{Option, Some, None, IfNone}
+use Rattle.bpf_model.proofs.Prelude.{inl, inr, Option, Some, None, IfNone}
 use Rattle.program_files.proofs.loader.line.shape_of.Goals as goal
 
 by_none : {X P Q : Type 0} (r : Option X) → (P → Q) → IfNone r P → IfNone r Q

@@ -1,5 +1,4 @@
-use Rattle.std.proofs.Common.{rules, refl, []}
-use Rattle.std.specs.Prelude.{Some, None}
+use Rattle.bpf_model.proofs.Prelude.{rules, refl, [], Some, None}
 use Rattle.program_files.proofs.Texts.{lines_cut}
 use Rattle.program_files.proofs.loader.program_file.first_line.Goals as goal
 

@@ -1,4 +1,4 @@
-use Rattle.std.proofs.Common.{rules}
+use Rattle.bpf_model.proofs.Prelude.{rules}
 use Rattle.program_files.proofs.Texts.{only_content}
 use Rattle.program_files.proofs.loader.program_file.load.Goals as goal
 

@@ -1,4 +1,4 @@
-use Rattle.std.proofs.Common.{rules}
+use Rattle.bpf_model.proofs.Prelude.{rules}
 use Rattle.program_files.proofs.Texts.{wrong_line, read_line, all_read, number_behind, empty_is}
 use Rattle.program_files.proofs.loader.program_file.read_lines.Goals as goal
 

@@ -1,4 +1,4 @@
-use Rattle.std.proofs.Common.{length}
+use Rattle.bpf_model.proofs.Prelude.{length}
 use Rattle.program_files.proofs.Texts.{IsReadTo}
 use Rattle.program_files.proofs.loader.program_file.read_lines.Given as goal
 

@@ -1,4 +1,5 @@
-use Rattle.std.proofs.Common.{rules, subst, take_all}
+use Rattle.bpf_model.proofs.Prelude.{rules, subst}
+use Rattle.std.proofs.Common.{take_all}
 use Rattle.program_files.specs.Stages.{HasNoByte}
 use Rattle.program_files.proofs.Cuts.{no_byte_more}
 use Rattle.program_files.proofs.loader.words.cut.Goals as goal

@@ -1,4 +1,4 @@
-use Rattle.std.proofs.Common.{take}
+use Rattle.bpf_model.proofs.Prelude.{take}
 use Rattle.program_files.specs.Stages.{HasNoByte}
 use Rattle.program_files.proofs.loader.words.cut.Given as goal
 

@@ -1,4 +1,4 @@
-use Rattle.std.proofs.Common.{rules}
+use Rattle.bpf_model.proofs.Prelude.{rules}
 use Rattle.program_files.proofs.Raw.{even_told, odd_told}
 use Rattle.program_files.proofs.program_file.FileBytes.source.Goals as goal
 

@@ -1,7 +1,7 @@
-use Rattle.std.proofs.Common.{◌+◌, [], ◌∷◌, ap, arith, subst}
+use Rattle.bpf_model.proofs.Prelude.{◌+◌, [], ◌∷◌, ap, arith, subst}
+use Rattle.read_table.proofs.Prelude.{Goes}
 use Rattle.read_table.specs.declared.view.Move.TheVariants.{Load}
 use Rattle.read_table.specs.declared.view.TableShape.{TableShape}
-use Rattle.read_table.specs.Held.{Goes}
 use Rattle.read_table.proofs.running.ReadRunsServesRuns.load.Goals as goal
 
 pub load-requires-clause-place : goal.load-requires-clause-place

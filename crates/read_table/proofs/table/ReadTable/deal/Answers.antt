@@ -1,8 +1,8 @@
-use Rattle.std.proofs.Common.{ℕ, ◌<◌, sym, ap, ◌∙◌, subst, arith}
+use Rattle.bpf_model.proofs.Prelude.{ℕ, ◌<◌, sym, ap, ◌∙◌, subst, arith}
+use Rattle.read_table.proofs.Prelude.{TableView}
 use Rattle.atomic_table.specs.Table.{Me}
 use Rattle.read_table.specs.declared.view.View.{View}
 use Rattle.read_table.proofs.Keeps.{deals_ok}
-use Rattle.read_table.specs.Held.{TableView}
 use Rattle.read_table.proofs.table.ReadTable.deal.Goals as goal
 
 pub split_seat-seat-requires : goal.split_seat-seat-requires

@@ -1,5 +1,4 @@
-use Rattle.std.proofs.Common.{rules, ◌≢◌, ◌%◌, ◌++◌, [], ◌∷◌, true, false, IsTrue, arith}
-use Rattle.std.proofs.lemmas.List.{length-append}
+use Rattle.bpf_model.proofs.Prelude.{rules, ◌≢◌, ◌%◌, ◌++◌, [], ◌∷◌, true, false, IsTrue, arith, length-append}
 use Rattle.read_table.specs.declared.view.Move.TheVariants.{Learn}
 use Rattle.read_table.proofs.Going.{goes_then}
 use Rattle.read_table.proofs.Lookups.{only_append, has_matched, not_linked}

@@ -1,4 +1,4 @@
-use Rattle.std.proofs.Common.{rules, ◌≡◌, ◌≢◌, ◌<◌, [], ◌∷◌, arith, ap, ◌∙◌, ◌≤◌, Some}
+use Rattle.bpf_model.proofs.Prelude.{rules, ◌≡◌, ◌≢◌, ◌<◌, [], ◌∷◌, arith, ap, ◌∙◌, ◌≤◌, Some}
 use Rattle.read_table.specs.declared.view.Move.TheVariants.{Load}
 use Rattle.read_table.proofs.Going.{goes_none, goes_more}
 use Rattle.read_table.proofs.Lookups.{searched_knows, more_had, other_word}

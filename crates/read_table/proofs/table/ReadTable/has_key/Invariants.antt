@@ -1,7 +1,6 @@
-use Rattle.std.proofs.Common.{◌≡◌, ℕ, ◌<◌, ◌≤◌, List, Some, length}
+use Rattle.bpf_model.proofs.Prelude.{◌≡◌, ℕ, ◌<◌, ◌≤◌, List, Some, length}
+use Rattle.read_table.proofs.Prelude.{key_word, OnlySearches, HadWord, Goes}
 use Rattle.read_table.specs.declared.view.Move.{Move}
-use Rattle.read_table.specs.Lookups.{key_word, OnlySearches, HadWord}
-use Rattle.read_table.specs.Held.{Goes}
 use Rattle.read_table.proofs.table.ReadTable.has_key.Given as goal
 
 abbrev pub invariant-loop-place : goal.invariant-loop-place

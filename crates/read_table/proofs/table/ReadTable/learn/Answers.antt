@@ -1,8 +1,6 @@
-use Rattle.std.proofs.Common.{rules, ◌≡◌, ◌<◌, refl, sym, ap, ◌∙◌, subst}
+use Rattle.bpf_model.proofs.Prelude.{rules, ◌≡◌, ◌<◌, refl, sym, ap, ◌∙◌, subst}
+use Rattle.read_table.proofs.Prelude.{inside, headers_from, TableView, Holder}
 use Rattle.read_table.specs.declared.view.Move.TheVariants.{Learn}
-use Rattle.read_table.specs.History.{inside}
-use Rattle.read_table.specs.Law.{headers_from}
-use Rattle.read_table.specs.Held.{TableView, Holder}
 use Rattle.read_table.proofs.Calls.{does, learns_at, header_slot, header_within}
 use Rattle.read_table.proofs.Going.{learn_knows}
 use Rattle.read_table.proofs.table.ReadTable.learn.Goals as goal

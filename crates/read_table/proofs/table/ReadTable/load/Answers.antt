@@ -1,8 +1,6 @@
-use Rattle.std.proofs.Common.{◌<◌, inr, sym, ap, ◌∙◌, subst}
+use Rattle.bpf_model.proofs.Prelude.{◌<◌, inr, sym, ap, ◌∙◌, subst}
+use Rattle.read_table.proofs.Prelude.{IsLearnt, width_of, TableView, Holder}
 use Rattle.read_table.specs.declared.view.TableShape.{TableShape}
-use Rattle.read_table.specs.History.{IsLearnt}
-use Rattle.read_table.specs.Law.{width_of}
-use Rattle.read_table.specs.Held.{TableView, Holder}
 use Rattle.read_table.proofs.Keeps.{loads_ok}
 use Rattle.read_table.proofs.Places.{IsAt, load_move}
 use Rattle.read_table.proofs.Calls.{does, load_unchanged, load_found}

@@ -1,5 +1,5 @@
-use Rattle.std.proofs.Common.{◌∙◌, ap}
-use Rattle.read_table.specs.Held.{TableView}
+use Rattle.bpf_model.proofs.Prelude.{◌∙◌, ap}
+use Rattle.read_table.proofs.Prelude.{TableView}
 use Rattle.read_table.proofs.Finding.{lookup-finds}
 use Rattle.read_table.proofs.Lookups.{searched_inside, searched_knows, answers_learnt, answers_slot}
 use Rattle.read_table.proofs.table.ReadTable.lookup.Goals as goal

@@ -1,6 +1,6 @@
-use Rattle.std.proofs.Common.{refl, sym, ap, ◌∙◌}
+use Rattle.bpf_model.proofs.Prelude.{refl, sym, ap, ◌∙◌}
+use Rattle.read_table.proofs.Prelude.{TableView, Holder}
 use Rattle.read_table.specs.declared.view.Move.TheVariants.{Open}
-use Rattle.read_table.specs.Held.{TableView, Holder}
 use Rattle.read_table.proofs.Calls.{does, section_within, opens_at}
 use Rattle.read_table.proofs.table.ReadTable.open.Goals as goal
 

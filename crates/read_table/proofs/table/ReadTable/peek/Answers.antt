@@ -1,8 +1,7 @@
-use Rattle.std.proofs.Common.{◌<◌, inl, sym, ap, ◌∙◌, subst}
+use Rattle.bpf_model.proofs.Prelude.{◌<◌, inl, sym, ap, ◌∙◌, subst}
+use Rattle.read_table.proofs.Prelude.{width_of, TableView}
 use Rattle.read_table.specs.declared.view.TableShape.{TableShape}
 use Rattle.read_table.specs.declared.view.Move.TheVariants.{Load}
-use Rattle.read_table.specs.Law.{width_of}
-use Rattle.read_table.specs.Held.{TableView}
 use Rattle.read_table.proofs.Calls.{load_found}
 use Rattle.read_table.proofs.Going.{went_as}
 use Rattle.read_table.proofs.Keeps.{loads_ok}

@@ -1,5 +1,5 @@
-use Rattle.std.proofs.Common.{◌∙◌, ap}
-use Rattle.read_table.specs.Held.{TableView}
+use Rattle.bpf_model.proofs.Prelude.{◌∙◌, ap}
+use Rattle.read_table.proofs.Prelude.{TableView}
 use Rattle.read_table.proofs.Finding.{has-found}
 use Rattle.read_table.proofs.Holding.{held-throughout}
 use Rattle.read_table.proofs.table.ReadTable.run_shared.Goals as goal

@@ -1,6 +1,6 @@
-use Rattle.std.proofs.Common.{◌∙◌, ap, subst}
+use Rattle.bpf_model.proofs.Prelude.{◌∙◌, ap, subst}
+use Rattle.read_table.proofs.Prelude.{IsSized, TableView}
 use Rattle.read_table.specs.declared.view.TableShape.{TableShape}
-use Rattle.read_table.specs.Held.{IsSized, TableView}
 use Rattle.read_table.proofs.Finding.{has-found}
 use Rattle.read_table.proofs.Holding.{held-throughout}
 use Rattle.read_table.proofs.Serving.{ready-after}

@@ -1,6 +1,6 @@
-use Rattle.std.proofs.Common.{◌+◌, ◌<◌, sym, ap, ◌∙◌, subst}
+use Rattle.bpf_model.proofs.Prelude.{◌+◌, ◌<◌, sym, ap, ◌∙◌, subst}
+use Rattle.read_table.proofs.Prelude.{TableView}
 use Rattle.read_table.specs.declared.view.Move.TheVariants.{Scan}
-use Rattle.read_table.specs.Held.{TableView}
 use Rattle.read_table.proofs.Calls.{scans_at, scan_within, scan_reader}
 use Rattle.read_table.proofs.Going.{went_as}
 use Rattle.read_table.proofs.table.ReadTable.scan.Goals as goal

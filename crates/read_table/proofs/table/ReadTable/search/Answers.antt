@@ -1,4 +1,4 @@
-use Rattle.std.proofs.Common.{rules, ◌+◌, ◌<◌, ◌≤◌, ◌++◌, [], arith}
+use Rattle.bpf_model.proofs.Prelude.{rules, ◌+◌, ◌<◌, ◌≤◌, ◌++◌, [], arith}
 use Rattle.read_table.proofs.Going.{goes_none, goes_then}
 use Rattle.read_table.proofs.Lookups.{searched_inside, only_append, found_front, last_steps, more_refuted, more_steps, upper_steps}
 use Rattle.read_table.proofs.table.ReadTable.search.Goals as goal

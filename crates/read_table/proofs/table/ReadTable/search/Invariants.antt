@@ -1,7 +1,6 @@
-use Rattle.std.proofs.Common.{ℕ, ◌+◌, ◌*◌, ◌<◌, ◌≤◌, List, length}
+use Rattle.bpf_model.proofs.Prelude.{ℕ, ◌+◌, ◌*◌, ◌<◌, ◌≤◌, List, length}
+use Rattle.read_table.proofs.Prelude.{OnlySearches, Refuted, Goes}
 use Rattle.read_table.specs.declared.view.Move.{Move}
-use Rattle.read_table.specs.Lookups.{OnlySearches, Refuted}
-use Rattle.read_table.specs.Held.{Goes}
 use Rattle.read_table.proofs.table.ReadTable.search.Given as goal
 
 abbrev pub invariant-loop-slot : goal.invariant-loop-slot

@@ -1,6 +1,6 @@
-use Rattle.std.proofs.Common.{◌+◌, ◌*◌, ◌≤◌, ◌++◌, subst, length, None}
+use Rattle.bpf_model.proofs.Prelude.{◌+◌, ◌*◌, ◌≤◌, ◌++◌, subst, length, None}
+use Rattle.read_table.proofs.Prelude.{Searched}
 use Rattle.read_table.specs.declared.view.TableShape.{TableShape}
-use Rattle.read_table.specs.Search.{Searched}
 use Rattle.read_table.proofs.Going.{goes_then}
 use Rattle.read_table.proofs.Lookups.{searched_inside, only_append, both_searched, both_steps}
 use Rattle.read_table.proofs.table.ReadTable.search_all.Goals as goal

@@ -1,9 +1,7 @@
-use Rattle.std.proofs.Common.{◌≡◌, ◌<◌, ◌%◌, refl, sym, ap, ◌∙◌, subst}
+use Rattle.bpf_model.proofs.Prelude.{◌≡◌, ◌<◌, ◌%◌, refl, sym, ap, ◌∙◌, subst}
+use Rattle.read_table.proofs.Prelude.{MayLink, headers_from, TableView}
 use Rattle.read_table.specs.declared.view.TableShape.{TableShape}
 use Rattle.read_table.specs.declared.view.Move.TheVariants.{Header}
-use Rattle.read_table.specs.History.{MayLink}
-use Rattle.read_table.specs.Law.{headers_from}
-use Rattle.read_table.specs.Held.{TableView}
 use Rattle.read_table.proofs.Calls.{header_slot, header_within, changes_at}
 use Rattle.read_table.proofs.Going.{went_as}
 use Rattle.read_table.proofs.table.ReadTable.set_header.Goals as goal

@@ -1,8 +1,6 @@
-use Rattle.std.proofs.Common.{◌<◌, ◌≤◌, sym, ap, ◌∙◌, subst}
+use Rattle.bpf_model.proofs.Prelude.{◌<◌, ◌≤◌, sym, ap, ◌∙◌, subst}
+use Rattle.read_table.proofs.Prelude.{IsLearnt, width_of, TableView, Holder}
 use Rattle.read_table.specs.declared.view.TableShape.{TableShape}
-use Rattle.read_table.specs.History.{IsLearnt}
-use Rattle.read_table.specs.Law.{width_of}
-use Rattle.read_table.specs.Held.{TableView, Holder}
 use Rattle.read_table.proofs.Places.{IsAt, store_move}
 use Rattle.read_table.proofs.Calls.{does, stores_at, store_unchanged, store_left}
 use Rattle.read_table.proofs.table.ReadTable.store.Goals as goal

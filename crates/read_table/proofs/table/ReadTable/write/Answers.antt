@@ -1,8 +1,7 @@
-use Rattle.std.proofs.Common.{◌<◌, sym, ap, ◌∙◌, subst}
+use Rattle.bpf_model.proofs.Prelude.{◌<◌, sym, ap, ◌∙◌, subst}
+use Rattle.read_table.proofs.Prelude.{width_of, TableView}
 use Rattle.read_table.specs.declared.view.TableShape.{TableShape}
 use Rattle.read_table.specs.declared.view.Move.TheVariants.{Store}
-use Rattle.read_table.specs.Law.{width_of}
-use Rattle.read_table.specs.Held.{TableView}
 use Rattle.read_table.proofs.Places.{IsAt, store_move}
 use Rattle.read_table.proofs.Calls.{writes_at}
 use Rattle.read_table.proofs.Going.{went_as}

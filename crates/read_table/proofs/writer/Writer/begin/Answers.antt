@@ -1,9 +1,7 @@
-use Rattle.std.proofs.Common.{rules, ◌≡◌, ◌∙◌, ◌*◌, ℕ, length, sym, ap, subst}
-use Rattle.std.specs.List.{range_with_len}
+use Rattle.bpf_model.proofs.Prelude.{rules, ◌≡◌, ◌∙◌, ◌*◌, ℕ, length, sym, ap, subst, range_with_len}
+use Rattle.read_table.proofs.Prelude.{IsWriter, most_readers, most_table_slots}
 use Rattle.atomic_table.specs.Table.{Me}
 use Rattle.read_table.specs.declared.view.View.{View}
-use Rattle.read_table.specs.Slots.{IsWriter}
-use Rattle.read_table.specs.Limits.{most_readers, most_table_slots}
 use Rattle.read_table.proofs.Seen.{sightings_first}
 use Rattle.read_table.proofs.Slots.{begins_writer, begins_slots, at_most}
 use Rattle.read_table.proofs.writer.Writer.begin.Goals as goal

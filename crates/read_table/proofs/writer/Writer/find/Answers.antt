@@ -1,10 +1,6 @@
-use Rattle.std.proofs.Common.{◌≡◌, ℕ, ◌<◌, ◌%◌, List, refl, sym, ap, ◌∙◌, subst}
-use Rattle.std.specs.Prelude.{All}
+use Rattle.bpf_model.proofs.Prelude.{◌≡◌, ℕ, ◌<◌, ◌%◌, List, refl, sym, ap, ◌∙◌, subst, All}
+use Rattle.read_table.proofs.Prelude.{moves_of, header_in, IsLinkedUnder, TableView, WriterView}
 use Rattle.read_table.specs.declared.view.TableShape.{TableShape}
-use Rattle.read_table.specs.History.{moves_of, header_in}
-use Rattle.read_table.specs.Found.{IsLinkedUnder}
-use Rattle.read_table.specs.Held.{TableView}
-use Rattle.read_table.specs.Slots.{WriterView}
 use Rattle.read_table.proofs.Going.{went_known}
 use Rattle.read_table.proofs.Keeping.{fits, quiet_slots, quiet_writer, went_me, went_shape}
 use Rattle.read_table.proofs.Peeking.{odd-linked, searches-miss, searches-quiet}

@@ -1,10 +1,9 @@
-use Rattle.std.proofs.Common.{ℕ, ◌+◌, ◌%◌, ◌<◌, arith, List, [], ◌∷◌, ◌++◌, refl, sym, ap, ◌∙◌, subst}
+use Rattle.bpf_model.proofs.Prelude.{ℕ, ◌+◌, ◌%◌, ◌<◌, arith, List, [], ◌∷◌, ◌++◌, refl, sym, ap, ◌∙◌, subst}
+use Rattle.read_table.proofs.Prelude.{header_in, MayLink, TableView, Went, WriterView, Fills, IsFree, IsWriter, AreSlots}
 use Rattle.read_table.specs.declared.view.TableShape.{TableShape}
 use Rattle.read_table.specs.declared.view.Move.{Move}
 use Rattle.read_table.specs.declared.view.Move.TheVariants.{Header}
-use Rattle.read_table.specs.History.{header_in, MayLink}
-use Rattle.read_table.specs.Held.{TableView, Went}
-use Rattle.read_table.specs.Slots.{WriterView, as_holder, Fills, IsFree, IsWriter, AreSlots}
+use Rattle.read_table.specs.Slots.{as_holder}
 use Rattle.read_table.proofs.Going.{went_then}
 use Rattle.read_table.proofs.Seen.{sightings_changed, sightings_filled}
 use Rattle.read_table.proofs.Linking.{linked-under}

@@ -1,11 +1,8 @@
-use Rattle.std.proofs.Common.{rules, ◌≡◌, ℕ, ◌^◌, ◌<◌, ◌++◌, List, length, get_or, inr, refl, sym, ap, ◌∙◌, subst, arith}
-use Rattle.std.specs.List.{Contains}
+use Rattle.bpf_model.proofs.Prelude.{rules, ◌≡◌, ℕ, ◌^◌, ◌<◌, ◌++◌, List, length, get_or, inr, refl, sym, ap, ◌∙◌, subst, arith, Contains}
+use Rattle.read_table.proofs.Prelude.{MayLink, TableView, WriterView, IsUnlinked, AreSlots}
 use Rattle.std.proofs.lemmas.Grind.{get_or_default_zero}
 use Rattle.read_table.specs.declared.view.TableShape.{TableShape}
-use Rattle.read_table.specs.History.{MayLink}
-use Rattle.read_table.specs.Held.{TableView}
 use Rattle.read_table.specs.Sightings.{AreCleared}
-use Rattle.read_table.specs.Slots.{WriterView, IsUnlinked, AreSlots}
 use Rattle.read_table.proofs.Going.{went_mine}
 use Rattle.read_table.proofs.Keeping.{quiet_writer, quiet_slots, quiet_same, reclaimed_slots, fits, went_shape}
 use Rattle.read_table.proofs.Seen.{only_scans_quiet}

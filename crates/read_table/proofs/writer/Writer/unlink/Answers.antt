@@ -1,5 +1,5 @@
-use Rattle.std.proofs.Common.{ℕ, arith, List, refl, sym, ◌∙◌, subst}
-use Rattle.read_table.specs.Slots.{IsLinked, IsWriter, AreSlots}
+use Rattle.bpf_model.proofs.Prelude.{ℕ, arith, List, refl, sym, ◌∙◌, subst}
+use Rattle.read_table.proofs.Prelude.{IsLinked, IsWriter, AreSlots}
 use Rattle.read_table.proofs.Seen.{sightings_changed}
 use Rattle.read_table.proofs.Slots.{at_leaves}
 use Rattle.read_table.proofs.Keeping.{changed_writer, unlinked_slots, fits, went_shape}

@@ -1,8 +1,4 @@
-use Rattle.std.proofs.Common.{refl, ◌≡◌, ◌∙◌, ap, sym, subst}
-use Rattle.std.specs.Prelude.{Some}
-use Rattle.bpf_model.specs.Operand.{computed, operand_value}
-use Rattle.bpf_model.specs.Step.{sets}
-use Rattle.bpf_model.specs.Value.{◌>>=◌}
+use Rattle.bpf_model.proofs.Prelude.{refl, ◌≡◌, ◌∙◌, ap, sym, subst, Some, computed, operand_value, sets, ◌>>=◌}
 use Rattle.reference_interpreter.specs.declared.value.Computed.TheVariants as results
 use Rattle.reference_interpreter.specs.Plain.{IsComputed, plain_state_of}
 use Rattle.reference_interpreter.proofs.Laws.{far_set}

@@ -1,5 +1,5 @@
+use Rattle.bpf_model.proofs.Prelude.{entry_value}
 use Rattle.bpf_model.specs.declared.value.Cell.TheVariants.{Unwritten}
-use Rattle.bpf_model.specs.Step.{entry_value}
 use Rattle.reference_interpreter.specs.Plain.{cells_of}
 use Rattle.reference_interpreter.proofs.Laws.{entry_reg, same_state}
 use Rattle.reference_interpreter.proofs.plain_run.PlainRun.entry.Goals as goal

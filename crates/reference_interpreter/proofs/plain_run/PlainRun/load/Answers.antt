@@ -1,11 +1,5 @@
-use Rattle.std.proofs.Common.{refl, ◌≡◌, ◌∙◌, ap, sym, ℕ}
-use Rattle.std.specs.Int.{w16}
-use Rattle.std.proofs.lemmas.Int.{to_z-of_z}
-use mir.Val.{SFits}
-use Rattle.bpf_model.specs.Access.{byte_count}
-use Rattle.bpf_model.specs.Step.{sets, load_from}
+use Rattle.bpf_model.proofs.Prelude.{refl, ◌≡◌, ◌∙◌, ap, sym, ℕ, w16, to_z-of_z, SFits, byte_count, sets, load_from, environment_of}
 use Rattle.reference_interpreter.specs.Plain.{plain_state_of}
-use Rattle.bpf_model.specs.Step.{environment_of}
 use Rattle.reference_interpreter.proofs.Laws.{bind_comes, bind_none}
 use Rattle.reference_interpreter.proofs.plain_run.PlainRun.load.Goals as goal
 use Rattle.reference_interpreter.proofs.plain_run.PlainRun.load.Goals.{After-load_from}

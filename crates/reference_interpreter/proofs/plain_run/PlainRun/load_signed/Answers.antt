@@ -1,15 +1,8 @@
-use Rattle.std.proofs.Common.{refl, ◌≡◌, ◌∙◌, ap, sym, subst, ℕ}
-use Rattle.std.specs.Int.{w16}
-use Rattle.std.proofs.lemmas.Int.{to_z-of_z}
-use mir.Val.{SFits}
+use Rattle.bpf_model.proofs.Prelude.{refl, ◌≡◌, ◌∙◌, ap, sym, subst, ℕ, w16, to_z-of_z, SFits, byte_count, unsigned_width, loaded_signed, sets, load_from}
+use Rattle.bpf_model.proofs.Prelude.{◌>>=◌, number, environment_of}
 use Rattle.bpf_model.specs.declared.value.Value.{Value}
 use Rattle.bpf_model.specs.declared.value.Value.TheVariants.{Number}
-use Rattle.bpf_model.specs.Access.{byte_count, unsigned_width}
-use Rattle.bpf_model.specs.Arithmetic.{loaded_signed}
-use Rattle.bpf_model.specs.Step.{sets, load_from}
-use Rattle.bpf_model.specs.Value.{◌>>=◌, number}
 use Rattle.reference_interpreter.specs.Plain.{Comes, plain_state_of}
-use Rattle.bpf_model.specs.Step.{environment_of}
 use Rattle.reference_interpreter.proofs.Laws.{bind_comes, bind_none}
 use Rattle.reference_interpreter.proofs.plain_run.PlainRun.load_signed.Goals as goal
 use Rattle.reference_interpreter.proofs.plain_run.PlainRun.load_signed.Goals.{After-load_from}

@@ -1,9 +1,5 @@
-use Rattle.std.proofs.Common.{rules, subst, sym}
-use Rattle.std.specs.Int.{w16, w32}
-use Rattle.std.proofs.lemmas.Int.{to_z-of_z}
-use mir.Val.{SFits}
+use Rattle.bpf_model.proofs.Prelude.{rules, subst, sym, w16, w32, to_z-of_z, SFits, environment_of}
 use Rattle.reference_interpreter.specs.Plain.{PerformsInsn}
-use Rattle.bpf_model.specs.Step.{environment_of}
 use Rattle.reference_interpreter.proofs.plain_run.PlainRun.perform.Goals as goal
 
 pub returns-in-Alu : goal.returns-in-Alu

@@ -1,6 +1,5 @@
-use Rattle.std.proofs.Common.{◌≡◌, subst, arith}
+use Rattle.bpf_model.proofs.Prelude.{◌≡◌, subst, arith, environment_of}
 use Rattle.reference_interpreter.specs.Plain.{TellsStep, plain_state_of}
-use Rattle.bpf_model.specs.Step.{environment_of}
 use Rattle.reference_interpreter.specs.Runs.{Walks, walks_none}
 use Rattle.reference_interpreter.proofs.Walking.{walked_on}
 use Rattle.reference_interpreter.proofs.plain_run.PlainRun.run.Goals as goal

@@ -1,5 +1,5 @@
+use Rattle.bpf_model.proofs.Prelude.{environment_of}
 use Rattle.reference_interpreter.specs.Plain.{plain_state_of}
-use Rattle.bpf_model.specs.Step.{environment_of}
 use Rattle.reference_interpreter.specs.Runs.{Walks}
 use Rattle.reference_interpreter.proofs.plain_run.PlainRun.run.Given as goal
 

@@ -1,4 +1,4 @@
-use Rattle.std.proofs.Common.{arith}
+use Rattle.bpf_model.proofs.Prelude.{arith}
 use Rattle.reference_interpreter.proofs.Laws.{inside}
 use Rattle.reference_interpreter.proofs.plain_run.PlainRun.step.Goals as goal
 

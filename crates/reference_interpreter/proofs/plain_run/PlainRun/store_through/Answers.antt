@@ -1,8 +1,4 @@
-use Rattle.std.proofs.Common.{rules, ◌∙◌, sym, subst}
-use Rattle.std.specs.Int.{w16, w64}
-use Rattle.std.proofs.lemmas.Int.{to_z-of_z}
-use mir.Val.{SFits}
-use Rattle.bpf_model.specs.Access.{byte_count}
+use Rattle.bpf_model.proofs.Prelude.{rules, ◌∙◌, sym, subst, w16, w64, to_z-of_z, SFits, byte_count}
 use Rattle.reference_interpreter.specs.Plain.{WritesFrame, plain_state_of, cells_of}
 use Rattle.reference_interpreter.proofs.Laws.{store_known}
 use Rattle.reference_interpreter.proofs.plain_run.PlainRun.store_through.Goals as goal

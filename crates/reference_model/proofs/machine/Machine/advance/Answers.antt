@@ -1,7 +1,5 @@
-use Rattle.std.proofs.Common.{◌≡◌, List, Bool, false, map, sym, ap, ◌∙◌, arith}
-use Rattle.std.proofs.lemmas.List.{with_items_is}
-use Rattle.std.specs.Vec.{with_items}
-use Rattle.bpf_model.specs.Schedule.{Queues, Schedule, advanced, is_any, turned, open_flags}
+use Rattle.bpf_model.proofs.Prelude.{◌≡◌, List, Bool, false, map, sym, ap, ◌∙◌, arith, with_items_is, with_items, Queues, Schedule, advanced, is_any, turned}
+use Rattle.bpf_model.proofs.Prelude.{open_flags}
 use Rattle.reference_model.specs.State.{machine_of, schedule_of}
 use Rattle.reference_store.specs.State.{queues_of}
 use Rattle.reference_model.specs.RunState.{runs_of}

@@ -1,9 +1,7 @@
-use Rattle.std.proofs.Common.{sym, subst}
-use Rattle.std.specs.Prelude.{IfOk}
-use Rattle.bpf_model.specs.declared.event.Answer.TheVariants.{Done}
+use Rattle.bpf_model.proofs.Prelude.{sym, subst, IfOk}
+use Rattle.model_laws.proofs.Prelude.{Done}
 use Rattle.reference_model.specs.State.{machine_of, schedule_of}
-use Rattle.reference_model.specs.Following.{DoesAs}
-use Rattle.reference_model.specs.Following.{FollowsLists}
+use Rattle.reference_model.specs.Following.{DoesAs, FollowsLists}
 use Rattle.reference_model.proofs.Following.{advance-follows}
 use Rattle.reference_model.proofs.machine.Machine.advance_or_reap.Goals as goal
 

@@ -1,5 +1,4 @@
-use Rattle.std.proofs.Common.{ap, ◌∙◌}
-use Rattle.bpf_model.specs.Machine.{lowest_free}
+use Rattle.bpf_model.proofs.Prelude.{ap, ◌∙◌, lowest_free}
 use Rattle.reference_model.specs.RunState.{runs_of}
 use Rattle.reference_model.proofs.machine.Machine.lowest_free.Goals as goal
 

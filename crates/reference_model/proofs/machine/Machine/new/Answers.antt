@@ -1,9 +1,5 @@
-use Rattle.std.proofs.Common.{List, Option, None, Bool, ap, ◌∙◌, map}
-use Rattle.std.specs.Prelude.{replicate}
-use Rattle.bpf_model.specs.Schedule.{Queues, Schedule, no_queues}
-use Rattle.bpf_model.specs.MapState.{Store, new_map, all_new_elements}
-use Rattle.bpf_model.specs.Machine.{Run}
-use Rattle.bpf_model.specs.declared.limits.TheConstants.{MAX_RUNS}
+use Rattle.bpf_model.proofs.Prelude.{List, Option, None, Bool, ap, ◌∙◌, map, replicate, Queues, Schedule, no_queues, Store, new_map, all_new_elements, Run}
+use Rattle.model_laws.proofs.Prelude.{MAX_RUNS}
 use Rattle.reference_model.specs.RunState.{runs_of, loaded_of}
 use Rattle.reference_store.specs.State.{queues_of}
 use Rattle.reference_model.proofs.Starts.{same-for-each, no-runs}

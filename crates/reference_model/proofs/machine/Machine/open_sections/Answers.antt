@@ -1,6 +1,4 @@
-use Rattle.std.proofs.Common.{◌≡◌, subst}
-use Rattle.std.specs.Prelude.{IfOk}
-use Rattle.bpf_model.specs.Machine.{open_sections}
+use Rattle.bpf_model.proofs.Prelude.{◌≡◌, subst, IfOk, open_sections}
 use Rattle.reference_store.specs.State.{sections_of}
 use Rattle.reference_model.specs.RunState.{runs_of}
 use Rattle.reference_model.proofs.machine.Machine.open_sections.Goals as goal

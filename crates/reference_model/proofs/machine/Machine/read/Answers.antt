@@ -1,7 +1,5 @@
-use Rattle.std.proofs.Common.{◌≡◌, None, refl, sym, ap, ◌∙◌, subst, length}
+use Rattle.bpf_model.proofs.Prelude.{◌≡◌, None, refl, sym, ap, ◌∙◌, subst, length, key_refusal, shape_of}
 use Rattle.std.specs.Option.{option_map}
-use Rattle.bpf_model.specs.Event.{key_refusal}
-use Rattle.bpf_model.specs.MapState.{shape_of}
 use Rattle.reference_model.specs.State.{machine_of}
 use Rattle.reference_store.specs.State.{store_of, elements_of}
 use Rattle.reference_store.specs.Births.{Finds}

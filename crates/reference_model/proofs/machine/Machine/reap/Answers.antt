@@ -1,8 +1,4 @@
-use Rattle.std.proofs.Common.{◌≡◌, refl, sym, ap, ◌∙◌, subst, map, arith}
-use Rattle.std.proofs.lemmas.List.{with_items_is}
-use Rattle.std.specs.Vec.{with_items}
-use Rattle.bpf_model.specs.Machine.{open_sections}
-use Rattle.bpf_model.specs.Schedule.{first_ready, without_first}
+use Rattle.bpf_model.proofs.Prelude.{◌≡◌, refl, sym, ap, ◌∙◌, subst, map, arith, with_items_is, with_items, open_sections, first_ready, without_first}
 use Rattle.reference_model.specs.RunState.{runs_of}
 use Rattle.reference_store.specs.State.{store_of, sections_of, queues_of}
 use Rattle.reference_model.specs.State.{schedule_of}

@@ -1,13 +1,9 @@
-use Rattle.std.proofs.Common.{◌≡◌, None, sym, ap, ◌∙◌, subst}
-use Rattle.std.specs.Prelude.{slice_set}
+use Rattle.bpf_model.proofs.Prelude.{◌≡◌, None, sym, ap, ◌∙◌, subst, slice_set, with_runs, DoesEvent, refusal, map-set}
+use Rattle.model_laws.proofs.Prelude.{Done}
 use Rattle.std.specs.Option.{option_map}
-use Rattle.bpf_model.specs.Machine.{with_runs}
 use Rattle.bpf_model.specs.declared.event.Event.TheVariants as events
-use Rattle.bpf_model.specs.declared.event.Answer.TheVariants.{Done}
-use Rattle.bpf_model.specs.Event.{DoesEvent, refusal}
 use Rattle.reference_model.specs.State.{machine_of}
 use Rattle.reference_model.specs.RunState.{run_of, runs_of}
-use Rattle.std.proofs.lemmas.List.{map-set}
 use Rattle.reference_model.proofs.Events.{does-performs}
 use Rattle.reference_model.proofs.machine.Machine.remove.Goals as goal
 

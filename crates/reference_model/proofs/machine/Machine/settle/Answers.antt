@@ -1,7 +1,4 @@
-use Rattle.std.proofs.Common.{◌≡◌, List, Bool, map, ap, ◌∙◌, arith}
-use Rattle.std.proofs.lemmas.List.{with_items_is}
-use Rattle.std.specs.Vec.{with_items}
-use Rattle.bpf_model.specs.Schedule.{Queues, Schedule, retired, still_open, open_flags}
+use Rattle.bpf_model.proofs.Prelude.{◌≡◌, List, Bool, map, ap, ◌∙◌, arith, with_items_is, with_items, Queues, Schedule, retired, still_open, open_flags}
 use Rattle.reference_model.specs.State.{machine_of}
 use Rattle.reference_store.specs.State.{queues_of, elements_of}
 use Rattle.reference_model.specs.RunState.{runs_of}

@@ -1,18 +1,13 @@
-use Rattle.std.proofs.Common.{rules, ◌≡◌, ℕ, ◌+◌, ◌<◌, arith, length, Some, sym, ap, ◌∙◌, subst, vec_len, map, refl}
-use Rattle.std.specs.Prelude.{slice_get, slice_set}
+use Rattle.bpf_model.proofs.Prelude.{rules, ◌≡◌, ℕ, ◌+◌, ◌<◌, arith, length, Some, sym, ap, ◌∙◌, subst, vec_len, map, refl, slice_get, slice_set, Machine}
+use Rattle.bpf_model.proofs.Prelude.{begins, fresh_run, lowest_free, DoesEvent, slice_get_read, map-set, length-map, get-map}
+use Rattle.model_laws.proofs.Prelude.{Started}
 use Rattle.std.specs.Option.{option_map}
-use Rattle.bpf_model.specs.Machine.{Machine, begins, fresh_run, lowest_free}
 use Rattle.bpf_model.specs.declared.event.Event.TheVariants as events
-use Rattle.bpf_model.specs.declared.event.Answer.TheVariants.{Started}
-use Rattle.bpf_model.specs.Event.{DoesEvent}
 use Rattle.reference_model.specs.State.{machine_of}
 use Rattle.reference_model.specs.RunState.{run_of, runs_of, run_with, loaded_of, or_no_program}
-use Rattle.std.proofs.lemmas.Option.{slice_get_read}
-use Rattle.std.proofs.lemmas.List.{map-set, length-map}
 use Rattle.reference_model.proofs.BySlot.{lowest-within}
 use Rattle.reference_model.proofs.Events.{start-does}
 use Rattle.reference_model.proofs.machine.Machine.start.Goals as goal
-use Rattle.bpf_model.proofs.Lists.{get-map}
 
 pub index_mut-requires : goal.index_mut-requires
 index_mut-requires c =

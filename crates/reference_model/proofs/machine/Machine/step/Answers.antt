@@ -1,18 +1,14 @@
-use Rattle.std.proofs.Common.{rules, ◌≡◌, ◌<◌, arith, length, Some, sym, ap, ◌∙◌, subst, vec_len, refl}
-use Rattle.std.specs.Prelude.{slice_get, slice_set}
+use Rattle.bpf_model.proofs.Prelude.{rules, ◌≡◌, ◌<◌, arith, length, Some, sym, ap, ◌∙◌, subst, vec_len, refl, slice_get, slice_set, with_runs, with_store}
+use Rattle.bpf_model.proofs.Prelude.{open_sections, slice_get_read, map-set, get-map}
 use Rattle.std.specs.Option.{option_map}
-use Rattle.bpf_model.specs.Machine.{with_runs, with_store, open_sections}
 use Rattle.bpf_model.specs.declared.event.Event.TheVariants as events
 use Rattle.reference_model.specs.State.{machine_of}
 use Rattle.reference_model.specs.RunState.{run_of, runs_of}
 use Rattle.reference_store.specs.State.{store_of, sections_of}
 use Rattle.reference_model.specs.Acting.{SlotStepsAs}
 use Rattle.reference_model.specs.Following.{DoesAs}
-use Rattle.std.proofs.lemmas.Option.{slice_get_read}
-use Rattle.std.proofs.lemmas.List.{map-set}
 use Rattle.reference_model.proofs.Events.{step-does}
 use Rattle.reference_model.proofs.machine.Machine.step.Goals as goal
-use Rattle.bpf_model.proofs.Lists.{get-map}
 
 pub returns-clause-machine : goal.returns-clause-machine
 returns-clause-machine c =

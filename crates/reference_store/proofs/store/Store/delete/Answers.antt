@@ -1,14 +1,9 @@
-use Rattle.std.proofs.Common.{◌≡◌, ◌<◌, Some, arith, map, length, refl}
-use Rattle.std.specs.Prelude.{slice_get}
-use Rattle.std.proofs.lemmas.Result.{IfOk-weaker}
-use Rattle.bpf_model.specs.Helper.{Removes, Deletes}
+use Rattle.bpf_model.proofs.Prelude.{◌≡◌, ◌<◌, Some, arith, map, length, refl, slice_get, IfOk-weaker, Removes, Deletes, slice_get_read, get-map}
 use Rattle.reference_store.specs.State.{map_of, sections_of, store_of}
-use Rattle.std.proofs.lemmas.Option.{slice_get_read}
 use Rattle.reference_store.proofs.Births.{deletes-hash, deletes-array}
 use Rattle.reference_store.proofs.Oldest.{no-birth}
 use Rattle.reference_store.proofs.store.Store.delete.Goals as goal
 use Rattle.reference_store.proofs.store.Store.delete.Goals.{After-index}
-use Rattle.bpf_model.proofs.Lists.{get-map}
 
 map-at : (c : After-index) → c.args.map < length c.args.self.now.maps.items →
     slice_get (map map_of c.args.self.now.maps.items) c.args.map ≡ Some (map_of c.index.result.now)

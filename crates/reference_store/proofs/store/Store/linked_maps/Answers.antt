@@ -1,12 +1,9 @@
-use Rattle.std.proofs.Common.{rules, ◌≡◌, ◌<◌, ◌++◌, ◌∷◌, [], length, Some, map, sym, ap, ◌∙◌, arith, vec_len, refl}
-use Rattle.std.specs.Prelude.{slice_get, drop, ◌+◌}
-use Rattle.std.proofs.lemmas.List.{length-map}
+use Rattle.bpf_model.proofs.Prelude.{rules, ◌≡◌, ◌<◌, ◌++◌, ◌∷◌, [], length, Some, map, sym, ap, ◌∙◌, arith, vec_len, refl, slice_get, drop, ◌+◌, length-map}
+use Rattle.bpf_model.proofs.Prelude.{slice_get_read, get-map}
 use Rattle.reference_store.specs.State.{element_of, elements_of}
 use Rattle.reference_store.specs.Retiring.{linked_map}
-use Rattle.std.proofs.lemmas.Option.{slice_get_read}
 use Rattle.reference_store.proofs.Lists.{mapped-more, mapped-all}
 use Rattle.reference_store.proofs.store.Store.linked_maps.Goals as goal
-use Rattle.bpf_model.proofs.Lists.{get-map}
 
 pub loop-n-preserved : goal.loop-n-preserved
 loop-n-preserved c =

@@ -1,5 +1,4 @@
-use Rattle.std.proofs.Common.{◌≡◌, ◌++◌, map}
-use Rattle.std.specs.Prelude.{drop}
+use Rattle.bpf_model.proofs.Prelude.{◌≡◌, ◌++◌, map, drop}
 use Rattle.reference_store.specs.State.{elements_of}
 use Rattle.reference_store.specs.Retiring.{linked_map}
 use Rattle.reference_store.proofs.store.Store.linked_maps.Given as goal

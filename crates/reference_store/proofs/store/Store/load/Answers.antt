@@ -1,16 +1,9 @@
-use Rattle.std.proofs.Common.{rules, ◌≡◌, ◌<◌, arith, length, Some, sym, ◌∙◌, ap, vec_len, false, refl}
-use Rattle.std.specs.Prelude.{slice_get, ◌+ℤ◌}
-use Rattle.std.specs.Int.{w16, w64}
-use Rattle.std.proofs.lemmas.Int.{to_z-of_z}
-use mir.Val.{SFits}
-use Rattle.bpf_model.specs.Access.{byte_count, region_offset, number_at}
-use Rattle.bpf_model.specs.Element.{is_reclaimed}
+use Rattle.bpf_model.proofs.Prelude.{rules, ◌≡◌, ◌<◌, arith, length, Some, sym, ◌∙◌, ap, vec_len, false, refl, slice_get, ◌+ℤ◌, w16, w64, to_z-of_z, SFits}
+use Rattle.bpf_model.proofs.Prelude.{byte_count, region_offset, number_at, is_reclaimed, slice_get_read, get-map}
 use Rattle.reference_store.specs.State.{element_of, elements_of}
-use Rattle.std.proofs.lemmas.Option.{slice_get_read}
 use Rattle.reference_store.proofs.Accesses.{load-found, load-none}
 use Rattle.reference_store.proofs.store.Store.load.Goals as goal
 use Rattle.reference_store.proofs.store.Store.load.Goals.{After-index-element, After-region_offset}
-use Rattle.bpf_model.proofs.Lists.{get-map}
 
 there : (c : After-index-element) → slice_get (elements_of c.args.self.now.elements.items) c.args.n ≡ Some (element_of c.index-element.result.now)
 there c =

@@ -1,12 +1,8 @@
-use Rattle.std.proofs.Common.{rules, ℕ, ◌≡◌, ◌<◌, ◌≤◌, arith, length, sym, ◌∙◌, subst, inl, inr, vec_len, true, refl}
-use Rattle.std.proofs.lemmas.Bool.{cases_lt, false≢true}
-use Rattle.std.proofs.lemmas.List.{length-map}
-use Rattle.bpf_model.specs.Element.{IsLinkedAt}
+use Rattle.bpf_model.proofs.Prelude.{rules, ℕ, ◌≡◌, ◌<◌, ◌≤◌, arith, length, sym, ◌∙◌, subst, inl, inr, vec_len, true, refl, cases_lt, false≢true, length-map}
+use Rattle.bpf_model.proofs.Prelude.{IsLinkedAt, slice_get_read, get-map}
 use Rattle.reference_store.specs.State.{element_of, elements_of, IsLinkedHere}
-use Rattle.std.proofs.lemmas.Option.{slice_get_read}
 use Rattle.reference_store.proofs.Elements.{linked-here, not-here, not-past}
 use Rattle.reference_store.proofs.store.Store.lookup.Goals as goal
-use Rattle.bpf_model.proofs.Lists.{get-map}
 
 pub loop-n-init : goal.loop-n-init
 loop-n-init c = λ k h l. absurd (omega arith)

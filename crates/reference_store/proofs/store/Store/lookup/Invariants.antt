@@ -1,5 +1,4 @@
-use Rattle.std.proofs.Common.{ℕ, ◌<◌}
-use Rattle.bpf_model.specs.Element.{IsLinkedAt}
+use Rattle.bpf_model.proofs.Prelude.{ℕ, ◌<◌, IsLinkedAt}
 use Rattle.reference_store.specs.State.{elements_of}
 use Rattle.reference_store.proofs.store.Store.lookup.Given as goal
 

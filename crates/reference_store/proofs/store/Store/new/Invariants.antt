@@ -1,6 +1,4 @@
-use Rattle.std.proofs.Common.{◌≡◌, ◌++◌, length, map}
-use Rattle.std.specs.Prelude.{take, drop}
-use Rattle.bpf_model.specs.MapState.{new_map, all_new_elements}
+use Rattle.bpf_model.proofs.Prelude.{◌≡◌, ◌++◌, length, map, take, drop, new_map, all_new_elements}
 use Rattle.reference_store.specs.State.{map_of, elements_of}
 use Rattle.reference_store.proofs.store.Store.new.Given as goal
 

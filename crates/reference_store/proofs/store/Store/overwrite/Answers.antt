@@ -1,11 +1,7 @@
-use Rattle.std.proofs.Common.{rules, ◌≡◌, ◌<◌, arith, length, sym, ap, ◌∙◌, vec_len, refl}
-use Rattle.bpf_model.specs.Element.{with_value, overwritten}
+use Rattle.bpf_model.proofs.Prelude.{rules, ◌≡◌, ◌<◌, arith, length, sym, ap, ◌∙◌, vec_len, refl, with_value, overwritten, slice_get_read, map-set, get-map}
 use Rattle.reference_store.specs.State.{element_of, elements_of}
-use Rattle.std.proofs.lemmas.Option.{slice_get_read}
-use Rattle.std.proofs.lemmas.List.{map-set}
 use Rattle.reference_store.proofs.Elements.{changed-at}
 use Rattle.reference_store.proofs.store.Store.overwrite.Goals as goal
-use Rattle.bpf_model.proofs.Lists.{get-map}
 
 pub returns-then-n-len-clause-elements : goal.returns-then-n-len-clause-elements
 returns-then-n-len-clause-elements c =

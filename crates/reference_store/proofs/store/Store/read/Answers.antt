@@ -1,13 +1,8 @@
-use Rattle.std.proofs.Common.{◌≡◌, ◌<◌, arith, length, Some, ◌∙◌, subst, refl}
-use Rattle.std.specs.Prelude.{slice_get}
-use Rattle.std.proofs.lemmas.List.{length-map}
-use Rattle.bpf_model.specs.Element.{IsLinkedAt}
-use Rattle.bpf_model.specs.Helper.{LooksUp}
+use Rattle.bpf_model.proofs.Prelude.{◌≡◌, ◌<◌, arith, length, Some, ◌∙◌, subst, refl, slice_get, length-map, IsLinkedAt, LooksUp, slice_get_read, cloned}
+use Rattle.bpf_model.proofs.Prelude.{get-map}
 use Rattle.reference_store.specs.State.{elements_of, store_of, element_of}
 use Rattle.reference_store.proofs.Elements.{within, one-element}
-use Rattle.std.proofs.lemmas.Option.{slice_get_read}
 use Rattle.reference_store.proofs.store.Store.read.Goals as goal
-use Rattle.bpf_model.proofs.Lists.{cloned, get-map}
 
 pub returns-in_ok-clone-in-Some : goal.returns-in_ok-clone-in-Some
 returns-in_ok-clone-in-Some c =

@@ -1,15 +1,9 @@
-use Rattle.std.proofs.Common.{rules, ◌≡◌, ◌<◌, arith, length, Some, map, ◌∙◌, ap, vec_len, refl}
-use Rattle.std.specs.Prelude.{slice_get, slice_set}
-use Rattle.bpf_model.specs.Element.{Reclaimed, with_life}
-use Rattle.bpf_model.specs.MapState.{Store}
+use Rattle.bpf_model.proofs.Prelude.{rules, ◌≡◌, ◌<◌, arith, length, Some, map, ◌∙◌, ap, vec_len, refl, slice_get, slice_set, Reclaimed, with_life, Store}
+use Rattle.bpf_model.proofs.Prelude.{slice_get_read, map-set, cloned, get-map, both}
 use Rattle.reference_store.specs.State.{map_of, element_of, elements_of, store_of, sections_of}
 use Rattle.reference_store.specs.declared.element.Life.TheVariants as lives
-use Rattle.std.proofs.lemmas.Option.{slice_get_read}
-use Rattle.std.proofs.lemmas.List.{map-set}
 use Rattle.reference_store.proofs.Reclaims.{reclaims-at}
 use Rattle.reference_store.proofs.store.Store.reclaim.Goals as goal
-use Rattle.bpf_model.proofs.Lists.{cloned, get-map}
-use Rattle.bpf_model.proofs.Cases.{both}
 
 pub returns-clause-tells : goal.returns-clause-tells
 returns-clause-tells c =

@@ -1,14 +1,11 @@
-use Rattle.std.proofs.Common.{◌≡◌, [], ◌∷◌, ◌++◌, Some, None, map, arith, sym, ◌∙◌, ap, subst}
-use Rattle.bpf_model.specs.Element.{Element, Linked, unlinked}
-use Rattle.bpf_model.specs.Helper.{LooksUp}
+use Rattle.bpf_model.proofs.Prelude.{◌≡◌, [], ◌∷◌, ◌++◌, Some, None, map, arith, sym, ◌∙◌, ap, subst, Element, Linked, unlinked, LooksUp, map-append}
+use Rattle.bpf_model.proofs.Prelude.{length-map, get-below}
 use Rattle.reference_store.specs.State.{map_of, element_of, elements_of, sections_of, store_of}
-use Rattle.std.proofs.lemmas.List.{map-append, length-map}
 use Rattle.reference_store.proofs.Elements.{born-found, within}
 use Rattle.reference_store.proofs.Births.{replaces}
 use Rattle.reference_store.proofs.Oldest.{birth}
 use Rattle.reference_store.proofs.store.Store.replace.Goals as goal
 use Rattle.reference_store.proofs.store.Store.replace.Goals.{After-unlink, In_default}
-use Rattle.bpf_model.proofs.Lists.{get-below}
 
 elements-found : (c : After-unlink) → elements_of c.unlink.new.self.elements.items
     ≡ unlinked (sections_of c.args.opened.now) (elements_of c.args.self.now.elements.items) c.args.found ++

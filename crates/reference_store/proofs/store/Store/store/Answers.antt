@@ -1,19 +1,9 @@
-use Rattle.std.proofs.Common.{rules, ◌≡◌, ◌<◌, arith, length, Some, sym, subst, vec_len, refl}
-use Rattle.std.specs.Prelude.{slice_get, ◌+ℤ◌}
-use Rattle.std.specs.Int.{w16, w64}
-use Rattle.std.proofs.lemmas.Int.{to_z-of_z}
-use mir.Val.{SFits}
-use Rattle.bpf_model.specs.Value.{◌>>=◌}
-use Rattle.bpf_model.specs.Access.{byte_count}
-use Rattle.bpf_model.specs.Element.{accessible}
-use Rattle.bpf_model.specs.Element.{stored_in}
+use Rattle.bpf_model.proofs.Prelude.{rules, ◌≡◌, ◌<◌, arith, length, Some, sym, subst, vec_len, refl, slice_get, ◌+ℤ◌, w16, w64, to_z-of_z, SFits, ◌>>=◌}
+use Rattle.bpf_model.proofs.Prelude.{byte_count, accessible, stored_in, slice_get_read, map-set, get-map}
 use Rattle.reference_store.specs.State.{element_of, elements_of}
 use Rattle.reference_store.specs.Storing.{StoresTo}
-use Rattle.std.proofs.lemmas.Option.{slice_get_read}
-use Rattle.std.proofs.lemmas.List.{map-set}
 use Rattle.reference_store.proofs.Accesses.{stores-to}
 use Rattle.reference_store.proofs.store.Store.store.Goals as goal
-use Rattle.bpf_model.proofs.Lists.{get-map}
 
 pub returns-clause-elements : goal.returns-clause-elements
 returns-clause-elements c =

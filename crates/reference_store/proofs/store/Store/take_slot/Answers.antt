@@ -1,12 +1,8 @@
-use Rattle.std.proofs.Common.{rules, ◌≡◌, length, Some, map, sym, ◌∙◌, ap, refl}
-use Rattle.std.specs.Prelude.{slice_get, slice_set}
+use Rattle.bpf_model.proofs.Prelude.{rules, ◌≡◌, length, Some, map, sym, ◌∙◌, ap, refl, slice_get, slice_set, slice_get_read, map-set, get-map}
 use Rattle.reference_store.specs.State.{map_of}
-use Rattle.std.proofs.lemmas.Option.{slice_get_read}
 use Rattle.reference_store.proofs.Lists.{remove-first}
-use Rattle.std.proofs.lemmas.List.{map-set}
 use Rattle.reference_store.proofs.Births.{without_first-at, without_first-none}
 use Rattle.reference_store.proofs.store.Store.take_slot.Goals as goal
-use Rattle.bpf_model.proofs.Lists.{get-map}
 
 pub returns-then-not-is_empty-clause-maps : goal.returns-then-not-is_empty-clause-maps
 returns-then-not-is_empty-clause-maps c =

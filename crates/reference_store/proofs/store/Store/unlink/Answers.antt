@@ -1,12 +1,8 @@
-use Rattle.std.proofs.Common.{rules, ◌≡◌, ◌<◌, ◌≤◌, arith, length, sym, ◌∙◌, vec_len, refl}
-use Rattle.bpf_model.specs.Element.{Unlinked, with_life}
+use Rattle.bpf_model.proofs.Prelude.{rules, ◌≡◌, ◌<◌, ◌≤◌, arith, length, sym, ◌∙◌, vec_len, refl, Unlinked, with_life, slice_get_read, slice_get_past}
+use Rattle.bpf_model.proofs.Prelude.{map-set, length-map, get-map}
 use Rattle.reference_store.specs.State.{element_of, elements_of, sections_of}
-use Rattle.std.proofs.lemmas.Option.{slice_get_read}
-use Rattle.std.proofs.lemmas.Option.{slice_get_past}
-use Rattle.std.proofs.lemmas.List.{map-set, length-map}
 use Rattle.reference_store.proofs.Elements.{changed-at, changed-past}
 use Rattle.reference_store.proofs.store.Store.unlink.Goals as goal
-use Rattle.bpf_model.proofs.Lists.{get-map}
 
 pub returns-then-n-len-clause-elements : goal.returns-then-n-len-clause-elements
 returns-then-n-len-clause-elements c =

@@ -1,19 +1,12 @@
-use Rattle.std.proofs.Common.{rules, ◌≡◌, ◌<◌, vec_len, Some, map, sym, ◌∙◌, ap, subst, arith, length, refl}
-use Rattle.std.specs.Prelude.{slice_get, is_some}
-use Rattle.bpf_model.specs.declared.limits.MapKind.TheVariants.{Hash}
-use Rattle.bpf_model.specs.Element.{linked_count, overwritten}
-use Rattle.bpf_model.specs.MapState.{with_elements}
+use Rattle.bpf_model.proofs.Prelude.{rules, ◌≡◌, ◌<◌, vec_len, Some, map, sym, ◌∙◌, ap, subst, arith, length, refl, slice_get, is_some, linked_count}
+use Rattle.bpf_model.proofs.Prelude.{overwritten, with_elements, LooksUp, update_error, slice_get_read, length-map, get-map, both}
+use Rattle.model_laws.proofs.Prelude.{Hash}
 use Rattle.reference_store.specs.Births.{HasFree}
-use Rattle.bpf_model.specs.Helper.{LooksUp, update_error}
 use Rattle.reference_store.specs.State.{map_of, element_of, elements_of, sections_of, store_of}
-use Rattle.std.proofs.lemmas.Option.{slice_get_read}
-use Rattle.std.proofs.lemmas.List.{length-map}
 use Rattle.reference_store.proofs.Births.{no_error-free, free-in, updates-refused, updates-replaced, updates-overwritten}
 use Rattle.reference_store.proofs.Oldest.{no-birth}
 use Rattle.reference_store.proofs.store.Store.update.Goals as goal
 use Rattle.reference_store.proofs.store.Store.update.Goals.{After-update_error, After-index-2}
-use Rattle.bpf_model.proofs.Lists.{get-map}
-use Rattle.bpf_model.proofs.Cases.{both}
 
 link : (c : After-update_error) → LooksUp (store_of c.args.self.now) c.args.map c.args.key.items c.lookup-found.result
 link c = subst (λ k. LooksUp (store_of c.args.self.now) c.args.map k c.lookup-found.result) c.as_slice.ensures.value c.lookup-found.ensures

@@ -1,7 +1,6 @@
-use Rattle.std.proofs.Common.{ℕ, subst}
+use Rattle.bpf_model.proofs.Prelude.{ℕ, subst}
+use Rattle.register_kinds.proofs.Prelude.{cell_at, JoinsCell}
 use Rattle.register_kinds.specs.Contents.{Contents}
-use Rattle.register_kinds.specs.States.{cell_at}
-use Rattle.register_kinds.specs.JoinTable.{JoinsCell}
 use Rattle.register_kinds.proofs.Cells.{cells_joined}
 use Rattle.register_kinds.proofs.frame.FrameCells.join.Goals as goal
 

@@ -1,4 +1,4 @@
-use Rattle.std.proofs.Common.{sym, ◌∙◌, ap}
+use Rattle.bpf_model.proofs.Prelude.{sym, ◌∙◌, ap}
 use Rattle.register_kinds.specs.declared.kind.RegKind.TheVariants.{Num}
 use Rattle.register_kinds.proofs.Same.{scalars-decides, kind_same}
 use Rattle.register_kinds.proofs.kind.RegKind.is_same.Goals as goal

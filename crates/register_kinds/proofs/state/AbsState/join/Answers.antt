@@ -1,8 +1,7 @@
-use Rattle.std.proofs.Common.{◌+◌, refl, ap}
+use Rattle.bpf_model.proofs.Prelude.{◌+◌, refl, ap}
+use Rattle.register_kinds.proofs.Prelude.{state_of, pair_of}
 use Rattle.plan_laws.proofs.Planning.{join_left, join_right}
 use Rattle.register_kinds.specs.declared.state.AbsState.{AbsState}
-use Rattle.register_kinds.specs.States.{state_of}
-use Rattle.register_kinds.specs.JoinTable.{pair_of}
 use Rattle.register_kinds.proofs.Pairs.{table_pairs}
 use Rattle.register_kinds.proofs.Cells.{states_join, states_below}
 use Rattle.register_kinds.proofs.state.AbsState.join.Goals as goal

@@ -1,9 +1,5 @@
-use Rattle.std.proofs.Common.{◌≡◌, ℕ, ◌+◌, ◌%◌, ◌^◌, ◌<◌, ◌≤◌, arith}
-use Rattle.std.specs.Prelude.{bit_and, bit_or}
-use Rattle.std.specs.Int.{bit_not, w64}
-use Rattle.std.specs.Int.Bits.{and_self}
-use Rattle.std.proofs.lemmas.Nat.{or_lt, xor_lt, mod_below, pow_pos}
-use Rattle.scalar_domain.specs.Mask.{HasBits, AreKnownBelow}
+use Rattle.bpf_model.proofs.Prelude.{◌≡◌, ℕ, ◌+◌, ◌%◌, ◌^◌, ◌<◌, ◌≤◌, arith, bit_and, bit_or, bit_not, w64, and_self, or_lt, xor_lt, mod_below, pow_pos}
+use Rattle.scalar_domain.proofs.Prelude.{HasBits, AreKnownBelow}
 use Rattle.scalar_domain.proofs.Bits.{within-trans}
 use Rattle.scalar_domain.proofs.Carries.{opened, sum_bits, low_known}
 use Rattle.scalar_domain.proofs.known.KnownBits.add.Goals as goal

@@ -1,5 +1,5 @@
-use Rattle.std.proofs.Common.{◌≡◌, ℕ, ◌+◌, ◌%◌, ◌^◌, sym, ◌∙◌, subst, arith}
-use Rattle.scalar_domain.specs.Scalar.{Holds}
+use Rattle.bpf_model.proofs.Prelude.{◌≡◌, ℕ, ◌+◌, ◌%◌, ◌^◌, sym, ◌∙◌, subst, arith}
+use Rattle.scalar_domain.proofs.Prelude.{Holds}
 use Rattle.scalar_domain.proofs.Multiples.{low_zero}
 use Rattle.scalar_domain.proofs.Carries.{zero_sum}
 use Rattle.scalar_domain.proofs.scalar.Scalar.add.Goals as goal

@@ -1,5 +1,4 @@
-use Rattle.std.proofs.Common.{arith}
-use Rattle.std.proofs.lemmas.Nat.{and_le_l, and_le_r}
+use Rattle.bpf_model.proofs.Prelude.{arith, and_le_l, and_le_r}
 use Rattle.scalar_domain.proofs.Bits.{within-and, within_le}
 use Rattle.scalar_domain.proofs.scalar.Scalar.and.Goals as goal
 

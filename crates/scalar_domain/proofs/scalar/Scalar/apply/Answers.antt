@@ -1,11 +1,7 @@
-use Rattle.std.proofs.Common.{◌≡◌, ℕ, ◌+◌, ◌-◌, ◌*◌, ◌%◌, ◌^◌, sym, ◌∙◌, ap, ap₂, subst, arith, rules}
+use Rattle.bpf_model.proofs.Prelude.{◌≡◌, ℕ, ◌+◌, ◌-◌, ◌*◌, ◌%◌, ◌^◌, sym, ◌∙◌, ap, ap₂, subst, arith, rules, bit_and, mod-eq_of_lt, alu}
+use Rattle.scalar_domain.proofs.Prelude.{IsConstant, Masks}
 use Rattle.std.proofs.lemmas.Grind.{common_steps}
-use Rattle.std.specs.Prelude.{bit_and}
-use Rattle.std.proofs.Math.Nat.{mod-eq_of_lt}
-use Rattle.bpf_model.specs.Arithmetic.{alu}
 use Rattle.bpf_model.specs.declared.opcode.Size.TheVariants.{Word32}
-use Rattle.scalar_domain.specs.Scalar.{IsConstant}
-use Rattle.scalar_domain.specs.Precision.{Masks}
 use Rattle.scalar_domain.proofs.Words.{narrow_lt}
 use Rattle.scalar_domain.proofs.Forms.{word_difference}
 use Rattle.scalar_domain.proofs.Constants.{sum_of_constants, difference_of_constants, mask_of_constants, shl_of_constants, move_of_constants}

@@ -1,5 +1,4 @@
-use Rattle.std.proofs.Common.{ap, sym, ◌∙◌, ◌^◌, arith}
-use Rattle.std.specs.Prelude.{◌%◌}
+use Rattle.bpf_model.proofs.Prelude.{ap, sym, ◌∙◌, ◌^◌, arith, ◌%◌}
 use Rattle.scalar_domain.proofs.Carries.{not_within, not_low}
 use Rattle.scalar_domain.proofs.scalar.Scalar.complement.Goals as goal
 

@@ -1,5 +1,5 @@
-use Rattle.std.proofs.Common.{◌/◌, ◌<◌, sym, subst, arith}
-use Rattle.scalar_domain.specs.Scalar.{Holds}
+use Rattle.bpf_model.proofs.Prelude.{◌/◌, ◌<◌, sym, subst, arith}
+use Rattle.scalar_domain.proofs.Prelude.{Holds}
 use Rattle.scalar_domain.proofs.Quotients.{when_positive, div_mono}
 use Rattle.scalar_domain.proofs.scalar.Scalar.divide.Goals as goal
 

@@ -1,5 +1,4 @@
-use Rattle.std.proofs.Common.{inl, inr, sym, ◌∙◌, arith}
-use Rattle.std.proofs.lemmas.Bool.{false≢true, lt-ltb, ltb-true}
+use Rattle.bpf_model.proofs.Prelude.{inl, inr, sym, ◌∙◌, arith, false≢true, lt-ltb, ltb-true}
 use Rattle.scalar_domain.proofs.Splits.{decided}
 use Rattle.scalar_domain.proofs.scalar.Scalar.is_inhabited.Goals as goal
 

@@ -1,6 +1,6 @@
-use Rattle.std.proofs.Common.{◌*◌, ◌%◌, ◌^◌, subst}
+use Rattle.bpf_model.proofs.Prelude.{◌*◌, ◌%◌, ◌^◌, subst}
+use Rattle.scalar_domain.proofs.Prelude.{Within}
 use Rattle.std.proofs.lemmas.Nat.{one_shl}
-use Rattle.scalar_domain.specs.Mask.{Within}
 use Rattle.scalar_domain.proofs.Shifts.{low_ordered, low_between, low_within}
 use Rattle.scalar_domain.proofs.scalar.Scalar.low_bits.Goals as goal
 

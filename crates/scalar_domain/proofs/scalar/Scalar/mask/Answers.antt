@@ -1,4 +1,4 @@
-use Rattle.std.proofs.Common.{arith}
+use Rattle.bpf_model.proofs.Prelude.{arith}
 use Rattle.scalar_domain.proofs.Bits.{within-trans}
 use Rattle.scalar_domain.proofs.scalar.Scalar.mask.Goals as goal
 

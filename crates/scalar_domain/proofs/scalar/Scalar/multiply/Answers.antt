@@ -1,6 +1,4 @@
-use Rattle.std.proofs.Common.{◌≡◌, ◌*◌, ◌%◌, ◌^◌, ◌≤◌, arith}
-use Rattle.std.proofs.Math.Nat.{mod-eq_of_lt}
-use Rattle.std.proofs.lemmas.Nat.{mod_below, pow_pos, mul-le}
+use Rattle.bpf_model.proofs.Prelude.{◌≡◌, ◌*◌, ◌%◌, ◌^◌, ◌≤◌, arith, mod-eq_of_lt, mod_below, pow_pos, mul-le}
 use Rattle.scalar_domain.proofs.Multiples.{product_within}
 use Rattle.scalar_domain.proofs.scalar.Scalar.multiply.Goals as goal
 

@@ -1,8 +1,6 @@
-use Rattle.std.proofs.Common.{◌+◌, ◌-◌, ◌%◌, ◌^◌, ◌<◌, sym, ◌∙◌, ap, subst, arith}
-use Rattle.std.proofs.lemmas.Nat.{mod_below, pow_pos}
+use Rattle.bpf_model.proofs.Prelude.{◌+◌, ◌-◌, ◌%◌, ◌^◌, ◌<◌, sym, ◌∙◌, ap, subst, arith, mod_below, pow_pos, negated}
+use Rattle.scalar_domain.proofs.Prelude.{Holds}
 use Rattle.scalar_domain.proofs.Multiples.{below_word}
-use Rattle.bpf_model.specs.Arithmetic.{negated}
-use Rattle.scalar_domain.specs.Scalar.{Holds}
 use Rattle.scalar_domain.proofs.Forms.{negated_difference, narrow_negated}
 use Rattle.scalar_domain.proofs.scalar.Scalar.negate.Goals as goal
 

@@ -1,6 +1,5 @@
-use Rattle.std.proofs.Common.{◌≤◌, arith}
-use Rattle.std.specs.Prelude.{bit_and, bit_or}
-use Rattle.scalar_domain.specs.Mask.{Within}
+use Rattle.bpf_model.proofs.Prelude.{◌≤◌, arith, bit_and, bit_or}
+use Rattle.scalar_domain.proofs.Prelude.{Within}
 use Rattle.std.proofs.lemmas.Nat.{le_or_l, le_or_r}
 use Rattle.scalar_domain.proofs.Bits.{within-or, within_le, and-within_l}
 use Rattle.scalar_domain.proofs.scalar.Scalar.or.Goals as goal

@@ -1,11 +1,9 @@
-use Rattle.std.proofs.Common.{◌≡◌, ℕ, Bool, true, false, subst, ◌∙◌, arith}
-use Rattle.std.specs.Int.{w64}
+use Rattle.bpf_model.proofs.Prelude.{◌≡◌, ℕ, Bool, true, false, subst, ◌∙◌, arith, w64}
+use Rattle.scalar_domain.proofs.Prelude.{IsConstant, KeepsEdgeFloor}
 use Rattle.bpf_model.specs.Arithmetic.{holds}
 use Rattle.bpf_model.specs.declared.opcode.Condition.{Condition}
 use Rattle.bpf_model.specs.declared.opcode.Size.{Size}
 use Rattle.scalar_domain.specs.declared.scalar.Scalar.{Scalar}
-use Rattle.scalar_domain.specs.Scalar.{IsConstant}
-use Rattle.scalar_domain.specs.Floor.{KeepsEdgeFloor}
 use Rattle.scalar_domain.proofs.Edges.{no_wider-refl}
 use Rattle.scalar_domain.proofs.scalar.Scalar.refine.Goals as goal
 

@@ -1,6 +1,5 @@
-use Rattle.std.proofs.Common.{◌≡◌, ◌%◌, ◌<◌, sym, ◌∙◌, subst, arith}
-use Rattle.std.proofs.Math.Nat.{mod-eq_of_lt}
-use Rattle.scalar_domain.specs.Scalar.{Holds}
+use Rattle.bpf_model.proofs.Prelude.{◌≡◌, ◌%◌, ◌<◌, sym, ◌∙◌, subst, arith, mod-eq_of_lt}
+use Rattle.scalar_domain.proofs.Prelude.{Holds}
 use Rattle.scalar_domain.proofs.Quotients.{when_positive}
 use Rattle.scalar_domain.proofs.scalar.Scalar.remainder.Goals as goal
 

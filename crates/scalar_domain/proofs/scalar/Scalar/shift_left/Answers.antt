@@ -1,5 +1,4 @@
-use Rattle.std.proofs.Common.{◌*◌, ◌%◌, ◌^◌, ◌<◌, ◌∙◌, ap, arith}
-use Rattle.std.proofs.Math.Nat.{mul-le-mul_right}
+use Rattle.bpf_model.proofs.Prelude.{◌*◌, ◌%◌, ◌^◌, ◌<◌, ◌∙◌, ap, arith, mul-le-mul_right}
 use Rattle.scalar_domain.proofs.Bits.{within-shl}
 use Rattle.scalar_domain.proofs.Shifts.{shl_mono, fits_shifted, shifted_fits, shifted, low_zeros}
 use Rattle.scalar_domain.proofs.scalar.Scalar.shift_left.Goals as goal

@@ -1,8 +1,5 @@
-use Rattle.std.proofs.Common.{◌≡◌, ℕ, ◌*◌, ◌%◌, ◌^◌, sym, ◌∙◌, ap, subst, arith}
-use Rattle.std.proofs.lemmas.Nat.{mod_below, pow_pos}
-use Rattle.std.proofs.Math.Nat.{mod-eq_of_lt}
-use Rattle.scalar_domain.specs.Scalar.{Holds}
-use Rattle.scalar_domain.specs.Precision.{ShiftsLeft}
+use Rattle.bpf_model.proofs.Prelude.{◌≡◌, ℕ, ◌*◌, ◌%◌, ◌^◌, sym, ◌∙◌, ap, subst, arith, mod_below, pow_pos, mod-eq_of_lt}
+use Rattle.scalar_domain.proofs.Prelude.{Holds, ShiftsLeft}
 use Rattle.scalar_domain.proofs.scalar.Scalar.shift_left_by.Goals as goal
 
 pub returns-in-Some-clause-precise : goal.returns-in-Some-clause-precise

@@ -1,4 +1,4 @@
-use Rattle.std.proofs.Math.Pow.{shr_mono}
+use Rattle.bpf_model.proofs.Prelude.{shr_mono}
 use Rattle.scalar_domain.proofs.Bits.{within-shr}
 use Rattle.scalar_domain.proofs.scalar.Scalar.shift_right.Goals as goal
 

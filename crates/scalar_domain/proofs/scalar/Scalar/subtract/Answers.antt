@@ -1,5 +1,5 @@
-use Rattle.std.proofs.Common.{◌≡◌, ℕ, ◌+◌, ◌-◌, ◌%◌, ◌^◌, ◌<◌, subst, arith}
-use Rattle.scalar_domain.specs.Scalar.{Holds}
+use Rattle.bpf_model.proofs.Prelude.{◌≡◌, ℕ, ◌+◌, ◌-◌, ◌%◌, ◌^◌, ◌<◌, subst, arith}
+use Rattle.scalar_domain.proofs.Prelude.{Holds}
 use Rattle.scalar_domain.proofs.scalar.Scalar.subtract.Goals as goal
 
 turned : (x y : ℕ) → y < 2 ^ 64 → x + (2 ^ 64 - 1 - y) + 1 ≡ x + (2 ^ 64 - y)

@@ -1,6 +1,5 @@
-use Rattle.std.proofs.Common.{◌≡◌, ℕ, ◌+◌, ◌%◌, ◌^◌, sym, subst}
-use Rattle.std.specs.Int.Bits.{and_self}
-use Rattle.scalar_domain.specs.Mask.{Within, HasBits}
+use Rattle.bpf_model.proofs.Prelude.{◌≡◌, ℕ, ◌+◌, ◌%◌, ◌^◌, sym, subst, and_self}
+use Rattle.scalar_domain.proofs.Prelude.{Within, HasBits}
 use Rattle.scalar_domain.specs.declared.scalar.Scalar.{Scalar}
 use Rattle.scalar_domain.proofs.scalar.Scalar.sum.Goals as goal
 

@@ -1,6 +1,5 @@
-use Rattle.std.proofs.Common.{sym, subst, arith}
-use Rattle.std.specs.Int.Bits.{and_self}
-use Rattle.scalar_domain.specs.Mask.{Within}
+use Rattle.bpf_model.proofs.Prelude.{sym, subst, arith, and_self}
+use Rattle.scalar_domain.proofs.Prelude.{Within}
 use Rattle.scalar_domain.proofs.Bits.{within-both, within-trans, and-within_l, and-within_r, within-or_l, within-or_r, or-within}
 use Rattle.scalar_domain.proofs.scalar.Scalar.with_bits.Goals as goal
 

@@ -1,5 +1,4 @@
-use Rattle.std.specs.Prelude.{bit_xor}
-use Rattle.std.specs.Int.Bits.{and_zero_l}
+use Rattle.bpf_model.proofs.Prelude.{bit_xor, and_zero_l}
 use Rattle.scalar_domain.proofs.Bits.{within-xor}
 use Rattle.scalar_domain.proofs.scalar.Scalar.xor.Goals as goal
 

@@ -1,4 +1,4 @@
-use Rattle.std.proofs.lemmas.Option.{IfSome_then}
+use Rattle.bpf_model.proofs.Prelude.{IfSome_then}
 use Rattle.shared.proofs.Exits.{exits-once, possible-once, own-once}
 use Rattle.shared.proofs.held.Held.exit_noted.Goals as goal
 

@@ -1,4 +1,5 @@
-use Rattle.std.proofs.Common.{◌∙◌, ap, sum_by, List}
+use Rattle.bpf_model.proofs.Prelude.{◌∙◌, ap, List}
+use Rattle.std.proofs.Common.{sum_by}
 use Rattle.shared_books.specs.Books.{WorkerView}
 use Rattle.shared.proofs.lock.Shared.finish.Goals as goal
 

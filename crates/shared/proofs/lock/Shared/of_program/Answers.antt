@@ -1,4 +1,4 @@
-use Rattle.std.proofs.Common.{◌∙◌}
+use Rattle.bpf_model.proofs.Prelude.{◌∙◌}
 use Rattle.shared.proofs.OnlyProgram.{only_shapes}
 use Rattle.shared.proofs.lock.Shared.of_program.Goals as goal
 

@@ -1,5 +1,4 @@
-use Rattle.std.proofs.Common.{◌≡◌, subst}
-use Rattle.std.specs.Prelude.{◌↔◌, Err}
+use Rattle.bpf_model.proofs.Prelude.{◌≡◌, subst, ◌↔◌, Err}
 use Rattle.shared_books.specs.Replay.{HasNoRuns}
 use Rattle.shared.specs.State.{StateView}
 use Rattle.shared_books.specs.declared.fault.CutFault.TheVariants as cut_fault

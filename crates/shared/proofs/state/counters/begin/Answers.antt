@@ -1,4 +1,4 @@
-use Rattle.std.proofs.Common.{rules}
+use Rattle.bpf_model.proofs.Prelude.{rules}
 use Rattle.shared.proofs.Meters.{begins, forks}
 use Rattle.shared.proofs.state.counters.begin.Goals as goal
 

@@ -1,12 +1,8 @@
-use Rattle.std.proofs.Common.{◌≡◌, ◌∙◌, ℕ, ◌+◌, ◌^◌, ◌<◌, ◌∷◌, [], ◌++◌, List, refl, sym, ap, subst, arith}
-use Rattle.std.specs.Prelude.{Ok, Err}
-use Rattle.bpf_model.specs.declared.event.Event.{Event}
-use Rattle.bpf_model.specs.declared.event.Answer.{Answer}
-use Rattle.bpf_model.specs.View.{WorldView}
-use Rattle.bpf_model.specs.declared.entry.Entry.{Entry}
+use Rattle.bpf_model.proofs.Prelude.{◌≡◌, ◌∙◌, ℕ, ◌+◌, ◌^◌, ◌<◌, ◌∷◌, [], ◌++◌, List, refl, sym, ap, subst, arith, Ok, Err, WorldView}
+use Rattle.model_laws.proofs.Prelude.{Event, Answer, Entry}
+use Rattle.world_laws.proofs.Prelude.{full_reaction}
 use Rattle.journal.specs.Entries.{IsAnswerTo, JournalView}
 use Rattle.shared_books.proofs.Fitting.{reaction_fits}
-use Rattle.world_laws.specs.Reacting.{full_reaction}
 use Rattle.shared_books.specs.Books.{BooksView, WorkerView, Enters, TotalsRise, books_view}
 use Rattle.shared_books.specs.Noted.{IsEntered}
 use Rattle.shared_books.specs.Receipts.{ReceiptView}

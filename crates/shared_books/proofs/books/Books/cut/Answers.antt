@@ -1,4 +1,4 @@
-use Rattle.std.proofs.Common.{rules, arith, refl, sym, ap, subst}
+use Rattle.bpf_model.proofs.Prelude.{rules, arith, refl, sym, ap, subst}
 use Rattle.shared_books.specs.Replay.{HasNoRuns}
 use Rattle.shared_books.specs.Books.{BooksView}
 use Rattle.shared_books.proofs.books.Books.cut.Goals as goal

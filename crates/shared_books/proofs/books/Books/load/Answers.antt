@@ -1,7 +1,7 @@
-use Rattle.std.proofs.Common.{rules, arith, refl, sym, ap, subst, ◌∙◌}
+use Rattle.bpf_model.proofs.Prelude.{rules, arith, refl, sym, ap, subst, ◌∙◌}
+use Rattle.world.proofs.Prelude.{program_of}
+use Rattle.world_laws.proofs.Prelude.{with_program}
 use Rattle.shared_books.specs.Replay.{HasNoRuns}
-use Rattle.world_laws.specs.Loads.{with_program}
-use Rattle.world.specs.Programs.{program_of}
 use Rattle.shared_books.specs.Books.{BooksView, books_view}
 use Rattle.shared_books.proofs.Balance.{balanced-loaded}
 use Rattle.shared_books.proofs.books.Books.load.Goals as goal

@@ -1,9 +1,7 @@
-use Rattle.std.proofs.Common.{◌≡◌, ◌∙◌, ℕ, ◌+◌, ◌^◌, ◌<◌, ◌≤◌, ◌++◌, List, length, replicate, refl, sym, ap, subst, arith}
-use Rattle.std.specs.Prelude.{min}
-use Rattle.bpf_model.specs.declared.entry.Entry.{Entry}
+use Rattle.bpf_model.proofs.Prelude.{◌≡◌, ◌∙◌, ℕ, ◌+◌, ◌^◌, ◌<◌, ◌≤◌, ◌++◌, List, length, replicate, refl, sym, ap, subst, arith, min, WorldView}
+use Rattle.model_laws.proofs.Prelude.{Entry}
 use Rattle.journal.specs.Entries.{JournalView}
 use Rattle.shared_books.specs.Books.{BooksView, WorkerView, TotalsRise, books_view}
-use Rattle.bpf_model.specs.View.{WorldView}
 use Rattle.shared_books.specs.declared.tally.Tally.{Tally}
 use Rattle.shared_books.specs.Stretches.{EntersMoves, not_yet}
 use Rattle.shared_books.proofs.ManyMoves.{can-steps, can-unlinked, can-unreclaimed, machine-move, move-entry, moves-entered, still-balanced, totals-rise}

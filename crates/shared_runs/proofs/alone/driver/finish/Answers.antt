@@ -1,6 +1,6 @@
-use Rattle.std.proofs.Common.{◌<◌, ◌+◌, ◌-◌, arith, inl, inr, length, sym, subst}
+use Rattle.bpf_model.proofs.Prelude.{◌<◌, ◌+◌, ◌-◌, arith, inl, inr, length, sym, subst}
+use Rattle.machine.proofs.Prelude.{IsMove}
 use Rattle.plan_laws.proofs.Exits.{one_exit}
-use Rattle.machine.specs.Workspaces.{IsMove}
 use Rattle.shared_runs.specs.Lone.{loaded_alone}
 use Rattle.shared_runs.proofs.LoopingAlone.{halts_below, halts_exited, halts_limit, halts_room, halts_shared, loop_can_go_on, stands_first}
 use Rattle.shared_runs.proofs.Starting.{starts-alone}

@@ -1,4 +1,4 @@
-use Rattle.std.proofs.Common.{◌-◌, length}
+use Rattle.bpf_model.proofs.Prelude.{◌-◌, length}
 use Rattle.shared_runs.proofs.LoopingAlone.{StandsBefore}
 use Rattle.shared_runs.proofs.alone.driver.finish.Given as goal
 

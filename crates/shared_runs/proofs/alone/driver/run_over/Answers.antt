@@ -1,7 +1,5 @@
-use Rattle.std.proofs.Common.{ℕ, length, ap, ◌∙◌}
-use Rattle.std.specs.Prelude.{List}
-use Rattle.std.proofs.lemmas.List.{length-replicate}
-use Rattle.bpf_model.specs.declared.limits.TheConstants.{FRAME_BYTES}
+use Rattle.bpf_model.proofs.Prelude.{ℕ, length, ap, ◌∙◌, List, length-replicate}
+use Rattle.model_laws.proofs.Prelude.{FRAME_BYTES}
 use Rattle.shared_runs.proofs.alone.driver.run_over.Goals as goal
 
 pub finish-requires-clause-cells : goal.finish-requires-clause-cells

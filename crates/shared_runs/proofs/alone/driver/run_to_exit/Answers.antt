@@ -1,6 +1,6 @@
-use Rattle.std.proofs.Common.{◌≡◌, ℕ, List, subst}
-use Rattle.bpf_model.specs.declared.limits.MapShape.{MapShape}
-use Rattle.plan_laws.specs.MayExit.{MayExitWith}
+use Rattle.bpf_model.proofs.Prelude.{◌≡◌, ℕ, List, subst}
+use Rattle.model_laws.proofs.Prelude.{MapShape}
+use Rattle.plan_laws.proofs.Prelude.{MayExitWith}
 use Rattle.shared_runs.specs.Lone.{loaded_alone}
 use Rattle.shared_runs.proofs.alone.driver.run_to_exit.Goals as goal
 

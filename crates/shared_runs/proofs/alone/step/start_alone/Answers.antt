@@ -1,8 +1,5 @@
-use Rattle.std.proofs.Common.{ℕ, [], sym, subst}
-use Rattle.std.proofs.lemmas.List.{length-replicate}
-use Rattle.bpf_model.specs.declared.limits.TheConstants.{FRAME_BYTES}
-use Rattle.model_laws.specs.Reactions.{fresh_view}
-use Rattle.bpf_model.specs.Real.{AreBytes}
+use Rattle.bpf_model.proofs.Prelude.{ℕ, [], sym, subst, length-replicate, AreBytes}
+use Rattle.model_laws.proofs.Prelude.{FRAME_BYTES, fresh_view}
 use Rattle.shared_runs.specs.Lone.{StandsAlone}
 use Rattle.shared_runs.proofs.Starting.{starts-alone}
 use Rattle.shared_runs.proofs.alone.step.start_alone.Goals as goal

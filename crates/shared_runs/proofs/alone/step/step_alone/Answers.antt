@@ -1,4 +1,4 @@
-use Rattle.std.proofs.Common.{inl, inr, refl}
+use Rattle.bpf_model.proofs.Prelude.{inl, inr, refl}
 use Rattle.shared_runs.proofs.Going.{standing, moves, exits, given, shares, asks-else, resumed}
 use Rattle.shared_runs.proofs.alone.step.step_alone.Goals as goal
 

@@ -1,7 +1,4 @@
-use Rattle.std.proofs.Common.{rules, arith, ◌*◌, ◌<◌, ◌∙◌, length}
-use Rattle.std.specs.Prelude.{slice_get}
-use Rattle.std.proofs.lemmas.List.{length-set}
-use Rattle.bpf_model.specs.Access.{number_at}
+use Rattle.bpf_model.proofs.Prelude.{rules, arith, ◌*◌, ◌<◌, ◌∙◌, length, slice_get, length-set, number_at}
 use Rattle.shared_runs.proofs.KeyWords.{one-more}
 use Rattle.shared_runs.proofs.maps.key_words.words_of.Goals as goal
 

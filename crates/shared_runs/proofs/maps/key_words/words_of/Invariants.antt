@@ -1,7 +1,5 @@
-use Rattle.std.proofs.Common.{◌≡◌, ℕ, ◌*◌, ◌<◌, Some, length}
-use Rattle.std.specs.Prelude.{slice_get, slice_index}
-use Rattle.bpf_model.specs.Access.{number_at}
-use Rattle.map_table.specs.Limits.{most_words}
+use Rattle.bpf_model.proofs.Prelude.{◌≡◌, ℕ, ◌*◌, ◌<◌, Some, length, slice_get, slice_index, number_at}
+use Rattle.map_table.proofs.Prelude.{most_words}
 use Rattle.shared_runs.proofs.maps.key_words.words_of.Given as goal
 
 abbrev pub invariant-loop-place : goal.invariant-loop-place

@@ -1,6 +1,5 @@
-use Rattle.std.proofs.Common.{◌≡◌, ◌<◌, ℕ, length, get_or, sym, ◌∙◌, subst}
+use Rattle.bpf_model.proofs.Prelude.{◌≡◌, ◌<◌, ℕ, length, get_or, sym, ◌∙◌, subst, slice_get_within, get_or_from_slice_get}
 use Rattle.std.proofs.lemmas.Grind.{same_number_lists}
-use Rattle.std.proofs.lemmas.Option.{slice_get_within, get_or_from_slice_get}
 use Rattle.shared_runs.specs.declared.maps.named_map.NamedMap.{NamedMap}
 use Rattle.shared_runs.specs.Named.{AgreesWith}
 use Rattle.shared_runs.proofs.maps.law.names_keep_keys_apart.Goals as goal

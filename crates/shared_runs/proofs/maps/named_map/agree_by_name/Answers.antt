@@ -1,5 +1,4 @@
-use Rattle.std.proofs.Common.{rules, ◌≡◌, true}
-use Rattle.std.proofs.lemmas.Bool.{false≢true}
+use Rattle.bpf_model.proofs.Prelude.{rules, ◌≡◌, true, false≢true}
 use Rattle.shared_runs.proofs.maps.named_map.agree_by_name.Goals as goal
 
 pub returns-then-not-agree_with : goal.returns-then-not-agree_with

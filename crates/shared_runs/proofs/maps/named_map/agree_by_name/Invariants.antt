@@ -1,5 +1,4 @@
-use Rattle.std.proofs.Common.{ℕ, ◌<◌, get_or}
-use Rattle.std.specs.Prelude.{All}
+use Rattle.bpf_model.proofs.Prelude.{ℕ, ◌<◌, get_or, All}
 use Rattle.shared_runs.specs.declared.maps.named_map.NamedMap.{NamedMap}
 use Rattle.shared_runs.specs.Named.{AgreesWith}
 use Rattle.shared_runs.proofs.maps.named_map.agree_by_name.Given as goal

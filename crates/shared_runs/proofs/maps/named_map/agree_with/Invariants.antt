@@ -1,4 +1,4 @@
-use Rattle.std.proofs.Common.{ℕ, ◌<◌, get_or}
+use Rattle.bpf_model.proofs.Prelude.{ℕ, ◌<◌, get_or}
 use Rattle.shared_runs.specs.declared.maps.named_map.NamedMap.{NamedMap}
 use Rattle.shared_runs.specs.Named.{AgreesWith}
 use Rattle.shared_runs.proofs.maps.named_map.agree_with.Given as goal

@@ -1,7 +1,5 @@
-use Rattle.std.proofs.Common.{◌≡◌, ℕ, ◌<◌, Some}
-use Rattle.std.specs.Prelude.{slice_get}
-use Rattle.bpf_model.specs.declared.limits.MapKind.TheVariants.{Hash}
-use Rattle.bpf_model.specs.declared.limits.MapShape.{MapShape}
+use Rattle.bpf_model.proofs.Prelude.{◌≡◌, ℕ, ◌<◌, Some, slice_get}
+use Rattle.model_laws.proofs.Prelude.{Hash, MapShape}
 use Rattle.shared_runs.specs.Named.{KeepsNamed}
 use Rattle.shared_runs.proofs.maps.named_map.have_room.Given as goal
 

@@ -1,6 +1,5 @@
-use Rattle.std.proofs.Common.{◌≡◌, ℕ, ◌+◌, ◌<◌, length}
-use Rattle.std.specs.Prelude.{slice_index}
-use Rattle.map_table.specs.Limits.{most_words}
+use Rattle.bpf_model.proofs.Prelude.{◌≡◌, ℕ, ◌+◌, ◌<◌, length, slice_index}
+use Rattle.map_table.proofs.Prelude.{most_words}
 use Rattle.shared_runs.proofs.maps.named_map.key_in.Given as goal
 
 -- the name, so many words of the key, and zeros

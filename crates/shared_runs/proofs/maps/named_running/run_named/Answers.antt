@@ -1,5 +1,5 @@
-use Rattle.std.proofs.Common.{◌∙◌, ap}
-use Rattle.map_table.specs.Held.{TableView}
+use Rattle.bpf_model.proofs.Prelude.{◌∙◌, ap}
+use Rattle.map_table.proofs.Prelude.{TableView}
 use Rattle.shared_runs.proofs.Known.{has-found, has-held, has-met, has-own, has-whole}
 use Rattle.shared_runs.proofs.maps.named_running.run_named.Goals as goal
 

@@ -1,7 +1,5 @@
-use Rattle.std.proofs.Common.{◌≡◌, sym, ◌∙◌, ap, subst}
-use Rattle.table_words.specs.declared.view.TableShape.{TableShape}
-use Rattle.map_table.specs.Values.{first_of}
-use Rattle.map_table.specs.Held.{Goes, IsSized, TableView}
+use Rattle.bpf_model.proofs.Prelude.{◌≡◌, sym, ◌∙◌, ap, subst}
+use Rattle.map_table.proofs.Prelude.{TableShape, first_of, Goes, IsSized, TableView}
 use Rattle.shared_runs.specs.Running.{RunsOver}
 use Rattle.shared_runs.specs.MapTables.{table_of}
 use Rattle.shared_runs.proofs.Keeping.{small}

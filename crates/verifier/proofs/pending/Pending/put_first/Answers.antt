@@ -1,7 +1,6 @@
-use Rattle.std.proofs.Common.{◌≡◌, ◌+◌, ◌-◌, ◌<◌, length, max, arith, refl, sym, ap, subst, ◌∙◌}
-use Rattle.std.specs.Prelude.{slice_index_or, slice_set}
+use Rattle.bpf_model.proofs.Prelude.{◌≡◌, ◌+◌, ◌-◌, ◌<◌, length, max, arith, refl, sym, ap, subst, ◌∙◌, slice_index_or, slice_set}
+use Rattle.verifier.proofs.Prelude.{Table, AreStatesCounted, awaited, occupied, size_of}
 use Rattle.verifier.specs.declared.waiting.Waiting.TheVariants.{Nothing, Known}
-use Rattle.verifier.specs.SecondPass.{Table, AreStatesCounted, awaited, occupied, size_of}
 use Rattle.verifier.proofs.Counting.{counted_set}
 use Rattle.verifier.proofs.pending.Pending.put_first.Goals as goal
 

@@ -1,5 +1,5 @@
-use Rattle.std.proofs.Common.{◌≡◌, ◌≤◌, length, vec_capacity}
-use Rattle.verifier.specs.SecondPass.{awaited, states_in, StartsFrom}
+use Rattle.bpf_model.proofs.Prelude.{◌≡◌, ◌≤◌, length, vec_capacity}
+use Rattle.verifier.proofs.Prelude.{awaited, states_in, StartsFrom}
 use Rattle.verifier.proofs.pending.Pending.start.Given as goal
 
 abbrev pub invariant-loop : goal.invariant-loop

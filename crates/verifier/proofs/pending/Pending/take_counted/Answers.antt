@@ -1,9 +1,7 @@
-use Rattle.std.proofs.Common.{◌≡◌, ◌+◌, ◌<◌, ◌≤◌, length, arith, subst, sym, ◌∙◌}
-use Rattle.std.specs.Prelude.{slice_index_or, max}
-use Rattle.std.proofs.Math.Nat.{le-max_left, le-max_right, max-le}
-use Rattle.std.proofs.lemmas.List.{get_or_default}
+use Rattle.bpf_model.proofs.Prelude.{◌≡◌, ◌+◌, ◌<◌, ◌≤◌, length, arith, subst, sym, ◌∙◌, slice_index_or, max, le-max_left, le-max_right, max-le}
+use Rattle.bpf_model.proofs.Prelude.{get_or_default}
+use Rattle.verifier.proofs.Prelude.{Table, size_of}
 use Rattle.verifier.specs.declared.waiting.Waiting.TheVariants.{Nothing}
-use Rattle.verifier.specs.SecondPass.{Table, size_of}
 use Rattle.verifier.proofs.Counting.{room_for_one}
 use Rattle.verifier.proofs.pending.Pending.take_counted.Goals as goal
 

@@ -1,4 +1,4 @@
-use Rattle.std.proofs.Common.{arith, refl}
+use Rattle.bpf_model.proofs.Prelude.{arith, refl}
 use Rattle.worker_pool.proofs.Batches.{more_batches}
 use Rattle.worker_pool.proofs.batch.Batch.all_of.Goals as goal
 

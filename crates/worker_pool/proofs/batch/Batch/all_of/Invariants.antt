@@ -1,4 +1,4 @@
-use Rattle.std.proofs.Common.{◌+◌, ◌≤◌, ◌-◌, length}
+use Rattle.bpf_model.proofs.Prelude.{◌+◌, ◌≤◌, ◌-◌, length}
 use Rattle.worker_pool.specs.Batches.{AreBatches}
 use Rattle.worker_pool.proofs.batch.Batch.all_of.Given as goal
 

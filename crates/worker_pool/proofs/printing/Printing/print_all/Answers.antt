@@ -1,7 +1,4 @@
-use Rattle.std.proofs.Common.{ap, ◌∙◌, sym, List, ℕ}
-use Rattle.std.specs.Prelude.{Option, slice_get}
-use Rattle.std.specs.Global.{Vec}
-use Rattle.std.proofs.lemmas.Result.{err_from_is_err_and}
+use Rattle.bpf_model.proofs.Prelude.{ap, ◌∙◌, sym, List, ℕ, Option, slice_get, Vec, err_from_is_err_and}
 use Rattle.worker_pool.proofs.Batches.{batches_up, flushed}
 use Rattle.worker_pool.proofs.printing.Printing.print_all.Goals as goal
 

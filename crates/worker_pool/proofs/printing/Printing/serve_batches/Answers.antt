@@ -1,6 +1,5 @@
-use Rattle.std.proofs.Common.{sym}
+use Rattle.bpf_model.proofs.Prelude.{sym, IfOk-weaker}
 use Rattle.std.proofs.lemmas.List.Elements.{length_all_zip}
-use Rattle.std.proofs.lemmas.Result.{IfOk-weaker}
 use Rattle.worker_pool.specs.Trails.{IsLater}
 use Rattle.worker_pool.proofs.printing.Printing.serve_batches.Goals as goal
 

@@ -1,10 +1,6 @@
-use Rattle.std.proofs.Common.{◌≡◌, ℕ, ◌+◌, ◌∷◌, List, arith, ap, drop, subst, sym, ◌∙◌}
-use Rattle.std.specs.Prelude.{Option, Some, slice_get, suc}
-use Rattle.std.specs.Global.{Vec}
-use Rattle.std.specs.Io.KnownBytes.{Appends}
+use Rattle.bpf_model.proofs.Prelude.{◌≡◌, ℕ, ◌+◌, ◌∷◌, List, arith, ap, drop, subst, sym, ◌∙◌, Option, Some, slice_get, suc, Vec, Appends, slice_get-get_or}
+use Rattle.bpf_model.proofs.Prelude.{drop-next, get-below}
 use Rattle.std.proofs.Math.ListN.{drop_of_length-le}
-use Rattle.std.proofs.lemmas.Option.{slice_get-get_or}
-use Rattle.bpf_model.proofs.Lists.{drop-next, get-below}
 use Rattle.worker_pool.specs.declared.batch.Batch.{Batch}
 use Rattle.worker_pool.specs.Batches.{AreBatches, HasWritten}
 use Rattle.worker_pool.proofs.Batches.{batches_up, more_written}

@@ -1,5 +1,4 @@
-use Rattle.std.proofs.Common.{ℕ, List, drop}
-use Rattle.std.specs.Prelude.{Option}
+use Rattle.bpf_model.proofs.Prelude.{ℕ, List, drop, Option}
 use Rattle.worker_pool.specs.Batches.{AreBatches, HasWritten}
 use Rattle.worker_pool.proofs.printing.Printing.write_texts.Given as goal
 

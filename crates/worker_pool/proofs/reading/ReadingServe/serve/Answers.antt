@@ -1,8 +1,5 @@
-use Rattle.std.proofs.Common.{rules, ◌≡◌, ℕ, inl, inr, refl, sym, ap, subst, ◌∙◌, [], length, Some}
-use Rattle.std.specs.Prelude.{Option, slice_get}
-use Rattle.std.proofs.lemmas.Bool.{false≢true}
-use Rattle.std.proofs.lemmas.Option.{slice_get_read}
-use Rattle.verifier.specs.Checked.{Checked}
+use Rattle.bpf_model.proofs.Prelude.{rules, ◌≡◌, ℕ, inl, inr, refl, sym, ap, subst, ◌∙◌, [], length, Some, Option, slice_get, false≢true, slice_get_read}
+use Rattle.verifier.proofs.Prelude.{Checked}
 use Rattle.worker_pool.specs.declared.job.Outcome.TheVariants.{Exit}
 use Rattle.worker_pool.specs.TableJobs.{IsTableOutcome}
 use Rattle.worker_pool.proofs.TableJobs.{gains_nothing}

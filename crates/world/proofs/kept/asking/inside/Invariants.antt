@@ -1,5 +1,4 @@
-use Rattle.std.proofs.Common.{◌≡◌, ◌≤◌, take}
-use Rattle.std.specs.Prelude.{count_by}
+use Rattle.bpf_model.proofs.Prelude.{◌≡◌, ◌≤◌, take, count_by}
 use Rattle.world.specs.Keeping.{is_run_inside}
 use Rattle.world.proofs.kept.asking.inside.Given as goal
 

@@ -1,4 +1,4 @@
-use Rattle.std.proofs.lemmas.Slice.Eq.{slice_eq-Decides}
+use Rattle.bpf_model.proofs.Prelude.{slice_eq-Decides}
 use Rattle.world.proofs.Same.{insns-decides}
 use Rattle.world.proofs.kept.asking.is_same_code.Goals as goal
 

@@ -1,5 +1,4 @@
-use Rattle.std.proofs.Common.{◌≡◌, ◌≤◌, take}
-use Rattle.std.specs.Prelude.{count_by, is_some}
+use Rattle.bpf_model.proofs.Prelude.{◌≡◌, ◌≤◌, take, count_by, is_some}
 use Rattle.world.proofs.kept.asking.occupied.Given as goal
 
 abbrev pub invariant-loop-run : goal.invariant-loop-run

@@ -1,4 +1,4 @@
-use Rattle.std.proofs.Common.{◌≡◌, take}
+use Rattle.bpf_model.proofs.Prelude.{◌≡◌, take}
 use Rattle.world.proofs.kept.copying.copy_of_programs.Given as goal
 
 abbrev pub invariant-loop-loaded : goal.invariant-loop-loaded

@@ -1,4 +1,4 @@
-use Rattle.std.proofs.Common.{◌≡◌, take}
+use Rattle.bpf_model.proofs.Prelude.{◌≡◌, take}
 use Rattle.world.proofs.kept.copying.copy_of_runs.Given as goal
 
 abbrev pub invariant-loop-slot : goal.invariant-loop-slot

@@ -1,5 +1,4 @@
-use Rattle.std.proofs.Common.{rules, ap, map, ◌++◌, ◌∷◌, [], ◌∙◌, sym}
-use Rattle.std.specs.Prelude.{slice_get}
+use Rattle.bpf_model.proofs.Prelude.{rules, ap, map, ◌++◌, ◌∷◌, [], ◌∙◌, sym, slice_get}
 use Rattle.world.proofs.InOrder.{one_more, range-more}
 use Rattle.world.proofs.kept.loaded.all_numbers.Goals as goal
 

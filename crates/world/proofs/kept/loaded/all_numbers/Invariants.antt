@@ -1,6 +1,4 @@
-use Rattle.std.proofs.Common.{◌≡◌, length, map, take}
-use Rattle.std.specs.List.{range_with_len}
-use Rattle.std.specs.Prelude.{Some, slice_get}
+use Rattle.bpf_model.proofs.Prelude.{◌≡◌, length, map, take, range_with_len, Some, slice_get}
 use Rattle.world.proofs.kept.loaded.all_numbers.Given as goal
 
 abbrev pub invariant-loop-number : goal.invariant-loop-number

@@ -1,5 +1,4 @@
-use Rattle.std.proofs.Common.{◌≡◌, None}
-use Rattle.std.specs.Prelude.{replicate}
+use Rattle.bpf_model.proofs.Prelude.{◌≡◌, None, replicate}
 use Rattle.world.proofs.kept.parts.free_slots.Given as goal
 
 abbrev pub invariant-loop : goal.invariant-loop

@@ -1,7 +1,7 @@
-use Rattle.std.proofs.Common.{◌∙◌, ℕ, sym, ap, subst, List}
+use Rattle.bpf_model.proofs.Prelude.{◌∙◌, ℕ, sym, ap, subst, List}
+use Rattle.world.proofs.Prelude.{CanServe, IsReply, maps_after}
 use Rattle.machine.specs.declared.request.Local.TheVariants as answers
 use Rattle.machine.proofs.Standing.{step_there}
-use Rattle.world.specs.Serving.{CanServe, IsReply, maps_after}
 use Rattle.world.proofs.Stepping.{moved_taken, exited_taken, can_serve, can_deep, can_give, served_taken}
 use Rattle.world.proofs.kept.step.step_run.Goals as goal
 

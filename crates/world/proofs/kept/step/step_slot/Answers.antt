@@ -1,10 +1,8 @@
-use Rattle.std.proofs.Common.{◌≡◌, ◌∙◌, ℕ, List, Some, sym, ap, subst, get_or}
-use Rattle.std.specs.Prelude.{slice_get, slice_set}
-use Rattle.std.proofs.lemmas.Option.{none-some, same_Some, get_or_from_slice_get}
-use Rattle.machine.specs.RunWords.{RunWords}
+use Rattle.bpf_model.proofs.Prelude.{◌≡◌, ◌∙◌, ℕ, List, Some, sym, ap, subst, get_or, slice_get, slice_set, none-some, same_Some, get_or_from_slice_get}
+use Rattle.machine.proofs.Prelude.{RunWords}
+use Rattle.world.proofs.Prelude.{brief_answer, HasTaken}
 use Rattle.world.specs.declared.kept.loaded.Loaded.{Loaded}
-use Rattle.world.specs.Brief.{brief_answer}
-use Rattle.world.specs.Stepping.{HasTaken, MayTake}
+use Rattle.world.specs.Stepping.{MayTake}
 use Rattle.world.proofs.kept.step.step_slot.Goals as goal
 
 -- what stands at an index is what was found there

@@ -1,10 +1,6 @@
-use Rattle.std.proofs.Common.{◌≡◌, ◌∙◌, ℕ, List, Some, sym, ap, subst, get_or}
-use Rattle.std.specs.Prelude.{slice_get, slice_set}
-use Rattle.std.proofs.lemmas.Option.{none-some, same_Some, get_or_from_slice_get}
-use Rattle.verifier.specs.Verdict.{IsJustified}
-use Rattle.machine.specs.RunWords.{RunWords, IsAt}
-use Rattle.machine.specs.Standing.{IsValidRun}
-use Rattle.machine.specs.Walks.{IsBefore, WalksOn}
+use Rattle.bpf_model.proofs.Prelude.{◌≡◌, ◌∙◌, ℕ, List, Some, sym, ap, subst, get_or, slice_get, slice_set, none-some, same_Some, get_or_from_slice_get}
+use Rattle.machine.proofs.Prelude.{RunWords, IsAt, IsValidRun, IsBefore, WalksOn}
+use Rattle.verifier.proofs.Prelude.{IsJustified}
 use Rattle.world.specs.declared.kept.loaded.Loaded.{Loaded}
 use Rattle.world.proofs.kept.walk.walk_slot.Goals as goal
 

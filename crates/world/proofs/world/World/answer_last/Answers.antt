@@ -1,8 +1,6 @@
-use Rattle.std.proofs.Common.{◌≡◌, ◌∙◌, ◌∷◌, [], ◌++◌, ◌+◌, ◌-◌, List, ℕ, length, slice_set, ap, arith}
-use Rattle.std.specs.Prelude.{vec_len}
+use Rattle.bpf_model.proofs.Prelude.{◌≡◌, ◌∙◌, ◌∷◌, [], ◌++◌, ◌+◌, ◌-◌, List, ℕ, length, slice_set, ap, arith, vec_len}
+use Rattle.model_laws.proofs.Prelude.{Answer, Moved}
 use Rattle.std.proofs.lemmas.List.{set_at}
-use Rattle.bpf_model.specs.declared.event.Answer.{Answer}
-use Rattle.bpf_model.specs.declared.event.Answer.TheVariants.{Moved}
 use Rattle.world.proofs.world.World.answer_last.Goals as goal
 
 pub returns-clause-items : goal.returns-clause-items

@@ -1,6 +1,5 @@
-use Rattle.std.proofs.Common.{◌≡◌, ◌<◌, ◌^◌, rules}
-use Rattle.bpf_model.specs.declared.event.Event.TheVariants.{Drop}
-use Rattle.bpf_model.specs.Real.{IsReal}
+use Rattle.bpf_model.proofs.Prelude.{◌≡◌, ◌<◌, ◌^◌, rules, IsReal}
+use Rattle.model_laws.proofs.Prelude.{Drop}
 use Rattle.world.proofs.Answering.{Reacts, stays_world}
 use Rattle.world.proofs.world.World.drop_run.Goals as goal
 

@@ -1,7 +1,5 @@
-use Rattle.std.proofs.Common.{ℕ, subst}
-use Rattle.std.specs.Prelude.{IfNone}
-use Rattle.bpf_model.specs.View.{WorldView}
-use Rattle.world_laws.specs.Exited.{HasExited}
+use Rattle.bpf_model.proofs.Prelude.{ℕ, subst, IfNone, WorldView}
+use Rattle.world_laws.proofs.Prelude.{HasExited}
 use Rattle.world_laws.proofs.Asked.{asked_may, asked_alone}
 use Rattle.world.proofs.world.World.exit_of.Goals as goal
 

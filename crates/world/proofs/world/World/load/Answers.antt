@@ -1,12 +1,7 @@
-use Rattle.std.proofs.Common.{ℕ, refl, sym, subst, Result}
-use Rattle.std.specs.Prelude.{OnOk}
-use Rattle.bpf_model.specs.Machine.{Machine}
-use Rattle.bpf_model.specs.Refines.{TracksSchedule, Tracks}
-use Rattle.bpf_model.specs.Schedule.{Schedule}
-use Rattle.world_laws.specs.Loads.{loads, schedule_loads}
-use Rattle.world_laws.specs.Invariant.{IsWorld}
+use Rattle.bpf_model.proofs.Prelude.{ℕ, refl, sym, subst, Result, OnOk, Machine, TracksSchedule, Tracks, Schedule}
+use Rattle.world.proofs.Prelude.{program_of}
+use Rattle.world_laws.proofs.Prelude.{loads, schedule_loads, IsWorld}
 use Rattle.world.specs.declared.fault.WorldFault.{WorldFault}
-use Rattle.world.specs.Programs.{program_of}
 use Rattle.world.proofs.Adding.{added, added-is-world, added-schedule, added-machine}
 use Rattle.world.proofs.world.World.load.Goals as goal
 use Rattle.world.proofs.world.World.load.Goals.{in-Ok, in-Err}

@@ -1,13 +1,9 @@
-use Rattle.std.proofs.Common.{◌≡◌, ℕ, ◌≤◌, List, Some, refl, subst, arith, rules, length}
-use Rattle.std.specs.Prelude.{slice_get, vec_len}
-use Rattle.bpf_model.specs.declared.limits.TheConstants.{MAX_PROGRAMS}
-use Rattle.bpf_model.specs.View.{shapes_of_maps}
-use Rattle.bpf_model.specs.Schedule.{start_schedule}
-use Rattle.plan_laws.specs.Verified.{IsVerified}
-use Rattle.world_laws.specs.Typed.{IsRealProgram}
+use Rattle.bpf_model.proofs.Prelude.{◌≡◌, ℕ, ◌≤◌, List, Some, refl, subst, arith, rules, length, slice_get, vec_len, shapes_of_maps, start_schedule}
+use Rattle.model_laws.proofs.Prelude.{MAX_PROGRAMS}
+use Rattle.plan_laws.proofs.Prelude.{IsVerified}
+use Rattle.world.proofs.Prelude.{program_of, programs_in, AreProgramsBound}
+use Rattle.world_laws.proofs.Prelude.{IsRealProgram}
 use Rattle.world.specs.declared.kept.loaded.Loaded.{Loaded}
-use Rattle.world.specs.Programs.{program_of, programs_in}
-use Rattle.world.specs.BoundTo.{AreProgramsBound}
 use Rattle.world.proofs.Starting.{IsSafe, made-is-world, made-tracks-start}
 use Rattle.world.proofs.world.World.new.Goals as goal
 

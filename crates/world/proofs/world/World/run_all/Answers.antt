@@ -1,9 +1,6 @@
-use Rattle.std.proofs.Common.{◌≡◌, ◌≤◌, ◌+◌, ◌++◌, ◌∷◌, ◌∙◌, [], List, refl, ap, sym, arith, length, take}
-use Rattle.std.specs.Prelude.{vec_len, vec_capacity}
-use Rattle.std.proofs.lemmas.List.{take_more, take_all}
-use Rattle.bpf_model.specs.declared.event.Event.{Event}
-use Rattle.bpf_model.specs.declared.event.Answer.{Answer}
-use Rattle.world_laws.specs.Reacting.{full_reaction, full_reactions}
+use Rattle.bpf_model.proofs.Prelude.{◌≡◌, ◌≤◌, ◌+◌, ◌++◌, ◌∷◌, ◌∙◌, [], List, refl, ap, sym, arith, length, take, vec_len, vec_capacity, take_more, take_all}
+use Rattle.model_laws.proofs.Prelude.{Event, Answer}
+use Rattle.world_laws.proofs.Prelude.{full_reaction, full_reactions}
 use Rattle.world_laws.proofs.Appending.{answers_grow, view_grows}
 use Rattle.world.proofs.Answering.{AllReact, all_scheduled, all_machine, all_never_stuck, all_exit, all_reclaimed}
 use Rattle.world.proofs.world.World.run_all.Goals as goal

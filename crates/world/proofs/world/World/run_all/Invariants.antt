@@ -1,6 +1,5 @@
-use Rattle.std.proofs.Common.{◌≡◌, ◌≤◌, length, take}
-use Rattle.std.specs.Prelude.{vec_len, vec_capacity}
-use Rattle.world_laws.specs.Reacting.{full_reactions}
+use Rattle.bpf_model.proofs.Prelude.{◌≡◌, ◌≤◌, length, take, vec_len, vec_capacity}
+use Rattle.world_laws.proofs.Prelude.{full_reactions}
 use Rattle.world.proofs.world.World.run_all.Given as goal
 
 -- the answers so far, and the world after them, are those of the reactions; there is room for the other answers

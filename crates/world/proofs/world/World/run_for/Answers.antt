@@ -1,5 +1,5 @@
-use Rattle.std.proofs.Common.{◌+◌, ◌-◌, ◌<◌, arith, rules}
-use Rattle.world.specs.Stretches.{WouldMove, not_yet}
+use Rattle.bpf_model.proofs.Prelude.{◌+◌, ◌-◌, ◌<◌, arith, rules}
+use Rattle.world.proofs.Prelude.{WouldMove, not_yet}
 use Rattle.world.proofs.OwnMoves.{moves-behind, one-behind}
 use Rattle.world.proofs.world.World.run_for.Goals as goal
 

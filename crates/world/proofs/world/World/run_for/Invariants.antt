@@ -1,5 +1,5 @@
-use Rattle.std.proofs.Common.{◌-◌, ◌≤◌}
-use Rattle.world.specs.Stretches.{MakesMoves}
+use Rattle.bpf_model.proofs.Prelude.{◌-◌, ◌≤◌}
+use Rattle.world.proofs.Prelude.{MakesMoves}
 use Rattle.world.proofs.world.World.run_for.Given as goal
 
 -- so many moves, and no more than there may be, have led to this world

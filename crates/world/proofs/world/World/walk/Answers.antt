@@ -1,9 +1,6 @@
-use Rattle.std.proofs.Common.{◌≡◌, ◌<◌, ◌^◌, ℕ, Option, Some, None, subst, sym, rules}
-use Rattle.std.specs.Prelude.{IfNone, IfSome}
-use Rattle.bpf_model.specs.View.{WorldView}
-use Rattle.world_laws.specs.Invariant.{IsWorld}
-use Rattle.machine.specs.declared.walk.Walk.{Walk}
-use Rattle.world.specs.Stretches.{MakesMoves}
+use Rattle.bpf_model.proofs.Prelude.{◌≡◌, ◌<◌, ◌^◌, ℕ, Option, Some, None, subst, sym, rules, IfNone, IfSome, WorldView}
+use Rattle.world.proofs.Prelude.{Walk, MakesMoves}
+use Rattle.world_laws.proofs.Prelude.{IsWorld}
 use Rattle.world.proofs.OwnMoves.{moves-to-world}
 use Rattle.world.proofs.world.World.walk.Goals as goal
 

@@ -1,4 +1,4 @@
-use Rattle.std.proofs.Common.{◌∙◌, ap}
+use Rattle.bpf_model.proofs.Prelude.{◌∙◌, ap}
 use Rattle.program_files.specs.Stages.{words_left}
 use Rattle.program_files.proofs.Cuts.{word_cut}
 use Rattle.program_files.proofs.loader.words.Words.word.Goals as goal

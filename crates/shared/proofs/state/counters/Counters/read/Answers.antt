@@ -1,4 +1,4 @@
-use Rattle.std.proofs.Common.{rules}
+use Rattle.bpf_model.proofs.Prelude.{rules}
 use Rattle.shared.proofs.Meters.{reads}
 use Rattle.shared.proofs.state.counters.Counters.read.Goals as goal
 

@@ -1,6 +1,5 @@
-use Rattle.std.proofs.Common.{subst, arith}
-use Rattle.table_words.specs.declared.view.TableShape.{TableShape}
-use Rattle.map_table.specs.Held.{IsSized}
+use Rattle.bpf_model.proofs.Prelude.{subst, arith}
+use Rattle.map_table.proofs.Prelude.{TableShape, IsSized}
 use Rattle.shared_runs.proofs.MapServing.{in_own_value}
 use Rattle.shared_runs.proofs.maps.running.PlacedServesRuns.load.Goals as goal
 

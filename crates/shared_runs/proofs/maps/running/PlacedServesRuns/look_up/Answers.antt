@@ -1,4 +1,4 @@
-use Rattle.std.proofs.Common.{rules, ◌≡◌, [], ◌∷◌, length, arith}
+use Rattle.bpf_model.proofs.Prelude.{rules, ◌≡◌, [], ◌∷◌, length, arith}
 use Rattle.shared_runs.proofs.KeyWords.{one-word}
 use Rattle.shared_runs.proofs.maps.running.PlacedServesRuns.look_up.Goals as goal
 

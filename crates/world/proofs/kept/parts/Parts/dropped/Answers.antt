@@ -1,6 +1,5 @@
-use Rattle.std.proofs.Common.{◌∙◌, None, ap, sym}
-use Rattle.std.specs.Prelude.{slice_set}
-use Rattle.model_laws.specs.Reactions.{drop_by, with_run}
+use Rattle.bpf_model.proofs.Prelude.{◌∙◌, None, ap, sym, slice_set}
+use Rattle.model_laws.proofs.Prelude.{drop_by, with_run}
 use Rattle.world.proofs.Runs.{dropped-kept, dropped-view}
 use Rattle.world.proofs.SlotFlags.{flags-set}
 use Rattle.world.proofs.kept.parts.Parts.dropped.Goals as goal

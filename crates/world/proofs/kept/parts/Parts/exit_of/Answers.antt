@@ -1,9 +1,7 @@
-use Rattle.std.proofs.Common.{◌≡◌, ◌∙◌, ℕ, List, Some, None, sym, ap, subst}
-use Rattle.std.specs.Prelude.{slice_get, IfNone}
-use Rattle.std.proofs.lemmas.Bool.{false≢true}
-use Rattle.world_laws.specs.Exited.{HasExited}
+use Rattle.bpf_model.proofs.Prelude.{◌≡◌, ◌∙◌, ℕ, List, Some, None, sym, ap, subst, slice_get, IfNone, false≢true}
+use Rattle.world.proofs.Prelude.{HasNoRun}
+use Rattle.world_laws.proofs.Prelude.{HasExited}
 use Rattle.world.specs.declared.kept.loaded.Loaded.{Loaded}
-use Rattle.world.specs.Keeping.{HasNoRun}
 use Rattle.world.proofs.Slots.{Runs}
 use Rattle.world.proofs.Exits.{exits-nowhere, exits-unloaded, exits-other, exits-some, exits-none}
 use Rattle.world.proofs.kept.parts.Parts.exit_of.Goals as goal

@@ -1,8 +1,6 @@
-use Rattle.std.proofs.Common.{List, sym, subst}
-use Rattle.bpf_model.specs.View.{WorldView, shapes_of, shapes_of_maps}
+use Rattle.bpf_model.proofs.Prelude.{List, sym, subst, WorldView, shapes_of, shapes_of_maps}
+use Rattle.world.proofs.Prelude.{IsBound, ArePartsKept}
 use Rattle.world.specs.declared.kept.loaded.Loaded.{Loaded}
-use Rattle.world.specs.BoundTo.{IsBound}
-use Rattle.world.specs.Keeping.{ArePartsKept}
 use Rattle.world.proofs.Adding.{more-kept}
 use Rattle.world.proofs.kept.parts.Parts.load.Goals as goal
 

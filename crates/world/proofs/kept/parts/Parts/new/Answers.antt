@@ -1,7 +1,6 @@
-use Rattle.std.proofs.Common.{◌∙◌, sym, ap}
-use Rattle.std.specs.Prelude.{None, map}
-use Rattle.bpf_model.specs.declared.limits.TheConstants.{MAX_RUNS}
-use Rattle.world.specs.Keeping.{flag_of}
+use Rattle.bpf_model.proofs.Prelude.{◌∙◌, sym, ap, None, map}
+use Rattle.model_laws.proofs.Prelude.{MAX_RUNS}
+use Rattle.world.proofs.Prelude.{flag_of}
 use Rattle.world.proofs.Runs.{fresh-kept, map-replicate}
 use Rattle.world.proofs.kept.parts.Parts.new.Goals as goal
 

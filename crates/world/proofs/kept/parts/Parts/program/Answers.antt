@@ -1,8 +1,6 @@
-use Rattle.std.proofs.Common.{◌∙◌, List, ap, subst}
-use Rattle.std.specs.Prelude.{slice_get, IfSome}
-use Rattle.bpf_model.specs.View.{WorldView, shapes_of, shapes_of_maps}
+use Rattle.bpf_model.proofs.Prelude.{◌∙◌, List, ap, subst, slice_get, IfSome, WorldView, shapes_of, shapes_of_maps}
+use Rattle.world.proofs.Prelude.{IsBound}
 use Rattle.world.specs.declared.kept.loaded.Loaded.{Loaded}
-use Rattle.world.specs.BoundTo.{IsBound}
 use Rattle.world.proofs.Given.{program-bound}
 use Rattle.world.proofs.kept.parts.Parts.program.Goals as goal
 

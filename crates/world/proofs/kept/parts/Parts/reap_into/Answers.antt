@@ -1,5 +1,5 @@
+use Rattle.world.proofs.Prelude.{world_of}
 use Rattle.world.proofs.ShapesKept.{bound_reaped}
-use Rattle.world.specs.Keeping.{world_of}
 use Rattle.world.proofs.kept.parts.Parts.reap_into.Goals as goal
 
 pub invariant_of-self-in-Some : goal.invariant_of-self-in-Some

@@ -1,5 +1,5 @@
-use Rattle.std.proofs.Common.{subst}
-use Rattle.world.specs.Keeping.{HasNoRun}
+use Rattle.bpf_model.proofs.Prelude.{subst}
+use Rattle.world.proofs.Prelude.{HasNoRun}
 use Rattle.world.proofs.Slots.{Runs}
 use Rattle.world.proofs.Exits.{none-pass, shows-nothing}
 use Rattle.world.proofs.kept.parts.Parts.run.Goals as goal

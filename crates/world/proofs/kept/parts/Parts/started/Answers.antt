@@ -1,10 +1,7 @@
-use Rattle.std.proofs.Common.{◌≡◌, ◌∙◌, List, Some, None, sym, ap, length}
-use Rattle.std.specs.Prelude.{slice_get, map}
-use Rattle.bpf_model.specs.declared.event.Answer.TheVariants.{Started}
-use Rattle.bpf_model.specs.Machine.{lowest_free}
-use Rattle.model_laws.specs.Reactions.{with_run, fresh_view}
+use Rattle.bpf_model.proofs.Prelude.{◌≡◌, ◌∙◌, List, Some, None, sym, ap, length, slice_get, map, lowest_free}
+use Rattle.model_laws.proofs.Prelude.{Started, with_run, fresh_view}
+use Rattle.world.proofs.Prelude.{view_of}
 use Rattle.world.specs.declared.kept.loaded.Loaded.{Loaded}
-use Rattle.world.specs.Keeping.{view_of}
 use Rattle.world.proofs.Runs.{started-kept, started-view, started}
 use Rattle.world.proofs.SlotFlags.{flags-set}
 use Rattle.world.proofs.kept.parts.Parts.started.Goals as goal

@@ -1,17 +1,10 @@
-use Rattle.std.proofs.Common.{◌≡◌, ◌∙◌, ℕ, List, sym, ap, subst}
-use Rattle.std.specs.Prelude.{None, map, slice_get}
-use Rattle.bpf_model.specs.declared.event.Answer.{Answer}
-use Rattle.bpf_model.specs.View.{WorldView}
-use Rattle.model_laws.specs.Matching.{Matches}
-use Rattle.model_laws.specs.Reactions.{step_refused}
-use Rattle.world_laws.specs.Reacting.{word_step}
-use Rattle.world_laws.specs.Typed.{IsSound}
-use Rattle.world.specs.Brief.{brief_answer}
-use Rattle.world.specs.Keeping.{flag_of, world_of}
+use Rattle.bpf_model.proofs.Prelude.{◌≡◌, ◌∙◌, ℕ, List, sym, ap, subst, None, map, slice_get, WorldView, option_flatten}
+use Rattle.model_laws.proofs.Prelude.{Answer, Matches, step_refused}
+use Rattle.world.proofs.Prelude.{brief_answer, flag_of, world_of}
+use Rattle.world_laws.proofs.Prelude.{word_step, IsSound}
 use Rattle.world.proofs.SlotFlags.{flags-stay}
 use Rattle.world.proofs.Stepping.{is_going, gone_kept, gone_is}
 use Rattle.world.proofs.kept.parts.Parts.take_step.Goals as goal
-use Rattle.std.specs.Option.{option_flatten}
 
 pub step_slot-requires : goal.step_slot-requires
 step_slot-requires c =

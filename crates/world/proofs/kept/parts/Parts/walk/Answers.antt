@@ -1,12 +1,8 @@
-use Rattle.std.proofs.Common.{◌≡◌, ◌∙◌, ℕ, ◌<◌, ◌^◌, List, Option, Some, None, true, false, refl, sym, ap, subst, rules}
-use Rattle.std.specs.Prelude.{is_some, map, slice_get}
-use Rattle.std.proofs.lemmas.Option.{same_Some}
-use Rattle.bpf_model.specs.View.{WorldView}
-use Rattle.world_laws.specs.Invariant.{IsWorld}
-use Rattle.machine.specs.RunWords.{RunWords}
-use Rattle.world.specs.Keeping.{flag_of}
-use Rattle.world.specs.Serving.{IsFlagged}
-use Rattle.world.specs.Stretches.{MakesMoves, WouldBeRefused}
+use Rattle.bpf_model.proofs.Prelude.{◌≡◌, ◌∙◌, ℕ, ◌<◌, ◌^◌, List, Option, Some, None, true, false, refl, sym, ap, subst, rules, is_some, map, slice_get}
+use Rattle.bpf_model.proofs.Prelude.{same_Some, WorldView}
+use Rattle.machine.proofs.Prelude.{RunWords}
+use Rattle.world.proofs.Prelude.{flag_of, IsFlagged, MakesMoves, WouldBeRefused}
+use Rattle.world_laws.proofs.Prelude.{IsWorld}
 use Rattle.world.proofs.NextSteps.{ended, flagged-run, no-run, standing, whole}
 use Rattle.world.proofs.SlotFlags.{flags-stay}
 use Rattle.world.proofs.OwnMoves.{new-world, walk-ahead, walk-kept, walk-moves}
