@@ -1,5 +1,5 @@
 //! Makes a table, its readers' seats and its writer.
-ghost use Rattle.std.specs.Prelude.{◌≡◌, ◌<◌, ◌≤◌, [], length, vec_capacity, IfOk, OnOk, All};
+ghost use Rattle.std.specs.Prelude.{◌≡◌, ◌+◌, ◌<◌, ◌≤◌, [], length, vec_capacity, IfOk, OnOk, All};
 ghost use Rattle.std.specs.List.{range_with_len};
 ghost use Rattle.map_table.specs.Law.{writer_after};
 ghost use Rattle.map_table.specs.Held.{AreInOrder, IsReady, IsNew, IsSized};
@@ -48,8 +48,8 @@ fn deal_all(
 }
 
 impl MapTable {
-    /// A table of this shape, with a seat for each of its readers, and its writer. Nothing is linked. All memory is taken
-    /// here: an `Err` says that there was too little, and no later call takes any.
+    /// A table of this shape, with a seat for each of its readers, and its writer. Nothing is linked, and no seat is left to make.
+    /// All memory is taken here: an `Err` says that there was too little, and no later call takes any.
     pub fn new(alloc: Global, shape: TableShape) -> Result<(MapTable, Seats, Writer), AllocError>
         requires sized { IsSized shape }
         ensures shape { IfOk result (λ t. t.0.shape ≡ shape) }
@@ -59,6 +59,7 @@ impl MapTable {
         ensures order { IfOk result (λ t. AreInOrder t.1) }
         ensures writer { IfOk result (λ t. t.2.table ≡ t.0) }
         ensures new_writer { IfOk result (λ t. t.2.view.mine ≡ []) }
+        ensures seated { IfOk result (λ t. t.2.view.next ≡ shape.readers + 1) }
         ensures free { IfOk result (λ t. t.2.free ≡ range_with_len 0 shape.elements) }
         ensures unlinked { IfOk result (λ t. t.2.unlinked ≡ []) }
     {

@@ -434,8 +434,8 @@ impl Writer {
     }
 
     /// The seat of the next reader, or `None` where each reader has one. The reader begins with all that was done up to this call:
-    /// so each key that is linked now is found by its first lookup, and by each later one while the writer keeps the key (law
-    /// `kept_keys_are_found`). The writer looks once at the reader's section word.
+    /// so its lookups find each key that is linked now, for as long as the writer keeps that key (law `kept_keys_are_found`). The
+    /// writer looks once at the reader's section word.
     pub fn seat(&mut self, table: &MapTable) -> Option<ReadSeat>
         requires table { self.old.table ≡ table.now }
         ensures none { IsNone result ↔ (table.now.shape.readers < self.old.view.next) }

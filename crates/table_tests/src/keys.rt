@@ -264,3 +264,49 @@ pub fn two_seats<'a>(
     };
     Some((first, second))
 }
+
+/// Makes a seat, and tells whether its reader finds the one key that is linked, with its number, and no other.
+fn finds_from_its_seat_on(table: &MapTable, writer: &mut Writer) -> bool
+    requires table { writer.old.table ≡ table.now }
+    requires shape { table.now.shape ≡ SHAPE }
+    ensures table { writer.new.table ≡ table.now }
+{
+    let Some(mut seat) = writer.seat(table) else {
+        return false;
+    };
+    let found = [look_up(table, &mut seat, 5), look_up(table, &mut seat, 6)];
+    found == [Some(50), None]
+}
+
+/// How many seats there are to make.
+fn seats_left(table: &MapTable, writer: &Writer) -> usize
+    requires { writer.now.table ≡ table.now }
+{
+    writer.count_seats(table)
+}
+
+/// Of a table without seats each reader's is made once, finds what was linked before, and then there is none.
+fn makes_each_seat(table: &MapTable, writer: &mut Writer) -> Option<[usize; 3]>
+    requires table { writer.old.table ≡ table.now }
+    requires shape { table.now.shape ≡ SHAPE }
+{
+    let before = seats_left(table, writer);
+    writer.link(table, &[5, 7], &[50])?;
+    if !finds_from_its_seat_on(table, writer) {
+        return None;
+    }
+    let between = seats_left(table, writer);
+    if !finds_from_its_seat_on(table, writer) || writer.seat(table).is_some() {
+        return None;
+    }
+    Some([before, between, seats_left(table, writer)])
+}
+
+/// A table's seats are made later than the table and what is linked in it.
+#[test]
+fn seats_are_made_later(rt: HostRuntime) -> Result<(), Fail> {
+    let (table, mut writer) = MapTable::unseated(rt.alloc(), SHAPE)?;
+    let left = makes_each_seat(&table, &mut writer);
+    assert!(rt; left == Some([2, 1, 0]));
+    Ok(())
+}
