@@ -37,10 +37,6 @@ same_fault out first text (Ok t) f h e =
     let both : prepended first (Ok t) ≡ Err f = sym h ∙ fault in
     cc both
 
-pub nothing_before : (text : Text) → prepended [] text ≡ text
-nothing_before (Ok text) = refl
-nothing_before (Err f) = refl
-
 pub nothing_behind : (out : List ℕ) → prepended out (Ok []) ≡ Ok out
 nothing_behind out = ap (λ (t : List ℕ). Ok t) (append-nil out)
 

@@ -1,7 +1,7 @@
 -- The instructions that were decoded so far.
-use Rattle.bpf_model.proofs.Prelude.{◌≡◌, ℕ, ◌+◌, ◌≤◌, List, [], ◌∷◌, ◌++◌, length, Some, refl, sym, ap, ◌∙◌, subst, arith, inl, inr, slice_get}
+use Rattle.bpf_model.proofs.Prelude.{◌≡◌, ℕ, ◌+◌, List, [], ◌∷◌, ◌++◌, length, Some, sym, ap, ◌∙◌, subst, arith, inl, inr, slice_get}
 use Rattle.bpf_model.proofs.Prelude.{length-append, get-append_cases}
-use Rattle.classic_program.proofs.Prelude.{IsInsnOf, AreInsnsOf}
+use Rattle.classic_program.proofs.Prelude.{IsInsnOf}
 use Rattle.classic_program.specs.declared.insn.ClassicInsn.{ClassicInsn}
 use Rattle.classic_program.specs.declared.sock_filter.SockFilter.{SockFilter}
 
@@ -9,9 +9,6 @@ pub record IsDecoding (filter : List SockFilter) (program : List ClassicInsn) (i
   pub size : length program ≡ index
   pub each : (k : ℕ) (f : SockFilter) (i : ClassicInsn) → slice_get filter k ≡ Some f → slice_get program k ≡ Some i → IsInsnOf f i
   pub only : (k : ℕ) (f : SockFilter) (i j : ClassicInsn) → slice_get filter k ≡ Some f → slice_get program k ≡ Some i → IsInsnOf f j → j ≡ i
-
-pub decoding-start : (filter : List SockFilter) → IsDecoding filter [] 0
-decoding-start filter = record { size = refl; each = λ k f i e g. absurd (cc); only = λ k f i j e g h. absurd (cc) }
 
 pub decoding-next : (filter : List SockFilter) (program : List ClassicInsn) (index : ℕ) (f : SockFilter) (i : ClassicInsn) → IsDecoding filter program index
     → slice_get filter index ≡ Some f
@@ -33,7 +30,3 @@ decoding-next filter program index f i h here is only = record {
         only o (subst (λ (x : SockFilter). IsInsnOf x o) (sym f-is) other) ∙ a.1
   ];
 }
-
-pub decoding-all : (filter : List SockFilter) (program : List ClassicInsn) (index : ℕ) → IsDecoding filter program index → length filter ≤ index
-    → index ≤ length filter → AreInsnsOf filter program
-decoding-all filter program index h l m = record { size = let n = h.size in omega arith; each = h.each }

@@ -1,6 +1,6 @@
 -- The lines of a listing that are read so far.
-use Rattle.bpf_model.proofs.Prelude.{◌≡◌, ℕ, suc, ◌+◌, ◌<◌, ◌≤◌, List, [], ◌∷◌, ◌++◌, length, refl, sym, ap, ◌∙◌, subst, arith, inl, inr, map, slice_get}
-use Rattle.bpf_model.proofs.Prelude.{Option, Some, None, ◌⊎◌, append-nil, length-append, map-append, same_Some, get-below, get-map, get-append, heads, tails}
+use Rattle.bpf_model.proofs.Prelude.{◌≡◌, ℕ, suc, ◌+◌, ◌<◌, List, [], ◌∷◌, ◌++◌, length, refl, sym, ap, ◌∙◌, subst, arith, inl, inr, map, slice_get}
+use Rattle.bpf_model.proofs.Prelude.{Option, Some, None, length-append, map-append, same_Some, get-below, get-map, get-append, heads, tails}
 use Rattle.classic_program.proofs.Prelude.{filter_in, parts_at, IsListing}
 use Rattle.std.proofs.lemmas.List.{append_assoc}
 use Rattle.script_lines.specs.Words.{number_in}
@@ -13,9 +13,6 @@ pub record IsReadingLines (all left : List (List ℕ)) (filters : List SockFilte
   pub parts : all ≡ front ++ left
   pub each : map filter_in front ≡ map Some filters
   pub size : length filters ≡ index
-
-pub lines-start : (all : List (List ℕ)) → IsReadingLines all all [] 0
-lines-start all = record { front = []; parts = refl; each = refl; size = refl }
 
 pub length-map : {A B : Type 0} (f : A → B) (xs : List A) → length (map f xs) ≡ length xs
 length-map f [] = refl
@@ -36,23 +33,6 @@ lines-next all left more line filters new f index h e g n = record {
       ∙ sym (map-append Some filters (f ∷ [])) ∙ ap (map Some) (sym n);
   size = let m = length-append filters (f ∷ []) in let k = ap length n in let s = h.size in omega arith;
 }
-
--- the lines that a listing has
-least : (count : ℕ) (all : List (List ℕ)) (filters : List SockFilter) → HasLines count all filters → count ≤ length all
-least count all filters h = elim h.parts [
-  | inl e ↦ let s = same-size h.lines filters h.each in let n = ap length e in let c = h.count_is in omega arith
-  | inr e ↦ let s = same-size h.lines filters h.each in let n = ap length e ∙ length-append h.lines ([] ∷ []) in let c = h.count_is in omega arith
-]
-
--- a line that is missing
-pub none-missing : (count index : ℕ) (all left : List (List ℕ)) (items filters : List SockFilter) → IsReadingLines all left items index → left ≡ []
-    → index < count → HasLines count all filters → ⊥
-none-missing count index all left items filters h e l has =
-    let m = least count all filters has in
-    let s = same-size h.front items h.each in
-    let size = h.size in
-    let n = ap length (h.parts ∙ ap (λ (ps : List (List ℕ)). h.front ++ ps) e ∙ append-nil h.front) in
-    omega arith
 
 get-behind : (front : List (List ℕ)) (line : List ℕ) (more : List (List ℕ)) → slice_get (front ++ line ∷ more) (length front) ≡ Some line
 get-behind [] line more = refl
@@ -125,13 +105,6 @@ none-more count all left bytes items filters h e some has =
           let zero-length = ap length empty-bytes in
           absurd (omega arith)
     ]
-
-pub lines-all : (count : ℕ) (all left : List (List ℕ)) (items : List SockFilter) → IsReadingLines all left items count → (left ≡ []) ⊎ (left ≡ [] ∷ [])
-    → HasLines count all items
-lines-all count all left items h (inl e) =
-    record { lines = h.front; parts = inl (h.parts ∙ ap (λ (ps : List (List ℕ)). h.front ++ ps) e ∙ append-nil h.front); count_is = sym h.size; each = h.each }
-lines-all count all left items h (inr e) =
-    record { lines = h.front; parts = inr (h.parts ∙ ap (λ (ps : List (List ℕ)). h.front ++ ps) e); count_is = sym h.size; each = h.each }
 
 -- a listing's lines are those behind its first
 pub listing-lines : (text bytes head : List ℕ) (left : List (List ℕ)) (count : ℕ) (filters : List SockFilter) → bytes ≡ text → parts_at 10 bytes ≡ head ∷ left

@@ -5,7 +5,7 @@ use Rattle.bpf_model.proofs.Prelude.{slice_get-get_or, get-set_same, get-set_oth
 use Rattle.classic_program.proofs.Prelude.{IsSkip, Marks, AreMarks, skips_of, MaySkip, Reaches, reaches_first, reaches_next}
 use Rattle.classic_program.specs.declared.insn.ClassicInsn.{ClassicInsn}
 use Rattle.classic_program.specs.declared.insn.ClassicInsn.TheVariants as classic
-use Rattle.classic_program.specs.declared.paths.Skips.TheVariants.{Nowhere, One, Two}
+use Rattle.classic_program.specs.declared.paths.Skips.TheVariants.{One, Two}
 
 pub to-skip : (i : ClassicInsn) (s : ℕ) → MaySkip i s → IsSkip (skips_of i) s
 to-skip (classic.Load into datum) s h = h
@@ -40,9 +40,6 @@ set-kept old at k l e = elim (cases_eq k at) [
 
 set-only : (old : List Bool) (at k : ℕ) → slice_get (slice_set old at true) k ≡ Some true → (slice_get old k ≡ Some true) ⊎ (k ≡ at)
 set-only old at k e = elim (get-set_cases old at k true true e) [ inl h ↦ inr h.0 | inr h ↦ inl h.1 ]
-
-pub marks-none : (behind : ℕ) (old : List Bool) → Marks Nowhere behind old old
-marks-none behind old = record { size = refl; kept = λ k e. e; marked = λ s h. absurd h; only = λ k e. inl e }
 
 pub marks-one : (behind skip : ℕ) (old : List Bool) → behind + skip < length old → Marks (One skip) behind old (slice_set old (behind + skip) true)
 marks-one behind skip old l = record {

@@ -1,6 +1,5 @@
 -- Structs of eight bytes that are read one by one.
 use Rattle.bpf_model.proofs.Prelude.{◌≡◌, ℕ, zero, suc, ◌-◌, ◌/◌, ◌%◌, ◌<◌, ◌≤◌, List, [], ◌∷◌, ◌++◌, length, take, drop, refl, sym, ap, ◌∙◌, subst, arith}
-use Rattle.bpf_model.proofs.Prelude.{append-nil}
 use Rattle.std.proofs.Common.{length-drop}
 use Rattle.std.proofs.lemmas.List.{append_assoc}
 use Rattle.classic_program.specs.declared.sock_filter.SockFilter.{SockFilter}
@@ -32,8 +31,3 @@ reading-next bytes rest more filters new f h some f-is e g =
           append_assoc filters (filter_at rest ∷ []) (filters_from (length (drop 8 rest) / 8) (drop 8 rest)) ∙ sym
           (ap (λ (n : ℕ). filters ++ filters_from n rest) size) ∙ h.all;
     }))
-
-pub reading-all : (bytes rest : List ℕ) (filters : List SockFilter) → IsReading bytes rest filters → length rest ≡ 0 → filters ≡ filters_in bytes
-reading-all bytes rest filters h e =
-    let none : length rest / 8 ≡ 0 = omega arith in
-    sym (append-nil filters) ∙ sym (ap (λ (n : ℕ). filters ++ filters_from n rest) none) ∙ h.all

@@ -1,10 +1,6 @@
 -- Texts that begin with others.
-use Rattle.bpf_model.proofs.Prelude.{◌≡◌, ◌∙◌, List, ℕ, [], ◌++◌, sym, ap, append_assoc, Result, Ok, Err, OnErr}
-use Rattle.std.proofs.Common.{append-nil}
+use Rattle.bpf_model.proofs.Prelude.{◌≡◌, ◌∙◌, List, ℕ, ◌++◌, ap, append_assoc, Result, Ok, Err, OnErr}
 use Rattle.script_lines.specs.ReplyText.{GoesOn}
-
-pub nothing-more : (text : List ℕ) → GoesOn text text
-nothing-more text = ([], sym (append-nil text))
 
 -- what goes on behind a text that was added
 pub behind : (before mid after text : List ℕ) → mid ≡ before ++ text → GoesOn mid after → GoesOn before after

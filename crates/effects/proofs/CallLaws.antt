@@ -152,9 +152,6 @@ pub returned_above : (kind : Kind) (regs : ℕ → Kind) (r : ℕ) → 5 < r →
 returned_above kind regs r h = ap (λ t. if t then kind else if nat_le r 5 then Blank else regs r)
     (ne_eqb r 0 (λ q. absurd (omega (arith, q, h)))) ∙ ap (λ t. if t then Blank else regs r) (lt-leb r 5 h)
 
-pub call_others : (kind : Kind) (a b : AbsState) → AreAlike (after_call kind a) b → KeepsOwnNumbers a b
-call_others kind a b e r s h n = e.regs r ∙ (returned_above kind a.regs r h ∙ n)
-
 pub lock_others : (a b : AbsState) → AreAlike (after_lock a) b → KeepsOwnNumbers a b
 lock_others a b e r s h n = e.regs r ∙ (returned_above Blank a.regs r h ∙ n)
 

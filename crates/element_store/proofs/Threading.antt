@@ -22,10 +22,6 @@ walk-agree (suc n) f g None h = refl
 walk-agree (suc n) f g (Some i) h =
     ap (λ p. i ∷ walk n g p) (h i (times_first i (walk n f (f i)))) ∙ ap (λ ys. i ∷ ys) (walk-agree n f g (f i) (λ j l. h j (omega arith)))
 
-pub thread-none : (next : ℕ → Option ℕ) (o : Option ℕ) (xs : List ℕ) → IsThread next o xs → o ≡ None → xs ≡ []
-thread-none next o [] t e = refl
-thread-none next o (x ∷ xs) t e = absurd (none-some x (sym e ∙ t.0))
-
 pub thread-some : (next : ℕ → Option ℕ) (o : Option ℕ) (xs : List ℕ) (i : ℕ) → IsThread next o xs → o ≡ Some i →
     (ys : List ℕ) × (xs ≡ i ∷ ys) × IsThread next (next i) ys
 thread-some next o [] i t e = absurd (none-some i (sym t ∙ e))

@@ -13,7 +13,6 @@ use Rattle.hash_index.specs.Chains.{IsChain, IsCut, bucket_of}
 use Rattle.hash_index.proofs.Ordered.{absent_gone}
 use Rattle.hash_index.specs.Buckets.{slots_from, chained_slots, HeadsFit}
 use Rattle.hash_index.specs.Many.{chain_among, chains_apart, chain_having, slots-set}
-use Rattle.hash_index.proofs.Steps.{walk_none}
 
 pub home_chain : (heads : List (Option ℕ)) (a : ArenaState) (k : ℕ) (o : Option ℕ) → HeadsFit heads a → slice_get heads k ≡ Some o → IsChain a o
 home_chain heads a k o f h = record {
@@ -63,10 +62,6 @@ can_cut heads a k o slot f h at present = record {
       f.once j in omega arith;
   held = at_home heads a o slot f (ap (slice_get heads) (sym at) ∙ h) (times-get (key_at a.slots) (chained_slots heads a) (key_at a.slots slot) slot present).0;
 }
-
--- no slot stands in a chain that has no first slot
-pub none_held : {A : Type 0} (a : ArenaState) (slot : ℕ) → 0 < times_in slot (chain_of a None) → A
-none_held a slot h = absurd (let z : times_in slot (chain_of a None) ≡ 0 = ap (times_in slot) (walk_none (length a.slots) (link_at a.links)) in omega arith)
 
 module _ (heads : List (Option ℕ)) (a : ArenaState) (ls : List (Option ℕ)) (k : ℕ) (o p : Option ℕ) (ys : List ℕ) where
   changed_walk : IsThread (link_at ls) p ys → ((j : ℕ) → times_in j ys ≤ 1) →

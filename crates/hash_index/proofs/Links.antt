@@ -1,5 +1,5 @@
 -- The place of a key, and what is left once a slot is put there.
-use Rattle.bpf_model.proofs.Prelude.{◌≡◌, ◌∙◌, ℕ, ◌+◌, ◌<◌, List, get_or, length, Option, Some, None, inl, inr, refl, sym, ap, arith, cond, eqb, subst}
+use Rattle.bpf_model.proofs.Prelude.{◌≡◌, ◌∙◌, ℕ, ◌<◌, List, get_or, length, Option, Some, None, inl, inr, refl, sym, ap, arith, cond, eqb, subst}
 use Rattle.bpf_model.proofs.Prelude.{slice_get, IfSome, get, insert, remove, same_map, cond-true, cond-false, cases_Bool, nat_list_cmp_total, exact_bytes}
 use Rattle.bpf_model.proofs.Prelude.{same_Some, slice_get_read, option_flatten, KeyMap, same_key, same-same_key, get-set_other}
 use Rattle.element_store.proofs.Prelude.{ArenaState, LinksOf, contents_of, is_at, link_at, times_in, with_link, chain_of}
@@ -31,16 +31,6 @@ one_link a b slot o new = record {
       let c : cond {A = ℕ} (eqb slot j) 1 0 ≡ 1 = subst (λ x. cond {A = ℕ} (eqb slot x) 1 0 ≡ 1) (sym e) (one_same slot) in
       absurd (omega arith)));
 }
-
--- links of the slots of two counts were changed
-pub both_links : (own more : ℕ → ℕ) (a b c : ArenaState) → LinksOf own a b → LinksOf more b c → LinksOf (λ j. own j + more j) a c
-both_links own more a b c l m = record {
-  rest = m.rest ∙ ap (λ (z : ArenaState). let w : ArenaState = record z { links = c.links } in w) l.rest;
-  others = λ j z. m.others j (omega arith) ∙ l.others j (omega arith);
-}
-
-pub more_links : (own more : ℕ → ℕ) (a b : ArenaState) → LinksOf more a b → LinksOf (λ j. own j + more j) a b
-more_links own more a b m = record { rest = m.rest; others = λ j z. m.others j (omega arith) }
 
 pub remove-gone : (m : KeyMap) (k : List ℕ) → get (remove m k) k ≡ None
 remove-gone m k = get_at-remove m k k ∙ cond-true _ _ _ (same-same_key k k refl)

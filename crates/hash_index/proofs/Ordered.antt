@@ -5,11 +5,11 @@ use Rattle.element_store.proofs.Prelude.{ArenaState, IsTaken, key_at, times_in, 
 use Rattle.std.specs.Prelude.{insert, remove}
 use Rattle.std.specs.FinMap as map
 use Rattle.element_store.proofs.Counts.{one_cases, times-append, length_room}
-use Rattle.element_store.proofs.Indexing.{get-contents, slot_of-none, contents-insert, contents-remove, unique-insert, unique-remove, times-get}
+use Rattle.element_store.proofs.Indexing.{get-contents, slot_of-none, contents-insert, contents-remove, unique-insert, unique-remove}
 use Rattle.hash_index.specs.declared.sorted.Sorted.{Sorted}
 use Rattle.hash_index.specs.Order.{IsAscending}
 use Rattle.hash_index.specs.Sorted.{IsPosition, sorted_contents, SortedFits}
-use Rattle.hash_index.proofs.Orders.{ascending-insert, ascending-remove, stands_at}
+use Rattle.hash_index.proofs.Orders.{ascending-insert, ascending-remove}
 
 times_split : (j p : ℕ) (xs : List ℕ) → times_in j (take p xs) + times_in j (drop p xs) ≡ times_in j xs
 times_split j zero [] = refl
@@ -93,13 +93,3 @@ sorted_unlink x y a slot p f at e same =
 -- a position in a list that has another name
 pub placed : (key : ℕ → List ℕ) (xs ys : List ℕ) (k m : List ℕ) (p : ℕ) → xs ≡ ys → k ≡ m → IsPosition key xs k p → IsPosition key ys m p
 placed key xs ys k m p e f h = subst (λ l. IsPosition key l m p) e (subst (λ l. IsPosition key xs l p) f h)
-
-pub linked_inside : (x : Sorted) (a : ArenaState) (slot : ℕ) → SortedFits x a →
-    map.get (sorted_contents x a) (key_at a.slots slot) ≡ Some slot → slot < length a.slots
-linked_inside x a slot f h = (f.taken slot (times-get (key_at a.slots) x.slots.items (key_at a.slots slot) slot h).0).inside
-
-pub linked_position : (x : Sorted) (a : ArenaState) (slot p : ℕ) → SortedFits x a →
-    map.get (sorted_contents x a) (key_at a.slots slot) ≡ Some slot →
-    IsPosition (key_at a.slots) x.slots.items (key_at a.slots slot) p → slice_get x.slots.items p ≡ Some slot
-linked_position x a slot p f h position = stands_at (key_at a.slots) x.slots.items (key_at a.slots slot) p slot
-    f.order position (times-get (key_at a.slots) x.slots.items (key_at a.slots slot) slot h).0 refl

@@ -1,7 +1,7 @@
 -- The machine value of a `RawBox`. Assumes `Logic`.
 use Rattle.bpf_model.proofs.Prelude.{◌≡◌, ℕ, List, [], ◌∷◌, ◌++◌, refl, subst, impl, tnil, dnil, Val, vptr, vstruct, vcons, vnil, of_list, handle_tells, Good}
 use Rattle.bpf_model.proofs.Prelude.{box_owns}
-use mathlib.Core.Bool.{Bool, true, false, ◌&&◌}
+use mathlib.Core.Bool.{true, ◌&&◌}
 use lib.Dec.{T}
 use seplogic.Ra.Ura.{Ura}
 use mir.Raw.{raw as bare}
@@ -25,11 +25,6 @@ use Rattle.host_handle.specs.contracts.raw_box.RawBox as parts
 
 abbrev pub both : Val → Val → Val
 both v w = vstruct (vcons v (vcons w vnil))
-
-pub both_tt : (x y : Bool) → T x → T y → T (x && (y && true))
-both_tt true true s t = tt
-both_tt true false s t = absurd t
-both_tt false y s t = absurd s
 
 module _ (R Z : RattleType) (L : Laws Z) (g : Ghosts Z.Denot) where
   abbrev pub Parts : RattleType

@@ -4,6 +4,5 @@ mod Having
 mod InTime
 mod Laid
 mod OneExit
-mod Refused
 mod Returning
 mod Shapes

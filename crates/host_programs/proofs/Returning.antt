@@ -1,12 +1,11 @@
 -- What a run of a translation gives is what the classic program returns.
 use Rattle.bpf_model.proofs.Prelude.{◌≡◌, ℕ, List, [], length, Option, Some, None, refl, sym, subst, ExitsWith, Loaded, AreBytes}
-use Rattle.classic.proofs.Prelude.{Data}
-use Rattle.classic_program.proofs.Prelude.{IsContext, IsPacketContext, Input, Filters}
+use Rattle.classic_program.proofs.Prelude.{Filters}
 use Rattle.verifier.proofs.Prelude.{Checked}
 use Rattle.classic_program.specs.WellFormed.{Checked as Classic}
 use Rattle.shared_runs.specs.Lone.{loaded_alone}
 use Rattle.host_programs.specs.Opened.{IsTranslationOf}
-use Rattle.host_programs.specs.Runs.{ReturnsOn, Returns}
+use Rattle.host_programs.specs.Runs.{ReturnsOn}
 use Rattle.host_programs.proofs.OneExit.{one_value}
 
 abbrev pub with_length : Checked → ℕ → Loaded
@@ -21,9 +20,3 @@ returns_on v (Some c) context steps n t long bytes x = λ p is.
     subst (λ (k : ℕ). ExitsWith (with_length v k) context r.2 r.0) (sym t.context) r.3 in
     let same : r.0 ≡ n = one_value (loaded_alone v) context r.2 steps r.0 n refl long bytes y x in
     subst (Filters c.kind c.instructions p) same r.1
-
-pub returns : (c : Option Classic) (p : Input) (context : List ℕ) (n : ℕ) → IsPacketContext p context → ReturnsOn c context n → Returns c p n
-returns None p context n is r = tt
-returns (Some c) p context n is r = λ packets.
-    let filters = r p (subst (λ (d : Data). IsContext d p context) (sym packets) is) in
-    subst (λ (d : Data). Filters d c.instructions p n) packets filters

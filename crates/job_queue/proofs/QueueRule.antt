@@ -69,25 +69,6 @@ from_push : (n : ℕ) (xs : List ℕ) (x : ℕ) → CountsFrom n xs → x ≡ n 
 from_push n [] x f e = (omega arith, tt)
 from_push n (y ∷ ys) x f e = (f.0, from_push (n + 1) ys x f.1 (omega arith))
 
-pub begins : HandsOutOnce [] (putter 0 0 [] ∷ [])
-begins = record {
-  front = 0;
-  in_order = tt;
-  putter = λ by v e p. first by v e;
-  back = λ by v e closed. none by v e;
-  once = λ x low. absurd (omega arith);
-  later = λ x high. refl;
-}
-  where
-    first : (by : ℕ) (v : PassView) → get_elem? (putter 0 0 [] ∷ []) by ≡ some v → Puts 0 0 (putter 0 0 [] ∷ []) by v
-    first zero v e = subst (Puts 0 0 (putter 0 0 [] ∷ []) 0) (some-injective _ _ e)
-        record { first = refl; next = refl; takes = refl; out = omega arith }
-    first (suc by) v e = absurd (some-ne-none v (sym e))
-
-    none : (by : ℕ) (v : PassView) → get_elem? (putter 0 0 [] ∷ []) by ≡ some v → v.taken ≡ []
-    none zero v e = sym (ap (λ (z : PassView). z.taken) (some-injective _ _ e))
-    none (suc by) v e = absurd (some-ne-none v (sym e))
-
 -- after a change of the pass `by` from v to w
 module _ (views : List PassView) (by : ℕ) (v w : PassView) (at : get_elem? views by ≡ some v) where
   each_set : (F : ℕ → PassView → Type 0) → F by w → ((j : ℕ) (u : PassView) → j ≢ by → get_elem? views j ≡ some u →

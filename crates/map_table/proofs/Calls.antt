@@ -124,11 +124,6 @@ next_even n even x is counts stops = dite (dec_lt n (2 ^ 62))
     let f : min (suc n) most_sections ≡ most_sections = min-eq_right (omega (arith, l)) in
     let x_is = stops (omega (arith, is, e)) in omega (arith, is, e, f, x_is))
 
-pub some_even : (n x : ℕ) → x ≡ 2 * min (suc n) most_sections → 1 ≤ x
-some_even n x is = dite (dec_lt n (2 ^ 62))
-    (λ l. let f : min (suc n) most_sections ≡ suc n = min-eq_left (omega (arith, l)) in omega (arith, is, f))
-    (λ l. let f : min (suc n) most_sections ≡ most_sections = min-eq_right (omega (arith, l)) in omega (arith, is, f))
-
 -- which is the word of the reader once it has ended its section
 pub outside_word : (ms : List Move) (even : ℕ) → even ≡ 2 * min (opened ms) most_sections → even ≡ section_word (Close ∷ ms)
 outside_word ms even is = let e : 2 * min (opened ms) most_sections ≡ 2 * min (opened ms) most_sections - 0 = omega arith in is ∙ e

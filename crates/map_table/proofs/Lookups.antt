@@ -1,8 +1,8 @@
 -- Stretches that only search.
-use Rattle.map_table_laws.proofs.Prelude.{◌≡◌, ◌≢◌, ◌⊎◌, ℕ, ◌+◌, ◌*◌, ◌%◌, ◌^◌, ◌<◌, ◌≤◌, List, [], ◌∷◌, ◌++◌, refl, sym, ap, ◌∙◌, subst, ⊎_elim, inl, inr}
-use Rattle.map_table_laws.proofs.Prelude.{arith, length, Some, None, append_cancel_right, mul-le, slice_index, dite, ℕ_discrete, Names, tag_in, bucket_of}
-use Rattle.map_table_laws.proofs.Prelude.{bucket_ways, inside, Holds, IsLawful, OnlySearches, FoundIn, HadWord, IsElse, Refuted, AnswersLookup}
-use Rattle.map_table.proofs.Prelude.{Move, Open, Close, Learn, Load, Store, Put, Double, Scan, TableShape, layout_of, first_bucket, second_bucket, tag_of}
+use Rattle.map_table_laws.proofs.Prelude.{◌≡◌, ◌⊎◌, ℕ, ◌+◌, ◌*◌, ◌<◌, ◌≤◌, List, [], ◌∷◌, ◌++◌, refl, sym, ap, ◌∙◌, subst, ⊎_elim, inl, inr}
+use Rattle.map_table_laws.proofs.Prelude.{arith, length, Some, None, append_cancel_right, mul-le, slice_index, dite, ℕ_discrete, Names, bucket_of}
+use Rattle.map_table_laws.proofs.Prelude.{bucket_ways, inside, Holds, IsLawful, OnlySearches, FoundIn, HadWord, Refuted, AnswersLookup}
+use Rattle.map_table.proofs.Prelude.{Move, Open, Close, Learn, Load, Store, Put, Double, Scan, TableShape, layout_of, first_bucket, second_bucket}
 use Rattle.map_table.proofs.Prelude.{Holder, Goes}
 use Rattle.std.proofs.Common.{Option}
 use Rattle.std.proofs.lemmas.List.{length-append}
@@ -161,13 +161,6 @@ module _ (k : TableShape) (key : List ℕ) where
         f.2,
       )
 
-  -- a way that was learnt
-  pub else_refutes : (way word : ℕ) → IsElse (layout_of k) 0 key word → Searched k key way (way + 1) (Learn way word ∷ []) None
-  else_refutes way word other w l m = let same : way ≡ w = omega (arith, l, m) in inl (same, other)
-
-  pub is_else : (word tag : ℕ) → tag ≡ tag_of k key → (word % 2 ^ 32 ≡ 0) ⊎ (tag_in word ≢ tag) → IsElse (layout_of k) 0 key word
-  is_else word tag is other = subst (λ z. (word % 2 ^ 32 ≡ 0) ⊎ (tag_in word ≢ z)) is other
-
   pub way_found : (way word element : ℕ) (ms : List Move) → Names word element → element < k.elements → HadKey k key element ms →
       Searched k key way (way + 1) (ms ++ Learn way word ∷ []) (Some element)
   way_found way word element ms names within had = (
@@ -204,10 +197,6 @@ module _ (k : TableShape) (key : List ℕ) where
         (way, inr (bucket_is way two (second_bucket k key) is_two q.0.1 q.0.2), found_front way element ns ms q.0.3),
         λ place m. had_front element place (slice_index key place) ns ms (q.1 place m),
       )
-
-  pub found_element : (low high : ℕ) (ms : List Move) (found : Option ℕ) → Searched k key low high ms found → IfSome found (λ element. element < k.elements)
-  found_element low high ms None f = tt
-  found_element low high ms (Some element) f = f.2
 
   -- what was found is held
   pub found_holds : (way element : ℕ) (ns ms : List Move) → Only k ns → FoundIn way element ns → Holds element (ns ++ ms)

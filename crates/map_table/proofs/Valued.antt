@@ -45,11 +45,6 @@ pub is_open : (k : TableShape) (who element place : ℕ) → IsReader (layout_of
     place < first_of k who + k.value_words → IsOpenTo (layout_of k) who element place
 is_open k who element place reader from below = owned_by k.values k who place reader from below
 
--- the place of a word of the value of this number
-pub in_copies : (k : TableShape) (copy place : ℕ) → copy < copies_of k → place < k.value_words →
-    k.key_words + place + copy * k.value_words < width_of k
-in_copies k copy place low l = omega (arith, mul-add-lt copy k.value_words place (copies_of k) low l)
-
 copies_few : (v : Values) (k : TableShape) → k.readers ≤ most_readers → copies_by v k ≤ most_readers
 copies_few Shared k few = omega arith
 copies_few PerReader k few = few

@@ -1,4 +1,3 @@
-pub mod Options
 pub mod Names
 pub mod Picking
 pub mod NewMaps

@@ -38,9 +38,6 @@ pub array-there : (shapes : List MapShape) (map : ℕ) → is_array_in shapes ma
     (slice_get shapes map ≡ Some shape) × (shape.kind ≡ Array)
 array-there shapes map h = shape-there (slice_get shapes map) h
 
-pub there-array : (shapes : List MapShape) (map : ℕ) (shape : MapShape) → slice_get shapes map ≡ Some shape → shape.kind ≡ Array → is_array_in shapes map ≡ true
-there-array shapes map shape at is = ap has_array_shape at ∙ ap is_array is
-
 pub shape-bound : (shapes : List MapShape) (s : Store) (run : Run) → AreMapsBound shapes run.program.maps s.maps →
     (index : ℕ) (shape : MapShape) → slice_get shapes index ≡ Some shape → shape.kind ≡ Array →
     IsArrayMap (scene_of s run) index

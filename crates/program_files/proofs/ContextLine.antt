@@ -28,8 +28,5 @@ pub context_lines : (n : ℕ) → n < 2 ^ 64 → lines_of (codes "ctx " ++ (deci
 context_lines n h =
     ap (λ ls. onto_first 99 (onto_first 116 (onto_first 120 (onto_first 32 ls)))) (first_line (decimal n) [] (decimal_has_no 10 n refl h))
 
-pub ends_so : (n : ℕ) → (codes "ctx " ++ (decimal n ++ codes "\n")) ≡ (codes "ctx " ++ decimal n) ++ 10 ∷ []
-ends_so n = refl
-
 pub none_is : (codes "ctx " ++ (decimal 0 ++ codes "\n")) ≡ codes "ctx 0" ++ 10 ∷ []
 none_is = ap (λ (d : List ℕ). codes "ctx " ++ (d ++ codes "\n")) (decimal_digit 0 (omega arith))

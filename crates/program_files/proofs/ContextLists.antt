@@ -1,6 +1,6 @@
 -- Contexts that were read so far, of lines and of bytes.
 use Rattle.bpf_model.proofs.Prelude.{◌≡◌, ℕ, ◌+◌, ◌*◌, ◌%◌, ◌<◌, ◌≤◌, List, [], ◌∷◌, ◌++◌, All, length, map, sym, ap, ◌∙◌, arith, inl, inr, append_assoc}
-use Rattle.bpf_model.proofs.Prelude.{Option, Some, None, mod-eq_of_lt, mul-mod_left, map-append, All-append, All-cons, All-head, All-nil, All-tail}
+use Rattle.bpf_model.proofs.Prelude.{Option, Some, None, mod-eq_of_lt, mul-mod_left, All-append, All-cons, All-head, All-nil, All-tail}
 use Rattle.std.proofs.Common.{flat_map, append-nil, length-append}
 use Rattle.std.proofs.Math.Nat.{suc-mul, zero-mul}
 use Rattle.std.proofs.lemmas.Bool.Decides.{leb_tells}
@@ -19,19 +19,6 @@ some_no_none [] (y ∷ front) back e = cc
 some_no_none (x ∷ xs) [] back e = cc
 some_no_none (x ∷ xs) (y ∷ front) back e = some_no_none xs front back cc
 
--- one line more
-pub line_read : (len : ℕ) (bytes rest line more : List ℕ) (contexts : List (List ℕ)) (context : List ℕ) →
-    AreReadTo len bytes rest contexts → lines_of rest ≡ line ∷ lines_of more → context_in len line ≡ Some context →
-    AreReadTo len bytes more (contexts ++ context ∷ [])
-line_read len bytes rest line more contexts context read cut says =
-    let behind = map (context_in len) (lines_of more) in
-    let next : map (context_in len) (lines_of rest) ≡ Some context ∷ behind =
-    ap (map (context_in len)) cut ∙ ap (λ (o : Option (List ℕ)). o ∷ behind) says in
-    let moved : map Some contexts ++ Some context ∷ behind ≡ map Some (contexts ++ context ∷ []) ++ behind =
-    sym (append_assoc (map Some contexts) (Some context ∷ []) behind)
-    ∙ ap (λ (l : List (Option (List ℕ))). l ++ behind) (sym (map-append Some contexts (context ∷ []))) in
-    read ∙ (ap (λ (l : List (Option (List ℕ))). map Some contexts ++ l) next ∙ moved)
-
 -- a line that says no context
 pub no_line : (len : ℕ) (bytes rest line more : List ℕ) (read contexts : List (List ℕ)) → AreReadTo len bytes rest read →
     lines_of rest ≡ line ∷ lines_of more → context_in len line ≡ None → AreInLines len bytes contexts → ⊥
@@ -40,20 +27,6 @@ no_line len bytes rest line more read contexts so cut none are =
     let next : map (context_in len) (lines_of rest) ≡ None ∷ behind =
     ap (map (context_in len)) cut ∙ ap (λ (o : Option (List ℕ)). o ∷ behind) none in
     some_no_none contexts (map Some read) behind (sym are.each ∙ (so ∙ ap (λ (l : List (Option (List ℕ))). map Some read ++ l) next))
-
--- all lines
-pub all_read : (len : ℕ) (bytes rest : List ℕ) (contexts : List (List ℕ)) → rest ≡ [] → AreReadTo len bytes rest contexts →
-    map (context_in len) (lines_of bytes) ≡ map Some contexts
-all_read len bytes rest contexts end read =
-    read ∙ (ap (λ (r : List ℕ). map Some contexts ++ map (context_in len) (lines_of r)) end ∙ append-nil (map Some contexts))
-
-no_some : (contexts : List (List ℕ)) → map Some contexts ≡ [] → 0 < length contexts → ⊥
-no_some [] e more = omega (arith, more)
-no_some (x ∷ contexts) e more = cc
-
--- no line
-pub no_lines : (len : ℕ) (bytes rest : List ℕ) (contexts : List (List ℕ)) → rest ≡ [] → AreReadTo len bytes rest [] → AreInLines len bytes contexts → ⊥
-no_lines len bytes rest contexts end read are = no_some contexts (sym are.each ∙ all_read len bytes rest [] end read) are.some
 
 -- contexts of so many bytes each before the rest, which is a whole number of them
 pub record ArePackedTo (len : ℕ) (bytes rest : List ℕ) (contexts : List (List ℕ)) : Type 0 where
@@ -98,12 +71,6 @@ pub packed_none : (bytes : List ℕ) (contexts : List (List ℕ)) → ArePacked 
 packed_none bytes contexts are =
     let none : length bytes ≡ length contexts * 0 = ap (λ (l : List ℕ). length l) are.together ∙ packed_length 0 contexts are.each in
     omega (arith, none, are.some)
-
--- there are contexts where there are bytes
-pub packed_some : (bytes : List ℕ) (contexts : List (List ℕ)) → bytes ≡ flat_map (λ (context : List ℕ). context) contexts →
-    0 < length bytes → 0 < length contexts
-packed_some bytes [] e more = absurd (omega (arith, ap (λ (l : List ℕ). length l) e, more))
-packed_some bytes (c ∷ contexts) e more = omega arith
 
 -- where bytes are left that are a whole number of contexts, one is left
 pub one_is_left : (len n : ℕ) → 0 < n → n % len ≡ 0 → len ≤ n

@@ -44,10 +44,6 @@ head_says h program is program_is =
     } in
     inl (h.text ++ (codes "code\n" ++ slots), refl, file)
 
-pub written_says : (h : HeadView) (program : List Insn) (file : List ℕ) → IsHead h.text h.ctx_len h.registry → IsProgram program →
-    file ≡ file_text h.text program → FileSays file (file_content h program)
-written_says h program file is program_is e = subst (λ (f : List ℕ). FileSays f (file_content h program)) (sym e) (head_says h program is program_is)
-
 -- a program below a head, as the file says it
 pub source_is : (h : HeadView) (s : Source) → IsHead h.text h.ctx_len h.registry → IsProgram s.program → s.registry ≡ h.registry →
     s.ctx_len ≡ h.ctx_len → IsSourceOf (file_text h.text s.program) s × AreNewMaps s.registry.maps × (s.ctx_len ≤ CTX_BYTES)
@@ -84,11 +80,6 @@ context_made n text r h e names maps =
     (context_is n h))
 
 -- what is read
-
-pub is_head : (lines text : List ℕ) (stage : Stage) (c : FileContent) → text ≡ lines ++ 10 ∷ [] → stage ≡ Maps →
-    IsAtStage stage (lines_of text) c → IsHead text c.ctx_len c.registry
-is_head lines text stage c same e h =
-    record { front = lines; ends = same; lines = (subst (λ (s : Stage). IsAtStage s (lines_of text) c) e h).0 }
 
 -- a wrong line is wrong whatever follows
 any_follows : (lines more : List (List ℕ)) (n : ℕ) → HasWrongLine lines n → IsFirstWrongLine (lines ++ more) n

@@ -5,9 +5,9 @@ use Rattle.bpf_model.proofs.Prelude.{nat_tests, length-append}
 use Rattle.std.proofs.Common.{append-nil}
 use Rattle.script_stream.specs.Lines.{lines_of}
 use Rattle.program_files.specs.ProgramFile.{FileContent, heading, IsProgramFile, IsFileBeginning, IsFirstWrongLine, FileSays, IsWrongFile, IsLoadFault}
-use Rattle.program_files.specs.Stages.{HasNoByte, HasLoaded, HasWrongLine, IsLineFault}
+use Rattle.program_files.specs.Stages.{HasNoByte, HasLoaded, HasWrongLine}
 use Rattle.program_files.specs.declared.loader.lines_read.LinesRead.{LinesRead}
-use Rattle.program_files.specs.Loaded.{loaded_content, IsFileTextFault}
+use Rattle.program_files.specs.Loaded.{loaded_content}
 use Rattle.program_files.specs.declared.loader.fault.LoadFault.{LoadFault}
 use Rattle.program_files.specs.declared.loader.fault.LoadFault.TheVariants.{BadFile, Memory}
 use Rattle.program_files.specs.declared.loader.program_file.ProgramFile.{ProgramFile}
@@ -86,17 +86,6 @@ short_file text number e begins unfinished = record {
   begins = begins;
   wrong = unfinished;
 }
-
-pub line_fault : (text : List ℕ) (e : LoadFault) → IsLineFault (lines_of text) e → IsFileTextFault text e
-line_fault text (BadFile n) h = record {
-  front = h.front;
-  rest = h.line ∷ h.rest;
-  parts = h.parts;
-  number = h.number;
-  begins = h.begins;
-  wrong = h.wrong;
-}
-line_fault text Memory h = tt
 
 -- a file says one thing, or has a wrong line
 

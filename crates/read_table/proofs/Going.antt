@@ -1,8 +1,8 @@
 -- Stretches of a holder's list.
-use Rattle.bpf_model.proofs.Prelude.{◌≡◌, ℕ, List, [], ◌∷◌, ◌++◌, refl, sym, ap, ◌∙◌, subst, append_assoc, inl, inr, ◌%◌}
-use Rattle.read_table.proofs.Prelude.{moves_of, inside, Knows, IsLearnt, IsLawful, Gains, Holder, Does, Goes, Went, IsKnown, IsUnchanged}
+use Rattle.bpf_model.proofs.Prelude.{◌≡◌, ℕ, List, [], ◌∷◌, ◌++◌, refl, sym, ap, ◌∙◌, subst, append_assoc, inl, ◌%◌}
+use Rattle.read_table.proofs.Prelude.{moves_of, Knows, IsLearnt, IsLawful, Gains, Holder, Does, Goes, Went, IsKnown, IsUnchanged}
 use Rattle.read_table.specs.declared.view.Move.{Move}
-use Rattle.read_table.specs.declared.view.Move.TheVariants.{Open, Close, Learn, Load, Store}
+use Rattle.read_table.specs.declared.view.Move.TheVariants.{Learn}
 use Rattle.read_table.specs.declared.view.View.{View}
 use Rattle.read_table.proofs.Safe.{same_generation}
 
@@ -36,12 +36,6 @@ went_after u v w ms ns g h = (
   subst (λ z. moves_of z w.seen ≡ ns) (ap (λ (z : View). z.me) g.1) h.3,
 )
 
-pub went_more : (u v w : View) (ms : List Move) (m : Move) → Went u ms v → Gains v m w → Went u (m ∷ ms) w
-went_more u v w ms m g h = went_after u v w ms (m ∷ ms) g (subst (λ z. Went v (m ∷ z) w) (ap (λ (z : View). z.mine) g.1) (went_one v w m h))
-
-pub went_move : (u v w : View) (ms : List Move) (m m' : Move) → m ≡ m' → Went u ms v → Gains v m w → Went u (m' ∷ ms) w
-went_move u v w ms m m' e g h = subst (λ z. Went u (z ∷ ms) w) e (went_more u v w ms m g h)
-
 pub went_as : (v w : View) (m m' : Move) → m ≡ m' → Gains v m w → Went v (m' ∷ v.mine) w
 went_as v w m m' e g = went_one v w m' (subst (λ z. Gains v z w) e g)
 
@@ -54,9 +48,6 @@ went_then u v w ms ns g h =
 -- no step at all
 pub goes_none : (s : Holder) → IsKnown s.view → Goes s [] s
 goes_none s k = record { table = refl; went = went_none s.view k }
-
-pub goes_one : (s t : Holder) (m : Move) → Does s m t → Goes s (m ∷ []) t
-goes_one s t m d = d
 
 -- one stretch after another
 pub goes_then : (s t u : Holder) (ms ns : List Move) → Goes s ms t → Goes t ns u → Goes s (ns ++ ms) u
@@ -85,29 +76,5 @@ known_unchanged t slot h k known =
 
 -- what single steps do to the section, and to what the holder knows
 
-pub open_inside : (s t : Holder) → Does s Open t → inside t.view.mine ≡ 1
-open_inside s t d = goes_fact (λ ms. inside ms ≡ 1) s t (Open ∷ []) d refl
-
-pub close_outside : (s t : Holder) → Does s Close t → inside t.view.mine ≡ 0
-close_outside s t d = goes_fact (λ ms. inside ms ≡ 0) s t (Close ∷ []) d refl
-
-pub learn_inside : (s t : Holder) (slot h : ℕ) → Does s (Learn slot h) t → inside t.view.mine ≡ inside s.view.mine
-learn_inside s t slot h d = goes_fact (λ ms. inside ms ≡ inside s.view.mine) s t (Learn slot h ∷ []) d refl
-
-pub load_inside : (s t : Holder) (slot place x : ℕ) → Does s (Load slot place x) t → inside t.view.mine ≡ inside s.view.mine
-load_inside s t slot place x d = goes_fact (λ ms. inside ms ≡ inside s.view.mine) s t (Load slot place x ∷ []) d refl
-
-pub store_inside : (s t : Holder) (slot place x : ℕ) → Does s (Store slot place x) t → inside t.view.mine ≡ inside s.view.mine
-store_inside s t slot place x d = goes_fact (λ ms. inside ms ≡ inside s.view.mine) s t (Store slot place x ∷ []) d refl
-
 pub learn_knows : (s t : Holder) (slot h : ℕ) → Does s (Learn slot h) t → h % 2 ≡ 1 → IsLearnt slot t.view.mine
 learn_knows s t slot h d odd = (h, goes_fact (Knows slot h) s t (Learn slot h ∷ []) d (inl (refl, refl, odd)))
-
-pub learn_keeps : (s t : Holder) (slot h : ℕ) → Does s (Learn slot h) t → (other g : ℕ) → Knows other g s.view.mine → Knows other g t.view.mine
-learn_keeps s t slot h d other g known = goes_fact (Knows other g) s t (Learn slot h ∷ []) d (inr known)
-
-pub load_keeps : (s t : Holder) (slot place x : ℕ) → Does s (Load slot place x) t → (other g : ℕ) → Knows other g s.view.mine → Knows other g t.view.mine
-load_keeps s t slot place x d other g known = goes_fact (Knows other g) s t (Load slot place x ∷ []) d known
-
-pub store_keeps : (s t : Holder) (slot place x : ℕ) → Does s (Store slot place x) t → (other g : ℕ) → Knows other g s.view.mine → Knows other g t.view.mine
-store_keeps s t slot place x d other g known = goes_fact (Knows other g) s t (Store slot place x ∷ []) d known

@@ -84,9 +84,6 @@ module _ (v w : View) (ns : List Move) (q : IsQuiet ns) (g : Went v (ns ++ v.min
   pub quiet_linked : (s : ℕ) → IsLinked v s → IsLinked w s
   quiet_linked s f = linked_stays v w s (went_shape v w (ns ++ v.mine) g) (quiet_header s) f
 
-  pub quiet_unlinked : (s : ℕ) → IsUnlinked v s → IsUnlinked w s
-  quiet_unlinked s f = unlinked_stays v w s (went_shape v w (ns ++ v.mine) g) (quiet_header s) f
-
   pub quiet_writer : (headers : List ℕ) → IsWriter v headers → IsWriter w headers
   quiet_writer headers b = let slots : w.shape.slots ≡ v.shape.slots = ap (λ (k : TableShape). k.slots) (went_shape v w (ns ++ v.mine) g) in record {
     me = went_me v w (ns ++ v.mine) g ∙ b.me;

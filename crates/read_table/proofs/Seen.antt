@@ -107,36 +107,6 @@ sightings_changed v w slot x old new g long forgotten others a =
       λ c. others s r ne small low ∙ from (subst (Cleared (r + 1) s) mine c).1,
     )))
 
--- a reader was found inside
-pub sightings_inside : (v w : View) (reader x : ℕ) (seen : List Bool) → x ≢ 0 → Went v (Scan (reader + 1) x ∷ v.mine) w →
-    AreSightings v seen → AreSightings w seen
-sightings_inside v w reader x seen some g a =
-    let mine = went_mine v w (Scan (reader + 1) x ∷ v.mine) g in
-    sightings-by v w seen seen (went_shape v w (Scan (reader + 1) x ∷ v.mine) g) refl a
-    (λ slot r low small forth from in_slots. (
-      λ t. subst (Cleared (r + 1) slot) (sym mine) (inr (forth t)),
-      λ c. ⊎_elim (λ (z : (reader + 1 ≡ r + 1) × (x ≡ 0)). absurd (some z.1)) (λ z. from z) (subst (Cleared (r + 1) slot) mine c),
-    ))
-
--- a reader was found outside, which is noted
-pub sightings_outside : (v w : View) (reader : ℕ) (old new : List Bool) → Went v (Scan (reader + 1) 0 ∷ v.mine) w → length new ≡ length old →
-    ((slot : ℕ) → slot < v.shape.slots → noted new slot reader ≡ true) →
-    ((slot r : ℕ) → r ≢ reader → slot < most_table_slots → r < most_readers → noted new slot r ≡ noted old slot r) → AreSightings v old → AreSightings w new
-sightings_outside v w reader old new g long now others a =
-    let mine = went_mine v w (Scan (reader + 1) 0 ∷ v.mine) g in
-    sightings-by v w old new (went_shape v w (Scan (reader + 1) 0 ∷ v.mine) g) long a
-    (λ slot r low small forth from in_slots. dite (ℕ_discrete r reader)
-    (λ e. (
-      λ t. subst (Cleared (r + 1) slot) (sym mine) (inl (ap (λ z. z + 1) (sym e), refl)),
-      λ c. subst (λ z. noted new slot z ≡ true) (sym e) (now slot in_slots),
-    ))
-    (λ ne. (
-      λ t. subst (Cleared (r + 1) slot) (sym mine) (inr (forth (sym (others slot r ne small low) ∙ t))),
-      λ c. others slot r ne small low ∙ from
-          (⊎_elim (λ (z : (reader + 1 ≡ r + 1) × (0 ≡ 0)). let same = z.0 in absurd (ne (omega (arith, same)))) (λ z. z)
-          (subst (Cleared (r + 1) slot) mine c)),
-    )))
-
 -- scans alone
 
 pub scans_wider : (low high lower higher : ℕ) (ns : List Move) → lower ≤ low → high ≤ higher → ScansInTurn low high ns → ScansInTurn lower higher ns
@@ -220,10 +190,6 @@ held_longer at slot ns ms before n e =
       never = λ c. e.never (scans_miss at (at + 1) e.reader slot ns (ms ++ before) within n c);
       inside = inside_back at (at + 1) e.reader ns ms n e.inside;
     }
-
--- no reader was asked
-pub tells_none : (slot : ℕ) (mine : List Move) → Tells 0 slot [] mine true
-tells_none slot mine r some few = absurd (omega (arith, some, few))
 
 -- a round with one reader more, whose scan is ns
 pub tells_more : (at slot : ℕ) (ns ms before : List Move) (each outside : Bool) → ScansInTurn at (at + 1) ns →

@@ -1,6 +1,6 @@
 -- How many states wait.
-use Rattle.bpf_model.proofs.Prelude.{◌≡◌, ℕ, zero, suc, ◌+◌, ◌<◌, ◌≤◌, List, [], ◌∷◌, length, arith, ap, ◌∙◌, ◌-◌, slice_index_or, slice_set, max}
-use Rattle.bpf_model.proofs.Prelude.{le-max_left, le-max_right, max-le, length-set, get_or_default, get_or-set_same, sum_by-cons}
+use Rattle.bpf_model.proofs.Prelude.{◌≡◌, ℕ, zero, suc, ◌+◌, ◌<◌, ◌≤◌, List, [], ◌∷◌, length, arith, ap, ◌-◌, slice_index_or, slice_set, max}
+use Rattle.bpf_model.proofs.Prelude.{le-max_left, le-max_right, max-le, length-set, sum_by-cons}
 use Rattle.verifier.proofs.Prelude.{occupied, states_in, AreStatesCounted}
 use Rattle.verifier.specs.declared.waiting.Waiting.{Waiting}
 use Rattle.verifier.specs.declared.waiting.Waiting.TheVariants.{Nothing, Known, Differing}
@@ -32,15 +32,6 @@ pub set_counted : (ws : List Waiting) (i : ℕ) (w : Waiting) → i < length ws 
 set_counted [] i w h = absurd (omega arith)
 set_counted (v ∷ ws) zero w h = omega (arith, sum_by-cons occupied v ws, sum_by-cons occupied w ws)
 set_counted (v ∷ ws) (suc i) w h = omega (arith, sum_by-cons occupied v ws, sum_by-cons occupied v (slice_set ws i w), set_counted ws i w (omega arith))
-
--- how many states wait at an index that is read
-pub count_at : (ws : List Waiting) (i : ℕ) (d x : Waiting) (n : ℕ) → i < length ws → n ≡ occupied x →
-    x ≡ slice_index_or ws i d → n ≡ occupied (slice_index_or ws i Nothing)
-count_at ws i d x n h e f = e ∙ ap occupied (f ∙ get_or_default ws i d Nothing h)
-
-pub count_set : (ws : List Waiting) (i : ℕ) (w d x : Waiting) (n : ℕ) → i < length ws → n ≡ occupied x →
-    x ≡ slice_index_or (slice_set ws i w) i d → n ≡ occupied w
-count_set ws i w d x n h e f = e ∙ ap occupied (f ∙ get_or-set_same ws i w d h)
 
 -- what waits at one index changes
 pub counted_set : (ws : List Waiting) (i : ℕ) (w : Waiting) (len peak before after new : ℕ) → i < length ws →

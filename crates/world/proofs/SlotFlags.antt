@@ -29,11 +29,6 @@ flag-free (None ∷ runs) zero e = refl
 flag-free (Some run ∷ runs) zero e = let s : Some run ≡ None = same_Some (Some run) None e in absurd (none-some run (sym s))
 flag-free (o ∷ runs) (suc k) e = flag-free runs k e
 
-within : (runs : Runs) (k : ℕ) → slice_get runs k ≡ Some None → k < length runs
-within [] k e = absurd (none-some None e)
-within (o ∷ runs) zero e = omega arith
-within (o ∷ runs) (suc k) e = let l : k < length runs = within runs k e in omega (arith, l)
-
 long : (runs : Runs) → length (map flag_of runs) ≡ length runs
 long [] = refl
 long (o ∷ runs) = ap suc (long runs)
