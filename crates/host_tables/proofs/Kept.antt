@@ -1,12 +1,12 @@
 -- What copying leaves linked.
 use Rattle.bpf_model.proofs.Prelude.{◌≡◌, ◌≢◌, ℕ, zero, suc, ◌+◌, ◌-◌, ◌*◌, ◌<◌, List, [], ◌∷◌, ◌++◌, refl, sym, ap, ◌∙◌, subst, ⊎_elim, arith, Option, Some}
 use Rattle.bpf_model.proofs.Prelude.{None, Result, Ok, Err, OnOk, IfErr, dite, ℕ_discrete}
-use Rattle.map_table_laws.proofs.Prelude.{Names, word_in, IsLawful, IsLinkedUnder, IsLinkedAs, IsLinkedSomewhere}
+use Rattle.table_words.proofs.Prelude.{Names, word_in, IsLawful, IsLinkedUnder, IsLinkedAs, IsLinkedSomewhere}
 use Rattle.map_table.proofs.Prelude.{Move, Scan, TableShape, View, layout_of, IsKnown, TableView, OnlyLoads, Reads, stored_of, MakesSeat, Works, WriterView}
-use Rattle.map_table_laws.specs.Found.{Links as LinksIn}
-use Rattle.map_table_laws.proofs.Moments.{at_last, lawful_early}
-use Rattle.map_table_laws.proofs.Moved.{kept_linked, null_refutes_kept}
-use Rattle.map_table_laws.proofs.Steps.{nothing_named}
+use Rattle.table_words.specs.Found.{Links as LinksIn}
+use Rattle.table_words.proofs.Moments.{at_last, lawful_early}
+use Rattle.table_words.proofs.Moved.{kept_linked, null_refutes_kept}
+use Rattle.table_words.proofs.Steps.{nothing_named}
 use Rattle.map_table.proofs.Filling.{own_list, went_me, went_shape}
 use Rattle.map_table.proofs.Going.{went_known}
 use Rattle.map_table.proofs.Keeping.{loads_quiet}

@@ -1,8 +1,8 @@
 -- Which keys a walk meets.
 use Rattle.bpf_model.proofs.Prelude.{◌≡◌, ◌≢◌, ℕ, suc, ◌<◌, ◌≤◌, List, [], ◌∷◌, inl, inr, subst, arith, dite, ℕ_discrete, dec_lt}
-use Rattle.map_table_laws.proofs.Prelude.{Names, moves_of, word_in, IsLinkedUnder}
+use Rattle.table_words.proofs.Prelude.{Names, moves_of, word_in, IsLinkedUnder}
 use Rattle.map_table.proofs.Prelude.{layout_of, ways_of, TableShape, Move}
-use Rattle.map_table_laws.proofs.Steps.{nothing_named}
+use Rattle.table_words.proofs.Steps.{nothing_named}
 use Rattle.host_tables.specs.Walks.{IsKeyWalk, IsMeeting, Meeting, MetOnce, NeverMet, StaysLinked}
 use Rattle.host_tables.proofs.Linked.{same_key}
 

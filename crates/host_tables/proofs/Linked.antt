@@ -1,9 +1,9 @@
 -- What is linked in a way while the writer leaves it.
 use Rattle.bpf_model.proofs.Prelude.{◌≡◌, ◌≢◌, ℕ, suc, List, [], ◌∷◌, ◌++◌, refl, sym, ap, ◌∙◌, subst, arith, dite, ℕ_discrete}
-use Rattle.map_table_laws.proofs.Prelude.{Layout, Names, moves_of, word_in, key_of, MayDo, IsLawful, IsLinkedUnder, AreLinkedOnce}
+use Rattle.table_words.proofs.Prelude.{Layout, Names, moves_of, word_in, key_of, MayDo, IsLawful, IsLinkedUnder, AreLinkedOnce}
 use Rattle.map_table.proofs.Prelude.{Move, Open, Close, Learn, Load, Store, Put, Double, Scan, TableShape, View, layout_of, Went, IsKnown}
-use Rattle.map_table_laws.proofs.Once.{linked_back}
-use Rattle.map_table_laws.proofs.Steps.{own, others, key_step, one_name, put_here, put_there, doubled_here, doubled_there}
+use Rattle.table_words.proofs.Once.{linked_back}
+use Rattle.table_words.proofs.Steps.{own, others, key_step, one_name, put_here, put_there, doubled_here, doubled_there}
 use Rattle.map_table.proofs.Replacing.{stretch}
 
 -- none of the moves puts a word in the way

@@ -1,6 +1,6 @@
 -- What a walk meets.
 use Rattle.bpf_model.proofs.Prelude.{◌≡◌, ℕ, suc, ◌+◌, ◌<◌, ◌≤◌, List, [], ◌∷◌, refl, ap, ◌∙◌, arith, dite, ℕ_discrete, dec_lt}
-use Rattle.map_table_laws.proofs.Prelude.{word_in}
+use Rattle.table_words.proofs.Prelude.{word_in}
 use Rattle.map_table.proofs.Prelude.{ways_of, TableShape, Move}
 use Rattle.std.proofs.Common.{eq-eqb, ne_eqb}
 use Rattle.host_tables.specs.Walks.{AreEmpty, IsWalk, NeverEmpty, times_met}

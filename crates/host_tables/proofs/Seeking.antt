@@ -1,6 +1,6 @@
 -- What a search for a key tells.
 use Rattle.bpf_model.proofs.Prelude.{◌≡◌, ℕ, List, Option, Some, None, Result, Ok, Err, refl, sym, subst, IfSome, IfErr}
-use Rattle.map_table_laws.proofs.Prelude.{IsLinkedUnder, OnlySearches}
+use Rattle.table_words.proofs.Prelude.{IsLinkedUnder, OnlySearches}
 use Rattle.map_table.proofs.Prelude.{layout_of, TableView, Works, WriterView, TableShape, Move}
 use Rattle.std.specs.Prelude.{IsNone}
 use Rattle.host_tables.specs.declared.fault.How.{How}

@@ -1,11 +1,11 @@
 -- What the writer's calls keep of a table.
 use Rattle.bpf_model.proofs.Prelude.{◌≡◌, ◌≢◌, ℕ, zero, suc, ◌+◌, ◌<◌, ◌≤◌, List, [], ◌∷◌, ◌++◌, length, refl, sym, ap, ◌∙◌, subst, ◌⊎◌, ⊎_elim, inl, inr}
 use Rattle.bpf_model.proofs.Prelude.{Option, Some, None, Result, Ok, Err, OnOk, IfErr, slice_index, arith, range_with_len, length-range_with_len}
-use Rattle.map_table_laws.proofs.Prelude.{Layout, Names, moves_of, word_in, OnlySearches, IsLinkedUnder, IsLinkedAs, StaysFound, OnlyMoves, AreLinkedOnce}
+use Rattle.table_words.proofs.Prelude.{Layout, Names, moves_of, word_in, OnlySearches, IsLinkedUnder, IsLinkedAs, StaysFound, OnlyMoves, AreLinkedOnce}
 use Rattle.map_table.proofs.Prelude.{Move, Put, Scan, TableShape, layout_of, IsKnown, TableView, MakesOneWay, StayLinked, OnlyLoads, copies_of, stored_of}
 use Rattle.map_table.proofs.Prelude.{AreFull, MakesSeat, Works, WriterView}
 use Rattle.std.proofs.Common.{length-append}
-use Rattle.map_table_laws.proofs.Steps.{nothing_named, put_here}
+use Rattle.table_words.proofs.Steps.{nothing_named, put_here}
 use Rattle.map_table.specs.Moving.{GoesAside}
 use Rattle.map_table.specs.Writing.{Frees, Looks, Puts}
 use Rattle.map_table.proofs.Keeping.{adds_quiet, fills_quiet, loads_quiet, scans_quiet, searches_quiet}

@@ -7,12 +7,12 @@ use Rattle.map_table.specs.Values.{copies_of, stored_of}
 use Rattle.map_table.specs.Writing.{Works, WriterView}
 use Rattle.table_words.specs.declared.view.TableShape.{TableShape}
 use Rattle.table_words.specs.declared.view.View.{View}
-use Rattle.map_table_laws.specs.declared.moves.Move.{Move}
-use Rattle.map_table_laws.specs.Found.{IsLinkedUnder}
-use Rattle.map_table_laws.specs.History.{moves_of, word_in}
-use Rattle.map_table_laws.specs.Layout.{Names}
-use Rattle.map_table_laws.specs.Lookups.{AnswersLookup, OnlySearches}
-use Rattle.map_table_laws.specs.Moved.{OnlyKeeps}
+use Rattle.table_words.specs.declared.moves.Move.{Move}
+use Rattle.table_words.specs.Found.{IsLinkedUnder}
+use Rattle.table_words.specs.History.{moves_of, word_in}
+use Rattle.table_words.specs.Layout.{Names}
+use Rattle.table_words.specs.Lookups.{AnswersLookup, OnlySearches}
+use Rattle.table_words.specs.Moved.{OnlyKeeps}
 use Rattle.host_tables.specs.declared.fault.How.TheVariants.{Any}
 use Rattle.host_tables.specs.declared.fault.SetFault.{SetFault}
 use Rattle.host_tables.specs.Tables.{IsNotSet, Sets}

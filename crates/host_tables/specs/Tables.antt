@@ -9,14 +9,14 @@ use Rattle.map_table.specs.Sightings.{IsHeldUp}
 use Rattle.map_table.specs.Values.{copies_of}
 use Rattle.map_table.specs.Writing.{AreFull, Frees, Looks, Puts, StaysIn, Works, WriterView}
 use Rattle.table_words.specs.declared.view.TableShape.{TableShape}
-use Rattle.map_table_laws.specs.declared.moves.Move.{Move}
-use Rattle.map_table_laws.specs.declared.moves.Move.TheVariants.{Put}
-use Rattle.map_table_laws.specs.Found.{IsLinkedUnder}
-use Rattle.map_table_laws.specs.History.{word_in}
-use Rattle.map_table_laws.specs.Layout.{Names}
-use Rattle.map_table_laws.specs.Lookups.{OnlySearches}
-use Rattle.map_table_laws.specs.Moved.{OnlyMoves}
-use Rattle.map_table_laws.specs.Once.{AreLinkedOnce}
+use Rattle.table_words.specs.declared.moves.Move.{Move}
+use Rattle.table_words.specs.declared.moves.Move.TheVariants.{Put}
+use Rattle.table_words.specs.Found.{IsLinkedUnder}
+use Rattle.table_words.specs.History.{word_in}
+use Rattle.table_words.specs.Layout.{Names}
+use Rattle.table_words.specs.Lookups.{OnlySearches}
+use Rattle.table_words.specs.Moved.{OnlyMoves}
+use Rattle.table_words.specs.Once.{AreLinkedOnce}
 use Rattle.host_tables.specs.declared.fault.How.{How}
 use Rattle.host_tables.specs.declared.fault.How.TheVariants.{Any, New, Present}
 use Rattle.host_tables.specs.declared.fault.SetFault.{SetFault}

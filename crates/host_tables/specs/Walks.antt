@@ -4,11 +4,11 @@ use Rattle.map_table.specs.Hashes.{layout_of}
 use Rattle.map_table.specs.Law.{ways_of}
 use Rattle.map_table.specs.Writing.{Works, WriterView}
 use Rattle.table_words.specs.declared.view.TableShape.{TableShape}
-use Rattle.map_table_laws.specs.declared.moves.Move.{Move}
-use Rattle.map_table_laws.specs.Found.{IsLinkedUnder}
-use Rattle.map_table_laws.specs.History.{moves_of, word_in}
-use Rattle.map_table_laws.specs.Lookups.{OnlySearches}
-use Rattle.map_table_laws.specs.Once.{AreLinkedOnce}
+use Rattle.table_words.specs.declared.moves.Move.{Move}
+use Rattle.table_words.specs.Found.{IsLinkedUnder}
+use Rattle.table_words.specs.History.{moves_of, word_in}
+use Rattle.table_words.specs.Lookups.{OnlySearches}
+use Rattle.table_words.specs.Once.{AreLinkedOnce}
 use Rattle.host_tables.specs.Tables.{Seeks}
 
 -- The writer sought the key that was given, and found it in this way, or in none. Where none was given it did nothing.

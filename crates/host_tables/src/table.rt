@@ -4,7 +4,7 @@ ghost use Rattle.map_table.specs.Hashes.{layout_of};
 ghost use Rattle.map_table.specs.Held.{IsNew, IsReady, IsSized};
 ghost use Rattle.map_table.specs.Writing.{MakesSeat};
 ghost use Rattle.map_table.specs.Law.{ways_of};
-ghost use Rattle.map_table_laws.specs.Once.{AreLinkedOnce};
+ghost use Rattle.table_words.specs.Once.{AreLinkedOnce};
 ghost use Rattle.host_tables.specs.Copies.{AreAlike, AreAllThere, Copies, IsThere, StayThere, StopsCopying};
 ghost use Rattle.map_table.specs.Values.{stored_of};
 ghost use Rattle.host_tables.specs.Reading.{CanServe};

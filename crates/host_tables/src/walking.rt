@@ -4,7 +4,7 @@ ghost use Rattle.map_table.specs.Law.{ways_of};
 ghost use Rattle.host_tables.specs.Tables.{IsTidy};
 ghost use Rattle.host_tables.specs.Walks.{AreEmpty, IsFirst, IsKeyWalk, IsWalk, LoadsKey, Meeting, MetOnce, NeverEmpty, SeeksGiven, StaysLinked, behind, times_met};
 ghost use Rattle.table_words.specs.declared.view.TableShape.{TableShape as ShapeOf};
-ghost use Rattle.map_table_laws.specs.declared.moves.Move.{Move};
+ghost use Rattle.table_words.specs.declared.moves.Move.{Move};
 
 use crate::writing::seek;
 use map_table::{BUCKET_WAYS, MapTable, Writer};

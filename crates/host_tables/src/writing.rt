@@ -3,9 +3,9 @@ ghost use Rattle.std.specs.Prelude.{◌≡◌, ◌≢◌, ◌<◌, ◌≤◌, �
 ghost use Rattle.map_table.specs.Values.{stored_of};
 ghost use Rattle.map_table.specs.Law.{ways_of};
 ghost use Rattle.map_table.specs.Writing.{Works};
-ghost use Rattle.map_table_laws.specs.declared.moves.Move.{Move};
+ghost use Rattle.table_words.specs.declared.moves.Move.{Move};
 ghost use Rattle.host_tables.specs.Tables.{Finds, FindsNoRoom, IsNoRoom, IsNotSet, IsTidy, LinksNew, MakesRoom, PutsUnder, PutsWithRoom, Reclaims, Replaces, Seeks, Sets, SumsUp, Unlinks, needed_for};
-ghost use Rattle.map_table_laws.specs.History.{word_in};
+ghost use Rattle.table_words.specs.History.{word_in};
 
 use crate::fault::{How, SetFault};
 use map_table::{MapTable, Room, Writer};

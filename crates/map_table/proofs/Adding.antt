@@ -1,5 +1,5 @@
 -- What a call that adds to a word rests on.
-use Rattle.map_table_laws.proofs.Prelude.{◌≡◌, ℕ, ◌+◌, ◌%◌, ◌<◌, ◌≤◌, ◌^◌, [], ◌∷◌, ◌++◌, refl, sym, ap, ◌∙◌, subst, none, word_at, Holds, IsReader}
+use Rattle.table_words.proofs.Prelude.{◌≡◌, ℕ, ◌+◌, ◌%◌, ◌<◌, ◌≤◌, ◌^◌, [], ◌∷◌, ◌++◌, refl, sym, ap, ◌∙◌, subst, none, word_at, Holds, IsReader}
 use Rattle.map_table.proofs.Prelude.{Move, Load, Store, layout_of, TableShape, View, Kept, adds, did, Holder, first_of}
 use Rattle.atomic_table.specs.Table.{Me, step, Allows}
 use Rattle.atomic_table.specs.Seated.{TableId}

@@ -1,14 +1,14 @@
 -- What the calls of a seat rest on.
-use Rattle.map_table_laws.proofs.Prelude.{◌≡◌, ◌≢◌, ◌⊎◌, ℕ, suc, ◌+◌, ◌-◌, ◌*◌, ◌/◌, ◌<◌, ◌≤◌, ◌^◌, inl, inr, List, [], ◌∷◌, ◌++◌, refl, sym, ap, ◌∙◌, subst}
-use Rattle.map_table_laws.proofs.Prelude.{⊎_elim, arith, none, Names, moves_of, inside, opened, section_word, word_in, word_at, Settles, Holds, IsSpare}
-use Rattle.map_table_laws.proofs.Prelude.{IsLawful, IsReader, MayDouble, MayLink, min-eq_left, min-eq_right, dite, dec_lt}
+use Rattle.table_words.proofs.Prelude.{◌≡◌, ◌≢◌, ◌⊎◌, ℕ, suc, ◌+◌, ◌-◌, ◌*◌, ◌/◌, ◌<◌, ◌≤◌, ◌^◌, inl, inr, List, [], ◌∷◌, ◌++◌, refl, sym, ap, ◌∙◌, subst}
+use Rattle.table_words.proofs.Prelude.{⊎_elim, arith, none, Names, moves_of, inside, opened, section_word, word_in, word_at, Settles, Holds, IsSpare}
+use Rattle.table_words.proofs.Prelude.{IsLawful, IsReader, MayDouble, MayLink, min-eq_left, min-eq_right, dite, dec_lt}
 use Rattle.map_table.proofs.Prelude.{Move, Open, Close, Learn, Load, Store, section_stride, layout_of, TableShape, View, ways_from, ways_of, count_of}
 use Rattle.map_table.proofs.Prelude.{width_of, did, Kept, Gains, opens, closes, learns, stores, puts, doubles, scans, Holder, Does, IsKnown, first_of}
 use Rattle.std.proofs.Common.{min}
 use Rattle.atomic_table.specs.Table.{Me, step, Allows}
 use Rattle.atomic_table.specs.Seated.{TableId}
-use Rattle.map_table_laws.specs.History.{most_sections}
-use Rattle.map_table_laws.proofs.Standing.{named, fits}
+use Rattle.table_words.specs.History.{most_sections}
+use Rattle.table_words.proofs.Standing.{named, fits}
 use Rattle.std.proofs.Math.Nat.{min-le_right}
 use Rattle.map_table.proofs.Places.{IsAt}
 use Rattle.map_table.proofs.Lists.{stored_here}

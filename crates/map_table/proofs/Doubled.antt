@@ -1,16 +1,16 @@
 -- What the writer keeps while it moves an element.
-use Rattle.map_table_laws.proofs.Prelude.{◌≡◌, ◌≢◌, ◌⊎◌, ℕ, suc, ◌+◌, ◌*◌, ◌%◌, ◌^◌, ◌<◌, ◌≤◌, List, [], ◌∷◌, ◌++◌, length, refl, sym, ap, ◌∙◌, subst, ⊎_elim}
-use Rattle.map_table_laws.proofs.Prelude.{inl, inr, arith, set, length-set, get_or, get_or-set_other, get_or-set_same, append_assoc, slice_index, dite}
-use Rattle.map_table_laws.proofs.Prelude.{ℕ_discrete, dec_lt, Layout, Names, IsCandidate, bucket_of, bucket_ways, moves_of, word_in, key_of, IsMoving}
-use Rattle.map_table_laws.proofs.Prelude.{IsSettled, since_double, Settles, Cleared, IsSpare, IsLinked, MayDouble, IsLawful, OnlySearches, IsLinkedAs}
-use Rattle.map_table_laws.proofs.Prelude.{OnlyMoves, AreLinkedOnce, OnlyScans}
+use Rattle.table_words.proofs.Prelude.{◌≡◌, ◌≢◌, ◌⊎◌, ℕ, suc, ◌+◌, ◌*◌, ◌%◌, ◌^◌, ◌<◌, ◌≤◌, List, [], ◌∷◌, ◌++◌, length, refl, sym, ap, ◌∙◌, subst, ⊎_elim}
+use Rattle.table_words.proofs.Prelude.{inl, inr, arith, set, length-set, get_or, get_or-set_other, get_or-set_same, append_assoc, slice_index, dite}
+use Rattle.table_words.proofs.Prelude.{ℕ_discrete, dec_lt, Layout, Names, IsCandidate, bucket_of, bucket_ways, moves_of, word_in, key_of, IsMoving}
+use Rattle.table_words.proofs.Prelude.{IsSettled, since_double, Settles, Cleared, IsSpare, IsLinked, MayDouble, IsLawful, OnlySearches, IsLinkedAs}
+use Rattle.table_words.proofs.Prelude.{OnlyMoves, AreLinkedOnce, OnlyScans}
 use Rattle.map_table.proofs.Prelude.{Move, Open, Close, Learn, Load, Store, Put, Double, Scan, TableShape, View, Sighting, layout_of, first_bucket}
 use Rattle.map_table.proofs.Prelude.{second_bucket, Gains, ways_of, Went, IsKnown, IsSized, HasGone, HaveGone, IsSomeInside, NoneCanMove, StandStill}
 use Rattle.map_table.proofs.Prelude.{StayLinked, AreSightings, WriterView, IsFree, IsUnlinked, IsNoneLost, IsWriter}
 use Rattle.std.proofs.Math.ListN.{get_or-eq_default}
-use Rattle.map_table_laws.proofs.Moved.{stays_linked, linked_early, moves_once}
-use Rattle.map_table_laws.proofs.Steps.{doubled_here, doubled_there, nothing_named, put_here, put_there}
-use Rattle.map_table_laws.proofs.Standing.{named, one_way}
+use Rattle.table_words.proofs.Moved.{stays_linked, linked_early, moves_once}
+use Rattle.table_words.proofs.Steps.{doubled_here, doubled_there, nothing_named, put_here, put_there}
+use Rattle.table_words.proofs.Standing.{named, one_way}
 use Rattle.table_words.specs.Ways.{IsOfBoth}
 use Rattle.map_table.specs.Moving.{HasFullBuckets, IsNth}
 use Rattle.map_table.proofs.Filling.{own_list, tail_of, went_shape, went_me}

@@ -1,10 +1,10 @@
 -- What the writer stores in a spare element stays there.
-use Rattle.map_table_laws.proofs.Prelude.{◌≡◌, ◌≢◌, ℕ, ◌+◌, ◌<◌, ◌≤◌, List, [], ◌∷◌, ◌++◌, length, refl, sym, ap, ◌∙◌, subst, ⊎_elim, arith, eq-eqb, ne_eqb}
-use Rattle.map_table_laws.proofs.Prelude.{slice_index, dite, ℕ_discrete, Layout, moves_of, word_at, word_after, key_of, Holds, IsSpare, IsOpenTo, MayDo}
-use Rattle.map_table_laws.proofs.Prelude.{IsLawful}
+use Rattle.table_words.proofs.Prelude.{◌≡◌, ◌≢◌, ℕ, ◌+◌, ◌<◌, ◌≤◌, List, [], ◌∷◌, ◌++◌, length, refl, sym, ap, ◌∙◌, subst, ⊎_elim, arith, eq-eqb, ne_eqb}
+use Rattle.table_words.proofs.Prelude.{slice_index, dite, ℕ_discrete, Layout, moves_of, word_at, word_after, key_of, Holds, IsSpare, IsOpenTo, MayDo}
+use Rattle.table_words.proofs.Prelude.{IsLawful}
 use Rattle.map_table.proofs.Prelude.{Move, Open, Close, Learn, Load, Store, Put, Double, Scan, TableShape, View, layout_of, Went, IsKnown}
-use Rattle.map_table_laws.proofs.Steps.{own, others, key_is}
-use Rattle.map_table_laws.proofs.Holding.{spare_unheld}
+use Rattle.table_words.proofs.Steps.{own, others, key_is}
+use Rattle.table_words.proofs.Holding.{spare_unheld}
 use Rattle.map_table.proofs.Going.{went_known}
 use Rattle.map_table.proofs.Own.{longer}
 

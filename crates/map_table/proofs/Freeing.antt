@@ -1,6 +1,6 @@
 -- What reclaiming leaves.
-use Rattle.map_table_laws.proofs.Prelude.{◌≡◌, ℕ, zero, suc, ◌+◌, ◌<◌, ◌≤◌, List, ◌++◌, length, get_or, sym, ap, ◌∙◌, subst, ⊎_elim, arith, take, drop}
-use Rattle.map_table_laws.proofs.Prelude.{slice_index, All, length-drop, length-take-le, get_or-drop, get_or_default, take-append-drop, Cleared}
+use Rattle.table_words.proofs.Prelude.{◌≡◌, ℕ, zero, suc, ◌+◌, ◌<◌, ◌≤◌, List, ◌++◌, length, get_or, sym, ap, ◌∙◌, subst, ⊎_elim, arith, take, drop}
+use Rattle.table_words.proofs.Prelude.{slice_index, All, length-drop, length-take-le, get_or-drop, get_or_default, take-append-drop, Cleared}
 use Rattle.map_table.proofs.Prelude.{Move, View, Sighting, sighting_at, AreSightings, Least, AreCleared, IsHeldUp, times_in, IsFree, IsUnlinked, IsWriter}
 use Rattle.std.proofs.lemmas.List.{get_or-take}
 use Rattle.map_table.proofs.Members.{times_append, all_append}

@@ -1,5 +1,5 @@
 -- Stretches of a holder's list.
-use Rattle.map_table_laws.proofs.Prelude.{◌≡◌, ℕ, List, [], ◌∷◌, ◌++◌, refl, sym, ap, ◌∙◌, subst, append_assoc, moves_of, IsLawful}
+use Rattle.table_words.proofs.Prelude.{◌≡◌, ℕ, List, [], ◌∷◌, ◌++◌, refl, sym, ap, ◌∙◌, subst, append_assoc, moves_of, IsLawful}
 use Rattle.map_table.proofs.Prelude.{Move, View, layout_of, Gains, Holder, Does, Goes, Went, IsKnown, HasSeated}
 
 pub went_none : (v : View) → IsKnown v → Went v v.mine v

@@ -1,10 +1,10 @@
 -- What the writer keeps through its steps.
-use Rattle.map_table_laws.proofs.Prelude.{◌≡◌, ◌≢◌, ℕ, zero, suc, ◌+◌, ◌-◌, ◌<◌, ◌*◌, List, [], ◌∷◌, ◌++◌, get_or, refl, sym, ap, ◌∙◌, subst, inr, arith}
-use Rattle.map_table_laws.proofs.Prelude.{append_assoc, set, length-set, get_or-set_other, get_or-set_same, All, slice_index, dite, ℕ_discrete, Layout, Names}
-use Rattle.map_table_laws.proofs.Prelude.{word_in, IsLinked, IsMoving, IsSettled, Settles, Cleared, IsSpare, OnlySearches, OnlyScans, ScansInTurn}
+use Rattle.table_words.proofs.Prelude.{◌≡◌, ◌≢◌, ℕ, zero, suc, ◌+◌, ◌-◌, ◌<◌, ◌*◌, List, [], ◌∷◌, ◌++◌, get_or, refl, sym, ap, ◌∙◌, subst, inr, arith}
+use Rattle.table_words.proofs.Prelude.{append_assoc, set, length-set, get_or-set_other, get_or-set_same, All, slice_index, dite, ℕ_discrete, Layout, Names}
+use Rattle.table_words.proofs.Prelude.{word_in, IsLinked, IsMoving, IsSettled, Settles, Cleared, IsSpare, OnlySearches, OnlyScans, ScansInTurn}
 use Rattle.map_table.proofs.Prelude.{Move, Open, Close, Learn, Load, Store, Put, Double, Scan, TableShape, View, ways_of, AddsUp, Went, IsSized, OnlyLoads}
 use Rattle.map_table.proofs.Prelude.{Fills, times_in, IsFree, IsUnlinked, IsWriter}
-use Rattle.map_table_laws.proofs.Steps.{put_here, put_there, one_name, nothing_named}
+use Rattle.table_words.proofs.Steps.{put_here, put_there, one_name, nothing_named}
 use Rattle.map_table.proofs.Going.{went_known, went_mine}
 use Rattle.map_table.proofs.Filling.{went_shape, went_me}
 use Rattle.map_table.proofs.Members.{all_to, all_both, all_else}

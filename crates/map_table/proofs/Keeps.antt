@@ -1,8 +1,8 @@
 -- Each step keeps the rule.
-use Rattle.map_table_laws.proofs.Prelude.{◌≡◌, ◌≢◌, ◌⊎◌, ℕ, zero, suc, ◌+◌, ◌-◌, ◌*◌, ◌/◌, ◌%◌, ◌<◌, ◌≤◌, List, [], ◌∷◌, ◌++◌, length, get_or, set, refl, sym}
-use Rattle.map_table_laws.proofs.Prelude.{ap, ◌∙◌, subst, ⊎_elim, inl, inr, arith, eq-eqb, ne_eqb, ◌==◌, if◌then◌else◌, length-set, get_or-set_other}
-use Rattle.map_table_laws.proofs.Prelude.{get_or-set_same, ◌^◌, dite, none, ℕ_discrete, moves_of, inside, section_word, word_in, IsLawful, Holds, IsSpare}
-use Rattle.map_table_laws.proofs.Prelude.{IsOpenTo, Settles, MayDo, MayDouble, MayLink, IsReader, word_at}
+use Rattle.table_words.proofs.Prelude.{◌≡◌, ◌≢◌, ◌⊎◌, ℕ, zero, suc, ◌+◌, ◌-◌, ◌*◌, ◌/◌, ◌%◌, ◌<◌, ◌≤◌, List, [], ◌∷◌, ◌++◌, length, get_or, set, refl, sym}
+use Rattle.table_words.proofs.Prelude.{ap, ◌∙◌, subst, ⊎_elim, inl, inr, arith, eq-eqb, ne_eqb, ◌==◌, if◌then◌else◌, length-set, get_or-set_other}
+use Rattle.table_words.proofs.Prelude.{get_or-set_same, ◌^◌, dite, none, ℕ_discrete, moves_of, inside, section_word, word_in, IsLawful, Holds, IsSpare}
+use Rattle.table_words.proofs.Prelude.{IsOpenTo, Settles, MayDo, MayDouble, MayLink, IsReader, word_at}
 use Rattle.map_table.proofs.Prelude.{Move, Open, Close, Learn, Load, Store, Put, Double, Scan, TableShape, View, layout_of, section_stride, ways_from}
 use Rattle.map_table.proofs.Prelude.{ways_of, width_of, count_of, Kept, dealt, did, Gains, base_of, index_in, opens, closes, learns, stores, adds, puts}
 use Rattle.map_table.proofs.Prelude.{doubles, scans, IsKnown}
@@ -15,7 +15,7 @@ use Rattle.atomic_table.specs.Table.{State, Me, step, keeps, stepped, Allows, Sp
 use Rattle.atomic_table.proofs.Lists.{at_set}
 use Rattle.map_table.specs.Law.{Fits, writer_of, reader_of, loads}
 use Rattle.map_table.proofs.Lists.{moves_self, moves_else, IsQuiet, IsStill, IsIdle, quiet, still, idle, stored_here, stored_in_another, stored_beside}
-use Rattle.map_table_laws.proofs.Steps.{put_here, put_there, doubled_here, doubled_there}
+use Rattle.table_words.proofs.Steps.{put_here, put_there, doubled_here, doubled_there}
 use Rattle.map_table.proofs.Own.{may_later, double_later}
 use Rattle.map_table.proofs.Places.{IsAt, load_move, store_move, same_place, place_within}
 

@@ -1,10 +1,10 @@
 -- What linking an element leaves.
-use Rattle.map_table_laws.proofs.Prelude.{◌≡◌, ℕ, ◌+◌, ◌*◌, ◌<◌, ◌≤◌, List, [], ◌∷◌, ◌++◌, length, set, refl, sym, ap, ◌∙◌, subst, ⊎_elim, inl, inr, arith}
-use Rattle.map_table_laws.proofs.Prelude.{length-append, All, dite, ℕ_discrete, Layout, IsCandidate, Names, tag_in, bucket_of, bucket_ways, moves_of, word_in}
-use Rattle.map_table_laws.proofs.Prelude.{key_of, IsSpare, MayLink, IsLawful, IsLinkedUnder}
+use Rattle.table_words.proofs.Prelude.{◌≡◌, ℕ, ◌+◌, ◌*◌, ◌<◌, ◌≤◌, List, [], ◌∷◌, ◌++◌, length, set, refl, sym, ap, ◌∙◌, subst, ⊎_elim, inl, inr, arith}
+use Rattle.table_words.proofs.Prelude.{length-append, All, dite, ℕ_discrete, Layout, IsCandidate, Names, tag_in, bucket_of, bucket_ways, moves_of, word_in}
+use Rattle.table_words.proofs.Prelude.{key_of, IsSpare, MayLink, IsLawful, IsLinkedUnder}
 use Rattle.map_table.proofs.Prelude.{Move, Put, TableShape, View, layout_of, tag_of, first_bucket, second_bucket, ways_of, Holder, Goes, Went, IsKnown, Fills}
 use Rattle.map_table.proofs.Prelude.{times_in, IsFree, IsWriter}
-use Rattle.map_table_laws.proofs.Steps.{own, others, key_put}
+use Rattle.table_words.proofs.Steps.{own, others, key_put}
 use Rattle.table_words.specs.Ways.{IsOfBoth}
 use Rattle.map_table.proofs.Going.{went_known}
 use Rattle.atomic_table.specs.Seated.{TableId}

@@ -1,5 +1,5 @@
 -- The moves of one holder, after one more event.
-use Rattle.map_table_laws.proofs.Prelude.{◌≡◌, ◌≢◌, ℕ, List, ◌∷◌, refl, ap, eq-eqb, ne_eqb, dite, ℕ_discrete, moves_of, section_word, word_in, word_at}
+use Rattle.table_words.proofs.Prelude.{◌≡◌, ◌≢◌, ℕ, List, ◌∷◌, refl, ap, eq-eqb, ne_eqb, dite, ℕ_discrete, moves_of, section_word, word_in, word_at}
 use Rattle.map_table.proofs.Prelude.{Move, Open, Close, Learn, Load, Store, Put, Double, Scan}
 
 pub moves_self : (who : ℕ) (m : Move) (es : List (ℕ × Move)) → moves_of who ((who, m) ∷ es) ≡ m ∷ moves_of who es

@@ -1,6 +1,6 @@
 -- Words of an element that were loaded one after another.
-use Rattle.map_table_laws.proofs.Prelude.{◌≡◌, ℕ, zero, suc, ◌+◌, ◌<◌, ◌≤◌, List, ◌∷◌, length, refl, sym, ap, ◌∙◌, subst, inl, inr, arith, add-one, set}
-use Rattle.map_table_laws.proofs.Prelude.{get_or-set_same, get_or-set_other, slice_index, dite, ℕ_discrete, HadWord}
+use Rattle.table_words.proofs.Prelude.{◌≡◌, ℕ, zero, suc, ◌+◌, ◌<◌, ◌≤◌, List, ◌∷◌, length, refl, sym, ap, ◌∙◌, subst, inl, inr, arith, add-one, set}
+use Rattle.table_words.proofs.Prelude.{get_or-set_same, get_or-set_other, slice_index, dite, ℕ_discrete, HadWord}
 use Rattle.map_table.proofs.Prelude.{Move, Load, Reads}
 
 -- a word behind them changes none of them

@@ -1,15 +1,15 @@
 -- Stretches that only search.
-use Rattle.map_table_laws.proofs.Prelude.{◌≡◌, ◌⊎◌, ℕ, ◌+◌, ◌*◌, ◌<◌, ◌≤◌, List, [], ◌∷◌, ◌++◌, refl, sym, ap, ◌∙◌, subst, ⊎_elim, inl, inr}
-use Rattle.map_table_laws.proofs.Prelude.{arith, length, Some, None, append_cancel_right, mul-le, slice_index, dite, ℕ_discrete, Names, bucket_of}
-use Rattle.map_table_laws.proofs.Prelude.{bucket_ways, inside, Holds, IsLawful, OnlySearches, FoundIn, HadWord, Refuted, AnswersLookup}
+use Rattle.table_words.proofs.Prelude.{◌≡◌, ◌⊎◌, ℕ, ◌+◌, ◌*◌, ◌<◌, ◌≤◌, List, [], ◌∷◌, ◌++◌, refl, sym, ap, ◌∙◌, subst, ⊎_elim, inl, inr}
+use Rattle.table_words.proofs.Prelude.{arith, length, Some, None, append_cancel_right, mul-le, slice_index, dite, ℕ_discrete, Names, bucket_of}
+use Rattle.table_words.proofs.Prelude.{bucket_ways, inside, Holds, IsLawful, OnlySearches, FoundIn, HadWord, Refuted, AnswersLookup}
 use Rattle.map_table.proofs.Prelude.{Move, Open, Close, Learn, Load, Store, Put, Double, Scan, TableShape, layout_of, first_bucket, second_bucket}
 use Rattle.map_table.proofs.Prelude.{Holder, Goes}
 use Rattle.std.proofs.Common.{Option}
 use Rattle.std.proofs.lemmas.List.{length-append}
 use Rattle.std.specs.Prelude.{IfSome, IsSome}
-use Rattle.map_table_laws.specs.Lookups.{LooksUp}
-use Rattle.map_table_laws.proofs.Moments.{lawful_early, stays_found}
-use Rattle.map_table_laws.proofs.Hits.{hit_linked}
+use Rattle.table_words.specs.Lookups.{LooksUp}
+use Rattle.table_words.proofs.Moments.{lawful_early, stays_found}
+use Rattle.table_words.proofs.Hits.{hit_linked}
 use Rattle.map_table.specs.Search.{HadKey, HadOther, Searched, StaysThere, WasThere}
 use Rattle.map_table.proofs.Going.{goes_fact, goes_known, went_mine}
 

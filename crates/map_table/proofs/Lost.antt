@@ -1,8 +1,8 @@
 -- No element is lost: one that is neither free nor unlinked is linked.
-use Rattle.map_table_laws.proofs.Prelude.{◌≡◌, ℕ, zero, suc, ◌+◌, ◌<◌, ◌≤◌, List, [], ◌∷◌, ◌++◌, sym, ap, ◌∙◌, subst, arith, take, drop, range_with_len}
-use Rattle.map_table_laws.proofs.Prelude.{take-append-drop, dite, ℕ_discrete, Names, word_in, IsLinked}
+use Rattle.table_words.proofs.Prelude.{◌≡◌, ℕ, zero, suc, ◌+◌, ◌<◌, ◌≤◌, List, [], ◌∷◌, ◌++◌, sym, ap, ◌∙◌, subst, arith, take, drop, range_with_len}
+use Rattle.table_words.proofs.Prelude.{take-append-drop, dite, ℕ_discrete, Names, word_in, IsLinked}
 use Rattle.map_table.proofs.Prelude.{Move, Put, TableShape, View, Went, writer_after, times_in, IsNoneLost}
-use Rattle.map_table_laws.proofs.Steps.{one_name, nothing_named}
+use Rattle.table_words.proofs.Steps.{one_name, nothing_named}
 use Rattle.map_table.proofs.Filling.{went_shape}
 use Rattle.map_table.proofs.Keeping.{IsQuiet, same_word, here, there}
 use Rattle.map_table.proofs.Members.{one_for, one_same, none_for, times_append, times_push}

@@ -1,6 +1,6 @@
 -- Lists of elements, each once at most.
-use Rattle.map_table_laws.proofs.Prelude.{◌≡◌, ◌≢◌, ℕ, zero, suc, ◌+◌, ◌<◌, ◌≤◌, List, [], ◌∷◌, ◌++◌, length, get_or, refl, sym, ap, ◌∙◌, subst, arith}
-use Rattle.map_table_laws.proofs.Prelude.{eq-eqb, ne_eqb, All, ◌==◌, if◌then◌else◌, length-append, dite, ℕ_discrete, range_with_len, add-one}
+use Rattle.table_words.proofs.Prelude.{◌≡◌, ◌≢◌, ℕ, zero, suc, ◌+◌, ◌<◌, ◌≤◌, List, [], ◌∷◌, ◌++◌, length, get_or, refl, sym, ap, ◌∙◌, subst, arith}
+use Rattle.table_words.proofs.Prelude.{eq-eqb, ne_eqb, All, ◌==◌, if◌then◌else◌, length-append, dite, ℕ_discrete, range_with_len, add-one}
 use Rattle.map_table.proofs.Prelude.{times_in}
 use Rattle.std.proofs.lemmas.List.FromFn.{length-range_with_len, get_or-range_with_len}
 

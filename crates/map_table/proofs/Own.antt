@@ -1,9 +1,9 @@
 -- What nobody but the writer changes.
-use Rattle.map_table_laws.proofs.Prelude.{◌≡◌, ◌≢◌, ◌⊎◌, ℕ, ◌≤◌, List, [], ◌∷◌, ◌++◌, length, refl, sym, ap, ◌∙◌, subst, ⊎_elim, inl, inr, arith, dite}
-use Rattle.map_table_laws.proofs.Prelude.{ℕ_discrete, Layout, IsCandidate, moves_of, word_in, key_of, IsSettled, Holds, IsSpare, IsOpenTo, MayDo, MayDouble}
-use Rattle.map_table_laws.proofs.Prelude.{MayLink, IsLawful}
+use Rattle.table_words.proofs.Prelude.{◌≡◌, ◌≢◌, ◌⊎◌, ℕ, ◌≤◌, List, [], ◌∷◌, ◌++◌, length, refl, sym, ap, ◌∙◌, subst, ⊎_elim, inl, inr, arith, dite}
+use Rattle.table_words.proofs.Prelude.{ℕ_discrete, Layout, IsCandidate, moves_of, word_in, key_of, IsSettled, Holds, IsSpare, IsOpenTo, MayDo, MayDouble}
+use Rattle.table_words.proofs.Prelude.{MayLink, IsLawful}
 use Rattle.map_table.proofs.Prelude.{Move, Open, Close, Learn, Load, Store, Put, Double, Scan}
-use Rattle.map_table_laws.proofs.Steps.{own, others, key_stored, key_learn, key_load, key_put, key_doubled, key_other}
+use Rattle.table_words.proofs.Steps.{own, others, key_stored, key_learn, key_load, key_put, key_doubled, key_other}
 
 -- a reader's step leaves each key
 pub readers_leave : (k : Layout) (es : List (ℕ × Move)) (who element : ℕ) (m : Move) → who ≢ 0 → MayDo k es who m →

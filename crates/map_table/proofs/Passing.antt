@@ -1,9 +1,9 @@
 -- Whether readers have left their sections.
-use Rattle.map_table_laws.proofs.Prelude.{◌≡◌, ◌≢◌, ℕ, ◌+◌, ◌%◌, ◌<◌, ◌≤◌, List, [], ◌∷◌, ◌++◌, refl, sym, subst, inl, inr, arith, Bool, true, false}
-use Rattle.map_table_laws.proofs.Prelude.{MatchBool, dite, ℕ_discrete, OnlyScans, FoundInside, FoundOther, FoundGone}
+use Rattle.table_words.proofs.Prelude.{◌≡◌, ◌≢◌, ℕ, ◌+◌, ◌%◌, ◌<◌, ◌≤◌, List, [], ◌∷◌, ◌++◌, refl, sym, subst, inl, inr, arith, Bool, true, false}
+use Rattle.table_words.proofs.Prelude.{MatchBool, dite, ℕ_discrete, OnlyScans, FoundInside, FoundOther, FoundGone}
 use Rattle.map_table.proofs.Prelude.{Move, Open, Close, Learn, Load, Store, Put, Double, Scan, View, Went, HaveGone, IsSomeInside}
-use Rattle.map_table_laws.proofs.Moved.{gone_front, gone_back}
-use Rattle.map_table_laws.proofs.Words.{odd_else}
+use Rattle.table_words.proofs.Moved.{gone_front, gone_back}
+use Rattle.table_words.proofs.Words.{odd_else}
 use Rattle.map_table.proofs.Going.{went_then}
 use Rattle.map_table.proofs.Seen.{inside_front}
 

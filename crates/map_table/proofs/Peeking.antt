@@ -1,11 +1,11 @@
 -- What the writer reads of elements stays so.
-use Rattle.map_table_laws.proofs.Prelude.{◌≡◌, ◌≢◌, ◌⊎◌, ℕ, ◌+◌, ◌*◌, ◌%◌, ◌^◌, ◌<◌, ◌≤◌, List, [], ◌∷◌, ◌++◌, refl, sym, ap, ◌∙◌, subst, ⊎_elim, arith}
-use Rattle.map_table_laws.proofs.Prelude.{slice_index, true, false, dite, ℕ_discrete, Layout, IsCandidate, Names, tag_in, bucket_of, bucket_ways, moves_of}
-use Rattle.map_table_laws.proofs.Prelude.{word_in, word_at, key_of, IsLawful, OnlySearches, IsLinkedUnder}
+use Rattle.table_words.proofs.Prelude.{◌≡◌, ◌≢◌, ◌⊎◌, ℕ, ◌+◌, ◌*◌, ◌%◌, ◌^◌, ◌<◌, ◌≤◌, List, [], ◌∷◌, ◌++◌, refl, sym, ap, ◌∙◌, subst, ⊎_elim, arith}
+use Rattle.table_words.proofs.Prelude.{slice_index, true, false, dite, ℕ_discrete, Layout, IsCandidate, Names, tag_in, bucket_of, bucket_ways, moves_of}
+use Rattle.table_words.proofs.Prelude.{word_in, word_at, key_of, IsLawful, OnlySearches, IsLinkedUnder}
 use Rattle.map_table.proofs.Prelude.{Move, Open, Close, Learn, Load, Store, Put, Double, Scan, TableShape, View, layout_of, tag_of, first_bucket}
 use Rattle.map_table.proofs.Prelude.{second_bucket, Went, IsKnown}
-use Rattle.map_table_laws.proofs.Steps.{own, others, key_learn, key_load, key_word, one_name}
-use Rattle.map_table_laws.proofs.Standing.{fits}
+use Rattle.table_words.proofs.Steps.{own, others, key_learn, key_load, key_word, one_name}
+use Rattle.table_words.proofs.Standing.{fits}
 use Rattle.map_table.proofs.Going.{went_known}
 use Rattle.map_table.proofs.Filling.{own_list, went_me}
 use Rattle.map_table.proofs.Own.{readers_leave}

@@ -1,5 +1,5 @@
 -- Where the words of slots lie.
-use Rattle.map_table_laws.proofs.Prelude.{◌≡◌, ℕ, ◌+◌, ◌-◌, ◌*◌, ◌/◌, ◌%◌, ◌<◌, ap, ◌∙◌, sym, subst, arith, div-mul-add, mul-add-lt}
+use Rattle.table_words.proofs.Prelude.{◌≡◌, ℕ, ◌+◌, ◌-◌, ◌*◌, ◌/◌, ◌%◌, ◌<◌, ap, ◌∙◌, sym, subst, arith, div-mul-add, mul-add-lt}
 use Rattle.map_table.proofs.Prelude.{Load, Store, TableShape, base_of, width_of, count_of, index_in}
 use Rattle.std.proofs.lemmas.Nat.{mod-mul-add, same_from_place}
 

@@ -11,8 +11,8 @@ pub use Rattle.map_table.specs.Sightings.{AreSightings, sighting_at, Least, AreC
 pub use Rattle.map_table.specs.Values.{first_of, stored_of, copies_of}
 pub use Rattle.map_table.specs.Writing.{WriterView, IsWriter, Fills, as_holder, IsNoneLost, IsFree, IsUnlinked, times_in, Works, AreFull, HasSeated, StaysIn}
 pub use Rattle.map_table.specs.Writing.{MakesSeat}
-pub use Rattle.map_table_laws.specs.declared.moves.Move.{Move}
-pub use Rattle.map_table_laws.specs.declared.moves.Move.TheVariants.{Load, Put, Store, Scan, Learn, Open, Close, Double}
+pub use Rattle.table_words.specs.declared.moves.Move.{Move}
+pub use Rattle.table_words.specs.declared.moves.Move.TheVariants.{Load, Put, Store, Scan, Learn, Open, Close, Double}
 pub use Rattle.table_words.specs.declared.notes.Sighting.{Sighting}
 pub use Rattle.table_words.specs.declared.view.TableShape.{TableShape}
 pub use Rattle.table_words.specs.declared.view.View.{View}

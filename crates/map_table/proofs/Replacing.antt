@@ -1,10 +1,10 @@
 -- A key stays linked while its element is replaced.
-use Rattle.map_table_laws.proofs.Prelude.{◌≡◌, ℕ, zero, suc, List, [], ◌∷◌, ◌++◌, refl, sym, ap, ◌∙◌, subst, inr, append_assoc, append_cancel_right, dite}
-use Rattle.map_table_laws.proofs.Prelude.{ℕ_discrete, Layout, Names, moves_of, key_of, MayDo, IsLawful, IsLinkedUnder, BearsKey, KeepsKey, OnlyReplaces}
+use Rattle.table_words.proofs.Prelude.{◌≡◌, ℕ, zero, suc, List, [], ◌∷◌, ◌++◌, refl, sym, ap, ◌∙◌, subst, inr, append_assoc, append_cancel_right, dite}
+use Rattle.table_words.proofs.Prelude.{ℕ_discrete, Layout, Names, moves_of, key_of, MayDo, IsLawful, IsLinkedUnder, BearsKey, KeepsKey, OnlyReplaces}
 use Rattle.map_table.proofs.Prelude.{Move, Open, Close, Learn, Load, Store, Put, Double, Scan, TableShape, View, layout_of, Went, IsKnown, Fills, StaysIn}
-use Rattle.map_table_laws.proofs.Looks.{moves_append}
-use Rattle.map_table_laws.proofs.Steps.{own, others}
-use Rattle.map_table_laws.proofs.Writing.{only_replaced}
+use Rattle.table_words.proofs.Looks.{moves_append}
+use Rattle.table_words.proofs.Steps.{own, others}
+use Rattle.table_words.proofs.Writing.{only_replaced}
 use Rattle.map_table.proofs.Going.{went_known}
 use Rattle.map_table.proofs.Own.{keys_stay}
 use Rattle.map_table.proofs.Filling.{own_list, went_shape, went_me, head_of, tail_of}

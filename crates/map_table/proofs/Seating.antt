@@ -1,5 +1,5 @@
 -- The writer once it has made one more reader.
-use Rattle.map_table_laws.proofs.Prelude.{◌+◌, ◌≤◌, ℕ, List, ap}
+use Rattle.table_words.proofs.Prelude.{◌+◌, ◌≤◌, ℕ, List, ap}
 use Rattle.map_table.proofs.Prelude.{Sighting, View, dealt, AreSightings, HasSeated, IsWriter}
 
 pub seated_writer : (v : View) (ways free unlinked : List ℕ) → IsWriter v ways free unlinked → IsWriter (dealt v) ways free unlinked

@@ -1,8 +1,8 @@
 -- What the writer notes of its readers stays right.
-use Rattle.map_table_laws.proofs.Prelude.{◌≡◌, ◌≢◌, ◌⊎◌, ℕ, zero, suc, ◌+◌, ◌-◌, ◌%◌, ◌<◌, ◌≤◌, List, [], ◌∷◌, ◌++◌, length, refl, sym, ap, ◌∙◌, subst}
-use Rattle.map_table_laws.proofs.Prelude.{⊎_elim, inl, inr, arith, drop, set, length-set, get_or-set_same, get_or-set_other, slice_index, All, length-append}
-use Rattle.map_table_laws.proofs.Prelude.{length-drop, get_or-drop, dite, ℕ_discrete, dec_lt, Layout, Names, word_in, FoundSince, HasLeft, Cleared}
-use Rattle.map_table_laws.proofs.Prelude.{OnlySearches, ScansInTurn, FoundInside}
+use Rattle.table_words.proofs.Prelude.{◌≡◌, ◌≢◌, ◌⊎◌, ℕ, zero, suc, ◌+◌, ◌-◌, ◌%◌, ◌<◌, ◌≤◌, List, [], ◌∷◌, ◌++◌, length, refl, sym, ap, ◌∙◌, subst}
+use Rattle.table_words.proofs.Prelude.{⊎_elim, inl, inr, arith, drop, set, length-set, get_or-set_same, get_or-set_other, slice_index, All, length-append}
+use Rattle.table_words.proofs.Prelude.{length-drop, get_or-drop, dite, ℕ_discrete, dec_lt, Layout, Names, word_in, FoundSince, HasLeft, Cleared}
+use Rattle.table_words.proofs.Prelude.{OnlySearches, ScansInTurn, FoundInside}
 use Rattle.map_table.proofs.Prelude.{Move, Open, Close, Learn, Load, Store, Put, Double, Scan, TableShape, View, Sighting, AddsUp, Went, OnlyLoads}
 use Rattle.map_table.proofs.Prelude.{writer_after, no_sighting, sighting_at, AreSightings, IsNoted, Fills, IsUnlinked}
 use Rattle.std.proofs.Common.{◌↔◌}

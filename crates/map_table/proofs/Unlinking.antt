@@ -1,11 +1,11 @@
 -- What unlinking and reclaiming leave.
-use Rattle.map_table_laws.proofs.Prelude.{◌≡◌, ◌≢◌, ℕ, suc, ◌+◌, ◌%◌, ◌^◌, ◌<◌, ◌≤◌, List, [], ◌∷◌, ◌++◌, length, get_or, set, refl, sym, ap, ◌∙◌, subst}
-use Rattle.map_table_laws.proofs.Prelude.{⊎_elim, arith, length-append, slice_index, range_with_len, get_or_default, dite, ℕ_discrete, IsCandidate, Names}
-use Rattle.map_table_laws.proofs.Prelude.{moves_of, word_in, IsSettled, IsLinkedUnder}
+use Rattle.table_words.proofs.Prelude.{◌≡◌, ◌≢◌, ℕ, suc, ◌+◌, ◌%◌, ◌^◌, ◌<◌, ◌≤◌, List, [], ◌∷◌, ◌++◌, length, get_or, set, refl, sym, ap, ◌∙◌, subst}
+use Rattle.table_words.proofs.Prelude.{⊎_elim, arith, length-append, slice_index, range_with_len, get_or_default, dite, ℕ_discrete, IsCandidate, Names}
+use Rattle.table_words.proofs.Prelude.{moves_of, word_in, IsSettled, IsLinkedUnder}
 use Rattle.map_table.proofs.Prelude.{Move, Put, TableShape, View, layout_of, ways_of, writer_after, Went, IsSized, Fills, times_in, IsFree, IsUnlinked}
 use Rattle.map_table.proofs.Prelude.{IsWriter}
-use Rattle.map_table_laws.proofs.Steps.{one_name, nothing_named}
-use Rattle.map_table_laws.proofs.Standing.{named, fits, one_way}
+use Rattle.table_words.proofs.Steps.{one_name, nothing_named}
+use Rattle.table_words.proofs.Standing.{named, fits, one_way}
 use Rattle.map_table.proofs.Filling.{own_list, went_shape}
 use Rattle.map_table.proofs.Members.{one_for, times_append, times_push, times_range, all_nil, all_append, all_push, all_to, all_range, nowhere, room, few}
 use Rattle.map_table.proofs.Members.{at_most_one, none_for}

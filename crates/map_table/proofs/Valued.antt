@@ -1,6 +1,6 @@
 -- Where a reader's own value lies.
-use Rattle.map_table_laws.proofs.Prelude.{◌≡◌, ◌⊎◌, ℕ, ◌+◌, ◌-◌, ◌*◌, ◌/◌, ◌<◌, ◌≤◌, refl, ap, ◌∙◌, inl, inr, arith, div-mul-add, mul-add-lt, mul-le}
-use Rattle.map_table_laws.proofs.Prelude.{IsOpenTo, IsReader}
+use Rattle.table_words.proofs.Prelude.{◌≡◌, ◌⊎◌, ℕ, ◌+◌, ◌-◌, ◌*◌, ◌/◌, ◌<◌, ◌≤◌, refl, ap, ◌∙◌, inl, inr, arith, div-mul-add, mul-add-lt, mul-le}
+use Rattle.table_words.proofs.Prelude.{IsOpenTo, IsReader}
 use Rattle.map_table.proofs.Prelude.{TableShape, most_words, copies_of, first_of, layout_of, width_of, IsSized}
 use Rattle.table_words.specs.declared.view.Values.{Values}
 use Rattle.table_words.specs.declared.view.Values.TheVariants.{Shared, PerReader}

@@ -1,12 +1,12 @@
 -- What a reader that meets a way finds there.
-use Rattle.map_table_laws.proofs.Prelude.{◌≡◌, ℕ, ◌<◌, List, [], ◌∷◌, ◌++◌, length, refl, sym, ap, ◌∙◌, subst, inl, inr, append_cancel_right, slice_index}
-use Rattle.map_table_laws.proofs.Prelude.{Names, moves_of, key_of, IsLawful, FoundIn, HadWord, StaysInside, LookedAt, Meets}
+use Rattle.table_words.proofs.Prelude.{◌≡◌, ℕ, ◌<◌, List, [], ◌∷◌, ◌++◌, length, refl, sym, ap, ◌∙◌, subst, inl, inr, append_cancel_right, slice_index}
+use Rattle.table_words.proofs.Prelude.{Names, moves_of, key_of, IsLawful, FoundIn, HadWord, StaysInside, LookedAt, Meets}
 use Rattle.map_table.proofs.Prelude.{Move, Open, Close, Learn, Load, Store, Put, Double, Scan, TableShape, View, layout_of, Holder, Goes, Went, IsKnown}
 use Rattle.map_table.proofs.Prelude.{Reads}
-use Rattle.map_table_laws.proofs.Steps.{key_word, key_is}
-use Rattle.map_table_laws.proofs.Looks.{moves_append}
-use Rattle.map_table_laws.proofs.Moments.{searches_inside}
-use Rattle.map_table_laws.proofs.Walks.{meets_linked}
+use Rattle.table_words.proofs.Steps.{key_word, key_is}
+use Rattle.table_words.proofs.Looks.{moves_append}
+use Rattle.table_words.proofs.Moments.{searches_inside}
+use Rattle.table_words.proofs.Walks.{meets_linked}
 use Rattle.map_table.proofs.Going.{goes_known}
 use Rattle.map_table.proofs.Lookups.{Only, only_append, found_back, had_front}
 use Rattle.map_table.proofs.Loading.{reads_had}

@@ -1,7 +1,7 @@
 -- The sum of a word of each value of an element.
 use Rattle.std.specs.Prelude.{◌≡◌, ℕ, zero, suc, ◌+◌, ◌*◌, ◌%◌, ◌^◌, List, [], ◌∷◌}
-use Rattle.map_table_laws.specs.declared.moves.Move.{Move}
-use Rattle.map_table_laws.specs.declared.moves.Move.TheVariants.{Load}
+use Rattle.table_words.specs.declared.moves.Move.{Move}
+use Rattle.table_words.specs.declared.moves.Move.TheVariants.{Load}
 
 -- So many words of an element were loaded, that at this place first, and each so many places behind the one before. The
 -- words that were found add up to the total, modulo 2^64.

@@ -1,10 +1,10 @@
 -- What the writer finds and does where it makes room for a key.
 use Rattle.std.specs.Prelude.{◌≡◌, ◌≢◌, ◌⊎◌, ℕ, ◌+◌, ◌<◌, ◌≤◌, List, ◌++◌, slice_index}
-use Rattle.map_table_laws.specs.declared.moves.Move.{Move}
-use Rattle.map_table_laws.specs.Layout.{IsCandidate, Names, bucket_ways}
-use Rattle.map_table_laws.specs.History.{word_in, key_of}
-use Rattle.map_table_laws.specs.Found.{IsLinkedAs, Throughout}
-use Rattle.map_table_laws.specs.Scanned.{FoundInside, FoundGone}
+use Rattle.table_words.specs.declared.moves.Move.{Move}
+use Rattle.table_words.specs.Layout.{IsCandidate, Names, bucket_ways}
+use Rattle.table_words.specs.History.{word_in, key_of}
+use Rattle.table_words.specs.Found.{IsLinkedAs, Throughout}
+use Rattle.table_words.specs.Scanned.{FoundInside, FoundGone}
 use Rattle.table_words.specs.declared.view.TableShape.{TableShape}
 use Rattle.table_words.specs.declared.view.View.{View}
 use Rattle.map_table.specs.Hashes.{layout_of}

@@ -1,8 +1,8 @@
 -- What loads of an element's words found.
 use Rattle.std.specs.Prelude.{◌≡◌, ℕ, zero, suc, ◌+◌, List, [], ◌∷◌, ◌++◌, slice_index}
-use Rattle.map_table_laws.specs.declared.moves.Move.{Move}
-use Rattle.map_table_laws.specs.declared.moves.Move.TheVariants.{Learn, Load}
-use Rattle.map_table_laws.specs.Layout.{Names}
+use Rattle.table_words.specs.declared.moves.Move.{Move}
+use Rattle.table_words.specs.declared.moves.Move.TheVariants.{Learn, Load}
+use Rattle.table_words.specs.Layout.{Names}
 use Rattle.map_table.specs.Held.{Holder, Goes}
 
 -- no move but loads

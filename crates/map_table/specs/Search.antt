@@ -1,10 +1,10 @@
 -- What a search of some ways for a key found, as a stretch of its seat's list.
 use Rattle.std.specs.Prelude.{◌≡◌, ◌≢◌, ◌⊎◌, ℕ, ◌<◌, ◌≤◌, List, [], ◌∷◌, ◌++◌, Option, Some, None, slice_index}
-use Rattle.map_table_laws.specs.declared.moves.Move.{Move}
-use Rattle.map_table_laws.specs.declared.moves.Move.TheVariants.{Load}
-use Rattle.map_table_laws.specs.History.{moves_of}
-use Rattle.map_table_laws.specs.Lookups.{FoundIn, HadWord, Refuted}
-use Rattle.map_table_laws.specs.Found.{IsLinkedAs, Sometime, StaysFound}
+use Rattle.table_words.specs.declared.moves.Move.{Move}
+use Rattle.table_words.specs.declared.moves.Move.TheVariants.{Load}
+use Rattle.table_words.specs.History.{moves_of}
+use Rattle.table_words.specs.Lookups.{FoundIn, HadWord, Refuted}
+use Rattle.table_words.specs.Found.{IsLinkedAs, Sometime, StaysFound}
 use Rattle.table_words.specs.declared.view.TableShape.{TableShape}
 use Rattle.map_table.specs.Hashes.{layout_of}
 

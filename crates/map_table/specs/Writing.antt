@@ -1,11 +1,11 @@
 -- What clauses see of the writer, and what it keeps of its ways and elements.
 use Rattle.std.specs.Prelude.{◌≡◌, ◌≢◌, ℕ, zero, suc, ◌+◌, ◌<◌, ◌≤◌, ◌==◌, List, [], ◌∷◌, ◌++◌, All, length, slice_index, if◌then◌else◌}
-use Rattle.map_table_laws.specs.declared.moves.Move.{Move}
-use Rattle.map_table_laws.specs.declared.moves.Move.TheVariants.{Store, Put, Scan}
-use Rattle.map_table_laws.specs.Layout.{IsCandidate}
-use Rattle.map_table_laws.specs.History.{word_in, IsLinked, IsSpare}
-use Rattle.map_table_laws.specs.Found.{StaysFound}
-use Rattle.map_table_laws.specs.Scanned.{ScansInTurn}
+use Rattle.table_words.specs.declared.moves.Move.{Move}
+use Rattle.table_words.specs.declared.moves.Move.TheVariants.{Store, Put, Scan}
+use Rattle.table_words.specs.Layout.{IsCandidate}
+use Rattle.table_words.specs.History.{word_in, IsLinked, IsSpare}
+use Rattle.table_words.specs.Found.{StaysFound}
+use Rattle.table_words.specs.Scanned.{ScansInTurn}
 use Rattle.table_words.specs.declared.view.TableShape.{TableShape}
 use Rattle.table_words.specs.declared.view.View.{View}
 use Rattle.map_table.specs.Hashes.{layout_of}

@@ -1,10 +1,10 @@
 //! How the writer finds the way of a key.
 ghost use Rattle.std.specs.Prelude.{◌≡◌, ℕ, ◌+◌, ◌<◌, ◌≤◌, List, ◌++◌, Decides, IfSome, IsNone, length, slice_index};
-ghost use Rattle.map_table_laws.specs.declared.moves.Move.{Move};
-ghost use Rattle.map_table_laws.specs.Layout.{bucket_ways};
-ghost use Rattle.map_table_laws.specs.History.{word_in, key_of};
-ghost use Rattle.map_table_laws.specs.Lookups.{OnlySearches};
-ghost use Rattle.map_table_laws.specs.Found.{IsLinkedUnder};
+ghost use Rattle.table_words.specs.declared.moves.Move.{Move};
+ghost use Rattle.table_words.specs.Layout.{bucket_ways};
+ghost use Rattle.table_words.specs.History.{word_in, key_of};
+ghost use Rattle.table_words.specs.Lookups.{OnlySearches};
+ghost use Rattle.table_words.specs.Found.{IsLinkedUnder};
 ghost use Rattle.map_table.specs.Hashes.{layout_of, tag_of};
 ghost use Rattle.map_table.specs.Law.{ways_of};
 ghost use Rattle.map_table.specs.Held.{IsKnown, Went};

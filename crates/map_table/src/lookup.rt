@@ -1,9 +1,9 @@
 //! Finds the element of a key, with no lock.
 ghost use Rattle.std.specs.Prelude.{◌≡◌, ℕ, ◌+◌, ◌*◌, ◌<◌, ◌≤◌, ◌^◌, ◌++◌, List, MatchBool, IfSome, IsSome, length};
-ghost use Rattle.map_table_laws.specs.declared.moves.Move.{Move};
-ghost use Rattle.map_table_laws.specs.Layout.{bucket_ways};
-ghost use Rattle.map_table_laws.specs.History.{inside, Holds};
-ghost use Rattle.map_table_laws.specs.Lookups.{OnlySearches, LooksUp};
+ghost use Rattle.table_words.specs.declared.moves.Move.{Move};
+ghost use Rattle.table_words.specs.Layout.{bucket_ways};
+ghost use Rattle.table_words.specs.History.{inside, Holds};
+ghost use Rattle.table_words.specs.Lookups.{OnlySearches, LooksUp};
 ghost use Rattle.map_table.specs.Hashes.{layout_of, tag_of};
 ghost use Rattle.map_table.specs.Law.{ways_from, ways_of};
 ghost use Rattle.map_table.specs.Held.{IsKnown, Goes};

@@ -1,11 +1,11 @@
 //! How a reader goes through all ways.
 ghost use Rattle.std.specs.Prelude.{◌≡◌, ℕ, ◌<◌, List, ◌++◌, IfSome, IsNone, length};
-ghost use Rattle.map_table_laws.specs.declared.moves.Move.{Move};
-ghost use Rattle.map_table_laws.specs.declared.moves.Move.TheVariants.{Learn};
-ghost use Rattle.map_table_laws.specs.History.{inside, Holds};
-ghost use Rattle.map_table_laws.specs.Lookups.{OnlySearches};
-ghost use Rattle.map_table_laws.specs.Scanned.{LookedAt};
-ghost use Rattle.map_table_laws.specs.Walks.{Meets};
+ghost use Rattle.table_words.specs.declared.moves.Move.{Move};
+ghost use Rattle.table_words.specs.declared.moves.Move.TheVariants.{Learn};
+ghost use Rattle.table_words.specs.History.{inside, Holds};
+ghost use Rattle.table_words.specs.Lookups.{OnlySearches};
+ghost use Rattle.table_words.specs.Scanned.{LookedAt};
+ghost use Rattle.table_words.specs.Walks.{Meets};
 ghost use Rattle.map_table.specs.Hashes.{layout_of};
 ghost use Rattle.map_table.specs.Law.{ways_of};
 ghost use Rattle.map_table.specs.Held.{IsKnown, Does, Goes};

@@ -1,9 +1,9 @@
 //! How the writer finds an element that can go to the other bucket of its key.
 ghost use Rattle.std.specs.Prelude.{◌≡◌, ◌≢◌, ◌⊎◌, ℕ, ◌+◌, ◌<◌, ◌≤◌, ◌^◌, List, ◌++◌, IfSome, IsNone, length, slice_index};
-ghost use Rattle.map_table_laws.specs.declared.moves.Move.{Move};
-ghost use Rattle.map_table_laws.specs.Layout.{Names, bucket_ways, candidate_ways};
-ghost use Rattle.map_table_laws.specs.History.{word_in, key_of, IsSettled, MayDouble};
-ghost use Rattle.map_table_laws.specs.Lookups.{OnlySearches};
+ghost use Rattle.table_words.specs.declared.moves.Move.{Move};
+ghost use Rattle.table_words.specs.Layout.{Names, bucket_ways, candidate_ways};
+ghost use Rattle.table_words.specs.History.{word_in, key_of, IsSettled, MayDouble};
+ghost use Rattle.table_words.specs.Lookups.{OnlySearches};
 ghost use Rattle.map_table.specs.Hashes.{layout_of};
 ghost use Rattle.map_table.specs.Law.{ways_of};
 ghost use Rattle.map_table.specs.Held.{IsKnown, IsSized, Went};

@@ -1,8 +1,8 @@
 //! How the writer reads the key and the values of an element.
 ghost use Rattle.std.specs.Prelude.{◌≡◌, ◌+◌, ◌<◌, List, ◌++◌, length};
-ghost use Rattle.map_table_laws.specs.declared.moves.Move.{Move};
-ghost use Rattle.map_table_laws.specs.History.{key_of};
-ghost use Rattle.map_table_laws.specs.Lookups.{OnlySearches};
+ghost use Rattle.table_words.specs.declared.moves.Move.{Move};
+ghost use Rattle.table_words.specs.History.{key_of};
+ghost use Rattle.table_words.specs.Lookups.{OnlySearches};
 ghost use Rattle.map_table.specs.Counting.{AddsUp};
 ghost use Rattle.map_table.specs.Hashes.{layout_of};
 ghost use Rattle.map_table.specs.Held.{IsKnown, IsSized, Went};

@@ -1,9 +1,9 @@
 //! The writer's looks at the readers' section words.
 ghost use Rattle.std.specs.Prelude.{◌≡◌, ◌≢◌, ◌⊎◌, ℕ, ◌+◌, ◌%◌, ◌<◌, ◌≤◌, List, [], ◌∷◌, ◌++◌, MatchBool, length};
-ghost use Rattle.map_table_laws.specs.declared.moves.Move.{Move};
-ghost use Rattle.map_table_laws.specs.declared.moves.Move.TheVariants.{Scan};
-ghost use Rattle.map_table_laws.specs.History.{moves_of};
-ghost use Rattle.map_table_laws.specs.Scanned.{OnlyScans, ScansInTurn, FoundInside, FoundGone};
+ghost use Rattle.table_words.specs.declared.moves.Move.{Move};
+ghost use Rattle.table_words.specs.declared.moves.Move.TheVariants.{Scan};
+ghost use Rattle.table_words.specs.History.{moves_of};
+ghost use Rattle.table_words.specs.Scanned.{OnlyScans, ScansInTurn, FoundInside, FoundGone};
 ghost use Rattle.map_table.specs.Held.{IsKnown, Went};
 ghost use Rattle.map_table.specs.Moving.{HaveGone, IsSomeInside};
 ghost use Rattle.map_table.specs.Sightings.{AreSightings, sighting_at};

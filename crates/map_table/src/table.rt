@@ -1,9 +1,9 @@
 //! The table, and a reader's seat at it.
 ghost use Rattle.atomic_table.specs.Table.{State};
 ghost use Rattle.std.specs.Prelude.{◌≡◌, ◌≢◌, ◌⊎◌, ℕ, ◌+◌, ◌-◌, ◌*◌, ◌%◌, ◌^◌, ◌<◌, ◌≤◌, [], ◌∷◌, length, slice_index, IfOk};
-ghost use Rattle.map_table_laws.specs.declared.moves.Move.TheVariants.{Open, Close, Learn, Load, Store, Put, Double, Scan};
-ghost use Rattle.map_table_laws.specs.Layout.{Names};
-ghost use Rattle.map_table_laws.specs.History.{inside, moves_of, most_sections, word_at, Holds, IsSpare, IsReader, Settles, MayDouble, MayLink};
+ghost use Rattle.table_words.specs.declared.moves.Move.TheVariants.{Open, Close, Learn, Load, Store, Put, Double, Scan};
+ghost use Rattle.table_words.specs.Layout.{Names};
+ghost use Rattle.table_words.specs.History.{inside, moves_of, most_sections, word_at, Holds, IsSpare, IsReader, Settles, MayDouble, MayLink};
 ghost use Rattle.table_words.specs.declared.view.View.{View};
 ghost use Rattle.map_table.specs.Hashes.{layout_of};
 ghost use Rattle.map_table.specs.Law.{Kept, ways_from, ways_of, count_of, base_of, width_of, dealt, writer_after};
@@ -61,7 +61,7 @@ impl Model for ReadSeat {
     ghost use Rattle.std.specs.Prelude.{◌≡◌, ◌+◌, ◌*◌, min, []};
     ghost use Rattle.map_table.specs.Limits.{section_stride};
     ghost use Rattle.map_table.specs.Hashes.{layout_of};
-    ghost use Rattle.map_table_laws.specs.History.{IsReader, opened, most_sections};
+    ghost use Rattle.table_words.specs.History.{IsReader, opened, most_sections};
     ghost use Rattle.map_table.specs.Held.{Holder};
     ghost use Rattle.map_table.specs.Values.{first_of};
 

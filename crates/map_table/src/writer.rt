@@ -1,14 +1,14 @@
 //! The writer of a table.
 ghost use Rattle.std.specs.Prelude.{◌≡◌, ◌≢◌, ◌⊎◌, ◌↔◌, ℕ, List, ◌+◌, ◌<◌, ◌≤◌, [], ◌∷◌, ◌++◌, length, vec_capacity, IsNone, IfNone, IfSome, IfOk, All, true, false};
 ghost use Rattle.std.specs.List.{range_with_len};
-ghost use Rattle.map_table_laws.specs.declared.moves.Move.{Move};
-ghost use Rattle.map_table_laws.specs.declared.moves.Move.TheVariants.{Put};
-ghost use Rattle.map_table_laws.specs.Layout.{IsCandidate, Names};
-ghost use Rattle.map_table_laws.specs.History.{word_in, IsSettled, IsSpare, MayDouble};
-ghost use Rattle.map_table_laws.specs.Lookups.{OnlySearches};
-ghost use Rattle.map_table_laws.specs.Found.{IsLinkedUnder, IsLinkedAs};
-ghost use Rattle.map_table_laws.specs.Moved.{OnlyMoves};
-ghost use Rattle.map_table_laws.specs.Once.{AreLinkedOnce};
+ghost use Rattle.table_words.specs.declared.moves.Move.{Move};
+ghost use Rattle.table_words.specs.declared.moves.Move.TheVariants.{Put};
+ghost use Rattle.table_words.specs.Layout.{IsCandidate, Names};
+ghost use Rattle.table_words.specs.History.{word_in, IsSettled, IsSpare, MayDouble};
+ghost use Rattle.table_words.specs.Lookups.{OnlySearches};
+ghost use Rattle.table_words.specs.Found.{IsLinkedUnder, IsLinkedAs};
+ghost use Rattle.table_words.specs.Moved.{OnlyMoves};
+ghost use Rattle.table_words.specs.Once.{AreLinkedOnce};
 ghost use Rattle.map_table.specs.Hashes.{layout_of};
 ghost use Rattle.map_table.specs.Law.{ways_of, writer_after};
 ghost use Rattle.map_table.specs.Counting.{AddsUp};
@@ -52,7 +52,7 @@ pub struct Writer {
 
 impl Model for Writer {
     ghost use Rattle.std.specs.Prelude.{◌≡◌, ◌≤◌, [], vec_capacity};
-    ghost use Rattle.map_table_laws.specs.History.{IsSettled};
+    ghost use Rattle.table_words.specs.History.{IsSettled};
     ghost use Rattle.map_table.specs.Sightings.{AreSightings};
     ghost use Rattle.map_table.specs.Writing.{WriterView, HasSeated, IsWriter, IsNoneLost};
 

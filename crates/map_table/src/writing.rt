@@ -1,8 +1,8 @@
 //! What the calls of the writer are made of.
 ghost use Rattle.std.specs.Prelude.{◌≡◌, ◌⊎◌, ℕ, ◌+◌, ◌<◌, ◌≤◌, List, ◌∷◌, ◌++◌, length, slice_index, slice_set};
-ghost use Rattle.map_table_laws.specs.declared.moves.Move.{Move};
-ghost use Rattle.map_table_laws.specs.declared.moves.Move.TheVariants.{Put, Double};
-ghost use Rattle.map_table_laws.specs.History.{word_at, key_of, Settles, IsSpare, MayDouble, MayLink};
+ghost use Rattle.table_words.specs.declared.moves.Move.{Move};
+ghost use Rattle.table_words.specs.declared.moves.Move.TheVariants.{Put, Double};
+ghost use Rattle.table_words.specs.History.{word_at, key_of, Settles, IsSpare, MayDouble, MayLink};
 ghost use Rattle.map_table.specs.Hashes.{layout_of};
 ghost use Rattle.map_table.specs.Law.{width_of, ways_of};
 ghost use Rattle.map_table.specs.Values.{stored_of};

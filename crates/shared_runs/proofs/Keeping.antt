@@ -1,6 +1,6 @@
 -- A map table keeps what every table of shared runs keeps.
 use Rattle.bpf_model.proofs.Prelude.{◌≡◌, ℕ, ◌≤◌, ◌*◌, ◌∙◌, sym, ap, arith, List, [], ◌∷◌, ◌++◌, inl, inr, refl, Option}
-use Rattle.map_table_laws.proofs.Prelude.{inside, Holds}
+use Rattle.table_words.proofs.Prelude.{inside, Holds}
 use Rattle.map_table.proofs.Prelude.{Move, Open, Close, Learn, Load, Store, Put, Double, Scan, TableShape, IsSized}
 use Rattle.world_laws.proofs.Prelude.{regions}
 use Rattle.map_table.proofs.Lookups.{only_holds, only_inside, found_holds}

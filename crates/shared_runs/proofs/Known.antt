@@ -1,12 +1,12 @@
 -- What every lawful history says of its readers.
 use Rattle.bpf_model.proofs.Prelude.{◌≡◌, ℕ, ◌<◌, refl, sym, ◌∙◌, subst, arith, List, ◌∷◌, ◌++◌, inl, inr, ⊎_elim, Some, None}
-use Rattle.map_table_laws.proofs.Prelude.{Layout, moves_of, Holds, IsLawful, MayDo, AnswersLookup, OnlySearches}
+use Rattle.table_words.proofs.Prelude.{Layout, moves_of, Holds, IsLawful, MayDo, AnswersLookup, OnlySearches}
 use Rattle.map_table.proofs.Prelude.{Move, Open, Close, Learn, Load, Store, Put, Double, Scan, View, layout_of}
-use Rattle.map_table_laws.proofs.Moments.{lawful_early, stays_found}
-use Rattle.map_table_laws.proofs.Hits.{hit_linked}
-use Rattle.map_table_laws.proofs.Owning.{own_word}
+use Rattle.table_words.proofs.Moments.{lawful_early, stays_found}
+use Rattle.table_words.proofs.Hits.{hit_linked}
+use Rattle.table_words.proofs.Owning.{own_word}
 use Rattle.shared_runs.specs.MapRuns.{HasFound, HasHeld, HasMet, HasOwn, HasWhole, Touches}
-use Rattle.map_table_laws.proofs.Whole.{values_stay}
+use Rattle.table_words.proofs.Whole.{values_stay}
 
 touched : (k : Layout) (es : List (ℕ × Move)) (who element : ℕ) (m : Move) → 0 < who → MayDo k es who m →
     Touches element m → Holds element (moves_of who es)

@@ -1,6 +1,6 @@
 -- The table's calls are the moves of its seats, and a run leaves a seat that is ready.
 use Rattle.bpf_model.proofs.Prelude.{◌≡◌, ℕ, ◌+◌, ◌^◌, ◌<◌, ap, ◌∙◌, subst, arith, List}
-use Rattle.map_table_laws.proofs.Prelude.{inside, IsReader}
+use Rattle.table_words.proofs.Prelude.{inside, IsReader}
 use Rattle.map_table.proofs.Prelude.{View, first_of, Goes, Holder, IsKnown, IsReady, IsSized, TableView, TableShape, layout_of, width_of, Move}
 use Rattle.verifier.proofs.Prelude.{Checked}
 use Rattle.map_table.proofs.Valued.{few_words, in_element}

@@ -3,12 +3,12 @@ use Rattle.std.specs.Prelude.{◌≡◌, ℕ, ◌≤◌, List, ◌∷◌, ◌++�
 use Rattle.bpf_model.specs.declared.limits.MapShape.{MapShape}
 use Rattle.verifier.specs.Checked.{Checked}
 use Rattle.world_laws.specs.Around.{regions}
-use Rattle.map_table_laws.specs.declared.moves.Move.{Move}
-use Rattle.map_table_laws.specs.declared.moves.Move.TheVariants.{Load, Store}
-use Rattle.map_table_laws.specs.History.{moves_of, with_writer, word_at, Holds}
-use Rattle.map_table_laws.specs.Lookups.{LooksUp}
-use Rattle.map_table_laws.specs.Found.{StaysInside}
-use Rattle.map_table_laws.specs.Whole.{OnlyWriterStores}
+use Rattle.table_words.specs.declared.moves.Move.{Move}
+use Rattle.table_words.specs.declared.moves.Move.TheVariants.{Load, Store}
+use Rattle.table_words.specs.History.{moves_of, with_writer, word_at, Holds}
+use Rattle.table_words.specs.Lookups.{LooksUp}
+use Rattle.table_words.specs.Found.{StaysInside}
+use Rattle.table_words.specs.Whole.{OnlyWriterStores}
 use Rattle.table_words.specs.declared.view.TableShape.{TableShape}
 use Rattle.table_words.specs.declared.view.View.{View}
 use Rattle.map_table.specs.Values.{first_of, owner_of}

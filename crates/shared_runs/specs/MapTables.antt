@@ -1,10 +1,10 @@
 -- A map table as runs see it: a key is given by its bytes.
 use Rattle.std.specs.Prelude.{◌≡◌, ℕ, ◌+◌, ◌*◌, ◌<◌, List, Option, Some, IfSome, length, slice_get, slice_index}
 use Rattle.bpf_model.specs.Access.{number_at}
-use Rattle.map_table_laws.specs.declared.moves.Move.{Move}
-use Rattle.map_table_laws.specs.declared.moves.Move.TheVariants.{Open, Close, Load, Store}
-use Rattle.map_table_laws.specs.History.{inside, Holds}
-use Rattle.map_table_laws.specs.Lookups.{LooksUp}
+use Rattle.table_words.specs.declared.moves.Move.{Move}
+use Rattle.table_words.specs.declared.moves.Move.TheVariants.{Open, Close, Load, Store}
+use Rattle.table_words.specs.History.{inside, Holds}
+use Rattle.table_words.specs.Lookups.{LooksUp}
 use Rattle.table_words.specs.declared.view.TableShape.{TableShape}
 use Rattle.map_table.specs.Hashes.{layout_of}
 use Rattle.shared_runs.specs.Tables.{Table}

@@ -2,10 +2,10 @@
 use Rattle.std.specs.Prelude.{◌≡◌, ℕ, ◌+◌, ◌<◌, ◌≤◌, List, Option, Some, None, IfSome, All, length, slice_get, slice_index}
 use Rattle.bpf_model.specs.declared.limits.MapKind.TheVariants.{Hash}
 use Rattle.bpf_model.specs.declared.limits.MapShape.{MapShape}
-use Rattle.map_table_laws.specs.declared.moves.Move.{Move}
-use Rattle.map_table_laws.specs.declared.moves.Move.TheVariants.{Open, Close, Load, Store}
-use Rattle.map_table_laws.specs.History.{inside, Holds}
-use Rattle.map_table_laws.specs.Lookups.{LooksUp}
+use Rattle.table_words.specs.declared.moves.Move.{Move}
+use Rattle.table_words.specs.declared.moves.Move.TheVariants.{Open, Close, Load, Store}
+use Rattle.table_words.specs.History.{inside, Holds}
+use Rattle.table_words.specs.Lookups.{LooksUp}
 use Rattle.table_words.specs.declared.view.TableShape.{TableShape}
 use Rattle.map_table.specs.Hashes.{layout_of}
 use Rattle.map_table.specs.Held.{Goes, Holder}

@@ -1,6 +1,6 @@
 //! Calls on a table of 65,536 keys, which are looked up without a lock.
 ghost use Rattle.std.specs.Prelude.{◌≡◌, IfSome, All};
-ghost use Rattle.map_table_laws.specs.History.{inside};
+ghost use Rattle.table_words.specs.History.{inside};
 ghost use Rattle.map_table.specs.Held.{IsKnown, IsReady};
 ghost use Rattle.map_table.specs.Values.{stored_of};
 

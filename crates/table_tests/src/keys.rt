@@ -1,6 +1,6 @@
 //! Lookups of keys that the writer links and replaces.
 ghost use Rattle.std.specs.Prelude.{◌≡◌, All, IfSome, length};
-ghost use Rattle.map_table_laws.specs.History.{inside};
+ghost use Rattle.table_words.specs.History.{inside};
 ghost use Rattle.map_table.specs.Held.{IsKnown, IsReady};
 ghost use Rattle.map_table.specs.Values.{stored_of};
 

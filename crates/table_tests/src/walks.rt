@@ -1,6 +1,6 @@
 //! What the writer reads of an element, and what a reader meets that goes through all ways.
 ghost use Rattle.std.specs.Prelude.{◌≡◌, ◌<◌, All};
-ghost use Rattle.map_table_laws.specs.History.{inside};
+ghost use Rattle.table_words.specs.History.{inside};
 ghost use Rattle.map_table.specs.Held.{IsKnown, IsReady};
 
 use map_table::{BUCKET_WAYS, MapTable, ReadSeat, Secret, TableShape, Values, Writer};

@@ -1,6 +1,6 @@
 -- SipHash-1-3 with the key 00 01 02 .. 0f, of no byte and of the bytes 00 to 07, as a program apart computed them. That program
 -- agrees with Rust's `DefaultHasher`, whose key is 0. The last word is the block with the length, which keys of one length lack.
-use Rattle.map_table_laws.proofs.Prelude.{◌≡◌, [], ◌∷◌, refl}
+use Rattle.table_words.proofs.Prelude.{◌≡◌, [], ◌∷◌, refl}
 use Rattle.table_words.specs.declared.sip.Secret.{Secret}
 use Rattle.table_words.specs.Sip.{begun, rounded, absorbed, finished, sip_hash}
 

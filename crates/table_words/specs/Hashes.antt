@@ -1,6 +1,6 @@
 -- Where a key may be linked, and its tag: by one keyed hash of its words, and by that hash times an odd number.
 use Rattle.std.specs.Prelude.{ℕ, ◌*◌, ◌/◌, ◌%◌, ◌^◌, List}
-use Rattle.map_table_laws.specs.Layout.{Layout}
+use Rattle.table_words.specs.Layout.{Layout}
 use Rattle.table_words.specs.declared.view.TableShape.{TableShape}
 use Rattle.table_words.specs.Values.{owner_of}
 use Rattle.table_words.specs.Sip.{sip_hash}

@@ -1,10 +1,10 @@
 -- What clauses see of a table and of those who hold a seat at it.
 use Rattle.std.specs.Prelude.{◌≡◌, ℕ, ◌+◌, ◌<◌, ◌≤◌, List, [], ◌∷◌, ◌++◌, Some, slice_get}
 use Rattle.atomic_table.specs.Seated.{TableId}
-use Rattle.map_table_laws.specs.declared.moves.Move.{Move}
+use Rattle.table_words.specs.declared.moves.Move.{Move}
 use Rattle.table_words.specs.declared.view.TableShape.{TableShape}
 use Rattle.table_words.specs.declared.view.View.{View}
-use Rattle.map_table_laws.specs.History.{moves_of, inside, IsLawful}
+use Rattle.table_words.specs.History.{moves_of, inside, IsLawful}
 use Rattle.table_words.specs.Hashes.{layout_of}
 use Rattle.table_words.specs.Limits.{most_readers, most_buckets, most_elements, most_words}
 

@@ -4,15 +4,15 @@ use Rattle.std.specs.Prelude.{◌≡◌, ℕ, ◌+◌, ◌-◌, ◌*◌, ◌/◌
 use mathlib.Core.Option.{some}
 use lib.ListN.{get_elem?}
 use Rattle.atomic_table.specs.Table.{State, Me, Step}
-use Rattle.map_table_laws.specs.Layout.{bucket_ways}
+use Rattle.table_words.specs.Layout.{bucket_ways}
 use Rattle.table_words.specs.Hashes.{layout_of}
 use Rattle.table_words.specs.Limits.{section_stride}
 use Rattle.table_words.specs.Values.{stored_of}
-use Rattle.map_table_laws.specs.declared.moves.Move.{Move}
-use Rattle.map_table_laws.specs.declared.moves.Move.TheVariants.{Open, Close, Learn, Load, Store, Put, Double, Scan}
+use Rattle.table_words.specs.declared.moves.Move.{Move}
+use Rattle.table_words.specs.declared.moves.Move.TheVariants.{Open, Close, Learn, Load, Store, Put, Double, Scan}
 use Rattle.table_words.specs.declared.view.TableShape.{TableShape}
 use Rattle.table_words.specs.declared.view.View.{View}
-use Rattle.map_table_laws.specs.History.{moves_of, section_word, word_in, word_at, IsLawful}
+use Rattle.table_words.specs.History.{moves_of, section_word, word_in, word_at, IsLawful}
 
 -- how many words an element has: those of its key, and those of its values behind them
 abbrev pub width_of : TableShape → ℕ

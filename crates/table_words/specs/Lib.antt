@@ -1,3 +1,14 @@
+pub mod Added
+pub mod Found
+pub mod History
+pub mod Layout
+pub mod Lookups
+pub mod Moved
+pub mod Once
+pub mod Scanned
+pub mod Small
+pub mod Walks
+pub mod Whole
 pub mod Hashes
 pub mod Held
 pub mod Law

@@ -1,8 +1,8 @@
 -- What the writer notes at its looks at the readers' section words, since it unlinked elements.
 use Rattle.std.specs.Prelude.{◌≡◌, ◌≢◌, ◌⊎◌, ◌↔◌, ℕ, ◌+◌, ◌%◌, ◌<◌, ◌≤◌, List, length, slice_index, slice_index_or}
-use Rattle.map_table_laws.specs.declared.moves.Move.{Move}
-use Rattle.map_table_laws.specs.History.{FoundSince, Cleared}
-use Rattle.map_table_laws.specs.Scanned.{FoundInside}
+use Rattle.table_words.specs.declared.moves.Move.{Move}
+use Rattle.table_words.specs.History.{FoundSince, Cleared}
+use Rattle.table_words.specs.Scanned.{FoundInside}
 use Rattle.table_words.specs.declared.view.View.{View}
 use Rattle.table_words.specs.declared.notes.Sighting.{Sighting}
 

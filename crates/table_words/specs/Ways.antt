@@ -1,6 +1,6 @@
 -- The ways of the two buckets of a key.
 use Rattle.std.specs.Prelude.{◌⊎◌, ℕ, ◌+◌, ◌<◌, ◌≤◌}
-use Rattle.map_table_laws.specs.Layout.{bucket_ways}
+use Rattle.table_words.specs.Layout.{bucket_ways}
 
 -- the way is of one of two buckets, which begin at these ways
 abbrev pub IsOfBoth : ℕ → ℕ → ℕ → Type 0

@@ -2,7 +2,7 @@
 ghost use Rattle.std.specs.Prelude.{◌≡◌, ◌≢◌, ◌⊎◌, ◌+◌, ◌*◌, ◌%◌, ◌<◌, ◌≤◌, ◌^◌, IfSome, IsNone};
 ghost use Rattle.table_words.specs.Limits.{most_buckets};
 ghost use Rattle.table_words.specs.Hashes.{bucket_by, first_bucket, second_bucket, tag_of};
-ghost use Rattle.map_table_laws.specs.Layout.{bucket_ways, Names, tag_in};
+ghost use Rattle.table_words.specs.Layout.{bucket_ways, Names, tag_in};
 ghost use Rattle.table_words.specs.Law.{ways_of};
 ghost use Rattle.table_words.specs.Held.{IsSized};
 

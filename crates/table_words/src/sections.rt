@@ -1,6 +1,6 @@
 //! The section words of readers: where they lie, and how they count.
 ghost use Rattle.std.specs.Prelude.{◌≡◌, ◌+◌, ◌*◌, ◌<◌, ◌≤◌};
-ghost use Rattle.map_table_laws.specs.History.{most_sections};
+ghost use Rattle.table_words.specs.History.{most_sections};
 
 /// How many words lie from the section word of a reader to that of the next: a page of 4,096 bytes and a line of 64. The
 /// words between them are never used. A processor reads ahead within a page, and what it reads ahead it takes from the

@@ -5,8 +5,8 @@ ghost use Rattle.table_words.specs.Law.{width_of};
 ghost use Rattle.table_words.specs.Values.{copies_of, first_of, stored_of};
 ghost use Rattle.table_words.specs.Held.{IsSized};
 
+use crate::moves::Move;
 use crate::sip::Secret;
-use map_table_laws::Move;
 use std::collections::LinkedList;
 
 /// Whose the values of a table's elements are.

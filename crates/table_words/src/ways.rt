@@ -1,6 +1,6 @@
 //! The words of the ways, which name elements.
 ghost use Rattle.std.specs.Prelude.{◌≡◌, ◌≢◌, ℕ, ◌+◌, ◌%◌, ◌^◌, ◌<◌, ◌≤◌, length, slice_index, IsNone, IfSome};
-ghost use Rattle.map_table_laws.specs.Layout.{bucket_ways, Names, tag_in};
+ghost use Rattle.table_words.specs.Layout.{bucket_ways, Names, tag_in};
 ghost use Rattle.table_words.specs.Limits.{most_elements};
 ghost use Rattle.table_words.specs.Ways.{IsOfBoth};
 

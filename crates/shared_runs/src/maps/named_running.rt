@@ -175,7 +175,7 @@ pub struct NamedRuns<'a> {
 
 impl RunsPrograms for NamedRuns<'_> {
     ghost use Rattle.std.specs.Prelude.{ℕ};
-    ghost use Rattle.map_table_laws.specs.declared.moves.Move.{Move};
+    ghost use Rattle.table_words.specs.declared.moves.Move.{Move};
     ghost use Rattle.map_table.specs.Held.{IsReady, TableView};
     ghost use Rattle.map_table.specs.Values.{first_of};
     ghost use Rattle.shared_runs.specs.Named.{ServesNamed, named_table_of};

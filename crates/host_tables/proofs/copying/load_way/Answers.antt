@@ -1,5 +1,5 @@
 use Rattle.bpf_model.proofs.Prelude.{◌∙◌, sym, subst, refl}
-use Rattle.map_table_laws.proofs.Prelude.{IsLinkedUnder, OnlySearches}
+use Rattle.table_words.proofs.Prelude.{IsLinkedUnder, OnlySearches}
 use Rattle.map_table.proofs.Prelude.{layout_of, TableView, Reads, stored_of}
 use Rattle.host_tables.proofs.Kept.{reads_only}
 use Rattle.host_tables.proofs.Tidy.{loaded_tidy, searched_tidy}

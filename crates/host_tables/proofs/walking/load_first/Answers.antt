@@ -1,5 +1,5 @@
 use Rattle.bpf_model.proofs.Prelude.{◌≡◌, refl, ◌∙◌, subst, arith}
-use Rattle.map_table_laws.proofs.Prelude.{word_in}
+use Rattle.table_words.proofs.Prelude.{word_in}
 use Rattle.map_table.proofs.Prelude.{layout_of, WriterView}
 use Rattle.host_tables.proofs.Meeting.{empty_next}
 use Rattle.host_tables.proofs.Tidy.{searched_tidy}

@@ -1,5 +1,5 @@
 use Rattle.bpf_model.proofs.Prelude.{◌≤◌, ◌≢◌, ◌∙◌, ℕ, List, length, refl, sym, ap, subst, inr, None}
-use Rattle.map_table_laws.proofs.Prelude.{AreLinkedOnce}
+use Rattle.table_words.proofs.Prelude.{AreLinkedOnce}
 use Rattle.map_table.proofs.Prelude.{layout_of, TableView, IsSomeInside, MakesOneWay, StayLinked, WriterView, AreFull}
 use Rattle.map_table.specs.declared.moving.Room.{Room}
 use Rattle.map_table.specs.declared.moving.Room.TheVariants.{Made}

@@ -1,4 +1,4 @@
-use Rattle.map_table_laws.proofs.Prelude.{◌+◌, ◌++◌, [], refl, sym, ◌∙◌, subst, arith, dite, ℕ_discrete, IsLinkedUnder}
+use Rattle.table_words.proofs.Prelude.{◌+◌, ◌++◌, [], refl, sym, ◌∙◌, subst, arith, dite, ℕ_discrete, IsLinkedUnder}
 use Rattle.map_table.proofs.Prelude.{layout_of}
 use Rattle.map_table.proofs.Going.{went_known, went_none, went_then}
 use Rattle.map_table.proofs.Filling.{went_me, went_shape}

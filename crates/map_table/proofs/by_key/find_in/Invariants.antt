@@ -1,4 +1,4 @@
-use Rattle.map_table_laws.proofs.Prelude.{◌≡◌, ℕ, ◌+◌, ◌<◌, ◌≤◌, ◌++◌, List, OnlySearches, IsLinkedUnder}
+use Rattle.table_words.proofs.Prelude.{◌≡◌, ℕ, ◌+◌, ◌<◌, ◌≤◌, ◌++◌, List, OnlySearches, IsLinkedUnder}
 use Rattle.map_table.proofs.Prelude.{Move, layout_of, Went}
 use Rattle.map_table.proofs.by_key.find_in.Given as goal
 

@@ -1,4 +1,4 @@
-use Rattle.map_table_laws.proofs.Prelude.{◌*◌, ◌++◌, refl, sym, ap, ◌∙◌}
+use Rattle.table_words.proofs.Prelude.{◌*◌, ◌++◌, refl, sym, ap, ◌∙◌}
 use Rattle.map_table.proofs.Prelude.{TableShape, layout_of, first_bucket, second_bucket}
 use Rattle.map_table.proofs.Going.{went_known, went_then}
 use Rattle.map_table.proofs.Filling.{went_me, went_shape}

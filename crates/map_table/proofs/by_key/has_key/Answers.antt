@@ -1,6 +1,6 @@
-use Rattle.map_table_laws.proofs.Prelude.{rules, ◌≡◌, ◌≢◌, ◌<◌, ◌≤◌, ◌∷◌, [], refl, sym, ap, ◌∙◌, subst, arith, slice_index, dite, ℕ_discrete, word_at}
+use Rattle.table_words.proofs.Prelude.{rules, ◌≡◌, ◌≢◌, ◌<◌, ◌≤◌, ◌∷◌, [], refl, sym, ap, ◌∙◌, subst, arith, slice_index, dite, ℕ_discrete, word_at}
 use Rattle.map_table.proofs.Prelude.{Load, layout_of}
-use Rattle.map_table_laws.proofs.Steps.{key_word, key_is}
+use Rattle.table_words.proofs.Steps.{key_word, key_is}
 use Rattle.map_table.proofs.Going.{went_known, went_none, went_then}
 use Rattle.map_table.proofs.Filling.{went_me, went_shape}
 use Rattle.map_table.proofs.Peeking.{word_kept, false_true}

@@ -1,4 +1,4 @@
-use Rattle.map_table_laws.proofs.Prelude.{refl, slice_index}
+use Rattle.table_words.proofs.Prelude.{refl, slice_index}
 use Rattle.map_table.proofs.Peeking.{not_under, named_within, has_under, under_has, false_true}
 use Rattle.map_table.proofs.by_key.is_under.Goals as goal
 

@@ -1,4 +1,4 @@
-use Rattle.map_table_laws.proofs.Prelude.{rules, ◌≡◌, ◌≤◌, ◌++◌, ◌∙◌, [], refl, subst, arith}
+use Rattle.table_words.proofs.Prelude.{rules, ◌≡◌, ◌≤◌, ◌++◌, ◌∙◌, [], refl, subst, arith}
 use Rattle.map_table.proofs.Doubled.{NoneYet, words_later, settled_later, nth_both, among_none, among_all, none_more}
 use Rattle.map_table.proofs.Filling.{went_me, went_shape}
 use Rattle.map_table.proofs.Going.{went_none, went_known, went_then}

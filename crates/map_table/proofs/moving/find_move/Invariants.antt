@@ -1,4 +1,4 @@
-use Rattle.map_table_laws.proofs.Prelude.{◌≡◌, ◌++◌, List, OnlySearches}
+use Rattle.table_words.proofs.Prelude.{◌≡◌, ◌++◌, List, OnlySearches}
 use Rattle.map_table.proofs.Prelude.{Move, layout_of, Went}
 use Rattle.map_table.proofs.Doubled.{NoneYet}
 use Rattle.map_table.proofs.moving.find_move.Given as goal

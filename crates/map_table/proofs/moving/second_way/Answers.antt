@@ -1,4 +1,4 @@
-use Rattle.map_table_laws.proofs.Prelude.{◌+◌, ◌*◌, ◌≤◌, ap, ◌∙◌, subst}
+use Rattle.table_words.proofs.Prelude.{◌+◌, ◌*◌, ◌≤◌, ap, ◌∙◌, subst}
 use Rattle.map_table.proofs.Prelude.{TableShape, first_bucket, second_bucket, ways_of}
 use Rattle.std.proofs.lemmas.Option.{IfSome_then}
 use Rattle.map_table.proofs.Doubled.{low_named, second_found}

@@ -1,4 +1,4 @@
-use Rattle.map_table_laws.proofs.Prelude.{◌+◌, ◌*◌, ◌%◌, ◌^◌, ◌∷◌, [], refl, sym, ◌∙◌, subst, add-one}
+use Rattle.table_words.proofs.Prelude.{◌+◌, ◌*◌, ◌%◌, ◌^◌, ◌∷◌, [], refl, sym, ◌∙◌, subst, add-one}
 use Rattle.map_table.proofs.Prelude.{Load, TableShape, AddsUp, Went}
 use Rattle.map_table.proofs.Going.{went_none, went_then}
 use Rattle.map_table.proofs.reading.add_up.Goals as goal

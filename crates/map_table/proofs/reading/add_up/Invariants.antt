@@ -1,4 +1,4 @@
-use Rattle.map_table_laws.proofs.Prelude.{◌≡◌, ◌+◌, ◌++◌, List}
+use Rattle.table_words.proofs.Prelude.{◌≡◌, ◌+◌, ◌++◌, List}
 use Rattle.map_table.proofs.Prelude.{Move, AddsUp, Went}
 use Rattle.map_table.proofs.reading.add_up.Given as goal
 

@@ -1,8 +1,8 @@
-use Rattle.map_table_laws.proofs.Prelude.{rules, ◌≡◌, ◌<◌, ◌≤◌, ◌∷◌, [], refl, set, length, sym, ◌∙◌, subst, arith, get_or-set_other, get_or-set_same}
-use Rattle.map_table_laws.proofs.Prelude.{slice_index, dite, ℕ_discrete, word_at}
+use Rattle.table_words.proofs.Prelude.{rules, ◌≡◌, ◌<◌, ◌≤◌, ◌∷◌, [], refl, set, length, sym, ◌∙◌, subst, arith, get_or-set_other, get_or-set_same}
+use Rattle.table_words.proofs.Prelude.{slice_index, dite, ℕ_discrete, word_at}
 use Rattle.map_table.proofs.Prelude.{Load, layout_of}
 use Rattle.std.proofs.lemmas.List.{length-set}
-use Rattle.map_table_laws.proofs.Steps.{key_is}
+use Rattle.table_words.proofs.Steps.{key_is}
 use Rattle.map_table.proofs.Going.{went_known, went_none, went_then}
 use Rattle.map_table.proofs.Filling.{went_me, went_shape}
 use Rattle.map_table.proofs.Peeking.{word_kept}

@@ -1,4 +1,4 @@
-use Rattle.map_table_laws.proofs.Prelude.{◌≡◌, ℕ, ◌<◌, ◌++◌, List, length, slice_index, word_at, OnlySearches}
+use Rattle.table_words.proofs.Prelude.{◌≡◌, ℕ, ◌<◌, ◌++◌, List, length, slice_index, word_at, OnlySearches}
 use Rattle.map_table.proofs.Prelude.{Move, layout_of, Went}
 use Rattle.map_table.proofs.reading.load_key.Given as goal
 

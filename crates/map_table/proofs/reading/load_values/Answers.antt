@@ -1,4 +1,4 @@
-use Rattle.map_table_laws.proofs.Prelude.{rules, ◌≡◌, ◌+◌, ◌<◌, ◌≤◌, ◌∷◌, [], refl, length, ap, ◌∙◌, subst, arith}
+use Rattle.table_words.proofs.Prelude.{rules, ◌≡◌, ◌+◌, ◌<◌, ◌≤◌, ◌∷◌, [], refl, length, ap, ◌∙◌, subst, arith}
 use Rattle.map_table.proofs.Prelude.{Load, TableShape, Reads, stored_of}
 use Rattle.std.proofs.lemmas.List.{length-set}
 use Rattle.map_table.proofs.Going.{went_none, went_then}

@@ -1,4 +1,4 @@
-use Rattle.map_table_laws.proofs.Prelude.{◌≡◌, ◌++◌, List, length}
+use Rattle.table_words.proofs.Prelude.{◌≡◌, ◌++◌, List, length}
 use Rattle.map_table.proofs.Prelude.{Move, Went, OnlyLoads, Reads}
 use Rattle.map_table.proofs.reading.load_values.Given as goal
 

@@ -1,4 +1,4 @@
-use Rattle.map_table_laws.proofs.Prelude.{◌≡◌, ◌≤◌, [], vec_len, vec_capacity, All}
+use Rattle.table_words.proofs.Prelude.{◌≡◌, ◌≤◌, [], vec_len, vec_capacity, All}
 use Rattle.map_table.proofs.Prelude.{writer_after, IsReady}
 use Rattle.map_table.specs.Held.{AreInOrder, IsNew}
 use Rattle.map_table.proofs.setup.deal_all.Given as goal

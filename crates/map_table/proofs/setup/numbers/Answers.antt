@@ -1,4 +1,4 @@
-use Rattle.map_table_laws.proofs.Prelude.{rules, sym, ap, ◌∙◌, ◌+◌, ◌++◌, ◌∷◌, []}
+use Rattle.table_words.proofs.Prelude.{rules, sym, ap, ◌∙◌, ◌+◌, ◌++◌, ◌∷◌, []}
 use Rattle.map_table.proofs.Members.{range_more}
 use Rattle.map_table.proofs.setup.numbers.Goals as goal
 

@@ -1,4 +1,4 @@
-use Rattle.map_table_laws.proofs.Prelude.{◌≡◌, ◌≤◌, vec_len, vec_capacity, range_with_len}
+use Rattle.table_words.proofs.Prelude.{◌≡◌, ◌≤◌, vec_len, vec_capacity, range_with_len}
 use Rattle.map_table.proofs.setup.numbers.Given as goal
 
 abbrev pub invariant-loop-i : goal.invariant-loop-i

@@ -1,4 +1,4 @@
-use Rattle.map_table_laws.proofs.Prelude.{rules, ◌≡◌, ◌≤◌, ◌<◌, ◌∙◌, [], refl, subst, arith}
+use Rattle.table_words.proofs.Prelude.{rules, ◌≡◌, ◌≤◌, ◌<◌, ◌∙◌, [], refl, subst, arith}
 use Rattle.map_table.proofs.Filling.{went_me, went_shape}
 use Rattle.map_table.proofs.Going.{went_none}
 use Rattle.map_table.proofs.Passing.{FirstPassed, passed_more, passed_none, passes_true, passes_false}

@@ -1,4 +1,4 @@
-use Rattle.map_table_laws.proofs.Prelude.{◌≡◌}
+use Rattle.table_words.proofs.Prelude.{◌≡◌}
 use Rattle.map_table.proofs.Prelude.{AreSightings}
 use Rattle.map_table.proofs.Passing.{FirstPassed}
 use Rattle.map_table.proofs.sightings.all_passed.Given as goal

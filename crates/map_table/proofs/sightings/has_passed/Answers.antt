@@ -1,4 +1,4 @@
-use Rattle.map_table_laws.proofs.Prelude.{◌∙◌}
+use Rattle.table_words.proofs.Prelude.{◌∙◌}
 use Rattle.map_table.proofs.Filling.{went_me, went_shape}
 use Rattle.map_table.proofs.Passing.{looked_first, looked_outside, looked_again, looked_other, looked_inside}
 use Rattle.map_table.proofs.sightings.has_passed.Goals as goal

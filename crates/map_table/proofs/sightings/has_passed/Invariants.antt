@@ -1,4 +1,4 @@
-use Rattle.map_table_laws.proofs.Prelude.{◌≡◌}
+use Rattle.table_words.proofs.Prelude.{◌≡◌}
 use Rattle.map_table.proofs.Prelude.{AreSightings}
 use Rattle.map_table.proofs.Passing.{HasLooked}
 use Rattle.map_table.proofs.sightings.has_passed.Given as goal

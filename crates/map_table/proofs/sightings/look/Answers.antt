@@ -1,6 +1,6 @@
-use Rattle.map_table_laws.proofs.Prelude.{◌+◌, ◌%◌, [], ◌∷◌, refl, inl, inr, arith, dite, ℕ_discrete}
+use Rattle.table_words.proofs.Prelude.{◌+◌, ◌%◌, [], ◌∷◌, refl, inl, inr, arith, dite, ℕ_discrete}
 use Rattle.map_table.proofs.Prelude.{Scan}
-use Rattle.map_table_laws.proofs.Words.{odd_else}
+use Rattle.table_words.proofs.Words.{odd_else}
 use Rattle.map_table.proofs.sightings.look.Goals as goal
 
 pub returns-clause-steps : goal.returns-clause-steps

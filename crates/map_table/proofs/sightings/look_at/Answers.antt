@@ -1,4 +1,4 @@
-use Rattle.map_table_laws.proofs.Prelude.{◌≡◌, ◌<◌, sym, ap, ◌∙◌, subst, arith, length, get_or_default}
+use Rattle.table_words.proofs.Prelude.{◌≡◌, ◌<◌, sym, ap, ◌∙◌, subst, arith, length, get_or_default}
 use Rattle.map_table.proofs.Prelude.{TableShape, Sighting, no_sighting, sighting_at, IsNoted}
 use Rattle.map_table.proofs.Seen.{set_here, sightings_looked}
 use Rattle.map_table.proofs.sightings.look_at.Goals as goal

@@ -1,4 +1,4 @@
-use Rattle.map_table_laws.proofs.Prelude.{rules, ◌≡◌, ◌+◌, ◌≤◌, ◌++◌, ◌∙◌, subst, arith, length, ScansInTurn}
+use Rattle.table_words.proofs.Prelude.{rules, ◌≡◌, ◌+◌, ◌≤◌, ◌++◌, ◌∙◌, subst, arith, length, ScansInTurn}
 use Rattle.map_table.proofs.Going.{went_then}
 use Rattle.map_table.proofs.Seen.{Looked, looked_more, scans_append}
 use Rattle.map_table.proofs.sightings.look_round.Goals as goal

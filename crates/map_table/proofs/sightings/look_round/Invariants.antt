@@ -1,4 +1,4 @@
-use Rattle.map_table_laws.proofs.Prelude.{◌≡◌, ◌++◌, List, length, ScansInTurn}
+use Rattle.table_words.proofs.Prelude.{◌≡◌, ◌++◌, List, length, ScansInTurn}
 use Rattle.map_table.proofs.Prelude.{Move, Went, AreSightings}
 use Rattle.map_table.proofs.Seen.{Looked}
 use Rattle.map_table.proofs.sightings.look_round.Given as goal

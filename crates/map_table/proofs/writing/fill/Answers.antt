@@ -1,4 +1,4 @@
-use Rattle.map_table_laws.proofs.Prelude.{◌+◌, ◌∷◌, [], sym, ◌∙◌, subst, refl, add-one, slice_index}
+use Rattle.table_words.proofs.Prelude.{◌+◌, ◌∷◌, [], sym, ◌∙◌, subst, refl, add-one, slice_index}
 use Rattle.map_table.proofs.Prelude.{Store, Fills}
 use Rattle.map_table.proofs.Going.{went_then}
 use Rattle.map_table.proofs.Filling.{filled_more}

@@ -1,4 +1,4 @@
-use Rattle.map_table_laws.proofs.Prelude.{◌≡◌, ◌+◌, ◌<◌, ◌++◌, ℕ, List, slice_index, word_at, IsSpare}
+use Rattle.table_words.proofs.Prelude.{◌≡◌, ◌+◌, ◌<◌, ◌++◌, ℕ, List, slice_index, word_at, IsSpare}
 use Rattle.map_table.proofs.Prelude.{Move, Went, Fills}
 use Rattle.map_table.proofs.writing.fill.Given as goal
 

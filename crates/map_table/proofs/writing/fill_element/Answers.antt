@@ -1,4 +1,4 @@
-use Rattle.map_table_laws.proofs.Prelude.{◌<◌, sym, subst}
+use Rattle.table_words.proofs.Prelude.{◌<◌, sym, subst}
 use Rattle.map_table.proofs.Prelude.{TableShape, stored_of, Fills}
 use Rattle.map_table.proofs.Going.{went_then}
 use Rattle.map_table.proofs.Filling.{filled_key}

@@ -1,5 +1,5 @@
 use Rattle.bpf_model.proofs.Prelude.{◌≡◌}
-use Rattle.map_table_laws.proofs.Prelude.{inside}
+use Rattle.table_words.proofs.Prelude.{inside}
 use Rattle.map_table.proofs.Prelude.{IsKnown}
 use Rattle.table_tests.proofs.walks.walk.Given as goal
 

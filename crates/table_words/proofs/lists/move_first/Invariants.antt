@@ -1,4 +1,4 @@
-use Rattle.map_table_laws.proofs.Prelude.{◌≡◌, ◌++◌, vec_capacity, take}
+use Rattle.table_words.proofs.Prelude.{◌≡◌, ◌++◌, vec_capacity, take}
 use Rattle.table_words.proofs.lists.move_first.Given as goal
 
 abbrev pub invariant-loop-at : goal.invariant-loop-at

@@ -1,4 +1,4 @@
-use Rattle.map_table_laws.proofs.Prelude.{◌≡◌, ℕ, ◌≤◌, vec_len, vec_capacity}
+use Rattle.table_words.proofs.Prelude.{◌≡◌, ℕ, ◌≤◌, vec_len, vec_capacity}
 use Rattle.std.proofs.Common.{slice_index_or}
 use Rattle.table_words.proofs.lists.zeros.Given as goal
 

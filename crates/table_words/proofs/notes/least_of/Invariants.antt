@@ -1,4 +1,4 @@
-use Rattle.map_table_laws.proofs.Prelude.{◌≡◌, ◌⊎◌, ℕ, ◌<◌, ◌≤◌, length}
+use Rattle.table_words.proofs.Prelude.{◌≡◌, ◌⊎◌, ℕ, ◌<◌, ◌≤◌, length}
 use Rattle.table_words.specs.Sightings.{sighting_at}
 use Rattle.table_words.proofs.notes.least_of.Given as goal
 

@@ -1,4 +1,4 @@
-use Rattle.map_table_laws.proofs.Prelude.{◌≡◌, ℕ, ◌≤◌, vec_len, vec_capacity}
+use Rattle.table_words.proofs.Prelude.{◌≡◌, ℕ, ◌≤◌, vec_len, vec_capacity}
 use Rattle.table_words.specs.Sightings.{no_sighting, sighting_at}
 use Rattle.table_words.proofs.notes.no_sightings.Given as goal
 

@@ -1,4 +1,4 @@
-use Rattle.map_table_laws.proofs.Prelude.{refl}
+use Rattle.table_words.proofs.Prelude.{refl}
 use Rattle.table_words.specs.Sip.{begun}
 use Rattle.table_words.proofs.sip.begin.Goals as goal
 

@@ -1,4 +1,4 @@
-use Rattle.map_table_laws.proofs.Prelude.{◌≡◌, drop}
+use Rattle.table_words.proofs.Prelude.{◌≡◌, drop}
 use Rattle.std.proofs.Common.{fold}
 use Rattle.table_words.specs.Sip.{begun, absorbed}
 use Rattle.table_words.proofs.sip.hash_words.Given as goal

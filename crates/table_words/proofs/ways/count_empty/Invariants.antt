@@ -1,4 +1,4 @@
-use Rattle.map_table_laws.proofs.Prelude.{◌≤◌}
+use Rattle.table_words.proofs.Prelude.{◌≤◌}
 use Rattle.table_words.proofs.ways.count_empty.Given as goal
 
 abbrev pub invariant-loop-at : goal.invariant-loop-at

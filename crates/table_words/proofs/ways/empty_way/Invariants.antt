@@ -1,4 +1,4 @@
-use Rattle.map_table_laws.proofs.Prelude.{◌≢◌, ◌+◌, ◌<◌, ◌≤◌, ℕ, slice_index}
+use Rattle.table_words.proofs.Prelude.{◌≢◌, ◌+◌, ◌<◌, ◌≤◌, ℕ, slice_index}
 use Rattle.table_words.proofs.ways.empty_way.Given as goal
 
 abbrev pub invariant-loop-at : goal.invariant-loop-at

@@ -1,5 +1,5 @@
 use Rattle.bpf_model.proofs.Prelude.{subst}
-use Rattle.map_table_laws.proofs.Prelude.{AreLinkedOnce}
+use Rattle.table_words.proofs.Prelude.{AreLinkedOnce}
 use Rattle.map_table.proofs.Prelude.{layout_of, TableView}
 use Rattle.host_tables.specs.Tables.{OpenTable}
 use Rattle.host_tables.proofs.table.HostTable.keys_are_linked_once.Goals as goal

@@ -1,4 +1,4 @@
-use Rattle.map_table_laws.proofs.Prelude.{refl, sym, ap, ◌∙◌}
+use Rattle.table_words.proofs.Prelude.{refl, sym, ap, ◌∙◌}
 use Rattle.map_table.proofs.Prelude.{Close, TableView, Holder}
 use Rattle.map_table.proofs.Calls.{does, section_within, closes_at, outside_word}
 use Rattle.map_table.proofs.table.MapTable.close.Goals as goal

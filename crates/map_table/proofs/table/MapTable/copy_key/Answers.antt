@@ -1,4 +1,4 @@
-use Rattle.map_table_laws.proofs.Prelude.{rules, ◌≡◌, ◌+◌, ◌<◌, ◌≤◌, [], ◌∷◌, refl, length, ◌∙◌, subst, arith}
+use Rattle.table_words.proofs.Prelude.{rules, ◌≡◌, ◌+◌, ◌<◌, ◌≤◌, [], ◌∷◌, refl, length, ◌∙◌, subst, arith}
 use Rattle.map_table.proofs.Prelude.{Load, Reads}
 use Rattle.std.proofs.lemmas.List.{length-set}
 use Rattle.map_table.proofs.Going.{goes_none, goes_more}

@@ -1,4 +1,4 @@
-use Rattle.map_table_laws.proofs.Prelude.{◌≡◌, List, length, OnlySearches}
+use Rattle.table_words.proofs.Prelude.{◌≡◌, List, length, OnlySearches}
 use Rattle.map_table.proofs.Prelude.{Move, layout_of, Goes, Reads}
 use Rattle.map_table.proofs.table.MapTable.copy_key.Given as goal
 

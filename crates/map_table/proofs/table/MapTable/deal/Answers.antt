@@ -1,4 +1,4 @@
-use Rattle.map_table_laws.proofs.Prelude.{◌<◌, sym, ap, ◌∙◌, subst, arith}
+use Rattle.table_words.proofs.Prelude.{◌<◌, sym, ap, ◌∙◌, subst, arith}
 use Rattle.map_table.proofs.Prelude.{TableView}
 use Rattle.map_table.proofs.Keeps.{deals_ok}
 use Rattle.map_table.proofs.table.MapTable.deal.Goals as goal

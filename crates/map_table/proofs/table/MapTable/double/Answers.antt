@@ -1,4 +1,4 @@
-use Rattle.map_table_laws.proofs.Prelude.{◌<◌, sym, ap, ◌∙◌, subst, MayDouble}
+use Rattle.table_words.proofs.Prelude.{◌<◌, sym, ap, ◌∙◌, subst, MayDouble}
 use Rattle.map_table.proofs.Prelude.{TableShape, layout_of, ways_of, TableView}
 use Rattle.map_table.proofs.Calls.{way_back, way_within, doubles_at}
 use Rattle.map_table.proofs.Doubled.{doubled_move}

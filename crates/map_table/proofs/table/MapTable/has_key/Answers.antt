@@ -1,4 +1,4 @@
-use Rattle.map_table_laws.proofs.Prelude.{rules, ◌≡◌, ◌≢◌, ◌<◌, ◌≤◌, [], ◌∷◌, arith, refl, inl, slice_index}
+use Rattle.table_words.proofs.Prelude.{rules, ◌≡◌, ◌≢◌, ◌<◌, ◌≤◌, [], ◌∷◌, arith, refl, inl, slice_index}
 use Rattle.map_table.proofs.Prelude.{Load}
 use Rattle.map_table.proofs.Going.{goes_none, goes_more}
 use Rattle.map_table.proofs.Lookups.{searched_holds, more_had}

@@ -1,4 +1,4 @@
-use Rattle.map_table_laws.proofs.Prelude.{ℕ, ◌<◌, ◌≤◌, List, length, slice_index, OnlySearches, HadWord}
+use Rattle.table_words.proofs.Prelude.{ℕ, ◌<◌, ◌≤◌, List, length, slice_index, OnlySearches, HadWord}
 use Rattle.map_table.proofs.Prelude.{Move, layout_of, Goes}
 use Rattle.map_table.proofs.table.MapTable.has_key.Given as goal
 

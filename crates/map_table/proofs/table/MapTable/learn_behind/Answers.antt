@@ -1,4 +1,4 @@
-use Rattle.map_table_laws.proofs.Prelude.{◌≡◌, ◌<◌, sym, ap, ◌∙◌, subst, inside}
+use Rattle.table_words.proofs.Prelude.{◌≡◌, ◌<◌, sym, ap, ◌∙◌, subst, inside}
 use Rattle.map_table.proofs.Prelude.{Learn, ways_from, ways_of, TableView, Holder}
 use Rattle.map_table.proofs.Calls.{does, learns_at, learn_named, learn_within, way_back, way_within}
 use Rattle.map_table.proofs.table.MapTable.learn_behind.Goals as goal

@@ -1,4 +1,4 @@
-use Rattle.map_table_laws.proofs.Prelude.{◌<◌, inr, sym, ap, ◌∙◌, subst, Holds}
+use Rattle.table_words.proofs.Prelude.{◌<◌, inr, sym, ap, ◌∙◌, subst, Holds}
 use Rattle.map_table.proofs.Prelude.{TableShape, width_of, TableView, Holder}
 use Rattle.map_table.proofs.Keeps.{loads_ok}
 use Rattle.map_table.proofs.Places.{IsAt, load_move}

@@ -1,4 +1,4 @@
-use Rattle.map_table_laws.proofs.Prelude.{◌<◌, ◌++◌, ◌∙◌, ap, subst}
+use Rattle.table_words.proofs.Prelude.{◌<◌, ◌++◌, ◌∙◌, ap, subst}
 use Rattle.map_table.proofs.Prelude.{TableView}
 use Rattle.map_table.proofs.Filling.{went_me}
 use Rattle.map_table.proofs.Lookups.{searched_inside, searched_holds, answers_held, lookup_finds, hit_was_there}

@@ -1,4 +1,4 @@
-use Rattle.map_table_laws.proofs.Prelude.{[], ◌∷◌, ◌++◌, arith}
+use Rattle.table_words.proofs.Prelude.{[], ◌∷◌, ◌++◌, arith}
 use Rattle.map_table.proofs.Prelude.{Learn}
 use Rattle.std.proofs.lemmas.List.{length-append}
 use Rattle.map_table.proofs.Going.{goes_then}

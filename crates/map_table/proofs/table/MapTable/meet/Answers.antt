@@ -1,4 +1,4 @@
-use Rattle.map_table_laws.proofs.Prelude.{rules, ◌≢◌, [], ◌∷◌, ◌++◌, ap, ◌∙◌, arith}
+use Rattle.table_words.proofs.Prelude.{rules, ◌≢◌, [], ◌∷◌, ◌++◌, ap, ◌∙◌, arith}
 use Rattle.map_table.proofs.Prelude.{Learn, TableView}
 use Rattle.map_table.proofs.Going.{goes_then}
 use Rattle.map_table.proofs.Lookups.{only_append, searched_holds, searched_inside}

@@ -1,4 +1,4 @@
-use Rattle.map_table_laws.proofs.Prelude.{◌-◌, refl, sym, ap, ◌∙◌, opened}
+use Rattle.table_words.proofs.Prelude.{◌-◌, refl, sym, ap, ◌∙◌, opened}
 use Rattle.map_table.proofs.Prelude.{Open, TableView, Holder}
 use Rattle.map_table.proofs.Calls.{does, section_within, opens_at, seat_kept, small_even, next_even}
 use Rattle.map_table.proofs.table.MapTable.open.Goals as goal

@@ -1,4 +1,4 @@
-use Rattle.map_table_laws.proofs.Prelude.{◌<◌, inl, sym, ap, ◌∙◌, subst}
+use Rattle.table_words.proofs.Prelude.{◌<◌, inl, sym, ap, ◌∙◌, subst}
 use Rattle.map_table.proofs.Prelude.{TableShape, Load, width_of, TableView}
 use Rattle.map_table.proofs.Calls.{load_found}
 use Rattle.map_table.proofs.Going.{went_as}

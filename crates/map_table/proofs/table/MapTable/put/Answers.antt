@@ -1,4 +1,4 @@
-use Rattle.map_table_laws.proofs.Prelude.{◌≡◌, ◌⊎◌, ◌<◌, sym, ap, ◌∙◌, subst, Settles, MayLink}
+use Rattle.table_words.proofs.Prelude.{◌≡◌, ◌⊎◌, ◌<◌, sym, ap, ◌∙◌, subst, Settles, MayLink}
 use Rattle.map_table.proofs.Prelude.{Put, TableShape, layout_of, ways_of, TableView}
 use Rattle.map_table.proofs.Calls.{way_back, way_within, puts_at}
 use Rattle.map_table.proofs.Going.{went_as}

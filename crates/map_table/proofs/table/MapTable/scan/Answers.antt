@@ -1,4 +1,4 @@
-use Rattle.map_table_laws.proofs.Prelude.{◌+◌, ◌<◌, sym, ap, ◌∙◌, subst}
+use Rattle.table_words.proofs.Prelude.{◌+◌, ◌<◌, sym, ap, ◌∙◌, subst}
 use Rattle.map_table.proofs.Prelude.{Scan, TableView}
 use Rattle.map_table.proofs.Calls.{scans_at, scan_within, scan_reader}
 use Rattle.map_table.proofs.Going.{went_as}

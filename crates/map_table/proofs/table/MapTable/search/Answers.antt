@@ -1,4 +1,4 @@
-use Rattle.map_table_laws.proofs.Prelude.{◌+◌, ◌++◌, [], arith}
+use Rattle.table_words.proofs.Prelude.{◌+◌, ◌++◌, [], arith}
 use Rattle.map_table.proofs.Going.{goes_none, goes_then}
 use Rattle.map_table.proofs.Lookups.{searched_inside, only_append, some_found, last_steps, more_refuted, more_steps, upper_steps}
 use Rattle.map_table.proofs.table.MapTable.search.Goals as goal

@@ -1,4 +1,4 @@
-use Rattle.map_table_laws.proofs.Prelude.{ℕ, ◌+◌, ◌*◌, ◌<◌, ◌≤◌, List, length, OnlySearches, Refuted}
+use Rattle.table_words.proofs.Prelude.{ℕ, ◌+◌, ◌*◌, ◌<◌, ◌≤◌, List, length, OnlySearches, Refuted}
 use Rattle.map_table.proofs.Prelude.{Move, layout_of, Goes}
 use Rattle.map_table.proofs.table.MapTable.search.Given as goal
 

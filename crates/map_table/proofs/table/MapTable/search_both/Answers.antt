@@ -1,4 +1,4 @@
-use Rattle.map_table_laws.proofs.Prelude.{◌+◌, ◌*◌, ◌++◌, ap, ◌∙◌}
+use Rattle.table_words.proofs.Prelude.{◌+◌, ◌*◌, ◌++◌, ap, ◌∙◌}
 use Rattle.map_table.proofs.Prelude.{TableShape, first_bucket, second_bucket}
 use Rattle.map_table.proofs.Going.{goes_then}
 use Rattle.map_table.proofs.Lookups.{searched_inside, only_append, first_found, both_searched, brief_both, brief_one}

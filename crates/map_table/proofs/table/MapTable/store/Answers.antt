@@ -1,4 +1,4 @@
-use Rattle.map_table_laws.proofs.Prelude.{ℕ, ◌+◌, ◌<◌, ◌≤◌, sym, ap, ◌∙◌, subst, Holds, IsReader}
+use Rattle.table_words.proofs.Prelude.{ℕ, ◌+◌, ◌<◌, ◌≤◌, sym, ap, ◌∙◌, subst, Holds, IsReader}
 use Rattle.map_table.proofs.Prelude.{TableShape, layout_of, width_of, first_of, TableView, Holder}
 use Rattle.map_table.proofs.Places.{IsAt, store_move}
 use Rattle.map_table.proofs.Calls.{does, stores_at, store_left}

@@ -1,4 +1,4 @@
-use Rattle.map_table_laws.proofs.Prelude.{◌<◌, sym, ap, ◌∙◌, subst, IsSpare}
+use Rattle.table_words.proofs.Prelude.{◌<◌, sym, ap, ◌∙◌, subst, IsSpare}
 use Rattle.map_table.proofs.Prelude.{TableShape, Store, width_of, TableView}
 use Rattle.map_table.proofs.Places.{IsAt, store_move}
 use Rattle.map_table.proofs.Calls.{writes_at}

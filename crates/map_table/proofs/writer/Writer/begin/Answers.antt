@@ -1,4 +1,4 @@
-use Rattle.map_table_laws.proofs.Prelude.{rules, refl, ◌≡◌, ◌*◌, length, ap, sym, subst, IsSettled, ℕ}
+use Rattle.table_words.proofs.Prelude.{rules, refl, ◌≡◌, ◌*◌, length, ap, sym, subst, IsSettled, ℕ}
 use Rattle.map_table.proofs.Prelude.{View, HasSeated}
 use Rattle.atomic_table.specs.Table.{Me}
 use Rattle.map_table.proofs.Lost.{first_none_lost}

@@ -1,4 +1,4 @@
-use Rattle.map_table_laws.proofs.Prelude.{rules, ◌≡◌, ◌∙◌, sym, ap, length, arith}
+use Rattle.table_words.proofs.Prelude.{rules, ◌≡◌, ◌∙◌, sym, ap, length, arith}
 use Rattle.map_table.proofs.Prelude.{TableShape, TableView, WriterView}
 use Rattle.map_table.proofs.Unlinking.{all_fit}
 use Rattle.map_table.proofs.writer.Writer.count_linked.Goals as goal

@@ -1,4 +1,4 @@
-use Rattle.map_table_laws.proofs.Prelude.{subst, All}
+use Rattle.table_words.proofs.Prelude.{subst, All}
 use Rattle.map_table.proofs.Prelude.{WriterView, IsFree, IsUnlinked, IsNoneLost}
 use Rattle.map_table.proofs.writer.Writer.each_element_once.Goals as goal
 

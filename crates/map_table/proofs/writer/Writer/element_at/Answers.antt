@@ -1,6 +1,6 @@
-use Rattle.map_table_laws.proofs.Prelude.{rules, ◌≢◌, ◌<◌, ◌∙◌, sym, subst, Names, word_in}
+use Rattle.table_words.proofs.Prelude.{rules, ◌≢◌, ◌<◌, ◌∙◌, sym, subst, Names, word_in}
 use Rattle.map_table.proofs.Prelude.{layout_of, ways_of, WriterView}
-use Rattle.map_table_laws.proofs.Standing.{fits}
+use Rattle.table_words.proofs.Standing.{fits}
 use Rattle.map_table.proofs.Filling.{own_list}
 use Rattle.map_table.proofs.Unlinking.{low_half, read_way}
 use Rattle.map_table.proofs.writer.Writer.element_at.Goals as goal

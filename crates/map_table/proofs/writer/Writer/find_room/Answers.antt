@@ -1,5 +1,5 @@
-use Rattle.map_table_laws.proofs.Prelude.{◌≡◌, ◌≢◌, ◌*◌, ◌+◌, ◌≤◌, ◌<◌, ◌++◌, ◌∙◌, ℕ, List, refl, sym, ap, subst, inl, inr, slice_index, IsCandidate, Names}
-use Rattle.map_table_laws.proofs.Prelude.{word_in, key_of, MayDouble}
+use Rattle.table_words.proofs.Prelude.{◌≡◌, ◌≢◌, ◌*◌, ◌+◌, ◌≤◌, ◌<◌, ◌++◌, ◌∙◌, ℕ, List, refl, sym, ap, subst, inl, inr, slice_index, IsCandidate, Names}
+use Rattle.table_words.proofs.Prelude.{word_in, key_of, MayDouble}
 use Rattle.map_table.proofs.Prelude.{TableShape, layout_of, first_bucket, second_bucket, ways_of, TableView, MakesOneWay, NoneCanMove, WriterView, as_holder}
 use Rattle.map_table.proofs.Prelude.{AreFull}
 use Rattle.table_words.specs.Ways.{IsOfBoth}

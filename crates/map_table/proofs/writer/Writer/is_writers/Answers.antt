@@ -1,4 +1,4 @@
-use Rattle.map_table_laws.proofs.Prelude.{subst, IsSettled}
+use Rattle.table_words.proofs.Prelude.{subst, IsSettled}
 use Rattle.map_table.proofs.Prelude.{WriterView}
 use Rattle.map_table.proofs.writer.Writer.is_writers.Goals as goal
 

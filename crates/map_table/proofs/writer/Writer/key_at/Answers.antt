@@ -1,4 +1,4 @@
-use Rattle.map_table_laws.proofs.Prelude.{◌∙◌, ap, refl, subst, sym, word_in, Names}
+use Rattle.table_words.proofs.Prelude.{◌∙◌, ap, refl, subst, sym, word_in, Names}
 use Rattle.map_table.proofs.Prelude.{layout_of, TableView, WriterView}
 use Rattle.map_table.proofs.Filling.{went_shape}
 use Rattle.map_table.proofs.Going.{went_seated}

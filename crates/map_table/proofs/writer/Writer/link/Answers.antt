@@ -1,5 +1,5 @@
-use Rattle.map_table_laws.proofs.Prelude.{◌≡◌, ℕ, ◌+◌, ◌*◌, ◌<◌, ◌≤◌, [], ◌∷◌, ◌++◌, ⊎_elim, inr, sym, ap, ◌∙◌, subst, refl, arith, List, slice_index}
-use Rattle.map_table_laws.proofs.Prelude.{IsSpare, IsCandidate}
+use Rattle.table_words.proofs.Prelude.{◌≡◌, ℕ, ◌+◌, ◌*◌, ◌<◌, ◌≤◌, [], ◌∷◌, ◌++◌, ⊎_elim, inr, sym, ap, ◌∙◌, subst, refl, arith, List, slice_index}
+use Rattle.table_words.proofs.Prelude.{IsSpare, IsCandidate}
 use Rattle.map_table.proofs.Prelude.{Put, stored_of, TableShape, layout_of, first_bucket, second_bucket, tag_of, ways_of, TableView, WriterView, as_holder}
 use Rattle.map_table.proofs.Prelude.{IsWriter, Fills, AreFull}
 use Rattle.map_table.proofs.Going.{went_known, went_seated, went_then}

@@ -1,4 +1,4 @@
-use Rattle.map_table_laws.proofs.Prelude.{◌∙◌, ap}
+use Rattle.table_words.proofs.Prelude.{◌∙◌, ap}
 use Rattle.map_table.proofs.Prelude.{TableView}
 use Rattle.map_table.proofs.Doubled.{room_stays, room_new, room_once}
 use Rattle.map_table.proofs.writer.Writer.make_room.Goals as goal

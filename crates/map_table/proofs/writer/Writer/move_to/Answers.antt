@@ -1,6 +1,6 @@
-use Rattle.map_table_laws.proofs.Prelude.{◌++◌, ◌∷◌, [], ◌∙◌, refl, sym, ap, subst, inl, inr, List, ℕ, set, Names, MatchBool, slice_index}
+use Rattle.table_words.proofs.Prelude.{◌++◌, ◌∷◌, [], ◌∙◌, refl, sym, ap, subst, inl, inr, List, ℕ, set, Names, MatchBool, slice_index}
 use Rattle.map_table.proofs.Prelude.{Put, Double, TableView, Move, HasGone, HaveGone, IsSomeInside, StandStill, AreSightings, WriterView, as_holder}
-use Rattle.map_table_laws.proofs.Steps.{nothing_named}
+use Rattle.table_words.proofs.Steps.{nothing_named}
 use Rattle.map_table.proofs.Doubled.{has_gone, move_ended, move_facts, move_went, move_settles, moved_inside, moves_only, still_again, writer_may}
 use Rattle.map_table.proofs.Going.{went_seated}
 use Rattle.map_table.proofs.Keeping.{only_scans_quiet}

@@ -1,5 +1,5 @@
-use Rattle.map_table_laws.proofs.Prelude.{rules, ◌≡◌, ◌++◌, ◌∙◌, sym, ap, subst, ℕ, List, take, drop, length, All, length-take-le, take-append-drop}
-use Rattle.map_table_laws.proofs.Prelude.{ScansInTurn}
+use Rattle.table_words.proofs.Prelude.{rules, ◌≡◌, ◌++◌, ◌∙◌, sym, ap, subst, ℕ, List, take, drop, length, All, length-take-le, take-append-drop}
+use Rattle.table_words.proofs.Prelude.{ScansInTurn}
 use Rattle.map_table.proofs.Prelude.{TableShape, TableView, AreSightings, AreCleared, IsHeldUp, Least, WriterView, as_holder, IsWriter, IsNoneLost}
 use Rattle.map_table.proofs.Filling.{went_shape}
 use Rattle.map_table.proofs.Freeing.{all_cleared, all_held, freed_writer}

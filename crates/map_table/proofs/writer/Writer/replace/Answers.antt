@@ -1,5 +1,5 @@
-use Rattle.map_table_laws.proofs.Prelude.{rules, ℕ, ◌<◌, [], ◌∷◌, ◌++◌, inr, sym, ap, ◌∙◌, subst, arith, List, length, vec_capacity, IsSpare, word_in, Names}
-use Rattle.map_table_laws.proofs.Prelude.{IsCandidate, IsLinkedUnder}
+use Rattle.table_words.proofs.Prelude.{rules, ℕ, ◌<◌, [], ◌∷◌, ◌++◌, inr, sym, ap, ◌∙◌, subst, arith, List, length, vec_capacity, IsSpare, word_in, Names}
+use Rattle.table_words.proofs.Prelude.{IsCandidate, IsLinkedUnder}
 use Rattle.map_table.proofs.Prelude.{Put, stored_of, TableShape, layout_of, tag_of, ways_of, TableView, StaysIn, WriterView, as_holder, IsWriter, IsNoneLost}
 use Rattle.map_table.proofs.Prelude.{Fills, AreSightings}
 use Rattle.map_table.proofs.Going.{went_known, went_seated, went_then}

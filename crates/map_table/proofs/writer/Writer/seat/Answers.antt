@@ -1,4 +1,4 @@
-use Rattle.map_table_laws.proofs.Prelude.{rules, ◌≡◌, ◌+◌, ◌≤◌, ◌∙◌, [], ◌∷◌, ℕ, List, sym, ap, subst, refl, arith, IsSettled}
+use Rattle.table_words.proofs.Prelude.{rules, ◌≡◌, ◌+◌, ◌≤◌, ◌∙◌, [], ◌∷◌, ℕ, List, sym, ap, subst, refl, arith, IsSettled}
 use Rattle.map_table.proofs.Prelude.{Scan, TableShape, View, TableView, dealt, AreSightings, WriterView, HasSeated, IsWriter, IsNoneLost, Works, as_holder}
 use Rattle.atomic_table.specs.Table.{Me}
 use Rattle.map_table.proofs.Filling.{went_shape}

@@ -1,4 +1,4 @@
-use Rattle.map_table_laws.proofs.Prelude.{◌+◌, ◌∙◌, refl}
+use Rattle.table_words.proofs.Prelude.{◌+◌, ◌∙◌, refl}
 use Rattle.map_table.proofs.Prelude.{copies_of}
 use Rattle.map_table.proofs.Filling.{went_shape}
 use Rattle.map_table.proofs.Going.{went_seated}

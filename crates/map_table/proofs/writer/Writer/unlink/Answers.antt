@@ -1,4 +1,4 @@
-use Rattle.map_table_laws.proofs.Prelude.{rules, ◌≢◌, ◌<◌, [], ◌∷◌, ◌++◌, ◌∙◌, refl, sym, ap, subst, ℕ, List, length, vec_capacity, Names, word_in}
+use Rattle.table_words.proofs.Prelude.{rules, ◌≢◌, ◌<◌, [], ◌∷◌, ◌++◌, ◌∙◌, refl, sym, ap, subst, ℕ, List, length, vec_capacity, Names, word_in}
 use Rattle.map_table.proofs.Prelude.{Put, TableShape, ways_of, TableView, WriterView, as_holder, IsWriter, IsNoneLost, AreSightings}
 use Rattle.map_table.proofs.Lost.{emptied_none_lost}
 use Rattle.map_table.proofs.Seen.{sightings_unlinked}

@@ -1,5 +1,0 @@
-use Rattle.map_table_laws.proofs.Writing.{put_unheld}
-use Rattle.map_table_laws.proofs.excluded.linking_a_held_element_is_excluded.Goals as goal
-
-pub returns : goal.returns
-returns c = λ k es lawful who element way word h names may. put_unheld k es lawful who element way word may names h

@@ -1,6 +1,0 @@
-use Rattle.map_table_laws.proofs.Writing.{skipped}
-use Rattle.map_table_laws.proofs.excluded.skipping_a_reader_is_excluded.Goals as goal
-
-pub returns : goal.returns
-returns c = λ readers reader element way word since before some within names unseen spare.
-    skipped readers reader element way word since before some within unseen names spare

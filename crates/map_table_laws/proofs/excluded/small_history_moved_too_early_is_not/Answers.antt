@@ -1,5 +1,0 @@
-use Rattle.map_table_laws.proofs.Small.{moved_past_reader}
-use Rattle.map_table_laws.proofs.excluded.small_history_moved_too_early_is_not.Goals as goal
-
-pub returns : goal.returns
-returns c = moved_past_reader

@@ -1,6 +1,0 @@
-use Rattle.map_table_laws.proofs.Hits.{hit_linked}
-use Rattle.map_table_laws.proofs.laws.hits_were_linked.Goals as goal
-
-pub returns : goal.returns
-returns c = λ k table apart late early lawful key count who element some only a.
-    hit_linked k table apart key count who element late early some lawful only a

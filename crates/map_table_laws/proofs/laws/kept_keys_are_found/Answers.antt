@@ -1,5 +1,0 @@
-use Rattle.map_table_laws.proofs.Moved.{null_refutes_kept}
-use Rattle.map_table_laws.proofs.laws.kept_keys_are_found.Goals as goal
-
-pub returns : goal.returns
-returns c = null_refutes_kept

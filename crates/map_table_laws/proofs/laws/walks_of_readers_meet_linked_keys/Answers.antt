@@ -1,5 +1,0 @@
-use Rattle.map_table_laws.proofs.Walks.{meets_linked}
-use Rattle.map_table_laws.proofs.laws.walks_of_readers_meet_linked_keys.Goals as goal
-
-pub returns : goal.returns
-returns c = λ k late early lawful who way element stays found. meets_linked k who way element late early lawful stays found

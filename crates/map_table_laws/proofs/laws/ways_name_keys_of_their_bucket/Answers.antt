@@ -1,5 +1,0 @@
-use Rattle.map_table_laws.proofs.Standing.{fits}
-use Rattle.map_table_laws.proofs.laws.ways_name_keys_of_their_bucket.Goals as goal
-
-pub returns : goal.returns
-returns c = λ k es lawful way element names. let f = fits k es lawful way element names in (f.within, f.bucket, f.tag)
