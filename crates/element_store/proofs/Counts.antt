@@ -1,7 +1,7 @@
 -- How often a slot stands in a list.
-use Rattle.bpf_model.proofs.Prelude.{◌≡◌, ◌≢◌, ◌∙◌, ℕ, zero, suc, ◌+◌, ◌<◌, ◌≤◌, List, [], ◌∷◌, ◌++◌, length, ◌⊎◌, inl, inr, refl, sym, ap, arith, cond, eqb}
-use Rattle.bpf_model.proofs.Prelude.{subst, cond-true, cond-false, eq-eqb, eqb-true, eqb-false, false_from_ne_true, cases_Bool}
-use Rattle.element_store.proofs.Prelude.{times_in}
+use Rattle.std.proofs.Common.{◌≡◌, ◌≢◌, ◌∙◌, ℕ, zero, suc, ◌+◌, ◌<◌, ◌≤◌, List, [], ◌∷◌, ◌++◌, length, ◌⊎◌, inl, inr, refl, sym, ap, arith, cond, eqb, subst}
+use Rattle.std.proofs.lemmas.Bool.{cond-true, cond-false, eq-eqb, eqb-true, eqb-false, false_from_ne_true, cases_Bool}
+use Rattle.element_store.specs.State.{times_in}
 
 -- two slots are one, or they are not
 pub one_cases : (x n : ℕ) → ((x ≡ n) × (cond {A = ℕ} (eqb x n) 1 0 ≡ 1)) ⊎ ((x ≢ n) × (cond {A = ℕ} (eqb x n) 1 0 ≡ 0))

@@ -1,12 +1,16 @@
 -- The finite map of an index, whatever the order of its slots.
-use Rattle.bpf_model.proofs.Prelude.{◌≡◌, ◌≢◌, ◌∙◌, ℕ, ◌+◌, ◌<◌, ◌≤◌, List, [], ◌∷◌, Some, None, inl, inr, refl, sym, ap, arith, cond, eqb, subst, cond-true}
-use Rattle.bpf_model.proofs.Prelude.{cond-false, eqb-true, eqb-false, false_from_ne_true, cases_Bool, none-some, same_Some, nat_list_cmp_total, slice_cmp}
-use Rattle.bpf_model.proofs.Prelude.{nat_cmp, get, insert, remove, get-insert, get-remove, same_map, KeyMap, option_cases, same_key, same_key-true}
-use Rattle.bpf_model.proofs.Prelude.{same_key-false}
-use Rattle.element_store.proofs.Prelude.{times_in, is_at, contents_of, slot_of}
+use Rattle.std.proofs.Common.{◌≡◌, ◌≢◌, ◌∙◌, ℕ, ◌+◌, ◌<◌, ◌≤◌, List, [], ◌∷◌, Some, None, inl, inr, refl, sym, ap, arith, cond, eqb, subst}
+use Rattle.std.proofs.lemmas.Bool.{cond-true, cond-false, eqb-true, eqb-false, false_from_ne_true, cases_Bool}
+use Rattle.std.proofs.lemmas.Option.{none-some, same_Some}
+use Rattle.std.proofs.lemmas.Cmp.{nat_list_cmp_total}
+use Rattle.std.specs.Cmp.Lexicographic.{slice_cmp}
+use Rattle.std.specs.Ordering.{nat_cmp}
 use Rattle.std.specs.FinMap as map
-use Rattle.std.specs.FinMap.{get-from_entries, slice_cmp-IsAntisymmetric, nat_cmp-IsAntisymmetric}
-use Rattle.element_store.specs.State.{entries_of}
+use Rattle.std.specs.FinMap.{get, insert, remove, get-insert, get-remove, get-from_entries, same_map, slice_cmp-IsAntisymmetric, nat_cmp-IsAntisymmetric}
+use Rattle.bpf_model.specs.View.{KeyMap}
+use Rattle.bpf_model.proofs.Cases.{option_cases}
+use Rattle.bpf_model.proofs.Keys.{same_key, same_key-true, same_key-false}
+use Rattle.element_store.specs.State.{times_in, is_at, entries_of, contents_of, slot_of}
 use Rattle.element_store.proofs.Counts.{one_cases, one_same, one_other, times_first}
 
 pub get_at-insert : (m : KeyMap) (k : List ℕ) (v : ℕ) (q : List ℕ) → get (insert m k v) q ≡ cond (same_key q k) (Some v) (get m q)

@@ -1,8 +1,10 @@
 -- Threads under changes of links.
-use Rattle.bpf_model.proofs.Prelude.{◌≡◌, ◌≢◌, ◌∙◌, ℕ, zero, suc, ◌<◌, ◌≤◌, List, [], ◌∷◌, ◌++◌, length, Option, Some, None, refl, sym, ap, arith, cond, eqb}
-use Rattle.bpf_model.proofs.Prelude.{subst, none-some, same_Some}
-use Rattle.element_store.proofs.Prelude.{times_in, IsThread, walk, last_slot_of, last_left}
+use Rattle.std.proofs.Common.{◌≡◌, ◌≢◌, ◌∙◌, ℕ, zero, suc, ◌<◌, ◌≤◌, List, [], ◌∷◌, ◌++◌, length, Option, Some, None, refl, sym, ap, arith, cond, eqb, subst}
+use Rattle.std.proofs.lemmas.Option.{none-some, same_Some}
+use Rattle.element_store.specs.State.{times_in}
+use Rattle.element_store.specs.Threads.{IsThread, walk, last_slot_of}
 use Rattle.element_store.proofs.Counts.{one_same, times_first}
+use Rattle.element_store.specs.Kept.{last_left}
 
 pub walk-thread : (next : ℕ → Option ℕ) (o : Option ℕ) (xs : List ℕ) (n : ℕ) → IsThread next o xs → length xs ≤ n → walk n next o ≡ xs
 walk-thread next o [] zero t l = refl
