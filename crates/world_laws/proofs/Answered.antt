@@ -1,13 +1,13 @@
 -- A run that maps around it have answered stands among the maps after the call. First it forgets each reference to an
 -- element that it may not access, since such a number may be born in the call.
-use Rattle.bpf_model.proofs.Prelude.{◌≡◌, ℕ, zero, suc, ◌+◌, ◌<◌, refl, sym, ap, subst, ◌∙◌, arith, List, [], ◌∷◌, length, Option, Some, None, Bool, true}
-use Rattle.bpf_model.proofs.Prelude.{false, inl, inr, slice_get, slice_set, slice_index, ◌==◌, nat_le, if◌then◌else◌, ℤ, pos, negsuc, false≢true, length-set}
+use Rattle.bpf_model.proofs.Prelude.{◌≡◌, ℕ, zero, suc, ◌+◌, refl, sym, ap, subst, ◌∙◌, arith, List, [], ◌∷◌, length, Option, Some, None, Bool, true}
+use Rattle.bpf_model.proofs.Prelude.{false, inl, inr, slice_get, nat_le, if◌then◌else◌, ℤ, pos, negsuc, false≢true}
 use Rattle.bpf_model.proofs.Prelude.{none-some, same_Some, slice_get_within, helper_of, Element, Life, accessible, is_reclaimed, unless_reclaimed, byte_of}
 use Rattle.bpf_model.proofs.Prelude.{bytes_at, bytes_from, frame_bytes, Run, moves, InsnStep, StepsServed, MapState, Store, AllBytes, Argument, MapArgument}
 use Rattle.bpf_model.proofs.Prelude.{BytesArgument, NumberArgument, Request, CallHelper, ServesRequest, argument_of, arguments_of, asks, bound_shape}
-use Rattle.bpf_model.proofs.Prelude.{called_shape, named_map, signature_of, Section, State, insn_at, returned_value, returns, ◌>>=◌, number, reference}
-use Rattle.bpf_model.proofs.Prelude.{RunView, WordIs, slot_base, AreWords}
-use Rattle.model_laws.proofs.Prelude.{ArgumentKind, MapOfProgram, KeyOfMap, ValueOfMap, AnyNumber, Insn, Call, MapShape, FRAME_BYTES, REGISTERS, Cell}
+use Rattle.bpf_model.proofs.Prelude.{called_shape, named_map, signature_of, Section, State, insn_at, returns, ◌>>=◌, number, reference}
+use Rattle.bpf_model.proofs.Prelude.{RunView, slot_base, AreWords}
+use Rattle.model_laws.proofs.Prelude.{ArgumentKind, MapOfProgram, KeyOfMap, ValueOfMap, AnyNumber, Insn, Call, MapShape, FRAME_BYTES, Cell}
 use Rattle.model_laws.proofs.Prelude.{Unwritten, Byte, Part, Value, Nothing, Number, Pointer, Ctx, Frame, MapRef, Elem}
 use Rattle.plan_laws.proofs.Prelude.{IsHeld, scene_of, IsClosed, IsPlanned, IsVerified, Plan, Surrounds}
 use Rattle.world_laws.proofs.Prelude.{returned_view, IsNumbered, IsRunOf, IsSlotWord, MapsAnswer}
@@ -20,8 +20,7 @@ use Rattle.plan_laws.proofs.Arrays.{AllStayKept}
 use Rattle.plan_laws.proofs.Elements.{accessible-held}
 use Rattle.plan_laws.proofs.Reaching.{bound-kept}
 use Rattle.world_laws.specs.Standing.{LieInSlots}
-use Rattle.world_laws.proofs.Bytes.{set_cond}
-use Rattle.world_laws.proofs.Calling.{word-returned}
+use Rattle.world_laws.proofs.Calling.{returned-words}
 use Rattle.world_laws.proofs.Erasing as erasing
 
 pub numbered-closed : Closed IsNumbered
@@ -278,22 +277,7 @@ module _ (code : List Insn) (shapes : List MapShape) (ctx_len : ℕ) (some : IsV
       subst (λ (j : ℕ). bases j ≡ h.stands.bases n) (same_Some n k f.2) (ap (λ o. base-or o (h.stands.bases n)) at)
 
   words : AreWords bases (returned_view word v) later
-  words =
-      let w = erasing.words-erased reached h.stands.bases bases same-base v run h.stands.words in
-      let register_count : length v.registers ≡ REGISTERS = w.register_count in
-      record {
-        context = w.context;
-        register_count = length-set v.registers 0 word ∙ w.register_count;
-        registers = λ q l. subst (λ z. WordIs bases (returned_value (Number word) bare_run.state.regs q) z)
-            (sym (set_cond v.registers 0 word q (omega (arith, register_count))))
-            (word-returned bases (q == 0) (nat_le q 5) word (slice_index v.registers q) (Number word) (bare_run.state.regs q) refl (w.registers q l));
-        cells = w.cells;
-        frame = w.frame;
-        place = ap (λ n. n + 1) w.place;
-        depth = w.depth;
-        moved = ap (λ n. n + 1) w.moved;
-        exit = w.exit;
-      }
+  words = returned-words bases v bare_run (erasing.words-erased reached h.stands.bases bases same-base v run h.stands.words) (Number word) word refl
 
   pub answer_stands : IsRunOf code shapes ctx_len (returned_view word v)
   answer_stands =

@@ -18,27 +18,32 @@ use Rattle.model_laws.proofs.Deleting.{delete_half}
 use Rattle.model_laws.proofs.Updating.{update_half}
 use Rattle.world_laws.proofs.Words.{number_word}
 use Rattle.world_laws.proofs.Bytes.{set_cond, argument-bytes}
-use Rattle.world_laws.proofs.Ready.{bases, refines, register-word, byte-stands, moves-to, move-refines, half-refines}
+use Rattle.world_laws.proofs.Ready.{bases, refines, register-word, byte-stands, moves-to, half-refines}
 use Rattle.world_laws.proofs.Own.{Known, Does}
+use Rattle.world_laws.proofs.Among.{moved-words}
+use Rattle.bpf_model.proofs.Prelude.{AreWords}
 use Rattle.model_laws.proofs.Requests.{of_kind}
 
-pub word-returned : (bases : ℕ → ℕ) (a b : Bool) (x y : ℕ) (u v : Value) → WordIs bases u x → WordIs bases v y →
+word-returned : (bases : ℕ → ℕ) (a b : Bool) (x y : ℕ) (u v : Value) → WordIs bases u x → WordIs bases v y →
     WordIs bases (if a then u else if b then Nothing else v) (if a then x else y)
 word-returned bases true b x y u v p q = p
 word-returned bases false true x y u v p q = tt
 word-returned bases false false x y u v p q = q
 
+pub returned-words : (b : ℕ → ℕ) (v : RunView) (run : Run) → AreWords b v run → (ret : Value) (word : ℕ) → WordIs b ret word →
+    AreWords b (returned_view word v) (moves run (returns ret run.state))
+returned-words b v run h ret word is =
+    let register_count : length v.registers ≡ REGISTERS = h.register_count in
+    moved-words b v run h (slice_set v.registers 0 word) v.frame (v.place + 1) (returns ret run.state) (length-set v.registers 0 word ∙ h.register_count)
+    (λ q l. subst (λ y. WordIs b (returned_value ret run.state.regs q) y) (sym (set_cond v.registers 0 word q (omega (arith, register_count))))
+    (word-returned b (q == 0) (nat_le q 5) word (slice_index v.registers q) ret (run.state.regs q) is (h.registers q l)))
+    h.cells h.frame (ap (λ p. p + 1) h.place)
+
 returned-refines : (slots : List ℕ) (es : List Element) (programs : List Loaded) (v : RunView) (run : Run) →
     RunRefines slots es programs v run → (ret : Value) (word : ℕ) → WordIs (element_bases slots es) ret word →
     RunRefines slots es programs (returned_view word v) (moves run (returns ret run.state))
 returned-refines slots es programs v run h ret word is =
-    let register_count : length v.registers ≡ REGISTERS = h.words.register_count in
-    let bases = element_bases slots es in
-    move-refines slots es programs v run h (slice_set v.registers 0 word) v.frame (v.place + 1)
-    (returns ret run.state) (length-set v.registers 0 word ∙ h.words.register_count)
-    (λ q l. subst (λ y. WordIs bases (returned_value ret run.state.regs q) y) (sym (set_cond v.registers 0 word q (omega (arith, register_count))))
-    (word-returned bases (q == 0) (nat_le q 5) word (slice_index v.registers q) ret (run.state.regs q) is (h.words.registers q l)))
-    h.words.cells h.words.frame (ap (λ p. p + 1) h.words.place)
+    record { program = h.program; words = returned-words (element_bases slots es) v run h.words ret word is }
 
 module _ (w : WorldView) (s : Schedule) (m : Matches w s) (sound : IsSound w s) (r : ℕ) (run : Run) (v : RunView) (k : IsRunning w s r run v) where
   abbrev b : ℕ → ℕ

@@ -1,6 +1,7 @@
 pub mod Prelude
 pub mod Alike
 pub mod Answered
+pub mod Among
 pub mod Appending
 pub mod Asked
 pub mod Asking
@@ -25,6 +26,7 @@ pub mod Loading
 pub mod Local
 pub mod OneMore
 pub mod Own
+pub mod OwnMemory
 pub mod Places
 pub mod Reaching
 pub mod Reading

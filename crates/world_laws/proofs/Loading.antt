@@ -1,22 +1,24 @@
--- Loads: from the context, from the frame, and from elements.
-use Rattle.bpf_model.proofs.Prelude.{◌≡◌, ℕ, ◌+◌, ◌≤◌, refl, sym, ap, subst, ◌∙◌, arith, Some, List, length, inr, false, slice_get, slice_index, ℤ, pos, ◌+ℤ◌}
-use Rattle.bpf_model.proofs.Prelude.{none-some, same_Some, byte_count, unsigned_width, region_offset, number_at, loaded_signed, Element, accessible}
-use Rattle.bpf_model.proofs.Prelude.{is_reclaimed, read, open_sections, Run, environment, loaded_from, Schedule, Outcome, sets, load_from, after, ◌>>=◌}
-use Rattle.bpf_model.proofs.Prelude.{number, RunView, WorldView, value_in, WordIs}
-use Rattle.model_laws.proofs.Prelude.{FRAME_BYTES, Load, LoadSigned, Width, SignedWidth, Value, Nothing, Number, Pointer, Ctx, Frame, MapRef, Elem}
-use Rattle.model_laws.proofs.Prelude.{AccessesElement, element_load, IsNear, Location, InContext, InFrame, InSlot, Matches}
+-- Loads from elements.
+use Rattle.bpf_model.proofs.Prelude.{◌≡◌, ℕ, ◌+◌, refl, ap, ◌∙◌, Some, List, length, inr, false, slice_get, slice_index, ℤ, pos, ◌+ℤ◌}
+use Rattle.bpf_model.proofs.Prelude.{none-some, byte_count, unsigned_width, region_offset, number_at, loaded_signed, Element, accessible}
+use Rattle.bpf_model.proofs.Prelude.{is_reclaimed, open_sections, Run, loaded_from, Schedule, Outcome}
+use Rattle.bpf_model.proofs.Prelude.{RunView, WorldView, value_in, WordIs}
+use Rattle.model_laws.proofs.Prelude.{Load, LoadSigned, Width, SignedWidth, Value, Nothing, Number, Pointer, Ctx, Frame, MapRef, Elem}
+use Rattle.model_laws.proofs.Prelude.{AccessesElement, element_load, IsNear, Location, InSlot, Matches}
 use Rattle.world_laws.proofs.Prelude.{location_of, bytes_of, offset_at, number_from, loaded_word, word_in, insn_step, IsSound, IsRunning}
 use Rattle.model_laws.proofs.Storing.{accessible-kept}
 use Rattle.model_laws.proofs.Stores.{accessible-born}
 use Rattle.plan_laws.proofs.Elements.{offset_some}
 use Rattle.world_laws.specs.Locating.{value_of}
-use Rattle.world_laws.proofs.Words.{number_word}
-use Rattle.world_laws.proofs.Cells.{read_word}
-use Rattle.world_laws.proofs.Places.{context-location, frame-location, slot-location}
-use Rattle.world_laws.proofs.Bytes.{number-there, number-read}
+use Rattle.world_laws.proofs.Places.{slot-location}
+use Rattle.world_laws.proofs.Bytes.{number-read}
 use Rattle.world_laws.proofs.Shown.{Shown, shown}
-use Rattle.world_laws.proofs.Ready.{bases, refines, near, register-word, byte-stands}
-use Rattle.world_laws.proofs.Own.{Known, StepsBy, Does, alone-step, insn-real, set}
+use Rattle.world_laws.proofs.Ready.{bases}
+use Rattle.world_laws.proofs.Own.{Known, Does, insn-real, among, carried}
+use Rattle.world_laws.proofs.Among.{register-word, sets-word}
+use Rattle.world_laws.proofs.Prelude.{Goes, with_word}
+use Rattle.bpf_model.proofs.Prelude.{OutcomeStep}
+use Rattle.model_laws.proofs.Prelude.{Answer}
 use Rattle.model_laws.proofs.Computations.{first-step}
 use Rattle.model_laws.proofs.Requests.{of_kind}
 
@@ -29,33 +31,6 @@ module _ (w : WorldView) (s : Schedule) (m : Matches w s) (sound : IsSound w s) 
   located : (width x : ℕ) (offset : ℤ) (l : Location) → location_of x ≡ l →
       loaded_word w v width offset x ≡ number_from (bytes_of w v l) width (offset_at l +ℤ offset)
   located width x offset l e = ap (λ l. number_from (bytes_of w v l) width (offset_at l +ℤ offset)) e
-
-  pub load-word : (width x : ℕ) (offset : ℤ) (base u : Value) → WordIs (bases w s m sound r run v k) base x →
-      IsNear base → load_from (environment run) run.state width offset base ≡ Some u →
-      WordIs (bases w s m sound r run v k) u (loaded_word w v width offset x)
-  load-word width x offset Nothing u word n e = absurd (none-some u e)
-  load-word width x offset (Number a) u word n e = absurd (none-some u e)
-  load-word width x offset (Pointer (MapRef i)) u word n e = absurd (none-some u e)
-  load-word width x offset (Pointer (Elem b o)) u word n e = absurd (none-some u e)
-  load-word width x offset (Pointer (Ctx o)) u word n e =
-      let f = first-step (region_offset (length run.context) width (o +ℤ offset))
-      (λ at. number_at (slice_get run.context) at width >>= λ n. Some (Number n)) u e in
-      let g = first-step (number_at (slice_get run.context) f.0 width) (λ n. Some (Number n)) u f.2 in
-      let p = offset_some (length run.context) width (o +ℤ offset) f.0 f.1 in
-      let h = refines w s m sound r run v k in
-      subst (λ u. WordIs (bases w s m sound r run v k) u (loaded_word w v width offset x)) (same_Some (Number g.0) u g.2)
-      (located width x offset (InContext o) (context-location x o n word)
-      ∙ number-read v.context width f.0 g.0 (o +ℤ offset) p.0 (ap (λ (c : List ℕ). number_at (slice_get c) f.0 width) h.words.context ∙ g.1))
-  load-word width x offset (Pointer (Frame o)) u word n e =
-      let f = first-step (region_offset FRAME_BYTES width (o +ℤ offset)) (λ at. read run.state.frame at width) u e in
-      let p = offset_some FRAME_BYTES width (o +ℤ offset) f.0 f.1 in
-      let h = refines w s m sound r run v k in
-      let cells : length v.frame ≡ FRAME_BYTES = h.words.cells in
-      let inside : f.0 + width ≤ length v.frame = omega (arith, p.1, cells) in
-      let g = number-there v.frame width f.0 inside in
-      subst (WordIs (bases w s m sound r run v k) u)
-      (sym (located width x offset (InFrame o) (frame-location x o n word) ∙ number-read v.frame width f.0 g.0 (o +ℤ offset) p.0 g.1))
-      (read_word (bases w s m sound r run v k) run.state.frame v.frame f.0 width g.0 u (byte-stands w s m sound r run v k) inside f.2 g.1)
 
   -- where the word of an element leads
   pub element-located : (n x : ℕ) (o : ℤ) (e : Element) → accessible s.machine.store.elements n ≡ Some e →
@@ -85,73 +60,32 @@ module _ (w : WorldView) (s : Schedule) (m : Matches w s) (sound : IsSound w s) 
       ∙ number-read (value_of (slice_get w.maps f.0.map) slot) width g.0 n (o +ℤ offset) p.0
       (ap (λ (c : List ℕ). number_at (slice_get c) g.0 width) bytes ∙ g.2)
 
-  -- a step that reads an element
-  reads : (width : Width) (dst src : ℕ) (offset : ℤ) (out : Outcome) →
-      AccessesElement (Load width dst src offset) s.machine.store.elements run.state out s.machine.store.elements →
-      StepsBy w s m sound r run v k (Load width dst src offset) out
-  reads width dst src offset out h answer later g = of_kind (Load width dst src offset) s.machine.store
-      (open_sections s.machine.runs) run answer s.machine.store later (out, s.machine.store.elements, inr h, refl, g)
-
-  reads-signed : (width : SignedWidth) (dst src : ℕ) (offset : ℤ) (out : Outcome) →
-      AccessesElement (LoadSigned width dst src offset) s.machine.store.elements run.state out
-      s.machine.store.elements → StepsBy w s m sound r run v k (LoadSigned width dst src offset) out
-  reads-signed width dst src offset out h answer later g =
-      of_kind (LoadSigned width dst src offset) s.machine.store (open_sections s.machine.runs) run answer
-      s.machine.store later (out, s.machine.store.elements, inr h, refl, g)
-
-  pub load-simulates : (width : Width) (dst src : ℕ) (offset : ℤ) (out : Outcome) →
-      Known w s m sound r run v k (Load width dst src offset) →
-      after (Load width dst src offset) (environment run) run.state ≡ Some out →
-      Does w s m sound r run v k (insn_step (Load width dst src offset) run.program r v w)
-  load-simulates width dst src offset out here e =
-      let i = Load width dst src offset in
-      let real = insn-real w s m sound r run v k i here in
-      let f = first-step (load_from (environment run) run.state (byte_count width) offset (run.state.regs src)) (λ u. sets 1 dst u run.state) out e in
-      set w s m sound r run v k i out 1 dst (loaded_word w v (byte_count width) offset (word_in v src)) f.0 here
-      (alone-step w s m sound r run v k i out refl e) real.0 f.2
-      (λ _. load-word (byte_count width) (word_in v src) offset (run.state.regs src) f.0
-      (register-word w s m sound r run v k src real.1) ((near w s m sound r run v k).regs_near src) f.1)
-
-  pub load-signed-simulates : (width : SignedWidth) (dst src : ℕ) (offset : ℤ) (out : Outcome) →
-      Known w s m sound r run v k (LoadSigned width dst src offset) →
-      after (LoadSigned width dst src offset) (environment run) run.state ≡ Some out →
-      Does w s m sound r run v k (insn_step (LoadSigned width dst src offset) run.program r v w)
-  load-signed-simulates width dst src offset out here e =
-      let i = LoadSigned width dst src offset in
-      let real = insn-real w s m sound r run v k i here in
-      let wide = byte_count (unsigned_width width) in
-      let f = first-step (load_from (environment run) run.state wide offset (run.state.regs src))
-      (λ u. number u >>= λ n. sets 1 dst (Number (loaded_signed width n)) run.state) out e in
-      let g = first-step (number f.0) (λ n. sets 1 dst (Number (loaded_signed width n)) run.state) out f.2 in
-      let x = loaded_word w v wide offset (word_in v src) in
-      set w s m sound r run v k i out 1 dst (loaded_signed width x) (Number (loaded_signed width g.0)) here
-      (alone-step w s m sound r run v k i out refl e) real.0 g.2
-      (λ _. ap (loaded_signed width) (number_word (bases w s m sound r run v k) f.0 g.0 x g.1
-      (load-word wide (word_in v src) offset (run.state.regs src) f.0 (register-word w s m sound r run v k src real.1)
-      ((near w s m sound r run v k).regs_near src) f.1)))
-
-  pub element-load-simulates : (width : Width) (dst src : ℕ) (offset : ℤ) (out : Outcome) →
+  -- a load from an element
+  pub element-load-simulates : (width : Width) (dst src : ℕ) (offset : ℤ) (out : Outcome) (answer : Answer) (later : Run) →
       Known w s m sound r run v k (Load width dst src offset) →
       AccessesElement (Load width dst src offset) s.machine.store.elements run.state out s.machine.store.elements →
-      Does w s m sound r run v k (insn_step (Load width dst src offset) run.program r v w)
-  element-load-simulates width dst src offset out here h =
+      OutcomeStep out run answer later → Does w s m sound r run v k (insn_step (Load width dst src offset) run.program r v w)
+  element-load-simulates width dst src offset out answer later here h ends =
       let i = Load width dst src offset in
       let real = insn-real w s m sound r run v k i here in
-      set w s m sound r run v k i out 1 dst (loaded_word w v (byte_count width) offset (word_in v src)) (Number h.0)
-      here (reads width dst src offset out h) real.0 h.2
-      (λ _. element-word (byte_count width) (word_in v src) offset (run.state.regs src) h.0
-      (register-word w s m sound r run v k src real.1) ((near w s m sound r run v k).regs_near src) h.1)
+      let a = among w s m sound r run v k in
+      let x = loaded_word w v (byte_count width) offset (word_in v src) in
+      carried w s m sound r run v k i out (Goes (with_word 1 dst x v)) _ answer later here
+      (λ answer later g. of_kind i s.machine.store (open_sections s.machine.runs) run answer s.machine.store later (out, s.machine.store.elements, inr h, refl, g))
+      ends (sets-word a out 1 dst x (Number h.0) real.0 h.2
+      (element-word (byte_count width) (word_in v src) offset (run.state.regs src) h.0 (register-word a src real.1) (a.near.regs_near src) h.1)) refl
 
-  pub element-load-signed-simulates : (width : SignedWidth) (dst src : ℕ) (offset : ℤ) (out : Outcome) →
+  pub element-load-signed-simulates : (width : SignedWidth) (dst src : ℕ) (offset : ℤ) (out : Outcome) (answer : Answer) (later : Run) →
       Known w s m sound r run v k (LoadSigned width dst src offset) →
-      AccessesElement (LoadSigned width dst src offset) s.machine.store.elements run.state out
-      s.machine.store.elements →
-      Does w s m sound r run v k (insn_step (LoadSigned width dst src offset) run.program r v w)
-  element-load-signed-simulates width dst src offset out here h =
+      AccessesElement (LoadSigned width dst src offset) s.machine.store.elements run.state out s.machine.store.elements →
+      OutcomeStep out run answer later → Does w s m sound r run v k (insn_step (LoadSigned width dst src offset) run.program r v w)
+  element-load-signed-simulates width dst src offset out answer later here h ends =
       let i = LoadSigned width dst src offset in
       let real = insn-real w s m sound r run v k i here in
+      let a = among w s m sound r run v k in
       let wide = byte_count (unsigned_width width) in
-      set w s m sound r run v k i out 1 dst (loaded_signed width (loaded_word w v wide offset (word_in v src)))
-      (Number (loaded_signed width h.0)) here (reads-signed width dst src offset out h) real.0 h.2
-      (λ _. ap (loaded_signed width) (element-word wide (word_in v src) offset (run.state.regs src) h.0
-      (register-word w s m sound r run v k src real.1) ((near w s m sound r run v k).regs_near src) h.1))
+      let x = loaded_signed width (loaded_word w v wide offset (word_in v src)) in
+      carried w s m sound r run v k i out (Goes (with_word 1 dst x v)) _ answer later here
+      (λ answer later g. of_kind i s.machine.store (open_sections s.machine.runs) run answer s.machine.store later (out, s.machine.store.elements, inr h, refl, g))
+      ends (sets-word a out 1 dst x (Number (loaded_signed width h.0)) real.0 h.2
+      (ap (loaded_signed width) (element-word wide (word_in v src) offset (run.state.regs src) h.0 (register-word a src real.1) (a.near.regs_near src) h.1))) refl

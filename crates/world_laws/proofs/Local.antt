@@ -1,16 +1,19 @@
 -- What a run does without its world is what it does in it, and it asks exactly where the machine's run can't act by itself.
-use Rattle.bpf_model.proofs.Prelude.{◌≡◌, ℕ, refl, sym, ap, subst, List, Some, ℤ, ◌+ℤ◌, none-some, byte_count, unsigned_width, loaded_signed, Element}
-use Rattle.bpf_model.proofs.Prelude.{accessible, Loaded, Run, environment, loaded_from, operand_value, Schedule, Outcome, sets, load_from, after, ◌>>=◌}
-use Rattle.bpf_model.proofs.Prelude.{number, RunView, WorldView, WordIs}
+use Rattle.bpf_model.proofs.Prelude.{◌≡◌, ℕ, refl, ap, subst, List, Some, ℤ, ◌+ℤ◌, none-some, byte_count, unsigned_width, loaded_signed, Element}
+use Rattle.bpf_model.proofs.Prelude.{accessible, Loaded, Run, environment, loaded_from, operand_value, Schedule, Outcome, after}
+use Rattle.bpf_model.proofs.Prelude.{RunView, WorldView, WordIs}
 use Rattle.model_laws.proofs.Prelude.{Insn, Call, Load, LoadSigned, Store, Value, Nothing, Number, Pointer, Ctx, Frame, MapRef, Elem, AccessesElement}
 use Rattle.model_laws.proofs.Prelude.{element_load, IsNear, Location, InContext, InFrame, AtMap, InSlot, Matches}
 use Rattle.world_laws.proofs.Prelude.{Asks, local_load, local_store, local_of, Agrees, AsksNothing, location_of, bytes_of, offset_at, number_from, word_in}
 use Rattle.world_laws.proofs.Prelude.{operand_word, with_word, moves_on, stored_at, insn_step, IsSound, IsRunning}
-use Rattle.world_laws.proofs.Places.{context-location, frame-location}
 use Rattle.world_laws.proofs.Ready.{bases, near, register-word}
-use Rattle.world_laws.proofs.Own.{Known, insn-real}
+use Rattle.world_laws.proofs.Own.{Known, insn-real, among}
+use Rattle.world_laws.proofs.Among.{Does}
+use Rattle.world_laws.proofs.OwnMemory.{acts-alone}
+use Rattle.bpf_model.proofs.Prelude.{Moves, Exits}
+use Rattle.world_laws.proofs.Prelude.{LocalStep, Goes, Ends}
 use Rattle.world_laws.proofs.Loading.{element-located}
-use Rattle.world_laws.proofs.Storing.{store-known, element-known}
+use Rattle.world_laws.proofs.Storing.{element-known}
 use Rattle.model_laws.proofs.Computations.{first-step}
 
 load-agrees : (width dst : ℕ) (offset : ℤ) (make : ℕ → ℕ) (l : Location) (r : ℕ) (v : RunView) (w : WorldView) →
@@ -37,44 +40,15 @@ local_agrees (LoadSigned width dst src offset) program r v w =
 local_agrees (Store width dst offset src) program r v w = store-agrees (byte_count width) (operand_word v src) offset (location_of (word_in v dst)) r v w
 local_agrees i program r v w = refl
 
-module _ (w : WorldView) (s : Schedule) (m : Matches w s) (sound : IsSound w s) (r : ℕ) (run : Run) (v : RunView) (k : IsRunning w s r run v) where
-  -- a load by itself
-  load-here : (width dst x : ℕ) (offset : ℤ) (make : ℕ → ℕ) (base u : Value) →
-      WordIs (bases w s m sound r run v k) base x → IsNear base →
-      load_from (environment run) run.state width offset base ≡ Some u →
-      AsksNothing (local_load width offset dst make (location_of x) v)
-  load-here width dst x offset make Nothing u word close e = absurd (none-some u e)
-  load-here width dst x offset make (Number a) u word close e = absurd (none-some u e)
-  load-here width dst x offset make (Pointer (MapRef i)) u word close e = absurd (none-some u e)
-  load-here width dst x offset make (Pointer (Elem b o)) u word close e = absurd (none-some u e)
-  load-here width dst x offset make (Pointer (Ctx o)) u word close e =
-      subst (λ l. AsksNothing (local_load width offset dst make l v)) (sym (context-location x o close word)) tt
-  load-here width dst x offset make (Pointer (Frame o)) u word close e =
-      subst (λ l. AsksNothing (local_load width offset dst make l v)) (sym (frame-location x o close word)) tt
+nothing-asked : (b : ℕ → ℕ) (v : RunView) (run : Run) (out : Outcome) (l : LocalStep) → Does b v run out l → AsksNothing l
+nothing-asked b v run (Moves next) (Goes new) d = tt
+nothing-asked b v run (Exits n) (Ends m) d = tt
+nothing-asked b v run out l d = absurd d
 
+module _ (w : WorldView) (s : Schedule) (m : Matches w s) (sound : IsSound w s) (r : ℕ) (run : Run) (v : RunView) (k : IsRunning w s r run v) where
   pub asks_nothing : (i : Insn) (out : Outcome) → Known w s m sound r run v k i → after i (environment run) run.state ≡ Some out → AsksNothing (local_of i v)
-  asks_nothing (Call kind imm) out here e = absurd (none-some out e)
-  asks_nothing (Load width dst src offset) out here e =
-      let f = first-step (load_from (environment run) run.state (byte_count width) offset (run.state.regs src)) (λ u. sets 1 dst u run.state) out e in
-      load-here (byte_count width) dst (word_in v src) offset (λ n. n) (run.state.regs src) f.0
-      (register-word w s m sound r run v k src (insn-real w s m sound r run v k (Load width dst src offset)
-      here).1) ((near w s m sound r run v k).regs_near src) f.1
-  asks_nothing (LoadSigned width dst src offset) out here e =
-      let f = first-step (load_from (environment run) run.state (byte_count (unsigned_width width)) offset
-      (run.state.regs src)) (λ u. number u >>= λ n. sets 1 dst (Number (loaded_signed width n)) run.state) out
-      e in
-      load-here (byte_count (unsigned_width width)) dst (word_in v src) offset (loaded_signed width)
-      (run.state.regs src) f.0 (register-word w s m sound r run v k src
-      (insn-real w s m sound r run v k (LoadSigned width dst src offset) here).1)
-      ((near w s m sound r run v k).regs_near src) f.1
-  asks_nothing (Store width dst offset src) out here e =
-      let f = store-known run.state (byte_count width) offset (operand_value src run.state.regs) (run.state.regs dst) out e in
-      let l = (insn-real w s m sound r run v k (Store width dst offset src) here).0 in
-      let word = subst (λ u. WordIs (bases w s m sound r run v k) u (word_in v dst)) f.base_is (register-word w s m sound r run v k dst l) in
-      subst (λ l. AsksNothing (local_store (byte_count width) offset (operand_word v src) l v))
-      (sym (frame-location (word_in v dst) f.o (subst IsNear f.base_is
-      ((near w s m sound r run v k).regs_near dst)) word)) tt
-  asks_nothing i out here e = tt
+  asks_nothing i out here e =
+      nothing-asked (bases w s m sound r run v k) v run out (local_of i v) (acts-alone (among w s m sound r run v k) i out here e)
 
   -- an access to an element
   element-here : (width dst x n : ℕ) (offset : ℤ) (make : ℕ → ℕ) (base : Value) →

@@ -22,7 +22,8 @@ use Rattle.world_laws.proofs.Ready.{bases, refines, near, register-word}
 use Rattle.world_laws.proofs.Own.{Known, insn-real}
 use Rattle.world_laws.proofs.Loading.{accessible-known, element-located}
 use Rattle.world_laws.proofs.Calling.{CalledWith, called}
-use Rattle.world_laws.proofs.Storing.{store-known, element-known}
+use Rattle.world_laws.proofs.Storing.{element-known}
+use Rattle.world_laws.proofs.OwnMemory.{store-known}
 use Rattle.model_laws.proofs.Computations.{first-step}
 use Rattle.model_laws.proofs.Requests.{by_kind}
 

@@ -1,22 +1,18 @@
 -- A run before its step: what its words stand for, and what the instruction at hand needs.
-use Rattle.bpf_model.proofs.Prelude.{◌≡◌, ℕ, ◌+◌, ◌^◌, ◌<◌, ◌≢◌, refl, ap, subst, ◌∙◌, arith, Some, List, length, ◌≤◌, slice_get, slice_index, ℤ, pos, negsuc}
-use Rattle.bpf_model.proofs.Prelude.{FitsSigned, w32, ints, FitsOperand, immediate, Element, Loaded, Run, open_sections, moves, InsnStep, operand_value}
-use Rattle.bpf_model.proofs.Prelude.{Store, RunRefines, RunSlotRefines, RefinesSchedule, Schedule, State, insn_at, RunView, WorldView, IsReferenceWord}
+use Rattle.bpf_model.proofs.Prelude.{◌≡◌, ℕ, ◌<◌, refl, ap, subst, ◌∙◌, arith, Some, List, length, ◌≤◌, slice_get, slice_index}
+use Rattle.bpf_model.proofs.Prelude.{Element, Loaded, Run, open_sections, moves, InsnStep}
+use Rattle.bpf_model.proofs.Prelude.{Store, RunRefines, RunSlotRefines, RefinesSchedule, Schedule, State, insn_at, RunView, WorldView}
 use Rattle.bpf_model.proofs.Prelude.{WordIs, ByteIs, element_bases, flattened}
-use Rattle.model_laws.proofs.Prelude.{FRAME_BYTES, REGISTERS, MAX_MAPS, Insn, Operand, Register, Immediate, Answer, Moved, Value, Nothing, Number, Pointer}
-use Rattle.model_laws.proofs.Prelude.{Reference, Ctx, Frame, MapRef, Elem, IsNear, IsNearReference, HoldsValue, Matches, Simulates, half, with_run}
-use Rattle.plan_laws.proofs.Prelude.{scene_of, AreNear}
-use Rattle.world_laws.proofs.Prelude.{word_in, operand_word, moved_view, IsListed, IsSound, IsRunning}
+use Rattle.model_laws.proofs.Prelude.{FRAME_BYTES, REGISTERS, Insn, Answer, Moved}
+use Rattle.model_laws.proofs.Prelude.{Matches, Simulates, half, with_run}
+use Rattle.plan_laws.proofs.Prelude.{AreNear}
+use Rattle.world_laws.proofs.Prelude.{word_in, moved_view, IsSound, IsRunning}
 use Rattle.bpf_model.specs.declared.event.Event.TheVariants as events
 use Rattle.plan_laws.proofs.Reaching.{surrounds}
 use Rattle.model_laws.proofs.Running.{move_simulates}
-use Rattle.world_laws.proofs.Words.{IsBased}
-use Rattle.world_laws.proofs.Sure.{IsSure, typed, run-near}
-use Rattle.world_laws.proofs.Shown.{shown, held-kept}
-
-pub immediate-below : (imm : ℤ) → FitsSigned w32 imm → immediate imm < 2 ^ 64
-immediate-below (pos n) f = omega (arith, ints, f)
-immediate-below (negsuc n) f = omega arith
+use Rattle.world_laws.proofs.Sure.{typed, run-near}
+use Rattle.world_laws.proofs.Among.{moved-words}
+use Rattle.world_laws.proofs.Shown.{shown}
 
 -- the words after a move, over any elements
 pub move-refines : (slots : List ℕ) (es : List Element) (programs : List Loaded) (v : RunView) (run : Run) →
@@ -27,17 +23,7 @@ pub move-refines : (slots : List ℕ) (es : List Element) (programs : List Loade
     RunRefines slots es programs (moved_view registers frame place v) (moves run next)
 move-refines slots es programs v run h registers frame place next register_count regs cells bytes at = record {
   program = h.program;
-  words = record {
-    context = h.words.context;
-    register_count = register_count;
-    registers = regs;
-    cells = cells;
-    frame = bytes;
-    place = at;
-    depth = h.words.depth;
-    moved = ap (λ n. n + 1) h.words.moved;
-    exit = h.words.exit;
-  };
+  words = moved-words (element_bases slots es) v run h.words registers frame place next register_count regs cells bytes at;
 }
 
 module _ (w : WorldView) (s : Schedule) (m : Matches w s) (sound : IsSound w s) (r : ℕ) (run : Run) (v : RunView) (k : IsRunning w s r run v) where
@@ -63,37 +49,8 @@ module _ (w : WorldView) (s : Schedule) (m : Matches w s) (sound : IsSound w s) 
   pub register-word : (q : ℕ) → q ≤ 10 → WordIs bases (run.state.regs q) (word_in v q)
   register-word q l = refines.words.registers q (omega (arith, l))
 
-  pub operand-stands : (src : Operand) → FitsOperand src → WordIs bases (operand_value src run.state.regs) (operand_word v src)
-  operand-stands (Register q) l = register-word q l
-  operand-stands (Immediate imm) l = refl
-
   pub byte-stands : (j : ℕ) → j < length v.frame → ByteIs bases (run.state.frame j) (slice_index v.frame j)
   byte-stands j l = let c : length v.frame ≡ FRAME_BYTES = refines.words.cells in refines.words.frame j (omega (arith, l, c))
-
-  -- the words of references that are sure
-  based : (q : Reference) → IsSure (scene_of s.machine.store run) (Pointer q) → IsBased bases q
-  based (Ctx o) h = tt
-  based (Frame o) h = tt
-  based (MapRef i) h = tt
-  based (Elem n o) h =
-      let x = shown w s m.refines sound.well sound.limits sound.maps n h.1.element h.1.born (held-kept s.machine sound.well run h.0 n h.1) in
-      let b = x.base in
-      let few = x.few_maps in
-      let slot = x.few_slots in
-      (omega (arith, b, few, slot), omega (arith, b, few, slot))
-
-  pub reference-fits : (q : Reference) (x : ℕ) → IsReferenceWord bases q x → IsNearReference q → IsListed MAX_MAPS q →
-      IsSure (scene_of s.machine.store run) (Pointer q) → IsBased bases q × (x < 2 ^ 64)
-  reference-fits (Ctx o) x e n l h = (tt, omega (arith, ints, e, n))
-  reference-fits (Frame o) x e n l h = (tt, omega (arith, ints, e, n))
-  reference-fits (MapRef i) x e n l h = (tt, omega (arith, ints, e, l))
-  reference-fits (Elem b o) x e n l h = let f = based (Elem b o) h in (f, omega (arith, ints, e, n, f.0, f.1))
-
-  pub value-fits : (u : Value) (x : ℕ) → u ≢ Nothing → WordIs bases u x → IsNear u → HoldsValue (IsListed MAX_MAPS) u
-      → IsSure (scene_of s.machine.store run) u → x < 2 ^ 64
-  value-fits Nothing x some e n l h = absurd (some refl)
-  value-fits (Number a) x some e n l h = omega (arith, e, h)
-  value-fits (Pointer q) x some e n l h = (reference-fits q x e n l h).1
 
   -- a step to a later run, which leaves the maps
   pub moves-to : (i : Insn) (later : Run) (new : RunView) (answer : Answer) →
@@ -122,15 +79,6 @@ module _ (w : WorldView) (s : Schedule) (m : Matches w s) (sound : IsSound w s) 
       s.machine.store (moves run next) (surrounds s.machine r run sound.well k.there k.going t)
       (t.planned t.safe.verified) here step in
       (l.1 k.going).planned.describes.near
-
-  -- the words after a move
-  pub moved-refines : (registers frame : List ℕ) (place : ℕ) (next : State) → length registers ≡ REGISTERS →
-      ((q : ℕ) → q < REGISTERS → WordIs bases (next.regs q) (slice_index registers q))
-      → length frame ≡ FRAME_BYTES → ((j : ℕ) → j < FRAME_BYTES → ByteIs bases (next.frame j) (slice_index frame j)) →
-      place ≡ next.place → Refines (moved_view registers frame place v) (moves run next)
-  moved-refines registers frame place next register_count regs cells bytes at =
-      move-refines slots es s.machine.programs v run refines registers frame place next register_count regs cells
-      bytes at
 
   -- what the run stands for when the maps have changed
   pub half-refines : (store : Store) (u : WorldView) (y : RefinesSchedule u (half s store)) → u.runs ≡ w.runs →

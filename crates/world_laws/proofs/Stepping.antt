@@ -2,7 +2,7 @@
 use Rattle.bpf_model.proofs.Prelude.{◌≡◌, ℕ, List, Option, Some, None, refl, sym, ap, subst, ◌∙◌, inl, inr, slice_get, none-some, helper_of}
 use Rattle.bpf_model.proofs.Prelude.{kernel_function_of, Element, if_ended, Loaded, Run, environment, open_sections, OutcomeStep, InsnStep, Schedule, Outcome}
 use Rattle.bpf_model.proofs.Prelude.{after, insn_at, RunView, WorldView, flattened, run-behind, option_flatten}
-use Rattle.model_laws.proofs.Prelude.{Answer, Event, EventRefusal, Insn, Alu, Unary, LoadNumber, LoadMap, Jump, JumpLong, JumpIf, Call, Exit, Load}
+use Rattle.model_laws.proofs.Prelude.{Answer, Event, EventRefusal, Insn, Call, Load}
 use Rattle.model_laws.proofs.Prelude.{LoadSigned, Store, StepsByKind, AccessesElement, Acts, Matches, Simulates, step_refused, step_by, reaction}
 use Rattle.world_laws.proofs.Prelude.{insn_step, step_at, step_in, run_step_of, word_step, or_step, full_reaction, IsSound, IsRunning}
 use Rattle.bpf_model.specs.declared.event.Event.TheVariants as events
@@ -11,10 +11,12 @@ use Rattle.bpf_model.specs.MapState as map_state
 use Rattle.plan_laws.proofs.Reaching.{well_never_stuck}
 use Rattle.model_laws.proofs.Reacting.{reaction_simulates}
 use Rattle.world_laws.proofs.Ready.{refines}
-use Rattle.world_laws.proofs.Own.{alu-simulates, unary-simulates, number-simulates, map-simulates, jump-simulates, long-simulates, branch-simulates}
-use Rattle.world_laws.proofs.Own.{exit-simulates}
-use Rattle.world_laws.proofs.Loading.{load-simulates, load-signed-simulates, element-load-simulates, element-load-signed-simulates}
-use Rattle.world_laws.proofs.Storing.{store-simulates, element-store-simulates}
+use Rattle.world_laws.proofs.Own.{among, carried, alone-step}
+use Rattle.world_laws.proofs.OwnMemory.{acts-alone}
+use Rattle.world_laws.proofs.Local.{local_agrees}
+use Rattle.world_laws.proofs.Prelude.{local_of}
+use Rattle.world_laws.proofs.Loading.{element-load-simulates, element-load-signed-simulates}
+use Rattle.world_laws.proofs.Storing.{element-store-simulates}
 use Rattle.world_laws.proofs.Calling.{kernel-simulates, helper-simulates}
 use Rattle.model_laws.proofs.Requests.{by_kind}
 
@@ -22,28 +24,16 @@ module _ (w : WorldView) (s : Schedule) (m : Matches w s) (sound : IsSound w s) 
   pub own_step_simulates : (i : Insn) (out : Outcome) (answer : Answer) (later : Run) →
       insn_at run.program.code run.state.place ≡ Some i → after i (environment run) run.state ≡ Some out →
       OutcomeStep out run answer later → Simulates s (events.Step r) (insn_step i run.program r v w)
-  own_step_simulates (Alu op size dst src) out answer later here e ends = alu-simulates w s m sound r run v k op size dst src out here e
-  own_step_simulates (Unary op dst) out answer later here e ends = unary-simulates w s m sound r run v k op dst out here e
-  own_step_simulates (LoadNumber dst n) out answer later here e ends = number-simulates w s m sound r run v k dst n out here e
-  own_step_simulates (LoadMap dst map) out answer later here e ends = map-simulates w s m sound r run v k dst map out here e
-  own_step_simulates (Jump offset) out answer later here e ends = jump-simulates w s m sound r run v k offset out here e
-  own_step_simulates (JumpLong imm) out answer later here e ends = long-simulates w s m sound r run v k imm out here e
-  own_step_simulates (JumpIf condition size dst src offset) out answer later here e ends =
-      branch-simulates w s m sound r run v k condition size dst src offset out here e
-  own_step_simulates (Call kind imm) out answer later here e ends = absurd (none-some out e)
-  own_step_simulates Exit out answer later here e ends = exit-simulates w s m sound r run v k out answer later here e ends
-  own_step_simulates (Load width dst src offset) out answer later here e ends = load-simulates w s m sound r run v k width dst src offset out here e
-  own_step_simulates (LoadSigned width dst src offset) out answer later here e ends =
-      load-signed-simulates w s m sound r run v k width dst src offset out here e
-  own_step_simulates (Store width dst offset src) out answer later here e ends = store-simulates w s m sound r run v k width dst offset src here out e
+  own_step_simulates i out answer later here e ends = carried w s m sound r run v k i out (local_of i v) (insn_step i run.program r v w) answer later here
+      (alone-step w s m sound r run v k i out e) ends (acts-alone (among w s m sound r run v k) i out here e) (local_agrees i run.program r v w)
 
   pub access_simulates : (i : Insn) (out : Outcome) (es : List Element) (answer : Answer) (later : Run) →
       insn_at run.program.code run.state.place ≡ Some i → AccessesElement i s.machine.store.elements run.state out es
       → OutcomeStep out run answer later → Simulates s (events.Step r) (insn_step i run.program r v w)
   access_simulates (Load width dst src offset) out es answer later here h ends =
-      element-load-simulates w s m sound r run v k width dst src offset out here (h.0, h.1, h.2, refl)
+      element-load-simulates w s m sound r run v k width dst src offset out answer later here (h.0, h.1, h.2, refl) ends
   access_simulates (LoadSigned width dst src offset) out es answer later here h ends =
-      element-load-signed-simulates w s m sound r run v k width dst src offset out here (h.0, h.1, h.2, refl)
+      element-load-signed-simulates w s m sound r run v k width dst src offset out answer later here (h.0, h.1, h.2, refl) ends
   access_simulates (Store width dst offset src) out es answer later here h ends = element-store-simulates w s m sound r run v k width dst offset src here es h.0
   access_simulates i out es answer later here h ends = absurd h
 
