@@ -2,13 +2,13 @@
 ghost use Rattle.std.specs.Prelude.{◌≡◌, ◌/◌, ◌%◌, ◌++◌, IfOk, string_bytes, codes, decimal};
 
 use crate::decimal::{Decimal, quotient};
-use shared_runs::alone::Finished;
+use shared_runs::alone::Ended;
 use std::alloc::{AllocError, Global};
 use std::time::Duration;
 use world_bench::{Outcome, Tally};
 
 /// The line of a program that is built in: its name, and what it came to.
-pub fn sample_line(alloc: Global, name: &str, finished: Finished) -> Result<String, AllocError>
+pub fn sample_line(alloc: Global, name: &str, finished: Ended) -> Result<String, AllocError>
     ensures { IfOk result (λ s. string_bytes s ≡ name.now
         ++ (codes " exit " ++ (decimal finished.value
         ++ (codes " instructions " ++ decimal finished.steps)))) }

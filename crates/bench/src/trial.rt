@@ -9,7 +9,7 @@ ghost use Rattle.bench.specs.Trials.{IsReadyTrial};
 use anyhow::{Result, ensure};
 use bpf_model::CtxBytes;
 use insn_codec::{Program, decode};
-use shared_runs::alone::{Finished, has_no_maps, run_to_exit};
+use shared_runs::alone::{Ended, has_no_maps, run_to_exit};
 use std::alloc::Global;
 use verifier::{Verified, verify};
 
@@ -62,7 +62,7 @@ pub fn trial_of(alloc: Global, bytes: &[u8], ctx_len: usize) -> Result<Trial>
 }
 
 /// The value with which a run of the program on the context exits, and how many instructions it executes.
-pub fn counted_run(trial: &Trial) -> Finished
+pub fn counted_run(trial: &Trial) -> Ended
     requires { IsReadyTrial trial.now }
     ensures least { 0 < result.steps }
     ensures limit { result.steps ≤ MAX_SLOTS }

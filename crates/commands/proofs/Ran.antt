@@ -11,10 +11,9 @@ use Rattle.maps.specs.Registry.{RegistryView}
 use Rattle.program_files.specs.declared.program_file.Source.{Source}
 use Rattle.program_files.specs.declared.verdict.Verdict.TheVariants.{Memory}
 use Rattle.program_files.specs.Checks.{content_with, IsSourceOf}
-use Rattle.run_once.specs.declared.once.Ended.{Ended}
 use Rattle.run_once.specs.declared.once.RunEnd.{RunEnd}
 use Rattle.run_once.specs.declared.once.RunEnd.TheVariants.{Exited, NotDone}
-use Rattle.run_once.specs.Once.{ComesTo, IsUpdate}
+use Rattle.run_once.specs.Once.{ComesTo, Ended, IsUpdate}
 use Rattle.command_words.specs.declared.request.MapElement.{MapElement}
 use Rattle.command_words.specs.declared.request.SingleRun.{SingleRun}
 use Rattle.commands.specs.declared.refusal.CommandRefusal.{CommandRefusal}

@@ -24,10 +24,9 @@ use Rattle.commands.specs.Refusals.{IsFileRefusal, command_number}
 use Rattle.program_files.specs.Verdicts.{memory_number}
 use Rattle.program_files.specs.Checks.{IsVerifiedFile}
 use Rattle.program_files.specs.ProgramFile.{FileContent}
-use Rattle.run_once.specs.declared.once.Ended.{Ended}
 use Rattle.run_once.specs.declared.once.RunEnd.{RunEnd}
 use Rattle.run_once.specs.declared.once.RunEnd.TheVariants.{Exited, NotDone}
-use Rattle.run_once.specs.Once.{ComesTo}
+use Rattle.run_once.specs.Once.{ComesTo, Ended}
 use Rattle.command_words.specs.declared.request.MapElement.{MapElement}
 use Rattle.command_words.specs.declared.request.SingleRun.{SingleRun}
 use Rattle.commands.specs.Json.{ended_json, traced_json}

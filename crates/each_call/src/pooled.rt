@@ -5,7 +5,7 @@ use crate::again::done;
 use crate::worlds::{start, update};
 use anyhow::{Result, bail, ensure};
 use bpf_model::{Answer, CtxBytes, Event, ProgId, RunId};
-use shared::{CutFault, Shared, SharedFault, StepsEnd, Worker, Workers, is_quiet};
+use shared::{CutFault, Shared, SharedFault, Worker, Workers, is_quiet};
 use std::alloc::Global;
 use std::sync::Wait;
 use std::sync::ledger::{Blank, Ledger};
@@ -75,7 +75,7 @@ fn move_once<L: Ledger, R: Wait>(
 ) -> Result<bool> {
     let made = worker.made();
     let mut steps = shared.run_for(rt, worker, run, 1);
-    let again = steps.end == StepsEnd::Memory;
+    let again = matches!(steps.end, Err(SharedFault::Memory));
     if again {
         ensure!(worker.made() == made, "an entry was made");
         steps = shared.run_for(rt, worker, run, 1);

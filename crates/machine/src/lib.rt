@@ -13,6 +13,7 @@ mod control;
 mod course;
 mod law;
 mod memory;
+mod outcome;
 mod regions;
 mod registers;
 mod request;
@@ -28,9 +29,9 @@ pub use law::{
     delete_may_find_nothing, own_step_is_the_worlds, reacts_by_insn, running_can_step,
     running_stands, served_as_asked, update_may_succeed,
 };
+pub use outcome::{Ended, Halt, Walk};
 pub use regions::{SLOT_BASE, SPAN};
 pub use request::{Local, Next, Request};
 pub use run::Run;
-pub use step::Halt;
-pub use walk::{Walk, WalkEnd};
+pub use walk::WalkEnd;
 pub use workspace::Workspace;

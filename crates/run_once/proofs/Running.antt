@@ -5,9 +5,8 @@ use Rattle.model_laws.proofs.Prelude.{Answer, Event, Insn, MapShape}
 use Rattle.verifier.proofs.Prelude.{Checked}
 use Rattle.world.proofs.Prelude.{programs_in}
 use Rattle.world.specs.declared.kept.loaded.Loaded as world
-use Rattle.run_once.specs.declared.once.Ended.{Ended}
 use Rattle.run_once.specs.Going.{IsReady}
-use Rattle.run_once.specs.Once.{AreDone, IsUpdate, RunsOnce, StartsAndExits, StopsAt, bound_to_all, done, start_with}
+use Rattle.run_once.specs.Once.{Ended, AreDone, IsUpdate, RunsOnce, StartsAndExits, StopsAt, bound_to_all, done, start_with}
 use Rattle.run_once.proofs.Starting.{ready_at_start, ready_behind}
 
 -- the one loaded program of a world is bound to all of its maps

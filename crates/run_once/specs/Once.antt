@@ -13,7 +13,7 @@ use Rattle.bpf_model.specs.History.{IsHistory, last_of}
 use Rattle.bpf_model.specs.Machine.{Loaded, Machine, start_machine}
 use Rattle.bpf_model.specs.Refines.{Tracks}
 use Rattle.bpf_model.specs.View.{WorldView}
-use Rattle.run_once.specs.declared.once.Ended.{Ended}
+pub use Rattle.machine.specs.declared.outcome.Ended.{Ended}
 use Rattle.run_once.specs.declared.once.RunEnd.{RunEnd}
 use Rattle.run_once.specs.declared.once.RunEnd.TheVariants.{Exited, NotDone}
 use Rattle.run_once.specs.Told.{AreTold}

@@ -8,4 +8,5 @@ mod once;
 mod tracing;
 mod words;
 
-pub use once::{Ended, Ran, RunEnd, run_once};
+pub use machine::Ended;
+pub use once::{Ran, RunEnd, run_once};

@@ -12,18 +12,12 @@ ghost use Rattle.run_once.specs.Told.{HasNext, IsStepTold};
 
 use crate::tracing::tell_step;
 use bpf_model::{Answer, CtxBytes, Event, ProgId, RunId};
+use machine::Ended;
 use maps::Registry;
 use std::alloc::{AllocError, Global};
 use std::io;
 use verifier::Verified;
 use world::{Loaded, World};
-
-/// How a run has ended: its exit value, and with which of its steps, counted from 1.
-#[derive(Clone, Copy, Debug, PartialEq, Eq)]
-pub struct Ended {
-    pub value: u64,
-    pub steps: usize,
-}
 
 /// What one run has come to.
 #[derive(Clone, Copy, Debug, PartialEq, Eq)]

@@ -2,12 +2,7 @@
 use Rattle.bpf_model.proofs.Prelude.{◌≡◌, ℕ, ◌+◌, List, [], ◌∷◌, ◌++◌, map, take, Some, slice_get, map-take, Loaded}
 use Rattle.verifier.proofs.Prelude.{Checked}
 use Rattle.bpf_model.specs.declared.limits.MapShape.{MapShape}
-
--- instructions, context lengths and, among maps of these shapes, bindings are those of these programs, one after another
-pub record AreKept (among : List MapShape) (kept : List Checked) (programs : List Loaded) : Type 0 where
-  pub codes : map (λ (p : Checked). p.program) kept ≡ map (λ (l : Loaded). l.code) programs
-  pub contexts : map (λ (p : Checked). p.ctx_len) kept ≡ map (λ (l : Loaded). l.context_len) programs
-  pub shapes : map (λ (p : Checked). map Some p.shapes) kept ≡ map (λ (l : Loaded). map (slice_get among) l.maps) programs
+use Rattle.shared.specs.Kept.{AreKept}
 
 -- a program is kept as it was loaded
 pub record IsKeptAs (among : List MapShape) (c : Checked) (l : Loaded) : Type 0 where

@@ -1,24 +1,25 @@
 //! A shared world whose lock is held.
-ghost use Rattle.std.specs.Prelude.{◌≡◌, ◌+◌, ◌<◌, ◌≤◌, IfOk, IfSome, OnErr, OnOk, option_copied, slice_get};
+ghost use Rattle.std.specs.Prelude.{◌≡◌, ◌+◌, ◌<◌, ◌≤◌, IfSome, Ok, Err, option_copied, slice_get};
 ghost use Rattle.bpf_model.specs.declared.event.Event.{Event};
 ghost use Rattle.bpf_model.specs.declared.event.Answer.{Answer};
+ghost use Rattle.shared_books.specs.Noted.{IsNoted};
 ghost use Rattle.shared_books.specs.Receipts.{HasExitedOnce, IsMachineAnswer, IsOwnExit, IsPossibleExit};
 ghost use Rattle.shared_books.specs.Stretches.{HasMade};
-ghost use Rattle.shared_books.specs.declared.steps.StepsEnd.{StepsEnd};
 
 use crate::state::{ExitNote, Receipt, State, Stretch};
 use bpf_model::{CtxBytes, Event, ProgId, RunId};
-use shared_books::{Steps, StepsEnd, Worker};
+use shared_books::{SharedFault, Worker};
 use std::marker::Model;
 use std::sync::ledger::Ledger;
 use std::sync::{MutexGuard, Wait};
 use verifier::Verified;
+use world::{Stop, Walk};
 
 /// A shared world whose lock is held until this is dropped: nothing of others comes between what is asked of it. Contracts
 /// see its programs.
 ///
-/// Each call answers as that of `Shared` of the same name, `run_noted` as `run_for`, and says no more. Who holds it and asks
-/// the same `Shared` for anything but a program, waits for ever.
+/// It hands out receipts, stretches and notes. Who holds it and asks the same `Shared` for anything but a program, waits for
+/// ever.
 #[derive(Drop)]
 pub struct Held<'a, L: Ledger> {
     pub(crate) state: MutexGuard<'a, State<L>>,
@@ -42,62 +43,35 @@ impl<'a, L: Ledger> Held<'a, L> {
         self.programs.get(prog.index())
     }
 
-    /// Applies one event, as `Shared::act_noted` does.
+    /// Applies one event. The receipt bears the worker, the event, the answer and how many entries the worker
+    /// has made. It takes no memory but the journal's.
+    ///
+    /// The reply is an error, and then nothing has changed, where the journal has no room (`JournalFull`) or
+    /// memory was refused (`Memory`). The contract says what an answer is, and not when there is none: it does
+    /// not see the journal under the lock.
     pub fn act_noted<R: Wait>(&mut self, rt: &R, worker: &mut Worker<L>, event: Event) -> Receipt<L>
         ensures programs { self.new ≡ self.old }
-        ensures worker { result.worker ≡ worker.old.number }
-        ensures event { result.event ≡ event }
-        ensures count { result.made ≡ worker.new.made }
-        ensures answered { IfOk result.reply (IsMachineAnswer event) }
-        ensures made { OnOk result.reply (worker.new.made ≡ worker.old.made + 1) }
-        ensures same_worker { (worker.new.number ≡ worker.old.number)
-            × (worker.new.parts ≡ worker.old.parts) }
-        ensures err { OnErr result.reply (worker.new ≡ worker.old) }
+        ensures noted { IsNoted worker.old event result worker.new }
     {
         self.state.act_noted(rt, worker, event)
     }
 
-    /// Applies the event of a receipt once more, as `Shared::act_again` does.
+    /// Applies the event of a receipt once more. The receipt is then that of this call.
     pub fn act_again<R: Wait>(&mut self, rt: &R, worker: &mut Worker<L>, receipt: &mut Receipt<L>)
         ensures programs { self.new ≡ self.old }
-        ensures worker { receipt.new.worker ≡ worker.old.number }
-        ensures event { receipt.new.event ≡ receipt.old.event }
-        ensures count { receipt.new.made ≡ worker.new.made }
-        ensures answered { IfOk receipt.new.reply (IsMachineAnswer receipt.old.event) }
-        ensures made { OnOk receipt.new.reply (worker.new.made ≡ worker.old.made + 1) }
-        ensures same_worker { (worker.new.number ≡ worker.old.number)
-            × (worker.new.parts ≡ worker.old.parts) }
-        ensures err { OnErr receipt.new.reply (worker.new ≡ worker.old) }
+        ensures noted { IsNoted worker.old receipt.old.event receipt.new worker.new }
     {
         self.state.act_again(rt, worker, receipt);
     }
 
-    /// Steps a run as long as its step is answered with a move, at most so many times, as `Shared::run_for` does.
-    pub fn run_for<R: Wait>(
-        &mut self,
-        rt: &R,
-        worker: &mut Worker<L>,
-        run: RunId,
-        most: usize,
-    ) -> Steps
-        ensures programs { self.new ≡ self.old }
-        ensures made { HasMade worker.old result.moved worker.new }
-        ensures answered { 0 < result.moved → IsMachineAnswer (Event.Step run) Answer.Moved }
-        ensures most { result.moved ≤ most }
-        ensures exhausted { result.end ≡ StepsEnd.Exhausted → result.moved ≡ most }
-        ensures memory { result.end ≡ StepsEnd.Memory → result.moved ≡ 0 }
-    {
-        self.state.run_for(rt, worker, run, most)
-    }
-
-    /// Steps a run as `run_for` does. The stretch has the moves, as `State::run_noted` says.
+    /// Steps a run as `Shared::run_for` does. The stretch has the moves, also where there are none.
     pub fn run_noted<R: Wait>(
         &mut self,
         rt: &R,
         worker: &mut Worker<L>,
         run: RunId,
         most: usize,
-    ) -> (Stretch<L>, StepsEnd)
+    ) -> (Stretch<L>, Result<Stop, SharedFault>)
         ensures programs { self.new ≡ self.old }
         ensures made { HasMade worker.old result.0.moved worker.new }
         ensures worker { result.0.worker ≡ worker.old.number }
@@ -105,13 +79,15 @@ impl<'a, L: Ledger> Held<'a, L> {
         ensures since { result.0.since ≡ worker.old.made }
         ensures answered { 0 < result.0.moved → IsMachineAnswer (Event.Step run) Answer.Moved }
         ensures most { result.0.moved ≤ most }
-        ensures exhausted { result.1 ≡ StepsEnd.Exhausted → result.0.moved ≡ most }
-        ensures memory { result.1 ≡ StepsEnd.Memory → result.0.moved ≡ 0 }
+        ensures exhausted { result.1 ≡ Ok Stop.Enough → result.0.moved ≡ most }
+        ensures memory { result.1 ≡ Err SharedFault.Memory → result.0.moved ≡ 0 }
     {
         self.state.run_noted(rt, worker, run, most)
     }
 
-    /// Asks for the exit value of a run, as `Shared::exit_noted` does.
+    /// Asks for the exit value of a run that has ended and was started with this program on this
+    /// context. It makes no entry and takes no memory. The contract says what a value is, and not when there is
+    /// none: it does not see the world under the lock.
     pub fn exit_noted(
         &self,
         worker: &Worker<L>,

@@ -17,7 +17,8 @@ pub use bound::ProgramWithMaps;
 pub use held::Held;
 pub use lock::Shared;
 pub use shared_books::{
-    Books, CutFault, Finished, LoadFault, MAX_WORKERS, SharedFault, Steps, StepsEnd, Totals,
-    Worker, Workers, is_quiet,
+    Books, CutFault, Finished, LoadFault, MAX_WORKERS, SharedFault, Totals, Worker, Workers,
+    is_quiet,
 };
 pub use state::{Counters, ExitNote, Receipt, State, Stretch};
+pub use world::{Stop, Walk};

@@ -1,29 +1,29 @@
 //! A world behind a lock: how its sharing begins and ends, and what workers ask of it.
-ghost use Rattle.std.specs.Prelude.{◌≡◌, ◌+◌, ◌<◌, ◌≤◌, ◌++◌, ◌∷◌, [], length, map, sum_by, All, IfOk, IfSome, OnErr, OnOk, Some, option_copied, slice_get};
+ghost use Rattle.std.specs.Prelude.{◌≡◌, ◌+◌, ◌<◌, ◌≤◌, ◌++◌, ◌∷◌, [], length, sum_by, All, IfOk, IfSome, OnErr, OnOk, Ok, Err, option_copied, slice_get};
 ghost use Rattle.bpf_model.specs.declared.limits.TheConstants.{MAX_JOURNAL};
 ghost use Rattle.bpf_model.specs.View.{shapes_of};
 ghost use Rattle.shared_books.specs.Books.{AreNumbered, most_workers};
 ghost use Rattle.shared_books.specs.Receipts.{HasExitedOnce, IsMachineAnswer, IsOwnExit, IsPossibleExit};
 ghost use Rattle.shared_books.specs.Stretches.{HasMade};
-ghost use Rattle.shared_books.specs.declared.steps.StepsEnd.{StepsEnd};
 ghost use Rattle.bpf_model.specs.declared.event.Event.{Event};
 ghost use Rattle.bpf_model.specs.declared.event.Answer.{Answer};
 ghost use Rattle.shared_books.specs.Tally.{origin_of, shown_totals};
 ghost use Rattle.shared_books.specs.Replay.{Replays, HasNoRuns};
+ghost use Rattle.shared.specs.Kept.{AreKept};
 
 use crate::held::Held;
-use crate::state::{Counters, ExitNote, Receipt, State};
+use crate::state::{Counters, State};
 use bpf_model::{Answer, CtxBytes, Event, MAX_JOURNAL, MAX_PROGRAMS, ProgId, RunId};
 use journal::Journal;
 use shared_books::{
-    Books, CutFault, Finished, LoadFault, SharedFault, Steps, Worker, Workers, merged, new_workers,
+    Books, CutFault, Finished, LoadFault, SharedFault, Worker, Workers, merged, new_workers,
 };
 use std::alloc::{AllocError, Global};
 use std::marker::Model;
 use std::sync::ledger::{Blank, Ledger};
 use std::sync::{Mutex, Wait};
 use verifier::Verified;
-use world::{Loaded, World, WorldFault};
+use world::{Loaded, Stop, Walk, World, WorldFault};
 
 /// A world that workers share. Contracts see its programs.
 #[derive(Drop)]
@@ -43,12 +43,7 @@ impl<L: Ledger> Model for Shared<L> {
 
 /// The programs of a world, by number.
 fn programs_of(alloc: Global, world: &World) -> Result<Vec<Verified>, AllocError>
-    ensures codes { IfOk result (λ v.
-        map (λ p. p.program) v.items ≡ map (λ l. l.code) world.now.programs) }
-    ensures contexts { IfOk result (λ v.
-        map (λ p. p.ctx_len) v.items ≡ map (λ l. l.context_len) world.now.programs) }
-    ensures shapes { IfOk result (λ v. map (λ p. map Some p.shapes) v.items
-        ≡ map (λ l. map (slice_get (shapes_of world.now)) l.maps) world.now.programs) }
+    ensures { IfOk result (λ v. AreKept (shapes_of world.now) v.items world.now.programs) }
 {
     world.is_world();
     let mut programs = Vec::new(alloc);
@@ -79,13 +74,7 @@ impl<L: Ledger> Shared<L> {
         ensures made { IfOk result (λ t. All (λ w. w.made ≡ 0) t.1) }
         ensures numbers { IfOk result (λ t. AreNumbered t.1) }
         ensures counters { IfOk result (λ t. t.2.shown ≡ shown_totals (origin_of world) 0 0 0) }
-        ensures codes { IfOk result (λ t.
-            map (λ p. p.program) t.0 ≡ map (λ l. l.code) world.programs) }
-        ensures contexts { IfOk result (λ t.
-            map (λ p. p.ctx_len) t.0 ≡ map (λ l. l.context_len) world.programs) }
-        // Each is verified for maps of the shapes of those to which the world's is bound.
-        ensures shapes { IfOk result (λ t. map (λ p. map Some p.shapes) t.0
-            ≡ map (λ l. map (slice_get (shapes_of world)) l.maps) world.programs) }
+        ensures programs { IfOk result (λ t. AreKept (shapes_of world) t.0 world.programs) }
     {
         Shared::with_limit(alloc, world, workers, MAX_JOURNAL, blank)
     }
@@ -109,13 +98,7 @@ impl<L: Ledger> Shared<L> {
         ensures made { IfOk result (λ t. All (λ w. w.made ≡ 0) t.1) }
         ensures numbers { IfOk result (λ t. AreNumbered t.1) }
         ensures counters { IfOk result (λ t. t.2.shown ≡ shown_totals (origin_of world) 0 0 0) }
-        ensures codes { IfOk result (λ t.
-            map (λ p. p.program) t.0 ≡ map (λ l. l.code) world.programs) }
-        ensures contexts { IfOk result (λ t.
-            map (λ p. p.ctx_len) t.0 ≡ map (λ l. l.context_len) world.programs) }
-        // Each is verified for maps of the shapes of those to which the world's is bound.
-        ensures shapes { IfOk result (λ t. map (λ p. map Some p.shapes) t.0
-            ≡ map (λ l. map (slice_get (shapes_of world)) l.maps) world.programs) }
+        ensures programs { IfOk result (λ t. AreKept (shapes_of world) t.0 world.programs) }
     {
         let programs = programs_of(alloc, &world)?;
         let base = world.copy(alloc)?;
@@ -141,50 +124,22 @@ impl<L: Ledger> Shared<L> {
         }
     }
 
-    /// Applies one event. The receipt bears the worker, the event, the answer and how many entries the worker
-    /// has made. It waits for the lock, and takes no memory but the journal's.
-    ///
-    /// The reply is an error, and then nothing has changed, where the journal has no room (`JournalFull`) or
-    /// memory was refused (`Memory`). The contract says what an answer is, and not when there is none: it does
-    /// not see the journal under the lock.
-    pub fn act_noted<R: Wait>(&self, rt: &R, worker: &mut Worker<L>, event: Event) -> Receipt<L>
-        ensures worker { result.worker ≡ worker.old.number }
-        ensures event { result.event ≡ event }
-        ensures count { result.made ≡ worker.new.made }
-        ensures answered { IfOk result.reply (IsMachineAnswer event) }
-        ensures made { OnOk result.reply (worker.new.made ≡ worker.old.made + 1) }
-        ensures same_worker { (worker.new.number ≡ worker.old.number)
-            × (worker.new.parts ≡ worker.old.parts) }
-        ensures err { OnErr result.reply (worker.new ≡ worker.old) }
-    {
-        self.state.lock(rt).act_noted(rt, worker, event)
-    }
-
-    /// Applies the event of a receipt once more. The receipt is then that of this call; the clauses are those of
-    /// `act_noted`.
-    pub fn act_again<R: Wait>(&self, rt: &R, worker: &mut Worker<L>, receipt: &mut Receipt<L>)
-        ensures worker { receipt.new.worker ≡ worker.old.number }
-        ensures event { receipt.new.event ≡ receipt.old.event }
-        ensures count { receipt.new.made ≡ worker.new.made }
-        ensures answered { IfOk receipt.new.reply (IsMachineAnswer receipt.old.event) }
-        ensures made { OnOk receipt.new.reply (worker.new.made ≡ worker.old.made + 1) }
-        ensures same_worker { (worker.new.number ≡ worker.old.number)
-            × (worker.new.parts ≡ worker.old.parts) }
-        ensures err { OnErr receipt.new.reply (worker.new ≡ worker.old) }
-    {
-        self.state.lock(rt).act_again(rt, worker, receipt);
-    }
-
     /// Steps a run as long as its step is answered with a move, at most so many times, under one lock: what as many
     /// calls of `act` come to, as `State::run_for` says. It stops where the journal has no room for another entry,
     /// before a step that would be the run's exit, and before one that would be refused. Of these no clause says
     /// more, since a contract does not see what is under the lock. It takes no memory but the journal's.
-    pub fn run_for<R: Wait>(&self, rt: &R, worker: &mut Worker<L>, run: RunId, most: usize) -> Steps
+    pub fn run_for<R: Wait>(
+        &self,
+        rt: &R,
+        worker: &mut Worker<L>,
+        run: RunId,
+        most: usize,
+    ) -> Walk<Result<Stop, SharedFault>>
         ensures made { HasMade worker.old result.moved worker.new }
         ensures answered { 0 < result.moved → IsMachineAnswer (Event.Step run) Answer.Moved }
         ensures most { result.moved ≤ most }
-        ensures exhausted { result.end ≡ StepsEnd.Exhausted → result.moved ≡ most }
-        ensures memory { result.end ≡ StepsEnd.Memory → result.moved ≡ 0 }
+        ensures exhausted { result.end ≡ Ok Stop.Enough → result.moved ≡ most }
+        ensures memory { result.end ≡ Err SharedFault.Memory → result.moved ≡ 0 }
     {
         self.state.lock(rt).run_for(rt, worker, run, most)
     }
@@ -242,34 +197,6 @@ impl<L: Ledger> Shared<L> {
         self.programs.get(prog.index())
     }
 
-    /// Asks for the exit value of a run that has ended and was started with this program on this
-    /// context. It makes no entry and takes no memory, and waits for the lock. The contract says
-    /// what a value is, and not when there is none: it does not see the world under the lock.
-    pub fn exit_noted<R: Wait>(
-        &self,
-        rt: &R,
-        worker: &Worker<L>,
-        run: RunId,
-        prog: ProgId,
-        ctx: &CtxBytes,
-    ) -> ExitNote<L>
-        ensures worker { result.worker ≡ worker.now.number }
-        ensures count { result.made ≡ worker.now.made }
-        ensures run { result.run ≡ run }
-        ensures prog { result.prog ≡ prog }
-        ensures context { result.context ≡ ctx.now.items }
-        ensures exit { IfSome result.exit (λ n.
-            HasExitedOnce self.now run prog ctx.now.items n) }
-
-        // The value is one of the program's definition, and without map references the only one.
-        ensures may { IfSome result.exit (λ n.
-            IsPossibleExit (slice_get self.now prog) ctx.now.items n) }
-        ensures alone { IfSome result.exit (λ n.
-            IsOwnExit (slice_get self.now prog) ctx.now.items n) }
-    {
-        self.hold(rt).exit_noted(worker, run, prog, ctx)
-    }
-
     /// The exit value of a run, where it has ended and was started with this program on this
     /// context. It makes no entry and takes no memory, and waits for the lock. The contract says
     /// what a value is, and not when there is none.
@@ -286,7 +213,7 @@ impl<L: Ledger> Shared<L> {
             IsPossibleExit (slice_get self.now prog) ctx.now.items n) }
         ensures alone { IfSome result (λ n. IsOwnExit (slice_get self.now prog) ctx.now.items n) }
     {
-        self.exit_noted(rt, worker, run, prog, ctx).exit()
+        self.hold(rt).exit_noted(worker, run, prog, ctx).exit()
     }
 
     /// Makes the world its own new base and empties the journal, as `State::cut` says; of a shared world

@@ -1,5 +1,5 @@
 //! What the lock guards: the books, with the one pass that writes the counters.
-ghost use Rattle.std.specs.Prelude.{◌≡◌, ◌+◌, ◌<◌, ◌≤◌, ◌↔◌, ◌⊎◌, length, IfOk, IsOk, OnErr, OnOk, Err};
+ghost use Rattle.std.specs.Prelude.{◌≡◌, ◌+◌, ◌<◌, ◌≤◌, ◌↔◌, ◌⊎◌, length, IfOk, IsOk, OnErr, OnOk, Ok, Err};
 ghost use Rattle.bpf_model.specs.declared.event.Event.{Event};
 ghost use Rattle.bpf_model.specs.declared.event.Answer.{Answer};
 ghost use Rattle.std.specs.Arc.{arc_value};
@@ -13,7 +13,6 @@ ghost use Rattle.world.specs.declared.fault.WorldFault.TheVariants.{Binding, Too
 ghost use Rattle.shared_books.specs.declared.fault.LoadFault.TheVariants as load_fault;
 ghost use Rattle.shared_books.specs.Receipts.{IsMachineAnswer};
 ghost use Rattle.shared_books.specs.Stretches.{EntersMoves, HasMade};
-ghost use Rattle.shared_books.specs.declared.steps.StepsEnd.{StepsEnd};
 ghost use Rattle.world.specs.Stretches.{WouldBeRefused, WouldExit};
 ghost use Rattle.shared.specs.Meter.{MayWrite, writer_at};
 ghost use Rattle.shared_books.specs.Tally.{IsTallyOf, shown_totals};
@@ -33,13 +32,13 @@ use bpf_model::{Answer, Event, ProgId, RunId};
 pub use counters::Counters;
 pub use note::ExitNote;
 pub use receipt::Receipt;
-use shared_books::{Books, CutFault, Finished, LoadFault, SharedFault, Steps, Totals, Worker};
+use shared_books::{Books, CutFault, Finished, LoadFault, SharedFault, Totals, Worker};
 use std::alloc::{AllocError, Global};
 use std::marker::Model;
 use std::sync::ledger::{Ledger, Share};
 use std::sync::{Arc, Wait};
 pub use stretch::Stretch;
-use world::Loaded;
+use world::{Loaded, Stop, Walk};
 
 /// The books, and the pass that writes the counters' cell. Whenever the lock is free the books balance, and
 /// the pass knows the words of the cell: they are the totals of the books.
@@ -142,20 +141,20 @@ impl<L: Ledger> State<L> {
         worker: &mut Worker<L>,
         run: RunId,
         most: usize,
-    ) -> Steps
+    ) -> Walk<Result<Stop, SharedFault>>
         ensures moves { EntersMoves worker.old.number run self.old.books result.moved
             self.new.books }
         ensures made { HasMade worker.old result.moved worker.new }
         ensures answered { 0 < result.moved → IsMachineAnswer (Event.Step run) Answer.Moved }
         ensures cell { self.new.meter ≡ self.old.meter }
         ensures most { result.moved ≤ most }
-        ensures exhausted { result.end ≡ StepsEnd.Exhausted → result.moved ≡ most }
-        ensures exits { result.end ≡ StepsEnd.Exits → WouldExit self.new.books.world run }
-        ensures refused { result.end ≡ StepsEnd.Refused →
+        ensures exhausted { result.end ≡ Ok Stop.Enough → result.moved ≡ most }
+        ensures exits { result.end ≡ Ok Stop.Exits → WouldExit self.new.books.world run }
+        ensures refused { result.end ≡ Ok Stop.Refused →
             WouldBeRefused self.new.books.world run }
-        ensures full { result.end ≡ StepsEnd.Full → IsJournalFull self.new.books }
-        ensures no_room { IsJournalFull self.old.books → result.end ≡ StepsEnd.Full }
-        ensures memory { result.end ≡ StepsEnd.Memory → result.moved ≡ 0 }
+        ensures full { result.end ≡ Err SharedFault.JournalFull → IsJournalFull self.new.books }
+        ensures no_room { IsJournalFull self.old.books → result.end ≡ Err SharedFault.JournalFull }
+        ensures memory { result.end ≡ Err SharedFault.Memory → result.moved ≡ 0 }
     {
         let before = self.books.totals();
         let steps = self.books.run_for(worker, run, most);

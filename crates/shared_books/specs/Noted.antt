@@ -11,21 +11,25 @@ use Rattle.shared_books.specs.Receipts.{NoteView, ReceiptView, IsExitOf, IsMachi
 use Rattle.shared_books.specs.declared.fault.SharedFault.{SharedFault}
 use Rattle.shared_books.specs.declared.fault.SharedFault.TheVariants.{JournalFull}
 
--- The receipt says who asked for which event, and how many entries it has made then. The event is
--- entered and the answer is the machine's, or nothing has changed, as always where the journal is
--- full.
-pub record IsEntered (old : BooksView) (caller : WorkerView) (event : Event) (receipt : ReceiptView)
-    (new : BooksView) (later : WorkerView) : Type 0 where
+-- The receipt says who asked for which event, and how many entries it has made then. The answer is the machine's, with one
+-- entry more, or the caller is as before.
+pub record IsNoted (caller : WorkerView) (event : Event) (receipt : ReceiptView) (later : WorkerView) : Type 0 where
   pub worker : receipt.worker ≡ caller.number
   pub asked : receipt.event ≡ event
   pub count : receipt.made ≡ later.made
-  pub entered : IfOk receipt.reply (λ answer. Enters old caller.number event answer new)
   pub answered : IfOk receipt.reply (IsMachineAnswer event)
   pub made : OnOk receipt.reply (later.made ≡ caller.made + 1)
   pub same_number : later.number ≡ caller.number
   pub same_parts : later.parts ≡ caller.parts
+  pub err : OnErr receipt.reply (later ≡ caller)
+
+-- So it is, and the event is entered, or nothing has changed, as always where the journal is full.
+pub record IsEntered (old : BooksView) (caller : WorkerView) (event : Event) (receipt : ReceiptView)
+    (new : BooksView) (later : WorkerView) : Type 0 where
+  pub noted : IsNoted caller event receipt later
+  pub entered : IfOk receipt.reply (λ answer. Enters old caller.number event answer new)
   pub full : (receipt.reply ≡ Err JournalFull) ↔ IsJournalFull old
-  pub err : OnErr receipt.reply ((new ≡ old) × (later ≡ caller))
+  pub kept : OnErr receipt.reply (new ≡ old)
 
 -- what a receipt of a call for the event by this worker would say, as it is after the call
 abbrev pub receipt_of : WorkerView → Event → Result (Unit {0}) SharedFault → Answer → ReceiptView

@@ -7,7 +7,6 @@
 mod books;
 mod fault;
 mod law;
-mod steps;
 mod tally;
 mod worker;
 
@@ -18,6 +17,5 @@ pub use law::{
     replays_on_machine, replays_push, replays_to_world, run_all_replays, shares_add_up,
     stat_is_machines, totals_are_machines, totals_grow,
 };
-pub use steps::{Steps, StepsEnd};
 pub use tally::{Origin, Tally, Totals};
 pub use worker::{MAX_WORKERS, Worker, Workers, merged, new_workers};

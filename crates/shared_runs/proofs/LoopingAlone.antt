@@ -10,7 +10,7 @@ use Rattle.verifier.proofs.Edges.{length_slots}
 use Rattle.machine.specs.declared.request.Request.{Request}
 use Rattle.machine.specs.declared.request.Next.{Next}
 use Rattle.machine.specs.declared.request.Next.TheVariants.{At, Exit, On, Shared}
-use Rattle.machine.specs.declared.step.Halt.{Halt}
+use Rattle.machine.specs.declared.outcome.Halt.{Halt}
 use Rattle.machine.specs.declared.workspace.Workspace.{Workspace}
 use Rattle.machine.specs.Workspaces.{HasGoneOn}
 use Rattle.machine.proofs.Places.{insn_there, next_place}
@@ -130,7 +130,7 @@ module _ (c : Checked) (context : List ℕ) (from before : ℕ) (start : Workspa
   pub loop_can_go_on : CanGoOn c context from start
   loop_can_go_on = λ moved index w h. loop_can c context index (before + moved) w (along c context from before start b moved index w h)
 
-  module _ (halt : Halt) (new : Workspace) (h : HasGoneOn c.program context from start halt new) where
+  module _ (halt : Halt Next) (new : Workspace) (h : HasGoneOn c.program context from start halt new) where
     abbrev last : StandsBefore c context halt.index (before + halt.moved) h.mid
     last = along c context from before start b halt.moved halt.index h.mid h.moves
 
@@ -138,11 +138,11 @@ module _ (c : Checked) (context : List ℕ) (from before : ℕ) (start : Workspa
         StandsBefore c context index (before + (halt.moved + 1)) new
     behind index s = subst (λ (n : ℕ). StandsBefore c context index n new) (omega arith) s
 
-    pub halts_shared : (request : Request) → halt.next ≡ Shared request → StandsBefore c context (halt.index + 1) (before + (halt.moved + 1)) new
-    halts_shared request e = behind (halt.index + 1) (loop_passes c context halt.index (before + halt.moved) h.mid last new halt.next request h.last e)
+    pub halts_shared : (request : Request) → halt.end ≡ Shared request → StandsBefore c context (halt.index + 1) (before + (halt.moved + 1)) new
+    halts_shared request e = behind (halt.index + 1) (loop_passes c context halt.index (before + halt.moved) h.mid last new halt.end request h.last e)
 
-    pub halts_exited : (n : ℕ) → halt.next ≡ Exit n → ExitsWith (loaded_alone c) context (before + halt.moved + 1) n
-    halts_exited n e = loop_exits c context halt.index (before + halt.moved) h.mid last new halt.next n h.last e
+    pub halts_exited : (n : ℕ) → halt.end ≡ Exit n → ExitsWith (loaded_alone c) context (before + halt.moved + 1) n
+    halts_exited n e = loop_exits c context halt.index (before + halt.moved) h.mid last new halt.end n h.last e
 
     -- so often it has moved, and so far it has come
     pub halts_below : before + halt.moved < length c.program

@@ -1,5 +1,5 @@
 -- A run of a program that names no map, by itself.
-use Rattle.std.specs.Prelude.{◌≡◌, ℕ, ◌+◌, ◌≤◌, []}
+use Rattle.std.specs.Prelude.{◌≡◌, ℕ, ◌+◌, ◌≤◌, [], Option, Some, None}
 use Rattle.bpf_model.specs.Exit.{ExitsFrom, ExitsWith, HasNoMaps}
 use Rattle.bpf_model.specs.Machine.{Loaded, Run, fresh_run}
 use Rattle.bpf_model.specs.Places.{StartsAt}
@@ -11,8 +11,6 @@ use Rattle.verifier.specs.Checked.{Checked}
 use Rattle.verifier.specs.Verdict.{IsJustified}
 use Rattle.machine.specs.RunWords.{RunWords, IsAt}
 use Rattle.shared_runs.specs.Words.{loaded_of}
-use Rattle.shared_runs.specs.declared.alone.step.Step.{Step}
-use Rattle.shared_runs.specs.declared.alone.step.Step.TheVariants.{Moved, Exit}
 
 -- the program as the machine loads it, with no maps
 abbrev pub loaded_alone : Checked → Loaded
@@ -50,6 +48,6 @@ pub record Finishes (v : Checked) (n : ℕ) (old new : RunWords) : Type 0 where
   pub exits : ExitsWith (loaded_alone v) old.view.context (old.view.moved + 1) n
   pub moved : new.view.moved ≡ old.view.moved
 
-abbrev pub IsStep : Checked → RunWords → Step → RunWords → Type 0
-IsStep v old Moved new = GoesOnAlone v old new
-IsStep v old (Exit n) new = Finishes v n old new
+abbrev pub IsStep : Checked → RunWords → Option ℕ → RunWords → Type 0
+IsStep v old None new = GoesOnAlone v old new
+IsStep v old (Some n) new = Finishes v n old new

@@ -6,5 +6,6 @@
 mod driver;
 mod step;
 
-pub use driver::{Finished, run_in, run_over, run_to_exit};
-pub use step::{Step, has_no_maps, start_alone, step_alone};
+pub use driver::{run_in, run_over, run_to_exit};
+pub use machine::Ended;
+pub use step::{has_no_maps, start_alone, step_alone};

@@ -188,18 +188,22 @@ const STRETCHED: Scene = Scene {
             Ask::Act(Deed::Start(1)),
             "Ok(Started(RunId { number: 0 }))",
         ),
-        (1, Ask::Run(0, 0), "Steps { moved: 0, end: Exhausted }"),
-        (1, Ask::Run(0, 4), "Steps { moved: 4, end: Exhausted }"),
-        (1, Ask::Run(0, 100), "Steps { moved: 7, end: Exits }"),
+        (1, Ask::Run(0, 0), "Walk { moved: 0, end: Ok(Enough) }"),
+        (1, Ask::Run(0, 4), "Walk { moved: 4, end: Ok(Enough) }"),
+        (1, Ask::Run(0, 100), "Walk { moved: 7, end: Ok(Exits) }"),
         (1, Ask::Act(Deed::Step(0)), "Ok(Exited(9))"),
-        (1, Ask::Run(0, 5), "Steps { moved: 0, end: Refused }"),
+        (1, Ask::Run(0, 5), "Walk { moved: 0, end: Ok(Refused) }"),
         (1, Ask::Act(Deed::Leave(0)), "Ok(Done)"),
         (
             1,
             Ask::Act(Deed::Start(1)),
             "Ok(Started(RunId { number: 0 }))",
         ),
-        (1, Ask::Run(0, 100), "Steps { moved: 2, end: Full }"),
+        (
+            1,
+            Ask::Run(0, 100),
+            "Walk { moved: 2, end: Err(JournalFull) }",
+        ),
         (1, Ask::Made, "18"),
     ],
     left: "0 before, 18 of 18, Stat { linked: 0, unlinked: 0, given: 0, worn: 0, runs: 0, open: 0 }, Stat { linked: 1, unlinked: 0, given: 0, worn: 0, runs: 1, open: 1 }",
@@ -317,7 +321,7 @@ fn told<L: Ledger, R: Wait + Abort>(
     match *ask {
         Ask::Act(ref deed) => format!(in alloc; "{:?}", shared.act(rt, worker, event(deed))),
         Ask::Note(ref deed) => {
-            let receipt = shared.act_noted(rt, worker, event(deed));
+            let receipt = shared.hold(rt).act_noted(rt, worker, event(deed));
             let (reply, made) = (receipt.reply(), receipt.made());
             format!(in alloc;
                 "{:?}: {reply:?}, made {made}, worker {}",
@@ -330,7 +334,8 @@ fn told<L: Ledger, R: Wait + Abort>(
             format!(in alloc; "{exit:?}")
         }
         Ask::ExitNote(run, prog) => {
-            let note = shared.exit_noted(rt, worker, RunId::new(run), ProgId::new(prog), &ctx);
+            let held = shared.hold(rt);
+            let note = held.exit_noted(worker, RunId::new(run), ProgId::new(prog), &ctx);
             format!(in alloc;
                 "{:?}, made {}, worker {}",
                 note.exit(),

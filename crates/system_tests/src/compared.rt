@@ -7,7 +7,7 @@ use crate::programs::verified;
 use bpf_model::{Cell, CtxBytes, FRAME_BYTES, REGISTERS, Reg, Value, array_of};
 use machine::Run;
 use reference_interpreter::{PlainRun, Progress};
-use shared_runs::alone::{Step, has_no_maps, start_alone, step_alone};
+use shared_runs::alone::{has_no_maps, start_alone, step_alone};
 use std::test::Fail;
 use verifier::Verified;
 
@@ -135,12 +135,12 @@ fn stepped(verified: &Verified, ctx: &CtxBytes) -> Option<u64>
     for moves in 0..instructions.len() {
         let progress = plain.step(instructions, ctx.as_slice(), 0);
         match step_alone(&mut run, verified) {
-            Step::Moved => {
+            None => {
                 if progress != Progress::Moved || !same(&plain, &run, moves + 1) {
                     return None;
                 }
             }
-            Step::Exit(value) => {
+            Some(value) => {
                 let same_context = run.context().as_slice() == ctx.as_slice();
                 return if progress == Progress::Exited(value) && same_context {
                     Some(value)

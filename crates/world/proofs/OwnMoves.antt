@@ -159,7 +159,7 @@ asks-no-exit i v asks e =
 
 -- of the parts of a world
 module _ (names : List (List ℕ)) (maps : List MapView) (runs runs_new : List (Option RunWords)) (g : GraceState)
-    (programs : List parts.Loaded) (given r : ℕ) (walk : Walk) (kept : IsKept maps runs g programs)
+    (programs : List parts.Loaded) (given r : ℕ) (walk : Walk WalkEnd) (kept : IsKept maps runs g programs)
     (walked : HasWalked runs runs_new programs r walk) (running : walked.run.view.exit ≡ None)
     (flagged : IsFlagged (world_of names maps runs g programs given) r walked.run.view) where
   abbrev pub old-world : WorldView

@@ -1,7 +1,7 @@
 -- The names of this crate that most proofs cite, passed on from one place.
 pub use Rattle.machine.specs.declared.request.Request.{Request}
 pub use Rattle.machine.specs.declared.request.Request.TheVariants.{Call, Enter, Leave}
-pub use Rattle.machine.specs.declared.walk.Walk.{Walk}
+pub use Rattle.machine.specs.declared.outcome.Walk.{Walk}
 pub use Rattle.world.specs.Asking.{stat_of}
 pub use Rattle.world.specs.BoundTo.{AreProgramsBound, IsBound}
 pub use Rattle.world.specs.Brief.{brief_answer}

@@ -6,7 +6,7 @@ use Rattle.bpf_model.specs.declared.event.EventRefusal.{EventRefusal}
 use Rattle.bpf_model.specs.View.{WorldView}
 use Rattle.world_laws.specs.Reacting.{full_reaction}
 use Rattle.verifier.specs.Verdict.{IsJustified}
-use Rattle.machine.specs.declared.walk.Walk.{Walk}
+use Rattle.machine.specs.declared.outcome.Walk.{Walk}
 use Rattle.machine.specs.declared.walk.WalkEnd.{WalkEnd}
 use Rattle.machine.specs.declared.walk.WalkEnd.TheVariants.{Enough, Asks, Exits}
 use Rattle.machine.specs.RunWords.{RunWords, IsAt}
@@ -46,7 +46,7 @@ pub record IsStanding (runs : List (Option RunWords)) (programs : List Loaded) (
   pub stands : IsJustified loaded.verified → IsValidRun loaded.verified run
 
 -- The run in run slot r has walked, and no other run slot has changed.
-pub record HasWalked (runs runs_after : List (Option RunWords)) (programs : List Loaded) (r : ℕ) (walk : Walk)
+pub record HasWalked (runs runs_after : List (Option RunWords)) (programs : List Loaded) (r : ℕ) (walk : Walk WalkEnd)
     : Type 0 where
   pub run : RunWords
   pub there : slice_get runs r ≡ Some (Some run)

@@ -24,5 +24,6 @@ mod world;
 
 pub use fault::WorldFault;
 pub use kept::Loaded;
-pub use stretch::{Stop, Stretch};
+pub use machine::Walk;
+pub use stretch::Stop;
 pub use world::World;

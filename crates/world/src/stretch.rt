@@ -17,16 +17,9 @@ pub enum Stop {
     Refused,
 }
 
-/// How many moves a run has made, and why no further one.
-#[derive(Clone, Copy, Debug, PartialEq, Eq)]
-pub struct Stretch {
-    pub moved: usize,
-    pub stop: Stop,
-}
-
 impl World {
     /// The own moves of the run, at most so many; `None` where its step is refused.
-    fn walk(&mut self, run: RunId, most: usize) -> Option<Walk>
+    fn walk(&mut self, run: RunId, most: usize) -> Option<Walk<WalkEnd>>
         ensures refused { IfNone result (WouldBeRefused self.old run) }
         ensures kept { IfNone result (self.new ≡ self.old) }
         ensures moves { IfSome result (λ walk. MakesMoves run self.old walk.moved self.new) }
@@ -42,27 +35,27 @@ impl World {
 
     /// Steps a run as long as its step is answered with a move, at most so many times. It stops before a step that
     /// would be its exit, and before one that would be refused. It takes no memory and cannot fail.
-    pub fn run_for(&mut self, run: RunId, most: usize) -> Stretch
+    pub fn run_for(&mut self, run: RunId, most: usize) -> Walk<Stop>
         ensures moves { MakesMoves run self.old result.moved self.new }
         ensures most { result.moved ≤ most }
-        ensures enough { result.stop ≡ Stop.Enough → result.moved ≡ most }
-        ensures exits { result.stop ≡ Stop.Exits → WouldExit self.new run }
-        ensures refused { result.stop ≡ Stop.Refused → WouldBeRefused self.new run }
+        ensures enough { result.end ≡ Stop.Enough → result.moved ≡ most }
+        ensures exits { result.end ≡ Stop.Exits → WouldExit self.new run }
+        ensures refused { result.end ≡ Stop.Refused → WouldBeRefused self.new run }
     {
         let event = Event::Step { run };
         let mut answer = Answer::Moved;
         let mut moved = 0;
         'stretch: while moved < most {
             let Some(walk) = self.walk(run, most - moved) else {
-                let stop = Stop::Refused;
-                return Stretch { moved, stop };
+                let end = Stop::Refused;
+                return Walk { moved, end };
             };
             moved += walk.moved;
             match walk.end {
                 WalkEnd::Enough => (),
                 WalkEnd::Exits => {
-                    let stop = Stop::Exits;
-                    return Stretch { moved, stop };
+                    let end = Stop::Exits;
+                    return Walk { moved, end };
                 }
                 WalkEnd::Asks => {
                     self.apply_into(&event, &mut answer);
@@ -70,7 +63,7 @@ impl World {
                 }
             }
         }
-        let stop = Stop::Enough;
-        Stretch { moved, stop }
+        let end = Stop::Enough;
+        Walk { moved, end }
     }
 }

@@ -1,19 +1,19 @@
 //! Moves of one run. The fields of a stretch are private to this module, so only a state makes one.
-ghost use Rattle.std.specs.Prelude.{◌≡◌, ◌+◌, ◌<◌, ◌≤◌, Ok};
+ghost use Rattle.std.specs.Prelude.{◌≡◌, ◌+◌, ◌<◌, ◌≤◌, Ok, Err};
 ghost use Rattle.bpf_model.specs.declared.event.Event.{Event};
 ghost use Rattle.bpf_model.specs.declared.event.Answer.{Answer};
 ghost use Rattle.shared_books.specs.Books.{IsJournalFull};
 ghost use Rattle.shared_books.specs.Receipts.{IsMachineAnswer};
 ghost use Rattle.shared_books.specs.Stretches.{EntersMoves, HasMade};
-ghost use Rattle.shared_books.specs.declared.steps.StepsEnd.{StepsEnd};
 ghost use Rattle.world.specs.Stretches.{WouldBeRefused, WouldExit};
 
 use crate::state::{Receipt, State};
 use bpf_model::RunId;
-use shared_books::{StepsEnd, Worker};
+use shared_books::{SharedFault, Worker};
 use std::marker::{Model, PhantomData};
 use std::sync::Wait;
 use std::sync::ledger::Ledger;
+use world::Stop;
 
 /// Entries of one worker, one behind another, each a step of one run that was answered with a move. It says which worker,
 /// which run, how many entries were made before, and how many moves these are. `run_noted` makes it, and receipts of steps
@@ -50,7 +50,7 @@ impl<L: Ledger> State<L> {
         worker: &mut Worker<L>,
         run: RunId,
         most: usize,
-    ) -> (Stretch<L>, StepsEnd)
+    ) -> (Stretch<L>, Result<Stop, SharedFault>)
         ensures moves { EntersMoves worker.old.number run self.old.books result.0.moved
             self.new.books }
         ensures made { HasMade worker.old result.0.moved worker.new }
@@ -60,13 +60,13 @@ impl<L: Ledger> State<L> {
         ensures answered { 0 < result.0.moved → IsMachineAnswer (Event.Step run) Answer.Moved }
         ensures cell { self.new.meter ≡ self.old.meter }
         ensures most { result.0.moved ≤ most }
-        ensures exhausted { result.1 ≡ StepsEnd.Exhausted → result.0.moved ≡ most }
-        ensures exits { result.1 ≡ StepsEnd.Exits → WouldExit self.new.books.world run }
-        ensures refused { result.1 ≡ StepsEnd.Refused →
+        ensures exhausted { result.1 ≡ Ok Stop.Enough → result.0.moved ≡ most }
+        ensures exits { result.1 ≡ Ok Stop.Exits → WouldExit self.new.books.world run }
+        ensures refused { result.1 ≡ Ok Stop.Refused →
             WouldBeRefused self.new.books.world run }
-        ensures full { result.1 ≡ StepsEnd.Full → IsJournalFull self.new.books }
-        ensures no_room { IsJournalFull self.old.books → result.1 ≡ StepsEnd.Full }
-        ensures memory { result.1 ≡ StepsEnd.Memory → result.0.moved ≡ 0 }
+        ensures full { result.1 ≡ Err SharedFault.JournalFull → IsJournalFull self.new.books }
+        ensures no_room { IsJournalFull self.old.books → result.1 ≡ Err SharedFault.JournalFull }
+        ensures memory { result.1 ≡ Err SharedFault.Memory → result.0.moved ≡ 0 }
     {
         let number = worker.number();
         let since = worker.made();

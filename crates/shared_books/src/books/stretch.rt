@@ -1,5 +1,5 @@
 //! Many steps of one run at once.
-ghost use Rattle.std.specs.Prelude.{◌≡◌, ◌≢◌, ◌⊎◌, ◌↔◌, ◌+◌, ◌^◌, ◌<◌, ◌≤◌, ◌++◌, length, replicate, true};
+ghost use Rattle.std.specs.Prelude.{◌≡◌, ◌≢◌, ◌⊎◌, ◌↔◌, ◌+◌, ◌^◌, ◌<◌, ◌≤◌, ◌++◌, length, replicate, true, Ok, Err, IfOk, IfErr, OnErr};
 ghost use Rattle.bpf_model.specs.declared.event.Event.{Event};
 ghost use Rattle.bpf_model.specs.declared.event.Answer.{Answer};
 ghost use Rattle.journal.specs.Rows.{entry_from};
@@ -11,13 +11,12 @@ ghost use Rattle.world.specs.Stretches.{WouldBeRefused, WouldExit};
 
 use crate::books::{Books, make_room};
 use crate::fault::SharedFault;
-use crate::steps::{Steps, StepsEnd};
 use crate::tally::unreclaimed;
 use crate::worker::Worker;
 use bpf_model::{Event, RunId};
 use journal::Journal;
 use std::sync::ledger::Ledger;
-use world::{Stop, Stretch};
+use world::{Stop, Walk};
 
 /// For how many entries more the journal and the count of all entries have room.
 fn room_in(journal: &Journal, before: u64) -> usize
@@ -51,36 +50,16 @@ fn enter_moves(journal: &mut Journal, worker: u8, run: RunId, count: usize)
     }
 }
 
-/// Why there is no room.
-fn end_of(fault: SharedFault) -> StepsEnd
-    ensures full { (result ≡ StepsEnd.Full) ↔ (fault ≡ SharedFault.JournalFull) }
-    ensures room { (result ≡ StepsEnd.Full) ⊎ (result ≡ StepsEnd.Memory) }
-{
-    match fault {
-        SharedFault::JournalFull => StepsEnd::Full,
-        SharedFault::Memory => StepsEnd::Memory,
-    }
-}
-
 /// Why a stretch of at most `most` steps ended, for which there may have been room for less.
-fn end_after(stretch: Stretch, most: usize) -> StepsEnd
-    ensures exhausted { result ≡ StepsEnd.Exhausted → stretch.moved ≡ most }
-    ensures exits { result ≡ StepsEnd.Exits → stretch.stop ≡ Stop.Exits }
-    ensures refused { result ≡ StepsEnd.Refused → stretch.stop ≡ Stop.Refused }
-    ensures full { result ≡ StepsEnd.Full →
-        (stretch.stop ≡ Stop.Enough) × (stretch.moved ≢ most) }
-    ensures memory { result ≢ StepsEnd.Memory }
+fn end_after(stretch: Walk<Stop>, most: usize) -> Result<Stop, SharedFault>
+    ensures stop { IfOk result (λ stop. stop ≡ stretch.end) }
+    ensures exhausted { result ≡ Ok Stop.Enough → stretch.moved ≡ most }
+    ensures full { OnErr result ((stretch.end ≡ Stop.Enough) × (stretch.moved ≢ most)) }
+    ensures journal { IfErr result (λ fault. fault ≡ SharedFault.JournalFull) }
 {
-    match stretch.stop {
-        Stop::Exits => StepsEnd::Exits,
-        Stop::Refused => StepsEnd::Refused,
-        Stop::Enough => {
-            if stretch.moved == most {
-                StepsEnd::Exhausted
-            } else {
-                StepsEnd::Full
-            }
-        }
+    match stretch.end {
+        Stop::Enough if stretch.moved != most => Err(SharedFault::JournalFull),
+        stop => Ok(stop),
     }
 }
 
@@ -88,22 +67,27 @@ impl<L: Ledger> Books<L> {
     /// Steps a run as long as its step is answered with a move, at most so many times, and enters the moves; or
     /// changes nothing. It stops where the journal has no room for another entry, before a step that would be the
     /// run's exit, and before one that would be refused.
-    pub fn run_for(&mut self, worker: &mut Worker<L>, run: RunId, most: usize) -> Steps
+    pub fn run_for(
+        &mut self,
+        worker: &mut Worker<L>,
+        run: RunId,
+        most: usize,
+    ) -> Walk<Result<Stop, SharedFault>>
         ensures moves { EntersMoves worker.old.number run self.old result.moved self.new }
         ensures made { HasMade worker.old result.moved worker.new }
         ensures answered { 0 < result.moved → IsMachineAnswer (Event.Step run) Answer.Moved }
         ensures rise { TotalsRise self.old.tally.totals self.new.tally.totals }
         ensures most { result.moved ≤ most }
-        ensures exhausted { result.end ≡ StepsEnd.Exhausted → result.moved ≡ most }
-        ensures exits { result.end ≡ StepsEnd.Exits → WouldExit self.new.world run }
-        ensures refused { result.end ≡ StepsEnd.Refused → WouldBeRefused self.new.world run }
-        ensures full { result.end ≡ StepsEnd.Full → IsJournalFull self.new }
-        ensures no_room { IsJournalFull self.old → result.end ≡ StepsEnd.Full }
-        ensures memory { result.end ≡ StepsEnd.Memory → result.moved ≡ 0 }
+        ensures exhausted { result.end ≡ Ok Stop.Enough → result.moved ≡ most }
+        ensures exits { result.end ≡ Ok Stop.Exits → WouldExit self.new.world run }
+        ensures refused { result.end ≡ Ok Stop.Refused → WouldBeRefused self.new.world run }
+        ensures full { result.end ≡ Err SharedFault.JournalFull → IsJournalFull self.new }
+        ensures no_room { IsJournalFull self.old → result.end ≡ Err SharedFault.JournalFull }
+        ensures memory { result.end ≡ Err SharedFault.Memory → result.moved ≡ 0 }
     {
         if let Err(fault) = make_room(&mut self.journal, self.before) {
-            let end = end_of(fault);
-            return Steps { moved: 0, end };
+            let end = Err(fault);
+            return Walk { moved: 0, end };
         }
         let event = Event::Step { run };
         event.is_real();
@@ -118,6 +102,6 @@ impl<L: Ledger> Books<L> {
         worker.made += moved as u64;
         enter_moves(&mut self.journal, worker.number, run, moved);
         let end = end_after(stretch, most);
-        Steps { moved, end }
+        Walk { moved, end }
     }
 }

@@ -8,22 +8,15 @@ ghost use Rattle.machine.specs.Workspaces.{HasFreshRegisters};
 ghost use Rattle.shared_runs.specs.Lone.{loaded_alone};
 
 use bpf_model::{CtxBytes, are_bytes};
-use machine::{Next, Workspace};
+use machine::{Ended, Next, Workspace};
 use verifier::Verified;
-
-/// How a run ended: its exit value, and how many steps it made, the exit among them.
-#[derive(Clone, Copy, Debug, PartialEq, Eq)]
-pub struct Finished {
-    pub value: u64,
-    pub steps: usize,
-}
 
 /// Runs a program that names no map, on a context of the length that it was verified for, to its exit,
 /// whatever the maps are for which it was verified. It takes no memory and cannot fail.
 ///
 /// The value and the steps are those of the program's definition, which has no others, whatever other
 /// actors do; and the steps are at most as many as it has instructions.
-pub fn run_to_exit(verified: &Verified, ctx: &CtxBytes) -> Finished
+pub fn run_to_exit(verified: &Verified, ctx: &CtxBytes) -> Ended
     requires maps { HasNoMaps verified.now.program }
     requires context { length ctx.now.items ≡ verified.now.ctx_len }
     ensures exits { ExitsWith (loaded_alone verified.now) ctx.now.items result.steps result.value }
@@ -38,7 +31,7 @@ pub fn run_to_exit(verified: &Verified, ctx: &CtxBytes) -> Finished
 }
 
 /// Runs such a program over a context that the caller lends, of which no copy is made. The clauses are those of `run_to_exit`.
-pub fn run_over(verified: &Verified, context: &[u8]) -> Finished
+pub fn run_over(verified: &Verified, context: &[u8]) -> Ended
     requires maps { HasNoMaps verified.now.program }
     requires context { length context.now ≡ verified.now.ctx_len }
     ensures exits { ExitsWith (loaded_alone verified.now) context.now result.steps result.value }
@@ -54,7 +47,7 @@ pub fn run_over(verified: &Verified, context: &[u8]) -> Finished
 }
 
 /// Runs such a program in a workspace where others have run, of which nothing is seen. The clauses are those of `run_to_exit`.
-pub fn run_in(workspace: &mut Workspace, verified: &Verified, context: &[u8]) -> Finished
+pub fn run_in(workspace: &mut Workspace, verified: &Verified, context: &[u8]) -> Ended
     requires maps { HasNoMaps verified.now.program }
     requires context { length context.now ≡ verified.now.ctx_len }
     ensures exits { ExitsWith (loaded_alone verified.now) context.now result.steps result.value }
@@ -71,7 +64,7 @@ pub fn run_in(workspace: &mut Workspace, verified: &Verified, context: &[u8]) ->
 
 /// Runs a program to its exit, in a workspace whose registers are those of a start.
 #[inline(always)]
-fn finish(workspace: &mut Workspace, verified: &Verified, context: &[u8]) -> Finished
+fn finish(workspace: &mut Workspace, verified: &Verified, context: &[u8]) -> Ended
     requires maps { HasNoMaps verified.now.program }
     requires context { length context.now ≡ verified.now.ctx_len }
     requires fresh { HasFreshRegisters workspace.old }
@@ -90,7 +83,7 @@ fn finish(workspace: &mut Workspace, verified: &Verified, context: &[u8]) -> Fin
     let mut moved = 0;
     'steps: loop {
         let halt = workspace.go_on(verified, context, index);
-        match halt.next {
+        match halt.end {
             Next::On | Next::At(_) => unreachable!(),
             // A lock or an unlock: a run alone asks nothing else.
             Next::Shared(_) => {
@@ -98,7 +91,7 @@ fn finish(workspace: &mut Workspace, verified: &Verified, context: &[u8]) -> Fin
                 moved += halt.moved + 1;
             }
             Next::Exit(value) => {
-                return Finished {
+                return Ended {
                     value,
                     steps: moved + halt.moved + 1,
                 };

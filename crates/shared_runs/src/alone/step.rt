@@ -7,15 +7,6 @@ use bpf_model::{CtxBytes, Insn, are_bytes};
 use machine::{Local, Request, Run};
 use verifier::Verified;
 
-/// What a step came to.
-#[derive(Clone, Copy, Debug, PartialEq, Eq)]
-pub enum Step {
-    /// The run stands before another instruction.
-    Moved,
-    /// The run has exited with this value.
-    Exit(u64),
-}
-
 /// Whether the instruction loads a reference to a map.
 fn names_a_map(insn: &Insn) -> bool
     ensures { result ≡ names_map insn.now }
@@ -47,18 +38,18 @@ pub fn start_alone(verified: &Verified, ctx: &CtxBytes) -> Run
 }
 
 /// One step of such a run: it stays a run on its context, with one move more; or it exits, with the
-/// value and after the moves with which the program exits on this context.
-pub fn step_alone(run: &mut Run, verified: &Verified) -> Step
+/// value and after the moves with which the program exits on this context. The exit value, where it was the exit.
+pub fn step_alone(run: &mut Run, verified: &Verified) -> Option<u64>
     requires { IsLone verified.now run.old }
     ensures { IsStep verified.now run.old result run.new }
 {
     match run.local_step(verified) {
-        Local::Moved => Step::Moved,
-        Local::Exit(value) => Step::Exit(value),
+        Local::Moved => None,
+        Local::Exit(value) => Some(value),
         Local::Shared(request) => match request {
             Request::Enter | Request::Leave => {
                 run.resume(verified, 0);
-                Step::Moved
+                None
             }
             Request::Load { .. } | Request::Store { .. } | Request::Call { .. } => unreachable!(),
         },

@@ -15,7 +15,7 @@ fn walk_slot(
     programs: &Vec<Loaded>,
     run_slot: RunId,
     most: usize,
-) -> Walk
+) -> Walk<WalkEnd>
     requires { IsStanding runs.old.items programs.now.items run_slot }
     ensures walked { HasWalked runs.old.items runs.new.items programs.now.items run_slot result }
     ensures most { result.moved ≤ most }
@@ -34,7 +34,7 @@ fn walk_slot(
 
 impl Parts {
     /// The own moves of the run in a run slot, at most so many; `None` where its step is refused.
-    pub fn walk(&mut self, run: RunId, most: usize) -> Option<Walk>
+    pub fn walk(&mut self, run: RunId, most: usize) -> Option<Walk<WalkEnd>>
         requires { IsWorld self.old }
         ensures refused { IfNone result (WouldBeRefused self.old run) }
         ensures kept { IfNone result (self.new ≡ self.old) }

@@ -10,7 +10,7 @@ returns c =
     let some : 1 ≤ max c.args.count 1 = omega arith in
     let few : moved < max c.args.count 1 = omega (arith, top, some, c.run_for.ensures.most) in
     let ahead : (moved + 1 ≡ max c.args.count 1) ⊎ (c.apply_into.new.answer ≢ Moved) =
-    no_move_ahead c.run_for.new.self c.args.run c.run_for.result.stop c.apply_into.new.answer _ c.apply_into.ensures.answer
+    no_move_ahead c.run_for.new.self c.args.run c.run_for.result.end c.apply_into.new.answer _ c.apply_into.ensures.answer
     (λ e. omega (arith, top, some, c.run_for.ensures.enough e)) c.run_for.ensures.exits c.run_for.ensures.refused in (
       replicate (moved + 1) (Step c.args.run),
       last_step c.args.world.now c.run_for.new.self c.apply_into.new.self

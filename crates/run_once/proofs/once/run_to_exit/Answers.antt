@@ -1,6 +1,5 @@
 use Rattle.bpf_model.proofs.Prelude.{rules, ◌≡◌, List, ℕ, ◌+◌, arith, subst, sym, last_of}
-use Rattle.run_once.specs.Once.{RunsToExit}
-use Rattle.run_once.specs.declared.once.Ended.{Ended}
+use Rattle.run_once.specs.Once.{Ended, RunsToExit}
 use Rattle.run_once.proofs.Nexts.{next_of}
 use Rattle.run_once.proofs.Walking.{Walked, begins, exited, walked}
 use Rattle.run_once.proofs.once.run_to_exit.Goals as goal

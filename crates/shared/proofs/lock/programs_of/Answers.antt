@@ -2,7 +2,8 @@ use Rattle.bpf_model.proofs.Prelude.{◌≡◌, ◌∙◌, List, Some, ap, map, 
 use Rattle.verifier.proofs.Prelude.{Checked}
 use Rattle.world.proofs.Prelude.{program_of}
 use Rattle.bpf_model.specs.declared.limits.MapShape.{MapShape}
-use Rattle.shared.proofs.Kept.{AreKept, IsKeptAs, kept-more}
+use Rattle.shared.proofs.Kept.{IsKeptAs, kept-more}
+use Rattle.shared.specs.Kept.{AreKept}
 use Rattle.shared.proofs.lock.programs_of.Goals as goal
 
 pub loop-number-preserved : goal.loop-number-preserved

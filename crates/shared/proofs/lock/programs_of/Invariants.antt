@@ -1,5 +1,5 @@
 use Rattle.bpf_model.proofs.Prelude.{take, shapes_of}
-use Rattle.shared.proofs.Kept.{AreKept}
+use Rattle.shared.specs.Kept.{AreKept}
 use Rattle.shared.proofs.lock.programs_of.Given as goal
 
 abbrev pub invariant-loop-number : goal.invariant-loop-number

@@ -39,7 +39,7 @@ returns-clause-fits g c =
         alone = subst (λ o. IfSome o (IsOwnExit (slice_get c.args.held.now c.args.job.now.prog) c.args.job.now.ctx.items)) noted
             (subst (λ (p : List Checked). IfSome c.exit_noted-note.result.exit
             (IsOwnExit (slice_get p c.args.job.now.prog) c.args.job.now.ctx.items)) s.programs n.alone);
-        event = c.act_noted-end.ensures.event;
+        event = c.act_noted-end.ensures.noted.asked;
         told = elim c.match-dropped.branch [
           | in-Ok w ↦ inl (search rules, search rules)
           | in-Err-dropped w ↦

@@ -88,20 +88,23 @@ returns-clause-noted g c =
       reply = Ok c.apply_into.new.answer;
     } in
     let made : IsEntered old caller c.args.event.now receipt new later = record {
-      worker = refl;
-      asked = refl;
-      count = refl;
+      noted = record {
+        worker = refl;
+        asked = refl;
+        count = refl;
+        answered = answered c.self.inside.world c.args.event.now c.apply_into.new.answer c.is_world.ensures c.is_real.ensures c.apply_into.ensures.answer;
+        made = refl;
+        same_number = refl;
+        same_parts = c.add.ensures.parts ∙ c.audit.ensures.parts;
+        err = tt;
+      };
       entered = entered _ _ _ c.self.inside.journal c.make_room.new.journal c.push_answer.new.self _ _ _ _ _ _ _ _ _
           c.make_room.ensures.entries c.make_room.ensures.limit c.push_answer.ensures.entries
           c.push_answer.ensures.limit
           c.apply_into.ensures.answer c.apply_into.ensures.new c.count.ensures.origin c.count.ensures.steps
           (c.add.ensures.total ∙ ap (λ (k : ℕ). k + 1) c.audit.ensures.total);
-      answered = answered c.self.inside.world c.args.event.now c.apply_into.new.answer c.is_world.ensures c.is_real.ensures c.apply_into.ensures.answer;
-      made = refl;
-      same_number = refl;
-      same_parts = c.add.ensures.parts ∙ c.audit.ensures.parts;
       full = (λ e. absurd (ok≢err e), λ full. absurd (ok≢err (c.in_ok-make_room.ensures.full.1 full)));
-      err = tt;
+      kept = tt;
     } in
     subst (λ (b : BooksView). IsEntered b c.args.worker.now c.args.event.now receipt new later) c.self.view_is
     (subst (λ (w : WorkerView). IsEntered old w c.args.event.now receipt new later) c.worker.view_is made)

@@ -1,10 +1,11 @@
 use Rattle.bpf_model.proofs.Prelude.{◌≡◌, ◌<◌, ◌^◌, ℕ, Option, Some, None, subst, sym, rules, IfNone, IfSome, WorldView}
+use Rattle.machine.specs.declared.walk.WalkEnd.{WalkEnd}
 use Rattle.world.proofs.Prelude.{Walk, MakesMoves}
 use Rattle.world_laws.proofs.Prelude.{IsWorld}
 use Rattle.world.proofs.OwnMoves.{moves-to-world}
 use Rattle.world.proofs.world.World.walk.Goals as goal
 
-walked-world : (r : ℕ) (w new : WorldView) (o : Option Walk) → IsWorld w → r < 2 ^ 64 → IfNone o (new ≡ w) →
+walked-world : (r : ℕ) (w new : WorldView) (o : Option (Walk WalkEnd)) → IsWorld w → r < 2 ^ 64 → IfNone o (new ≡ w) →
     IfSome o (λ walk. MakesMoves r w walk.moved new) → IsWorld new
 walked-world r w new None is real kept moves = subst IsWorld (sym kept) is
 walked-world r w new (Some walk) is real kept moves = moves-to-world r w walk.moved new moves is real
