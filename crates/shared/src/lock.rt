@@ -3,6 +3,7 @@ ghost use Rattle.std.specs.Prelude.{◌≡◌, ◌+◌, ◌<◌, ◌≤◌, ◌+
 ghost use Rattle.bpf_model.specs.declared.limits.TheConstants.{MAX_JOURNAL};
 ghost use Rattle.bpf_model.specs.View.{shapes_of};
 ghost use Rattle.shared_books.specs.Books.{AreNumbered, most_workers};
+ghost use Rattle.shared_books.specs.Noted.{IsNoted};
 ghost use Rattle.shared_books.specs.Receipts.{HasExitedOnce, IsMachineAnswer, IsOwnExit, IsPossibleExit};
 ghost use Rattle.shared_books.specs.Stretches.{HasMade};
 ghost use Rattle.bpf_model.specs.declared.event.Event.{Event};
@@ -12,7 +13,7 @@ ghost use Rattle.shared_books.specs.Replay.{Replays, HasNoRuns};
 ghost use Rattle.shared.specs.Kept.{AreKept};
 
 use crate::held::Held;
-use crate::state::{Counters, State};
+use crate::state::{Counters, ExitNote, Receipt, State};
 use bpf_model::{Answer, CtxBytes, Event, MAX_JOURNAL, MAX_PROGRAMS, ProgId, RunId};
 use journal::Journal;
 use shared_books::{
@@ -124,6 +125,13 @@ impl<L: Ledger> Shared<L> {
         }
     }
 
+    /// Applies one event, and hands out a receipt, as `Held::act_noted` does. It waits for the lock.
+    pub fn act_noted<R: Wait>(&self, rt: &R, worker: &mut Worker<L>, event: Event) -> Receipt<L>
+        ensures noted { IsNoted worker.old event result worker.new }
+    {
+        self.hold(rt).act_noted(rt, worker, event)
+    }
+
     /// Steps a run as long as its step is answered with a move, at most so many times, under one lock: what as many
     /// calls of `act` come to, as `State::run_for` says. It stops where the journal has no room for another entry,
     /// before a step that would be the run's exit, and before one that would be refused. Of these no clause says
@@ -197,6 +205,32 @@ impl<L: Ledger> Shared<L> {
         self.programs.get(prog.index())
     }
 
+    /// Asks for the exit value of a run, as `Held::exit_noted` does. It waits for the lock.
+    pub fn exit_noted<R: Wait>(
+        &self,
+        rt: &R,
+        worker: &Worker<L>,
+        run: RunId,
+        prog: ProgId,
+        ctx: &CtxBytes,
+    ) -> ExitNote<L>
+        ensures worker { result.worker ≡ worker.now.number }
+        ensures count { result.made ≡ worker.now.made }
+        ensures run { result.run ≡ run }
+        ensures prog { result.prog ≡ prog }
+        ensures context { result.context ≡ ctx.now.items }
+        ensures exit { IfSome result.exit (λ n.
+            HasExitedOnce self.now run prog ctx.now.items n) }
+
+        // The value is one of the program's definition, and without map references the only one.
+        ensures may { IfSome result.exit (λ n.
+            IsPossibleExit (slice_get self.now prog) ctx.now.items n) }
+        ensures alone { IfSome result.exit (λ n.
+            IsOwnExit (slice_get self.now prog) ctx.now.items n) }
+    {
+        self.hold(rt).exit_noted(worker, run, prog, ctx)
+    }
+
     /// The exit value of a run, where it has ended and was started with this program on this
     /// context. It makes no entry and takes no memory, and waits for the lock. The contract says
     /// what a value is, and not when there is none.
@@ -213,7 +247,7 @@ impl<L: Ledger> Shared<L> {
             IsPossibleExit (slice_get self.now prog) ctx.now.items n) }
         ensures alone { IfSome result (λ n. IsOwnExit (slice_get self.now prog) ctx.now.items n) }
     {
-        self.hold(rt).exit_noted(worker, run, prog, ctx).exit()
+        self.exit_noted(rt, worker, run, prog, ctx).exit()
     }
 
     /// Makes the world its own new base and empties the journal, as `State::cut` says; of a shared world

@@ -321,7 +321,7 @@ fn told<L: Ledger, R: Wait + Abort>(
     match *ask {
         Ask::Act(ref deed) => format!(in alloc; "{:?}", shared.act(rt, worker, event(deed))),
         Ask::Note(ref deed) => {
-            let receipt = shared.hold(rt).act_noted(rt, worker, event(deed));
+            let receipt = shared.act_noted(rt, worker, event(deed));
             let (reply, made) = (receipt.reply(), receipt.made());
             format!(in alloc;
                 "{:?}: {reply:?}, made {made}, worker {}",

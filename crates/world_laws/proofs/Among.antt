@@ -139,7 +139,8 @@ module _ {code : List Insn} {b : ℕ → ℕ} {store : map_state.Store} {section
   -- a register that the instruction at hand needs
   pub register-fits : (i : Insn) (q : ℕ) → Known i → q ≤ 10 → run.state.regs q ≢ Nothing →
       (HasStep i store sections (emptied_run q run) → ⊥) → word_in v q < 2 ^ 64
-  register-fits i q here l some stuck = value-fits (run.state.regs q) (word_in v q) some (register-word q l) (a.near.regs_near q) (a.numbered q) (a.sure i q here stuck)
+  register-fits i q here l some stuck = value-fits (run.state.regs q) (word_in v q) some (register-word q l) (a.near.regs_near q)
+    (a.numbered q) (a.sure i q here stuck)
 
   -- a register is set
   pub sets-word : (out : Outcome) (slots dst x : ℕ) (u : Value) → dst ≤ 10 → sets slots dst u run.state ≡ Some out → WordIs b u x →

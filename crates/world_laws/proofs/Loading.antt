@@ -71,7 +71,8 @@ module _ (w : WorldView) (s : Schedule) (m : Matches w s) (sound : IsSound w s) 
       let a = among w s m sound r run v k in
       let x = loaded_word w v (byte_count width) offset (word_in v src) in
       carried w s m sound r run v k i out (Goes (with_word 1 dst x v)) _ answer later here
-      (λ answer later g. of_kind i s.machine.store (open_sections s.machine.runs) run answer s.machine.store later (out, s.machine.store.elements, inr h, refl, g))
+      (λ answer later g. of_kind i s.machine.store (open_sections s.machine.runs) run answer s.machine.store later
+      (out, s.machine.store.elements, inr h, refl, g))
       ends (sets-word a out 1 dst x (Number h.0) real.0 h.2
       (element-word (byte_count width) (word_in v src) offset (run.state.regs src) h.0 (register-word a src real.1) (a.near.regs_near src) h.1)) refl
 
@@ -86,6 +87,8 @@ module _ (w : WorldView) (s : Schedule) (m : Matches w s) (sound : IsSound w s) 
       let wide = byte_count (unsigned_width width) in
       let x = loaded_signed width (loaded_word w v wide offset (word_in v src)) in
       carried w s m sound r run v k i out (Goes (with_word 1 dst x v)) _ answer later here
-      (λ answer later g. of_kind i s.machine.store (open_sections s.machine.runs) run answer s.machine.store later (out, s.machine.store.elements, inr h, refl, g))
+      (λ answer later g. of_kind i s.machine.store (open_sections s.machine.runs) run answer s.machine.store later
+      (out, s.machine.store.elements, inr h, refl, g))
       ends (sets-word a out 1 dst x (Number (loaded_signed width h.0)) real.0 h.2
-      (ap (loaded_signed width) (element-word wide (word_in v src) offset (run.state.regs src) h.0 (register-word a src real.1) (a.near.regs_near src) h.1))) refl
+      (ap (loaded_signed width)
+      (element-word wide (word_in v src) offset (run.state.regs src) h.0 (register-word a src real.1) (a.near.regs_near src) h.1))) refl
