@@ -9,7 +9,6 @@ pub mod Places
 pub mod Reacting
 pub mod Serving
 pub mod Standing
-pub mod OwnMemory
 pub mod Turning
 pub mod AskingSo
 pub mod Answering

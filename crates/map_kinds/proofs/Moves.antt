@@ -2,7 +2,7 @@
 use Rattle.bpf_model.proofs.Prelude.{◌≡◌, ◌≢◌, ◌∙◌, ℕ, ◌+◌, ◌<◌, ◌≤◌, List, [], ◌∷◌, ◌++◌, length, Option, Some, None, refl, sym, ap, arith, cond, eqb, subst}
 use Rattle.bpf_model.proofs.Prelude.{get, insert, remove, Queues, turned, KeyMap, none-some, same_Some, length-set, get-set_other, option_flatten}
 use Rattle.element_store.proofs.Prelude.{ArenaState, IsTaken, LinksOf, SameAt, is_at, indexed, times_in, key_at, taken, given_back, with_slot_value}
-use Rattle.element_store.proofs.Prelude.{DeferredFits, deferred_lists, queued, retired_lists, reaped_lists}
+use Rattle.element_store.proofs.Prelude.{DeferredFits, deferred_lists, queued, retired_lists, reaped_lists, link_at}
 use Rattle.element_store.proofs.Counts.{one_same, one_other, times-append}
 use Rattle.element_store.proofs.Views.{taken_same}
 use Rattle.element_store.specs.declared.deferred.DeferredSlots.{DeferredSlots}
@@ -31,346 +31,191 @@ links-same own mine a b l apart taken = record {
   taken = λ j h. taken_same a b j l.rest (taken j h);
 }
 
+abbrev parts_of : KeyMap → Queues → ArenaState → PartsView
+parts_of m q a = record { index = m; lists = q; arena = a }
+
+-- arenas that are one but at a slot where nothing stands
+module _ (a b : ArenaState) (m : KeyMap) (q : Queues) (pb : IsParted (parts_of m q b)) (long : length b.slots ≡ length a.slots)
+    (same : (j : ℕ) → indexed m b.slots j ≡ indexed m a.slots j)
+    (key : (j : ℕ) → 0 < indexed m a.slots j + queued q j → key_at b.slots j ≡ key_at a.slots j)
+    (link : (j : ℕ) → 0 < indexed m a.slots j + queued q j → link_at b.links j ≡ link_at a.links j) where
+  agree : (own : ℕ → ℕ) → ((j : ℕ) → 0 < own j → 0 < indexed m a.slots j + queued q j) → SameAt own a b
+  agree own g = record {
+    long = long;
+    key = λ j o. key j (g j o);
+    link = λ j o. link j (g j o);
+    taken = λ j o. standing-taken (parts_of m q b) j pb (let s = same j in let z = g j o in omega arith);
+  }
+
+  both-agree : SameAt (indexed m a.slots) a b × SameAt (queued q) a b
+  both-agree = (agree (indexed m a.slots) (λ j o. omega arith), agree (queued q) (λ j o. omega arith))
+
 module _ (X : Type 0) (contents : X → ArenaState → KeyMap) (fits_index : X → ArenaState → Type 0)
     (index_frame : (x : X) (a b : ArenaState) → fits_index x a → SameAt (indexed (contents x a) a.slots) a b →
     fits_index x b × (contents x b ≡ contents x a)) where
-  -- parts that fit and read as these, in whose standings the slots stand
-  settle : (x : X) (y : DeferredSlots) (b : ArenaState) (m : KeyMap) (q : Queues) → fits_index x b → DeferredFits y b
-      → contents x b ≡ m → deferred_lists y b ≡ q → IsParted (record { index = m; lists = q; arena = b }) →
-      let r : PartsView = record { index = contents x b; lists = deferred_lists y b; arena = b } in let s :
-      PartsView = record { index = m; lists = q; arena = b } in ((fits_index x b × DeferredFits y b) × IsParted r)
-      × (r ≡ s)
-  settle x y b m q fi fl ei el p =
-      let e1 = ap (λ (z : KeyMap). let r : PartsView = record { index = z; lists = deferred_lists y b; arena = b } in r) ei in
-      let e2 = ap (λ (z : Queues). let r : PartsView = record { index = m; lists = z; arena = b } in r) el in
-      (((fi, fl), subst IsParted (sym (e1 ∙ e2)) p), e1 ∙ e2)
+  abbrev view : X → DeferredSlots → ArenaState → PartsView
+  view x y a = parts_of (contents x a) (deferred_lists y a) a
 
-  unlinked-step : (x x' : X) (y : DeferredSlots) (a b : ArenaState) (i : ℕ) → (fits_index x a × DeferredFits y a) ×
-      IsParted (record { index = contents x a; lists = deferred_lists y a; arena = a }) →
+  abbrev Fits : X → DeferredSlots → ArenaState → Type 0
+  Fits x y a = (fits_index x a × DeferredFits y a) × IsParted (view x y a)
+
+  -- parts that fit and read as these
+  abbrev Settles : X → DeferredSlots → ArenaState → PartsView → Type 0
+  Settles x y b s = Fits x y b × (view x y b ≡ s)
+
+  settle : (x : X) (y : DeferredSlots) (b : ArenaState) (m : KeyMap) (q : Queues) → fits_index x b → DeferredFits y b
+      → contents x b ≡ m → deferred_lists y b ≡ q → IsParted (parts_of m q b) → Settles x y b (parts_of m q b)
+  settle x y b m q fi fl ei el p =
+      let e = ap (λ (z : KeyMap). parts_of z (deferred_lists y b) b) ei ∙ ap (λ (z : Queues). parts_of m z b) el in
+      (((fi, fl), subst IsParted (sym e) p), e)
+
+  -- the index and the lists, where links of other slots have changed
+  index-kept : (x : X) (y : DeferredSlots) (a b : ArenaState) (own : ℕ → ℕ) → Fits x y a → LinksOf own a b →
+      ((j : ℕ) → 0 < indexed (contents x a) a.slots j → own j ≡ 0) → fits_index x b × (contents x b ≡ contents x a)
+  index-kept x y a b own w l apart = index_frame x a b w.0.0 (links-same own (indexed (contents x a) a.slots) a b l apart
+      (λ j g. standing-taken (view x y a) j w.1 (omega arith)))
+
+  lists-kept : (x : X) (y : DeferredSlots) (a b : ArenaState) (own : ℕ → ℕ) → Fits x y a → LinksOf own a b →
+      ((j : ℕ) → 0 < queued (deferred_lists y a) j → own j ≡ 0) → DeferredFits y b × (deferred_lists y b ≡ deferred_lists y a)
+  lists-kept x y a b own w l apart = deferred-frame y a b w.0.1 (links-same own (queued (deferred_lists y a)) a b l apart
+      (λ j g. standing-taken (view x y a) j w.1 (omega arith)))
+
+  -- a slot stands once
+  once : (x : X) (y : DeferredSlots) (a : ArenaState) (j : ℕ) → Fits x y a → standings (view x y a) j ≤ 1
+  once x y a j w = w.1.once j
+
+  unlinked-step : (x x' : X) (y : DeferredSlots) (a b : ArenaState) (i : ℕ) → Fits x y a →
       get (contents x a) (key_at a.slots i) ≡ Some i → contents x' b ≡ remove (contents x a) (key_at a.slots i) →
       fits_index x' b → LinksOf (indexed (contents x a) a.slots) a b →
-      let r : PartsView = record { index = contents x' b; lists = deferred_lists y b; arena = b } in let s :
-      PartsView = record {
-        index = remove (contents x a) (key_at a.slots i);
-        lists = deferred_lists y a;
-        arena =
-            b;
-      } in
-      (((fits_index x' b × DeferredFits y b) × IsParted r) × (r ≡ s)) × IsInHand r i
+      Settles x' y b (parts_of (remove (contents x a) (key_at a.slots i)) (deferred_lists y a) b) × IsInHand (view x' y b) i
   unlinked-step x x' y a b i w found e f l =
-      let p : PartsView = record { index = contents x a; lists = deferred_lists y a; arena = a } in
-      let h : IsParted (record { index = contents x a; lists = deferred_lists y a; arena = a }) = w.1 in
-      let fd = deferred-frame y a b w.0.1 (links-same (indexed (contents x a) a.slots) (queued (deferred_lists y a)) a b l
-      (λ j g. let o : standings (record { index = contents x a; lists = deferred_lists y a; arena = a }) j ≤ 1 = h.once j in omega arith)
-      (λ j g. standing-taken (record { index = contents x a; lists = deferred_lists y a; arena = a }) j h (omega arith))) in
-      let pb = parted-links (remove (contents x a) (key_at a.slots i)) (deferred_lists y a) a b l.rest
-      (parted-removed (record { index = contents x a; lists = deferred_lists y a; arena = a }) i h found) in
-      let s = settle x' y b (remove (contents x a) (key_at a.slots i)) (deferred_lists y a) f fd.0 e fd.1 pb in (
+      let m = remove (contents x a) (key_at a.slots i) in
+      let fd = lists-kept x y a b (indexed (contents x a) a.slots) w l (λ j g. let o = once x y a j w in omega arith) in
+      let pb = parted-links m (deferred_lists y a) a b l.rest (parted-removed (view x y a) i w.1 found) in
+      let s = settle x' y b m (deferred_lists y a) f fd.0 e fd.1 pb in (
         s,
         subst (λ (z : PartsView). IsInHand z i) (sym s.1)
-            (held-links (remove (contents x a) (key_at a.slots i)) (deferred_lists y a) a b i l.rest
-            (removed-held (record { index = contents x a; lists = deferred_lists y a; arena = a }) i h found)),
+            (held-links m (deferred_lists y a) a b i l.rest (removed-held (view x y a) i w.1 found)),
       )
 
-  pub retired-step : (x : X) (y y' : DeferredSlots) (a b : ArenaState) (i : ℕ) → (fits_index x a × DeferredFits y a) ×
-      IsParted (record { index = contents x a; lists = deferred_lists y a; arena = a }) →
-      IsInHand (record { index = contents x a; lists = deferred_lists y a; arena = a }) i →
-      deferred_lists y' b ≡ retired_lists (deferred_lists y a) i → DeferredFits y' b →
-      LinksOf (queued (deferred_lists y' b)) a b →
-      let r : PartsView = record { index = contents x b; lists = deferred_lists y' b; arena = b } in let s :
-      PartsView = record { index = contents x a; lists = retired_lists (deferred_lists y a) i; arena = b } in
-      ((fits_index x b × DeferredFits y' b) × IsParted r) × (r ≡ s)
+  -- a slot that is held is none of those of a count that leaves it out
+  other-slot : (own : ℕ → ℕ) (i : ℕ) → own i ≡ 0 → (j : ℕ) → 0 < own j → cond {A = ℕ} (eqb i j) 1 0 ≡ 0
+  other-slot own i none j g = one_other i j (λ s. let z : 0 < own i = subst (λ k. 0 < own k) (sym s) g in absurd (omega arith))
+
+  pub retired-step : (x : X) (y y' : DeferredSlots) (a b : ArenaState) (i : ℕ) → Fits x y a → IsInHand (view x y a) i →
+      deferred_lists y' b ≡ retired_lists (deferred_lists y a) i → DeferredFits y' b → LinksOf (queued (deferred_lists y' b)) a b →
+      Settles x y' b (parts_of (contents x a) (retired_lists (deferred_lists y a) i) b)
   retired-step x y y' a b i w held e f l0 =
-      let h : IsParted (record { index = contents x a; lists = deferred_lists y a; arena = a }) = w.1 in
-      let l : LinksOf (queued (retired_lists (deferred_lists y a) i)) a b = subst (λ z. LinksOf (queued z) a b) e l0 in
+      let q = retired_lists (deferred_lists y a) i in
+      let l : LinksOf (queued q) a b = subst (λ z. LinksOf (queued z) a b) e l0 in
       let more : (j : ℕ) → times_in j ((deferred_lists y a).next ++ i ∷ []) ≡ times_in j (deferred_lists y a).next +
       (cond {A = ℕ} (eqb i j) 1 0 + 0) = λ j. times-append j (deferred_lists y a).next (i ∷ []) in
-      let unlinked : indexed (contents x a) a.slots i ≡ 0 = held.unlinked in
-      let not_i : (j : ℕ) → 0 < indexed (contents x a) a.slots j → cond {A = ℕ} (eqb i j) 1 0 ≡ 0 =
-      (λ j g. one_other i j (λ s. let z : 0 < indexed (contents x a) a.slots i =
-      subst (λ k. 0 < indexed (contents x a) a.slots k) (sym s) g in absurd (omega arith))) in
-      let fi = index_frame x a b w.0.0 (links-same (queued (retired_lists (deferred_lists y a) i)) (indexed (contents x a) a.slots) a b l
-      (λ j g. let o : standings (record { index = contents x a; lists = deferred_lists y a; arena = a }) j ≤ 1 =
-      h.once j in let c = not_i j g in omega (arith, more j))
-      (λ j g. standing-taken (record { index = contents x a; lists = deferred_lists y a; arena = a }) j h (omega arith))) in
-      let pb = parted-links (contents x a) (retired_lists (deferred_lists y a) i) a b l.rest
-      (parted-retired (record { index = contents x a; lists = deferred_lists y a; arena = a }) i h held) in
-      settle x y' b (contents x a) (retired_lists (deferred_lists y a) i) fi.0 f fi.1 e pb
+      let fi = index-kept x y a b (queued q) w l (λ j g. let o = once x y a j w in
+      let c = other-slot (indexed (contents x a) a.slots) i held.unlinked j g in omega (arith, more j)) in
+      settle x y' b (contents x a) q fi.0 f fi.1 e (parted-links (contents x a) q a b l.rest (parted-retired (view x y a) i w.1 held))
 
   -- a call of the lists that links none but their own slots, and leaves q of them
-  moved-step : (x : X) (y y' : DeferredSlots) (a b : ArenaState) (q : Queues) → (fits_index x a × DeferredFits y a) ×
-      IsParted (record { index = contents x a; lists = deferred_lists y a; arena = a }) →
-      IsParted (record { index = contents x a; lists = q; arena = a }) → deferred_lists y' b ≡ q → DeferredFits y' b →
-      LinksOf (queued (deferred_lists y a)) a b →
-      let r : PartsView = record { index = contents x b; lists = deferred_lists y' b; arena = b } in let s :
-      PartsView = record { index = contents x a; lists = q; arena = b } in
-      ((fits_index x b × DeferredFits y' b) × IsParted r) × (r ≡ s)
+  moved-step : (x : X) (y y' : DeferredSlots) (a b : ArenaState) (q : Queues) → Fits x y a → IsParted (parts_of (contents x a) q a) →
+      deferred_lists y' b ≡ q → DeferredFits y' b → LinksOf (queued (deferred_lists y a)) a b → Settles x y' b (parts_of (contents x a) q b)
   moved-step x y y' a b q w parted e f l =
-      let h : IsParted (record { index = contents x a; lists = deferred_lists y a; arena = a }) = w.1 in
-      let fi = index_frame x a b w.0.0 (links-same (queued (deferred_lists y a)) (indexed (contents x a) a.slots) a b l
-      (λ j g. let o : standings (record { index = contents x a; lists = deferred_lists y a; arena = a }) j ≤ 1 = h.once j in omega arith)
-      (λ j g. standing-taken (record { index = contents x a; lists = deferred_lists y a; arena = a }) j h (omega arith))) in
+      let fi = index-kept x y a b (queued (deferred_lists y a)) w l (λ j g. let o = once x y a j w in omega arith) in
       settle x y' b (contents x a) q fi.0 f fi.1 e (parted-links (contents x a) q a b l.rest parted)
 
-  pub turned-step : (x : X) (y y' : DeferredSlots) (a b : ArenaState) → (fits_index x a × DeferredFits y a) ×
-      IsParted (record { index = contents x a; lists = deferred_lists y a; arena = a }) →
-      deferred_lists y' b ≡ turned (deferred_lists y a) → DeferredFits y' b → LinksOf (queued (deferred_lists y a)) a b →
-      let r : PartsView = record { index = contents x b; lists = deferred_lists y' b; arena = b } in let s :
-      PartsView = record { index = contents x a; lists = turned (deferred_lists y a); arena = b } in
-      ((fits_index x b × DeferredFits y' b) × IsParted r) × (r ≡ s)
-  turned-step x y y' a b w e f l = moved-step x y y' a b (turned (deferred_lists y a)) w
-      (parted-turned (record { index = contents x a; lists = deferred_lists y a; arena = a }) w.1) e f l
+  pub turned-step : (x : X) (y y' : DeferredSlots) (a b : ArenaState) → Fits x y a → deferred_lists y' b ≡ turned (deferred_lists y a) →
+      DeferredFits y' b → LinksOf (queued (deferred_lists y a)) a b → Settles x y' b (parts_of (contents x a) (turned (deferred_lists y a)) b)
+  turned-step x y y' a b w e f l = moved-step x y y' a b (turned (deferred_lists y a)) w (parted-turned (view x y a) w.1) e f l
 
-  pub reaped-step : (x : X) (y y' : DeferredSlots) (a b : ArenaState) → (fits_index x a × DeferredFits y a) ×
-      IsParted (record { index = contents x a; lists = deferred_lists y a; arena = a }) →
-      deferred_lists y' b ≡ reaped_lists (deferred_lists y a) → DeferredFits y' b → LinksOf (queued (deferred_lists y a)) a b →
-      let r : PartsView = record { index = contents x b; lists = deferred_lists y' b; arena = b } in let s :
-      PartsView = record { index = contents x a; lists = reaped_lists (deferred_lists y a); arena = b } in
-      ((fits_index x b × DeferredFits y' b) × IsParted r) × (r ≡ s)
-  reaped-step x y y' a b w e f l = moved-step x y y' a b (reaped_lists (deferred_lists y a)) w
-      (parted-reaped (record { index = contents x a; lists = deferred_lists y a; arena = a }) w.1) e f l
+  pub reaped-step : (x : X) (y y' : DeferredSlots) (a b : ArenaState) → Fits x y a → deferred_lists y' b ≡ reaped_lists (deferred_lists y a) →
+      DeferredFits y' b → LinksOf (queued (deferred_lists y a)) a b → Settles x y' b (parts_of (contents x a) (reaped_lists (deferred_lists y a)) b)
+  reaped-step x y y' a b w e f l = moved-step x y y' a b (reaped_lists (deferred_lists y a)) w (parted-reaped (view x y a) w.1) e f l
 
   -- an arena in which the slots that stand are as they were
-  kept-step : (x : X) (y : DeferredSlots) (a b : ArenaState) → (fits_index x a × DeferredFits y a) ×
-      IsParted (record { index = contents x a; lists = deferred_lists y a; arena = a }) →
-      IsParted (record { index = contents x a; lists = deferred_lists y a; arena = b }) →
-      SameAt (indexed (contents x a) a.slots) a b → SameAt (queued (deferred_lists y a)) a b →
-      let r : PartsView = record { index = contents x b; lists = deferred_lists y b; arena = b } in let s :
-      PartsView = record { index = contents x a; lists = deferred_lists y a; arena = b } in
-      ((fits_index x b × DeferredFits y b) × IsParted r) × (r ≡ s)
-  kept-step x y a b w parted si sq =
-      let fi = index_frame x a b w.0.0 si in
-      let fd = deferred-frame y a b w.0.1 sq in
+  kept-step : (x : X) (y : DeferredSlots) (a b : ArenaState) → Fits x y a → IsParted (parts_of (contents x a) (deferred_lists y a) b) →
+      SameAt (indexed (contents x a) a.slots) a b × SameAt (queued (deferred_lists y a)) a b →
+      Settles x y b (parts_of (contents x a) (deferred_lists y a) b)
+  kept-step x y a b w parted same =
+      let fi = index_frame x a b w.0.0 same.0 in
+      let fd = deferred-frame y a b w.0.1 same.1 in
       settle x y b (contents x a) (deferred_lists y a) fi.0 fd.0 fi.1 fd.1 parted
 
   -- a slot that is taken is none of those that stand
   pub taken-agree : (x : X) (y : DeferredSlots) (a b : ArenaState) (i : ℕ) (rest key value : List ℕ) →
-      IsParted (record { index = contents x a; lists = deferred_lists y a; arena = a }) →
-      a.free ≡ i ∷ rest → b ≡ taken a i rest key value → SameAt (indexed (contents x a) a.slots) a b × SameAt (queued (deferred_lists y a)) a b
+      IsParted (view x y a) → a.free ≡ i ∷ rest → b ≡ taken a i rest key value →
+      SameAt (indexed (contents x a) a.slots) a b × SameAt (queued (deferred_lists y a)) a b
   taken-agree x y a b i rest key value h split e =
-      let free : (j : ℕ) → times_in j a.free ≡ cond {A = ℕ} (eqb i j) 1 0 + times_in j rest = λ j. ap (times_in j) split in
-      let pt : IsParted (record {
-        index = contents x a;
-        lists = deferred_lists y a;
-        arena =
-            taken a i rest key value;
-      }) = parted-taken (record {
-        index = contents x a;
-        lists = deferred_lists y a;
-        arena = a;
-      }) i rest key value h split in
+      let p = view x y a in
+      let free : times_in i a.free ≡ cond {A = ℕ} (eqb i i) 1 0 + times_in i rest = ap (times_in i) split in
       let nowhere : (j : ℕ) → 0 < indexed (contents x a) a.slots j + queued (deferred_lists y a) j → j ≢ i = (λ j g s.
       let z : 0 < indexed (contents x a) a.slots i + queued (deferred_lists y a) i =
       subst (λ k. 0 < indexed (contents x a) a.slots k + queued (deferred_lists y a) k) s g in
-      let o : standings (record { index = contents x a; lists = deferred_lists y a; arena = a }) i ≤ 1 =
-      h.once i in absurd (omega (arith, free i, one_same i))) in
-      let agree : (own : ℕ → ℕ) → ((j : ℕ) → 0 < own j → (j ≢ i) × IsTaken (taken a i rest key value) j) →
-      SameAt own a (taken a i rest key value) = (λ own g. record {
-        long = length-set a.slots i _;
-        key = λ j o. other-key (record { index = contents x a; lists = deferred_lists y a; arena = a }) i rest key value h split j (g j o).0;
-        link = λ j o. ap option_flatten (get-set_other a.links i j None (g j o).0);
-        taken = λ j o. (g j o).1;
-      }) in
-      let same : (j : ℕ) → indexed (contents x a) (taken a i rest key value).slots j ≡ indexed (contents x a) a.slots
-      j = taken-indexed (record { index = contents x a; lists = deferred_lists y a; arena = a }) i rest key value
-      h split in
-      let si = agree (indexed (contents x a) a.slots) (λ j g. (
-        nowhere j (omega arith),
-        standing-taken (record {
-          index = contents x a;
-          lists = deferred_lists y a;
-          arena =
-              taken a i rest key value;
-        }) j pt (omega (arith, same j)),
-      )) in
-      let sq = agree (queued (deferred_lists y a)) (λ j g. (
-        nowhere j (omega arith),
-        standing-taken (record {
-          index = contents x a;
-          lists = deferred_lists y a;
-          arena =
-              taken a i rest key value;
-        }) j pt (omega arith),
-      )) in
-      (subst (SameAt (indexed (contents x a) a.slots) a) (sym e) si, subst (SameAt (queued (deferred_lists y a)) a) (sym e) sq)
+      let o : standings p i ≤ 1 = h.once i in absurd (omega (arith, free, one_same i))) in
+      subst (λ z. SameAt (indexed (contents x a) a.slots) a z × SameAt (queued (deferred_lists y a)) a z) (sym e)
+      (both-agree a (taken a i rest key value) (contents x a) (deferred_lists y a) (parted-taken p i rest key value h split)
+      (length-set a.slots i _) (taken-indexed p i rest key value h split)
+      (λ j g. other-key p i rest key value h split j (nowhere j g))
+      (λ j g. ap option_flatten (get-set_other a.links i j None (nowhere j g))))
 
-  pub taken-step : (x : X) (y : DeferredSlots) (a b : ArenaState) (i : ℕ) (rest key value : List ℕ) →
-      (fits_index x a × DeferredFits y a) × IsParted (record {
-        index = contents x a;
-        lists = deferred_lists y a;
-        arena = a;
-      }) →
+  pub taken-step : (x : X) (y : DeferredSlots) (a b : ArenaState) (i : ℕ) (rest key value : List ℕ) → Fits x y a →
       a.free ≡ i ∷ rest → b ≡ taken a i rest key value →
-      let r : PartsView = record { index = contents x b; lists = deferred_lists y b; arena = b } in let s :
-      PartsView = record { index = contents x a; lists = deferred_lists y a; arena = b } in
-      (((fits_index x b × DeferredFits y b) × IsParted r) × (r ≡ s)) × (IsInHand r i × (key_at b.slots i ≡ key))
+      Settles x y b (parts_of (contents x a) (deferred_lists y a) b) × (IsInHand (view x y b) i × (key_at b.slots i ≡ key))
   taken-step x y a b i rest key value w split e =
-      let h : IsParted (record { index = contents x a; lists = deferred_lists y a; arena = a }) = w.1 in
-      let pt : IsParted (record {
-        index = contents x a;
-        lists = deferred_lists y a;
-        arena =
-            taken a i rest key value;
-      }) = parted-taken (record {
-        index = contents x a;
-        lists = deferred_lists y a;
-        arena = a;
-      }) i rest key value h split in
-      let same = taken-agree x y a b i rest key value h split e in
-      let held = taken-held (record { index = contents x a; lists = deferred_lists y a; arena = a }) i rest key value h split in
-      let k = taken-key (record { index = contents x a; lists = deferred_lists y a; arena = a }) i rest key value h split in
-      let pb = subst (λ (z : ArenaState). IsParted (record { index = contents x a; lists = deferred_lists y a; arena = z })) (sym e) pt in
-      let s = kept-step x y a b w pb same.0 same.1 in
-      let hb = subst (λ (z : ArenaState). IsInHand (record { index = contents x a; lists = deferred_lists y a; arena = z }) i) (sym e) held in
-      (s, (subst (λ (z : PartsView). IsInHand z i) (sym s.1) hb, ap (λ (z : ArenaState). key_at z.slots i) e ∙ k))
+      let p = view x y a in
+      let pb = subst (λ (z : ArenaState). IsParted (parts_of (contents x a) (deferred_lists y a) z)) (sym e) (parted-taken p i rest key value w.1 split) in
+      let s = kept-step x y a b w pb (taken-agree x y a b i rest key value w.1 split e) in
+      let held = subst (λ (z : ArenaState). IsInHand (parts_of (contents x a) (deferred_lists y a) z) i) (sym e) (taken-held p i rest key value w.1 split) in
+      (s, (subst (λ (z : PartsView). IsInHand z i) (sym s.1) held, ap (λ (z : ArenaState). key_at z.slots i) e ∙ taken-key p i rest key value w.1 split))
 
   -- a slot in hand is put in the place of the one that was found, which is in hand then
-  pub put-step : (x x' : X) (y : DeferredSlots) (a b : ArenaState) (i : ℕ) (found : Option ℕ) →
-      (fits_index x a × DeferredFits y a) × IsParted (record {
-        index = contents x a;
-        lists = deferred_lists y a;
-        arena = a;
-      }) →
-      IsInHand (record { index = contents x a; lists = deferred_lists y a; arena = a }) i → get (contents x a) (key_at a.slots i) ≡ found →
-      contents x' b ≡ insert (contents x a) (key_at a.slots i) i → fits_index x' b → LinksOf (λ j. indexed (contents x a) a.slots j + is_at (Some i) j) a b →
-      let r : PartsView = record { index = contents x' b; lists = deferred_lists y b; arena = b } in let s :
-      PartsView = record {
-        index = insert (contents x a) (key_at a.slots i) i;
-        lists = deferred_lists y a;
-        arena =
-            b;
-      } in
-      (((fits_index x' b × DeferredFits y b) × IsParted r) × (r ≡ s)) × ((old : ℕ) → found ≡ Some old → IsInHand r old)
+  pub put-step : (x x' : X) (y : DeferredSlots) (a b : ArenaState) (i : ℕ) (found : Option ℕ) → Fits x y a →
+      IsInHand (view x y a) i → get (contents x a) (key_at a.slots i) ≡ found → contents x' b ≡ insert (contents x a) (key_at a.slots i) i →
+      fits_index x' b → LinksOf (λ j. indexed (contents x a) a.slots j + is_at (Some i) j) a b →
+      Settles x' y b (parts_of (insert (contents x a) (key_at a.slots i) i) (deferred_lists y a) b)
+      × ((old : ℕ) → found ≡ Some old → IsInHand (view x' y b) old)
   put-step x x' y a b i found w held g e f l =
-      let h : IsParted (record { index = contents x a; lists = deferred_lists y a; arena = a }) = w.1 in
-      let unlisted : queued (deferred_lists y a) i ≡ 0 = held.unlisted in
-      let not_i : (j : ℕ) → 0 < queued (deferred_lists y a) j → cond {A = ℕ} (eqb i j) 1 0 ≡ 0 =
-      (λ j g. one_other i j (λ s. let z : 0 < queued (deferred_lists y a) i =
-      subst (λ k. 0 < queued (deferred_lists y a) k) (sym s) g in absurd (omega arith))) in
-      let fd = deferred-frame y a b w.0.1 (links-same (λ j. indexed (contents x a) a.slots j + is_at (Some i) j) (queued (deferred_lists y a)) a b l
-      (λ j g. let o : standings (record { index = contents x a; lists = deferred_lists y a; arena = a }) j ≤ 1 = h.once j in let c = not_i j g in omega arith)
-      (λ j g. standing-taken (record { index = contents x a; lists = deferred_lists y a; arena = a }) j h (omega arith))) in
-      let q = parted-put (record { index = contents x a; lists = deferred_lists y a; arena = a }) i found h held g in
-      let pb = parted-links (insert (contents x a) (key_at a.slots i) i) (deferred_lists y a) a b l.rest q.0 in
-      let s = settle x' y b (insert (contents x a) (key_at a.slots i) i) (deferred_lists y a) f fd.0 e fd.1 pb in (
-        s,
-        λ old o. subst (λ (z : PartsView). IsInHand z old) (sym s.1)
-            (held-links (insert (contents x a) (key_at a.slots i) i) (deferred_lists y a) a b old l.rest (q.1 old o)),
-      )
+      let m = insert (contents x a) (key_at a.slots i) i in
+      let fd = lists-kept x y a b (λ j. indexed (contents x a) a.slots j + is_at (Some i) j) w l (λ j g. let o = once x y a j w in
+      let c = other-slot (queued (deferred_lists y a)) i held.unlisted j g in omega arith) in
+      let q = parted-put (view x y a) i found w.1 held g in
+      let s = settle x' y b m (deferred_lists y a) f fd.0 e fd.1 (parted-links m (deferred_lists y a) a b l.rest q.0) in
+      (s, λ old o. subst (λ (z : PartsView). IsInHand z old) (sym s.1) (held-links m (deferred_lists y a) a b old l.rest (q.1 old o)))
 
   -- a key's slot, if there is one, leaves the index, and is in hand then
-  pub removed-step : (x x' : X) (y : DeferredSlots) (a b : ArenaState) (key : List ℕ) (found : Option ℕ) →
-      (fits_index x a × DeferredFits y a) × IsParted (record {
-        index = contents x a;
-        lists = deferred_lists y a;
-        arena = a;
-      }) →
+  pub removed-step : (x x' : X) (y : DeferredSlots) (a b : ArenaState) (key : List ℕ) (found : Option ℕ) → Fits x y a →
       get (contents x a) key ≡ found → contents x' b ≡ remove (contents x a) key → fits_index x' b → LinksOf (indexed (contents x a) a.slots) a b →
-      let r : PartsView = record { index = contents x' b; lists = deferred_lists y b; arena = b } in let s :
-      PartsView = record { index = remove (contents x a) key; lists = deferred_lists y a; arena = b } in
-      (((fits_index x' b × DeferredFits y b) × IsParted r) × (r ≡ s)) × ((i : ℕ) → found ≡ Some i → IsInHand r i)
+      Settles x' y b (parts_of (remove (contents x a) key) (deferred_lists y a) b) × ((i : ℕ) → found ≡ Some i → IsInHand (view x' y b) i)
   removed-step x x' y a b key None w g e f l =
-      let h : IsParted (record { index = contents x a; lists = deferred_lists y a; arena = a }) = w.1 in
-      let fd = deferred-frame y a b w.0.1 (links-same (indexed (contents x a) a.slots) (queued (deferred_lists y a)) a b l
-      (λ j g. let o : standings (record { index = contents x a; lists = deferred_lists y a; arena = a }) j ≤ 1 = h.once j in omega arith)
-      (λ j g. standing-taken (record { index = contents x a; lists = deferred_lists y a; arena = a }) j h (omega arith))) in
-      let same : IsParted (record { index = remove (contents x a) key; lists = deferred_lists y a; arena = a }) =
-      subst (λ (m : KeyMap). IsParted (record { index = m; lists = deferred_lists y a; arena = a }))
-      (sym (remove_absent (contents x a) key g)) h in
-      let s = settle x' y b (remove (contents x a) key) (deferred_lists y a) f fd.0 e fd.1
-      (parted-links (remove (contents x a) key) (deferred_lists y a) a b l.rest same) in
-      (s, λ i o. absurd (none-some i o))
+      let m = remove (contents x a) key in
+      let fd = lists-kept x y a b (indexed (contents x a) a.slots) w l (λ j g. let o = once x y a j w in omega arith) in
+      let same = subst (λ (m : KeyMap). IsParted (parts_of m (deferred_lists y a) a)) (sym (remove_absent (contents x a) key g)) w.1 in
+      (settle x' y b m (deferred_lists y a) f fd.0 e fd.1 (parted-links m (deferred_lists y a) a b l.rest same), λ i o. absurd (none-some i o))
   removed-step x x' y a b key (Some i) w g e f l =
-      let h : IsParted (record { index = contents x a; lists = deferred_lists y a; arena = a }) = w.1 in
-      let k : key_at a.slots i ≡ key = h.keyed key i g in
+      let k : key_at a.slots i ≡ key = w.1.keyed key i g in
       let u = unlinked-step x x' y a b i w (ap (get (contents x a)) k ∙ g) (e ∙ ap (remove (contents x a)) (sym k)) f l in (
-        (u.0.0, u.0.1 ∙ ap (λ (q : List ℕ). let s : PartsView = record { index = remove (contents x a) q; lists = deferred_lists y a; arena = b } in s) k),
-        λ j o. subst (λ n. IsInHand (record { index = contents x' b; lists = deferred_lists y b; arena = b }) n) (same_Some i j o) u.1,
+        (u.0.0, u.0.1 ∙ ap (λ (q : List ℕ). parts_of (remove (contents x a) q) (deferred_lists y a) b) k),
+        λ j o. subst (λ n. IsInHand (view x' y b) n) (same_Some i j o) u.1,
       )
 
-  pub given-step : (x : X) (y : DeferredSlots) (a b : ArenaState) (i : ℕ) → (fits_index x a × DeferredFits y a) ×
-      IsParted (record { index = contents x a; lists = deferred_lists y a; arena = a }) →
-      IsInHand (record { index = contents x a; lists = deferred_lists y a; arena = a }) i → b ≡ given_back a i →
-      let r : PartsView = record { index = contents x b; lists = deferred_lists y b; arena = b } in let s :
-      PartsView = record { index = contents x a; lists = deferred_lists y a; arena = b } in
-      ((fits_index x b × DeferredFits y b) × IsParted r) × (r ≡ s)
+  pub given-step : (x : X) (y : DeferredSlots) (a b : ArenaState) (i : ℕ) → Fits x y a → IsInHand (view x y a) i → b ≡ given_back a i →
+      Settles x y b (parts_of (contents x a) (deferred_lists y a) b)
   given-step x y a b i w held e =
-      let h : IsParted (record { index = contents x a; lists = deferred_lists y a; arena = a }) = w.1 in
-      let pt : IsParted (record { index = contents x a; lists = deferred_lists y a; arena = given_back a i }) =
-      parted-given (record { index = contents x a; lists = deferred_lists y a; arena = a }) i h held in
+      let pt = parted-given (view x y a) i w.1 held in
       let ul : indexed (contents x a) a.slots i ≡ 0 = held.unlinked in
       let uq : queued (deferred_lists y a) i ≡ 0 = held.unlisted in
       let nowhere : (j : ℕ) → 0 < indexed (contents x a) a.slots j + queued (deferred_lists y a) j → j ≢ i = (λ j g s.
       let z : 0 < indexed (contents x a) a.slots i + queued (deferred_lists y a) i =
       subst (λ k. 0 < indexed (contents x a) a.slots k + queued (deferred_lists y a) k) s g in absurd
       (omega arith)) in
-      let agree : (own : ℕ → ℕ) → ((j : ℕ) → 0 < own j → (j ≢ i) × IsTaken (given_back a i) j) → SameAt own a (given_back a i) = (λ own g. record {
-        long = refl;
-        key = λ j o. refl;
-        link = λ j o. ap option_flatten (get-set_other a.links i j None (g j o).0);
-        taken = λ j o. (g j o).1;
-      }) in
-      let si = agree (indexed (contents x a) a.slots) (λ j g. (
-        nowhere j (omega arith),
-        standing-taken (record {
-          index = contents x a;
-          lists = deferred_lists y a;
-          arena =
-              given_back a i;
-        }) j pt (omega arith),
-      )) in
-      let sq = agree (queued (deferred_lists y a)) (λ j g. (
-        nowhere j (omega arith),
-        standing-taken (record {
-          index = contents x a;
-          lists = deferred_lists y a;
-          arena =
-              given_back a i;
-        }) j pt (omega arith),
-      )) in
-      let pb = subst (λ (z : ArenaState). IsParted (record { index = contents x a; lists = deferred_lists y a; arena = z })) (sym e) pt in
-      kept-step x y a b w pb (subst (SameAt (indexed (contents x a) a.slots) a) (sym e) si) (subst (SameAt (queued (deferred_lists y a)) a) (sym e) sq)
+      let Kept : ArenaState → Type 0 = λ z. SameAt (indexed (contents x a) a.slots) a z × SameAt (queued (deferred_lists y a)) a z in
+      kept-step x y a b w (subst (λ (z : ArenaState). IsParted (parts_of (contents x a) (deferred_lists y a) z)) (sym e) pt)
+      (subst Kept (sym e) (both-agree a (given_back a i) (contents x a) (deferred_lists y a) pt refl (λ j. refl) (λ j g. refl)
+      (λ j g. ap option_flatten (get-set_other a.links i j None (nowhere j g)))))
 
-  pub written-step : (x : X) (y : DeferredSlots) (a b : ArenaState) (i : ℕ) (value : List ℕ) →
-      (fits_index x a × DeferredFits y a) × IsParted (record {
-        index = contents x a;
-        lists = deferred_lists y a;
-        arena = a;
-      }) →
-      i < length a.slots → b ≡ with_slot_value a i value →
-      let r : PartsView = record { index = contents x b; lists = deferred_lists y b; arena = b } in let s :
-      PartsView = record { index = contents x a; lists = deferred_lists y a; arena = b } in
-      ((fits_index x b × DeferredFits y b) × IsParted r) × (r ≡ s)
+  pub written-step : (x : X) (y : DeferredSlots) (a b : ArenaState) (i : ℕ) (value : List ℕ) → Fits x y a →
+      i < length a.slots → b ≡ with_slot_value a i value → Settles x y b (parts_of (contents x a) (deferred_lists y a) b)
   written-step x y a b i value w in_ e =
-      let h : IsParted (record { index = contents x a; lists = deferred_lists y a; arena = a }) = w.1 in
-      let pt : IsParted (record {
-        index = contents x a;
-        lists = deferred_lists y a;
-        arena =
-            with_slot_value a i value;
-      }) = parted-written
-      (record { index = contents x a; lists = deferred_lists y a; arena = a }) i value h in_ in
-      let agree : (own : ℕ → ℕ) → ((j : ℕ) → 0 < own j → IsTaken (with_slot_value a i value) j) → SameAt own a (with_slot_value a i value) = (λ own g. record {
-        long = length-set a.slots i _;
-        key = λ j o. written-key a.slots i j value in_;
-        link = λ j o. refl;
-        taken = g;
-      }) in
-      let same : (j : ℕ) → indexed (contents x a) (with_slot_value a i value).slots j ≡ indexed (contents x a) a.slots
-      j = λ j. ap (λ k. is_at (get (contents x a) k) j) (written-key a.slots i j value in_) in
-      let si = agree (indexed (contents x a) a.slots) (λ j g.
-      standing-taken (record {
-        index = contents x a;
-        lists = deferred_lists y a;
-        arena =
-            with_slot_value a i value;
-      }) j pt (omega (arith, same j))) in
-      let sq = agree (queued (deferred_lists y a)) (λ j g.
-      standing-taken (record {
-        index = contents x a;
-        lists = deferred_lists y a;
-        arena =
-            with_slot_value a i value;
-      }) j pt (omega arith)) in
-      let pb = subst (λ (z : ArenaState). IsParted (record { index = contents x a; lists = deferred_lists y a; arena = z })) (sym e) pt in
-      kept-step x y a b w pb (subst (SameAt (indexed (contents x a) a.slots) a) (sym e) si) (subst (SameAt (queued (deferred_lists y a)) a) (sym e) sq)
+      let pt = parted-written (view x y a) i value w.1 in_ in
+      let Kept : ArenaState → Type 0 = λ z. SameAt (indexed (contents x a) a.slots) a z × SameAt (queued (deferred_lists y a)) a z in
+      kept-step x y a b w (subst (λ (z : ArenaState). IsParted (parts_of (contents x a) (deferred_lists y a) z)) (sym e) pt)
+      (subst Kept (sym e) (both-agree a (with_slot_value a i value) (contents x a) (deferred_lists y a) pt (length-set a.slots i _)
+      (λ j. ap (λ k. is_at (get (contents x a) k) j) (written-key a.slots i j value in_))
+      (λ j g. written-key a.slots i j value in_) (λ j g. refl)))

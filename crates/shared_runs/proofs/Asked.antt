@@ -26,7 +26,8 @@ use Rattle.effects.specs.declared.region.Region.TheVariants as noted
 use Rattle.state_steps.specs.Steps.{IsInRegion, LooksUp, base_of}
 use Rattle.world_laws.proofs.Asking.{lookup-asked}
 use Rattle.world_laws.proofs.Contents.{by-is, get-range, map-below, touched}
-use Rattle.world_laws.proofs.StandingOwn.{byte-stands, insn-real, operand-stands, register-word}
+use Rattle.world_laws.proofs.StandingOwn.{among}
+use Rattle.world_laws.proofs.Among.{byte-stands, insn-real, operand-stands, register-word}
 use Rattle.world_laws.proofs.Replied as replied
 use Rattle.machine.specs.declared.request.Request.{Request}
 use Rattle.machine.specs.declared.request.Request.TheVariants as requests
@@ -263,9 +264,7 @@ module _ (k : Table) (keeps : IsTable k) (c : Checked) (context : List ℕ) (ms 
         }
 
     register : (q : ℕ) → q ≤ 10 → WordIs region_bases (run.state.regs q) (word_in v q)
-    register q l = register-word c.program c.shapes c.ctx_len some.plan
-        (ready c x.justified some.plan some.closed) c.shapes run v
-        shown q l
+    register q l = register-word (among (ready c x.justified some.plan some.closed) shown) q l
 
     -- a key in the frame
     record KeyAt (word len : ℕ) (key : List ℕ) : Type 0 where
@@ -294,9 +293,7 @@ module _ (k : Table) (keeps : IsTable k) (c : Checked) (context : List ℕ) (ms 
           inside = record { least = omega (arith, ints, w); inside = omega (arith, is, f.0) };
           is = ap (λ at. take len (drop at v.frame)) is
               ∙ argument-bytes region_bases run.state.frame v.frame
-              (byte-stands c.program c.shapes c.ctx_len some.plan
-              (ready c x.justified some.plan some.closed) c.shapes
-              run v s) len at key (omega (arith, f.0, long)) f.1;
+              (byte-stands (among (ready c x.justified some.plan some.closed) s)) len at key (omega (arith, f.0, long)) f.1;
         }
 
     -- a lookup
@@ -507,9 +504,7 @@ module _ (k : Table) (keeps : IsTable k) (c : Checked) (context : List ℕ) (ms 
     })
 
   insn-real-at : (i : Insn) → Known i → FitsInsn i
-  insn-real-at i here = insn-real c.program c.shapes c.ctx_len some.plan
-      (ready c x.justified some.plan some.closed) c.shapes run v
-      shown i here
+  insn-real-at i here = insn-real (among (ready c x.justified some.plan some.closed) shown) i here
 
   abbrev Goal : Request → Type 0
   Goal request = CanAnswer k c context ms v request
@@ -581,9 +576,7 @@ module _ (k : Table) (keeps : IsTable k) (c : Checked) (context : List ℕ) (ms 
       let real = insn-real-at (Store width dst offset src) here in
       subst Goal (same_Some _ request of) (stores-by (Store width dst offset src) here width dst offset
       (operand_value src run.state.regs) (operand_word v src) asked real.0 refl refl e
-      (operand-stands c.program c.shapes c.ctx_len some.plan
-      (ready c x.justified some.plan some.closed) c.shapes run v
-      shown src real.1)
+      (operand-stands (among (ready c x.justified some.plan some.closed) shown) src real.1)
       (store-asked (byte_count width) offset (operand_value src run.state.regs) (run.state.regs dst) asked e))
   by-insn (Call kinds.Kernel imm) here request asked of e =
       let f = first-step (kernel_function_of imm) (λ function. Some (section_asked function)) asked e in

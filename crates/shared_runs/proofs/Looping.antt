@@ -26,8 +26,8 @@ fresh_but_frame c context course w fresh view =
     let e = ap (λ (v : RunView). record v { frame = w.frame }) (view first (record { registers = refl; frame = refl })) in
     subst (λ (rs : List ℕ). record (view_of c context course w) { registers = rs } ≡ record (fresh_view 0 context) { frame = w.frame }) (sym fresh) e
 
-module _ {Seat : Type 0} (k : Table) (IsAt : Seat → Type 0) (mine : Seat → List k.Move) (Goes : Seat → List k.Move → Seat → Type 0)
-    (keeps : IsTable k) (steps : AreSteps k IsAt mine Goes) (c : Checked) (context : List ℕ) (start : Seat) (at_start : IsAt start) where
+module _ {Seat : Type 0} {k : Table} {IsAt : Seat → Type 0} {mine : Seat → List k.Move} {Goes : Seat → List k.Move → Seat → Type 0}
+    (keeps : IsTable k) (steps : AreSteps k IsAt mine Goes) (c : Checked) (context : List ℕ) {start : Seat} (at_start : IsAt start) where
   -- what the loop keeps
   abbrev pub Kept : Seat → Course → Workspace → Type 0
   Kept now course w = IsOn c course × HasComeTo k Goes c context start now (words_of c context course w)

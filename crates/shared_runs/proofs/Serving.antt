@@ -105,8 +105,8 @@ module _ (k : Table) (keeps : IsTable k) (v : RunView) (request : Request) where
       (l.goes_on 0, subst (λ (q : Request). MayGive c v q 0) (sym is) tt)
 
 -- where a servable load or store leads
-module _ (k : Table) (keeps : IsTable k) (small : IsSmall k) (mine : List k.Move) (v : RunView) (request : Request) (address : ℕ)
-    (offset : ℤ) (width : Width) (element place low : ℕ) (s : IsServable k mine v request) (where_it : LeadsThere address offset element place low) where
+module _ {k : Table} (keeps : IsTable k) (small : IsSmall k) {mine : List k.Move} {v : RunView} {request : Request} {address : ℕ}
+    {offset : ℤ} {width : Width} {element place low : ℕ} (s : IsServable k mine v request) (where_it : LeadsThere address offset element place low) where
   pub load-there : request ≡ requests.Load address offset width →
       k.Holds element mine × (element < k.elements) × (place < k.value_words) × (low + byte_count width ≤ 8)
   load-there is =

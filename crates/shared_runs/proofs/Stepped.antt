@@ -5,19 +5,21 @@ use Rattle.machine.proofs.Prelude.{request_of, IsRunOfChecked, CanStep, IsLocalS
 use Rattle.model_laws.proofs.Prelude.{Insn, MapShape}
 use Rattle.plan_laws.proofs.Prelude.{IsClosed, IsVerified, Plan}
 use Rattle.verifier.proofs.Prelude.{Checked, IsJustified, verified_of}
-use Rattle.world_laws.proofs.Prelude.{store_of, IsShownBy, ended_view}
+use Rattle.world_laws.proofs.Prelude.{store_of, IsShownBy, ended_view, region_bases}
 use Rattle.bpf_model.specs.Machine.{moves as moves_run}
 use Rattle.bpf_model.specs.Request.{Request as Asked, asks as asks_of}
 use Rattle.bpf_model.specs.Step.{after as after_insn}
 use Rattle.world_laws.specs.Local as laws
 use Rattle.world_laws.proofs.Codes.{all-get}
-use Rattle.world_laws.proofs.StandingOwn.{Does, IsReadyCode}
+use Rattle.world_laws.proofs.StandingOwn.{IsReadyCode, among}
+use Rattle.world_laws.proofs.Among.{Does}
+use Rattle.world_laws.proofs.OwnMemory.{acts-alone}
 use Rattle.machine.specs.declared.request.Request.{Request}
 use Rattle.machine.specs.declared.request.Local.TheVariants as locals
 use Rattle.machine.proofs.Answering.{stands}
 use Rattle.machine.proofs.AskingSo.{AsksSo, asks-so}
 use Rattle.machine.proofs.StandingLaws.{can_step}
-use Rattle.machine.proofs.Turning.{Acts, AsksFor, Turn, acts-alone, goes-on, turn}
+use Rattle.machine.proofs.Turning.{Acts, AsksFor, Turn, goes-on, turn}
 
 -- what an answer to a step says of the step
 went : (l : laws.LocalStep) (asked : Option Request) (view new : RunView) → IsLocalStep l asked view locals.Moved new → l ≡ laws.Goes new
@@ -81,8 +83,8 @@ module _ (c : Checked) (justified : IsJustified c) where
 
     pub so : (plan : Plan) (closed : IsClosed c.program c.shapes c.ctx_len plan) (i : Insn) (asked : Asked) → Known i
         → asks_of i listed run.state ≡ Some asked
-        → AsksSo c.program c.shapes c.ctx_len plan (ready plan closed) c.shapes run v (all plan closed) i asked
-    so plan closed i asked here e = asks-so c.program c.shapes c.ctx_len plan (ready plan closed) c.shapes run v (all plan closed) i asked here e
+        → AsksSo (ready plan closed) (all plan closed) i asked
+    so plan closed i asked here e = asks-so (ready plan closed) (all plan closed) i asked here e
 
     -- where it asks something, its words wait
     asks-words : (i : Insn) (asked : Asked) → Known i → asks_of i listed run.state ≡ Some asked → laws.local_of i v ≡ laws.Asks
@@ -90,18 +92,18 @@ module _ (c : Checked) (justified : IsJustified c) where
 
     -- the step that its plan promises
     abbrev Turns : Insn → Type 0
-    Turns i = Turn c.program c.shapes c.ctx_len some.plan (ready some.plan some.closed) c.shapes run v shown i
+    Turns i = Turn (ready some.plan some.closed) shown i
 
     turned : (i : Insn) → Known i → Turns i
-    turned i here = turn c.program c.shapes c.ctx_len some.plan (ready some.plan some.closed) c.shapes run v shown i here
+    turned i here = turn (ready some.plan some.closed) shown i here
 
     abbrev Doing : Outcome → laws.LocalStep → Type 0
-    Doing out l = Does c.program c.shapes c.ctx_len some.plan (ready some.plan some.closed) c.shapes run v shown out l
+    Doing out l = Does region_bases v run out l
 
     acted : (i : Insn) (out : Outcome) (l : laws.LocalStep) → Known i → after_insn i (environment run) run.state ≡ Some out →
         laws.local_of i v ≡ l → Doing out l
     acted i out l here e is =
-        subst (Doing out) is (acts-alone c.program c.shapes c.ctx_len some.plan (ready some.plan some.closed) c.shapes run v shown i out here e)
+        subst (Doing out) is (acts-alone (among (ready some.plan some.closed) shown) i out here e)
 
     -- it goes on by itself
     pub record GoesOn (new : RunView) : Type 0 where
@@ -118,7 +120,7 @@ module _ (c : Checked) (justified : IsJustified c) where
       here = here;
       next = next;
       does = e;
-      shows = λ plan closed. goes-on c.program c.shapes c.ctx_len plan (ready plan closed) c.shapes run v (all plan closed) i next new here e is;
+      shows = λ plan closed. goes-on (ready plan closed) (all plan closed) i next new here e is;
     }
     goes-to i (Exits n) new here e is d = absurd d
 

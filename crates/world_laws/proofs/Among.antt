@@ -3,8 +3,8 @@ use Rattle.bpf_model.proofs.Prelude.{◌≡◌, ℕ, ◌+◌, ◌^◌, ◌<◌, 
 use Rattle.bpf_model.proofs.Prelude.{slice_get, slice_index, slice_set, ℤ, pos, negsuc, ◌+ℤ◌, ◌==◌, nat_lt, not, if◌then◌else◌, ints, eq-eqb, ne_eqb}
 use Rattle.bpf_model.proofs.Prelude.{length-set, none-some, same_Some, cond_some, alu, unary, compares, immediate, Run, environment, moves, operand_value}
 use Rattle.bpf_model.proofs.Prelude.{unary_source, computed, decided, null_test, is_zero, FitsOperand, FitsUnary, FitsInsn, State, Outcome, Moves, Exits, put}
-use Rattle.bpf_model.proofs.Prelude.{forward, sets, jumps_to, jumps_by, map_value, after, insn_at, number, RunView, WordIs, map_base, start-insn_at}
-use Rattle.bpf_model.proofs.Prelude.{Section, ByteIs, IsReferenceWord, AreWords}
+use Rattle.bpf_model.proofs.Prelude.{forward, sets, jumps_to, jumps_by, map_value, after, insn_at, number, RunView, WordIs, map_base, start-insn_at, Section}
+use Rattle.bpf_model.proofs.Prelude.{ByteIs, IsReferenceWord, AreWords, FitsSigned, w32}
 use Rattle.model_laws.proofs.Prelude.{REGISTERS, AluOp, Add, Sub, Insn, Alu, Unary, LoadNumber, LoadMap, JumpIf, Exit, Operand, Register}
 use Rattle.model_laws.proofs.Prelude.{Immediate, UnaryOp, Negate, ByteSwap, MoveSigned, Condition, Size, Word64, Value, Nothing, Number, Pointer, Reference}
 use Rattle.model_laws.proofs.Prelude.{Ctx, Frame, MapRef, Elem, IsNear, HoldsValue, FRAME_BYTES, IsNearReference}
@@ -18,7 +18,6 @@ use Rattle.world_laws.proofs.Bytes.{set_cond}
 use Rattle.model_laws.proofs.Computations.{first-step}
 use Rattle.bpf_model.specs.MapState as map_state
 use Rattle.world_laws.proofs.Sure.{IsSure, emptied, emptied_run}
-use Rattle.bpf_model.proofs.Prelude.{FitsSigned, w32}
 
 insn-in : (P : Insn → Type 0) (code : List Insn) (place : ℕ) (j : Insn) →
     ((k : ℕ) (i : Insn) → slice_get code k ≡ Some i → P i) → insn_at code place ≡ Some j → P j
@@ -139,8 +138,8 @@ module _ {code : List Insn} {b : ℕ → ℕ} {store : map_state.Store} {section
   -- a register that the instruction at hand needs
   pub register-fits : (i : Insn) (q : ℕ) → Known i → q ≤ 10 → run.state.regs q ≢ Nothing →
       (HasStep i store sections (emptied_run q run) → ⊥) → word_in v q < 2 ^ 64
-  register-fits i q here l some stuck = value-fits (run.state.regs q) (word_in v q) some (register-word q l) (a.near.regs_near q)
-    (a.numbered q) (a.sure i q here stuck)
+  register-fits i q here l some stuck =
+      value-fits (run.state.regs q) (word_in v q) some (register-word q l) (a.near.regs_near q) (a.numbered q) (a.sure i q here stuck)
 
   -- a register is set
   pub sets-word : (out : Outcome) (slots dst x : ℕ) (u : Value) → dst ≤ 10 → sets slots dst u run.state ≡ Some out → WordIs b u x →

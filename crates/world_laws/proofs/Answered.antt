@@ -133,7 +133,7 @@ base-or (Some e) base = base
 first-slot : IsSlotWord (slot_base 0 0)
 first-slot = record { map = 0; slot = 0; few_maps = omega arith; few_slots = omega arith; is = refl }
 
-unreclaimed : (b : Bool) (x e : Element) → (if b then None else Some x) ≡ Some e → b ≡ false
+pub unreclaimed : (b : Bool) (x e : Element) → (if b then None else Some x) ≡ Some e → b ≡ false
 unreclaimed true x e h = absurd (none-some e h)
 unreclaimed false x e h = refl
 

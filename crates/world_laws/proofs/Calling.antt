@@ -4,6 +4,7 @@ use Rattle.bpf_model.proofs.Prelude.{slice_get, slice_index, slice_set, take, dr
 use Rattle.bpf_model.proofs.Prelude.{length-set, none-some, same_Some, slice_get_within, helper_of, kernel_function_of, ret_word, Element, LooksUp, Loaded}
 use Rattle.bpf_model.proofs.Prelude.{Run, open_sections, moves, returns, returned_value, found_value, frame_bytes, bytes_at, RunRefines, Schedule, ◌>>=◌}
 use Rattle.bpf_model.proofs.Prelude.{reference, MapView, RunView, WorldView, WordIs, element_bases, map_in, slot_base, map_base, frame_base, get-below}
+use Rattle.bpf_model.proofs.Prelude.{AreWords}
 use Rattle.model_laws.proofs.Prelude.{FRAME_BYTES, REGISTERS, Helper, Lookup, Update, Delete, KernelFunction, ReadLock, ReadUnlock, Moved, Call, MapShape}
 use Rattle.model_laws.proofs.Prelude.{Value, Nothing, Number, Pointer, Ctx, Frame, MapRef, Elem, KernelStep, HelperStep, LookupStep, UpdateStep, DeleteStep}
 use Rattle.model_laws.proofs.Prelude.{map_argument, bound_map, key_argument, Matches, with_map, deleted, updated}
@@ -21,7 +22,6 @@ use Rattle.world_laws.proofs.Bytes.{set_cond, argument-bytes}
 use Rattle.world_laws.proofs.Ready.{bases, refines, register-word, byte-stands, moves-to, half-refines}
 use Rattle.world_laws.proofs.Own.{Known, Does}
 use Rattle.world_laws.proofs.Among.{moved-words}
-use Rattle.bpf_model.proofs.Prelude.{AreWords}
 use Rattle.model_laws.proofs.Requests.{of_kind}
 
 word-returned : (bases : ℕ → ℕ) (a b : Bool) (x y : ℕ) (u v : Value) → WordIs bases u x → WordIs bases v y →

@@ -1,11 +1,10 @@
 -- Loads from elements.
-use Rattle.bpf_model.proofs.Prelude.{◌≡◌, ℕ, ◌+◌, refl, ap, ◌∙◌, Some, List, length, inr, false, slice_get, slice_index, ℤ, pos, ◌+ℤ◌}
-use Rattle.bpf_model.proofs.Prelude.{none-some, byte_count, unsigned_width, region_offset, number_at, loaded_signed, Element, accessible}
-use Rattle.bpf_model.proofs.Prelude.{is_reclaimed, open_sections, Run, loaded_from, Schedule, Outcome}
-use Rattle.bpf_model.proofs.Prelude.{RunView, WorldView, value_in, WordIs}
-use Rattle.model_laws.proofs.Prelude.{Load, LoadSigned, Width, SignedWidth, Value, Nothing, Number, Pointer, Ctx, Frame, MapRef, Elem}
-use Rattle.model_laws.proofs.Prelude.{AccessesElement, element_load, IsNear, Location, InSlot, Matches}
-use Rattle.world_laws.proofs.Prelude.{location_of, bytes_of, offset_at, number_from, loaded_word, word_in, insn_step, IsSound, IsRunning}
+use Rattle.bpf_model.proofs.Prelude.{◌≡◌, ℕ, ◌+◌, refl, ap, ◌∙◌, Some, List, length, inr, false, slice_get, slice_index, ℤ, pos, ◌+ℤ◌, none-some, byte_count}
+use Rattle.bpf_model.proofs.Prelude.{unsigned_width, region_offset, number_at, loaded_signed, Element, accessible, is_reclaimed, open_sections, Run}
+use Rattle.bpf_model.proofs.Prelude.{loaded_from, Schedule, Outcome, RunView, WorldView, value_in, WordIs, OutcomeStep}
+use Rattle.model_laws.proofs.Prelude.{Load, LoadSigned, Width, SignedWidth, Value, Nothing, Number, Pointer, Ctx, Frame, MapRef, Elem, AccessesElement}
+use Rattle.model_laws.proofs.Prelude.{element_load, IsNear, Location, InSlot, Matches, Answer}
+use Rattle.world_laws.proofs.Prelude.{location_of, bytes_of, offset_at, number_from, loaded_word, word_in, insn_step, IsSound, IsRunning, Goes, with_word}
 use Rattle.model_laws.proofs.Storing.{accessible-kept}
 use Rattle.model_laws.proofs.Stores.{accessible-born}
 use Rattle.plan_laws.proofs.Elements.{offset_some}
@@ -16,9 +15,6 @@ use Rattle.world_laws.proofs.Shown.{Shown, shown}
 use Rattle.world_laws.proofs.Ready.{bases}
 use Rattle.world_laws.proofs.Own.{Known, Does, insn-real, among, carried}
 use Rattle.world_laws.proofs.Among.{register-word, sets-word}
-use Rattle.world_laws.proofs.Prelude.{Goes, with_word}
-use Rattle.bpf_model.proofs.Prelude.{OutcomeStep}
-use Rattle.model_laws.proofs.Prelude.{Answer}
 use Rattle.model_laws.proofs.Computations.{first-step}
 use Rattle.model_laws.proofs.Requests.{of_kind}
 
@@ -71,8 +67,8 @@ module _ (w : WorldView) (s : Schedule) (m : Matches w s) (sound : IsSound w s) 
       let a = among w s m sound r run v k in
       let x = loaded_word w v (byte_count width) offset (word_in v src) in
       carried w s m sound r run v k i out (Goes (with_word 1 dst x v)) _ answer later here
-      (λ answer later g. of_kind i s.machine.store (open_sections s.machine.runs) run answer s.machine.store later
-      (out, s.machine.store.elements, inr h, refl, g))
+      (λ answer later g.
+      of_kind i s.machine.store (open_sections s.machine.runs) run answer s.machine.store later (out, s.machine.store.elements, inr h, refl, g))
       ends (sets-word a out 1 dst x (Number h.0) real.0 h.2
       (element-word (byte_count width) (word_in v src) offset (run.state.regs src) h.0 (register-word a src real.1) (a.near.regs_near src) h.1)) refl
 
@@ -87,8 +83,8 @@ module _ (w : WorldView) (s : Schedule) (m : Matches w s) (sound : IsSound w s) 
       let wide = byte_count (unsigned_width width) in
       let x = loaded_signed width (loaded_word w v wide offset (word_in v src)) in
       carried w s m sound r run v k i out (Goes (with_word 1 dst x v)) _ answer later here
-      (λ answer later g. of_kind i s.machine.store (open_sections s.machine.runs) run answer s.machine.store later
-      (out, s.machine.store.elements, inr h, refl, g))
+      (λ answer later g.
+      of_kind i s.machine.store (open_sections s.machine.runs) run answer s.machine.store later (out, s.machine.store.elements, inr h, refl, g))
       ends (sets-word a out 1 dst x (Number (loaded_signed width h.0)) real.0 h.2
-      (ap (loaded_signed width)
-      (element-word wide (word_in v src) offset (run.state.regs src) h.0 (register-word a src real.1) (a.near.regs_near src) h.1))) refl
+      (ap (loaded_signed width) (element-word wide (word_in v src) offset (run.state.regs src) h.0 (register-word a src real.1)
+      (a.near.regs_near src) h.1))) refl

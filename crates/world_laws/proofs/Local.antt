@@ -1,17 +1,14 @@
 -- What a run does without its world is what it does in it, and it asks exactly where the machine's run can't act by itself.
-use Rattle.bpf_model.proofs.Prelude.{◌≡◌, ℕ, refl, ap, subst, List, Some, ℤ, ◌+ℤ◌, none-some, byte_count, unsigned_width, loaded_signed, Element}
-use Rattle.bpf_model.proofs.Prelude.{accessible, Loaded, Run, environment, loaded_from, operand_value, Schedule, Outcome, after}
-use Rattle.bpf_model.proofs.Prelude.{RunView, WorldView, WordIs}
+use Rattle.bpf_model.proofs.Prelude.{◌≡◌, ℕ, refl, ap, subst, List, Some, ℤ, ◌+ℤ◌, none-some, byte_count, unsigned_width, loaded_signed, Element, accessible}
+use Rattle.bpf_model.proofs.Prelude.{Loaded, Run, environment, loaded_from, operand_value, Schedule, Outcome, after, RunView, WorldView, WordIs, Moves, Exits}
 use Rattle.model_laws.proofs.Prelude.{Insn, Call, Load, LoadSigned, Store, Value, Nothing, Number, Pointer, Ctx, Frame, MapRef, Elem, AccessesElement}
 use Rattle.model_laws.proofs.Prelude.{element_load, IsNear, Location, InContext, InFrame, AtMap, InSlot, Matches}
 use Rattle.world_laws.proofs.Prelude.{Asks, local_load, local_store, local_of, Agrees, AsksNothing, location_of, bytes_of, offset_at, number_from, word_in}
-use Rattle.world_laws.proofs.Prelude.{operand_word, with_word, moves_on, stored_at, insn_step, IsSound, IsRunning}
+use Rattle.world_laws.proofs.Prelude.{operand_word, with_word, moves_on, stored_at, insn_step, IsSound, IsRunning, LocalStep, Goes, Ends}
 use Rattle.world_laws.proofs.Ready.{bases, near, register-word}
 use Rattle.world_laws.proofs.Own.{Known, insn-real, among}
 use Rattle.world_laws.proofs.Among.{Does}
 use Rattle.world_laws.proofs.OwnMemory.{acts-alone}
-use Rattle.bpf_model.proofs.Prelude.{Moves, Exits}
-use Rattle.world_laws.proofs.Prelude.{LocalStep, Goes, Ends}
 use Rattle.world_laws.proofs.Loading.{element-located}
 use Rattle.world_laws.proofs.Storing.{element-known}
 use Rattle.model_laws.proofs.Computations.{first-step}

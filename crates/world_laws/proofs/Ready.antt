@@ -1,10 +1,8 @@
 -- A run before its step: what its words stand for, and what the instruction at hand needs.
-use Rattle.bpf_model.proofs.Prelude.{◌≡◌, ℕ, ◌<◌, refl, ap, subst, ◌∙◌, arith, Some, List, length, ◌≤◌, slice_get, slice_index}
-use Rattle.bpf_model.proofs.Prelude.{Element, Loaded, Run, open_sections, moves, InsnStep}
-use Rattle.bpf_model.proofs.Prelude.{Store, RunRefines, RunSlotRefines, RefinesSchedule, Schedule, State, insn_at, RunView, WorldView}
-use Rattle.bpf_model.proofs.Prelude.{WordIs, ByteIs, element_bases, flattened}
-use Rattle.model_laws.proofs.Prelude.{FRAME_BYTES, REGISTERS, Insn, Answer, Moved}
-use Rattle.model_laws.proofs.Prelude.{Matches, Simulates, half, with_run}
+use Rattle.bpf_model.proofs.Prelude.{◌≡◌, ℕ, ◌<◌, refl, ap, subst, ◌∙◌, arith, Some, List, length, ◌≤◌, slice_get, slice_index, Element, Loaded, Run}
+use Rattle.bpf_model.proofs.Prelude.{open_sections, moves, InsnStep, Store, RunRefines, RunSlotRefines, RefinesSchedule, Schedule, State, insn_at, RunView}
+use Rattle.bpf_model.proofs.Prelude.{WorldView, WordIs, ByteIs, element_bases, flattened}
+use Rattle.model_laws.proofs.Prelude.{FRAME_BYTES, REGISTERS, Insn, Answer, Moved, Matches, Simulates, half, with_run}
 use Rattle.plan_laws.proofs.Prelude.{AreNear}
 use Rattle.world_laws.proofs.Prelude.{word_in, moved_view, IsSound, IsRunning}
 use Rattle.bpf_model.specs.declared.event.Event.TheVariants as events

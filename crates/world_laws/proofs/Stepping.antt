@@ -2,9 +2,9 @@
 use Rattle.bpf_model.proofs.Prelude.{◌≡◌, ℕ, List, Option, Some, None, refl, sym, ap, subst, ◌∙◌, inl, inr, slice_get, none-some, helper_of}
 use Rattle.bpf_model.proofs.Prelude.{kernel_function_of, Element, if_ended, Loaded, Run, environment, open_sections, OutcomeStep, InsnStep, Schedule, Outcome}
 use Rattle.bpf_model.proofs.Prelude.{after, insn_at, RunView, WorldView, flattened, run-behind, option_flatten}
-use Rattle.model_laws.proofs.Prelude.{Answer, Event, EventRefusal, Insn, Call, Load}
-use Rattle.model_laws.proofs.Prelude.{LoadSigned, Store, StepsByKind, AccessesElement, Acts, Matches, Simulates, step_refused, step_by, reaction}
-use Rattle.world_laws.proofs.Prelude.{insn_step, step_at, step_in, run_step_of, word_step, or_step, full_reaction, IsSound, IsRunning}
+use Rattle.model_laws.proofs.Prelude.{Answer, Event, EventRefusal, Insn, Call, Load, LoadSigned, Store, StepsByKind, AccessesElement, Acts, Matches}
+use Rattle.model_laws.proofs.Prelude.{Simulates, step_refused, step_by, reaction}
+use Rattle.world_laws.proofs.Prelude.{insn_step, step_at, step_in, run_step_of, word_step, or_step, full_reaction, IsSound, IsRunning, local_of}
 use Rattle.bpf_model.specs.declared.event.Event.TheVariants as events
 use Rattle.bpf_model.specs.declared.insn.CallKind.TheVariants as kinds
 use Rattle.bpf_model.specs.MapState as map_state
@@ -14,7 +14,6 @@ use Rattle.world_laws.proofs.Ready.{refines}
 use Rattle.world_laws.proofs.Own.{among, carried, alone-step}
 use Rattle.world_laws.proofs.OwnMemory.{acts-alone}
 use Rattle.world_laws.proofs.Local.{local_agrees}
-use Rattle.world_laws.proofs.Prelude.{local_of}
 use Rattle.world_laws.proofs.Loading.{element-load-simulates, element-load-signed-simulates}
 use Rattle.world_laws.proofs.Storing.{element-store-simulates}
 use Rattle.world_laws.proofs.Calling.{kernel-simulates, helper-simulates}

@@ -3,124 +3,77 @@ use Rattle.shared_runs.proofs.running.finish.Goals as goal
 
 pub steps-init : goal.steps-init
 steps-init g c =
-    let t = g.T.ServesRuns in
-    let w = c.args.words.now in
-    has-started (t.table w) (t.IsAt w) (t.mine w) (t.Goes w) c.is_table.ensures.table c.is_table.ensures.steps
-    c.args.verified.now c.args.context.now c.args.seat.now c.requires.at
-    c.start-course.result c.args.workspace.now c.requires.small c.program-program.ensures.justified c.requires.maps c.requires.whole
-    c.requires.context c.are_bytes.ensures c.start-course.ensures.on c.requires.fresh c.requires.cells
-    (c.start-course.ensures.view c.args.context.now)
+    has-started c.is_table.ensures.table c.is_table.ensures.steps c.args.verified.now c.args.context.now c.requires.at c.start-course.result
+    c.args.workspace.now c.requires.small c.program-program.ensures.justified c.requires.maps c.requires.whole c.requires.context c.are_bytes.ensures
+    c.start-course.ensures.on c.requires.fresh c.requires.cells (c.start-course.ensures.view c.args.context.now)
 
 pub step-requires-clause-on : goal.step-requires-clause-on
-step-requires-clause-on g c =
-    let t = g.T.ServesRuns in
-    let w = c.args.words.now in
-    c.steps.invariant.0
+step-requires-clause-on g c = c.steps.invariant.0
 
 pub step-requires-clause-stands : goal.step-requires-clause-stands
 step-requires-clause-stands g c =
-    let t = g.T.ServesRuns in
-    let w = c.args.words.now in
-    stands (t.table w) (t.IsAt w) (t.mine w) (t.Goes w) c.is_table.ensures.table c.is_table.ensures.steps
-    c.args.verified.now c.args.context.now c.args.seat.now c.requires.at
-    c.steps.seat c.steps.course c.steps.workspace c.requires.outside c.steps.invariant
+    stands c.is_table.ensures.table c.is_table.ensures.steps c.args.verified.now c.args.context.now c.requires.at c.steps.seat c.steps.course
+    c.steps.workspace c.requires.outside c.steps.invariant
 
 pub steps-smaller-in-Moved : goal.steps-smaller-in-Moved
 steps-smaller-in-Moved g c =
-    let t = g.T.ServesRuns in
-    let w = c.args.words.now in
-    (moved-on (t.table w) (t.IsAt w) (t.mine w) (t.Goes w) c.is_table.ensures.table c.is_table.ensures.steps
-    c.args.verified.now c.args.context.now c.args.seat.now c.requires.at
-    c.steps.seat c.steps.course c.steps.workspace c.requires.outside c.steps.invariant c.step.new.self c.step.new.workspace c.step.ensures.on
-    c.in-Moved.ensures.step).1
+    (moved-on c.is_table.ensures.table c.is_table.ensures.steps c.args.verified.now c.args.context.now c.requires.at c.steps.seat c.steps.course
+    c.steps.workspace c.requires.outside c.steps.invariant c.step.new.self c.step.new.workspace c.step.ensures.on c.in-Moved.ensures.step).1
 
 pub steps-preserved-in-Moved : goal.steps-preserved-in-Moved
 steps-preserved-in-Moved g c =
-    let t = g.T.ServesRuns in
-    let w = c.args.words.now in
-    (moved-on (t.table w) (t.IsAt w) (t.mine w) (t.Goes w) c.is_table.ensures.table c.is_table.ensures.steps
-    c.args.verified.now c.args.context.now c.args.seat.now c.requires.at
-    c.steps.seat c.steps.course c.steps.workspace c.requires.outside c.steps.invariant c.step.new.self c.step.new.workspace c.step.ensures.on
-    c.in-Moved.ensures.step).0
+    (moved-on c.is_table.ensures.table c.is_table.ensures.steps c.args.verified.now c.args.context.now c.requires.at c.steps.seat c.steps.course
+    c.steps.workspace c.requires.outside c.steps.invariant c.step.new.self c.step.new.workspace c.step.ensures.on c.in-Moved.ensures.step).0
 
 pub serve-word-requires-clause-at : goal.serve-word-requires-clause-at
 serve-word-requires-clause-at g c =
-    let t = g.T.ServesRuns in
-    let w = c.args.words.now in
-    at-now (t.table w) (t.IsAt w) (t.mine w) (t.Goes w) c.is_table.ensures.table c.is_table.ensures.steps
-    c.args.verified.now c.args.context.now c.args.seat.now c.requires.at
-    c.steps.seat c.steps.course c.steps.workspace c.requires.outside c.steps.invariant
+    at-now c.is_table.ensures.table c.is_table.ensures.steps c.args.verified.now c.args.context.now c.requires.at c.steps.seat c.steps.course
+    c.steps.workspace c.requires.outside c.steps.invariant
 
 pub serve-word-requires-clause-section : goal.serve-word-requires-clause-section
 serve-word-requires-clause-section g c =
-    let t = g.T.ServesRuns in
-    let w = c.args.words.now in
-    section (t.table w) (t.IsAt w) (t.mine w) (t.Goes w) c.is_table.ensures.table c.is_table.ensures.steps
-    c.args.verified.now c.args.context.now c.args.seat.now c.requires.at
-    c.steps.seat c.steps.course c.steps.workspace c.requires.outside c.steps.invariant c.step.new.self c.step.new.workspace c.step.ensures.on
-    c.in-Shared.request c.in-Shared.ensures.step c.depth.result c.depth.ensures
+    section c.is_table.ensures.table c.is_table.ensures.steps c.args.verified.now c.args.context.now c.requires.at c.steps.seat c.steps.course
+    c.steps.workspace c.requires.outside c.steps.invariant c.step.new.self c.step.new.workspace c.step.ensures.on c.in-Shared.request
+    c.in-Shared.ensures.step c.depth.result c.depth.ensures
 
 pub serve-word-requires-clause-can : goal.serve-word-requires-clause-can
 serve-word-requires-clause-can g c =
-    let t = g.T.ServesRuns in
-    let w = c.args.words.now in
-    servable (t.table w) (t.IsAt w) (t.mine w) (t.Goes w) c.is_table.ensures.table c.is_table.ensures.steps
-    c.args.verified.now c.args.context.now c.args.seat.now c.requires.at
-    c.steps.seat c.steps.course c.steps.workspace c.requires.outside c.steps.invariant c.step.new.self c.step.new.workspace c.step.ensures.on
-    c.in-Shared.request c.in-Shared.ensures.step c.depth.result c.depth.ensures
+    servable c.is_table.ensures.table c.is_table.ensures.steps c.args.verified.now c.args.context.now c.requires.at c.steps.seat c.steps.course
+    c.steps.workspace c.requires.outside c.steps.invariant c.step.new.self c.step.new.workspace c.step.ensures.on c.in-Shared.request
+    c.in-Shared.ensures.step c.depth.result c.depth.ensures
 
 pub resume-requires-clause-on : goal.resume-requires-clause-on
-resume-requires-clause-on g c =
-    let t = g.T.ServesRuns in
-    let w = c.args.words.now in
-    c.step.ensures.on
+resume-requires-clause-on g c = c.step.ensures.on
 
 pub resume-requires-clause-answered : goal.resume-requires-clause-answered
 resume-requires-clause-answered g c =
-    let t = g.T.ServesRuns in
-    let w = c.args.words.now in
-    answered (t.table w) (t.IsAt w) (t.mine w) (t.Goes w) c.is_table.ensures.table c.is_table.ensures.steps
-    c.args.verified.now c.args.context.now c.args.seat.now c.requires.at
-    c.steps.seat c.steps.course c.steps.workspace c.requires.outside c.steps.invariant c.step.new.self c.step.new.workspace c.step.ensures.on
-    c.in-Shared.request c.in-Shared.ensures.step c.depth.result c.depth.ensures
-    c.serve-word.ensures.0 c.serve-word.result c.serve-word.ensures.2 c.in-Shared.ensures.stands
+    answered c.is_table.ensures.table c.is_table.ensures.steps c.args.verified.now c.args.context.now c.requires.at c.steps.seat c.steps.course
+    c.steps.workspace c.requires.outside c.steps.invariant c.step.new.self c.step.new.workspace c.step.ensures.on c.in-Shared.request
+    c.in-Shared.ensures.step c.depth.result c.depth.ensures c.serve-word.ensures.0 c.serve-word.result c.serve-word.ensures.2
+    c.in-Shared.ensures.stands
 
 pub steps-smaller : goal.steps-smaller
 steps-smaller g c =
-    let t = g.T.ServesRuns in
-    let w = c.args.words.now in
-    (resumed-on (t.table w) (t.IsAt w) (t.mine w) (t.Goes w) c.is_table.ensures.table c.is_table.ensures.steps
-    c.args.verified.now c.args.context.now c.args.seat.now c.requires.at
-    c.steps.seat c.steps.course c.steps.workspace c.requires.outside c.steps.invariant c.step.new.self c.step.new.workspace c.step.ensures.on
-    c.in-Shared.request c.in-Shared.ensures.step c.depth.result c.depth.ensures
-    c.serve-word.ensures.0 c.serve-word.result c.serve-word.ensures.2
-    c.serve-word.new.seat c.resume.new.self c.resume.new.workspace c.serve-word.ensures.1 c.resume.ensures.on c.resume.ensures.view).1
+    (resumed-on c.is_table.ensures.table c.is_table.ensures.steps c.args.verified.now c.args.context.now c.requires.at c.steps.seat c.steps.course
+    c.steps.workspace c.requires.outside c.steps.invariant c.step.new.self c.step.new.workspace c.step.ensures.on c.in-Shared.request
+    c.in-Shared.ensures.step c.depth.result c.depth.ensures c.serve-word.ensures.0 c.serve-word.result c.serve-word.ensures.2 c.serve-word.new.seat
+    c.resume.new.self c.resume.new.workspace c.serve-word.ensures.1 c.resume.ensures.on c.resume.ensures.view).1
 
 pub steps-preserved : goal.steps-preserved
 steps-preserved g c =
-    let t = g.T.ServesRuns in
-    let w = c.args.words.now in
-    (resumed-on (t.table w) (t.IsAt w) (t.mine w) (t.Goes w) c.is_table.ensures.table c.is_table.ensures.steps
-    c.args.verified.now c.args.context.now c.args.seat.now c.requires.at
-    c.steps.seat c.steps.course c.steps.workspace c.requires.outside c.steps.invariant c.step.new.self c.step.new.workspace c.step.ensures.on
-    c.in-Shared.request c.in-Shared.ensures.step c.depth.result c.depth.ensures
-    c.serve-word.ensures.0 c.serve-word.result c.serve-word.ensures.2
-    c.serve-word.new.seat c.resume.new.self c.resume.new.workspace c.serve-word.ensures.1 c.resume.ensures.on c.resume.ensures.view).0
+    (resumed-on c.is_table.ensures.table c.is_table.ensures.steps c.args.verified.now c.args.context.now c.requires.at c.steps.seat c.steps.course
+    c.steps.workspace c.requires.outside c.steps.invariant c.step.new.self c.step.new.workspace c.step.ensures.on c.in-Shared.request
+    c.in-Shared.ensures.step c.depth.result c.depth.ensures c.serve-word.ensures.0 c.serve-word.result c.serve-word.ensures.2 c.serve-word.new.seat
+    c.resume.new.self c.resume.new.workspace c.serve-word.ensures.1 c.resume.ensures.on c.resume.ensures.view).0
 
 pub returns-in-Exit-clause-runs : goal.returns-in-Exit-clause-runs
 returns-in-Exit-clause-runs g c =
-    let t = g.T.ServesRuns in
-    let w = c.args.words.now in
-    (exited (t.table w) (t.IsAt w) (t.mine w) (t.Goes w) c.is_table.ensures.table c.is_table.ensures.steps
-    c.args.verified.now c.args.context.now c.args.seat.now c.requires.at
-    c.steps.seat c.steps.course c.steps.workspace c.requires.outside c.steps.invariant c.step.new.self c.step.new.workspace c.step.ensures.on
-    c.in-Exit.value c.in-Exit.ensures.step c.in-Exit.ensures.stands).0
+    (exited c.is_table.ensures.table c.is_table.ensures.steps c.args.verified.now c.args.context.now c.requires.at c.steps.seat c.steps.course
+    c.steps.workspace c.requires.outside c.steps.invariant c.step.new.self c.step.new.workspace c.step.ensures.on c.in-Exit.value
+    c.in-Exit.ensures.step c.in-Exit.ensures.stands).0
 
 pub returns-in-Exit-clause-outside : goal.returns-in-Exit-clause-outside
 returns-in-Exit-clause-outside g c =
-    let t = g.T.ServesRuns in
-    let w = c.args.words.now in
-    (exited (t.table w) (t.IsAt w) (t.mine w) (t.Goes w) c.is_table.ensures.table c.is_table.ensures.steps
-    c.args.verified.now c.args.context.now c.args.seat.now c.requires.at
-    c.steps.seat c.steps.course c.steps.workspace c.requires.outside c.steps.invariant c.step.new.self c.step.new.workspace c.step.ensures.on
-    c.in-Exit.value c.in-Exit.ensures.step c.in-Exit.ensures.stands).1
+    (exited c.is_table.ensures.table c.is_table.ensures.steps c.args.verified.now c.args.context.now c.requires.at c.steps.seat c.steps.course
+    c.steps.workspace c.requires.outside c.steps.invariant c.step.new.self c.step.new.workspace c.step.ensures.on c.in-Exit.value
+    c.in-Exit.ensures.step c.in-Exit.ensures.stands).1

@@ -12,85 +12,43 @@ pub load-word-requires-clause-held : goal.load-word-requires-clause-held
 load-word-requires-clause-held g c =
     let f : SFits w16 c.in-Load.offset = search rules in
     let where_it = simp to_z-of_z at c.value_word-at.ensures in
-    let t = g.T.ServesRuns in
-    let w = c.args.words.now in
-    let at = c.value_word-at.result in
-    let h = load-there (t.table w) c.is_table.ensures.table c.requires.small (t.mine w c.args.seat.now) (asking c.args.workspace.now c.args.depth
-    c.requires.can.0) c.args.request
-    c.in-Load.address c.in-Load.offset c.in-Load.width at.element at.place at.low c.requires.can.1 where_it c.in-Load.is in
-    h.0
+    (load-there c.is_table.ensures.table c.requires.small c.requires.can.1 where_it c.in-Load.is).0
 
 pub load-word-requires-clause-element : goal.load-word-requires-clause-element
 load-word-requires-clause-element g c =
     let f : SFits w16 c.in-Load.offset = search rules in
     let where_it = simp to_z-of_z at c.value_word-at.ensures in
-    let t = g.T.ServesRuns in
-    let w = c.args.words.now in
-    let at = c.value_word-at.result in
-    let h = load-there (t.table w) c.is_table.ensures.table c.requires.small (t.mine w c.args.seat.now) (asking c.args.workspace.now c.args.depth
-    c.requires.can.0) c.args.request
-    c.in-Load.address c.in-Load.offset c.in-Load.width at.element at.place at.low c.requires.can.1 where_it c.in-Load.is in
-    h.1
+    (load-there c.is_table.ensures.table c.requires.small c.requires.can.1 where_it c.in-Load.is).1
 
 pub load-word-requires-clause-place : goal.load-word-requires-clause-place
 load-word-requires-clause-place g c =
     let f : SFits w16 c.in-Load.offset = search rules in
     let where_it = simp to_z-of_z at c.value_word-at.ensures in
-    let t = g.T.ServesRuns in
-    let w = c.args.words.now in
-    let at = c.value_word-at.result in
-    let h = load-there (t.table w) c.is_table.ensures.table c.requires.small (t.mine w c.args.seat.now) (asking c.args.workspace.now c.args.depth
-    c.requires.can.0) c.args.request
-    c.in-Load.address c.in-Load.offset c.in-Load.width at.element at.place at.low c.requires.can.1 where_it c.in-Load.is in
-    h.2
+    (load-there c.is_table.ensures.table c.requires.small c.requires.can.1 where_it c.in-Load.is).2
 
 pub part_of_word-requires : goal.part_of_word-requires
 part_of_word-requires g c =
     let f : SFits w16 c.in-Load.offset = search rules in
     let where_it = simp to_z-of_z at c.value_word-at.ensures in
-    let t = g.T.ServesRuns in
-    let w = c.args.words.now in
-    let at = c.value_word-at.result in
-    let h = load-there (t.table w) c.is_table.ensures.table c.requires.small (t.mine w c.args.seat.now) (asking c.args.workspace.now c.args.depth
-    c.requires.can.0) c.args.request
-    c.in-Load.address c.in-Load.offset c.in-Load.width at.element at.place at.low c.requires.can.1 where_it c.in-Load.is in
-    record { whole = h.3 }
+    record { whole = (load-there c.is_table.ensures.table c.requires.small c.requires.can.1 where_it c.in-Load.is).3 }
 
 pub store-requires-clause-held : goal.store-requires-clause-held
 store-requires-clause-held g c =
     let f : SFits w16 c.in-Store.offset = search rules in
     let where_it = simp to_z-of_z at c.value_word-at-in-Store.ensures in
-    let t = g.T.ServesRuns in
-    let w = c.args.words.now in
-    let at = c.value_word-at-in-Store.result in
-    let h = store-there (t.table w) c.is_table.ensures.table c.requires.small (t.mine w c.args.seat.now) (asking c.args.workspace.now c.args.depth
-    c.requires.can.0) c.args.request
-    c.in-Store.address c.in-Store.offset c.in-Store.width at.element at.place at.low c.requires.can.1 where_it c.in-Store.number c.in-Store.is in
-    h.0
+    (store-there c.is_table.ensures.table c.requires.small c.requires.can.1 where_it c.in-Store.number c.in-Store.is).0
 
 pub store-requires-clause-element : goal.store-requires-clause-element
 store-requires-clause-element g c =
     let f : SFits w16 c.in-Store.offset = search rules in
     let where_it = simp to_z-of_z at c.value_word-at-in-Store.ensures in
-    let t = g.T.ServesRuns in
-    let w = c.args.words.now in
-    let at = c.value_word-at-in-Store.result in
-    let h = store-there (t.table w) c.is_table.ensures.table c.requires.small (t.mine w c.args.seat.now) (asking c.args.workspace.now c.args.depth
-    c.requires.can.0) c.args.request
-    c.in-Store.address c.in-Store.offset c.in-Store.width at.element at.place at.low c.requires.can.1 where_it c.in-Store.number c.in-Store.is in
-    h.1
+    (store-there c.is_table.ensures.table c.requires.small c.requires.can.1 where_it c.in-Store.number c.in-Store.is).1
 
 pub store-requires-clause-place : goal.store-requires-clause-place
 store-requires-clause-place g c =
     let f : SFits w16 c.in-Store.offset = search rules in
     let where_it = simp to_z-of_z at c.value_word-at-in-Store.ensures in
-    let t = g.T.ServesRuns in
-    let w = c.args.words.now in
-    let at = c.value_word-at-in-Store.result in
-    let h = store-there (t.table w) c.is_table.ensures.table c.requires.small (t.mine w c.args.seat.now) (asking c.args.workspace.now c.args.depth
-    c.requires.can.0) c.args.request
-    c.in-Store.address c.in-Store.offset c.in-Store.width at.element at.place at.low c.requires.can.1 where_it c.in-Store.number c.in-Store.is in
-    h.2
+    (store-there c.is_table.ensures.table c.requires.small c.requires.can.1 where_it c.in-Store.number c.in-Store.is).2
 
 pub returns-in-Load : goal.returns-in-Load
 returns-in-Load g c =
