@@ -2,12 +2,9 @@
 #![tactic(auto)]
 
 mod explain;
-mod filled;
-mod hints;
 mod naming;
 mod other_names;
-mod written;
 
 pub use explain::explain_line;
-pub use hints::NO_HEADING;
 pub use naming::explain_name;
+pub use other_names::NO_HEADING;

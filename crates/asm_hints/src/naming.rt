@@ -1,77 +1,83 @@
-//! What is wrong with the names of a line, in words for people.
+//! Words of a line, how they are shown, and what is wrong with its names.
 
-use crate::filled::filled;
-use crate::hints::{mark_words, shortened};
-use asm_source::{SourceFault, Tokens, begins_word, is_constant, label_in};
+use asm_source::{SourceFault, number_in};
 use std::alloc::{AllocError, Global};
-use std::str;
-use text_likeness::Filling;
 
-/// A token as text.
-pub(crate) fn text_of(token: &[u8]) -> &str {
-    str::from_utf8(token).unwrap_or("")
-}
+/// How much of a word is shown.
+const SHOWN_CHARACTERS: usize = 40;
 
-/// The word to which a line gives a meaning.
-fn given_in(line: &str) -> &str {
-    let mut tokens = Tokens::new(line.as_bytes());
-    let first = tokens.next().unwrap_or(&[]);
-    if is_constant(first) {
-        return text_of(tokens.next().unwrap_or(&[]));
-    }
-    text_of(label_in(first).unwrap_or(first))
-}
-
-/// The last word of a line.
-fn last_in(line: &str) -> &str {
-    let mut tokens = Tokens::new(line.as_bytes());
-    let mut last: &[u8] = &[];
-    for _ in 0..line.len() {
-        match tokens.next() {
-            Some(token) if begins_word(token) => last = token,
-            Some(_) => {}
-            None => return text_of(last),
+/// A word in quotes: of a long one its first characters, and `..`.
+pub(crate) fn quoted(alloc: Global, word: &str) -> Result<String, AllocError> {
+    match word.char_indices().nth(SHOWN_CHARACTERS) {
+        Some((end, _)) => {
+            let first = word.get(..end).unwrap_or("");
+            format!(in alloc; "`{first}..`")
         }
+        None => format!(in alloc; "`{word}`"),
     }
-    text_of(last)
+}
+
+/// Whether a character parts the words of a line.
+pub(crate) fn parts_words(character: char) -> bool {
+    " \t\r,[]+-".contains(character)
+}
+
+/// What is said of a word with which other languages begin a comment, or mark a number.
+fn mark_words(word: &str) -> Option<&'static str> {
+    match word.strip_prefix('#') {
+        Some(rest) if number_in(rest.as_bytes()).is_some() => Some("a number has no `#` before it"),
+        Some(_) => Some("`#` begins no comment: a comment begins with `;`"),
+        None if word.contains("//") || word.starts_with("/*") => {
+            Some("`/` begins no comment: a comment begins with `;`")
+        }
+        None => None,
+    }
 }
 
 /// What is said of a line that has a comment of another language.
-fn comment_in(line: &str) -> Option<&'static str> {
-    let mut tokens = Tokens::new(line.as_bytes());
-    for _ in 0..line.len() {
-        let words = mark_words(text_of(tokens.next()?));
-        if words.is_some() {
-            return words;
-        }
-    }
-    None
+pub(crate) fn comment_words(line: &str) -> Option<&'static str> {
+    let (line, _) = line.split_once(';').unwrap_or((line, ""));
+    line.split_ascii_whitespace()
+        .find_map(|word| mark_words(word))
 }
 
-/// What is wrong with a word that is not named, or with a line that is to name a number.
-fn unnamed_words(alloc: Global, fault: &SourceFault, line: &str) -> Result<String, AllocError> {
-    if let Some(words) = comment_in(line) {
-        return String::from_str(alloc, words);
-    }
-    let word = shortened(alloc, last_in(line))?;
-    let pattern = match fault {
-        SourceFault::UnknownLabel(_) => "no line begins with the label `{}`",
-        SourceFault::UnknownMap(_) => "no map above `code` has the name `{}`",
-        _ => "behind .equ stand a name and a number below 2^64, as in `.equ SIZE 16`",
+/// The word to which a line gives a meaning, and its last word.
+fn names_in(line: &str) -> (&str, &str) {
+    let (front, _) = line.split_once(';').unwrap_or((line, ""));
+    let mut words = front
+        .split(|character: char| parts_words(character))
+        .filter(|word| !word.is_empty());
+    let first = words.next().unwrap_or("");
+    let given = if first == ".equ" {
+        words.next().unwrap_or("")
+    } else {
+        first.strip_suffix(':').unwrap_or(first)
     };
-    filled(alloc, pattern, &[Filling::Text(word.as_str())])
+    (given, words.last().unwrap_or(given))
 }
 
 /// What is wrong with the names of a line, which has this fault, in words for people. What they say is no part of a contract.
 pub fn explain_name(alloc: Global, fault: &SourceFault, line: &str) -> Result<String, AllocError> {
-    let pattern = match fault {
-        SourceFault::BadName(_) => {
-            "`{}` is no name, which begins with an ASCII letter, `_` or `.` and is no register"
-        }
-        SourceFault::NameTwice(_) => "the name `{}` has a meaning by a line above",
-        SourceFault::Memory => "out of memory",
-        _ => return unnamed_words(alloc, fault, line),
-    };
-    let word = shortened(alloc, given_in(line))?;
-    filled(alloc, pattern, &[Filling::Text(word.as_str())])
+    let (given, last) = names_in(line);
+    let (given, last) = (quoted(alloc, given)?, quoted(alloc, last)?);
+    match (fault, comment_words(line)) {
+        (SourceFault::Memory, _) => String::from_str(alloc, "out of memory"),
+        (SourceFault::BadName(_), _) => format!(in alloc;
+            "{given} is no name, which begins with an ASCII letter, `_` or `.` and is no register"
+        ),
+        (SourceFault::NameTwice(_), _) => format!(in alloc;
+            "the name {given} has a meaning by a line above"
+        ),
+        (_, Some(words)) => String::from_str(alloc, words),
+        (SourceFault::UnknownLabel(_), None) => format!(in alloc;
+            "no line begins with the label {last}"
+        ),
+        (SourceFault::UnknownMap(_), None) => format!(in alloc;
+            "no map above `code` has the name {last}"
+        ),
+        (SourceFault::BadConstant(_), None) => String::from_str(
+            alloc,
+            "behind .equ stand a name and a number below 2^64, as in `.equ SIZE 16`",
+        ),
+    }
 }

@@ -1,177 +1,129 @@
-//! The instruction that is meant by a word of other assemblers.
+//! What helps where no instruction has a name.
 
-use crate::filled::filled;
-use disasm::Mnemonic;
+use crate::naming::quoted;
+use asm_source::is_register;
+use disasm::MNEMONICS;
 use std::alloc::{AllocError, Global};
-use text_likeness::{Filling, mnemonic_named};
+use strsim::jaro_winkler;
+use text_likeness::{is_slot, mnemonic_named};
 
-/// In each line a name of another assembler, and the mnemonic.
+/// In each line names of other assemblers, and behind `: ` the mnemonic.
 const OTHER_NAMES: &str = "\
-    jmp ja\n\
-    goto ja\n\
-    b ja\n\
-    br ja\n\
-    ret exit\n\
-    return exit\n\
-    jz jeq\n\
-    je jeq\n\
-    beq jeq\n\
-    jnz jne\n\
-    bne jne\n\
-    jae jge\n\
-    jnb jge\n\
-    bgeu jge\n\
-    jna jle\n\
-    jbe jle\n\
-    bleu jle\n\
-    jb jlt\n\
-    jnae jlt\n\
-    bltu jlt\n\
-    jnbe jgt\n\
-    bgtu jgt\n\
-    shl lsh64\n\
-    lsl lsh64\n\
-    sll lsh64\n\
-    shl64 lsh64\n\
-    shl32 lsh32\n\
-    shr rsh64\n\
-    lsr rsh64\n\
-    srl rsh64\n\
-    shr64 rsh64\n\
-    shr32 rsh32\n\
-    sar arsh64\n\
-    asr arsh64\n\
-    sra arsh64\n\
-    sar64 arsh64\n\
-    sar32 arsh32\n\
-    ldb ldxb\n\
-    ldh ldxh\n\
-    ldw ldxw\n\
-    ldd ldxdw\n\
-    ldq ldxdw\n\
-    ldxd ldxdw\n\
-    ldxq ldxdw\n\
-    ldx64 ldxdw\n\
-    ldxu64 ldxdw\n\
-    std stdw\n\
-    stq stdw\n\
-    st64 stdw\n\
-    stxd stxdw\n\
-    stxq stxdw\n\
-    stx64 stxdw\n\
-    stxu64 stxdw\n\
-    sd stxdw\n\
-    movabs lddw\n\
-    ";
+    jmp goto b br: ja\n\
+    ret return: exit\n\
+    jz je beq: jeq\n\
+    jnz bne: jne\n\
+    jae jnb bgeu: jge\n\
+    jna jbe bleu: jle\n\
+    jb jnae bltu: jlt\n\
+    jnbe bgtu: jgt\n\
+    shl lsl sll shl64: lsh64\n\
+    shl32: lsh32\n\
+    shr lsr srl shr64: rsh64\n\
+    shr32: rsh32\n\
+    sar asr sra sar64: arsh64\n\
+    sar32: arsh32\n\
+    ldb: ldxb\n\
+    ldh: ldxh\n\
+    ldw: ldxw\n\
+    ldd ldq ldxd ldxq ldx64 ldxu64: ldxdw\n\
+    std stq st64: stdw\n\
+    stxd stxq stx64 stxu64 sd: stxdw\n\
+    movabs: lddw";
 
-/// How words of other assemblers begin that no one mnemonic stands for, and what helps.
-const BEGINNINGS: [(&str, &str); 13] = [
-    ("ldx", LOADS),
-    (
-        "stx",
-        "`stxb`, `stxh`, `stxw` and `stxdw` store 1, 2, 4 and 8 bytes of a register",
-    ),
-    ("str", STORES),
-    ("sto", STORES),
-    ("lea", "`mov64` and `add64` make an address"),
-    ("movz", "`and64` clears bits, as in `and64 r0, 255`"),
-    ("if", "a condition is a jump, as in `jeq r0, 1, LABEL`"),
-    ("jl", SIGNED_LESS),
-    ("jg", SIGNED_GREATER),
-    ("bl", SIGNED_LESS),
-    ("bg", SIGNED_GREATER),
-    ("jn", "`jne`, `jgt`, `jge`, `jlt` and `jle` compare"),
-    ("js", "`jset` tests bits, `jslt` compares with a sign"),
-];
+/// In each line words that are no mnemonics, and behind `: ` what helps.
+const HINTS: &str = "\
+    ctx map: a context and maps end with a line `code`\n\
+    code: above a line `code` stands `ctx N`\n\
+    if: a condition is a jump, as in `jeq r0, 1, LABEL`\n\
+    ld ldx load: `ldxb`, `ldxh`, `ldxw` and `ldxdw` load 1, 2, 4 and 8 bytes\n\
+    st str sto store: `stb`, `sth`, `stw` and `stdw` store a number in 1, 2, 4 and 8 bytes\n\
+    stx: `stxb`, `stxh`, `stxw` and `stxdw` store 1, 2, 4 and 8 bytes of a register\n\
+    jl jnge jng blt ble jg jnle jnl bgt bge: `jslt`, `jsle`, `jsgt` and `jsge` compare numbers with a sign, the others without one\n\
+    movz movzx: `and64` clears bits, as in `and64 r0, 255`";
 
-const LOADS: &str = "`ldxb`, `ldxh`, `ldxw` and `ldxdw` load 1, 2, 4 and 8 bytes";
-
-const STORES: &str = "`stb`, `sth`, `stw` and `stdw` store a number in 1, 2, 4 and 8 bytes";
-
-const SIGNED_LESS: &str =
-    "`jlt` and `jle` compare numbers without a sign, `jslt` and `jsle` with one";
-
-const SIGNED_GREATER: &str =
-    "`jgt` and `jge` compare numbers without a sign, `jsgt` and `jsge` with one";
-
-/// The mnemonic of a name of another assembler.
-fn other_name(word: &str) -> Option<&'static str> {
-    for line in OTHER_NAMES.lines() {
-        if let Some((other, name)) = line.split_once(' ') {
-            if other == word {
-                return Some(name);
-            }
+/// What a table has for a word.
+fn found_in(table: &'static str, word: &str) -> Option<&'static str> {
+    for line in table.lines() {
+        let (words, found) = line.split_once(": ")?;
+        if words.split(' ').any(|other| other == word) {
+            return Some(found);
         }
     }
     None
 }
 
-/// Letters at the end of a name of another assembler that tell a width, and how it is told here.
-const WIDTHS: [(&str, &str); 3] = [("w", "32"), ("l", "32"), ("q", "64")];
+/// Endings of other assemblers' names that tell a width, and how it is told here.
+const WIDTHS: [(&str, &str); 4] = [("64", ""), ("w", "32"), ("l", "32"), ("q", "64")];
 
-/// The mnemonic of arithmetic that a word is with a letter in place of its width, as `addw` is.
-fn by_letter(alloc: Global, word: &str) -> Result<Option<String>, AllocError> {
-    for row in &WIDTHS {
-        if let Some(stem) = word.strip_suffix(row.0) {
-            let name = filled(alloc, "{}{}", &[Filling::Text(stem), Filling::Text(row.1)])?;
-            if let Some(Mnemonic::Alu(_, _) | Mnemonic::Negate(_)) = mnemonic_named(name.as_str()) {
-                return Ok(Some(name));
-            }
+/// How alike a word and a mnemonic are at least, where one is taken for the other.
+const ALIKE: f64 = 0.87;
+
+/// The name that is most like a word, if one is like it and begins with the same letter.
+fn nearest(alloc: Global, word: &str) -> Result<Option<String>, AllocError> {
+    let mut best = None;
+    let mut most = ALIKE;
+    for mnemonic in &MNEMONICS {
+        let (stem, suffix) = (mnemonic.stem(), mnemonic.suffix());
+        let name = format!(in alloc; "{stem}{suffix}")?;
+        let likeness = jaro_winkler(alloc, word, name.as_str())?;
+        if likeness > most && word.chars().next() == name.chars().next() {
+            most = likeness;
+            best = Some(name);
         }
     }
-    Ok(None)
+    Ok(best)
 }
 
-/// The mnemonic that a word of another assembler stands for, if that is sure.
-pub(crate) fn meant_by(alloc: Global, word: &str) -> Result<Option<String>, AllocError> {
-    if let Some(name) = other_name(word) {
+/// The mnemonic that is meant by a word of another assembler or by a misspelt one, if that is sure.
+fn meant_by(alloc: Global, word: &str) -> Result<Option<String>, AllocError> {
+    if let Some(name) = found_in(OTHER_NAMES, word) {
         return Ok(Some(String::from_str(alloc, name)?));
     }
-    let plain = word.strip_suffix("64").unwrap_or("");
-    if mnemonic_named(plain).is_some() {
-        return Ok(Some(String::from_str(alloc, plain)?));
-    }
-    by_letter(alloc, word)
-}
-
-/// What helps where a word of another assembler stands for no one mnemonic.
-pub(crate) fn family_hint(word: &str) -> Option<&'static str> {
-    if word == "ld" {
-        return Some(LOADS);
-    }
-    if word == "st" {
-        return Some(STORES);
-    }
-    for row in &BEGINNINGS {
-        if word.starts_with(row.0) {
-            return Some(row.1);
+    for (ending, width) in WIDTHS {
+        let stem = word.strip_suffix(ending).unwrap_or("");
+        let name = format!(in alloc; "{stem}{width}")?;
+        if mnemonic_named(name.as_str()).is_some() {
+            return Ok(Some(name));
         }
     }
-    None
+    nearest(alloc, word)
 }
 
-/// The widths with which mnemonics end.
-const ENDS: [&str; 3] = ["16", "32", "64"];
+/// What is said of the first line of a program file.
+pub const NO_HEADING: &str = "a text of instructions has no line `bpfrt 1`";
 
-/// A word without the width at its end.
-pub(crate) fn without_width(word: &str) -> &str {
-    for width in &ENDS {
-        if let Some(stem) = word.strip_suffix(*width) {
-            return stem;
-        }
+/// What helps where a line begins with a word that is no mnemonic, and goes on with this text.
+fn hint_of(word: &str, text: &str) -> Option<&'static str> {
+    if word.contains(':') || text.starts_with(':') {
+        Some("a line has one label, without a blank before its `:` and with one behind it")
+    } else if word.starts_with('.') {
+        Some("only the line of a constant begins so, `.equ NAME NUMBER`")
+    } else if is_register(word.as_bytes()) {
+        Some("a line begins with an instruction's name, as in `mov64 r0, 1`")
+    } else if is_slot(word) {
+        Some("this is a slot of a program file")
+    } else if word == "bpfrt" {
+        Some(NO_HEADING)
+    } else {
+        found_in(HINTS, word)
     }
-    word
 }
 
-/// Whether a word may be a wrong spelling of a mnemonic: both begin with one letter, and have no other width.
-pub(crate) fn is_near(word: &str, name: &str) -> bool {
-    for width in &ENDS {
-        if word.ends_with(*width) && !name.ends_with(*width) {
-            return false;
-        }
+/// What is said of a word that is no mnemonic, and behind which this text stands.
+pub(crate) fn no_name(alloc: Global, word: &str, text: &str) -> Result<String, AllocError> {
+    let shown = quoted(alloc, word)?;
+    if let Some(hint) = hint_of(word, text) {
+        return format!(in alloc; "no instruction is called {shown}; {hint}");
     }
-    match (word.as_bytes(), name.as_bytes()) {
-        ([first, ..], [other, ..]) => first == other,
-        _ => false,
+    let name = word.to_ascii_lowercase(alloc)?;
+    if name.as_str() != word && mnemonic_named(name.as_str()).is_some() {
+        return format!(in alloc;
+            "no instruction is called {shown}; write `{name}`: names and registers are in lower case"
+        );
+    }
+    match meant_by(alloc, word)? {
+        Some(name) => format!(in alloc; "no instruction is called {shown}; did you mean `{name}`?"),
+        None => format!(in alloc; "no instruction is called {shown}"),
     }
 }

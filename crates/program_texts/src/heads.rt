@@ -37,10 +37,7 @@ pub fn parts_of(text: &str) -> Split<'_>
 
 /// Whether bytes are a text that has a head.
 pub fn has_head(bytes: &[u8]) -> bool {
-    match str::from_utf8(bytes) {
-        Ok(text) => parts_of(text).head.is_some(),
-        Err(_) => false,
-    }
+    str::from_utf8(bytes).is_ok_and(|text| parts_of(text).head.is_some())
 }
 
 /// How many lines end in these bytes.
@@ -48,23 +45,14 @@ pub fn lines_in(bytes: &[u8]) -> usize
     ensures count { result ≡ count_by (λ b. b == 10) bytes.now }
     ensures few { result ≤ length bytes.now }
 {
-    let mut lines = 0;
-    for byte in bytes {
-        if *byte == b'\n' {
-            lines += 1;
-        }
-    }
-    lines
+    bytes.iter().filter(|byte| **byte == b'\n').count()
 }
 
 /// The lines of a head, or those of a program file without maps for an empty context.
 pub fn lines_of<'a>(head: Option<&'a str>) -> &'a str
     ensures { result.now ≡ head_or_none (option_copied head.entry) }
 {
-    match head {
-        Some(head) => head,
-        None => NO_HEAD,
-    }
+    head.unwrap_or(NO_HEAD)
 }
 
 /// The head of the program file that a text of these parts makes: its own, or one without maps for an empty context.

@@ -3,7 +3,6 @@
 
 mod assembly;
 mod heads;
-mod source_line;
 mod translation;
 mod window;
 mod words;
@@ -11,7 +10,6 @@ mod wrong_text;
 
 pub use assembly::{Assembled, TextFault, assemble_text};
 pub use heads::{Split, has_head, lines_in, parts_of};
-pub use source_line::write_source_line;
 pub use translation::{FilterFault, FilterFile, make_file};
 pub use words::explain_filter;
-pub use wrong_text::explain_text;
+pub use wrong_text::{explain_text, write_source_line};

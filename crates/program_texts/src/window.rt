@@ -5,38 +5,25 @@ use classic::{ClassicInsn, ClassicReg, Data, Datum, LoadSize, PACKET_BYTES};
 /// The length of a header is four times a number below 16.
 const LONGEST_HEADER: u64 = 60;
 
-/// The most that X is behind an instruction that sets it; 0 of another. `None` where the instruction alone does not tell.
-fn most_behind(insn: &ClassicInsn) -> Option<u64> {
-    match insn {
-        ClassicInsn::Load {
-            into: ClassicReg::X,
-            datum,
-        } => match datum {
-            Datum::Number(number) => Some(u64::from(*number)),
-            Datum::HeaderLength { .. } => Some(LONGEST_HEADER),
-            _ => None,
-        },
-        ClassicInsn::CopyToX => None,
-        _ => Some(0),
-    }
-}
-
 /// The most that X can be in a program, where its instructions tell.
 fn most_of_x(program: &[ClassicInsn]) -> Option<u64> {
     let mut most = 0;
     for insn in program {
-        most = most_behind(insn)?.max(most);
+        let number = match insn {
+            ClassicInsn::Load {
+                into: ClassicReg::X,
+                datum,
+            } => match datum {
+                Datum::Number(number) => u64::from(*number),
+                Datum::HeaderLength { .. } => LONGEST_HEADER,
+                _ => return None,
+            },
+            ClassicInsn::CopyToX => return None,
+            _ => 0,
+        };
+        most = number.max(most);
     }
     Some(most)
-}
-
-/// How many bytes a load loads.
-fn width_of(size: LoadSize) -> u64 {
-    match size {
-        LoadSize::Byte => 1,
-        LoadSize::Half => 2,
-        LoadSize::Word => 4,
-    }
 }
 
 /// Whether the instruction may load past a context's bytes, where X is so much at most.
@@ -48,13 +35,14 @@ fn may_be_beyond(insn: &ClassicInsn, most: Option<u64>) -> bool {
     else {
         return false;
     };
-    let Some(most) = most else {
-        return true;
+    let width = match size {
+        LoadSize::Byte => 1,
+        LoadSize::Half => 2,
+        LoadSize::Word => 4,
     };
-    let behind = most
-        .saturating_add(u64::from(*at))
-        .saturating_add(width_of(*size));
-    behind > PACKET_BYTES as u64
+    most.is_none_or(|most| {
+        most.saturating_add(u64::from(*at)).saturating_add(width) > PACKET_BYTES as u64
+    })
 }
 
 /// Of a packets' filter, the first instruction that loads at X and a number, which may lie past the bytes of a packet that a
@@ -64,10 +52,5 @@ pub(crate) fn load_beyond(kind: Data, program: &[ClassicInsn]) -> Option<usize> 
         return None;
     }
     let most = most_of_x(program);
-    for index in 0..program.len() {
-        if may_be_beyond(&program[index], most) {
-            return Some(index);
-        }
-    }
-    None
+    program.iter().position(|insn| may_be_beyond(insn, most))
 }

@@ -1,156 +1,45 @@
-//! What is wrong with a text of instructions, in words for people.
+//! Lines of a text of instructions, and what is wrong with them, in words for people.
 
-use crate::assembly::{TextFault, plain_text};
+use crate::assembly::{TextFault, lines_above, plain_text};
 use crate::heads::parts_of;
-use asm::AsmFault;
 use asm_hints::{NO_HEADING, explain_line, explain_name};
-use asm_source::{SourceFault, fed_text};
+use asm_source::{fed_text, line_at};
 use command_words::shown;
 use std::alloc::{AllocError, Global};
 use std::io::Write;
 use std::{io, str};
-use text_likeness::{Likeness, has_slots, likeness_of, write_wrong_line};
+use text_likeness::{Likeness, has_slots, likeness_of, write_looks, write_wrong_line};
 
-/// Writes what is wrong with the names of this line of a text's instructions.
-fn write_name<E: Write>(
-    alloc: Global,
-    bytes: &[u8],
-    fault: &SourceFault,
-    err: &mut E,
-) -> io::Result<()> {
-    let body = match str::from_utf8(bytes) {
-        Ok(text) => parts_of(text).body,
-        Err(_) => "",
-    };
-    let number = fault.line().unwrap_or(1);
-    let line = body.split('\n').nth(number.saturating_sub(1)).unwrap_or("");
-    let words = explain_name(alloc, fault, line)?;
-    let words = shown(alloc, words.as_str())?;
-    writeln!(err, "  {words}")
-}
-
-/// How a line is nearly `code`, if it is; one that is ends the text.
-fn nearly_code(line: &str) -> Option<&'static str> {
-    let word = line.trim();
-    if line == "code" {
-        return Some("has no line feed behind `code`");
-    }
-    if word == "code" {
-        return Some("has a blank beside `code`, and is to have none");
-    }
-    if word.eq_ignore_ascii_case("code")
-        || word.starts_with("code:")
-        || word.starts_with("code ;")
-    {
-        return Some("is to be `code` alone");
-    }
-    None
-}
-
-/// What is wrong with a line that belongs above a line `code`, in a text that has none but one that is nearly that.
-fn headless_words(alloc: Global, text: &str, line: &str) -> Result<Option<String>, AllocError> {
-    let (name, _) = line.split_once(' ').unwrap_or((line, ""));
-    if name != "ctx" && name != "map" {
-        return Ok(None);
-    }
-    let mut number: usize = 0;
-    for below in text.split('\n') {
-        number = number.saturating_add(1);
-        if let Some(how) = nearly_code(below) {
-            let words = format!(in alloc;
-                "no instruction is called `{name}`; line {number} {how}"
-            )?;
-            return Ok(Some(words));
-        }
-    }
-    Ok(None)
+/// The line of this number of a text, counted from 1.
+fn line_of(text: &str, number: usize) -> &str {
+    text.split('\n').nth(number.saturating_sub(1)).unwrap_or("")
 }
 
 /// What is wrong with the plain text of the line of this number, of this text's instructions.
 fn instruction_words(
     alloc: Global,
     text: &str,
-    line: &str,
     number: usize,
 ) -> Result<Option<String>, AllocError> {
-    let words = headless_words(alloc, text, line)?;
-    if words.is_some() {
-        return Ok(words);
-    }
-    let mut sources = parts_of(text).body.split('\n');
-    let source = sources.nth(number.saturating_sub(1)).unwrap_or("");
-    explain_line(alloc, line, source)
-}
-
-/// Writes what is wrong with the plain text of this line of a text's instructions.
-fn explain_instruction<E: Write>(
-    alloc: Global,
-    bytes: &[u8],
-    number: usize,
-    err: &mut E,
-) -> io::Result<()> {
-    let Ok(text) = str::from_utf8(bytes) else {
-        return Ok(());
-    };
-    let Ok(lines) = plain_text(alloc, &parts_of(text)) else {
-        return Ok(());
-    };
-    let Ok(lines) = str::from_utf8(&lines) else {
-        return Ok(());
-    };
-    let Some(line) = lines.split('\n').nth(number.saturating_sub(1)) else {
-        return Ok(());
-    };
-    if let Some(words) = instruction_words(alloc, text, line, number)? {
-        let words = shown(alloc, words.as_str())?;
-        writeln!(err, "  {words}")?;
-    }
-    Ok(())
-}
-
-/// Whether bytes are a text with slots behind a line `code`.
-fn says_slots(bytes: &[u8]) -> bool {
-    match str::from_utf8(bytes) {
-        Ok(text) => has_slots(text),
-        Err(_) => false,
-    }
+    let parts = parts_of(text);
+    let lines = plain_text(alloc, &parts).unwrap_or(Vec::new(alloc));
+    let line = line_of(str::from_utf8(&lines).unwrap_or(""), number);
+    explain_line(alloc, line, line_of(parts.body, number))
 }
 
 /// What bytes look like that are no text of instructions, by whether they have slots.
-fn other_words(bytes: &[u8], has_slots: bool, why: &TextFault) -> Option<&'static str> {
+fn other_words(bytes: &[u8], has_slots: bool) -> Option<&'static str> {
     match likeness_of(bytes) {
-        Some(Likeness::ProgramFile) if has_slots => Some(PROGRAM_FILE),
-        Some(Likeness::CarriageReturns | Likeness::OtherHeading) if !has_slots => None,
+        Some(Likeness::ProgramFile) if has_slots => Some(
+            "a program file: `bpfrt check` checks it without `--asm`, and `bpfrt disasm` writes its instructions",
+        ),
+        Some(Likeness::CarriageReturns) if !has_slots => None,
         Some(Likeness::Assembly | Likeness::Text | Likeness::ProgramFile) => None,
         Some(likeness) => Some(likeness.words()),
-        None => match why {
-            TextFault::NotUtf8 { .. } if bytes.contains(&0) => Some(PROGRAM_BYTES),
-            _ => None,
-        },
-    }
-}
-
-/// What reads a program file.
-const PROGRAM_FILE: &str =
-    "a program file: `bpfrt check` checks it without `--asm`, and `bpfrt disasm` writes its instructions";
-
-/// What reads a program's bytes.
-const PROGRAM_BYTES: &str =
-    "a program's bytes: `bpfrt check` checks them without `--asm`, and `bpfrt disasm` writes their instructions";
-
-/// Writes in words what is wrong with bytes that are no text of a program, beside what the fault means, and what they look like
-/// instead. They may end lines by a carriage return too.
-pub fn explain_text<E: Write>(
-    alloc: Global,
-    bytes: &[u8],
-    why: &TextFault,
-    err: &mut E,
-) -> io::Result<()> {
-    let text = fed_text(alloc, bytes)?;
-    explain_fault(alloc, &text, why, err)?;
-    match other_words(bytes, says_slots(&text), why) {
-        Some(words) => writeln!(err, "  it looks like {words}"),
-        None => Ok(()),
+        None if bytes.contains(&0) && bytes.len() % 8 == 0 => Some(
+            "a program's bytes: `bpfrt check` checks them without `--asm`, and `bpfrt disasm` writes their instructions",
+        ),
+        None => None,
     }
 }
 
@@ -166,23 +55,60 @@ fn explain_head<E: Write>(bytes: &[u8], line: usize, err: &mut E) -> io::Result<
     write_wrong_line(err, bytes, line, 0)
 }
 
-/// Writes in words why bytes are no text of a program.
-fn explain_fault<E: Write>(
+/// Writes in words what is wrong with bytes that are no text of a program, beside what the fault means, and what they look like
+/// instead. They may end lines by a carriage return too.
+pub fn explain_text<E: Write>(
     alloc: Global,
     bytes: &[u8],
     why: &TextFault,
     err: &mut E,
 ) -> io::Result<()> {
-    match why {
-        TextFault::NotUtf8 { .. } => writeln!(err, "  the line is not UTF-8 text"),
-        TextFault::Unnamed { fault, .. } => write_name(alloc, bytes, fault, err),
-        TextFault::Flawed { flaw, .. } => match flaw {
-            AsmFault::BadLine(line) | AsmFault::BadOperand(line) => {
-                explain_instruction(alloc, bytes, *line, err)
-            }
-            AsmFault::TooLong | AsmFault::Empty | AsmFault::Memory => Ok(()),
+    let fed = fed_text(alloc, bytes)?;
+    let text = str::from_utf8(&fed).unwrap_or("");
+    let words = match why {
+        TextFault::NotUtf8 { .. } => Some(String::from_str(alloc, "the line is not UTF-8 text")?),
+        TextFault::Unnamed { fault, .. } => {
+            let line = line_of(parts_of(text).body, fault.line().unwrap_or(1));
+            Some(explain_name(alloc, fault, line)?)
+        }
+        TextFault::Flawed { flaw, .. } => match flaw.line() {
+            Some(line) => instruction_words(alloc, text, line)?,
+            None => None,
         },
-        TextFault::BadHead { line } => explain_head(bytes, *line, err),
-        TextFault::Memory => Ok(()),
+        TextFault::BadHead { .. } | TextFault::Memory => None,
+    };
+    if let Some(words) = words {
+        let words = shown(alloc, words.as_str())?;
+        writeln!(err, "  {words}")?;
     }
+    if let TextFault::BadHead { line } = why {
+        explain_head(&fed, *line, err)?;
+    }
+    write_looks(err, other_words(bytes, has_slots(text)))
+}
+
+/// The line without blanks at its ends, and with a space for each control character.
+fn in_spaces(alloc: Global, line: &str) -> Result<String, AllocError> {
+    let mut shown = String::new(alloc);
+    for character in line.trim().chars() {
+        let is_control = character.is_control();
+        shown.push(if is_control { ' ' } else { character })?;
+    }
+    Ok(shown)
+}
+
+/// Writes the line of a text whose instruction begins at this slot, by its number from 1 on.
+pub fn write_source_line<E: Write>(
+    alloc: Global,
+    text: &[u8],
+    slot: usize,
+    err: &mut E,
+) -> io::Result<()> {
+    let parts = parts_of(str::from_utf8(text).unwrap_or(""));
+    let Some(number) = line_at(parts.body.as_bytes(), slot) else {
+        return Ok(());
+    };
+    let shown = in_spaces(alloc, line_of(parts.body, number))?;
+    let number = number.saturating_add(lines_above(&parts));
+    writeln!(err, "line {number}: {shown}")
 }

@@ -2,7 +2,6 @@
 #![tactic(auto)]
 
 mod explaining;
-mod meaning;
 mod refused;
 mod words;
 

@@ -1,20 +1,19 @@
 //! Why lines of a script are refused, in words for people.
 
-use crate::meaning::meaning_of_refusal;
 use crate::words::{SHOWN, words_of};
 use bpf_model::{
-    CTX_BYTES, EventRefusal, KEY_BYTES, MAX_ENTRIES, MAX_PROGRAMS, MAX_REUSE, MAX_SPARE, MapId,
-    MapKind, MapShape, ProgId, VALUE_BYTES,
+    CTX_BYTES, EventRefusal, KEY_BYTES, MAX_ENTRIES, MAX_REUSE, MAX_SPARE, MapId, MapKind,
+    MapShape, ProgId, VALUE_BYTES,
 };
 use control::{LineRefusal, Session};
-use explanations::{explain, slot_shown, write_meaning};
+use explanations::{Meaning, explain, meaning_of, meaning_of_event, slot_shown, write_meaning};
 use maps::MapFault;
 use program_files::{FileBytes, Verdict};
 use script_lines::number_of;
 use std::alloc::{AllocError, Global};
 use std::io::Write;
 use std::{io, str};
-use text_likeness::{write_name_rule, write_quoted};
+use text_likeness::write_quoted;
 
 /// A word as text, if it is one.
 fn text_of(word: &[u8]) -> &str {
@@ -27,27 +26,9 @@ fn shape_named(session: &Session, name: &[u8]) -> Option<MapShape> {
     maps.shape(maps.id(text_of(name))?)
 }
 
-/// How many programs are loaded.
-fn program_count(session: &Session) -> usize {
-    for number in 0..MAX_PROGRAMS {
-        if session.context_len(ProgId::new(number)).is_none() {
-            return number;
-        }
-    }
-    MAX_PROGRAMS
-}
-
 /// The word in this place.
 fn word_at<'a>(words: &[&'a [u8]], place: usize) -> &'a [u8] {
-    match words.get(place) {
-        Some(word) => word,
-        None => &[],
-    }
-}
-
-/// Whether a line begins with this word.
-fn begins_with(words: &[&[u8]], word: &[u8]) -> bool {
-    word_at(words, 0) == word
+    words.get(place).copied().unwrap_or(&[])
 }
 
 /// How many bytes a word writes.
@@ -57,11 +38,6 @@ fn bytes_in(word: &[u8]) -> usize {
     } else {
         word.len() / 2
     }
-}
-
-/// The number that the word in this place is.
-fn number_at(words: &[&[u8]], place: usize) -> u64 {
-    number_of(word_at(words, place)).unwrap_or(0)
 }
 
 /// Writes that bytes of an element have another length than those of its map, where they have.
@@ -89,7 +65,7 @@ fn write_misfit<W: Write>(out: &mut W, session: &Session, words: &[&[u8]]) -> io
     let name = text_of(word_at(words, 1));
     let key = bytes_in(word_at(words, 2));
     write_length(out, name, "KEY", key, shape.key_len)?;
-    if !begins_with(words, b"put") {
+    if word_at(words, 0) != b"put".as_slice() {
         return Ok(());
     }
     let value = bytes_in(word_at(words, 3));
@@ -113,7 +89,11 @@ fn write_names<W: Write>(out: &mut W, session: &Session) -> io::Result<()> {
 
 /// Writes which of a line's names is no map's: of `load` the first of several, of others the one.
 fn write_no_map<W: Write>(out: &mut W, session: &Session, words: &[&[u8]]) -> io::Result<()> {
-    let first = if begins_with(words, b"load") { 3 } else { 1 };
+    let first = if word_at(words, 0) == b"load".as_slice() {
+        3
+    } else {
+        1
+    };
     for name in words.iter().skip(first) {
         if shape_named(session, name).is_none() {
             write!(out, "  no map is called ")?;
@@ -125,38 +105,31 @@ fn write_no_map<W: Write>(out: &mut W, session: &Session, words: &[&[u8]]) -> io
     Ok(())
 }
 
-/// Writes that a number of a shape is outside its range, where it is.
-fn write_number<W: Write>(
-    out: &mut W,
-    name: &str,
-    given: u64,
-    least: u64,
-    most: u64,
-) -> io::Result<()> {
-    if least <= given && given <= most {
-        return Ok(());
-    }
-    writeln!(out, "  {name} is {given}, and may be {least} to {most}")
-}
+/// The numbers of a map: their names, the least that they may be, and the most.
+const NUMBERS: [(&str, u64, u64); 5] = [
+    ("KEY", 1, KEY_BYTES as u64),
+    ("VALUE", 1, VALUE_BYTES as u64),
+    ("ENTRIES", 1, MAX_ENTRIES as u64),
+    ("SPARE", 0, MAX_SPARE as u64),
+    ("REUSE", 1, MAX_REUSE as u64),
+];
 
-/// Writes which numbers of the shape in a line of these words are outside their ranges.
+/// Writes which numbers of the shape in a line of these words are outside their ranges. Of an array `array` stands in the place
+/// of KEY, and the last two are left out.
 fn write_shape<W: Write>(out: &mut W, words: &[&[u8]]) -> io::Result<()> {
-    let (value_most, entries_most) = (VALUE_BYTES as u64, MAX_ENTRIES as u64);
-    if word_at(words, 2) == b"array".as_slice() {
-        write_number(out, "VALUE", number_at(words, 3), 1, value_most)?;
-        return write_number(out, "ENTRIES", number_at(words, 4), 1, entries_most);
+    for ((name, least, most), word) in NUMBERS.iter().zip(words.iter().skip(2)) {
+        let given = number_of(word).unwrap_or(*least);
+        if given < *least || *most < given {
+            writeln!(out, "  {name} is {given}, and may be {least} to {most}")?;
+        }
     }
-    write_number(out, "KEY", number_at(words, 2), 1, KEY_BYTES as u64)?;
-    write_number(out, "VALUE", number_at(words, 3), 1, value_most)?;
-    write_number(out, "ENTRIES", number_at(words, 4), 1, entries_most)?;
-    write_number(out, "SPARE", number_at(words, 5), 0, MAX_SPARE as u64)?;
-    write_number(out, "REUSE", number_at(words, 6), 1, u64::from(MAX_REUSE))
+    Ok(())
 }
 
 /// Writes what is wrong with a context.
 fn write_context<W: Write>(out: &mut W, session: &Session, words: &[&[u8]]) -> io::Result<()> {
-    let number = number_at(words, 1);
-    if begins_with(words, b"load") {
+    let number = number_of(word_at(words, 1)).unwrap_or(0);
+    if word_at(words, 0) == b"load".as_slice() {
         return writeln!(out, "  CTXLEN is {number}, and may be 0 to {CTX_BYTES}");
     }
     let place = usize::try_from(number).unwrap_or(usize::MAX);
@@ -168,49 +141,6 @@ fn write_context<W: Write>(out: &mut W, session: &Session, words: &[&[u8]]) -> i
         out,
         "  CTX has length {given}, and is to have length {due}, the CTXLEN of program {number}"
     )
-}
-
-/// Writes how many programs there are.
-fn write_programs<W: Write>(out: &mut W, session: &Session) -> io::Result<()> {
-    match program_count(session).checked_sub(1) {
-        None => writeln!(out, "  the script has loaded no program"),
-        Some(0) => writeln!(out, "  the script has loaded program 0 alone"),
-        Some(last) => writeln!(out, "  the script has loaded the programs 0 to {last}"),
-    }
-}
-
-/// Writes that a name is none of a map's.
-fn write_bad_name<W: Write>(out: &mut W, name: &[u8]) -> io::Result<()> {
-    write!(out, "  ")?;
-    write_quoted(out, name, SHOWN)?;
-    write!(out, " is to be ")?;
-    write_name_rule(out)?;
-    writeln!(out)
-}
-
-/// Writes what in a line of these words is the cause of the refusal of its event.
-fn write_event_cause<W: Write>(
-    out: &mut W,
-    session: &Session,
-    words: &[&[u8]],
-    refusal: EventRefusal,
-) -> io::Result<()> {
-    match refusal {
-        EventRefusal::NoMap => write_no_map(out, session, words),
-        EventRefusal::BadLength => write_misfit(out, session, words),
-        EventRefusal::BadContext => write_context(out, session, words),
-        EventRefusal::NoProgram => write_programs(out, session),
-        _ => Ok(()),
-    }
-}
-
-/// Writes what in a line of these words is the cause of the refusal of its map.
-fn write_map_cause<W: Write>(out: &mut W, words: &[&[u8]], fault: MapFault) -> io::Result<()> {
-    match fault {
-        MapFault::BadName => write_bad_name(out, word_at(words, 1)),
-        MapFault::BadShape => write_shape(out, words),
-        _ => Ok(()),
-    }
 }
 
 /// The line of a program file that makes a map of this name and shape.
@@ -274,9 +204,6 @@ fn write_unverified<W: Write>(
     explain(alloc, &file, verdict, out)
 }
 
-/// What is said of a line that comes too late.
-const LATE: &str = "  `map` and `load` stand above the first line that is another command";
-
 /// Writes what in a line of these words is the cause of its refusal.
 fn write_cause<W: Write>(
     alloc: Global,
@@ -290,11 +217,38 @@ fn write_cause<W: Write>(
         LineRefusal::Program(refusal) => {
             write_unverified(alloc, out, session, words, &Verdict::Program(*refusal))
         }
-        LineRefusal::Event(refusal) => write_event_cause(out, session, words, *refusal),
-        LineRefusal::Map(fault) => write_map_cause(out, words, *fault),
-        LineRefusal::Sealed => writeln!(out, "{LATE}"),
-        LineRefusal::TooManyPrograms => Ok(()),
+        LineRefusal::Event(EventRefusal::NoMap) => write_no_map(out, session, words),
+        LineRefusal::Event(EventRefusal::BadLength) => write_misfit(out, session, words),
+        LineRefusal::Event(EventRefusal::BadContext) => write_context(out, session, words),
+        LineRefusal::Map(MapFault::BadShape) => write_shape(out, words),
+        LineRefusal::Sealed => writeln!(
+            out,
+            "  `map` and `load` stand above the first line that is another command"
+        ),
+        LineRefusal::Event(_) | LineRefusal::Map(_) | LineRefusal::TooManyPrograms => Ok(()),
     }
+}
+
+/// What the refusal of a line means; none where memory ran out, or where the verifier refuses a program, which `explain` tells.
+fn meaning_of_refusal(refusal: &LineRefusal) -> Option<Meaning> {
+    let (name, text) = match refusal {
+        LineRefusal::Map(MapFault::BadName) => (
+            "BadName",
+            "a map's name is not 1 to 32 of a to z, 0 to 9 and _, the first a letter",
+        ),
+        LineRefusal::Map(MapFault::NameTaken) => ("NameTaken", "a map has that name"),
+        LineRefusal::Map(MapFault::BadShape) => ("BadShape", "no map may have that shape"),
+        LineRefusal::Map(MapFault::TooMany) => ("TooMany", "a seventeenth map"),
+        LineRefusal::TooManyPrograms => ("TooManyPrograms", "a sixty-fifth program"),
+        LineRefusal::Sealed => (
+            "TooLate",
+            "a script: a map or a program after the world was made",
+        ),
+        LineRefusal::Event(refusal) => return Some(meaning_of_event(*refusal)),
+        LineRefusal::Decode(fault) => return meaning_of(&Verdict::Code(*fault)),
+        LineRefusal::Map(MapFault::Memory) | LineRefusal::Program(_) => return None,
+    };
+    Some(Meaning::new(name, text))
 }
 
 /// The most columns of a line that are shown.

@@ -10,4 +10,4 @@ pub use likeness::{
     Likeness, SEEN, are_hexadecimal, has_slots, is_slot, likeness_of, mnemonic_named,
     write_likeness, write_looks,
 };
-pub use wrong_line::{write_line, write_name_rule, write_quoted, write_wrong_line};
+pub use wrong_line::{write_line, write_quoted, write_wrong_line};

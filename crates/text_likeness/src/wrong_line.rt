@@ -1,76 +1,28 @@
 //! A line of a text that is wrong, and what a line of a program file may be.
 
-use crate::filled::{Filling, write_filled, write_text};
-use crate::likeness::{
-    Likeness, are_digits, first_line, is_instruction, likeness_of_lines, text_in, word_at,
-};
+use crate::filled::write_text;
+use crate::likeness::{first_word, is_assembly, is_instruction, text_in};
 use bpf_model::{CTX_BYTES, KEY_BYTES, MAX_ENTRIES, MAX_MAPS, MAX_REUSE, MAX_SPARE, VALUE_BYTES};
 use maps::NAME_BYTES;
 use std::io;
 use std::io::Write;
 
-/// Where the line of this number begins, counted from 1.
-fn start_of_line(text: &[u8], number: usize) -> usize {
-    let mut line = 1;
-    for (index, byte) in text.iter().enumerate() {
-        if line >= number {
-            return index;
-        }
-        if *byte == b'\n' {
-            line += 1;
-        }
-    }
-    text.len()
-}
-
-/// How long the line at the beginning of a text is.
-fn length_of_line(text: &[u8]) -> usize {
-    for (index, byte) in text.iter().enumerate() {
-        if *byte == b'\n' {
-            return index;
-        }
-    }
-    text.len()
+/// A text from the line of this number on, counted from 1.
+fn from_line(text: &[u8], number: usize) -> &[u8] {
+    let mut parts = text.splitn(number, |byte| *byte == b'\n');
+    parts.nth(number.saturating_sub(1)).unwrap_or(&[])
 }
 
 /// The most columns of a line that are shown.
 const SHOWN: usize = 120;
 
-/// How a byte of a line stands in quotes that is written in two columns.
-fn escaped(byte: u8) -> Option<&'static str> {
-    match byte {
-        b'\t' => Some("\\t"),
-        b'\r' => Some("\\r"),
-        b'"' => Some("\\\""),
-        b'\\' => Some("\\\\"),
-        _ => None,
-    }
-}
-
-/// Whether a byte stands in quotes as it is, if it is not escaped.
-fn is_printable(byte: u8) -> bool {
-    b' ' <= byte && byte <= b'~'
-}
-
-/// How many columns a byte takes in quotes.
-fn columns_of(byte: u8) -> usize {
-    if escaped(byte).is_some() {
-        2
-    } else if is_printable(byte) {
-        1
-    } else {
-        4
-    }
-}
-
-/// Writes a byte of a line that stands in quotes.
-fn write_byte<W: Write>(out: &mut W, byte: u8) -> io::Result<()> {
-    match escaped(byte) {
-        Some(text) => write_text(out, text),
-        None if is_printable(byte) => out.write_all(&[byte]),
-        None => write!(out, "\\x{byte:02x}"),
-    }
-}
+/// The bytes that stand in quotes as two.
+const ESCAPED: [(u8, &[u8]); 4] = [
+    (b'\t', b"\\t"),
+    (b'\r', b"\\r"),
+    (b'"', b"\\\""),
+    (b'\\', b"\\\\"),
+];
 
 /// Writes a text in quotes, where bytes that are no printable ASCII are escaped: as much of it as these columns have room for,
 /// and then `..` where that is not all.
@@ -78,105 +30,40 @@ fn write_byte<W: Write>(out: &mut W, byte: u8) -> io::Result<()> {
 /// An error says that nothing more could be written.
 pub fn write_quoted<W: Write>(out: &mut W, text: &[u8], most: usize) -> io::Result<()> {
     write_text(out, "\"")?;
+    let digits = b"0123456789abcdef";
     let mut columns: usize = 0;
     for byte in text {
-        columns = columns.saturating_add(columns_of(*byte));
+        let (high, low) = (usize::from(*byte / 16), usize::from(*byte % 16));
+        let (plain, number) = ([*byte], [b'\\', b'x', digits[high], digits[low]]);
+        let shown: &[u8] = match ESCAPED.iter().find(|row| row.0 == *byte) {
+            Some(row) => row.1,
+            None if b' ' <= *byte && *byte <= b'~' => &plain,
+            None => &number,
+        };
+        columns = columns.saturating_add(shown.len());
         if columns > most {
             return write_text(out, "..\"");
         }
-        write_byte(out, *byte)?;
+        out.write_all(shown)?;
     }
     write_text(out, "\"")
 }
 
-/// Whether a line `code`, which is not the first, ends in this text.
-fn has_code_line(text: &[u8]) -> bool {
-    for at in 0..text.len() {
-        if text[at..].starts_with(b"\ncode\n") {
-            return true;
-        }
-    }
-    false
-}
-
-/// Where the wrong line of a program file stands.
-#[derive(Clone, Copy)]
-enum Part {
-    Context,
-    Maps,
-    Code,
-}
-
-/// Whether assembly stands from a wrong line of this part on.
-fn is_assembly(part: Part, rest: &str) -> bool {
-    let word = word_at(first_line(rest), 0);
-    match part {
-        Part::Code => likeness_of_lines(rest) == Likeness::Assembly,
-        Part::Context | Part::Maps => word != "ctx" && is_instruction(word),
-    }
-}
-
-/// Writes which names a map may have.
-///
-/// An error says that nothing more could be written.
-pub fn write_name_rule<W: Write>(out: &mut W) -> io::Result<()> {
-    write_filled(
-        out,
-        "1 to {} of a to z, 0 to 9 and _, the first a letter",
-        &[Filling::Count(NAME_BYTES)],
-    )
-}
-
 /// How a line of a map is written, but for its name.
 const MAP_FORMS: &str =
-    "  a line here is `map NAME KEY VALUE ENTRIES SPARE REUSE`, `map NAME array VALUE ENTRIES` or `code`\n  NAME: ";
-
-/// Its name and its numbers.
-const MAP_RANGES: &str =
-    ", and no other map's; at most {} maps\n  KEY 1 to {}, VALUE 1 to {}, ENTRIES 1 to {}, SPARE 0 to {}, REUSE 1 to {}\n";
+    "  a line here is `map NAME KEY VALUE ENTRIES SPARE REUSE`, `map NAME array VALUE ENTRIES` or `code`";
 
 /// Writes how a line of a map is written.
 fn write_map_forms<W: Write>(out: &mut W) -> io::Result<()> {
-    write_text(out, MAP_FORMS)?;
-    write_name_rule(out)?;
-    write_filled(
+    writeln!(out, "{MAP_FORMS}")?;
+    writeln!(
         out,
-        MAP_RANGES,
-        &[
-            Filling::Count(MAX_MAPS),
-            Filling::Count(KEY_BYTES),
-            Filling::Count(VALUE_BYTES),
-            Filling::Count(MAX_ENTRIES),
-            Filling::Count(MAX_SPARE),
-            Filling::Number(u64::from(MAX_REUSE)),
-        ],
+        "  NAME: 1 to {NAME_BYTES} of a to z, 0 to 9 and _, the first a letter, and no other map's; at most {MAX_MAPS} maps"
+    )?;
+    writeln!(
+        out,
+        "  KEY 1 to {KEY_BYTES}, VALUE 1 to {VALUE_BYTES}, ENTRIES 1 to {MAX_ENTRIES}, SPARE 0 to {MAX_SPARE}, REUSE 1 to {MAX_REUSE}"
     )
-}
-
-/// What is said of assembly in a program file.
-const ASSEMBLY: &str =
-    "  assembly stands here: leave the line `bpfrt 1` out, then `bpfrt check --asm` checks it, and `bpfrt asm --file` makes a \
-    program file of it\n";
-
-/// How a line of the context is written.
-const CONTEXT_FORM: &str =
-    "  a line here is `ctx N`: the length of the context in bytes, 0 to {}\n";
-
-/// How a line of slots is written.
-const SLOTS_FORM: &str = "  a line here has slots, each of 16 hexadecimal digits\n";
-
-/// How it is written, where bytes stand there with blanks between them.
-const WHOLE_SLOTS_FORM: &str =
-    "  a line here has slots, each of 16 hexadecimal digits, and no blank stands between these\n";
-
-/// Writes what a line of this part of a program file may be, instead of the first line of a text.
-fn write_forms<W: Write>(out: &mut W, part: Part, rest: &str) -> io::Result<()> {
-    match part {
-        Part::Context => write_filled(out, CONTEXT_FORM, &[Filling::Count(CTX_BYTES)]),
-        Part::Maps => write_map_forms(out),
-        Part::Code if are_digits(first_line(rest)) => write_text(out, WHOLE_SLOTS_FORM),
-        Part::Code => write_text(out, SLOTS_FORM),
-    }
 }
 
 /// Writes the line of this number of a text, counted from 1, in quotes, and its number among all lines, so many of which
@@ -189,17 +76,25 @@ pub fn write_line<W: Write>(
     number: usize,
     above: usize,
 ) -> io::Result<()> {
-    let start = start_of_line(text, number);
-    let rest = text.get(start..text.len()).unwrap_or(&[]);
-    let shown = Filling::Count(above.saturating_add(number));
+    let rest = from_line(text, number);
+    let shown = above.saturating_add(number);
     if rest.is_empty() {
-        return write_filled(out, "at {}: the text ends here\n", &[shown]);
+        return writeln!(out, "at {shown}: the text ends here");
     }
-    write_filled(out, "at {}: ", &[shown])?;
-    let line = rest.get(0..length_of_line(rest)).unwrap_or(&[]);
+    write!(out, "at {shown}: ")?;
+    let line = rest.split(|byte| *byte == b'\n').next().unwrap_or(&[]);
     write_quoted(out, line, SHOWN)?;
     write_text(out, "\n")
 }
+
+/// What is said of assembly in a program file.
+const ASSEMBLY: &str =
+    "  assembly stands here: leave the line `bpfrt 1` out, then `bpfrt check --asm` checks it, and `bpfrt asm --file` makes a \
+    program file of it\n";
+
+/// What is said of blanks.
+const BLANKS: &str =
+    "  one space parts words, and none begins or ends a line; no line is empty or a comment\n";
 
 /// Writes the line of this number of a text, counted from 1, which no program file has there, and what it may be. The
 /// line of the context is the one below so many lines of a heading.
@@ -212,22 +107,28 @@ pub fn write_wrong_line<W: Write>(
     heading: usize,
 ) -> io::Result<()> {
     write_line(out, text, number, 0)?;
-    let start = start_of_line(text, number);
-    let part = if number == heading.saturating_add(1) {
-        Part::Context
-    } else if has_code_line(text.get(0..start).unwrap_or(&[])) {
-        Part::Code
-    } else {
-        Part::Maps
-    };
-    let rest = text_in(text.get(start..text.len()).unwrap_or(&[]));
-    if heading > 0 && is_assembly(part, rest) {
+    let mut above = text
+        .split(|byte| *byte == b'\n')
+        .take(number.saturating_sub(1))
+        .skip(1);
+    let is_code = above.any(|line| line == b"code".as_slice());
+    let (rest, _) = text_in(from_line(text, number));
+    let line = rest.lines().next().unwrap_or("");
+    let is_instruction = is_code || (is_instruction(line) && first_word(line) != "ctx");
+    if heading > 0 && is_instruction && is_assembly(rest) {
         write_text(out, ASSEMBLY)?;
+    } else if number == heading.saturating_add(1) {
+        writeln!(
+            out,
+            "  a line here is `ctx N`: the length of the context in bytes, 0 to {CTX_BYTES}"
+        )?;
+    } else if is_code {
+        writeln!(
+            out,
+            "  a line here has slots, each of 16 hexadecimal digits"
+        )?;
     } else {
-        write_forms(out, part, rest)?;
+        write_map_forms(out)?;
     }
-    write_text(
-        out,
-        "  one space parts words, and none begins or ends a line; no line is empty or a comment\n",
-    )
+    write_text(out, BLANKS)
 }
