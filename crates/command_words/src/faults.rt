@@ -1,7 +1,8 @@
 //! What is said of words that are no command.
 
+use crate::grammar::grammar;
 use crate::request::{WordsFault, classic_file};
-use crate::table::{COMMANDS, CommandWords, POOL_USAGE, RUN_USAGE, TRACE_USAGE};
+use crate::table::{COMMANDS, usage_of};
 use clap::error::ErrorKind;
 use classic::Data;
 use std::alloc::{AllocError, Global};
@@ -17,42 +18,6 @@ pub fn shown(alloc: Global, text: &str) -> Result<String, AllocError> {
     Ok(shown)
 }
 
-/// The fault of which this text tells, as it is shown.
-fn fault_of(alloc: Global, text: &str) -> WordsFault {
-    match shown(alloc, text) {
-        Ok(text) => WordsFault::Usage(text),
-        Err(_) => WordsFault::Memory,
-    }
-}
-
-/// The usage of these commands, which their faults tell.
-fn usage_of(command: &str) -> &'static str {
-    match command {
-        "pool" => POOL_USAGE,
-        "run" => RUN_USAGE,
-        _ => TRACE_USAGE,
-    }
-}
-
-/// What is said of a word that is no value of an argument.
-fn told_of_value(
-    alloc: Global,
-    command: &str,
-    word: &str,
-    argument: &str,
-    why: &str,
-) -> Result<String, AllocError> {
-    let usage = usage_of(command);
-    format!(in alloc;
-        "\
-error: invalid value '{word}' for '{argument}': {why}
-
-Usage: {usage}
-
-For more information, try 'bpfrt {command} --help'."
-    )
-}
-
 /// The fault of a word of `pool`, `run` or `trace` that is no value of an argument.
 pub(crate) fn bad_value(
     alloc: Global,
@@ -60,11 +25,17 @@ pub(crate) fn bad_value(
     word: &str,
     argument: &str,
     why: &str,
-) -> WordsFault {
-    match told_of_value(alloc, command, word, argument, why) {
-        Ok(text) => fault_of(alloc, text.as_str()),
-        Err(_) => WordsFault::Memory,
-    }
+) -> Result<WordsFault, AllocError> {
+    let usage = usage_of(command);
+    let text = format!(in alloc;
+        "\
+error: invalid value '{word}' for '{argument}': {why}
+
+Usage: {usage}
+
+For more information, try 'bpfrt {command} --help'."
+    )?;
+    Ok(WordsFault::Usage(shown(alloc, text.as_str())?))
 }
 
 /// The word at a place; an empty one where there is none.
@@ -77,17 +48,12 @@ fn word_at(words: &[String], place: usize) -> &str {
 
 /// Whether this word stands among the words.
 fn has_word(words: &[String], wanted: &str) -> bool {
-    for word in words {
-        if word.as_str() == wanted {
-            return true;
-        }
-    }
-    false
+    words.iter().any(|word| word.as_str() == wanted)
 }
 
-/// The one of these commands that the word names but for the case of its letters.
-fn command_in_other_case(word: &str, commands: &[CommandWords]) -> Option<&'static str> {
-    for command in commands {
+/// The command that the word names but for the case of its letters.
+fn command_in_other_case(word: &str) -> Option<&'static str> {
+    for command in COMMANDS {
         if word.eq_ignore_ascii_case(command.name) {
             return Some(command.name);
         }
@@ -102,7 +68,7 @@ fn command_meant(word: &str) -> Option<&'static str> {
         "disassemble" => Some("disasm"),
         "assemble" => Some("asm"),
         "exec" | "execute" => Some("run"),
-        _ => command_in_other_case(word, COMMANDS),
+        _ => command_in_other_case(word),
     }
 }
 
@@ -117,42 +83,6 @@ fn tip_of_first(word: &str) -> Option<&'static str> {
     None
 }
 
-/// What is said of a first word that is no command, with this tip.
-fn no_command_named(alloc: Global, word: &str, tip: &str) -> Result<String, AllocError> {
-    format!(in alloc;
-        "\
-error: unrecognized subcommand '{word}'
-
-  tip: {tip}
-
-Usage: bpfrt <COMMAND>
-
-For more information, try '--help'."
-    )
-}
-
-/// What is said of a first word that means the command of this name.
-fn no_command_but(alloc: Global, word: &str, name: &str) -> Result<String, AllocError> {
-    let tip = format!(in alloc; "a similar subcommand exists: '{name}'")?;
-    no_command_named(alloc, word, tip.as_str())
-}
-
-/// What `clap` says of an error.
-fn text_of(alloc: Global, error: &clap::Error) -> Result<String, AllocError> {
-    format!(in alloc; "{error}")
-}
-
-/// What is said of a first word that is no command, by `clap` where there is no tip of ours.
-fn told_of_command(alloc: Global, error: &clap::Error, word: &str) -> Result<String, AllocError> {
-    if let Some(name) = command_meant(word) {
-        return no_command_but(alloc, word, name);
-    }
-    match tip_of_first(word) {
-        Some(tip) => no_command_named(alloc, word, tip),
-        None => text_of(alloc, error),
-    }
-}
-
 /// What `clap` says of `help help`, for words that it takes for a command of that name.
 const HELP_OF_HELP: &str = "\
 Print this message or the help of the given subcommand(s)
@@ -162,47 +92,53 @@ Usage: bpfrt help [COMMAND]...
 Arguments:
   [COMMAND]...  Print help for the subcommand(s)";
 
-/// Whether the words ask for the help of `help` by an option.
-fn asks_for_help_of_help(words: &[String]) -> bool {
-    match word_at(words, 2) {
-        "--help" | "-h" => word_at(words, 1) == "help",
-        _ => false,
+/// What is said of a first word that is no command, with this tip.
+fn no_command_named(alloc: Global, word: &str, tip: &str) -> Result<String, AllocError> {
+    let why = format!(in alloc; "unrecognized subcommand '{word}'\n\n  tip: {tip}")?;
+    let error = grammar(alloc)?.error(ErrorKind::InvalidSubcommand, why.as_str())?;
+    format!(in alloc; "{error}")
+}
+
+/// What is said of a first word that is no command, by `clap` where there is no tip of ours.
+fn told_of_command(alloc: Global, words: &[String], text: String) -> Result<String, AllocError> {
+    let word = word_at(words, 1);
+    if word == "help" && matches!(word_at(words, 2), "--help" | "-h") {
+        return String::from_str(alloc, HELP_OF_HELP);
+    }
+    if let Some(name) = command_meant(word) {
+        let tip = format!(in alloc; "a similar subcommand exists: '{name}'")?;
+        return no_command_named(alloc, word, tip.as_str());
+    }
+    match tip_of_first(word) {
+        Some(tip) => no_command_named(alloc, word, tip),
+        None => Ok(text),
     }
 }
 
-/// What `clap` says of words of this command, with the usage of `run` and `trace`, which it leaves out of some faults.
-fn with_usage(alloc: Global, command: &str, text: &str) -> Result<String, AllocError> {
-    if text.contains("Usage:") || (command != "run" && command != "trace") {
+/// What `clap` says, with a paragraph above the one that begins so, in place of its tip on words that begin with `-`.
+fn with_above(
+    alloc: Global,
+    text: &str,
+    start: &str,
+    paragraph: &str,
+) -> Result<String, AllocError> {
+    let Some((why, more)) = text.split_once(start) else {
         return String::from_str(alloc, text);
-    }
-    let usage = usage_of(command);
-    match text.split_once("\n\nFor more") {
-        Some((why, more)) => format!(in alloc; "{why}\n\nUsage: {usage}\n\nFor more{more}"),
-        None => String::from_str(alloc, text),
-    }
-}
-
-/// How the tip begins with which `clap` explains words that begin with `-`.
-const VALUE_TIP: &str = "\n\n  tip: to pass '";
-
-/// What stands before `clap`'s tip on values.
-fn before_tip(why: &str) -> &str {
-    match why.split_once(VALUE_TIP) {
+    };
+    let why = match why.split_once("\n\n  tip: to pass '") {
         Some((why, _)) => why,
         None => why,
-    }
+    };
+    format!(in alloc; "{why}{paragraph}{start}{more}")
 }
 
 /// What `clap` says, with a tip of ours in place of its tip on values.
 fn with_tip(alloc: Global, text: &str, tip: Option<&str>) -> Result<String, AllocError> {
-    let Some((why, more)) = text.split_once("\n\nUsage") else {
-        return String::from_str(alloc, text);
+    let Some(tip) = tip else {
+        return with_above(alloc, text, "\n\nUsage", "");
     };
-    let why = before_tip(why);
-    match tip {
-        Some(tip) => format!(in alloc; "{why}\n\n  tip: {tip}\n\nUsage{more}"),
-        None => format!(in alloc; "{why}\n\nUsage{more}"),
-    }
+    let tip = format!(in alloc; "\n\n  tip: {tip}")?;
+    with_above(alloc, text, "\n\nUsage", tip.as_str())
 }
 
 /// Where what `asm` and `disasm` make goes to.
@@ -218,19 +154,11 @@ fn tip_of_option(word: &str) -> Option<&'static str> {
     }
 }
 
-/// Which data the words of `filter` tell of.
-fn kind_of(words: &[String]) -> Data {
-    if has_word(words, "--seccomp") {
-        Data::Seccomp
-    } else {
-        Data::Packet
-    }
-}
-
-/// The tip for a word too many of this command.
-fn tip_of_more(command: &str, words: &[String]) -> Option<&'static str> {
-    match command {
-        "filter" => Some(classic_file(kind_of(words))),
+/// The tip for a word too many of a command.
+fn tip_of_more(words: &[String]) -> Option<&'static str> {
+    match word_at(words, 1) {
+        "filter" if has_word(words, "--seccomp") => Some(classic_file(Data::Seccomp)),
+        "filter" => Some(classic_file(Data::Packet)),
         "asm" | "disasm" => Some(OUTPUT_TIP),
         "check" => Some("one FILE is checked at a time"),
         "run" | "trace" => Some("CTX is one word: its bytes stand without blanks"),
@@ -238,16 +166,11 @@ fn tip_of_more(command: &str, words: &[String]) -> Option<&'static str> {
     }
 }
 
-/// The tip for a word that no argument of the command takes: `clap` has it in quotes.
-fn tip_of_word(words: &[String], text: &str) -> Option<&'static str> {
-    match text.split('\'').nth(1) {
-        Some(word) if word.starts_with('-') => tip_of_option(word),
-        _ => tip_of_more(word_at(words, 1), words),
+/// The file that the words give to `script`, which takes none.
+fn script_file(words: &[String]) -> Option<&str> {
+    if word_at(words, 1) != "script" {
+        return None;
     }
-}
-
-/// The first word behind a command and its options.
-fn plain_word(words: &[String]) -> Option<&str> {
     for word in words.iter().skip(2) {
         if !word.as_str().starts_with('-') {
             return Some(word.as_str());
@@ -256,81 +179,55 @@ fn plain_word(words: &[String]) -> Option<&str> {
     None
 }
 
-/// The file that the words give to `script`, which takes none.
-fn script_file(words: &[String]) -> Option<&str> {
-    if word_at(words, 1) == "script" {
-        plain_word(words)
-    } else {
-        None
-    }
-}
-
-/// What is said of a word that no argument of the command takes.
+/// What is said of a word that no argument of the command takes: `clap` has it in quotes.
 fn told_of_word(alloc: Global, words: &[String], text: &str) -> Result<String, AllocError> {
-    match script_file(words) {
-        Some(file) => {
-            let tip = format!(in alloc;
-                "a script comes on standard input: `bpfrt script < {file}`"
-            )?;
-            with_tip(alloc, text, Some(tip.as_str()))
-        }
-        None => {
-            let tip = tip_of_word(words, text);
-            with_tip(alloc, text, tip)
-        }
+    if let Some(file) = script_file(words) {
+        let tip = format!(in alloc; "a script comes on standard input: `bpfrt script < {file}`")?;
+        return with_tip(alloc, text, Some(tip.as_str()));
     }
+    let tip = match text.split('\'').nth(1) {
+        Some(word) if word.starts_with('-') => tip_of_option(word),
+        _ => tip_of_more(words),
+    };
+    with_tip(alloc, text, tip)
 }
 
 /// Where FILE stands among words that have `--map`.
 const MAP_TIP: &str =
     "what follows --map NAME is taken for its elements: FILE stands before --map, or behind `--`";
 
-/// What `clap` says of words with a fault of this kind, with the tips that it leaves out.
-fn with_tips(
-    alloc: Global,
-    words: &[String],
-    kind: ErrorKind,
-    text: &str,
-) -> Result<String, AllocError> {
-    match kind {
-        ErrorKind::UnknownArgument => told_of_word(alloc, words, text),
-        ErrorKind::MissingRequiredArgument if has_word(words, "--map") => {
-            with_tip(alloc, text, Some(MAP_TIP))
-        }
-        _ => String::from_str(alloc, text),
-    }
-}
-
-/// What `clap` says of words with an error of this kind, with what it leaves out.
-fn told_by_clap(
-    alloc: Global,
-    error: &clap::Error,
-    kind: ErrorKind,
-    words: &[String],
-) -> Result<String, AllocError> {
-    let text = text_of(alloc, error)?;
-    let text = with_usage(alloc, word_at(words, 1), text.as_str())?;
-    with_tips(alloc, words, kind, text.as_str())
+/// What is said of `--map` with no words behind it: `clap` leaves out the usage of `run` and `trace`.
+fn with_usage(alloc: Global, command: &str, text: &str) -> Result<String, AllocError> {
+    let usage = format!(in alloc; "\n\nUsage: {}", usage_of(command))?;
+    with_above(alloc, text, "\n\nFor more", usage.as_str())
 }
 
 /// What is said of words with this error.
 fn told(alloc: Global, error: &clap::Error, words: &[String]) -> Result<String, AllocError> {
+    let text = format!(in alloc; "{error}")?;
+    let command = word_at(words, 1);
     match error.kind() {
-        ErrorKind::InvalidSubcommand if asks_for_help_of_help(words) => {
-            String::from_str(alloc, HELP_OF_HELP)
+        ErrorKind::InvalidSubcommand => told_of_command(alloc, words, text),
+        ErrorKind::UnknownArgument => told_of_word(alloc, words, text.as_str()),
+        ErrorKind::InvalidValue if command == "run" || command == "trace" => {
+            with_usage(alloc, command, text.as_str())
         }
-        ErrorKind::InvalidSubcommand => told_of_command(alloc, error, word_at(words, 1)),
-        kind => told_by_clap(alloc, error, kind, words),
+        ErrorKind::MissingRequiredArgument if has_word(words, "--map") => {
+            with_tip(alloc, text.as_str(), Some(MAP_TIP))
+        }
+        _ => Ok(text),
     }
 }
 
 /// Why the words are no command.
-pub(crate) fn words_fault(alloc: Global, error: &clap::Error, words: &[String]) -> WordsFault {
+pub(crate) fn words_fault(
+    alloc: Global,
+    error: &clap::Error,
+    words: &[String],
+) -> Result<WordsFault, AllocError> {
     if error.kind() == ErrorKind::OutOfMemory {
-        return WordsFault::Memory;
+        return Err(AllocError);
     }
-    match told(alloc, error, words) {
-        Ok(text) => fault_of(alloc, text.as_str()),
-        Err(_) => WordsFault::Memory,
-    }
+    let text = told(alloc, error, words)?;
+    Ok(WordsFault::Usage(shown(alloc, text.as_str())?))
 }

@@ -1,4 +1,4 @@
-//! What `--help` says of each command, behind its arguments.
+//! What `--help` says of each argument of a command, and behind the arguments.
 
 /// Behind the commands of `bpfrt --help`.
 pub(crate) const HELP: &str = "\
@@ -8,7 +8,6 @@ error.
 
 Status: 0 fine, 1 refused or a wrong line, 2 usage, 3 memory, reading or writing";
 
-/// Behind the arguments of `bpfrt check --help`.
 const CHECK_HELP: &str = "\
 Reads a program file: a text (`bpfrt 1`, `ctx N`, `map ..`, `code`, slots in hexadecimal digits),
 whose maps and context the program is verified against, or raw bytes, with neither.
@@ -38,7 +37,6 @@ Example:
   $ bpfrt check examples/c/counter.bpfrt
   accepted 33 instructions 35 slots";
 
-/// Behind the arguments of `bpfrt disasm --help`.
 const DISASM_HELP: &str = "\
 Reads a program file as `bpfrt check` does, and verifies nothing.
 
@@ -57,7 +55,6 @@ Example:
   mov64 r0, 1
   exit";
 
-/// Behind the arguments of `bpfrt asm --help`.
 const ASM_HELP: &str = "\
 Reads a text of instructions, one a line, as `bpfrt disasm` writes it, or with labels, names, hexadecimal numbers
 and comments (docs/ASSEMBLY.md). Above them may stand the lines of a program file, from `ctx N` to `code`, with
@@ -83,7 +80,6 @@ Example:
   b700000001000000
   9500000000000000";
 
-/// Behind the words of `bpfrt script --help`.
 const SCRIPT_HELP: &str = "\
 Reads a script from standard input to its end, one command a line (docs/SCRIPTS.md): maps and programs,
 then what happens to them.
@@ -103,7 +99,6 @@ Example:
   ret 0
   value 0500000000000000";
 
-/// Behind the arguments of `bpfrt pool --help`.
 const POOL_HELP: &str = "\
 Reads a program file as `bpfrt check` does, verifies it, and then runs it COUNT times by WORKERS threads that
 share one world of the file's maps. Each job starts the program on its context, steps it to its exit, and drops
@@ -136,7 +131,6 @@ Example:
   job 2 exit 42
   entries 12";
 
-/// Behind the arguments of `bpfrt run --help`.
 const RUN_HELP: &str = "\
 Reads a program file as `bpfrt check` does, verifies it, and then runs it once on the context CTX, to its exit,
 in a world of its own with the file's maps. They are new, but for what --map puts in. Bytes are two hexadecimal
@@ -166,7 +160,6 @@ Example:
   00000000 2a00000000000000
   end";
 
-/// Behind the arguments of `bpfrt trace --help`.
 const TRACE_HELP: &str = "\
 Runs a program as `bpfrt run` does, with the same words, and tells each of its steps above what that prints.
 
@@ -185,7 +178,6 @@ Example:
   1: exit
   exit 1 steps 2";
 
-/// Behind the arguments of `bpfrt filter --help`.
 const FILTER_HELP: &str = "\
 Reads a classic BPF program: a filter as `tcpdump -ddd` writes it, or a policy as libseccomp exports it (--seccomp).
 
@@ -219,5 +211,37 @@ pub(crate) fn help_of(command: &str) -> &'static str {
         "run" => RUN_HELP,
         "trace" => TRACE_HELP,
         _ => FILTER_HELP,
+    }
+}
+
+/// What is said of an argument of the command of this name.
+pub(crate) fn argument_help(command: &str, name: &str) -> &'static str {
+    match (name, command) {
+        ("FILE", "asm") => "a text of instructions, one a line; `-` for standard input",
+        ("FILE", "filter") => {
+            "what `tcpdump -ddd` writes, or of a seccomp policy an array of struct sock_filter; `-` for standard input"
+        }
+        ("FILE", _) => {
+            "a program file: text that begins with `bpfrt 1`, or the bytes of the program's slots; `-` for standard input"
+        }
+        ("explain", "script") => "say in words why a line is refused or no command",
+        ("explain", _) => "say in words why a program is refused",
+        ("asm", _) => "take FILE for a text of instructions, as `bpfrt asm` reads it",
+        ("log", _) => "tell on standard error what is known before each instruction",
+        ("json", _) => "print one JSON object, of a refusal too",
+        ("file", _) => "write a program file, and not the program's bytes alone",
+        ("plain", _) => "write the instructions without names, as `bpfrt disasm` does",
+        ("WORKERS", _) => "how many workers, 1 to 8",
+        ("COUNT", _) => "how many jobs, 0 to 65536",
+        ("contexts", _) => {
+            "take the jobs' contexts from this file, a line of hexadecimal digits each; `-` for standard input"
+        }
+        ("packed", _) => {
+            "take them from this file of bytes, as many for each as the program's context has"
+        }
+        ("CTX", _) => "the bytes of the context; none where it is left out",
+        ("map", _) => "put these elements into the file's map NAME before the run",
+        ("dump", _) => "print the elements of the file's maps behind the exit",
+        _ => "take a policy of system calls, as libseccomp exports it",
     }
 }

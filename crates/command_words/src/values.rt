@@ -1,15 +1,18 @@
 //! What the words of a command say.
 
 use crate::faults::bad_value;
-use crate::request::{
-    AsmForm, Checking, ContextForm, ContextsFile, InputFile, MapElement, SingleRun, WordsFault,
-};
-use crate::table::{CONTEXTS_OPTION, MAP_OPTION, PACKED_OPTION};
+use crate::request::{ContextForm, ContextsFile, InputFile, MapElement, SingleRun, WordsFault};
+use crate::table::MAP_OPTION;
 use clap::ArgMatches;
-use classic::Data;
 use hex::{FromHexError, decode};
 use script_lines::number_of;
 use std::alloc::{AllocError, Global};
+
+/// Why a file of contexts is refused.
+const STANDARD_INPUT_TWICE: &str = "FILE is standard input already";
+
+/// Why a word is no number.
+const NO_NUMBER: &str = "it is no decimal number below 2^64 without sign and leading zeros";
 
 /// The file that a word tells: `-` is standard input.
 fn file_named(alloc: Global, word: &str) -> Result<InputFile, AllocError> {
@@ -19,76 +22,11 @@ fn file_named(alloc: Global, word: &str) -> Result<InputFile, AllocError> {
     }
 }
 
-/// The file that the words tell.
-pub(crate) fn file_of(alloc: Global, matches: &ArgMatches<'_>) -> Result<InputFile, WordsFault> {
-    match matches.get_str("FILE") {
-        Some(word) => Ok(file_named(alloc, word)?),
-        None => Err(WordsFault::Usage(String::from_str(alloc, "a file is missing")?)),
-    }
-}
-
-/// Why a file of contexts is refused.
-const STANDARD_INPUT_TWICE: &str = "FILE is standard input already";
-
-/// The file of contexts that a word tells, as an option that is shown so. Standard input is one file alone.
-fn contexts_in(
-    alloc: Global,
-    matches: &ArgMatches<'_>,
-    word: &str,
-    form: ContextForm,
-    shown: &str,
-) -> Result<Option<ContextsFile>, WordsFault> {
-    if word == "-" && word_of(matches, "FILE") == "-" {
-        return Err(bad_value(alloc, "pool", word, shown, STANDARD_INPUT_TWICE));
-    }
-    let file = file_named(alloc, word)?;
-    Ok(Some(ContextsFile { file, form }))
-}
-
-/// The file of contexts that the words of `pool` tell, if they tell one.
-pub(crate) fn contexts_of(
-    alloc: Global,
-    matches: &ArgMatches<'_>,
-) -> Result<Option<ContextsFile>, WordsFault> {
-    if let Some(word) = matches.get_str("contexts") {
-        return contexts_in(alloc, matches, word, ContextForm::Lines, CONTEXTS_OPTION);
-    }
-    match matches.get_str("packed") {
-        Some(word) => contexts_in(alloc, matches, word, ContextForm::Packed, PACKED_OPTION),
-        None => Ok(None),
-    }
-}
-
-/// Why a word is no number.
-const NO_NUMBER: &str = "it is no decimal number below 2^64 without sign and leading zeros";
-
-/// The number that an argument of `pool` is: its name, and how it is shown.
-pub(crate) fn pool_number(
-    alloc: Global,
-    matches: &ArgMatches<'_>,
-    name: &str,
-    shown: &str,
-) -> Result<u64, WordsFault> {
-    let word = word_of(matches, name);
-    match number_of(word.as_bytes()) {
-        Some(number) => Ok(number),
-        None => Err(bad_value(alloc, "pool", word, shown, NO_NUMBER)),
-    }
-}
-
-/// The word that an argument has; an empty one where there is none.
-fn word_of<'a>(matches: &ArgMatches<'a>, name: &str) -> &'a str {
-    match matches.get_str(name) {
-        Some(word) => word,
-        None => "",
-    }
-}
-
 /// The bytes that a word is, two hexadecimal digits each, in either case.
-fn bytes_of(alloc: Global, word: &str) -> Result<Option<Vec<u8>>, WordsFault> {
+fn bytes_of(alloc: Global, word: &str) -> Result<Option<Vec<u8>>, AllocError> {
     match decode(alloc, word) {
         Ok(bytes) => Ok(Some(bytes)),
-        Err(FromHexError::OutOfMemory) => Err(WordsFault::Memory),
+        Err(FromHexError::OutOfMemory) => Err(AllocError),
         Err(_) => Ok(None),
     }
 }
@@ -118,142 +56,123 @@ fn why_no_element(word: &str) -> &'static str {
     }
 }
 
-/// The context that the words of `run` or `trace` tell.
-fn context_of(
-    alloc: Global,
-    command: &str,
-    matches: &ArgMatches<'_>,
-) -> Result<Vec<u8>, WordsFault> {
-    let word = word_of(matches, "CTX");
-    match bytes_of(alloc, word)? {
-        Some(bytes) => Ok(bytes),
-        None => Err(bad_value(alloc, command, word, "[CTX]", why_no_bytes(word))),
-    }
-}
-
-/// The element of a map with this key and this value.
-fn element(
-    alloc: Global,
-    map: &str,
-    key: Vec<u8>,
-    value: Vec<u8>,
-) -> Result<MapElement, AllocError> {
-    let map = String::from_str(alloc, map)?;
-    Ok(MapElement { map, key, value })
-}
-
-/// The element of a map with this key, and with the value that a word spells, if it does.
-fn element_at(
-    alloc: Global,
-    map: &str,
-    key: Vec<u8>,
-    value: &str,
-) -> Result<Option<MapElement>, WordsFault> {
-    match bytes_of(alloc, value)? {
-        Some(value) => Ok(Some(element(alloc, map, key, value)?)),
-        None => Ok(None),
-    }
-}
-
-/// The element that a word `KEY=VALUE` is, if it is one.
-fn element_of(alloc: Global, map: &str, word: &str) -> Result<Option<MapElement>, WordsFault> {
+/// The element of a map that a word `KEY=VALUE` is, if it is one.
+fn element_of(alloc: Global, map: &str, word: &str) -> Result<Option<MapElement>, AllocError> {
     let Some((key, value)) = word.split_once('=') else {
         return Ok(None);
     };
-    match bytes_of(alloc, key)? {
-        Some(key) => element_at(alloc, map, key, value),
-        None => Ok(None),
-    }
-}
-
-/// Adds the element that a word is.
-fn push_element(
-    alloc: Global,
-    command: &str,
-    elements: &mut Vec<MapElement>,
-    map: &str,
-    word: &str,
-) -> Result<(), WordsFault> {
-    match element_of(alloc, map, word)? {
-        Some(element) => Ok(elements.push(element)?),
-        None => Err(bad_value(alloc, command, word, MAP_OPTION, why_no_element(word))),
-    }
-}
-
-/// Adds the elements that the words of one `--map` are.
-fn push_elements(
-    alloc: Global,
-    command: &str,
-    elements: &mut Vec<MapElement>,
-    words: &[&str],
-) -> Result<(), WordsFault> {
-    let Some((map, words)) = words.split_first() else {
-        return Ok(());
+    let (Some(key), Some(value)) = (bytes_of(alloc, key)?, bytes_of(alloc, value)?) else {
+        return Ok(None);
     };
-    for word in words {
-        push_element(alloc, command, elements, map, word)?;
+    let map = String::from_str(alloc, map)?;
+    Ok(Some(MapElement { map, key, value }))
+}
+
+/// The words behind the name of a command.
+#[derive(Clone, Copy)]
+pub(crate) struct Values<'m, 'a> {
+    pub alloc: Global,
+    pub command: &'a str,
+    pub matches: &'m ArgMatches<'a>,
+}
+
+impl<'m, 'a> Values<'m, 'a> {
+    /// The word that an argument has; an empty one where there is none.
+    fn word(&self, name: &str) -> &'a str {
+        self.matches.get_str(name).unwrap_or("")
     }
-    Ok(())
-}
 
-/// The elements that the words of `run` or `trace` tell.
-fn elements_of(
-    alloc: Global,
-    command: &str,
-    matches: &ArgMatches<'_>,
-) -> Result<Vec<MapElement>, WordsFault> {
-    let mut elements = Vec::new(alloc);
-    let Some(uses) = matches.get_raw_occurrences("map") else {
-        return Ok(elements);
-    };
-    for words in uses {
-        push_elements(alloc, command, &mut elements, words)?;
+    /// The fault of a word that is no value of the argument that is shown so.
+    fn bad<T>(&self, word: &str, shown: &str, why: &str) -> Result<T, WordsFault> {
+        Err(bad_value(self.alloc, self.command, word, shown, why)?)
     }
-    Ok(elements)
-}
 
-/// What one run is made on, by the words of `run` or `trace`. They are judged before the file is read.
-pub(crate) fn single_of(
-    alloc: Global,
-    command: &str,
-    matches: &ArgMatches<'_>,
-) -> Result<SingleRun, WordsFault> {
-    let context = context_of(alloc, command, matches)?;
-    Ok(SingleRun {
-        context,
-        elements: elements_of(alloc, command, matches)?,
-        dump: matches.get_flag("dump"),
-        explain: matches.get_flag("explain"),
-        json: matches.get_flag("json"),
-    })
-}
-
-/// How `check` is to check.
-pub(crate) fn checking_of(matches: &ArgMatches<'_>) -> Checking {
-    Checking {
-        asm: matches.get_flag("asm"),
-        log: matches.get_flag("log"),
-        explain: matches.get_flag("explain"),
-        json: matches.get_flag("json"),
+    /// The command's file.
+    pub fn file(&self) -> Result<InputFile, AllocError> {
+        file_named(self.alloc, self.word("FILE"))
     }
-}
 
-/// What `asm` is to write.
-pub(crate) fn form_of(matches: &ArgMatches<'_>) -> AsmForm {
-    if matches.get_flag("file") {
-        AsmForm::File
-    } else if matches.get_flag("plain") {
-        AsmForm::Plain
-    } else {
-        AsmForm::Bytes
+    /// The file of contexts that a word tells, as an option that is shown so. Standard input is one file alone.
+    fn contexts_in(
+        &self,
+        word: &str,
+        form: ContextForm,
+        shown: &str,
+    ) -> Result<Option<ContextsFile>, WordsFault> {
+        if word == "-" && self.word("FILE") == "-" {
+            return self.bad(word, shown, STANDARD_INPUT_TWICE);
+        }
+        let file = file_named(self.alloc, word)?;
+        Ok(Some(ContextsFile { file, form }))
     }
-}
 
-/// Which data the classic program of `filter` judges.
-pub(crate) fn data_of(matches: &ArgMatches<'_>) -> Data {
-    if matches.get_flag("seccomp") {
-        Data::Seccomp
-    } else {
-        Data::Packet
+    /// The file of contexts, if there is one.
+    pub fn contexts(&self) -> Result<Option<ContextsFile>, WordsFault> {
+        if let Some(word) = self.matches.get_str("contexts") {
+            return self.contexts_in(word, ContextForm::Lines, "--contexts <FILE>");
+        }
+        match self.matches.get_str("packed") {
+            Some(word) => self.contexts_in(word, ContextForm::Packed, "--packed <FILE>"),
+            None => Ok(None),
+        }
+    }
+
+    /// The number that an argument is: its name, and how it is shown.
+    pub fn number(&self, name: &str, shown: &str) -> Result<u64, WordsFault> {
+        let word = self.word(name);
+        match number_of(word.as_bytes()) {
+            Some(number) => Ok(number),
+            None => self.bad(word, shown, NO_NUMBER),
+        }
+    }
+
+    /// The context of a run.
+    fn context(&self) -> Result<Vec<u8>, WordsFault> {
+        let word = self.word("CTX");
+        match bytes_of(self.alloc, word)? {
+            Some(bytes) => Ok(bytes),
+            None => self.bad(word, "[CTX]", why_no_bytes(word)),
+        }
+    }
+
+    /// Adds the elements that the words of one `--map` are.
+    fn push_elements(
+        &self,
+        elements: &mut Vec<MapElement>,
+        words: &[&str],
+    ) -> Result<(), WordsFault> {
+        let Some((map, words)) = words.split_first() else {
+            return Ok(());
+        };
+        for word in words {
+            match element_of(self.alloc, map, word)? {
+                Some(element) => elements.push(element)?,
+                None => return self.bad(word, MAP_OPTION, why_no_element(word)),
+            }
+        }
+        Ok(())
+    }
+
+    /// The elements of a run's maps.
+    fn elements(&self) -> Result<Vec<MapElement>, WordsFault> {
+        let mut elements = Vec::new(self.alloc);
+        let Some(uses) = self.matches.get_raw_occurrences("map") else {
+            return Ok(elements);
+        };
+        for words in uses {
+            self.push_elements(&mut elements, words)?;
+        }
+        Ok(elements)
+    }
+
+    /// What one run is made on. The words are judged before the file is read.
+    pub fn single(&self) -> Result<SingleRun, WordsFault> {
+        Ok(SingleRun {
+            context: self.context()?,
+            elements: self.elements()?,
+            dump: self.matches.get_flag("dump"),
+            explain: self.matches.get_flag("explain"),
+            json: self.matches.get_flag("json"),
+        })
     }
 }

@@ -2,99 +2,101 @@
 
 use crate::faults::words_fault;
 use crate::grammar::grammar;
-use crate::request::{BpfrtCommand, WordsFault};
-use crate::values::{checking_of, contexts_of, data_of, file_of, form_of, pool_number, single_of};
+use crate::request::{AsmForm, BpfrtCommand, Checking, WordsFault};
+use crate::values::Values;
 use clap::ArgMatches;
 use clap::error::ErrorKind;
+use classic::Data;
 use std::alloc::Global;
 
-fn check_of(alloc: Global, matches: &ArgMatches<'_>) -> Result<BpfrtCommand, WordsFault> {
-    let file = file_of(alloc, matches)?;
-    let how = checking_of(matches);
-    Ok(BpfrtCommand::Check { file, how })
-}
-
-fn disasm_of(alloc: Global, matches: &ArgMatches<'_>) -> Result<BpfrtCommand, WordsFault> {
-    let file = file_of(alloc, matches)?;
-    Ok(BpfrtCommand::Disasm { file })
-}
-
-fn asm_of(alloc: Global, matches: &ArgMatches<'_>) -> Result<BpfrtCommand, WordsFault> {
-    Ok(BpfrtCommand::Asm {
-        file: file_of(alloc, matches)?,
-        form: form_of(matches),
+/// How `check` is to check.
+fn checking_of(matches: &ArgMatches<'_>) -> Checking {
+    Checking {
+        asm: matches.get_flag("asm"),
+        log: matches.get_flag("log"),
         explain: matches.get_flag("explain"),
-    })
-}
-
-fn script_of(matches: &ArgMatches<'_>) -> BpfrtCommand {
-    let explain = matches.get_flag("explain");
-    BpfrtCommand::Script { explain }
-}
-
-/// The numbers are judged before the file is read.
-fn pool_of(alloc: Global, matches: &ArgMatches<'_>) -> Result<BpfrtCommand, WordsFault> {
-    let workers = pool_number(alloc, matches, "WORKERS", "<WORKERS>")?;
-    let count = pool_number(alloc, matches, "COUNT", "<COUNT>")?;
-    Ok(BpfrtCommand::Pool {
-        workers,
-        file: file_of(alloc, matches)?,
-        count,
-        contexts: contexts_of(alloc, matches)?,
-        explain: matches.get_flag("explain"),
-    })
-}
-
-fn run_of(alloc: Global, matches: &ArgMatches<'_>) -> Result<BpfrtCommand, WordsFault> {
-    let file = file_of(alloc, matches)?;
-    let single = single_of(alloc, "run", matches)?;
-    Ok(BpfrtCommand::Run { file, single })
-}
-
-fn trace_of(alloc: Global, matches: &ArgMatches<'_>) -> Result<BpfrtCommand, WordsFault> {
-    let file = file_of(alloc, matches)?;
-    let single = single_of(alloc, "trace", matches)?;
-    Ok(BpfrtCommand::Trace { file, single })
-}
-
-fn filter_of(alloc: Global, matches: &ArgMatches<'_>) -> Result<BpfrtCommand, WordsFault> {
-    Ok(BpfrtCommand::Filter {
-        file: file_of(alloc, matches)?,
-        kind: data_of(matches),
-        explain: matches.get_flag("explain"),
-    })
-}
-
-/// The command of this name, with the words behind it.
-fn command_of(
-    alloc: Global,
-    name: &str,
-    matches: &ArgMatches<'_>,
-) -> Result<BpfrtCommand, WordsFault> {
-    match name {
-        "check" => check_of(alloc, matches),
-        "disasm" => disasm_of(alloc, matches),
-        "asm" => asm_of(alloc, matches),
-        "script" => Ok(script_of(matches)),
-        "pool" => pool_of(alloc, matches),
-        "run" => run_of(alloc, matches),
-        "trace" => trace_of(alloc, matches),
-        "filter" => filter_of(alloc, matches),
-        _ => no_command(alloc),
+        json: matches.get_flag("json"),
     }
 }
 
-/// No command stands among the words. `clap` refuses them before.
-fn no_command(alloc: Global) -> Result<BpfrtCommand, WordsFault> {
-    Err(WordsFault::Usage(String::from_str(alloc, "a command is missing")?))
+/// What `asm` is to write.
+fn form_of(matches: &ArgMatches<'_>) -> AsmForm {
+    if matches.get_flag("file") {
+        AsmForm::File
+    } else if matches.get_flag("plain") {
+        AsmForm::Plain
+    } else {
+        AsmForm::Bytes
+    }
+}
+
+/// Which data the classic program of `filter` judges.
+fn data_of(matches: &ArgMatches<'_>) -> Data {
+    if matches.get_flag("seccomp") {
+        Data::Seccomp
+    } else {
+        Data::Packet
+    }
+}
+
+/// The command `pool`. Its numbers are judged before the file is read.
+fn pool_of(values: &Values<'_, '_>) -> Result<BpfrtCommand, WordsFault> {
+    Ok(BpfrtCommand::Pool {
+        workers: values.number("WORKERS", "<WORKERS>")?,
+        count: values.number("COUNT", "<COUNT>")?,
+        file: values.file()?,
+        contexts: values.contexts()?,
+        explain: values.matches.get_flag("explain"),
+    })
+}
+
+/// The command whose words these are. `clap` refuses all others before.
+fn command_of(values: &Values<'_, '_>) -> Result<BpfrtCommand, WordsFault> {
+    let matches = values.matches;
+    let explain = matches.get_flag("explain");
+    let file = match values.command {
+        "script" => return Ok(BpfrtCommand::Script { explain }),
+        "pool" => return pool_of(values),
+        _ => values.file()?,
+    };
+    Ok(match values.command {
+        "check" => BpfrtCommand::Check {
+            file,
+            how: checking_of(matches),
+        },
+        "disasm" => BpfrtCommand::Disasm { file },
+        "asm" => BpfrtCommand::Asm {
+            file,
+            form: form_of(matches),
+            explain,
+        },
+        "run" => BpfrtCommand::Run {
+            file,
+            single: values.single()?,
+        },
+        "trace" => BpfrtCommand::Trace {
+            file,
+            single: values.single()?,
+        },
+        _ => BpfrtCommand::Filter {
+            file,
+            kind: data_of(matches),
+            explain,
+        },
+    })
 }
 
 /// The command that `clap` has found.
 fn found_command(alloc: Global, matches: &ArgMatches<'_>) -> Result<BpfrtCommand, WordsFault> {
-    match matches.subcommand() {
-        Some((name, matches)) => command_of(alloc, name, matches),
-        None => no_command(alloc),
-    }
+    let (command, matches) = match matches.subcommand() {
+        Some(found) => found,
+        None => return Err(WordsFault::Usage(String::from_str(alloc, "a command is missing")?)),
+    };
+    command_of(&Values {
+        alloc,
+        command,
+        matches,
+    })
 }
 
 /// The command that the words ask for. The first word is the program's own name.
@@ -105,6 +107,6 @@ pub fn parse_words<'a>(alloc: Global, words: &'a [String]) -> Result<BpfrtComman
     match grammar(alloc)?.try_get_matches_from(words) {
         Ok(matches) => found_command(alloc, &matches),
         Err(error) if error.kind() == ErrorKind::DisplayVersion => Ok(BpfrtCommand::Version),
-        Err(error) => Err(words_fault(alloc, &error, words)),
+        Err(error) => Err(words_fault(alloc, &error, words)?),
     }
 }
