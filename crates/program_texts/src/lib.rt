@@ -1,8 +1,12 @@
 //! What becomes a program file, or why it becomes none, also in words: assembly below the head of a file, and classic programs.
+//! No clause says of words for people that they are right.
 #![tactic(auto)]
 
 mod assembly;
+mod explain;
 mod heads;
+mod naming;
+mod other_names;
 mod translation;
 mod window;
 mod words;

@@ -1,8 +1,10 @@
 //! Lines of a text of instructions, and what is wrong with them, in words for people.
 
 use crate::assembly::{TextFault, lines_above, plain_text};
+use crate::explain::explain_line;
 use crate::heads::parts_of;
-use asm_hints::{NO_HEADING, explain_line, explain_name};
+use crate::naming::explain_name;
+use crate::other_names::NO_HEADING;
 use asm_source::{fed_text, line_at};
 use command_words::shown;
 use std::alloc::{AllocError, Global};
