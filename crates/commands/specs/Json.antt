@@ -16,21 +16,17 @@ accepted_json instructions slots =
     codes "{\"accepted\":true,\"instructions\":" ++ (decimal instructions
     ++ (codes ",\"slots\":" ++ (decimal slots ++ codes "}\n")))
 
--- A byte between the quotes of a string: a quote, a backslash and a control character are escaped, and a line feed, which is
--- byte 10, ends the string and begins the next.
-abbrev pub byte_json : ℕ → List ℕ
-byte_json b =
-    if b == 10 then codes "\",\""
+-- A byte between the quotes of a string: a quote, a backslash and a control character are escaped. For a line feed, which is
+-- byte 10, `feed` stands.
+abbrev pub byte_json : List ℕ → ℕ → List ℕ
+byte_json feed b =
+    if b == 10 then feed
     else if b == 34 || b == 92 then 92 ∷ b ∷ []
     else if nat_lt b 32 then codes "\\u00" ++ encode_lower (b ∷ [])
     else b ∷ []
 
--- a byte between the quotes of a string of its own, where a line feed is escaped
-abbrev pub character_json : ℕ → List ℕ
-character_json b = if b == 10 then codes "\\n" else byte_json b
-
 abbrev pub string_json : List ℕ → List ℕ
-string_json text = codes "\"" ++ (flat_map character_json text ++ codes "\"")
+string_json text = codes "\"" ++ (flat_map (byte_json (codes "\\n")) text ++ codes "\"")
 
 -- the name of a refusal, and what it means
 abbrev pub words_json : List ℕ → List ℕ → List ℕ
@@ -42,10 +38,10 @@ refusal_json v name meaning =
     codes "{\"accepted\":false,\"code\":" ++ (decimal (command_number v) ++ (codes ",\"slot\":" ++ (number_json (command_slot v)
     ++ (codes ",\"line\":" ++ (number_json (command_line v) ++ (words_json name meaning ++ codes "}\n"))))))
 
--- the lines of a text, each of which a line feed ends, as a list of strings
+-- The lines of a text, each of which a line feed ends, as a list of strings. A feed ends a string and begins the next.
 abbrev pub lines_json : List ℕ → List ℕ
 lines_json [] = codes "[]"
-lines_json (b ∷ text) = codes "[\"" ++ (flat_map byte_json (take (length text) (b ∷ text)) ++ codes "\"]")
+lines_json (b ∷ text) = codes "[\"" ++ (flat_map (byte_json (codes "\",\"")) (take (length text) (b ∷ text)) ++ codes "\"]")
 
 -- a run that exits with the value by its n-th step, and the lines of what is in its maps
 abbrev pub ended_json : ℕ → ℕ → List ℕ → List ℕ

@@ -6,13 +6,12 @@ ghost use Rattle.program_files.specs.Heads.{file_text};
 ghost use Rattle.commands.specs.Asm.{WritesCode, written_as};
 ghost use Rattle.commands.specs.Sources.{IsRefusedText};
 
+use crate::meanings::meaning_of_text;
 use crate::prefixes::explain_prefix;
-use crate::report::out_of_memory;
+use crate::report::{out_of_memory, write_number};
 use crate::source_text::{SourceText, source_of};
 use crate::streams::{read_failed_in_words, write_status, write_text};
-use crate::text_meanings::meaning_of_text;
 use asm::AsmFault;
-use asm_source::SourceFault;
 use bpf_model::CTX_BYTES;
 use command_words::AsmForm;
 use explanations::write_meaning;
@@ -35,19 +34,20 @@ fn text_in(alloc: Global, form: AsmForm, made: Assembled) -> Result<Vec<u8>, All
     }
 }
 
-/// The line of a fault of names, counted from 1 below a head of so many lines.
-fn named_line(lines: usize, fault: &SourceFault) -> usize {
-    fault.line().unwrap_or(0).saturating_add(lines)
-}
-
-/// The number of a fault of a text.
-fn code_of(why: &TextFault) -> u8 {
+/// The number of a fault of a text, and its line among those that are read, if it is of one.
+fn place_of(why: &TextFault) -> (u8, Option<usize>) {
     match why {
-        TextFault::Memory => Verdict::Memory.code(),
-        TextFault::NotUtf8 { line } => AsmFault::BadLine(*line).code(),
-        TextFault::Unnamed { lines, fault } => AsmFault::BadLine(named_line(*lines, fault)).code(),
-        TextFault::BadHead { line } => LoadFault::BadFile { line: *line }.code(),
-        TextFault::Flawed { flaw, .. } => flaw.code(),
+        TextFault::Memory => (Verdict::Memory.code(), None),
+        TextFault::NotUtf8 { line } => (AsmFault::BadLine(*line).code(), Some(*line)),
+        TextFault::Unnamed { lines, fault } => {
+            let line = fault.line().unwrap_or(0).saturating_add(*lines);
+            (AsmFault::BadLine(line).code(), Some(line))
+        }
+        TextFault::BadHead { line } => (LoadFault::BadFile { line: *line }.code(), Some(*line)),
+        TextFault::Flawed { lines, flaw } => match flaw.line() {
+            Some(line) => (flaw.code(), Some(line.saturating_add(*lines))),
+            None => (flaw.code(), None),
+        },
     }
 }
 
@@ -62,40 +62,16 @@ fn report_fault_line<E: Write>(
     ensures status { (result ≡ 1) ⊎ (result ≡ 3) }
     ensures refused { result ≡ 1 → why.now ≢ TextFault.Memory }
 {
-    let code = code_of(why);
-    let _ = match why {
-        TextFault::Memory => return out_of_memory(err, in_words),
-        TextFault::NotUtf8 { line } => writeln!(err, "refused {code} at {line}"),
-        TextFault::Unnamed { lines, fault } => {
-            let line = source.line_read(named_line(*lines, fault));
-            writeln!(err, "refused {code} at {line}")
-        }
-        TextFault::BadHead { line } => {
-            let line = source.line_read(*line);
-            writeln!(err, "fault {code} at {line}")
-        }
-        TextFault::Flawed { lines, flaw } => match flaw.line() {
-            Some(line) => {
-                let line = source.line_read(line.saturating_add(*lines));
-                writeln!(err, "refused {code} at {line}")
-            }
-            None => writeln!(err, "refused {code}"),
-        },
+    if matches!(why, TextFault::Memory) {
+        return out_of_memory(err, in_words);
+    }
+    let what = match why {
+        TextFault::BadHead { .. } => "fault",
+        _ => "refused",
     };
+    let (code, line) = place_of(why);
+    write_number(err, what, code, line.map(|line| source.line_read(line)));
     1
-}
-
-/// What is said of a line above `code` behind how it is written.
-const ABOVE_CODE: &str =
-    "  so is each line above `code` when comments, empty lines and further blanks are left out";
-
-/// Writes what is wrong with the line of this number above `code`, which is read as the first.
-fn explain_first<E: Write>(err: &mut E, source: &SourceText, number: usize) -> io::Result<()> {
-    write_line(err, &source.fed, number, 0)?;
-    writeln!(
-        err,
-        "  the first line that is no comment is `ctx N`: the length of the context in bytes, 0 to {CTX_BYTES}"
-    )
 }
 
 /// Writes what is wrong with the line above `code` that is read as the line of this number.
@@ -108,7 +84,11 @@ fn explain_head<E: Write>(
 ) -> io::Result<()> {
     let number = source.line_read(line);
     if line == 1 && number > 1 {
-        explain_first(err, source, number)?;
+        write_line(err, &source.fed, number, 0)?;
+        writeln!(
+            err,
+            "  the first line that is no comment is `ctx N`: the length of the context in bytes, 0 to {CTX_BYTES}"
+        )?;
         return explain_prefix(err, bytes, number);
     }
     explain_text(alloc, bytes, &TextFault::BadHead { line: number }, err)?;
@@ -116,7 +96,10 @@ fn explain_head<E: Write>(
     if number == 1 && bytes.starts_with(b"bpfrt") {
         return Ok(());
     }
-    writeln!(err, "{ABOVE_CODE}")
+    writeln!(
+        err,
+        "  so is each line above `code` when comments, empty lines and further blanks are left out"
+    )
 }
 
 /// Writes the name and the meaning of a fault of a text, and what is wrong.

@@ -1,11 +1,12 @@
 //! The contexts that the jobs of a pool take in turn.
 ghost use Rattle.std.specs.Prelude.{◌≡◌, ◌≢◌, ◌≤◌, ◌<◌, ℕ, List, length, map, replicate, IfErr, IfOk};
 ghost use Rattle.bpf_model.specs.declared.limits.TheConstants.{CTX_BYTES};
-ghost use Rattle.commands.specs.Contexts.{AreContexts, SaysContexts};
+ghost use Rattle.commands.specs.Contexts.{AreContexts};
 ghost use Rattle.program_files.specs.declared.contexts.ContextsFault.TheVariants.{Memory};
 
-use bpf_model::CtxBytes;
+use bpf_model::{CtxBytes, EventRefusal};
 use command_words::{ContextForm, ContextsFile};
+use explanations::{meaning_of_event, write_meaning};
 use program_files::{ContextsFault, contexts_in_lines, packed_contexts};
 use std::alloc::Global;
 use std::io;
@@ -24,25 +25,6 @@ fn zeros(count: usize) -> CtxBytes
     bytes
 }
 
-/// The contexts of so many bytes each that a file of this form says.
-fn contexts_in(
-    alloc: Global,
-    form: ContextForm,
-    len: usize,
-    bytes: &[u8],
-) -> Result<Vec<CtxBytes>, ContextsFault>
-    requires { len ≤ CTX_BYTES }
-    ensures found { IfOk result (λ v. SaysContexts form len bytes.now (map (λ c. c.items) v.items)) }
-    ensures some { IfOk result (λ v. 0 < length v.items) }
-    ensures fault { IfErr result (λ f. f ≢ Memory →
-        (contexts : List (List ℕ)) → SaysContexts form len bytes.now contexts → ⊥) }
-{
-    match form {
-        ContextForm::Lines => contexts_in_lines(alloc, len, bytes),
-        ContextForm::Packed => packed_contexts(alloc, len, bytes),
-    }
-}
-
 /// The contexts of so many bytes each that the jobs of a pool take in turn: those that the bytes of the file say, or one of
 /// zeros where there is no file.
 pub fn contexts_for(
@@ -57,23 +39,25 @@ pub fn contexts_for(
     ensures fault { IfErr result (λ f. f ≢ Memory →
         (contexts : List (List ℕ)) → AreContexts file.now len bytes.now contexts → ⊥) }
 {
-    match file {
-        Some(file) => contexts_in(alloc, file.form, len, bytes),
-        None => {
-            let mut contexts = Vec::new(alloc);
-            contexts.push(zeros(len))?;
-            Ok(contexts)
-        }
+    let Some(file) = file else {
+        let mut contexts = Vec::new(alloc);
+        contexts.push(zeros(len))?;
+        return Ok(contexts);
+    };
+    match file.form {
+        ContextForm::Lines => contexts_in_lines(alloc, len, bytes),
+        ContextForm::Packed => packed_contexts(alloc, len, bytes),
     }
 }
 
-/// Writes what is wrong with a file of contexts of so many bytes each.
+/// Writes what it means that a file has no contexts of so many bytes each, and what is wrong with it.
 pub fn write_contexts_fault<W: Write>(
     out: &mut W,
     bytes: &[u8],
     len: usize,
     fault: ContextsFault,
 ) -> io::Result<()> {
+    write_meaning(out, meaning_of_event(EventRefusal::BadContext))?;
     match fault {
         ContextsFault::BadLine { line } => {
             write_line(out, bytes, line, 0)?;

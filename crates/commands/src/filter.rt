@@ -3,9 +3,9 @@ ghost use Rattle.std.specs.Prelude.{◌≡◌, ◌≢◌, ◌⊎◌, IfSome};
 ghost use Rattle.program_texts.specs.Filters.{IsRefusedByFilter};
 ghost use Rattle.commands.specs.Filters.{WritesFilter};
 
-use crate::report::out_of_memory;
+use crate::meanings::meaning_of_filter;
+use crate::report::{out_of_memory, write_number};
 use crate::streams::{read_failed_in_words, write_status, write_text};
-use crate::text_meanings::meaning_of_filter;
 use classic::{Data, ReadFault};
 use explanations::write_meaning;
 use program_files::{Verdict, read_text};
@@ -14,25 +14,14 @@ use std::alloc::Global;
 use std::io;
 use std::io::{Read, Write};
 
-/// The number of a fault of a classic program.
-fn code_of(why: &FilterFault) -> u8 {
+/// The number of a fault of a classic program, and its line or instruction, if it has one.
+fn place_of(why: &FilterFault) -> (u8, Option<usize>) {
     match why {
-        FilterFault::Memory => Verdict::Memory.code(),
-        FilterFault::NotUtf8 { line } => ReadFault::BadLine(*line).code(),
-        FilterFault::Unread(fault) => fault.code(),
-        FilterFault::Flawed(fault) => fault.code(),
-        FilterFault::Untranslated(fault) => fault.code(),
-    }
-}
-
-/// The line or the instruction of a fault of a classic program, if it has one.
-fn place_of(why: &FilterFault) -> Option<usize> {
-    match why {
-        FilterFault::Memory => None,
-        FilterFault::NotUtf8 { line } => Some(*line),
-        FilterFault::Unread(fault) => fault.line(),
-        FilterFault::Flawed(fault) => fault.instruction(),
-        FilterFault::Untranslated(fault) => fault.instruction(),
+        FilterFault::Memory => (Verdict::Memory.code(), None),
+        FilterFault::NotUtf8 { line } => (ReadFault::BadLine(*line).code(), Some(*line)),
+        FilterFault::Unread(fault) => (fault.code(), fault.line()),
+        FilterFault::Flawed(fault) => (fault.code(), fault.instruction()),
+        FilterFault::Untranslated(fault) => (fault.code(), fault.instruction()),
     }
 }
 
@@ -45,11 +34,8 @@ fn report_fault_line<E: Write>(err: &mut E, why: &FilterFault, in_words: bool) -
     if matches!(why, FilterFault::Memory) {
         return out_of_memory(err, in_words);
     }
-    let code = code_of(why);
-    let _ = match place_of(why) {
-        Some(place) => writeln!(err, "refused {code} at {place}"),
-        None => writeln!(err, "refused {code}"),
-    };
+    let (code, place) = place_of(why);
+    write_number(err, "refused", code, place);
     1
 }
 

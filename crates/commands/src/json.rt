@@ -2,7 +2,7 @@
 ghost use Rattle.std.specs.Prelude.{◌≡◌, ◌++◌, true, IfOk, OnOk, option_copied};
 ghost use Rattle.std.specs.List.{flat_map};
 ghost use Rattle.std.specs.Io.KnownBytes.{Appends};
-ghost use Rattle.commands.specs.Json.{accepted_json, byte_json, character_json, ended_json, lines_json, number_json, refusal_json};
+ghost use Rattle.commands.specs.Json.{accepted_json, byte_json, ended_json, lines_json, number_json, refusal_json};
 ghost use Rattle.commands.specs.Json.{string_json, traced_json, words_json};
 ghost use Rattle.commands.specs.Outputs.{TellsVerdict};
 
@@ -25,12 +25,12 @@ fn push_number(text: &mut Vec<u8>, number: Option<usize>) -> io::Result<()>
     }
 }
 
-/// Adds a byte between the quotes of a string.
-fn push_byte(text: &mut Vec<u8>, byte: u8) -> Result<(), AllocError>
-    ensures { OnOk result (text.new.items ≡ text.old.items ++ byte_json byte) }
+/// Adds a byte between the quotes of a string, where this stands for a line feed.
+fn push_byte(text: &mut Vec<u8>, feed: &[u8], byte: u8) -> Result<(), AllocError>
+    ensures { OnOk result (text.new.items ≡ text.old.items ++ byte_json feed.now byte) }
 {
     if byte == b'\n' {
-        return text.extend_from_slice(b"\",\"");
+        return text.extend_from_slice(feed);
     }
     if byte == b'"' || byte == b'\\' {
         return text.extend_from_slice(&[b'\\', byte]);
@@ -43,13 +43,13 @@ fn push_byte(text: &mut Vec<u8>, byte: u8) -> Result<(), AllocError>
     Ok(text.push(byte)?)
 }
 
-/// Adds the bytes between the quotes of strings.
-fn push_bytes(text: &mut Vec<u8>, bytes: &[u8]) -> Result<(), AllocError>
-    ensures { OnOk result (text.new.items ≡ text.old.items ++ flat_map byte_json bytes.now) }
+/// Adds the bytes between the quotes of a string, where this stands for a line feed.
+fn push_bytes(text: &mut Vec<u8>, feed: &[u8], bytes: &[u8]) -> Result<(), AllocError>
+    ensures { OnOk result (text.new.items ≡ text.old.items ++ flat_map (byte_json feed.now) bytes.now) }
 {
     let mut rest = bytes;
     while let [first, more @ ..] = rest {
-        push_byte(text, *first)?;
+        push_byte(text, feed, *first)?;
         rest = more;
     }
     Ok(())
@@ -63,30 +63,8 @@ fn push_lines(text: &mut Vec<u8>, lines: &[u8]) -> Result<(), AllocError>
         return text.extend_from_slice(b"[]");
     }
     text.extend_from_slice(b"[\"")?;
-    push_bytes(text, &lines[..lines.len() - 1])?;
+    push_bytes(text, b"\",\"", &lines[..lines.len() - 1])?;
     text.extend_from_slice(b"\"]")
-}
-
-/// Adds a byte between the quotes of a string of its own.
-fn push_character(text: &mut Vec<u8>, byte: u8) -> Result<(), AllocError>
-    ensures { OnOk result (text.new.items ≡ text.old.items ++ character_json byte) }
-{
-    if byte == b'\n' {
-        return text.extend_from_slice(b"\\n");
-    }
-    push_byte(text, byte)
-}
-
-/// Adds the bytes between the quotes of a string of its own.
-fn push_characters(text: &mut Vec<u8>, bytes: &[u8]) -> Result<(), AllocError>
-    ensures { OnOk result (text.new.items ≡ text.old.items ++ flat_map character_json bytes.now) }
-{
-    let mut rest = bytes;
-    while let [first, more @ ..] = rest {
-        push_character(text, *first)?;
-        rest = more;
-    }
-    Ok(())
 }
 
 /// Adds a string.
@@ -94,7 +72,7 @@ fn push_string(text: &mut Vec<u8>, bytes: &[u8]) -> Result<(), AllocError>
     ensures { OnOk result (text.new.items ≡ text.old.items ++ string_json bytes.now) }
 {
     text.extend_from_slice(b"\"")?;
-    push_characters(text, bytes)?;
+    push_bytes(text, b"\\n", bytes)?;
     text.extend_from_slice(b"\"")
 }
 

@@ -19,7 +19,6 @@ mod script;
 mod single;
 mod source_text;
 mod streams;
-mod text_meanings;
 
 pub use command_words::{
     AsmForm, BpfrtCommand, Checking, ContextForm, ContextsFile, InputFile, MapElement, SingleRun,

@@ -14,11 +14,11 @@ ghost use Rattle.commands.specs.Pools.{entries_line, IsProgramOf, IsRefusedByPoo
 use crate::contexts::{contexts_for, write_contexts_fault};
 use crate::meanings::meaning_of_refusal;
 use crate::refusal::CommandRefusal;
-use crate::report::{out_of_memory, report_line, report_refusal};
+use crate::report::{out_of_memory, report_line, report_refusal, write_number};
 use crate::streams::{read_failed_in_words, write_status};
 use bpf_model::{EventRefusal, MAX_JOURNAL};
 use command_words::ContextsFile;
-use explanations::{meaning_of_event, write_meaning};
+use explanations::write_meaning;
 use program_files::{ContextsFault, FileBytes, Verdict, read_file, verify_for_maps};
 use std::alloc::Global;
 use std::io;
@@ -91,17 +91,6 @@ fn report_size<E: Write>(err: &mut E, refusal: CommandRefusal, size: PoolSize, i
     status
 }
 
-/// Writes what is wrong with a file of contexts of so many bytes each.
-fn write_contexts<W: Write>(
-    out: &mut W,
-    bytes: &[u8],
-    len: usize,
-    fault: ContextsFault,
-) -> io::Result<()> {
-    write_meaning(out, meaning_of_event(EventRefusal::BadContext))?;
-    write_contexts_fault(out, bytes, len, fault)
-}
-
 /// Tells that a file has no contexts of so many bytes, `refused 63`, or `refused 63 at L` for a line, in words too where it
 /// is asked for, and answers the status.
 fn report_contexts<E: Write>(
@@ -114,14 +103,14 @@ fn report_contexts<E: Write>(
     ensures status { (result ≡ 1) ⊎ (result ≡ 3) }
     ensures refused { result ≡ 1 → fault ≢ ContextsMemory }
 {
-    let code = EventRefusal::BadContext.code();
-    let _ = match fault {
+    let line = match fault {
         ContextsFault::Memory => return out_of_memory(err, in_words),
-        ContextsFault::BadLine { line } => writeln!(err, "refused {code} at {line}"),
-        ContextsFault::Empty | ContextsFault::BadLength => writeln!(err, "refused {code}"),
+        ContextsFault::BadLine { line } => Some(line),
+        ContextsFault::Empty | ContextsFault::BadLength => None,
     };
+    write_number(err, "refused", EventRefusal::BadContext.code(), line);
     if in_words {
-        let _ = write_contexts(err, bytes, len, fault);
+        let _ = write_contexts_fault(err, bytes, len, fault);
     }
     1
 }

@@ -19,10 +19,8 @@ fn words_of(line: &[u8]) -> &'static str {
 pub fn explain_prefix<W: Write>(out: &mut W, text: &[u8], number: usize) -> io::Result<()> {
     let mut lines = text.split(|byte| *byte == b'\n');
     let line = lines.nth(number.saturating_sub(1)).unwrap_or(&[]);
-    for word in line.split(|byte| *byte == b' ') {
-        if has_prefix(word) {
-            return writeln!(out, "{}", words_of(line));
-        }
+    if line.split(|byte| *byte == b' ').any(has_prefix) {
+        writeln!(out, "{}", words_of(line))?;
     }
     Ok(())
 }

@@ -39,7 +39,7 @@ pub struct Telling {
 pub fn report_fault<W: Write>(err: &mut W, code: u8) -> u8
     ensures { result ≡ 3 }
 {
-    let _ = writeln!(err, "fault {code}");
+    write_number(err, "fault", code, None);
     3
 }
 
@@ -54,6 +54,14 @@ pub fn out_of_memory<W: Write>(err: &mut W, in_words: bool) -> u8
     status
 }
 
+/// Writes that what is `fault` or `refused` has this number, and at which line, slot or instruction, where it is told.
+pub fn write_number<W: Write>(err: &mut W, what: &str, code: u8, place: Option<usize>) {
+    let _ = match place {
+        Some(place) => writeln!(err, "{what} {code} at {place}"),
+        None => writeln!(err, "{what} {code}"),
+    };
+}
+
 /// Writes `refused C`, `refused C at S` for a slot or `fault C at L` for a line on standard error, or
 /// the fault where memory ran out or a result was lost, and answers the status.
 pub fn report_line<W: Write>(err: &mut W, refusal: CommandRefusal) -> u8
@@ -66,11 +74,10 @@ pub fn report_line<W: Write>(err: &mut W, refusal: CommandRefusal) -> u8
     if refusal.is_memory() || code == PoolFault::Lost.code() {
         return report_fault(err, code);
     }
-    let _ = match (refusal.line(), refusal.slot()) {
-        (Some(line), _) => writeln!(err, "fault {code} at {line}"),
-        (None, Some(slot)) => writeln!(err, "refused {code} at {slot}"),
-        (None, None) => writeln!(err, "refused {code}"),
-    };
+    match refusal.line() {
+        Some(line) => write_number(err, "fault", code, Some(line)),
+        None => write_number(err, "refused", code, refusal.slot()),
+    }
     1
 }
 

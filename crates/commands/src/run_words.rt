@@ -50,16 +50,21 @@ fn shape_named(maps: &Registry, name: &str) -> Option<MapShape> {
     maps.shape(maps.id(name)?)
 }
 
-/// The first of these elements for which the new maps of a file have no place, and why.
-fn without_place(alloc: Global, source: Source, elements: &[MapElement]) -> Option<(usize, Errno)>
+/// The first of these elements for which the new maps of a file have no place, the shape of its map, and why.
+fn without_place<'a>(
+    alloc: Global,
+    source: Source,
+    elements: &'a [MapElement],
+) -> Option<(&'a MapElement, MapShape, Errno)>
     requires { AreNewMaps source.registry.maps }
 {
     let puts = puts_of(alloc, &source.registry, elements).ok()?;
     let mut world = World::new(alloc, source.registry, Vec::new(alloc)).ok()?;
     let answers = world.run_all(alloc, &puts).ok()?;
-    for (number, answer) in answers.iter().enumerate() {
+    for (element, answer) in elements.iter().zip(answers.iter()) {
         if let Answer::Ret(Err(why)) = answer {
-            return Some((number, *why));
+            let shape = shape_named(world.registry(), element.map.as_str())?;
+            return Some((element, shape, *why));
         }
     }
     None
@@ -93,17 +98,10 @@ fn write_unplaced<W: Write>(
     let Ok(source) = file.source(alloc) else {
         return Ok(());
     };
-    let Some((number, why)) = without_place(alloc, source, elements) else {
+    let Some((element, shape, why)) = without_place(alloc, source, elements) else {
         return Ok(());
     };
-    let (Some(element), Ok(source)) = (elements.get(number), file.source(alloc)) else {
-        return Ok(());
-    };
-    let map = element.map.as_str();
-    let Some(shape) = shape_named(&source.registry, map) else {
-        return Ok(());
-    };
-    let key = encode(alloc, &element.key)?;
+    let (map, key) = (&element.map, encode(alloc, &element.key)?);
     write!(out, "  the map `{map}` has no place for the key {key}: ")?;
     write_why(out, &shape, why)
 }

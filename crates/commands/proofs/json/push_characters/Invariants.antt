@@ -1,9 +1,0 @@
-use Rattle.bpf_model.proofs.Prelude.{◌≡◌, ◌++◌, length, flat_map}
-use Rattle.commands.specs.Json.{character_json}
-use Rattle.commands.proofs.json.push_characters.Given as goal
-
-abbrev pub invariant-loop-rest : goal.invariant-loop-rest
-invariant-loop-rest l = l.text.items ++ flat_map character_json l.rest ≡ l.fn.text.items ++ flat_map character_json l.bytes
-
-abbrev pub decreases-loop-rest : goal.decreases-loop-rest
-decreases-loop-rest l = length l.rest
