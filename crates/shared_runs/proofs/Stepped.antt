@@ -4,7 +4,8 @@ use Rattle.bpf_model.proofs.Prelude.{Outcome, State, insn_at, RunView}
 use Rattle.machine.proofs.Prelude.{request_of, IsRunOfChecked, CanStep, IsLocalStep, TakesStep}
 use Rattle.model_laws.proofs.Prelude.{Insn, MapShape}
 use Rattle.plan_laws.proofs.Prelude.{IsClosed, IsVerified, Plan}
-use Rattle.verifier.proofs.Prelude.{Checked, IsJustified, verified_of}
+use Rattle.verifier.proofs.Prelude.{Checked, IsJustified}
+use Rattle.verifier.specs.Verdict.{verified_of}
 use Rattle.world_laws.proofs.Prelude.{store_of, IsShownBy, ended_view, region_bases}
 use Rattle.bpf_model.specs.Machine.{moves as moves_run}
 use Rattle.bpf_model.specs.Request.{Request as Asked, asks as asks_of}
