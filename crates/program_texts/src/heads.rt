@@ -45,14 +45,23 @@ pub fn lines_in(bytes: &[u8]) -> usize
     ensures count { result ≡ count_by (λ b. b == 10) bytes.now }
     ensures few { result ≤ length bytes.now }
 {
-    bytes.iter().filter(|byte| **byte == b'\n').count()
+    let mut lines = 0;
+    for byte in bytes {
+        if *byte == b'\n' {
+            lines += 1;
+        }
+    }
+    lines
 }
 
 /// The lines of a head, or those of a program file without maps for an empty context.
 pub fn lines_of<'a>(head: Option<&'a str>) -> &'a str
     ensures { result.now ≡ head_or_none (option_copied head.entry) }
 {
-    head.unwrap_or(NO_HEAD)
+    match head {
+        Some(head) => head,
+        None => NO_HEAD,
+    }
 }
 
 /// The head of the program file that a text of these parts makes: its own, or one without maps for an empty context.
