@@ -2,7 +2,7 @@
 
 use crate::grammar::grammar;
 use crate::request::{WordsFault, classic_file};
-use crate::table::{COMMANDS, usage_of};
+use crate::table::{COMMANDS, POOL_USAGE, own_usage};
 use clap::error::ErrorKind;
 use classic::Data;
 use std::alloc::{AllocError, Global};
@@ -26,7 +26,7 @@ pub(crate) fn bad_value(
     argument: &str,
     why: &str,
 ) -> Result<WordsFault, AllocError> {
-    let usage = usage_of(command);
+    let usage = own_usage(command).unwrap_or(POOL_USAGE);
     let text = format!(in alloc;
         "\
 error: invalid value '{word}' for '{argument}': {why}
@@ -40,10 +40,7 @@ For more information, try 'bpfrt {command} --help'."
 
 /// The word at a place; an empty one where there is none.
 fn word_at(words: &[String], place: usize) -> &str {
-    match words.get(place) {
-        Some(word) => word.as_str(),
-        None => "",
-    }
+    words.get(place).map_or("", |word| word.as_str())
 }
 
 /// Whether this word stands among the words.
@@ -51,36 +48,31 @@ fn has_word(words: &[String], wanted: &str) -> bool {
     words.iter().any(|word| word.as_str() == wanted)
 }
 
-/// The command that the word names but for the case of its letters.
-fn command_in_other_case(word: &str) -> Option<&'static str> {
-    for command in COMMANDS {
-        if word.eq_ignore_ascii_case(command.name) {
-            return Some(command.name);
-        }
-    }
-    None
-}
-
-/// The command that the word means, where `clap` finds none near it: some are called otherwise elsewhere.
+/// The command that the word means, where `clap` finds none near it: some are called otherwise elsewhere, or it has letters of
+/// another case.
 fn command_meant(word: &str) -> Option<&'static str> {
     match word {
         "verify" | "validate" => Some("check"),
         "disassemble" => Some("disasm"),
         "assemble" => Some("asm"),
         "exec" | "execute" => Some("run"),
-        _ => command_in_other_case(word),
+        _ => {
+            let mut commands = COMMANDS.iter();
+            let command = commands.find(|command| word.eq_ignore_ascii_case(command.name))?;
+            Some(command.name)
+        }
     }
 }
 
 /// The tip for a first word that means no command.
 fn tip_of_first(word: &str) -> Option<&'static str> {
-    if word == "version" {
-        return Some("`bpfrt --version` prints the version");
+    match word {
+        "version" => Some("`bpfrt --version` prints the version"),
+        _ if word.contains('.') || word.contains('/') => {
+            Some("a command stands before FILE, as in `bpfrt check FILE`")
+        }
+        _ => None,
     }
-    if word.contains('.') || word.contains('/') {
-        return Some("a command stands before FILE, as in `bpfrt check FILE`");
-    }
-    None
 }
 
 /// What `clap` says of `help help`, for words that it takes for a command of that name.
@@ -125,10 +117,7 @@ fn with_above(
     let Some((why, more)) = text.split_once(start) else {
         return String::from_str(alloc, text);
     };
-    let why = match why.split_once("\n\n  tip: to pass '") {
-        Some((why, _)) => why,
-        None => why,
-    };
+    let (why, _) = why.split_once("\n\n  tip: to pass '").unwrap_or((why, ""));
     format!(in alloc; "{why}{paragraph}{start}{more}")
 }
 
@@ -171,12 +160,11 @@ fn script_file(words: &[String]) -> Option<&str> {
     if word_at(words, 1) != "script" {
         return None;
     }
-    for word in words.iter().skip(2) {
-        if !word.as_str().starts_with('-') {
-            return Some(word.as_str());
-        }
-    }
-    None
+    let file = words
+        .iter()
+        .skip(2)
+        .find(|word| !word.as_str().starts_with('-'))?;
+    Some(file.as_str())
 }
 
 /// What is said of a word that no argument of the command takes: `clap` has it in quotes.
@@ -196,22 +184,22 @@ fn told_of_word(alloc: Global, words: &[String], text: &str) -> Result<String, A
 const MAP_TIP: &str =
     "what follows --map NAME is taken for its elements: FILE stands before --map, or behind `--`";
 
-/// What is said of `--map` with no words behind it: `clap` leaves out the usage of `run` and `trace`.
-fn with_usage(alloc: Global, command: &str, text: &str) -> Result<String, AllocError> {
-    let usage = format!(in alloc; "\n\nUsage: {}", usage_of(command))?;
-    with_above(alloc, text, "\n\nFor more", usage.as_str())
+/// What is said of an option with no words behind it, with a usage of ours, which `clap` leaves out.
+fn with_usage(alloc: Global, command: &str, text: String) -> Result<String, AllocError> {
+    let Some(usage) = own_usage(command) else {
+        return Ok(text);
+    };
+    let usage = format!(in alloc; "\n\nUsage: {usage}")?;
+    with_above(alloc, text.as_str(), "\n\nFor more", usage.as_str())
 }
 
 /// What is said of words with this error.
 fn told(alloc: Global, error: &clap::Error, words: &[String]) -> Result<String, AllocError> {
     let text = format!(in alloc; "{error}")?;
-    let command = word_at(words, 1);
     match error.kind() {
         ErrorKind::InvalidSubcommand => told_of_command(alloc, words, text),
         ErrorKind::UnknownArgument => told_of_word(alloc, words, text.as_str()),
-        ErrorKind::InvalidValue if command == "run" || command == "trace" => {
-            with_usage(alloc, command, text.as_str())
-        }
+        ErrorKind::InvalidValue => with_usage(alloc, word_at(words, 1), text),
         ErrorKind::MissingRequiredArgument if has_word(words, "--map") => {
             with_tip(alloc, text.as_str(), Some(MAP_TIP))
         }

@@ -2,7 +2,7 @@
 
 use crate::help::{HELP, argument_help, help_of};
 use crate::request::VERSION;
-use crate::table::{Argument, COMMANDS, CommandWords};
+use crate::table::{Argument, COMMANDS, CommandWords, own_usage};
 use clap::{Arg, ArgAction};
 use std::alloc::{AllocError, Global};
 
@@ -68,7 +68,7 @@ fn command_about<'a>(
 /// The grammar of the words of a command.
 fn grammar_of<'a>(alloc: Global, words: &CommandWords) -> Result<clap::Command<'a>, AllocError> {
     let mut command = command_about(alloc, words.name, words.about, help_of(words.name));
-    if let Some(usage) = words.usage {
+    if let Some(usage) = own_usage(words.name) {
         command = command.override_usage(usage);
     }
     for word in words.arguments {

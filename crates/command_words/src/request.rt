@@ -1,4 +1,6 @@
 //! What the program can be asked to do.
+ghost use Rattle.std.specs.Prelude.{◌≡◌};
+ghost use Rattle.command_words.specs.declared.request.WordsFault.TheVariants.{Memory};
 
 use classic::Data;
 use std::alloc::{AllocError, AllocFailed};
@@ -138,9 +140,6 @@ pub enum WordsFault {
 }
 
 impl From<AllocError> for WordsFault {
-    ghost use Rattle.std.specs.Prelude.{◌≡◌};
-    ghost use Rattle.command_words.specs.declared.request.WordsFault.TheVariants.{Memory};
-
     ghost from_gives = { λ _ e. e ≡ Memory };
 
     fn from(_: AllocError) -> WordsFault {
@@ -149,9 +148,6 @@ impl From<AllocError> for WordsFault {
 }
 
 impl<T: Drop> From<AllocFailed<T>> for WordsFault {
-    ghost use Rattle.std.specs.Prelude.{◌≡◌};
-    ghost use Rattle.command_words.specs.declared.request.WordsFault.TheVariants.{Memory};
-
     ghost from_gives = { λ _ e. e ≡ Memory };
 
     fn from(_: AllocFailed<T>) -> WordsFault {

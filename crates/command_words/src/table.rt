@@ -25,13 +25,11 @@ pub(crate) enum Argument {
     Elements(&'static str),
 }
 
-/// A command: its name, what its help says before the arguments, its usage where `clap` is not to make it, and its arguments in the
-/// order of the help.
+/// A command: its name, what its help says before the arguments, and these in the order of the help.
 #[derive(Clone, Copy)]
 pub(crate) struct CommandWords {
     pub name: &'static str,
     pub about: &'static str,
-    pub usage: Option<&'static str>,
     pub arguments: &'static [Argument],
 }
 
@@ -39,20 +37,14 @@ pub(crate) struct CommandWords {
 pub(crate) const MAP_OPTION: &str = "--map <NAME> <KEY=VALUE>...";
 
 /// The words of `pool`, in their order.
-const POOL_USAGE: &str = "bpfrt pool [OPTIONS] <WORKERS> <FILE> <COUNT>";
+pub(crate) const POOL_USAGE: &str = "bpfrt pool [OPTIONS] <WORKERS> <FILE> <COUNT>";
 
-/// The words of `run`, in their order.
-const RUN_USAGE: &str = "bpfrt run <FILE> [CTX] [--map <NAME> <KEY=VALUE>...]... [OPTIONS]";
-
-/// The words of `trace`, in their order.
-const TRACE_USAGE: &str = "bpfrt trace <FILE> [CTX] [--map <NAME> <KEY=VALUE>...]... [OPTIONS]";
-
-/// The usage of `pool`, `run` or `trace`, which their faults tell.
-pub(crate) fn usage_of(command: &str) -> &'static str {
+/// The words of a command, in their order, where `clap` is not to make its usage.
+pub(crate) fn own_usage(command: &str) -> Option<&'static str> {
     match command {
-        "pool" => POOL_USAGE,
-        "run" => RUN_USAGE,
-        _ => TRACE_USAGE,
+        "run" => Some("bpfrt run <FILE> [CTX] [--map <NAME> <KEY=VALUE>...]... [OPTIONS]"),
+        "trace" => Some("bpfrt trace <FILE> [CTX] [--map <NAME> <KEY=VALUE>...]... [OPTIONS]"),
+        _ => None,
     }
 }
 
@@ -71,7 +63,6 @@ pub(crate) const COMMANDS: &[CommandWords] = &[
     CommandWords {
         name: "check",
         about: "Verifies the program in FILE",
-        usage: None,
         arguments: &[
             Word("FILE"),
             Flag("asm"),
@@ -83,13 +74,11 @@ pub(crate) const COMMANDS: &[CommandWords] = &[
     CommandWords {
         name: "disasm",
         about: "Writes the text of the program in FILE, one instruction a line",
-        usage: None,
         arguments: &[Word("FILE")],
     },
     CommandWords {
         name: "asm",
         about: "Writes the bytes of the program whose text is in FILE",
-        usage: None,
         arguments: &[
             Word("FILE"),
             FlagWithout("file", "plain"),
@@ -100,13 +89,11 @@ pub(crate) const COMMANDS: &[CommandWords] = &[
     CommandWords {
         name: "script",
         about: "Answers the script on standard input",
-        usage: None,
         arguments: &[Flag("explain")],
     },
     CommandWords {
         name: "pool",
         about: "Runs the program in FILE so many times by a pool of workers",
-        usage: None,
         arguments: &[
             Number("WORKERS"),
             Word("FILE"),
@@ -119,19 +106,16 @@ pub(crate) const COMMANDS: &[CommandWords] = &[
     CommandWords {
         name: "run",
         about: "Runs the program in FILE once",
-        usage: Some(RUN_USAGE),
         arguments: RUN_ARGUMENTS,
     },
     CommandWords {
         name: "trace",
         about: "Runs the program in FILE once, and tells each step",
-        usage: Some(TRACE_USAGE),
         arguments: RUN_ARGUMENTS,
     },
     CommandWords {
         name: "filter",
         about: "Translates the classic program in FILE, and writes a program file",
-        usage: None,
         arguments: &[Word("FILE"), Flag("seccomp"), Flag("explain")],
     },
 ];

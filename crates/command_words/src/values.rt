@@ -8,9 +8,6 @@ use hex::{FromHexError, decode};
 use script_lines::number_of;
 use std::alloc::{AllocError, Global};
 
-/// Why a file of contexts is refused.
-const STANDARD_INPUT_TWICE: &str = "FILE is standard input already";
-
 /// Why a word is no number.
 const NO_NUMBER: &str = "it is no decimal number below 2^64 without sign and leading zeros";
 
@@ -92,29 +89,22 @@ impl<'m, 'a> Values<'m, 'a> {
         file_named(self.alloc, self.word("FILE"))
     }
 
-    /// The file of contexts that a word tells, as an option that is shown so. Standard input is one file alone.
-    fn contexts_in(
-        &self,
-        word: &str,
-        form: ContextForm,
-        shown: &str,
-    ) -> Result<Option<ContextsFile>, WordsFault> {
+    /// The file of contexts, if there is one. Standard input is one file alone.
+    pub fn contexts(&self) -> Result<Option<ContextsFile>, WordsFault> {
+        let (lines, packed) = (
+            self.matches.get_str("contexts"),
+            self.matches.get_str("packed"),
+        );
+        let (word, form, shown) = match (lines, packed) {
+            (Some(word), _) => (word, ContextForm::Lines, "--contexts <FILE>"),
+            (None, Some(word)) => (word, ContextForm::Packed, "--packed <FILE>"),
+            (None, None) => return Ok(None),
+        };
         if word == "-" && self.word("FILE") == "-" {
-            return self.bad(word, shown, STANDARD_INPUT_TWICE);
+            return self.bad(word, shown, "FILE is standard input already");
         }
         let file = file_named(self.alloc, word)?;
         Ok(Some(ContextsFile { file, form }))
-    }
-
-    /// The file of contexts, if there is one.
-    pub fn contexts(&self) -> Result<Option<ContextsFile>, WordsFault> {
-        if let Some(word) = self.matches.get_str("contexts") {
-            return self.contexts_in(word, ContextForm::Lines, "--contexts <FILE>");
-        }
-        match self.matches.get_str("packed") {
-            Some(word) => self.contexts_in(word, ContextForm::Packed, "--packed <FILE>"),
-            None => Ok(None),
-        }
     }
 
     /// The number that an argument is: its name, and how it is shown.
