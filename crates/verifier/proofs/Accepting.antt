@@ -1,6 +1,6 @@
 -- A plain program meets no refusal but for want of memory.
 use Rattle.bpf_model.proofs.Prelude.{◌≡◌, ◌≢◌, ℕ, zero, suc, ◌+◌, ◌<◌, ◌≤◌, refl, sym, ◌∙◌, ap, subst, arith, inl, inr, true, false, Bool, List, length}
-use Rattle.bpf_model.proofs.Prelude.{slice_get, Option, Some, None, Result, Err, ◌⊎◌, unwrap_or, IfSome, option_map, ℤ, pos, ◌+ℤ◌, ◌^◌, min, max}
+use Rattle.bpf_model.proofs.Prelude.{slice_get, Option, Some, None, ◌⊎◌, unwrap_or, IfSome, option_map, ℤ, pos, ◌+ℤ◌, ◌^◌, min, max}
 use Rattle.bpf_model.proofs.Prelude.{if◌then◌else◌, cases_lt, cases_eq, none-some, same_Some, byte_count, region_offset, distance, JumpsTo, GoesTo}
 use Rattle.bpf_model.proofs.Prelude.{slot_count, insn_at, start_of-insn, starts_increase, start-insn, LeadsTo, StartsAt, get-below}
 use Rattle.effects.proofs.Prelude.{AbsState, InsnFault}
@@ -26,7 +26,6 @@ use Rattle.verifier.specs.declared.waiting.Waiting.{Waiting}
 use Rattle.verifier.specs.declared.waiting.Waiting.TheVariants.{Nothing, Known, Differing}
 use Rattle.verifier.specs.FactsKnown.{Knows, WithoutFact, IsExpected, IsKnown, CanAccept}
 use Rattle.verifier.specs.SecondPass.{IsConflict}
-use Rattle.verifier.specs.Verdict.{IsAccepted}
 use Rattle.verifier.proofs.Lookups.{part_or_not, part_of_slot, part_no_byte, part_keeps, behind, falls_from, slot_inside, slot_behind, pass_on, part_low}
 use Rattle.verifier.proofs.Lookups.{part_at}
 use Rattle.verifier.proofs.Plans.{falls_inside}
@@ -598,9 +597,6 @@ module _ (program : List Insn) (targets : List (Option ℕ)) (long : length targ
 -- a refusal for want of memory
 pub memory_refused : (f : InsnFault) (e : ProgramRefusal) (slot : ℕ) → f ≡ faults.Memory → e ≡ refusal_of f slot → e ≡ Memory
 memory_refused f e slot g h = h ∙ ap (λ f. refusal_of f slot) g
-
-pub accepted_result : {A : Type 0} (r : Result A ProgramRefusal) (e e' : ProgramRefusal) → r ≡ Err e → e ≡ e' → e' ≡ Memory → IsAccepted r
-accepted_result r e e' g h m = subst IsAccepted (sym g) (h ∙ m)
 
 -- only the entry's state is known, at the start
 pub known_first : (program : List Insn) (shapes : List MapShape) (at : Awaited) → StartsFrom at → AreKnown program shapes 0 at

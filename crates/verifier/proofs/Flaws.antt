@@ -4,7 +4,6 @@ use Rattle.bpf_model.proofs.Prelude.{same_Some, distance, JumpsTo, EndsWithExit,
 use Rattle.model_laws.proofs.Prelude.{Insn, Exit}
 use Rattle.verifier.proofs.Prelude.{missing, landing_flaw, distance_flaw, jump_flaw, JumpsWell, IsFirstBadJump, HasGraphFlaw, HasGoodGraph}
 use Rattle.std.proofs.lemmas.List.{same_from_push}
-use Rattle.bpf_model.specs.Graph.{HasForwardGraph}
 use Rattle.verifier.specs.declared.graph_flaw.GraphFlaw.{GraphFlaw}
 use Rattle.verifier.specs.declared.graph_flaw.GraphFlaw.TheVariants.{JumpTarget, BackJump, FallsOff, Unreachable}
 use Rattle.verifier.specs.GraphFlaws.{IsFirstUnreachable, IsBadEnd}
@@ -83,11 +82,3 @@ good_jump program slot i jumps = by (distance i) refl
         ap (landing_flaw program slot) (sym lands)
         ∙ ap (λ b. cond b (Some BackJump) (missing (insn_at program j.0))) (lt-leb j.0 slot j.3)
         ∙ ap missing j.4
-
-pub forward_graph : (program : List Insn) → HasForwardGraph program → HasGoodGraph program
-forward_graph program graph = record {
-  jumps = λ slot i at.
-      good_jump program slot i (λ d e. graph.jumps slot i d at e);
-  last = graph.last;
-  reached = graph.reached;
-}

@@ -8,5 +8,5 @@ pub use Rattle.verifier.specs.Peak.{IsPeak}
 pub use Rattle.verifier.specs.SecondPass.{awaited, state_in, size_of, Table, occupied, states_in, holding, Awaited, Merged, StartsFrom, AllBelow, HasWaiting}
 pub use Rattle.verifier.specs.SecondPass.{DiffersAhead, Leads, Jumped, Advances, Passed, AreSame, JoinsTo, Fell, refusal_of, AreStatesCounted, Joined, Notes}
 pub use Rattle.verifier.specs.SecondPass.{IsPassed, planned}
-pub use Rattle.verifier.specs.Verdict.{IsJustified, IsToldOf, verified_of}
+pub use Rattle.verifier.specs.Verdict.{IsJustified, IsToldOf}
 pub use Rattle.verifier.specs.Waiting.{Puts, WaitsAtTargets, MovesStates, GoesOn}

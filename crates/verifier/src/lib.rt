@@ -7,7 +7,6 @@
 
 mod graph;
 mod graph_flaw;
-mod known;
 mod pass;
 mod pending;
 mod refusal;
@@ -16,8 +15,7 @@ mod waiting;
 
 pub use graph::{falls, judge};
 pub use graph_flaw::{GraphFlaw, GraphRefusal};
-pub use known::known_where_refused;
 pub use refusal::ProgramRefusal;
 pub use register_kinds::{AbsState, InsnFault};
 pub use state_steps::Region;
-pub use verified::{Verified, verify};
+pub use verified::{Refused, Verified, verify, verify_or_return};
